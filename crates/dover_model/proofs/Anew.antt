@@ -1,33 +1,36 @@
 -- Runs one after another, each in a time of its own.
 use Rattle.std.proofs.Common.{◌≡◌, ℕ, zero, suc, ◌+◌, ◌-◌, ◌*◌, ◌≤◌, inl, inr, List, [], ◌∷◌, ◌++◌, length, drop, take}
 use Rattle.std.proofs.Common.{map, refl, sym, ap, ◌∙◌, subst, arith, cond, Bool, true, false, append_assoc}
+use Rattle.std.proofs.Common.{replicate}
 use Rattle.std.specs.Prelude.{nat_le, ◌==◌}
-use Rattle.std.specs.List.{count_by, sum_by, fold, enumerate_from, cons_option}
+use Rattle.std.specs.List.{count_by, sum_by, fold, enumerate_from}
 use Rattle.std.proofs.lemmas.List.Sums.{sum_by-cons}
 use Rattle.dover_model.specs.JobFacts.{JobFacts, IsJob}
 use Rattle.dover_model.specs.declared.events.Event.{Event}
 use Rattle.dover_model.specs.declared.events.Event.TheVariants.{End}
 use Rattle.dover_model.specs.declared.events.Role.TheVariants.{Coming}
-use Rattle.dover_model.specs.Instance.{Rules, Instance, IsValid}
+use Rattle.dover_model.specs.Limits.{idle}
+use Rattle.dover_model.specs.Instance.{Rules, Instance, IsValid, having}
+use Rattle.dover_model.specs.Observed.{observed, observing}
 use Rattle.dover_model.specs.State.{State, to_come}
-use Rattle.dover_model.specs.Run.{Step, is_end, event_of, printed_of, printed, last_deadline, completed_value}
-use Rattle.dover_model.specs.Step.{Prints, step, after}
-use Rattle.std.specs.Bool.{MatchBool}
+use Rattle.dover_model.specs.Run.{printed_of, printed, last_deadline, completed_value, ran}
 use Rattle.dover_model.specs.WholeRun.{step_at, IsWholeRun}
 use Rattle.dover_model.specs.Schedules.{worth}
 use Rattle.dover_model.specs.Bound.{IsWithin}
 use Rattle.dover_model.specs.Sound.{Each}
-use Rattle.dover_model.specs.Rest.{behind, before_end, later_job, later_event, AreAnew, anew, printed_anew}
-use Rattle.dover_model.specs.Rest.{completed_anew}
-use Rattle.dover_model.proofs.Members.{all_member, on_map, each_append}
-use Rattle.dover_model.proofs.BoundLaws.{bound as no_more}
-use Rattle.dover_model.proofs.RunLaws.{one_run}
+use Rattle.dover_model.specs.Rest.{behind, before_end, later_job, later_event, Turn, turn_under}
+use Rattle.dover_model.specs.Rest.{AreAnew, anew, printed_anew, completed_anew}
+use Rattle.dover_model.proofs.Members.{all_member, on_map, each_append, map_map}
+use Rattle.dover_model.proofs.BoundLaws.{bound as no_more, observed_bound}
+use Rattle.dover_model.proofs.Honest.{observed_honest}
+use Rattle.dover_model.proofs.InTurns.{completed_more}
+use Rattle.dover_model.proofs.TurnSchedules.{one_then, over_by, worth_one_then}
+use Rattle.dover_model.proofs.RunLaws.{one_run, tasks_in}
 use Rattle.dover_model.proofs.Moving.{moved_task, moved_state, IsFitting, whole_later}
 use Rattle.dover_model.proofs.Runs.{last_value, value_last}
-use Rattle.dover_model.proofs.Resting.{at_tick, RunsFrom, alone, joined_plain, runs_all, later_due, due_least}
-use Rattle.dover_model.proofs.Resting.{dues_mono}
+use Rattle.dover_model.proofs.Resting.{at_tick, RunsFrom, alone, joined, runs_all, sees_all, later_due}
+use Rattle.dover_model.proofs.Resting.{due_least, dues_mono}
 use Rattle.dover_model.proofs.Apart.{settled_at_rest, behind_last}
-use Rattle.dover_model.proofs.Finishing.{plain_step}
 use Rattle.dover_model.proofs.Calculus.{within_less}
 use Rattle.dover_model.proofs.Parting.{worth_to, worth_append, within_add}
 
@@ -96,10 +99,11 @@ module _ (c : ℕ) where
   count_moved (j ∷ jobs) = ap suc (count_moved jobs)
 
   -- the run from a tick on, of jobs moved in time
-  pub moved_runs : (rules : Rules) (jobs : List JobFacts) (events : List Event) → Each (λ j. j.work ≤ j.deadline) jobs
-      → RunsFrom rules 0 jobs events
-      → RunsFrom rules c (map (later_job c) jobs) (map (later_event c) events)
-  moved_runs rules jobs events fits it =
+  pub moved_runs : (rules : Rules) (jobs : List JobFacts) (events : List Event) (seen : List JobFacts)
+      → Each (λ j. j.work ≤ j.deadline) jobs
+      → RunsFrom rules 0 jobs events seen
+      → RunsFrom rules c (map (later_job c) jobs) (map (later_event c) events) (map (later_job c) seen)
+  moved_runs rules jobs events seen fits it =
       let moved = whole_later c rules it.0 (at_tick 0 jobs) (come_fits 0 jobs fits) it.1 in
       let start : moved_state c (at_tick 0 jobs) ≡ at_tick c (map (later_job c) jobs) =
       ap (λ clock. let s : State = record { clock = clock; tasks = map (moved_task c) (to_come 0 jobs) } in s)
@@ -109,60 +113,70 @@ module _ (c : ℕ) where
         subst (λ s. IsWholeRun rules s moved.0) start moved.1,
         omega (arith, moved.2, it.2, ticks_moved jobs, count_moved jobs),
         moved.3 ∙ ap (map (later_event c)) it.3,
+        ap (map observing) moved.4 ∙ map_map observing (moved_task c) (tasks_in it.0)
+            ∙ sym (map_map (later_job c) observing (tasks_in it.0)) ∙ ap (map (later_job c)) it.4,
       )
 
--- ---- lists in turn, each in its own time
+-- ---- turns, each in its own time
 
-module _ (rules : Rules) (plain : rules.finishes ≡ []) where
-  -- the instance of one list
-  abbrev of_rules : List JobFacts → Instance
-  of_rules jobs = record { rules = rules; jobs = jobs }
+module _ (rules : Rules) where
+  -- the instance of one turn
+  abbrev of_turn : Turn → Instance
+  of_turn turn = turn_under rules turn
+
+  -- the turns without their ticks
+  abbrev untimed : List (ℕ × Turn) → List Turn
+  untimed turns = map (λ t_turn. t_turn.1) turns
+
+  -- the jobs that each turn has, in one time
+  abbrev jobs_anew : (Turn → List JobFacts) → List (ℕ × Turn) → List JobFacts
+  jobs_anew of [] = []
+  jobs_anew of (t_turn ∷ turns) = of t_turn.1 ++ map (later_job t_turn.0) (jobs_anew of turns)
+
+  -- as each turn's run observes them
+  abbrev seen : Turn → List JobFacts
+  seen turn = (observed (of_turn turn)).jobs
 
   -- the work of each job fits
-  anew_fits : (lists : List (ℕ × List JobFacts)) → AreAnew rules lists → Each (λ j. j.work ≤ j.deadline) (anew lists)
+  anew_fits : (turns : List (ℕ × Turn)) → AreAnew rules turns → Each (λ j. j.work ≤ j.deadline) (anew turns).jobs
   anew_fits [] all = λ j member. absurd member
-  anew_fits (t_jobs ∷ lists) all =
-      each_append (λ j. j.work ≤ j.deadline) t_jobs.1 (map (later_job t_jobs.0) (anew lists))
-      (λ j member. let job : IsJob j = all_member IsJob t_jobs.1 all.0.each j member in
+  anew_fits (t_turn ∷ turns) all =
+      each_append (λ j. j.work ≤ j.deadline) t_turn.1.jobs (map (later_job t_turn.0) (anew turns).jobs)
+      (λ j member. let job : IsJob j = all_member IsJob t_turn.1.jobs all.0.0.each j member in
       let window : j.release + j.work ≤ j.deadline = job.window in omega arith)
-      (on_map (later_job t_jobs.0) (λ j. j.work ≤ j.deadline) (anew lists)
-      (λ j member. let low : j.work ≤ j.deadline = anew_fits lists all.2 j member in omega arith))
+      (on_map (later_job t_turn.0) (λ j. j.work ≤ j.deadline) (anew turns).jobs
+      (λ j member. let low : j.work ≤ j.deadline = anew_fits turns all.2 j member in omega arith))
 
   -- from the opening on
-  anew_runs : (lists : List (ℕ × List JobFacts)) → AreAnew rules lists
-      → RunsFrom rules 0 (anew lists) (printed_anew rules lists)
-  anew_runs [] all = (
-    step_at rules (at_tick 0 []) ∷ [],
-    (
-      refl,
-      subst (λ x. MatchBool (is_end x) (no_steps ≡ []) (IsWholeRun rules (after (at_tick 0 []) x) [])) (sym ends)
-          refl,
-    ),
-    omega arith,
-    ap (λ x. cons_option (event_of x) []) ends,
-  ) where
-    no_steps : List Step
-    no_steps = []
+  anew_runs : (turns : List (ℕ × Turn)) → AreAnew rules turns
+      → RunsFrom (having rules (anew turns).finishes) 0 (anew turns).jobs (printed_anew rules turns)
+      (jobs_anew seen turns)
+  anew_runs [] all = (step_at (having rules []) (at_tick 0 []) ∷ [], (refl, refl), omega arith, refl, refl)
+  anew_runs (t_turn ∷ turns) all =
+      subst (λ es. RunsFrom (having rules (anew (t_turn ∷ turns)).finishes) 0 (anew (t_turn ∷ turns)).jobs
+      (es ++ map (behind (length t_turn.1.jobs) (completed_value (of_turn t_turn.1)))
+      (map (later_event t_turn.0) (printed_anew rules turns))) (jobs_anew seen (t_turn ∷ turns)))
+      (settled_at_rest (of_turn t_turn.1) t_turn.0 all.0.0 all.1)
+      (joined (of_turn t_turn.1) all.0.0 0 t_turn.0 (λ j member. omega arith) (omega arith) all.1
+      (anew turns).finishes all.0.1
+      (map (later_job t_turn.0) (anew turns).jobs)
+      (map (later_event t_turn.0) (printed_anew rules turns)) (map (later_job t_turn.0) (jobs_anew seen turns))
+      (on_map (later_job t_turn.0) (λ j. t_turn.0 ≤ j.release) (anew turns).jobs (λ j member. omega arith))
+      (on_map (later_job t_turn.0) (λ j. t_turn.0 ≤ j.deadline) (anew turns).jobs (λ j member. omega arith))
+      (moved_runs t_turn.0 (having rules (anew turns).finishes) (anew turns).jobs (printed_anew rules turns)
+      (jobs_anew seen turns) (anew_fits turns all.2) (anew_runs turns all.2)))
 
-    ends : step rules (at_tick 0 []) ≡ Prints (End 0)
-    ends = plain_step rules (at_tick 0 []) plain
-  anew_runs (t_jobs ∷ lists) all =
-      subst (λ es. RunsFrom rules 0 (t_jobs.1 ++ map (later_job t_jobs.0) (anew lists))
-      (es ++ map (behind (length t_jobs.1) (completed_value (of_rules t_jobs.1)))
-      (map (later_event t_jobs.0) (printed_anew rules lists))))
-      (settled_at_rest (of_rules t_jobs.1) t_jobs.0 all.0 all.1)
-      (joined_plain (of_rules t_jobs.1) all.0 0 t_jobs.0 (λ j member. omega arith) (omega arith) all.1 plain
-      (map (later_job t_jobs.0) (anew lists))
-      (map (later_event t_jobs.0) (printed_anew rules lists))
-      (on_map (later_job t_jobs.0) (λ j. t_jobs.0 ≤ j.release) (anew lists) (λ j member. omega arith))
-      (on_map (later_job t_jobs.0) (λ j. t_jobs.0 ≤ j.deadline) (anew lists) (λ j member. omega arith))
-      (moved_runs t_jobs.0 rules (anew lists) (printed_anew rules lists) (anew_fits lists all.2)
-      (anew_runs lists all.2)))
+  -- the run of all turns is their runs
+  pub runs_anew : (turns : List (ℕ × Turn)) → AreAnew rules turns
+      → printed (of_turn (anew turns)) ≡ printed_anew rules turns
+  runs_anew turns all = runs_all (having rules (anew turns).finishes) (anew turns).jobs (printed_anew rules turns)
+      (jobs_anew seen turns) (anew_runs turns all)
 
-  -- the run of all the jobs is the runs in turn
-  pub runs_anew : (lists : List (ℕ × List JobFacts)) → AreAnew rules lists
-      → printed (of_rules (anew lists)) ≡ printed_anew rules lists
-  runs_anew lists all = runs_all rules (anew lists) (printed_anew rules lists) (anew_runs lists all)
+  -- it observes the jobs as they do
+  observes_anew : (turns : List (ℕ × Turn)) → AreAnew rules turns
+      → (observed (of_turn (anew turns))).jobs ≡ jobs_anew seen turns
+  observes_anew turns all = sees_all (having rules (anew turns).finishes) (anew turns).jobs (printed_anew rules turns)
+      (jobs_anew seen turns) (anew_runs turns all)
 
   -- an End later
   later_last : (c last : ℕ) (es : List Event)
@@ -171,34 +185,32 @@ module _ (rules : Rules) (plain : rules.finishes ≡ []) where
   later_last c last (e ∷ es) = ap (λ gs. later_event c e ∷ gs) (later_last c last es)
 
   -- what is printed ends with the value of all
-  ends_with_all : (lists : List (ℕ × List JobFacts)) → (es : List Event)
-      × (printed_anew rules lists ≡ es ++ (End (completed_anew rules lists) ∷ []))
+  ends_with_all : (turns : List (ℕ × Turn)) → (es : List Event)
+      × (printed_anew rules turns ≡ es ++ (End (completed_anew rules turns) ∷ []))
   ends_with_all [] = ([], refl)
-  ends_with_all (t_jobs ∷ lists) = let it = ends_with_all lists in (
-    before_end (printed (of_rules t_jobs.1)) ++ map (behind (length t_jobs.1) (completed_value (of_rules t_jobs.1)))
-        (map (later_event t_jobs.0) it.0),
-    ap (λ es. before_end (printed (of_rules t_jobs.1)) ++ map
-        (behind (length t_jobs.1) (completed_value (of_rules t_jobs.1))) (map (later_event t_jobs.0) es)) it.1
-        ∙ ap (λ es. before_end (printed (of_rules t_jobs.1)) ++ map
-        (behind (length t_jobs.1) (completed_value (of_rules t_jobs.1))) es)
-        (later_last t_jobs.0 (completed_anew rules lists) it.0)
-        ∙ ap (λ es. before_end (printed (of_rules t_jobs.1)) ++ es)
-        (behind_last (length t_jobs.1) (completed_value (of_rules t_jobs.1)) (completed_anew rules lists)
-        (map (later_event t_jobs.0) it.0))
-        ∙ sym (append_assoc (before_end (printed (of_rules t_jobs.1)))
-        (map (behind (length t_jobs.1) (completed_value (of_rules t_jobs.1))) (map (later_event t_jobs.0) it.0))
-        (End (completed_value (of_rules t_jobs.1) + completed_anew rules lists) ∷ []))
-        ∙ ap (λ v. (before_end (printed (of_rules t_jobs.1))
-        ++ map (behind (length t_jobs.1) (completed_value (of_rules t_jobs.1))) (map (later_event t_jobs.0) it.0))
-        ++ (End v ∷ []))
-        (sym (sum_by-cons (λ (x : ℕ × List JobFacts). completed_value (of_rules x.1)) t_jobs lists)),
-  )
+  ends_with_all (t_turn ∷ turns) = let it = ends_with_all turns in (
+    front ++ map number (map (later_event t_turn.0) it.0),
+    ap (λ es. front ++ map number (map (later_event t_turn.0) es)) it.1
+        ∙ ap (λ es. front ++ map number es) (later_last t_turn.0 (completed_anew rules turns) it.0)
+        ∙ ap (λ es. front ++ es)
+        (behind_last (length t_turn.1.jobs) (completed_value (of_turn t_turn.1))
+        (completed_anew rules turns) (map (later_event t_turn.0) it.0))
+        ∙ sym (append_assoc front (map number (map (later_event t_turn.0) it.0))
+        (End (completed_value (of_turn t_turn.1) + completed_anew rules turns) ∷ []))
+        ∙ ap (λ v. (front ++ map number (map (later_event t_turn.0) it.0)) ++ (End v ∷ []))
+        (sym (completed_more rules t_turn.1 (untimed turns))),
+  ) where
+    front : List Event
+    front = before_end (printed (of_turn t_turn.1))
 
-  -- the run of all the jobs completes what the runs in turn do
-  pub value_anew : (lists : List (ℕ × List JobFacts)) → AreAnew rules lists
-      → completed_value (of_rules (anew lists)) ≡ completed_anew rules lists
-  value_anew lists all = let it = ends_with_all lists in
-      ap (last_value 0) (runs_anew lists all ∙ it.1) ∙ value_last 0 (completed_anew rules lists) it.0
+    number : Event → Event
+    number = behind (length t_turn.1.jobs) (completed_value (of_turn t_turn.1))
+
+  -- it completes what they complete
+  pub value_anew : (turns : List (ℕ × Turn)) → AreAnew rules turns
+      → completed_value (of_turn (anew turns)) ≡ completed_anew rules turns
+  value_anew turns all = let it = ends_with_all turns in
+      ap (last_value 0) (runs_anew turns all ∙ it.1) ∙ value_last 0 (completed_anew rules turns) it.0
 
   -- ---- the bound
 
@@ -239,25 +251,94 @@ module _ (rules : Rules) (plain : rules.finishes ≡ []) where
         sum_by-cons (worth_to (drop c s)) (k, j) (enumerate_from (k + 1) jobs),
       )
 
-  -- no schedule of all jobs is worth more than all runs allow
-  pub bound_anew : (lists : List (ℕ × List JobFacts)) (s : List ℕ) → AreAnew rules lists
-      → IsWithin rules.ratio (worth (of_rules (anew lists)) s) (completed_anew rules lists)
-  bound_anew [] s all = let none : rules.ratio.q * 0 - (rules.ratio.p + rules.ratio.q) * 0 ≡ 0 = omega arith in
+  -- the instance of these jobs
+  abbrev of_rules : List JobFacts → Instance
+  of_rules jobs = record { rules = rules; jobs = jobs }
+
+  -- a bound of each turn is one of all
+  within_anew : (of : Turn → List JobFacts)
+      → ((turn : Turn) (s : List ℕ) → IsValid (of_turn turn)
+      → IsWithin rules.ratio (worth (of_rules (of turn)) s) (completed_value (of_turn turn)))
+      → (turns : List (ℕ × Turn)) (s : List ℕ) → AreAnew rules turns
+      → IsWithin rules.ratio (worth (of_rules (jobs_anew of turns)) s) (completed_anew rules turns)
+  within_anew of each [] s all = let none : rules.ratio.q * 0 - (rules.ratio.p + rules.ratio.q) * 0 ≡ 0 = omega arith in
       subst (λ x. x * x ≤ 4 * rules.ratio.p * rules.ratio.q * 0 * 0) (sym none) (omega arith)
-  bound_anew (t_jobs ∷ lists) s all =
-      let later : worth (of_rules (map (later_job t_jobs.0) (anew lists))) (map (λ m. m - length t_jobs.1) s)
-      ≡ worth (of_rules (anew lists)) (drop t_jobs.0 (map (λ m. m - length t_jobs.1) s)) =
-      worth_later t_jobs.0 0 (anew lists) (map (λ m. m - length t_jobs.1) s) in
-      subst (IsWithin rules.ratio (worth (of_rules (t_jobs.1 ++ map (later_job t_jobs.0) (anew lists))) s))
-      (sym (sum_by-cons (λ (x : ℕ × List JobFacts). completed_value (of_rules x.1)) t_jobs lists))
-      (within_less rules.ratio (worth (of_rules (t_jobs.1 ++ map (later_job t_jobs.0) (anew lists))) s)
-      (worth (of_rules t_jobs.1) s + worth (of_rules (anew lists)) (drop t_jobs.0 (map (λ m. m - length t_jobs.1) s)))
-      (completed_value (of_rules t_jobs.1) + completed_anew rules lists)
-      (omega (arith, later, worth_append rules t_jobs.1 (map (later_job t_jobs.0) (anew lists)) s))
-      (within_add rules.ratio (worth (of_rules t_jobs.1) s)
-      (worth (of_rules (anew lists)) (drop t_jobs.0 (map (λ m. m - length t_jobs.1) s)))
-      (completed_value (of_rules t_jobs.1)) (completed_anew rules lists) (no_more (of_rules t_jobs.1) s all.0)
-      (bound_anew lists (drop t_jobs.0 (map (λ m. m - length t_jobs.1) s)) all.2)))
+  within_anew of each (t_turn ∷ turns) s all =
+      let later : worth (of_rules (map (later_job t_turn.0) (jobs_anew of turns)))
+      (map (λ m. m - length (of t_turn.1)) s)
+      ≡ worth (of_rules (jobs_anew of turns)) (drop t_turn.0 (map (λ m. m - length (of t_turn.1)) s)) =
+      worth_later t_turn.0 0 (jobs_anew of turns) (map (λ m. m - length (of t_turn.1)) s) in
+      subst (IsWithin rules.ratio (worth (of_rules (of t_turn.1 ++ map (later_job t_turn.0) (jobs_anew of turns))) s))
+      (sym (completed_more rules t_turn.1 (untimed turns)))
+      (within_less rules.ratio
+      (worth (of_rules (of t_turn.1 ++ map (later_job t_turn.0) (jobs_anew of turns))) s)
+      (worth (of_rules (of t_turn.1)) s
+      + worth (of_rules (jobs_anew of turns)) (drop t_turn.0 (map (λ m. m - length (of t_turn.1)) s)))
+      (completed_value (of_turn t_turn.1) + completed_anew rules turns)
+      (omega (arith, later, worth_append rules (of t_turn.1) (map (later_job t_turn.0) (jobs_anew of turns)) s))
+      (within_add rules.ratio _ _ _ _ (each t_turn.1 s all.0.0)
+      (within_anew of each turns (drop t_turn.0 (map (λ m. m - length (of t_turn.1)) s)) all.2)))
+
+  -- all the jobs
+  anew_jobs : (turns : List (ℕ × Turn)) → (anew turns).jobs ≡ jobs_anew (λ turn. turn.jobs) turns
+  anew_jobs [] = refl
+  anew_jobs (t_turn ∷ turns) = ap (λ js. t_turn.1.jobs ++ map (later_job t_turn.0) js) (anew_jobs turns)
+
+  -- no schedule of all jobs as they are declared is worth more than the one run allows
+  pub declared_anew : (turns : List (ℕ × Turn)) (s : List ℕ) → AreAnew rules turns
+      → IsWithin rules.ratio (worth (of_turn (anew turns)) s) (completed_value (of_turn (anew turns)))
+  declared_anew turns s all =
+      subst (IsWithin rules.ratio (worth (of_turn (anew turns)) s)) (sym (value_anew turns all))
+      (subst (λ js. IsWithin rules.ratio (worth (of_rules js) s) (completed_anew rules turns))
+      (sym (anew_jobs turns))
+      (within_anew (λ turn. turn.jobs) (λ turn t valid. no_more (of_turn turn) t valid) turns s all))
+
+  -- nor one of the jobs as they were observed
+  pub observed_anew : (turns : List (ℕ × Turn)) (s : List ℕ) → AreAnew rules turns
+      → IsWithin rules.ratio (worth (observed (of_turn (anew turns))) s) (completed_value (of_turn (anew turns)))
+  observed_anew turns s all =
+      subst (IsWithin rules.ratio (worth (observed (of_turn (anew turns))) s)) (sym (value_anew turns all))
+      (subst (λ js. IsWithin rules.ratio (worth (of_rules js) s) (completed_anew rules turns))
+      (sym (observes_anew turns all))
+      (within_anew seen (λ turn t valid. observed_bound (of_turn turn) t valid) turns s all))
+
+  -- ---- a schedule that is worth as much
+
+  -- ticks that are dropped again
+  dropped : (c : ℕ) (s : List ℕ) → drop c (replicate c idle ++ s) ≡ s
+  dropped zero s = refl
+  dropped (suc c) s = dropped c s
+
+  -- of all jobs as they were observed
+  honest_seen : (turns : List (ℕ × Turn)) → AreAnew rules turns
+      → (s : List ℕ) × (completed_anew rules turns ≤ worth (of_rules (jobs_anew seen turns)) s)
+  honest_seen [] all = ([], omega arith)
+  honest_seen (t_turn ∷ turns) all =
+      let rest = honest_seen turns all.2 in (
+        one_then (length (seen t_turn.1)) t_turn.0 (ran (of_turn t_turn.1)) (replicate t_turn.0 idle ++ rest.0),
+        omega (
+          arith,
+          worth_one_then rules (seen t_turn.1) (map (later_job t_turn.0) (jobs_anew seen turns)) t_turn.0
+              (ran (of_turn t_turn.1)) (replicate t_turn.0 idle ++ rest.0)
+              (over_by rules t_turn.1 t_turn.0 all.0.0 all.1)
+              (on_map (later_job t_turn.0) (λ j. t_turn.0 ≤ j.release) (jobs_anew seen turns)
+              (λ j member. omega arith)),
+          worth_later t_turn.0 0 (jobs_anew seen turns) (replicate t_turn.0 idle ++ rest.0),
+          ap (worth (of_rules (jobs_anew seen turns))) (dropped t_turn.0 rest.0),
+          observed_honest (of_turn t_turn.1) all.0.0,
+          rest.1,
+          completed_more rules t_turn.1 (untimed turns),
+        ),
+      )
+
+  -- as the one run observes them
+  pub honest_anew : (turns : List (ℕ × Turn)) → AreAnew rules turns
+      → (s : List ℕ) × (completed_value (of_turn (anew turns)) ≤ worth (observed (of_turn (anew turns))) s)
+  honest_anew turns all = let found = honest_seen turns all in (
+    found.0,
+    subst (λ js. completed_value (of_turn (anew turns)) ≤ worth (of_rules js) found.0)
+        (sym (observes_anew turns all)) (omega (arith, found.1, value_anew turns all)),
+  )
 
 -- a run of jobs moved in time is the run, moved in time
 pub run_moved : (J : Instance) (c : ℕ) → IsValid J
@@ -266,7 +347,8 @@ pub run_moved : (J : Instance) (c : ℕ) → IsValid J
 run_moved J c valid valid_later =
     let own = alone (record { rules = J.rules; jobs = map (later_job c) J.jobs }) valid_later c
     (on_map (later_job c) (λ j. c ≤ j.release) J.jobs (λ j member. omega arith)) in
-    let moved = moved_runs c J.rules J.jobs (printed J) fits (alone J valid 0 (λ j member. omega arith)) in
+    let moved = moved_runs c J.rules J.jobs (printed J) (observed J).jobs fits
+    (alone J valid 0 (λ j member. omega arith)) in
     sym own.3 ∙ ap printed_of (one_run J.rules (at_tick c (map (later_job c) J.jobs)) own.0 moved.0 own.1 moved.1)
     ∙ moved.3 where
       fits : Each (λ j. j.work ≤ j.deadline) J.jobs

@@ -1,23 +1,22 @@
--- What is settled falls apart at rest, and so do runs of many lists in turn.
+-- What is settled falls apart at rest.
 use Rattle.std.proofs.Common.{◌≡◌, ℕ, length-append, ◌+◌, ◌-◌, ◌*◌, ◌≤◌, List, [], ◌∷◌, ◌++◌, length, map, refl, sym}
 use Rattle.std.proofs.Common.{ap, ◌∙◌, subst, Bool, true, false, cond, arith, not, append-nil, append_assoc}
 use Rattle.std.specs.Prelude.{◌&&◌, nat_le}
 use Rattle.std.specs.List.{filter, cons_option}
-use Rattle.std.proofs.lemmas.List.Sums.{sum_by-cons}
 use Rattle.dover_model.specs.JobFacts.{JobFacts}
 use Rattle.dover_model.specs.declared.events.Event.{Event}
 use Rattle.dover_model.specs.declared.events.Event.TheVariants.{Release, Run, Preempt, Take, Complete, Abandon, End}
 use Rattle.dover_model.specs.declared.events.Task.{Task}
 use Rattle.dover_model.specs.Instance.{Rules, Instance, IsValid, having}
 use Rattle.dover_model.specs.State.{State, with_later, opening, to_come, is_done, value_sum}
-use Rattle.dover_model.specs.Step.{Move, Prints, Waits, Ticks, step, open_step, after, finish_or, declared_open_step}
+use Rattle.dover_model.specs.Step.{Move, Prints, Waits, Ticks, open_step, after, finish_or, declared_open_step}
 use Rattle.dover_model.specs.Run.{Step, is_end, event_of, printed_of, printed, run, completed_value}
 use Rattle.dover_model.specs.Settled.{waits_for_mark, settled, settled_steps, AllComeFrom}
-use Rattle.dover_model.specs.WholeRun.{open_at, step_at, EndsOver, IsSettledRun, IsWholeRun}
+use Rattle.dover_model.specs.WholeRun.{open_at, step_at, EndsOver, IsSettledRun}
 use Rattle.dover_model.specs.Paths.{IsOpenPath}
-use Rattle.dover_model.specs.Sound.{Each, Keeps, IsMember}
-use Rattle.dover_model.specs.Rest.{NoneBefore, IsAtRest, behind, names_end, before_end, IsInTurn, in_turn}
-use Rattle.dover_model.specs.Rest.{printed_in_turn, completed_in_turn, AreOwn, instead_with, followed_by}
+use Rattle.dover_model.specs.Sound.{Keeps}
+use Rattle.dover_model.specs.Rest.{NoneBefore, IsAtRest, behind, names_end, before_end, AreOwn, instead_with}
+use Rattle.dover_model.specs.Rest.{followed_by}
 use Rattle.dover_model.proofs.Kept.{open_deed, open_kept, opening_keeps}
 use Rattle.dover_model.proofs.Ending.{run_over}
 use Rattle.dover_model.proofs.Settling.{late_early, settled_is_run, enough_settled}
@@ -26,14 +25,11 @@ use Rattle.dover_model.proofs.Prefixes.{same_after, open_goes_on, come_from, com
 use Rattle.dover_model.proofs.Runs.{printed_append, value_of_run, last_value, value_last}
 use Rattle.dover_model.proofs.Paths.{path_later, one_settled_run, path_then_settled}
 use Rattle.dover_model.proofs.Shifting.{beside, came_to, settled_beside}
-use Rattle.dover_model.proofs.Resting.{at_tick, RunsFrom, Rests, at_rest, settles_from, ticks_path, tick_keeps}
-use Rattle.dover_model.proofs.Resting.{come_shift, numbers_below, numbers_apart, value_there, printed_at_rest, runs_all}
-use Rattle.dover_model.proofs.Resting.{due_later, printed_apart, joined_plain, behind_rules, foreign_due}
+use Rattle.dover_model.proofs.Resting.{at_tick, Rests, at_rest, settles_from, ticks_path, tick_keeps}
+use Rattle.dover_model.proofs.Resting.{come_shift, numbers_below, numbers_apart, value_there, printed_at_rest}
+use Rattle.dover_model.proofs.Resting.{printed_apart, behind_rules, foreign_due}
 use Rattle.dover_model.specs.Finishes.{Finish}
-use Rattle.dover_model.proofs.Finishing.{plain_step}
 use Rattle.dover_model.proofs.Tests.{never}
-use Rattle.dover_model.proofs.Members.{each_append}
-use Rattle.std.specs.Bool.{MatchBool}
 
 -- from the tick on, with all these jobs to come, these events are settled at the mark
 abbrev pub SettlesFrom : Rules → ℕ → ℕ → List JobFacts → List Event → Type 0
@@ -163,22 +159,6 @@ module _ (J : Instance) (valid : IsValid J) (m0 m mark : ℕ) (late0 : NoneBefor
     came : came_to (having J.rules fs) n J.rules.finishes own r.last.tasks r.over ≡ completed_value J
     came = ap (λ (z : State). value_sum (filter is_done z.tasks)) r.is ∙ sym (value_there J valid m rest)
 
--- where no job finishes early
-pub settles_joined_plain : (J : Instance) (valid : IsValid J) (m0 m mark : ℕ) (late0 : NoneBefore m0 J.jobs)
-    (later : m0 ≤ m)
-    (on : m ≤ mark) (rest : IsAtRest J m) → J.rules.finishes ≡ [] → (more : List JobFacts) (events : List Event)
-    → NoneBefore m more → SettlesFrom J.rules mark m more events
-    → SettlesFrom J.rules mark m0 (J.jobs ++ more)
-    (settled J m ++ map (behind (length J.jobs) (completed_value J)) events)
-settles_joined_plain J valid m0 m mark late0 later on rest plain more events late it =
-    subst (λ rules. SettlesFrom rules mark m0 (J.jobs ++ more)
-    (settled J m ++ map (behind (length J.jobs) (completed_value J)) events))
-    (ap (having J.rules) (append-nil J.rules.finishes))
-    (settles_joined J valid m0 m mark late0 later on rest [] own more events late
-    (subst (λ fs. SettlesFrom (having J.rules fs) mark m more events) plain it)) where
-      own : AreOwn J
-      own f member = absurd (subst (IsMember f) plain member)
-
 -- from the opening on, it is what is settled
 pub settled_all : (rules : Rules) (mark : ℕ) (jobs : List JobFacts) (events : List Event)
     → SettlesFrom rules mark 0 jobs events
@@ -298,82 +278,3 @@ value_apart J more fs m own valid valid_more rest late =
     (End (completed_value J + completed_value (instead_with J more fs)) ∷ [])))
     ∙ value_last 0 (completed_value J + completed_value (instead_with J more fs))
     (before_end (printed J) ++ map (behind (length J.jobs) (completed_value J)) it.0)
-
--- ---- many lists in turn
-
-module _ (rules : Rules) (plain : rules.finishes ≡ []) where
-  -- the instance of one list
-  abbrev of_rules : List JobFacts → Instance
-  of_rules jobs = record { rules = rules; jobs = jobs }
-
-  -- none of lists in turn is released before the first tick
-  pub turn_late : (lists : List (List JobFacts)) (from : ℕ) → IsInTurn rules from lists
-      → NoneBefore from (in_turn lists)
-  turn_late [] from turn = λ j member. absurd member
-  turn_late (jobs ∷ lists) from turn = each_append (λ i. from ≤ i.release) jobs (in_turn lists) turn.1
-      (λ i member. let at : turn.2.0 ≤ i.release = turn_late lists turn.2.0 turn.2.3 i member in
-      let low : from ≤ turn.2.0 = turn.2.1 in omega arith)
-
-  -- nor due before it
-  turn_due : (lists : List (List JobFacts)) (from : ℕ) → IsInTurn rules from lists
-      → Each (λ j. from ≤ j.deadline) (in_turn lists)
-  turn_due [] from turn = λ j member. absurd member
-  turn_due (jobs ∷ lists) from turn =
-      each_append (λ i. from ≤ i.deadline) jobs (in_turn lists) (due_later (of_rules jobs) turn.0 from turn.1)
-      (λ i member. let at : turn.2.0 ≤ i.deadline = turn_due lists turn.2.0 turn.2.3 i member in
-      let low : from ≤ turn.2.0 = turn.2.1 in omega arith)
-
-  -- from a tick on
-  turn_runs : (lists : List (List JobFacts)) (from : ℕ) → IsInTurn rules from lists
-      → RunsFrom rules from (in_turn lists) (printed_in_turn rules lists)
-  turn_runs [] from turn = (
-    step_at rules (at_tick from []) ∷ [],
-    (
-      refl,
-      subst (λ x. MatchBool (is_end x) (no_steps ≡ []) (IsWholeRun rules (after (at_tick from []) x) [])) (sym ends)
-          refl,
-    ),
-    omega arith,
-    ap (λ x. cons_option (event_of x) []) ends,
-  ) where
-    no_steps : List Step
-    no_steps = []
-
-    ends : step rules (at_tick from []) ≡ Prints (End 0)
-    ends = plain_step rules (at_tick from []) plain
-  turn_runs (jobs ∷ lists) from turn =
-      subst (λ es. RunsFrom rules from (jobs ++ in_turn lists)
-      (es ++ map (behind (length jobs) (completed_value (of_rules jobs))) (printed_in_turn rules lists)))
-      (settled_at_rest (of_rules jobs) turn.2.0 turn.0 turn.2.2)
-      (joined_plain (of_rules jobs) turn.0 from turn.2.0 turn.1 turn.2.1 turn.2.2 plain (in_turn lists)
-      (printed_in_turn rules lists)
-      (turn_late lists turn.2.0 turn.2.3) (turn_due lists turn.2.0 turn.2.3) (turn_runs lists turn.2.0 turn.2.3))
-
-  -- the run of all the jobs is the runs in turn
-  pub runs_in_turn : (lists : List (List JobFacts)) → IsInTurn rules 0 lists
-      → printed (of_rules (in_turn lists)) ≡ printed_in_turn rules lists
-  runs_in_turn lists turn = runs_all rules (in_turn lists) (printed_in_turn rules lists) (turn_runs lists 0 turn)
-
-  -- what is printed in turn ends with the value of all
-  pub ends_with_value : (lists : List (List JobFacts))
-      → (es : List Event) × (printed_in_turn rules lists ≡ es ++ (End (completed_in_turn rules lists) ∷ []))
-  ends_with_value [] = ([], refl)
-  ends_with_value (jobs ∷ lists) = let it = ends_with_value lists in (
-    before_end (printed (of_rules jobs)) ++ map (behind (length jobs) (completed_value (of_rules jobs))) it.0,
-    ap (λ es. before_end (printed (of_rules jobs)) ++ map (behind (length jobs) (completed_value (of_rules jobs))) es)
-        it.1
-        ∙ ap (λ es. before_end (printed (of_rules jobs)) ++ es)
-        (behind_last (length jobs) (completed_value (of_rules jobs)) (completed_in_turn rules lists) it.0)
-        ∙ sym (append_assoc (before_end (printed (of_rules jobs)))
-        (map (behind (length jobs) (completed_value (of_rules jobs))) it.0)
-        (End (completed_value (of_rules jobs) + completed_in_turn rules lists) ∷ []))
-        ∙ ap (λ v. (before_end (printed (of_rules jobs)) ++ map
-        (behind (length jobs) (completed_value (of_rules jobs))) it.0) ++ (End v ∷ []))
-        (sym (sum_by-cons (λ js. completed_value (of_rules js)) jobs lists)),
-  )
-
-  -- the run of all the jobs completes what the runs in turn do
-  pub value_in_turn : (lists : List (List JobFacts)) → IsInTurn rules 0 lists
-      → completed_value (of_rules (in_turn lists)) ≡ completed_in_turn rules lists
-  value_in_turn lists turn = let it = ends_with_value lists in
-      ap (last_value 0) (runs_in_turn lists turn ∙ it.1) ∙ value_last 0 (completed_in_turn rules lists) it.0

@@ -9,9 +9,7 @@ use Rattle.dover_model.specs.declared.events.Role.TheVariants.{Running}
 use Rattle.dover_model.specs.declared.events.Event.TheVariants.{Complete}
 use Rattle.dover_model.specs.declared.events.Task.{Task}
 use Rattle.dover_model.specs.State.{State, is_running, running}
-use Rattle.dover_model.specs.Step.{Move, Prints, due_finish, finish_or, step, open_step, declared_step}
-use Rattle.dover_model.specs.Step.{declared_open_step}
-use Rattle.dover_model.specs.Instance.{Rules}
+use Rattle.dover_model.specs.Step.{Move, Prints, due_finish, finish_or}
 use Rattle.dover_model.specs.Settled.{waits_for_mark}
 use Rattle.dover_model.specs.Processor.{is_complete}
 use Rattle.dover_model.specs.Sound.{IsMember}
@@ -99,16 +97,6 @@ pub not_complete : (clock : ℕ) (o : Option Finish) (m n : Move) → finish_or 
     → m ≡ n
 not_complete clock None m n e other = e
 not_complete clock (Some f) m n e other = never (sym (ap is_complete e ∙ other))
-
--- ---- no finishes
-
--- where no job finishes early, a step is the declared one
-pub plain_step : (rules : Rules) (s : State) → rules.finishes ≡ [] → step rules s ≡ declared_step rules s
-plain_step rules s plain = ap (λ fs. finish_or s.clock (due_finish fs s) (declared_step rules s)) plain
-
--- and so is an open step
-pub plain_open_step : (rules : Rules) (s : State) → rules.finishes ≡ [] → open_step rules s ≡ declared_open_step rules s
-plain_open_step rules s plain = ap (λ fs. finish_or s.clock (due_finish fs s) (declared_open_step rules s)) plain
 
 -- ---- the same finish
 

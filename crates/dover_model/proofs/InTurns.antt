@@ -18,7 +18,7 @@ use Rattle.dover_model.specs.WholeRun.{step_at}
 use Rattle.dover_model.specs.Rest.{NoneBefore, behind, before_end, Turn}
 use Rattle.dover_model.specs.Rest.{turn_under, in_turns, turns_jobs, turns_observed, turns_finishes, one_run}
 use Rattle.dover_model.specs.Rest.{TurnsEnd, printed_turns, completed_turns}
-use Rattle.dover_model.proofs.Resting.{at_tick, RunsFrom, joined, runs_all, due_later}
+use Rattle.dover_model.proofs.Resting.{at_tick, RunsFrom, joined, runs_all, sees_all, due_later}
 use Rattle.dover_model.proofs.Apart.{SettlesFrom, settles_alone, settles_joined, settled_all, settled_at_rest}
 use Rattle.dover_model.proofs.Apart.{before_append, behind_last}
 use Rattle.dover_model.proofs.Turns.{behind_twice, behind_none, before_twice, before_behind}
@@ -60,20 +60,30 @@ module _ (rules : Rules) where
   -- from a tick on
   turns_run : (turns : List Turn) (from last : ℕ) → TurnsEnd rules from turns last
       → RunsFrom (having rules (turns_finishes turns)) from (turns_jobs turns) (printed_turns rules turns)
-  turns_run [] from last ends = (step_at (having rules []) (at_tick from []) ∷ [], (refl, refl), omega arith, refl)
+      (turns_observed rules turns)
+  turns_run [] from last ends =
+      (step_at (having rules []) (at_tick from []) ∷ [], (refl, refl), omega arith, refl, refl)
   turns_run (turn ∷ turns) from last ends =
       subst (λ es. RunsFrom (having rules (turns_finishes (turn ∷ turns))) from (turns_jobs (turn ∷ turns))
-      (es ++ map (behind (length turn.jobs) (completed_value (of_turn turn))) (printed_turns rules turns)))
+      (es ++ map (behind (length turn.jobs) (completed_value (of_turn turn))) (printed_turns rules turns))
+      (turns_observed rules (turn ∷ turns)))
       (settled_at_rest (of_turn turn) ends.1.0 ends.0.0 ends.1.2)
       (joined (of_turn turn) ends.0.0 from ends.1.0 ends.0.2 ends.1.1 ends.1.2 (turns_finishes turns) ends.0.1
-      (turns_jobs turns) (printed_turns rules turns) (turns_late turns ends.1.0 last ends.1.3)
+      (turns_jobs turns) (printed_turns rules turns) (turns_observed rules turns)
+      (turns_late turns ends.1.0 last ends.1.3)
       (turns_due turns ends.1.0 last ends.1.3) (turns_run turns ends.1.0 last ends.1.3))
 
   -- the run of all turns is their runs
   pub one_run_prints : (turns : List Turn) (last : ℕ) → TurnsEnd rules 0 turns last
       → printed (one_run rules turns) ≡ printed_turns rules turns
   one_run_prints turns last ends = runs_all (having rules (turns_finishes turns)) (turns_jobs turns)
-      (printed_turns rules turns) (turns_run turns 0 last ends)
+      (printed_turns rules turns) (turns_observed rules turns) (turns_run turns 0 last ends)
+
+  -- it observes the jobs as they do
+  pub one_run_observes : (turns : List Turn) (last : ℕ) → TurnsEnd rules 0 turns last
+      → (observed (one_run rules turns)).jobs ≡ turns_observed rules turns
+  one_run_observes turns last ends = sees_all (having rules (turns_finishes turns)) (turns_jobs turns)
+      (printed_turns rules turns) (turns_observed rules turns) (turns_run turns 0 last ends)
 
   -- what is printed ends with the value of all
   turns_value : (turns : List Turn)
@@ -210,7 +220,7 @@ module _ (rules : Rules) where
   abbrev AreValid : List Turn → Type 0
   AreValid turns = Each (λ turn. IsValid (of_turn turn)) turns
 
-  turns_valid : (turns : List Turn) (from last : ℕ) → TurnsEnd rules from turns last → AreValid turns
+  pub turns_valid : (turns : List Turn) (from last : ℕ) → TurnsEnd rules from turns last → AreValid turns
   turns_valid [] from last ends turn none = absurd none
   turns_valid (turn ∷ turns) from last ends t (inl e) = subst (λ u. IsValid (of_turn u)) (sym e) ends.0.0
   turns_valid (turn ∷ turns) from last ends t (inr there) = turns_valid turns ends.1.0 last ends.1.3 t there
@@ -232,21 +242,27 @@ module _ (rules : Rules) where
       (within_add rules.ratio _ _ _ _ (each turn s (valid turn (inl refl)))
       (within_all of each turns (map (λ m. m - length (of turn)) s) (λ t member. valid t (inr member)))))
 
-  -- no schedule of the jobs as they are declared is worth more
+  -- no schedule of the jobs of valid turns is worth more than they allow together
+  pub turns_within : (turns : List Turn) (s : List ℕ) → AreValid turns
+      → IsWithin rules.ratio (worth (one_run rules turns) s) (completed_turns rules turns)
+  turns_within turns s valid =
+      within_all (λ turn. turn.jobs) (λ turn t valid. bound (of_turn turn) t valid) turns s valid
+
+  -- nor than the one run does
   pub declared_within : (turns : List Turn) (last : ℕ) (s : List ℕ) → TurnsEnd rules 0 turns last
       → IsWithin rules.ratio (worth (one_run rules turns) s) (completed_value (one_run rules turns))
   declared_within turns last s ends =
       subst (IsWithin rules.ratio (worth (one_run rules turns) s)) (sym (one_run_completes turns last ends))
-      (within_all (λ turn. turn.jobs) (λ turn t valid. bound (of_turn turn) t valid) turns s
-      (turns_valid turns 0 last ends))
+      (turns_within turns s (turns_valid turns 0 last ends))
 
   -- nor one of the jobs as they were observed
   pub observed_within : (turns : List Turn) (last : ℕ) (s : List ℕ) → TurnsEnd rules 0 turns last
-      → IsWithin rules.ratio (worth (record { rules = rules; jobs = turns_observed rules turns }) s)
-      (completed_value (one_run rules turns))
+      → IsWithin rules.ratio (worth (observed (one_run rules turns)) s) (completed_value (one_run rules turns))
   observed_within turns last s ends =
-      subst (IsWithin rules.ratio (worth (record { rules = rules; jobs = turns_observed rules turns }) s))
+      subst (λ js. IsWithin rules.ratio (worth (record { rules = rules; jobs = js }) s)
+      (completed_value (one_run rules turns))) (sym (one_run_observes turns last ends))
+      (subst (IsWithin rules.ratio (worth (record { rules = rules; jobs = turns_observed rules turns }) s))
       (sym (one_run_completes turns last ends))
       (within_all (λ turn. (observed (of_turn turn)).jobs) (λ turn t valid. observed_bound
       (of_turn turn) t valid) turns s
-      (turns_valid turns 0 last ends))
+      (turns_valid turns 0 last ends)))

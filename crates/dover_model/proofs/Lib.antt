@@ -72,9 +72,10 @@ pub mod Apart
 pub mod Turns
 pub mod RestTick
 pub mod Parting
-pub mod TurnSchedules
 pub mod InTurns
+pub mod TurnSchedules
 pub mod TurnsGrowing
+pub mod TurnsLosing
 pub mod Anew
 pub mod WaitingMoves
 pub mod Spending
@@ -115,3 +116,4 @@ pub mod Former
 pub mod Shown
 pub mod EarlyEnds
 pub mod RunSessions
+pub mod Processors

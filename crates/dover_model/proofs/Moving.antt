@@ -26,6 +26,7 @@ use Rattle.dover_model.specs.JobFacts.{JobFacts}
 use Rattle.dover_model.specs.Rest.{later_job, later_event}
 use Rattle.dover_model.proofs.Kept.{move_of}
 use Rattle.dover_model.proofs.Members.{map_map, map_same, sum_map, member_filter, on_map}
+use Rattle.dover_model.proofs.RunLaws.{tasks_in, tasks_from}
 
 -- the task with its job c ticks later
 abbrev pub moved_task : ℕ → Task → Task
@@ -467,7 +468,7 @@ module _ (c : ℕ) where
     -- the whole run of a moved state
     pub whole_later : (zs : List Step) (s : State) → Each IsFitting s.tasks → IsWholeRun rules s zs
         → (ys : List Step) × IsWholeRun rules (moved_state c s) ys × (length ys ≡ length zs)
-        × (printed_of ys ≡ map (later_event c) (printed_of zs))
+        × (printed_of ys ≡ map (later_event c) (printed_of zs)) × (tasks_in ys ≡ map (moved_task c) (tasks_in zs))
     whole_later [] s fits whole = absurd whole
     whole_later (z ∷ zs) s fits whole =
         by_end (is_end (step rules s)) refl whole.1
@@ -501,9 +502,11 @@ module _ (c : ℕ) where
               → MatchBool b (zs ≡ []) (IsWholeRun rules (after s (step rules s)) zs)
               → (IsWholeRun rules (after s (step rules s)) zs → (ys : List Step)
               × IsWholeRun rules (moved_state c (after s (step rules s))) ys
-              × (length ys ≡ length zs) × (printed_of ys ≡ map (later_event c) (printed_of zs)))
+              × (length ys ≡ length zs) × (printed_of ys ≡ map (later_event c) (printed_of zs))
+              × (tasks_in ys ≡ map (moved_task c) (tasks_in zs)))
               → (ys : List Step) × IsWholeRun rules there ys × (length ys ≡ length (z ∷ zs))
               × (printed_of ys ≡ map (later_event c) (printed_of (z ∷ zs)))
+              × (tasks_in ys ≡ map (moved_task c) (tasks_in (z ∷ zs)))
           by_end true last none more = (
             step_at rules there ∷ [],
             (
@@ -513,6 +516,8 @@ module _ (c : ℕ) where
             ),
             ap (λ xs. length (z ∷ xs)) (sym none),
             shown [] (ap (λ xs. map (later_event c) (printed_of xs)) (sym none)),
+            ap (λ (y : Step). map (moved_task c) y.before.tasks) (sym whole.0)
+                ∙ ap (λ xs. map (moved_task c) (tasks_in (z ∷ xs))) (sym none),
           )
           by_end false on rest more = let it = more rest in (
             step_at rules there ∷ it.0,
@@ -525,4 +530,6 @@ module _ (c : ℕ) where
             ),
             omega (arith, it.2),
             shown it.0 it.3,
+            tasks_from rules (moved_state c (after s (step rules s))) it.0 it.1 there ∙ it.4
+                ∙ ap (map (moved_task c)) (sym (tasks_from rules (after s (step rules s)) zs rest z.before)),
           )

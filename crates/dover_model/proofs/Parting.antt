@@ -1,5 +1,6 @@
 -- What schedules of all jobs give to the jobs of a part, and sums of bounds.
-use Rattle.std.proofs.Common.{◌≡◌, ℕ, suc, ◌+◌, ◌-◌, ◌*◌, ◌≤◌, inl, inr, List, [], ◌∷◌, ◌++◌, length, drop, take, map}
+use Rattle.std.proofs.Common.{◌≡◌, ℕ, suc, ◌+◌, ◌-◌, ◌*◌, ◌^◌, ◌≤◌, ◌<◌, inl, inr, List, [], ◌∷◌, ◌++◌}
+use Rattle.std.proofs.Common.{length, drop, take, map}
 use Rattle.std.proofs.Common.{refl, sym, ap, ◌∙◌, subst, arith, cond, eqb, Bool, true, false, IsTrue}
 use Rattle.std.specs.List.{count_by, sum_by, filter, enumerate_from, AllByRecursion}
 use Rattle.std.proofs.lemmas.Bool.{le-leb, leb-true, eqb-true, eq-eqb, ne_eqb}
@@ -14,7 +15,7 @@ use Rattle.dover_model.specs.Bound.{IsWithin, bound}
 use Rattle.dover_model.specs.Run.{completed_value, run}
 use Rattle.dover_model.specs.Underload.{takes_or_abandons}
 use Rattle.dover_model.specs.Sound.{IsMember, Each}
-use Rattle.dover_model.specs.Rest.{in_turn, completed_in_turn}
+use Rattle.dover_model.specs.Rest.{Turn, turn_under, turns_jobs, one_run, completed_turns}
 use Rattle.dover_model.specs.Parts.{part_of, IsParted, part_under, completed_in_parts, bounds_of_parts}
 use Rattle.dover_model.specs.Intervals.{intervals}
 use Rattle.dover_model.proofs.Members.{sum_le, sum_plus, term_le_sum, all_member, member_filter, each_cons}
@@ -249,7 +250,7 @@ within_sum k f g (x ∷ xs) all = subst (λ c. IsWithin k c (sum_by g (x ∷ xs)
     (within_sum k f g xs (λ y member. all y (inr member)))))
 
 -- a run completes at most the sum of all values
-completed_most : (J : Instance) → IsValid J → completed_value J ≤ 10_000_000_000_000
+completed_most : (J : Instance) → IsValid J → completed_value J < 10 ^ 18
 completed_most J valid =
     let all : completed_value J + sum_by (λ i. i.abandoned) (intervals J) ≡ sum_by (λ j. j.value) J.jobs =
     intervals_abandon J valid in
@@ -313,7 +314,7 @@ pub part_loses_nothing : (J : Instance) (rules : Rules) (owner : ℕ → ℕ) (p
 part_loses_nothing J rules owner part meets valid =
     all_value (part_under (λ _. rules) owner J.jobs part) valid (meets_parted J rules owner part meets)
 
--- ---- lists in turn
+-- ---- one list behind another
 
 -- numbers of one list behind another
 pub enumerate_append : (k : ℕ) (jobs more : List JobFacts)
@@ -392,47 +393,31 @@ module _ (rules : Rules) where
         ),
       )
 
-  -- the bound of lists in turn
-  pub bound_in_turn : (lists : List (List JobFacts)) (s : List ℕ) → Each (λ jobs. IsValid (of_rules jobs)) lists
-      → IsWithin rules.ratio (worth (of_rules (in_turn lists)) s) (completed_in_turn rules lists)
-  bound_in_turn [] s valid = let none : rules.ratio.q * 0 - (rules.ratio.p + rules.ratio.q) * 0 ≡ 0 = omega arith in
-      subst (λ x. x * x ≤ 4 * rules.ratio.p * rules.ratio.q * 0 * 0) (sym none) (omega arith)
-  bound_in_turn (jobs ∷ lists) s valid = subst (IsWithin rules.ratio (worth (of_rules (jobs ++ in_turn lists)) s))
-      (sym (sum_by-cons (λ js. completed_value (of_rules js)) jobs lists))
-      (within_less rules.ratio (worth (of_rules (jobs ++ in_turn lists)) s)
-      (worth (of_rules jobs) s + worth (of_rules (in_turn lists)) (map (λ m. m - length jobs) s))
-      (completed_value (of_rules jobs) + completed_in_turn rules lists) (worth_append jobs (in_turn lists) s)
-      (within_add rules.ratio (worth (of_rules jobs) s)
-      (worth (of_rules (in_turn lists)) (map (λ m. m - length jobs) s))
-      (completed_value (of_rules jobs)) (completed_in_turn rules lists)
-      (no_more (of_rules jobs) s (valid jobs (inl refl)))
-      (bound_in_turn lists (map (λ m. m - length jobs) s) (λ js member. valid js (inr member)))))
-
-  -- where one schedule serves all jobs, no list takes_or_abandons anything
-  pub none_lost_in_turn : (lists : List (List JobFacts)) → Each (λ jobs. IsValid (of_rules jobs)) lists
-      → Meets (of_rules (in_turn lists))
-      → Each (λ jobs. Each (λ x. takes_or_abandons x.move ≡ false) (run (of_rules jobs))) lists
-  none_lost_in_turn [] valid meets = λ jobs member. absurd member
-  none_lost_in_turn (jobs ∷ lists) valid meets =
-      let both = meets_append jobs (in_turn lists) meets in
-      each_cons (λ js. Each (λ x. takes_or_abandons x.move ≡ false) (run (of_rules js))) jobs lists
-      (none_lost (of_rules jobs) (valid jobs (inl refl)) both.0)
-      (none_lost_in_turn lists (λ js member. valid js (inr member)) both.1)
+  -- where one schedule serves the jobs of all turns, no turn takes_or_abandons anything
+  pub none_lost_in_turn : (turns : List Turn) → Each (λ turn. IsValid (turn_under rules turn)) turns
+      → Meets (one_run rules turns)
+      → Each (λ turn. Each (λ x. takes_or_abandons x.move ≡ false) (run (turn_under rules turn))) turns
+  none_lost_in_turn [] valid meets = λ turn member. absurd member
+  none_lost_in_turn (turn ∷ turns) valid meets =
+      let both = meets_append turn.jobs (turns_jobs turns) meets in
+      each_cons (λ t. Each (λ x. takes_or_abandons x.move ≡ false) (run (turn_under rules t))) turn turns
+      (none_lost (turn_under rules turn) (valid turn (inl refl)) both.0)
+      (none_lost_in_turn turns (λ t member. valid t (inr member)) both.1)
 
   -- and together they complete the value of all
-  pub all_value_in_turn : (lists : List (List JobFacts)) → Each (λ jobs. IsValid (of_rules jobs)) lists
-      → Meets (of_rules (in_turn lists))
-      → completed_in_turn rules lists ≡ total_value (in_turn lists)
+  pub all_value_in_turn : (turns : List Turn) → Each (λ turn. IsValid (turn_under rules turn)) turns
+      → Meets (one_run rules turns)
+      → completed_turns rules turns ≡ total_value (turns_jobs turns)
   all_value_in_turn [] valid meets = refl
-  all_value_in_turn (jobs ∷ lists) valid meets =
-      let both = meets_append jobs (in_turn lists) meets in
-      let here : completed_value (of_rules jobs) ≡ total_value jobs =
-      all_value (of_rules jobs) (valid jobs (inl refl)) both.0 in
-      let rest : completed_in_turn rules lists ≡ total_value (in_turn lists) =
-      all_value_in_turn lists (λ js member. valid js (inr member)) both.1 in
-      let sums : total_value (jobs ++ in_turn lists) ≡ total_value jobs + total_value (in_turn lists) =
-      values_append jobs (in_turn lists) in
-      omega (arith, sum_by-cons (λ js. completed_value (of_rules js)) jobs lists) where
+  all_value_in_turn (turn ∷ turns) valid meets =
+      let both = meets_append turn.jobs (turns_jobs turns) meets in
+      let here : completed_value (turn_under rules turn) ≡ total_value turn.jobs =
+      all_value (turn_under rules turn) (valid turn (inl refl)) both.0 in
+      let rest : completed_turns rules turns ≡ total_value (turns_jobs turns) =
+      all_value_in_turn turns (λ t member. valid t (inr member)) both.1 in
+      let sums : total_value (turn.jobs ++ turns_jobs turns) ≡ total_value turn.jobs + total_value (turns_jobs turns) =
+      values_append turn.jobs (turns_jobs turns) in
+      omega (arith, sum_by-cons (λ t. completed_value (turn_under rules t)) turn turns) where
         values_append : (xs ys : List JobFacts) → total_value (xs ++ ys) ≡ total_value xs + total_value ys
         values_append [] ys = omega arith
         values_append (x ∷ xs) ys = omega (

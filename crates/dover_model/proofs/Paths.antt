@@ -24,7 +24,8 @@ use Rattle.dover_model.proofs.Deeds.{over_rests}
 use Rattle.dover_model.proofs.Kept.{open_kept, step_kept, opening_keeps, step_deed, open_deed}
 use Rattle.dover_model.proofs.Ending.{potential, ends, run_is_whole}
 use Rattle.dover_model.proofs.Readiness.{IsReady, open_ready, step_ready, opening_ready}
-use Rattle.dover_model.proofs.RunLaws.{one_run}
+use Rattle.dover_model.proofs.RunLaws.{one_run, tasks_in, tasks_from}
+use Rattle.dover_model.specs.Observed.{end_state}
 use Rattle.dover_model.proofs.Barriers.{clock_stays}
 use Rattle.dover_model.proofs.Settling.{settles, settled_is_run}
 use Rattle.dover_model.proofs.Valid.{valid_front}
@@ -208,19 +209,21 @@ module _ (J : Instance) (valid : IsValid J) (mark : ℕ) where
       (step_deed J valid s keeps J.rules)
       ∙ ap (λ b. then_some b (Prints (End (value_sum (filter is_done s.tasks)))) or_else Ticks) over
 
-  -- a path, and a whole run from its end, print what a whole run from its beginning prints
+  -- a path, and a whole run from its end, print what a whole run from its beginning prints, and leave the same tasks
   path_then_run : (xs zs : List Step) (s t : State) → Keeps J s → IsOpenPath J.rules mark s xs t
       → IsWholeRun J.rules t zs
       → (ys : List Step) × IsWholeRun J.rules s ys × (printed_of ys ≡ printed_of xs ++ printed_of zs)
-  path_then_run [] zs s t keeps here whole = (zs, subst (λ z. IsWholeRun J.rules z zs) here whole, refl)
+      × (tasks_in ys ≡ tasks_in zs)
+  path_then_run [] zs s t keeps here whole = (zs, subst (λ z. IsWholeRun J.rules z zs) here whole, refl, refl)
   path_then_run (x ∷ xs) [] s t keeps path whole = absurd whole
   path_then_run (x ∷ xs) (z ∷ zs) s t keeps path whole = by_over (list_all is_over s.tasks) refl
       (path_then_run xs (z ∷ zs) (after s (open_step J.rules s)) t
       (open_kept J valid s keeps J.rules) path.2 whole) where
         by_over : (b : Bool) → list_all is_over s.tasks ≡ b
             → ((ys : List Step) × IsWholeRun J.rules (after s (open_step J.rules s)) ys
-            × (printed_of ys ≡ printed_of xs ++ printed_of (z ∷ zs)))
+            × (printed_of ys ≡ printed_of xs ++ printed_of (z ∷ zs)) × (tasks_in ys ≡ tasks_in (z ∷ zs)))
             → (ys : List Step) × IsWholeRun J.rules s ys × (printed_of ys ≡ printed_of (x ∷ xs) ++ printed_of (z ∷ zs))
+            × (tasks_in ys ≡ tasks_in (z ∷ zs))
         by_over true over rest =
             let silent : (printed_of (x ∷ xs) ≡ []) × (t.tasks ≡ s.tasks) =
             path_over (x ∷ xs) s t keeps (all_each is_over s.tasks over) path in
@@ -240,6 +243,7 @@ module _ (J : Instance) (valid : IsValid J) (mark : ℕ) where
                   ∙ sym (ap (λ (y : Step). cons_option (event_of y.move) []) whole.0)
                   ∙ sym (ap (λ ws. printed_of (z ∷ ws)) last)
                   ∙ sym (ap (λ es. es ++ printed_of (z ∷ zs)) silent.0),
+              sym silent.1 ∙ sym (ap (λ (y : Step). y.before.tasks) whole.0) ∙ sym (ap (λ ws. tasks_in (z ∷ ws)) last),
             )
         by_over false some rest =
             let goes_on : step J.rules s ≡ open_step J.rules s = step_open J.rules s some in
@@ -255,6 +259,7 @@ module _ (J : Instance) (valid : IsValid J) (mark : ℕ) where
                   ∙ cons_append (event_of (open_step J.rules s)) (printed_of xs) (printed_of (z ∷ zs))
                   ∙ sym (ap (λ (y : Step). cons_option (event_of y.move) (printed_of xs) ++ printed_of (z ∷ zs))
                   path.0),
+              tasks_from J.rules (after s (open_step J.rules s)) rest.0 rest.1 s ∙ rest.3,
             ) where
               cons_append : (e : Option Event) (es fs : List Event) → cons_option e (es ++ fs) ≡ cons_option e es ++ fs
               cons_append None es fs = refl
@@ -268,6 +273,15 @@ printed_then_run J mark s events zs valid it whole =
     let all = path_then_run J valid mark it.steps zs (opening J.jobs) s (opening_keeps J) it.path whole in
     ap printed_of (one_run J.rules (opening J.jobs) (run J) all.0 (run_is_whole J valid) all.1) ∙ all.2
     ∙ ap (λ es. es ++ printed_of zs) it.prints
+
+-- and leaves the tasks as the run does
+pub tasks_then_run : (J : Instance) (mark : ℕ) (s : State) (events : List Event) (zs : List Step) → IsValid J
+    → HasPrinted J mark s events
+    → IsWholeRun J.rules s zs → (end_state J).tasks ≡ tasks_in zs
+tasks_then_run J mark s events zs valid it whole =
+    let all = path_then_run J valid mark it.steps zs (opening J.jobs) s (opening_keeps J) it.path whole in
+    tasks_from J.rules (opening J.jobs) (run J) (run_is_whole J valid) (opening J.jobs)
+    ∙ ap tasks_in (one_run J.rules (opening J.jobs) (run J) all.0 (run_is_whole J valid) all.1) ∙ all.3
 
 -- ---- what is printed begins what will be
 

@@ -23,7 +23,7 @@ use Rattle.dover_model.specs.Paths.{IsOpenPath, IsPath, HasPrinted}
 use Rattle.dover_model.specs.Jumps.{ticked_by, later_by, NothingDue}
 use Rattle.dover_model.specs.Sound.{IsMember, Each, Keeps}
 use Rattle.dover_model.specs.Rest.{NoneBefore, IsAtRest, behind, AreOwn, behind_finish, instead_with, followed_by}
-use Rattle.dover_model.proofs.Members.{all_member, found}
+use Rattle.dover_model.proofs.Members.{all_member, found, map_map}
 use Rattle.dover_model.proofs.Roles.{passes}
 use Rattle.dover_model.proofs.Deeds.{over_rests}
 use Rattle.dover_model.proofs.Kept.{open_deed, open_kept, step_kept, step_deed, opening_keeps, come_coming}
@@ -32,7 +32,9 @@ use Rattle.dover_model.proofs.Potential.{steps_scale, weights}
 use Rattle.dover_model.specs.Weights.{weight, weight_in, standing}
 use Rattle.dover_model.proofs.Ending.{potential, ends, sum_each}
 use Rattle.dover_model.proofs.Readiness.{opening_ready}
-use Rattle.dover_model.proofs.RunLaws.{enough_fuel}
+use Rattle.dover_model.proofs.RunLaws.{enough_fuel, tasks_in, tasks_append, tasks_from}
+use Rattle.dover_model.specs.Observed.{end_state, observing, observed}
+use Rattle.std.proofs.lemmas.List.{map-append}
 use Rattle.dover_model.proofs.Settling.{late_early, settles, settled_is_run}
 use Rattle.dover_model.proofs.Barriers.{AtBarrier, settled_at_barrier, state_after}
 use Rattle.dover_model.proofs.Later.{same_step, find_front, role_passes}
@@ -40,6 +42,7 @@ use Rattle.dover_model.proofs.Prefixes.{same_after, step_open, open_goes_on, com
 use Rattle.dover_model.proofs.Runs.{printed_append, last_value, value_last}
 use Rattle.dover_model.proofs.Honest.{numbers_low, count_jobs}
 use Rattle.dover_model.proofs.Paths.{path_append, path_settles, one_settled_run, printed_then_run, closed_then_run}
+use Rattle.dover_model.proofs.Paths.{tasks_then_run}
 use Rattle.dover_model.proofs.Shifting.{shifted, beside, came_to, whole_beside}
 use Rattle.dover_model.proofs.Finishing.{none_without}
 use Rattle.dover_model.specs.Finishes.{Finish, is_finish_of}
@@ -51,10 +54,14 @@ use Rattle.dover_model.proofs.Tests.{never}
 abbrev pub at_tick : ℕ → List JobFacts → State
 at_tick m jobs = record { clock = m; tasks = to_come 0 jobs }
 
--- from the tick on, with all these jobs to come, a whole run prints these events
-abbrev pub RunsFrom : Rules → ℕ → List JobFacts → List Event → Type 0
-RunsFrom rules m jobs events = (zs : List Step) × IsWholeRun rules (at_tick m jobs) zs
-    × (length zs ≤ (last_deadline jobs - m) + 6 * length jobs + 1) × (printed_of zs ≡ events)
+-- the jobs as the steps of a whole run observed them
+abbrev pub seen_in : List Step → List JobFacts
+seen_in zs = map observing (tasks_in zs)
+
+-- from the tick on, with all these jobs to come, a whole run prints these events, and observed the jobs so
+abbrev pub RunsFrom : Rules → ℕ → List JobFacts → List Event → List JobFacts → Type 0
+RunsFrom rules m jobs events seen = (zs : List Step) × IsWholeRun rules (at_tick m jobs) zs
+    × (length zs ≤ (last_deadline jobs - m) + 6 * length jobs + 1) × (printed_of zs ≡ events) × (seen_in zs ≡ seen)
 
 -- ---- jobs to come
 
@@ -223,7 +230,7 @@ module _ (J : Instance) (valid : IsValid J) (m : ℕ) (late : NoneBefore m J.job
       (come_not t member))
 
   -- a valid instance by itself
-  pub alone : RunsFrom J.rules m J.jobs (printed J)
+  pub alone : RunsFrom J.rules m J.jobs (printed J) (observed J).jobs
   alone =
       let it = ends J valid J.rules (potential J.rules.finishes (last_deadline J.jobs) (at_tick m J.jobs))
       (at_tick m J.jobs)
@@ -232,6 +239,7 @@ module _ (J : Instance) (valid : IsValid J) (m : ℕ) (late : NoneBefore m J.job
         it.1,
         omega (arith, it.2, come_weighs),
         sym (printed_then_run J m (at_tick m J.jobs) [] it.0 valid printed_none it.1),
+        ap (map observing) (sym (tasks_then_run J m (at_tick m J.jobs) [] it.0 valid printed_none it.1)),
       )
 
   -- the open steps from m on, up to the barrier of a later mark
@@ -457,20 +465,32 @@ module _ (J : Instance) (valid : IsValid J) (m : ℕ) (rest : IsAtRest J m) wher
   worth_there = value_sum (filter is_done (settled_state J m).tasks)
 
   -- End comes next
+  end : step J.rules there.last ≡ Prints (End (value_sum (filter is_done there.last.tasks)))
+  end = end_step J valid there.last there.keeps there.over
+
+  -- what has been printed
+  by_then : HasPrinted J m there.last (settled J m)
+  by_then = record { steps = there.steps; path = there.path; prints = there.prints }
+
+  -- the step of End is all that is left
+  only_end : IsWholeRun J.rules there.last (step_at J.rules there.last ∷ [])
+  only_end = (
+    refl,
+    subst (λ x. MatchBool (is_end x) (no_steps ≡ []) (IsWholeRun J.rules (after there.last x) no_steps)) (sym end) refl,
+  ) where
+    no_steps : List Step
+    no_steps = []
+
   printed_with_end : printed J ≡ settled J m ++ (End worth_there ∷ [])
   printed_with_end =
-      let end : step J.rules there.last ≡ Prints (End (value_sum (filter is_done there.last.tasks))) =
-      end_step J valid there.last there.keeps there.over in
-      printed_then_run J m there.last (settled J m) (step_at J.rules there.last ∷ []) valid
-      (record { steps = there.steps; path = there.path; prints = there.prints }) (
-        refl,
-        subst (λ x. MatchBool (is_end x) (no_steps ≡ []) (IsWholeRun J.rules (after there.last x) no_steps))
-            (sym end) refl,
-      )
+      printed_then_run J m there.last (settled J m) (step_at J.rules there.last ∷ []) valid by_then only_end
       ∙ ap (λ x. settled J m ++ cons_option (event_of x) []) end
-      ∙ ap (λ (z : State). settled J m ++ (End (value_sum (filter is_done z.tasks)) ∷ [])) there.is where
-        no_steps : List Step
-        no_steps = []
+      ∙ ap (λ (z : State). settled J m ++ (End (value_sum (filter is_done z.tasks)) ∷ [])) there.is
+
+  -- the run ends with the tasks as they are then
+  pub tasks_there : (end_state J).tasks ≡ (settled_state J m).tasks
+  tasks_there = tasks_then_run J m there.last (settled J m) (step_at J.rules there.last ∷ []) valid by_then only_end
+      ∙ ap (λ (z : State). z.tasks) there.is
 
   -- it names the value of the run
   pub value_there : completed_value J ≡ worth_there
@@ -493,19 +513,21 @@ module _ (J : Instance) (valid : IsValid J) (m0 m : ℕ) (late0 : NoneBefore m0 
   rules2 = behind_rules J fs
 
   -- none behind
-  joined_none : (events : List Event) → RunsFrom rules1 m [] events
+  joined_none : (events : List Event) (seen : List JobFacts) → RunsFrom rules1 m [] events seen
       → RunsFrom rules2 m0 (J.jobs ++ []) (settled J m ++ map (behind (length J.jobs) (completed_value J)) events)
-  joined_none events it = subst
-      (λ jobs. RunsFrom rules2 m0 jobs (settled J m ++ map (behind (length J.jobs) (completed_value J)) events))
-      (sym (append-nil J.jobs))
-      (subst (RunsFrom rules2 m0 J.jobs) (printed_at_rest J valid m rest ∙ ends_too) alone_too) where
-        alone_too : RunsFrom rules2 m0 J.jobs (printed J)
-        alone_too = let a = alone J valid m0 late0 in (
-          a.0,
-          foreign_run J valid fs a.0 (at_tick m0 J.jobs) (tick_keeps J valid m0 late0 m0 (omega arith)) a.1,
-          a.2,
-          a.3,
-        )
+      ((observed J).jobs ++ seen)
+  joined_none events seen it = subst
+      (λ jobs. RunsFrom rules2 m0 jobs (settled J m ++ map (behind (length J.jobs) (completed_value J)) events)
+      ((observed J).jobs ++ seen))
+      (sym (append-nil J.jobs)) alone_too where
+        none_seen : (zs : List Step) → IsWholeRun rules1 (at_tick m []) zs → seen_in zs ≡ []
+        none_seen [] whole = absurd whole
+        none_seen (z ∷ zs) whole =
+            let ends : step rules1 (at_tick m []) ≡ Prints (End 0) =
+            ap (λ o. finish_or m o (Prints (End 0))) (none_without fs) in
+            ap (λ ys. seen_in (z ∷ ys)) (subst (λ x. MatchBool (is_end x) (zs ≡ [])
+            (IsWholeRun rules1 (after (at_tick m []) x) zs)) ends whole.1)
+            ∙ ap (λ (y : Step). map observing y.before.tasks) whole.0
 
         only_end : (zs : List Step) → IsWholeRun rules1 (at_tick m []) zs → printed_of zs ≡ End 0 ∷ []
         only_end [] whole = absurd whole
@@ -523,12 +545,24 @@ module _ (J : Instance) (valid : IsValid J) (m0 m : ℕ) (late0 : NoneBefore m0 
             ∙ ap (λ es. settled J m ++ map (behind (length J.jobs) (completed_value J)) es)
             (sym (only_end it.0 it.1) ∙ it.3)
 
+        alone_too : RunsFrom rules2 m0 J.jobs (settled J m ++ map (behind (length J.jobs) (completed_value J)) events)
+            ((observed J).jobs ++ seen)
+        alone_too = let a = alone J valid m0 late0 in (
+          a.0,
+          foreign_run J valid fs a.0 (at_tick m0 J.jobs) (tick_keeps J valid m0 late0 m0 (omega arith)) a.1,
+          a.2,
+          a.3 ∙ printed_at_rest J valid m rest ∙ ends_too,
+          a.4 ∙ sym (append-nil (observed J).jobs)
+              ∙ ap (λ js. (observed J).jobs ++ js) (sym (none_seen it.0 it.1) ∙ it.4),
+        )
+
   -- some behind
-  joined_some : (j : JobFacts) (js : List JobFacts) (events : List Event) → NoneBefore m (j ∷ js) → m ≤ j.deadline
-      → RunsFrom rules1 m (j ∷ js) events
+  joined_some : (j : JobFacts) (js : List JobFacts) (events : List Event) (seen : List JobFacts)
+      → NoneBefore m (j ∷ js) → m ≤ j.deadline
+      → RunsFrom rules1 m (j ∷ js) events seen
       → RunsFrom rules2 m0 (J.jobs ++ (j ∷ js))
-      (settled J m ++ map (behind (length J.jobs) (completed_value J)) events)
-  joined_some j js events late due it = (
+      (settled J m ++ map (behind (length J.jobs) (completed_value J)) events) ((observed J).jobs ++ seen)
+  joined_some j js events seen late due it = (
     before.0 ++ behind_them.0,
     subst (λ s. IsWholeRun rules2 s (before.0 ++ behind_them.0)) (sym begins)
         (closed_then_run rules2 before.0 behind_them.0 (with_later (at_tick m0 J.jobs) ks_there)
@@ -539,6 +573,10 @@ module _ (J : Instance) (valid : IsValid J) (m0 m : ℕ) (late0 : NoneBefore m0 
         ∙ ap (λ es. settled J m ++ es)
         (behind_them.3 ∙ ap (λ es. map (behind n (came_to rules1 n J.rules.finishes own r.last.tasks r.over)) es) it.3
         ∙ ap (λ v. map (behind n v) events) came),
+    ap (map observing) (tasks_append rules2 _ before.0 behind_them.0 behind_them.1 ∙ behind_them.4)
+        ∙ map-append observing r.last.tasks (map (shifted n) (tasks_in it.0))
+        ∙ ap (λ js. js ++ map observing (map (shifted n) (tasks_in it.0))) seen_before
+        ∙ ap (λ js. (observed J).jobs ++ js) (map_map observing (shifted n) (tasks_in it.0) ∙ it.4),
   ) where
     n : ℕ
     n = length J.jobs
@@ -557,6 +595,7 @@ module _ (J : Instance) (valid : IsValid J) (m0 m : ℕ) (late0 : NoneBefore m0 
     behind_them : (ys : List Step) × IsWholeRun rules2 (beside n r.last.tasks (at_tick m (j ∷ js))) ys
         × (length ys ≡ length it.0)
         × (printed_of ys ≡ map (behind n (came_to rules1 n J.rules.finishes own r.last.tasks r.over)) (printed_of it.0))
+        × (tasks_in ys ≡ r.last.tasks ++ map (shifted n) (tasks_in it.0))
     behind_them = whole_beside rules1 n J.rules.finishes own r.last.tasks r.over (numbers_below J r.last r.keeps) it.0
         (at_tick m (j ∷ js)) it.1
 
@@ -571,6 +610,9 @@ module _ (J : Instance) (valid : IsValid J) (m0 m : ℕ) (late0 : NoneBefore m0 
 
     came : came_to rules1 n J.rules.finishes own r.last.tasks r.over ≡ completed_value J
     came = ap (λ (z : State). value_sum (filter is_done z.tasks)) r.is ∙ sym (value_there J valid m rest)
+
+    seen_before : map observing r.last.tasks ≡ (observed J).jobs
+    seen_before = ap (map observing) (ap (λ (z : State). z.tasks) r.is ∙ sym (tasks_there J valid m rest))
 
     few_steps : length (before.0 ++ behind_them.0) ≤ (last_deadline (J.jobs ++ (j ∷ js)) - m0) + 6 * length
         (J.jobs ++ (j ∷ js)) + 1
@@ -589,31 +631,29 @@ module _ (J : Instance) (valid : IsValid J) (m0 m : ℕ) (late0 : NoneBefore m0 
         )
 
   -- any
-  pub joined : (more : List JobFacts) (events : List Event) → NoneBefore m more → Each (λ j. m ≤ j.deadline) more
-      → RunsFrom rules1 m more events
+  pub joined : (more : List JobFacts) (events : List Event) (seen : List JobFacts) → NoneBefore m more
+      → Each (λ j. m ≤ j.deadline) more
+      → RunsFrom rules1 m more events seen
       → RunsFrom rules2 m0 (J.jobs ++ more) (settled J m ++ map (behind (length J.jobs) (completed_value J)) events)
-  joined [] events late due it = joined_none events it
-  joined (j ∷ js) events late due it = joined_some j js events late (due j (inl refl)) it
-
--- where no job finishes early
-pub joined_plain : (J : Instance) (valid : IsValid J) (m0 m : ℕ) (late0 : NoneBefore m0 J.jobs) (later : m0 ≤ m)
-    (rest : IsAtRest J m) → J.rules.finishes ≡ [] → (more : List JobFacts) (events : List Event) → NoneBefore m more
-    → Each (λ j. m ≤ j.deadline) more → RunsFrom J.rules m more events
-    → RunsFrom J.rules m0 (J.jobs ++ more) (settled J m ++ map (behind (length J.jobs) (completed_value J)) events)
-joined_plain J valid m0 m late0 later rest plain more events late due it =
-    subst (λ rules. RunsFrom rules m0 (J.jobs ++ more)
-    (settled J m ++ map (behind (length J.jobs) (completed_value J)) events))
-    (ap (having J.rules) (append-nil J.rules.finishes))
-    (joined J valid m0 m late0 later rest [] own more events late due
-    (subst (λ fs. RunsFrom (having J.rules fs) m more events) plain it)) where
-      own : AreOwn J
-      own f member = absurd (subst (IsMember f) plain member)
+      ((observed J).jobs ++ seen)
+  joined [] events seen late due it = joined_none events seen it
+  joined (j ∷ js) events seen late due it = joined_some j js events seen late (due j (inl refl)) it
 
 -- from the opening on, it is the run
-pub runs_all : (rules : Rules) (jobs : List JobFacts) (events : List Event) → RunsFrom rules 0 jobs events
+pub runs_all : (rules : Rules) (jobs : List JobFacts) (events : List Event) (seen : List JobFacts)
+    → RunsFrom rules 0 jobs events seen
     → printed (record { rules = rules; jobs = jobs }) ≡ events
-runs_all rules jobs events it =
+runs_all rules jobs events seen it =
     ap printed_of (enough_fuel rules (enough jobs) (opening jobs) it.0 it.1 (omega (arith, it.2))) ∙ it.3
+
+-- and so it observed the jobs
+pub sees_all : (rules : Rules) (jobs : List JobFacts) (events : List Event) (seen : List JobFacts)
+    → RunsFrom rules 0 jobs events seen
+    → (observed (record { rules = rules; jobs = jobs })).jobs ≡ seen
+sees_all rules jobs events seen it =
+    ap (λ zs. map observing (fold (λ (s : State) (x : Step). x.before) (opening jobs) zs).tasks)
+    (enough_fuel rules (enough jobs) (opening jobs) it.0 it.1 (omega (arith, it.2)))
+    ∙ ap (map observing) (tasks_from rules (opening jobs) it.0 it.1 (opening jobs)) ∙ it.4
 
 -- no valid job is due before its release
 pub due_later : (J : Instance) → IsValid J → (m : ℕ) → NoneBefore m J.jobs → Each (λ j. m ≤ j.deadline) J.jobs
@@ -627,7 +667,8 @@ pub printed_apart : (J : Instance) (more : List JobFacts) (fs : List Finish) (m 
     → IsValid (instead_with J more fs) → IsAtRest J m → NoneBefore m more
     → printed (followed_by J more fs) ≡ settled J m ++ map (behind (length J.jobs) (completed_value J))
     (printed (instead_with J more fs))
-printed_apart J more fs m own valid valid_more rest late = runs_all (behind_rules J fs) (J.jobs ++ more) _
-    (joined J valid 0 m (λ j member. omega arith) (omega arith) rest fs own more (printed (instead_with J more fs)) late
+printed_apart J more fs m own valid valid_more rest late = runs_all (behind_rules J fs) (J.jobs ++ more) _ _
+    (joined J valid 0 m (λ j member. omega arith) (omega arith) rest fs own more (printed (instead_with J more fs))
+    (observed (instead_with J more fs)).jobs late
     (due_later (instead_with J more fs) valid_more m late)
     (alone (instead_with J more fs) valid_more m late))

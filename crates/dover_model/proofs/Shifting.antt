@@ -28,6 +28,7 @@ use Rattle.dover_model.specs.WholeRun.{step_at, open_at, IsWholeRun, IsSettledRu
 use Rattle.dover_model.specs.Sound.{Each}
 use Rattle.dover_model.specs.Rest.{behind, behind_finish}
 use Rattle.dover_model.proofs.Members.{map_map, map_same, sum_map}
+use Rattle.dover_model.proofs.RunLaws.{tasks_in, tasks_from}
 use Rattle.dover_model.proofs.Roles.{passes, is_over_role}
 use Rattle.dover_model.proofs.Finishing.{none_without}
 use Rattle.std.specs.Option.{option_or}
@@ -650,6 +651,7 @@ module _ (rules : Rules) (n : ℕ) (first : List Finish) (own : Each (λ f. f.nu
     pub whole_beside : (zs : List Step) (s : State) → IsWholeRun rules s zs
         → (ys : List Step) × IsWholeRun joint (beside n overs s) ys × (length ys ≡ length zs)
         × (printed_of ys ≡ map (behind n came_to) (printed_of zs))
+        × (tasks_in ys ≡ overs ++ map (shifted n) (tasks_in zs))
     whole_beside [] s whole = absurd whole
     whole_beside (z ∷ zs) s whole =
         by_end (is_end (step rules s)) refl whole.1 (whole_beside zs (after s (step rules s))) where
@@ -670,9 +672,11 @@ module _ (rules : Rules) (n : ℕ) (first : List Finish) (own : Each (λ f. f.nu
               → MatchBool b (zs ≡ []) (IsWholeRun rules (after s (step rules s)) zs)
               → (IsWholeRun rules (after s (step rules s)) zs → (ys : List Step)
               × IsWholeRun joint (beside n overs (after s (step rules s))) ys
-              × (length ys ≡ length zs) × (printed_of ys ≡ map (behind n came_to) (printed_of zs)))
+              × (length ys ≡ length zs) × (printed_of ys ≡ map (behind n came_to) (printed_of zs))
+              × (tasks_in ys ≡ overs ++ map (shifted n) (tasks_in zs)))
               → (ys : List Step) × IsWholeRun joint there ys × (length ys ≡ length (z ∷ zs))
               × (printed_of ys ≡ map (behind n came_to) (printed_of (z ∷ zs)))
+              × (tasks_in ys ≡ overs ++ map (shifted n) (tasks_in (z ∷ zs)))
           by_end true last none more = (
             step_at joint there ∷ [],
             (
@@ -682,6 +686,8 @@ module _ (rules : Rules) (n : ℕ) (first : List Finish) (own : Each (λ f. f.nu
             ),
             ap (λ xs. length (z ∷ xs)) (sym none),
             shown [] (ap (λ xs. map (behind n came_to) (printed_of xs)) (sym none)),
+            ap (λ (y : Step). overs ++ map (shifted n) y.before.tasks) (sym whole.0)
+                ∙ ap (λ xs. overs ++ map (shifted n) (tasks_in (z ∷ xs))) (sym none),
           )
           by_end false on rest more = let it = more rest in (
             step_at joint there ∷ it.0,
@@ -694,6 +700,9 @@ module _ (rules : Rules) (n : ℕ) (first : List Finish) (own : Each (λ f. f.nu
             ),
             omega (arith, it.2),
             shown it.0 it.3,
+            tasks_from joint (beside n overs (after s (step rules s))) it.0 it.1 there ∙ it.4
+                ∙ ap (λ ts. overs ++ map (shifted n) ts)
+                (sym (tasks_from rules (after s (step rules s)) zs rest z.before)),
           )
 
     -- the settled run of a state behind

@@ -1,4 +1,4 @@
--- What runs in turn complete is what one schedule of all their jobs is worth.
+-- What turns complete is what one schedule of all their jobs, as they were observed, is worth.
 use Rattle.std.proofs.Common.{◌≡◌, ℕ, zero, suc, ◌+◌, ◌-◌, ◌≤◌, inl, inr, List, [], ◌∷◌, ◌++◌, length, drop, take, map}
 use Rattle.std.proofs.Common.{refl, sym, ap, ◌∙◌, subst, arith, cond, eqb, Bool, true, false, replicate, length-append}
 use Rattle.std.specs.Prelude.{None}
@@ -9,21 +9,22 @@ use Rattle.std.proofs.lemmas.List.{take-map, drop-map, length-replicate}
 use Rattle.std.proofs.lemmas.List.Sums.{sum_by-cons, sum_by-append}
 use Rattle.dover_model.specs.Limits.{idle}
 use Rattle.dover_model.specs.JobFacts.{JobFacts}
-use Rattle.dover_model.specs.Instance.{Rules, Instance, IsValid}
+use Rattle.dover_model.specs.Instance.{Rules, Instance, IsValid, having}
 use Rattle.dover_model.specs.State.{State, opening}
 use Rattle.dover_model.specs.Step.{Move, Prints, Waits, Ticks, step, after}
 use Rattle.dover_model.specs.Run.{Step, is_end, run, ran, tick_of, completed_value}
 use Rattle.dover_model.specs.WholeRun.{step_at, IsWholeRun}
 use Rattle.dover_model.specs.Schedules.{ticks_given, is_served, worth}
-use Rattle.dover_model.specs.Bound.{IsWithin}
-use Rattle.dover_model.specs.Sound.{Each}
-use Rattle.dover_model.specs.Rest.{NoneBefore, end_tick, IsInTurn, in_turn, completed_in_turn}
+use Rattle.dover_model.specs.Observed.{observed}
+use Rattle.dover_model.specs.Rest.{NoneBefore, IsAtRest, end_tick, Turn, TurnsEnd, turn_under, turns_observed}
+use Rattle.dover_model.specs.Rest.{behind_finish, one_run, turns_jobs, turns_finishes, completed_turns}
+use Rattle.dover_model.specs.Finishes.{Finish}
 use Rattle.dover_model.proofs.Ending.{run_is_whole}
-use Rattle.dover_model.proofs.Honest.{plain_honest}
+use Rattle.dover_model.proofs.Honest.{observed_honest, observed_late, observed_all}
 use Rattle.dover_model.proofs.RestTick.{ended_by, end_clock}
-use Rattle.dover_model.proofs.Apart.{turn_late, value_in_turn}
-use Rattle.dover_model.proofs.Parting.{worth_to, count_map, enumerate_append, bound_in_turn}
-use Rattle.dover_model.proofs.Members.{each_cons}
+use Rattle.dover_model.proofs.InTurns.{completed_more, one_run_observes, one_run_completes}
+use Rattle.dover_model.proofs.Parting.{worth_to, count_map, enumerate_append}
+use Rattle.dover_model.proofs.Members.{each_append}
 
 -- ---- the ticks of a run
 
@@ -159,62 +160,104 @@ worth_others n rest k a b (j ∷ jobs) short late =
           (let at : rest ≤ j.release = late j (inl refl) in
           omega (arith, length-append a (replicate (rest - length a) idle), length-replicate (rest - length a) idle))
 
-module _ (rules : Rules) (plain : rules.finishes ≡ []) where
-  -- the instance of one list
+module _ (rules : Rules) where
+  -- the instance of these jobs
   abbrev of_rules : List JobFacts → Instance
   of_rules jobs = record { rules = rules; jobs = jobs }
 
-  -- a schedule of all jobs that is worth what the runs in turn complete
-  pub honest_in_turn : (lists : List (List JobFacts)) (from : ℕ) → IsInTurn rules from lists
-      → (s : List ℕ) × (completed_in_turn rules lists ≤ worth (of_rules (in_turn lists)) s)
-  honest_in_turn [] from turn = ([], omega arith)
-  honest_in_turn (jobs ∷ lists) from turn =
-      let rest = honest_in_turn lists turn.2.0 turn.2.3 in (
-        one_then (length jobs) turn.2.0 (ran (of_rules jobs)) rest.0,
-        both rest.0 rest.1,
-      ) where
-        n : ℕ
-        n = length jobs
+  -- it is worth what the schedules of both are, where the first is over before the others come
+  pub worth_one_then : (jobs more : List JobFacts) (rest : ℕ) (a b : List ℕ) → length a ≤ rest → NoneBefore rest more
+      → worth (of_rules jobs) a + worth (of_rules more) b
+      ≤ worth (of_rules (jobs ++ more)) (one_then (length jobs) rest a b)
+  worth_one_then jobs more rest a b short late =
+      let first : sum_by (worth_to a) (enumerate_from 0 jobs)
+      ≤ sum_by (worth_to (one_then (length jobs) rest a b)) (enumerate_from 0 jobs) =
+      worth_first (length jobs) rest 0 a b jobs in
+      let others : sum_by (worth_to b) (enumerate_from 0 more)
+      ≤ sum_by (worth_to (one_then (length jobs) rest a b)) (enumerate_from (length jobs + 0) more) =
+      worth_others (length jobs) rest 0 a b more short late in
+      let split : worth (of_rules (jobs ++ more)) (one_then (length jobs) rest a b)
+      ≡ sum_by (worth_to (one_then (length jobs) rest a b)) (enumerate_from 0 jobs)
+      + sum_by (worth_to (one_then (length jobs) rest a b)) (enumerate_from (length jobs + 0) more) =
+      ap (sum_by (worth_to (one_then (length jobs) rest a b)))
+      (enumerate_append 0 jobs more ∙ ap (λ m. enumerate_from 0 jobs ++ enumerate_from m more) (omega arith))
+      ∙ sum_by-append (worth_to (one_then (length jobs) rest a b)) (enumerate_from 0 jobs)
+      (enumerate_from (length jobs + 0) more) in
+      omega arith
 
-        both : (b : List ℕ) → completed_in_turn rules lists ≤ worth (of_rules (in_turn lists)) b
-            → completed_in_turn rules (jobs ∷ lists) ≤ worth (of_rules (jobs ++ in_turn lists))
-            (one_then (length jobs) turn.2.0 (ran (of_rules jobs)) b)
-        both b more =
-            let s : List ℕ = one_then (length jobs) turn.2.0 (ran (of_rules jobs)) b in
-            let own : worth (of_rules jobs) (ran (of_rules jobs)) ≡ completed_value (of_rules jobs) =
-            plain_honest (of_rules jobs) turn.0 plain in
-            let first : sum_by (worth_to (ran (of_rules jobs))) (enumerate_from 0 jobs) ≤ sum_by
-            (worth_to (one_then (length jobs) turn.2.0 (ran (of_rules jobs)) b)) (enumerate_from 0 jobs) =
-            worth_first (length jobs) turn.2.0 0 (ran (of_rules jobs)) b jobs in
-            let short : length (ran (of_rules jobs)) ≤ end_tick (of_rules jobs) = ran_short (of_rules jobs) turn.0 in
-            let ended : end_tick (of_rules jobs) ≤ turn.2.0 = ended_by (of_rules jobs) turn.0 turn.2.0 turn.2.2 in
-            let others : sum_by (worth_to b) (enumerate_from 0 (in_turn lists)) ≤ sum_by
-            (worth_to (one_then (length jobs) turn.2.0 (ran (of_rules jobs)) b))
-            (enumerate_from (length jobs + 0) (in_turn lists)) =
-            worth_others (length jobs) turn.2.0 0 (ran (of_rules jobs)) b (in_turn lists) (omega arith)
-            (turn_late rules plain lists turn.2.0 turn.2.3) in
-            let split : worth (of_rules (jobs ++ in_turn lists))
-            (one_then (length jobs) turn.2.0 (ran (of_rules jobs)) b)
-            ≡ sum_by (worth_to (one_then (length jobs) turn.2.0 (ran (of_rules jobs)) b)) (enumerate_from 0 jobs)
-            + sum_by (worth_to (one_then (length jobs) turn.2.0 (ran (of_rules jobs)) b))
-            (enumerate_from (length jobs + 0) (in_turn lists)) =
-            ap (sum_by (worth_to (one_then (length jobs) turn.2.0 (ran (of_rules jobs)) b)))
-            (enumerate_append 0 jobs (in_turn lists)
-            ∙ ap (λ m. enumerate_from 0 jobs ++ enumerate_from m (in_turn lists)) (omega arith))
-            ∙ sum_by-append (worth_to (one_then (length jobs) turn.2.0 (ran (of_rules jobs)) b)) (enumerate_from 0 jobs)
-            (enumerate_from (length jobs + 0) (in_turn lists)) in
-            omega (arith, sum_by-cons (λ js. completed_value (of_rules js)) jobs lists)
+  -- the schedule of a turn is over where the turn is at rest
+  pub over_by : (turn : Turn) (rest : ℕ) → IsValid (turn_under rules turn) → IsAtRest (turn_under rules turn) rest
+      → length (ran (turn_under rules turn)) ≤ rest
+  over_by turn rest valid over =
+      let short : length (ran (turn_under rules turn)) ≤ end_tick (turn_under rules turn) =
+      ran_short (turn_under rules turn) valid in
+      let ended : end_tick (turn_under rules turn) ≤ rest = ended_by (turn_under rules turn) valid rest over in
+      omega arith
 
-  -- each list in turn is valid
-  pub turn_valid : (lists : List (List JobFacts)) (from : ℕ) → IsInTurn rules from lists
-      → Each (λ jobs. IsValid (of_rules jobs)) lists
-  turn_valid [] from turn = λ jobs member. absurd member
-  turn_valid (jobs ∷ lists) from turn =
-      each_cons (λ js. IsValid (of_rules js)) jobs lists turn.0 (turn_valid lists turn.2.0 turn.2.3)
+  -- none of the observed jobs is released before the first tick
+  observed_from : (turns : List Turn) (from last : ℕ) → TurnsEnd rules from turns last
+      → NoneBefore from (turns_observed rules turns)
+  observed_from [] from last ends = λ j member. absurd member
+  observed_from (turn ∷ turns) from last ends =
+      each_append (λ i. from ≤ i.release) (observed (turn_under rules turn)).jobs (turns_observed rules turns)
+      (observed_late (turn_under rules turn) ends.0.0 from ends.0.2)
+      (λ i member. let at : ends.1.0 ≤ i.release = observed_from turns ends.1.0 last ends.1.3 i member in
+      let low : from ≤ ends.1.0 = ends.1.1 in omega arith)
 
-  -- no schedule of all jobs is worth more than the one run allows
-  pub within_in_turn : (lists : List (List JobFacts)) (s : List ℕ) → IsInTurn rules 0 lists
-      → IsWithin rules.ratio (worth (of_rules (in_turn lists)) s) (completed_value (of_rules (in_turn lists)))
-  within_in_turn lists s turn =
-      subst (IsWithin rules.ratio (worth (of_rules (in_turn lists)) s)) (sym (value_in_turn rules plain lists turn))
-      (bound_in_turn rules lists s (turn_valid lists 0 turn))
+  -- a schedule of all jobs as they were observed is worth what the turns complete
+  honest_turns : (turns : List Turn) (from last : ℕ) → TurnsEnd rules from turns last
+      → (s : List ℕ) × (completed_turns rules turns ≤ worth (of_rules (turns_observed rules turns)) s)
+  honest_turns [] from last ends = ([], omega arith)
+  honest_turns (turn ∷ turns) from last ends =
+      let rest = honest_turns turns ends.1.0 last ends.1.3 in (
+        one_then (length (observed (turn_under rules turn)).jobs) ends.1.0 (ran (turn_under rules turn)) rest.0,
+        omega (
+          arith,
+          worth_one_then (observed (turn_under rules turn)).jobs (turns_observed rules turns) ends.1.0
+              (ran (turn_under rules turn)) rest.0 (over_by turn ends.1.0 ends.0.0 ends.1.2)
+              (observed_from turns ends.1.0 last ends.1.3),
+          observed_honest (turn_under rules turn) ends.0.0,
+          rest.1,
+          completed_more rules turn turns,
+        ),
+      )
+
+  -- so is one of the jobs as the one run observes them
+  pub one_run_honest : (turns : List Turn) (last : ℕ) → TurnsEnd rules 0 turns last
+      → (s : List ℕ) × (completed_value (one_run rules turns) ≤ worth (observed (one_run rules turns)) s)
+  one_run_honest turns last ends = let found = honest_turns turns 0 last ends in (
+    found.0,
+    subst (λ js. completed_value (one_run rules turns) ≤ worth (of_rules js) found.0)
+        (sym (one_run_observes rules turns last ends))
+        (omega (arith, found.1, one_run_completes rules turns last ends)),
+  )
+
+-- ---- turns in which no job finishes early
+
+-- of two lists that are none together each is none
+none_of_both : (fs gs : List Finish) → fs ++ gs ≡ [] → (fs ≡ []) × (gs ≡ [])
+none_of_both [] gs none = (refl, none)
+none_of_both (f ∷ fs) gs none = absurd (cc)
+
+none_renumbered : (n : ℕ) (fs : List Finish) → map (behind_finish n) fs ≡ [] → fs ≡ []
+none_renumbered n [] none = refl
+none_renumbered n (f ∷ fs) none = absurd (cc)
+
+module _ (rules : Rules) where
+  -- each turn observes its jobs as they are declared
+  observed_plain : (turns : List Turn) (from last : ℕ) → TurnsEnd rules from turns last → turns_finishes turns ≡ []
+      → turns_observed rules turns ≡ turns_jobs turns
+  observed_plain [] from last ends none = refl
+  observed_plain (turn ∷ turns) from last ends none =
+      let parts = none_of_both turn.finishes (map (behind_finish (length turn.jobs)) (turns_finishes turns)) none in
+      ap (λ (J : Instance). J.jobs ++ turns_observed rules turns)
+      (observed_all (turn_under rules turn) ends.0.0 parts.0)
+      ∙ ap (λ js. turn.jobs ++ js) (observed_plain turns ends.1.0 last ends.1.3
+      (none_renumbered (length turn.jobs) (turns_finishes turns) parts.1))
+
+  -- and so does the one run
+  pub one_run_plain : (turns : List Turn) (last : ℕ) → TurnsEnd rules 0 turns last → turns_finishes turns ≡ []
+      → observed (one_run rules turns) ≡ one_run rules turns
+  one_run_plain turns last ends none =
+      ap (λ js. record { rules = having rules (turns_finishes turns); jobs = js })
+      (one_run_observes rules turns last ends ∙ observed_plain turns 0 last ends none)

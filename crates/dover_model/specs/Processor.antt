@@ -1,6 +1,8 @@
 -- Steps by which a job gets the processor, or frees it.
-use Rattle.std.specs.Prelude.{ℕ, Bool, true, false, ◌==◌}
-use Rattle.dover_model.specs.declared.events.Event.TheVariants.{Run, Preempt, Take, Complete}
+use Rattle.std.specs.Prelude.{ℕ, Bool, true, false, ◌==◌, List, Option, Some, None}
+use Rattle.std.specs.List.{fold}
+use Rattle.dover_model.specs.declared.events.Event.{Event}
+use Rattle.dover_model.specs.declared.events.Event.TheVariants.{Release, Run, Preempt, Take, Complete, Abandon, End}
 use Rattle.dover_model.specs.Step.{Move, Prints}
 
 -- the job of this number takes the processor
@@ -22,3 +24,17 @@ is_run _ = false
 abbrev pub is_complete : Move → Bool
 is_complete (Prints (Complete at n)) = true
 is_complete _ = false
+
+-- the number of the job that has the processor behind a printed step, where this one had it before
+abbrev pub runner_after : Option ℕ → Event → Option ℕ
+runner_after before (Release n job) = before
+runner_after before (Run at n) = Some n
+runner_after before (Preempt at stops starts) = Some starts
+runner_after before (Take at stops starts) = Some starts
+runner_after before (Complete at n) = None
+runner_after before (Abandon at n) = before
+runner_after before (End value) = before
+
+-- the number of the job that has the processor behind these printed steps
+abbrev pub runner_of : List Event → Option ℕ
+runner_of events = fold runner_after None events

@@ -66,38 +66,7 @@ names_end _ = false
 abbrev pub before_end : List Event → List Event
 before_end events = filter (λ e. not (names_end e)) events
 
--- ---- lists of jobs in turn
-
--- the first of these lists is valid by itself and at rest at some tick, and all others are in turn from that tick on
-abbrev pub IsInTurn : Rules → ℕ → List (List JobFacts) → Type 0
-IsInTurn rules from [] = Unit {0}
-IsInTurn rules from (jobs ∷ lists) = IsValid (record { rules = rules; jobs = jobs }) × NoneBefore from jobs
-    × ((rest : ℕ) × (from ≤ rest) × IsAtRest (record { rules = rules; jobs = jobs }) rest × IsInTurn rules rest lists)
-
--- so are these, and all of them are over at the last tick
-abbrev pub AreOverAt : Rules → ℕ → List (List JobFacts) → (tick : ℕ) → Type 0
-AreOverAt rules from [] tick = from ≤ tick
-AreOverAt rules from (jobs ∷ lists) tick = IsValid (record { rules = rules; jobs = jobs }) × NoneBefore from jobs
-    × ((rest : ℕ) × (from ≤ rest) × IsAtRest (record { rules = rules; jobs = jobs }) rest
-    × AreOverAt rules rest lists tick)
-
--- all their jobs
-abbrev pub in_turn : List (List JobFacts) → List JobFacts
-in_turn [] = []
-in_turn (jobs ∷ lists) = jobs ++ in_turn lists
-
--- what their runs print, each one's jobs numbered behind those before, and at the end the value of all
-abbrev pub printed_in_turn : Rules → List (List JobFacts) → List Event
-printed_in_turn rules [] = End 0 ∷ []
-printed_in_turn rules (jobs ∷ lists) = before_end (printed (record { rules = rules; jobs = jobs }))
-    ++ map (behind (length jobs) (completed_value (record { rules = rules; jobs = jobs })))
-    (printed_in_turn rules lists)
-
--- the sum of what their runs complete
-abbrev pub completed_in_turn : Rules → List (List JobFacts) → ℕ
-completed_in_turn rules lists = sum_by (λ jobs. completed_value (record { rules = rules; jobs = jobs })) lists
-
--- ---- lists in turn, with their finishes
+-- ---- lists of jobs in turn, with their finishes
 
 -- a list of jobs with its finishes
 pub record Turn : Type 0 where
@@ -168,26 +137,27 @@ later_event c (Complete at n) = Complete (at + c) n
 later_event c (Abandon at n) = Abandon (at + c) n
 later_event c (End value) = End value
 
--- Lists of jobs, each with a tick, that are valid and at rest at that tick, each by itself and in a time of its own
--- from the tick 0 on.
-abbrev pub AreAnew : Rules → List (ℕ × List JobFacts) → Type 0
+-- Turns, each with a tick at which it is at rest, each by itself and in a time of its own from the tick 0 on.
+abbrev pub AreAnew : Rules → List (ℕ × Turn) → Type 0
 AreAnew rules [] = Unit {0}
-AreAnew rules (t_jobs ∷ lists) = IsValid (record { rules = rules; jobs = t_jobs.1 })
-    × IsAtRest (record { rules = rules; jobs = t_jobs.1 }) t_jobs.0
-    × AreAnew rules lists
+AreAnew rules (t_turn ∷ turns) = IsTurn rules 0 t_turn.1 × IsAtRest (turn_under rules t_turn.1) t_turn.0
+    × AreAnew rules turns
 
--- all their jobs in one time, in which each list begins at the tick at which the one before it is at rest
-abbrev pub anew : List (ℕ × List JobFacts) → List JobFacts
-anew [] = []
-anew (t_jobs ∷ lists) = t_jobs.1 ++ map (later_job t_jobs.0) (anew lists)
+-- all of them in one time, in which each turn begins at the tick at which the one before it is at rest
+abbrev pub anew : List (ℕ × Turn) → Turn
+anew [] = record { jobs = []; finishes = [] }
+anew (t_turn ∷ turns) = record {
+  jobs = t_turn.1.jobs ++ map (later_job t_turn.0) (anew turns).jobs;
+  finishes = t_turn.1.finishes ++ map (behind_finish (length t_turn.1.jobs)) (anew turns).finishes;
+}
 
 -- what their runs print in that time, each one's jobs numbered behind those before, and at the end the value of all
-abbrev pub printed_anew : Rules → List (ℕ × List JobFacts) → List Event
+abbrev pub printed_anew : Rules → List (ℕ × Turn) → List Event
 printed_anew rules [] = End 0 ∷ []
-printed_anew rules (t_jobs ∷ lists) = before_end (printed (record { rules = rules; jobs = t_jobs.1 }))
-    ++ map (behind (length t_jobs.1) (completed_value (record { rules = rules; jobs = t_jobs.1 })))
-    (map (later_event t_jobs.0) (printed_anew rules lists))
+printed_anew rules (t_turn ∷ turns) = before_end (printed (turn_under rules t_turn.1))
+    ++ map (behind (length t_turn.1.jobs) (completed_value (turn_under rules t_turn.1)))
+    (map (later_event t_turn.0) (printed_anew rules turns))
 
 -- the sum of what their runs complete
-abbrev pub completed_anew : Rules → List (ℕ × List JobFacts) → ℕ
-completed_anew rules lists = sum_by (λ t_jobs. completed_value (record { rules = rules; jobs = t_jobs.1 })) lists
+abbrev pub completed_anew : Rules → List (ℕ × Turn) → ℕ
+completed_anew rules turns = completed_turns rules (map (λ t_turn. t_turn.1) turns)

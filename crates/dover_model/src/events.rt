@@ -15,6 +15,7 @@ pub enum Version {
 
 impl Version {
     ghost use Rattle.std.specs.Prelude.{◌≡◌};
+    ghost use Rattle.dover_model.specs.Session as session;
     ghost use Rattle.dover_model.specs.Verdict.{version_of_number};
 
     /// The version of this number, if it has one.
@@ -26,6 +27,28 @@ impl Version {
             2 => Some(Version::Two),
             3 => Some(Version::Three),
             _ => None,
+        }
+    }
+
+    /// Whether a job line that isn't admitted is refused alone, and ends no feed: from version Two on.
+    #[inline(always)]
+    pub fn refuses_lines(self) -> bool
+        ensures { result ≡ session.refuses_lines self }
+    {
+        match self {
+            Version::One => false,
+            Version::Two | Version::Three => true,
+        }
+    }
+
+    /// Whether jobs may finish early: in version Three.
+    #[inline(always)]
+    pub fn may_finish_early(self) -> bool
+        ensures { result ≡ session.may_finish_early self }
+    {
+        match self {
+            Version::One | Version::Two => false,
+            Version::Three => true,
         }
     }
 }

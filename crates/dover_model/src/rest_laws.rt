@@ -5,16 +5,17 @@ ghost use Rattle.dover_model.specs.JobFacts.{JobFacts};
 ghost use Rattle.dover_model.specs.declared.events.Event.TheVariants.{End};
 ghost use Rattle.dover_model.specs.Instance.{Rules, Instance, IsValid, with_jobs, total_value};
 ghost use Rattle.dover_model.specs.Run.{run, printed, completed_value};
+ghost use Rattle.dover_model.specs.Observed.{observed};
 ghost use Rattle.dover_model.specs.Settled.{settled};
+ghost use Rattle.dover_model.specs.Step.{Prints};
 ghost use Rattle.dover_model.specs.Schedules.{Meets, worth};
 ghost use Rattle.dover_model.specs.Bound.{IsWithin};
 ghost use Rattle.dover_model.specs.Underload.{takes_or_abandons};
 ghost use Rattle.dover_model.specs.Sound.{Each};
 ghost use Rattle.dover_model.specs.Rest.{AreOwn, instead_with, followed_by, NoneBefore, IsAtRest, end_tick, behind};
-ghost use Rattle.dover_model.specs.Rest.{before_end, IsInTurn, Turn, turn_under, turns_jobs, turns_observed, one_run};
-ghost use Rattle.dover_model.specs.Rest.{TurnsEnd, printed_turns, completed_turns, AreOverAt, in_turn, printed_in_turn};
-ghost use Rattle.dover_model.specs.Rest.{completed_in_turn, later_job, later_event, AreAnew, anew, printed_anew};
-ghost use Rattle.dover_model.specs.Rest.{completed_anew, IsTurn};
+ghost use Rattle.dover_model.specs.Rest.{before_end, Turn, turn_under, turns_jobs, turns_finishes, turns_observed};
+ghost use Rattle.dover_model.specs.Rest.{one_run, TurnsEnd, printed_turns, completed_turns, later_job, later_event};
+ghost use Rattle.dover_model.specs.Rest.{AreAnew, anew, printed_anew, completed_anew, IsTurn};
 ghost use Rattle.dover_model.specs.Parts.{part_of, IsParted, part_under, completed_in_parts, bounds_of_parts};
 
 /// From the tick of its End on a run is at rest, and then all that it prints is settled but its End.
@@ -42,42 +43,13 @@ pub fn runs_fall_apart_at_rest()
         + completed_value (instead_with J more finishes) }
 {}
 
-/// So does the run of many lists in turn, which may have more jobs together, and be worth more, than one run may.
-pub fn runs_in_turn_are_one_run()
-    ensures printed { (rules : Rules) (lists : List (List JobFacts)) → rules.finishes ≡ [] → IsInTurn rules 0 lists →
-        printed (record { rules = rules; jobs = in_turn lists }) ≡ printed_in_turn rules lists }
-    ensures value { (rules : Rules) (lists : List (List JobFacts)) → rules.finishes ≡ [] → IsInTurn rules 0 lists →
-        completed_value (record { rules = rules; jobs = in_turn lists }) ≡ completed_in_turn rules lists }
-    ensures honest { (rules : Rules) (lists : List (List JobFacts)) → rules.finishes ≡ [] → IsInTurn rules 0 lists →
-        (s : List ℕ) × (completed_in_turn rules lists ≤ worth (record { rules = rules; jobs = in_turn lists }) s) }
-    ensures within { (rules : Rules) (lists : List (List JobFacts)) (s : List ℕ) → rules.finishes ≡ []
-        → IsInTurn rules 0 lists →
-        IsWithin rules.ratio (worth (record { rules = rules; jobs = in_turn lists }) s)
-        (completed_value (record { rules = rules; jobs = in_turn lists })) }
-{}
-
-/// Behind lists in turn that are over, further jobs run as they do alone, numbered behind, and so does what is settled
-/// of them.
-pub fn runs_go_on_in_turn()
-    ensures settled { (rules : Rules) (lists : List (List JobFacts)) (more : List JobFacts) (m mark : ℕ)
-        → rules.finishes ≡ [] → AreOverAt rules 0 lists m →
-        IsValid (record { rules = rules; jobs = more }) → NoneBefore m more → m ≤ mark →
-        settled (record { rules = rules; jobs = in_turn lists ++ more }) mark ≡ before_end
-        (printed (record { rules = rules; jobs = in_turn lists }))
-        ++ map (behind (length (in_turn lists)) (completed_in_turn rules lists))
-        (settled (record { rules = rules; jobs = more }) mark) }
-    ensures printed { (rules : Rules) (lists : List (List JobFacts)) (more : List JobFacts) (m : ℕ)
-        → rules.finishes ≡ [] → AreOverAt rules 0 lists m →
-        IsValid (record { rules = rules; jobs = more }) → NoneBefore m more →
-        printed (record { rules = rules; jobs = in_turn lists ++ more }) ≡ before_end
-        (printed (record { rules = rules; jobs = in_turn lists }))
-        ++ map (behind (length (in_turn lists)) (completed_in_turn rules lists))
-        (printed (record { rules = rules; jobs = more })) }
-{}
-
-/// So it is with lists whose jobs may finish early, each under finishes of its own: all of them are one run, and what
-/// is settled or printed of the last one is what is settled or printed of it alone. No schedule of all the
-/// jobs is worth more than the one run allows, as they are declared and as each list's run observed them.
+/// So does the run of many lists in turn, whose jobs may finish early, each list under finishes of its own. They may
+/// have more jobs together, and be worth more, than one run may. All of them are one run, what is settled or printed
+/// of the last one is what is settled or printed of it alone, and the jobs that the one run observes are those that
+/// each list's run observes. No schedule of all the jobs is worth more than the one run allows, as they are declared
+/// and as they were observed, and some schedule of the jobs as observed is worth what it completes. Where no job
+/// finishes early, they are observed as they are declared. Where one schedule serves all jobs as they are declared,
+/// none is lost.
 pub fn turns_with_finishes_are_one_run()
     ensures printed { (rules : Rules) (turns : List Turn) (last : ℕ) → TurnsEnd rules 0 turns last →
         printed (one_run rules turns) ≡ printed_turns rules turns }
@@ -95,8 +67,18 @@ pub fn turns_with_finishes_are_one_run()
     ensures declared { (rules : Rules) (turns : List Turn) (last : ℕ) (s : List ℕ) → TurnsEnd rules 0 turns last →
         IsWithin rules.ratio (worth (one_run rules turns) s) (completed_value (one_run rules turns)) }
     ensures observed { (rules : Rules) (turns : List Turn) (last : ℕ) (s : List ℕ) → TurnsEnd rules 0 turns last →
-        IsWithin rules.ratio (worth (record { rules = rules; jobs = turns_observed rules turns }) s)
-        (completed_value (one_run rules turns)) }
+        IsWithin rules.ratio (worth (observed (one_run rules turns)) s) (completed_value (one_run rules turns)) }
+    ensures observes { (rules : Rules) (turns : List Turn) (last : ℕ) → TurnsEnd rules 0 turns last →
+        (observed (one_run rules turns)).jobs ≡ turns_observed rules turns }
+    ensures as_declared { (rules : Rules) (turns : List Turn) (last : ℕ) → TurnsEnd rules 0 turns last
+        → turns_finishes turns ≡ [] → observed (one_run rules turns) ≡ one_run rules turns }
+    ensures honest { (rules : Rules) (turns : List Turn) (last : ℕ) → TurnsEnd rules 0 turns last →
+        (s : List ℕ) × (completed_value (one_run rules turns) ≤ worth (observed (one_run rules turns)) s) }
+    ensures none_lost { (rules : Rules) (turns : List Turn) (last : ℕ) → TurnsEnd rules 0 turns last →
+        Meets (one_run rules turns) →
+        Each (λ e. takes_or_abandons (Prints e) ≡ false) (printed (one_run rules turns)) }
+    ensures all_value { (rules : Rules) (turns : List Turn) (last : ℕ) → TurnsEnd rules 0 turns last →
+        Meets (one_run rules turns) → completed_value (one_run rules turns) ≡ total_value (turns_jobs turns) }
 {}
 
 /// A run of jobs moved in time is the run, moved in time.
@@ -109,13 +91,19 @@ pub fn runs_move_in_time()
 /// So runs one after another, each in a time of its own, are one run, of any length: its jobs together keep no limit of
 /// count, sum, ratio or time.
 pub fn runs_anew_are_one_run()
-    ensures printed { (rules : Rules) (lists : List (ℕ × List JobFacts)) → rules.finishes ≡ [] → AreAnew rules lists →
-        printed (record { rules = rules; jobs = anew lists }) ≡ printed_anew rules lists }
-    ensures value { (rules : Rules) (lists : List (ℕ × List JobFacts)) → rules.finishes ≡ [] → AreAnew rules lists →
-        completed_value (record { rules = rules; jobs = anew lists }) ≡ completed_anew rules lists }
-    ensures within { (rules : Rules) (lists : List (ℕ × List JobFacts)) (s : List ℕ) → rules.finishes ≡ []
-        → AreAnew rules lists →
-        IsWithin rules.ratio (worth (record { rules = rules; jobs = anew lists }) s) (completed_anew rules lists) }
+    ensures printed { (rules : Rules) (turns : List (ℕ × Turn)) → AreAnew rules turns →
+        printed (turn_under rules (anew turns)) ≡ printed_anew rules turns }
+    ensures value { (rules : Rules) (turns : List (ℕ × Turn)) → AreAnew rules turns →
+        completed_value (turn_under rules (anew turns)) ≡ completed_anew rules turns }
+    ensures declared { (rules : Rules) (turns : List (ℕ × Turn)) (s : List ℕ) → AreAnew rules turns →
+        IsWithin rules.ratio (worth (turn_under rules (anew turns)) s)
+        (completed_value (turn_under rules (anew turns))) }
+    ensures observed { (rules : Rules) (turns : List (ℕ × Turn)) (s : List ℕ) → AreAnew rules turns →
+        IsWithin rules.ratio (worth (observed (turn_under rules (anew turns))) s)
+        (completed_value (turn_under rules (anew turns))) }
+    ensures honest { (rules : Rules) (turns : List (ℕ × Turn)) → AreAnew rules turns →
+        (s : List ℕ) × (completed_value (turn_under rules (anew turns))
+        ≤ worth (observed (turn_under rules (anew turns))) s) }
 {}
 
 /// Bounds add up: no schedule of all jobs is worth more than the runs of the parts allow, each part valid by itself.
@@ -129,23 +117,19 @@ pub fn bounds_add_up()
         → IsParted owner parts J.jobs →
         Each (λ part. IsValid (part_under rules owner J.jobs part)) parts
         → worth J s ≤ bounds_of_parts rules owner parts J.jobs }
-    ensures in_turn { (rules : Rules) (lists : List (List JobFacts)) (s : List ℕ) →
-        Each (λ jobs. IsValid (record { rules = rules; jobs = jobs })) lists →
-        IsWithin rules.ratio (worth (record { rules = rules; jobs = in_turn lists }) s)
-        (completed_in_turn rules lists) }
+    ensures in_turn { (rules : Rules) (turns : List Turn) (s : List ℕ) →
+        Each (λ turn. IsValid (turn_under rules turn)) turns →
+        IsWithin rules.ratio (worth (one_run rules turns) s) (completed_turns rules turns) }
 {}
 
-/// Where one schedule serves all jobs, no part takes_or_abandons anything.
+/// Where one schedule serves all jobs, no part and no turn takes or abandons anything.
 pub fn no_part_loses_in_underload()
     ensures parted { (J : Instance) (rules : Rules) (owner : ℕ → ℕ) (part : ℕ) → Meets J
         → IsValid (part_under (λ _. rules) owner J.jobs part) →
         completed_value (part_under (λ _. rules) owner J.jobs part) ≡ total_value (part_of owner part J.jobs) }
-    ensures in_turn { (rules : Rules) (lists : List (List JobFacts))
-        → Each (λ jobs. IsValid (record { rules = rules; jobs = jobs })) lists →
-        Meets (record { rules = rules; jobs = in_turn lists }) →
-        Each (λ js. Each (λ x. takes_or_abandons x.move ≡ false) (run (record { rules = rules; jobs = js }))) lists }
-    ensures value { (rules : Rules) (lists : List (List JobFacts))
-        → Each (λ jobs. IsValid (record { rules = rules; jobs = jobs })) lists →
-        Meets (record { rules = rules; jobs = in_turn lists })
-        → completed_in_turn rules lists ≡ total_value (in_turn lists) }
+    ensures in_turn { (rules : Rules) (turns : List Turn) → Each (λ turn. IsValid (turn_under rules turn)) turns →
+        Meets (one_run rules turns) →
+        Each (λ turn. Each (λ x. takes_or_abandons x.move ≡ false) (run (turn_under rules turn))) turns }
+    ensures value { (rules : Rules) (turns : List Turn) → Each (λ turn. IsValid (turn_under rules turn)) turns →
+        Meets (one_run rules turns) → completed_turns rules turns ≡ total_value (turns_jobs turns) }
 {}

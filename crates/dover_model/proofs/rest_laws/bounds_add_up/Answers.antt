@@ -1,4 +1,5 @@
-use Rattle.dover_model.proofs.Parting.{bound_parted, bounds_parted, bound_in_turn}
+use Rattle.dover_model.proofs.Parting.{bound_parted, bounds_parted}
+use Rattle.dover_model.proofs.InTurns.{turns_within}
 use Rattle.dover_model.proofs.rest_laws.bounds_add_up.Goals as goal
 
 pub returns-clause-common : goal.returns-clause-common
@@ -8,4 +9,4 @@ pub returns-clause-own : goal.returns-clause-own
 returns-clause-own c = bounds_parted
 
 pub returns-clause-in_turn : goal.returns-clause-in_turn
-returns-clause-in_turn c = bound_in_turn
+returns-clause-in_turn c = turns_within

@@ -1,5 +1,7 @@
 use Rattle.dover_model.proofs.InTurns.{one_run_prints, one_run_completes, settled_of_last, declared_within}
-use Rattle.dover_model.proofs.InTurns.{observed_within}
+use Rattle.dover_model.proofs.InTurns.{observed_within, one_run_observes}
+use Rattle.dover_model.proofs.TurnSchedules.{one_run_honest, one_run_plain}
+use Rattle.dover_model.proofs.TurnsLosing.{one_run_loses_none, one_run_earns_all}
 use Rattle.dover_model.proofs.TurnsGrowing.{printed_of_last}
 use Rattle.dover_model.proofs.rest_laws.turns_with_finishes_are_one_run.Goals as goal
 
@@ -21,3 +23,18 @@ returns-clause-declared c = declared_within
 
 pub returns-clause-observed : goal.returns-clause-observed
 returns-clause-observed c = observed_within
+
+pub returns-clause-observes : goal.returns-clause-observes
+returns-clause-observes c = one_run_observes
+
+pub returns-clause-as_declared : goal.returns-clause-as_declared
+returns-clause-as_declared c = one_run_plain
+
+pub returns-clause-honest : goal.returns-clause-honest
+returns-clause-honest c = one_run_honest
+
+pub returns-clause-none_lost : goal.returns-clause-none_lost
+returns-clause-none_lost c = one_run_loses_none
+
+pub returns-clause-all_value : goal.returns-clause-all_value
+returns-clause-all_value c = one_run_earns_all
