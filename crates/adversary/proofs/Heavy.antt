@@ -60,16 +60,16 @@ light_closed : (k : Fraction) (w : ℕ) → IsDownwardClosed (is_light k w)
 light_closed k w m n less light = light_test k w m (λ heavy. light_fact k w n light (heavy_up k m n w less heavy))
 
 -- far above w all is heavy
-far_heavy : (k : Fraction) (w : ℕ) → IsRatio k → w ≤ 1_000_000 → IsHeavy k (2 ^ 65) w
+far_heavy : (k : Fraction) (w : ℕ) → IsRatio k → w ≤ 1_000_000 → IsHeavy k (2 ^ 80) w
 far_heavy k w ratio small =
     let one : k.p * (w * w) ≤ 1_000_000 * (1_000_000 * 1_000_000) =
     mul-le k.p (w * w) 1_000_000 (1_000_000 * 1_000_000) ratio.small_p (mul-le w w 1_000_000 1_000_000 small small) in
-    let far : 1_000_000_000_000 ≤ 2 ^ 65 - w = omega arith in
-    let square : 1_000_000_000_000 * 1_000_000_000_000 ≤ (2 ^ 65 - w) * (2 ^ 65 - w) =
-    mul-le 1_000_000_000_000 1_000_000_000_000 (2 ^ 65 - w) (2 ^ 65 - w) far far in
-    let times : 1 * (1_000_000_000_000 * 1_000_000_000_000) ≤ k.q * ((2 ^ 65 - w) * (2 ^ 65 - w)) =
-    mul-le 1 (1_000_000_000_000 * 1_000_000_000_000) k.q ((2 ^ 65 - w) * (2 ^ 65 - w)) ratio.least square in
-    join (2 ^ 65 - w) times one where
+    let far : 1_000_000_000_000 ≤ 2 ^ 80 - w = omega arith in
+    let square : 1_000_000_000_000 * 1_000_000_000_000 ≤ (2 ^ 80 - w) * (2 ^ 80 - w) =
+    mul-le 1_000_000_000_000 1_000_000_000_000 (2 ^ 80 - w) (2 ^ 80 - w) far far in
+    let times : 1 * (1_000_000_000_000 * 1_000_000_000_000) ≤ k.q * ((2 ^ 80 - w) * (2 ^ 80 - w)) =
+    mul-le 1 (1_000_000_000_000 * 1_000_000_000_000) k.q ((2 ^ 80 - w) * (2 ^ 80 - w)) ratio.least square in
+    join (2 ^ 80 - w) times one where
       join : (x : ℕ) → 1 * (1_000_000_000_000 * 1_000_000_000_000) ≤ k.q * (x * x)
           → k.p * (w * w) ≤ 1_000_000 * (1_000_000 * 1_000_000)
           → k.p * w * w < k.q * x * x
@@ -79,7 +79,7 @@ far_heavy k w ratio small =
 pub light_is : (k : Fraction) (w : ℕ) → IsRatio k → w ≤ 1_000_000 → IsGreatest (is_light k w) (most_light k w)
 light_is k w ratio small =
     greatest-is (is_light k w) (light_closed k w) (light_test k w 0 (λ heavy. nothing (heavy_more k 0 w heavy)))
-    (beyond (is_heavy k (2 ^ 65) w) ((is_heavy-agrees k (2 ^ 65) w).1 (far_heavy k w ratio small))) where
+    (beyond (is_heavy k (2 ^ 80) w) ((is_heavy-agrees k (2 ^ 80) w).1 (far_heavy k w ratio small))) where
       nothing : w < 0 → ⊥
       nothing less = omega arith
 
@@ -152,9 +152,9 @@ heavy_zero k v ratio some = (is_heavy-agrees k v 0).1 (
 pub moved_is : (k : Fraction) (v : ℕ) → IsRatio k → 1 ≤ v → v ≤ 1_000_000_000
     → IsGreatest (λ n. is_heavy k v n) (greatest (λ n. is_heavy k v n))
 moved_is k v ratio some small = greatest-is (λ n. is_heavy k v n) (heavy_closed k v) (heavy_zero k v ratio some)
-    (fails (is_heavy k v (2 ^ 65))
-    (λ heavy. far (heavy_more k v (2 ^ 65) ((is_heavy-agrees k v (2 ^ 65)).0 heavy)))) where
-      far : 2 ^ 65 < v → ⊥
+    (fails (is_heavy k v (2 ^ 80))
+    (λ heavy. far (heavy_more k v (2 ^ 80) ((is_heavy-agrees k v (2 ^ 80)).0 heavy)))) where
+      far : 2 ^ 80 < v → ⊥
       far less = omega arith
 
 -- where a unit job is heavy against the number before w, and not against w, this is the first link

@@ -53,11 +53,11 @@ module _ (k : Fraction) (ratio : IsRatio k) (w : ℕ) (small : w ≤ 1_000_000_0
       (λ heavy. absurd (let above : w < 0 = (heavy_parts k 0 w heavy).0 in omega arith)) (λ out. rw out (refl))
 
   -- what is beyond the bits is heavy
-  beyond_heavy : is_heavy k (2 ^ 65) w ≡ true
-  beyond_heavy = heavy_from k (2 ^ 65) w (omega (arith, small))
+  beyond_heavy : is_heavy k (2 ^ 80) w ≡ true
+  beyond_heavy = heavy_from k (2 ^ 80) w (omega (arith, small))
       (let low : k.p * w * w ≤ k.p * 1_000_000_000 * 1_000_000_000 = square_le k.p w 1_000_000_000 small in
-      let high : k.q * 30_000_000_000_000_000_000 * 30_000_000_000_000_000_000 ≤ k.q * (2 ^ 65 - w) * (2 ^ 65 - w) =
-      square_le k.q 30_000_000_000_000_000_000 (2 ^ 65 - w) (omega (arith, small)) in
+      let high : k.q * 30_000_000_000_000_000_000 * 30_000_000_000_000_000_000 ≤ k.q * (2 ^ 80 - w) * (2 ^ 80 - w) =
+      square_le k.q 30_000_000_000_000_000_000 (2 ^ 80 - w) (omega (arith, small)) in
       omega (arith, low, high, ratio.small_p, ratio.least))
 
   -- the greatest value that isn't heavy against w
@@ -106,8 +106,8 @@ module _ (k : Fraction) (ratio : IsRatio k) where
       (heavy_from k (unit_value k) 0 (omega (arith, some_value))
       (let low : k.q * 1 * 1 ≤ k.q * (unit_value k - 0) * (unit_value k - 0) =
       square_le k.q 1 (unit_value k - 0) (omega (arith, some_value)) in omega (arith, low, ratio.least)))
-      (by_bool (is_heavy k (unit_value k) (2 ^ 65) ≡ false) (is_heavy k (unit_value k) (2 ^ 65))
-      (λ heavy. absurd (let above : 2 ^ 65 < unit_value k = (heavy_parts k (unit_value k) (2 ^ 65) heavy).0 in
+      (by_bool (is_heavy k (unit_value k) (2 ^ 80) ≡ false) (is_heavy k (unit_value k) (2 ^ 80))
+      (λ heavy. absurd (let above : 2 ^ 80 < unit_value k = (heavy_parts k (unit_value k) (2 ^ 80) heavy).0 in
       omega (arith, little_value)))
       (λ out. out))
 

@@ -1,12 +1,11 @@
 -- One hold more, and one less.
-use Rattle.std.proofs.Common.{◌≡◌, ℕ, ◌+◌, ◌-◌, ◌<◌, ◌≤◌, inl, inr, suc, List, [], ◌∷◌, ◌++◌, length, Some, None}
+use Rattle.std.proofs.Common.{◌≡◌, ℕ, ◌+◌, ◌-◌, ◌^◌, ◌<◌, inl, inr, suc, List, [], ◌∷◌, ◌++◌, length, Some, None}
 use Rattle.std.proofs.Common.{reverse, option_map, refl, ap, ◌∙◌, sym, subst, arith}
 use Rattle.std.specs.List.{AllByRecursion}
 use Rattle.std.proofs.lemmas.List.{reverse-append}
 use Rattle.std.proofs.lemmas.List.Sums.{sum_by-cons}
 use Rattle.dover_model.specs.declared.events.Entry.{Entry}
 use Rattle.dover_model.specs.Entries.{room_of}
-use Rattle.dover_model.specs.Limits.{most_total}
 use Rattle.dover_model.specs.Sound.{Each}
 use Rattle.held_queue.specs.Kept.{Lasting, AreRoomsOf, untils_of, first_of}
 use Rattle.held_queue.specs.Stack.{value_of, room_at, IsByDeadline, IsDueBeforeAll, IsDueBeforeTop}
@@ -43,7 +42,7 @@ before_top e (f ∷ more) all x at = all x (inl (let is : Some f ≡ Some x = at
 -- one more
 pub held_more : (items : List ℕ) (until spare : ℕ) (rooms : Lasting) (e : Entry) (held : List Entry)
     → rooms.untils ≡ reverse items → until ≡ room_of 0 (e ∷ held) → AreRoomsOf rooms held → IsDueBeforeTop e held
-    → rooms.value + e.value ≤ most_total
+    → rooms.value + e.value < 10 ^ 18
     → AreRoomsOf
     (record { untils = reverse (items ++ until ∷ []); spare = spare; value = rooms.value + e.value }) (e ∷ held)
 held_more items until spare rooms e held is lasts are first total =

@@ -1,8 +1,7 @@
 -- The rooms of held jobs, as they are kept without the jobs.
-use Rattle.std.specs.Prelude.{◌≡◌, ℕ, ◌≤◌, List, [], ◌∷◌, Option, Some, None}
+use Rattle.std.specs.Prelude.{◌≡◌, ℕ, ◌^◌, ◌<◌, List, [], ◌∷◌, Option, Some, None}
 use Rattle.dover_model.specs.declared.events.Entry.{Entry}
 use Rattle.dover_model.specs.Entries.{room_of}
-use Rattle.dover_model.specs.Limits.{most_total}
 use Rattle.held_queue.specs.Stack.{value_of, IsByDeadline}
 
 -- from the top down the ticks until which the rooms last, how many more fit, and the sum of the values
@@ -26,4 +25,4 @@ pub record AreRoomsOf (rooms : Lasting) (held : List Entry) : Type 0 where
   pub untils : rooms.untils ≡ untils_of held
   pub order : IsByDeadline held
   pub sum : rooms.value ≡ value_of held
-  pub total : rooms.value ≤ most_total
+  pub total : rooms.value < 10 ^ 18

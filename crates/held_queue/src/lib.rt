@@ -1,8 +1,7 @@
 //! The held jobs, with the room that they leave.
 #![tactic(auto)]
 
-ghost use Rattle.std.specs.Prelude.{◌≡◌, ◌-◌, ◌<◌, ◌≤◌, [], ◌∷◌, max, IfOk, IsOk, OnOk, OnErr};
-ghost use Rattle.dover_model.specs.Limits.{most_total};
+ghost use Rattle.std.specs.Prelude.{◌≡◌, ◌-◌, ◌^◌, ◌<◌, ◌≤◌, [], ◌∷◌, max, IfOk, IsOk, OnOk, OnErr};
 ghost use Rattle.dover_model.specs.Entries.{room_of};
 ghost use Rattle.dover_model.specs.Sound.{Each};
 ghost use Rattle.held_queue.specs.Stack.{Stack, top_of, value_of, IsByDeadline, IsDueBeforeTop};
@@ -67,11 +66,11 @@ impl Privileged {
         self.rooms.spare()
     }
 
-    /// Puts a job on top. It is due before the others, and the sum of the values stays within the limit.
+    /// Puts a job on top. It is due before the others, and the sum of the values stays below 10^18.
     pub fn hold(&mut self, e: Entry)
         requires spare { 1 ≤ self.old.spare }
         requires first { IsDueBeforeTop e self.old.held }
-        requires total { value_of (e ∷ self.old.held) ≤ most_total }
+        requires total { value_of (e ∷ self.old.held) < 10 ^ 18 }
         ensures { self.new ≡ record { held = e ∷ self.old.held; spare = self.old.spare - 1 } }
     {
         self.rooms.hold(&e);
@@ -126,7 +125,7 @@ impl Privileged {
     /// The sum of the values of the held jobs.
     pub fn value_sum(&self) -> u64
         ensures is { result ≡ value_of self.now.held }
-        ensures most { result ≤ most_total }
+        ensures most { result < 10 ^ 18 }
     {
         self.rooms.value_sum()
     }

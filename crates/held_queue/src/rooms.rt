@@ -1,6 +1,6 @@
 //! The rooms that held jobs leave, kept without the jobs.
-ghost use Rattle.std.specs.Prelude.{◌≡◌, ◌+◌, ◌-◌, ◌<◌, ◌≤◌, [], ◌∷◌, List, length, max, reverse, IsOk, OnOk, OnErr};
-ghost use Rattle.dover_model.specs.Limits.{most_total};
+ghost use Rattle.std.specs.Prelude.{◌≡◌, ◌+◌, ◌-◌, ◌^◌, ◌<◌, ◌≤◌, [], ◌∷◌, List, length, max, reverse};
+ghost use Rattle.std.specs.Prelude.{IsOk, OnOk, OnErr};
 ghost use Rattle.dover_model.specs.declared.events.Entry.{Entry};
 ghost use Rattle.dover_model.specs.Entries.{room_of};
 ghost use Rattle.held_queue.specs.Kept.{AreRoomsOf, first_of};
@@ -106,11 +106,11 @@ impl Rooms {
         }
     }
 
-    /// Puts `e` on top, which is due before the held jobs.
+    /// Puts `e` on top, which is due before the held jobs. The sum of the values stays below 10^18.
     #[inline(always)]
     pub fn hold(&mut self, e: &Entry)
         requires spare { 1 ≤ self.old.spare }
-        requires total { self.old.value + e.now.value ≤ most_total }
+        requires total { self.old.value + e.now.value < 10 ^ 18 }
         ensures kept { (held : List Entry) → AreRoomsOf self.old held → IsDueBeforeTop e.now held →
             AreRoomsOf self.new (e.now ∷ held) }
         ensures spare { self.new.spare ≡ self.old.spare - 1 }

@@ -16,15 +16,15 @@ less_or m n rest = nat_lt m n || ((m == n) && rest)
 abbrev pub is_before : ItemFacts → ItemFacts → Bool
 is_before a b = less_or a.key b.key (less_or a.tie b.tie (less_or a.number b.number (nat_lt a.place b.place)))
 
--- the four numbers as one, of 56, 32, 20 and 20 binary digits
+-- the four numbers as one, of 44, 32, 32 and 20 binary digits
 abbrev pub rank_of : ItemFacts → ℕ
-rank_of i = i.key * 2 ^ 72 + (i.tie * 2 ^ 40 + (i.number * 2 ^ 20 + i.place))
+rank_of i = i.key * 2 ^ 84 + (i.tie * 2 ^ 52 + (i.number * 2 ^ 20 + i.place))
 
 -- the four numbers in one
 abbrev pub facts_of : ℕ → ItemFacts
 facts_of rank = record {
-  key = rank / 2 ^ 72;
-  tie = rank % 2 ^ 72 / 2 ^ 40;
-  number = rank % 2 ^ 72 % 2 ^ 40 / 2 ^ 20;
-  place = rank % 2 ^ 72 % 2 ^ 40 % 2 ^ 20;
+  key = rank / 2 ^ 84;
+  tie = rank % 2 ^ 84 / 2 ^ 52;
+  number = rank % 2 ^ 84 % 2 ^ 52 / 2 ^ 20;
+  place = rank % 2 ^ 84 % 2 ^ 52 % 2 ^ 20;
 }

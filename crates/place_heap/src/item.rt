@@ -10,9 +10,9 @@ use step_count::Steps;
 // What one of the number, of the tie and of the key counts for in a rank.
 const NUMBER: u128 = 1 << 20;
 
-const TIE: u128 = 1 << 40;
+const TIE: u128 = 1 << 52;
 
-const KEY: u128 = 1 << 72;
+const KEY: u128 = 1 << 84;
 
 /// A job as a heap keeps it: the key and the tie that give its order, its number, and the place where the caller
 /// keeps it. It is one number, so that a comparison is one of two numbers.
@@ -34,11 +34,10 @@ impl Model for Item {
 }
 
 impl Item {
-    /// The item of these four numbers. The ticks of a feed are below 2^40, and its numbers of jobs below 2^20.
+    /// The item of these four numbers. The ticks of a feed are below 2^40.
     #[inline(always)]
     pub fn new(key: u64, tie: u32, number: u32, place: u32) -> Item
-        requires key { key < 2 ^ 56 }
-        requires number { number < 2 ^ 20 }
+        requires key { key < 2 ^ 44 }
         requires place { place < 2 ^ 20 }
         ensures { result ≡ record { key = key; tie = tie; number = number; place = place } }
     {

@@ -17,7 +17,8 @@ use Rattle.intervals.specs.Rows.{IsRunOf}
 use Rattle.run_view.specs.Templates.{filled}
 use Rattle.run_view.specs.Stays.{stays_of}
 use Rattle.run_view.proofs.Joining.{whole}
-use Rattle.run_view.specs.Timeline.{window_or, first_tick, end_tick, padded, labels_from, frame, meets, sign, signs_from}
+use Rattle.run_view.specs.Timeline.{window_or, first_tick, end_tick, padded, labels_from, frame, meets, sign}
+use Rattle.run_view.specs.Timeline.{signs_from}
 use Rattle.run_view.specs.Timeline.{summed_up, job_line, job_lines, timeline}
 use Rattle.run_view.specs.declared.stays.Stay.{Stay}
 use Rattle.run_view.specs.declared.window.Window.{Window}

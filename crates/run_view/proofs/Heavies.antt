@@ -41,19 +41,19 @@ module _ (k : Fraction) (w : ℕ) where
       let no : k.p * w * w < k.q * 0 * 0 = subst (λ d. k.p * w * w < k.q * d * d) none heavy in omega (arith, no))
 
   -- what is beyond the bits isn't
-  beyond : IsRatio k → w ≤ 10_000_000_000_000 → light k w (2 ^ 65) ≡ false
-  beyond ratio small = ap not ((is_heavy-agrees k (2 ^ 65) w).1 heavy) where
-    heavy : k.p * w * w < k.q * (2 ^ 65 - w) * (2 ^ 65 - w)
+  beyond : IsRatio k → w ≤ 10_000_000_000_000 → light k w (2 ^ 80) ≡ false
+  beyond ratio small = ap not ((is_heavy-agrees k (2 ^ 80) w).1 heavy) where
+    heavy : k.p * w * w < k.q * (2 ^ 80 - w) * (2 ^ 80 - w)
     heavy =
         let square : w * w ≤ 10_000_000_000_000 * 10_000_000_000_000 = mul-le w w 10_000_000_000_000
         10_000_000_000_000 small small in
         let low : k.p * (w * w) ≤ 1_000_000 * (10_000_000_000_000 * 10_000_000_000_000) =
         mul-le k.p (w * w) 1_000_000 (10_000_000_000_000 * 10_000_000_000_000) (omega (arith, ratio.small_p)) square in
-        let root : 2 ^ 64 ≤ 2 ^ 65 - w = omega (arith, small) in
-        let high : 2 ^ 64 * 2 ^ 64 ≤ (2 ^ 65 - w) * (2 ^ 65 - w) = mul-le (2 ^ 64) (2 ^ 64) (2 ^ 65 - w)
-        (2 ^ 65 - w) root root in
-        let more : 1 * ((2 ^ 65 - w) * (2 ^ 65 - w)) ≤ k.q * ((2 ^ 65 - w) * (2 ^ 65 - w)) =
-        mul-le 1 ((2 ^ 65 - w) * (2 ^ 65 - w)) k.q ((2 ^ 65 - w) * (2 ^ 65 - w)) ratio.least (omega arith) in
+        let root : 2 ^ 64 ≤ 2 ^ 80 - w = omega (arith, small) in
+        let high : 2 ^ 64 * 2 ^ 64 ≤ (2 ^ 80 - w) * (2 ^ 80 - w) = mul-le (2 ^ 64) (2 ^ 64) (2 ^ 80 - w)
+        (2 ^ 80 - w) root root in
+        let more : 1 * ((2 ^ 80 - w) * (2 ^ 80 - w)) ≤ k.q * ((2 ^ 80 - w) * (2 ^ 80 - w)) =
+        mul-le 1 ((2 ^ 80 - w) * (2 ^ 80 - w)) k.q ((2 ^ 80 - w) * (2 ^ 80 - w)) ratio.least (omega arith) in
         omega (arith, low, high, more)
 
   module _ (ratio : IsRatio k) (root : ℕ) (within : root * root ≤ k.p * w * w / k.q)

@@ -19,8 +19,7 @@ fn draw(state: &mut u64) -> u64 {
 
 // The numbers of an item at this place, with many ties.
 fn drawn(state: &mut u64, place: u32) -> Row
-    ensures key { result.0 < 2 ^ 56 }
-    ensures number { result.2 < 2 ^ 20 }
+    ensures key { result.0 < 2 ^ 44 }
     ensures place { result.3 ≡ place }
 {
     let key = draw(state) % 8;
@@ -97,9 +96,8 @@ fn the_first_is_that_of_a_sorted_list(rt: HostRuntime) {
 
 // The item of a job by its deadline.
 fn due(version: Version, job: (u64, u64, u32), place: u32) -> Item
-    requires key { job.0 < 2 ^ 56 }
+    requires key { job.0 < 2 ^ 44 }
     requires value { job.1 ≤ most_value }
-    requires number { job.2 < 2 ^ 20 }
     requires place { place < 2 ^ 20 }
     ensures { result.place ≡ place }
 {

@@ -1,6 +1,6 @@
 //! Values against the root of the ratio, at numbers.
 use dover_model::Ratio;
-use root_compare::{bound, heavy, isqrt, within};
+use root_compare::{bound, heavy, isqrt, long_bound};
 
 /// Ratios with the greatest value that isn't heavy against 10, and the bound of 10.
 const THRESHOLDS: [(u32, u32, u64, u64); 6] = [
@@ -17,7 +17,7 @@ fn thresholds_are_exact(rt: HostRuntime) {
     for (p, q, light, most) in THRESHOLDS {
         let k = Ratio::new(p, q).expect(&rt, "a ratio");
         let is_light = !heavy(light, 10, k) && heavy(light + 1, 10, k);
-        let is_most = within(most, 10, k) && !within(most + 1, 10, k) && bound(10, k) == most;
+        let is_most = bound(10, k) == most && long_bound(10, k) == u128::from(most);
         assert!(rt; is_light && is_most);
     }
 }
@@ -29,11 +29,42 @@ fn the_limits_fit(rt: HostRuntime) {
     let most = Ratio::new(1_000_000, 1).unwrap();
     let finest = Ratio::new(1_000_000, 1_000).unwrap();
     let bounds = [bound(total, most), bound(total, least), bound(0, most)];
-    let are_within = within(total, total, finest) && !within(total, 0, finest);
-    let is_light = !heavy(1_000_000_000, total, finest) && !heavy(1_000_000_000, 999_001, most);
+    let is_light = !heavy(1_000_000_000, u64::MAX, finest) && !heavy(1_000_000_000, 999_001, most);
     let is_heavy = heavy(1_000_000_000, 0, most) && heavy(1_000_000_000, 999_000, most);
     assert!(rt; bounds == [10_020_010_000_000_000_000, 40_000_000_000_000, 0]);
-    assert!(rt; are_within && is_light && is_heavy);
+    assert!(rt; is_light && is_heavy);
+}
+
+/// Ratios with the bound of the greatest sum, 10^18 - 1, as it was computed with whole numbers of any length.
+const GREATEST_BOUNDS: [(u32, u32, u128); 8] = [
+    (1, 1, 3_999_999_999_999_999_996),
+    (2, 1, 5_828_427_124_746_190_091),
+    (9, 4, 6_249_999_999_999_999_993),
+    (1_000, 999, 4_002_001_751_626_548_364),
+    (1_000, 1, 1_064_245_553_203_367_585_575),
+    (1_000_000, 999, 1_065_278_200_717_834_266_292),
+    (1_000_000, 7, 143_614_071_803_161_311_453_672),
+    (1_000_000, 1, 1_002_000_999_999_999_998_997_999),
+];
+
+#[test]
+fn bounds_of_the_greatest_sum_are_exact(rt: HostRuntime) {
+    for (p, q, most) in GREATEST_BOUNDS {
+        let k = Ratio::new(p, q).expect(&rt, "a ratio");
+        assert!(rt; long_bound(999_999_999_999_999_999, k) == most);
+    }
+}
+
+#[test]
+fn long_bounds_of_other_sums_are_exact(rt: HostRuntime) {
+    let odd = Ratio::new(999_983, 997).unwrap();
+    let most = Ratio::new(1_000_000, 1).unwrap();
+    let bounds = [
+        long_bound(123_456_789_012_345_678, odd),
+        long_bound(10_000_000_000_001, most),
+        long_bound(0, most),
+    ];
+    assert!(rt; bounds == [131_769_390_548_896_072_172, 10_020_010_000_001_002_001, 0]);
 }
 
 #[test]

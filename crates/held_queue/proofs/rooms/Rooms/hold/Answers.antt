@@ -1,4 +1,4 @@
-use Rattle.std.proofs.Common.{◌+◌, ◌-◌, ◌≤◌, ◌∷◌, reverse, refl, sym, subst}
+use Rattle.std.proofs.Common.{◌+◌, ◌-◌, ◌^◌, ◌<◌, ◌∷◌, reverse, refl, sym, subst}
 use Rattle.held_queue.specs.Kept.{Lasting, AreRoomsOf}
 use Rattle.held_queue.proofs.Holding.{held_more}
 use Rattle.held_queue.proofs.rooms.Rooms.hold.Goals as goal
@@ -12,4 +12,4 @@ returns-clause-kept c held are first =
     (held_more inside.untils.items c.room_with-until.result (inside.spare - 1) _ e held refl
     (c.room_with-until.ensures held are first)
     (subst (λ (r : Lasting). AreRoomsOf r held) (sym c.self.view_is) are) first
-    (subst (λ (r : Lasting). r.value + e.value ≤ 10_000_000_000_000) (sym c.self.view_is) c.requires.total))
+    (subst (λ (r : Lasting). r.value + e.value < 10 ^ 18) (sym c.self.view_is) c.requires.total))
