@@ -7,6 +7,7 @@ use Rattle.dover_model.specs.Sound.{IsMember, Each}
 use Rattle.ready_jobs.specs.Changed.{made_wait}
 use Rattle.ready_jobs.specs.Pools.{Pooled}
 use Rattle.ready_jobs.specs.Reordered.{IsReordered}
+use Rattle.ready_jobs.specs.Short.{no_number}
 use Rattle.ready_jobs.proofs.Pooling.{between, length_more}
 use Rattle.ready_jobs.proofs.Reordering.{same_order, both_parts, further, turned, as_many}
 
@@ -14,7 +15,7 @@ use Rattle.ready_jobs.proofs.Reordering.{same_order, both_parts, further, turned
 pub record Displaces (was is : List Task) (from to : Pooled) : Type 0 where
   pub kept : to ≡ record from { tasks = to.tasks }
   pub same : IsReordered (map made_wait (reverse was) ++ from.tasks) (map made_wait (reverse is) ++ to.tasks)
-  pub numbers : Each (λ t. t.number < 1_048_576) (reverse is)
+  pub numbers : Each (λ t. t.number < no_number) (reverse is)
   pub room : length is + length to.tasks ≤ to.room
   pub sum : length is + length to.tasks ≡ length was + length from.tasks
 
@@ -72,7 +73,7 @@ module _ (was is rest : List Task) (t : Task) (from to more : Pooled) (it : Disp
   pub one_fits : length to.tasks < to.room
   one_fits = let room : length is + length to.tasks ≤ to.room = it.room in omega (arith, room, one_less)
 
-  pub one_small : t.number < 1_048_576
+  pub one_small : t.number < no_number
   one_small = it.numbers t (subst (IsMember t) (sym turned_is) (inl refl))
 
   module _ (kept : more ≡ record to { tasks = more.tasks })

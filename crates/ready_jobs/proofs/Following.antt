@@ -1,6 +1,6 @@
 -- The ready jobs of a whole run, step by step.
-use Rattle.std.proofs.Common.{◌≡◌, ℕ, zero, suc, ◌+◌, ◌-◌, ◌≤◌, ◌<◌, inl, inr, List, [], ◌∷◌, ◌++◌, map, refl, sym, ap}
-use Rattle.std.proofs.Common.{◌∙◌, subst, Bool, true, false, cond, arith, eqb}
+use Rattle.std.proofs.Common.{◌≡◌, ℕ, zero, suc, ◌+◌, ◌-◌, ◌^◌, ◌≤◌, ◌<◌, inl, inr, List, [], ◌∷◌, ◌++◌, map, refl, sym}
+use Rattle.std.proofs.Common.{ap, ◌∙◌, subst, Bool, true, false, cond, arith, eqb}
 use Rattle.std.specs.Prelude.{Option, Some, None, ◌&&◌, nat_le, nat_lt}
 use Rattle.std.specs.Option.{option_to_list, option_map}
 use Rattle.std.specs.List.{AllByRecursion, filter}
@@ -131,8 +131,8 @@ module _ (p : Parted) (J : Instance) (z : State) (part : PartOf p J z) where
       (there t m)
 
   -- they aren't worth too much
-  part_total : (test : Task → Bool) → value_sum (filter test (ready_of p)) ≤ 10_000_000_000_000
-  part_total test = let modest : total_value J.jobs ≤ 10_000_000_000_000 = part.valid.total in
+  part_total : (test : Task → Bool) → value_sum (filter test (ready_of p)) < 10 ^ 18
+  part_total test = let modest : total_value J.jobs < 10 ^ 18 = omega (arith, part.valid.total) in
       let all : value_sum z.tasks ≡ total_value J.jobs = sym (sum_map (λ (t : Task). t.job) (λ j. j.value) z.tasks)
       ∙ ap total_value part.keeps.jobs in
       omega (
@@ -161,7 +161,7 @@ module _ (p : Parted) (J : Instance) (z : State) (part : PartOf p J z) where
     part_sound = record {
       own = once_own p.waiting (subst AreOnce (waiting_list p roles) (once_some is_waiting (ready_of p) ready_once));
       modest = λ t m. (part_job t (waits_there t m)).modest;
-      total = subst (λ l. value_sum l ≤ 10_000_000_000_000) (privileged_list p roles) (part_total is_privileged);
+      total = subst (λ l. value_sum l < 10 ^ 18) (privileged_list p roles) (part_total is_privileged);
       first = λ r mr h mh. part.keeps.sound.running_first r h (there r (busy_there r (left_one r mr)))
           (there h (busy_there h (right_one h mh)))
           (roles.running r mr) (roles.held h mh);

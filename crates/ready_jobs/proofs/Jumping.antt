@@ -189,7 +189,8 @@ urgent_is rules s other some = let v = view rules.version s in by_case
     (or_same (completion v v.running) (dispatch v v.running v.first_held v.first_waiting) (decision v v.running v.fresh)
     (arrival_of v)
     (alarm rules.ratio v v.running v.must_start) Ticks other) where
-      by_case : (declared_open_step rules s ≡ urgent_or rules.ratio (view rules.version s) other) ⊎ (declared_open_step rules s ≡ Ticks)
+      by_case : (declared_open_step rules s ≡ urgent_or rules.ratio (view rules.version s) other)
+          ⊎ (declared_open_step rules s ≡ Ticks)
           → urgent_or rules.ratio (view rules.version s) other ≡ declared_open_step rules s
       by_case (inl same) = sym same
       by_case (inr ticks) = absurd (some ticks)
@@ -471,7 +472,8 @@ module _ (s : State) (n : ℕ) where
 
 module _ (rules : Rules) (s : State) (most : ℕ) where
   -- before the jump ends a silent tick is next
-  pub silent : declared_open_step rules s ≡ Ticks → (n : ℕ) → n < still_ticks most s → declared_open_step rules (later_by n s) ≡ Ticks
+  pub silent : declared_open_step rules s ≡ Ticks → (n : ℕ) → n < still_ticks most s
+      → declared_open_step rules (later_by n s) ≡ Ticks
   silent ticks n early = still_rests rules (later_by n s) Ticks
       (still_on s n most (still_ticks most s) (dues s most) (tick_still rules s ticks) early)
 

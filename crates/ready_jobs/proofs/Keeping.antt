@@ -18,6 +18,7 @@ use Rattle.ready_jobs.specs.Pools.{Pooled}
 use Rattle.ready_jobs.specs.Parts.{Parted, AreParts, HaveRole, ready_of}
 use Rattle.ready_jobs.specs.Changed.{made_wait}
 use Rattle.ready_jobs.specs.Reordered.{IsReordered}
+use Rattle.ready_jobs.specs.Short.{no_number}
 use Rattle.ready_jobs.proofs.Reordering.{in_left, in_right, each_both, as_many}
 
 -- each of at most one
@@ -28,7 +29,7 @@ each_option P (Some u) all t (inr m) = absurd m
 
 module _ (p : Parted) (rooms : Lasting) (pool : Pooled) (capacity : ℕ) (kept : AreParts p rooms pool capacity) where
   abbrev small : Task → Type 0
-  small t = t.number < 1_048_576
+  small t = t.number < no_number
 
   abbrev A : List Task
   A = option_to_list p.running
@@ -149,7 +150,7 @@ module _ (p : Parted) (rooms : Lasting) (pool : Pooled) (capacity : ℕ) (kept :
     one_small t (inr m) = absurd m
 
   -- a job comes
-  pub come_kept : (n clock : ℕ) (j : JobFacts) → p.fresh ≡ None → length (ready_of p) < p.room → n < 1_048_576
+  pub come_kept : (n clock : ℕ) (j : JobFacts) → p.fresh ≡ None → length (ready_of p) < p.room → n < no_number
       → p.clock ≤ clock
       → AreParts (record p { clock = clock; fresh = Some (record { number = n; job = j; role = Fresh; had = 0 }) })
       rooms pool capacity
@@ -264,7 +265,7 @@ module _ (p : Parted) (rooms : Lasting) (pool : Pooled) (capacity : ℕ) (kept :
   }
 
   -- the fresh job waits
-  pub fresh_small : (f : Task) → p.fresh ≡ Some f → f.number < 1_048_576
+  pub fresh_small : (f : Task) → p.fresh ≡ Some f → f.number < no_number
   fresh_small f is = small_fresh f (subst (λ o. IsMember f (option_to_list o)) (sym is) (inl refl))
 
   pub stayed_kept : (f : Task) (pool' : Pooled) → p.fresh ≡ Some f
@@ -444,7 +445,7 @@ module _ (p : Parted) (rooms : Lasting) (pool : Pooled) (capacity : ℕ) (kept :
         (small_running r (subst (λ o. IsMember r (option_to_list o)) (sym runs) (inl refl)))
     held_small t (inr m) = small_held t m
 
-  pub running_small : (r : Task) → p.running ≡ Some r → r.number < 1_048_576
+  pub running_small : (r : Task) → p.running ≡ Some r → r.number < no_number
   running_small r is = small_running r (subst (λ o. IsMember r (option_to_list o)) (sym is) (inl refl))
 
   pub some_busy : (r : Task) → p.running ≡ Some r → 1 + (length p.held + length p.waiting) ≤ length (ready_of p)
@@ -459,7 +460,7 @@ module _ (p : Parted) (rooms : Lasting) (pool : Pooled) (capacity : ℕ) (kept :
     all_small : Each small (x ∷ pool'.tasks)
     all_small t m = each_both small (map made_wait (r ∷ p.held)) p.waiting
         (on_map made_wait small (r ∷ p.held) both) small_waiting t (out.back t m) where
-          both : Each (λ u. u.number < 1_048_576) (r ∷ p.held)
+          both : Each (λ u. u.number < no_number) (r ∷ p.held)
           both u (inl e) = subst small (sym e) (running_small r runs)
           both u (inr k) = small_held u k
 

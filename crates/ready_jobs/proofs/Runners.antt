@@ -6,7 +6,7 @@ use Rattle.dover_model.specs.Instance.{Instance}
 use Rattle.dover_model.specs.Ready.{is_ready}
 use Rattle.dover_model.specs.Sound.{IsMember}
 use Rattle.dover_model.specs.State.{State, running, is_running, state_at}
-use Rattle.dover_model.proofs.Members.{found, not_found, filter_member, member_filter}
+use Rattle.dover_model.proofs.Members.{found, not_found, filter_member, member_filter, some_same}
 use Rattle.dover_model.proofs.Readiness.{runner}
 use Rattle.dover_model.proofs.Roles.{passes, is_running_role}
 use Rattle.dover_model.proofs.Tests.{never}
@@ -17,7 +17,8 @@ module _ (c : Course) where
   pub ready_runs : (r : Task) → running (state_at c.clock c.ready) ≡ Some r → Runs c r.number
   ready_runs r some J z follows =
       let it : IsMember r c.ready × (is_running r ≡ true) = found is_running c.ready r some in
-      let there : IsMember r z.tasks × (is_ready r ≡ true) = member_filter is_ready z.tasks r (follows.ready.back r it.0) in
+      let there : IsMember r z.tasks × (is_ready r ≡ true) = member_filter is_ready z.tasks r
+      (follows.ready.back r it.0) in
       (r, runner z follows.keeps.sound r there.0 (is_running_role r it.1), refl)
 
   -- another job doesn't
@@ -35,3 +36,14 @@ module _ (c : Course) where
       let ready : is_ready t ≡ true = passes is_ready t Running true (is_running_role t it.1) refl in
       never (sym (not_found is_running c.ready none t
       (follows.ready.there t (filter_member is_ready z.tasks t it.0 ready))) ∙ it.1)
+
+  -- wherever the course is kept of, the same job runs
+  pub one_runs : (J : Instance) (z : State) → Follows c J z → (K : Instance) (y : State) → Follows c K y
+      → (t u : Task) → running z ≡ Some t → running y ≡ Some u → t ≡ u
+  one_runs J z follows K y others t u here there =
+      let it : IsMember t z.tasks × (is_running t ≡ true) = found is_running z.tasks t here in
+      let ready : is_ready t ≡ true = passes is_ready t Running true (is_running_role t it.1) refl in
+      let kept : IsMember t c.ready = follows.ready.there t (filter_member is_ready z.tasks t it.0 ready) in
+      let other : IsMember t y.tasks × (is_ready t ≡ true) = member_filter is_ready y.tasks t
+      (others.ready.back t kept) in
+      some_same t u (sym (runner y others.keeps.sound t other.0 (is_running_role t it.1)) ∙ there)

@@ -35,7 +35,8 @@ use Rattle.ready_jobs.proofs.Following.{ticks_early, had_fits, stale_ticks, role
 
 -- what holds in some state holds where silent steps lead
 pub part_after : (k : Fraction) (mark : ℕ) (p q : Parted) → q.version ≡ p.version → SettlesFrom k mark p q
-    → IsPart (record { ratio = k; version = p.version; finishes = [] }) p → IsPart (record { ratio = k; version = q.version; finishes = [] }) q
+    → IsPart (record { ratio = k; version = p.version; finishes = [] }) p
+    → IsPart (record { ratio = k; version = q.version; finishes = [] }) q
 part_after k mark p q version settles old =
     let it : SettlesTo q old.0 old.1 mark = settles old.0 old.1 old.3 old.2 in
     (old.0, it.state, it.part, old.3 ∙ ap (λ v. record { ratio = k; version = v; finishes = [] }) (sym version))
@@ -105,7 +106,8 @@ ticks_settle k mark n p q roles ticks is low later J z rules part =
     (jump_low p roles (record { ratio = k; version = p.version; finishes = [] }) mark n low is))
 
 -- what is known of the jobs where a silent tick is next
-module _ (k : Fraction) (p : Parted) (roles : HaveRoles p) (old : IsPart (record { ratio = k; version = p.version; finishes = [] }) p)
+module _ (k : Fraction) (p : Parted) (roles : HaveRoles p) (old : IsPart
+    (record { ratio = k; version = p.version; finishes = [] }) p)
     (ticks : open_step (record { ratio = k; version = p.version; finishes = [] }) (state_of p) ≡ Ticks) where
   next_ticks : open_step old.0.rules (state_of p) ≡ Ticks
   next_ticks = ap (λ r. open_step r (state_of p)) old.3 ∙ ticks

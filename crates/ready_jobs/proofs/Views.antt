@@ -100,5 +100,6 @@ step_still rules clock xs ys same known =
     ap (λ o. finish_or clock (find (is_finish_of o) rules.finishes)
     (declared_open_step rules (record { clock = clock; tasks = ys })))
     (found_same xs ys same is_running known.one_runs)
-    ∙ ap (λ v. finish_or clock (find (is_finish_of (find is_running xs)) rules.finishes) (urgent_or rules.ratio v Ticks))
+    ∙ ap (λ v. finish_or clock (find (is_finish_of (find is_running xs)) rules.finishes)
+    (urgent_or rules.ratio v Ticks))
     (view_still rules.version clock xs ys same known)

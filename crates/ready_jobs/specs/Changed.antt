@@ -34,4 +34,5 @@ pub record Leaves (f : Task → Task) (xs ys : List Task) (worth : ℕ) : Type 0
 
 -- the open step of these jobs, for some ratio, is printed
 abbrev pub IsNext : Parted → Event → Type 0
-IsNext p e = (k : Fraction) × (open_step (record { ratio = k; version = p.version; finishes = [] }) (state_of p) ≡ Prints e)
+IsNext p e = (k : Fraction) × (open_step (record { ratio = k; version = p.version; finishes = [] }) (state_of p)
+    ≡ Prints e)

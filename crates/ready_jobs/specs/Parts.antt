@@ -5,12 +5,13 @@ use Rattle.dover_model.specs.declared.events.Version.{Version}
 use Rattle.dover_model.specs.declared.events.Task.{Task}
 use Rattle.dover_model.specs.declared.events.Role.{Role}
 use Rattle.dover_model.specs.declared.events.Role.TheVariants.{Fresh, Waiting, Held, Running}
-use Rattle.dover_model.specs.Limits.{most_value, most_total, most_jobs}
+use Rattle.dover_model.specs.Limits.{most_value, most_jobs}
 use Rattle.dover_model.specs.Entries.{entry_of}
 use Rattle.dover_model.specs.State.{State, latest_start, value_sum}
 use Rattle.dover_model.specs.Sound.{Each, EachTwo}
 use Rattle.held_queue.specs.Kept.{Lasting, AreRoomsOf}
 use Rattle.ready_jobs.specs.Pools.{Pooled}
+use Rattle.ready_jobs.specs.Short.{no_number}
 
 -- no two jobs have one number
 abbrev pub HaveOwnNumbers : List Task → Type 0
@@ -56,7 +57,7 @@ pub record AreParts (p : Parted) (rooms : Lasting) (pool : Pooled) (capacity : �
   pub roles : HaveRoles p
   pub held : AreRoomsOf rooms (map entry_of p.held)
   pub few : length (ready_of p) ≤ p.room
-  pub small : Each (λ t. t.number < 2 ^ 20) (ready_of p)
+  pub small : Each (λ t. t.number < no_number) (ready_of p)
   pub most : p.room ≤ most_jobs
   pub pool_room : p.room ≤ pool.room
   pub held_room : p.room ≤ length p.held + rooms.spare
@@ -66,7 +67,7 @@ pub record AreParts (p : Parted) (rooms : Lasting) (pool : Pooled) (capacity : �
 pub record AreSound (p : Parted) : Type 0 where
   pub own : HaveOwnNumbers p.waiting
   pub modest : AreModest p.waiting
-  pub total : value_sum (option_to_list p.running ++ p.held) ≤ most_total
+  pub total : value_sum (option_to_list p.running ++ p.held) < 10 ^ 18
   pub first : Each (λ r. Each (λ h. r.job.deadline < h.job.deadline) p.held) (option_to_list p.running)
   pub early : Each (λ t. p.clock ≤ latest_start t) p.waiting
 

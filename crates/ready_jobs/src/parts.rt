@@ -5,7 +5,7 @@ ghost use Rattle.std.specs.List.{filter, find};
 ghost use Rattle.std.specs.Option.{option_to_list, ForSome};
 ghost use Rattle.dover_model.specs.declared.events.Role.TheVariants.{Fresh, Waiting, Held, Running};
 ghost use Rattle.dover_model.specs.declared.events.Task.{Task};
-ghost use Rattle.dover_model.specs.Limits.{most_jobs, most_total, last_tick};
+ghost use Rattle.dover_model.specs.Limits.{most_jobs, last_tick};
 ghost use Rattle.dover_model.specs.Entries.{entry_of};
 ghost use Rattle.dover_model.specs.Fraction.{IsRatio};
 ghost use Rattle.dover_model.specs.State.{is_fresh, is_coming, is_waiting, running, held, waiting, privileged, room};
@@ -19,6 +19,7 @@ ghost use Rattle.ready_jobs.specs.Dues.{still_ticks, until_done};
 ghost use Rattle.ready_jobs.specs.Changed.{made_wait};
 ghost use Rattle.ready_jobs.specs.Deeds.{step_at, Finds};
 ghost use Rattle.ready_jobs.specs.Reordered.{IsReordered};
+ghost use Rattle.ready_jobs.specs.Short.{no_number};
 ghost use Rattle.ready_jobs.specs.Slots.{seen};
 ghost use Rattle.ready_jobs.specs.Parts.{Parted, AreSound, HaveRoles, ready_of, state_of, head_of, tail_of};
 
@@ -270,8 +271,7 @@ impl Parts {
     fn value_busy(&self, r: &Task) -> u64
         requires sound { AreSound self.now }
         requires running { self.now.running ≡ Some r.now }
-        ensures is { result ≡ value_sum (privileged (state_of self.now)) }
-        ensures most { result ≤ most_total }
+        ensures { result ≡ value_sum (privileged (state_of self.now)) }
     {
         r.job.value() + self.rooms.value_sum()
     }
@@ -537,7 +537,7 @@ impl Parts {
     pub fn come(&mut self, number: u32, job: Job)
         requires stale { self.old.fresh ≡ None }
         requires room { length (ready_of self.old) < self.old.room }
-        requires number { number < 2 ^ 20 }
+        requires number { number < no_number }
         requires ahead { self.old.clock ≤ job.release }
         ensures { self.new ≡ record self.old {
           clock = job.release;

@@ -14,6 +14,7 @@ ghost use Rattle.place_heap.specs.Orders.{due_item, latest_item};
 ghost use Rattle.ready_jobs.specs.Reordered.{IsReordered};
 ghost use Rattle.ready_jobs.specs.Parts.{HaveOwnNumbers, AreModest};
 ghost use Rattle.ready_jobs.specs.Pools.{Pooled, IsPool, jobs_at, most_places};
+ghost use Rattle.ready_jobs.specs.Short.{no_number};
 ghost use Rattle.ready_jobs.specs.Slots.{seen};
 
 use crate::short::ShortTask;
@@ -61,8 +62,7 @@ fn left(t: &Task) -> u64
 // The item of the job by its deadline.
 #[inline(always)]
 fn due_item(version: Version, place: u32, t: &Task) -> Item
-    requires place { place < 2 ^ 20 }
-    requires number { t.now.number < 2 ^ 20 }
+    requires { place < 2 ^ 20 }
     ensures { result ≡ due_item version place (entry_of t.now) }
 {
     Item::new(
@@ -76,8 +76,7 @@ fn due_item(version: Version, place: u32, t: &Task) -> Item
 // The item of the job by its latest start.
 #[inline(always)]
 fn latest_item(version: Version, place: u32, t: &Task) -> Item
-    requires place { place < 2 ^ 20 }
-    requires number { t.now.number < 2 ^ 20 }
+    requires { place < 2 ^ 20 }
     ensures { result ≡ latest_item version place (entry_of t.now) }
 {
     Item::new(
@@ -113,7 +112,7 @@ fn task_at(slots: &Vec<Slot>, place: u32) -> Option<Task>
 #[inline(always)]
 fn put_at(slots: &mut Vec<Slot>, place: u32, t: &Task)
     requires inside { place < length slots.old.items }
-    requires number { t.now.number < 2 ^ 20 }
+    requires number { t.now.number < no_number }
     ensures items { slots.new.items ≡ slice_set slots.old.items place (Some t.now) }
     ensures len { vec_len slots.new ≡ vec_len slots.old }
     ensures capacity { vec_capacity slots.new ≡ vec_capacity slots.old }
@@ -260,7 +259,7 @@ impl Pool {
     #[inline(always)]
     pub fn add<L: Ledger>(&mut self, t: Task, steps: &mut Steps<L>)
         requires room { length self.old.tasks < self.old.room }
-        requires number { t.number < 2 ^ 20 }
+        requires number { t.number < no_number }
         ensures kept { self.new ≡ record self.old { tasks = self.new.tasks } }
         ensures more { IsReordered (t ∷ self.old.tasks) self.new.tasks }
         ensures count { (d : ℕ) → length self.old.tasks + 1 < 2 ^ d → steps.new ≤ steps.old + 2 * d }

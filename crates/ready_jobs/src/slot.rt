@@ -1,5 +1,6 @@
 //! A place, in which a job waits or none.
-ghost use Rattle.std.specs.Prelude.{◌≡◌, ◌<◌, ◌^◌, Some, None};
+ghost use Rattle.std.specs.Prelude.{◌≡◌, ◌<◌, Some, None};
+ghost use Rattle.ready_jobs.specs.Short.{no_number};
 ghost use Rattle.ready_jobs.specs.Slots.{seen};
 
 use crate::short::{NO_NUMBER, ShortTask};
@@ -36,7 +37,7 @@ impl Slot {
     /// This job waits there.
     #[inline(always)]
     pub(crate) fn of(t: &Task) -> Slot
-        requires { t.now.number < 2 ^ 20 }
+        requires { t.now.number < no_number }
         ensures { result ≡ Some t.now }
     {
         Slot {

@@ -4,6 +4,7 @@ ghost use Rattle.dover_model.specs.Step.{with_role};
 ghost use Rattle.dover_model.specs.Sound.{Each};
 ghost use Rattle.ready_jobs.specs.Reordered.{IsReordered};
 ghost use Rattle.ready_jobs.specs.Changed.{made_wait};
+ghost use Rattle.ready_jobs.specs.Short.{no_number};
 
 use crate::held::pop;
 use crate::pool::Pool;
@@ -28,7 +29,7 @@ pub(crate) fn in_role(t: &Task, role: Role) -> Task
 // The held jobs wait in the pool.
 pub(crate) fn displace<L: Ledger>(held: &mut Vec<ShortTask>, pool: &mut Pool, steps: &mut Steps<L>)
     requires room { length held.old.items + length pool.old.tasks ≤ pool.old.room }
-    requires numbers { Each (λ t. t.number < 2 ^ 20) (reverse held.old.items) }
+    requires numbers { Each (λ t. t.number < no_number) (reverse held.old.items) }
     ensures none { held.new.items ≡ [] }
     ensures capacity { vec_capacity held.new ≡ vec_capacity held.old }
     ensures kept { pool.new ≡ record pool.old { tasks = pool.new.tasks } }

@@ -62,7 +62,8 @@ module _ (J : Instance) (to : Horizon) (j : JobFacts) (rest : List JobFacts) (ca
 
 -- The server has taken the run of some jobs of the list, the watcher has seen what it printed, and the others may be
 -- fed behind them.
-pub record IsUnderWay {W : Type 0} (seen : W → List Event → Type 0) (server : ReadyServer) (watcher : W) (all : Instance) (rest : List JobFacts) : Type 0 where
+pub record IsUnderWay {W : Type 0} (seen : W → List Event → Type 0) (server : ReadyServer) (watcher : W)
+    (all : Instance) (rest : List JobFacts) : Type 0 where
   pub served : Instance
   pub to : Horizon
   pub shown : HasShown seen server watcher served to

@@ -18,12 +18,15 @@ use Rattle.dover_model.proofs.Barriers.{state_after}
 use Rattle.dover_model.proofs.Further.{printed_at_mark}
 use Rattle.dover_model.proofs.LastSteps.{last_tells}
 use Rattle.dover_model.proofs.Members.{found, all_member}
+use Rattle.dover_model.specs.Processor.{runner_of}
+use Rattle.dover_model.proofs.Processors.{runner_said, runner_there}
 use Rattle.dover_model.proofs.Paths.{path_settles, one_settled_run}
 use Rattle.dover_model.proofs.Resting.{path_state, numbers_below}
 use Rattle.dover_model.proofs.RightFinishes.{all_before, finish_says, right_finish, none_late, none_other}
 use Rattle.dover_model.proofs.Roles.{passes, is_running_role}
 use Rattle.dover_model.proofs.Settling.{settled_is_run}
 use Rattle.dover_model.proofs.Waiting.{some_goes_on}
+use Rattle.ready_jobs.proofs.Runners.{one_runs}
 use Rattle.ready_jobs.specs.Course.{Course}
 use Rattle.ready_jobs.specs.Course as course
 use Rattle.ready_server.specs.Serving.{Rests, Finishes}
@@ -78,6 +81,16 @@ module _ (s : ReadyServer) (J : Instance) (at : ℕ) (rests : Rests s J (Mark at
   pub other_wrong : (n : ℕ) → course.RunsNowhere s.ready n → finish_at J at n ≡ None
   other_wrong n nowhere = none_other J at n (λ r some named.
       nowhere J z rests.follows r (sym same_runs ∙ some) named)
+
+  -- a job that runs has the processor by what was given
+  pub runs_said : (n : ℕ) → course.Runs s.ready n → runner_of (settled J at) ≡ Some n
+  runs_said n it = let r = it J z rests.follows in
+      runner_said J rests.follows.valid at r.0 (same_runs ∙ r.1) ∙ ap Some r.2
+
+  -- no other job has it
+  pub other_said : (n : ℕ) → course.RunsNowhere s.ready n → runner_of (settled J at) ≡ Some n → ⊥
+  other_said n nowhere is = let r = runner_there J rests.follows.valid at n is in
+      nowhere J z rests.follows r.0 (sym same_runs ∙ r.1) r.2
 
   module _ (n : ℕ) (d : Course) (takes : course.Finishes s.ready n d) where
     -- the job that runs
@@ -145,3 +158,16 @@ module _ (s : ReadyServer) (J : Instance) (at : ℕ) (rests : Rests s J (Mark at
           last = sym (last_more (settled J at) (Complete at n));
         },
       )
+
+-- of whatever jobs the server rests, the same one runs
+pub one_finish : (s : ReadyServer) (at : ℕ) (J : Instance) (rests : Rests s J (Mark at)) (K : Instance)
+    (others : Rests s K (Mark at)) (n : ℕ) (f g : EarlyFinish) → finish_at J at n ≡ Some f → finish_at K at n ≡ Some g
+    → f ≡ g
+one_finish s at J rests K others n f g right other =
+    let says = finish_says J at n f right in
+    let tells = finish_says K at n g other in
+    let here : running rests.state ≡ Some says.job = sym (same_runs s J at rests) ∙ says.runs in
+    let there : running others.state ≡ Some tells.job = sym (same_runs s K at others) ∙ tells.runs in
+    let one : says.job ≡ tells.job = one_runs s.ready J rests.state rests.follows K others.state others.follows
+    says.job tells.job here there in
+    sym says.is ∙ ap (λ (t : Task). let e : EarlyFinish = record { at = at; finish = finish_now t } in e) one ∙ tells.is

@@ -115,7 +115,8 @@ module _ (s : ReadyServer) (J : Instance) (mark : ℕ) (rests : Rests s J (Mark 
     runs_nowhere : NoneRuns s.ready.ready → NoneRuns z.tasks
     runs_nowhere none t m runs =
         none t
-        (rests.follows.ready.there t (filter_member is_ready z.tasks t m (passes is_ready t Running true runs refl))) runs
+        (rests.follows.ready.there t (filter_member is_ready z.tasks t m (passes is_ready t Running true runs refl)))
+        runs
 
     comes_not : (t : Task) → IsMember t z.tasks → t.role ≡ Coming → ⊥
     comes_not t m comes = never (sym (rests.follows.released t m) ∙ passes is_coming t Coming true comes refl)

@@ -131,7 +131,11 @@ module _ (s : State) (sound : IsSound s) (p : Roll) (follows : Follows s p) wher
     halted_is : halted p s.clock new ≡ q
     halted_is = ap (λ o. elim o [ None ↦ p | Some n ↦ record (with_stop p n (s.clock - p.since) new) { turn = None } ])
         (follows.runs r member runs)
-        ∙ ap (λ o. record (elim o [ None ↦ p | Some e ↦ record p { jobs = set p.jobs r.number (stopped (s.clock - p.since) new p.takes e) } ]) { turn = None }) of_r.there
+        ∙ ap (λ o. record (elim o [
+          | None ↦ p
+          | Some e ↦ record p
+              { jobs = set p.jobs r.number (stopped (s.clock - p.since) new p.takes e) }
+        ]) { turn = None }) of_r.there
 
     lists_r : Lists q s.clock (with_role r new)
     lists_r = record {
@@ -143,11 +147,24 @@ module _ (s : State) (sound : IsSound s) (p : Roll) (follows : Follows s p) wher
         role = role;
         had = had_with (s.clock - p.since) of_r.listed.task;
       } in u) (fresh_held new p.takes e_new.task refl)
-          ∙ ap (λ n. let u : Task = record { number = n; job = of_r.listed.task.job; role = new; had = had_with (s.clock - p.since) of_r.listed.task } in u) (number_is p s.clock r of_r)
-          ∙ ap (λ j. let u : Task = record { number = r.number; job = j; role = new; had = had_with (s.clock - p.since) of_r.listed.task } in u) (job_is p s.clock r of_r)
+          ∙ ap (λ n. let u : Task = record {
+            number = n;
+            job = of_r.listed.task.job;
+            role = new;
+            had = had_with
+                (s.clock - p.since) of_r.listed.task;
+          } in u) (number_is p s.clock r of_r)
+          ∙ ap (λ j. let u : Task = record {
+            number = r.number;
+            job = j;
+            role = new;
+            had = had_with (s.clock - p.since)
+                of_r.listed.task;
+          } in u) (job_is p s.clock r of_r)
           ∙ ap (λ h. let u : Task = record { number = r.number; job = r.job; role = new; had = h } in u)
           (had_ran p s.clock r of_r (follows.runs r member runs))
-          ∙ ap (λ role. let u : Task = record { number = r.number; job = r.job; role = role; had = r.had } in u) (sym calm_now);
+          ∙ ap (λ role. let u : Task = record { number = r.number; job = r.job; role = role; had = r.had } in u)
+          (sym calm_now);
       before = omega arith;
     }
 
@@ -210,10 +227,23 @@ module _ (s : State) (numbered : IsNumberedFrom 0 s.tasks) (p : Roll) (follows :
         role = cond b Running (cond (is_displaced p.takes of_g.listed) Waiting of_g.listed.task.role);
         had = cond b (had_with (s.clock - s.clock) of_g.listed.task) of_g.listed.task.had;
       } in u) (eq-eqb g.number of_g.listed.task.number (sym (number_is p s.clock g of_g)))
-          ∙ ap (λ h. let u : Task = record { number = of_g.listed.task.number; job = of_g.listed.task.job; role = Running; had = h } in u)
+          ∙ ap (λ h. let u : Task = record {
+            number = of_g.listed.task.number;
+            job = of_g.listed.task.job;
+            role
+                = Running;
+            had = h;
+          } in u)
           (had_none of_g.listed.task s.clock most)
-          ∙ ap (λ n. let u : Task = record { number = n; job = of_g.listed.task.job; role = Running; had = of_g.listed.task.had } in u) (number_is p s.clock g of_g)
-          ∙ ap (λ j. let u : Task = record { number = g.number; job = j; role = Running; had = of_g.listed.task.had } in u) (job_is p s.clock g of_g)
+          ∙ ap (λ n. let u : Task = record {
+            number = n;
+            job = of_g.listed.task.job;
+            role = Running;
+            had
+                = of_g.listed.task.had;
+          } in u) (number_is p s.clock g of_g)
+          ∙ ap (λ j. let u : Task = record { number = g.number; job = j; role = Running; had = of_g.listed.task.had }
+          in u) (job_is p s.clock g of_g)
           ∙ ap (λ h. let u : Task = record { number = g.number; job = g.job; role = Running; had = h } in u) had_same;
       before = of_g.before;
     } where

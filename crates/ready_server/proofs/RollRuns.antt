@@ -170,7 +170,8 @@ module _ (s : State) (sound : IsSound s) (p : Roll) (follows : Follows s p) wher
       → Each (λ t. t.role ≡ Coming → c.number ≤ t.number) s.tasks
       → Follows (after s (Prints (Release c.number c.job))) (with_event p (Release c.number c.job))
   releases c member comes first = turned c member idle Fresh (λ e. cc) (λ e. cc) q refl refl refl
-      (λ t m other out. get_front p.jobs (e_new ∷ []) t.number (follows.here t m out).listed (follows.here t m out).there
+      (λ t m other out. get_front p.jobs (e_new ∷ []) t.number (follows.here t m out).listed
+      (follows.here t m out).there
       ∙ sym (follows.here t m out).there)
       lists_c
       (λ t m other now. omega (arith, length-append p.jobs (e_new ∷ []), next, first t m now, other))
@@ -238,9 +239,15 @@ module _ (s : State) (sound : IsSound s) (p : Roll) (follows : Follows s p) wher
     here_now : (t : Task) → IsMember t s.tasks → Lists p s.clock t → (b : Bool) → is_running t ≡ b
         → Lists p (s.clock + 1) (ticked t)
     here_now t m it false e =
-        let idle = idle_turn s sound p follows t m (λ runs. never (sym e ∙ passes is_running t Running true runs refl)) in
+        let idle = idle_turn s sound p follows t m (λ runs. never (sym e ∙ passes is_running t Running true runs refl))
+        in
         subst (λ (u : Task). Lists p (s.clock + 1) u)
-        (ap (λ b. let u : Task = record { number = t.number; job = t.job; role = t.role; had = cond b (t.had + 1) t.had } in u) (sym e))
+        (ap (λ b. let u : Task = record {
+          number = t.number;
+          job = t.job;
+          role = t.role;
+          had = cond b (t.had + 1) t.had;
+        } in u) (sym e))
         (lists_same p s.clock t it idle p t.role refl refl idle refl (s.clock + 1))
     here_now t m it true e =
         let runs : t.role ≡ Running = is_running_role t e in
@@ -254,12 +261,31 @@ module _ (s : State) (sound : IsSound s) (p : Roll) (follows : Follows s p) wher
             role = cond b Running (cond (is_displaced p.takes it.listed) Waiting it.listed.task.role);
             had = cond b (had_with (s.clock + 1 - p.since) it.listed.task) it.listed.task.had;
           } in u) (turn_here p s.clock t it turns)
-              ∙ ap (λ n. let u : Task = record { number = n; job = it.listed.task.job; role = Running; had = had_with (s.clock + 1 - p.since) it.listed.task } in u) (number_is p s.clock t it)
-              ∙ ap (λ j. let u : Task = record { number = t.number; job = j; role = Running; had = had_with (s.clock + 1 - p.since) it.listed.task } in u) (job_is p s.clock t it)
+              ∙ ap (λ n. let u : Task = record {
+                number = n;
+                job = it.listed.task.job;
+                role = Running;
+                had = had_with
+                    (s.clock + 1 - p.since) it.listed.task;
+              } in u) (number_is p s.clock t it)
+              ∙ ap (λ j. let u : Task = record {
+                number = t.number;
+                job = j;
+                role = Running;
+                had = had_with
+                    (s.clock + 1 - p.since) it.listed.task;
+              } in u) (job_is p s.clock t it)
               ∙ ap (λ h. let u : Task = record { number = t.number; job = t.job; role = Running; had = h } in u)
-              (one_more it.listed.task (had_ran p s.clock t it turns) (ap (λ j. j.work) (job_is p s.clock t it)) (some t m runs)
+              (one_more it.listed.task (had_ran p s.clock t it turns) (ap (λ j. j.work) (job_is p s.clock t it))
+              (some t m runs)
               ∙ ap (λ b. cond b (t.had + 1) t.had) (sym e))
-              ∙ ap (λ r. let u : Task = record { number = t.number; job = t.job; role = r; had = cond (is_running t) (t.had + 1) t.had } in u)
+              ∙ ap (λ r. let u : Task = record {
+                number = t.number;
+                job = t.job;
+                role = r;
+                had = cond (is_running t)
+                    (t.had + 1) t.had;
+              } in u)
               (sym (ap calm_role runs));
           before = it.before;
         } where
@@ -297,7 +323,8 @@ module _ (s : State) (sound : IsSound s) (p : Roll) (follows : Follows s p) wher
 
     -- a preemption
     preempts : (f : Task) → IsMember f s.tasks → f.role ≡ Fresh
-        → Follows (after s (Prints (Preempt s.clock r.number f.number))) (with_event p (Preempt s.clock r.number f.number))
+        → Follows (after s (Prints (Preempt s.clock r.number f.number)))
+        (with_event p (Preempt s.clock r.number f.number))
     preempts f f_in fresh = subst (λ ts. Follows (at_clock s ts) (started (halted p s.clock Held) s.clock f.number))
         (map_map (λ t. with_role t (cond (t.number == f.number) Running t.role))
         (λ t. with_role t (cond (t.number == r.number) Held t.role)) s.tasks)

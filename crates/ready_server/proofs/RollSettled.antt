@@ -33,7 +33,8 @@ use Rattle.dover_model.specs.Horizons.{due_by}
 use Rattle.dover_model.proofs.Horizons.{due_few}
 use Rattle.ready_server.specs.Serving as ready
 use Rattle.ready_server.specs.declared.server.ReadyServer.{ReadyServer}
-use Rattle.ready_server.specs.Roster.{Roll, Listed, stopped, released, job_at, with_event, empty_roll, roll_of, with_stop}
+use Rattle.ready_server.specs.Roster.{Roll, Listed, stopped, released, job_at, with_event, empty_roll, roll_of}
+use Rattle.ready_server.specs.Roster.{with_stop}
 use Rattle.ready_server.specs.Roster.{halted}
 use Rattle.ready_server.proofs.Present.{none_to_come}
 use Rattle.ready_server.proofs.Rolls.{calm, calm_role, length_set, Follows}

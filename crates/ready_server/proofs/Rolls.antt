@@ -43,7 +43,8 @@ pub record Follows (s : State) (p : Roll) : Type 0 where
 
 -- ---- lists
 
-pub set_here : {X : Type 0} (xs : List X) (n : ℕ) (x y : X) → slice_get xs n ≡ Some y → slice_get (set xs n x) n ≡ Some x
+pub set_here : {X : Type 0} (xs : List X) (n : ℕ) (x y : X) → slice_get xs n ≡ Some y → slice_get (set xs n x) n
+    ≡ Some x
 set_here [] n x y there = absurd (let e : None ≡ Some y = there in cc)
 set_here (z ∷ xs) zero x y there = refl
 set_here (z ∷ xs) (suc n) x y there = set_here xs n x y there
@@ -55,7 +56,8 @@ set_there (z ∷ xs) zero (suc m) x other = refl
 set_there (z ∷ xs) (suc n) zero x other = refl
 set_there (z ∷ xs) (suc n) (suc m) x other = set_there xs n m x (λ e. other (ap suc e))
 
-pub get_front : {X : Type 0} (xs ys : List X) (n : ℕ) (x : X) → slice_get xs n ≡ Some x → slice_get (xs ++ ys) n ≡ Some x
+pub get_front : {X : Type 0} (xs ys : List X) (n : ℕ) (x : X) → slice_get xs n ≡ Some x → slice_get (xs ++ ys) n
+    ≡ Some x
 get_front [] ys n x there = absurd (let e : None ≡ Some x = there in cc)
 get_front (z ∷ xs) ys zero x there = there
 get_front (z ∷ xs) ys (suc n) x there = get_front xs ys n x there
@@ -119,9 +121,27 @@ module _ (p : Roll) (clock : ℕ) (t : Task) (it : Lists p clock t) where
         role = cond b Running (cond (is_displaced q.takes e) Waiting e.task.role);
         had = cond b (had_with (clock2 - q.since) e.task) e.task.had;
       }) (ap (is_turn q.turn) number ∙ idle_too)
-          ∙ ap (λ n. let u : Task = record { number = n; job = e.task.job; role = cond (is_displaced q.takes e) Waiting e.task.role; had = e.task.had } in u) number
-          ∙ ap (λ j. let u : Task = record { number = t.number; job = j; role = cond (is_displaced q.takes e) Waiting e.task.role; had = e.task.had } in u) job
-          ∙ ap (λ h. let u : Task = record { number = t.number; job = t.job; role = cond (is_displaced q.takes e) Waiting e.task.role; had = h } in u) had
+          ∙ ap (λ n. let u : Task = record {
+            number = n;
+            job = e.task.job;
+            role = cond (is_displaced q.takes e) Waiting
+                e.task.role;
+            had = e.task.had;
+          } in u) number
+          ∙ ap (λ j. let u : Task = record {
+            number = t.number;
+            job = j;
+            role = cond (is_displaced q.takes e) Waiting
+                e.task.role;
+            had = e.task.had;
+          } in u) job
+          ∙ ap (λ h. let u : Task = record {
+            number = t.number;
+            job = t.job;
+            role = cond (is_displaced q.takes e)
+                Waiting e.task.role;
+            had = h;
+          } in u) had
           ∙ ap (λ r. let u : Task = record { number = t.number; job = t.job; role = r; had = t.had } in u) same;
       before = low;
     }

@@ -19,7 +19,8 @@ pub record IsShowing {W : Type 0} (seen : W → List Event → Type 0) (server :
   pub so_far : HasShown seen server watcher J from
   pub many : count ≤ length so_far.events
 
-module _ (valid : (s : ReadyServer) (J : Instance) (to : Horizon) (events : List Event) → Serves s J to events → IsValid J)
+module _ (valid : (s : ReadyServer) (J : Instance) (to : Horizon) (events : List Event) → Serves s J to events
+    → IsValid J)
     (begins : (s : ReadyServer) (J : Instance) (to : Horizon) (events : List Event) → Serves s J to events
     → Begins events (due_by J to)) where
   -- what was printed is few steps

@@ -139,7 +139,8 @@ impl Roster {
     /// Takes the next printed step into account. No memory is taken.
     pub fn read(&mut self, event: &Event)
         requires few { self.old.roll.takes < 2 ^ 32 - 1 }
-        requires room { (n : ℕ) (job : JobFacts) → event.now ≡ Release n job → length self.old.roll.jobs < self.old.room }
+        requires room { (n : ℕ) (job : JobFacts) → event.now ≡ Release n job
+            → length self.old.roll.jobs < self.old.room }
         ensures roll { self.new.roll ≡ with_event self.old.roll event.now }
         ensures room { self.new.room ≡ self.old.room }
     {

@@ -1,10 +1,11 @@
 //! The server over the jobs that are ready.
 ghost use Rattle.std.specs.Prelude.{◌≡◌, ◌≤◌, ◌+◌, ◌∷◌, [], ◌++◌, ◌||◌, ◌↔◌, ◌*◌, ℕ, List, length, min, max, IfOk};
-ghost use Rattle.std.specs.Prelude.{IsOk, OnOk, IfSome, IsNone, IsTrue, false};
+ghost use Rattle.std.specs.Prelude.{IsOk, OnOk, IfSome, IsNone, IsTrue, false, Some};
 ghost use Rattle.dover_model.specs.declared.events.Event.{Event};
 ghost use Rattle.dover_model.specs.Instance.{Instance, IsValid, with_jobs};
 ghost use Rattle.dover_model.specs.Limits.{most_jobs, most_total, last_tick};
 ghost use Rattle.dover_model.specs.Rest.{instead_with};
+ghost use Rattle.dover_model.specs.Processor.{runner_of};
 ghost use Rattle.dover_model.specs.Settled.{settled};
 ghost use Rattle.dover_model.specs.Run.{is_end};
 ghost use Rattle.dover_model.specs.Spending.{CostsAtMost};
@@ -159,6 +160,14 @@ impl ReadyServer {
         self.ready.ratio()
     }
 
+    /// Whether the job of this number has the processor, where all is given up to a mark.
+    pub fn runs(&self, number: u64) -> bool
+        ensures { (J : Instance) (mark : ℕ) → Rests self.now J (Mark mark)
+            → IsTrue result ↔ (runner_of (settled J mark) ≡ Some number) }
+    {
+        self.ready.runs(number)
+    }
+
     /// Whether no job is ready.
     pub fn is_idle(&self) -> bool
         ensures { IsTrue result ↔ (length self.now.ready.ready ≡ 0) }
@@ -292,7 +301,9 @@ impl ReadyServer {
         requires rests { (J : Instance) × Rests self.old J (Mark at) }
         ensures finishes { (J : Instance) → Rests self.old J (Mark at) → Finishes self.old self.new J at number result }
         ensures room { HasPlace self.old → HasPlace self.new }
+        ensures spare { spare_of self.old ≤ spare_of self.new }
         ensures room_stays { self.new.ready.room ≡ self.old.ready.room }
+        ensures clock { IfSome result (λ _. self.new.ready.clock ≡ at) }
         ensures paid { (start now : ℕ) → HasPaid self.old start now → HasPaid self.new start now }
     {
         if self.last >= at {

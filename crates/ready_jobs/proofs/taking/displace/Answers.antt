@@ -3,6 +3,7 @@ use Rattle.std.proofs.Common.{arith}
 use Rattle.std.specs.Option.{option_to_list}
 use Rattle.dover_model.specs.declared.events.Task.{Task}
 use Rattle.ready_jobs.specs.Reordered.{IsReordered}
+use Rattle.ready_jobs.specs.Short.{no_number}
 use Rattle.ready_jobs.proofs.Reordering.{same_order}
 use Rattle.ready_jobs.proofs.Displacing.{one_displaced, one_fits, one_small, one_less, one_counted}
 use Rattle.ready_jobs.proofs.taking.displace.Goals as goal
@@ -50,7 +51,7 @@ add-requires-clause-room g c =
 
 pub add-requires-clause-number : goal.add-requires-clause-number
 add-requires-clause-number g c =
-    subst (λ (t : Task). t.number < 1_048_576) (sym c.in_role.ensures)
+    subst (λ (t : Task). t.number < no_number) (sym c.in_role.ensures)
     (one_small c.args.held.now.items c.loop-t.held.items c.pop.new.held.items c.in-Some.t c.args.pool.now
     c.loop-t.pool c.loop-t.pool c.loop-t.invariant.displaces
     (c.pop.ensures.items ∙ ap (λ o. c.pop.new.held.items ++ option_to_list o) c.in-Some.is))

@@ -1,4 +1,4 @@
-use Rattle.std.proofs.Common.{inl, ◌≤◌, ◌<◌, ◌∷◌, [], ◌++◌, reverse, Some, None, refl, ◌+◌, map}
+use Rattle.std.proofs.Common.{inl, ◌^◌, ◌<◌, ◌∷◌, [], ◌++◌, reverse, Some, None, refl, ◌+◌, map}
 use Rattle.std.proofs.Common.{sym, ap, ◌∙◌, subst, arith}
 use Rattle.std.specs.Prelude.{vec_capacity}
 use Rattle.std.specs.Option.{option_to_list}
@@ -36,9 +36,9 @@ hold-requires-clause-total c =
     let p = parted_of inside in
     let sound : AreSound p = subst AreSound (sym c.self.view_is) c.requires.sound in
     let runs = ap (λ (q : Parted). q.running) c.self.view_is ∙ c.requires.running in
-    let total : value_sum (c.args.r.now ∷ p.held) ≤ 10_000_000_000_000 =
-    subst (λ o. value_sum (option_to_list o ++ p.held) ≤ 10_000_000_000_000) runs sound.total in
-    subst (λ (e : Entry). inside.rooms.value + e.value ≤ 10_000_000_000_000) (sym c.entry_of.ensures)
+    let total : value_sum (c.args.r.now ∷ p.held) < 10 ^ 18 =
+    subst (λ o. value_sum (option_to_list o ++ p.held) < 10 ^ 18) runs sound.total in
+    subst (λ (e : Entry). inside.rooms.value + e.value < 10 ^ 18) (sym c.entry_of.ensures)
     (omega (
       arith,
       total,

@@ -6,13 +6,14 @@ use Rattle.ready_jobs.specs.Reordered.{IsReordered}
 use Rattle.ready_jobs.specs.Pools.{Pooled}
 use Rattle.ready_jobs.specs.Parts.{Parted, AreParts}
 use Rattle.ready_jobs.specs.Kept.{parted_of}
+use Rattle.ready_jobs.specs.Short.{no_number}
 use Rattle.ready_jobs.proofs.Keeping.{fresh_small, stayed_kept}
 use Rattle.ready_jobs.proofs.parts.Parts.stay.Goals as goal
 
 pub add-requires-clause-number : goal.add-requires-clause-number
 add-requires-clause-number g c =
     let inside = c.self.inside in
-    subst (λ (t : Task). t.number < 1_048_576) (sym c.in_role.ensures)
+    subst (λ (t : Task). t.number < no_number) (sym c.in_role.ensures)
     (fresh_small (parted_of inside) inside.rooms inside.pool (vec_capacity inside.held) c.self.invariant c.args.f.now
     (ap (λ (q : Parted). q.fresh) c.self.view_is ∙ c.requires.fresh))
 

@@ -10,6 +10,7 @@ use Rattle.ready_jobs.specs.Reordered.{IsReordered}
 use Rattle.ready_jobs.specs.Pools.{Pooled}
 use Rattle.ready_jobs.specs.Parts.{Parted, AreParts, AreSound, ready_of}
 use Rattle.ready_jobs.specs.Kept.{parted_of}
+use Rattle.ready_jobs.specs.Short.{no_number}
 use Rattle.ready_jobs.proofs.Keeping.{taken_kept, running_small, small_held, all_fit, some_busy}
 use Rattle.ready_jobs.proofs.Displacing.{taken_order, take_counted}
 use Rattle.ready_jobs.proofs.Reordering.{as_many}
@@ -37,7 +38,7 @@ pub add-requires-clause-number : goal.add-requires-clause-number
 add-requires-clause-number g c =
     let inside = c.self.inside in
     let runs = ap (λ (q : Parted). q.running) c.self.view_is ∙ c.requires.running in
-    subst (λ (t : Task). t.number < 1_048_576) (sym c.in_role.ensures)
+    subst (λ (t : Task). t.number < no_number) (sym c.in_role.ensures)
     (running_small (parted_of inside) inside.rooms inside.pool (vec_capacity inside.held) c.self.invariant
     c.args.r.now runs)
 

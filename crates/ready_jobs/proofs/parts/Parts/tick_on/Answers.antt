@@ -66,7 +66,8 @@ returns-clause-stops c silent =
     c.silent_ticks-count.ensures.done c.silent_ticks-count.ensures.start in
     let stops = jump_stops c.args.k c.args.mark n p roles it c.requires.low c.requires.stale
     (step_at c.tick.new.self.clock c.open_step.result)
-    (sym (ap (λ (q : Parted). open_step (record { ratio = c.args.k; version = q.version; finishes = [] }) (state_of q)) c.tick.ensures)
+    (sym (ap (λ (q : Parted). open_step (record { ratio = c.args.k; version = q.version; finishes = [] }) (state_of q))
+    c.tick.ensures)
     ∙ sym c.open_step.ensures.is) silent in
     (stops.0, omega (arith, stops.1, ap (λ (q : Parted). q.clock) c.tick.ensures))
 

@@ -21,8 +21,8 @@ next_place-place-requires-clause-count g c = c.self.invariant.0.count
 pub next_place-place-requires-clause-few : goal.next_place-place-requires-clause-few
 next_place-place-requires-clause-few g c = omega (arith, c.self.invariant.1.opened, c.self.invariant.1.most)
 
-pub due_item-due-requires-clause-place : goal.due_item-due-requires-clause-place
-due_item-due-requires-clause-place g c =
+pub due_item-due-requires : goal.due_item-due-requires
+due_item-due-requires g c =
     let inside = c.self.inside in
     let slots = c.next_place-place.new.slots.items in
     let room = subst (λ (q : Pooled). length q.tasks < q.room) (sym c.self.view_is) c.requires.room in
@@ -34,8 +34,8 @@ due_item-due-requires-clause-place g c =
     add_small inside.version slots c.next_place-place.new.free.items inside.by_deadline inside.by_latest
     c.next_place-place.result pool
 
-pub latest_item-latest-requires-clause-place : goal.latest_item-latest-requires-clause-place
-latest_item-latest-requires-clause-place g c =
+pub latest_item-latest-requires : goal.latest_item-latest-requires
+latest_item-latest-requires g c =
     let inside = c.self.inside in
     let slots = c.next_place-place.new.slots.items in
     let room = subst (λ (q : Pooled). length q.tasks < q.room) (sym c.self.view_is) c.requires.room in

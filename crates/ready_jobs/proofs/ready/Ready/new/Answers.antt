@@ -9,7 +9,8 @@ invariant_of-result c = (
   record { rules = record { ratio = c.args.ratio; version = c.args.version; finishes = [] }; jobs = [] },
   opening [],
   subst (λ p. Follows (course_of c.args.ratio p 0 0)
-      (record { rules = record { ratio = c.args.ratio; version = c.args.version; finishes = [] }; jobs = [] }) (opening []))
+      (record { rules = record { ratio = c.args.ratio; version = c.args.version; finishes = [] }; jobs = [] })
+      (opening []))
       (sym c.in_ok-new.ensures)
       (new_follows (record { ratio = c.args.ratio; version = c.args.version }) 0 c.p.ensures.ratio),
 )

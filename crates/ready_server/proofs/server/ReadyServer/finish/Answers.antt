@@ -1,4 +1,4 @@
-use Rattle.std.proofs.Common.{ap, refl, arith}
+use Rattle.std.proofs.Common.{ap, refl, sym, ◌∙◌, arith}
 use Rattle.ready_jobs.specs.Course.{Course}
 use Rattle.ready_server.proofs.Finishing.{late_wrong, other_wrong, clock_there, number_small, finish_given}
 use Rattle.ready_server.proofs.server.ReadyServer.finish.Goals as goal
@@ -40,3 +40,10 @@ returns-clause-paid c start now paid =
         it.1.follows.clock,
       ));
     }
+
+pub returns-clause-clock : goal.returns-clause-clock
+returns-clause-clock c =
+    let it = c.requires.rests in
+    ap (λ (d : Course). d.clock) c.finish.ensures.kept ∙ sym it.1.follows.clock
+    ∙ clock_there c.args.self.now it.0 c.args.at it.1 c.args.number c.finish.new.self
+    (c.finish.ensures.yes c.if-not-finish.false)
