@@ -46,7 +46,8 @@ held_table : table held_and_early ≡ bytes (codes "job,release,work,deadline,va
 unfolding digits
 held_table = refl
 
-anomaly_report : report anomaly ≡ bytes (codes "ratio 1 1/jobs 3/completed 2 4/abandoned 1 3/taken 0/early 1 1/bound 16/"
+anomaly_report : report anomaly ≡ bytes (codes
+    "ratio 1 1/jobs 3/completed 2 4/abandoned 1 3/taken 0/early 1 1/bound 16/"
     ++ codes "interval 1 0 1 2 0 0 0/interval 2 1 3 2 0 0 3/")
 unfolding digits
 anomaly_report = refl

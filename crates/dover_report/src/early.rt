@@ -5,14 +5,13 @@ ghost use Rattle.dover_model.specs.Instance.{Instance};
 ghost use Rattle.dover_model.specs.Limits.{last_tick};
 ghost use Rattle.dover_model.specs.Lines.{in_lines};
 ghost use Rattle.dover_model.specs.Observed as observed;
-ghost use Rattle.dover_model.specs.Session.{may_finish_early};
 ghost use Rattle.intervals.specs.Rows.{IsRunOf};
 ghost use Rattle.dover_report.specs.Early.{early_of, left_in, left_at, with_left, HasRoom};
 ghost use Rattle.dover_report.specs.Early as lines;
 
 use crate::counts::released;
 use crate::lines::put_line;
-use dover_model::{Event, Job, Memory, Version};
+use dover_model::{Event, Job, Memory};
 use room_ledger::hads;
 use std::alloc::Global;
 
@@ -48,17 +47,6 @@ impl Early {
         if left > 0 {
             self.jobs += 1;
         }
-    }
-}
-
-/// Whether jobs may finish early in this version.
-pub(crate) fn may_finish_early(version: Version) -> bool
-    ensures { result ≡ may_finish_early version }
-{
-    match version {
-        Version::One => false,
-        Version::Two => false,
-        Version::Three => true,
     }
 }
 

@@ -8,7 +8,7 @@ ghost use Rattle.dover_report.specs.Counts.{fates_lines, counts_lines};
 ghost use Rattle.dover_report.specs.Lines.{row_lines};
 
 use crate::counts::{Counts, Fates, fates_in, released};
-use crate::early::{hads_where, may_finish_early, put_early};
+use crate::early::{hads_where, put_early};
 use crate::lines::put_line;
 use dover_model::{Event, Memory, Ratio, Version};
 use intervals::{Charge, Interval};
@@ -22,7 +22,7 @@ pub fn text(alloc: Global, version: Version, k: Ratio, run: &[Event]) -> Result<
     ensures { (J : Instance) → IsRunOf k run.now J → J.rules.version ≡ version
         → IfOk result (λ text. text.items ≡ report J) }
 {
-    let early = may_finish_early(version);
+    let early = version.may_finish_early();
     let jobs = released(alloc, run)?;
     let hads = hads_where(alloc, early, run)?;
     let charge = Charge::of(alloc, k, run)?;

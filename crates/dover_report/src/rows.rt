@@ -10,7 +10,7 @@ ghost use Rattle.dover_report.specs.Rows.{CanRelease, released_rows, after_comma
 ghost use Rattle.dover_report.specs.Rows.{had_fields, names_line};
 
 use crate::counts::releases;
-use crate::early::{had_at, hads_where, may_finish_early};
+use crate::early::{had_at, hads_where};
 use crate::endings::{Ending, ending_at, endings};
 use dover_model::{Event, Job, Memory, Version};
 use itoa::Buffer;
@@ -24,7 +24,7 @@ pub fn table(alloc: Global, version: Version, run: &[Event]) -> Result<Vec<u8>, 
     ensures { (k : Fraction) (J : Instance) → IsRunOf k run.now J → J.rules.version ≡ version
         → IfOk result (λ text. text.items ≡ table J) }
 {
-    let early = may_finish_early(version);
+    let early = version.may_finish_early();
     let hads = hads_where(alloc, early, run)?;
     let places = endings(alloc, run, releases(run))?;
     let mut text = Vec::from_slice(alloc, names_line(early))?;

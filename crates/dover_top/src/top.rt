@@ -74,9 +74,9 @@ pub fn dover<P: Port, L: Ledger>(
     // Whatever the port tells, it is a status with which what these words ask for may end.
     ensures ends { (request : Request) → Asks words.now request → CanEnd (Says request) result }
 
-    // How many comparisons a call makes, at every status: for n jobs at most 80 * (n + 1) * d, where n + 1 has at most d
-    // binary digits; serve, pause and the questions for the jobs that were admitted, none before a ratio line; judge and
-    // report for the whole lines that name a job; resume and resume pause for the jobs of the snapshot and those
+    // How many comparisons a call makes, at every status: for n jobs at most 80 * (n + 1) * d, where n + 1 has at most
+    // d binary digits; serve, pause and the questions for the jobs that were admitted, none before a ratio line; judge
+    // and report for the whole lines that name a job; resume and resume pause for the jobs of the snapshot and those
     // admitted behind it together, and before its last line for those of its lines so far. lanes makes as many for each
     // lane as serving its feed alone may. unroll makes at most d * (t + 4 * n) for t tasks that release n jobs, where
     // t + 1 has at most d binary digits.

@@ -19,7 +19,6 @@ ghost use Rattle.std.specs.Prelude.{
   OnErr,
 };
 ghost use Rattle.dover_model.specs.Feed.{Account, account_of_lines, is_open};
-ghost use Rattle.dover_model.specs.Session.{may_finish_early};
 ghost use Rattle.dover_model.specs.Spending.{CostsAtMost};
 ghost use Rattle.event_feed.specs.Listing.{IsPlain};
 ghost use Rattle.event_feed.specs.Answers.{DeclaresRatio, AddsJob, AddsDone, IsFed, EndAnswers, counted, admitted_in};
@@ -83,16 +82,6 @@ pub struct Lane {
     is_open: bool,
     work: Work,
     listed: bool,
-}
-
-// Whether a job may finish early in the version.
-fn may_finish_early(version: Version) -> bool
-    ensures { result ≡ may_finish_early version }
-{
-    match version {
-        Version::One | Version::Two => false,
-        Version::Three => true,
-    }
 }
 
 impl Lane {
@@ -439,7 +428,7 @@ impl Lane {
         ensures { (ls : List (List ℕ)) → IsQuiet self.now ls → IsTrue result ↔ IsPlain (account_of_lines ls).session }
     {
         match &self.server {
-            Some(server) => !may_finish_early(server.version()),
+            Some(server) => !server.version().may_finish_early(),
             None => false,
         }
     }

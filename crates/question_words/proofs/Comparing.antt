@@ -26,7 +26,8 @@ module _ (J : Instance) (valid : IsValid J) where
 
   -- no schedule is worth more than the bound
   pub worth_low : (s : List ℕ) → worth J s ≤ bound J.rules.ratio (completed_value J)
-  worth_low s = (bound-is J.rules.ratio (completed_value J) valid.ratio completed_low).greatest (worth J s)
+  worth_low s = (bound-is J.rules.ratio (completed_value J) valid.ratio
+      (omega (arith, completed_low))).greatest (worth J s)
       ((is_within-agrees J.rules.ratio (worth J s) (completed_value J)).1 (laws.bound J s valid))
 
   -- the two schedules are within it

@@ -51,8 +51,8 @@ fn rows(
 
 /// Finds where the jobs have more work than there are ticks, and says what came of it: what all jobs are worth, the
 /// value that the run completes, what no schedule is worth more than, and the bound on what any schedule is worth; and
-/// for each stretch of ticks, what the jobs that are released and due in it are worth, what no schedule of these is worth
-/// more than, and what the run completes of them. Memory is taken for the search and for the run.
+/// for each stretch of ticks, what the jobs that are released and due in it are worth, what no schedule of these is
+/// worth more than, and what the run completes of them. Memory is taken for the search and for the run.
 pub(crate) fn answer<L: Ledger>(
     alloc: Global,
     listed: &Listed,

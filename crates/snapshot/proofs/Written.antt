@@ -27,6 +27,7 @@ pub state_written : (t : Task) → with_numbers (codes "state") (t.number ∷ []
 state_written t =
     ap (λ l. l ++ (32 ∷ (role_word t.role ++ (numbers_behind (t.had ∷ job_numbers t.job) ++ 10 ∷ []))))
     (sym (behind (codes "state") (t.number ∷ [])))
-    ∙ joined (codes "state") (decimal t.number) (role_word t.role) (numbers_behind (t.had ∷ job_numbers t.job)) (10 ∷ [])
+    ∙ joined (codes "state") (decimal t.number) (role_word t.role) (numbers_behind (t.had ∷ job_numbers t.job))
+    (10 ∷ [])
     ∙ ap (λ l. (codes "state" ++ (32 ∷ (decimal t.number ++ (32 ∷ l)))) ++ 10 ∷ [])
     (behind (role_word t.role) (t.had ∷ job_numbers t.job))

@@ -440,7 +440,7 @@ impl Reader {
     {
         // What is kept of the lines is known where a field is read.
         let _ = &self.stage;
-        if !may_finish_early(self.course.version()) {
+        if !self.course.version().may_finish_early() {
             return false;
         }
         if at > LAST_TICK {
@@ -493,7 +493,7 @@ impl Reader {
             → self.now.items < most_items → (jobs : List JobFacts) → StandsFor self.now.kept jobs →
             refusal_at (rules_kept self.now) jobs at (job_of_numbers release work deadline value) ≡ Some cause → ⊥ }
     {
-        if !refuses_lines(self.course.version()) {
+        if !self.course.version().refuses_lines() {
             return false;
         }
         if at > LAST_TICK {
@@ -550,7 +550,7 @@ impl Reader {
         ensures no { result ≡ false → may_finish_early self.now.course.rules.version ≡ true → at ≤ last_tick →
             tick ≤ at → self.now.items < most_items → ⊥ }
     {
-        if !may_finish_early(self.course.version()) {
+        if !self.course.version().may_finish_early() {
             return false;
         }
         if at > LAST_TICK {
@@ -704,27 +704,6 @@ impl Reader {
             Ok(read) => self.take_read(&read, steps),
             Err(_) => Ok(false),
         }
-    }
-}
-
-// Jobs may finish early.
-#[inline(always)]
-fn may_finish_early(version: Version) -> bool
-    ensures { result ≡ may_finish_early version }
-{
-    match version {
-        Version::One | Version::Two => false,
-        Version::Three => true,
-    }
-}
-
-// A job line that isn't admitted is refused alone.
-fn refuses_lines(version: Version) -> bool
-    ensures { result ≡ refuses_lines version }
-{
-    match version {
-        Version::One => false,
-        Version::Two | Version::Three => true,
     }
 }
 
