@@ -8,7 +8,8 @@ use Rattle.dover_model.specs.declared.events.Task.{Task}
 use Rattle.dover_model.specs.declared.events.Version.{Version}
 use Rattle.dover_model.specs.Fraction.{Fraction}
 use Rattle.dover_model.specs.JobFacts.{JobFacts}
-use Rattle.dover_model.specs.Instance.{Instance, IsValid, with_jobs}
+use Rattle.dover_model.specs.Instance.{Instance, IsValid, with_jobs, with_finishes}
+use Rattle.dover_model.specs.Finishes.{Finish}
 use Rattle.dover_model.specs.Admission.{refusal_of}
 use Rattle.dover_model.specs.Step.{Prints}
 use Rattle.dover_model.specs.Run.{is_end}
@@ -95,6 +96,24 @@ module _ (v : Life) (J : Instance) (events : List Event) (g : GaveSince v J even
     unended = (serves.given.0, no_end);
     known = g.known;
   }
+
+-- ---- an early finish
+
+-- what was given stays, and the completion is to come
+pub finish_gave : (v : Life) (J : Instance) (events : List Event) (g : GaveSince v J events) (at : ℕ)
+    → IsReadyFor v at → (s : ReadyServer) (f : Finish) (e : Event)
+    → Serves s (with_finishes J (f ∷ [])) (Mark at) (settled J at ++ e ∷ []) → is_end (Prints e) ≡ false
+    → GaveSince (life_with s v.admission v.last false (Some e) v.forgotten v.earned) (with_finishes J (f ∷ [])) events
+finish_gave v J events g at ready s f e serves no_end = record {
+  admission = g.admission;
+  ratio = g.ratio;
+  serves = subst (λ es. Serves s (with_finishes J (f ∷ [])) v.last (es ++ e ∷ []))
+      (sym ((g.settled ready.0).all ∙ ap (due_by J) ready.1))
+      (subst (λ to. Serves s (with_finishes J (f ∷ [])) to (settled J at ++ e ∷ [])) (sym ready.1) serves);
+  settled = λ i. absurd (let clash : false ≡ true = i in cc);
+  unended = (serves.given.0, no_end);
+  known = g.known;
+}
 
 -- ---- a step
 

@@ -1,59 +1,80 @@
 -- Over all calls of an engine's life, what it gave is the run of all jobs that were ever admitted.
 use Rattle.std.proofs.Common.{◌≡◌, ℕ, ◌+◌, ◌≤◌, List, [], ◌∷◌, ◌++◌, length, map, refl, sym, ap, ◌∙◌, subst, arith}
-use Rattle.std.proofs.Common.{Bool, true, false, cond, append-nil, append_assoc, length-append, inl, inr}
-use Rattle.std.specs.Prelude.{None, not}
-use Rattle.std.specs.List.{AllByRecursion, cons_option, enumerate_from}
+use Rattle.std.proofs.Common.{true, false, append-nil, append_assoc, length-append}
+use Rattle.std.specs.Prelude.{Option, None, Some, IfSome}
+use Rattle.std.specs.List.{enumerate_from}
 use Rattle.std.proofs.lemmas.List.{map-append}
 use Rattle.dover_model.specs.declared.events.Version.{Version}
 use Rattle.dover_model.specs.declared.events.Event.{Event}
 use Rattle.dover_model.specs.declared.events.Event.TheVariants as events
 use Rattle.dover_model.specs.Fraction.{Fraction}
 use Rattle.dover_model.specs.JobFacts.{JobFacts}
-use Rattle.dover_model.specs.Instance.{Rules, Instance, IsValid, with_jobs, total_value}
-use Rattle.dover_model.specs.Step.{Move, Prints, Waits, Ticks}
-use Rattle.dover_model.specs.Run.{Step, run, printed, printed_of, event_of, completed_value}
+use Rattle.dover_model.specs.Instance.{Rules, Instance, bare, having, with_jobs, with_finishes, total_value}
+use Rattle.dover_model.specs.Step.{Prints}
+use Rattle.dover_model.specs.Run.{printed, completed_value}
 use Rattle.dover_model.specs.Settled.{settled}
 use Rattle.dover_model.specs.Schedules.{Meets, worth}
 use Rattle.dover_model.specs.Bound.{IsWithin}
 use Rattle.dover_model.specs.Sound.{Each}
-use Rattle.dover_model.specs.Rest.{Turn, TurnsEnd, behind, behind_finish, names_end, before_end, in_turn}
-use Rattle.dover_model.specs.Rest.{printed_in_turn, IsInTurn, end_tick, turn_under, turns_finishes, turns_jobs}
-use Rattle.dover_model.specs.Rest as rest
+use Rattle.dover_model.specs.Rest.{Turn, TurnsEnd, end_tick, one_run, turn_under, turns_jobs}
 use Rattle.dover_model.specs.Finishes.{Finish}
+use Rattle.dover_model.specs.Observed.{observed}
 use Rattle.dover_model.specs.Underload.{takes_or_abandons}
 use Rattle.dover_model.specs.WholeRun.{Begins}
-use Rattle.dover_model.proofs.Apart.{runs_in_turn, value_in_turn}
-use Rattle.dover_model.proofs.Parting.{none_lost_in_turn, all_value_in_turn}
+use Rattle.dover_model.proofs.InTurns.{declared_within, observed_within}
+use Rattle.dover_model.proofs.Members.{member_front}
 use Rattle.dover_model.proofs.RestTick.{rests_from}
-use Rattle.dover_model.proofs.TurnSchedules.{turn_valid, honest_in_turn, within_in_turn}
+use Rattle.dover_model.proofs.TurnSchedules.{one_run_honest, one_run_plain}
 use Rattle.dover_model.proofs.TurnsGrowing.{ends_behind}
+use Rattle.dover_model.proofs.TurnsLosing.{one_run_loses_none, one_run_earns_all}
 use Rattle.dover_model.proofs.Runs.{last_value, value_last}
+use Rattle.dover_model.specs.declared.horizon.Horizon.{Horizon}
 use Rattle.dover_model.specs.declared.horizon.Horizon.TheVariants.{Mark}
 use Rattle.dover_model.specs.Horizons.{no_jobs}
-use Rattle.dover_engine.specs.Decisions.{events_in}
+use Rattle.dover_engine.specs.declared.decision.Decision.{Decision}
+use Rattle.dover_engine.specs.Decisions.{event_in, events_in}
 use Rattle.dover_engine.specs.Life.{Life, done_value, has_ended, IsAtRest}
 use Rattle.dover_engine.specs.Given.{Gave}
 use Rattle.dover_engine.proofs.Lives.{ended_given, rest_gave, given_begins, jobs_given, turn}
-use Rattle.dover_engine.specs.Calls.{Call, Admitted, Stepped, Leads, LeadsAll, Lives, admitted, jobs_in, all_jobs}
-use Rattle.dover_engine.specs.Calls.{decided}
+use Rattle.dover_engine.specs.Calls.{Call, Admitted, Done, Stepped, Leads, LeadsAll, Lives, admitted, jobs_in}
+use Rattle.dover_engine.specs.Calls.{finishes_in, all_jobs, decided}
 
 -- ---- what is given
 
+-- the instance with the jobs and the finishes of these calls
+abbrev with_calls : Instance → List Call → Instance
+with_calls J calls = with_finishes (with_jobs J (jobs_in calls)) (finishes_in calls)
+
 -- by one call
 leads_gave : (call : Call) (v w : Life) → Leads call v w → (J : Instance) (es : List Event) → Gave v J es
-    → Gave w (with_jobs J (jobs_in (call ∷ []))) (es ++ decided (call ∷ []))
+    → Gave w (with_calls J (call ∷ [])) (es ++ decided (call ∷ []))
 leads_gave (Admitted job number) v w it J es gave =
-    subst (Gave w (with_jobs J (job ∷ []))) (sym (append-nil es)) (it.gave J es gave)
-leads_gave (Stepped to answer) v w it J es gave =
-    subst (λ js. Gave w (record { rules = J.rules; jobs = js }) (es ++ (events_in answer ++ [])))
+    subst (λ fs. Gave w (record { rules = having J.rules fs; jobs = J.jobs ++ job ∷ [] }) (es ++ []))
+    (sym (append-nil J.rules.finishes))
+    (subst (Gave w (with_jobs J (job ∷ []))) (sym (append-nil es)) (it.gave J es gave))
+leads_gave (Done at f) v w it J es gave =
+    subst (λ js. Gave w (record { rules = having J.rules (J.rules.finishes ++ f ∷ []); jobs = js }) (es ++ []))
     (sym (append-nil J.jobs))
-    (subst (λ fs. Gave w J (es ++ fs)) (sym (append-nil (events_in answer))) (it.1.gave J es gave))
+    (subst (Gave w (with_finishes J (f ∷ []))) (sym (append-nil es)) (it.gave J es gave))
+leads_gave (Stepped to answer) v w it J es gave =
+    subst (λ fs. Gave w (record { rules = having J.rules fs; jobs = J.jobs ++ [] }) (es ++ (events_in answer ++ [])))
+    (sym (append-nil J.rules.finishes))
+    (subst (λ js. Gave w (record { rules = J.rules; jobs = js }) (es ++ (events_in answer ++ [])))
+    (sym (append-nil J.jobs))
+    (subst (λ fs. Gave w J (es ++ fs)) (sym (append-nil (events_in answer))) (it.1.gave J es gave)))
 
 -- two lists of calls
 pub admitted_append : (calls more : List Call) → admitted (calls ++ more) ≡ admitted calls ++ admitted more
 admitted_append [] more = refl
 admitted_append (Admitted job number ∷ calls) more = ap (λ js. (number, job) ∷ js) (admitted_append calls more)
+admitted_append (Done at f ∷ calls) more = admitted_append calls more
 admitted_append (Stepped to answer ∷ calls) more = admitted_append calls more
+
+pub finishes_append : (calls more : List Call) → finishes_in (calls ++ more) ≡ finishes_in calls ++ finishes_in more
+finishes_append [] more = refl
+finishes_append (Admitted job number ∷ calls) more = finishes_append calls more
+finishes_append (Done at f ∷ calls) more = ap (λ fs. f ∷ fs) (finishes_append calls more)
+finishes_append (Stepped to answer ∷ calls) more = finishes_append calls more
 
 jobs_append_calls : (calls more : List Call) → jobs_in (calls ++ more) ≡ jobs_in calls ++ jobs_in more
 jobs_append_calls calls more = ap (map (λ (n_j : ℕ × JobFacts). n_j.1)) (admitted_append calls more)
@@ -62,22 +83,34 @@ jobs_append_calls calls more = ap (map (λ (n_j : ℕ × JobFacts). n_j.1)) (adm
 pub decided_append : (calls more : List Call) → decided (calls ++ more) ≡ decided calls ++ decided more
 decided_append [] more = refl
 decided_append (Admitted job number ∷ calls) more = decided_append calls more
+decided_append (Done at f ∷ calls) more = decided_append calls more
 decided_append (Stepped to answer ∷ calls) more = ap (λ es. events_in answer ++ es) (decided_append calls more)
     ∙ sym (append_assoc (events_in answer) (decided calls) (decided more))
 
+-- the jobs and finishes of two lists of calls
+calls_append : (J : Instance) (calls more : List Call)
+    → with_calls (with_calls J calls) more ≡ with_calls J (calls ++ more)
+calls_append J calls more =
+    ap (λ fs. record { rules = having J.rules fs; jobs = (J.jobs ++ jobs_in calls) ++ jobs_in more })
+    (append_assoc J.rules.finishes (finishes_in calls) (finishes_in more)
+    ∙ ap (λ fs. J.rules.finishes ++ fs) (sym (finishes_append calls more)))
+    ∙ ap (λ js. record { rules = having J.rules (J.rules.finishes ++ finishes_in (calls ++ more)); jobs = js })
+    (append_assoc J.jobs (jobs_in calls) (jobs_in more)
+    ∙ ap (λ js. J.jobs ++ js) (sym (jobs_append_calls calls more)))
+
 -- by many
 all_gave : (calls : List Call) (v w : Life) → LeadsAll calls v w → (J : Instance) (es : List Event) → Gave v J es
-    → Gave w (with_jobs J (jobs_in calls)) (es ++ decided calls)
+    → Gave w (with_calls J calls) (es ++ decided calls)
 all_gave [] v w here J es gave =
-    subst (λ js. Gave w (record { rules = J.rules; jobs = js }) (es ++ [])) (sym (append-nil J.jobs))
-    (subst (Gave w J) (sym (append-nil es)) (subst (λ u. Gave u J es) (sym here) gave))
+    subst (λ fs. Gave w (record { rules = having J.rules fs; jobs = J.jobs ++ [] }) (es ++ []))
+    (sym (append-nil J.rules.finishes))
+    (subst (λ js. Gave w (record { rules = J.rules; jobs = js }) (es ++ [])) (sym (append-nil J.jobs))
+    (subst (Gave w J) (sym (append-nil es)) (subst (λ u. Gave u J es) (sym here) gave)))
 all_gave (call ∷ calls) v w it J es gave =
-    let rest = all_gave calls it.0 w it.2 (with_jobs J (jobs_in (call ∷ []))) (es ++ decided (call ∷ []))
+    let rest = all_gave calls it.0 w it.2 (with_calls J (call ∷ [])) (es ++ decided (call ∷ []))
     (leads_gave call v it.0 it.1 J es gave) in
-    subst (λ js. Gave w (record { rules = J.rules; jobs = js }) (es ++ decided (call ∷ calls)))
-    (append_assoc J.jobs (jobs_in (call ∷ [])) (jobs_in calls)
-    ∙ ap (λ js. J.jobs ++ js) (sym (jobs_append_calls (call ∷ []) calls)))
-    (subst (Gave w (with_jobs (with_jobs J (jobs_in (call ∷ []))) (jobs_in calls)))
+    subst (λ I. Gave w I (es ++ decided (call ∷ calls))) (calls_append J (call ∷ []) calls)
+    (subst (Gave w (with_calls (with_calls J (call ∷ [])) calls))
     (append_assoc es (decided (call ∷ [])) (decided calls)
     ∙ ap (λ fs. es ++ fs) (sym (decided_append (call ∷ []) calls))) rest)
 
@@ -99,115 +132,10 @@ next_numbers (Admitted job number ∷ calls) v w it J es gave n counts =
     ))
     ∙ ap (λ js. (n, job) ∷ js) (next_numbers calls it.0 w it.2 (with_jobs J (job ∷ [])) es
     (it.1.gave J es gave) (n + 1) (omega (arith, counts, length-append J.jobs (job ∷ []))))
+next_numbers (Done at f ∷ calls) v w it J es gave n counts =
+    next_numbers calls it.0 w it.2 (with_finishes J (f ∷ [])) es (it.1.gave J es gave) n counts
 next_numbers (Stepped to answer ∷ calls) v w it J es gave n counts =
     next_numbers calls it.0 w it.2 J (es ++ events_in answer) (it.1.1.gave J es gave) n counts
-
--- ---- no take and no abandonment
-
--- none of the events is a take or an abandonment
-abbrev LoseNone : List Event → Type 0
-LoseNone es = AllByRecursion (λ e. takes_or_abandons (Prints e) ≡ false) es
-
-none_both : (es fs : List Event) → LoseNone es → LoseNone fs → LoseNone (es ++ fs)
-none_both [] fs one other = other
-none_both (e ∷ es) fs one other = (one.0, none_both es fs one.1 other)
-
-none_behind : (n value : ℕ) (es : List Event) → LoseNone es → LoseNone (map (behind n value) es)
-none_behind n value [] all = tt
-none_behind n value (e ∷ es) all = (one e all.0, none_behind n value es all.1) where
-  one : (e : Event) → takes_or_abandons (Prints e) ≡ false → takes_or_abandons (Prints (behind n value e)) ≡ false
-  one (events.Release m job) none = refl
-  one (events.Run at m) none = refl
-  one (events.Preempt at stops starts) none = refl
-  one (events.Take at stops starts) none = none
-  one (events.Complete at m) none = refl
-  one (events.Abandon at m) none = none
-  one (events.End more) none = refl
-
-none_before_end : (es : List Event) → LoseNone es → LoseNone (before_end es)
-none_before_end [] all = tt
-none_before_end (e ∷ es) all = by (not (names_end e)) (none_before_end es all.1) where
-  by : (b : Bool) → LoseNone (before_end es) → LoseNone (cond b (e ∷ before_end es) (before_end es))
-  by true rest = (all.0, rest)
-  by false rest = rest
-
-none_front : (es fs : List Event) → LoseNone (es ++ fs) → LoseNone es
-none_front [] fs all = tt
-none_front (e ∷ es) fs all = (all.0, none_front es fs all.1)
-
-each_none : (es : List Event) → LoseNone es → Each (λ e. takes_or_abandons (Prints e) ≡ false) es
-each_none [] all e member = absurd member
-each_none (f ∷ es) all e (inl same) = subst (λ g. takes_or_abandons (Prints g) ≡ false) (sym same) all.0
-each_none (f ∷ es) all e (inr member) = each_none es all.1 e member
-
-none_printed : (xs : List Step) → Each (λ x. takes_or_abandons x.move ≡ false) xs → LoseNone (printed_of xs)
-none_printed [] each = tt
-none_printed (x ∷ xs) each =
-    by x.move (each x (inl refl)) (none_printed xs (λ y member. each y (inr member))) where
-      by : (m : Move) → takes_or_abandons m ≡ false → LoseNone (printed_of xs)
-          → LoseNone (cons_option (event_of m) (printed_of xs))
-      by (Prints e) none rest = (none, rest)
-      by (Waits n) none rest = rest
-      by Ticks none rest = rest
-
--- ---- runs
-
-module _ (rules : Rules) where
-  abbrev of_rules : List JobFacts → Instance
-  of_rules jobs = record { rules = rules; jobs = jobs }
-
-  -- no step of its run is one
-  abbrev IsUnlost : List JobFacts → Type 0
-  IsUnlost jobs = Each (λ x. takes_or_abandons x.move ≡ false) (run (of_rules jobs))
-
-  none_in_turn : (lists : List (List JobFacts)) → Each IsUnlost lists → LoseNone (printed_in_turn rules lists)
-  none_in_turn [] each = (refl, tt)
-  none_in_turn (jobs ∷ lists) each = none_both _ _
-      (none_before_end (printed (of_rules jobs)) (none_printed (run (of_rules jobs)) (each jobs (inl refl))))
-      (none_behind _ _ (printed_in_turn rules lists) (none_in_turn lists (λ js member. each js (inr member))))
-
--- ---- turns in which no job finishes early
-
--- their jobs
-abbrev lists_of : List Turn → List (List JobFacts)
-lists_of turns = map (λ (turn : Turn). turn.jobs) turns
-
-lists_jobs : (turns : List Turn) → in_turn (lists_of turns) ≡ turns_jobs turns
-lists_jobs [] = refl
-lists_jobs (turn ∷ turns) = ap (λ js. turn.jobs ++ js) (lists_jobs turns)
-
--- of two lists that are none together each is none
-none_of_both : (fs gs : List Finish) → fs ++ gs ≡ [] → (fs ≡ []) × (gs ≡ [])
-none_of_both [] gs none = (refl, none)
-none_of_both (f ∷ fs) gs none = absurd (cc)
-
-none_renumbered : (n : ℕ) (fs : List Finish) → map (behind_finish n) fs ≡ [] → fs ≡ []
-none_renumbered n [] none = refl
-none_renumbered n (f ∷ fs) none = absurd (cc)
-
--- they are lists in turn
-plain_turns : (version : Version) (k : Fraction) (turns : List Turn) (from last : ℕ) → turns_finishes turns ≡ []
-    → TurnsEnd (record { ratio = k; version = version; finishes = [] }) from turns last
-    → IsInTurn (record { ratio = k; version = version; finishes = [] }) from (lists_of turns)
-plain_turns version k [] from last none ends = tt
-plain_turns version k (turn ∷ turns) from last none ends =
-    let parts = none_of_both turn.finishes (map (behind_finish (length turn.jobs)) (turns_finishes turns)) none in (
-      subst (λ (fs : List Finish). IsValid (record {
-        rules = record { ratio = k; version = version; finishes = fs };
-        jobs = turn.jobs;
-      })) parts.0 ends.0.0,
-      ends.0.2,
-      (
-        ends.1.0,
-        ends.1.1,
-        subst (λ (fs : List Finish). rest.IsAtRest (record {
-          rules = record { ratio = k; version = version; finishes = fs };
-          jobs = turn.jobs;
-        }) ends.1.0) parts.0 ends.1.2,
-        plain_turns version k turns ends.1.0 last
-            (none_renumbered (length turn.jobs) (turns_finishes turns) parts.1) ends.1.3,
-      ),
-    )
 
 -- ---- a life
 
@@ -235,8 +163,15 @@ module _ (version : Version) (k : Fraction) where
       let front : Lives version k calls parts.0 = record { made = life.made; fresh = life.fresh; lives = parts.1 } in
       parts.2.1.1.prompt (all_jobs version k calls) (decided calls) (stood calls parts.0 front)
 
-  abbrev the_rules : Rules
-  the_rules = record { ratio = k; version = version; finishes = [] }
+  -- behind a job that is done, its completion is given
+  pub done_all : (calls : List Call) (at : ℕ) (f : Finish) (to : Horizon) (answer : Option Decision) (w : Life)
+      → Lives version k (calls ++ (Done at f ∷ Stepped to answer ∷ [])) w
+      → event_in answer ≡ Some (events.Complete at f.number)
+  done_all calls at f to answer w life =
+      let parts = part calls (Done at f ∷ Stepped to answer ∷ []) life.made w life.lives in
+      let done = parts.2.1 in
+      let stepped = parts.2.2.1.1 in
+      subst (λ o. IfSome o (λ e. event_in answer ≡ Some e)) done.next stepped.comes
 
   module _ (calls : List Call) (w : Life) (life : Lives version k calls w) where
     abbrev J : Instance
@@ -258,51 +193,49 @@ module _ (version : Version) (k : Fraction) where
     begins_all = given_begins w J (decided calls) it
 
     -- the jobs between moments of rest
-    abbrev all_turns : List Turn
-    all_turns = it.turns ++ (it.since ∷ [])
+    abbrev turns : List Turn
+    turns = it.turns ++ (it.since ∷ [])
 
-    abbrev turns : List (List JobFacts)
-    turns = lists_of all_turns
+    abbrev rules : Rules
+    rules = bare J.rules
 
-    turns_jobs_all : in_turn turns ≡ jobs_in calls
-    turns_jobs_all = lists_jobs all_turns ∙ ap (λ (I : Instance). I.jobs) (sym it.all)
+    abbrev rest : ℕ
+    rest = it.tick + end_tick (turn_under rules it.since)
 
-    in_turns : IsInTurn the_rules 0 turns
-    in_turns =
-        let K : Instance = turn_under the_rules it.since in
-        let rest : ℕ = it.tick + end_tick K in
-        plain_turns version k all_turns 0 rest (ap (λ (I : Instance). I.rules.finishes) (sym it.all))
-        (ends_behind the_rules it.turns it.since 0 it.tick rest it.over (turn w J (decided calls) it) (omega arith)
-        (rests_from K it.gave.serves.follows.valid rest (omega arith)))
+    ends : TurnsEnd rules 0 turns rest
+    ends = ends_behind rules it.turns it.since 0 it.tick rest it.over (turn w J (decided calls) it) (omega arith)
+        (rests_from (turn_under rules it.since) it.gave.serves.follows.valid rest (omega arith))
 
-    all_are : of_rules the_rules (in_turn turns) ≡ J
-    all_are = ap (of_rules the_rules) turns_jobs_all
+    -- what is so of the one run of all turns is so of all jobs
+    of_all : (P : Instance → Type 0) → P (one_run rules turns) → P J
+    of_all P so = subst P (sym it.all) so
 
     pub within_all : (s : List ℕ) → IsWithin k (worth J s) (completed_value J)
-    within_all s = subst (λ (I : Instance). IsWithin I.rules.ratio (worth I s) (completed_value I)) all_are
-        (within_in_turn the_rules refl turns s in_turns)
+    within_all s = of_all (λ I. IsWithin k (worth I s) (completed_value I)) (declared_within rules turns rest s ends)
 
-    pub honest_all : (s : List ℕ) × (completed_value J ≤ worth J s)
-    honest_all = let found = honest_in_turn the_rules refl turns 0 in_turns in (
-      found.0,
-      subst (λ (I : Instance). completed_value I ≤ worth I found.0) all_are
-          (omega (arith, found.1, value_in_turn the_rules refl turns in_turns)),
-    )
+    pub observed_within_all : (s : List ℕ) → IsWithin k (worth (observed J) s) (completed_value J)
+    observed_within_all s = of_all (λ I. IsWithin k (worth (observed I) s) (completed_value I))
+        (observed_within rules turns rest s ends)
+
+    pub as_declared_all : finishes_in calls ≡ [] → observed J ≡ J
+    as_declared_all none = of_all (λ I. observed I ≡ I) (one_run_plain rules turns rest ends
+        (sym (ap (λ (I : Instance). I.rules.finishes) it.all) ∙ none))
+
+    pub honest_all : (s : List ℕ) × (completed_value J ≤ worth (observed J) s)
+    honest_all = of_all (λ I. (s : List ℕ) × (completed_value I ≤ worth (observed I) s))
+        (one_run_honest rules turns rest ends)
 
     pub underload_all : Meets J → completed_value J ≡ total_value (jobs_in calls)
-    underload_all meets = ap completed_value (sym all_are) ∙ value_in_turn the_rules refl turns in_turns
-        ∙ all_value_in_turn the_rules turns (turn_valid the_rules refl turns 0 in_turns)
-        (subst Meets (sym all_are) meets)
-        ∙ ap total_value turns_jobs_all
+    underload_all = of_all (λ I. Meets I → completed_value I ≡ total_value I.jobs)
+        (one_run_earns_all rules turns rest ends)
 
     pub none_lost_all : Meets J → Each (λ e. takes_or_abandons (Prints e) ≡ false) (decided calls)
     none_lost_all meets =
-        let unlost : Each (IsUnlost the_rules) turns = none_lost_in_turn the_rules turns
-        (turn_valid the_rules refl turns 0 in_turns) (subst Meets (sym all_are) meets) in
-        let all : LoseNone (printed J) =
-        subst LoseNone (sym (runs_in_turn the_rules refl turns in_turns) ∙ ap printed all_are)
-        (none_in_turn the_rules turns unlost) in
-        each_none (decided calls) (none_front (decided calls) begins_all.0 (subst LoseNone begins_all.1 all))
+        let all : Each (λ e. takes_or_abandons (Prints e) ≡ false) (printed J) =
+        of_all (λ I. Meets I → Each (λ e. takes_or_abandons (Prints e) ≡ false) (printed I))
+        (one_run_loses_none rules turns rest ends) meets in
+        λ e member. subst (Each (λ d. takes_or_abandons (Prints d) ≡ false)) begins_all.1 all e
+        (member_front (decided calls) begins_all.0 e member)
 
   pub online_all : (calls more : List Call) (w : Life) → Lives version k (calls ++ more) w → has_ended w ≡ true
       → (later : List Event) × (printed (all_jobs version k (calls ++ more)) ≡ decided calls ++ later)

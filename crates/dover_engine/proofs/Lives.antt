@@ -1,9 +1,9 @@
 -- What an engine gives of all jobs that were ever admitted, call by call.
 use Rattle.std.proofs.Common.{◌≡◌, ℕ, ◌+◌, ◌*◌, ◌≤◌, ◌<◌, ◌^◌, List, [], ◌∷◌, ◌++◌, length, map, refl, sym, ap, ◌∙◌}
 use Rattle.std.proofs.Common.{subst, arith, inl, inr, Bool, true, false, append-nil, append_assoc, length-append}
-use Rattle.std.specs.Prelude.{Option, Some, None, IsNone, is_some, option_to_list, drop}
+use Rattle.std.specs.Prelude.{Option, Some, None, IsNone, IfSome, is_some, option_to_list, drop}
 use Rattle.std.specs.Option.{option_map}
-use Rattle.std.specs.List.{filter}
+use Rattle.std.specs.List.{filter, fold}
 use Rattle.std.proofs.lemmas.List.{map-append, drop_at}
 use Rattle.std.proofs.lemmas.Nat.{mul-le}
 use Rattle.dover_model.specs.declared.events.Event.{Event}
@@ -16,12 +16,20 @@ use Rattle.dover_model.specs.declared.events.Version.{Version}
 use Rattle.dover_model.specs.Fraction.{Fraction}
 use Rattle.dover_model.specs.JobFacts.{JobFacts}
 use Rattle.dover_model.specs.Limits.{most_jobs}
-use Rattle.dover_model.specs.Instance.{Rules, Instance, IsValid, bare, having, with_jobs}
+use Rattle.dover_model.specs.Instance.{Rules, Instance, IsValid, bare, having, with_jobs, with_finishes}
 use Rattle.dover_model.specs.Run.{is_end, printed}
-use Rattle.dover_model.specs.Settled.{settled, tick_of_event}
+use Rattle.dover_model.specs.Settled.{settled, tick_of_event, last_of}
+use Rattle.dover_model.specs.Session.{EarlyFinish, finish_at, may_finish_early}
+use Rattle.dover_model.specs.Finishes.{Finish}
+use Rattle.dover_model.specs.Processor.{runner_of, runner_after}
+use Rattle.dover_model.proofs.LastSteps.{last_from}
+use Rattle.dover_model.proofs.Processors.{finish_prints, late_prints, runner_behind, runner_behind_turns}
+use Rattle.dover_model.proofs.RightFinishes.{finish_says}
+use Rattle.std.proofs.lemmas.List.Sums.{fold-append}
 use Rattle.dover_model.specs.Step.{Prints}
 use Rattle.dover_model.specs.WholeRun.{Begins}
-use Rattle.dover_model.specs.Rest.{IsTurn, NoneBefore, Turn, behind, before_end, completed_turns, instead_with}
+use Rattle.dover_model.specs.Rest.{IsTurn, NoneBefore, Turn, behind, behind_finish, before_end, completed_turns}
+use Rattle.dover_model.specs.Rest.{instead_with}
 use Rattle.dover_model.specs.Rest.{one_run, turn_under, turns_finishes, turns_jobs}
 use Rattle.dover_model.proofs.Apart.{behind_last, end_at_rest}
 use Rattle.dover_model.proofs.InTurns.{one_run_prints, settled_of_last}
@@ -39,16 +47,19 @@ use Rattle.dover_model.specs.Spending.{waits_among}
 use Rattle.ready_jobs.specs.Spending.{wait_again_by}
 use Rattle.ready_jobs.proofs.Courses.{follows_count}
 use Rattle.ready_server.specs.NextStep.{ComesAt}
-use Rattle.ready_server.specs.Serving.{Serves, Rests}
+use Rattle.ready_server.specs.Serving.{Serves, Rests, Finishes}
 use Rattle.ready_server.specs.declared.server.ReadyServer.{ReadyServer}
 use Rattle.dover_engine.specs.declared.decision.Decision.{Decision}
 use Rattle.dover_engine.specs.Decisions.{event_in}
 use Rattle.dover_engine.specs.Life.{life_with, Life, IsReadyFor, IsAtRest, HasPaid, CostsOnce, done_value, has_ended}
-use Rattle.dover_engine.specs.Life.{clock_of}
+use Rattle.dover_engine.specs.Life.{clock_of, spare_of}
+use Rattle.dover_model.proofs.Members.{some_same}
 use Rattle.dover_model.proofs.Tests.{never}
 use Rattle.dover_engine.specs.Given.{GaveSince, Gave, IsSince, IsPrompt}
 use Rattle.dover_engine.specs.Calls.{since_rest, HasCause, IsBreaker, IsCause, cause_behind, IsDueAt}
-use Rattle.dover_engine.proofs.Giving.{fresh_gave, rests_now}
+use Rattle.dover_engine.specs.Calls.{Holds, HasProcessor, HasNoProcessor, MayBeDone, IsDone}
+use Rattle.ready_server.proofs.Finishing.{one_finish}
+use Rattle.dover_engine.proofs.Giving.{fresh_gave, rests_now, finish_gave}
 use Rattle.dover_engine.proofs.Since as since
 
 -- ---- the beginning
@@ -92,6 +103,25 @@ one_with_job rules turns turn job =
     ∙ sym (jobs_behind turns (with_job turn job)))
     ∙ ap (λ fs. record { rules = having rules fs; jobs = turns_jobs (turns ++ with_job turn job ∷ []) })
     (finishes_behind turns turn ∙ sym (finishes_behind turns (with_job turn job)))
+
+-- a finish more in the last turn
+abbrev with_finish : Turn → Finish → Turn
+with_finish turn f = record { jobs = turn.jobs; finishes = turn.finishes ++ f ∷ [] }
+
+-- is one more of all
+one_with_finish : (rules : Rules) (turns : List Turn) (turn : Turn) (f : Finish)
+    → with_finishes (one_run rules (turns ++ turn ∷ [])) (behind_finish (length (turns_jobs turns)) f ∷ [])
+    ≡ one_run rules (turns ++ with_finish turn f ∷ [])
+one_with_finish rules turns turn f =
+    ap (λ js. record { rules = having rules (turns_finishes (turns ++ turn ∷ []) ++ number f ∷ []); jobs = js })
+    (jobs_behind turns turn ∙ sym (jobs_behind turns (with_finish turn f)))
+    ∙ ap (λ fs. record { rules = having rules fs; jobs = turns_jobs (turns ++ with_finish turn f ∷ []) })
+    (ap (λ fs. fs ++ number f ∷ []) (finishes_behind turns turn)
+    ∙ append_assoc (turns_finishes turns) (map number turn.finishes) (number f ∷ [])
+    ∙ ap (λ fs. turns_finishes turns ++ fs) (sym (map-append number turn.finishes (f ∷ [])))
+    ∙ sym (finishes_behind turns (with_finish turn f))) where
+      number : Finish → Finish
+      number = behind_finish (length (turns_jobs turns))
 
 -- and a turn of none leaves all
 one_with_none : (rules : Rules) (turns : List Turn) → one_run rules (turns ++ no_turn ∷ []) ≡ one_run rules turns
@@ -161,6 +191,12 @@ tick_behind n value (events.Complete at m) = refl
 tick_behind n value (events.Abandon at m) = refl
 tick_behind n value (events.End more) = refl
 
+last_behind : (n value tick : ℕ) (es : List Event)
+    → last_from tick (map (behind n value) es) ≡ last_from tick es
+last_behind n value tick [] = refl
+last_behind n value tick (e ∷ es) = ap (λ t. last_from t (map (behind n value) es)) (tick_behind n value e)
+    ∙ last_behind n value (tick_of_event e) es
+
 end_stays : (n value : ℕ) (e : Event) → is_end (Prints (behind n value e)) ≡ is_end (Prints e)
 end_stays n value (events.Release m job) = refl
 end_stays n value (events.Run at m) = refl
@@ -193,6 +229,61 @@ module _ (v : Life) (J : Instance) (es : List Event) (g : Gave v J es) where
     gave = gave;
     all_events = g.all_events;
   }
+
+  -- ---- an early finish
+
+  -- what was given stays with a finish more
+  pub done_gave : (s : ReadyServer) (f : Finish) (e : Event)
+      → GaveSince (life_with s v.admission v.last false (Some e) v.forgotten v.earned) (with_finishes K (f ∷ [])) g.told
+      → Gave (life_with s v.admission v.last false (Some e) v.forgotten v.earned)
+      (with_finishes J (behind_finish v.forgotten f ∷ [])) es
+  done_gave s f e gave = record {
+    turns = g.turns;
+    tick = g.tick;
+    over = g.over;
+    since = with_finish g.since f;
+    later = g.later;
+    passed = g.passed;
+    all = ap (λ I. with_finishes I (behind_finish v.forgotten f ∷ [])) g.all
+        ∙ ap (λ n. with_finishes (one_run J.rules (g.turns ++ g.since ∷ [])) (behind_finish n f ∷ [])) g.forgotten
+        ∙ one_with_finish J.rules g.turns g.since f;
+    forgotten = g.forgotten;
+    earned = g.earned;
+    told = g.told;
+    gave = gave;
+    all_events = g.all_events;
+  }
+
+  -- the version is the engine's
+  pub version_given : J.rules.version ≡ v.server.ready.rules.version
+  version_given = ap (λ (rules : Rules). rules.version) g.gave.serves.follows.rules
+
+  module _ (at : ℕ) (ready : IsReadyFor v at) where
+    told_there : g.told ≡ settled K at
+    told_there = (g.gave.settled ready.0).all ∙ ap (due_by K) ready.1
+
+    -- a job has the processor in all where it has it among those since
+    pub runner_given : runner_of es ≡ option_map (λ m. v.forgotten + m) (runner_of (settled K at))
+    runner_given = ap runner_of g.all_events
+        ∙ fold-append runner_after None (before_end (printed (one_run J.rules g.turns)))
+        (map (behind v.forgotten v.earned) g.told)
+        ∙ ap (λ o. fold runner_after o (map (behind v.forgotten v.earned) g.told))
+        (runner_behind_turns (bare J.rules) g.turns g.tick g.over)
+        ∙ runner_behind v.forgotten v.earned None g.told
+        ∙ ap (λ fs. option_map (λ m. v.forgotten + m) (runner_of fs)) told_there
+
+    -- and then the last decision is the last of those since
+    pub last_given : (n : ℕ) → runner_of (settled K at) ≡ Some n → last_of es ≡ last_of (settled K at)
+    last_given n runs = ap last_of g.all_events ∙ by_told g.told told_there where
+      front : List Event
+      front = before_end (printed (one_run J.rules g.turns))
+
+      by_told : (fs : List Event) → fs ≡ settled K at
+          → last_of (front ++ map (behind v.forgotten v.earned) fs) ≡ last_of (settled K at)
+      by_told [] same = absurd (let clash : None ≡ Some n = ap runner_of same ∙ runs in cc)
+      by_told (f ∷ fs) same =
+          fold-append (λ tick e. tick_of_event e) 0 front (map (behind v.forgotten v.earned) (f ∷ fs))
+          ∙ last_behind v.forgotten v.earned (last_of front) (f ∷ fs) ∙ ap last_of same
 
   -- ---- a step
 
@@ -380,6 +471,128 @@ module _ (v : Life) (J : Instance) (es : List Event) (g : Gave v J es) where
               ∙ sym (append-nil (before_end (printed (one_run J.rules turns))));
         }
 
+-- ---- what a job that is done says
+
+-- where jobs may finish early and all was given
+pub may_be_done : (v : Life) (at : ℕ) → IsReadyFor v at → may_finish_early v.server.ready.rules.version ≡ true
+    → MayBeDone v at
+may_be_done v at ready early =
+    record { early = λ J es g. ap may_finish_early (version_given v J es g) ∙ early; ready = ready }
+
+module _ (v : Life) (at number own : ℕ) (is : number ≡ v.forgotten + own) where
+  abbrev K_of : (J : Instance) (es : List Event) → Gave v J es → Instance
+  K_of J es g = turn_under J.rules g.since
+
+  -- the server says whether the job has the processor
+  pub has_processor : IsReadyFor v at → ((K : Instance) → Rests v.server K (Mark at)
+      → runner_of (settled K at) ≡ Some own) → HasProcessor v number
+  has_processor ready it J es g = runner_given v J es g at ready
+      ∙ ap (option_map (λ m. v.forgotten + m)) (it (K_of J es g) (rests_now v (K_of J es g) g.told g.gave ready))
+      ∙ ap Some (sym is)
+
+  pub no_processor : IsReadyFor v at → ((K : Instance) → Rests v.server K (Mark at)
+      → runner_of (settled K at) ≡ Some own → ⊥) → HasNoProcessor v number
+  no_processor ready other J es g has =
+      let K : Instance = K_of J es g in
+      by_runner (runner_of (settled K at)) refl (sym (runner_given v J es g at ready) ∙ has)
+      (other K (rests_now v K g.told g.gave ready)) where
+        by_runner : (o : Option ℕ) → runner_of (settled (K_of J es g) at) ≡ o
+            → option_map (λ m. v.forgotten + m) o ≡ Some number
+            → (runner_of (settled (K_of J es g) at) ≡ Some own → ⊥) → ⊥
+        by_runner None e same differs = let clash : None ≡ Some number = same in cc
+        by_runner (Some n) e same differs =
+            let sum : v.forgotten + n ≡ number = some_same (v.forgotten + n) number same in
+            let one : n ≡ own = omega (arith, sum, is) in differs (e ∙ ap Some one)
+
+-- the job is done, where the server finishes it
+module _ (v : Life) (at number own : ℕ) (is : number ≡ v.forgotten + own) (ready : IsReadyFor v at) (J0 : Instance)
+    (es0 : List Event) (g0 : Gave v J0 es0) (s : ReadyServer) (e : Event)
+    (it : (K : Instance) → Rests v.server K (Mark at) → Finishes v.server s K at own (Some e)) where
+  abbrev K_since : (J : Instance) (es : List Event) → Gave v J es → Instance
+  K_since J es g = turn_under J.rules g.since
+
+  abbrev rests_since : (J : Instance) (es : List Event) (g : Gave v J es) → Rests v.server (K_since J es g) (Mark at)
+  rests_since J es g = rests_now v (K_since J es g) g.told g.gave ready
+
+  abbrev finish_since : (J : Instance) (es : List Event) (g : Gave v J es)
+      → Finishes v.server s (K_since J es g) at own (Some e)
+  finish_since J es g = it (K_since J es g) (rests_since J es g)
+
+  -- what it had
+  abbrev pub had_then : ℕ
+  had_then = (finish_since J0 es0 g0).0.finish.had
+
+  abbrev finish : Finish
+  finish = record { number = number; had = had_then }
+
+  abbrev w : Life
+  w = life_with s v.admission v.last false (Some e) v.forgotten v.earned
+
+  -- it is the same in all that was given
+  same_finish : (J : Instance) (es : List Event) (g : Gave v J es)
+      → behind_finish v.forgotten (finish_since J es g).0.finish ≡ finish
+  same_finish J es g =
+      let fin = finish_since J es g in
+      let says = finish_says (K_since J es g) at own fin.0 fin.1 in
+      let own_is : fin.0.finish.number ≡ own =
+      sym (ap (λ (f : EarlyFinish). f.finish.number) says.is) ∙ says.number in
+      let sum : v.forgotten + fin.0.finish.number ≡ number = omega (arith, own_is, is) in
+      ap (λ n. record { number = n; had = fin.0.finish.had }) sum
+      ∙ ap (λ (f : EarlyFinish). record { number = number; had = f.finish.had })
+      (one_finish v.server at (K_since J es g) (rests_since J es g) (K_since J0 es0 g0) (rests_since J0 es0 g0) own
+      fin.0 (finish_since J0 es0 g0).0 fin.1 (finish_since J0 es0 g0).1)
+
+  prints : (J : Instance) (es : List Event) (g : Gave v J es) → (runner_of (settled (K_since J es g) at) ≡ Some own)
+      × (last_of (settled (K_since J es g) at) < at)
+  prints J es g = let fin = finish_since J es g in
+      finish_prints (K_since J es g) g.gave.serves.follows.valid at own fin.0 fin.1
+
+  pub is_done : MayBeDone v at → spare_of v ≤ spare_of w → s.ready.room ≡ v.server.ready.room → s.ready.clock ≡ at
+      → IsDone v w at (record { number = number; had = had_then })
+  is_done may spare room clock = record {
+    may = may;
+    runs = λ J es g. runner_given v J es g at ready
+        ∙ ap (option_map (λ m. v.forgotten + m)) (prints J es g).0 ∙ ap Some (sym is);
+    before = λ J es g. subst (λ n. n < at) (sym (last_given v J es g at ready own (prints J es g).0))
+        (prints J es g).1;
+    gave = λ J es g.
+        let fin = finish_since J es g in
+        subst (λ f. Gave w (with_finishes J (f ∷ [])) es) (same_finish J es g)
+        (done_gave v J es g s fin.0.finish e
+        (finish_gave v (K_since J es g) g.told g.gave at ready s fin.0.finish e fin.3
+        (ap (λ d. is_end (Prints d)) fin.2)));
+    next = ap (λ d. Some (behind v.forgotten v.earned d)) (finish_since J0 es0 g0).2
+        ∙ ap (λ n. Some (events.Complete at n)) (sym is);
+    last = refl;
+    clock = clock_then v.last ∙ clock;
+    spare = spare;
+    room = room;
+  } where
+    clock_then : (to : Horizon) → clock_of (life_with s v.admission to false (Some e) v.forgotten v.earned)
+        ≡ s.ready.clock
+    clock_then (Mark t) = refl
+    clock_then End = refl
+
+-- where it doesn't, though the job has the processor, a decision of the tick was given
+pub behind_given : (v : Life) (at own : ℕ) → IsReadyFor v at
+    → ((K : Instance) → Rests v.server K (Mark at) → finish_at K at own ≡ None)
+    → ((K : Instance) → Rests v.server K (Mark at) → runner_of (settled K at) ≡ Some own)
+    → Holds v (λ J es. at ≤ last_of es)
+behind_given v at own ready wrong runs J es g =
+    let K : Instance = turn_under J.rules g.since in
+    let rests : Rests v.server K (Mark at) = rests_now v K g.told g.gave ready in
+    subst (λ n. at ≤ n) (sym (last_given v J es g at ready own (runs K rests)))
+    (late_prints K g.gave.serves.follows.valid at own (wrong K rests) (runs K rests))
+
+-- a job with a number below those since hasn't it
+pub no_processor_below : (v : Life) (at number : ℕ) → number < v.forgotten → IsReadyFor v at → HasNoProcessor v number
+no_processor_below v at number low ready J es g has =
+    by_runner (runner_of (settled (turn_under J.rules g.since) at)) (sym (runner_given v J es g at ready) ∙ has) where
+      by_runner : (o : Option ℕ) → option_map (λ m. v.forgotten + m) o ≡ Some number → ⊥
+      by_runner None same = let clash : None ≡ Some number = same in cc
+      by_runner (Some n) same =
+          let sum : v.forgotten + n ≡ number = some_same (v.forgotten + n) number same in omega (arith, sum, low)
+
 -- a mark is reached, or the End given, whatever the numbers
 pub ready_behind : (to : Horizon) (n value : ℕ) (o : Option Event)
     → is_ready_after to o ≡ is_ready_after to (option_map (behind n value) o)
@@ -397,6 +610,12 @@ end_behind n value (Some (events.Take at stops starts)) = refl
 end_behind n value (Some (events.Complete at m)) = refl
 end_behind n value (Some (events.Abandon at m)) = refl
 end_behind n value (Some (events.End more)) = refl
+
+-- what is coming is given
+pub coming_given : (n value : ℕ) (o p coming : Option Event) → p ≡ option_map (behind n value) o
+    → IfSome coming (λ e. o ≡ Some e) → IfSome (option_map (behind n value) coming) (λ e. p ≡ Some e)
+coming_given n value o p None same gives = tt
+coming_given n value o p (Some e) same gives = same ∙ ap (option_map (behind n value)) gives
 
 -- ---- comparisons
 

@@ -1,6 +1,6 @@
 -- What the calls of an engine say.
 use Rattle.std.specs.Prelude.{◌≡◌, ℕ, ◌+◌, ◌≤◌, ◌||◌, List, [], ◌∷◌, ◌++◌, map, Option, Some, None, true, false, nat_lt}
-use Rattle.std.specs.Prelude.{if◌then◌else◌, drop}
+use Rattle.std.specs.Prelude.{if◌then◌else◌, drop, false, ◌<◌, IfSome}
 use Rattle.dover_model.specs.declared.events.Version.{Version}
 use Rattle.dover_model.specs.declared.events.Event.{Event}
 use Rattle.dover_model.specs.declared.events.Refusal.{Refusal}
@@ -8,8 +8,13 @@ use Rattle.dover_model.specs.declared.events.Refusal.TheVariants as plain
 use Rattle.dover_model.specs.JobFacts.{JobFacts}
 use Rattle.dover_model.specs.Fraction.{Fraction}
 use Rattle.dover_model.specs.Limits.{most_jobs, last_tick}
-use Rattle.dover_model.specs.Instance.{Instance, with_jobs, jobs_under}
+use Rattle.dover_model.specs.Instance.{Instance, with_jobs, jobs_under, with_finishes}
 use Rattle.dover_model.specs.Admission.{refusal_of}
+use Rattle.dover_model.specs.Finishes.{Finish}
+use Rattle.dover_model.specs.Processor.{runner_of}
+use Rattle.dover_model.specs.Session.{may_finish_early}
+use Rattle.dover_model.specs.Settled.{last_of}
+use Rattle.dover_model.specs.declared.events.Event.TheVariants.{Complete}
 use Rattle.dover_model.specs.Run.{printed}
 use Rattle.admission.specs.Kept.{StandsFor}
 use Rattle.admission.specs.Answers.{IsOther}
@@ -23,12 +28,14 @@ use Rattle.dover_engine.specs.declared.causes.NotMade.{NotMade}
 use Rattle.dover_engine.specs.declared.causes.NotMade.TheVariants.{Capacity, Memory}
 use Rattle.dover_engine.specs.declared.causes.NotAdmitted.{NotAdmitted}
 use Rattle.dover_engine.specs.declared.causes.NotAdmitted.TheVariants.{Unsettled, BadJob, Count, Total, Ratio, Full}
+use Rattle.dover_engine.specs.declared.causes.NotDone.{NotDone}
+use Rattle.dover_engine.specs.declared.causes.NotDone.TheVariants as not_done
 use Rattle.dover_engine.specs.declared.causes.NotStepped.{NotStepped}
 use Rattle.dover_engine.specs.declared.causes.NotStepped.TheVariants.{Falls, Late, Finished}
 use Rattle.dover_engine.specs.declared.decision.Decision.{Decision}
 use Rattle.dover_engine.specs.Decisions.{event_in, events_in}
 use Rattle.dover_engine.specs.Life.{Life, IsReadyFor, IsAtRest, most_forgotten, done_value, spare_of, room_of}
-use Rattle.dover_engine.specs.Life.{has_ended, clock_of}
+use Rattle.dover_engine.specs.Life.{has_ended, clock_of, coming_of}
 use Rattle.dover_engine.specs.Given.{Gave, IsPrompt}
 
 -- ---- making
@@ -85,6 +92,47 @@ cause_behind forgotten refused.Count = Count
 cause_behind forgotten refused.Total = Total
 cause_behind forgotten (refused.Ratio other) = Ratio (forgotten + other)
 
+-- ---- early finishes
+
+-- this is so of all jobs that were admitted, and of all decisions that were given
+abbrev pub Holds : Life → (Instance → List Event → Type 0) → Type 0
+Holds v Says = (J : Instance) (events : List Event) → Gave v J events → Says J events
+
+-- by the decisions that were given, the job of this number has the processor
+abbrev pub HasProcessor : Life → ℕ → Type 0
+HasProcessor v number = Holds v (λ J events. runner_of events ≡ Some number)
+
+-- so it hasn't
+abbrev pub HasNoProcessor : Life → ℕ → Type 0
+HasNoProcessor v number = Holds v (λ J events. runner_of events ≡ Some number → ⊥)
+
+-- jobs may finish early, and all that is settled at the tick was given
+pub record MayBeDone (v : Life) (at : ℕ) : Type 0 where
+  pub early : Holds v (λ J events. may_finish_early J.rules.version ≡ true)
+  pub ready : IsReadyFor v at
+
+-- The job of this finish had the processor in the tick that ends at this one, and is done though it may have work left.
+-- Whatever was given before, it is given of the jobs with this finish, and the completion is to be given next.
+pub record IsDone (v w : Life) (at : ℕ) (f : Finish) : Type 0 where
+  pub may : MayBeDone v at
+  pub runs : HasProcessor v f.number
+  pub before : Holds v (λ J events. last_of events < at)
+  pub gave : Holds v (λ J events. Gave w (with_finishes J (f ∷ [])) events)
+  pub next : coming_of w ≡ Some (Complete at f.number)
+  pub last : w.last ≡ v.last
+  pub clock : clock_of w ≡ at
+  pub spare : spare_of v ≤ spare_of w
+  pub room : room_of w ≡ room_of v
+
+-- the cause holds, and none before it
+abbrev pub IsNotDone : Life → (at number : ℕ) → NotDone → Type 0
+IsNotDone v at number not_done.Version = Holds v (λ J events. may_finish_early J.rules.version ≡ false)
+IsNotDone v at number not_done.Unsettled = Holds v (λ J events. may_finish_early J.rules.version ≡ true)
+    × (IsReadyFor v at → ⊥)
+IsNotDone v at number not_done.NotRunning = MayBeDone v at × HasNoProcessor v number
+IsNotDone v at number not_done.Behind = MayBeDone v at × HasProcessor v number
+    × Holds v (λ J events. at ≤ last_of events)
+
 -- ---- steps
 
 -- why no step is taken to a mark
@@ -104,6 +152,7 @@ pub record Decides (to : Horizon) (v w : Life) (answer : Option Decision) : Type
   pub prompt : (J : Instance) (events : List Event) → Gave v J events → IsPrompt to J events answer
   pub whole : (J : Instance) (events : List Event) → Gave v J events → has_ended w ≡ true
       → events ++ events_in answer ≡ printed J
+  pub comes : IfSome (coming_of v) (λ e. event_in answer ≡ Some e)
   pub last : w.last ≡ to
   pub settled : w.settled ≡ is_ready_after to (event_in answer)
   pub ended : has_ended w ≡ (has_ended v || is_end_given (event_in answer))
@@ -131,11 +180,13 @@ IsNext v (Some tick) = IsDueAt v tick
 -- a call that did something, with its answer
 pub data Call : Type 0 where
   Admitted : JobFacts → (number : ℕ) → Call
+  Done : (at : ℕ) → Finish → Call
   Stepped : Horizon → Option Decision → Call
 
 -- it leads from v to w
 abbrev pub Leads : Call → Life → Life → Type 0
 Leads (Admitted job number) v w = IsAdmitted v w job number
+Leads (Done at f) v w = IsDone v w at f
 Leads (Stepped to answer) v w = MayFollow v.last to × Decides to v w answer
 
 -- these calls lead from v to w, one after another
@@ -153,18 +204,27 @@ pub record Lives (version : Version) (k : Fraction) (calls : List Call) (w : Lif
 abbrev pub admitted : List Call → List (ℕ × JobFacts)
 admitted [] = []
 admitted (Admitted job number ∷ calls) = (number, job) ∷ admitted calls
+admitted (Done at f ∷ calls) = admitted calls
 admitted (Stepped to answer ∷ calls) = admitted calls
 
 -- the jobs alone
 abbrev pub jobs_in : List Call → List JobFacts
 jobs_in calls = map (λ n_j. n_j.1) (admitted calls)
 
--- their instance
+-- the early finishes: what each job that was done had had
+abbrev pub finishes_in : List Call → List Finish
+finishes_in [] = []
+finishes_in (Admitted job number ∷ calls) = finishes_in calls
+finishes_in (Done at f ∷ calls) = f ∷ finishes_in calls
+finishes_in (Stepped to answer ∷ calls) = finishes_in calls
+
+-- the instance of these jobs and finishes
 abbrev pub all_jobs : Version → Fraction → List Call → Instance
-all_jobs version k calls = jobs_under version k (jobs_in calls)
+all_jobs version k calls = with_finishes (jobs_under version k (jobs_in calls)) (finishes_in calls)
 
 -- the decisions that were given
 abbrev pub decided : List Call → List Event
 decided [] = []
 decided (Admitted job number ∷ calls) = decided calls
+decided (Done at f ∷ calls) = decided calls
 decided (Stepped to answer ∷ calls) = events_in answer ++ decided calls

@@ -1,6 +1,8 @@
 -- What an engine stands for.
 use Rattle.std.specs.Prelude.{◌≡◌, ℕ, ◌+◌, ◌*◌, ◌^◌, ◌≤◌, ◌<◌, [], Bool, true, Option, if◌then◌else◌}
+use Rattle.std.specs.Option.{option_map}
 use Rattle.dover_model.specs.Limits.{most_jobs}
+use Rattle.dover_model.specs.Rest.{behind}
 use Rattle.dover_model.specs.declared.events.Event.{Event}
 use Rattle.admission.specs.Kept.{Kept}
 use Rattle.dover_model.specs.declared.horizon.Horizon.{Horizon}
@@ -14,8 +16,8 @@ pub record Life : Type 0 where
   pub server : ReadyServer
   pub admission : Kept
   pub last : Horizon  -- the last one that was handed in, at first the mark 0
-  pub settled : Bool  -- the last step was to a mark and answered None, and no job was admitted since
-  pub coming : Option Event  -- the release of the job that was admitted last, till it is given
+  pub settled : Bool  -- the last step was to a mark and answered None, and no job was admitted or done since
+  pub coming : Option Event  -- what the last call but a step has said, till it is given
   pub forgotten : ℕ  -- how many jobs there were before
   pub earned : ℕ  -- what those of them that completed were worth
 
@@ -52,6 +54,11 @@ clock_of v = elim v.last [
   | Mark t ↦ if v.settled then t else v.server.ready.clock
   | End ↦ v.server.ready.clock
 ]
+
+-- what is to be given next, where a call has said it: the release of the job that was admitted last, or the completion
+-- of the one that is done
+abbrev pub coming_of : Life → Option Event
+coming_of v = option_map (behind v.forgotten v.earned) v.coming
 
 -- End was given
 abbrev pub has_ended : Life → Bool

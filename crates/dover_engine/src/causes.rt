@@ -57,3 +57,16 @@ pub enum NotStepped {
     /// The mark is above the last tick, 1,000,000,000,000.
     Late,
 }
+
+/// Why a job wasn't taken as done. The first of these causes that holds is the one that is answered.
+#[derive(Clone, Copy, Debug, PartialEq, Eq)]
+pub enum NotDone {
+    /// The engine is of version One or Two, in which no job finishes early.
+    Version,
+    /// The run wasn't taken to the tick: `step` to it has to answer None first, and then no job to be admitted.
+    Unsettled,
+    /// The job hasn't the processor.
+    NotRunning,
+    /// A decision of the tick was given: the job got the processor at it, or a job of this release came before.
+    Behind,
+}

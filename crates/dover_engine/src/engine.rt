@@ -1,6 +1,6 @@
 //! The engine.
 ghost use Rattle.std.specs.Prelude.{◌≡◌, ◌≤◌, ◌↔◌, ◌++◌, ◌||◌, ℕ, IsTrue, IfOk, IfErr, OnErr, OnOk, IsNone, IfSome};
-ghost use Rattle.std.specs.Prelude.{List, [], Some, option_to_list};
+ghost use Rattle.std.specs.Prelude.{List, [], Some, option_to_list, ◌+◌};
 ghost use Rattle.std.specs.Option.{option_map};
 ghost use Rattle.dover_model.specs.Limits.{last_tick};
 ghost use Rattle.dover_model.specs.Rest.{behind};
@@ -11,12 +11,15 @@ ghost use Rattle.dover_model.specs.declared.horizon.Horizon.TheVariants.{Mark, E
 ghost use Rattle.dover_model.specs.Horizons.{MayFollow, is_ready_after, is_end_given, no_jobs, due_by};
 ghost use Rattle.dover_engine.specs.Life.{spare_of, done_value, clock_of, has_ended, HasPaid, IsReadyFor, room_of};
 ghost use Rattle.dover_engine.specs.Life.{CostsOnce};
-ghost use Rattle.ready_server.specs.Serving.{HasShortValue};
+ghost use Rattle.ready_server.specs.Serving.{HasShortValue, Rests};
+ghost use Rattle.dover_model.specs.Processor.{runner_of};
+ghost use Rattle.dover_model.specs.Settled.{settled};
 ghost use Rattle.dover_engine.specs.Decisions.{event_in};
 ghost use Rattle.dover_engine.specs.Given.{Gave};
 ghost use Rattle.dover_engine.specs.Calls.{not_made, mark_refusal, IsAdmitted, IsCause, BeginsAnew, Decides, IsNext};
+ghost use Rattle.dover_engine.specs.Calls.{IsDone, IsNotDone, HasNoProcessor};
 
-use crate::causes::{NotAdmitted, NotMade, NotStepped, cause_behind};
+use crate::causes::{NotAdmitted, NotDone, NotMade, NotStepped, cause_behind};
 use crate::decision::{Decision, decision_in};
 use admission::Admission;
 use dover_model::jobs::LAST_TICK;
@@ -162,6 +165,58 @@ impl Engine {
         Ok(self.forgotten + u64::from(number))
     }
 
+    // The number of the job among those since the last moment of rest, if it has the processor.
+    fn runner(&self, number: u64) -> Option<u64>
+        ensures some { IfSome result (λ own. number ≡ self.now.forgotten + own) }
+        ensures runs { IfSome result (λ own. (J : Instance) (mark : ℕ) → Rests self.now.server J (Mark mark)
+            → runner_of (settled J mark) ≡ Some own) }
+        ensures none { IsNone result → (at : ℕ) → IsReadyFor self.now at → HasNoProcessor self.now number }
+    {
+        if number < self.forgotten {
+            return None;
+        }
+        let own = number - self.forgotten;
+        if self.server.runs(own) {
+            Some(own)
+        } else {
+            None
+        }
+    }
+
+    /// The job is done though it has work left: it had the processor in the tick that ends at `at`, which was the last
+    /// that it needed. Its completion at this tick is the next decision, and is worth all its value. No memory is
+    /// taken, and no jobs are compared.
+    ///
+    /// It is called before the jobs of release `at` are admitted, since a job that comes to it may stop this one. A job
+    /// whose work is out by then is completed without this call.
+    ///
+    /// # Errors
+    ///
+    /// `NotDone`, with the first cause that holds, and all as before.
+    pub fn done(&mut self, at: u64, number: u64) -> Result<(), NotDone>
+        ensures ok { OnOk result ((had : ℕ)
+            × IsDone self.old self.new at (record { number = number; had = had })) }
+        ensures kept { OnErr result (self.new ≡ self.old) }
+        ensures cause { IfErr result (λ cause. IsNotDone self.old at number cause) }
+        ensures paid { (start now : ℕ) → HasPaid self.old start now → HasPaid self.new start now }
+    {
+        if !self.server.version().may_finish_early() {
+            return Err(NotDone::Version);
+        }
+        if !self.is_ready_for(at) {
+            return Err(NotDone::Unsettled);
+        }
+        let Some(own) = self.runner(number) else {
+            return Err(NotDone::NotRunning);
+        };
+        let Some(event) = self.server.finish(at, own) else {
+            return Err(NotDone::Behind);
+        };
+        self.settled = false;
+        self.coming = Some(event);
+        Ok(())
+    }
+
     // The next event before the horizon, of the jobs since the last moment of rest.
     fn advance<L: Ledger>(&mut self, to: Horizon, steps: &mut Steps<L>) -> Option<Event>
         requires { MayFollow self.old.last to }
@@ -169,6 +224,7 @@ impl Engine {
             Gave self.new J (events ++ option_to_list (option_map (behind self.old.forgotten self.old.earned) result)) }
         ensures prompt { (J : Instance) (events : List Event) → Gave self.old J events →
             IsNone result → events ≡ due_by J to }
+        ensures comes { IfSome self.old.coming (λ e. result ≡ Some e) }
         ensures last { self.new.last ≡ to }
         ensures settled { self.new.settled ≡ is_ready_after to result }
         ensures ended { has_ended self.new ≡ (has_ended self.old || is_end_given result) }
@@ -279,10 +335,11 @@ impl Engine {
         self.decide(Horizon::End, steps)
     }
 
-    /// The tick for which to call next. Where `step` to a mark answered None and no job was admitted since, it is that
-    /// of the next decision, if no job comes before: till then `step` to a tick before it answers None, and no call is
-    /// needed. A completion at it is given by a step to it, a take or an abandonment by a step to the tick behind it.
-    /// Otherwise it is the clock: a step is to be taken first. None where no job is open. No memory is taken.
+    /// The tick for which to call next. Where `step` to a mark answered None and no job was admitted or done since, it
+    /// is that of the next decision, if no job comes before: till then `step` to a tick before it answers None, and no
+    /// call is needed. A completion at it is given by a step to it, a take or an abandonment by a step to the tick
+    /// behind it. Otherwise it is the clock: a step is to be taken first. None where no job is open. No memory is
+    /// taken.
     pub fn next(&self) -> Option<u64>
         ensures { IsNext self.now result }
     {

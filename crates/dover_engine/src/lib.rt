@@ -7,6 +7,6 @@ pub mod decision;
 pub mod engine;
 pub mod laws;
 
-pub use causes::{NotAdmitted, NotMade, NotStepped};
+pub use causes::{NotAdmitted, NotDone, NotMade, NotStepped};
 pub use decision::Decision;
 pub use engine::Engine;

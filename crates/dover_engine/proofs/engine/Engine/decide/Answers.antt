@@ -6,7 +6,7 @@ use Rattle.dover_model.specs.Horizons.{is_ready_after, is_end_given}
 use Rattle.dover_engine.specs.Decisions.{events_in, event_in}
 use Rattle.dover_engine.specs.Life.{has_ended}
 use Rattle.dover_engine.specs.Given.{Gave}
-use Rattle.dover_engine.proofs.Lives.{answer_prompt, ended_given, ready_behind, end_behind, shown_once}
+use Rattle.dover_engine.proofs.Lives.{answer_prompt, coming_given, ended_given, ready_behind, end_behind, shown_once}
 use Rattle.dover_engine.proofs.engine.Engine.decide.Goals as goal
 
 pub returns-clause-decides : goal.returns-clause-decides
@@ -25,6 +25,8 @@ returns-clause-decides g c =
           (c.advance-event.ensures.gave J events gave))) ended;
       prompt = λ J events gave. answer_prompt c.args.to J events v.forgotten v.earned c.shown-decision.result o
           same (c.advance-event.ensures.prompt J events gave);
+      comes = coming_given v.forgotten v.earned o (event_in c.shown-decision.result) v.coming same
+          c.advance-event.ensures.comes;
       last = c.renew.ensures.last ∙ c.advance-event.ensures.last;
       settled = c.renew.ensures.settled ∙ c.advance-event.ensures.settled
           ∙ ready_behind c.args.to v.forgotten v.earned o ∙ ap (is_ready_after c.args.to) (sym same);
