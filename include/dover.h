@@ -48,7 +48,8 @@ void dover_init(dover *, uint32_t p, uint32_t q, uint32_t version, uint32_t capa
 enum {
     DOVER_MADE = 5,
     DOVER_EMPTY = 0,        /* dover_drop was called, or never dover_init, for a place of zeros */
-    DOVER_BAD_VERSION = 4,  /* the version is neither 1 nor 2; version 2 breaks ties of deadlines by value */
+    DOVER_BAD_VERSION = 4,  /* the version is none of 1, 2 and 3: from 2 on value breaks ties of deadlines, and in 3 a
+                               job may be done before its work is out */
     DOVER_BAD_RATIO = 1,    /* p/q is out of its limits */
     DOVER_BAD_CAPACITY = 2, /* above 1,000,000 */
     DOVER_NO_MEMORY = 3
@@ -71,6 +72,24 @@ enum {
     DOVER_FULL = 6       /* as many jobs are open as the capacity allows: wait till one is over, or drop the job */
 };
 dover_admitted dover_admit(dover *, uint64_t release, uint64_t work, uint64_t deadline, uint64_t value);
+
+/* Says that a job is done though it has work left: it had the processor in the tick that ends at this one, and needs no
+   more. DOVER_DONE: the next decision is its completion at this tick, and it is worth all its value. Otherwise the
+   status is the first of these causes that holds, in this order.
+   At the edge where a tick begins, a program acts on what dover_step to that tick gives, up to DOVER_NONE. Then it
+   makes this call if the job that had the processor has ended, and steps to the tick again. Only then it hands in the
+   jobs of that release, since one of them may stop the job. A job whose work is out by then is completed by dover_step.
+   Where the answer is DOVER_NOT_RUNNING or DOVER_BEHIND and the job is open, as one that is held is, the call is made
+   again at the edge behind the next tick that it has had. */
+enum {
+    DOVER_DONE = 0,
+    /* DOVER_NOT_MADE = 7, there is no engine */
+    DOVER_NOT_EARLY = 4,   /* the version is 1 or 2 */
+    /* DOVER_UNSETTLED = 1, dover_step to the tick has to answer DOVER_NONE first, and no job to be admitted then */
+    DOVER_NOT_RUNNING = 3, /* the job hasn't the processor */
+    DOVER_BEHIND = 2       /* a decision of this tick was given: the job got the processor at it, or a job came first */
+};
+uint32_t dover_done(dover *, uint64_t tick, uint64_t job);
 
 /* The next decision that no job can change that is released at the mark or later, or DOVER_NONE where all of these were
    given. Marks don't fall. What the fields say goes by the kind; all others are 0. */
@@ -96,9 +115,9 @@ dover_decision dover_step(dover *, uint64_t mark);
    admitted from then on. */
 dover_decision dover_finish(dover *);
 
-/* The tick for which to call next. Where the last dover_step answered DOVER_NONE and no job was admitted since, it is
-   that of the next decision if no job comes before: dover_step to any tick before it answers DOVER_NONE, so a program
-   sleeps till then, or till a job comes. DOVER_COMPLETE is given by dover_step to the tick, DOVER_TAKE and
+/* The tick for which to call next. Where the last dover_step answered DOVER_NONE and no job was admitted or done since,
+   it is that of the next decision if no job comes before: dover_step to any tick before it answers DOVER_NONE, so a
+   program sleeps till then, or till a job comes. DOVER_COMPLETE is given by dover_step to the tick, DOVER_TAKE and
    DOVER_ABANDON by one to the tick behind it. Otherwise the tick is the clock: dover_step comes first. */
 typedef struct { uint64_t tick; uint32_t status; } dover_due;
 enum {

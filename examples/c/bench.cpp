@@ -1,6 +1,6 @@
-// Nanoseconds of dover_admit and dover_step with jobs waiting, and of a take over held jobs, beside a heap of the C++
-// library that does earliest deadline first on the same jobs. Prints the median, the 99.9% point and the greatest, how
-// many bytes of stack the calls take, and what an overload of 2 that never rests comes to.
+// Nanoseconds of dover_admit, dover_step and dover_done with jobs waiting, and of a take over held jobs, beside a heap
+// of the C++ library that does earliest deadline first on the same jobs. Prints the median, the 99.9% point and the
+// greatest, how many bytes of stack the calls take, and what an overload of 2 that never rests comes to.
 #include <algorithm>
 #include <chrono>
 #include <cinttypes>
@@ -47,8 +47,9 @@ struct Times {
     }
 };
 
-static Times admits, decisions, nones, takes, pushes, pops;
+static Times admits, decisions, nones, takes, dones, pushes, pops;
 static dover engine;
+static uint64_t runner; // the job that has the processor
 
 [[noreturn]] static void fail(const char *what, uint32_t code) {
     std::fprintf(stderr, "bench: %s %" PRIu32 "\n", what, code);
@@ -62,6 +63,7 @@ static void settle(uint64_t mark) {
         if (d.kind == DOVER_NONE) return nones.add(from);
         if (d.kind > DOVER_END) fail("kind", d.kind);
         (d.kind == DOVER_TAKE ? takes : decisions).add(from);
+        if (d.kind == DOVER_RUN || d.kind == DOVER_PREEMPT || d.kind == DOVER_TAKE) runner = d.job;
     }
 }
 
@@ -74,8 +76,8 @@ static void admit(uint64_t release, uint64_t work, uint64_t deadline, uint64_t v
     settle(release);
 }
 
-static void start() {
-    dover_init(&engine, 1000, 1, 1, 1000000);
+static void start(uint32_t version) {
+    dover_init(&engine, 1000, 1, version, 1000000);
     if (dover_status(&engine) != DOVER_MADE) fail("no engine", dover_status(&engine));
 }
 
@@ -91,7 +93,7 @@ static void steady(uint64_t waiting, uint64_t rounds) {
     std::mt19937_64 random(1);
     std::vector<Job> jobs;
     for (uint64_t i = 0; i < waiting + rounds; i++) jobs.push_back({1000000000 + random() % 1000000000, 10, i});
-    start();
+    start(1);
     unsigned long before = taken;
     for (uint64_t i = 0; i < waiting; i++) admit(0, 10, jobs[i].deadline, 10 + i % 1000);
     forget();
@@ -119,10 +121,32 @@ static void steady(uint64_t waiting, uint64_t rounds) {
     pops.show("heap, top and pop", waiting);
 }
 
+// So many wait; at every tick the one that has the processor is done with work left, and one comes.
+static void early(uint64_t waiting, uint64_t rounds) {
+    std::mt19937_64 random(1);
+    start(3);
+    unsigned long before = taken;
+    for (uint64_t i = 0; i < waiting; i++) admit(0, 10, 1000000000 + random() % 1000000000, 10 + i % 1000);
+    forget();
+    for (uint64_t t = 1; t <= rounds; t++) {
+        settle(t);
+        uint64_t from = nanoseconds();
+        uint32_t status = dover_done(&engine, t, runner);
+        dones.add(from);
+        if (status != DOVER_DONE) fail("done", status);
+        admit(t, 10, 1000000000 + random() % 1000000000, 10 + t % 1000);
+    }
+    if (taken != before) fail("calls for memory", static_cast<uint32_t>(taken - before));
+    dones.show("dover_done", waiting);
+    decisions.show("dover_step behind it", waiting);
+    forget();
+    dover_drop(&engine);
+}
+
 // So many are held when one that is worth more than all comes at its latest start.
 static void take(uint64_t held, int times) {
     for (int i = 0; i < times; i++) {
-        start();
+        start(1);
         uint64_t due = 30 * held + 3000000, left = due - 10 * held - 500;
         admit(0, left, due, left);
         for (uint64_t j = 1; j <= held; j++) admit(j, 10, due - j, 10);
@@ -226,6 +250,7 @@ int main(int words, char **) {
     uint64_t rounds = words > 1 ? 2000 : 200000; // any word: a short run, to see that it runs
     std::printf("%-22s %8s %9s %8s %8s %10s   (ns)\n", "call", "jobs", "calls", "median", "99.9%", "greatest");
     for (uint64_t waiting : {10, 1000, 100000}) steady(waiting, rounds);
+    for (uint64_t waiting : {10, 1000, 100000}) early(waiting, rounds);
     take(10, words > 1 ? 3 : 1000);
     take(1000, words > 1 ? 3 : 200);
     if (words == 1) take(100000, 20);

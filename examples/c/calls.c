@@ -48,7 +48,8 @@ static int is_idle(dover *d, uint32_t status) {
 static void making(void) {
     const uint64_t big = UINT64_C(1) << 63;
     ROW(status_of(1, 1, 0, 10) == DOVER_BAD_VERSION);
-    ROW(status_of(1, 1, 3, 10) == DOVER_BAD_VERSION);
+    ROW(status_of(1, 1, 4, 10) == DOVER_BAD_VERSION);
+    ROW(status_of(1, 1, UINT32_MAX, 10) == DOVER_BAD_VERSION);
     ROW(status_of(1, 2, 1, 10) == DOVER_BAD_RATIO);
     ROW(status_of(1, 0, 1, 10) == DOVER_BAD_RATIO);
     ROW(status_of(1000001, 1, 1, 10) == DOVER_BAD_RATIO);
@@ -57,6 +58,7 @@ static void making(void) {
     ROW(status_of(1, 1, 1, UINT32_MAX) == DOVER_BAD_CAPACITY);
     ROW(status_of(1, 1, 1, 0) == DOVER_MADE);
     ROW(status_of(1000000, 1, 2, 1000000) == DOVER_MADE);
+    ROW(status_of(1000000, 1, 3, 1000000) == DOVER_MADE);
     none = 1;
     ROW(status_of(1, 1, 1, 10) == DOVER_NO_MEMORY && status_of(1, 1, 1, 1000001) == DOVER_BAD_CAPACITY);
     none = 0;
@@ -167,6 +169,55 @@ static void sleeping(void) {
     dover_drop(&a);
 }
 
+static int is_next(dover *d, uint64_t mark, uint32_t kind, uint64_t tick, uint64_t job) {
+    dover_decision e = dover_step(d, mark);
+    return e.kind == kind && e.tick == tick && e.job == job && e.other == 0;
+}
+
+/* Each cause for which a job isn't taken as done, and the completion of one that is. */
+static void early(void) {
+    const uint64_t big = UINT64_C(1) << 63;
+    dover_init(&a, 2, 1, 3, 10);
+    dover_init(&b, 2, 1, 2, 10);
+    unsigned long before = taken;
+    ROW(settle(&b, 0) == DOVER_NONE && admit(&b, 0, 4, 9, 4) == DOVER_ADMITTED && settle(&b, 2) == DOVER_NONE);
+    ROW(dover_done(&b, 2, 0) == DOVER_NOT_EARLY && dover_done(&b, 9, 9) == DOVER_NOT_EARLY);
+    ROW(dover_done(&a, 0, 0) == DOVER_UNSETTLED); /* no step was taken */
+    ROW(settle(&a, 0) == DOVER_NONE && dover_done(&a, 0, 0) == DOVER_NOT_RUNNING);
+    ROW(admit(&a, 0, 4, 9, 4) == DOVER_ADMITTED && dover_done(&a, 0, 0) == DOVER_UNSETTLED);
+    ROW(settle(&a, 0) == DOVER_NONE && dover_done(&a, 0, 0) == DOVER_BEHIND); /* it had no tick */
+    ROW(admit(&a, 0, 9, 20, 9) == DOVER_ADMITTED && settle(&a, 2) == DOVER_NONE);
+    ROW(dover_done(&a, 1, 0) == DOVER_UNSETTLED && dover_done(&a, 3, 0) == DOVER_UNSETTLED &&
+        dover_done(&a, big, 0) == DOVER_UNSETTLED);
+    ROW(dover_done(&a, 2, 1) == DOVER_NOT_RUNNING && dover_done(&a, 2, 2) == DOVER_NOT_RUNNING &&
+        dover_done(&a, 2, big) == DOVER_NOT_RUNNING); /* it waits; there is none */
+    ROW(is_due(&a, 4) && dover_room(&a) == 8 && dover_value(&a) == 0); /* all as before */
+    ROW(dover_done(&a, 2, 0) == DOVER_DONE && dover_done(&a, 2, 0) == DOVER_UNSETTLED && is_due(&a, 2));
+    ROW(admit(&a, 2, 1, 9, 1) == DOVER_UNSETTLED && dover_value(&a) == 4 && dover_room(&a) == 9);
+    ROW(is_next(&a, 2, DOVER_COMPLETE, 2, 0) && is_next(&a, 2, DOVER_RUN, 2, 1) && settle(&a, 2) == DOVER_NONE);
+    ROW(dover_done(&a, 2, 1) == DOVER_BEHIND && dover_done(&a, 2, 0) == DOVER_NOT_RUNNING); /* it is over */
+    ROW(settle(&a, 3) == DOVER_NONE && admit(&a, 3, 1, 19, 1) == DOVER_ADMITTED && settle(&a, 3) == DOVER_NONE);
+    ROW(dover_done(&a, 3, 1) == DOVER_NOT_RUNNING && dover_done(&a, 3, 2) == DOVER_BEHIND); /* it is held; it came */
+    ROW(settle(&a, 4) == DOVER_NONE && dover_done(&a, 4, 2) == DOVER_NOT_RUNNING); /* its work is out */
+    ROW(dover_done(&a, 4, 1) == DOVER_BEHIND && settle(&a, 5) == DOVER_NONE && dover_done(&a, 5, 1) == DOVER_DONE);
+    dover_decision e = dover_finish(&a); /* the completion comes first, also to the end */
+    ROW(e.kind == DOVER_COMPLETE && e.tick == 5 && e.job == 1 && dover_done(&a, 5, 1) == DOVER_UNSETTLED);
+    ROW((e = dover_finish(&a)).kind == DOVER_END && e.tick == 14 && taken == before);
+    dover_drop(&a);
+    dover_drop(&b);
+    dover_init(&a, 2, 1, 3, 3);
+    for (uint64_t i = 0; i < 5; i++) { /* each at rest before the next: the number is that over the whole life */
+        settle(&a, 10 * i);
+        ROW(dover_admit(&a, 10 * i, 5, 10 * i + 9, i + 1).number == i && settle(&a, 10 * i + 2) == DOVER_NONE);
+        ROW(dover_done(&a, 10 * i + 2, i) == DOVER_DONE && is_next(&a, 10 * i + 2, DOVER_COMPLETE, 10 * i + 2, i));
+        ROW(settle(&a, 10 * i + 2) == DOVER_NONE && dover_room(&a) == 3 &&
+            dover_done(&a, 10 * i + 2, i) == DOVER_NOT_RUNNING);
+    }
+    ROW(dover_value(&a) == 15);
+    dover_drop(&a);
+    ROW(dover_done(&a, 0, 0) == DOVER_NOT_MADE && dover_done(&never, big, big) == DOVER_NOT_MADE);
+}
+
 /* The job that breaks the ratio is named by its number over the whole life, also where others were forgotten. A refused
    job has moved the clock. */
 static void renumbered(void) {
@@ -244,6 +295,7 @@ int main(void) {
     without_one();
     one_by_one();
     sleeping();
+    early();
     renumbered();
     for_long();
     limits();

@@ -1,4 +1,4 @@
-/* A dispatcher: reads a feed and prints its decisions as `serve` does. Refused jobs go to standard error. */
+/* A dispatcher: reads a feed and prints its decisions as `serve` does. Refused lines go to standard error. */
 #include <inttypes.h>
 #include <stdio.h>
 #include "dover.h"
@@ -40,11 +40,17 @@ int main(void) {
     if (dover_status(&engine) != DOVER_MADE) return 2;
     printf("dover %" PRIu32 " %" PRIu32 " %" PRIu32 "\n", version, p, q);
     for (char word[8]; scanf("%7s", word) == 1 && word[0] != 'e';) {
-        int fields = word[0] == 't' ? 1 : 4;
+        int fields = word[0] == 't' ? 1 : word[0] == 'd' ? 2 : 4;
         for (int i = 0; i < fields; i++)
             if (scanf("%" SCNu64, &j[i]) != 1) return 1;
         settle(j[0]);
         if (fields == 1) continue;
+        if (fields == 2) {
+            uint32_t status = dover_done(&engine, j[0], j[1]);
+            if (status != DOVER_DONE) fprintf(stderr, "not done: %" PRIu32 "\n", status);
+            settle(j[0]);
+            continue;
+        }
         dover_admitted a = dover_admit(&engine, j[0], j[1], j[2], j[3]);
         if (a.status != DOVER_ADMITTED) fprintf(stderr, "refused: %" PRIu32 "\n", a.status);
         for (int i = 0; i < 4 && a.status == DOVER_ADMITTED; i++) jobs[a.number % 1000000][i] = j[i];

@@ -41,13 +41,18 @@ fn main() -> Result<(), Box<dyn std::error::Error>> {
     for line in lines.take_while(|line| *line != "end") {
         let fields = numbers(line)?;
         settle(&mut out, &mut engine, fields[0], &jobs)?;
-        if let [release, work, deadline, value] = fields[..] {
-            match engine.admit(release, work, deadline, value).status {
+        match fields[..] {
+            [release, work, deadline, value] => match engine.admit(release, work, deadline, value).status {
                 0 => jobs.push([release, work, deadline, value]),
                 status => eprintln!("refused: {status}"),
-            }
-            settle(&mut out, &mut engine, release, &jobs)?;
+            },
+            [tick, job] => match engine.done(tick, job) {
+                0 => {}
+                status => eprintln!("not done: {status}"),
+            },
+            _ => {}
         }
+        settle(&mut out, &mut engine, fields[0], &jobs)?;
     }
     loop {
         match engine.finish() {

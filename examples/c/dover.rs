@@ -44,6 +44,7 @@ unsafe extern "C" {
     fn dover_init(place: *mut Place, p: u32, q: u32, version: u32, capacity: u32);
     fn dover_status(place: *mut Place) -> u32;
     fn dover_admit(place: *mut Place, release: u64, work: u64, deadline: u64, value: u64) -> Admitted;
+    fn dover_done(place: *mut Place, tick: u64, job: u64) -> u32;
     fn dover_step(place: *mut Place, mark: u64) -> Decision;
     fn dover_finish(place: *mut Place) -> Decision;
     fn dover_next(place: *mut Place) -> Due;
@@ -70,6 +71,11 @@ impl Dover {
 
     pub fn admit(&mut self, release: u64, work: u64, deadline: u64, value: u64) -> Admitted {
         unsafe { dover_admit(self.0, release, work, deadline, value) }
+    }
+
+    /// 0 where the job is done at this tick, or the status that says why not.
+    pub fn done(&mut self, tick: u64, job: u64) -> u32 {
+        unsafe { dover_done(self.0, tick, job) }
     }
 
     pub fn step(&mut self, mark: u64) -> Decision {

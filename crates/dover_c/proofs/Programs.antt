@@ -1,7 +1,4 @@
 -- What a program in C does, as calls of an engine.
-use Rattle.std.proofs.Common.{◌≡◌, ℕ, ◌≤◌, List, [], ◌∷◌, ◌++◌, map, refl, sym, ap, ◌∙◌, subst, cond, append-nil, Bool}
-use Rattle.std.proofs.Common.{true, false, inl, inr}
-use Rattle.std.specs.Prelude.{Option, Some, None, ◌==◌, ◌||◌, not, nat_lt, Result, Ok, Err}
 use Rattle.std.proofs.Common.{◌≡◌, ℕ, ◌≤◌, List, [], ◌∷◌, ◌++◌, map, refl, sym, ap, ◌∙◌, subst, cond, append-nil}
 use Rattle.std.proofs.Common.{Bool, true, false, inl, inr}
 use Rattle.std.specs.Prelude.{Option, Some, None, ◌⊎◌, ◌==◌, ◌||◌, ◌&&◌, not, nat_lt, nat_le, Result, Ok, Err}
@@ -13,7 +10,9 @@ use Rattle.dover_model.specs.declared.events.Event.TheVariants as events
 use Rattle.dover_model.specs.declared.events.Version.{Version}
 use Rattle.dover_model.specs.declared.events.Version.TheVariants.{One, Two, Three}
 use Rattle.dover_model.specs.Fraction.{Fraction, is_ratio}
+use Rattle.dover_model.specs.Finishes as early
 use Rattle.dover_model.specs.JobFacts.{JobFacts}
+use Rattle.dover_model.specs.Observed.{observed}
 use Rattle.dover_model.specs.Limits.{most_jobs}
 use Rattle.dover_model.specs.Instance.{Instance, total_value}
 use Rattle.dover_model.specs.Run.{printed, completed_value}
@@ -23,6 +22,7 @@ use Rattle.dover_model.specs.Step.{Prints}
 use Rattle.dover_model.specs.Underload.{takes_or_abandons}
 use Rattle.dover_model.specs.Schedules.{Meets, worth}
 use Rattle.dover_model.specs.Bound.{IsWithin}
+use Rattle.dover_model.proofs.Members.{some_same}
 use Rattle.dover_model.proofs.Tests.{never}
 use Rattle.dover_model.specs.declared.horizon.Horizon.{Horizon}
 use Rattle.dover_model.specs.declared.horizon.Horizon.TheVariants as horizon
@@ -42,11 +42,9 @@ use Rattle.dover_c.specs.declared.Decided.{Decided}
 use Rattle.dover_c.specs.declared.slot.Slot.{Slot}
 use Rattle.dover_c.specs.Codes.{version_number, made_status, mark_code, numbers_of, IsStepOf, Stands, IsMade, IsFresh}
 use Rattle.dover_c.specs.Codes.{CallsOn}
-use Rattle.dover_c.specs.Codes.{Admits, Steps, Finishes}
-use Rattle.dover_c.specs.Program.{Act, Admit, Step, Finish, Ask, Does, DoesAll, IsProgram, told, jobs_told, all_told}
-use Rattle.dover_c.specs.Program.{is_decision, answers, given, shown}
-use Rattle.dover_c.specs.Program.{Act, Admit, Step, Finish, Ask, Drop, Does, DoesAll, IsProgram, told, jobs_told}
-use Rattle.dover_c.specs.Program.{all_told, is_decision, answers, given, shown}
+use Rattle.dover_c.specs.Codes.{Admits, Ends, Steps, Finishes}
+use Rattle.dover_c.specs.Program.{Act, Admit, Done, Step, Finish, Ask, Drop, Does, DoesAll, IsProgram, told}
+use Rattle.dover_c.specs.Program.{jobs_told, finishes_told, all_told, is_decision, answers, given, shown}
 
 -- ---- decisions that lose no job
 
@@ -76,6 +74,7 @@ each_kept (e ∷ es) each answer (inr member) = each_kept es (λ f there. each f
 answers_append : (acts more : List Act) → answers (acts ++ more) ≡ answers acts ++ answers more
 answers_append [] more = refl
 answers_append (Admit job answer ∷ acts) more = answers_append acts more
+answers_append (Done tick f answer ∷ acts) more = answers_append acts more
 answers_append (Step mark answer ∷ acts) more = ap (λ es. answer ∷ es) (answers_append acts more)
 answers_append (Finish answer ∷ acts) more = ap (λ es. answer ∷ es) (answers_append acts more)
 answers_append (Ask ∷ acts) more = answers_append acts more
@@ -139,27 +138,47 @@ record Turned (v : Life) (acts : List Act) (t : Slot) : Type 0 where
   pub there : (t.engine ≡ Some w) ⊎ (t.engine ≡ None)
   pub leads : engine.LeadsAll calls v w
   pub jobs : engine.admitted calls ≡ told acts
+  pub finishes : engine.finishes_in calls ≡ finishes_told acts
   pub decisions : map shown (engine.decided calls) ≡ given acts
 
 -- nothing was done
 nothing : (v : Life) (act : Act) (t : Slot) → (t.engine ≡ Some v) ⊎ (t.engine ≡ None) → told (act ∷ []) ≡ []
-    → given (act ∷ []) ≡ [] → Turned v (act ∷ []) t
-nothing v act t there jobs none =
-    record { calls = []; w = v; there = there; leads = refl; jobs = sym jobs; decisions = sym none }
+    → finishes_told (act ∷ []) ≡ [] → given (act ∷ []) ≡ [] → Turned v (act ∷ []) t
+nothing v act t there jobs finishes none = record {
+  calls = [];
+  w = v;
+  there = there;
+  leads = refl;
+  jobs = sym jobs;
+  finishes = sym finishes;
+  decisions = sym none;
+}
 
 -- one call was made
 one_call : (v w : Life) (act : Act) (call : engine.Call) (t : Slot) → t.engine ≡ Some w → engine.Leads call v w
-    → engine.admitted (call ∷ []) ≡ told (act ∷ []) → map shown (engine.decided (call ∷ [])) ≡ given (act ∷ [])
-    → Turned v (act ∷ []) t
-one_call v w act call t there leads jobs decisions =
-    record { calls = call ∷ []; w = w; there = inl there; leads = (w, leads, refl); jobs = jobs; decisions = decisions }
+    → engine.admitted (call ∷ []) ≡ told (act ∷ []) → engine.finishes_in (call ∷ []) ≡ finishes_told (act ∷ [])
+    → map shown (engine.decided (call ∷ [])) ≡ given (act ∷ []) → Turned v (act ∷ []) t
+one_call v w act call t there leads jobs finishes decisions = record {
+  calls = call ∷ [];
+  w = w;
+  there = inl there;
+  leads = (w, leads, refl);
+  jobs = jobs;
+  finishes = finishes;
+  decisions = decisions;
+}
 
 -- a cause is no decision
+cause_decides : (cause : NotStepped)
+    → is_decision (record { tick = 0; job = 0; other = 0; kind = mark_code cause }) ≡ false
+cause_decides Finished = refl
+cause_decides Falls = refl
+cause_decides Late = refl
+
 no_decision : (cause : NotStepped)
     → filter is_decision (record { tick = 0; job = 0; other = 0; kind = mark_code cause } ∷ []) ≡ []
-no_decision Finished = refl
-no_decision Falls = refl
-no_decision Late = refl
+no_decision cause = ap (λ b. cond b (record { tick = 0; job = 0; other = 0; kind = mark_code cause } ∷ []) [])
+    (cause_decides cause)
 
 -- nor none
 not_none : (cause : NotStepped) → mark_code cause ≡ 0 → ⊥
@@ -182,11 +201,23 @@ turn_admit v job answer s t it = by_status (answer.status == 0) refl where
   by_status : (b : Bool) → (answer.status == 0) ≡ b → Turned v (Admit job answer ∷ []) t
   by_status true is = one_call v it.0 (Admit job answer) (engine.Admitted job answer.number) t
       (ap (λ (x : Slot). x.engine) it.1)
-      (it.2.ok (eqb-true answer.status 0 is)) (sym (ap (λ b. cond b ((answer.number, job) ∷ []) []) is)) refl
+      (it.2.ok (eqb-true answer.status 0 is)) (sym (ap (λ b. cond b ((answer.number, job) ∷ []) []) is)) refl refl
   by_status false is =
       let same : it.0 ≡ v = (it.2.refused (λ e. never (sym is ∙ eq-eqb answer.status 0 e))).same in
       nothing v (Admit job answer) t (inl (ap (λ (x : Slot). x.engine) it.1 ∙ ap Some same))
-      (ap (λ b. cond b ((answer.number, job) ∷ []) []) is) refl
+      (ap (λ b. cond b ((answer.number, job) ∷ []) []) is) refl refl
+
+-- a job that is done
+turn_done : (v : Life) (tick : ℕ) (f : early.Finish) (answer : ℕ) (s t : Slot)
+    → CallsOn (Some v) s t (answer ≡ 7) (Ends tick f answer) → Turned v (Done tick f answer ∷ []) t
+turn_done v tick f answer s t it = by_answer (answer == 0) refl where
+  by_answer : (b : Bool) → (answer == 0) ≡ b → Turned v (Done tick f answer ∷ []) t
+  by_answer true is = one_call v it.0 (Done tick f answer) (engine.Done tick f) t (ap (λ (x : Slot). x.engine) it.1)
+      (it.2.ok (eqb-true answer 0 is)) refl (sym (ap (λ b. cond b (f ∷ []) []) is)) refl
+  by_answer false is =
+      let same : it.0 ≡ v = (it.2.refused (λ e. never (sym is ∙ eq-eqb answer 0 e))).same in
+      nothing v (Done tick f answer) t (inl (ap (λ (x : Slot). x.engine) it.1 ∙ ap Some same)) refl
+      (ap (λ b. cond b (f ∷ []) []) is) refl
 
 -- a step to a mark
 turn_step : (v : Life) (mark : ℕ) (answer : Decided) (s t : Slot)
@@ -199,11 +230,11 @@ turn_step v mark answer s t (w, is, it) = by_says it.says it.step it.shown where
   ] → Turned v (Step mark answer ∷ []) t
   by_says (Ok decision) step so =
       one_call v w (Step mark answer) (engine.Stepped (horizon.Mark mark) decision) t
-      (ap (λ (x : Slot). x.engine) is) step refl
+      (ap (λ (x : Slot). x.engine) is) step refl refl
       (ap (map shown) (append-nil (events_in decision)) ∙ sym (given_of decision)
       ∙ ap (λ a. filter is_decision (a ∷ [])) (sym so))
   by_says (Err cause) step so =
-      nothing v (Step mark answer) t (inl (ap (λ (x : Slot). x.engine) is ∙ ap Some step.1)) refl
+      nothing v (Step mark answer) t (inl (ap (λ (x : Slot). x.engine) is ∙ ap Some step.1)) refl refl
       (ap (λ a. filter is_decision (a ∷ [])) so ∙ no_decision cause)
 
 -- a step to the end
@@ -211,7 +242,7 @@ turn_finish : (v : Life) (answer : Decided) (s t : Slot) → CallsOn (Some v) s 
     → Turned v (Finish answer ∷ []) t
 turn_finish v answer s t (w, is, it) =
     one_call v w (Finish answer) (engine.Stepped horizon.End it.says) t (ap (λ (x : Slot). x.engine) is)
-    (may_end v, it.step) refl
+    (may_end v, it.step) refl refl
     (ap (map shown) (append-nil (events_in it.says)) ∙ sym (given_of it.says)
     ∙ ap (λ a. filter is_decision (a ∷ [])) (sym it.shown))
 
@@ -219,12 +250,14 @@ turn_finish v answer s t (w, is, it) =
 turn_one : (v : Life) (act : Act) (s t : Slot) → s.engine ≡ Some v → Does act s t → Turned v (act ∷ []) t
 turn_one v (Admit job answer) s t there does = turn_admit v job answer s t
     (subst (λ o. CallsOn o s t (answer.status ≡ 7) (Admits job answer)) there does)
+turn_one v (Done tick f answer) s t there does =
+    turn_done v tick f answer s t (subst (λ o. CallsOn o s t (answer ≡ 7) (Ends tick f answer)) there does)
 turn_one v (Step mark answer) s t there does =
     turn_step v mark answer s t (subst (λ o. CallsOn o s t (answer.kind ≡ 11) (Steps mark answer)) there does)
 turn_one v (Finish answer) s t there does =
     turn_finish v answer s t (subst (λ o. CallsOn o s t (answer.kind ≡ 11) (Finishes answer)) there does)
-turn_one v Ask s t there does = nothing v Ask t (inl (ap (λ (x : Slot). x.engine) does ∙ there)) refl refl
-turn_one v Drop s t there does = nothing v Drop t (inr (ap (λ (x : Slot). x.engine) does)) refl refl
+turn_one v Ask s t there does = nothing v Ask t (inl (ap (λ (x : Slot). x.engine) does ∙ there)) refl refl refl
+turn_one v Drop s t there does = nothing v Drop t (inr (ap (λ (x : Slot). x.engine) does)) refl refl refl
 
 -- two lists
 told_append : (acts more : List Act) → told (acts ++ more) ≡ told acts ++ told more
@@ -235,10 +268,25 @@ told_append (Admit job answer ∷ acts) more = by_test (answer.status == 0) (tol
       ((answer.number, job) ∷ told acts) (told acts) ++ told more
   by_test true same = ap (λ js. (answer.number, job) ∷ js) same
   by_test false same = same
+told_append (Done tick f answer ∷ acts) more = told_append acts more
 told_append (Step mark answer ∷ acts) more = told_append acts more
 told_append (Finish answer ∷ acts) more = told_append acts more
 told_append (Ask ∷ acts) more = told_append acts more
 told_append (Drop ∷ acts) more = told_append acts more
+
+finishes_append : (acts more : List Act) → finishes_told (acts ++ more) ≡ finishes_told acts ++ finishes_told more
+finishes_append [] more = refl
+finishes_append (Admit job answer ∷ acts) more = finishes_append acts more
+finishes_append (Done tick f answer ∷ acts) more = by_test (answer == 0) (finishes_append acts more) where
+  by_test : (b : Bool) → finishes_told (acts ++ more) ≡ finishes_told acts ++ finishes_told more
+      → cond b (f ∷ finishes_told (acts ++ more)) (finishes_told (acts ++ more))
+      ≡ cond b (f ∷ finishes_told acts) (finishes_told acts) ++ finishes_told more
+  by_test true same = ap (λ fs. f ∷ fs) same
+  by_test false same = same
+finishes_append (Step mark answer ∷ acts) more = finishes_append acts more
+finishes_append (Finish answer ∷ acts) more = finishes_append acts more
+finishes_append (Ask ∷ acts) more = finishes_append acts more
+finishes_append (Drop ∷ acts) more = finishes_append acts more
 
 leads_append : (xs ys : List engine.Call) (v u w : Life) → engine.LeadsAll xs v u → engine.LeadsAll ys u w
     → engine.LeadsAll (xs ++ ys) v w
@@ -251,6 +299,7 @@ leads_append (x ∷ xs) ys v u w it more = (it.0, it.1, leads_append xs ys it.0 
 record Idle (acts : List Act) (t : Slot) : Type 0 where
   pub there : t.engine ≡ None
   pub jobs : told acts ≡ []
+  pub finishes : finishes_told acts ≡ []
   pub decisions : given acts ≡ []
 
 -- an answer of kind 11 is no decision
@@ -263,6 +312,15 @@ idle_one (Admit job answer) s t none does =
     subst (λ o. CallsOn o s t (answer.status ≡ 7) (Admits job answer)) none does in record {
       there = ap (λ (x : Slot). x.engine) it.1 ∙ none;
       jobs = ap (λ n. cond (n == 0) ((answer.number, job) ∷ []) []) it.0;
+      finishes = refl;
+      decisions = refl;
+    }
+idle_one (Done tick f answer) s t none does =
+    let it : (answer ≡ 7) × (t ≡ s) =
+    subst (λ o. CallsOn o s t (answer ≡ 7) (Ends tick f answer)) none does in record {
+      there = ap (λ (x : Slot). x.engine) it.1 ∙ none;
+      jobs = refl;
+      finishes = ap (λ n. cond (n == 0) (f ∷ []) []) it.0;
       decisions = refl;
     }
 idle_one (Step mark answer) s t none does =
@@ -270,6 +328,7 @@ idle_one (Step mark answer) s t none does =
     subst (λ o. CallsOn o s t (answer.kind ≡ 11) (Steps mark answer)) none does in record {
       there = ap (λ (x : Slot). x.engine) it.1 ∙ none;
       jobs = refl;
+      finishes = refl;
       decisions = kind_idle answer it.0;
     }
 idle_one (Finish answer) s t none does =
@@ -277,21 +336,23 @@ idle_one (Finish answer) s t none does =
     subst (λ o. CallsOn o s t (answer.kind ≡ 11) (Finishes answer)) none does in record {
       there = ap (λ (x : Slot). x.engine) it.1 ∙ none;
       jobs = refl;
+      finishes = refl;
       decisions = kind_idle answer it.0;
     }
 idle_one Ask s t none does =
-    record { there = ap (λ (x : Slot). x.engine) does ∙ none; jobs = refl; decisions = refl }
+    record { there = ap (λ (x : Slot). x.engine) does ∙ none; jobs = refl; finishes = refl; decisions = refl }
 idle_one Drop s t none does =
-    record { there = ap (λ (x : Slot). x.engine) does; jobs = refl; decisions = refl }
+    record { there = ap (λ (x : Slot). x.engine) does; jobs = refl; finishes = refl; decisions = refl }
 
 idle_all : (acts : List Act) (s t : Slot) → s.engine ≡ None → DoesAll acts s t → Idle acts t
 idle_all [] s t none here =
-    record { there = ap (λ (x : Slot). x.engine) here ∙ none; jobs = refl; decisions = refl }
+    record { there = ap (λ (x : Slot). x.engine) here ∙ none; jobs = refl; finishes = refl; decisions = refl }
 idle_all (act ∷ acts) s t none it =
     let one = idle_one act s it.0 none it.1 in
     let rest = idle_all acts it.0 t one.there it.2 in record {
       there = rest.there;
       jobs = told_append (act ∷ []) acts ∙ ap (λ js. js ++ told acts) one.jobs ∙ rest.jobs;
+      finishes = finishes_append (act ∷ []) acts ∙ ap (λ fs. fs ++ finishes_told acts) one.finishes ∙ rest.finishes;
       decisions = given_append (act ∷ []) acts ∙ ap (λ es. es ++ given acts) one.decisions ∙ rest.decisions;
     }
 
@@ -307,6 +368,9 @@ turn_idle v act acts u t one rest = record {
   leads = one.leads;
   jobs = one.jobs ∙ sym (append-nil (told (act ∷ []))) ∙ ap (λ js. told (act ∷ []) ++ js) (sym rest.jobs)
       ∙ sym (told_append (act ∷ []) acts);
+  finishes = one.finishes ∙ sym (append-nil (finishes_told (act ∷ [])))
+      ∙ ap (λ fs. finishes_told (act ∷ []) ++ fs) (sym rest.finishes)
+      ∙ sym (finishes_append (act ∷ []) acts);
   decisions = one.decisions ∙ sym (append-nil (given (act ∷ []))) ∙ ap (λ es. given (act ∷ []) ++ es)
       (sym rest.decisions)
       ∙ sym (given_append (act ∷ []) acts);
@@ -319,6 +383,7 @@ turn_all [] v s t there here = record {
   there = inl (ap (λ (x : Slot). x.engine) here ∙ there);
   leads = refl;
   jobs = refl;
+  finishes = refl;
   decisions = refl;
 }
 turn_all (act ∷ acts) v s t there it = let one = turn_one v act s it.0 there it.1 in elim one.there [
@@ -329,6 +394,9 @@ turn_all (act ∷ acts) v s t there it = let one = turn_one v act s it.0 there i
     leads = leads_append one.calls rest.calls v one.w rest.w one.leads rest.leads;
     jobs = life.admitted_append one.calls rest.calls ∙ ap (λ js. js ++ engine.admitted rest.calls) one.jobs
         ∙ ap (λ js. told (act ∷ []) ++ js) rest.jobs ∙ sym (told_append (act ∷ []) acts);
+    finishes = life.finishes_append one.calls rest.calls
+        ∙ ap (λ fs. fs ++ engine.finishes_in rest.calls) one.finishes
+        ∙ ap (λ fs. finishes_told (act ∷ []) ++ fs) rest.finishes ∙ sym (finishes_append (act ∷ []) acts);
     decisions = ap (map shown) (life.decided_append one.calls rest.calls)
         ∙ map-append shown (engine.decided one.calls) (engine.decided rest.calls)
         ∙ ap (λ es. es ++ map shown (engine.decided rest.calls)) one.decisions
@@ -366,7 +434,8 @@ engine_made p q version capacity made is_made none = by_engine made.engine refl 
   by_engine : (o : Option Life) → made.engine ≡ o → Stands p q version capacity made.status o → (v : Life)
       × (made.engine ≡ Some v) × IsFresh p q version capacity v
   by_engine None e status =
-      absurd (some_status (not ((version == 1) || (version == 2))) (not (is_ratio (record { p = p; q = q })))
+      absurd (some_status (not ((version == 1) || (version == 2) || (version == 3)))
+      (not (is_ratio (record { p = p; q = q })))
       (nat_lt most_jobs capacity) (sym status ∙ none))
   by_engine (Some v) e it = (v, e, it.1)
 
@@ -381,6 +450,7 @@ module _ (version : Version) (p q capacity : ℕ) where
     pub there : (t.engine ≡ Some w) ⊎ (t.engine ≡ None)
     pub lives : engine.Lives version k calls w
     pub jobs : engine.admitted calls ≡ told acts
+    pub finishes : engine.finishes_in calls ≡ finishes_told acts
     pub decisions : map shown (engine.decided calls) ≡ given acts
 
   living : (acts : List Act) (t : Slot) → IsProgram version p q capacity acts t → Living acts t
@@ -397,14 +467,21 @@ module _ (version : Version) (p q capacity : ℕ) where
           lives = turned.leads;
         };
         jobs = turned.jobs;
+        finishes = turned.finishes;
         decisions = turned.decisions;
       }
 
-  -- calls before a call
+  -- calls before calls
+  part_all : (acts more : List Act) (s t : Slot) → DoesAll (acts ++ more) s t → (u : Slot) × DoesAll acts s u
+      × DoesAll more u t
+  part_all [] more s t it = (s, refl, it)
+  part_all (a ∷ acts) more s t it = let rest = part_all acts more it.0 t it.2 in (rest.0, (it.0, it.1, rest.1), rest.2)
+
+  -- and before one
   part : (acts : List Act) (act : Act) (s t : Slot) → DoesAll (acts ++ (act ∷ [])) s t → (u : Slot) × DoesAll acts s u
       × Does act u t
-  part [] act s t it = (s, refl, subst (Does act s) (sym it.2) it.1)
-  part (a ∷ acts) act s t it = let rest = part acts act it.0 t it.2 in (rest.0, (it.0, it.1, rest.1), rest.2)
+  part acts act s t it = let rest = part_all acts (act ∷ []) s t it in
+      (rest.0, rest.1, subst (Does act rest.0) (sym rest.2.2) rest.2.1)
 
   module _ (acts : List Act) (act : Act) (t : Slot)
       (program : IsProgram version p q capacity (acts ++ (act ∷ [])) t) where
@@ -417,11 +494,14 @@ module _ (version : Version) (p q capacity : ℕ) where
 
   -- their jobs
   all_are : (calls : List engine.Call) (acts : List Act) → engine.admitted calls ≡ told acts
-      → engine.all_jobs version k calls ≡ all_told version p q acts
-  all_are calls acts jobs = ap (λ (js : List (ℕ × JobFacts)). let J : Instance = record {
-    rules = record { ratio = k; version = version; finishes = [] };
+      → engine.finishes_in calls ≡ finishes_told acts → engine.all_jobs version k calls ≡ all_told version p q acts
+  all_are calls acts jobs finishes = ap (λ (js : List (ℕ × JobFacts)). let J : Instance = record {
+    rules = record { ratio = k; version = version; finishes = engine.finishes_in calls };
     jobs = map (λ (n_j : ℕ × JobFacts). n_j.1) js;
-  } in J) jobs
+  } in J) jobs ∙ ap (λ (fs : List early.Finish). let J : Instance = record {
+    rules = record { ratio = k; version = version; finishes = fs };
+    jobs = jobs_told acts;
+  } in J) finishes
 
   pub numbers : (acts : List Act) (t : Slot) → IsProgram version p q capacity acts t
       → told acts ≡ enumerate_from 0 (jobs_told acts)
@@ -466,7 +546,67 @@ module _ (version : Version) (p q capacity : ℕ) where
                 (w, subst (λ d. engine.Leads (engine.Stepped (horizon.Mark mark) d) it.w w) is_none leads, refl);
           } in
           sym it.decisions ∙ ap (map shown) (life.settled_all version k it.calls mark w further
-          ∙ ap (λ J. settled J mark) (all_are it.calls acts it.jobs))
+          ∙ ap (λ J. settled J mark) (all_are it.calls acts it.jobs it.finishes))
+
+  -- behind a job that is done, its completion is given
+  pub done_given : (acts : List Act) (tick mark : ℕ) (f : early.Finish) (answer : Decided) (t : Slot)
+      → IsProgram version p q capacity (acts ++ (Done tick f 0 ∷ Step mark answer ∷ [])) t
+      → is_decision answer ≡ true → answer ≡ shown (events.Complete tick f.number)
+  done_given acts tick mark f answer t program decides = elim it.there [
+    | inl here ↦ by_done (subst (λ o. CallsOn o u s (◌≡◌ {A = ℕ} 0 7) (Ends tick f 0)) here does.1)
+    | inr gone ↦
+        let idle = subst (λ o. CallsOn o u s (◌≡◌ {A = ℕ} 0 7) (Ends tick f 0)) gone does.1 in
+        absurd (let clash : ◌≡◌ {A = ℕ} 0 7 = idle.0 in cc)
+  ] where
+    parts_of : (x : Slot) × DoesAll acts program.made x × DoesAll (Done tick f 0 ∷ Step mark answer ∷ []) x t
+    parts_of = part_all acts (Done tick f 0 ∷ Step mark answer ∷ []) program.made t program.does
+
+    u : Slot
+    u = parts_of.0
+
+    does : DoesAll (Done tick f 0 ∷ Step mark answer ∷ []) u t
+    does = parts_of.2
+
+    s : Slot
+    s = does.0
+
+    it : Living acts u
+    it = living acts u
+        (record { made = program.made; is_made = program.is_made; status = program.status; does = parts_of.1 })
+
+    by_answer : (w : Life) → engine.IsDone it.w w tick f → (w2 : Life) (decision : Option Decision)
+        → engine.Leads (engine.Stepped (horizon.Mark mark) decision) w w2 → answer ≡ numbers_of decision
+        → answer ≡ shown (events.Complete tick f.number)
+    by_answer w done w2 decision leads so =
+        let further : engine.Lives version k
+        (it.calls ++ (engine.Done tick f ∷ engine.Stepped (horizon.Mark mark) decision ∷ [])) w2 = record {
+          made = it.lives.made;
+          fresh = it.lives.fresh;
+          lives = leads_append it.calls (engine.Done tick f ∷ engine.Stepped (horizon.Mark mark) decision ∷ [])
+              it.lives.made it.w w2 it.lives.lives (w, done, (w2, leads, refl));
+        } in
+        by_decision decision so (life.done_all version k it.calls tick f (horizon.Mark mark) decision w2 further) where
+          by_decision : (o : Option Decision) → answer ≡ numbers_of o
+              → event_in o ≡ Some (events.Complete tick f.number) → answer ≡ shown (events.Complete tick f.number)
+          by_decision None shows is = absurd (let clash : None ≡ Some (events.Complete tick f.number) = is in cc)
+          by_decision (Some d) shows is = shows ∙ shown_is d
+              ∙ ap shown (some_same (event_of d) (events.Complete tick f.number) is)
+
+    by_step : (w : Life) → engine.IsDone it.w w tick f
+        → CallsOn (Some w) s does.2.0 (answer.kind ≡ 11) (Steps mark answer)
+        → answer ≡ shown (events.Complete tick f.number)
+    by_step w done (w2, is, step) = by_says step.says step.step step.shown where
+      by_says : (says : Result (Option Decision) NotStepped) → IsStepOf mark w w2 says → answer ≡ elim says [
+        | Ok decision ↦ numbers_of decision
+        | Err cause ↦ record { tick = 0; job = 0; other = 0; kind = mark_code cause }
+      ] → answer ≡ shown (events.Complete tick f.number)
+      by_says (Ok decision) leads so = by_answer w done w2 decision leads so
+      by_says (Err cause) leads so = never (sym (ap is_decision so ∙ cause_decides cause) ∙ decides)
+
+    by_done : CallsOn (Some it.w) u s (◌≡◌ {A = ℕ} 0 7) (Ends tick f 0) → answer ≡ shown (events.Complete tick f.number)
+    by_done (w, is, ends) = by_step w (ends.ok refl)
+        (subst (λ o. CallsOn o s does.2.0 (answer.kind ≡ 11) (Steps mark answer)) (ap (λ (x : Slot). x.engine) is)
+        does.2.1)
 
   -- what was given begins the run
   pub begins_given : (acts : List Act) (t : Slot) → IsProgram version p q capacity acts t → (later : List Decided)
@@ -475,7 +615,7 @@ module _ (version : Version) (p q capacity : ℕ) where
       let it = living acts t program in
       let begins = life.begins_all version k it.calls it.w it.lives in (
         map shown begins.0,
-        ap (λ J. map shown (printed J)) (sym (all_are it.calls acts it.jobs)) ∙ ap (map shown) begins.1
+        ap (λ J. map shown (printed J)) (sym (all_are it.calls acts it.jobs it.finishes)) ∙ ap (map shown) begins.1
             ∙ map-append shown (engine.decided it.calls) begins.0
             ∙ ap (λ es. es ++ map shown begins.0) it.decisions,
       )
@@ -483,20 +623,35 @@ module _ (version : Version) (p q capacity : ℕ) where
   pub within_given : (acts : List Act) (t : Slot) → IsProgram version p q capacity acts t → (s : List ℕ)
       → IsWithin k (worth (all_told version p q acts) s) (completed_value (all_told version p q acts))
   within_given acts t program s = let it = living acts t program in
-      subst (λ (J : Instance). IsWithin k (worth J s) (completed_value J)) (all_are it.calls acts it.jobs)
+      subst (λ (J : Instance). IsWithin k (worth J s) (completed_value J)) (all_are it.calls acts it.jobs it.finishes)
       (life.within_all version k it.calls it.w it.lives s)
 
+  pub observed_given : (acts : List Act) (t : Slot) → IsProgram version p q capacity acts t → (s : List ℕ)
+      → IsWithin k (worth (observed (all_told version p q acts)) s) (completed_value (all_told version p q acts))
+  observed_given acts t program s = let it = living acts t program in
+      subst (λ (J : Instance). IsWithin k (worth (observed J) s) (completed_value J))
+      (all_are it.calls acts it.jobs it.finishes)
+      (life.observed_within_all version k it.calls it.w it.lives s)
+
+  pub as_declared_given : (acts : List Act) (t : Slot) → IsProgram version p q capacity acts t
+      → finishes_told acts ≡ [] → observed (all_told version p q acts) ≡ all_told version p q acts
+  as_declared_given acts t program none = let it = living acts t program in
+      subst (λ (J : Instance). observed J ≡ J) (all_are it.calls acts it.jobs it.finishes)
+      (life.as_declared_all version k it.calls it.w it.lives (it.finishes ∙ none))
+
   pub honest_given : (acts : List Act) (t : Slot) → IsProgram version p q capacity acts t
-      → (s : List ℕ) × (completed_value (all_told version p q acts) ≤ worth (all_told version p q acts) s)
+      → (s : List ℕ) × (completed_value (all_told version p q acts) ≤ worth (observed (all_told version p q acts)) s)
   honest_given acts t program = let it = living acts t program in
-      subst (λ (J : Instance). (s : List ℕ) × (completed_value J ≤ worth J s)) (all_are it.calls acts it.jobs)
+      subst (λ (J : Instance). (s : List ℕ) × (completed_value J ≤ worth (observed J) s))
+      (all_are it.calls acts it.jobs it.finishes)
       (life.honest_all version k it.calls it.w it.lives)
 
   pub underload_given : (acts : List Act) (t : Slot) → IsProgram version p q capacity acts t
       → Meets (all_told version p q acts)
       → completed_value (all_told version p q acts) ≡ total_value (jobs_told acts)
   underload_given acts t program = let it = living acts t program in
-      subst (λ (J : Instance). Meets J → completed_value J ≡ total_value J.jobs) (all_are it.calls acts it.jobs)
+      subst (λ (J : Instance). Meets J → completed_value J ≡ total_value J.jobs)
+      (all_are it.calls acts it.jobs it.finishes)
       (life.underload_all version k it.calls it.w it.lives)
 
   -- no decision that was given takes_or_abandons a job then
@@ -504,7 +659,8 @@ module _ (version : Version) (p q capacity : ℕ) where
       → Meets (all_told version p q acts) → Each (λ answer. (answer.kind ≡ 4 → ⊥) × (answer.kind ≡ 6 → ⊥)) (given acts)
   unlost_given acts t program meets = let it = living acts t program in
       subst (Each IsKept) it.decisions (each_kept (engine.decided it.calls)
-      (life.none_lost_all version k it.calls it.w it.lives (subst Meets (sym (all_are it.calls acts it.jobs)) meets)))
+      (life.none_lost_all version k it.calls it.w it.lives (subst Meets
+      (sym (all_are it.calls acts it.jobs it.finishes)) meets)))
 
   -- an answer of kind 7 is an End
   kind_end : (says : Option Decision) → (numbers_of says).kind ≡ 7 → (value : ℕ)
@@ -556,6 +712,8 @@ module _ (version : Version) (p q capacity : ℕ) where
         ∙ or_holds (has_ended it.w) (is_end_given (event_in fin.says)) (ap is_end_given is_end.1) in
         let jobs : engine.admitted (it.calls ++ (last ∷ [])) ≡ told acts =
         life.admitted_append it.calls (last ∷ []) ∙ append-nil (engine.admitted it.calls) ∙ it.jobs in
+        let finishes : engine.finishes_in (it.calls ++ (last ∷ [])) ≡ finishes_told acts =
+        life.finishes_append it.calls (last ∷ []) ∙ append-nil (engine.finishes_in it.calls) ∙ it.finishes in
         given_append acts (Finish answer ∷ [])
         ∙ ap (λ es. es ++ given (Finish answer ∷ [])) (sym it.decisions)
         ∙ ap (λ es. map shown (engine.decided it.calls) ++ es)
@@ -564,4 +722,4 @@ module _ (version : Version) (p q capacity : ℕ) where
         ∙ sym (map-append shown (engine.decided it.calls) (engine.decided (last ∷ [])))
         ∙ ap (map shown) (sym (life.decided_append it.calls (last ∷ []))
         ∙ life.ended_all version k (it.calls ++ (last ∷ [])) w further ended
-        ∙ ap printed (all_are (it.calls ++ (last ∷ [])) acts jobs))
+        ∙ ap printed (all_are (it.calls ++ (last ∷ [])) acts jobs finishes))

@@ -5,14 +5,16 @@ use Rattle.dover_model.specs.Limits.{most_jobs}
 use Rattle.dover_model.specs.Fraction.{is_ratio, IsRatio}
 use Rattle.dover_model.specs.declared.events.Version.{Version}
 use Rattle.dover_model.specs.declared.events.Version.TheVariants.{One, Two, Three}
+use Rattle.dover_model.specs.Finishes.{Finish}
 use Rattle.dover_model.specs.JobFacts.{JobFacts}
 use Rattle.dover_model.specs.declared.horizon.Horizon.TheVariants as horizon
 use Rattle.dover_model.specs.Horizons.{MayFollow, no_jobs}
-use Rattle.dover_model.specs.declared.horizon.Horizon.TheVariants as horizon
 use Rattle.dover_engine.specs.declared.causes.NotAdmitted.{NotAdmitted}
 use Rattle.dover_engine.specs.declared.causes.NotAdmitted.TheVariants.{Unsettled, BadJob, Count, Total, Ratio, Full}
 use Rattle.dover_engine.specs.declared.causes.NotMade.{NotMade}
 use Rattle.dover_engine.specs.declared.causes.NotMade.TheVariants as not_made
+use Rattle.dover_engine.specs.declared.causes.NotDone.{NotDone}
+use Rattle.dover_engine.specs.declared.causes.NotDone.TheVariants as not_done
 use Rattle.dover_engine.specs.declared.causes.NotStepped.{NotStepped}
 use Rattle.dover_engine.specs.declared.causes.NotStepped.TheVariants as not_stepped
 use Rattle.dover_engine.specs.declared.decision.Decision.{Decision}
@@ -20,7 +22,7 @@ use Rattle.dover_engine.specs.declared.decision.Decision.TheVariants.{Release, R
 use Rattle.dover_engine.specs.declared.decision.Decision.TheVariants.{End}
 use Rattle.dover_engine.specs.Life.{Life, done_value, spare_of}
 use Rattle.dover_engine.specs.Given.{Gave}
-use Rattle.dover_engine.specs.Calls.{IsAdmitted, IsCause, Decides, IsNext, mark_refusal}
+use Rattle.dover_engine.specs.Calls.{IsAdmitted, IsCause, IsDone, IsNotDone, Decides, IsNext, mark_refusal}
 use Rattle.dover_c.specs.declared.Admitted.{Admitted}
 use Rattle.dover_c.specs.declared.Decided.{Decided}
 use Rattle.dover_c.specs.declared.Due.{Due}
@@ -36,7 +38,7 @@ made_code not_made.Memory = 3
 -- why no engine was made: the first of the limits that is broken, and 3 for want of memory where none is
 abbrev pub status_of : (p q version capacity : ℕ) → ℕ
 status_of p q version capacity =
-    if not ((version == 1) || (version == 2)) then 4
+    if not ((version == 1) || (version == 2) || (version == 3)) then 4
     else if not (is_ratio (record { p = p; q = q })) then 1
     else if nat_lt most_jobs capacity then 2 else 3
 
@@ -116,6 +118,34 @@ pub record Admits (job : JobFacts) (answer : Admitted) (v w : Life) : Type 0 whe
 
 abbrev pub AdmitAnswers : Slot → Slot → JobFacts → Admitted → Type 0
 AdmitAnswers s t job answer = Calls s t (answer.status ≡ 7) (Admits job answer)
+
+-- ---- early finishes
+
+-- the number of a cause
+abbrev pub done_code : NotDone → ℕ
+done_code not_done.Version = 4
+done_code not_done.Unsettled = 1
+done_code not_done.NotRunning = 3
+done_code not_done.Behind = 2
+
+-- the job wasn't taken as done, for this cause, and nothing changed
+pub record IsNotTaken (v w : Life) (tick job answer : ℕ) : Type 0 where
+  pub cause : NotDone
+  pub code : answer ≡ done_code cause
+  pub holds : IsNotDone v tick job cause
+  pub same : w ≡ v
+
+-- what the answer to a job that is done says
+pub record Ends (tick : ℕ) (f : Finish) (answer : ℕ) (v w : Life) : Type 0 where
+  pub ok : answer ≡ 0 → IsDone v w tick f
+  pub refused : (answer ≡ 0 → ⊥) → IsNotTaken v w tick f.number answer
+
+abbrev pub DoneAnswers : ℕ → Finish → Slot → Slot → ℕ → Type 0
+DoneAnswers tick f s t answer = Calls s t (answer ≡ 7) (Ends tick f answer)
+
+-- so it is of what the job had
+abbrev pub DoneSays : (tick job : ℕ) → Slot → Slot → ℕ → Type 0
+DoneSays tick job s t answer = (had : ℕ) × DoneAnswers tick (record { number = job; had = had }) s t answer
 
 -- ---- steps
 

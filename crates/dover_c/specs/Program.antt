@@ -4,17 +4,19 @@ use Rattle.std.specs.List.{filter}
 use Rattle.dover_model.specs.declared.events.Event.{Event}
 use Rattle.dover_model.specs.declared.events.Event.TheVariants.{Release, Run, Preempt, Take, Complete, Abandon, End}
 use Rattle.dover_model.specs.declared.events.Version.{Version}
+use Rattle.dover_model.specs.Finishes as early
 use Rattle.dover_model.specs.JobFacts.{JobFacts}
-use Rattle.dover_model.specs.Instance.{Instance, jobs_under}
+use Rattle.dover_model.specs.Instance.{Instance, jobs_under, with_finishes}
 use Rattle.dover_c.specs.declared.Admitted.{Admitted}
 use Rattle.dover_c.specs.declared.Decided.{Decided}
 use Rattle.dover_c.specs.declared.slot.Slot.{Slot}
 use Rattle.dover_c.specs.Codes.{version_number, made_status, IsMade, AdmitAnswers, StepAnswers, FinishAnswers}
-use Rattle.dover_c.specs.Codes.{DropAnswers}
+use Rattle.dover_c.specs.Codes.{DropAnswers, DoneAnswers}
 
 -- a call behind dover_init, with its answer
 pub data Act : Type 0 where
   Admit : JobFacts → Admitted → Act
+  Done : (tick : ℕ) → early.Finish → (answer : ℕ) → Act  -- the call names the job, and not what it had
   Step : ℕ → Decided → Act
   Finish : Decided → Act
   Ask : Act  -- for the status, the next tick, the value or the room
@@ -23,6 +25,7 @@ pub data Act : Type 0 where
 -- it leads from s to t
 abbrev pub Does : Act → Slot → Slot → Type 0
 Does (Admit job answer) s t = AdmitAnswers s t job answer
+Does (Done tick f answer) s t = DoneAnswers tick f s t answer
 Does (Step mark answer) s t = StepAnswers mark s t answer
 Does (Finish answer) s t = FinishAnswers s t answer
 Does Ask s t = t ≡ s
@@ -44,18 +47,30 @@ pub record IsProgram (version : Version) (p q capacity : ℕ) (acts : List Act) 
 abbrev pub told : List Act → List (ℕ × JobFacts)
 told [] = []
 told (Admit job answer ∷ acts) = if answer.status == 0 then (answer.number, job) ∷ told acts else told acts
+told (Done tick f answer ∷ acts) = told acts
 told (Step mark answer ∷ acts) = told acts
 told (Finish answer ∷ acts) = told acts
 told (Ask ∷ acts) = told acts
 told (Drop ∷ acts) = told acts
 
--- the jobs alone, and their instance
+-- the jobs alone
 abbrev pub jobs_told : List Act → List JobFacts
 jobs_told acts = map (λ n_j. n_j.1) (told acts)
 
+-- the early finishes that it was told were taken
+abbrev pub finishes_told : List Act → List early.Finish
+finishes_told [] = []
+finishes_told (Admit job answer ∷ acts) = finishes_told acts
+finishes_told (Done tick f answer ∷ acts) = if answer == 0 then f ∷ finishes_told acts else finishes_told acts
+finishes_told (Step mark answer ∷ acts) = finishes_told acts
+finishes_told (Finish answer ∷ acts) = finishes_told acts
+finishes_told (Ask ∷ acts) = finishes_told acts
+finishes_told (Drop ∷ acts) = finishes_told acts
+
+-- the instance of these jobs and finishes
 abbrev pub all_told : Version → (p q : ℕ) → List Act → Instance
 all_told version p q acts =
-    jobs_under version (record { p = p; q = q }) (jobs_told acts)
+    with_finishes (jobs_under version (record { p = p; q = q }) (jobs_told acts)) (finishes_told acts)
 
 -- an answer that is a decision
 abbrev pub is_decision : Decided → Bool
@@ -65,6 +80,7 @@ is_decision answer = nat_le 1 answer.kind && nat_le answer.kind 7
 abbrev pub answers : List Act → List Decided
 answers [] = []
 answers (Admit job answer ∷ acts) = answers acts
+answers (Done tick f answer ∷ acts) = answers acts
 answers (Step mark answer ∷ acts) = answer ∷ answers acts
 answers (Finish answer ∷ acts) = answer ∷ answers acts
 answers (Ask ∷ acts) = answers acts

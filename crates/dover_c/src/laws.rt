@@ -1,10 +1,13 @@
 //! What a program in C is given, whatever calls it makes and in whatever order, from `dover_init` on: the contract of a
 //! function that does nothing. The contracts of the calls are its premises, so it rests on the program's keeping what
 //! they require.
-ghost use Rattle.std.specs.Prelude.{◌≡◌, ◌≤◌, ◌++◌, ℕ, List, [], ◌∷◌, map};
+ghost use Rattle.std.specs.Prelude.{◌≡◌, ◌≤◌, ◌++◌, ℕ, List, [], ◌∷◌, map, true};
 ghost use Rattle.std.specs.List.{enumerate_from};
 ghost use Rattle.dover_model.specs.declared.events.Version.{Version};
+ghost use Rattle.dover_model.specs.declared.events.Event.TheVariants.{Complete};
+ghost use Rattle.dover_model.specs.Finishes as early;
 ghost use Rattle.dover_model.specs.Instance.{total_value};
+ghost use Rattle.dover_model.specs.Observed.{observed};
 ghost use Rattle.dover_model.specs.Run.{printed, completed_value};
 ghost use Rattle.dover_model.specs.Settled.{settled};
 ghost use Rattle.dover_model.specs.Sound.{Each};
@@ -12,14 +15,17 @@ ghost use Rattle.dover_model.specs.Schedules.{Meets, worth};
 ghost use Rattle.dover_model.specs.Bound.{IsWithin};
 ghost use Rattle.dover_c.specs.declared.slot.Slot.{Slot};
 ghost use Rattle.dover_c.specs.declared.Decided.{Decided};
-ghost use Rattle.dover_c.specs.Program.{Act, Step, Finish, IsProgram, told, jobs_told, all_told, given, shown};
+ghost use Rattle.dover_c.specs.Program.{Act, Done, Step, Finish, IsProgram, told, jobs_told, finishes_told};
+ghost use Rattle.dover_c.specs.Program.{all_told, is_decision, given, shown};
 
 /// The jobs that the program was told were admitted have the numbers 0, 1, 2 and so on. Where a step to a mark answers
-/// that none comes, the decisions that were given are all that is settled there of the run of all those jobs; with the
+/// that none comes, the decisions that were given are all that is settled there of the run of all those jobs, in which
+/// those that it was told are done finish early; behind one that is done the next decision is its completion; with the
 /// End they are the whole run; at any moment, also behind a drop, they begin it; and none that was given is changed by
-/// what comes later. No schedule of all those jobs is worth more than the ratio allows that run, some schedule is worth
-/// as much as it completes, and where one schedule serves all of them, it completes all, and no decision that was given
-/// is a take or an abandonment.
+/// what comes later. No schedule of all those jobs, as they were declared or as they were observed, is worth more than
+/// the ratio allows that run. Of the jobs as observed, which are as declared where none was done early, some schedule
+/// is worth as much as it completes. Where one schedule serves all of them as declared, it completes all, and no
+/// decision that was given is a take or an abandonment.
 pub fn a_program_is_given_one_run()
     ensures numbers { (version : Version) (p q capacity : ℕ) (acts : List Act) (t : Slot) →
         IsProgram version p q capacity acts t →
@@ -28,6 +34,10 @@ pub fn a_program_is_given_one_run()
         (t : Slot) →
         IsProgram version p q capacity (acts ++ (Step mark answer ∷ [])) t → answer.kind ≡ 0 →
         given acts ≡ map shown (settled (all_told version p q acts) mark) }
+    ensures done { (version : Version) (p q capacity : ℕ) (acts : List Act) (tick mark : ℕ) (f : early.Finish)
+        (answer : Decided) (t : Slot) →
+        IsProgram version p q capacity (acts ++ (Done tick f 0 ∷ Step mark answer ∷ [])) t →
+        is_decision answer ≡ true → answer ≡ shown (Complete tick f.number) }
     ensures ended { (version : Version) (p q capacity : ℕ) (acts : List Act) (answer : Decided) (t : Slot) →
         IsProgram version p q capacity (acts ++ (Finish answer ∷ [])) t → answer.kind ≡ 7 →
         given (acts ++ (Finish answer ∷ [])) ≡ map shown (printed (all_told version p q acts)) }
@@ -39,9 +49,16 @@ pub fn a_program_is_given_one_run()
         IsProgram version p q capacity acts t →
         IsWithin (record { p = p; q = q }) (worth (all_told version p q acts) s)
         (completed_value (all_told version p q acts)) }
+    ensures observed { (version : Version) (p q capacity : ℕ) (acts : List Act) (t : Slot) (s : List ℕ) →
+        IsProgram version p q capacity acts t →
+        IsWithin (record { p = p; q = q }) (worth (observed (all_told version p q acts)) s)
+        (completed_value (all_told version p q acts)) }
+    ensures as_declared { (version : Version) (p q capacity : ℕ) (acts : List Act) (t : Slot) →
+        IsProgram version p q capacity acts t → finishes_told acts ≡ [] →
+        observed (all_told version p q acts) ≡ all_told version p q acts }
     ensures honest { (version : Version) (p q capacity : ℕ) (acts : List Act) (t : Slot) →
         IsProgram version p q capacity acts t →
-        (s : List ℕ) × (completed_value (all_told version p q acts) ≤ worth (all_told version p q acts) s) }
+        (s : List ℕ) × (completed_value (all_told version p q acts) ≤ worth (observed (all_told version p q acts)) s) }
     ensures underload { (version : Version) (p q capacity : ℕ) (acts : List Act) (t : Slot) →
         IsProgram version p q capacity acts t →
         Meets (all_told version p q acts) → completed_value (all_told version p q acts) ≡ total_value (jobs_told acts) }

@@ -16,7 +16,7 @@ ghost use Rattle.dover_model.specs.JobFacts.{job_of_numbers};
 ghost use Rattle.dover_c.specs.declared.slot.Slot.{Slot};
 ghost use Rattle.dover_c.specs.contracts.slot.Slot.{the_row};
 ghost use Rattle.dover_c.specs.Codes.{IsMade, AdmitAnswers, StepAnswers, FinishAnswers, StatusAnswers};
-ghost use Rattle.dover_c.specs.Codes.{ValueAnswers, RoomAnswers, NextAnswers, DropAnswers};
+ghost use Rattle.dover_c.specs.Codes.{ValueAnswers, RoomAnswers, NextAnswers, DropAnswers, DoneSays};
 ghost use Rattle.dover_c.specs.Places.{after_at};
 
 use crate::slot::Slot;
@@ -109,6 +109,17 @@ pub unsafe extern "C" fn dover_admit(
     ensures* { sem 𝓛 (after_at place (λ w. AdmitAnswers v w (job_of_numbers release work deadline value) result)) }
 {
     slot::admit(&mut *(place as *mut Slot), release, work, deadline, value)
+}
+
+/// The job is done at the tick, though it has work left: 0, or why that isn't taken, by the numbers of the header. No
+/// memory is taken.
+#[unsafe(no_mangle)]
+pub unsafe extern "C" fn dover_done(place: *mut Place, tick: u64, job: u64) -> u32
+    ghost v: { Slot }
+    requires* { sem 𝓛 (lies_at the_row full_share place v) }
+    ensures* { sem 𝓛 (after_at place (λ w. DoneSays tick job v w result)) }
+{
+    slot::done(&mut *(place as *mut Slot), tick, job)
 }
 
 /// The next decision that no job can change that is released at the mark or later. No memory is taken.

@@ -5,10 +5,11 @@ ghost use Rattle.dover_model.specs.declared.horizon.Horizon.TheVariants.{End};
 ghost use Rattle.dover_engine.specs.Calls.{Decides};
 ghost use Rattle.dover_c.specs.Codes.{IsMade, AdmitAnswers, StepAnswers, FinishAnswers, StatusAnswers, DropAnswers};
 ghost use Rattle.dover_c.specs.Codes.{ValueAnswers, RoomAnswers, NextAnswers, due_of};
+ghost use Rattle.dover_c.specs.Codes.{DoneSays, done_code};
 ghost use Rattle.dover_c.specs.Codes.{cause_code, other_in, made_code, mark_code, numbers_of, IsStepOf};
 
 use crate::{Admitted, Decided, Due};
-use dover_engine::{Decision, Engine, NotAdmitted, NotMade, NotStepped};
+use dover_engine::{Decision, Engine, NotAdmitted, NotDone, NotMade, NotStepped};
 use dover_model::{Ratio, Version};
 use std::alloc::Global;
 use std::marker::Brand;
@@ -47,6 +48,7 @@ pub(crate) fn make(alloc: Global, p: u32, q: u32, version: u32, capacity: u32) -
     let version = match version {
         1 => Version::One,
         2 => Version::Two,
+        3 => Version::Three,
         _ => return none(4),
     };
     let Some(k) = Ratio::new(p, q) else {
@@ -115,6 +117,29 @@ pub(crate) fn admit(slot: &mut Slot, release: u64, work: u64, deadline: u64, val
             number: other_in(cause),
             status: cause_code(cause),
         },
+    }
+}
+
+fn done_code(cause: NotDone) -> u32
+    ensures { result ≡ done_code cause }
+{
+    match cause {
+        NotDone::Version => 4,
+        NotDone::Unsettled => 1,
+        NotDone::NotRunning => 3,
+        NotDone::Behind => 2,
+    }
+}
+
+pub(crate) fn done(slot: &mut Slot, tick: u64, job: u64) -> u32
+    ensures { DoneSays tick job slot.old slot.new result }
+{
+    let Some(engine) = &mut slot.engine else {
+        return 7;
+    };
+    match engine.done(tick, job) {
+        Ok(()) => 0,
+        Err(cause) => done_code(cause),
     }
 }
 

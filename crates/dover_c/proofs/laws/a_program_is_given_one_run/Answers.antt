@@ -1,5 +1,6 @@
 use Rattle.dover_c.proofs.Programs.{numbers, settled_given, ended_given, given_append, begins_given, within_given}
-use Rattle.dover_c.proofs.Programs.{honest_given, underload_given, unlost_given}
+use Rattle.dover_c.proofs.Programs.{observed_given, as_declared_given, honest_given, underload_given, unlost_given}
+use Rattle.dover_c.proofs.Programs.{done_given}
 use Rattle.dover_c.proofs.laws.a_program_is_given_one_run.Goals as goal
 
 pub returns-clause-numbers : goal.returns-clause-numbers
@@ -19,6 +20,16 @@ returns-clause-begins c = begins_given
 
 pub returns-clause-within : goal.returns-clause-within
 returns-clause-within c = λ version p q capacity acts t s program. within_given version p q capacity acts t program s
+
+pub returns-clause-observed : goal.returns-clause-observed
+returns-clause-observed c = λ version p q capacity acts t s program.
+    observed_given version p q capacity acts t program s
+
+pub returns-clause-as_declared : goal.returns-clause-as_declared
+returns-clause-as_declared c = as_declared_given
+
+pub returns-clause-done : goal.returns-clause-done
+returns-clause-done c = done_given
 
 pub returns-clause-honest : goal.returns-clause-honest
 returns-clause-honest c = honest_given
