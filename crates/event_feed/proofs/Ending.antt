@@ -5,11 +5,9 @@ use Rattle.std.proofs.lemmas.List.{append-nil, take-append-drop}
 use Rattle.dover_model.specs.Feed as feeds
 use Rattle.dover_model.specs.Feed.{no_lines, account, account_of_lines, is_open}
 use Rattle.dover_model.specs.Instance.{IsValid}
-use Rattle.dover_model.specs.Session.{instance_of}
 use Rattle.dover_model.specs.JobFacts.{JobFacts}
 use Rattle.dover_model.specs.Lines.{lines_of, whole_lines, rest_of}
 use Rattle.dover_model.proofs.Accounts.{Closes, HoldsBy, lines_goes}
-use Rattle.dover_model.proofs.Meeting.{finishing_valid}
 use Rattle.event_feed.specs.Answers.{EndAnswers, short_after}
 use Rattle.event_feed.specs.Kept.{Kept, standing_of, fault_of, cause_of_fault}
 use Rattle.event_feed.specs.declared.faults.FeedFault.{FeedFault}
@@ -17,8 +15,9 @@ use Rattle.event_feed.specs.declared.intake.Standing.{Standing}
 use Rattle.event_feed.specs.declared.intake.Standing.TheVariants.{Open, Over, Faulty}
 use Rattle.event_feed.proofs.GoingOn.{closed_account}
 use Rattle.event_feed.specs.Keeping.{HasRead, StandsFor}
-use Rattle.event_feed.specs.Listing.{Lists, listed_instance}
+use Rattle.event_feed.specs.Listing.{ListsIn, listed_instance}
 use Rattle.event_feed.specs.Record.{IsEnded, IsRefusedBy}
+use Rattle.event_feed.specs.declared.listed.DoneLine.{DoneLine}
 use Rattle.event_feed.specs.declared.listed.Listed.{Listed}
 use Rattle.event_feed.specs.declared.reader.FeedReader.{FeedReader}
 use Rattle.event_feed.proofs.Listing.{goes_on}
@@ -33,24 +32,31 @@ module _ (ls : List (List ℕ)) (ended : (account_of_lines ls).standing ≡ feed
       (account_of_lines ls).lines) ended (lines_goes ls no_lines refl).0
 
   -- a feed that is ended has a session
-  pub none_ended : (jobs : List JobFacts) → Lists None jobs (account_of_lines ls).session → ⊥
-  none_ended jobs it = subst (λ s. HoldsBy feeds.Ended s (account_of_lines ls).mark
-      (account_of_lines ls).lines) it.1
+  pub none_ended : (jobs : List JobFacts) (dones : List DoneLine) → ListsIn None jobs dones (account_of_lines ls) → ⊥
+  none_ended jobs dones it = subst (λ s. HoldsBy feeds.Ended s (account_of_lines ls).mark
+      (account_of_lines ls).lines) it.2
       ended_keeps
 
   -- its jobs are those listed
   pub ended_jobs : (listed : Listed)
-      → Lists (Some (listed.ratio, listed.version)) listed.jobs.items (account_of_lines ls).session
+      → ListsIn (Some (listed.ratio, listed.version)) listed.jobs.items listed.dones.items (account_of_lines ls)
       → IsEnded listed (account_of_lines ls)
   ended_jobs listed it =
-      let closes : Closes it.0 =
+      let closes : Closes it.named =
       subst (λ s. HoldsBy feeds.Ended s (account_of_lines ls).mark
-      (account_of_lines ls).lines) it.1 ended_keeps in
-      record { ended = ended; session = it.0; session_is = it.1; valid = closes.valid; jobs = it.2 }
+      (account_of_lines ls).lines) it.there ended_keeps in
+      record {
+        ended = ended;
+        session = it.named;
+        session_is = it.there;
+        valid = closes.valid;
+        run = it.run;
+        among = it.among;
+      }
 
 -- they are valid
 pub jobs_valid : (a : feeds.Account) (listed : Listed) → IsEnded listed a → IsValid (listed_instance listed)
-jobs_valid a listed it = subst IsValid (sym it.jobs) (finishing_valid (instance_of it.session) [] it.valid.jobs)
+jobs_valid a listed it = subst IsValid (sym it.run) it.valid.jobs
 
 -- ---- a reader
 

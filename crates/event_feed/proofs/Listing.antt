@@ -1,24 +1,44 @@
 -- What is listed after a line.
-use Rattle.std.proofs.Common.{◌≡◌, ◌<◌, ◌++◌, ◌∷◌, [], ◌⊎◌, inl, inr, ℕ, List, length, refl, sym, ap, ◌∙◌}
-use Rattle.std.proofs.Common.{Option, Some, None, Bool, true, false, arith, cond, max, subst}
+use Rattle.std.proofs.Common.{◌≡◌, ◌≤◌, ◌<◌, ◌++◌, ◌∷◌, [], ◌⊎◌, inl, inr, ℕ, List, length, refl, sym, ap, ◌∙◌}
+use Rattle.std.proofs.Common.{Option, Some, None, Bool, true, false, arith, cond, max, subst, drop, length-append}
+use Rattle.std.specs.Prelude.{◌≢◌, ◌&&◌, nat_le, nat_lt, is_some}
+use Rattle.std.specs.List.{fold, AllByRecursion}
 use Rattle.std.specs.Option.{option_map}
+use Rattle.std.proofs.Math.Seq.{take-length, drop-length}
+use Rattle.std.proofs.Math.Bool.{and-false}
+use Rattle.std.proofs.lemmas.Bool.{le-leb, lt-leb, ltb-true, ltb-false}
+use Rattle.std.proofs.lemmas.List.{take-append-le, drop-append-le}
+use Rattle.std.proofs.lemmas.List.Sums.{fold-append}
 use Rattle.dover_model.specs.declared.events.Version.{Version}
 use Rattle.dover_model.specs.declared.events.Refusal.{Refusal}
+use Rattle.dover_model.specs.Finishes.{Finish}
 use Rattle.dover_model.specs.JobFacts.{JobFacts}
 use Rattle.dover_model.specs.Fraction.{Fraction}
-use Rattle.dover_model.specs.Instance.{Instance, with_jobs, finishing}
+use Rattle.dover_model.specs.Instance.{Declaration, Instance, IsValid, under, with_jobs, finishing}
 use Rattle.dover_model.specs.Feed as feeds
-use Rattle.dover_model.specs.Feed.{Account, account_of_lines, is_open}
-use Rattle.dover_model.specs.Session.{Session, JobItem, FinishItem, EarlyFinish, admitted_jobs, with_item, with_named}
-use Rattle.dover_model.specs.Session.{refused_at, refused_done_at, early_at, is_right}
+use Rattle.dover_model.specs.Feed.{Account, Open, account_of_lines, is_open, rules_with}
+use Rattle.dover_model.specs.Session.{Session, JobItem, FinishItem, EarlyFinish, RefusedDone, admitted_jobs, with_item}
+use Rattle.dover_model.specs.Session.{with_named, refused_at, refused_done_at, early_at, finish_at, is_right}
+use Rattle.dover_model.specs.Session.{instance_of, early_finishes, may_finish_early}
+use Rattle.dover_model.specs.Settled.{settled_state}
+use Rattle.dover_model.specs.State.{is_running}
+use Rattle.dover_model.proofs.Accounts.{IsKept, Holds, HoldsBy}
+use Rattle.dover_model.proofs.Barriers.{settled_at_barrier}
 use Rattle.dover_model.proofs.Growing.{job_instance, refused_instance, finish_instance}
-use Rattle.event_feed.proofs.Admitting.{job_more}
-use Rattle.event_feed.proofs.DoneLines.{done_session}
-use Rattle.event_feed.specs.Answers.{AddsJob, AddsRefused, AddsDone, NewFault, OldFault, counted, admitted_in}
+use Rattle.dover_model.proofs.Members.{found, some_same, all_append}
+use Rattle.dover_model.proofs.Resting.{numbers_below}
+use Rattle.dover_model.proofs.RightFinishes.{none_other}
+use Rattle.dover_model.proofs.Valid.{all_from}
+use Rattle.event_feed.proofs.Admitting.{job_more, admitted_by}
+use Rattle.event_feed.proofs.DoneLines.{session_done, done_session, done_jobs, done_mark}
+use Rattle.event_feed.specs.Answers.{AddsJob, AddsRefused, AddsDone, MovesMark, EndsFeed, NewFault, OldFault, counted}
+use Rattle.event_feed.specs.Answers.{admitted_in}
 use Rattle.event_feed.specs.Faults.{IsFirstFault}
 use Rattle.event_feed.specs.Kept.{cause_of_fault}
 use Rattle.event_feed.specs.declared.faults.FeedFault.{FeedFault}
-use Rattle.event_feed.specs.Listing.{Lists, instance_with, declared_instance}
+use Rattle.event_feed.specs.declared.listed.DoneLine.{DoneLine}
+use Rattle.event_feed.specs.Listing.{ListsIn, StandsAmong, ComesBehind, AreInTurn, handed, with_early, with_right}
+use Rattle.event_feed.specs.Listing.{right_finishes}
 
 -- ---- how a feed stands
 
@@ -42,75 +62,288 @@ first_fault ls line fault stands (inl new) = record { before = ls; line = line; 
 first_fault ls line fault stands (inr old) =
     absurd (let e : feeds.Open ≡ feeds.Faulty fault.line (cause_of_fault fault.cause) = sym stands ∙ old.faulty in cc)
 
--- ---- what a line adds
+-- ---- what is listed
 
 -- an account without a session isn't one with
 no_session : (a : Account) (S : Session) {X : Type 0} → a.session ≡ None → a.session ≡ Some S → X
 no_session a S none some = absurd (let e : None ≡ Some S = sym none ∙ some in cc)
 
--- what is listed of the one session
-same_session : (S : Session) (a : Account) (declared : Fraction × Version) (jobs : List JobFacts)
-    → Lists (Some declared) jobs a.session → a.session ≡ Some S → instance_with declared jobs ≡ declared_instance S
-same_session S a declared jobs lists is = lists.2 ∙ ap declared_instance (let e : lists.0 ≡ S = cc in e)
+-- jobs behind change no finish of a done line
+right_more : (rules : Declaration) (jobs more : List JobFacts) (dones : List DoneLine) (finishes : List Finish)
+    → AllByRecursion (StandsAmong jobs) dones
+    → fold (with_right rules (jobs ++ more)) finishes dones ≡ fold (with_right rules jobs) finishes dones
+right_more rules jobs more [] finishes all = refl
+right_more rules jobs more (d ∷ dones) finishes all =
+    ap (λ js. fold (with_right rules (jobs ++ more)) (with_early finishes
+    (finish_at (record { rules = under rules finishes; jobs = js }) d.at d.number)) dones)
+    (take-append-le d.behind jobs more all.0.behind)
+    ∙ right_more rules jobs more dones (with_right rules jobs finishes d) all.1
 
-module _ (a b : Account) (declared : Option (Fraction × Version)) (jobs : List JobFacts)
-    (lists : Lists declared jobs a.session) where
+-- one done line more
+pub right_then : (rules : Declaration) (jobs : List JobFacts) (dones : List DoneLine) (d : DoneLine)
+    → right_finishes rules jobs (dones ++ d ∷ []) ≡ with_right rules jobs (right_finishes rules jobs dones) d
+right_then rules jobs dones d = fold-append (with_right rules jobs) [] dones (d ∷ [])
+
+-- done lines at a mark are so at a later one
+marked_later : (mark later : ℕ) → mark ≤ later → (dones : List DoneLine) → AllByRecursion (λ d. d.at ≤ mark) dones
+    → AllByRecursion (λ d. d.at ≤ later) dones
+marked_later mark later up dones marked =
+    all_from (λ d. d.at ≤ mark) (λ d. d.at ≤ later) dones (λ d low. omega arith) marked
+
+module _ (jobs : List JobFacts) (mark : ℕ) where
+  -- each stands among the jobs with one more
+  each_more : (j : JobFacts) → mark ≤ j.release → (dones : List DoneLine) → AllByRecursion (StandsAmong jobs) dones
+      → AllByRecursion (λ d. d.at ≤ mark) dones → AllByRecursion (StandsAmong (jobs ++ j ∷ [])) dones
+  each_more j up [] all marked = tt
+  each_more j up (d ∷ dones) all marked = (
+    record {
+      behind = omega (arith, all.0.behind, length-append jobs (j ∷ []));
+      known = all.0.known;
+      before = subst (AllByRecursion (λ k. k.release ≤ d.at)) (sym (take-append-le d.behind jobs (j ∷ [])
+          all.0.behind)) all.0.before;
+      later = subst (AllByRecursion (λ k. d.at ≤ k.release)) (sym (drop-append-le d.behind jobs (j ∷ [])
+          all.0.behind)) (all_append (λ k. d.at ≤ k.release) (drop d.behind jobs) (j ∷ []) all.0.later
+          (omega (arith, marked.0, up), tt));
+    },
+    each_more j up dones all.1 marked.1,
+  )
+
+  -- a done line at a later mark comes behind all
+  comes_behind : (at number : ℕ) → mark ≤ at → (dones : List DoneLine) → AllByRecursion (StandsAmong jobs) dones
+      → AllByRecursion (λ d. d.at ≤ mark) dones
+      → AllByRecursion (λ d. ComesBehind d (record { at = at; number = number; behind = length jobs })) dones
+  comes_behind at number up [] all marked = tt
+  comes_behind at number up (d ∷ dones) all marked = (
+    record { jobs = all.0.behind; ticks = omega (arith, marked.0, up) },
+    comes_behind at number up dones all.1 marked.1,
+  )
+
+-- done lines in turn, with one more behind all
+turn_more : (d : DoneLine) (dones : List DoneLine) → AreInTurn dones → AllByRecursion (λ e. ComesBehind e d) dones
+    → AreInTurn (dones ++ d ∷ [])
+turn_more d [] turn behind = (tt, tt)
+turn_more d (e ∷ dones) turn behind = (
+  all_append (ComesBehind e) dones (d ∷ []) turn.0 (behind.0, tt),
+  turn_more d dones turn.1 behind.1,
+)
+
+-- ---- a done line
+
+module _ (S : Session) (mark t n : ℕ) where
+  -- a line that isn't right adds no finish
+  wrong_run : is_right S mark t n ≡ false → instance_of (session_done S mark t n) ≡ instance_of S
+  wrong_run wrong = ap (λ b. instance_of (cond b (with_named S (option_map FinishItem (early_at S t n)))
+      (with_item S (refused_done_at (max mark t) t n)))) wrong
+      ∙ refused_instance S (record { at = max mark t; line = RefusedDone t n })
+
+  -- below the mark none is
+  pub late_run : t < mark → instance_of (session_done S mark t n) ≡ instance_of S
+  late_run late = wrong_run (ap (λ b. b && is_some (early_at S t n)) (lt-leb mark t late))
+
+  module _ (may : may_finish_early S.rules.version ≡ true) where
+    early_is : early_at S t n ≡ finish_at (instance_of S) t n
+    early_is = ap (λ b. cond b (finish_at (instance_of S) t n) None) may
+
+    -- nor is one of no job
+    pub none_run : IsValid (instance_of S) → length (admitted_jobs S.items) ≤ n
+        → instance_of (session_done S mark t n) ≡ instance_of S
+    none_run valid above = wrong_run (ap (λ o. nat_le mark t && is_some o) (early_is ∙ none)
+        ∙ and-false (nat_le mark t))
+      where
+        none : finish_at (instance_of S) t n ≡ None
+        none = none_other (instance_of S) t n (λ r some named.
+            let low : r.number < length (admitted_jobs S.items) =
+            numbers_below (instance_of S) (settled_state (instance_of S) t)
+            (settled_at_barrier (instance_of S) valid t).keeps r
+            (found is_running (settled_state (instance_of S) t).tasks r some).0 in omega (arith, low, named, above))
+
+    -- from the mark on, the finish is added where it is right
+    pub done_run : mark ≤ t → instance_of (session_done S mark t n)
+        ≡ finishing (instance_of S) (with_early (early_finishes S.items) (finish_at (instance_of S) t n))
+    done_run up = by_finish (finish_at (instance_of S) t n) early_is where
+      by_finish : (o : Option EarlyFinish) → early_at S t n ≡ o → instance_of (session_done S mark t n)
+          ≡ finishing (instance_of S) (with_early (early_finishes S.items) o)
+      by_finish None none =
+          wrong_run (ap (λ o. nat_le mark t && is_some o) none ∙ and-false (nat_le mark t))
+      by_finish (Some f) some =
+          ap (λ b. instance_of (cond b (with_named S (option_map FinishItem (early_at S t n)))
+          (with_item S (refused_done_at (max mark t) t n))))
+          (ap (λ b. b && is_some (early_at S t n)) (le-leb mark t up) ∙ ap is_some some)
+          ∙ ap (λ o. instance_of (with_named S (option_map FinishItem o))) some ∙ finish_instance S f
+
+-- the jobs, with the finish of a done line where it is right
+abbrev finished : (t n : ℕ) → Instance → Instance
+finished t n J = finishing J (with_early J.rules.finishes (finish_at J t n))
+
+-- ---- what a line adds
+
+module _ (a b : Account) (declared : Option (Fraction × Version)) (jobs : List JobFacts) (dones : List DoneLine)
+    (lists : ListsIn declared jobs dones a) where
   -- a job line
   pub job_listed : (number : ℕ) (job : JobFacts) → AddsJob number job (counted a) b
-      → Lists declared (jobs ++ job ∷ []) b.session
+      → ListsIn declared (jobs ++ job ∷ []) dones b
   job_listed number job it = by_rules declared lists where
-    by_rules : (o : Option (Fraction × Version)) → Lists o jobs a.session → Lists o (jobs ++ job ∷ []) b.session
-    by_rules None none = no_session a it.session none.1 it.before_is
-    by_rules (Some rules) some = (
-      with_item it.session (JobItem job),
-      ap (λ (x : Account). x.session) it.after_is,
-      ap (λ (J : Instance). with_jobs J (job ∷ [])) (same_session it.session a rules jobs some it.before_is)
-          ∙ sym (ap (λ J. finishing J []) (job_instance it.session job)),
-    )
+    by_rules : (o : Option (Fraction × Version)) → ListsIn o jobs dones a → ListsIn o (jobs ++ job ∷ []) dones b
+    by_rules None none = no_session a it.session none.2 it.before_is
+    by_rules (Some rules) some =
+        let same : some.named ≡ it.session =
+        some_same some.named it.session (sym some.there ∙ it.before_is) in
+        subst (λ (x : Account). ListsIn (Some rules) (jobs ++ job ∷ []) dones x) (sym it.after_is) (record {
+          named = with_item it.session (JobItem job);
+          there = refl;
+          run = ap (λ fs. record { rules = under (rules_with rules.0 rules.1) fs; jobs = jobs ++ job ∷ [] })
+              (right_more (rules_with rules.0 rules.1) jobs (job ∷ []) dones [] some.among.each)
+              ∙ ap (λ (J : Instance). with_jobs J (job ∷ [])) (some.run ∙ ap instance_of same)
+              ∙ sym (job_instance it.session job);
+          among = record {
+            each = each_more jobs a.mark job it.no_fall dones some.among.each some.marked;
+            in_turn = some.among.in_turn;
+          };
+          marked = marked_later a.mark job.release it.no_fall dones some.marked;
+        })
+
+  -- what changes neither the run nor takes the mark back
+  same_listed : (S T : Session) → a.session ≡ Some S → b.session ≡ Some T → instance_of T ≡ instance_of S
+      → a.mark ≤ b.mark → ListsIn declared jobs dones b
+  same_listed S T before after same up = by_rules declared lists where
+    by_rules : (o : Option (Fraction × Version)) → ListsIn o jobs dones a → ListsIn o jobs dones b
+    by_rules None none = no_session a S none.2 before
+    by_rules (Some rules) some = record {
+      named = T;
+      there = after;
+      run = some.run ∙ ap instance_of (some_same some.named S (sym some.there ∙ before)) ∙ sym same;
+      among = some.among;
+      marked = marked_later a.mark b.mark up dones some.marked;
+    }
+
+  -- a tick line
+  pub tick_listed : (tick : ℕ) → MovesMark tick (counted a) b → ListsIn declared jobs dones b
+  tick_listed tick it = same_listed it.session it.session it.before_is
+      (ap (λ (x : Account). x.session) it.after_is ∙ it.before_is) refl
+      (omega (arith, it.no_fall, ap (λ (x : Account). x.mark) it.after_is))
+
+  -- the end line
+  pub end_listed : EndsFeed (counted a) b → ListsIn declared jobs dones b
+  end_listed it = same_listed it.session it.session it.before_is
+      (ap (λ (x : Account). x.session) it.after_is ∙ it.before_is) refl
+      (omega (arith, ap (λ (x : Account). x.mark) it.after_is))
 
   -- a refused line
   pub refused_listed : (job : JobFacts) (refusal : Refusal) → AddsRefused job refusal (counted a) b
-      → Lists declared jobs b.session
-  refused_listed job refusal it = by_rules declared lists where
-    by_rules : (o : Option (Fraction × Version)) → Lists o jobs a.session → Lists o jobs b.session
-    by_rules None none = no_session a it.session none.1 it.before_is
-    by_rules (Some rules) some = (
-      with_item it.session (refused_at a.mark job refusal),
-      ap (λ (x : Account). x.session) it.after_is,
-      same_session it.session a rules jobs some it.before_is ∙ sym (ap (λ J. finishing J [])
-          (refused_instance it.session _)),
-    )
+      → ListsIn declared jobs dones b
+  refused_listed job refusal it =
+      same_listed it.session (with_item it.session (refused_at a.mark job refusal)) it.before_is
+      (ap (λ (x : Account). x.session) it.after_is) (refused_instance it.session _)
+      (omega (arith, ap (λ (x : Account). x.mark) it.after_is))
 
-  -- a done line
-  pub done_listed : (tick number : ℕ) → AddsDone tick number (counted a) b → Lists declared jobs b.session
-  done_listed tick number it = by_rules declared lists where
-    by_finish : (rules : Fraction × Version) → instance_with rules jobs ≡ declared_instance it.session
-        → (o : Option EarlyFinish)
-        → Lists (Some rules) jobs (Some (with_named it.session (option_map FinishItem o)))
-    by_finish rules same None = (it.session, refl, same)
-    by_finish rules same (Some f) = (
-      with_item it.session (FinishItem f),
-      refl,
-      same ∙ sym (ap (λ J. finishing J []) (finish_instance it.session f)),
-    )
+  module _ (tick number : ℕ) (it : AddsDone tick number (counted a) b) where
+    -- the session with a done line
+    session_is : b.session ≡ Some (session_done it.session a.mark tick number)
+    session_is = ap (λ (x : Account). x.session) it.after_is
+        ∙ done_session it.session tick number (counted a) it.before_is
 
-    by_right : (rules : Fraction × Version) → instance_with rules jobs ≡ declared_instance it.session
-        → (c : Bool) → Lists (Some rules) jobs (Some (cond c (with_named it.session
-        (option_map FinishItem (early_at it.session tick number)))
-        (with_item it.session (refused_done_at (max a.mark tick) tick number))))
-    by_right rules same true = by_finish rules same (early_at it.session tick number)
-    by_right rules same false = (
-      with_item it.session (refused_done_at (max a.mark tick) tick number),
-      refl,
-      same ∙ sym (ap (λ J. finishing J []) (refused_instance it.session _)),
-    )
+    -- and the mark
+    pub mark_is : b.mark ≡ max a.mark tick
+    mark_is = ap (λ (x : Account). x.mark) it.after_is ∙ done_mark it.session tick number (counted a)
 
-    by_rules : (o : Option (Fraction × Version)) → Lists o jobs a.session → Lists o jobs b.session
-    by_rules None none = no_session a it.session none.1 it.before_is
-    by_rules (Some rules) some = subst (Lists (Some rules) jobs) (sym (ap (λ (x : Account). x.session) it.after_is
-        ∙ done_session it.session tick number (counted a) it.before_is))
-        (by_right rules (same_session it.session a rules jobs some it.before_is)
-        (is_right it.session a.mark tick number))
+    -- a done line below the mark
+    pub late_listed : tick < a.mark → ListsIn declared jobs dones b
+    late_listed late = same_listed it.session (session_done it.session a.mark tick number) it.before_is session_is
+        (late_run it.session a.mark tick number late) (omega (arith, mark_is))
+
+    -- it admits as many jobs as before
+    pub done_admitted : 0 < length jobs → 0 < admitted_in b
+    done_admitted some = by_rules declared lists where
+      by_rules : (o : Option (Fraction × Version)) → ListsIn o jobs dones a → 0 < admitted_in b
+      by_rules None none = no_session a it.session none.2 it.before_is
+      by_rules (Some rules) listed = omega (
+        arith,
+        some,
+        ap admitted_by session_is,
+        ap length (done_jobs it.session a.mark tick number),
+        ap (λ (J : Instance). length J.jobs) (listed.run
+            ∙ ap instance_of (some_same listed.named it.session (sym listed.there ∙ it.before_is))),
+      )
+
+    module _ (kept : IsKept a) (on : a.standing ≡ Open) where
+      -- what the account holds
+      holds : Holds it.session a.mark a.lines
+      holds = subst (λ o. HoldsBy Open o a.mark a.lines) it.before_is
+          (subst (λ s. HoldsBy s a.session a.mark a.lines) on kept)
+
+      -- one of no job
+      pub none_listed : length jobs ≤ number → ListsIn declared jobs dones b
+      none_listed above = by_rules declared lists where
+        by_rules : (o : Option (Fraction × Version)) → ListsIn o jobs dones a → ListsIn declared jobs dones b
+        by_rules None none = no_session a it.session none.2 it.before_is
+        by_rules (Some rules) some =
+            let same : some.named ≡ it.session =
+            some_same some.named it.session (sym some.there ∙ it.before_is) in
+            same_listed it.session (session_done it.session a.mark tick number) it.before_is session_is
+            (none_run it.session a.mark tick number it.version holds.reads.valid
+            (omega (arith, above, ap (λ (J : Instance). length J.jobs) (some.run ∙ ap instance_of same))))
+            (omega (arith, mark_is))
+
+      -- another
+      pub done_listed : a.mark ≤ tick
+          → ListsIn declared jobs (dones ++ record { at = tick; number = number; behind = length jobs } ∷ []) b
+      done_listed up = by_rules declared lists where
+        d : DoneLine
+        d = record { at = tick; number = number; behind = length jobs }
+
+        by_rules : (o : Option (Fraction × Version)) → ListsIn o jobs dones a → ListsIn o jobs (dones ++ d ∷ []) b
+        by_rules None none = no_session a it.session none.2 it.before_is
+        by_rules (Some rules) some = record {
+          named = session_done it.session a.mark tick number;
+          there = session_is;
+          run = ap (λ fs. record { rules = under declares fs; jobs = jobs }) (right_then declares jobs dones d
+              ∙ ap (λ js. with_early earlier
+              (finish_at (record { rules = under declares earlier; jobs = js }) tick number)) (take-length jobs))
+              ∙ ap (finished tick number) same ∙ sym (done_run it.session a.mark tick number it.version up);
+          among = record {
+            each = all_append (StandsAmong jobs) dones (d ∷ []) some.among.each (stands, tt);
+            in_turn = turn_more d dones some.among.in_turn
+                (comes_behind jobs a.mark tick number up dones some.among.each some.marked);
+          };
+          marked = all_append (λ e. e.at ≤ b.mark) dones (d ∷ [])
+              (marked_later a.mark b.mark (omega (arith, mark_is)) dones some.marked) (omega (arith, mark_is), tt);
+        } where
+          declares : Declaration
+          declares = rules_with rules.0 rules.1
+
+          earlier : List Finish
+          earlier = right_finishes declares jobs dones
+
+          same : handed declares jobs dones ≡ instance_of it.session
+          same = some.run ∙ ap instance_of (some_same some.named it.session (sym some.there ∙ it.before_is))
+
+          stands : StandsAmong jobs d
+          stands = record {
+            behind = omega arith;
+            known = it.known;
+            before = subst (AllByRecursion (λ j. j.release ≤ tick)) (ap (λ (J : Instance). J.jobs) (sym same)
+                ∙ sym (take-length jobs)) (all_from (λ j. j.release ≤ a.mark) (λ j. j.release ≤ tick)
+                (admitted_jobs it.session.items) (λ j low. omega (arith, low, up)) holds.reads.known);
+            later = subst (AllByRecursion (λ j. tick ≤ j.release)) (sym (drop-length jobs)) tt;
+          }
+
+      -- with the done lines that are kept
+      pub kept_listed : (after : List DoneLine)
+          → (((b.mark ≢ tick) ⊎ (length jobs ≤ number)) × (after ≡ dones))
+          ⊎ ((b.mark ≡ tick)
+          × (after ≡ dones ++ record { at = tick; number = number; behind = length jobs } ∷ []))
+          → ListsIn declared jobs after b
+      kept_listed after (inr it) = subst (λ ds. ListsIn declared jobs ds b) (sym it.1)
+          (done_listed (omega (arith, it.0, mark_is)))
+      kept_listed after (inl it) = subst (λ ds. ListsIn declared jobs ds b) (sym it.1) (by_why it.0) where
+        by_less : (b.mark ≢ tick) → (less : Bool) → nat_lt tick a.mark ≡ less → ListsIn declared jobs dones b
+        by_less other true low = late_listed (ltb-true tick a.mark low)
+        by_less other false high =
+            let up : a.mark ≤ tick = ltb-false tick a.mark high in absurd (other (omega (arith, up, mark_is)))
+
+        by_why : (b.mark ≢ tick) ⊎ (length jobs ≤ number) → ListsIn declared jobs dones b
+        by_why (inl other) = by_less other (nat_lt tick a.mark) refl
+        by_why (inr above) = none_listed above
 
 -- a job line admits its job
 pub job_admitted : (a b : Account) (number : ℕ) (job : JobFacts) → AddsJob number job (counted a) b → 0 < admitted_in b

@@ -1,19 +1,27 @@
 -- What is kept of a feed.
-use Rattle.std.specs.Prelude.{◌≡◌, ℕ, List, [], ◌++◌, Some, true, false}
+use Rattle.std.specs.Prelude.{◌≡◌, ◌≢◌, ◌⊎◌, ℕ, ◌≤◌, List, [], ◌∷◌, ◌++◌, length, Some, true, false}
 use Rattle.dover_model.specs.Feed.{account_of_lines, is_open}
 use Rattle.dover_model.specs.Lines.{lines_of, rest_of, is_too_long}
 use Rattle.line_text.specs.Cutting as cutting
 use Rattle.event_feed.specs.Faults.{IsFirstFault}
 use Rattle.event_feed.specs.Kept as feed
 use Rattle.event_feed.specs.declared.faults.FeedFault.{FeedFault}
-use Rattle.event_feed.specs.Listing.{Lists}
+use Rattle.event_feed.specs.Listing.{ListsIn}
 use Rattle.event_feed.specs.declared.gathering.Gathering.{Gathering}
+use Rattle.event_feed.specs.declared.listed.DoneLine.{DoneLine}
 use Rattle.event_feed.specs.declared.reader.FeedReader.{FeedReader}
 
--- this is kept of these lines: what they said, the rules and the jobs, and whether the feed goes on
+-- the done lines behind one at this mark: without it, where it came below the mark or names no job, and else with it
+abbrev pub KeepsDone : Gathering → (mark at number : ℕ) → List DoneLine → Type 0
+KeepsDone g mark at number dones =
+    (((mark ≢ at) ⊎ (length g.jobs.items ≤ number)) × (dones ≡ g.dones.items))
+    ⊎ ((mark ≡ at)
+    × (dones ≡ g.dones.items ++ record { at = at; number = number; behind = length g.jobs.items } ∷ []))
+
+-- this is kept of these lines: what they said, the rules, the jobs and the done lines, and whether the feed goes on
 pub record Keeps (gathering : Gathering) (ls : List (List ℕ)) : Type 0 where
   pub intake : feed.StandsFor gathering.intake ls
-  pub lists : Lists gathering.declared gathering.jobs.items (account_of_lines ls).session
+  pub lists : ListsIn gathering.declared gathering.jobs.items gathering.dones.items (account_of_lines ls)
   pub goes_on : gathering.going ≡ is_open (account_of_lines ls)
   pub names : (fault : FeedFault) → feed.fault_of gathering.intake ≡ Some fault → IsFirstFault fault ls
 

@@ -1,31 +1,94 @@
--- The jobs that a feed has admitted so far.
-use Rattle.std.specs.Prelude.{◌≡◌, List, [], false, Option, Some, None}
+-- The jobs that a feed has admitted so far, and the done lines behind them.
+use Rattle.std.specs.Prelude.{◌≡◌, ℕ, ◌≤◌, List, [], ◌∷◌, ◌++◌, length, take, drop, false, Option, Some, None}
+use Rattle.std.specs.List.{fold, AllByRecursion}
+use Rattle.dover_model.specs.Limits.{last_tick}
 use Rattle.dover_model.specs.declared.events.Version.{Version}
+use Rattle.dover_model.specs.Finishes.{Finish}
 use Rattle.dover_model.specs.Fraction.{Fraction}
 use Rattle.dover_model.specs.JobFacts.{JobFacts}
-use Rattle.dover_model.specs.Instance.{Instance, jobs_under, finishing}
-use Rattle.dover_model.specs.Session.{Session, instance_of, may_finish_early}
+use Rattle.dover_model.specs.Instance.{Declaration, Instance, under}
+use Rattle.dover_model.specs.Feed.{Account, rules_with}
+use Rattle.dover_model.specs.Session.{EarlyFinish, Session, instance_of, finish_at, may_finish_early}
+use Rattle.event_feed.specs.declared.listed.DoneLine.{DoneLine}
 use Rattle.event_feed.specs.declared.listed.Listed.{Listed}
 
--- these jobs, under the ratio and the version
-abbrev pub instance_with : Fraction × Version → List JobFacts → Instance
-instance_with declared jobs = jobs_under declared.1 declared.0 jobs
+-- ---- the run of what is listed
 
--- the jobs, under the rules that were declared
+-- the jobs before a done line, with these finishes
+abbrev pub jobs_before : Declaration → List JobFacts → List Finish → DoneLine → Instance
+jobs_before rules jobs finishes d = record { rules = under rules finishes; jobs = take d.behind jobs }
+
+-- these finishes, and this one behind them, if it is one
+abbrev pub with_early : List Finish → Option EarlyFinish → List Finish
+with_early finishes None = finishes
+with_early finishes (Some f) = finishes ++ f.finish ∷ []
+
+-- these finishes, and that of the done line, where it is right in the run of the jobs before it
+abbrev pub with_right : Declaration → List JobFacts → List Finish → DoneLine → List Finish
+with_right rules jobs finishes d =
+    with_early finishes (finish_at (jobs_before rules jobs finishes d) d.at d.number)
+
+-- the finishes of the done lines that are right
+abbrev pub right_finishes : Declaration → List JobFacts → List DoneLine → List Finish
+right_finishes rules jobs dones = fold (with_right rules jobs) [] dones
+
+-- the jobs, and these finishes
+abbrev pub handed : Declaration → List JobFacts → List DoneLine → Instance
+handed rules jobs dones = record { rules = under rules (right_finishes rules jobs dones); jobs = jobs }
+
+-- what is declared
+abbrev pub declared_in : Listed → Declaration
+declared_in listed = rules_with listed.ratio listed.version
+
+-- the jobs, under the rules that were declared and with the finishes
 abbrev pub listed_instance : Listed → Instance
-listed_instance listed = instance_with (listed.ratio, listed.version) listed.jobs.items
+listed_instance listed = handed (declared_in listed) listed.jobs.items listed.dones.items
 
--- the jobs of a session as they were declared: none finishes early
-abbrev pub declared_instance : Session → Instance
-declared_instance S = finishing (instance_of S) []
+-- ---- how done lines stand among jobs
+
+-- the done line stands behind some of these jobs: those are released by its tick, and the others no sooner
+pub record StandsAmong (jobs : List JobFacts) (d : DoneLine) : Type 0 where
+  pub behind : d.behind ≤ length jobs
+  pub known : d.at ≤ last_tick
+  pub before : AllByRecursion (λ j. j.release ≤ d.at) (take d.behind jobs)
+  pub later : AllByRecursion (λ j. d.at ≤ j.release) (drop d.behind jobs)
+
+-- a done line comes behind another
+pub record ComesBehind (d e : DoneLine) : Type 0 where
+  pub jobs : d.behind ≤ e.behind
+  pub ticks : d.at ≤ e.at
+
+-- each comes behind those before it
+abbrev pub AreInTurn : List DoneLine → Type 0
+AreInTurn [] = Unit {0}
+AreInTurn (d ∷ dones) = AllByRecursion (ComesBehind d) dones × AreInTurn dones
+
+-- the done lines stand among these jobs, in turn
+pub record StandAmong (jobs : List JobFacts) (dones : List DoneLine) : Type 0 where
+  pub each : AllByRecursion (StandsAmong jobs) dones
+  pub in_turn : AreInTurn dones
+
+-- ---- what is listed of a session
 
 -- a session is declared, in a version in which no job finishes early
 abbrev pub IsPlain : Option Session → Type 0
 IsPlain None = ⊥
 IsPlain (Some S) = may_finish_early S.rules.version ≡ false
 
--- the session declares these rules and admits these jobs, or there is neither
-abbrev pub Lists : Option (Fraction × Version) → List JobFacts → Option Session → Type 0
-Lists None jobs session = (jobs ≡ []) × (session ≡ None)
-Lists (Some declared) jobs session = (S : Session) × (session ≡ Some S)
-    × (instance_with declared jobs ≡ declared_instance S)
+-- the session at this mark declares these rules, and its run is that of these jobs and done lines
+pub record ListsOf (declared : Fraction × Version) (jobs : List JobFacts) (dones : List DoneLine)
+    (session : Option Session) (mark : ℕ) : Type 0 where
+  pub named : Session
+  pub there : session ≡ Some named
+  pub run : handed (rules_with declared.0 declared.1) jobs dones ≡ instance_of named
+  pub among : StandAmong jobs dones
+  pub marked : AllByRecursion (λ d. d.at ≤ mark) dones
+
+-- so it is, or nothing is declared
+abbrev pub Lists : Option (Fraction × Version) → List JobFacts → List DoneLine → Option Session → (mark : ℕ) → Type 0
+Lists None jobs dones session mark = (jobs ≡ []) × (dones ≡ []) × (session ≡ None)
+Lists (Some declared) jobs dones session mark = ListsOf declared jobs dones session mark
+
+-- the same of an account
+abbrev pub ListsIn : Option (Fraction × Version) → List JobFacts → List DoneLine → Account → Type 0
+ListsIn declared jobs dones a = Lists declared jobs dones a.session a.mark

@@ -2,21 +2,22 @@
 use Rattle.std.specs.Prelude.{◌≡◌, ◌⊎◌, ℕ, List, true, Some, length}
 use Rattle.dover_model.specs.Feed.{Account, Ended, Faulty, is_open, account}
 use Rattle.dover_model.specs.Lines.{whole_lines}
-use Rattle.dover_model.specs.Session.{Session, IsValidSession}
+use Rattle.dover_model.specs.Session.{Session, IsValidSession, instance_of}
 use Rattle.event_feed.specs.Answers.{short_after}
 use Rattle.event_feed.specs.Faults.{IsFaultIn}
 use Rattle.event_feed.specs.Kept.{cause_of_fault}
 use Rattle.event_feed.specs.declared.faults.FeedFault.{FeedFault}
-use Rattle.event_feed.specs.Listing.{listed_instance, declared_instance}
+use Rattle.event_feed.specs.Listing.{listed_instance, StandAmong}
 use Rattle.event_feed.specs.declared.listed.Listed.{Listed}
 
--- the feed of this account ended without a fault, and these are the jobs of its session, as they were declared
+-- the feed of this account ended without a fault, and these are the jobs of its session, and its finishes
 pub record IsEnded (listed : Listed) (a : Account) : Type 0 where
   pub ended : a.standing ≡ Ended
   pub session : Session
   pub session_is : a.session ≡ Some session
   pub valid : IsValidSession session
-  pub jobs : listed_instance listed ≡ declared_instance session
+  pub run : listed_instance listed ≡ instance_of session
+  pub among : StandAmong listed.jobs.items listed.dones.items
 
 -- this is the fault of the feed, with the other job named where the ratio is broken, or the feed goes on and this says
 -- that it is short

@@ -1,24 +1,51 @@
 //! What is kept of a feed between its lines.
-ghost use Rattle.std.specs.Prelude.{◌≡◌, ◌<◌, ◌∷◌, ◌++◌, ℕ, List, [], true, OnOk, OnErr};
+ghost use Rattle.std.specs.Prelude.{◌≡◌, ◌<◌, ◌∷◌, ◌++◌, ℕ, List, [], length, true, OnOk, OnErr};
 ghost use Rattle.dover_model.specs.Feed.{account_of_lines};
 ghost use Rattle.event_feed.specs.Answers.{admitted_in};
-ghost use Rattle.event_feed.specs.Keeping.{Keeps};
+ghost use Rattle.event_feed.specs.Keeping.{Keeps, KeepsDone};
+ghost use Rattle.event_feed.specs.Kept as feed;
 
 use crate::fed::Fed;
 use crate::intake::Intake;
+use crate::listed::DoneLine;
 use dover_model::{Job, Memory, Ratio, Version};
 
-/// What is kept of a feed: what its lines said, the ratio and the version once they are declared, the jobs, and whether
-/// it goes on.
+/// What is kept of a feed: what its lines said, the ratio and the version once they are declared, the jobs, the done
+/// lines, and whether it goes on.
 #[derive(Drop)]
 pub(crate) struct Gathering {
     pub(crate) intake: Intake,
     pub(crate) declared: Option<(Ratio, Version)>,
     pub(crate) jobs: Vec<Job>,
+    pub(crate) dones: Vec<DoneLine>,
     pub(crate) going: bool,
 }
 
 impl Gathering {
+    /// Keeps a done line that was taken in. Below the mark, or of no job, its finish isn't right.
+    #[inline(never)]
+    fn done(&mut self, at: u64, number: u64) -> Result<(), Memory>
+        ensures intake { self.new.intake ≡ self.old.intake }
+        ensures declared { self.new.declared ≡ self.old.declared }
+        ensures jobs { self.new.jobs ≡ self.old.jobs }
+        ensures going { self.new.going ≡ self.old.going }
+        ensures dones { (ls : List (List ℕ)) → feed.StandsFor self.old.intake ls →
+            OnOk result (KeepsDone self.old (account_of_lines ls).mark at number self.new.dones.items) }
+        ensures memory { OnErr result (0 < length self.old.jobs.items) }
+    {
+        if self.intake.mark() != at {
+            return Ok(());
+        }
+        if number >= self.jobs.len() as u64 {
+            return Ok(());
+        }
+        let behind = self.jobs.len();
+        match self.dones.push(DoneLine { at, number, behind }) {
+            Ok(()) => Ok(()),
+            Err(_) => Err(Memory),
+        }
+    }
+
     /// Takes a line of the feed, which goes on.
     #[inline(always)]
     pub(crate) fn take_line(&mut self, line: &[u8]) -> Result<(), Memory>
@@ -44,7 +71,7 @@ impl Gathering {
             Fed::Over => self.going = false,
             Fed::Tick(_) => {}
             Fed::Refused { .. } => {}
-            Fed::Done { .. } => {}
+            Fed::Done { at, number } => return self.done(at, number),
         }
         Ok(())
     }

@@ -262,6 +262,16 @@ impl Intake {
         &self.spelled
     }
 
+    /// The mark, 0 before the ratio is declared.
+    pub fn mark(&self) -> u64
+        ensures { (ls : List (List ℕ)) → StandsFor self.now ls → result ≡ (account_of_lines ls).mark }
+    {
+        match &self.session {
+            Some(kept) => kept.mark(),
+            None => 0,
+        }
+    }
+
     /// The input ends here. It leaves all as before.
     ///
     /// # Errors

@@ -38,6 +38,13 @@ impl KeptSession {
         }
     }
 
+    /// The mark.
+    pub fn mark(&self) -> u64
+        ensures { result ≡ self.now.mark }
+    {
+        self.mark
+    }
+
     /// The job line of these numbers, which isn't admitted.
     #[inline(never)]
     fn refuse(

@@ -1,7 +1,20 @@
-//! The jobs of a feed.
+//! The jobs of a feed, and the done lines behind them.
 use dover_model::{Job, Ratio, Version};
 
-/// The ratio and the version that the first line of a feed declared, and the jobs that were admitted since, in order.
+/// A done line: the tick that ends at this one is said to be the last that the job of this number needed.
+#[derive(Clone, Copy)]
+pub struct DoneLine {
+    /// The tick.
+    pub at: u64,
+    /// The number of the job.
+    pub number: u64,
+    /// How many jobs were admitted before the line.
+    pub behind: usize,
+}
+
+/// The ratio and the version that the first line of a feed declared, the jobs that were admitted since, in order, and
+/// the done lines among them, but for those that are below the mark or name no job. Whether their finishes are right,
+/// the run says.
 #[derive(Drop)]
 pub struct Listed {
     /// The declared ratio.
@@ -10,4 +23,6 @@ pub struct Listed {
     pub version: Version,
     /// The admitted jobs, by number.
     pub jobs: Vec<Job>,
+    /// The done lines, in order.
+    pub dones: Vec<DoneLine>,
 }

@@ -5,37 +5,38 @@ ghost use Rattle.dover_model.specs.Feed.{account, account_of_lines, is_open};
 ghost use Rattle.event_feed.specs.Answers.{admitted_in};
 ghost use Rattle.line_text.specs.Cutting.{IsWholeLine};
 ghost use Rattle.event_feed.specs.Keeping.{HasRead, StandsFor};
-ghost use Rattle.event_feed.specs.Listing.{Lists};
+ghost use Rattle.event_feed.specs.Listing.{ListsIn};
 ghost use Rattle.event_feed.specs.Record.{IsEnded, IsRefusedBy};
 
 use crate::faults::FeedFault;
 use crate::gathering::Gathering;
 use crate::intake::Intake;
-use crate::listed::Listed;
+use crate::listed::{DoneLine, Listed};
 use dover_model::{Job, Memory, Ratio, Version};
 use line_text::{Lines, Step};
 use std::alloc::Global;
 
 /// What is kept of a feed that comes in pieces: the line that has begun, and what the lines before it said. Refused job
-/// lines and done lines are passed over.
+/// lines are passed over.
 #[derive(Drop)]
 pub struct FeedReader {
     lines: Lines,
     gathering: Gathering,
 }
 
-/// The jobs of a feed whose `end` line was read.
-fn listed(declared: Option<(Ratio, Version)>, jobs: Vec<Job>) -> Listed
+/// The jobs of a feed whose `end` line was read, and its done lines.
+fn listed(declared: Option<(Ratio, Version)>, jobs: Vec<Job>, dones: Vec<DoneLine>) -> Listed
     requires { (ls : List (List ℕ)) × ((account_of_lines ls).standing ≡ feeds.Ended)
-        × Lists declared jobs.items (account_of_lines ls).session }
+        × ListsIn declared jobs.items dones.items (account_of_lines ls) }
     ensures { (ls : List (List ℕ)) → (account_of_lines ls).standing ≡ feeds.Ended
-        → Lists declared jobs.items (account_of_lines ls).session → IsEnded result (account_of_lines ls) }
+        → ListsIn declared jobs.items dones.items (account_of_lines ls) → IsEnded result (account_of_lines ls) }
 {
     match declared {
         Some(rules) => Listed {
             ratio: rules.0,
             version: rules.1,
             jobs,
+            dones,
         },
         None => unreachable!(),
     }
@@ -52,6 +53,7 @@ impl FeedReader {
                 intake: Intake::new(),
                 declared: None,
                 jobs: Vec::new(alloc),
+                dones: Vec::new(alloc),
                 going: true,
             },
         }
@@ -90,12 +92,12 @@ impl FeedReader {
         self.take_byte(bytes[0])
     }
 
-    /// The feed goes on by the piece, up to a line that ends it or is faulty. Memory is taken for each admitted job
-    /// alone.
+    /// The feed goes on by the piece, up to a line that ends it or is faulty. Memory is taken for each admitted job and
+    /// for each done line behind one, alone.
     ///
     /// # Errors
     ///
-    /// `Memory` where there is none for an admitted job; the reader isn't called again.
+    /// `Memory` where there is none for an admitted job or a done line; the reader isn't called again.
     pub fn take(&mut self, piece: &[u8]) -> Result<(), Memory>
         requires { (x : List ℕ) × StandsFor self.old x × (is_open (account x) ≡ true) }
         ensures stands { (x : List ℕ) → StandsFor self.old x → is_open (account x) ≡ true →
@@ -125,7 +127,7 @@ impl FeedReader {
         self.gathering.going
     }
 
-    /// The jobs of a feed whose `end` line was read.
+    /// The jobs of a feed whose `end` line was read, and its done lines.
     ///
     /// # Errors
     ///
@@ -137,7 +139,15 @@ impl FeedReader {
         ensures fault { (x : List ℕ) → StandsFor self x → IfErr result (λ fault. IsRefusedBy fault x) }
     {
         match self.gathering.intake.end() {
-            Ok(()) => Ok(listed(self.gathering.declared, self.gathering.jobs)),
+            Ok(()) => {
+                let Gathering {
+                    declared,
+                    jobs,
+                    dones,
+                    ..
+                } = self.gathering;
+                Ok(listed(declared, jobs, dones))
+            }
             Err(fault) => Err(fault),
         }
     }

@@ -7,3 +7,4 @@ pub mod Holding
 pub mod Ticks
 pub mod Onlines
 mod PolicyRows
+pub mod Sizes

@@ -1,5 +1,5 @@
 //! A policy's run over a list of jobs.
-ghost use Rattle.std.specs.Prelude.{◌≡◌, ◌≤◌, ◌↔◌, IfOk};
+ghost use Rattle.std.specs.Prelude.{◌≡◌, ◌≤◌, ◌↔◌, IfOk, IsTrue};
 ghost use Rattle.dover_model.specs.Limits.{most_total};
 ghost use Rattle.dover_model.specs.Instance.{Rules, IsInOrder, total_value};
 ghost use Rattle.dover_model.specs.Schedules.{worth};
@@ -39,6 +39,13 @@ pub enum LabFault {
     Memory,
 }
 
+/// Whether these are more than 10,000 jobs, or one is due after 100,000.
+pub fn are_too_large(jobs: &[Job]) -> bool
+    ensures { IsTrue result ↔ AreTooLarge jobs.now }
+{
+    jobs.len() > MOST_JOBS || last_deadline(jobs) > LATEST_DEADLINE
+}
+
 /// Runs the policy over these jobs, whose releases never fall along the list and whose values sum to at most 10^13.
 ///
 /// # Errors
@@ -54,13 +61,10 @@ pub fn run_policy<P: Policy>(alloc: Global, policy: &P, jobs: &[Job]) -> Result<
     ensures pieces { IfOk result
         (λ outcome. outcome.pieces.items ≡ stretches (policy_run (P.picks policy.now) jobs.now)) }
 {
+    if are_too_large(jobs) {
+        return Err(LabFault::TooLarge);
+    }
     let ticks = last_deadline(jobs);
-    if jobs.len() > MOST_JOBS {
-        return Err(LabFault::TooLarge);
-    }
-    if ticks > LATEST_DEADLINE {
-        return Err(LabFault::TooLarge);
-    }
     match run_ticks(alloc, policy, jobs, ticks) {
         Ok((value, pieces)) => Ok(Outcome { value, pieces }),
         Err(Memory) => Err(LabFault::Memory),

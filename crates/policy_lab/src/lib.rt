@@ -8,7 +8,7 @@ mod policy;
 mod scan;
 mod standard;
 
-pub use lab::{LabFault, Outcome, run_policy};
+pub use lab::{LabFault, Outcome, are_too_large, run_policy};
 pub use laws::policies_are_on_line;
 pub use policy::Policy;
 pub use standard::{Dense, Edf};

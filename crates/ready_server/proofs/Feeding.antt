@@ -15,15 +15,9 @@ use Rattle.dover_model.specs.Horizons.{MayFollow, no_jobs}
 use Rattle.dover_model.proofs.Horizons.{may_follow}
 use Rattle.dover_model.specs.Spending.{CostsAtMost}
 use Rattle.dover_model.proofs.Spending.{few_more}
-use Rattle.ready_server.specs.Running.{HasShown}
+use Rattle.ready_server.specs.Running.{HasShown, CanFeed, MayReach, HasFed}
 use Rattle.ready_server.specs.Serving.{Serves}
 use Rattle.ready_server.specs.declared.server.ReadyServer.{ReadyServer}
-
--- these jobs may be fed behind those of J, where the horizon is this one
-pub record CanFeed (J : Instance) (to : Horizon) (jobs : List JobFacts) : Type 0 where
-  pub valid : IsValid (with_jobs J jobs)
-  pub follow : AllByRecursion (λ j. MayFollow to (Mark j.release)) jobs
-  pub ends : MayFollow to End
 
 -- each release may follow the tick 0
 follow_first : (jobs : List JobFacts) → AllByRecursion IsJob jobs
@@ -60,27 +54,39 @@ module _ (J : Instance) (to : Horizon) (j : JobFacts) (rest : List JobFacts) (ca
 
 -- ---- of a server and a watcher
 
--- The server has taken the run of some jobs of the list, the watcher has seen what it printed, and the others may be
--- fed behind them.
-pub record IsUnderWay {W : Type 0} (seen : W → List Event → Type 0) (server : ReadyServer) (watcher : W)
-    (all : Instance) (rest : List JobFacts) : Type 0 where
+-- The server has taken the run of some of the jobs behind those of J, the watcher has seen what it printed, and the
+-- others may be fed behind them.
+pub record IsUnderWay {W : Type 0} (seen : W → List Event → Type 0) (server : ReadyServer) (watcher : W) (J : Instance)
+    (from : Horizon) (jobs rest : List JobFacts) : Type 0 where
   pub served : Instance
   pub to : Horizon
   pub shown : HasShown seen server watcher served to
   pub can : CanFeed served to rest
-  pub whole : with_jobs served rest ≡ all
+  pub whole : with_jobs served rest ≡ with_jobs J jobs
+  pub reach : (t : ℕ) → MayReach from jobs t → MayReach to rest t
+
+-- what may follow a job and others may follow it with the others
+reach_further : (to : Horizon) (j : JobFacts) (rest : List JobFacts) (t : ℕ) → MayReach to (j ∷ rest) t
+    → MayReach (Mark j.release) rest t
+reach_further (Mark m) j rest t may = ((may.1.0, may.0.1), may.1.1)
+reach_further End j rest t may = absurd may.0
 
 module _ {W : Type 0} {seen : W → List Event → Type 0} where
+  -- nothing is shown of no jobs
+  pub first_shown : (version : Version) (k : Fraction) (v : ReadyServer) (w : W)
+      → Serves v (no_jobs version k) (Mark 0) [] → seen w [] → HasShown seen v w (no_jobs version k) (Mark 0)
+  first_shown version k v w served shown = record { events = []; served = served; shown = shown }
+
   -- at first
-  pub under_way : (version : Version) (k : Fraction) (jobs : List JobFacts) (v : ReadyServer) (w : W)
-      → IsValid (jobs_under version k jobs) → Serves v (no_jobs version k) (Mark 0) [] → seen w []
-      → IsUnderWay seen v w (jobs_under version k jobs) jobs
-  under_way version k jobs v w valid served shown = record {
-    served = no_jobs version k;
-    to = Mark 0;
-    shown = record { events = []; served = served; shown = shown };
-    can = can_first k version jobs valid;
+  pub under_way : (v : ReadyServer) (w : W) (J : Instance) (from : Horizon) (jobs : List JobFacts)
+      → HasShown seen v w J from → CanFeed J from jobs → IsUnderWay seen v w J from jobs jobs
+  under_way v w J from jobs shown can = record {
+    served = J;
+    to = from;
+    shown = shown;
+    can = can;
     whole = refl;
+    reach = λ t may. may;
   }
 
   -- another server that has printed the same
@@ -88,11 +94,11 @@ module _ {W : Type 0} {seen : W → List Event → Type 0} where
       → Serves u J to it.events → HasShown seen u w J to
   served_by v u w J to it served = record { events = it.events; served = served; shown = it.shown }
 
-  module _ (v : ReadyServer) (w : W) (all : Instance) (j : JobFacts) (rest : List JobFacts)
-      (it : IsUnderWay seen v w all (j ∷ rest)) where
+  module _ (v : ReadyServer) (w : W) (J : Instance) (from : Horizon) (jobs : List JobFacts) (j : JobFacts)
+      (rest : List JobFacts) (it : IsUnderWay seen v w J from jobs (j ∷ rest)) where
     -- with the next job
     pub one_further : (u : ReadyServer) (x : W) → HasShown seen u x (with_jobs it.served (j ∷ [])) (Mark j.release)
-        → IsUnderWay seen u x all rest
+        → IsUnderWay seen u x J from jobs rest
     one_further u x shown = record {
       served = with_jobs it.served (j ∷ []);
       to = Mark j.release;
@@ -100,19 +106,28 @@ module _ {W : Type 0} {seen : W → List Event → Type 0} where
       can = can_further it.served it.to j rest it.can;
       whole = ap (λ jobs. record { rules = it.served.rules; jobs = jobs })
           (append_assoc it.served.jobs (j ∷ []) rest) ∙ it.whole;
+      reach = λ t may. reach_further it.to j rest t (it.reach t may);
     }
 
-  module _ (v : ReadyServer) (w : W) (all : Instance) (rest : List JobFacts) (it : IsUnderWay seen v w all rest) where
+  module _ (v : ReadyServer) (w : W) (J : Instance) (from : Horizon) (jobs rest : List JobFacts)
+      (it : IsUnderWay seen v w J from jobs rest) where
     -- some jobs are no more than all
     pub some_few : (start now : ℕ) → CostsAtMost (length it.served.jobs) start now
-        → CostsAtMost (length all.jobs) start now
-    some_few start now few = few_more (length it.served.jobs) (length all.jobs) start now
-        (omega (arith, length-append it.served.jobs rest, ap (λ (J : Instance). length J.jobs) it.whole)) few
+        → CostsAtMost (length (with_jobs J jobs).jobs) start now
+    some_few start now few = few_more (length it.served.jobs) (length (with_jobs J jobs).jobs) start now
+        (omega (arith, length-append it.served.jobs rest, ap (λ (K : Instance). length K.jobs) it.whole)) few
 
   -- all jobs are served
-  pub all_served : (v : ReadyServer) (w : W) (all : Instance) (it : IsUnderWay seen v w all []) → it.served ≡ all
-  all_served v w all it =
-      ap (λ jobs. record { rules = it.served.rules; jobs = jobs }) (sym (append-nil it.served.jobs)) ∙ it.whole
+  pub all_served : (v : ReadyServer) (w : W) (J : Instance) (from : Horizon) (jobs : List JobFacts)
+      (it : IsUnderWay seen v w J from jobs []) → HasFed seen v w J from jobs
+  all_served v w J from jobs it = record {
+    to = it.to;
+    shown = subst (λ K. HasShown seen v w K it.to)
+        (ap (λ jobs. record { rules = it.served.rules; jobs = jobs }) (sym (append-nil it.served.jobs)) ∙ it.whole)
+        it.shown;
+    reach = λ t may. (it.reach t may).0;
+    ends = it.can.ends;
+  }
 
 -- there may be one job more, where the list with it is valid
 pub few_with : (J : Instance) (j : JobFacts) → IsValid (with_jobs J (j ∷ [])) → length J.jobs + 1 ≤ most_jobs

@@ -1,21 +1,19 @@
 -- When a server that has given all up to a mark is to be called again.
-use Rattle.std.proofs.Common.{◌≡◌, ℕ, suc, ◌+◌, ◌≤◌, ◌<◌, ◌⊎◌, inl, inr, List, [], ◌∷◌, ◌++◌, refl, sym, ap, ◌∙◌}
-use Rattle.std.proofs.Common.{subst, arith, append-nil, Bool, true, false, cond, not}
+use Rattle.std.proofs.Common.{◌≡◌, ℕ, suc, ◌≤◌, ◌<◌, inl, List, [], ◌∷◌, ◌++◌, refl, sym, ap, ◌∙◌}
+use Rattle.std.proofs.Common.{arith, append-nil, Bool, true, false, cond, not}
 use Rattle.std.specs.Prelude.{Option, Some, None, IfSome}
-use Rattle.std.specs.List.{filter}
 use Rattle.dover_model.specs.declared.events.Event.{Event}
 use Rattle.dover_model.specs.declared.events.Role.TheVariants.{Coming, Fresh, Waiting, Held, Running, Done, Gone}
 use Rattle.dover_model.specs.declared.events.Task.{Task}
 use Rattle.dover_model.specs.Fraction.{Fraction}
 use Rattle.dover_model.specs.Instance.{Instance, IsValid}
-use Rattle.dover_model.specs.Leading.{GoesOn, PrintsNext, floor_after}
+use Rattle.dover_model.specs.Leading.{PrintsNext}
 use Rattle.dover_model.specs.Ready.{is_ready}
-use Rattle.dover_model.specs.Run.{Step, printed, printed_of, last_deadline}
-use Rattle.dover_model.specs.Settled.{settled, settled_steps, waits_for_mark, tick_of_event}
-use Rattle.dover_model.specs.Sound.{Each, IsMember, Keeps, NoneRuns}
+use Rattle.dover_model.specs.Run.{printed, printed_of, last_deadline}
+use Rattle.dover_model.specs.Settled.{settled, settled_steps, waits_for_mark}
+use Rattle.dover_model.specs.Sound.{Each, IsMember, NoneRuns}
 use Rattle.dover_model.specs.State.{State, opening, state_at, is_over, is_coming, is_ready_behind}
 use Rattle.dover_model.specs.Step.{Move, Prints, Ticks, open_step, with_role}
-use Rattle.dover_model.specs.WholeRun.{IsBarrier}
 use Rattle.dover_model.specs.Paths.{HasPrinted}
 use Rattle.dover_model.specs.declared.horizon.Horizon.TheVariants.{Mark}
 use Rattle.dover_model.proofs.Barriers.{late_none_fresh}
@@ -34,7 +32,7 @@ use Rattle.dover_model.proofs.Roles.{passes, by_role}
 use Rattle.dover_model.proofs.Runs.{printed_append}
 use Rattle.dover_model.proofs.Settling.{at_barrier, settles, settled_is_run}
 use Rattle.dover_model.proofs.Tests.{never}
-use Rattle.ready_jobs.specs.Course.{Course, Follows}
+use Rattle.ready_jobs.specs.Course.{Follows}
 use Rattle.ready_jobs.specs.NextTick.{IsUnderWay, PrintsAt}
 use Rattle.ready_server.specs.NextStep.{ComesAt}
 use Rattle.ready_server.specs.Serving.{Rests}

@@ -10,7 +10,7 @@ mod watcher;
 
 pub use roster::Roster;
 pub use roster_server::RosterServer;
-pub use running::run_list;
+pub use running::{finish_job, run_list, serve_jobs, show_to};
 pub use server::ReadyServer;
 pub use source::JobSource;
 pub use watcher::Watcher;

@@ -7,7 +7,7 @@ ghost use Rattle.dover_model.specs.declared.horizon.Horizon.{Horizon};
 ghost use Rattle.dover_model.specs.declared.horizon.Horizon.TheVariants.{Mark};
 ghost use Rattle.dover_model.specs.Horizons.{MayFollow, due_by};
 ghost use Rattle.dover_model.specs.Spending.{CostsAtMost};
-ghost use Rattle.ready_server.specs.Running.{HasShown};
+ghost use Rattle.ready_server.specs.Running.{HasShown, CanFeed, HasFed, finished_at};
 ghost use Rattle.ready_server.specs.Serving.{Serves, Rests, HasPlace, HasPaid};
 
 use crate::server::ReadyServer;
@@ -19,7 +19,7 @@ use std::sync::ledger::Ledger;
 use step_count::Steps;
 
 /// Takes the run to a horizon, and shows each step that is printed on the way.
-fn show_to<W: Watcher, L: Ledger>(
+pub fn show_to<W: Watcher, L: Ledger>(
     server: &mut ReadyServer,
     to: Horizon,
     watcher: &mut W,
@@ -62,6 +62,57 @@ fn serve_job<W: Watcher, L: Ledger>(
     watcher.see(&server.admit(job));
 }
 
+/// Serves jobs of a list one by one, each at its release, and shows each step that is printed. Memory is taken for the
+/// jobs that are ready at once.
+///
+/// # Errors
+///
+/// `Memory` where there is none.
+pub fn serve_jobs<S: JobSource, W: Watcher, L: Ledger>(
+    server: &mut ReadyServer,
+    jobs: &mut S,
+    watcher: &mut W,
+    steps: &mut Steps<L>,
+) -> Result<(), Memory>
+    requires { (J : Instance) × (from : Horizon) × HasShown W.seen server.old watcher.old J from
+        × CanFeed J from (S.jobs jobs.old) }
+    ensures fed { (J : Instance) (from : Horizon) → HasShown W.seen server.old watcher.old J from
+        → CanFeed J from (S.jobs jobs.old)
+        → OnOk result (HasFed W.seen server.new watcher.new J from (S.jobs jobs.old)) }
+    ensures paid { (start : ℕ) → HasPaid server.old start steps.old → HasPaid server.new start steps.new }
+    ensures count { (J : Instance) (from : Horizon) (start : ℕ) → HasShown W.seen server.old watcher.old J from
+        → CanFeed J from (S.jobs jobs.old) → HasPaid server.old start steps.old
+        → CostsAtMost (length (with_jobs J (S.jobs jobs.old)).jobs) start steps.new }
+{
+    ReadyServer::laws();
+    while let Some(job) = jobs.next_job() {
+        server.make_room()?;
+        serve_job(server, job, watcher, steps);
+    }
+    Ok(())
+}
+
+/// Takes the run to a tick, at which the job of a number finishes if that is right, and shows each printed step.
+pub fn finish_job<W: Watcher, L: Ledger>(
+    server: &mut ReadyServer,
+    at: u64,
+    number: u64,
+    watcher: &mut W,
+    steps: &mut Steps<L>,
+)
+    requires { (J : Instance) × (from : Horizon) × HasShown W.seen server.old watcher.old J from
+        × MayFollow from (Mark at) }
+    ensures shown { (J : Instance) (from : Horizon) → HasShown W.seen server.old watcher.old J from
+        → MayFollow from (Mark at) → HasShown W.seen server.new watcher.new (finished_at J at number) (Mark at) }
+    ensures paid { (start : ℕ) → HasPaid server.old start steps.old → HasPaid server.new start steps.new }
+{
+    ReadyServer::laws();
+    show_to(server, Horizon::Mark(at), watcher, steps);
+    if let Some(event) = server.finish(at, number) {
+        watcher.see(&event);
+    }
+}
+
 /// Serves the jobs of a list, which are valid, to the end, and shows each printed step of their run. Memory is taken
 /// for the jobs that are ready at once.
 ///
@@ -83,10 +134,7 @@ pub fn run_list<S: JobSource, W: Watcher, L: Ledger>(
 {
     ReadyServer::laws();
     let mut server = ReadyServer::new(alloc, version, k)?;
-    while let Some(job) = jobs.next_job() {
-        server.make_room()?;
-        serve_job(&mut server, job, watcher, steps);
-    }
+    serve_jobs(&mut server, jobs, watcher, steps)?;
     show_to(&mut server, Horizon::End, watcher, steps);
     Ok(())
 }
