@@ -46,7 +46,7 @@ module _ (says : Says) (x : List ℕ) (ended : Bool) (over : IsOver (ask_talk sa
       session = by.session;
       session_is = by.session_is;
       valid = by.valid;
-      said = subst (λ (J : Instance). says J status text) by.jobs it;
+      said = subst (λ (J : Instance). says J status text) by.run it;
     }
 
     -- the input goes on behind the end line

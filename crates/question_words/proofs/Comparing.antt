@@ -1,9 +1,12 @@
 -- What the word `compare` says is what was computed.
-use Rattle.std.proofs.Common.{◌≡◌, ◌≤◌, ℕ, List, [], sym, ap, ◌∙◌, subst, codes, arith}
+use Rattle.std.proofs.Common.{◌≡◌, ◌≤◌, ℕ, List, [], sym, ap, ◌∙◌, subst, codes, arith, ◌↔◌, IsTrue}
+use Rattle.std.proofs.Common.{Bool, false}
+use Rattle.dover_model.proofs.Tests.{never}
 use Rattle.dover_model.specs.Bound.{bound}
 use Rattle.dover_model.specs.Instance.{Instance, IsValid}
 use Rattle.dover_model.specs.JobFacts.{JobFacts}
 use Rattle.dover_model.specs.Limits.{most_total}
+use Rattle.dover_model.specs.Observed.{observed}
 use Rattle.dover_model.specs.Run.{completed_value}
 use Rattle.dover_model.specs.Schedules.{worth}
 use Rattle.dover_model.proofs.Agreement.{is_within-agrees}
@@ -15,6 +18,11 @@ use Rattle.policy_lab.specs.Standard.{earliest_deadline, greatest_density}
 use Rattle.question_words.specs.Compare.{SaysCompare, AreWithin, worth_of}
 use Rattle.question_words.proofs.Lines.{four, four_same}
 
+-- jobs that aren't too large
+pub not_large : (jobs others : List JobFacts) → jobs ≡ others → (large : Bool) → (IsTrue large ↔ AreTooLarge jobs)
+    → large ≡ false → AreTooLarge others → ⊥
+not_large jobs others same large tells fails are = never (sym fails ∙ tells.1 (subst AreTooLarge (sym same) are))
+
 module _ (J : Instance) (valid : IsValid J) where
   -- the run completes no more than all values
   completed_low : completed_value J ≤ most_total
@@ -24,21 +32,22 @@ module _ (J : Instance) (valid : IsValid J) where
   pub value_low : (value : ℕ) → value ≡ completed_value J → value ≤ most_total
   value_low value is = subst (λ v. v ≤ most_total) (sym is) completed_low
 
-  -- no schedule is worth more than the bound
-  pub worth_low : (s : List ℕ) → worth J s ≤ bound J.rules.ratio (completed_value J)
-  worth_low s = (bound-is J.rules.ratio (completed_value J) valid.ratio
-      (omega (arith, completed_low))).greatest (worth J s)
-      ((is_within-agrees J.rules.ratio (worth J s) (completed_value J)).1 (laws.bound J s valid))
+  -- no schedule of the jobs as the run observed them is worth more than the bound
+  pub worth_low : (s : List ℕ) → worth (observed J) s ≤ bound J.rules.ratio (completed_value J)
+  worth_low s = (bound-is J.rules.ratio (completed_value J) valid.ratio (omega (arith, completed_low))).greatest
+      (worth (observed J) s)
+      ((is_within-agrees J.rules.ratio (worth (observed J) s) (completed_value J)).1 (laws.observed_bound J s valid))
 
   -- the two schedules are within it
   within : AreWithin J
   within = record {
-    edf = worth_low (policy_run earliest_deadline J.jobs);
-    dense = worth_low (policy_run greatest_density J.jobs);
+    edf = worth_low (policy_run earliest_deadline (observed J).jobs);
+    dense = worth_low (policy_run greatest_density (observed J).jobs);
   }
 
   -- these numbers are what is said
-  pub compared : (jobs : List JobFacts) → jobs ≡ J.jobs → (dover edf dense most : ℕ) → dover ≡ completed_value J
+  pub compared : (jobs : List JobFacts) → jobs ≡ (observed J).jobs → (dover edf dense most : ℕ)
+      → dover ≡ completed_value J
       → edf ≡ worth (record { rules = J.rules; jobs = jobs }) (policy_run earliest_deadline jobs)
       → dense ≡ worth (record { rules = J.rules; jobs = jobs }) (policy_run greatest_density jobs)
       → most ≡ bound J.rules.ratio dover → (AreTooLarge J.jobs → ⊥) → (text : List ℕ)
@@ -48,7 +57,7 @@ module _ (J : Instance) (valid : IsValid J) where
     small,
     within,
     written ∙ four_same (codes "dover") (codes "edf") (codes "dense") (codes "bound") dover edf dense most
-        (completed_value J) (worth_of earliest_deadline J) (worth_of greatest_density J)
+        (completed_value J) (worth_of earliest_deadline (observed J)) (worth_of greatest_density (observed J))
         (bound J.rules.ratio (completed_value J)) [] run
         (first ∙ ap (λ js. worth (record { rules = J.rules; jobs = js }) (policy_run earliest_deadline js)) same)
         (second ∙ ap (λ js. worth (record { rules = J.rules; jobs = js }) (policy_run greatest_density js)) same)

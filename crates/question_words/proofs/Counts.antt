@@ -10,4 +10,4 @@ use Rattle.event_feed.specs.declared.listed.Listed.{Listed}
 -- as many jobs are admitted as are listed
 pub listed_count : (x : List ℕ) (listed : Listed) → IsEnded listed (account x)
     → length listed.jobs.items ≡ admitted_in (account x)
-listed_count x listed it = ap (λ (J : Instance). length J.jobs) it.jobs ∙ sym (ap admitted_by it.session_is)
+listed_count x listed it = ap (λ (J : Instance). length J.jobs) it.run ∙ sym (ap admitted_by it.session_is)

@@ -2,8 +2,9 @@ pub mod Answering
 pub mod Comparing
 pub mod Counts
 pub mod Finding
+pub mod Handed
 pub mod Lines
 pub mod Losing
+pub mod Observations
 pub mod RowLines
-pub mod Served
 pub mod Talking

@@ -1,19 +1,20 @@
 -- What the word `loss` says is what was found.
 use Rattle.std.proofs.Common.{◌≡◌, ◌≤◌, ◌<◌, ◌+◌, ℕ, List, length, map, ap, ◌∙◌, sym, subst, codes, Bool, true, false}
-use Rattle.std.proofs.Common.{refl, []}
+use Rattle.std.proofs.Common.{refl}
 use Rattle.std.proofs.Common.{cond, arith}
 use Rattle.std.specs.Prelude.{◌&&◌}
 use Rattle.std.specs.List.{sum_by}
 use Rattle.dover_model.specs.Bound.{bound}
 use Rattle.dover_model.specs.Instance.{Instance, IsValid, total_value}
 use Rattle.dover_model.specs.JobFacts.{JobFacts}
+use Rattle.dover_model.specs.Observed.{observed}
 use Rattle.dover_model.specs.Run.{completed_value, ran}
-use Rattle.dover_model.proofs.Honest.{plain_honest}
+use Rattle.dover_model.proofs.Honest.{observed_honest, observed_all}
 use Rattle.dover_model.proofs.Members.{map_same, sum_le, sum_filter}
 use Rattle.dover_model.proofs.Parting.{worth_to}
 use Rattle.dover_model.proofs.Runs.{all_value}
 use Rattle.dover_model.specs.Books.{Job}
-use Rattle.dover_model.specs.Schedules.{is_served, numbered}
+use Rattle.dover_model.specs.Schedules.{Meets, is_served, numbered}
 use Rattle.dover_model.specs.Windows.{is_inside}
 use Rattle.dover_port.specs.declared.status.Status.TheVariants.{Done}
 use Rattle.overload.specs.Stretches.{IsCosted, IsCapped, value_inside, value_outside}
@@ -25,7 +26,7 @@ use Rattle.question_words.specs.Loss.{SaysLoss, is_completed, row_of}
 use Rattle.question_words.specs.Texts.{stretch_lines}
 use Rattle.question_words.specs.declared.answer.StretchRow.{StretchRow}
 use Rattle.question_words.proofs.Lines.{four, four_same}
-use Rattle.question_words.proofs.Served.{completed_served}
+use Rattle.question_words.proofs.Observations.{completed_served, observed_count, observed_total}
 
 -- rows of the same jobs done are the same
 rows_same : (jobs : List JobFacts) (f g : ℕ → Bool) → ((n : ℕ) → n < length jobs → f n ≡ g n) → (xs : List Stretch)
@@ -36,19 +37,20 @@ rows_same jobs f g same xs = map_same (row_of jobs f) (row_of jobs g) xs
       with_value x v = record { from = x.from; until = x.until; total = x.total; cap = x.cap; value = v }
 
 -- what a run completes inside a stretch is at most its cap
-value_below : (J : Instance) → IsValid J → J.rules.finishes ≡ [] → (x : Stretch) → IsCapped J.jobs x
-    → value_inside J.jobs (is_completed J) x.from x.until ≤ x.cap
-value_below J valid plain x capped =
+value_below : (J : Instance) → IsValid J → (x : Stretch) → IsCapped (observed J).jobs x
+    → value_inside (observed J).jobs (is_completed J) x.from x.until ≤ x.cap
+value_below J valid x capped =
     let inside : Job → Bool = λ n_j. is_inside x.from x.until n_j.1 in
     let done : Job → ℕ = λ n_j. cond (inside n_j && is_completed J n_j.0) n_j.1.value 0 in
-    let less : sum_by done (numbered J) ≤ sum_by (λ n_j. cond (inside n_j) (worth_to (ran J) n_j) 0) (numbered J) =
-    sum_le done (λ n_j. cond (inside n_j) (worth_to (ran J) n_j) 0) (numbered J)
-    (λ n_j member. by_tests n_j (inside n_j) (is_completed J n_j.0) (completed_served J valid plain n_j member)) in
+    let less : sum_by done (numbered (observed J))
+    ≤ sum_by (λ n_j. cond (inside n_j) (worth_to (ran J) n_j) 0) (numbered (observed J)) =
+    sum_le done (λ n_j. cond (inside n_j) (worth_to (ran J) n_j) 0) (numbered (observed J))
+    (λ n_j member. by_tests n_j (inside n_j) (is_completed J n_j.0) (completed_served J valid n_j member)) in
     omega (
       arith,
       less,
-      sum_filter inside (worth_to (ran J)) (numbered J),
-      earned_inside J.jobs J.rules (ran J) x.from x.until x.cap capped,
+      sum_filter inside (worth_to (ran J)) (numbered (observed J)),
+      earned_inside (observed J).jobs J.rules (ran J) x.from x.until x.cap capped,
     ) where
       by_tests : (n_j : Job) (b c : Bool) → (c ≡ true → is_served (ran J) n_j ≡ true)
           → cond (b && c) n_j.1.value 0 ≤ cond b (worth_to (ran J) n_j) 0
@@ -56,40 +58,44 @@ value_below J valid plain x capped =
       by_tests n_j true false served = omega arith
       by_tests n_j true true served = subst (λ d. n_j.1.value ≤ cond d n_j.1.value 0) (sym (served refl)) (omega arith)
 
-module _ (J : Instance) (valid : IsValid J) (plain : J.rules.finishes ≡ []) (costed : Costed) where
+module _ (J : Instance) (valid : IsValid J) (costed : Costed) where
   -- the rows of what was found, as they are said
-  pub rows_said : (jobs : List JobFacts) → jobs ≡ J.jobs → (xs : List Stretch) → xs ≡ costed.stretches.items
+  pub rows_said : (jobs : List JobFacts) → jobs ≡ (observed J).jobs → (xs : List Stretch) → xs ≡ costed.stretches.items
       → (done : ℕ → Bool) → ((n : ℕ) → n < length J.jobs → done n ≡ is_completed J n)
       → (rows : List StretchRow) → rows ≡ map (row_of jobs done) xs
-      → rows ≡ map (row_of J.jobs (is_completed J)) costed.stretches.items
+      → rows ≡ map (row_of (observed J).jobs (is_completed J)) costed.stretches.items
   rows_said jobs same xs are done flags rows is = is ∙ ap (λ js. map (row_of js done) xs) same
-      ∙ rows_same J.jobs done (is_completed J) flags xs ∙ ap (map (row_of J.jobs (is_completed J))) are
+      ∙ rows_same (observed J).jobs done (is_completed J)
+      (λ n low. flags n (omega (arith, low, observed_count J valid))) xs
+      ∙ ap (map (row_of (observed J).jobs (is_completed J))) are
 
   -- these numbers and rows are what is said
-  pub lost : (jobs : List JobFacts) → jobs ≡ J.jobs → IsCosted jobs costed → (value most : ℕ)
+  pub lost : (jobs : List JobFacts) → jobs ≡ (observed J).jobs → IsCosted jobs costed → (value most : ℕ)
       → value ≡ completed_value J → most ≡ bound J.rules.ratio value → (rows : List StretchRow)
-      → rows ≡ map (row_of J.jobs (is_completed J)) costed.stretches.items → (text : List ℕ)
+      → rows ≡ map (row_of (observed J).jobs (is_completed J)) costed.stretches.items → (text : List ℕ)
       → text ≡ four (codes "total") (codes "value") (codes "ceiling") (codes "bound") costed.total value costed.cap most
       (stretch_lines rows)
       → SaysLoss J Done text
   lost jobs same found value most run is rows are text written =
-      let it : IsCosted J.jobs costed = subst (λ js. IsCosted js costed) same found in (
+      let it : IsCosted (observed J).jobs costed = subst (λ js. IsCosted js costed) same found in (
         costed,
         record {
           costed = it;
-          above = subst (λ v. v ≤ costed.cap) (plain_honest J valid plain) (it.most J.rules (ran J));
-          each = λ x member. value_below J valid plain x ((it.each x member).cap);
-          all = λ none. (
-            it.sum ∙ ap (λ xs. value_outside J.jobs xs + sum_by (λ (x : Stretch). x.cap) xs) none
-                ∙ let e : total_value J.jobs + 0 ≡ total_value J.jobs = omega arith in e,
-            all_value J valid (it.none.0 none J.rules),
-          );
+          above = subst (λ v. v ≤ costed.cap) (observed_honest J valid) (it.most J.rules (ran J));
+          each = λ x member. value_below J valid x ((it.each x member).cap);
+          all = λ none. it.sum
+              ∙ ap (λ xs. value_outside (observed J).jobs xs + sum_by (λ (x : Stretch). x.cap) xs) none
+              ∙ (let e : total_value (observed J).jobs + 0 ≡ total_value (observed J).jobs = omega arith in e)
+              ∙ observed_total J valid;
+          none_lost = λ plain none. all_value J valid
+              (subst Meets (observed_all J valid plain) (it.none.0 none J.rules));
         },
         written ∙ ap (λ rs. four (codes "total") (codes "value") (codes "ceiling") (codes "bound") costed.total value
             costed.cap most (stretch_lines rs)) are
             ∙ four_same (codes "total") (codes "value") (codes "ceiling")
             (codes "bound") costed.total value costed.cap most
             (total_value J.jobs) (completed_value J) costed.cap (bound J.rules.ratio (completed_value J))
-            (stretch_lines (map (row_of J.jobs (is_completed J)) costed.stretches.items)) it.total run refl
+            (stretch_lines (map (row_of (observed J).jobs (is_completed J)) costed.stretches.items))
+            (it.total ∙ observed_total J valid) run refl
             (is ∙ ap (bound J.rules.ratio) run),
       )

@@ -4,6 +4,7 @@ use Rattle.best_set.specs.BestSet.{IsBestSet, value_of, pieces_of}
 use Rattle.dover_model.specs.Bound.{bound}
 use Rattle.dover_model.specs.Instance.{Instance}
 use Rattle.dover_model.specs.Lines.{with_numbers, in_lines}
+use Rattle.dover_model.specs.Observed.{observed}
 use Rattle.dover_model.specs.Pieces.{spread}
 use Rattle.dover_model.specs.Run.{completed_value}
 use Rattle.dover_model.specs.Schedules.{worth}
@@ -13,23 +14,23 @@ use Rattle.dialogue.specs.Sizes.{size_text}
 use Rattle.question_words.specs.Texts.{piece_lines}
 
 -- how many jobs there are, what the chosen ones are worth, what the run completes, the bound on what any schedule is
--- worth, and the schedule of the chosen jobs
+-- worth, and the schedule of the chosen jobs, as the run observed them
 abbrev pub best_text : Instance → (chosen : List ℕ) → List ℕ
 best_text J chosen = in_lines (
     with_numbers (codes "jobs") (length J.jobs ∷ [])
-    ∷ with_numbers (codes "optimum") (value_of J.jobs chosen ∷ [])
+    ∷ with_numbers (codes "optimum") (value_of (observed J).jobs chosen ∷ [])
     ∷ with_numbers (codes "value") (completed_value J ∷ [])
     ∷ with_numbers (codes "bound") (bound J.rules.ratio (completed_value J) ∷ [])
-    ∷ piece_lines (pieces_of J.jobs chosen))
+    ∷ piece_lines (pieces_of (observed J).jobs chosen))
 
--- The chosen jobs are the best that one schedule can serve, and theirs does. The run completes no more, and no schedule
--- is worth more.
+-- The chosen jobs are the best that one schedule can serve, as the run observed them, and theirs does. The run
+-- completes no more, and no schedule is worth more.
 pub record IsOptimum (J : Instance) (chosen : List ℕ) : Type 0 where
-  pub best : IsBestSet J.jobs chosen
-  pub earned : worth J (spread (pieces_of J.jobs chosen)) ≡ value_of J.jobs chosen
-  pub most : (s : List ℕ) → worth J s ≤ value_of J.jobs chosen
-  pub above : completed_value J ≤ value_of J.jobs chosen
-  pub within : value_of J.jobs chosen ≤ bound J.rules.ratio (completed_value J)
+  pub best : IsBestSet (observed J).jobs chosen
+  pub earned : worth (observed J) (spread (pieces_of (observed J).jobs chosen)) ≡ value_of (observed J).jobs chosen
+  pub most : (s : List ℕ) → worth (observed J) s ≤ value_of (observed J).jobs chosen
+  pub above : completed_value J ≤ value_of (observed J).jobs chosen
+  pub within : value_of (observed J).jobs chosen ≤ bound J.rules.ratio (completed_value J)
 
 -- Done with the best set, and Refused exactly where there are more than 20 jobs
 abbrev pub SaysBest : Instance → Status → List ℕ → Type 0

@@ -3,6 +3,7 @@ use Rattle.std.specs.Prelude.{◌≡◌, ◌≤◌, ℕ, List, [], ◌∷◌, co
 use Rattle.dover_model.specs.Bound.{bound}
 use Rattle.dover_model.specs.Instance.{Instance}
 use Rattle.dover_model.specs.Lines.{with_numbers, in_lines}
+use Rattle.dover_model.specs.Observed.{observed}
 use Rattle.dover_model.specs.Run.{completed_value}
 use Rattle.dover_model.specs.Schedules.{worth}
 use Rattle.dover_port.specs.declared.status.Status.{Status}
@@ -16,20 +17,20 @@ use Rattle.dialogue.specs.Sizes.{size_text}
 abbrev pub worth_of : Picks → Instance → ℕ
 worth_of picks J = worth J (policy_run picks J.jobs)
 
--- the value that the run of these jobs completes, what the two policies' schedules are worth, and the bound on what any
--- is worth
+-- the value that the run of these jobs completes, what the two policies' schedules are worth of the jobs as the run
+-- observed them, and the bound on what any is worth
 abbrev pub compare_text : Instance → List ℕ
 compare_text J = in_lines (
     with_numbers (codes "dover") (completed_value J ∷ [])
-    ∷ with_numbers (codes "edf") (worth_of earliest_deadline J ∷ [])
-    ∷ with_numbers (codes "dense") (worth_of greatest_density J ∷ [])
+    ∷ with_numbers (codes "edf") (worth_of earliest_deadline (observed J) ∷ [])
+    ∷ with_numbers (codes "dense") (worth_of greatest_density (observed J) ∷ [])
     ∷ with_numbers (codes "bound") (bound J.rules.ratio (completed_value J) ∷ [])
     ∷ [])
 
 -- neither policy's schedule is worth more than the bound
 pub record AreWithin (J : Instance) : Type 0 where
-  pub edf : worth_of earliest_deadline J ≤ bound J.rules.ratio (completed_value J)
-  pub dense : worth_of greatest_density J ≤ bound J.rules.ratio (completed_value J)
+  pub edf : worth_of earliest_deadline (observed J) ≤ bound J.rules.ratio (completed_value J)
+  pub dense : worth_of greatest_density (observed J) ≤ bound J.rules.ratio (completed_value J)
 
 -- Done with the four numbers, and Refused exactly where the policies aren't run over so large a feed
 abbrev pub SaysCompare : Instance → Status → List ℕ → Type 0

@@ -7,3 +7,4 @@ pub mod Loss
 pub mod Questions
 pub mod Keeping
 pub mod Watching
+pub mod Replaying

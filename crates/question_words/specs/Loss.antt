@@ -5,6 +5,7 @@ use Rattle.dover_model.specs.Bound.{bound}
 use Rattle.dover_model.specs.Instance.{Instance, total_value}
 use Rattle.dover_model.specs.JobFacts.{JobFacts}
 use Rattle.dover_model.specs.Lines.{with_numbers, in_lines}
+use Rattle.dover_model.specs.Observed.{observed}
 use Rattle.dover_model.specs.Run.{completed_value, printed}
 use Rattle.dover_model.specs.Sound.{Each}
 use Rattle.dover_model.specs.declared.events.Event.{Event}
@@ -37,22 +38,24 @@ row_of jobs done x = record {
 }
 
 -- what all jobs are worth, what the run completes, what no schedule is worth more than, and the bound; and each
--- stretch, with what the run completes of the jobs inside
+-- stretch of the jobs as the run observed them, with what it completes of those inside
 abbrev pub loss_text : Instance → Costed → List ℕ
 loss_text J costed = in_lines (
     with_numbers (codes "total") (total_value J.jobs ∷ [])
     ∷ with_numbers (codes "value") (completed_value J ∷ [])
     ∷ with_numbers (codes "ceiling") (costed.cap ∷ [])
     ∷ with_numbers (codes "bound") (bound J.rules.ratio (completed_value J) ∷ [])
-    ∷ stretch_lines (map (row_of J.jobs (is_completed J)) costed.stretches.items))
+    ∷ stretch_lines (map (row_of (observed J).jobs (is_completed J)) costed.stretches.items))
 
--- No schedule is worth more than the ceiling, which is the value of the jobs outside of the stretches, and their caps.
--- The run completes no more, nor more of a stretch than its cap. Where there is no stretch it completes all.
+-- No schedule is worth more than the ceiling, which is the value of the jobs outside of the stretches, and their caps;
+-- all of the jobs as the run observed them. The run completes no more, nor more of a stretch than its cap. Where there
+-- is no stretch the ceiling is all; and so is what the run completes, where no job finishes early.
 pub record IsCeiling (J : Instance) (it : Costed) : Type 0 where
-  pub costed : IsCosted J.jobs it
+  pub costed : IsCosted (observed J).jobs it
   pub above : completed_value J ≤ it.cap
-  pub each : Each (λ x. value_inside J.jobs (is_completed J) x.from x.until ≤ x.cap) it.stretches.items
-  pub all : it.stretches.items ≡ [] → (it.cap ≡ total_value J.jobs) × (completed_value J ≡ total_value J.jobs)
+  pub each : Each (λ x. value_inside (observed J).jobs (is_completed J) x.from x.until ≤ x.cap) it.stretches.items
+  pub all : it.stretches.items ≡ [] → it.cap ≡ total_value J.jobs
+  pub none_lost : J.rules.finishes ≡ [] → it.stretches.items ≡ [] → completed_value J ≡ total_value J.jobs
 
 -- Done with some stretches that show a ceiling
 abbrev pub SaysLoss : Instance → Status → List ℕ → Type 0

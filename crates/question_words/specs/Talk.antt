@@ -4,11 +4,10 @@ use Rattle.dover_model.specs.Due.{fault_text}
 use Rattle.dover_model.specs.Feed.{is_open, is_ended, account, Cause, Faulty, Short}
 use Rattle.dover_model.specs.Instance.{Instance}
 use Rattle.dover_model.specs.Lines.{in_lines, whole_lines}
-use Rattle.dover_model.specs.Session.{Session, IsValidSession}
+use Rattle.dover_model.specs.Session.{Session, IsValidSession, instance_of}
 use Rattle.dover_port.specs.declared.status.Status.{Status}
 use Rattle.dover_port.specs.declared.status.Status.TheVariants.{Refused}
 use Rattle.dialogue.specs.Talk.{Talk}
-use Rattle.event_feed.specs.Listing.{declared_instance}
 
 -- what a word has to say of these jobs: a status and a text
 abbrev pub Says : Type 1
@@ -23,13 +22,13 @@ IsRefusal bytes ended text =
     ⊎ ((ended ≡ true) × (is_open (account bytes) ≡ true)
     × (text ≡ in_lines (fault_text (suc (length (whole_lines bytes))) Short ∷ [])))
 
--- the feed of these bytes ended without a fault, and this is said of its jobs as they were declared
+-- the feed of these bytes ended without a fault, and this is said of its jobs and their finishes
 pub record IsSaid (says : Says) (status : Status) (text bytes : List ℕ) : Type 0 where
   pub ended : is_ended (account bytes) ≡ true
   pub session : Session
   pub session_is : (account bytes).session ≡ Some session
   pub valid : IsValidSession session
-  pub said : says (declared_instance session) status text
+  pub said : says (instance_of session) status text
 
 -- Nothing is due before the end, which comes with the feed's, its first fault or the input's. Then the line that
 -- refuses the feed is, or what is to be said of its jobs. Memory is lacking before the input's end alone.

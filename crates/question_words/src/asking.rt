@@ -3,7 +3,7 @@ ghost use Rattle.std.specs.Prelude.{IfOk, length};
 ghost use Rattle.dialogue.specs.Talk.{IsFinal};
 ghost use Rattle.dover_model.specs.Spending.{CostsAtMost};
 ghost use Rattle.dover_model.specs.Instance.{IsValid};
-ghost use Rattle.event_feed.specs.Listing.{listed_instance};
+ghost use Rattle.event_feed.specs.Listing.{listed_instance, StandAmong};
 ghost use Rattle.question_words.specs.Questions.{says};
 ghost use Rattle.question_words.specs.Talk.{ask_talk};
 ghost use Rattle.question_words.specs.Keeping.{Asked, Stands, IsAt, Costs};
@@ -35,17 +35,18 @@ pub(crate) struct Asking<L: Ledger> {
 fn answer<L: Ledger>(
     alloc: Global,
     question: Question,
-    listed: &Listed,
+    listed: Listed,
     steps: &mut Steps<L>,
 ) -> Result<Answer, Memory>
-    requires { IsValid (listed_instance listed.now) }
+    requires valid { IsValid (listed_instance listed) }
+    requires among { StandAmong listed.jobs.items listed.dones.items }
     ensures says { IfOk result
-        (λ answer. says question (listed_instance listed.now) answer.status (text_of answer)) }
+        (λ answer. says question (listed_instance listed) answer.status (text_of answer)) }
     ensures ends { IfOk result (λ answer. IsFinal answer.status) }
-    ensures count { CostsAtMost (length listed.now.jobs.items) steps.old steps.new }
+    ensures count { CostsAtMost (length listed.jobs.items) steps.old steps.new }
 {
     match question {
-        Question::Feasible => feasible::answer(alloc, listed),
+        Question::Feasible => feasible::answer(alloc, &listed),
         Question::Best => best::answer(alloc, listed, steps),
         Question::Compare => compare::answer(alloc, listed, steps),
         Question::Loss => loss::answer(alloc, listed, steps),
@@ -90,7 +91,7 @@ impl<L: Ledger> Talker for Asking<L> {
         _ended: bool,
     ) -> Result<Status, Stop> {
         match self.reader.close() {
-            Ok(listed) => match answer(self.alloc, self.question, &listed, meter) {
+            Ok(listed) => match answer(self.alloc, self.question, listed, meter) {
                 Ok(answer) => answer.put(port, out),
                 Err(Memory) => Err(Stop::NoMemory),
             },

@@ -1,8 +1,8 @@
 //! What a run completes.
-ghost use Rattle.std.specs.Prelude.{◌≡◌, ◌<◌, ℕ, IfOk, length, get_or, set, false, true};
+ghost use Rattle.std.specs.Prelude.{◌≡◌, ◌<◌, ℕ, [], IfOk, length, get_or, set, false, true};
 ghost use Rattle.dover_model.specs.Instance.{IsValid};
 ghost use Rattle.dover_model.specs.Run.{completed_value};
-ghost use Rattle.event_feed.specs.Listing.{listed_instance};
+ghost use Rattle.question_words.specs.Replaying.{bare_instance};
 ghost use Rattle.dover_model.specs.Spending.{CostsAtMost};
 ghost use Rattle.question_words.specs.Loss.{is_completed};
 
@@ -32,7 +32,8 @@ impl Watcher for EndValue {
     }
 }
 
-/// The value that the run of the listed jobs completes. Memory is taken for the jobs that are ready at once.
+/// The value that the run of the listed jobs completes, where none finishes early. Memory is taken for the jobs that
+/// are ready at once.
 ///
 /// # Errors
 ///
@@ -42,8 +43,8 @@ pub(crate) fn completed<L: Ledger>(
     listed: &Listed,
     steps: &mut Steps<L>,
 ) -> Result<u64, Memory>
-    requires { IsValid (listed_instance listed.now) }
-    ensures value { IfOk result (λ value. value ≡ completed_value (listed_instance listed.now)) }
+    requires { IsValid (bare_instance listed.now) }
+    ensures value { IfOk result (λ value. value ≡ completed_value (bare_instance listed.now)) }
     ensures count { CostsAtMost (length listed.now.jobs.items) steps.old steps.new }
 {
     let mut jobs = listed.jobs.as_slice();
@@ -77,6 +78,20 @@ fn flags(alloc: Global, count: usize) -> Result<Vec<bool>, Memory>
     Ok(vec![in alloc; false; count]?)
 }
 
+impl Completion {
+    ghost use Rattle.question_words.specs.Watching.{HasSeen};
+
+    /// Nothing was seen yet.
+    pub(crate) fn none(alloc: Global) -> Result<Completion, Memory>
+        ensures { IfOk result (λ it. HasSeen it []) }
+    {
+        Ok(Completion {
+            value: 0,
+            done: flags(alloc, MOST_JOBS)?,
+        })
+    }
+}
+
 /// Notes that the job of the number is completed.
 fn note(done: &mut [bool], number: u32)
     ensures { done.new ≡ set done.old number true }
@@ -100,8 +115,8 @@ impl Watcher for Completion {
     }
 }
 
-/// What the run of the listed jobs completes. Memory is taken for the jobs that are ready at once, and for a flag for
-/// each job.
+/// What the run of the listed jobs completes, where none finishes early. Memory is taken for the jobs that are ready at
+/// once, and for a flag for each job.
 ///
 /// # Errors
 ///
@@ -111,17 +126,14 @@ pub(crate) fn completed_jobs<L: Ledger>(
     listed: &Listed,
     steps: &mut Steps<L>,
 ) -> Result<Completion, Memory>
-    requires { IsValid (listed_instance listed.now) }
-    ensures value { IfOk result (λ it. it.value ≡ completed_value (listed_instance listed.now)) }
+    requires { IsValid (bare_instance listed.now) }
+    ensures value { IfOk result (λ it. it.value ≡ completed_value (bare_instance listed.now)) }
     ensures done { IfOk result (λ it. (n : ℕ) → n < length listed.now.jobs.items →
-        get_or it.done.items n false ≡ is_completed (listed_instance listed.now) n) }
+        get_or it.done.items n false ≡ is_completed (bare_instance listed.now) n) }
     ensures count { CostsAtMost (length listed.now.jobs.items) steps.old steps.new }
 {
     let mut jobs = listed.jobs.as_slice();
-    let mut completion = Completion {
-        value: 0,
-        done: flags(alloc, MOST_JOBS)?,
-    };
+    let mut completion = Completion::none(alloc)?;
     run_list::<&[Job], Completion, L>(
         alloc,
         listed.version,

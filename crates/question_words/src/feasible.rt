@@ -15,8 +15,8 @@ use line_output::write_numbers;
 use line_text::BackLine;
 use std::alloc::Global;
 
-/// Judges the jobs, and says the schedule by earliest deadline, in stretches of one job, or a window in which the jobs
-/// have more work than it has ticks. Memory is taken for the schedule.
+/// Judges the jobs as they were declared, and says the schedule by earliest deadline, in stretches of one job, or a
+/// window in which the jobs have more work than it has ticks. Memory is taken for the schedule.
 pub(crate) fn answer(alloc: Global, listed: &Listed) -> Result<Answer, Memory>
     requires { IsValid (listed_instance listed.now) }
     ensures says { IfOk result (λ answer. SaysFeasible (listed_instance listed.now) answer.status (text_of answer)) }

@@ -8,6 +8,8 @@ mod compare;
 mod completing;
 mod feasible;
 mod loss;
+mod observing;
 mod question;
+mod replaying;
 
 pub use question::{Question, question_word};

@@ -5,13 +5,13 @@ ghost use Rattle.dover_model.specs.JobFacts.{IsJob};
 ghost use Rattle.dover_model.specs.Limits.{most_jobs};
 ghost use Rattle.dover_model.specs.Sound.{Each};
 ghost use Rattle.dialogue.specs.Talk.{IsFinal};
-ghost use Rattle.event_feed.specs.Listing.{listed_instance};
+ghost use Rattle.event_feed.specs.Listing.{listed_instance, StandAmong};
 ghost use Rattle.dover_model.specs.Spending.{CostsAtMost};
 ghost use Rattle.question_words.specs.Loss.{SaysLoss, row_of};
 ghost use Rattle.question_words.specs.Texts.{text_of};
 
 use crate::answer::{Answer, Rows, StretchRow};
-use crate::completing::completed_jobs;
+use crate::observing::observe_each;
 use dover_model::{Job, Memory};
 use dover_port::Status;
 use event_feed::Listed;
@@ -49,29 +49,28 @@ fn rows(
     Ok(rows)
 }
 
-/// Finds where the jobs have more work than there are ticks, and says what came of it: what all jobs are worth, the
-/// value that the run completes, what no schedule is worth more than, and the bound on what any schedule is worth; and
-/// for each stretch of ticks, what the jobs that are released and due in it are worth, what no schedule of these is
-/// worth more than, and what the run completes of them. Memory is taken for the search and for the run.
+/// Finds where the jobs, as the run observed them, have more work than there are ticks, and says what came of it: what
+/// all jobs are worth, the value that the run completes, what no schedule is worth more than, and the bound on what any
+/// schedule is worth; and for each stretch of ticks, what the jobs that are released and due in it are worth, what no
+/// schedule of these is worth more than, and what the run completes of them. Memory is taken for the search and for the
+/// run.
 pub(crate) fn answer<L: Ledger>(
     alloc: Global,
-    listed: &Listed,
+    listed: Listed,
     steps: &mut Steps<L>,
 ) -> Result<Answer, Memory>
-    requires { IsValid (listed_instance listed.now) }
-    ensures says { IfOk result (λ answer. SaysLoss (listed_instance listed.now) answer.status (text_of answer)) }
+    requires valid { IsValid (listed_instance listed) }
+    requires among { StandAmong listed.jobs.items listed.dones.items }
+    ensures says { IfOk result (λ answer. SaysLoss (listed_instance listed) answer.status (text_of answer)) }
     ensures ends { IfOk result (λ answer. IsFinal answer.status) }
-    ensures count { CostsAtMost (length listed.now.jobs.items) steps.old steps.new }
+    ensures count { CostsAtMost (length listed.jobs.items) steps.old steps.new }
 {
-    let completed = completed_jobs(alloc, listed, steps)?;
-    let costed = cost_of(alloc, &listed.jobs, completed.value)?;
-    let rows = rows(alloc, &listed.jobs, &costed.stretches, &completed.done)?;
+    let ratio = listed.ratio;
+    let (completed, jobs) = observe_each(alloc, listed, steps)?;
+    let costed = cost_of(alloc, &jobs, completed.value)?;
+    let rows = rows(alloc, &jobs, &costed.stretches, &completed.done)?;
     let mut head = BackLine::new();
-    write_numbers(
-        &mut head,
-        b"\nbound",
-        &[bound(completed.value, listed.ratio)],
-    );
+    write_numbers(&mut head, b"\nbound", &[bound(completed.value, ratio)]);
     write_numbers(&mut head, b"\nceiling", &[costed.cap]);
     write_numbers(&mut head, b"\nvalue", &[completed.value]);
     write_numbers(&mut head, b"total", &[costed.total]);

@@ -31,8 +31,10 @@ pub enum Question {
 }
 
 /// Reads a feed to its end, and then answers the question on its jobs. A feed with a fault, or that ends too early, is
-/// refused. Refused job lines of version Two are passed over. Memory is taken for each admitted job, and for the
-/// answer.
+/// refused. Refused lines of versions Two and Three are passed over. In version Three jobs may have finished early:
+/// `Feasible` is answered on the jobs as they were declared, and the others on the jobs as their run observed them,
+/// where what a completed job had stands for its work. Memory is taken for each admitted job, for each done line behind
+/// one, and for the answer.
 pub fn question_word<P: Port, L: Ledger>(
     alloc: Global,
     port: &mut P,

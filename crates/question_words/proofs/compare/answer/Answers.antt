@@ -1,30 +1,54 @@
-use Rattle.std.proofs.Common.{◌++◌, ◌∙◌, [], sym, ap, subst, codes}
+use Rattle.std.proofs.Common.{◌≤◌, ◌++◌, ◌∙◌, [], sym, ap, subst, codes}
+use Rattle.dover_model.specs.Instance.{IsInOrder, total_value}
+use Rattle.dover_model.specs.Limits.{most_total}
 use Rattle.dover_model.specs.Lines.{in_lines}
 use Rattle.dover_model.specs.Schedules.{worth}
 use Rattle.event_feed.specs.Listing.{listed_instance}
-use Rattle.policy_lab.specs.PolicyRun.{AreTooLarge, policy_run}
+use Rattle.policy_lab.specs.PolicyRun.{policy_run}
 use Rattle.policy_lab.specs.Standard.{greatest_density}
 use Rattle.question_words.specs.Texts.{piece_lines}
-use Rattle.question_words.proofs.Comparing.{value_low, compared}
+use Rattle.question_words.proofs.Comparing.{value_low, compared, not_large}
 use Rattle.question_words.proofs.Lines.{four_written}
+use Rattle.question_words.proofs.Observations.{observed_in_order, observed_total}
 use Rattle.question_words.proofs.compare.answer.Goals as goal
+
+pub run_policy-requires-clause-in_order : goal.run_policy-requires-clause-in_order
+run_policy-requires-clause-in_order g c = subst IsInOrder (sym (c.deref-2.ensures.value ∙ c.in_ok-dover.ensures.jobs))
+    (observed_in_order (listed_instance c.args.listed) c.requires.valid)
+
+pub run_policy-requires-clause-total : goal.run_policy-requires-clause-total
+run_policy-requires-clause-total g c =
+    subst (λ js. total_value js ≤ most_total) (sym (c.deref-2.ensures.value ∙ c.in_ok-dover.ensures.jobs))
+    (subst (λ n. n ≤ most_total) (sym (observed_total (listed_instance c.args.listed) c.requires.valid))
+    c.requires.valid.total)
+
+pub run_policy-requires-2-clause-in_order : goal.run_policy-requires-2-clause-in_order
+run_policy-requires-2-clause-in_order g c = subst IsInOrder (sym (c.deref-3.ensures.value ∙ c.in_ok-dover.ensures.jobs))
+    (observed_in_order (listed_instance c.args.listed) c.requires.valid)
+
+pub run_policy-requires-2-clause-total : goal.run_policy-requires-2-clause-total
+run_policy-requires-2-clause-total g c =
+    subst (λ js. total_value js ≤ most_total) (sym (c.deref-3.ensures.value ∙ c.in_ok-dover.ensures.jobs))
+    (subst (λ n. n ≤ most_total) (sym (observed_total (listed_instance c.args.listed) c.requires.valid))
+    c.requires.valid.total)
 
 pub bound-requires : goal.bound-requires
 bound-requires g c = record {
-  completed = value_low (listed_instance c.args.listed.now) c.requires _ c.in_ok-dover.ensures.value;
+  completed = value_low (listed_instance c.args.listed) c.requires.valid _ c.in_ok-dover.ensures.value;
 }
 
 pub returns-clause-says : goal.returns-clause-says
 returns-clause-says g c =
-    let J = listed_instance c.args.listed.now in
-    compared J c.requires c.deref.result.now c.deref.ensures.value c.in_ok-dover.dover c.in-Ok.edf.value
-    c.in-Ok-run_policy.dense.value c.bound.result c.in_ok-dover.ensures.value
+    let J = listed_instance c.args.listed in
+    compared J c.requires.valid c.deref-2.result.now (c.deref-2.ensures.value ∙ c.in_ok-dover.ensures.jobs)
+    c.in_ok-dover.dover c.in-Ok.edf.value c.in-Ok-run_policy.dense.value c.bound.result c.in_ok-dover.ensures.value
     (c.in-Ok.ensures.value J.rules)
     (c.in-Ok-run_policy.ensures.value J.rules
     ∙ ap (λ js. worth (record { rules = J.rules; jobs = js }) (policy_run greatest_density js))
-    (c.deref-2.ensures.value ∙ sym c.deref.ensures.value))
+    (c.deref-3.ensures.value ∙ sym c.deref-2.ensures.value))
     c.bound.ensures.is
-    (λ large. absurd (let e = c.in-Ok.ensures.too_large.1 (subst AreTooLarge (sym c.deref.ensures.value) large) in cc))
+    (not_large c.deref.result.now c.args.listed.jobs.items c.deref.ensures.value c.are_too_large.result
+    c.are_too_large.ensures c.if-are_too_large.false)
     _
     (ap (λ ps. c.write_numbers-4.new.line ++ in_lines (piece_lines ps)) c.new.ensures.items
     ∙ four_written (codes "dover") (codes "edf") (codes "dense") (codes "bound") c.in_ok-dover.dover c.in-Ok.edf.value

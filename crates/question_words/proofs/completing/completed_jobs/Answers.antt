@@ -1,14 +1,10 @@
-use Rattle.std.proofs.Common.{◌∙◌, ap, refl, arith}
+use Rattle.std.proofs.Common.{◌∙◌, ap, arith}
 use Rattle.dover_model.specs.Instance.{jobs_under}
 use Rattle.question_words.specs.Loss.{is_completed}
 use Rattle.question_words.proofs.completing.completed_jobs.Goals as goal
 
 pub run_list-requires-clause-unseen : goal.run_list-requires-clause-unseen
-run_list-requires-clause-unseen g c = record {
-  value = refl;
-  size = c.in_ok-flags.ensures.size;
-  done = λ n low. c.in_ok-flags.ensures.none n;
-}
+run_list-requires-clause-unseen g c = c.in_ok-completion.ensures
 
 pub returns-clause-done : goal.returns-clause-done
 returns-clause-done g c = λ n low.

@@ -1,41 +1,67 @@
-use Rattle.std.proofs.Common.{◌∙◌, ap, subst, refl, sym, codes, get_or, false}
-use Rattle.dover_model.specs.JobFacts.{IsJob}
+use Rattle.std.proofs.Common.{◌≤◌, ◌∙◌, List, ap, subst, length, sym, codes, get_or, false}
+use Rattle.dover_model.specs.Instance.{IsInOrder}
+use Rattle.dover_model.specs.JobFacts.{IsJob, JobFacts}
+use Rattle.dover_model.specs.Limits.{most_jobs}
 use Rattle.dover_model.specs.Sound.{Each}
 use Rattle.dover_model.specs.Run.{ran}
-use Rattle.dover_model.proofs.Honest.{plain_honest}
-use Rattle.dover_model.proofs.Members.{all_member}
+use Rattle.dover_model.proofs.Honest.{observed_honest}
 use Rattle.event_feed.specs.Listing.{listed_instance}
 use Rattle.overload.specs.Stretches.{IsWorth}
 use Rattle.question_words.specs.Texts.{stretch_lines}
 use Rattle.question_words.proofs.Comparing.{value_low}
 use Rattle.question_words.proofs.Lines.{four_written}
 use Rattle.question_words.proofs.Losing.{rows_said, lost}
+use Rattle.question_words.proofs.Observations.{observed_jobs, observed_in_order, observed_count}
 use Rattle.question_words.proofs.loss.answer.Goals as goal
+
+pub cost_of-requires-clause-in_order : goal.cost_of-requires-clause-in_order
+cost_of-requires-clause-in_order g c = subst IsInOrder (sym (c.deref.ensures.value ∙ c.in_ok-completed.ensures.jobs))
+    (observed_in_order (listed_instance c.args.listed) c.requires.valid)
+
+pub cost_of-requires-clause-count : goal.cost_of-requires-clause-count
+cost_of-requires-clause-count g c =
+    subst (λ (js : List JobFacts). length js ≤ most_jobs) (sym (c.deref.ensures.value ∙ c.in_ok-completed.ensures.jobs))
+    (subst (λ n. n ≤ most_jobs) (sym (observed_count (listed_instance c.args.listed) c.requires.valid))
+    c.requires.valid.count)
 
 -- what the run completes is what its schedule is worth
 pub cost_of-requires-clause-value : goal.cost_of-requires-clause-value
 cost_of-requires-clause-value g c =
-    let J = listed_instance c.args.listed.now in
-    subst (λ js. IsWorth js c.in_ok-completed.completed.value) (sym c.deref.ensures.value)
-    (J.rules, ran J, plain_honest J c.requires refl ∙ sym c.in_ok-completed.ensures.value)
+    let J = listed_instance c.args.listed in
+    subst (λ js. IsWorth js c.in_ok-completed.completed.value)
+    (sym (c.deref.ensures.value ∙ c.in_ok-completed.ensures.jobs))
+    (J.rules, ran J, observed_honest J c.requires.valid ∙ sym c.in_ok-completed.ensures.value)
 
 pub bound-requires : goal.bound-requires
 bound-requires g c = record {
-  completed = value_low (listed_instance c.args.listed.now) c.requires _ c.in_ok-completed.ensures.value;
+  completed = value_low (listed_instance c.args.listed) c.requires.valid _ c.in_ok-completed.ensures.value;
 }
 
+pub rows-requires-clause-in_order : goal.rows-requires-clause-in_order
+rows-requires-clause-in_order g c = subst IsInOrder (sym (c.deref-2.ensures.value ∙ c.in_ok-completed.ensures.jobs))
+    (observed_in_order (listed_instance c.args.listed) c.requires.valid)
+
+pub rows-requires-clause-count : goal.rows-requires-clause-count
+rows-requires-clause-count g c =
+    subst (λ (js : List JobFacts). length js ≤ most_jobs)
+    (sym (c.deref-2.ensures.value ∙ c.in_ok-completed.ensures.jobs))
+    (subst (λ n. n ≤ most_jobs) (sym (observed_count (listed_instance c.args.listed) c.requires.valid))
+    c.requires.valid.count)
+
 pub rows-requires-clause-each : goal.rows-requires-clause-each
-rows-requires-clause-each g c = subst (Each IsJob) (sym c.deref-2.ensures.value)
-    (all_member IsJob c.args.listed.now.jobs.items c.requires.each)
+rows-requires-clause-each g c = subst (Each IsJob) (sym (c.deref-2.ensures.value ∙ c.in_ok-completed.ensures.jobs))
+    (observed_jobs (listed_instance c.args.listed) c.requires.valid)
 
 pub returns-clause-says : goal.returns-clause-says
 returns-clause-says g c =
-    let J = listed_instance c.args.listed.now in
+    let J = listed_instance c.args.listed in
     let costed = c.in_ok-costed.costed in
     let rows = c.in_ok-rows.rows.items in
-    lost J c.requires refl costed c.deref.result.now c.deref.ensures.value c.in_ok-costed.ensures
+    lost J c.requires.valid costed c.deref.result.now (c.deref.ensures.value ∙ c.in_ok-completed.ensures.jobs)
+    c.in_ok-costed.ensures
     c.in_ok-completed.completed.value c.bound.result c.in_ok-completed.ensures.value c.bound.ensures.is rows
-    (rows_said J c.requires refl costed c.deref-2.result.now c.deref-2.ensures.value c.deref-3.result.now
+    (rows_said J c.requires.valid costed c.deref-2.result.now
+    (c.deref-2.ensures.value ∙ c.in_ok-completed.ensures.jobs) c.deref-3.result.now
     c.deref-3.ensures.value (λ n. get_or c.deref-4.result.now n false)
     (λ n low. ap (λ flags. get_or flags n false) c.deref-4.ensures.value ∙ c.in_ok-completed.ensures.done n low)
     rows c.in_ok-rows.ensures) _

@@ -12,8 +12,11 @@ use Rattle.question_words.proofs.asking.AskingTalker.answer.Goals as goal
 pub close-requires : goal.close-requires
 close-requires g c = (c.requires.ready.1, c.requires.ready.2.reads)
 
-pub answer-requires : goal.answer-requires
-answer-requires g c = jobs_valid _ c.in-Ok.listed (c.in-Ok.ensures.jobs _ c.requires.ready.2.reads)
+pub answer-requires-clause-valid : goal.answer-requires-clause-valid
+answer-requires-clause-valid g c = jobs_valid _ c.in-Ok.listed (c.in-Ok.ensures.jobs _ c.requires.ready.2.reads)
+
+pub answer-requires-clause-among : goal.answer-requires-clause-among
+answer-requires-clause-among g c = (c.in-Ok.ensures.jobs _ c.requires.ready.2.reads).among
 
 pub returns-in-Ok-answer-clause-answers : goal.returns-in-Ok-answer-clause-answers
 returns-in-Ok-answer-clause-answers g c = λ a x at over.
@@ -21,14 +24,14 @@ returns-in-Ok-answer-clause-answers g c = λ a x at over.
     (inr (said (says a.question) x c.args._ended over c.in-Ok.listed (c.in-Ok.ensures.jobs x at.reads) _ _
     (rw at.asks at c.in-Ok-answer.ensures.says))) c.put.ensures.puts
 
-pub returns-in-Ok-clause-answers : goal.returns-in-Ok-clause-answers
-returns-in-Ok-clause-answers g c = λ a x at over. (
+pub returns-in-Err-answer-clause-answers : goal.returns-in-Err-answer-clause-answers
+returns-in-Err-answer-clause-answers g c = λ a x at over. (
   unended (says a.question) x c.args._ended over c.in-Ok.listed (c.in-Ok.ensures.jobs x at.reads),
   rw c.requires.empty (passes_nothing _ []),
 )
 
-pub returns-clause-answers : goal.returns-clause-answers
-returns-clause-answers g c = λ a x at over.
+pub returns-in-Err-clause-answers : goal.returns-in-Err-clause-answers
+returns-in-Err-clause-answers g c = λ a x at over.
     answered (says a.question) x c.args._ended over c.refused.result _ _ _ _
     (subst IsFinal (sym c.refused.ensures.status) tt)
     (inl (
@@ -42,9 +45,9 @@ pub returns-in-Ok-answer-clause-spent : goal.returns-in-Ok-answer-clause-spent
 returns-in-Ok-answer-clause-spent g c = λ a x at. subst (λ n. CostsAtMost n a.before c.answer.new.steps)
     (listed_count x c.in-Ok.listed (c.in-Ok.ensures.jobs x at.reads)) (rw at.counts at c.answer.ensures.count)
 
-pub returns-in-Ok-clause-spent : goal.returns-in-Ok-clause-spent
-returns-in-Ok-clause-spent g c = λ a x at. subst (λ n. CostsAtMost n a.before c.answer.new.steps)
+pub returns-in-Err-answer-clause-spent : goal.returns-in-Err-answer-clause-spent
+returns-in-Err-answer-clause-spent g c = λ a x at. subst (λ n. CostsAtMost n a.before c.answer.new.steps)
     (listed_count x c.in-Ok.listed (c.in-Ok.ensures.jobs x at.reads)) (rw at.counts at c.answer.ensures.count)
 
-pub returns-clause-spent : goal.returns-clause-spent
-returns-clause-spent g c = λ a x at. rw at.counts (none_few _ a.before)
+pub returns-in-Err-clause-spent : goal.returns-in-Err-clause-spent
+returns-in-Err-clause-spent g c = λ a x at. rw at.counts (none_few _ a.before)

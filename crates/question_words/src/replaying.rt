@@ -1,0 +1,170 @@
+//! A feed whose jobs may finish early, served again once its end was read.
+ghost use Rattle.std.specs.Prelude.{◌≡◌, ◌≤◌, ◌<◌, ℕ, IfOk, OnOk, length, get_or, false};
+ghost use Rattle.dover_model.specs.Instance.{Instance, IsValid, with_jobs};
+ghost use Rattle.dover_model.specs.Observed.{observed};
+ghost use Rattle.dover_model.specs.Run.{completed_value, printed};
+ghost use Rattle.dover_model.specs.Spending.{CostsAtMost};
+ghost use Rattle.dover_model.specs.declared.horizon.Horizon.{Horizon};
+ghost use Rattle.event_feed.specs.Listing.{listed_instance, StandAmong};
+ghost use Rattle.ready_server.specs.Running.{HasShown, CanFeed, HasFed};
+ghost use Rattle.ready_server.specs.Serving.{HasPaid};
+ghost use Rattle.question_words.specs.Loss.{is_completed};
+ghost use Rattle.question_words.specs.Replaying.{HasRecorded, with_work, job_seen, jobs_seen};
+ghost use Rattle.question_words.specs.Watching.{HasSeen};
+
+use crate::completing::Completion;
+use dover_model::{Event, Horizon, Job, Memory};
+use event_feed::Listed;
+use ready_server::{ReadyServer, Watcher, finish_job, serve_jobs, show_to};
+use room_ledger::hads;
+use std::alloc::Global;
+use std::sync::ledger::Ledger;
+use step_count::Steps;
+
+/// The printed steps of a run, and whether one was lost for want of memory.
+#[derive(Drop)]
+struct Recorded {
+    events: Vec<Event>,
+    lost: bool,
+}
+
+impl Watcher for Recorded {
+    ghost seen = { HasRecorded };
+
+    fn see(&mut self, event: &Event) {
+        match self.events.push(*event) {
+            Ok(()) => {}
+            Err(_) => self.lost = true,
+        }
+    }
+}
+
+/// Serves some jobs.
+fn serve_part<L: Ledger>(
+    server: &mut ReadyServer,
+    part: &[Job],
+    run: &mut Recorded,
+    steps: &mut Steps<L>,
+) -> Result<(), Memory>
+    requires { (J : Instance) × (from : Horizon) × HasShown HasRecorded server.old run.old J from
+        × CanFeed J from part.now }
+    ensures fed { (J : Instance) (from : Horizon) → HasShown HasRecorded server.old run.old J from
+        → CanFeed J from part.now → OnOk result (HasFed HasRecorded server.new run.new J from part.now) }
+    ensures paid { (start : ℕ) → HasPaid server.old start steps.old → HasPaid server.new start steps.new }
+    ensures count { (J : Instance) (from : Horizon) (start : ℕ) → HasShown HasRecorded server.old run.old J from
+        → CanFeed J from part.now → HasPaid server.old start steps.old
+        → CostsAtMost (length (with_jobs J part.now).jobs) start steps.new }
+{
+    let mut jobs = part;
+    serve_jobs::<&[Job], Recorded, L>(server, &mut jobs, run, steps)
+}
+
+/// The printed steps of the run of the listed jobs, with their finishes. Memory is taken for the steps, and for the
+/// jobs that are ready at once.
+///
+/// # Errors
+///
+/// `Memory` where there is none.
+fn record<L: Ledger>(
+    alloc: Global,
+    listed: &Listed,
+    steps: &mut Steps<L>,
+) -> Result<Vec<Event>, Memory>
+    requires valid { IsValid (listed_instance listed.now) }
+    requires among { StandAmong listed.now.jobs.items listed.now.dones.items }
+    ensures run { IfOk result (λ events. events.items ≡ printed (listed_instance listed.now)) }
+    ensures count { CostsAtMost (length listed.now.jobs.items) steps.old steps.new }
+{
+    ReadyServer::laws();
+    let mut server = ReadyServer::new(alloc, listed.version, listed.ratio)?;
+    let mut run = Recorded {
+        events: Vec::new(alloc),
+        lost: false,
+    };
+    let mut count = 0;
+    for done in &listed.dones {
+        serve_part(
+            &mut server,
+            &listed.jobs[count..done.behind],
+            &mut run,
+            steps,
+        )?;
+        finish_job(&mut server, done.at, done.number, &mut run, steps);
+        count = done.behind;
+    }
+    serve_part(&mut server, &listed.jobs[count..], &mut run, steps)?;
+    show_to(&mut server, Horizon::End, &mut run, steps);
+    if run.lost {
+        return Err(Memory);
+    }
+    Ok(run.events)
+}
+
+/// What these steps complete.
+fn completed_by(alloc: Global, run: &[Event]) -> Result<Completion, Memory>
+    requires { length run.now ≤ 5_000_001 }
+    ensures { IfOk result (λ it. HasSeen it run.now) }
+{
+    let mut completion = Completion::none(alloc)?;
+    for event in run {
+        completion.see(event);
+    }
+    Ok(completion)
+}
+
+/// The job with so much work, if that is a job.
+fn with_work(job: &Job, work: u64) -> Job
+    ensures { result ≡ with_work work job.now }
+{
+    match Job::new(job.release(), work, job.deadline(), job.value()) {
+        Some(seen) => seen,
+        None => *job,
+    }
+}
+
+/// The job of a number, with what it had if it is done.
+fn job_seen(done: &[bool], hads: &[u64], number: usize, job: &Job) -> Job
+    ensures { result ≡ job_seen done.now hads.now (number, job.now) }
+{
+    if done.get(number).copied().unwrap_or(false) {
+        return with_work(job, hads.get(number).copied().unwrap_or(0));
+    }
+    *job
+}
+
+/// The jobs, each with what it had if it is done.
+fn jobs_seen(alloc: Global, done: &[bool], hads: &[u64], jobs: &[Job]) -> Result<Vec<Job>, Memory>
+    ensures { IfOk result (λ seen. seen.items ≡ jobs_seen done.now hads.now jobs.now) }
+{
+    let mut seen = Vec::new(alloc);
+    for (number, job) in jobs.iter().enumerate() {
+        seen.push(job_seen(done, hads, number, job))?;
+    }
+    Ok(seen)
+}
+
+/// What the run of the listed jobs completes, with their finishes, and the jobs as it observed them. Memory is taken
+/// for the printed steps, and for the jobs.
+///
+/// # Errors
+///
+/// `Memory` where there is none.
+pub(crate) fn replayed<L: Ledger>(
+    alloc: Global,
+    listed: &Listed,
+    steps: &mut Steps<L>,
+) -> Result<(Completion, Vec<Job>), Memory>
+    requires valid { IsValid (listed_instance listed.now) }
+    requires among { StandAmong listed.now.jobs.items listed.now.dones.items }
+    ensures value { IfOk result (λ it. it.0.value ≡ completed_value (listed_instance listed.now)) }
+    ensures done { IfOk result (λ it. (n : ℕ) → n < length listed.now.jobs.items →
+        get_or it.0.done.items n false ≡ is_completed (listed_instance listed.now) n) }
+    ensures jobs { IfOk result (λ it. it.1.items ≡ (observed (listed_instance listed.now)).jobs) }
+    ensures count { CostsAtMost (length listed.now.jobs.items) steps.old steps.new }
+{
+    let run = record(alloc, listed, steps)?;
+    let completion = completed_by(alloc, &run)?;
+    let hads = hads(alloc, &listed.jobs, &run)?;
+    let seen = jobs_seen(alloc, &completion.done, &hads, &listed.jobs)?;
+    Ok((completion, seen))
+}
