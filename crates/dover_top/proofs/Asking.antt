@@ -15,7 +15,7 @@ use Rattle.dover_top.specs.Requests.{Asks}
 use Rattle.dover_top.specs.Words.{spelled}
 use Rattle.dover_top.specs.declared.request.Request.{Request}
 use Rattle.dover_top.specs.declared.request.Request.TheVariants.{Serve, Judge, Report, Trial, Bait, Ask, Lanes, Pause}
-use Rattle.dover_top.specs.declared.request.Request.TheVariants.{Resume, Unroll, Duel}
+use Rattle.dover_top.specs.declared.request.Request.TheVariants.{Resume, Unroll, Duel, Draw}
 use Rattle.serve_word.specs.declared.at_end.AtEnd.{AtEnd}
 use Rattle.serve_word.specs.declared.at_end.AtEnd.TheVariants as ends
 use Rattle.question_words.specs.declared.question.Question.TheVariants.{Feasible, Best, Compare, Loss}
@@ -77,8 +77,10 @@ request_of words =
     if bytes_eq (word_at 0 words) (codes "pause") then Pause else (
     if bytes_eq (word_at 0 words) (codes "resume") then Resume (end_of (word_at 1 words)) else (
     if bytes_eq (word_at 0 words) (codes "duel")
-    then Duel (ratio_at 1 words) (share_at 3 words) (front_of (drop 5 words)) else Unroll
-    (number_of (word_at 1 words))))))))))))))
+    then Duel (ratio_at 1 words) (share_at 3 words) (front_of (drop 5 words)) else (
+    if bytes_eq (word_at 0 words) (codes "draw")
+    then Draw (number_of (word_at 1 words)) (number_of (word_at 2 words)) (ratio_at 3 words) else Unroll
+    (number_of (word_at 1 words)))))))))))))))
 
 -- a number is read back
 number_same : (n : ℕ) → n < 10 ^ 18 → number_of (decimal n) ≡ n
@@ -140,6 +142,11 @@ is_read words (Trial seed count k) asks = ap request_of asks.row
     (number_same seed (omega (arith, asks.small)))
     ∙ ap (λ n. Trial seed n (ratio_at 0 (decimal k.p ∷ decimal k.q ∷ []))) (number_same count (omega (arith, asks.few)))
     ∙ ap (λ l. Trial seed count l) (ratio_same k asks.allowed)
+is_read words (Draw seed count k) asks = ap request_of asks.row
+    ∙ ap (λ n. Draw n (number_of (decimal count)) (ratio_at 0 (decimal k.p ∷ decimal k.q ∷ [])))
+    (number_same seed (omega (arith, asks.small)))
+    ∙ ap (λ n. Draw seed n (ratio_at 0 (decimal k.p ∷ decimal k.q ∷ []))) (number_same count (omega (arith, asks.few)))
+    ∙ ap (λ l. Draw seed count l) (ratio_same k asks.allowed)
 is_read words (Bait k rounds) asks = ap request_of asks.row
     ∙ ap (λ l. Bait l (number_of (decimal rounds))) (ratio_same k asks.allowed)
     ∙ ap (λ n. Bait k n) (number_same rounds (omega (arith, asks.few)))

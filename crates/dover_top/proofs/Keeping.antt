@@ -2,7 +2,7 @@
 use Rattle.std.proofs.Common.{◌≡◌, ◌≤◌, ℕ, List, [], ◌++◌, Bool, true, refl, sym, ap, ◌∙◌, inl, inr, subst, take, drop}
 use Rattle.std.proofs.Common.{Option, Some, None}
 use Rattle.std.proofs.lemmas.List.{take-append-drop}
-use Rattle.dover_model.specs.Instance.{Instance, IsValid, jobs_under, finishing}
+use Rattle.dover_model.specs.Instance.{Instance, IsValid, jobs_under}
 use Rattle.dover_model.specs.JobFacts.{JobFacts}
 use Rattle.dover_model.specs.Session.{Session, instance_of}
 use Rattle.dover_model.specs.Verdict.{verdict}
@@ -14,7 +14,7 @@ use Rattle.dover_model.specs.declared.events.Version.TheVariants.{One}
 use Rattle.dover_model.proofs.Accepting.{feed_hands, feed_accepted}
 use Rattle.dover_model.proofs.BoundLaws.{bound, observed_bound}
 use Rattle.dover_model.proofs.Honest.{observed_honest, observed_all}
-use Rattle.dover_model.proofs.Meeting.{on_line_finishes, finishing_valid}
+use Rattle.dover_model.proofs.Meeting.{on_line_finishes}
 use Rattle.dover_model.proofs.Runs.{none_lost, all_value}
 use Rattle.dover_model.proofs.Tests.{never}
 use Rattle.dover_model.proofs.Members.{some_same}
@@ -120,8 +120,7 @@ ran says ended text moves (inl refused) = absurd (let e : Done ≡ Refused = ref
 ran says ended text moves (inr said) = record {
   session = said.session;
   named = said.session_is;
-  promises = promises_of (finishing (instance_of said.session) [])
-      (finishing_valid (instance_of said.session) [] said.valid.jobs);
+  promises = promises_of (instance_of said.session) said.valid.jobs;
 }
 
 pub generated : (k : Fraction) (seed count : ℕ) → IsRatio k → count ≤ most_jobs

@@ -24,7 +24,7 @@ use Rattle.dover_top.specs.Carrying.{CarriesOut}
 use Rattle.dover_top.specs.Spending.{IsFrugal, IsFrugalAsAsked}
 use Rattle.dover_top.specs.declared.request.Request.{Request}
 use Rattle.dover_top.specs.declared.request.Request.TheVariants.{Serve, Judge, Report, Trial, Bait, Ask, Lanes, Pause}
-use Rattle.dover_top.specs.declared.request.Request.TheVariants.{Resume, Unroll, Duel}
+use Rattle.dover_top.specs.declared.request.Request.TheVariants.{Resume, Unroll, Duel, Draw}
 use Rattle.dover_top.proofs.Asking.{asks_one}
 use Rattle.dover_top.proofs.Keeping.{served, traced, resumed_so, accepted, ran, generated, baited, dueled}
 use Rattle.dover_top.proofs.ServedLanes.{are_served, have_ended}
@@ -50,6 +50,7 @@ no_usage (Resume at_end) moves s = elim s.ends [
 no_usage (Unroll until) moves s = s.ends
 no_usage (Duel k share front) moves (inl s) = s.1
 no_usage (Duel k share front) moves (inr s) = s.2
+no_usage (Draw seed count k) moves s = s
 
 -- so none ends with it
 pub never_usage : (r : Request) → CanEnd (Says r) Usage → ⊥
@@ -105,6 +106,7 @@ module _ (moves : List Move) where
   keeps_of words (Unroll until) asks status s = tt
   keeps_of words (Duel k share front) asks status s = λ done.
       duel_kept k share front asks.share_is (at (Duel k share front) status s done)
+  keeps_of words (Draw seed count k) asks status s = tt
 
 -- ---- of a call
 

@@ -8,7 +8,7 @@ use Rattle.dover_top.specs.Promises.{KeepsPromises, IsTraced, IsTracedIfEnded, I
 use Rattle.dover_top.specs.Promises.{AreServed, HaveEnded, KeepsDuel}
 use Rattle.dover_top.specs.declared.request.Request.{Request}
 use Rattle.dover_top.specs.declared.request.Request.TheVariants.{Serve, Judge, Report, Trial, Bait, Ask, Lanes, Pause}
-use Rattle.dover_top.specs.declared.request.Request.TheVariants.{Resume, Unroll, Duel}
+use Rattle.dover_top.specs.declared.request.Request.TheVariants.{Resume, Unroll, Duel, Draw}
 
 -- by the status
 abbrev pub Keeps : Request → Status → List Move → Type 0
@@ -24,3 +24,4 @@ Keeps Pause status moves = status ≡ Done → IsTracedIfEnded moves
 Keeps (Resume at_end) status moves = status ≡ Done → IsResumed moves
 Keeps (Unroll until) status moves = Unit {0}
 Keeps (Duel k share front) status moves = status ≡ Done → KeepsDuel k share front moves
+Keeps (Draw seed count k) status moves = Unit {0}

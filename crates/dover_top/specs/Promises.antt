@@ -1,7 +1,7 @@
 -- What is promised of what was read and written.
 use Rattle.std.specs.Prelude.{◌≡◌, ◌≢◌, ◌<◌, ℕ, List, [], ◌++◌, true, false, Option, Some}
 use Rattle.std.specs.List.{sum_by}
-use Rattle.dover_model.specs.Instance.{Instance, IsValid, bare, finishing}
+use Rattle.dover_model.specs.Instance.{Instance, IsValid, bare}
 use Rattle.dover_model.specs.Session.{Session, IsValidSession, instance_of}
 use Rattle.dover_model.specs.Bait.{bait_plan, plan_value}
 use Rattle.dover_model.specs.Bound.{IsWithin}
@@ -97,11 +97,11 @@ pub record KeepsDuel (k : Fraction) (share : Share) (front : Option ℕ) (moves 
   -- What was written is a feed without a fault, of the front that was asked for.
   pub feed : IsFeedOf (duel_front k share front) (outs moves)
 
--- the feed that was read has a session, and this stands of the run of its jobs as they were declared
+-- the feed that was read has a session, and this stands of the run of its jobs, whichever of them finish early
 pub record IsRun (moves : List Move) : Type 0 where
   pub session : Session
   pub named : (account (ins moves)).session ≡ Some session
-  pub promises : KeepsPromises (finishing (instance_of session) [])
+  pub promises : KeepsPromises (instance_of session)
 
 -- the feed of a lane in what was read
 abbrev pub feed_in : List Move → ℕ → List ℕ

@@ -12,6 +12,7 @@ use Rattle.report_word.specs.Talk.{report_talk}
 use Rattle.trial_words.specs.Record.{Writes}
 use Rattle.trial_words.specs.Lists.{trial_instance}
 use Rattle.trial_words.specs.Baited.{Baits}
+use Rattle.trial_words.specs.Drawing.{Draws}
 use Rattle.trial_words.specs.Dueled.{Duels}
 use Rattle.question_words.specs.Questions.{says}
 use Rattle.question_words.specs.Talk.{ask_talk}
@@ -19,10 +20,10 @@ use Rattle.lanes_word.specs.Record.{Serves}
 use Rattle.unroll_word.specs.Talk.{unroll_talk}
 use Rattle.dover_top.specs.declared.request.Request.{Request}
 use Rattle.dover_top.specs.declared.request.Request.TheVariants.{Serve, Judge, Report, Trial, Bait, Ask, Lanes, Pause}
-use Rattle.dover_top.specs.declared.request.Request.TheVariants.{Resume, Unroll, Duel}
+use Rattle.dover_top.specs.declared.request.Request.TheVariants.{Resume, Unroll, Duel, Draw}
 
--- What was got and put before each read, and in all. What reads says a talk; trial, bait and duel read nothing and
--- write a text; and resume says of each feed with its snapshot what serving the feed on does.
+-- What was got and put before each read, and in all. What reads says a talk; trial, bait, duel and draw read nothing
+-- and write a text; and resume says of each feed with its snapshot what serving the feed on does.
 abbrev pub Says : Request → Status → List Move → Type 0
 Says Serve = Talks (feed_talk ends.Refuse)
 Says Judge = Talks judge_talk
@@ -35,3 +36,4 @@ Says Pause = Talks (feed_talk ends.Pause)
 Says (Resume at_end) = Resumes at_end
 Says (Unroll until) = Talks (unroll_talk until)
 Says (Duel k share front) = Duels k share front
+Says (Draw seed count k) = Draws k seed count

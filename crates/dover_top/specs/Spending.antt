@@ -9,7 +9,7 @@ use Rattle.lanes_word.specs.Spending as hosted
 use Rattle.unroll_word.specs.Spending as unrolled
 use Rattle.dover_top.specs.declared.request.Request.{Request}
 use Rattle.dover_top.specs.declared.request.Request.TheVariants.{Serve, Judge, Report, Trial, Bait, Ask, Lanes, Pause}
-use Rattle.dover_top.specs.declared.request.Request.TheVariants.{Resume, Unroll, Duel}
+use Rattle.dover_top.specs.declared.request.Request.TheVariants.{Resume, Unroll, Duel, Draw}
 
 -- how few comparisons it made, with so many before and now, for the jobs of what was read, at whatever status
 abbrev pub IsFrugal : Request → (before now : ℕ) → List Move → Type 0
@@ -28,4 +28,5 @@ abbrev pub IsFrugalAsAsked : Request → (before now : ℕ) → Type 0
 IsFrugalAsAsked (Trial seed count k) before now = CostsAtMost count before now
 IsFrugalAsAsked (Bait k rounds) before now = now ≡ before
 IsFrugalAsAsked (Duel k share front) before now = now ≡ before
+IsFrugalAsAsked (Draw seed count k) before now = now ≡ before
 IsFrugalAsAsked _ before now = Unit {0}

@@ -64,6 +64,13 @@ pub record AsksTrial (words : List (String Global)) (seed count : ℕ) (k : Frac
   pub few : count ≤ most_jobs
   pub allowed : IsRatio k
 
+-- the words that ask for the stated feed of so many jobs of a seed, within a ratio
+pub record AsksDraw (words : List (String Global)) (seed count : ℕ) (k : Fraction) : Type 0 where
+  pub row : spelled words ≡ codes "draw" ∷ decimal seed ∷ decimal count ∷ decimal k.p ∷ decimal k.q ∷ []
+  pub small : seed < 2 ^ 31
+  pub few : count ≤ most_jobs
+  pub allowed : IsRatio k
+
 -- the words that ask for the run of the baiting jobs of a ratio, with so many rounds
 pub record AsksBait (words : List (String Global)) (k : Fraction) (rounds : ℕ) : Type 0 where
   pub row : spelled words ≡ codes "bait" ∷ decimal k.p ∷ decimal k.q ∷ decimal rounds ∷ []

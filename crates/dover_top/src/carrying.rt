@@ -16,7 +16,7 @@ use serve_word::{pause_word, serve_word};
 use std::alloc::Global;
 use std::sync::ledger::Ledger;
 use step_count::Steps;
-use trial_words::{bait_word, duel_word, trial_word};
+use trial_words::{bait_word, draw_word, duel_word, trial_word};
 use unroll_word::unroll_word;
 
 /// Carries out a request that some words ask for.
@@ -44,5 +44,6 @@ pub(crate) fn carry_out<P: Port, L: Ledger>(
         Request::Resume(at_end) => resume_word(alloc, port, at_end, steps),
         Request::Unroll { until } => unroll_word(alloc, port, until, steps),
         Request::Duel { k, share, front } => duel_word(port, k, share, front),
+        Request::Draw { seed, count, k } => draw_word(port, seed, count, k),
     }
 }

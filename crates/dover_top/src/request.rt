@@ -54,6 +54,12 @@ pub enum Request {
         share: Share,
         front: Option<u32>,
     },
+    /// The stated feed of a seed is written, with jobs that are done early.
+    Draw {
+        seed: u32,
+        count: u32,
+        k: Ratio,
+    },
 }
 
 /// The most jobs, and the most rounds.
@@ -194,7 +200,7 @@ fn four_words(word: &String, second: &String, third: &String, last: &String) -> 
     }
 }
 
-/// The words `trial SEED COUNT P Q`, or `duel P Q A B`.
+/// The words `trial SEED COUNT P Q`, `draw SEED COUNT P Q`, or `duel P Q A B`.
 fn five_words(
     word: &String,
     second: &String,
@@ -213,6 +219,12 @@ fn five_words(
             let count = number(third, 0, MOST)? as u32;
             let k = ratio(fourth, last)?;
             Some(Request::Trial { seed, count, k })
+        }
+        "draw" => {
+            let seed = number(second, 0, MOST_SEED)? as u32;
+            let count = number(third, 0, MOST)? as u32;
+            let k = ratio(fourth, last)?;
+            Some(Request::Draw { seed, count, k })
         }
         "duel" => {
             let k = ratio(second, third)?;

@@ -34,6 +34,8 @@ use step_count::Steps;
 ///   them is worth.
 /// - `duel P Q A B` reads nothing, and writes the feed of jobs on which no on-line scheduler gets A/B of the best
 ///   schedule on each of their fronts. `duel P Q A B L` writes that of the first L of them.
+/// - `draw SEED COUNT P Q` reads nothing, and writes a feed of version Three: so many stated jobs of a seed, within the
+///   ratio P/Q, and lines that say some of them done, rightly or not.
 /// - `feasible` reads a feed, and writes a schedule that serves all its jobs, or a window in which they have more work
 ///   than it has ticks.
 /// - `best` reads a feed of at most 20 jobs, and writes what the best schedule is worth, beside what the rules complete
@@ -51,14 +53,14 @@ use step_count::Steps;
 /// - `unroll UNTIL` reads periodic tasks, and writes the feed of all jobs that they release before this tick.
 ///
 /// The statuses: `Done` where the feed ended without a fault and its whole trace was written, where the text was
-/// accepted, the run was told, or the question answered, where the feed of tasks was written, for lanes where each that
-/// has a line ended without a fault before `close`, and for `pause` and `resume pause` also where the snapshot was
-/// written; `No` where the text is wrong or short, or not all deadlines can be met; `Refused` at the feed's first
-/// faulty line, where the input ends before the `end` line, where the jobs don't fit the limits of the word, or where
-/// the share of a duel is no more than the rules save, or its front is too long, and for lanes where one that has a
-/// line is faulty or not ended at `close`, at a fault of the whole input, or where it ends before `close`; `ReadFault`
-/// and `WriteFault` where a call of the port failed, which is then the last; `Memory` where there was none, which with
-/// `serve` can't come before the ratio line; `Usage` exactly where the words are no row.
+/// accepted, the run was told, or the question answered, where the feed that was asked for was written, for lanes where
+/// each that has a line ended without a fault before `close`, and for `pause` and `resume pause` also where the
+/// snapshot was written; `No` where the text is wrong or short, or not all deadlines can be met; `Refused` at the
+/// feed's first faulty line, where the input ends before the `end` line, where the jobs don't fit the limits of the
+/// word, or where the share of a duel is no more than the rules save, or its front is too long, and for lanes where one
+/// that has a line is faulty or not ended at `close`, at a fault of the whole input, or where it ends before `close`;
+/// `ReadFault` and `WriteFault` where a call of the port failed, which is then the last; `Memory` where there was none,
+/// which with `serve` can't come before the ratio line; `Usage` exactly where the words are no row.
 pub fn dover<P: Port, L: Ledger>(
     alloc: Global,
     words: &[String],
@@ -82,7 +84,7 @@ pub fn dover<P: Port, L: Ledger>(
     // t + 1 has at most d binary digits.
     ensures comparisons { (request : Request) → Asks words.now request →
         Since (P.moves port.old) (P.moves port.new) (IsFrugal request steps.old steps.new) }
-    // trial at Done, where the words alone tell how many jobs there are; bait and duel make none.
+    // trial at Done, where the words alone tell how many jobs there are; bait, duel and draw make none.
     ensures stated { (request : Request) → Asks words.now request → result ≡ Status.Done →
         IsFrugalAsAsked request steps.old steps.new }
 

@@ -205,8 +205,16 @@ const TEXTS: [(&str, Status, &str); 12] = [
     ),
 ];
 
-/// Words with feeds of version Three: many in one input, no snapshot, and answers on the jobs as they are declared.
-const CALLS: [Row; 7] = [
+/// A feed in which a job finishes early: the processor is free for the second, and the third is given up.
+const EARLY: &str = "k 1 1 3\njob 0 2 2 2\njob 0 2 3 2\njob 0 3 5 3\ndone 1 0\nend\n";
+
+/// A feed in which a job is given up before another finishes early.
+const LATE: &str = "k 1 1 3\njob 0 10 10 10\njob 0 6 7 6\ndone 2 0\nend\n";
+
+/// Words with feeds of version Three: many in one input, no snapshot, and answers on the jobs as they are declared and
+/// as the run observed them. In the third feed of `best` the run completes more than a schedule of the declared jobs;
+/// in that of `LATE` it gives up a job although all observed ones can be served.
+const CALLS: [Row; 15] = [
     (
         &["lanes"],
         "0 k 1 1 3\n7 k 1 1 3\n0 job 0 4 9 4\n7 job 0 2 4 2\n7 done 1 0\n0 done 2 1\n0 done 3 0\n0 end\n7 end\n\
@@ -237,7 +245,55 @@ const CALLS: [Row; 7] = [
         &["best"],
         "k 1 1 3\njob 0 2 2 2\ndone 1 0\njob 1 2 2 2\nend\n",
         Status::Done,
-        "jobs 1\noptimum 2\nvalue 2\nbound 8\npiece 0 2 0\n",
+        "jobs 1\noptimum 2\nvalue 2\nbound 8\npiece 0 1 0\n",
+    ),
+    (
+        &["best"],
+        EARLY,
+        Status::Done,
+        "jobs 3\noptimum 5\nvalue 4\nbound 16\npiece 0 1 0\npiece 1 4 2\n",
+    ),
+    (
+        &["best"],
+        "k 1 1 3\njob 0 2 2 2\ndone 1 0\njob 1 1 2 1\nend\n",
+        Status::Done,
+        "jobs 2\noptimum 3\nvalue 3\nbound 12\npiece 0 1 0\npiece 1 2 1\n",
+    ),
+    (
+        &["best"],
+        LATE,
+        Status::Done,
+        "jobs 2\noptimum 16\nvalue 10\nbound 40\npiece 0 6 1\npiece 6 8 0\n",
+    ),
+    (
+        &["compare"],
+        EARLY,
+        Status::Done,
+        "dover 4\nedf 4\ndense 4\nbound 16\n",
+    ),
+    (
+        &["compare"],
+        LATE,
+        Status::Done,
+        "dover 10\nedf 16\ndense 10\nbound 40\n",
+    ),
+    (
+        &["loss"],
+        EARLY,
+        Status::Done,
+        "total 7\nvalue 4\nceiling 5\nbound 16\nstretch 0 5 7 5 4\n",
+    ),
+    (
+        &["loss"],
+        LATE,
+        Status::Done,
+        "total 16\nvalue 10\nceiling 16\nbound 40\n",
+    ),
+    (
+        &["compare"],
+        "k 1 1 3\ntick 5\ndone 4 0\njob 5 4 9 4\ndone 6 1\ntick 7\ndone 6 0\ndone 7 0\ndone 8 0\nend\n",
+        Status::Done,
+        "dover 4\nedf 4\ndense 4\nbound 16\n",
     ),
     (
         &["feasible"],

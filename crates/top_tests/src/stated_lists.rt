@@ -1,4 +1,4 @@
-//! Stated lists: `trial`, `bait` and `duel`.
+//! Stated lists: `trial`, `bait`, `duel` and `draw`.
 use crate::calls::{AT_ONCE, Called, Cut, Failing, Row, all_fail, are_called, call, call_over};
 use dover_port::Status;
 use std::test::Fail;
@@ -65,6 +65,22 @@ const DUELS: [Row; 6] = [
     ),
 ];
 
+/// Seeds, counts and ratios of stated feeds, and what is written.
+const DRAWS: [Row; 2] = [
+    (
+        &["draw", "1", "3", "2", "1"],
+        "unread",
+        Status::Done,
+        "k 2 1 3\njob 6 19 28 38\ndone 9 0\njob 11 20 43 20\ndone 16 0\njob 20 1 26 2\ndone 21 1\nend\n",
+    ),
+    (
+        &["draw", "1", "0", "2", "1"],
+        "unread",
+        Status::Done,
+        "k 2 1 3\nend\n",
+    ),
+];
+
 /// A write that fails.
 const FAILING: [(&str, Failing, Status, &str); 1] = [("", (1, 0, 1, 4096), Status::WriteFault, "")];
 
@@ -96,6 +112,13 @@ fn has_one_summary(rt: &HostRuntime, words: &[&'static str], front: &[u8]) -> Re
 fn duels_and_their_fronts(rt: HostRuntime) -> Result<(), Fail> {
     let words = ["duel", "1", "1", "1", "2"];
     assert!(rt; are_called(&rt, &DUELS, &[(1, 0)])? && all_fail(&rt, &words, &FAILING)?);
+    Ok(())
+}
+
+#[test]
+fn stated_feeds(rt: HostRuntime) -> Result<(), Fail> {
+    let words = ["draw", "1", "3", "2", "1"];
+    assert!(rt; are_called(&rt, &DRAWS, &[(1, 0)])? && all_fail(&rt, &words, &FAILING)?);
     Ok(())
 }
 

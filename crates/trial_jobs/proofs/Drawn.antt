@@ -11,15 +11,7 @@ use Rattle.dover_model.specs.Instance.{IsValid, IsWithinRatio, IsInOrder, jobs_u
 use Rattle.dover_model.specs.Generator.{next_state, high_bits, most_density, job_of_draws, generated_jobs_from}
 use Rattle.dover_model.specs.Generator.{generated_jobs}
 use Rattle.dover_model.proofs.Calculus.{dense_within}
-
--- the state after four draws
-abbrev pub next_four : ℕ → ℕ
-next_four state = next_state (next_state (next_state (next_state state)))
-
--- the job of the next four draws
-abbrev pub next_job : Fraction → (state last : ℕ) → JobFacts
-next_job k state last = job_of_draws k last (high_bits (next_state state)) (high_bits (next_state (next_state state)))
-    (high_bits (next_state (next_state (next_state state)))) (high_bits (next_four state))
+use Rattle.trial_jobs.specs.Turns.{next_four, next_job}
 
 -- so many jobs are drawn
 pub so_many : (k : Fraction) (count state last : ℕ) → length (generated_jobs_from k count state last) ≡ count
@@ -88,7 +80,7 @@ module _ (k : Fraction) (ratio : IsRatio k) where
   value_some h w = mul-le 1 1 (1 + h % most_density k) (1 + w % 20) (omega arith) (omega arith)
 
   -- a drawn job is a job
-  pub is_job : (last r w s d : ℕ) → last ≤ 8_000_000 → IsJob (job_of_draws k last r w s d)
+  pub is_job : (last r w s d : ℕ) → last ≤ 16_000_000 → IsJob (job_of_draws k last r w s d)
   is_job last r w s d early = record {
     work = omega arith;
     window = omega arith;
@@ -105,8 +97,8 @@ module _ (k : Fraction) (ratio : IsRatio k) where
       (omega arith)
 
   -- of each job of a list
-  all_drawn : (P : JobFacts → Type 0) → ((last r w s d : ℕ) → last ≤ 8_000_000 → P (job_of_draws k last r w s d))
-      → (count state last : ℕ) → last + 8 * count ≤ 8_000_000
+  all_drawn : (P : JobFacts → Type 0) → ((last r w s d : ℕ) → last ≤ 16_000_000 → P (job_of_draws k last r w s d))
+      → (count state last : ℕ) → last + 8 * count ≤ 16_000_000
       → AllByRecursion P (generated_jobs_from k count state last)
   all_drawn P each zero state last fits = tt
   all_drawn P each (suc count) state last fits =

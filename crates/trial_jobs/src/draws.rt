@@ -22,7 +22,7 @@ pub fn drawn_job(
     slack: u64,
     density: u64,
 ) -> Option<Job>
-    requires early { last ≤ 8_000_000 }
+    requires early { last ≤ 16_000_000 }
     ensures some { IsSome result }
     ensures is { IfSome result
         (λ job. job ≡ job_of_draws k last (high_bits release) (high_bits work) (high_bits slack) (high_bits density)) }

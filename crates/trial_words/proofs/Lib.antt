@@ -1,4 +1,5 @@
 mod Baiting
 mod Counting
 mod Summing
+mod Turning
 pub mod Putting

@@ -1,4 +1,5 @@
 pub mod Baited
+pub mod Drawing
 pub mod Dueled
 pub mod Lists
 pub mod Record

@@ -43,6 +43,10 @@ pub returns-in-Unroll-clause-carries : goal.returns-in-Unroll-clause-carries
 returns-in-Unroll-clause-carries g c = let w = c.unroll_word.ensures in
     carried _ _ _ _ _ _ _ c.in-Unroll.is w.talks w.ends w.count (λ _. tt)
 
+pub returns-in-Draw-clause-carries : goal.returns-in-Draw-clause-carries
+returns-in-Draw-clause-carries g c = let w = c.draw_word.ensures in
+    carried _ _ _ _ _ _ _ c.in-Draw.is w.draws w.ends (since_weaker _ _ _ _ w.draws (λ _ _. tt)) (λ _. refl)
+
 pub returns-in-Duel-clause-carries : goal.returns-in-Duel-clause-carries
 returns-in-Duel-clause-carries g c = let w = c.duel_word.ensures in
     carried _ _ _ _ _ _ _ c.in-Duel.is w.duels w.ends (since_weaker _ _ _ _ w.duels (λ _ _. tt)) (λ _. refl)

@@ -1,6 +1,7 @@
 use Rattle.std.proofs.Common.{◌≡◌, ◌∷◌, ◌-◌, [], sym, ◌∙◌, arith}
 use Rattle.dover_model.specs.Generator.{generated_jobs_from}
-use Rattle.trial_jobs.proofs.Drawn.{next_four, next_job, next_one, four, job_is}
+use Rattle.trial_jobs.specs.Turns.{next_four, next_job}
+use Rattle.trial_jobs.proofs.Drawn.{next_one, four, job_is}
 use Rattle.trial_jobs.proofs.generator.Gen.next.Goals as goal
 
 -- the jobs before the call are the next one and those after it
