@@ -10,7 +10,7 @@ use Rattle.dover_model.proofs.Growing.{instance_with}
 use Rattle.dover_model.proofs.Meeting.{finishing_valid}
 
 pub admitted_valid : (J : Instance) (j : JobFacts) → IsValid J → AllByRecursion (λ i. i.release ≤ j.release) J.jobs
-    → refusal_of J.rules.ratio J.jobs j ≡ None → IsValid (with_jobs J (j ∷ []))
+    → refusal_of (declared_by J.rules) J.jobs j ≡ None → IsValid (with_jobs J (j ∷ []))
 admitted_valid J j valid known none =
     finishing_valid (with_jobs (instance_with (declared_by J.rules) J.jobs) (j ∷ [])) J.rules.finishes
     (admits (declared_by J.rules) J.jobs j (finishing_valid J [] valid) known none)

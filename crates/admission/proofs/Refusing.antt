@@ -9,7 +9,7 @@ use Rattle.dover_model.specs.Limits.{most_jobs, most_total}
 use Rattle.dover_model.specs.declared.events.Refusal.TheVariants.{BadJob, Count, Total, Ratio}
 use Rattle.dover_model.specs.JobFacts.{JobFacts, IsJob, is_job}
 use Rattle.dover_model.specs.Fraction.{Fraction}
-use Rattle.dover_model.specs.Instance.{IsWithinRatio, total_value}
+use Rattle.dover_model.specs.Instance.{IsWithinRatio, Declaration, total_value}
 use Rattle.dover_model.specs.Admission.{is_within_ratio_both_ways, first_cause, refusal_of}
 use Rattle.dover_model.proofs.Calculus.{cancel}
 use Rattle.dover_model.proofs.Tests.{both, each}
@@ -123,10 +123,13 @@ no_cause : (a b c d : Bool) → a ≡ true → b ≡ false → c ≡ false → d
 no_cause a b c d one two three four = rw (one, two, three, four) refl
 
 -- a job within all limits that keeps the ratio with all isn't refused
-pub not_refused : (k : Fraction) (jobs : List JobFacts) (j : JobFacts) → IsJob j → length jobs < most_jobs
-    → total_value jobs + j.value ≤ most_total → AllKeepRatio k jobs j → refusal_of k jobs j ≡ None
-not_refused k jobs j job count total all =
-    no_cause (is_job j) (nat_le most_jobs (length jobs)) (nat_lt most_total (total_value jobs + j.value))
+pub not_refused : (rules : Declaration) (jobs : List JobFacts) (j : JobFacts) → IsJob j
+    → length jobs < most_jobs rules.version → total_value jobs + j.value ≤ most_total rules.version
+    → AllKeepRatio rules.ratio jobs j → refusal_of rules jobs j ≡ None
+not_refused rules jobs j job count total all =
+    let k : Fraction = rules.ratio in
+    no_cause (is_job j) (nat_le (most_jobs rules.version) (length jobs))
+    (nat_lt (most_total rules.version) (total_value jobs + j.value))
     (list_all (λ i. is_within_ratio_both_ways k i j) jobs) ((is_job-agrees j).1 job) (lt-leb _ _ count)
     (le-ltb _ _ total)
     ((each (λ i. is_within_ratio_both_ways k i j) (λ i. is_within_ratio_both_ways k i j ≡ true)

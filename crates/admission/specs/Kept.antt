@@ -4,14 +4,15 @@ use Rattle.std.specs.List.{AllByRecursion}
 use Rattle.dover_model.specs.Limits.{most_jobs, most_total}
 use Rattle.dover_model.specs.JobFacts.{JobFacts, IsJob}
 use Rattle.dover_model.specs.Fraction.{Fraction}
-use Rattle.dover_model.specs.Instance.{total_value}
+use Rattle.dover_model.specs.declared.events.Version.{Version}
+use Rattle.dover_model.specs.Instance.{Declaration, total_value}
 use Rattle.dover_model.specs.Admission.{is_within_ratio_both_ways}
 use Rattle.admission.specs.declared.extremes.Numbered.{Numbered}
 use Rattle.admission.specs.declared.extremes.Extremes.{Extremes}
 
 -- what is kept of the jobs that are admitted
 pub record Kept : Type 0 where
-  pub ratio : Fraction
+  pub rules : Declaration
   pub count : ℕ
   pub total : ℕ
   pub extremes : Option Extremes
@@ -57,14 +58,14 @@ HasExtremes k jobs (Some e) = AreExtremes k jobs e
 pub record StandsFor (kept : Kept) (jobs : List JobFacts) : Type 0 where
   pub count : kept.count ≡ length jobs
   pub total : kept.total ≡ total_value jobs
-  pub extremes : HasExtremes kept.ratio jobs kept.extremes
+  pub extremes : HasExtremes kept.rules.ratio jobs kept.extremes
 
 -- the limits of all jobs are kept
-pub record IsWithinLimits (count total : ℕ) : Type 0 where
-  pub count_fits : count ≤ most_jobs
-  pub total_fits : total ≤ most_total
+pub record IsWithinLimits (version : Version) (count total : ℕ) : Type 0 where
+  pub count_fits : count ≤ most_jobs version
+  pub total_fits : total ≤ most_total version
 
 -- the limits of all jobs leave room for this one
 pub record HasRoom (kept : Kept) (j : JobFacts) : Type 0 where
-  pub count : kept.count < most_jobs
-  pub total : kept.total + j.value ≤ most_total
+  pub count : kept.count < most_jobs kept.rules.version
+  pub total : kept.total + j.value ≤ most_total kept.rules.version

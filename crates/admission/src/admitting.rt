@@ -1,20 +1,15 @@
 //! The jobs that are admitted, as far as the next one needs them.
 use crate::extremes::{Extremes, Numbered};
 use crate::refused::Refused;
-use dover_model::{Job, Ratio};
+use dover_model::{Job, Ratio, Version};
 use std::marker::Model;
 
-/// How many jobs there may be.
-const MOST_JOBS: u32 = 1_000_000;
-
-/// The greatest sum of the values of all jobs.
-const MOST_TOTAL: u64 = 10_000_000_000_000;
-
-/// What admitting the next job depends on: the ratio, how many jobs were admitted, the sum of their values, and the
-/// least dense and the densest one.
+/// What admitting the next job depends on: the ratio, the version, whose limits count, how many jobs were admitted, the
+/// sum of their values, and the least dense and the densest one.
 #[derive(Drop)]
 pub struct Admission {
     ratio: Ratio,
+    version: Version,
     count: u32,
     total: u64,
     extremes: Option<Extremes>,
@@ -25,9 +20,14 @@ impl Model for Admission {
 
     ghost Value = { Kept };
 
-    ghost view = { λ a. record { ratio = a.ratio; count = a.count; total = a.total; extremes = a.extremes } };
+    ghost view = { λ a. record {
+      rules = record { ratio = a.ratio; version = a.version };
+      count = a.count;
+      total = a.total;
+      extremes = a.extremes;
+    } };
 
-    ghost invariant = { λ a. IsWithinLimits a.count a.total };
+    ghost invariant = { λ a. IsWithinLimits a.version a.count a.total };
 }
 
 impl Admission {
@@ -38,12 +38,13 @@ impl Admission {
     ghost use Rattle.admission.specs.Answers.{refusal_in, NamesOther, IsOther, AllKeepRatio};
 
     /// No job was admitted yet.
-    pub fn new(ratio: Ratio) -> Admission
-        ensures ratio { result.ratio ≡ ratio }
+    pub fn new(version: Version, ratio: Ratio) -> Admission
+        ensures rules { result.rules ≡ record { ratio = ratio; version = version } }
         ensures stands { StandsFor result [] }
     {
         Admission {
             ratio,
+            version,
             count: 0,
             total: 0,
             extremes: None,
@@ -52,9 +53,16 @@ impl Admission {
 
     /// The ratio that densities are tested by.
     pub fn ratio(&self) -> Ratio
-        ensures { result ≡ self.now.ratio }
+        ensures { result ≡ self.now.rules.ratio }
     {
         self.ratio
+    }
+
+    /// The version whose limits count.
+    pub fn version(&self) -> Version
+        ensures { result ≡ self.now.rules.version }
+    {
+        self.version
     }
 
     /// How many jobs were admitted, which is the number of the next one.
@@ -68,9 +76,9 @@ impl Admission {
     #[inline(always)]
     fn breaker(&self, job: &Job) -> Option<u32>
         ensures other { (jobs : List JobFacts) → StandsFor self.now jobs
-            → IfSome result (λ other. IsOther self.now.ratio jobs job.now other) }
+            → IfSome result (λ other. IsOther self.now.rules.ratio jobs job.now other) }
         ensures none { (jobs : List JobFacts) → StandsFor self.now jobs → IsNone result
-            → AllKeepRatio self.now.ratio jobs job.now }
+            → AllKeepRatio self.now.rules.ratio jobs job.now }
     {
         match &self.extremes {
             Some(extremes) => extremes.breaker(self.ratio, job),
@@ -89,18 +97,18 @@ impl Admission {
         ensures job { IfOk result (λ job. job ≡ job_of_numbers release work deadline value) }
         ensures room { IfOk result (λ job. HasRoom self.now job) }
         ensures refusal { (jobs : List JobFacts) → StandsFor self.now jobs →
-            refusal_of self.now.ratio jobs (job_of_numbers release work deadline value) ≡ refusal_in result }
+            refusal_of self.now.rules jobs (job_of_numbers release work deadline value) ≡ refusal_in result }
         ensures other { (jobs : List JobFacts) → StandsFor self.now jobs →
-            IfErr result (λ refused. NamesOther self.now.ratio jobs
+            IfErr result (λ refused. NamesOther self.now.rules.ratio jobs
             (job_of_numbers release work deadline value) refused) }
     {
         let Some(job) = Job::new(release, work, deadline, value) else {
             return Err(Refused::BadJob);
         };
-        if self.count >= MOST_JOBS {
+        if self.count >= self.version.most_jobs() {
             return Err(Refused::Count);
         }
-        if self.total + value > MOST_TOTAL {
+        if self.version.most_total() - self.total < value {
             return Err(Refused::Total);
         }
         match self.breaker(&job) {
@@ -114,7 +122,7 @@ impl Admission {
     pub fn admit(&mut self, job: Job)
         requires { HasRoom self.old job }
         ensures stands { (jobs : List JobFacts) → StandsFor self.old jobs → StandsFor self.new (jobs ++ job ∷ []) }
-        ensures ratio { self.new.ratio ≡ self.old.ratio }
+        ensures rules { self.new.rules ≡ self.old.rules }
     {
         let value = job.value();
         let next = Numbered {

@@ -43,16 +43,16 @@ late_none Three former = never (sym former)
 pub job_refused : (S : Session) (mark : ℕ) (r : Refused) → may_finish_early S.rules.version ≡ false
     → MayBeRefused S mark r
     → (j : JobFacts) × (refusal : Refusal) × (r.line ≡ RefusedJob j refusal) × (r.at ≤ j.release)
-    × (refusal_of S.rules.ratio (admitted_jobs S.items) j ≡ Some refusal)
+    × (refusal_of S.rules (admitted_jobs S.items) j ≡ Some refusal)
 job_refused S mark r former may = by_line r.line refl may.line where
   by_line : (line : RefusedLine) → r.line ≡ line → MayRefuse S r.at line
       → (j : JobFacts) × (refusal : Refusal) × (r.line ≡ RefusedJob j refusal) × (r.at ≤ j.release)
-      × (refusal_of S.rules.ratio (admitted_jobs S.items) j ≡ Some refusal)
+      × (refusal_of S.rules (admitted_jobs S.items) j ≡ Some refusal)
   by_line (RefusedDone tick number) is done = never (sym former ∙ done.version)
   by_line (RefusedJob j refusal) is job = by_order (nat_lt j.release r.at) refl job.cause where
     by_order : (b : Bool) → nat_lt j.release r.at ≡ b
-        → cond b (late_refusal S.rules.version) (refusal_of S.rules.ratio (admitted_jobs S.items) j) ≡ Some refusal
+        → cond b (late_refusal S.rules.version) (refusal_of S.rules (admitted_jobs S.items) j) ≡ Some refusal
         → (j : JobFacts) × (refusal : Refusal) × (r.line ≡ RefusedJob j refusal) × (r.at ≤ j.release)
-        × (refusal_of S.rules.ratio (admitted_jobs S.items) j ≡ Some refusal)
+        × (refusal_of S.rules (admitted_jobs S.items) j ≡ Some refusal)
     by_order true late cause = none_is_some (sym (late_none S.rules.version former) ∙ cause)
     by_order false ordered cause = (j, refusal, is, ltb-false _ _ ordered, cause)

@@ -11,7 +11,7 @@ use Rattle.dover_model.specs.declared.events.Role.TheVariants.{Coming, Running}
 use Rattle.dover_model.specs.declared.events.Task.{Task}
 use Rattle.dover_model.specs.Finishes.{Finish, is_finish_of, has_come_to}
 use Rattle.dover_model.specs.Instance.{Rules, Instance, IsValid, with_finishes, bare}
-use Rattle.dover_model.specs.State.{State, opening, running, is_running, is_over, left}
+use Rattle.dover_model.specs.State.{State, opening, running, is_running, is_over}
 use Rattle.dover_model.specs.Step.{Move, Prints, Ticks, due_finish, finish_or, step, open_step, declared_step}
 use Rattle.dover_model.specs.Step.{declared_open_step, after, ticked}
 use Rattle.dover_model.specs.Run.{Step, printed, event_of}
@@ -22,16 +22,14 @@ use Rattle.dover_model.specs.Paths.{IsOpenPath, HasPrinted}
 use Rattle.dover_model.specs.Sound.{IsMember, Each, Keeps}
 use Rattle.dover_model.proofs.Members.{not_found, map_member, member_behind, some_same}
 use Rattle.dover_model.proofs.Roles.{passes, one_number}
-use Rattle.dover_model.proofs.Kept.{Moved, move_of, open_kept, opening_keeps, come_coming, open_deed}
+use Rattle.dover_model.proofs.Kept.{Moved, move_of, open_kept, opening_keeps, come_coming}
 use Rattle.dover_model.proofs.Readiness.{IsReady, opening_ready, runner}
 use Rattle.dover_model.proofs.Ending.{potential, clock_after}
-use Rattle.dover_model.proofs.Settling.{settles, settled_is_run, at_barrier}
+use Rattle.dover_model.proofs.Settling.{settles, settled_is_run}
 use Rattle.dover_model.proofs.Barriers.{AtBarrier, settled_at_barrier}
 use Rattle.dover_model.proofs.Paths.{path_keeps, path_ready, path_then_settled, one_settled_run, printed_begins_run}
 use Rattle.dover_model.proofs.Paths.{path_later, path_append, printed_begins}
 use Rattle.dover_model.proofs.Runs.{printed_append}
-use Rattle.dover_model.proofs.Deeds.{Deed, Completed, Resumed, Started, Began, Preempted, Stayed, Arrived, Taken}
-use Rattle.dover_model.proofs.Deeds.{Abandoned, Rested}
 use Rattle.dover_model.proofs.Resting.{settled_path, path_state}
 use Rattle.dover_model.proofs.Finishing.{IsDue, finish_due}
 use Rattle.dover_model.proofs.Meeting.{finishing_valid}
@@ -313,36 +311,6 @@ module _ (J : Instance) (valid : IsValid J) (mark : ℕ) (r : Task) (at : RunsAt
       (settled (with_finishes J (finish_now r ∷ [])) mark)
   completes_at_mark = printed_begins (with_finishes J (finish_now r ∷ [])) mark _ _
       (finishing_valid J (J.rules.finishes ++ finish_now r ∷ []) valid) printed_at_mark
-
--- the job that runs at a barrier has work left
-pub barrier_left : (J : Instance) → IsValid J → (mark : ℕ) (r : Task) → IsMember r (settled_state J mark).tasks
-    → r.role ≡ Running → 1 ≤ left r
-barrier_left J valid mark r member runs = by_deed _ (open_deed J valid s barrier.keeps J.rules) late where
-  s : State
-  s = settled_state J mark
-
-  barrier : AtBarrier J mark s
-  barrier = settled_at_barrier J valid mark
-
-  late : waits_for_mark (open_step J.rules s) ≡ true
-  late = (at_barrier (waits_for_mark (open_step J.rules s)) mark s.clock barrier.barrier).0
-
-  same : (t : Task) → IsMember t s.tasks → t.role ≡ Running → 1 ≤ left t → 1 ≤ left r
-  same t t_member t_runs some = subst (λ (x : Task). 1 ≤ left x)
-      (one_number 0 s.tasks barrier.keeps.sound.numbered t r t_member member
-      (barrier.keeps.sound.one_runs t r t_member member t_runs runs)) some
-
-  by_deed : (m : Move) → Deed J.rules.ratio s Ticks m → waits_for_mark m ≡ true → 1 ≤ left r
-  by_deed m (Completed r member runs) late = never late
-  by_deed m (Resumed p member held none least why) late = never late
-  by_deed m (Started o member waiting none first fits next) late = never late
-  by_deed m (Began f member fresh none free) late = never late
-  by_deed m (Preempted r f member runs some f_member fresh before fits) late = never late
-  by_deed m (Stayed r f member runs some f_member fresh why) late = never late
-  by_deed m (Arrived c member comes now first stale busy free) late = never late
-  by_deed m (Taken t x t_member t_runs some x_member waiting now stale heavy) late = same t t_member t_runs some
-  by_deed m (Abandoned t x t_member t_runs some x_member waiting now stale light) late = same t t_member t_runs some
-  by_deed m (Rested quiet) late = quiet.busy r member runs
 
 -- ---- finishes of jobs that are over
 

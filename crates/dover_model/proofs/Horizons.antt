@@ -1,5 +1,5 @@
 -- What is due of a run up to a horizon.
-use Rattle.std.proofs.Common.{◌+◌, arith, sym, ◌≤◌, length, [], ℕ, List, ◌∷◌}
+use Rattle.std.proofs.Common.{◌+◌, ◌*◌, arith, sym, ◌≤◌, length, [], ℕ, List, ◌∷◌}
 use Rattle.std.proofs.lemmas.List.{append-nil}
 use Rattle.std.specs.List.{AllByRecursion}
 use Rattle.dover_model.specs.declared.horizon.Horizon.{Horizon}
@@ -12,7 +12,7 @@ use Rattle.dover_model.proofs.Growing.{settled_of_run}
 use Rattle.dover_model.proofs.Beginnings.{begins_length}
 use Rattle.dover_model.proofs.Ending.{few_printed}
 use Rattle.dover_model.specs.JobFacts.{JobFacts, IsJob}
-use Rattle.dover_model.specs.Limits.{last_tick}
+use Rattle.dover_model.specs.Limits.{last_tick, most_jobs}
 
 -- a horizon may follow itself, where it may follow another
 pub follows_on : (from to : Horizon) → MayFollow from to → MayFollow to to
@@ -27,7 +27,8 @@ due_begins J (Mark t) valid = settled_of_run J t valid
 due_begins J End valid = ([], sym (append-nil (printed J)))
 
 -- these are few steps
-pub due_few : (J : Instance) (to : Horizon) → IsValid J → length (due_by J to) ≤ 5_000_001
+pub due_few : (J : Instance) (to : Horizon) → IsValid J
+    → length (due_by J to) ≤ 5 * most_jobs J.rules.version + 1
 due_few J to valid = omega (
   arith,
   few_printed J valid,

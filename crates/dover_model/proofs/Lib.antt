@@ -37,6 +37,7 @@ pub mod Kept
 pub mod Readiness
 pub mod Needing
 pub mod Jumping
+pub mod Limiting
 pub mod Leaving
 pub mod Potential
 pub mod Ending

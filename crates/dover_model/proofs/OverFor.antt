@@ -1,7 +1,6 @@
 -- Where each finish is of a job that is over, none is due, and the weights are those without finishes.
 use Rattle.std.proofs.Common.{◌≡◌, ℕ, List, [], ◌∷◌, inl, inr, refl, sym, ap, ◌∙◌, Bool, true, false, cond, eqb, not}
 use Rattle.std.specs.Prelude.{◌==◌, ◌&&◌, ◌||◌, nat_lt}
-use Rattle.std.specs.List.{sum_by}
 use Rattle.std.proofs.lemmas.Bool.{eqb-true, and_parts}
 use Rattle.dover_model.specs.Fraction.{Fraction}
 use Rattle.dover_model.specs.Instance.{Rules, Instance, IsValid}
@@ -13,14 +12,14 @@ use Rattle.dover_model.specs.State.{State, is_ready_behind, is_over, left}
 use Rattle.dover_model.specs.Step.{Move, Ticks, after, with_role, displaced, ticked, open_step}
 use Rattle.dover_model.specs.Settled.{AreOverFor}
 use Rattle.dover_model.specs.Sound.{IsMember, Each, IsSound, Keeps}
-use Rattle.dover_model.proofs.Members.{on_map, sum_same}
+use Rattle.dover_model.proofs.Members.{on_map}
 use Rattle.dover_model.proofs.Roles.{passes}
 use Rattle.dover_model.proofs.OneChange.{state_with, on_changed}
 use Rattle.dover_model.proofs.Deeds.{Deed, Completed, Resumed, Started, Began, Preempted, Stayed, Arrived, Taken}
 use Rattle.dover_model.proofs.Deeds.{Abandoned, Rested}
 use Rattle.dover_model.proofs.Kept.{open_deed}
 use Rattle.dover_model.proofs.Readiness.{IsReady}
-use Rattle.dover_model.specs.Weights.{Scale, stands, weights_by, weight}
+use Rattle.dover_model.specs.Weights.{stands}
 use Rattle.dover_model.proofs.Tests.{never}
 
 -- a job that has come to a finish is the job of one
@@ -67,11 +66,6 @@ module _ (finishes : List Finish) (s : State) (over : AreOverFor finishes s) whe
   over_stands t member Held e = refl
   over_stands t member Done e = refl
   over_stands t member Gone e = refl
-
-  -- the weights are the same
-  pub over_weights : (z : Scale) → weights_by finishes z s ≡ weights_by [] z s
-  over_weights z = ap (λ w. sum_by (weight z s.clock w) s.tasks)
-      (sum_same (stands finishes) (stands []) s.tasks (λ t member. over_stands t member t.role refl))
 
 -- ---- they stay over
 

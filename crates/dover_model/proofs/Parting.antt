@@ -24,6 +24,7 @@ use Rattle.dover_model.proofs.Runs.{none_lost, all_value}
 use Rattle.dover_model.proofs.BoundLaws.{bound as no_more, intervals_abandon}
 use Rattle.dover_model.proofs.Calculus.{below_add, within_less}
 use Rattle.dover_model.specs.Books.{Job}
+use Rattle.dover_model.proofs.Limiting.{total_most}
 
 -- ---- a schedule under other numbers
 
@@ -254,7 +255,7 @@ completed_most : (J : Instance) → IsValid J → completed_value J < 10 ^ 18
 completed_most J valid =
     let all : completed_value J + sum_by (λ i. i.abandoned) (intervals J) ≡ sum_by (λ j. j.value) J.jobs =
     intervals_abandon J valid in
-    omega (arith, valid.total)
+    omega (arith, valid.total, total_most J.rules.version)
 
 -- each schedule of a valid instance is worth at most its bound
 pub bound_most : (J : Instance) (s : List ℕ) → IsValid J → worth J s ≤ bound J.rules.ratio (completed_value J)

@@ -122,10 +122,6 @@ module _ (J : Instance) (valid : IsValid J) (K : Instance) (valid_more : IsValid
 
 -- ---- what has been printed
 
--- nothing at the opening
-pub printed_nothing : (J : Instance) (mark : ℕ) → HasPrinted J mark (opening J.jobs) []
-printed_nothing J mark = record { steps = []; path = refl; prints = refl }
-
 -- further steps at a later mark
 pub printed_more : (J : Instance) (mark mark2 : ℕ) (s t : State) (events : List Event) (xs : List Step)
     → HasPrinted J mark s events → mark ≤ mark2

@@ -3,7 +3,7 @@ use Rattle.std.proofs.Common.{◌≡◌, List, ◌∷◌, refl, sym, ap, ◌∙�
 use Rattle.std.proofs.Common.{subst, not, ℕ, ◌+◌, arith}
 use Rattle.std.specs.Prelude.{Some, None}
 use Rattle.std.specs.List.{filter, find, sum_by}
-use Rattle.std.proofs.lemmas.Bool.{not-false, ne_eqb, not-true}
+use Rattle.std.proofs.lemmas.Bool.{not-false, ne_eqb}
 use Rattle.std.proofs.lemmas.List.Sums.{sum_by-cons}
 use Rattle.dover_model.proofs.Roles.{passes, is_over_role, one_number, by_role}
 use Rattle.dover_model.specs.declared.events.Role.TheVariants.{Done, Gone, Waiting, Coming, Fresh, Held, Running}
@@ -245,11 +245,6 @@ filter_all : (p : Task → Bool) (xs : List Task) → Each (λ t. p t ≡ true) 
 filter_all p [] all = refl
 filter_all p (x ∷ xs) all = ap (λ b. cond b (x ∷ filter p xs) (filter p xs)) (all x (inl refl))
     ∙ ap (λ ys. x ∷ ys) (filter_all p xs (λ t m. all t (inr m)))
-
--- a silent move doesn't do or lose a job
-silent_done : (m : Move) → IsSilent m → (t : Task) → is_over t ≡ false → is_done (change m t) ≡ false
-silent_done m silent t ready =
-    ready_not_done (change m t) (not-true (is_over (change m t)) (silent_ready m silent t (ap not ready)))
 
 module _ (J : Instance) (valid : IsValid J) (rules : Rules) where
   -- after a silent step the part is the part after it

@@ -7,7 +7,7 @@ use Rattle.std.proofs.lemmas.List.Sums.{sum_by-cons}
 use Rattle.std.specs.List.{count_by, filter, cons_option}
 use Rattle.std.proofs.lemmas.List.Elements.{filter_map-append}
 use Rattle.dover_model.specs.JobFacts.{IsJob}
-use Rattle.dover_model.specs.Limits.{last_tick}
+use Rattle.dover_model.specs.Limits.{last_tick, most_items}
 use Rattle.dover_model.specs.declared.events.Event.TheVariants.{Release, Run, Preempt, Take, Complete, Abandon, End}
 use Rattle.dover_model.specs.declared.events.Role.TheVariants.{Running}
 use Rattle.dover_model.specs.declared.events.Task.{Task}
@@ -42,6 +42,7 @@ use Rattle.dover_model.proofs.Tests.{never, none_is_some}
 use Rattle.dover_model.proofs.Shown.{early_says, Handed, coming_in, deed_in, items_of, items_cons, Comes, Finishes}
 use Rattle.dover_model.proofs.EarlyEnds.{as_open, same_here, AreOf, shown_own, shown_all, path_of, opening_in}
 use Rattle.dover_model.proofs.EarlyEnds.{right_there}
+use Rattle.dover_model.proofs.Limiting.{items_enough}
 
 module _ (J : Instance) (valid : IsValid J) where
   -- ---- each item may stand
@@ -309,13 +310,17 @@ module _ (J : Instance) (valid : IsValid J) where
   pub run_session_valid : may_finish_early J.rules.version ≡ true → IsValidSession (session_of_run J)
   run_session_valid three = record {
     jobs = valid_run;
-    count = let most : length J.jobs ≤ 1_000_000 = valid.count in omega (
+    count = few;
+    items = follows_run three (run J) [] (opening J.jobs) refl (run_is_whole J valid) 0 (omega arith);
+  } where
+    few : length (session_of_run J).items ≤ most_items J.rules.version
+    few = omega (
       arith,
+      valid.count,
+      items_enough J.rules.version,
       shown_few (run J),
       shown_most (run J),
       few_printed J valid,
       run_releases J valid,
       runs_complete J valid,
-    );
-    items = follows_run three (run J) [] (opening J.jobs) refl (run_is_whole J valid) 0 (omega arith);
-  }
+    )

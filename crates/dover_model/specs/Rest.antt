@@ -12,10 +12,6 @@ use Rattle.dover_model.specs.Run.{run, printed, completed_value}
 use Rattle.dover_model.specs.Settled.{settled_state}
 use Rattle.dover_model.specs.Observed.{observed}
 
--- other jobs under the same rules
-abbrev pub instead : Instance → List JobFacts → Instance
-instead J more = record { rules = J.rules; jobs = more }
-
 -- each finish is of a job of the instance
 abbrev pub AreOwn : Instance → Type 0
 AreOwn J = Each (λ f. f.number < length J.jobs) J.rules.finishes

@@ -41,10 +41,6 @@ abbrev pub HasSpentFreely : ℕ → State → (start now : ℕ) → Type 0
 HasSpentFreely n s start now =
     (d : ℕ) → n + 1 < 2 ^ d → now ≤ start + 20 * d * ((4 * n + waiting_count s) - 2 * exits_freely s)
 
--- the same where the state has all jobs
-abbrev pub HasSpent : State → (start now : ℕ) → Type 0
-HasSpent s start now = HasSpentFor (length s.tasks) s start now
-
 -- the comparisons of a call that serves n jobs are few
 abbrev pub CostsAtMost : (n before after : ℕ) → Type 0
 CostsAtMost n before after = (d : ℕ) → n + 1 < 2 ^ d → after ≤ before + 80 * (n + 1) * d

@@ -15,6 +15,7 @@ pub enum Version {
 
 impl Version {
     ghost use Rattle.std.specs.Prelude.{◌≡◌};
+    ghost use Rattle.dover_model.specs.Limits as limits;
     ghost use Rattle.dover_model.specs.Session as session;
     ghost use Rattle.dover_model.specs.Verdict.{version_of_number};
 
@@ -27,6 +28,50 @@ impl Version {
             2 => Some(Version::Two),
             3 => Some(Version::Three),
             _ => None,
+        }
+    }
+
+    /// How many jobs there may be.
+    #[inline(always)]
+    pub fn most_jobs(self) -> u32
+        ensures { result ≡ limits.most_jobs self }
+    {
+        match self {
+            Version::One | Version::Two => 1_000_000,
+            Version::Three => 4_000_000_000,
+        }
+    }
+
+    /// The greatest sum of the values of all jobs.
+    #[inline(always)]
+    pub fn most_total(self) -> u64
+        ensures { result ≡ limits.most_total self }
+    {
+        match self {
+            Version::One | Version::Two => 10_000_000_000_000,
+            Version::Three => 999_999_999_999_999_999,
+        }
+    }
+
+    /// How many lines a feed may have.
+    #[inline(always)]
+    pub fn most_lines(self) -> u64
+        ensures { result ≡ limits.most_lines self }
+    {
+        match self {
+            Version::One | Version::Two => 4_000_000,
+            Version::Three => 16_000_000_000,
+        }
+    }
+
+    /// How many items a session may have: the lines of a feed but the first and the last.
+    #[inline(always)]
+    pub fn most_items(self) -> u64
+        ensures { result ≡ limits.most_items self }
+    {
+        match self {
+            Version::One | Version::Two => 3_999_998,
+            Version::Three => 15_999_999_998,
         }
     }
 
@@ -58,9 +103,9 @@ impl Version {
 pub enum Refusal {
     /// Its release, work, deadline or value is out of the limits, or it can't be done from its release on.
     BadJob,
-    /// There are 1,000,000 admitted jobs already.
+    /// As many jobs are admitted as there may be: 1,000,000, in version Three 4,000,000,000.
     Count,
-    /// With it the values of the admitted jobs would sum up to more than 10^13.
+    /// With it the values of the admitted jobs would sum up to more than 10^13, in version Three to 10^18 or more.
     Total,
     /// Its value per tick of work and that of an admitted job differ by more than the declared ratio.
     Ratio,

@@ -91,10 +91,10 @@ module _ (lines : ℕ) (S : Session) (mark : ℕ) (standing : Standing) where
 
     by_order : (b : Bool) → HasAtLeast n
         (with_line at (JobLine j)
-        (cond b (Some (late_cause S.rules.version)) (option_map NotAdmitted (refusal_of S.rules.ratio
+        (cond b (Some (late_cause S.rules.version)) (option_map NotAdmitted (refusal_of S.rules
         (admitted_jobs S.items) j))))
     by_order true = by_late (late_refusal S.rules.version)
-    by_order false = by_refusal (refusal_of S.rules.ratio (admitted_jobs S.items) j)
+    by_order false = by_refusal (refusal_of S.rules (admitted_jobs S.items) j)
 
   -- a done line
   done_keeps : (t m : ℕ) → HasAtLeast n (with_line at (DoneLine t m) (later_line_cause S mark (DoneLine t m)))
@@ -136,7 +136,7 @@ module _ (lines : ℕ) (S : Session) (mark : ℕ) (standing : Standing) where
 
   -- any line
   read_keeps : (l : List ℕ) → HasAtLeast n (read_line at l)
-  read_keeps l = by_count (nat_lt most_lines lines) (feed_line l) where
+  read_keeps l = by_count (nat_lt (most_lines S.rules.version) lines) (feed_line l) where
     by_count : (b : Bool) (o : Option FeedLine) → HasAtLeast n (cond b (with_fault at Lines)
         (elim o [ None ↦ with_fault at Line | Some line ↦ with_line at line (later_line_cause S mark line) ]))
     by_count true o = (S, refl, omega arith)

@@ -3,7 +3,6 @@ use Rattle.std.proofs.Common.{◌≡◌, ℕ, suc, ◌+◌, List, [], ◌∷◌,
 use Rattle.std.proofs.Common.{None, arith}
 use Rattle.std.specs.List.{fold}
 use Rattle.std.specs.Prelude.{nat_lt}
-use Rattle.dover_model.specs.Limits.{most_lines}
 use Rattle.dover_model.specs.declared.events.Refusal.{Refusal}
 use Rattle.dover_model.specs.JobFacts.{JobFacts}
 use Rattle.dover_model.specs.Session.{Session, refuses_lines, refused_at}
@@ -12,6 +11,7 @@ use Rattle.dover_model.specs.Feed as model
 use Rattle.dover_model.specs.Feed.{Account, Cause, Standing, Open, Ended, Faulty}
 use Rattle.dover_model.specs.Feed.{cause_of, with_line, with_fault, with_item_in, with_refused_job, read_line}
 use Rattle.dover_model.specs.Feed.{next_line, no_lines, account_of_lines, NotAdmitted}
+use Rattle.dover_model.specs.Feed.{most_lines_in}
 
 -- the account after a refused job
 abbrev after_refusal : Account → JobFacts → Refusal → Option Session → Account
@@ -62,7 +62,7 @@ after_form a (Some line) = with_line a line (cause_of a line)
 
 -- nor does any line
 read_lines : (a : Account) (bytes : List ℕ) → (read_line a bytes).lines ≡ a.lines
-read_lines a bytes = by_count (nat_lt most_lines a.lines) (feed_line bytes) where
+read_lines a bytes = by_count (nat_lt (most_lines_in a.session) a.lines) (feed_line bytes) where
   by_count : (many : Bool) (line : Option FeedLine)
       → (cond many (with_fault a model.Lines) (after_form a line)).lines ≡ a.lines
   by_count true line = refl

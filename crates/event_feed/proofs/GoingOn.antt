@@ -7,13 +7,15 @@ use Rattle.std.specs.List.{fold}
 use Rattle.std.proofs.lemmas.Bool.{ltb-false, ltb-true}
 use Rattle.std.proofs.lemmas.List.{append-nil}
 use Rattle.dover_model.specs.Limits.{most_lines}
+use Rattle.dover_model.specs.declared.events.Version.TheVariants.{Three}
 use Rattle.dover_model.specs.Lines.{in_lines, lines_of, whole_lines, rest_of, is_too_long, fields_of}
 use Rattle.dover_model.specs.FeedLine.{FeedLine, feed_line, line_of_fields}
 use Rattle.dover_model.specs.Session.{Session}
 use Rattle.dover_model.specs.Feed.{Account, Standing, Open, Ended, Faulty, Lines, Short, Cause, no_lines, is_open}
-use Rattle.dover_model.specs.Feed.{next_line, read_line, with_fault, account}
+use Rattle.dover_model.specs.Feed.{next_line, read_line, with_fault, account, most_lines_in}
 use Rattle.dover_model.specs.Due.{due, closed, fault_text}
 use Rattle.dover_model.proofs.Accounts.{account_append}
+use Rattle.dover_model.proofs.Limiting.{lines_most_in}
 use Rattle.line_text.proofs.Lengths.{AreNotTooLong, text_few}
 use Rattle.event_feed.proofs.Counting.{after_form, next_counted, all_counted}
 
@@ -50,18 +52,25 @@ never_open : (a : Account) (cause : Cause) → (with_fault a cause).standing ≡
 never_open a cause opened = let e : Faulty a.lines cause ≡ Open = opened in cc
 
 -- where an account goes on after a line, the line was counted, and was no longer than a line may be
-read_good : (a : Account) (l : List ℕ) → (read_line a l).standing ≡ Open → (a.lines ≤ most_lines) × (length l ≤ 128)
-read_good a l opened = by_count (nat_lt most_lines a.lines) (feed_line l) refl refl opened where
-  by_count : (b : Bool) (o : Option FeedLine) → nat_lt most_lines a.lines ≡ b → feed_line l ≡ o
-      → (cond b (with_fault a Lines) (after_form a o)).standing ≡ Open → (a.lines ≤ most_lines) × (length l ≤ 128)
+read_good : (a : Account) (l : List ℕ) → (read_line a l).standing ≡ Open
+    → (a.lines ≤ most_lines Three) × (length l ≤ 128)
+read_good a l opened = by_count (nat_lt most a.lines) (feed_line l) refl refl opened where
+  most : ℕ
+  most = most_lines_in a.session
+
+  by_count : (b : Bool) (o : Option FeedLine) → nat_lt most a.lines ≡ b → feed_line l ≡ o
+      → (cond b (with_fault a Lines) (after_form a o)).standing ≡ Open → (a.lines ≤ most_lines Three) × (length l ≤ 128)
   by_count true o many read on = absurd (never_open a _ on)
   by_count false None few read on = absurd (never_open a _ on)
-  by_count false (Some line) few read on = (ltb-false _ _ few, read_short l line read)
+  by_count false (Some line) few read on = (
+    omega (arith, ltb-false _ _ few, lines_most_in a.session),
+    read_short l line read,
+  )
 
 -- the same of the next line
 next_good : (lines : ℕ) (session : Option Session) (mark : ℕ) (standing : Standing) (l : List ℕ)
     → (next_line (record { lines = lines; session = session; mark = mark; standing = standing }) l).standing ≡ Open
-    → (suc lines ≤ most_lines) × (length l ≤ 128)
+    → (suc lines ≤ most_lines Three) × (length l ≤ 128)
 next_good lines session mark Open l opened =
     read_good (record { lines = suc lines; session = session; mark = mark; standing = Open }) l opened
 next_good lines session mark Ended l opened = absurd (let e : Ended ≡ Open = opened in cc)
@@ -69,14 +78,14 @@ next_good lines session mark (Faulty line cause) l opened = absurd (let e : Faul
 
 -- the lines of an account that goes on are few and short
 lines_good : (ls : List (List ℕ)) (a : Account) → (fold next_line a ls).standing ≡ Open
-    → AreNotTooLong ls × (a.lines ≤ most_lines → a.lines + length ls ≤ most_lines)
+    → AreNotTooLong ls × (a.lines ≤ most_lines Three → a.lines + length ls ≤ most_lines Three)
 lines_good [] a opened = (tt, λ few. omega arith)
 lines_good (l ∷ ls) a opened =
     let on : (next_line a l).standing ≡ Open = (all_counted ls (next_line a l) opened).0 in
     let good = next_good a.lines a.session a.mark a.standing l on in
     let count : (next_line a l).lines ≡ suc a.lines = (next_counted a.lines a.session a.mark a.standing l on).1 in
     let rest = lines_good ls (next_line a l) opened in
-    let all : (next_line a l).lines + length ls ≤ most_lines = rest.1 (omega (arith, good.0)) in
+    let all : (next_line a l).lines + length ls ≤ most_lines Three = rest.1 (omega (arith, good.0)) in
     ((good.1, rest.0), λ few. omega arith)
 
 -- the last of lines of which none is too long isn't
@@ -97,11 +106,16 @@ open_short x opened = by (is_too_long (rest_of x)) refl where
       absurd (omega (arith, few, ltb-true 128 (length (rest_of x)) is))
 
 -- a feed that goes on has at most so many bytes
-pub open_bytes : (x : List ℕ) → (account x).standing ≡ Open → is_too_long (rest_of x) ≡ false → length x < 516_000_129
+pub open_bytes : (x : List ℕ) → (account x).standing ≡ Open → is_too_long (rest_of x) ≡ false
+    → length x < 2_064_000_000_129
 open_bytes x opened short =
     let whole : lines_of x ≡ whole_lines x = ap (λ b. whole_lines x ++ cond b (rest_of x ∷ []) []) short
     ∙ append-nil (whole_lines x) in
     let good = lines_good (lines_of x) no_lines opened in
-    let few : 0 + length (whole_lines x) ≤ most_lines =
-    subst (λ ls. 0 + length ls ≤ most_lines) whole (good.1 (omega arith)) in
-    omega (arith, text_few x most_lines (subst AreNotTooLong whole good.0) (omega (arith, few)) (ltb-false _ _ short))
+    let few : 0 + length (whole_lines x) ≤ most_lines Three =
+    subst (λ ls. 0 + length ls ≤ most_lines Three) whole (good.1 (omega arith)) in
+    omega (
+      arith,
+      text_few x (most_lines Three) (subst AreNotTooLong whole good.0) (omega (arith, few))
+          (ltb-false _ _ short),
+    )

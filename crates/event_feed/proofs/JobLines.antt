@@ -16,7 +16,6 @@ use Rattle.dover_model.specs.Session.{late_refusal}
 use Rattle.dover_model.specs.FeedLine.{JobLine}
 use Rattle.dover_model.specs.Feed.{Account, NotAdmitted, Order, late_cause, cause_of, with_fault, with_line}
 use Rattle.dover_model.specs.Feed.{with_item_in}
-use Rattle.dover_model.specs.Feed.{rules_with}
 use Rattle.dover_model.proofs.Growing.{job_instance, refused_instance}
 use Rattle.admission.specs.Kept as admission
 use Rattle.admission.specs.Answers as answers
@@ -77,7 +76,7 @@ module _ (lines : ℕ) (S : Session) (mark : ℕ) (j : JobFacts) where
   -- its cause
   late_line_cause : j.release < mark → cause_of before (JobLine j) ≡ Some (late_cause S.rules.version)
   late_line_cause late =
-      ap (λ b. cond b (Some (late_cause S.rules.version)) (option_map NotAdmitted (refusal_of S.rules.ratio
+      ap (λ b. cond b (Some (late_cause S.rules.version)) (option_map NotAdmitted (refusal_of S.rules
       (admitted_jobs S.items) j)))
       (lt-ltb _ _ late)
 
@@ -87,7 +86,7 @@ module _ (lines : ℕ) (S : Session) (mark : ℕ) (j : JobFacts) where
       → Takes (JobLine j) lines S mark kept (Ok (fed.Refused j.release j.work j.deadline j.value Late))
   takes_late kept it late version numerals =
       takes_alone kept it (ap refuses_lines version) numerals Late
-      (ap (λ b. cond b (late_refusal S.rules.version) (refusal_of S.rules.ratio (admitted_jobs S.items) j))
+      (ap (λ b. cond b (late_refusal S.rules.version) (refusal_of S.rules (admitted_jobs S.items) j))
       (lt-ltb _ _ late)
       ∙ ap late_refusal version)
       (late_line_cause late ∙ ap (λ v. Some (late_cause v)) version)
@@ -110,27 +109,26 @@ module _ (lines : ℕ) (S : Session) (mark : ℕ) (j : JobFacts) (no_fall : mark
   on_time = open_account lines (Some S) mark
 
   -- its cause is that of the admission
-  job_cause : (refusal : Option Refusal) → refusal_of S.rules.ratio (admitted_jobs S.items) j ≡ refusal
+  job_cause : (refusal : Option Refusal) → refusal_of S.rules (admitted_jobs S.items) j ≡ refusal
       → cause_of on_time (JobLine j) ≡ option_map NotAdmitted refusal
   job_cause refusal is =
-      ap (λ b. cond b (Some (late_cause S.rules.version)) (option_map NotAdmitted (refusal_of S.rules.ratio
+      ap (λ b. cond b (Some (late_cause S.rules.version)) (option_map NotAdmitted (refusal_of S.rules
       (admitted_jobs S.items) j)))
       (le-ltb _ _ no_fall)
       ∙ ap (option_map NotAdmitted) is
 
   -- the job is admitted
-  pub takes_job : (kept new : KeptSession) (number : ℕ) → IsKeptOf kept S mark → new.version ≡ kept.version
-      → new.admission.ratio ≡ kept.admission.ratio → new.mark ≡ j.release
+  pub takes_job : (kept new : KeptSession) (number : ℕ) → IsKeptOf kept S mark
+      → new.admission.rules ≡ kept.admission.rules → new.mark ≡ j.release
       → ((jobs : List JobFacts) → admission.StandsFor kept.admission jobs
       → admission.StandsFor new.admission (jobs ++ j ∷ []))
-      → refusal_of S.rules.ratio (admitted_jobs S.items) j ≡ None → number ≡ kept.admission.count
+      → refusal_of S.rules (admitted_jobs S.items) j ≡ None → number ≡ kept.admission.count
       → Takes (JobLine j) lines S mark new (Ok (fed.Job number j))
-  takes_job kept new number it version ratio marked stands none counts =
+  takes_job kept new number it same marked stands none counts =
       subst (λ b. IsTaken (Some new) (Some (JobLine j)) on_time b (Ok (fed.Job number j)))
       (sym (ap (with_line on_time (JobLine j)) (job_cause None none))) (record {
         keeps = record {
-          rules = it.rules ∙ ap (λ k. rules_with k kept.version) (sym ratio)
-              ∙ ap (rules_with new.admission.ratio) (sym version);
+          rules = it.rules ∙ sym same;
           jobs = subst (admission.StandsFor new.admission) (sym (ap (λ J. J.jobs) (job_instance S j)))
               (stands (admitted_jobs S.items) it.jobs);
           marked = marked;
@@ -148,11 +146,11 @@ module _ (lines : ℕ) (S : Session) (mark : ℕ) (j : JobFacts) (no_fall : mark
   -- the line of a refused job is handed in, from version Two on
   pub takes_refused : (kept : KeptSession) → IsKeptOf kept S mark → refuses_lines S.rules.version ≡ true
       → AreShort (job_numbers j) → (refusal : Refusal)
-      → refusal_of S.rules.ratio (admitted_jobs S.items) j ≡ Some refusal
+      → refusal_of S.rules (admitted_jobs S.items) j ≡ Some refusal
       → Takes (JobLine j) lines S mark kept (Ok (fed.Refused j.release j.work j.deadline j.value refusal))
   takes_refused kept it alone numerals refusal is =
       takes_alone lines S mark j kept it alone numerals refusal
-      (ap (λ b. cond b (late_refusal S.rules.version) (refusal_of S.rules.ratio (admitted_jobs S.items) j))
+      (ap (λ b. cond b (late_refusal S.rules.version) (refusal_of S.rules (admitted_jobs S.items) j))
       (le-ltb _ _ no_fall) ∙ is)
       (job_cause (Some refusal) is)
 
@@ -174,7 +172,7 @@ module _ (lines : ℕ) (S : Session) (mark : ℕ) (j : JobFacts) (no_fall : mark
 
   -- the line of a refused job is at fault, in version One
   pub takes_fault : (kept : KeptSession) → IsKeptOf kept S mark → S.rules.version ≡ One → (refused : Refused)
-      → refusal_of S.rules.ratio (admitted_jobs S.items) j ≡ Some (answers.refusal_of_refused refused)
+      → refusal_of S.rules (admitted_jobs S.items) j ≡ Some (answers.refusal_of_refused refused)
       → answers.NamesOther S.rules.ratio (admitted_jobs S.items) j refused
       → Takes (JobLine j) lines S mark kept (Err (cause_of_refused refused))
   takes_fault kept it version refused is other =

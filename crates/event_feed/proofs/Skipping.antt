@@ -14,10 +14,11 @@ use Rattle.dover_model.proofs.FeedLines.{feed_line-feed_text}
 use Rattle.dover_model.proofs.Accounts.{HoldsBy, HoldsOpen, Holds, IsKept, lines_goes}
 use Rattle.event_feed.specs.declared.intake.Standing.TheVariants as standings
 use Rattle.event_feed.specs.declared.kept_session.KeptSession.{KeptSession}
-use Rattle.event_feed.specs.Kept.{Kept, KeepsSession, KeepsAccount, StandsFor, IsGoing, HasLines, standing_of, fault_of}
+use Rattle.event_feed.specs.Kept.{Kept, KeepsSession, KeepsAccount, StandsFor, IsGoing, HasLines, standing_of}
+use Rattle.event_feed.specs.Kept.{fault_of, most_lines_of}
 use Rattle.event_feed.specs.Reading.{open_account}
 use Rattle.event_feed.proofs.Counting.{after_form}
-use Rattle.event_feed.proofs.Taking.{goes_on}
+use Rattle.event_feed.proofs.Taking.{goes_on, kept_most}
 
 -- the mark of an open account with a session is a tick
 pub mark_known : (ls : List (List ℕ)) (S : Session) → (account_of_lines ls).standing ≡ Open
@@ -39,7 +40,7 @@ no_cause mark known = ap (λ b. b || nat_lt last_tick mark) (le-ltb mark mark (o
     ∙ le-ltb last_tick mark known
 
 -- one such line
-one_tick : (lines : ℕ) (S : Session) (mark : ℕ) → mark ≤ last_tick → suc lines ≤ most_lines
+one_tick : (lines : ℕ) (S : Session) (mark : ℕ) → mark ≤ last_tick → suc lines ≤ most_lines S.rules.version
     → next_line (open_account lines (Some S) mark) (feed_text (TickLine mark)) ≡ open_account (suc lines) (Some S) mark
 one_tick lines S mark known few =
     let a : Account = open_account (suc lines) (Some S) mark in
@@ -50,7 +51,7 @@ one_tick lines S mark known few =
     ∙ ap (λ b. with_line a (TickLine mark) (cond b (Some Order) None)) (no_cause mark known)
 
 -- so many
-pub ticks : (n lines : ℕ) (S : Session) (mark : ℕ) → mark ≤ last_tick → lines + n ≤ most_lines
+pub ticks : (n lines : ℕ) (S : Session) (mark : ℕ) → mark ≤ last_tick → lines + n ≤ most_lines S.rules.version
     → fold next_line (open_account lines (Some S) mark) (replicate n (feed_text (TickLine mark))) ≡ open_account
     (lines + n) (Some S) mark
 ticks zero lines S mark known few = ap (λ m. open_account m (Some S) mark) (sym (add-zero lines))
@@ -62,7 +63,7 @@ ticks (suc n) lines S mark known few =
 -- the account of so many lines more
 pub ticks_account : (ls : List (List ℕ)) (n : ℕ) (S : Session) → (account_of_lines ls).standing ≡ Open
     → (account_of_lines ls).session ≡ Some S
-    → (account_of_lines ls).lines + n ≤ most_lines
+    → (account_of_lines ls).lines + n ≤ most_lines S.rules.version
     → account_of_lines (ls ++ replicate n (feed_text (TickLine (account_of_lines ls).mark)))
     ≡ open_account ((account_of_lines ls).lines + n) (Some S) (account_of_lines ls).mark
 ticks_account ls n S opened session few =
@@ -98,10 +99,13 @@ keeps_ticks kept ls n going few it =
     let opened : a.standing ≡ Open = sym it.by_account.standing ∙ ap standing_of going_on in
     let some : (S : Session) × (a.session ≡ Some S) =
     some_session kept.session a.session a.mark going.declared it.by_account.session in
+    let most : most_lines_of kept.session ≡ most_lines some.0.rules.version =
+    kept_most kept.session (Some some.0) a.mark
+    (subst (λ s. KeepsSession kept.session s a.mark) some.1 it.by_account.session) in
     record {
       by_account = subst (KeepsAccount
           (record { lines = kept.lines + n; session = kept.session; standing = kept.standing }))
-          (sym (ticks_account ls n some.0 opened some.1 (omega (arith, it.by_account.counted, few)))) (record {
+          (sym (ticks_account ls n some.0 opened some.1 (omega (arith, it.by_account.counted, few, most)))) (record {
             counted = ap (λ m. m + n) it.by_account.counted;
             session = subst (λ s. KeepsSession kept.session s a.mark) some.1 it.by_account.session;
             standing = ap standing_of going_on;

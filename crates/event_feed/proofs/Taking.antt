@@ -5,10 +5,12 @@ use Rattle.std.specs.Prelude.{IsSome}
 use Rattle.std.proofs.lemmas.Bool.{le-ltb}
 use Rattle.std.proofs.lemmas.List.Sums.{fold-append}
 use Rattle.dover_model.specs.Limits.{most_lines}
+use Rattle.dover_model.specs.Session.{Session}
 use Rattle.dover_model.specs.FeedLine.{FeedLine, feed_line}
 use Rattle.dover_model.specs.Feed as model
 use Rattle.dover_model.specs.Feed.{Account, Standing, Open, Ended, cause_of, with_line}
 use Rattle.dover_model.specs.Feed.{with_fault, read_line, next_line, no_lines, is_open, account_of_lines}
+use Rattle.dover_model.specs.Feed.{most_lines_in}
 use Rattle.event_feed.specs.declared.faults.Cause.{Cause}
 use Rattle.event_feed.specs.declared.faults.FeedFault.{FeedFault}
 use Rattle.event_feed.specs.declared.intake.Standing as standings
@@ -16,15 +18,24 @@ use Rattle.event_feed.specs.declared.intake.Standing.TheVariants as kept
 use Rattle.event_feed.specs.declared.kept_session.KeptSession.{KeptSession}
 use Rattle.event_feed.specs.declared.fed.Fed.{Fed}
 use Rattle.event_feed.specs.declared.fed.Fed.TheVariants as feds
+use Rattle.event_feed.specs.Kept.{KeepsSession, most_lines_of}
 use Rattle.event_feed.specs.Kept.{KeepsAccount, StandsFor, IsGoing, cause_of_fault, fault_of, has_ended, standing_of}
 use Rattle.event_feed.specs.Answers.{counted, Answers, IsFed}
 use Rattle.event_feed.proofs.DoneLines.{done_standing, done_lines}
 use Rattle.event_feed.specs.Reading.{open_account, IsTaken, TakesIn}
 
+-- a session that is kept has as many lines as its version allows
+pub kept_most : (kept : Option KeptSession) (session : Option Session) (mark : ℕ) → KeepsSession kept session mark
+    → most_lines_of kept ≡ most_lines_in session
+kept_most None None mark keeps = refl
+kept_most None (Some S) mark keeps = absurd keeps
+kept_most (Some kept) None mark keeps = absurd keeps
+kept_most (Some kept) (Some S) mark keeps = ap (λ r. most_lines r.version) (sym keeps.rules)
+
 -- what is taken of a line's form is taken of the line
 pub taken_line : (a : Account) (bytes : List ℕ) (line : FeedLine) (kept : Option KeptSession)
     (answer : Result Fed Cause) → a.standing ≡ Open
-    → a.lines ≤ most_lines → feed_line bytes ≡ Some line
+    → a.lines ≤ most_lines_in a.session → feed_line bytes ≡ Some line
     → TakesIn (open_account a.lines a.session a.mark) line kept answer
     → IsTaken kept (feed_line bytes) a (read_line a bytes) answer
 taken_line a bytes line kept answer opened few read it =

@@ -43,7 +43,7 @@ pub record AddsJob (number : ℕ) (job : JobFacts) (a after : Account) : Type 0 
   pub before_is : a.session ≡ Some session
   pub after_is : after ≡ record a { session = Some (with_item session (JobItem job)); mark = job.release }
   pub numbered : number ≡ length (admitted_jobs session.items)
-  pub admitted : refusal_of session.rules.ratio (admitted_jobs session.items) job ≡ None
+  pub admitted : refusal_of session.rules (admitted_jobs session.items) job ≡ None
   pub no_fall : a.mark ≤ job.release
 
 -- the mark is this tick

@@ -1,10 +1,11 @@
 -- What is kept of the lines of a feed, and for which lines it stands.
 use Rattle.std.specs.Prelude.{◌≡◌, ℕ, ◌+◌, ◌≤◌, List, Bool, true, false, Option, Some, None, IsSome}
 use Rattle.dover_model.specs.Limits.{most_lines}
+use Rattle.dover_model.specs.declared.events.Version.TheVariants.{Three}
 use Rattle.dover_model.specs.declared.events.Refusal.TheVariants as refusal
 use Rattle.dover_model.specs.Session.{Session, admitted_jobs}
 use Rattle.dover_model.specs.Feed as model
-use Rattle.dover_model.specs.Feed.{Account, rules_with, account_of_lines}
+use Rattle.dover_model.specs.Feed.{Account, account_of_lines}
 use Rattle.admission.specs.Kept as admission
 use Rattle.admission.specs.declared.refused.Refused.{Refused}
 use Rattle.admission.specs.declared.refused.Refused.TheVariants as refused
@@ -47,7 +48,7 @@ pub record Kept : Type 0 where
 
 -- the ratio and the version, the admitted jobs, and the mark
 pub record IsKeptOf (kept : KeptSession) (S : Session) (mark : ℕ) : Type 0 where
-  pub rules : S.rules ≡ rules_with kept.admission.ratio kept.version
+  pub rules : S.rules ≡ kept.admission.rules
   pub jobs : admission.StandsFor kept.admission (admitted_jobs S.items)
   pub marked : kept.mark ≡ mark
 
@@ -90,12 +91,17 @@ pub record IsGoing (kept : Kept) : Type 0 where
   pub no_fault : fault_of kept ≡ None
   pub not_ended : has_ended kept ≡ false
 
+-- how many lines there may be, once a version is declared
+abbrev pub most_lines_of : Option KeptSession → ℕ
+most_lines_of None = 1
+most_lines_of (Some kept) = most_lines kept.admission.rules.version
+
 -- a feed may have so many lines more
 abbrev pub HasLines : Kept → ℕ → Type 0
-HasLines kept more = kept.lines + more ≤ most_lines
+HasLines kept more = kept.lines + more ≤ most_lines_of kept.session
 
--- no line is counted that a feed may not have, but for the one that is at fault for that
+-- no line is counted that no feed may have, but for the one that is at fault for that
 abbrev pub IsCounted : Standing → ℕ → Type 0
-IsCounted Open lines = lines ≤ most_lines
-IsCounted Over lines = lines ≤ most_lines
-IsCounted (Faulty fault) lines = lines ≤ most_lines + 1
+IsCounted Open lines = lines ≤ most_lines Three
+IsCounted Over lines = lines ≤ most_lines Three
+IsCounted (Faulty fault) lines = lines ≤ most_lines Three + 1

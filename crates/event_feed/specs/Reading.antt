@@ -57,5 +57,5 @@ pub record Refuses (kept : KeptSession) (S : Session) (mark : ℕ) (j : JobFacts
   pub kept_of : IsKeptOf kept S mark
   pub numerals : AreShort (job_numbers j)
   pub no_fall : mark ≤ j.release
-  pub refusal : refusal_of S.rules.ratio (admitted_jobs S.items) j ≡ Some (refusal_of_refused refused)
+  pub refusal : refusal_of S.rules (admitted_jobs S.items) j ≡ Some (refusal_of_refused refused)
   pub other : admission.NamesOther S.rules.ratio (admitted_jobs S.items) j refused

@@ -5,7 +5,7 @@ use thiserror::Error;
 /// Why a line is at fault. The first of these causes that holds is the one that is answered.
 #[derive(Clone, Copy, Debug, PartialEq, Eq)]
 pub enum Cause {
-    /// The line's number is above 4,000,000.
+    /// The line's number is above 4,000,000, in version Three above 16,000,000,000.
     Lines,
     /// The line is longer than 128 bytes, or has none of the forms. A done line has one in version Three alone.
     Line,

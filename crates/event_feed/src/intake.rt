@@ -2,12 +2,13 @@
 ghost use Rattle.std.specs.Prelude.{◌≡◌, ℕ, List, [], ◌∷◌, ◌++◌, ◌↔◌, true, false, Option, IsOk, IfOk, OnOk, IsSome};
 ghost use Rattle.std.specs.Prelude.{IfSome, Some, None, ◌≤◌, ◌+◌, replicate};
 ghost use Rattle.std.specs.Option.{option_map};
+ghost use Rattle.dover_model.specs.declared.events.Version.TheVariants.{Three};
 ghost use Rattle.dover_model.specs.Limits.{most_lines};
 ghost use Rattle.dover_model.specs.Session.{Session};
 ghost use Rattle.dover_model.specs.FeedLine as form;
 ghost use Rattle.dover_model.specs.Feed.{Account, Open, account_of_lines, read_line, rules_with, first_line_cause};
 ghost use Rattle.job_format.specs.Form.{form_of};
-ghost use Rattle.event_feed.specs.Kept.{KeepsSession, cause_of_fault};
+ghost use Rattle.event_feed.specs.Kept.{KeepsSession, cause_of_fault, most_lines_of};
 ghost use Rattle.event_feed.specs.Answers.{NamesOther};
 ghost use Rattle.event_feed.specs.Reading.{first_rules, open_account, TakesIn, IsTaken};
 
@@ -19,9 +20,6 @@ use dover_model::{Ratio, Version};
 use job_format::{FeedLine, read_feed_line};
 use line_text::Spelled;
 use std::marker::Model;
-
-/// How many lines a feed may have.
-const MOST_LINES: u64 = 4_000_000;
 
 /// Whether a feed goes on.
 #[derive(Clone, Copy)]
@@ -100,17 +98,29 @@ fn keep_numbers(spelled: &mut Spelled, line: &[u8], read: &FeedLine)
     }
 }
 
+/// How many lines there may be, once a version is declared: the first line has to declare it.
+#[inline(always)]
+fn most_lines(session: &Option<KeptSession>) -> u64
+    ensures is { result ≡ most_lines_of session.now }
+    ensures known { result ≤ most_lines Three }
+{
+    match session {
+        Some(kept) => kept.version().most_lines(),
+        None => 1,
+    }
+}
+
 /// A line of one of the forms or of none, which is counted already.
 #[inline(always)]
 fn read(session: &mut Option<KeptSession>, lines: u64, line: Option<FeedLine>) -> Result<Fed, Cause>
     requires { IfSome line (λ l. form.HasNumerals (form_of l)) }
-    ensures few { OnOk result (lines ≤ most_lines) }
+    ensures few { OnOk result (lines ≤ most_lines Three) }
     ensures declared { OnOk result (IsSome session.new) }
     ensures taken { (a : Account) (text : List ℕ) → form.feed_line text ≡ option_map form_of line →
         a.standing ≡ Open → a.lines ≡ lines → KeepsSession session.old a.session a.mark →
         IsTaken session.new (form.feed_line text) a (read_line a text) result }
 {
-    if lines > MOST_LINES {
+    if lines > most_lines(session) {
         return Err(Cause::Lines);
     }
     match line {

@@ -12,16 +12,13 @@ ghost use Rattle.event_feed.specs.Reading.{Refuses, Takes};
 use crate::faults::Cause;
 use crate::fed::Fed;
 use admission::{Admission, Refused};
+use dover_model::jobs::LAST_TICK;
 use dover_model::{Ratio, Refusal, Version};
 use job_format::FeedLine;
 
-/// The last tick that a tick line may name.
-const LAST_TICK: u64 = 1_000_000_000_000;
-
-/// The version, the jobs that were admitted, as far as the next one needs them, and the mark.
+/// The jobs that were admitted, as far as the next one needs them, and the mark.
 #[derive(Drop)]
 pub struct KeptSession {
-    version: Version,
     admission: Admission,
     mark: u64,
 }
@@ -32,8 +29,7 @@ impl KeptSession {
         ensures { IsKeptOf result (new_session (rules_with ratio version)) 0 }
     {
         KeptSession {
-            version,
-            admission: Admission::new(ratio),
+            admission: Admission::new(version, ratio),
             mark: 0,
         }
     }
@@ -43,6 +39,14 @@ impl KeptSession {
         ensures { result ≡ self.now.mark }
     {
         self.mark
+    }
+
+    /// The version.
+    #[inline(always)]
+    pub fn version(&self) -> Version
+        ensures { result ≡ self.now.admission.rules.version }
+    {
+        self.admission.version()
     }
 
     /// The job line of these numbers, which isn't admitted.
@@ -59,7 +63,7 @@ impl KeptSession {
             → Refuses self.now S mark (job_of_numbers release work deadline value) refused →
             Takes (JobLine (job_of_numbers release work deadline value)) lines S mark self.now result }
     {
-        match self.version {
+        match self.admission.version() {
             Version::One => Err(Cause::of(refused)),
             Version::Two | Version::Three => Ok(Fed::Refused {
                 release,
@@ -78,7 +82,7 @@ impl KeptSession {
         ensures { (lines : ℕ) (S : Session) (mark : ℕ) → IsKeptOf self.now S mark → release < mark →
             Takes (JobLine (job_of_numbers release work deadline value)) lines S mark self.now result }
     {
-        match self.version {
+        match self.admission.version() {
             Version::One | Version::Two => Err(Cause::Order),
             Version::Three => Ok(Fed::Refused {
                 release,
@@ -143,7 +147,7 @@ impl KeptSession {
         ensures { (lines : ℕ) (S : Session) (mark : ℕ) → IsKeptOf self.old S mark
             → Takes (DoneLine at number) lines S mark self.new result }
     {
-        match self.version {
+        match self.admission.version() {
             Version::One | Version::Two => Err(Cause::Line),
             Version::Three => self.finish(at, number),
         }

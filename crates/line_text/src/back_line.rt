@@ -5,7 +5,7 @@ ghost use Rattle.line_text.specs.Writing.{numbers_behind};
 
 use crate::LINE_BYTES;
 use crate::spelled::{SPELLED_BYTES, Spelled};
-use itoa::write_digits;
+use itoa::{Buffer, write_digits};
 use std::marker::Model;
 
 /// The bytes of one line with its line feed. What is written goes before what it has, so the last field comes first.
@@ -89,6 +89,16 @@ impl BackLine {
         ensures { self.new ≡ decimal number ++ self.old }
     {
         self.start = write_digits(number, &mut self.bytes, self.start);
+    }
+
+    /// Writes a number of at most 39 digits.
+    pub fn put_long(&mut self, number: u128)
+        requires { 39 + length self.old ≤ most_written }
+        ensures is { self.new ≡ decimal number ++ self.old }
+        ensures size { length self.new ≤ 39 + length self.old }
+    {
+        let mut digits = Buffer::new();
+        self.put_word(digits.format(number).as_bytes());
     }
 
     /// Writes numbers, each behind a space.

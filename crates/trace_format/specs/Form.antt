@@ -17,7 +17,7 @@ use Rattle.trace_format.specs.declared.lines.TraceLine.TheVariants.{Header, Step
 
 -- the greatest number of a job
 abbrev pub last_number : ℕ
-last_number = 999_999
+last_number = 3_999_999_999
 
 -- the refused line of these numbers
 abbrev pub refused_job : (at release work deadline value : ℕ) → Refusal → session.Refused

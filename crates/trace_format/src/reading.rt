@@ -181,7 +181,7 @@ fn line_of(line: &[u8]) -> Option<TraceLine>
 /// # Errors
 ///
 /// `BadLine` exactly where the bytes are none of the forms, or a `job` line's fields aren't a job, or a job's number is
-/// above 999,999.
+/// above 3,999,999,999.
 pub fn read_trace_line(line: &[u8]) -> Result<TraceLine, BadLine>
     // What is read has a form, and the bytes are its text.
     ensures form { IfOk result (λ read. HasForm read) }

@@ -8,7 +8,7 @@ use dover_model::{Event, Job};
 use line_text::numbers_in;
 
 /// The greatest number of a job.
-const LAST_NUMBER: u64 = 999_999;
+const LAST_NUMBER: u64 = 3_999_999_999;
 
 fn job_number(number: u64) -> Option<u32>
     ensures { result ≡ model.job_number number }

@@ -16,14 +16,14 @@ pub returns-in-Ok : goal.returns-in-Ok
 returns-in-Ok c lines S mark it =
     let j : JobFacts = job_of_numbers c.args.release c.args.work c.args.deadline c.args.value in
     let kept : KeptSession = c.args.self.now in
-    let new : KeptSession = record { version = kept.version; admission = c.admit.new.self; mark = c.args.release } in
+    let new : KeptSession = record { admission = c.admit.new.self; mark = c.args.release } in
     let same : c.in-Ok.job ≡ j = c.in-Ok.ensures.job in
     subst (λ job. Takes (JobLine j) lines S mark new (Ok (fed.Job c.count-number.result job))) (sym same)
     (takes_job lines S mark j
-    (omega (arith, it.marked)) kept new c.count-number.result it refl c.admit.ensures.ratio refl
+    (omega (arith, it.marked)) kept new c.count-number.result it c.admit.ensures.rules refl
     (λ jobs stands. subst (λ job. admission.StandsFor c.admit.new.self (jobs ++ job ∷ [])) same
     (c.admit.ensures.stands jobs stands))
-    (ap (λ rules. refusal_of rules.ratio (admitted_jobs S.items) j) it.rules
+    (ap (λ rules. refusal_of rules (admitted_jobs S.items) j) it.rules
     ∙ c.in-Ok.ensures.refusal (admitted_jobs S.items) it.jobs)
     c.count-number.ensures)
 
@@ -34,7 +34,7 @@ returns-in-Err c lines S mark it =
       kept_of = it;
       numerals = c.requires;
       no_fall = omega (arith, it.marked);
-      refusal = ap (λ rules. refusal_of rules.ratio (admitted_jobs S.items) j) it.rules
+      refusal = ap (λ rules. refusal_of rules (admitted_jobs S.items) j) it.rules
           ∙ c.in-Err.ensures.refusal (admitted_jobs S.items) it.jobs;
       other = subst (λ k. answers.NamesOther k (admitted_jobs S.items) j c.in-Err.refused)
           (sym (ap (λ rules. rules.ratio) it.rules))

@@ -10,5 +10,5 @@ returns-in-Two c lines S mark it =
     let j : JobFacts = job_of_numbers c.args.release c.args.work c.args.deadline c.args.value in
     takes_refused lines S mark j it.no_fall c.args.self.now it.kept_of
     (ap (λ rules. refuses_lines rules.version) it.kept_of.rules
-    ∙ refuses_alone c.args.self.now.version c.in-Two.is) it.numerals
+    ∙ ap refuses_lines (sym c.version.ensures) ∙ refuses_alone c.version.result c.in-Two.is) it.numerals
     c.refusal.result (it.refusal ∙ ap (λ r. Some r) (sym c.refusal.ensures))
