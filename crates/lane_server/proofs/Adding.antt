@@ -1,12 +1,12 @@
 -- What each line of a feed adds to what is due, and how the lane comes to owe it.
-use Rattle.std.proofs.Common.{◌≡◌, ℕ, suc, ◌+◌, ◌≤◌, ◌<◌, ◌^◌, List, [], ◌∷◌, ◌++◌, length, map, refl, sym, ap, ◌∙◌}
+use Rattle.std.proofs.Common.{◌≡◌, ℕ, suc, ◌≤◌, ◌<◌, ◌^◌, List, [], ◌∷◌, ◌++◌, length, map, refl, sym, ap, ◌∙◌}
 use Rattle.std.proofs.Common.{subst, arith, inl, inr, ◌⊎◌, Bool, true, false, Some, None, Option, cond}
 use Rattle.std.proofs.lemmas.List.{append-nil}
 use Rattle.std.specs.Prelude.{drop}
 use Rattle.std.proofs.lemmas.List.Sums.{fold-append}
 use Rattle.dover_model.specs.declared.events.Event.{Event}
 use Rattle.dover_model.specs.declared.events.Version.{Version}
-use Rattle.dover_model.specs.Limits.{last_tick, most_jobs}
+use Rattle.dover_model.specs.Limits.{last_tick}
 use Rattle.dover_model.specs.JobFacts.{JobFacts}
 use Rattle.dover_model.specs.Fraction.{Fraction}
 use Rattle.dover_model.specs.Instance.{Declaration, Instance, IsValid, with_jobs}
@@ -313,14 +313,9 @@ module _ (a b : Account) (n : ℕ) (j : JobFacts) (kept : IsKept a) (stands : a.
   job_valid : IsValid (with_jobs (instance_of it.session) (j ∷ []))
   job_valid = admitted_valid (instance_of it.session) j job_reads.valid job_reads.known it.admitted
 
-  -- there are few jobs so far
-  pub job_room : length (instance_of it.session).jobs + 1 ≤ most_jobs
-  job_room =
-      omega (arith, (not_refused it.session.rules.ratio (admitted_jobs it.session.items) j it.admitted).count)
-
   -- its release is a tick
   job_known : j.release ≤ last_tick
-  job_known = let it = (not_refused it.session.rules.ratio (admitted_jobs it.session.items) j it.admitted).job in
+  job_known = let it = (not_refused it.session.rules (admitted_jobs it.session.items) j it.admitted).job in
       omega (arith, it.window, it.due)
 
   -- what is due further

@@ -12,6 +12,7 @@ use Rattle.std.proofs.lemmas.Fmt.{decimal_injective}
 use Rattle.std.proofs.lemmas.Grind.{flat_map-append}
 use Rattle.std.proofs.lemmas.List.Splits.{length-slice_split}
 use Rattle.std.proofs.lemmas.Slice.Eq.{bytes_eq-Decides}
+use Rattle.dover_model.specs.declared.events.Version.TheVariants.{Three}
 use Rattle.dover_model.specs.Limits.{most_lines}
 use Rattle.dover_model.specs.Numerals.{numeral}
 use Rattle.dover_model.specs.Lines.{fields_of, line_of, in_lines, whole_lines, lines_of, is_too_long}
@@ -88,7 +89,7 @@ lines_plain : (ls : List (List ℕ)) (a : Input) → AllByRecursion IsPlain a.ha
     → AllByRecursion IsPlain (fold next_line a ls).handed
 lines_plain [] a all none = all
 lines_plain (l ∷ ls) a all none = lines_plain ls (next_line a l)
-    (next_plain a (goes_on a) (nat_lt most_lines (suc a.lines)) (lane_line l) all (line_plain l none.0)) none.1
+    (next_plain a (goes_on a) (nat_lt (most_lines Three) (suc a.lines)) (lane_line l) all (line_plain l none.0)) none.1
 
 -- what the bytes of an input hand in
 input_plain : (bytes : List ℕ) → AllByRecursion IsPlain (input bytes).handed

@@ -3,7 +3,7 @@ use Rattle.std.proofs.Common.{Bool, ◌≡◌, ℕ, List, [], ◌∷◌, ◌++�
 use Rattle.std.proofs.Common.{Result}
 use Rattle.std.proofs.Common.{Ok, Err}
 use Rattle.std.proofs.lemmas.List.{append-nil}
-use Rattle.std.specs.Prelude.{OnOk, OnErr, IsTrue, ◌↔◌, not, None, Option}
+use Rattle.std.specs.Prelude.{OnOk, OnErr, IsTrue, ◌↔◌, not, None}
 use Rattle.dover_model.specs.declared.events.Version.{Version}
 use Rattle.dover_model.specs.Instance.{Rules}
 use Rattle.event_feed.specs.Listing.{IsPlain}

@@ -15,6 +15,7 @@ use Rattle.dover_model.specs.declared.horizon.Horizon.TheVariants.{Mark}
 use Rattle.dover_model.specs.Horizons.{due_by}
 use Rattle.dover_model.proofs.Horizons.{due_few}
 use Rattle.dover_model.proofs.Meeting.{finishing_valid}
+use Rattle.dover_model.proofs.Limiting.{jobs_most}
 use Rattle.dover_model.specs.Settled.{settled}
 use Rattle.lane_server.proofs.Finishing.{lines_by}
 use Rattle.lane_server.specs.Lanes.{lane_count, Handed, input_of_lines, lane_lines, in_lane, feed_short, lane_short}
@@ -27,21 +28,25 @@ use Rattle.lane_server.specs.declared.lanes.Phase.{Phase}
 use Rattle.lane_server.specs.declared.lanes.Phase.TheVariants.{Ready, Giving, Closing}
 use Rattle.ready_server.specs.declared.roster_server.RosterServer.{RosterServer}
 
+-- what is due is few
+few_due : (J : Instance) (to : Horizon) → IsValid J → length (due_by J to) ≤ 20_000_000_001
+few_due J to valid = omega (arith, due_few J to valid, jobs_most J.rules.version)
+
 -- what is left of what is due
 left_few : (J : Instance) (to : Horizon) (events left : List Event) → IsValid J → due_by J to ≡ events ++ left
-    → length left ≤ 5_000_001
-left_few J to events left valid is = omega (arith, due_few J to valid, ap length is, length-append events left)
+    → length left ≤ 20_000_000_001
+left_few J to events left valid is = omega (arith, few_due J to valid, ap length is, length-append events left)
 
 -- what is left up to a done line, and what it adds
 done_few : (S : Session) (t n : ℕ) (events left : List Event) → IsValid (instance_of S)
     → settled (instance_of S) t ≡ events ++ left
-    → length left + length (done_lines S t n) ≤ 5_000_002
+    → length left + length (done_lines S t n) ≤ 20_000_000_002
 done_few S t n events left valid is = by_finish (finish_at (instance_of S) t n) where
-  by_finish : (o : Option EarlyFinish) → length left + length (lines_by S t n o) ≤ 5_000_002
+  by_finish : (o : Option EarlyFinish) → length left + length (lines_by S t n o) ≤ 20_000_000_002
   by_finish None = omega (arith, left_few (instance_of S) (Mark t) events left valid is)
   by_finish (Some f) =
       let K : Instance = with_finishes (instance_of S) (f.finish ∷ []) in
-      let all : length (settled K t) ≤ 5_000_001 = due_few K (Mark t)
+      let all : length (settled K t) ≤ 20_000_000_001 = few_due K (Mark t)
       (finishing_valid (instance_of S) ((instance_of S).rules.finishes ++ f.finish ∷ []) valid) in
       omega (
         arith,
@@ -55,7 +60,7 @@ done_few S t n events left valid is = by_finish (finish_at (instance_of S) t n) 
 
 -- what the work under way still gives
 pub owes_few : (work : Work) (server : Option RosterServer) (a : Account)
-    (rest : List (List ℕ)) → Owes work server a rest → length rest ≤ 5_000_002
+    (rest : List (List ℕ)) → Owes work server a rest → length rest ≤ 20_000_000_002
 owes_few Nothing server a rest owes = omega (arith, ap length owes.0)
 owes_few (Give out) server a rest owes = omega (arith, ap length owes.0)
 owes_few (Run to) None a rest owes = absurd owes
@@ -115,9 +120,9 @@ element (x ∷ xs) (suc i) low = element xs i (omega arith)
 
 -- whatever is under way
 pub few_left : (kept : Kept) (ls rest : List (List ℕ)) → StandsFor kept ls rest
-    → length rest ≤ 5_000_002
+    → length rest ≤ 20_000_000_002
 few_left kept ls rest it = by_phase kept.phase it.left where
-  by_phase : (p : Phase) → Leaves p kept.lanes (input_of_lines ls) rest → length rest ≤ 5_000_002
+  by_phase : (p : Phase) → Leaves p kept.lanes (input_of_lines ls) rest → length rest ≤ 20_000_000_002
   by_phase Ready left = omega (arith, ap length left.1)
   by_phase (Giving lane) left =
       let there = element kept.lanes lane (omega (arith, it.count, left.3.within)) in

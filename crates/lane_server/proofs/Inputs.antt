@@ -7,6 +7,7 @@ use Rattle.std.specs.Prelude.{nat_lt}
 use Rattle.std.specs.List.{fold}
 use Rattle.std.proofs.lemmas.Bool.{lt-ltb, ltb-true, ltb-false}
 use Rattle.std.proofs.lemmas.List.Sums.{fold-append}
+use Rattle.dover_model.specs.declared.events.Version.TheVariants.{Three}
 use Rattle.dover_model.specs.Limits.{most_lines}
 use Rattle.dover_model.specs.Lines.{whole_lines, rest_of, lines_of, is_too_long, fields_of}
 use Rattle.dover_model.specs.WholeRun.{Begins}
@@ -47,27 +48,27 @@ module _ (ls : List (List ℕ)) (l : List ℕ) (opened : (input_of_lines ls).sta
   a = input_of_lines ls
 
   -- the input with the line
-  next_is : (many : Bool) (o : Option LaneLine) → nat_lt most_lines (suc a.lines) ≡ many → lane_line l ≡ o
+  next_is : (many : Bool) (o : Option LaneLine) → nat_lt (most_lines Three) (suc a.lines) ≡ many → lane_line l ≡ o
       → input_of_lines (ls ++ l ∷ []) ≡ read_on a many o
   next_is many o is reads = fold-append next_line no_input ls (l ∷ [])
-      ∙ ap (λ s. read_after a (goes_on_at s) (nat_lt most_lines (suc a.lines)) (lane_line l)) opened
+      ∙ ap (λ s. read_after a (goes_on_at s) (nat_lt (most_lines Three) (suc a.lines)) (lane_line l)) opened
       ∙ ap (λ b. read_on a b (lane_line l)) is
       ∙ ap (read_on a many) reads
 
   -- one line too many
-  pub input_many : most_lines < suc a.lines
+  pub input_many : most_lines Three < suc a.lines
       → input_of_lines (ls ++ l ∷ []) ≡ record a { lines = suc a.lines; standing = Faulty (suc a.lines) TooManyLines }
-  input_many many = next_is true (lane_line l) (lt-ltb most_lines (suc a.lines) many) refl
+  input_many many = next_is true (lane_line l) (lt-ltb (most_lines Three) (suc a.lines) many) refl
 
-  module _ (room : suc a.lines ≤ most_lines) where
+  module _ (room : suc a.lines ≤ most_lines Three) where
     -- it isn't one too many
-    few : (b : Bool) → nat_lt most_lines (suc a.lines) ≡ b → b ≡ false
-    few true many = absurd (omega (arith, ltb-true most_lines (suc a.lines) many))
+    few : (b : Bool) → nat_lt (most_lines Three) (suc a.lines) ≡ b → b ≡ false
+    few true many = absurd (omega (arith, ltb-true (most_lines Three) (suc a.lines) many))
     few false many = refl
 
     -- what the line is
     next_read : (o : Option LaneLine) → lane_line l ≡ o → input_of_lines (ls ++ l ∷ []) ≡ read_on a false o
-    next_read o reads = next_is false o (few (nat_lt most_lines (suc a.lines)) refl) reads
+    next_read o reads = next_is false o (few (nat_lt (most_lines Three) (suc a.lines)) refl) reads
 
     -- a line of no lane
     pub input_bad : lane_line l ≡ None
@@ -120,7 +121,7 @@ lines_grow : (ls : List (List ℕ)) (a : Input) → Grows a (fold next_line a ls
 lines_grow [] a = ([], sym (append-nil a.handed))
 lines_grow (l ∷ ls) a =
     let one : Grows a (next_line a l) =
-    line_grows a (goes_on a) (nat_lt most_lines (suc a.lines)) (lane_line l) in
+    line_grows a (goes_on a) (nat_lt (most_lines Three) (suc a.lines)) (lane_line l) in
     let more : Grows (next_line a l) (fold next_line (next_line a l) ls) = lines_grow ls (next_line a l) in
     (one.0 ++ more.0, more.1 ∙ ap (λ hs. hs ++ more.0) one.1 ∙ append_assoc a.handed one.0 more.0)
 
@@ -128,7 +129,7 @@ lines_grow (l ∷ ls) a =
 lines_stay : (ls : List (List ℕ)) (a : Input) → goes_on a ≡ false → fold next_line a ls ≡ a
 lines_stay [] a over = refl
 lines_stay (l ∷ ls) a over =
-    ap (λ b. fold next_line (read_after a b (nat_lt most_lines (suc a.lines)) (lane_line l)) ls) over
+    ap (λ b. fold next_line (read_after a b (nat_lt (most_lines Three) (suc a.lines)) (lane_line l)) ls) over
     ∙ lines_stay ls a over
 
 -- a line that is too long isn't read
@@ -139,7 +140,7 @@ unread l long = ap (λ b. cond b None (cond (bytes_eq l (codes "close")) (Some C
 -- lines that are too long count as one and the same
 too_long_same : (a : Input) (l m : List ℕ) → is_too_long l ≡ true → is_too_long m ≡ true → next_line a l ≡ next_line a m
 too_long_same a l m long_l long_m =
-    ap (read_after a (goes_on a) (nat_lt most_lines (suc a.lines))) (unread l long_l ∙ sym (unread m long_m))
+    ap (read_after a (goes_on a) (nat_lt (most_lines Three) (suc a.lines))) (unread l long_l ∙ sym (unread m long_m))
 
 module _ (F G : List ℕ) where
   -- the input of a text that grows is that of the text, with further lines
@@ -173,31 +174,32 @@ module _ (F G : List ℕ) where
 
 -- the line is counted, and is no longer than a line may be
 next_good : (a : Input) (l : List ℕ) → goes_on (next_line a l) ≡ true
-    → (goes_on a ≡ true) × (suc a.lines ≤ most_lines) × (length l ≤ 128) × ((next_line a l).lines ≡ suc a.lines)
-next_good a l on = by_tests (goes_on a) (nat_lt most_lines (suc a.lines)) (is_too_long l) refl refl refl on where
-  -- by whether it is too long
-  line_by : Bool → Option LaneLine
-  line_by long = cond long None (cond (bytes_eq l (codes "close")) (Some Close) (numbered_line (fields_of l)))
+    → (goes_on a ≡ true) × (suc a.lines ≤ most_lines Three) × (length l ≤ 128) × ((next_line a l).lines ≡ suc a.lines)
+next_good a l on =
+    by_tests (goes_on a) (nat_lt (most_lines Three) (suc a.lines)) (is_too_long l) refl refl refl on where
+      -- by whether it is too long
+      line_by : Bool → Option LaneLine
+      line_by long = cond long None (cond (bytes_eq l (codes "close")) (Some Close) (numbered_line (fields_of l)))
 
-  counted : (o : Option LaneLine) → (read_on a false o).lines ≡ suc a.lines
-  counted None = refl
-  counted (Some Close) = refl
-  counted (Some (OfLane lane line)) = refl
+      counted : (o : Option LaneLine) → (read_on a false o).lines ≡ suc a.lines
+      counted None = refl
+      counted (Some Close) = refl
+      counted (Some (OfLane lane line)) = refl
 
-  by_tests : (goes many long : Bool) → goes_on a ≡ goes → nat_lt most_lines (suc a.lines) ≡ many
-      → is_too_long l ≡ long
-      → goes_on (read_after a goes many (line_by long)) ≡ true
-      → (goes_on a ≡ true) × (suc a.lines ≤ most_lines) × (length l ≤ 128)
-      × ((read_after a goes many (line_by long)).lines ≡ suc a.lines)
-  by_tests false many long was few fits on = never (sym was ∙ on)
-  by_tests true true long was few fits on = never on
-  by_tests true false true was few fits on = never on
-  by_tests true false false was few fits on = (
-    was,
-    ltb-false most_lines (suc a.lines) few,
-    ltb-false 128 (length l) fits,
-    counted (line_by false),
-  )
+      by_tests : (goes many long : Bool) → goes_on a ≡ goes → nat_lt (most_lines Three) (suc a.lines) ≡ many
+          → is_too_long l ≡ long
+          → goes_on (read_after a goes many (line_by long)) ≡ true
+          → (goes_on a ≡ true) × (suc a.lines ≤ most_lines Three) × (length l ≤ 128)
+          × ((read_after a goes many (line_by long)).lines ≡ suc a.lines)
+      by_tests false many long was few fits on = never (sym was ∙ on)
+      by_tests true true long was few fits on = never on
+      by_tests true false true was few fits on = never on
+      by_tests true false false was few fits on = (
+        was,
+        ltb-false (most_lines Three) (suc a.lines) few,
+        ltb-false 128 (length l) fits,
+        counted (line_by false),
+      )
 
 -- lines before which the input goes on behind them
 went_on : (ls : List (List ℕ)) (a : Input) → goes_on (fold next_line a ls) ≡ true → goes_on a ≡ true
@@ -207,16 +209,16 @@ went_on (l ∷ ls) a on = (next_good a l (went_on ls (next_line a l) on)).0
 -- many lines are counted, few and short
 lines_good : (ls : List (List ℕ)) (a : Input) → goes_on (fold next_line a ls) ≡ true
     → AreNotTooLong ls × ((fold next_line a ls).lines ≡ a.lines + length ls)
-    × (a.lines ≤ most_lines → a.lines + length ls ≤ most_lines)
+    × (a.lines ≤ most_lines Three → a.lines + length ls ≤ most_lines Three)
 lines_good [] a on = (tt, omega arith, λ few. omega arith)
 lines_good (l ∷ ls) a on =
     let good = next_good a l (went_on ls (next_line a l) on) in
     let rest = lines_good ls (next_line a l) on in
-    let all : (next_line a l).lines + length ls ≤ most_lines = rest.2 (omega (arith, good.1, good.3)) in
+    let all : (next_line a l).lines + length ls ≤ most_lines Three = rest.2 (omega (arith, good.1, good.3)) in
     ((good.2, rest.0), omega (arith, rest.1, good.3), λ few. omega (arith, good.3))
 
 -- an input that goes on has few lines
-pub few_lines : (ls : List (List ℕ)) → goes_on (input_of_lines ls) ≡ true → (input_of_lines ls).lines ≤ most_lines
+pub few_lines : (ls : List (List ℕ)) → goes_on (input_of_lines ls) ≡ true → (input_of_lines ls).lines ≤ most_lines Three
 few_lines ls on = let good = lines_good ls no_input on in omega (arith, good.1, good.2 (omega arith))
 
 -- a line that is too long ends it
@@ -244,13 +246,13 @@ module _ (x : List ℕ) (on : goes_on (input x) ≡ true) where
   whole_counted = omega (arith, (lines_good (lines_of x) no_input on).1, ap length lines_are)
 
   -- it has at most so many bytes
-  pub open_bytes : length x < 516_000_129
+  pub open_bytes : length x < 2_064_000_000_129
   open_bytes =
       let good = lines_good (lines_of x) no_input on in
-      let few : 0 + length (whole_lines x) ≤ most_lines =
-      subst (λ ls. 0 + length ls ≤ most_lines) lines_are (good.2 (omega arith)) in
+      let few : 0 + length (whole_lines x) ≤ most_lines Three =
+      subst (λ ls. 0 + length ls ≤ most_lines Three) lines_are (good.2 (omega arith)) in
       omega (
         arith,
-        text_few x most_lines (subst AreNotTooLong lines_are good.0) (omega (arith, few))
+        text_few x (most_lines Three) (subst AreNotTooLong lines_are good.0) (omega (arith, few))
             (ltb-false 128 (length (rest_of x)) short_rest),
       )

@@ -7,6 +7,7 @@ use Rattle.std.specs.List.{slice_get}
 use Rattle.std.proofs.lemmas.List.{get_or-set_other, get_or-set_same, length-set}
 use Rattle.std.proofs.lemmas.Option.{slice_get_within, get_or_from_slice_get, slice_get_read}
 use Rattle.std.proofs.lemmas.Bool.{cases_eq}
+use Rattle.dover_model.specs.declared.events.Version.TheVariants.{Three}
 use Rattle.dover_model.specs.Limits.{most_lines}
 use Rattle.event_feed.specs.declared.faults.Cause.TheVariants as cause
 use Rattle.lane_server.specs.Lanes.{lane_count, OfLane, Close, lane_line, Handed, Input, input_of_lines, lane_lines}
@@ -101,7 +102,7 @@ lane_gives kept ls rest i at l it giving same is =
 
 -- there is room for one line more
 pub has_room : (kept : Kept) (ls rest : List (List ℕ)) → StandsFor kept ls rest
-    → kept.lines < most_lines → HasRoom ls
+    → kept.lines < most_lines Three → HasRoom ls
 has_room kept ls rest it low = omega (arith, it.counted)
 
 -- one line more is counted
@@ -114,7 +115,7 @@ one_more kept ls ms rest it more = omega (arith, it.counted, more)
 
 pub feed_stands : (kept : Kept) (ls : List (List ℕ)) (bytes : List ℕ) (lane at : ℕ) (line : List ℕ) (l u : Lane)
     → StandsFor kept ls []
-    → kept.phase ≡ Ready → kept.lines < most_lines → lane < lane_count → lane_line bytes ≡ Some (OfLane lane line)
+    → kept.phase ≡ Ready → kept.lines < most_lines Three → lane < lane_count → lane_line bytes ≡ Some (OfLane lane line)
     → at ≡ lane
     → l ≡ get_or kept.lanes at l
     → ((before : List (List ℕ)) → IsQuiet l before
@@ -161,7 +162,7 @@ feed_stands kept ls bytes lane at line l u it ready low within reads same is giv
 
 pub close_stands : (kept : Kept) (ls : List (List ℕ)) (bytes : List ℕ) → StandsFor kept ls []
     → kept.phase ≡ Ready
-    → kept.lines < most_lines
+    → kept.lines < most_lines Three
     → lane_line bytes ≡ Some Close
     → IsClosed (record { lines = kept.lines + 1; lanes = kept.lanes; phase = Closing 0 }) ls bytes
 close_stands kept ls bytes it ready low reads =

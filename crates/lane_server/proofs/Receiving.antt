@@ -3,6 +3,7 @@ use Rattle.std.proofs.Common.{◌≡◌, ◌≤◌, ◌+◌, ℕ, suc, List, [],
 use Rattle.std.proofs.Common.{Option, Some, None, Result, Ok, Err, Bool, true, false, cond, append-nil, arith}
 use Rattle.std.specs.Option.{IsNone}
 use Rattle.dover_model.specs.declared.Memory.{Memory}
+use Rattle.dover_model.specs.declared.events.Version.TheVariants.{Three}
 use Rattle.dover_model.specs.Limits.{most_lines}
 use Rattle.dover_model.specs.Lines.{lines_of, whole_lines}
 use Rattle.dover_model.proofs.Tests.{never}
@@ -90,7 +91,7 @@ module _ (r : Option Refusal) (kept : Kept) (ls left : List (List ℕ))
 
 -- the input is refused one line behind those that the lanes took, with this word
 abbrev pub IsRefused : Kept → List ℕ → List ℕ → Type 0
-IsRefused kept x word = (kept.lines ≤ most_lines) × ((input x).standing ≡ Closed → ⊥)
+IsRefused kept x word = (kept.lines ≤ most_lines Three) × ((input x).standing ≡ Closed → ⊥)
     × (closing_lines (length (whole_lines x)) (input x) ≡ refused_line (kept.lines + 1) word ∷ [])
 
 -- ---- a line
@@ -105,7 +106,7 @@ module _ (ls : List (List ℕ)) (bytes : List ℕ) (opened : (input_of_lines ls)
   b = input_of_lines (ls ++ bytes ∷ [])
 
   -- a line of a lane is one that a lane has
-  pub lacks : suc a.lines ≤ most_lines → (lane : ℕ) (line : List ℕ) → lane_line bytes ≡ Some (OfLane lane line)
+  pub lacks : suc a.lines ≤ most_lines Three → (lane : ℕ) (line : List ℕ) → lane_line bytes ≡ Some (OfLane lane line)
       → HasLine b.handed
   lacks room lane line reads = subst (λ (c : Input). HasLine c.handed)
       (sym (input_fed ls bytes opened room lane line reads)) (by a.handed) where
@@ -177,9 +178,9 @@ module _ (i : LaneInput) (x : List ℕ) where
       by (Faulty line fault) leaves = (leaves.2, leaves.3)
 
     -- few lines are left
-    pub few_stand : length left ≤ 5_000_002
+    pub few_stand : length left ≤ 20_000_000_002
     few_stand = by (goes_on (input x)) refl where
-      by : (b : Bool) → goes_on (input x) ≡ b → length left ≤ 5_000_002
+      by : (b : Bool) → goes_on (input x) ≡ b → length left ≤ 20_000_000_002
       by true on = few_left i.lanes (lines_of x) left (holds_open i.refusal i.lanes (lines_of x) left at.holds on)
       by false over = omega (
         arith,
@@ -277,7 +278,7 @@ refuses r kept x it = by r it.stands (leaves_so (Some r) kept (lines_of x) [] it
   last s is = ap (λ t. closing_lines (length (whole_lines x)) (record (input x) { standing = t })) is
 
   -- for a fault
-  by_fault : (fault : InputFault) → (input x).standing ≡ Faulty (suc kept.lines) fault → kept.lines ≤ most_lines
+  by_fault : (fault : InputFault) → (input x).standing ≡ Faulty (suc kept.lines) fault → kept.lines ≤ most_lines Three
       → IsRefused kept x (fault_word fault)
   by_fault fault is few = (
     few,

@@ -2,6 +2,7 @@
 use Rattle.std.specs.Prelude.{◌≡◌, ◌≤◌, ◌<◌, ◌-◌, ◌⊎◌, ℕ, suc, List, [], ◌∷◌, ◌++◌, length, map, Bool, true, false}
 use Rattle.std.specs.Prelude.{Option, Some, None, Result, Ok, Err}
 use Rattle.std.specs.List.{slice_get}
+use Rattle.dover_model.specs.declared.events.Version.TheVariants.{Three}
 use Rattle.dover_model.specs.Limits.{most_lines}
 use Rattle.lane_server.specs.Lanes.{lane_count, OfLane, Close, lane_line, Handed, Input, Open, Closed, input_of_lines}
 use Rattle.lane_server.specs.Lanes.{lane_lines, in_lane}
@@ -70,7 +71,7 @@ is_closed kept = elim kept.phase [ Ready ↦ false | Giving lane ↦ false | Clo
 
 -- the input may have one line more
 abbrev pub HasRoom : List (List ℕ) → Type 0
-HasRoom ls = suc (input_of_lines ls).lines ≤ most_lines
+HasRoom ls = suc (input_of_lines ls).lines ≤ most_lines Three
 
 -- the line is one of this lane, and what is newly due for it is left to give
 pub record IsFed (lane : ℕ) (kept : Kept)
@@ -95,7 +96,7 @@ abbrev pub Answers : Result LaneStep LaneFault → Kept → Kept
     → List (List ℕ) → List ℕ → Type 0
 Answers (Ok (step.Fed lane)) old new ls bytes = IsFed lane new ls bytes
 Answers (Ok step.Closed) old new ls bytes = IsClosed new ls bytes
-Answers (Err fault.Lines) old new ls bytes = (most_lines < suc (input_of_lines ls).lines) × (new ≡ old)
+Answers (Err fault.Lines) old new ls bytes = (most_lines Three < suc (input_of_lines ls).lines) × (new ≡ old)
 Answers (Err fault.BadLane) old new ls bytes = HasRoom ls × (lane_line bytes ≡ None) × (new ≡ old)
 Answers (Err fault.Memory) old new ls bytes =
     HasRoom ls × ((lane : ℕ) × (line : List ℕ) × (lane_line bytes ≡ Some (OfLane lane line)))

@@ -2,6 +2,7 @@
 use Rattle.std.specs.Prelude.{◌≡◌, ◌≤◌, ◌<◌, ◌⊎◌, ℕ, suc, List, [], ◌∷◌, ◌++◌, length, take, true, Option, Some, None}
 use Rattle.std.specs.Prelude.{Result, Ok, Err, codes}
 use Rattle.dover_model.specs.declared.Memory.{Memory}
+use Rattle.dover_model.specs.declared.events.Version.TheVariants.{Three}
 use Rattle.dover_model.specs.Limits.{most_lines}
 use Rattle.dover_model.specs.Lines.{whole_lines, lines_of}
 use Rattle.line_text.specs.Cutting as cuts
@@ -42,7 +43,7 @@ abbrev pub LeavesAt : InputStanding → Kept → List (List ℕ) → List (List 
 LeavesAt Open kept ls left = StandsFor kept ls left
 LeavesAt Closed kept ls left =
     (left ≡ []) × StandsFor kept ls (shorts_from (input_of_lines ls).handed 0 lane_count)
-LeavesAt (Faulty line fault) kept ls left = (left ≡ []) × (kept.lines ≤ most_lines)
+LeavesAt (Faulty line fault) kept ls left = (left ≡ []) × (kept.lines ≤ most_lines Three)
     × (length kept.lanes ≡ lane_count) × AllStand kept.lanes (input_of_lines ls).handed
 
 -- These lines came, of which the lanes took the good ones, and these are left to give of what is due for them.

@@ -5,6 +5,7 @@ use Rattle.std.specs.Prelude.{Some, None, codes, decimal, bytes_eq}
 use Rattle.std.specs.List.{fold, filter, flat_map, list_all, range_with_len}
 use Rattle.std.specs.Option.{option_and_then}
 use Rattle.dover_model.specs.Text.{refused_line}
+use Rattle.dover_model.specs.declared.events.Version.TheVariants.{Three}
 use Rattle.dover_model.specs.Limits.{most_lines}
 use Rattle.dover_model.specs.Numerals.{numeral}
 use Rattle.dover_model.specs.Lines.{lines_of, whole_lines, is_too_long, fields_of, in_lines, line_of}
@@ -77,7 +78,8 @@ with_lane_line a Close = record a { standing = Closed }
 
 -- the input with a line that is counted already
 abbrev pub read_lane_line : Input → List ℕ → Input
-read_lane_line a bytes = if nat_lt most_lines a.lines then record a { standing = Faulty a.lines TooManyLines } else
+read_lane_line a bytes =
+    if nat_lt (most_lines Three) a.lines then record a { standing = Faulty a.lines TooManyLines } else
     elim (lane_line bytes) [ None ↦ record a { standing = Faulty a.lines BadLane } | Some line ↦ with_lane_line a line ]
 
 -- neither closed nor faulty

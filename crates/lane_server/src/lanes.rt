@@ -10,15 +10,12 @@ ghost use Rattle.lane_server.specs.declared.lanes.Phase.TheVariants.{Giving, Clo
 use crate::lane::Lane;
 use crate::out::LaneOut;
 use crate::reading::{LANES, LaneLine, lane_line};
-use dover_model::Memory;
+use dover_model::{Memory, Version};
 use event_feed::Cause;
 use std::alloc::Global;
 use std::marker::Model;
 use std::sync::ledger::Ledger;
 use step_count::Steps;
-
-/// How many lines the whole input may have.
-const MOST_LINES: u64 = 4_000_000;
 
 /// What a good line of the input is.
 #[derive(Clone, Copy, PartialEq, Eq)]
@@ -32,7 +29,7 @@ pub enum LaneStep {
 /// Why a line of the input wasn't taken.
 #[derive(Clone, Copy, PartialEq, Eq)]
 pub enum LaneFault {
-    /// Its number in the whole input is above 4,000,000.
+    /// Its number in the whole input is above 16,000,000,000.
     Lines,
     /// It is longer than 128 bytes, or neither `close` nor a lane's number and a line behind one space.
     BadLane,
@@ -132,7 +129,7 @@ impl Lanes {
     fn feed(&mut self, lane: u8, line: &[u8]) -> Result<LaneStep, LaneFault>
         requires ready { IsReady self.old }
         requires stands { (ls : List (List ℕ)) × StandsFor self.old ls [] }
-        requires room { self.old.lines < 4_000_000 }
+        requires room { self.old.lines < 16_000_000_000 }
         requires lane { lane < lane_count }
         ensures answers { (ls : List (List ℕ)) (bytes : List ℕ) → StandsFor self.old ls []
             → lane_line bytes ≡ Some (OfLane lane line.now) →
@@ -152,7 +149,7 @@ impl Lanes {
 
     fn close(&mut self) -> LaneStep
         requires ready { IsReady self.old }
-        requires room { self.old.lines < 4_000_000 }
+        requires room { self.old.lines < 16_000_000_000 }
         ensures answers { (ls : List (List ℕ)) (bytes : List ℕ) → StandsFor self.old ls []
             → lane_line bytes ≡ Some Close →
             Answers (Ok result) self.old self.new ls bytes }
@@ -177,7 +174,7 @@ impl Lanes {
         ensures paid { (start now : ℕ) → HavePaid self.old.lanes start now
             → OnOk result (HavePaid self.new.lanes start now) }
     {
-        if self.lines >= MOST_LINES {
+        if self.lines >= Version::Three.most_lines() {
             return Err(LaneFault::Lines);
         }
         match lane_line(line) {

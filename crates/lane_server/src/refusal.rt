@@ -7,7 +7,7 @@ ghost use Rattle.lane_server.specs.LaneInput.{word_of};
 pub enum Refusal {
     /// It ends before `close`.
     Short,
-    /// It has more than 4,000,000 lines.
+    /// It has more than 16,000,000,000 lines.
     TooManyLines,
     /// A line is none of a lane.
     BadLane,

@@ -58,7 +58,7 @@ joined_lines : (ls : List (List ℕ)) → joined (parts_of ls) ≡ in_lines ls
 joined_lines ls = flat_map-map (λ part. part) (λ line. line ++ 10 ∷ []) ls
 
 -- as many as lines
-pub few_parts : (left parts : List (List ℕ)) → parts ≡ parts_of left → length left ≤ 5_000_002
+pub few_parts : (left parts : List (List ℕ)) → parts ≡ parts_of left → length left ≤ 20_000_000_002
     → length parts < 2 ^ 64 - 1
 few_parts left parts is few = omega (
   arith,

@@ -6,7 +6,6 @@ use Rattle.std.specs.Prelude.{Option, nat_le, ◌&&◌, Some, None}
 use Rattle.std.specs.Option.{option_to_list}
 use Rattle.std.specs.List.{filter, list_all, sum_by}
 use Rattle.std.proofs.lemmas.Bool.{eq-eqb}
-use Rattle.std.proofs.lemmas.List.{length-append}
 use Rattle.std.proofs.lemmas.List.Sums.{sum_by-cons, sum_by-append, length-filter, count_by-le-length}
 use Rattle.dover_model.specs.Limits.{last_tick}
 use Rattle.dover_model.specs.Fraction.{Fraction, IsRatio}
@@ -46,6 +45,7 @@ use Rattle.dover_model.specs.Ready.{is_ready}
 use Rattle.dover_model.proofs.Leading.{late_silent, over_ends}
 use Rattle.dover_model.proofs.ReadyParts.{change}
 use Rattle.dover_model.proofs.Waiting.{some_goes_on, settles_idles, over_waits_until}
+use Rattle.dover_model.proofs.Limiting.{jobs_most, total_most}
 use Rattle.ready_jobs.specs.Reordered.{IsReordered}
 use Rattle.ready_jobs.specs.Parts.{Parted, HaveRoles, ready_of, state_of}
 use Rattle.ready_jobs.specs.Following.{PartOf, IsPart, SettlesTo}
@@ -100,8 +100,9 @@ module _ (c : Course) (J : Instance) (z : State) (follows : Follows c J z) where
   )
 
   -- the jobs done aren't worth too much
-  pub follows_modest : c.done ≤ 10_000_000_000_000
-  follows_modest = let modest : total_value J.jobs ≤ 10_000_000_000_000 = follows.valid.total in
+  pub follows_modest : c.done ≤ 999_999_999_999_999_999
+  follows_modest = let modest : total_value J.jobs ≤ 999_999_999_999_999_999 =
+      omega (arith, follows.valid.total, total_most J.rules.version) in
       let all : value_sum z.tasks ≡ total_value J.jobs = sym (sum_map (λ (t : Task). t.job) (λ j. j.value) z.tasks)
       ∙ ap total_value follows.keeps.jobs in
       omega (
@@ -246,20 +247,12 @@ follows_once c J z follows = once_still (filter is_ready z.tasks) c.ready follow
     (once_some is_ready z.tasks (once_numbered 0 z.tasks follows.keeps.sound.numbered))
 
 -- the jobs are few
-pub few_jobs : (c : Course) → IsCourse c → c.jobs ≤ 1_000_000
-few_jobs c old = let few : length old.0.jobs ≤ 1_000_000 = old.2.valid.count in
-    omega (arith, follows_count c old.0 old.1 old.2)
-
--- so are those that are ready
-pub few_ready : (c : Course) → IsCourse c → length c.ready ≤ 1_000_000
-few_ready c old = omega (arith, few_jobs c old, follows_fewer c old.0 old.1 old.2)
-
--- and one more can be released
-pub more_ready : (c : Course) (j : JobFacts) → IsCourse (with_release c j c.room) → length c.ready < 1_000_000
-more_ready c j more = omega (
+pub few_jobs : (c : Course) → IsCourse c → c.jobs ≤ 4_000_000_000
+few_jobs c old = omega (
   arith,
-  few_ready (with_release c j c.room) more,
-  length-append c.ready (fresh_job c j ∷ []),
+  old.2.valid.count,
+  jobs_most old.0.rules.version,
+  follows_count c old.0 old.1 old.2,
 )
 
 -- ---- the ready jobs by their roles

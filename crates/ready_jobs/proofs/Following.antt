@@ -38,6 +38,7 @@ use Rattle.dover_model.specs.Leading.{IsSilent, Settles}
 use Rattle.dover_model.specs.Ready.{is_ready, ready_part}
 use Rattle.dover_model.proofs.Leading.{settles_append}
 use Rattle.dover_model.proofs.ReadyParts.{change, after_change, step_ready, ready_then, done_then}
+use Rattle.dover_model.proofs.Limiting.{total_most}
 use Rattle.ready_jobs.specs.Reordered.{IsReordered}
 use Rattle.ready_jobs.specs.Parts.{Parted, HaveRole, HaveRoles, AreSound, ready_of, state_of}
 use Rattle.ready_jobs.specs.Following.{PartOf, SettlesTo}
@@ -132,7 +133,8 @@ module _ (p : Parted) (J : Instance) (z : State) (part : PartOf p J z) where
 
   -- they aren't worth too much
   part_total : (test : Task → Bool) → value_sum (filter test (ready_of p)) < 10 ^ 18
-  part_total test = let modest : total_value J.jobs < 10 ^ 18 = omega (arith, part.valid.total) in
+  part_total test = let modest : total_value J.jobs < 10 ^ 18 =
+      omega (arith, part.valid.total, total_most J.rules.version) in
       let all : value_sum z.tasks ≡ total_value J.jobs = sym (sum_map (λ (t : Task). t.job) (λ j. j.value) z.tasks)
       ∙ ap total_value part.keeps.jobs in
       omega (

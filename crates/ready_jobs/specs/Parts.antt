@@ -5,7 +5,7 @@ use Rattle.dover_model.specs.declared.events.Version.{Version}
 use Rattle.dover_model.specs.declared.events.Task.{Task}
 use Rattle.dover_model.specs.declared.events.Role.{Role}
 use Rattle.dover_model.specs.declared.events.Role.TheVariants.{Fresh, Waiting, Held, Running}
-use Rattle.dover_model.specs.Limits.{most_value, most_jobs}
+use Rattle.dover_model.specs.Limits.{most_value, most_ready}
 use Rattle.dover_model.specs.Entries.{entry_of}
 use Rattle.dover_model.specs.State.{State, latest_start, value_sum}
 use Rattle.dover_model.specs.Sound.{Each, EachTwo}
@@ -58,7 +58,7 @@ pub record AreParts (p : Parted) (rooms : Lasting) (pool : Pooled) (capacity : �
   pub held : AreRoomsOf rooms (map entry_of p.held)
   pub few : length (ready_of p) ≤ p.room
   pub small : Each (λ t. t.number < no_number) (ready_of p)
-  pub most : p.room ≤ most_jobs
+  pub most : p.room ≤ most_ready
   pub pool_room : p.room ≤ pool.room
   pub held_room : p.room ≤ length p.held + rooms.spare
   pub stack_room : p.room ≤ capacity

@@ -15,5 +15,5 @@ mod taking;
 pub use deeds::Deed;
 pub use parts::Parts;
 pub use pool::Pool;
-pub use ready::Ready;
+pub use ready::{MOST_READY, Ready};
 pub use short::ShortTask;

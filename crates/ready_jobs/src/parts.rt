@@ -5,7 +5,7 @@ ghost use Rattle.std.specs.List.{filter, find};
 ghost use Rattle.std.specs.Option.{option_to_list, ForSome};
 ghost use Rattle.dover_model.specs.declared.events.Role.TheVariants.{Fresh, Waiting, Held, Running};
 ghost use Rattle.dover_model.specs.declared.events.Task.{Task};
-ghost use Rattle.dover_model.specs.Limits.{most_jobs, last_tick};
+ghost use Rattle.dover_model.specs.Limits.{most_ready, last_tick};
 ghost use Rattle.dover_model.specs.Entries.{entry_of};
 ghost use Rattle.dover_model.specs.Fraction.{IsRatio};
 ghost use Rattle.dover_model.specs.State.{is_fresh, is_coming, is_waiting, running, held, waiting, privileged, room};
@@ -138,7 +138,7 @@ impl Parts {
     pub fn laws(&self)
         ensures roles { HaveRoles self.now }
         ensures few { length (ready_of self.now) ≤ self.now.room }
-        ensures most { self.now.room ≤ most_jobs }
+        ensures most { self.now.room ≤ most_ready }
     {
         // What is kept of the parts is known where a field is read.
         let _ = &self.room;
@@ -438,7 +438,7 @@ impl Parts {
 
     /// Room for so many ready jobs in all. Where there is, it takes no memory; want of it leaves all as before.
     pub fn reserve(&mut self, room: u32) -> Result<(), Memory>
-        requires { room ≤ most_jobs }
+        requires { room ≤ most_ready }
         ensures kept { self.new ≡ record self.old { waiting = self.new.waiting; room = self.new.room } }
         ensures same { self.new.waiting ≡ self.old.waiting }
         ensures ok { OnOk result (self.new.room ≡ max self.old.room room) }

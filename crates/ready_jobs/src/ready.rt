@@ -4,7 +4,8 @@ ghost use Rattle.std.specs.Prelude.{max, length, true, false, IsTrue, IfOk, IsOk
 ghost use Rattle.std.specs.Prelude.{None, option_map};
 ghost use Rattle.dover_model.specs.declared.events.Event.{Event};
 ghost use Rattle.dover_model.specs.declared.events.Event.TheVariants.{End};
-ghost use Rattle.dover_model.specs.Limits.{last_tick, most_jobs, most_total};
+ghost use Rattle.dover_model.specs.Limits.{last_tick, most_jobs, most_ready, most_total};
+ghost use Rattle.dover_model.specs.declared.events.Version.TheVariants.{Three};
 ghost use Rattle.dover_model.specs.Instance.{Instance, under};
 ghost use Rattle.std.specs.List.{filter};
 ghost use Rattle.dover_model.specs.State.{State, state_at, is_held};
@@ -27,8 +28,8 @@ use std::marker::Model;
 use std::sync::ledger::Ledger;
 use step_count::Steps;
 
-/// The greatest number of jobs.
-const MOST_JOBS: u32 = 1_000_000;
+/// For how many ready jobs there may be room.
+pub const MOST_READY: u32 = 1_000_000;
 
 /// A run of the jobs that were released so far, up to its last printed step or behind it: its clock, and the jobs that
 /// aren't over. Of the others, it knows how many there are and what those done are worth.
@@ -70,23 +71,23 @@ impl Ready {
         })
     }
 
-    /// Room for so many ready jobs more, as far as there can be jobs. Want of it leaves all as before.
+    /// Room for so many ready jobs more, for at most 1,000,000 in all. Want of it leaves all as before.
     ///
     /// # Errors
     ///
     /// `Memory` where there is none.
     pub fn reserve(&mut self, more: u32) -> Result<(), Memory>
         ensures same { self.new ≡ record self.old { room = self.new.room } }
-        ensures room { OnOk result (min (length self.old.ready + more) most_jobs ≤ self.new.room) }
+        ensures room { OnOk result (min (length self.old.ready + more) most_ready ≤ self.new.room) }
         ensures grows { self.old.room ≤ self.new.room }
-        ensures few { self.new.room ≤ max self.old.room (min (length self.old.ready + more) most_jobs) }
+        ensures few { self.new.room ≤ max self.old.room (min (length self.old.ready + more) most_ready) }
         ensures err { OnErr result (self.new.room ≡ self.old.room) }
         ensures enough { length self.old.ready + more ≤ self.old.room → IsOk result }
         ensures paid { (start now : ℕ) → HasPaid self.old start now → HasPaid self.new start now }
     {
         let ready = self.parts.count();
         self.parts
-            .reserve(MOST_JOBS.min(ready.saturating_add(more)))
+            .reserve(MOST_READY.min(ready.saturating_add(more)))
     }
 
     /// The clock.
@@ -132,7 +133,7 @@ impl Ready {
     #[inline(always)]
     pub fn jobs(&self) -> u32
         ensures is { result ≡ self.now.jobs }
-        ensures few { result ≤ most_jobs }
+        ensures few { result ≤ most_jobs Three }
     {
         self.jobs
     }
@@ -141,7 +142,7 @@ impl Ready {
     #[inline(always)]
     pub fn value(&self) -> u64
         ensures is { result ≡ self.now.done }
-        ensures modest { result ≤ most_total }
+        ensures modest { result ≤ most_total Three }
     {
         self.done
     }

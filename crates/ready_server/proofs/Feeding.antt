@@ -1,12 +1,12 @@
 -- A valid list of jobs, as it is served job by job.
-use Rattle.std.proofs.Common.{◌≡◌, ◌+◌, ◌≤◌, ℕ, List, [], ◌∷◌, ◌++◌, length, refl, sym, ap, ◌∙◌, subst, arith}
+use Rattle.std.proofs.Common.{◌≡◌, ◌+◌, ◌≤◌, ℕ, List, [], ◌∷◌, length, refl, sym, ap, ◌∙◌, subst, arith}
 use Rattle.std.proofs.lemmas.List.{append_assoc, append-nil, length-append}
 use Rattle.std.specs.List.{AllByRecursion}
 use Rattle.dover_model.specs.declared.events.Event.{Event}
 use Rattle.dover_model.specs.declared.events.Version.{Version}
 use Rattle.dover_model.specs.Fraction.{Fraction}
 use Rattle.dover_model.specs.JobFacts.{JobFacts, IsJob}
-use Rattle.dover_model.specs.Limits.{last_tick, most_jobs}
+use Rattle.dover_model.specs.Limits.{last_tick}
 use Rattle.dover_model.specs.Instance.{Instance, IsValid, with_jobs, jobs_under}
 use Rattle.dover_model.proofs.Valid.{valid_front, all_back, order_back}
 use Rattle.dover_model.specs.declared.horizon.Horizon.{Horizon}
@@ -128,8 +128,3 @@ module _ {W : Type 0} {seen : W → List Event → Type 0} where
     reach = λ t may. (it.reach t may).0;
     ends = it.can.ends;
   }
-
--- there may be one job more, where the list with it is valid
-pub few_with : (J : Instance) (j : JobFacts) → IsValid (with_jobs J (j ∷ [])) → length J.jobs + 1 ≤ most_jobs
-few_with J j valid = let few : length (J.jobs ++ j ∷ []) ≤ 1_000_000 = valid.count in
-    omega (arith, length-append J.jobs (j ∷ []))

@@ -1,5 +1,5 @@
 -- What a server has given with the finish of a job.
-use Rattle.std.proofs.Common.{◌≡◌, ℕ, ◌≤◌, ◌<◌, ◌^◌, [], ◌∷◌, ◌++◌, length, refl, sym, ap, ◌∙◌, subst, Bool}
+use Rattle.std.proofs.Common.{◌≡◌, ℕ, ◌≤◌, ◌<◌, ◌^◌, [], ◌∷◌, ◌++◌, refl, sym, ap, ◌∙◌, subst, Bool}
 use Rattle.std.proofs.Common.{true, false, arith}
 use Rattle.std.specs.Prelude.{Option, Some, None, nat_lt}
 use Rattle.std.proofs.lemmas.Bool.{lt-ltb, ltb-true}
@@ -26,6 +26,7 @@ use Rattle.dover_model.proofs.RightFinishes.{all_before, finish_says, right_fini
 use Rattle.dover_model.proofs.Roles.{passes, is_running_role}
 use Rattle.dover_model.proofs.Settling.{settled_is_run}
 use Rattle.dover_model.proofs.Waiting.{some_goes_on}
+use Rattle.dover_model.proofs.Limiting.{jobs_most}
 use Rattle.ready_jobs.proofs.Runners.{one_runs}
 use Rattle.ready_jobs.specs.Course.{Course}
 use Rattle.ready_jobs.specs.Course as course
@@ -114,8 +115,13 @@ module _ (s : ReadyServer) (J : Instance) (at : ℕ) (rests : Rests s J (Mark at
     -- the number is small
     pub number_small : n < 2 ^ 32
     number_small =
-        let few : length J.jobs ≤ 1_000_000 = rests.follows.valid.count in
-        omega (arith, few, numbers_below J z rests.follows.keeps r member, named)
+        omega (
+          arith,
+          rests.follows.valid.count,
+          jobs_most J.rules.version,
+          numbers_below J z rests.follows.keeps r member,
+          named,
+        )
 
     module _ (early : s.last < at) where
       -- the finish

@@ -31,6 +31,7 @@ use Rattle.dover_model.specs.declared.horizon.Horizon.{Horizon}
 use Rattle.dover_model.specs.declared.horizon.Horizon.TheVariants.{Mark, End}
 use Rattle.dover_model.specs.Horizons.{due_by}
 use Rattle.dover_model.proofs.Horizons.{due_few}
+use Rattle.dover_model.proofs.Limiting.{jobs_most}
 use Rattle.ready_server.specs.Serving as ready
 use Rattle.ready_server.specs.declared.server.ReadyServer.{ReadyServer}
 use Rattle.ready_server.specs.Roster.{Roll, Listed, stopped, released, job_at, with_event, empty_roll, roll_of}
@@ -186,11 +187,12 @@ same_count p (End value) other = refl
 
 -- there are few takes
 pub takes_low : (J : Instance) (to : Horizon) (events : List Event) → IsValid J → Begins events (due_by J to)
-    → (roll_of events).takes < 2 ^ 32 - 1
+    → (roll_of events).takes < 2 ^ 64 - 1
 takes_low J to events valid begins = omega (
   arith,
   takes_from events empty_roll,
   due_few J to valid,
+  jobs_most J.rules.version,
   ap length begins.1,
   length-append events begins.0,
 )

@@ -21,10 +21,10 @@ use Rattle.ready_server.proofs.RollSettled.{roll_more, takes_low, no_release, sa
 -- ---- a roster that may be kept
 
 -- as many takes as its steps have
-few_in : (o : Option Kept) (events : List Event) → IsRollOf events o → (roll_of events).takes < 2 ^ 32 - 1
+few_in : (o : Option Kept) (events : List Event) → IsRollOf events o → (roll_of events).takes < 2 ^ 64 - 1
     → HasFewTakes o
 few_in None events is few = tt
-few_in (Some k) events is few = subst (λ (p : Roll). p.takes < 2 ^ 32 - 1) (sym is) few
+few_in (Some k) events is few = subst (λ (p : Roll). p.takes < 2 ^ 64 - 1) (sym is) few
 
 -- one step more
 more_in : (o : Option Kept) (events : List Event) (e : Event) → IsRollOf events o

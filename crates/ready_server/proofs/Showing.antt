@@ -7,6 +7,7 @@ use Rattle.dover_model.proofs.Beginnings.{begins_length}
 use Rattle.dover_model.specs.declared.horizon.Horizon.{Horizon}
 use Rattle.dover_model.specs.Horizons.{MayFollow, due_by}
 use Rattle.dover_model.proofs.Horizons.{follows_on, due_few}
+use Rattle.dover_model.proofs.Limiting.{jobs_most}
 use Rattle.ready_server.specs.Running.{HasShown}
 use Rattle.ready_server.specs.Serving.{Serves}
 use Rattle.ready_server.specs.declared.server.ReadyServer.{ReadyServer}
@@ -25,16 +26,17 @@ module _ (valid : (s : ReadyServer) (J : Instance) (to : Horizon) (events : List
     → Begins events (due_by J to)) where
   -- what was printed is few steps
   pub served_few : (v : ReadyServer) (J : Instance) (to : Horizon) (events : List Event) → Serves v J to events
-      → length events ≤ 5_000_001
+      → length events ≤ 20_000_000_001
   served_few v J to events served = omega (
     arith,
     begins_length events (due_by J to) (begins v J to events served),
     due_few J to (valid v J to events served),
+    jobs_most J.rules.version,
   )
 
   -- so there were fewer before the last
   pub room_before : (v : ReadyServer) (J : Instance) (to : Horizon) (events : List Event) (e : Event)
-      → Serves v J to (events ++ e ∷ []) → length events ≤ 5_000_000
+      → Serves v J to (events ++ e ∷ []) → length events ≤ 20_000_000_000
   room_before v J to events e served =
       omega (arith, served_few v J to (events ++ e ∷ []) served, length-append events (e ∷ []))
 

@@ -9,7 +9,7 @@ use Rattle.std.proofs.lemmas.List.Sums.{fold-append}
 use Rattle.dover_model.specs.declared.events.Event.{Event}
 use Rattle.dover_model.specs.declared.events.Event.TheVariants as events
 use Rattle.dover_model.specs.declared.Memory.{Memory}
-use Rattle.dover_model.specs.Limits.{last_tick, most_jobs}
+use Rattle.dover_model.specs.Limits.{last_tick, most_ready}
 use Rattle.dover_model.specs.Instance.{Rules, Instance, IsValid}
 use Rattle.dover_model.specs.State.{State, opening, state_at}
 use Rattle.dover_model.specs.Step.{Prints, step, open_step, after}
@@ -33,7 +33,6 @@ use Rattle.dover_model.specs.declared.horizon.Horizon.{Horizon}
 use Rattle.dover_model.specs.declared.horizon.Horizon.TheVariants.{Mark, End}
 use Rattle.dover_model.specs.Horizons.{MayFollow, is_end_given, due_by, Gives}
 use Rattle.ready_jobs.specs.Course.{Course, Follows, Comes, ComesNext, Settled, StepsBefore}
-use Rattle.ready_jobs.proofs.Courses.{follows_count, follows_fewer}
 use Rattle.ready_server.specs.Serving.{LeavesRest, HasGiven, IsLastOf, Serves, Rests, HasShortValue}
 use Rattle.ready_server.specs.declared.server.ReadyServer.{ReadyServer}
 
@@ -382,17 +381,11 @@ rests_serves s J End rests = record {
 -- ---- room
 
 -- there is room for one ready job more, once it is made
-pub some_place : (s : ReadyServer) (J : Instance) (to : Horizon) (events : List Event) → Serves s J to events
-    → length J.jobs + 1 ≤ most_jobs → (d : Course) (more : ℕ) (r : Result Unit Memory)
-    → d ≡ record s.ready { room = d.room } → OnOk r (min (length s.ready.ready + more) most_jobs ≤ d.room) → 1 ≤ more
+pub some_place : (s : ReadyServer) → length s.ready.ready < most_ready → (d : Course) (more : ℕ)
+    (r : Result Unit Memory) → d ≡ record s.ready { room = d.room }
+    → OnOk r (min (length s.ready.ready + more) most_ready ≤ d.room) → 1 ≤ more
     → OnOk r (length d.ready < d.room)
-some_place s J to events serves few d more (Ok x) same room some =
-    let least : length J.jobs + 1 ≤ 1_000_000 = few in
+some_place s few d more (Ok x) same room some =
     let made : min (length s.ready.ready + more) 1_000_000 ≤ d.room = room in
-    omega (
-      arith,
-      follows_fewer s.ready J serves.state serves.follows,
-      follows_count s.ready J serves.state serves.follows,
-      ap (λ (c : Course). length c.ready) same,
-    )
-some_place s J to events serves few d more (Err e) same room some = room
+    omega (arith, few, ap (λ (c : Course). length c.ready) same)
+some_place s few d more (Err e) same room some = room

@@ -110,7 +110,7 @@ HasLine roster = IfSome roster (λ k. length k.roll.jobs < k.room)
 
 -- there were few takes
 abbrev pub HasFewTakes : Option Kept → Type 0
-HasFewTakes roster = IfSome roster (λ k. k.roll.takes < 2 ^ 32 - 1)
+HasFewTakes roster = IfSome roster (λ k. k.roll.takes < 2 ^ 64 - 1)
 
 -- it was kept from these printed steps
 abbrev pub IsRollOf : List Event → Option Kept → Type 0

@@ -17,7 +17,7 @@ use std::marker::Model;
 pub struct Listed {
     task: ShortTask,
     /// How many takes there were when it stopped: with one more, a held job waits.
-    takes: u32,
+    takes: u64,
 }
 
 impl Model for Listed {
@@ -56,7 +56,7 @@ impl Listed {
     }
 
     /// A job that stops after so many ticks more in this role, where there were so many takes.
-    fn stopped(&self, ticks: u64, role: Role, takes: u32) -> Listed
+    fn stopped(&self, ticks: u64, role: Role, takes: u64) -> Listed
         ensures { result ≡ model.stopped ticks role takes self.now }
     {
         let task = self.task.task();
@@ -72,7 +72,7 @@ impl Listed {
     }
 
     /// Whether a take since it stopped displaces it.
-    fn is_displaced(&self, role: Role, takes: u32) -> bool
+    fn is_displaced(&self, role: Role, takes: u64) -> bool
         requires { role ≡ self.now.task.role }
         ensures { result ≡ model.is_displaced takes self.now }
     {
@@ -85,7 +85,7 @@ impl Listed {
 #[derive(Drop)]
 pub struct Roster {
     jobs: Vec<Listed>,
-    takes: u32,
+    takes: u64,
     turn: Option<u32>,
     since: u64,
 }
@@ -138,7 +138,7 @@ impl Roster {
 
     /// Takes the next printed step into account. No memory is taken.
     pub fn read(&mut self, event: &Event)
-        requires few { self.old.roll.takes < 2 ^ 32 - 1 }
+        requires few { self.old.roll.takes < 2 ^ 64 - 1 }
         requires room { (n : ℕ) (job : JobFacts) → event.now ≡ Release n job
             → length self.old.roll.jobs < self.old.room }
         ensures roll { self.new.roll ≡ with_event self.old.roll event.now }

@@ -6,7 +6,6 @@ ghost use Rattle.dover_model.specs.declared.events.Event.{Event};
 ghost use Rattle.dover_model.specs.declared.events.Event.TheVariants.{Release};
 ghost use Rattle.dover_model.specs.JobFacts.{JobFacts};
 ghost use Rattle.dover_model.specs.Instance.{Instance, IsValid, with_jobs};
-ghost use Rattle.dover_model.specs.Limits.{most_jobs};
 ghost use Rattle.dover_model.specs.Settled.{settled};
 ghost use Rattle.dover_model.specs.Spending.{CostsAtMost};
 ghost use Rattle.dover_model.specs.WholeRun.{Begins};
@@ -110,10 +109,9 @@ impl RosterServer {
     ///
     /// # Errors
     ///
-    /// `Memory` where there is none. It has come as far as before, and room can be asked for again.
+    /// `Memory` where there is none, or where 1,000,000 jobs are ready. It has come as far as before, and room can be
+    /// asked for again.
     pub fn make_room(&mut self) -> Result<(), Memory>
-        requires { (J : Instance) × (to : Horizon) × (events : List Event) × Serves self.old J to events
-            × (length J.jobs + 1 ≤ most_jobs) }
         ensures serves { (J : Instance) (to : Horizon) (events : List Event) → Serves self.old J to events
             → Serves self.new J to events }
         ensures room { OnOk result (HasPlace self.new) }

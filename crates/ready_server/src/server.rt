@@ -3,7 +3,8 @@ ghost use Rattle.std.specs.Prelude.{◌≡◌, ◌≤◌, ◌+◌, ◌∷◌, []
 ghost use Rattle.std.specs.Prelude.{IsOk, OnOk, IfSome, IsNone, IsTrue, false, Some};
 ghost use Rattle.dover_model.specs.declared.events.Event.{Event};
 ghost use Rattle.dover_model.specs.Instance.{Instance, IsValid, with_jobs};
-ghost use Rattle.dover_model.specs.Limits.{most_jobs, most_total, last_tick};
+ghost use Rattle.dover_model.specs.Limits.{most_ready, most_total, last_tick};
+ghost use Rattle.dover_model.specs.declared.events.Version.TheVariants.{Three};
 ghost use Rattle.dover_model.specs.Rest.{instead_with};
 ghost use Rattle.dover_model.specs.Processor.{runner_of};
 ghost use Rattle.dover_model.specs.Settled.{settled};
@@ -19,7 +20,7 @@ ghost use Rattle.ready_server.specs.Serving.{Finishes};
 ghost use Rattle.ready_server.specs.NextStep.{ComesAt};
 
 use dover_model::{Event, Horizon, Job, Memory, Ratio, Version};
-use ready_jobs::Ready;
+use ready_jobs::{MOST_READY, Ready};
 use std::alloc::Global;
 use std::sync::ledger::Ledger;
 use step_count::Steps;
@@ -83,7 +84,7 @@ impl ReadyServer {
         })
     }
 
-    /// Room for so many ready jobs more, as far as there can be jobs. Want of it leaves all as before.
+    /// Room for so many ready jobs more, for at most 1,000,000 in all. Want of it leaves all as before.
     ///
     /// # Errors
     ///
@@ -91,9 +92,9 @@ impl ReadyServer {
     pub fn reserve(&mut self, more: u32) -> Result<(), Memory>
         ensures serves { (J : Instance) (to : Horizon) (events : List Event) → Serves self.old J to events
             → Serves self.new J to events }
-        ensures room { OnOk result (min (length self.old.ready.ready + more) most_jobs ≤ self.new.ready.room) }
+        ensures room { OnOk result (min (length self.old.ready.ready + more) most_ready ≤ self.new.ready.room) }
         ensures few { self.new.ready.room
-            ≤ max self.old.ready.room (min (length self.old.ready.ready + more) most_jobs) }
+            ≤ max self.old.ready.room (min (length self.old.ready.ready + more) most_ready) }
         ensures same { self.new.ready.ready ≡ self.old.ready.ready }
         ensures paid { (start now : ℕ) → HasPaid self.old start now → HasPaid self.new start now }
     {
@@ -105,10 +106,9 @@ impl ReadyServer {
     ///
     /// # Errors
     ///
-    /// `Memory` where there is none. It has come as far as before, and room can be asked for again.
+    /// `Memory` where there is none, or where 1,000,000 jobs are ready, for no more than which there is room. It has
+    /// come as far as before, and room can be asked for again.
     pub fn make_room(&mut self) -> Result<(), Memory>
-        requires { (J : Instance) × (to : Horizon) × (events : List Event) × Serves self.old J to events
-            × (length J.jobs + 1 ≤ most_jobs) }
         ensures serves { (J : Instance) (to : Horizon) (events : List Event) → Serves self.old J to events
             → Serves self.new J to events }
         ensures room { OnOk result (HasPlace self.new) }
@@ -119,6 +119,9 @@ impl ReadyServer {
         let ready = self.ready.count();
         if ready < self.ready.room() {
             return Ok(());
+        }
+        if ready >= MOST_READY {
+            return Err(Memory);
         }
         self.ready.reserve(ready.max(1))
     }
@@ -133,7 +136,7 @@ impl ReadyServer {
     /// The value of the jobs done.
     pub fn value(&self) -> u64
         ensures is { result ≡ self.now.ready.done }
-        ensures modest { result ≤ most_total }
+        ensures modest { result ≤ most_total Three }
     {
         self.ready.value()
     }

@@ -9,8 +9,8 @@ pub trait Watcher {
     /// It has seen these steps.
     ghost seen: { Self → List Event → Type 0 };
 
-    /// Sees one step more. There were at most 5,000,000 before it.
+    /// Sees one step more. There were at most 20,000,000,000 before it.
     fn see(&mut self, event: &Event)
-        requires { (events : List Event) × seen self.old events × (length events ≤ 5_000_000) }
+        requires { (events : List Event) × seen self.old events × (length events ≤ 20_000_000_000) }
         ensures { (events : List Event) → seen self.old events → seen self.new (events ++ event.now ∷ []) };
 }

@@ -6,6 +6,7 @@ use Rattle.std.proofs.lemmas.Bool.{ltb-false}
 use Rattle.std.proofs.lemmas.List.{length-map}
 use Rattle.dover_model.specs.declared.events.Task.{Task}
 use Rattle.dover_model.specs.Lines.{lines_of, whole_lines, rest_of, is_too_long}
+use Rattle.dover_model.proofs.Limiting.{jobs_most}
 use Rattle.line_text.proofs.Lengths.{AreNotTooLong, text_few}
 use Rattle.snapshot.specs.Snapshot.{Head, state_line}
 use Rattle.snapshot.specs.Reading.{Reading, Begun, Going, Taken, Refused, next_line}
@@ -37,32 +38,32 @@ short_lines (l ∷ ls) r h tasks goes = (by (is_too_long l) refl, short_lines ls
 
 -- it has few lines
 pub reading_few : (o : Option Resuming) (ls : List (List ℕ)) → IsReading o ls → AreNotTooLong ls
-    × (length ls ≤ 1_000_001)
+    × (length ls ≤ 4_000_000_001)
 reading_few None ls none = (subst AreNotTooLong (sym none) tt, omega (arith, ap length none))
 reading_few (Some r) ls it =
     let limits : Within it.0 = within it.0 it.2.limits in
-    let jobs : it.0.jobs ≤ 1_000_000 = limits.jobs in (
+    let jobs : it.0.jobs ≤ 4_000_000_000 = omega (arith, limits.jobs, jobs_most it.0.rules.version) in (
       short_lines ls Begun it.0 it.1 it.2.reads,
       omega (arith, ap length it.2.text, length-map it.1 (λ (t : Task). state_line t), it.2.count, jobs),
     )
 
 -- and few bytes
 pub reading_bytes : (o : Option Resuming) (x : List ℕ) → IsReading o (lines_of x) → is_too_long (rest_of x) ≡ false
-    → length x < 129_000_258
+    → length x < 516_000_000_258
 reading_bytes o x it short =
     let whole : lines_of x ≡ whole_lines x = only_whole x short in
     let few = reading_few o (lines_of x) it in
     omega (
       arith,
-      text_few x 1_000_001 (subst AreNotTooLong whole few.0) (omega (arith, few.1, ap length whole))
+      text_few x 4_000_000_001 (subst AreNotTooLong whole few.0) (omega (arith, few.1, ap length whole))
           (ltb-false _ _ short),
     )
 
 -- so what follows its whole lines has a small number, the one behind the cutter's count
-pub next_number : (o : Opening) (x : List ℕ) → OpeningStands o x → (length (whole_lines x) ≤ 1_000_001)
+pub next_number : (o : Opening) (x : List ℕ) → OpeningStands o x → (length (whole_lines x) ≤ 4_000_000_001)
     × (o.lines.count ≡ length (whole_lines x))
 next_number o x it =
     let lines : lines_of x ≡ whole_lines x = only_whole x it.short in
-    let few : length (whole_lines x) ≤ 1_000_001 =
+    let few : length (whole_lines x) ≤ 4_000_000_001 =
     omega (arith, (reading_few o.reader (lines_of x) it.reads).1, ap length lines) in
     (few, omega (arith, it.cut.count, few))

@@ -15,6 +15,7 @@ use Rattle.dover_model.specs.Spending.{CostsAtMost}
 use Rattle.dover_model.proofs.Spending.{few_more}
 use Rattle.event_feed.specs.Answers.{admitted_in}
 use Rattle.event_feed.proofs.Admitting.{admitted_front}
+use Rattle.dover_model.proofs.Limiting.{jobs_most}
 use Rattle.snapshot.specs.Snapshot.{MayPause, Head, state_line, snapshot}
 use Rattle.snapshot.specs.Reading.{Reading, Begun, Going, Taken, Refused, reading_of}
 use Rattle.snapshot.proofs.Beginning.{Within, within}
@@ -156,11 +157,11 @@ lines_bytes (l ∷ ls) short = omega (
 )
 
 module _ (x : List ℕ) (h : Head) (ts : List Task) (is : reading_of (lines_of x) ≡ Taken h ts) where
-  snapshot_bytes : length (snapshot (feed_of h ts)) < 130_000_000
+  snapshot_bytes : length (snapshot (feed_of h ts)) < 520_000_000_000
   snapshot_bytes =
       let it = (front x h ts is).whole in
       let limits : Within h = within h it.read.limits in
-      let jobs : h.jobs ≤ 1_000_000 = limits.jobs in omega (
+      let jobs : h.jobs ≤ 4_000_000_000 = omega (arith, limits.jobs, jobs_most h.rules.version) in omega (
         arith,
         jobs,
         it.all,
@@ -172,7 +173,7 @@ module _ (x : List ℕ) (h : Head) (ts : List Task) (is : reading_of (lines_of x
       )
 
   pub few_bytes : is_open (account (feed_of h ts ++ behind_snapshot h ts x)) ≡ true
-      → length (feed_of h ts ++ behind_snapshot h ts x) < 516_000_129 → length x < 2 ^ 64 - 1
+      → length (feed_of h ts ++ behind_snapshot h ts x) < 2_064_000_000_129 → length x < 2 ^ 64 - 1
   few_bytes goes few = omega (
     arith,
     snapshot_bytes,

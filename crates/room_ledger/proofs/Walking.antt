@@ -7,7 +7,7 @@ use Rattle.std.specs.Prelude.{None, slice_index_or}
 use Rattle.std.specs.Bool.{MatchBool}
 use Rattle.std.specs.List.{sum_by, filter, filter_map, list_all, cons_option, fold, enumerate_from}
 use Rattle.dover_model.specs.Fraction.{Fraction}
-use Rattle.dover_model.specs.Instance.{Instance, IsValid}
+use Rattle.dover_model.specs.Instance.{Instance, IsListable, IsValid}
 use Rattle.dover_model.specs.declared.events.Event.{Event}
 use Rattle.dover_model.specs.declared.events.Entry.{Entry}
 use Rattle.dover_model.specs.declared.events.Role.TheVariants.{Coming, Running}
@@ -83,7 +83,7 @@ same_last : (xs : List Step) (s : State) (m : Move) → (xs ≡ [] → AtEnd s m
 same_last [] s m at_end = (at_end refl).0
 same_last (x ∷ xs) s m at_end = refl
 
-module _ (J : Instance) (valid : IsValid J) where
+module _ (J : Instance) (valid : IsValid J) (listable : IsListable J) where
   -- the page follows each step
   step_next : (s : State) → Keeps J s → (p : Page) → Follows s p → Next s p (step J.rules s)
   step_next s keeps p follows =
@@ -93,7 +93,7 @@ module _ (J : Instance) (valid : IsValid J) where
         total : value_sum s.tasks ≤ 10_000_000_000_000
         total = omega (
           arith,
-          valid.total,
+          listable.total,
           sum_map (λ (t : Task). t.job) (λ j. j.value) s.tasks,
           ap (sum_by (λ j. j.value)) keeps.jobs,
         )
@@ -281,7 +281,7 @@ module _ (k : Fraction) (steps : List Event) (J : Instance) (of : IsRunOf k step
         subst (λ q. Reads J q steps (tests.rooms J)) (sym page)
             (subst (λ es. Reads J
             (record { entries = map entry_of (to_come 0 J.jobs); since = 0; turn = None; held = empty }) es
-            (tests.rooms J)) of.prints (none_read J of.valid)),
+            (tests.rooms J)) of.prints (none_read J of.valid of.listable)),
         ap (λ ns. ns ++ tests.rooms J) none,
       )
 
@@ -290,7 +290,7 @@ module _ (k : Fraction) (steps : List Event) (J : Instance) (of : IsRunOf k step
     -- the next step can be read, and the page after it is behind it
     pub step_read : IsReadable p e
         × ((more : List ℕ) × (behind.0 ≡ room_on p e ∷ more) × Reads J (with_event p e) (drop (i + 1) steps) more)
-    step_read = reads_next J of.valid p e (drop (i + 1) steps) behind.0
+    step_read = reads_next J of.valid of.listable p e (drop (i + 1) steps) behind.0
         (subst (λ es. Reads J p es behind.0) (item_next steps i e is there) behind.1)
 
     pub step_behind : (q : Page) → q ≡ with_event p e → IsBehind J q (drop (i + 1) steps)
@@ -321,7 +321,7 @@ module _ (k : Fraction) (steps : List Event) (J : Instance) (of : IsRunOf k step
   pub weighed : (p : Page) (rooms : List ℕ) (i : ℕ) → length steps ≤ i → Weighs J p rooms (drop i steps)
       → rooms ≡ tests.rooms J
   weighed p rooms i past weighs =
-      let none : weighs.0 ≡ [] = all_read J of.valid p weighs.0
+      let none : weighs.0 ≡ [] = all_read J of.valid of.listable p weighs.0
       (subst (λ es. Reads J p es weighs.0) (drop_all i steps past) weighs.1) in
       sym (append-nil rooms) ∙ ap (λ ns. rooms ++ ns) (sym none) ∙ weighs.2
 
@@ -329,7 +329,7 @@ module _ (k : Fraction) (steps : List Event) (J : Instance) (of : IsRunOf k step
   pub had_at_end : (p : Page) (jobs : List JobFacts) (i : ℕ) → length steps ≤ i → jobs ≡ J.jobs
       → IsBehind J p (drop i steps) → map (had_in p.entries) (enumerate_from 0 jobs) ≡ hads J
   had_at_end p jobs i past same behind =
-      let it = end_stored J of.valid p behind.0
+      let it = end_stored J of.valid of.listable p behind.0
       (subst (λ es. Reads J p es behind.0) (drop_all i steps past) behind.1) in
       ap (λ js. map (had_in p.entries) (enumerate_from 0 js)) (same ∙ sym it.3)
       ∙ had_all p.entries 0 (end_state J).tasks it.1 it.0 it.2

@@ -1,5 +1,5 @@
 -- What is kept of the running and the held jobs, and what each printed step does to it.
-use Rattle.std.specs.Prelude.{ℕ, ◌-◌, ◌<◌, ◌≤◌, max, List, [], ◌∷◌, length, set, ◌==◌, if◌then◌else◌, Option}
+use Rattle.std.specs.Prelude.{ℕ, ◌-◌, ◌^◌, ◌<◌, max, List, [], ◌∷◌, length, set, ◌==◌, if◌then◌else◌, Option}
 use Rattle.std.specs.Prelude.{Some, None, slice_index_or}
 use Rattle.std.specs.Option.{option_map, ForSome}
 use Rattle.dover_model.specs.declared.events.Entry.{Entry}
@@ -7,7 +7,6 @@ use Rattle.dover_model.specs.declared.events.Event.{Event}
 use Rattle.dover_model.specs.declared.events.Event.TheVariants.{Release, Run, Preempt, Take, Complete, Abandon, End}
 use Rattle.dover_model.specs.Entries.{room_of}
 use Rattle.dover_model.specs.JobFacts.{JobFacts}
-use Rattle.dover_model.specs.Limits.{most_total}
 use Rattle.dover_model.specs.Sound.{Each}
 use Rattle.held_queue.specs.Stack.{Stack, top_of, value_of, popped}
 
@@ -91,7 +90,7 @@ room_on p _ = 0
 -- this job can be put on top
 pub record CanHold (s : Stack) (e : Entry) : Type 0 where
   pub first : Each (λ f. e.deadline < f.deadline) s.held
-  pub total : value_of (e ∷ s.held) ≤ most_total
+  pub total : value_of (e ∷ s.held) < 10 ^ 18
 
 -- the job that runs can be stored
 abbrev pub CanStop : Page → ℕ → Type 0

@@ -7,6 +7,7 @@ ghost use Rattle.dover_model.specs.Entries.{entry_of};
 ghost use Rattle.dover_model.specs.Fraction.{Fraction};
 ghost use Rattle.dover_model.specs.Instance.{Instance};
 ghost use Rattle.dover_model.specs.Limits.{most_jobs};
+ghost use Rattle.dover_model.specs.declared.events.Version.TheVariants.{Two};
 ghost use Rattle.dover_model.specs.Observed as observed;
 ghost use Rattle.dover_model.specs.State.{to_come};
 ghost use Rattle.room_ledger.specs.Pages.{had_in};
@@ -17,8 +18,8 @@ use dover_model::{Entry, Event, Job, Memory, Ratio};
 use std::alloc::Global;
 
 /// At each printed step of a run that is a release or a preemption the room that the running and the held jobs leave a
-/// fresh job, and at each other one 0, in one pass over the steps. The jobs of the run are these, and valid for the
-/// ratio `k`. Want of memory is the only error.
+/// fresh job, and at each other one 0, in one pass over the steps. The jobs of the run are these, valid for the ratio
+/// `k`, and within the limits of version Two. Want of memory is the only error.
 pub fn rooms(alloc: Global, k: Ratio, jobs: &[Job], run: &[Event]) -> Result<Vec<u64>, Memory>
     requires { (J : Instance) × IsRunOf k run.now J × (jobs.now ≡ J.jobs) }
     ensures { (J : Instance) → IsRunOf k run.now J → jobs.now ≡ J.jobs
@@ -34,7 +35,7 @@ pub fn rooms(alloc: Global, k: Ratio, jobs: &[Job], run: &[Event]) -> Result<Vec
 }
 
 /// How many ticks each job has had by the end of a run, by number, in one pass over its printed steps. The jobs of the
-/// run are these, and valid for some ratio. Want of memory is the only error.
+/// run are these, valid for some ratio, and within the limits of version Two. Want of memory is the only error.
 pub fn hads(alloc: Global, jobs: &[Job], run: &[Event]) -> Result<Vec<u64>, Memory>
     requires { (k : Fraction) × ((J : Instance) × IsRunOf k run.now J × (jobs.now ≡ J.jobs)) }
     ensures { (k : Fraction) (J : Instance) → IsRunOf k run.now J → jobs.now ≡ J.jobs
@@ -61,7 +62,7 @@ fn had_by(alloc: Global, jobs: &[Job], under_way: &UnderWay) -> Result<Vec<u64>,
 
 /// The jobs by number, before any of them ran.
 fn entries(alloc: Global, jobs: &[Job]) -> Result<Vec<Entry>, Memory>
-    requires { length jobs.now ≤ most_jobs }
+    requires { length jobs.now ≤ most_jobs Two }
     ensures { IfOk result (λ entries. entries.items ≡ map entry_of (to_come 0 jobs.now)) }
 {
     let mut entries = Vec::new(alloc);

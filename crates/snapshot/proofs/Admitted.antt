@@ -9,7 +9,9 @@ use Rattle.std.proofs.lemmas.List.Sums.{fold-append, sum_by-append, sum_by-cons}
 use Rattle.dover_model.specs.declared.events.Refusal.{Refusal}
 use Rattle.dover_model.specs.declared.events.Task.{Task}
 use Rattle.dover_model.specs.JobFacts.{JobFacts, IsJob}
-use Rattle.dover_model.specs.Instance.{under, Instance, IsInOrder, IsWithinRatio, IsValid, with_jobs, total_value}
+use Rattle.dover_model.specs.Limits.{most_jobs, most_total}
+use Rattle.dover_model.specs.Instance.{declared_by, under, Instance, IsInOrder, IsWithinRatio, IsValid, with_jobs}
+use Rattle.dover_model.specs.Instance.{total_value}
 use Rattle.dover_model.specs.Admission.{is_within_ratio_both_ways, refusal_of}
 use Rattle.dover_model.specs.Session.{admitted_jobs}
 use Rattle.dover_model.specs.Sound.{jobs_of}
@@ -45,10 +47,11 @@ all_pairs R xs y all = pairs xs (all_front (λ x. AllByRecursion (R x) (xs ++ y 
 
 -- a job that is valid behind others isn't refused
 valid_admitted : (J : Instance) (j : JobFacts) → IsValid (with_jobs J (j ∷ []))
-    → refusal_of J.rules.ratio J.jobs j ≡ None
-valid_admitted J j valid = not_refused J.rules.ratio J.jobs j (all_last IsJob J.jobs j valid.each)
-    (let most : length (J.jobs ++ j ∷ []) ≤ 1_000_000 = valid.count in omega (arith, length-append J.jobs (j ∷ [])))
-    (let most : total_value (J.jobs ++ j ∷ []) ≤ 10_000_000_000_000 = valid.total in
+    → refusal_of (declared_by J.rules) J.jobs j ≡ None
+valid_admitted J j valid = not_refused (declared_by J.rules) J.jobs j (all_last IsJob J.jobs j valid.each)
+    (let most : length (J.jobs ++ j ∷ []) ≤ most_jobs J.rules.version = valid.count in
+    omega (arith, length-append J.jobs (j ∷ [])))
+    (let most : total_value (J.jobs ++ j ∷ []) ≤ most_total J.rules.version = valid.total in
     omega (
       arith,
       sum_by-append (λ (i : JobFacts). i.value) J.jobs (j ∷ []),
@@ -115,12 +118,12 @@ module _ (h : Head) (tasks : List Task) (t : Task) where
 
   -- the cause, where the release isn't below the last
   cause_in_order : last_release tasks ≤ t.job.release
-      → job_cause ≡ option_map NotAdmitted (refusal_of h.rules.ratio (jobs_of tasks) t.job)
+      → job_cause ≡ option_map NotAdmitted (refusal_of h.rules (jobs_of tasks) t.job)
   cause_in_order ordered =
       ap (λ b. cond b (Some (late_cause h.rules.version))
-      (option_map NotAdmitted (refusal_of h.rules.ratio (admitted_jobs (stored_session h tasks).items) t.job)))
+      (option_map NotAdmitted (refusal_of h.rules (admitted_jobs (stored_session h tasks).items) t.job)))
       (le-ltb t.job.release (last_release tasks) ordered)
-      ∙ ap (λ jobs. option_map NotAdmitted (refusal_of h.rules.ratio jobs t.job)) (jobs_back (jobs_of tasks))
+      ∙ ap (λ jobs. option_map NotAdmitted (refusal_of h.rules jobs t.job)) (jobs_back (jobs_of tasks))
 
   -- the jobs with this one
   pub with_this : stored h (tasks ++ t ∷ []) ≡ with_jobs (stored h tasks) (t.job ∷ [])
@@ -140,7 +143,7 @@ module _ (h : Head) (tasks : List Task) (t : Task) where
   pub no_cause_valid : IsValid (stored h tasks) → job_cause ≡ None → IsValid (stored h (tasks ++ t ∷ []))
   no_cause_valid valid none = by_order (nat_lt t.job.release (last_release tasks)) refl none where
     refusal : Option Refusal
-    refusal = refusal_of h.rules.ratio (admitted_jobs (stored_session h tasks).items) t.job
+    refusal = refusal_of h.rules (admitted_jobs (stored_session h tasks).items) t.job
 
     not_any : (o : Option Refusal) → option_map NotAdmitted o ≡ None → o ≡ None
     not_any None e = refl
@@ -157,7 +160,7 @@ module _ (h : Head) (tasks : List Task) (t : Task) where
         subst IsValid (sym with_this) (admits h.rules (jobs_of tasks) t.job valid
         (all_from (λ (j : JobFacts). j.release ≤ last_release tasks) (λ j. j.release ≤ t.job.release) (jobs_of tasks)
         (λ j low. omega arith) all)
-        (ap (λ jobs. refusal_of h.rules.ratio jobs t.job) (sym (jobs_back (jobs_of tasks))) ∙ not_any refusal e)) where
+        (ap (λ jobs. refusal_of h.rules jobs t.job) (sym (jobs_back (jobs_of tasks))) ∙ not_any refusal e)) where
           from_zero : (jobs : List JobFacts) → AllByRecursion (λ (j : JobFacts). 0 ≤ j.release) jobs
           from_zero [] = tt
           from_zero (j ∷ jobs) = (omega arith, from_zero jobs)

@@ -11,7 +11,7 @@ use Rattle.dover_model.specs.Limits.{last_tick, most_lines}
 use Rattle.dover_model.specs.declared.events.Event.{Event}
 use Rattle.dover_model.specs.declared.events.Refusal.{Refusal}
 use Rattle.dover_model.specs.JobFacts.{JobFacts}
-use Rattle.dover_model.specs.Instance.{Instance, IsValid, with_jobs}
+use Rattle.dover_model.specs.Instance.{declared_by, Instance, IsValid, with_jobs}
 use Rattle.dover_model.specs.Admission.{refusal_of}
 use Rattle.dover_model.specs.Session.{Session, JobItem, RefusedItem, Refused, RefusedJob, refused_at, with_item}
 use Rattle.dover_model.specs.Session.{instance_of}
@@ -176,7 +176,7 @@ module _ (S T : Session) (mark lines : ℕ) (holds : Holds S mark lines) (holds_
         other = end_adds T mark lines holds_other J same it.0 it.1;
       }
 
-  jobs_alike : (j : JobFacts) → mark ≤ j.release → refusal_of S.rules.ratio (admitted_jobs S.items) j ≡ None
+  jobs_alike : (j : JobFacts) → mark ≤ j.release → refusal_of S.rules (admitted_jobs S.items) j ≡ None
       → GoAlike a b (account_with (suc lines) (Some (with_item S (JobItem j))) j.release Open)
       (account_with (suc lines) (Some (with_item T (JobItem j))) j.release Open)
   jobs_alike j ordered none =
@@ -217,9 +217,9 @@ module _ (S T : Session) (mark lines : ℕ) (holds : Holds S mark lines) (holds_
       → GoAlike a b (with_line counted_a (JobLine j) (later_line_cause S mark (JobLine j)))
       (with_line counted_b (JobLine j) (later_line_cause T mark (JobLine j)))
   job_lines_alike j = by_order (nat_lt j.release mark) refl where
-    refusal_of_both : refusal_of T.rules.ratio (admitted_jobs T.items) j ≡ refusal_of S.rules.ratio
+    refusal_of_both : refusal_of T.rules (admitted_jobs T.items) j ≡ refusal_of S.rules
         (admitted_jobs S.items) j
-    refusal_of_both = ap (λ (K : Instance). refusal_of K.rules.ratio K.jobs j) same
+    refusal_of_both = ap (λ (K : Instance). refusal_of (declared_by K.rules) K.jobs j) same
 
     version_of_both : refuses_lines T.rules.version ≡ refuses_lines S.rules.version
     version_of_both = ap (λ (K : Instance). refuses_lines K.rules.version) same
@@ -231,7 +231,7 @@ module _ (S T : Session) (mark lines : ℕ) (holds : Holds S mark lines) (holds_
     by_version refusal true = refusals_alike j refusal
     by_version refusal false = faults_alike (NotAdmitted refusal)
 
-    by_refusal : (o : Option Refusal) → mark ≤ j.release → refusal_of S.rules.ratio (admitted_jobs S.items) j ≡ o
+    by_refusal : (o : Option Refusal) → mark ≤ j.release → refusal_of S.rules (admitted_jobs S.items) j ≡ o
         → GoAlike a b (with_line counted_a (JobLine j) (option_map NotAdmitted o))
         (with_line counted_b (JobLine j) (option_map NotAdmitted o))
     by_refusal None ordered none = jobs_alike j ordered none
@@ -247,10 +247,10 @@ module _ (S T : Session) (mark lines : ℕ) (holds : Holds S mark lines) (holds_
         → GoAlike a b
         (with_line counted_a (JobLine j)
         (cond c (Some (late_cause S.rules.version))
-        (option_map NotAdmitted (refusal_of S.rules.ratio (admitted_jobs S.items) j))))
+        (option_map NotAdmitted (refusal_of S.rules (admitted_jobs S.items) j))))
         (with_line counted_b (JobLine j)
         (cond c (Some (late_cause T.rules.version))
-        (option_map NotAdmitted (refusal_of T.rules.ratio (admitted_jobs T.items) j))))
+        (option_map NotAdmitted (refusal_of T.rules (admitted_jobs T.items) j))))
     by_order true falls =
         subst (λ cause. GoAlike a b (with_line counted_a (JobLine j) (Some cause))
         (with_line counted_b (JobLine j) (Some (late_cause T.rules.version))))
@@ -260,9 +260,9 @@ module _ (S T : Session) (mark lines : ℕ) (holds : Holds S mark lines) (holds_
         (faults_alike Order))
     by_order false ordered =
         subst (λ o. GoAlike a b (with_line counted_a (JobLine j)
-        (option_map NotAdmitted (refusal_of S.rules.ratio (admitted_jobs S.items) j)))
+        (option_map NotAdmitted (refusal_of S.rules (admitted_jobs S.items) j)))
         (with_line counted_b (JobLine j) (option_map NotAdmitted o))) (sym refusal_of_both)
-        (by_refusal (refusal_of S.rules.ratio (admitted_jobs S.items) j) (ltb-false _ _ ordered) refl)
+        (by_refusal (refusal_of S.rules (admitted_jobs S.items) j) (ltb-false _ _ ordered) refl)
 
   -- a line of any form
   formed_alike : (line : FeedLine)
@@ -288,13 +288,16 @@ module _ (S T : Session) (mark lines : ℕ) (holds : Holds S mark lines) (holds_
 
   -- any line
   open_alike : (bytes : List ℕ) → GoAlike a b (next_line a bytes) (next_line b bytes)
-  open_alike bytes = by_count (nat_lt most_lines (suc lines)) (feed_line bytes) where
-    by_count : (c : Bool) (o : Option FeedLine)
-        → GoAlike a b (cond c (with_fault counted_a Lines) (after_form counted_a o))
-        (cond c (with_fault counted_b Lines) (after_form counted_b o))
-    by_count true o = faults_alike Lines
-    by_count false None = faults_alike Line
-    by_count false (Some line) = formed_alike line
+  open_alike bytes = subst (λ most. GoAlike a b (next_line a bytes)
+      (cond (nat_lt most (suc lines)) (with_fault counted_b Lines) (after_form counted_b (feed_line bytes))))
+      (ap (λ (K : Instance). most_lines K.rules.version) (sym same))
+      (by_count (nat_lt (most_lines S.rules.version) (suc lines)) (feed_line bytes)) where
+        by_count : (c : Bool) (o : Option FeedLine)
+            → GoAlike a b (cond c (with_fault counted_a Lines) (after_form counted_a o))
+            (cond c (with_fault counted_b Lines) (after_form counted_b o))
+        by_count true o = faults_alike Lines
+        by_count false None = faults_alike Line
+        by_count false (Some line) = formed_alike line
 
 -- ---- any lines
 

@@ -1,6 +1,6 @@
 -- An intake that is handed the line of the ratio, and the tick lines behind all jobs.
 use Rattle.std.proofs.Common.{◌≡◌, ℕ, suc, ◌+◌, ◌-◌, ◌≤◌, ◌<◌, List, [], ◌∷◌, ◌++◌, replicate, refl, sym, ap, ◌∙◌}
-use Rattle.std.proofs.Common.{Bool, true, false, ◌&&◌, ◌||◌, arith, Some, append_assoc, append-nil}
+use Rattle.std.proofs.Common.{Bool, true, false, ◌&&◌, ◌||◌, arith, Some, append_assoc, append-nil, subst}
 use Rattle.std.specs.Prelude.{nat_le, nat_lt}
 use Rattle.std.specs.List.{fold}
 use Rattle.std.proofs.lemmas.Bool.{leb-true, ltb-true, ltb-false, and_parts}
@@ -13,6 +13,7 @@ use Rattle.dover_model.specs.Feed.{Account, next_line, no_lines, account_of_line
 use Rattle.event_feed.specs.Kept as feed
 use Rattle.event_feed.specs.Reading.{open_account}
 use Rattle.event_feed.proofs.Skipping.{ticks}
+use Rattle.event_feed.proofs.Taking.{kept_most}
 use Rattle.snapshot.specs.Snapshot.{Head}
 use Rattle.snapshot.specs.Reading.{is_within_limits, last_release}
 use Rattle.snapshot.specs.Stored.{ratio_text, job_lines, stored_session, stored_account}
@@ -45,20 +46,21 @@ module _ (h : Head) (ratio : IsRatio h.rules.ratio) where
 -- what the limits say
 pub record Within (h : Head) : Type 0 where
   pub mark : h.mark ≤ last_tick
-  pub jobs : h.jobs ≤ most_jobs
+  pub jobs : h.jobs ≤ most_jobs h.rules.version
   pub enough : h.jobs + 1 ≤ h.lines
-  pub lines : h.lines ≤ most_lines
+  pub lines : h.lines ≤ most_lines h.rules.version
 
 pub within : (h : Head) → is_within_limits h ≡ true → Within h
 within h it =
-    let abc = and_parts ((nat_le h.mark last_tick && nat_le h.jobs most_jobs) && nat_le (h.jobs + 1) h.lines) _ it in
-    let ab = and_parts (nat_le h.mark last_tick && nat_le h.jobs most_jobs) _ abc.0 in
+    let few : Bool = nat_le h.mark last_tick && nat_le h.jobs (most_jobs h.rules.version) in
+    let abc = and_parts (few && nat_le (h.jobs + 1) h.lines) _ it in
+    let ab = and_parts few _ abc.0 in
     let a = and_parts (nat_le h.mark last_tick) _ ab.0 in
     record {
       mark = leb-true h.mark last_tick a.0;
-      jobs = leb-true h.jobs most_jobs a.1;
+      jobs = leb-true h.jobs (most_jobs h.rules.version) a.1;
       enough = leb-true (h.jobs + 1) h.lines ab.1;
-      lines = leb-true h.lines most_lines abc.1;
+      lines = leb-true h.lines (most_lines h.rules.version) abc.1;
     }
 
 module _ (h : Head) (tasks : List Task) (can : CanPause h tasks) where
@@ -121,7 +123,18 @@ module _ (h : Head) (tasks : List Task) (can : CanPause h tasks) where
     -- and there is room for the others
     pub tick_room : (i : feed.Kept) → feed.StandsFor i (job_lines h tasks ++ tick ∷ [])
         → feed.HasLines i (h.lines - h.jobs - 2)
-    tick_room i it = omega (arith, it.by_account.counted, ap (λ (a : Account). a.lines) first_account, limits.lines)
+    tick_room i it =
+        let ls : List (List ℕ) = job_lines h tasks ++ tick ∷ [] in
+        let kept : feed.KeepsSession i.session (Some (stored_session h tasks)) (account_of_lines ls).mark =
+        subst (λ o. feed.KeepsSession i.session o (account_of_lines ls).mark)
+        (ap (λ (a : Account). a.session) first_account) it.by_account.session in
+        omega (
+          arith,
+          it.by_account.counted,
+          ap (λ (a : Account). a.lines) first_account,
+          limits.lines,
+          kept_most i.session (Some (stored_session h tasks)) (account_of_lines ls).mark kept,
+        )
 
     -- all lines are the first, and the others
     all_ticks : tick_lines h ≡ tick ∷ replicate (h.lines - h.jobs - 2) tick

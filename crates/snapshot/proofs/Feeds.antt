@@ -22,7 +22,7 @@ use Rattle.snapshot.specs.Feeds.{GoOnEqually}
 use Rattle.snapshot.proofs.Alike.{Alike, SameRun, GoAlike, lines_alike}
 use Rattle.snapshot.proofs.Behind.{feedless_head, feedless_states, same_lines, whole_behind, rest_behind, lines_whole}
 use Rattle.snapshot.proofs.Behind.{account_behind}
-use Rattle.snapshot.proofs.Reached.{Reached, lines_reach, lines_few}
+use Rattle.snapshot.proofs.Reached.{Reached, lines_reach, lines_few, few_open}
 use Rattle.snapshot.proofs.Takeable.{is_head, taken, stored_is, holds_open, reaches_open}
 use Rattle.dover_model.specs.Session.{may_finish_early}
 use Rattle.event_feed.specs.Listing.{IsPlain}
@@ -54,8 +54,8 @@ module _ (F : List ℕ) (may : MayPause F) where
     pub holds : Holds S (account F).mark (account F).lines
     holds = holds_open (account F) S (account_kept F) opened there
 
-    pub few : (account F).lines ≤ most_lines
-    few = lines_few (lines_of F) no_lines (λ o. omega arith) opened
+    pub few : (account F).lines ≤ most_lines S.rules.version
+    few = few_open (account F) S (lines_few (lines_of F) no_lines (omega arith)) opened there
 
     pub reached : Reached (admitted_jobs S.items) (account F).mark (account F).lines
     reached = reaches_open (account F) S (lines_reach (lines_of F) no_lines refl) opened there

@@ -1,7 +1,7 @@
 -- What the shortest feed with a snapshot says: a line of the ratio, and a line for each job.
 use Rattle.std.proofs.Common.{◌≡◌, ℕ, suc, ◌+◌, ◌≤◌, ◌<◌, ◌^◌, List, [], ◌∷◌, ◌++◌, length, length-append, map, sym, ap}
 use Rattle.std.proofs.Common.{◌∙◌, subst}
-use Rattle.std.proofs.Common.{cond, arith, Some, None, is_some, true, ◌||◌}
+use Rattle.std.proofs.Common.{cond, arith, Some, None, is_some, ◌||◌}
 use Rattle.std.specs.Prelude.{nat_lt}
 use Rattle.std.specs.List.{AllByRecursion}
 use Rattle.std.specs.Option.{option_map}
@@ -20,7 +20,6 @@ use Rattle.dover_model.specs.Sound.{jobs_of}
 use Rattle.dover_model.specs.FeedLine.{FeedLine, RatioLine, JobLine, TickLine, HasNumerals, feed_line, feed_text}
 use Rattle.dover_model.specs.Feed.{Account, Lines, Declared, Order, rules_with, declared_rules, cause_of, with_line}
 use Rattle.dover_model.specs.Feed.{with_fault, next_line, no_lines}
-use Rattle.dover_model.proofs.Tests.{never}
 use Rattle.dover_model.proofs.Agreement.{is_ratio-agrees}
 use Rattle.dover_model.proofs.FeedLines.{feed_line-feed_text}
 use Rattle.event_feed.specs.Reading.{open_account}
@@ -79,13 +78,13 @@ module _ (h : Head) (tasks : List Task) (t : Task) where
   counted_account = open_account (suc (length tasks + 1)) (Some (stored_session h tasks)) (last_release tasks)
 
   -- a line of a job that has numerals is read
-  pub job_read : AreShort (job_numbers t.job) → length tasks + 2 ≤ most_lines
+  pub job_read : AreShort (job_numbers t.job) → length tasks + 2 ≤ most_lines h.rules.version
       → next_line (stored_account h tasks) (feed_text (JobLine t.job))
       ≡ with_line counted_account (JobLine t.job) (cause_of counted_account (JobLine t.job))
   job_read short few =
       ap (λ b. cond b (with_fault counted_account Lines)
       (after_form counted_account (feed_line (feed_text (JobLine t.job)))))
-      (le-ltb most_lines (suc (length tasks + 1)) (omega arith))
+      (le-ltb (most_lines h.rules.version) (suc (length tasks + 1)) (omega arith))
       ∙ ap (after_form counted_account) (feed_line-feed_text (JobLine t.job) short)
 
   -- with no cause it adds the job
@@ -104,7 +103,7 @@ module _ (h : Head) (tasks : List Task) (t : Task) where
       ∙ ap (λ mark. with_jobs (length (tasks ++ t ∷ []) + 1) (jobs_of (tasks ++ t ∷ [])) mark) (sym (last_more tasks t))
 
   -- the line of a job that is valid behind the others
-  pub job_account : IsValid (stored h (tasks ++ t ∷ [])) → length tasks + 2 ≤ most_lines
+  pub job_account : IsValid (stored h (tasks ++ t ∷ [])) → length tasks + 2 ≤ most_lines h.rules.version
       → next_line (stored_account h tasks) (feed_text (JobLine t.job)) ≡ stored_account h (tasks ++ t ∷ [])
   job_account valid few =
       let job : IsJob t.job = all_last IsJob (jobs_of tasks) t.job
@@ -115,7 +114,8 @@ module _ (h : Head) (tasks : List Task) (t : Task) where
 -- ---- a tick
 
 -- a tick at the mark or after it moves the mark
-pub tick_account : (lines : ℕ) (S : Session) (mark tick : ℕ) → mark ≤ tick → tick ≤ last_tick → suc lines ≤ most_lines
+pub tick_account : (lines : ℕ) (S : Session) (mark tick : ℕ) → mark ≤ tick → tick ≤ last_tick
+    → suc lines ≤ most_lines S.rules.version
     → next_line (open_account lines (Some S) mark) (feed_text (TickLine tick)) ≡ open_account (suc lines) (Some S) tick
 tick_account lines S mark tick ordered known few =
     let a : Account = open_account (suc lines) (Some S) mark in

@@ -5,6 +5,7 @@ use Rattle.std.specs.List.{slice_get}
 use Rattle.std.specs.Option.{option_map}
 use Rattle.std.proofs.lemmas.List.{length-map}
 use Rattle.dover_model.specs.declared.events.Task.{Task}
+use Rattle.dover_model.specs.declared.events.Version.TheVariants.{Three}
 use Rattle.dover_model.specs.Limits.{most_jobs, most_lines, last_tick}
 use Rattle.dover_model.specs.Feed.{account}
 use Rattle.dover_model.specs.Instance.{Rules, Declaration, declared_by, Instance}
@@ -14,6 +15,7 @@ use Rattle.dover_model.specs.Settled.{settled, settled_state}
 use Rattle.dover_model.proofs.Accounts.{Holds}
 use Rattle.dover_model.proofs.Barriers.{settled_at_barrier}
 use Rattle.dover_model.proofs.Honest.{count_jobs}
+use Rattle.dover_model.proofs.Limiting.{jobs_most, lines_most}
 use Rattle.dover_model.proofs.Members.{some_same}
 use Rattle.ready_server.specs.Roster.{Roll, Listed, job_at, roll_of, Kept, IsRollOf}
 use Rattle.snapshot.specs.Snapshot.{head_line, state_line, snapshot}
@@ -32,8 +34,13 @@ module _ (v : RosterServer) (lines mark : ℕ) (F : List ℕ) (it : IsTakenTo v 
   kept = holds F it.may it.session it.named
 
   -- it has few lines
-  pub lines_few : lines ≤ most_lines
-  lines_few = subst (λ n. n ≤ most_lines) (sym it.lines_are) (few F it.may it.session it.named)
+  pub lines_few : lines ≤ most_lines Three
+  lines_few = omega (
+    arith,
+    it.lines_are,
+    few F it.may it.session it.named,
+    lines_most it.session.rules.version,
+  )
 
   -- its mark is a tick
   pub mark_known : mark ≤ last_tick
@@ -55,8 +62,8 @@ module _ (v : RosterServer) (lines mark : ℕ) (F : List ℕ) (it : IsTakenTo v 
   )
 
   -- they are few
-  pub jobs_few : length k.roll.jobs ≤ most_jobs
-  jobs_few = subst (λ n. n ≤ most_jobs) (sym count) kept.reads.valid.count
+  pub jobs_few : length k.roll.jobs ≤ most_jobs Three
+  jobs_few = omega (arith, count, kept.reads.valid.count, jobs_most it.session.rules.version)
 
   -- the lines are those of the snapshot
   pub text_is : in_lines (lines_in k.roll v.server.ready.rules lines mark) ≡ snapshot F

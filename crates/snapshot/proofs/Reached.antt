@@ -8,13 +8,15 @@ use Rattle.std.specs.Option.{option_map, option_map_or}
 use Rattle.std.proofs.lemmas.Bool.{ltb-false}
 use Rattle.std.proofs.lemmas.List.Sums.{fold-append}
 use Rattle.dover_model.specs.Limits.{last_tick, most_lines}
+use Rattle.dover_model.specs.declared.events.Version.{Version}
+use Rattle.dover_model.specs.declared.events.Version.TheVariants.{One, Two, Three}
 use Rattle.dover_model.specs.JobFacts.{JobFacts}
 use Rattle.dover_model.specs.declared.events.Refusal.{Refusal}
 use Rattle.dover_model.specs.Instance.{Instance, Declaration}
 use Rattle.dover_model.specs.Admission.{refusal_of}
 use Rattle.dover_model.specs.Session.{Session, JobItem, RefusedItem, FinishItem, Refused, RefusedJob, RefusedDone}
 use Rattle.dover_model.specs.Session.{EarlyFinish}
-use Rattle.dover_model.specs.Session.{refused_at, refused_done_at, with_item, with_named, new_session, early_at}
+use Rattle.dover_model.specs.Session.{refused_at, with_item, with_named, new_session, early_at}
 use Rattle.dover_model.specs.Session.{is_right}
 use Rattle.dover_model.specs.Session.{admitted_jobs, refuses_lines, may_finish_early, late_refusal}
 use Rattle.dover_model.specs.FeedLine.{FeedLine, RatioLine, JobLine, TickLine, DoneLine, EndLine, feed_line}
@@ -22,9 +24,9 @@ use Rattle.dover_model.specs.Feed.{Lines, Line, Declared, Order, NotAdmitted, No
 use Rattle.dover_model.specs.Feed.{Account}
 use Rattle.dover_model.specs.Feed.{declared_rules, first_line_cause, late_cause, later_line_cause, with_fault}
 use Rattle.dover_model.specs.Feed.{with_item_in}
-use Rattle.dover_model.specs.Feed.{with_line, next_line}
+use Rattle.dover_model.specs.Feed.{with_line, next_line, most_lines_in, Cause, Short}
 use Rattle.dover_model.proofs.Growing.{job_instance, refused_instance, finish_instance}
-use Rattle.event_feed.proofs.Counting.{after_form, next_counted}
+use Rattle.event_feed.proofs.Counting.{after_form}
 
 -- the release of the last of these jobs, or 0
 abbrev pub last_of : List JobFacts → ℕ
@@ -115,9 +117,9 @@ module _ (S : Session) (mark lines : ℕ) (it : Reached (admitted_jobs S.items) 
     by_order : (b : Bool)
         → Reaches (with_line counted (JobLine j)
         (cond b (Some (late_cause S.rules.version))
-        (option_map NotAdmitted (refusal_of S.rules.ratio (admitted_jobs S.items) j))))
+        (option_map NotAdmitted (refusal_of S.rules (admitted_jobs S.items) j))))
     by_order true = by_late (late_refusal S.rules.version)
-    by_order false = by_refusal (refusal_of S.rules.ratio (admitted_jobs S.items) j)
+    by_order false = by_refusal (refusal_of S.rules (admitted_jobs S.items) j)
 
   -- an early finish is a line more
   finish_reaches : (t : ℕ) (o : Option EarlyFinish)
@@ -159,20 +161,21 @@ module _ (S : Session) (mark lines : ℕ) (it : Reached (admitted_jobs S.items) 
 
 open_reaches : (lines : ℕ) (session : Option Session) (mark : ℕ) → ReachesBy Open session mark lines → (bytes : List ℕ)
     → Reaches (next_line (account_with lines session mark Open) bytes)
-open_reaches lines None mark zero_mark bytes = by_count (nat_lt most_lines (suc lines)) (feed_line bytes) where
+open_reaches lines None mark zero_mark bytes = by_count (nat_lt 1 (suc lines)) (feed_line bytes) where
   by_count : (b : Bool) (o : Option FeedLine)
       → Reaches (cond b (with_fault (account_with (suc lines) None mark Open) Lines)
       (after_form (account_with (suc lines) None mark Open) o))
   by_count true o = tt
   by_count false None = tt
   by_count false (Some line) = first_reaches lines mark zero_mark line
-open_reaches lines (Some S) mark it bytes = by_count (nat_lt most_lines (suc lines)) (feed_line bytes) where
-  by_count : (b : Bool) (o : Option FeedLine)
-      → Reaches (cond b (with_fault (account_with (suc lines) (Some S) mark Open) Lines)
-      (after_form (account_with (suc lines) (Some S) mark Open) o))
-  by_count true o = tt
-  by_count false None = tt
-  by_count false (Some line) = later_reaches S mark lines it line
+open_reaches lines (Some S) mark it bytes =
+    by_count (nat_lt (most_lines S.rules.version) (suc lines)) (feed_line bytes) where
+      by_count : (b : Bool) (o : Option FeedLine)
+          → Reaches (cond b (with_fault (account_with (suc lines) (Some S) mark Open) Lines)
+          (after_form (account_with (suc lines) (Some S) mark Open) o))
+      by_count true o = tt
+      by_count false None = tt
+      by_count false (Some line) = later_reaches S mark lines it line
 
 line_reaches : (lines : ℕ) (session : Option Session) (mark : ℕ) (standing : Standing)
     → ReachesBy standing session mark lines → (bytes : List ℕ)
@@ -187,30 +190,113 @@ lines_reach (l ∷ ls) a it = lines_reach ls (next_line a l) (line_reaches a.lin
 
 -- ---- few lines
 
--- where an account goes on after a line, the line was one that a feed may have
-few_open : (lines : ℕ) (session : Option Session) (mark : ℕ) (l : List ℕ)
-    → (next_line (account_with lines session mark Open) l).standing ≡ Open
-    → suc lines ≤ most_lines
-few_open lines session mark l = by_count (nat_lt most_lines (suc lines)) (feed_line l) refl where
-  by_count : (b : Bool) (o : Option FeedLine) → nat_lt most_lines (suc lines) ≡ b
-      → (cond b (with_fault (account_with (suc lines) session mark Open) Lines)
-      (after_form (account_with (suc lines) session mark Open) o)).standing ≡ Open
-      → suc lines ≤ most_lines
-  by_count true o many on = absurd (let e : Faulty (suc lines) Lines ≡ Open = on in cc)
-  by_count false o few on = ltb-false _ _ few
+-- an account that goes on has no more lines than there may be with its session
+abbrev pub FewBy : Standing → Option Session → ℕ → Type 0
+FewBy Open session lines = lines ≤ most_lines_in session
+FewBy Ended session lines = Unit {0}
+FewBy (Faulty line cause) session lines = Unit {0}
 
-few_line : (lines : ℕ) (session : Option Session) (mark : ℕ) (standing : Standing) (l : List ℕ)
-    → (next_line (account_with lines session mark standing) l).standing ≡ Open
-    → (next_line (account_with lines session mark standing) l).lines ≤ most_lines
-few_line lines session mark Open l on =
-    let few : suc lines ≤ most_lines = few_open lines session mark l on in
-    omega (arith, few, (next_counted lines session mark Open l on).1)
-few_line lines session mark Ended l on = absurd (let e : Ended ≡ Open = on in cc)
-few_line lines session mark (Faulty line cause) l on = absurd (let e : Faulty line cause ≡ Open = on in cc)
+abbrev pub HasFew : Account → Type 0
+HasFew a = FewBy a.standing a.session a.lines
 
--- an account that goes on has few lines
-pub lines_few : (ls : List (List ℕ)) (a : Account) → (a.standing ≡ Open → a.lines ≤ most_lines)
-    → (fold next_line a ls).standing ≡ Open
-    → (fold next_line a ls).lines ≤ most_lines
-lines_few [] a few on = few on
-lines_few (l ∷ ls) a few on = lines_few ls (next_line a l) (few_line a.lines a.session a.mark a.standing l) on
+-- there may be one line under each version
+one_line : (v : Version) → 1 ≤ most_lines v
+one_line One = omega arith
+one_line Two = omega arith
+one_line Three = omega arith
+
+-- with the first line
+few_first : (lines mark : ℕ) → lines ≤ 1 → (line : FeedLine)
+    → HasFew (with_line (account_with lines None mark Open) line (first_line_cause line))
+few_first lines mark few (RatioLine p q version) =
+    by_rules (declared_rules (record { p = p; q = q }) version) refl where
+      by_rules : (o : Option Declaration) → declared_rules (record { p = p; q = q }) version ≡ o
+          → HasFew (with_line (account_with lines None mark Open) (RatioLine p q version)
+          (cond (is_some o) None (Some Declared)))
+      by_rules None e = tt
+      by_rules (Some rules) e = subst (λ o. HasFew (account_with lines (option_map new_session o) mark Open)) (sym e)
+          (let it : lines ≤ most_lines rules.version = omega (arith, few, one_line rules.version) in it)
+few_first lines mark few (JobLine j) = tt
+few_first lines mark few (TickLine t) = tt
+few_first lines mark few (DoneLine t n) = tt
+few_first lines mark few EndLine = tt
+
+module _ (S : Session) (mark lines : ℕ) (few : lines ≤ most_lines S.rules.version) where
+  -- the account of so many lines
+  abbrev so_many : Account
+  so_many = account_with lines (Some S) mark Open
+
+  -- with the line of a job
+  few_job : (j : JobFacts) (o : Option Cause) → HasFew (with_line so_many (JobLine j) o)
+  few_job j None = few
+  few_job j (Some (NotAdmitted refusal)) = by_version (refuses_lines S.rules.version) where
+    by_version : (two : Bool)
+        → HasFew (cond two (with_item_in so_many (refused_at mark j refusal))
+        (with_fault so_many (NotAdmitted refusal)))
+    by_version true = few
+    by_version false = tt
+  few_job j (Some Lines) = tt
+  few_job j (Some Line) = tt
+  few_job j (Some Declared) = tt
+  few_job j (Some Order) = tt
+  few_job j (Some NotDone) = tt
+  few_job j (Some Short) = tt
+
+  -- with a done line
+  few_done : (t n : ℕ) (o : Option Cause) → HasFew (with_line so_many (DoneLine t n) o)
+  few_done t n None = by_finish (early_at S t n) where
+    by_finish : (o : Option EarlyFinish)
+        → HasFew (account_with lines (Some (with_named S (option_map FinishItem o))) t Open)
+    by_finish None = few
+    by_finish (Some f) = few
+  few_done t n (Some NotDone) = few
+  few_done t n (Some (NotAdmitted refusal)) = tt
+  few_done t n (Some Lines) = tt
+  few_done t n (Some Line) = tt
+  few_done t n (Some Declared) = tt
+  few_done t n (Some Order) = tt
+  few_done t n (Some Short) = tt
+
+  -- with a later line
+  few_later : (line : FeedLine) → HasFew (with_line so_many line (later_line_cause S mark line))
+  few_later (RatioLine p q version) = tt
+  few_later (JobLine j) = few_job j (later_line_cause S mark (JobLine j))
+  few_later (TickLine t) = by_tests (nat_lt t mark || nat_lt last_tick t) where
+    by_tests : (b : Bool) → HasFew (with_line so_many (TickLine t) (cond b (Some Order) None))
+    by_tests true = tt
+    by_tests false = few
+  few_later (DoneLine t n) = few_done t n (later_line_cause S mark (DoneLine t n))
+  few_later EndLine = tt
+
+-- with the next line
+few_next : (lines : ℕ) (session : Option Session) (mark : ℕ) (standing : Standing) (bytes : List ℕ)
+    → HasFew (next_line (account_with lines session mark standing) bytes)
+few_next lines None mark Open bytes = by_count (nat_lt 1 (suc lines)) (feed_line bytes) refl where
+  by_count : (b : Bool) (o : Option FeedLine) → nat_lt 1 (suc lines) ≡ b
+      → HasFew (cond b (with_fault (account_with (suc lines) None mark Open) Lines)
+      (after_form (account_with (suc lines) None mark Open) o))
+  by_count true o many = tt
+  by_count false None few = tt
+  by_count false (Some line) few = few_first (suc lines) mark (ltb-false _ _ few) line
+few_next lines (Some S) mark Open bytes =
+    by_count (nat_lt (most_lines S.rules.version) (suc lines)) (feed_line bytes) refl where
+      by_count : (b : Bool) (o : Option FeedLine) → nat_lt (most_lines S.rules.version) (suc lines) ≡ b
+          → HasFew (cond b (with_fault (account_with (suc lines) (Some S) mark Open) Lines)
+          (after_form (account_with (suc lines) (Some S) mark Open) o))
+      by_count true o many = tt
+      by_count false None few = tt
+      by_count false (Some line) few = few_later S mark (suc lines) (ltb-false _ _ few) line
+few_next lines session mark Ended bytes = tt
+few_next lines session mark (Faulty line cause) bytes = tt
+
+-- with further lines
+pub lines_few : (ls : List (List ℕ)) (a : Account) → HasFew a → HasFew (fold next_line a ls)
+lines_few [] a few = few
+lines_few (l ∷ ls) a few =
+    lines_few ls (next_line a l) (few_next a.lines a.session a.mark a.standing l)
+
+-- where it goes on with a session
+pub few_open : (a : Account) (S : Session) → HasFew a → a.standing ≡ Open → a.session ≡ Some S
+    → a.lines ≤ most_lines S.rules.version
+few_open a S it opened there =
+    subst (λ o. FewBy Open o a.lines) there (subst (λ s. FewBy s a.session a.lines) opened it)

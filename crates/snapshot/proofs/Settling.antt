@@ -7,11 +7,12 @@ use Rattle.dover_model.specs.declared.events.Task.{Task}
 use Rattle.dover_model.specs.JobFacts.{JobFacts, IsJob}
 use Rattle.dover_model.specs.Instance.{Instance, with_jobs}
 use Rattle.dover_model.specs.Settled.{settled}
-use Rattle.dover_model.specs.Limits.{last_tick, most_jobs}
+use Rattle.dover_model.specs.Limits.{last_tick}
 use Rattle.dover_model.proofs.Members.{all_last}
 use Rattle.dover_model.specs.declared.horizon.Horizon.TheVariants.{Mark}
 use Rattle.dover_model.specs.Horizons.{MayFollow, due_by, Gives}
 use Rattle.dover_model.proofs.Horizons.{due_few}
+use Rattle.dover_model.proofs.Limiting.{jobs_most}
 use Rattle.ready_server.proofs.Stepping.{serves_begins}
 use Rattle.snapshot.specs.Snapshot.{Head}
 use Rattle.snapshot.specs.Reading.{stored}
@@ -41,7 +42,8 @@ one_further v w J mark steps it e next = record {
 }
 
 -- there are not so many
-pub too_many : (v : RosterServer) (J : Instance) (mark steps : ℕ) → IsOnTheWay v J mark steps → 5_000_002 ≤ steps → ⊥
+pub too_many : (v : RosterServer) (J : Instance) (mark steps : ℕ) → IsOnTheWay v J mark steps
+    → 20_000_000_002 ≤ steps → ⊥
 too_many v J mark steps it many =
     let begins = serves_begins v.server J (Mark it.from) it.events it.served.served in
     absurd (omega (
@@ -49,16 +51,10 @@ too_many v J mark steps it many =
       many,
       it.many,
       due_few J (Mark it.from) it.served.served.follows.valid,
+      jobs_most J.rules.version,
       ap length begins.1,
       length-append it.events begins.0,
     ))
-
--- there may be one job more
-pub may_more : (h : Head) (tasks : List Task) (last : ℕ) (job : JobFacts) → MayAdmit last h tasks job
-    → length (stored h tasks).jobs + 1 ≤ most_jobs
-may_more h tasks last job may =
-    let few : length ((stored h tasks).jobs ++ job ∷ []) ≤ 1_000_000 = may.valid.count in
-    omega (arith, few, length-append (stored h tasks).jobs (job ∷ []))
 
 -- with the job the snapshot's jobs are served
 pub served_with : (w : RosterServer) (h : Head) (tasks : List Task) (t : Task) (job : JobFacts) (e : Event)

@@ -16,12 +16,10 @@ use Rattle.dover_model.specs.declared.events.Version.{Version}
 use Rattle.dover_model.specs.declared.events.Version.TheVariants.{One, Two}
 use Rattle.dover_model.specs.Fraction.{IsRatio, is_ratio}
 use Rattle.dover_model.specs.Instance.{Declaration}
-use Rattle.dover_model.proofs.TraceLines.{version_back, version_from}
 use Rattle.dover_model.specs.JobFacts.{job_of_numbers, job_numbers}
 use Rattle.dover_model.specs.Numerals.{numerals, AreShort}
 use Rattle.dover_model.specs.Lines.{is_too_long, fields_of, line_of, with_numbers, numbers_after, numbers_of}
 use Rattle.dover_model.specs.Text.{version_number}
-use Rattle.dover_model.specs.Verdict.{version_of_number}
 use Rattle.dover_model.proofs.Tests.{none_is_some}
 use Rattle.dover_model.proofs.Members.{some_same}
 use Rattle.dover_model.proofs.Agreement.{is_ratio-agrees}

@@ -23,6 +23,7 @@ use Rattle.dover_model.proofs.Agreement.{is_valid-agrees}
 use Rattle.dover_model.proofs.Barriers.{AtBarrier, settled_at_barrier}
 use Rattle.dover_model.proofs.Honest.{numbers_low, count_jobs}
 use Rattle.dover_model.proofs.Kept.{each_job}
+use Rattle.dover_model.proofs.Limiting.{jobs_most, lines_most}
 use Rattle.dover_model.proofs.NoFeeds.{header_short}
 use Rattle.dover_model.proofs.Valid.{valid_front}
 use Rattle.snapshot.specs.Snapshot.{Head, IsHead, IsStored, IsState, head_line, state_line}
@@ -55,7 +56,7 @@ in_middle : (front : List Task) (t : Task) (back : List Task) → IsMember t (fr
 in_middle [] t back = inl refl
 in_middle (u ∷ front) t back = inr (in_middle front t back)
 
-module _ (S : Session) (mark lines : ℕ) (holds : Holds S mark lines) (few : lines ≤ most_lines)
+module _ (S : Session) (mark lines : ℕ) (holds : Holds S mark lines) (few : lines ≤ most_lines S.rules.version)
     (former : may_finish_early S.rules.version ≡ false) (reached : Reached (admitted_jobs S.items) mark lines)
   where
     -- its jobs
@@ -87,8 +88,11 @@ module _ (S : Session) (mark lines : ℕ) (holds : Holds S mark lines) (few : li
     count : length tasks ≡ length J.jobs
     count = omega (arith, count_jobs tasks, ap length jobs_same)
 
-    jobs_few : length J.jobs ≤ 1_000_000
+    jobs_few : length J.jobs ≤ most_jobs S.rules.version
     jobs_few = holds.reads.valid.count
+
+    jobs_small : length J.jobs ≤ 4_000_000_000
+    jobs_small = omega (arith, jobs_few, jobs_most S.rules.version)
 
     -- ---- its lines have numerals
 
@@ -96,12 +100,12 @@ module _ (S : Session) (mark lines : ℕ) (holds : Holds S mark lines) (few : li
     is_head =
         let rules = header_short S.rules holds.reads.valid.ratio in
         let known : mark ≤ 1_000_000_000_000 = holds.known in
-        let most : lines ≤ 4_000_000 = few in
+        let most : lines ≤ 16_000_000_000 = omega (arith, few, lines_most S.rules.version) in
         record {
           version = former;
           ratio = holds.reads.valid.ratio;
           short =
-              (rules.0, (rules.1.0, (rules.1.1.0, (omega arith, (omega arith, (omega (arith, jobs_few), tt))))));
+              (rules.0, (rules.1.0, (rules.1.1.0, (omega arith, (omega arith, (omega (arith, jobs_small), tt))))));
         }
 
     module _ (t : Task) (m : IsMember t tasks) where
@@ -129,7 +133,7 @@ module _ (S : Session) (mark lines : ℕ) (holds : Holds S mark lines) (few : li
           record {
             role = stored_role;
             short = (
-              omega (arith, low, count, jobs_few),
+              omega (arith, low, count, jobs_small),
               (omega arith, (omega arith, (omega arith, (omega arith, (omega arith, tt))))),
             );
           }
@@ -137,12 +141,14 @@ module _ (S : Session) (mark lines : ℕ) (holds : Holds S mark lines) (few : li
     -- ---- it is read line by line
 
     within : is_within_limits h ≡ true
-    within = and_from ((nat_le mark last_tick && nat_le (length J.jobs) most_jobs) && nat_le (length J.jobs + 1) lines)
-        (nat_le lines most_lines)
-        (and_from (nat_le mark last_tick && nat_le (length J.jobs) most_jobs) (nat_le (length J.jobs + 1) lines)
-        (and_from (nat_le mark last_tick) (nat_le (length J.jobs) most_jobs) (le-leb mark last_tick holds.known)
-        (le-leb (length J.jobs) most_jobs jobs_few))
-        (le-leb (length J.jobs + 1) lines reached.enough)) (le-leb lines most_lines few)
+    within = and_from (ab && nat_le (length J.jobs + 1) lines) (nat_le lines (most_lines S.rules.version))
+        (and_from ab (nat_le (length J.jobs + 1) lines)
+        (and_from (nat_le mark last_tick) (nat_le (length J.jobs) (most_jobs S.rules.version))
+        (le-leb mark last_tick holds.known) (le-leb (length J.jobs) (most_jobs S.rules.version) jobs_few))
+        (le-leb (length J.jobs + 1) lines reached.enough)) (le-leb lines (most_lines S.rules.version) few)
+      where
+        ab : Bool
+        ab = nat_le mark last_tick && nat_le (length J.jobs) (most_jobs S.rules.version)
 
     module _ (front : List Task) (t : Task) (back : List Task) (split : front ++ t ∷ back ≡ tasks) where
       -- the jobs up to this one are the first of the feed's

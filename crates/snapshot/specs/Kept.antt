@@ -47,7 +47,7 @@ job_in (fed.Done tick number) = None
 
 -- there is a line for one more job
 abbrev pub HasRoom : Head → List Task → Type 0
-HasRoom h tasks = IsValid (stored h tasks) × (length tasks + 2 ≤ most_lines)
+HasRoom h tasks = IsValid (stored h tasks) × (length tasks + 2 ≤ most_lines h.rules.version)
 
 -- the line isn't at fault behind these, and doesn't end the feed
 pub record IsGoodNext (i : feed.Kept) (ls : List (List ℕ)) (line : List ℕ) : Type 0 where

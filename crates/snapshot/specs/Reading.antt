@@ -68,8 +68,8 @@ read_task line = if is_too_long line then None else task_of_fields (fields_of li
 
 -- mark and counts are within the limits, and there are lines for the ratio and for each job
 abbrev pub is_within_limits : Head → Bool
-is_within_limits h = nat_le h.mark last_tick && nat_le h.jobs most_jobs && nat_le (h.jobs + 1) h.lines
-    && nat_le h.lines most_lines
+is_within_limits h = nat_le h.mark last_tick && nat_le h.jobs (most_jobs h.rules.version)
+    && nat_le (h.jobs + 1) h.lines && nat_le h.lines (most_lines h.rules.version)
 
 -- the jobs so far, under the rules of the first line
 abbrev pub stored : Head → List Task → Instance

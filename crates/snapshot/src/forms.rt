@@ -31,20 +31,14 @@ pub(crate) struct StateLine {
     pub(crate) value: u64,
 }
 
-/// How many jobs there may be.
-const MOST_JOBS: u64 = 1_000_000;
-
-/// How many lines a feed may have.
-const MOST_LINES: u64 = 4_000_000;
-
-/// Mark and counts are within their limits, and there are lines for the ratio and for each job.
+/// Mark and counts are within the limits of the version, and there are lines for the ratio and for each job.
 pub(crate) fn is_within_limits(head: &Head) -> bool
     ensures { result ≡ model.is_within_limits (head_in head.now) }
 {
     head.mark <= LAST_TICK
-        && head.jobs <= MOST_JOBS
+        && head.jobs <= u64::from(head.version.most_jobs())
         && head.jobs + 1 <= head.lines
-        && head.lines <= MOST_LINES
+        && head.lines <= head.version.most_lines()
 }
 
 /// The version of this number, if no job finishes early in it.

@@ -22,6 +22,7 @@ pub struct Paused {
 
 impl Model for Paused {
     ghost use Rattle.std.specs.Prelude.{◌≤◌, ℕ, List, length};
+    ghost use Rattle.dover_model.specs.declared.events.Version.TheVariants.{Three};
     ghost use Rattle.dover_model.specs.Limits.{most_jobs, most_lines, last_tick};
     ghost use Rattle.dover_model.specs.Feed.{rules_with};
     ghost use Rattle.snapshot.specs.Pausing.{lines_in};
@@ -30,8 +31,8 @@ impl Model for Paused {
 
     ghost view = { λ p. lines_in p.roster.roll (rules_with p.ratio p.version) p.lines p.mark };
 
-    ghost invariant = { λ p. (p.lines ≤ most_lines) × (p.mark ≤ last_tick)
-        × (length p.roster.roll.jobs ≤ most_jobs) };
+    ghost invariant = { λ p. (p.lines ≤ most_lines Three) × (p.mark ≤ last_tick)
+        × (length p.roster.roll.jobs ≤ most_jobs Three) };
 }
 
 impl Paused {

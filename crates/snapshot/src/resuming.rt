@@ -31,7 +31,7 @@ pub(crate) struct Stance {
 }
 
 /// More printed steps than a run has.
-const MOST_STEPS: u32 = 5_000_002;
+const MOST_STEPS: u64 = 20_000_000_002;
 
 /// Takes the run to a mark.
 fn settle<L: Ledger>(server: &mut RosterServer, mark: u64, steps: &mut Steps<L>)

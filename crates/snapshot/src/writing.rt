@@ -1,6 +1,7 @@
 //! The lines of a snapshot, as they are written.
 ghost use Rattle.std.specs.Prelude.{◌≡◌, ◌≤◌, ◌++◌, ◌∷◌, [], length, codes};
 ghost use Rattle.dover_model.specs.Lines.{with_numbers};
+ghost use Rattle.dover_model.specs.declared.events.Version.TheVariants.{Three};
 ghost use Rattle.dover_model.specs.Limits.{last_tick, most_jobs, most_lines};
 ghost use Rattle.dover_model.specs.Feed.{rules_with};
 ghost use Rattle.snapshot.specs.Snapshot as model;
@@ -10,9 +11,9 @@ use line_text::BackLine;
 
 /// Writes the first line with its line feed, for a feed of so many lines, at this mark and with so many jobs.
 pub(crate) fn head(version: Version, k: Ratio, lines: u64, mark: u64, jobs: u64, to: &mut BackLine)
-    requires lines { lines ≤ most_lines }
+    requires lines { lines ≤ most_lines Three }
     requires mark { mark ≤ last_tick }
-    requires jobs { jobs ≤ most_jobs }
+    requires jobs { jobs ≤ most_jobs Three }
     ensures { to.new
         ≡ model.head_line (record { rules = rules_with k version; lines = lines; mark = mark; jobs = jobs })
         ++ 10 ∷ [] }

@@ -1,5 +1,5 @@
 use Rattle.std.proofs.Common.{refl}
-use Rattle.ready_server.proofs.Feeding.{under_way, one_further, served_by, some_few, all_served, can_admit, few_with}
+use Rattle.ready_server.proofs.Feeding.{under_way, one_further, served_by, some_few, all_served, can_admit}
 use Rattle.ready_server.proofs.running.serve_jobs.Goals as goal
 
 pub loop-job-init : goal.loop-job-init
@@ -7,18 +7,6 @@ loop-job-init g c = record {
   under_way = λ J from shown can. under_way _ _ J from _ shown can;
   paid = λ start paid. paid;
 }
-
-pub make_room-requires : goal.make_room-requires
-make_room-requires g c =
-    let r = c.requires in
-    let it = rw c.in-Some.ensures.jobs at c.loop-job.invariant.under_way r.0 r.1 r.2 r.3 in (
-      it.served,
-      it.to,
-      it.shown.events,
-      it.shown.served,
-      few_with it.served c.in-Some.job
-          (can_admit it.served it.to c.in-Some.job (g.S.JobSource.jobs c.next_job.new.self) it.can),
-    )
 
 pub serve_job-requires-clause-shown : goal.serve_job-requires-clause-shown
 serve_job-requires-clause-shown g c =

@@ -1,7 +1,6 @@
-use Rattle.std.proofs.Common.{ℕ, sym, subst, ◌∙◌, false, true, ◌≡◌}
+use Rattle.std.proofs.Common.{sym, subst, ◌∙◌}
 use Rattle.std.proofs.lemmas.Bool.{eqb-true, eq-eqb, false≢true}
-use Rattle.dover_model.specs.declared.events.Task.{Task}
-use Rattle.ready_jobs.specs.Course.{Course, Runs, RunsNowhere}
+use Rattle.ready_jobs.specs.Course.{Runs, RunsNowhere}
 use Rattle.ready_jobs.proofs.Runners.{ready_runs, ready_other, none_runs}
 use Rattle.ready_jobs.proofs.ready.Ready.runs.Goals as goal
 

@@ -2,19 +2,9 @@ use Rattle.std.proofs.Common.{arith, subst, ◌∙◌}
 use Rattle.dover_model.specs.declared.horizon.Horizon.TheVariants.{Mark}
 use Rattle.snapshot.specs.Reading.{stored}
 use Rattle.ready_server.specs.Rostering.{Rests}
-use Rattle.snapshot.proofs.Settling.{may_more, served_with, release_known, on_err}
+use Rattle.snapshot.proofs.Settling.{served_with, release_known, on_err}
 use Rattle.snapshot.proofs.Spending.{jobs_served}
 use Rattle.snapshot.proofs.resuming.Resuming.admit.Goals as goal
-
-pub make_room-requires : goal.make_room-requires
-make_room-requires g c =
-    let r = c.requires in (
-      stored r.0 r.1,
-      Mark c.args.self.now.last,
-      r.2.events,
-      r.2.served,
-      may_more r.0 r.1 c.args.self.now.last c.args.job r.3,
-    )
 
 pub returns-in_err-make_room-clause-err : goal.returns-in_err-make_room-clause-err
 returns-in_err-make_room-clause-err g c = λ h tasks it. on_err c.from_residual.result _
