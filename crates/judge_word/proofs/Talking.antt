@@ -34,7 +34,7 @@ not_so true is = absurd (let e : false ≡ true = is in cc)
 not_so false is = refl
 
 -- the verdict of a wrong text stays
-wrong_same : (x y : List ℕ) → not (is_wrong (verdict x)) ≡ false → verdict (x ++ y) ≡ verdict x
+pub wrong_same : (x y : List ℕ) → not (is_wrong (verdict x)) ≡ false → verdict (x ++ y) ≡ verdict x
 wrong_same x y over = by_verdict (verdict x) refl (not_not (is_wrong (verdict x)) over) where
   by_verdict : (v : model.Verdict) → verdict x ≡ v → is_wrong v ≡ true → verdict (x ++ y) ≡ v
   by_verdict (model.Accepted S) is wrong = absurd (let e : false ≡ true = wrong in cc)
@@ -43,7 +43,7 @@ wrong_same x y over = by_verdict (verdict x) refl (not_not (is_wrong (verdict x)
 
 -- what is told of a verdict
 module _ (x y : List ℕ) (same : verdict (x ++ y) ≡ verdict x) where
-  told_same : (status : Status) → IsToldBy status x → IsToldBy status (x ++ y)
+  pub told_same : (status : Status) → IsToldBy status x → IsToldBy status (x ++ y)
   told_same Done it = (it.0, it.1, same ∙ it.2)
   told_same No (inl wrong) = inl (ap is_wrong same ∙ wrong)
   told_same No (inr short) = inr (short.0, same ∙ short.1)

@@ -1,5 +1,6 @@
 //! The line of a verdict on its way out.
-ghost use Rattle.std.specs.Prelude.{◌≡◌, ◌≤◌, ◌++◌, ◌∷◌, [], List, ℕ, length};
+ghost use Rattle.std.specs.Prelude.{◌≡◌, ◌≤◌, ◌++◌, ◌∷◌, [], List, ℕ, codes, length};
+ghost use Rattle.dover_model.specs.Lines.{with_numbers};
 ghost use Rattle.dover_model.specs.Verdict as model;
 ghost use Rattle.dover_port.specs.Causes.{HasCause, StopsAtFailure};
 ghost use Rattle.dover_port.specs.Moves.{PutsThrough};
@@ -8,10 +9,21 @@ ghost use Rattle.trace_judge.specs.Reads.{expected_of};
 ghost use Rattle.judge_word.specs.Line.{status_of, wrong_front, expected_text, verdict_text};
 
 use dover_port::{Failed, Output, Port, Status};
-use line_output::put_numbers;
+use line_output::{put_numbers, write_numbers};
 use line_text::{BackLine, LineBuf};
 use trace_format::write_event;
 use trace_judge::{Expected, Verdict};
+
+/// The line of an accepted trace, whose bound may have 25 digits.
+fn accepted_line(value: u64, bound: u128) -> BackLine
+    ensures { result ≡ with_numbers (codes "accepted") (value ∷ bound ∷ []) ++ 10 ∷ [] }
+{
+    let mut line = BackLine::new();
+    line.put_long(bound);
+    line.put_word(b" ");
+    write_numbers(&mut line, b"accepted", &[value]);
+    line
+}
 
 /// What stands before the text of what is due, in the line of a wrong text.
 fn wrong_front(number: u64) -> LineBuf
@@ -83,7 +95,7 @@ pub fn put_verdict<P: Port>(port: &mut P, out: &mut Output, verdict: &Verdict) -
 {
     match verdict {
         Verdict::Accepted { value, bound, .. } => {
-            put_numbers(port, out, b"accepted", &[*value, *bound])
+            out.put(port, accepted_line(*value, *bound).bytes())
         }
         Verdict::Wrong { line, expected } => put_wrong(port, out, *line, *expected),
         Verdict::Short { lines } => put_numbers(port, out, b"short", &[*lines]),

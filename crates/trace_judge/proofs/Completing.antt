@@ -1,7 +1,7 @@
 -- How the judge takes an early completion.
 use Rattle.std.proofs.Common.{◌≡◌, ℕ, ◌+◌, ◌*◌, ◌≤◌, ◌<◌, List, [], ◌∷◌, ◌++◌, length, length-append, refl, sym, ap}
 use Rattle.std.proofs.Common.{◌∙◌}
-use Rattle.std.proofs.Common.{subst, Bool, true, false, cond, min, arith, Option, Some, None}
+use Rattle.std.proofs.Common.{subst, Bool, true, false, cond, arith, Option, Some, None}
 use Rattle.std.specs.Prelude.{is_some, nat_lt, nat_le, ◌&&◌, filter_map}
 use Rattle.std.proofs.lemmas.Bool.{false_from_ne_true, le-leb, le-ltb, lt-ltb, ltb-true, ltb-false}
 use Rattle.std.proofs.lemmas.List.{append-nil}
@@ -10,7 +10,7 @@ use Rattle.admission.specs.Kept as admission
 use Rattle.std.specs.Option.{option_map}
 use Rattle.ready_jobs.proofs.Courses.{follows_count}
 use Rattle.dover_model.specs.Instance.{Instance, with_finishes}
-use Rattle.dover_model.specs.Limits.{last_tick, most_items}
+use Rattle.dover_model.specs.Limits.{last_tick, most_items, most_jobs}
 use Rattle.dover_model.specs.declared.events.Event.{Event}
 use Rattle.dover_model.specs.declared.events.Event.TheVariants.{Complete}
 use Rattle.dover_model.specs.declared.events.Role.TheVariants.{Running}
@@ -51,7 +51,8 @@ use Rattle.trace_judge.specs.Reads.{Followed, Waited, at_tick, CanComplete, MayN
 use Rattle.trace_judge.proofs.Continuing.{settled_from_floor, passes_path, sees_completion, sees_completion_prints}
 use Rattle.trace_judge.proofs.Naming.{step_named}
 use Rattle.trace_judge.proofs.Only.{only_completion}
-use Rattle.trace_judge.proofs.Readings.{goes_of, ahead_of, here_of, reads_of, reads_ahead, version_kept}
+use Rattle.trace_judge.proofs.Readings.{goes_of, ahead_of, here_of, reads_of, reads_ahead, room_kept, room_left}
+use Rattle.trace_judge.proofs.Readings.{version_kept}
 use Rattle.trace_judge.proofs.Seeing.{sees_rest}
 use Rattle.trace_judge.proofs.Taking.{kept_more, kept_length, last_more}
 
@@ -285,7 +286,7 @@ module _ (r : Reading) (at number : ℕ) (ls : List (List ℕ)) (can : CanComple
           idles = ([], refl);
           follows = follows_done;
           kept = subst (admission.StandsFor r.kept) (sym jobs) can.waited.goes.kept;
-          ratio = can.waited.goes.ratio;
+          rules = can.waited.goes.rules;
           items = omega (arith, can.waited.goes.items, length-append S.items (FinishItem f ∷ []));
           steps = more ∙ kept_more r.keep (printed_of can.waited.goes.sees.steps) r.steps (Complete at number)
               can.waited.goes.steps ∙ ap (kept_steps r.keep) (sym text.1);
@@ -309,8 +310,13 @@ module _ (r : Reading) (at number : ℕ) (ls : List (List ℕ)) (can : CanComple
         → room ≡ r.room → IsReader (completed r d at steps room)
     completed_reader going old kept fewer same_room = record {
       spare = record {
-        ready = let before : min (length r.course.ready + r.spare) 1_000_000 ≤ r.course.room = old.ready in
-            omega (arith, fewer, ap (λ (c : Course). c.room) kept);
+        ready = omega (
+          arith,
+          old.ready,
+          fewer,
+          ap (λ (c : Course). most_jobs c.rules.version) kept,
+          ap (λ (c : Course). c.room) kept,
+        );
         steps = λ keep. let before : 5 * (r.course.jobs + r.spare) + 1 ≤ r.room = old.steps keep in
             omega (arith, ap (λ (c : Course). c.jobs) kept, same_room);
       };
@@ -342,7 +348,7 @@ module _ (r w : Reading) (same : r ≡ w) (going_w : w.stage ≡ Going) (at numb
 
 module _ (w : Reading) (going : w.stage ≡ Going) (at number : ℕ) where
   -- in a version in which jobs don't finish early none is
-  pub not_early : may_finish_early w.course.rules.version ≡ false → MayNotComplete w at number
+  pub not_early : may_finish_early w.kept.rules.version ≡ false → MayNotComplete w at number
   not_early none ls S z goes f y may is_at is_number = never (sym (ap may_finish_early (version_kept w ls S z z goes)
       ∙ none) ∙ (early_finish S f.at f.finish.number f may.finishes.right).0)
 
@@ -353,10 +359,9 @@ module _ (w : Reading) (going : w.stage ≡ Going) (at number : ℕ) where
       let above : 1_000_000_000_000 < at = high in absurd (omega (arith, is_at))
 
   -- where there are as many items as may be none is
-  pub not_roomy : most_items ≤ w.items → MayNotComplete w at number
+  pub not_roomy : most_items w.kept.rules.version ≤ w.items → MayNotComplete w at number
   not_roomy full ls S z goes f y may is_at is_number =
-      let room : length S.items < 3_999_998 = may.room in
-      let most : 3_999_998 ≤ w.items = full in absurd (omega (arith, goes.items))
+      absurd (omega (arith, full, room_kept w ls S z z goes may.room))
 
   -- where something comes before its tick none is
   pub not_there : (w.floor ≤ at → (ls : List (List ℕ)) (S : Session) (z : State) → Goes w ls S z z → (x : State)
@@ -385,7 +390,8 @@ some_of None is = never (sym is)
 some_of (Some x) is = (x, refl)
 
 module _ (w v : Reading) (at number : ℕ) (kept : v ≡ record w { course = v.course })
-    (early : may_finish_early w.course.rules.version ≡ true) (known : at ≤ last_tick) (few : w.items < most_items)
+    (early : may_finish_early w.kept.rules.version ≡ true) (known : at ≤ last_tick)
+    (few : w.items < most_items w.kept.rules.version)
     (waits : (ls : List (List ℕ)) (S : Session) (z y : State) → Goes w ls S z y → (x : State) × Waited v at ls S z x)
     (right : (ls : List (List ℕ)) (S : Session) (z y : State) → Waited v at ls S z y
     → true ≡ is_some (finish_at (instance_of S) at number)) where
@@ -401,7 +407,7 @@ module _ (w v : Reading) (at number : ℕ) (kept : v ≡ record w { course = v.c
         waited = there.1;
         version = ap may_finish_early (version_kept w ls S z y goes) ∙ early;
         known = known;
-        room = let least : w.items < 3_999_998 = few in omega (arith, goes.items);
+        room = room_left w ls S z y goes few;
         finish = some.0;
         right = some.1;
       }

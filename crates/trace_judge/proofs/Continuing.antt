@@ -415,7 +415,7 @@ module _ (ls : List (List ℕ)) (S : Session) (floor : ℕ) (z : State) (sees : 
     valid_job : IsValidSession S_more
     valid_job = record {
       jobs = subst IsValid (sym jobs_more) valid_K;
-      count = let room : length S.items < 3_999_998 = may.room in omega (arith, length-append S.items (JobItem j ∷ []));
+      count = omega (arith, may.room, length-append S.items (JobItem j ∷ []));
       items = follows_behind S.rules [] 0 S.items (JobItem j ∷ []) sees.valid.items (
         let low : mark_after 0 S.items ≤ floor = sees.mark in let ordered : floor ≤ j.release = may.no_fall in
             omega arith,
@@ -517,8 +517,7 @@ module _ (ls : List (List ℕ)) (S : Session) (floor : ℕ) (z : State) (sees : 
     valid_refused : IsValidSession S_refused
     valid_refused = record {
       jobs = subst IsValid (sym jobs_same) sees.valid.jobs;
-      count = let room : length S.items < 3_999_998 = may.room in
-          omega (arith, length-append S.items (RefusedItem r ∷ []));
+      count = omega (arith, may.room, length-append S.items (RefusedItem r ∷ []));
       items = follows_behind S.rules [] 0 S.items (RefusedItem r ∷ []) sees.valid.items (
         record {
           no_fall = mark_low;
@@ -706,7 +705,7 @@ module _ (ls : List (List ℕ)) (S : Session) (floor : ℕ) (z : State) (sees : 
     valid_done = record {
       jobs = subst IsValid (sym jobs_done)
           (finishing_valid J (J.rules.finishes ++ f.finish ∷ []) sees.valid.jobs);
-      count = let some : length S.items < 3_999_998 = room in omega (arith, length-append S.items (FinishItem f ∷ []));
+      count = omega (arith, room, length-append S.items (FinishItem f ∷ []));
       items = follows_behind S.rules [] 0 S.items (FinishItem f ∷ []) sees.valid.items
           (record { no_fall = mark_before; known = may.known; right = may.right }, tt);
     }

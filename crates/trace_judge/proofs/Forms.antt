@@ -19,6 +19,7 @@ use Rattle.dover_model.proofs.Deeds.{Deed, Completed, Resumed, Started, Began, P
 use Rattle.dover_model.proofs.Deeds.{Abandoned, Rested}
 use Rattle.dover_model.proofs.Kept.{step_deed, each_job}
 use Rattle.dover_model.proofs.Honest.{numbers_low, count_jobs}
+use Rattle.dover_model.proofs.Limiting.{jobs_most}
 use Rattle.dover_model.proofs.ShortNumbers.{printed_short}
 use Rattle.trace_format.specs.declared.lines.TraceLine.{TraceLine}
 use Rattle.trace_format.specs.declared.lines.TraceLine.TheVariants.{Step}
@@ -45,9 +46,15 @@ MoveNames Ticks = Unit {0}
 
 module _ (J : Instance) (valid : IsValid J) (s : State) (keeps : Keeps J s) where
   -- each job's number is one that jobs may have
-  low : (t : Task) → IsMember t s.tasks → t.number ≤ 999_999
-  low t member = let few : length J.jobs ≤ 1_000_000 = valid.count in
-      omega (arith, numbers_low 0 s.tasks keeps.sound.numbered t member, count_jobs s.tasks, ap length keeps.jobs)
+  low : (t : Task) → IsMember t s.tasks → t.number ≤ 3_999_999_999
+  low t member = omega (
+    arith,
+    numbers_low 0 s.tasks keeps.sound.numbered t member,
+    count_jobs s.tasks,
+    ap length keeps.jobs,
+    valid.count,
+    jobs_most J.rules.version,
+  )
 
   -- each deed names jobs
   deed_names : (k : Fraction) (other m : Move) → MoveNames other → Deed k s other m → MoveNames m

@@ -22,6 +22,7 @@ use Rattle.dover_model.proofs.Cuts.{onto, cut_append}
 use Rattle.dover_model.proofs.BoundLaws.{bound as none_worth_more}
 use Rattle.dover_model.proofs.Ending.{few_printed}
 use Rattle.dover_model.proofs.Honest.{observed_honest, observed_all}
+use Rattle.dover_model.proofs.Limiting.{items_of_lines, jobs_most, lines_most}
 use Rattle.dover_model.proofs.Named.{beginnings_pass}
 use Rattle.dover_model.proofs.Runs.{none_lost, all_value}
 use Rattle.dover_model.proofs.Tests.{never}
@@ -74,7 +75,7 @@ few_places rules before (RefusedItem r ∷ items) = omega (arith, few_places rul
 few_places rules before (FinishItem f ∷ items) = omega (arith, few_places rules (before ++ FinishItem f ∷ []) items)
 
 -- lines that begin a trace
-pub few_lines : (ls : List (List ℕ)) → model.begins_trace ls ≡ true → length ls ≤ 20_000_000
+pub few_lines : (ls : List (List ℕ)) → model.begins_trace ls ≡ true → length ls ≤ 40_000_000_000
 few_lines [] passes = omega arith
 few_lines (l ∷ ls) passes =
     let it : Starts (l ∷ ls) = begun l ls passes in
@@ -92,6 +93,9 @@ few_lines (l ∷ ls) passes =
       few_places S.rules [] S.items,
       it.valid.count,
       it.valid.jobs.count,
+      jobs_most S.rules.version,
+      items_of_lines S.rules.version,
+      lines_most S.rules.version,
     )
 
 -- ---- by the stage
@@ -133,7 +137,7 @@ module _ (r : Reading) (ls : List (List ℕ)) (reads : Reads r ls) where
     by_stage Ended it = ap model.ends_with_end it.1.lines ∙ trace_ends it.0 it.1.valid
 
   -- there are few of them
-  pub reads_few : length ls ≤ 20_000_000
+  pub reads_few : length ls ≤ 40_000_000_000
   reads_few = few_lines ls reads_begins
 
 -- ---- the rest

@@ -52,22 +52,22 @@ rest_short false b none = refl
 
 module _ (judge : Judged) (x : List ℕ) where
   -- of what is kept of lines that are right
-  few_good : IsGood judge x → length x < 2_580_000_129
+  few_good : IsGood judge x → length x < 5_160_000_000_129
   few_good good =
       let passes : begins_trace (whole_lines x) ≡ true = reads_begins judge.reader (whole_lines x) good.reads in
-      let few : length (whole_lines x) ≤ 20_000_000 = few_lines (whole_lines x) passes in
+      let few : length (whole_lines x) ≤ 40_000_000_000 = few_lines (whole_lines x) passes in
       let rest : length (rest_of x) ≤ 128 = ltb-false _ _ (rest_short (is_too_long (rest_of x))
       (nat_lt 0 (length (rest_of x)) && ends_with_end (whole_lines x)) good.counts) in
-      omega (arith, text_few x 20_000_000 (lines_short [] (whole_lines x) passes) few rest)
+      omega (arith, text_few x 40_000_000_000 (lines_short [] (whole_lines x) passes) few rest)
 
   -- a text that isn't wrong has at most so many bytes
-  pub few_bytes : StandsFor judge x → is_wrong (verdict x) ≡ false → length x < 2_580_000_129
+  pub few_bytes : StandsFor judge x → is_wrong (verdict x) ≡ false → length x < 5_160_000_000_129
   few_bytes stands right = by_found judge.found stands where
     by_found : (f : Found) → (elim f as (λ _. Type 0) [
       | Good ↦ IsGood judge x
       | Bad line due ↦ verdict x ≡ Wrong line (expected_of due)
       | NoMemory ↦ ⊥
-    ]) → length x < 2_580_000_129
+    ]) → length x < 5_160_000_000_129
     by_found Good good = few_good good
     by_found (Bad line due) wrong = never (sym right ∙ ap is_wrong wrong)
     by_found NoMemory none = absurd none

@@ -229,8 +229,7 @@ module _ (ls : List (List ℕ)) (S : Session) (floor : ℕ) (z : State) (sees : 
 
     -- there is room for it
     room_more : HasRoom S
-    room_more = let most : length (S.items ++ x ∷ []) ≤ 3_999_998 = valid_more.count in
-        omega (arith, length-append S.items (x ∷ []))
+    room_more = omega (arith, valid_more.count, length-append S.items (x ∷ []))
 
     -- a line of the item behind what is settled at a tick, which begin the session's lines
     module _ (t : ℕ) (later : mark_after 0 S.items ≤ t) (line : TraceLine) (is : item_in S line ≡ Some x)

@@ -1,22 +1,25 @@
 -- What the judge keeps of the lines of a trace, line by line.
-use Rattle.std.proofs.Common.{◌≡◌, ℕ, ◌+◌, ◌*◌, ◌≤◌, List, [], ◌∷◌, ◌++◌, length, min, sym, ap, ◌∙◌, subst, true, cond}
-use Rattle.std.proofs.Common.{arith}
+use Rattle.std.proofs.Common.{◌≡◌, ℕ, ◌+◌, ◌*◌, ◌≤◌, ◌<◌, List, [], ◌∷◌, ◌++◌, length, min, sym, ap, ◌∙◌, subst, true}
+use Rattle.std.proofs.Common.{arith, cond}
 use Rattle.std.specs.Option.{option_map_or, option_and_then}
 use Rattle.dover_model.specs.declared.events.Event.{Event}
-use Rattle.dover_model.specs.Instance.{Instance, Declaration, Rules}
+use Rattle.dover_model.specs.Instance.{Instance, Declaration}
+use Rattle.dover_model.specs.Limits.{most_items, most_jobs}
 use Rattle.dover_model.specs.State.{State}
 use Rattle.dover_model.specs.Session.{Session, instance_of}
 use Rattle.dover_model.specs.Trace.{trace_lines}
 use Rattle.dover_model.specs.Verdict as model
+use Rattle.dover_model.specs.declared.events.Version.{Version}
+use Rattle.dover_model.proofs.Limiting.{items_of_lines, lines_most}
 use Rattle.dover_model.proofs.TraceEnds.{trace_ends}
 use Rattle.dover_model.specs.Leading.{PrintsNext}
 use Rattle.dover_model.proofs.Leading.{idles_append}
+use Rattle.trace_judge.specs.Reading.{HasRoom}
 use Rattle.trace_judge.proofs.Seeing.{sees_expects}
 use Rattle.trace_judge.specs.declared.stage.Stage.{Stage}
 use Rattle.trace_judge.specs.declared.stage.Stage.TheVariants.{Opening, Going, Ended}
 use Rattle.ready_jobs.specs.Course.{Course, Follows, GoesOnFrom}
 use Rattle.trace_judge.specs.Reads.{Reading, Opens, Goes, Ends, ReadsAhead, Reads, StaysAhead, HasSpare, IsReader}
-use Rattle.trace_judge.specs.Reads.{rules_kept}
 use Rattle.ready_jobs.proofs.Courses.{follows_room}
 
 -- ---- by the stage
@@ -67,18 +70,22 @@ module _ (r : Reading) (ls : List (List ℕ)) where
     by_stage Going it = (it.0, it.1, it.1, it.2)
     by_stage Ended it = it
 
--- the version of the session is the one kept
-pub version_kept : (r : Reading) (ls : List (List ℕ)) (S : Session) (z y : State) → Goes r ls S z y
-    → S.rules.version ≡ r.course.rules.version
-version_kept r ls S z y goes = ap (λ (k : Rules). k.version) goes.follows.rules
+-- items are few
+pub few_items : (v : Version) (n : ℕ) → n < most_items v → n < 16_000_000_000
+few_items v n few = omega (arith, few, items_of_lines v, lines_most v)
 
--- and what it declares is what is kept
-pub rules_are : (r : Reading) (ls : List (List ℕ)) (S : Session) (z y : State) → Goes r ls S z y
-    → rules_kept r ≡ S.rules
-rules_are r ls S z y goes =
-    ap (λ k. let d : Declaration = record { ratio = k; version = r.course.rules.version } in d) goes.ratio
-    ∙ ap (λ v. let d : Declaration = record { ratio = S.rules.ratio; version = v } in d)
-    (sym (version_kept r ls S z y goes))
+module _ (r : Reading) (ls : List (List ℕ)) (S : Session) (z y : State) (goes : Goes r ls S z y) where
+  -- the version of the session is the one kept
+  pub version_kept : S.rules.version ≡ r.kept.rules.version
+  version_kept = ap (λ (k : Declaration). k.version) (sym goes.rules)
+
+  -- the session has room for an item more where as many as are kept leave it
+  pub room_left : r.items < most_items r.kept.rules.version → HasRoom S
+  room_left few = omega (arith, few, goes.items, ap most_items version_kept)
+
+  -- and only then
+  pub room_kept : HasRoom S → r.items < most_items r.kept.rules.version
+  room_kept room = omega (arith, room, goes.items, ap most_items version_kept)
 
 -- ---- room
 
@@ -92,6 +99,7 @@ module _ (r : Reading) (ready spare room : ℕ) (ls : List (List ℕ)) where
   room_opens it = record {
     lines = it.lines;
     course = ap (λ (c : Course). record c { room = ready }) it.course;
+    version = it.version;
     items = it.items;
     floor = it.floor;
     steps = it.steps;
@@ -106,7 +114,7 @@ module _ (r : Reading) (ready spare room : ℕ) (ls : List (List ℕ)) where
     idles = it.idles;
     follows = follows_room r.course ready (instance_of S) y it.follows;
     kept = it.kept;
-    ratio = it.ratio;
+    rules = it.rules;
     items = it.items;
     steps = it.steps;
     refused = it.refused;
@@ -162,7 +170,7 @@ module _ (r : Reading) (d : Course) (e : Event) (going : r.stage ≡ Going)
           );
           follows = it.1;
           kept = goes.kept;
-          ratio = goes.ratio;
+          rules = goes.rules;
           items = goes.items;
           steps = goes.steps;
           refused = goes.refused;
@@ -205,11 +213,10 @@ module _ (r w : Reading) (same : r ≡ w) (d : Course) (e : Event) (going : r.st
 
 -- room stays where the ready jobs grow no more
 pub spare_stays : (r : Reading) (d : Course) → HasSpare r → length d.ready ≤ length r.course.ready
-    → d.jobs ≡ r.course.jobs → d.room ≡ r.course.room
+    → d.jobs ≡ r.course.jobs → d.room ≡ r.course.room → d.rules ≡ r.course.rules
     → HasSpare (record r { course = d })
-spare_stays r d spare fewer jobs room = record {
-  ready = let old : min (length r.course.ready + r.spare) 1_000_000 ≤ r.course.room = spare.ready in
-      omega (arith, fewer, room);
+spare_stays r d spare fewer jobs room rules = record {
+  ready = omega (arith, spare.ready, fewer, room, ap (λ (k : Declaration). most_jobs k.version) rules);
   steps = λ keep. let old : 5 * (r.course.jobs + r.spare) + 1 ≤ r.room = spare.steps keep in omega (arith, jobs);
 }
 
@@ -219,7 +226,7 @@ pub next_reader : (r : Reading) → IsReader r → (d : Course) (e : Event) → 
     → GoesOnFrom r.course d
     → IsReader (record r { course = d })
 next_reader r old d e going next on = record {
-  spare = spare_stays r d old.spare on.fewer on.jobs on.room;
+  spare = spare_stays r d old.spare on.fewer on.jobs on.room on.rules;
   lines = old.lines;
   reads = next_ahead r d e going next old.lines old.reads;
 }
@@ -239,7 +246,7 @@ kept_on c d kept fewer =
 -- what is kept, with other room
 pub reserve_reader : (r : Reading) → IsReader r → (d : Course) (steps : List Event) (spare room : ℕ)
     → d ≡ record r.course { room = d.room }
-    → steps ≡ r.steps → min (length r.course.ready + spare) 1_000_000 ≤ d.room
+    → steps ≡ r.steps → min (length r.course.ready + spare) (most_jobs r.course.rules.version) ≤ d.room
     → (r.keep ≡ true → 5 * (r.course.jobs + spare) + 1 ≤ room)
     → IsReader (record r { course = d; steps = steps; spare = spare; room = room })
 reserve_reader r old d steps spare room same unchanged ready all =

@@ -28,8 +28,8 @@ use Rattle.trace_judge.proofs.Only.{only_refused}
 use Rattle.trace_judge.specs.declared.stage.Stage.TheVariants.{Going}
 use Rattle.ready_jobs.specs.Course.{Follows}
 use Rattle.trace_judge.specs.Reads.{Reading, Goes, ReadsAhead, StaysAhead, IsReader, kept_steps, Took, Waited, at_tick}
-use Rattle.trace_judge.specs.Reads.{rules_kept}
-use Rattle.trace_judge.proofs.Readings.{goes_of, ahead_of, here_of, reads_of, reads_ahead, version_kept, rules_are}
+use Rattle.trace_judge.proofs.Readings.{goes_of, ahead_of, here_of, reads_of, reads_ahead, version_kept, room_kept}
+use Rattle.trace_judge.proofs.Readings.{room_left}
 use Rattle.dover_model.proofs.Tests.{never}
 
 -- no more lines are refused than there are items
@@ -74,7 +74,7 @@ module _ (line : RefusedAt) (named : (S : Session) → named_item S (refused_tex
 
     -- it may come
     module _ (u v2 : Reading) (same : u ≡ v2) (kept : v2 ≡ record w { course = v2.course })
-        (known : line.at ≤ last_tick) (few : w.items < most_items)
+        (known : line.at ≤ last_tick) (few : w.items < most_items w.kept.rules.version)
         (may_line : (ls : List (List ℕ)) (S : Session) (z y x : State) → Goes w ls S z y
         → Waited v2 line.at ls S z x → session.MayRefuse S line.at line.line)
         (waits : (ls : List (List ℕ)) (S : Session) (z y : State) → Goes w ls S z y → (x : State)
@@ -93,10 +93,9 @@ module _ (line : RefusedAt) (named : (S : Session) → named_item S (refused_tex
           let x : State = there.0 in
           let here : Goes u ls S z x = waited.goes in
           let unchanged : u ≡ record w { course = v2.course } = same ∙ kept in
-          let items : u.items ≡ w.items = ap (λ (t : Reading). t.items) unchanged in
-          let least : w.items < 3_999_998 = few in
           let may : MayRefuse S u.floor z line (at_tick line.at x.tasks) = record {
-            room = omega (arith, here.items);
+            room = room_left u ls S z x here
+                (subst (λ (t : Reading). t.items < most_items t.kept.rules.version) (sym unchanged) few);
             refused = record {
               no_fall = waited.no_fall;
               known = known;
@@ -121,7 +120,7 @@ module _ (line : RefusedAt) (named : (S : Session) → named_item S (refused_tex
               idles = ([], refl);
               follows = subst (λ J. Follows u.course J x) (sym J_same) here.follows;
               kept = subst (λ (J : Instance). admission.StandsFor u.kept J.jobs) (sym J_same) here.kept;
-              ratio = here.ratio;
+              rules = here.rules;
               items = omega (arith, here.items, length-append S.items (RefusedItem line ∷ []));
               steps = here.steps ∙ ap (kept_steps u.keep) (sym prints);
               refused = omega (
@@ -181,28 +180,27 @@ module _ (at r c d v : ℕ) (cause : Refusal) (form : HasForm (Refused at r c d 
 
   -- the jobs and the limits don't refuse it so
   pub job_not : (w : Reading) → w.stage ≡ Going
-      → (refuses_lines w.course.rules.version ≡ true → at ≤ last_tick → w.items < most_items → (jobs : List JobFacts)
-      → admission.StandsFor w.kept jobs
-      → refusal_at (rules_kept w) jobs at (job_of_numbers r c d v) ≡ Some cause → ⊥)
+      → (refuses_lines w.kept.rules.version ≡ true → at ≤ last_tick → w.items < most_items w.kept.rules.version
+      → (jobs : List JobFacts) → admission.StandsFor w.kept jobs
+      → refusal_at w.kept.rules jobs at (job_of_numbers r c d v) ≡ Some cause → ⊥)
       → Took w w (refused_text job_line) false
   job_not w going none = not_refused job_line job_named w going w (λ ls reads. reads) (λ ls S z goes y may.
-      let room : length S.items < 3_999_998 = may.room in
       none (ap refuses_lines (sym (version_kept w ls S z z goes)) ∙ may.refused.line.version) may.refused.known
-      (omega (arith, goes.items)) (admitted_jobs S.items) goes.kept
-      (ap (λ k. refusal_at k (admitted_jobs S.items) at (job_of_numbers r c d v)) (rules_are w ls S z z goes)
+      (room_kept w ls S z z goes may.room) (admitted_jobs S.items) goes.kept
+      (ap (λ k. refusal_at k (admitted_jobs S.items) at (job_of_numbers r c d v)) goes.rules
       ∙ may.refused.line.cause))
 
   -- they refuse it so
-  pub job_may : (w v2 : Reading) → refuses_lines w.course.rules.version ≡ true
+  pub job_may : (w v2 : Reading) → refuses_lines w.kept.rules.version ≡ true
       → ((jobs : List JobFacts) → admission.StandsFor w.kept jobs
-      → refusal_at (rules_kept w) jobs at (job_of_numbers r c d v) ≡ Some cause)
+      → refusal_at w.kept.rules jobs at (job_of_numbers r c d v) ≡ Some cause)
       → (ls : List (List ℕ)) (S : Session) (z y x : State) → Goes w ls S z y → Waited v2 at ls S z x
       → session.MayRefuse S at job_line.line
   job_may w v2 version refuses ls S z y x goes waited = record {
     version = ap refuses_lines (version_kept w ls S z y goes) ∙ version;
     numerals = form.1;
     cause = ap (λ k. refusal_at k (admitted_jobs S.items) at (job_of_numbers r c d v))
-        (sym (rules_are w ls S z y goes)) ∙ refuses (admitted_jobs S.items) goes.kept;
+        (sym goes.rules) ∙ refuses (admitted_jobs S.items) goes.kept;
   }
 
 -- ---- of a done line
@@ -218,12 +216,12 @@ module _ (at tick number : ℕ) (form : HasForm (RefusedDone at tick number)) wh
 
   -- the version, the ticks and the limits don't allow it
   pub done_not : (w : Reading) → w.stage ≡ Going
-      → (may_finish_early w.course.rules.version ≡ true → at ≤ last_tick → tick ≤ at → w.items < most_items → ⊥)
+      → (may_finish_early w.kept.rules.version ≡ true → at ≤ last_tick → tick ≤ at
+      → w.items < most_items w.kept.rules.version → ⊥)
       → Took w w (refused_text done_line) false
   done_not w going none = not_refused done_line done_named w going w (λ ls reads. reads) (λ ls S z goes y may.
-      let room : length S.items < 3_999_998 = may.room in
       none (ap may_finish_early (sym (version_kept w ls S z z goes)) ∙ may.refused.line.version) may.refused.known
-      may.refused.line.no_later (omega (arith, goes.items)))
+      may.refused.line.no_later (room_kept w ls S z z goes may.room))
 
   -- whether the finish is right, where jobs may finish early
   right_is : (S : Session) → may_finish_early S.rules.version ≡ true
@@ -241,7 +239,7 @@ module _ (at tick number : ℕ) (form : HasForm (RefusedDone at tick number)) wh
       never (sym may.refused.line.cause ∙ right_is S may.refused.line.version ∙ sym (right ls S z there.0 there.1)))
 
   -- it isn't
-  pub done_may : (w v2 : Reading) → may_finish_early w.course.rules.version ≡ true → tick ≤ at
+  pub done_may : (w v2 : Reading) → may_finish_early w.kept.rules.version ≡ true → tick ≤ at
       → ((ls : List (List ℕ)) (S : Session) (z y : State) → Waited v2 at ls S z y
       → false ≡ (nat_le at tick && is_some (finish_at (instance_of S) tick number)))
       → (ls : List (List ℕ)) (S : Session) (z y x : State) → Goes w ls S z y → Waited v2 at ls S z x

@@ -1,13 +1,13 @@
 -- How the judge takes the line of a release.
 use Rattle.std.proofs.Common.{◌≡◌, ℕ, ◌+◌, ◌*◌, ◌≤◌, ◌<◌, List, [], ◌∷◌, ◌++◌, length, length-append, refl, sym, ap}
-use Rattle.std.proofs.Common.{◌∙◌, subst, true, false, cond, min, arith}
+use Rattle.std.proofs.Common.{◌∙◌, subst, true, false, cond, arith}
 use Rattle.std.specs.Prelude.{None, filter_map}
 use Rattle.std.proofs.lemmas.List.{append-nil}
 use Rattle.std.proofs.lemmas.Bool.{false_from_ne_true}
 use Rattle.std.proofs.lemmas.List.Elements.{filter_map-append}
 use Rattle.admission.specs.Kept as admission
-use Rattle.dover_model.specs.Instance.{Instance}
-use Rattle.dover_model.specs.Limits.{last_tick, most_items}
+use Rattle.dover_model.specs.Instance.{Instance, Rules}
+use Rattle.dover_model.specs.Limits.{last_tick, most_items, most_jobs}
 use Rattle.dover_model.specs.JobFacts.{JobFacts}
 use Rattle.dover_model.specs.Admission.{refusal_of}
 use Rattle.dover_model.specs.declared.events.Event.{Event}
@@ -20,6 +20,7 @@ use Rattle.dover_model.specs.Session.{JobItem, Session, instance_of, admitted_jo
 use Rattle.dover_model.specs.Text.{text_of}
 use Rattle.dover_model.specs.Verdict.{begins_trace}
 use Rattle.dover_model.proofs.Admitting.{Admitted, not_refused}
+use Rattle.dover_model.proofs.Limiting.{jobs_most}
 use Rattle.dover_model.proofs.Growing.{job_instance}
 use Rattle.dover_model.proofs.Ending.{few_printed}
 use Rattle.trace_format.specs.declared.lines.TraceLine.TheVariants.{Step as StepLine}
@@ -36,10 +37,10 @@ use Rattle.ready_jobs.specs.Reordered.{IsReordered}
 use Rattle.ready_jobs.proofs.Reordering.{as_many}
 use Rattle.trace_judge.specs.Reads.{Reading, Goes, Reads, StaysAhead, HasSpare, IsReader, kept_steps, Took, Waited}
 use Rattle.trace_judge.specs.Reads.{CanRelease, at_tick}
-use Rattle.ready_jobs.proofs.Courses.{follows_count, follows_room, follows_order}
+use Rattle.ready_jobs.proofs.Courses.{follows_count, follows_fewer, follows_room, follows_order}
 use Rattle.ready_jobs.proofs.Releasing as course
 use Rattle.trace_judge.proofs.Forms.{one_form}
-use Rattle.trace_judge.proofs.Readings.{ahead_of, here_of, reads_of, reads_ahead, with_room}
+use Rattle.trace_judge.proofs.Readings.{ahead_of, here_of, reads_of, reads_ahead, with_room, room_kept, room_left}
 use Rattle.trace_judge.proofs.Taking.{kept_more, kept_length, last_more}
 use Rattle.trace_judge.proofs.Naming.{item_named}
 use Rattle.dover_model.specs.Settled.{last_of}
@@ -56,11 +57,12 @@ release_only r ls S z goes n j form passes =
     let it : (text_of (Release n j) ≡ release_text S j) × (y : State) × MayRelease S r.floor z j y =
     only_release ls S r.floor z goes.sees (text_of (Release n j)) passes j
     (item_named S (StepLine (Release n j)) (JobItem j) form refl) in
-    let admitted : Admitted S.rules.ratio (admitted_jobs S.items) j =
-    not_refused S.rules.ratio (admitted_jobs S.items) j it.2.admitted in
-    let few : length (admitted_jobs S.items) < 1_000_000 = admitted.count in
+    let admitted : Admitted S.rules (admitted_jobs S.items) j =
+    not_refused S.rules (admitted_jobs S.items) j it.2.admitted in
+    let low : length (admitted_jobs S.items) < 4_000_000_000 =
+    omega (arith, admitted.count, jobs_most S.rules.version) in
     let next : HasForm (StepLine (Release (length (admitted_jobs S.items)) j)) =
-    ((omega arith, form.0.1), (omega arith, admitted.job)) in
+    ((omega (arith, low), form.0.1), (omega (arith, low), admitted.job)) in
     let same : StepLine (Release n j) ≡ StepLine (Release (length (admitted_jobs S.items)) j) =
     one_form _ _ form next it.0 in
     let number : n ≡ length (admitted_jobs S.items) = cc in
@@ -70,16 +72,16 @@ release_only r ls S z goes n j form passes =
 
 -- the job may be released, once the run has gone on to its release
 pub can_release : (r : Reading) (j : JobFacts) (ls : List (List ℕ)) (S : Session) (z y : State)
-    → Waited r j.release ls S z y → r.items < most_items
-    → refusal_of r.kept.ratio (admitted_jobs S.items) j ≡ None → CanRelease r j ls
+    → Waited r j.release ls S z y → r.items < most_items r.kept.rules.version
+    → refusal_of r.kept.rules (admitted_jobs S.items) j ≡ None → CanRelease r j ls
 can_release r j ls S z y waited few admitted = record {
   session = S;
   from = z;
   state = y;
   waited = waited;
   may = record {
-    room = let least : r.items < 3_999_998 = few in omega (arith, waited.goes.items);
-    admitted = subst (λ k. refusal_of k (admitted_jobs S.items) j ≡ None) waited.goes.ratio admitted;
+    room = room_left r ls S z y waited.goes few;
+    admitted = subst (λ k. refusal_of k (admitted_jobs S.items) j ≡ None) waited.goes.rules admitted;
     no_fall = waited.no_fall;
     waits = waited.waits;
   };
@@ -98,7 +100,7 @@ room_release r j ls ready spare room can = record {
       idles = can.waited.goes.idles;
       follows = follows_room r.course ready (instance_of can.session) can.state can.waited.goes.follows;
       kept = can.waited.goes.kept;
-      ratio = can.waited.goes.ratio;
+      rules = can.waited.goes.rules;
       items = can.waited.goes.items;
       steps = can.waited.goes.steps;
       refused = can.waited.goes.refused;
@@ -146,8 +148,8 @@ module _ (r : Reading) (j : JobFacts) (room : ℕ) (ls : List (List ℕ)) (can :
       (subst (λ m. Keeps (instance_of S_more) (with_fresh y m j)) (sym next_number)
       (sees_keeps (ls ++ release_text S j ∷ []) S_more j.release (with_fresh y n j) sees)) known) where
         known : j.release ≤ last_tick
-        known = let admitted : Admitted S.rules.ratio (admitted_jobs S.items) j =
-            not_refused S.rules.ratio (admitted_jobs S.items) j can.may.admitted in
+        known = let admitted : Admitted S.rules (admitted_jobs S.items) j =
+            not_refused S.rules (admitted_jobs S.items) j can.may.admitted in
             let window : j.release + j.work ≤ j.deadline = admitted.job.window in
             let due : j.deadline ≤ 1_000_000_000_000 = admitted.job.due in
             omega arith
@@ -155,6 +157,19 @@ module _ (r : Reading) (j : JobFacts) (room : ℕ) (ls : List (List ℕ)) (can :
   -- the course with it
   pub release_course : IsCourse (with_release r.course j room)
   release_course = (instance_of S_more, with_fresh y n j, release_follows)
+
+  -- the version allows one ready job more
+  pub one_more_ready : length r.course.ready < most_jobs r.course.rules.version
+  one_more_ready =
+      let admitted : Admitted S.rules (admitted_jobs S.items) j =
+      not_refused S.rules (admitted_jobs S.items) j can.may.admitted in
+      omega (
+        arith,
+        admitted.count,
+        next_number,
+        follows_fewer r.course (instance_of S) can.state can.waited.goes.follows,
+        ap (λ (k : Rules). most_jobs k.version) can.waited.goes.follows.rules,
+      )
 
   -- there is room for it
   pub release_room : HasSpare r → 0 < r.spare → r.keep ≡ true → length r.steps < r.room
@@ -179,7 +194,7 @@ module _ (r : Reading) (j : JobFacts) (room : ℕ) (ls : List (List ℕ)) (can :
 
   module _ (kept : admission.Kept) (items : ℕ) (steps : List Event) (spare steps_room : ℕ)
       (stands : (jobs : List JobFacts) → admission.StandsFor r.kept jobs → admission.StandsFor kept (jobs ++ j ∷ []))
-      (ratio : kept.ratio ≡ r.kept.ratio) (counted : items ≡ r.items + 1)
+      (rules : kept.rules ≡ r.kept.rules) (counted : items ≡ r.items + 1)
       (more : steps ≡ cond r.keep (r.steps ++ Release r.course.jobs j ∷ []) r.steps) (ready : List Task)
       (order : IsReordered (r.course.ready ++ fresh_job r.course j ∷ []) ready) where
     -- the reading with it
@@ -213,7 +228,7 @@ module _ (r : Reading) (j : JobFacts) (room : ℕ) (ls : List (List ℕ)) (can :
           follows = follows_order (with_release r.course j room) ready (instance_of S_more) (with_fresh y n j)
               release_follows order;
           kept = subst (admission.StandsFor kept) (sym jobs) (stands (admitted_jobs S.items) can.waited.goes.kept);
-          ratio = ratio ∙ can.waited.goes.ratio;
+          rules = rules ∙ can.waited.goes.rules;
           items = omega (arith, counted, can.waited.goes.items, length-append S.items (JobItem j ∷ []));
           steps = more ∙ kept_more r.keep (printed_of can.waited.goes.sees.steps) r.steps
               (Release r.course.jobs j) can.waited.goes.steps
@@ -235,14 +250,14 @@ module _ (r : Reading) (j : JobFacts) (room : ℕ) (ls : List (List ℕ)) (can :
         → steps_room ≡ r.room → IsReader released
     released_reader going old less same_ready same_steps = record {
       spare = record {
-        ready = let before : min (length r.course.ready + r.spare) 1_000_000 ≤ r.course.room = old.ready in
-            omega (
-              arith,
-              less,
-              same_ready,
-              as_many (r.course.ready ++ fresh_job r.course j ∷ []) ready order,
-              length-append r.course.ready (fresh_job r.course j ∷ []),
-            );
+        ready = omega (
+          arith,
+          old.ready,
+          less,
+          same_ready,
+          as_many (r.course.ready ++ fresh_job r.course j ∷ []) ready order,
+          length-append r.course.ready (fresh_job r.course j ∷ []),
+        );
         steps = λ keep. let before : 5 * (r.course.jobs + r.spare) + 1 ≤ r.room = old.steps keep in
             omega (arith, less, same_steps);
       };
@@ -259,7 +274,7 @@ module _ (r w : Reading) (same : r ≡ w) (old : IsReader r) (going_w : w.stage 
     (order : IsReordered (r.course.ready ++ fresh_job r.course j ∷ []) d.ready) (is_number : number ≡ r.course.jobs)
     (is_floor : floor ≡ j.release)
     (stands : (jobs : List JobFacts) → admission.StandsFor r.kept jobs → admission.StandsFor kept (jobs ++ j ∷ []))
-    (ratio : kept.ratio ≡ r.kept.ratio) (counted : items ≡ r.items + 1)
+    (rules : kept.rules ≡ r.kept.rules) (counted : items ≡ r.items + 1)
     (more : steps ≡ cond r.keep (r.steps ++ Release number j ∷ []) r.steps) where
   -- the reading with it
   abbrev taken : Course → ℕ → Reading
@@ -290,7 +305,7 @@ module _ (r w : Reading) (same : r ≡ w) (old : IsReader r) (going_w : w.stage 
       (taken (record (with_release r.course j r.course.room) { ready = d.ready }) j.release)
       (ls ++ text_of (Release v.course.jobs j) ∷ [])) same
       (released_reads r j r.course.room ls
-      (subst (λ v. CanRelease v j ls) (sym same) can) kept items steps spare steps_room stands ratio counted
+      (subst (λ v. CanRelease v j ls) (sym same) can) kept items steps spare steps_room stands rules counted
       steps_are d.ready order
       (ap (λ (v : Reading). v.stage) same ∙ going_w))))
 
@@ -302,7 +317,7 @@ module _ (r w : Reading) (same : r ≡ w) (old : IsReader r) (going_w : w.stage 
       (subst (λ f. IsReader (taken (record (with_release r.course j r.course.room) { ready = d.ready }) f))
       (sym is_floor)
       (released_reader r j r.course.room ls
-      (subst (λ v. CanRelease v j ls) (sym same) can) kept items steps spare steps_room stands ratio counted
+      (subst (λ v. CanRelease v j ls) (sym same) can) kept items steps spare steps_room stands rules counted
       steps_are d.ready order
       (ap (λ (v : Reading). v.stage) same ∙ going_w) old.spare less refl same_steps))
 
@@ -310,9 +325,9 @@ module _ (r w : Reading) (same : r ≡ w) (old : IsReader r) (going_w : w.stage 
 
 module _ (w : Reading) (going : w.stage ≡ Going) (n : ℕ) (j : JobFacts) (form : HasForm (StepLine (Release n j))) where
   -- the job isn't admitted
-  pub not_admitted : (n ≡ w.course.jobs → w.items < most_items → (jobs : List JobFacts)
+  pub not_admitted : (n ≡ w.course.jobs → w.items < most_items w.kept.rules.version → (jobs : List JobFacts)
       → admission.StandsFor w.kept jobs
-      → refusal_of w.kept.ratio jobs j ≡ None → ⊥) → Took w w (text_of (Release n j)) false
+      → refusal_of w.kept.rules jobs j ≡ None → ⊥) → Took w w (text_of (Release n j)) false
   not_admitted none = record {
     yes = λ e. absurd (let clash : false ≡ true = e in cc);
     no = λ _ ls reads.
@@ -320,9 +335,8 @@ module _ (w : Reading) (going : w.stage ≡ Going) (n : ℕ) (j : JobFacts) (for
           false_from_ne_true _ (λ passes.
               let it : (n ≡ w.course.jobs) × (y : State) × MayRelease here.0 w.floor here.1 j y =
               release_only w ls here.0 here.1 here.2 n j form passes in
-              let room : length here.0.items < 3_999_998 = it.2.room in
-              none it.0 (omega (arith, here.2.items)) (admitted_jobs here.0.items) here.2.kept
-              (subst (λ k. refusal_of k (admitted_jobs here.0.items) j ≡ None) (sym here.2.ratio) it.2.admitted)),
+              none it.0 (room_kept w ls here.0 here.1 here.1 here.2 it.2.room) (admitted_jobs here.0.items) here.2.kept
+              (subst (λ k. refusal_of k (admitted_jobs here.0.items) j ≡ None) (sym here.2.rules) it.2.admitted)),
           reads_ahead w ls reads,
         );
   }
@@ -347,14 +361,15 @@ module _ (w : Reading) (going : w.stage ≡ Going) (n : ℕ) (j : JobFacts) (for
 pub reserved_can : (w v u : Reading) (j : JobFacts) → v ≡ record w { course = v.course }
     → u ≡ with_room v u.course.room u.spare u.room
     → ((ls : List (List ℕ)) (S : Session) (z y : State) → Goes w ls S z y → (x : State) × Waited v j.release ls S z x)
-    → w.items < most_items → ((jobs : List JobFacts) → admission.StandsFor w.kept jobs
-    → refusal_of w.kept.ratio jobs j ≡ None)
+    → w.items < most_items w.kept.rules.version → ((jobs : List JobFacts) → admission.StandsFor w.kept jobs
+    → refusal_of w.kept.rules jobs j ≡ None)
     → (ls : List (List ℕ)) (S : Session) (z y : State) → Goes w ls S z y → CanRelease u j ls
 reserved_can w v u j kept same waits few admits ls S z y goes =
     let waited : (x : State) × Waited v j.release ls S z x = waits ls S z y goes in
     subst (λ t. CanRelease t j ls) (sym same) (room_release v j ls u.course.room u.spare u.room
-    (can_release v j ls S z waited.0 waited.1 (subst (λ (t : Reading). t.items < most_items) (sym kept) few)
-    (subst (λ (t : Reading). refusal_of t.kept.ratio (admitted_jobs S.items) j ≡ None) (sym kept)
+    (can_release v j ls S z waited.0 waited.1
+    (subst (λ (t : Reading). t.items < most_items t.kept.rules.version) (sym kept) few)
+    (subst (λ (t : Reading). refusal_of t.kept.rules (admitted_jobs S.items) j ≡ None) (sym kept)
     (admits (admitted_jobs S.items) goes.kept))))
 
 -- so the trace goes on

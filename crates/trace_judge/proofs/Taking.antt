@@ -1,5 +1,5 @@
 -- How the judge takes the lines of a trace.
-use Rattle.std.proofs.Common.{◌≡◌, ℕ, suc, ◌+◌, ◌*◌, ◌≤◌, ◌<◌, min, max, List, [], ◌∷◌, ◌++◌, length, length-append}
+use Rattle.std.proofs.Common.{◌≡◌, ℕ, suc, ◌+◌, ◌*◌, ◌≤◌, ◌<◌, max, List, [], ◌∷◌, ◌++◌, length, length-append}
 use Rattle.std.proofs.Common.{refl, sym, ap, ◌∙◌, subst, Bool, true, false, cond, arith}
 use Rattle.std.specs.Prelude.{Option, Some, None, is_some, not}
 use Rattle.std.specs.List.{filter}
@@ -43,6 +43,8 @@ use Rattle.ready_jobs.proofs.Courses.{new_follows, follows_count}
 use Rattle.trace_judge.proofs.Forms.{one_form, next_form}
 use Rattle.trace_judge.proofs.Readings.{goes_of, ahead_of, here_of, reads_of, opens_of, reads_ahead, next_goes}
 use Rattle.trace_judge.proofs.Readings.{spare_stays, next_ahead}
+use Rattle.dover_model.specs.Limits.{most_jobs}
+use Rattle.dover_model.proofs.Limiting.{jobs_most}
 
 -- ---- silent steps up to a tick
 
@@ -71,7 +73,7 @@ module _ (r w : Reading) (same : r ≡ w) (d : Course) (tick : ℕ) (o : Option 
         );
         follows = it.follows;
         kept = goes.kept;
-        ratio = goes.ratio;
+        rules = goes.rules;
         items = goes.items;
         steps = goes.steps;
         refused = goes.refused;
@@ -105,7 +107,7 @@ module _ (r w : Reading) (same : r ≡ w) (d : Course) (tick : ℕ) (o : Option 
             );
             follows = it.follows;
             kept = goes.kept;
-            ratio = goes.ratio;
+            rules = goes.rules;
             items = goes.items;
             steps = goes.steps;
             refused = goes.refused;
@@ -138,7 +140,7 @@ pub settled_reader : (r : Reading) → IsReader r → (d : Course) (tick : ℕ) 
     → GoesOnFrom r.course d
     → IsReader (record r { course = d })
 settled_reader r old d tick o going settled low on = record {
-  spare = spare_stays r d old.spare on.fewer on.jobs on.room;
+  spare = spare_stays r d old.spare on.fewer on.jobs on.room on.rules;
   lines = old.lines;
   reads = settled_ahead r r refl d tick o settled low going old.lines old.reads;
 }
@@ -206,7 +208,7 @@ module _ (r : Reading) (opening_stage : r.stage ≡ Opening) (v p q : ℕ) (form
   module _ (version : Version) (ratio : Fraction) (is_version : version_of_number v ≡ Some version)
       (is_ratio : (ratio ≡ record { p = p; q = q }) × IsRatio ratio) (d : Course) (kept : admission.Kept)
       (declared : d ≡ record r.course { rules = record { ratio = ratio; version = version } })
-      (kept_ratio : kept.ratio ≡ ratio)
+      (kept_rules : kept.rules ≡ record { ratio = ratio; version = version })
       (stands : admission.StandsFor kept []) where
     -- the rules
     abbrev rules : Declaration
@@ -241,7 +243,7 @@ module _ (r : Reading) (opening_stage : r.stage ≡ Opening) (v p q : ℕ) (form
               (sym (declared ∙ ap (λ (c : Course). record c { rules = rules }) opens.course))
               (new_follows rules r.course.room is_ratio.1);
           kept = stands;
-          ratio = kept_ratio;
+          rules = kept_rules;
           items = opens.items;
           steps = opens.steps ∙ sym (no_steps r.keep) ∙ ap (kept_steps r.keep) (sym sees.1);
           refused = opens.refused;
@@ -266,8 +268,15 @@ module _ (r : Reading) (opening_stage : r.stage ≡ Opening) (v p q : ℕ) (form
     pub opened_reader : IsReader r → IsReader opened
     opened_reader old = record {
       spare = record {
-        ready = let before : min (length r.course.ready + r.spare) 1_000_000 ≤ r.course.room = old.spare.ready in
-            omega (arith, ap (λ (c : Course). length c.ready) declared, ap (λ (c : Course). c.room) declared);
+        ready = omega (
+          arith,
+          old.spare.ready,
+          ap most_jobs (opens_of r old.lines opening_stage old.reads).version,
+          ap (λ (c : Course). length c.ready) declared,
+          ap (λ (c : Course). most_jobs c.rules.version) declared,
+          ap (λ (c : Course). c.room) declared,
+          jobs_most version,
+        );
         steps = λ keep. let before : 5 * (r.course.jobs + r.spare) + 1 ≤ r.room = old.spare.steps keep in
             omega (arith, ap (λ (c : Course). c.jobs) declared);
       };
@@ -426,9 +435,9 @@ module _ (r w : Reading) (same : r ≡ w) (going_w : w.stage ≡ Going) (d : Cou
             } where
               stepped_spare : IsReader r → GoesOnFrom r.course d → HasSpare ended
               stepped_spare old on = record {
-                ready = (spare_stays r d old.spare on.fewer on.jobs on.room).ready;
+                ready = (spare_stays r d old.spare on.fewer on.jobs on.room on.rules).ready;
                 steps = λ keep. let most : 5 * (d.jobs + r.spare) + 1 ≤ r.room =
-                    (spare_stays r d old.spare on.fewer on.jobs on.room).steps keep in
+                    (spare_stays r d old.spare on.fewer on.jobs on.room on.rules).steps keep in
                     omega (arith, same_room);
               }
 
@@ -464,7 +473,7 @@ module _ (r w : Reading) (same : r ≡ w) (going_w : w.stage ≡ Going) (d : Cou
                 idles = ([], refl);
                 follows = taken (instance_of S) x new.1.follows;
                 kept = goes.kept;
-                ratio = goes.ratio;
+                rules = goes.rules;
                 items = goes.items;
                 steps = kept ∙ kept_more r.keep (printed_of goes.sees.steps) r.steps due goes.steps
                     ∙ ap (kept_steps r.keep) (sym sees.1);
@@ -495,9 +504,9 @@ module _ (r w : Reading) (same : r ≡ w) (going_w : w.stage ≡ Going) (d : Cou
             let new = stepped_goes old.lines it.0 it.1 it.2 it.3 in
             record {
               spare = record {
-                ready = (spare_stays r d2 old.spare on.fewer on.jobs on.room).ready;
+                ready = (spare_stays r d2 old.spare on.fewer on.jobs on.room on.rules).ready;
                 steps = λ keep. let most : 5 * (d2.jobs + r.spare) + 1 ≤ r.room =
-                    (spare_stays r d2 old.spare on.fewer on.jobs on.room).steps keep in
+                    (spare_stays r d2 old.spare on.fewer on.jobs on.room on.rules).steps keep in
                     omega (arith, same_room);
               };
               lines = old.lines ++ text_of event ∷ [];

@@ -18,6 +18,7 @@ use Rattle.dover_model.proofs.Honest.{numbers_low, count_jobs}
 use Rattle.dover_model.specs.Text.{header, text_of, refused_text, version_number}
 use Rattle.dover_model.specs.Verdict.{item_of, begins_trace, ends_with_end}
 use Rattle.dover_model.proofs.Admitting.{Admitted, not_refused}
+use Rattle.dover_model.proofs.Limiting.{jobs_most}
 use Rattle.dover_model.proofs.NoFeeds.{header_short}
 use Rattle.dover_model.proofs.TraceEnds.{trace_ends}
 use Rattle.dover_model.proofs.WrongStays.{after_end_fails}
@@ -73,9 +74,10 @@ header_took_none w going v p q form = record {
 release_form : (S : Session) (floor : ℕ) (z : State) (l : List ℕ) → IsReleaseNext S floor z l → (x : TraceLine)
     × HasForm x × (trace_text x ≡ l)
 release_form S floor z l it =
-    let admitted : Admitted S.rules.ratio (admitted_jobs S.items) it.0 =
-    not_refused S.rules.ratio (admitted_jobs S.items) it.0 it.3.admitted in
-    let few : length (admitted_jobs S.items) < 1_000_000 = admitted.count in
+    let admitted : Admitted S.rules (admitted_jobs S.items) it.0 =
+    not_refused S.rules (admitted_jobs S.items) it.0 it.3.admitted in
+    let few : length (admitted_jobs S.items) < 4_000_000_000 =
+    omega (arith, admitted.count, jobs_most S.rules.version) in
     let window : it.0.release + it.0.work ≤ it.0.deadline = admitted.job.window in
     let due : it.0.deadline ≤ 1_000_000_000_000 = admitted.job.due in
     let modest : it.0.value ≤ 1_000_000_000 = admitted.job.modest in (
@@ -120,7 +122,8 @@ completion_form ls S floor z l sees it =
       count_jobs (settled_state (instance_of S) it.0.at).tasks,
       ap length keeps.jobs,
     ) in
-    let few : length (instance_of S).jobs ≤ 1_000_000 = sees.valid.jobs.count in (
+    let few : length (instance_of S).jobs ≤ 4_000_000_000 =
+    omega (arith, sees.valid.jobs.count, jobs_most S.rules.version) in (
       Step (Complete it.0.at it.0.finish.number),
       ((omega (arith, known), (omega (arith, number, low), tt)), omega (arith, number, low)),
       sym it.1,

@@ -1,5 +1,5 @@
 -- What the lines of a trace so far have come to, and which line may come next.
-use Rattle.std.specs.Prelude.{◌≡◌, ◌≤◌, ◌<◌, ◌+◌, ℕ, List, length, true, false, Some, None}
+use Rattle.std.specs.Prelude.{◌≡◌, ◌≤◌, ◌<◌, ◌+◌, ℕ, List, length, false, Some, None}
 use Rattle.std.specs.List.{AllByRecursion}
 use Rattle.dover_model.specs.State.{State, opening, is_coming}
 use Rattle.dover_model.specs.Run.{Step, printed_of}
@@ -34,12 +34,12 @@ pub record Sees (ls : List (List ℕ)) (S : Session) (floor : ℕ) (z : State) :
 
 -- the session may have one item more
 abbrev pub HasRoom : Session → Type 0
-HasRoom S = length S.items < most_items
+HasRoom S = length S.items < most_items S.rules.version
 
 -- the release of the job may come next, and the silent steps before it lead to z
 pub record MayRelease (S : Session) (floor : ℕ) (s : State) (j : JobFacts) (z : State) : Type 0 where
   pub room : HasRoom S
-  pub admitted : refusal_of S.rules.ratio (admitted_jobs S.items) j ≡ None
+  pub admitted : refusal_of S.rules (admitted_jobs S.items) j ≡ None
   pub no_fall : floor ≤ j.release
   pub waits : WaitsUntil (instance_of S).rules j.release s z
 

@@ -6,11 +6,11 @@ use Rattle.admission.specs.Kept as admission
 use Rattle.dover_model.specs.Limits.{most_jobs, last_tick}
 use Rattle.dover_model.specs.JobFacts.{JobFacts}
 use Rattle.dover_model.specs.declared.events.Event.{Event}
+use Rattle.dover_model.specs.declared.events.Version.TheVariants.{Three}
 use Rattle.dover_model.specs.State.{State}
 use Rattle.dover_model.specs.Run.{Step, printed, printed_of, completed_value}
 use Rattle.dover_model.specs.Session.{Item, JobItem, Session, instance_of, admitted_jobs, IsValidSession}
 use Rattle.dover_model.specs.Session.{EarlyFinish, finish_at, may_finish_early}
-use Rattle.dover_model.specs.Instance.{Declaration}
 use Rattle.dover_model.specs.Text.{text_of}
 use Rattle.dover_model.specs.Settled.{last_of}
 use Rattle.dover_model.specs.Trace.{trace_lines}
@@ -52,10 +52,11 @@ kept_steps keep steps = if keep then steps else []
 abbrev pub IsPaid : Reading → (start now : ℕ) → Type 0
 IsPaid r start now = HasPaidSince r.course r.last start now
 
--- no line yet
+-- no line yet: any version may be declared, so the widest limits count
 pub record Opens (r : Reading) (ls : List (List ℕ)) : Type 0 where
   pub lines : ls ≡ []
   pub course : r.course ≡ new_course r.course.rules r.course.room
+  pub version : r.course.rules.version ≡ Three
   pub items : r.items ≡ 0
   pub floor : r.floor ≡ 0
   pub steps : r.steps ≡ []
@@ -68,7 +69,7 @@ pub record Goes (r : Reading) (ls : List (List ℕ)) (S : Session) (z y : State)
   pub idles : (xs : List Step) × Idles (instance_of S).rules z xs y
   pub follows : Follows r.course (instance_of S) y
   pub kept : admission.StandsFor r.kept (admitted_jobs S.items)
-  pub ratio : r.kept.ratio ≡ S.rules.ratio
+  pub rules : r.kept.rules ≡ S.rules
   pub items : r.items ≡ length S.items
   pub steps : r.steps ≡ kept_steps r.keep (printed_of sees.steps)
   pub refused : r.refused ≡ model.refused_count S
@@ -100,9 +101,9 @@ Reads r ls = elim r.stage [
   | Ended ↦ (S : Session) × Ends r ls S
 ]
 
--- there is room for so many jobs more, as far as there can be jobs, and for their steps where they are kept
+-- there is room for so many jobs more, as far as the version allows jobs, and for their steps where they are kept
 pub record HasSpare (r : Reading) : Type 0 where
-  pub ready : min (length r.course.ready + r.spare) most_jobs ≤ r.course.room
+  pub ready : min (length r.course.ready + r.spare) (most_jobs r.course.rules.version) ≤ r.course.room
   pub steps : r.keep ≡ true → 5 * (r.course.jobs + r.spare) + 1 ≤ r.room
 
 -- it is kept of some lines
@@ -173,10 +174,6 @@ pub record CanComplete (r : Reading) (at number : ℕ) (ls : List (List ℕ)) : 
 abbrev pub MayNotComplete : Reading → (at number : ℕ) → Type 0
 MayNotComplete r at number = (ls : List (List ℕ)) (S : Session) (z : State) → Goes r ls S z z →
     (f : EarlyFinish) (y : State) → MayComplete S r.floor z f y → f.at ≡ at → f.finish.number ≡ number → ⊥
-
--- what is declared, as it is kept
-abbrev pub rules_kept : Reading → Declaration
-rules_kept r = record { ratio = r.kept.ratio; version = r.course.rules.version }
 
 -- the item is a job
 abbrev pub is_job_item : Option Item → Bool

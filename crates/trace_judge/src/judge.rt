@@ -54,7 +54,7 @@ pub struct Closed {
     pub verdict: Verdict,
     /// The printed steps of the run, or none.
     pub steps: Vec<Event>,
-    pub refused: u32,
+    pub refused: u64,
 }
 
 impl Judge {

@@ -1,7 +1,7 @@
 //! What the judge keeps of the lines of a trace.
 ghost use Rattle.std.specs.Prelude.{◌≡◌, ◌≤◌, ◌<◌, ◌+◌, ◌∷◌, ◌++◌, ◌↔◌, ℕ, List, [], Bool, true, false, IsTrue, IfOk};
-ghost use Rattle.std.specs.Prelude.{OnOk, OnErr, IsOk, Some, None, vec_len, vec_capacity, length, if◌then◌else◌};
-ghost use Rattle.dover_model.specs.Limits.{last_tick, most_items};
+ghost use Rattle.std.specs.Prelude.{OnOk, OnErr, IsOk, min, Some, None, vec_len, vec_capacity, length, if◌then◌else◌};
+ghost use Rattle.dover_model.specs.Limits.{last_tick, most_items, most_jobs};
 ghost use Rattle.dover_model.specs.Step.{Prints};
 ghost use Rattle.dover_model.specs.Run.{is_end};
 ghost use Rattle.dover_model.specs.Settled.{waits_for_mark};
@@ -14,15 +14,12 @@ use admission::Admission;
 use dover_model::jobs::LAST_TICK;
 use dover_model::{Event, Job, Memory, Ratio, Refusal, Version};
 use ready_jobs::Ready;
-use root_compare::bound;
+use root_compare::long_bound;
 use std::alloc::Global;
 use std::marker::Model;
 use std::sync::ledger::Ledger;
 use step_count::Steps;
 use trace_format::{TraceLine, read_trace_line};
-
-/// The greatest number of items of a session.
-const MOST_ITEMS: u32 = 3_999_998;
 
 /// For how many jobs room is asked for at once.
 const JOBS_AT_ONCE: u32 = 64;
@@ -33,12 +30,12 @@ pub struct Reader {
     stage: Stage,
     course: Ready,
     admission: Admission,
-    items: u32,
+    items: u64,
     floor: u64,
     keep: bool,
     steps: Vec<Event>,
     spare: u32,
-    refused: u32,
+    refused: u64,
     last: u64,
 }
 
@@ -97,7 +94,7 @@ impl Reader {
     ghost use Rattle.ready_jobs.specs.Course.{GoesOnFrom};
     ghost use Rattle.trace_judge.specs.Reads.{Reads, ReadsAhead, StaysAhead, Goes, Ends, Waited, CanRelease, Took};
     ghost use Rattle.trace_judge.specs.Reads.{IsUnchangedFor, expected_of, releases_in, jobs_in, job_lines_in};
-    ghost use Rattle.trace_judge.specs.Reads.{Followed, CanComplete, MayNotComplete, rules_kept, IsPaid};
+    ghost use Rattle.trace_judge.specs.Reads.{Followed, CanComplete, MayNotComplete, IsPaid};
 
     /// No line. Where `keep` is true, the steps of the run are kept.
     ///
@@ -111,6 +108,7 @@ impl Reader {
         ensures jobs { IfOk result (λ reader. reader.course.jobs ≡ 0) }
         ensures paid { IfOk result (λ reader. (now : ℕ) → IsPaid reader now now) }
     {
+        // Till a version is declared, the widest limits count.
         let one = Ratio::new(1, 1).unwrap();
         let mut steps = Vec::new(alloc);
         if keep {
@@ -118,8 +116,8 @@ impl Reader {
         }
         Ok(Reader {
             stage: Stage::Opening,
-            course: Ready::new(alloc, Version::One, one)?,
-            admission: Admission::new(one),
+            course: Ready::new(alloc, Version::Three, one)?,
+            admission: Admission::new(Version::Three, one),
             items: 0,
             floor: 0,
             keep,
@@ -130,11 +128,12 @@ impl Reader {
         })
     }
 
-    /// Room for so many jobs more, and for their steps where they are kept.
+    /// Room for so many jobs more, as far as the version allows jobs, and for their steps where they are kept.
     ///
     /// # Errors
     ///
-    /// `Memory` where there is none.
+    /// `Memory` where there is none: in version Three, and before the header, also for more than 1,000,000 jobs that
+    /// are ready at once.
     pub fn reserve(&mut self, more: u32) -> Result<(), Memory>
         ensures same { self.new ≡ record self.old {
           course = record self.old.course { room = self.new.course.room };
@@ -151,6 +150,9 @@ impl Reader {
             return Ok(());
         }
         self.course.reserve(more)?;
+        if !has_room_for(&self.course, more) {
+            return Err(Memory);
+        }
         if self.keep {
             let most = 5 * (self.course.jobs() as usize + more as usize) + 1;
             self.steps.reserve(most)?;
@@ -201,13 +203,13 @@ impl Reader {
             ratio,
             version: self.course.version(),
             value,
-            bound: bound(value, ratio),
+            bound: long_bound(value, ratio),
             jobs: self.course.jobs(),
         }
     }
 
     /// How many refused lines a whole trace has.
-    pub fn refused(&self) -> u32
+    pub fn refused(&self) -> u64
         ensures { (ls : List (List ℕ)) (S : Session) → Ends self.now ls S → result ≡ refused_count S }
     {
         self.refused
@@ -235,7 +237,7 @@ impl Reader {
             return false;
         };
         self.course.declare(version, ratio);
-        self.admission = Admission::new(ratio);
+        self.admission = Admission::new(version, ratio);
         self.stage = Stage::Going;
         true
     }
@@ -300,20 +302,28 @@ impl Reader {
         self.course.runs(number)
     }
 
+    // There may be one item more.
+    fn has_room(&self) -> bool
+        ensures yes { result ≡ true → self.now.items < most_items self.now.kept.rules.version }
+        ensures no { result ≡ false → most_items self.now.kept.rules.version ≤ self.now.items }
+    {
+        self.items < self.admission.version().most_items()
+    }
+
     // The release of this job may come next, as far as the jobs before it go.
     fn may_admit(&self, number: u32, job: &Job) -> bool
-        ensures yes { result ≡ true → (number ≡ self.now.course.jobs) × (self.now.items < most_items)
-            × HasRoom self.now.kept job.now }
+        ensures yes { result ≡ true → (number ≡ self.now.course.jobs)
+            × (self.now.items < most_items self.now.kept.rules.version) × HasRoom self.now.kept job.now }
         ensures admits { result ≡ true → (jobs : List JobFacts) → StandsFor self.now.kept jobs
-            → refusal_of self.now.kept.ratio jobs job.now ≡ None }
-        ensures no { result ≡ false → number ≡ self.now.course.jobs → self.now.items < most_items
-            → (jobs : List JobFacts) →
-            StandsFor self.now.kept jobs → refusal_of self.now.kept.ratio jobs job.now ≡ None → ⊥ }
+            → refusal_of self.now.kept.rules jobs job.now ≡ None }
+        ensures no { result ≡ false → number ≡ self.now.course.jobs
+            → self.now.items < most_items self.now.kept.rules.version → (jobs : List JobFacts) →
+            StandsFor self.now.kept jobs → refusal_of self.now.kept.rules jobs job.now ≡ None → ⊥ }
     {
         if number != self.course.jobs() {
             return false;
         }
-        if self.items >= MOST_ITEMS {
+        if !self.has_room() {
             return false;
         }
         let checked = self
@@ -440,13 +450,13 @@ impl Reader {
     {
         // What is kept of the lines is known where a field is read.
         let _ = &self.stage;
-        if !self.course.version().may_finish_early() {
+        if !self.admission.version().may_finish_early() {
             return false;
         }
         if at > LAST_TICK {
             return false;
         }
-        if self.items >= MOST_ITEMS {
+        if !self.has_room() {
             return false;
         }
         if !self.waits_until(at, steps) {
@@ -485,25 +495,26 @@ impl Reader {
         value: u64,
         cause: Refusal,
     ) -> bool
-        ensures yes { result ≡ true → (refuses_lines self.now.course.rules.version ≡ true) × (at ≤ last_tick)
-            × (self.now.items < most_items) }
+        ensures yes { result ≡ true → (refuses_lines self.now.kept.rules.version ≡ true) × (at ≤ last_tick)
+            × (self.now.items < most_items self.now.kept.rules.version) }
         ensures refuses { result ≡ true → (jobs : List JobFacts) → StandsFor self.now.kept jobs →
-            refusal_at (rules_kept self.now) jobs at (job_of_numbers release work deadline value) ≡ Some cause }
-        ensures no { result ≡ false → refuses_lines self.now.course.rules.version ≡ true → at ≤ last_tick
-            → self.now.items < most_items → (jobs : List JobFacts) → StandsFor self.now.kept jobs →
-            refusal_at (rules_kept self.now) jobs at (job_of_numbers release work deadline value) ≡ Some cause → ⊥ }
+            refusal_at self.now.kept.rules jobs at (job_of_numbers release work deadline value) ≡ Some cause }
+        ensures no { result ≡ false → refuses_lines self.now.kept.rules.version ≡ true → at ≤ last_tick
+            → self.now.items < most_items self.now.kept.rules.version
+            → (jobs : List JobFacts) → StandsFor self.now.kept jobs →
+            refusal_at self.now.kept.rules jobs at (job_of_numbers release work deadline value) ≡ Some cause → ⊥ }
     {
-        if !self.course.version().refuses_lines() {
+        if !self.admission.version().refuses_lines() {
             return false;
         }
         if at > LAST_TICK {
             return false;
         }
-        if self.items >= MOST_ITEMS {
+        if !self.has_room() {
             return false;
         }
         if release < at {
-            return is_late_cause(self.course.version(), cause);
+            return is_late_cause(self.admission.version(), cause);
         }
         match self.admission.check(release, work, deadline, value) {
             Ok(_) => false,
@@ -545,12 +556,12 @@ impl Reader {
 
     // The refused done line may come next, as far as its ticks go.
     fn may_refuse_done(&self, at: u64, tick: u64) -> bool
-        ensures yes { result ≡ true → (may_finish_early self.now.course.rules.version ≡ true) × (at ≤ last_tick)
-            × (tick ≤ at) × (self.now.items < most_items) }
-        ensures no { result ≡ false → may_finish_early self.now.course.rules.version ≡ true → at ≤ last_tick →
-            tick ≤ at → self.now.items < most_items → ⊥ }
+        ensures yes { result ≡ true → (may_finish_early self.now.kept.rules.version ≡ true) × (at ≤ last_tick)
+            × (tick ≤ at) × (self.now.items < most_items self.now.kept.rules.version) }
+        ensures no { result ≡ false → may_finish_early self.now.kept.rules.version ≡ true → at ≤ last_tick →
+            tick ≤ at → self.now.items < most_items self.now.kept.rules.version → ⊥ }
     {
-        if !self.course.version().may_finish_early() {
+        if !self.admission.version().may_finish_early() {
             return false;
         }
         if at > LAST_TICK {
@@ -559,7 +570,7 @@ impl Reader {
         if tick > at {
             return false;
         }
-        self.items < MOST_ITEMS
+        self.has_room()
     }
 
     // The next line is that of a done line that was refused.
@@ -705,6 +716,15 @@ impl Reader {
             Err(_) => Ok(false),
         }
     }
+}
+
+// There is room for so many ready jobs more, as far as the version allows jobs.
+fn has_room_for(course: &Ready, more: u32) -> bool
+    ensures { IsTrue result ↔ (min (length course.now.ready + more) (most_jobs course.now.rules.version)
+        ≤ course.now.room) }
+{
+    let ready = course.count().saturating_add(more);
+    ready.min(course.version().most_jobs()) <= course.room()
 }
 
 // It is the cause for which a late job line is refused alone.

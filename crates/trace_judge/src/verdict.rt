@@ -21,7 +21,7 @@ pub enum Verdict {
         ratio: Ratio,
         version: Version,
         value: u64,
-        bound: u64,
+        bound: u128,
         jobs: u32,
     },
     /// With this line, counted from 1, it begins no trace.

@@ -1,4 +1,4 @@
-use Rattle.std.proofs.Common.{◌≡◌, ℕ, List, append_assoc, ◌∷◌, ◌++◌, [], codes, decimal, sym, ap, ◌∙◌}
+use Rattle.std.proofs.Common.{◌≡◌, ℕ, append_assoc, ◌∷◌, ◌++◌, [], codes, decimal, sym, ap, ◌∙◌}
 use Rattle.dover_model.specs.Verdict.{Expected, Wrong}
 use Rattle.line_output.proofs.Putting.{puts_behind, puts_cut}
 use Rattle.trace_judge.specs.Reads.{expected_of}

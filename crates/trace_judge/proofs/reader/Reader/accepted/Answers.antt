@@ -13,5 +13,5 @@ returns c ls S ends =
     (c.ratio-ratio.ensures ∙ ap (λ (r : Declaration). r.ratio) rules)
     (c.version.ensures ∙ ap (λ (r : Declaration). r.version) rules)
     (c.value-value.ensures.is ∙ ap (λ (d : Course). d.done) same ∙ sym ends.value)
-    c.bound.ensures.is
+    c.long_bound.ensures.is
     (c.jobs.ensures.is ∙ ap (λ (d : Course). d.jobs) same ∙ sym ends.jobs)

@@ -2,9 +2,8 @@ use Rattle.std.proofs.Common.{refl, sym, ap, subst, arith}
 use Rattle.trace_judge.specs.Reads.{IsPaid}
 use Rattle.trace_judge.specs.Reads.{Reading, CanRelease}
 use Rattle.ready_jobs.specs.Course.{Course}
-use Rattle.ready_jobs.proofs.Courses.{more_ready}
 use Rattle.trace_judge.proofs.Paying.{paid_late}
-use Rattle.trace_judge.proofs.Releases.{release_course, release_room, taken_reads, taken_reader}
+use Rattle.trace_judge.proofs.Releases.{release_course, release_room, one_more_ready, taken_reads, taken_reader}
 use Rattle.trace_judge.proofs.reader.Reader.admit.Goals as goal
 
 pub release-requires-clause-course : goal.release-requires-clause-course
@@ -21,9 +20,8 @@ release-requires-clause-room c = omega (
   c.self.invariant.spare.ready,
   c.requires.spare,
   ap (λ (r : Reading). r.spare) c.self.view_is,
-  more_ready c.self.inside.course c.args.job
-      (release_course _ c.args.job _ c.requires.can.0
-      (subst (λ r. CanRelease r c.args.job c.requires.can.0) (sym c.self.view_is) c.requires.can.1)),
+  one_more_ready _ c.args.job 0 c.requires.can.0
+      (subst (λ r. CanRelease r c.args.job c.requires.can.0) (sym c.self.view_is) c.requires.can.1),
 )
 
 pub keep_step-requires : goal.keep_step-requires
@@ -41,7 +39,7 @@ invariant_of-self c = taken_reader _ _ c.self.view_is c.self.invariant c.require
     c.jobs-number.result c.release-release.result
     c.admit.new.self _ c.keep_step.new.steps.items _ _ c.release.ensures.kept c.release.ensures.ready
     c.jobs-number.ensures.is
-    c.release-release.ensures.is c.admit.ensures.stands c.admit.ensures.ratio refl c.keep_step.ensures.items
+    c.release-release.ensures.is c.admit.ensures.stands c.admit.ensures.rules refl c.keep_step.ensures.items
     c.requires.can.0 c.requires.can.1
     (omega (arith, c.requires.spare, ap (λ (r : Reading). r.spare) c.self.view_is)) c.keep_step.ensures.room
 
@@ -50,7 +48,7 @@ returns-clause-reads c = taken_reads _ _ c.self.view_is c.self.invariant c.requi
     c.jobs-number.result c.release-release.result
     c.admit.new.self _ c.keep_step.new.steps.items _ _ c.release.ensures.kept c.release.ensures.ready
     c.jobs-number.ensures.is
-    c.release-release.ensures.is c.admit.ensures.stands c.admit.ensures.ratio refl c.keep_step.ensures.items
+    c.release-release.ensures.is c.admit.ensures.stands c.admit.ensures.rules refl c.keep_step.ensures.items
 
 pub returns-clause-paid : goal.returns-clause-paid
 returns-clause-paid c start now paid = paid_late c.release.new.self c.release-release.result start now

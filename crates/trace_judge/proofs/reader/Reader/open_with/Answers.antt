@@ -18,7 +18,7 @@ invariant_of-self c = opened_reader _ (ap (λ (r : Reading). r.stage) c.self.vie
     c.args.p c.args.q c.requires.form
     c.in-Some.version c.in-Some-from_numbers.ratio
     (sym c.from_number.ensures ∙ c.in-Some.is) c.in-Some-from_numbers.ensures.some c.declare.new.self
-    c.new-self-inside.result c.declare.ensures.rules c.new-self-inside.ensures.ratio c.new-self-inside.ensures.stands
+    c.new-self-inside.result c.declare.ensures.rules c.new-self-inside.ensures.rules c.new-self-inside.ensures.stands
     c.self.invariant
 
 pub returns-clause-took : goal.returns-clause-took
@@ -26,5 +26,5 @@ returns-clause-took c = opened_took _ (ap (λ (r : Reading). r.stage) c.self.vie
     c.args.p c.args.q c.requires.form
     c.in-Some.version c.in-Some-from_numbers.ratio
     (sym c.from_number.ensures ∙ c.in-Some.is) c.in-Some-from_numbers.ensures.some c.declare.new.self
-    c.new-self-inside.result c.declare.ensures.rules c.new-self-inside.ensures.ratio
+    c.new-self-inside.result c.declare.ensures.rules c.new-self-inside.ensures.rules
     c.new-self-inside.ensures.stands _ c.self.view_is

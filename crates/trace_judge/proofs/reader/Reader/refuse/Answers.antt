@@ -1,6 +1,7 @@
 use Rattle.std.proofs.Common.{sym, subst, arith, ap, ◌∙◌}
 use Rattle.trace_judge.specs.Reads.{IsPaid}
 use Rattle.trace_judge.specs.Reads.{Reading}
+use Rattle.trace_judge.proofs.Readings.{few_items}
 use Rattle.trace_judge.proofs.Refusals.{not_waited, refused_few, refused_took, refused_reader, job_line, job_named}
 use Rattle.trace_judge.proofs.Refusals.{job_not, job_may}
 use Rattle.trace_judge.proofs.reader.Reader.refuse.Goals as goal
@@ -52,5 +53,5 @@ overflow_add-self-2 g c = let same = c.self-2.view_is ∙ c.waits_until.ensures.
   arith,
   refused_few _ c.self-2.invariant (ap (λ (r : Reading). r.stage) same ∙ c.requires.going),
   ap (λ (r : Reading). r.items) same,
-  (c.may_refuse.ensures.yes c.if-not-may_refuse.false).2,
+  few_items _ _ (c.may_refuse.ensures.yes c.if-not-may_refuse.false).2,
 )

@@ -1,6 +1,7 @@
 use Rattle.std.proofs.Common.{sym, subst, arith, ap, ◌∙◌}
 use Rattle.trace_judge.specs.Reads.{IsPaid}
 use Rattle.trace_judge.specs.Reads.{Reading}
+use Rattle.trace_judge.proofs.Readings.{few_items}
 use Rattle.trace_judge.proofs.Refusals.{not_waited, refused_few, refused_took, refused_reader, done_line, done_named}
 use Rattle.trace_judge.proofs.Refusals.{done_not}
 use Rattle.trace_judge.proofs.Refusals.{done_may, done_right}
@@ -59,5 +60,5 @@ overflow_add-self-2 g c = let same = c.self-2.view_is ∙ c.waits_until.ensures.
   arith,
   refused_few _ c.self-2.invariant (ap (λ (r : Reading). r.stage) same ∙ c.requires.going),
   ap (λ (r : Reading). r.items) same,
-  (c.may_refuse_done.ensures.yes c.if-not-may_refuse_done.false).3,
+  few_items _ _ (c.may_refuse_done.ensures.yes c.if-not-may_refuse_done.false).3,
 )
