@@ -102,6 +102,10 @@ released_shown (x ∷ xs) = by_move x.move (released_shown xs) where
 pub releases_are : (J : Instance) → IsValid J → releases (printed J) ≡ J.jobs
 releases_are J valid = released_shown (run J) ∙ run_jobs J valid
 
+-- so do the steps that it prints
+pub run_releases : (J : Instance) → IsValid J → (steps : List Event) → printed J ≡ steps → jobs_released steps ≡ J.jobs
+run_releases J valid steps prints = as_released steps ∙ ap releases (sym prints) ∙ releases_are J valid
+
 -- ---- counts
 
 -- jobs that are done
@@ -331,7 +335,7 @@ rows_more rows i d there =
 module _ (k : Fraction) (run : List Event) (J : Instance) (of : IsRunOf k run J) where
   -- the jobs are those that the steps release
   pub jobs_are : jobs_released run ≡ J.jobs
-  jobs_are = as_released run ∙ ap releases (sym of.prints) ∙ releases_are J of.valid
+  jobs_are = run_releases J of.valid run of.prints
 
   -- the summary's lines are those of the counts, with others behind the one of the takes
   lines_are : (more : List (List ℕ)) (jobs : List JobFacts) (value : ℕ) → jobs ≡ jobs_released run
@@ -407,8 +411,8 @@ module _ (k : Fraction) (run : List Event) (J : Instance) (of : IsRunOf k run J)
 
   -- the steps are few
   pub few_steps : length run ≤ 5_000_001
-  few_steps = omega (arith, ap length of.prints, few_printed J of.valid, of.valid.count)
+  few_steps = omega (arith, ap length of.prints, few_printed J of.valid, of.listable.count)
 
   -- and the value is that of a valid list
   pub value_small : completed_value J ≤ 10_000_000_000_000
-  value_small = omega (arith, intervals_abandon J of.valid, of.valid.total)
+  value_small = omega (arith, intervals_abandon J of.valid, of.listable.total)

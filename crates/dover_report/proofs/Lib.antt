@@ -1,5 +1,6 @@
 pub mod Texts
 pub mod Counting
 pub mod Losses
+pub mod Sizing
 pub mod Tables
 pub mod WorkedRows

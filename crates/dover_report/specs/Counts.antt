@@ -35,6 +35,11 @@ abbrev pub is_abandonment : Event → Bool
 is_abandonment (Abandon at n) = true
 is_abandonment _ = false
 
+-- the value of the job that a step releases
+abbrev pub value_released : Event → ℕ
+value_released (Release n job) = job.value
+value_released _ = 0
+
 -- the value of the job of number n
 abbrev pub value_in : List JobFacts → ℕ → ℕ
 value_in jobs n = option_map_or (λ j. j.value) (slice_get jobs n) 0

@@ -1,6 +1,7 @@
 //! What a report counts among the printed steps of a run.
 ghost use Rattle.std.specs.Prelude.{◌≡◌, ◌≤◌, ◌+◌, ◌++◌, List, length, count_by, OnOk, IfOk, option_to_list};
 ghost use Rattle.dover_model.specs.declared.events.Event.{Event};
+ghost use Rattle.dover_model.specs.declared.events.Version.TheVariants.{Two};
 ghost use Rattle.dover_model.specs.JobFacts.{JobFacts};
 ghost use Rattle.dover_model.specs.Limits.{most_total, most_value};
 ghost use Rattle.dover_report.specs.Counts.{job_released, jobs_released, is_release, value_in, counts_of};
@@ -78,7 +79,7 @@ impl Fates {
 
     /// The counts of the run, which completes this value.
     pub(crate) fn counts(&self, k: Ratio, value: u64) -> Counts
-        requires { value ≤ most_total }
+        requires { value ≤ most_total Two }
         ensures { (jobs : List JobFacts) (run : List Event) → self.now ≡ fates_of jobs run
             → result ≡ counts_of k run jobs value }
     {
@@ -97,7 +98,7 @@ impl Fates {
 /// The counts of these steps, which release these jobs and complete this value.
 pub fn count(k: Ratio, run: &[Event], jobs: &[Job], value: u64) -> Counts
     requires steps { length run.now ≤ 5_000_001 }
-    requires total { value ≤ most_total }
+    requires total { value ≤ most_total Two }
     ensures { result ≡ counts_of k run.now jobs.now value }
 {
     Fates::of(jobs, run).counts(k, value)

@@ -4,11 +4,13 @@
 mod counts;
 mod early;
 pub mod endings;
+mod limits;
 mod lines;
 mod report;
 mod rows;
 
 pub use counts::{Counts, count, released, value_of};
 pub use early::{had_of, left_at, left_of};
+pub use limits::is_listable;
 pub use report::{summary, text};
 pub use rows::table;

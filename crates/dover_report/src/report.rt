@@ -15,8 +15,8 @@ use intervals::{Charge, Interval};
 use std::alloc::Global;
 
 /// The report on the run of this version that prints these steps: its ratio, its summary and its intervals, and where
-/// jobs may finish early a line of those that did. The jobs of the run are valid for the ratio `k`. Want of memory is
-/// the only error.
+/// jobs may finish early a line of those that did. The jobs of the run are valid for the ratio `k`, and within the
+/// limits of version Two. Want of memory is the only error.
 pub fn text(alloc: Global, version: Version, k: Ratio, run: &[Event]) -> Result<Vec<u8>, Memory>
     requires { (J : Instance) × IsRunOf k run.now J }
     ensures { (J : Instance) → IsRunOf k run.now J → J.rules.version ≡ version

@@ -17,8 +17,8 @@ use itoa::Buffer;
 use std::alloc::Global;
 
 /// The table of the run of this version that prints these steps: a row of names, and a row for each job, which tells
-/// the ticks that it had where jobs may finish early. The jobs of the run are valid for some ratio. Want of memory is
-/// the only error.
+/// the ticks that it had where jobs may finish early. The jobs of the run are valid for some ratio, and within the
+/// limits of version Two. Want of memory is the only error.
 pub fn table(alloc: Global, version: Version, run: &[Event]) -> Result<Vec<u8>, Memory>
     requires { (k : Fraction) × ((J : Instance) × IsRunOf k run.now J) }
     ensures { (k : Fraction) (J : Instance) → IsRunOf k run.now J → J.rules.version ≡ version

@@ -34,7 +34,7 @@ item_next xs i x is there = drop_more xs i x there ∙ ap (λ y. y ∷ drop (i +
 pub charged : (k : Fraction) (run : List Event) (J : Instance) → IsRunOf k run J → (l : Page) (i : ℕ) → length run ≤ i
     → Reads J l (drop i run)
     → (l.rows ≡ rows_of J) × (l.value ≡ completed_value J)
-charged k run J of l i past reads = all_read J of.valid l (subst (Reads J l) (drop_all i run past) reads)
+charged k run J of l i past reads = all_read J of.valid of.listable l (subst (Reads J l) (drop_all i run past) reads)
 
 module _ (k : Fraction) (run : List Event) (J : Instance) (of : IsRunOf k run J) (rows : List Interval) (value : ℕ)
     (same : rows ≡ rows_of J)

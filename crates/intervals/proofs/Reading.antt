@@ -6,7 +6,7 @@ use Rattle.std.specs.Prelude.{Option, None, ◌==◌}
 use Rattle.std.specs.Bool.{MatchBool, then_some}
 use Rattle.std.specs.List.{sum_by, filter, filter_map, list_all, cons_option}
 use Rattle.dover_model.specs.Fraction.{Fraction}
-use Rattle.dover_model.specs.Instance.{Instance, IsValid}
+use Rattle.dover_model.specs.Instance.{Instance, IsListable, IsValid}
 use Rattle.dover_model.specs.Intervals as model
 use Rattle.dover_model.specs.declared.events.Event.{Event}
 use Rattle.dover_model.specs.declared.events.Event.TheVariants.{Release, Run, Preempt, Take, Complete, Abandon, End}
@@ -128,7 +128,7 @@ pub one_of_two : {A B : Type 0} (b : Bool) → MatchBool b A B → A ⊎ B
 one_of_two true fact = inl fact
 one_of_two false fact = inr fact
 
-module _ (J : Instance) (valid : IsValid J) where
+module _ (J : Instance) (valid : IsValid J) (listable : IsListable J) where
   -- the page follows each step
   step_next : (s : State) → Keeps J s → (l : Page) → l.era + 1 < 2 ^ 64 → (current : Option model.Interval)
       → Follows J.rules.ratio s l current
@@ -144,13 +144,13 @@ module _ (J : Instance) (valid : IsValid J) where
         total : sum_by (λ (t : Task). t.job.value) s.tasks ≤ 10_000_000_000_000
         total = omega (
           arith,
-          valid.total,
+          listable.total,
           sum_map (λ (t : Task). t.job) (λ j. j.value) s.tasks,
           ap (sum_by (λ j. j.value)) keeps.jobs,
         )
 
         count : length s.tasks ≤ 1_000_000
-        count = omega (arith, valid.count, count_jobs s.tasks, ap length keeps.jobs)
+        count = omega (arith, listable.count, count_jobs s.tasks, ap length keeps.jobs)
 
   -- the next printed step can be read, the page after it follows, and the page before it has what the active jobs are
   -- worth
@@ -258,7 +258,7 @@ module _ (J : Instance) (valid : IsValid J) where
     arith,
     reads.follows.tracks.worth,
     values_fit reads.before.tasks,
-    valid.total,
+    listable.total,
     sum_map (λ (t : Task). t.job) (λ j. j.value) reads.before.tasks,
     ap (sum_by (λ j. j.value)) reads.keeps.jobs,
   )
@@ -294,7 +294,7 @@ module _ (J : Instance) (valid : IsValid J) where
     };
     rows = refl;
     value = refl;
-    few = omega (arith, few_printed J valid, valid.count);
+    few = omega (arith, few_printed J valid, listable.count);
   } where
     idle : (t : Task) → IsMember t (opening J.jobs).tasks → is_privileged t ≡ false
     idle t m = passes is_privileged t Coming false (come_coming 0 J.jobs t m).0 refl

@@ -26,17 +26,17 @@ module _ (k : Fraction) (steps : List Event) (J : Instance) (of : IsRunOf k step
   pub begun : (l : Page) (worths : List ℕ) → l ≡ blank → worths ≡ [] → Weighs J l worths steps
   begun l worths is none = same_page J blank l worths steps is
       (subst (λ (ws : List ℕ). Weighs J blank ws steps) (sym none)
-      (subst (Weighs J blank []) of.prints (none_weighed J of.valid)))
+      (subst (Weighs J blank []) of.prints (none_weighed J of.valid of.listable)))
 
   module _ (l : Page) (i : ℕ) (e : Event) (is : e ≡ get_or steps i e) (there : i < length steps) where
     -- the step can be read
     pub readable : Reads J l (drop i steps) → IsReadable l e
-    readable reads = (reads_next J of.valid l e (drop (i + 1) steps) (subst (Reads J l)
+    readable reads = (reads_next J of.valid of.listable l e (drop (i + 1) steps) (subst (Reads J l)
         (item_next steps i e is there) reads)).0
 
     -- what is weighed before it is small
     pub small : Reads J l (drop i steps) → l.worth ≤ 10_000_000_000_000
-    small reads = worth_small J of.valid l (drop i steps) reads
+    small reads = worth_small J of.valid of.listable l (drop i steps) reads
 
     -- and what is weighed before it is as the ledger has it
     pub gone_on : (p : Page) (before worths : List ℕ) → p ≡ with_event l e → worths ≡ before ++ l.worth ∷ []
@@ -45,7 +45,7 @@ module _ (k : Fraction) (steps : List Event) (J : Instance) (of : IsRunOf k step
     gone_on p before worths same longer it = same_page J (with_event l e) p worths (drop (i + 1) steps) same
         (by_next (subst (Weighs J l before) (item_next steps i e is there) it)) where
           by_next : Weighs J l before (e ∷ drop (i + 1) steps) → Weighs J (with_event l e) worths (drop (i + 1) steps)
-          by_next (reads, all) = let next = weighs_next J of.valid l e (drop (i + 1) steps) reads in (
+          by_next (reads, all) = let next = weighs_next J of.valid of.listable l e (drop (i + 1) steps) reads in (
             next.0,
             ap (λ ws. ws ++ filter_map weight_of next.0.steps) longer
                 ∙ append_assoc before (l.worth ∷ []) (filter_map weight_of next.0.steps)
@@ -57,5 +57,5 @@ module _ (k : Fraction) (steps : List Event) (J : Instance) (of : IsRunOf k step
       → worths ≡ weights J
   weighed l i worths past it = by_end (subst (Weighs J l worths) (drop_all i steps past) it) where
     by_end : Weighs J l worths [] → worths ≡ weights J
-    by_end (reads, all) = sym (append-nil worths) ∙ ap (λ ws. worths ++ ws) (sym (all_weighed J of.valid l reads))
-        ∙ all
+    by_end (reads, all) = sym (append-nil worths)
+        ∙ ap (λ ws. worths ++ ws) (sym (all_weighed J of.valid of.listable l reads)) ∙ all

@@ -4,7 +4,7 @@ use Rattle.std.specs.List.{filter_map}
 use Rattle.std.specs.Option.{option_map}
 use Rattle.dover_model.specs.declared.events.Event.{Event}
 use Rattle.dover_model.specs.Fraction.{Fraction}
-use Rattle.dover_model.specs.Instance.{Instance, IsValid}
+use Rattle.dover_model.specs.Instance.{Instance, IsListable, IsValid}
 use Rattle.dover_model.specs.Run.{Step, event_of, printed, run}
 use Rattle.dover_model.specs.State.{privileged, value_sum}
 use Rattle.dover_model.specs.Intervals as model
@@ -33,9 +33,11 @@ weight_of step = option_map (λ e. value_sum (privileged step.before)) (event_of
 abbrev pub weights : Instance → List ℕ
 weights J = filter_map weight_of (run J)
 
--- the printed steps are those of the run of these jobs, which are valid for the ratio
+-- the printed steps are those of the run of these jobs, which are valid for the ratio, and no more than a word takes
+-- that keeps all of them
 pub record IsRunOf (k : Fraction) (run : List Event) (J : Instance) : Type 0 where
   pub valid : IsValid J
+  pub listable : IsListable J
   pub ratio : J.rules.ratio ≡ k
   pub prints : printed J ≡ run
 

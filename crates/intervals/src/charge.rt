@@ -36,7 +36,7 @@ impl Model for Charge {
 
 impl Charge {
     /// The intervals of the run that prints these steps, in one pass over them. The jobs of the run are valid for the
-    /// ratio `k`. Want of memory is the only error.
+    /// ratio `k`, and within the limits of version Two. Want of memory is the only error.
     pub fn of(alloc: Global, k: Ratio, run: &[Event]) -> Result<Charge, Memory>
         requires { (J : Instance) × IsRunOf k run.now J }
         ensures rows { (J : Instance) → IsRunOf k run.now J → IfOk result (λ c. c.rows ≡ rows_of J) }

@@ -4,6 +4,7 @@ ghost use Rattle.intervals.specs.Rows.{IsRunOf};
 ghost use Rattle.dover_model.specs.Instance.{Instance};
 ghost use Rattle.dover_port.specs.Causes.{Causes, StopsWith};
 ghost use Rattle.dover_port.specs.Moves.{Since};
+ghost use Rattle.dialogue.specs.Sizes.{size_text};
 ghost use Rattle.dialogue.specs.Talk.{Talks, CanEnd};
 ghost use Rattle.dialogue.specs.Turns.{AnswersBy, StopCause, StopsOn};
 ghost use Rattle.judge_word.specs.Spending.{IsFrugal};
@@ -15,7 +16,7 @@ use crate::reporting::Reporting;
 use dialogue::{Stop, converse};
 use dover_model::{Event, Memory, Ratio, Version};
 use dover_port::{Output, Port, Status, put_all};
-use dover_report::{table, text};
+use dover_report::{is_listable, table, text};
 use judge_word::{put_verdict, status_of};
 use run_picture::picture;
 use run_view::{chrome, timeline, why};
@@ -32,7 +33,7 @@ fn report(
     version: Version,
     ratio: Ratio,
     steps: &[Event],
-    refused: u32,
+    refused: u64,
 ) -> Result<Vec<u8>, Memory>
     requires { (J : Instance) × IsRunOf ratio steps.now J }
     ensures { (J : Instance) → IsRunOf ratio steps.now J → J.rules.version ≡ version → IfOk result
@@ -56,7 +57,7 @@ fn put_report<P: Port>(
     version: Version,
     ratio: Ratio,
     steps: &[Event],
-    refused: u32,
+    refused: u64,
 ) -> Result<(), Stop>
     requires { (J : Instance) × IsRunOf ratio steps.now J }
     ensures puts { (J : Instance) → IsRunOf ratio steps.now J → J.rules.version ≡ version →
@@ -74,7 +75,20 @@ fn put_report<P: Port>(
     }
 }
 
-/// Puts the report where the text is accepted, and else the line of its verdict.
+/// Puts the line that refuses a trace whose jobs are more than a report keeps.
+fn put_size<P: Port>(port: &mut P) -> Result<(), Stop>
+    ensures puts { Puts result (P.moves port.old) (P.moves port.new) size_text }
+    ensures cause { StopCause result
+        (P.write_faults port.old) (P.write_faults port.new) (P.read_faults port.old) (P.read_faults port.new) }
+    ensures stops { StopsOn result (P.calls port.old) (P.calls port.new) }
+{
+    match put_all(port, b"refused size\n") {
+        Ok(()) => Ok(()),
+        Err(_) => Err(Stop::Unwritten),
+    }
+}
+
+/// Puts the report where the text is accepted, or that its jobs are too many for one, and else the line of its verdict.
 pub(crate) fn tell<P: Port>(
     alloc: Global,
     port: &mut P,
@@ -92,10 +106,17 @@ pub(crate) fn tell<P: Port>(
 {
     match closed.verdict {
         Verdict::Accepted { ratio, version, .. } => {
-            let (steps, refused) = (&closed.steps, closed.refused);
-            match put_report(alloc, port, form, version, ratio, steps, refused) {
-                Ok(()) => Ok(Status::Done),
-                Err(stop) => Err(stop),
+            let (steps, refused) = (closed.steps.as_slice(), closed.refused);
+            if is_listable(steps) {
+                match put_report(alloc, port, form, version, ratio, steps, refused) {
+                    Ok(()) => Ok(Status::Done),
+                    Err(stop) => Err(stop),
+                }
+            } else {
+                match put_size(port) {
+                    Ok(()) => Ok(Status::Refused),
+                    Err(stop) => Err(stop),
+                }
             }
         }
         _ => match put_verdict(port, out, &closed.verdict) {
@@ -105,9 +126,10 @@ pub(crate) fn tell<P: Port>(
     }
 }
 
-/// Reports on a trace: reads a text to its first wrong line or the end of the input, and then writes the report on the
-/// run of an accepted trace, or else the line of the verdict. Memory is taken for the jobs and the steps that the text
-/// names, and for the report, which stands in memory as a whole before its first byte is written.
+/// Reports on a trace: reads a text to its first wrong line or the end of the input, and then writes the report on
+/// the run of an accepted trace, or else the line of the verdict. A trace whose jobs are beyond the limits of version
+/// Two is refused. Memory is taken for the jobs and the steps that the text names, and for the report, which stands
+/// in memory as a whole before its first byte is written.
 pub fn report_word<P: Port, L: Ledger>(
     alloc: Global,
     port: &mut P,

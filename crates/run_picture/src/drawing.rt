@@ -28,12 +28,13 @@ use std::alloc::Global;
 /// The run that prints these steps as SVG: the processor, a lane for each job that the window shows, or above 400 of
 /// them, or above 75,000 bytes, the load in columns, and the values so far. Without a window all of the run is shown.
 /// The title says how many lines were refused.
-/// The jobs of the run are valid for the ratio `k`. Want of memory is the only error.
+/// The jobs of the run are valid for the ratio `k`, and within the limits of version Two. Want of memory is the only
+/// error.
 pub fn picture(
     alloc: Global,
     k: Ratio,
     run: &[Event],
-    refused: u32,
+    refused: u64,
     asked: Option<Window>,
 ) -> Result<Vec<u8>, Memory>
     requires { (J : Instance) × IsRunOf k run.now J }

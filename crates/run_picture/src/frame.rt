@@ -15,18 +15,18 @@ use run_view::template::put;
 #[derive(Clone, Copy)]
 pub struct Totals {
     pub counts: Counts,
-    pub refused: u32,
+    pub refused: u64,
 }
 
 /// Appends how many lines were refused, where some were, and the end of the title.
-fn put_title_end(text: &mut Vec<u8>, refused: u32) -> Result<(), Memory>
+fn put_title_end(text: &mut Vec<u8>, refused: u64) -> Result<(), Memory>
     ensures { OnOk result (text.new.items ≡ text.old.items ++ frame.title_end refused) }
 {
     if refused == 0 {
         text.extend_from_slice(b"</text>\n")?;
         return Ok(());
     }
-    put(text, b", lines refused @</text>\n", &[u64::from(refused)])
+    put(text, b", lines refused @</text>\n", &[refused])
 }
 
 /// Appends a page with its title, and the legend of the processor.

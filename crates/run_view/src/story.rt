@@ -5,6 +5,7 @@ ghost use Rattle.intervals.specs.Rows.{IsRunOf};
 ghost use Rattle.dover_model.specs.declared.events.Event.{Event};
 ghost use Rattle.dover_model.specs.Instance.{Instance};
 ghost use Rattle.dover_model.specs.Limits.{most_total, most_value};
+ghost use Rattle.dover_model.specs.declared.events.Version.TheVariants.{Two};
 ghost use Rattle.run_view.specs.Templates.{filled};
 ghost use Rattle.run_view.specs.Why as story;
 
@@ -41,7 +42,8 @@ pub struct Weighed {
 }
 
 /// What happened to the job of this number in the run that prints these steps, and by which test, line by line; one
-/// line where there is no such job. The jobs of the run are valid for the ratio `k`. Want of memory is the only error.
+/// line where there is no such job. The jobs of the run are valid for the ratio `k`, and within the limits of version
+/// Two. Want of memory is the only error.
 pub fn why(alloc: Global, k: Ratio, run: &[Event], number: u32) -> Result<Vec<u8>, Memory>
     requires { (J : Instance) × IsRunOf k run.now J }
     ensures { (J : Instance) → IsRunOf k run.now J → IfOk result (λ written. written.items ≡ story.why number J) }
@@ -103,7 +105,7 @@ fn put_story(
     requires same { length worths.now ≡ length run.now }
     requires as_many { length rooms.now ≡ length run.now }
     requires value { asked.now.value ≤ most_value }
-    requires small { AllByRecursion (λ worth. worth ≤ most_total) worths.now }
+    requires small { AllByRecursion (λ worth. worth ≤ most_total Two) worths.now }
     ensures { OnOk result (text.new.items ≡ text.old.items ++ story.story_from
         asked.now.k asked.now.number asked.now.value jobs.now hads.now false run.now worths.now rooms.now) }
 {
@@ -187,7 +189,7 @@ fn put_told(
     event: &Event,
 ) -> Result<(), Memory>
     requires value { asked.now.value ≤ most_value }
-    requires worth { weighed.now.worth ≤ most_total }
+    requires worth { weighed.now.worth ≤ most_total Two }
     ensures { OnOk result (text.new.items ≡ text.old.items
         ++ story.told asked.now.k asked.now.number asked.now.value on starts weighed.now event.now) }
 {
@@ -347,7 +349,7 @@ fn put_taken(
     worth: u64,
 ) -> Result<(), Memory>
     requires value { asked.now.value ≤ most_value }
-    requires worth { worth ≤ most_total }
+    requires worth { worth ≤ most_total Two }
     ensures { OnOk result (text.new.items
         ≡ text.old.items ++ story.taken asked.now.k asked.now.number asked.now.value on at stops starts worth) }
 {
@@ -373,7 +375,7 @@ fn put_takes(
     worth: u64,
 ) -> Result<(), Memory>
     requires value { asked.now.value ≤ most_value }
-    requires worth { worth ≤ most_total }
+    requires worth { worth ≤ most_total Two }
     ensures { OnOk result (text.new.items ≡ text.old.items ++ story.takes asked.now.k asked.now.value at stops worth) }
 {
     put(
@@ -394,7 +396,7 @@ fn put_gone(
     worth: u64,
 ) -> Result<(), Memory>
     requires value { asked.now.value ≤ most_value }
-    requires worth { worth ≤ most_total }
+    requires worth { worth ≤ most_total Two }
     ensures { OnOk result (text.new.items
         ≡ text.old.items ++ story.gone asked.now.k asked.now.number asked.now.value at number worth) }
 {
@@ -407,7 +409,7 @@ fn put_gone(
 /// Appends that at this tick the job is abandoned.
 fn put_goes(text: &mut Vec<u8>, asked: &Asked, at: u64, worth: u64) -> Result<(), Memory>
     requires value { asked.now.value ≤ most_value }
-    requires worth { worth ≤ most_total }
+    requires worth { worth ≤ most_total Two }
     ensures { OnOk result (text.new.items ≡ text.old.items ++ story.goes asked.now.k asked.now.value at worth) }
 {
     put(text, b"at @ it is abandoned", &[at])?;
@@ -418,7 +420,7 @@ fn put_goes(text: &mut Vec<u8>, asked: &Asked, at: u64, worth: u64) -> Result<()
 /// Appends the test of its value against that of the jobs under way.
 fn put_tested(text: &mut Vec<u8>, asked: &Asked, worth: u64, answer: &[u8]) -> Result<(), Memory>
     requires value { asked.now.value ≤ most_value }
-    requires worth { worth ≤ most_total }
+    requires worth { worth ≤ most_total Two }
     ensures { OnOk result (text.new.items
         ≡ text.old.items ++ story.tested asked.now.k asked.now.value worth answer.now) }
 {
@@ -438,7 +440,7 @@ fn put_tested(text: &mut Vec<u8>, asked: &Asked, worth: u64, answer: &[u8]) -> R
 /// Appends a part of a ratio times the square of a value.
 fn put_square(text: &mut Vec<u8>, part: u32, value: u64) -> Result<(), Memory>
     requires part { part ≤ 1_000_000 }
-    requires value { value ≤ most_total }
+    requires value { value ≤ most_total Two }
     ensures { OnOk result (text.new.items ≡ text.old.items ++ story.square part value) }
 {
     put(text, b" @ * @^2 = ", &[u64::from(part), value])?;
@@ -449,7 +451,7 @@ fn put_square(text: &mut Vec<u8>, part: u32, value: u64) -> Result<(), Memory>
 /// A part of a ratio times a square.
 fn times_square(part: u32, value: u64) -> u128
     requires part { part ≤ 1_000_000 }
-    requires value { value ≤ most_total }
+    requires value { value ≤ most_total Two }
     ensures { result ≡ part * value * value }
 {
     let value = u128::from(value);

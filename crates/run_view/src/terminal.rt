@@ -23,7 +23,7 @@ use std::alloc::Global;
 /// The run that prints these steps as a picture for a terminal, in the ticks of the window, or in all up to the last
 /// deadline: its summary, a ruler, and for each job that has a tick in the window a line of at most 80 bytes, with
 /// its number, a sign for each of at most 60 columns, and its value. The jobs of the run are valid for the ratio
-/// `k`. Want of memory is the only error.
+/// `k`, and within the limits of version Two. Want of memory is the only error.
 pub fn timeline(
     alloc: Global,
     k: Ratio,

@@ -17,7 +17,8 @@ use std::alloc::Global;
 
 /// The run that prints these steps as Trace Event JSON, with a tick as a microsecond: the job on the processor, each
 /// job from its release to its fate, what is weighed at each take and abandonment, and the values completed and lost
-/// so far. The jobs of the run are valid for the ratio `k`. Want of memory is the only error.
+/// so far. The jobs of the run are valid for the ratio `k`, and within the limits of version Two. Want of memory is the
+/// only error.
 pub fn chrome(alloc: Global, k: Ratio, run: &[Event]) -> Result<Vec<u8>, Memory>
     requires { (J : Instance) × IsRunOf k run.now J }
     ensures { (J : Instance) → IsRunOf k run.now J → IfOk result (λ written. written.items ≡ events.chrome J) }

@@ -1,6 +1,7 @@
 use Rattle.std.proofs.Common.{◌≡◌, ◌≤◌, ◌++◌, ◌∷◌, [], ap, ◌∙◌, arith, subst, sym}
 use Rattle.std.specs.List.{AllByRecursion}
 use Rattle.dover_model.specs.Limits.{most_total}
+use Rattle.dover_model.specs.declared.events.Version.TheVariants.{Two}
 use Rattle.dover_model.proofs.Growing.{all_behind}
 use Rattle.intervals.proofs.Weighed.{begun, gone_on, readable, small, weighed}
 use Rattle.intervals.proofs.weighing.weights.Goals as goal
@@ -9,7 +10,7 @@ pub loop-event-init : goal.loop-event-init
 loop-event-init c = record {
   weighs = λ J of. begun c.args.k c.args.run.now J of c.new-ledger.result _ c.new-ledger.ensures
       c.new-worths.ensures.items;
-  small = subst (AllByRecursion (λ worth. worth ≤ most_total)) (sym c.new-worths.ensures.items) tt;
+  small = subst (AllByRecursion (λ worth. worth ≤ most_total Two)) (sym c.new-worths.ensures.items) tt;
 }
 
 pub read-requires : goal.read-requires
@@ -26,8 +27,8 @@ loop-event-preserved c =
           c.event-item.result
           c.event-item.is c.loop-event-test.true _ c.loop-event.worths.items _ c.in_ok-read.ensures longer
           (c.loop-event.invariant.weighs J of);
-      small = subst (AllByRecursion (λ worth. worth ≤ most_total)) (sym longer)
-          (all_behind (λ worth. worth ≤ most_total) c.loop-event.worths.items c.loop-event.ledger.worth
+      small = subst (AllByRecursion (λ worth. worth ≤ most_total Two)) (sym longer)
+          (all_behind (λ worth. worth ≤ most_total Two) c.loop-event.worths.items c.loop-event.ledger.worth
           c.loop-event.invariant.small
           (small c.args.k c.args.run.now c.requires.0 c.requires.1 c.loop-event.ledger c.loop-event.event-index
           c.event-item.result

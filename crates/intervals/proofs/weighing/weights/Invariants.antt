@@ -1,6 +1,7 @@
 use Rattle.std.proofs.Common.{◌≤◌, drop}
 use Rattle.std.specs.List.{AllByRecursion}
 use Rattle.dover_model.specs.Limits.{most_total}
+use Rattle.dover_model.specs.declared.events.Version.TheVariants.{Two}
 use Rattle.dover_model.specs.Instance.{Instance}
 use Rattle.intervals.specs.Rows.{IsRunOf}
 use Rattle.intervals.proofs.Weighed.{Weighs}
@@ -10,5 +11,5 @@ use Rattle.intervals.proofs.weighing.weights.Given as goal
 abbrev pub invariant-loop-event : goal.invariant-loop-event
 invariant-loop-event l = record {
   weighs : (J : Instance) → IsRunOf l.fn.k l.run J → Weighs J l.ledger l.worths.items (drop l.event-index l.run);
-  small : AllByRecursion (λ worth. worth ≤ most_total) l.worths.items;
+  small : AllByRecursion (λ worth. worth ≤ most_total Two) l.worths.items;
 }

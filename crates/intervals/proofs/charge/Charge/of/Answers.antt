@@ -11,11 +11,11 @@ use Rattle.intervals.proofs.charge.Charge.of.Goals as goal
 
 pub loop-event-init : goal.loop-event-init
 loop-event-init c J of = subst (λ (l : Page). Reads J l c.args.run.now) (sym c.new-ledger.ensures)
-    (subst (Reads J blank) of.prints (none_read J of.valid))
+    (subst (Reads J blank) of.prints (none_read J of.valid of.listable))
 
 pub read-requires : goal.read-requires
-read-requires c = (reads_next c.requires.0 c.requires.1.valid c.loop-event.ledger c.event-item.result
-    (drop (c.loop-event.event-index + 1) c.args.run.now)
+read-requires c = (reads_next c.requires.0 c.requires.1.valid c.requires.1.listable c.loop-event.ledger
+    c.event-item.result (drop (c.loop-event.event-index + 1) c.args.run.now)
     (subst (Reads c.requires.0 c.loop-event.ledger)
     (item_next c.args.run.now c.loop-event.event-index c.event-item.result c.event-item.is c.loop-event-test.true)
     (c.loop-event.invariant c.requires.0 c.requires.1))).0
@@ -23,7 +23,8 @@ read-requires c = (reads_next c.requires.0 c.requires.1.valid c.loop-event.ledge
 pub loop-event-preserved : goal.loop-event-preserved
 loop-event-preserved c J of =
     subst (λ (l : Page). Reads J l (drop (c.loop-event.event-index + 1) c.args.run.now)) (sym c.in_ok-read.ensures)
-    (reads_next J of.valid c.loop-event.ledger c.event-item.result (drop (c.loop-event.event-index + 1) c.args.run.now)
+    (reads_next J of.valid of.listable c.loop-event.ledger c.event-item.result
+    (drop (c.loop-event.event-index + 1) c.args.run.now)
     (subst (Reads J c.loop-event.ledger)
     (item_next c.args.run.now c.loop-event.event-index c.event-item.result c.event-item.is c.loop-event-test.true)
     (c.loop-event.invariant J of))).1
