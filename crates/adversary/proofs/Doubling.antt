@@ -3,6 +3,7 @@ use Rattle.std.proofs.Common.{◌≡◌, ℕ, zero, suc, ◌+◌, ◌-◌, ◌*�
 use Rattle.std.specs.List.{sum}
 use Rattle.std.proofs.lemmas.List.Sums.{sum_by-cons}
 use Rattle.std.proofs.Math.Nat.{pow-succ', div_self, mul-div_cancel_left}
+use Rattle.dover_model.specs.declared.events.Version.TheVariants.{Two}
 use Rattle.dover_model.specs.Limits.{most_jobs}
 use Rattle.dover_model.specs.Fraction.{Fraction, IsRatio}
 use Rattle.dover_model.specs.Greatest.{greatest}
@@ -69,12 +70,12 @@ module _ (k : Fraction) (ratio : IsRatio k) (one : k.p ≡ k.q) where
       under : k.p * (w * w) / k.q ≡ w * w
       under = ap (λ p. p * (w * w) / k.q) one ∙ mul-div_cancel_left (w * w) (omega (arith, ratio.least))
 
-  next_link : (w all rest : ℕ) → all ≡ w + rest → all < most_jobs → suc (most_light k w) ≡ w + w + 1
+  next_link : (w all rest : ℕ) → all ≡ w + rest → all < most_jobs Two → suc (most_light k w) ≡ w + w + 1
   next_link w all rest is few = level (most_light k w) (light_double w (omega (arith, is, few))) where
     level : (light : ℕ) → light ≡ w + w → suc light ≡ w + w + 1
     level light is = omega arith
 
-  doubles : (m w : ℕ) → sum (chain_from k (suc m) w) < most_jobs
+  doubles : (m w : ℕ) → sum (chain_from k (suc m) w) < most_jobs Two
       → (last_from w (chain_from k m (suc (most_light k w))) + 1 ≡ 2 ^ m * (w + 1))
       × (sum (chain_from k (suc m) w) + m + 1 + w + 1 ≡ 2 *
       (2 ^ m * (w + 1)))
@@ -97,7 +98,7 @@ module _ (k : Fraction) (ratio : IsRatio k) (one : k.p ≡ k.q) where
         add (2 ^ m) (2 ^ suc m) w next m (sum (chain_from k (suc (suc m)) w)) (sum (chain_from k (suc m) next))
             (pow-succ' 2 m) is cons more.1,
       ) where
-        less : (all rest : ℕ) → all ≡ w + rest → all < most_jobs → rest < most_jobs
+        less : (all rest : ℕ) → all ≡ w + rest → all < most_jobs Two → rest < most_jobs Two
         less all rest is few = omega arith
 
   both : (m : ℕ) → FitsLimits k (suc m) → (last_link k (suc m) + 1 ≡ 2 ^ suc m)
@@ -132,7 +133,7 @@ module _ (k : Fraction) (ratio : IsRatio k) (one : k.p ≡ k.q) where
       (last_link_within k (suc m) many).1 (small k (suc m) fits)))
       ∙ level (last_link k (suc m)) (sum (chain k (suc m))) (both m fits).1
       (sum_least k (suc m) (first_link k) (omega arith)) where
-        low : (last all : ℕ) → last ≤ all → all < most_jobs → last ≤ 1_000_000
+        low : (last all : ℕ) → last ≤ all → all < most_jobs Two → last ≤ 1_000_000
         low last all within few = omega arith
 
         level : (last all : ℕ) → all + suc m ≡ 2 * last → suc m ≤ all

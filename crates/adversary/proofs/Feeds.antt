@@ -5,6 +5,7 @@ use Rattle.std.proofs.Common.{◌∙◌, subst, arith}
 use Rattle.std.specs.List.{sum, AllByRecursion}
 use Rattle.std.proofs.lemmas.List.Sums.{sum_by-cons}
 use Rattle.std.proofs.Math.Nat.{div-le_self, le-div_iff_mul-le}
+use Rattle.dover_model.specs.declared.events.Version.TheVariants.{Two}
 use Rattle.dover_model.specs.Limits.{most_jobs, most_value}
 use Rattle.dover_model.specs.Fraction.{Fraction, IsRatio}
 use Rattle.dover_model.specs.JobFacts.{JobFacts}
@@ -160,10 +161,10 @@ module _ (k : Fraction) (rounds : ℕ) where
         level all many is low = omega arith
 
   -- what holds of each link, of each unit job and of the bait of a small feed holds of each job
-  pub all_jobs : (P : JobFacts → Type 0) → sum (chain k rounds) < most_jobs
-      → ((s w : ℕ) → s < most_jobs → 1 ≤ w → w < most_jobs → P (tight_job s w 1))
-      → ((s : ℕ) → s < most_jobs → P (tight_job s 1 (unit_value k)))
-      → ((s : ℕ) → s < most_jobs → P (tight_job s (bait_value k rounds) 1))
+  pub all_jobs : (P : JobFacts → Type 0) → sum (chain k rounds) < most_jobs Two
+      → ((s w : ℕ) → s < most_jobs Two → 1 ≤ w → w < most_jobs Two → P (tight_job s w 1))
+      → ((s : ℕ) → s < most_jobs Two → P (tight_job s 1 (unit_value k)))
+      → ((s : ℕ) → s < most_jobs Two → P (tight_job s (bait_value k rounds) 1))
       → AllByRecursion P (bait_jobs k rounds)
   all_jobs P small link unit_job bait_job = all_given (unit_value k) (bait_value k rounds) P 999_999 999_999
       (λ s w early some low. link s w (omega arith) some (omega arith)) (λ s early. unit_job s (omega arith))
@@ -173,16 +174,16 @@ module _ (k : Fraction) (rounds : ℕ) where
       (bait_tick k rounds)) whole
       (level (sum (chain k rounds)) small)
       (links_low 999_999 (chain k rounds) (below (sum (chain k rounds)) small)) where
-        level : (all : ℕ) → all < most_jobs → 0 + (all - rounds) ≤ 999_999
+        level : (all : ℕ) → all < most_jobs Two → 0 + (all - rounds) ≤ 999_999
         level all low = omega arith
 
-        below : (all : ℕ) → all < most_jobs → all ≤ 999_999
+        below : (all : ℕ) → all < most_jobs Two → all ≤ 999_999
         below all low = omega arith
 
   -- a feed within the limits has a small chain
-  pub small : FitsLimits k rounds → sum (chain k rounds) < most_jobs
+  pub small : FitsLimits k rounds → sum (chain k rounds) < most_jobs Two
   small fits = level (sum (chain k rounds)) (length (bait_jobs k rounds)) count fits.few where
-    level : (all many : ℕ) → many ≡ all + 1 → many ≤ most_jobs → all < most_jobs
+    level : (all many : ℕ) → many ≡ all + 1 → many ≤ most_jobs Two → all < most_jobs Two
     level all many is few = omega arith
 
   -- and a bait of a value that a job may have
@@ -203,7 +204,8 @@ unit_some k ratio = (le-div_iff_mul-le {k = k.q} {x = 1} {y = k.p} (omega (arith
     (omega (arith, ratio.above_one))
 
 -- a small chain with a modest bait is within the limits
-pub fits : (k : Fraction) (rounds : ℕ) → IsRatio k → sum (chain k rounds) < most_jobs → bait_value k rounds ≤ most_value
+pub fits : (k : Fraction) (rounds : ℕ) → IsRatio k → sum (chain k rounds) < most_jobs Two
+    → bait_value k rounds ≤ most_value
     → FitsLimits k rounds
 fits k rounds ratio low modest = record {
   few = level (sum (chain k rounds)) (length (bait_jobs k rounds)) (count k rounds) low;
@@ -212,7 +214,7 @@ fits k rounds ratio low modest = record {
       (λ s w early some below. omega arith) (λ s early. unit_of (unit_value k) (unit_low k ratio))
       (λ s early. bait_of (bait_value k rounds) modest));
 } where
-  level : (all many : ℕ) → many ≡ all + 1 → all < most_jobs → many ≤ most_jobs
+  level : (all many : ℕ) → many ≡ all + 1 → all < most_jobs Two → many ≤ most_jobs Two
   level all many is small = omega arith
 
   unit_of : (v : ℕ) → v ≤ 1_000_000 → v * 1 ≤ most_value

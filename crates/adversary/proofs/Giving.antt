@@ -7,6 +7,7 @@ use Rattle.std.specs.List.{sum}
 use Rattle.std.proofs.lemmas.Nat.{mul-le}
 use Rattle.std.proofs.lemmas.Bool.{cases_lt}
 use Rattle.std.proofs.lemmas.List.Sums.{sum_by-cons}
+use Rattle.dover_model.specs.declared.events.Version.TheVariants.{Two}
 use Rattle.dover_model.specs.Limits.{most_jobs, most_value, last_tick}
 use Rattle.dover_model.specs.Fraction.{Fraction}
 use Rattle.dover_model.specs.JobFacts.{JobFacts}
@@ -23,8 +24,8 @@ use Rattle.adversary.proofs.Feeds.{count, fits}
 -- ---- the whole feed
 
 module _ (a : Inside) (kept : IsKept a) where
-  pub kept_small : sum (chain a.k a.rounds) < most_jobs
-  kept_small = subst (λ n. n < most_jobs) kept.numbers.sum kept.numbers.few
+  pub kept_small : sum (chain a.k a.rounds) < most_jobs Two
+  kept_small = subst (λ n. n < most_jobs Two) kept.numbers.sum kept.numbers.few
 
   pub kept_fits : FitsLimits a.k a.rounds
   kept_fits = fits a.k a.rounds kept.ratio kept_small (subst (λ v. v ≤ most_value) kept.numbers.light kept.modest)
@@ -44,7 +45,7 @@ module _ (a : Inside) (kept : IsKept a) where
 
   pub tick_low : a.bait_tick < 1_000_000
   tick_low = level a.bait_tick a.rounds a.chain.sum kept.bait_tick kept.numbers.few where
-    level : (b rounds all : ℕ) → b + rounds ≡ all → all < most_jobs → b < 1_000_000
+    level : (b rounds all : ℕ) → b + rounds ≡ all → all < most_jobs Two → b < 1_000_000
     level b rounds all is few = omega arith
 
 product_low : (unit b : ℕ) → unit ≤ 1_000_000 → b < 1_000_000 → unit * b ≤ 1_000_000 * 1_000_000

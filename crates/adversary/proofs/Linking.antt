@@ -2,6 +2,7 @@
 use Rattle.std.proofs.Common.{◌≡◌, ℕ, zero, suc, ◌+◌, ◌≤◌, ◌<◌, List, [], ◌∷◌, ◌++◌, subst, arith}
 use Rattle.std.specs.List.{sum}
 use Rattle.std.proofs.lemmas.List.Sums.{sum_by-cons}
+use Rattle.dover_model.specs.declared.events.Version.TheVariants.{Two}
 use Rattle.dover_model.specs.Limits.{most_jobs}
 use Rattle.dover_model.specs.Fraction.{Fraction, IsRatio}
 use Rattle.dover_model.specs.Bait.{unit_value, first_link, most_light, chain_from, chain, last_link, bait_value}
@@ -29,13 +30,13 @@ first_least k (suc rounds) w rest ratio is =
       low v small = omega arith
 
 -- of a small chain the first value is small, and so is the rest
-part_small : (w : ℕ) (ws : List ℕ) → sum (w ∷ ws) < most_jobs → (w ≤ 1_000_000) × (sum ws < most_jobs)
+part_small : (w : ℕ) (ws : List ℕ) → sum (w ∷ ws) < most_jobs Two → (w ≤ 1_000_000) × (sum ws < most_jobs Two)
 part_small w ws few = level w (sum ws) (sum (w ∷ ws)) (sum_by-cons (λ x. x) w ws) few where
-  level : (w rest all : ℕ) → all ≡ w + rest → all < most_jobs → (w ≤ 1_000_000) × (rest < most_jobs)
+  level : (w rest all : ℕ) → all ≡ w + rest → all < most_jobs Two → (w ≤ 1_000_000) × (rest < most_jobs Two)
   level w rest all is few = (omega arith, omega arith)
 
 -- a value and the one before it
-next_from : (k : Fraction) (rounds first : ℕ) → IsRatio k → sum (chain_from k rounds first) < most_jobs
+next_from : (k : Fraction) (rounds first : ℕ) → IsRatio k → sum (chain_from k rounds first) < most_jobs Two
     → (before rest : List ℕ) (w v : ℕ)
     → chain_from k rounds first ≡ before ++ w ∷ v ∷ rest → IsLeastHeavy k w v
 next_from k zero first ratio few [] rest w v is = absurd (cc)
@@ -60,5 +61,5 @@ pub bait_most : (k : Fraction) (rounds : ℕ) → IsRatio k → 1 ≤ rounds →
 bait_most k rounds ratio some fits =
     most_is_light k (last_link k rounds) ratio
     (low (last_link k rounds) (sum (chain k rounds)) (last_link_within k rounds some).1 (small k rounds fits)) where
-      low : (last all : ℕ) → last ≤ all → all < most_jobs → last ≤ 1_000_000
+      low : (last all : ℕ) → last ≤ all → all < most_jobs Two → last ≤ 1_000_000
       low last all within few = omega arith

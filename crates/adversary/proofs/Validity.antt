@@ -4,6 +4,7 @@ use Rattle.std.specs.List.{sum, AllByRecursion}
 use Rattle.std.proofs.lemmas.Nat.{mul-le}
 use Rattle.std.proofs.Math.Nat.{mul-div-le}
 use Rattle.std.proofs.lemmas.List.Sums.{sum_by-cons}
+use Rattle.dover_model.specs.declared.events.Version.TheVariants.{Two}
 use Rattle.dover_model.specs.Limits.{most_jobs, most_value, most_total}
 use Rattle.dover_model.specs.declared.events.Version.{Version}
 use Rattle.dover_model.specs.Fraction.{Fraction, IsRatio}
@@ -13,6 +14,7 @@ use Rattle.dover_model.specs.Bait.{unit_value, most_light, first_link, chain_fro
 use Rattle.dover_model.specs.Bait.{tight_job, chain_jobs}
 use Rattle.dover_model.specs.Bait.{bait_tick, bait_jobs}
 use Rattle.dover_model.proofs.Calculus.{dense_within}
+use Rattle.dover_model.proofs.Limiting.{jobs_least, total_least}
 use Rattle.adversary.specs.Baiting.{FitsLimits}
 use Rattle.adversary.proofs.Coming.{AreSome, are_some}
 use Rattle.adversary.proofs.Chains.{last_from}
@@ -44,12 +46,12 @@ some_bait k rounds ratio many fits =
     let ends = last_link_within k rounds many in
     join (last_link k rounds) (sum (chain k rounds)) (bait_value k rounds) ends.0 ends.1 (small k rounds fits)
     (λ low. light_least k (last_link k rounds) ratio low) where
-      join : (last all light : ℕ) → 1 ≤ last → last ≤ all → all < most_jobs → (last ≤ 1_000_000 → last ≤ light)
+      join : (last all light : ℕ) → 1 ≤ last → last ≤ all → all < most_jobs Two → (last ≤ 1_000_000 → last ≤ light)
           → 1 ≤ light
       join last all light some low few least = omega (arith, some, least (omega (arith, low, few)))
 
 -- a job without slack is within the limits
-tight_is_job : (s w d : ℕ) → s < most_jobs → 1 ≤ w → w ≤ most_value → 1 ≤ d * w → d * w ≤ most_value
+tight_is_job : (s w d : ℕ) → s < most_jobs Two → 1 ≤ w → w ≤ most_value → 1 ≤ d * w → d * w ≤ most_value
     → IsJob (tight_job s w d)
 tight_is_job s w d early some low worth modest = record {
   work = some;
@@ -70,13 +72,13 @@ module _ (k : Fraction) (rounds : ℕ) (ratio : IsRatio k) (fits : FitsLimits k 
       (λ s early. tight_is_job s (bait_value k rounds) 1 early some_bait (modest k rounds fits)
       (once (bait_value k rounds) some_bait)
       (once_modest (bait_value k rounds) (modest k rounds fits))) where
-        below : (w : ℕ) → w < most_jobs → w ≤ most_value
+        below : (w : ℕ) → w < most_jobs Two → w ≤ most_value
         below w low = omega arith
 
         once : (w : ℕ) → 1 ≤ w → 1 ≤ 1 * w
         once w some = omega arith
 
-        once_low : (w : ℕ) → w < most_jobs → 1 * w ≤ most_value
+        once_low : (w : ℕ) → w < most_jobs Two → 1 * w ≤ most_value
         once_low w low = omega arith
 
         once_modest : (w : ℕ) → w ≤ most_value → 1 * w ≤ most_value
@@ -112,15 +114,15 @@ module _ (k : Fraction) (rounds : ℕ) (ratio : IsRatio k) (fits : FitsLimits k 
         plain : k.q ≤ k.p → k.q * 1 ≤ k.p
         plain low = omega arith
 
-  total : total_value (bait_jobs k rounds) ≤ most_total
+  total : total_value (bait_jobs k rounds) ≤ most_total Two
   total = level (total_value (bait_jobs k rounds)) (sum (chain k rounds)) (unit_value k) (bait_value k rounds)
       (how_much (unit_value k) (bait_value k rounds) 0 0 (bait_tick k rounds) 0 (chain k rounds) (bait_jobs k rounds)
       (plan_from (bait_value k rounds) 0 (chain_jobs k rounds) 0 (bait_tick k rounds)) (whole k rounds))
       (small k rounds fits) (unit_low k ratio)
       (modest k rounds fits) where
-        level : (all links unit bait : ℕ) → all ≡ links + unit * (links - rounds) + bait → links < most_jobs
+        level : (all links unit bait : ℕ) → all ≡ links + unit * (links - rounds) + bait → links < most_jobs Two
             → unit ≤ 1_000_000 → bait ≤ most_value
-            → all ≤ most_total
+            → all ≤ most_total Two
         level all links unit bait is few low modest =
             let product : unit * (links - rounds) ≤ 1_000_000 * 1_000_000 =
             mul-le unit (links - rounds) 1_000_000 1_000_000 low
@@ -135,7 +137,7 @@ module _ (k : Fraction) (rounds : ℕ) (ratio : IsRatio k) (fits : FitsLimits k 
     in_order = in_order (unit_value k) (bait_value k rounds) 0 0 (bait_tick k rounds) 0 (chain k rounds)
         (bait_jobs k rounds)
         (plan_from (bait_value k rounds) 0 (chain_jobs k rounds) 0 (bait_tick k rounds)) (whole k rounds);
-    count = fits.few;
-    total = total;
+    count = omega (arith, fits.few, jobs_least version);
+    total = omega (arith, total, total_least version);
     densities = densities;
   }

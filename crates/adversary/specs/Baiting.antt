@@ -1,6 +1,7 @@
 -- A baiting feed that is within the limits, and what is still to come of it.
 use Rattle.std.specs.Prelude.{ℕ, ◌≤◌, List, [], ◌∷◌, ◌++◌, length, ◌==◌}
 use Rattle.std.specs.List.{filter, flat_map, range_with_len}
+use Rattle.dover_model.specs.declared.events.Version.TheVariants.{Two}
 use Rattle.dover_model.specs.Limits.{most_jobs, most_value}
 use Rattle.dover_model.specs.Fraction.{Fraction}
 use Rattle.dover_model.specs.JobFacts.{JobFacts}
@@ -9,7 +10,7 @@ use Rattle.dover_model.specs.Bait.{tight_job, bait_jobs}
 
 -- the feed has no more jobs than a feed may have, and no job is worth more than a job may be
 pub record FitsLimits (k : Fraction) (rounds : ℕ) : Type 0 where
-  pub few : length (bait_jobs k rounds) ≤ most_jobs
+  pub few : length (bait_jobs k rounds) ≤ most_jobs Two
   pub modest : Each (λ j. j.value ≤ most_value) (bait_jobs k rounds)
 
 -- what callers see of a feed: its ratio, its rounds, and the jobs that are still to come

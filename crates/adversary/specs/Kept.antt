@@ -1,6 +1,7 @@
 -- What the fields of a Bait, and the numbers of its chain, stand for.
 use Rattle.std.specs.Prelude.{◌≡◌, ℕ, ◌+◌, ◌-◌, ◌≤◌, ◌<◌, [], if◌then◌else◌}
 use Rattle.std.specs.List.{sum}
+use Rattle.dover_model.specs.declared.events.Version.TheVariants.{Two}
 use Rattle.dover_model.specs.Limits.{most_jobs, most_value}
 use Rattle.dover_model.specs.Fraction.{Fraction, IsRatio}
 use Rattle.dover_model.specs.Bait.{unit_value, first_link, chain_from, chain, last_link, bait_value, chain_jobs_from}
@@ -14,7 +15,7 @@ pub record HasNumbers (k : Fraction) (rounds : ℕ) (c : Chain) : Type 0 where
   pub last : c.last ≡ last_link k rounds
   pub sum : c.sum ≡ sum (chain k rounds)
   pub light : c.light ≡ bait_value k rounds
-  pub few : c.sum < most_jobs
+  pub few : c.sum < most_jobs Two
   pub some : 1 ≤ c.light
 
 -- the ratio, the rounds, and what is still to come

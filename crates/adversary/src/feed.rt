@@ -1,20 +1,19 @@
 //! The baiting feed, job by job.
 ghost use Rattle.std.specs.Prelude.{◌≡◌, ◌↔◌, ◌≤◌, ◌<◌, ◌+◌, ◌*◌, IsSome, IfSome, nat_le};
 ghost use Rattle.std.specs.List.{sum, count_by};
+ghost use Rattle.dover_model.specs.declared.events.Version.TheVariants.{Two};
 ghost use Rattle.dover_model.specs.Limits.{last_tick, most_value, most_jobs};
 ghost use Rattle.dover_model.specs.Fraction.{IsRatio};
 ghost use Rattle.dover_model.specs.Bait.{first_link, chain, chain_jobs, tight_job};
 ghost use Rattle.adversary.specs.Kept.{HasNumbers};
 
 use crate::links::{first_value, light_value, unit};
+use dover_model::jobs::MOST_VALUE;
 use dover_model::{Job, Ratio};
 use std::marker::Model;
 
 /// How many jobs a feed may have.
 const MOST_JOBS: u64 = 1_000_000;
-
-/// The greatest value of a job.
-const MOST_VALUE: u64 = 1_000_000_000;
 
 /// The numbers of a chain whose values sum to less than 1,000,000.
 #[derive(Drop)]
@@ -29,7 +28,7 @@ struct Chain {
 /// The numbers of the chain of so many values, at least one. None exactly where they sum to 1,000,000 or more.
 fn small_chain(k: Ratio, rounds: u32) -> Option<Chain>
     requires { 1 ≤ rounds }
-    ensures small { IsSome result ↔ (sum (chain k rounds) < most_jobs) }
+    ensures small { IsSome result ↔ (sum (chain k rounds) < most_jobs Two) }
     ensures numbers { IfSome result (λ c. HasNumbers k rounds c) }
     ensures ratio { IsRatio k }
 {
@@ -69,7 +68,7 @@ fn tight_job(release: u64, work: u64, density: u64) -> Option<Job>
 /// less than 1,000,000.
 fn links_until(k: Ratio, rounds: u32, first: u64, tick: u64) -> u32
     requires first { first ≡ first_link k }
-    requires small { sum (chain k rounds) < most_jobs }
+    requires small { sum (chain k rounds) < most_jobs Two }
     ensures { result ≡ count_by (λ j. nat_le j.release tick) (chain_jobs k rounds) }
 {
     let mut work = first;

@@ -97,29 +97,30 @@ lower jobs g s k low (c ∷ chosen) rise to all =
 
 -- the number at a place, where an idle tick stays idle
 abbrev pub number_at : List ℕ → ℕ → ℕ
-number_at chosen n = cond (eqb n 1_000_000) 1_000_000 (get_or chosen n 0)
+number_at chosen n = cond (eqb n 4_000_000_000) 4_000_000_000 (get_or chosen n 0)
 
 -- stretches are not idle
-pub busy_stretches : (t : ℕ) (s : List ℕ) → Each (λ (p : Piece). eqb p.number 1_000_000 ≡ false) (stretches_from t s)
+pub busy_stretches : (t : ℕ) (s : List ℕ)
+    → Each (λ (p : Piece). eqb p.number 4_000_000_000 ≡ false) (stretches_from t s)
 busy_stretches t [] p member = absurd member
-busy_stretches t (n ∷ s) piece among = by_test (eqb n 1_000_000) refl (busy_stretches (t + 1) s) piece among where
-  with_front : (pieces : List Piece) → eqb n 1_000_000 ≡ false
-      → Each (λ (p : Piece). eqb p.number 1_000_000 ≡ false) pieces
-      → Each (λ (p : Piece). eqb p.number 1_000_000 ≡ false) (with_tick t n pieces)
-  with_front [] busy all p (inl e) = ap (λ (q : Piece). eqb q.number 1_000_000) e ∙ busy
+busy_stretches t (n ∷ s) piece among = by_test (eqb n 4_000_000_000) refl (busy_stretches (t + 1) s) piece among where
+  with_front : (pieces : List Piece) → eqb n 4_000_000_000 ≡ false
+      → Each (λ (p : Piece). eqb p.number 4_000_000_000 ≡ false) pieces
+      → Each (λ (p : Piece). eqb p.number 4_000_000_000 ≡ false) (with_tick t n pieces)
+  with_front [] busy all p (inl e) = ap (λ (q : Piece). eqb q.number 4_000_000_000) e ∙ busy
   with_front [] busy all p (inr member) = absurd member
   with_front (first ∷ pieces) busy all p member = by_join ((first.number == n) && (first.from == t + 1)) member where
     by_join : (b : Bool) → IsMember p
         (cond b (record first { from = t } ∷ pieces) (record { from = t; until = t + 1; number = n } ∷ first ∷ pieces))
-        → eqb p.number 1_000_000 ≡ false
-    by_join true (inl e) = ap (λ (q : Piece). eqb q.number 1_000_000) e ∙ all first (inl refl)
+        → eqb p.number 4_000_000_000 ≡ false
+    by_join true (inl e) = ap (λ (q : Piece). eqb q.number 4_000_000_000) e ∙ all first (inl refl)
     by_join true (inr later) = all p (inr later)
-    by_join false (inl e) = ap (λ (q : Piece). eqb q.number 1_000_000) e ∙ busy
+    by_join false (inl e) = ap (λ (q : Piece). eqb q.number 4_000_000_000) e ∙ busy
     by_join false (inr later) = all p later
 
-  by_test : (b : Bool) → eqb n 1_000_000 ≡ b
-      → Each (λ (p : Piece). eqb p.number 1_000_000 ≡ false) (stretches_from (t + 1) s)
-      → Each (λ (p : Piece). eqb p.number 1_000_000 ≡ false)
+  by_test : (b : Bool) → eqb n 4_000_000_000 ≡ b
+      → Each (λ (p : Piece). eqb p.number 4_000_000_000 ≡ false) (stretches_from (t + 1) s)
+      → Each (λ (p : Piece). eqb p.number 4_000_000_000 ≡ false)
       (cond b (stretches_from (t + 1) s) (with_tick t n (stretches_from (t + 1) s)))
   by_test true idle all p member = all p member
   by_test false busy all p member = with_front (stretches_from (t + 1) s) busy all p member
@@ -130,7 +131,7 @@ map_replicate f (suc k) n = ap (λ ns. f n ∷ ns) (map_replicate f k n)
 
 -- what renumbered pieces spread is what the pieces spread, under other numbers
 spread_renumbered : (chosen : List ℕ) (t : ℕ) (pieces : List Piece)
-    → Each (λ (p : Piece). eqb p.number 1_000_000 ≡ false) pieces
+    → Each (λ (p : Piece). eqb p.number 4_000_000_000 ≡ false) pieces
     → spread_from t (map (renumbered chosen) pieces) ≡ map (number_at chosen) (spread_from t pieces)
 spread_renumbered chosen t [] busy = refl
 spread_renumbered chosen t (piece ∷ pieces) busy =
@@ -138,20 +139,20 @@ spread_renumbered chosen t (piece ∷ pieces) busy =
     (spread_from piece.until pieces) =
     spread_renumbered chosen piece.until pieces (λ p m. busy p (inr m)) in
     let here : get_or chosen piece.number 0 ≡ number_at chosen piece.number =
-    ap (λ b. cond b 1_000_000 (get_or chosen piece.number 0)) (sym (busy piece (inl refl))) in
-    ap (λ ns. replicate {A = ℕ} (piece.from - t) 1_000_000 ++ replicate (piece.until - piece.from)
+    ap (λ b. cond b 4_000_000_000 (get_or chosen piece.number 0)) (sym (busy piece (inl refl))) in
+    ap (λ ns. replicate {A = ℕ} (piece.from - t) 4_000_000_000 ++ replicate (piece.until - piece.from)
     (get_or chosen piece.number 0) ++ ns) rest
-    ∙ ap (λ m. replicate {A = ℕ} (piece.from - t) 1_000_000 ++ replicate (piece.until - piece.from) m ++ map
+    ∙ ap (λ m. replicate {A = ℕ} (piece.from - t) 4_000_000_000 ++ replicate (piece.until - piece.from) m ++ map
     (number_at chosen) (spread_from piece.until pieces)) here
     ∙ sym (map-append (number_at chosen)
-    (replicate {A = ℕ} (piece.from - t) 1_000_000 ++ replicate (piece.until - piece.from) piece.number)
+    (replicate {A = ℕ} (piece.from - t) 4_000_000_000 ++ replicate (piece.until - piece.from) piece.number)
     (spread_from piece.until pieces)
     ∙ ap (λ ns. ns ++ map (number_at chosen) (spread_from piece.until pieces))
-    (map-append (number_at chosen) (replicate {A = ℕ} (piece.from - t) 1_000_000)
+    (map-append (number_at chosen) (replicate {A = ℕ} (piece.from - t) 4_000_000_000)
     (replicate (piece.until - piece.from) piece.number)
     ∙ ap (λ ns. ns ++ map (number_at chosen) (replicate (piece.until - piece.from) piece.number))
-    (map_replicate (number_at chosen) (piece.from - t) 1_000_000)
-    ∙ ap (λ ns. replicate {A = ℕ} (piece.from - t) 1_000_000 ++ ns)
+    (map_replicate (number_at chosen) (piece.from - t) 4_000_000_000)
+    ∙ ap (λ ns. replicate {A = ℕ} (piece.from - t) 4_000_000_000 ++ ns)
     (map_replicate (number_at chosen) (piece.until - piece.from) piece.number)))
 
 pub spread_is : (chosen : List ℕ) (s : List ℕ)

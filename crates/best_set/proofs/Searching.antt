@@ -43,8 +43,8 @@ choice_served all next choice few low it =
           rise_length 0 next choice.numbers.items (omega arith) it.numbers in
           let low : i < 20 = omega arith in
           ap (number_at choice.numbers.items) (let e : 0 + i ≡ i = omega arith in e)
-          ∙ ap (λ b. cond b 1_000_000 (get_or choice.numbers.items i 0))
-          (let e : eqb i 1_000_000 ≡ false = grind arith in e)
+          ∙ ap (λ b. cond b 4_000_000_000 (get_or choice.numbers.items i 0))
+          (let e : eqb i 4_000_000_000 ≡ false = grind arith in e)
 
 -- so it is a good set
 pub choice_good : (all : List JobFacts) (next : ℕ) (choice : Choice) → length all ≤ 20 → next ≤ length all

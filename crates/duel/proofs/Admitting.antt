@@ -6,7 +6,7 @@ use Rattle.std.proofs.lemmas.List.{append-nil}
 use Rattle.dover_model.specs.declared.events.Version.TheVariants.{One}
 use Rattle.dover_model.specs.Fraction.{Fraction, IsRatio}
 use Rattle.dover_model.specs.JobFacts.{JobFacts, IsJob, job_of_numbers}
-use Rattle.dover_model.specs.Instance.{IsInOrder, jobs_under}
+use Rattle.dover_model.specs.Instance.{IsInOrder, Declaration, jobs_under}
 use Rattle.dover_model.specs.Admission.{refusal_of}
 use Rattle.dover_model.proofs.Admitting.{admits, valid_admitted}
 use Rattle.dover_model.proofs.Valid.{all_back, valid_front}
@@ -39,22 +39,26 @@ before_it (x ∷ xs) ys j order = (
   before_it xs ys j order.1,
 )
 
+-- the rules that are declared
+abbrev declares : Fraction → Declaration
+declares k = record { ratio = k; version = One }
+
 -- these of the jobs were admitted, and those are left
 pub record HasAdmitted (k : Fraction) (jobs : List JobFacts) (kept : Kept) (left : List JobFacts) : Type 0 where
   pub done : List JobFacts
   pub whole : jobs ≡ done ++ left
   pub stands : StandsFor kept done
-  pub ratio : kept.ratio ≡ k
+  pub rules : kept.rules ≡ declares k
   pub valid : AreValid One k done
 
 pub none_admitted : (k : Fraction) (jobs left : List JobFacts) (kept : Kept) → IsRatio k → left ≡ jobs
     → StandsFor kept []
-    → kept.ratio ≡ k → HasAdmitted k jobs kept left
+    → kept.rules ≡ declares k → HasAdmitted k jobs kept left
 none_admitted k jobs left kept ratio is stands same = record {
   done = [];
   whole = sym is;
   stands = stands;
-  ratio = same;
+  rules = same;
   valid = record {
     ratio = ratio;
     each = tt;
@@ -87,21 +91,21 @@ module _ (k : Fraction) (jobs : List JobFacts) (kept : Kept) (left : List JobFac
     whole_now = it.whole ∙ ap (λ js. it.done ++ js) is ∙ sym (append_assoc it.done (j ∷ []) rest)
 
     -- one isn't admitted
-    pub one_refused : (refusal_of kept.ratio it.done j ≡ None → ⊥) → AreValid One k jobs → ⊥
-    one_refused refused valid = refused (subst (λ r. refusal_of r it.done j ≡ None) (sym it.ratio)
+    pub one_refused : (refusal_of kept.rules it.done j ≡ None → ⊥) → AreValid One k jobs → ⊥
+    one_refused refused valid = refused (subst (λ r. refusal_of r it.done j ≡ None) (sym it.rules)
         (valid_admitted (jobs_under One k it.done) j
         (valid_front (jobs_under One k (it.done ++ j ∷ [])) rest
         (subst (λ js. AreValid One k js) whole_now valid))))
 
     -- one more is
     pub one_admitted : (then : Kept) → IsInOrder jobs → StandsFor then (it.done ++ j ∷ [])
-        → refusal_of kept.ratio it.done j ≡ None → then.ratio ≡ kept.ratio → HasAdmitted k jobs then rest
+        → refusal_of kept.rules it.done j ≡ None → then.rules ≡ kept.rules → HasAdmitted k jobs then rest
     one_admitted then order stands none same = record {
       done = it.done ++ j ∷ [];
       whole = whole_now;
       stands = stands;
-      ratio = same ∙ it.ratio;
-      valid = admits (record { ratio = k; version = One }) it.done j it.valid
+      rules = same ∙ it.rules;
+      valid = admits (declares k) it.done j it.valid
           (before_it it.done rest j (subst IsInOrder (it.whole ∙ ap (λ js. it.done ++ js) is) order))
-          (subst (λ r. refusal_of r it.done j ≡ None) it.ratio none);
+          (subst (λ r. refusal_of r it.done j ≡ None) it.rules none);
     }

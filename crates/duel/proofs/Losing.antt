@@ -1,7 +1,9 @@
 -- Within the limits each on-line scheduler loses on a front of the duel's jobs.
 use Rattle.std.proofs.Common.{◌≡◌, ℕ, ◌≤◌, sym, subst, length, arith}
 use Rattle.dover_model.specs.declared.events.Version.{Version}
+use Rattle.dover_model.specs.declared.events.Version.TheVariants.{One}
 use Rattle.dover_model.specs.Fraction.{Fraction}
+use Rattle.dover_model.specs.Limits.{most_jobs}
 use Rattle.duel.specs.Game.{Scheduler, IsOnline, AreValid, LosesOnFront}
 use Rattle.duel.specs.Jobs.{jobs_of_links, first_link, duel_jobs}
 use Rattle.duel.proofs.Phases.{jobs_from}
@@ -25,7 +27,8 @@ links_lose version k a b more scheduler some_b valid few online =
       same = as_phases k a b more (first_link k a b) (omega arith)
 
 pub each_loses : (version : Version) (k : Fraction) (a b : ℕ) (scheduler : Scheduler) → 1 ≤ b
-    → AreValid version k (duel_jobs k a b) → IsOnline (AreValid version k) scheduler
+    → AreValid version k (duel_jobs k a b) → length (duel_jobs k a b) ≤ most_jobs One
+    → IsOnline (AreValid version k) scheduler
     → LosesOnFront k a b scheduler (duel_jobs k a b)
-each_loses version k a b scheduler some_b valid online =
-    links_lose version k a b 1_000_000 scheduler some_b valid valid.count online
+each_loses version k a b scheduler some_b valid few online =
+    links_lose version k a b 1_000_000 scheduler some_b valid few online

@@ -4,6 +4,7 @@ use Rattle.std.proofs.Common.{Some, None}
 use Rattle.std.specs.Prelude.{slice_get, slice_index_or}
 use Rattle.dover_model.specs.declared.events.Version.{Version}
 use Rattle.dover_model.specs.Fraction.{Fraction}
+use Rattle.dover_model.proofs.Limiting.{jobs_most}
 use Rattle.policy_lab.specs.Picks.{Picks}
 use Rattle.policy_lab.specs.PolicyRun.{policy_run}
 use Rattle.policy_lab.proofs.Onlines.{on_line}
@@ -29,13 +30,14 @@ has_place (x ∷ xs) (suc u) n d other has = has_place xs u n d other has
 pub online : (version : Version) (k : Fraction) (picks : Picks) → picks [] ≡ None
     → IsOnline (AreValid version k) (policy_run picks)
 online version k picks idles t jobs others valid valid2 same n known = (
-  λ named. has_place (policy_run picks others) t n 1_000_000 other
-      (sym agree ∙ place_has (policy_run picks jobs) t n 1_000_000 named),
-  λ named. has_place (policy_run picks jobs) t n 1_000_000 other
-      (agree ∙ place_has (policy_run picks others) t n 1_000_000 named),
+  λ named. has_place (policy_run picks others) t n 4_000_000_000 other
+      (sym agree ∙ place_has (policy_run picks jobs) t n 4_000_000_000 named),
+  λ named. has_place (policy_run picks jobs) t n 4_000_000_000 other
+      (agree ∙ place_has (policy_run picks others) t n 4_000_000_000 named),
 ) where
-  agree : slice_index_or (policy_run picks jobs) t 1_000_000 ≡ slice_index_or (policy_run picks others) t 1_000_000
+  agree : slice_index_or (policy_run picks jobs) t 4_000_000_000
+      ≡ slice_index_or (policy_run picks others) t 4_000_000_000
   agree = on_line picks t jobs others idles valid.in_order valid2.in_order same t (omega arith)
 
-  other : 1_000_000 ≡ n → ⊥
-  other is = omega (arith, is, known, (valid_known version k jobs t valid).count)
+  other : 4_000_000_000 ≡ n → ⊥
+  other is = omega (arith, is, known, (valid_known version k jobs t valid).count, jobs_most version)

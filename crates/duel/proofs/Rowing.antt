@@ -20,7 +20,7 @@ use Rattle.duel.proofs.Losing.{each_loses}
 
 -- jobs that are few, not worth too much, and each within its limits
 abbrev fits : List JobFacts → Bool
-fits jobs = (nat_le (length jobs) most_jobs && nat_le (total_value jobs) most_total) && list_all is_job jobs
+fits jobs = (nat_le (length jobs) (most_jobs One) && nat_le (total_value jobs) (most_total One)) && list_all is_job jobs
 
 both : (x y : Bool) → (x && y) ≡ true → (x ≡ true) × (y ≡ true)
 both true true is = (refl, refl)
@@ -28,15 +28,15 @@ both true false is = absurd (cc)
 both false y is = absurd (cc)
 
 module _ (k : Fraction) (a b : ℕ) (ratio : IsRatio k) (some_b : 1 ≤ b) where
-  valid_links : (more : ℕ) → more ≤ most_jobs → length (jobs_of_links k a b more (first_link k a b)) ≤ more
+  valid_links : (more : ℕ) → more ≤ most_jobs One → length (jobs_of_links k a b more (first_link k a b)) ≤ more
       → fits (jobs_of_links k a b more (first_link k a b)) ≡ true
       → AreValid One k (jobs_of_links k a b more (first_link k a b))
   valid_links more low few test =
-      let one = both (nat_le (length (jobs_of_links k a b more (first_link k a b))) most_jobs
-      && nat_le (total_value (jobs_of_links k a b more (first_link k a b))) most_total)
+      let one = both (nat_le (length (jobs_of_links k a b more (first_link k a b))) (most_jobs One)
+      && nat_le (total_value (jobs_of_links k a b more (first_link k a b))) (most_total One))
       (list_all is_job (jobs_of_links k a b more (first_link k a b))) test in
-      let two = both (nat_le (length (jobs_of_links k a b more (first_link k a b))) most_jobs)
-      (nat_le (total_value (jobs_of_links k a b more (first_link k a b))) most_total) one.0 in
+      let two = both (nat_le (length (jobs_of_links k a b more (first_link k a b))) (most_jobs One))
+      (nat_le (total_value (jobs_of_links k a b more (first_link k a b))) (most_total One)) one.0 in
       let plain = plain_whole k ratio.above_one a b (phases_of k a b more (first_link k a b))
       (last_of k a b more (first_link k a b))
       (traps_of k a b ratio.least some_b more (first_link k a b) (omega arith)
@@ -58,12 +58,13 @@ module _ (k : Fraction) (a b : ℕ) (ratio : IsRatio k) (some_b : 1 ≤ b) where
 fitting : (p a b : ℕ) (scheduler : Scheduler) → IsRatio (k_of p) → 1 ≤ b → fits (duel_jobs (k_of p) a b) ≡ true
     → IsOnline (AreValid One (k_of p)) scheduler → LosesOnFront (k_of p) a b scheduler (duel_jobs (k_of p) a b)
 fitting p a b scheduler ratio some_b test online = each_loses One (k_of p) a b scheduler some_b
-    (valid_links (k_of p) a b ratio some_b 1_000_000 (omega arith) (leb-true _ _ few) test) online where
-      few : nat_le (length (duel_jobs (k_of p) a b)) most_jobs ≡ true
-      few = (both (nat_le (length (duel_jobs (k_of p) a b)) most_jobs)
-          (nat_le (total_value (duel_jobs (k_of p) a b)) most_total)
-          (both (nat_le (length (duel_jobs (k_of p) a b)) most_jobs
-          && nat_le (total_value (duel_jobs (k_of p) a b)) most_total) (list_all is_job (duel_jobs
+    (valid_links (k_of p) a b ratio some_b 1_000_000 (omega arith) (leb-true _ _ few) test) (leb-true _ _ few)
+    online where
+      few : nat_le (length (duel_jobs (k_of p) a b)) (most_jobs One) ≡ true
+      few = (both (nat_le (length (duel_jobs (k_of p) a b)) (most_jobs One))
+          (nat_le (total_value (duel_jobs (k_of p) a b)) (most_total One))
+          (both (nat_le (length (duel_jobs (k_of p) a b)) (most_jobs One)
+          && nat_le (total_value (duel_jobs (k_of p) a b)) (most_total One)) (list_all is_job (duel_jobs
           (k_of p) a b)) test).0).0
 
 one_fits : fits (duel_jobs (k_of 1) 393 100) ≡ true

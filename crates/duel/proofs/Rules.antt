@@ -27,6 +27,7 @@ use Rattle.dover_model.proofs.Prefixes.{step_open, behind_step, behind_after, be
 use Rattle.dover_model.proofs.Prefixes.{come_from, opening_later, later_keeps, over_ticked}
 use Rattle.dover_model.proofs.Valid.{valid_front, Split, split_known}
 use Rattle.dover_model.proofs.Tests.{never}
+use Rattle.dover_model.proofs.Limiting.{jobs_most}
 use Rattle.duel.specs.Game.{IsOnline, AreValid}
 use Rattle.duel.proofs.Duel.{valid_known}
 
@@ -36,7 +37,7 @@ places steps = filter_map tick_of steps
 
 -- the two schedules name the same jobs in the ticks from a clock up to t
 abbrev SameUpTo : (t clock : ℕ) → (ys xs : List ℕ) → Type 0
-SameUpTo t clock ys xs = (i n : ℕ) → clock + i ≤ t → (n ≡ 1_000_000 → ⊥)
+SameUpTo t clock ys xs = (i n : ℕ) → clock + i ≤ t → (n ≡ 4_000_000_000 → ⊥)
     → ((slice_get ys i ≡ Some n) → (slice_get xs i ≡ Some n)) × ((slice_get xs i ≡ Some n) → (slice_get ys i ≡ Some n))
 
 -- what a move of a state adds
@@ -83,12 +84,12 @@ over_idles xs over = find_front [] xs (λ u member. not_running u (over u member
 
 -- the number that runs
 abbrev number : Option Task → ℕ
-number o = elim o [ None ↦ 1_000_000 | Some r ↦ r.number ]
+number o = elim o [ None ↦ 4_000_000_000 | Some r ↦ r.number ]
 
 module _ (J : Instance) (valid : IsValid J) (rules : Rules) (mark t : ℕ) where
   -- where all jobs are over, no more jobs are named
   over_names_none : (xs : List Step) (s : State) → Keeps J s → Each (λ u. is_over u ≡ true) s.tasks
-      → IsSettledRun rules mark s xs → (i n : ℕ) → (n ≡ 1_000_000 → ⊥) → slice_get (places xs) i ≡ Some n → ⊥
+      → IsSettledRun rules mark s xs → (i n : ℕ) → (n ≡ 4_000_000_000 → ⊥) → slice_get (places xs) i ≡ Some n → ⊥
   over_names_none [] s keeps over run i n other named = absurd (cc)
   over_names_none (x ∷ xs) s keeps over run i n other named = tick_named i
       (over_names_none xs (after s (open_step rules s)) (open_kept J valid s keeps rules)
@@ -97,17 +98,17 @@ module _ (J : Instance) (valid : IsValid J) (rules : Rules) (mark t : ℕ) where
         ticks : open_step rules s ≡ Ticks
         ticks = over_rests rules.ratio s Ticks over (open_step rules s) (open_deed J valid s keeps rules)
 
-        first : places (x ∷ xs) ≡ 1_000_000 ∷ places xs
+        first : places (x ∷ xs) ≡ 4_000_000_000 ∷ places xs
         first = ap (λ (z : Step). cons_option (tick_of z) (places xs)) run.0
             ∙ ap (λ m. cons_option (added m (number (find is_running s.tasks))) (places xs)) ticks
             ∙ ap (λ o. number o ∷ places xs) (over_idles s.tasks over)
 
-        tick_named : (i : ℕ) → ((i n : ℕ) → (n ≡ 1_000_000 → ⊥) → slice_get (places xs) i ≡ Some n → ⊥)
-            → slice_get (1_000_000 ∷ places xs) i ≡ Some n → ⊥
+        tick_named : (i : ℕ) → ((i n : ℕ) → (n ≡ 4_000_000_000 → ⊥) → slice_get (places xs) i ≡ Some n → ⊥)
+            → slice_get (4_000_000_000 ∷ places xs) i ≡ Some n → ⊥
         tick_named zero rest here = other (same here) where
-          same : Some 1_000_000 ≡ Some n → n ≡ 1_000_000
+          same : Some 4_000_000_000 ≡ Some n → n ≡ 4_000_000_000
           same e = sym (same_number e) where
-            same_number : Some 1_000_000 ≡ Some n → 1_000_000 ≡ n
+            same_number : Some 4_000_000_000 ≡ Some n → 4_000_000_000 ≡ n
             same_number e = cc
         tick_named (suc i) rest here = rest i n other here
 
@@ -233,8 +234,8 @@ online version k t jobs others valid valid2 same n known = (
   less : 0 + t ≤ t
   less = omega arith
 
-  other : n ≡ 1_000_000 → ⊥
-  other is = omega (arith, is, known, (valid_known version k jobs t valid).count)
+  other : n ≡ 4_000_000_000 → ⊥
+  other is = omega (arith, is, known, (valid_known version k jobs t valid).count, jobs_most version)
 
   here : SameUpTo t 0 (ran (jobs_under version k jobs))
       (places (settled_steps (known_part t (jobs_under version k jobs)) (t + 1)))

@@ -2,6 +2,7 @@
 use Rattle.std.specs.Prelude.{ℕ, zero, suc, ◌+◌, ◌-◌, ◌*◌, ◌/◌, List, [], ◌∷◌, ◌++◌, min, max, Bool, true, false}
 use Rattle.std.specs.Prelude.{nat_lt}
 use Rattle.dover_model.specs.Limits.{most_jobs}
+use Rattle.dover_model.specs.declared.events.Version.TheVariants.{One}
 use Rattle.dover_model.specs.Fraction.{Fraction}
 use Rattle.dover_model.specs.JobFacts.{JobFacts}
 use Rattle.dover_model.specs.Bait.{tight_job}
@@ -45,6 +46,6 @@ abbrev pub first_link : Fraction → (whole part : ℕ) → ℕ × ℕ
 first_link k whole part = (0, whole * k.p / (part * k.q) + 1)
 
 -- The jobs of the duel for a share part/whole. Where the links don't end soon enough these are more jobs than a feed
--- may have.
+-- of version One may have.
 abbrev pub duel_jobs : Fraction → (whole part : ℕ) → List JobFacts
-duel_jobs k whole part = jobs_of_links k whole part most_jobs (first_link k whole part)
+duel_jobs k whole part = jobs_of_links k whole part (most_jobs One) (first_link k whole part)

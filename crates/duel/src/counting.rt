@@ -11,18 +11,15 @@ ghost use Rattle.duel.specs.Kept.{IsShare};
 use crate::coming::{Coming, Next};
 use crate::links::Share;
 use admission::Admission;
-use dover_model::{Job, Ratio};
-
-/// The most jobs that a feed may have.
-const MOST_JOBS: u32 = 1_000_000;
+use dover_model::{Job, Ratio, Version};
 
 /// Admits the job, if it may be.
 fn admit(admission: &mut Admission, job: &Job) -> bool
     ensures admitted { (jobs : List JobFacts) → StandsFor admission.old jobs → result ≡ true →
-        StandsFor admission.new (jobs ++ job.now ∷ []) × (refusal_of admission.old.ratio jobs job.now ≡ None) }
+        StandsFor admission.new (jobs ++ job.now ∷ []) × (refusal_of admission.old.rules jobs job.now ≡ None) }
     ensures refused { (jobs : List JobFacts) → StandsFor admission.old jobs → result ≡ false →
-        refusal_of admission.old.ratio jobs job.now ≡ None → ⊥ }
-    ensures ratio { admission.new.ratio ≡ admission.old.ratio }
+        refusal_of admission.old.rules jobs job.now ≡ None → ⊥ }
+    ensures rules { admission.new.rules ≡ admission.old.rules }
 {
     match admission.check(job.release(), job.work(), job.deadline(), job.value()) {
         Ok(job) => {
@@ -41,8 +38,8 @@ pub(crate) fn job_count(k: Ratio, share: Share) -> Option<u32>
     ensures valid { IsSome result ↔ AreValid One k (duel_jobs k share.whole share.part) }
 {
     let mut coming = Coming::new(k, share);
-    let mut admission = Admission::new(k);
-    while admission.count() <= MOST_JOBS {
+    let mut admission = Admission::new(Version::One, k);
+    while admission.count() <= Version::One.most_jobs() {
         match coming.next_job() {
             Next::Over => return Some(admission.count()),
             Next::TooLarge => return None,

@@ -1,9 +1,10 @@
 //! Laws of on-line schedulers, each the contract of a function that does nothing.
-ghost use Rattle.std.specs.Prelude.{ℕ, List, ◌≤◌, ◌≡◌, [], None};
+ghost use Rattle.std.specs.Prelude.{ℕ, List, ◌≤◌, ◌≡◌, [], None, length};
 ghost use Rattle.dover_model.specs.Bound.{IsWithin};
 ghost use Rattle.dover_model.specs.Fraction.{Fraction};
 ghost use Rattle.dover_model.specs.Instance.{jobs_under};
 ghost use Rattle.dover_model.specs.JobFacts.{JobFacts};
+ghost use Rattle.dover_model.specs.Limits.{most_jobs};
 ghost use Rattle.dover_model.specs.Run.{ran};
 ghost use Rattle.dover_model.specs.Schedules.{worth};
 ghost use Rattle.dover_model.specs.declared.events.Version.{Version};
@@ -30,12 +31,12 @@ pub fn the_rules_save_the_most()
         IsTooMuch k whole part → IsOnline (ArePlain k) scheduler → Loses (ArePlain k) k whole part scheduler }
 {}
 
-/// Where the jobs of the duel for a share are valid, each scheduler that is on-line for valid jobs is worth less than
-/// this share of some schedule on one of their fronts.
+/// Where the jobs of the duel for a share are valid, and no more than version One has, each scheduler that is on-line
+/// for valid jobs is worth less than this share of some schedule on one of their fronts.
 pub fn each_scheduler_loses_on_a_front()
     ensures { (version : Version) (k : Fraction) (whole part : ℕ) (scheduler : Scheduler) → 1 ≤ part
-        → AreValid version k (duel_jobs k whole part) → IsOnline (AreValid version k) scheduler
-        → LosesOnFront k whole part scheduler (duel_jobs k whole part) }
+        → AreValid version k (duel_jobs k whole part) → length (duel_jobs k whole part) ≤ most_jobs One
+        → IsOnline (AreValid version k) scheduler → LosesOnFront k whole part scheduler (duel_jobs k whole part) }
 {}
 
 /// So within the limits none is sure of much more than the rules save: of 100/393 at ratio 1, where they save 100/400;

@@ -6,6 +6,7 @@ use Rattle.std.specs.Prelude.{nat_le, Some, None}
 use Rattle.std.specs.List.{sum_by, count_by, enumerate_from}
 use Rattle.std.proofs.lemmas.Bool.{le-leb, leb-true, ne_eqb, and_parts, cases_lt}
 use Rattle.std.proofs.lemmas.List.{length-drop, length-take}
+use Rattle.dover_model.specs.declared.events.Version.TheVariants.{Two}
 use Rattle.dover_model.specs.Limits.{idle, most_jobs}
 use Rattle.dover_model.specs.JobFacts.{JobFacts}
 use Rattle.dover_model.specs.Schedules.{is_served, ticks_given}
@@ -32,7 +33,7 @@ numbers_below k (j ∷ jobs) n_j (inr member) = let low : n_j.0 < k + 1 + length
     numbers_below (k + 1) jobs n_j member in omega (arith, low)
 
 -- where no job is late, the pieces show it
-pub shows_all : (jobs : List JobFacts) (pieces : List Piece) → length jobs ≤ most_jobs → IsWhole jobs pieces None
+pub shows_all : (jobs : List JobFacts) (pieces : List Piece) → length jobs ≤ most_jobs Two → IsWhole jobs pieces None
     → ShowsAll jobs pieces
 shows_all jobs pieces count it = record {
   meets = λ rules. (spread pieces, serves);

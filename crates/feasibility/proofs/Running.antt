@@ -6,6 +6,7 @@ use Rattle.std.specs.Prelude.{Some, None, slice_get, slice_index_or}
 use Rattle.std.proofs.lemmas.Bool.{cases_lt}
 use Rattle.std.proofs.lemmas.List.Sorted.{length_permutation}
 use Rattle.std.proofs.lemmas.Option.{slice_get_read, slice_get_within}
+use Rattle.dover_model.specs.declared.events.Version.TheVariants.{Two}
 use Rattle.dover_model.specs.Limits.{idle, most_jobs}
 use Rattle.dover_model.specs.JobFacts.{JobFacts}
 use Rattle.dover_model.specs.Instance.{IsInOrder}
@@ -79,7 +80,7 @@ module _ (jobs : List JobFacts) (clock released due n l : ℕ) (kept : List Kept
       first_task.3 in omega arith
 
   -- its number isn't the idle one
-  pub not_idle : length jobs ≤ most_jobs → n ≡ idle → ⊥
+  pub not_idle : length jobs ≤ most_jobs Two → n ≡ idle → ⊥
   not_idle count same =
       let e : n ≡ first_task.0.number = ap (λ (x : Kept). x.0.1) first_task.4 in
       let low : first_task.0.number < length jobs =

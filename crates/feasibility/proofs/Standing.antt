@@ -8,6 +8,7 @@ use Rattle.std.proofs.lemmas.Bool.{le-leb, cases_lt, cases_eq}
 use Rattle.std.proofs.lemmas.List.Sorted.{IsPermutation-sym, sum_by-IsPermutation}
 use Rattle.std.proofs.lemmas.List.Sums.{sum_by-cons}
 use Rattle.std.proofs.lemmas.Option.{slice_get_within}
+use Rattle.dover_model.specs.declared.events.Version.TheVariants.{Two}
 use Rattle.dover_model.specs.Limits.{idle, most_jobs}
 use Rattle.dover_model.specs.JobFacts.{JobFacts, IsJob}
 use Rattle.dover_model.specs.Instance.{IsInOrder}
@@ -452,7 +453,7 @@ next_later jobs clock released kept pieces late s j found = by_task (task_of job
 
 -- the simulation waits for the next release
 pub stands_idle : (jobs : List JobFacts) (clock released : ℕ) (pieces : List Piece) (late : Option ℕ)
-    → length jobs ≤ most_jobs → IsInOrder jobs
+    → length jobs ≤ most_jobs Two → IsInOrder jobs
     → Stands jobs clock released [] pieces late (clock + 1) → (j : JobFacts) → slice_get jobs released ≡ Some j
     → IsJob j
     → Stands jobs j.release released [] pieces late j.release

@@ -1,6 +1,7 @@
 //! The judge of feasibility.
 ghost use Rattle.std.specs.Prelude.{◌≤◌, length, IfOk};
 ghost use Rattle.dover_model.specs.Instance.{IsInOrder};
+ghost use Rattle.dover_model.specs.declared.events.Version.TheVariants.{Two};
 ghost use Rattle.dover_model.specs.Limits.{most_jobs};
 ghost use Rattle.feasibility.specs.Feasibility.{IsAnswer};
 
@@ -30,7 +31,7 @@ use std::alloc::Global;
 /// ```
 pub fn judge_feasible(alloc: Global, jobs: &[Job]) -> Result<Feasible, Memory>
     requires in_order { IsInOrder jobs.now }
-    requires count { length jobs.now ≤ most_jobs }
+    requires count { length jobs.now ≤ most_jobs Two }
     ensures { IfOk result (λ answer. IsAnswer jobs.now answer) }
 {
     let schedule = simulate(alloc, jobs)?;

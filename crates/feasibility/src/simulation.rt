@@ -2,6 +2,7 @@
 ghost use Rattle.std.specs.Prelude.{◌≡◌, ◌+◌, ◌^◌, ◌<◌, ◌≤◌, ◌⊎◌, length, IfOk, OnOk};
 ghost use Rattle.std.specs.Bool.{OnTrue, OnFalse};
 ghost use Rattle.dover_model.specs.Instance.{IsInOrder};
+ghost use Rattle.dover_model.specs.declared.events.Version.TheVariants.{Two};
 ghost use Rattle.dover_model.specs.Limits.{most_jobs};
 ghost use Rattle.feasibility.specs.Progress.{StandsAt, HasFew, IsPending, NoneBefore, RunsUntil, IsWhole, with_late};
 ghost use Rattle.feasibility.specs.Queue.{IsFirst};
@@ -28,7 +29,7 @@ impl Simulation {
     /// Makes the jobs ready that are released by now.
     fn release(&mut self, jobs: &[Job]) -> Result<(), Memory>
         requires order { IsInOrder jobs.now }
-        requires count { length jobs.now ≤ most_jobs }
+        requires count { length jobs.now ≤ most_jobs Two }
         requires stands { StandsAt jobs.now self.old self.old.clock }
         ensures stands { OnOk result (StandsAt jobs.now self.new (self.new.clock + 1)) }
         ensures clock { self.new.clock ≡ self.old.clock }
@@ -64,7 +65,7 @@ impl Simulation {
     /// Runs the job that is due first to its end or to the next release.
     fn run(&mut self, jobs: &[Job], job: DueJob) -> Result<(), Memory>
         requires order { IsInOrder jobs.now }
-        requires count { length jobs.now ≤ most_jobs }
+        requires count { length jobs.now ≤ most_jobs Two }
         requires stands { StandsAt jobs.now self.old (self.old.clock + 1) }
         requires first { IsFirst ((job.deadline, job.number), job.left) self.old.queue.kept }
         ensures stands { OnOk result (StandsAt jobs.now self.new self.new.clock) }
@@ -96,7 +97,7 @@ impl Simulation {
     /// Goes on to the next release or completion. False where there is neither.
     fn step(&mut self, jobs: &[Job]) -> Result<bool, Memory>
         requires order { IsInOrder jobs.now }
-        requires count { length jobs.now ≤ most_jobs }
+        requires count { length jobs.now ≤ most_jobs Two }
         requires stands { StandsAt jobs.now self.old (self.old.clock + 1) }
         requires few { HasFew self.old }
         ensures stands { IfOk result (λ more. OnTrue more (StandsAt jobs.now self.new (self.new.clock + 1))) }
@@ -133,7 +134,7 @@ fn with_late(late: Option<u64>, deadline: u64, done: u64) -> Option<u64>
 /// `Memory` where there is none.
 pub fn simulate(alloc: Global, jobs: &[Job]) -> Result<Simulation, Memory>
     requires order { IsInOrder jobs.now }
-    requires count { length jobs.now ≤ most_jobs }
+    requires count { length jobs.now ≤ most_jobs Two }
     ensures { IfOk result (λ s. IsWhole jobs.now s.pieces.items s.late) }
 {
     let mut simulation = Simulation {

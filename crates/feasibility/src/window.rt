@@ -1,6 +1,7 @@
 //! The window that shows why jobs can't all be served.
 ghost use Rattle.std.specs.Prelude.{◌≡◌, ℕ, ◌≤◌, length};
 ghost use Rattle.dover_model.specs.Instance.{IsInOrder};
+ghost use Rattle.dover_model.specs.declared.events.Version.TheVariants.{Two};
 ghost use Rattle.dover_model.specs.Limits.{most_jobs};
 ghost use Rattle.dover_model.specs.Windows.{IsOverfull, work_inside};
 ghost use Rattle.feasibility.specs.Feasibility.{IsRelease};
@@ -11,7 +12,7 @@ use dover_model::Job;
 /// work.
 pub fn last_start(jobs: &[Job], b: u64) -> u64
     requires order { IsInOrder jobs.now }
-    requires count { length jobs.now ≤ most_jobs }
+    requires count { length jobs.now ≤ most_jobs Two }
     requires some { (a w : ℕ) × IsOverfull jobs.now a b w }
     ensures release { IsRelease jobs.now result }
     ensures overfull { IsOverfull jobs.now result b (work_inside jobs.now result b) }
@@ -32,7 +33,7 @@ pub fn last_start(jobs: &[Job], b: u64) -> u64
 
 /// The work of the jobs that are released at `a` or later and due by `b`.
 pub fn work_inside(jobs: &[Job], a: u64, b: u64) -> u64
-    requires count { length jobs.now ≤ most_jobs }
+    requires count { length jobs.now ≤ most_jobs Two }
     ensures { result ≡ work_inside jobs.now a b }
 {
     let mut work = 0;

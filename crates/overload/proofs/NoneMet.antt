@@ -1,5 +1,5 @@
 -- Stretches, and whether all jobs can be served.
-use Rattle.std.proofs.Common.{◌≡◌, ℕ, ◌≤◌, ◌<◌, List, [], ◌∷◌, inl, inr, refl, ap, subst, sym, cond}
+use Rattle.std.proofs.Common.{◌≡◌, ℕ, ◌≤◌, ◌<◌, List, [], ◌∷◌, inl, inr, refl, ap, subst, cond}
 use Rattle.std.proofs.Common.{Bool, true, false, arith}
 use Rattle.std.specs.Prelude.{◌&&◌, ◌+◌, nat_le, IsTrue}
 use Rattle.std.specs.List.{sum_by, enumerate_from, AllByRecursion}

@@ -2,6 +2,7 @@
 ghost use Rattle.std.specs.Prelude.{◌≡◌, ◌≤◌, ◌<◌, ◌-◌, ◌&&◌, [], cond, false, get_or, length, OnOk, IfOk};
 ghost use Rattle.dover_model.specs.Instance.{IsInOrder, total_value};
 ghost use Rattle.dover_model.specs.JobFacts.{IsJob};
+ghost use Rattle.dover_model.specs.declared.events.Version.TheVariants.{Two};
 ghost use Rattle.dover_model.specs.Limits.{last_tick, most_jobs, most_value};
 ghost use Rattle.dover_model.specs.Sound.{Each};
 ghost use Rattle.dover_model.specs.Windows.{is_inside, work_inside};
@@ -20,7 +21,7 @@ use std::alloc::Global;
 
 /// The sum of the values of these jobs.
 fn total_value(jobs: &[Job]) -> u64
-    requires { length jobs.now ≤ most_jobs }
+    requires { length jobs.now ≤ most_jobs Two }
     ensures is { result ≡ total_value jobs.now }
     ensures jobs { Each IsJob jobs.now }
 {
@@ -58,7 +59,7 @@ fn near(jobs: &[Job], from: u64, until: u64) -> &[Job]
 /// where there are few, out of the sets that may still be looked at.
 fn stretch(alloc: Global, jobs: &[Job], ticks: Ticks, sets: &mut u64) -> Result<Stretch, Memory>
     requires in_order { IsInOrder jobs.now }
-    requires count { length jobs.now ≤ most_jobs }
+    requires count { length jobs.now ≤ most_jobs Two }
     requires each { Each IsJob jobs.now }
     requires some { ticks.from < ticks.until }
     requires due { ticks.until ≤ last_tick }
@@ -91,7 +92,7 @@ impl Costing {
     /// Puts a stretch behind the others.
     fn push(&mut self, alloc: Global, jobs: &[Job], ticks: Ticks) -> Result<(), Memory>
         requires in_order { IsInOrder jobs.now }
-        requires count { length jobs.now ≤ most_jobs }
+        requires count { length jobs.now ≤ most_jobs Two }
         requires each { Each IsJob jobs.now }
         requires costed { HasCosted jobs.now self.old }
         requires later { self.old.at ≤ ticks.from }
@@ -112,7 +113,7 @@ impl Costing {
     /// work.
     fn add(&mut self, alloc: Global, jobs: &[Job], ticks: Ticks) -> Result<(), Memory>
         requires in_order { IsInOrder jobs.now }
-        requires count { length jobs.now ≤ most_jobs }
+        requires count { length jobs.now ≤ most_jobs Two }
         requires each { Each IsJob jobs.now }
         requires costed { HasCosted jobs.now self.old }
         ensures { OnOk result (HasCosted jobs.now self.new) }
@@ -130,7 +131,7 @@ impl Costing {
     /// Makes sure that there is a stretch where the jobs can't all be served.
     fn complete(&mut self, alloc: Global, jobs: &[Job]) -> Result<(), Memory>
         requires in_order { IsInOrder jobs.now }
-        requires count { length jobs.now ≤ most_jobs }
+        requires count { length jobs.now ≤ most_jobs Two }
         requires each { Each IsJob jobs.now }
         requires costed { HasCosted jobs.now self.old }
         ensures costed { OnOk result (HasCosted jobs.now self.new) }
@@ -148,7 +149,7 @@ impl Costing {
     /// Finds the stretches, where some schedule of the jobs has this value. Where that is all, there is none.
     fn find(&mut self, alloc: Global, jobs: &[Job], value: u64) -> Result<(), Memory>
         requires in_order { IsInOrder jobs.now }
-        requires count { length jobs.now ≤ most_jobs }
+        requires count { length jobs.now ≤ most_jobs Two }
         requires each { Each IsJob jobs.now }
         requires costed { HasCosted jobs.now self.old }
         requires value { IsWorth jobs.now value }
@@ -173,7 +174,7 @@ impl Costing {
 /// `Memory` where there is none, and nothing else.
 pub fn cost_of(alloc: Global, jobs: &[Job], value: u64) -> Result<Costed, Memory>
     requires in_order { IsInOrder jobs.now }
-    requires count { length jobs.now ≤ most_jobs }
+    requires count { length jobs.now ≤ most_jobs Two }
     requires value { IsWorth jobs.now value }
     ensures { IfOk result (IsCosted jobs.now) }
 {
@@ -212,7 +213,7 @@ fn value_if(job: &Job, done: bool, from: u64, until: u64) -> u64
 /// What the jobs that are inside some ticks and done are worth, by whether each job is done.
 pub fn value_inside(jobs: &[Job], done: &[bool], from: u64, until: u64) -> u64
     requires in_order { IsInOrder jobs.now }
-    requires count { length jobs.now ≤ most_jobs }
+    requires count { length jobs.now ≤ most_jobs Two }
     requires each { Each IsJob jobs.now }
     ensures { result ≡ value_inside jobs.now (λ n. get_or done.now n false) from until }
 {

@@ -1,6 +1,7 @@
 //! A cap on many jobs, by prices for ticks in layers.
 ghost use Rattle.std.specs.Prelude.{◌≡◌, ◌≤◌, ◌+◌, ◌-◌, ◌*◌, ℕ, List, cond, get_or, length, IsTrue, OnOk, IfOk};
 ghost use Rattle.dover_model.specs.Instance.{IsInOrder, Rules, total_value};
+ghost use Rattle.dover_model.specs.declared.events.Version.TheVariants.{Two};
 ghost use Rattle.dover_model.specs.Limits.{last_tick, most_jobs};
 ghost use Rattle.dover_model.specs.Schedules.{worth};
 ghost use Rattle.dover_model.specs.Windows.{is_inside};
@@ -151,7 +152,7 @@ impl Priced {
 
     /// What no schedule is worth more than, in units of price.
     fn most(&self, jobs: &[Job]) -> u128
-        requires count { length jobs.now ≤ most_jobs }
+        requires count { length jobs.now ≤ most_jobs Two }
         requires priced { HasPriced jobs.now self.now }
         ensures { (rules : Rules) (s : List ℕ) →
             1_000_000_000_000_000 * worth (record { rules = rules; jobs = jobs.now }) s ≤ result }
@@ -181,7 +182,7 @@ fn unpriced(alloc: Global, count: usize) -> Result<Vec<u128>, Memory>
 /// `Memory` where there is none, and nothing else.
 pub(crate) fn cap_by_prices(alloc: Global, jobs: &[Job], total: u64) -> Result<u64, Memory>
     requires in_order { IsInOrder jobs.now }
-    requires count { length jobs.now ≤ most_jobs }
+    requires count { length jobs.now ≤ most_jobs Two }
     requires total { total ≡ total_value jobs.now }
     ensures cap { IfOk result (λ cap. Caps jobs.now cap) }
     ensures less { IfOk result (λ cap. cap ≤ total) }

@@ -13,6 +13,7 @@ use Rattle.dover_model.specs.Fraction.{Fraction, IsRatio}
 use Rattle.dover_model.specs.Instance.{Declaration, IsInOrder, IsWithinRatio, IsValid}
 use Rattle.dover_model.proofs.Valid.{all_from}
 use Rattle.dover_model.proofs.Members.{all_append}
+use Rattle.dover_model.proofs.Limiting.{jobs_least, total_least}
 use Rattle.periodic_tasks.specs.Tasks.{releases, job_at, released_at, jobs_before, count_before, tested_job, unrolled}
 use Rattle.periodic_tasks.specs.Limits.{IsTask, AreTasks, AreWithin, Fits}
 use Rattle.periodic_tasks.specs.declared.task.PeriodicTask.{PeriodicTask}
@@ -139,8 +140,8 @@ unrolled_valid until rules tasks ratio are fits =
       each = all_before IsJob until tasks
           (all_from (IsTask until) (HasEach IsJob until) tasks (λ task it. job_within until task it) are.each);
       in_order = in_order until tasks;
-      count = fits.count;
-      total = fits.total;
+      count = omega (arith, fits.count, jobs_least rules.version);
+      total = omega (arith, fits.total, total_least rules.version);
       densities = all_before (λ i. AllByRecursion (IsWithinRatio k i) jobs) until tasks
           (all_from (λ a. AllByRecursion (AreWithin until k a) tasks)
           (HasEach (λ i. AllByRecursion (IsWithinRatio k i) jobs) until) tasks

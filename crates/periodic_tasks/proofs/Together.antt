@@ -13,7 +13,7 @@ use Rattle.dover_model.proofs.Growing.{all_behind}
 use Rattle.dover_model.proofs.Valid.{all_from}
 use Rattle.dover_model.proofs.Members.{all_both}
 use Rattle.periodic_tasks.specs.Tasks.{tested_job}
-use Rattle.periodic_tasks.specs.Limits.{IsTask, AreWithin, AreTasks}
+use Rattle.periodic_tasks.specs.Limits.{IsTask, AreWithin, AreTasks, task_rules}
 use Rattle.periodic_tasks.specs.declared.task.PeriodicTask.{PeriodicTask}
 
 -- no tasks
@@ -30,11 +30,11 @@ unmapped P until (task ∷ tasks) all = (all.0, unmapped P until tasks all.1)
 -- a task whose tested job is admitted
 pub tasks_more : (until : ℕ) (k : Fraction) (tasks : List PeriodicTask) (task : PeriodicTask) → k.q ≤ k.p
     → AreTasks until k tasks
-    → 1 ≤ task.period → refusal_of k (map (tested_job until) tasks) (tested_job until task) ≡ None
+    → 1 ≤ task.period → refusal_of (task_rules k) (map (tested_job until) tasks) (tested_job until task) ≡ None
     → AreTasks until k (tasks ++ task ∷ [])
 tasks_more until k tasks task above are period none =
-    let it : Admitted k (map (tested_job until) tasks) (tested_job until task) =
-    not_refused k (map (tested_job until) tasks) (tested_job until task) none in
+    let it : Admitted (task_rules k) (map (tested_job until) tasks) (tested_job until task) =
+    not_refused (task_rules k) (map (tested_job until) tasks) (tested_job until task) none in
     let fewer : length (map (tested_job until) tasks) < 1_000_000 = it.count in
     let Both : PeriodicTask → Type 0 = λ a. AreWithin until k a task × AreWithin until k task a in
     let both : AllByRecursion Both tasks =

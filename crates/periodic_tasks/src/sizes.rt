@@ -1,14 +1,14 @@
-//! Whether the jobs of tasks are no more, and worth no more, than a feed may have.
+//! Whether the jobs of tasks are no more, and worth no more, than a feed of version Two may have.
 ghost use Rattle.std.specs.Prelude.{◌≡◌, ◌↔◌, ◌≤◌, IsTrue};
 ghost use Rattle.std.specs.List.{AllByRecursion};
 ghost use Rattle.periodic_tasks.specs.Limits.{Fits, IsTask};
 
 use crate::task::PeriodicTask;
 
-/// How many jobs a feed may have.
+/// How many jobs a feed of version Two may have.
 const MOST_JOBS: u64 = 1_000_000;
 
-/// The greatest sum of the values of all jobs.
+/// The greatest sum of the values of all its jobs.
 const MOST_TOTAL: u64 = 10_000_000_000_000;
 
 /// Whether the jobs that the tasks release before a tick are at most 1,000,000, and worth at most 10^13. It takes a

@@ -3,6 +3,7 @@ ghost use Rattle.std.specs.Prelude.{◌≡◌, ◌≤◌, ◌<◌, ◌^◌, ◌+
 ghost use Rattle.std.specs.Prelude.{slice_index_or, slice_set, IfOk, IfSome, IsNone};
 ghost use Rattle.std.specs.List.{AllByRecursion, count_by};
 ghost use Rattle.dover_model.specs.JobFacts.{JobFacts};
+ghost use Rattle.dover_model.specs.declared.events.Version.TheVariants.{Two};
 ghost use Rattle.dover_model.specs.Limits.{last_tick, most_jobs};
 ghost use Rattle.periodic_tasks.specs.Limits.{IsTask};
 ghost use Rattle.periodic_tasks.specs.Merging.{StandsBehind, kept_release, merge};
@@ -60,7 +61,7 @@ fn first_releases<L: Ledger>(
     until: u64,
     steps: &mut Steps<L>,
 ) -> Result<Heap, Memory>
-    requires few { length tasks.now ≤ most_jobs }
+    requires few { length tasks.now ≤ most_jobs Two }
     requires known { until ≤ last_tick }
     ensures stands { IfOk result (λ next. StandsBehind (merge tasks.now until next) []) }
     ensures count { (d : ℕ) → length tasks.now + 1 < 2 ^ d → steps.new ≤ steps.old + d * length tasks.now }
@@ -113,6 +114,7 @@ impl Unrolling {
     ghost use Rattle.std.specs.Prelude.{IfOk, IfSome, IsNone};
     ghost use Rattle.std.specs.List.{AllByRecursion};
     ghost use Rattle.dover_model.specs.JobFacts.{JobFacts};
+    ghost use Rattle.dover_model.specs.declared.events.Version.TheVariants.{Two};
     ghost use Rattle.dover_model.specs.Limits.{last_tick, most_jobs};
     ghost use Rattle.periodic_tasks.specs.Limits.{IsTask};
     ghost use Rattle.periodic_tasks.specs.Merging.{StandsBehind};
@@ -129,7 +131,7 @@ impl Unrolling {
         until: u64,
         steps: &mut Steps<L>,
     ) -> Result<Unrolling, Memory>
-        requires few { length tasks.items ≤ most_jobs }
+        requires few { length tasks.items ≤ most_jobs Two }
         requires known { until ≤ last_tick }
         ensures stands { IfOk result (λ u. StandsBehind u []) }
         ensures tasks { IfOk result (λ u. u.tasks ≡ tasks.items) }

@@ -49,15 +49,15 @@ each_given P n tasks all =
 module _ (picks : Picks) (idles : picks [] ≡ None) where
   -- behind all deadlines nothing is picked
   none_behind : (ticks t : ℕ) (tasks : List Task) → Each (λ task. task.job.deadline ≤ t) tasks
-      → seen picks ticks t tasks ≡ 1_000_000
+      → seen picks ticks t tasks ≡ 4_000_000_000
   none_behind zero t tasks over =
-      ap (λ ready. unwrap_or (picks (map entry_of ready)) 1_000_000)
+      ap (λ ready. unwrap_or (picks (map entry_of ready)) 4_000_000_000)
       (none_ready t tasks (λ task m ready.
       let says : (task.job.release ≤ t) × (0 < left task) × (t + left task ≤ task.job.deadline) =
       ready_says t task ready in
       let due : task.job.deadline ≤ t = over task m in
       let some : 0 < left task = says.1 in let fits : t + left task ≤ task.job.deadline = says.2 in omega arith))
-      ∙ ap (λ o. unwrap_or o 1_000_000) idles
+      ∙ ap (λ o. unwrap_or o 4_000_000_000) idles
   none_behind (suc ticks) t tasks over = none_behind ticks (t + 1) (map (given (picked picks t tasks)) tasks)
       (each_given (λ j. j.deadline ≤ t + 1) (picked picks t tasks) tasks
       (λ task m. let due : task.job.deadline ≤ t = over task m in omega arith))
@@ -65,7 +65,7 @@ module _ (picks : Picks) (idles : picks [] ≡ None) where
   -- jobs that are released later change nothing of what is picked before
   unseen : (t last : ℕ) (known later : List Task) → t ≤ last → Each (λ task. last < task.job.release) later
       → picked picks t (known ++ later) ≡ picked picks t known
-  unseen t last known later early late = ap (λ ready. unwrap_or (picks (map entry_of ready)) 1_000_000)
+  unseen t last known later early late = ap (λ ready. unwrap_or (picks (map entry_of ready)) 4_000_000_000)
       (filter-append (is_ready t) known later
       ∙ ap (λ rest. filter (is_ready t) known ++ rest)
       (none_ready t later (λ task m ready.
@@ -77,12 +77,12 @@ module _ (picks : Picks) (idles : picks [] ≡ None) where
   alone : (last ticks n t : ℕ) (known later : List Task) → t + ticks ≤ last
       → Each (λ task. last < task.job.release) later
       → Each (λ task. task.job.deadline ≤ t + n) known
-      → get_or (policy_run_from picks n t (known ++ later)) ticks 1_000_000 ≡ seen picks ticks t known
+      → get_or (policy_run_from picks n t (known ++ later)) ticks 4_000_000_000 ≡ seen picks ticks t known
   alone last ticks zero t known later early late due =
       sym (none_behind ticks t known (λ task m. let at_most : task.job.deadline ≤ t + 0 = due task m in omega arith))
   alone last zero (suc n) t known later early late due = unseen t last known later (omega arith) late
   alone last (suc ticks) (suc n) t known later early late due =
-      ap (λ tasks. get_or (policy_run_from picks n (t + 1) tasks) ticks 1_000_000)
+      ap (λ tasks. get_or (policy_run_from picks n (t + 1) tasks) ticks 4_000_000_000)
       (ap (λ m. map (given m) (known ++ later)) same ∙ map-append (given number) known later)
       ∙ alone last ticks n (t + 1) (map (given number) known) (map (given number) later) (omega arith)
       (each_given (λ j. last < j.release) number later late)
@@ -121,9 +121,9 @@ each_come P n (j ∷ jobs) all task (inr member) = each_come P (suc n) jobs (λ 
 module _ (picks : Picks) (idles : picks [] ≡ None) (t : ℕ) where
   -- what is picked at a tick, from the jobs that are known then
   pub by_known : (jobs : List JobFacts) → IsInOrder jobs → (tick : ℕ) → tick ≤ t
-      → get_or (policy_run picks jobs) tick 1_000_000 ≡ seen picks tick 0 (to_come 0 (known_at t jobs))
+      → get_or (policy_run picks jobs) tick 4_000_000_000 ≡ seen picks tick 0 (to_come 0 (known_at t jobs))
   by_known jobs order tick early =
-      ap (λ tasks. get_or (policy_run_from picks (last_deadline jobs) 0 tasks) tick 1_000_000)
+      ap (λ tasks. get_or (policy_run_from picks (last_deadline jobs) 0 tasks) tick 4_000_000_000)
       (ap (to_come 0) parts.whole ∙ come_append 0 (known_at t jobs) parts.more)
       ∙ alone picks idles t tick (last_deadline jobs) 0 (to_come 0 (known_at t jobs))
       (to_come (0 + length (known_at t jobs)) parts.more) (omega arith)
@@ -140,7 +140,7 @@ module _ (picks : Picks) (idles : picks [] ≡ None) (t : ℕ) where
 pub on_line : (picks : Picks) (t : ℕ) (jobs others : List JobFacts) → picks [] ≡ None → IsInOrder jobs
     → IsInOrder others
     → known_at t jobs ≡ known_at t others → (tick : ℕ) → tick ≤ t
-    → get_or (policy_run picks jobs) tick 1_000_000 ≡ get_or (policy_run picks others) tick 1_000_000
+    → get_or (policy_run picks jobs) tick 4_000_000_000 ≡ get_or (policy_run picks others) tick 4_000_000_000
 on_line picks t jobs others idles order order2 same tick early =
     by_known picks idles t jobs order tick early ∙ ap (λ known. seen picks tick 0 (to_come 0 known)) same
     ∙ sym (by_known picks idles t others order2 tick early)

@@ -22,16 +22,16 @@ dense = refl
 
 -- ticks before, between and behind jobs are idle
 by_deadline : policy_run earliest_deadline (job 1 2 4 2 ∷ job 1 3 9 6 ∷ job 3 2 5 5 ∷ job 9 1 10 1 ∷ [])
-    ≡ 1_000_000 ∷ 0 ∷ 0 ∷ 2 ∷ 2 ∷ 1 ∷ 1 ∷ 1 ∷ 1_000_000 ∷ 3 ∷ []
+    ≡ 4_000_000_000 ∷ 0 ∷ 0 ∷ 2 ∷ 2 ∷ 1 ∷ 1 ∷ 1 ∷ 4_000_000_000 ∷ 3 ∷ []
 by_deadline = refl
 
 -- the denser job runs, and then the others are late
 by_density : policy_run greatest_density (job 1 2 4 2 ∷ job 1 3 9 6 ∷ job 3 2 5 5 ∷ job 9 1 10 1 ∷ [])
-    ≡ 1_000_000 ∷ 1 ∷ 1 ∷ 1 ∷ 1_000_000 ∷ 1_000_000 ∷ 1_000_000 ∷ 1_000_000 ∷ 1_000_000 ∷ 3 ∷ []
+    ≡ 4_000_000_000 ∷ 1 ∷ 1 ∷ 1 ∷ 4_000_000_000 ∷ 4_000_000_000 ∷ 4_000_000_000 ∷ 4_000_000_000 ∷ 4_000_000_000 ∷ 3 ∷ []
 by_density = refl
 
 -- of jobs of one deadline, and of one density, the first runs
-equal_deadlines : policy_run earliest_deadline (job 0 1 3 1 ∷ job 0 1 3 1 ∷ []) ≡ 0 ∷ 1 ∷ 1_000_000 ∷ []
+equal_deadlines : policy_run earliest_deadline (job 0 1 3 1 ∷ job 0 1 3 1 ∷ []) ≡ 0 ∷ 1 ∷ 4_000_000_000 ∷ []
 equal_deadlines = refl
 
 equal_densities : policy_run greatest_density (job 0 1 3 2 ∷ job 0 2 3 4 ∷ []) ≡ 0 ∷ 1 ∷ 1 ∷ []

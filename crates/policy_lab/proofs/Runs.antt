@@ -97,9 +97,9 @@ module _ (picks : Picks) (jobs : List JobFacts) where
       ready : List Entry
       ready = map entry_of (filter (is_ready t) tasks)
 
-      by_pick : (o : Option ℕ) → picks ready ≡ o → IsPick ready o → Fits (unwrap_or o 1_000_000) t tasks
+      by_pick : (o : Option ℕ) → picks ready ≡ o → IsPick ready o → Fits (unwrap_or o 4_000_000_000) t tasks
       by_pick None e none task member same =
-          let idle : task.number ≡ 1_000_000 = eqb-true task.number 1_000_000 same in
+          let idle : task.number ≡ 4_000_000_000 = eqb-true task.number 4_000_000_000 same in
           let low : task.number < 10_000 = low_numbers t task member in absurd (omega arith)
       by_pick (Some n) e one task member same =
           let it = number_ready t n tasks one in

@@ -77,34 +77,35 @@ both_ends t m u n (piece ∷ next ∷ pieces) = by_test ((piece.number == m) && 
   by_test false apart = with_tick_is t m piece (extended u n (next ∷ pieces)) false apart
 
 -- a tick of a job behind a schedule
-stretches_more : (n t u : ℕ) (s : List ℕ) → eqb n 1_000_000 ≡ false → u ≡ t + length s
+stretches_more : (n t u : ℕ) (s : List ℕ) → eqb n 4_000_000_000 ≡ false → u ≡ t + length s
     → stretches_from t (s ++ (n ∷ [])) ≡ extended u n (stretches_from t s)
 stretches_more n t u [] busy at = ap (λ b. cond b [] (tick_piece t n ∷ [])) busy
     ∙ ap (λ v. tick_piece v n ∷ []) (let e : t ≡ u = omega arith in e)
-stretches_more n t u (m ∷ s) busy at = by_test (eqb m 1_000_000) (stretches_more n (t + 1) u s busy (omega arith)) where
-  by_test : (b : Bool) → stretches_from (t + 1) (s ++ (n ∷ [])) ≡ extended u n (stretches_from (t + 1) s)
-      → cond b (stretches_from (t + 1) (s ++ (n ∷ []))) (with_tick t m (stretches_from (t + 1) (s ++ (n ∷ []))))
-      ≡ extended u n (cond b (stretches_from (t + 1) s) (with_tick t m (stretches_from (t + 1) s)))
-  by_test true rest = rest
-  by_test false rest = ap (with_tick t m) rest ∙ both_ends t m u n (stretches_from (t + 1) s)
+stretches_more n t u (m ∷ s) busy at =
+    by_test (eqb m 4_000_000_000) (stretches_more n (t + 1) u s busy (omega arith)) where
+      by_test : (b : Bool) → stretches_from (t + 1) (s ++ (n ∷ [])) ≡ extended u n (stretches_from (t + 1) s)
+          → cond b (stretches_from (t + 1) (s ++ (n ∷ []))) (with_tick t m (stretches_from (t + 1) (s ++ (n ∷ []))))
+          ≡ extended u n (cond b (stretches_from (t + 1) s) (with_tick t m (stretches_from (t + 1) s)))
+      by_test true rest = rest
+      by_test false rest = ap (with_tick t m) rest ∙ both_ends t m u n (stretches_from (t + 1) s)
 
 -- an idle tick behind it
-idle_more : (t : ℕ) (s : List ℕ) → stretches_from t (s ++ (1_000_000 ∷ [])) ≡ stretches_from t s
+idle_more : (t : ℕ) (s : List ℕ) → stretches_from t (s ++ (4_000_000_000 ∷ [])) ≡ stretches_from t s
 idle_more t [] = refl
-idle_more t (m ∷ s) = by_test (eqb m 1_000_000) (idle_more (t + 1) s) where
-  by_test : (b : Bool) → stretches_from (t + 1) (s ++ (1_000_000 ∷ [])) ≡ stretches_from (t + 1) s
-      → cond b (stretches_from (t + 1) (s ++ (1_000_000 ∷ [])))
-      (with_tick t m (stretches_from (t + 1) (s ++ (1_000_000 ∷ []))))
+idle_more t (m ∷ s) = by_test (eqb m 4_000_000_000) (idle_more (t + 1) s) where
+  by_test : (b : Bool) → stretches_from (t + 1) (s ++ (4_000_000_000 ∷ [])) ≡ stretches_from (t + 1) s
+      → cond b (stretches_from (t + 1) (s ++ (4_000_000_000 ∷ [])))
+      (with_tick t m (stretches_from (t + 1) (s ++ (4_000_000_000 ∷ []))))
       ≡ cond b (stretches_from (t + 1) s) (with_tick t m (stretches_from (t + 1) s))
   by_test true rest = rest
   by_test false rest = ap (with_tick t m) rest
 
-pub stretches_idle : (s : List ℕ) → stretches (s ++ (1_000_000 ∷ [])) ≡ stretches s
+pub stretches_idle : (s : List ℕ) → stretches (s ++ (4_000_000_000 ∷ [])) ≡ stretches s
 stretches_idle s = idle_more 0 s
 
-pub stretches_busy : (n u : ℕ) (s : List ℕ) → (n ≡ 1_000_000 → ⊥) → length s ≡ u
+pub stretches_busy : (n u : ℕ) (s : List ℕ) → (n ≡ 4_000_000_000 → ⊥) → length s ≡ u
     → stretches (s ++ (n ∷ [])) ≡ extended u n (stretches s)
-stretches_busy n u s busy at = stretches_more n 0 u s (ne_eqb n 1_000_000 busy) (omega arith)
+stretches_busy n u s busy at = stretches_more n 0 u s (ne_eqb n 4_000_000_000 busy) (omega arith)
 
 -- ---- the last stretch, in its place
 
@@ -145,7 +146,7 @@ stays_behind t n (suc i) (piece ∷ next ∷ pieces) at other =
 pub grown : (t n len : ℕ) (shown pieces : List Piece) (last : Piece) (s : List ℕ) → shown ≡ pieces → len ≡ length pieces
     → true ≡ option_map_or (goes_on t n) (slice_get shown (length shown - 1)) false
     → last ≡ get_or pieces (len - 1) last
-    → (n ≡ 1_000_000 → ⊥) → length s ≡ t → pieces ≡ stretches s
+    → (n ≡ 4_000_000_000 → ⊥) → length s ≡ t → pieces ≡ stretches s
     → set pieces (len - 1) (record last { until = t + 1 }) ≡ stretches (s ++ (n ∷ []))
 grown t n len shown pieces last s same long on at busy clock is =
     let here : goes_on_at t n (len - 1) pieces ≡ true = ap (λ m. goes_on_at t n (m - 1) pieces) long
@@ -157,7 +158,7 @@ grown t n len shown pieces last s same long on at busy clock is =
 -- or one more begins
 pub begun : (t n : ℕ) (shown pieces : List Piece) (s : List ℕ) → shown ≡ pieces
     → false ≡ option_map_or (goes_on t n) (slice_get shown (length shown - 1)) false
-    → (n ≡ 1_000_000 → ⊥) → length s ≡ t → pieces ≡ stretches s
+    → (n ≡ 4_000_000_000 → ⊥) → length s ≡ t → pieces ≡ stretches s
     → pieces ++ (tick_piece t n ∷ []) ≡ stretches (s ++ (n ∷ []))
 begun t n shown pieces s same other busy clock is =
     stays_behind t n (length pieces - 1) pieces refl (sym (other ∙ ap (λ ps. goes_on_at t n (length ps - 1) ps) same))

@@ -89,8 +89,8 @@ module _ (picks : Picks) (policy : IsPolicy picks) (jobs : List JobFacts) (good 
         (omega arith, omega arith)))
 
     -- what the policy answers is what is picked
-    pub is_picked : (o : Option ℕ) → o ≡ picks entries → unwrap_or o 1_000_000 ≡ n
-    is_picked o answer = ap (λ x. unwrap_or x 1_000_000) (answer ∙ ap picks entries_are)
+    pub is_picked : (o : Option ℕ) → o ≡ picks entries → unwrap_or o 4_000_000_000 ≡ n
+    is_picked o answer = ap (λ x. unwrap_or x 4_000_000_000) (answer ∙ ap picks entries_are)
 
     -- a picked number is that of a job
     pub is_low : (m : ℕ) → IsMember m (map number_of entries) → m < 10_000

@@ -2,6 +2,7 @@
 ghost use Rattle.std.specs.Prelude.{◌≡◌, ◌≢◌, ◌≤◌, ◌<◌, ◌+◌, ◌-◌, ℕ, List, [], ◌∷◌, ◌++◌, length, drop, slice_get};
 ghost use Rattle.std.specs.Prelude.{false, IfOk, OnOk};
 ghost use Rattle.std.specs.Option.{option_map_or};
+ghost use Rattle.dover_model.specs.declared.events.Version.TheVariants.{Two};
 ghost use Rattle.dover_model.specs.Limits.{idle, most_total};
 ghost use Rattle.dover_model.specs.JobFacts.{IsJob};
 ghost use Rattle.dover_model.specs.Instance.{IsInOrder, total_value};
@@ -101,7 +102,7 @@ impl Bench {
         requires in_order { IsInOrder jobs.now }
         requires each { Each IsJob jobs.now }
         requires count { length jobs.now ≤ 10_000 }
-        requires total { total_value jobs.now ≤ most_total }
+        requires total { total_value jobs.now ≤ most_total Two }
         requires tick { tick < 100_000 }
         requires run { HasRun (P.picks policy.now) jobs.now tick self.old.released self.old.value self.old.ready.items
             self.old.pieces.items }
@@ -134,7 +135,7 @@ pub fn run_ticks<P: Policy>(
     requires in_order { IsInOrder jobs.now }
     requires each { Each IsJob jobs.now }
     requires count { length jobs.now ≤ 10_000 }
-    requires total { total_value jobs.now ≤ most_total }
+    requires total { total_value jobs.now ≤ most_total Two }
     requires ticks { ticks ≤ 100_000 }
     ensures value { IfOk result (λ outcome. outcome.0 ≡ served_value (tasks_at (P.picks policy.now) jobs.now ticks)) }
     ensures pieces { IfOk result

@@ -1,5 +1,6 @@
 //! A policy's run over a list of jobs.
 ghost use Rattle.std.specs.Prelude.{◌≡◌, ◌≤◌, ◌↔◌, IfOk, IsTrue};
+ghost use Rattle.dover_model.specs.declared.events.Version.TheVariants.{Two};
 ghost use Rattle.dover_model.specs.Limits.{most_total};
 ghost use Rattle.dover_model.specs.Instance.{Rules, IsInOrder, total_value};
 ghost use Rattle.dover_model.specs.Schedules.{worth};
@@ -54,7 +55,7 @@ pub fn are_too_large(jobs: &[Job]) -> bool
 /// there is none, and nothing else.
 pub fn run_policy<P: Policy>(alloc: Global, policy: &P, jobs: &[Job]) -> Result<Outcome, LabFault>
     requires in_order { IsInOrder jobs.now }
-    requires total { total_value jobs.now ≤ most_total }
+    requires total { total_value jobs.now ≤ most_total Two }
     ensures too_large { (result ≡ Err LabFault.TooLarge) ↔ AreTooLarge jobs.now }
     ensures value { (rules : Rules) → IfOk result (λ outcome.
         outcome.value ≡ worth (record { rules = rules; jobs = jobs.now }) (policy_run (P.picks policy.now) jobs.now)) }

@@ -1,6 +1,7 @@
 //! Passes over the jobs, and over the entries of those that are ready.
 ghost use Rattle.std.specs.Prelude.{◌≡◌, ◌≤◌, ◌<◌, ◌+◌, ◌^◌, map};
 ghost use Rattle.std.specs.List.{filter};
+ghost use Rattle.dover_model.specs.declared.events.Version.TheVariants.{Two};
 ghost use Rattle.dover_model.specs.Limits.{most_total};
 ghost use Rattle.dover_model.specs.JobFacts.{IsJob};
 ghost use Rattle.dover_model.specs.Run.{last_deadline};
@@ -63,7 +64,7 @@ pub fn give(number: u32, ready: &mut Vec<Entry>)
 
 /// The sum of the values of those that have no work left.
 pub fn spent_value(ready: &[Entry]) -> u64
-    requires { spent_value ready.now ≤ most_total }
+    requires { spent_value ready.now ≤ most_total Two }
     ensures { result ≡ spent_value ready.now }
 {
     let mut value = 0;

@@ -3,8 +3,9 @@ use Rattle.std.proofs.Common.{◌≡◌, ◌≤◌, ℕ, List, [], sym, ap, ◌�
 use Rattle.std.proofs.Common.{Bool, false}
 use Rattle.dover_model.proofs.Tests.{never}
 use Rattle.dover_model.specs.Bound.{bound}
-use Rattle.dover_model.specs.Instance.{Instance, IsValid}
+use Rattle.dover_model.specs.Instance.{Instance, IsListable, IsValid}
 use Rattle.dover_model.specs.JobFacts.{JobFacts}
+use Rattle.dover_model.specs.declared.events.Version.TheVariants.{Two}
 use Rattle.dover_model.specs.Limits.{most_total}
 use Rattle.dover_model.specs.Observed.{observed}
 use Rattle.dover_model.specs.Run.{completed_value}
@@ -12,6 +13,7 @@ use Rattle.dover_model.specs.Schedules.{worth}
 use Rattle.dover_model.proofs.Agreement.{is_within-agrees}
 use Rattle.dover_model.proofs.BoundLaws as laws
 use Rattle.dover_model.proofs.GreatestLaws.{bound-is}
+use Rattle.dover_model.proofs.Limiting.{total_most}
 use Rattle.dover_port.specs.declared.status.Status.TheVariants.{Done}
 use Rattle.policy_lab.specs.PolicyRun.{policy_run, AreTooLarge}
 use Rattle.policy_lab.specs.Standard.{earliest_deadline, greatest_density}
@@ -25,16 +27,17 @@ not_large jobs others same large tells fails are = never (sym fails ∙ tells.1 
 
 module _ (J : Instance) (valid : IsValid J) where
   -- the run completes no more than all values
-  completed_low : completed_value J ≤ most_total
-  completed_low = omega (arith, laws.intervals_abandon J valid, valid.total)
+  completed_low : IsListable J → completed_value J ≤ most_total Two
+  completed_low listable = omega (arith, laws.intervals_abandon J valid, listable.total)
 
   -- nor does what was computed
-  pub value_low : (value : ℕ) → value ≡ completed_value J → value ≤ most_total
-  value_low value is = subst (λ v. v ≤ most_total) (sym is) completed_low
+  pub value_low : IsListable J → (value : ℕ) → value ≡ completed_value J → value ≤ most_total Two
+  value_low listable value is = subst (λ v. v ≤ most_total Two) (sym is) (completed_low listable)
 
   -- no schedule of the jobs as the run observed them is worth more than the bound
   pub worth_low : (s : List ℕ) → worth (observed J) s ≤ bound J.rules.ratio (completed_value J)
-  worth_low s = (bound-is J.rules.ratio (completed_value J) valid.ratio (omega (arith, completed_low))).greatest
+  worth_low s = (bound-is J.rules.ratio (completed_value J) valid.ratio
+      (omega (arith, laws.intervals_abandon J valid, valid.total, total_most J.rules.version))).greatest
       (worth (observed J) s)
       ((is_within-agrees J.rules.ratio (worth (observed J) s) (completed_value J)).1 (laws.observed_bound J s valid))
 

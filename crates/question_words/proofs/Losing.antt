@@ -5,7 +5,7 @@ use Rattle.std.proofs.Common.{cond, arith}
 use Rattle.std.specs.Prelude.{◌&&◌}
 use Rattle.std.specs.List.{sum_by}
 use Rattle.dover_model.specs.Bound.{bound}
-use Rattle.dover_model.specs.Instance.{Instance, IsValid, total_value}
+use Rattle.dover_model.specs.Instance.{Instance, IsListable, IsValid, total_value}
 use Rattle.dover_model.specs.JobFacts.{JobFacts}
 use Rattle.dover_model.specs.Observed.{observed}
 use Rattle.dover_model.specs.Run.{completed_value, ran}
@@ -70,32 +70,35 @@ module _ (J : Instance) (valid : IsValid J) (costed : Costed) where
       ∙ ap (map (row_of (observed J).jobs (is_completed J))) are
 
   -- these numbers and rows are what is said
-  pub lost : (jobs : List JobFacts) → jobs ≡ (observed J).jobs → IsCosted jobs costed → (value most : ℕ)
+  pub lost : IsListable J → (jobs : List JobFacts) → jobs ≡ (observed J).jobs → IsCosted jobs costed → (value most : ℕ)
       → value ≡ completed_value J → most ≡ bound J.rules.ratio value → (rows : List StretchRow)
       → rows ≡ map (row_of (observed J).jobs (is_completed J)) costed.stretches.items → (text : List ℕ)
       → text ≡ four (codes "total") (codes "value") (codes "ceiling") (codes "bound") costed.total value costed.cap most
       (stretch_lines rows)
       → SaysLoss J Done text
-  lost jobs same found value most run is rows are text written =
+  lost listable jobs same found value most run is rows are text written =
       let it : IsCosted (observed J).jobs costed = subst (λ js. IsCosted js costed) same found in (
-        costed,
-        record {
-          costed = it;
-          above = subst (λ v. v ≤ costed.cap) (observed_honest J valid) (it.most J.rules (ran J));
-          each = λ x member. value_below J valid x ((it.each x member).cap);
-          all = λ none. it.sum
-              ∙ ap (λ xs. value_outside (observed J).jobs xs + sum_by (λ (x : Stretch). x.cap) xs) none
-              ∙ (let e : total_value (observed J).jobs + 0 ≡ total_value (observed J).jobs = omega arith in e)
-              ∙ observed_total J valid;
-          none_lost = λ plain none. all_value J valid
-              (subst Meets (observed_all J valid plain) (it.none.0 none J.rules));
-        },
-        written ∙ ap (λ rs. four (codes "total") (codes "value") (codes "ceiling") (codes "bound") costed.total value
-            costed.cap most (stretch_lines rs)) are
-            ∙ four_same (codes "total") (codes "value") (codes "ceiling")
-            (codes "bound") costed.total value costed.cap most
-            (total_value J.jobs) (completed_value J) costed.cap (bound J.rules.ratio (completed_value J))
-            (stretch_lines (map (row_of (observed J).jobs (is_completed J)) costed.stretches.items))
-            (it.total ∙ observed_total J valid) run refl
-            (is ∙ ap (bound J.rules.ratio) run),
+        listable,
+        (
+          costed,
+          record {
+            costed = it;
+            above = subst (λ v. v ≤ costed.cap) (observed_honest J valid) (it.most J.rules (ran J));
+            each = λ x member. value_below J valid x ((it.each x member).cap);
+            all = λ none. it.sum
+                ∙ ap (λ xs. value_outside (observed J).jobs xs + sum_by (λ (x : Stretch). x.cap) xs) none
+                ∙ (let e : total_value (observed J).jobs + 0 ≡ total_value (observed J).jobs = omega arith in e)
+                ∙ observed_total J valid;
+            none_lost = λ plain none. all_value J valid
+                (subst Meets (observed_all J valid plain) (it.none.0 none J.rules));
+          },
+          written ∙ ap (λ rs. four (codes "total") (codes "value") (codes "ceiling") (codes "bound") costed.total value
+              costed.cap most (stretch_lines rs)) are
+              ∙ four_same (codes "total") (codes "value") (codes "ceiling")
+              (codes "bound") costed.total value costed.cap most
+              (total_value J.jobs) (completed_value J) costed.cap (bound J.rules.ratio (completed_value J))
+              (stretch_lines (map (row_of (observed J).jobs (is_completed J)) costed.stretches.items))
+              (it.total ∙ observed_total J valid) run refl
+              (is ∙ ap (bound J.rules.ratio) run),
+        ),
       )

@@ -2,7 +2,7 @@
 use Rattle.std.specs.Prelude.{◌≡◌, ◌≤◌, ℕ, List, [], ◌∷◌, map, codes, Bool, false, ◌==◌}
 use Rattle.std.specs.List.{list_any}
 use Rattle.dover_model.specs.Bound.{bound}
-use Rattle.dover_model.specs.Instance.{Instance, total_value}
+use Rattle.dover_model.specs.Instance.{Instance, IsListable, total_value}
 use Rattle.dover_model.specs.JobFacts.{JobFacts}
 use Rattle.dover_model.specs.Lines.{with_numbers, in_lines}
 use Rattle.dover_model.specs.Observed.{observed}
@@ -11,10 +11,11 @@ use Rattle.dover_model.specs.Sound.{Each}
 use Rattle.dover_model.specs.declared.events.Event.{Event}
 use Rattle.dover_model.specs.declared.events.Event.TheVariants.{Complete}
 use Rattle.dover_port.specs.declared.status.Status.{Status}
-use Rattle.dover_port.specs.declared.status.Status.TheVariants.{Done}
+use Rattle.dover_port.specs.declared.status.Status.TheVariants.{Done, Refused}
 use Rattle.overload.specs.Stretches.{IsCosted, value_inside}
 use Rattle.overload.specs.declared.stretch.Costed.{Costed}
 use Rattle.overload.specs.declared.stretch.Stretch.{Stretch}
+use Rattle.dialogue.specs.Sizes.{size_text}
 use Rattle.question_words.specs.Texts.{stretch_lines}
 use Rattle.question_words.specs.declared.answer.StretchRow.{StretchRow}
 
@@ -57,7 +58,9 @@ pub record IsCeiling (J : Instance) (it : Costed) : Type 0 where
   pub all : it.stretches.items ≡ [] → it.cap ≡ total_value J.jobs
   pub none_lost : J.rules.finishes ≡ [] → it.stretches.items ≡ [] → completed_value J ≡ total_value J.jobs
 
--- Done with some stretches that show a ceiling
+-- Done with some stretches that show a ceiling, and Refused exactly where the jobs are more, or worth more, than those
+-- of version Two may be
 abbrev pub SaysLoss : Instance → Status → List ℕ → Type 0
-SaysLoss J Done text = (costed : Costed) × IsCeiling J costed × (text ≡ loss_text J costed)
+SaysLoss J Done text = IsListable J × ((costed : Costed) × IsCeiling J costed × (text ≡ loss_text J costed))
+SaysLoss J Refused text = (IsListable J → ⊥) × (text ≡ size_text)
 SaysLoss J _ text = ⊥

@@ -1,6 +1,6 @@
 //! What a run completes.
 ghost use Rattle.std.specs.Prelude.{◌≡◌, ◌<◌, ℕ, [], IfOk, length, get_or, set, false, true};
-ghost use Rattle.dover_model.specs.Instance.{IsValid};
+ghost use Rattle.dover_model.specs.Instance.{IsListable, IsValid};
 ghost use Rattle.dover_model.specs.Run.{completed_value};
 ghost use Rattle.question_words.specs.Replaying.{bare_instance};
 ghost use Rattle.dover_model.specs.Spending.{CostsAtMost};
@@ -60,7 +60,7 @@ pub(crate) fn completed<L: Ledger>(
     Ok(end.value)
 }
 
-/// The most jobs of a feed.
+/// The most jobs of a feed of version Two.
 const MOST_JOBS: usize = 1_000_000;
 
 /// The value that the End of a run names, 0 before it, and by its number whether a job is completed.
@@ -126,7 +126,8 @@ pub(crate) fn completed_jobs<L: Ledger>(
     listed: &Listed,
     steps: &mut Steps<L>,
 ) -> Result<Completion, Memory>
-    requires { IsValid (bare_instance listed.now) }
+    requires valid { IsValid (bare_instance listed.now) }
+    requires listable { IsListable (bare_instance listed.now) }
     ensures value { IfOk result (λ it. it.value ≡ completed_value (bare_instance listed.now)) }
     ensures done { IfOk result (λ it. (n : ℕ) → n < length listed.now.jobs.items →
         get_or it.done.items n false ≡ is_completed (bare_instance listed.now) n) }

@@ -7,6 +7,7 @@ ghost use Rattle.question_words.specs.Feasible.{SaysFeasible};
 ghost use Rattle.question_words.specs.Texts.{text_of};
 
 use crate::answer::{Answer, Rows};
+use crate::limits::is_listable;
 use dover_model::Memory;
 use dover_port::Status;
 use event_feed::Listed;
@@ -16,12 +17,16 @@ use line_text::BackLine;
 use std::alloc::Global;
 
 /// Judges the jobs as they were declared, and says the schedule by earliest deadline, in stretches of one job, or a
-/// window in which the jobs have more work than it has ticks. Memory is taken for the schedule.
+/// window in which the jobs have more work than it has ticks. Jobs beyond the limits of version Two are refused. Memory
+/// is taken for the schedule.
 pub(crate) fn answer(alloc: Global, listed: &Listed) -> Result<Answer, Memory>
     requires { IsValid (listed_instance listed.now) }
     ensures says { IfOk result (λ answer. SaysFeasible (listed_instance listed.now) answer.status (text_of answer)) }
     ensures ends { IfOk result (λ answer. IsFinal answer.status) }
 {
+    if !is_listable(listed) {
+        return Ok(Answer::refused(alloc, b"refused size"));
+    }
     let mut head = BackLine::new();
     match judge_feasible(alloc, &listed.jobs)? {
         Feasible::All { pieces } => {

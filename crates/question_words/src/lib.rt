@@ -7,6 +7,7 @@ mod best;
 mod compare;
 mod completing;
 mod feasible;
+mod limits;
 mod loss;
 mod observing;
 mod question;

@@ -2,6 +2,7 @@
 ghost use Rattle.std.specs.Prelude.{◌≡◌, ◌≤◌, IfOk, length, map, get_or, false};
 ghost use Rattle.dover_model.specs.Instance.{IsInOrder, IsValid};
 ghost use Rattle.dover_model.specs.JobFacts.{IsJob};
+ghost use Rattle.dover_model.specs.declared.events.Version.TheVariants.{Two};
 ghost use Rattle.dover_model.specs.Limits.{most_jobs};
 ghost use Rattle.dover_model.specs.Sound.{Each};
 ghost use Rattle.dialogue.specs.Talk.{IsFinal};
@@ -11,6 +12,7 @@ ghost use Rattle.question_words.specs.Loss.{SaysLoss, row_of};
 ghost use Rattle.question_words.specs.Texts.{text_of};
 
 use crate::answer::{Answer, Rows, StretchRow};
+use crate::limits::is_listable;
 use crate::observing::observe_each;
 use dover_model::{Job, Memory};
 use dover_port::Status;
@@ -31,7 +33,7 @@ fn rows(
     done: &[bool],
 ) -> Result<Vec<StretchRow>, Memory>
     requires in_order { IsInOrder jobs.now }
-    requires count { length jobs.now ≤ most_jobs }
+    requires count { length jobs.now ≤ most_jobs Two }
     requires each { Each IsJob jobs.now }
     ensures { IfOk result (λ rows. rows.items ≡ map (row_of jobs.now (λ n. get_or done.now n false)) stretches.now) }
 {
@@ -52,8 +54,8 @@ fn rows(
 /// Finds where the jobs, as the run observed them, have more work than there are ticks, and says what came of it: what
 /// all jobs are worth, the value that the run completes, what no schedule is worth more than, and the bound on what any
 /// schedule is worth; and for each stretch of ticks, what the jobs that are released and due in it are worth, what no
-/// schedule of these is worth more than, and what the run completes of them. Memory is taken for the search and for the
-/// run.
+/// schedule of these is worth more than, and what the run completes of them. Jobs beyond the limits of version Two are
+/// refused. Memory is taken for the search and for the run.
 pub(crate) fn answer<L: Ledger>(
     alloc: Global,
     listed: Listed,
@@ -65,6 +67,9 @@ pub(crate) fn answer<L: Ledger>(
     ensures ends { IfOk result (λ answer. IsFinal answer.status) }
     ensures count { CostsAtMost (length listed.jobs.items) steps.old steps.new }
 {
+    if !is_listable(&listed) {
+        return Ok(Answer::refused(alloc, b"refused size"));
+    }
     let ratio = listed.ratio;
     let (completed, jobs) = observe_each(alloc, listed, steps)?;
     let costed = cost_of(alloc, &jobs, completed.value)?;

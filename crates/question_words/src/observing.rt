@@ -1,6 +1,6 @@
 //! What the run of a feed completes, and its jobs as it observed them: what a completed one had stands for its work.
 ghost use Rattle.std.specs.Prelude.{◌≡◌, ◌<◌, ℕ, IfOk, length, get_or, false};
-ghost use Rattle.dover_model.specs.Instance.{IsValid};
+ghost use Rattle.dover_model.specs.Instance.{IsListable, IsValid};
 ghost use Rattle.dover_model.specs.Observed.{observed};
 ghost use Rattle.dover_model.specs.Run.{completed_value};
 ghost use Rattle.dover_model.specs.Spending.{CostsAtMost};
@@ -27,6 +27,7 @@ pub(crate) fn observe<L: Ledger>(
     steps: &mut Steps<L>,
 ) -> Result<(u64, Vec<Job>), Memory>
     requires valid { IsValid (listed_instance listed) }
+    requires listable { IsListable (listed_instance listed) }
     requires among { StandAmong listed.jobs.items listed.dones.items }
     ensures value { IfOk result (λ it. it.0 ≡ completed_value (listed_instance listed)) }
     ensures jobs { IfOk result (λ it. it.1.items ≡ (observed (listed_instance listed)).jobs) }
@@ -51,6 +52,7 @@ pub(crate) fn observe_each<L: Ledger>(
     steps: &mut Steps<L>,
 ) -> Result<(Completion, Vec<Job>), Memory>
     requires valid { IsValid (listed_instance listed) }
+    requires listable { IsListable (listed_instance listed) }
     requires among { StandAmong listed.jobs.items listed.dones.items }
     ensures value { IfOk result (λ it. it.0.value ≡ completed_value (listed_instance listed)) }
     ensures done { IfOk result (λ it. (n : ℕ) → n < length listed.jobs.items →

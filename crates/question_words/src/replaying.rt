@@ -1,6 +1,6 @@
 //! A feed whose jobs may finish early, served again once its end was read.
 ghost use Rattle.std.specs.Prelude.{◌≡◌, ◌≤◌, ◌<◌, ℕ, IfOk, OnOk, length, get_or, false};
-ghost use Rattle.dover_model.specs.Instance.{Instance, IsValid, with_jobs};
+ghost use Rattle.dover_model.specs.Instance.{Instance, IsListable, IsValid, with_jobs};
 ghost use Rattle.dover_model.specs.Observed.{observed};
 ghost use Rattle.dover_model.specs.Run.{completed_value, printed};
 ghost use Rattle.dover_model.specs.Spending.{CostsAtMost};
@@ -155,6 +155,7 @@ pub(crate) fn replayed<L: Ledger>(
     steps: &mut Steps<L>,
 ) -> Result<(Completion, Vec<Job>), Memory>
     requires valid { IsValid (listed_instance listed.now) }
+    requires listable { IsListable (listed_instance listed.now) }
     requires among { StandAmong listed.now.jobs.items listed.now.dones.items }
     ensures value { IfOk result (λ it. it.0.value ≡ completed_value (listed_instance listed.now)) }
     ensures done { IfOk result (λ it. (n : ℕ) → n < length listed.now.jobs.items →

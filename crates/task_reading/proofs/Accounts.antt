@@ -7,6 +7,7 @@ use Rattle.std.specs.List.{fold}
 use Rattle.std.proofs.lemmas.Bool.{ltb-false, lt-ltb, le-ltb}
 use Rattle.std.proofs.lemmas.List.{append-nil}
 use Rattle.std.proofs.lemmas.List.Sums.{fold-append}
+use Rattle.dover_model.specs.declared.events.Version.TheVariants.{Two}
 use Rattle.dover_model.specs.Limits.{most_lines}
 use Rattle.dover_model.specs.Lines.{lines_of, whole_lines, rest_of, is_too_long, fields_of}
 use Rattle.dover_model.specs.Feed as feed
@@ -53,13 +54,15 @@ module _ (until : ℕ) where
       (ap goes_on opened)
 
   -- a line too many
-  pub many_lines : (a : TaskAccount) (l : List ℕ) → most_lines < a.lines → read_line until a l ≡ with_fault a feed.Lines
-  many_lines a l many = ap (λ b. after_count a b (task_line l)) (lt-ltb most_lines a.lines many)
+  pub many_lines : (a : TaskAccount) (l : List ℕ) → most_lines Two < a.lines
+      → read_line until a l ≡ with_fault a feed.Lines
+  many_lines a l many = ap (λ b. after_count a b (task_line l)) (lt-ltb (most_lines Two) a.lines many)
 
   -- a line that isn't
-  pub line_as : (a : TaskAccount) (l : List ℕ) (o : Option TaskLine) → a.lines ≤ most_lines → task_line l ≡ o
+  pub line_as : (a : TaskAccount) (l : List ℕ) (o : Option TaskLine) → a.lines ≤ most_lines Two → task_line l ≡ o
       → read_line until a l ≡ after_form a o
-  line_as a l o few is = ap (λ b. after_count a b (task_line l)) (le-ltb most_lines a.lines few) ∙ ap (after_form a) is
+  line_as a l o few is = ap (λ b. after_count a b (task_line l)) (le-ltb (most_lines Two) a.lines few)
+      ∙ ap (after_form a) is
 
   -- ---- a text that grows
 
@@ -70,7 +73,7 @@ module _ (until : ℕ) where
   too_long_same : (a : TaskAccount) (l m : List ℕ) → is_too_long l ≡ true → is_too_long m ≡ true
       → next_line until a l ≡ next_line until a m
   too_long_same a l m long_l long_m =
-      ap (λ o. cond (is_open a) (after_count (counted a) (nat_lt most_lines (suc a.lines)) o) a)
+      ap (λ o. cond (is_open a) (after_count (counted a) (nat_lt (most_lines Two) (suc a.lines)) o) a)
       (unread l long_l ∙ sym (unread m long_m))
 
   account_append : (F G : List ℕ) → (ls : List (List ℕ))
@@ -109,13 +112,13 @@ module _ (until : ℕ) where
 
   -- where an account goes on after a line, the line was counted, and was no longer than a line may be
   pub record IsGood (a : TaskAccount) (l : List ℕ) (after : TaskAccount) : Type 0 where
-    pub few : a.lines ≤ most_lines
+    pub few : a.lines ≤ most_lines Two
     pub short : length l ≤ 128
     pub lines : after.lines ≡ a.lines
 
   read_good : (a : TaskAccount) (l : List ℕ) → (read_line until a l).standing ≡ Open → IsGood a l (read_line until a l)
-  read_good a l opened = by_count (nat_lt most_lines a.lines) (task_line l) refl refl opened where
-    by_count : (b : Bool) (o : Option TaskLine) → nat_lt most_lines a.lines ≡ b → task_line l ≡ o
+  read_good a l opened = by_count (nat_lt (most_lines Two) a.lines) (task_line l) refl refl opened where
+    by_count : (b : Bool) (o : Option TaskLine) → nat_lt (most_lines Two) a.lines ≡ b → task_line l ≡ o
         → (after_count a b o).standing ≡ Open → IsGood a l (after_count a b o)
     by_count true o many read on = absurd (never_open a _ on)
     by_count false None few read on = absurd (never_open a _ on)
@@ -139,7 +142,7 @@ module _ (until : ℕ) where
   pub record AreGood (ls : List (List ℕ)) (a : TaskAccount) : Type 0 where
     pub first : a.standing ≡ Open
     pub short : AreNotTooLong ls
-    pub few : a.lines ≤ most_lines → a.lines + length ls ≤ most_lines
+    pub few : a.lines ≤ most_lines Two → a.lines + length ls ≤ most_lines Two
     pub lines : (fold (next_line until) a ls).lines ≡ a.lines + length ls
 
   pub lines_good : (ls : List (List ℕ)) (a : TaskAccount) → (fold (next_line until) a ls).standing ≡ Open → AreGood ls a
@@ -148,8 +151,8 @@ module _ (until : ℕ) where
       let rest : AreGood ls (next_line until a l) = lines_good ls (next_line until a l) opened in
       let good = next_good a l rest.first in
       let count : (next_line until a l).lines ≡ suc a.lines = good.1.lines in
-      let low : suc a.lines ≤ most_lines = good.1.few in
-      let all : (next_line until a l).lines + length ls ≤ most_lines = rest.few (omega (arith, low, count)) in
+      let low : suc a.lines ≤ most_lines Two = good.1.few in
+      let all : (next_line until a l).lines + length ls ≤ most_lines Two = rest.few (omega (arith, low, count)) in
       record {
         first = good.0;
         short = (good.1.short, rest.short);
@@ -164,11 +167,11 @@ module _ (until : ℕ) where
       let whole : lines_of x ≡ whole_lines x = ap (λ b. whole_lines x ++ cond b (rest_of x ∷ []) []) short
       ∙ append-nil (whole_lines x) in
       let good = lines_good (lines_of x) no_lines opened in
-      let few : 0 + length (whole_lines x) ≤ most_lines =
-      subst (λ ls. 0 + length ls ≤ most_lines) whole (good.few (omega arith)) in
+      let few : 0 + length (whole_lines x) ≤ most_lines Two =
+      subst (λ ls. 0 + length ls ≤ most_lines Two) whole (good.few (omega arith)) in
       omega (
         arith,
-        text_few x most_lines (subst AreNotTooLong whole good.short) (omega (arith, few))
+        text_few x (most_lines Two) (subst AreNotTooLong whole good.short) (omega (arith, few))
             (ltb-false _ _ short),
       )
 

@@ -7,6 +7,7 @@ use Rattle.std.proofs.lemmas.Bool.{eq-eqb, ne_eqb}
 use Rattle.std.proofs.lemmas.List.{map-append}
 use Rattle.dover_model.specs.declared.events.Refusal.{Refusal}
 use Rattle.dover_model.specs.declared.events.Refusal.TheVariants as refusal
+use Rattle.dover_model.specs.declared.events.Version.TheVariants.{Two}
 use Rattle.dover_model.specs.Limits.{most_lines}
 use Rattle.dover_model.specs.Lines.{lines_of}
 use Rattle.dover_model.specs.Fraction.{Fraction}
@@ -25,7 +26,7 @@ use Rattle.event_feed.specs.Kept.{cause_of_fault, cause_of_refused}
 use Rattle.event_feed.specs.declared.faults.Cause.{Cause as Fault}
 use Rattle.event_feed.specs.declared.faults.Cause.TheVariants as cause
 use Rattle.periodic_tasks.specs.Tasks.{tested_job, count_before}
-use Rattle.periodic_tasks.specs.Limits.{AreTasks, task_refusal}
+use Rattle.periodic_tasks.specs.Limits.{AreTasks, task_refusal, task_rules}
 use Rattle.periodic_tasks.specs.declared.task.PeriodicTask.{PeriodicTask}
 use Rattle.periodic_tasks.proofs.Together.{no_tasks, tasks_more}
 use Rattle.task_reading.specs.Account.{TaskAccount, fraction, with_line, cause_of, cause_under, account_of_lines}
@@ -53,59 +54,57 @@ refused_cause (refused.Ratio other) = refl
 module _ (until : ℕ) (task : PeriodicTask) (k : Fraction) (tasks : List PeriodicTask) where
   -- by whether it has a period
   abbrev by_period : Bool → Option Refusal
-  by_period none = cond none (Some refusal.BadJob) (refusal_of k (map (tested_job until) tasks) (tested_job until task))
+  by_period none = cond none (Some refusal.BadJob) (refusal_of (task_rules k) (map (tested_job until) tasks)
+      (tested_job until task))
 
   pub no_period : task.period ≡ 0 → task_refusal until k tasks task ≡ Some refusal.BadJob
   no_period none = ap by_period (eq-eqb _ _ none)
 
   pub with_period : (task.period ≡ 0 → ⊥) → task_refusal until k tasks task
-      ≡ refusal_of k (map (tested_job until) tasks) (tested_job until task)
+      ≡ refusal_of (task_rules k) (map (tested_job until) tasks) (tested_job until task)
   with_period some = ap by_period (ne_eqb _ _ some)
 
 module _ (until : ℕ) (task : PeriodicTask) (rules : Rules) (tasks : List PeriodicTask) (old new : Declaration)
     (keeps : KeepsDeclared until old rules tasks) (some : task.period ≡ 0 → ⊥) where
-  -- the ratio
-  ratio_is : rules.ratio ≡ old.admission.ratio
-  ratio_is = ap (λ (r : Rules). r.ratio) keeps.rules_are
-
   -- what the tested job is answered
   pub answered : (o : Option Refusal)
-      → refusal_of old.admission.ratio (map (tested_job until) tasks) (tested_job until task) ≡ o
+      → refusal_of old.admission.rules (map (tested_job until) tasks) (tested_job until task) ≡ o
       → task_refusal until rules.ratio tasks task ≡ o
   answered o is = with_period until task rules.ratio tasks some
-      ∙ ap (λ k. refusal_of k (map (tested_job until) tasks) (tested_job until task)) ratio_is ∙ is
+      ∙ ap (λ r. refusal_of r (map (tested_job until) tasks) (tested_job until task)) (sym keeps.limits) ∙ is
 
   -- the task is taken in
-  pub taken : refusal_of old.admission.ratio (map (tested_job until) tasks) (tested_job until task) ≡ None
+  pub taken : refusal_of old.admission.rules (map (tested_job until) tasks) (tested_job until task) ≡ None
       → admission.StandsFor new.admission (map (tested_job until) tasks ++ tested_job until task ∷ [])
-      → new.admission.ratio ≡ old.admission.ratio → new.version ≡ old.version
+      → new.admission.rules ≡ old.admission.rules → new.version ≡ old.version
       → KeepsDeclared until new rules (tasks ++ task ∷ [])
   taken none stands same version =
       let above : rules.ratio.q ≤ rules.ratio.p = keeps.ratio.above_one in record {
-        rules_are = keeps.rules_are ∙ ap (λ k. rules_with k old.version) (sym same)
-            ∙ ap (rules_with new.admission.ratio) (sym version);
+        rules_are = keeps.rules_are ∙ ap (λ (r : Rules). rules_with r.ratio old.version) (sym same)
+            ∙ ap (rules_with new.admission.rules.ratio) (sym version);
+        limits = same ∙ keeps.limits;
         ratio = keeps.ratio;
         tested = subst (admission.StandsFor new.admission)
             (sym (map-append (tested_job until) tasks (task ∷ []))) stands;
         are = tasks_more until rules.ratio tasks task above keeps.are (positive task.period some)
-            (ap (λ k. refusal_of k (map (tested_job until) tasks) (tested_job until task)) ratio_is ∙ none);
+            (ap (λ r. refusal_of r (map (tested_job until) tasks) (tested_job until task)) (sym keeps.limits) ∙ none);
       } where
         positive : (n : ℕ) → (n ≡ 0 → ⊥) → 1 ≤ n
         positive n more = omega arith
 
   -- the tested job is answered by its numbers
   pub took : (release : ℕ) (job : JobFacts) → release ≡ task.offset + (count_before until task - 1) * task.period
-      → refusal_of old.admission.ratio (map (tested_job until) tasks)
+      → refusal_of old.admission.rules (map (tested_job until) tasks)
       (job_of_numbers release task.work (release + task.deadline) task.value) ≡ None
       → job ≡ job_of_numbers release task.work (release + task.deadline) task.value
       → admission.StandsFor new.admission (map (tested_job until) tasks ++ job ∷ [])
-      → new.admission.ratio ≡ old.admission.ratio → new.version ≡ old.version
+      → new.admission.rules ≡ old.admission.rules → new.version ≡ old.version
       → (cause_under until (Some rules) tasks (Task task) ≡ None) × KeepsDeclared until new rules (tasks ++ task ∷ [])
   took release job is none job_is stands same version =
       let tested : job_of_numbers release task.work (release + task.deadline) task.value ≡ tested_job until task =
       ap (λ r. job_of_numbers r task.work (r + task.deadline) task.value) is in
-      let free : refusal_of old.admission.ratio (map (tested_job until) tasks) (tested_job until task) ≡ None =
-      ap (λ j. refusal_of old.admission.ratio (map (tested_job until) tasks) j) (sym tested) ∙ none in (
+      let free : refusal_of old.admission.rules (map (tested_job until) tasks) (tested_job until task) ≡ None =
+      ap (λ j. refusal_of old.admission.rules (map (tested_job until) tasks) j) (sym tested) ∙ none in (
         ap (option_map NotAdmitted) (answered None free),
         taken free (subst (λ j. admission.StandsFor new.admission (map (tested_job until) tasks ++ j ∷ []))
             (job_is ∙ tested) stands)
@@ -116,7 +115,7 @@ module _ (until : ℕ) (task : PeriodicTask) (rules : Rules) (tasks : List Perio
     (keeps : KeepsDeclared until old rules tasks) where
   -- a tested job that isn't admitted names the other one
   pub named : (release : ℕ) → release ≡ task.offset + (count_before until task - 1) * task.period → (r : Refused)
-      → admitting.NamesOther old.admission.ratio (map (tested_job until) tasks)
+      → admitting.NamesOther old.admission.rules.ratio (map (tested_job until) tasks)
       (job_of_numbers release task.work (release + task.deadline) task.value) r
       → NamesOther until (Some (Task task)) (Some rules) tasks (cause_of_refused r)
   named release is refused.BadJob names = tt
@@ -129,7 +128,7 @@ module _ (until : ℕ) (task : PeriodicTask) (rules : Rules) (tasks : List Perio
     line_is = refl;
     earlier = subst (λ k. IsOther k (map (tested_job until) tasks) (tested_job until task) other)
         (sym (ap (λ (r : Rules). r.ratio) keeps.rules_are))
-        (subst (λ j. IsOther old.admission.ratio (map (tested_job until) tasks) j other)
+        (subst (λ j. IsOther old.admission.rules.ratio (map (tested_job until) tasks) j other)
         (ap (λ r. job_of_numbers r task.work (r + task.deadline) task.value) is) names);
   }
 
@@ -184,13 +183,19 @@ module _ (until : ℕ) (intake : TaskIntake) (a : TaskAccount) (p q : ℕ) (vers
   -- it is declared
   module _ (new : TaskIntake) (d : Declaration) (new_is : new.declared ≡ Some d) (until_is : new.until ≡ intake.until)
       (lines_are : new.lines ≡ intake.lines) (tasks_are : new.tasks.items ≡ intake.tasks.items) where
-    pub now_declared : a.standing ≡ Open → is_some intake.declared ≡ false
-        → declared_rules (fraction p q) version ≡ Some (rules_with d.admission.ratio d.version)
+    pub now_declared : (k : Fraction) → a.standing ≡ Open → is_some intake.declared ≡ false
+        → declared_rules (fraction p q) version ≡ Some (rules_with k d.version) → d.admission.rules ≡ task_rules k
         → admission.StandsFor d.admission []
         → StandsAt until progress.Open new (with_line a line (cause_under until a.rules a.tasks line))
-    now_declared opened first some stands = by intake.declared a.rules first keeps.rules where
+    now_declared k opened first said limits stands = by intake.declared a.rules first keeps.rules where
       rules : Rules
-      rules = rules_with d.admission.ratio d.version
+      rules = rules_with d.admission.rules.ratio d.version
+
+      ratio_is : d.admission.rules.ratio ≡ k
+      ratio_is = ap (λ (r : Rules). r.ratio) limits
+
+      some : declared_rules (fraction p q) version ≡ Some rules
+      some = said ∙ ap (λ k. Some (rules_with k d.version)) (sym ratio_is)
 
       kept_now : a.tasks ≡ [] → KeepsAccount until new (record a { rules = Some rules })
       kept_now none = record {
@@ -200,6 +205,7 @@ module _ (until : ℕ) (intake : TaskIntake) (a : TaskAccount) (p q : ℕ) (vers
         tasks_are = tasks_are ∙ keeps.tasks_are;
         rules = subst (λ o. KeepsRules until o (Some rules) a.tasks) (sym new_is) (record {
           rules_are = refl;
+          limits = limits ∙ ap task_rules (sym ratio_is);
           ratio = declared_good (fraction p q) version rules some;
           tested = subst (λ ts. admission.StandsFor d.admission (map (tested_job until) ts)) (sym none) stands;
           are = subst (AreTasks until rules.ratio) (sym none) (no_tasks until rules.ratio);
@@ -317,7 +323,7 @@ module _ (until : ℕ) (old mid : TaskIntake) (ls : List (List ℕ)) (l : List �
     }
 
     -- with one of the forms
-    pub line_taken : (read : TaskLine) (p : Progress) (new : TaskIntake) → mid.lines ≤ most_lines
+    pub line_taken : (read : TaskLine) (p : Progress) (new : TaskIntake) → mid.lines ≤ most_lines Two
         → task_line l ≡ Some read
         → StandsAt until p new (with_line a read (cause_of until a read))
         → StandsAt until p new (account_of_lines until (ls ++ l ∷ []))
@@ -325,7 +331,7 @@ module _ (until : ℕ) (old mid : TaskIntake) (ls : List (List ℕ)) (l : List �
         ∙ line_as until a l (Some read) (omega (arith, few, lines_are, keeps.keeps.counted)) is)) stands
 
     -- with none
-    pub line_bad : mid.lines ≤ most_lines → task_line l ≡ None
+    pub line_bad : mid.lines ≤ most_lines Two → task_line l ≡ None
         → StandsAt until (progress.Refused cause.Line) mid (account_of_lines until (ls ++ l ∷ []))
     line_bad few is = ap (λ (b : TaskAccount). b.standing) (next_of until ls l keeps.stands
         ∙ line_as until a l None (omega (arith, few, lines_are, keeps.keeps.counted)) is)
@@ -333,7 +339,7 @@ module _ (until : ℕ) (old mid : TaskIntake) (ls : List (List ℕ)) (l : List �
         (let e : a.lines ≡ mid.lines = omega (arith, lines_are, keeps.keeps.counted) in e)
 
     -- one too many
-    pub line_many : most_lines < mid.lines
+    pub line_many : most_lines Two < mid.lines
         → StandsAt until (progress.Refused cause.Lines) mid (account_of_lines until (ls ++ l ∷ []))
     line_many many = ap (λ (b : TaskAccount). b.standing) (next_of until ls l keeps.stands
         ∙ many_lines until a l (omega (arith, many, lines_are, keeps.keeps.counted)))
@@ -359,6 +365,6 @@ named_at until (progress.Refused cause) bytes ls l is good names =
 named_at until progress.NoMemory bytes ls l is good names = tt
 
 -- a text that goes on behind a line
-pub keeps_more : (until : ℕ) (new : TaskIntake) (ls : List (List ℕ)) → new.lines ≤ most_lines
+pub keeps_more : (until : ℕ) (new : TaskIntake) (ls : List (List ℕ)) → new.lines ≤ most_lines Two
     → StandsAt until progress.Open new (account_of_lines until ls) → Keeps until new ls
 keeps_more until new ls few stands = record { few = few; stands = stands.0; keeps = stands.1 }

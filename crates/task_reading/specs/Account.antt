@@ -3,6 +3,7 @@ use Rattle.std.specs.Prelude.{ℕ, suc, List, [], ◌∷◌, ◌++◌, Bool, tru
 use Rattle.std.specs.Prelude.{is_some}
 use Rattle.std.specs.List.{fold}
 use Rattle.std.specs.Option.{option_map}
+use Rattle.dover_model.specs.declared.events.Version.TheVariants.{Two}
 use Rattle.dover_model.specs.Limits.{most_lines}
 use Rattle.dover_model.specs.Fraction.{Fraction}
 use Rattle.dover_model.specs.Instance.{Declaration as Rules}
@@ -74,7 +75,7 @@ with_line a line (Some cause) = with_fault a cause
 
 -- the account with a line that is counted already
 abbrev pub read_line : (until : ℕ) → TaskAccount → List ℕ → TaskAccount
-read_line until a bytes = if nat_lt most_lines a.lines then with_fault a feed.Lines else
+read_line until a bytes = if nat_lt (most_lines Two) a.lines then with_fault a feed.Lines else
     elim (task_line bytes) [ None ↦ with_fault a feed.Line | Some line ↦ with_line a line (cause_of until a line) ]
 
 -- neither ended nor faulty

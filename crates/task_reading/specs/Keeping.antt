@@ -1,6 +1,7 @@
 -- What is kept of a task text.
 use Rattle.std.specs.Prelude.{◌≡◌, ◌<◌, ◌≤◌, ℕ, List, [], ◌∷◌, ◌++◌, length, take, map, true, false, Option, Some}
 use Rattle.std.specs.Prelude.{None, is_some, Result, Ok, Err}
+use Rattle.dover_model.specs.declared.events.Version.TheVariants.{Two}
 use Rattle.dover_model.specs.Limits.{last_tick, most_lines}
 use Rattle.dover_model.specs.Fraction.{IsRatio}
 use Rattle.dover_model.specs.Instance.{Declaration as Rules}
@@ -11,7 +12,7 @@ use Rattle.event_feed.specs.Kept.{cause_of_fault}
 use Rattle.event_feed.specs.declared.faults.Cause.{Cause}
 use Rattle.line_text.specs.Cutting as cutting
 use Rattle.periodic_tasks.specs.Tasks.{tested_job}
-use Rattle.periodic_tasks.specs.Limits.{AreTasks}
+use Rattle.periodic_tasks.specs.Limits.{AreTasks, task_rules}
 use Rattle.periodic_tasks.specs.declared.task.PeriodicTask.{PeriodicTask}
 use Rattle.task_reading.specs.Account.{TaskAccount, account_of_lines, account, cause_under}
 use Rattle.task_reading.specs.Faults.{NamesFault}
@@ -29,7 +30,9 @@ IsKnown until = until ≤ last_tick
 
 -- the rules that were declared, and of the tasks so far what the next one needs
 pub record KeepsDeclared (until : ℕ) (d : Declaration) (rules : Rules) (tasks : List PeriodicTask) : Type 0 where
-  pub rules_are : rules ≡ rules_with d.admission.ratio d.version
+  pub rules_are : rules ≡ rules_with d.admission.rules.ratio d.version
+  -- whatever version that is, tasks have the limits of Two
+  pub limits : d.admission.rules ≡ task_rules rules.ratio
   pub ratio : IsRatio rules.ratio
   pub tested : admission.StandsFor d.admission (map (tested_job until) tasks)
   pub are : AreTasks until rules.ratio tasks
@@ -66,7 +69,7 @@ Takes until task rules tasks d (Err cause) = cause_under until rules tasks (Task
 
 -- what is kept of these lines, of which none ended the text or was faulty
 pub record Keeps (until : ℕ) (intake : TaskIntake) (ls : List (List ℕ)) : Type 0 where
-  pub few : intake.lines ≤ most_lines
+  pub few : intake.lines ≤ most_lines Two
   pub stands : (account_of_lines until ls).standing ≡ Open
   pub keeps : KeepsAccount until intake (account_of_lines until ls)
 

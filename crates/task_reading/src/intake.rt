@@ -19,7 +19,7 @@ use event_feed::{Cause, declared};
 use periodic_tasks::PeriodicTask;
 use std::alloc::Global;
 
-/// How many lines a task text may have, as many as a feed.
+/// How many lines a task text may have, as many as a feed of version Two.
 const MOST_LINES: u64 = 4_000_000;
 
 /// How a task text stands after a line.
@@ -35,7 +35,8 @@ pub(crate) enum Progress {
     NoMemory,
 }
 
-/// The ratio and the version, and of the tasks so far what the next one needs.
+/// The version, and of the ratio and the tasks so far what the next one needs: whatever the version is, with the limits
+/// of version Two.
 #[derive(Drop)]
 pub(crate) struct Declaration {
     pub(crate) version: Version,
@@ -123,7 +124,7 @@ impl TaskIntake {
             Some((ratio, version)) => {
                 self.declared = Some(Declaration {
                     version,
-                    admission: Admission::new(ratio),
+                    admission: Admission::new(Version::Two, ratio),
                 });
                 Progress::Open
             }

@@ -11,6 +11,7 @@ use Rattle.dover_model.specs.Instance.{IsValid, IsWithinRatio, IsInOrder, jobs_u
 use Rattle.dover_model.specs.Generator.{next_state, high_bits, most_density, job_of_draws, generated_jobs_from}
 use Rattle.dover_model.specs.Generator.{generated_jobs}
 use Rattle.dover_model.proofs.Calculus.{dense_within}
+use Rattle.dover_model.proofs.Limiting.{jobs_least, total_least}
 use Rattle.trial_jobs.specs.Turns.{next_four, next_job}
 
 -- so many jobs are drawn
@@ -132,8 +133,8 @@ module _ (k : Fraction) (ratio : IsRatio k) where
     ratio = ratio;
     each = all_drawn IsJob is_job count seed 0 (omega (arith, few));
     in_order = in_order count seed 0;
-    count = omega (arith, so_many k count seed 0, few);
-    total = omega (arith, total_low count seed 0, few);
+    count = omega (arith, so_many k count seed 0, few, jobs_least version);
+    total = omega (arith, total_low count seed 0, few, total_least version);
     densities = all_drawn (λ i. AllByRecursion (IsWithinRatio k i) (generated_jobs seed count k))
         (λ last r w s d _. all_drawn (IsWithinRatio k (job_of_draws k last r w s d))
         (λ last2 r2 w2 s2 d2 _. two_within last r w s d last2 r2 w2 s2 d2) count seed 0 (omega (arith, few))) count seed

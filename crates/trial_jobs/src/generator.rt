@@ -28,6 +28,7 @@ impl Model for Gen {
 impl Gen {
     ghost use Rattle.std.specs.Prelude.{◌≡◌, ◌↔◌, ◌<◌, ◌≤◌, ◌^◌, ◌++◌, [], IsNone, length, option_to_list};
     ghost use Rattle.dover_model.specs.Generator.{generated_jobs};
+    ghost use Rattle.dover_model.specs.declared.events.Version.TheVariants.{Two};
     ghost use Rattle.dover_model.specs.Limits.{most_jobs};
 
     /// So many jobs from a seed, within the ratio `k` of each other. The seed is below 2^31, the count at most
@@ -43,7 +44,7 @@ impl Gen {
     /// ```
     pub fn new(seed: u32, count: u32, k: Ratio) -> Gen
         requires seed { seed < 2 ^ 31 }
-        requires count { count ≤ most_jobs }
+        requires count { count ≤ most_jobs Two }
         ensures jobs { result ≡ generated_jobs seed count k }
         ensures count { length result ≡ count }
     {

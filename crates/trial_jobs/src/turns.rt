@@ -73,6 +73,7 @@ fn last_named_in(turn: &Turn) -> u64
 
 impl TurnGen {
     ghost use Rattle.std.specs.Prelude.{◌↔◌, ◌<◌, ◌^◌, ◌++◌, [], IsNone, length, option_to_list};
+    ghost use Rattle.dover_model.specs.declared.events.Version.TheVariants.{Two};
     ghost use Rattle.dover_model.specs.Limits.{most_jobs};
     ghost use Rattle.trial_jobs.specs.Turns.{drawn_turns};
 
@@ -80,7 +81,7 @@ impl TurnGen {
     /// most 1,000,000.
     pub fn new(seed: u32, count: u32, k: Ratio) -> TurnGen
         requires seed { seed < 2 ^ 31 }
-        requires count { count ≤ most_jobs }
+        requires count { count ≤ most_jobs Two }
         ensures turns { result ≡ drawn_turns seed count k }
     {
         TurnGen {

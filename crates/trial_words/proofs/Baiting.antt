@@ -1,13 +1,15 @@
 -- The text of a baiting feed.
 use Rattle.std.proofs.Common.{◌≡◌, ◌≤◌, ◌++◌, ◌∷◌, [], ℕ, List, refl, ap, ◌∙◌, codes, length}
 use Rattle.dover_model.specs.Fraction.{Fraction, IsRatio}
-use Rattle.dover_model.specs.declared.events.Version.TheVariants.{One}
+use Rattle.dover_model.specs.declared.events.Version.TheVariants.{One, Two}
 use Rattle.dover_model.specs.Bait.{bait_jobs, bait_plan}
 use Rattle.dover_model.specs.Bound.{bound}
 use Rattle.dover_model.specs.Limits.{most_total}
 use Rattle.dover_model.specs.Lines.{with_numbers, in_lines}
 use Rattle.dover_model.specs.Run.{printed, completed_value}
 use Rattle.dover_model.specs.Schedules.{worth}
+use Rattle.dover_model.specs.Instance.{IsValid}
+use Rattle.dover_model.proofs.Limiting.{listable}
 use Rattle.dover_report.proofs.Counting.{value_small}
 use Rattle.adversary.specs.Baiting.{FitsLimits}
 use Rattle.adversary.proofs.Validity.{some_bait, valid}
@@ -16,10 +18,11 @@ use Rattle.trial_words.proofs.Summing.{own_run, fed_lines}
 
 -- the value that the run of a feed within the limits completes is that of a valid list
 pub value_within : (k : Fraction) (rounds : ℕ) → IsRatio k → 1 ≤ rounds → FitsLimits k rounds
-    → completed_value (bait_instance k rounds) ≤ most_total
-value_within k rounds ratio some fits = let J = bait_instance k rounds in
-    value_small k (printed J) J
-    (own_run J k (valid k rounds ratio fits (some_bait k rounds ratio some fits) One) refl)
+    → completed_value (bait_instance k rounds) ≤ most_total Two
+value_within k rounds ratio some fits =
+    let J = bait_instance k rounds in
+    let it : IsValid J = valid k rounds ratio fits (some_bait k rounds ratio some fits) One in
+    value_small k (printed J) J (own_run J k it (listable J it refl) refl)
 
 -- the text of four numbers
 abbrev text : (jobs value schedule most : ℕ) → List ℕ

@@ -7,7 +7,8 @@ use Rattle.dover_model.specs.declared.events.Event.{Event}
 use Rattle.dover_model.specs.declared.events.Event.TheVariants as event
 use Rattle.dover_model.specs.Bound.{bound}
 use Rattle.dover_model.specs.Fraction.{Fraction}
-use Rattle.dover_model.specs.Instance.{Instance, IsValid, total_value}
+use Rattle.dover_model.specs.Instance.{Instance, IsListable, IsValid, total_value}
+use Rattle.dover_model.specs.declared.events.Version.TheVariants.{Two}
 use Rattle.dover_model.specs.Limits.{most_total}
 use Rattle.dover_model.specs.JobFacts.{JobFacts}
 use Rattle.dover_model.specs.Lines.{with_numbers, in_lines}
@@ -49,8 +50,8 @@ counts_are k jobs lost t most all events bounds count is rest =
     (bounds ∙ ap (λ (u : Tally). bound k u.value) is)
 
 -- a valid run by its own steps
-pub own_run : (J : Instance) (k : Fraction) → IsValid J → J.rules.ratio ≡ k → IsRunOf k (printed J) J
-own_run J k valid ratio = record { valid = valid; ratio = ratio; prints = refl }
+pub own_run : (J : Instance) (k : Fraction) → IsValid J → IsListable J → J.rules.ratio ≡ k → IsRunOf k (printed J) J
+own_run J k valid listable ratio = record { valid = valid; listable = listable; ratio = ratio; prints = refl }
 
 -- lines with a line feed behind each
 abbrev pub fed : List (List ℕ) → List ℕ
@@ -96,18 +97,28 @@ released_values (e ∷ events) = sum_by-cons value_released e events
 
 module _ (J : Instance) (k : Fraction) (jobs : ℕ) (tally : Tally) (it : CountsRun J k jobs tally) where
   -- the value that was completed is that of a valid list
-  pub within : tally.value ≤ most_total
-  within = subst (λ (t : Tally). t.value ≤ most_total) (sym it.counted.counts)
-      (value_small k (printed J) J (own_run J k it.valid it.ratio))
+  pub within : tally.value ≤ most_total Two
+  within = subst (λ (t : Tally). t.value ≤ most_total Two) (sym it.counted.counts)
+      (value_small k (printed J) J (own_run J k it.valid it.listable it.ratio))
 
   -- with what is lost it is all that was released
   pub in_parts : tally.value + all_lost J.jobs (printed J) ≡ tally.released
   in_parts = omega (
     arith,
     lost_rest J it.valid,
-    ap total_value (jobs_are k (printed J) J (own_run J k it.valid it.ratio)),
+    ap total_value (jobs_are k (printed J) J (own_run J k it.valid it.listable it.ratio)),
     released_values (printed J),
     ap (λ (t : Tally). t.value) it.counted.counts,
+    ap (λ (t : Tally). t.released) it.counted.counts,
+  )
+
+  -- which is within the limits
+  pub released_low : tally.released ≤ most_total Two
+  released_low = omega (
+    arith,
+    it.listable.total,
+    ap total_value (jobs_are k (printed J) J (own_run J k it.valid it.listable it.ratio)),
+    released_values (printed J),
     ap (λ (t : Tally). t.released) it.counted.counts,
   )
 
@@ -115,7 +126,7 @@ module _ (J : Instance) (k : Fraction) (jobs : ℕ) (tally : Tally) (it : Counts
   pub told : (lost most : ℕ) → lost ≡ tally.released - tally.value → most ≡ bound k tally.value
       → in_lines (counts_lines (counts_by jobs tally lost most)) ≡ summary J
   told lost most rest bounds =
-      let of = own_run J k it.valid it.ratio in
+      let of = own_run J k it.valid it.listable it.ratio in
       ap (λ (c : Counts). in_lines (counts_lines c)) (counts_are k jobs lost tally most J.jobs (printed J) bounds
       (sym it.size) it.counted.counts (omega (arith, in_parts, rest)))
       ∙ ap in_lines (summary_is k (printed J) J of J.jobs (completed_value J) (sym (jobs_are k (printed J) J of)) refl)

@@ -1,5 +1,5 @@
 -- What the word `draw` writes.
-use Rattle.std.specs.Prelude.{◌≡◌, ℕ, List, [], ◌∷◌, ◌++◌, map, Option, Some, None}
+use Rattle.std.specs.Prelude.{◌≡◌, ℕ, List, [], ◌∷◌, ◌++◌, map, Some, None}
 use Rattle.std.specs.List.{flat_map}
 use Rattle.dover_model.specs.Fraction.{Fraction}
 use Rattle.dover_model.specs.FeedLine.{FeedLine, RatioLine, JobLine, DoneLine, EndLine, feed_text}

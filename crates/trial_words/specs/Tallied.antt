@@ -4,7 +4,7 @@ use Rattle.std.specs.List.{fold, count_by, sum_by}
 use Rattle.dover_model.specs.declared.events.Event.{Event}
 use Rattle.dover_model.specs.declared.events.Event.TheVariants.{Release}
 use Rattle.dover_model.specs.Fraction.{Fraction}
-use Rattle.dover_model.specs.Instance.{Instance, IsValid}
+use Rattle.dover_model.specs.Instance.{Instance, IsListable, IsValid}
 use Rattle.dover_model.specs.Limits.{most_value}
 use Rattle.dover_model.specs.Run.{printed, value_of_end}
 use Rattle.dover_model.specs.Reports.{is_take}
@@ -35,9 +35,10 @@ pub record HasCounted (tally : Tally) (events : List Event) : Type 0 where
   pub counts : tally ≡ tally_of events
   pub modest : all_released events ≤ most_value * length events
 
--- the whole run of J was counted, which has so many jobs
+-- the whole run of J was counted, which has so many jobs, within the limits of version Two
 pub record CountsRun (J : Instance) (k : Fraction) (jobs : ℕ) (tally : Tally) : Type 0 where
   pub valid : IsValid J
+  pub listable : IsListable J
   pub ratio : J.rules.ratio ≡ k
   pub size : length J.jobs ≡ jobs
   pub counted : HasCounted tally (printed J)

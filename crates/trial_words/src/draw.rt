@@ -3,6 +3,7 @@ ghost use Rattle.std.specs.Prelude.{◌<◌, ◌≤◌, ◌^◌, ◌++◌, ◌�
 ghost use Rattle.std.specs.List.{flat_map};
 ghost use Rattle.dialogue.specs.Talk.{CanEnd};
 ghost use Rattle.dover_model.specs.FeedLine.{RatioLine, EndLine};
+ghost use Rattle.dover_model.specs.declared.events.Version.TheVariants.{Two};
 ghost use Rattle.dover_model.specs.Limits.{most_jobs};
 ghost use Rattle.dover_port.specs.Causes.{Causes, HasCause, StopsAtFailure, StopsWith};
 ghost use Rattle.dover_port.specs.Moves.{PutsThrough, Since};
@@ -82,7 +83,7 @@ fn put_feed<P: Port>(
 /// the count at most 1,000,000.
 pub fn draw_word<P: Port>(port: &mut P, seed: u32, count: u32, k: Ratio) -> Status
     requires seed { seed < 2 ^ 31 }
-    requires count { count ≤ most_jobs }
+    requires count { count ≤ most_jobs Two }
     ensures draws { Since (P.moves port.old) (P.moves port.new) (Draws k seed count result) }
     ensures ends { CanEnd (Draws k seed count) result }
     ensures causes { Causes result (P.read_faults port.old) (P.read_faults port.new) (P.write_faults port.old)

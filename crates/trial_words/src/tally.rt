@@ -11,7 +11,7 @@ use std::alloc::Global;
 /// End names, how many are gone, takes.
 #[derive(Clone, Copy)]
 pub(crate) struct Tally {
-    pub(crate) released: u64,
+    pub(crate) released: u128,
     pub(crate) completed: u64,
     pub(crate) value: u64,
     pub(crate) abandoned: u64,
@@ -19,7 +19,8 @@ pub(crate) struct Tally {
 }
 
 impl Tally {
-    ghost use Rattle.std.specs.Prelude.{[], IfOk};
+    ghost use Rattle.std.specs.Prelude.{ℕ, ◌-◌, [], IfOk};
+    ghost use Rattle.dover_model.specs.Fraction.{Fraction};
     ghost use Rattle.dover_model.specs.Instance.{Instance};
     ghost use Rattle.dover_model.specs.Reports.{summary};
     ghost use Rattle.trial_words.specs.Tallied.{tally_of, CountsRun};
@@ -37,6 +38,14 @@ impl Tally {
         }
     }
 
+    /// How much of the released value the run that was counted doesn't complete.
+    fn lost(&self) -> u64
+        requires { (J : Instance) × (k : Fraction) × (jobs : ℕ) × CountsRun J k jobs self.now }
+        ensures { result ≡ self.now.released - self.now.value }
+    {
+        (self.released - u128::from(self.value)) as u64
+    }
+
     /// The summary of the run that was counted, which has so many jobs. Want of memory is the only error.
     pub(crate) fn summary(&self, alloc: Global, jobs: u32, k: Ratio) -> Result<Vec<u8>, Memory>
         requires { (J : Instance) × CountsRun J k jobs self.now }
@@ -47,7 +56,7 @@ impl Tally {
             self.completed,
             self.value,
             self.abandoned,
-            self.released - self.value,
+            self.lost(),
             self.taken,
             bound(self.value, k),
         ];
@@ -68,7 +77,7 @@ impl Watcher for Tally {
 
     fn see(&mut self, event: &Event) {
         match event {
-            Event::Release { job, .. } => self.released += job.value(),
+            Event::Release { job, .. } => self.released += u128::from(job.value()),
             Event::Complete { .. } => self.completed += 1,
             Event::Abandon { .. } => self.abandoned += 1,
             Event::Take { .. } => self.taken += 1,

@@ -1,6 +1,7 @@
 //! The word `trial`.
 ghost use Rattle.std.specs.Prelude.{◌≡◌, ◌<◌, ◌≤◌, ◌^◌};
 ghost use Rattle.dialogue.specs.Talk.{CanEnd};
+ghost use Rattle.dover_model.specs.declared.events.Version.TheVariants.{Two};
 ghost use Rattle.dover_model.specs.Limits.{most_jobs};
 ghost use Rattle.dover_model.specs.Reports.{summary};
 ghost use Rattle.dover_port.specs.Causes.{Causes, StopsWith};
@@ -31,7 +32,7 @@ pub fn trial_word<P: Port, L: Ledger>(
     steps: &mut Steps<L>,
 ) -> Status
     requires seed { seed < 2 ^ 31 }
-    requires count { count ≤ most_jobs }
+    requires count { count ≤ most_jobs Two }
     ensures writes { Since (P.moves port.old) (P.moves port.new)
         (Writes result (summary (trial_instance k seed count))) }
     ensures ends { CanEnd (λ status. Writes status (summary (trial_instance k seed count))) result }

@@ -1,7 +1,7 @@
 -- The feed of valid jobs is read as these jobs.
 use Rattle.std.proofs.Common.{◌≡◌, ℕ, suc, ◌+◌, ◌≤◌, List, [], ◌∷◌, ◌++◌, length, map, refl, sym}
 use Rattle.std.proofs.Common.{ap, ◌∙◌, subst, append_assoc, cond}
-use Rattle.std.proofs.Common.{Some, None, true, arith}
+use Rattle.std.proofs.Common.{Some, None, arith}
 use Rattle.std.specs.List.{AllByRecursion, fold}
 use Rattle.std.specs.Option.{option_map}
 use Rattle.std.proofs.lemmas.Bool.{le-ltb}
@@ -20,6 +20,7 @@ use Rattle.dover_model.proofs.Cuts.{HasNoFeed}
 use Rattle.dover_model.proofs.FeedLines.{feed_line-feed_text}
 use Rattle.dover_model.proofs.Growing.{instance_with}
 use Rattle.dover_model.proofs.JobSessions.{jobs_back, session_of_valid}
+use Rattle.dover_model.proofs.Limiting.{items_enough, items_of_lines}
 use Rattle.dover_model.proofs.Valid.{valid_front}
 use Rattle.dover_model.proofs.Admitting.{valid_admitted}
 use Rattle.event_feed.specs.Reading.{open_account}
@@ -37,26 +38,28 @@ module _ (rules : Declaration) where
   told lines jobs mark = open_account lines (Some (record { rules = rules; items = map JobItem jobs })) mark
 
   -- the line of one job more
-  one_more : (lines : ℕ) (done : List JobFacts) (mark : ℕ) (j : JobFacts) → suc lines ≤ most_lines → IsJob j
+  one_more : (lines : ℕ) (done : List JobFacts) (mark : ℕ) (j : JobFacts) → suc lines ≤ most_lines rules.version
+      → IsJob j
       → mark ≤ j.release
-      → refusal_of rules.ratio done j ≡ None
+      → refusal_of rules done j ≡ None
       → next_line (told lines done mark) (job_text j) ≡ told (suc lines) (done ++ j ∷ []) j.release
   one_more lines done mark j few job later none =
       let c : Account = told (suc lines) done mark in
-      ap (λ b. cond b (with_fault c Lines) (after_form c (feed_line (job_text j)))) (le-ltb most_lines (suc lines) few)
+      ap (λ b. cond b (with_fault c Lines) (after_form c (feed_line (job_text j))))
+      (le-ltb (most_lines rules.version) (suc lines) few)
       ∙ ap (after_form c) (feed_line-feed_text (JobLine j) (job_numerals j job))
       ∙ ap (with_line c (JobLine j))
       (ap (λ b. cond b (Some (late_cause rules.version))
-      (option_map NotAdmitted (refusal_of rules.ratio (admitted_jobs (map JobItem done)) j)))
+      (option_map NotAdmitted (refusal_of rules (admitted_jobs (map JobItem done)) j)))
       (le-ltb j.release mark later)
-      ∙ ap (λ jobs. option_map NotAdmitted (refusal_of rules.ratio jobs j)) (jobs_back done)
+      ∙ ap (λ jobs. option_map NotAdmitted (refusal_of rules jobs j)) (jobs_back done)
       ∙ ap (option_map NotAdmitted) none)
       ∙ ap (λ items. open_account (suc lines) (Some (record { rules = rules; items = items })) j.release)
       (sym (map-append JobItem done (j ∷ [])))
 
   -- the lines of all jobs
   all_more : (jobs done : List JobFacts) (lines mark : ℕ) → IsValid (instance_with rules (done ++ jobs))
-      → lines + length jobs ≤ most_lines
+      → lines + length jobs ≤ most_lines rules.version
       → AllByRecursion IsJob jobs → IsInOrder jobs → AllByRecursion (λ j. mark ≤ j.release) jobs
       → (last : ℕ) × (fold next_line (told lines done mark) (map job_text jobs) ≡ told (lines + length jobs)
       (done ++ jobs) last)
@@ -70,7 +73,7 @@ module _ (rules : Declaration) where
       let both : next ++ jobs ≡ done ++ j ∷ jobs = append_assoc done (j ∷ []) jobs in
       let valid_next : IsValid (instance_with rules (next ++ jobs)) =
       subst (λ js. IsValid (instance_with rules js)) (sym both) valid in
-      let admitted : refusal_of rules.ratio done j ≡ None =
+      let admitted : refusal_of rules done j ≡ None =
       valid_admitted (instance_with rules done) j (valid_front (instance_with rules next) jobs valid_next) in
       let one : next_line (told lines done mark) (job_text j) ≡ told (suc lines) next j.release =
       one_more lines done mark j (omega (arith, few)) each.0 later.0 admitted in
@@ -83,12 +86,12 @@ module _ (rules : Declaration) where
       )
 
   -- the end line
-  ends : (lines : ℕ) (jobs : List JobFacts) (mark : ℕ) → suc lines ≤ most_lines
+  ends : (lines : ℕ) (jobs : List JobFacts) (mark : ℕ) → suc lines ≤ most_lines rules.version
       → next_line (told lines jobs mark) (feed_text EndLine) ≡ record (told (suc lines) jobs mark) { standing = Ended }
   ends lines jobs mark few =
       let c : Account = told (suc lines) jobs mark in
       ap (λ b. cond b (with_fault c Lines) (after_form c (feed_line (feed_text EndLine))))
-      (le-ltb most_lines (suc lines) few)
+      (le-ltb (most_lines rules.version) (suc lines) few)
       ∙ ap (after_form c) (feed_line-feed_text EndLine tt)
 
 -- ---- the whole feed
@@ -115,8 +118,8 @@ module _ (J : Instance) (valid : IsValid J) (plain : J.rules.finishes ≡ []) wh
     feedless_jobs J.jobs,
   )
 
-  few : length J.jobs ≤ 1_000_000
-  few = valid.count
+  few : 2 + length J.jobs ≤ most_lines J.rules.version
+  few = omega (arith, valid.count, items_enough J.rules.version, items_of_lines J.rules.version)
 
   -- the jobs
   jobs_told : (last : ℕ) × (fold next_line (told declared 1 [] 0) (map job_text J.jobs) ≡ told declared

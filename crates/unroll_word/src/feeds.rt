@@ -2,6 +2,7 @@
 ghost use Rattle.std.specs.Prelude.{◌≡◌, ◌≤◌, ◌<◌, ◌^◌, ◌+◌, ◌*◌, ◌++◌, ◌∷◌, [], ℕ, List, length, map, true};
 ghost use Rattle.std.specs.List.{AllByRecursion};
 ghost use Rattle.dover_model.specs.Instance.{Instance, IsValid};
+ghost use Rattle.dover_model.specs.declared.events.Version.TheVariants.{Two};
 ghost use Rattle.dover_model.specs.Limits.{most_jobs};
 ghost use Rattle.dover_model.specs.Lines.{in_lines};
 ghost use Rattle.dover_model.specs.Feed.{rules_with};
@@ -69,7 +70,7 @@ fn put_jobs<P: Port, L: Ledger>(
 ) -> Result<(), Failed>
     requires stands { StandsBehind unrolling.old [] }
     requires each { AllByRecursion (IsTask unrolling.old.until) unrolling.old.tasks }
-    requires few { length (jobs_before unrolling.old.until unrolling.old.tasks) ≤ most_jobs }
+    requires few { length (jobs_before unrolling.old.until unrolling.old.tasks) ≤ most_jobs Two }
     ensures text { PutsThrough (P.moves port.old) (P.moves port.new) result out.old out.new
         (in_lines (map job_text (jobs_before unrolling.old.until unrolling.old.tasks))) }
     ensures count { (d : ℕ) → length unrolling.old.tasks + 1 < 2 ^ d →
@@ -102,7 +103,7 @@ pub(crate) fn put_feed<P: Port, L: Ledger>(
 ) -> Result<(), Failed>
     requires stands { StandsBehind unrolling.old [] }
     requires each { AllByRecursion (IsTask unrolling.old.until) unrolling.old.tasks }
-    requires few { length (jobs_before unrolling.old.until unrolling.old.tasks) ≤ most_jobs }
+    requires few { length (jobs_before unrolling.old.until unrolling.old.tasks) ≤ most_jobs Two }
     ensures text { PutsThrough (P.moves port.old) (P.moves port.new) result out.old out.new
         (feed_of (unrolled unrolling.old.until (rules_with rules.0 rules.1) unrolling.old.tasks)) }
     ensures count { (d : ℕ) → length unrolling.old.tasks + 1 < 2 ^ d →

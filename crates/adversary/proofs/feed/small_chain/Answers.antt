@@ -1,5 +1,6 @@
 use Rattle.std.proofs.Common.{◌≡◌, ◌+◌, ◌-◌, ◌<◌, ◌∙◌, ap, subst, refl}
 use Rattle.std.specs.List.{sum}
+use Rattle.dover_model.specs.declared.events.Version.TheVariants.{Two}
 use Rattle.dover_model.specs.Limits.{most_jobs}
 use Rattle.dover_model.specs.Bait.{chain, last_link, most_light}
 use Rattle.adversary.proofs.Chains.{sum_step, last_step, all_to_come, last_to_come, from_nothing, first_low}
@@ -51,7 +52,7 @@ returns-then-sum-ge-MOST_JOBS-clause-small c = (
 
 pub returns-clause-small : goal.returns-clause-small
 returns-clause-small c = (
-  λ h. subst (λ n. n < most_jobs) (all_summed c.args.k c.args.rounds c.loop.counter (c.loop.light + 1) c.loop.sum
+  λ h. subst (λ n. n < most_jobs Two) (all_summed c.args.k c.args.rounds c.loop.counter (c.loop.light + 1) c.loop.sum
       (sum (chain c.args.k c.args.rounds))
       (all_done c.args.rounds c.loop.counter c.loop.auto.counter-end c.loop-test.false) c.loop.invariant.total)
       c.loop.invariant.few,

@@ -27,4 +27,4 @@ loop-coming-preserved c =
     c.admit.new.admission
     (links_order c.args.k c.args.share.whole c.args.share.part 1_000_000
     (first_link c.args.k c.args.share.whole c.args.share.part) c.new-coming.ensures.ratio.above_one (omega arith))
-    it.0 it.1 c.if-not-admit.ensures.ratio
+    it.0 it.1 c.if-not-admit.ensures.rules

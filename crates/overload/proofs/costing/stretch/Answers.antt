@@ -1,4 +1,6 @@
 use Rattle.std.proofs.Common.{◌≤◌, ◌∙◌, length, sym, ap, subst, arith}
+use Rattle.dover_model.specs.declared.events.Version.TheVariants.{Two}
+use Rattle.dover_model.specs.Limits.{most_jobs}
 use Rattle.dover_model.specs.Instance.{IsInOrder, total_value}
 use Rattle.dover_model.specs.Windows.{is_inside}
 use Rattle.overload.specs.Stretches.{Caps}
@@ -6,7 +8,7 @@ use Rattle.overload.proofs.Near.{found_inside, filter_few, filter_in_order}
 use Rattle.overload.proofs.costing.stretch.Goals as goal
 
 pub total_value-total-requires : goal.total_value-total-requires
-total_value-total-requires c = subst (λ js. length js ≤ 1_000_000) (sym
+total_value-total-requires c = subst (λ js. length js ≤ most_jobs Two) (sym
     (found_inside c.args.jobs.now c.args.ticks.from c.args.ticks.until c.requires.each c.near.result.now
     c.in_ok-inside.inside.items c.deref.result.now c.deref.ensures.value c.in_ok-inside.ensures c.near.ensures))
     (omega (arith, filter_few (is_inside c.args.ticks.from c.args.ticks.until) c.args.jobs.now, c.requires.count))
@@ -18,7 +20,7 @@ cap-requires-clause-in_order c = subst IsInOrder (sym (found_inside c.args.jobs.
     (filter_in_order (is_inside c.args.ticks.from c.args.ticks.until) c.args.jobs.now c.requires.in_order)
 
 pub cap-requires-clause-count : goal.cap-requires-clause-count
-cap-requires-clause-count c = subst (λ js. length js ≤ 1_000_000) (sym
+cap-requires-clause-count c = subst (λ js. length js ≤ most_jobs Two) (sym
     (found_inside c.args.jobs.now c.args.ticks.from c.args.ticks.until c.requires.each c.near.result.now
     c.in_ok-inside.inside.items c.deref-2.result.now c.deref-2.ensures.value c.in_ok-inside.ensures c.near.ensures))
     (omega (arith, filter_few (is_inside c.args.ticks.from c.args.ticks.until) c.args.jobs.now, c.requires.count))

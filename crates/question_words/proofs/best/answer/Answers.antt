@@ -1,12 +1,21 @@
-use Rattle.std.proofs.Common.{◌≡◌, ◌∙◌, length, ap, sym, subst, codes, arith}
-use Rattle.dover_model.specs.Instance.{IsInOrder}
+use Rattle.std.proofs.Common.{◌≡◌, ◌≤◌, ℕ, ◌∙◌, length, ap, sym, subst, codes, arith}
+use Rattle.dover_model.specs.Instance.{Instance, IsInOrder, IsListable, IsValid}
 use Rattle.event_feed.specs.Listing.{listed_instance}
 use Rattle.question_words.specs.Texts.{piece_lines}
 use Rattle.question_words.proofs.Comparing.{value_low}
 use Rattle.question_words.proofs.Finding.{found}
+use Rattle.question_words.proofs.Limited.{few_listable}
 use Rattle.question_words.proofs.Lines.{four_written}
 use Rattle.question_words.proofs.Observations.{observed_in_order, observed_count}
 use Rattle.question_words.proofs.best.answer.Goals as goal
+
+-- so few jobs are within the limits
+few : (J : Instance) → IsValid J → (n : ℕ) → n ≤ 20 → n ≡ length J.jobs → IsListable J
+few J valid n low is = few_listable J valid (omega (arith, low, is))
+
+pub observe-requires-clause-listable : goal.observe-requires-clause-listable
+observe-requires-clause-listable g c = few (listed_instance c.args.listed) c.requires.valid c.len.result
+    (omega arith) (omega (arith, c.len.ensures, c.args.listed.jobs.ok.0))
 
 pub best-requires : goal.best-requires
 best-requires g c = subst IsInOrder (sym (c.deref.ensures.value ∙ c.in_ok-value.ensures.jobs))
@@ -14,7 +23,9 @@ best-requires g c = subst IsInOrder (sym (c.deref.ensures.value ∙ c.in_ok-valu
 
 pub bound-requires : goal.bound-requires
 bound-requires g c = record {
-  completed = value_low (listed_instance c.args.listed) c.requires.valid _ c.in_ok-value.ensures.value;
+  completed = value_low (listed_instance c.args.listed) c.requires.valid
+      (few (listed_instance c.args.listed) c.requires.valid c.len.result
+      (omega arith) (omega (arith, c.len.ensures, c.args.listed.jobs.ok.0))) _ c.in_ok-value.ensures.value;
 }
 
 pub returns-clause-says : goal.returns-clause-says

@@ -1,16 +1,27 @@
 use Rattle.std.proofs.Common.{◌≤◌, ◌++◌, ◌∙◌, [], sym, ap, subst, codes}
-use Rattle.dover_model.specs.Instance.{IsInOrder, total_value}
+use Rattle.dover_model.specs.Instance.{Instance, IsInOrder, IsListable, IsValid, total_value}
+use Rattle.dover_model.specs.declared.events.Version.TheVariants.{Two}
 use Rattle.dover_model.specs.Limits.{most_total}
 use Rattle.dover_model.specs.Lines.{in_lines}
 use Rattle.dover_model.specs.Schedules.{worth}
 use Rattle.event_feed.specs.Listing.{listed_instance}
-use Rattle.policy_lab.specs.PolicyRun.{policy_run}
+use Rattle.policy_lab.specs.PolicyRun.{policy_run, AreTooLarge}
 use Rattle.policy_lab.specs.Standard.{greatest_density}
 use Rattle.question_words.specs.Texts.{piece_lines}
 use Rattle.question_words.proofs.Comparing.{value_low, compared, not_large}
+use Rattle.question_words.proofs.Limited.{few_listable, run_few}
 use Rattle.question_words.proofs.Lines.{four_written}
 use Rattle.question_words.proofs.Observations.{observed_in_order, observed_total}
 use Rattle.question_words.proofs.compare.answer.Goals as goal
+
+-- jobs over which policies are run are within the limits
+few : (J : Instance) → IsValid J → (AreTooLarge J.jobs → ⊥) → IsListable J
+few J valid small = few_listable J valid (run_few J.jobs small)
+
+pub observe-requires-clause-listable : goal.observe-requires-clause-listable
+observe-requires-clause-listable g c = few (listed_instance c.args.listed) c.requires.valid
+    (not_large c.deref.result.now c.args.listed.jobs.items c.deref.ensures.value c.are_too_large.result
+    c.are_too_large.ensures c.if-are_too_large.false)
 
 pub run_policy-requires-clause-in_order : goal.run_policy-requires-clause-in_order
 run_policy-requires-clause-in_order g c = subst IsInOrder (sym (c.deref-2.ensures.value ∙ c.in_ok-dover.ensures.jobs))
@@ -18,9 +29,11 @@ run_policy-requires-clause-in_order g c = subst IsInOrder (sym (c.deref-2.ensure
 
 pub run_policy-requires-clause-total : goal.run_policy-requires-clause-total
 run_policy-requires-clause-total g c =
-    subst (λ js. total_value js ≤ most_total) (sym (c.deref-2.ensures.value ∙ c.in_ok-dover.ensures.jobs))
-    (subst (λ n. n ≤ most_total) (sym (observed_total (listed_instance c.args.listed) c.requires.valid))
-    c.requires.valid.total)
+    subst (λ js. total_value js ≤ most_total Two) (sym (c.deref-2.ensures.value ∙ c.in_ok-dover.ensures.jobs))
+    (subst (λ n. n ≤ most_total Two) (sym (observed_total (listed_instance c.args.listed) c.requires.valid))
+    (few (listed_instance c.args.listed) c.requires.valid
+    (not_large c.deref.result.now c.args.listed.jobs.items c.deref.ensures.value c.are_too_large.result
+    c.are_too_large.ensures c.if-are_too_large.false)).total)
 
 pub run_policy-requires-2-clause-in_order : goal.run_policy-requires-2-clause-in_order
 run_policy-requires-2-clause-in_order g c = subst IsInOrder (sym (c.deref-3.ensures.value ∙ c.in_ok-dover.ensures.jobs))
@@ -28,13 +41,19 @@ run_policy-requires-2-clause-in_order g c = subst IsInOrder (sym (c.deref-3.ensu
 
 pub run_policy-requires-2-clause-total : goal.run_policy-requires-2-clause-total
 run_policy-requires-2-clause-total g c =
-    subst (λ js. total_value js ≤ most_total) (sym (c.deref-3.ensures.value ∙ c.in_ok-dover.ensures.jobs))
-    (subst (λ n. n ≤ most_total) (sym (observed_total (listed_instance c.args.listed) c.requires.valid))
-    c.requires.valid.total)
+    subst (λ js. total_value js ≤ most_total Two) (sym (c.deref-3.ensures.value ∙ c.in_ok-dover.ensures.jobs))
+    (subst (λ n. n ≤ most_total Two) (sym (observed_total (listed_instance c.args.listed) c.requires.valid))
+    (few (listed_instance c.args.listed) c.requires.valid
+    (not_large c.deref.result.now c.args.listed.jobs.items c.deref.ensures.value c.are_too_large.result
+    c.are_too_large.ensures c.if-are_too_large.false)).total)
 
 pub bound-requires : goal.bound-requires
 bound-requires g c = record {
-  completed = value_low (listed_instance c.args.listed) c.requires.valid _ c.in_ok-dover.ensures.value;
+  completed = value_low (listed_instance c.args.listed) c.requires.valid
+      (few (listed_instance c.args.listed) c.requires.valid
+      (not_large c.deref.result.now c.args.listed.jobs.items c.deref.ensures.value c.are_too_large.result
+      c.are_too_large.ensures c.if-are_too_large.false)) _
+      c.in_ok-dover.ensures.value;
 }
 
 pub returns-clause-says : goal.returns-clause-says

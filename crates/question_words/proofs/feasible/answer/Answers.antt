@@ -11,6 +11,7 @@ returns-in-All-clause-says c =
     let pieces = c.in-All.pieces.items in
     let it = subst (λ js. ShowsAll js pieces) c.deref.ensures.value
     (subst (IsAnswer c.deref.result.now) c.in-All.is c.in_ok-pieces.ensures) in (
+      c.if-not-is_listable.ensures.0 refl,
       it.meets (listed_instance c.args.listed.now).rules,
       (
         pieces,
@@ -26,6 +27,7 @@ returns-in-Window-clause-says c =
     let it = subst (λ js. ShowsWindow js c.in-Window.a c.in-Window.b c.in-Window.work) c.deref.ensures.value
     (subst (IsAnswer c.deref.result.now) c.in-Window.is c.in_ok-pieces.ensures) in
     let numbers = c.in-Window.a ∷ c.in-Window.b ∷ c.in-Window.work ∷ [] in (
+      c.if-not-is_listable.ensures.0 refl,
       it.unmet (listed_instance c.args.listed.now).rules,
       (
         c.in-Window.a,

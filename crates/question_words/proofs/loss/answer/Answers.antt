@@ -1,6 +1,7 @@
-use Rattle.std.proofs.Common.{◌≤◌, ◌∙◌, List, ap, subst, length, sym, codes, get_or, false}
+use Rattle.std.proofs.Common.{◌≤◌, ◌∙◌, refl, List, ap, subst, length, sym, codes, get_or, false}
 use Rattle.dover_model.specs.Instance.{IsInOrder}
 use Rattle.dover_model.specs.JobFacts.{IsJob, JobFacts}
+use Rattle.dover_model.specs.declared.events.Version.TheVariants.{Two}
 use Rattle.dover_model.specs.Limits.{most_jobs}
 use Rattle.dover_model.specs.Sound.{Each}
 use Rattle.dover_model.specs.Run.{ran}
@@ -14,15 +15,19 @@ use Rattle.question_words.proofs.Losing.{rows_said, lost}
 use Rattle.question_words.proofs.Observations.{observed_jobs, observed_in_order, observed_count}
 use Rattle.question_words.proofs.loss.answer.Goals as goal
 
+pub observe_each-requires-clause-listable : goal.observe_each-requires-clause-listable
+observe_each-requires-clause-listable g c = c.if-not-is_listable.ensures.0 refl
+
 pub cost_of-requires-clause-in_order : goal.cost_of-requires-clause-in_order
 cost_of-requires-clause-in_order g c = subst IsInOrder (sym (c.deref.ensures.value ∙ c.in_ok-completed.ensures.jobs))
     (observed_in_order (listed_instance c.args.listed) c.requires.valid)
 
 pub cost_of-requires-clause-count : goal.cost_of-requires-clause-count
 cost_of-requires-clause-count g c =
-    subst (λ (js : List JobFacts). length js ≤ most_jobs) (sym (c.deref.ensures.value ∙ c.in_ok-completed.ensures.jobs))
-    (subst (λ n. n ≤ most_jobs) (sym (observed_count (listed_instance c.args.listed) c.requires.valid))
-    c.requires.valid.count)
+    subst (λ (js : List JobFacts). length js ≤ most_jobs Two)
+    (sym (c.deref.ensures.value ∙ c.in_ok-completed.ensures.jobs))
+    (subst (λ n. n ≤ most_jobs Two) (sym (observed_count (listed_instance c.args.listed) c.requires.valid))
+    (c.if-not-is_listable.ensures.0 refl).count)
 
 -- what the run completes is what its schedule is worth
 pub cost_of-requires-clause-value : goal.cost_of-requires-clause-value
@@ -34,7 +39,8 @@ cost_of-requires-clause-value g c =
 
 pub bound-requires : goal.bound-requires
 bound-requires g c = record {
-  completed = value_low (listed_instance c.args.listed) c.requires.valid _ c.in_ok-completed.ensures.value;
+  completed = value_low (listed_instance c.args.listed) c.requires.valid
+      (c.if-not-is_listable.ensures.0 refl) _ c.in_ok-completed.ensures.value;
 }
 
 pub rows-requires-clause-in_order : goal.rows-requires-clause-in_order
@@ -43,10 +49,10 @@ rows-requires-clause-in_order g c = subst IsInOrder (sym (c.deref-2.ensures.valu
 
 pub rows-requires-clause-count : goal.rows-requires-clause-count
 rows-requires-clause-count g c =
-    subst (λ (js : List JobFacts). length js ≤ most_jobs)
+    subst (λ (js : List JobFacts). length js ≤ most_jobs Two)
     (sym (c.deref-2.ensures.value ∙ c.in_ok-completed.ensures.jobs))
-    (subst (λ n. n ≤ most_jobs) (sym (observed_count (listed_instance c.args.listed) c.requires.valid))
-    c.requires.valid.count)
+    (subst (λ n. n ≤ most_jobs Two) (sym (observed_count (listed_instance c.args.listed) c.requires.valid))
+    (c.if-not-is_listable.ensures.0 refl).count)
 
 pub rows-requires-clause-each : goal.rows-requires-clause-each
 rows-requires-clause-each g c = subst (Each IsJob) (sym (c.deref-2.ensures.value ∙ c.in_ok-completed.ensures.jobs))
@@ -57,7 +63,8 @@ returns-clause-says g c =
     let J = listed_instance c.args.listed in
     let costed = c.in_ok-costed.costed in
     let rows = c.in_ok-rows.rows.items in
-    lost J c.requires.valid costed c.deref.result.now (c.deref.ensures.value ∙ c.in_ok-completed.ensures.jobs)
+    lost J c.requires.valid costed (c.if-not-is_listable.ensures.0 refl) c.deref.result.now
+    (c.deref.ensures.value ∙ c.in_ok-completed.ensures.jobs)
     c.in_ok-costed.ensures
     c.in_ok-completed.completed.value c.bound.result c.in_ok-completed.ensures.value c.bound.ensures.is rows
     (rows_said J c.requires.valid costed c.deref-2.result.now

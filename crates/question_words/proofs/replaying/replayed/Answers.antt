@@ -1,9 +1,8 @@
 use Rattle.std.proofs.Common.{◌≤◌, ◌∙◌, List, length, refl, sym, ap, subst, get_or, false, arith}
 use Rattle.std.specs.List.{fold, list_any}
 use Rattle.dover_model.specs.declared.events.Event.{Event}
-use Rattle.dover_model.specs.declared.horizon.Horizon.TheVariants.{End}
 use Rattle.dover_model.specs.Run.{value_of_end}
-use Rattle.dover_model.proofs.Horizons.{due_few}
+use Rattle.dover_model.proofs.Ending.{few_printed}
 use Rattle.event_feed.specs.Listing.{listed_instance}
 use Rattle.question_words.specs.Loss.{completes}
 use Rattle.question_words.proofs.Observations.{seen_observed}
@@ -12,7 +11,7 @@ use Rattle.question_words.proofs.replaying.replayed.Goals as goal
 pub completed_by-requires : goal.completed_by-requires
 completed_by-requires g c =
     subst (λ (es : List Event). length es ≤ 5_000_001) (sym (c.deref.ensures.value ∙ c.in_ok-run.ensures.run))
-    (due_few (listed_instance c.args.listed.now) End c.requires.valid)
+    (omega (arith, few_printed (listed_instance c.args.listed.now) c.requires.valid, c.requires.listable.count))
 
 pub hads-requires : goal.hads-requires
 hads-requires g c = let J = listed_instance c.args.listed.now in (
@@ -21,6 +20,7 @@ hads-requires g c = let J = listed_instance c.args.listed.now in (
     J,
     record {
       valid = c.requires.valid;
+      listable = c.requires.listable;
       ratio = refl;
       prints = sym (c.deref-3.ensures.value ∙ c.in_ok-run.ensures.run);
     },
@@ -34,19 +34,20 @@ returns-clause-value g c = c.in_ok-completion.ensures.value
 
 pub returns-clause-done : goal.returns-clause-done
 returns-clause-done g c = λ n low.
-    c.in_ok-completion.ensures.done n (omega (arith, low, c.requires.valid.count))
+    c.in_ok-completion.ensures.done n (omega (arith, low, c.requires.listable.count))
     ∙ ap (list_any (completes n)) (c.deref.ensures.value ∙ c.in_ok-run.ensures.run)
 
 pub returns-clause-jobs : goal.returns-clause-jobs
 returns-clause-jobs g c = let J = listed_instance c.args.listed.now in
     c.in_ok-seen.ensures ∙ seen_observed J c.requires.valid c.deref-4.result.now
     (λ n low. ap (λ flags. get_or flags n false) c.deref-4.ensures.value
-    ∙ c.in_ok-completion.ensures.done n (omega (arith, low, c.requires.valid.count))
+    ∙ c.in_ok-completion.ensures.done n (omega (arith, low, c.requires.listable.count))
     ∙ ap (list_any (completes n)) (c.deref.ensures.value ∙ c.in_ok-run.ensures.run))
     c.deref-5.result.now
     (c.deref-5.ensures.value ∙ c.in_ok-hads.ensures J.rules.ratio J
     (record {
       valid = c.requires.valid;
+      listable = c.requires.listable;
       ratio = refl;
       prints = sym (c.deref-3.ensures.value ∙ c.in_ok-run.ensures.run);
     }) c.deref-2.ensures.value)

@@ -1,12 +1,13 @@
 use Rattle.std.proofs.Common.{◌≤◌, ◌∙◌, sym, ap, subst}
 use Rattle.dover_model.specs.Bound.{bound}
+use Rattle.dover_model.specs.declared.events.Version.TheVariants.{Two}
 use Rattle.dover_model.specs.Limits.{most_total}
 use Rattle.trial_words.proofs.Baiting.{value_within, written, told}
 use Rattle.trial_words.proofs.bait.text_of.Goals as goal
 
 pub bound-requires : goal.bound-requires
 bound-requires c = record {
-  completed = subst (λ v. v ≤ most_total) (sym c.value-value.ensures.completed)
+  completed = subst (λ v. v ≤ most_total Two) (sym c.value-value.ensures.completed)
       (value_within _ _ c.jobs.ensures.ratio c.jobs.ensures.some c.jobs.ensures.fits);
 }
 

@@ -3,10 +3,11 @@ use Rattle.dover_model.specs.Fraction.{Fraction, IsRatio}
 use Rattle.dover_model.specs.Generator.{generated_jobs}
 use Rattle.dover_model.specs.Instance.{IsValid, jobs_under}
 use Rattle.dover_model.specs.JobFacts.{JobFacts}
+use Rattle.dover_model.specs.declared.events.Version.TheVariants.{One, Two}
 use Rattle.dover_model.specs.Limits.{most_jobs}
 use Rattle.dover_model.specs.Reports.{summary}
 use Rattle.dover_model.specs.Run.{printed}
-use Rattle.dover_model.specs.declared.events.Version.TheVariants.{One}
+use Rattle.dover_model.proofs.Limiting.{listable}
 use Rattle.dover_port.specs.Moves.Move.{Put}
 use Rattle.dover_port.specs.declared.status.Status.TheVariants.{Done, WriteFault}
 use Rattle.dover_port.proofs.Made.{since_none}
@@ -18,11 +19,12 @@ use Rattle.trial_words.proofs.Summing.{of_text}
 use Rattle.trial_words.proofs.trial.trial_word.Goals as goal
 
 -- the run of the jobs of a seed was counted
-counted : (seed count : ℕ) (k : Fraction) (jobs : List JobFacts) (tally : Tally) → IsRatio k → count ≤ most_jobs
+counted : (seed count : ℕ) (k : Fraction) (jobs : List JobFacts) (tally : Tally) → IsRatio k → count ≤ most_jobs Two
     → jobs ≡ generated_jobs seed count k → length jobs ≡ count → HasCounted tally (printed (jobs_under One k jobs))
     → CountsRun (trial_instance k seed count) k count tally
 counted seed count k jobs tally ratio few is size seen = record {
   valid = valid k ratio seed count One few;
+  listable = listable (trial_instance k seed count) (valid k ratio seed count One few) refl;
   ratio = refl;
   size = ap length (sym is) ∙ size;
   counted = subst (λ js. HasCounted tally (printed (jobs_under One k js))) is seen;

@@ -1,4 +1,5 @@
 use Rattle.std.proofs.Common.{◌<◌, ◌≤◌, ap, subst, refl}
+use Rattle.dover_model.specs.declared.events.Version.TheVariants.{Two}
 use Rattle.dover_model.specs.Limits.{most_jobs, most_value}
 use Rattle.adversary.proofs.Feeds.{small, modest, fits}
 use Rattle.adversary.proofs.Giving.{baiting, too_heavy, rounds_low, first_some, tick_and_rounds, new_left, new_jobs}
@@ -41,7 +42,7 @@ invariant_of-result c = record {
 pub returns-clause-fits : goal.returns-clause-fits
 returns-clause-fits c = (
   λ h. fits c.args.k c.args.rounds c.in_ok-chain.ensures.ratio
-      (subst (λ n. n < most_jobs) c.in_ok-chain.ensures.numbers.sum
+      (subst (λ n. n < most_jobs Two) c.in_ok-chain.ensures.numbers.sum
       c.in_ok-chain.ensures.numbers.few)
       (subst (λ v. v ≤ most_value) c.in_ok-chain.ensures.numbers.light c.if-chain-gt-MOST_VALUE.false),
   λ h. refl,

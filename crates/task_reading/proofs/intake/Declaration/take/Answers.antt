@@ -9,7 +9,7 @@ returns-in-Ok-clause-takes c = λ rules tasks keeps. took c.args.until c.args.ta
     (record c.args.self.now { admission = c.admit.new.self }) keeps c.if-task-eq0.false c.last_release-release.result
     c.in-Ok.job
     c.last_release-release.ensures.is (c.in-Ok.ensures.refusal _ keeps.tested) c.in-Ok.ensures.job
-    (c.admit.ensures.stands _ keeps.tested) c.admit.ensures.ratio refl
+    (c.admit.ensures.stands _ keeps.tested) c.admit.ensures.rules refl
 
 pub returns-in-Err-clause-names : goal.returns-in-Err-clause-names
 returns-in-Err-clause-names c = λ rules tasks keeps.

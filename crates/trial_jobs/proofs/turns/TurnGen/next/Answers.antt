@@ -1,6 +1,6 @@
 use Rattle.std.proofs.Common.{◌≡◌, ◌∷◌, ◌-◌, ◌+◌, [], sym, ap, ◌∙◌, arith}
 use Rattle.dover_model.specs.Generator.{next_state}
-use Rattle.trial_jobs.specs.Turns.{next_four, next_job, next_turn, drawn_turns_from}
+use Rattle.trial_jobs.specs.Turns.{next_four, next_job, drawn_turns_from}
 use Rattle.trial_jobs.proofs.Drawn.{four, job_is}
 use Rattle.trial_jobs.proofs.Turning.{next_six, turn_of, turn_is, named_soon, one_turn}
 use Rattle.trial_jobs.proofs.turns.TurnGen.next.Goals as goal

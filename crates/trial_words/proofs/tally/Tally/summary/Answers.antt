@@ -1,11 +1,10 @@
-use Rattle.std.proofs.Common.{◌∙◌, sym, refl, subst, arith}
+use Rattle.std.proofs.Common.{◌∙◌, sym, subst}
 use Rattle.trial_words.specs.Tallied.{CountsRun}
-use Rattle.trial_words.proofs.Summing.{within, in_parts, told, in_template, counts_by, appended}
+use Rattle.trial_words.proofs.Summing.{within, told, in_template, counts_by, appended}
 use Rattle.trial_words.proofs.tally.Tally.summary.Goals as goal
 
-pub overflow_sub-numbers : goal.overflow_sub-numbers
-overflow_sub-numbers c =
-    omega (arith, in_parts c.requires.0 c.args.k c.args.jobs c.args.self.now c.requires.1)
+pub lost-requires : goal.lost-requires
+lost-requires c = (c.requires.0, c.args.k, c.args.jobs, c.requires.1)
 
 pub bound-requires : goal.bound-requires
 bound-requires c = record { completed = within c.requires.0 c.args.k c.args.jobs c.args.self.now c.requires.1 }
@@ -14,5 +13,5 @@ pub returns : goal.returns
 returns c J it = appended _ _ _ c.new-text.ensures.items c.in_ok-put.ensures
     ∙ in_template (counts_by c.from.result c.args.self.now _ c.bound.result)
     ∙ told J c.args.k c.from.result c.args.self.now
-    (subst (λ n. CountsRun J c.args.k n c.args.self.now) (sym c.from.ensures) it) _ c.bound.result refl
+    (subst (λ n. CountsRun J c.args.k n c.args.self.now) (sym c.from.ensures) it) _ c.bound.result c.lost.ensures
     c.bound.ensures.is

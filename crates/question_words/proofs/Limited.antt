@@ -1,0 +1,40 @@
+-- Jobs within the limits of version Two.
+use Rattle.std.proofs.Common.{◌≡◌, ◌≤◌, ◌*◌, List, [], ◌∷◌, length, refl, arith, Bool, true, false, inl}
+use Rattle.std.specs.Prelude.{nat_lt}
+use Rattle.std.specs.List.{AllByRecursion}
+use Rattle.std.proofs.lemmas.Bool.{ltb-true, ltb-false}
+use Rattle.std.proofs.lemmas.List.Sums.{sum_by-cons}
+use Rattle.dover_model.specs.Instance.{Instance, IsListable, IsValid, total_value}
+use Rattle.dover_model.specs.JobFacts.{JobFacts, IsJob}
+use Rattle.event_feed.specs.Listing.{listed_instance}
+use Rattle.event_feed.specs.declared.listed.Listed.{Listed}
+use Rattle.policy_lab.specs.PolicyRun.{AreTooLarge}
+use Rattle.question_words.specs.Replaying.{bare_instance}
+
+-- no job is worth more than 10^9
+total_low : (jobs : List JobFacts) → AllByRecursion IsJob jobs → total_value jobs ≤ 1_000_000_000 * length jobs
+total_low [] each = omega arith
+total_low (j ∷ jobs) each = omega (
+  arith,
+  sum_by-cons (λ (x : JobFacts). x.value) j jobs,
+  each.0.modest,
+  total_low jobs each.1,
+)
+
+-- so few jobs are within the limits
+pub few_listable : (J : Instance) → IsValid J → length J.jobs ≤ 10_000 → IsListable J
+few_listable J valid few = record {
+  count = omega (arith, few);
+  total = omega (arith, few, total_low J.jobs valid.each);
+}
+
+-- jobs over which policies are run are few
+pub run_few : (jobs : List JobFacts) → (AreTooLarge jobs → ⊥) → length jobs ≤ 10_000
+run_few jobs small = by_test (nat_lt 10_000 (length jobs)) refl where
+  by_test : (b : Bool) → nat_lt 10_000 (length jobs) ≡ b → length jobs ≤ 10_000
+  by_test true many = absurd (small (inl (ltb-true _ _ many)))
+  by_test false few = ltb-false _ _ few
+
+-- where none finishes early they are the same jobs
+pub bare_listable : (listed : Listed) → IsListable (listed_instance listed) → IsListable (bare_instance listed)
+bare_listable listed listable = record { count = listable.count; total = listable.total }

@@ -1,0 +1,31 @@
+//! Whether the jobs of a feed are no more than a word takes that keeps all of them.
+ghost use Rattle.std.specs.Prelude.{◌≡◌, ◌≤◌, ◌↔◌, IsTrue, length};
+ghost use Rattle.dover_model.specs.declared.events.Version.TheVariants.{Two};
+ghost use Rattle.dover_model.specs.Instance.{IsListable, total_value};
+ghost use Rattle.dover_model.specs.Limits.{most_jobs};
+ghost use Rattle.event_feed.specs.Listing.{listed_instance};
+
+use dover_model::{Job, Version};
+use event_feed::Listed;
+
+/// The sum of the values of the jobs.
+fn total(jobs: &[Job]) -> u64
+    requires { length jobs.now ≤ most_jobs Two }
+    ensures { result ≡ total_value jobs.now }
+{
+    let mut total = 0;
+    for job in jobs {
+        total += job.value();
+    }
+    total
+}
+
+/// Whether the jobs are within the limits of version Two, as those of versions One and Two always are. Takes no memory.
+pub(crate) fn is_listable(listed: &Listed) -> bool
+    ensures { IsTrue result ↔ IsListable (listed_instance listed.now) }
+{
+    if listed.jobs.len() > Version::Two.most_jobs() as usize {
+        return false;
+    }
+    total(&listed.jobs) <= Version::Two.most_total()
+}
