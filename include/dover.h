@@ -9,10 +9,11 @@
            1 <= q <= 1,000, q <= p <= 1,000,000.
    Limits  At once: `capacity` open jobs, which are admitted and not over; at most 1,000,000. A job is over at its
            deadline at the latest, so as many are enough as can come within the longest time from a release to its
-           deadline. Since the last moment of rest: 1,000,000 jobs, and 10,000,000,000,000 in value. Rest is where
-           dover_step answers DOVER_NONE and no job is open: dover_room is then the room that there was at first. From
-           there on these two limits and that of densities start anew; the clock and the numbers go on. An engine that
-           never rests answers DOVER_COUNT or DOVER_TOTAL from such a limit on till the open jobs are over.
+           deadline. Since the last moment of rest: 1,000,000 jobs, and 10,000,000,000,000 in value; in version 3
+           4,000,000,000 jobs, and 999,999,999,999,999,999 in value. Rest is where dover_step answers DOVER_NONE and no
+           job is open: dover_room is then the room that there was at first. From there on these two limits and that of
+           densities start anew; the clock and the numbers go on. An engine that never rests answers DOVER_COUNT or
+           DOVER_TOTAL from such a limit on till the open jobs are over.
    Memory  dover_init takes all of it: 116 bytes for each job of the capacity and a little more. No later call takes
            or gives back any, but dover_drop, which gives all back.
    Errors  Every call answers whatever it is asked, in any order, of a place that dover_init was called for, and of one
@@ -66,7 +67,7 @@ enum {
     DOVER_UNSETTLED = 1, /* dover_step to the release has to answer DOVER_NONE first, also between two jobs of one
                             release; so it is too for a release below the clock, and behind dover_finish */
     DOVER_BAD_JOB = 2,   /* a limit of a job */
-    DOVER_COUNT = 3,     /* 1,000,000 jobs since the last moment of rest */
+    DOVER_COUNT = 3,     /* the most jobs since the last moment of rest */
     DOVER_TOTAL = 4,     /* too much value since then */
     DOVER_DENSITY = 5,   /* its density and that of a job since then, which `number` names, break the ratio */
     DOVER_FULL = 6       /* as many jobs are open as the capacity allows: wait till one is over, or drop the job */

@@ -13,7 +13,7 @@ use Rattle.dover_model.specs.Fraction.{Fraction, is_ratio}
 use Rattle.dover_model.specs.Finishes as early
 use Rattle.dover_model.specs.JobFacts.{JobFacts}
 use Rattle.dover_model.specs.Observed.{observed}
-use Rattle.dover_model.specs.Limits.{most_jobs}
+use Rattle.dover_model.specs.Limits.{most_ready}
 use Rattle.dover_model.specs.Instance.{Instance, total_value}
 use Rattle.dover_model.specs.Run.{printed, completed_value}
 use Rattle.dover_model.specs.Settled.{settled}
@@ -436,7 +436,7 @@ engine_made p q version capacity made is_made none = by_engine made.engine refl 
   by_engine None e status =
       absurd (some_status (not ((version == 1) || (version == 2) || (version == 3)))
       (not (is_ratio (record { p = p; q = q })))
-      (nat_lt most_jobs capacity) (sym status ∙ none))
+      (nat_lt most_ready capacity) (sym status ∙ none))
   by_engine (Some v) e it = (v, e, it.1)
 
 module _ (version : Version) (p q capacity : ℕ) where

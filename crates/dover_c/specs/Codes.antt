@@ -1,7 +1,7 @@
 -- What the numbers say that go to a caller in C.
 use Rattle.std.specs.Prelude.{◌≡◌, ◌≤◌, ℕ, [], Option, Some, None, not, ◌||◌, ◌==◌, nat_lt, if◌then◌else◌, Result, Ok}
 use Rattle.std.specs.Prelude.{Err}
-use Rattle.dover_model.specs.Limits.{most_jobs}
+use Rattle.dover_model.specs.Limits.{most_ready}
 use Rattle.dover_model.specs.Fraction.{is_ratio, IsRatio}
 use Rattle.dover_model.specs.declared.events.Version.{Version}
 use Rattle.dover_model.specs.declared.events.Version.TheVariants.{One, Two, Three}
@@ -40,7 +40,7 @@ abbrev pub status_of : (p q version capacity : ℕ) → ℕ
 status_of p q version capacity =
     if not ((version == 1) || (version == 2) || (version == 3)) then 4
     else if not (is_ratio (record { p = p; q = q })) then 1
-    else if nat_lt most_jobs capacity then 2 else 3
+    else if nat_lt most_ready capacity then 2 else 3
 
 -- the number of a version
 abbrev pub version_number : Version → ℕ

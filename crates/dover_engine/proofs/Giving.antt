@@ -31,11 +31,12 @@ use Rattle.dover_engine.specs.Given.{GaveSince}
 
 -- a new engine gave nothing
 pub fresh_gave : (version : Version) (k : Fraction) (s : ReadyServer) (kept : Kept)
-    → Serves s (no_jobs version k) (Mark 0) [] → StandsFor kept [] → kept.ratio ≡ k
+    → Serves s (no_jobs version k) (Mark 0) [] → StandsFor kept []
+    → kept.rules ≡ record { ratio = k; version = version }
     → GaveSince (life_with s kept (Mark 0) false None 0 0) (no_jobs version k) []
-fresh_gave version k s kept serves stands ratio = record {
+fresh_gave version k s kept serves stands rules = record {
   admission = stands;
-  ratio = ratio;
+  rules = rules;
   serves = serves;
   settled = λ e. absurd (let f : false ≡ true = e in cc);
   unended = tt;
@@ -76,20 +77,20 @@ module _ (v : Life) (J : Instance) (events : List Event) (g : GaveSince v J even
   all_there = (g.settled ready.0).all ∙ ap (due_by J) ready.1
 
   -- a job that isn't refused may be admitted
-  pub may_admit : refusal_of v.admission.ratio J.jobs job ≡ None → IsValid (with_jobs J (job ∷ []))
+  pub may_admit : refusal_of v.admission.rules J.jobs job ≡ None → IsValid (with_jobs J (job ∷ []))
   may_admit none = admitted_valid J job rests_there.follows.valid
       (known_at v.server J job.release (settled J job.release) (rests_serves v.server J (Mark job.release) rests_there))
-      (ap (λ k. refusal_of k J.jobs job) (sym g.ratio) ∙ none)
+      (ap (λ rules. refusal_of rules J.jobs job) (sym g.rules) ∙ none)
 
   -- what was given stays, and its release is to come
   pub job_gave : (s : ReadyServer) (kept : Kept) (e : Event)
       → Serves s (with_jobs J (job ∷ [])) (Mark job.release) (settled J job.release ++ e ∷ [])
-      → StandsFor kept (J.jobs ++ job ∷ []) → kept.ratio ≡ v.admission.ratio → is_end (Prints e) ≡ false
+      → StandsFor kept (J.jobs ++ job ∷ []) → kept.rules ≡ v.admission.rules → is_end (Prints e) ≡ false
       → GaveSince (life_with s kept v.last false (Some e) v.forgotten v.earned)
       (with_jobs J (job ∷ [])) events
-  job_gave s kept e serves stands ratio no_end = record {
+  job_gave s kept e serves stands rules no_end = record {
     admission = stands;
-    ratio = ratio ∙ g.ratio;
+    rules = rules ∙ g.rules;
     serves = subst (λ es. Serves s (with_jobs J (job ∷ [])) v.last (es ++ e ∷ [])) (sym all_there)
         (subst (λ to. Serves s (with_jobs J (job ∷ [])) to (settled J job.release ++ e ∷ [])) (sym ready.1) serves);
     settled = λ f. absurd (let f2 : false ≡ true = f in cc);
@@ -106,7 +107,7 @@ pub finish_gave : (v : Life) (J : Instance) (events : List Event) (g : GaveSince
     → GaveSince (life_with s v.admission v.last false (Some e) v.forgotten v.earned) (with_finishes J (f ∷ [])) events
 finish_gave v J events g at ready s f e serves no_end = record {
   admission = g.admission;
-  ratio = g.ratio;
+  rules = g.rules;
   serves = subst (λ es. Serves s (with_finishes J (f ∷ [])) v.last (es ++ e ∷ []))
       (sym ((g.settled ready.0).all ∙ ap (due_by J) ready.1))
       (subst (λ to. Serves s (with_finishes J (f ∷ [])) to (settled J at ++ e ∷ [])) (sym ready.1) serves);
@@ -137,7 +138,7 @@ module _ (v : Life) (J : Instance) (events : List Event) (g : GaveSince v J even
       (events ++ e ∷ [])
   came_gave e some = record {
     admission = g.admission;
-    ratio = g.ratio;
+    rules = g.rules;
     serves = subst (Serves v.server J to) (sym (append-nil (events ++ e ∷ [])))
         (serves_later v.server J v.last to (events ++ e ∷ [])
         (subst (λ o. Serves v.server J v.last (events ++ option_to_list o)) some g.serves) may);
@@ -176,7 +177,7 @@ module _ (v : Life) (J : Instance) (events : List Event) (g : GaveSince v J even
         (events ++ option_to_list o)
     step_gave s None it = record {
       admission = g.admission;
-      ratio = g.ratio;
+      rules = g.rules;
       serves = subst (Serves s J to) (sym (append-nil (events ++ []) ∙ append-nil events ∙ it.0))
           (rests_serves s J to it.1);
       settled = λ f. record {
@@ -190,7 +191,7 @@ module _ (v : Life) (J : Instance) (events : List Event) (g : GaveSince v J even
     }
     step_gave s (Some e) it = record {
       admission = g.admission;
-      ratio = g.ratio;
+      rules = g.rules;
       serves = subst (Serves s J to) (sym (append-nil (events ++ e ∷ []))) it;
       settled = λ f. absurd (let f2 : true ≡ false = sym f ∙ not_reached to e in cc);
       unended = tt;

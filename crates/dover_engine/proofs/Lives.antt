@@ -16,7 +16,8 @@ use Rattle.dover_model.specs.declared.events.Version.{Version}
 use Rattle.dover_model.specs.Fraction.{Fraction}
 use Rattle.dover_model.specs.JobFacts.{JobFacts}
 use Rattle.dover_model.specs.Limits.{most_jobs}
-use Rattle.dover_model.specs.Instance.{Rules, Instance, IsValid, bare, having, with_jobs, with_finishes}
+use Rattle.dover_model.specs.Instance.{Rules, Declaration, Instance, IsValid, declared_by, bare, having}
+use Rattle.dover_model.specs.Instance.{with_jobs, with_finishes}
 use Rattle.dover_model.specs.Run.{is_end, printed}
 use Rattle.dover_model.specs.Settled.{settled, tick_of_event, last_of}
 use Rattle.dover_model.specs.Session.{EarlyFinish, finish_at, may_finish_early}
@@ -70,9 +71,10 @@ no_turn = record { jobs = []; finishes = [] }
 
 -- a new engine gave nothing
 pub new_gave : (version : Version) (k : Fraction) (s : ReadyServer) (kept : Kept)
-    → Serves s (no_jobs version k) (Mark 0) [] → StandsFor kept [] → kept.ratio ≡ k
+    → Serves s (no_jobs version k) (Mark 0) [] → StandsFor kept []
+    → kept.rules ≡ record { ratio = k; version = version }
     → Gave (life_with s kept (Mark 0) false None 0 0) (no_jobs version k) []
-new_gave version k s kept serves stands ratio = record {
+new_gave version k s kept serves stands rules = record {
   turns = [];
   tick = 0;
   over = omega arith;
@@ -83,7 +85,7 @@ new_gave version k s kept serves stands ratio = record {
   forgotten = refl;
   earned = refl;
   told = [];
-  gave = fresh_gave version k s kept serves stands ratio;
+  gave = fresh_gave version k s kept serves stands rules;
   all_events = ap (λ es. before_end es ++ [])
       (sym (one_run_prints (record { ratio = k; version = version; finishes = [] }) [] 0 (omega arith)));
 }
@@ -146,26 +148,27 @@ since_given v J es g = ap (drop v.forgotten) (jobs_given v J es g)
 module _ (v : Life) (job : JobFacts) where
   -- why it may not follow them
   pub has_cause : (cause : Option Refusal) → ((jobs : List JobFacts) → StandsFor v.admission jobs
-      → refusal_of v.admission.ratio jobs job ≡ cause) → HasCause v job cause
-  has_cause cause it J es g = ap (λ js. refusal_of J.rules.ratio js job) (since_given v J es g)
-      ∙ ap (λ k. refusal_of k g.since.jobs job) (sym g.gave.ratio) ∙ it g.since.jobs g.gave.admission
+      → refusal_of v.admission.rules jobs job ≡ cause) → HasCause v job cause
+  has_cause cause it J es g = ap (λ js. refusal_of (declared_by J.rules) js job) (since_given v J es g)
+      ∙ ap (λ rules. refusal_of rules g.since.jobs job) (sym g.gave.rules) ∙ it g.since.jobs g.gave.admission
 
   -- the job that is named
   breaker : (other : ℕ) → ((jobs : List JobFacts) → StandsFor v.admission jobs
-      → IsOther v.admission.ratio jobs job other) → (J : Instance) (es : List Event) → Gave v J es
+      → IsOther v.admission.rules.ratio jobs job other) → (J : Instance) (es : List Event) → Gave v J es
       → IsBreaker v J job (v.forgotten + other)
   breaker other it J es g = record {
     number = other;
     numbered = refl;
     is = subst (λ js. IsOther J.rules.ratio js job other) (sym (since_given v J es g))
-        (subst (λ k. IsOther k g.since.jobs job other) g.gave.ratio (it g.since.jobs g.gave.admission));
+        (subst (λ (rules : Declaration). IsOther rules.ratio g.since.jobs job other) g.gave.rules
+        (it g.since.jobs g.gave.admission));
   }
 
   -- a refusal is a cause
   pub refused_cause : (refused : Refused) → IsReadyFor v job.release
       → ((jobs : List JobFacts) → StandsFor v.admission jobs
-      → refusal_of v.admission.ratio jobs job ≡ Some (refusal_of_refused refused))
-      → ((jobs : List JobFacts) → StandsFor v.admission jobs → NamesOther v.admission.ratio jobs job refused)
+      → refusal_of v.admission.rules jobs job ≡ Some (refusal_of_refused refused))
+      → ((jobs : List JobFacts) → StandsFor v.admission jobs → NamesOther v.admission.rules.ratio jobs job refused)
       → IsCause v job (cause_behind v.forgotten refused)
   refused_cause refused.BadJob ready why other = (ready, has_cause (Some plain.BadJob) why)
   refused_cause refused.Count ready why other = (ready, has_cause (Some plain.Count) why)
@@ -434,15 +437,15 @@ module _ (v : Life) (J : Instance) (es : List Event) (g : Gave v J es) where
     -- and it stays, when the jobs are forgotten
     pub renew_gave : (s : ReadyServer) (kept : Kept)
         → ((mark : ℕ) → Rests v.server K (Mark mark) → Rests s (instead_with K [] []) (Mark mark))
-        → StandsFor kept [] → kept.ratio ≡ v.admission.ratio
+        → StandsFor kept [] → kept.rules ≡ v.admission.rules
         → Gave (life_with s kept v.last v.settled v.coming (v.forgotten + v.admission.count) (v.earned +
         v.server.ready.done)) J es
-    renew_gave s kept anew stands ratio =
+    renew_gave s kept anew stands rules =
         let rests : Rests s (instead_with K [] []) (Mark t) =
         anew t (since.there v K g.told g.gave still t last) in
         let none : v.coming ≡ None = (since.settled_now v K g.told g.gave still).none in
         let gives = since.anew_gave (life_with s kept v.last v.settled v.coming (v.forgotten + v.admission.count)
-        (v.earned + v.server.ready.done)) J t rests stands (ratio ∙ g.gave.ratio) last none g.gave.known in record {
+        (v.earned + v.server.ready.done)) J t rests stands (rules ∙ g.gave.rules) last none g.gave.known in record {
           turns = turns;
           tick = t;
           over = ends_behind (bare J.rules) g.turns g.since 0 g.tick t g.over turn
@@ -631,13 +634,14 @@ paid_more d n f start since now w before paid few = omega (arith, before, paid, 
 
 module _ (v : Life) (J : Instance) (es : List Event) (g : Gave v J es) (none : v.server.ready.ready ≡ []) where
   pub renew_paid : (start now : ℕ) → HasPaid v start now → (w : Life)
-      → w.forgotten ≡ v.forgotten + v.admission.count
+      → w.forgotten ≡ v.forgotten + v.admission.count → w.admission.rules ≡ v.admission.rules
       → HasPaid w start now
-  renew_paid start now paid w is = record {
+  renew_paid start now paid w is same = record {
     since = now;
-    before = λ d big. subst (λ n. now ≤ start + 80 * d * n) (sym is)
-        (paid_more d v.admission.count v.forgotten start paid.since now _ (paid.before d big)
-        (paid.paid.paid d (few d big))
+    before = λ d big. let old = subst (λ (rules : Declaration). most_jobs rules.version + 1 < 2 ^ d) same big in
+        subst (λ n. now ≤ start + 80 * d * n) (sym is)
+        (paid_more d v.admission.count v.forgotten start paid.since now _ (paid.before d old)
+        (paid.paid.paid d (few d old))
         waits);
     paid = record { paid = λ d big. omega arith; freely = λ early d big. omega arith };
   } where
@@ -645,11 +649,11 @@ module _ (v : Life) (J : Instance) (es : List Event) (g : Gave v J es) (none : v
     count = follows_count v.server.ready (turn_under J.rules g.since) g.gave.serves.state g.gave.serves.follows
         ∙ sym g.gave.admission.count
 
-    few : (d : ℕ) → most_jobs + 1 < 2 ^ d → v.server.ready.jobs + 1 < 2 ^ d
+    few : (d : ℕ) → most_jobs v.admission.rules.version + 1 < 2 ^ d → v.server.ready.jobs + 1 < 2 ^ d
     few d big =
-        let most : length g.since.jobs ≤ 1_000_000 = g.gave.serves.follows.valid.count in
-        let same : 1_000_001 < 2 ^ d = big in
-        omega (arith, count, g.gave.admission.count)
+        let most = g.gave.serves.follows.valid.count in
+        let limit = ap (λ (rules : Declaration). most_jobs rules.version) g.gave.rules in
+        omega (arith, count, g.gave.admission.count, limit)
 
     waits : waits_among v.server.ready.jobs (state_at v.server.ready.clock v.server.ready.ready)
         ≤ 4 * v.admission.count

@@ -6,7 +6,7 @@ use Rattle.std.specs.Bool.{MatchBool}
 use Rattle.std.specs.List.{filter}
 use Rattle.dover_model.specs.declared.events.Event.{Event}
 use Rattle.dover_model.specs.declared.events.Task.{Task}
-use Rattle.dover_model.specs.Instance.{Instance, having}
+use Rattle.dover_model.specs.Instance.{Instance, declared_by, having}
 use Rattle.dover_model.specs.State.{State, opening, is_over, is_done, value_sum, state_at}
 use Rattle.dover_model.specs.Step.{Prints}
 use Rattle.dover_model.specs.Run.{is_end, printed, completed_value}
@@ -113,16 +113,16 @@ module _ (v : Life) (J : Instance) (es : List Event) (g : GaveSince v J es) wher
 
 -- an engine whose server rests with no jobs gave nothing since
 pub anew_gave : (w : Life) (J : Instance) (t : ℕ) → Rests w.server (rest.instead_with J [] []) (Mark t)
-    → StandsFor w.admission [] → w.admission.ratio ≡ J.rules.ratio → w.last ≡ Mark t → w.coming ≡ None
+    → StandsFor w.admission [] → w.admission.rules ≡ declared_by J.rules → w.last ≡ Mark t → w.coming ≡ None
     → MayFollow (Mark 0) w.last → GaveSince w (rest.instead_with J [] []) []
-anew_gave w J t rests stands ratio last none known =
+anew_gave w J t rests stands rules last none known =
     let here : Rests w.server (rest.instead_with J [] []) w.last =
     subst (Rests w.server (rest.instead_with J [] [])) (sym last) rests in
     let nothing : [] ≡ due_by (rest.instead_with J [] []) w.last =
     none_settled (having J.rules []) rests.follows.valid t
     ∙ ap (due_by (rest.instead_with J [] [])) (sym last) in record {
       admission = stands;
-      ratio = ratio;
+      rules = rules;
       serves = subst (λ o. Serves w.server (rest.instead_with J [] []) w.last ([] ++ option_to_list o)) (sym none)
           (subst (Serves w.server (rest.instead_with J [] []) w.last) (sym nothing)
           (rests_serves w.server (rest.instead_with J [] []) w.last here));

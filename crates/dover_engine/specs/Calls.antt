@@ -7,8 +7,8 @@ use Rattle.dover_model.specs.declared.events.Refusal.{Refusal}
 use Rattle.dover_model.specs.declared.events.Refusal.TheVariants as plain
 use Rattle.dover_model.specs.JobFacts.{JobFacts}
 use Rattle.dover_model.specs.Fraction.{Fraction}
-use Rattle.dover_model.specs.Limits.{most_jobs, last_tick}
-use Rattle.dover_model.specs.Instance.{Instance, with_jobs, jobs_under, with_finishes}
+use Rattle.dover_model.specs.Limits.{most_ready, last_tick}
+use Rattle.dover_model.specs.Instance.{Instance, declared_by, with_jobs, jobs_under, with_finishes}
 use Rattle.dover_model.specs.Admission.{refusal_of}
 use Rattle.dover_model.specs.Finishes.{Finish}
 use Rattle.dover_model.specs.Processor.{runner_of}
@@ -42,7 +42,7 @@ use Rattle.dover_engine.specs.Given.{Gave, IsPrompt}
 
 -- why no engine was made
 abbrev pub not_made : ℕ → NotMade
-not_made capacity = if nat_lt most_jobs capacity then Capacity else Memory
+not_made capacity = if nat_lt most_ready capacity then Capacity else Memory
 
 -- ---- jobs
 
@@ -66,7 +66,7 @@ since_rest v J = drop v.forgotten J.jobs
 -- why the job may not follow those, if so
 abbrev pub HasCause : Life → JobFacts → Option Refusal → Type 0
 HasCause v job cause = (J : Instance) (events : List Event) → Gave v J events
-    → refusal_of J.rules.ratio (since_rest v J) job ≡ cause
+    → refusal_of (declared_by J.rules) (since_rest v J) job ≡ cause
 
 -- the job of this number breaks the ratio with it: of those since the last moment of rest the least dense one, or else
 -- the densest

@@ -2,7 +2,7 @@
 use Rattle.std.specs.Prelude.{[], ◌∷◌, ◌≡◌, ◌≤◌, ℕ, List, ◌++◌, length, map, true, false, Option, Some, None, IfSome}
 use Rattle.std.specs.Prelude.{option_to_list}
 use Rattle.dover_model.specs.declared.events.Event.{Event}
-use Rattle.dover_model.specs.Instance.{Instance, bare}
+use Rattle.dover_model.specs.Instance.{Instance, bare, declared_by}
 use Rattle.dover_model.specs.Step.{Prints}
 use Rattle.dover_model.specs.Run.{is_end, printed}
 use Rattle.dover_model.specs.Rest.{NoneBefore, TurnsEnd, Turn, behind, before_end, one_run, turn_under, turns_jobs}
@@ -26,7 +26,7 @@ pub record IsSettled (v : Life) (J : Instance) (events : List Event) : Type 0 wh
 -- last horizon, where the release of the last job is still to be given if it is coming.
 pub record GaveSince (v : Life) (J : Instance) (events : List Event) : Type 0 where
   pub admission : StandsFor v.admission J.jobs
-  pub ratio : v.admission.ratio ≡ J.rules.ratio
+  pub rules : v.admission.rules ≡ declared_by J.rules
   pub serves : Serves v.server J v.last (events ++ option_to_list v.coming)
   pub settled : v.settled ≡ true → IsSettled v J events
   pub unended : IfSome v.coming (λ e. (has_ended v ≡ false) × (is_end (Prints e) ≡ false))

@@ -67,7 +67,7 @@ has_ended v = v.server.ended
 -- no more comparisons were made than its jobs so far have called for
 pub record HasPaid (v : Life) (start now : ℕ) : Type 0 where
   pub since : ℕ
-  pub before : (d : ℕ) → most_jobs + 1 < 2 ^ d → since ≤ start + 80 * d * v.forgotten
+  pub before : (d : ℕ) → most_jobs v.admission.rules.version + 1 < 2 ^ d → since ≤ start + 80 * d * v.forgotten
   pub paid : serving.HasPaid v.server since now
 
 -- the comparisons of one call: at most 12 * d, and by a take 2 * d more for each job that was held, with d the binary

@@ -21,9 +21,10 @@ pub enum NotAdmitted {
     Unsettled,
     /// A limit of one job is broken.
     BadJob,
-    /// 1,000,000 jobs were admitted since the last moment of rest.
+    /// 1,000,000 jobs were admitted since the last moment of rest, in version Three 4,000,000,000.
     Count,
-    /// The sum of the values since the last moment of rest would pass 10,000,000,000,000.
+    /// The sum of the values since the last moment of rest would pass 10,000,000,000,000, in version Three
+    /// 999,999,999,999,999,999.
     Total,
     /// The job of this number and the job break the ratio, in one direction or the other. It is the first of the least
     /// dense jobs since the last moment of rest, or else the first of the densest.

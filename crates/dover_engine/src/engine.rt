@@ -24,6 +24,7 @@ use crate::decision::{Decision, decision_in};
 use admission::Admission;
 use dover_model::jobs::LAST_TICK;
 use dover_model::{Event, Horizon, Ratio, Version};
+use ready_jobs::MOST_READY;
 use ready_server::ReadyServer;
 use std::alloc::Global;
 use std::marker::Model;
@@ -32,9 +33,6 @@ use step_count::Steps;
 
 // How many jobs may be forgotten, and what they may have earned.
 const MOST_FORGOTTEN: u64 = 1_000_000_000_000_000_000;
-
-// How many jobs there may be.
-const MOST_JOBS: u32 = 1_000_000;
 
 /// A server with its admission, which takes all its memory when it is made, and forgets each job as it is over. Its
 /// capacity is for open jobs, and a job is over at its deadline at the latest: as many are enough as can come within
@@ -95,7 +93,7 @@ impl Engine {
         ensures paid { (now : ℕ) → IfOk result (λ engine. HasPaid engine now now) }
         ensures err { IfErr result (λ cause. cause ≡ not_made capacity) }
     {
-        if capacity > MOST_JOBS {
+        if capacity > MOST_READY {
             return Err(NotMade::Capacity);
         }
         let Ok(mut server) = ReadyServer::new(alloc, version, k) else {
@@ -106,7 +104,7 @@ impl Engine {
         }
         Ok(Engine {
             server,
-            admission: Admission::new(k),
+            admission: Admission::new(version, k),
             last: Horizon::Mark(0),
             settled: false,
             coming: None,
@@ -282,7 +280,7 @@ impl Engine {
             return;
         }
         self.server.renew();
-        self.admission = Admission::new(self.admission.ratio());
+        self.admission = Admission::new(self.admission.version(), self.admission.ratio());
         self.forgotten += jobs;
         self.earned += value;
     }

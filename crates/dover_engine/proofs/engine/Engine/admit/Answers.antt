@@ -1,7 +1,8 @@
-use Rattle.std.proofs.Common.{◌≡◌, ◌+◌, ◌∷◌, [], sym, ◌∙◌, ap, subst, refl}
+use Rattle.std.proofs.Common.{◌≡◌, ◌+◌, ◌^◌, ◌<◌, ◌∷◌, [], sym, ◌∙◌, ap, subst, refl}
 use Rattle.std.specs.Prelude.{None, Some, false}
 use Rattle.dover_model.specs.JobFacts.{JobFacts, job_of_numbers}
-use Rattle.dover_model.specs.Instance.{Instance, with_jobs}
+use Rattle.dover_model.specs.Instance.{Declaration, Instance, with_jobs}
+use Rattle.dover_model.specs.Limits.{most_jobs}
 use Rattle.dover_model.specs.Rest.{turn_under}
 use Rattle.dover_model.specs.Admission.{refusal_of}
 use Rattle.dover_engine.specs.Kept.{life_of}
@@ -22,7 +23,7 @@ admit-event-requires-clause-valid c =
     let ready = subst (λ (j : JobFacts). IsReadyFor v j.release) (sym c.in-Ok.ensures.job)
     (subst (λ u. IsReadyFor u c.args.release) (sym c.self.view_is)
     (c.is_ready_for.ensures.0 c.if-not-is_ready_for.false)) in
-    let none = subst (λ (j : JobFacts). refusal_of v.admission.ratio g.since.jobs j ≡ None) (sym c.in-Ok.ensures.job)
+    let none = subst (λ (j : JobFacts). refusal_of v.admission.rules g.since.jobs j ≡ None) (sym c.in-Ok.ensures.job)
     (c.in-Ok.ensures.refusal g.since.jobs g.gave.admission) in
     (K, rests_there v K g.told g.gave c.in-Ok.job ready, may_admit v K g.told g.gave c.in-Ok.job ready none)
 
@@ -42,14 +43,14 @@ returns-clause-ok c =
       ready = ready;
       gave = λ J events g.
           let K : Instance = turn_under J.rules g.since in
-          let none = subst (λ (j : JobFacts). refusal_of v.admission.ratio g.since.jobs j ≡ None)
+          let none = subst (λ (j : JobFacts). refusal_of v.admission.rules g.since.jobs j ≡ None)
           (sym c.in-Ok.ensures.job)
           (c.in-Ok.ensures.refusal g.since.jobs g.gave.admission) in
           admit_gave v J events g c.in-Ok.job ready c.admit-event.new.self c.admit.new.self c.admit-event.result
           (job_gave v K g.told g.gave c.in-Ok.job ready c.admit-event.new.self c.admit.new.self c.admit-event.result
           (c.admit-event.ensures.serves K (rests_there v K g.told g.gave c.in-Ok.job ready)
           (may_admit v K g.told g.gave c.in-Ok.job ready none))
-          (c.admit.ensures.stands g.since.jobs g.gave.admission) c.admit.ensures.ratio c.admit-event.ensures.open);
+          (c.admit.ensures.stands g.since.jobs g.gave.admission) c.admit.ensures.rules c.admit-event.ensures.open);
       last = refl;
       spare = c.admit-event.ensures.spare;
       room = c.admit-event.ensures.room_stays;
@@ -79,7 +80,12 @@ invariant_of-self c =
 pub returns-clause-paid : goal.returns-clause-paid
 returns-clause-paid c start now paid =
     let it = subst (λ u. HasPaid u start now) (sym c.self.view_is) paid in
-    record { since = it.since; before = it.before; paid = c.admit-event.ensures.paid it.since now it.paid }
+    record {
+      since = it.since;
+      before = λ d big. it.before d (subst (λ (rules : Declaration). most_jobs rules.version + 1 < 2 ^ d)
+          c.admit.ensures.rules big);
+      paid = c.admit-event.ensures.paid it.since now it.paid;
+    }
 
 pub returns-then-spare-eq0-clause-cause : goal.returns-then-spare-eq0-clause-cause
 returns-then-spare-eq0-clause-cause c =

@@ -7,7 +7,7 @@ use Rattle.dover_engine.proofs.engine.Engine.new.Goals as goal
 pub returns-clause-gave : goal.returns-clause-gave
 returns-clause-gave c = new_gave c.args.version c.args.k c.reserve.new.self c.new-2.result
     (c.reserve.ensures.serves (no_jobs c.args.version c.args.k) (Mark 0) [] c.in-Ok.ensures.serves)
-    c.new-2.ensures.stands c.new-2.ensures.ratio
+    c.new-2.ensures.stands c.new-2.ensures.rules
 
 pub invariant_of-result : goal.invariant_of-result
 invariant_of-result c = record {
@@ -15,7 +15,7 @@ invariant_of-result c = record {
   events = [];
   gave = new_gave c.args.version c.args.k c.reserve.new.self c.new-2.result
       (c.reserve.ensures.serves (no_jobs c.args.version c.args.k) (Mark 0) [] c.in-Ok.ensures.serves)
-      c.new-2.ensures.stands c.new-2.ensures.ratio;
+      c.new-2.ensures.stands c.new-2.ensures.rules;
   forgotten_fits = omega arith;
   earned_fits = omega arith;
 }

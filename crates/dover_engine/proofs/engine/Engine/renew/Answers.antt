@@ -1,4 +1,4 @@
-use Rattle.std.proofs.Common.{◌+◌, refl, sym, ◌∙◌, subst, arith}
+use Rattle.std.proofs.Common.{◌+◌, refl, sym, ap₂, ◌∙◌, subst, arith}
 use Rattle.dover_model.specs.Rest.{turn_under}
 use Rattle.ready_jobs.proofs.Courses.{no_items}
 use Rattle.dover_engine.specs.Kept.{life_of}
@@ -21,7 +21,8 @@ returns-clause-gave c J events gave =
     (v.forgotten + v.admission.count) (v.earned + value)) J events) (sym c.value-value.ensures.is)
     (renew_gave v J events it still c.renew.new.self c.new-self-inside.result
     (c.renew.ensures.rests (turn_under J.rules it.since)) c.new-self-inside.ensures.stands
-    (c.new-self-inside.ensures.ratio ∙ c.ratio.ensures)))
+    (c.new-self-inside.ensures.rules
+    ∙ ap₂ (λ k version. record { ratio = k; version = version }) c.ratio.ensures c.version.ensures)))
 
 pub invariant_of-self : goal.invariant_of-self
 invariant_of-self c =
@@ -44,4 +45,5 @@ returns-clause-paid c start now paid =
     (renew_paid v kept.jobs kept.events kept.gave
     (no_items v.server.ready.ready (c.is_idle.ensures.0 c.if-not-is_idle.false)) start now it (life_with
     c.renew.new.self c.new-self-inside.result v.last v.settled v.coming (v.forgotten + v.admission.count)
-    (v.earned + c.value-value.result)) refl)
+    (v.earned + c.value-value.result)) refl (c.new-self-inside.ensures.rules
+    ∙ ap₂ (λ k version. record { ratio = k; version = version }) c.ratio.ensures c.version.ensures))
