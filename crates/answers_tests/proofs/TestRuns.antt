@@ -1,9 +1,9 @@
 -- The printed steps of small runs, by computation.
-use Rattle.std.proofs.Common.{◌≡◌, ℕ, [], ◌∷◌, refl}
+use Rattle.std.proofs.Common.{◌≡◌, ℕ, ◌≤◌, [], ◌∷◌, refl, arith}
 use Rattle.dover_model.specs.declared.events.Event.TheVariants.{Release, Run, Preempt, Take, Complete, Abandon, End}
 use Rattle.dover_model.specs.declared.events.Version.TheVariants.{One, Three}
 use Rattle.dover_model.specs.JobFacts.{JobFacts, job_of_numbers}
-use Rattle.dover_model.specs.Instance.{Instance, IsValid}
+use Rattle.dover_model.specs.Instance.{Instance, IsListable, IsValid}
 use Rattle.dover_model.specs.Run.{printed}
 use Rattle.dover_model.proofs.Agreement.{is_valid-agrees}
 
@@ -13,6 +13,10 @@ three n = record {
   rules = record { ratio = record { p = 1; q = 1 }; version = One; finishes = [] };
   jobs = job_of_numbers 0 3 30 3 ∷ job_of_numbers 0 2 4 2 ∷ job_of_numbers 0 n n n ∷ [];
 }
+
+-- they are few, and worth little
+pub listed : (n : ℕ) → n ≤ 12 → IsListable (three n)
+listed n low = record { count = omega arith; total = omega arith }
 
 pub taken_valid : IsValid (three 12)
 taken_valid = (is_valid-agrees (three 12)).0 refl
@@ -49,6 +53,9 @@ early = record {
       record { ratio = record { p = 1; q = 1 }; version = Three; finishes = record { number = 2; had = 1 } ∷ [] };
   jobs = (three 12).jobs;
 }
+
+pub early_listed : IsListable early
+early_listed = record { count = omega arith; total = omega arith }
 
 pub early_valid : IsValid early
 early_valid = (is_valid-agrees early).0 refl

@@ -1,4 +1,5 @@
 ghost use Rattle.std.specs.Prelude.{◌≡◌, ◌≤◌, ◌-◌};
+ghost use Rattle.dover_model.specs.declared.events.Version.TheVariants.{Two};
 ghost use Rattle.dover_model.specs.Limits.{most_total};
 ghost use Rattle.dover_model.specs.Instance.{IsInOrder, total_value};
 
@@ -25,7 +26,7 @@ fn comes_to<P: Policy>(
     stretches: &[(u64, u64, u32)],
 )
     requires in_order { IsInOrder jobs.now }
-    requires total { total_value jobs.now ≤ most_total }
+    requires total { total_value jobs.now ≤ most_total Two }
 {
     let outcome = run_policy(alloc, policy, jobs).expect(rt, "memory");
     assert!(rt; outcome.value == value && outcome.pieces.len() == stretches.len());

@@ -10,7 +10,7 @@ use Rattle.dover_model.specs.Due.{due}
 use Rattle.dover_model.specs.Feed.{account, is_ended, is_open}
 use Rattle.dover_model.specs.Fraction.{Fraction, IsRatio}
 use Rattle.dover_model.specs.Limits.{most_jobs}
-use Rattle.dover_model.specs.declared.events.Version.TheVariants.{One}
+use Rattle.dover_model.specs.declared.events.Version.TheVariants.{One, Two}
 use Rattle.dover_model.proofs.Accepting.{feed_hands, feed_accepted}
 use Rattle.dover_model.proofs.BoundLaws.{bound, observed_bound}
 use Rattle.dover_model.proofs.Honest.{observed_honest, observed_all}
@@ -123,7 +123,7 @@ ran says ended text moves (inr said) = record {
   promises = promises_of (instance_of said.session) said.valid.jobs;
 }
 
-pub generated : (k : Fraction) (seed count : ℕ) → IsRatio k → count ≤ most_jobs
+pub generated : (k : Fraction) (seed count : ℕ) → IsRatio k → count ≤ most_jobs Two
     → KeepsPromises (trial_instance k seed count)
 generated k seed count allowed few =
     promises_of (trial_instance k seed count) (generated_valid k allowed seed count One few)
@@ -147,7 +147,8 @@ front_valid k (Some count) jobs valid = valid_front (jobs_under One k (take coun
 pub dueled : (k : Fraction) (share : Share) (front : Option ℕ) (moves : List Move) → IsShare share
     → IsDuel k share front → outs moves ≡ feed_of (duel_front k share front) → KeepsDuel k share front moves
 dueled k share front moves is it written = record {
-  loses = λ scheduler online. each_loses One k share.whole share.part scheduler is.some_part it.valid online;
+  loses = λ scheduler online. each_loses One k share.whole share.part scheduler is.some_part it.valid
+      it.valid.count online;
   feed = subst (IsFeedOf (duel_front k share front)) (sym written)
       (feed_is (duel_front k share front) (front_valid k front (jobs_for k share) it.valid) refl);
 }

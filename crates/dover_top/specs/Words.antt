@@ -3,6 +3,7 @@ use Rattle.std.specs.Prelude.{◌≡◌, ℕ, ◌^◌, ◌<◌, ◌≤◌, ◌�
 use Rattle.std.specs.Prelude.{Option, Some, None}
 use Rattle.std.specs.declared.alloc.Global.{Global}
 use Rattle.dover_model.specs.Fraction.{Fraction, IsRatio}
+use Rattle.dover_model.specs.declared.events.Version.TheVariants.{Two}
 use Rattle.dover_model.specs.Limits.{most_digits, most_jobs, last_tick}
 use Rattle.duel.specs.declared.links.Share.{Share}
 use Rattle.duel.specs.Kept.{IsShare}
@@ -47,7 +48,7 @@ IsWindow (Some w) = (w.from < w.until) × (w.until < 10 ^ most_digits)
 
 -- the number of a job that is asked about is small, and a window is one
 abbrev pub IsFormed : Form → Type 0
-IsFormed (Why n) = n ≤ most_jobs
+IsFormed (Why n) = n ≤ most_jobs Two
 IsFormed (Timeline window) = IsWindow window
 IsFormed (Svg window) = IsWindow window
 IsFormed _ = Unit {0}
@@ -61,21 +62,21 @@ pub record AsksReport (words : List (String Global)) (form : Form) : Type 0 wher
 pub record AsksTrial (words : List (String Global)) (seed count : ℕ) (k : Fraction) : Type 0 where
   pub row : spelled words ≡ codes "trial" ∷ decimal seed ∷ decimal count ∷ decimal k.p ∷ decimal k.q ∷ []
   pub small : seed < 2 ^ 31
-  pub few : count ≤ most_jobs
+  pub few : count ≤ most_jobs Two
   pub allowed : IsRatio k
 
 -- the words that ask for the stated feed of so many jobs of a seed, within a ratio
 pub record AsksDraw (words : List (String Global)) (seed count : ℕ) (k : Fraction) : Type 0 where
   pub row : spelled words ≡ codes "draw" ∷ decimal seed ∷ decimal count ∷ decimal k.p ∷ decimal k.q ∷ []
   pub small : seed < 2 ^ 31
-  pub few : count ≤ most_jobs
+  pub few : count ≤ most_jobs Two
   pub allowed : IsRatio k
 
 -- the words that ask for the run of the baiting jobs of a ratio, with so many rounds
 pub record AsksBait (words : List (String Global)) (k : Fraction) (rounds : ℕ) : Type 0 where
   pub row : spelled words ≡ codes "bait" ∷ decimal k.p ∷ decimal k.q ∷ decimal rounds ∷ []
   pub some : 1 ≤ rounds
-  pub few : rounds ≤ most_jobs
+  pub few : rounds ≤ most_jobs Two
   pub allowed : IsRatio k
 
 -- the word for a front, if there is one
@@ -86,7 +87,7 @@ front_words (Some count) = decimal count ∷ []
 -- a front that is asked for has some job, and no more than a feed may have
 abbrev pub IsFront : Option ℕ → Type 0
 IsFront None = Unit {0}
-IsFront (Some count) = (1 ≤ count) × (count ≤ most_jobs)
+IsFront (Some count) = (1 ≤ count) × (count ≤ most_jobs Two)
 
 -- the words that ask for the duel for a share, or for a front of it
 pub record AsksDuel (words : List (String Global)) (k : Fraction) (share : Share) (front : Option ℕ) : Type 0 where

@@ -9,6 +9,7 @@ ghost use Rattle.dover_top.specs.Requests.{Asks};
 ghost use Rattle.dover_top.specs.declared.request.Request.{Request};
 
 use dover_model::Ratio;
+use dover_model::jobs::LAST_TICK;
 use duel::Share;
 use line_text::numeral;
 use question_words::Question;
@@ -64,9 +65,6 @@ pub enum Request {
 
 /// The most jobs, and the most rounds.
 const MOST: u64 = 1_000_000;
-
-/// The last tick.
-const LAST_TICK: u64 = 1_000_000_000_000;
 
 /// The greatest seed.
 const MOST_SEED: u64 = 2_147_483_647;

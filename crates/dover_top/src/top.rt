@@ -23,7 +23,7 @@ use step_count::Steps;
 /// - `judge` reads a text and writes one line: whether it is the trace of a valid session, and if not where it is wrong
 ///   or that it is short.
 /// - `report text` and `report csv` read a text, and write a report on its run where it is such a trace, else the line
-///   that `judge` writes.
+///   that `judge` writes. A trace of more jobs than version Two may have, or of a greater sum, is refused.
 /// - `report chrome` does the same, with the run as events for a viewer of traces, and `report why N` with what
 ///   happened to the job of number N and by which test.
 /// - `report timeline [FROM UNTIL]` and `report svg [FROM UNTIL]` do the same, with the run, or its ticks from FROM on

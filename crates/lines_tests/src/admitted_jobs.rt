@@ -1,5 +1,5 @@
 use admission::{Admission, Refused};
-use dover_model::{Job, Ratio, Refusal};
+use dover_model::{Job, Ratio, Refusal, Version};
 
 // A job line that comes next, and the answer.
 #[derive(Drop)]
@@ -35,7 +35,7 @@ fn jobs_are_tested_against_all(rt: HostRuntime) {
         job_line(2, 5, 3, Ok(())),
         job_line(4, 5, 3, Err(Refused::Ratio { other: 1 })),
     ];
-    let mut admission = Admission::new(Ratio::new(2, 1).unwrap());
+    let mut admission = Admission::new(Version::Three, Ratio::new(2, 1).unwrap());
     for line in &lines {
         match admission.check(0, line.work, line.deadline, line.value) {
             Ok(job) => {
@@ -49,30 +49,42 @@ fn jobs_are_tested_against_all(rt: HostRuntime) {
     assert!(rt; holds);
 }
 
-// The sum of the values may be 10^13, and not more.
+// The sum of the values may be 10^13, and not more; in version Three it may be more.
 #[test]
 fn the_sum_of_values_is_bounded(rt: HostRuntime) {
-    let mut admission = Admission::new(Ratio::new(1, 1).unwrap());
+    let one = Ratio::new(1, 1).unwrap();
+    let mut admission = Admission::new(Version::Two, one);
+    let mut wide = Admission::new(Version::Three, one);
     for _ in 0..10_000 {
         if let Ok(job) = admission.check(0, 1, 1, 1_000_000_000) {
             admission.admit(job);
         }
+        if let Ok(job) = wide.check(0, 1, 1, 1_000_000_000) {
+            wide.admit(job);
+        }
     }
+    assert!(rt; wide.check(0, 1, 1, 1_000_000_000).is_ok());
     let holds = admission.count() == 10_000
         && admission.check(0, 1, 1, 1).map(|_| ()) == Err(Refused::Total)
         && Refused::Total.refusal() == Refusal::Total;
     assert!(rt; holds);
 }
 
-// A million jobs may be admitted, and not more.
+// A million jobs may be admitted, and not more; in version Three they may be more.
 #[test]
 fn the_count_is_bounded(rt: HostRuntime) {
-    let mut admission = Admission::new(Ratio::new(1, 1).unwrap());
+    let one = Ratio::new(1, 1).unwrap();
+    let mut admission = Admission::new(Version::One, one);
+    let mut wide = Admission::new(Version::Three, one);
     for _ in 0..1_000_000 {
         if let Ok(job) = admission.check(0, 1, 1, 1) {
             admission.admit(job);
         }
+        if let Ok(job) = wide.check(0, 1, 1, 1) {
+            wide.admit(job);
+        }
     }
+    assert!(rt; wide.check(0, 1, 1, 1).is_ok());
     let holds = admission.count() == 1_000_000
         && admission.check(0, 1, 1, 1).map(|_| ()) == Err(Refused::Count);
     assert!(rt; holds);

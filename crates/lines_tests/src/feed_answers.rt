@@ -144,17 +144,29 @@ fn the_end_may_come_too_early(rt: HostRuntime) {
     assert!(rt; holds);
 }
 
-// A line of 129 bytes is too long, and line 4,000,001 is one too many.
+// The first line of a feed, and how many lines it may have.
+const MOST_LINES: [(&[u8], u64); 3] = [
+    (b"k 1 1", 4_000_000),
+    (b"k 1 1 2", 4_000_000),
+    (b"k 1 1 3", 16_000_000_000),
+];
+
+// Whether a feed of this first line has so many lines, and one more is one too many.
+fn has_lines(first: &[u8], most: u64) -> bool {
+    let mut intake = Intake::new();
+    let Ok(Fed::Ratio(_, version)) = intake.line(first) else {
+        return false;
+    };
+    let lines = version.most_lines();
+    intake.skip(lines - 1);
+    lines == most && intake.line(&[b'x'; 129]) == Err(fault(lines + 1, Cause::Lines))
+}
+
+// A line of 129 bytes is too long, and one line behind the last that a feed may have is one too many.
 #[test]
 fn lines_are_bounded(rt: HostRuntime) {
-    let mut intake = Intake::new();
-    match intake.line(b"k 1 1") {
-        Ok(Fed::Ratio(_, _)) => {
-            intake.skip(3_999_999);
-            let last = intake.line(&[b'x'; 129]);
-            assert!(rt; last == Err(fault(4_000_001, Cause::Lines)));
-        }
-        _ => assert!(rt; false),
+    for (first, most) in &MOST_LINES {
+        assert!(rt; has_lines(first, *most));
     }
     let mut longer = Intake::new();
     assert!(rt; longer.line(&[b'x'; 129]) == Err(fault(1, Cause::Line)));

@@ -22,7 +22,7 @@ const TRACE: &[u8] =
     refuse 0 0 1 5 3 ratio\nrefuse 0 3 9 5 9 job\nrefuse 2 2 5 6 5 count\n\
     refuse 5 2 5 9 5 order\nrefuse 5 4 2 done\nrefuse 2 2 999999999999999999 done\n\
     refuse 1000000000000 999999999999999999 0 0 0 total\n\
-    job 999999 999999999999 1 1000000000000 1000000000\nend 10000000000000\n";
+    job 3999999999 999999999999 1 1000000000000 1000000000\nend 999999999999999999\n";
 
 // The line of a step is written again as the same bytes, and that of a refused line is read.
 fn is_taken(line: &[u8]) -> bool {
@@ -152,12 +152,12 @@ const REFUSED: [&[u8]; 34] = [
     b"run 0",
     b"run 0 0 0",
     b"run\t0 0",
-    b"run 0 1000000",
-    b"take 0 0 1000000",
-    b"preempt 0 1000000 0",
+    b"run 0 4000000000",
+    b"take 0 0 4000000000",
+    b"preempt 0 4000000000 0",
     b"complete 0 -1",
     b"abandons 0 0",
-    b"job 1000000 0 1 5 1",
+    b"job 4000000000 0 1 5 1",
     b"job 0 0 9 5 1",
     b"job 0 0 1 5 0",
     b"job 0 0 1 5 1000000001",

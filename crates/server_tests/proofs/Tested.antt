@@ -11,6 +11,7 @@ use Rattle.dover_model.specs.Instance.{IsInOrder, IsWithinRatio, IsValid, is_wit
 use Rattle.dover_model.specs.Instance.{jobs_under}
 use Rattle.dover_model.proofs.Agreement.{is_job-agrees, is_within_ratio-agrees, is_in_order-agrees}
 use Rattle.dover_model.proofs.Tests.{each}
+use Rattle.dover_model.proofs.Limiting.{jobs_least, total_least}
 use Rattle.dover_model.proofs.Members.{all_copies}
 
 -- jobs sum up to at most the greatest value each
@@ -28,8 +29,8 @@ tested_valid k version jobs ratio short are_jobs in_order dense = record {
   ratio = ratio;
   each = all;
   in_order = (is_in_order-agrees jobs).0 in_order;
-  count = omega arith;
-  total = omega (arith, total_small jobs all);
+  count = omega (arith, jobs_least version);
+  total = omega (arith, total_small jobs all, total_least version);
   densities = (each (λ i. list_all (is_within_ratio k i) jobs) (λ i. AllByRecursion (IsWithinRatio k i) jobs)
       (λ i. each (is_within_ratio k i) (IsWithinRatio k i) (is_within_ratio-agrees k i) jobs) jobs).0 dense;
 } where
@@ -61,8 +62,8 @@ equal_valid k version j n ratio few modest job dense = record {
   ratio = ratio;
   each = all_copies IsJob n j ((is_job-agrees j).0 job);
   in_order = equal_in_order j n;
-  count = omega (arith, equal_length j n);
-  total = omega (arith, equal_total j n modest);
+  count = omega (arith, equal_length j n, jobs_least version);
+  total = omega (arith, equal_total j n modest, total_least version);
   densities = all_copies (λ i. AllByRecursion (IsWithinRatio k i) (replicate n j)) n j
       (all_copies (IsWithinRatio k j) n j ((is_within_ratio-agrees k j j).0 dense));
 }

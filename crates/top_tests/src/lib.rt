@@ -30,4 +30,6 @@ mod viewed_runs;
 #[cfg(test)]
 mod whole_words;
 #[cfg(test)]
+mod wide_feeds;
+#[cfg(test)]
 mod wrong_texts;

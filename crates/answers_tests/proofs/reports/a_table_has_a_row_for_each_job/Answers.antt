@@ -1,6 +1,6 @@
-use Rattle.std.proofs.Common.{refl, sym, ◌∙◌}
+use Rattle.std.proofs.Common.{arith, refl, sym, ◌∙◌}
 use Rattle.dover_model.specs.JobFacts.{job_of_numbers}
-use Rattle.answers_tests.proofs.TestRuns.{three, taken_valid, taken_printed}
+use Rattle.answers_tests.proofs.TestRuns.{listed, three, taken_valid, taken_printed}
 use Rattle.answers_tests.proofs.reports.a_table_has_a_row_for_each_job.Goals as goal
 
 pub table-requires : goal.table-requires
@@ -10,6 +10,7 @@ table-requires g c = (
     three 12,
     record {
       valid = taken_valid;
+      listable = listed 12 (omega arith);
       ratio = refl;
       prints = taken_printed (job_of_numbers 0 3 30 3) (job_of_numbers 0 2 4 2)
           (job_of_numbers 0 12 12 12) refl refl refl ∙ sym c.steps-run.ensures;

@@ -1,6 +1,6 @@
 use Rattle.std.proofs.Common.{refl, sym, ◌∙◌}
 use Rattle.dover_model.specs.JobFacts.{job_of_numbers}
-use Rattle.answers_tests.proofs.TestRuns.{early, early_valid, early_printed}
+use Rattle.answers_tests.proofs.TestRuns.{early_listed, early, early_valid, early_printed}
 use Rattle.answers_tests.proofs.reports.a_table_tells_what_the_jobs_had.Goals as goal
 
 pub table-requires : goal.table-requires
@@ -10,6 +10,7 @@ table-requires g c = (
     early,
     record {
       valid = early_valid;
+      listable = early_listed;
       ratio = refl;
       prints = early_printed (job_of_numbers 0 3 30 3) (job_of_numbers 0 2 4 2)
           (job_of_numbers 0 12 12 12) refl refl refl ∙ sym c.early_steps-run.ensures;

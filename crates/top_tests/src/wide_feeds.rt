@@ -1,0 +1,89 @@
+//! A feed of version Three whose jobs are worth more than those of version Two may be: it is served and judged, and each
+//! word that keeps all jobs refuses it.
+use crate::calls::{Called, answer, pieces, words_of};
+use dover_port::{MemoryPort, Status};
+use std::alloc::Global;
+use std::test::Fail;
+
+/// 20,000 jobs of the greatest value that wait at once. Their bound takes more than 64 bits.
+fn wide_feed(alloc: Global) -> Result<String, Fail> {
+    let mut feed = String::from_str(alloc, "k 1000000 1 3\n")?;
+    for _ in 0..20_000 {
+        feed.push_str("job 0 1 1000000000000 1000000000\n")?;
+    }
+    feed.push_str("end\n")?;
+    Ok(feed)
+}
+
+/// Words that read a trace, how they end on that of the feed, and what they write.
+const TRACE_WORDS: [(&[&'static str], Status, &'static str); 7] = [
+    (
+        &["judge"],
+        Status::Done,
+        "accepted 20000000000000 20040020000000000000\n",
+    ),
+    (&["report", "text"], Status::Refused, "refused size\n"),
+    (&["report", "csv"], Status::Refused, "refused size\n"),
+    (&["report", "chrome"], Status::Refused, "refused size\n"),
+    (&["report", "why", "1"], Status::Refused, "refused size\n"),
+    (&["report", "timeline"], Status::Refused, "refused size\n"),
+    (&["report", "svg"], Status::Refused, "refused size\n"),
+];
+
+/// The same of words that read a feed.
+const FEED_WORDS: [(&[&'static str], Status, &'static str); 4] = [
+    (&["feasible"], Status::Refused, "refused size\n"),
+    (&["loss"], Status::Refused, "refused size\n"),
+    (&["best"], Status::Refused, "refused size\n"),
+    (&["compare"], Status::Refused, "refused size\n"),
+];
+
+/// What the words do with this input, over a port that has room for it and for the trace.
+fn told(rt: &HostRuntime, words: &[&'static str], input: &[u8]) -> Result<Called, Fail> {
+    let alloc = rt.alloc();
+    let words = words_of(alloc, words)?;
+    let script = pieces(alloc, input, 4096, 0)?;
+    let mut port = MemoryPort::new(
+        alloc,
+        script,
+        Vec::new(alloc),
+        Vec::new(alloc),
+        4096,
+        4_000_000,
+    )?;
+    let status = answer(rt, &words, &mut port);
+    let mut written = Vec::new(alloc);
+    written.extend_from_slice(port.written())?;
+    Ok(Called { status, written })
+}
+
+/// Whether each word ends so on the input, and writes this.
+fn are_told(
+    rt: &HostRuntime,
+    input: &[u8],
+    rows: &[(&[&'static str], Status, &'static str)],
+) -> Result<bool, Fail> {
+    for (words, status, text) in rows {
+        let called = told(rt, *words, input)?;
+        if called.status != *status || called.written.as_slice() != text.as_bytes() {
+            return Ok(false);
+        }
+    }
+    Ok(true)
+}
+
+#[test]
+fn a_wide_feed_is_served_and_judged(rt: HostRuntime) -> Result<(), Fail> {
+    let feed = wide_feed(rt.alloc())?;
+    let trace = told(&rt, &["serve"], feed.as_bytes())?;
+    assert!(rt; trace.status == Status::Done && trace.written.ends_with(b"end 20000000000000\n"));
+    assert!(rt; are_told(&rt, trace.written.as_slice(), &TRACE_WORDS)?);
+    Ok(())
+}
+
+#[test]
+fn a_wide_feed_is_no_question(rt: HostRuntime) -> Result<(), Fail> {
+    let feed = wide_feed(rt.alloc())?;
+    assert!(rt; are_told(&rt, feed.as_bytes(), &FEED_WORDS)?);
+    Ok(())
+}
