@@ -10,24 +10,12 @@ ghost use Rattle.best_set.specs.BestSet.{IsBestSet, value_of, pieces_of, renumbe
 use crate::choice::Choice;
 use crate::outcome::{Best, BestFault};
 use crate::search::search;
+use dover_model::jobs::total_value;
 use dover_model::{Job, Memory, Piece};
 use std::alloc::Global;
 
 /// The most jobs of which the best set is sought.
 const MOST_JOBS: usize = 20;
-
-/// The sum of the values of these jobs.
-fn total_value(jobs: &[Job]) -> u64
-    requires { length jobs.now ≤ 20 }
-    ensures is { result ≡ total_value jobs.now }
-    ensures jobs { Each IsJob jobs.now }
-{
-    let mut value = 0;
-    for job in jobs {
-        value += job.value();
-    }
-    value
-}
 
 /// The piece under the number that its job has among all jobs.
 fn renumbered(chosen: &[u32], piece: Piece) -> Piece

@@ -1,4 +1,11 @@
 //! A job with a firm deadline.
+ghost use Rattle.std.specs.Prelude.{◌≡◌, ◌≤◌, length};
+ghost use Rattle.dover_model.specs.declared.events.Version.TheVariants.{Two};
+ghost use Rattle.dover_model.specs.Instance.{total_value};
+ghost use Rattle.dover_model.specs.JobFacts.{IsJob};
+ghost use Rattle.dover_model.specs.Limits.{most_jobs};
+ghost use Rattle.dover_model.specs.Sound.{Each};
+
 use std::marker::Model;
 
 /// The last tick that a release or a deadline may name.
@@ -85,4 +92,17 @@ impl Job {
     {
         self.value
     }
+}
+
+/// The sum of the values of these jobs, at most 1,000,000.
+pub fn total_value(jobs: &[Job]) -> u64
+    requires { length jobs.now ≤ most_jobs Two }
+    ensures is { result ≡ total_value jobs.now }
+    ensures jobs { Each IsJob jobs.now }
+{
+    let mut value = 0;
+    for job in jobs {
+        value += job.value();
+    }
+    value
 }

@@ -25,7 +25,7 @@ use Rattle.dover_model.proofs.Ending.{run_is_whole}
 use Rattle.dover_model.proofs.Settling.{at_barrier, settled_is_run}
 use Rattle.dover_model.proofs.Prefixes.{step_open, behind_step, behind_after, behind_keeps, open_not_end}
 use Rattle.dover_model.proofs.Prefixes.{come_from, opening_later, later_keeps, over_ticked}
-use Rattle.dover_model.proofs.Valid.{valid_front, Split, split_known}
+use Rattle.dover_model.proofs.Onlines.{known_part, known_split, split_whole, whole_valid, known_valid}
 use Rattle.dover_model.proofs.Tests.{never}
 use Rattle.dover_model.proofs.Limiting.{jobs_most}
 use Rattle.duel.specs.Game.{IsOnline, AreValid}
@@ -193,37 +193,26 @@ module _ (J : Instance) (valid : IsValid J) (K : Instance) (valid_more : IsValid
 
 -- ---- of instances
 
-abbrev known_part : ℕ → Instance → Instance
-known_part t J = record { rules = J.rules; jobs = known_at t J.jobs }
-
 module _ (t : ℕ) (J : Instance) (valid : IsValid J) where
-  parts : Split t J.jobs
-  parts = split_known t J.jobs valid.in_order
-
-  whole_J : J ≡ with_jobs (known_part t J) parts.more
-  whole_J = ap (λ jobs. let K : Instance = record { rules = J.rules; jobs = jobs } in K) parts.whole
-
-  valid_whole : IsValid (with_jobs (known_part t J) parts.more)
-  valid_whole = subst IsValid whole_J valid
-
-  valid_part : IsValid (known_part t J)
-  valid_part = valid_front (known_part t J) parts.more valid_whole
-
   -- a run names up to t what its known jobs settle
   pub run_known : SameUpTo t 0 (ran J) (places (settled_steps (known_part t J) (t + 1)))
-  run_known = subst (λ (z : Instance). SameUpTo t 0 (ran z) (places (settled_steps (known_part t J) (t + 1))))
-      (sym whole_J)
-      (same_places (known_part t J) valid_part (with_jobs (known_part t J) parts.more) valid_whole J.rules t
-      (to_come (length (known_at t J.jobs)) parts.more)
-      (come_from (t + 1) (length (known_at t J.jobs)) parts.more parts.late)
-      (settled_steps (known_part t J) (t + 1)) (run (with_jobs (known_part t J) parts.more))
+  run_known =
+      let split = known_split t J valid in
+      let whole : Instance = with_jobs (known_part t J) split.more in
+      let is_valid = whole_valid t J valid in
+      subst (λ (z : Instance). SameUpTo t 0 (ran z) (places (settled_steps (known_part t J) (t + 1))))
+      (sym (split_whole t J valid))
+      (same_places (known_part t J) (known_valid t J valid) whole is_valid J.rules t
+      (to_come (length (known_at t J.jobs)) split.more)
+      (come_from (t + 1) (length (known_at t J.jobs)) split.more split.late)
+      (settled_steps (known_part t J) (t + 1)) (run whole)
       (opening (known_at t J.jobs))
       (opening_keeps (known_part t J))
-      (later_keeps (known_part t J) parts.more (t + 1) valid_whole parts.late)
-      (settled_is_run (known_part t J) (t + 1) valid_part)
-      (subst (λ (z : State). IsWholeRun J.rules z (run (with_jobs (known_part t J) parts.more)))
-      (opening_later (known_part t J) parts.more (t + 1) valid_whole parts.late)
-      (run_is_whole (with_jobs (known_part t J) parts.more) valid_whole)))
+      (later_keeps (known_part t J) split.more (t + 1) is_valid split.late)
+      (settled_is_run (known_part t J) (t + 1) (known_valid t J valid))
+      (subst (λ (z : State). IsWholeRun J.rules z (run whole))
+      (opening_later (known_part t J) split.more (t + 1) is_valid split.late)
+      (run_is_whole whole is_valid)))
 
 pub online : (version : Version) (k : Fraction)
     → IsOnline (AreValid version k) (λ jobs. ran (jobs_under version k jobs))

@@ -26,7 +26,7 @@ use Rattle.dover_model.proofs.Deeds.{Abandoned, Rested}
 use Rattle.dover_model.proofs.Kept.{step_deed, step_kept, opening_keeps, come_coming}
 use Rattle.dover_model.proofs.Ending.{run_is_whole, few_printed}
 use Rattle.dover_model.proofs.Honest.{count_jobs}
-use Rattle.dover_model.proofs.Runs.{last_value}
+use Rattle.dover_model.proofs.Runs.{last_value, some_printed}
 use Rattle.intervals.specs.Pages.{Page, blank, with_event, known_at, with_one_more, page_completed, ended}
 use Rattle.intervals.specs.Pages.{IsReadable}
 use Rattle.intervals.specs.Rows.{numbers_of, rows_of, weight_of, weights}
@@ -230,27 +230,13 @@ module _ (J : Instance) (valid : IsValid J) (listable : IsListable J) where
       × (filter_map weight_of reads.steps ≡ l.worth ∷ filter_map weight_of r.steps)
   weighs_next l e rest reads = (one_read l e rest reads).1
 
-  -- a whole run prints something
-  pub some_printed : (xs : List Step) (s : State) → IsWholeRun J.rules s xs → printed_of xs ≡ [] → ⊥
-  some_printed [] s whole none = whole
-  some_printed (x ∷ xs) s whole none =
-      by_move (step J.rules s) whole.1
-      (ap (λ (y : Step). cons_option (event_of y.move) (printed_of xs)) (sym whole.0) ∙ none)
-      (some_printed xs) where
-        by_move : (m : Move) → MatchBool (is_end m) (xs ≡ []) (IsWholeRun J.rules (after s m) xs)
-            → cons_option (event_of m) (printed_of xs) ≡ []
-            → ((t : State) → IsWholeRun J.rules t xs → printed_of xs ≡ [] → ⊥) → ⊥
-        by_move (Prints f) onward same more = let no : f ∷ printed_of xs ≡ [] = same in cc
-        by_move (Waits n) onward same more = more (after s (Waits n)) onward same
-        by_move Ticks onward same more = more (after s Ticks) onward same
-
   -- where all is read, the page has the rows and the value
   pub all_read : (l : Page) → Reads J l [] → (l.rows ≡ rows_of J) × (l.value ≡ completed_value J)
   all_read l reads = (by_steps reads.whole, reads.value) where
     by_steps : (reads.steps ≡ []) ⊎ IsWholeRun J.rules reads.before reads.steps → l.rows ≡ rows_of J
     by_steps (inl none) = sym (append-nil l.rows)
         ∙ ap (λ xs. l.rows ++ map numbers_of (model.intervals_of reads.current xs)) (sym none) ∙ reads.rows
-    by_steps (inr whole) = absurd (some_printed reads.steps reads.before whole reads.prints)
+    by_steps (inr whole) = absurd (some_printed J.rules reads.steps reads.before whole reads.prints)
 
   -- what the active jobs are worth is no more than all jobs are
   pub worth_small : (l : Page) (rest : List Event) → Reads J l rest → l.worth ≤ 10_000_000_000_000
@@ -268,7 +254,7 @@ module _ (J : Instance) (valid : IsValid J) (listable : IsListable J) where
   all_weighed l reads = by_steps reads.whole where
     by_steps : (reads.steps ≡ []) ⊎ IsWholeRun J.rules reads.before reads.steps → filter_map weight_of reads.steps ≡ []
     by_steps (inl none) = ap (filter_map weight_of) none
-    by_steps (inr whole) = absurd (some_printed reads.steps reads.before whole reads.prints)
+    by_steps (inr whole) = absurd (some_printed J.rules reads.steps reads.before whole reads.prints)
 
   -- before the first step
   pub none_read : Reads J blank (printed J)

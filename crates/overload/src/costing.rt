@@ -14,23 +14,10 @@ use crate::caps::{MOST_SETS, cap};
 use crate::overfull::{Ticks, overfull};
 use crate::released::released;
 use crate::stretch::{Costed, Stretch};
-use dover_model::jobs::LAST_TICK;
+use dover_model::jobs::{LAST_TICK, total_value};
 use dover_model::{Job, Memory};
 use feasibility::{Feasible, judge_feasible, work_inside};
 use std::alloc::Global;
-
-/// The sum of the values of these jobs.
-fn total_value(jobs: &[Job]) -> u64
-    requires { length jobs.now ≤ most_jobs Two }
-    ensures is { result ≡ total_value jobs.now }
-    ensures jobs { Each IsJob jobs.now }
-{
-    let mut value = 0;
-    for job in jobs {
-        value += job.value();
-    }
-    value
-}
 
 /// Those of the jobs that are released and due in some ticks.
 fn inside(alloc: Global, jobs: &[Job], from: u64, until: u64) -> Result<Vec<Job>, Memory>

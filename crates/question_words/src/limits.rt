@@ -5,20 +5,9 @@ ghost use Rattle.dover_model.specs.Instance.{IsListable, total_value};
 ghost use Rattle.dover_model.specs.Limits.{most_jobs};
 ghost use Rattle.event_feed.specs.Listing.{listed_instance};
 
-use dover_model::{Job, Version};
+use dover_model::Version;
+use dover_model::jobs::total_value;
 use event_feed::Listed;
-
-/// The sum of the values of the jobs.
-fn total(jobs: &[Job]) -> u64
-    requires { length jobs.now ≤ most_jobs Two }
-    ensures { result ≡ total_value jobs.now }
-{
-    let mut total = 0;
-    for job in jobs {
-        total += job.value();
-    }
-    total
-}
 
 /// Whether the jobs are within the limits of version Two, as those of versions One and Two always are. Takes no memory.
 pub(crate) fn is_listable(listed: &Listed) -> bool
@@ -27,5 +16,5 @@ pub(crate) fn is_listable(listed: &Listed) -> bool
     if listed.jobs.len() > Version::Two.most_jobs() as usize {
         return false;
     }
-    total(&listed.jobs) <= Version::Two.most_total()
+    total_value(&listed.jobs) <= Version::Two.most_total()
 }

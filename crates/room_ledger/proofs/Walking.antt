@@ -29,6 +29,7 @@ use Rattle.dover_model.proofs.Tests.{never}
 use Rattle.intervals.specs.Rows.{IsRunOf}
 use Rattle.intervals.proofs.Charges.{item_next}
 use Rattle.held_queue.specs.Stack.{by_deadline}
+use Rattle.dover_model.proofs.Runs.{some_printed}
 use Rattle.room_ledger.specs.Pages.{Page, nobody, empty, with_event, room_on, IsReadable, had_in}
 use Rattle.room_ledger.specs.Rooms.{room_of_step}
 use Rattle.room_ledger.specs.Rooms as tests
@@ -167,26 +168,12 @@ module _ (J : Instance) (valid : IsValid J) (listable : IsListable J) where
     reads_next reads =
         next_read reads.steps reads.before reads.keeps reads.whole reads.prints reads.follows reads.rooms reads.last
 
-  -- a whole run prints something
-  some_printed : (xs : List Step) (s : State) → IsWholeRun J.rules s xs → printed_of xs ≡ [] → ⊥
-  some_printed [] s whole none = whole
-  some_printed (x ∷ xs) s whole none =
-      by_move (step J.rules s) whole.1
-      (ap (λ (y : Step). cons_option (event_of y.move) (printed_of xs)) (sym whole.0) ∙ none)
-      (some_printed xs) where
-        by_move : (m : Move) → MatchBool (is_end m) (xs ≡ []) (IsWholeRun J.rules (after s m) xs)
-            → cons_option (event_of m) (printed_of xs) ≡ []
-            → ((t : State) → IsWholeRun J.rules t xs → printed_of xs ≡ [] → ⊥) → ⊥
-        by_move (Prints f) onward same more = let no : f ∷ printed_of xs ≡ [] = same in cc
-        by_move (Waits n) onward same more = more (after s (Waits n)) onward same
-        by_move Ticks onward same more = more (after s Ticks) onward same
-
   -- where all is read, no room is left
   pub all_read : (p : Page) (rooms : List ℕ) → Reads J p [] rooms → rooms ≡ []
   all_read p rooms reads = by_steps reads.whole where
     by_steps : (reads.steps ≡ []) ⊎ IsWholeRun J.rules reads.before reads.steps → rooms ≡ []
     by_steps (inl none) = sym reads.rooms ∙ ap (filter_map room_of_step) none
-    by_steps (inr whole) = absurd (some_printed reads.steps reads.before whole reads.prints)
+    by_steps (inr whole) = absurd (some_printed J.rules reads.steps reads.before whole reads.prints)
 
   -- and the jobs are stored as they are at the end
   pub end_stored : (p : Page) (rooms : List ℕ) → Reads J p [] rooms
@@ -209,7 +196,7 @@ module _ (J : Instance) (valid : IsValid J) (listable : IsListable J) where
           reads.keeps.sound.at_most_work,
           reads.keeps.jobs,
         )
-    by_steps (inr whole) = absurd (some_printed reads.steps reads.before whole reads.prints)
+    by_steps (inr whole) = absurd (some_printed J.rules reads.steps reads.before whole reads.prints)
 
   -- before the first step
   pub none_read : Reads J (record { entries = map entry_of (to_come 0 J.jobs); since = 0; turn = None; held = empty })

@@ -2,7 +2,7 @@ use Rattle.std.proofs.Common.{◌≡◌, ◌≤◌, ◌*◌, take}
 use Rattle.dover_model.specs.JobFacts.{IsJob}
 use Rattle.dover_model.specs.Instance.{total_value}
 use Rattle.dover_model.specs.Sound.{Each}
-use Rattle.overload.proofs.costing.total_value.Given as goal
+use Rattle.dover_model.proofs.jobs.total_value.Given as goal
 
 abbrev pub invariant-loop-job : goal.invariant-loop-job
 invariant-loop-job l = record {

@@ -4,7 +4,7 @@ use Rattle.std.proofs.lemmas.Grind.{common_steps}
 use Rattle.dover_model.specs.JobFacts.{IsJob}
 use Rattle.dover_model.specs.Sound.{Each}
 use Rattle.dover_model.proofs.Taking.{each_more}
-use Rattle.overload.proofs.costing.total_value.Goals as goal
+use Rattle.dover_model.proofs.jobs.total_value.Goals as goal
 
 pub loop-job-preserved : goal.loop-job-preserved
 loop-job-preserved c = record {
