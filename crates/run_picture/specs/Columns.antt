@@ -3,15 +3,16 @@ use Rattle.std.specs.Prelude.{ℕ, min, max, List, [], ◌∷◌, ◌++◌, ◌=
 use Rattle.dover_model.specs.declared.events.Event.{Event}
 use Rattle.dover_model.specs.JobFacts.{JobFacts}
 use Rattle.run_view.specs.Templates.{Text, filled}
+use Rattle.dover_model.specs.Settled.{tick_of_event}
 use Rattle.run_picture.specs.Plot.{column_at}
-use Rattle.run_picture.specs.Outlines.{after, tick_of, rise}
+use Rattle.run_picture.specs.Outlines.{after, rise}
 use Rattle.run_view.specs.declared.window.Window.{Window}
 use Rattle.run_picture.specs.declared.outline.Measure.{Measure}
 use Rattle.run_picture.specs.declared.outline.Outline.{Outline}
 
 -- the left pixel of the column of a step, and never before pixel x; what comes behind the window stands in the last one
 abbrev pub column_of : Window → (x : ℕ) → Event → ℕ
-column_of w x e = max x (min 1284 (column_at w (tick_of e)))
+column_of w x e = max x (min 1284 (column_at w (tick_of_event e)))
 
 -- what is measured in a column after a step, where so much is before it, or nothing since the column is another one
 abbrev pub in_column : Measure → Window → List JobFacts → (x next number : ℕ) → Event → ℕ

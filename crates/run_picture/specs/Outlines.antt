@@ -1,8 +1,9 @@
 -- Outlines of the values so far, which grow with the steps.
 use Rattle.std.specs.Prelude.{ℕ, ◌+◌, ◌-◌, max, List, [], ◌∷◌, ◌++◌, ◌==◌, if◌then◌else◌, codes}
 use Rattle.dover_model.specs.declared.events.Event.{Event}
-use Rattle.dover_model.specs.declared.events.Event.TheVariants.{Release, Run, Preempt, Take, Complete, Abandon, End}
+use Rattle.dover_model.specs.declared.events.Event.TheVariants.{Complete, Abandon}
 use Rattle.dover_model.specs.JobFacts.{JobFacts}
+use Rattle.dover_model.specs.Settled.{tick_of_event}
 use Rattle.dover_report.specs.Counts.{value_in}
 use Rattle.run_view.specs.Templates.{Text, filled}
 use Rattle.run_picture.specs.Plot.{scaled, x_at, column_at, has}
@@ -44,19 +45,9 @@ greatest m w jobs run = greatest_from m w jobs 0 0 run
 
 -- ---- how it is drawn
 
--- the tick of a step
-abbrev pub tick_of : Event → ℕ
-tick_of (Release n job) = job.release
-tick_of (Run at n) = at
-tick_of (Preempt at stops starts) = at
-tick_of (Take at stops starts) = at
-tick_of (Complete at n) = at
-tick_of (Abandon at n) = at
-tick_of (End value) = 0
-
 -- the pixel of a step: its own or the left one of its column, and never before pixel x
 abbrev pub pixel_of : Outline → (x : ℕ) → Event → ℕ
-pixel_of o x e = max x (if o.coarse then column_at o.window (tick_of e) else x_at o.window (tick_of e))
+pixel_of o x e = max x (if o.coarse then column_at o.window (tick_of_event e) else x_at o.window (tick_of_event e))
 
 -- the height of a number
 abbrev pub rise : Outline → ℕ → ℕ

@@ -3,8 +3,9 @@ use Rattle.std.specs.Prelude.{ℕ, ◌+◌, ◌-◌, max, List, [], ◌∷◌, �
 use Rattle.dover_model.specs.declared.events.Event.{Event}
 use Rattle.dover_model.specs.declared.events.Event.TheVariants.{Release, Complete, Abandon}
 use Rattle.run_view.specs.Templates.{Text}
+use Rattle.dover_model.specs.Settled.{tick_of_event}
 use Rattle.run_picture.specs.Plot.{scaled, has}
-use Rattle.run_picture.specs.Outlines.{tick_of, stair, last_stair}
+use Rattle.run_picture.specs.Outlines.{stair, last_stair}
 use Rattle.run_picture.specs.Columns.{column_of}
 use Rattle.run_view.specs.declared.window.Window.{Window}
 
@@ -19,11 +20,11 @@ ready_after _ count = count
 
 -- the same, where no step counts at the end of the window or behind it
 abbrev pub ready_in : Window → Event → ℕ → ℕ
-ready_in w e count = if nat_lt (tick_of e) w.until then ready_after e count else count
+ready_in w e count = if nat_lt (tick_of_event e) w.until then ready_after e count else count
 
 -- the most so far, where so many are ready before a step of the window, and so many after it
 abbrev pub most_after : Window → Event → (before after most : ℕ) → ℕ
-most_after w e before after most = if has w (tick_of e) then max most (max before after) else most
+most_after w e before after most = if has w (tick_of_event e) then max most (max before after) else most
 
 -- the most that are ready in the window, where so many are ready before these steps, and so many were at most
 abbrev pub most_from : Window → (count most : ℕ) → List Event → ℕ

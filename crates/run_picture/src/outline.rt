@@ -1,6 +1,7 @@
 //! Outlines of the values so far.
 ghost use Rattle.std.specs.Prelude.{◌≡◌, ◌≤◌, ◌+◌, ◌++◌, length, OnOk};
 ghost use Rattle.dover_model.specs.Limits.{most_value};
+ghost use Rattle.dover_model.specs.Settled.{tick_of_event};
 ghost use Rattle.run_picture.specs.Outlines as outlines;
 
 use crate::plot::{Window, column_at, has, scaled, x_at};
@@ -97,7 +98,7 @@ pub fn greatest(measure: Measure, window: Window, jobs: &[Job], run: &[Event]) -
 
 /// The tick of a step.
 pub fn tick_of(event: &Event) -> u64
-    ensures { result ≡ outlines.tick_of event.now }
+    ensures { result ≡ tick_of_event event.now }
 {
     match *event {
         Event::Release { job, .. } => job.release(),
