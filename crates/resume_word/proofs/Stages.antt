@@ -37,7 +37,9 @@ use Rattle.resume_word.specs.Opening.{OpeningStands, IsWholeAt, TakesFront, HasF
 use Rattle.resume_word.specs.Record.{is_part, IsFrugalFor, refused_text}
 use Rattle.resume_word.specs.Talk.{Asked, feed_of, behind_snapshot, goes_by, due_by, HasBegun, LacksBy}
 use Rattle.resume_word.specs.Keeping.{IsPast}
-use Rattle.resume_word.specs.Keeping.{IsOpen, IsStopped}
+use Rattle.resume_word.specs.Keeping.{IsOpen, IsStopped, IsGiving, IsServedOn}
+use Rattle.resume_word.specs.declared.resuming.Stage.{Stage}
+use Rattle.resume_word.specs.declared.resuming.Stage.TheVariants as stage
 use Rattle.resume_word.specs.Talk.{IsAnsweredBy, resume_talk}
 use Rattle.resume_word.specs.declared.opening.Opening.{Opening}
 use Rattle.resume_word.proofs.Bounds.{next_number}
@@ -225,19 +227,20 @@ module _ (a : Asked) (y : List ℕ) (it : IsOpened y) where
         (subst (serve.IsReady opened_call f now) (sym it.behind) ready);
   }
 
-  -- it was read
-  pub whole_took : (o : Opening) (x : List ℕ) → OpeningStands o x → (E : Type 0) → E → (piece : List ℕ) (n : ℕ) → 0 < n
-      → n ≤ length piece → y ≡ x ++ take n piece → (f : Feed) (now : ℕ)
-      → serve.IsReady opened_call f now []
-      → Takes (resume_talk a)
-      (λ z parts. E × IsPast a.start z (λ c H. serve.IsGiving c f now H parts)) x piece n
-  whole_took o x was E e piece n some fits is f now ready = took a
-      (λ z parts. E × IsPast a.start z (λ c H. serve.IsGiving c f now H parts))
-      x piece n some fits
+  -- it was read, and its feed goes on
+  pub whole_took : {L : Type 0} (o : Opening) (x : List ℕ) → OpeningStands o x → (E : Type 0) → E
+      → (piece : List ℕ) (n : ℕ) → 0 < n → n ≤ length piece → y ≡ x ++ take n piece
+      → (s : Stage L) (reader : Option Resuming) (now : ℕ) → IsServedOn s reader (lines_of y)
+      → HasSpentOn reader a.start now → Takes (resume_talk a) (λ z parts. E × IsGiving a s now z parts) x piece n
+  whole_took o x was E e piece n some fits is (stage.Opening p) reader now gone spent = absurd gone
+  whole_took o x was E e piece n some fits is (stage.Refused at) reader now gone spent = absurd gone
+  whole_took o x was E e piece n some fits is (stage.Serving s) reader now on spent =
+      let ready = on opened_call now (feed_may y it.head it.tasks it.reads) it.text spent refl in took a
+      (λ z parts. E × IsGiving a (stage.Serving s) now z parts) x piece n some fits
       (opening_due a o x was) (subst (λ z. (resume_talk a).due z ≡ []) is opened_due) (
         e,
-        subst (λ z. IsPast a.start z (λ c H. serve.IsGiving c f now H [])) is
-            (opened_giving f now ready),
+        subst (λ z. IsPast a.start z (λ c H. serve.IsGiving c s.feed now H [])) is
+            (opened_giving s.feed now ready),
       )
 
 -- ---- its feed

@@ -1,9 +1,10 @@
 -- What is kept of a snapshot, and of the feed behind it.
-use Rattle.std.specs.Prelude.{◌≡◌, true, ℕ, List, []}
+use Rattle.std.specs.Prelude.{◌≡◌, true, ℕ, List, [], Option}
 use Rattle.dover_model.specs.declared.events.Task.{Task}
-use Rattle.dover_model.specs.Lines.{lines_of}
+use Rattle.dover_model.specs.Lines.{in_lines, lines_of}
 use Rattle.dover_model.specs.Feed.{account, is_open}
-use Rattle.snapshot.specs.Snapshot.{Head}
+use Rattle.snapshot.specs.Snapshot.{Head, MayPause, snapshot}
+use Rattle.snapshot.specs.declared.resuming.Resuming.{Resuming}
 use Rattle.snapshot.specs.Reading.{Taken, Refused, reading_of}
 use Rattle.snapshot.specs.Spending.{HasSpentOn}
 use Rattle.serve_word.specs.Keeping as serve
@@ -31,6 +32,13 @@ IsOpen a o now x = OpeningStands o x × HasSpentOn o.reader a.start now
 -- this line of it is refused
 abbrev pub IsStopped : Asked → ℕ → ℕ → List ℕ → Type 0
 IsStopped a at now x = (reading_of (lines_of x) ≡ Refused at) × IsFrugalFor a.start now x
+
+-- the feed of the snapshot of these lines goes on, for each feed that they are of
+abbrev pub IsServedOn : {L : Type 0} → Stage L → Option Resuming → List (List ℕ) → Type 0
+IsServedOn (stage.Opening o) reader ls = ⊥
+IsServedOn (stage.Refused at) reader ls = ⊥
+IsServedOn (stage.Serving s) reader ls = (c : Call) (now : ℕ) → MayPause c.feed → snapshot c.feed ≡ in_lines ls
+    → HasSpentOn reader c.start now → c.listed ≡ true → serve.IsReady c s.feed now []
 
 -- all that is due for these bytes was given
 abbrev pub IsReady : {L : Type 0} → Asked → Stage L → ℕ → List ℕ → Type 0

@@ -4,7 +4,10 @@ ghost use Rattle.dialogue.specs.Turns.{AnswersBy, StopCause, StopsOn};
 ghost use Rattle.dover_port.specs.declared.status.Status.TheVariants as statuses;
 ghost use Rattle.resume_word.specs.Record.{refused_text, IsFrugalFor};
 ghost use Rattle.resume_word.specs.Talk.{Asked, resume_talk};
-ghost use Rattle.resume_word.specs.Keeping.{IsReady, IsGiving};
+ghost use Rattle.resume_word.specs.Keeping.{IsReady, IsGiving, IsServedOn};
+ghost use Rattle.resume_word.specs.declared.opening.Opening.{Opening};
+ghost use Rattle.resume_word.specs.declared.resuming.Stage.TheVariants as stage;
+ghost use Rattle.snapshot.specs.Kept.{IsReady as IsWholeFor};
 
 use crate::opening::Opening;
 use dialogue::{Stop, Talker};
@@ -58,6 +61,25 @@ fn refuse_snapshot<P: Port>(port: &mut P, out: &mut Output, line: u64) -> Result
     }
 }
 
+impl<L: Ledger> Resuming<L> {
+    /// The snapshot is whole: its feed goes on.
+    #[inline(never)]
+    fn go_on(&mut self)
+        requires { (o : Opening) × (self.old.stage ≡ stage.Opening o)
+            × ((ls : List (List ℕ)) × IsWholeFor o.reader ls) }
+        ensures goes { (o : Opening) (ls : List (List ℕ)) → self.old.stage ≡ stage.Opening o → IsWholeFor o.reader ls
+            → IsServedOn self.new.stage o.reader ls }
+        ensures same { self.new.at_end ≡ self.old.at_end }
+    {
+        let Stage::Opening(opening) = &mut self.stage else {
+            unreachable!();
+        };
+        let reader = replace(&mut opening.reader, Reader::new(self.alloc));
+        let (server, intake, mark) = reader.take();
+        self.stage = Stage::Serving(Serving::resumed(self.alloc, server, intake, mark));
+    }
+}
+
 impl<L: Ledger> Talker for Resuming<L> {
     type Meter = Steps<L>;
 
@@ -81,9 +103,7 @@ impl<L: Ledger> Talker for Resuming<L> {
             Stage::Opening(opening) => match opening.take(piece, meter) {
                 Ok((used, Got::More)) => Ok(used),
                 Ok((used, Got::Ready)) => {
-                    let reader = replace(&mut opening.reader, Reader::new(self.alloc));
-                    let (server, intake, mark) = reader.take();
-                    self.stage = Stage::Serving(Serving::resumed(self.alloc, server, intake, mark));
+                    self.go_on();
                     Ok(used)
                 }
                 Err(SnapFault::BadSnapshot { line }) => {

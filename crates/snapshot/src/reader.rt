@@ -63,6 +63,18 @@ impl Reader {
         }
     }
 
+    /// Takes the first line.
+    #[inline(never)]
+    fn begin(&mut self, line: &[u8]) -> Result<Got, SnapFault>
+        requires { self.old ≡ None }
+        ensures answers { Answers result self.new (line.now ∷ []) }
+        ensures jobs { jobs_kept self.new ≤ jobs_read (reading_of (line.now ∷ [])) }
+        ensures count { (start now : ℕ) → now ≤ start → HasSpentOn self.new start now }
+    {
+        self.resuming = Some(Resuming::begin(self.alloc, line)?);
+        Ok(Got::More)
+    }
+
     /// Takes the next line, without its line feed. After `Ready` or a fault no further line may be handed in.
     ///
     /// # Errors
@@ -79,8 +91,7 @@ impl Reader {
         if let Some(resuming) = &mut self.resuming {
             return resuming.line(line, steps);
         }
-        self.resuming = Some(Resuming::begin(self.alloc, line)?);
-        Ok(Got::More)
+        self.begin(line)
     }
 
     /// The server in the state that was stored, an intake that was handed as many lines as the paused feed had, and the

@@ -193,6 +193,7 @@ impl Resuming {
     }
 
     /// Takes the last line.
+    #[inline(never)]
     fn finish<L: Ledger>(&mut self, line: &[u8], steps: &mut Steps<L>) -> Result<Got, SnapFault>
         requires reading { (ls : List (List ℕ)) × IsReading (Some self.old) ls }
         requires all { self.old.head.jobs ≤ length self.old.stances.items }

@@ -4,12 +4,9 @@ use Rattle.snapshot.specs.Reading.{Refused}
 use Rattle.resume_word.specs.Keeping.{IsReady}
 use Rattle.dover_model.proofs.Tests.{never}
 use Rattle.resume_word.proofs.Talking.{goes_at}
-use Rattle.resume_word.proofs.Onward.{feed_may}
 use Rattle.resume_word.proofs.Stages.{front_costs, line_refused, line_lacks, opened_is}
-use Rattle.resume_word.proofs.Stages.{opened_call, past_call, past_bytes, past_takes, past_goes, opening_took}
+use Rattle.resume_word.proofs.Stages.{past_call, past_bytes, past_takes, past_goes, opening_took}
 use Rattle.resume_word.proofs.Stages.{refused_took, whole_took}
-use Rattle.snapshot.specs.Kept.{IsReady as Ready}
-use Rattle.snapshot.specs.Spending.{HasSpentOn}
 use Rattle.resume_word.proofs.resuming.ResumingTalker.take.Goals as goal
 
 pub take-requires-clause-stands : goal.take-requires-clause-stands
@@ -52,14 +49,13 @@ returns-in-Err-BadSnapshot g c = record {
       (c.in-Err-BadSnapshot.ensures.count a.start it.1) (c.in-Err-BadSnapshot.ensures.jobs x it.0)));
 }
 
-pub take-server-requires : goal.take-server-requires
-take-server-requires g c =
+pub go_on-requires : goal.go_on-requires
+go_on-requires g c =
     let a = c.requires.stands.0 in
     let x = c.requires.stands.1 in
     let it = subst (λ s. IsReady a s c.args.meter.now x) c.in-Opening.is c.requires.stands.2.1 in
     let front = rw c.in-Ok-default-Ready.field-0-1-is at (c.in-Ok-default-Ready.ensures.takes x it.0) in
-    let ls : List (List ℕ) = lines_of (x ++ take c.in-Ok-default-Ready.used c.args.piece.now) in
-    (ls, subst (λ r. Ready r ls) (sym c.replace-reader.ensures.value) front.2.1)
+    (c.take.new.self, refl, (lines_of (x ++ take c.in-Ok-default-Ready.used c.args.piece.now), front.2.1))
 
 pub returns-in-Ok-default-Ready : goal.returns-in-Ok-default-Ready
 returns-in-Ok-default-Ready g c = record {
@@ -67,15 +63,10 @@ returns-in-Ok-default-Ready g c = record {
       let it = subst (λ s. IsReady a s c.args.meter.now x) c.in-Opening.is at.1 in
       let front = rw c.in-Ok-default-Ready.field-0-1-is at (c.in-Ok-default-Ready.ensures.takes x it.0) in
       let y : List ℕ = x ++ take c.in-Ok-default-Ready.used c.args.piece.now in
-      let opened = opened_is c.take.new.self y front.2 in
-      let gives = c.take-server.ensures.gives (lines_of y)
-      (subst (λ r. Ready r (lines_of y)) (sym c.replace-reader.ensures.value) front.2.1) in
-      let may = feed_may y opened.head opened.tasks opened.reads in
-      whole_took a y opened _ x it.0 _ at.0 c.args.piece.now c.in-Ok-default-Ready.used
-      front.0 front.1 refl _ _
-      (c.resumed.ensures (opened_call a y opened) _ may (gives.each _ may opened.text)
-      (c.take-server.ensures.count a.start _ (subst (λ r. HasSpentOn r a.start c.take.new.steps)
-      (sym c.replace-reader.ensures.value) (c.in-Ok-default-Ready.ensures.count a.start it.1))) refl);
+      whole_took a y (opened_is c.take.new.self y front.2) _ x it.0 _ (c.go_on.ensures.same ∙ at.0) c.args.piece.now
+      c.in-Ok-default-Ready.used front.0 front.1 refl c.go_on.new.self.stage c.take.new.self.reader _
+      (c.go_on.ensures.goes c.take.new.self (lines_of y) refl front.2.1)
+      (c.in-Ok-default-Ready.ensures.count a.start it.1);
 }
 
 pub unreachable-requires : goal.unreachable-requires
