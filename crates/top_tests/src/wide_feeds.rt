@@ -1,5 +1,5 @@
-//! A feed of version Three whose jobs are worth more than those of version Two may be: it is served and judged, and each
-//! word that keeps all jobs refuses it.
+//! A feed of version Three whose jobs are worth more than those of version Two may be: it is served and judged, and
+//! each word that keeps all jobs refuses it.
 use crate::calls::{Called, answer, pieces, words_of};
 use dover_port::{MemoryPort, Status};
 use std::alloc::Global;
