@@ -11,7 +11,8 @@ use Rattle.dover_model.specs.Admission.{refusal_of}
 use Rattle.dover_model.specs.Session.{Item, JobItem, RefusedItem, FinishItem, Session, instance_of, session_with}
 use Rattle.dover_model.specs.Session.{admitted_jobs, early_finishes, may_finish_early, late_refusal, finish_at}
 use Rattle.dover_model.specs.Session.{early_at, RefusedLine, RefusedJob, RefusedDone, Refused, MayRefuse, MayBeRefused}
-use Rattle.dover_model.specs.Session.{FollowsItems, IsValidSession}
+use Rattle.dover_model.specs.Session.{FollowsItems, IsValidSession, refusal_in}
+use Rattle.dover_model.proofs.Fullness.{refused_alone}
 use Rattle.dover_model.proofs.Tests.{never, none_is_some}
 
 -- no finish is right
@@ -51,8 +52,8 @@ job_refused S mark r former may = by_line r.line refl may.line where
   by_line (RefusedDone tick number) is done = never (sym former ∙ done.version)
   by_line (RefusedJob j refusal) is job = by_order (nat_lt j.release r.at) refl job.cause where
     by_order : (b : Bool) → nat_lt j.release r.at ≡ b
-        → cond b (late_refusal S.rules.version) (refusal_of S.rules (admitted_jobs S.items) j) ≡ Some refusal
+        → cond b (late_refusal S.rules.version) (refusal_in S j) ≡ Some refusal
         → (j : JobFacts) × (refusal : Refusal) × (r.line ≡ RefusedJob j refusal) × (r.at ≤ j.release)
         × (refusal_of S.rules (admitted_jobs S.items) j ≡ Some refusal)
     by_order true late cause = none_is_some (sym (late_none S.rules.version former) ∙ cause)
-    by_order false ordered cause = (j, refusal, is, ltb-false _ _ ordered, cause)
+    by_order false ordered cause = (j, refusal, is, ltb-false _ _ ordered, refused_alone S j refusal former cause)

@@ -20,6 +20,7 @@ pub mod Agreement
 pub mod EntryOrders
 pub mod FirstOfTasks
 pub mod Members
+pub mod Fullness
 pub mod InPlace
 pub mod Taking
 pub mod Cases

@@ -99,6 +99,7 @@ impl Version {
 }
 
 /// Why a job isn't admitted. One that comes too late is refused in version Three alone: before it, that ends the feed.
+/// So many ready jobs that no more may come there are in version Three alone.
 #[derive(Clone, Copy, PartialEq, Eq)]
 pub enum Refusal {
     /// Its release, work, deadline or value is out of the limits, or it can't be done from its release on.
@@ -111,6 +112,8 @@ pub enum Refusal {
     Ratio,
     /// Its release is below the mark.
     Late,
+    /// As many jobs are ready at its release as may be ready at once: 1,000,000.
+    Full,
 }
 
 /// What a job is at a moment.

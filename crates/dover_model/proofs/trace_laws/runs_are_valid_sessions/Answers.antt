@@ -2,7 +2,7 @@ use Rattle.dover_model.proofs.RunSessions.{run_session_valid, run_jobs, same_pri
 use Rattle.dover_model.proofs.trace_laws.runs_are_valid_sessions.Goals as goal
 
 pub returns-clause-session : goal.returns-clause-session
-returns-clause-session c = λ J three valid. run_session_valid J valid three
+returns-clause-session c = λ J three valid few. run_session_valid J valid three few
 
 pub returns-clause-jobs : goal.returns-clause-jobs
 returns-clause-jobs c = run_jobs
