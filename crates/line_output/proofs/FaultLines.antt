@@ -3,7 +3,7 @@ use Rattle.std.proofs.Common.{◌≤◌, ◌<◌, ◌^◌, ◌∷◌, ℕ, lengt
 use Rattle.std.proofs.lemmas.Fmt.{length-decimal-le}
 use Rattle.line_text.specs.Writing.{with_field}
 use Rattle.dover_model.specs.Feed.{Cause, Lines, Line, Declared, Order, NotAdmitted, NotDone, Short}
-use Rattle.dover_model.specs.declared.events.Refusal.TheVariants.{BadJob, Count, Total, Ratio, Late}
+use Rattle.dover_model.specs.declared.events.Refusal.TheVariants.{BadJob, Count, Total, Ratio, Late, Full}
 use Rattle.dover_model.specs.Due.{cause_word}
 
 -- a number of 64 bits has at most twenty digits
@@ -25,6 +25,7 @@ word_size (NotAdmitted Count) = omega arith
 word_size (NotAdmitted Total) = omega arith
 word_size (NotAdmitted Ratio) = omega arith
 word_size (NotAdmitted Late) = omega arith
+word_size (NotAdmitted Full) = omega arith
 word_size NotDone = omega arith
 word_size Short = omega arith
 

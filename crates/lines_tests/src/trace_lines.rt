@@ -20,7 +20,7 @@ const TRACE: &[u8] =
     job 22 530 5 550 25\npreempt 530 21 22\ncomplete 535 22\nrun 535 21\njob 23 560 20 580 2000\n\
     preempt 560 21 23\ncomplete 580 23\nrun 580 21\ncomplete 585 21\nend 8555\ntake 0 0 2\n\
     refuse 0 0 1 5 3 ratio\nrefuse 0 3 9 5 9 job\nrefuse 2 2 5 6 5 count\n\
-    refuse 5 2 5 9 5 order\nrefuse 5 4 2 done\nrefuse 2 2 999999999999999999 done\n\
+    refuse 5 2 5 9 5 order\nrefuse 7 7 2 9 5 full\nrefuse 5 4 2 done\nrefuse 2 2 999999999999999999 done\n\
     refuse 1000000000000 999999999999999999 0 0 0 total\n\
     job 3999999999 999999999999 1 1000000000000 1000000000\nend 999999999999999999\n";
 
@@ -46,7 +46,7 @@ fn lines_are_read_and_written(rt: HostRuntime) {
             assert!(rt; is_taken(lines.line()));
         }
     }
-    let holds = lines.count() == 93 && lines.rest() == 0;
+    let holds = lines.count() == 94 && lines.rest() == 0;
     assert!(rt; holds);
 }
 

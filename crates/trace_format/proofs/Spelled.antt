@@ -12,7 +12,7 @@ use Rattle.std.proofs.lemmas.Slice.Eq.{bytes_eq-Decides}
 use Rattle.dover_model.specs.declared.events.Event.{Event}
 use Rattle.dover_model.specs.declared.events.Event.TheVariants.{Release, Run, Preempt, Take, Complete, Abandon, End}
 use Rattle.dover_model.specs.declared.events.Refusal.{Refusal}
-use Rattle.dover_model.specs.declared.events.Refusal.TheVariants.{BadJob, Count, Total, Ratio, Late}
+use Rattle.dover_model.specs.declared.events.Refusal.TheVariants.{BadJob, Count, Total, Ratio, Late, Full}
 use Rattle.dover_model.specs.JobFacts.{JobFacts, IsJob, is_job, job_of_numbers, job_numbers}
 use Rattle.dover_model.specs.Numerals.{numeral, numerals, AreShort}
 use Rattle.dover_model.specs.Lines.{fields_of, line_of, with_numbers, numbers_after}
@@ -296,7 +296,8 @@ first_from (field ∷ fields) f read =
 
 -- the word of a refusal
 named_from : (word : List ℕ) (cause : Refusal) → verdict.refusal_of_word word ≡ Some cause → refusal_word cause ≡ word
-named_from word cause = next BadJob _ (next Count _ (next Total _ (next Ratio _ (next Late _ none_is_some)))) where
+named_from word cause = next BadJob _ (next Count _ (next Total _ (next Ratio _ (next Late _
+    (next Full _ none_is_some))))) where
   next : (refusal : Refusal) (other : Option Refusal) → (other ≡ Some cause → refusal_word cause ≡ word)
       → (if bytes_eq word (refusal_word refusal) then Some refusal else other) ≡ Some cause → refusal_word cause ≡ word
   next refusal other = by_word word (refusal_word refusal) (λ w. refusal_word cause ≡ w) (Some refusal) other cause
@@ -420,6 +421,7 @@ word_named Count = refl
 word_named Total = refl
 word_named Ratio = refl
 word_named Late = refl
+word_named Full = refl
 
 -- the fields of a refused line are read as it
 refused_read : (t r c d v : ℕ) (cause : Refusal) → AreShort (t ∷ r ∷ c ∷ d ∷ v ∷ [])

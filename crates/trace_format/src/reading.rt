@@ -69,6 +69,8 @@ fn refusal_of_word(word: &[u8]) -> Option<Refusal>
         Some(Refusal::Ratio)
     } else if word == b"order".as_slice() {
         Some(Refusal::Late)
+    } else if word == b"full".as_slice() {
+        Some(Refusal::Full)
     } else {
         None
     }

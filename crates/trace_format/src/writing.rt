@@ -47,5 +47,6 @@ pub fn refusal_word(cause: Refusal) -> &'static [u8]
         Refusal::Total => b"total",
         Refusal::Ratio => b"ratio",
         Refusal::Late => b"order",
+        Refusal::Full => b"full",
     }
 }
