@@ -296,12 +296,13 @@ first_from (field ∷ fields) f read =
 
 -- the word of a refusal
 named_from : (word : List ℕ) (cause : Refusal) → verdict.refusal_of_word word ≡ Some cause → refusal_word cause ≡ word
-named_from word cause = next BadJob _ (next Count _ (next Total _ (next Ratio _ (next Late _
-    (next Full _ none_is_some))))) where
-  next : (refusal : Refusal) (other : Option Refusal) → (other ≡ Some cause → refusal_word cause ≡ word)
-      → (if bytes_eq word (refusal_word refusal) then Some refusal else other) ≡ Some cause → refusal_word cause ≡ word
-  next refusal other = by_word word (refusal_word refusal) (λ w. refusal_word cause ≡ w) (Some refusal) other cause
-      (λ read. ap refusal_word (sym (some_same _ _ read)))
+named_from word cause =
+    next BadJob _ (next Count _ (next Total _ (next Ratio _ (next Late _ (next Full _ none_is_some))))) where
+      next : (refusal : Refusal) (other : Option Refusal) → (other ≡ Some cause → refusal_word cause ≡ word)
+          → (if bytes_eq word (refusal_word refusal) then Some refusal else other) ≡ Some cause
+          → refusal_word cause ≡ word
+      next refusal other = by_word word (refusal_word refusal) (λ w. refusal_word cause ≡ w) (Some refusal) other cause
+          (λ read. ap refusal_word (sym (some_same _ _ read)))
 
 -- the last word
 last_from : (fields : List (List ℕ)) (cause : Refusal) → last_word fields ≡ Some cause

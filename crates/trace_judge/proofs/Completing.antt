@@ -8,9 +8,12 @@ use Rattle.std.proofs.lemmas.List.{append-nil}
 use Rattle.std.proofs.lemmas.List.Elements.{filter_map-append}
 use Rattle.admission.specs.Kept as admission
 use Rattle.std.specs.Option.{option_map}
+use Rattle.std.specs.List.{filter}
 use Rattle.ready_jobs.proofs.Courses.{follows_count}
+use Rattle.ready_jobs.proofs.Reordering.{as_many}
+use Rattle.dover_model.specs.Ready.{is_ready}
 use Rattle.dover_model.specs.Instance.{Instance, with_finishes}
-use Rattle.dover_model.specs.Limits.{last_tick, most_items, most_jobs}
+use Rattle.dover_model.specs.Limits.{last_tick, most_items}
 use Rattle.dover_model.specs.declared.events.Event.{Event}
 use Rattle.dover_model.specs.declared.events.Event.TheVariants.{Complete}
 use Rattle.dover_model.specs.declared.events.Role.TheVariants.{Running}
@@ -22,7 +25,7 @@ use Rattle.dover_model.specs.Run.{Step, printed_of}
 use Rattle.dover_model.specs.Settled.{settled, settled_steps, settled_state, last_of, finish_now}
 use Rattle.dover_model.specs.Session.{FinishItem, EarlyFinish, Session, instance_of, admitted_jobs, with_item}
 use Rattle.dover_model.specs.Session.{MayFinish}
-use Rattle.dover_model.specs.Session.{job_of_item, refused_of_item, finish_at, early_at, may_finish_early}
+use Rattle.dover_model.specs.Session.{job_of_item, refused_of_item, finish_at, early_at, may_finish_early, ready_at}
 use Rattle.dover_model.specs.Text.{text_of}
 use Rattle.dover_model.specs.Verdict.{named_item, begins_trace}
 use Rattle.dover_model.specs.Leading.{WaitsUntil}
@@ -105,6 +108,11 @@ module _ (r : Reading) (at : ℕ) (ls : List (List ℕ)) (S : Session) (z y : St
       (leads_later_mark J.rules r.floor at waited.no_fall waited.goes.sees.steps (opening J.jobs) z
       waited.goes.sees.leads))
       (settles_passes J.rules at waited.waits.steps z there waited.waits.settles))))
+
+  -- as many jobs are ready there as the course keeps
+  pub ready_is : length r.course.ready ≡ ready_at J at
+  ready_is = as_many (filter is_ready y.tasks) r.course.ready waited.goes.follows.ready
+      ∙ ap (λ (s : State). length (filter is_ready s.tasks)) (sym state_is)
 
   -- the job that runs there
   pub running_is : running (settled_state J at) ≡ running y
@@ -314,7 +322,6 @@ module _ (r : Reading) (at number : ℕ) (ls : List (List ℕ)) (can : CanComple
           arith,
           old.ready,
           fewer,
-          ap (λ (c : Course). most_jobs c.rules.version) kept,
           ap (λ (c : Course). c.room) kept,
         );
         steps = λ keep. let before : 5 * (r.course.jobs + r.spare) + 1 ≤ r.room = old.steps keep in

@@ -417,8 +417,11 @@ module _ (ls : List (List ℕ)) (S : Session) (floor : ℕ) (z : State) (sees : 
       jobs = subst IsValid (sym jobs_more) valid_K;
       count = omega (arith, may.room, length-append S.items (JobItem j ∷ []));
       items = follows_behind S.rules [] 0 S.items (JobItem j ∷ []) sees.valid.items (
-        let low : mark_after 0 S.items ≤ floor = sees.mark in let ordered : floor ≤ j.release = may.no_fall in
-            omega arith,
+        record {
+          no_fall = let low : mark_after 0 S.items ≤ floor = sees.mark in
+              let ordered : floor ≤ j.release = may.no_fall in omega arith;
+          room = may.not_full;
+        },
         tt,
       );
     }

@@ -35,7 +35,7 @@ mark_next : (rules : Declaration) (before : List Item) (mark : ℕ) (x : Item) (
     → FollowsItems rules before mark (x ∷ more)
     → mark_after (tick_of_item x) more ≡ mark_after mark (x ∷ more)
 mark_next rules before mark (JobItem j) more follows =
-    ap (λ m. mark_after m more) (sym (later mark j.release follows.0))
+    ap (λ m. mark_after m more) (sym (later mark j.release follows.0.no_fall))
 mark_next rules before mark (RefusedItem r) more follows =
     ap (λ m. mark_after m more) (sym (later mark r.at follows.0.no_fall))
 mark_next rules before mark (FinishItem f) more follows =

@@ -11,6 +11,7 @@ pub mod Readings
 pub mod Paying
 pub mod Taking
 pub mod Releases
+pub mod Causes
 pub mod Refusals
 pub mod Completing
 pub mod Unread

@@ -328,8 +328,9 @@ module _ (ls : List (List ℕ)) (S : Session) (floor : ℕ) (z : State) (sees : 
       follows_more (JobItem j) names in
       let valid_K : IsValid (with_jobs (instance_of S) (j ∷ [])) =
       subst IsValid (job_instance S j) (valid_more (JobItem j) names).jobs in
+      let ordered : mark_after 0 S.items ≤ j.release = follows.0.no_fall in
       let before : Reads S j.release =
-      reads_later S (mark_after 0 S.items) j.release (reads_mark S sees.valid) follows.0 in
+      reads_later S (mark_after 0 S.items) j.release (reads_mark S sees.valid) ordered in
       let line : TraceLine = Printed (Release (length (admitted_jobs S.items)) j) in
       let begins : Begins (lines_at S j.release ++ line ∷ []) (all_lines (with_item S (JobItem j))) =
       begins_onward (lines_at S j.release ++ line ∷ []) (lines_at (with_item S (JobItem j)) j.release)
@@ -337,13 +338,14 @@ module _ (ls : List (List ℕ)) (S : Session) (floor : ℕ) (z : State) (sees : 
       (lines_job S j before valid_K)
       (lines_of_trace (with_item S (JobItem j)) j.release (reads_job S j before valid_K)) in
       let waits : (y : State) × WaitsUntil (instance_of S).rules j.release z y =
-      only_waits (JobItem j) names j.release follows.0 line refl before begins in (
-        only_text (JobItem j) names j.release follows.0 line refl before begins,
+      only_waits (JobItem j) names j.release ordered line refl before begins in (
+        only_text (JobItem j) names j.release ordered line refl before begins,
         waits.0,
         record {
           room = room_more (JobItem j) names;
           admitted = valid_admitted (instance_of S) j valid_K;
-          no_fall = only_later (JobItem j) names j.release follows.0 line refl before begins;
+          not_full = follows.0.room;
+          no_fall = only_later (JobItem j) names j.release ordered line refl before begins;
           waits = waits.1;
         },
       )

@@ -4,7 +4,7 @@ use Rattle.std.proofs.Common.{arith, cond}
 use Rattle.std.specs.Option.{option_map_or, option_and_then}
 use Rattle.dover_model.specs.declared.events.Event.{Event}
 use Rattle.dover_model.specs.Instance.{Instance, Declaration}
-use Rattle.dover_model.specs.Limits.{most_items, most_jobs}
+use Rattle.dover_model.specs.Limits.{most_items, most_ready}
 use Rattle.dover_model.specs.State.{State}
 use Rattle.dover_model.specs.Session.{Session, instance_of}
 use Rattle.dover_model.specs.Trace.{trace_lines}
@@ -99,7 +99,6 @@ module _ (r : Reading) (ready spare room : ℕ) (ls : List (List ℕ)) where
   room_opens it = record {
     lines = it.lines;
     course = ap (λ (c : Course). record c { room = ready }) it.course;
-    version = it.version;
     items = it.items;
     floor = it.floor;
     steps = it.steps;
@@ -213,10 +212,9 @@ module _ (r w : Reading) (same : r ≡ w) (d : Course) (e : Event) (going : r.st
 
 -- room stays where the ready jobs grow no more
 pub spare_stays : (r : Reading) (d : Course) → HasSpare r → length d.ready ≤ length r.course.ready
-    → d.jobs ≡ r.course.jobs → d.room ≡ r.course.room → d.rules ≡ r.course.rules
-    → HasSpare (record r { course = d })
-spare_stays r d spare fewer jobs room rules = record {
-  ready = omega (arith, spare.ready, fewer, room, ap (λ (k : Declaration). most_jobs k.version) rules);
+    → d.jobs ≡ r.course.jobs → d.room ≡ r.course.room → HasSpare (record r { course = d })
+spare_stays r d spare fewer jobs room = record {
+  ready = omega (arith, spare.ready, fewer, room);
   steps = λ keep. let old : 5 * (r.course.jobs + r.spare) + 1 ≤ r.room = spare.steps keep in omega (arith, jobs);
 }
 
@@ -226,7 +224,7 @@ pub next_reader : (r : Reading) → IsReader r → (d : Course) (e : Event) → 
     → GoesOnFrom r.course d
     → IsReader (record r { course = d })
 next_reader r old d e going next on = record {
-  spare = spare_stays r d old.spare on.fewer on.jobs on.room on.rules;
+  spare = spare_stays r d old.spare on.fewer on.jobs on.room;
   lines = old.lines;
   reads = next_ahead r d e going next old.lines old.reads;
 }
@@ -246,7 +244,7 @@ kept_on c d kept fewer =
 -- what is kept, with other room
 pub reserve_reader : (r : Reading) → IsReader r → (d : Course) (steps : List Event) (spare room : ℕ)
     → d ≡ record r.course { room = d.room }
-    → steps ≡ r.steps → min (length r.course.ready + spare) (most_jobs r.course.rules.version) ≤ d.room
+    → steps ≡ r.steps → min (length r.course.ready + spare) most_ready ≤ d.room
     → (r.keep ≡ true → 5 * (r.course.jobs + spare) + 1 ≤ room)
     → IsReader (record r { course = d; steps = steps; spare = spare; room = room })
 reserve_reader r old d steps spare room same unchanged ready all =

@@ -8,12 +8,14 @@ use Rattle.admission.specs.Kept as admission
 use Rattle.dover_model.specs.Limits.{last_tick, most_items}
 use Rattle.dover_model.specs.JobFacts.{JobFacts, job_of_numbers}
 use Rattle.dover_model.specs.declared.events.Refusal.{Refusal}
+use Rattle.dover_model.specs.declared.events.Refusal.TheVariants.{Full}
 use Rattle.dover_model.specs.Instance.{Instance}
 use Rattle.dover_model.specs.State.{State}
 use Rattle.dover_model.specs.Run.{printed_of}
 use Rattle.dover_model.specs.Settled.{last_of}
 use Rattle.dover_model.specs.Session.{RefusedItem, Refused as RefusedAt, Session, instance_of, admitted_jobs, with_item}
-use Rattle.dover_model.specs.Session.{refuses_lines, refusal_at, may_finish_early, finish_at, refused_of_item}
+use Rattle.dover_model.specs.Session.{refuses_lines, is_full, refused_mark, may_finish_early, finish_at}
+use Rattle.dover_model.specs.Session.{refused_of_item}
 use Rattle.dover_model.specs.Session as session
 use Rattle.dover_model.specs.Text.{refused_text}
 use Rattle.dover_model.specs.Verdict.{named_item, begins_trace}
@@ -28,6 +30,8 @@ use Rattle.trace_judge.proofs.Only.{only_refused}
 use Rattle.trace_judge.specs.declared.stage.Stage.TheVariants.{Going}
 use Rattle.ready_jobs.specs.Course.{Follows}
 use Rattle.trace_judge.specs.Reads.{Reading, Goes, ReadsAhead, StaysAhead, IsReader, kept_steps, Took, Waited, at_tick}
+use Rattle.trace_judge.specs.Reads.{refusal_if_full}
+use Rattle.trace_judge.proofs.Causes.{full_there, refused_if_full, refused_there}
 use Rattle.trace_judge.proofs.Readings.{goes_of, ahead_of, here_of, reads_of, reads_ahead, version_kept, room_kept}
 use Rattle.trace_judge.proofs.Readings.{room_left}
 use Rattle.dover_model.proofs.Tests.{never}
@@ -182,26 +186,45 @@ module _ (at r c d v : ℕ) (cause : Refusal) (form : HasForm (Refused at r c d 
   pub job_not : (w : Reading) → w.stage ≡ Going
       → (refuses_lines w.kept.rules.version ≡ true → at ≤ last_tick → w.items < most_items w.kept.rules.version
       → (jobs : List JobFacts) → admission.StandsFor w.kept jobs
-      → refusal_at w.kept.rules jobs at (job_of_numbers r c d v) ≡ Some cause → ⊥)
+      → refusal_if_full w.kept.rules jobs at (job_of_numbers r c d v) ≡ Some cause → ⊥)
       → Took w w (refused_text job_line) false
   job_not w going none = not_refused job_line job_named w going w (λ ls reads. reads) (λ ls S z goes y may.
       none (ap refuses_lines (sym (version_kept w ls S z z goes)) ∙ may.refused.line.version) may.refused.known
       (room_kept w ls S z z goes may.room) (admitted_jobs S.items) goes.kept
-      (ap (λ k. refusal_at k (admitted_jobs S.items) at (job_of_numbers r c d v)) goes.rules
-      ∙ may.refused.line.cause))
+      (ap (λ k. refusal_if_full k (admitted_jobs S.items) at (job_of_numbers r c d v)) goes.rules
+      ∙ refused_if_full S at (job_of_numbers r c d v) cause may.refused.line.cause may.refused.line.raised))
+
+  -- its cause is that as many jobs are ready as may be at once, and they aren't
+  pub job_roomy : (w v2 : Reading) → w.stage ≡ Going → StaysAhead w v2
+      → ((ls : List (List ℕ)) (S : Session) (z y : State) → Goes w ls S z y → (x : State) × Waited v2 at ls S z x)
+      → cause ≡ Full
+      → ((t : ℕ) (ls : List (List ℕ)) (S : Session) (z y : State) → Waited v2 t ls S z y
+      → is_full (instance_of S) t ≡ false)
+      → Took w v2 (refused_text job_line) false
+  job_roomy w v2 going ahead waits is roomy = not_refused job_line job_named w going v2 ahead (λ ls S z goes y may.
+      let there = waits ls S z z goes in
+      never (sym (roomy at ls S z there.0 there.1)
+      ∙ full_there S at (job_of_numbers r c d v) (may.refused.line.cause ∙ ap Some is)
+      (subst (λ k. refused_mark at (job_of_numbers r c d v) k ≡ at) is may.refused.line.raised)))
 
   -- they refuse it so
   pub job_may : (w v2 : Reading) → refuses_lines w.kept.rules.version ≡ true
       → ((jobs : List JobFacts) → admission.StandsFor w.kept jobs
-      → refusal_at w.kept.rules jobs at (job_of_numbers r c d v) ≡ Some cause)
+      → refusal_if_full w.kept.rules jobs at (job_of_numbers r c d v) ≡ Some cause)
+      → (cause ≡ Full → (t : ℕ) (ls : List (List ℕ)) (S : Session) (z y : State) → Waited v2 t ls S z y
+      → is_full (instance_of S) t ≡ true)
       → (ls : List (List ℕ)) (S : Session) (z y x : State) → Goes w ls S z y → Waited v2 at ls S z x
       → session.MayRefuse S at job_line.line
-  job_may w v2 version refuses ls S z y x goes waited = record {
-    version = ap refuses_lines (version_kept w ls S z y goes) ∙ version;
-    numerals = form.1;
-    cause = ap (λ k. refusal_at k (admitted_jobs S.items) at (job_of_numbers r c d v))
-        (sym goes.rules) ∙ refuses (admitted_jobs S.items) goes.kept;
-  }
+  job_may w v2 version refuses full ls S z y x goes waited =
+      let there = refused_there S at (job_of_numbers r c d v) cause
+      (ap (λ k. refusal_if_full k (admitted_jobs S.items) at (job_of_numbers r c d v))
+      (sym goes.rules) ∙ refuses (admitted_jobs S.items) goes.kept) (λ is. full is at ls S z x waited) in
+      record {
+        version = ap refuses_lines (version_kept w ls S z y goes) ∙ version;
+        numerals = form.1;
+        cause = there.0;
+        raised = there.1;
+      }
 
 -- ---- of a done line
 

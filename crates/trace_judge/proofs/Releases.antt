@@ -3,11 +3,11 @@ use Rattle.std.proofs.Common.{◌≡◌, ℕ, ◌+◌, ◌*◌, ◌≤◌, ◌<�
 use Rattle.std.proofs.Common.{◌∙◌, subst, true, false, cond, arith}
 use Rattle.std.specs.Prelude.{None, filter_map}
 use Rattle.std.proofs.lemmas.List.{append-nil}
-use Rattle.std.proofs.lemmas.Bool.{false_from_ne_true}
+use Rattle.std.proofs.lemmas.Bool.{false_from_ne_true, leb-false}
 use Rattle.std.proofs.lemmas.List.Elements.{filter_map-append}
 use Rattle.admission.specs.Kept as admission
-use Rattle.dover_model.specs.Instance.{Instance, Rules}
-use Rattle.dover_model.specs.Limits.{last_tick, most_items, most_jobs}
+use Rattle.dover_model.specs.Instance.{Instance}
+use Rattle.dover_model.specs.Limits.{last_tick, most_items, most_ready}
 use Rattle.dover_model.specs.JobFacts.{JobFacts}
 use Rattle.dover_model.specs.Admission.{refusal_of}
 use Rattle.dover_model.specs.declared.events.Event.{Event}
@@ -37,14 +37,16 @@ use Rattle.ready_jobs.specs.Reordered.{IsReordered}
 use Rattle.ready_jobs.proofs.Reordering.{as_many}
 use Rattle.trace_judge.specs.Reads.{Reading, Goes, Reads, StaysAhead, HasSpare, IsReader, kept_steps, Took, Waited}
 use Rattle.trace_judge.specs.Reads.{CanRelease, at_tick}
-use Rattle.ready_jobs.proofs.Courses.{follows_count, follows_fewer, follows_room, follows_order}
+use Rattle.ready_jobs.proofs.Courses.{follows_count, follows_room, follows_order}
 use Rattle.ready_jobs.proofs.Releasing as course
 use Rattle.trace_judge.proofs.Forms.{one_form}
 use Rattle.trace_judge.proofs.Readings.{ahead_of, here_of, reads_of, reads_ahead, with_room, room_kept, room_left}
 use Rattle.trace_judge.proofs.Taking.{kept_more, kept_length, last_more}
 use Rattle.trace_judge.proofs.Naming.{item_named}
 use Rattle.dover_model.specs.Settled.{last_of}
-use Rattle.dover_model.specs.Session.{refused_of_item}
+use Rattle.dover_model.specs.Session.{refused_of_item, is_full, ready_at}
+use Rattle.dover_model.proofs.Tests.{never}
+use Rattle.trace_judge.proofs.Completing.{ready_is}
 
 -- ---- the line alone
 
@@ -73,8 +75,9 @@ release_only r ls S z goes n j form passes =
 -- the job may be released, once the run has gone on to its release
 pub can_release : (r : Reading) (j : JobFacts) (ls : List (List ℕ)) (S : Session) (z y : State)
     → Waited r j.release ls S z y → r.items < most_items r.kept.rules.version
-    → refusal_of r.kept.rules (admitted_jobs S.items) j ≡ None → CanRelease r j ls
-can_release r j ls S z y waited few admitted = record {
+    → refusal_of r.kept.rules (admitted_jobs S.items) j ≡ None → is_full (instance_of S) j.release ≡ false
+    → CanRelease r j ls
+can_release r j ls S z y waited few admitted not_full = record {
   session = S;
   from = z;
   state = y;
@@ -82,6 +85,7 @@ can_release r j ls S z y waited few admitted = record {
   may = record {
     room = room_left r ls S z y waited.goes few;
     admitted = subst (λ k. refusal_of k (admitted_jobs S.items) j ≡ None) waited.goes.rules admitted;
+    not_full = not_full;
     no_fall = waited.no_fall;
     waits = waited.waits;
   };
@@ -158,18 +162,13 @@ module _ (r : Reading) (j : JobFacts) (room : ℕ) (ls : List (List ℕ)) (can :
   pub release_course : IsCourse (with_release r.course j room)
   release_course = (instance_of S_more, with_fresh y n j, release_follows)
 
-  -- the version allows one ready job more
-  pub one_more_ready : length r.course.ready < most_jobs r.course.rules.version
-  one_more_ready =
-      let admitted : Admitted S.rules (admitted_jobs S.items) j =
-      not_refused S.rules (admitted_jobs S.items) j can.may.admitted in
-      omega (
-        arith,
-        admitted.count,
-        next_number,
-        follows_fewer r.course (instance_of S) can.state can.waited.goes.follows,
-        ap (λ (k : Rules). most_jobs k.version) can.waited.goes.follows.rules,
-      )
+  -- there may be one ready job more
+  pub one_more_ready : length r.course.ready < most_ready
+  one_more_ready = omega (
+    arith,
+    ready_is r j.release ls S can.from can.state can.waited,
+    leb-false most_ready (ready_at (instance_of S) j.release) can.may.not_full,
+  )
 
   -- there is room for it
   pub release_room : HasSpare r → 0 < r.spare → r.keep ≡ true → length r.steps < r.room
@@ -341,6 +340,25 @@ module _ (w : Reading) (going : w.stage ≡ Going) (n : ℕ) (j : JobFacts) (for
         );
   }
 
+  -- as many jobs are ready at its release as may be at once
+  pub not_roomy : (v : Reading) → StaysAhead w v
+      → ((ls : List (List ℕ)) (S : Session) (z y : State) → Goes w ls S z y
+      → (x : State) × Waited v j.release ls S z x)
+      → ((at : ℕ) (ls : List (List ℕ)) (S : Session) (z y : State) → Waited v at ls S z y
+      → true ≡ is_full (instance_of S) at) → Took w v (text_of (Release n j)) false
+  not_roomy v ahead waits full = record {
+    yes = λ e. absurd (let clash : false ≡ true = e in cc);
+    no = λ _ ls reads.
+        let here : (S : Session) × (z : State) × Goes w ls S z z = here_of w ls going reads in (
+          false_from_ne_true _ (λ passes.
+              let it : (n ≡ w.course.jobs) × (y : State) × MayRelease here.0 w.floor here.1 j y =
+              release_only w ls here.0 here.1 here.2 n j form passes in
+              let there = waits ls here.0 here.1 here.1 here.2 in
+              never (sym (full j.release ls here.0 here.1 there.0 there.1 ∙ it.2.not_full))),
+          ahead ls (reads_ahead w ls reads),
+        );
+  }
+
   -- something comes before its release
   pub not_waited : (v : Reading)
       → (w.floor ≤ j.release → (ls : List (List ℕ)) (S : Session) (z : State) → Goes w ls S z z → (x : State)
@@ -363,14 +381,17 @@ pub reserved_can : (w v u : Reading) (j : JobFacts) → v ≡ record w { course 
     → ((ls : List (List ℕ)) (S : Session) (z y : State) → Goes w ls S z y → (x : State) × Waited v j.release ls S z x)
     → w.items < most_items w.kept.rules.version → ((jobs : List JobFacts) → admission.StandsFor w.kept jobs
     → refusal_of w.kept.rules jobs j ≡ None)
+    → ((at : ℕ) (ls : List (List ℕ)) (S : Session) (z y : State) → Waited v at ls S z y
+    → false ≡ is_full (instance_of S) at)
     → (ls : List (List ℕ)) (S : Session) (z y : State) → Goes w ls S z y → CanRelease u j ls
-reserved_can w v u j kept same waits few admits ls S z y goes =
+reserved_can w v u j kept same waits few admits roomy ls S z y goes =
     let waited : (x : State) × Waited v j.release ls S z x = waits ls S z y goes in
     subst (λ t. CanRelease t j ls) (sym same) (room_release v j ls u.course.room u.spare u.room
     (can_release v j ls S z waited.0 waited.1
     (subst (λ (t : Reading). t.items < most_items t.kept.rules.version) (sym kept) few)
     (subst (λ (t : Reading). refusal_of t.kept.rules (admitted_jobs S.items) j ≡ None) (sym kept)
-    (admits (admitted_jobs S.items) goes.kept))))
+    (admits (admitted_jobs S.items) goes.kept))
+    (sym (roomy j.release ls S z waited.0 waited.1))))
 
 -- so the trace goes on
 pub reserved_took : (w u t : Reading) (n : ℕ) (j : JobFacts) → w.stage ≡ Going → n ≡ u.course.jobs

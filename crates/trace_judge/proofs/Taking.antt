@@ -43,8 +43,6 @@ use Rattle.ready_jobs.proofs.Courses.{new_follows, follows_count}
 use Rattle.trace_judge.proofs.Forms.{one_form, next_form}
 use Rattle.trace_judge.proofs.Readings.{goes_of, ahead_of, here_of, reads_of, opens_of, reads_ahead, next_goes}
 use Rattle.trace_judge.proofs.Readings.{spare_stays, next_ahead}
-use Rattle.dover_model.specs.Limits.{most_jobs}
-use Rattle.dover_model.proofs.Limiting.{jobs_most}
 
 -- ---- silent steps up to a tick
 
@@ -140,7 +138,7 @@ pub settled_reader : (r : Reading) → IsReader r → (d : Course) (tick : ℕ) 
     → GoesOnFrom r.course d
     → IsReader (record r { course = d })
 settled_reader r old d tick o going settled low on = record {
-  spare = spare_stays r d old.spare on.fewer on.jobs on.room on.rules;
+  spare = spare_stays r d old.spare on.fewer on.jobs on.room;
   lines = old.lines;
   reads = settled_ahead r r refl d tick o settled low going old.lines old.reads;
 }
@@ -271,11 +269,8 @@ module _ (r : Reading) (opening_stage : r.stage ≡ Opening) (v p q : ℕ) (form
         ready = omega (
           arith,
           old.spare.ready,
-          ap most_jobs (opens_of r old.lines opening_stage old.reads).version,
           ap (λ (c : Course). length c.ready) declared,
-          ap (λ (c : Course). most_jobs c.rules.version) declared,
           ap (λ (c : Course). c.room) declared,
-          jobs_most version,
         );
         steps = λ keep. let before : 5 * (r.course.jobs + r.spare) + 1 ≤ r.room = old.spare.steps keep in
             omega (arith, ap (λ (c : Course). c.jobs) declared);
@@ -435,9 +430,9 @@ module _ (r w : Reading) (same : r ≡ w) (going_w : w.stage ≡ Going) (d : Cou
             } where
               stepped_spare : IsReader r → GoesOnFrom r.course d → HasSpare ended
               stepped_spare old on = record {
-                ready = (spare_stays r d old.spare on.fewer on.jobs on.room on.rules).ready;
+                ready = (spare_stays r d old.spare on.fewer on.jobs on.room).ready;
                 steps = λ keep. let most : 5 * (d.jobs + r.spare) + 1 ≤ r.room =
-                    (spare_stays r d old.spare on.fewer on.jobs on.room on.rules).steps keep in
+                    (spare_stays r d old.spare on.fewer on.jobs on.room).steps keep in
                     omega (arith, same_room);
               }
 
@@ -504,9 +499,9 @@ module _ (r w : Reading) (same : r ≡ w) (going_w : w.stage ≡ Going) (d : Cou
             let new = stepped_goes old.lines it.0 it.1 it.2 it.3 in
             record {
               spare = record {
-                ready = (spare_stays r d2 old.spare on.fewer on.jobs on.room on.rules).ready;
+                ready = (spare_stays r d2 old.spare on.fewer on.jobs on.room).ready;
                 steps = λ keep. let most : 5 * (d2.jobs + r.spare) + 1 ≤ r.room =
-                    (spare_stays r d2 old.spare on.fewer on.jobs on.room on.rules).steps keep in
+                    (spare_stays r d2 old.spare on.fewer on.jobs on.room).steps keep in
                     omega (arith, same_room);
               };
               lines = old.lines ++ text_of event ∷ [];

@@ -6,7 +6,7 @@ use Rattle.dover_model.specs.Run.{Step, printed_of}
 use Rattle.dover_model.specs.Sound.{Each}
 use Rattle.dover_model.specs.Settled.{settled}
 use Rattle.dover_model.specs.Session.{Session, instance_of, admitted_jobs, IsValidSession, mark_after, Refused}
-use Rattle.dover_model.specs.Session.{MayBeRefused, MayFinish, EarlyFinish}
+use Rattle.dover_model.specs.Session.{MayBeRefused, MayFinish, EarlyFinish, is_full}
 use Rattle.dover_model.specs.Trace.{places_of, texts_among}
 use Rattle.dover_model.specs.Verdict.{named_session}
 use Rattle.dover_model.specs.Leading.{Leads, WaitsUntil}
@@ -40,6 +40,7 @@ HasRoom S = length S.items < most_items S.rules.version
 pub record MayRelease (S : Session) (floor : ℕ) (s : State) (j : JobFacts) (z : State) : Type 0 where
   pub room : HasRoom S
   pub admitted : refusal_of S.rules (admitted_jobs S.items) j ≡ None
+  pub not_full : is_full (instance_of S) j.release ≡ false
   pub no_fall : floor ≤ j.release
   pub waits : WaitsUntil (instance_of S).rules j.release s z
 

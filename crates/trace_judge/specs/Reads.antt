@@ -1,16 +1,21 @@
 -- What the judge keeps of the lines of a trace.
 use Rattle.std.specs.Prelude.{◌≡◌, ◌≤◌, ◌+◌, ◌*◌, ℕ, List, [], ◌∷◌, ◌++◌, length, min, Bool, true, false}
 use Rattle.std.specs.Prelude.{if◌then◌else◌}
-use Rattle.std.specs.Prelude.{Option, Some, None}
+use Rattle.std.specs.Prelude.{Option, Some, None, nat_lt, ◌==◌}
+use Rattle.std.specs.Bool.{then_some}
+use Rattle.std.specs.Option.{option_or}
 use Rattle.admission.specs.Kept as admission
-use Rattle.dover_model.specs.Limits.{most_jobs, last_tick}
+use Rattle.dover_model.specs.Limits.{most_ready, last_tick}
 use Rattle.dover_model.specs.JobFacts.{JobFacts}
 use Rattle.dover_model.specs.declared.events.Event.{Event}
-use Rattle.dover_model.specs.declared.events.Version.TheVariants.{Three}
 use Rattle.dover_model.specs.State.{State}
 use Rattle.dover_model.specs.Run.{Step, printed, printed_of, completed_value}
 use Rattle.dover_model.specs.Session.{Item, JobItem, Session, instance_of, admitted_jobs, IsValidSession}
-use Rattle.dover_model.specs.Session.{EarlyFinish, finish_at, may_finish_early}
+use Rattle.dover_model.specs.Session.{EarlyFinish, finish_at, may_finish_early, late_refusal}
+use Rattle.dover_model.specs.Admission.{refusal_of}
+use Rattle.dover_model.specs.Instance.{Declaration}
+use Rattle.dover_model.specs.declared.events.Refusal.{Refusal}
+use Rattle.dover_model.specs.declared.events.Refusal.TheVariants.{Full}
 use Rattle.dover_model.specs.Text.{text_of}
 use Rattle.dover_model.specs.Settled.{last_of}
 use Rattle.dover_model.specs.Trace.{trace_lines}
@@ -52,11 +57,10 @@ kept_steps keep steps = if keep then steps else []
 abbrev pub IsPaid : Reading → (start now : ℕ) → Type 0
 IsPaid r start now = HasPaidSince r.course r.last start now
 
--- no line yet: any version may be declared, so the widest limits count
+-- no line yet
 pub record Opens (r : Reading) (ls : List (List ℕ)) : Type 0 where
   pub lines : ls ≡ []
   pub course : r.course ≡ new_course r.course.rules r.course.room
-  pub version : r.course.rules.version ≡ Three
   pub items : r.items ≡ 0
   pub floor : r.floor ≡ 0
   pub steps : r.steps ≡ []
@@ -101,9 +105,9 @@ Reads r ls = elim r.stage [
   | Ended ↦ (S : Session) × Ends r ls S
 ]
 
--- there is room for so many jobs more, as far as the version allows jobs, and for their steps where they are kept
+-- there is room for so many jobs more, as far as they may be ready at once, and for their steps where they are kept
 pub record HasSpare (r : Reading) : Type 0 where
-  pub ready : min (length r.course.ready + r.spare) (most_jobs r.course.rules.version) ≤ r.course.room
+  pub ready : min (length r.course.ready + r.spare) most_ready ≤ r.course.room
   pub steps : r.keep ≡ true → 5 * (r.course.jobs + r.spare) + 1 ≤ r.room
 
 -- it is kept of some lines
@@ -174,6 +178,13 @@ pub record CanComplete (r : Reading) (at number : ℕ) (ls : List (List ℕ)) : 
 abbrev pub MayNotComplete : Reading → (at number : ℕ) → Type 0
 MayNotComplete r at number = (ls : List (List ℕ)) (S : Session) (z : State) → Goes r ls S z z →
     (f : EarlyFinish) (y : State) → MayComplete S r.floor z f y → f.at ≡ at → f.finish.number ≡ number → ⊥
+
+-- why a job line is refused alone after these jobs and at this mark, if it is, where as many jobs are ready at the mark
+-- as may be at once
+abbrev pub refusal_if_full : Declaration → List JobFacts → ℕ → JobFacts → Option Refusal
+refusal_if_full rules jobs mark j =
+    if nat_lt j.release mark then late_refusal rules.version
+    else option_or (refusal_of rules jobs j) (then_some (j.release == mark) Full)
 
 -- the item is a job
 abbrev pub is_job_item : Option Item → Bool

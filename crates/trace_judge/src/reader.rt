@@ -1,19 +1,21 @@
 //! What the judge keeps of the lines of a trace.
 ghost use Rattle.std.specs.Prelude.{◌≡◌, ◌≤◌, ◌<◌, ◌+◌, ◌∷◌, ◌++◌, ◌↔◌, ℕ, List, [], Bool, true, false, IsTrue, IfOk};
-ghost use Rattle.std.specs.Prelude.{OnOk, OnErr, IsOk, min, Some, None, vec_len, vec_capacity, length, if◌then◌else◌};
-ghost use Rattle.dover_model.specs.Limits.{last_tick, most_items, most_jobs};
+ghost use Rattle.std.specs.Prelude.{OnOk, OnErr, IsOk, Some, None, vec_len, vec_capacity, length, if◌then◌else◌};
+ghost use Rattle.dover_model.specs.Limits.{last_tick, most_items};
 ghost use Rattle.dover_model.specs.Step.{Prints};
 ghost use Rattle.dover_model.specs.Run.{is_end};
 ghost use Rattle.dover_model.specs.Settled.{waits_for_mark};
 ghost use Rattle.dover_model.specs.Session.{may_finish_early, refuses_lines, late_refusal};
-ghost use Rattle.std.specs.Prelude.{◌&&◌, nat_le, is_some};
+ghost use Rattle.std.specs.Prelude.{◌&&◌, nat_le, is_some, ◌==◌};
+ghost use Rattle.std.specs.Bool.{then_some};
+ghost use Rattle.dover_model.specs.declared.events.Refusal.TheVariants.{Full};
 
 use crate::stage::Stage;
 use crate::verdict::{Expected, Verdict};
 use admission::Admission;
 use dover_model::jobs::LAST_TICK;
 use dover_model::{Event, Job, Memory, Ratio, Refusal, Version};
-use ready_jobs::Ready;
+use ready_jobs::{MOST_READY, Ready};
 use root_compare::long_bound;
 use std::alloc::Global;
 use std::marker::Model;
@@ -82,7 +84,7 @@ impl Reader {
     ghost use Rattle.trace_format.specs.Form.{HasForm, item_in, trace_text};
     ghost use Rattle.trace_format.specs.declared.lines.TraceLine.TheVariants.{Header, Step, Refused, RefusedDone};
     ghost use Rattle.dover_model.specs.declared.events.Event.TheVariants.{Release, Complete};
-    ghost use Rattle.dover_model.specs.Session.{may_finish_early, refuses_lines, refusal_at, finish_at};
+    ghost use Rattle.dover_model.specs.Session.{may_finish_early, refuses_lines, is_full, finish_at};
     ghost use Rattle.dover_model.specs.JobFacts.{JobFacts, job_of_numbers};
     ghost use Rattle.dover_model.specs.Admission.{refusal_of};
     ghost use Rattle.dover_model.specs.Text.{text_of};
@@ -94,7 +96,8 @@ impl Reader {
     ghost use Rattle.ready_jobs.specs.Course.{GoesOnFrom};
     ghost use Rattle.trace_judge.specs.Reads.{Reads, ReadsAhead, StaysAhead, Goes, Ends, Waited, CanRelease, Took};
     ghost use Rattle.trace_judge.specs.Reads.{IsUnchangedFor, expected_of, releases_in, jobs_in, job_lines_in};
-    ghost use Rattle.trace_judge.specs.Reads.{Followed, CanComplete, MayNotComplete, IsPaid};
+    ghost use Rattle.trace_judge.specs.Reads.{Followed, CanComplete, MayNotComplete, IsPaid, refusal_if_full};
+    ghost use Rattle.dover_model.specs.declared.events.Refusal.TheVariants.{Full};
 
     /// No line. Where `keep` is true, the steps of the run are kept.
     ///
@@ -108,7 +111,7 @@ impl Reader {
         ensures jobs { IfOk result (λ reader. reader.course.jobs ≡ 0) }
         ensures paid { IfOk result (λ reader. (now : ℕ) → IsPaid reader now now) }
     {
-        // Till a version is declared, the widest limits count.
+        // The header declares the version and the ratio.
         let one = Ratio::new(1, 1).unwrap();
         let mut steps = Vec::new(alloc);
         if keep {
@@ -128,12 +131,11 @@ impl Reader {
         })
     }
 
-    /// Room for so many jobs more, as far as the version allows jobs, and for their steps where they are kept.
+    /// Room for so many jobs more, as far as they may be ready at once, and for their steps where they are kept.
     ///
     /// # Errors
     ///
-    /// `Memory` where there is none: in version Three, and before the header, also for more than 1,000,000 jobs that
-    /// are ready at once.
+    /// `Memory` where there is none.
     pub fn reserve(&mut self, more: u32) -> Result<(), Memory>
         ensures same { self.new ≡ record self.old {
           course = record self.old.course { room = self.new.course.room };
@@ -150,9 +152,6 @@ impl Reader {
             return Ok(());
         }
         self.course.reserve(more)?;
-        if !has_room_for(&self.course, more) {
-            return Err(Memory);
-        }
         if self.keep {
             let most = 5 * (self.course.jobs() as usize + more as usize) + 1;
             self.steps.reserve(most)?;
@@ -302,6 +301,14 @@ impl Reader {
         self.course.runs(number)
     }
 
+    // As many jobs are ready as may be at once, where the run has gone on to the barrier of a tick.
+    fn is_full(&self) -> bool
+        ensures { (at : ℕ) (ls : List (List ℕ)) (S : Session) (z y : State) → Waited self.now at ls S z y →
+            result ≡ is_full (instance_of S) at }
+    {
+        self.course.count() >= MOST_READY
+    }
+
     // There may be one item more.
     fn has_room(&self) -> bool
         ensures yes { result ≡ true → self.now.items < most_items self.now.kept.rules.version }
@@ -402,6 +409,9 @@ impl Reader {
         if !self.waits_until(job.release(), steps) {
             return Ok(false);
         }
+        if self.is_full() {
+            return Ok(false);
+        }
         self.make_room()?;
         self.admit(job);
         Ok(true)
@@ -485,7 +495,7 @@ impl Reader {
         self.follow(&Event::Complete { at, number }, steps)
     }
 
-    // The refused line may come next, as far as the jobs before it go.
+    // The refused line may come next, as far as the jobs before it go, if as many jobs as may be are ready at its tick.
     fn may_refuse(
         &self,
         at: u64,
@@ -498,11 +508,12 @@ impl Reader {
         ensures yes { result ≡ true → (refuses_lines self.now.kept.rules.version ≡ true) × (at ≤ last_tick)
             × (self.now.items < most_items self.now.kept.rules.version) }
         ensures refuses { result ≡ true → (jobs : List JobFacts) → StandsFor self.now.kept jobs →
-            refusal_at self.now.kept.rules jobs at (job_of_numbers release work deadline value) ≡ Some cause }
+            refusal_if_full self.now.kept.rules jobs at (job_of_numbers release work deadline value) ≡ Some cause }
         ensures no { result ≡ false → refuses_lines self.now.kept.rules.version ≡ true → at ≤ last_tick
             → self.now.items < most_items self.now.kept.rules.version
             → (jobs : List JobFacts) → StandsFor self.now.kept jobs →
-            refusal_at self.now.kept.rules jobs at (job_of_numbers release work deadline value) ≡ Some cause → ⊥ }
+            refusal_if_full self.now.kept.rules jobs at (job_of_numbers release work deadline value) ≡ Some cause
+            → ⊥ }
     {
         if !self.admission.version().refuses_lines() {
             return false;
@@ -517,9 +528,23 @@ impl Reader {
             return is_late_cause(self.admission.version(), cause);
         }
         match self.admission.check(release, work, deadline, value) {
-            Ok(_) => false,
+            Ok(_) => is_full_cause(release, at, cause),
             Err(refused) => is_same_cause(refused.refusal(), cause),
         }
+    }
+
+    // If the cause is that as many jobs are ready as may be at once, so many are, where the run has gone on to.
+    fn bears_out(&self, cause: Refusal) -> bool
+        ensures yes { result ≡ true → cause ≡ Full → (at : ℕ) (ls : List (List ℕ)) (S : Session) (z y : State)
+            → Waited self.now at ls S z y → is_full (instance_of S) at ≡ true }
+        ensures is { result ≡ false → cause ≡ Full }
+        ensures no { result ≡ false → (at : ℕ) (ls : List (List ℕ)) (S : Session) (z y : State)
+            → Waited self.now at ls S z y → is_full (instance_of S) at ≡ false }
+    {
+        if !is_same_cause(cause, Refusal::Full) {
+            return true;
+        }
+        self.is_full()
     }
 
     // The next line is that of a refused job line.
@@ -546,6 +571,9 @@ impl Reader {
             return false;
         }
         if !self.waits_until(at, steps) {
+            return false;
+        }
+        if !self.bears_out(cause) {
             return false;
         }
         self.items += 1;
@@ -718,15 +746,6 @@ impl Reader {
     }
 }
 
-// There is room for so many ready jobs more, as far as the version allows jobs.
-fn has_room_for(course: &Ready, more: u32) -> bool
-    ensures { IsTrue result ↔ (min (length course.now.ready + more) (most_jobs course.now.rules.version)
-        ≤ course.now.room) }
-{
-    let ready = course.count().saturating_add(more);
-    ready.min(course.version().most_jobs()) <= course.room()
-}
-
 // It is the cause for which a late job line is refused alone.
 fn is_late_cause(version: Version, cause: Refusal) -> bool
     ensures { IsTrue result ↔ (late_refusal version ≡ Some cause) }
@@ -735,6 +754,16 @@ fn is_late_cause(version: Version, cause: Refusal) -> bool
         Version::One | Version::Two => false,
         Version::Three => is_same_cause(cause, Refusal::Late),
     }
+}
+
+// It is the cause that as many jobs are ready as may be at once, of a line at its job's release.
+fn is_full_cause(release: u64, at: u64, cause: Refusal) -> bool
+    ensures { IsTrue result ↔ (then_some (release == at) Full ≡ Some cause) }
+{
+    if release != at {
+        return false;
+    }
+    is_same_cause(cause, Refusal::Full)
 }
 
 // Both are the same cause.

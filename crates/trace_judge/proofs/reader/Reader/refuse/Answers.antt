@@ -3,7 +3,7 @@ use Rattle.trace_judge.specs.Reads.{IsPaid}
 use Rattle.trace_judge.specs.Reads.{Reading}
 use Rattle.trace_judge.proofs.Readings.{few_items}
 use Rattle.trace_judge.proofs.Refusals.{not_waited, refused_few, refused_took, refused_reader, job_line, job_named}
-use Rattle.trace_judge.proofs.Refusals.{job_not, job_may}
+use Rattle.trace_judge.proofs.Refusals.{job_not, job_may, job_roomy}
 use Rattle.trace_judge.proofs.reader.Reader.refuse.Goals as goal
 
 pub returns-then-not-may_refuse-clause-took : goal.returns-then-not-may_refuse-clause-took
@@ -19,6 +19,13 @@ returns-then-not-waits_until-clause-took g c = not_waited
     c.args.self.now c.requires.going
     c.waits_until.new.self (c.waits_until.ensures.no c.if-not-waits_until.true) c.waits_until.ensures.ahead
 
+pub returns-then-not-bears_out-clause-took : goal.returns-then-not-bears_out-clause-took
+returns-then-not-bears_out-clause-took g c =
+    job_roomy c.args.at c.args.release c.args.work c.args.deadline c.args.value c.args.cause c.requires.form
+    c.args.self.now c.waits_until.new.self c.requires.going c.waits_until.ensures.ahead
+    (c.waits_until.ensures.yes c.if-not-waits_until.false)
+    (c.bears_out.ensures.is c.if-not-bears_out.true) (c.bears_out.ensures.no c.if-not-bears_out.true)
+
 pub invariant_of-self : goal.invariant_of-self
 invariant_of-self g c = refused_reader
     (job_line c.args.at c.args.release c.args.work c.args.deadline c.args.value c.args.cause c.requires.form)
@@ -28,7 +35,7 @@ invariant_of-self g c = refused_reader
     (c.may_refuse.ensures.yes c.if-not-may_refuse.false).2
     (job_may c.args.at c.args.release c.args.work c.args.deadline c.args.value c.args.cause c.requires.form
     c.args.self.now c.waits_until.new.self (c.may_refuse.ensures.yes c.if-not-may_refuse.false).0
-    (c.may_refuse.ensures.refuses c.if-not-may_refuse.false))
+    (c.may_refuse.ensures.refuses c.if-not-may_refuse.false) (c.bears_out.ensures.yes c.if-not-bears_out.false))
     (c.waits_until.ensures.yes c.if-not-waits_until.false) c.self-2.invariant _ c.self.view_is c.self.invariant
 
 pub returns-clause-took : goal.returns-clause-took
@@ -40,7 +47,7 @@ returns-clause-took g c = refused_took
     (c.may_refuse.ensures.yes c.if-not-may_refuse.false).2
     (job_may c.args.at c.args.release c.args.work c.args.deadline c.args.value c.args.cause c.requires.form
     c.args.self.now c.waits_until.new.self (c.may_refuse.ensures.yes c.if-not-may_refuse.false).0
-    (c.may_refuse.ensures.refuses c.if-not-may_refuse.false))
+    (c.may_refuse.ensures.refuses c.if-not-may_refuse.false) (c.bears_out.ensures.yes c.if-not-bears_out.false))
     (c.waits_until.ensures.yes c.if-not-waits_until.false)
 
 pub returns-clause-paid : goal.returns-clause-paid

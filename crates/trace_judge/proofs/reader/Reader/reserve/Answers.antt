@@ -1,6 +1,6 @@
 use Rattle.std.proofs.Common.{◌≡◌, ◌≤◌, ◌+◌, ◌∙◌, sym, ap, subst, refl, vec_capacity}
 use Rattle.std.proofs.Common.{arith, ℕ, length, min, true, false}
-use Rattle.dover_model.specs.Limits.{most_jobs}
+use Rattle.dover_model.specs.Limits.{most_ready}
 use Rattle.ready_jobs.specs.Course.{Course}
 use Rattle.trace_judge.specs.Reads.{IsReader}
 use Rattle.trace_judge.specs.declared.reader.Reader.TheInside.{Inside}
@@ -16,11 +16,6 @@ pub invariant_of-self-in_err-reserve-2 : goal.invariant_of-self-in_err-reserve-2
 invariant_of-self-in_err-reserve-2 c = reserve_reader _ c.self.invariant c.reserve.new.self _ _ _ c.reserve.ensures.same
     c.reserve-then-self.ensures.items (omega (arith, c.self.invariant.spare.ready, c.reserve.ensures.grows))
     (λ keep. omega (arith, c.self.invariant.spare.steps keep, c.reserve-then-self.ensures.capacity))
-
-pub invariant_of-self-then-not-has_room_for : goal.invariant_of-self-then-not-has_room_for
-invariant_of-self-then-not-has_room_for c = reserve_reader _ c.self.invariant c.reserve.new.self _ _ _
-    c.reserve.ensures.same refl (omega (arith, c.self.invariant.spare.ready, c.reserve.ensures.grows))
-    c.self.invariant.spare.steps
 
 -- what is kept in these fields, with so much room
 abbrev KeptIn : ℕ → Inside → Type 0
@@ -40,13 +35,8 @@ KeptIn spare i = IsReader (record {
 
 pub invariant_of-self-2 : goal.invariant_of-self-2
 invariant_of-self-2 c =
-    let ready : min (length c.self.inside.course.ready + c.args.more) (most_jobs c.self.inside.course.rules.version)
-    ≤ c.reserve.new.self.room = omega (
-      arith,
-      c.has_room_for.ensures.0 c.if-not-has_room_for.false,
-      ap (λ (d : Course). length d.ready) c.reserve.ensures.same,
-      ap (λ (d : Course). most_jobs d.rules.version) c.reserve.ensures.same,
-    ) in
+    let ready : min (length c.self.inside.course.ready + c.args.more) most_ready ≤ c.reserve.new.self.room =
+    c.in_ok-reserve.ensures.room in
     elim c.if-self.branch [
       | then-self+in_ok-reserve-2 w ↦ subst (KeptIn c.args.more) (sym w.self-inside-is)
           (reserve_reader _ c.self.invariant c.reserve.new.self _ c.args.more _ c.reserve.ensures.same

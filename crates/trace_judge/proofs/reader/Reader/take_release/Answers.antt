@@ -4,7 +4,7 @@ use Rattle.dover_model.specs.State.{State}
 use Rattle.dover_model.specs.Leading.{WaitsUntil}
 use Rattle.trace_judge.specs.Reads.{Reading, ReadsAhead, Goes, Waited, CanRelease}
 use Rattle.trace_judge.proofs.Readings.{goes_of}
-use Rattle.trace_judge.proofs.Releases.{not_admitted, not_waited, reserved_can, reserved_took}
+use Rattle.trace_judge.proofs.Releases.{not_admitted, not_waited, not_roomy, reserved_can, reserved_took}
 use Rattle.trace_judge.proofs.reader.Reader.take_release.Goals as goal
 use Rattle.trace_judge.proofs.reader.Reader.take_release.Goals.{After-admit-arg-1}
 use Rattle.trace_judge.proofs.reader.Reader.take_release.Given.{Over}
@@ -24,6 +24,15 @@ returns-then-not-waits_until-clause-took g c =
     → ⊥) c.release.ensures.is (c.waits_until.ensures.no c.if-not-waits_until.true))
     c.waits_until.ensures.ahead
 
+pub returns-then-is_full-clause-took : goal.returns-then-is_full-clause-took
+returns-then-is_full-clause-took g c =
+    not_roomy c.args.self.now c.requires.going c.args.number c.args.job c.requires.form c.waits_until.new.self
+    c.waits_until.ensures.ahead
+    (subst (λ tick. (ls : List (List ℕ)) (S : Session) (z y : State) → Goes c.args.self.now ls S z y → (x : State)
+    × Waited c.waits_until.new.self tick ls S z x)
+    c.release.ensures.is (c.waits_until.ensures.yes c.if-not-waits_until.false))
+    (λ at ls S z y waited. sym c.if-is_full.true ∙ c.is_full.ensures at ls S z y waited)
+
 -- the job may be released, with room
 can : (g : Over) (c : After-admit-arg-1 g) (ls : List (List ℕ)) (S : Session) (z y : State)
     → Goes c.args.self.now ls S z y → CanRelease c.make_room.new.self c.args.job ls
@@ -34,6 +43,7 @@ can g c = reserved_can c.args.self.now c.waits_until.new.self c.make_room.new.se
     c.release.ensures.is (c.waits_until.ensures.yes c.if-not-waits_until.false))
     (c.may_admit.ensures.yes c.if-not-may_admit.false).1
     (c.may_admit.ensures.admits c.if-not-may_admit.false)
+    (λ at ls S z y waited. sym c.if-is_full.false ∙ c.is_full.ensures at ls S z y waited)
 
 pub admit-requires-clause-can : goal.admit-requires-clause-can
 admit-requires-clause-can g c =
