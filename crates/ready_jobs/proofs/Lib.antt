@@ -19,3 +19,4 @@ pub mod Spending
 pub mod Keeping
 pub mod Releasing
 pub mod Runners
+pub mod Counting

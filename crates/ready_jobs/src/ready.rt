@@ -90,6 +90,15 @@ impl Ready {
             .reserve(MOST_READY.min(ready.saturating_add(more)))
     }
 
+    /// What holds of each. It does nothing.
+    #[inline(always)]
+    pub fn laws(&self)
+        ensures few { length self.now.ready ≤ self.now.room }
+        ensures most { self.now.room ≤ most_ready }
+    {
+        self.parts.laws();
+    }
+
     /// The clock.
     #[inline(always)]
     pub fn clock(&self) -> u64

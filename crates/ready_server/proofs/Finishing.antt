@@ -1,7 +1,7 @@
 -- What a server has given with the finish of a job.
 use Rattle.std.proofs.Common.{◌≡◌, ℕ, ◌≤◌, ◌<◌, ◌^◌, [], ◌∷◌, ◌++◌, refl, sym, ap, ◌∙◌, subst, Bool}
 use Rattle.std.proofs.Common.{true, false, arith}
-use Rattle.std.specs.Prelude.{Option, Some, None, nat_lt}
+use Rattle.std.specs.Prelude.{Option, Some, None, nat_le, nat_lt, length}
 use Rattle.std.proofs.lemmas.Bool.{lt-ltb, ltb-true}
 use Rattle.dover_model.specs.declared.events.Event.TheVariants.{Complete}
 use Rattle.dover_model.specs.declared.events.Role.TheVariants.{Running}
@@ -10,7 +10,8 @@ use Rattle.dover_model.specs.Instance.{Instance, with_finishes}
 use Rattle.dover_model.specs.State.{State, opening, running, is_running, is_over, state_at}
 use Rattle.dover_model.specs.Step.{Prints, after}
 use Rattle.dover_model.specs.Settled.{settled, settled_steps, settled_state, finish_now, RunsAtMark}
-use Rattle.dover_model.specs.Session.{EarlyFinish, finish_at}
+use Rattle.dover_model.specs.Limits.{most_ready}
+use Rattle.dover_model.specs.Session.{EarlyFinish, finish_at, is_full}
 use Rattle.dover_model.specs.Sound.{IsMember}
 use Rattle.dover_model.specs.Paths.{HasPrinted}
 use Rattle.dover_model.specs.declared.horizon.Horizon.TheVariants.{Mark}
@@ -27,6 +28,7 @@ use Rattle.dover_model.proofs.Roles.{passes, is_running_role}
 use Rattle.dover_model.proofs.Settling.{settled_is_run}
 use Rattle.dover_model.proofs.Waiting.{some_goes_on}
 use Rattle.dover_model.proofs.Limiting.{jobs_most}
+use Rattle.ready_jobs.proofs.Counting.{full_kept}
 use Rattle.ready_jobs.proofs.Runners.{one_runs}
 use Rattle.ready_jobs.specs.Course.{Course}
 use Rattle.ready_jobs.specs.Course as course
@@ -54,6 +56,10 @@ module _ (s : ReadyServer) (J : Instance) (at : ℕ) (rests : Rests s J (Mark at
         same_steps = one_settled_run J.rules at (settled_steps J at) waits.steps (opening J.jobs)
             (settled_is_run J at rests.follows.valid)
             (path_settles J.rules at waits.steps (opening J.jobs) there waits.path rests.given.1.barrier)
+
+  -- so there the run is full just where as many jobs are kept as may be ready
+  pub full_there : nat_le most_ready (length s.ready.ready) ≡ is_full J at
+  full_there = full_kept s.ready J z rests.follows at settled_there
 
   -- the same job runs
   same_runs : running (settled_state J at) ≡ running z

@@ -1,9 +1,10 @@
 -- What a server has given after a step.
 use Rattle.std.proofs.Common.{◌≡◌, ℕ, ◌≤◌, List, [], ◌∷◌, ◌++◌, refl, sym, ap, ◌∙◌, subst, Bool, true, false, arith}
 use Rattle.std.proofs.Common.{append_assoc, ◌+◌, ◌<◌, length, min}
-use Rattle.std.specs.Prelude.{Option, Some, None, Result, Ok, Err, OnOk, IfSome}
+use Rattle.std.specs.Prelude.{Option, Some, None, Result, Ok, Err, OnOk, IfSome, IsTrue, nat_lt}
 use Rattle.std.specs.Bool.{MatchBool}
 use Rattle.std.specs.List.{cons_option}
+use Rattle.std.proofs.lemmas.Bool.{ltb-true, ltb-false}
 use Rattle.std.proofs.lemmas.List.{append-nil}
 use Rattle.std.proofs.lemmas.List.Sums.{fold-append}
 use Rattle.dover_model.specs.declared.events.Event.{Event}
@@ -21,7 +22,7 @@ use Rattle.dover_model.specs.Sound.{Keeps}
 use Rattle.dover_model.proofs.OverFor.{over_ready}
 use Rattle.dover_model.proofs.LastSteps.{open_clock}
 use Rattle.dover_model.proofs.Members.{some_same}
-use Rattle.dover_model.proofs.Tests.{none_is_some}
+use Rattle.dover_model.proofs.Tests.{none_is_some, never}
 use Rattle.dover_model.proofs.Ending.{potential, ends}
 use Rattle.dover_model.proofs.Kept.{open_kept}
 use Rattle.dover_model.proofs.Paths.{printed_more, printed_settled, printed_then_run, printed_begins, path_low}
@@ -33,7 +34,8 @@ use Rattle.dover_model.specs.declared.horizon.Horizon.{Horizon}
 use Rattle.dover_model.specs.declared.horizon.Horizon.TheVariants.{Mark, End}
 use Rattle.dover_model.specs.Horizons.{MayFollow, is_end_given, due_by, Gives}
 use Rattle.ready_jobs.specs.Course.{Course, Follows, Comes, ComesNext, Settled, StepsBefore}
-use Rattle.ready_server.specs.Serving.{LeavesRest, HasGiven, IsLastOf, Serves, Rests, HasShortValue}
+use Rattle.ready_server.specs.Serving.{LeavesRest, HasGiven, IsLastOf, Serves, Rests, HasPlace, HasPlaceUnlessFull}
+use Rattle.ready_server.specs.Serving.{HasShortValue}
 use Rattle.ready_server.specs.declared.server.ReadyServer.{ReadyServer}
 
 -- ---- to a mark
@@ -380,12 +382,29 @@ rests_serves s J End rests = record {
 
 -- ---- room
 
--- there is room for one ready job more, once it is made
-pub some_place : (s : ReadyServer) → length s.ready.ready < most_ready → (d : Course) (more : ℕ)
-    (r : Result Unit Memory) → d ≡ record s.ready { room = d.room }
-    → OnOk r (min (length s.ready.ready + more) most_ready ≤ d.room) → 1 ≤ more
-    → OnOk r (length d.ready < d.room)
-some_place s few d more (Ok x) same room some =
+-- there is room for one ready job more, unless as many are ready as may be, once it is made
+pub place_made : (s : ReadyServer) (d : Course) (more : ℕ) (r : Result Unit Memory)
+    → d ≡ record s.ready { room = d.room } → OnOk r (min (length s.ready.ready + more) most_ready ≤ d.room) → 1 ≤ more
+    → OnOk r (min (length d.ready + 1) most_ready ≤ d.room)
+place_made s d more (Ok x) same room some =
     let made : min (length s.ready.ready + more) 1_000_000 ≤ d.room = room in
-    omega (arith, few, ap (λ (c : Course). length c.ready) same)
-some_place s few d more (Err e) same room some = room
+    omega (arith, ap (λ (c : Course). length c.ready) same)
+place_made s d more (Err e) same room some = room
+
+-- so there is room for one more where fewer are ready
+pub place_where_few : (s : ReadyServer) → HasPlaceUnlessFull s → length s.ready.ready < most_ready → HasPlace s
+place_where_few s place few =
+    let made : min (length s.ready.ready + 1) 1_000_000 ≤ s.ready.room = place in omega (arith, few)
+
+-- fewer are ready where it isn't full
+pub few_ready : (b : Bool) (n : ℕ) → b ≡ false → (most_ready ≤ n → IsTrue b) → n < most_ready
+few_ready b n not_full full = by_test (nat_lt n most_ready) refl where
+  by_test : (less : Bool) → nat_lt n most_ready ≡ less → n < most_ready
+  by_test true is = ltb-true _ _ is
+  by_test false is = never (sym not_full ∙ full (ltb-false _ _ is))
+
+-- also where it was made by a call
+pub place_given : (s v : ReadyServer) (r : Result Unit Memory) → OnOk r (HasPlaceUnlessFull v)
+    → v.ready.ready ≡ s.ready.ready → length s.ready.ready < most_ready → OnOk r (HasPlace v)
+place_given s v (Ok x) place same few = place_where_few v place (omega (arith, few, ap length same))
+place_given s v (Err e) place same few = place

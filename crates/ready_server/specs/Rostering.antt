@@ -40,6 +40,11 @@ pub record HasPlace (v : RosterServer) : Type 0 where
   pub place : ready.HasPlace v.server
   pub listed : HasLine v.roster
 
+-- the same, unless as many jobs are ready as may be at once
+pub record HasPlaceUnlessFull (v : RosterServer) : Type 0 where
+  pub place : ready.HasPlaceUnlessFull v.server
+  pub listed : HasLine v.roster
+
 -- no more comparisons were made than its jobs so far have called for
 abbrev pub HasPaid : RosterServer → (start now : ℕ) → Type 0
 HasPaid v start now = ready.HasPaid v.server start now

@@ -1,11 +1,12 @@
 -- How far a server has come.
-use Rattle.std.specs.Prelude.{◌≡◌, ◌<◌, ◌-◌, ◌^◌, ℕ, List, [], ◌∷◌, ◌++◌, length, Bool, true, false, Option}
-use Rattle.std.specs.Prelude.{Some, None}
+use Rattle.std.specs.Prelude.{◌≡◌, ◌≤◌, ◌<◌, ◌+◌, ◌-◌, ◌^◌, ℕ, min, List, [], ◌∷◌, ◌++◌, length, Bool, true, false}
+use Rattle.std.specs.Prelude.{Option, Some, None}
 use Rattle.dover_model.specs.Session.{EarlyFinish, finish_at}
 use Rattle.std.specs.Bool.{MatchBool}
 use Rattle.dover_model.specs.declared.events.Event.{Event}
 use Rattle.dover_model.specs.declared.events.Event.TheVariants as events
 use Rattle.dover_model.specs.Instance.{Instance, with_finishes}
+use Rattle.dover_model.specs.Limits.{most_ready}
 use Rattle.dover_model.specs.State.{State, state_at}
 use Rattle.dover_model.specs.Run.{Step, printed, printed_of}
 use Rattle.dover_model.specs.Settled.{settled, last_of}
@@ -73,6 +74,10 @@ Finishes old new J at number None = (finish_at J at number ≡ None) × (new ≡
 -- there is room for one ready job more
 abbrev pub HasPlace : ReadyServer → Type 0
 HasPlace s = length s.ready.ready < s.ready.room
+
+-- the same, unless as many jobs are ready as may be at once
+abbrev pub HasPlaceUnlessFull : ReadyServer → Type 0
+HasPlaceUnlessFull s = min (length s.ready.ready + 1) most_ready ≤ s.ready.room
 
 -- no more comparisons were made than its jobs so far have called for
 abbrev pub HasPaid : ReadyServer → (start now : ℕ) → Type 0

@@ -1,11 +1,13 @@
 //! The server of a feed: with a roster of its jobs, where one is asked for.
-ghost use Rattle.std.specs.Prelude.{◌≡◌, ◌≤◌, ◌+◌, ◌∷◌, [], ◌++◌, ℕ, List, length, IfOk, IsOk, OnOk};
-ghost use Rattle.std.specs.Prelude.{IfSome, Some, is_some, true};
+ghost use Rattle.std.specs.Prelude.{◌≡◌, ◌≤◌, ◌<◌, ◌+◌, ◌∷◌, [], ◌++◌, ◌↔◌, ℕ, List, length, IfOk, IsOk};
+ghost use Rattle.std.specs.Prelude.{OnOk, IfSome, IsTrue, Some, is_some, true};
 ghost use Rattle.std.specs.Option.{option_map};
 ghost use Rattle.dover_model.specs.declared.events.Event.{Event};
 ghost use Rattle.dover_model.specs.declared.events.Event.TheVariants.{Release};
 ghost use Rattle.dover_model.specs.JobFacts.{JobFacts};
 ghost use Rattle.dover_model.specs.Instance.{Instance, IsValid, with_jobs};
+ghost use Rattle.dover_model.specs.Limits.{most_ready};
+ghost use Rattle.dover_model.specs.Session.{is_full};
 ghost use Rattle.dover_model.specs.Settled.{settled};
 ghost use Rattle.dover_model.specs.Spending.{CostsAtMost};
 ghost use Rattle.dover_model.specs.WholeRun.{Begins};
@@ -13,7 +15,8 @@ ghost use Rattle.dover_model.specs.declared.horizon.Horizon.{Horizon};
 ghost use Rattle.dover_model.specs.declared.horizon.Horizon.TheVariants.{Mark};
 ghost use Rattle.dover_model.specs.Horizons.{MayFollow, no_jobs, due_by, Gives};
 ghost use Rattle.ready_server.specs.Roster.{empty_roll, with_step, HasLine, HasFewTakes};
-ghost use Rattle.ready_server.specs.Rostering.{Serves, Rests, HasPlace, HasPaid, Finishes, has_roster};
+ghost use Rattle.ready_server.specs.Rostering.{Serves, Rests, HasPlace, HasPlaceUnlessFull, HasPaid, Finishes};
+ghost use Rattle.ready_server.specs.Rostering.{has_roster};
 
 use crate::roster::Roster;
 use crate::server::ReadyServer;
@@ -80,6 +83,8 @@ impl RosterServer {
         ensures rested { (v : RosterServer) (J : Instance) (to : Horizon) → Rests v J to → Serves v J to (due_by J to) }
         ensures few { (v : RosterServer) (J : Instance) (to : Horizon) (events : List Event) (start now : ℕ) →
             Serves v J to events → HasPaid v start now → CostsAtMost (length J.jobs) start now }
+        ensures place { (v : RosterServer) → HasPlaceUnlessFull v → length v.server.ready.ready < most_ready
+            → HasPlace v }
     {
         ReadyServer::laws();
     }
@@ -123,6 +128,32 @@ impl RosterServer {
         self.server.make_room()
     }
 
+    /// Makes room for one job more, unless 1,000,000 are ready. Where there is room, it takes no memory.
+    ///
+    /// # Errors
+    ///
+    /// `Memory` where there is none. It has come as far as before, and room can be asked for again.
+    pub fn make_room_unless_full(&mut self) -> Result<(), Memory>
+        ensures serves { (J : Instance) (to : Horizon) (events : List Event) → Serves self.old J to events
+            → Serves self.new J to events }
+        ensures room { OnOk result (HasPlaceUnlessFull self.new) }
+        ensures enough { HasPlaceUnlessFull self.old → IsOk result }
+        ensures same { self.new.server.ready.ready ≡ self.old.server.ready.ready }
+        ensures paid { (start now : ℕ) → HasPaid self.old start now → HasPaid self.new start now }
+        ensures roster { has_roster self.new ≡ has_roster self.old }
+    {
+        make_room_in(&mut self.roster)?;
+        self.server.make_room_unless_full()
+    }
+
+    /// Whether 1,000,000 jobs are ready, so that none may be admitted.
+    pub fn is_full(&self) -> bool
+        ensures at { (J : Instance) (mark : ℕ) → Rests self.now J (Mark mark) → result ≡ is_full J mark }
+        ensures many { IsTrue result ↔ (most_ready ≤ length self.now.server.ready.ready) }
+    {
+        self.server.is_full()
+    }
+
     /// The next printed step of the run of the admitted jobs. At a mark it is None where none comes before the first
     /// decision at a latest start, or silent tick, at the mark or after it. At the end it is None where End was given
     /// before. No memory is taken. Comparisons of jobs are counted in `steps`.
@@ -136,6 +167,7 @@ impl RosterServer {
             → MayFollow from to
             → Gives (Serves self.new J to) (Rests self.new J to) (due_by J to) events result }
         ensures room { HasPlace self.old → HasPlace self.new }
+        ensures place { HasPlaceUnlessFull self.old → HasPlaceUnlessFull self.new }
         ensures paid { (start : ℕ) → HasPaid self.old start steps.old → HasPaid self.new start steps.new }
         ensures roster { has_roster self.new ≡ has_roster self.old }
     {
@@ -172,6 +204,7 @@ impl RosterServer {
         requires rests { (J : Instance) × Rests self.old J (Mark at) }
         ensures finishes { (J : Instance) → Rests self.old J (Mark at) → Finishes self.old self.new J at number result }
         ensures room { HasPlace self.old → HasPlace self.new }
+        ensures place { HasPlaceUnlessFull self.old → HasPlaceUnlessFull self.new }
         ensures paid { (start now : ℕ) → HasPaid self.old start now → HasPaid self.new start now }
         ensures roster { has_roster self.new ≡ has_roster self.old }
     {

@@ -1,5 +1,5 @@
 //! The server over the jobs that are ready.
-ghost use Rattle.std.specs.Prelude.{◌≡◌, ◌≤◌, ◌+◌, ◌∷◌, [], ◌++◌, ◌||◌, ◌↔◌, ◌*◌, ℕ, List, length, min, max, IfOk};
+ghost use Rattle.std.specs.Prelude.{◌≡◌, ◌≤◌, ◌<◌, ◌+◌, ◌∷◌, [], ◌++◌, ◌||◌, ◌↔◌, ◌*◌, ℕ, List, length, min, max, IfOk};
 ghost use Rattle.std.specs.Prelude.{IsOk, OnOk, IfSome, IsNone, IsTrue, false, Some};
 ghost use Rattle.dover_model.specs.declared.events.Event.{Event};
 ghost use Rattle.dover_model.specs.Instance.{Instance, IsValid, with_jobs};
@@ -7,6 +7,7 @@ ghost use Rattle.dover_model.specs.Limits.{most_ready, most_total, last_tick};
 ghost use Rattle.dover_model.specs.declared.events.Version.TheVariants.{Three};
 ghost use Rattle.dover_model.specs.Rest.{instead_with};
 ghost use Rattle.dover_model.specs.Processor.{runner_of};
+ghost use Rattle.dover_model.specs.Session.{is_full};
 ghost use Rattle.dover_model.specs.Settled.{settled};
 ghost use Rattle.dover_model.specs.Run.{is_end};
 ghost use Rattle.dover_model.specs.Spending.{CostsAtMost};
@@ -16,7 +17,7 @@ ghost use Rattle.dover_model.specs.declared.horizon.Horizon.{Horizon};
 ghost use Rattle.dover_model.specs.declared.horizon.Horizon.TheVariants.{Mark, End};
 ghost use Rattle.dover_model.specs.Horizons.{MayFollow, is_end_given, no_jobs, due_by, Gives};
 ghost use Rattle.ready_server.specs.Serving.{Serves, Rests, HasPlace, HasPaid, spare_of, HasShortValue, CostsOnce};
-ghost use Rattle.ready_server.specs.Serving.{Finishes};
+ghost use Rattle.ready_server.specs.Serving.{Finishes, HasPlaceUnlessFull};
 ghost use Rattle.ready_server.specs.NextStep.{ComesAt};
 
 use dover_model::{Event, Horizon, Job, Memory, Ratio, Version};
@@ -63,6 +64,7 @@ impl ReadyServer {
         ensures rested { (s : ReadyServer) (J : Instance) (to : Horizon) → Rests s J to → Serves s J to (due_by J to) }
         ensures few { (s : ReadyServer) (J : Instance) (to : Horizon) (events : List Event) (start now : ℕ) →
             Serves s J to events → HasPaid s start now → CostsAtMost (length J.jobs) start now }
+        ensures place { (s : ReadyServer) → HasPlaceUnlessFull s → length s.ready.ready < most_ready → HasPlace s }
     {}
 
     /// No job is admitted yet, there is room for none, and the clock is 0.
@@ -116,14 +118,43 @@ impl ReadyServer {
         ensures few { self.new.ready.room ≤ max self.old.ready.room (max 1 (2 * length self.old.ready.ready)) }
         ensures paid { (start now : ℕ) → HasPaid self.old start now → HasPaid self.new start now }
     {
-        let ready = self.ready.count();
-        if ready < self.ready.room() {
-            return Ok(());
-        }
-        if ready >= MOST_READY {
+        self.ready.laws();
+        if self.is_full() {
             return Err(Memory);
         }
+        self.make_room_unless_full()
+    }
+
+    /// Makes room for one job more, unless 1,000,000 are ready, for no more than which there is room. Where there is
+    /// room, or may be no more, it takes no memory.
+    ///
+    /// # Errors
+    ///
+    /// `Memory` where there is none. It has come as far as before, and room can be asked for again.
+    pub fn make_room_unless_full(&mut self) -> Result<(), Memory>
+        ensures serves { (J : Instance) (to : Horizon) (events : List Event) → Serves self.old J to events
+            → Serves self.new J to events }
+        ensures room { OnOk result (HasPlaceUnlessFull self.new) }
+        ensures enough { HasPlaceUnlessFull self.old → IsOk result × (self.new ≡ self.old) }
+        ensures full { most_ready ≤ length self.old.ready.ready → IsOk result }
+        ensures few { self.new.ready.room ≤ max self.old.ready.room (max 1 (2 * length self.old.ready.ready)) }
+        ensures same { self.new.ready.ready ≡ self.old.ready.ready }
+        ensures paid { (start now : ℕ) → HasPaid self.old start now → HasPaid self.new start now }
+    {
+        self.ready.laws();
+        let ready = self.ready.count();
+        if MOST_READY.min(ready + 1) <= self.ready.room() {
+            return Ok(());
+        }
         self.ready.reserve(ready.max(1))
+    }
+
+    /// Whether 1,000,000 jobs are ready, so that none may be admitted.
+    pub fn is_full(&self) -> bool
+        ensures at { (J : Instance) (mark : ℕ) → Rests self.now J (Mark mark) → result ≡ is_full J mark }
+        ensures many { IsTrue result ↔ (most_ready ≤ length self.now.ready.ready) }
+    {
+        MOST_READY <= self.ready.count()
     }
 
     /// For how many ready jobs more there is room.
@@ -216,6 +247,7 @@ impl ReadyServer {
         ensures ended { self.new.ended ≡ self.old.ended }
         ensures spare { spare_of self.old ≤ spare_of self.new }
         ensures room { HasPlace self.old → HasPlace self.new }
+        ensures place { HasPlaceUnlessFull self.old → HasPlaceUnlessFull self.new }
         ensures room_stays { self.new.ready.room ≡ self.old.ready.room }
         ensures paid { (start : ℕ) → HasPaid self.old start steps.old → HasPaid self.new start steps.new }
         ensures once { CostsOnce self.old result steps.old steps.new }
@@ -237,6 +269,7 @@ impl ReadyServer {
         ensures short { IfSome result HasShortValue }
         ensures spare { spare_of self.old ≤ spare_of self.new }
         ensures room { HasPlace self.old → HasPlace self.new }
+        ensures place { HasPlaceUnlessFull self.old → HasPlaceUnlessFull self.new }
         ensures room_stays { self.new.ready.room ≡ self.old.ready.room }
         ensures paid { (start : ℕ) → HasPaid self.old start steps.old → HasPaid self.new start steps.new }
         ensures once { CostsOnce self.old result steps.old steps.new }
@@ -269,6 +302,7 @@ impl ReadyServer {
         ensures short { IfSome result HasShortValue }
         ensures spare { spare_of self.old ≤ spare_of self.new }
         ensures room { HasPlace self.old → HasPlace self.new }
+        ensures place { HasPlaceUnlessFull self.old → HasPlaceUnlessFull self.new }
         ensures room_stays { self.new.ready.room ≡ self.old.ready.room }
         ensures paid { (start : ℕ) → HasPaid self.old start steps.old → HasPaid self.new start steps.new }
         ensures once { CostsOnce self.old result steps.old steps.new }
@@ -304,6 +338,7 @@ impl ReadyServer {
         requires rests { (J : Instance) × Rests self.old J (Mark at) }
         ensures finishes { (J : Instance) → Rests self.old J (Mark at) → Finishes self.old self.new J at number result }
         ensures room { HasPlace self.old → HasPlace self.new }
+        ensures place { HasPlaceUnlessFull self.old → HasPlaceUnlessFull self.new }
         ensures spare { spare_of self.old ≤ spare_of self.new }
         ensures room_stays { self.new.ready.room ≡ self.old.ready.room }
         ensures clock { IfSome result (λ _. self.new.ready.clock ≡ at) }

@@ -3,6 +3,7 @@ use Rattle.std.specs.Prelude.{is_some}
 use Rattle.ready_server.specs.Roster.{HasLine}
 use Rattle.ready_server.proofs.Rostered.{few_at_rest, still_kept, finish_read, finish_wrong, finish_room, is_completion}
 use Rattle.ready_server.proofs.roster_server.RosterServer.finish.Goals as goal
+use Rattle.ready_server.proofs.roster_server.RosterServer.finish.Goals.{After-read_into}
 
 pub returns-in_default-clause-finishes : goal.returns-in_default-clause-finishes
 returns-in_default-clause-finishes c J rests =
@@ -23,15 +24,19 @@ returns-clause-finishes c J rests =
     finish_read c.args.self.now J c.args.at c.args.number rests c.finish.new.self c.in-Some.event
     (c.in-Some.ensures.finishes J rests.rests) c.read_into.new.roster c.read_into.ensures
 
-pub returns-clause-room : goal.returns-clause-room
-returns-clause-room c room =
+-- there is as much room in the roster behind the completion
+line_left : (c : After-read_into) → HasLine c.args.self.now.roster → HasLine c.read_into.new.roster
+line_left c room =
     let r = c.requires.rests in
-    record {
-      place = c.in-Some.ensures.room room.place;
-      listed = subst HasLine (sym c.read_into.ensures)
-          (finish_room c.args.self.now r.0 c.args.at c.args.number r.1 c.finish.new.self c.in-Some.event
-          (c.in-Some.ensures.finishes r.0 r.1.rests) room.listed);
-    }
+    subst HasLine (sym c.read_into.ensures)
+    (finish_room c.args.self.now r.0 c.args.at c.args.number r.1 c.finish.new.self c.in-Some.event
+    (c.in-Some.ensures.finishes r.0 r.1.rests) room)
+
+pub returns-clause-room : goal.returns-clause-room
+returns-clause-room c room = record { place = c.in-Some.ensures.room room.place; listed = line_left c room.listed }
+
+pub returns-clause-place : goal.returns-clause-place
+returns-clause-place c room = record { place = c.in-Some.ensures.place room.place; listed = line_left c room.listed }
 
 pub returns-clause-roster : goal.returns-clause-roster
 returns-clause-roster c = ap is_some c.read_into.ensures ∙ still_kept c.args.self.now.roster c.in-Some.event

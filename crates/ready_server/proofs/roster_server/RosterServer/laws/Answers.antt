@@ -5,3 +5,7 @@ returns-clause-begins c s J to events it = c.laws.ensures.begins s.server J to e
 
 pub returns-clause-few : goal.returns-clause-few
 returns-clause-few c s J to events start now it paid = c.laws.ensures.few s.server J to events start now it.served paid
+
+pub returns-clause-place : goal.returns-clause-place
+returns-clause-place c v room few =
+    record { place = c.laws.ensures.place v.server room.place few; listed = room.listed }

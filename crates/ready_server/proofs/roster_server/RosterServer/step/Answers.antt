@@ -7,6 +7,8 @@ use Rattle.ready_server.specs.Roster.{HasLine}
 use Rattle.ready_server.specs.declared.roster_server.RosterServer.{RosterServer}
 use Rattle.ready_server.proofs.Rostered.{few_takes, none_released, place_left, read_next, rests_now, still_kept}
 use Rattle.ready_server.proofs.roster_server.RosterServer.step.Goals as goal
+use Rattle.ready_server.proofs.roster_server.RosterServer.step.Goals.{After-read_into}
+use Rattle.ready_server.proofs.roster_server.RosterServer.step.Given.{Over}
 
 pub returns-in_default-clause-gives : goal.returns-in_default-clause-gives
 returns-in_default-clause-gives g c J from events it may =
@@ -35,17 +37,27 @@ returns-in-Mark-clause-gives g c J from events it may =
     (subst (λ to. ready.Serves c.step.new.self J to (events ++ c.in-Some.event ∷ [])) c.in-Mark.is
     (c.in-Some.ensures.gives J from events it.served may)) c.read_into.ensures)
 
-pub returns-in-Mark-clause-room : goal.returns-in-Mark-clause-room
-returns-in-Mark-clause-room g c room =
+-- there is as much room in the roster behind the step
+line_left : (g : Over) (c : After-read_into g) → HasLine c.args.self.now.roster → HasLine c.read_into.new.roster
+line_left g c room =
     let r = c.requires in
-    record {
-      place = c.in-Some.ensures.room room.place;
-      listed = subst HasLine (sym c.read_into.ensures)
-          (place_left c.args.self.now r.0 r.1 r.2 r.3 c.in-Mark.field-0 (subst (MayFollow r.1) c.in-Mark.is r.4)
-          c.step.new.self c.in-Some.event
-          (subst (λ to. ready.Serves c.step.new.self r.0 to (r.2 ++ c.in-Some.event ∷ [])) c.in-Mark.is
-          (c.in-Some.ensures.gives r.0 r.1 r.2 r.3.served r.4)) room.listed);
-    }
+    subst HasLine (sym c.read_into.ensures)
+    (place_left c.args.self.now r.0 r.1 r.2 r.3 c.in-Mark.field-0 (subst (MayFollow r.1) c.in-Mark.is r.4)
+    c.step.new.self c.in-Some.event
+    (subst (λ to. ready.Serves c.step.new.self r.0 to (r.2 ++ c.in-Some.event ∷ [])) c.in-Mark.is
+    (c.in-Some.ensures.gives r.0 r.1 r.2 r.3.served r.4)) room)
+
+pub returns-in-Mark-clause-room : goal.returns-in-Mark-clause-room
+returns-in-Mark-clause-room g c room = record {
+  place = c.in-Some.ensures.room room.place;
+  listed = line_left g c room.listed;
+}
+
+pub returns-in-Mark-clause-place : goal.returns-in-Mark-clause-place
+returns-in-Mark-clause-place g c room = record {
+  place = c.in-Some.ensures.place room.place;
+  listed = line_left g c room.listed;
+}
 
 pub returns-in-Mark-clause-roster : goal.returns-in-Mark-clause-roster
 returns-in-Mark-clause-roster g c = ap is_some c.read_into.ensures ∙ still_kept c.args.self.now.roster c.in-Some.event

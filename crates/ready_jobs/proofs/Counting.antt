@@ -1,0 +1,23 @@
+-- As many jobs are ready where their run is settled as are kept.
+use Rattle.std.proofs.Common.{◌≡◌, ℕ, length, sym, ap, ◌∙◌}
+use Rattle.std.specs.Prelude.{nat_le}
+use Rattle.std.specs.List.{filter}
+use Rattle.dover_model.specs.Instance.{Instance}
+use Rattle.dover_model.specs.Limits.{most_ready}
+use Rattle.dover_model.specs.Ready.{is_ready}
+use Rattle.dover_model.specs.Session.{ready_at, is_full}
+use Rattle.dover_model.specs.Settled.{settled_state}
+use Rattle.dover_model.specs.State.{State, state_at}
+use Rattle.ready_jobs.specs.Course.{Course, Follows}
+use Rattle.ready_jobs.proofs.Reordering.{as_many}
+
+module _ (c : Course) (J : Instance) (z : State) (follows : Follows c J z) (mark : ℕ)
+    (there : settled_state J mark ≡ state_at mark z.tasks) where
+  -- as many jobs are ready at the mark as are kept
+  pub ready_kept : ready_at J mark ≡ length c.ready
+  ready_kept = ap (λ (s : State). length (filter is_ready s.tasks)) there
+      ∙ sym (as_many (filter is_ready z.tasks) c.ready follows.ready)
+
+  -- so there the run is full just where as many are kept as may be
+  pub full_kept : nat_le most_ready (length c.ready) ≡ is_full J mark
+  full_kept = ap (nat_le most_ready) (sym ready_kept)
