@@ -6,7 +6,7 @@ use std::marker::Model;
 
 /// What admitting the next job depends on: the ratio, the version, whose limits count, how many jobs were admitted, the
 /// sum of their values, and the least dense and the densest one.
-#[derive(Drop)]
+#[derive(Clone, Copy)]
 pub struct Admission {
     ratio: Ratio,
     version: Version,
@@ -25,6 +25,14 @@ impl Model for Admission {
       count = a.count;
       total = a.total;
       extremes = a.extremes;
+    } };
+
+    ghost inverse = { λ k. record {
+      ratio = k.rules.ratio;
+      version = k.rules.version;
+      count = k.count;
+      total = k.total;
+      extremes = k.extremes;
     } };
 
     ghost invariant = { λ a. IsWithinLimits a.version a.count a.total };

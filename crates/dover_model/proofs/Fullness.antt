@@ -5,7 +5,7 @@ use Rattle.std.specs.Prelude.{nat_le, nat_lt, ◌&&◌, ◌*◌}
 use Rattle.std.specs.List.{filter, fold, list_all}
 use Rattle.std.specs.Bool.{then_some}
 use Rattle.std.specs.Option.{option_or}
-use Rattle.std.proofs.lemmas.Bool.{lt-leb, le-ltb, ltb-false}
+use Rattle.std.proofs.lemmas.Bool.{lt-leb, leb-true, le-ltb, ltb-false}
 use Rattle.dover_model.specs.Limits.{most_ready, most_jobs, most_total}
 use Rattle.dover_model.specs.declared.events.Version.{Version}
 use Rattle.dover_model.specs.declared.events.Version.TheVariants.{One, Two, Three}
@@ -22,7 +22,7 @@ use Rattle.dover_model.specs.Ready.{is_ready}
 use Rattle.dover_model.specs.Settled.{settled_from, settled_state, waits_for_mark}
 use Rattle.dover_model.specs.WholeRun.{open_at}
 use Rattle.dover_model.specs.Session.{Session, instance_of, admitted_jobs, ready_at, is_full, refusal_in, refusal_at}
-use Rattle.dover_model.specs.Session.{may_finish_early, late_refusal}
+use Rattle.dover_model.specs.Session.{may_finish_early, late_refusal, refuses_lines, refused_mark}
 use Rattle.dover_model.proofs.Admitting.{not_refused}
 use Rattle.dover_model.proofs.Settling.{unless}
 use Rattle.dover_model.proofs.Spending.{after_count}
@@ -61,15 +61,22 @@ ready_among (t ∷ tasks) = by_ready (is_ready t) (ready_among tasks) where
   by_ready true rest = omega (arith, rest)
   by_ready false rest = omega (arith, rest)
 
--- where few jobs were admitted, there is room for one more
-pub few_ready : (J : Instance) (mark : ℕ) → length J.jobs < most_ready → is_full J mark ≡ false
-few_ready J mark few = lt-leb most_ready (ready_at J mark) (omega (
+-- no more jobs are ready than there are
+ready_few : (J : Instance) (mark : ℕ) → ready_at J mark ≤ length J.jobs
+ready_few J mark = omega (
   arith,
-  few,
   ready_among (settled_state J mark).tasks,
   settled_count J.rules mark (mark + 6 * length J.jobs + 1) (opening J.jobs),
   opening_count 0 J.jobs,
-))
+)
+
+-- where few jobs were admitted, there is room for one more
+pub few_ready : (J : Instance) (mark : ℕ) → length J.jobs < most_ready → is_full J mark ≡ false
+few_ready J mark few = lt-leb most_ready (ready_at J mark) (omega (arith, few, ready_few J mark))
+
+-- where there is none, many were
+pub full_many : (J : Instance) (mark : ℕ) → is_full J mark ≡ true → most_ready ≤ length J.jobs
+full_many J mark full = omega (arith, leb-true most_ready (ready_at J mark) full, ready_few J mark)
 
 -- in versions One and Two few jobs are admitted
 few_former : (v : Version) (n : ℕ) → may_finish_early v ≡ false → n < most_jobs v → n < most_ready
@@ -83,7 +90,7 @@ module _ (S : Session) (j : JobFacts) where
   alone = refusal_of S.rules (admitted_jobs S.items) j
 
   -- never for that
-  never_alone : alone ≡ Some Full → ⊥
+  pub never_alone : alone ≡ Some Full → ⊥
   never_alone = by_tests (not (is_job j)) (nat_le (most_jobs S.rules.version) (length (admitted_jobs S.items)))
       (nat_lt (most_total S.rules.version) (total_value (admitted_jobs S.items) + j.value))
       (not (list_all (λ i. is_within_ratio_both_ways S.rules.ratio i j) (admitted_jobs S.items))) where
@@ -143,3 +150,25 @@ full_at S mark j = by_late (nat_lt j.release mark) refl where
 pub full_here : (S : Session) (j : JobFacts) → refusal_in S j ≡ Some Full → refusal_at S j.release j ≡ Some Full
 full_here S j full = ap (λ b. cond b (late_refusal S.rules.version) (refusal_in S j))
     (le-ltb j.release j.release (omega arith)) ∙ full
+
+-- a job is refused for that alone where jobs may finish early, so that it ends no feed
+pub full_refuses : (S : Session) (j : JobFacts) → refusal_of S.rules (admitted_jobs S.items) j ≡ None
+    → is_full (instance_of S) j.release ≡ true → refuses_lines S.rules.version ≡ true
+full_refuses S j none full = by_version S.rules.version (λ former. few_ready (instance_of S) j.release
+    (few_former S.rules.version (length (admitted_jobs S.items)) former
+    (not_refused S.rules (admitted_jobs S.items) j none).count)) where
+      by_version : (v : Version) → (may_finish_early v ≡ false → is_full (instance_of S) j.release ≡ false)
+          → refuses_lines v ≡ true
+      by_version One room = never (sym (room refl) ∙ full)
+      by_version Two room = refl
+      by_version Three room = refl
+
+-- a job that is refused by itself, or for the jobs before it, leaves the mark
+pub mark_stays : (S : Session) (mark : ℕ) (j : JobFacts) (refusal : Refusal)
+    → refusal_of S.rules (admitted_jobs S.items) j ≡ Some refusal → refused_mark mark j refusal ≡ mark
+mark_stays S mark j BadJob is = refl
+mark_stays S mark j Count is = refl
+mark_stays S mark j Total is = refl
+mark_stays S mark j Ratio is = refl
+mark_stays S mark j Late is = refl
+mark_stays S mark j Full is = absurd (never_alone S j is)

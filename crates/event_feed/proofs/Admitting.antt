@@ -10,13 +10,13 @@ use Rattle.dover_model.specs.declared.events.Refusal.{Refusal}
 use Rattle.dover_model.specs.Admission.{refusal_of}
 use Rattle.dover_model.specs.Session.{Session, Item, JobItem, RefusedItem, FinishItem, Refused, EarlyFinish, RefusedJob}
 use Rattle.dover_model.specs.Session.{RefusedDone, refused_at, refused_done_at, with_item, with_named, early_at}
-use Rattle.dover_model.specs.Session.{is_right}
+use Rattle.dover_model.specs.Session.{is_right, refusal_in, refused_mark}
 use Rattle.dover_model.specs.Session.{late_refusal, may_finish_early}
 use Rattle.dover_model.specs.Session.{admitted_jobs}
 use Rattle.dover_model.specs.Session.{refuses_lines}
 use Rattle.dover_model.specs.FeedLine.{FeedLine, RatioLine, JobLine, TickLine, DoneLine, EndLine, feed_line}
 use Rattle.dover_model.specs.Feed.{Account, Standing, Lines, Line, is_open, next_line, read_line, with_line, with_fault}
-use Rattle.dover_model.specs.Feed.{with_item_in, later_line_cause, late_cause, Order, NotAdmitted, NotDone, account}
+use Rattle.dover_model.specs.Feed.{with_refused_at, later_line_cause, late_cause, Order, NotAdmitted, NotDone, account}
 use Rattle.dover_model.proofs.Accounts.{account_append}
 use Rattle.event_feed.specs.Answers.{admitted_in}
 
@@ -73,11 +73,12 @@ module _ (lines : ℕ) (S : Session) (mark : ℕ) (standing : Standing) where
   job_keeps : (j : JobFacts) → HasAtLeast n (with_line at (JobLine j) (later_line_cause S mark (JobLine j)))
   job_keeps j = by_order (nat_lt j.release mark) where
     by_two : (refusal : Refusal) (two : Bool)
-        → HasAtLeast n (cond two (with_item_in at (refused_at mark j refusal)) (with_fault at (NotAdmitted refusal)))
+        → HasAtLeast n (cond two (with_refused_at at (refused_mark mark j refusal) j refusal)
+        (with_fault at (NotAdmitted refusal)))
     by_two refusal true = (
-      with_item S (refused_at mark j refusal),
+      with_item S (refused_at (refused_mark mark j refusal) j refusal),
       refl,
-      omega (arith, refused_more S.items (record { at = mark; line = RefusedJob j refusal })),
+      omega (arith, refused_more S.items (record { at = refused_mark mark j refusal; line = RefusedJob j refusal })),
     )
     by_two refusal false = (S, refl, omega arith)
 
@@ -91,10 +92,9 @@ module _ (lines : ℕ) (S : Session) (mark : ℕ) (standing : Standing) where
 
     by_order : (b : Bool) → HasAtLeast n
         (with_line at (JobLine j)
-        (cond b (Some (late_cause S.rules.version)) (option_map NotAdmitted (refusal_of S.rules
-        (admitted_jobs S.items) j))))
+        (cond b (Some (late_cause S.rules.version)) (option_map NotAdmitted (refusal_in S j))))
     by_order true = by_late (late_refusal S.rules.version)
-    by_order false = by_refusal (refusal_of S.rules (admitted_jobs S.items) j)
+    by_order false = by_refusal (refusal_in S j)
 
   -- a done line
   done_keeps : (t m : ℕ) → HasAtLeast n (with_line at (DoneLine t m) (later_line_cause S mark (DoneLine t m)))

@@ -5,11 +5,11 @@ use Rattle.std.specs.List.{fold}
 use Rattle.std.specs.Prelude.{nat_lt}
 use Rattle.dover_model.specs.declared.events.Refusal.{Refusal}
 use Rattle.dover_model.specs.JobFacts.{JobFacts}
-use Rattle.dover_model.specs.Session.{Session, refuses_lines, refused_at}
+use Rattle.dover_model.specs.Session.{Session, refuses_lines, refused_at, refused_mark}
 use Rattle.dover_model.specs.FeedLine.{FeedLine, RatioLine, JobLine, TickLine, DoneLine, EndLine, feed_line}
 use Rattle.dover_model.specs.Feed as model
 use Rattle.dover_model.specs.Feed.{Account, Cause, Standing, Open, Ended, Faulty}
-use Rattle.dover_model.specs.Feed.{cause_of, with_line, with_fault, with_item_in, with_refused_job, read_line}
+use Rattle.dover_model.specs.Feed.{cause_of, with_line, with_fault, with_refused_at, with_refused_job, read_line}
 use Rattle.dover_model.specs.Feed.{next_line, no_lines, account_of_lines, NotAdmitted}
 use Rattle.dover_model.specs.Feed.{most_lines_in}
 
@@ -17,7 +17,7 @@ use Rattle.dover_model.specs.Feed.{most_lines_in}
 abbrev after_refusal : Account → JobFacts → Refusal → Option Session → Account
 after_refusal a j refusal None = a
 after_refusal a j refusal (Some S) =
-    cond (refuses_lines S.rules.version) (with_item_in a (refused_at a.mark j refusal)) (with_fault a
+    cond (refuses_lines S.rules.version) (with_refused_at a (refused_mark a.mark j refusal) j refusal) (with_fault a
     (NotAdmitted refusal))
 
 -- a refused job changes no count
@@ -26,7 +26,8 @@ refused_lines : (a : Account) (j : JobFacts) (refusal : Refusal) (session : Opti
 refused_lines a j refusal None = refl
 refused_lines a j refusal (Some S) = by_version (refuses_lines S.rules.version) where
   by_version : (two : Bool)
-      → (cond two (with_item_in a (refused_at a.mark j refusal)) (with_fault a (NotAdmitted refusal))).lines ≡ a.lines
+      → (cond two (with_refused_at a (refused_mark a.mark j refusal) j refusal)
+      (with_fault a (NotAdmitted refusal))).lines ≡ a.lines
   by_version true = refl
   by_version false = refl
 

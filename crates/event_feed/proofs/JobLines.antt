@@ -1,21 +1,24 @@
 -- A job line in a session that goes on: admitted, refused, or at fault.
 use Rattle.std.proofs.Common.{◌≡◌, ℕ, ◌≤◌, ◌<◌, List, [], ◌∷◌, ◌++◌, refl, sym, ap, ◌∙◌, subst, cond, Option, Some}
 use Rattle.std.proofs.Common.{None, Ok}
-use Rattle.std.proofs.Common.{Err, true, ◌⊎◌, inl, inr}
-use Rattle.std.specs.Option.{option_map}
+use Rattle.std.proofs.Common.{Err, true, false, Bool, ◌⊎◌, inl, inr}
+use Rattle.std.specs.Bool.{then_some}
+use Rattle.std.specs.Option.{option_map, option_or}
 use Rattle.std.proofs.lemmas.Bool.{le-ltb, lt-ltb}
 use Rattle.dover_model.specs.Numerals.{AreShort}
 use Rattle.dover_model.specs.declared.events.Version.{Version}
 use Rattle.dover_model.specs.declared.events.Version.TheVariants.{One, Two, Three}
 use Rattle.dover_model.specs.declared.events.Refusal.{Refusal}
-use Rattle.dover_model.specs.declared.events.Refusal.TheVariants.{Late}
+use Rattle.dover_model.specs.declared.events.Refusal.TheVariants.{Late, Full}
 use Rattle.dover_model.specs.JobFacts.{JobFacts, job_numbers}
 use Rattle.dover_model.specs.Admission.{refusal_of}
 use Rattle.dover_model.specs.Session.{Session, RefusedJob, refused_at, admitted_jobs, refuses_lines, refusal_at}
-use Rattle.dover_model.specs.Session.{late_refusal}
+use Rattle.dover_model.specs.Session.{late_refusal, refusal_in, refused_mark, is_full, instance_of, with_item}
+use Rattle.dover_model.specs.Session.{JobItem}
+use Rattle.dover_model.proofs.Fullness.{full_refuses, mark_stays}
 use Rattle.dover_model.specs.FeedLine.{JobLine}
 use Rattle.dover_model.specs.Feed.{Account, NotAdmitted, Order, late_cause, cause_of, with_fault, with_line}
-use Rattle.dover_model.specs.Feed.{with_item_in}
+use Rattle.dover_model.specs.Feed.{with_refused_at}
 use Rattle.dover_model.proofs.Growing.{job_instance, refused_instance}
 use Rattle.admission.specs.Kept as admission
 use Rattle.admission.specs.Answers as answers
@@ -24,7 +27,7 @@ use Rattle.admission.specs.declared.refused.Refused.TheVariants.{BadJob, Count, 
 use Rattle.event_feed.specs.declared.faults.Cause.TheVariants as fault
 use Rattle.event_feed.specs.declared.fed.Fed.TheVariants as fed
 use Rattle.event_feed.specs.declared.kept_session.KeptSession.{KeptSession}
-use Rattle.event_feed.specs.Kept.{cause_of_fault, cause_of_refused, IsKeptOf}
+use Rattle.event_feed.specs.Kept.{cause_of_fault, cause_of_refused, IsKeptOf, KeepsSession, without_last}
 use Rattle.event_feed.specs.Answers.{NamesOther}
 use Rattle.event_feed.specs.Reading.{open_account, IsTaken, Takes}
 
@@ -46,15 +49,16 @@ module _ (lines : ℕ) (S : Session) (mark : ℕ) (j : JobFacts) where
   -- the line that is refused alone is handed in
   takes_alone : (kept : KeptSession) → IsKeptOf kept S mark → refuses_lines S.rules.version ≡ true
       → AreShort (job_numbers j) → (refusal : Refusal)
-      → refusal_at S.rules (admitted_jobs S.items) mark j ≡ Some refusal
+      → refusal_at S mark j ≡ Some refusal → refused_mark mark j refusal ≡ mark
       → cause_of before (JobLine j) ≡ Some (NotAdmitted refusal)
       → Takes (JobLine j) lines S mark kept (Ok (fed.Refused j.release j.work j.deadline j.value refusal))
-  takes_alone kept it alone numerals refusal is cause =
+  takes_alone kept it alone numerals refusal is stays cause =
       subst (λ b. IsTaken (Some kept) (Some (JobLine j)) before b
       (Ok (fed.Refused j.release j.work j.deadline j.value refusal)))
       (sym (ap (with_line before (JobLine j)) cause
-      ∙ ap (λ b. cond b (with_item_in before (refused_at mark j refusal))
-      (with_fault before (NotAdmitted refusal))) alone)) (record {
+      ∙ ap (λ b. cond b (with_refused_at before (refused_mark mark j refusal) j refusal)
+      (with_fault before (NotAdmitted refusal))) alone
+      ∙ ap (λ m. with_refused_at before m j refusal) stays)) (record {
         keeps = record {
           rules = it.rules;
           jobs = subst (admission.StandsFor kept.admission)
@@ -68,6 +72,7 @@ module _ (lines : ℕ) (S : Session) (mark : ℕ) (j : JobFacts) where
           after_is = refl;
           numerals = numerals;
           refused = is;
+          stays = stays;
         };
       })
 
@@ -76,8 +81,7 @@ module _ (lines : ℕ) (S : Session) (mark : ℕ) (j : JobFacts) where
   -- its cause
   late_line_cause : j.release < mark → cause_of before (JobLine j) ≡ Some (late_cause S.rules.version)
   late_line_cause late =
-      ap (λ b. cond b (Some (late_cause S.rules.version)) (option_map NotAdmitted (refusal_of S.rules
-      (admitted_jobs S.items) j)))
+      ap (λ b. cond b (Some (late_cause S.rules.version)) (option_map NotAdmitted (refusal_in S j)))
       (lt-ltb _ _ late)
 
   -- from version Three on it is handed in
@@ -86,9 +90,8 @@ module _ (lines : ℕ) (S : Session) (mark : ℕ) (j : JobFacts) where
       → Takes (JobLine j) lines S mark kept (Ok (fed.Refused j.release j.work j.deadline j.value Late))
   takes_late kept it late version numerals =
       takes_alone kept it (ap refuses_lines version) numerals Late
-      (ap (λ b. cond b (late_refusal S.rules.version) (refusal_of S.rules (admitted_jobs S.items) j))
-      (lt-ltb _ _ late)
-      ∙ ap late_refusal version)
+      (ap (λ b. cond b (late_refusal S.rules.version) (refusal_in S j)) (lt-ltb _ _ late) ∙ ap late_refusal version)
+      refl
       (late_line_cause late ∙ ap (λ v. Some (late_cause v)) version)
 
   -- before it is at fault
@@ -108,31 +111,56 @@ module _ (lines : ℕ) (S : Session) (mark : ℕ) (j : JobFacts) (no_fall : mark
   abbrev on_time : Account
   on_time = open_account lines (Some S) mark
 
+  -- whether the job finds no room
+  abbrev full : Bool
+  full = is_full (instance_of S) j.release
+
   -- its cause is that of the admission
   job_cause : (refusal : Option Refusal) → refusal_of S.rules (admitted_jobs S.items) j ≡ refusal
-      → cause_of on_time (JobLine j) ≡ option_map NotAdmitted refusal
+      → cause_of on_time (JobLine j) ≡ option_map NotAdmitted (option_or refusal (then_some full Full))
   job_cause refusal is =
-      ap (λ b. cond b (Some (late_cause S.rules.version)) (option_map NotAdmitted (refusal_of S.rules
-      (admitted_jobs S.items) j)))
+      ap (λ b. cond b (Some (late_cause S.rules.version)) (option_map NotAdmitted (refusal_in S j)))
       (le-ltb _ _ no_fall)
-      ∙ ap (option_map NotAdmitted) is
+      ∙ ap (λ o. option_map NotAdmitted (option_or o (then_some full Full))) is
 
-  -- the job is admitted
+  -- the account behind the line
+  after_offer : refusal_of S.rules (admitted_jobs S.items) j ≡ None → (b : Bool) → full ≡ b
+      → with_line on_time (JobLine j) (option_map NotAdmitted (then_some b Full))
+      ≡ open_account lines (Some (with_item S (cond b (refused_at j.release j Full) (JobItem j)))) j.release
+  after_offer none false is = refl
+  after_offer none true is = ap (λ b. cond b (with_refused_at on_time j.release j Full)
+      (with_fault on_time (NotAdmitted Full))) (full_refuses S j none is)
+
+  -- the job is kept, or taken back
+  keeps_offer : (kept new : KeptSession) → IsKeptOf kept S mark
+      → new.admission.rules ≡ kept.admission.rules → new.mark ≡ j.release → new.former ≡ kept.admission
+      → admission.StandsFor new.admission (admitted_jobs S.items ++ j ∷ []) → (b : Bool)
+      → KeepsSession (cond b (Some (without_last new)) (Some new))
+      (Some (with_item S (cond b (refused_at j.release j Full) (JobItem j)))) j.release
+  keeps_offer kept new it same marked former stands true = record {
+    rules = it.rules ∙ ap (λ a. a.rules) (sym former);
+    jobs = subst (λ a. admission.StandsFor a (admitted_jobs (with_item S (refused_at j.release j Full)).items))
+        (sym former) (subst (admission.StandsFor kept.admission)
+        (sym (ap (λ J. J.jobs) (refused_instance S (record { at = j.release; line = RefusedJob j Full })))) it.jobs);
+    marked = marked;
+  }
+  keeps_offer kept new it same marked former stands false = record {
+    rules = it.rules ∙ sym same;
+    jobs = subst (admission.StandsFor new.admission) (sym (ap (λ J. J.jobs) (job_instance S j))) stands;
+    marked = marked;
+  }
+
+  -- the job is admitted, or finds no room
   pub takes_job : (kept new : KeptSession) (number : ℕ) → IsKeptOf kept S mark
-      → new.admission.rules ≡ kept.admission.rules → new.mark ≡ j.release
-      → ((jobs : List JobFacts) → admission.StandsFor kept.admission jobs
+      → new.admission.rules ≡ kept.admission.rules → new.mark ≡ j.release → new.former ≡ kept.admission
+      → AreShort (job_numbers j) → ((jobs : List JobFacts) → admission.StandsFor kept.admission jobs
       → admission.StandsFor new.admission (jobs ++ j ∷ []))
       → refusal_of S.rules (admitted_jobs S.items) j ≡ None → number ≡ kept.admission.count
       → Takes (JobLine j) lines S mark new (Ok (fed.Job number j))
-  takes_job kept new number it same marked stands none counts =
+  takes_job kept new number it same marked former numerals stands none counts =
       subst (λ b. IsTaken (Some new) (Some (JobLine j)) on_time b (Ok (fed.Job number j)))
-      (sym (ap (with_line on_time (JobLine j)) (job_cause None none))) (record {
-        keeps = record {
-          rules = it.rules ∙ sym same;
-          jobs = subst (admission.StandsFor new.admission) (sym (ap (λ J. J.jobs) (job_instance S j)))
-              (stands (admitted_jobs S.items) it.jobs);
-          marked = marked;
-        };
+      (sym (ap (with_line on_time (JobLine j)) (job_cause None none) ∙ after_offer none full refl)) (record {
+        keeps = keeps_offer kept new it same marked former (stands (admitted_jobs S.items) it.jobs) full;
         gives = record {
           session = S;
           before_is = refl;
@@ -140,6 +168,7 @@ module _ (lines : ℕ) (S : Session) (mark : ℕ) (j : JobFacts) (no_fall : mark
           numbered = counts ∙ it.jobs.count;
           admitted = none;
           no_fall = no_fall;
+          numerals = numerals;
         };
       })
 
@@ -150,8 +179,8 @@ module _ (lines : ℕ) (S : Session) (mark : ℕ) (j : JobFacts) (no_fall : mark
       → Takes (JobLine j) lines S mark kept (Ok (fed.Refused j.release j.work j.deadline j.value refusal))
   takes_refused kept it alone numerals refusal is =
       takes_alone lines S mark j kept it alone numerals refusal
-      (ap (λ b. cond b (late_refusal S.rules.version) (refusal_of S.rules (admitted_jobs S.items) j))
-      (le-ltb _ _ no_fall) ∙ is)
+      (ap (λ b. cond b (late_refusal S.rules.version) (refusal_in S j)) (le-ltb _ _ no_fall)
+      ∙ ap (λ o. option_or o (then_some full Full)) is) (mark_stays S mark j refusal is)
       (job_cause (Some refusal) is)
 
   -- the fault of a refused job names the other job
@@ -179,7 +208,7 @@ module _ (lines : ℕ) (S : Session) (mark : ℕ) (j : JobFacts) (no_fall : mark
       let refusal : Refusal = answers.refusal_of_refused refused in
       subst (λ b. IsTaken (Some kept) (Some (JobLine j)) on_time b (Err (cause_of_refused refused)))
       (sym (ap (with_line on_time (JobLine j)) (job_cause (Some refusal) is)
-      ∙ ap (λ v. cond (refuses_lines v) (with_item_in on_time (refused_at mark j refusal))
+      ∙ ap (λ v. cond (refuses_lines v) (with_refused_at on_time (refused_mark mark j refusal) j refusal)
       (with_fault on_time (NotAdmitted refusal))) version)) (record {
         keeps = it;
         gives = record {

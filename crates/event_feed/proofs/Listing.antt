@@ -19,7 +19,8 @@ use Rattle.dover_model.specs.Feed as feeds
 use Rattle.dover_model.specs.Feed.{Account, Open, account_of_lines, is_open, rules_with}
 use Rattle.dover_model.specs.Session.{Session, JobItem, FinishItem, EarlyFinish, RefusedDone, admitted_jobs, with_item}
 use Rattle.dover_model.specs.Session.{with_named, refused_at, refused_done_at, early_at, finish_at, is_right}
-use Rattle.dover_model.specs.Session.{instance_of, early_finishes, may_finish_early}
+use Rattle.dover_model.specs.Session.{instance_of, early_finishes, may_finish_early, is_full}
+use Rattle.dover_model.specs.declared.events.Refusal.TheVariants.{Full}
 use Rattle.dover_model.specs.Settled.{settled_state}
 use Rattle.dover_model.specs.State.{is_running}
 use Rattle.dover_model.proofs.Accounts.{IsKept, Holds, HoldsBy}
@@ -29,11 +30,17 @@ use Rattle.dover_model.proofs.Members.{found, some_same, all_append}
 use Rattle.dover_model.proofs.Resting.{numbers_below}
 use Rattle.dover_model.proofs.RightFinishes.{none_other}
 use Rattle.dover_model.proofs.Valid.{all_from}
-use Rattle.event_feed.proofs.Admitting.{job_more, admitted_by}
+use Rattle.event_feed.proofs.Admitting.{job_more, refused_more, admitted_by}
+use Rattle.dover_model.proofs.Fullness.{few_ready, full_many}
+use Rattle.dover_model.specs.Limits.{most_ready}
+use Rattle.dover_model.specs.Session.{RefusedJob}
 use Rattle.event_feed.proofs.DoneLines.{session_done, done_session, done_jobs, done_mark}
 use Rattle.event_feed.specs.Answers.{AddsJob, AddsRefused, AddsDone, MovesMark, EndsFeed, NewFault, OldFault, counted}
 use Rattle.event_feed.specs.Answers.{admitted_in}
 use Rattle.event_feed.specs.Faults.{IsFirstFault}
+use Rattle.event_feed.specs.Kept as feed
+use Rattle.event_feed.specs.declared.fed.Fed.TheVariants as fed
+use Rattle.std.specs.Prelude.{Result, Ok, Err, OnOk, OnErr}
 use Rattle.event_feed.specs.Kept.{cause_of_fault}
 use Rattle.event_feed.specs.declared.faults.FeedFault.{FeedFault}
 use Rattle.event_feed.specs.declared.listed.DoneLine.{DoneLine}
@@ -177,18 +184,42 @@ finished t n J = finishing J (with_early J.rules.finishes (finish_at J t n))
 
 -- ---- what a line adds
 
+-- a job that finds room is handed in
+job_after : (a b : Account) (number : ℕ) (job : JobFacts) (it : AddsJob number job a b)
+    → is_full (instance_of it.session) job.release ≡ false
+    → b ≡ record a { session = Some (with_item it.session (JobItem job)); mark = job.release }
+job_after a b number job it room = it.after_is
+    ∙ ap (λ full. let after : Account = record a {
+      session = Some (with_item it.session (cond full (refused_at job.release job Full) (JobItem job)));
+      mark = job.release;
+    } in after) room
+
 module _ (a b : Account) (declared : Option (Fraction × Version)) (jobs : List JobFacts) (dones : List DoneLine)
     (lists : ListsIn declared jobs dones a) where
+  -- where few are listed, a job finds room
+  pub finds_room : (number : ℕ) (job : JobFacts) (it : AddsJob number job (counted a) b) → length jobs < most_ready
+      → is_full (instance_of it.session) job.release ≡ false
+  finds_room number job it few = by_rules declared lists where
+    by_rules : (o : Option (Fraction × Version)) → ListsIn o jobs dones a
+        → is_full (instance_of it.session) job.release ≡ false
+    by_rules None none = no_session a it.session none.2 it.before_is
+    by_rules (Some rules) some =
+        let same : some.named ≡ it.session =
+        some_same some.named it.session (sym some.there ∙ it.before_is) in
+        few_ready (instance_of it.session) job.release
+        (omega (arith, few, ap (λ (J : Instance). length J.jobs) (some.run ∙ ap instance_of same)))
+
   -- a job line
-  pub job_listed : (number : ℕ) (job : JobFacts) → AddsJob number job (counted a) b
-      → ListsIn declared (jobs ++ job ∷ []) dones b
-  job_listed number job it = by_rules declared lists where
+  pub job_listed : (number : ℕ) (job : JobFacts) (it : AddsJob number job (counted a) b)
+      → is_full (instance_of it.session) job.release ≡ false → ListsIn declared (jobs ++ job ∷ []) dones b
+  job_listed number job it room = by_rules declared lists where
     by_rules : (o : Option (Fraction × Version)) → ListsIn o jobs dones a → ListsIn o (jobs ++ job ∷ []) dones b
     by_rules None none = no_session a it.session none.2 it.before_is
     by_rules (Some rules) some =
         let same : some.named ≡ it.session =
         some_same some.named it.session (sym some.there ∙ it.before_is) in
-        subst (λ (x : Account). ListsIn (Some rules) (jobs ++ job ∷ []) dones x) (sym it.after_is) (record {
+        subst (λ (x : Account). ListsIn (Some rules) (jobs ++ job ∷ []) dones x)
+        (sym (job_after (counted a) b number job it room)) (record {
           named = with_item it.session (JobItem job);
           there = refl;
           run = ap (λ fs. record { rules = under (rules_with rules.0 rules.1) fs; jobs = jobs ++ job ∷ [] })
@@ -345,9 +376,38 @@ module _ (a b : Account) (declared : Option (Fraction × Version)) (jobs : List 
         by_why (inl other) = by_less other (nat_lt tick a.mark) refl
         by_why (inr above) = none_listed above
 
--- a job line admits its job
+-- whatever an error is
+pub err_any : {T E : Type 0} {P : Type 0} (r : Result T E) → P → OnErr r P
+err_any (Ok x) p = tt
+err_any (Err e) p = p
+
+-- two facts of a good answer
+pub on_ok_both : {T E : Type 0} (P Q : Type 0) (r : Result T E) → OnOk r P → OnOk r Q → OnOk r (P × Q)
+on_ok_both P Q (Ok x) p q = (p, q)
+on_ok_both P Q (Err e) p q = tt
+
+-- all is left where the job finds room
+pub left_all : (kept : feed.Kept) (number : ℕ) (job : JobFacts) (a : Account) {b : Account}
+    (it : AddsJob number job (counted a) b) → is_full (instance_of it.session) job.release ≡ false
+    → feed.left_in (Ok (fed.Job number job)) a kept ≡ kept
+left_all kept number job a it room =
+    ap (λ o. let left : feed.Kept = record kept { session = feed.left_by (fed.Job number job) o kept.session } in left)
+    it.before_is
+    ∙ ap (λ full. let left : feed.Kept = record kept {
+      session = cond full (option_map feed.without_last kept.session) kept.session;
+    } in left) room
+
+-- behind a job line some job is admitted: its own, or those for which that finds no room
 pub job_admitted : (a b : Account) (number : ℕ) (job : JobFacts) → AddsJob number job (counted a) b → 0 < admitted_in b
-job_admitted a b number job it =
-    let is : admitted_in b ≡ length (admitted_jobs (it.session.items ++ JobItem job ∷ [])) =
-    ap (λ (x : Account). admitted_in x) it.after_is in
-    omega (arith, job_more it.session.items job)
+job_admitted a b number job it = by_room (is_full (instance_of it.session) job.release) refl (ap admitted_in it.after_is)
+  where
+    by_room : (full : Bool) → is_full (instance_of it.session) job.release ≡ full
+        → admitted_in b ≡ length (admitted_jobs (it.session.items ++ cond full (refused_at job.release job Full)
+        (JobItem job) ∷ [])) → 0 < admitted_in b
+    by_room true full is = omega (
+      arith,
+      is,
+      refused_more it.session.items (record { at = job.release; line = RefusedJob job Full }),
+      full_many (instance_of it.session) job.release full,
+    )
+    by_room false room is = omega (arith, is, job_more it.session.items job)

@@ -18,7 +18,7 @@ use Rattle.event_feed.specs.declared.intake.Standing.TheVariants as kept
 use Rattle.event_feed.specs.declared.kept_session.KeptSession.{KeptSession}
 use Rattle.event_feed.specs.declared.fed.Fed.{Fed}
 use Rattle.event_feed.specs.declared.fed.Fed.TheVariants as feds
-use Rattle.event_feed.specs.Kept.{KeepsSession, most_lines_of}
+use Rattle.event_feed.specs.Kept.{KeepsSession, most_lines_of, left_by}
 use Rattle.event_feed.specs.Kept.{KeepsAccount, StandsFor, IsGoing, cause_of_fault, fault_of, has_ended, standing_of}
 use Rattle.event_feed.specs.Answers.{counted, Answers, IsFed}
 use Rattle.event_feed.proofs.DoneLines.{done_standing, done_lines}
@@ -123,13 +123,21 @@ pub keeps_fed : (ls : List (List ℕ)) (bytes : List ℕ) (session : Option Kept
     → IsTaken session (feed_line bytes) (counted (account_of_lines ls))
     (read_line (counted (account_of_lines ls)) bytes) (Ok fed)
     → (standing : standings.Standing) → standing ≡ kept.Open
-    → StandsFor (record { lines = lines; session = session; standing = standing }) (ls ++ bytes ∷ [])
+    → StandsFor (record {
+      lines = lines;
+      session = left_by fed (account_of_lines ls).session session;
+      standing = standing;
+    }) (ls ++ bytes ∷ [])
 keeps_fed ls bytes session lines fed opened counts more it standing on =
     let a : Account = account_of_lines ls in
     let stays : Stays (counted a) (read_line (counted a) bytes) =
     fed_stays fed (counted a) (read_line (counted a) bytes) more it.gives in
     record {
-      by_account = subst (KeepsAccount (record { lines = lines; session = session; standing = standing }))
+      by_account = subst (KeepsAccount (record {
+        lines = lines;
+        session = left_by fed a.session session;
+        standing = standing;
+      }))
           (sym (next_account ls bytes opened)) (record {
             counted = counts ∙ sym stays.1;
             session = it.keeps;

@@ -5,11 +5,13 @@ use Rattle.dover_model.specs.Limits.{last_tick}
 use Rattle.dover_model.specs.Numerals.{AreShort}
 use Rattle.dover_model.specs.declared.events.Version.{Version}
 use Rattle.dover_model.specs.declared.events.Refusal.{Refusal}
+use Rattle.dover_model.specs.declared.events.Refusal.TheVariants as refusal
 use Rattle.dover_model.specs.JobFacts.{JobFacts, job_numbers, job_of_numbers}
 use Rattle.dover_model.specs.Fraction.{Fraction}
 use Rattle.dover_model.specs.Admission.{refusal_of}
 use Rattle.dover_model.specs.Session.{Session, JobItem, refused_at, with_item, new_session, admitted_jobs}
-use Rattle.dover_model.specs.Session.{refuses_lines, refusal_at, may_finish_early, is_right}
+use Rattle.dover_model.specs.Session.{refuses_lines, refusal_at, may_finish_early, is_right, Item, instance_of}
+use Rattle.dover_model.specs.Session.{is_full, refused_mark}
 use Rattle.dover_model.specs.FeedLine.{FeedLine, JobLine, DoneLine, feed_line}
 use Rattle.dover_model.specs.Feed.{Account, Open, Ended, Faulty, rules_with, with_fault, account_of_lines}
 use Rattle.dover_model.specs.Feed.{with_good_line, with_refused_done}
@@ -37,14 +39,21 @@ pub record DeclaresRatio (k : Fraction) (version : Version) (a after : Account) 
   pub no_mark : a.mark ≡ 0
   pub after_is : after ≡ record a { session = Some (new_session (rules_with k version)) }
 
--- a job is handed in under the number of the jobs before it, and the mark is its release
+-- what the line of a job hands in that may be admitted: the job, or its refusal, where it finds no room
+abbrev pub offered_item : Session → JobFacts → Item
+offered_item S job =
+    if is_full (instance_of S) job.release then refused_at job.release job refusal.Full else JobItem job
+
+-- a job is handed in under the number of the jobs before it, or refused since it finds no room, and the mark is its
+-- release
 pub record AddsJob (number : ℕ) (job : JobFacts) (a after : Account) : Type 0 where
   pub session : Session
   pub before_is : a.session ≡ Some session
-  pub after_is : after ≡ record a { session = Some (with_item session (JobItem job)); mark = job.release }
+  pub after_is : after ≡ record a { session = Some (with_item session (offered_item session job)); mark = job.release }
   pub numbered : number ≡ length (admitted_jobs session.items)
   pub admitted : refusal_of session.rules (admitted_jobs session.items) job ≡ None
   pub no_fall : a.mark ≤ job.release
+  pub numerals : AreShort (job_numbers job)
 
 -- the mark is this tick
 pub record MovesMark (tick : ℕ) (a after : Account) : Type 0 where
@@ -60,14 +69,15 @@ pub record EndsFeed (a after : Account) : Type 0 where
   pub before_is : a.session ≡ Some session
   pub after_is : after ≡ record a { standing = Ended }
 
--- a refused job line is handed in, at the mark as it is
+-- a job line that is refused by itself or for the jobs before it is handed in, at the mark as it is
 pub record AddsRefused (job : JobFacts) (refusal : Refusal) (a after : Account) : Type 0 where
   pub session : Session
   pub before_is : a.session ≡ Some session
   pub version : refuses_lines session.rules.version ≡ true
   pub after_is : after ≡ record a { session = Some (with_item session (refused_at a.mark job refusal)) }
   pub numerals : AreShort (job_numbers job)
-  pub refused : refusal_at session.rules (admitted_jobs session.items) a.mark job ≡ Some refusal
+  pub refused : refusal_at session a.mark job ≡ Some refusal
+  pub stays : refused_mark a.mark job refusal ≡ a.mark
 
 -- the account with a done line: a finish where it is right behind the session, and a refused line where it isn't
 abbrev pub with_done : Session → (tick number : ℕ) → Account → Account

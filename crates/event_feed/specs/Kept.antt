@@ -1,9 +1,12 @@
 -- What is kept of the lines of a feed, and for which lines it stands.
 use Rattle.std.specs.Prelude.{◌≡◌, ℕ, ◌+◌, ◌≤◌, List, Bool, true, false, Option, Some, None, IsSome}
+use Rattle.std.specs.Prelude.{if◌then◌else◌, Result, Ok, Err}
+use Rattle.std.specs.Option.{option_map}
 use Rattle.dover_model.specs.Limits.{most_lines}
 use Rattle.dover_model.specs.declared.events.Version.TheVariants.{Three}
 use Rattle.dover_model.specs.declared.events.Refusal.TheVariants as refusal
-use Rattle.dover_model.specs.Session.{Session, admitted_jobs}
+use Rattle.dover_model.specs.JobFacts.{JobFacts}
+use Rattle.dover_model.specs.Session.{Session, admitted_jobs, instance_of, is_full}
 use Rattle.dover_model.specs.Feed as model
 use Rattle.dover_model.specs.Feed.{Account, account_of_lines}
 use Rattle.admission.specs.Kept as admission
@@ -13,6 +16,8 @@ use Rattle.event_feed.specs.declared.faults.Cause.{Cause}
 use Rattle.event_feed.specs.declared.faults.Cause.TheVariants.{Lines, Line, Declared, Order, BadJob, Count, Total}
 use Rattle.event_feed.specs.declared.faults.Cause.TheVariants.{Ratio, Short}
 use Rattle.event_feed.specs.declared.faults.FeedFault.{FeedFault}
+use Rattle.event_feed.specs.declared.fed.Fed.{Fed}
+use Rattle.event_feed.specs.declared.fed.Fed.TheVariants as fed
 use Rattle.event_feed.specs.declared.intake.Standing.{Standing}
 use Rattle.event_feed.specs.declared.intake.Standing.TheVariants.{Open, Over, Faulty}
 use Rattle.event_feed.specs.declared.kept_session.KeptSession.{KeptSession}
@@ -52,6 +57,27 @@ pub record IsKeptOf (kept : KeptSession) (S : Session) (mark : ℕ) : Type 0 whe
   pub jobs : admission.StandsFor kept.admission (admitted_jobs S.items)
   pub marked : kept.mark ≡ mark
 
+-- what is kept without the job that came last
+abbrev pub without_last : KeptSession → KeptSession
+without_last kept = record kept { admission = kept.former }
+
+-- so many jobs are ready at the release of this one, behind the session, that it finds no room
+abbrev pub finds_no_room : Option Session → JobFacts → Bool
+finds_no_room None job = false
+finds_no_room (Some S) job = is_full (instance_of S) job.release
+
+-- What is left of what is kept, behind what a line of this session said: all, or all but the job that came, where it
+-- finds no room.
+abbrev pub left_by : Fed → Option Session → Option KeptSession → Option KeptSession
+left_by (fed.Job number job) session kept =
+    if finds_no_room session job then option_map without_last kept else kept
+left_by _ session kept = kept
+
+-- the same behind the answer
+abbrev pub left_behind : {E : Type 0} → Result Fed E → Option Session → Option KeptSession → Option KeptSession
+left_behind (Ok said) session kept = left_by said session kept
+left_behind (Err fault) session kept = kept
+
 -- the session is kept if there is one, and before that the mark is 0
 abbrev pub KeepsSession : Option KeptSession → Option Session → ℕ → Type 0
 KeepsSession None None mark = mark ≡ 0
@@ -70,6 +96,14 @@ pub record KeepsAccount (kept : Kept) (a : Account) : Type 0 where
   pub counted : kept.lines ≡ a.lines
   pub session : KeepsSession kept.session a.session a.mark
   pub standing : standing_of kept.standing ≡ a.standing
+
+-- what is left behind an answer to a line of this account
+abbrev pub left_in : Result Fed FeedFault → Account → Kept → Kept
+left_in answer a kept = record kept { session = left_behind answer a.session kept.session }
+
+-- without the job that came last
+abbrev pub withdrawn : Kept → Kept
+withdrawn kept = record kept { session = option_map without_last kept.session }
 
 -- this is kept of these lines
 pub record StandsFor (kept : Kept) (ls : List (List ℕ)) : Type 0 where

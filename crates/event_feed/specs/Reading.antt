@@ -13,7 +13,7 @@ use Rattle.admission.specs.declared.refused.Refused.{Refused}
 use Rattle.event_feed.specs.declared.faults.Cause.{Cause}
 use Rattle.event_feed.specs.declared.fed.Fed.{Fed}
 use Rattle.event_feed.specs.declared.kept_session.KeptSession.{KeptSession}
-use Rattle.event_feed.specs.Kept.{cause_of_fault, IsKeptOf, KeepsSession}
+use Rattle.event_feed.specs.Kept.{cause_of_fault, IsKeptOf, KeepsSession, left_behind}
 use Rattle.event_feed.specs.Answers.{IsFed, NamesOther}
 
 -- the rules that a first line declares, if it may
@@ -37,7 +37,7 @@ Gives line a after (Err cause) = IsFault line a after cause
 -- what is kept afterwards, and the answer
 pub record IsTaken (kept : Option KeptSession) (line : Option FeedLine) (a after : Account)
     (answer : Result Fed Cause) : Type 0 where
-  pub keeps : KeepsSession kept after.session after.mark
+  pub keeps : KeepsSession (left_behind answer a.session kept) after.session after.mark
   pub gives : Gives line a after answer
 
 -- an account that goes on

@@ -4,6 +4,7 @@ ghost use Rattle.dover_model.specs.Feed.{account_of_lines};
 ghost use Rattle.event_feed.specs.Answers.{admitted_in};
 ghost use Rattle.event_feed.specs.Keeping.{Keeps, KeepsDone};
 ghost use Rattle.event_feed.specs.Kept as feed;
+ghost use Rattle.dover_model.specs.Limits.{most_ready};
 
 use crate::fed::Fed;
 use crate::intake::Intake;
@@ -46,6 +47,24 @@ impl Gathering {
         }
     }
 
+    /// Keeps a job.
+    fn job(&mut self, job: Job) -> Result<(), Memory>
+        ensures intake { self.new.intake ≡ self.old.intake }
+        ensures declared { self.new.declared ≡ self.old.declared }
+        ensures dones { self.new.dones ≡ self.old.dones }
+        ensures going { self.new.going ≡ self.old.going }
+        ensures jobs { OnOk result (self.new.jobs.items ≡ self.old.jobs.items ++ job ∷ []) }
+        ensures few { OnOk result (length self.old.jobs.items < most_ready) }
+    {
+        if self.jobs.len() >= 1_000_000 {
+            return Err(Memory);
+        }
+        match self.jobs.push(job) {
+            Ok(()) => Ok(()),
+            Err(_) => Err(Memory),
+        }
+    }
+
     /// Takes a line of the feed, which goes on.
     #[inline(always)]
     pub(crate) fn take_line(&mut self, line: &[u8]) -> Result<(), Memory>
@@ -64,10 +83,7 @@ impl Gathering {
         };
         match fed {
             Fed::Ratio(ratio, version) => self.declared = Some((ratio, version)),
-            Fed::Job(_, job) => match self.jobs.push(job) {
-                Ok(()) => {}
-                Err(_) => return Err(Memory),
-            },
+            Fed::Job(_, job) => return self.job(job),
             Fed::Over => self.going = false,
             Fed::Tick(_) => {}
             Fed::Refused { .. } => {}

@@ -150,7 +150,7 @@ impl Model for Intake {
 }
 
 impl Intake {
-    ghost use Rattle.event_feed.specs.Kept.{StandsFor, IsGoing, HasLines, has_ended, fault_of};
+    ghost use Rattle.event_feed.specs.Kept.{StandsFor, IsGoing, HasLines, has_ended, fault_of, left_in, withdrawn};
     ghost use Rattle.event_feed.specs.Answers.{Answers, EndAnswers, fault_in};
 
     /// No line came yet.
@@ -174,7 +174,7 @@ impl Intake {
         requires numerals { IfSome line (λ l. form.HasNumerals (form_of l)) }
         requires unended { has_ended self.old ≡ false }
         ensures stands { (ls : List (List ℕ)) (text : List ℕ) → form.feed_line text ≡ option_map form_of line →
-            StandsFor self.old ls → StandsFor self.new (ls ++ text ∷ []) }
+            StandsFor self.old ls → StandsFor (left_in result (account_of_lines ls) self.new) (ls ++ text ∷ []) }
         ensures answer { (ls : List (List ℕ)) (text : List ℕ) → form.feed_line text ≡ option_map form_of line →
             StandsFor self.old ls → Answers text (account_of_lines ls) (account_of_lines (ls ++ text ∷ [])) result }
         ensures going { IfOk result (λ fed. (fed ≡ Fed.Over → ⊥) → IsGoing self.new) }
@@ -211,7 +211,8 @@ impl Intake {
     ///
     /// The first faulty line, numbered from 1, with its cause. After a fault every line is answered by that same
     /// fault. From version Two on a job that isn't admitted is no fault, and in version Three neither is one that comes
-    /// late: it is answered as `Fed::Refused`. Nor is a done line whose finish isn't right.
+    /// late: it is answered as `Fed::Refused`. Nor is a done line whose finish isn't right, nor a job that finds no room
+    /// among those that are ready: the caller, who has the run, withdraws it.
     ///
     /// # Examples
     ///
@@ -225,7 +226,8 @@ impl Intake {
     #[inline(always)]
     pub fn line(&mut self, line: &[u8]) -> Result<Fed, FeedFault>
         requires { has_ended self.old ≡ false }
-        ensures stands { (ls : List (List ℕ)) → StandsFor self.old ls → StandsFor self.new (ls ++ line.now ∷ []) }
+        ensures stands { (ls : List (List ℕ)) → StandsFor self.old ls
+            → StandsFor (left_in result (account_of_lines ls) self.new) (ls ++ line.now ∷ []) }
         ensures answer { (ls : List (List ℕ)) → StandsFor self.old ls →
             Answers line.now (account_of_lines ls) (account_of_lines (ls ++ line.now ∷ [])) result }
         ensures going { IfOk result (λ fed. (fed ≡ Fed.Over → ⊥) → IsGoing self.new) }
@@ -254,7 +256,7 @@ impl Intake {
         requires numerals { form.HasNumerals (form_of line) }
         requires unended { has_ended self.old ≡ false }
         ensures stands { (ls : List (List ℕ)) → StandsFor self.old ls →
-            StandsFor self.new (ls ++ form.feed_text (form_of line) ∷ []) }
+            StandsFor (left_in result (account_of_lines ls) self.new) (ls ++ form.feed_text (form_of line) ∷ []) }
         ensures answer { (ls : List (List ℕ)) → StandsFor self.old ls →
             Answers (form.feed_text (form_of line)) (account_of_lines ls)
             (account_of_lines (ls ++ form.feed_text (form_of line) ∷ [])) result }
@@ -263,6 +265,16 @@ impl Intake {
         ensures fault { fault_of self.new ≡ fault_in result }
     {
         self.take(Some(line))
+    }
+
+    /// Takes back the job of the last line, which was answered as `Fed::Job`, since too many jobs are ready at its
+    /// release. No line came since.
+    pub fn withdraw(&mut self)
+        ensures { self.new ≡ withdrawn self.old }
+    {
+        if let Some(kept) = &mut self.session {
+            kept.withdraw();
+        }
     }
 
     /// The numbers of the last job line that `line` took and that had the form of one, with their text; before it four

@@ -6,7 +6,7 @@ ghost use Rattle.dover_model.specs.Session.{Session, new_session, may_finish_ear
 ghost use Rattle.dover_model.specs.Feed.{rules_with};
 ghost use Rattle.dover_model.specs.FeedLine.{JobLine, TickLine, DoneLine, HasNumerals};
 ghost use Rattle.job_format.specs.Form.{form_of};
-ghost use Rattle.event_feed.specs.Kept.{IsKeptOf};
+ghost use Rattle.event_feed.specs.Kept.{IsKeptOf, without_last};
 ghost use Rattle.event_feed.specs.Reading.{Refuses, Takes};
 
 use crate::faults::Cause;
@@ -16,10 +16,12 @@ use dover_model::jobs::LAST_TICK;
 use dover_model::{Ratio, Refusal, Version};
 use job_format::FeedLine;
 
-/// The jobs that were admitted, as far as the next one needs them, and the mark.
+/// The jobs that were admitted, as far as the next one needs them, the same without the one that came last, and the
+/// mark.
 #[derive(Drop)]
 pub struct KeptSession {
     admission: Admission,
+    former: Admission,
     mark: u64,
 }
 
@@ -28,8 +30,10 @@ impl KeptSession {
     pub fn new(ratio: Ratio, version: Version) -> KeptSession
         ensures { IsKeptOf result (new_session (rules_with ratio version)) 0 }
     {
+        let admission = Admission::new(version, ratio);
         KeptSession {
-            admission: Admission::new(version, ratio),
+            admission,
+            former: admission,
             mark: 0,
         }
     }
@@ -107,12 +111,20 @@ impl KeptSession {
         match self.admission.check(release, work, deadline, value) {
             Ok(job) => {
                 let number = self.admission.count();
+                self.former = self.admission;
                 self.admission.admit(job);
                 self.mark = release;
                 Ok(Fed::Job(number, job))
             }
             Err(refused) => self.refuse(release, work, deadline, value, refused),
         }
+    }
+
+    /// Takes back the job that came last.
+    pub fn withdraw(&mut self)
+        ensures { self.new ≡ without_last self.old }
+    {
+        self.admission = self.former;
     }
 
     /// The line of this tick.

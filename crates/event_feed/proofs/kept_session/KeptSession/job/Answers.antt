@@ -16,11 +16,11 @@ pub returns-in-Ok : goal.returns-in-Ok
 returns-in-Ok c lines S mark it =
     let j : JobFacts = job_of_numbers c.args.release c.args.work c.args.deadline c.args.value in
     let kept : KeptSession = c.args.self.now in
-    let new : KeptSession = record { admission = c.admit.new.self; mark = c.args.release } in
+    let new : KeptSession = record { admission = c.admit.new.self; former = kept.admission; mark = c.args.release } in
     let same : c.in-Ok.job ≡ j = c.in-Ok.ensures.job in
     subst (λ job. Takes (JobLine j) lines S mark new (Ok (fed.Job c.count-number.result job))) (sym same)
     (takes_job lines S mark j
-    (omega (arith, it.marked)) kept new c.count-number.result it c.admit.ensures.rules refl
+    (omega (arith, it.marked)) kept new c.count-number.result it c.admit.ensures.rules refl refl c.requires
     (λ jobs stands. subst (λ job. admission.StandsFor c.admit.new.self (jobs ++ job ∷ [])) same
     (c.admit.ensures.stands jobs stands))
     (ap (λ rules. refusal_of rules (admitted_jobs S.items) j) it.rules
