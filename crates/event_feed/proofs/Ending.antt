@@ -9,6 +9,7 @@ use Rattle.dover_model.specs.JobFacts.{JobFacts}
 use Rattle.dover_model.specs.Lines.{lines_of, whole_lines, rest_of}
 use Rattle.dover_model.proofs.Accounts.{Closes, HoldsBy, lines_goes}
 use Rattle.event_feed.specs.Answers.{EndAnswers, short_after}
+use Rattle.event_feed.specs.Kept as feed
 use Rattle.event_feed.specs.Kept.{Kept, standing_of, fault_of, cause_of_fault}
 use Rattle.event_feed.specs.declared.faults.FeedFault.{FeedFault}
 use Rattle.event_feed.specs.declared.intake.Standing.{Standing}
@@ -57,6 +58,11 @@ module _ (ls : List (List ℕ)) (ended : (account_of_lines ls).standing ≡ feed
 -- they are valid
 pub jobs_valid : (a : feeds.Account) (listed : Listed) → IsEnded listed a → IsValid (listed_instance listed)
 jobs_valid a listed it = subst IsValid (sym it.run) it.valid.jobs
+
+-- what stands for lines keeps how they stand
+pub keeps_standing : (kept : Kept) (ls : List (List ℕ)) → feed.StandsFor kept ls
+    → feed.KeepsStanding kept (account_of_lines ls)
+keeps_standing kept ls it = record { counted = it.by_account.counted; standing = it.by_account.standing }
 
 -- ---- a reader
 

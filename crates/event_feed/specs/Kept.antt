@@ -91,6 +91,11 @@ standing_of Open = model.Open
 standing_of Over = model.Ended
 standing_of (Faulty fault) = model.Faulty fault.line (cause_of_fault fault.cause)
 
+-- the lines of an account are counted, and whether it goes on is kept
+pub record KeepsStanding (kept : Kept) (a : Account) : Type 0 where
+  pub counted : kept.lines ≡ a.lines
+  pub standing : standing_of kept.standing ≡ a.standing
+
 -- this is kept of an account
 pub record KeepsAccount (kept : Kept) (a : Account) : Type 0 where
   pub counted : kept.lines ≡ a.lines

@@ -150,7 +150,7 @@ impl Model for Intake {
 }
 
 impl Intake {
-    ghost use Rattle.event_feed.specs.Kept.{StandsFor, IsGoing, HasLines, has_ended, fault_of, left_in, withdrawn};
+    ghost use Rattle.event_feed.specs.Kept.{StandsFor, KeepsStanding, IsGoing, HasLines, has_ended, fault_of, left_in, withdrawn};
     ghost use Rattle.event_feed.specs.Answers.{Answers, EndAnswers, fault_in};
 
     /// No line came yet.
@@ -302,7 +302,7 @@ impl Intake {
     pub fn end(&self) -> Result<(), FeedFault>
         ensures ended { IsOk result ↔ (has_ended self.now ≡ true) }
         ensures fault { (fault : FeedFault) → fault_of self.now ≡ Some fault → result ≡ Err fault }
-        ensures answer { (ls : List (List ℕ)) → StandsFor self.now ls → EndAnswers ls result }
+        ensures answer { (ls : List (List ℕ)) → KeepsStanding self.now (account_of_lines ls) → EndAnswers ls result }
     {
         match self.standing {
             Standing::Open => Err(FeedFault {

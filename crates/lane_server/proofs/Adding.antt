@@ -133,7 +133,7 @@ due_fault a b line cause stands is =
         (sym (append-nil (texts_among S (settled (instance_of S) a.mark))))
 
 -- the same session
-one_session : (S T : Session) (a : Account) → a.session ≡ Some S → a.session ≡ Some T → S ≡ T
+pub one_session : (S T : Session) (a : Account) → a.session ≡ Some S → a.session ≡ Some T → S ≡ T
 one_session S T a e f = cc
 
 -- ---- how far the run of an account's jobs is due
@@ -294,79 +294,6 @@ module _ (a b : Account) (t : ℕ) (kept : IsKept a) (stands : a.standing ≡ Op
     served = open_serves a it.session v fits it.before_is stands;
     left = tick_begins.0;
     due = tick_begins.1;
-    texts = refl;
-  }
-
--- ---- a job
-
-module _ (a b : Account) (n : ℕ) (j : JobFacts) (kept : IsKept a) (stands : a.standing ≡ Open)
-    (it : AddsJob n j (counted a) b) where
-  -- the session with the job
-  abbrev joined : Session
-  joined = with_item it.session (JobItem j)
-
-  -- the session was read up to the job's release
-  job_reads : Reads it.session j.release
-  job_reads = reads_later it.session a.mark j.release (holds_of a it.session kept stands it.before_is).reads it.no_fall
-
-  -- the jobs are valid with the job
-  job_valid : IsValid (with_jobs (instance_of it.session) (j ∷ []))
-  job_valid = admitted_valid (instance_of it.session) j job_reads.valid job_reads.known it.admitted
-
-  -- its release is a tick
-  job_known : j.release ≤ last_tick
-  job_known = let it = (not_refused it.session.rules (admitted_jobs it.session.items) j it.admitted).job in
-      omega (arith, it.window, it.due)
-
-  -- what is due further
-  pub job_begins : Begins (settled (instance_of it.session) a.mark)
-      (settled (with_jobs (instance_of it.session) (j ∷ [])) j.release)
-  job_begins = begins_onward (settled (instance_of it.session) a.mark) (settled (instance_of it.session) j.release)
-      (settled (with_jobs (instance_of it.session) (j ∷ [])) j.release)
-      (settled_later (instance_of it.session) a.mark j.release job_reads.valid it.no_fall)
-      (due_before (instance_of it.session) j job_valid)
-
-  -- its lines
-  abbrev pub job_rest : List (List ℕ)
-  job_rest = map text_of job_begins.0
-
-  -- the session is there
-  job_session : b.session ≡ Some joined
-  job_session = ap (λ (x : Account). x.session) it.after_is
-
-  -- the account goes on
-  pub job_stands : b.standing ≡ Open
-  job_stands = ap (λ (x : Account). x.standing) it.after_is ∙ stands
-
-  -- the mark is the release
-  pub job_mark : b.mark ≡ j.release
-  job_mark = ap (λ (x : Account). x.mark) it.after_is
-
-  -- they are due
-  pub job_due : due_lines b ≡ due_lines a ++ job_rest
-  job_due = due_on a it.session kept stands it.before_is b
-      (settled (with_jobs (instance_of it.session) (j ∷ [])) j.release) job_begins.0
-      (due_open b joined job_session job_stands ∙ ap (λ m. texts_among joined (settled (instance_of joined) m)) job_mark
-      ∙ texts_job it.session j (settled (instance_of joined) j.release)
-      ∙ ap (λ J. texts_among it.session (settled J j.release)) (job_instance it.session j)) job_begins.1
-
-  -- they are left, once there is room for the job
-  pub job_owes : (v u : RosterServer) → Fits a (Some v)
-      → ((J : Instance) (to : Horizon) (events : List Event) → Serves v J to events → Serves u J to events) → HasPlace u
-      → Admitting j u b job_rest
-  job_owes v u fits still room = record {
-    session = it.session;
-    there = job_session;
-    reached = reach_open b job_stands ∙ ap Mark job_mark;
-    valid = job_valid;
-    room = room;
-    from = Mark a.mark;
-    follows = (it.no_fall, job_known);
-    events = settled (instance_of it.session) a.mark;
-    served = still (instance_of it.session) (Mark a.mark) (settled (instance_of it.session) a.mark)
-        (open_serves a it.session v fits it.before_is stands);
-    left = job_begins.0;
-    due = job_begins.1;
     texts = refl;
   }
 

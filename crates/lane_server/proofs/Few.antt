@@ -17,10 +17,14 @@ use Rattle.dover_model.proofs.Horizons.{due_few}
 use Rattle.dover_model.proofs.Meeting.{finishing_valid}
 use Rattle.dover_model.proofs.Limiting.{jobs_most}
 use Rattle.dover_model.specs.Settled.{settled}
+use Rattle.dover_model.proofs.Valid.{valid_front}
+use Rattle.dover_model.specs.Session.{is_full}
+use Rattle.dover_model.specs.JobFacts.{JobFacts}
 use Rattle.lane_server.proofs.Finishing.{lines_by}
+use Rattle.lane_server.proofs.Offering as offer
 use Rattle.lane_server.specs.Lanes.{lane_count, Handed, input_of_lines, lane_lines, in_lane, feed_short, lane_short}
 use Rattle.lane_server.specs.Lanes.{shorts_from}
-use Rattle.lane_server.specs.Lane.{Owes, done_lines}
+use Rattle.lane_server.specs.Lane.{Owes, done_lines, job_lines}
 use Rattle.lane_server.specs.Kept.{Kept, Leaves, StandsFor}
 use Rattle.lane_server.specs.declared.lane.Work.{Work}
 use Rattle.lane_server.specs.declared.lane.Work.TheVariants.{Nothing, Give, Run, Admit, Finish}
@@ -58,6 +62,28 @@ done_few S t n events left valid is = by_finish (finish_at (instance_of S) t n) 
         length-append events left,
       )
 
+-- what is left up to a job line, and what it adds
+job_few : (S : Session) (j : JobFacts) (events left : List Event) → IsValid (with_jobs (instance_of S) (j ∷ []))
+    → settled (instance_of S) j.release ≡ events ++ left
+    → length left + length (job_lines S j) ≤ 20_000_000_002
+job_few S j events left valid is = by_room (is_full (instance_of S) j.release) where
+  before : length (settled (instance_of S) j.release) ≤ 20_000_000_001
+  before = few_due (instance_of S) (Mark j.release) (valid_front (instance_of S) (j ∷ []) valid)
+
+  by_room : (full : Bool) → length left + length (offer.lines_by S j full) ≤ 20_000_000_002
+  by_room true = omega (arith, before, ap length is, length-append events left)
+  by_room false =
+      let K : Instance = with_jobs (instance_of S) (j ∷ []) in
+      omega (
+        arith,
+        length-map (drop (length (settled (instance_of S) j.release)) (settled K j.release)) text_of,
+        length-drop (length (settled (instance_of S) j.release)) (settled K j.release),
+        few_due K (Mark j.release) valid,
+        before,
+        ap length is,
+        length-append events left,
+      )
+
 -- what the work under way still gives
 pub owes_few : (work : Work) (server : Option RosterServer) (a : Account)
     (rest : List (List ℕ)) → Owes work server a rest → length rest ≤ 20_000_000_002
@@ -74,9 +100,9 @@ owes_few (Admit job) None a rest owes = absurd owes
 owes_few (Admit job) (Some v) a rest owes = omega (
   arith,
   ap length owes.texts,
+  length-append (map text_of owes.left) (job_lines owes.session job),
   length-map owes.left text_of,
-  left_few (with_jobs (instance_of owes.session) (job ∷ [])) (Mark job.release) owes.events owes.left owes.valid
-      owes.due,
+  job_few owes.session job owes.events owes.left owes.valid owes.due,
 )
 owes_few (Finish at number) None a rest owes = absurd owes
 owes_few (Finish at number) (Some v) a rest owes = omega (

@@ -1,6 +1,7 @@
 pub mod Printing
 pub mod Owing
 pub mod Finishing
+pub mod Offering
 pub mod Adding
 pub mod Taking
 pub mod Inputs

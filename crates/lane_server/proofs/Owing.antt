@@ -15,7 +15,8 @@ use Rattle.dover_model.specs.declared.horizon.Horizon.{Horizon}
 use Rattle.dover_model.specs.declared.horizon.Horizon.TheVariants.{Mark}
 use Rattle.dover_model.specs.Horizons.{MayFollow, due_by}
 use Rattle.dover_model.proofs.Horizons.{follows_on}
-use Rattle.lane_server.specs.Lane.{Fits, Running, Admitting, Owes, GivesFault, Stands, IsQuiet, reach}
+use Rattle.event_feed.specs.Kept as feed
+use Rattle.lane_server.specs.Lane.{Fits, Running, Admitting, Owes, GivesFault, Stands, IsQuiet, IntakeStands, reach}
 use Rattle.lane_server.specs.declared.lane.Lane.{Lane}
 use Rattle.lane_server.specs.declared.lane.Work.{Work}
 use Rattle.lane_server.specs.declared.lane.Work.TheVariants.{Nothing}
@@ -32,14 +33,6 @@ first_left events left all e due begins =
 -- nothing is left
 pub none_left : (events left all : List Event) → all ≡ events ++ left → events ≡ all → left ≡ []
 none_left events left all due same = append_cancel_left events left [] (sym due ∙ sym same ∙ sym (append-nil events))
-
--- the session with the job that comes
-abbrev joined : Session → JobFacts → Session
-joined S job = with_item S (JobItem job)
-
--- its jobs
-abbrev jobs_with : Session → JobFacts → Instance
-jobs_with S job = with_jobs (instance_of S) (job ∷ [])
 
 module _ (begins : (s : RosterServer) (J : Instance) (to : Horizon) (events : List Event) → Serves s J to events
     → Begins events (due_by J to)) where
@@ -67,71 +60,6 @@ module _ (begins : (s : RosterServer) (J : Instance) (to : Horizon) (events : Li
           texts = refl;
         },
         event_short (instance_of it.session) to it.events e it.valid front,
-      )
-
-  -- with a job that comes, a step without it does
-  pub admit_gives : (job : JobFacts) (v u : RosterServer) (a : Account) (rest : List (List ℕ))
-      (it : Admitting job v a rest) (e : Event)
-      → Serves u (instance_of it.session) (Mark job.release) (it.events ++ e ∷ []) → HasPlace u
-      → (more : List (List ℕ)) × (rest ≡ text_of e ∷ more) × Admitting job u a more
-      × AreShort (step_numbers e)
-  admit_gives job v u a rest it e served room =
-      let all : List Event = due_by (jobs_with it.session job) (Mark job.release) in
-      let front : Begins (it.events ++ e ∷ []) all =
-      begins_onward (it.events ++ e ∷ []) (due_by (instance_of it.session) (Mark job.release)) all
-      (begins u (instance_of it.session) (Mark job.release) (it.events ++ e ∷ []) served)
-      (due_before (instance_of it.session) job it.valid) in (
-        map text_of front.0,
-        it.texts ∙ ap (map text_of) (first_left it.events it.left all e it.due front),
-        record {
-          session = it.session;
-          there = it.there;
-          reached = it.reached;
-          valid = it.valid;
-          room = room;
-          from = Mark job.release;
-          follows = follows_on it.from (Mark job.release) it.follows;
-          events = it.events ++ e ∷ [];
-          served = served;
-          left = front.0;
-          due = front.1;
-          texts = refl;
-        },
-        event_short (jobs_with it.session job) (Mark job.release) it.events e it.valid front,
-      )
-
-  -- and where nothing is left without it, the step with it
-  pub joined_gives : (job : JobFacts) (v y : RosterServer) (a : Account) (rest : List (List ℕ))
-      (it : Admitting job v a rest) (e : Event)
-      → it.events ≡ due_by (instance_of it.session) (Mark job.release)
-      → Serves y (jobs_with it.session job) (Mark job.release)
-      (due_by (instance_of it.session) (Mark job.release) ++ e ∷ [])
-      → (more : List (List ℕ)) × (rest ≡ text_of e ∷ more) × Running (Mark job.release) y a more
-      × AreShort (step_numbers e)
-  joined_gives job v y a rest it e same served =
-      let S : Session = joined it.session job in
-      let all : List Event = due_by (jobs_with it.session job) (Mark job.release) in
-      let is : instance_of S ≡ jobs_with it.session job = job_instance it.session job in
-      let next : Serves y (jobs_with it.session job) (Mark job.release) (it.events ++ e ∷ []) =
-      subst (λ es. Serves y (jobs_with it.session job) (Mark job.release) (es ++ e ∷ [])) (sym same) served in
-      let front : Begins (it.events ++ e ∷ []) all =
-      begins y (jobs_with it.session job) (Mark job.release) (it.events ++ e ∷ []) next in (
-        map text_of front.0,
-        it.texts ∙ ap (map text_of) (first_left it.events it.left all e it.due front),
-        record {
-          session = S;
-          there = it.there;
-          reached = it.reached;
-          valid = subst IsValid (sym is) it.valid;
-          from = Mark job.release;
-          follows = follows_on it.from (Mark job.release) it.follows;
-          events = it.events ++ e ∷ [];
-          served = subst (λ J. Serves y J (Mark job.release) (it.events ++ e ∷ [])) (sym is) next;
-          left = front.0;
-          due = ap (λ J. due_by J (Mark job.release)) is ∙ front.1;
-          texts = refl;
-        },
-        event_short (jobs_with it.session job) (Mark job.release) it.events e it.valid front,
       )
 
 -- what a step to the job's release says, at the release as it was read
@@ -181,10 +109,10 @@ lane_stands lane w u ls rest more it is owes = record {
 
 -- the lane with its server taken further, and other work
 pub lane_turns : (lane : Lane) (w : Work) (u : RosterServer) (ls rest more : List (List ℕ)) → Stands lane ls rest
-    → Owes w (Some u) (account_of_lines ls) more → GivesFault w ls
+    → IntakeStands w lane.intake ls → Owes w (Some u) (account_of_lines ls) more → GivesFault w ls
     → Stands (record lane { server = Some u; work = w }) ls more
-lane_turns lane w u ls rest more it owes names = record {
-  intake = it.intake;
+lane_turns lane w u ls rest more it intake owes names = record {
+  intake = intake;
   opened = it.opened;
   unended = it.unended;
   marked = it.marked;
@@ -194,7 +122,25 @@ lane_turns lane w u ls rest more it owes names = record {
 
 -- the lane is at rest
 pub lane_rests : (lane : Lane) (u : RosterServer) (ls rest : List (List ℕ)) → Stands lane ls rest
-    → Fits (account_of_lines ls) (Some u)
+    → feed.StandsFor lane.intake ls → Fits (account_of_lines ls) (Some u)
     → IsQuiet (record lane { server = Some u; work = Nothing }) ls
-lane_rests lane u ls rest it fits =
-    record { stands = lane_turns lane Nothing u ls rest [] it (refl, fits) tt; quiet = refl }
+lane_rests lane u ls rest it intake fits =
+    record { stands = lane_turns lane Nothing u ls rest [] it intake (refl, fits) tt; quiet = refl }
+
+-- the lane is at rest without the job for which there is no room
+pub lane_passes : (lane : Lane) (u : RosterServer) (ls rest : List (List ℕ)) → Stands lane ls rest
+    → feed.StandsFor (feed.withdrawn lane.intake) ls → Fits (account_of_lines ls) (Some u)
+    → Stands (record lane { intake = feed.withdrawn lane.intake; server = Some u; work = Nothing }) ls []
+lane_passes lane u ls rest it intake fits = record {
+  intake = intake;
+  opened = it.opened;
+  unended = it.unended;
+  marked = it.marked;
+  owes = (refl, fits);
+  names = tt;
+}
+
+-- the intake, where its work is none with a job
+pub work_intake : (lane : Lane) (w : Work) (ls rest : List (List ℕ)) → Stands lane ls rest → lane.work ≡ w
+    → IntakeStands w lane.intake ls
+work_intake lane w ls rest it is = subst (λ x. IntakeStands x lane.intake ls) is it.intake

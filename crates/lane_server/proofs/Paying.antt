@@ -1,10 +1,13 @@
 -- What a lane's comparisons are paid with.
-use Rattle.std.proofs.Common.{◌≡◌, ℕ, ◌≤◌, List, length, sym, ap, ◌∙◌, subst, arith, Option, Some, None}
+use Rattle.std.proofs.Common.{◌≡◌, ℕ, ◌≤◌, List, length, sym, ap, ◌∙◌, subst, arith, Option, Some, None, Bool, true, false, cond}
 use Rattle.dover_model.specs.declared.events.Event.{Event}
 use Rattle.dover_model.specs.Feed.{Account}
 use Rattle.dover_model.specs.Instance.{Instance}
 use Rattle.dover_model.specs.Session.{Session, EarlyFinish, FinishItem, RefusedDone, instance_of, with_item, finish_at}
-use Rattle.dover_model.specs.Session.{admitted_jobs, refused_done_at}
+use Rattle.dover_model.specs.Session.{admitted_jobs, refused_done_at, is_full, refused_at, JobItem, RefusedJob}
+use Rattle.dover_model.specs.JobFacts.{JobFacts}
+use Rattle.dover_model.specs.declared.events.Refusal.TheVariants.{Full}
+use Rattle.event_feed.specs.Answers.{offered_item}
 use Rattle.std.specs.Option.{option_map_or}
 use Rattle.dover_model.specs.declared.horizon.Horizon.{Horizon}
 use Rattle.dover_model.specs.Spending.{CostsAtMost}
@@ -36,6 +39,15 @@ done_admits S t n = by_finish (finish_at (instance_of S) t n) where
   by_finish None = refused_more S.items (record { at = t; line = RefusedDone t n })
   by_finish (Some f) = finish_more S.items f
 
+-- a job line admits no fewer
+offer_admits : (S : Session) (job : JobFacts)
+    → length (admitted_jobs S.items) ≤ length (admitted_jobs (with_item S (offered_item S job)).items)
+offer_admits S job = by_room (is_full (instance_of S) job.release) where
+  by_room : (full : Bool) → length (admitted_jobs S.items)
+      ≤ length (admitted_jobs (with_item S (cond full (refused_at job.release job Full) (JobItem job))).items)
+  by_room true = omega (arith, refused_more S.items (record { at = job.release; line = RefusedJob job Full }))
+  by_room false = omega (arith, job_more S.items job)
+
 module _ (few : (s : RosterServer) (J : Instance) (to : Horizon) (events : List Event) (start now : ℕ)
     → Serves s J to events
     → HasServed s start now → CostsAtMost (length J.jobs) start now) where
@@ -57,7 +69,7 @@ module _ (few : (s : RosterServer) (J : Instance) (to : Horizon) (events : List 
       (few v (instance_of owes.session) owes.from owes.events start now owes.served has_paid)
   owes_few_paid (Admit job) (Some v) a rest owes start now has_paid =
       few_more (length (instance_of owes.session).jobs) (admitted_in a) start now
-      (omega (arith, ap admitted_by owes.there, job_more owes.session.items job))
+      (omega (arith, ap admitted_by owes.there, offer_admits owes.session job))
       (few v (instance_of owes.session) owes.from owes.events start now owes.served has_paid)
   owes_few_paid (Finish at number) (Some v) a rest owes start now has_paid =
       subst (λ n. CostsAtMost n start now)

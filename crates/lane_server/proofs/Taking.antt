@@ -19,25 +19,25 @@ use Rattle.dover_model.specs.declared.horizon.Horizon.TheVariants.{Mark, End}
 use Rattle.dover_model.specs.Horizons.{no_jobs}
 use Rattle.event_feed.specs.Kept as feed
 use Rattle.event_feed.specs.Answers.{DeclaresRatio, AddsJob, MovesMark, EndsFeed, AddsRefused, AddsDone, NewFault}
-use Rattle.event_feed.specs.Answers.{IsFed, counted}
+use Rattle.event_feed.specs.Answers.{IsFed, counted, offered_item}
 use Rattle.event_feed.proofs.DoneLines.{done_standing, done_mark, done_session, late_session}
 use Rattle.event_feed.specs.declared.faults.FeedFault.{FeedFault}
 use Rattle.event_feed.specs.declared.fed.Fed.{Fed}
 use Rattle.event_feed.specs.declared.fed.Fed.TheVariants.{Over}
 use Rattle.lane_server.specs.Lanes.{lines_added}
 use Rattle.lane_server.specs.Lane.{IsDeclared, Fits, IsOpenAt, Owes, GivesFault, Adds, Stands, IsQuiet, HasNumerals}
-use Rattle.lane_server.specs.Lane.{out_text, NamesFault}
+use Rattle.lane_server.specs.Lane.{out_text, NamesFault, IntakeStands}
 use Rattle.lane_server.specs.declared.lane.Lane.{Lane}
 use Rattle.lane_server.specs.declared.lane.Work.TheVariants.{Nothing, Give, Run, Admit, Finish}
 use Rattle.lane_server.specs.declared.out.LaneOut.{LaneOut}
 use Rattle.lane_server.specs.declared.out.LaneOut.TheVariants.{Header, Refuse, RefuseDone, Refused}
-use Rattle.lane_server.proofs.Adding.{header_stands, header_mark, header_due, header_fits, job_stands, job_mark}
-use Rattle.lane_server.proofs.Adding.{job_rest, job_due, job_owes, tick_stands, tick_mark, tick_rest, tick_due}
+use Rattle.lane_server.proofs.Offering.{job_stands, job_mark, job_rest, job_due, job_owes}
+use Rattle.lane_server.proofs.Adding.{header_stands, header_mark, header_due, header_fits, tick_stands, tick_mark, tick_rest, tick_due}
 use Rattle.lane_server.proofs.Adding.{tick_owes, end_stands, end_mark, end_rest, end_due, end_owes, mark_short}
 use Rattle.lane_server.proofs.Adding.{refused_due, refused_fits, new_fault_due}
 use Rattle.lane_server.proofs.Finishing.{done_rest, done_due, done_at, done_owes}
 use Rattle.lane_server.proofs.Adding.{new_fault_fits, opens_by, open_stands, lines_kept, added_is, account_over}
-use Rattle.ready_server.specs.Rostering.{Serves, HasPlace}
+use Rattle.ready_server.specs.Rostering.{Serves, HasPlaceUnlessFull}
 use Rattle.ready_server.specs.declared.roster_server.RosterServer.{RosterServer}
 
 -- the ratio line
@@ -57,7 +57,7 @@ declare_adds lane k version v a b at it new = record {
 pub arrive_adds : (lane : Lane) (n : ℕ) (job : JobFacts) (v u : RosterServer) (t : ℕ) (a b : Account)
     → IsOpenAt lane a → AddsJob n job (counted a) b → lane.server ≡ Some v
     → ((J : Instance) (to : Horizon) (events : List Event) → Serves v J to events → Serves u J to events)
-    → HasPlace u → t ≡ job.release
+    → HasPlaceUnlessFull u → t ≡ job.release
     → Adds (record lane { server = Some u; mark = t; work = Admit job }) a b
 arrive_adds lane n job v u t a b at it there still room same =
     let fits : Fits a (Some v) = subst (Fits a) there at.fits in record {
@@ -186,6 +186,10 @@ open_at lane i ls it opened =
       marked = it.stands.marked;
     }
 
+-- its intake stands for the lines
+pub quiet_intake : (lane : Lane) (ls : List (List ℕ)) → IsQuiet lane ls → feed.StandsFor lane.intake ls
+quiet_intake lane ls it = subst (λ w. IntakeStands w lane.intake ls) it.quiet it.stands.intake
+
 -- a feed that was ended doesn't go on
 not_over : (fed : Fed) (a b : Account) (ended opened : Bool) → IsFed (counted a) b fed → (ended ≡ true → fed ≡ Over)
     → opened ≡ is_open b
@@ -198,7 +202,7 @@ not_over fed a b true opened it over is goes_on =
 
 -- the lane after a good line
 pub taken_stands : (lane : Lane) (ls : List (List ℕ)) (line : List ℕ) (fed : Fed)
-    → feed.StandsFor lane.intake (ls ++ line ∷ [])
+    → IntakeStands lane.work lane.intake (ls ++ line ∷ [])
     → IsFed (counted (account_of_lines ls)) (account_of_lines (ls ++ line ∷ [])) fed
     → (feed.has_ended lane.intake ≡ true → fed ≡ Over)
     → Adds lane (account_of_lines ls) (account_of_lines (ls ++ line ∷ []))
@@ -241,7 +245,8 @@ pub over_stands : (lane : Lane) (ls : List (List ℕ)) (line : List ℕ) → IsQ
 over_stands lane ls line it over =
     let same : account_of_lines (ls ++ line ∷ []) ≡ account_of_lines ls =
     account_over ls line (sym it.stands.opened ∙ over) in record {
-      intake = record { by_account = subst (feed.KeepsAccount lane.intake) (sym same) it.stands.intake.by_account };
+      intake = subst (λ w. IntakeStands w lane.intake (ls ++ line ∷ [])) (sym it.quiet)
+          (record { by_account = subst (feed.KeepsAccount lane.intake) (sym same) (quiet_intake lane ls it).by_account });
       opened = it.stands.opened ∙ ap is_open (sym same);
       unended = it.stands.unended;
       marked = it.stands.marked ∙ ap (λ (x : Account). x.mark) (sym same);
@@ -266,4 +271,5 @@ ratio_declares k version a b it = (new_session (rules_with k version), ap (λ (x
 
 -- at a job line it is declared
 pub job_declared : (n : ℕ) (job : JobFacts) (a b : Account) → AddsJob n job a b → IsDeclared b
-job_declared n job a b it = (with_item it.session (JobItem job), ap (λ (x : Account). x.session) it.after_is)
+job_declared n job a b it =
+    (with_item it.session (offered_item it.session job), ap (λ (x : Account). x.session) it.after_is)

@@ -3,9 +3,10 @@ use Rattle.std.specs.Prelude.{◌≡◌, ◌⊎◌, ℕ, List, [], ◌∷◌, �
 use Rattle.std.specs.Prelude.{Option, Some, None}
 use Rattle.std.specs.Option.{option_map_or}
 use Rattle.dover_model.specs.declared.events.Event.{Event}
-use Rattle.dover_model.specs.JobFacts.{JobFacts, job_of_numbers}
+use Rattle.dover_model.specs.declared.events.Refusal.TheVariants.{Full}
+use Rattle.dover_model.specs.JobFacts.{JobFacts, job_of_numbers, job_numbers}
 use Rattle.dover_model.specs.Instance.{IsValid, with_jobs, with_finishes}
-use Rattle.dover_model.specs.Session.{Item, JobItem, FinishItem, RefusedJob, RefusedDone, Session}
+use Rattle.dover_model.specs.Session.{Item, FinishItem, is_full, RefusedJob, RefusedDone, Session}
 use Rattle.dover_model.specs.Session.{instance_of, with_item, finish_at, refused_done_at}
 use Rattle.dover_model.specs.Settled.{settled}
 use Rattle.dover_model.specs.Text.{header, text_of, refused_text, step_numbers}
@@ -18,16 +19,18 @@ use Rattle.dover_model.specs.declared.horizon.Horizon.TheVariants.{Mark, End}
 use Rattle.dover_model.specs.Horizons.{MayFollow, due_by}
 use Rattle.dover_model.specs.declared.events.Version.{Version}
 use Rattle.dover_model.specs.Fraction.{Fraction}
-use Rattle.event_feed.specs.Answers.{DeclaresRatio, AddsJob, counted}
+use Rattle.event_feed.specs.Answers.{DeclaresRatio, AddsJob, counted, offered_item}
 use Rattle.event_feed.specs.Kept as feed
 use Rattle.event_feed.specs.Kept.{cause_of_fault}
+use Rattle.event_feed.specs.declared.fed.Fed.{Fed}
+use Rattle.event_feed.specs.declared.fed.Fed.TheVariants as fed
 use Rattle.event_feed.specs.Faults.{IsFirstFault}
 use Rattle.lane_server.specs.declared.out.LaneOut.{LaneOut}
 use Rattle.lane_server.specs.declared.out.LaneOut.TheVariants.{Header, Step as Printed, Refuse, RefuseDone, Refused}
 use Rattle.lane_server.specs.declared.lane.Lane.{Lane}
 use Rattle.lane_server.specs.declared.lane.Work.{Work}
 use Rattle.lane_server.specs.declared.lane.Work.TheVariants.{Nothing, Give, Run, Admit, Finish}
-use Rattle.ready_server.specs.Rostering.{Serves, HasPlace}
+use Rattle.ready_server.specs.Rostering.{Serves, HasPlaceUnlessFull}
 use Rattle.ready_server.specs.declared.roster_server.RosterServer.{RosterServer}
 
 -- ---- how a feed stands
@@ -99,22 +102,31 @@ pub record Running (to : Horizon) (server : RosterServer) (a : Account)
   pub due : due_by (instance_of session) to ≡ events ++ left
   pub texts : rest ≡ map text_of left
 
--- The server serves the session without its last job, for which there is room, and these lines are left up to the job's
--- release with it.
+-- the lines that a job line adds behind what is settled at its release without it: what is settled further there with
+-- the job, or the line that refuses it, where it finds no room
+abbrev pub job_lines : Session → JobFacts → List (List ℕ)
+job_lines S job = if is_full (instance_of S) job.release
+    then refused_text (record { at = job.release; line = RefusedJob job Full }) ∷ []
+    else map text_of (drop (length (settled (instance_of S) job.release))
+    (settled (with_jobs (instance_of S) (job ∷ [])) job.release))
+
+-- The server serves the session without its last item, the job or its refusal, and has room for the job, if there may
+-- be; and these lines are left: what is settled at the job's release without it, and what it adds.
 pub record Admitting (job : JobFacts) (server : RosterServer) (a : Account)
     (rest : List (List ℕ)) : Type 0 where
   pub session : Session
-  pub there : a.session ≡ Some (with_item session (JobItem job))
+  pub there : a.session ≡ Some (with_item session (offered_item session job))
   pub reached : reach a ≡ Mark job.release
   pub valid : IsValid (with_jobs (instance_of session) (job ∷ []))
-  pub room : HasPlace server
+  pub numerals : AreShort (job.release ∷ job_numbers job)
+  pub room : HasPlaceUnlessFull server
   pub from : Horizon
   pub follows : MayFollow from (Mark job.release)
   pub events : List Event
   pub served : Serves server (instance_of session) from events
   pub left : List Event
-  pub due : due_by (with_jobs (instance_of session) (job ∷ [])) (Mark job.release) ≡ events ++ left
-  pub texts : rest ≡ map text_of left
+  pub due : settled (instance_of session) job.release ≡ events ++ left
+  pub texts : rest ≡ map text_of left ++ job_lines session job
 
 -- what a done line hands in at a mark that isn't above its tick: the finish, where it is right, or the refused line
 abbrev pub done_item : Session → (at number : ℕ) → Item
@@ -165,10 +177,22 @@ GivesFault _ ls = Unit {0}
 
 -- ---- a lane
 
+-- The intake stands for the lines; where a job is still to be admitted, with it or without it, as it finds room or not.
+abbrev pub IntakeStands : Work → feed.Kept → List (List ℕ) → Type 0
+IntakeStands (Admit job) intake ls = (S : Session)
+    → (account_of_lines ls).session ≡ Some (with_item S (offered_item S job))
+    → feed.StandsFor (if is_full (instance_of S) job.release then feed.withdrawn intake else intake) ls
+IntakeStands _ intake ls = feed.StandsFor intake ls
+
+-- the work that follows what a line said: where that is a job, to admit it, and else none of the kind
+abbrev pub TurnsTo : Fed → Work → Type 0
+TurnsTo (fed.Job number job) work = work ≡ Admit job
+TurnsTo _ work = (job : JobFacts) → work ≡ Admit job → ⊥
+
 -- The lane was handed these lines, and these are left to give.
 pub record Stands (lane : Lane) (ls rest : List (List ℕ))
     : Type 0 where
-  pub intake : feed.StandsFor lane.intake ls
+  pub intake : IntakeStands lane.work lane.intake ls
   pub opened : lane.is_open ≡ is_open (account_of_lines ls)
   pub unended : lane.is_open ≡ true → feed.has_ended lane.intake ≡ false
   pub marked : lane.mark ≡ (account_of_lines ls).mark

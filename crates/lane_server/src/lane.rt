@@ -22,18 +22,21 @@ ghost use Rattle.dover_model.specs.Feed.{Account, account_of_lines, is_open};
 ghost use Rattle.dover_model.specs.Spending.{CostsAtMost};
 ghost use Rattle.event_feed.specs.Listing.{IsPlain};
 ghost use Rattle.event_feed.specs.Answers.{DeclaresRatio, AddsJob, AddsDone, IsFed, EndAnswers, counted, admitted_in};
-ghost use Rattle.event_feed.specs.Kept.{fault_of};
+ghost use Rattle.event_feed.specs.Kept.{fault_of, withdrawn};
+ghost use Rattle.dover_model.specs.declared.events.Refusal.TheVariants.{Full};
+ghost use Rattle.lane_server.specs.declared.out.LaneOut.TheVariants.{Header, Refuse};
 ghost use Rattle.event_feed.specs.declared.faults.FeedFault.{FeedFault};
 ghost use Rattle.lane_server.specs.Lanes.{lines_added, feed_short, is_fine};
-ghost use Rattle.lane_server.specs.Lane.{IsDeclared, AsksForMemory, Stands, IsQuiet, Gives, IsOpenAt, Adds};
+ghost use Rattle.dover_model.specs.JobFacts.{JobFacts};
+ghost use Rattle.lane_server.specs.Lane.{IsDeclared, AsksForMemory, Stands, IsQuiet, Gives, IsOpenAt, Adds, TurnsTo};
 ghost use Rattle.lane_server.specs.Rosters.{KeepsRoster};
 ghost use Rattle.lane_server.specs.Spending.{HasPaid};
 ghost use Rattle.ready_server.specs.Rostering.{has_roster};
 ghost use Rattle.lane_server.specs.Shorts.{short_texts};
-ghost use Rattle.lane_server.specs.declared.lane.Work.TheVariants.{Nothing, Run, Admit, Finish};
+ghost use Rattle.lane_server.specs.declared.lane.Work.TheVariants.{Nothing, Give, Run, Admit, Finish};
 
 use crate::out::LaneOut;
-use dover_model::{Horizon, Job, Memory, Ratio, Version};
+use dover_model::{Horizon, Job, Memory, Ratio, Refusal, Version};
 use event_feed::{Fed, FeedFault, Intake};
 use line_text::Spelled;
 use ready_server::RosterServer;
@@ -50,7 +53,8 @@ pub(crate) enum Work {
     Give(LaneOut),
     /// The run goes up to this mark, or to its end.
     Run(Horizon),
-    /// The run goes up to the job's release, then the job is admitted, and the run goes up to its release with it.
+    /// The run goes up to the job's release, then the job is admitted, and the run goes up to its release with it; or
+    /// the job is refused, where it finds no room.
     Admit(Job),
     /// The run goes up to this tick, then the job of this number finishes there, and the run goes up to the tick with
     /// that finish; or the line that says so is refused, where that isn't right.
@@ -142,6 +146,7 @@ impl Lane {
             → OnOk result (HasPaid self.new.server start now) }
         ensures roster { (listed : Bool) → KeepsRoster self.old listed → KeepsRoster self.new listed }
         ensures intake { self.new.intake ≡ self.old.intake }
+        ensures work { OnOk result (self.new.work ≡ Give (Header version k)) }
     {
         self.server = Some(RosterServer::new(alloc, version, k, self.listed)?);
         self.work = Work::Give(LaneOut::Header(version, k));
@@ -157,11 +162,12 @@ impl Lane {
             → OnOk result (HasPaid self.new.server start now) }
         ensures roster { (listed : Bool) → KeepsRoster self.old listed → KeepsRoster self.new listed }
         ensures intake { self.new.intake ≡ self.old.intake }
+        ensures work { OnOk result (self.new.work ≡ Admit job) }
     {
         let Some(server) = &mut self.server else {
             unreachable!();
         };
-        server.make_room()?;
+        server.make_room_unless_full()?;
         self.mark = job.release();
         self.work = Work::Admit(job);
         Ok(())
@@ -172,6 +178,7 @@ impl Lane {
         ensures server { self.new.server ≡ self.old.server }
         ensures listed { self.new.listed ≡ self.old.listed }
         ensures intake { self.new.intake ≡ self.old.intake }
+        ensures work { (job : JobFacts) → self.new.work ≡ Admit job → ⊥ }
     {
         if at < self.mark {
             self.work = Work::Give(LaneOut::RefuseDone {
@@ -195,6 +202,7 @@ impl Lane {
         ensures lacks { (a b : Account) → IsFed (counted a) b fed → OnErr result (IsDeclared b) }
         ensures asks { (a b : Account) → IsFed (counted a) b fed → OnErr result (AsksForMemory a b) }
         ensures intake { self.new.intake ≡ self.old.intake }
+        ensures turns { OnOk result (TurnsTo fed self.new.work) }
     {
         match fed {
             Fed::Ratio(k, version) => self.declare(alloc, version, k)?,
@@ -287,6 +295,24 @@ impl Lane {
         }
     }
 
+    // The job finds no room at its release.
+    #[inline(never)]
+    fn pass(&mut self, job: Job) -> LaneOut
+        ensures out { result ≡ Refuse job.release job.release job.work job.deadline job.value Full }
+        ensures lane { self.new ≡ record self.old { intake = withdrawn self.old.intake; work = Nothing } }
+    {
+        self.intake.withdraw();
+        self.work = Work::Nothing;
+        LaneOut::Refuse {
+            at: job.release(),
+            release: job.release(),
+            work: job.work(),
+            deadline: job.deadline(),
+            value: job.value(),
+            cause: Refusal::Full,
+        }
+    }
+
     #[inline(always)]
     fn admit<L: Ledger>(&mut self, job: Job, steps: &mut Steps<L>) -> Option<LaneOut>
         requires work { self.old.work ≡ Admit job }
@@ -304,6 +330,9 @@ impl Lane {
         let release = Horizon::Mark(job.release());
         if let Some(event) = server.step(release, steps) {
             return Some(LaneOut::Step(event));
+        }
+        if server.is_full() {
+            return Some(self.pass(job));
         }
         let event = server.admit(job);
         self.work = Work::Run(release);

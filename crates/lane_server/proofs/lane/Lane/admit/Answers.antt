@@ -1,14 +1,19 @@
-use Rattle.std.proofs.Common.{◌≡◌, ◌++◌, ◌∷◌, [], sym, subst}
-use Rattle.dover_model.specs.Session.{instance_of}
+use Rattle.std.proofs.Common.{◌≡◌, ◌<◌, ◌++◌, ◌∷◌, [], length, sym, ap, ◌∙◌, subst, cond, true, false}
+use Rattle.dover_model.specs.Limits.{most_ready}
+use Rattle.dover_model.specs.Session.{instance_of, is_full}
 use Rattle.dover_model.specs.Feed.{account_of_lines}
 use Rattle.dover_model.specs.declared.horizon.Horizon.TheVariants.{Mark}
-use Rattle.dover_model.specs.Horizons.{MayFollow, due_by}
-use Rattle.lane_server.specs.Lane.{Admitting, Running}
+use Rattle.dover_model.specs.Horizons.{MayFollow}
+use Rattle.dover_model.specs.Settled.{settled}
+use Rattle.event_feed.specs.Kept as feed
+use Rattle.lane_server.specs.Lane.{Admitting, Running, Stands, out_text}
 use Rattle.lane_server.specs.Spending.{HasPaid}
 use Rattle.lane_server.specs.declared.lane.Work.TheVariants.{Run, Admit}
-use Rattle.lane_server.proofs.Owing.{admit_gives, joined_gives, lane_owes, lane_stands, lane_turns}
-use Rattle.lane_server.proofs.Owing.{admit_steps}
+use Rattle.lane_server.specs.declared.out.LaneOut.{LaneOut}
+use Rattle.lane_server.proofs.Owing.{lane_owes, lane_stands, lane_turns, lane_passes, work_intake, admit_steps}
+use Rattle.lane_server.proofs.Offering.{before_admission, at_admission, at_passing}
 use Rattle.ready_server.specs.Rostering.{Serves, Rests}
+use Rattle.ready_server.proofs.Stepping.{few_ready}
 use Rattle.lane_server.proofs.lane.Lane.admit.Goals as goal
 
 pub step-requires : goal.step-requires
@@ -31,13 +36,13 @@ returns-in-Some-step-clause-gives g c = λ ls rest it.
     (account_of_lines ls) rest =
     lane_owes c.args.self.now (Admit c.args.job) c.in-Some.server
     (account_of_lines ls) rest c.requires.work c.in-Some.is it.owes in
-    let given = admit_gives c.laws.ensures.begins c.args.job c.in-Some.server c.step.new.self (account_of_lines ls) rest
-    owes c.in-Some-step.event
+    let given = before_admission c.laws.ensures.begins c.args.job c.in-Some.server c.step.new.self
+    (account_of_lines ls) rest owes c.in-Some-step.event
     (admit_steps c.args.job c.in-Some.server (account_of_lines ls) rest owes c.release.result c.release.ensures.is
     (λ m. Serves c.step.new.self (instance_of owes.session) (Mark m)
     (owes.events ++ c.in-Some-step.event ∷ []))
     (c.in-Some-step.ensures.gives (instance_of owes.session) owes.from owes.events owes.served))
-    (c.in-Some-step.ensures.room owes.room) in (
+    (c.in-Some-step.ensures.place owes.room) in (
       given.0,
       given.1,
       lane_stands c.args.self.now (Admit c.args.job) c.step.new.self ls rest given.0 it c.requires.work given.2,
@@ -51,7 +56,10 @@ admit-event-requires-clause-room g c =
     (account_of_lines c.requires.stands.0) c.requires.stands.1 =
     lane_owes c.args.self.now (Admit c.args.job) c.in-Some.server
     (account_of_lines c.requires.stands.0) c.requires.stands.1 c.requires.work c.in-Some.is
-    c.requires.stands.2.owes in c.in_default-step.ensures.room owes.room
+    c.requires.stands.2.owes in
+    c.laws.ensures.place c.step.new.self (c.in_default-step.ensures.place owes.room)
+    (few_ready c.is_full.result (length c.step.new.self.server.ready.ready) c.if-is_full.false
+    c.is_full.ensures.many.1)
 
 pub admit-event-requires-clause-valid : goal.admit-event-requires-clause-valid
 admit-event-requires-clause-valid g c =
@@ -63,7 +71,7 @@ admit-event-requires-clause-valid g c =
       instance_of owes.session,
       (admit_steps c.args.job c.in-Some.server (account_of_lines c.requires.stands.0) c.requires.stands.1 owes
           c.release.result c.release.ensures.is
-          (λ m. (owes.events ≡ due_by (instance_of owes.session) (Mark m))
+          (λ m. (owes.events ≡ settled (instance_of owes.session) m)
           × Rests c.step.new.self (instance_of owes.session) (Mark m))
           (c.in_default-step.ensures.gives (instance_of owes.session) owes.from owes.events owes.served)).1,
       owes.valid,
@@ -76,19 +84,47 @@ returns-clause-gives g c = λ ls rest it.
     (account_of_lines ls) rest c.requires.work c.in-Some.is it.owes in
     let there = admit_steps c.args.job c.in-Some.server (account_of_lines ls) rest owes
     c.release.result c.release.ensures.is
-    (λ m. (owes.events ≡ due_by (instance_of owes.session) (Mark m))
+    (λ m. (owes.events ≡ settled (instance_of owes.session) m)
     × Rests c.step.new.self (instance_of owes.session) (Mark m))
     (c.in_default-step.ensures.gives (instance_of owes.session) owes.from owes.events owes.served) in
-    let given = joined_gives c.laws.ensures.begins c.args.job c.in-Some.server c.admit-event.new.self
-    (account_of_lines ls) rest owes c.admit-event.result there.0
+    let room : is_full (instance_of owes.session) c.args.job.release ≡ false =
+    sym (c.is_full.ensures.at (instance_of owes.session) c.args.job.release there.1) ∙ c.if-is_full.false in
+    let given = at_admission c.laws.ensures.begins c.args.job c.in-Some.server c.admit-event.new.self
+    (account_of_lines ls) rest owes there.0 room c.admit-event.result
     (c.admit-event.ensures.serves (instance_of owes.session) there.1 owes.valid) in (
       given.0,
       given.1,
       lane_turns c.args.self.now (Run (Mark c.release.result)) c.admit-event.new.self ls rest given.0 it
+          (subst (λ full. feed.StandsFor (cond full (feed.withdrawn c.args.self.now.intake) c.args.self.now.intake) ls)
+          room (work_intake c.args.self.now (Admit c.args.job) ls rest it c.requires.work owes.session owes.there))
           (subst (λ m. Running (Mark m) c.admit-event.new.self (account_of_lines ls) given.0)
           (sym c.release.ensures.is) given.2) tt,
       given.3,
       tt,
+    )
+
+pub returns-then-is_full-clause-gives : goal.returns-then-is_full-clause-gives
+returns-then-is_full-clause-gives g c = λ ls rest it.
+    let owes : Admitting c.args.job c.in-Some.server (account_of_lines ls) rest =
+    lane_owes c.args.self.now (Admit c.args.job) c.in-Some.server
+    (account_of_lines ls) rest c.requires.work c.in-Some.is it.owes in
+    let there = admit_steps c.args.job c.in-Some.server (account_of_lines ls) rest owes
+    c.release.result c.release.ensures.is
+    (λ m. (owes.events ≡ settled (instance_of owes.session) m)
+    × Rests c.step.new.self (instance_of owes.session) (Mark m))
+    (c.in_default-step.ensures.gives (instance_of owes.session) owes.from owes.events owes.served) in
+    let full : is_full (instance_of owes.session) c.args.job.release ≡ true =
+    sym (c.is_full.ensures.at (instance_of owes.session) c.args.job.release there.1) ∙ c.if-is_full.true in
+    let given = at_passing c.laws.ensures.begins c.args.job c.laws.ensures.rested c.in-Some.server c.step.new.self
+    (account_of_lines ls) rest owes there.0 full there.1 in (
+      [],
+      given.0 ∙ ap (λ (o : LaneOut). out_text o ∷ []) (sym c.pass.ensures.out),
+      subst (λ l. Stands l ls []) (sym c.pass.ensures.lane) (lane_passes c.args.self.now c.step.new.self ls rest it
+          (subst (λ b. feed.StandsFor (cond b (feed.withdrawn c.args.self.now.intake) c.args.self.now.intake) ls)
+          full (work_intake c.args.self.now (Admit c.args.job) ls rest it c.requires.work owes.session owes.there))
+          given.1),
+      rw c.pass.ensures.out owes.numerals,
+      rw c.pass.ensures.out tt,
     )
 
 pub returns-clause-paid : goal.returns-clause-paid
@@ -98,3 +134,8 @@ returns-clause-paid g c = λ start paid. c.admit-event.ensures.paid start c.step
 pub returns-in-Some-step-clause-paid : goal.returns-in-Some-step-clause-paid
 returns-in-Some-step-clause-paid g c = λ start paid. c.in-Some-step.ensures.paid start
     (subst (λ o. HasPaid o start c.args.steps.now) c.in-Some.is paid)
+
+pub returns-then-is_full-clause-paid : goal.returns-then-is_full-clause-paid
+returns-then-is_full-clause-paid g c = λ start paid. subst (λ l. HasPaid l.server start c.step.new.steps)
+    (sym c.pass.ensures.lane)
+    (c.in_default-step.ensures.paid start (subst (λ o. HasPaid o start c.args.steps.now) c.in-Some.is paid))

@@ -5,7 +5,7 @@ use Rattle.dover_model.specs.declared.horizon.Horizon.TheVariants.{Mark}
 use Rattle.lane_server.specs.Lane.{Finishing}
 use Rattle.lane_server.specs.Spending.{HasPaid}
 use Rattle.lane_server.specs.declared.lane.Work.TheVariants.{Run, Finish}
-use Rattle.lane_server.proofs.Owing.{lane_owes, lane_stands, lane_turns, lane_rests}
+use Rattle.lane_server.proofs.Owing.{lane_owes, lane_stands, lane_turns, lane_rests, work_intake}
 use Rattle.lane_server.proofs.Finishing.{before_finish, at_finish, at_refusal}
 use Rattle.ready_server.specs.Rostering.{Rests}
 use Rattle.lane_server.proofs.lane.Lane.finish.Goals as goal
@@ -55,7 +55,8 @@ returns-in-Some-finish-clause-gives g c = λ ls rest it.
     (account_of_lines ls) rest owes there.0 right.0 right.1 c.in-Some-finish.event right.3 in (
       given.0,
       given.1,
-      lane_turns c.args.self.now (Run (Mark c.args.at)) c.finish.new.self ls rest given.0 it given.2 tt,
+      lane_turns c.args.self.now (Run (Mark c.args.at)) c.finish.new.self ls rest given.0 it
+          (work_intake c.args.self.now (Finish c.args.at c.args.number) ls rest it c.requires.work) given.2 tt,
       given.3,
       tt,
     )
@@ -72,7 +73,8 @@ returns-in-None-clause-gives g c = λ ls rest it.
     (subst (λ v. Rests v (instance_of owes.session) (Mark c.args.at)) (sym wrong.1) there.1) in (
       [],
       given.0,
-      (lane_rests c.args.self.now c.finish.new.self ls rest it given.1).stands,
+      (lane_rests c.args.self.now c.finish.new.self ls rest it
+          (work_intake c.args.self.now (Finish c.args.at c.args.number) ls rest it c.requires.work) given.1).stands,
       owes.numerals,
       tt,
     )

@@ -3,7 +3,7 @@ use Rattle.dover_model.specs.Feed.{account_of_lines}
 use Rattle.lane_server.specs.Lane.{Running}
 use Rattle.lane_server.specs.Spending.{HasPaid}
 use Rattle.lane_server.specs.declared.lane.Work.TheVariants.{Run}
-use Rattle.lane_server.proofs.Owing.{run_gives, run_none, lane_owes, lane_stands, lane_rests}
+use Rattle.lane_server.proofs.Owing.{run_gives, run_none, lane_owes, lane_stands, lane_rests, work_intake}
 use Rattle.lane_server.proofs.lane.Lane.run.Goals as goal
 
 pub step-requires : goal.step-requires
@@ -40,7 +40,11 @@ returns-in-None-clause-gives g c = λ ls rest it.
     it.owes in
     let all = c.in-None.ensures.gives _ owes.from owes.events owes.served owes.follows in
     let none = run_none c.laws.ensures.rested c.args.to c.in-Some.server c.step.new.self (account_of_lines ls) rest owes
-    all.0 all.1 in (none.0, lane_rests c.args.self.now c.step.new.self ls rest it none.1)
+    all.0 all.1 in (
+      none.0,
+      lane_rests c.args.self.now c.step.new.self ls rest it
+          (work_intake c.args.self.now (Run c.args.to) ls rest it c.requires.work) none.1,
+    )
 
 pub returns-in-Some-step-clause-paid : goal.returns-in-Some-step-clause-paid
 returns-in-Some-step-clause-paid g c = λ start paid. c.in-Some-step.ensures.paid start
