@@ -31,7 +31,8 @@ use Rattle.dover_model.proofs.Resting.{numbers_below}
 use Rattle.dover_model.proofs.RightFinishes.{none_other}
 use Rattle.dover_model.proofs.Valid.{all_from}
 use Rattle.event_feed.proofs.Admitting.{job_more, refused_more, admitted_by}
-use Rattle.dover_model.proofs.Fullness.{few_ready, full_many}
+use Rattle.dover_model.proofs.Admitting.{not_refused}
+use Rattle.dover_model.proofs.Fullness.{few_ready, few_former, full_many}
 use Rattle.dover_model.specs.Limits.{most_ready}
 use Rattle.dover_model.specs.Session.{RefusedJob}
 use Rattle.event_feed.proofs.DoneLines.{session_done, done_session, done_jobs, done_mark}
@@ -184,8 +185,15 @@ finished t n J = finishing J (with_early J.rules.finishes (finish_at J t n))
 
 -- ---- what a line adds
 
+-- in versions One and Two each job finds room
+pub room_former : (a b : Account) (number : ℕ) (job : JobFacts) (it : AddsJob number job a b)
+    → may_finish_early it.session.rules.version ≡ false → is_full (instance_of it.session) job.release ≡ false
+room_former a b number job it former = few_ready (instance_of it.session) job.release
+    (few_former it.session.rules.version (length (admitted_jobs it.session.items)) former
+    (not_refused it.session.rules (admitted_jobs it.session.items) job it.admitted).count)
+
 -- a job that finds room is handed in
-job_after : (a b : Account) (number : ℕ) (job : JobFacts) (it : AddsJob number job a b)
+pub job_after : (a b : Account) (number : ℕ) (job : JobFacts) (it : AddsJob number job a b)
     → is_full (instance_of it.session) job.release ≡ false
     → b ≡ record a { session = Some (with_item it.session (JobItem job)); mark = job.release }
 job_after a b number job it room = it.after_is

@@ -13,7 +13,8 @@ use Rattle.dover_model.specs.Limits.{most_jobs, most_total}
 use Rattle.dover_model.specs.Instance.{declared_by, under, Instance, IsInOrder, IsWithinRatio, IsValid, with_jobs}
 use Rattle.dover_model.specs.Instance.{total_value}
 use Rattle.dover_model.specs.Admission.{is_within_ratio_both_ways, refusal_of}
-use Rattle.dover_model.specs.Session.{admitted_jobs}
+use Rattle.dover_model.specs.Session.{admitted_jobs, refusal_in, may_finish_early}
+use Rattle.dover_model.proofs.Fullness.{refusal_former}
 use Rattle.dover_model.specs.Sound.{jobs_of}
 use Rattle.dover_model.specs.FeedLine.{JobLine}
 use Rattle.dover_model.specs.Feed.{Cause, NotAdmitted, late_cause, later_line_cause}
@@ -117,12 +118,13 @@ module _ (h : Head) (tasks : List Task) (t : Task) where
   job_cause = later_line_cause (stored_session h tasks) (last_release tasks) (JobLine t.job)
 
   -- the cause, where the release isn't below the last
-  cause_in_order : last_release tasks ≤ t.job.release
+  cause_in_order : may_finish_early h.rules.version ≡ false → last_release tasks ≤ t.job.release
       → job_cause ≡ option_map NotAdmitted (refusal_of h.rules (jobs_of tasks) t.job)
-  cause_in_order ordered =
+  cause_in_order plain ordered =
       ap (λ b. cond b (Some (late_cause h.rules.version))
-      (option_map NotAdmitted (refusal_of h.rules (admitted_jobs (stored_session h tasks).items) t.job)))
+      (option_map NotAdmitted (refusal_in (stored_session h tasks) t.job)))
       (le-ltb t.job.release (last_release tasks) ordered)
+      ∙ ap (option_map NotAdmitted) (refusal_former (stored_session h tasks) t.job plain)
       ∙ ap (λ jobs. option_map NotAdmitted (refusal_of h.rules jobs t.job)) (jobs_back (jobs_of tasks))
 
   -- the jobs with this one
@@ -135,15 +137,17 @@ module _ (h : Head) (tasks : List Task) (t : Task) where
       (before_last (jobs_of tasks) t.job (subst IsValid with_this valid).in_order) (omega arith)
 
   -- and there is no cause
-  pub valid_no_cause : IsValid (stored h (tasks ++ t ∷ [])) → job_cause ≡ None
-  valid_no_cause valid = cause_in_order (valid_ordered valid)
+  pub valid_no_cause : may_finish_early h.rules.version ≡ false → IsValid (stored h (tasks ++ t ∷ []))
+      → job_cause ≡ None
+  valid_no_cause plain valid = cause_in_order plain (valid_ordered valid)
       ∙ ap (option_map NotAdmitted) (valid_admitted (stored h tasks) t.job (subst IsValid with_this valid))
 
   -- where there is no cause, they are valid
-  pub no_cause_valid : IsValid (stored h tasks) → job_cause ≡ None → IsValid (stored h (tasks ++ t ∷ []))
-  no_cause_valid valid none = by_order (nat_lt t.job.release (last_release tasks)) refl none where
+  pub no_cause_valid : may_finish_early h.rules.version ≡ false → IsValid (stored h tasks) → job_cause ≡ None
+      → IsValid (stored h (tasks ++ t ∷ []))
+  no_cause_valid plain valid none = by_order (nat_lt t.job.release (last_release tasks)) refl none where
     refusal : Option Refusal
-    refusal = refusal_of h.rules (admitted_jobs (stored_session h tasks).items) t.job
+    refusal = refusal_in (stored_session h tasks) t.job
 
     not_any : (o : Option Refusal) → option_map NotAdmitted o ≡ None → o ≡ None
     not_any None e = refl
@@ -160,7 +164,8 @@ module _ (h : Head) (tasks : List Task) (t : Task) where
         subst IsValid (sym with_this) (admits h.rules (jobs_of tasks) t.job valid
         (all_from (λ (j : JobFacts). j.release ≤ last_release tasks) (λ j. j.release ≤ t.job.release) (jobs_of tasks)
         (λ j low. omega arith) all)
-        (ap (λ jobs. refusal_of h.rules jobs t.job) (sym (jobs_back (jobs_of tasks))) ∙ not_any refusal e)) where
+        (ap (λ jobs. refusal_of h.rules jobs t.job) (sym (jobs_back (jobs_of tasks)))
+        ∙ sym (refusal_former (stored_session h tasks) t.job plain) ∙ not_any refusal e)) where
           from_zero : (jobs : List JobFacts) → AllByRecursion (λ (j : JobFacts). 0 ≤ j.release) jobs
           from_zero [] = tt
           from_zero (j ∷ jobs) = (omega arith, from_zero jobs)

@@ -23,7 +23,9 @@ use Rattle.dover_model.specs.Trace.{texts_among}
 use Rattle.dover_model.specs.FeedLine.{FeedLine, RatioLine, JobLine, TickLine, DoneLine, EndLine, feed_line}
 use Rattle.dover_model.specs.Feed.{Cause, Lines, Line, Declared, Order, NotAdmitted, Standing, Open, Ended, Faulty}
 use Rattle.dover_model.specs.Feed.{Account, NotDone, late_cause}
-use Rattle.dover_model.specs.Feed.{later_line_cause, with_fault, with_item_in, with_line, next_line}
+use Rattle.dover_model.specs.Feed.{later_line_cause, with_fault, with_refused_at, with_line, next_line}
+use Rattle.dover_model.specs.Session.{refusal_in, refused_mark}
+use Rattle.dover_model.proofs.Fullness.{refusal_former, mark_stays}
 use Rattle.dover_model.specs.Due.{due_lines, fault_text}
 use Rattle.dover_model.specs.WholeRun.{Begins}
 use Rattle.dover_model.specs.Sound.{IsMember}
@@ -201,8 +203,7 @@ module _ (S T : Session) (mark lines : ℕ) (holds : Holds S mark lines) (holds_
         only i (inr m) = absurd m
 
   refusals_alike : (j : JobFacts) (refusal : Refusal)
-      → GoAlike a b (with_item_in counted_a (refused_at mark j refusal))
-      (with_item_in counted_b (refused_at mark j refusal))
+      → GoAlike a b (with_refused_at counted_a mark j refusal) (with_refused_at counted_b mark j refusal)
   refusals_alike j refusal =
       let r : Refused = record { at = mark; line = RefusedJob j refusal } in
       record {
@@ -224,10 +225,13 @@ module _ (S T : Session) (mark lines : ℕ) (holds : Holds S mark lines) (holds_
     version_of_both : refuses_lines T.rules.version ≡ refuses_lines S.rules.version
     version_of_both = ap (λ (K : Instance). refuses_lines K.rules.version) same
 
+    -- the account with the refused line
+    refused_in : Account → Refusal → ℕ → Bool → Account
+    refused_in c refusal m two =
+        cond two (with_refused_at c m j refusal) (with_fault c (NotAdmitted refusal))
+
     by_version : (refusal : Refusal) (two : Bool)
-        → GoAlike a b (cond two (with_item_in counted_a (refused_at mark j refusal))
-        (with_fault counted_a (NotAdmitted refusal)))
-        (cond two (with_item_in counted_b (refused_at mark j refusal)) (with_fault counted_b (NotAdmitted refusal)))
+        → GoAlike a b (refused_in counted_a refusal mark two) (refused_in counted_b refusal mark two)
     by_version refusal true = refusals_alike j refusal
     by_version refusal false = faults_alike (NotAdmitted refusal)
 
@@ -237,20 +241,18 @@ module _ (S T : Session) (mark lines : ℕ) (holds : Holds S mark lines) (holds_
     by_refusal None ordered none = jobs_alike j ordered none
     by_refusal (Some refusal) ordered cause =
         subst (λ two. GoAlike a b
-        (cond (refuses_lines S.rules.version) (with_item_in counted_a (refused_at mark j refusal))
-        (with_fault counted_a (NotAdmitted refusal)))
-        (cond two (with_item_in counted_b (refused_at mark j refusal)) (with_fault counted_b (NotAdmitted refusal))))
-        (sym version_of_both)
-        (by_version refusal (refuses_lines S.rules.version))
+        (refused_in counted_a refusal (refused_mark mark j refusal) (refuses_lines S.rules.version))
+        (refused_in counted_b refusal (refused_mark mark j refusal) two)) (sym version_of_both)
+        (subst (λ m. GoAlike a b (refused_in counted_a refusal m (refuses_lines S.rules.version))
+        (refused_in counted_b refusal m (refuses_lines S.rules.version))) (sym (mark_stays S mark j refusal cause))
+        (by_version refusal (refuses_lines S.rules.version)))
 
     by_order : (c : Bool) → nat_lt j.release mark ≡ c
         → GoAlike a b
         (with_line counted_a (JobLine j)
-        (cond c (Some (late_cause S.rules.version))
-        (option_map NotAdmitted (refusal_of S.rules (admitted_jobs S.items) j))))
+        (cond c (Some (late_cause S.rules.version)) (option_map NotAdmitted (refusal_in S j))))
         (with_line counted_b (JobLine j)
-        (cond c (Some (late_cause T.rules.version))
-        (option_map NotAdmitted (refusal_of T.rules (admitted_jobs T.items) j))))
+        (cond c (Some (late_cause T.rules.version)) (option_map NotAdmitted (refusal_in T j))))
     by_order true falls =
         subst (λ cause. GoAlike a b (with_line counted_a (JobLine j) (Some cause))
         (with_line counted_b (JobLine j) (Some (late_cause T.rules.version))))
@@ -259,10 +261,14 @@ module _ (S T : Session) (mark lines : ℕ) (holds : Holds S mark lines) (holds_
         (with_line counted_b (JobLine j) (Some cause))) (sym (late_order T.rules.version plain_other))
         (faults_alike Order))
     by_order false ordered =
-        subst (λ o. GoAlike a b (with_line counted_a (JobLine j)
+        subst (λ o. GoAlike a b (with_line counted_a (JobLine j) (option_map NotAdmitted o))
+        (with_line counted_b (JobLine j) (option_map NotAdmitted (refusal_in T j))))
+        (sym (refusal_former S j plain))
+        (subst (λ o. GoAlike a b (with_line counted_a (JobLine j)
         (option_map NotAdmitted (refusal_of S.rules (admitted_jobs S.items) j)))
-        (with_line counted_b (JobLine j) (option_map NotAdmitted o))) (sym refusal_of_both)
-        (by_refusal (refusal_of S.rules (admitted_jobs S.items) j) (ltb-false _ _ ordered) refl)
+        (with_line counted_b (JobLine j) (option_map NotAdmitted o)))
+        (sym (refusal_former T j plain_other ∙ refusal_of_both))
+        (by_refusal (refusal_of S.rules (admitted_jobs S.items) j) (ltb-false _ _ ordered) refl))
 
   -- a line of any form
   formed_alike : (line : FeedLine)

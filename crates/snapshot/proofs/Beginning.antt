@@ -1,5 +1,6 @@
 -- An intake that is handed the line of the ratio, and the tick lines behind all jobs.
-use Rattle.std.proofs.Common.{◌≡◌, ℕ, suc, ◌+◌, ◌-◌, ◌≤◌, ◌<◌, List, [], ◌∷◌, ◌++◌, replicate, refl, sym, ap, ◌∙◌}
+use Rattle.std.proofs.Common.{◌≡◌, ℕ, suc, ◌+◌, ◌-◌, ◌≤◌, ◌<◌, List, [], ◌∷◌, ◌++◌, replicate, length, refl, sym, ap, ◌∙◌}
+use Rattle.std.proofs.Common.{length-append}
 use Rattle.std.proofs.Common.{Bool, true, false, ◌&&◌, ◌||◌, arith, Some, append_assoc, append-nil, subst}
 use Rattle.std.specs.Prelude.{nat_le, nat_lt}
 use Rattle.std.specs.List.{fold}
@@ -10,7 +11,12 @@ use Rattle.dover_model.specs.Fraction.{IsRatio}
 use Rattle.dover_model.specs.Limits.{last_tick, most_jobs, most_lines}
 use Rattle.dover_model.specs.FeedLine.{TickLine, feed_text}
 use Rattle.dover_model.specs.Feed.{Account, next_line, no_lines, account_of_lines}
+use Rattle.event_feed.specs.Answers.{AddsJob, counted, offered_item}
 use Rattle.event_feed.specs.Kept as feed
+use Rattle.dover_model.specs.JobFacts.{JobFacts}
+use Rattle.dover_model.specs.Session.{Session, with_item}
+use Rattle.dover_model.proofs.Members.{some_same}
+use Rattle.dover_model.proofs.Tests.{none_is_some}
 use Rattle.event_feed.specs.Reading.{open_account}
 use Rattle.event_feed.proofs.Skipping.{ticks}
 use Rattle.event_feed.proofs.Taking.{kept_most}
@@ -21,6 +27,14 @@ use Rattle.snapshot.specs.Kept.{IsFed, IsGoodNext, CanPause, tick_lines, feed_li
 use Rattle.snapshot.proofs.Handing.{ratio_account, tick_account}
 use Rattle.snapshot.proofs.Handed.{goes_on}
 
+-- a job line adds an item
+adds_item : (a b : Account) (n : ℕ) (job : JobFacts) → AddsJob n job a b → b.session ≡ a.session → ⊥
+adds_item a b n job it same =
+    let S : Session = it.session in
+    let grown : with_item S (offered_item S job) ≡ S = some_same (with_item S (offered_item S job)) S
+    (sym (ap (λ (x : Account). x.session) it.after_is) ∙ same ∙ it.before_is) in
+    omega (arith, ap (λ (T : Session). length T.items) grown, length-append S.items (offered_item S job ∷ []))
+
 -- ---- the ratio
 
 module _ (h : Head) (ratio : IsRatio h.rules.ratio) where
@@ -30,7 +44,11 @@ module _ (h : Head) (ratio : IsRatio h.rules.ratio) where
 
   -- it is a good first line
   pub begin_good : (i : feed.Kept) → feed.StandsFor i [] → IsGoodNext i [] (ratio_text h)
-  begin_good i it = record { stands = it; good = ap (λ (a : Account). a.standing) begun }
+  begin_good i it = record {
+    stands = it;
+    good = ap (λ (a : Account). a.standing) begun;
+    no_job = λ n job adds. none_is_some adds.before_is;
+  }
 
   -- it is handed in
   pub begin_fed : (i : feed.Kept) → feed.StandsFor i (ratio_text h ∷ []) → IsFed i h []
@@ -112,7 +130,12 @@ module _ (h : Head) (tasks : List Task) (can : CanPause h tasks) where
 
     -- it is good
     pub tick_good : (i : feed.Kept) → feed.StandsFor i (job_lines h tasks) → IsGoodNext i (job_lines h tasks) tick
-    tick_good i it = record { stands = it; good = ap (λ (a : Account). a.standing) first_account }
+    tick_good i it = record {
+      stands = it;
+      good = ap (λ (a : Account). a.standing) first_account;
+      no_job = λ n job adds. adds_item (counted (account_of_lines (job_lines h tasks))) _ n job adds
+          (ap (λ (a : Account). a.session) first_account ∙ sym (ap (λ (a : Account). a.session) account));
+    }
 
     -- then the feed goes on
     pub tick_going : (i : feed.Kept) → feed.StandsFor i (job_lines h tasks ++ tick ∷ []) → feed.IsGoing i

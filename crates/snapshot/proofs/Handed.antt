@@ -15,13 +15,15 @@ use Rattle.dover_model.specs.Sound.{jobs_of}
 use Rattle.dover_model.specs.FeedLine.{JobLine, feed_text}
 use Rattle.dover_model.specs.Feed as model
 use Rattle.dover_model.specs.Feed.{Account, Standing, Open, Faulty, NotAdmitted, next_line, no_lines, account_of_lines}
-use Rattle.dover_model.specs.Feed.{with_line, with_fault, with_item_in}
+use Rattle.dover_model.specs.Feed.{with_line, with_fault, with_refused_at}
+use Rattle.dover_model.specs.Session.{refused_mark, is_full, instance_of, may_finish_early}
+use Rattle.event_feed.proofs.Listing.{left_all, job_after, room_former}
 use Rattle.dover_model.proofs.Growing.{job_instance, refused_instance}
 use Rattle.dover_model.proofs.JobSessions.{jobs_back}
 use Rattle.event_feed.specs.declared.fed.Fed.{Fed}
 use Rattle.event_feed.specs.declared.fed.Fed.TheVariants as fed
 use Rattle.event_feed.specs.declared.faults.FeedFault.{FeedFault}
-use Rattle.event_feed.specs.Answers.{Answers, IsFed as Feeds, counted}
+use Rattle.event_feed.specs.Answers.{Answers, AddsJob, IsFed as Feeds, counted}
 use Rattle.event_feed.specs.Kept as feed
 use Rattle.event_feed.specs.declared.intake.Standing.TheVariants as standings
 use Rattle.event_feed.specs.declared.intake.Standing as standing
@@ -115,10 +117,11 @@ cause_adds_none : (a : Account) (j : JobFacts) (cause : model.Cause)
     → count (with_line a (JobLine j) (Some cause)) ≡ count a
 cause_adds_none a j (NotAdmitted refusal) = by_session a.session where
   by_version : (S : Session) (two : Bool)
-      → count (cond two (with_item_in (account_in a (Some S)) (refused_at a.mark j refusal))
+      → count (cond two (with_refused_at (account_in a (Some S)) (refused_mark a.mark j refusal) j refusal)
       (with_fault (account_in a (Some S)) (NotAdmitted refusal)))
       ≡ length (admitted_jobs S.items)
-  by_version S true = ap (λ J. length J.jobs) (refused_instance S (record { at = a.mark; line = RefusedJob j refusal }))
+  by_version S true = ap (λ J. length J.jobs) (refused_instance S
+      (record { at = refused_mark a.mark j refusal; line = RefusedJob j refusal }))
   by_version S false = refl
 
   by_session : (o : Option Session)
@@ -176,7 +179,7 @@ module _ (h : Head) (tasks : List Task) (t : Task) (i new : feed.Kept) (it : IsF
   pub not_valid : count (account_of_lines (job_lines h tasks ++ line ∷ [])) ≡ count
       (account_of_lines (job_lines h tasks))
       → IsValid (stored h (tasks ++ t ∷ [])) → ⊥
-  not_valid same valid = absurd (omega (arith, same, counts, none_counts (valid_no_cause h tasks t valid)))
+  not_valid same valid = absurd (omega (arith, same, counts, none_counts (valid_no_cause h tasks t room.2 valid)))
 
   -- an answer with no job says that it isn't valid
   pub no_job : (answer : Fed) → job_in answer ≡ None
@@ -201,14 +204,31 @@ module _ (h : Head) (tasks : List Task) (t : Task) (i new : feed.Kept) (it : IsF
     pub fed : IsFed new h (tasks ++ t ∷ [])
 
   -- an answer with a job
-  pub added : (n : ℕ) (job : JobFacts) → feed.StandsFor new (job_lines h tasks ++ line ∷ [])
+  pub added : (n : ℕ) (job : JobFacts)
+      → feed.StandsFor (feed.left_in (Ok (fed.Job n job)) (account_of_lines (job_lines h tasks)) new)
+      (job_lines h tasks ++ line ∷ [])
       → Answers line (account_of_lines (job_lines h tasks)) (account_of_lines (job_lines h tasks ++ line ∷ []))
       (Ok (fed.Job n job))
       → IsAdded job
-  added n job stands said = by_cause (job_cause h tasks t) refl where
+  added n job left said = by_cause (job_cause h tasks t) refl where
+    adds : AddsJob n job (counted (account_of_lines (job_lines h tasks)))
+        (account_of_lines (job_lines h tasks ++ line ∷ []))
+    adds = said.1
+
+    room_here : is_full (instance_of adds.session) job.release ≡ false
+    room_here = room_former (counted (account_of_lines (job_lines h tasks)))
+        (account_of_lines (job_lines h tasks ++ line ∷ [])) n job adds
+        (ap (λ o. elim o [ None ↦ false | Some S ↦ may_finish_early S.rules.version ])
+        (sym adds.before_is ∙ ap (λ (x : Account). x.session) it.account) ∙ room.2)
+
+    stands : feed.StandsFor new (job_lines h tasks ++ line ∷ [])
+    stands = subst (λ k. feed.StandsFor k (job_lines h tasks ++ line ∷ []))
+        (left_all new n job (account_of_lines (job_lines h tasks)) adds room_here) left
+
     jobs_after : jobs_in_session (account_of_lines (job_lines h tasks ++ line ∷ [])).session
         ≡ admitted_jobs said.1.session.items ++ job ∷ []
-    jobs_after = ap (λ (x : Account). jobs_in_session x.session) said.1.after_is
+    jobs_after = ap (λ (x : Account). jobs_in_session x.session)
+        (job_after (counted (account_of_lines (job_lines h tasks))) _ n job adds room_here)
         ∙ ap (λ J. J.jobs) (job_instance said.1.session job)
 
     by_cause : (o : Option model.Cause) → job_cause h tasks t ≡ o → IsAdded job
@@ -224,7 +244,7 @@ module _ (h : Head) (tasks : List Task) (t : Task) (i new : feed.Kept) (it : IsF
       same = same_last (admitted_jobs said.1.session.items) (jobs_of tasks) job t.job
           (sym jobs_after ∙ ap (λ (x : Account). jobs_in_session x.session) (none_account none)
           ∙ jobs_back (jobs_of (tasks ++ t ∷ [])) ∙ jobs_more tasks t);
-      valid = no_cause_valid h tasks t room.0 none;
+      valid = no_cause_valid h tasks t room.2 room.0 none;
       fed = record {
         stands = subst (feed.StandsFor new) lines_more stands;
         account = ap account_of_lines (sym lines_more) ∙ none_account none;
@@ -240,20 +260,23 @@ module _ (h : Head) (tasks : List Task) (t : Task) (i new : feed.Kept) (it : IsF
 
   -- it is the line's, and valid
   pub handed_on : (answer : Fed) (result : Option JobFacts) → result ≡ job_in answer
-      → feed.StandsFor new (job_lines h tasks ++ line ∷ [])
+      → feed.StandsFor (feed.left_in (Ok answer) (account_of_lines (job_lines h tasks)) new)
+      (job_lines h tasks ++ line ∷ [])
       → Answers line (account_of_lines (job_lines h tasks)) (account_of_lines (job_lines h tasks ++ line ∷ []))
       (Ok answer)
       → IfSome result IsHandedOn
-  handed_on answer result is stands said = subst (λ o. IfSome o IsHandedOn) (sym is) (by answer said) where
-    by : (x : Fed) → Answers line (account_of_lines (job_lines h tasks))
+  handed_on answer result is stands said = subst (λ o. IfSome o IsHandedOn) (sym is) (by answer stands said) where
+    by : (x : Fed) → feed.StandsFor (feed.left_in (Ok x) (account_of_lines (job_lines h tasks)) new)
+        (job_lines h tasks ++ line ∷ [])
+        → Answers line (account_of_lines (job_lines h tasks))
         (account_of_lines (job_lines h tasks ++ line ∷ [])) (Ok x)
         → IfSome (job_in x) IsHandedOn
-    by (fed.Ratio k version) s = tt
-    by (fed.Job n job) s = let it = added n job stands s in (it.same, it.valid, it.fed)
-    by (fed.Tick tick) s = tt
-    by fed.Over s = tt
-    by (fed.Refused r c d v refusal) s = tt
-    by (fed.Done t n) s = tt
+    by (fed.Ratio k version) left s = tt
+    by (fed.Job n job) left s = let it = added n job left s in (it.same, it.valid, it.fed)
+    by (fed.Tick tick) left s = tt
+    by fed.Over left s = tt
+    by (fed.Refused r c d v refusal) left s = tt
+    by (fed.Done t n) left s = tt
 
   -- none is handed on where it isn't valid
   pub none_handed_on : (answer : Fed) (result : Option JobFacts) → result ≡ job_in answer → IsNone result

@@ -1,5 +1,5 @@
 -- What the shortest feed with a snapshot says: a line of the ratio, and a line for each job.
-use Rattle.std.proofs.Common.{◌≡◌, ℕ, suc, ◌+◌, ◌≤◌, ◌<◌, ◌^◌, List, [], ◌∷◌, ◌++◌, length, length-append, map, sym, ap}
+use Rattle.std.proofs.Common.{◌≡◌, ℕ, suc, ◌+◌, ◌≤◌, ◌<◌, ◌^◌, List, [], ◌∷◌, ◌++◌, length, length-append, map, sym, ap, false}
 use Rattle.std.proofs.Common.{◌∙◌, subst}
 use Rattle.std.proofs.Common.{cond, arith, Some, None, is_some, ◌||◌}
 use Rattle.std.specs.Prelude.{nat_lt}
@@ -15,7 +15,7 @@ use Rattle.dover_model.specs.JobFacts.{JobFacts, IsJob, job_numbers}
 use Rattle.dover_model.specs.Fraction.{Fraction, IsRatio}
 use Rattle.dover_model.specs.Instance.{IsValid}
 use Rattle.dover_model.specs.Numerals.{AreShort}
-use Rattle.dover_model.specs.Session.{Session, JobItem, new_session}
+use Rattle.dover_model.specs.Session.{Session, JobItem, new_session, may_finish_early}
 use Rattle.dover_model.specs.Sound.{jobs_of}
 use Rattle.dover_model.specs.FeedLine.{FeedLine, RatioLine, JobLine, TickLine, HasNumerals, feed_line, feed_text}
 use Rattle.dover_model.specs.Feed.{Account, Lines, Declared, Order, rules_with, declared_rules, cause_of, with_line}
@@ -103,13 +103,14 @@ module _ (h : Head) (tasks : List Task) (t : Task) where
       ∙ ap (λ mark. with_jobs (length (tasks ++ t ∷ []) + 1) (jobs_of (tasks ++ t ∷ [])) mark) (sym (last_more tasks t))
 
   -- the line of a job that is valid behind the others
-  pub job_account : IsValid (stored h (tasks ++ t ∷ [])) → length tasks + 2 ≤ most_lines h.rules.version
+  pub job_account : may_finish_early h.rules.version ≡ false → IsValid (stored h (tasks ++ t ∷ []))
+      → length tasks + 2 ≤ most_lines h.rules.version
       → next_line (stored_account h tasks) (feed_text (JobLine t.job)) ≡ stored_account h (tasks ++ t ∷ [])
-  job_account valid few =
+  job_account plain valid few =
       let job : IsJob t.job = all_last IsJob (jobs_of tasks) t.job
       (subst (AllByRecursion IsJob) (jobs_more tasks t) valid.each) in
       job_read (job_numerals t.job job) few
-      ∙ ap (with_line counted_account (JobLine t.job)) (valid_no_cause h tasks t valid) ∙ job_adds
+      ∙ ap (with_line counted_account (JobLine t.job)) (valid_no_cause h tasks t plain valid) ∙ job_adds
 
 -- ---- a tick
 

@@ -23,7 +23,8 @@ use Rattle.dover_model.specs.FeedLine.{FeedLine, RatioLine, JobLine, TickLine, D
 use Rattle.dover_model.specs.Feed.{Lines, Line, Declared, Order, NotAdmitted, NotDone, Standing, Open, Ended, Faulty}
 use Rattle.dover_model.specs.Feed.{Account}
 use Rattle.dover_model.specs.Feed.{declared_rules, first_line_cause, late_cause, later_line_cause, with_fault}
-use Rattle.dover_model.specs.Feed.{with_item_in}
+use Rattle.dover_model.specs.Feed.{with_refused_at}
+use Rattle.dover_model.specs.Session.{refusal_in, refused_mark}
 use Rattle.dover_model.specs.Feed.{with_line, next_line, most_lines_in, Cause, Short}
 use Rattle.dover_model.proofs.Growing.{job_instance, refused_instance, finish_instance}
 use Rattle.event_feed.proofs.Counting.{after_form}
@@ -101,9 +102,10 @@ module _ (S : Session) (mark lines : ℕ) (it : Reached (admitted_jobs S.items) 
   job_line_reaches : (j : JobFacts) → Reaches (with_line counted (JobLine j) (later_line_cause S mark (JobLine j)))
   job_line_reaches j = by_order (nat_lt j.release mark) where
     by_version : (refusal : Refusal) (two : Bool)
-        → Reaches (cond two (with_item_in counted (refused_at mark j refusal))
+        → Reaches (cond two (with_refused_at counted (refused_mark mark j refusal) j refusal)
         (with_fault counted (NotAdmitted refusal)))
-    by_version refusal true = refused_reaches mark (record { at = mark; line = RefusedJob j refusal })
+    by_version refusal true = refused_reaches (refused_mark mark j refusal)
+        (record { at = refused_mark mark j refusal; line = RefusedJob j refusal })
     by_version refusal false = tt
 
     by_refusal : (o : Option Refusal) → Reaches (with_line counted (JobLine j) (option_map NotAdmitted o))
@@ -117,9 +119,9 @@ module _ (S : Session) (mark lines : ℕ) (it : Reached (admitted_jobs S.items) 
     by_order : (b : Bool)
         → Reaches (with_line counted (JobLine j)
         (cond b (Some (late_cause S.rules.version))
-        (option_map NotAdmitted (refusal_of S.rules (admitted_jobs S.items) j))))
+        (option_map NotAdmitted (refusal_in S j))))
     by_order true = by_late (late_refusal S.rules.version)
-    by_order false = by_refusal (refusal_of S.rules (admitted_jobs S.items) j)
+    by_order false = by_refusal (refusal_in S j)
 
   -- an early finish is a line more
   finish_reaches : (t : ℕ) (o : Option EarlyFinish)
@@ -231,7 +233,7 @@ module _ (S : Session) (mark lines : ℕ) (few : lines ≤ most_lines S.rules.ve
   few_job j None = few
   few_job j (Some (NotAdmitted refusal)) = by_version (refuses_lines S.rules.version) where
     by_version : (two : Bool)
-        → HasFew (cond two (with_item_in so_many (refused_at mark j refusal))
+        → HasFew (cond two (with_refused_at so_many (refused_mark mark j refusal) j refusal)
         (with_fault so_many (NotAdmitted refusal)))
     by_version true = few
     by_version false = tt

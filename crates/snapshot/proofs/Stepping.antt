@@ -39,7 +39,11 @@ module _ (h : Head) (tasks : List Task) (ls : List (List ℕ)) (read : HasRead h
   -- there is a line for a job that is due
   pub room : length tasks < h.jobs → HasRoom h tasks
   room more =
-      let limits : Within h = within h read.limits in (read.valid, omega (arith, more, limits.enough, limits.lines))
+      let limits : Within h = within h read.limits in (
+        read.valid,
+        omega (arith, more, limits.enough, limits.lines),
+        read.version,
+      )
 
   module _ (line : List ℕ) (more : length tasks < h.jobs) where
     -- a line that is no job's

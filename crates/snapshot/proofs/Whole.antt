@@ -85,7 +85,7 @@ module _ (h : Head) (tasks : List Task) (ls : List (List ℕ)) (it : IsWhole h t
       (map-append (λ (u : Task). feed_text (JobLine u.job)) front (t ∷ []))
       ∙ fold-append next_line no_lines (job_lines h front) (feed_text (JobLine t.job) ∷ [])
       ∙ ap (λ a. next_line a (feed_text (JobLine t.job))) so_far
-      ∙ job_account h front t valid_up_to
+      ∙ job_account h front t it.read.version valid_up_to
       (omega (arith, ap length split, length-append front (t ∷ back), it.all, limits.enough, limits.lines))) where
         valid_up_to : IsValid (stored h (front ++ t ∷ []))
         valid_up_to = valid_front (stored h (front ++ t ∷ [])) (jobs_of back)

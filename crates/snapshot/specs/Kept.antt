@@ -1,5 +1,5 @@
 -- What a reader keeps of a snapshot, and for which lines it stands.
-use Rattle.std.specs.Prelude.{◌≡◌, ℕ, ◌+◌, ◌-◌, List, [], ◌∷◌, ◌++◌, length, map, replicate, ◌≤◌, true, Option}
+use Rattle.std.specs.Prelude.{◌≡◌, ℕ, ◌+◌, ◌-◌, List, [], ◌∷◌, ◌++◌, length, map, replicate, ◌≤◌, true, false, Option}
 use Rattle.std.specs.Prelude.{Some, None, Result, Ok, Err, codes}
 use Rattle.std.specs.List.{slice_get}
 use Rattle.std.specs.Option.{option_map}
@@ -7,10 +7,12 @@ use Rattle.dover_model.specs.declared.events.Event.{Event}
 use Rattle.dover_model.specs.declared.events.Task.{Task}
 use Rattle.dover_model.specs.JobFacts.{JobFacts}
 use Rattle.dover_model.specs.Limits.{most_lines}
+use Rattle.dover_model.specs.Session.{may_finish_early}
 use Rattle.dover_model.specs.Instance.{IsValid, with_jobs}
 use Rattle.dover_model.specs.FeedLine.{TickLine, feed_text}
 use Rattle.dover_model.specs.Feed.{Account, Open, account_of_lines}
 use Rattle.dover_model.specs.declared.horizon.Horizon.TheVariants.{Mark}
+use Rattle.event_feed.specs.Answers.{AddsJob, counted}
 use Rattle.event_feed.specs.declared.fed.Fed.{Fed}
 use Rattle.event_feed.specs.declared.fed.Fed.TheVariants as fed
 use Rattle.event_feed.specs.Kept as feed
@@ -45,14 +47,17 @@ job_in fed.Over = None
 job_in (fed.Refused release work deadline value refusal) = None
 job_in (fed.Done tick number) = None
 
--- there is a line for one more job
+-- there is a line for one more job, which may not finish early
 abbrev pub HasRoom : Head → List Task → Type 0
 HasRoom h tasks = IsValid (stored h tasks) × (length tasks + 2 ≤ most_lines h.rules.version)
+    × (may_finish_early h.rules.version ≡ false)
 
--- the line isn't at fault behind these, and doesn't end the feed
+-- the line isn't at fault behind these, hands in no job, and doesn't end the feed
 pub record IsGoodNext (i : feed.Kept) (ls : List (List ℕ)) (line : List ℕ) : Type 0 where
   pub stands : feed.StandsFor i ls
   pub good : (account_of_lines (ls ++ line ∷ [])).standing ≡ Open
+  pub no_job : (n : ℕ) (job : JobFacts)
+      → AddsJob n job (counted (account_of_lines ls)) (account_of_lines (ls ++ line ∷ [])) → ⊥
 
 -- all jobs were handed in, and the mark may be reached by the lines that are left
 pub record CanPause (h : Head) (tasks : List Task) : Type 0 where

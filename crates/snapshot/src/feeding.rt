@@ -27,10 +27,9 @@ fn hand(intake: &mut Intake, line: FeedLine)
     ensures stands { (ls : List (List ℕ)) → StandsFor intake.old ls
         → StandsFor intake.new (ls ++ feed_text (form_of line) ∷ []) }
 {
-    match intake.form(line) {
-        Ok(_) => {}
-        Err(_) => unreachable!(),
-    }
+    let Ok(_) = intake.form(line) else {
+        unreachable!();
+    };
 }
 
 /// The line of the ratio.
