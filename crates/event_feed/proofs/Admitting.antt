@@ -1,9 +1,14 @@
--- How many jobs the account of a feed has admitted, as it is read.
-use Rattle.std.proofs.Common.{◌≡◌, ◌≤◌, ◌+◌, ℕ, suc, List, ◌∷◌, ◌++◌, [], length, refl, sym, ap, subst}
+-- How many jobs the account of a feed has admitted, and was offered, as it is read.
+use Rattle.std.proofs.Common.{◌≡◌, ◌≤◌, ◌+◌, ℕ, suc, List, ◌∷◌, ◌++◌, [], length, refl, sym, ap, ◌∙◌, subst}
+use Rattle.std.proofs.Common.{append_assoc, length-append}
 use Rattle.std.proofs.Common.{Option, Some, None, Bool, true, false, cond, arith}
 use Rattle.std.specs.Prelude.{nat_lt, max, ◌||◌}
-use Rattle.std.specs.List.{fold}
+use Rattle.std.specs.List.{fold, count_by}
 use Rattle.std.specs.Option.{option_map, option_map_or}
+use Rattle.std.proofs.lemmas.Bool.{lt-ltb, ltb-true}
+use Rattle.std.proofs.lemmas.List.{append-nil}
+use Rattle.std.proofs.lemmas.List.Elements.{filter_map-append}
+use Rattle.std.proofs.lemmas.List.Sums.{sum_by-append}
 use Rattle.dover_model.specs.Limits.{most_lines, last_tick}
 use Rattle.dover_model.specs.JobFacts.{JobFacts}
 use Rattle.dover_model.specs.declared.events.Refusal.{Refusal}
@@ -12,13 +17,14 @@ use Rattle.dover_model.specs.Session.{Session, Item, JobItem, RefusedItem, Finis
 use Rattle.dover_model.specs.Session.{RefusedDone, refused_at, refused_done_at, with_item, with_named, early_at}
 use Rattle.dover_model.specs.Session.{is_right, refusal_in, refused_mark}
 use Rattle.dover_model.specs.Session.{late_refusal, may_finish_early}
-use Rattle.dover_model.specs.Session.{admitted_jobs}
+use Rattle.dover_model.specs.Session.{admitted_jobs, job_of_item}
 use Rattle.dover_model.specs.Session.{refuses_lines}
 use Rattle.dover_model.specs.FeedLine.{FeedLine, RatioLine, JobLine, TickLine, DoneLine, EndLine, feed_line}
 use Rattle.dover_model.specs.Feed.{Account, Standing, Lines, Line, is_open, next_line, read_line, with_line, with_fault}
 use Rattle.dover_model.specs.Feed.{with_refused_at, later_line_cause, late_cause, Order, NotAdmitted, NotDone, account}
 use Rattle.dover_model.proofs.Accounts.{account_append}
 use Rattle.event_feed.specs.Answers.{admitted_in}
+use Rattle.event_feed.specs.Listing.{is_offered, offered_in, has_too_many}
 
 -- ---- items
 
@@ -50,11 +56,11 @@ finish_more (FinishItem g ∷ items) f = finish_more items f
 abbrev pub admitted_by : Option Session → ℕ
 admitted_by o = elim o [ None ↦ 0 | Some S ↦ length (admitted_jobs S.items) ]
 
--- ---- a session stays, and no line takes a job back
+-- ---- a session stays, and no line takes an item back
 
--- there is a session, which has admitted at least so many jobs
-abbrev HasAtLeast : ℕ → Account → Type 0
-HasAtLeast n a = (S : Session) × (a.session ≡ Some S) × (n ≤ length (admitted_jobs S.items))
+-- there is a session, and its items begin with these
+abbrev BeginsWith : List Item → Account → Type 0
+BeginsWith items a = (S : Session) × (a.session ≡ Some S) × ((more : List Item) × (S.items ≡ items ++ more))
 
 -- an account
 abbrev account_with : ℕ → Session → ℕ → Standing → Account
@@ -65,115 +71,141 @@ module _ (lines : ℕ) (S : Session) (mark : ℕ) (standing : Standing) where
   abbrev at : Account
   at = account_with lines S mark standing
 
-  -- how many it has admitted
-  abbrev n : ℕ
-  n = length (admitted_jobs S.items)
+  -- nothing comes behind
+  none : BeginsWith S.items at
+  none = (S, refl, ([], sym (append-nil S.items)))
+
+  -- an item does
+  one : (item : Item) → BeginsWith S.items (record at { session = Some (with_item S item) })
+  one item = (with_item S item, refl, (item ∷ [], refl))
 
   -- a job line
-  job_keeps : (j : JobFacts) → HasAtLeast n (with_line at (JobLine j) (later_line_cause S mark (JobLine j)))
+  job_keeps : (j : JobFacts) → BeginsWith S.items (with_line at (JobLine j) (later_line_cause S mark (JobLine j)))
   job_keeps j = by_order (nat_lt j.release mark) where
     by_two : (refusal : Refusal) (two : Bool)
-        → HasAtLeast n (cond two (with_refused_at at (refused_mark mark j refusal) j refusal)
+        → BeginsWith S.items (cond two (with_refused_at at (refused_mark mark j refusal) j refusal)
         (with_fault at (NotAdmitted refusal)))
-    by_two refusal true = (
-      with_item S (refused_at (refused_mark mark j refusal) j refusal),
-      refl,
-      omega (arith, refused_more S.items (record { at = refused_mark mark j refusal; line = RefusedJob j refusal })),
-    )
-    by_two refusal false = (S, refl, omega arith)
+    by_two refusal true = one (refused_at (refused_mark mark j refusal) j refusal)
+    by_two refusal false = none
 
-    by_refusal : (o : Option Refusal) → HasAtLeast n (with_line at (JobLine j) (option_map NotAdmitted o))
-    by_refusal None = (with_item S (JobItem j), refl, omega (arith, job_more S.items j))
+    by_refusal : (o : Option Refusal) → BeginsWith S.items (with_line at (JobLine j) (option_map NotAdmitted o))
+    by_refusal None = one (JobItem j)
     by_refusal (Some refusal) = by_two refusal (refuses_lines S.rules.version)
 
-    by_late : (o : Option Refusal) → HasAtLeast n (with_line at (JobLine j) (Some (option_map_or NotAdmitted o Order)))
-    by_late None = (S, refl, omega arith)
+    by_late : (o : Option Refusal)
+        → BeginsWith S.items (with_line at (JobLine j) (Some (option_map_or NotAdmitted o Order)))
+    by_late None = none
     by_late (Some refusal) = by_two refusal (refuses_lines S.rules.version)
 
-    by_order : (b : Bool) → HasAtLeast n
+    by_order : (b : Bool) → BeginsWith S.items
         (with_line at (JobLine j)
         (cond b (Some (late_cause S.rules.version)) (option_map NotAdmitted (refusal_in S j))))
     by_order true = by_late (late_refusal S.rules.version)
     by_order false = by_refusal (refusal_in S j)
 
   -- a done line
-  done_keeps : (t m : ℕ) → HasAtLeast n (with_line at (DoneLine t m) (later_line_cause S mark (DoneLine t m)))
+  done_keeps : (t m : ℕ) → BeginsWith S.items (with_line at (DoneLine t m) (later_line_cause S mark (DoneLine t m)))
   done_keeps t m = by_version (may_finish_early S.rules.version) where
-    by_finish : (o : Option EarlyFinish) → (T : Session) × (Some (with_named S (option_map FinishItem o)) ≡ Some T)
-        × (n ≤ length (admitted_jobs T.items))
-    by_finish None = (S, refl, omega arith)
-    by_finish (Some f) = (with_item S (FinishItem f), refl, omega (arith, finish_more S.items f))
+    by_finish : (o : Option EarlyFinish)
+        → BeginsWith S.items (record at { session = Some (with_named S (option_map FinishItem o)) })
+    by_finish None = none
+    by_finish (Some f) = one (FinishItem f)
 
-    by_right : (b : Bool) → HasAtLeast n (with_line at (DoneLine t m) (cond b None (Some NotDone)))
+    by_right : (b : Bool) → BeginsWith S.items (with_line at (DoneLine t m) (cond b None (Some NotDone)))
     by_right true = by_finish (early_at S t m)
-    by_right false = (
-      with_item S (refused_done_at (max mark t) t m),
-      refl,
-      omega (arith, refused_more S.items (record { at = max mark t; line = RefusedDone t m })),
-    )
+    by_right false = one (refused_done_at (max mark t) t m)
 
-    by_tick : (b : Bool)
-        → HasAtLeast n (with_line at (DoneLine t m) (cond b (Some Order) (cond (is_right S mark t m) None
-        (Some NotDone))))
-    by_tick true = (S, refl, omega arith)
+    by_tick : (b : Bool) → BeginsWith S.items (with_line at (DoneLine t m)
+        (cond b (Some Order) (cond (is_right S mark t m) None (Some NotDone))))
+    by_tick true = none
     by_tick false = by_right (is_right S mark t m)
 
-    by_version : (b : Bool) → HasAtLeast n (with_line at (DoneLine t m) (cond b
+    by_version : (b : Bool) → BeginsWith S.items (with_line at (DoneLine t m) (cond b
         (cond (nat_lt last_tick t) (Some Order) (cond (is_right S mark t m) None (Some NotDone))) (Some Line)))
     by_version true = by_tick (nat_lt last_tick t)
-    by_version false = (S, refl, omega arith)
+    by_version false = none
 
   -- any line that has a form
-  form_keeps : (line : FeedLine) → HasAtLeast n (with_line at line (later_line_cause S mark line))
-  form_keeps (RatioLine p q version) = (S, refl, omega arith)
+  form_keeps : (line : FeedLine) → BeginsWith S.items (with_line at line (later_line_cause S mark line))
+  form_keeps (RatioLine p q version) = none
   form_keeps (JobLine j) = job_keeps j
   form_keeps (TickLine t) = by_tests (nat_lt t mark || nat_lt last_tick t) where
-    by_tests : (b : Bool) → HasAtLeast n (with_line at (TickLine t) (cond b (Some Order) None))
-    by_tests true = (S, refl, omega arith)
-    by_tests false = (S, refl, omega arith)
+    by_tests : (b : Bool) → BeginsWith S.items (with_line at (TickLine t) (cond b (Some Order) None))
+    by_tests true = none
+    by_tests false = none
   form_keeps (DoneLine t m) = done_keeps t m
-  form_keeps EndLine = (S, refl, omega arith)
+  form_keeps EndLine = none
 
   -- any line
-  read_keeps : (l : List ℕ) → HasAtLeast n (read_line at l)
+  read_keeps : (l : List ℕ) → BeginsWith S.items (read_line at l)
   read_keeps l = by_count (nat_lt (most_lines S.rules.version) lines) (feed_line l) where
-    by_count : (b : Bool) (o : Option FeedLine) → HasAtLeast n (cond b (with_fault at Lines)
+    by_count : (b : Bool) (o : Option FeedLine) → BeginsWith S.items (cond b (with_fault at Lines)
         (elim o [ None ↦ with_fault at Line | Some line ↦ with_line at line (later_line_cause S mark line) ]))
-    by_count true o = (S, refl, omega arith)
-    by_count false None = (S, refl, omega arith)
+    by_count true o = none
+    by_count false None = none
     by_count false (Some line) = form_keeps line
 
 -- the next line
-keeps_next : (n : ℕ) (a : Account) (l : List ℕ) → HasAtLeast n a → HasAtLeast n (next_line a l)
-keeps_next n a l it =
-    let next = subst (λ o. HasAtLeast (length (admitted_jobs it.0.items)) (next_line (record a { session = o }) l))
-    (sym it.1) (by_open (is_open a)) in (next.0, next.1, omega (arith, it.2, next.2))
-  where
-    by_open : (b : Bool) → HasAtLeast (length (admitted_jobs it.0.items))
-        (cond b (read_line (account_with (suc a.lines) it.0 a.mark a.standing) l)
-        (account_with a.lines it.0 a.mark a.standing))
-    by_open true = read_keeps (suc a.lines) it.0 a.mark a.standing l
-    by_open false = (it.0, refl, omega arith)
+keeps_next : (items : List Item) (a : Account) (l : List ℕ) → BeginsWith items a → BeginsWith items (next_line a l)
+keeps_next items a l (S, there, (more, is)) = (
+  next.0,
+  next.1,
+  (more ++ next.2.0, next.2.1 ∙ ap (λ l. l ++ next.2.0) is ∙ append_assoc items more next.2.0),
+) where
+  by_open : (b : Bool) → BeginsWith S.items (cond b (read_line (account_with (suc a.lines) S a.mark a.standing) l)
+      (account_with a.lines S a.mark a.standing))
+  by_open true = read_keeps (suc a.lines) S a.mark a.standing l
+  by_open false = none a.lines S a.mark a.standing
+
+  next : BeginsWith S.items (next_line a l)
+  next = subst (λ o. BeginsWith S.items (next_line (record a { session = o }) l)) (sym there) (by_open (is_open a))
 
 -- many lines
-keeps_lines : (n : ℕ) (ls : List (List ℕ)) (a : Account) → HasAtLeast n a → HasAtLeast n (fold next_line a ls)
-keeps_lines n [] a it = it
-keeps_lines n (l ∷ ls) a it = keeps_lines n ls (next_line a l) (keeps_next n a l it)
+keeps_lines : (items : List Item) (ls : List (List ℕ)) (a : Account) → BeginsWith items a
+    → BeginsWith items (fold next_line a ls)
+keeps_lines items [] a it = it
+keeps_lines items (l ∷ ls) a it = keeps_lines items ls (next_line a l) (keeps_next items a l it)
 
--- more bytes
-keeps_front : (n : ℕ) (F G : List ℕ) → HasAtLeast n (account F) → HasAtLeast n (account (F ++ G))
-keeps_front n F G it = let more = account_append F G in
-    subst (HasAtLeast n) (sym more.1) (keeps_lines n more.0 (account F) it)
+module _ (F G : List ℕ) where
+  -- more bytes
+  items_front : (S : Session) → (account F).session ≡ Some S → BeginsWith S.items (account (F ++ G))
+  items_front S there = let more = account_append F G in
+      subst (BeginsWith S.items) (sym more.1)
+      (keeps_lines S.items more.0 (account F) (S, there, ([], sym (append-nil S.items))))
 
--- a session that is there stays, whatever bytes follow
-pub declared_front : (F G : List ℕ) → (S : Session) × ((account F).session ≡ Some S)
-    → (S : Session) × ((account (F ++ G)).session ≡ Some S)
-declared_front F G it = let kept = keeps_front 0 F G (it.0, it.1, omega arith) in (kept.0, kept.1)
+  -- a session that is there stays, whatever bytes follow
+  pub declared_front : (S : Session) × ((account F).session ≡ Some S)
+      → (S : Session) × ((account (F ++ G)).session ≡ Some S)
+  declared_front it = let kept = items_front it.0 it.1 in (kept.0, kept.1)
 
--- and its jobs stay admitted
-pub admitted_front : (F G : List ℕ) → admitted_in (account F) ≤ admitted_in (account (F ++ G))
-admitted_front F G = by (account F).session refl where
-  by : (o : Option Session) → (account F).session ≡ o → admitted_in (account F) ≤ admitted_in (account (F ++ G))
-  by None none = let zero : admitted_in (account F) ≡ 0 = ap admitted_by none in omega arith
-  by (Some S) there = let kept = keeps_front (length (admitted_jobs S.items)) F G (S, there, omega arith) in
-      omega (arith, ap admitted_by there, ap admitted_by kept.1, kept.2)
+  -- what is counted of its items stays counted
+  module _ (count : List Item → ℕ) (up : (items more : List Item) → count items ≤ count (items ++ more)) where
+    -- in an account
+    abbrev counts : Option Session → ℕ
+    counts o = elim o [ None ↦ 0 | Some S ↦ count S.items ]
+
+    count_front : counts (account F).session ≤ counts (account (F ++ G)).session
+    count_front = by (account F).session refl where
+      by : (o : Option Session) → (account F).session ≡ o → counts o ≤ counts (account (F ++ G)).session
+      by None there = omega arith
+      by (Some S) there = let kept = items_front S there in
+          omega (arith, up S.items kept.2.0, ap count kept.2.1, ap counts kept.1)
+
+  -- so its jobs stay admitted
+  pub admitted_front : admitted_in (account F) ≤ admitted_in (account (F ++ G))
+  admitted_front = count_front (λ items. length (admitted_jobs items)) (λ items more. omega (
+    arith,
+    ap length (filter_map-append job_of_item items more),
+    length-append (admitted_jobs items) (admitted_jobs more),
+  ))
+
+  -- and those that were offered stay so
+  pub offered_front : offered_in (account F) ≤ offered_in (account (F ++ G))
+  offered_front = count_front (λ items. count_by is_offered items) (λ items more. omega (
+    arith,
+    sum_by-append (λ (item : Item). cond {A = ℕ} (is_offered item) 1 0) items more,
+  ))
+
+  -- too many stay too many
+  pub too_many_front : has_too_many (account F) ≡ true → has_too_many (account (F ++ G)) ≡ true
+  too_many_front many = lt-ltb _ _ (omega (arith, offered_front, ltb-true _ _ many))

@@ -2,6 +2,7 @@
 use Rattle.std.proofs.Common.{◌≡◌, ℕ, ◌≤◌, ◌<◌, List, [], ◌∷◌, ◌++◌, refl, sym, ap, ◌∙◌, subst, cond, Option, Some}
 use Rattle.std.proofs.Common.{None, Ok}
 use Rattle.std.proofs.Common.{Err, true, false, Bool, ◌⊎◌, inl, inr}
+use Rattle.std.specs.Prelude.{◌≢◌}
 use Rattle.std.specs.Bool.{then_some}
 use Rattle.std.specs.Option.{option_map, option_or}
 use Rattle.std.proofs.lemmas.Bool.{le-ltb, lt-ltb}
@@ -15,7 +16,7 @@ use Rattle.dover_model.specs.Admission.{refusal_of}
 use Rattle.dover_model.specs.Session.{Session, RefusedJob, refused_at, admitted_jobs, refuses_lines, refusal_at}
 use Rattle.dover_model.specs.Session.{late_refusal, refusal_in, refused_mark, is_full, instance_of, with_item}
 use Rattle.dover_model.specs.Session.{JobItem}
-use Rattle.dover_model.proofs.Fullness.{full_refuses, mark_stays}
+use Rattle.dover_model.proofs.Fullness.{full_refuses, mark_stays, never_alone}
 use Rattle.dover_model.specs.FeedLine.{JobLine}
 use Rattle.dover_model.specs.Feed.{Account, NotAdmitted, Order, late_cause, cause_of, with_fault, with_line}
 use Rattle.dover_model.specs.Feed.{with_refused_at}
@@ -48,11 +49,11 @@ module _ (lines : ℕ) (S : Session) (mark : ℕ) (j : JobFacts) where
 
   -- the line that is refused alone is handed in
   takes_alone : (kept : KeptSession) → IsKeptOf kept S mark → refuses_lines S.rules.version ≡ true
-      → AreShort (job_numbers j) → (refusal : Refusal)
+      → AreShort (job_numbers j) → (refusal : Refusal) → refusal ≢ Full
       → refusal_at S mark j ≡ Some refusal → refused_mark mark j refusal ≡ mark
       → cause_of before (JobLine j) ≡ Some (NotAdmitted refusal)
       → Takes (JobLine j) lines S mark kept (Ok (fed.Refused j.release j.work j.deadline j.value refusal))
-  takes_alone kept it alone numerals refusal is stays cause =
+  takes_alone kept it alone numerals refusal other is stays cause =
       subst (λ b. IsTaken (Some kept) (Some (JobLine j)) before b
       (Ok (fed.Refused j.release j.work j.deadline j.value refusal)))
       (sym (ap (with_line before (JobLine j)) cause
@@ -72,6 +73,7 @@ module _ (lines : ℕ) (S : Session) (mark : ℕ) (j : JobFacts) where
           after_is = refl;
           numerals = numerals;
           refused = is;
+          not_full = other;
           stays = stays;
         };
       })
@@ -89,7 +91,7 @@ module _ (lines : ℕ) (S : Session) (mark : ℕ) (j : JobFacts) where
       → AreShort (job_numbers j)
       → Takes (JobLine j) lines S mark kept (Ok (fed.Refused j.release j.work j.deadline j.value Late))
   takes_late kept it late version numerals =
-      takes_alone kept it (ap refuses_lines version) numerals Late
+      takes_alone kept it (ap refuses_lines version) numerals Late (λ e. let same : Late ≡ Full = e in cc)
       (ap (λ b. cond b (late_refusal S.rules.version) (refusal_in S j)) (lt-ltb _ _ late) ∙ ap late_refusal version)
       refl
       (late_line_cause late ∙ ap (λ v. Some (late_cause v)) version)
@@ -178,7 +180,7 @@ module _ (lines : ℕ) (S : Session) (mark : ℕ) (j : JobFacts) (no_fall : mark
       → refusal_of S.rules (admitted_jobs S.items) j ≡ Some refusal
       → Takes (JobLine j) lines S mark kept (Ok (fed.Refused j.release j.work j.deadline j.value refusal))
   takes_refused kept it alone numerals refusal is =
-      takes_alone lines S mark j kept it alone numerals refusal
+      takes_alone lines S mark j kept it alone numerals refusal (λ full. never_alone S j (is ∙ ap Some full))
       (ap (λ b. cond b (late_refusal S.rules.version) (refusal_in S j)) (le-ltb _ _ no_fall)
       ∙ ap (λ o. option_or o (then_some full Full)) is) (mark_stays S mark j refusal is)
       (job_cause (Some refusal) is)

@@ -1,11 +1,11 @@
 -- What the answers to the lines of a feed say of its account.
-use Rattle.std.specs.Prelude.{◌≡◌, ℕ, suc, ◌≤◌, ◌⊎◌, List, [], ◌∷◌, length, true, if◌then◌else◌, Option, Some, None}
+use Rattle.std.specs.Prelude.{◌≡◌, ◌≢◌, ℕ, suc, ◌≤◌, ◌⊎◌, List, [], ◌∷◌, length, true, if◌then◌else◌, Option, Some, None}
 use Rattle.std.specs.Prelude.{Result, Ok, Err}
 use Rattle.dover_model.specs.Limits.{last_tick}
 use Rattle.dover_model.specs.Numerals.{AreShort}
 use Rattle.dover_model.specs.declared.events.Version.{Version}
 use Rattle.dover_model.specs.declared.events.Refusal.{Refusal}
-use Rattle.dover_model.specs.declared.events.Refusal.TheVariants as refusal
+use Rattle.dover_model.specs.declared.events.Refusal.TheVariants.{Full}
 use Rattle.dover_model.specs.JobFacts.{JobFacts, job_numbers, job_of_numbers}
 use Rattle.dover_model.specs.Fraction.{Fraction}
 use Rattle.dover_model.specs.Admission.{refusal_of}
@@ -42,7 +42,7 @@ pub record DeclaresRatio (k : Fraction) (version : Version) (a after : Account) 
 -- what the line of a job hands in that may be admitted: the job, or its refusal, where it finds no room
 abbrev pub offered_item : Session → JobFacts → Item
 offered_item S job =
-    if is_full (instance_of S) job.release then refused_at job.release job refusal.Full else JobItem job
+    if is_full (instance_of S) job.release then refused_at job.release job Full else JobItem job
 
 -- a job is handed in under the number of the jobs before it, or refused since it finds no room, and the mark is its
 -- release
@@ -77,6 +77,7 @@ pub record AddsRefused (job : JobFacts) (refusal : Refusal) (a after : Account) 
   pub after_is : after ≡ record a { session = Some (with_item session (refused_at a.mark job refusal)) }
   pub numerals : AreShort (job_numbers job)
   pub refused : refusal_at session a.mark job ≡ Some refusal
+  pub not_full : refusal ≢ Full
   pub stays : refused_mark a.mark job refusal ≡ a.mark
 
 -- the account with a done line: a finish where it is right behind the session, and a refused line where it isn't

@@ -1,16 +1,45 @@
 -- The jobs that a feed has admitted so far, and the done lines behind them.
-use Rattle.std.specs.Prelude.{◌≡◌, ℕ, ◌≤◌, List, [], ◌∷◌, ◌++◌, length, take, drop, false, Option, Some, None}
-use Rattle.std.specs.List.{fold, AllByRecursion}
-use Rattle.dover_model.specs.Limits.{last_tick}
+use Rattle.std.specs.Prelude.{◌≡◌, ℕ, ◌≤◌, List, [], ◌∷◌, ◌++◌, length, take, drop, Bool, true, false, not, ◌&&◌}
+use Rattle.std.specs.Prelude.{nat_lt, Option, Some, None}
+use Rattle.std.specs.List.{fold, count_by, AllByRecursion}
+use Rattle.dover_model.specs.Limits.{last_tick, most_jobs}
+use Rattle.dover_model.specs.declared.events.Refusal.TheVariants.{Full}
 use Rattle.dover_model.specs.declared.events.Version.{Version}
+use Rattle.dover_model.specs.declared.events.Version.TheVariants.{Two}
 use Rattle.dover_model.specs.Finishes.{Finish}
 use Rattle.dover_model.specs.Fraction.{Fraction}
 use Rattle.dover_model.specs.JobFacts.{JobFacts}
 use Rattle.dover_model.specs.Instance.{Declaration, Instance, under}
-use Rattle.dover_model.specs.Feed.{Account, rules_with}
-use Rattle.dover_model.specs.Session.{EarlyFinish, Session, instance_of, finish_at, may_finish_early}
+use Rattle.dover_model.specs.Feed.{Account, rules_with, is_open}
+use Rattle.dover_model.specs.Session.{Item, JobItem, RefusedItem, FinishItem, RefusedLine, RefusedJob, RefusedDone}
+use Rattle.dover_model.specs.Session.{EarlyFinish, Session, instance_of, finish_at, may_finish_early, is_same_refusal}
 use Rattle.event_feed.specs.declared.listed.DoneLine.{DoneLine}
 use Rattle.event_feed.specs.declared.listed.Listed.{Listed}
+
+-- ---- how many jobs are listed
+
+-- the refused line is of a job that found no room
+abbrev pub lacked_room : RefusedLine → Bool
+lacked_room (RefusedJob j refusal) = is_same_refusal refusal Full
+lacked_room (RefusedDone tick number) = false
+
+-- the item is a job that could be admitted, whether it found room or not
+abbrev pub is_offered : Item → Bool
+is_offered (JobItem j) = true
+is_offered (RefusedItem r) = lacked_room r.line
+is_offered (FinishItem f) = false
+
+-- how many of these an account has
+abbrev pub offered_in : Account → ℕ
+offered_in a = elim a.session [ None ↦ 0 | Some S ↦ count_by is_offered S.items ]
+
+-- more than a list may have, which has as many as a feed of version Two may
+abbrev pub has_too_many : Account → Bool
+has_too_many a = nat_lt (most_jobs Two) (offered_in a)
+
+-- whether more lines are to be listed
+abbrev pub wants_more : Account → Bool
+wants_more a = is_open a && not (has_too_many a)
 
 -- ---- the run of what is listed
 
