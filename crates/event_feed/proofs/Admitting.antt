@@ -12,9 +12,8 @@ use Rattle.std.proofs.lemmas.List.Sums.{sum_by-append}
 use Rattle.dover_model.specs.Limits.{most_lines, last_tick}
 use Rattle.dover_model.specs.JobFacts.{JobFacts}
 use Rattle.dover_model.specs.declared.events.Refusal.{Refusal}
-use Rattle.dover_model.specs.Admission.{refusal_of}
-use Rattle.dover_model.specs.Session.{Session, Item, JobItem, RefusedItem, FinishItem, Refused, EarlyFinish, RefusedJob}
-use Rattle.dover_model.specs.Session.{RefusedDone, refused_at, refused_done_at, with_item, with_named, early_at}
+use Rattle.dover_model.specs.Session.{Session, Item, JobItem, RefusedItem, FinishItem, Refused, EarlyFinish}
+use Rattle.dover_model.specs.Session.{refused_at, refused_done_at, with_item, with_named, early_at}
 use Rattle.dover_model.specs.Session.{is_right, refusal_in, refused_mark}
 use Rattle.dover_model.specs.Session.{late_refusal, may_finish_early}
 use Rattle.dover_model.specs.Session.{admitted_jobs, job_of_item}

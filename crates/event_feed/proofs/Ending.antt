@@ -14,9 +14,11 @@ use Rattle.event_feed.specs.Kept.{Kept, standing_of, fault_of, cause_of_fault}
 use Rattle.event_feed.specs.declared.faults.FeedFault.{FeedFault}
 use Rattle.event_feed.specs.declared.intake.Standing.{Standing}
 use Rattle.event_feed.specs.declared.intake.Standing.TheVariants.{Open, Over, Faulty}
+use Rattle.event_feed.proofs.Admitting.{too_many_front}
 use Rattle.event_feed.proofs.GoingOn.{closed_account}
+use Rattle.event_feed.proofs.Offering.{few_wanted, none_more}
 use Rattle.event_feed.specs.Keeping.{HasRead, StandsFor}
-use Rattle.event_feed.specs.Listing.{ListsIn, listed_instance}
+use Rattle.event_feed.specs.Listing.{ListsIn, listed_instance, has_too_many, wants_more}
 use Rattle.event_feed.specs.Record.{IsEnded, IsRefusedBy}
 use Rattle.event_feed.specs.declared.listed.DoneLine.{DoneLine}
 use Rattle.event_feed.specs.declared.listed.Listed.{Listed}
@@ -39,14 +41,15 @@ module _ (ls : List (List ℕ)) (ended : (account_of_lines ls).standing ≡ feed
       ended_keeps
 
   -- its jobs are those listed
-  pub ended_jobs : (listed : Listed)
+  pub ended_jobs : (listed : Listed) → has_too_many (account_of_lines ls) ≡ false
       → ListsIn (Some (listed.ratio, listed.version)) listed.jobs.items listed.dones.items (account_of_lines ls)
       → IsEnded listed (account_of_lines ls)
-  ended_jobs listed it =
+  ended_jobs listed few it =
       let closes : Closes it.named =
       subst (λ s. HoldsBy feeds.Ended s (account_of_lines ls).mark
       (account_of_lines ls).lines) it.there ended_keeps in
       record {
+        few = few;
         ended = ended;
         session = it.named;
         session_is = it.there;
@@ -71,19 +74,32 @@ module _ (reader : FeedReader) (x : List ℕ) (it : StandsFor reader x) where
   whole : reader.gathering.going ≡ true → it.read ≡ x
   whole on = sym (it.front ∙ ap (λ l. it.read ++ l) (it.all on) ∙ append-nil it.read)
 
-  -- the account is that of what was read
-  pub same_account : account it.read ≡ account x
-  same_account = by_going reader.gathering.going refl where
+  -- where the jobs aren't too many, the account is that of what was read
+  pub same_account : reader.gathering.too_many ≡ false → account it.read ≡ account x
+  same_account few = by_going reader.gathering.going refl where
     by_going : (b : Bool) → reader.gathering.going ≡ b → account it.read ≡ account x
     by_going true on = ap account (whole on)
-    by_going false off = sym (ap account it.front ∙ closed_account it.read it.rest (sym it.reads.keeps.goes_on ∙ off))
+    by_going false off = sym (ap account it.front ∙ closed_account it.read it.rest
+        (sym (few_wanted (account it.read) (sym it.reads.keeps.too_many ∙ few)) ∙ sym it.reads.keeps.goes_on ∙ off))
 
-  -- it knows whether the feed goes on
-  pub going_is : reader.gathering.going ≡ is_open (account x)
-  going_is = it.reads.keeps.goes_on ∙ ap is_open same_account
+  -- it knows whether they are
+  pub many_is : reader.gathering.too_many ≡ has_too_many (account x)
+  many_is = by reader.gathering.too_many refl where
+    by : (b : Bool) → reader.gathering.too_many ≡ b → b ≡ has_too_many (account x)
+    by true many = sym (ap (λ y. has_too_many (account y)) it.front
+        ∙ too_many_front it.read it.rest (sym it.reads.keeps.too_many ∙ many))
+    by false few = sym few ∙ it.reads.keeps.too_many ∙ ap has_too_many (same_account few)
 
-  -- and has read a feed that does
-  pub going_read : is_open (account x) ≡ true → HasRead reader x
+  -- it knows whether more is wanted
+  pub going_is : reader.gathering.going ≡ wants_more (account x)
+  going_is = by reader.gathering.going refl where
+    by : (b : Bool) → reader.gathering.going ≡ b → reader.gathering.going ≡ wants_more (account x)
+    by true on = it.reads.keeps.goes_on ∙ ap (λ y. wants_more (account y)) (whole on)
+    by false off = off ∙ sym (ap (λ y. wants_more (account y)) it.front
+        ∙ none_more it.read it.rest (sym it.reads.keeps.goes_on ∙ off))
+
+  -- and has read all where it is
+  pub going_read : wants_more (account x) ≡ true → HasRead reader x
   going_read on = subst (HasRead reader) (whole (going_is ∙ on)) it.reads
 
   -- ---- the fault
@@ -105,26 +121,29 @@ module _ (reader : FeedReader) (x : List ℕ) (it : StandsFor reader x) where
   answered fault = Err fault
 
   -- the fault at the end of input is that of the feed
-  pub refused_by : (fault : FeedFault) → EndAnswers (lines_of it.read) (answered fault)
+  pub refused_by : (few : reader.gathering.too_many ≡ false) (fault : FeedFault)
+      → EndAnswers (lines_of it.read) (answered fault)
       → ((other : FeedFault) → fault_of reader.gathering.intake ≡ Some other → fault ≡ other)
       → IsRefusedBy fault x
-  refused_by fault (inl short) same =
-      let on : is_open (account x) ≡ true = sym (ap is_open same_account) ∙ ap goes_on short.0 in
-      let going : reader.gathering.going ≡ true = going_is ∙ on in
+  refused_by few fault (inl short) same =
+      let on : is_open (account x) ≡ true = sym (ap is_open (same_account few)) ∙ ap goes_on short.0 in
+      let going : reader.gathering.going ≡ true =
+      going_is ∙ few_wanted (account x) (sym many_is ∙ few) ∙ on in
       let lines : lines_of it.read ≡ whole_lines it.read =
       ap (λ b. whole_lines it.read ++ cond b (rest_of it.read ∷ []) []) (it.reads.short going)
       ∙ append-nil (whole_lines it.read) in
       inr (on, short.1 ∙ ap (λ ls. short_after (length ls)) (lines ∙ ap whole_lines (whole going)))
-  refused_by fault (inr faulty) same =
+  refused_by few fault (inr faulty) same =
+      let all = it.reads.keeps.all few in
       let kept = kept_fault reader.gathering.intake fault.line (cause_of_fault fault.cause)
-      (it.reads.keeps.intake.by_account.standing ∙ faulty) in
+      (all.intake.by_account.standing ∙ faulty) in
       inl (
-        sym (ap (λ (a : feeds.Account). a.standing) same_account) ∙ faulty,
+        sym (ap (λ (a : feeds.Account). a.standing) (same_account few)) ∙ faulty,
         record {
           read = it.read;
           rest = it.rest;
           front = it.front;
-          first = it.reads.keeps.names fault (kept.1 ∙ ap Some (sym (same kept.0 kept.1)));
+          first = all.names fault (kept.1 ∙ ap Some (sym (same kept.0 kept.1)));
         },
       )
 

@@ -8,3 +8,4 @@ pub mod Admitting
 pub mod Spelling
 pub mod Ending
 pub mod Listing
+pub mod Offering

@@ -394,6 +394,11 @@ pub on_ok_both : {T E : Type 0} (P Q : Type 0) (r : Result T E) → OnOk r P →
 on_ok_both P Q (Ok x) p q = (p, q)
 on_ok_both P Q (Err e) p q = tt
 
+-- whatever a good answer is
+pub ok_any : {T E : Type 0} {P : Type 0} (r : Result T E) → P → OnOk r P
+ok_any (Ok x) p = p
+ok_any (Err e) p = tt
+
 -- all is left where the job finds room
 pub left_all : (kept : feed.Kept) (number : ℕ) (job : JobFacts) (a : Account) {b : Account}
     (it : AddsJob number job (counted a) b) → is_full (instance_of it.session) job.release ≡ false

@@ -1,12 +1,12 @@
 -- What is kept of a feed.
 use Rattle.std.specs.Prelude.{◌≡◌, ◌≢◌, ◌⊎◌, ℕ, ◌≤◌, List, [], ◌∷◌, ◌++◌, length, Some, true, false}
-use Rattle.dover_model.specs.Feed.{account_of_lines, is_open}
+use Rattle.dover_model.specs.Feed.{account_of_lines}
 use Rattle.dover_model.specs.Lines.{lines_of, rest_of, is_too_long}
 use Rattle.line_text.specs.Cutting as cutting
 use Rattle.event_feed.specs.Faults.{IsFirstFault}
 use Rattle.event_feed.specs.Kept as feed
 use Rattle.event_feed.specs.declared.faults.FeedFault.{FeedFault}
-use Rattle.event_feed.specs.Listing.{ListsIn}
+use Rattle.event_feed.specs.Listing.{ListsIn, offered_in, has_too_many, wants_more}
 use Rattle.event_feed.specs.declared.gathering.Gathering.{Gathering}
 use Rattle.event_feed.specs.declared.listed.DoneLine.{DoneLine}
 use Rattle.event_feed.specs.declared.reader.FeedReader.{FeedReader}
@@ -18,20 +18,26 @@ KeepsDone g mark at number dones =
     ⊎ ((mark ≡ at)
     × (dones ≡ g.dones.items ++ record { at = at; number = number; behind = length g.jobs.items } ∷ []))
 
--- this is kept of these lines: what they said, the rules, the jobs and the done lines, and whether the feed goes on
-pub record Keeps (gathering : Gathering) (ls : List (List ℕ)) : Type 0 where
+-- this is kept of these lines: what they said, the rules, each job that was offered, and the done lines
+pub record KeepsAll (gathering : Gathering) (ls : List (List ℕ)) : Type 0 where
   pub intake : feed.StandsFor gathering.intake ls
   pub lists : ListsIn gathering.declared gathering.jobs.items gathering.dones.items (account_of_lines ls)
-  pub goes_on : gathering.going ≡ is_open (account_of_lines ls)
+  pub offered : offered_in (account_of_lines ls) ≡ length gathering.jobs.items
   pub names : (fault : FeedFault) → feed.fault_of gathering.intake ≡ Some fault → IsFirstFault fault ls
 
--- this is kept of these bytes, of which the last may have ended the feed
+-- this is kept of these lines: whether more are wanted, whether they have too many jobs, and all, where they haven't
+pub record Keeps (gathering : Gathering) (ls : List (List ℕ)) : Type 0 where
+  pub goes_on : gathering.going ≡ wants_more (account_of_lines ls)
+  pub too_many : gathering.too_many ≡ has_too_many (account_of_lines ls)
+  pub all : gathering.too_many ≡ false → KeepsAll gathering ls
+
+-- this is kept of these bytes, of which the last may have ended the feed, or have been that of a job too many
 pub record HasRead (reader : FeedReader) (bytes : List ℕ) : Type 0 where
   pub cut : cutting.StandsFor reader.lines bytes
   pub keeps : Keeps reader.gathering (lines_of bytes)
   pub short : reader.gathering.going ≡ true → is_too_long (rest_of bytes) ≡ false
 
--- The reader stands for the bytes: it has read them, or a front of them that ended the feed.
+-- The reader stands for the bytes: it has read them, or a front of them behind which no more is wanted.
 pub record StandsFor (reader : FeedReader) (bytes : List ℕ) : Type 0 where
   pub read : List ℕ
   pub rest : List ℕ

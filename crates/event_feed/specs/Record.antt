@@ -1,5 +1,5 @@
 -- What is known of a feed whose reading has ended.
-use Rattle.std.specs.Prelude.{◌≡◌, ◌⊎◌, ℕ, List, true, Some, length}
+use Rattle.std.specs.Prelude.{◌≡◌, ◌⊎◌, ℕ, List, true, false, Some, length}
 use Rattle.dover_model.specs.Feed.{Account, Ended, Faulty, is_open, account}
 use Rattle.dover_model.specs.Lines.{whole_lines}
 use Rattle.dover_model.specs.Session.{Session, IsValidSession, instance_of}
@@ -7,11 +7,15 @@ use Rattle.event_feed.specs.Answers.{short_after}
 use Rattle.event_feed.specs.Faults.{IsFaultIn}
 use Rattle.event_feed.specs.Kept.{cause_of_fault}
 use Rattle.event_feed.specs.declared.faults.FeedFault.{FeedFault}
-use Rattle.event_feed.specs.Listing.{listed_instance, StandAmong}
+use Rattle.event_feed.specs.Listing.{listed_instance, StandAmong, has_too_many}
 use Rattle.event_feed.specs.declared.listed.Listed.{Listed}
+use Rattle.event_feed.specs.declared.listed.NotListed.{NotListed}
+use Rattle.event_feed.specs.declared.listed.NotListed.TheVariants.{Fault, TooMany}
 
--- the feed of this account ended without a fault, and these are the jobs of its session, and its finishes
+-- the feed of this account ended without a fault, and these are the jobs of its session, none too many, and its
+-- finishes
 pub record IsEnded (listed : Listed) (a : Account) : Type 0 where
+  pub few : has_too_many a ≡ false
   pub ended : a.standing ≡ Ended
   pub session : Session
   pub session_is : a.session ≡ Some session
@@ -25,3 +29,8 @@ abbrev pub IsRefusedBy : FeedFault → List ℕ → Type 0
 IsRefusedBy fault bytes =
     (((account bytes).standing ≡ Faulty fault.line (cause_of_fault fault.cause)) × IsFaultIn fault bytes)
     ⊎ ((is_open (account bytes) ≡ true) × (fault ≡ short_after (length (whole_lines bytes))))
+
+-- why the jobs of the feed aren't listed: it is refused, or they are too many
+abbrev pub IsNotListed : NotListed → List ℕ → Type 0
+IsNotListed (Fault fault) bytes = (has_too_many (account bytes) ≡ false) × IsRefusedBy fault bytes
+IsNotListed TooMany bytes = has_too_many (account bytes) ≡ true

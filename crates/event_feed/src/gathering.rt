@@ -1,10 +1,11 @@
 //! What is kept of a feed between its lines.
-ghost use Rattle.std.specs.Prelude.{◌≡◌, ◌<◌, ◌∷◌, ◌++◌, ℕ, List, [], length, true, OnOk, OnErr};
+ghost use Rattle.std.specs.Prelude.{◌≡◌, ◌<◌, ◌≤◌, ◌∷◌, ◌++◌, ℕ, List, [], length, true, false, OnOk, OnErr};
 ghost use Rattle.dover_model.specs.Feed.{account_of_lines};
 ghost use Rattle.event_feed.specs.Answers.{admitted_in};
 ghost use Rattle.event_feed.specs.Keeping.{Keeps, KeepsDone};
 ghost use Rattle.event_feed.specs.Kept as feed;
-ghost use Rattle.dover_model.specs.Limits.{most_ready};
+ghost use Rattle.dover_model.specs.Limits.{most_jobs};
+ghost use Rattle.dover_model.specs.declared.events.Version.TheVariants.{Two};
 
 use crate::fed::Fed;
 use crate::intake::Intake;
@@ -12,7 +13,7 @@ use crate::listed::DoneLine;
 use dover_model::{Job, Memory, Ratio, Version};
 
 /// What is kept of a feed: what its lines said, the ratio and the version once they are declared, the jobs, the done
-/// lines, and whether it goes on.
+/// lines, and whether more lines are wanted. Where there are too many jobs, none are.
 #[derive(Drop)]
 pub(crate) struct Gathering {
     pub(crate) intake: Intake,
@@ -20,6 +21,7 @@ pub(crate) struct Gathering {
     pub(crate) jobs: Vec<Job>,
     pub(crate) dones: Vec<DoneLine>,
     pub(crate) going: bool,
+    pub(crate) too_many: bool,
 }
 
 impl Gathering {
@@ -30,6 +32,7 @@ impl Gathering {
         ensures declared { self.new.declared ≡ self.old.declared }
         ensures jobs { self.new.jobs ≡ self.old.jobs }
         ensures going { self.new.going ≡ self.old.going }
+        ensures too_many { self.new.too_many ≡ self.old.too_many }
         ensures dones { (ls : List (List ℕ)) → feed.StandsFor self.old.intake ls →
             OnOk result (KeepsDone self.old (account_of_lines ls).mark at number self.new.dones.items) }
         ensures memory { OnErr result (0 < length self.old.jobs.items) }
@@ -47,17 +50,21 @@ impl Gathering {
         }
     }
 
-    /// Keeps a job.
+    /// Keeps a job, unless it is one too many.
     fn job(&mut self, job: Job) -> Result<(), Memory>
         ensures intake { self.new.intake ≡ self.old.intake }
         ensures declared { self.new.declared ≡ self.old.declared }
         ensures dones { self.new.dones ≡ self.old.dones }
-        ensures going { self.new.going ≡ self.old.going }
-        ensures jobs { OnOk result (self.new.jobs.items ≡ self.old.jobs.items ++ job ∷ []) }
-        ensures few { OnOk result (length self.old.jobs.items < most_ready) }
+        ensures few { length self.old.jobs.items < most_jobs Two → (self.new.going ≡ self.old.going)
+            × (self.new.too_many ≡ self.old.too_many)
+            × OnOk result (self.new.jobs.items ≡ self.old.jobs.items ++ job ∷ []) }
+        ensures many { most_jobs Two ≤ length self.old.jobs.items
+            → (self.new.going ≡ false) × (self.new.too_many ≡ true) }
     {
-        if self.jobs.len() >= 1_000_000 {
-            return Err(Memory);
+        if self.jobs.len() >= Version::Two.most_jobs() as usize {
+            self.going = false;
+            self.too_many = true;
+            return Ok(());
         }
         match self.jobs.push(job) {
             Ok(()) => Ok(()),
@@ -65,7 +72,7 @@ impl Gathering {
         }
     }
 
-    /// Takes a line of the feed, which goes on.
+    /// Takes a line of the feed, of which more are wanted.
     #[inline(always)]
     pub(crate) fn take_line(&mut self, line: &[u8]) -> Result<(), Memory>
         requires { (ls : List (List ℕ)) × Keeps self.old ls × (self.old.going ≡ true) }

@@ -15,5 +15,5 @@ pub use declaring::declared;
 pub use faults::{Cause, FeedFault};
 pub use fed::Fed;
 pub use intake::Intake;
-pub use listed::{DoneLine, Listed};
+pub use listed::{DoneLine, Listed, NotListed};
 pub use reader::FeedReader;

@@ -1,5 +1,7 @@
 //! The jobs of a feed, and the done lines behind them.
+use crate::faults::FeedFault;
 use dover_model::{Job, Ratio, Version};
+use thiserror::Error;
 
 /// A done line: the tick that ends at this one is said to be the last that the job of this number needed.
 #[derive(Clone, Copy)]
@@ -25,4 +27,15 @@ pub struct Listed {
     pub jobs: Vec<Job>,
     /// The done lines, in order.
     pub dones: Vec<DoneLine>,
+}
+
+/// Why the jobs of a feed aren't listed.
+#[derive(Clone, Copy, Debug, Error)]
+#[error("the jobs of the feed aren't listed")]
+pub enum NotListed {
+    /// A line is at fault, or the feed is short.
+    Fault(FeedFault),
+    /// More than 1,000,000 jobs were to be admitted. Those behind the first 1,000,000 may have found no room, which the
+    /// run alone says.
+    TooMany,
 }

@@ -1,17 +1,16 @@
 //! A feed that comes in pieces.
-ghost use Rattle.std.specs.Prelude.{◌≡◌, ◌<◌, ◌∷◌, ◌++◌, ℕ, List, [], true, length, OnOk, OnErr, IfOk, IfErr};
+ghost use Rattle.std.specs.Prelude.{◌≡◌, ◌<◌, ◌∷◌, ◌++◌, ℕ, List, [], true, false, length, OnOk, OnErr, IfOk, IfErr};
 ghost use Rattle.dover_model.specs.Feed as feeds;
-ghost use Rattle.dover_model.specs.Feed.{account, account_of_lines, is_open};
+ghost use Rattle.dover_model.specs.Feed.{account, account_of_lines};
 ghost use Rattle.event_feed.specs.Answers.{admitted_in};
 ghost use Rattle.line_text.specs.Cutting.{IsWholeLine};
 ghost use Rattle.event_feed.specs.Keeping.{HasRead, StandsFor};
-ghost use Rattle.event_feed.specs.Listing.{ListsIn};
-ghost use Rattle.event_feed.specs.Record.{IsEnded, IsRefusedBy};
+ghost use Rattle.event_feed.specs.Listing.{ListsIn, has_too_many, wants_more};
+ghost use Rattle.event_feed.specs.Record.{IsEnded, IsNotListed};
 
-use crate::faults::FeedFault;
 use crate::gathering::Gathering;
 use crate::intake::Intake;
-use crate::listed::{DoneLine, Listed};
+use crate::listed::{DoneLine, Listed, NotListed};
 use dover_model::{Job, Memory, Ratio, Version};
 use line_text::{Lines, Step};
 use std::alloc::Global;
@@ -28,7 +27,8 @@ pub struct FeedReader {
 fn listed(declared: Option<(Ratio, Version)>, jobs: Vec<Job>, dones: Vec<DoneLine>) -> Listed
     requires { (ls : List (List ℕ)) × ((account_of_lines ls).standing ≡ feeds.Ended)
         × ListsIn declared jobs.items dones.items (account_of_lines ls) }
-    ensures { (ls : List (List ℕ)) → (account_of_lines ls).standing ≡ feeds.Ended
+    ensures { (ls : List (List ℕ)) → has_too_many (account_of_lines ls) ≡ false
+        → (account_of_lines ls).standing ≡ feeds.Ended
         → ListsIn declared jobs.items dones.items (account_of_lines ls) → IsEnded result (account_of_lines ls) }
 {
     match declared {
@@ -55,12 +55,14 @@ impl FeedReader {
                 jobs: Vec::new(alloc),
                 dones: Vec::new(alloc),
                 going: true,
+                too_many: false,
             },
         }
     }
 
     /// Takes a byte of the feed.
     #[inline(never)]
+    #[tactic(auto, using(crate::proofs::Offering::wanted_short))]
     fn take_byte(&mut self, byte: u8) -> Result<(), Memory>
         requires { (x : List ℕ) × HasRead self.old x × (self.old.gathering.going ≡ true) }
         ensures reads { (x : List ℕ) → HasRead self.old x → self.old.gathering.going ≡ true →
@@ -92,17 +94,17 @@ impl FeedReader {
         self.take_byte(bytes[0])
     }
 
-    /// The feed goes on by the piece, up to a line that ends it or is faulty. Memory is taken for each admitted job and
-    /// for each done line behind one, alone.
+    /// The feed goes on by the piece, up to a line that ends it, is faulty, or is that of a job too many. Memory is taken
+    /// for each admitted job and for each done line behind one, alone.
     ///
     /// # Errors
     ///
     /// `Memory` where there is none for an admitted job or a done line; the reader isn't called again.
     pub fn take(&mut self, piece: &[u8]) -> Result<(), Memory>
-        requires { (x : List ℕ) × StandsFor self.old x × (is_open (account x) ≡ true) }
-        ensures stands { (x : List ℕ) → StandsFor self.old x → is_open (account x) ≡ true →
+        requires { (x : List ℕ) × StandsFor self.old x × (wants_more (account x) ≡ true) }
+        ensures stands { (x : List ℕ) → StandsFor self.old x → wants_more (account x) ≡ true →
             OnOk result (StandsFor self.new (x ++ piece.now)) }
-        ensures memory { (x : List ℕ) → StandsFor self.old x → is_open (account x) ≡ true →
+        ensures memory { (x : List ℕ) → StandsFor self.old x → wants_more (account x) ≡ true →
             OnErr result (0 < admitted_in (account (x ++ piece.now))) }
     {
         let mut rest = piece;
@@ -120,9 +122,9 @@ impl FeedReader {
         Ok(())
     }
 
-    /// Whether the feed goes on: no line has ended it, and none is faulty.
+    /// Whether more is wanted: no line has ended the feed, none is faulty, and no job is one too many.
     pub fn goes_on(&self) -> bool
-        ensures { (x : List ℕ) → StandsFor self.now x → result ≡ is_open (account x) }
+        ensures { (x : List ℕ) → StandsFor self.now x → result ≡ wants_more (account x) }
     {
         self.gathering.going
     }
@@ -132,12 +134,15 @@ impl FeedReader {
     /// # Errors
     ///
     /// The fault of the first faulty line, where the cause names the other job if the line breaks the ratio, or that
-    /// the feed is short.
-    pub fn close(self) -> Result<Listed, FeedFault>
+    /// the feed is short; or that it has too many jobs, wherever it ends.
+    pub fn close(self) -> Result<Listed, NotListed>
         requires { (x : List ℕ) × StandsFor self x }
         ensures jobs { (x : List ℕ) → StandsFor self x → IfOk result (λ listed. IsEnded listed (account x)) }
-        ensures fault { (x : List ℕ) → StandsFor self x → IfErr result (λ fault. IsRefusedBy fault x) }
+        ensures none { (x : List ℕ) → StandsFor self x → IfErr result (λ why. IsNotListed why x) }
     {
+        if self.gathering.too_many {
+            return Err(NotListed::TooMany);
+        }
         match self.gathering.intake.end() {
             Ok(()) => {
                 let Gathering {
@@ -148,7 +153,7 @@ impl FeedReader {
                 } = self.gathering;
                 Ok(listed(declared, jobs, dones))
             }
-            Err(fault) => Err(fault),
+            Err(fault) => Err(NotListed::Fault(fault)),
         }
     }
 }

@@ -10,5 +10,5 @@ unreachable-requires c = none_ended c.requires.0 c.requires.1 c.args.jobs.items 
     c.requires.2)
 
 pub returns : goal.returns
-returns c = λ ls ended it. ended_jobs ls ended _
+returns c = λ ls few ended it. ended_jobs ls ended _ few
     (subst (λ o. ListsIn o c.args.jobs.items c.args.dones.items (account_of_lines ls)) c.in-Some.is it)
