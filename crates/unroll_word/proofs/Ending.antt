@@ -99,7 +99,7 @@ says_feed until rules tasks ratio are fits u ts u_is ts_are = (
   fits,
   subst (λ n. IsFeedOf (unrolled until rules tasks) (feed_of (unrolled n rules ts))) (sym u_is)
       (subst (λ xs. IsFeedOf (unrolled until rules tasks) (feed_of (unrolled until rules xs))) (sym ts_are)
-      (feed_is (unrolled until rules tasks) (unrolled_valid until rules tasks ratio are fits) refl)),
+      (feed_is (unrolled until rules tasks) (unrolled_valid until rules tasks ratio are fits) refl fits.count)),
 )
 
 -- a test that holds

@@ -1,23 +1,27 @@
 -- The feed of valid jobs is read as these jobs.
-use Rattle.std.proofs.Common.{◌≡◌, ℕ, suc, ◌+◌, ◌≤◌, List, [], ◌∷◌, ◌++◌, length, map, refl, sym}
-use Rattle.std.proofs.Common.{ap, ◌∙◌, subst, append_assoc, cond}
-use Rattle.std.proofs.Common.{Some, None, arith}
+use Rattle.std.proofs.Common.{◌≡◌, ℕ, suc, ◌+◌, ◌<◌, ◌≤◌, List, [], ◌∷◌, ◌++◌, length, map, refl, sym}
+use Rattle.std.proofs.Common.{ap, ◌∙◌, subst, append_assoc, length-append, cond}
+use Rattle.std.proofs.Common.{Option, Some, None, arith}
 use Rattle.std.specs.List.{AllByRecursion, fold}
-use Rattle.std.specs.Option.{option_map}
+use Rattle.std.specs.Bool.{then_some}
+use Rattle.std.specs.Option.{option_map, option_or}
 use Rattle.std.proofs.lemmas.Bool.{le-ltb}
 use Rattle.std.proofs.lemmas.List.{append-nil, map-append}
 use Rattle.std.proofs.lemmas.List.Sums.{fold-append}
-use Rattle.dover_model.specs.Limits.{most_lines}
+use Rattle.dover_model.specs.declared.events.Refusal.{Refusal}
+use Rattle.dover_model.specs.declared.events.Refusal.TheVariants.{Full}
+use Rattle.dover_model.specs.Limits.{most_lines, most_ready}
 use Rattle.dover_model.specs.JobFacts.{JobFacts, IsJob}
 use Rattle.dover_model.specs.Instance.{Declaration, declared_by, Instance, IsInOrder, IsValid}
 use Rattle.dover_model.proofs.Meeting.{finishing_valid}
 use Rattle.dover_model.specs.Admission.{refusal_of}
-use Rattle.dover_model.specs.Session.{JobItem, admitted_jobs}
+use Rattle.dover_model.specs.Session.{JobItem, instance_of, is_full, refusal_in, Session, session_with}
 use Rattle.dover_model.specs.FeedLine.{RatioLine, JobLine, EndLine, feed_line, feed_text}
 use Rattle.dover_model.specs.Feed.{Account, Ended, Lines, NotAdmitted, late_cause, with_line, with_fault}
 use Rattle.dover_model.specs.Feed.{next_line, account_of_lines, account}
 use Rattle.dover_model.proofs.Cuts.{HasNoFeed}
 use Rattle.dover_model.proofs.FeedLines.{feed_line-feed_text}
+use Rattle.dover_model.proofs.Fullness.{few_ready}
 use Rattle.dover_model.proofs.Growing.{instance_with}
 use Rattle.dover_model.proofs.JobSessions.{jobs_back, session_of_valid}
 use Rattle.dover_model.proofs.Limiting.{items_enough, items_of_lines}
@@ -33,42 +37,54 @@ use Rattle.unroll_word.specs.Feeds.{IsFeedOf, feed_of, feed_lines, job_text}
 -- ---- line by line
 
 module _ (rules : Declaration) where
+  -- the session of these jobs
+  abbrev session : List JobFacts → Session
+  session jobs = session_with rules (map JobItem jobs)
+
   -- the account of the ratio line and of the lines of these jobs
   abbrev told : (lines : ℕ) → List JobFacts → (mark : ℕ) → Account
-  told lines jobs mark = open_account lines (Some (record { rules = rules; items = map JobItem jobs })) mark
+  told lines jobs mark = open_account lines (Some (session jobs)) mark
+
+  -- behind few jobs there is room for one more, which isn't refused then
+  admitted_behind : (done : List JobFacts) (j : JobFacts) → length done < most_ready → refusal_of rules done j ≡ None
+      → refusal_in (session done) j ≡ None
+  admitted_behind done j small none =
+      let full : Option Refusal = then_some (is_full (instance_of (session done)) j.release) Full in
+      ap (λ jobs. option_or (refusal_of rules jobs j) full) (jobs_back done)
+      ∙ ap (λ o. option_or o full) none
+      ∙ ap (λ b. then_some b Full) (few_ready (instance_of (session done)) j.release
+      (omega (arith, small, ap length (jobs_back done))))
 
   -- the line of one job more
   one_more : (lines : ℕ) (done : List JobFacts) (mark : ℕ) (j : JobFacts) → suc lines ≤ most_lines rules.version
-      → IsJob j
+      → length done < most_ready → IsJob j
       → mark ≤ j.release
       → refusal_of rules done j ≡ None
       → next_line (told lines done mark) (job_text j) ≡ told (suc lines) (done ++ j ∷ []) j.release
-  one_more lines done mark j few job later none =
+  one_more lines done mark j few small job later none =
       let c : Account = told (suc lines) done mark in
       ap (λ b. cond b (with_fault c Lines) (after_form c (feed_line (job_text j))))
       (le-ltb (most_lines rules.version) (suc lines) few)
       ∙ ap (after_form c) (feed_line-feed_text (JobLine j) (job_numerals j job))
       ∙ ap (with_line c (JobLine j))
-      (ap (λ b. cond b (Some (late_cause rules.version))
-      (option_map NotAdmitted (refusal_of rules (admitted_jobs (map JobItem done)) j)))
+      (ap (λ b. cond b (Some (late_cause rules.version)) (option_map NotAdmitted (refusal_in (session done) j)))
       (le-ltb j.release mark later)
-      ∙ ap (λ jobs. option_map NotAdmitted (refusal_of rules jobs j)) (jobs_back done)
-      ∙ ap (option_map NotAdmitted) none)
-      ∙ ap (λ items. open_account (suc lines) (Some (record { rules = rules; items = items })) j.release)
+      ∙ ap (option_map NotAdmitted) (admitted_behind done j small none))
+      ∙ ap (λ items. open_account (suc lines) (Some (session_with rules items)) j.release)
       (sym (map-append JobItem done (j ∷ [])))
 
   -- the lines of all jobs
   all_more : (jobs done : List JobFacts) (lines mark : ℕ) → IsValid (instance_with rules (done ++ jobs))
-      → lines + length jobs ≤ most_lines rules.version
+      → lines + length jobs ≤ most_lines rules.version → length done + length jobs ≤ most_ready
       → AllByRecursion IsJob jobs → IsInOrder jobs → AllByRecursion (λ j. mark ≤ j.release) jobs
       → (last : ℕ) × (fold next_line (told lines done mark) (map job_text jobs) ≡ told (lines + length jobs)
       (done ++ jobs) last)
-  all_more [] done lines mark valid few each order later = (
+  all_more [] done lines mark valid few small each order later = (
     mark,
     ap (λ n. told n done mark) (let e : lines ≡ lines + 0 = omega arith in e)
         ∙ ap (λ js. told (lines + 0) js mark) (sym (append-nil done)),
   )
-  all_more (j ∷ jobs) done lines mark valid few each order later =
+  all_more (j ∷ jobs) done lines mark valid few small each order later =
       let next : List JobFacts = done ++ j ∷ [] in
       let both : next ++ jobs ≡ done ++ j ∷ jobs = append_assoc done (j ∷ []) jobs in
       let valid_next : IsValid (instance_with rules (next ++ jobs)) =
@@ -76,8 +92,9 @@ module _ (rules : Declaration) where
       let admitted : refusal_of rules done j ≡ None =
       valid_admitted (instance_with rules done) j (valid_front (instance_with rules next) jobs valid_next) in
       let one : next_line (told lines done mark) (job_text j) ≡ told (suc lines) next j.release =
-      one_more lines done mark j (omega (arith, few)) each.0 later.0 admitted in
-      let rest = all_more jobs next (suc lines) j.release valid_next (omega (arith, few)) each.1 order.1 order.0 in (
+      one_more lines done mark j (omega (arith, few)) (omega (arith, small)) each.0 later.0 admitted in
+      let rest = all_more jobs next (suc lines) j.release valid_next (omega (arith, few))
+      (omega (arith, small, length-append done (j ∷ []))) each.1 order.1 order.0 in (
         rest.0,
         ap (λ a. fold next_line a (map job_text jobs)) one ∙ rest.1
             ∙ ap (λ n. told n (next ++ jobs) rest.0)
@@ -106,7 +123,7 @@ from_zero : (jobs : List JobFacts) → AllByRecursion (λ j. 0 ≤ j.release) jo
 from_zero [] = tt
 from_zero (j ∷ jobs) = (omega arith, from_zero jobs)
 
-module _ (J : Instance) (valid : IsValid J) (plain : J.rules.finishes ≡ []) where
+module _ (J : Instance) (valid : IsValid J) (plain : J.rules.finishes ≡ []) (small : length J.jobs ≤ most_ready) where
   -- what is declared
   abbrev declared : Declaration
   declared = declared_by J.rules
@@ -125,7 +142,7 @@ module _ (J : Instance) (valid : IsValid J) (plain : J.rules.finishes ≡ []) wh
   jobs_told : (last : ℕ) × (fold next_line (told declared 1 [] 0) (map job_text J.jobs) ≡ told declared
       (1 + length J.jobs) J.jobs last)
   jobs_told = all_more declared J.jobs [] 1 0 (finishing_valid J [] valid)
-      (omega (arith, few)) valid.each valid.in_order (from_zero J.jobs)
+      (omega (arith, few)) (omega (arith, small)) valid.each valid.in_order (from_zero J.jobs)
 
   -- the account of the whole feed
   told_all : account (feed_of J) ≡ record (told declared (suc (1 + length J.jobs)) J.jobs jobs_told.0)
@@ -143,5 +160,5 @@ module _ (J : Instance) (valid : IsValid J) (plain : J.rules.finishes ≡ []) wh
     text_is = refl;
     ended = ap (λ (a : Account). a.standing) told_all;
     session = ap (λ (a : Account). a.session) told_all;
-    valid_session = session_of_valid J plain valid;
+    valid_session = session_of_valid J plain valid small;
   }

@@ -3,7 +3,7 @@ ghost use Rattle.std.specs.Prelude.{◌≡◌, ◌≤◌, ◌<◌, ◌^◌, ◌+
 ghost use Rattle.std.specs.List.{AllByRecursion};
 ghost use Rattle.dover_model.specs.Instance.{Instance, IsValid};
 ghost use Rattle.dover_model.specs.declared.events.Version.TheVariants.{Two};
-ghost use Rattle.dover_model.specs.Limits.{most_jobs};
+ghost use Rattle.dover_model.specs.Limits.{most_jobs, most_ready};
 ghost use Rattle.dover_model.specs.Lines.{in_lines};
 ghost use Rattle.dover_model.specs.Feed.{rules_with};
 ghost use Rattle.dover_port.specs.Causes.{HasCause, StopsAtFailure};
@@ -123,7 +123,9 @@ pub(crate) fn put_feed<P: Port, L: Ledger>(
     put_numbers(port, out, b"end", &[])
 }
 
-/// The feed of valid jobs, of which none finishes early, ends without a fault, and says these jobs and no others.
+/// The feed of valid jobs, of which none finishes early, and which are no more than may be ready at once, ends without
+/// a fault, and says these jobs and no others.
 pub fn feeds_of_jobs_are_read()
-    ensures { (J : Instance) → IsValid J → J.rules.finishes ≡ [] → IsFeedOf J (feed_of J) }
+    ensures { (J : Instance) → IsValid J → J.rules.finishes ≡ [] → length J.jobs ≤ most_ready
+        → IsFeedOf J (feed_of J) }
 {}
