@@ -51,24 +51,6 @@ rise_split next end (n ∷ more) rise = by_test (eqb next n) refl where
   by_test false other = let from : next ≤ n = rise.0 in let apart : suc next ≤ n = grind arith in
       inr (apart, rise.1, rise.2)
 
--- a member is in front or behind
-pub member_split : (xs ys : List ℕ) (n : ℕ) → IsMember n (xs ++ ys) → IsMember n xs ⊎ IsMember n ys
-member_split [] ys n member = inr member
-member_split (x ∷ xs) ys n (inl e) = inl (inl e)
-member_split (x ∷ xs) ys n (inr member) = deeper (member_split xs ys n member) where
-  deeper : IsMember n xs ⊎ IsMember n ys → IsMember n (x ∷ xs) ⊎ IsMember n ys
-  deeper (inl front) = inl (inr front)
-  deeper (inr behind) = inr behind
-
-pub in_front : (xs ys : List ℕ) (n : ℕ) → IsMember n xs → IsMember n (xs ++ ys)
-in_front [] ys n member = absurd member
-in_front (x ∷ xs) ys n (inl e) = inl e
-in_front (x ∷ xs) ys n (inr member) = inr (in_front xs ys n member)
-
-pub behind : (xs ys : List ℕ) (n : ℕ) → IsMember n ys → IsMember n (xs ++ ys)
-behind [] ys n member = member
-behind (x ∷ xs) ys n member = inr (behind xs ys n member)
-
 -- the place of a number
 abbrev pub place : List ℕ → ℕ → ℕ
 place [] n = 0

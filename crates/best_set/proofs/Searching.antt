@@ -13,12 +13,12 @@ use Rattle.dover_model.specs.Sound.{IsMember, Each}
 use Rattle.dover_model.specs.declared.events.Version.TheVariants.{One}
 use Rattle.dover_model.specs.Pieces.{edf, spread}
 use Rattle.feasibility.specs.Feasibility.{ServesAll, CannotMeet, CanMeet}
+use Rattle.dover_model.proofs.Members.{member_front, member_behind, member_either}
 use Rattle.best_set.specs.declared.choice.Choice.{Choice}
 use Rattle.best_set.specs.BestSet.{RiseWithin, Serves, IsGood, IsEarlier, IsBestSet, value_at, value_of, jobs_at}
 use Rattle.best_set.specs.BestSet.{renumbered}
 use Rattle.best_set.specs.Search.{IsChoice, Extends, NoneFound, IsFound, IsSearched}
-use Rattle.best_set.proofs.Rising.{rise_wider, rise_each, rise_append, rise_length, rise_split, member_split}
-use Rattle.best_set.proofs.Rising.{in_front, behind, place, place_at}
+use Rattle.best_set.proofs.Rising.{rise_wider, rise_each, rise_append, rise_length, rise_split, place, place_at}
 use Rattle.best_set.proofs.Values.{get_is, value_is, most_more, value_append, served_good, worth_served, value_worth}
 use Rattle.best_set.proofs.Lifting.{jobs_cons, jobs_append, lift, lower, number_at, spread_is}
 
@@ -81,7 +81,7 @@ pub part_good : (all : List JobFacts) (taken more : List ℕ) → RiseWithin 0 (
 part_good all taken more rise good = record {
   numbers = rise;
   schedule = good.schedule;
-  served = λ n member. good.served n (in_front taken more n member);
+  served = λ n member. good.served n (member_front taken more n member);
 }
 
 -- ---- one job more
@@ -179,19 +179,21 @@ module _ (all : List JobFacts) (taken : List ℕ) (next : ℕ) (rise : RiseWithi
   pub with_first : (found other : List ℕ) → With found → Without other → IsEarlier other found → ⊥
   with_first found other has_next lacks_next earlier = by_number (nat_lt_or earlier.number next) where
     in_with : (n : ℕ) → IsMember n (taken ++ (next ∷ [])) → IsMember n found
-    in_with n member = subst (IsMember n) (sym has_next.are) (in_front (taken ++ (next ∷ [])) has_next.more n member)
+    in_with n member = subst (IsMember n) (sym has_next.are)
+        (member_front (taken ++ (next ∷ [])) has_next.more n member)
 
     next_in : IsMember next found
-    next_in = in_with next (behind taken (next ∷ []) next (inl refl))
+    next_in = in_with next (member_behind taken (next ∷ []) next (inl refl))
 
     -- a member of the other set up to the next number is one of those taken
     early : (n : ℕ) → n ≤ next → IsMember n other → IsMember n taken
-    early n low member = by_part (member_split taken lacks_next.more n (subst (IsMember n) lacks_next.are member)) where
-      by_part : IsMember n taken ⊎ IsMember n lacks_next.more → IsMember n taken
-      by_part (inl front) = front
-      by_part (inr later) = absurd (
-          let above : next + 1 ≤ n = (rise_each (next + 1) (length all) lacks_next.more lacks_next.rise n later).0 in
-          omega arith)
+    early n low member =
+        by_part (member_either taken lacks_next.more n (subst (IsMember n) lacks_next.are member)) where
+          by_part : IsMember n taken ⊎ IsMember n lacks_next.more → IsMember n taken
+          by_part (inl front) = front
+          by_part (inr later) = absurd (
+              let above : next + 1 ≤ n = (rise_each (next + 1) (length all) lacks_next.more lacks_next.rise n later).0 in
+              omega arith)
 
     nat_lt_or : (m n : ℕ) → (m ≤ n) ⊎ (n < m)
     nat_lt_or m n = by_bool (leb m n) refl where
@@ -201,7 +203,7 @@ module _ (all : List JobFacts) (taken : List ℕ) (next : ℕ) (rise : RiseWithi
 
     by_number : (earlier.number ≤ next) ⊎ (next < earlier.number) → ⊥
     by_number (inl low) = earlier.lacking
-        (in_with earlier.number (in_front taken (next ∷ []) earlier.number (early earlier.number low earlier.held)))
+        (in_with earlier.number (member_front taken (next ∷ []) earlier.number (early earlier.number low earlier.held)))
     by_number (inr high) =
         let again : IsMember next taken = early next (omega arith) ((earlier.same_below next high).1 next_in) in
         let below : next < next = (rise_each 0 next taken rise next again).1 in omega arith

@@ -13,14 +13,14 @@ use Rattle.dover_model.specs.declared.events.Task.{Task}
 use Rattle.dover_model.specs.State.{is_done, value_sum}
 use Rattle.dover_model.specs.Step.{with_role, displaced}
 use Rattle.dover_model.specs.Sound.{IsMember, Each, IsNumberedFrom}
-use Rattle.dover_model.proofs.Members.{sum_filter, sum_zero, sum_le, term_le_sum, map_map, map_same}
+use Rattle.dover_model.proofs.Members.{sum_filter, sum_zero, sum_le, term_le_sum, map_map, map_same, each_append}
 use Rattle.dover_model.proofs.Roles.{passes, numbers_above}
 use Rattle.dover_model.proofs.Tests.{never}
 use Rattle.dover_model.specs.Ready.{is_ready}
 use Rattle.ready_jobs.specs.Reordered.{IsReordered}
 use Rattle.ready_jobs.specs.Parts.{Parted, HaveRole, HaveRoles, HaveOwnNumbers, ready_of}
 use Rattle.ready_jobs.specs.Changed.{named, AreOnce, made_wait, Leaves}
-use Rattle.ready_jobs.proofs.Reordering.{same_order, both_parts, turned, further, filtered, mapped, each_both}
+use Rattle.ready_jobs.proofs.Reordering.{same_order, both_parts, turned, further, filtered, mapped}
 use Rattle.ready_jobs.proofs.Pooling.{between}
 use Rattle.ready_jobs.proofs.Seeing.{filter_each, filter_none}
 
@@ -132,11 +132,11 @@ ready_role role tasks have test t m = passes is_ready t role true (have t m) (te
 -- all parts are ready
 pub all_ready : (q : Parted) → HaveRoles q → AreReady (ready_of q)
 all_ready q roles =
-    each_both (λ t. is_ready t ≡ true) (option_to_list q.running) (option_to_list q.fresh ++ (q.held ++ q.waiting))
+    each_append (λ t. is_ready t ≡ true) (option_to_list q.running) (option_to_list q.fresh ++ (q.held ++ q.waiting))
     (ready_role Running (option_to_list q.running) roles.running (λ t. refl))
-    (each_both (λ t. is_ready t ≡ true) (option_to_list q.fresh) (q.held ++ q.waiting)
+    (each_append (λ t. is_ready t ≡ true) (option_to_list q.fresh) (q.held ++ q.waiting)
     (ready_role Fresh (option_to_list q.fresh) roles.fresh (λ t. refl))
-    (each_both (λ t. is_ready t ≡ true) q.held q.waiting (ready_role Held q.held roles.held (λ t. refl))
+    (each_append (λ t. is_ready t ≡ true) q.held q.waiting (ready_role Held q.held roles.held (λ t. refl))
     (ready_role Waiting q.waiting roles.waiting (λ t. refl))))
 
 -- of a list whose change has other jobs
@@ -443,7 +443,7 @@ module _ (q : Parted) (roles : HaveRoles q) (once : AreOnce (ready_of q)) where
         (turned (x' ∷ (B ++ rest)) (B ++ x' ∷ rest) (between x' B rest))
 
     d_ready : AreReady D
-    d_ready = each_both (λ t. is_ready t ≡ true) (map made_wait (r ∷ q.held)) q.waiting (waits_ready (r ∷ q.held))
+    d_ready = each_append (λ t. is_ready t ≡ true) (map made_wait (r ∷ q.held)) q.waiting (waits_ready (r ∷ q.held))
         (ready_role Waiting q.waiting roles.waiting (λ t. refl)) where
           waits_ready : (ts : List Task) → AreReady (map made_wait ts)
           waits_ready [] t m = absurd m
@@ -452,5 +452,5 @@ module _ (q : Parted) (roles : HaveRoles q) (once : AreOnce (ready_of q)) where
 
     all : AreReady (x' ∷ (B ++ rest))
     all t (inl e) = ap is_ready e
-    all t (inr m) = each_both (λ u. is_ready u ≡ true) B rest (ready_role Fresh B roles.fresh (λ u. refl))
+    all t (inr m) = each_append (λ u. is_ready u ≡ true) B rest (ready_role Fresh B roles.fresh (λ u. refl))
         (λ u k. d_ready u (same.back u (inr k))) t m

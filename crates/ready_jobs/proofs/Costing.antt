@@ -18,7 +18,7 @@ use Rattle.dover_model.specs.Sound.{IsMember, Each}
 use Rattle.dover_model.specs.State.{State, is_waiting, is_over}
 use Rattle.dover_model.specs.Step.{Move, Prints, Waits, Ticks, open_step, with_role, displaced}
 use Rattle.dover_model.specs.WaitingMoves.{waits_then, enters, leaves}
-use Rattle.dover_model.proofs.Members.{term_le_sum, sum_filter, sum_same}
+use Rattle.dover_model.proofs.Members.{term_le_sum, sum_filter, sum_same, member_behind}
 use Rattle.dover_model.proofs.Roles.{passes, is_over_role}
 use Rattle.dover_model.specs.Spending.{cost_of}
 use Rattle.dover_model.proofs.Spending.{one_leaves, run_leaves, abandon_leaves, take_leaves}
@@ -27,7 +27,6 @@ use Rattle.dover_model.proofs.ReadyParts.{change, over_stays}
 use Rattle.ready_jobs.specs.Following.{PartOf}
 use Rattle.ready_jobs.specs.Changed.{named, AreOnce}
 use Rattle.ready_jobs.specs.Parts.{Parted, HaveRoles, ready_of, state_of}
-use Rattle.ready_jobs.proofs.Reordering.{in_right}
 
 -- all of them count
 count_each : (p : Task → Bool) (ts : List Task) → Each (λ t. p t ≡ true) ts → length ts ≤ count_by p ts
@@ -124,8 +123,8 @@ module _ (p : Parted) (roles : HaveRoles p) (d before after at : ℕ) where
   B = option_to_list p.fresh
 
   in_waiting : (t : Task) → IsMember t p.waiting → IsMember t (ready_of p)
-  in_waiting t m = in_right A (B ++ (p.held ++ p.waiting)) t (in_right B (p.held ++ p.waiting) t
-      (in_right p.held p.waiting t m))
+  in_waiting t m = member_behind A (B ++ (p.held ++ p.waiting)) t (member_behind B (p.held ++ p.waiting) t
+      (member_behind p.held p.waiting t m))
 
   pub run_costs : (n : ℕ) (o : Task) → IsMember o p.waiting → o.number ≡ n → after ≤ before + 6 * d
       → after ≤ before + cost_of d (state_of p) (Prints (Run at n))
@@ -161,7 +160,7 @@ module _ (p : Parted) (roles : HaveRoles p) (d before after at : ℕ) where
     runs_begin = one_begins Running r
         (roles.running r (subst (λ o. IsMember r (option_to_list o)) (sym runs) (inl refl))) refl refl
         (apart (r ∷ []) (B ++ (p.held ++ p.waiting)) once_runs r x (inl refl)
-        (in_right B (p.held ++ p.waiting) x (in_right p.held p.waiting x waits)))
+        (member_behind B (p.held ++ p.waiting) x (member_behind p.held p.waiting x waits)))
 
     held_begin : Each (λ t. begins t ≡ true) p.held
     held_begin t m = one_begins Held t (roles.held t m) refl refl

@@ -24,7 +24,7 @@ use Rattle.dover_model.specs.Settled.{waits_for_mark, AreOverFor, finish_now}
 use Rattle.dover_model.specs.Sound.{IsMember, Each, Keeps}
 use Rattle.dover_model.specs.WholeRun.{IsBarrier}
 use Rattle.dover_model.proofs.Members.{sum_filter, sum_le, sum_map, member_filter, term_le_sum, member_either, on_map}
-use Rattle.dover_model.proofs.Members.{found}
+use Rattle.dover_model.proofs.Members.{found, member_front, member_behind}
 use Rattle.dover_model.proofs.Members.{filter_member, some_same}
 use Rattle.dover_model.proofs.Roles.{passes, is_running_role}
 use Rattle.dover_model.proofs.Readiness.{runner}
@@ -53,7 +53,7 @@ use Rattle.ready_jobs.specs.Course.{Course, Follows, IsCourse, new_course, cours
 use Rattle.ready_jobs.specs.Course.{Settled, ComesNext, Takes, IsDue, Finishes, RunsNowhere}
 use Rattle.ready_jobs.specs.Deeds.{Does}
 use Rattle.ready_jobs.specs.declared.deeds.Deed.{Deed}
-use Rattle.ready_jobs.proofs.Reordering.{same_order, further, exchanged, as_many, in_left, in_right}
+use Rattle.ready_jobs.proofs.Reordering.{same_order, further, exchanged, as_many}
 use Rattle.ready_jobs.proofs.Pooling.{between}
 use Rattle.ready_jobs.specs.Changed.{Leaves, AreOnce, named}
 use Rattle.ready_jobs.proofs.Changes.{once_numbered, once_some, once_still, map_each, completes}
@@ -524,7 +524,7 @@ module _ (k : Fraction) (p : Parted) (jobs done : ℕ) (roles : HaveRoles p) (r 
   -- the job is among all
   runs_there : IsMember r z.tasks
   runs_there = there p (finishing J []) z (follows_part k p jobs done J z follows) r
-      (in_left (option_to_list p.running) (option_to_list p.fresh ++ (p.held ++ p.waiting)) r here) where
+      (member_front (option_to_list p.running) (option_to_list p.fresh ++ (p.held ++ p.waiting)) r here) where
         here : IsMember r (option_to_list p.running)
         here = subst (λ o. IsMember r (option_to_list o)) (sym runs) (inl refl)
 
@@ -688,8 +688,8 @@ module _ (c : Course) (j : JobFacts) (more : IsCourse (with_release c j c.room))
       let there : (t : Task) → IsMember t (c.ready ++ fresh_job c j ∷ []) → IsMember t more.1.tasks = λ t k.
       (member_filter is_ready more.1.tasks t (follows.ready.back t k)).0 in
       let same : f.number ≡ n = follows.keeps.sound.one_fresh f (fresh_job c j)
-      (there f (in_left c.ready (fresh_job c j ∷ []) f m))
-      (there (fresh_job c j) (in_right c.ready (fresh_job c j ∷ []) (fresh_job c j) (inl refl))) fresh refl in
+      (there f (member_front c.ready (fresh_job c j ∷ []) f m))
+      (there (fresh_job c j) (member_behind c.ready (fresh_job c j ∷ []) (fresh_job c j) (inl refl))) fresh refl in
       let once : sum_by (named n) (c.ready ++ fresh_job c j ∷ []) ≤ 1 =
       follows_once (with_release c j c.room) more.0 more.1 follows n in
       let mine : named n f ≤ sum_by (named n) c.ready = term_le_sum (named n) c.ready f m in
@@ -714,8 +714,8 @@ module _ (k : Fraction) (p : Parted) (jobs done : ℕ) (j : JobFacts) (roles : H
     by_fresh (Some f) is = let here : IsMember f (option_to_list p.fresh) =
         subst (λ o. IsMember f (option_to_list o)) (sym is) (inl refl) in
         absurd (release_stale (course_of k p jobs done) j more f
-        (in_right (option_to_list p.running) (option_to_list p.fresh ++ (p.held ++ p.waiting)) f
-        (in_left (option_to_list p.fresh) (p.held ++ p.waiting) f here)) (roles.fresh f here))
+        (member_behind (option_to_list p.running) (option_to_list p.fresh ++ (p.held ++ p.waiting)) f
+        (member_front (option_to_list p.fresh) (p.held ++ p.waiting) f here)) (roles.fresh f here))
 
   module _ (q : Parted) (is : q ≡ record p {
     clock = j.release;

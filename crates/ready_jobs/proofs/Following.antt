@@ -30,6 +30,7 @@ use Rattle.dover_model.proofs.Ticking.{Quiet}
 use Rattle.dover_model.proofs.Kept.{open_deed, open_kept, deed_kept, each_job}
 use Rattle.dover_model.proofs.Moves.{early_waits, says}
 use Rattle.dover_model.proofs.Members.{member_filter, filter_member, on_map, sum_filter, sum_le, sum_map}
+use Rattle.dover_model.proofs.Members.{member_front, member_behind}
 use Rattle.dover_model.proofs.Roles.{passes, is_running_role, is_fresh_role}
 use Rattle.dover_model.proofs.Tests.{never, none_is_some}
 use Rattle.ready_jobs.specs.Dues.{still_ticks}
@@ -43,7 +44,7 @@ use Rattle.ready_jobs.specs.Reordered.{IsReordered}
 use Rattle.ready_jobs.specs.Parts.{Parted, HaveRole, HaveRoles, AreSound, ready_of, state_of}
 use Rattle.ready_jobs.specs.Following.{PartOf, SettlesTo}
 use Rattle.ready_jobs.specs.Changed.{AreOnce, Leaves}
-use Rattle.ready_jobs.proofs.Reordering.{filtered, mapped, further, in_left, in_right}
+use Rattle.ready_jobs.proofs.Reordering.{filtered, mapped, further}
 use Rattle.ready_jobs.proofs.Views.{AreApart, step_still}
 use Rattle.ready_jobs.proofs.Naming.{waits_says}
 use Rattle.ready_jobs.proofs.Seeing.{seen_fresh, fresh_list, waiting_list, privileged_list}
@@ -164,25 +165,14 @@ module _ (p : Parted) (J : Instance) (z : State) (part : PartOf p J z) where
       own = once_own p.waiting (subst AreOnce (waiting_list p roles) (once_some is_waiting (ready_of p) ready_once));
       modest = λ t m. (part_job t (waits_there t m)).modest;
       total = subst (λ l. value_sum l < 10 ^ 18) (privileged_list p roles) (part_total is_privileged);
-      first = λ r mr h mh. part.keeps.sound.running_first r h (there r (busy_there r (left_one r mr)))
-          (there h (busy_there h (right_one h mh)))
+      first = λ r mr h mh. part.keeps.sound.running_first r h (there r (busy_there r
+          (member_front (option_to_list p.running) p.held r mr)))
+          (there h (busy_there h (member_behind (option_to_list p.running) p.held h mh)))
           (roles.running r mr) (roles.held h mh);
       early = λ t m.
           let fits = says z part.keeps.sound t (there t (waits_there t m)) Waiting (roles.waiting t m) in
           omega (arith, fits.2, part.clock);
-    } where
-      left_one : (t : Task) → IsMember t (option_to_list p.running) → IsMember t (option_to_list p.running ++ p.held)
-      left_one t m = in_left_list (option_to_list p.running) p.held t m where
-        in_left_list : (xs ys : List Task) (x : Task) → IsMember x xs → IsMember x (xs ++ ys)
-        in_left_list [] ys x k = absurd k
-        in_left_list (y ∷ xs) ys x (inl e) = inl e
-        in_left_list (y ∷ xs) ys x (inr k) = inr (in_left_list xs ys x k)
-
-      right_one : (t : Task) → IsMember t p.held → IsMember t (option_to_list p.running ++ p.held)
-      right_one t m = in_right_list (option_to_list p.running) p.held t m where
-        in_right_list : (xs ys : List Task) (x : Task) → IsMember x ys → IsMember x (xs ++ ys)
-        in_right_list [] ys x k = k
-        in_right_list (y ∷ xs) ys x k = inr (in_right_list xs ys x k)
+    }
 
   -- ---- a step that isn't a tick
 
@@ -404,8 +394,9 @@ module _ (p : Parted) (roles : HaveRoles p) (J : Instance) (z : State) (part : P
 
     pub ticks_stale : p.fresh ≡ None
     ticks_stale = none_fresh p.fresh refl (λ t m. quiet.stale t
-        (there p J z part t (in_right (option_to_list p.running) (option_to_list p.fresh ++ (p.held ++ p.waiting)) t
-        (in_left (option_to_list p.fresh) (p.held ++ p.waiting) t m))) (roles.fresh t m))
+        (there p J z part t
+        (member_behind (option_to_list p.running) (option_to_list p.fresh ++ (p.held ++ p.waiting)) t
+        (member_front (option_to_list p.fresh) (p.held ++ p.waiting) t m))) (roles.fresh t m))
 
     pub ticks_early : Each (λ t. p.clock < latest_start t) p.waiting
     ticks_early t m =
@@ -418,10 +409,10 @@ module _ (p : Parted) (roles : HaveRoles p) (J : Instance) (z : State) (part : P
       → Each (λ t. t.had + n < 18_446_744_073_709_551_616) (option_to_list p.running)
   had_fits n fits t m =
       let here : IsMember t z.tasks =
-      there p J z part t (in_left (option_to_list p.running)
+      there p J z part t (member_front (option_to_list p.running)
       (option_to_list p.fresh ++ (p.held ++ p.waiting)) t m) in
       let job : IsJob t.job = part_job p J z part t
-      (in_left (option_to_list p.running) (option_to_list p.fresh ++ (p.held ++ p.waiting)) t m) in
+      (member_front (option_to_list p.running) (option_to_list p.fresh ++ (p.held ++ p.waiting)) t m) in
       let window : t.job.release + t.job.work ≤ t.job.deadline = job.window in
       let due : t.job.deadline ≤ 1_000_000_000_000 = job.due in
       let had : t.had ≤ t.job.work = part.keeps.sound.at_most_work t here in

@@ -12,14 +12,14 @@ use Rattle.dover_model.specs.Entries.{entry_of}
 use Rattle.dover_model.specs.Jumps.{ticked_by}
 use Rattle.dover_model.specs.Step.{with_role}
 use Rattle.dover_model.specs.Sound.{IsMember, Each}
-use Rattle.dover_model.proofs.Members.{on_map}
+use Rattle.dover_model.proofs.Members.{on_map, member_front, member_behind, each_append}
 use Rattle.held_queue.specs.Kept.{Lasting, AreRoomsOf}
 use Rattle.ready_jobs.specs.Pools.{Pooled}
 use Rattle.ready_jobs.specs.Parts.{Parted, AreParts, HaveRole, ready_of}
 use Rattle.ready_jobs.specs.Changed.{made_wait}
 use Rattle.ready_jobs.specs.Reordered.{IsReordered}
 use Rattle.ready_jobs.specs.Short.{no_number}
-use Rattle.ready_jobs.proofs.Reordering.{in_left, in_right, each_both, as_many}
+use Rattle.ready_jobs.proofs.Reordering.{as_many}
 
 -- each of at most one
 each_option : (P : Task → Type 0) (o : Option Task) → ((t : Task) → o ≡ Some t → P t) → Each P (option_to_list o)
@@ -38,23 +38,24 @@ module _ (p : Parted) (rooms : Lasting) (pool : Pooled) (capacity : ℕ) (kept :
   B = option_to_list p.fresh
 
   small_running : Each small A
-  small_running t m = kept.small t (in_left A (B ++ (p.held ++ p.waiting)) t m)
+  small_running t m = kept.small t (member_front A (B ++ (p.held ++ p.waiting)) t m)
 
   small_fresh : Each small B
-  small_fresh t m = kept.small t (in_right A (B ++ (p.held ++ p.waiting)) t (in_left B (p.held ++ p.waiting) t m))
+  small_fresh t m = kept.small t
+      (member_behind A (B ++ (p.held ++ p.waiting)) t (member_front B (p.held ++ p.waiting) t m))
 
   pub small_held : Each small p.held
-  small_held t m = kept.small t
-      (in_right A (B ++ (p.held ++ p.waiting)) t (in_right B (p.held ++ p.waiting) t (in_left p.held p.waiting t m)))
+  small_held t m = kept.small t (member_behind A (B ++ (p.held ++ p.waiting)) t
+      (member_behind B (p.held ++ p.waiting) t (member_front p.held p.waiting t m)))
 
   small_waiting : Each small p.waiting
-  small_waiting t m = kept.small t
-      (in_right A (B ++ (p.held ++ p.waiting)) t (in_right B (p.held ++ p.waiting) t (in_right p.held p.waiting t m)))
+  small_waiting t m = kept.small t (member_behind A (B ++ (p.held ++ p.waiting)) t
+      (member_behind B (p.held ++ p.waiting) t (member_behind p.held p.waiting t m)))
 
   small_parts : (a b c d : List Task) → Each small a → Each small b → Each small c → Each small d
       → Each small (a ++ (b ++ (c ++ d)))
   small_parts a b c d ia ib ic id =
-      each_both small a (b ++ (c ++ d)) ia (each_both small b (c ++ d) ib (each_both small c d ic id))
+      each_append small a (b ++ (c ++ d)) ia (each_append small b (c ++ d) ib (each_append small c d ic id))
 
   -- how many there are
   four_length : (a b c d : List Task) → length (a ++ (b ++ (c ++ d))) ≡ length a + (length b + (length c + length d))
@@ -458,14 +459,14 @@ module _ (p : Parted) (rooms : Lasting) (pool : Pooled) (capacity : ℕ) (kept :
   module _ (r x : Task) (runs : p.running ≡ Some r) (pool' : Pooled)
       (out : IsReordered (map made_wait (r ∷ p.held) ++ p.waiting) (x ∷ pool'.tasks)) where
     all_small : Each small (x ∷ pool'.tasks)
-    all_small t m = each_both small (map made_wait (r ∷ p.held)) p.waiting
+    all_small t m = each_append small (map made_wait (r ∷ p.held)) p.waiting
         (on_map made_wait small (r ∷ p.held) both) small_waiting t (out.back t m) where
           both : Each (λ u. u.number < no_number) (r ∷ p.held)
           both u (inl e) = subst small (sym e) (running_small r runs)
           both u (inr k) = small_held u k
 
     all_waits : HaveRole Waiting pool'.tasks
-    all_waits t m = each_both (λ u. u.role ≡ Waiting) (map made_wait (r ∷ p.held)) p.waiting
+    all_waits t m = each_append (λ u. u.role ≡ Waiting) (map made_wait (r ∷ p.held)) p.waiting
         (on_map made_wait (λ u. u.role ≡ Waiting) (r ∷ p.held) (λ u k. refl)) kept.roles.waiting t (out.back t (inr m))
 
     pub taken_kept : (left : Lasting) (room : ℕ)

@@ -13,6 +13,7 @@ use Rattle.dover_model.specs.Instance.{Rules, under, bare, Instance, IsValid, fi
 use Rattle.dover_model.specs.State.{State, is_coming, is_done, is_over, value_sum, state_at}
 use Rattle.dover_model.specs.Step.{open_step}
 use Rattle.dover_model.specs.Sound.{IsMember, Each, Keeps}
+use Rattle.dover_model.proofs.Members.{each_append}
 use Rattle.dover_model.proofs.Honest.{count_jobs}
 use Rattle.dover_model.proofs.Meeting.{finishing_valid}
 use Rattle.dover_model.proofs.Further.{over_open}
@@ -20,7 +21,7 @@ use Rattle.dover_model.specs.Ready.{is_ready, with_fresh}
 use Rattle.ready_jobs.specs.Reordered.{IsReordered}
 use Rattle.ready_jobs.specs.Parts.{Parted}
 use Rattle.ready_jobs.specs.Course.{Course, Follows, fresh_job, with_release}
-use Rattle.ready_jobs.proofs.Reordering.{same_order, both_parts, each_both}
+use Rattle.ready_jobs.proofs.Reordering.{same_order, both_parts}
 use Rattle.ready_jobs.proofs.Following.{part_step}
 use Rattle.ready_jobs.proofs.Courses.{follows_count}
 
@@ -69,7 +70,7 @@ module _ (c : Course) (J : Instance) (z : State) (follows : Follows c J z) where
           );
       over = λ f m.
           let of_before : f.number < c.jobs = own_before f m in
-          each_both (λ t. t.number ≡ f.number → is_over t ≡ true) z.tasks (fresh_job c j ∷ [])
+          each_append (λ t. t.number ≡ f.number → is_over t ≡ true) z.tasks (fresh_job c j ∷ [])
           (follows.over f (subst (λ (r : Rules). IsMember f r.finishes) rules m)) (not_fresh f of_before);
       clock = refl;
       ready = subst (λ ts. IsReordered ts (c.ready ++ fresh_job c j ∷ []))
@@ -80,7 +81,7 @@ module _ (c : Course) (J : Instance) (z : State) (follows : Follows c J z) where
       done = ap value_sum (filter-append is_done z.tasks (fresh_job c j ∷ []) ∙ append-nil (filter is_done z.tasks))
           ∙ follows.done;
       known = known;
-      released = each_both (λ t. is_coming t ≡ false) z.tasks (fresh_job c j ∷ []) follows.released one_fresh;
+      released = each_append (λ t. is_coming t ≡ false) z.tasks (fresh_job c j ∷ []) follows.released one_fresh;
     } where
       -- each finish is of a job that was there before
       own_before : (f : Finish) → IsMember f K.rules.finishes → f.number < c.jobs

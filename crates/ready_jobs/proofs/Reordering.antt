@@ -9,31 +9,14 @@ use Rattle.dover_model.specs.State.{least}
 use Rattle.dover_model.specs.Orders.{earlier, first}
 use Rattle.dover_model.specs.Sound.{IsMember, Each, EachTwo}
 use Rattle.dover_model.proofs.Members.{some_same, filter_member, member_filter, found, not_found, reduce_none, on_map}
-use Rattle.dover_model.proofs.Members.{map_member, sum_filter, sum_map}
+use Rattle.dover_model.proofs.Members.{map_member, sum_filter, sum_map, member_front, member_behind, each_cons}
+use Rattle.dover_model.proofs.Members.{each_append}
 use Rattle.dover_model.proofs.Tests.{never, none_is_some}
 use Rattle.ready_jobs.specs.Reordered.{IsReordered}
 
--- ---- members of a list in two parts
+-- ---- a list in two parts
 
 module _ {X : Type 0} where
-  pub in_left : (xs ys : List X) (x : X) → IsMember x xs → IsMember x (xs ++ ys)
-  in_left [] ys x m = absurd m
-  in_left (y ∷ xs) ys x (inl e) = inl e
-  in_left (y ∷ xs) ys x (inr m) = inr (in_left xs ys x m)
-
-  pub in_right : (xs ys : List X) (x : X) → IsMember x ys → IsMember x (xs ++ ys)
-  in_right [] ys x m = m
-  in_right (y ∷ xs) ys x m = inr (in_right xs ys x m)
-
-  pub in_either : (xs ys : List X) (x : X) → IsMember x (xs ++ ys) → IsMember x xs ⊎ IsMember x ys
-  in_either [] ys x m = inr m
-  in_either (y ∷ xs) ys x (inl e) = inl (inl e)
-  in_either (y ∷ xs) ys x (inr m) = elim (in_either xs ys x m) [ inl here ↦ inl (inr here) | inr later ↦ inr later ]
-
-  -- each of the one, and each of the other
-  pub each_both : (P : X → Type 0) (xs ys : List X) → Each P xs → Each P ys → Each P (xs ++ ys)
-  each_both P xs ys here there x m = elim (in_either xs ys x m) [ inl l ↦ here x l | inr r ↦ there x r ]
-
   -- the length as a sum
   pub length_sum : (xs : List X) → length xs ≡ sum_by (λ _. 1) xs
   length_sum [] = refl
@@ -57,18 +40,18 @@ module _ {X : Type 0} where
   -- in two parts
   pub both_parts : (xs ys us vs : List X) → IsReordered xs ys → IsReordered us vs → IsReordered (xs ++ us) (ys ++ vs)
   both_parts xs ys us vs one next = record {
-    there = each_both (λ x. IsMember x (ys ++ vs)) xs us (λ x m. in_left ys vs x (one.there x m))
-        (λ x m. in_right ys vs x (next.there x m));
-    back = each_both (λ x. IsMember x (xs ++ us)) ys vs (λ x m. in_left xs us x (one.back x m))
-        (λ x m. in_right xs us x (next.back x m));
+    there = each_append (λ x. IsMember x (ys ++ vs)) xs us (λ x m. member_front ys vs x (one.there x m))
+        (λ x m. member_behind ys vs x (next.there x m));
+    back = each_append (λ x. IsMember x (xs ++ us)) ys vs (λ x m. member_front xs us x (one.back x m))
+        (λ x m. member_behind xs us x (next.back x m));
     weighs = λ f. omega (arith, sum_by-append f xs us, sum_by-append f ys vs, one.weighs f, next.weighs f);
   }
 
   -- the parts exchanged
   pub exchanged : (xs ys : List X) → IsReordered (xs ++ ys) (ys ++ xs)
   exchanged xs ys = record {
-    there = each_both (λ x. IsMember x (ys ++ xs)) xs ys (in_right ys xs) (in_left ys xs);
-    back = each_both (λ x. IsMember x (xs ++ ys)) ys xs (in_right xs ys) (in_left xs ys);
+    there = each_append (λ x. IsMember x (ys ++ xs)) xs ys (member_behind ys xs) (member_front ys xs);
+    back = each_append (λ x. IsMember x (xs ++ ys)) ys xs (member_behind xs ys) (member_front xs ys);
     weighs = λ f. omega (arith, sum_by-append f xs ys, sum_by-append f ys xs);
   }
 
@@ -168,10 +151,6 @@ module _ {X : Type 0} (before : X → X → Bool) (one_way : (a b : X) → befor
   not_before e x (inl same) h = not_itself x (ap (before x) (sym same) ∙ h)
   not_before e x (inr less) h = false≢true (sym (one_way e x less) ∙ h)
 
-  each_first : (P : X → Type 0) (x : X) (xs : List X) → P x → Each P xs → Each P (x ∷ xs)
-  each_first P x xs here more y (inl e) = subst P (sym e) here
-  each_first P x xs here more y (inr m) = more y m
-
   best_of : (acc : X) (xs : List X) → Best (fold (earlier before) acc xs) acc xs
   best_of acc [] = record { there = inl refl; good = inl refl; best = λ x m. absurd m }
   best_of acc (x ∷ xs) = by_test (before x acc) refl (best_of x xs) (best_of acc xs) where
@@ -186,14 +165,14 @@ module _ {X : Type 0} (before : X → X → Bool) (one_way : (a b : X) → befor
                 ∙ h
             | inr less ↦ onward (fold (earlier before) x xs) x acc less h
           ]);
-          best = each_first (λ y. before y (fold (earlier before) x xs) ≡ true → ⊥) x xs
+          best = each_cons (λ y. before y (fold (earlier before) x xs) ≡ true → ⊥) x xs
               (not_before (fold (earlier before) x xs) x it.good) it.best;
         })
     by_test false h rest it =
         subst (λ (b : Bool). Best (fold (earlier before) (cond b x acc) xs) acc (x ∷ xs)) (sym h) (record {
           there = elim it.there [ inl e ↦ inl e | inr m ↦ inr (inr m) ];
           good = it.good;
-          best = each_first (λ y. before y (fold (earlier before) acc xs) ≡ true → ⊥) x xs
+          best = each_cons (λ y. before y (fold (earlier before) acc xs) ≡ true → ⊥) x xs
               (λ at. elim it.good [
                 | inl same ↦ false≢true (sym h ∙ ap (before x) (sym same) ∙ at)
                 | inr less ↦ false≢true (sym h ∙ onward x (fold (earlier before) acc xs) acc at less)
@@ -208,7 +187,7 @@ module _ {X : Type 0} (before : X → X → Bool) (one_way : (a b : X) → befor
       let it = best_of x xs in
       subst (λ z. IsMember z (x ∷ xs) × Each (λ y. before y z ≡ true → ⊥) (x ∷ xs)) (some_same _ _ is) (
         it.there,
-        each_first (λ y. before y (fold (earlier before) x xs) ≡ true → ⊥) x xs
+        each_cons (λ y. before y (fold (earlier before) x xs) ≡ true → ⊥) x xs
             (not_before (fold (earlier before) x xs) x it.good) it.best,
       )
 
