@@ -17,7 +17,7 @@ use Rattle.dover_model.specs.Step.{step}
 use Rattle.dover_model.specs.Run.{Step, run, completed_value}
 use Rattle.dover_model.specs.WholeRun.{step_at}
 use Rattle.dover_model.specs.Sound.{IsMember, Each, Keeps}
-use Rattle.dover_model.proofs.Members.{all_member}
+use Rattle.dover_model.proofs.Members.{all_member, member_behind}
 use Rattle.dover_model.proofs.Kept.{step_deed, opening_keeps, come_coming}
 use Rattle.dover_model.proofs.Ending.{run_is_whole, run_over}
 use Rattle.dover_model.proofs.Runs.{run_states, value_of_run}
@@ -27,7 +27,7 @@ use Rattle.adversary.proofs.RunLinks.{last_from, end_from, links, last_is, end_i
 use Rattle.adversary.proofs.RunLinks.{AreSmall, links_above, last_above}
 use Rattle.adversary.proofs.RunLinks.{last_small, last_more, links_most, links_heavier, HasNext, links_next, links_last}
 use Rattle.adversary.proofs.RunLinks.{links_one}
-use Rattle.adversary.proofs.RunFeeds.{in_back, unit_at, IsUnit, bait, feed_is, link_in_feed, feed_begins, feed_sum}
+use Rattle.adversary.proofs.RunFeeds.{unit_at, IsUnit, bait, feed_is, link_in_feed, feed_begins, feed_sum}
 use Rattle.adversary.proofs.Steady.{IsLast, IsChained, Stands, IsSteady, done_at_end, step_steady, value_of_steady}
 
 module _ (k : Fraction) (version : Version) (n : ℕ) (valid : IsValid (baiting k version (suc n))) where
@@ -209,7 +209,7 @@ module _ (k : Fraction) (version : Version) (n : ℕ) (valid : IsValid (baiting 
       × IsSteady most Link Light ends.before =
       each_steady (step_at J.rules (run_over J valid).last)
       (subst (IsMember (step_at J.rules (run_over J valid).last)) (sym (run_over J valid).steps)
-      (in_back (run_over J valid).front (step_at J.rules (run_over J valid).last ∷ [])
+      (member_behind (run_over J valid).front (step_at J.rules (run_over J valid).last ∷ [])
       (step_at J.rules (run_over J valid).last) (inl refl))) in
       (it.1, it.2)
 

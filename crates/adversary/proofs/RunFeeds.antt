@@ -12,27 +12,7 @@ use Rattle.dover_model.specs.Bait.{unit_value, bait_value, bait_tick, tight_job,
 use Rattle.dover_model.specs.Bait.{bait_jobs}
 use Rattle.dover_model.specs.Sound.{IsMember, Each}
 use Rattle.dover_model.proofs.Members.{filter_member, member_filter, sum_filter, sum_plus, sum_same}
-
-module _ {X : Type 0} where
-  -- a member of the front
-  pub in_front : (xs ys : List X) (x : X) → IsMember x xs → IsMember x (xs ++ ys)
-  in_front [] ys x member = absurd member
-  in_front (y ∷ xs) ys x (inl e) = inl e
-  in_front (y ∷ xs) ys x (inr member) = inr (in_front xs ys x member)
-
-  -- a member of the rest
-  pub in_back : (xs ys : List X) (x : X) → IsMember x ys → IsMember x (xs ++ ys)
-  in_back [] ys x member = member
-  in_back (y ∷ xs) ys x member = inr (in_back xs ys x member)
-
-  -- a member is in the front or the rest
-  pub in_either : (xs ys : List X) (x : X) → IsMember x (xs ++ ys) → IsMember x xs ⊎ IsMember x ys
-  in_either [] ys x member = inr member
-  in_either (y ∷ xs) ys x (inl e) = inl (inl e)
-  in_either (y ∷ xs) ys x (inr member) = by_rest (in_either xs ys x member) where
-    by_rest : IsMember x xs ⊎ IsMember x ys → IsMember x (y ∷ xs) ⊎ IsMember x ys
-    by_rest (inl m) = inl (inr m)
-    by_rest (inr m) = inr m
+use Rattle.dover_model.proofs.Members.{member_front, member_behind, member_either}
 
 -- whether r is among n numbers from a on
 abbrev pub is_among : ℕ → (n : ℕ) → ℕ → Bool
@@ -79,9 +59,9 @@ module _ (k : Fraction) (rounds : ℕ) where
       by_low (cases_lt a j.release) (λ above. link_there (a + 1) n j member (omega (arith, above)) (omega arith)) where
         by_low : (a < j.release) ⊎ (j.release ≤ a) → (a < j.release → IsMember j (released (a + 1) n))
             → IsMember j (released_at k rounds a ++ released (a + 1) n)
-        by_low (inl above) more = in_back (released_at k rounds a) (released (a + 1) n) j (more above)
-        by_low (inr here) more = in_front (released_at k rounds a) (released (a + 1) n) j
-            (in_front (links_at k rounds a) (unit_at a ∷ []) j
+        by_low (inl above) more = member_behind (released_at k rounds a) (released (a + 1) n) j (more above)
+        by_low (inr here) more = member_front (released_at k rounds a) (released (a + 1) n) j
+            (member_front (links_at k rounds a) (unit_at a ∷ []) j
             (filter_member (λ i. i.release == a) (chain_jobs k rounds) j member (eq-eqb j.release a (omega arith))))
 
   -- the unit job of one of these ticks
@@ -91,7 +71,7 @@ module _ (k : Fraction) (rounds : ℕ) where
   -- what is released at a tick is a link or its unit job
   at_tick : (a : ℕ) (j : JobFacts) → IsMember j (released_at k rounds a) → IsMember j (chain_jobs k rounds)
       ⊎ (j ≡ unit_at a)
-  at_tick a j member = by_part (in_either (links_at k rounds a) (unit_at a ∷ []) j member) where
+  at_tick a j member = by_part (member_either (links_at k rounds a) (unit_at a ∷ []) j member) where
     by_unit : IsMember j (unit_at a ∷ []) → j ≡ unit_at a
     by_unit (inl e) = e
     by_unit (inr none) = absurd none
@@ -105,7 +85,7 @@ module _ (k : Fraction) (rounds : ℕ) where
   there_is : (a n : ℕ) (j : JobFacts) → IsMember j (released a n) → IsMember j (chain_jobs k rounds) ⊎ IsUnit (a + n) j
   there_is a zero j member = absurd member
   there_is a (suc n) j member =
-      by_part (in_either (released_at k rounds a) (released (a + 1) n) j member) (there_is (a + 1) n j) where
+      by_part (member_either (released_at k rounds a) (released (a + 1) n) j member) (there_is (a + 1) n j) where
         by_first : IsMember j (chain_jobs k rounds) ⊎ (j ≡ unit_at a) → IsMember j (chain_jobs k rounds)
             ⊎ IsUnit (a + suc n) j
         by_first (inl m) = inl m
@@ -133,7 +113,7 @@ module _ (k : Fraction) (rounds : ℕ) where
   -- what is in the feed is a link, a unit job or the bait
   pub feed_is : (j : JobFacts) → IsMember j (bait_jobs k rounds)
       → IsMember j (chain_jobs k rounds) ⊎ (IsUnit (bait_tick k rounds) j ⊎ (j ≡ bait))
-  feed_is j member = by_part (in_either front (bait ∷ []) j member) where
+  feed_is j member = by_part (member_either front (bait ∷ []) j member) where
     by_early : IsMember j (chain_jobs k rounds) ⊎ IsUnit (0 + bait_tick k rounds) j
         → IsMember j (chain_jobs k rounds) ⊎ (IsUnit (bait_tick k rounds) j ⊎ (j ≡ bait))
     by_early (inl m) = inl m
@@ -151,17 +131,17 @@ module _ (k : Fraction) (rounds : ℕ) where
     by_part : IsMember j front ⊎ IsMember j (bait ∷ []) → IsMember j (chain_jobs k rounds)
         ⊎ (IsUnit (bait_tick k rounds) j ⊎ (j ≡ bait))
     by_part (inl m) = by_front
-        (in_either (released 0 (bait_tick k rounds)) (links_at k rounds (bait_tick k rounds)) j m)
+        (member_either (released 0 (bait_tick k rounds)) (links_at k rounds (bait_tick k rounds)) j m)
     by_part (inr m) = inr (inr (by_bait m))
 
   -- a link that is released by the bait's tick is in the feed
   pub link_in_feed : (j : JobFacts) → IsMember j (chain_jobs k rounds) → j.release ≤ bait_tick k rounds
       → IsMember j (bait_jobs k rounds)
-  link_in_feed j member low = in_front front (bait ∷ []) j (by_low (cases_lt j.release (bait_tick k rounds))) where
+  link_in_feed j member low = member_front front (bait ∷ []) j (by_low (cases_lt j.release (bait_tick k rounds))) where
     by_low : (j.release < bait_tick k rounds) ⊎ (bait_tick k rounds ≤ j.release) → IsMember j front
-    by_low (inl before) = in_front (released 0 (bait_tick k rounds)) (links_at k rounds (bait_tick k rounds)) j
+    by_low (inl before) = member_front (released 0 (bait_tick k rounds)) (links_at k rounds (bait_tick k rounds)) j
         (link_there 0 (bait_tick k rounds) j member (omega arith) (omega arith))
-    by_low (inr here) = in_back (released 0 (bait_tick k rounds)) (links_at k rounds (bait_tick k rounds)) j
+    by_low (inr here) = member_behind (released 0 (bait_tick k rounds)) (links_at k rounds (bait_tick k rounds)) j
         (filter_member (λ i. i.release == bait_tick k rounds) (chain_jobs k rounds) j member
         (eq-eqb j.release (bait_tick k rounds) (omega arith)))
 

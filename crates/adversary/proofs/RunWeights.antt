@@ -4,20 +4,15 @@ use Rattle.std.proofs.Common.{subst}
 use Rattle.std.specs.Prelude.{not, nat_lt}
 use Rattle.std.proofs.lemmas.Bool.{lt-ltb, ltb-true, and_from, and_parts}
 use Rattle.std.proofs.lemmas.Nat.{le-div}
-use Rattle.std.proofs.Math.Nat.{div-le_self, mul-le-mul_left, mul-le-mul_right}
+use Rattle.std.proofs.Math.Nat.{div-le_self}
 use Rattle.dover_model.specs.Fraction.{Fraction, IsRatio}
 use Rattle.dover_model.specs.Orders.{is_heavy}
 use Rattle.dover_model.specs.Greatest.{IsGreatest, greatest}
 use Rattle.dover_model.specs.Bait.{unit_value, most_light, first_link}
+use Rattle.dover_model.proofs.Calculus.{square_le}
 use Rattle.dover_model.proofs.GreatestLaws.{IsDownwardClosed, greatest-is}
 use Rattle.dover_model.proofs.Members.{by_bool}
 use Rattle.dover_model.proofs.Tests.{never, not_true}
-
--- greater numbers have greater squares, as often
-square_le : (a m n : ℕ) → m ≤ n → a * m * m ≤ a * n * n
-square_le a m n less = let one : a * m ≤ a * n = mul-le-mul_left a less in
-    let two : a * m * m ≤ a * n * m = mul-le-mul_right m one in
-    let three : a * n * m ≤ a * n * n = mul-le-mul_left (a * n) less in omega (arith, two, three)
 
 -- the two tests of what is heavy
 heavy_parts : (k : Fraction) (v w : ℕ) → is_heavy k v w ≡ true → (w < v) × (k.p * w * w < k.q * (v - w) * (v - w))

@@ -9,11 +9,8 @@ ghost use Rattle.adversary.specs.Kept.{HasNumbers};
 
 use crate::links::{first_value, light_value, unit};
 use dover_model::jobs::MOST_VALUE;
-use dover_model::{Job, Ratio};
+use dover_model::{Job, Ratio, Version};
 use std::marker::Model;
-
-/// How many jobs a feed may have.
-const MOST_JOBS: u64 = 1_000_000;
 
 /// The numbers of a chain whose values sum to less than 1,000,000.
 #[derive(Drop)]
@@ -39,7 +36,7 @@ fn small_chain(k: Ratio, rounds: u32) -> Option<Chain>
     for _ in 0..rounds {
         last = light + 1;
         sum += last;
-        if sum >= MOST_JOBS {
+        if sum >= u64::from(Version::Two.most_jobs()) {
             return None;
         }
         light = light_value(k, last);

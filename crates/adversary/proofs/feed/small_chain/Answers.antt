@@ -1,4 +1,4 @@
-use Rattle.std.proofs.Common.{◌≡◌, ◌+◌, ◌-◌, ◌<◌, ◌∙◌, ap, subst, refl}
+use Rattle.std.proofs.Common.{◌≡◌, ◌+◌, ◌-◌, ◌<◌, ◌∙◌, ap, subst, refl, arith}
 use Rattle.std.specs.List.{sum}
 use Rattle.dover_model.specs.declared.events.Version.TheVariants.{Two}
 use Rattle.dover_model.specs.Limits.{most_jobs}
@@ -33,21 +33,21 @@ loop-preserved c = record {
       (c.loop.light + 1)
       c.light_value-light.result _ (one_fewer c.args.rounds c.loop.counter c.loop-test.true)
       c.light_value-light.ensures.is c.loop.invariant.end;
-  few = c.if-sum-ge-MOST_JOBS.false;
-  low = low_step c.loop.sum c.loop.light c.light_value-light.result c.if-sum-ge-MOST_JOBS.false
-      c.light_value-light.ensures.most;
+  few = omega (arith, c.from.ensures, c.most_jobs.ensures, c.if-sum-from.false);
+  low = low_step c.loop.sum c.loop.light c.light_value-light.result
+      (omega (arith, c.from.ensures, c.most_jobs.ensures, c.if-sum-from.false)) c.light_value-light.ensures.most;
   lights = λ h. c.light_value-light.ensures.is;
   some = λ h. some_step c.loop.light c.light_value-light.result c.light_value-light.ensures.least;
 }
 
-pub returns-then-sum-ge-MOST_JOBS-clause-small : goal.returns-then-sum-ge-MOST_JOBS-clause-small
-returns-then-sum-ge-MOST_JOBS-clause-small c = (
+pub returns-then-sum-from-clause-small : goal.returns-then-sum-from-clause-small
+returns-then-sum-from-clause-small c = (
   λ h. absurd (cc),
   sum_part c.args.k (c.args.rounds - c.loop.counter) (c.args.rounds - (c.loop.counter + 1))
       (c.loop.light + 1) c.loop.sum
       (sum (chain c.args.k c.args.rounds))
       (one_fewer c.args.rounds c.loop.counter c.loop-test.true) c.loop.invariant.total
-      c.if-sum-ge-MOST_JOBS.true,
+      (omega (arith, c.from.ensures, c.most_jobs.ensures, c.if-sum-from.true)),
 )
 
 pub returns-clause-small : goal.returns-clause-small
