@@ -4,12 +4,7 @@ ghost use Rattle.std.specs.List.{AllByRecursion};
 ghost use Rattle.periodic_tasks.specs.Limits.{Fits, IsTask};
 
 use crate::task::PeriodicTask;
-
-/// How many jobs a feed of version Two may have.
-const MOST_JOBS: u64 = 1_000_000;
-
-/// The greatest sum of the values of all its jobs.
-const MOST_TOTAL: u64 = 10_000_000_000_000;
+use dover_model::Version;
 
 /// Whether the jobs that the tasks release before a tick are at most 1,000,000, and worth at most 10^13. It takes a
 /// step for each task, and none for a job.
@@ -21,12 +16,12 @@ pub fn fits(tasks: &[PeriodicTask], until: u64) -> bool
     let mut total = 0u64;
     for task in tasks {
         let more = task.count_before(until);
-        if more > MOST_JOBS - count {
+        if more > u64::from(Version::Two.most_jobs()) - count {
             return false;
         }
         count += more;
         total += more * task.value;
-        if total > MOST_TOTAL {
+        if total > Version::Two.most_total() {
             return false;
         }
     }

@@ -69,20 +69,22 @@ all_fit until count total i tasks each all count_is total_is few modest = record
   );
 }
 
-pub returns-then-more-count : goal.returns-then-more-count
-returns-then-more-count c = (
+pub returns-then-more-from : goal.returns-then-more-from
+returns-then-more-from c = (
   λ no. never no,
   too_many c.args.until c.loop-task.count c.count_before-more.result c.loop-task.task-index _ c.args.tasks.now
       c.requires c.loop-task-test.true
-      c.loop-task.invariant.count_is c.loop-task.invariant.few c.count_before-more.ensures.is c.if-more-count.true,
+      c.loop-task.invariant.count_is c.loop-task.invariant.few c.count_before-more.ensures.is
+      (omega (arith, c.from.ensures, c.most_jobs.ensures, c.if-more-from.true)),
 )
 
-pub returns-then-total-gt-MOST_TOTAL : goal.returns-then-total-gt-MOST_TOTAL
-returns-then-total-gt-MOST_TOTAL c = (
+pub returns-then-total-most_total : goal.returns-then-total-most_total
+returns-then-total-most_total c = (
   λ no. never no,
   too_dear c.args.until c.loop-task.total c.count_before-more.result c.loop-task.task-index _ c.args.tasks.now
       c.requires c.loop-task-test.true
-      c.loop-task.invariant.total_is c.count_before-more.ensures.is c.if-total-gt-MOST_TOTAL.true,
+      c.loop-task.invariant.total_is c.count_before-more.ensures.is
+      (omega (arith, c.most_total.ensures, c.if-total-most_total.true)),
 )
 
 pub returns : goal.returns
