@@ -28,6 +28,7 @@ use Rattle.dover_model.proofs.Roles.{passes}
 use Rattle.dover_model.proofs.Tests.{never}
 use Rattle.intervals.specs.Rows.{IsRunOf}
 use Rattle.intervals.proofs.Charges.{item_next}
+use Rattle.intervals.proofs.Reading.{one_of_two}
 use Rattle.held_queue.specs.Stack.{by_deadline}
 use Rattle.dover_model.proofs.Runs.{some_printed}
 use Rattle.room_ledger.specs.Pages.{Page, nobody, empty, with_event, room_on, IsReadable, had_in}
@@ -52,11 +53,6 @@ pub record Reads (J : Instance) (p : Page) (rest : List Event) (more : List ℕ)
   pub rooms : filter_map room_of_step steps ≡ more
   pub last : last_tasks before steps ≡ (end_state J).tasks
   pub over : steps ≡ [] → Each (λ t. is_over t ≡ true) before.tasks
-
--- a test that is one of two facts
-one_of_two : {A B : Type 0} (b : Bool) → MatchBool b A B → A ⊎ B
-one_of_two true fact = inl fact
-one_of_two false fact = inr fact
 
 -- the jobs before they run, by number
 come_stored : (n : ℕ) (jobs : List JobFacts) (t : Task) → IsMember t (to_come n jobs)
