@@ -1,7 +1,7 @@
 -- What a word says that judges a text, by the bytes got so far.
 use Rattle.std.specs.Prelude.{◌≡◌, ◌⊎◌, ℕ, List, [], Bool, true, false, not}
 use Rattle.dover_model.specs.Session.{Session, IsValidSession}
-use Rattle.dover_model.specs.Verdict.{Verdict, Accepted, Short, verdict}
+use Rattle.dover_model.specs.Verdict.{Accepted, Short, verdict}
 use Rattle.dover_port.specs.declared.status.Status.{Status}
 use Rattle.dover_port.specs.declared.status.Status.TheVariants.{Done, No}
 use Rattle.dialogue.specs.Talk.{Talk}
@@ -22,16 +22,24 @@ IsToldBy Done bytes = IsTrace bytes
 IsToldBy No bytes = IsNoTrace bytes
 IsToldBy _ bytes = ⊥
 
--- Nothing is due before the end, which comes with the input's or at the first wrong line; then this is told of the
--- verdict. Memory may be lacking here.
-abbrev pub judging_talk : (told : Verdict → List ℕ) → (lacks : List ℕ → Bool → Type 0) → Talk
-judging_talk told lacks = record {
+-- what is said of a text: with which status, and which text
+abbrev pub Says : Type 1
+Says = Status → (bytes text : List ℕ) → Type 0
+
+-- Nothing is due before the end, which comes with the input's or at the first wrong line; then this is said. Memory may
+-- be lacking here.
+abbrev pub judging_talk : Says → (lacks : List ℕ → Bool → Type 0) → Talk
+judging_talk says lacks = record {
   goes_on = λ bytes. not (is_wrong (verdict bytes));
   due = λ bytes. [];
-  answer = λ bytes ended status text. IsToldBy status bytes × (text ≡ told (verdict bytes));
+  answer = λ bytes ended status text. says status bytes text;
   lacks = lacks;
 }
 
--- The line of the verdict is told, and memory is lacking before the input's end alone.
+-- the line of the verdict
+abbrev pub SaysVerdict : Says
+SaysVerdict status bytes text = IsToldBy status bytes × (text ≡ verdict_text (verdict bytes))
+
+-- It is said, and memory is lacking before the input's end alone.
 abbrev pub judge_talk : Talk
-judge_talk = judging_talk verdict_text (λ bytes ended. ended ≡ false)
+judge_talk = judging_talk SaysVerdict (λ bytes ended. ended ≡ false)

@@ -1,10 +1,9 @@
-//! What the reading loop calls: a judge, which takes the text whole and answers at its end.
-ghost use Rattle.std.specs.Prelude.{ℕ, false};
+//! What the reading loop calls: a judge, which takes the text whole, and what tells its last word at the end.
 ghost use Rattle.dialogue.specs.Turns.{AllGiven};
-ghost use Rattle.judge_word.specs.Talk.{judge_talk};
-ghost use Rattle.judge_word.specs.Talking.{IsReady, Costs};
+ghost use Rattle.judge_word.specs.Talk.{judging_talk};
+ghost use Rattle.judge_word.specs.Talking.{Call, IsReady, Costs};
 
-use crate::lines::{put_verdict, status_of};
+use crate::Teller;
 use dialogue::{Stop, Talker};
 use dover_model::Memory;
 use dover_port::{Output, Port, Status};
@@ -14,29 +13,33 @@ use std::sync::ledger::Ledger;
 use step_count::Steps;
 use trace_judge::Judge;
 
-/// A judge of the text. Nothing is due before the answer.
+/// A judge of the text, and what tells its last word. Nothing is due before the answer.
 #[derive(Drop)]
-pub(crate) struct Judging<L: Ledger> {
+pub(crate) struct Judging<T: Teller, L: Ledger> {
     pub(crate) judge: Judge,
+    pub(crate) teller: T,
     pub(crate) counts: PhantomData<L>,
 }
 
-impl<L: Ledger> Talker for Judging<L> {
+impl<T: Teller, L: Ledger> Talker for Judging<T, L> {
     type Meter = Steps<L>;
 
-    ghost about = { ℕ };
+    ghost about = { Call T };
 
-    ghost talk = { λ start. judge_talk };
+    ghost talk = { λ call. judging_talk (T.says call.teller) T.lacks };
 
-    ghost stands = { λ start j meter. AllGiven (IsReady false j.judge start meter) };
+    ghost stands = { λ call j meter. AllGiven (IsReady T.keeps call j.teller j.judge meter) };
 
-    ghost ready = { λ start j meter. IsReady false j.judge start meter };
+    ghost ready = { λ call j meter. IsReady T.keeps call j.teller j.judge meter };
 
-    ghost costs = { Costs };
+    ghost costs = { λ call meter. Costs call.start meter };
 
-    fn laws() {}
+    fn laws() {
+        T::laws();
+    }
 
     fn take(&mut self, meter: &mut Steps<L>, piece: &[u8]) -> Result<usize, Memory> {
+        T::laws();
         match self.judge.feed(piece, meter) {
             Ok(()) => Ok(piece.len()),
             Err(error) => Err(error),
@@ -58,12 +61,9 @@ impl<L: Ledger> Talker for Judging<L> {
         out: &mut Output,
         _ended: bool,
     ) -> Result<Status, Stop> {
-        let Ok(closed) = self.judge.close() else {
-            return Err(Stop::NoMemory);
-        };
-        match put_verdict(port, out, &closed.verdict) {
-            Ok(()) => Ok(status_of(&closed.verdict)),
-            Err(_) => Err(Stop::Unwritten),
+        match self.judge.close() {
+            Ok(closed) => self.teller.tell(port, out, &closed),
+            Err(_) => Err(Stop::NoMemory),
         }
     }
 }

@@ -3,7 +3,9 @@
 
 mod judging;
 mod lines;
+mod telling;
 mod word;
 
 pub use lines::{put_verdict, status_of};
-pub use word::judge_word;
+pub use telling::Teller;
+pub use word::{judge_and_tell, judge_word};

@@ -1,11 +1,14 @@
-//! The word as a whole.
+//! The word as a whole, and the reading that it shares with reports.
+ghost use Rattle.std.specs.Prelude.{◌≡◌};
 ghost use Rattle.dover_port.specs.Causes.{Causes, StopsWith};
 ghost use Rattle.dover_port.specs.Moves.{Since};
 ghost use Rattle.dialogue.specs.Talk.{Talks, CanEnd};
 ghost use Rattle.judge_word.specs.Spending.{IsFrugal};
-ghost use Rattle.judge_word.specs.Talk.{judge_talk};
+ghost use Rattle.judge_word.specs.Talk.{judging_talk, judge_talk};
 
+use crate::Teller;
 use crate::judging::Judging;
+use crate::telling::VerdictLine;
 use dialogue::converse;
 use dover_port::{Port, Status};
 use std::alloc::Global;
@@ -13,6 +16,37 @@ use std::marker::PhantomData;
 use std::sync::ledger::Ledger;
 use step_count::Steps;
 use trace_judge::Judge;
+
+/// Reads a text to its first wrong line or the end of the input, and then puts what the teller says of it. Where `keep`
+/// is true, the judge keeps the steps of the run for it. Memory is taken at the start and for each job that the text
+/// names.
+pub fn judge_and_tell<P: Port, T: Teller, L: Ledger>(
+    alloc: Global,
+    port: &mut P,
+    teller: T,
+    keep: bool,
+    steps: &mut Steps<L>,
+) -> Status
+    requires { keep ≡ T.keeps }
+    ensures talks { Since (P.moves port.old) (P.moves port.new)
+        (Talks (judging_talk (T.says teller) T.lacks) result) }
+    ensures count { Since (P.moves port.old) (P.moves port.new) (IsFrugal steps.old steps.new) }
+    ensures ends { CanEnd (Talks (judging_talk (T.says teller) T.lacks)) result }
+    ensures causes { Causes result
+        (P.read_faults port.old) (P.read_faults port.new) (P.write_faults port.old) (P.write_faults port.new) }
+    ensures stops { StopsWith result (P.calls port.old) (P.calls port.new) }
+{
+    T::laws();
+    let Ok(judge) = Judge::new(alloc, keep) else {
+        return Status::Memory;
+    };
+    let judging = Judging {
+        judge,
+        teller,
+        counts: PhantomData,
+    };
+    converse(port, judging, steps)
+}
 
 /// Judges a text: reads it to its first wrong line or the end of the input, and then writes its verdict. Memory is
 /// taken at the start and for each job that the text names.
@@ -24,12 +58,5 @@ pub fn judge_word<P: Port, L: Ledger>(alloc: Global, port: &mut P, steps: &mut S
         (P.read_faults port.old) (P.read_faults port.new) (P.write_faults port.old) (P.write_faults port.new) }
     ensures stops { StopsWith result (P.calls port.old) (P.calls port.new) }
 {
-    let Ok(judge) = Judge::new(alloc, false) else {
-        return Status::Memory;
-    };
-    let judging = Judging {
-        judge,
-        counts: PhantomData,
-    };
-    converse(port, judging, steps)
+    judge_and_tell(alloc, port, VerdictLine, false, steps)
 }

@@ -4,7 +4,7 @@ use Rattle.intervals.specs.Rows.{IsRunOf}
 use Rattle.dover_model.specs.Fraction.{Fraction}
 use Rattle.dover_model.specs.Instance.{IsListable}
 use Rattle.dover_model.specs.Run.{printed}
-use Rattle.dover_model.specs.Session.{Session, instance_of}
+use Rattle.dover_model.specs.Session.{instance_of}
 use Rattle.dover_model.specs.Verdict as model
 use Rattle.dover_model.specs.declared.events.Event.{Event}
 use Rattle.dover_model.specs.declared.events.Version.{Version}
@@ -20,23 +20,11 @@ use Rattle.judge_word.specs.Line.{verdict_text, status_of}
 use Rattle.judge_word.specs.Talk.{IsTrace}
 use Rattle.judge_word.proofs.Talking.{by_verdict}
 use Rattle.trace_judge.specs.Judging.{Tells, steps_told}
-use Rattle.trace_judge.specs.declared.judge.Closed.{Closed}
 use Rattle.trace_judge.specs.declared.verdict.Verdict.{Verdict}
 use Rattle.trace_judge.specs.declared.verdict.Verdict.TheVariants.{Accepted, Wrong, Short}
 use Rattle.report_word.specs.declared.form.Form.{Form}
 use Rattle.report_word.specs.Talk.{IsListed, SaysReport, report_text, told, report_talk}
-use Rattle.report_word.specs.Talking.{IsClosed, Puts}
-
--- the judge kept the steps of the run
-pub closed_with : (closed : Closed) (keep : Bool) (text : List ℕ) → keep ≡ true → Tells closed.verdict text
-    → closed.steps.items ≡ steps_told keep (model.verdict text)
-    → ((S : Session) → model.verdict text ≡ model.Accepted S → closed.refused ≡ model.refused_count S)
-    → IsClosed closed text
-closed_with closed keep text kept tells steps refused = record {
-  tells = tells;
-  steps = steps ∙ ap (λ k. steps_told k (model.verdict text)) kept;
-  refused = refused;
-}
+use Rattle.report_word.specs.Talking.{Puts}
 
 -- ---- what is put
 

@@ -1,16 +1,14 @@
 -- What the word says, by the bytes got so far.
-use Rattle.std.specs.Prelude.{◌≡◌, List, ℕ, [], true, not}
+use Rattle.std.specs.Prelude.{◌≡◌, List, ℕ, true}
 use Rattle.dover_model.specs.Instance.{Instance, IsListable}
 use Rattle.dover_model.specs.Reports.{report, table}
 use Rattle.dover_model.specs.Session.{Session, instance_of}
 use Rattle.dover_model.specs.Verdict as model
-use Rattle.dover_port.specs.declared.status.Status.{Status}
 use Rattle.dover_port.specs.declared.status.Status.TheVariants.{Done, No, Refused}
 use Rattle.dialogue.specs.Sizes.{size_text}
 use Rattle.dialogue.specs.Talk.{Talk}
 use Rattle.judge_word.specs.Line.{verdict_text}
-use Rattle.judge_word.specs.Talk.{IsNoTrace, IsTrace}
-use Rattle.trace_judge.specs.Judging.{is_wrong}
+use Rattle.judge_word.specs.Talk.{Says, IsNoTrace, IsTrace, judging_talk}
 use Rattle.run_view.specs.Chrome.{chrome}
 use Rattle.run_view.specs.Why.{why}
 use Rattle.run_view.specs.Timeline.{timeline}
@@ -40,18 +38,12 @@ IsListed bytes = (S : Session) → model.verdict bytes ≡ model.Accepted S → 
 
 -- Done with the report on the run of an accepted trace, Refused exactly where its jobs are more than a report keeps,
 -- and No with the line of the verdict
-abbrev pub SaysReport : Form → Status → (bytes text : List ℕ) → Type 0
+abbrev pub SaysReport : Form → Says
 SaysReport form Done bytes text = IsTrace bytes × IsListed bytes × (text ≡ told form (model.verdict bytes))
 SaysReport form No bytes text = IsNoTrace bytes × (text ≡ told form (model.verdict bytes))
 SaysReport form Refused bytes text = IsTrace bytes × (IsListed bytes → ⊥) × (text ≡ size_text)
 SaysReport form _ bytes text = ⊥
 
--- Nothing is due before the end, which comes with the input's or at the first wrong line; then this is told of the
--- verdict. Where the input has ended, memory may be lacking for a report alone.
+-- It is said of a text that is judged. Where the input has ended, memory may be lacking for a report alone.
 abbrev pub report_talk : Form → Talk
-report_talk form = record {
-  goes_on = λ bytes. not (is_wrong (model.verdict bytes));
-  due = λ bytes. [];
-  answer = λ bytes ended status text. SaysReport form status bytes text;
-  lacks = λ bytes ended. ended ≡ true → IsTrace bytes;
-}
+report_talk form = judging_talk (SaysReport form) (λ bytes ended. ended ≡ true → IsTrace bytes)

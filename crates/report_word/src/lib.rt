@@ -3,7 +3,6 @@
 #![tactic(auto)]
 
 mod form;
-mod reporting;
 mod word;
 
 pub use form::Form;

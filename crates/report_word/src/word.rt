@@ -1,30 +1,29 @@
 //! The word as a whole.
-ghost use Rattle.std.specs.Prelude.{◌≡◌, [], List, ℕ, Bool, IfOk};
+ghost use Rattle.std.specs.Prelude.{◌≡◌, true, IfOk};
 ghost use Rattle.intervals.specs.Rows.{IsRunOf};
 ghost use Rattle.dover_model.specs.Instance.{Instance};
 ghost use Rattle.dover_port.specs.Causes.{Causes, StopsWith};
 ghost use Rattle.dover_port.specs.Moves.{Since};
 ghost use Rattle.dialogue.specs.Sizes.{size_text};
 ghost use Rattle.dialogue.specs.Talk.{Talks, CanEnd};
-ghost use Rattle.dialogue.specs.Turns.{AnswersBy, StopCause, StopsOn};
+ghost use Rattle.dialogue.specs.Turns.{StopCause, StopsOn};
 ghost use Rattle.judge_word.specs.Spending.{IsFrugal};
-ghost use Rattle.report_word.specs.Talk.{report_text, report_talk};
-ghost use Rattle.report_word.specs.Talking.{IsClosed, Puts};
+ghost use Rattle.judge_word.specs.Talk.{IsTrace};
+ghost use Rattle.report_word.specs.Talk.{report_text, report_talk, SaysReport};
+ghost use Rattle.report_word.specs.Talking.{Puts};
 
 use crate::Form;
-use crate::reporting::Reporting;
-use dialogue::{Stop, converse};
+use dialogue::Stop;
 use dover_model::{Event, Memory, Ratio, Version};
 use dover_port::{Output, Port, Status, put_all};
 use dover_report::{is_listable, table, text};
-use judge_word::{put_verdict, status_of};
+use judge_word::{Teller, judge_and_tell, put_verdict, status_of};
 use run_picture::picture;
 use run_view::{chrome, timeline, why};
 use std::alloc::Global;
-use std::marker::PhantomData;
 use std::sync::ledger::Ledger;
 use step_count::Steps;
-use trace_judge::{Closed, Judge, Verdict};
+use trace_judge::{Closed, Verdict};
 
 /// The report on the run of this version that prints these steps, and on how many lines were refused.
 fn report(
@@ -88,41 +87,49 @@ fn put_size<P: Port>(port: &mut P) -> Result<(), Stop>
     }
 }
 
-/// Puts the report where the text is accepted, or that its jobs are too many for one, and else the line of its verdict.
-pub(crate) fn tell<P: Port>(
+/// Tells the report where the text is accepted, or that its jobs are too many for one, and else the line of the
+/// verdict.
+#[derive(Drop)]
+struct Reporting {
     alloc: Global,
-    port: &mut P,
-    out: &mut Output,
     form: Form,
-    closed: &Closed,
-) -> Result<Status, Stop>
-    requires empty { out.old ≡ [] }
-    requires closed { (text : List ℕ) × IsClosed closed.now text }
-    ensures answers { (text : List ℕ) (ended : Bool) → IsClosed closed.now text →
-        AnswersBy (report_talk form) text ended (P.moves port.old) (P.moves port.new) out.new result }
-    ensures cause { StopCause result
-        (P.write_faults port.old) (P.write_faults port.new) (P.read_faults port.old) (P.read_faults port.new) }
-    ensures stops { StopsOn result (P.calls port.old) (P.calls port.new) }
-{
-    match closed.verdict {
-        Verdict::Accepted { ratio, version, .. } => {
-            let (steps, refused) = (closed.steps.as_slice(), closed.refused);
-            if is_listable(steps) {
-                match put_report(alloc, port, form, version, ratio, steps, refused) {
-                    Ok(()) => Ok(Status::Done),
-                    Err(stop) => Err(stop),
-                }
-            } else {
-                match put_size(port) {
-                    Ok(()) => Ok(Status::Refused),
-                    Err(stop) => Err(stop),
+}
+
+impl Teller for Reporting {
+    ghost says = { λ r. SaysReport r.form };
+
+    ghost lacks = { λ bytes ended. ended ≡ true → IsTrace bytes };
+
+    ghost keeps = { true };
+
+    fn laws() {}
+
+    fn tell<P: Port>(
+        self,
+        port: &mut P,
+        out: &mut Output,
+        closed: &Closed,
+    ) -> Result<Status, Stop> {
+        match closed.verdict {
+            Verdict::Accepted { ratio, version, .. } => {
+                let (steps, refused) = (closed.steps.as_slice(), closed.refused);
+                if is_listable(steps) {
+                    match put_report(self.alloc, port, self.form, version, ratio, steps, refused) {
+                        Ok(()) => Ok(Status::Done),
+                        Err(stop) => Err(stop),
+                    }
+                } else {
+                    match put_size(port) {
+                        Ok(()) => Ok(Status::Refused),
+                        Err(stop) => Err(stop),
+                    }
                 }
             }
+            _ => match put_verdict(port, out, &closed.verdict) {
+                Ok(()) => Ok(status_of(&closed.verdict)),
+                Err(_) => Err(Stop::Unwritten),
+            },
         }
-        _ => match put_verdict(port, out, &closed.verdict) {
-            Ok(()) => Ok(status_of(&closed.verdict)),
-            Err(_) => Err(Stop::Unwritten),
-        },
     }
 }
 
@@ -143,14 +150,5 @@ pub fn report_word<P: Port, L: Ledger>(
         (P.read_faults port.old) (P.read_faults port.new) (P.write_faults port.old) (P.write_faults port.new) }
     ensures stops { StopsWith result (P.calls port.old) (P.calls port.new) }
 {
-    let Ok(judge) = Judge::new(alloc, true) else {
-        return Status::Memory;
-    };
-    let reporting = Reporting {
-        alloc,
-        form,
-        judge,
-        counts: PhantomData,
-    };
-    converse(port, reporting, steps)
+    judge_and_tell(alloc, port, Reporting { alloc, form }, true, steps)
 }
