@@ -1,11 +1,15 @@
 -- The texts that are put, and how an answer is.
 use Rattle.std.specs.Prelude.{◌≡◌, ℕ, List, [], ◌∷◌, ◌++◌, map, codes, Option, Result, Ok, Err}
+use Rattle.dover_model.specs.Due.{fault_text}
 use Rattle.dover_model.specs.Lines.{with_numbers, in_lines}
 use Rattle.dover_model.specs.declared.pieces.Piece.{Piece}
 use Rattle.dover_port.specs.Moves.{Move, Passes, CutsShort}
 use Rattle.dover_port.specs.declared.status.Status.{Status}
 use Rattle.dialogue.specs.declared.talker.Stop.{Stop}
 use Rattle.dialogue.specs.declared.talker.Stop.TheVariants.{NoMemory, Unwritten}
+use Rattle.event_feed.specs.Kept.{cause_of_fault}
+use Rattle.event_feed.specs.declared.listed.NotListed.{NotListed}
+use Rattle.event_feed.specs.declared.listed.NotListed.TheVariants.{Fault, TooMany}
 use Rattle.question_words.specs.declared.answer.Answer.{Answer}
 use Rattle.question_words.specs.declared.answer.Rows.{Rows}
 use Rattle.question_words.specs.declared.answer.Rows.TheVariants.{Pieces, Stretches}
@@ -31,6 +35,11 @@ stretch_lines xs = map stretch_line xs
 abbrev pub row_lines : Rows → List (List ℕ)
 row_lines (Pieces pieces) = piece_lines pieces.items
 row_lines (Stretches xs) = stretch_lines xs.items
+
+-- the line that refuses a feed whose jobs aren't listed
+abbrev pub refusal_line : NotListed → List ℕ
+refusal_line (Fault fault) = fault_text fault.line (cause_of_fault fault.cause)
+refusal_line TooMany = codes "refused size"
 
 -- the text of an answer
 abbrev pub text_of : Answer → List ℕ

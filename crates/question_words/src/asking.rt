@@ -1,20 +1,22 @@
 //! What the reading loop calls: a reader of the feed, which is asked a question on its jobs at the end.
-ghost use Rattle.std.specs.Prelude.{IfOk, length};
+ghost use Rattle.std.specs.Prelude.{◌≡◌, ◌∷◌, [], IfOk, length};
 ghost use Rattle.dialogue.specs.Talk.{IsFinal};
 ghost use Rattle.dover_model.specs.Spending.{CostsAtMost};
 ghost use Rattle.dover_model.specs.Instance.{IsValid};
+ghost use Rattle.dover_model.specs.Lines.{in_lines};
+ghost use Rattle.dover_port.specs.declared.status.Status.TheVariants.{Refused};
 ghost use Rattle.event_feed.specs.Listing.{listed_instance, StandAmong};
 ghost use Rattle.question_words.specs.Questions.{says};
 ghost use Rattle.question_words.specs.Talk.{ask_talk};
 ghost use Rattle.question_words.specs.Keeping.{Asked, Stands, IsAt, Costs};
-ghost use Rattle.question_words.specs.Texts.{text_of};
+ghost use Rattle.question_words.specs.Texts.{text_of, refusal_line};
 
 use crate::answer::Answer;
 use crate::{Question, best, compare, feasible, loss};
 use dialogue::{Stop, Talker};
 use dover_model::Memory;
 use dover_port::{Output, Port, Status};
-use event_feed::{FeedReader, Listed};
+use event_feed::{FeedReader, Listed, NotListed};
 use line_output::fault_text;
 use line_text::BackLine;
 use std::alloc::Global;
@@ -50,6 +52,17 @@ fn answer<L: Ledger>(
         Question::Best => best::answer(alloc, listed, steps),
         Question::Compare => compare::answer(alloc, listed, steps),
         Question::Loss => loss::answer(alloc, listed, steps),
+    }
+}
+
+/// The line that refuses a feed whose jobs aren't listed.
+fn refused(alloc: Global, why: NotListed) -> Answer
+    ensures status { result.status ≡ Refused }
+    ensures text { text_of result ≡ in_lines (refusal_line why ∷ []) }
+{
+    match why {
+        NotListed::Fault(fault) => Answer::refused(alloc, fault_text(fault).bytes()),
+        NotListed::TooMany => Answer::refused(alloc, b"refused size"),
     }
 }
 
@@ -95,7 +108,7 @@ impl<L: Ledger> Talker for Asking<L> {
                 Ok(answer) => answer.put(port, out),
                 Err(Memory) => Err(Stop::NoMemory),
             },
-            Err(fault) => Answer::refused(self.alloc, fault_text(fault).bytes()).put(port, out),
+            Err(why) => refused(self.alloc, why).put(port, out),
         }
     }
 }

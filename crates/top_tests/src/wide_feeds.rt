@@ -1,5 +1,5 @@
-//! A feed of version Three whose jobs are worth more than those of version Two may be: it is served and judged, and
-//! each word that keeps all jobs refuses it.
+//! Feeds of version Three whose jobs are worth more than those of version Two may be, or are more: the first is served
+//! and judged, and each word that keeps all jobs refuses it.
 use crate::calls::{Called, answer, pieces, words_of};
 use dover_port::{MemoryPort, Status};
 use std::alloc::Global;
@@ -38,23 +38,52 @@ const FEED_WORDS: [(&[&'static str], Status, &'static str); 4] = [
     (&["compare"], Status::Refused, "refused size\n"),
 ];
 
+/// What follows 1,000,000 jobs, how `feasible` ends, and what it writes: what follows one too many isn't read.
+const LONG_FEEDS: [(&'static str, Status, &'static str); 3] = [
+    ("x\n", Status::Refused, "refused 1000002 line\n"),
+    ("job 0 1 9 1\nend\n", Status::Refused, "refused size\n"),
+    ("job 0 1 9 1\nx\n", Status::Refused, "refused size\n"),
+];
+
+/// 1,000,000 jobs that wait at once, 250 in a piece, and what follows them.
+fn long_feed(alloc: Global, rest: &str) -> Result<Vec<Vec<u8>>, Fail> {
+    let mut lines = String::new(alloc);
+    for _ in 0..250 {
+        lines.push_str("job 0 1 9 1\n")?;
+    }
+    let mut script = Vec::new(alloc);
+    script.push(String::from_str(alloc, "k 1 1 3\n")?.into_bytes())?;
+    for _ in 0..4_000 {
+        let mut piece = Vec::new(alloc);
+        piece.extend_from_slice(lines.as_bytes())?;
+        script.push(piece)?;
+    }
+    script.push(String::from_str(alloc, rest)?.into_bytes())?;
+    Ok(script)
+}
+
 /// What the words do with this input, over a port that has room for it and for the trace.
-fn told(rt: &HostRuntime, words: &[&'static str], input: &[u8]) -> Result<Called, Fail> {
+fn told_in(rt: &HostRuntime, words: &[&'static str], script: Vec<Vec<u8>>) -> Result<Called, Fail> {
     let alloc = rt.alloc();
     let words = words_of(alloc, words)?;
-    let script = pieces(alloc, input, 4096, 0)?;
     let mut port = MemoryPort::new(
         alloc,
         script,
         Vec::new(alloc),
         Vec::new(alloc),
         4096,
-        4_000_000,
+        16_000_000,
     )?;
     let status = answer(rt, &words, &mut port);
     let mut written = Vec::new(alloc);
     written.extend_from_slice(port.written())?;
     Ok(Called { status, written })
+}
+
+/// The same, in pieces of 4096 bytes.
+fn told(rt: &HostRuntime, words: &[&'static str], input: &[u8]) -> Result<Called, Fail> {
+    let script = pieces(rt.alloc(), input, 4096, 0)?;
+    told_in(rt, words, script)
 }
 
 /// Whether each word ends so on the input, and writes this.
@@ -85,5 +114,26 @@ fn a_wide_feed_is_served_and_judged(rt: HostRuntime) -> Result<(), Fail> {
 fn a_wide_feed_is_no_question(rt: HostRuntime) -> Result<(), Fail> {
     let feed = wide_feed(rt.alloc())?;
     assert!(rt; are_told(&rt, feed.as_bytes(), &FEED_WORDS)?);
+    Ok(())
+}
+
+/// Whether `feasible` ends so on each feed, and writes this.
+fn are_asked(
+    rt: &HostRuntime,
+    rows: &[(&'static str, Status, &'static str)],
+) -> Result<bool, Fail> {
+    for (rest, status, text) in rows {
+        let script = long_feed(rt.alloc(), *rest)?;
+        let called = told_in(rt, &["feasible"], script)?;
+        if called.status != *status || called.written.as_slice() != text.as_bytes() {
+            return Ok(false);
+        }
+    }
+    Ok(true)
+}
+
+#[test]
+fn a_question_stops_at_a_job_too_many(rt: HostRuntime) -> Result<(), Fail> {
+    assert!(rt; are_asked(&rt, &LONG_FEEDS)?);
     Ok(())
 }

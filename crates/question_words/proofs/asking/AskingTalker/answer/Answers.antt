@@ -36,9 +36,8 @@ returns-in-Err-clause-answers g c = λ a x at over.
     (subst IsFinal (sym c.refused.ensures.status) tt)
     (inl (
       c.refused.ensures.status,
-      refusal (says a.question) x c.args._ended over c.in-Err.fault
-          (c.in-Err.ensures.fault x at.reads) _
-          (rw (c.bytes.ensures, c.fault_text.ensures.text) at c.refused.ensures.text),
+      refusal (says a.question) x c.args._ended over c.in-Err.why (c.in-Err.ensures.none x at.reads) _
+          c.refused.ensures.text,
     )) c.put-in-Err.ensures.puts
 
 pub returns-in-Ok-answer-clause-spent : goal.returns-in-Ok-answer-clause-spent

@@ -12,7 +12,7 @@ pub returns-clause-steady : goal.returns-clause-steady
 returns-clause-steady g c = λ a. steady (says a.question)
 
 pub returns-clause-few : goal.returns-clause-few
-returns-clause-few g c = λ a t m x at goes. few t.reader x at.reads goes
+returns-clause-few g c = λ a t m x at goes. few x goes
 
 pub returns-clause-spent : goal.returns-clause-spent
 returns-clause-spent g c = λ a t m x rest at.
