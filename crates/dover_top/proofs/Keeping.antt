@@ -150,5 +150,6 @@ dueled k share front moves is it written = record {
   loses = λ scheduler online. each_loses One k share.whole share.part scheduler is.some_part it.valid
       it.valid.count online;
   feed = subst (IsFeedOf (duel_front k share front)) (sym written)
-      (feed_is (duel_front k share front) (front_valid k front (jobs_for k share) it.valid) refl);
+      (feed_is (duel_front k share front) (front_valid k front (jobs_for k share) it.valid) refl
+      (front_valid k front (jobs_for k share) it.valid).count);
 }
