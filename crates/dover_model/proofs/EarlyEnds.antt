@@ -400,7 +400,7 @@ module _ (J : Instance) (valid : IsValid J) where
       item : (i : Item) × IsMember i items × (finish_of_item i ≡ Some (finish_now r))
       item = given_by finish_of_item items (finish_now r) member
 
-      less : Each (λ x. (q : Task) → IsMember q x.before.tasks → q.number ≡ r.number → q.had < r.had) front
+      less : Each (λ x. (q : Task) → IsMember q x.before.tasks → q.number ≡ r.number → q.had + 1 ≤ r.had) front
       less x there q q_there same = less_all J valid (s.clock + 1) r (is_running_role r r_there.1) front
           (opening J.jobs) s
           (opening_keeps J) (path_open (s.clock + 1) front (opening J.jobs) s (opening_keeps J) path (omega arith))
@@ -411,7 +411,8 @@ module _ (J : Instance) (valid : IsValid J) where
       by_shown x there g same says =
           let now : finish_now says.job ≡ finish_now r = some_same (finish_now says.job) g.finish
           (ap finish_of_item says.shown) ∙ same in
-          let low : says.job.had < r.had = less x there says.job (found is_running x.before.tasks says.job says.is).0
+          let low : says.job.had + 1 ≤ r.had =
+          less x there says.job (found is_running x.before.tasks says.job says.is).0
           (ap (λ (f : Finish). f.number) now) in
           let had : says.job.had ≡ r.had = ap (λ (f : Finish). f.had) now in
           omega (arith, low, had)

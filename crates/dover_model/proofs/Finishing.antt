@@ -49,6 +49,11 @@ finish_due finishes s f due = by_running (running s) refl it.1 where
             (and_parts ((f.number == r.number) && (f.had == r.had)) (nat_lt 0 r.had) comes).0).0;
       }
 
+-- and names what the job has had
+pub due_had : (finishes : List Finish) (s : State) (f : Finish) (it : IsDue finishes s f) → f.had ≡ it.job.had
+due_had finishes s f it = eqb-true _ _ (and_parts (f.number == it.job.number) (f.had == it.job.had)
+    (and_parts ((f.number == it.job.number) && (f.had == it.job.had)) (nat_lt 0 it.job.had) it.comes).0).1
+
 -- where a finish is due, the running job is done, and else the deed is the same
 pub finish_deed : (k : Fraction) (s : State) (other : Move) (finishes : List Finish) (m : Move) → Deed k s other m
     → Deed k s other (finish_or s.clock (due_finish finishes s) m)

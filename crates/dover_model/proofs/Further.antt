@@ -3,7 +3,7 @@ use Rattle.std.proofs.Common.{◌≡◌, ℕ, ◌+◌, ◌≤◌, ◌<◌, ◌�
 use Rattle.std.proofs.Common.{Bool, true, false, cond, arith, append_assoc}
 use Rattle.std.specs.Prelude.{Option, Some, None, nat_le, nat_lt, ◌==◌, ◌&&◌}
 use Rattle.std.specs.List.{cons_option}
-use Rattle.std.proofs.lemmas.Bool.{eqb-true, eq-eqb, and_parts, lt-ltb}
+use Rattle.std.proofs.lemmas.Bool.{eq-eqb, lt-ltb}
 use Rattle.std.proofs.lemmas.List.Folds.{find-append}
 use Rattle.std.specs.Option.{option_or}
 use Rattle.dover_model.specs.declared.events.Event.TheVariants.{Complete}
@@ -16,11 +16,12 @@ use Rattle.dover_model.specs.Step.{Move, Prints, Ticks, due_finish, finish_or, s
 use Rattle.dover_model.specs.Step.{declared_open_step, after, ticked}
 use Rattle.dover_model.specs.Run.{Step, printed, event_of}
 use Rattle.dover_model.specs.Settled.{waits_for_mark, settled_steps, settled_state, settled, finish_now, RunsAtMark}
-use Rattle.dover_model.specs.Settled.{AreOverFor}
+use Rattle.dover_model.specs.Settled.{AreOverFor, AreYetToCome}
+use Rattle.dover_model.specs.Jumps.{AreAhead}
 use Rattle.dover_model.specs.WholeRun.{open_at, IsBarrier, Begins}
 use Rattle.dover_model.specs.Paths.{IsOpenPath, HasPrinted}
 use Rattle.dover_model.specs.Sound.{IsMember, Each, Keeps}
-use Rattle.dover_model.proofs.Members.{not_found, map_member, member_behind, some_same}
+use Rattle.dover_model.proofs.Members.{not_found, map_member, member_behind, some_same, each_cons}
 use Rattle.dover_model.proofs.Roles.{passes, one_number}
 use Rattle.dover_model.proofs.Kept.{Moved, move_of, open_kept, opening_keeps, come_coming}
 use Rattle.dover_model.proofs.Readiness.{IsReady, opening_ready, runner}
@@ -28,10 +29,10 @@ use Rattle.dover_model.proofs.Ending.{potential, clock_after}
 use Rattle.dover_model.proofs.Settling.{settles, settled_is_run}
 use Rattle.dover_model.proofs.Barriers.{AtBarrier, settled_at_barrier}
 use Rattle.dover_model.proofs.Paths.{path_keeps, path_ready, path_then_settled, one_settled_run, printed_begins_run}
-use Rattle.dover_model.proofs.Paths.{path_later, path_append, printed_begins}
+use Rattle.dover_model.proofs.Paths.{path_later, path_append, path_settles, printed_begins}
 use Rattle.dover_model.proofs.Runs.{printed_append}
 use Rattle.dover_model.proofs.Resting.{settled_path, path_state}
-use Rattle.dover_model.proofs.Finishing.{IsDue, finish_due}
+use Rattle.dover_model.proofs.Finishing.{IsDue, finish_due, due_had}
 use Rattle.dover_model.proofs.Meeting.{finishing_valid}
 use Rattle.dover_model.proofs.Tests.{never}
 
@@ -100,6 +101,18 @@ module _ (J : Instance) (valid : IsValid J) (more : List Finish) (mark : ℕ) wh
               rest.1),
         )
 
+    -- with no other steps, where none is due at the barrier either
+    pub settled_same : due_finish more (settled_state J mark) ≡ None → settled_steps J2 mark ≡ settled_steps J mark
+    settled_same none_there = one_settled_run J2.rules mark (settled_steps J2 mark) (settled_steps J mark)
+        (opening J.jobs) (settled_is_run J2 mark (finishing_valid J (J.rules.finishes ++ more) valid))
+        (path_settles J2.rules mark (settled_steps J mark) (opening J.jobs) path_there.0 path_still barrier_still) where
+          is_there : settled_state J mark ≡ path_there.0
+          is_there = path_state J.rules mark (settled_steps J mark) (opening J.jobs) path_there.0 path_there.1
+
+          barrier_still : IsBarrier J2.rules mark path_there.0
+          barrier_still = ap (λ m. waits_for_mark m && nat_le mark path_there.0.clock)
+              (same_open path_there.0 (subst (λ s. due_finish more s ≡ None) is_there none_there)) ∙ path_there.2
+
     -- and it begins what is printed
     pub printed_still : Begins (settled J mark) (printed J2)
     printed_still =
@@ -112,7 +125,7 @@ module _ (J : Instance) (valid : IsValid J) (more : List Finish) (mark : ℕ) wh
 
 -- each task of this number has had less
 abbrev Less : ℕ → ℕ → State → Type 0
-Less n h s = Each (λ t. t.number ≡ n → t.had < h) s.tasks
+Less n h s = Each (λ t. t.number ≡ n → t.had + 1 ≤ h) s.tasks
 
 -- so what is less after a move was less before
 less_before : (n h : ℕ) (s : State) (m : Move) → Less n h (after s m) → Less n h s
@@ -120,7 +133,7 @@ less_before n h s m low t member same =
     let it : Moved s (after s m) = move_of s m in
     let there : IsMember (it.by t) (after s m).tasks =
     subst (IsMember (it.by t)) (sym it.tasks) (map_member it.by s.tasks t member) in
-    let later : (it.by t).had < h = low (it.by t) there (it.number t ∙ same) in
+    let later : (it.by t).had + 1 ≤ h = low (it.by t) there (it.number t ∙ same) in
     let grows : t.had ≤ (it.by t).had = it.had t in omega arith
 
 -- of a member of a mapped list
@@ -199,23 +212,46 @@ module _ (J : Instance) (valid : IsValid J) (mark : ℕ) (r : Task) (runs : r.ro
       some_had (y ∷ zs) (after s (open_step J.rules s)) t (open_kept J valid s keeps J.rules)
       (λ e. absurd (let no : y ∷ zs ≡ [] = e in cc)) path.2 member (λ z there. early z (inr there))
 
--- a finish of a job that has had less isn't due
-not_due : (r : Task) (s : State) → Less r.number r.had s → due_finish (finish_now r ∷ []) s ≡ None
-not_due r s less = by_due (due_finish (finish_now r ∷ []) s) refl where
-  by_due : (o : Option Finish) → due_finish (finish_now r ∷ []) s ≡ o → o ≡ None
+-- a finish that is ahead of its job isn't due
+ahead_not_due : (fs : List Finish) (s : State) → AreAhead 1 fs s → due_finish fs s ≡ None
+ahead_not_due fs s ahead = by_due (due_finish fs s) refl where
+  by_due : (o : Option Finish) → due_finish fs s ≡ o → o ≡ None
   by_due None e = refl
-  by_due (Some f) e = absurd (by_member it.member) where
-    it : IsDue (finish_now r ∷ []) s f
-    it = finish_due (finish_now r ∷ []) s f e
+  by_due (Some f) e =
+      let it : IsDue fs s f = finish_due fs s f e in
+      let had : f.had ≡ it.job.had = due_had fs s f it in
+      let low : it.job.had + 1 ≤ f.had = ahead f it.member it.job it.there (sym it.number) in absurd (omega arith)
 
-    by_member : (f ≡ finish_now r) ⊎ ⊥ → ⊥
-    by_member (inr none) = none
-    by_member (inl same) =
-        let had : f.had ≡ it.job.had = eqb-true _ _ (and_parts (f.number == it.job.number) (f.had == it.job.had)
-        (and_parts ((f.number == it.job.number) && (f.had == it.job.had)) (nat_lt 0 it.job.had) it.comes).0).1 in
-        let low : it.job.had < r.had = less it.job it.there
-        (sym it.number ∙ ap (λ (g : Finish). g.number) same) in
-        let is : f.had ≡ r.had = ap (λ (g : Finish). g.had) same in omega arith
+-- a finish of a job that has had less isn't
+not_due : (r : Task) (s : State) → Less r.number r.had s → due_finish (finish_now r ∷ []) s ≡ None
+not_due r s less = ahead_not_due (finish_now r ∷ []) s
+    (each_cons (λ f. Less f.number f.had s) (finish_now r) [] less (λ f member. absurd member))
+
+-- on a path, what is less at its end was less before
+less_path : (J : Instance) (mark n h : ℕ) (xs : List Step) (s t : State) → IsOpenPath J.rules mark s xs t → Less n h t
+    → Less n h s × Each (λ x. Less n h x.before) xs
+less_path J mark n h [] s t here low = (subst (Less n h) here low, λ x member. absurd member)
+less_path J mark n h (x ∷ xs) s t path low =
+    let rest = less_path J mark n h xs (after s (open_step J.rules s)) t path.2 low in
+    let here : Less n h s = less_before n h s (open_step J.rules s) rest.0 in (
+      here,
+      each_cons (λ (y : Step). Less n h y.before) x xs
+          (subst (λ (y : Step). Less n h y.before) (sym path.0) here) rest.1,
+    )
+
+-- finishes that are ahead of their jobs at the barrier are yet to come
+pub ahead_yet : (J : Instance) → IsValid J → (mark : ℕ) (fs : List Finish) → AreAhead 1 fs (settled_state J mark)
+    → AreYetToCome J mark fs
+ahead_yet J valid mark fs ahead = record {
+  before = λ x member. ahead_not_due fs x.before (λ f named. (less_path J mark f.number f.had (settled_steps J mark)
+      (opening J.jobs) there.0 there.1 (subst (Less f.number f.had) is_there (ahead f named))).1 x member);
+  there = ahead_not_due fs (settled_state J mark) ahead;
+} where
+  there : (t : State) × IsOpenPath J.rules mark (opening J.jobs) (settled_steps J mark) t × IsBarrier J.rules mark t
+  there = settled_path J.rules mark (settled_steps J mark) (opening J.jobs) (settled_is_run J mark valid)
+
+  is_there : settled_state J mark ≡ there.0
+  is_there = path_state J.rules mark (settled_steps J mark) (opening J.jobs) there.0 there.1
 
 module _ (J : Instance) (valid : IsValid J) (mark : ℕ) (r : Task) (at : RunsAtMark J mark r) where
   -- the path to the barrier

@@ -79,7 +79,7 @@ abbrev FreshIsLast : ℕ → State → Type 0
 FreshIsLast last s = Each (λ t. t.role ≡ Fresh → s.clock ≤ last) s.tasks
 
 -- a job is fresh where one is left to wait
-waits_fresh : (k : Fraction) (s : State) (m : Move) → Deed k s Ticks m → (n : ℕ) → m ≡ Waits n
+pub waits_fresh : (k : Fraction) (s : State) (m : Move) → Deed k s Ticks m → (n : ℕ) → m ≡ Waits n
     → (t : Task) × IsMember t s.tasks × (t.role ≡ Fresh)
 waits_fresh k s m deed n is = by_deed m deed (ap waits is) where
   waits : Move → Bool

@@ -55,6 +55,9 @@ pub mod ReleaseCounts
 pub mod Onlines
 pub mod Meeting
 pub mod Further
+pub mod FinishOrders
+pub mod SilentTicks
+pub mod AheadFinishes
 pub mod LastSteps
 pub mod OverPaths
 pub mod FreelySpending
