@@ -11,3 +11,4 @@ pub mod RollRuns
 pub mod Present
 pub mod RollSettled
 pub mod Rostered
+pub mod SameFinishes

@@ -5,10 +5,12 @@ ghost use Rattle.std.specs.Option.{option_map};
 ghost use Rattle.dover_model.specs.declared.events.Event.{Event};
 ghost use Rattle.dover_model.specs.declared.events.Event.TheVariants.{Release};
 ghost use Rattle.dover_model.specs.JobFacts.{JobFacts};
-ghost use Rattle.dover_model.specs.Instance.{Instance, IsValid, with_jobs};
+ghost use Rattle.dover_model.specs.Finishes.{Finish};
+ghost use Rattle.dover_model.specs.Instance.{Instance, IsValid, with_jobs, finishing};
 ghost use Rattle.dover_model.specs.Limits.{most_ready};
 ghost use Rattle.dover_model.specs.Session.{is_full};
 ghost use Rattle.dover_model.specs.Settled.{settled};
+ghost use Rattle.dover_model.specs.Sound.{HaveTheSame};
 ghost use Rattle.dover_model.specs.Spending.{CostsAtMost};
 ghost use Rattle.dover_model.specs.WholeRun.{Begins};
 ghost use Rattle.dover_model.specs.declared.horizon.Horizon.{Horizon};
@@ -85,6 +87,11 @@ impl RosterServer {
             Serves v J to events → HasPaid v start now → CostsAtMost (length J.jobs) start now }
         ensures place { (v : RosterServer) → HasPlaceUnlessFull v → length v.server.ready.ready < most_ready
             → HasPlace v }
+        ensures same_finishes { (v : RosterServer) (J : Instance) (fs gs : List Finish) (to : Horizon)
+            (events : List Event) → HaveTheSame fs gs → Serves v (finishing J fs) to events
+            → Serves v (finishing J gs) to events }
+        ensures same_at_rest { (v : RosterServer) (J : Instance) (fs gs : List Finish) (to : Horizon)
+            → HaveTheSame fs gs → Rests v (finishing J fs) to → Rests v (finishing J gs) to }
     {
         ReadyServer::laws();
     }

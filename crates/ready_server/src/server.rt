@@ -2,7 +2,8 @@
 ghost use Rattle.std.specs.Prelude.{◌≡◌, ◌≤◌, ◌<◌, ◌+◌, ◌∷◌, [], ◌++◌, ◌||◌, ◌↔◌, ◌*◌, ℕ, List, length, min, max, IfOk};
 ghost use Rattle.std.specs.Prelude.{IsOk, OnOk, IfSome, IsNone, IsTrue, false, Some};
 ghost use Rattle.dover_model.specs.declared.events.Event.{Event};
-ghost use Rattle.dover_model.specs.Instance.{Instance, IsValid, with_jobs};
+ghost use Rattle.dover_model.specs.Finishes.{Finish};
+ghost use Rattle.dover_model.specs.Instance.{Instance, IsValid, with_jobs, finishing};
 ghost use Rattle.dover_model.specs.Limits.{most_ready, most_total, last_tick};
 ghost use Rattle.dover_model.specs.declared.events.Version.TheVariants.{Three};
 ghost use Rattle.dover_model.specs.Rest.{instead_with};
@@ -11,6 +12,7 @@ ghost use Rattle.dover_model.specs.Session.{is_full};
 ghost use Rattle.dover_model.specs.Settled.{settled};
 ghost use Rattle.dover_model.specs.Run.{is_end};
 ghost use Rattle.dover_model.specs.Spending.{CostsAtMost};
+ghost use Rattle.dover_model.specs.Sound.{HaveTheSame};
 ghost use Rattle.dover_model.specs.Step.{Prints};
 ghost use Rattle.dover_model.specs.WholeRun.{Begins};
 ghost use Rattle.dover_model.specs.declared.horizon.Horizon.{Horizon};
@@ -65,6 +67,11 @@ impl ReadyServer {
         ensures few { (s : ReadyServer) (J : Instance) (to : Horizon) (events : List Event) (start now : ℕ) →
             Serves s J to events → HasPaid s start now → CostsAtMost (length J.jobs) start now }
         ensures place { (s : ReadyServer) → HasPlaceUnlessFull s → length s.ready.ready < most_ready → HasPlace s }
+        ensures same_finishes { (s : ReadyServer) (J : Instance) (fs gs : List Finish) (to : Horizon)
+            (events : List Event) → HaveTheSame fs gs → Serves s (finishing J fs) to events
+            → Serves s (finishing J gs) to events }
+        ensures same_at_rest { (s : ReadyServer) (J : Instance) (fs gs : List Finish) (to : Horizon)
+            → HaveTheSame fs gs → Rests s (finishing J fs) to → Rests s (finishing J gs) to }
     {}
 
     /// No job is admitted yet, there is room for none, and the clock is 0.

@@ -1,3 +1,4 @@
+use Rattle.ready_server.proofs.SameFinishes.{read_same}
 use Rattle.ready_server.proofs.roster_server.RosterServer.laws.Goals as goal
 
 pub returns-clause-begins : goal.returns-clause-begins
@@ -9,3 +10,15 @@ returns-clause-few c s J to events start now it paid = c.laws.ensures.few s.serv
 pub returns-clause-place : goal.returns-clause-place
 returns-clause-place c v room few =
     record { place = c.laws.ensures.place v.server room.place few; listed = room.listed }
+
+pub returns-clause-same_finishes : goal.returns-clause-same_finishes
+returns-clause-same_finishes c v J fs gs to events same it = record {
+  served = c.laws.ensures.same_finishes v.server J fs gs to events same it.served;
+  read = it.read;
+}
+
+pub returns-clause-same_at_rest : goal.returns-clause-same_at_rest
+returns-clause-same_at_rest c v J fs gs to same it = record {
+  rests = c.laws.ensures.same_at_rest v.server J fs gs to same it.rests;
+  read = read_same J fs gs same to v.roster it.read;
+}
