@@ -192,7 +192,8 @@ module _ (all : List JobFacts) (taken : List ℕ) (next : ℕ) (rise : RiseWithi
           by_part : IsMember n taken ⊎ IsMember n lacks_next.more → IsMember n taken
           by_part (inl front) = front
           by_part (inr later) = absurd (
-              let above : next + 1 ≤ n = (rise_each (next + 1) (length all) lacks_next.more lacks_next.rise n later).0 in
+              let above : next + 1 ≤ n =
+              (rise_each (next + 1) (length all) lacks_next.more lacks_next.rise n later).0 in
               omega arith)
 
     nat_lt_or : (m n : ℕ) → (m ≤ n) ⊎ (n < m)

@@ -123,8 +123,8 @@ module _ (S : Session) (j : JobFacts) where
   pub refused_alone : (refusal : Refusal) → may_finish_early S.rules.version ≡ false
       → refusal_in S j ≡ Some refusal → alone ≡ Some refusal
   refused_alone refusal former = by_alone alone refl where
-    by_alone : (o : Option Refusal) → alone ≡ o → option_or o (then_some (is_full (instance_of S) j.release) Full) ≡ Some refusal
-        → o ≡ Some refusal
+    by_alone : (o : Option Refusal) → alone ≡ o
+        → option_or o (then_some (is_full (instance_of S) j.release) Full) ≡ Some refusal → o ≡ Some refusal
     by_alone (Some r) is e = e
     by_alone None is e = none_is_some (sym (ap (λ b. then_some b Full) (few_ready (instance_of S) j.release
         (few_former S.rules.version (length (admitted_jobs S.items)) former

@@ -121,8 +121,8 @@ module _ (J : Instance) (valid : IsValid J) where
         + length (admitted_jobs (cons_option (handed_by y) (items_of back))) ≤ most_ready
         → FollowsItems (declared_by J.rules) (items_of front) mark (cons_option (handed_by y) (items_of back)))
         (sym whole.0)
-        (λ few_here. by_end few_here (is_end (step J.rules s)) refl whole.1 (λ on rest. follows_run back (front ++ step_at J.rules s ∷ [])
-        (after s (step J.rules s)) (path_more front (opening J.jobs) s path on) rest)) few where
+        (λ few_here. by_end few_here (is_end (step J.rules s)) refl whole.1 (λ on rest.
+        follows_run back (front ++ step_at J.rules s ∷ []) (after s (step J.rules s)) (path_more front (opening J.jobs) s path on) rest)) few where
           -- how many jobs there are with this item
           Few : Option Item → Type 0
           Few o = length (admitted_jobs (items_of front)) + length (admitted_jobs (cons_option o (items_of back)))

@@ -412,8 +412,8 @@ left_all kept number job a it room =
 
 -- behind a job line some job is admitted: its own, or those for which that finds no room
 pub job_admitted : (a b : Account) (number : ℕ) (job : JobFacts) → AddsJob number job (counted a) b → 0 < admitted_in b
-job_admitted a b number job it = by_room (is_full (instance_of it.session) job.release) refl (ap admitted_in it.after_is)
-  where
+job_admitted a b number job it =
+    by_room (is_full (instance_of it.session) job.release) refl (ap admitted_in it.after_is) where
     by_room : (full : Bool) → is_full (instance_of it.session) job.release ≡ full
         → admitted_in b ≡ length (admitted_jobs (it.session.items ++ cond full (refused_at job.release job Full)
         (JobItem job) ∷ [])) → 0 < admitted_in b

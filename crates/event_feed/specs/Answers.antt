@@ -1,6 +1,6 @@
 -- What the answers to the lines of a feed say of its account.
-use Rattle.std.specs.Prelude.{◌≡◌, ◌≢◌, ℕ, suc, ◌≤◌, ◌⊎◌, List, [], ◌∷◌, length, true, if◌then◌else◌, Option, Some, None}
-use Rattle.std.specs.Prelude.{Result, Ok, Err}
+use Rattle.std.specs.Prelude.{◌≡◌, ◌≢◌, ℕ, suc, ◌≤◌, ◌⊎◌, List, [], ◌∷◌, length, true, if◌then◌else◌, Option, Some}
+use Rattle.std.specs.Prelude.{None, Result, Ok, Err}
 use Rattle.dover_model.specs.Limits.{last_tick}
 use Rattle.dover_model.specs.Numerals.{AreShort}
 use Rattle.dover_model.specs.declared.events.Version.{Version}

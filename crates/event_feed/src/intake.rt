@@ -150,7 +150,8 @@ impl Model for Intake {
 }
 
 impl Intake {
-    ghost use Rattle.event_feed.specs.Kept.{StandsFor, KeepsStanding, IsGoing, HasLines, has_ended, fault_of, left_in, withdrawn};
+    ghost use Rattle.event_feed.specs.Kept.{StandsFor, KeepsStanding, IsGoing, HasLines, has_ended, fault_of, left_in};
+    ghost use Rattle.event_feed.specs.Kept.{withdrawn};
     ghost use Rattle.event_feed.specs.Answers.{Answers, EndAnswers, fault_in};
 
     /// No line came yet.
@@ -211,8 +212,8 @@ impl Intake {
     ///
     /// The first faulty line, numbered from 1, with its cause. After a fault every line is answered by that same
     /// fault. From version Two on a job that isn't admitted is no fault, and in version Three neither is one that comes
-    /// late: it is answered as `Fed::Refused`. Nor is a done line whose finish isn't right, nor a job that finds no room
-    /// among those that are ready: the caller, who has the run, withdraws it.
+    /// late: it is answered as `Fed::Refused`. Nor is a done line whose finish isn't right, nor a job for which there is
+    /// no room among those that are ready: the caller, who has the run, withdraws it.
     ///
     /// # Examples
     ///

@@ -94,8 +94,8 @@ impl FeedReader {
         self.take_byte(bytes[0])
     }
 
-    /// The feed goes on by the piece, up to a line that ends it, is faulty, or is that of a job too many. Memory is taken
-    /// for each admitted job and for each done line behind one, alone.
+    /// The feed goes on by the piece, up to a line that ends it, is faulty, or is that of a job too many. Memory is
+    /// taken for each admitted job and for each done line behind one, alone.
     ///
     /// # Errors
     ///

@@ -11,8 +11,8 @@ use Rattle.dover_model.specs.declared.horizon.Horizon.TheVariants.{Mark}
 use Rattle.dover_model.specs.Horizons.{due_by}
 use Rattle.dover_model.specs.JobFacts.{JobFacts}
 use Rattle.dover_model.specs.Instance.{Instance, IsValid, with_jobs}
-use Rattle.dover_model.specs.Session.{Session, Item, JobItem, RefusedItem, Refused, RefusedJob, instance_of, admitted_jobs}
-use Rattle.dover_model.specs.Session.{with_item, refused_at, is_full}
+use Rattle.dover_model.specs.Session.{Session, Item, JobItem, RefusedItem, Refused, RefusedJob, instance_of}
+use Rattle.dover_model.specs.Session.{admitted_jobs, with_item, refused_at, is_full}
 use Rattle.dover_model.specs.Settled.{settled}
 use Rattle.dover_model.specs.Text.{text_of, refused_text, step_numbers}
 use Rattle.dover_model.specs.Trace.{texts_among}
@@ -238,7 +238,8 @@ module _ (begins : (s : RosterServer) (J : Instance) (to : Horizon) (events : Li
         event_short L (Mark j.release) (settled (instance_of S) j.release) e it.valid front,
       )
 
-  module _ (rested : (s : RosterServer) (J : Instance) (to : Horizon) → Rests s J to → Serves s J to (due_by J to)) where
+  module _ (rested : (s : RosterServer) (J : Instance) (to : Horizon) → Rests s J to
+      → Serves s J to (due_by J to)) where
     -- and where it finds none, the line that refuses it is the last
     pub at_passing : (v u : RosterServer) (a : Account) (rest : List (List ℕ)) (it : Admitting j v a rest)
         → it.events ≡ settled (instance_of it.session) j.release

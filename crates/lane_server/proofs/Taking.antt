@@ -32,7 +32,8 @@ use Rattle.lane_server.specs.declared.lane.Work.TheVariants.{Nothing, Give, Run,
 use Rattle.lane_server.specs.declared.out.LaneOut.{LaneOut}
 use Rattle.lane_server.specs.declared.out.LaneOut.TheVariants.{Header, Refuse, RefuseDone, Refused}
 use Rattle.lane_server.proofs.Offering.{job_stands, job_mark, job_rest, job_due, job_owes}
-use Rattle.lane_server.proofs.Adding.{header_stands, header_mark, header_due, header_fits, tick_stands, tick_mark, tick_rest, tick_due}
+use Rattle.lane_server.proofs.Adding.{header_stands, header_mark, header_due, header_fits, tick_stands, tick_mark}
+use Rattle.lane_server.proofs.Adding.{tick_rest, tick_due}
 use Rattle.lane_server.proofs.Adding.{tick_owes, end_stands, end_mark, end_rest, end_due, end_owes, mark_short}
 use Rattle.lane_server.proofs.Adding.{refused_due, refused_fits, new_fault_due}
 use Rattle.lane_server.proofs.Finishing.{done_rest, done_due, done_at, done_owes}
@@ -246,7 +247,9 @@ over_stands lane ls line it over =
     let same : account_of_lines (ls ++ line ∷ []) ≡ account_of_lines ls =
     account_over ls line (sym it.stands.opened ∙ over) in record {
       intake = subst (λ w. IntakeStands w lane.intake (ls ++ line ∷ [])) (sym it.quiet)
-          (record { by_account = subst (feed.KeepsAccount lane.intake) (sym same) (quiet_intake lane ls it).by_account });
+          (record {
+            by_account = subst (feed.KeepsAccount lane.intake) (sym same) (quiet_intake lane ls it).by_account;
+          });
       opened = it.stands.opened ∙ ap is_open (sym same);
       unended = it.stands.unended;
       marked = it.stands.marked ∙ ap (λ (x : Account). x.mark) (sym same);

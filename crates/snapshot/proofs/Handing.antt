@@ -1,6 +1,6 @@
 -- What the shortest feed with a snapshot says: a line of the ratio, and a line for each job.
-use Rattle.std.proofs.Common.{◌≡◌, ℕ, suc, ◌+◌, ◌≤◌, ◌<◌, ◌^◌, List, [], ◌∷◌, ◌++◌, length, length-append, map, sym, ap, false}
-use Rattle.std.proofs.Common.{◌∙◌, subst}
+use Rattle.std.proofs.Common.{◌≡◌, ℕ, suc, ◌+◌, ◌≤◌, ◌<◌, ◌^◌, List, [], ◌∷◌, ◌++◌, length, length-append, map, sym, ap}
+use Rattle.std.proofs.Common.{◌∙◌, subst, false}
 use Rattle.std.proofs.Common.{cond, arith, Some, None, is_some, ◌||◌}
 use Rattle.std.specs.Prelude.{nat_lt}
 use Rattle.std.specs.List.{AllByRecursion}

@@ -52,7 +52,8 @@ returns-in-Job-clause-keeps c ls keeps on =
           let room : is_full (instance_of adds.session) c.in-Job.job.release ≡ false =
           finds_room a b _ _ _ it.all.lists c.in-Job.field-0 c.in-Job.job adds few in
           on_ok_weaker c.job.result
-          (λ (jobs : c.job.new.self.jobs.items ≡ c.args.self.now.jobs.items ++ c.in-Job.job ∷ []). keeps_few c.job.new.self (ls ++ c.args.line.now ∷ []) (kept.1 ∙ it.few)
+          (λ (jobs : c.job.new.self.jobs.items ≡ c.args.self.now.jobs.items ++ c.in-Job.job ∷ []).
+          keeps_few c.job.new.self (ls ++ c.args.line.now ∷ []) (kept.1 ∙ it.few)
           (kept.0 ∙ on ∙ sym it.opened ∙ sym (ap is_open adds.after_is))
           (omega (arith, few, ap length jobs, length-append c.args.self.now.jobs.items (c.in-Job.job ∷ []))) (record {
             intake = rw c.job.ensures.intake (subst (λ k. feed.StandsFor k (ls ++ c.args.line.now ∷ []))

@@ -21,6 +21,7 @@ returns-in-Ok-clause-jobs c = λ x it. let all = it.reads.keeps.all c.if-self.fa
 pub returns-in-Err-clause-none : goal.returns-in-Err-clause-none
 returns-in-Err-clause-none c = λ x it. let all = it.reads.keeps.all c.if-self.false in (
   sym (many_is c.args.self x it) ∙ c.if-self.false,
-  refused_by c.args.self x it c.if-self.false c.in-Err.fault (c.in-Err.ensures.answer (lines_of it.read) (keeps_standing _ _ all.intake))
+  refused_by c.args.self x it c.if-self.false c.in-Err.fault
+      (c.in-Err.ensures.answer (lines_of it.read) (keeps_standing _ _ all.intake))
       (λ other is. let e = c.in-Err.ensures.fault other is in cc),
 )
