@@ -12,7 +12,7 @@ use Rattle.dover_model.specs.JobFacts.{JobFacts}
 use Rattle.dover_model.specs.Instance.{Declaration, Instance, under}
 use Rattle.dover_model.specs.Feed.{Account, rules_with, is_open}
 use Rattle.dover_model.specs.Session.{Item, JobItem, RefusedItem, FinishItem, RefusedLine, RefusedJob, RefusedDone}
-use Rattle.dover_model.specs.Session.{EarlyFinish, Session, instance_of, finish_at, may_finish_early, is_same_refusal}
+use Rattle.dover_model.specs.Session.{EarlyFinish, Session, instance_of, finish_at, admitted_jobs, is_same_refusal}
 use Rattle.event_feed.specs.declared.listed.DoneLine.{DoneLine}
 use Rattle.event_feed.specs.declared.listed.Listed.{Listed}
 
@@ -99,10 +99,10 @@ pub record StandAmong (jobs : List JobFacts) (dones : List DoneLine) : Type 0 wh
 
 -- ---- what is listed of a session
 
--- a session is declared, in a version in which no job finishes early
-abbrev pub IsPlain : Option Session → Type 0
-IsPlain None = ⊥
-IsPlain (Some S) = may_finish_early S.rules.version ≡ false
+-- a session is declared, of no more jobs than a word takes that keeps all of them
+abbrev pub HasFewJobs : Option Session → Type 0
+HasFewJobs None = ⊥
+HasFewJobs (Some S) = length (admitted_jobs S.items) ≤ most_jobs Two
 
 -- the session at this mark declares these rules, and its run is that of these jobs and done lines
 pub record ListsOf (declared : Fraction × Version) (jobs : List JobFacts) (dones : List DoneLine)

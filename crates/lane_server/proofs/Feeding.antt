@@ -1,19 +1,20 @@
 -- What bytes of a feed hand to its lane, and what is left to give then.
 use Rattle.std.proofs.Common.{Bool, ◌≡◌, ℕ, List, [], ◌∷◌, ◌++◌, sym, ap, ◌∙◌, subst, refl, true, false, cond, Some}
-use Rattle.std.proofs.Common.{Result}
+use Rattle.std.proofs.Common.{Result, arith}
 use Rattle.std.proofs.Common.{Ok, Err}
 use Rattle.std.proofs.lemmas.List.{append-nil}
-use Rattle.std.specs.Prelude.{OnOk, OnErr, IsTrue, ◌↔◌, not, None}
-use Rattle.dover_model.specs.declared.events.Version.{Version}
-use Rattle.dover_model.specs.Instance.{Rules}
-use Rattle.event_feed.specs.Listing.{IsPlain}
+use Rattle.std.specs.Prelude.{OnOk, OnErr, IsTrue, ◌↔◌, None, ◌≤◌, length, nat_le}
+use Rattle.std.proofs.lemmas.Bool.{leb-true, le-leb}
+use Rattle.dover_model.specs.declared.events.Version.TheVariants.{Two}
+use Rattle.dover_model.specs.Limits.{most_jobs}
+use Rattle.event_feed.specs.Listing.{HasFewJobs}
 use Rattle.dover_model.proofs.Tests.{never}
 use Rattle.dover_model.specs.declared.Memory.{Memory}
 use Rattle.dover_model.specs.Due.{due_lines}
 use Rattle.dover_model.specs.Feed.{Account, Standing, Open, Ended, Faulty, account, account_of_lines, is_open, is_ended}
 use Rattle.dover_model.specs.Feed.{next_line}
 use Rattle.dover_model.specs.Lines.{lines_of, rest_of, is_too_long}
-use Rattle.dover_model.specs.Session.{Session, instance_of, may_finish_early}
+use Rattle.dover_model.specs.Session.{Session, instance_of}
 use Rattle.dover_model.specs.Settled.{settled}
 use Rattle.dover_model.specs.WholeRun.{Begins}
 use Rattle.dover_model.proofs.Accounts.{lines_goes}
@@ -30,6 +31,7 @@ use Rattle.lane_server.specs.declared.lane.Lane.{Lane}
 use Rattle.lane_server.specs.declared.lane.Work.TheVariants.{Nothing}
 use Rattle.lane_server.proofs.Adding.{account_next, added_is, lines_kept, open_serves, open_stands, opens_by}
 use Rattle.lane_server.proofs.Adding.{reach_open}
+use Rattle.ready_server.proofs.Rostered.{served_jobs}
 use Rattle.ready_server.specs.Rostering.{Serves}
 use Rattle.ready_server.specs.declared.roster_server.RosterServer.{RosterServer}
 
@@ -94,22 +96,21 @@ module _ (lane : Lane) (ls : List (List ℕ)) (it : IsQuiet lane ls) where
   fits_there = (subst (λ w. Owes w lane.server (account_of_lines ls) []) it.quiet it.stands.owes).1
 
   -- where it has none, none is declared
-  pub plain_nowhere : lane.server ≡ None → IsTrue false ↔ IsPlain (account_of_lines ls).session
-  plain_nowhere none = subst (λ o. IsTrue false ↔ IsPlain o)
+  pub few_nowhere : lane.server ≡ None → IsTrue false ↔ HasFewJobs (account_of_lines ls).session
+  few_nowhere none = subst (λ o. IsTrue false ↔ HasFewJobs o)
       (sym (subst (Fits (account_of_lines ls)) none fits_there)) ((λ t. never t), (λ none. absurd none))
 
-  -- otherwise the server's version says so
-  pub plain_where : (v : RosterServer) → lane.server ≡ Some v → (b : Bool)
-      → b ≡ may_finish_early v.server.ready.rules.version → IsTrue (not b) ↔ IsPlain (account_of_lines ls).session
-  plain_where v there b is =
+  -- otherwise it has as many jobs as the server
+  pub few_where : (v : RosterServer) → lane.server ≡ Some v → (b : Bool)
+      → b ≡ nat_le v.server.ready.jobs (most_jobs Two) → IsTrue b ↔ HasFewJobs (account_of_lines ls).session
+  few_where v there b is =
       let fits : Fits (account_of_lines ls) (Some v) = subst (Fits (account_of_lines ls)) there fits_there in
-      let version : fits.0.rules.version ≡ v.server.ready.rules.version =
-      ap (λ (r : Rules). r.version) fits.2.served.follows.rules in
-      subst (λ o. IsTrue (not b) ↔ IsPlain o) (sym fits.1)
-      (by fits.0.rules.version b (is ∙ ap may_finish_early (sym version))) where
-        by : (v : Version) (b : Bool) → b ≡ may_finish_early v → IsTrue (not b) ↔ (may_finish_early v ≡ false)
-        by v true e = ((λ t. never t), (λ f. never (sym (e ∙ f))))
-        by v false e = ((λ t. sym e), (λ f. refl))
+      let count : v.server.ready.jobs ≡ length (instance_of fits.0).jobs =
+      served_jobs v (instance_of fits.0) _ _ fits.2 in
+      subst (λ o. IsTrue b ↔ HasFewJobs o) (sym fits.1) (
+        (λ t. let low : v.server.ready.jobs ≤ most_jobs Two = leb-true _ _ (sym is ∙ t) in omega (arith, count)),
+        (λ few. is ∙ le-leb _ _ (let low : v.server.ready.jobs ≤ most_jobs Two = omega (arith, count) in low)),
+      )
 
 -- ---- a lane that goes on and has given all
 

@@ -20,7 +20,7 @@ ghost use Rattle.std.specs.Prelude.{
 };
 ghost use Rattle.dover_model.specs.Feed.{Account, account_of_lines, is_open};
 ghost use Rattle.dover_model.specs.Spending.{CostsAtMost};
-ghost use Rattle.event_feed.specs.Listing.{IsPlain};
+ghost use Rattle.event_feed.specs.Listing.{HasFewJobs};
 ghost use Rattle.event_feed.specs.Answers.{DeclaresRatio, AddsJob, AddsDone, IsFed, EndAnswers, counted, admitted_in};
 ghost use Rattle.event_feed.specs.Kept.{fault_of, withdrawn};
 ghost use Rattle.dover_model.specs.declared.events.Refusal.TheVariants.{Full};
@@ -451,13 +451,14 @@ impl Lane {
         self.intake.end()
     }
 
-    /// Whether the ratio was declared, in a version in which no job finishes early, where all that is due was given.
-    #[tactic(auto, using(crate::proofs::Feeding::plain_where, crate::proofs::Feeding::plain_nowhere))]
-    pub fn is_plain(&self) -> bool
-        ensures { (ls : List (List ℕ)) → IsQuiet self.now ls → IsTrue result ↔ IsPlain (account_of_lines ls).session }
+    /// Whether the ratio was declared, and no more jobs were admitted than a word takes that keeps all of them, where
+    /// all that is due was given.
+    pub fn has_few_jobs(&self) -> bool
+        ensures { (ls : List (List ℕ)) → IsQuiet self.now ls → IsTrue result
+            ↔ HasFewJobs (account_of_lines ls).session }
     {
         match &self.server {
-            Some(server) => !server.version().may_finish_early(),
+            Some(server) => server.jobs() <= Version::Two.most_jobs(),
             None => false,
         }
     }

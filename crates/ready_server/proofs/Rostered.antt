@@ -1,5 +1,5 @@
 -- What a server that may keep a roster has read after a step.
-use Rattle.std.proofs.Common.{◌≡◌, ◌<◌, ◌-◌, ◌^◌, ℕ, List, [], ◌∷◌, ◌++◌, refl, sym, ap, ◌∙◌, subst, arith}
+use Rattle.std.proofs.Common.{◌≡◌, ◌<◌, ◌-◌, ◌^◌, ℕ, List, [], ◌∷◌, ◌++◌, length, refl, sym, ap, ◌∙◌, subst, arith}
 use Rattle.std.specs.Prelude.{Option, Some, None, is_some}
 use Rattle.std.specs.Option.{option_map}
 use Rattle.dover_model.specs.declared.events.Event.{Event}
@@ -10,6 +10,7 @@ use Rattle.dover_model.specs.Settled.{settled}
 use Rattle.dover_model.specs.declared.horizon.Horizon.{Horizon}
 use Rattle.dover_model.specs.declared.horizon.Horizon.TheVariants.{Mark, End}
 use Rattle.dover_model.specs.Horizons.{MayFollow, due_by, Gives}
+use Rattle.ready_jobs.proofs.Courses.{follows_count}
 use Rattle.ready_server.specs.Serving as ready
 use Rattle.ready_server.specs.declared.server.ReadyServer.{ReadyServer}
 use Rattle.ready_server.proofs.Stepping.{serves_begins, rests_serves}
@@ -140,6 +141,11 @@ release_read v w J K t e it served is = record {
 -- a server at rest has printed all that is due
 pub roster_rests : (v : RosterServer) (J : Instance) (to : Horizon) → Rests v J to → Serves v J to (due_by J to)
 roster_rests v J to it = record { served = rests_serves v.server J to it.rests; read = it.read }
+
+-- a server has as many jobs as were admitted
+pub served_jobs : (v : RosterServer) (J : Instance) (to : Horizon) (events : List Event) → Serves v J to events
+    → v.server.ready.jobs ≡ length J.jobs
+served_jobs v J to events it = follows_count v.server.ready J it.served.state it.served.follows
 
 -- ---- a finish
 

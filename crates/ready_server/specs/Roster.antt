@@ -3,6 +3,7 @@ use Rattle.std.specs.Prelude.{◌≡◌, ◌<◌, ◌^◌, length, IfSome}
 use Rattle.std.specs.Prelude.{ℕ, suc, ◌-◌, List, [], ◌∷◌, ◌++◌, set, Bool, false, not, ◌&&◌, ◌==◌}
 use Rattle.std.specs.Prelude.{if◌then◌else◌, Option, Some, None}
 use Rattle.std.specs.List.{slice_get, fold}
+use Rattle.std.specs.Option.{option_and_then, option_map}
 use Rattle.dover_model.specs.declared.events.Event.{Event}
 use Rattle.dover_model.specs.declared.events.Event.TheVariants.{Release, Run, Preempt, Take, Complete, Abandon, End}
 use Rattle.dover_model.specs.declared.events.Role.{Role}
@@ -67,6 +68,10 @@ job_at p clock e = record {
   role = if is_turn p.turn e.task.number then Running else (if is_displaced p.takes e then Waiting else e.task.role);
   had = if is_turn p.turn e.task.number then had_with (clock - p.since) e.task else e.task.had;
 }
+
+-- the job that runs, as it is at a tick
+abbrev pub runner_at : Roll → ℕ → Option Task
+runner_at p clock = option_and_then (λ n. option_map (job_at p clock) (slice_get p.jobs n)) p.turn
 
 -- ---- what printed steps do to it
 

@@ -196,6 +196,14 @@ impl Roster {
         self.since = at;
     }
 
+    /// The job that runs, as it is at a tick.
+    pub fn runner(&self, clock: u64) -> Option<Task>
+        ensures { result ≡ model.runner_at self.now.roll clock }
+    {
+        let number = self.turn?;
+        self.job(number as usize, clock)
+    }
+
     /// The job of this number, as it is at a tick. None where it wasn't released.
     pub fn job(&self, number: usize, clock: u64) -> Option<Task>
         ensures modest { IfSome result (λ t. t.had ≤ t.job.work) }

@@ -1,6 +1,6 @@
 //! The server of a feed: with a roster of its jobs, where one is asked for.
 ghost use Rattle.std.specs.Prelude.{◌≡◌, ◌≤◌, ◌<◌, ◌+◌, ◌∷◌, [], ◌++◌, ◌↔◌, ℕ, List, length, IfOk, IsOk};
-ghost use Rattle.std.specs.Prelude.{OnOk, IfSome, IsTrue, Some, is_some, true};
+ghost use Rattle.std.specs.Prelude.{OnOk, IfSome, IsNone, IsTrue, Some, is_some, true};
 ghost use Rattle.std.specs.Option.{option_map};
 ghost use Rattle.dover_model.specs.declared.events.Event.{Event};
 ghost use Rattle.dover_model.specs.declared.events.Event.TheVariants.{Release};
@@ -16,6 +16,7 @@ ghost use Rattle.dover_model.specs.WholeRun.{Begins};
 ghost use Rattle.dover_model.specs.declared.horizon.Horizon.{Horizon};
 ghost use Rattle.dover_model.specs.declared.horizon.Horizon.TheVariants.{Mark};
 ghost use Rattle.dover_model.specs.Horizons.{MayFollow, no_jobs, due_by, Gives};
+ghost use Rattle.ready_server.specs.NextStep.{ComesAt};
 ghost use Rattle.ready_server.specs.Roster.{empty_roll, with_step, HasLine, HasFewTakes};
 ghost use Rattle.ready_server.specs.Rostering.{Serves, Rests, HasPlace, HasPlaceUnlessFull, HasPaid, Finishes};
 ghost use Rattle.ready_server.specs.Rostering.{has_roster};
@@ -234,6 +235,23 @@ impl RosterServer {
         ensures { result ≡ self.now.server.ready.rules.ratio }
     {
         self.server.ratio()
+    }
+
+    /// How many jobs were admitted.
+    pub fn jobs(&self) -> u32
+        ensures { result ≡ self.now.server.ready.jobs }
+    {
+        self.server.jobs()
+    }
+
+    /// The tick at which the run prints its next step, where all is given up to a mark and no further job comes. None
+    /// where no job is ready.
+    pub fn next(&self) -> Option<u64>
+        ensures none { IsNone result ↔ (self.now.server.ready.ready ≡ []) }
+        ensures at { (J : Instance) (mark : ℕ) → Rests self.now J (Mark mark)
+            → IfSome result (λ tick. ComesAt J mark (settled J mark) tick) }
+    {
+        self.server.next()
     }
 
     /// Whether a roster is kept.

@@ -201,6 +201,13 @@ impl ReadyServer {
         self.ready.ratio()
     }
 
+    /// How many jobs were admitted.
+    pub fn jobs(&self) -> u32
+        ensures { result ≡ self.now.ready.jobs }
+    {
+        self.ready.jobs()
+    }
+
     /// Whether the job of this number has the processor, where all is given up to a mark.
     pub fn runs(&self, number: u64) -> bool
         ensures { (J : Instance) (mark : ℕ) → Rests self.now J (Mark mark)

@@ -6,7 +6,6 @@ use Rattle.std.proofs.lemmas.Bool.{ltb-false}
 use Rattle.std.proofs.lemmas.List.{length-map}
 use Rattle.dover_model.specs.declared.events.Task.{Task}
 use Rattle.dover_model.specs.Lines.{lines_of, whole_lines, rest_of, is_too_long}
-use Rattle.dover_model.proofs.Limiting.{jobs_most}
 use Rattle.line_text.proofs.Lengths.{AreNotTooLong, text_few}
 use Rattle.snapshot.specs.Snapshot.{Head, state_line}
 use Rattle.snapshot.specs.Reading.{Reading, Begun, Going, Taken, Refused, next_line}
@@ -42,7 +41,7 @@ pub reading_few : (o : Option Resuming) (ls : List (List ℕ)) → IsReading o l
 reading_few None ls none = (subst AreNotTooLong (sym none) tt, omega (arith, ap length none))
 reading_few (Some r) ls it =
     let limits : Within it.0 = within it.0 it.2.limits in
-    let jobs : it.0.jobs ≤ 4_000_000_000 = omega (arith, limits.jobs, jobs_most it.0.rules.version) in (
+    let jobs : it.0.jobs ≤ 4_000_000_000 = omega (arith, limits.jobs) in (
       short_lines ls Begun it.0 it.1 it.2.reads,
       omega (arith, ap length it.2.text, length-map it.1 (λ (t : Task). state_line t), it.2.count, jobs),
     )

@@ -3,7 +3,6 @@ use Rattle.std.proofs.Common.{◌≡◌, ℕ, List, ◌++◌, append_assoc, leng
 use Rattle.std.proofs.Common.{Bool, true, false, Option, Some, None, inl, inr}
 use Rattle.std.proofs.lemmas.List.{append_cancel_left}
 use Rattle.dover_model.specs.Session.{Session, admitted_jobs}
-use Rattle.dover_model.specs.Instance.{Instance}
 use Rattle.dover_model.specs.Feed.{Open, Ended, Faulty, account, is_open, is_ended}
 use Rattle.dover_model.specs.Due.{due, closed}
 use Rattle.dover_model.specs.WholeRun.{Begins}
@@ -43,7 +42,7 @@ jobs_in s = elim s [ None ↦ 0 | Some S ↦ length (admitted_jobs S.items) ]
 same_admitted : (s t : Option Session) → SameRun s t → jobs_in s ≡ jobs_in t
 same_admitted None t same = absurd same
 same_admitted (Some S) None same = absurd same
-same_admitted (Some S) (Some T) same = sym (ap (λ (J : Instance). length J.jobs) same.0)
+same_admitted (Some S) (Some T) same = sym (ap length same.jobs)
 
 -- ---- two feeds with the same snapshot
 

@@ -15,7 +15,6 @@ use Rattle.dover_model.specs.Spending.{CostsAtMost}
 use Rattle.dover_model.proofs.Spending.{few_more}
 use Rattle.event_feed.specs.Answers.{admitted_in}
 use Rattle.event_feed.proofs.Admitting.{admitted_front}
-use Rattle.dover_model.proofs.Limiting.{jobs_most}
 use Rattle.snapshot.specs.Snapshot.{MayPause, Head, state_line, snapshot}
 use Rattle.snapshot.specs.Reading.{Reading, Begun, Going, Taken, Refused, reading_of}
 use Rattle.snapshot.proofs.Beginning.{Within, within}
@@ -161,7 +160,7 @@ module _ (x : List ℕ) (h : Head) (ts : List Task) (is : reading_of (lines_of x
   snapshot_bytes =
       let it = (front x h ts is).whole in
       let limits : Within h = within h it.read.limits in
-      let jobs : h.jobs ≤ 4_000_000_000 = omega (arith, limits.jobs, jobs_most h.rules.version) in omega (
+      let jobs : h.jobs ≤ 4_000_000_000 = omega (arith, limits.jobs) in omega (
         arith,
         jobs,
         it.all,

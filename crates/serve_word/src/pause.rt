@@ -38,12 +38,12 @@ pub(crate) fn put_lines<P: Port>(
     Ok(())
 }
 
-/// Whether a feed is paused where its input ends: its ratio was declared, in a version in which no job finishes early,
-/// it goes on, and no line has begun.
+/// Whether a feed is paused where its input ends: its ratio was declared, it has no more jobs than a snapshot lists, it
+/// goes on, and no line has begun.
 pub(crate) fn is_paused(feed: &Feed) -> bool
     ensures { (x : List ℕ) → FeedRests feed.now x → IsTrue result ↔ MayPause x }
 {
-    feed.lane().goes_on() && feed.lane().is_plain() && feed.rest() == 0
+    feed.lane().goes_on() && feed.lane().has_few_jobs() && feed.rest() == 0
 }
 
 /// A feed that may pause, as the lines of its snapshot.

@@ -1,32 +1,35 @@
 -- A job may follow valid ones where they are valid with it, and exactly then its line has no cause.
-use Rattle.std.proofs.Common.{◌≡◌, ℕ, ◌≤◌, List, [], ◌∷◌, ◌++◌, length, length-append, refl, sym, ap, ◌∙◌, subst}
+use Rattle.std.proofs.Common.{◌≡◌, ℕ, ◌≤◌, ◌<◌, List, [], ◌∷◌, ◌++◌, length, length-append, refl, sym, ap, ◌∙◌, subst}
 use Rattle.std.proofs.Common.{Bool, true, false, cond, arith, Option, Some, None}
 use Rattle.std.specs.Prelude.{nat_lt}
 use Rattle.std.specs.List.{AllByRecursion, fold}
-use Rattle.std.specs.Option.{option_map}
+use Rattle.std.specs.Option.{option_map, option_or}
+use Rattle.std.specs.Bool.{then_some}
 use Rattle.std.proofs.lemmas.Bool.{le-ltb, ltb-false}
 use Rattle.std.proofs.lemmas.List.Sums.{fold-append, sum_by-append, sum_by-cons}
 use Rattle.dover_model.specs.declared.events.Refusal.{Refusal}
 use Rattle.dover_model.specs.declared.events.Task.{Task}
 use Rattle.dover_model.specs.JobFacts.{JobFacts, IsJob}
-use Rattle.dover_model.specs.Limits.{most_jobs, most_total}
+use Rattle.dover_model.specs.declared.events.Refusal.TheVariants.{Full}
+use Rattle.dover_model.specs.Limits.{most_jobs, most_total, most_ready}
 use Rattle.dover_model.specs.Instance.{declared_by, under, Instance, IsInOrder, IsWithinRatio, IsValid, with_jobs}
 use Rattle.dover_model.specs.Instance.{total_value}
 use Rattle.dover_model.specs.Admission.{is_within_ratio_both_ways, refusal_of}
-use Rattle.dover_model.specs.Session.{admitted_jobs, refusal_in, may_finish_early}
-use Rattle.dover_model.proofs.Fullness.{refusal_former}
+use Rattle.dover_model.specs.Session.{Session, admitted_jobs, instance_of, refusal_in}
 use Rattle.dover_model.specs.Sound.{jobs_of}
 use Rattle.dover_model.specs.FeedLine.{JobLine}
 use Rattle.dover_model.specs.Feed.{Cause, NotAdmitted, late_cause, later_line_cause}
 use Rattle.dover_model.proofs.Tests.{both}
 use Rattle.dover_model.proofs.Agreement.{is_within_ratio-agrees}
 use Rattle.dover_model.proofs.Admitting.{admits}
+use Rattle.dover_model.proofs.Fullness.{few_ready}
+use Rattle.dover_model.proofs.Honest.{count_jobs}
 use Rattle.dover_model.proofs.JobSessions.{jobs_back}
 use Rattle.dover_model.proofs.Valid.{all_front, all_from}
 use Rattle.admission.proofs.Refusing.{not_refused}
 use Rattle.snapshot.specs.Snapshot.{Head}
-use Rattle.snapshot.specs.Reading.{stored, last_release}
-use Rattle.snapshot.specs.Stored.{stored_session}
+use Rattle.snapshot.specs.Reading.{declared_jobs, last_release}
+use Rattle.snapshot.specs.Stored.{jobs_session}
 
 -- ---- a valid job is admitted
 
@@ -47,7 +50,7 @@ all_pairs R xs y all = pairs xs (all_front (λ x. AllByRecursion (R x) (xs ++ y 
       pairs (u ∷ us) one other = ((all_last (R u) xs y one.0, other.0), pairs us one.1 other.1)
 
 -- a job that is valid behind others isn't refused
-valid_admitted : (J : Instance) (j : JobFacts) → IsValid (with_jobs J (j ∷ []))
+pub valid_admitted : (J : Instance) (j : JobFacts) → IsValid (with_jobs J (j ∷ []))
     → refusal_of (declared_by J.rules) J.jobs j ≡ None
 valid_admitted J j valid = not_refused (declared_by J.rules) J.jobs j (all_last IsJob J.jobs j valid.each)
     (let most : length (J.jobs ++ j ∷ []) ≤ most_jobs J.rules.version = valid.count in
@@ -67,6 +70,16 @@ valid_admitted J j valid = not_refused (declared_by J.rules) J.jobs j (all_last 
         (both _ _ (is_within_ratio-agrees J.rules.ratio i j) (is_within_ratio-agrees J.rules.ratio j i)).1 all.0,
         keeps jobs all.1,
       )
+
+-- behind few jobs one is refused by itself and the jobs before it
+pub refusal_few : (S : Session) (j : JobFacts) → length (admitted_jobs S.items) < most_ready
+    → refusal_in S j ≡ refusal_of S.rules (admitted_jobs S.items) j
+refusal_few S j few =
+    ap (λ b. option_or (refusal_of S.rules (admitted_jobs S.items) j) (then_some b Full))
+    (few_ready (instance_of S) j.release few) ∙ alone (refusal_of S.rules (admitted_jobs S.items) j) where
+      alone : (o : Option Refusal) → option_or o None ≡ o
+      alone None = refl
+      alone (Some refusal) = refl
 
 -- ---- in order of release
 
@@ -115,39 +128,42 @@ before_last (i ∷ jobs) j order =
 module _ (h : Head) (tasks : List Task) (t : Task) where
   -- the cause of the job's line behind those of the jobs before it
   abbrev pub job_cause : Option Cause
-  job_cause = later_line_cause (stored_session h tasks) (last_release tasks) (JobLine t.job)
+  job_cause = later_line_cause (jobs_session h tasks) (last_release tasks) (JobLine t.job)
+
+  -- as many jobs are admitted
+  few_jobs : length tasks < most_ready → length (admitted_jobs (jobs_session h tasks).items) < most_ready
+  few_jobs few = omega (arith, few, ap length (jobs_back (jobs_of tasks)), count_jobs tasks)
 
   -- the cause, where the release isn't below the last
-  cause_in_order : may_finish_early h.rules.version ≡ false → last_release tasks ≤ t.job.release
+  cause_in_order : length tasks < most_ready → last_release tasks ≤ t.job.release
       → job_cause ≡ option_map NotAdmitted (refusal_of h.rules (jobs_of tasks) t.job)
-  cause_in_order plain ordered =
+  cause_in_order few ordered =
       ap (λ b. cond b (Some (late_cause h.rules.version))
-      (option_map NotAdmitted (refusal_in (stored_session h tasks) t.job)))
+      (option_map NotAdmitted (refusal_in (jobs_session h tasks) t.job)))
       (le-ltb t.job.release (last_release tasks) ordered)
-      ∙ ap (option_map NotAdmitted) (refusal_former (stored_session h tasks) t.job plain)
+      ∙ ap (option_map NotAdmitted) (refusal_few (jobs_session h tasks) t.job (few_jobs few))
       ∙ ap (λ jobs. option_map NotAdmitted (refusal_of h.rules jobs t.job)) (jobs_back (jobs_of tasks))
 
   -- the jobs with this one
-  pub with_this : stored h (tasks ++ t ∷ []) ≡ with_jobs (stored h tasks) (t.job ∷ [])
+  pub with_this : declared_jobs h (tasks ++ t ∷ []) ≡ with_jobs (declared_jobs h tasks) (t.job ∷ [])
   with_this = ap (λ jobs. record { rules = under h.rules []; jobs = jobs }) (jobs_more tasks t)
 
   -- where they are valid, the last release isn't above its own
-  pub valid_ordered : IsValid (stored h (tasks ++ t ∷ [])) → last_release tasks ≤ t.job.release
+  pub valid_ordered : IsValid (declared_jobs h (tasks ++ t ∷ [])) → last_release tasks ≤ t.job.release
   valid_ordered valid = last_below t.job.release 0 tasks
       (before_last (jobs_of tasks) t.job (subst IsValid with_this valid).in_order) (omega arith)
 
   -- and there is no cause
-  pub valid_no_cause : may_finish_early h.rules.version ≡ false → IsValid (stored h (tasks ++ t ∷ []))
-      → job_cause ≡ None
-  valid_no_cause plain valid = cause_in_order plain (valid_ordered valid)
-      ∙ ap (option_map NotAdmitted) (valid_admitted (stored h tasks) t.job (subst IsValid with_this valid))
+  pub valid_no_cause : length tasks < most_ready → IsValid (declared_jobs h (tasks ++ t ∷ [])) → job_cause ≡ None
+  valid_no_cause few valid = cause_in_order few (valid_ordered valid)
+      ∙ ap (option_map NotAdmitted) (valid_admitted (declared_jobs h tasks) t.job (subst IsValid with_this valid))
 
   -- where there is no cause, they are valid
-  pub no_cause_valid : may_finish_early h.rules.version ≡ false → IsValid (stored h tasks) → job_cause ≡ None
-      → IsValid (stored h (tasks ++ t ∷ []))
-  no_cause_valid plain valid none = by_order (nat_lt t.job.release (last_release tasks)) refl none where
+  pub no_cause_valid : length tasks < most_ready → IsValid (declared_jobs h tasks) → job_cause ≡ None
+      → IsValid (declared_jobs h (tasks ++ t ∷ []))
+  no_cause_valid few valid none = by_order (nat_lt t.job.release (last_release tasks)) refl none where
     refusal : Option Refusal
-    refusal = refusal_in (stored_session h tasks) t.job
+    refusal = refusal_in (jobs_session h tasks) t.job
 
     not_any : (o : Option Refusal) → option_map NotAdmitted o ≡ None → o ≡ None
     not_any None e = refl
@@ -155,7 +171,7 @@ module _ (h : Head) (tasks : List Task) (t : Task) where
 
     by_order : (b : Bool) → nat_lt t.job.release (last_release tasks) ≡ b
         → cond b (Some (late_cause h.rules.version)) (option_map NotAdmitted refusal) ≡ None
-        → IsValid (stored h (tasks ++ t ∷ []))
+        → IsValid (declared_jobs h (tasks ++ t ∷ []))
     by_order true falls e = absurd (let clash : Some (late_cause h.rules.version) ≡ None = e in cc)
     by_order false ordered e =
         let last : last_release tasks ≤ t.job.release = ltb-false _ _ ordered in
@@ -165,7 +181,7 @@ module _ (h : Head) (tasks : List Task) (t : Task) where
         (all_from (λ (j : JobFacts). j.release ≤ last_release tasks) (λ j. j.release ≤ t.job.release) (jobs_of tasks)
         (λ j low. omega arith) all)
         (ap (λ jobs. refusal_of h.rules jobs t.job) (sym (jobs_back (jobs_of tasks)))
-        ∙ sym (refusal_former (stored_session h tasks) t.job plain) ∙ not_any refusal e)) where
+        ∙ sym (refusal_few (jobs_session h tasks) t.job (few_jobs few)) ∙ not_any refusal e)) where
           from_zero : (jobs : List JobFacts) → AllByRecursion (λ (j : JobFacts). 0 ≤ j.release) jobs
           from_zero [] = tt
           from_zero (j ∷ jobs) = (omega arith, from_zero jobs)

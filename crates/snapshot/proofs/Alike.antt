@@ -1,63 +1,83 @@
 -- Feeds that have declared the same rules and admitted the same jobs, and are as long and at the same mark, go on
 -- alike, line by line.
-use Rattle.std.proofs.Common.{◌≡◌, ℕ, suc, ◌≤◌, List, [], ◌∷◌, ◌++◌, map, refl, sym, ap, ◌∙◌, subst, append_assoc}
-use Rattle.std.proofs.Common.{Bool, true, false, cond, ◌||◌, Option, Some, None, inl, inr}
-use Rattle.std.specs.Prelude.{nat_lt}
-use Rattle.std.specs.List.{fold}
-use Rattle.std.specs.Option.{option_map}
-use Rattle.std.proofs.lemmas.Bool.{ltb-false}
+use Rattle.std.proofs.Common.{◌≡◌, ℕ, suc, ◌≤◌, max, List, [], ◌∷◌, ◌++◌, map, refl, sym, ap, ◌∙◌, subst, append_assoc}
+use Rattle.std.proofs.Common.{length, Bool, true, false, cond, ◌||◌, ◌&&◌, Option, Some, None, is_some, inl, inr, arith}
+use Rattle.std.specs.Prelude.{nat_lt, nat_le}
+use Rattle.std.specs.Bool.{then_some}
+use Rattle.std.specs.List.{fold, filter}
+use Rattle.std.specs.Option.{option_map, option_or}
+use Rattle.std.proofs.lemmas.Bool.{ltb-false, leb-true}
 use Rattle.std.proofs.lemmas.List.{append-nil}
-use Rattle.dover_model.specs.Limits.{last_tick, most_lines}
+use Rattle.std.proofs.lemmas.List.Elements.{filter_map-append}
+use Rattle.dover_model.specs.Limits.{last_tick, most_lines, most_ready}
+use Rattle.dover_model.specs.Ready.{is_ready}
+use Rattle.dover_model.specs.State.{State}
 use Rattle.dover_model.specs.declared.events.Event.{Event}
+use Rattle.dover_model.specs.declared.events.Event.TheVariants.{Complete}
 use Rattle.dover_model.specs.declared.events.Refusal.{Refusal}
+use Rattle.dover_model.specs.declared.events.Refusal.TheVariants.{BadJob, Count, Total, Ratio, Late, Full}
+use Rattle.dover_model.specs.declared.events.Version.{Version}
+use Rattle.dover_model.specs.declared.events.Version.TheVariants.{One, Two, Three}
+use Rattle.dover_model.specs.Finishes.{Finish, AreDueAlike}
 use Rattle.dover_model.specs.JobFacts.{JobFacts}
-use Rattle.dover_model.specs.Instance.{declared_by, Instance, IsValid, with_jobs}
+use Rattle.dover_model.specs.Instance.{Declaration, under, Instance, IsValid, with_jobs, finishing, with_finishes}
 use Rattle.dover_model.specs.Admission.{refusal_of}
-use Rattle.dover_model.specs.Session.{Session, JobItem, RefusedItem, Refused, RefusedJob, refused_at, with_item}
-use Rattle.dover_model.specs.Session.{instance_of}
-use Rattle.dover_model.specs.Session.{admitted_jobs, refuses_lines, may_finish_early, is_right}
-use Rattle.dover_model.specs.Run.{printed}
-use Rattle.dover_model.specs.Settled.{settled}
-use Rattle.dover_model.specs.Text.{text_of, refused_text}
-use Rattle.dover_model.specs.Trace.{texts_among}
+use Rattle.dover_model.specs.Session.{Session, JobItem, RefusedItem, FinishItem, Refused, RefusedJob, RefusedDone}
+use Rattle.dover_model.specs.Session.{EarlyFinish, refused_at, with_item, with_named, instance_of, job_of_item}
+use Rattle.dover_model.specs.Session.{finish_of_item, admitted_jobs, early_finishes, refuses_lines, may_finish_early}
+use Rattle.dover_model.specs.Session.{early_at, finish_at, is_right, is_full, refusal_in, refused_mark}
+use Rattle.dover_model.specs.Run.{printed, printed_of}
+use Rattle.dover_model.specs.Settled.{settled, settled_state}
+use Rattle.dover_model.specs.Text.{header, text_of, refused_text}
+use Rattle.dover_model.specs.Trace.{texts_among, places_of, put_in, text_of_line}
 use Rattle.dover_model.specs.FeedLine.{FeedLine, RatioLine, JobLine, TickLine, DoneLine, EndLine, feed_line}
 use Rattle.dover_model.specs.Feed.{Cause, Lines, Line, Declared, Order, NotAdmitted, Standing, Open, Ended, Faulty}
 use Rattle.dover_model.specs.Feed.{Account, NotDone, late_cause}
-use Rattle.dover_model.specs.Feed.{later_line_cause, with_fault, with_refused_at, with_line, next_line}
-use Rattle.dover_model.specs.Session.{refusal_in, refused_mark}
-use Rattle.dover_model.proofs.Fullness.{refusal_former, mark_stays}
+use Rattle.dover_model.specs.Feed.{later_line_cause, with_fault, with_item_in, with_refused_at, with_line, next_line}
 use Rattle.dover_model.specs.Due.{due_lines, fault_text}
 use Rattle.dover_model.specs.WholeRun.{Begins}
-use Rattle.dover_model.specs.Sound.{IsMember}
+use Rattle.dover_model.specs.Sound.{IsMember, HaveTheSame}
 use Rattle.dover_model.proofs.Accounts.{Holds, IsKept, lines_goes}
-use Rattle.dover_model.proofs.Former.{late_none}
+use Rattle.dover_model.proofs.FinishOrders.{same_alike, settled_alike, state_alike, finish_alike, run_alike}
+use Rattle.dover_model.proofs.Fullness.{admitted_in}
+use Rattle.dover_model.proofs.Further.{completes_at_mark}
+use Rattle.dover_model.proofs.Members.{each_append, member_front, member_behind}
 use Rattle.admission.proofs.Joining.{admitted_valid}
 use Rattle.dover_model.proofs.Emitting.{texts_more, texts_job, texts_refused}
-use Rattle.dover_model.proofs.Growing.{Reads, reads_later, job_instance, refused_instance, settled_later}
-use Rattle.dover_model.proofs.Growing.{settled_of_run}
+use Rattle.dover_model.proofs.Growing.{Reads, reads_later, job_instance, finish_instance}
+use Rattle.dover_model.proofs.Growing.{settled_later, settled_of_run, Finishes, finishing_job, right_again, early_says}
 use Rattle.dover_model.proofs.Prefixes.{settled_prefix}
+use Rattle.dover_model.proofs.PutIn.{places_after-append}
 use Rattle.event_feed.proofs.Counting.{after_form}
-use Rattle.std.specs.Option.{option_map_or}
-use Rattle.dover_model.specs.declared.events.Version.{Version}
 
 -- an account
 abbrev account_with : ℕ → Option Session → ℕ → Standing → Account
 account_with lines session mark standing = record { lines = lines; session = session; mark = mark; standing = standing }
 
--- the cause of a done line, by whether jobs may finish early
-abbrev done_cause : Session → (mark tick number : ℕ) → Bool → Option Cause
-done_cause S mark t n early = cond early
-    (cond (nat_lt last_tick t) (Some Order) (cond (is_right S mark t n) None (Some NotDone))) (Some Line)
+-- both are declared, with the same jobs under the same rules, and the same early finishes in whatever order
+pub record SameSession (S T : Session) : Type 0 where
+  pub rules : T.rules ≡ S.rules
+  pub jobs : admitted_jobs T.items ≡ admitted_jobs S.items
+  pub finishes : HaveTheSame (early_finishes S.items) (early_finishes T.items)
 
--- a late job line is out of order where no job may finish early
-late_order : (v : Version) → may_finish_early v ≡ false → late_cause v ≡ Order
-late_order v plain = ap (λ o. option_map_or NotAdmitted o Order) (late_none v plain)
-
--- both are declared, with the same jobs under the same rules, in a version in which none finishes early
 abbrev pub SameRun : Option Session → Option Session → Type 0
 SameRun None t = ⊥
 SameRun (Some S) None = ⊥
-SameRun (Some S) (Some T) = (instance_of T ≡ instance_of S) × (may_finish_early S.rules.version ≡ false)
+SameRun (Some S) (Some T) = SameSession S T
+
+-- the run of the other is that of its jobs, with the other's finishes
+pub session_is : (S T : Session) → SameSession S T
+    → instance_of T ≡ finishing (instance_of S) (early_finishes T.items)
+session_is S T same = ap (λ r. record { rules = under r (early_finishes T.items); jobs = admitted_jobs T.items })
+    same.rules
+    ∙ ap (λ js. record { rules = under S.rules (early_finishes T.items); jobs = js }) same.jobs
+
+-- so the same state is settled
+pub state_same : (S T : Session) (mark : ℕ) → SameSession S T
+    → settled_state (instance_of T) mark ≡ settled_state (instance_of S) mark
+state_same S T mark same = ap (λ K. settled_state K mark) (session_is S T same)
+    ∙ state_alike (instance_of S) (early_finishes T.items) (early_finishes S.items)
+    (same_alike (early_finishes T.items) (early_finishes S.items) (same.finishes.1, same.finishes.0)) mark
 
 -- what a later line depends on is the same
 abbrev pub Alike : Account → Account → Type 0
@@ -69,6 +89,12 @@ pub record GoAlike (a b c d : Account) : Type 0 where
   pub text : List (List ℕ)
   pub first : due_lines c ≡ due_lines a ++ text
   pub other : due_lines d ≡ due_lines b ++ text
+
+-- a finish has no place
+texts_finish : (S : Session) (f : EarlyFinish) (steps : List Event)
+    → texts_among (with_item S (FinishItem f)) steps ≡ texts_among S steps
+texts_finish S f steps = ap (λ ps. header S.rules ∷ map text_of_line (put_in ps 0 steps))
+    (places_after-append S.rules [] S.items (FinishItem f ∷ []) ∙ append-nil (places_of S))
 
 -- ---- what a line adds for one session, as it depends on its jobs
 
@@ -94,46 +120,52 @@ module _ (X : Session) (mark lines : ℕ) (holds : Holds X mark lines) where
       ∙ texts_more X (settled (instance_of X) mark) more holds.reads.within
       ∙ ap (λ ls. ls ++ map text_of more) (sym (append-nil (texts_among X (settled (instance_of X) mark))))
 
-  module _ (J : Instance) (same : instance_of X ≡ J) (more : List Event) where
+  module _ (J : Instance) (same : (m : ℕ) → settled (instance_of X) m ≡ settled J m) (more : List Event) where
     -- a tick
     tick_adds : (t : ℕ) → settled J t ≡ settled J mark ++ more
         → due_lines (account_with (suc lines) (Some X) t Open) ≡ due_lines before ++ map text_of more
     tick_adds t is = steps_add (settled (instance_of X) t) more
-        (subst (λ K. settled K t ≡ settled K mark ++ more) (sym same) is)
+        (same t ∙ is ∙ ap (λ es. es ++ more) (sym (same mark)))
 
     -- the end
-    end_adds : printed J ≡ settled J mark ++ more
+    end_adds : printed (instance_of X) ≡ printed J → printed J ≡ settled J mark ++ more
         → due_lines (account_with (suc lines) (Some X) mark Ended) ≡ due_lines before ++ map text_of more
-    end_adds is = steps_add (printed (instance_of X)) more
-        (subst (λ K. printed K ≡ settled K mark ++ more) (sym same) is)
+    end_adds all is = steps_add (printed (instance_of X)) more (all ∙ is ∙ ap (λ es. es ++ more) (sym (same mark)))
 
     -- a job
-    job_adds : (j : JobFacts) → settled (with_jobs J (j ∷ [])) j.release ≡ settled J mark ++ more
+    job_adds : (j : JobFacts) → settled (with_jobs (instance_of X) (j ∷ [])) j.release ≡ settled J mark ++ more
         → due_lines (account_with (suc lines) (Some (with_item X (JobItem j))) j.release Open) ≡ due_lines before
         ++ map text_of more
     job_adds j is = ap (λ ls. ls ++ []) (texts_job X j (settled (instance_of (with_item X (JobItem j))) j.release))
         ∙ steps_add (settled (instance_of (with_item X (JobItem j))) j.release) more
-        (ap (λ K. settled K j.release) (job_instance X j)
-        ∙ subst (λ K. settled (with_jobs K (j ∷ [])) j.release ≡ settled K mark ++ more) (sym same) is)
+        (ap (λ K. settled K j.release) (job_instance X j) ∙ is ∙ ap (λ es. es ++ more) (sym (same mark)))
 
-  -- a refused line
-  refused_adds : (j : JobFacts) (refusal : Refusal)
-      → due_lines (account_with (suc lines) (Some (with_item X (refused_at mark j refusal))) mark Open)
-      ≡ due_lines before ++ refused_text (record { at = mark; line = RefusedJob j refusal }) ∷ []
-  refused_adds j refusal =
-      let r : Refused = record { at = mark; line = RefusedJob j refusal } in
-      append-nil (texts_among (with_item X (RefusedItem r)) (settled (instance_of (with_item X (RefusedItem r))) mark))
-      ∙ texts_refused X r holds.reads
-      ∙ ap (λ ls. ls ++ refused_text r ∷ []) (sym (append-nil (texts_among X (settled (instance_of X) mark))))
+    -- an early finish
+    finish_adds : (f : EarlyFinish) (t : ℕ)
+        → settled (with_finishes (instance_of X) (f.finish ∷ [])) t ≡ settled J mark ++ more
+        → due_lines (account_with (suc lines) (Some (with_item X (FinishItem f))) t Open) ≡ due_lines before
+        ++ map text_of more
+    finish_adds f t is =
+        ap (λ ls. ls ++ []) (texts_finish X f (settled (instance_of (with_item X (FinishItem f))) t))
+        ∙ steps_add (settled (instance_of (with_item X (FinishItem f))) t) more
+        (ap (λ K. settled K t) (finish_instance X f) ∙ is ∙ ap (λ es. es ++ more) (sym (same mark)))
+
+    -- a refused line, at a mark that it may have raised
+    refused_adds : (r : Refused) → mark ≤ r.at → settled J r.at ≡ settled J mark ++ more
+        → due_lines (account_with (suc lines) (Some (with_item X (RefusedItem r))) r.at Open)
+        ≡ due_lines before ++ (map text_of more ++ refused_text r ∷ [])
+    refused_adds r raised is =
+        append-nil (texts_among (with_item X (RefusedItem r)) (settled (instance_of (with_item X
+            (RefusedItem r))) r.at))
+        ∙ texts_refused X r (reads_later X mark r.at holds.reads raised)
+        ∙ ap (λ ls. ls ++ refused_text r ∷ []) (sym (append-nil (texts_among X (settled (instance_of X) r.at)))
+        ∙ tick_adds r.at is)
+        ∙ append_assoc (due_lines before) (map text_of more) (refused_text r ∷ [])
 
 -- ---- a line behind two feeds that are alike
 
 module _ (S T : Session) (mark lines : ℕ) (holds : Holds S mark lines) (holds_other : Holds T mark lines)
-    (same : instance_of T ≡ instance_of S) (plain : may_finish_early S.rules.version ≡ false) where
-  -- so is the other's
-  plain_other : may_finish_early T.rules.version ≡ false
-  plain_other = ap (λ (K : Instance). may_finish_early K.rules.version) same ∙ plain
-
+    (same : SameSession S T) where
   abbrev a : Account
   a = account_with lines (Some S) mark Open
 
@@ -149,9 +181,47 @@ module _ (S T : Session) (mark lines : ℕ) (holds : Holds S mark lines) (holds_
   abbrev J : Instance
   J = instance_of S
 
+  -- the other's jobs with its finishes
+  other_is : instance_of T ≡ finishing J (early_finishes T.items)
+  other_is = session_is S T same
+
+  -- with these finishes behind them both settle and print the same
+  module _ (more : List Finish) where
+    alike_with : AreDueAlike (early_finishes T.items ++ more) (early_finishes S.items ++ more)
+    alike_with = same_alike (early_finishes T.items ++ more) (early_finishes S.items ++ more) (
+      each_append (λ f. IsMember f (early_finishes S.items ++ more)) (early_finishes T.items) more
+          (λ f m. member_front (early_finishes S.items) more f (same.finishes.1 f m))
+          (λ f m. member_behind (early_finishes S.items) more f m),
+      each_append (λ f. IsMember f (early_finishes T.items ++ more)) (early_finishes S.items) more
+          (λ f m. member_front (early_finishes T.items) more f (same.finishes.0 f m))
+          (λ f m. member_behind (early_finishes T.items) more f m),
+    )
+
+    settled_with : (m : ℕ) → settled (with_finishes (instance_of T) more) m ≡ settled (with_finishes J more) m
+    settled_with m = ap (λ K. settled (with_finishes K more) m) other_is
+        ∙ settled_alike J (early_finishes T.items ++ more) (early_finishes S.items ++ more) alike_with m
+
+  alike_now : AreDueAlike (early_finishes T.items) (early_finishes S.items)
+  alike_now = same_alike (early_finishes T.items) (early_finishes S.items) (same.finishes.1, same.finishes.0)
+
+  settled_same : (m : ℕ) → settled (instance_of T) m ≡ settled J m
+  settled_same m = ap (λ K. settled K m) other_is
+      ∙ settled_alike J (early_finishes T.items) (early_finishes S.items) alike_now m
+
+  printed_same : printed (instance_of T) ≡ printed J
+  printed_same = ap printed other_is
+      ∙ ap printed_of (run_alike J (early_finishes T.items) (early_finishes S.items) alike_now)
+
+  -- the same done lines are right
+  early_same : (t n : ℕ) → early_at T t n ≡ early_at S t n
+  early_same t n = ap (λ v. cond (may_finish_early v) (finish_at (instance_of T) t n) None)
+      (ap (λ (r : Declaration). r.version) same.rules)
+      ∙ ap (λ o. cond (may_finish_early S.rules.version) o None) (ap (λ K. finish_at K t n) other_is
+      ∙ finish_alike J (early_finishes T.items) (early_finishes S.items) alike_now t n)
+
   faults_alike : (cause : Cause) → GoAlike a b (with_fault counted_a cause) (with_fault counted_b cause)
   faults_alike cause = record {
-    alike = (refl, refl, refl, (same, plain));
+    alike = (refl, refl, refl, same);
     text = fault_text (suc lines) cause ∷ [];
     first = fault_adds S mark lines holds cause;
     other = fault_adds T mark lines holds_other cause;
@@ -162,29 +232,48 @@ module _ (S T : Session) (mark lines : ℕ) (holds : Holds S mark lines) (holds_
   ticks_alike t ordered =
       let it : Begins (settled J mark) (settled J t) = settled_later J mark t holds.reads.valid ordered in
       record {
-        alike = (refl, refl, refl, (same, plain));
+        alike = (refl, refl, refl, same);
         text = map text_of it.0;
-        first = tick_adds S mark lines holds J refl it.0 t it.1;
-        other = tick_adds T mark lines holds_other J same it.0 t it.1;
+        first = tick_adds S mark lines holds J (λ m. refl) it.0 t it.1;
+        other = tick_adds T mark lines holds_other J settled_same it.0 t it.1;
       }
 
   ends_alike : GoAlike a b (account_with (suc lines) (Some S) mark Ended) (account_with (suc lines) (Some T) mark Ended)
   ends_alike =
       let it : Begins (settled J mark) (printed J) = settled_of_run J mark holds.reads.valid in
       record {
-        alike = (refl, refl, refl, (same, plain));
+        alike = (refl, refl, refl, same);
         text = map text_of it.0;
-        first = end_adds S mark lines holds J refl it.0 it.1;
-        other = end_adds T mark lines holds_other J same it.0 it.1;
+        first = end_adds S mark lines holds J (λ m. refl) it.0 refl it.1;
+        other = end_adds T mark lines holds_other J settled_same it.0 printed_same it.1;
       }
 
-  jobs_alike : (j : JobFacts) → mark ≤ j.release → refusal_of S.rules (admitted_jobs S.items) j ≡ None
+  -- with one item more
+  same_items : (S2 T2 : Session) → T2.rules ≡ S2.rules → (jobs : List JobFacts) (more : List Finish)
+      → admitted_jobs S2.items ≡ admitted_jobs S.items ++ jobs → admitted_jobs T2.items ≡ admitted_jobs T.items ++ jobs
+      → early_finishes S2.items ≡ early_finishes S.items ++ more
+      → early_finishes T2.items ≡ early_finishes T.items ++ more → SameSession S2 T2
+  same_items S2 T2 rules jobs more jobs_S jobs_T early_S early_T = record {
+    rules = rules;
+    jobs = jobs_T ∙ ap (λ js. js ++ jobs) same.jobs ∙ sym jobs_S;
+    finishes = subst (λ fs. HaveTheSame fs (early_finishes T2.items)) (sym early_S)
+        (subst (HaveTheSame (early_finishes S.items ++ more)) (sym early_T) (
+          each_append (λ f. IsMember f (early_finishes T.items ++ more)) (early_finishes S.items) more
+              (λ f m. member_front (early_finishes T.items) more f (same.finishes.0 f m))
+              (λ f m. member_behind (early_finishes T.items) more f m),
+          each_append (λ f. IsMember f (early_finishes S.items ++ more)) (early_finishes T.items) more
+              (λ f m. member_front (early_finishes S.items) more f (same.finishes.1 f m))
+              (λ f m. member_behind (early_finishes S.items) more f m),
+        ));
+  }
+
+  jobs_alike : (j : JobFacts) → mark ≤ j.release → refusal_in S j ≡ None
       → GoAlike a b (account_with (suc lines) (Some (with_item S (JobItem j))) j.release Open)
       (account_with (suc lines) (Some (with_item T (JobItem j))) j.release Open)
   jobs_alike j ordered none =
       let later : Reads S j.release = reads_later S mark j.release holds.reads ordered in
       let valid : IsValid (with_jobs J (j ∷ [])) =
-      admitted_valid J j later.valid later.known none in
+      admitted_valid J j later.valid later.known (admitted_in S j none).0 in
       let it : Begins (settled J mark) (settled (with_jobs J (j ∷ [])) j.release) =
       settled_prefix J (j ∷ []) mark valid (λ i m. only i m) j.release ordered in
       record {
@@ -192,26 +281,86 @@ module _ (S T : Session) (mark lines : ℕ) (holds : Holds S mark lines) (holds_
           refl,
           refl,
           refl,
-          (job_instance T j ∙ ap (λ K. with_jobs K (j ∷ [])) same ∙ sym (job_instance S j), plain),
+          same_items (with_item S (JobItem j)) (with_item T (JobItem j)) same.rules (j ∷ []) []
+              (ap (λ (K : Instance). K.jobs) (job_instance S j)) (ap (λ (K : Instance). K.jobs) (job_instance T j))
+              (filter_map-append finish_of_item S.items (JobItem j ∷ []))
+              (filter_map-append finish_of_item T.items (JobItem j ∷ [])),
         );
         text = map text_of it.0;
-        first = job_adds S mark lines holds J refl it.0 j it.1;
-        other = job_adds T mark lines holds_other J same it.0 j it.1;
+        first = job_adds S mark lines holds J (λ m. refl) it.0 j it.1;
+        other = job_adds T mark lines holds_other J settled_same it.0 j (both_settled ∙ it.1);
       } where
         only : (i : JobFacts) → IsMember i (j ∷ []) → mark ≤ i.release
         only i (inl e) = subst (λ (x : JobFacts). mark ≤ x.release) (sym e) ordered
         only i (inr m) = absurd m
 
-  refusals_alike : (j : JobFacts) (refusal : Refusal)
-      → GoAlike a b (with_refused_at counted_a mark j refusal) (with_refused_at counted_b mark j refusal)
-  refusals_alike j refusal =
-      let r : Refused = record { at = mark; line = RefusedJob j refusal } in
+        both_settled : settled (with_jobs (instance_of T) (j ∷ [])) j.release
+            ≡ settled (with_jobs J (j ∷ [])) j.release
+        both_settled = ap (λ K. settled (with_jobs K (j ∷ [])) j.release) other_is
+            ∙ settled_alike (with_jobs J (j ∷ [])) (early_finishes T.items) (early_finishes S.items) alike_now j.release
+
+  -- a refused line, behind a mark that it may have raised
+  refused_alike : (r : Refused) → mark ≤ r.at
+      → GoAlike a b (account_with (suc lines) (Some (with_item S (RefusedItem r))) r.at Open)
+      (account_with (suc lines) (Some (with_item T (RefusedItem r))) r.at Open)
+  refused_alike r raised =
+      let it : Begins (settled J mark) (settled J r.at) = settled_later J mark r.at holds.reads.valid raised in
       record {
-        alike = (refl, refl, refl, (refused_instance T r ∙ same ∙ sym (refused_instance S r), plain));
-        text = refused_text r ∷ [];
-        first = refused_adds S mark lines holds j refusal;
-        other = refused_adds T mark lines holds_other j refusal;
+        alike = (
+          refl,
+          refl,
+          refl,
+          same_items (with_item S (RefusedItem r)) (with_item T (RefusedItem r)) same.rules [] []
+              (filter_map-append job_of_item S.items (RefusedItem r ∷ []))
+              (filter_map-append job_of_item T.items (RefusedItem r ∷ []))
+              (filter_map-append finish_of_item S.items (RefusedItem r ∷ []))
+              (filter_map-append finish_of_item T.items (RefusedItem r ∷ [])),
+        );
+        text = map text_of it.0 ++ refused_text r ∷ [];
+        first = refused_adds S mark lines holds J (λ m. refl) it.0 r raised it.1;
+        other = refused_adds T mark lines holds_other J settled_same it.0 r raised it.1;
       }
+
+  -- an early finish
+  finishes_alike : (t n : ℕ) (f : EarlyFinish) → mark ≤ t → early_at S t n ≡ Some f
+      → GoAlike a b (account_with (suc lines) (Some (with_item S (FinishItem f))) t Open)
+      (account_with (suc lines) (Some (with_item T (FinishItem f))) t Open)
+  finishes_alike t n f ordered right = record {
+    alike = (
+      refl,
+      refl,
+      refl,
+      same_items (with_item S (FinishItem f)) (with_item T (FinishItem f)) same.rules [] (f.finish ∷ [])
+          (filter_map-append job_of_item S.items (FinishItem f ∷ []))
+          (filter_map-append job_of_item T.items (FinishItem f ∷ []))
+          (filter_map-append finish_of_item S.items (FinishItem f ∷ []))
+          (filter_map-append finish_of_item T.items (FinishItem f ∷ [])),
+    );
+    text = map text_of it.0;
+    first = finish_adds S mark lines holds J (λ m. refl) it.0 f t it.1;
+    other = finish_adds T mark lines holds_other J settled_same it.0 f t (settled_with (f.finish ∷ []) t ∙ it.1);
+  } where
+    K : Instance
+    K = with_finishes J (f.finish ∷ [])
+
+    at_is : f.at ≡ t
+    at_is = sym (ap (λ (g : EarlyFinish). g.at) (early_says S t n f right).is)
+
+    it : Begins (settled J mark) (settled K t)
+    it =
+        let says : Finishes S f = finishing_job S f (right_again S t n f right) in
+        let first : Begins (settled J mark) (settled J t) = settled_later J mark t holds.reads.valid ordered in
+        let then : Begins (settled J f.at ++ Complete f.at says.job.number ∷ []) (settled K f.at) =
+        subst (λ g. Begins (settled J f.at ++ Complete f.at says.job.number ∷ [])
+        (settled (with_finishes J (g ∷ [])) f.at))
+        (sym says.is) (completes_at_mark J holds.reads.valid f.at says.job says.runs) in
+        let at_t : Begins (settled J t ++ Complete f.at says.job.number ∷ []) (settled K t) =
+        subst (λ m. Begins (settled J m ++ Complete f.at says.job.number ∷ []) (settled K m)) at_is then in (
+          first.0 ++ (Complete f.at says.job.number ∷ [] ++ at_t.0),
+          at_t.1 ∙ ap (λ es. (es ++ Complete f.at says.job.number ∷ []) ++ at_t.0) first.1
+              ∙ append_assoc (settled J mark ++ first.0) (Complete f.at says.job.number ∷ []) at_t.0
+              ∙ append_assoc (settled J mark) first.0 (Complete f.at says.job.number ∷ [] ++ at_t.0),
+        )
 
   -- the line of a job, by its cause
   job_lines_alike : (j : JobFacts)
@@ -220,55 +369,131 @@ module _ (S T : Session) (mark lines : ℕ) (holds : Holds S mark lines) (holds_
   job_lines_alike j = by_order (nat_lt j.release mark) refl where
     refusal_of_both : refusal_of T.rules (admitted_jobs T.items) j ≡ refusal_of S.rules
         (admitted_jobs S.items) j
-    refusal_of_both = ap (λ (K : Instance). refusal_of (declared_by K.rules) K.jobs j) same
+    refusal_of_both = ap (λ r. refusal_of r (admitted_jobs T.items) j) same.rules
+        ∙ ap (λ js. refusal_of S.rules js j) same.jobs
+
+    refusal_in_both : refusal_in T j ≡ refusal_in S j
+    refusal_in_both = ap (λ o. option_or o (then_some (is_full (instance_of T) j.release) Full)) refusal_of_both
+        ∙ ap (λ (z : State). option_or (refusal_of S.rules (admitted_jobs S.items) j)
+        (then_some (nat_le most_ready (length (filter is_ready z.tasks))) Full)) (state_same S T j.release same)
 
     version_of_both : refuses_lines T.rules.version ≡ refuses_lines S.rules.version
-    version_of_both = ap (λ (K : Instance). refuses_lines K.rules.version) same
-
-    -- the account with the refused line
-    refused_in : Account → Refusal → ℕ → Bool → Account
-    refused_in c refusal m two =
-        cond two (with_refused_at c m j refusal) (with_fault c (NotAdmitted refusal))
+    version_of_both = ap (λ (r : Declaration). refuses_lines r.version) same.rules
 
     by_version : (refusal : Refusal) (two : Bool)
-        → GoAlike a b (refused_in counted_a refusal mark two) (refused_in counted_b refusal mark two)
-    by_version refusal true = refusals_alike j refusal
-    by_version refusal false = faults_alike (NotAdmitted refusal)
+        → mark ≤ refused_mark mark j refusal
+        → GoAlike a b (cond two (with_refused_at counted_a (refused_mark mark j refusal) j refusal)
+        (with_fault counted_a (NotAdmitted refusal)))
+        (cond two (with_refused_at counted_b (refused_mark mark j refusal) j refusal)
+        (with_fault counted_b (NotAdmitted refusal)))
+    by_version refusal true raised =
+        refused_alike (record { at = refused_mark mark j refusal; line = RefusedJob j refusal }) raised
+    by_version refusal false raised = faults_alike (NotAdmitted refusal)
 
-    by_refusal : (o : Option Refusal) → mark ≤ j.release → refusal_of S.rules (admitted_jobs S.items) j ≡ o
+    refusal_alike : (refusal : Refusal) → mark ≤ refused_mark mark j refusal
+        → GoAlike a b (with_line counted_a (JobLine j) (Some (NotAdmitted refusal)))
+        (with_line counted_b (JobLine j) (Some (NotAdmitted refusal)))
+    refusal_alike refusal raised =
+        subst (λ two. GoAlike a b
+        (cond (refuses_lines S.rules.version) (with_refused_at counted_a (refused_mark mark j refusal) j refusal)
+        (with_fault counted_a (NotAdmitted refusal)))
+        (cond two (with_refused_at counted_b (refused_mark mark j refusal) j refusal)
+        (with_fault counted_b (NotAdmitted refusal))))
+        (sym version_of_both)
+        (by_version refusal (refuses_lines S.rules.version) raised)
+
+    -- no mark falls, where the release is no earlier
+    raises : (refusal : Refusal) → mark ≤ j.release → mark ≤ refused_mark mark j refusal
+    raises BadJob ordered = omega arith
+    raises Count ordered = omega arith
+    raises Total ordered = omega arith
+    raises Ratio ordered = omega arith
+    raises Late ordered = omega arith
+    raises Full ordered = ordered
+
+    by_refusal : (o : Option Refusal) → mark ≤ j.release → refusal_in S j ≡ o
         → GoAlike a b (with_line counted_a (JobLine j) (option_map NotAdmitted o))
         (with_line counted_b (JobLine j) (option_map NotAdmitted o))
     by_refusal None ordered none = jobs_alike j ordered none
-    by_refusal (Some refusal) ordered cause =
-        subst (λ two. GoAlike a b
-        (refused_in counted_a refusal (refused_mark mark j refusal) (refuses_lines S.rules.version))
-        (refused_in counted_b refusal (refused_mark mark j refusal) two)) (sym version_of_both)
-        (subst (λ m. GoAlike a b (refused_in counted_a refusal m (refuses_lines S.rules.version))
-        (refused_in counted_b refusal m (refuses_lines S.rules.version))) (sym (mark_stays S mark j refusal cause))
-        (by_version refusal (refuses_lines S.rules.version)))
+    by_refusal (Some refusal) ordered cause = refusal_alike refusal (raises refusal ordered)
+
+    by_late : (v : Version) → GoAlike a b (with_line counted_a (JobLine j) (Some (late_cause v)))
+        (with_line counted_b (JobLine j) (Some (late_cause v)))
+    by_late One = faults_alike Order
+    by_late Two = faults_alike Order
+    by_late Three = refusal_alike Late (omega arith)
 
     by_order : (c : Bool) → nat_lt j.release mark ≡ c
         → GoAlike a b
         (with_line counted_a (JobLine j)
-        (cond c (Some (late_cause S.rules.version)) (option_map NotAdmitted (refusal_in S j))))
+        (cond c (Some (late_cause S.rules.version))
+        (option_map NotAdmitted (refusal_in S j))))
         (with_line counted_b (JobLine j)
         (cond c (Some (late_cause T.rules.version)) (option_map NotAdmitted (refusal_in T j))))
     by_order true falls =
-        subst (λ cause. GoAlike a b (with_line counted_a (JobLine j) (Some cause))
-        (with_line counted_b (JobLine j) (Some (late_cause T.rules.version))))
-        (sym (late_order S.rules.version plain))
-        (subst (λ cause. GoAlike a b (with_line counted_a (JobLine j) (Some Order))
-        (with_line counted_b (JobLine j) (Some cause))) (sym (late_order T.rules.version plain_other))
-        (faults_alike Order))
+        subst (λ (r : Declaration). GoAlike a b (with_line counted_a (JobLine j) (Some (late_cause S.rules.version)))
+        (with_line counted_b (JobLine j) (Some (late_cause r.version)))) (sym same.rules)
+        (by_late S.rules.version)
     by_order false ordered =
-        subst (λ o. GoAlike a b (with_line counted_a (JobLine j) (option_map NotAdmitted o))
-        (with_line counted_b (JobLine j) (option_map NotAdmitted (refusal_in T j))))
-        (sym (refusal_former S j plain))
-        (subst (λ o. GoAlike a b (with_line counted_a (JobLine j)
-        (option_map NotAdmitted (refusal_of S.rules (admitted_jobs S.items) j)))
-        (with_line counted_b (JobLine j) (option_map NotAdmitted o)))
-        (sym (refusal_former T j plain_other ∙ refusal_of_both))
-        (by_refusal (refusal_of S.rules (admitted_jobs S.items) j) (ltb-false _ _ ordered) refl))
+        subst (λ o. GoAlike a b (with_line counted_a (JobLine j)
+        (option_map NotAdmitted (refusal_in S j)))
+        (with_line counted_b (JobLine j) (option_map NotAdmitted o))) (sym refusal_in_both)
+        (by_refusal (refusal_in S j) (ltb-false _ _ ordered) refl)
+
+  -- a done line, by its cause
+  done_lines_alike : (t n : ℕ)
+      → GoAlike a b (with_line counted_a (DoneLine t n) (later_line_cause S mark (DoneLine t n)))
+      (with_line counted_b (DoneLine t n) (later_line_cause T mark (DoneLine t n)))
+  done_lines_alike t n =
+      subst (λ o. GoAlike a b (with_line counted_a (DoneLine t n) (later_line_cause S mark (DoneLine t n)))
+      (with_line counted_b (DoneLine t n) o)) (sym same_cause)
+      (by_version (may_finish_early S.rules.version)) where
+        cause_with : Bool → Option EarlyFinish → Option Cause
+        cause_with early o = cond early
+            (cond (nat_lt last_tick t) (Some Order) (cond (nat_le mark t && is_some o) None (Some NotDone))) (Some Line)
+
+        same_cause : later_line_cause T mark (DoneLine t n) ≡ later_line_cause S mark (DoneLine t n)
+        same_cause = ap (λ (r : Declaration). cause_with (may_finish_early r.version) (early_at T t n)) same.rules
+            ∙ ap (cause_with (may_finish_early S.rules.version)) (early_same t n)
+
+        raised : mark ≤ max mark t
+        raised = omega arith
+
+        good_b : (o : Option EarlyFinish) → early_at T t n ≡ o
+            → with_line counted_b (DoneLine t n) None
+            ≡ account_with (suc lines) (Some (with_named T (option_map FinishItem o))) t Open
+        good_b o e = ap (λ x. account_with (suc lines) (Some (with_named T (option_map FinishItem x))) t Open) e
+
+        good : (o : Option EarlyFinish) → early_at S t n ≡ o → mark ≤ t → is_some o ≡ true
+            → GoAlike a b (account_with (suc lines) (Some (with_named S (option_map FinishItem o))) t Open)
+            (account_with (suc lines) (Some (with_named T (option_map FinishItem o))) t Open)
+        good None e ordered some = absurd (let clash : false ≡ true = some in cc)
+        good (Some f) e ordered some = finishes_alike t n f ordered e
+
+        by_right : (c d : Bool) → nat_le mark t ≡ c → is_some (early_at S t n) ≡ d
+            → GoAlike a b (with_line counted_a (DoneLine t n) (cond (c && d) None (Some NotDone)))
+            (with_line counted_b (DoneLine t n) (cond (c && d) None (Some NotDone)))
+        by_right true true ordered some =
+            subst (λ x. GoAlike a b (with_line counted_a (DoneLine t n) None) x)
+            (sym (good_b (early_at S t n) (early_same t n)))
+            (good (early_at S t n) refl (leb-true _ _ ordered) some)
+        by_right true false ordered none = refused_alike (record { at = max mark t; line = RefusedDone t n }) raised
+        by_right false d ordered some = refused_alike (record { at = max mark t; line = RefusedDone t n }) raised
+
+        by_tick : (c : Bool)
+            → GoAlike a b (with_line counted_a (DoneLine t n) (cond c (Some Order)
+            (cond (is_right S mark t n) None (Some NotDone))))
+            (with_line counted_b (DoneLine t n) (cond c (Some Order) (cond (is_right S mark t n) None (Some NotDone))))
+        by_tick true = faults_alike Order
+        by_tick false = by_right (nat_le mark t) (is_some (early_at S t n)) refl refl
+
+        by_version : (early : Bool)
+            → GoAlike a b (with_line counted_a (DoneLine t n) (cond early (cond (nat_lt last_tick t) (Some Order)
+            (cond (is_right S mark t n) None (Some NotDone))) (Some Line)))
+            (with_line counted_b (DoneLine t n) (cond early (cond (nat_lt last_tick t) (Some Order)
+            (cond (is_right S mark t n) None (Some NotDone))) (Some Line)))
+        by_version true = by_tick (nat_lt last_tick t)
+        by_version false = faults_alike Line
 
   -- a line of any form
   formed_alike : (line : FeedLine)
@@ -283,20 +508,14 @@ module _ (S T : Session) (mark lines : ℕ) (holds : Holds S mark lines) (holds_
     by_tests true d falls = faults_alike Order
     by_tests false true ordered = faults_alike Order
     by_tests false false ordered = ticks_alike t (ltb-false _ _ ordered)
-  formed_alike (DoneLine t n) =
-      subst (λ v. GoAlike a b (with_line counted_a (DoneLine t n) (done_cause S mark t n v))
-      (with_line counted_b (DoneLine t n) (done_cause T mark t n (may_finish_early T.rules.version))))
-      (sym plain)
-      (subst (λ v. GoAlike a b (with_line counted_a (DoneLine t n) (Some Line))
-      (with_line counted_b (DoneLine t n) (done_cause T mark t n v)))
-      (sym plain_other) (faults_alike Line))
+  formed_alike (DoneLine t n) = done_lines_alike t n
   formed_alike EndLine = ends_alike
 
   -- any line
   open_alike : (bytes : List ℕ) → GoAlike a b (next_line a bytes) (next_line b bytes)
   open_alike bytes = subst (λ most. GoAlike a b (next_line a bytes)
       (cond (nat_lt most (suc lines)) (with_fault counted_b Lines) (after_form counted_b (feed_line bytes))))
-      (ap (λ (K : Instance). most_lines K.rules.version) (sym same))
+      (ap (λ (r : Declaration). most_lines r.version) (sym same.rules))
       (by_count (nat_lt (most_lines S.rules.version) (suc lines)) (feed_line bytes)) where
         by_count : (c : Bool) (o : Option FeedLine)
             → GoAlike a b (cond c (with_fault counted_a Lines) (after_form counted_a o))
@@ -321,7 +540,7 @@ step_alike : (lines mark : ℕ) (standing : Standing) (s t : Option Session) →
 step_alike lines mark Open None t same kept other bytes = absurd same
 step_alike lines mark Open (Some S) None same kept other bytes = absurd same
 step_alike lines mark Open (Some S) (Some T) same kept other bytes =
-    open_alike S T mark lines kept other same.0 same.1 bytes
+    open_alike S T mark lines kept other same bytes
 step_alike lines mark Ended s t same kept other bytes =
     stay_alike (account_with lines s mark Ended) (account_with lines t mark Ended) (refl, refl, refl, same)
 step_alike lines mark (Faulty line cause) s t same kept other bytes =
@@ -330,15 +549,15 @@ step_alike lines mark (Faulty line cause) s t same kept other bytes =
 
 module _ (a b : Account) (alike : Alike a b) where
   -- the other account, of what both have and its own session
-  other_is : b ≡ account_with a.lines b.session a.mark a.standing
-  other_is = ap (λ n. account_with n b.session b.mark b.standing) alike.0
+  other_account : b ≡ account_with a.lines b.session a.mark a.standing
+  other_account = ap (λ n. account_with n b.session b.mark b.standing) alike.0
       ∙ ap (λ m. account_with a.lines b.session m b.standing) alike.1
       ∙ ap (λ s. account_with a.lines b.session a.mark s) alike.2
 
   next_alike : IsKept a → IsKept b → (bytes : List ℕ) → GoAlike a b (next_line a bytes) (next_line b bytes)
   next_alike kept other bytes =
-      subst (λ (c : Account). GoAlike a c (next_line a bytes) (next_line c bytes)) (sym other_is)
-      (step_alike a.lines a.mark a.standing a.session b.session alike.3 kept (subst (IsKept) other_is other) bytes)
+      subst (λ (c : Account). GoAlike a c (next_line a bytes) (next_line c bytes)) (sym other_account)
+      (step_alike a.lines a.mark a.standing a.session b.session alike.3 kept (subst (IsKept) other_account other) bytes)
 
 -- lines behind two feeds that are alike
 pub lines_alike : (ls : List (List ℕ)) (a b : Account) → Alike a b → IsKept a → IsKept b

@@ -14,7 +14,7 @@ use Rattle.snapshot.specs.Reading.{Begun, Taken, Refused, next_line, reading_of,
 use Rattle.snapshot.specs.Kept.{IsWhole}
 use Rattle.snapshot.proofs.Behind.{whole_joined, rest_joined, whole_behind}
 use Rattle.snapshot.proofs.Feeds.{named, holds, few, reached, tasks, lines_taken, lines_feedless, snapshot_is, head_is}
-use Rattle.snapshot.proofs.Feeds.{plain}
+use Rattle.snapshot.proofs.Feeds.{listed}
 use Rattle.snapshot.proofs.Spelled.{read_head-head_line}
 use Rattle.snapshot.proofs.Takeable.{whole}
 
@@ -36,7 +36,7 @@ module _ (F : List ℕ) (may : MayPause F) where
     head_of_feed (account F) S,
     tasks F may S there,
     subst (IsWhole (head_of_feed (account F) S) (tasks F may S there)) (sym lines_are)
-        (whole S (account F).mark (account F).lines (holds F may S there) (few F may S there) (plain F may S there)
+        (whole S (account F).mark (account F).lines (holds F may S there) (few F may S there) (listed F may S there)
         (reached F may S there)),
   )
 
@@ -101,7 +101,7 @@ module _ (F G H I : List ℕ) (may : MayPause F) (other : MayPause G) (same : sn
       → length (snapshot_lines (account X) (S X m)) ≡ (head_of_feed (account X) (S X m)).jobs + 2
   count X m =
       let it = whole (S X m) (account X).mark (account X).lines (holds X m (S X m) (there X m))
-      (few X m (S X m) (there X m)) (plain X m (S X m) (there X m)) (reached X m (S X m) (there X m)) in
+      (few X m (S X m) (there X m)) (listed X m (S X m) (there X m)) (reached X m (S X m) (there X m)) in
       let all : length (tasks X m (S X m) (there X m)) ≡ (head_of_feed (account X) (S X m)).jobs = it.all in
       omega (
         arith,

@@ -4,28 +4,32 @@ use Rattle.std.proofs.Common.{◌≡◌, ℕ, suc, ◌+◌, ◌≤◌, List, [],
 use Rattle.std.proofs.Common.{refl, sym, ap, ◌∙◌, subst, true, false, cond, arith, Option, Some, None, codes}
 use Rattle.std.specs.List.{AllByRecursion, fold}
 use Rattle.std.proofs.lemmas.Grind.{flat_map-append}
-use Rattle.dover_model.specs.Limits.{most_lines}
+use Rattle.dover_model.specs.Limits.{most_lines, most_jobs}
 use Rattle.dover_model.specs.declared.events.Task.{Task}
-use Rattle.dover_model.specs.Instance.{Instance, declared_by}
-use Rattle.dover_model.specs.Session.{Session, instance_of, admitted_jobs}
+use Rattle.dover_model.specs.declared.events.Version.TheVariants.{Two}
+use Rattle.dover_model.specs.Instance.{Declaration}
+use Rattle.dover_model.specs.JobFacts.{JobFacts}
+use Rattle.dover_model.specs.Session.{Session, instance_of, admitted_jobs, early_finishes}
 use Rattle.dover_model.specs.Settled.{settled_state}
+use Rattle.dover_model.specs.Sound.{HaveTheSame, jobs_of}
+use Rattle.dover_model.specs.State.{State}
 use Rattle.dover_model.specs.Lines.{in_lines, lines_of, whole_lines, rest_of}
 use Rattle.dover_model.specs.Feed.{Standing, Open, Ended, Faulty, Short, no_lines, next_line, account}
 use Rattle.dover_model.specs.Due.{due_lines, due, short_lines, fault_text}
 use Rattle.dover_model.proofs.Accounts.{Holds, account_kept}
 use Rattle.dover_model.proofs.Cuts.{HasNoFeed}
+use Rattle.event_feed.specs.Listing.{HasFewJobs}
 use Rattle.event_feed.proofs.Counting.{lines_counted}
 use Rattle.snapshot.specs.Snapshot.{MayPause, Head, IsHead, head_line, state_line, head_of_feed, snapshot_lines}
 use Rattle.snapshot.specs.Snapshot.{snapshot}
-use Rattle.snapshot.specs.Reading.{Taken, stored, reading_of}
+use Rattle.snapshot.specs.Reading.{Taken, early_in, reading_of}
 use Rattle.snapshot.specs.Feeds.{GoOnEqually}
-use Rattle.snapshot.proofs.Alike.{Alike, SameRun, GoAlike, lines_alike}
+use Rattle.snapshot.proofs.Alike.{Alike, SameRun, SameSession, GoAlike, lines_alike, state_same}
 use Rattle.snapshot.proofs.Behind.{feedless_head, feedless_states, same_lines, whole_behind, rest_behind, lines_whole}
 use Rattle.snapshot.proofs.Behind.{account_behind}
 use Rattle.snapshot.proofs.Reached.{Reached, lines_reach, lines_few, few_open}
-use Rattle.snapshot.proofs.Takeable.{is_head, taken, stored_is, holds_open, reaches_open}
-use Rattle.dover_model.specs.Session.{may_finish_early}
-use Rattle.event_feed.specs.Listing.{IsPlain}
+use Rattle.snapshot.proofs.Same.{stand_jobs, same_finishes}
+use Rattle.snapshot.proofs.Takeable.{is_head, taken, holds_open, reaches_open}
 
 -- ---- a feed that may pause
 
@@ -41,14 +45,14 @@ module _ (F : List ℕ) (may : MayPause F) where
   -- its session
   pub named : (S : Session) × ((account F).session ≡ Some S)
   named = by (account F).session refl may.declared where
-    by : (o : Option Session) → (account F).session ≡ o → IsPlain o → (S : Session) × ((account F).session ≡ Some S)
+    by : (o : Option Session) → (account F).session ≡ o → HasFewJobs o → (S : Session) × ((account F).session ≡ Some S)
     by None e none = absurd none
     by (Some S) e n = (S, e)
 
   module _ (S : Session) (there : (account F).session ≡ Some S) where
-    -- no job of it finishes early
-    pub plain : may_finish_early S.rules.version ≡ false
-    plain = subst IsPlain there may.declared
+    -- it has few jobs
+    pub listed : length (admitted_jobs S.items) ≤ most_jobs Two
+    listed = subst HasFewJobs there may.declared
 
     -- what its account keeps
     pub holds : Holds S (account F).mark (account F).lines
@@ -57,7 +61,7 @@ module _ (F : List ℕ) (may : MayPause F) where
     pub few : (account F).lines ≤ most_lines S.rules.version
     few = few_open (account F) S (lines_few (lines_of F) no_lines (omega arith)) opened there
 
-    pub reached : Reached (admitted_jobs S.items) (account F).mark (account F).lines
+    pub reached : Reached S.items (account F).mark (account F).lines
     reached = reaches_open (account F) S (lines_reach (lines_of F) no_lines refl) opened there
 
     -- its jobs in the state in which it pauses
@@ -66,10 +70,10 @@ module _ (F : List ℕ) (may : MayPause F) where
 
     -- its snapshot is read to its end
     pub lines_taken : reading_of (snapshot_lines (account F) S) ≡ Taken (head_of_feed (account F) S) tasks
-    lines_taken = taken S (account F).mark (account F).lines holds few plain reached
+    lines_taken = taken S (account F).mark (account F).lines holds few listed reached
 
     pub head_is : IsHead (head_of_feed (account F) S)
-    head_is = is_head S (account F).mark (account F).lines holds few plain reached
+    head_is = is_head S (account F).mark (account F).lines holds few listed reached
 
     pub lines_feedless : AllByRecursion HasNoFeed (snapshot_lines (account F) S)
     lines_feedless = (feedless_head (head_of_feed (account F) S), feedless_states tasks)
@@ -77,8 +81,12 @@ module _ (F : List ℕ) (may : MayPause F) where
     pub snapshot_is : snapshot F ≡ in_lines (snapshot_lines (account F) S)
     snapshot_is = ap (λ o. elim o [ None ↦ [] | Some T ↦ in_lines (snapshot_lines (account F) T) ]) there
 
-    pub jobs_are : stored (head_of_feed (account F) S) tasks ≡ instance_of S
-    jobs_are = stored_is S (account F).mark (account F).lines holds few plain reached
+    -- they are its session's, with the finishes that are stored of them
+    pub jobs_are : jobs_of tasks ≡ admitted_jobs S.items
+    jobs_are = stand_jobs S (account F).mark (account F).lines holds
+
+    pub finishes_are : HaveTheSame (early_finishes S.items) (early_in S.rules.version tasks)
+    finishes_are = same_finishes S (account F).mark (account F).lines holds
 
 -- ---- two feeds with the same snapshot
 
@@ -114,28 +122,41 @@ module _ (F G : List ℕ) (may : MayPause F) (may_other : MayPause G) (same : sn
       (tasks G may_other T there_other) =
       reads_same in cc
 
+  rules_same : T.rules ≡ S.rules
+  rules_same = sym (ap (λ (h : Head). h.rules) head_same)
+
+  -- the sessions have the same jobs, and the same early finishes
+  pub same_sessions : SameSession S T
+  same_sessions = record {
+    rules = rules_same;
+    jobs = sym (jobs_are G may_other T there_other) ∙ sym (ap jobs_of tasks_same) ∙ jobs_are F may S there;
+    finishes = (
+      λ f m. stored_there.1 f ((finishes_are F may S there).0 f m),
+      λ f m. (finishes_are F may S there).1 f (stored_there.0 f m),
+    );
+  } where
+    stored_there : HaveTheSame (early_finishes T.items) (early_in S.rules.version (tasks F may S there))
+    stored_there = subst (λ ts. HaveTheSame (early_finishes T.items) (early_in S.rules.version ts)) (sym tasks_same)
+        (subst (λ (r : Declaration). HaveTheSame (early_finishes T.items)
+        (early_in r.version (tasks G may_other T there_other))) rules_same (finishes_are G may_other T there_other))
+
   -- they are alike
   pub same_alike : Alike (account F) (account G)
   same_alike = (
     sym (ap (λ (h : Head). h.lines) head_same),
     sym (ap (λ (h : Head). h.mark) head_same),
     opened G may_other ∙ sym (opened F may),
-    subst (λ o. SameRun o (account G).session) (sym there) (subst (λ o. SameRun (Some S) o) (sym there_other)
-        ((
-          sym (jobs_are G may_other T there_other)
-              ∙ sym (ap (λ (h : Head). stored h (tasks G may_other T there_other)) head_same)
-              ∙ sym (ap (λ ts. stored (head_of_feed (account F) S) ts) tasks_same) ∙ jobs_are F may S there,
-          plain F may S there,
-        ))),
+    subst (λ o. SameRun o (account G).session) (sym there)
+        (subst (λ o. SameRun (Some S) o) (sym there_other) same_sessions),
   )
 
 -- ---- what depends on what is alike
 
 -- the lines of a snapshot
-abbrev lines_from : Instance → ℕ → ℕ → List (List ℕ)
-lines_from J lines mark = head_line
-    (record { rules = declared_by J.rules; lines = lines; mark = mark; jobs = length J.jobs })
-    ∷ map state_line (settled_state J mark).tasks ++ codes "resume" ∷ []
+abbrev lines_from : Declaration → List JobFacts → List Task → ℕ → ℕ → List (List ℕ)
+lines_from rules jobs tasks lines mark =
+    head_line (record { rules = rules; lines = lines; mark = mark; jobs = length jobs })
+    ∷ map state_line tasks ++ codes "resume" ∷ []
 
 -- the line that refuses a feed that is too short
 abbrev short_from : ℕ → Standing → List (List ℕ)
@@ -144,18 +165,18 @@ short_from n s = cond (elim s [ Open ↦ true | Ended ↦ false | Faulty line ca
 
 -- sessions that both are there
 pub both_there : (s t : Option Session) → SameRun s t → (S : Session) × (T : Session) × (s ≡ Some S) × (t ≡ Some T)
-    × (instance_of T ≡ instance_of S)
+    × SameSession S T
 both_there None t same = absurd same
 both_there (Some S) None same = absurd same
-both_there (Some S) (Some T) same = (S, T, refl, refl, same.0)
+both_there (Some S) (Some T) same = (S, T, refl, refl, same)
 
 module _ (F G : List ℕ) (alike : Alike (account F) (account G)) (whole : rest_of F ≡ rest_of G) where
   -- the other may pause too
   may_pause : MayPause F → MayPause G
   may_pause may = record {
     declared = let it = both_there (account F).session (account G).session alike.3 in
-        subst IsPlain (sym it.3)
-        (ap (λ (J : Instance). may_finish_early J.rules.version) it.4 ∙ plain F may it.0 it.2);
+        subst HasFewJobs (sym it.3)
+        (omega (arith, ap length it.4.jobs, listed F may it.0 it.2));
     going_on = ap (λ s. elim s [ Open ↦ true | Ended ↦ false | Faulty line cause ↦ false ]) (alike.2 ∙ opened F may);
     whole = sym whole ∙ may.whole;
   }
@@ -164,10 +185,21 @@ module _ (F G : List ℕ) (alike : Alike (account F) (account G)) (whole : rest_
   snapshot_same : (may : MayPause F) → snapshot G ≡ snapshot F
   snapshot_same may =
       let it = both_there (account F).session (account G).session alike.3 in
+      let kept : Holds it.0 (account F).mark (account F).lines = holds F may it.0 it.2 in
+      let state : (settled_state (instance_of it.1) (account G).mark).tasks
+      ≡ (settled_state (instance_of it.0) (account F).mark).tasks =
+      ap (λ m. (settled_state (instance_of it.1) m).tasks) alike.1
+      ∙ ap (λ (s : State). s.tasks) (state_same it.0 it.1 (account F).mark it.4) in
       snapshot_is G (may_pause may) it.1 it.3
-      ∙ ap in_lines (ap (λ J. lines_from J (account G).lines (account G).mark) it.4
-      ∙ ap (λ n. lines_from (instance_of it.0) n (account G).mark) alike.0
-      ∙ ap (λ m. lines_from (instance_of it.0) (account F).lines m) alike.1)
+      ∙ ap in_lines (ap (λ r. lines_from r (admitted_jobs it.1.items)
+      (settled_state (instance_of it.1) (account G).mark).tasks (account G).lines (account G).mark) it.4.rules
+      ∙ ap (λ js. lines_from it.0.rules js (settled_state (instance_of it.1) (account G).mark).tasks (account G).lines
+      (account G).mark) it.4.jobs
+      ∙ ap (λ ts. lines_from it.0.rules (admitted_jobs it.0.items) ts (account G).lines (account G).mark) state
+      ∙ ap (λ n. lines_from it.0.rules (admitted_jobs it.0.items)
+      (settled_state (instance_of it.0) (account F).mark).tasks n (account G).mark) alike.0
+      ∙ ap (λ m. lines_from it.0.rules (admitted_jobs it.0.items)
+      (settled_state (instance_of it.0) (account F).mark).tasks (account F).lines m) alike.1)
       ∙ sym (snapshot_is F may it.0 it.2)
 
 -- ---- how feeds with the same snapshot go on

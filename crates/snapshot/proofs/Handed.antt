@@ -16,8 +16,11 @@ use Rattle.dover_model.specs.FeedLine.{JobLine, feed_text}
 use Rattle.dover_model.specs.Feed as model
 use Rattle.dover_model.specs.Feed.{Account, Standing, Open, Faulty, NotAdmitted, next_line, no_lines, account_of_lines}
 use Rattle.dover_model.specs.Feed.{with_line, with_fault, with_refused_at}
-use Rattle.dover_model.specs.Session.{refused_mark, is_full, instance_of, may_finish_early}
-use Rattle.event_feed.proofs.Listing.{left_all, job_after, room_former}
+use Rattle.dover_model.specs.Session.{refused_mark, is_full, instance_of}
+use Rattle.dover_model.proofs.Fullness.{few_ready}
+use Rattle.dover_model.proofs.Honest.{count_jobs}
+use Rattle.dover_model.proofs.Members.{some_same}
+use Rattle.event_feed.proofs.Listing.{left_all, job_after}
 use Rattle.dover_model.proofs.Growing.{job_instance, refused_instance}
 use Rattle.dover_model.proofs.JobSessions.{jobs_back}
 use Rattle.event_feed.specs.declared.fed.Fed.{Fed}
@@ -30,8 +33,8 @@ use Rattle.event_feed.specs.declared.intake.Standing as standing
 use Rattle.event_feed.specs.declared.kept_session.KeptSession.{KeptSession}
 use Rattle.event_feed.proofs.Taking.{is_going}
 use Rattle.snapshot.specs.Snapshot.{Head}
-use Rattle.snapshot.specs.Reading.{stored}
-use Rattle.snapshot.specs.Stored.{ratio_text, job_lines, stored_session, stored_account}
+use Rattle.snapshot.specs.Reading.{declared_jobs}
+use Rattle.snapshot.specs.Stored.{ratio_text, job_lines, jobs_session, jobs_account}
 use Rattle.event_feed.proofs.DoneLines.{done_session, done_jobs}
 use Rattle.snapshot.specs.Kept.{IsFed, HasRoom, job_in}
 use Rattle.snapshot.proofs.Admitted.{job_cause, no_cause_valid, valid_no_cause, jobs_more}
@@ -165,7 +168,7 @@ module _ (h : Head) (tasks : List Task) (t : Task) (i new : feed.Kept) (it : IsF
 
   -- without one it is added
   none_account : job_cause h tasks t ≡ None
-      → account_of_lines (job_lines h tasks ++ line ∷ []) ≡ stored_account h (tasks ++ t ∷ [])
+      → account_of_lines (job_lines h tasks ++ line ∷ []) ≡ jobs_account h (tasks ++ t ∷ [])
   none_account none = with_cause ∙ ap (with_line (counted_account h tasks t) (JobLine t.job)) none ∙ job_adds h tasks t
 
   -- then they are one more
@@ -178,29 +181,29 @@ module _ (h : Head) (tasks : List Task) (t : Task) (i new : feed.Kept) (it : IsF
   -- where none is added, it isn't valid
   pub not_valid : count (account_of_lines (job_lines h tasks ++ line ∷ [])) ≡ count
       (account_of_lines (job_lines h tasks))
-      → IsValid (stored h (tasks ++ t ∷ [])) → ⊥
+      → IsValid (declared_jobs h (tasks ++ t ∷ [])) → ⊥
   not_valid same valid = absurd (omega (arith, same, counts, none_counts (valid_no_cause h tasks t room.2 valid)))
 
   -- an answer with no job says that it isn't valid
   pub no_job : (answer : Fed) → job_in answer ≡ None
       → Answers line (account_of_lines (job_lines h tasks)) (account_of_lines (job_lines h tasks ++ line ∷ []))
       (Ok answer)
-      → IsValid (stored h (tasks ++ t ∷ [])) → ⊥
+      → IsValid (declared_jobs h (tasks ++ t ∷ [])) → ⊥
   no_job answer none said =
-      not_valid (none_added line (account_of_lines (job_lines h tasks)) _ (stored_session h tasks) answer
+      not_valid (none_added line (account_of_lines (job_lines h tasks)) _ (jobs_session h tasks) answer
       (ap (λ a. a.session) it.account) none said.1)
 
   -- so does a fault
   pub no_fault : (fault : FeedFault)
       → Answers line (account_of_lines (job_lines h tasks)) (account_of_lines (job_lines h tasks ++ line ∷ []))
       (Err fault)
-      → IsValid (stored h (tasks ++ t ∷ [])) → ⊥
+      → IsValid (declared_jobs h (tasks ++ t ∷ [])) → ⊥
   no_fault fault said = not_valid (none_at_fault line (account_of_lines (job_lines h tasks)) _ fault said)
 
   -- what an answer with a job says
   pub record IsAdded (job : JobFacts) : Type 0 where
     pub same : job ≡ t.job
-    pub valid : IsValid (stored h (tasks ++ t ∷ []))
+    pub valid : IsValid (declared_jobs h (tasks ++ t ∷ []))
     pub fed : IsFed new h (tasks ++ t ∷ [])
 
   -- an answer with a job
@@ -215,11 +218,18 @@ module _ (h : Head) (tasks : List Task) (t : Task) (i new : feed.Kept) (it : IsF
         (account_of_lines (job_lines h tasks ++ line ∷ []))
     adds = said.1
 
+    session_is : adds.session ≡ jobs_session h tasks
+    session_is = some_same adds.session (jobs_session h tasks)
+        (sym adds.before_is ∙ ap (λ (x : Account). x.session) it.account)
+
     room_here : is_full (instance_of adds.session) job.release ≡ false
-    room_here = room_former (counted (account_of_lines (job_lines h tasks)))
-        (account_of_lines (job_lines h tasks ++ line ∷ [])) n job adds
-        (ap (λ o. elim o [ None ↦ false | Some S ↦ may_finish_early S.rules.version ])
-        (sym adds.before_is ∙ ap (λ (x : Account). x.session) it.account) ∙ room.2)
+    room_here = few_ready (instance_of adds.session) job.release (omega (
+      arith,
+      room.2,
+      ap (λ (S : Session). length (admitted_jobs S.items)) session_is,
+      ap length (jobs_back (jobs_of tasks)),
+      count_jobs tasks,
+    ))
 
     stands : feed.StandsFor new (job_lines h tasks ++ line ∷ [])
     stands = subst (λ k. feed.StandsFor k (job_lines h tasks ++ line ∷ []))
@@ -248,7 +258,7 @@ module _ (h : Head) (tasks : List Task) (t : Task) (i new : feed.Kept) (it : IsF
       fed = record {
         stands = subst (feed.StandsFor new) lines_more stands;
         account = ap account_of_lines (sym lines_more) ∙ none_account none;
-        going = goes_on new (job_lines h tasks ++ line ∷ []) (stored_session h (tasks ++ t ∷ [])) stands
+        going = goes_on new (job_lines h tasks ++ line ∷ []) (jobs_session h (tasks ++ t ∷ [])) stands
             (ap (λ (x : Account). x.standing) (none_account none))
             (ap (λ (x : Account). x.session) (none_account none));
       };
@@ -256,7 +266,7 @@ module _ (h : Head) (tasks : List Task) (t : Task) (i new : feed.Kept) (it : IsF
 
   -- the job that is handed on
   abbrev IsHandedOn : JobFacts → Type 0
-  IsHandedOn job = (job ≡ t.job) × IsValid (stored h (tasks ++ t ∷ [])) × IsFed new h (tasks ++ t ∷ [])
+  IsHandedOn job = (job ≡ t.job) × IsValid (declared_jobs h (tasks ++ t ∷ [])) × IsFed new h (tasks ++ t ∷ [])
 
   -- it is the line's, and valid
   pub handed_on : (answer : Fed) (result : Option JobFacts) → result ≡ job_in answer
@@ -282,7 +292,7 @@ module _ (h : Head) (tasks : List Task) (t : Task) (i new : feed.Kept) (it : IsF
   pub none_handed_on : (answer : Fed) (result : Option JobFacts) → result ≡ job_in answer → IsNone result
       → Answers line (account_of_lines (job_lines h tasks)) (account_of_lines (job_lines h tasks ++ line ∷ []))
       (Ok answer)
-      → IsValid (stored h (tasks ++ t ∷ [])) → ⊥
+      → IsValid (declared_jobs h (tasks ++ t ∷ [])) → ⊥
   none_handed_on answer result is none said = no_job answer (sym is ∙ by result none) said where
     by : (o : Option JobFacts) → IsNone o → o ≡ None
     by None n = refl

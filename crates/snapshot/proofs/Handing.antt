@@ -1,6 +1,6 @@
--- What the shortest feed with a snapshot says: a line of the ratio, and a line for each job.
+-- What the lines say that an intake is handed: a line of the ratio, and a line for each job.
 use Rattle.std.proofs.Common.{◌≡◌, ℕ, suc, ◌+◌, ◌≤◌, ◌<◌, ◌^◌, List, [], ◌∷◌, ◌++◌, length, length-append, map, sym, ap}
-use Rattle.std.proofs.Common.{◌∙◌, subst, false}
+use Rattle.std.proofs.Common.{◌∙◌, subst}
 use Rattle.std.proofs.Common.{cond, arith, Some, None, is_some, ◌||◌}
 use Rattle.std.specs.Prelude.{nat_lt}
 use Rattle.std.specs.List.{AllByRecursion}
@@ -15,7 +15,7 @@ use Rattle.dover_model.specs.JobFacts.{JobFacts, IsJob, job_numbers}
 use Rattle.dover_model.specs.Fraction.{Fraction, IsRatio}
 use Rattle.dover_model.specs.Instance.{IsValid}
 use Rattle.dover_model.specs.Numerals.{AreShort}
-use Rattle.dover_model.specs.Session.{Session, JobItem, new_session, may_finish_early}
+use Rattle.dover_model.specs.Session.{Session, JobItem, new_session}
 use Rattle.dover_model.specs.Sound.{jobs_of}
 use Rattle.dover_model.specs.FeedLine.{FeedLine, RatioLine, JobLine, TickLine, HasNumerals, feed_line, feed_text}
 use Rattle.dover_model.specs.Feed.{Account, Lines, Declared, Order, rules_with, declared_rules, cause_of, with_line}
@@ -25,8 +25,8 @@ use Rattle.dover_model.proofs.FeedLines.{feed_line-feed_text}
 use Rattle.event_feed.specs.Reading.{open_account}
 use Rattle.event_feed.proofs.Counting.{after_form}
 use Rattle.snapshot.specs.Snapshot.{Head}
-use Rattle.snapshot.specs.Reading.{stored, last_release}
-use Rattle.snapshot.specs.Stored.{declared_number, stored_session, stored_account}
+use Rattle.snapshot.specs.Reading.{declared_jobs, last_release}
+use Rattle.snapshot.specs.Stored.{declared_number, jobs_session, jobs_account}
 use Rattle.snapshot.proofs.Admitted.{jobs_more, last_more, valid_no_cause, all_last}
 
 -- ---- the line of the ratio
@@ -75,11 +75,11 @@ job_numerals j it =
 module _ (h : Head) (tasks : List Task) (t : Task) where
   -- the account in which the line is counted
   abbrev pub counted_account : Account
-  counted_account = open_account (suc (length tasks + 1)) (Some (stored_session h tasks)) (last_release tasks)
+  counted_account = open_account (suc (length tasks + 1)) (Some (jobs_session h tasks)) (last_release tasks)
 
   -- a line of a job that has numerals is read
   pub job_read : AreShort (job_numbers t.job) → length tasks + 2 ≤ most_lines h.rules.version
-      → next_line (stored_account h tasks) (feed_text (JobLine t.job))
+      → next_line (jobs_account h tasks) (feed_text (JobLine t.job))
       ≡ with_line counted_account (JobLine t.job) (cause_of counted_account (JobLine t.job))
   job_read short few =
       ap (λ b. cond b (with_fault counted_account Lines)
@@ -88,7 +88,7 @@ module _ (h : Head) (tasks : List Task) (t : Task) where
       ∙ ap (after_form counted_account) (feed_line-feed_text (JobLine t.job) short)
 
   -- with no cause it adds the job
-  pub job_adds : with_line counted_account (JobLine t.job) None ≡ stored_account h (tasks ++ t ∷ [])
+  pub job_adds : with_line counted_account (JobLine t.job) None ≡ jobs_account h (tasks ++ t ∷ [])
   job_adds =
       let with_jobs : ℕ → List JobFacts → ℕ → Account = λ lines jobs mark. open_account lines (Some (record {
         rules = h.rules;
@@ -101,16 +101,6 @@ module _ (h : Head) (tasks : List Task) (t : Task) where
       ∙ ap (λ jobs. with_jobs (suc (length tasks + 1)) jobs t.job.release) (sym (jobs_more tasks t))
       ∙ ap (λ n. with_jobs n (jobs_of (tasks ++ t ∷ [])) t.job.release) lines
       ∙ ap (λ mark. with_jobs (length (tasks ++ t ∷ []) + 1) (jobs_of (tasks ++ t ∷ [])) mark) (sym (last_more tasks t))
-
-  -- the line of a job that is valid behind the others
-  pub job_account : may_finish_early h.rules.version ≡ false → IsValid (stored h (tasks ++ t ∷ []))
-      → length tasks + 2 ≤ most_lines h.rules.version
-      → next_line (stored_account h tasks) (feed_text (JobLine t.job)) ≡ stored_account h (tasks ++ t ∷ [])
-  job_account plain valid few =
-      let job : IsJob t.job = all_last IsJob (jobs_of tasks) t.job
-      (subst (AllByRecursion IsJob) (jobs_more tasks t) valid.each) in
-      job_read (job_numerals t.job job) few
-      ∙ ap (with_line counted_account (JobLine t.job)) (valid_no_cause h tasks t plain valid) ∙ job_adds
 
 -- ---- a tick
 

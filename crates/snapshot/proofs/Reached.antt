@@ -1,4 +1,4 @@
--- The mark of a feed that goes on is the last release, or there is a line that is no job's; and its lines are few.
+-- The mark of a feed that goes on is that behind its items, or there is a line that is no item; and its lines are few.
 use Rattle.std.proofs.Common.{◌≡◌, ◌⊎◌, inl, inr, ℕ, suc, ◌+◌, ◌≤◌, ◌<◌, List, [], ◌∷◌, ◌++◌, length, length-append}
 use Rattle.std.proofs.Common.{refl, sym, ap, subst}
 use Rattle.std.proofs.Common.{Bool, true, false, cond, ◌||◌, arith, Option, Some, None, is_some}
@@ -6,16 +6,15 @@ use Rattle.std.specs.Prelude.{nat_lt, max}
 use Rattle.std.specs.List.{fold}
 use Rattle.std.specs.Option.{option_map, option_map_or}
 use Rattle.std.proofs.lemmas.Bool.{ltb-false}
-use Rattle.std.proofs.lemmas.List.Sums.{fold-append}
 use Rattle.dover_model.specs.Limits.{last_tick, most_lines}
 use Rattle.dover_model.specs.declared.events.Version.{Version}
 use Rattle.dover_model.specs.declared.events.Version.TheVariants.{One, Two, Three}
 use Rattle.dover_model.specs.JobFacts.{JobFacts}
 use Rattle.dover_model.specs.declared.events.Refusal.{Refusal}
-use Rattle.dover_model.specs.Instance.{Instance, Declaration}
+use Rattle.dover_model.specs.Instance.{Declaration}
 use Rattle.dover_model.specs.Admission.{refusal_of}
-use Rattle.dover_model.specs.Session.{Session, JobItem, RefusedItem, FinishItem, Refused, RefusedJob, RefusedDone}
-use Rattle.dover_model.specs.Session.{EarlyFinish}
+use Rattle.dover_model.specs.Session.{Item, Session, JobItem, RefusedItem, FinishItem, Refused, RefusedJob, RefusedDone}
+use Rattle.dover_model.specs.Session.{EarlyFinish, mark_after}
 use Rattle.dover_model.specs.Session.{refused_at, with_item, with_named, new_session, early_at}
 use Rattle.dover_model.specs.Session.{is_right}
 use Rattle.dover_model.specs.Session.{admitted_jobs, refuses_lines, may_finish_early, late_refusal}
@@ -26,22 +25,19 @@ use Rattle.dover_model.specs.Feed.{declared_rules, first_line_cause, late_cause,
 use Rattle.dover_model.specs.Feed.{with_refused_at}
 use Rattle.dover_model.specs.Session.{refusal_in, refused_mark}
 use Rattle.dover_model.specs.Feed.{with_line, next_line, most_lines_in, Cause, Short}
-use Rattle.dover_model.proofs.Growing.{job_instance, refused_instance, finish_instance}
+use Rattle.dover_model.proofs.Accounts.{mark_behind}
+use Rattle.dover_model.proofs.Growing.{early_says}
 use Rattle.event_feed.proofs.Counting.{after_form}
 
--- the release of the last of these jobs, or 0
-abbrev pub last_of : List JobFacts → ℕ
-last_of jobs = fold (λ last j. j.release) 0 jobs
-
--- there are lines for the ratio and the jobs, and the mark is the last release, or there is a line more
-pub record Reached (jobs : List JobFacts) (mark lines : ℕ) : Type 0 where
-  pub enough : length jobs + 1 ≤ lines
-  pub by : (mark ≤ last_of jobs) ⊎ (length jobs + 1 < lines)
+-- there are lines for the ratio and the items, and the mark is that behind them, or there is a line more
+pub record Reached (items : List Item) (mark lines : ℕ) : Type 0 where
+  pub enough : length items + 1 ≤ lines
+  pub by : (mark ≤ mark_after 0 items) ⊎ (length items + 1 < lines)
 
 -- the same of an account that goes on; before the line of the ratio the mark is 0
 abbrev pub ReachesBy : Standing → Option Session → ℕ → ℕ → Type 0
 ReachesBy Open None mark lines = mark ≡ 0
-ReachesBy Open (Some S) mark lines = Reached (admitted_jobs S.items) mark lines
+ReachesBy Open (Some S) mark lines = Reached S.items mark lines
 ReachesBy Ended session mark lines = Unit {0}
 ReachesBy (Faulty line cause) session mark lines = Unit {0}
 
@@ -72,30 +68,29 @@ first_reaches lines mark zero_mark EndLine = tt
 
 -- ---- later lines
 
-module _ (S : Session) (mark lines : ℕ) (it : Reached (admitted_jobs S.items) mark lines) where
+module _ (S : Session) (mark lines : ℕ) (it : Reached S.items mark lines) where
   -- the account with the next line counted
   abbrev counted : Account
   counted = account_with (suc lines) (Some S) mark Open
 
+  -- an item that brings the mark is a line more
+  item_reaches : (item : Item) (t : ℕ) → t ≤ mark_after (mark_after 0 S.items) (item ∷ [])
+      → Reached (S.items ++ item ∷ []) t (suc lines)
+  item_reaches item t brings = record {
+    enough = omega (arith, length-append S.items (item ∷ []), it.enough);
+    by = inl (omega (arith, brings, mark_behind 0 S.items item));
+  }
+
   -- a job moves the mark to its release
   job_reaches : (j : JobFacts) → Reaches (account_with (suc lines) (Some (with_item S (JobItem j))) j.release Open)
-  job_reaches j =
-      let jobs : admitted_jobs (S.items ++ JobItem j ∷ []) ≡ admitted_jobs S.items ++ j ∷ [] =
-      ap (λ (J : Instance). J.jobs) (job_instance S j) in
-      let last : last_of (admitted_jobs S.items ++ j ∷ []) ≡ j.release =
-      fold-append (λ (n : ℕ) (i : JobFacts). i.release) 0 (admitted_jobs S.items) (j ∷ []) in
-      subst (λ js. Reached js j.release (suc lines)) (sym jobs) (record {
-        enough = omega (arith, length-append (admitted_jobs S.items) (j ∷ []), it.enough);
-        by = inl (omega (arith, last));
-      })
+  job_reaches j = item_reaches (JobItem j) j.release (omega arith)
 
-  -- a refused line is a line more
-  refused_reaches : (t : ℕ) (r : Refused) → Reached (admitted_jobs (S.items ++ RefusedItem r ∷ [])) t (suc lines)
-  refused_reaches t r = subst (λ (J : Instance). Reached J.jobs t (suc lines)) (sym (refused_instance S r))
-      (record { enough = omega (arith, it.enough); by = inr (omega (arith, it.enough)) })
+  -- a refused line to its tick
+  refused_reaches : (r : Refused) → Reached (S.items ++ RefusedItem r ∷ []) r.at (suc lines)
+  refused_reaches r = item_reaches (RefusedItem r) r.at (omega arith)
 
-  -- so is a tick
-  tick_reaches : (t : ℕ) → Reached (admitted_jobs S.items) t (suc lines)
+  -- a tick is a line more
+  tick_reaches : (t : ℕ) → Reached S.items t (suc lines)
   tick_reaches t = record { enough = omega (arith, it.enough); by = inr (omega (arith, it.enough)) }
 
   -- the line of a job, by its cause
@@ -104,7 +99,7 @@ module _ (S : Session) (mark lines : ℕ) (it : Reached (admitted_jobs S.items) 
     by_version : (refusal : Refusal) (two : Bool)
         → Reaches (cond two (with_refused_at counted (refused_mark mark j refusal) j refusal)
         (with_fault counted (NotAdmitted refusal)))
-    by_version refusal true = refused_reaches (refused_mark mark j refusal)
+    by_version refusal true = refused_reaches
         (record { at = refused_mark mark j refusal; line = RefusedJob j refusal })
     by_version refusal false = tt
 
@@ -123,19 +118,20 @@ module _ (S : Session) (mark lines : ℕ) (it : Reached (admitted_jobs S.items) 
     by_order true = by_late (late_refusal S.rules.version)
     by_order false = by_refusal (refusal_in S j)
 
-  -- an early finish is a line more
-  finish_reaches : (t : ℕ) (o : Option EarlyFinish)
+  -- an early finish moves the mark to its tick
+  finish_reaches : (t n : ℕ) (o : Option EarlyFinish) → early_at S t n ≡ o
       → Reaches (account_with (suc lines) (Some (with_named S (option_map FinishItem o))) t Open)
-  finish_reaches t None = tick_reaches t
-  finish_reaches t (Some f) = subst (λ (J : Instance). Reached J.jobs t (suc lines)) (sym (finish_instance S f))
-      (tick_reaches t)
+  finish_reaches t n None e = tick_reaches t
+  finish_reaches t n (Some f) e =
+      let at : t ≡ f.at = ap (λ (g : EarlyFinish). g.at) (early_says S t n f e).is in
+      item_reaches (FinishItem f) t (omega (arith, at))
 
   -- a done line
   done_reaches : (t n : ℕ) → Reaches (with_line counted (DoneLine t n) (later_line_cause S mark (DoneLine t n)))
   done_reaches t n = by_version (may_finish_early S.rules.version) where
     by_right : (b : Bool) → Reaches (with_line counted (DoneLine t n) (cond b None (Some NotDone)))
-    by_right true = finish_reaches t (early_at S t n)
-    by_right false = refused_reaches (max mark t) (record { at = max mark t; line = RefusedDone t n })
+    by_right true = finish_reaches t n (early_at S t n) refl
+    by_right false = refused_reaches (record { at = max mark t; line = RefusedDone t n })
 
     by_tick : (b : Bool)
         → Reaches (with_line counted (DoneLine t n)

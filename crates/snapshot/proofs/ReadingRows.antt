@@ -63,9 +63,31 @@ a_space_behind : answer (codes "snapshot 1 1 1 3 2 1/state 0 running 2 0 4 10 4/
 unfolding digits
 a_space_behind = refl
 
-no_version_three : answer (codes "snapshot 3 1 1 1 0 0/resume/") ≡ Some 1
+version_three : answer (codes "snapshot 3 1 1 1 0 0/resume/") ≡ Some 0
 unfolding digits
-no_version_three = refl
+version_three = refl
+
+no_version_four : answer (codes "snapshot 4 1 1 1 0 0/resume/") ≡ Some 1
+unfolding digits
+no_version_four = refl
+
+-- a job that is done with work left finished early, for which there is a line
+early : answer (codes "snapshot 3 1 1 3 1 1/state 0 done 1 0 4 10 4/resume/") ≡ Some 0
+unfolding digits
+early = refl
+
+no_line_for_the_finish : answer (codes "snapshot 3 1 1 2 1 1/state 0 done 1 0 4 10 4/resume/") ≡ Some 3
+unfolding digits
+no_line_for_the_finish = refl
+
+-- no line is left that could have moved the mark behind the finish
+nothing_moved_the_mark_on : answer (codes "snapshot 3 1 1 3 2 1/state 0 done 1 0 4 10 4/resume/") ≡ Some 3
+unfolding digits
+nothing_moved_the_mark_on = refl
+
+none_early_in_two : answer (codes "snapshot 2 1 1 3 1 1/state 0 done 1 0 4 10 4/resume/") ≡ Some 3
+unfolding digits
+none_early_in_two = refl
 
 ratio_below_one : answer (codes "snapshot 2 1 2 1 0 0/resume/") ≡ Some 1
 unfolding digits

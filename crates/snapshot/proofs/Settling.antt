@@ -1,12 +1,11 @@
 -- How a server is taken to a mark, step by step, and a job more is admitted there.
-use Rattle.std.proofs.Common.{◌≡◌, ◌≤◌, ◌+◌, ℕ, List, [], ◌∷◌, ◌++◌, length, length-append, subst, sym, ap, ◌∙◌}
-use Rattle.std.proofs.Common.{arith, true}
+use Rattle.std.proofs.Common.{◌≤◌, ◌+◌, ℕ, List, [], ◌∷◌, ◌++◌, length, length-append, ap}
+use Rattle.std.proofs.Common.{arith}
 use Rattle.std.specs.Prelude.{Some, Result, Ok, Err, OnErr}
 use Rattle.dover_model.specs.declared.events.Event.{Event}
 use Rattle.dover_model.specs.declared.events.Task.{Task}
 use Rattle.dover_model.specs.JobFacts.{JobFacts, IsJob}
-use Rattle.dover_model.specs.Instance.{Instance, with_jobs}
-use Rattle.dover_model.specs.Settled.{settled}
+use Rattle.dover_model.specs.Instance.{Instance}
 use Rattle.dover_model.specs.Limits.{last_tick}
 use Rattle.dover_model.proofs.Members.{all_last}
 use Rattle.dover_model.specs.declared.horizon.Horizon.TheVariants.{Mark}
@@ -15,11 +14,10 @@ use Rattle.dover_model.proofs.Horizons.{due_few}
 use Rattle.dover_model.proofs.Limiting.{jobs_most}
 use Rattle.ready_server.proofs.Stepping.{serves_begins}
 use Rattle.snapshot.specs.Snapshot.{Head}
-use Rattle.snapshot.specs.Reading.{stored}
-use Rattle.snapshot.specs.Kept.{IsServed, MayAdmit}
-use Rattle.ready_server.specs.Rostering.{Serves, Rests, has_roster}
+use Rattle.snapshot.specs.Reading.{declared_jobs}
+use Rattle.snapshot.specs.Kept.{MayAdmit}
+use Rattle.ready_server.specs.Rostering.{Serves, Rests}
 use Rattle.ready_server.specs.declared.roster_server.RosterServer.{RosterServer}
-use Rattle.snapshot.proofs.Admitted.{with_this}
 
 -- so many steps at least were printed on the way to a mark
 pub record IsOnTheWay (v : RosterServer) (J : Instance) (mark steps : ℕ) : Type 0 where
@@ -56,24 +54,11 @@ too_many v J mark steps it many =
       length-append it.events begins.0,
     ))
 
--- with the job the snapshot's jobs are served
-pub served_with : (w : RosterServer) (h : Head) (tasks : List Task) (t : Task) (job : JobFacts) (e : Event)
-    → t.job ≡ job → has_roster w ≡ true
-    → Serves w (with_jobs (stored h tasks) (job ∷ [])) (Mark job.release)
-    (settled (stored h tasks) job.release ++ e ∷ [])
-    → IsServed w h (tasks ++ t ∷ []) job.release
-served_with w h tasks t job e same listed served = record {
-  events = settled (stored h tasks) job.release ++ e ∷ [];
-  served = subst (λ J. Serves w J (Mark job.release) (settled (stored h tasks) job.release ++ e ∷ []))
-      (ap (λ (j : JobFacts). with_jobs (stored h tasks) (j ∷ [])) (sym same) ∙ sym (with_this h tasks t)) served;
-  listed = listed;
-}
-
 -- its release is a tick
 pub release_known : (h : Head) (tasks : List Task) (last : ℕ) (job : JobFacts) → MayAdmit last h tasks job
     → job.release ≤ last_tick
 release_known h tasks last job may =
-    let it : IsJob job = all_last IsJob (stored h tasks).jobs job may.valid.each in
+    let it : IsJob job = all_last IsJob (declared_jobs h tasks).jobs job may.valid.each in
     let window : job.release + job.work ≤ job.deadline = it.window in
     let due : job.deadline ≤ 1_000_000_000_000 = it.due in
     omega arith

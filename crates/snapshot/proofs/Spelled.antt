@@ -30,10 +30,8 @@ use Rattle.dover_model.proofs.Fields.{length-with_numbers}
 use Rattle.snapshot.specs.Snapshot.{Head, head_numbers, head_line, IsHead, role_word, state_line, IsStored}
 use Rattle.snapshot.specs.Snapshot.{state_numbers, IsState}
 use Rattle.snapshot.specs.Reading.{rules_from, head_from, read_head, role_of_word, task_from, task_of_fields, read_task}
-use Rattle.dover_model.specs.Session.{may_finish_early}
-use Rattle.dover_model.proofs.Tests.{never}
 use Rattle.dover_model.specs.declared.events.Version.TheVariants.{Three}
-use Rattle.snapshot.specs.Reading.{plain_version}
+use Rattle.snapshot.specs.Reading.{version_of}
 
 -- ---- a word and numbers
 
@@ -69,33 +67,33 @@ numbers_from word line ns = by (fields_of line) refl where
 
 -- ---- the first line
 
--- a version in which no job finishes early is read from its number
-plain_back : (v : Version) → may_finish_early v ≡ false → plain_version (version_number v) ≡ Some v
-plain_back One plain = refl
-plain_back Two plain = refl
-plain_back Three plain = never (sym plain)
+-- a version is read from its number
+version_back : (v : Version) → version_of (version_number v) ≡ Some v
+version_back One = refl
+version_back Two = refl
+version_back Three = refl
 
 -- and its number from it
-plain_from : (n : ℕ) (v : Version) → plain_version n ≡ Some v
-    → (version_number v ≡ n) × (may_finish_early v ≡ false)
-plain_from n v = by (n == 1) (n == 2) refl refl where
-  by : (a b : Bool) → (n == 1) ≡ a → (n == 2) ≡ b → cond a (Some One) (then_some b Two) ≡ Some v
-      → (version_number v ≡ n) × (may_finish_early v ≡ false)
-  by true b one two read = subst (λ w. (version_number w ≡ n) × (may_finish_early w ≡ false))
-      (some_same One v read) (sym (eqb-true n 1 one), refl)
-  by false true one two read = subst (λ w. (version_number w ≡ n) × (may_finish_early w ≡ false))
-      (some_same Two v read) (sym (eqb-true n 2 two), refl)
-  by false false one two read = none_is_some read
+version_from : (n : ℕ) (v : Version) → version_of n ≡ Some v → version_number v ≡ n
+version_from n v = by (n == 1) (n == 2) (n == 3) refl refl refl where
+  by : (a b c : Bool) → (n == 1) ≡ a → (n == 2) ≡ b → (n == 3) ≡ c
+      → cond a (Some One) (cond b (Some Two) (then_some c Three)) ≡ Some v → version_number v ≡ n
+  by true b c one two three read =
+      subst (λ w. version_number w ≡ n) (some_same One v read) (sym (eqb-true n 1 one))
+  by false true c one two three read =
+      subst (λ w. version_number w ≡ n) (some_same Two v read) (sym (eqb-true n 2 two))
+  by false false true one two three read =
+      subst (λ w. version_number w ≡ n) (some_same Three v read) (sym (eqb-true n 3 three))
+  by false false false one two three read = none_is_some read
 
 -- its numbers are read as the first line
-numbers_head : (h : Head) → may_finish_early h.rules.version ≡ false → IsRatio h.rules.ratio
-    → head_from (head_numbers h) ≡ Some h
-numbers_head h plain ratio =
+numbers_head : (h : Head) → IsRatio h.rules.ratio → head_from (head_numbers h) ≡ Some h
+numbers_head h ratio =
     let head : Declaration → Head = λ rules. record { rules = rules; lines = h.lines; mark = h.mark; jobs = h.jobs } in
     ap (λ o. option_map head (option_and_then (λ version. then_some (is_ratio h.rules.ratio) (record {
       ratio = h.rules.ratio;
       version = version;
-    })) o)) (plain_back h.rules.version plain)
+    })) o)) (version_back h.rules.version)
     ∙ ap (λ b. option_map head (then_some b h.rules)) ((is_ratio-agrees h.rules.ratio).1 ratio)
 
 -- the first line is short
@@ -108,57 +106,48 @@ read_head-head_line h it =
     ap (λ b. cond b None (option_and_then head_from (numbers_of (codes "snapshot") (head_line h))))
     (le-ltb 128 (length (head_line h)) (omega (arith, head_fits h it.short)))
     ∙ ap (option_and_then head_from) (numbers_back (codes "snapshot") (head_numbers h) refl it.short)
-    ∙ numbers_head h it.version it.ratio
+    ∙ numbers_head h it.ratio
 
 -- what rules are read from
 rules_read : (n p q : ℕ) (rules : Declaration) → rules_from n p q ≡ Some rules
     → (version_number rules.version ∷ rules.ratio.p ∷ rules.ratio.q ∷ [] ≡ n ∷ p ∷ q ∷ []) × IsRatio rules.ratio
-    × (may_finish_early rules.version ≡ false)
-rules_read n p q rules = by (plain_version n) refl where
+rules_read n p q rules = by (version_of n) refl where
   rules_in : Version → Declaration
   rules_in version = record { ratio = record { p = p; q = q }; version = version }
 
-  by_ratio : (b : Bool) (v : Version) → is_ratio (record { p = p; q = q }) ≡ b → plain_version n ≡ Some v
+  by_ratio : (b : Bool) (v : Version) → is_ratio (record { p = p; q = q }) ≡ b → version_of n ≡ Some v
       → then_some b (rules_in v) ≡ Some rules
       → (version_number rules.version ∷ rules.ratio.p ∷ rules.ratio.q ∷ [] ≡ n ∷ p ∷ q ∷ []) × IsRatio rules.ratio
-      × (may_finish_early rules.version ≡ false)
   by_ratio false v fails version read = none_is_some read
   by_ratio true v passes version read =
       subst (λ (r : Declaration). (version_number r.version ∷ r.ratio.p ∷ r.ratio.q ∷ [] ≡ n ∷ p ∷ q ∷ [])
-      × IsRatio r.ratio
-      × (may_finish_early r.version ≡ false))
+      × IsRatio r.ratio)
       (some_same (rules_in v) rules read) (
-        ap (λ m. m ∷ p ∷ q ∷ []) (plain_from n v version).0,
+        ap (λ m. m ∷ p ∷ q ∷ []) (version_from n v version),
         (is_ratio-agrees (record { p = p; q = q })).0 passes,
-        (plain_from n v version).1,
       )
 
-  by : (o : Option Version) → plain_version n ≡ o
+  by : (o : Option Version) → version_of n ≡ o
       → option_and_then (λ version. then_some (is_ratio (record { p = p; q = q })) (rules_in version)) o ≡ Some rules
       → (version_number rules.version ∷ rules.ratio.p ∷ rules.ratio.q ∷ [] ≡ n ∷ p ∷ q ∷ []) × IsRatio rules.ratio
-      × (may_finish_early rules.version ≡ false)
   by None version read = none_is_some read
   by (Some v) version read = by_ratio (is_ratio (record { p = p; q = q })) v refl version read
 
 -- what a first line is read from
 head_read : (ns : List ℕ) (h : Head) → head_from ns ≡ Some h → (head_numbers h ≡ ns) × IsRatio h.rules.ratio
-    × (may_finish_early h.rules.version ≡ false)
 head_read (n ∷ p ∷ q ∷ lines ∷ mark ∷ jobs ∷ []) h = by (rules_from n p q) (rules_read n p q) where
   head_in : Declaration → Head
   head_in rules = record { rules = rules; lines = lines; mark = mark; jobs = jobs }
 
   by : (o : Option Declaration)
       → ((rules : Declaration) → o ≡ Some rules
-      → (version_number rules.version ∷ rules.ratio.p ∷ rules.ratio.q ∷ [] ≡ n ∷ p ∷ q ∷ []) × IsRatio rules.ratio
-      × (may_finish_early rules.version ≡ false))
+      → (version_number rules.version ∷ rules.ratio.p ∷ rules.ratio.q ∷ [] ≡ n ∷ p ∷ q ∷ []) × IsRatio rules.ratio)
       → option_map head_in o ≡ Some h → (head_numbers h ≡ n ∷ p ∷ q ∷ lines ∷ mark ∷ jobs ∷ []) × IsRatio h.rules.ratio
-      × (may_finish_early h.rules.version ≡ false)
   by None it read = none_is_some read
   by (Some rules) it read =
-      subst (λ (g : Head). (head_numbers g ≡ n ∷ p ∷ q ∷ lines ∷ mark ∷ jobs ∷ []) × IsRatio g.rules.ratio
-      × (may_finish_early g.rules.version ≡ false))
+      subst (λ (g : Head). (head_numbers g ≡ n ∷ p ∷ q ∷ lines ∷ mark ∷ jobs ∷ []) × IsRatio g.rules.ratio)
       (some_same (head_in rules) h read)
-      (ap (λ ns. ns ++ lines ∷ mark ∷ jobs ∷ []) (it rules refl).0, (it rules refl).1, (it rules refl).2)
+      (ap (λ ns. ns ++ lines ∷ mark ∷ jobs ∷ []) (it rules refl).0, (it rules refl).1)
 head_read [] h = λ read. none_is_some read
 head_read (a ∷ []) h = λ read. none_is_some read
 head_read (a ∷ b ∷ []) h = λ read. none_is_some read
@@ -179,7 +168,7 @@ head_line-read_head line h = by (is_too_long line) (numbers_of (codes "snapshot"
       let numbers = numbers_from (codes "snapshot") line ns cut in
       let it = head_read ns h read in (
         ap (with_numbers (codes "snapshot")) it.0 ∙ numbers.0,
-        record { version = it.2; ratio = it.1; short = subst AreShort (sym it.0) numbers.1 },
+        record { ratio = it.1; short = subst AreShort (sym it.0) numbers.1 },
       )
 
 -- ---- the line of a job

@@ -12,7 +12,8 @@ use Rattle.ready_jobs.proofs.Courses.{follows_count}
 use Rattle.dover_model.specs.declared.horizon.Horizon.TheVariants.{Mark}
 use Rattle.snapshot.specs.Stored.{HasRead}
 use Rattle.ready_server.specs.Rostering.{Rests}
-use Rattle.snapshot.specs.Kept.{IsReading, IsServed}
+use Rattle.dover_model.specs.Session.{Item, instance_of, session_with}
+use Rattle.snapshot.specs.Kept.{IsReading, IsServed, HasRun}
 use Rattle.ready_server.specs.declared.roster_server.RosterServer.{RosterServer}
 use Rattle.snapshot.specs.Spending.{jobs_read, jobs_kept}
 use Rattle.snapshot.specs.declared.resuming.Resuming.{Resuming}
@@ -37,23 +38,28 @@ jobs_next h tasks line = by (nat_lt (length tasks) h.jobs) where
   by false = at_last (bytes_eq line (codes "resume") && has_reached_mark h tasks && is_settled h tasks)
 
 -- a server has as many jobs as it was handed
-pub jobs_served : (v : RosterServer) (h : Head) (tasks : List Task) (mark : ℕ) → IsServed v h tasks mark
-    → v.server.ready.jobs ≡ length tasks
-jobs_served v h tasks mark it = omega (
+pub jobs_served : (v : RosterServer) (h : Head) (tasks : List Task) (items : List Item) (mark : ℕ)
+    → IsServed v h tasks items mark → v.server.ready.jobs ≡ length tasks
+jobs_served v h tasks items mark it = omega (
   arith,
-  follows_count v.server.ready (stored h tasks) it.served.served.state it.served.served.follows,
+  follows_count v.server.ready (instance_of (session_with h.rules items)) it.rests.rests.state it.rests.rests.follows,
+  ap length it.handed.jobs,
   count_jobs tasks,
 )
 
+pub jobs_run : (r : Resuming) (h : Head) (tasks : List Task) (mark : ℕ) → HasRun r h tasks mark
+    → r.server.server.ready.jobs ≡ length tasks
+jobs_run r h tasks mark it = jobs_served r.server h tasks it.items mark it.served
+
 -- where no more are, there are as many in the lines
 pub jobs_left : (r : Resuming) (ls : List (List ℕ)) → IsReading (Some r) ls → (line : List ℕ) (n : ℕ)
-    → ((h : Head) (tasks : List Task) → IsServed r.server h tasks r.last → n ≡ length tasks)
+    → ((h : Head) (tasks : List Task) → HasRun r h tasks r.last → n ≡ length tasks)
     → n ≤ jobs_read (reading_of (ls ++ line ∷ []))
 jobs_left r ls (h, tasks, read, it) line n same = subst (λ reading. n ≤ jobs_read reading)
     (sym (fold-append next_line Begun ls (line ∷ []) ∙ ap (λ reading. next_line reading line) read.reads))
     (omega (
       arith,
-      same h tasks (subst (IsServed r.server h tasks) (sym it.released) it.served),
+      same h tasks (subst (HasRun r h tasks) (sym it.released) it.run),
       jobs_next h tasks line,
     ))
 
@@ -78,14 +84,14 @@ pub jobs_stay : (r : Resuming) (ls : List (List ℕ)) → IsReading (Some r) ls 
     → n ≤ r.server.server.ready.jobs → n ≤ jobs_read (reading_of (ls ++ line ∷ []))
 jobs_stay r ls (h, tasks, read, it) line n few = subst (λ reading. n ≤ jobs_read reading)
     (sym (fold-append next_line Begun ls (line ∷ []) ∙ ap (λ reading. next_line reading line) read.reads))
-    (omega (arith, few, jobs_served r.server h tasks (last_release tasks) it.served, jobs_next h tasks line))
+    (omega (arith, few, jobs_run r h tasks (last_release tasks) it.run, jobs_next h tasks line))
 
 -- while the lines are read, each of their jobs is served
 pub jobs_now : (r : Resuming) (ls : List (List ℕ)) → IsReading (Some r) ls
     → r.server.server.ready.jobs ≤ jobs_read (reading_of ls)
 jobs_now r ls (h, tasks, read, it) =
     subst (λ reading. r.server.server.ready.jobs ≤ jobs_read reading) (sym read.reads)
-    (omega (arith, jobs_served r.server h tasks (last_release tasks) it.served))
+    (omega (arith, jobs_run r h tasks (last_release tasks) it.run))
 
 pub jobs_reading : (o : Option Resuming) (ls : List (List ℕ)) → IsReading o ls → jobs_kept o ≤ jobs_read (reading_of ls)
 jobs_reading None ls none = omega arith

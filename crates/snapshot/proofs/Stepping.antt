@@ -11,10 +11,10 @@ use Rattle.dover_model.specs.Instance.{IsValid, is_valid}
 use Rattle.dover_model.specs.Numerals.{AreShort}
 use Rattle.dover_model.proofs.Agreement.{is_valid-agrees}
 use Rattle.snapshot.specs.Snapshot.{Head}
-use Rattle.snapshot.specs.Reading.{Refused, stored, may_follow, refused_behind, read_task, reading_of}
+use Rattle.snapshot.specs.Reading.{Refused, declared_jobs, may_follow, refused_behind, read_task, reading_of}
 use Rattle.snapshot.specs.Stored.{HasRead}
 use Rattle.snapshot.specs.Forms.{head_in}
-use Rattle.snapshot.specs.Kept.{IsFed, IsServed, HasRoom, MayAdmit, Holds, stance_of}
+use Rattle.snapshot.specs.Kept.{IsFed, IsServed, HasRoom, HasRun, MayAdmit, Holds, stance_of}
 use Rattle.snapshot.specs.declared.resuming.Resuming.{Resuming}
 use Rattle.snapshot.proofs.Admitted.{valid_ordered, with_this, last_more}
 use Rattle.snapshot.proofs.Beginning.{Within, within}
@@ -25,11 +25,11 @@ module _ (h : Head) (tasks : List Task) (ls : List (List ℕ)) (read : HasRead h
     (it : Holds r h tasks) where
   -- as many jobs are kept as were read
   pub served_count : length r.stances.items ≡ length tasks
-  served_count = omega (arith, ap length it.stances, length-map tasks stance_of)
+  served_count = omega (arith, ap length it.about.stances, length-map tasks stance_of)
 
   -- how many there are to be
   pub jobs_count : r.head.jobs ≡ h.jobs
-  jobs_count = ap (λ (g : Head). g.jobs) it.head
+  jobs_count = ap (λ (g : Head). g.jobs) it.about.head
 
   -- the number of a refused line
   pub refused_here : (l : List (List ℕ)) (n : ℕ) → n ≡ length r.stances.items → reading_of l ≡ refused_behind tasks
@@ -42,7 +42,7 @@ module _ (h : Head) (tasks : List Task) (ls : List (List ℕ)) (read : HasRead h
       let limits : Within h = within h read.limits in (
         read.valid,
         omega (arith, more, limits.enough, limits.lines),
-        read.version,
+        omega (arith, more, limits.jobs),
       )
 
   module _ (line : List ℕ) (more : length tasks < h.jobs) where
@@ -58,37 +58,39 @@ module _ (h : Head) (tasks : List Task) (ls : List (List ℕ)) (read : HasRead h
 
       -- a job that may not follow
       pub beyond_refused : (n : ℕ) → n ≡ length r.stances.items
-          → (t.number ≡ length tasks → IsValid (stored h (tasks ++ t ∷ [])) → t.job.release ≤ h.mark → ⊥)
+          → (t.number ≡ length tasks → IsValid (declared_jobs h (tasks ++ t ∷ [])) → t.job.release ≤ h.mark → ⊥)
           → reading_of (ls ++ line ∷ []) ≡ Refused (n + 2)
       beyond_refused n is never = refused_here (ls ++ line ∷ []) n is (task_beyond h tasks ls read line more t spelled
           (by (may_follow h tasks t) refl)) where
             by : (b : Bool) → may_follow h tasks t ≡ b → may_follow h tasks t ≡ false
             by false fails = fails
             by true passes =
-                let all = and_parts ((t.number == length tasks) && is_valid (stored h (tasks ++ t ∷ []))) _ passes in
-                let both = and_parts (t.number == length tasks) (is_valid (stored h (tasks ++ t ∷ []))) all.0 in
+                let all = and_parts ((t.number == length tasks) && is_valid (declared_jobs h
+                    (tasks ++ t ∷ []))) _ passes in
+                let both = and_parts (t.number == length tasks) (is_valid (declared_jobs h (tasks ++ t ∷ []))) all.0 in
                 absurd (never (eqb-true t.number (length tasks) both.0)
-                ((is_valid-agrees (stored h (tasks ++ t ∷ []))).0 both.1)
+                ((is_valid-agrees (declared_jobs h (tasks ++ t ∷ []))).0 both.1)
                 (leb-true t.job.release h.mark all.1))
 
-      module _ (valid : IsValid (stored h (tasks ++ t ∷ []))) where
+      module _ (valid : IsValid (declared_jobs h (tasks ++ t ∷ []))) where
         -- its run may be taken to its release
         pub may_admit : (job : JobFacts) → job ≡ t.job → MayAdmit r.last h tasks job
         may_admit job same = subst (λ (j : JobFacts). MayAdmit r.last h tasks j) (sym same) (record {
           ordered = subst (λ n. n ≤ t.job.release) (sym it.released) (valid_ordered h tasks t valid);
+          few = omega (arith, more, (within h read.limits).jobs);
           valid = subst IsValid (with_this h tasks t) valid;
         })
 
-        -- the server is where that begins
-        pub served_at : IsServed r.server h tasks r.last
-        served_at = subst (IsServed r.server h tasks) (sym it.released) it.served
+        -- the run is where that begins
+        pub run_at : HasRun r h tasks r.last
+        run_at = subst (HasRun r h tasks) (sym it.released) it.run
 
         -- the lines with it
         pub read_more : t.number ≡ length tasks → t.job.release ≤ h.mark → HasRead h (tasks ++ t ∷ []) (ls ++ line ∷ [])
         read_more number low = task_stands h tasks ls read line more t spelled (by (t.number == length tasks)
-            (is_valid (stored h (tasks ++ t ∷ []))) (nat_le t.job.release h.mark)
+            (is_valid (declared_jobs h (tasks ++ t ∷ []))) (nat_le t.job.release h.mark)
             (eq-eqb t.number (length tasks) number)
-            ((is_valid-agrees (stored h (tasks ++ t ∷ []))).1 valid) (le-leb t.job.release h.mark low)) where
+            ((is_valid-agrees (declared_jobs h (tasks ++ t ∷ []))).1 valid) (le-leb t.job.release h.mark low)) where
               by : (a b c : Bool) → a ≡ true → b ≡ true → c ≡ true → (a && b && c) ≡ true
               by true true true p q s = refl
               by true true false p q s = absurd (let clash : false ≡ true = s in cc)
@@ -96,14 +98,27 @@ module _ (h : Head) (tasks : List Task) (ls : List (List ℕ)) (read : HasRead h
               by false b c p q s = absurd (let clash : false ≡ true = p in cc)
 
         -- what is kept with it
-        pub holds_more : (new : Resuming) → new.head ≡ r.head → new.last ≡ t.job.release
-            → new.stances.items ≡ r.stances.items ++ stance_of t ∷ []
-            → IsFed new.intake h (tasks ++ t ∷ []) → IsServed new.server h (tasks ++ t ∷ []) t.job.release
+        pub holds_more : (new : Resuming) → HasRead h (tasks ++ t ∷ []) (ls ++ line ∷ []) → new.head ≡ r.head
+            → new.last ≡ t.job.release → new.stances.items ≡ r.stances.items ++ stance_of t ∷ []
+            → IsFed new.intake h (tasks ++ t ∷ []) → HasRun new h (tasks ++ t ∷ []) t.job.release
             → Holds new h (tasks ++ t ∷ [])
-        holds_more new head last stances fed served = record {
-          head = ap head_in head ∙ it.head;
+        holds_more new more_read head last stances fed run = record {
+          about = record {
+            head = ap head_in head ∙ it.about.head;
+            numbered = more_read.numbered;
+            stances = stances ∙ ap (λ xs. xs ++ stance_of t ∷ []) it.about.stances
+                ∙ sym (map-append stance_of tasks (t ∷ []));
+          };
           released = last ∙ sym (last_more tasks t);
-          stances = stances ∙ ap (λ xs. xs ++ stance_of t ∷ []) it.stances ∙ sym (map-append stance_of tasks (t ∷ []));
           fed = fed;
-          served = subst (IsServed new.server h (tasks ++ t ∷ [])) (sym (last_more tasks t)) served;
+          run = subst (HasRun new h (tasks ++ t ∷ [])) (sym (last_more tasks t)) run;
         }
+
+-- the run depends on the server and on what was handed in
+pub same_run : (r new : Resuming) (h : Head) (tasks : List Task) (mark : ℕ) → new.server ≡ r.server
+    → new.handed ≡ r.handed → new.last ≡ r.last → HasRun r h tasks mark → HasRun new h tasks mark
+same_run r new h tasks mark server handed last run = record {
+  items = run.items;
+  counted = record { count = handed ∙ run.counted.count; last = last ∙ run.counted.last };
+  served = subst (λ v. IsServed v h tasks run.items mark) (sym server) run.served;
+}

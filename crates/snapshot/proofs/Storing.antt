@@ -13,7 +13,8 @@ use Rattle.dover_model.specs.Sound.{IsNumberedFrom}
 use Rattle.dover_model.proofs.Agreement.{is_valid-agrees}
 use Rattle.dover_model.proofs.Growing.{all_behind, reads_new}
 use Rattle.snapshot.specs.Snapshot.{Head, head_line, state_line}
-use Rattle.snapshot.specs.Reading.{Begun, Going, Taken, Refused, is_within_limits, stored, may_follow, has_reached_mark}
+use Rattle.snapshot.specs.Reading.{Begun, Going, Taken, Refused, is_within_limits, declared_jobs, may_follow}
+use Rattle.snapshot.specs.Reading.{has_reached_mark}
 use Rattle.snapshot.specs.Reading.{is_settled}
 use Rattle.snapshot.specs.Reading.{with_head, refused_behind, with_task, with_last, next_line, reading_of, read_head}
 use Rattle.snapshot.specs.Reading.{read_task}
@@ -41,7 +42,6 @@ pub head_stands : (line : List ℕ) (h : Head) → read_head line ≡ Some h →
 head_stands line h read within =
     let it = head_line-read_head line h read in
     record {
-      version = it.1.version;
       reads = ap with_head read ∙ ap (λ b. cond b (Going h []) (Refused 1)) within;
       text = ap (λ l. l ∷ []) (sym it.0);
       limits = within;
@@ -90,17 +90,16 @@ module _ (h : Head) (tasks : List Task) (ls : List (List ℕ)) (it : HasRead h t
   pub task_stands : length tasks < h.jobs → (t : Task) → read_task line ≡ Some t → may_follow h tasks t ≡ true
       → HasRead h (tasks ++ t ∷ []) (ls ++ line ∷ [])
   task_stands more t read follows =
-      let all = and_parts ((t.number == length tasks) && is_valid (stored h (tasks ++ t ∷ []))) _ follows in
-      let both = and_parts (t.number == length tasks) (is_valid (stored h (tasks ++ t ∷ []))) all.0 in
+      let all = and_parts ((t.number == length tasks) && is_valid (declared_jobs h (tasks ++ t ∷ []))) _ follows in
+      let both = and_parts (t.number == length tasks) (is_valid (declared_jobs h (tasks ++ t ∷ []))) all.0 in
       record {
-        version = it.version;
         reads = next_job more ∙ ap (with_task h tasks) read
             ∙ ap (λ b. cond b (Going h (tasks ++ t ∷ [])) (refused_behind tasks)) follows;
         text = ap (λ l. ls ++ l ∷ []) (sym (state_line-read_task line t read).0)
             ∙ ap (λ (xs : List (List ℕ)). xs ++ state_line t ∷ []) it.text
             ∙ ap (λ xs. head_line h ∷ xs) (sym (map-append state_line tasks (t ∷ [])));
         limits = it.limits;
-        valid = (is_valid-agrees (stored h (tasks ++ t ∷ []))).0 both.1;
+        valid = (is_valid-agrees (declared_jobs h (tasks ++ t ∷ []))).0 both.1;
         known = all_behind (λ u. u.job.release ≤ h.mark) tasks t it.known (leb-true _ _ all.1);
         numbered = numbered_more 0 tasks t it.numbered (omega (arith, eqb-true t.number (length tasks) both.0));
         count = omega (arith, length-append tasks (t ∷ []));

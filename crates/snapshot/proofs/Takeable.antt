@@ -3,47 +3,52 @@ use Rattle.std.proofs.Common.{◌≡◌, ◌⊎◌, inl, inr, ℕ, suc, ◌+◌,
 use Rattle.std.proofs.Common.{append_assoc, append-nil, map}
 use Rattle.std.proofs.Common.{refl, sym, ap, ◌∙◌, subst, Bool, true, false, ◌&&◌, ◌||◌, arith, Some, codes}
 use Rattle.std.specs.Prelude.{nat_le, nat_lt, ◌==◌}
-use Rattle.std.specs.List.{AllByRecursion, fold}
-use Rattle.std.proofs.lemmas.Bool.{le-leb, lt-ltb, eq-eqb, and_from}
+use Rattle.std.specs.List.{AllByRecursion}
+use Rattle.std.proofs.lemmas.Bool.{le-leb, lt-ltb, eq-eqb, and_from, leb-true, leb-false}
 use Rattle.std.proofs.lemmas.List.{map-append}
-use Rattle.dover_model.specs.Limits.{last_tick, most_jobs, most_lines}
+use Rattle.dover_model.specs.Limits.{last_tick, most_jobs, most_lines, most_items}
 use Rattle.dover_model.specs.declared.events.Role.{Role}
 use Rattle.dover_model.specs.declared.events.Role.TheVariants.{Coming, Fresh, Waiting, Held, Running, Done, Gone}
 use Rattle.dover_model.specs.declared.events.Task.{Task}
-use Rattle.dover_model.specs.JobFacts.{JobFacts, IsJob}
+use Rattle.dover_model.specs.declared.events.Version.TheVariants.{Two}
+use Rattle.dover_model.specs.JobFacts.{IsJob}
 use Rattle.dover_model.specs.Instance.{Instance, under, IsValid, is_valid}
-use Rattle.dover_model.specs.Session.{Session, instance_of, admitted_jobs, early_finishes}
+use Rattle.dover_model.specs.Session.{Item, JobItem, RefusedItem, FinishItem, Session, instance_of, admitted_jobs}
+use Rattle.dover_model.specs.Session.{mark_after, session_with}
 use Rattle.dover_model.specs.Settled.{settled_state}
 use Rattle.dover_model.specs.Sound.{IsMember, IsNumberedFrom, jobs_of}
+use Rattle.dover_model.specs.State.{State}
 use Rattle.dover_model.specs.Feed.{Account, Open}
-use Rattle.dover_model.proofs.Former.{none_early}
 use Rattle.dover_model.proofs.Meeting.{finishing_valid}
 use Rattle.dover_model.proofs.Accounts.{Holds, HoldsBy, HoldsOpen, IsKept}
 use Rattle.dover_model.proofs.Agreement.{is_valid-agrees}
 use Rattle.dover_model.proofs.Barriers.{AtBarrier, settled_at_barrier}
 use Rattle.dover_model.proofs.Honest.{numbers_low, count_jobs}
 use Rattle.dover_model.proofs.Kept.{each_job}
-use Rattle.dover_model.proofs.Limiting.{jobs_most, lines_most}
+use Rattle.dover_model.proofs.Limiting.{lines_most}
 use Rattle.dover_model.proofs.NoFeeds.{header_short}
 use Rattle.dover_model.proofs.Valid.{valid_front}
 use Rattle.snapshot.specs.Snapshot.{Head, IsHead, IsStored, IsState, head_line, state_line}
-use Rattle.snapshot.specs.Reading.{Taken, is_within_limits, stored, may_follow, last_release, has_reached_mark}
-use Rattle.snapshot.specs.Reading.{is_settled, reading_of}
+use Rattle.snapshot.specs.Reading.{Taken, is_within_limits, declared_jobs, stored, stored_session, may_follow}
+use Rattle.snapshot.specs.Reading.{has_lines_for, has_reached_mark, is_settled, reading_of}
 use Rattle.snapshot.specs.Stored.{HasRead}
 use Rattle.snapshot.specs.Kept.{IsWhole, stance_of}
 use Rattle.snapshot.proofs.Comparing.{all_alike}
 use Rattle.ready_server.proofs.Present.{none_to_come}
-use Rattle.snapshot.proofs.Reached.{last_of, Reached, Reaches, ReachesBy}
+use Rattle.snapshot.proofs.Reached.{Reached, Reaches, ReachesBy}
+use Rattle.snapshot.proofs.Counts.{good_count}
+use Rattle.snapshot.proofs.RunItems.{kept, kept_good, kept_few, kept_all, kept_mark, kept_is_run, kept_jobs}
+use Rattle.snapshot.proofs.RunItems.{kept_instance, kept_follows}
+use Rattle.snapshot.proofs.Same.{stored_run, stored_state}
 use Rattle.snapshot.proofs.Spelled.{read_head-head_line, read_task-state_line}
 use Rattle.snapshot.proofs.Storing.{head_stands, task_stands, last_stands}
-use Rattle.dover_model.specs.Session.{may_finish_early}
 
--- the last release of the jobs of tasks
-last_jobs : (from : ℕ) (tasks : List Task)
-    → fold (λ (last : ℕ) (t : Task). t.job.release) from tasks ≡ fold (λ (last : ℕ) (j : JobFacts). j.release) from
-    (jobs_of tasks)
-last_jobs from [] = refl
-last_jobs from (t ∷ tasks) = last_jobs t.job.release tasks
+-- as many jobs as items at most
+jobs_in : (items : List Item) → length (admitted_jobs items) ≤ length items
+jobs_in [] = omega arith
+jobs_in (JobItem j ∷ items) = omega (arith, jobs_in items)
+jobs_in (RefusedItem r ∷ items) = omega (arith, jobs_in items)
+jobs_in (FinishItem f ∷ items) = omega (arith, jobs_in items)
 
 -- the number of a job is how many stand before it
 numbered_at : (n : ℕ) (front : List Task) (t : Task) (back : List Task) → IsNumberedFrom n (front ++ t ∷ back)
@@ -57,7 +62,7 @@ in_middle [] t back = inl refl
 in_middle (u ∷ front) t back = inr (in_middle front t back)
 
 module _ (S : Session) (mark lines : ℕ) (holds : Holds S mark lines) (few : lines ≤ most_lines S.rules.version)
-    (former : may_finish_early S.rules.version ≡ false) (reached : Reached (admitted_jobs S.items) mark lines)
+    (listed : length (admitted_jobs S.items) ≤ most_jobs Two) (reached : Reached S.items mark lines)
   where
     -- its jobs
     abbrev J : Instance
@@ -74,25 +79,17 @@ module _ (S : Session) (mark lines : ℕ) (holds : Holds S mark lines) (few : li
     bar : AtBarrier J mark (settled_state J mark)
     bar = settled_at_barrier J holds.reads.valid mark
 
-    -- no job finishes early
-    plain : early_finishes S.items ≡ []
-    plain = none_early S.rules [] 0 S.items former holds.follows
-
     jobs_same : jobs_of tasks ≡ J.jobs
     jobs_same = bar.keeps.jobs
-
-    pub stored_is : stored h tasks ≡ J
-    stored_is = ap (λ jobs. record { rules = under S.rules []; jobs = jobs }) jobs_same
-        ∙ ap (λ fs. record { rules = under S.rules fs; jobs = J.jobs }) (sym plain)
 
     count : length tasks ≡ length J.jobs
     count = omega (arith, count_jobs tasks, ap length jobs_same)
 
-    jobs_few : length J.jobs ≤ most_jobs S.rules.version
-    jobs_few = holds.reads.valid.count
+    jobs_few : length J.jobs ≤ 1_000_000
+    jobs_few = listed
 
     jobs_small : length J.jobs ≤ 4_000_000_000
-    jobs_small = omega (arith, jobs_few, jobs_most S.rules.version)
+    jobs_small = omega (arith, jobs_few)
 
     -- ---- its lines have numerals
 
@@ -102,7 +99,6 @@ module _ (S : Session) (mark lines : ℕ) (holds : Holds S mark lines) (few : li
         let known : mark ≤ 1_000_000_000_000 = holds.known in
         let most : lines ≤ 16_000_000_000 = omega (arith, few, lines_most S.rules.version) in
         record {
-          version = former;
           ratio = holds.reads.valid.ratio;
           short =
               (rules.0, (rules.1.0, (rules.1.1.0, (omega arith, (omega arith, (omega (arith, jobs_small), tt))))));
@@ -143,17 +139,18 @@ module _ (S : Session) (mark lines : ℕ) (holds : Holds S mark lines) (few : li
     within : is_within_limits h ≡ true
     within = and_from (ab && nat_le (length J.jobs + 1) lines) (nat_le lines (most_lines S.rules.version))
         (and_from ab (nat_le (length J.jobs + 1) lines)
-        (and_from (nat_le mark last_tick) (nat_le (length J.jobs) (most_jobs S.rules.version))
-        (le-leb mark last_tick holds.known) (le-leb (length J.jobs) (most_jobs S.rules.version) jobs_few))
-        (le-leb (length J.jobs + 1) lines reached.enough)) (le-leb lines (most_lines S.rules.version) few)
+        (and_from (nat_le mark last_tick) (nat_le (length J.jobs) (most_jobs Two))
+        (le-leb mark last_tick holds.known) (le-leb (length J.jobs) (most_jobs Two) listed))
+        (le-leb (length J.jobs + 1) lines (omega (arith, reached.enough, jobs_in S.items)))) (le-leb lines
+            (most_lines S.rules.version) few)
       where
         ab : Bool
-        ab = nat_le mark last_tick && nat_le (length J.jobs) (most_jobs S.rules.version)
+        ab = nat_le mark last_tick && nat_le (length J.jobs) (most_jobs Two)
 
     module _ (front : List Task) (t : Task) (back : List Task) (split : front ++ t ∷ back ≡ tasks) where
       -- the jobs up to this one are the first of the feed's
-      valid_up_to : IsValid (stored h (front ++ t ∷ []))
-      valid_up_to = valid_front (stored h (front ++ t ∷ [])) (jobs_of back)
+      valid_up_to : IsValid (declared_jobs h (front ++ t ∷ []))
+      valid_up_to = valid_front (declared_jobs h (front ++ t ∷ [])) (jobs_of back)
           (subst (λ jobs. IsValid (record { rules = under S.rules []; jobs = jobs })) (sym jobs)
           (finishing_valid J [] holds.reads.valid)) where
             jobs : jobs_of (front ++ t ∷ []) ++ jobs_of back ≡ J.jobs
@@ -171,11 +168,11 @@ module _ (S : Session) (mark lines : ℕ) (holds : Holds S mark lines) (few : li
           (subst (AllByRecursion (λ j. j.release ≤ mark)) (sym jobs_same) holds.reads.known) t member
 
       follows : may_follow h front t ≡ true
-      follows = and_from ((t.number == length front) && is_valid (stored h (front ++ t ∷ [])))
+      follows = and_from ((t.number == length front) && is_valid (declared_jobs h (front ++ t ∷ [])))
           (nat_le t.job.release mark)
-          (and_from (t.number == length front) (is_valid (stored h (front ++ t ∷ [])))
+          (and_from (t.number == length front) (is_valid (declared_jobs h (front ++ t ∷ [])))
           (eq-eqb t.number (length front) number)
-          ((is_valid-agrees (stored h (front ++ t ∷ []))).1 valid_up_to)) (le-leb t.job.release mark released)
+          ((is_valid-agrees (declared_jobs h (front ++ t ∷ []))).1 valid_up_to)) (le-leb t.job.release mark released)
 
       more : length front < length J.jobs
       more = omega (arith, count, ap length split, length-append front (t ∷ back))
@@ -199,24 +196,57 @@ module _ (S : Session) (mark lines : ℕ) (holds : Holds S mark lines) (few : li
 
     -- ---- the last line
 
-    pub reached_mark : has_reached_mark h tasks ≡ true
-    reached_mark = by reached.by where
-      last_is : last_release tasks ≡ last_of (admitted_jobs S.items)
-      last_is = last_jobs 0 tasks ∙ ap last_of jobs_same
+    -- the items that aren't refused are few
+    kept_count : length (kept S.items) ≤ most_items S.rules.version
+    kept_count = good_count (session_with S.rules (kept S.items))
+        (subst IsValid (sym (kept_instance S.rules S.items)) holds.reads.valid)
+        (kept_follows S.rules [] 0 0 S.items (omega arith) holds.follows) (kept_good S.items)
+        (omega (arith, ap length (kept_jobs S.items), jobs_few))
 
-      by : (mark ≤ last_of (admitted_jobs S.items)) ⊎ (length (admitted_jobs S.items) + 1 < lines)
-          → nat_le mark (last_release tasks) || nat_lt (length J.jobs + 1) lines ≡ true
-      by (inl low) = ap (λ b. b || nat_lt (length J.jobs + 1) lines)
-          (le-leb mark (last_release tasks) (omega (arith, low, last_is)))
-      by (inr more) = either (nat_le mark (last_release tasks)) (nat_lt (length J.jobs + 1) lines)
-          (lt-ltb (length J.jobs + 1) lines more) where
-            either : (a b : Bool) → b ≡ true → a || b ≡ true
-            either true b e = refl
-            either false b e = e
+    -- what is stored of them hands in these
+    items_are : (stored_session h tasks).items ≡ kept S.items
+    items_are = ap (λ (T : Session). T.items) (stored_run S mark lines holds h refl
+        ∙ sym (kept_is_run S holds.reads.valid holds.follows kept_count (omega (arith, jobs_few))))
+
+    pub reached_mark : has_reached_mark h tasks ≡ true
+    reached_mark = ap (has_lines_for h) items_are
+        ∙ and_from (nat_lt (length (kept S.items)) lines && nat_le (mark_after 0 (kept S.items)) mark) last
+        (and_from (nat_lt (length (kept S.items)) lines) (nat_le (mark_after 0 (kept S.items)) mark)
+        (lt-ltb _ _ (omega (arith, kept_few S.items, reached.enough)))
+        (le-leb _ _ (omega (arith, kept_mark 0 0 S.items (omega arith), holds.last))))
+        (by (nat_le (length S.items) (length (kept S.items))) refl) where
+          last : Bool
+          last = nat_le mark (mark_after 0 (kept S.items)) || nat_lt (length (kept S.items) + 1) lines
+
+          first : (a b : Bool) → a ≡ true → a || b ≡ true
+          first true b e = refl
+          first false b e = absurd (let clash : false ≡ true = e in cc)
+
+          either : (a b : Bool) → b ≡ true → a || b ≡ true
+          either true b e = refl
+          either false b e = e
+
+          by : (b : Bool) → nat_le (length S.items) (length (kept S.items)) ≡ b → last ≡ true
+          by false fewer = either (nat_le mark (mark_after 0 (kept S.items))) (nat_lt (length (kept S.items) + 1) lines)
+              (lt-ltb _ _ (omega (
+                arith,
+                leb-false (length S.items) (length (kept S.items)) fewer,
+                reached.enough,
+              )))
+          by true all = by_way reached.by where
+            same : kept S.items ≡ S.items
+            same = kept_all S.items (leb-true _ _ all)
+
+            by_way : (mark ≤ mark_after 0 S.items) ⊎ (length S.items + 1 < lines) → last ≡ true
+            by_way (inl low) = first (nat_le mark (mark_after 0 (kept S.items)))
+                (nat_lt (length (kept S.items) + 1) lines)
+                (le-leb _ _ (omega (arith, low, ap (mark_after 0) same)))
+            by_way (inr more) = either (nat_le mark (mark_after 0 (kept S.items)))
+                (nat_lt (length (kept S.items) + 1) lines) (lt-ltb _ _ (omega (arith, more, ap length same)))
 
     pub settled_here : is_settled h tasks ≡ true
     settled_here = all_alike tasks (settled_state (stored h tasks) mark).tasks
-        (ap (λ K. map stance_of (settled_state K mark).tasks) (sym stored_is))
+        (ap (λ (s : State). map stance_of s.tasks) (sym (stored_state S mark lines holds h refl mark)))
 
     pub taken : reading_of (head_line h ∷ map state_line tasks ++ codes "resume" ∷ []) ≡ Taken h tasks
     taken = last_stands h tasks (head_line h ∷ map state_line tasks) has_read (codes "resume")
@@ -241,6 +271,6 @@ holds_open a S kept opened there =
 
 -- how its mark was reached
 pub reaches_open : (a : Account) (S : Session) → Reaches a → a.standing ≡ Open → a.session ≡ Some S
-    → Reached (admitted_jobs S.items) a.mark a.lines
+    → Reached S.items a.mark a.lines
 reaches_open a S it opened there =
     subst (λ o. ReachesBy Open o a.mark a.lines) there (subst (λ s. ReachesBy s a.session a.mark a.lines) opened it)

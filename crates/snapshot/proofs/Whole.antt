@@ -1,41 +1,52 @@
 -- A snapshot that is taken is that of a feed, and what is given for it stands for each feed of which it is.
-use Rattle.std.proofs.Common.{◌≡◌, ℕ, ◌+◌, ◌-◌, ◌≤◌, List, [], ◌∷◌, ◌++◌, length, length-append, append_assoc}
-use Rattle.std.proofs.Common.{append-nil, map, replicate, zero, suc, refl, sym, ap, ◌∙◌, subst, arith, Option, Some}
-use Rattle.std.proofs.Common.{None, codes}
-use Rattle.std.specs.List.{AllByRecursion, fold}
-use Rattle.std.proofs.lemmas.List.{map-append}
+use Rattle.std.proofs.Common.{◌≡◌, ◌⊎◌, ℕ, ◌+◌, ◌-◌, ◌≤◌, ◌<◌, inl, inr, List, [], ◌∷◌, ◌++◌, length, map}
+use Rattle.std.proofs.Common.{replicate, zero, suc, refl, sym, ap, ◌∙◌, subst, arith, Bool, true, false, cond, ◌&&◌}
+use Rattle.std.proofs.Common.{◌||◌}
+use Rattle.std.proofs.Common.{Option, Some, None, codes}
+use Rattle.std.specs.Prelude.{nat_le, nat_lt}
+use Rattle.std.specs.List.{AllByRecursion, fold, filter_map}
+use Rattle.std.proofs.lemmas.Bool.{and_parts, ltb-true, leb-true}
 use Rattle.std.proofs.lemmas.List.Sums.{fold-append}
 use Rattle.dover_model.specs.declared.events.Task.{Task}
-use Rattle.dover_model.specs.Instance.{Instance, under, declared_by, IsValid}
-use Rattle.dover_model.specs.Session.{Session, instance_of}
+use Rattle.dover_model.specs.Limits.{last_tick, most_lines, most_ready}
+use Rattle.dover_model.specs.Instance.{Instance, under, having, IsValid}
+use Rattle.dover_model.specs.Session.{Item, Session, instance_of, admitted_jobs, early_finishes, mark_after}
+use Rattle.dover_model.specs.Session.{may_finish_early, IsValidSession}
 use Rattle.dover_model.specs.Settled.{settled_state}
-use Rattle.dover_model.specs.Sound.{jobs_of}
+use Rattle.dover_model.specs.Sound.{IsMember, Each, HaveTheSame, jobs_of}
+use Rattle.dover_model.specs.State.{State}
 use Rattle.dover_model.specs.Lines.{in_lines}
-use Rattle.dover_model.specs.FeedLine.{RatioLine, JobLine, TickLine, feed_text}
+use Rattle.dover_model.specs.FeedLine.{RatioLine, TickLine, feed_text}
 use Rattle.dover_model.specs.Feed.{Account, no_lines, next_line, account_of_lines, account, is_open}
 use Rattle.dover_model.proofs.Barriers.{AtBarrier, settled_at_barrier}
 use Rattle.dover_model.proofs.Cuts.{HasNoFeed}
 use Rattle.dover_model.proofs.Honest.{count_jobs}
-use Rattle.dover_model.proofs.JobSessions.{instance_back}
-use Rattle.dover_model.proofs.Valid.{valid_front}
+use Rattle.dover_model.proofs.Meeting.{finishing_valid}
+use Rattle.dover_model.proofs.RunSessions.{run_jobs}
 use Rattle.dover_model.specs.declared.horizon.Horizon.TheVariants.{Mark}
 use Rattle.ready_server.specs.Rostering.{Rests}
 use Rattle.ready_server.specs.declared.roster_server.RosterServer.{RosterServer}
+use Rattle.ready_server.proofs.SameFinishes.{rests_same, read_same}
 use Rattle.admission.specs.Kept as admission
 use Rattle.event_feed.specs.Kept as feed
+use Rattle.event_feed.specs.Listing.{HasFewJobs}
+use Rattle.event_feed.specs.Reading.{open_account}
 use Rattle.event_feed.specs.declared.kept_session.KeptSession.{KeptSession}
 use Rattle.snapshot.specs.Snapshot.{MayPause, Head, head_line, state_line, snapshot_lines, snapshot}
-use Rattle.snapshot.specs.Reading.{stored}
-use Rattle.snapshot.specs.Stored.{ratio_text, job_lines, stored_session, stored_account}
-use Rattle.snapshot.specs.Kept.{CanPause, IsWhole, Resumes, tick_lines, feed_lines, paused_account}
+use Rattle.snapshot.specs.Reading.{declared_jobs, early_of, early_in, stored, stored_session}
+use Rattle.snapshot.specs.Stored.{ratio_text}
+use Rattle.snapshot.specs.Kept.{IsWhole, Resumes, line_of_item, item_lines, tick_lines, feed_lines, paused_account}
 use Rattle.snapshot.specs.Feeds.{IsSnapshot, ResumesFeed}
-use Rattle.snapshot.proofs.Alike.{Alike, SameRun}
-use Rattle.snapshot.proofs.Beginning.{Within, within, all_account}
+use Rattle.snapshot.proofs.Alike.{Alike, SameRun, SameSession, session_is}
+use Rattle.snapshot.proofs.Beginning.{Within, within}
 use Rattle.snapshot.proofs.Behind.{feedless_feed, rest_joined, lines_joined}
 use Rattle.snapshot.proofs.Comparing.{same_tasks, alike_all}
 use Rattle.snapshot.proofs.Feeds.{both_there, same_alike}
-use Rattle.snapshot.proofs.Handing.{ratio_account, job_account}
-use Rattle.event_feed.specs.Listing.{IsPlain}
+use Rattle.snapshot.proofs.Handing.{ratio_account, tick_account}
+use Rattle.snapshot.proofs.ItemLines.{items_account}
+use Rattle.snapshot.proofs.RunItems.{run_good, run_own, run_valid}
+use Rattle.snapshot.proofs.Same.{stored_own}
+use Rattle.snapshot.proofs.Shown.{shown, same_state}
 
 -- what holds of all of two lists
 all_both : {X : Type 0} (P : X → Type 0) (xs ys : List X) → AllByRecursion P xs → AllByRecursion P ys
@@ -48,16 +59,24 @@ all_copies : {X : Type 0} (P : X → Type 0) (n : ℕ) (x : X) → P x → AllBy
 all_copies P zero x it = tt
 all_copies P (suc n) x it = (it, all_copies P n x it)
 
--- no release is above the mark
-last_low : (most from : ℕ) (tasks : List Task) → AllByRecursion (λ (t : Task). t.job.release ≤ most) tasks → from ≤ most
-    → fold (λ last t. t.job.release) from tasks ≤ most
-last_low most from [] all low = low
-last_low most from (t ∷ tasks) all low = last_low most t.job.release tasks all.1 all.0
+-- the lines of items have no line feed
+feedless_items : (items : List Item) → AllByRecursion HasNoFeed (item_lines items)
+feedless_items [] = tt
+feedless_items (i ∷ items) = (feedless_feed (line_of_item i), feedless_items items)
 
--- the lines of jobs have no line feed
-feedless_jobs : (tasks : List Task) → AllByRecursion HasNoFeed (map (λ (t : Task). feed_text (JobLine t.job)) tasks)
-feedless_jobs [] = tt
-feedless_jobs (t ∷ tasks) = (feedless_feed (JobLine t.job), feedless_jobs tasks)
+-- tick lines at the mark, in the account of so many lines
+tick_lines_account : (S : Session) (lines n mark tick : ℕ) → mark ≤ tick → tick ≤ last_tick
+    → lines + n ≤ most_lines S.rules.version → (n ≡ 0 → mark ≡ tick)
+    → fold next_line (open_account lines (Some S) mark) (replicate n (feed_text (TickLine tick)))
+    ≡ open_account (lines + n) (Some S) tick
+tick_lines_account S lines zero mark tick ordered known few none =
+    ap (λ m. open_account lines (Some S) m) (none refl)
+    ∙ ap (λ k. open_account k (Some S) tick) (let e : lines ≡ lines + 0 = omega arith in e)
+tick_lines_account S lines (suc n) mark tick ordered known few none =
+    ap (λ a. fold next_line a (replicate n (feed_text (TickLine tick))))
+    (tick_account lines S mark tick ordered known (omega (arith, few)))
+    ∙ tick_lines_account S (suc lines) n tick tick (omega arith) known (omega (arith, few)) (λ _. refl)
+    ∙ ap (λ k. open_account k (Some S) tick) (let e : suc lines + n ≡ lines + suc n = omega arith in e)
 
 module _ (h : Head) (tasks : List Task) (ls : List (List ℕ)) (it : IsWhole h tasks ls) where
   -- ---- the shortest feed
@@ -65,44 +84,64 @@ module _ (h : Head) (tasks : List Task) (ls : List (List ℕ)) (it : IsWhole h t
   limits : Within h
   limits = within h it.read.limits
 
-  can : CanPause h tasks
-  can = record {
-    limits = it.read.limits;
-    all = it.all;
-    known = last_low h.mark 0 tasks it.read.known (omega arith);
-    reached = it.reached;
-  }
+  -- the jobs with their early finishes
+  abbrev J : Instance
+  J = stored h tasks
 
-  -- the account of the lines of its jobs
-  jobs_account : (front back : List Task) → front ++ back ≡ tasks
-      → account_of_lines (job_lines h front) ≡ stored_account h front
-      → account_of_lines (job_lines h tasks) ≡ stored_account h tasks
-  jobs_account front [] split so_far =
-      subst (λ ts. account_of_lines (job_lines h ts) ≡ stored_account h ts) (sym (append-nil front) ∙ split) so_far
-  jobs_account front (t ∷ back) split so_far =
-      jobs_account (front ++ t ∷ []) back (append_assoc front (t ∷ []) back ∙ split)
-      (ap (λ more. account_of_lines (ratio_text h ∷ more))
-      (map-append (λ (u : Task). feed_text (JobLine u.job)) front (t ∷ []))
-      ∙ fold-append next_line no_lines (job_lines h front) (feed_text (JobLine t.job) ∷ [])
-      ∙ ap (λ a. next_line a (feed_text (JobLine t.job))) so_far
-      ∙ job_account h front t it.read.version valid_up_to
-      (omega (arith, ap length split, length-append front (t ∷ back), it.all, limits.enough, limits.lines))) where
-        valid_up_to : IsValid (stored h (front ++ t ∷ []))
-        valid_up_to = valid_front (stored h (front ++ t ∷ [])) (jobs_of back)
-            (subst (λ jobs. IsValid (record { rules = under h.rules []; jobs = jobs }))
-            (sym (sym (map-append (λ (u : Task). u.job) (front ++ t ∷ []) back)
-            ∙ ap jobs_of (append_assoc front (t ∷ []) back) ∙ ap jobs_of split)) it.read.valid)
+  valid : IsValid J
+  valid = finishing_valid (declared_jobs h tasks) (early_in h.rules.version tasks) it.read.valid
 
-  all_lines_account : account_of_lines (feed_lines h tasks) ≡ paused_account h tasks
-  all_lines_account = all_account h tasks can
-      (jobs_account [] tasks refl (ratio_account h.rules.ratio.p h.rules.ratio.q it.read.valid.ratio h.rules.version))
+  -- what a feed hands in of them
+  abbrev S : Session
+  S = stored_session h tasks
+
+  valid_session : IsValidSession S
+  valid_session = run_valid J valid few (by (may_finish_early h.rules.version) refl) where
+    few : length J.jobs ≤ most_ready
+    few = omega (arith, count_jobs tasks, it.all, limits.jobs)
+
+    by : (b : Bool) → may_finish_early h.rules.version ≡ b
+        → (may_finish_early h.rules.version ≡ true) ⊎ (early_in h.rules.version tasks ≡ [])
+    by true three = inl three
+    by false plain = inr (ap (λ b. cond b (filter_map early_of tasks) []) plain)
+
+  -- what is tested of its lines
+  has_lines : (length S.items < h.lines) × (mark_after 0 S.items ≤ h.mark)
+      × (h.lines ≤ length S.items + 1 → h.mark ≤ mark_after 0 S.items)
+  has_lines =
+      let all = and_parts (nat_lt (length S.items) h.lines && nat_le (mark_after 0 S.items) h.mark) _ it.reached in
+      let both = and_parts (nat_lt (length S.items) h.lines) (nat_le (mark_after 0 S.items) h.mark) all.0 in (
+        ltb-true _ _ both.0,
+        leb-true _ _ both.1,
+        last (nat_le h.mark (mark_after 0 S.items)) (nat_lt (length S.items + 1) h.lines) refl refl all.1,
+      ) where
+        last : (a b : Bool) → nat_le h.mark (mark_after 0 S.items) ≡ a → nat_lt (length S.items + 1) h.lines ≡ b
+            → a || b ≡ true → h.lines ≤ length S.items + 1 → h.mark ≤ mark_after 0 S.items
+        last true b e f some none = leb-true _ _ e
+        last false true e f some none = absurd (omega (arith, ltb-true _ _ f, none))
+        last false false e f some none = absurd (let clash : false ≡ true = some in cc)
+
+  pub all_lines_account : account_of_lines (feed_lines h tasks) ≡ paused_account h tasks
+  all_lines_account =
+      fold-append next_line no_lines (ratio_text h ∷ item_lines S.items) (tick_lines h (length S.items + 1))
+      ∙ ap (λ a. fold next_line a (tick_lines h (length S.items + 1)))
+      (ap (λ a. fold next_line a (item_lines S.items))
+      (ratio_account h.rules.ratio.p h.rules.ratio.q it.read.valid.ratio h.rules.version)
+      ∙ items_account h.rules [] 1 0 S.items valid_session.jobs (run_good J) valid_session.items
+      (omega (arith, has_lines.0, limits.lines)))
+      ∙ tick_lines_account S (1 + length S.items) (h.lines - (length S.items + 1)) (mark_after 0 S.items) h.mark
+      has_lines.1 limits.mark (omega (arith, has_lines.0, limits.lines))
+      (λ none. omega (arith, has_lines.1, has_lines.2 (omega (arith, none))))
+      ∙ ap (λ n. open_account n (Some S) h.mark)
+      (let e : 1 + length S.items + (h.lines - (length S.items + 1)) ≡ h.lines = omega (arith, has_lines.0) in e)
 
   -- its lines have no line feed
   feedless : AllByRecursion HasNoFeed (feed_lines h tasks)
-  feedless = all_both HasNoFeed (job_lines h tasks) (tick_lines h) (
+  feedless = all_both HasNoFeed (ratio_text h ∷ item_lines S.items) (tick_lines h (length S.items + 1)) (
     feedless_feed (RatioLine h.rules.ratio.p h.rules.ratio.q _),
-    feedless_jobs tasks,
-  ) (all_copies HasNoFeed (h.lines - (h.jobs + 1)) (feed_text (TickLine h.mark)) (feedless_feed (TickLine h.mark)))
+    feedless_items S.items,
+  ) (all_copies HasNoFeed (h.lines - (length S.items + 1)) (feed_text (TickLine h.mark))
+      (feedless_feed (TickLine h.mark)))
 
   -- its text
   abbrev shortest : List ℕ
@@ -111,42 +150,46 @@ module _ (h : Head) (tasks : List Task) (ls : List (List ℕ)) (it : IsWhole h t
   shortest_account : account shortest ≡ paused_account h tasks
   shortest_account = ap account_of_lines (lines_joined (feed_lines h tasks) feedless) ∙ all_lines_account
 
+  -- it has as many jobs as the snapshot
+  jobs_there : admitted_jobs S.items ≡ jobs_of tasks
+  jobs_there = run_jobs J valid
+
   pub shortest_may : MayPause shortest
   shortest_may = record {
-    declared = subst (λ (a : Account). IsPlain a.session) (sym shortest_account) it.read.version;
+    declared = subst (λ (a : Account). HasFewJobs a.session) (sym shortest_account)
+        (omega (arith, ap length jobs_there, count_jobs tasks, it.all, limits.jobs));
     going_on = ap is_open shortest_account;
     whole = rest_joined (feed_lines h tasks) feedless;
   }
 
   -- ---- the snapshot is its
 
-  bar : AtBarrier (stored h tasks) h.mark (settled_state (stored h tasks) h.mark)
-  bar = settled_at_barrier (stored h tasks) it.read.valid h.mark
+  bar : AtBarrier J h.mark (settled_state J h.mark)
+  bar = settled_at_barrier J valid h.mark
 
   -- the jobs are in the state that its settled steps lead to
-  pub tasks_are : tasks ≡ (settled_state (stored h tasks) h.mark).tasks
-  tasks_are = same_tasks 0 tasks (settled_state (stored h tasks) h.mark).tasks it.read.numbered bar.keeps.sound.numbered
+  pub tasks_are : tasks ≡ (settled_state J h.mark).tasks
+  tasks_are = same_tasks 0 tasks (settled_state J h.mark).tasks it.read.numbered bar.keeps.sound.numbered
       (sym bar.keeps.jobs)
-      (alike_all tasks (settled_state (stored h tasks) h.mark).tasks it.settled)
+      (alike_all tasks (settled_state J h.mark).tasks it.settled)
 
-  instance_is : instance_of (stored_session h tasks) ≡ stored h tasks
-  instance_is = instance_back (stored h tasks) refl
+  -- which is that of the session
+  state_there : settled_state (instance_of S) h.mark ≡ settled_state J h.mark
+  state_there = ap (λ jobs. settled_state (record { rules = having J.rules
+      (shown J valid h.mark); jobs = jobs }) h.mark)
+      jobs_there ∙ same_state J valid h.mark
 
-  -- the lines of a snapshot
-  abbrev lines_from : Instance → List (List ℕ)
-  lines_from J = head_line (record {
-    rules = declared_by J.rules;
+  lines_are : snapshot_lines (paused_account h tasks) S ≡ ls
+  lines_are = ap (λ (s : State). head_line (record {
+    rules = h.rules;
     lines = h.lines;
     mark = h.mark;
-    jobs =
-        length J.jobs;
+    jobs = length (admitted_jobs S.items);
   })
-      ∷ map state_line (settled_state J h.mark).tasks ++ codes "resume" ∷ []
-
-  lines_are : snapshot_lines (paused_account h tasks) (stored_session h tasks) ≡ ls
-  lines_are = ap lines_from instance_is
+      ∷ map state_line s.tasks ++ codes "resume" ∷ []) state_there
       ∙ ap (λ n. head_line (record { rules = h.rules; lines = h.lines; mark = h.mark; jobs = n })
-      ∷ map state_line (settled_state (stored h tasks) h.mark).tasks ++ codes "resume" ∷ []) (count_jobs tasks ∙ it.all)
+      ∷ map state_line (settled_state J h.mark).tasks ++ codes "resume" ∷ [])
+      (ap length jobs_there ∙ count_jobs tasks ∙ it.all)
       ∙ ap (λ ts. head_line h ∷ map state_line ts ++ codes "resume" ∷ []) (sym tasks_are)
       ∙ ap (λ (front : List (List ℕ)). front ++ codes "resume" ∷ []) (sym it.read.text)
       ∙ sym it.text
@@ -173,23 +216,22 @@ module _ (h : Head) (tasks : List Task) (ls : List (List ℕ)) (it : IsWhole h t
       session = by i.session (account F).session kept.session alike.3;
       standing = kept.standing ∙ sym alike.2;
     } where
-      by : (k : Option KeptSession) (t : Option Session) → feed.KeepsSession k (Some (stored_session h tasks)) h.mark
-          → SameRun (Some (stored_session h tasks)) t → feed.KeepsSession k t (account F).mark
+      by : (k : Option KeptSession) (t : Option Session) → feed.KeepsSession k (Some S) h.mark → SameRun (Some S) t
+          → feed.KeepsSession k t (account F).mark
       by None t none same = absurd none
       by (Some k) None some same = absurd same
       by (Some k) (Some T) some same = record {
-        rules = ap (λ (J : Instance). declared_by J.rules) same.0 ∙ some.rules;
-        jobs = subst (admission.StandsFor k.admission) (sym (ap (λ (J : Instance). J.jobs) same.0)) some.jobs;
+        rules = same.rules ∙ some.rules;
+        jobs = subst (admission.StandsFor k.admission) (sym same.jobs) some.jobs;
         marked = some.marked ∙ sym alike.1;
       }
 
     pub resumes_feed : (v : RosterServer) (i : feed.Kept) (mark : ℕ) → mark ≡ h.mark → Resumes v i h tasks
         → ResumesFeed v i mark F
     resumes_feed v i mark same resumes =
-        let both = both_there (Some (stored_session h tasks)) (account F).session alike.3 in
-        let first : stored_session h tasks ≡ both.0 =
-        let e : Some (stored_session h tasks) ≡ Some both.0 = both.2 in cc in
-        let jobs : instance_of both.1 ≡ stored h tasks = both.4 ∙ ap instance_of (sym first) ∙ instance_is in
+        let both = both_there (Some S) (account F).session alike.3 in
+        let first : S ≡ both.0 = let e : Some S ≡ Some both.0 = both.2 in cc in
+        let sessions : SameSession S both.1 = subst (λ X. SameSession X both.1) (sym first) both.4 in
         record {
           session = both.1;
           named = both.3;
@@ -199,6 +241,33 @@ module _ (h : Head) (tasks : List Task) (ls : List (List ℕ)) (it : IsWhole h t
           going = resumes.going;
           marked = same ∙ sym alike.1;
           rests = subst (λ m. Rests v (instance_of both.1) (Mark m)) (sym same)
-              (subst (λ J. Rests v J (Mark h.mark)) (sym jobs) resumes.rests);
+              (rests_there v both.1 sessions resumes.rests);
           listed = resumes.listed;
-        }
+        } where
+          -- the early finishes of the session are those that are stored
+          stored_there : HaveTheSame (early_in h.rules.version tasks) (early_finishes S.items)
+          stored_there = (
+            subst (λ ts. Each (λ f. IsMember f (early_finishes S.items)) (early_in h.rules.version ts)) (sym tasks_are)
+                (subst (λ (s : State). Each (λ f. IsMember f (early_finishes S.items))
+                    (early_in h.rules.version s.tasks))
+                state_there (stored_own (instance_of S) valid_session.jobs h.mark h.rules.version)),
+            run_own J valid,
+          )
+
+          same_there : (T : Session) → SameSession S T
+              → HaveTheSame (early_in h.rules.version tasks) (early_finishes T.items)
+          same_there T both = (
+            λ f m. both.finishes.0 f (stored_there.0 f m),
+            λ f m. stored_there.1 f (both.finishes.1 f m),
+          )
+
+          rests_there : (v : RosterServer) (T : Session) → SameSession S T → Rests v J (Mark h.mark)
+              → Rests v (instance_of T) (Mark h.mark)
+          rests_there v T both rests = subst (λ K. Rests v K (Mark h.mark)) (sym (session_is S T both
+              ∙ ap (λ js. record { rules = under h.rules (early_finishes T.items); jobs = js }) jobs_there))
+              (record {
+                rests = rests_same (declared_jobs h tasks) (early_in h.rules.version tasks) (early_finishes T.items)
+                    (same_there T both) v.server (Mark h.mark) rests.rests;
+                read = read_same (declared_jobs h tasks) (early_in h.rules.version tasks) (early_finishes T.items)
+                    (same_there T both) (Mark h.mark) v.roster rests.read;
+              })

@@ -1,15 +1,24 @@
 -- What a reader keeps of a snapshot, and for which lines it stands.
-use Rattle.std.specs.Prelude.{◌≡◌, ℕ, ◌+◌, ◌-◌, List, [], ◌∷◌, ◌++◌, length, map, replicate, ◌≤◌, true, false, Option}
-use Rattle.std.specs.Prelude.{Some, None, Result, Ok, Err, codes}
-use Rattle.std.specs.List.{slice_get}
-use Rattle.std.specs.Option.{option_map}
-use Rattle.dover_model.specs.declared.events.Event.{Event}
+use Rattle.std.specs.Prelude.{◌≡◌, ◌⊎◌, ℕ, ◌+◌, ◌-◌, List, [], ◌∷◌, ◌++◌, length, map, replicate, ◌≤◌, ◌<◌, Bool}
+use Rattle.std.specs.Prelude.{true, false, ◌&&◌, nat_lt, nat_le, if◌then◌else◌}
+use Rattle.std.specs.Prelude.{Option, Some, None, Result, Ok, Err, codes}
+use Rattle.std.specs.List.{slice_get, AllByRecursion}
+use Rattle.std.specs.Option.{option_map, option_and_then}
+use Rattle.std.specs.Bool.{then_some}
+use Rattle.dover_model.specs.declared.events.Role.{Role}
+use Rattle.dover_model.specs.declared.events.Role.TheVariants.{Running, Done}
 use Rattle.dover_model.specs.declared.events.Task.{Task}
+use Rattle.dover_model.specs.declared.events.Version.{Version}
+use Rattle.dover_model.specs.Finishes.{Finish}
 use Rattle.dover_model.specs.JobFacts.{JobFacts}
-use Rattle.dover_model.specs.Limits.{most_lines}
-use Rattle.dover_model.specs.Session.{may_finish_early}
-use Rattle.dover_model.specs.Instance.{IsValid, with_jobs}
-use Rattle.dover_model.specs.FeedLine.{TickLine, feed_text}
+use Rattle.dover_model.specs.Limits.{most_lines, most_ready}
+use Rattle.dover_model.specs.Instance.{Instance, IsValid, with_jobs}
+use Rattle.dover_model.specs.Session.{Item, JobItem, RefusedItem, FinishItem, RefusedLine, RefusedJob, RefusedDone}
+use Rattle.dover_model.specs.Session.{FollowsItems, mark_after, refused_of_item, admitted_jobs, early_finishes}
+use Rattle.dover_model.specs.Session.{session_with, instance_of, finish_at, may_finish_early}
+use Rattle.dover_model.specs.Settled.{settled_state}
+use Rattle.dover_model.specs.Sound.{Each, IsMember, IsNumberedFrom, jobs_of}
+use Rattle.dover_model.specs.FeedLine.{FeedLine, JobLine, TickLine, DoneLine, feed_text}
 use Rattle.dover_model.specs.Feed.{Account, Open, account_of_lines}
 use Rattle.dover_model.specs.declared.horizon.Horizon.TheVariants.{Mark}
 use Rattle.event_feed.specs.Answers.{AddsJob, counted}
@@ -17,11 +26,11 @@ use Rattle.event_feed.specs.declared.fed.Fed.{Fed}
 use Rattle.event_feed.specs.declared.fed.Fed.TheVariants as fed
 use Rattle.event_feed.specs.Kept as feed
 use Rattle.snapshot.specs.Snapshot.{Head}
-use Rattle.snapshot.specs.Reading.{Going, Taken, Refused, is_within_limits, stored, last_release, has_reached_mark}
-use Rattle.snapshot.specs.Reading.{is_settled, reading_of}
-use Rattle.snapshot.specs.Stored.{HasRead, job_lines, stored_session, stored_account}
+use Rattle.snapshot.specs.Reading.{Going, Taken, Refused, is_within_limits, declared_jobs, early_in, stored}
+use Rattle.snapshot.specs.Reading.{stored_session, last_release, has_reached_mark, is_settled, reading_of}
+use Rattle.snapshot.specs.Stored.{HasRead, ratio_text, job_lines, jobs_session, jobs_account}
 use Rattle.snapshot.specs.Forms.{head_in}
-use Rattle.ready_server.specs.Rostering.{Serves, Rests, has_roster}
+use Rattle.ready_server.specs.Rostering.{Rests, has_roster}
 use Rattle.ready_server.specs.declared.roster_server.RosterServer.{RosterServer}
 use Rattle.snapshot.specs.declared.resuming.Stance.{Stance}
 use Rattle.snapshot.specs.declared.resuming.Resuming.{Resuming}
@@ -35,7 +44,7 @@ use Rattle.snapshot.specs.declared.reader.SnapFault.TheVariants.{BadSnapshot, Me
 -- the intake was handed the line of the ratio and one for each job
 pub record IsFed (i : feed.Kept) (h : Head) (tasks : List Task) : Type 0 where
   pub stands : feed.StandsFor i (job_lines h tasks)
-  pub account : account_of_lines (job_lines h tasks) ≡ stored_account h tasks
+  pub account : account_of_lines (job_lines h tasks) ≡ jobs_account h tasks
   pub going : feed.IsGoing i
 
 -- the job that is admitted, if one is
@@ -47,10 +56,10 @@ job_in fed.Over = None
 job_in (fed.Refused release work deadline value refusal) = None
 job_in (fed.Done tick number) = None
 
--- there is a line for one more job, which may not finish early
+-- there is a line for one more job, and room wherever it is released
 abbrev pub HasRoom : Head → List Task → Type 0
-HasRoom h tasks = IsValid (stored h tasks) × (length tasks + 2 ≤ most_lines h.rules.version)
-    × (may_finish_early h.rules.version ≡ false)
+HasRoom h tasks = IsValid (declared_jobs h tasks) × (length tasks + 2 ≤ most_lines h.rules.version)
+    × (length tasks < most_ready)
 
 -- the line isn't at fault behind these, hands in no job, and doesn't end the feed
 pub record IsGoodNext (i : feed.Kept) (ls : List (List ℕ)) (line : List ℕ) : Type 0 where
@@ -59,37 +68,122 @@ pub record IsGoodNext (i : feed.Kept) (ls : List (List ℕ)) (line : List ℕ) :
   pub no_job : (n : ℕ) (job : JobFacts)
       → AddsJob n job (counted (account_of_lines ls)) (account_of_lines (ls ++ line ∷ [])) → ⊥
 
--- all jobs were handed in, and the mark may be reached by the lines that are left
+-- all jobs were handed in, and where no line is left the mark is the last release
 pub record CanPause (h : Head) (tasks : List Task) : Type 0 where
   pub limits : is_within_limits h ≡ true
   pub all : length tasks ≡ h.jobs
   pub known : last_release tasks ≤ h.mark
-  pub reached : has_reached_mark h tasks ≡ true
+  pub reached : h.lines ≤ h.jobs + 1 → h.mark ≤ last_release tasks
 
--- the tick lines that are left of the feed's lines
-abbrev pub tick_lines : Head → List (List ℕ)
-tick_lines h = replicate (h.lines - (h.jobs + 1)) (feed_text (TickLine h.mark))
+-- tick lines in place of all that are left of the feed's lines behind so many
+abbrev pub tick_lines : Head → ℕ → List (List ℕ)
+tick_lines h n = replicate (h.lines - n) (feed_text (TickLine h.mark))
 
--- the line of the ratio, one for each job, and the tick lines
+-- What the intake is handed: the line of the ratio, one for each job, and tick lines, also in place of the lines of
+-- early finishes, of which it keeps no more than the mark.
+abbrev pub handed_lines : Head → List Task → List (List ℕ)
+handed_lines h tasks = job_lines h tasks ++ tick_lines h (h.jobs + 1)
+
+-- the account of these lines
+abbrev pub handed_account : Head → List Task → Account
+handed_account h tasks =
+    record { lines = h.lines; session = Some (jobs_session h tasks); mark = h.mark; standing = Open }
+
+-- ---- the shortest feed with a snapshot
+
+-- a line that is refused
+abbrev pub line_of_refused : RefusedLine → FeedLine
+line_of_refused (RefusedJob j refusal) = JobLine j
+line_of_refused (RefusedDone tick number) = DoneLine tick number
+
+-- the line that hands in an item
+abbrev pub line_of_item : Item → FeedLine
+line_of_item (JobItem j) = JobLine j
+line_of_item (RefusedItem r) = line_of_refused r.line
+line_of_item (FinishItem f) = DoneLine f.at f.finish.number
+
+-- the lines of these items
+abbrev pub item_lines : List Item → List (List ℕ)
+item_lines items = map (λ i. feed_text (line_of_item i)) items
+
+-- the line of the ratio, those that hand in the jobs and their early finishes, and the tick lines
 abbrev pub feed_lines : Head → List Task → List (List ℕ)
-feed_lines h tasks = job_lines h tasks ++ tick_lines h
+feed_lines h tasks = let items = (stored_session h tasks).items in
+    ratio_text h ∷ item_lines items ++ tick_lines h (length items + 1)
+
+-- their account
+abbrev pub paused_account : Head → List Task → Account
+paused_account h tasks =
+    record { lines = h.lines; session = Some (stored_session h tasks); mark = h.mark; standing = Open }
 
 -- ---- the run
 
--- its jobs are those of the snapshot, the mark is the last that it was taken to, and it keeps a roster
-pub record IsServed (v : RosterServer) (h : Head) (tasks : List Task) (mark : ℕ) : Type 0 where
-  pub events : List Event
-  pub served : Serves v (stored h tasks) (Mark mark) events
+-- what was handed in so far: the jobs, and those of their early finishes that came so far, each where it is right
+pub record IsHandedIn (h : Head) (tasks : List Task) (items : List Item) : Type 0 where
+  pub follows : FollowsItems h.rules [] 0 items
+  pub none_refused : Each (λ i. refused_of_item i ≡ None) items
+  pub jobs : admitted_jobs items ≡ jobs_of tasks
+  pub own : Each (λ f. IsMember f (early_in h.rules.version tasks)) (early_finishes items)
+
+-- at the mark the job of the finish has had less than it needs
+abbrev pub IsToCome : Instance → (mark : ℕ) → Finish → Type 0
+IsToCome J mark f = Each (λ t. t.number ≡ f.number → t.had < f.had) (settled_state J mark).tasks
+
+-- at the mark it has had no more, and just as much only where the finish is right there
+abbrev pub IsNear : Instance → (mark : ℕ) → Finish → Type 0
+IsNear J mark f = Each (λ t. t.number ≡ f.number → (t.had ≤ f.had)
+    × (t.had ≡ f.had → (t.role ≡ Running) × (finish_at J mark f.number ≡ Some (record { at = mark; finish = f }))))
+    (settled_state J mark).tasks
+
+-- The server rests at this mark of the run of these items, which hand in the jobs so far. Their other early finishes
+-- are still to come there, and it keeps a roster.
+pub record IsServed (v : RosterServer) (h : Head) (tasks : List Task) (items : List Item) (mark : ℕ) : Type 0 where
+  pub handed : IsHandedIn h tasks items
+  pub no_later : mark_after 0 items ≤ mark
+  pub known : AllByRecursion (λ j. j.release ≤ mark) (jobs_of tasks)
+  pub rests : Rests v (instance_of (session_with h.rules items)) (Mark mark)
+  pub to_come : Each (λ f. IsMember f (early_finishes items) ⊎ IsToCome (instance_of
+      (session_with h.rules items)) mark f)
+      (early_in h.rules.version tasks)
+  pub listed : has_roster v ≡ true
+
+-- At this mark each of the other early finishes is still to come, or comes just there, of the job that runs.
+pub record IsNearing (v : RosterServer) (h : Head) (tasks : List Task) (items : List Item) (mark : ℕ) : Type 0 where
+  pub handed : IsHandedIn h tasks items
+  pub no_later : mark_after 0 items ≤ mark
+  pub known : AllByRecursion (λ j. j.release ≤ mark) (jobs_of tasks)
+  pub rests : Rests v (instance_of (session_with h.rules items)) (Mark mark)
+  pub near : Each (λ f. IsMember f (early_finishes items) ⊎ IsNear (instance_of (session_with h.rules items)) mark f)
+      (early_in h.rules.version tasks)
   pub listed : has_roster v ≡ true
 
 -- what a job is, and how many ticks it has had
 abbrev pub stance_of : Task → Stance
 stance_of t = record { role = t.role; had = t.had }
 
--- the run may be taken to the release of a job, which is valid behind the others
+-- the role is that of a job that is done
+abbrev pub is_done_role : Role → Bool
+is_done_role role = elim role [ Done ↦ true | _ ↦ false ]
+
+-- this is stored of a job of so much work that is done with work left
+abbrev pub is_early : (work : ℕ) → Stance → Bool
+is_early work s = is_done_role s.role && nat_lt 0 s.had && nat_lt s.had work
+
+-- the number of the job that runs, and the tick at which it has had what is stored of it, if it runs till then
+abbrev pub early_behind : (at : ℕ) → Task → Stance → Option (ℕ × ℕ)
+early_behind at r s = then_some (is_early r.job.work s && nat_le r.had s.had) (r.number, at + (s.had - r.had))
+
+-- the same, if a job runs, and an early finish is stored of it
+abbrev pub next_early : Version → List Stance → (at : ℕ) → Option Task → Option (ℕ × ℕ)
+next_early version stances at None = None
+next_early version stances at (Some r) = if may_finish_early version
+    then option_and_then (early_behind at r) (slice_get stances r.number) else None
+
+-- the run may be taken to the release of a job, which is valid behind the others, and finds room there
 pub record MayAdmit (last : ℕ) (h : Head) (tasks : List Task) (job : JobFacts) : Type 0 where
   pub ordered : last ≤ job.release
-  pub valid : IsValid (with_jobs (stored h tasks) (job ∷ []))
+  pub few : length tasks < most_ready
+  pub valid : IsValid (with_jobs (declared_jobs h tasks) (job ∷ []))
 
 -- what the job of this number is, and how many ticks it has had
 abbrev pub IsAt : List Task → ℕ → Stance → Type 0
@@ -101,13 +195,35 @@ AreAt tasks stances = map stance_of tasks ≡ stances
 
 -- ---- what is kept
 
+-- so many items were handed in, the last of them at this tick
+pub record IsCounted (items : List Item) (many at : ℕ) : Type 0 where
+  pub count : many ≡ length items
+  pub last : at ≡ mark_after 0 items
+
+-- it is of these jobs under this first line
+pub record IsAbout (r : Resuming) (h : Head) (tasks : List Task) : Type 0 where
+  pub head : head_in r.head ≡ h
+  pub numbered : IsNumberedFrom 0 tasks
+  pub stances : r.stances.items ≡ map stance_of tasks
+
+-- the run of the jobs so far was taken to this mark
+pub record HasRun (r : Resuming) (h : Head) (tasks : List Task) (mark : ℕ) : Type 0 where
+  pub items : List Item
+  pub counted : IsCounted items r.handed r.last
+  pub served : IsServed r.server h tasks items mark
+
+-- so it was, but for an early finish that may come there
+pub record ComesNear (r : Resuming) (h : Head) (tasks : List Task) (mark : ℕ) : Type 0 where
+  pub items : List Item
+  pub counted : IsCounted items r.handed r.last
+  pub near : IsNearing r.server h tasks items mark
+
 -- this is kept of a first line and the lines of the first jobs
 pub record Holds (r : Resuming) (h : Head) (tasks : List Task) : Type 0 where
-  pub head : head_in r.head ≡ h
+  pub about : IsAbout r h tasks
   pub released : r.last ≡ last_release tasks
-  pub stances : r.stances.items ≡ map stance_of tasks
   pub fed : IsFed r.intake h tasks
-  pub served : IsServed r.server h tasks (last_release tasks)
+  pub run : HasRun r h tasks (last_release tasks)
 
 -- these lines were read, of which none is refused, and the last line is still to come
 abbrev pub IsReading : Option Resuming → List (List ℕ) → Type 0
@@ -125,11 +241,6 @@ pub record IsWhole (h : Head) (tasks : List Task) (ls : List (List ℕ)) : Type 
   pub all : length tasks ≡ h.jobs
   pub reached : has_reached_mark h tasks ≡ true
   pub settled : is_settled h tasks ≡ true
-
--- the account of the shortest feed with this snapshot
-abbrev pub paused_account : Head → List Task → Account
-paused_account h tasks =
-    record { lines = h.lines; session = Some (stored_session h tasks); mark = h.mark; standing = Open }
 
 -- The intake stands for the lines of that feed, and the server rests where it paused, and keeps a roster.
 pub record Resumes (v : RosterServer) (i : feed.Kept) (h : Head) (tasks : List Task) : Type 0 where

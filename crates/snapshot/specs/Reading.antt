@@ -2,7 +2,7 @@
 use Rattle.std.specs.Prelude.{ℕ, ◌+◌, List, [], ◌∷◌, ◌++◌, length, Bool, true, false, ◌&&◌, ◌||◌, ◌==◌, nat_lt, nat_le}
 use Rattle.std.specs.Prelude.{if◌then◌else◌}
 use Rattle.std.specs.Prelude.{Option, Some, None, codes, bytes_eq}
-use Rattle.std.specs.List.{fold, find}
+use Rattle.std.specs.List.{fold, find, filter_map}
 use Rattle.std.specs.Option.{option_and_then, option_map}
 use Rattle.std.specs.Bool.{then_some}
 use Rattle.dover_model.specs.declared.events.Role.{Role}
@@ -11,10 +11,15 @@ use Rattle.dover_model.specs.declared.events.Task.{Task}
 use Rattle.dover_model.specs.Limits.{last_tick, most_jobs, most_lines}
 use Rattle.dover_model.specs.JobFacts.{job_of_numbers}
 use Rattle.dover_model.specs.Fraction.{is_ratio}
-use Rattle.dover_model.specs.Instance.{Instance, Declaration, under, is_valid}
+use Rattle.dover_model.specs.Finishes.{Finish}
+use Rattle.dover_model.specs.Instance.{Instance, Declaration, under, finishing, is_valid}
+use Rattle.dover_model.specs.Session.{Item, Session, may_finish_early, mark_after}
+use Rattle.dover_model.specs.State.{is_done}
+use Rattle.dover_model.specs.Trace.{session_of_run}
+use Rattle.dover_model.specs.Feed.{declared_version}
 use Rattle.dover_model.specs.Numerals.{numerals}
 use Rattle.dover_model.specs.Lines.{is_too_long, fields_of, numbers_of}
-use Rattle.dover_model.specs.Settled.{settled_state}
+use Rattle.dover_model.specs.Settled.{settled_state, finish_now}
 use Rattle.dover_model.specs.Sound.{jobs_of}
 use Rattle.snapshot.specs.Snapshot.{Head, role_word}
 use Rattle.dover_model.specs.declared.events.Version.{Version}
@@ -22,16 +27,16 @@ use Rattle.dover_model.specs.declared.events.Version.TheVariants.{One, Two}
 
 -- ---- the forms of its lines
 
--- the version of this number, if no job finishes early in it
-abbrev pub plain_version : ℕ → Option Version
-plain_version n = if n == 1 then Some One else then_some (n == 2) Two
+-- the version of this number: none but One has no number in a feed
+abbrev pub version_of : ℕ → Option Version
+version_of n = if n == 1 then Some One else declared_version (Some n)
 
 -- the rules of a version's number and a ratio, if they are within the limits
 abbrev pub rules_from : (version p q : ℕ) → Option Declaration
 rules_from n p q = option_and_then (λ version. then_some (is_ratio (record { p = p; q = q })) (record {
   ratio = record { p = p; q = q };
   version = version;
-})) (plain_version n)
+})) (version_of n)
 
 -- the first line of these numbers, if its rules are within the limits
 abbrev pub head_from : List ℕ → Option Head
@@ -66,27 +71,50 @@ read_task line = if is_too_long line then None else task_of_fields (fields_of li
 
 -- ---- what is tested
 
--- mark and counts are within the limits, and there are lines for the ratio and for each job
+-- Mark and counts are within the limits, and there are lines for the ratio and for each job. A snapshot has no more
+-- jobs than a feed of version Two.
 abbrev pub is_within_limits : Head → Bool
-is_within_limits h = nat_le h.mark last_tick && nat_le h.jobs (most_jobs h.rules.version)
+is_within_limits h = nat_le h.mark last_tick && nat_le h.jobs (most_jobs Two)
     && nat_le (h.jobs + 1) h.lines && nat_le h.lines (most_lines h.rules.version)
 
 -- the jobs so far, under the rules of the first line
+abbrev pub declared_jobs : Head → List Task → Instance
+declared_jobs h tasks = record { rules = under h.rules []; jobs = jobs_of tasks }
+
+-- the finish of a job that is done with work left
+abbrev pub early_of : Task → Option Finish
+early_of t = then_some (is_done t && nat_lt 0 t.had && nat_lt t.had t.job.work) (finish_now t)
+
+-- those of the jobs, where jobs may finish early
+abbrev pub early_in : Version → List Task → List Finish
+early_in version tasks = if may_finish_early version then filter_map early_of tasks else []
+
+-- the jobs so far, with their early finishes
 abbrev pub stored : Head → List Task → Instance
-stored h tasks = record { rules = under h.rules []; jobs = jobs_of tasks }
+stored h tasks = finishing (declared_jobs h tasks) (early_in h.rules.version tasks)
+
+-- what a feed has to hand in of them: the jobs, and each early finish at its tick
+abbrev pub stored_session : Head → List Task → Session
+stored_session h tasks = session_of_run (stored h tasks)
 
 -- the job has the next number, is valid with those before it, and isn't released after the mark
 abbrev pub may_follow : Head → List Task → Task → Bool
-may_follow h tasks t = (t.number == length tasks) && is_valid (stored h (tasks ++ t ∷ []))
+may_follow h tasks t = (t.number == length tasks) && is_valid (declared_jobs h (tasks ++ t ∷ []))
     && nat_le t.job.release h.mark
 
 -- the release of the last job, or 0
 abbrev pub last_release : List Task → ℕ
 last_release tasks = fold (λ last t. t.job.release) 0 tasks
 
--- the mark is the last release, or there is a line that may have moved it
+-- a feed that hands in these items has a line for the ratio and for each of them; its mark is that behind them, or a
+-- later one, where there is a line more that may have moved it
+abbrev pub has_lines_for : Head → List Item → Bool
+has_lines_for h items = nat_lt (length items) h.lines && nat_le (mark_after 0 items) h.mark
+    && (nat_le h.mark (mark_after 0 items) || nat_lt (length items + 1) h.lines)
+
+-- so are the jobs, with their early finishes
 abbrev pub has_reached_mark : Head → List Task → Bool
-has_reached_mark h tasks = nat_le h.mark (last_release tasks) || nat_lt (h.jobs + 1) h.lines
+has_reached_mark h tasks = has_lines_for h (stored_session h tasks).items
 
 -- both are in the same role and have had the same ticks
 abbrev pub is_alike : Task → Task → Bool

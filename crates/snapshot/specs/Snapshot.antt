@@ -1,5 +1,5 @@
 -- The state of a feed that is paused, as a text.
-use Rattle.std.specs.Prelude.{◌≡◌, ℕ, List, [], ◌∷◌, ◌++◌, length, map, false, IsTrue, codes, decimal, None}
+use Rattle.std.specs.Prelude.{◌≡◌, ℕ, List, [], ◌∷◌, ◌++◌, length, map, IsTrue, codes, decimal, None}
 use Rattle.std.specs.Prelude.{Some}
 use Rattle.dover_model.specs.declared.events.Role.{Role}
 use Rattle.dover_model.specs.declared.events.Role.TheVariants.{Coming, Fresh, Waiting, Held, Running, Done, Gone}
@@ -7,19 +7,18 @@ use Rattle.dover_model.specs.declared.events.Task.{Task}
 use Rattle.dover_model.specs.Fraction.{IsRatio}
 use Rattle.dover_model.specs.Instance.{Declaration}
 use Rattle.dover_model.specs.Numerals.{AreShort}
-use Rattle.dover_model.specs.Session.{Session, instance_of, may_finish_early}
+use Rattle.dover_model.specs.Session.{Session, instance_of}
 use Rattle.dover_model.specs.Settled.{settled_state}
 use Rattle.dover_model.specs.Lines.{rest_of, in_lines, line_of, with_numbers}
 use Rattle.dover_model.specs.JobFacts.{job_numbers}
 use Rattle.dover_model.specs.Text.{version_number}
 use Rattle.dover_model.specs.Feed.{Account, account, is_open}
-use Rattle.event_feed.specs.Listing.{IsPlain}
+use Rattle.event_feed.specs.Listing.{HasFewJobs}
 
--- the feed has declared its ratio, in a version in which no job finishes early, is neither ended nor faulty, and ends
--- in
--- a line feed
+-- the feed has declared its ratio, and has at most as many jobs as a snapshot lists; it is neither ended nor faulty,
+-- and ends in a line feed
 pub record MayPause (bytes : List ℕ) : Type 0 where
-  pub declared : IsPlain (account bytes).session
+  pub declared : HasFewJobs (account bytes).session
   pub going_on : IsTrue (is_open (account bytes))
   pub whole : rest_of bytes ≡ []
 
@@ -71,9 +70,8 @@ head_numbers h = version_number h.rules.version ∷ h.rules.ratio.p ∷ h.rules.
 abbrev pub head_line : Head → List ℕ
 head_line h = with_numbers (codes "snapshot") (head_numbers h)
 
--- no job finishes early in the version, the ratio is one, and the numbers have numerals
+-- the ratio is one, and the numbers have numerals
 pub record IsHead (h : Head) : Type 0 where
-  pub version : may_finish_early h.rules.version ≡ false
   pub ratio : IsRatio h.rules.ratio
   pub short : AreShort (head_numbers h)
 

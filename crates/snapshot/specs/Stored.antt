@@ -1,29 +1,28 @@
 -- What was read of a snapshot, and the feed for which it stands.
-use Rattle.std.specs.Prelude.{◌≡◌, ℕ, ◌+◌, ◌≤◌, List, ◌∷◌, length, map, true, false, Option, Some, None}
+use Rattle.std.specs.Prelude.{◌≡◌, ℕ, ◌+◌, ◌≤◌, List, ◌∷◌, length, map, true, Option, Some, None}
 use Rattle.std.specs.List.{AllByRecursion}
 use Rattle.dover_model.specs.declared.events.Task.{Task}
 use Rattle.dover_model.specs.declared.events.Version.{Version}
 use Rattle.dover_model.specs.declared.events.Version.TheVariants.{One, Two, Three}
 use Rattle.dover_model.specs.Instance.{IsValid}
-use Rattle.dover_model.specs.Session.{Session, JobItem, may_finish_early}
+use Rattle.dover_model.specs.Session.{Session, JobItem}
 use Rattle.dover_model.specs.Sound.{IsNumberedFrom, jobs_of}
 use Rattle.dover_model.specs.FeedLine.{RatioLine, JobLine, feed_text}
 use Rattle.dover_model.specs.Feed.{Account, Open}
 use Rattle.snapshot.specs.Snapshot.{Head, head_line, state_line}
-use Rattle.snapshot.specs.Reading.{Going, is_within_limits, stored, last_release, reading_of}
+use Rattle.snapshot.specs.Reading.{Going, is_within_limits, declared_jobs, last_release, reading_of}
 
 -- these lines are a first line within the limits, and the lines of the first jobs, which are valid
 pub record HasRead (h : Head) (tasks : List Task) (ls : List (List ℕ)) : Type 0 where
-  pub version : may_finish_early h.rules.version ≡ false
   pub reads : reading_of ls ≡ Going h tasks
   pub text : ls ≡ head_line h ∷ map state_line tasks
   pub limits : is_within_limits h ≡ true
-  pub valid : IsValid (stored h tasks)
+  pub valid : IsValid (declared_jobs h tasks)
   pub known : AllByRecursion (λ t. t.job.release ≤ h.mark) tasks
   pub numbered : IsNumberedFrom 0 tasks
   pub count : length tasks ≤ h.jobs
 
--- ---- the shortest feed with such a snapshot
+-- ---- the shortest feed with such jobs, if none of them finishes early
 
 -- the number with which a ratio line declares a version
 abbrev pub declared_number : Version → Option ℕ
@@ -40,14 +39,14 @@ abbrev pub job_lines : Head → List Task → List (List ℕ)
 job_lines h tasks = ratio_text h ∷ map (λ t. feed_text (JobLine t.job)) tasks
 
 -- the session of these lines
-abbrev pub stored_session : Head → List Task → Session
-stored_session h tasks = record { rules = h.rules; items = map JobItem (jobs_of tasks) }
+abbrev pub jobs_session : Head → List Task → Session
+jobs_session h tasks = record { rules = h.rules; items = map JobItem (jobs_of tasks) }
 
 -- their account
-abbrev pub stored_account : Head → List Task → Account
-stored_account h tasks = record {
+abbrev pub jobs_account : Head → List Task → Account
+jobs_account h tasks = record {
   lines = length tasks + 1;
-  session = Some (stored_session h tasks);
+  session = Some (jobs_session h tasks);
   mark = last_release tasks;
   standing = Open;
 }

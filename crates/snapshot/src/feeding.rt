@@ -9,10 +9,10 @@ ghost use Rattle.dover_model.specs.FeedLine.{HasNumerals, RatioLine, feed_text};
 ghost use Rattle.job_format.specs.Form.{form_of};
 ghost use Rattle.event_feed.specs.Kept.{StandsFor, IsGoing, has_ended};
 ghost use Rattle.snapshot.specs.Snapshot as model;
-ghost use Rattle.snapshot.specs.Reading.{stored};
+ghost use Rattle.snapshot.specs.Reading.{declared_jobs};
 ghost use Rattle.snapshot.specs.Forms.{head_in, task_in};
 ghost use Rattle.snapshot.specs.Stored.{declared_number};
-ghost use Rattle.snapshot.specs.Kept.{IsFed, feed_lines, HasRoom, IsGoodNext, CanPause, job_in};
+ghost use Rattle.snapshot.specs.Kept.{IsFed, handed_lines, HasRoom, IsGoodNext, CanPause, job_in};
 
 use crate::forms::{Head, StateLine};
 use dover_model::{Job, Version};
@@ -74,10 +74,10 @@ pub(crate) fn hand_job(intake: &mut Intake, state: &StateLine) -> Option<Job>
     requires fed { (h : model.Head) × (tasks : List Task) × IsFed intake.old h tasks × HasRoom h tasks }
     ensures some { (h : model.Head) (tasks : List Task) → IsFed intake.old h tasks → HasRoom h tasks
         → IfSome result (λ job.
-        (job ≡ (task_in state.now).job) × IsValid (stored h (tasks ++ task_in state.now ∷ []))
+        (job ≡ (task_in state.now).job) × IsValid (declared_jobs h (tasks ++ task_in state.now ∷ []))
         × IsFed intake.new h (tasks ++ task_in state.now ∷ [])) }
     ensures none { (h : model.Head) (tasks : List Task) → IsFed intake.old h tasks → HasRoom h tasks → IsNone result →
-        IsValid (stored h (tasks ++ task_in state.now ∷ [])) → ⊥ }
+        IsValid (declared_jobs h (tasks ++ task_in state.now ∷ [])) → ⊥ }
 {
     let line = FeedLine::Job {
         release: state.release,
@@ -96,7 +96,7 @@ pub(crate) fn hand_ticks(intake: &mut Intake, head: &Head)
     requires { (tasks : List Task) × IsFed intake.old (head_in head.now) tasks × CanPause (head_in head.now) tasks }
     ensures stands { (tasks : List Task) → IsFed intake.old (head_in head.now) tasks → CanPause (head_in head.now) tasks
         →
-        StandsFor intake.new (feed_lines (head_in head.now) tasks) }
+        StandsFor intake.new (handed_lines (head_in head.now) tasks) }
 {
     if head.lines > head.jobs + 1 {
         hand(intake, FeedLine::Tick { at: head.mark });

@@ -31,23 +31,24 @@ pub(crate) struct StateLine {
     pub(crate) value: u64,
 }
 
-/// Mark and counts are within the limits of the version, and there are lines for the ratio and for each job.
+/// Mark and counts are within the limits, and there are lines for the ratio and for each job.
 pub(crate) fn is_within_limits(head: &Head) -> bool
     ensures { result ≡ model.is_within_limits (head_in head.now) }
 {
     head.mark <= LAST_TICK
-        && head.jobs <= u64::from(head.version.most_jobs())
+        && head.jobs <= u64::from(Version::Two.most_jobs())
         && head.jobs + 1 <= head.lines
         && head.lines <= head.version.most_lines()
 }
 
-/// The version of this number, if no job finishes early in it.
-fn plain_version(number: u64) -> Option<Version>
-    ensures { result ≡ model.plain_version number }
+/// The version of this number.
+fn version_of(number: u64) -> Option<Version>
+    ensures { result ≡ model.version_of number }
 {
     match number {
         1 => Some(Version::One),
         2 => Some(Version::Two),
+        3 => Some(Version::Three),
         _ => None,
     }
 }
@@ -59,7 +60,7 @@ fn head_of(version: u64, numbers: &[u64]) -> Option<Head>
     let [p, q, lines, mark, jobs] = numbers else {
         return None;
     };
-    let version = plain_version(version)?;
+    let version = version_of(version)?;
     let ratio = Ratio::from_numbers(*p, *q)?;
     Some(Head {
         version,

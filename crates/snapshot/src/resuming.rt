@@ -1,16 +1,20 @@
 //! The jobs of a snapshot, as they are fed again.
-ghost use Rattle.std.specs.Prelude.{◌≡◌, ◌≤◌, ◌<◌, ◌+◌, ◌^◌, ◌||◌, ◌↔◌, nat_le, nat_lt, ℕ, List, [], ◌∷◌, ◌++◌, length};
-ghost use Rattle.std.specs.Prelude.{map, true, Some, IsTrue, OnOk, OnErr};
+ghost use Rattle.std.specs.Prelude.{◌≡◌, ◌≤◌, ◌<◌, ◌+◌, ◌^◌, ◌||◌, ◌&&◌, ◌⊎◌, ◌↔◌, nat_le, nat_lt, ℕ, List, [], ◌∷◌};
+ghost use Rattle.std.specs.Prelude.{◌++◌, length, map, true, Some, IsTrue, IfSome, OnOk, OnErr};
+ghost use Rattle.std.specs.List.{AllByRecursion};
 ghost use Rattle.dover_model.specs.declared.events.Event.{Event};
 ghost use Rattle.dover_model.specs.declared.events.Task.{Task};
 ghost use Rattle.dover_model.specs.Instance.{Instance};
+ghost use Rattle.dover_model.specs.Limits.{last_tick};
+ghost use Rattle.dover_model.specs.Settled.{settled};
 ghost use Rattle.dover_model.specs.declared.horizon.Horizon.TheVariants.{Mark};
 ghost use Rattle.dover_model.specs.Horizons.{MayFollow};
 ghost use Rattle.snapshot.specs.Snapshot as model;
-ghost use Rattle.snapshot.specs.Kept.{stance_of, IsServed, MayAdmit, IsAt, AreAt, IsReading, Begins, Answers};
+ghost use Rattle.snapshot.specs.Kept.{stance_of, is_done_role, is_early, early_behind, next_early, IsAbout, HasRun};
+ghost use Rattle.snapshot.specs.Kept.{ComesNear, MayAdmit, IsAt, AreAt, IsReading, Begins, Answers};
 ghost use Rattle.snapshot.specs.Reading.{reading_of};
 ghost use Rattle.snapshot.specs.Spending.{jobs_read, jobs_kept, HasSpentOn};
-ghost use Rattle.ready_server.specs.Roster.{job_at};
+ghost use Rattle.ready_server.specs.Roster.{Kept, job_at, runner_at};
 ghost use Rattle.ready_server.specs.Rostering.{Serves, Rests, HasPlace, HasPaid, has_roster};
 
 use crate::feeding::{begin, hand_job, hand_ticks};
@@ -52,6 +56,36 @@ fn settle<L: Ledger>(server: &mut RosterServer, mark: u64, steps: &mut Steps<L>)
     unreachable!();
 }
 
+/// Whether the role is that of a job that is done.
+fn is_done(role: Role) -> bool
+    ensures { result ≡ is_done_role role }
+{
+    matches!(role, Role::Done)
+}
+
+impl Stance {
+    /// Whether it is that of a job of so much work that is done with work left.
+    fn is_early(&self, work: u64) -> bool
+        ensures { result ≡ is_early work self.now }
+    {
+        is_done(self.role) && self.had > 0 && self.had < work
+    }
+}
+
+/// The number of the job that runs, and the tick at which it has had what is stored of it, if it runs till then.
+fn early_behind(at: u64, job: &Task, stance: &Stance) -> Option<(u64, u64)>
+    requires { at ≤ last_tick }
+    ensures { result ≡ early_behind at job.now stance.now }
+{
+    if !stance.is_early(job.job.work()) {
+        return None;
+    }
+    if job.had > stance.had {
+        return None;
+    }
+    Some((u64::from(job.number), at + (stance.had - job.had)))
+}
+
 /// What a job is, and how many ticks it has had, are as stored.
 fn has_stance(job: &Task, stance: &Stance) -> bool
     ensures { IsTrue result ↔ (stance_of job.now ≡ stance.now) }
@@ -82,10 +116,12 @@ fn are_at(roster: &Roster, mark: u64, stances: &[Stance]) -> bool
     true
 }
 
-/// What was read of a snapshot: its jobs, which are fed again, and what each has to be at the end.
+/// What was read of a snapshot: its jobs, which are fed again, and what each has to be at the end; and how many jobs
+/// and early finishes were handed in, and the tick of the last.
 #[derive(Drop)]
 pub struct Resuming {
     head: Head,
+    handed: u64,
     last: u64,
     intake: Intake,
     server: RosterServer,
@@ -109,6 +145,7 @@ impl Resuming {
         };
         Ok(Resuming {
             head,
+            handed: 0,
             last: 0,
             intake: begin(&head),
             server,
@@ -123,24 +160,135 @@ impl Resuming {
         self.stances.len() as u64
     }
 
+    /// The number of the job that runs, if it is stored as done early, and the tick at which it is, if it runs till
+    /// then.
+    fn next_finish(&self, at: u64) -> Option<(u64, u64)>
+        requires known { at ≤ last_tick }
+        requires listed { has_roster self.now.server ≡ true }
+        ensures { (k : Kept) → self.now.server.roster ≡ Some k
+            → result ≡ next_early self.now.head.version self.now.stances.items at (runner_at k.roll at) }
+    {
+        let job = self.server.roster().runner(at)?;
+        if !self.head.version.may_finish_early() {
+            return None;
+        }
+        let stance = self.stances.get(job.number as usize)?;
+        early_behind(at, &job, stance)
+    }
+
+    /// The next mark at which the running job may have to be finished, at most this one.
+    fn next_mark(&self, at: u64, mark: u64) -> u64
+        requires low { at < mark }
+        requires known { mark ≤ last_tick }
+        requires listed { has_roster self.now.server ≡ true }
+        ensures after { (k : Kept) → self.now.server.roster ≡ Some k
+            → IfSome (next_early self.now.head.version self.now.stances.items at (runner_at k.roll at)) (λ p. at < p.1)
+            → at < result }
+        ensures no_later { result ≤ mark }
+        ensures ahead { (k : Kept) → self.now.server.roster ≡ Some k
+            → IfSome (next_early self.now.head.version self.now.stances.items at (runner_at k.roll at))
+            (λ p. result ≤ p.1) }
+        ensures quiet { (J : Instance) → Rests self.now.server J (Mark at)
+            → AllByRecursion (λ j. j.release ≤ at) J.jobs → at < result
+            → (result ≡ at + 1) ⊎ (settled J result ≡ settled J at) }
+    {
+        let quiet = self.quiet_mark(at, mark);
+        match self.next_finish(at) {
+            Some((_, tick)) => quiet.min(tick),
+            None => quiet,
+        }
+    }
+
+    /// A mark behind this one before which the run prints nothing, or the next tick.
+    fn quiet_mark(&self, at: u64, mark: u64) -> u64
+        requires low { at < mark }
+        requires known { mark ≤ last_tick }
+        ensures after { at < result }
+        ensures no_later { result ≤ mark }
+        ensures quiet { (J : Instance) (later : ℕ) → Rests self.now.server J (Mark at)
+            → AllByRecursion (λ j. j.release ≤ at) J.jobs → at < later → later ≤ result
+            → (later ≡ at + 1) ⊎ (settled J later ≡ settled J at) }
+    {
+        match self.server.next() {
+            Some(next) => mark.min(next.saturating_sub(1).max(at + 1)),
+            None => mark,
+        }
+    }
+
+    /// Finishes the job that runs where it has had as much as is stored of it.
+    fn finish_due<L: Ledger>(&mut self, at: u64, steps: &mut Steps<L>)
+        requires near { (h : model.Head) × (tasks : List Task) × IsAbout self.old h tasks
+            × ComesNear self.old h tasks at }
+        requires known { at ≤ last_tick }
+        ensures run { (h : model.Head) (tasks : List Task) → IsAbout self.old h tasks → ComesNear self.old h tasks at
+            → HasRun self.new h tasks at }
+        ensures same { self.new ≡ record self.old
+            { server = self.new.server; handed = self.new.handed; last = self.new.last } }
+        ensures room { HasPlace self.old.server → HasPlace self.new.server }
+        ensures paid { (start : ℕ) → HasPaid self.old.server start steps.old
+            → HasPaid self.new.server start steps.new }
+    {
+        let Some((number, tick)) = self.next_finish(at) else {
+            return;
+        };
+        if tick != at {
+            return;
+        }
+        match self.server.finish(at, number) {
+            Some(_) => {}
+            None => unreachable!(),
+        }
+        self.handed += 1;
+        self.last = at;
+        settle(&mut self.server, at, steps);
+    }
+
+    /// Takes the run from a mark to another, and finishes on the way each job that is stored as done early.
+    fn run_to<L: Ledger>(&mut self, from: u64, mark: u64, steps: &mut Steps<L>)
+        requires run { (h : model.Head) × (tasks : List Task) × IsAbout self.old h tasks
+            × HasRun self.old h tasks from }
+        requires low { from ≤ mark }
+        requires known { mark ≤ last_tick }
+        ensures run { (h : model.Head) (tasks : List Task) → IsAbout self.old h tasks → HasRun self.old h tasks from
+            → HasRun self.new h tasks mark }
+        ensures same { self.new ≡ record self.old
+            { server = self.new.server; handed = self.new.handed; last = self.new.last } }
+        ensures room { HasPlace self.old.server → HasPlace self.new.server }
+        ensures paid { (start : ℕ) → HasPaid self.old.server start steps.old
+            → HasPaid self.new.server start steps.new }
+    {
+        let mut at = from;
+        while at < mark {
+            at = self.next_mark(at, mark);
+            settle(&mut self.server, at, steps);
+            self.finish_due(at, steps);
+        }
+    }
+
     /// Admits a job at its release, as a feed would.
     fn admit<L: Ledger>(&mut self, job: Job, steps: &mut Steps<L>) -> Result<(), Memory>
-        requires { (h : model.Head) × (tasks : List Task) × IsServed self.old.server h tasks self.old.last
-            × MayAdmit self.old.last h tasks job }
-        ensures served { (h : model.Head) (tasks : List Task) (t : Task)
-            → IsServed self.old.server h tasks self.old.last →
-            MayAdmit self.old.last h tasks job → t.job ≡ job
-            → OnOk result (IsServed self.new.server h (tasks ++ t ∷ []) job.release) }
-        ensures same { OnOk result (self.new ≡ record self.old { server = self.new.server; last = job.release }) }
-        ensures err { (h : model.Head) (tasks : List Task) → IsServed self.old.server h tasks self.old.last →
+        requires { (h : model.Head) × (tasks : List Task) × IsAbout self.old h tasks
+            × HasRun self.old h tasks self.old.last × MayAdmit self.old.last h tasks job }
+        ensures run { (h : model.Head) (tasks : List Task) (t : Task) → IsAbout self.old h tasks
+            → HasRun self.old h tasks self.old.last → MayAdmit self.old.last h tasks job → t.job ≡ job
+            → t.number ≡ length tasks
+            → OnOk result (HasRun self.new h (tasks ++ t ∷ []) job.release) }
+        ensures last { OnOk result (self.new.last ≡ job.release) }
+        ensures same { OnOk result (self.new ≡ record self.old
+            { server = self.new.server; handed = self.new.handed; last = self.new.last }) }
+        ensures err { (h : model.Head) (tasks : List Task) → HasRun self.old h tasks self.old.last →
             OnErr result (self.new.server.server.ready.jobs ≡ length tasks) }
         ensures count { (start : ℕ) → HasPaid self.old.server start steps.old
             → HasPaid self.new.server start steps.new }
     {
         self.server.make_room()?;
-        self.last = job.release();
+        // Nothing is printed: it rests there again, with room for one job more.
         settle(&mut self.server, self.last, steps);
+        self.run_to(self.last, job.release(), steps);
+        self.handed += 1;
+        self.last = job.release();
         let _release = self.server.admit(job);
+        settle(&mut self.server, self.last, steps);
         Ok(())
     }
 
@@ -173,23 +321,25 @@ impl Resuming {
             role: state.role,
             had: state.had,
         };
-        match self.stances.push(stance) {
+        match self.admit(job, steps) {
             Ok(()) => {}
             Err(_) => return Err(SnapFault::Memory),
         }
-        match self.admit(job, steps) {
+        match self.stances.push(stance) {
             Ok(()) => Ok(Got::More),
             Err(_) => Err(SnapFault::Memory),
         }
     }
 
-    /// The mark is the last release, or there is a line that may have moved it.
-    fn has_reached_mark(&self) -> bool
-        requires { self.now.head.jobs < 2 ^ 63 }
-        ensures { result ≡ (nat_le self.now.head.mark self.now.last || nat_lt
-            (self.now.head.jobs + 1) self.now.head.lines) }
+    /// There is a line for the ratio and for each job and early finish, and the mark is that behind them, or there is a
+    /// line more that may have moved it.
+    fn has_lines(&self) -> bool
+        requires { self.now.handed < 2 ^ 63 }
+        ensures { result ≡ (nat_lt self.now.handed self.now.head.lines && (nat_le self.now.head.mark self.now.last
+            || nat_lt (self.now.handed + 1) self.now.head.lines)) }
     {
-        self.head.mark <= self.last || self.head.jobs + 1 < self.head.lines
+        self.handed < self.head.lines
+            && (self.head.mark <= self.last || self.handed + 1 < self.head.lines)
     }
 
     /// Takes the last line.
@@ -210,15 +360,15 @@ impl Resuming {
         if line != b"resume".as_slice() {
             return Err(bad);
         }
-        if !self.has_reached_mark() {
-            return Err(bad);
-        }
-        settle(&mut self.server, self.head.mark, steps);
+        self.run_to(self.last, self.head.mark, steps);
         if !are_at(
             self.server.roster(),
             self.head.mark,
             self.stances.as_slice(),
         ) {
+            return Err(bad);
+        }
+        if !self.has_lines() {
             return Err(bad);
         }
         hand_ticks(&mut self.intake, &self.head);

@@ -76,6 +76,57 @@ pub(crate) fn draw_feed(alloc: Global, seed: u64) -> Result<Vec<FeedLine>, Alloc
     Ok(lines)
 }
 
+/// A line of a feed of version Three, the later the greater `place` is: a tick, a job that is done, or a job.
+fn draw_early_line(draw: &mut Draw, place: u32) -> FeedLine {
+    let at = u64::from(place) * 2 + draw.below(2);
+    let kind = draw.below(8);
+    if kind == 0 {
+        return FeedLine::Tick { at };
+    }
+    if kind < 5 {
+        return FeedLine::Done {
+            at,
+            number: draw.below(1 + u64::from(place / 2)),
+        };
+    }
+    let work = 1 + draw.below(9);
+    FeedLine::Job {
+        release: at,
+        work,
+        deadline: at + work + draw.below(12),
+        value: work * (1 + draw.below(3)),
+    }
+}
+
+/// A feed of fourteen lines, of version Three, with or without its `end` line. Its first lines are jobs.
+pub(crate) fn draw_early_feed(alloc: Global, seed: u64) -> Result<Vec<FeedLine>, AllocError> {
+    let mut draw = Draw::new(seed);
+    let mut lines = Vec::new(alloc);
+    lines.push(FeedLine::Declared {
+        p: 3 + draw.below(3),
+        q: 1,
+        version: Some(3),
+    })?;
+    for _first in 0..2u32 {
+        let work = 3 + draw.below(5);
+        lines.push(FeedLine::Job {
+            release: 0,
+            work,
+            deadline: work + draw.below(12),
+            value: work,
+        })?;
+    }
+    for place in 0..10u32 {
+        lines.push(draw_early_line(&mut draw, place))?;
+    }
+    lines.push(if draw.below(4) == 0 {
+        FeedLine::Tick { at: 100 }
+    } else {
+        FeedLine::End
+    })?;
+    Ok(lines)
+}
+
 /// Appends a line of a word and numbers.
 fn put_numbers(text: &mut Vec<u8>, word: &[u8], numbers: &[u64]) -> Result<(), AllocError> {
     text.extend_from_slice(word)?;

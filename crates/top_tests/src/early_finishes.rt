@@ -211,10 +211,10 @@ const EARLY: &str = "k 1 1 3\njob 0 2 2 2\njob 0 2 3 2\njob 0 3 5 3\ndone 1 0\ne
 /// A feed in which a job is given up before another finishes early.
 const LATE: &str = "k 1 1 3\njob 0 10 10 10\njob 0 6 7 6\ndone 2 0\nend\n";
 
-/// Words with feeds of version Three: many in one input, no snapshot, and answers on the jobs as they are declared and
+/// Words with feeds of version Three: many in one input, snapshots, and answers on the jobs as they are declared and
 /// as the run observed them. In the third feed of `best` the run completes more than a schedule of the declared jobs;
 /// in that of `LATE` it gives up a job although all observed ones can be served.
-const CALLS: [Row; 15] = [
+const CALLS: [Row; 20] = [
     (
         &["lanes"],
         "0 k 1 1 3\n7 k 1 1 3\n0 job 0 4 9 4\n7 job 0 2 4 2\n7 done 1 0\n0 done 2 1\n0 done 3 0\n0 end\n7 end\n\
@@ -223,17 +223,50 @@ const CALLS: [Row; 15] = [
         "0 dover 3 1 1\n7 dover 3 1 1\n0 job 0 0 4 9 4\n0 run 0 0\n7 job 0 0 2 4 2\n7 run 0 0\n\
          7 complete 1 0\n0 refuse 2 2 1 done\n0 complete 3 0\n0 end 4\n7 end 2\n",
     ),
+    // a snapshot names no finish: a job that is done early has had what it needed
     (
         &["pause"],
-        "k 1 1 3\njob 0 2 2 2\n",
+        "k 1 1 3\njob 0 4 10 4\njob 1 2 5 2\ndone 2 1\n",
+        Status::Done,
+        "dover 3 1 1\njob 0 0 4 10 4\nrun 0 0\njob 1 1 2 5 2\npreempt 1 0 1\ncomplete 2 1\nrun 2 0\n\
+         snapshot 3 1 1 4 2 2\nstate 0 running 1 0 4 10 4\nstate 1 done 1 1 2 5 2\nresume\n",
+    ),
+    (
+        &["resume"],
+        "snapshot 3 1 1 4 2 2\nstate 0 running 1 0 4 10 4\nstate 1 done 1 1 2 5 2\nresume\ndone 4 0\nend\n",
+        Status::Done,
+        "complete 4 0\nend 6\n",
+    ),
+    // the ticks that it has had are others, there is no line for the finish, and no line may have moved the mark
+    (
+        &["resume"],
+        "snapshot 3 1 1 4 2 2\nstate 0 running 2 0 4 10 4\nstate 1 done 1 1 2 5 2\nresume\n",
         Status::Refused,
-        "dover 3 1 1\njob 0 0 2 2 2\nrun 0 0\nrefused 3 short\n",
+        "refused 4 snapshot\n",
+    ),
+    (
+        &["resume"],
+        "snapshot 3 1 1 3 2 2\nstate 0 running 1 0 4 10 4\nstate 1 done 1 1 2 5 2\nresume\n",
+        Status::Refused,
+        "refused 4 snapshot\n",
+    ),
+    (
+        &["resume"],
+        "snapshot 3 1 1 4 3 2\nstate 0 running 2 0 4 10 4\nstate 1 done 1 1 2 5 2\nresume\n",
+        Status::Refused,
+        "refused 4 snapshot\n",
+    ),
+    (
+        &["resume"],
+        "snapshot 2 1 1 4 2 2\nstate 0 running 1 0 4 10 4\nstate 1 done 1 1 2 5 2\nresume\n",
+        Status::Refused,
+        "refused 4 snapshot\n",
     ),
     (
         &["resume"],
         "snapshot 3 1 1 1 0 0\nresume\nend\n",
-        Status::Refused,
-        "refused 1 snapshot\n",
+        Status::Done,
+        "end 0\n",
     ),
     (
         &["feasible"],

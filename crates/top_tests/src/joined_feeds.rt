@@ -2,7 +2,7 @@
 ghost use Rattle.std.specs.Prelude.{◌≤◌, length, IfSome};
 
 use crate::calls::{Called, call};
-use crate::drawn_feeds::{draw_feed, text_of};
+use crate::drawn_feeds::{draw_early_feed, draw_feed, text_of};
 use job_format::FeedLine;
 use std::alloc::Global;
 use std::test::Fail;
@@ -153,6 +153,32 @@ fn drawn_feeds_are_paused_twice(rt: HostRuntime) -> Result<(), Fail> {
     for seed in 1..21u64 {
         let lines = draw_feed(alloc, seed)?;
         for first in 1..12usize {
+            assert!(rt; cut_twice(&rt, lines.as_slice(), first, 4096)?);
+        }
+    }
+    Ok(())
+}
+
+#[test]
+fn drawn_feeds_with_early_finishes_are_paused_and_resumed(rt: HostRuntime) -> Result<(), Fail> {
+    let alloc = rt.alloc();
+    let mut pauses = 0usize;
+    for seed in 1..61u64 {
+        let lines = draw_early_feed(alloc, seed)?;
+        let more = cut_everywhere(&rt, lines.as_slice(), 4096)?;
+        assert!(rt; more.is_some());
+        pauses = pauses.saturating_add(more.unwrap_or(0));
+    }
+    assert!(rt; pauses > 450);
+    Ok(())
+}
+
+#[test]
+fn drawn_feeds_with_early_finishes_are_paused_twice(rt: HostRuntime) -> Result<(), Fail> {
+    let alloc = rt.alloc();
+    for seed in 61..73u64 {
+        let lines = draw_early_feed(alloc, seed)?;
+        for first in 1..13usize {
             assert!(rt; cut_twice(&rt, lines.as_slice(), first, 4096)?);
         }
     }

@@ -146,7 +146,7 @@ const RESUMES: [(&str, Status, &str); 25] = [
         "refused 3 snapshot\n",
     ),
     (
-        "snapshot 3 1 1 1 0 0\nresume\n",
+        "snapshot 4 1 1 1 0 0\nresume\n",
         Status::Refused,
         "refused 1 snapshot\n",
     ),

@@ -1,18 +1,16 @@
-use Rattle.std.proofs.Common.{arith, subst, ◌∙◌}
+use Rattle.std.proofs.Common.{◌∙◌, arith, refl, subst}
 use Rattle.dover_model.specs.declared.horizon.Horizon.TheVariants.{Mark}
-use Rattle.snapshot.specs.Reading.{stored}
-use Rattle.ready_server.specs.Rostering.{Rests}
-use Rattle.snapshot.proofs.Settling.{served_with, release_known, on_err}
-use Rattle.snapshot.proofs.Spending.{jobs_served}
+use Rattle.snapshot.specs.Kept.{HasRun}
+use Rattle.snapshot.proofs.Joining.{so_far, serves_here, rests_again, jobs_here, joins_on, rests_joined, has_joined}
+use Rattle.snapshot.proofs.Joining.{valid_more}
+use Rattle.snapshot.proofs.Settling.{release_known, on_err}
+use Rattle.snapshot.proofs.Turning.{same_about, few_items}
 use Rattle.snapshot.proofs.resuming.Resuming.admit.Goals as goal
 
 pub returns-in_err-make_room-clause-err : goal.returns-in_err-make_room-clause-err
 returns-in_err-make_room-clause-err g c = λ h tasks it. on_err c.from_residual.result _
-    (jobs_served c.make_room.new.self h tasks c.args.self.now.last (record {
-      events = it.events;
-      served = c.make_room.ensures.serves (stored h tasks) (Mark c.args.self.now.last) it.events it.served;
-      listed = c.make_room.ensures.roster ∙ it.listed;
-    }))
+    (jobs_here h tasks c.args.self.now.last c.args.self.now it c.make_room.new.self
+    (λ J events. c.make_room.ensures.serves J (Mark c.args.self.now.last) events))
 
 pub returns-in_err-make_room-clause-count : goal.returns-in_err-make_room-clause-count
 returns-in_err-make_room-clause-count g c = λ start paid. c.make_room.ensures.paid start _ paid
@@ -20,44 +18,83 @@ returns-in_err-make_room-clause-count g c = λ start paid. c.make_room.ensures.p
 pub settle-requires : goal.settle-requires
 settle-requires g c =
     let r = c.requires in record {
-      serves = (
-        stored r.0 r.1,
-        c.args.self.now.last,
-        r.2.events,
-        c.make_room.ensures.serves (stored r.0 r.1) (Mark c.args.self.now.last) r.2.events r.2.served,
-        (
-          omega (arith, r.3.ordered, c.release-self.ensures.is),
-          omega (arith, release_known r.0 r.1 c.args.self.now.last c.args.job r.3, c.release-self.ensures.is),
-        ),
-      );
+      serves = serves_here r.0 r.1 c.args.self.now.last c.args.self.now r.3 c.make_room.new.self
+          (λ J events. c.make_room.ensures.serves J (Mark c.args.self.now.last) events)
+          (omega (arith, r.4.ordered, release_known r.0 r.1 c.args.self.now.last c.args.job r.4));
     }
+
+pub run_to-requires-clause-run : goal.run_to-requires-clause-run
+run_to-requires-clause-run g c =
+    let r = c.requires in (
+      r.0,
+      r.1,
+      same_about c.args.self.now _ r.0 r.1 refl refl r.2,
+      rests_again r.0 r.1 c.args.self.now.last c.args.self.now r.3 c.make_room.new.self c.settle.new.server
+          (λ J events. c.make_room.ensures.serves J (Mark c.args.self.now.last) events)
+          (omega (arith, r.4.ordered, release_known r.0 r.1 c.args.self.now.last c.args.job r.4))
+          c.settle.ensures.rests (c.settle.ensures.roster ∙ c.make_room.ensures.roster ∙ r.3.served.listed),
+    )
+
+pub overflow_add-self : goal.overflow_add-self
+overflow_add-self g c =
+    let r = c.requires in
+    let run : HasRun c.run_to.new.self r.0 r.1 c.release.result =
+    c.run_to.ensures.run r.0 r.1 (same_about c.args.self.now _ r.0 r.1 refl refl r.2)
+    (rests_again r.0 r.1 c.args.self.now.last c.args.self.now r.3 c.make_room.new.self c.settle.new.server
+    (λ J events. c.make_room.ensures.serves J (Mark c.args.self.now.last) events)
+    (omega (arith, r.4.ordered, release_known r.0 r.1 c.args.self.now.last c.args.job r.4))
+    c.settle.ensures.rests (c.settle.ensures.roster ∙ c.make_room.ensures.roster ∙ r.3.served.listed)) in
+    omega (
+      arith,
+      few_items c.run_to.new.self.server r.0 r.1 run.items c.release.result c.run_to.new.self.handed
+          run.counted.count run.served.handed run.served.rests,
+    )
 
 pub admit-release-requires-clause-valid : goal.admit-release-requires-clause-valid
 admit-release-requires-clause-valid g c =
-    let r = c.requires in (
-      stored r.0 r.1,
-      subst (λ m. Rests c.settle.new.server (stored r.0 r.1) (Mark m)) c.release-self.ensures.is
-          (c.settle.ensures.rests (stored r.0 r.1) c.args.self.now.last r.2.events
-          (c.make_room.ensures.serves (stored r.0 r.1) (Mark c.args.self.now.last) r.2.events r.2.served) (
-            omega (arith, r.3.ordered, c.release-self.ensures.is),
-            omega (arith, release_known r.0 r.1 c.args.self.now.last c.args.job r.3, c.release-self.ensures.is),
-          )),
-      r.3.valid,
+    let r = c.requires in
+    let run : HasRun c.run_to.new.self r.0 r.1 c.args.job.release =
+    subst (HasRun c.run_to.new.self r.0 r.1) c.release.ensures.is
+    (c.run_to.ensures.run r.0 r.1 (same_about c.args.self.now _ r.0 r.1 refl refl r.2)
+    (rests_again r.0 r.1 c.args.self.now.last c.args.self.now r.3 c.make_room.new.self c.settle.new.server
+    (λ J events. c.make_room.ensures.serves J (Mark c.args.self.now.last) events)
+    (omega (arith, r.4.ordered, release_known r.0 r.1 c.args.self.now.last c.args.job r.4))
+    c.settle.ensures.rests (c.settle.ensures.roster ∙ c.make_room.ensures.roster ∙ r.3.served.listed))) in (
+      so_far r.0 r.1 c.args.job.release c.run_to.new.self run,
+      run.served.rests,
+      valid_more r.0 r.1 c.args.job.release c.run_to.new.self run c.args.self.now.last c.args.job r.4,
     )
 
-pub returns-clause-served : goal.returns-clause-served
-returns-clause-served g c = λ h tasks t it may same. served_with c.admit-release.new.self h tasks t c.args.job
-    c.admit-release.result same
-    (c.admit-release.ensures.roster ∙ c.settle.ensures.roster ∙ c.make_room.ensures.roster ∙ it.listed)
-    (c.admit-release.ensures.serves (stored h tasks)
-    (subst (λ m. Rests c.settle.new.server (stored h tasks) (Mark m)) c.release-self.ensures.is
-    (c.settle.ensures.rests (stored h tasks) c.args.self.now.last it.events
-    (c.make_room.ensures.serves (stored h tasks) (Mark c.args.self.now.last) it.events it.served) (
-      omega (arith, may.ordered, c.release-self.ensures.is),
-      omega (arith, release_known h tasks c.args.self.now.last c.args.job may, c.release-self.ensures.is),
-    )))
-    may.valid)
+pub settle-requires-2 : goal.settle-requires-2
+settle-requires-2 g c =
+    let r = c.requires in
+    let run : HasRun c.run_to.new.self r.0 r.1 c.args.job.release =
+    subst (HasRun c.run_to.new.self r.0 r.1) c.release.ensures.is
+    (c.run_to.ensures.run r.0 r.1 (same_about c.args.self.now _ r.0 r.1 refl refl r.2)
+    (rests_again r.0 r.1 c.args.self.now.last c.args.self.now r.3 c.make_room.new.self c.settle.new.server
+    (λ J events. c.make_room.ensures.serves J (Mark c.args.self.now.last) events)
+    (omega (arith, r.4.ordered, release_known r.0 r.1 c.args.self.now.last c.args.job r.4))
+    c.settle.ensures.rests (c.settle.ensures.roster ∙ c.make_room.ensures.roster ∙ r.3.served.listed))) in record {
+      serves = joins_on r.0 r.1 c.args.job c.args.self.now.last c.run_to.new.self run r.4 c.admit-release.new.self
+          c.admit-release.result c.admit-release.ensures.serves c.release-self.result c.release-self.ensures.is;
+    }
+
+pub returns-clause-run : goal.returns-clause-run
+returns-clause-run g c = λ h tasks t about start may same number.
+    let run : HasRun c.run_to.new.self h tasks c.args.job.release =
+    subst (HasRun c.run_to.new.self h tasks) c.release.ensures.is
+    (c.run_to.ensures.run h tasks (same_about c.args.self.now _ h tasks refl refl about)
+    (rests_again h tasks c.args.self.now.last c.args.self.now start c.make_room.new.self c.settle.new.server
+    (λ J events. c.make_room.ensures.serves J (Mark c.args.self.now.last) events)
+    (omega (arith, may.ordered, release_known h tasks c.args.self.now.last c.args.job may))
+    c.settle.ensures.rests (c.settle.ensures.roster ∙ c.make_room.ensures.roster ∙ start.served.listed))) in
+    has_joined h tasks t c.args.self.now.last c.run_to.new.self _ number c.args.job same run may refl
+    c.release-self.ensures.is
+    (rests_joined h tasks c.args.job c.args.self.now.last c.run_to.new.self run may c.admit-release.new.self
+    c.settle-2.new.server c.admit-release.result c.admit-release.ensures.serves c.release-self.result
+    c.release-self.ensures.is c.settle-2.ensures.rests)
+    (c.settle-2.ensures.roster ∙ c.admit-release.ensures.roster ∙ run.served.listed)
 
 pub returns-clause-count : goal.returns-clause-count
-returns-clause-count g c = λ start paid. c.admit-release.ensures.paid start _
-    (c.settle.ensures.paid start (c.make_room.ensures.paid start _ paid))
+returns-clause-count g c = λ start paid. c.settle-2.ensures.paid start (c.admit-release.ensures.paid start _
+    (c.run_to.ensures.paid start (c.settle.ensures.paid start (c.make_room.ensures.paid start _ paid))))

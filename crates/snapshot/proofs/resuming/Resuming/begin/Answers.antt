@@ -2,6 +2,7 @@ use Rattle.std.proofs.Common.{[], ◌∷◌, refl, sym, ap, ◌∙◌}
 use Rattle.std.specs.Option.{option_map}
 use Rattle.snapshot.specs.Forms.{head_in}
 use Rattle.snapshot.specs.Stored.{HasRead}
+use Rattle.snapshot.proofs.Starting.{first_served}
 use Rattle.snapshot.proofs.Storing.{head_stands}
 use Rattle.snapshot.proofs.resuming.Resuming.begin.Goals as goal
 
@@ -15,11 +16,14 @@ returns c =
       [],
       read,
       record {
-        head = refl;
+        about = record { head = refl; numbered = tt; stances = c.new-2.ensures.items };
         released = refl;
-        stances = c.new-2.ensures.items;
         fed = c.begin.ensures;
-        served = record { events = []; served = c.in-Ok.ensures.serves; listed = c.in-Ok.ensures.roster };
+        run = record {
+          items = [];
+          counted = record { count = refl; last = refl };
+          served = first_served c.in-Ok.server (head_in c.in-Some.head) c.in-Ok.ensures.serves c.in-Ok.ensures.roster;
+        };
       },
     )
 

@@ -1,111 +1,181 @@
 use Rattle.std.proofs.Common.{◌≡◌, length, map, sym, ap, ◌∙◌, subst, true, false}
-use Rattle.dover_model.specs.declared.horizon.Horizon.TheVariants.{Mark}
 use Rattle.event_feed.specs.Kept.{StandsFor}
 use Rattle.snapshot.specs.Snapshot.{Head}
-use Rattle.snapshot.specs.Reading.{has_reached_mark, last_release, stored}
+use Rattle.snapshot.specs.Reading.{has_reached_mark}
+use Rattle.snapshot.specs.Forms.{head_in}
 use Rattle.ready_server.specs.Roster.{job_at}
-use Rattle.ready_server.specs.Rostering.{Rests}
-use Rattle.snapshot.specs.Kept.{AreAt, IsFed, CanPause, feed_lines}
-use Rattle.snapshot.proofs.Finishing.{finish_follows, reached_count, state_refused, can_pause, is_whole, resumes}
-use Rattle.snapshot.proofs.Finishing.{reached_is, last_same}
-use Rattle.snapshot.proofs.Spending.{jobs_lines, jobs_rested}
+use Rattle.snapshot.specs.Kept.{AreAt, HasRun, IsFed, CanPause, handed_lines}
+use Rattle.snapshot.specs.declared.resuming.Resuming.{Resuming}
+use Rattle.snapshot.proofs.Finishing.{mark_follows, run_so_far, reached_count, state_refused, few_handed, lines_are}
+use Rattle.snapshot.proofs.Finishing.{mark_refused, can_pause, is_whole, resumes, last_same}
+use Rattle.snapshot.proofs.Spending.{jobs_lines, jobs_run}
 use Rattle.snapshot.proofs.resuming.Resuming.finish.Goals as goal
 
-pub settle-requires : goal.settle-requires
-settle-requires g c =
-    let h = c.requires.reading.1.0 in let tasks = c.requires.reading.1.1 in let it = c.requires.reading.1.3 in record {
-      serves = (
-        stored h tasks,
-        last_release tasks,
-        it.served.events,
-        it.served.served,
-        finish_follows h tasks c.requires.reading.0 c.requires.reading.1.2 c.args.self.now it,
-      );
-    }
+pub run_to-requires-clause-run : goal.run_to-requires-clause-run
+run_to-requires-clause-run g c =
+    let ls = c.requires.reading.0 in let h = c.requires.reading.1.0 in let tasks = c.requires.reading.1.1 in
+    let read = c.requires.reading.1.2 in let it = c.requires.reading.1.3 in
+    (h, tasks, it.about, run_so_far h tasks ls read c.args.self.now it)
+
+pub run_to-requires-clause-low : goal.run_to-requires-clause-low
+run_to-requires-clause-low g c =
+    let ls = c.requires.reading.0 in let h = c.requires.reading.1.0 in let tasks = c.requires.reading.1.1 in
+    let read = c.requires.reading.1.2 in let it = c.requires.reading.1.3 in
+    (mark_follows h tasks ls read c.args.self.now it).0
+
+pub run_to-requires-clause-known : goal.run_to-requires-clause-known
+run_to-requires-clause-known g c =
+    let ls = c.requires.reading.0 in let h = c.requires.reading.1.0 in let tasks = c.requires.reading.1.1 in
+    let read = c.requires.reading.1.2 in let it = c.requires.reading.1.3 in
+    (mark_follows h tasks ls read c.args.self.now it).1
 
 pub roster-requires : goal.roster-requires
-roster-requires g c = c.settle.ensures.roster ∙ c.requires.reading.1.3.served.listed
+roster-requires g c =
+    let ls = c.requires.reading.0 in let h = c.requires.reading.1.0 in let tasks = c.requires.reading.1.1 in
+    let read = c.requires.reading.1.2 in let it = c.requires.reading.1.3 in
+    let run : HasRun c.run_to.new.self h tasks c.args.self.now.head.mark =
+    c.run_to.ensures.run h tasks it.about (run_so_far h tasks ls read c.args.self.now it) in
+    run.served.listed
 
 pub are_at-requires : goal.are_at-requires
 are_at-requires g c =
     let ls = c.requires.reading.0 in let h = c.requires.reading.1.0 in let tasks = c.requires.reading.1.1 in
     let read = c.requires.reading.1.2 in let it = c.requires.reading.1.3 in
-    ap length c.as_slice-2.ensures.value
-    ∙ reached_count h tasks ls read c.args.self.now it c.args.line.now c.requires.all c.settle.new.server
-    (c.settle.ensures.rests (stored h tasks) (last_release tasks) it.served.events it.served.served
-    (finish_follows h tasks ls read c.args.self.now it)) c.roster.result.now c.roster.ensures
+    let run : HasRun c.run_to.new.self h tasks c.args.self.now.head.mark =
+    c.run_to.ensures.run h tasks it.about (run_so_far h tasks ls read c.args.self.now it) in
+    ap length (c.as_slice-2.ensures.value ∙ ap (λ (x : Resuming). x.stances.items) c.run_to.ensures.same)
+    ∙ reached_count h tasks ls read c.args.self.now it c.args.line.now c.requires.all c.run_to.new.self run
+    c.roster.result.now c.roster.ensures
 
 pub returns-then-not-are_at-clause-answers : goal.returns-then-not-are_at-clause-answers
-returns-then-not-are_at-clause-answers g c =
-    λ ls it. state_refused it.0 it.1 ls it.2 c.args.self.now it.3 c.args.line.now c.requires.all c.settle.new.server
-    (c.settle.ensures.rests (stored it.0 it.1) (last_release it.1) it.3.served.events it.3.served.served
-    (finish_follows it.0 it.1 ls it.2 c.args.self.now it.3)) c.roster.result.now c.roster.ensures
-    c.count.result c.as_slice-2.result.now c.count.ensures
-    c.as_slice-2.ensures.value
-    (λ at. let passes : c.are_at.result ≡ true = c.are_at.ensures.1 at in
+returns-then-not-are_at-clause-answers g c = λ ls (h, tasks, read, it).
+    let run : HasRun c.run_to.new.self h tasks c.args.self.now.head.mark =
+    c.run_to.ensures.run h tasks it.about (run_so_far h tasks ls read c.args.self.now it) in
+    let same = c.run_to.ensures.same in
+    let k = c.roster.result.now in
+    state_refused h tasks ls read c.args.self.now it c.args.line.now c.requires.all c.run_to.new.self run k
+    c.roster.ensures c.count.result c.as_slice-2.result.now c.count.ensures
+    (c.as_slice-2.ensures.value ∙ ap (λ (x : Resuming). x.stances.items) same)
+    (λ at. let passes : c.are_at.result ≡ true =
+    c.are_at.ensures.1 (subst (λ m. AreAt (map (job_at k.roll m) k.roll.jobs) c.as_slice-2.result.now)
+    (sym (ap (λ (x : Resuming). x.head.mark) same)) at) in
     absurd (let clash : true ≡ false = sym passes ∙ c.if-not-are_at.true in cc))
+
+pub has_lines-requires : goal.has_lines-requires
+has_lines-requires g c =
+    let ls = c.requires.reading.0 in let h = c.requires.reading.1.0 in let tasks = c.requires.reading.1.1 in
+    let read = c.requires.reading.1.2 in let it = c.requires.reading.1.3 in
+    let run : HasRun c.run_to.new.self h tasks c.args.self.now.head.mark =
+    c.run_to.ensures.run h tasks it.about (run_so_far h tasks ls read c.args.self.now it) in
+    let same = c.run_to.ensures.same in
+    let kept : c.as_slice-2.result.now ≡ c.args.self.now.stances.items =
+    c.as_slice-2.ensures.value ∙ ap (λ (x : Resuming). x.stances.items) same in
+    let k = c.roster.result.now in
+    let at : AreAt (map (job_at k.roll c.args.self.now.head.mark) k.roll.jobs) c.as_slice-2.result.now =
+    subst (λ m. AreAt (map (job_at k.roll m) k.roll.jobs) c.as_slice-2.result.now)
+    (ap (λ (x : Resuming). x.head.mark) same) (c.are_at.ensures.0 c.if-not-are_at.false) in
+    few_handed h tasks ls read c.args.self.now it c.args.line.now c.requires.all c.run_to.new.self run k
+    c.roster.ensures c.as_slice-2.result.now kept at
+
+pub returns-then-not-has_lines-clause-answers : goal.returns-then-not-has_lines-clause-answers
+returns-then-not-has_lines-clause-answers g c = λ ls (h, tasks, read, it).
+    let run : HasRun c.run_to.new.self h tasks c.args.self.now.head.mark =
+    c.run_to.ensures.run h tasks it.about (run_so_far h tasks ls read c.args.self.now it) in
+    let same = c.run_to.ensures.same in
+    let kept : c.as_slice-2.result.now ≡ c.args.self.now.stances.items =
+    c.as_slice-2.ensures.value ∙ ap (λ (x : Resuming). x.stances.items) same in
+    let k = c.roster.result.now in
+    let at : AreAt (map (job_at k.roll c.args.self.now.head.mark) k.roll.jobs) c.as_slice-2.result.now =
+    subst (λ m. AreAt (map (job_at k.roll m) k.roll.jobs) c.as_slice-2.result.now)
+    (ap (λ (x : Resuming). x.head.mark) same) (c.are_at.ensures.0 c.if-not-are_at.false) in
+    mark_refused h tasks ls read c.args.self.now it c.args.line.now c.requires.all c.run_to.new.self run k
+    c.roster.ensures c.as_slice-2.result.now kept at c.count.result c.count.ensures
+    (ap (λ (x : Resuming). x.head) same) (sym c.has_lines.ensures ∙ c.if-not-has_lines.true)
 
 pub hand_ticks-requires : goal.hand_ticks-requires
 hand_ticks-requires g c =
     let ls = c.requires.reading.0 in let h = c.requires.reading.1.0 in let tasks = c.requires.reading.1.1 in
     let read = c.requires.reading.1.2 in let it = c.requires.reading.1.3 in
-    let reached : has_reached_mark h tasks ≡ true = sym (reached_is h tasks ls read c.args.self.now it)
-    ∙ sym c.has_reached_mark.ensures
-    ∙ c.if-not-has_reached_mark.false in
-    let can : CanPause h tasks =
-    can_pause h tasks ls read c.args.self.now it c.args.line.now c.requires.all c.settle.new.server
-    (c.settle.ensures.rests (stored h tasks) (last_release tasks) it.served.events it.served.served
-    (finish_follows h tasks ls read c.args.self.now it)) c.roster.result.now c.roster.ensures c.as_slice-2.result.now
-    c.as_slice-2.ensures.value (c.are_at.ensures.0 c.if-not-are_at.false) reached in (
-      tasks,
-      subst (λ (x : Head). IsFed c.args.self.now.intake x tasks) (sym it.head) it.fed,
-      subst (λ (x : Head). CanPause x tasks) (sym it.head) can,
-    )
-
-pub returns-clause-answers : goal.returns-clause-answers
-returns-clause-answers g c = λ ls it.
-    let h = it.0 in let tasks = it.1 in
-    let reached : has_reached_mark h tasks ≡ true = sym (reached_is h tasks ls it.2 c.args.self.now it.3)
-    ∙ sym c.has_reached_mark.ensures
-    ∙ c.if-not-has_reached_mark.false in
-    let rests : Rests c.settle.new.server (stored h tasks) (Mark c.args.self.now.head.mark) =
-    c.settle.ensures.rests (stored h tasks) (last_release tasks) it.3.served.events it.3.served.served
-    (finish_follows h tasks ls it.2 c.args.self.now it.3) in
+    let run : HasRun c.run_to.new.self h tasks c.args.self.now.head.mark =
+    c.run_to.ensures.run h tasks it.about (run_so_far h tasks ls read c.args.self.now it) in
+    let same = c.run_to.ensures.same in
+    let kept : c.as_slice-2.result.now ≡ c.args.self.now.stances.items =
+    c.as_slice-2.ensures.value ∙ ap (λ (x : Resuming). x.stances.items) same in
     let k = c.roster.result.now in
     let at : AreAt (map (job_at k.roll c.args.self.now.head.mark) k.roll.jobs) c.as_slice-2.result.now =
-    c.are_at.ensures.0 c.if-not-are_at.false in
-    let can : CanPause h tasks =
-    can_pause h tasks ls it.2 c.args.self.now it.3 c.args.line.now c.requires.all c.settle.new.server
-    rests k c.roster.ensures c.as_slice-2.result.now
-    c.as_slice-2.ensures.value at reached in
+    subst (λ m. AreAt (map (job_at k.roll m) k.roll.jobs) c.as_slice-2.result.now)
+    (ap (λ (x : Resuming). x.head.mark) same) (c.are_at.ensures.0 c.if-not-are_at.false) in
+    let reached : has_reached_mark h tasks ≡ true = sym (lines_are h tasks ls read c.args.self.now it c.args.line.now
+        c.requires.all c.run_to.new.self run k
+    c.roster.ensures c.as_slice-2.result.now kept at
+    (ap (λ (x : Resuming). x.head) same)) ∙ sym c.has_lines.ensures ∙ c.if-not-has_lines.false in
+    let can : CanPause h tasks = can_pause h tasks ls read c.args.self.now it c.args.line.now c.requires.all
+        c.run_to.new.self run k
+    c.roster.ensures c.as_slice-2.result.now kept at reached in
+    let fed : IsFed c.run_to.new.self.intake (head_in c.run_to.new.self.head) tasks =
+    subst (λ (x : Resuming). IsFed x.intake (head_in x.head) tasks) (sym same)
+    (subst (λ (x : Head). IsFed c.args.self.now.intake x tasks) (sym it.about.head) it.fed) in
+    let may : CanPause (head_in c.run_to.new.self.head) tasks =
+    subst (λ (x : Resuming). CanPause (head_in x.head) tasks) (sym same)
+    (subst (λ (x : Head). CanPause x tasks) (sym it.about.head) can) in
+    (tasks, fed, may)
+
+pub returns-clause-answers : goal.returns-clause-answers
+returns-clause-answers g c = λ ls (h, tasks, read, it).
+    let run : HasRun c.run_to.new.self h tasks c.args.self.now.head.mark =
+    c.run_to.ensures.run h tasks it.about (run_so_far h tasks ls read c.args.self.now it) in
+    let same = c.run_to.ensures.same in
+    let kept : c.as_slice-2.result.now ≡ c.args.self.now.stances.items =
+    c.as_slice-2.ensures.value ∙ ap (λ (x : Resuming). x.stances.items) same in
+    let k = c.roster.result.now in
+    let at : AreAt (map (job_at k.roll c.args.self.now.head.mark) k.roll.jobs) c.as_slice-2.result.now =
+    subst (λ m. AreAt (map (job_at k.roll m) k.roll.jobs) c.as_slice-2.result.now)
+    (ap (λ (x : Resuming). x.head.mark) same) (c.are_at.ensures.0 c.if-not-are_at.false) in
+    let reached : has_reached_mark h tasks ≡ true = sym (lines_are h tasks ls read c.args.self.now it c.args.line.now
+        c.requires.all c.run_to.new.self run k
+    c.roster.ensures c.as_slice-2.result.now kept at
+    (ap (λ (x : Resuming). x.head) same)) ∙ sym c.has_lines.ensures ∙ c.if-not-has_lines.false in
+    let can : CanPause h tasks = can_pause h tasks ls read c.args.self.now it c.args.line.now c.requires.all
+        c.run_to.new.self run k
+    c.roster.ensures c.as_slice-2.result.now kept at reached in
+    let fed : IsFed c.run_to.new.self.intake (head_in c.run_to.new.self.head) tasks =
+    subst (λ (x : Resuming). IsFed x.intake (head_in x.head) tasks) (sym same)
+    (subst (λ (x : Head). IsFed c.args.self.now.intake x tasks) (sym it.about.head) it.fed) in
+    let may : CanPause (head_in c.run_to.new.self.head) tasks =
+    subst (λ (x : Resuming). CanPause (head_in x.head) tasks) (sym same)
+    (subst (λ (x : Head). CanPause x tasks) (sym it.about.head) can) in
     let last = last_same c.args.line.now c.as_slice.result.now c.as_slice.ensures
-    (sym c.ne.ensures ∙ c.if-ne.false) in (
+    (sym c.ne.ensures ∙ c.if-ne.false) in
+    let head : head_in c.run_to.new.self.head ≡ h = ap (λ (x : Resuming). head_in x.head) same ∙ it.about.head in (
       h,
       tasks,
-      is_whole h tasks ls it.2 c.args.self.now it.3 c.args.line.now c.requires.all c.settle.new.server
-          rests k c.roster.ensures c.as_slice-2.result.now
-          c.as_slice-2.ensures.value at
-          last.0 reached last.1,
-      it.3.head,
-      resumes h tasks ls it.2 c.args.self.now it.3 c.args.line.now c.requires.all c.settle.new.server
-          rests k c.roster.ensures c.as_slice-2.result.now
-          c.as_slice-2.ensures.value at c.hand_ticks.new.intake
-          (c.settle.ensures.roster ∙ it.3.served.listed) reached
-          (subst (λ (x : Head). StandsFor c.hand_ticks.new.intake (feed_lines x tasks)) it.3.head
-          (c.hand_ticks.ensures.stands tasks
-          (subst (λ (x : Head). IsFed c.args.self.now.intake x tasks) (sym it.3.head) it.3.fed)
-          (subst (λ (x : Head). CanPause x tasks) (sym it.3.head) can))),
+      is_whole h tasks ls read c.args.self.now it c.args.line.now c.requires.all c.run_to.new.self run k
+          c.roster.ensures c.as_slice-2.result.now kept at reached last.0 last.1,
+      head,
+      resumes h tasks ls read c.args.self.now it c.args.line.now c.requires.all c.run_to.new.self run k
+          c.roster.ensures c.as_slice-2.result.now kept at reached last.0 last.1
+          c.hand_ticks.new.intake run.served.listed
+          (subst (λ (x : Head). StandsFor c.hand_ticks.new.intake (handed_lines x tasks)) head
+          (c.hand_ticks.ensures.stands tasks fed may)),
     )
 
 pub returns-then-not-are_at-clause-jobs : goal.returns-then-not-are_at-clause-jobs
-returns-then-not-are_at-clause-jobs g c =
-    λ ls it. jobs_lines ls it.0 it.1 it.2 c.args.line.now c.settle.new.server.server.ready.jobs
-    (jobs_rested c.settle.new.server it.0 it.1 c.args.self.now.head.mark
-    (c.settle.ensures.rests (stored it.0 it.1) (last_release it.1) it.3.served.events it.3.served.served
-    (finish_follows it.0 it.1 ls it.2 c.args.self.now it.3)))
+returns-then-not-are_at-clause-jobs g c = λ ls (h, tasks, read, it).
+    let run : HasRun c.run_to.new.self h tasks c.args.self.now.head.mark =
+    c.run_to.ensures.run h tasks it.about (run_so_far h tasks ls read c.args.self.now it) in
+    jobs_lines ls h tasks read c.args.line.now c.run_to.new.self.server.server.ready.jobs
+    (jobs_run c.run_to.new.self h tasks c.args.self.now.head.mark run)
+
+pub returns-then-not-has_lines-clause-jobs : goal.returns-then-not-has_lines-clause-jobs
+returns-then-not-has_lines-clause-jobs g c = λ ls (h, tasks, read, it).
+    let run : HasRun c.run_to.new.self h tasks c.args.self.now.head.mark =
+    c.run_to.ensures.run h tasks it.about (run_so_far h tasks ls read c.args.self.now it) in
+    jobs_lines ls h tasks read c.args.line.now c.run_to.new.self.server.server.ready.jobs
+    (jobs_run c.run_to.new.self h tasks c.args.self.now.head.mark run)
 
 pub returns-clause-jobs : goal.returns-clause-jobs
-returns-clause-jobs g c = λ ls it. jobs_lines ls it.0 it.1 it.2 c.args.line.now c.settle.new.server.server.ready.jobs
-    (jobs_rested c.settle.new.server it.0 it.1 c.args.self.now.head.mark
-    (c.settle.ensures.rests (stored it.0 it.1) (last_release it.1) it.3.served.events it.3.served.served
-    (finish_follows it.0 it.1 ls it.2 c.args.self.now it.3)))
+returns-clause-jobs g c = λ ls (h, tasks, read, it).
+    let run : HasRun c.run_to.new.self h tasks c.args.self.now.head.mark =
+    c.run_to.ensures.run h tasks it.about (run_so_far h tasks ls read c.args.self.now it) in
+    jobs_lines ls h tasks read c.args.line.now c.run_to.new.self.server.server.ready.jobs
+    (jobs_run c.run_to.new.self h tasks c.args.self.now.head.mark run)

@@ -1,13 +1,16 @@
-use Rattle.std.proofs.Common.{◌<◌, ◌∷◌, [], ◌++◌, length, sym, ap, ◌∙◌, subst, refl, arith}
+use Rattle.std.proofs.Common.{◌≡◌, ◌≤◌, ◌<◌, ◌∷◌, [], ◌++◌, length, sym, ap, ◌∙◌, subst, refl, arith}
 use Rattle.std.specs.Option.{option_map}
 use Rattle.dover_model.specs.JobFacts.{JobFacts}
 use Rattle.snapshot.specs.Forms.{task_in}
 use Rattle.snapshot.specs.Snapshot.{Head}
 use Rattle.snapshot.specs.declared.resuming.Resuming.{Resuming}
-use Rattle.snapshot.specs.Kept.{IsFed, IsServed}
+use Rattle.snapshot.specs.Stored.{HasRead}
+use Rattle.snapshot.specs.Spending.{jobs_read}
+use Rattle.snapshot.specs.Kept.{IsFed, HasRun, stance_of}
 use Rattle.snapshot.proofs.Stepping.{served_count, jobs_count, room, none_refused, job_short, beyond_refused, may_admit}
-use Rattle.snapshot.proofs.Stepping.{served_at, read_more, holds_more}
-use Rattle.snapshot.proofs.Spending.{jobs_now, jobs_left, jobs_stay}
+use Rattle.snapshot.proofs.Stepping.{run_at, read_more, holds_more, same_run}
+use Rattle.snapshot.proofs.Spending.{jobs_now, jobs_left, jobs_stay, jobs_run}
+use Rattle.snapshot.proofs.Turning.{same_about}
 use Rattle.snapshot.proofs.resuming.Resuming.job.Goals as goal
 
 pub hand_job-requires-clause-numerals : goal.hand_job-requires-clause-numerals
@@ -77,44 +80,52 @@ admit-requires g c =
     let spelled = sym c.read_state.ensures ∙ ap (option_map task_in) c.in-Some.is in (
       h,
       tasks,
-      served_at h tasks ls read c.args.self.now it c.args.line.now more (task_in c.in-Some.state) spelled some.1,
+      same_about c.args.self.now _ h tasks refl refl it.about,
+      same_run c.args.self.now _ h tasks c.args.self.now.last refl refl refl
+          (run_at h tasks ls read c.args.self.now it c.args.line.now more (task_in c.in-Some.state) spelled some.1),
       may_admit h tasks ls read c.args.self.now it c.args.line.now more
           (task_in c.in-Some.state) spelled some.1 c.in-Some-hand_job.job some.0,
     )
 
-pub returns-in-Ok-admit-clause-answers : goal.returns-in-Ok-admit-clause-answers
-returns-in-Ok-admit-clause-answers g c = λ ls it.
-    let h = it.0 in let tasks = it.1 in
+pub returns-in-Ok-push-clause-answers : goal.returns-in-Ok-push-clause-answers
+returns-in-Ok-push-clause-answers g c = λ ls (h, tasks, read, it).
     let more : length tasks < h.jobs =
     omega (
       arith,
       c.requires.more,
-      served_count h tasks ls it.2 c.args.self.now it.3,
-      jobs_count h tasks ls it.2 c.args.self.now it.3,
+      served_count h tasks ls read c.args.self.now it,
+      jobs_count h tasks ls read c.args.self.now it,
     ) in
-    let some = c.in-Some-hand_job.ensures.some h tasks it.3.fed (room h tasks ls it.2 c.args.self.now it.3 more) in
+    let some = c.in-Some-hand_job.ensures.some h tasks it.fed (room h tasks ls read c.args.self.now it more) in
     let spelled = sym c.read_state.ensures ∙ ap (option_map task_in) c.in-Some.is in
-    let served = served_at h tasks ls it.2 c.args.self.now it.3 c.args.line.now more
-    (task_in c.in-Some.state) spelled some.1 in
-    let may = may_admit h tasks ls it.2 c.args.self.now it.3 c.args.line.now more
-    (task_in c.in-Some.state) spelled some.1 c.in-Some-hand_job.job some.0 in
-    let same = c.in-Ok-admit.ensures.same in (
+    let number : c.in-Some.state.number ≡ length tasks =
+    c.if-state-number.false ∙ c.count-number.ensures ∙ served_count h tasks ls read c.args.self.now it in
+    let more_read : HasRead h (tasks ++ task_in c.in-Some.state ∷ []) (ls ++ c.args.line.now ∷ []) =
+    read_more h tasks ls read c.args.self.now it c.args.line.now more (task_in c.in-Some.state) spelled some.1 number
+    (omega (arith, c.if-state-self.false, ap (λ (x : Head). x.mark) it.about.head)) in
+    let run : HasRun c.admit.new.self h (tasks ++ task_in c.in-Some.state ∷ []) c.in-Some-hand_job.job.release =
+    c.in-Ok.ensures.run h tasks (task_in c.in-Some.state)
+    (same_about c.args.self.now _ h tasks refl refl it.about)
+    (same_run c.args.self.now _ h tasks c.args.self.now.last refl refl refl
+    (run_at h tasks ls read c.args.self.now it c.args.line.now more (task_in c.in-Some.state) spelled some.1))
+    (may_admit h tasks ls read c.args.self.now it c.args.line.now more (task_in c.in-Some.state) spelled some.1
+    c.in-Some-hand_job.job some.0) (sym some.0) number in
+    let same = c.in-Ok.ensures.same in (
       h,
       tasks ++ task_in c.in-Some.state ∷ [],
-      read_more h tasks ls it.2 c.args.self.now it.3 c.args.line.now more (task_in c.in-Some.state) spelled some.1
-          (c.if-state-number.false ∙ c.count-number.ensures
-          ∙ served_count h tasks ls it.2 c.args.self.now it.3)
-          (omega (arith, c.if-state-self.false, ap (λ (x : Head). x.mark) it.3.head)),
-      holds_more h tasks ls it.2 c.args.self.now it.3 c.args.line.now more
-          (task_in c.in-Some.state) spelled some.1 c.admit.new.self
+      more_read,
+      holds_more h tasks ls read c.args.self.now it c.args.line.now more (task_in c.in-Some.state) spelled some.1 _
+          more_read
           (ap (λ (x : Resuming). x.head) same)
-          (ap (λ (x : Resuming). x.last) same ∙ ap (λ (j : JobFacts). j.release) some.0)
-          (ap (λ (x : Resuming). x.stances.items) same ∙ c.in-Ok.ensures.items)
+          (c.in-Ok.ensures.last ∙ ap (λ (j : JobFacts). j.release) some.0)
+          (c.in-Ok-push.ensures.items ∙ ap (λ (x : Resuming). x.stances.items ++ stance_of
+              (task_in c.in-Some.state) ∷ [])
+          same)
           (subst (λ i. IsFed i h (tasks ++ task_in c.in-Some.state ∷ []))
           (sym (ap (λ (x : Resuming). x.intake) same)) some.2)
-          (subst (λ (j : JobFacts). IsServed c.admit.new.self.server h
-          (tasks ++ task_in c.in-Some.state ∷ []) j.release) some.0
-          (c.in-Ok-admit.ensures.served h tasks (task_in c.in-Some.state) served may (sym some.0))),
+          (same_run c.admit.new.self _ h (tasks ++ task_in c.in-Some.state ∷ []) _ refl refl refl
+          (subst (λ (j : JobFacts). HasRun c.admit.new.self h (tasks ++ task_in c.in-Some.state ∷ []) j.release) some.0
+          run)),
     )
 
 pub returns-in-Err-clause-answers : goal.returns-in-Err-clause-answers
@@ -133,11 +144,11 @@ returns-in-Err-clause-answers g c = λ ls it.
     (task_in c.in-Some.state) spelled some.1
     (c.if-state-number.false ∙ c.count-number.ensures
     ∙ served_count h tasks ls it.2 c.args.self.now it.3)
-    (omega (arith, c.if-state-self.false, ap (λ (x : Head). x.mark) it.3.head)) in
+    (omega (arith, c.if-state-self.false, ap (λ (x : Head). x.mark) it.3.about.head)) in
     (h, tasks ++ task_in c.in-Some.state ∷ [], read.reads)
 
-pub returns-in-Err-admit-clause-answers : goal.returns-in-Err-admit-clause-answers
-returns-in-Err-admit-clause-answers g c = λ ls it.
+pub returns-in-Err-push-clause-answers : goal.returns-in-Err-push-clause-answers
+returns-in-Err-push-clause-answers g c = λ ls it.
     let h = it.0 in let tasks = it.1 in
     let more : length tasks < h.jobs =
     omega (
@@ -152,16 +163,42 @@ returns-in-Err-admit-clause-answers g c = λ ls it.
     (task_in c.in-Some.state) spelled some.1
     (c.if-state-number.false ∙ c.count-number.ensures
     ∙ served_count h tasks ls it.2 c.args.self.now it.3)
-    (omega (arith, c.if-state-self.false, ap (λ (x : Head). x.mark) it.3.head)) in
+    (omega (arith, c.if-state-self.false, ap (λ (x : Head). x.mark) it.3.about.head)) in
     (h, tasks ++ task_in c.in-Some.state ∷ [], read.reads)
 
-pub returns-in-Ok-admit-clause-jobs : goal.returns-in-Ok-admit-clause-jobs
-returns-in-Ok-admit-clause-jobs g c = λ ls it.
-    jobs_now c.admit.new.self (ls ++ c.args.line.now ∷ []) (returns-in-Ok-admit-clause-answers g c ls it)
+pub returns-in-Ok-push-clause-jobs : goal.returns-in-Ok-push-clause-jobs
+returns-in-Ok-push-clause-jobs g c = λ ls it.
+    jobs_now _ (ls ++ c.args.line.now ∷ []) (returns-in-Ok-push-clause-answers g c ls it)
 
-pub returns-in-Err-admit-clause-jobs : goal.returns-in-Err-admit-clause-jobs
-returns-in-Err-admit-clause-jobs g c = λ ls it. jobs_left c.args.self.now ls it c.args.line.now
-    c.admit.new.self.server.server.ready.jobs c.in-Err-admit.ensures.err
+pub returns-in-Err-push-clause-jobs : goal.returns-in-Err-push-clause-jobs
+returns-in-Err-push-clause-jobs g c = λ ls (h, tasks, read, it).
+    let more : length tasks < h.jobs =
+    omega (
+      arith,
+      c.requires.more,
+      served_count h tasks ls read c.args.self.now it,
+      jobs_count h tasks ls read c.args.self.now it,
+    ) in
+    let some = c.in-Some-hand_job.ensures.some h tasks it.fed (room h tasks ls read c.args.self.now it more) in
+    let spelled = sym c.read_state.ensures ∙ ap (option_map task_in) c.in-Some.is in
+    let number : c.in-Some.state.number ≡ length tasks =
+    c.if-state-number.false ∙ c.count-number.ensures ∙ served_count h tasks ls read c.args.self.now it in
+    let more_read : HasRead h (tasks ++ task_in c.in-Some.state ∷ []) (ls ++ c.args.line.now ∷ []) =
+    read_more h tasks ls read c.args.self.now it c.args.line.now more (task_in c.in-Some.state) spelled some.1 number
+    (omega (arith, c.if-state-self.false, ap (λ (x : Head). x.mark) it.about.head)) in
+    let run : HasRun c.admit.new.self h (tasks ++ task_in c.in-Some.state ∷ []) c.in-Some-hand_job.job.release =
+    c.in-Ok.ensures.run h tasks (task_in c.in-Some.state)
+    (same_about c.args.self.now _ h tasks refl refl it.about)
+    (same_run c.args.self.now _ h tasks c.args.self.now.last refl refl refl
+    (run_at h tasks ls read c.args.self.now it c.args.line.now more (task_in c.in-Some.state) spelled some.1))
+    (may_admit h tasks ls read c.args.self.now it c.args.line.now more (task_in c.in-Some.state) spelled some.1
+    c.in-Some-hand_job.job some.0) (sym some.0) number in
+    subst (λ reading. c.admit.new.self.server.server.ready.jobs ≤ jobs_read reading) (sym more_read.reads)
+    (omega (
+      arith,
+      jobs_run c.admit.new.self h (tasks ++ task_in c.in-Some.state ∷ [])
+          c.in-Some-hand_job.job.release run,
+    ))
 
 pub returns-then-state-self-clause-answers : goal.returns-then-state-self-clause-answers
 returns-then-state-self-clause-answers g c = λ ls it.
@@ -178,7 +215,7 @@ returns-then-state-self-clause-answers g c = λ ls it.
       arith,
       low,
       c.if-state-self.true,
-      ap (λ (x : Head). x.mark) it.3.head,
+      ap (λ (x : Head). x.mark) it.3.about.head,
     )))
 
 pub returns-then-state-self-clause-jobs : goal.returns-then-state-self-clause-jobs
@@ -190,5 +227,6 @@ returns-in_default-hand_job-clause-jobs g c = λ ls it. jobs_stay c.args.self.no
     c.args.self.now.server.server.ready.jobs (omega arith)
 
 pub returns-in-Err-clause-jobs : goal.returns-in-Err-clause-jobs
-returns-in-Err-clause-jobs g c = λ ls it. jobs_stay c.args.self.now ls it c.args.line.now
-    c.args.self.now.server.server.ready.jobs (omega arith)
+returns-in-Err-clause-jobs g c = λ ls it. jobs_left c.args.self.now ls it c.args.line.now
+    c.admit.new.self.server.server.ready.jobs (λ h tasks run. c.in-Err.ensures.err h tasks
+    (same_run c.args.self.now _ h tasks c.args.self.now.last refl refl refl run))

@@ -1,0 +1,345 @@
+-- The early finishes of a session are those of the jobs that are done with work left at its mark.
+use Rattle.std.proofs.Common.{◌≡◌, ◌⊎◌, ℕ, ◌+◌, ◌≤◌, ◌<◌, max, inl, inr, List, [], ◌∷◌, ◌++◌, length, length-append}
+use Rattle.std.proofs.Common.{append_assoc, append-nil, refl, sym, ap, ◌∙◌, subst, arith, Bool, true, false, cond, eqb}
+use Rattle.std.proofs.lemmas.Bool.{eq-eqb, and_parts, ltb-true, lt-ltb}
+use Rattle.std.proofs.lemmas.List.Elements.{filter_map-append}
+use Rattle.std.specs.Prelude.{nat_lt, ◌==◌, ◌&&◌, not}
+use Rattle.dover_model.specs.JobFacts.{JobFacts}
+use Rattle.dover_model.specs.declared.events.Event.TheVariants.{Complete}
+use Rattle.dover_model.specs.declared.events.Role.{Role}
+use Rattle.dover_model.specs.declared.events.Role.TheVariants.{Done, Running}
+use Rattle.dover_model.specs.declared.events.Task.{Task}
+use Rattle.dover_model.specs.Finishes.{Finish, is_due, goes_on}
+use Rattle.dover_model.specs.Instance.{Declaration, Instance, IsValid, with_jobs, with_finishes}
+use Rattle.dover_model.specs.Paths.{HasPrinted}
+use Rattle.dover_model.specs.Processor.{is_complete}
+use Rattle.dover_model.specs.Session.{Item, JobItem, RefusedItem, FinishItem, Session, FollowsItems, mark_after}
+use Rattle.dover_model.specs.Session.{admitted_jobs, early_finishes, job_of_item, finish_of_item, instance_of}
+use Rattle.dover_model.specs.Session.{session_with}
+use Rattle.dover_model.specs.Session.{EarlyFinish, Refused}
+use Rattle.dover_model.specs.Settled.{waits_for_mark, settled, settled_state, finish_now, RunsAtMark}
+use Rattle.dover_model.specs.Sound.{IsMember, Each, Keeps}
+use Rattle.dover_model.specs.State.{State, is_over, left, with_later, to_come}
+use Rattle.dover_model.specs.Step.{Move, Prints, Ticks, open_step, after, with_role}
+use Rattle.dover_model.proofs.Barriers.{AtBarrier, settled_at_barrier}
+use Rattle.dover_model.proofs.Deeds.{Deed, Completed, Resumed, Started, Began, Preempted, Stayed, Arrived, Taken}
+use Rattle.dover_model.proofs.Deeds.{Abandoned, Rested}
+use Rattle.dover_model.proofs.Further.{next_at_mark, printed_at_mark}
+use Rattle.dover_model.proofs.Growing.{job_instance, refused_instance, finish_instance, Finishes, finishing_job}
+use Rattle.dover_model.proofs.Kept.{open_deed}
+use Rattle.dover_model.proofs.Meeting.{finishing_valid}
+use Rattle.dover_model.proofs.Members.{on_map, member_either, each_append}
+use Rattle.dover_model.proofs.OverFor.{due_member}
+use Rattle.dover_model.proofs.Paths.{printed_behind}
+use Rattle.dover_model.proofs.Readiness.{open_decides}
+use Rattle.dover_model.proofs.Resting.{come_above, numbers_below}
+use Rattle.dover_model.proofs.Roles.{one_number}
+use Rattle.dover_model.proofs.Settling.{at_barrier}
+use Rattle.dover_model.proofs.Tests.{never}
+use Rattle.dover_model.proofs.Valid.{valid_front}
+use Rattle.snapshot.proofs.Paces.{HasCome, comes, printed_later}
+
+-- ---- the job that runs at a barrier
+
+-- it has work left
+pub runner_left : (J : Instance) → IsValid J → (mark : ℕ) (r : Task) → IsMember r (settled_state J mark).tasks
+    → r.role ≡ Running → 1 ≤ left r
+runner_left J valid mark r member runs =
+    by_deed (open_step J.rules s) (open_deed J valid s bar.keeps J.rules)
+    (at_barrier (waits_for_mark (open_step J.rules s)) mark s.clock bar.barrier).0 where
+      s : State
+      s = settled_state J mark
+
+      bar : AtBarrier J mark s
+      bar = settled_at_barrier J valid mark
+
+      as_other : (q : Task) → IsMember q s.tasks → q.role ≡ Running → 1 ≤ left q → 1 ≤ left r
+      as_other q there ran some = subst (λ (t : Task). 1 ≤ left t)
+          (one_number 0 s.tasks bar.keeps.sound.numbered q r there member
+          (bar.keeps.sound.one_runs q r there member ran runs)) some
+
+      by_deed : (m : Move) → Deed J.rules.ratio s Ticks m → waits_for_mark m ≡ true → 1 ≤ left r
+      by_deed m (Completed q there ran) late = never late
+      by_deed m (Resumed p there held none least why) late = never late
+      by_deed m (Started o there waiting none first fits next) late = never late
+      by_deed m (Began f there fresh none free) late = never late
+      by_deed m (Preempted q f there ran some f_there fresh before fits) late = never late
+      by_deed m (Stayed q f there ran some f_there fresh why) late = never late
+      by_deed m (Arrived c there comes now first stale busy free) late = never late
+      by_deed m (Taken q x there ran some x_there waiting now stale heavy) late = as_other q there ran some
+      by_deed m (Abandoned q x there ran some x_there waiting now stale light) late = as_other q there ran some
+      by_deed m (Rested quiet) late = quiet.busy r member runs
+
+-- where it may finish, it has had some ticks
+had_some : (J : Instance) → IsValid J → (mark : ℕ) (r : Task) → RunsAtMark J mark r → 0 < r.had
+had_some J valid mark r at = by_due (is_due K.rules.finishes r) refl where
+  K : Instance
+  K = with_finishes J (finish_now r ∷ [])
+
+  s : State
+  s = settled_state J mark
+
+  bar : AtBarrier J mark s
+  bar = settled_at_barrier J valid mark
+
+  keeps : Keeps K s
+  keeps = record { sound = bar.keeps.sound; jobs = bar.keeps.jobs }
+
+  ends : goes_on K.rules.finishes r ≡ false
+  ends = (open_decides s keeps.sound K.rules).ends
+      (ap is_complete (next_at_mark J valid mark r at)) r at.member at.runs
+
+  by_due : (b : Bool) → is_due K.rules.finishes r ≡ b → 0 < r.had
+  by_due true due = let it = due_member K.rules.finishes r due in
+      ltb-true 0 r.had (and_parts ((it.0.number == r.number) && (it.0.had == r.had)) (nat_lt 0 r.had) it.2).1
+  by_due false none = never (sym ends ∙ ap (λ b. nat_lt 0 (left r) && not b) none
+      ∙ ap (λ b. b && true) (lt-ltb 0 (left r)
+      (let some : 1 ≤ left r = runner_left J valid mark r at.member at.runs in omega arith)))
+
+-- ---- item by item
+
+-- behind these items, each of their early finishes has come at the mark, and is of one of their jobs
+abbrev pub HaveCome : Declaration → List Item → ℕ → Type 0
+HaveCome rules items mark = Each (λ f. (0 < f.had) × (f.number < length (admitted_jobs items))
+    × HasCome f (settled_state (instance_of (session_with rules items)) mark)) (early_finishes items)
+
+module _ (rules : Declaration) where
+  abbrev session : List Item → Session
+  session items = session_with rules items
+
+  -- at a later mark
+  come_later : (items : List Item) (mark later : ℕ) → IsValid (instance_of (session items)) → mark ≤ later
+      → HaveCome rules items mark → HaveCome rules items later
+  come_later items mark later valid ordered it f member =
+      let was = it f member in (
+        was.0,
+        was.1,
+        comes (instance_of (session items)) valid later (settled_state (instance_of (session items)) mark)
+            (settled (instance_of (session items)) mark)
+            (printed_later (instance_of (session items)) valid mark later ordered) f was.2,
+      )
+
+  -- with a job
+  come_job : (items : List Item) (j : JobFacts) → IsValid (instance_of (session (items ++ JobItem j ∷ [])))
+      → HaveCome rules items j.release → HaveCome rules (items ++ JobItem j ∷ []) j.release
+  come_job items j valid it = by_finishes (filter_map-append finish_of_item items (JobItem j ∷ [])
+      ∙ append-nil (early_finishes items)) where
+        J : Instance
+        J = instance_of (session items)
+
+        K : Instance
+        K = with_jobs J (j ∷ [])
+
+        is : instance_of (session (items ++ JobItem j ∷ [])) ≡ K
+        is = job_instance (session items) j
+
+        valid_K : IsValid K
+        valid_K = subst IsValid is valid
+
+        late : Each (λ (i : JobFacts). j.release ≤ i.release) (j ∷ [])
+        late i (inl e) = subst (λ (x : JobFacts). j.release ≤ x.release) (sym e) (omega arith)
+        late i (inr none) = absurd none
+
+        s : State
+        s = settled_state J j.release
+
+        there : HasPrinted K j.release (with_later s (to_come (length J.jobs) (j ∷ []))) (settled J j.release)
+        there = printed_behind J (j ∷ []) j.release s (settled J j.release) valid_K late
+            (printed_later J (valid_front J (j ∷ []) valid_K) j.release j.release (omega arith))
+
+        other : (f : Finish) → f.number < length J.jobs → (t : Task) → IsMember t (to_come (length J.jobs) (j ∷ []))
+            → t.number ≡ f.number → ⊥
+        other f low t member same = let above : length J.jobs ≤ t.number =
+            come_above (length J.jobs) (j ∷ []) t member in omega (arith, low)
+
+        come_there : (f : Finish) → f.number < length J.jobs → HasCome f s
+            → HasCome f (with_later s (to_come (length J.jobs) (j ∷ [])))
+        come_there f low come = (
+          each_append (λ t. t.number ≡ f.number → (f.had ≤ t.had) × (f.had < t.job.work)) s.tasks
+              (to_come (length J.jobs) (j ∷ [])) come.0 (λ t member same. absurd (other f low t member same)),
+          λ g m. each_append (λ t. t.number ≡ g.number → is_over t ≡ true) s.tasks (to_come (length J.jobs) (j ∷ []))
+              (come.1 g m) (λ t member same. absurd (other f low t member (same ∙ number_of g m))),
+        ) where
+          number_of : (g : Finish) → IsMember g (f ∷ []) → g.number ≡ f.number
+          number_of g (inl e) = ap (λ (x : Finish). x.number) e
+          number_of g (inr none) = absurd none
+
+        more : length (admitted_jobs (items ++ JobItem j ∷ [])) ≡ length J.jobs + 1
+        more = omega (arith, ap (λ (L : Instance). length L.jobs) is, length-append J.jobs (j ∷ []))
+
+        by_finishes : early_finishes (items ++ JobItem j ∷ []) ≡ early_finishes items
+            → HaveCome rules (items ++ JobItem j ∷ []) j.release
+        by_finishes same f member =
+            let was = it f (subst (IsMember f) same member) in (
+              was.0,
+              omega (arith, was.1, more),
+              subst (λ L. HasCome f (settled_state L j.release)) (sym is)
+                  (comes K valid_K j.release (with_later s (to_come (length J.jobs) (j ∷ []))) (settled J j.release)
+                  there f (come_there f was.1 was.2)),
+            )
+
+  -- with a refused line
+  come_refused : (items : List Item) (r : Refused) (mark : ℕ) → HaveCome rules items mark
+      → HaveCome rules (items ++ RefusedItem r ∷ []) mark
+  come_refused items r mark it f member =
+      let is : instance_of (session (items ++ RefusedItem r ∷ [])) ≡ instance_of (session items) =
+      refused_instance (session items) r in
+      let was = it f (subst (IsMember f) (ap (λ (L : Instance). L.rules.finishes) is) member) in (
+        was.0,
+        omega (arith, was.1, ap (λ (L : Instance). length L.jobs) is),
+        subst (λ L. HasCome f (settled_state L mark)) (sym is) was.2,
+      )
+
+  -- with an early finish
+  come_finish : (items : List Item) (e : EarlyFinish) → IsValid (instance_of (session items))
+      → Finishes (session items) e → HaveCome rules items e.at
+      → HaveCome rules (items ++ FinishItem e ∷ []) e.at
+  come_finish items e valid says it = λ f member. by_member f
+      (member_either (early_finishes items) (e.finish ∷ []) f
+      (subst (IsMember f) (ap (λ (L : Instance). L.rules.finishes) is) member)) where
+        J : Instance
+        J = instance_of (session items)
+
+        r : Task
+        r = says.job
+
+        s : State
+        s = settled_state J e.at
+
+        is : instance_of (session (items ++ FinishItem e ∷ [])) ≡ with_finishes J (e.finish ∷ [])
+        is = finish_instance (session items) e
+
+        K : Instance
+        K = with_finishes J (finish_now r ∷ [])
+
+        is_K : instance_of (session (items ++ FinishItem e ∷ [])) ≡ K
+        is_K = is ∙ ap (λ f. with_finishes J (f ∷ [])) says.is
+
+        valid_K : IsValid K
+        valid_K = finishing_valid J (J.rules.finishes ++ finish_now r ∷ []) valid
+
+        bar : AtBarrier J e.at s
+        bar = settled_at_barrier J valid e.at
+
+        z : State
+        z = after s (Prints (Complete e.at r.number))
+
+        role_now : Task → Role
+        role_now t = cond (eqb t.number r.number) Done t.role
+
+        over_still : (t : Task) → is_over t ≡ true → is_over (with_role t (role_now t)) ≡ true
+        over_still t over = by_number (eqb t.number r.number) where
+          by_number : (b : Bool) → is_over (with_role t (cond b Done t.role)) ≡ true
+          by_number true = refl
+          by_number false = over
+
+        over_now : (t : Task) → t.number ≡ r.number → is_over (with_role t (role_now t)) ≡ true
+        over_now t same = ap (λ b. is_over (with_role t (cond b Done t.role))) (eq-eqb t.number r.number same)
+
+        old_there : (f : Finish) → HasCome f s → HasCome f z
+        old_there f come = (
+          on_map (λ t. with_role t (role_now t)) (λ t. t.number ≡ f.number → (f.had ≤ t.had) × (f.had < t.job.work))
+              s.tasks come.0,
+          λ g m. on_map (λ t. with_role t (role_now t)) (λ t. t.number ≡ g.number → is_over t ≡ true) s.tasks
+              (λ t member same. over_still t (come.1 g m t member same)),
+        )
+
+        same_job : (t : Task) → IsMember t s.tasks → t.number ≡ r.number → t ≡ r
+        same_job t member same = one_number 0 s.tasks bar.keeps.sound.numbered t r member says.runs.member same
+
+        left_r : 1 ≤ left r
+        left_r = runner_left J valid e.at r says.runs.member says.runs.runs
+
+        new_there : HasCome (finish_now r) z
+        new_there = (
+          on_map (λ t. with_role t (role_now t)) (λ t. t.number ≡ r.number → (r.had ≤ t.had) × (r.had < t.job.work))
+              s.tasks (λ t member same. subst (λ (x : Task). (r.had ≤ x.had) × (r.had < x.job.work))
+              (sym (same_job t member same)) (omega arith, omega (arith, left_r))),
+          λ g m. on_map (λ t. with_role t (role_now t)) (λ t. t.number ≡ g.number → is_over t ≡ true) s.tasks
+              (λ t member same. over_now t (same ∙ number_of g m)),
+        ) where
+          number_of : (g : Finish) → IsMember g (finish_now r ∷ []) → g.number ≡ r.number
+          number_of g (inl e) = ap (λ (x : Finish). x.number) e
+          number_of g (inr none) = absurd none
+
+        at_barrier_K : (f : Finish) → HasCome f z
+            → HasCome f (settled_state (instance_of (session (items ++ FinishItem e ∷ []))) e.at)
+        at_barrier_K f come = subst (λ L. HasCome f (settled_state L e.at)) (sym is_K)
+            (comes K valid_K e.at z (settled J e.at ++ Complete e.at r.number ∷ [])
+            (printed_at_mark J valid e.at r says.runs) f come)
+
+        count : length (admitted_jobs (items ++ FinishItem e ∷ [])) ≡ length J.jobs
+        count = ap (λ (L : Instance). length L.jobs) is
+
+        by_member : (f : Finish) → IsMember f (early_finishes items) ⊎ IsMember f (e.finish ∷ [])
+            → (0 < f.had) × (f.number < length (admitted_jobs (items ++ FinishItem e ∷ [])))
+            × HasCome f (settled_state (instance_of (session (items ++ FinishItem e ∷ []))) e.at)
+        by_member f (inl old) = let was = it f old in
+            (was.0, omega (arith, was.1, count), at_barrier_K f (old_there f was.2))
+        by_member f (inr (inr none)) = absurd none
+        by_member f (inr (inl new)) = subst (λ g. (0 < g.had)
+            × (g.number < length (admitted_jobs (items ++ FinishItem e ∷ [])))
+            × HasCome g (settled_state (instance_of (session (items ++ FinishItem e ∷ []))) e.at))
+            (sym (new ∙ says.is)) (
+              had_some J valid e.at r says.runs,
+              omega (arith, count, numbers_below J s bar.keeps r says.runs.member),
+              at_barrier_K (finish_now r) new_there,
+            )
+
+  -- the jobs of the first items are valid
+  pub front_valid : (items more : List Item) → IsValid (instance_of (session (items ++ more)))
+      → IsValid (instance_of (session items))
+  front_valid items more valid = finishing_valid front (early_finishes items) (valid_front front (admitted_jobs more)
+      (subst (λ jobs. IsValid (record { rules = all.rules; jobs = jobs }))
+      (filter_map-append job_of_item items more) valid)) where
+        all : Instance
+        all = instance_of (session (items ++ more))
+
+        front : Instance
+        front = record { rules = all.rules; jobs = admitted_jobs items }
+
+  all_come : (items : List Item) (mark : ℕ) (more : List Item) → IsValid (instance_of (session (items ++ more)))
+      → FollowsItems rules items mark more → HaveCome rules items mark
+      → HaveCome rules (items ++ more) (mark_after mark more)
+  all_come items mark [] valid follows it =
+      subst (λ is. HaveCome rules is mark) (sym (append-nil items)) it
+  all_come items mark (JobItem j ∷ more) valid follows it =
+      let split : (items ++ JobItem j ∷ []) ++ more ≡ items ++ JobItem j ∷ more = append_assoc items
+          (JobItem j ∷ []) more in
+      let all : IsValid (instance_of (session ((items ++ JobItem j ∷ []) ++ more))) =
+      subst (λ is. IsValid (instance_of (session is))) (sym split) valid in
+      let next : IsValid (instance_of (session (items ++ JobItem j ∷ []))) =
+      front_valid (items ++ JobItem j ∷ []) more all in
+      let same : max mark j.release ≡ j.release = omega (arith, follows.0.no_fall) in
+      subst (λ is. HaveCome rules is (mark_after (max mark j.release) more)) split
+      (all_come (items ++ JobItem j ∷ []) (max mark j.release) more all follows.1
+      (subst (HaveCome rules (items ++ JobItem j ∷ [])) (sym same)
+      (come_job items j next (come_later items mark j.release (front_valid items (JobItem j ∷ []) next)
+      follows.0.no_fall it))))
+  all_come items mark (RefusedItem r ∷ more) valid follows it =
+      let split : (items ++ RefusedItem r ∷ []) ++ more ≡ items ++ RefusedItem r ∷ more =
+      append_assoc items (RefusedItem r ∷ []) more in
+      let all : IsValid (instance_of (session ((items ++ RefusedItem r ∷ []) ++ more))) =
+      subst (λ is. IsValid (instance_of (session is))) (sym split) valid in
+      let here : IsValid (instance_of (session items)) = front_valid items (RefusedItem r ∷ more) valid in
+      subst (λ is. HaveCome rules is (mark_after (max mark r.at) more)) split
+      (all_come (items ++ RefusedItem r ∷ []) (max mark r.at) more all follows.1
+      (come_refused items r (max mark r.at) (come_later items mark (max mark r.at) here (omega arith) it)))
+  all_come items mark (FinishItem e ∷ more) valid follows it =
+      let split : (items ++ FinishItem e ∷ []) ++ more ≡ items ++ FinishItem e ∷ more =
+      append_assoc items (FinishItem e ∷ []) more in
+      let all : IsValid (instance_of (session ((items ++ FinishItem e ∷ []) ++ more))) =
+      subst (λ is. IsValid (instance_of (session is))) (sym split) valid in
+      let here : IsValid (instance_of (session items)) = front_valid items (FinishItem e ∷ more) valid in
+      let same : max mark e.at ≡ e.at = omega (arith, follows.0.no_fall) in
+      subst (λ is. HaveCome rules is (mark_after (max mark e.at) more)) split
+      (all_come (items ++ FinishItem e ∷ []) (max mark e.at) more all follows.1
+      (subst (HaveCome rules (items ++ FinishItem e ∷ [])) (sym same)
+      (come_finish items e here (finishing_job (session items) e follows.0.right)
+      (come_later items mark e.at here follows.0.no_fall it))))
+
+  -- each early finish of a session has come at its mark
+  pub session_come : (items : List Item) (mark : ℕ) → IsValid (instance_of (session items))
+      → FollowsItems rules [] 0 items → mark_after 0 items ≤ mark → HaveCome rules items mark
+  session_come items mark valid follows low = come_later items (mark_after 0 items) mark valid low
+      (all_come [] 0 items valid follows (λ f none. absurd none))

@@ -1,0 +1,147 @@
+-- How a run goes on from a state to the barrier of a mark: no job has more ticks than pass, and jobs that are over stay
+-- so.
+use Rattle.std.proofs.Common.{◌≡◌, ℕ, ◌+◌, ◌≤◌, ◌<◌, List, [], ◌∷◌, ◌++◌, refl, sym, ◌∙◌, subst, arith}
+use Rattle.std.proofs.Common.{Bool, true, false, cond, eqb}
+use Rattle.dover_model.specs.declared.events.Event.{Event}
+use Rattle.dover_model.specs.declared.events.Role.TheVariants.{Waiting}
+use Rattle.dover_model.specs.declared.events.Task.{Task}
+use Rattle.dover_model.specs.Finishes.{Finish}
+use Rattle.dover_model.specs.JobFacts.{JobFacts}
+use Rattle.dover_model.specs.Instance.{Instance, IsValid}
+use Rattle.dover_model.specs.Paths.{IsOpenPath, HasPrinted}
+use Rattle.dover_model.specs.Run.{Step}
+use Rattle.dover_model.specs.Settled.{settled, settled_steps, settled_state, AreOverFor}
+use Rattle.dover_model.specs.Sound.{Each, Keeps}
+use Rattle.dover_model.specs.State.{State, opening, is_running}
+use Rattle.dover_model.specs.Step.{Move, Prints, Waits, Ticks, open_step, after, with_role, role_after, ticked}
+use Rattle.dover_model.specs.WholeRun.{IsBarrier}
+use Rattle.dover_model.proofs.Ending.{potential}
+use Rattle.dover_model.proofs.Kept.{Moved, move_of, open_kept, opening_keeps}
+use Rattle.dover_model.proofs.Members.{on_map}
+use Rattle.dover_model.proofs.OverFor.{over_after}
+use Rattle.dover_model.proofs.Paths.{path_append, path_keeps, path_later, path_ready, path_then_settled}
+use Rattle.dover_model.proofs.Paths.{one_settled_run}
+use Rattle.dover_model.proofs.Readiness.{IsReady, opening_ready}
+use Rattle.dover_model.proofs.Resting.{path_state, settled_path}
+use Rattle.dover_model.proofs.Settling.{Settles, settles, settled_is_run}
+
+-- ---- the way to the barrier
+
+-- steps from a state to the barrier
+pub record GoesOn (J : Instance) (mark : ℕ) (s : State) : Type 0 where
+  pub steps : List Step
+  pub path : IsOpenPath J.rules mark s steps (settled_state J mark)
+  pub keeps : Keeps J s
+
+-- from each state before the barrier
+pub goes_on : (J : Instance) → IsValid J → (mark : ℕ) (s : State) (events : List Event) → HasPrinted J mark s events
+    → GoesOn J mark s
+goes_on J valid mark s events it = record {
+  steps = rest.0;
+  path = subst (IsOpenPath J.rules mark s rest.0) (sym there) way.1;
+  keeps = keeps;
+} where
+  keeps : Keeps J s
+  keeps = path_keeps J valid mark it.steps (opening J.jobs) s (opening_keeps J) it.path
+
+  ready : IsReady J.rules.finishes s
+  ready = path_ready J valid mark it.steps (opening J.jobs) s (opening_keeps J)
+      (opening_ready J.rules.finishes J.jobs) it.path
+
+  rest : Settles J.rules mark s (potential J.rules.finishes mark s)
+  rest = settles J valid J.rules mark (potential J.rules.finishes mark s) s keeps ready (omega arith)
+
+  way : (t : State) × IsOpenPath J.rules mark s rest.0 t × IsBarrier J.rules mark t
+  way = settled_path J.rules mark rest.0 s rest.1
+
+  same_steps : settled_steps J mark ≡ it.steps ++ rest.0
+  same_steps = one_settled_run J.rules mark (settled_steps J mark) (it.steps ++ rest.0) (opening J.jobs)
+      (settled_is_run J mark valid)
+      (path_then_settled J.rules mark it.steps rest.0 (opening J.jobs) s it.path rest.1)
+
+  there : settled_state J mark ≡ way.0
+  there = path_state J.rules mark (settled_steps J mark) (opening J.jobs) way.0
+      (subst (λ steps. IsOpenPath J.rules mark (opening J.jobs) steps way.0) (sym same_steps)
+      (path_append J.rules mark it.steps rest.0 (opening J.jobs) s way.0 it.path way.1))
+
+-- what is settled at a mark was printed before the barrier of a later one
+pub printed_later : (J : Instance) → IsValid J → (mark later : ℕ) → mark ≤ later
+    → HasPrinted J later (settled_state J mark) (settled J mark)
+printed_later J valid mark later ordered = record {
+  steps = settled_steps J mark;
+  path = subst (IsOpenPath J.rules later (opening J.jobs) (settled_steps J mark))
+      (sym (path_state J.rules mark (settled_steps J mark) (opening J.jobs) there.0 there.1))
+      (path_later J.rules mark later ordered (settled_steps J mark) (opening J.jobs) there.0 there.1);
+  prints = refl;
+} where
+  there : (t : State) × IsOpenPath J.rules mark (opening J.jobs) (settled_steps J mark) t
+      × IsBarrier J.rules mark t
+  there = settled_path J.rules mark (settled_steps J mark) (opening J.jobs) (settled_is_run J mark valid)
+
+-- ---- what a job has had
+
+-- the job of this number has had less than so many ticks, of which it had so many at this clock, if it ran since
+abbrev pub HasLess : (number had clock : ℕ) → State → Type 0
+HasLess n h k s = Each (λ t. t.number ≡ n → t.had + k < h + s.clock) s.tasks
+
+-- so it is after a step
+pub less_after : (n h k : ℕ) (s : State) (m : Move) → HasLess n h k s → HasLess n h k (after s m)
+less_after n h k s (Prints e) less =
+    on_map (λ t. with_role t (role_after e t.number t.role))
+    (λ t. t.number ≡ n → t.had + k < h + s.clock) s.tasks less
+less_after n h k s (Waits m) less = on_map (λ t. with_role t (cond (eqb t.number m) Waiting t.role))
+    (λ t. t.number ≡ n → t.had + k < h + s.clock) s.tasks less
+less_after n h k s Ticks less = on_map ticked (λ t. t.number ≡ n → t.had + k < h + (s.clock + 1)) s.tasks
+    (λ t member same. by t (is_running t) (less t member same)) where
+      by : (t : Task) (b : Bool) → t.had + k < h + s.clock → cond b (t.had + 1) t.had + k < h + (s.clock + 1)
+      by t true low = omega arith
+      by t false low = omega arith
+
+-- and at the end of a path
+pub less_on : (J : Instance) (mark n h k : ℕ) (xs : List Step) (s t : State) → IsOpenPath J.rules mark s xs t
+    → HasLess n h k s → HasLess n h k t
+less_on J mark n h k [] s t here less = subst (HasLess n h k) (sym here) less
+less_on J mark n h k (x ∷ xs) s t path less =
+    less_on J mark n h k xs (after s (open_step J.rules s)) t path.2 (less_after n h k s (open_step J.rules s) less)
+
+-- ---- jobs that are over
+
+-- the job of the finish is over, and has had as much, which is less than its work
+abbrev pub HasCome : Finish → State → Type 0
+HasCome f s = Each (λ t. t.number ≡ f.number → (f.had ≤ t.had) × (f.had < t.job.work)) s.tasks × AreOverFor (f ∷ []) s
+
+come_after : (J : Instance) → IsValid J → (s : State) → Keeps J s → (f : Finish) → HasCome f s
+    → HasCome f (after s (open_step J.rules s))
+come_after J valid s keeps f it = (
+  subst (Each (λ t. t.number ≡ f.number → (f.had ≤ t.had) × (f.had < t.job.work))) (sym moved.tasks)
+      (on_map moved.by (λ t. t.number ≡ f.number → (f.had ≤ t.had) × (f.had < t.job.work)) s.tasks (λ t member same.
+      let was = it.0 t member (sym (moved.number t) ∙ same) in
+      let grows : t.had ≤ (moved.by t).had = moved.had t in (
+        omega (arith, was.0, grows),
+        subst (λ (j : JobFacts). f.had < j.work) (sym (moved.job t)) was.1,
+      ))),
+  over_after J valid s keeps J.rules (f ∷ []) it.1,
+) where
+  moved : Moved s (after s (open_step J.rules s))
+  moved = move_of s (open_step J.rules s)
+
+-- so it is at the end of a path
+come_on : (J : Instance) → IsValid J → (mark : ℕ) (f : Finish) (xs : List Step) (s t : State) → Keeps J s
+    → IsOpenPath J.rules mark s xs t → HasCome f s → HasCome f t
+come_on J valid mark f [] s t keeps here it = subst (HasCome f) (sym here) it
+come_on J valid mark f (x ∷ xs) s t keeps path it = come_on J valid mark f xs (after s (open_step J.rules s)) t
+    (open_kept J valid s keeps J.rules) path.2 (come_after J valid s keeps f it)
+
+-- and at the barrier
+pub comes : (J : Instance) → IsValid J → (mark : ℕ) (s : State) (events : List Event) → HasPrinted J mark s events
+    → (f : Finish) → HasCome f s → HasCome f (settled_state J mark)
+comes J valid mark s events it f come =
+    let way : GoesOn J mark s = goes_on J valid mark s events it in
+    come_on J valid mark f way.steps s (settled_state J mark) way.keeps way.path come
+
+-- the same of what a job has had less of
+pub stays_less : (J : Instance) → IsValid J → (mark : ℕ) (s : State) (events : List Event) → HasPrinted J mark s events
+    → (n h k : ℕ) → HasLess n h k s → HasLess n h k (settled_state J mark)
+stays_less J valid mark s events it n h k less =
+    let way : GoesOn J mark s = goes_on J valid mark s events it in
+    less_on J mark n h k way.steps s (settled_state J mark) way.path less

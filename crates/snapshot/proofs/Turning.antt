@@ -1,0 +1,299 @@
+-- What a reader knows of the marks to which it takes a run, and of the early finishes that come there.
+use Rattle.std.proofs.Common.{◌≡◌, ◌⊎◌, ℕ, ◌+◌, ◌-◌, ◌≤◌, ◌<◌, max, inl, inr, List, [], ◌∷◌, ◌++◌, length, map, refl}
+use Rattle.std.proofs.Common.{sym, ap}
+use Rattle.std.proofs.Common.{◌∙◌, subst, arith, Bool, true, false, not, Option, Some, None}
+use Rattle.std.specs.Prelude.{nat_le, is_some, IfSome}
+use Rattle.std.specs.List.{AllByRecursion}
+use Rattle.std.proofs.lemmas.Bool.{leb-true, leb-false}
+use Rattle.dover_model.specs.declared.events.Event.{Event}
+use Rattle.dover_model.specs.declared.events.Task.{Task}
+use Rattle.dover_model.specs.Instance.{Instance, IsValid, with_finishes}
+use Rattle.dover_model.specs.Limits.{last_tick}
+use Rattle.dover_model.specs.Paths.{HasPrinted}
+use Rattle.dover_model.specs.Ready.{is_ready}
+use Rattle.dover_model.specs.Rest.{IsAtRest, before_end}
+use Rattle.dover_model.specs.Run.{printed}
+use Rattle.dover_model.specs.Session.{Item, FinishItem, EarlyFinish, finish_at, instance_of, session_with}
+use Rattle.dover_model.specs.Settled.{settled, settled_steps, settled_state}
+use Rattle.dover_model.specs.Sound.{IsMember, Each, jobs_of}
+use Rattle.dover_model.specs.State.{State, opening, is_over, running, state_at}
+use Rattle.dover_model.specs.Horizons.{MayFollow}
+use Rattle.dover_model.specs.declared.horizon.Horizon.TheVariants.{Mark}
+use Rattle.dover_model.proofs.Apart.{settled_at_rest}
+use Rattle.dover_model.proofs.Barriers.{state_after}
+use Rattle.dover_model.proofs.Limiting.{jobs_most}
+use Rattle.dover_model.proofs.Members.{filter_member, some_same}
+use Rattle.dover_model.proofs.Paths.{path_settles, one_settled_run}
+use Rattle.dover_model.proofs.Resting.{path_state}
+use Rattle.dover_model.proofs.RestTick.{rests_where_ended}
+use Rattle.dover_model.proofs.Settling.{settled_is_run}
+use Rattle.dover_model.proofs.Tests.{never, none_is_some}
+use Rattle.dover_model.proofs.Valid.{all_from}
+use Rattle.ready_server.proofs.Rostered.{roster_rests}
+use Rattle.ready_server.specs.NextStep.{ComesAt}
+use Rattle.ready_server.specs.Roster.{Kept, Roll, IsRollOf, runner_at}
+use Rattle.ready_server.specs.Rostering.{Serves, Rests, Finishes, has_roster}
+use Rattle.ready_server.specs.declared.roster_server.RosterServer.{RosterServer}
+use Rattle.snapshot.specs.Snapshot.{Head}
+use Rattle.snapshot.specs.Forms.{head_in}
+use Rattle.snapshot.specs.Kept.{IsHandedIn, IsNearing, IsAbout, HasRun, ComesNear, stance_of}
+use Rattle.snapshot.specs.Kept.{next_early}
+use Rattle.snapshot.specs.declared.resuming.Resuming.{Resuming}
+use Rattle.snapshot.proofs.Counts.{good_few}
+use Rattle.snapshot.proofs.Going.{all_near, none_comes, one_comes, Comes, next_later, handed_finish, finish_run}
+use Rattle.snapshot.proofs.Going.{finish_mark}
+use Rattle.snapshot.proofs.Going.{finish_count, others_to_come}
+use Rattle.snapshot.proofs.Runner.{runner_is}
+
+-- ---- where a server rests
+
+module _ (v : RosterServer) (J : Instance) (at : ℕ) (it : Rests v J (Mark at)) where
+  valid : IsValid J
+  valid = it.rests.follows.valid
+
+  -- its jobs are those at the barrier
+  rested_there : settled_state J at ≡ state_at at it.rests.state.tasks
+  rested_there = ap (state_after (opening J.jobs)) same_steps
+      ∙ path_state J.rules at waits.steps (opening J.jobs) (state_at at it.rests.state.tasks) waits.path where
+        waits : HasPrinted J at (state_at at it.rests.state.tasks) (settled J at)
+        waits = it.rests.given.1.waits
+
+        same_steps : settled_steps J at ≡ waits.steps
+        same_steps = one_settled_run J.rules at (settled_steps J at) waits.steps (opening J.jobs)
+            (settled_is_run J at valid)
+            (path_settles J.rules at waits.steps (opening J.jobs) (state_at at it.rests.state.tasks) waits.path
+            it.rests.given.1.barrier)
+
+  -- the jobs of early finishes are over
+  pub over_there : Each (λ f. Each (λ t. t.number ≡ f.number → is_over t ≡ true) (settled_state J at).tasks)
+      J.rules.finishes
+  over_there f member = subst (λ (s : State). Each (λ t. t.number ≡ f.number → is_over t ≡ true) s.tasks)
+      (sym rested_there) (it.rests.follows.over f member)
+
+  -- its roster has the job that runs
+  pub runs_there : (k : Kept) → v.roster ≡ Some k → runner_at k.roll at ≡ running (settled_state J at)
+  runs_there k there = ap (λ (p : Roll). runner_at p at) (subst (IsRollOf (settled J at)) there it.read)
+      ∙ runner_is J valid at
+
+  -- where no job is ready, nothing more comes
+  module _ (none : v.server.ready.ready ≡ []) where
+    all_over : Each (λ t. is_over t ≡ true) it.rests.state.tasks
+    all_over t member = by (is_over t) refl where
+      by : (b : Bool) → is_over t ≡ b → b ≡ true
+      by true e = refl
+      by false e = absurd (subst (IsMember t) none
+          (it.rests.follows.ready.there t (filter_member is_ready it.rests.state.tasks t member (ap not e))))
+
+    rests_at : (m : ℕ) → IsAtRest J m → settled J m ≡ before_end (printed J)
+    rests_at m rest = settled_at_rest J m valid rest
+
+    at_rest : IsAtRest J at
+    at_rest = subst (λ (s : State). Each (λ t. is_over t ≡ true) s.tasks) (sym rested_there) all_over
+
+    pub idle_quiet : (later : ℕ) → at ≤ later → settled J later ≡ settled J at
+    idle_quiet later ordered =
+        let ended = (rests_where_ended J at valid).0 at_rest in
+        rests_at later ((rests_where_ended J later valid).1 (omega (arith, ended, ordered))) ∙ sym (rests_at at at_rest)
+
+  -- before the next step nothing more comes
+  pub next_quiet : (next later : ℕ) → ComesAt J at (settled J at) next → at < later
+      → later ≤ max (next - 1) (at + 1) → (later ≡ at + 1) ⊎ (settled J later ≡ settled J at)
+  next_quiet next later comes behind low = by (nat_le later (at + 1)) refl where
+    by : (b : Bool) → nat_le later (at + 1) ≡ b → (later ≡ at + 1) ⊎ (settled J later ≡ settled J at)
+    by true e = inl (let most : later ≤ at + 1 = leb-true later (at + 1) e in omega (arith, behind))
+    by false e = inr (comes.quiet later (omega (arith, behind))
+        (let more : at + 1 < later = leb-false later (at + 1) e in omega (arith, low)))
+
+-- ---- a reader
+
+-- a server that keeps a roster has one
+pub kept_roster : (v : RosterServer) → has_roster v ≡ true → (k : Kept) × (v.roster ≡ Some k)
+kept_roster v listed = by v.roster refl listed where
+  by : (o : Option Kept) → v.roster ≡ o → is_some o ≡ true → (k : Kept) × (v.roster ≡ Some k)
+  by None e none = never none
+  by (Some k) e some = (k, e)
+
+-- it is of the same jobs while head and stances stay
+pub same_about : (r new : Resuming) (h : Head) (tasks : List Task) → new.head ≡ r.head
+    → new.stances.items ≡ r.stances.items → IsAbout r h tasks → IsAbout new h tasks
+same_about r new h tasks head stances about = record {
+  head = ap head_in head ∙ about.head;
+  numbered = about.numbered;
+  stances = stances ∙ about.stances;
+}
+
+-- few items are handed in
+pub few_items : (v : RosterServer) (h : Head) (tasks : List Task) (items : List Item) (mark : ℕ) (many : ℕ)
+    → many ≡ length items → IsHandedIn h tasks items → Rests v (instance_of (session_with h.rules items)) (Mark mark)
+    → many ≤ 20_000_000_001
+few_items v h tasks items mark many is handed rests =
+    let valid : IsValid (instance_of (session_with h.rules items)) = rests.rests.follows.valid in
+    omega (
+      arith,
+      is,
+      good_few (session_with h.rules items) valid handed.follows handed.none_refused,
+      valid.count,
+      jobs_most h.rules.version,
+    )
+
+module _ (r : Resuming) (h : Head) (tasks : List Task) (about : IsAbout r h tasks) where
+  -- what its stances tell of the job that runs
+  next_as : (v : RosterServer) (J : Instance) (at : ℕ) → Rests v J (Mark at) → (k : Kept) → v.roster ≡ Some k
+      → next_early r.head.version r.stances.items at (runner_at k.roll at)
+      ≡ next_early h.rules.version (map stance_of tasks) at (running (settled_state J at))
+  next_as v J at rests k there = ap (λ (g : Head). next_early g.rules.version r.stances.items at (runner_at k.roll at))
+      about.head
+      ∙ ap (λ xs. next_early h.rules.version xs at (runner_at k.roll at)) about.stances
+      ∙ ap (next_early h.rules.version (map stance_of tasks) at) (runs_there v J at rests k there)
+
+  -- an early finish that is still to come is later
+  pub next_behind : (at : ℕ) → HasRun r h tasks at → (k : Kept) → r.server.roster ≡ Some k
+      → IfSome (next_early r.head.version r.stances.items at (runner_at k.roll at)) (λ p. at < p.1)
+  next_behind at run k there =
+      subst (λ o. IfSome o (λ p. at < p.1)) (sym (next_as r.server _ at run.served.rests k there))
+      (next_later h tasks run.items about.numbered at run.served.handed run.served.rests.rests.follows.valid
+      (over_there r.server _ at run.served.rests) run.served.to_come)
+
+  -- at the next mark one may come
+  pub comes_near : (at later : ℕ) → (run : HasRun r h tasks at) → (k : Kept) → r.server.roster ≡ Some k → at < later
+      → (later ≡ at + 1)
+      ⊎ (settled (instance_of (session_with h.rules run.items)) later
+      ≡ settled (instance_of (session_with h.rules run.items)) at)
+      → IfSome (next_early r.head.version r.stances.items at (runner_at k.roll at)) (λ p. later ≤ p.1)
+      → (v : RosterServer) → Rests v (instance_of (session_with h.rules run.items)) (Mark later)
+      → has_roster v ≡ true
+      → IsNearing v h tasks run.items later
+  comes_near at later run k there behind quiet ahead v rests listed = record {
+    handed = run.served.handed;
+    no_later = omega (arith, run.served.no_later, behind);
+    known = all_from (λ j. j.release ≤ at) (λ j. j.release ≤ later) (jobs_of tasks)
+        (λ j low. omega (arith, low, behind)) run.served.known;
+    rests = rests;
+    near = all_near h tasks run.items about.numbered at run.served.handed run.served.rests.rests.follows.valid
+        run.served.known run.served.to_come later behind quiet
+        (subst (λ o. IfSome o (λ p. later ≤ p.1)) (next_as r.server _ at run.served.rests k there) ahead);
+    listed = listed;
+  }
+
+  -- where a server is taken to the next mark, it comes near
+  module _ (at later : ℕ) (run : HasRun r h tasks at)
+      (after : (k : Kept) → r.server.roster ≡ Some k
+      → IfSome (next_early r.head.version r.stances.items at (runner_at k.roll at)) (λ p. at < p.1) → at < later) where
+    abbrev K : Instance
+    K = instance_of (session_with h.rules run.items)
+
+    roster : (k : Kept) × (r.server.roster ≡ Some k)
+    roster = kept_roster r.server run.served.listed
+
+    pub goes_behind : at < later
+    goes_behind = after roster.0 roster.1 (next_behind at run roster.0 roster.1)
+
+    pub serves_on : later ≤ last_tick → (J : Instance) × (m : ℕ) × (events : List Event)
+        × Serves r.server J (Mark m) events × MayFollow (Mark m) (Mark later)
+    serves_on known = (
+      K,
+      at,
+      settled K at,
+      roster_rests r.server K (Mark at) run.served.rests,
+      (omega (arith, goes_behind), known),
+    )
+
+    pub nears : later ≤ last_tick
+        → ((J : Instance) → Rests r.server J (Mark at) → AllByRecursion (λ j. j.release ≤ at) J.jobs → at < later
+        → (later ≡ at + 1) ⊎ (settled J later ≡ settled J at))
+        → ((k : Kept) → r.server.roster ≡ Some k
+        → IfSome (next_early r.head.version r.stances.items at (runner_at k.roll at)) (λ p. later ≤ p.1))
+        → (v : RosterServer) → ((J : Instance) (m : ℕ) (events : List Event) → Serves r.server J (Mark m) events
+        → MayFollow (Mark m) (Mark later) → Rests v J (Mark later)) → has_roster v ≡ has_roster r.server
+        → IsNearing v h tasks run.items later
+    nears known quiet ahead v rests listed = comes_near at later run roster.0 roster.1 goes_behind
+        (quiet K run.served.rests
+        (subst (AllByRecursion (λ j. j.release ≤ at)) (sym run.served.handed.jobs) run.served.known) goes_behind)
+        (ahead roster.0 roster.1) v
+        (rests K at (settled K at) (roster_rests r.server K (Mark at) run.served.rests)
+        (omega (arith, goes_behind), known))
+        (listed ∙ run.served.listed)
+
+  module _ (at : ℕ) (near : ComesNear r h tasks at) (k : Kept) (there : r.server.roster ≡ Some k) where
+    abbrev J : Instance
+    J = instance_of (session_with h.rules near.items)
+
+    abbrev now : Option (ℕ × ℕ)
+    now = next_early r.head.version r.stances.items at (runner_at k.roll at)
+
+    now_is : now ≡ next_early h.rules.version (map stance_of tasks) at (running (settled_state J at))
+    now_is = next_as r.server J at near.near.rests k there
+
+    -- where none comes, the run goes on
+    pub none_here : ((n : ℕ) → now ≡ Some (n, at) → ⊥) → HasRun r h tasks at
+    none_here other = record {
+      items = near.items;
+      counted = near.counted;
+      served = record {
+        handed = near.near.handed;
+        no_later = near.near.no_later;
+        known = near.near.known;
+        rests = near.near.rests;
+        to_come = none_comes h tasks near.items about.numbered at near.near.handed near.near.rests.rests.follows.valid
+            near.near.near (λ n e. other n (now_is ∙ e));
+        listed = near.near.listed;
+      };
+    }
+
+    module _ (n : ℕ) (is : now ≡ Some (n, at)) where
+      pub one : Comes h tasks near.items about.numbered at near.near.handed near.near.rests.rests.follows.valid
+          near.near.near n
+      one = one_comes h tasks near.items about.numbered at near.near.handed near.near.rests.rests.follows.valid
+          near.near.near (over_there r.server J at near.near.rests) n (sym now_is ∙ is)
+
+      -- it is right
+      pub never_wrong : (v : RosterServer) → Finishes r.server v J at n None → ⊥
+      never_wrong v wrong = none_is_some (sym wrong.0 ∙ one.right)
+
+      -- with it the run goes on
+      abbrev pub with_one : Instance
+      with_one = with_finishes J (one.finish ∷ [])
+
+      pub served_one : (v : RosterServer) (e : Event) → Finishes r.server v J at n (Some e)
+          → Serves v with_one (Mark at) (settled J at ++ e ∷ [])
+      served_one v e right = subst (λ (f : EarlyFinish). Serves v (with_finishes J (f.finish ∷ [])) (Mark at)
+          (settled J at ++ e ∷ []))
+          (some_same right.0 (record { at = at; finish = one.finish }) (sym right.1 ∙ one.right)) right.3
+
+      pub one_here : (new : Resuming) → at ≤ last_tick → new.handed ≡ r.handed + 1 → new.last ≡ at
+          → Rests new.server with_one (Mark at) → has_roster new.server ≡ true
+          → HasRun new h tasks at
+      one_here new known handed last rests listed =
+          let right : finish_at J at one.finish.number ≡ Some (record { at = at; finish = one.finish }) =
+          ap (finish_at J at) one.number ∙ one.right in
+          let valid_J : IsValid J = near.near.rests.rests.follows.valid in
+          let item : EarlyFinish = record { at = at; finish = one.finish } in
+          record {
+            items = near.items ++ FinishItem item ∷ [];
+            counted = record {
+              count = omega (
+                arith,
+                handed,
+                near.counted.count,
+                finish_count h tasks near.items at near.near.handed near.near.no_later known about.numbered valid_J
+                    one.finish one.stored right,
+              );
+              last = last ∙ sym (finish_mark h tasks near.items at near.near.handed near.near.no_later known
+                  about.numbered valid_J one.finish one.stored right);
+            };
+            served = record {
+              handed = handed_finish h tasks near.items at near.near.handed near.near.no_later known about.numbered
+                  valid_J one.finish one.stored right;
+              no_later = omega (
+                arith,
+                finish_mark h tasks near.items at near.near.handed near.near.no_later known
+                    about.numbered valid_J one.finish one.stored right,
+              );
+              known = near.near.known;
+              rests = subst (λ K. Rests new.server K (Mark at)) (sym (finish_run h tasks near.items at near.near.handed
+                  near.near.no_later known about.numbered valid_J one.finish one.stored right)) rests;
+              to_come = others_to_come h tasks near.items at near.near.handed near.near.no_later known about.numbered
+                  valid_J one.finish one.stored right near.near.near;
+              listed = listed;
+            };
+          }

@@ -1,0 +1,65 @@
+use Rattle.std.proofs.Common.{◌∙◌, ℕ, sym, ap, arith, refl, Some}
+use Rattle.dover_model.proofs.Members.{some_same}
+use Rattle.dover_model.proofs.Tests.{none_is_some}
+use Rattle.snapshot.proofs.Turning.{kept_roster, few_items, none_here, never_wrong, with_one, served_one, one_here}
+use Rattle.snapshot.proofs.resuming.Resuming.finish_due.Goals as goal
+
+pub returns-in_default-clause-run : goal.returns-in_default-clause-run
+returns-in_default-clause-run g c = λ h tasks about near.
+    let k = kept_roster c.args.self.now.server near.near.listed in
+    none_here c.args.self.now h tasks about c.args.at near k.0 k.1
+    (λ n is. none_is_some (c.in_default.ensures k.0 k.1 ∙ is))
+
+pub returns-then-tick-at-clause-run : goal.returns-then-tick-at-clause-run
+returns-then-tick-at-clause-run g c = λ h tasks about near.
+    let k = kept_roster c.args.self.now.server near.near.listed in
+    none_here c.args.self.now h tasks about c.args.at near k.0 k.1
+    (λ n is. c.if-tick-at.true (ap (λ (p : ℕ × ℕ). p.1)
+    (some_same (c.in-Some.number, c.in-Some.tick) (n, c.args.at) (c.in-Some.ensures k.0 k.1 ∙ is))))
+
+pub unreachable-requires : goal.unreachable-requires
+unreachable-requires g c =
+    let r = c.requires.near in
+    let k = kept_roster c.args.self.now.server r.3.near.listed in
+    never_wrong c.args.self.now r.0 r.1 r.2 c.args.at r.3 k.0 k.1 c.in-Some.number
+    (sym (c.in-Some.ensures k.0 k.1) ∙ ap (λ (t : ℕ). Some (c.in-Some.number, t)) c.if-tick-at.false)
+    c.finish.new.self (c.in-None.ensures.finishes _ r.3.near.rests)
+
+pub overflow_add-self : goal.overflow_add-self
+overflow_add-self g c =
+    let r = c.requires.near in
+    omega (
+      arith,
+      few_items c.args.self.now.server r.0 r.1 r.3.items c.args.at c.args.self.now.handed r.3.counted.count
+          r.3.near.handed r.3.near.rests,
+    )
+
+pub settle-requires : goal.settle-requires
+settle-requires g c =
+    let r = c.requires.near in
+    let k = kept_roster c.args.self.now.server r.3.near.listed in
+    let is = sym (c.in-Some.ensures k.0 k.1) ∙ ap (λ (t : ℕ). Some (c.in-Some.number, t)) c.if-tick-at.false in record {
+      serves = (
+        with_one c.args.self.now r.0 r.1 r.2 c.args.at r.3 k.0 k.1 c.in-Some.number is,
+        c.args.at,
+        _,
+        served_one c.args.self.now r.0 r.1 r.2 c.args.at r.3 k.0 k.1 c.in-Some.number is c.finish.new.self
+            c.in-Some-finish.field-0 (c.in-Some-finish.ensures.finishes _ r.3.near.rests),
+        (omega arith, c.requires.known),
+      );
+    }
+
+pub returns-clause-run : goal.returns-clause-run
+returns-clause-run g c = λ h tasks about near.
+    let k = kept_roster c.args.self.now.server near.near.listed in
+    let is = sym (c.in-Some.ensures k.0 k.1) ∙ ap (λ (t : ℕ). Some (c.in-Some.number, t)) c.if-tick-at.false in
+    one_here c.args.self.now h tasks about c.args.at near k.0 k.1 c.in-Some.number is _ c.requires.known refl refl
+    (c.settle.ensures.rests
+    (with_one c.args.self.now h tasks about c.args.at near k.0 k.1 c.in-Some.number is) c.args.at _
+    (served_one c.args.self.now h tasks about c.args.at near k.0 k.1 c.in-Some.number is c.finish.new.self
+    c.in-Some-finish.field-0 (c.in-Some-finish.ensures.finishes _ near.near.rests))
+    (omega arith, c.requires.known))
+    (c.settle.ensures.roster ∙ c.in-Some-finish.ensures.roster ∙ near.near.listed)
+
+pub returns-clause-paid : goal.returns-clause-paid
+returns-clause-paid g c = λ start paid. c.settle.ensures.paid start (c.in-Some-finish.ensures.paid start _ paid)

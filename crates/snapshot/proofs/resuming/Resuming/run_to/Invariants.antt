@@ -1,0 +1,21 @@
+use Rattle.std.proofs.Common.{◌≡◌, ℕ, List, ◌≤◌, ◌-◌}
+use Rattle.dover_model.specs.declared.events.Task.{Task}
+use Rattle.ready_server.specs.Rostering.{HasPlace, HasPaid}
+use Rattle.snapshot.specs.Snapshot.{Head}
+use Rattle.snapshot.specs.Kept.{IsAbout, HasRun}
+use Rattle.snapshot.proofs.resuming.Resuming.run_to.Given as goal
+
+-- the run was taken to here
+abbrev pub invariant-loop-at : goal.invariant-loop-at
+invariant-loop-at g l = record {
+  on : (h : Head) (tasks : List Task) → IsAbout l.initial.self h tasks → HasRun l.initial.self h tasks l.from
+      → HasRun l.self h tasks l.at;
+  low : l.at ≤ l.mark;
+  same : l.self ≡ record l.initial.self { server = l.self.server; handed = l.self.handed; last = l.self.last };
+  room : HasPlace l.initial.self.server → HasPlace l.self.server;
+  paid : (start : ℕ) → HasPaid l.initial.self.server start l.initial.steps → HasPaid l.self.server start l.steps;
+}
+
+-- how far it is to the mark
+abbrev pub decreases-loop-at : goal.decreases-loop-at
+decreases-loop-at g l = l.mark - l.at
