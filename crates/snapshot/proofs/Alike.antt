@@ -156,7 +156,7 @@ module _ (X : Session) (mark lines : ℕ) (holds : Holds X mark lines) where
         ≡ due_lines before ++ (map text_of more ++ refused_text r ∷ [])
     refused_adds r raised is =
         append-nil (texts_among (with_item X (RefusedItem r)) (settled (instance_of (with_item X
-            (RefusedItem r))) r.at))
+        (RefusedItem r))) r.at))
         ∙ texts_refused X r (reads_later X mark r.at holds.reads raised)
         ∙ ap (λ ls. ls ++ refused_text r ∷ []) (sym (append-nil (texts_among X (settled (instance_of X) r.at)))
         ∙ tick_adds r.at is)

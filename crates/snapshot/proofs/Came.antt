@@ -305,7 +305,7 @@ module _ (rules : Declaration) where
       subst (λ is. HaveCome rules is mark) (sym (append-nil items)) it
   all_come items mark (JobItem j ∷ more) valid follows it =
       let split : (items ++ JobItem j ∷ []) ++ more ≡ items ++ JobItem j ∷ more = append_assoc items
-          (JobItem j ∷ []) more in
+      (JobItem j ∷ []) more in
       let all : IsValid (instance_of (session ((items ++ JobItem j ∷ []) ++ more))) =
       subst (λ is. IsValid (instance_of (session is))) (sym split) valid in
       let next : IsValid (instance_of (session (items ++ JobItem j ∷ []))) =

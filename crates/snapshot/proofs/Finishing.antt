@@ -241,7 +241,7 @@ module _ (h : Head) (tasks : List Task) (ls : List (List ℕ)) (read : HasRead h
                 let all = and_parts (nat_lt (length run.items) h.lines && nat_le (mark_after 0 run.items) h.mark) _
                 tests in
                 let both = and_parts (nat_lt (length run.items) h.lines) (nat_le
-                    (mark_after 0 run.items) h.mark) all.0 in
+                (mark_after 0 run.items) h.mark) all.0 in
                 let some : length run.items < h.lines = ltb-true _ _ both.0 in
                 by (nat_le h.mark (mark_after 0 run.items)) (nat_lt (length run.items + 1) h.lines) refl refl all.1
                 (omega (arith, some, none, all_is)) where
@@ -298,7 +298,7 @@ module _ (h : Head) (tasks : List Task) (ls : List (List ℕ)) (read : HasRead h
                   by_account = subst (feed.KeepsAccount i) (sym account)
                       (keeps_paused i (subst (feed.KeepsAccount i) handed stands.by_account)
                       (run_jobs (stored h tasks) (finishing_valid (declared_jobs h tasks)
-                          (early_in h.rules.version tasks)
+                      (early_in h.rules.version tasks)
                       read.valid)));
                 };
                 account = account;

@@ -221,7 +221,7 @@ module _ (h : Head) (tasks : List Task) (items : List Item) (numbered : IsNumber
       work_of m u member own =
           let bar_m : AtBarrier J m (settled_state J m) = settled_at_barrier J valid m in
           let same : u.job ≡ t.job = same_number 0 (settled_state J m).tasks tasks u t bar_m.keeps.sound.numbered
-              numbered
+          numbered
           (bar_m.keeps.jobs ∙ handed.jobs) member there (own ∙ sym (ap (λ (g : Finish). g.number) says.is)) in
           subst (λ (j : JobFacts). f.had < j.work) (sym same)
           (omega (arith, says.less, ap (λ (g : Finish). g.had) says.is))
@@ -231,7 +231,7 @@ module _ (h : Head) (tasks : List Task) (items : List Item) (numbered : IsNumber
           let low : r.had < f.had = less r member own in
           let late : later ≤ at + (f.had - r.had) =
           subst (λ o. IfSome o (λ p. later ≤ p.1)) (next_of valid f three t there says r member runs own (omega
-              (arith, low)))
+          (arith, low)))
           ahead in omega (arith, low, ordered)
 
       pending : is_due J.rules.finishes probe ≡ false → IsNear J later f
@@ -278,7 +278,7 @@ module _ (h : Head) (tasks : List Task) (items : List Item) (numbered : IsNumber
             let same : t.had ≡ f.had = eqb-true t.had f.had e in
             let runs : t.role ≡ Running = ((it t there own).1 same).0 in
             absurd (never_now t.number (next_of valid f says.0 says.1 says.2 says.3 t there runs own (omega
-                (arith, same))
+            (arith, same))
             ∙ ap (λ n. Some (t.number, n)) (let e : at + (f.had - t.had) ≡ at = omega (arith, same) in e)))
 
       by : IsMember f (early_finishes items) ⊎ IsNear J at f → IsMember f (early_finishes items) ⊎ IsToCome J at f
@@ -329,7 +329,7 @@ module _ (h : Head) (tasks : List Task) (items : List Item) (numbered : IsNumber
             ap (λ (j : JobFacts). j.work) (job_same valid r t.0 r_there.0 t.1 (sym number)) in
             let both = and_parts (is_early r.job.work s) (nat_le r.had s.had) test in
             let pair : (r.number, at + (s.had - r.had)) ≡ (n, at) = some_same (r.number, at + (s.had - r.had))
-                (n, at) now in
+            (n, at) now in
             let tick : at + (s.had - r.had) ≡ at = ap (λ (p : ℕ × ℕ). p.1) pair in
             let low : r.had ≤ s.had = leb-true r.had s.had both.1 in
             let had : t.0.had ≡ s.had = ap (λ (x : Stance). x.had) t.3 in
@@ -394,7 +394,7 @@ module _ (h : Head) (tasks : List Task) (items : List Item) (at : ℕ) (handed :
       own = subst (Each (λ g. IsMember g (early_in h.rules.version tasks)))
           (sym (filter_map-append finish_of_item items (FinishItem item ∷ [])))
           (each_append (λ g. IsMember g (early_in h.rules.version tasks)) (early_finishes items)
-              (f ∷ []) handed.own own);
+          (f ∷ []) handed.own own);
     } where
       one : (i : Item) → IsMember i (FinishItem item ∷ []) → refused_of_item i ≡ None
       one i (inl e) = ap refused_of_item e
@@ -527,14 +527,13 @@ module _ (h : Head) (tasks : List Task) (items : List Item) (at : ℕ) (handed :
 
     pub handed_job : length tasks < most_ready → IsHandedIn h all with_job
     handed_job few = record {
-      follows = follows_behind h.rules [] 0 items (JobItem t.job ∷ []) handed.follows
-          (
-            record {
-              no_fall = omega (arith, low, release);
-              room = few_ready K t.job.release (omega (arith, few, ap length handed.jobs, count_jobs tasks));
-            },
-            tt,
-          );
+      follows = follows_behind h.rules [] 0 items (JobItem t.job ∷ []) handed.follows (
+        record {
+          no_fall = omega (arith, low, release);
+          room = few_ready K t.job.release (omega (arith, few, ap length handed.jobs, count_jobs tasks));
+        },
+        tt,
+      );
       none_refused = each_append (λ i. refused_of_item i ≡ None) items (JobItem t.job ∷ []) handed.none_refused one;
       jobs = filter_map-append job_of_item items (JobItem t.job ∷ []) ∙ ap (λ js. js ++ t.job ∷ []) handed.jobs
           ∙ sym (jobs_more tasks t);

@@ -51,7 +51,7 @@ module _ (S : Session) (lines mark : ℕ) (few : suc lines ≤ most_lines S.rule
       ≡ open_account (suc lines) (Some (with_item S (JobItem j))) j.release
   job_item_account j may valid =
       read (JobLine j) (feed_line-feed_text (JobLine j) (job_numerals j (all_last IsJob
-          (instance_of S).jobs j valid.each)))
+      (instance_of S).jobs j valid.each)))
       ∙ ap (with_line a (JobLine j)) none where
         none : cause_of a (JobLine j) ≡ None
         none = ap (λ b. cond b (Some (late_cause S.rules.version))
@@ -66,8 +66,14 @@ module _ (S : Session) (lines mark : ℕ) (few : suc lines ≤ most_lines S.rule
       → next_line (open_account lines (Some S) mark) (feed_text (DoneLine f.at f.finish.number))
       ≡ open_account (suc lines) (Some (with_item S (FinishItem f))) f.at
   finish_item_account f valid ordered known right =
-      read line (feed_line-feed_text line (omega (arith, known), (omega
-          (arith, number, valid.count, jobs_most S.rules.version), tt)))
+      read line (feed_line-feed_text line (
+        omega (arith, known),
+        (
+          omega
+              (arith, number, valid.count, jobs_most S.rules.version),
+          tt,
+        ),
+      ))
       ∙ ap (with_line a line) none
       ∙ ap (λ o. open_account (suc lines) (Some (with_named S (option_map FinishItem o))) f.at) right where
         n : ℕ
@@ -92,7 +98,7 @@ module _ (S : Session) (lines mark : ℕ) (few : suc lines ≤ most_lines S.rule
         none : cause_of a line ≡ None
         none = ap (λ b. cond b (cond (nat_lt last_tick f.at) (Some Order)
             (cond (is_right S mark f.at n) None (Some NotDone))) (Some Line)) (three
-                (may_finish_early S.rules.version) right)
+            (may_finish_early S.rules.version) right)
             ∙ ap (λ b. cond b (Some Order) (cond (is_right S mark f.at n) None (Some NotDone)))
             (le-ltb last_tick f.at known)
             ∙ ap (λ b. cond (b && is_some (early_at S f.at n)) None (Some NotDone)) (le-leb mark f.at ordered)
@@ -110,7 +116,7 @@ items_account rules before lines mark [] valid good follows few =
     (let e : lines ≡ lines + 0 = omega arith in e)
 items_account rules before lines mark (JobItem j ∷ items) valid good follows few =
     let split : (before ++ JobItem j ∷ []) ++ items ≡ before ++ JobItem j ∷ items = append_assoc before
-        (JobItem j ∷ []) items in
+    (JobItem j ∷ []) items in
     let all : IsValid (instance_of (session_with rules ((before ++ JobItem j ∷ []) ++ items))) =
     subst (λ is. IsValid (instance_of (session_with rules is))) (sym split) valid in
     let next : IsValid (instance_of (session_with rules (before ++ JobItem j ∷ []))) =
@@ -125,7 +131,7 @@ items_account rules before lines mark (JobItem j ∷ items) valid good follows f
     ∙ items_account rules (before ++ JobItem j ∷ []) (suc lines) (max mark j.release) items all (λ i m. good i (inr m))
     follows.1 (omega (arith, few))
     ∙ ap (λ is. open_account (suc lines + length items) (Some (session_with rules is)) (mark_after
-        (max mark j.release) items))
+    (max mark j.release) items))
     split
     ∙ ap (λ n. open_account n (Some (session_with rules (before ++ JobItem j ∷ items)))
     (mark_after (max mark j.release) items))
@@ -147,7 +153,7 @@ items_account rules before lines mark (FinishItem f ∷ items) valid good follow
     ∙ items_account rules (before ++ FinishItem f ∷ []) (suc lines) (max mark f.at) items all (λ i m. good i (inr m))
     follows.1 (omega (arith, few))
     ∙ ap (λ is. open_account (suc lines + length items) (Some (session_with rules is)) (mark_after
-        (max mark f.at) items))
+    (max mark f.at) items))
     split
     ∙ ap (λ n. open_account n (Some (session_with rules (before ++ FinishItem f ∷ items)))
     (mark_after (max mark f.at) items))

@@ -150,7 +150,7 @@ has_joined h tasks t last r new number job same = subst (Joins h tasks t last r 
       );
       known = subst (AllByRecursion (λ j. j.release ≤ t.job.release)) (sym (jobs_more tasks t))
           (all_behind (λ (j : JobFacts). j.release ≤ t.job.release) (jobs_of tasks) t.job run.served.known
-              (omega arith));
+          (omega arith));
       rests = subst (λ K. Rests new.server K (Mark t.job.release)) (sym (job_run h tasks run.items t.job.release
           run.served.handed run.served.no_later known t valid refl number)) rests;
       to_come = job_to_come h tasks run.items t.job.release run.served.handed run.served.no_later known t valid refl

@@ -223,7 +223,7 @@ module _ (S : Session) (valid : IsValidSession S) (good : NoneRefused S.items)
   good_is_run = same_trace S (session_of_run (instance_of S)) valid (run_valid (instance_of S) valid.jobs modest may)
       (good_trace S good
       ∙ ap (λ es. in_lines (header S.rules ∷ map text_of_line (map Printed es))) (sym (same_printed
-          (instance_of S) valid.jobs))
+      (instance_of S) valid.jobs))
       ∙ sym (good_trace (session_of_run (instance_of S)) (run_good (instance_of S))))
 
 -- the mark behind the items that are kept isn't above that behind all

@@ -40,7 +40,7 @@ module _ (J : Instance) (valid : IsValid J) (mark : ℕ) where
   at_turn : (t : Task) → IsMember t s.tasks → t.role ≡ Running → p.turn ≡ Some t.number → runner_at p mark ≡ Some t
   at_turn t member runs turn =
       let it : Lists p s.clock t = follows.here t member (λ e. let no : Running ≡ Coming = sym runs ∙ e in absurd
-          (cc)) in
+      (cc)) in
       ap (option_and_then (λ n. option_map (job_at p mark) (slice_get p.jobs n))) turn
       ∙ ap (option_map (job_at p mark)) it.there
       ∙ ap Some (ap (λ c. job_at p c it.listed) (sym bar.clock) ∙ it.is

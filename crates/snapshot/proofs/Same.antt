@@ -139,8 +139,11 @@ module _ (S : Session) (mark lines : ℕ) (holds : Holds S mark lines) where
 
   -- the stored finishes are those of the session
   pub same_finishes : HaveTheSame (early_finishes S.items) (early_in S.rules.version stand)
-  same_finishes = (by_version (may_finish_early S.rules.version) refl, stored_own K holds.reads.valid mark
-      S.rules.version)
+  same_finishes = (
+    by_version (may_finish_early S.rules.version) refl,
+    stored_own K holds.reads.valid mark
+        S.rules.version,
+  )
     where
       by_version : (b : Bool) → may_finish_early S.rules.version ≡ b
           → Each (λ f. IsMember f (early_in S.rules.version stand)) (early_finishes S.items)
@@ -158,7 +161,7 @@ module _ (S : Session) (mark lines : ℕ) (holds : Holds S mark lines) where
     stored_as = ap (λ r. finishing (record { rules = under r []; jobs = jobs_of stand })
         (early_in r.version stand)) rules
         ∙ ap (λ js. finishing (record { rules = under S.rules []; jobs = js })
-            (early_in S.rules.version stand)) stand_jobs
+        (early_in S.rules.version stand)) stand_jobs
 
     -- so the same is settled, and the same is printed
     pub stored_state : (m : ℕ) → settled_state (stored h stand) m ≡ settled_state K m

@@ -71,9 +71,9 @@ needs_less (f ∷ fs) n work less = by_test test refl less (needs_less fs n work
   same_number : (f.number == n) && nat_lt 0 f.had && nat_le f.had (need fs n work) ≡ true → f.number ≡ n
   same_number all = eqb-true f.number n (first (f.number == n) (nat_lt 0 f.had) (nat_le f.had
       (need fs n work)) all) where
-    first : (a b c : Bool) → (a && b && c) ≡ true → a ≡ true
-    first true b c e = refl
-    first false b c e = e
+        first : (a b c : Bool) → (a && b && c) ≡ true → a ≡ true
+        first true b c e = refl
+        first false b c e = e
 
   by_test : (b : Bool) → test ≡ b → cond b f.had (need fs n work) < work
       → (need fs n work < work → IsMember (record { number = n; had = need fs n work }) fs)

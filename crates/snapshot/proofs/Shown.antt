@@ -47,7 +47,7 @@ module _ (J : Instance) (valid : IsValid J) (mark : ℕ) where
       → open_step rules s ≡ open_step J.rules s
   run_same s some member = sym (step_open rules s some)
       ∙ same_here J valid shown (run_own J valid) s (λ r is complete left. shown_all J valid
-          (run J) s member r is complete left)
+      (run J) s member r is complete left)
       ∙ step_open J.rules s some
 
   -- these are the steps of the run from a state, or all jobs are over there

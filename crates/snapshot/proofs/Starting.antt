@@ -51,7 +51,7 @@ module _ (rules : Declaration) where
           here = subst (HasPrinted J 0 z) (sym none) it.served.given.1;
           waits = subst (HasPrinted J 0 (state_at 0 z.tasks)) (sym none)
               (subst (λ s. HasPrinted J 0 s []) (is ∙ sym (ap (λ (s : State). state_at 0 s.tasks) is))
-                  it.served.given.1);
+              it.served.given.1);
           barrier = subst (IsBarrier J.rules 0) (sym (ap (λ (s : State). state_at 0 s.tasks) is)) barrier;
           clock = λ goes. ap (λ (s : State). s.clock) is;
         },

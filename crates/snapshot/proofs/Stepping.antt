@@ -66,7 +66,7 @@ module _ (h : Head) (tasks : List Task) (ls : List (List ℕ)) (read : HasRead h
             by false fails = fails
             by true passes =
                 let all = and_parts ((t.number == length tasks) && is_valid (declared_jobs h
-                    (tasks ++ t ∷ []))) _ passes in
+                (tasks ++ t ∷ []))) _ passes in
                 let both = and_parts (t.number == length tasks) (is_valid (declared_jobs h (tasks ++ t ∷ []))) all.0 in
                 absurd (never (eqb-true t.number (length tasks) both.0)
                 ((is_valid-agrees (declared_jobs h (tasks ++ t ∷ []))).0 both.1)

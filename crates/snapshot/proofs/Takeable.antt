@@ -142,7 +142,7 @@ module _ (S : Session) (mark lines : ℕ) (holds : Holds S mark lines) (few : li
         (and_from (nat_le mark last_tick) (nat_le (length J.jobs) (most_jobs Two))
         (le-leb mark last_tick holds.known) (le-leb (length J.jobs) (most_jobs Two) listed))
         (le-leb (length J.jobs + 1) lines (omega (arith, reached.enough, jobs_in S.items)))) (le-leb lines
-            (most_lines S.rules.version) few)
+        (most_lines S.rules.version) few)
       where
         ab : Bool
         ab = nat_le mark last_tick && nat_le (length J.jobs) (most_jobs Two)

@@ -1,9 +1,9 @@
 -- What a reader knows of the marks to which it takes a run, and of the early finishes that come there.
 use Rattle.std.proofs.Common.{◌≡◌, ◌⊎◌, ℕ, ◌+◌, ◌-◌, ◌≤◌, ◌<◌, max, inl, inr, List, [], ◌∷◌, ◌++◌, length, map, refl}
-use Rattle.std.proofs.Common.{sym, ap}
+use Rattle.std.proofs.Common.{sym, ap, cond}
 use Rattle.std.proofs.Common.{◌∙◌, subst, arith, Bool, true, false, not, Option, Some, None}
 use Rattle.std.specs.Prelude.{nat_le, is_some, IfSome}
-use Rattle.std.specs.List.{AllByRecursion}
+use Rattle.std.specs.List.{AllByRecursion, filter_map}
 use Rattle.std.proofs.lemmas.Bool.{leb-true, leb-false}
 use Rattle.dover_model.specs.declared.events.Event.{Event}
 use Rattle.dover_model.specs.declared.events.Task.{Task}
@@ -37,7 +37,9 @@ use Rattle.ready_server.specs.declared.roster_server.RosterServer.{RosterServer}
 use Rattle.snapshot.specs.Snapshot.{Head}
 use Rattle.snapshot.specs.Forms.{head_in}
 use Rattle.snapshot.specs.Kept.{IsHandedIn, IsNearing, IsAbout, HasRun, ComesNear, stance_of}
-use Rattle.snapshot.specs.Kept.{next_early}
+use Rattle.snapshot.specs.Kept.{next_early, IsToCome}
+use Rattle.snapshot.specs.Reading.{early_of}
+use Rattle.dover_model.specs.Session.{may_finish_early, early_finishes}
 use Rattle.snapshot.specs.declared.resuming.Resuming.{Resuming}
 use Rattle.snapshot.proofs.Counts.{good_few}
 use Rattle.snapshot.proofs.Going.{all_near, none_comes, one_comes, Comes, next_later, handed_finish, finish_run}
@@ -145,6 +147,29 @@ module _ (r : Resuming) (h : Head) (tasks : List Task) (about : IsAbout r h task
       about.head
       ∙ ap (λ xs. next_early h.rules.version xs at (runner_at k.roll at)) about.stances
       ∙ ap (next_early h.rules.version (map stance_of tasks) at) (runs_there v J at rests k there)
+
+  -- where no job may finish early, a server that is taken on has run there
+  pub plain_there : may_finish_early r.head.version ≡ false → (at later : ℕ) → (run : HasRun r h tasks at)
+      → at ≤ later → (v : RosterServer)
+      → ((J : Instance) (m : ℕ) (events : List Event) → Serves r.server J (Mark m) events
+      → MayFollow (Mark m) (Mark later) → Rests v J (Mark later))
+      → later ≤ last_tick → has_roster v ≡ has_roster r.server → HasRun (record r { server = v }) h tasks later
+  plain_there plain at later run low v rests known listed = record {
+    items = run.items;
+    counted = run.counted;
+    served = record {
+      handed = run.served.handed;
+      no_later = omega (arith, run.served.no_later, low);
+      known = all_from (λ j. j.release ≤ at) (λ j. j.release ≤ later) (jobs_of tasks)
+          (λ j before. omega (arith, before, low)) run.served.known;
+      rests = rests _ at _ (roster_rests r.server _ (Mark at) run.served.rests) (low, known);
+      to_come = subst (λ early. Each (λ f. IsMember f (early_finishes run.items)
+          ⊎ IsToCome (instance_of (session_with h.rules run.items)) later f)
+          (cond early (filter_map early_of tasks) []))
+          (sym (ap (λ (g : Head). may_finish_early g.rules.version) (sym about.head) ∙ plain)) (λ f member. absurd member);
+      listed = listed ∙ run.served.listed;
+    };
+  }
 
   -- an early finish that is still to come is later
   pub next_behind : (at : ℕ) → HasRun r h tasks at → (k : Kept) → r.server.roster ≡ Some k

@@ -175,8 +175,11 @@ module _ (h : Head) (tasks : List Task) (ls : List (List ℕ)) (it : IsWhole h t
 
   -- which is that of the session
   state_there : settled_state (instance_of S) h.mark ≡ settled_state J h.mark
-  state_there = ap (λ jobs. settled_state (record { rules = having J.rules
-      (shown J valid h.mark); jobs = jobs }) h.mark)
+  state_there = ap (λ jobs. settled_state (record {
+    rules = having J.rules
+        (shown J valid h.mark);
+    jobs = jobs;
+  }) h.mark)
       jobs_there ∙ same_state J valid h.mark
 
   lines_are : snapshot_lines (paused_account h tasks) S ≡ ls
@@ -249,7 +252,7 @@ module _ (h : Head) (tasks : List Task) (ls : List (List ℕ)) (it : IsWhole h t
           stored_there = (
             subst (λ ts. Each (λ f. IsMember f (early_finishes S.items)) (early_in h.rules.version ts)) (sym tasks_are)
                 (subst (λ (s : State). Each (λ f. IsMember f (early_finishes S.items))
-                    (early_in h.rules.version s.tasks))
+                (early_in h.rules.version s.tasks))
                 state_there (stored_own (instance_of S) valid_session.jobs h.mark h.rules.version)),
             run_own J valid,
           )

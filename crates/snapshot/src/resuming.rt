@@ -243,8 +243,9 @@ impl Resuming {
         settle(&mut self.server, at, steps);
     }
 
-    /// Takes the run from a mark to another, and finishes on the way each job that is stored as done early.
-    fn run_to<L: Ledger>(&mut self, from: u64, mark: u64, steps: &mut Steps<L>)
+    /// Takes the run from a mark to another, turn by turn, and finishes on the way each job that is stored as done
+    /// early.
+    fn turn_to<L: Ledger>(&mut self, from: u64, mark: u64, steps: &mut Steps<L>)
         requires run { (h : model.Head) × (tasks : List Task) × IsAbout self.old h tasks
             × HasRun self.old h tasks from }
         requires low { from ≤ mark }
@@ -262,6 +263,27 @@ impl Resuming {
             at = self.next_mark(at, mark);
             settle(&mut self.server, at, steps);
             self.finish_due(at, steps);
+        }
+    }
+
+    /// Takes the run from a mark to another, with the early finishes on the way, if jobs may finish early.
+    fn run_to<L: Ledger>(&mut self, from: u64, mark: u64, steps: &mut Steps<L>)
+        requires run { (h : model.Head) × (tasks : List Task) × IsAbout self.old h tasks
+            × HasRun self.old h tasks from }
+        requires low { from ≤ mark }
+        requires known { mark ≤ last_tick }
+        ensures run { (h : model.Head) (tasks : List Task) → IsAbout self.old h tasks → HasRun self.old h tasks from
+            → HasRun self.new h tasks mark }
+        ensures same { self.new ≡ record self.old
+            { server = self.new.server; handed = self.new.handed; last = self.new.last } }
+        ensures room { HasPlace self.old.server → HasPlace self.new.server }
+        ensures paid { (start : ℕ) → HasPaid self.old.server start steps.old
+            → HasPaid self.new.server start steps.new }
+    {
+        if self.head.version.may_finish_early() {
+            self.turn_to(from, mark, steps);
+        } else {
+            settle(&mut self.server, mark, steps);
         }
     }
 

@@ -106,11 +106,11 @@ hand_ticks-requires g c =
     subst (λ m. AreAt (map (job_at k.roll m) k.roll.jobs) c.as_slice-2.result.now)
     (ap (λ (x : Resuming). x.head.mark) same) (c.are_at.ensures.0 c.if-not-are_at.false) in
     let reached : has_reached_mark h tasks ≡ true = sym (lines_are h tasks ls read c.args.self.now it c.args.line.now
-        c.requires.all c.run_to.new.self run k
+    c.requires.all c.run_to.new.self run k
     c.roster.ensures c.as_slice-2.result.now kept at
     (ap (λ (x : Resuming). x.head) same)) ∙ sym c.has_lines.ensures ∙ c.if-not-has_lines.false in
     let can : CanPause h tasks = can_pause h tasks ls read c.args.self.now it c.args.line.now c.requires.all
-        c.run_to.new.self run k
+    c.run_to.new.self run k
     c.roster.ensures c.as_slice-2.result.now kept at reached in
     let fed : IsFed c.run_to.new.self.intake (head_in c.run_to.new.self.head) tasks =
     subst (λ (x : Resuming). IsFed x.intake (head_in x.head) tasks) (sym same)
@@ -132,11 +132,11 @@ returns-clause-answers g c = λ ls (h, tasks, read, it).
     subst (λ m. AreAt (map (job_at k.roll m) k.roll.jobs) c.as_slice-2.result.now)
     (ap (λ (x : Resuming). x.head.mark) same) (c.are_at.ensures.0 c.if-not-are_at.false) in
     let reached : has_reached_mark h tasks ≡ true = sym (lines_are h tasks ls read c.args.self.now it c.args.line.now
-        c.requires.all c.run_to.new.self run k
+    c.requires.all c.run_to.new.self run k
     c.roster.ensures c.as_slice-2.result.now kept at
     (ap (λ (x : Resuming). x.head) same)) ∙ sym c.has_lines.ensures ∙ c.if-not-has_lines.false in
     let can : CanPause h tasks = can_pause h tasks ls read c.args.self.now it c.args.line.now c.requires.all
-        c.run_to.new.self run k
+    c.run_to.new.self run k
     c.roster.ensures c.as_slice-2.result.now kept at reached in
     let fed : IsFed c.run_to.new.self.intake (head_in c.run_to.new.self.head) tasks =
     subst (λ (x : Resuming). IsFed x.intake (head_in x.head) tasks) (sym same)

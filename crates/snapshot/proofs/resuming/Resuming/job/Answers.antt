@@ -119,7 +119,7 @@ returns-in-Ok-push-clause-answers g c = λ ls (h, tasks, read, it).
           (ap (λ (x : Resuming). x.head) same)
           (c.in-Ok.ensures.last ∙ ap (λ (j : JobFacts). j.release) some.0)
           (c.in-Ok-push.ensures.items ∙ ap (λ (x : Resuming). x.stances.items ++ stance_of
-              (task_in c.in-Some.state) ∷ [])
+          (task_in c.in-Some.state) ∷ [])
           same)
           (subst (λ i. IsFed i h (tasks ++ task_in c.in-Some.state ∷ []))
           (sym (ap (λ (x : Resuming). x.intake) same)) some.2)

@@ -5,7 +5,7 @@ use Rattle.snapshot.proofs.resuming.Resuming.quiet_mark.Goals as goal
 pub returns-in-None-clause-quiet : goal.returns-in-None-clause-quiet
 returns-in-None-clause-quiet c = λ J later rests known behind low.
     inr (idle_quiet c.args.self.now.server J c.args.at rests (c.in-None.ensures.none.0 refl) later (omega
-        (arith, behind)))
+    (arith, behind)))
 
 pub returns-in-Some-clause-quiet : goal.returns-in-Some-clause-quiet
 returns-in-Some-clause-quiet c = λ J later rests known behind low.

@@ -3,7 +3,7 @@ use Rattle.dover_model.specs.declared.events.Task.{Task}
 use Rattle.ready_server.specs.Rostering.{HasPlace, HasPaid}
 use Rattle.snapshot.specs.Snapshot.{Head}
 use Rattle.snapshot.specs.Kept.{IsAbout, HasRun}
-use Rattle.snapshot.proofs.resuming.Resuming.run_to.Given as goal
+use Rattle.snapshot.proofs.resuming.Resuming.turn_to.Given as goal
 
 -- the run was taken to here
 abbrev pub invariant-loop-at : goal.invariant-loop-at

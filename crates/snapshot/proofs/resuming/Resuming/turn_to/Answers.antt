@@ -1,0 +1,75 @@
+use Rattle.std.proofs.Common.{◌∙◌, ◌<◌, ap, arith, refl}
+use Rattle.snapshot.specs.Kept.{IsAbout, HasRun}
+use Rattle.snapshot.specs.declared.resuming.Resuming.{Resuming}
+use Rattle.snapshot.proofs.Turning.{same_about, goes_behind, serves_on, nears}
+use Rattle.snapshot.proofs.resuming.Resuming.turn_to.Goals as goal
+
+pub next_mark-at-requires-clause-listed : goal.next_mark-at-requires-clause-listed
+next_mark-at-requires-clause-listed g c =
+    let r = c.requires.run in (c.loop-at.invariant.on r.0 r.1 r.2 r.3).served.listed
+
+pub settle-requires : goal.settle-requires
+settle-requires g c =
+    let r = c.requires.run in
+    let same = c.loop-at.invariant.same in record {
+      serves = serves_on c.loop-at.self r.0 r.1 (same_about c.args.self.now c.loop-at.self r.0 r.1
+          (ap (λ (x : Resuming). x.head) same) (ap (λ (x : Resuming). x.stances.items) same) r.2)
+          c.loop-at.at c.next_mark-at.result (c.loop-at.invariant.on r.0 r.1 r.2 r.3) c.next_mark-at.ensures.after
+          (omega (arith, c.next_mark-at.ensures.no_later, c.requires.known));
+    }
+
+pub finish_due-requires-clause-near : goal.finish_due-requires-clause-near
+finish_due-requires-clause-near g c =
+    let r = c.requires.run in
+    let same = c.loop-at.invariant.same in
+    let about : IsAbout c.loop-at.self r.0 r.1 = same_about c.args.self.now c.loop-at.self r.0 r.1
+    (ap (λ (x : Resuming). x.head) same) (ap (λ (x : Resuming). x.stances.items) same) r.2 in
+    let run : HasRun c.loop-at.self r.0 r.1 c.loop-at.at = c.loop-at.invariant.on r.0 r.1 r.2 r.3 in (
+      r.0,
+      r.1,
+      same_about c.loop-at.self _ r.0 r.1 refl refl about,
+      record {
+        items = run.items;
+        counted = run.counted;
+        near = nears c.loop-at.self r.0 r.1 about c.loop-at.at c.next_mark-at.result run c.next_mark-at.ensures.after
+            (omega (arith, c.next_mark-at.ensures.no_later, c.requires.known)) c.next_mark-at.ensures.quiet
+            c.next_mark-at.ensures.ahead c.settle.new.server c.settle.ensures.rests c.settle.ensures.roster;
+      },
+    )
+
+pub loop-at-smaller : goal.loop-at-smaller
+loop-at-smaller g c =
+    let r = c.requires.run in
+    let same = c.loop-at.invariant.same in
+    let behind : c.loop-at.at < c.next_mark-at.result = goes_behind c.loop-at.self r.0 r.1
+    (same_about c.args.self.now c.loop-at.self r.0 r.1
+    (ap (λ (x : Resuming). x.head) same) (ap (λ (x : Resuming). x.stances.items) same) r.2)
+    c.loop-at.at c.next_mark-at.result (c.loop-at.invariant.on r.0 r.1 r.2 r.3) c.next_mark-at.ensures.after in
+    omega (arith, behind, c.next_mark-at.ensures.no_later)
+
+pub loop-at-preserved : goal.loop-at-preserved
+loop-at-preserved g c = record {
+  on = λ h tasks first start.
+      let same = c.loop-at.invariant.same in
+      let about : IsAbout c.loop-at.self h tasks = same_about c.args.self.now c.loop-at.self h tasks
+      (ap (λ (x : Resuming). x.head) same) (ap (λ (x : Resuming). x.stances.items) same) first in
+      let run : HasRun c.loop-at.self h tasks c.loop-at.at = c.loop-at.invariant.on h tasks first start in
+      c.finish_due.ensures.run h tasks (same_about c.loop-at.self _ h tasks refl refl about)
+      (record {
+        items = run.items;
+        counted = run.counted;
+        near = nears c.loop-at.self h tasks about c.loop-at.at c.next_mark-at.result run c.next_mark-at.ensures.after
+            (omega (arith, c.next_mark-at.ensures.no_later, c.requires.known)) c.next_mark-at.ensures.quiet
+            c.next_mark-at.ensures.ahead c.settle.new.server c.settle.ensures.rests c.settle.ensures.roster;
+      });
+  low = c.next_mark-at.ensures.no_later;
+  same = c.finish_due.ensures.same
+      ∙ ap (λ (x : Resuming). record x {
+        server = c.finish_due.new.self.server;
+        handed = c.finish_due.new.self.handed;
+        last = c.finish_due.new.self.last;
+      }) c.loop-at.invariant.same;
+  room = λ room. c.finish_due.ensures.room (c.settle.ensures.room (c.loop-at.invariant.room room));
+  paid = λ start paid. c.finish_due.ensures.paid start (c.settle.ensures.paid start
+      (c.loop-at.invariant.paid start paid));
+}
