@@ -414,13 +414,13 @@ left_all kept number job a it room =
 pub job_admitted : (a b : Account) (number : ℕ) (job : JobFacts) → AddsJob number job (counted a) b → 0 < admitted_in b
 job_admitted a b number job it =
     by_room (is_full (instance_of it.session) job.release) refl (ap admitted_in it.after_is) where
-    by_room : (full : Bool) → is_full (instance_of it.session) job.release ≡ full
-        → admitted_in b ≡ length (admitted_jobs (it.session.items ++ cond full (refused_at job.release job Full)
-        (JobItem job) ∷ [])) → 0 < admitted_in b
-    by_room true full is = omega (
-      arith,
-      is,
-      refused_more it.session.items (record { at = job.release; line = RefusedJob job Full }),
-      full_many (instance_of it.session) job.release full,
-    )
-    by_room false room is = omega (arith, is, job_more it.session.items job)
+      by_room : (full : Bool) → is_full (instance_of it.session) job.release ≡ full
+          → admitted_in b ≡ length (admitted_jobs (it.session.items ++ cond full (refused_at job.release job Full)
+          (JobItem job) ∷ [])) → 0 < admitted_in b
+      by_room true full is = omega (
+        arith,
+        is,
+        refused_more it.session.items (record { at = job.release; line = RefusedJob job Full }),
+        full_many (instance_of it.session) job.release full,
+      )
+      by_room false room is = omega (arith, is, job_more it.session.items job)
