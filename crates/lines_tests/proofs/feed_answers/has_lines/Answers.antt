@@ -1,8 +1,9 @@
 use Rattle.std.proofs.Common.{[], ◌∷◌, ap, ◌∙◌, subst, arith}
 use Rattle.std.specs.Prelude.{Result, Ok}
-use Rattle.dover_model.specs.Feed.{account_of_lines}
+use Rattle.dover_model.specs.Feed.{account_of_lines, no_lines}
 use Rattle.dover_model.proofs.Limiting.{items_of_lines}
 use Rattle.event_feed.specs.Answers.{Answers}
+use Rattle.event_feed.specs.Kept.{StandsFor, left_in}
 use Rattle.event_feed.specs.declared.faults.FeedFault.{FeedFault}
 use Rattle.event_feed.specs.declared.fed.Fed.{Fed}
 use Rattle.lines_tests.proofs.Lines.{lines_declared}
@@ -13,8 +14,9 @@ skip-requires-clause-room c =
     let it = c.in-Ok-Ratio in
     let answer = subst (Answers c.args.first.now (account_of_lines []) (account_of_lines (c.args.first.now ∷ [])))
     (it.is ∙ ap Ok it.field-0-is) (c.line.ensures.answer [] c.new-intake.ensures.stands) in
-    let most = lines_declared c.line.new.self c.args.first.now it.field-0-0 it.version
-    (c.line.ensures.stands [] c.new-intake.ensures.stands) answer in
+    let stands = subst (λ said. StandsFor (left_in said no_lines c.line.new.self) (c.args.first.now ∷ []))
+    (it.is ∙ ap Ok it.field-0-is) (c.line.ensures.stands [] c.new-intake.ensures.stands) in
+    let most = lines_declared c.line.new.self c.args.first.now it.field-0-0 it.version stands answer in
     omega (
       arith,
       most,
