@@ -7,7 +7,7 @@ use Rattle.std.proofs.lemmas.List.Sums.{sum_by-cons}
 use Rattle.std.specs.List.{count_by, filter, cons_option}
 use Rattle.std.proofs.lemmas.List.Elements.{filter_map-append}
 use Rattle.dover_model.specs.JobFacts.{IsJob, JobFacts}
-use Rattle.dover_model.specs.Limits.{last_tick, most_items, most_ready}
+use Rattle.dover_model.specs.Limits.{last_tick, most_items}
 use Rattle.dover_model.specs.declared.events.Event.TheVariants.{Release, Run, Preempt, Take, Complete, Abandon, End}
 use Rattle.dover_model.specs.declared.events.Role.TheVariants.{Running}
 use Rattle.dover_model.specs.declared.events.Task.{Task}
@@ -25,7 +25,7 @@ use Rattle.dover_model.specs.Paths.{IsPath}
 use Rattle.dover_model.specs.Sound.{IsMember, Each, Keeps}
 use Rattle.dover_model.specs.Session.{Item, JobItem, instance_of}
 use Rattle.dover_model.specs.Session.{admitted_jobs, early_finishes, job_of_item, session_with}
-use Rattle.dover_model.specs.Session.{may_finish_early, FollowsItems, IsValidSession}
+use Rattle.dover_model.specs.Session.{may_finish_early, FollowsItems, IsValidSession, IsNeverFull}
 use Rattle.dover_model.specs.Trace.{early_of, handed_by, session_of_run}
 use Rattle.dover_model.proofs.Members.{found, some_same}
 use Rattle.dover_model.proofs.Roles.{passes, is_running_role}
@@ -43,7 +43,6 @@ use Rattle.dover_model.proofs.Shown.{early_says, Handed, coming_in, deed_in, ite
 use Rattle.dover_model.proofs.EarlyEnds.{as_open, same_here, AreOf, shown_own, shown_all, path_of, opening_in}
 use Rattle.dover_model.proofs.EarlyEnds.{right_there}
 use Rattle.dover_model.proofs.Limiting.{items_enough}
-use Rattle.dover_model.proofs.Fullness.{few_ready}
 
 module _ (J : Instance) (valid : IsValid J) where
   -- ---- each item may stand
@@ -91,42 +90,28 @@ module _ (J : Instance) (valid : IsValid J) where
   end_shows s (Waits n) e = never e
   end_shows s Ticks e = never e
 
-  -- a job among so many
-  one_counted : (o : Option JobFacts) (jobs : List JobFacts)
-      → length (cons_option o []) + length jobs ≡ length (cons_option o jobs)
-  one_counted None jobs = omega arith
-  one_counted (Some j) jobs = omega arith
-
-  -- as many jobs come before an item and from it on as up to it and behind
-  all_counted : (o : Option Item) (items more : List Item)
-      → length (admitted_jobs (items ++ cons_option o [])) + length (admitted_jobs more)
-      ≡ length (admitted_jobs items) + length (admitted_jobs (cons_option o more))
-  all_counted None items more =
-      ap (λ is. length (admitted_jobs is) + length (admitted_jobs more)) (append-nil items)
-  all_counted (Some i) items more = omega (
-    arith,
-    ap length (filter_map-append job_of_item items (i ∷ [])),
-    length-append (admitted_jobs items) (cons_option (job_of_item i) []),
-    one_counted (job_of_item i) (admitted_jobs more),
-  )
+  -- items up to one, and those behind it
+  all_parted : (o : Option Item) (items more : List Item)
+      → (items ++ cons_option o []) ++ more ≡ items ++ cons_option o more
+  all_parted None items more = ap (λ is. is ++ more) (append-nil items)
+  all_parted (Some i) items more = append_assoc items (i ∷ []) more
 
   module _ (three : may_finish_early J.rules.version ≡ true) where
     follows_run : (back front : List Step) (s : State) → IsPath J.rules (opening J.jobs) front s
         → IsWholeRun J.rules s back → (mark : ℕ) → mark ≤ s.clock
-        → length (admitted_jobs (items_of front)) + length (admitted_jobs (items_of back)) ≤ most_ready
+        → IsNeverFull (session_with (declared_by J.rules) (items_of front ++ items_of back))
         → FollowsItems (declared_by J.rules) (items_of front) mark (items_of back)
-    follows_run [] front s path whole mark low few = absurd whole
-    follows_run (x ∷ back) front s path whole mark low few =
-        subst (λ (y : Step). length (admitted_jobs (items_of front))
-        + length (admitted_jobs (cons_option (handed_by y) (items_of back))) ≤ most_ready
+    follows_run [] front s path whole mark low never = absurd whole
+    follows_run (x ∷ back) front s path whole mark low never =
+        subst (λ (y : Step). NoneFull (handed_by y)
         → FollowsItems (declared_by J.rules) (items_of front) mark (cons_option (handed_by y) (items_of back)))
         (sym whole.0)
-        (λ few_here. by_end few_here (is_end (step J.rules s)) refl whole.1 (λ on rest.
-        follows_run back (front ++ step_at J.rules s ∷ []) (after s (step J.rules s)) (path_more front (opening J.jobs) s path on) rest)) few where
-          -- how many jobs there are with this item
-          Few : Option Item → Type 0
-          Few o = length (admitted_jobs (items_of front)) + length (admitted_jobs (cons_option o (items_of back)))
-              ≤ most_ready
+        (λ here. by_end here (is_end (step J.rules s)) refl whole.1 (λ on rest.
+        follows_run back (front ++ step_at J.rules s ∷ []) (after s (step J.rules s))
+        (path_more front (opening J.jobs) s path on) rest)) never where
+          -- no job finds it full, with this item
+          NoneFull : Option Item → Type 0
+          NoneFull o = IsNeverFull (session_with (declared_by J.rules) (items_of front ++ cons_option o (items_of back)))
 
           keeps_s : Keeps J s
           keeps_s = (path_of J valid front (opening J.jobs) s (opening_keeps J) path).1
@@ -138,30 +123,26 @@ module _ (J : Instance) (valid : IsValid J) where
               ≡ items_of front ++ cons_option (handed_by (step_at J.rules s)) []
           behind = filter_map-append handed_by front (step_at J.rules s ∷ [])
 
-          by_item : (o : Option Item) → handed_by (step_at J.rules s) ≡ o → Few o → is_end (step J.rules s) ≡ false
+          by_item : (o : Option Item) → handed_by (step_at J.rules s) ≡ o → NoneFull o → is_end (step J.rules s) ≡ false
               → ((m : ℕ) → m ≤ (after s (step J.rules s)).clock
               → FollowsItems (declared_by J.rules) (items_of front ++ cons_option o []) m (items_of back))
               → FollowsItems (declared_by J.rules) (items_of front) mark (cons_option o (items_of back))
-          by_item None e few on more = subst (λ is. FollowsItems (declared_by J.rules) is mark (items_of back))
+          by_item None e room on more = subst (λ is. FollowsItems (declared_by J.rules) is mark (items_of back))
               (append-nil (items_of front)) (more mark (omega (arith, low, on_clock)))
-          by_item (Some item) e few on more = by_kind (deed_hands s item (open_step J.rules s)
+          by_item (Some item) e room on more = by_kind (deed_hands s item (open_step J.rules s)
               (open_deed J valid s keeps_s J.rules)
               (ap (λ m. handed_by (record { before = s; move = m })) (sym (as_open J valid s keeps_s on)) ∙ e)) where
                 by_kind : Handed s (open_step J.rules s) item
                     → FollowsItems (declared_by J.rules) (items_of front) mark (item ∷ items_of back)
                 by_kind (Comes j now is) = subst
-                    (λ i. Few (Some i) → ((m : ℕ) → m ≤ (after s (step J.rules s)).clock
+                    (λ i. NoneFull (Some i) → ((m : ℕ) → m ≤ (after s (step J.rules s)).clock
                     → FollowsItems (declared_by J.rules) (items_of front ++ i ∷ []) m (items_of back))
                     → FollowsItems (declared_by J.rules) (items_of front) mark (i ∷ items_of back)) (sym is)
-                    (λ few rest. (
-                      record {
-                        no_fall = omega (arith, low, now);
-                        room = few_ready (instance_of (session_with (declared_by J.rules) (items_of front))) j.release
-                            (omega (arith, few));
-                      },
+                    (λ has rest. (
+                      record { no_fall = omega (arith, low, now); room = has (items_of front) j (items_of back) refl },
                       rest (max mark j.release) (omega
                           (arith, low, now, on_clock)),
-                    )) few more
+                    )) room more
                 by_kind (Finishes complete shows) = subst
                     (λ i. ((m : ℕ) → m ≤ (after s (step J.rules s)).clock
                     → FollowsItems (declared_by J.rules) (items_of front ++ i ∷ []) m (items_of back))
@@ -176,27 +157,24 @@ module _ (J : Instance) (valid : IsValid J) where
                       rest (max mark s.clock) (omega (arith, low, on_clock)),
                     )) more
 
-          by_end : Few (handed_by (step_at J.rules s)) → (b : Bool) → is_end (step J.rules s) ≡ b
+          by_end : NoneFull (handed_by (step_at J.rules s)) → (b : Bool) → is_end (step J.rules s) ≡ b
               → MatchBool b (back ≡ []) (IsWholeRun J.rules (after s (step J.rules s)) back)
               → (is_end (step J.rules s) ≡ false → IsWholeRun J.rules (after s (step J.rules s)) back → (m : ℕ)
               → m ≤ (after s (step J.rules s)).clock
-              → length (admitted_jobs (items_of (front ++ step_at J.rules s ∷ [])))
-              + length (admitted_jobs (items_of back)) ≤ most_ready
+              → IsNeverFull (session_with (declared_by J.rules)
+              (items_of (front ++ step_at J.rules s ∷ []) ++ items_of back))
               → FollowsItems (declared_by J.rules) (items_of (front ++ step_at J.rules s ∷ [])) m (items_of back))
               → FollowsItems (declared_by J.rules) (items_of front) mark
               (cons_option (handed_by (step_at J.rules s)) (items_of back))
-          by_end few true last none more = subst (λ xs. FollowsItems (declared_by J.rules) (items_of front) mark
+          by_end room true last none more = subst (λ xs. FollowsItems (declared_by J.rules) (items_of front) mark
               (cons_option (handed_by (step_at J.rules s)) (items_of xs))) (sym none)
               (subst (λ o. FollowsItems (declared_by J.rules) (items_of front) mark (cons_option {X = Item} o []))
               (sym (end_shows s (step J.rules s) last)) tt)
-          by_end few false on rest more = by_item (handed_by (step_at J.rules s)) refl few on (λ m high.
+          by_end room false on rest more = by_item (handed_by (step_at J.rules s)) refl room on (λ m high.
               subst (λ is. FollowsItems (declared_by J.rules) is m (items_of back)) behind (more on rest m high
-              (omega (
-                arith,
-                few,
-                ap (λ is. length (admitted_jobs is)) behind,
-                all_counted (handed_by (step_at J.rules s)) (items_of front) (items_of back),
-              ))))
+              (subst (λ is. IsNeverFull (session_with (declared_by J.rules) is))
+              (sym (ap (λ is. is ++ items_of back) behind
+              ∙ all_parted (handed_by (step_at J.rules s)) (items_of front) (items_of back))) room)))
 
   -- ---- the whole run
 
@@ -345,14 +323,13 @@ module _ (J : Instance) (valid : IsValid J) where
     by_move (Waits n) = omega arith
     by_move Ticks = omega arith
 
-  -- the session of a run is valid, where its jobs are no more than may be ready at once
-  pub run_session_valid : may_finish_early J.rules.version ≡ true → length J.jobs ≤ most_ready
+  -- the session of a run is valid, where no job finds it full
+  pub run_session_valid : may_finish_early J.rules.version ≡ true → IsNeverFull (session_of_run J)
       → IsValidSession (session_of_run J)
-  run_session_valid three modest = record {
+  run_session_valid three never = record {
     jobs = valid_run;
     count = few;
-    items = follows_run three (run J) [] (opening J.jobs) refl (run_is_whole J valid) 0 (omega arith)
-        (omega (arith, modest, ap length run_jobs));
+    items = follows_run three (run J) [] (opening J.jobs) refl (run_is_whole J valid) 0 (omega arith) never;
   } where
     few : length (session_of_run J).items ≤ most_items J.rules.version
     few = omega (

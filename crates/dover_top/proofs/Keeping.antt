@@ -40,6 +40,7 @@ use Rattle.duel.specs.Game.{AreValid}
 use Rattle.duel.proofs.Losing.{each_loses}
 use Rattle.unroll_word.specs.Feeds.{IsFeedOf, feed_of}
 use Rattle.unroll_word.proofs.Feeding.{feed_is}
+use Rattle.dover_model.proofs.JobSessions.{jobs_never}
 use Rattle.trial_words.specs.Dueled.{duel_front}
 use Rattle.trial_words.specs.Lists.{trial_instance}
 use Rattle.trial_words.specs.Baited.{bait_instance}
@@ -151,5 +152,5 @@ dueled k share front moves is it written = record {
       it.valid.count online;
   feed = subst (IsFeedOf (duel_front k share front)) (sym written)
       (feed_is (duel_front k share front) (front_valid k front (jobs_for k share) it.valid) refl
-      (front_valid k front (jobs_for k share) it.valid).count);
+      (jobs_never (duel_front k share front) (front_valid k front (jobs_for k share) it.valid).count));
 }

@@ -22,10 +22,11 @@ use Rattle.dover_model.specs.WholeRun.{step_at, IsWholeRun}
 use Rattle.dover_model.proofs.EarlyEnds.{AreOf, shown_own}
 use Rattle.dover_model.proofs.Ending.{run_is_whole}
 use Rattle.dover_model.proofs.Former.{none_early}
-use Rattle.dover_model.proofs.JobSessions.{session_of_valid}
+use Rattle.dover_model.proofs.JobSessions.{session_of_valid, jobs_never}
 use Rattle.dover_model.proofs.Kept.{step_kept, opening_keeps}
 use Rattle.dover_model.proofs.Meeting.{given_by}
 use Rattle.dover_model.proofs.Named.{same_trace}
+use Rattle.dover_model.proofs.NeverFull.{few_never}
 use Rattle.dover_model.proofs.RunSessions.{run_jobs, run_session_valid, same_printed}
 use Rattle.dover_model.proofs.Shown.{Shows, early_says}
 use Rattle.dover_model.proofs.Tests.{none_is_some}
@@ -105,8 +106,10 @@ module _ (J : Instance) (valid : IsValid J) where
   -- what it hands in is a valid session
   pub run_valid : length J.jobs ≤ most_ready → (may_finish_early J.rules.version ≡ true) ⊎ (J.rules.finishes ≡ [])
       → IsValidSession (session_of_run J)
-  run_valid few (inl three) = run_session_valid J valid three few
-  run_valid few (inr plain) = subst IsValidSession (sym (run_plain plain)) (session_of_valid J plain valid few)
+  run_valid few (inl three) = run_session_valid J valid three
+      (few_never (session_of_run J) (omega (arith, few, ap length (run_jobs J valid))))
+  run_valid few (inr plain) =
+      subst IsValidSession (sym (run_plain plain)) (session_of_valid J plain valid (jobs_never J few))
 
 -- ---- a session without its refused lines
 

@@ -29,6 +29,7 @@ use Rattle.unroll_word.specs.Talk.{unroll_talk}
 use Rattle.unroll_word.specs.Keeping.{SaysBy}
 use Rattle.unroll_word.specs.Texts.{refusal_text, refusal_lines}
 use Rattle.unroll_word.proofs.Feeding.{feed_is}
+use Rattle.dover_model.proofs.JobSessions.{jobs_never}
 
 -- ---- a text that is refused
 
@@ -99,7 +100,8 @@ says_feed until rules tasks ratio are fits u ts u_is ts_are = (
   fits,
   subst (λ n. IsFeedOf (unrolled until rules tasks) (feed_of (unrolled n rules ts))) (sym u_is)
       (subst (λ xs. IsFeedOf (unrolled until rules tasks) (feed_of (unrolled until rules xs))) (sym ts_are)
-      (feed_is (unrolled until rules tasks) (unrolled_valid until rules tasks ratio are fits) refl fits.count)),
+      (feed_is (unrolled until rules tasks) (unrolled_valid until rules tasks ratio are fits) refl
+      (jobs_never (unrolled until rules tasks) fits.count))),
 )
 
 -- a test that holds

@@ -3,9 +3,11 @@ ghost use Rattle.std.specs.Prelude.{◌≡◌, ◌≤◌, ◌<◌, ◌^◌, ◌+
 ghost use Rattle.std.specs.List.{AllByRecursion};
 ghost use Rattle.dover_model.specs.Instance.{Instance, IsValid};
 ghost use Rattle.dover_model.specs.declared.events.Version.TheVariants.{Two};
-ghost use Rattle.dover_model.specs.Limits.{most_jobs, most_ready};
+ghost use Rattle.dover_model.specs.Limits.{most_jobs};
 ghost use Rattle.dover_model.specs.Lines.{in_lines};
 ghost use Rattle.dover_model.specs.Feed.{rules_with};
+ghost use Rattle.dover_model.specs.Session.{IsNeverFull};
+ghost use Rattle.dover_model.specs.Trace.{session_of};
 ghost use Rattle.dover_port.specs.Causes.{HasCause, StopsAtFailure};
 ghost use Rattle.dover_port.specs.Moves.{PutsThrough};
 ghost use Rattle.periodic_tasks.specs.Limits.{IsTask};
@@ -123,9 +125,9 @@ pub(crate) fn put_feed<P: Port, L: Ledger>(
     put_numbers(port, out, b"end", &[])
 }
 
-/// The feed of valid jobs, of which none finishes early, and which are no more than may be ready at once, ends without
-/// a fault, and says these jobs and no others.
+/// The feed of valid jobs, of which none finishes early, and none finds it full at its release, ends without a fault,
+/// and says these jobs and no others.
 pub fn feeds_of_jobs_are_read()
-    ensures { (J : Instance) → IsValid J → J.rules.finishes ≡ [] → length J.jobs ≤ most_ready
+    ensures { (J : Instance) → IsValid J → J.rules.finishes ≡ [] → IsNeverFull (session_of J)
         → IsFeedOf J (feed_of J) }
 {}
