@@ -113,6 +113,8 @@ pub mod ShortNumbers
 pub mod Walks
 pub mod NoFeeds
 pub mod Named
+pub mod NamedJobs
+pub mod NeverFull
 pub mod TraceEnds
 pub mod Accepting
 pub mod WrongStays

@@ -1,12 +1,12 @@
 -- The session of a run is valid, and its run is that run.
-use Rattle.std.proofs.Common.{◌≡◌, ℕ, ◌+◌, ◌≤◌, inl, inr, max, List, [], ◌∷◌, ◌++◌, length, map, length-append}
+use Rattle.std.proofs.Common.{◌≡◌, ℕ, ◌+◌, ◌≤◌, inl, inr, max, List, [], ◌∷◌, ◌++◌, length, map, append_assoc}
 use Rattle.std.proofs.Common.{refl, sym, ap, ◌∙◌, subst, Bool, true, false, cond, arith, append-nil}
 use Rattle.std.specs.Prelude.{Option, Some, None}
 use Rattle.std.specs.Bool.{MatchBool}
 use Rattle.std.proofs.lemmas.List.Sums.{sum_by-cons}
 use Rattle.std.specs.List.{count_by, filter, cons_option}
 use Rattle.std.proofs.lemmas.List.Elements.{filter_map-append}
-use Rattle.dover_model.specs.JobFacts.{IsJob, JobFacts}
+use Rattle.dover_model.specs.JobFacts.{IsJob}
 use Rattle.dover_model.specs.Limits.{last_tick, most_items}
 use Rattle.dover_model.specs.declared.events.Event.TheVariants.{Release, Run, Preempt, Take, Complete, Abandon, End}
 use Rattle.dover_model.specs.declared.events.Role.TheVariants.{Running}
@@ -24,7 +24,7 @@ use Rattle.dover_model.specs.Processor.{is_complete, is_run}
 use Rattle.dover_model.specs.Paths.{IsPath}
 use Rattle.dover_model.specs.Sound.{IsMember, Each, Keeps}
 use Rattle.dover_model.specs.Session.{Item, JobItem, instance_of}
-use Rattle.dover_model.specs.Session.{admitted_jobs, early_finishes, job_of_item, session_with}
+use Rattle.dover_model.specs.Session.{admitted_jobs, early_finishes, session_with}
 use Rattle.dover_model.specs.Session.{may_finish_early, FollowsItems, IsValidSession, IsNeverFull}
 use Rattle.dover_model.specs.Trace.{early_of, handed_by, session_of_run}
 use Rattle.dover_model.proofs.Members.{found, some_same}
