@@ -3,18 +3,14 @@ use Rattle.std.proofs.Common.{Bool, ◌≡◌, ℕ, List, [], ◌∷◌, ◌++�
 use Rattle.std.proofs.Common.{Result, arith}
 use Rattle.std.proofs.Common.{Ok, Err}
 use Rattle.std.proofs.lemmas.List.{append-nil}
-use Rattle.std.specs.Prelude.{OnOk, OnErr, IsTrue, ◌↔◌, None, ◌≤◌, length, nat_le}
-use Rattle.std.proofs.lemmas.Bool.{leb-true, le-leb}
-use Rattle.dover_model.specs.declared.events.Version.TheVariants.{Two}
-use Rattle.dover_model.specs.Limits.{most_jobs}
-use Rattle.event_feed.specs.Listing.{HasFewJobs}
-use Rattle.dover_model.proofs.Tests.{never}
+use Rattle.std.specs.Prelude.{OnOk, OnErr, None, length}
+use Rattle.std.specs.Option.{option_map}
 use Rattle.dover_model.specs.declared.Memory.{Memory}
 use Rattle.dover_model.specs.Due.{due_lines}
 use Rattle.dover_model.specs.Feed.{Account, Standing, Open, Ended, Faulty, account, account_of_lines, is_open, is_ended}
 use Rattle.dover_model.specs.Feed.{next_line}
 use Rattle.dover_model.specs.Lines.{lines_of, rest_of, is_too_long}
-use Rattle.dover_model.specs.Session.{Session, instance_of}
+use Rattle.dover_model.specs.Session.{Session, instance_of, admitted_jobs}
 use Rattle.dover_model.specs.Settled.{settled}
 use Rattle.dover_model.specs.WholeRun.{Begins}
 use Rattle.dover_model.proofs.Accounts.{lines_goes}
@@ -96,21 +92,19 @@ module _ (lane : Lane) (ls : List (List ℕ)) (it : IsQuiet lane ls) where
   fits_there = (subst (λ w. Owes w lane.server (account_of_lines ls) []) it.quiet it.stands.owes).1
 
   -- where it has none, none is declared
-  pub few_nowhere : lane.server ≡ None → IsTrue false ↔ HasFewJobs (account_of_lines ls).session
-  few_nowhere none = subst (λ o. IsTrue false ↔ HasFewJobs o)
-      (sym (subst (Fits (account_of_lines ls)) none fits_there)) ((λ t. never t), (λ none. absurd none))
+  pub jobs_nowhere : lane.server ≡ None
+      → None ≡ option_map (λ (S : Session). length (admitted_jobs S.items)) (account_of_lines ls).session
+  jobs_nowhere none = sym (ap (option_map (λ (S : Session). length (admitted_jobs S.items)))
+      (subst (Fits (account_of_lines ls)) none fits_there))
 
   -- otherwise it has as many jobs as the server
-  pub few_where : (v : RosterServer) → lane.server ≡ Some v → (b : Bool)
-      → b ≡ nat_le v.server.ready.jobs (most_jobs Two) → IsTrue b ↔ HasFewJobs (account_of_lines ls).session
-  few_where v there b is =
+  pub jobs_where : (v : RosterServer) → lane.server ≡ Some v
+      → Some v.server.ready.jobs
+      ≡ option_map (λ (S : Session). length (admitted_jobs S.items)) (account_of_lines ls).session
+  jobs_where v there =
       let fits : Fits (account_of_lines ls) (Some v) = subst (Fits (account_of_lines ls)) there fits_there in
-      let count : v.server.ready.jobs ≡ length (instance_of fits.0).jobs =
-      served_jobs v (instance_of fits.0) _ _ fits.2 in
-      subst (λ o. IsTrue b ↔ HasFewJobs o) (sym fits.1) (
-        (λ t. let low : v.server.ready.jobs ≤ most_jobs Two = leb-true _ _ (sym is ∙ t) in omega (arith, count)),
-        (λ few. is ∙ le-leb _ _ (let low : v.server.ready.jobs ≤ most_jobs Two = omega (arith, count) in low)),
-      )
+      ap Some (served_jobs v (instance_of fits.0) _ _ fits.2)
+      ∙ sym (ap (option_map (λ (S : Session). length (admitted_jobs S.items))) fits.1)
 
 -- ---- a lane that goes on and has given all
 

@@ -10,17 +10,18 @@ ghost use Rattle.std.specs.Prelude.{
   ◌∷◌,
   ◌++◌,
   Bool,
+  length,
   Some,
   Err,
   true,
-  IsTrue,
   IsSome,
   OnOk,
   OnErr,
 };
+ghost use Rattle.std.specs.Option.{option_map};
 ghost use Rattle.dover_model.specs.Feed.{Account, account_of_lines, is_open};
+ghost use Rattle.dover_model.specs.Session.{admitted_jobs};
 ghost use Rattle.dover_model.specs.Spending.{CostsAtMost};
-ghost use Rattle.event_feed.specs.Listing.{HasFewJobs};
 ghost use Rattle.event_feed.specs.Answers.{DeclaresRatio, AddsJob, AddsDone, IsFed, EndAnswers, counted, admitted_in};
 ghost use Rattle.event_feed.specs.Kept.{fault_of, withdrawn};
 ghost use Rattle.dover_model.specs.declared.events.Refusal.TheVariants.{Full};
@@ -451,15 +452,14 @@ impl Lane {
         self.intake.end()
     }
 
-    /// Whether the ratio was declared, and no more jobs were admitted than a word takes that keeps all of them, where
-    /// all that is due was given.
-    pub fn has_few_jobs(&self) -> bool
-        ensures { (ls : List (List ℕ)) → IsQuiet self.now ls → IsTrue result
-            ↔ HasFewJobs (account_of_lines ls).session }
+    /// How many jobs were admitted, where all that is due was given. None where the ratio wasn't declared.
+    pub fn jobs(&self) -> Option<u32>
+        ensures { (ls : List (List ℕ)) → IsQuiet self.now ls
+            → result ≡ option_map (λ S. length (admitted_jobs S.items)) (account_of_lines ls).session }
     {
         match &self.server {
-            Some(server) => server.jobs() <= Version::Two.most_jobs(),
-            None => false,
+            Some(server) => Some(server.jobs()),
+            None => None,
         }
     }
 

@@ -1,5 +1,5 @@
 -- Feeds with the same snapshot are served on with the same text, at the same cost.
-use Rattle.std.proofs.Common.{◌≡◌, ℕ, List, ◌++◌, append_assoc, length, sym, ap, ◌∙◌, subst}
+use Rattle.std.proofs.Common.{◌≡◌, ◌<◌, ℕ, List, ◌++◌, append_assoc, length, sym, ap, ◌∙◌, subst}
 use Rattle.std.proofs.Common.{Bool, true, false, Option, Some, None, inl, inr}
 use Rattle.std.proofs.lemmas.List.{append_cancel_left}
 use Rattle.dover_model.specs.Session.{Session, admitted_jobs}
@@ -10,19 +10,22 @@ use Rattle.dover_port.specs.Moves.{IsProperPrefix}
 use Rattle.dover_port.specs.declared.status.Status.{Status}
 use Rattle.dover_port.specs.declared.status.Status.TheVariants.{Done, No, Refused, ReadFault, WriteFault, Memory, Usage}
 use Rattle.dialogue.specs.Talk as talk
+use Rattle.dialogue.specs.Sizes.{size_text}
 use Rattle.event_feed.specs.Answers.{admitted_in}
 use Rattle.lane_server.specs.Lane.{IsDeclared, IsFaulty}
 use Rattle.snapshot.specs.Snapshot.{MayPause, snapshot}
 use Rattle.snapshot.specs.Feeds.{GoOnEqually}
-use Rattle.dover_model.specs.Lines.{lines_of}
+use Rattle.dover_model.specs.declared.events.Version.TheVariants.{Two}
+use Rattle.dover_model.specs.Limits.{most_jobs}
+use Rattle.dover_model.specs.Lines.{lines_of, rest_of}
 use Rattle.dover_model.specs.Feed.{next_line}
 use Rattle.dover_model.proofs.Accounts.{account_kept}
 use Rattle.std.specs.List.{fold}
 use Rattle.snapshot.proofs.Alike.{Alike, SameRun, GoAlike, lines_alike}
-use Rattle.snapshot.proofs.Behind.{account_behind}
+use Rattle.snapshot.proofs.Behind.{account_behind, rest_behind}
 use Rattle.snapshot.proofs.Feeds.{go_on, same_alike, named}
 use Rattle.serve_word.specs.Keeping.{due_behind, serve_talk}
-use Rattle.serve_word.specs.Talk.{PausesAt, IsServedAs}
+use Rattle.serve_word.specs.Talk.{PausesAt, IsTooLargeAt, IsServedAs}
 use Rattle.serve_word.specs.declared.at_end.AtEnd.{AtEnd}
 use Rattle.serve_word.specs.declared.at_end.AtEnd.TheVariants.{Refuse, Pause}
 use Rattle.event_feed.proofs.Admitting.{declared_front}
@@ -86,6 +89,30 @@ module _ (G F H : List ℕ) (may : MayPause G) (may_other : MayPause F) (same : 
   never_pauses Refuse never it = it
   never_pauses Pause never it = never ((go_on F G H may_other may (sym same)).again it).0
 
+  -- and are too large alike
+  rest_same : rest_of (G ++ H) ≡ rest_of (F ++ H)
+  rest_same = rest_behind G may.whole H ∙ sym (rest_behind F may_other.whole H)
+
+  large_same : (at_end : AtEnd) → IsTooLargeAt at_end (G ++ H) → IsTooLargeAt at_end (F ++ H)
+  large_same Refuse it = absurd it
+  large_same Pause it = record {
+    many = subst (λ n. most_jobs Two < n) admitted_same it.many;
+    going_on = sym open_same ∙ it.going_on;
+    whole = sym rest_same ∙ it.whole;
+  }
+
+  large_back : (at_end : AtEnd) → IsTooLargeAt at_end (F ++ H) → IsTooLargeAt at_end (G ++ H)
+  large_back Refuse it = absurd it
+  large_back Pause it = record {
+    many = subst (λ n. most_jobs Two < n) (sym admitted_same) it.many;
+    going_on = open_same ∙ it.going_on;
+    whole = rest_same ∙ it.whole;
+  }
+
+  -- what is said behind what is due
+  said_behind : (all front text : List ℕ) → all ≡ front ++ go.more → all ++ text ≡ front ++ (go.more ++ text)
+  said_behind all front text is = ap (λ l. l ++ text) is ∙ append_assoc front go.more text
+
   declared : IsDeclared (account (F ++ H))
   declared = declared_front F H (named F may_other)
 
@@ -122,13 +149,20 @@ module _ (G F H : List ℕ) (may : MayPause G) (may_other : MayPause F) (same : 
         all_put (due G) (due F) (go.more ++ snapshot (G ++ H)) (due (G ++ H) ++ snapshot (G ++ H))
             (due (F ++ H) ++ snapshot (F ++ H)) text (again_first at_end it.1) (again_other at_end it.1) it.2,
       )
-      answer_same Refused text (inl faulty, is) = (
+      answer_same Refused text (inl (inl faulty, is)) = inl (
         inl (faulty_same faulty),
         all_put (due G) (due F) go.closing (closed (G ++ H)) (closed (F ++ H)) text go.first_closed go.other_closed is,
       )
-      answer_same Refused text (inr cut, is) = (
-        inr (cut.0, sym open_same ∙ cut.1, never_pauses at_end cut.2),
+      answer_same Refused text (inl (inr cut, is)) = inl (
+        inr (cut.0, sym open_same ∙ cut.1, never_pauses at_end cut.2, (λ large. cut.3 (large_back at_end large))),
         all_put (due G) (due F) go.closing (closed (G ++ H)) (closed (F ++ H)) text go.first_closed go.other_closed is,
+      )
+      answer_same Refused text (inr large) = inr (
+        large.0,
+        large_same at_end large.1,
+        all_put (due G) (due F) (go.more ++ size_text) (due (G ++ H) ++ size_text) (due (F ++ H) ++ size_text) text
+            (said_behind (due (G ++ H)) (due G) size_text go.first)
+            (said_behind (due (F ++ H)) (due F) size_text go.other) large.2,
       )
       answer_same No text it = it
       answer_same ReadFault text it = it

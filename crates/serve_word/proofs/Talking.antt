@@ -36,7 +36,8 @@ use Rattle.lane_server.proofs.Adding.{open_stands, opens_by}
 use Rattle.lane_server.proofs.Few.{owes_few}
 use Rattle.dover_model.proofs.Spending.{few_more}
 use Rattle.serve_word.specs.Keeping.{Call, due_behind, serve_talk, Costs, IsGiving}
-use Rattle.serve_word.specs.Talk.{PausesAt, IsServedAs, feed_talk}
+use Rattle.serve_word.specs.Talk.{PausesAt, IsTooLarge, IsTooLargeAt, IsServedAs, feed_talk}
+use Rattle.dialogue.specs.Sizes.{size_text}
 use Rattle.serve_word.specs.declared.at_end.AtEnd.{AtEnd}
 use Rattle.serve_word.specs.declared.at_end.AtEnd.TheVariants.{Refuse, Pause}
 use Rattle.snapshot.specs.Snapshot.{MayPause, snapshot}
@@ -78,8 +79,9 @@ module _ (x y : List ℕ) (over : is_open (account x) ≡ false) where
     done text (inr it) = never it.0
 
     refused : (text : List ℕ) → IsServedAs at_end x false Refused text → IsServedAs at_end (x ++ y) false Refused text
-    refused text (inl faulty, it) = (inl (subst IsFaulty (sym same) faulty), it ∙ sym same_closed)
-    refused text (inr cut, it) = never cut.0
+    refused text (inl (inl faulty, it)) = inl (inl (subst IsFaulty (sym same) faulty), it ∙ sym same_closed)
+    refused text (inl (inr cut, it)) = never cut.0
+    refused text (inr large) = never large.0
 
 -- the laws of the talk
 pub feed_steady : (at_end : AtEnd) → IsSteady (feed_talk at_end)
@@ -176,7 +178,7 @@ module _ (c : Call) where
     -- it is at fault
     pub faulty : (at_end : AtEnd) → is_open (account (c.feed ++ x)) ≡ false
         → (serve_talk at_end c.feed).answer x ended Refused (due_behind c.feed x ++ [])
-    faulty at_end over = (
+    faulty at_end over = inl (
       inl (by answers),
       due_then c.feed x [] ∙ append-nil (due (c.feed ++ x)) ∙ sym (closed_due (c.feed ++ x) over),
     ) where
@@ -184,13 +186,14 @@ module _ (c : Call) where
       by (inl it) = never (sym over ∙ opens_by (account (c.feed ++ x)) feeds.Open it.0)
       by (inr is) = (fault.line, cause_of_fault fault.cause, is)
 
-    -- it is cut off: it goes on, the input has ended before it, and it isn't paused
+    -- it is cut off: it goes on, the input has ended before it, and it isn't paused, nor too large for that
     pub cut_off : (at_end : AtEnd) → is_open (account (c.feed ++ x)) ≡ true
         → IsOver (serve_talk at_end c.feed) x ended → (PausesAt at_end (c.feed ++ x) → ⊥)
+        → (IsTooLargeAt at_end (c.feed ++ x) → ⊥)
         → (serve_talk at_end c.feed).answer x ended Refused
         (due_behind c.feed x ++ (fault_text fault.line (cause_of_fault fault.cause) ++ 10 ∷ []))
-    cut_off at_end goes over pauses = (
-      inr (sym over ∙ goes, goes, pauses),
+    cut_off at_end goes over pauses large = inl (
+      inr (sym over ∙ goes, goes, pauses, large),
       due_then c.feed x (fault_text fault.line (cause_of_fault fault.cause) ++ 10 ∷ [])
           ∙ ap (λ l. due (c.feed ++ x) ++ l) (ap (λ l. l ++ 10 ∷ []) (fault_is answers) ∙ sym (append-nil _))
           ∙ sym (ap (λ b. due (c.feed ++ x)
@@ -215,8 +218,13 @@ module _ (c : Call) where
       → (serve_talk Pause c.feed).answer x ended Done (due_behind c.feed x ++ snapshot (c.feed ++ x))
   paused x ended over may = inr (sym over ∙ may.going_on, may, due_then c.feed x (snapshot (c.feed ++ x)))
 
-  -- where it isn't paused, it is answered as one that never is
-  module _ (x : List ℕ) (ended : Bool) (never : MayPause (c.feed ++ x) → ⊥) where
+  -- it is too large for that
+  pub too_large : (x : List ℕ) (ended : Bool) → IsOver (serve_talk Pause c.feed) x ended → IsTooLarge (c.feed ++ x)
+      → (serve_talk Pause c.feed).answer x ended Refused (due_behind c.feed x ++ size_text)
+  too_large x ended over large = inr (sym over ∙ large.going_on, large, due_then c.feed x size_text)
+
+  -- where it is neither, it is answered as one that never is
+  module _ (x : List ℕ) (ended : Bool) (never : MayPause (c.feed ++ x) → ⊥) (small : IsTooLarge (c.feed ++ x) → ⊥) where
     unpaused : (status : Status) (text : List ℕ) → (serve_talk Refuse c.feed).answer x ended status text
         → (serve_talk Pause c.feed).answer x ended status text
     unpaused status text =
@@ -228,8 +236,9 @@ module _ (c : Call) where
 
           refused : (text : List ℕ) → IsServedAs Refuse (c.feed ++ x) ended Refused text
               → IsServedAs Pause (c.feed ++ x) ended Refused text
-          refused text (inl faulty, it) = (inl faulty, it)
-          refused text (inr cut, it) = (inr (cut.0, cut.1, never), it)
+          refused text (inl (inl faulty, it)) = inl (inl faulty, it)
+          refused text (inl (inr cut, it)) = inl (inr (cut.0, cut.1, never, small), it)
+          refused text (inr large) = absurd large.1
 
     -- and so is the whole answer
     pub unpaused_answer : (old new : Option (List Move)) (after : List ℕ) (r : Result Status Stop)

@@ -9,8 +9,10 @@ ghost use Rattle.dover_port.specs.Moves.{PutsThrough};
 ghost use Rattle.lane_server.specs.Feeding.{FeedRests};
 ghost use Rattle.lane_server.specs.Rosters.{KeepsRoster};
 ghost use Rattle.lane_server.specs.Spending.{HasPaid};
+ghost use Rattle.serve_word.specs.Talk.{IsTooLarge};
 ghost use Rattle.snapshot.specs.Snapshot.{MayPause, snapshot};
 
+use dover_model::Version;
 use dover_port::{Failed, Output, Port};
 use lane_server::{Feed, Lane};
 use line_text::BackLine;
@@ -43,7 +45,20 @@ pub(crate) fn put_lines<P: Port>(
 pub(crate) fn is_paused(feed: &Feed) -> bool
     ensures { (x : List ℕ) → FeedRests feed.now x → IsTrue result ↔ MayPause x }
 {
-    feed.lane().goes_on() && feed.lane().has_few_jobs() && feed.rest() == 0
+    match feed.lane().jobs() {
+        Some(jobs) => jobs <= Version::Two.most_jobs() && feed.lane().goes_on() && feed.rest() == 0,
+        None => false,
+    }
+}
+
+/// Whether a feed would be paused there, had it not more jobs than a snapshot lists.
+pub(crate) fn is_too_large(feed: &Feed) -> bool
+    ensures { (x : List ℕ) → FeedRests feed.now x → IsTrue result ↔ IsTooLarge x }
+{
+    match feed.lane().jobs() {
+        Some(jobs) => jobs > Version::Two.most_jobs() && feed.lane().goes_on() && feed.rest() == 0,
+        None => false,
+    }
 }
 
 /// A feed that may pause, as the lines of its snapshot.

@@ -3,11 +3,12 @@ ghost use Rattle.std.specs.Prelude.{◌≡◌};
 ghost use Rattle.serve_word.specs.Keeping.{Call, with_roster, serve_talk, IsGiving, IsReady, Costs};
 ghost use Rattle.serve_word.specs.declared.at_end.AtEnd.TheVariants.{Pause};
 
-use crate::pause::{is_paused, pause, put_lines};
+use crate::pause::{is_paused, is_too_large, pause, put_lines};
 use crate::serving::Serving;
 use dialogue::{Stop, Talker};
 use dover_model::Memory;
 use dover_port::{Output, Port, Status};
+use lane_server::Lane;
 use line_text::BackLine;
 use std::sync::ledger::Ledger;
 use step_count::Steps;
@@ -63,12 +64,19 @@ impl<L: Ledger> Talker for Pausing<L> {
         out: &mut Output,
         ended: bool,
     ) -> Result<Status, Stop> {
-        if !is_paused(&self.serving.feed) {
-            return self.serving.answer(meter, port, out, ended);
+        if is_paused(&self.serving.feed) {
+            return match put_lines(port, out, &pause(self.serving.feed)) {
+                Ok(()) => Ok(Status::Done),
+                Err(_) => Err(Stop::Unwritten),
+            };
         }
-        match put_lines(port, out, &pause(self.serving.feed)) {
-            Ok(()) => Ok(Status::Done),
-            Err(_) => Err(Stop::Unwritten),
+        if is_too_large(&self.serving.feed) {
+            Lane::laws();
+            return match out.put(port, b"refused size\n") {
+                Ok(()) => Ok(Status::Refused),
+                Err(_) => Err(Stop::Unwritten),
+            };
         }
+        self.serving.answer(meter, port, out, ended)
     }
 }

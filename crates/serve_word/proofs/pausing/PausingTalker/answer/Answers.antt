@@ -1,54 +1,47 @@
-use Rattle.std.proofs.Common.{◌++◌, sym, ◌∙◌}
+use Rattle.std.proofs.Common.{◌++◌, [], sym, ◌∙◌}
+use Rattle.dialogue.specs.Sizes.{size_text}
 use Rattle.dover_model.proofs.Tests.{never}
-use Rattle.dover_port.specs.declared.status.Status.TheVariants.{Done}
+use Rattle.dover_model.specs.Lines.{lines_of}
+use Rattle.dover_port.specs.declared.status.Status.TheVariants.{Done, Refused}
 use Rattle.snapshot.specs.Snapshot.{snapshot}
 use Rattle.serve_word.specs.Keeping.{with_roster}
-use Rattle.serve_word.proofs.Talking.{paused, unpaused_answer}
+use Rattle.serve_word.proofs.Talking.{paused, too_large, unpaused_answer}
 use Rattle.serve_word.proofs.pausing.PausingTalker.answer.Goals as goal
+use Rattle.serve_word.proofs.pausing.PausingTalker.answer.Goals.{in-Ok, in-Err, in-Ok-put, in-Err-put}
 
-pub returns-then-not-is_paused-clause-answers : goal.returns-then-not-is_paused-clause-answers
-returns-then-not-is_paused-clause-answers g c = λ a x at over.
-    unpaused_answer a x c.args.ended
-    (λ may. never (sym c.if-not-is_paused.true ∙ (c.is_paused.ensures (a.feed ++ x) at.rests).1 may))
-    _ _ _ c.answer.result
-    (c.answer.ensures.answers (with_roster a) x at over)
+pub returns-then-is_paused-clause-answers : goal.returns-then-is_paused-clause-answers
+returns-then-is_paused-clause-answers g c = λ a x at over.
+    let may = (c.is_paused.ensures (a.feed ++ x) at.rests).0 c.if-is_paused.true in
+    let text = c.pause.ensures.text (a.feed ++ x) at.rests may in
+    let says = paused a x c.args.ended over may in
+    elim c.match-put_lines.branch [
+      | in-Ok w ↦ rw w.result-is
+          (tt, (snapshot (a.feed ++ x), says, rw (c.requires.empty, text) at w.in-Ok.ensures.text.all))
+      | in-Err w ↦ rw w.result-is
+          (Done, snapshot (a.feed ++ x), says, rw (c.requires.empty, text) at w.in-Err.ensures.text.part)
+    ]
 
-pub pause-requires : goal.pause-requires
-pause-requires g c = let x = c.requires.ready.0.feed ++ c.requires.ready.1 in
-    let rests = c.requires.ready.2.rests in record {
-      feed = (x, rests, (c.is_paused.ensures x rests).0 c.if-not-is_paused.false);
-      roster = c.requires.ready.2.roster;
-    }
+pub returns-then-is_too_large-clause-answers : goal.returns-then-is_too_large-clause-answers
+returns-then-is_too_large-clause-answers g c = λ a x at over.
+    let large = (c.is_too_large.ensures (a.feed ++ x) at.rests).0 c.if-is_too_large.true in
+    let says = too_large a x c.args.ended over large in
+    elim c.match-put.branch [
+      | in-Ok-put w ↦ rw w.result-is (tt, (size_text, says, rw c.requires.empty at w.in-Ok-put.ensures.text.all))
+      | in-Err-put w ↦ rw w.result-is (Refused, size_text, says, rw c.requires.empty at w.in-Err-put.ensures.text.part)
+    ]
 
-pub returns-in-Ok-clause-answers : goal.returns-in-Ok-clause-answers
-returns-in-Ok-clause-answers g c = λ a x at over.
-    let may = (c.is_paused.ensures (a.feed ++ x) at.rests).0 c.if-not-is_paused.false in (
-      tt,
-      (
-        snapshot (a.feed ++ x),
-        paused a x c.args.ended over may,
-        rw (c.requires.empty, c.pause.ensures.text (a.feed ++ x) at.rests may) at c.in-Ok.ensures.text.all,
-      ),
-    )
-
-pub returns-in-Ok-clause-spent : goal.returns-in-Ok-clause-spent
-returns-in-Ok-clause-spent g c = λ a x at.
-    c.pause.ensures.paid (a.feed ++ x) a.start _ at.rests
-    ((c.is_paused.ensures (a.feed ++ x) at.rests).0 c.if-not-is_paused.false) at.paid
+pub returns-then-is_too_large-clause-spent : goal.returns-then-is_too_large-clause-spent
+returns-then-is_too_large-clause-spent g c = λ a x at.
+    c.laws.ensures.few c.args.self.serving.feed.lane (lines_of (a.feed ++ x)) [] a.start c.args.meter.now
+    at.rests.lane.stands at.paid
 
 pub returns-clause-answers : goal.returns-clause-answers
 returns-clause-answers g c = λ a x at over.
-    let may = (c.is_paused.ensures (a.feed ++ x) at.rests).0 c.if-not-is_paused.false in (
-      Done,
-      snapshot (a.feed ++ x),
-      paused a x c.args.ended over may,
-      rw (c.requires.empty, c.pause.ensures.text (a.feed ++ x) at.rests may) at c.in-Err.ensures.text.part,
-    )
+    unpaused_answer a x c.args.ended
+    (λ may. never (sym c.if-is_paused.false ∙ (c.is_paused.ensures (a.feed ++ x) at.rests).1 may))
+    (λ large. never (sym c.if-is_too_large.false ∙ (c.is_too_large.ensures (a.feed ++ x) at.rests).1 large))
+    _ _ _ c.answer.result
+    (c.answer.ensures.answers (with_roster a) x at over)
 
 pub returns-clause-spent : goal.returns-clause-spent
-returns-clause-spent g c = λ a x at.
-    c.pause.ensures.paid (a.feed ++ x) a.start _ at.rests
-    ((c.is_paused.ensures (a.feed ++ x) at.rests).0 c.if-not-is_paused.false) at.paid
-
-pub returns-then-not-is_paused-clause-spent : goal.returns-then-not-is_paused-clause-spent
-returns-then-not-is_paused-clause-spent g c = λ a x at. c.answer.ensures.spent (with_roster a) x at
+returns-clause-spent g c = λ a x at. c.answer.ensures.spent (with_roster a) x at

@@ -37,7 +37,8 @@ returns-in-Ok-clause-answers g c = λ a x at over.
       tt,
       (
         fault_text c.in-Err.fault.line (cause_of_fault c.in-Err.fault.cause) ++ 10 ∷ [],
-        cut_off a x c.args._ended c.in-Err.fault why Refuse (sym goes ∙ c.if-not-goes_on.false) over (λ pauses. pauses),
+        cut_off a x c.args._ended c.in-Err.fault why Refuse (sym goes ∙ c.if-not-goes_on.false) over (λ pauses. pauses)
+            (λ large. large),
         rw c.requires.empty at c.in-Ok.ensures.text.all,
       ),
     )
@@ -50,6 +51,7 @@ returns-clause-answers g c = λ a x at over.
     in (
       Refused,
       fault_text c.in-Err.fault.line (cause_of_fault c.in-Err.fault.cause) ++ 10 ∷ [],
-      cut_off a x c.args._ended c.in-Err.fault why Refuse (sym goes ∙ c.if-not-goes_on.false) over (λ pauses. pauses),
+      cut_off a x c.args._ended c.in-Err.fault why Refuse (sym goes ∙ c.if-not-goes_on.false) over (λ pauses. pauses)
+          (λ large. large),
       rw c.requires.empty at c.in-Err-put_fault.ensures.text.part,
     )
