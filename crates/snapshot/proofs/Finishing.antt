@@ -36,8 +36,8 @@ use Rattle.snapshot.specs.Stored.{HasRead, jobs_session}
 use Rattle.snapshot.specs.Forms.{head_in}
 use Rattle.ready_server.specs.Roster.{Roll, job_at, Kept, IsRollOf}
 use Rattle.ready_server.specs.Rostering.{has_roster}
-use Rattle.snapshot.specs.Kept.{CanPause, Holds, HasRun, IsServed, IsWhole, Resumes, AreAt, stance_of, handed_lines}
-use Rattle.snapshot.specs.Kept.{handed_account, feed_lines, paused_account}
+use Rattle.snapshot.specs.Kept.{CanPause, Holds, HasRun, HasRunTowards, IsServed, IsWhole, Resumes, AreAt, stance_of}
+use Rattle.snapshot.specs.Kept.{handed_account, handed_lines, feed_lines, paused_account}
 use Rattle.snapshot.specs.declared.resuming.Resuming.{Resuming}
 use Rattle.snapshot.specs.declared.resuming.Stance.{Stance}
 use Rattle.snapshot.proofs.Beginning.{within, all_account}
@@ -105,8 +105,8 @@ module _ (h : Head) (tasks : List Task) (ls : List (List ℕ)) (read : HasRead h
   mark_follows = (omega (arith, it.released, known, mark_is), omega (arith, (within h read.limits).mark, mark_is))
 
   -- from where it was
-  pub run_so_far : HasRun r h tasks r.last
-  run_so_far = subst (HasRun r h tasks) (sym it.released) it.run
+  pub run_so_far : HasRunTowards r h tasks r.last
+  run_so_far = subst (HasRunTowards r h tasks) (sym it.released) it.run
 
   module _ (line : List ℕ) (most : r.head.jobs ≤ length r.stances.items) where
     -- no job is due

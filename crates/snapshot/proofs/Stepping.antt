@@ -14,7 +14,7 @@ use Rattle.snapshot.specs.Snapshot.{Head}
 use Rattle.snapshot.specs.Reading.{Refused, declared_jobs, may_follow, refused_behind, read_task, reading_of}
 use Rattle.snapshot.specs.Stored.{HasRead}
 use Rattle.snapshot.specs.Forms.{head_in}
-use Rattle.snapshot.specs.Kept.{IsFed, IsServed, HasRoom, HasRun, MayAdmit, Holds, stance_of}
+use Rattle.snapshot.specs.Kept.{IsFed, IsServedTowards, HasRoom, HasRunTowards, MayAdmit, Holds, stance_of}
 use Rattle.snapshot.specs.declared.resuming.Resuming.{Resuming}
 use Rattle.snapshot.proofs.Admitted.{valid_ordered, with_this, last_more}
 use Rattle.snapshot.proofs.Beginning.{Within, within}
@@ -82,8 +82,8 @@ module _ (h : Head) (tasks : List Task) (ls : List (List ℕ)) (read : HasRead h
         })
 
         -- the run is where that begins
-        pub run_at : HasRun r h tasks r.last
-        run_at = subst (HasRun r h tasks) (sym it.released) it.run
+        pub run_at : HasRunTowards r h tasks r.last
+        run_at = subst (HasRunTowards r h tasks) (sym it.released) it.run
 
         -- the lines with it
         pub read_more : t.number ≡ length tasks → t.job.release ≤ h.mark → HasRead h (tasks ++ t ∷ []) (ls ++ line ∷ [])
@@ -100,7 +100,7 @@ module _ (h : Head) (tasks : List Task) (ls : List (List ℕ)) (read : HasRead h
         -- what is kept with it
         pub holds_more : (new : Resuming) → HasRead h (tasks ++ t ∷ []) (ls ++ line ∷ []) → new.head ≡ r.head
             → new.last ≡ t.job.release → new.stances.items ≡ r.stances.items ++ stance_of t ∷ []
-            → IsFed new.intake h (tasks ++ t ∷ []) → HasRun new h (tasks ++ t ∷ []) t.job.release
+            → IsFed new.intake h (tasks ++ t ∷ []) → HasRunTowards new h (tasks ++ t ∷ []) t.job.release
             → Holds new h (tasks ++ t ∷ [])
         holds_more new more_read head last stances fed run = record {
           about = record {
@@ -111,14 +111,14 @@ module _ (h : Head) (tasks : List Task) (ls : List (List ℕ)) (read : HasRead h
           };
           released = last ∙ sym (last_more tasks t);
           fed = fed;
-          run = subst (HasRun new h (tasks ++ t ∷ [])) (sym (last_more tasks t)) run;
+          run = subst (HasRunTowards new h (tasks ++ t ∷ [])) (sym (last_more tasks t)) run;
         }
 
 -- the run depends on the server and on what was handed in
 pub same_run : (r new : Resuming) (h : Head) (tasks : List Task) (mark : ℕ) → new.server ≡ r.server
-    → new.handed ≡ r.handed → new.last ≡ r.last → HasRun r h tasks mark → HasRun new h tasks mark
+    → new.handed ≡ r.handed → new.last ≡ r.last → HasRunTowards r h tasks mark → HasRunTowards new h tasks mark
 same_run r new h tasks mark server handed last run = record {
   items = run.items;
   counted = record { count = handed ∙ run.counted.count; last = last ∙ run.counted.last };
-  served = subst (λ v. IsServed v h tasks run.items mark) (sym server) run.served;
+  served = subst (λ v. IsServedTowards v h tasks run.items mark) (sym server) run.served;
 }

@@ -36,7 +36,7 @@ use Rattle.ready_server.specs.Rostering.{Serves, Rests, Finishes, has_roster}
 use Rattle.ready_server.specs.declared.roster_server.RosterServer.{RosterServer}
 use Rattle.snapshot.specs.Snapshot.{Head}
 use Rattle.snapshot.specs.Forms.{head_in}
-use Rattle.snapshot.specs.Kept.{IsHandedIn, IsNearing, IsAbout, HasRun, ComesNear, stance_of}
+use Rattle.snapshot.specs.Kept.{IsHandedIn, IsNearing, IsAbout, HasRun, HasRunTowards, ComesNear, stance_of}
 use Rattle.snapshot.specs.Kept.{next_early, IsToCome}
 use Rattle.snapshot.specs.Reading.{early_of}
 use Rattle.dover_model.specs.Session.{may_finish_early, early_finishes}
@@ -148,8 +148,26 @@ module _ (r : Resuming) (h : Head) (tasks : List Task) (about : IsAbout r h task
       ∙ ap (λ xs. next_early h.rules.version xs at (runner_at k.roll at)) about.stances
       ∙ ap (next_early h.rules.version (map stance_of tasks) at) (runs_there v J at rests k there)
 
+  -- where all that is due there is given, the run was taken there
+  pub settled_there : (at : ℕ) → (run : HasRunTowards r h tasks at) → (v : RosterServer)
+      → ((J : Instance) (m : ℕ) (events : List Event) → Serves r.server J (Mark m) events
+      → MayFollow (Mark m) (Mark at) → Rests v J (Mark at))
+      → at ≤ last_tick → has_roster v ≡ has_roster r.server → HasRun (record r { server = v }) h tasks at
+  settled_there at run v rests known listed = record {
+    items = run.items;
+    counted = run.counted;
+    served = record {
+      handed = run.served.handed;
+      no_later = run.served.no_later;
+      known = run.served.known;
+      rests = rests _ at run.served.events run.served.serves (omega arith, known);
+      to_come = run.served.to_come;
+      listed = listed ∙ run.served.listed;
+    };
+  }
+
   -- where no job may finish early, a server that is taken on has run there
-  pub plain_there : may_finish_early r.head.version ≡ false → (at later : ℕ) → (run : HasRun r h tasks at)
+  pub plain_there : may_finish_early r.head.version ≡ false → (at later : ℕ) → (run : HasRunTowards r h tasks at)
       → at ≤ later → (v : RosterServer)
       → ((J : Instance) (m : ℕ) (events : List Event) → Serves r.server J (Mark m) events
       → MayFollow (Mark m) (Mark later) → Rests v J (Mark later))
@@ -162,11 +180,12 @@ module _ (r : Resuming) (h : Head) (tasks : List Task) (about : IsAbout r h task
       no_later = omega (arith, run.served.no_later, low);
       known = all_from (λ j. j.release ≤ at) (λ j. j.release ≤ later) (jobs_of tasks)
           (λ j before. omega (arith, before, low)) run.served.known;
-      rests = rests _ at _ (roster_rests r.server _ (Mark at) run.served.rests) (low, known);
+      rests = rests _ at run.served.events run.served.serves (low, known);
       to_come = subst (λ early. Each (λ f. IsMember f (early_finishes run.items)
           ⊎ IsToCome (instance_of (session_with h.rules run.items)) later f)
           (cond early (filter_map early_of tasks) []))
-          (sym (ap (λ (g : Head). may_finish_early g.rules.version) (sym about.head) ∙ plain)) (λ f member. absurd member);
+          (sym (ap (λ (g : Head). may_finish_early g.rules.version) (sym about.head) ∙ plain))
+          (λ f member. absurd member);
       listed = listed ∙ run.served.listed;
     };
   }

@@ -5,6 +5,7 @@ use Rattle.std.specs.Prelude.{Option, Some, None, Result, Ok, Err, codes}
 use Rattle.std.specs.List.{slice_get, AllByRecursion}
 use Rattle.std.specs.Option.{option_map, option_and_then}
 use Rattle.std.specs.Bool.{then_some}
+use Rattle.dover_model.specs.declared.events.Event.{Event}
 use Rattle.dover_model.specs.declared.events.Role.{Role}
 use Rattle.dover_model.specs.declared.events.Role.TheVariants.{Running, Done}
 use Rattle.dover_model.specs.declared.events.Task.{Task}
@@ -30,7 +31,7 @@ use Rattle.snapshot.specs.Reading.{Going, Taken, Refused, is_within_limits, decl
 use Rattle.snapshot.specs.Reading.{stored_session, last_release, has_reached_mark, is_settled, reading_of}
 use Rattle.snapshot.specs.Stored.{HasRead, ratio_text, job_lines, jobs_session, jobs_account}
 use Rattle.snapshot.specs.Forms.{head_in}
-use Rattle.ready_server.specs.Rostering.{Rests, has_roster}
+use Rattle.ready_server.specs.Rostering.{Serves, Rests, has_roster}
 use Rattle.ready_server.specs.declared.roster_server.RosterServer.{RosterServer}
 use Rattle.snapshot.specs.declared.resuming.Stance.{Stance}
 use Rattle.snapshot.specs.declared.resuming.Resuming.{Resuming}
@@ -157,6 +158,20 @@ pub record IsNearing (v : RosterServer) (h : Head) (tasks : List Task) (items : 
       (early_in h.rules.version tasks)
   pub listed : has_roster v ≡ true
 
+-- The server was taken towards this mark in the run of these items, which hand in the jobs so far: what is due at the
+-- mark may not all be given yet. Their other early finishes are still to come there, and it keeps a roster.
+pub record IsServedTowards (v : RosterServer) (h : Head) (tasks : List Task) (items : List Item) (mark : ℕ)
+    : Type 0 where
+  pub handed : IsHandedIn h tasks items
+  pub no_later : mark_after 0 items ≤ mark
+  pub known : AllByRecursion (λ j. j.release ≤ mark) (jobs_of tasks)
+  pub events : List Event
+  pub serves : Serves v (instance_of (session_with h.rules items)) (Mark mark) events
+  pub to_come : Each (λ f. IsMember f (early_finishes items) ⊎ IsToCome (instance_of
+      (session_with h.rules items)) mark f)
+      (early_in h.rules.version tasks)
+  pub listed : has_roster v ≡ true
+
 -- what a job is, and how many ticks it has had
 abbrev pub stance_of : Task → Stance
 stance_of t = record { role = t.role; had = t.had }
@@ -212,6 +227,12 @@ pub record HasRun (r : Resuming) (h : Head) (tasks : List Task) (mark : ℕ) : T
   pub counted : IsCounted items r.handed r.last
   pub served : IsServed r.server h tasks items mark
 
+-- so it was, but for what may still be due there
+pub record HasRunTowards (r : Resuming) (h : Head) (tasks : List Task) (mark : ℕ) : Type 0 where
+  pub items : List Item
+  pub counted : IsCounted items r.handed r.last
+  pub served : IsServedTowards r.server h tasks items mark
+
 -- so it was, but for an early finish that may come there
 pub record ComesNear (r : Resuming) (h : Head) (tasks : List Task) (mark : ℕ) : Type 0 where
   pub items : List Item
@@ -223,7 +244,7 @@ pub record Holds (r : Resuming) (h : Head) (tasks : List Task) : Type 0 where
   pub about : IsAbout r h tasks
   pub released : r.last ≡ last_release tasks
   pub fed : IsFed r.intake h tasks
-  pub run : HasRun r h tasks (last_release tasks)
+  pub run : HasRunTowards r h tasks (last_release tasks)
 
 -- these lines were read, of which none is refused, and the last line is still to come
 abbrev pub IsReading : Option Resuming → List (List ℕ) → Type 0

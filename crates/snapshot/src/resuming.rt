@@ -11,7 +11,7 @@ ghost use Rattle.dover_model.specs.declared.horizon.Horizon.TheVariants.{Mark};
 ghost use Rattle.dover_model.specs.Horizons.{MayFollow};
 ghost use Rattle.snapshot.specs.Snapshot as model;
 ghost use Rattle.snapshot.specs.Kept.{stance_of, is_done_role, is_early, early_behind, next_early, IsAbout, HasRun};
-ghost use Rattle.snapshot.specs.Kept.{ComesNear, MayAdmit, IsAt, AreAt, IsReading, Begins, Answers};
+ghost use Rattle.snapshot.specs.Kept.{HasRunTowards, ComesNear, MayAdmit, IsAt, AreAt, IsReading, Begins, Answers};
 ghost use Rattle.snapshot.specs.Reading.{reading_of};
 ghost use Rattle.snapshot.specs.Spending.{jobs_read, jobs_kept, HasSpentOn};
 ghost use Rattle.ready_server.specs.Roster.{Kept, job_at, runner_at};
@@ -266,14 +266,15 @@ impl Resuming {
         }
     }
 
-    /// Takes the run from a mark to another, with the early finishes on the way, if jobs may finish early.
+    /// Takes the run from a mark, where more may be due, to another, with the early finishes on the way, if jobs may
+    /// finish early.
     fn run_to<L: Ledger>(&mut self, from: u64, mark: u64, steps: &mut Steps<L>)
         requires run { (h : model.Head) × (tasks : List Task) × IsAbout self.old h tasks
-            × HasRun self.old h tasks from }
+            × HasRunTowards self.old h tasks from }
         requires low { from ≤ mark }
         requires known { mark ≤ last_tick }
-        ensures run { (h : model.Head) (tasks : List Task) → IsAbout self.old h tasks → HasRun self.old h tasks from
-            → HasRun self.new h tasks mark }
+        ensures run { (h : model.Head) (tasks : List Task) → IsAbout self.old h tasks
+            → HasRunTowards self.old h tasks from → HasRun self.new h tasks mark }
         ensures same { self.new ≡ record self.old
             { server = self.new.server; handed = self.new.handed; last = self.new.last } }
         ensures room { HasPlace self.old.server → HasPlace self.new.server }
@@ -281,36 +282,34 @@ impl Resuming {
             → HasPaid self.new.server start steps.new }
     {
         if self.head.version.may_finish_early() {
+            settle(&mut self.server, from, steps);
             self.turn_to(from, mark, steps);
         } else {
             settle(&mut self.server, mark, steps);
         }
     }
 
-    /// Admits a job at its release, as a feed would.
+    /// Admits a job at its release, as a feed would. What is due there then is given with what comes next.
     fn admit<L: Ledger>(&mut self, job: Job, steps: &mut Steps<L>) -> Result<(), Memory>
         requires { (h : model.Head) × (tasks : List Task) × IsAbout self.old h tasks
-            × HasRun self.old h tasks self.old.last × MayAdmit self.old.last h tasks job }
+            × HasRunTowards self.old h tasks self.old.last × MayAdmit self.old.last h tasks job }
         ensures run { (h : model.Head) (tasks : List Task) (t : Task) → IsAbout self.old h tasks
-            → HasRun self.old h tasks self.old.last → MayAdmit self.old.last h tasks job → t.job ≡ job
+            → HasRunTowards self.old h tasks self.old.last → MayAdmit self.old.last h tasks job → t.job ≡ job
             → t.number ≡ length tasks
-            → OnOk result (HasRun self.new h (tasks ++ t ∷ []) job.release) }
+            → OnOk result (HasRunTowards self.new h (tasks ++ t ∷ []) job.release) }
         ensures last { OnOk result (self.new.last ≡ job.release) }
         ensures same { OnOk result (self.new ≡ record self.old
             { server = self.new.server; handed = self.new.handed; last = self.new.last }) }
-        ensures err { (h : model.Head) (tasks : List Task) → HasRun self.old h tasks self.old.last →
+        ensures err { (h : model.Head) (tasks : List Task) → HasRunTowards self.old h tasks self.old.last →
             OnErr result (self.new.server.server.ready.jobs ≡ length tasks) }
         ensures count { (start : ℕ) → HasPaid self.old.server start steps.old
             → HasPaid self.new.server start steps.new }
     {
         self.server.make_room()?;
-        // Nothing is printed: it rests there again, with room for one job more.
-        settle(&mut self.server, self.last, steps);
         self.run_to(self.last, job.release(), steps);
         self.handed += 1;
         self.last = job.release();
         let _release = self.server.admit(job);
-        settle(&mut self.server, self.last, steps);
         Ok(())
     }
 

@@ -1,8 +1,7 @@
-use Rattle.std.proofs.Common.{◌∙◌, arith, refl, subst}
+use Rattle.std.proofs.Common.{◌∙◌, ◌∷◌, [], arith, refl, subst}
 use Rattle.dover_model.specs.declared.horizon.Horizon.TheVariants.{Mark}
 use Rattle.snapshot.specs.Kept.{HasRun}
-use Rattle.snapshot.proofs.Joining.{so_far, serves_here, rests_again, jobs_here, joins_on, rests_joined, has_joined}
-use Rattle.snapshot.proofs.Joining.{valid_more}
+use Rattle.snapshot.proofs.Joining.{with_room, jobs_here, so_far, valid_more, has_joined}
 use Rattle.snapshot.proofs.Settling.{release_known, on_err}
 use Rattle.snapshot.proofs.Turning.{same_about, few_items}
 use Rattle.snapshot.proofs.resuming.Resuming.admit.Goals as goal
@@ -15,24 +14,14 @@ returns-in_err-make_room-clause-err g c = λ h tasks it. on_err c.from_residual.
 pub returns-in_err-make_room-clause-count : goal.returns-in_err-make_room-clause-count
 returns-in_err-make_room-clause-count g c = λ start paid. c.make_room.ensures.paid start _ paid
 
-pub settle-requires : goal.settle-requires
-settle-requires g c =
-    let r = c.requires in record {
-      serves = serves_here r.0 r.1 c.args.self.now.last c.args.self.now r.3 c.make_room.new.self
-          (λ J events. c.make_room.ensures.serves J (Mark c.args.self.now.last) events)
-          (omega (arith, r.4.ordered, release_known r.0 r.1 c.args.self.now.last c.args.job r.4));
-    }
-
 pub run_to-requires-clause-run : goal.run_to-requires-clause-run
 run_to-requires-clause-run g c =
     let r = c.requires in (
       r.0,
       r.1,
       same_about c.args.self.now _ r.0 r.1 refl refl r.2,
-      rests_again r.0 r.1 c.args.self.now.last c.args.self.now r.3 c.make_room.new.self c.settle.new.server
-          (λ J events. c.make_room.ensures.serves J (Mark c.args.self.now.last) events)
-          (omega (arith, r.4.ordered, release_known r.0 r.1 c.args.self.now.last c.args.job r.4))
-          c.settle.ensures.rests (c.settle.ensures.roster ∙ c.make_room.ensures.roster ∙ r.3.served.listed),
+      with_room r.0 r.1 c.args.self.now.last c.args.self.now r.3 c.make_room.new.self
+          (λ J events. c.make_room.ensures.serves J (Mark c.args.self.now.last) events) c.make_room.ensures.roster,
     )
 
 pub overflow_add-self : goal.overflow_add-self
@@ -40,10 +29,8 @@ overflow_add-self g c =
     let r = c.requires in
     let run : HasRun c.run_to.new.self r.0 r.1 c.release.result =
     c.run_to.ensures.run r.0 r.1 (same_about c.args.self.now _ r.0 r.1 refl refl r.2)
-    (rests_again r.0 r.1 c.args.self.now.last c.args.self.now r.3 c.make_room.new.self c.settle.new.server
-    (λ J events. c.make_room.ensures.serves J (Mark c.args.self.now.last) events)
-    (omega (arith, r.4.ordered, release_known r.0 r.1 c.args.self.now.last c.args.job r.4))
-    c.settle.ensures.rests (c.settle.ensures.roster ∙ c.make_room.ensures.roster ∙ r.3.served.listed)) in
+    (with_room r.0 r.1 c.args.self.now.last c.args.self.now r.3 c.make_room.new.self
+    (λ J events. c.make_room.ensures.serves J (Mark c.args.self.now.last) events) c.make_room.ensures.roster) in
     omega (
       arith,
       few_items c.run_to.new.self.server r.0 r.1 run.items c.release.result c.run_to.new.self.handed
@@ -56,45 +43,24 @@ admit-release-requires-clause-valid g c =
     let run : HasRun c.run_to.new.self r.0 r.1 c.args.job.release =
     subst (HasRun c.run_to.new.self r.0 r.1) c.release.ensures.is
     (c.run_to.ensures.run r.0 r.1 (same_about c.args.self.now _ r.0 r.1 refl refl r.2)
-    (rests_again r.0 r.1 c.args.self.now.last c.args.self.now r.3 c.make_room.new.self c.settle.new.server
-    (λ J events. c.make_room.ensures.serves J (Mark c.args.self.now.last) events)
-    (omega (arith, r.4.ordered, release_known r.0 r.1 c.args.self.now.last c.args.job r.4))
-    c.settle.ensures.rests (c.settle.ensures.roster ∙ c.make_room.ensures.roster ∙ r.3.served.listed))) in (
+    (with_room r.0 r.1 c.args.self.now.last c.args.self.now r.3 c.make_room.new.self
+    (λ J events. c.make_room.ensures.serves J (Mark c.args.self.now.last) events) c.make_room.ensures.roster)) in (
       so_far r.0 r.1 c.args.job.release c.run_to.new.self run,
       run.served.rests,
       valid_more r.0 r.1 c.args.job.release c.run_to.new.self run c.args.self.now.last c.args.job r.4,
     )
-
-pub settle-requires-2 : goal.settle-requires-2
-settle-requires-2 g c =
-    let r = c.requires in
-    let run : HasRun c.run_to.new.self r.0 r.1 c.args.job.release =
-    subst (HasRun c.run_to.new.self r.0 r.1) c.release.ensures.is
-    (c.run_to.ensures.run r.0 r.1 (same_about c.args.self.now _ r.0 r.1 refl refl r.2)
-    (rests_again r.0 r.1 c.args.self.now.last c.args.self.now r.3 c.make_room.new.self c.settle.new.server
-    (λ J events. c.make_room.ensures.serves J (Mark c.args.self.now.last) events)
-    (omega (arith, r.4.ordered, release_known r.0 r.1 c.args.self.now.last c.args.job r.4))
-    c.settle.ensures.rests (c.settle.ensures.roster ∙ c.make_room.ensures.roster ∙ r.3.served.listed))) in record {
-      serves = joins_on r.0 r.1 c.args.job c.args.self.now.last c.run_to.new.self run r.4 c.admit-release.new.self
-          c.admit-release.result c.admit-release.ensures.serves c.release-self.result c.release-self.ensures.is;
-    }
 
 pub returns-clause-run : goal.returns-clause-run
 returns-clause-run g c = λ h tasks t about start may same number.
     let run : HasRun c.run_to.new.self h tasks c.args.job.release =
     subst (HasRun c.run_to.new.self h tasks) c.release.ensures.is
     (c.run_to.ensures.run h tasks (same_about c.args.self.now _ h tasks refl refl about)
-    (rests_again h tasks c.args.self.now.last c.args.self.now start c.make_room.new.self c.settle.new.server
-    (λ J events. c.make_room.ensures.serves J (Mark c.args.self.now.last) events)
-    (omega (arith, may.ordered, release_known h tasks c.args.self.now.last c.args.job may))
-    c.settle.ensures.rests (c.settle.ensures.roster ∙ c.make_room.ensures.roster ∙ start.served.listed))) in
+    (with_room h tasks c.args.self.now.last c.args.self.now start c.make_room.new.self
+    (λ J events. c.make_room.ensures.serves J (Mark c.args.self.now.last) events) c.make_room.ensures.roster)) in
     has_joined h tasks t c.args.self.now.last c.run_to.new.self _ number c.args.job same run may refl
-    c.release-self.ensures.is
-    (rests_joined h tasks c.args.job c.args.self.now.last c.run_to.new.self run may c.admit-release.new.self
-    c.settle-2.new.server c.admit-release.result c.admit-release.ensures.serves c.release-self.result
-    c.release-self.ensures.is c.settle-2.ensures.rests)
-    (c.settle-2.ensures.roster ∙ c.admit-release.ensures.roster ∙ run.served.listed)
+    c.release-self.ensures.is (c.admit-release.result ∷ []) c.admit-release.ensures.serves
+    (c.admit-release.ensures.roster ∙ run.served.listed)
 
 pub returns-clause-count : goal.returns-clause-count
-returns-clause-count g c = λ start paid. c.settle-2.ensures.paid start (c.admit-release.ensures.paid start _
-    (c.run_to.ensures.paid start (c.settle.ensures.paid start (c.make_room.ensures.paid start _ paid))))
+returns-clause-count g c = λ start paid. c.admit-release.ensures.paid start _
+    (c.run_to.ensures.paid start (c.make_room.ensures.paid start _ paid))

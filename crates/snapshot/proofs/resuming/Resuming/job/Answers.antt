@@ -6,10 +6,10 @@ use Rattle.snapshot.specs.Snapshot.{Head}
 use Rattle.snapshot.specs.declared.resuming.Resuming.{Resuming}
 use Rattle.snapshot.specs.Stored.{HasRead}
 use Rattle.snapshot.specs.Spending.{jobs_read}
-use Rattle.snapshot.specs.Kept.{IsFed, HasRun, stance_of}
+use Rattle.snapshot.specs.Kept.{IsFed, HasRunTowards, stance_of}
 use Rattle.snapshot.proofs.Stepping.{served_count, jobs_count, room, none_refused, job_short, beyond_refused, may_admit}
 use Rattle.snapshot.proofs.Stepping.{run_at, read_more, holds_more, same_run}
-use Rattle.snapshot.proofs.Spending.{jobs_now, jobs_left, jobs_stay, jobs_run}
+use Rattle.snapshot.proofs.Spending.{jobs_now, jobs_left, jobs_stay, jobs_towards}
 use Rattle.snapshot.proofs.Turning.{same_about}
 use Rattle.snapshot.proofs.resuming.Resuming.job.Goals as goal
 
@@ -103,7 +103,7 @@ returns-in-Ok-push-clause-answers g c = λ ls (h, tasks, read, it).
     let more_read : HasRead h (tasks ++ task_in c.in-Some.state ∷ []) (ls ++ c.args.line.now ∷ []) =
     read_more h tasks ls read c.args.self.now it c.args.line.now more (task_in c.in-Some.state) spelled some.1 number
     (omega (arith, c.if-state-self.false, ap (λ (x : Head). x.mark) it.about.head)) in
-    let run : HasRun c.admit.new.self h (tasks ++ task_in c.in-Some.state ∷ []) c.in-Some-hand_job.job.release =
+    let run : HasRunTowards c.admit.new.self h (tasks ++ task_in c.in-Some.state ∷ []) c.in-Some-hand_job.job.release =
     c.in-Ok.ensures.run h tasks (task_in c.in-Some.state)
     (same_about c.args.self.now _ h tasks refl refl it.about)
     (same_run c.args.self.now _ h tasks c.args.self.now.last refl refl refl
@@ -124,8 +124,8 @@ returns-in-Ok-push-clause-answers g c = λ ls (h, tasks, read, it).
           (subst (λ i. IsFed i h (tasks ++ task_in c.in-Some.state ∷ []))
           (sym (ap (λ (x : Resuming). x.intake) same)) some.2)
           (same_run c.admit.new.self _ h (tasks ++ task_in c.in-Some.state ∷ []) _ refl refl refl
-          (subst (λ (j : JobFacts). HasRun c.admit.new.self h (tasks ++ task_in c.in-Some.state ∷ []) j.release) some.0
-          run)),
+          (subst (λ (j : JobFacts). HasRunTowards c.admit.new.self h (tasks ++ task_in c.in-Some.state ∷ [])
+          j.release) some.0 run)),
     )
 
 pub returns-in-Err-clause-answers : goal.returns-in-Err-clause-answers
@@ -186,7 +186,7 @@ returns-in-Err-push-clause-jobs g c = λ ls (h, tasks, read, it).
     let more_read : HasRead h (tasks ++ task_in c.in-Some.state ∷ []) (ls ++ c.args.line.now ∷ []) =
     read_more h tasks ls read c.args.self.now it c.args.line.now more (task_in c.in-Some.state) spelled some.1 number
     (omega (arith, c.if-state-self.false, ap (λ (x : Head). x.mark) it.about.head)) in
-    let run : HasRun c.admit.new.self h (tasks ++ task_in c.in-Some.state ∷ []) c.in-Some-hand_job.job.release =
+    let run : HasRunTowards c.admit.new.self h (tasks ++ task_in c.in-Some.state ∷ []) c.in-Some-hand_job.job.release =
     c.in-Ok.ensures.run h tasks (task_in c.in-Some.state)
     (same_about c.args.self.now _ h tasks refl refl it.about)
     (same_run c.args.self.now _ h tasks c.args.self.now.last refl refl refl
@@ -196,7 +196,7 @@ returns-in-Err-push-clause-jobs g c = λ ls (h, tasks, read, it).
     subst (λ reading. c.admit.new.self.server.server.ready.jobs ≤ jobs_read reading) (sym more_read.reads)
     (omega (
       arith,
-      jobs_run c.admit.new.self h (tasks ++ task_in c.in-Some.state ∷ [])
+      jobs_towards c.admit.new.self h (tasks ++ task_in c.in-Some.state ∷ [])
           c.in-Some-hand_job.job.release run,
     ))
 
