@@ -1,6 +1,6 @@
 -- What is read field by field is what the line spells.
-use Rattle.std.proofs.Common.{◌≡◌, ℕ, ◌≤◌, ◌<◌, List, [], ◌∷◌, length, refl, sym, ap, ◌∙◌, Bool, true, false, cond, not}
-use Rattle.std.proofs.Common.{arith, Option, Some, None, codes}
+use Rattle.std.proofs.Common.{◌≡◌, ◌≢◌, ℕ, ◌≤◌, List, [], ◌∷◌, ◌++◌, length, refl, sym, ap, ◌∙◌, Bool, true, false}
+use Rattle.std.proofs.Common.{cond, not, arith, Option, Some, None, codes}
 use Rattle.std.specs.Prelude.{bytes_eq}
 use Rattle.std.specs.Option.{option_and_then, option_map}
 use Rattle.std.proofs.lemmas.Bool.{le-ltb}
@@ -8,6 +8,7 @@ use Rattle.dover_model.specs.declared.events.Role.{Role}
 use Rattle.dover_model.specs.Numerals.{numeral, numerals}
 use Rattle.dover_model.specs.Lines.{fields_of, numbers_after, numbers_of}
 use Rattle.dover_model.proofs.Tests.{never}
+use Rattle.line_text.proofs.Words.{Lacks, differs}
 use Rattle.snapshot.specs.Reading.{head_from, read_head, role_of_word, task_from, task_of_fields, read_task}
 use Rattle.snapshot.specs.Forms.{behind_number, behind_word}
 
@@ -41,25 +42,25 @@ none_head line word fields fits cut other =
 -- ---- the line of a job
 
 -- it has six numbers
-many_numbers : (r : Role) (n : ℕ) (ns : List ℕ) → 5 < length ns → task_from r (n ∷ ns) ≡ None
-many_numbers r n [] many = absurd (omega arith)
-many_numbers r n (a ∷ []) many = refl
-many_numbers r n (a ∷ b ∷ []) many = refl
-many_numbers r n (a ∷ b ∷ c ∷ []) many = refl
-many_numbers r n (a ∷ b ∷ c ∷ d ∷ []) many = refl
-many_numbers r n (a ∷ b ∷ c ∷ d ∷ e ∷ []) many = absurd (omega arith)
-many_numbers r n (a ∷ b ∷ c ∷ d ∷ e ∷ f ∷ ns) many = refl
+not_five : (r : Role) (n : ℕ) (ns : List ℕ) → length ns ≢ 5 → task_from r (n ∷ ns) ≡ None
+not_five r n [] other = refl
+not_five r n (a ∷ []) other = refl
+not_five r n (a ∷ b ∷ []) other = refl
+not_five r n (a ∷ b ∷ c ∷ []) other = refl
+not_five r n (a ∷ b ∷ c ∷ d ∷ []) other = refl
+not_five r n (a ∷ b ∷ c ∷ d ∷ e ∷ []) other = absurd (other refl)
+not_five r n (a ∷ b ∷ c ∷ d ∷ e ∷ f ∷ ns) other = refl
 
--- so fields with no numbers, or more, are none
+-- so fields with no numbers, or others than five, are none
 pub none_behind : (n : ℕ) (role : List ℕ) (fields : List (List ℕ)) (r : Role) → role_of_word role ≡ Some r
-    → ((ns : List ℕ) → numerals fields ≡ Some ns → 5 < length ns) → behind_number n (role ∷ fields) ≡ None
-none_behind n role fields r named many =
+    → ((ns : List ℕ) → numerals fields ≡ Some ns → length ns ≢ 5) → behind_number n (role ∷ fields) ≡ None
+none_behind n role fields r named other =
     ap (option_and_then (λ q. option_and_then (λ ns. task_from q (n ∷ ns)) (numerals fields))) named
-    ∙ by (numerals fields) many where
-      by : (o : Option (List ℕ)) → ((ns : List ℕ) → o ≡ Some ns → 5 < length ns)
+    ∙ by (numerals fields) other where
+      by : (o : Option (List ℕ)) → ((ns : List ℕ) → o ≡ Some ns → length ns ≢ 5)
           → option_and_then (λ ns. task_from r (n ∷ ns)) o ≡ None
-      by None many = refl
-      by (Some ns) many = many_numbers r n ns (many ns refl)
+      by None other = refl
+      by (Some ns) other = not_five r n ns (other ns refl)
 
 -- the number in front, and the fields behind it
 first_then : (fields : List (List ℕ)) (o : Option ℕ)
@@ -93,11 +94,27 @@ by_fields word (number ∷ role ∷ fields) is =
       by (Some n) (Some q) (Some ns) = refl
 
 -- so is a line
-pub task_behind : (line word : List ℕ) (fields : List (List ℕ)) → length line ≤ 128 → fields_of line ≡ word ∷ fields
-    → bytes_eq word (codes "state") ≡ true → read_task line ≡ behind_word fields
-task_behind line word fields fits cut is =
-    ap (λ b. cond b None (task_of_fields (fields_of line))) (le-ltb 128 (length line) fits) ∙ ap task_of_fields cut
-    ∙ by_fields word fields is
+pub task_behind : (line rest : List ℕ) → length line ≤ 128 → line ≡ codes "state" ++ 32 ∷ rest
+    → read_task line ≡ behind_word (fields_of rest)
+task_behind line rest fits is =
+    ap (λ b. cond b None (task_of_fields (fields_of line))) (le-ltb 128 (length line) fits)
+    ∙ ap (λ l. task_of_fields (fields_of l)) is ∙ by_fields (codes "state") (fields_of rest) refl
+
+-- and one that doesn't begin with the word is none
+pub no_task_in : (line : List ℕ) → length line ≤ 128 → Lacks line (codes "state") → read_task line ≡ None
+no_task_in line fits lacks =
+    ap (λ b. cond b None (task_of_fields (fields_of line))) (le-ltb 128 (length line) fits)
+    ∙ by (fields_of line) refl where
+      by : (fields : List (List ℕ)) → fields_of line ≡ fields → task_of_fields fields ≡ None
+      by [] cut = refl
+      by (word ∷ []) cut = refl
+      by (word ∷ number ∷ []) cut = refl
+      by (word ∷ number ∷ role ∷ fields) cut = other (bytes_eq word (codes "state")) refl where
+        other : (b : Bool) → bytes_eq word (codes "state") ≡ b
+            → cond b (option_and_then (λ r. option_and_then (task_from r) (numerals (number ∷ fields)))
+            (role_of_word role)) None ≡ None
+        other true same = absurd (differs line word number (role ∷ fields) cut (codes "state") lacks same)
+        other false apart = refl
 
 -- a test whose denial fails
 pub denied : (b : Bool) → not b ≡ false → b ≡ true

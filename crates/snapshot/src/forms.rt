@@ -1,5 +1,6 @@
 //! The lines of a snapshot, as they are read.
-ghost use Rattle.std.specs.Prelude.{◌≡◌, ◌∷◌, ◌<◌, ◌^◌, ℕ, List, length, Some, IfSome, IfNone, option_map};
+ghost use Rattle.std.specs.Prelude.{◌≡◌, ◌≢◌, ◌∷◌, ◌<◌, ◌^◌, ℕ, List, length, Some, IfSome, IfNone, option_map};
+ghost use Rattle.dover_model.specs.Lines.{fields_of};
 ghost use Rattle.dover_model.specs.Numerals.{numerals};
 ghost use Rattle.line_text.specs.Reading.{fields_left};
 ghost use Rattle.snapshot.specs.Reading as model;
@@ -7,7 +8,9 @@ ghost use Rattle.snapshot.specs.Forms.{head_in, task_in, behind_number, behind_w
 
 use dover_model::jobs::LAST_TICK;
 use dover_model::{Ratio, Role, Version};
-use line_text::{LINE_BYTES, Numbers, cut_field, first_number, read_numbers};
+use line_text::{
+    LINE_BYTES, Numbers, behind_word, cut_field, first_number, numbers_in, read_numbers,
+};
 
 /// The first line: the rules are within their limits, and the other numbers are below 10^18.
 #[derive(Clone, Copy)]
@@ -135,23 +138,34 @@ fn state_of(number: u64, role: Role, numbers: &[u64]) -> Option<StateLine>
     }
 }
 
+/// The five numbers that the fields left spell.
+#[inline(always)]
+fn five_left(fields: Option<&[u8]>) -> Option<[u64; 5]>
+    ensures some { IfSome result (λ ns. numerals (fields_left fields.entry) ≡ Some ns) }
+    ensures none { IfNone result ((ns : List ℕ) → numerals (fields_left fields.entry) ≡ Some ns → length ns ≢ 5) }
+{
+    numbers_in::<5>(fields?)
+}
+
 /// The line of the job of this number, of the fields behind the number.
+#[inline(always)]
 fn state_behind(number: u64, fields: Option<&[u8]>) -> Option<StateLine>
     ensures { option_map task_in result ≡ behind_number number (fields_left fields.entry) }
 {
     let (word, rest) = cut_field(fields?);
     let role = role_of_word(word)?;
-    let Some(numbers) = read_numbers(rest) else {
+    let Some(numbers) = five_left(rest) else {
         return None;
     };
-    state_of(number, role, numbers.as_slice())
+    state_of(number, role, &numbers)
 }
 
 /// The line of a job, of the fields behind its first word.
-fn state_left(fields: Option<&[u8]>) -> Option<StateLine>
-    ensures { option_map task_in result ≡ behind_word (fields_left fields.entry) }
+#[inline(always)]
+fn state_left(fields: &[u8]) -> Option<StateLine>
+    ensures { option_map task_in result ≡ behind_word (fields_of fields.now) }
 {
-    let (number, rest) = first_number(fields?)?;
+    let (number, rest) = first_number(fields)?;
     state_behind(number, rest)
 }
 
@@ -162,9 +176,8 @@ pub(crate) fn read_state(line: &[u8]) -> Option<StateLine>
     if line.len() >= LINE_BYTES {
         return None;
     }
-    let (word, rest) = cut_field(line);
-    if word != b"state".as_slice() {
-        return None;
+    match behind_word(line, b"state") {
+        Some(fields) => state_left(fields),
+        None => None,
     }
-    state_left(rest)
 }

@@ -1,14 +1,11 @@
-use Rattle.std.proofs.Common.{◌≡◌, sym, ap, ◌∙◌, false, not, arith}
-use Rattle.std.specs.Prelude.{bytes_eq}
-use Rattle.line_text.specs.Reading.{fields_left}
-use Rattle.snapshot.proofs.Formed.{task_behind, denied}
+use Rattle.std.proofs.Common.{sym, ◌∙◌, arith}
+use Rattle.snapshot.proofs.Formed.{task_behind, no_task_in}
 use Rattle.snapshot.proofs.forms.read_state.Goals as goal
 
-pub returns : goal.returns
-returns c =
-    let other : not (bytes_eq c.cut_field.result.0.now c.as_slice.result.now) ≡ false = sym c.ne.ensures
-    ∙ c.if-ne.false in
-    c.state_left.ensures ∙ sym
-    (task_behind c.args.line.now c.cut_field.result.0.now (fields_left c.cut_field.result.1)
-    (omega (arith, c.if-line-ge-LINE_BYTES.false))
-    c.cut_field.ensures.fields (ap (bytes_eq c.cut_field.result.0.now) (sym c.as_slice.ensures) ∙ denied _ other))
+pub returns-in-Some : goal.returns-in-Some
+returns-in-Some c = c.state_left.ensures ∙ sym (task_behind c.args.line.now c.in-Some.fields.now
+    (omega (arith, c.if-line-ge-LINE_BYTES.false)) c.in-Some.ensures.some)
+
+pub returns-in-None : goal.returns-in-None
+returns-in-None c = sym (no_task_in c.args.line.now (omega (arith, c.if-line-ge-LINE_BYTES.false))
+    c.in-None.ensures.none)
