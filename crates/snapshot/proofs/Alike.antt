@@ -249,14 +249,15 @@ module _ (S T : Session) (mark lines : ℕ) (holds : Holds S mark lines) (holds_
       }
 
   -- with one item more
-  same_items : (S2 T2 : Session) → T2.rules ≡ S2.rules → (jobs : List JobFacts) (more : List Finish)
-      → admitted_jobs S2.items ≡ admitted_jobs S.items ++ jobs → admitted_jobs T2.items ≡ admitted_jobs T.items ++ jobs
-      → early_finishes S2.items ≡ early_finishes S.items ++ more
-      → early_finishes T2.items ≡ early_finishes T.items ++ more → SameSession S2 T2
-  same_items S2 T2 rules jobs more jobs_S jobs_T early_S early_T = record {
+  same_items : (longer other : Session) → other.rules ≡ longer.rules → (jobs : List JobFacts) (more : List Finish)
+      → admitted_jobs longer.items ≡ admitted_jobs S.items ++ jobs
+      → admitted_jobs other.items ≡ admitted_jobs T.items ++ jobs
+      → early_finishes longer.items ≡ early_finishes S.items ++ more
+      → early_finishes other.items ≡ early_finishes T.items ++ more → SameSession longer other
+  same_items longer other rules jobs more jobs_S jobs_T early_S early_T = record {
     rules = rules;
     jobs = jobs_T ∙ ap (λ js. js ++ jobs) same.jobs ∙ sym jobs_S;
-    finishes = subst (λ fs. HaveTheSame fs (early_finishes T2.items)) (sym early_S)
+    finishes = subst (λ fs. HaveTheSame fs (early_finishes other.items)) (sym early_S)
         (subst (HaveTheSame (early_finishes S.items ++ more)) (sym early_T) (
           each_append (λ f. IsMember f (early_finishes T.items ++ more)) (early_finishes S.items) more
               (λ f m. member_front (early_finishes T.items) more f (same.finishes.0 f m))
