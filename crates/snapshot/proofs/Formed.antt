@@ -4,13 +4,17 @@ use Rattle.std.proofs.Common.{cond, not, arith, Option, Some, None, codes}
 use Rattle.std.specs.Prelude.{bytes_eq}
 use Rattle.std.specs.Option.{option_and_then, option_map}
 use Rattle.std.proofs.lemmas.Bool.{le-ltb}
+use Rattle.std.proofs.lemmas.Slice.Eq.{bytes_eq-Decides}
 use Rattle.dover_model.specs.declared.events.Role.{Role}
+use Rattle.dover_model.specs.declared.events.Role.TheVariants.{Coming, Fresh, Waiting, Held, Running, Done, Gone}
 use Rattle.dover_model.specs.Numerals.{numeral, numerals}
 use Rattle.dover_model.specs.Lines.{fields_of, numbers_after, numbers_of}
 use Rattle.dover_model.proofs.Tests.{never}
-use Rattle.line_text.proofs.Words.{Lacks, differs}
+use Rattle.line_text.proofs.Words.{IsNot, uncounted, Lacks, differs}
 use Rattle.snapshot.specs.Reading.{head_from, read_head, role_of_word, task_from, task_of_fields, read_task}
 use Rattle.snapshot.specs.Forms.{behind_number, behind_word}
+use Rattle.snapshot.specs.Snapshot.{role_word}
+use Rattle.snapshot.proofs.Spelled.{role_back, role_from}
 
 -- ---- a first line
 
@@ -52,15 +56,47 @@ not_five r n (a ∷ b ∷ c ∷ d ∷ e ∷ []) other = absurd (other refl)
 not_five r n (a ∷ b ∷ c ∷ d ∷ e ∷ f ∷ ns) other = refl
 
 -- so fields with no numbers, or others than five, are none
-pub none_behind : (n : ℕ) (role : List ℕ) (fields : List (List ℕ)) (r : Role) → role_of_word role ≡ Some r
-    → ((ns : List ℕ) → numerals fields ≡ Some ns → length ns ≢ 5) → behind_number n (role ∷ fields) ≡ None
-none_behind n role fields r named other =
-    ap (option_and_then (λ q. option_and_then (λ ns. task_from q (n ∷ ns)) (numerals fields))) named
-    ∙ by (numerals fields) other where
-      by : (o : Option (List ℕ)) → ((ns : List ℕ) → o ≡ Some ns → length ns ≢ 5)
-          → option_and_then (λ ns. task_from r (n ∷ ns)) o ≡ None
-      by None other = refl
-      by (Some ns) other = not_five r n ns (other ns refl)
+pub no_numbers : (r : Role) (n : ℕ) (o : Option (List ℕ)) → IsNot 5 o
+    → None ≡ option_and_then (λ ns. task_from r (n ∷ ns)) o
+no_numbers r n = uncounted (λ ns. task_from r (n ∷ ns)) 5 (not_five r n)
+
+-- the word of a role is the first field
+word_in_front : (r : Role) (rest : List ℕ) → fields_of (role_word r ++ 32 ∷ rest) ≡ role_word r ∷ fields_of rest
+word_in_front Coming rest = refl
+word_in_front Fresh rest = refl
+word_in_front Waiting rest = refl
+word_in_front Held rest = refl
+word_in_front Running rest = refl
+word_in_front Done rest = refl
+word_in_front Gone rest = refl
+
+-- behind it are the numbers
+pub behind_role : (n : ℕ) (line rest : List ℕ) (r : Role) → line ≡ role_word r ++ 32 ∷ rest
+    → role_of_word (role_word r) ≡ Some r
+    → behind_number n (fields_of line) ≡ option_and_then (λ ns. task_from r (n ∷ ns)) (numerals (fields_of rest))
+behind_role n line rest r is stored = ap (λ l. behind_number n (fields_of l)) is
+    ∙ ap (behind_number n) (word_in_front r rest)
+    ∙ ap (option_and_then (λ q. option_and_then (λ ns. task_from q (n ∷ ns)) (numerals (fields_of rest)))) stored
+
+-- a line that begins with no such word is none
+pub no_role : (n : ℕ) (line : List ℕ)
+    → ((r : Role) → role_of_word (role_word r) ≡ Some r → Lacks line (role_word r))
+    → behind_number n (fields_of line) ≡ None
+no_role n line lacks = by (fields_of line) refl where
+  by : (fields : List (List ℕ)) → fields_of line ≡ fields → behind_number n fields ≡ None
+  by [] cut = refl
+  by (word ∷ []) cut = alone (role_of_word word) where
+    alone : (o : Option Role) → option_and_then (λ q. task_from q (n ∷ [])) o ≡ None
+    alone None = refl
+    alone (Some r) = refl
+  by (word ∷ field ∷ fields) cut = other (role_of_word word) refl where
+    other : (o : Option Role) → role_of_word word ≡ o
+        → option_and_then (λ q. option_and_then (λ ns. task_from q (n ∷ ns)) (numerals (field ∷ fields))) o ≡ None
+    other None read = refl
+    other (Some r) read =
+        let it = role_from word r read in
+        absurd (differs line word field fields cut (role_word r) (lacks r (role_back r it.1))
+        ((bytes_eq-Decides word (role_word r)).1 (sym it.0)))
 
 -- the number in front, and the fields behind it
 first_then : (fields : List (List ℕ)) (o : Option ℕ)

@@ -194,7 +194,7 @@ role_fits Done = omega arith
 role_fits Gone = omega arith
 
 -- a role is read from its word
-role_back : (role : Role) → IsStored role → role_of_word (role_word role) ≡ Some role
+pub role_back : (role : Role) → IsStored role → role_of_word (role_word role) ≡ Some role
 role_back Coming it = absurd it
 role_back Fresh it = absurd it
 role_back Waiting it = refl
@@ -204,7 +204,7 @@ role_back Done it = refl
 role_back Gone it = refl
 
 -- and its word from it
-role_from : (word : List ℕ) (role : Role) → role_of_word word ≡ Some role → (role_word role ≡ word) × IsStored role
+pub role_from : (word : List ℕ) (role : Role) → role_of_word word ≡ Some role → (role_word role ≡ word) × IsStored role
 role_from word role = by (is Waiting) (is Held) (is Running) (is Done) (is Gone) refl refl refl refl refl where
   is : Role → Bool
   is other = bytes_eq word (role_word other)

@@ -1,9 +1,12 @@
 //! The lines of a snapshot, as they are read.
-ghost use Rattle.std.specs.Prelude.{◌≡◌, ◌≢◌, ◌∷◌, ◌<◌, ◌^◌, ℕ, List, length, Some, IfSome, IfNone, option_map};
+ghost use Rattle.std.specs.Prelude.{◌≡◌, ◌∷◌, ◌++◌, ◌<◌, ◌^◌, ℕ, List, length, Some, IfSome, IfNone, option_map};
+ghost use Rattle.std.specs.Option.{option_and_then};
+ghost use Rattle.dover_model.specs.declared.events.Role.{Role};
 ghost use Rattle.dover_model.specs.Lines.{fields_of};
 ghost use Rattle.dover_model.specs.Numerals.{numerals};
 ghost use Rattle.line_text.specs.Reading.{fields_left};
 ghost use Rattle.snapshot.specs.Reading as model;
+ghost use Rattle.snapshot.specs.Snapshot.{role_word};
 ghost use Rattle.snapshot.specs.Forms.{head_in, task_in, behind_number, behind_word};
 
 use dover_model::jobs::LAST_TICK;
@@ -101,23 +104,30 @@ pub(crate) fn read_head(line: &[u8]) -> Option<Head>
     head_of(version, numbers.as_slice())
 }
 
-/// The role that a word stands for.
-fn role_of_word(word: &[u8]) -> Option<Role>
-    ensures { result ≡ model.role_of_word word.now }
+/// The role whose word and a space a line begins with, and what is left behind them. Most jobs are done, or gone.
+#[inline(always)]
+fn role_in_front(line: &[u8]) -> Option<(Role, &[u8])>
+    ensures some { IfSome result (λ r. line.now ≡ role_word r.0 ++ 32 ∷ r.1.now) }
+    ensures stored { IfSome result (λ r. model.role_of_word (role_word r.0) ≡ Some r.0) }
+    ensures none { IfNone result ((role : Role) → model.role_of_word (role_word role) ≡ Some role → (rest : List ℕ)
+        → line.now ≡ role_word role ++ 32 ∷ rest → ⊥) }
 {
-    if word == b"waiting".as_slice() {
-        Some(Role::Waiting)
-    } else if word == b"held".as_slice() {
-        Some(Role::Held)
-    } else if word == b"running".as_slice() {
-        Some(Role::Running)
-    } else if word == b"done".as_slice() {
-        Some(Role::Done)
-    } else if word == b"gone".as_slice() {
-        Some(Role::Gone)
-    } else {
-        None
+    if let Some(rest) = behind_word(line, b"done") {
+        return Some((Role::Done, rest));
     }
+    if let Some(rest) = behind_word(line, b"gone") {
+        return Some((Role::Gone, rest));
+    }
+    if let Some(rest) = behind_word(line, b"waiting") {
+        return Some((Role::Waiting, rest));
+    }
+    if let Some(rest) = behind_word(line, b"held") {
+        return Some((Role::Held, rest));
+    }
+    if let Some(rest) = behind_word(line, b"running") {
+        return Some((Role::Running, rest));
+    }
+    None
 }
 
 /// The line of a job in this role, of its number and five more numbers.
@@ -138,26 +148,27 @@ fn state_of(number: u64, role: Role, numbers: &[u64]) -> Option<StateLine>
     }
 }
 
-/// The five numbers that the fields left spell.
+/// The line of the job of this number in this role, of the fields behind the role.
 #[inline(always)]
-fn five_left(fields: Option<&[u8]>) -> Option<[u64; 5]>
-    ensures some { IfSome result (λ ns. numerals (fields_left fields.entry) ≡ Some ns) }
-    ensures none { IfNone result ((ns : List ℕ) → numerals (fields_left fields.entry) ≡ Some ns → length ns ≢ 5) }
+fn state_in_role(number: u64, role: Role, fields: &[u8]) -> Option<StateLine>
+    ensures { option_map task_in result
+        ≡ option_and_then (λ ns. model.task_from role (number ∷ ns)) (numerals (fields_of fields.now)) }
 {
-    numbers_in::<5>(fields?)
+    let Some(numbers) = numbers_in::<5>(fields) else {
+        return None;
+    };
+    state_of(number, role, &numbers)
 }
 
 /// The line of the job of this number, of the fields behind the number.
 #[inline(always)]
-fn state_behind(number: u64, fields: Option<&[u8]>) -> Option<StateLine>
-    ensures { option_map task_in result ≡ behind_number number (fields_left fields.entry) }
+fn state_behind(number: u64, fields: &[u8]) -> Option<StateLine>
+    ensures { option_map task_in result ≡ behind_number number (fields_of fields.now) }
 {
-    let (word, rest) = cut_field(fields?);
-    let role = role_of_word(word)?;
-    let Some(numbers) = five_left(rest) else {
-        return None;
-    };
-    state_of(number, role, &numbers)
+    match role_in_front(fields) {
+        Some((role, rest)) => state_in_role(number, role, rest),
+        None => None,
+    }
 }
 
 /// The line of a job, of the fields behind its first word.
@@ -166,7 +177,7 @@ fn state_left(fields: &[u8]) -> Option<StateLine>
     ensures { option_map task_in result ≡ behind_word (fields_of fields.now) }
 {
     let (number, rest) = first_number(fields)?;
-    state_behind(number, rest)
+    state_behind(number, rest?)
 }
 
 /// Reads the line of a job, without its line feed. None where it has another form.
