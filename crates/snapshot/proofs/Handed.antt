@@ -2,15 +2,15 @@
 use Rattle.std.proofs.Common.{◌≡◌, ℕ, ◌+◌, List, [], ◌∷◌, ◌++◌, length, length-append, refl, sym, ap, ◌∙◌, subst, inl}
 use Rattle.std.proofs.Common.{inr}
 use Rattle.std.proofs.Common.{Bool, true, false, cond, arith, Option, Some, None}
-use Rattle.std.specs.Prelude.{Ok, Err, IsSome, IfSome, IsNone}
+use Rattle.std.specs.Prelude.{Ok, Err, IsSome, IfSome, IsNone, is_some}
 use Rattle.std.specs.List.{fold}
 use Rattle.std.proofs.lemmas.List.{map-append}
 use Rattle.std.proofs.lemmas.List.Sums.{fold-append}
 use Rattle.dover_model.specs.declared.events.Task.{Task}
-use Rattle.dover_model.specs.JobFacts.{JobFacts, job_numbers, job_of_numbers}
+use Rattle.dover_model.specs.JobFacts.{JobFacts, IsJob, job_numbers, job_of_numbers}
 use Rattle.dover_model.specs.Instance.{IsValid}
 use Rattle.dover_model.specs.Numerals.{AreShort}
-use Rattle.dover_model.specs.Session.{Session, JobItem, RefusedJob, with_item, admitted_jobs, refuses_lines, refused_at}
+use Rattle.dover_model.specs.Session.{Session, JobItem, RefusedJob, with_item, admitted_jobs, refuses_lines}
 use Rattle.dover_model.specs.Sound.{jobs_of}
 use Rattle.dover_model.specs.FeedLine.{JobLine, feed_text}
 use Rattle.dover_model.specs.Feed as model
@@ -19,7 +19,8 @@ use Rattle.dover_model.specs.Feed.{with_line, with_fault, with_refused_at}
 use Rattle.dover_model.specs.Session.{refused_mark, is_full, instance_of}
 use Rattle.dover_model.proofs.Fullness.{few_ready}
 use Rattle.dover_model.proofs.Honest.{count_jobs}
-use Rattle.dover_model.proofs.Members.{some_same}
+use Rattle.dover_model.proofs.Members.{some_same, all_last}
+use Rattle.dover_model.proofs.Tests.{never}
 use Rattle.event_feed.proofs.Listing.{left_all, job_after}
 use Rattle.dover_model.proofs.Growing.{job_instance, refused_instance}
 use Rattle.dover_model.proofs.JobSessions.{jobs_back}
@@ -37,7 +38,7 @@ use Rattle.snapshot.specs.Reading.{declared_jobs}
 use Rattle.snapshot.specs.Stored.{ratio_text, job_lines, jobs_session, jobs_account}
 use Rattle.event_feed.proofs.DoneLines.{done_session, done_jobs}
 use Rattle.snapshot.specs.Kept.{IsFed, HasRoom, job_in}
-use Rattle.snapshot.proofs.Admitted.{job_cause, no_cause_valid, valid_no_cause, jobs_more}
+use Rattle.snapshot.proofs.Admitted.{job_cause, no_cause_valid, valid_no_cause, jobs_more, with_this}
 use Rattle.snapshot.proofs.Handing.{counted_account, job_read, job_adds}
 
 -- ---- an intake that goes on
@@ -288,6 +289,25 @@ module _ (h : Head) (tasks : List Task) (t : Task) (i new : feed.Kept) (it : IsF
     by (fed.Refused r c d v refusal) left s = tt
     by (fed.Done t n) left s = tt
 
+  -- where one is handed on, it may be made again of its numbers
+  pub handed_again : (answer : Fed) (result : Option JobFacts) → is_some (job_in answer) ≡ true
+      → IfSome result (λ job. job ≡ t.job)
+      → feed.StandsFor (feed.left_in (Ok answer) (account_of_lines (job_lines h tasks)) new)
+      (job_lines h tasks ++ line ∷ [])
+      → Answers line (account_of_lines (job_lines h tasks)) (account_of_lines (job_lines h tasks ++ line ∷ []))
+      (Ok answer)
+      → IfSome result IsHandedOn
+  handed_again answer result some same stands said = by result same (in_some (job_in answer) some (handed_on answer
+      (job_in answer) refl stands said)) where
+        in_some : (o : Option JobFacts) → is_some o ≡ true → IfSome o IsHandedOn → (job : JobFacts) × IsHandedOn job
+        in_some None e it = never e
+        in_some (Some job) e it = (job, it)
+
+        by : (o : Option JobFacts) → IfSome o (λ job. job ≡ t.job) → (job : JobFacts) × IsHandedOn job
+            → IfSome o IsHandedOn
+        by None same it = tt
+        by (Some job) same it = (same, it.1.1, it.1.2)
+
   -- none is handed on where it isn't valid
   pub none_handed_on : (answer : Fed) (result : Option JobFacts) → result ≡ job_in answer → IsNone result
       → Answers line (account_of_lines (job_lines h tasks)) (account_of_lines (job_lines h tasks ++ line ∷ []))
@@ -297,3 +317,9 @@ module _ (h : Head) (tasks : List Task) (t : Task) (i new : feed.Kept) (it : IsF
     by : (o : Option JobFacts) → IsNone o → o ≡ None
     by None n = refl
     by (Some j) n = absurd (let clash : true ≡ false = n in cc)
+
+-- numbers of which no job can be made aren't valid
+pub none_made : (h : Head) (tasks : List Task) (t : Task) → (IsJob t.job → ⊥)
+    → IsValid (declared_jobs h (tasks ++ t ∷ [])) → ⊥
+none_made h tasks t none valid = none (all_last IsJob (declared_jobs h tasks).jobs t.job
+    (subst IsValid (with_this h tasks t) valid).each)

@@ -1,5 +1,5 @@
 //! The lines of a feed, handed in again.
-ghost use Rattle.std.specs.Prelude.{◌≡◌, ℕ, List, [], ◌∷◌, ◌++◌, true, false, IfSome, IsNone};
+ghost use Rattle.std.specs.Prelude.{◌≡◌, ℕ, List, [], ◌∷◌, ◌++◌, true, false, IfSome, IsNone, is_some};
 ghost use Rattle.dover_model.specs.declared.events.Task.{Task};
 ghost use Rattle.dover_model.specs.Fraction.{IsRatio};
 ghost use Rattle.dover_model.specs.Instance.{IsValid};
@@ -58,14 +58,12 @@ pub(crate) fn begin(head: &Head) -> Intake
     intake
 }
 
-/// The job that is admitted, if one is.
-fn job_in(fed: Fed) -> Option<Job>
-    ensures { result ≡ job_in fed }
+/// Whether a job is admitted.
+#[inline(always)]
+fn is_job(fed: Fed) -> bool
+    ensures { result ≡ is_some (job_in fed) }
 {
-    match fed {
-        Fed::Job(_, job) => Some(job),
-        _ => None,
-    }
+    matches!(fed, Fed::Job(..))
 }
 
 /// Hands in the line of a job. The job comes exactly where it is valid with those before it.
@@ -86,7 +84,13 @@ pub(crate) fn hand_job(intake: &mut Intake, state: &StateLine) -> Option<Job>
         value: state.value,
     };
     match intake.form(line) {
-        Ok(fed) => job_in(fed),
+        Ok(fed) => {
+            if !is_job(fed) {
+                return None;
+            }
+            // Made of its numbers again, it needn't be carried through the answer.
+            Job::new(state.release, state.work, state.deadline, state.value)
+        }
         Err(_) => None,
     }
 }
