@@ -245,6 +245,7 @@ impl Resuming {
 
     /// Takes the run from a mark to another, turn by turn, and finishes on the way each job that is stored as done
     /// early.
+    #[inline(never)]
     fn turn_to<L: Ledger>(&mut self, from: u64, mark: u64, steps: &mut Steps<L>)
         requires run { (h : model.Head) × (tasks : List Task) × IsAbout self.old h tasks
             × HasRun self.old h tasks from }
@@ -268,6 +269,7 @@ impl Resuming {
 
     /// Takes the run from a mark, where more may be due, to another, with the early finishes on the way, if jobs may
     /// finish early.
+    #[inline(always)]
     fn run_to<L: Ledger>(&mut self, from: u64, mark: u64, steps: &mut Steps<L>)
         requires run { (h : model.Head) × (tasks : List Task) × IsAbout self.old h tasks
             × HasRunTowards self.old h tasks from }
