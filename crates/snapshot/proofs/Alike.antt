@@ -23,7 +23,7 @@ use Rattle.dover_model.specs.JobFacts.{JobFacts}
 use Rattle.dover_model.specs.Instance.{Declaration, under, Instance, IsValid, with_jobs, finishing, with_finishes}
 use Rattle.dover_model.specs.Admission.{refusal_of}
 use Rattle.dover_model.specs.Session.{Session, JobItem, RefusedItem, FinishItem, Refused, RefusedJob, RefusedDone}
-use Rattle.dover_model.specs.Session.{EarlyFinish, refused_at, with_item, with_named, instance_of, job_of_item}
+use Rattle.dover_model.specs.Session.{EarlyFinish, with_item, with_named, instance_of, job_of_item}
 use Rattle.dover_model.specs.Session.{finish_of_item, admitted_jobs, early_finishes, refuses_lines, may_finish_early}
 use Rattle.dover_model.specs.Session.{early_at, finish_at, is_right, is_full, refusal_in, refused_mark}
 use Rattle.dover_model.specs.Run.{printed, printed_of}
@@ -33,7 +33,7 @@ use Rattle.dover_model.specs.Trace.{texts_among, places_of, put_in, text_of_line
 use Rattle.dover_model.specs.FeedLine.{FeedLine, RatioLine, JobLine, TickLine, DoneLine, EndLine, feed_line}
 use Rattle.dover_model.specs.Feed.{Cause, Lines, Line, Declared, Order, NotAdmitted, Standing, Open, Ended, Faulty}
 use Rattle.dover_model.specs.Feed.{Account, NotDone, late_cause}
-use Rattle.dover_model.specs.Feed.{later_line_cause, with_fault, with_item_in, with_refused_at, with_line, next_line}
+use Rattle.dover_model.specs.Feed.{later_line_cause, with_fault, with_refused_at, with_line, next_line}
 use Rattle.dover_model.specs.Due.{due_lines, fault_text}
 use Rattle.dover_model.specs.WholeRun.{Begins}
 use Rattle.dover_model.specs.Sound.{IsMember, HaveTheSame}

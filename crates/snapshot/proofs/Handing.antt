@@ -1,9 +1,8 @@
 -- What the lines say that an intake is handed: a line of the ratio, and a line for each job.
 use Rattle.std.proofs.Common.{◌≡◌, ℕ, suc, ◌+◌, ◌≤◌, ◌<◌, ◌^◌, List, [], ◌∷◌, ◌++◌, length, length-append, map, sym, ap}
-use Rattle.std.proofs.Common.{◌∙◌, subst}
+use Rattle.std.proofs.Common.{◌∙◌}
 use Rattle.std.proofs.Common.{cond, arith, Some, None, is_some, ◌||◌}
 use Rattle.std.specs.Prelude.{nat_lt}
-use Rattle.std.specs.List.{AllByRecursion}
 use Rattle.std.specs.Option.{option_map}
 use Rattle.std.proofs.lemmas.Bool.{le-ltb}
 use Rattle.std.proofs.lemmas.List.{map-append}
@@ -13,7 +12,6 @@ use Rattle.dover_model.specs.declared.events.Version.TheVariants.{One, Two, Thre
 use Rattle.dover_model.specs.Limits.{last_tick, most_lines}
 use Rattle.dover_model.specs.JobFacts.{JobFacts, IsJob, job_numbers}
 use Rattle.dover_model.specs.Fraction.{Fraction, IsRatio}
-use Rattle.dover_model.specs.Instance.{IsValid}
 use Rattle.dover_model.specs.Numerals.{AreShort}
 use Rattle.dover_model.specs.Session.{Session, JobItem, new_session}
 use Rattle.dover_model.specs.Sound.{jobs_of}
@@ -25,9 +23,9 @@ use Rattle.dover_model.proofs.FeedLines.{feed_line-feed_text}
 use Rattle.event_feed.specs.Reading.{open_account}
 use Rattle.event_feed.proofs.Counting.{after_form}
 use Rattle.snapshot.specs.Snapshot.{Head}
-use Rattle.snapshot.specs.Reading.{declared_jobs, last_release}
+use Rattle.snapshot.specs.Reading.{last_release}
 use Rattle.snapshot.specs.Stored.{declared_number, jobs_session, jobs_account}
-use Rattle.snapshot.proofs.Admitted.{jobs_more, last_more, valid_no_cause, all_last}
+use Rattle.snapshot.proofs.Admitted.{jobs_more, last_more}
 
 -- ---- the line of the ratio
 

@@ -12,12 +12,11 @@ use Rattle.dover_model.specs.declared.events.Version.TheVariants.{One, Two, Thre
 use Rattle.dover_model.specs.JobFacts.{JobFacts}
 use Rattle.dover_model.specs.declared.events.Refusal.{Refusal}
 use Rattle.dover_model.specs.Instance.{Declaration}
-use Rattle.dover_model.specs.Admission.{refusal_of}
 use Rattle.dover_model.specs.Session.{Item, Session, JobItem, RefusedItem, FinishItem, Refused, RefusedJob, RefusedDone}
 use Rattle.dover_model.specs.Session.{EarlyFinish, mark_after}
-use Rattle.dover_model.specs.Session.{refused_at, with_item, with_named, new_session, early_at}
+use Rattle.dover_model.specs.Session.{with_item, with_named, new_session, early_at}
 use Rattle.dover_model.specs.Session.{is_right}
-use Rattle.dover_model.specs.Session.{admitted_jobs, refuses_lines, may_finish_early, late_refusal}
+use Rattle.dover_model.specs.Session.{refuses_lines, may_finish_early, late_refusal}
 use Rattle.dover_model.specs.FeedLine.{FeedLine, RatioLine, JobLine, TickLine, DoneLine, EndLine, feed_line}
 use Rattle.dover_model.specs.Feed.{Lines, Line, Declared, Order, NotAdmitted, NotDone, Standing, Open, Ended, Faulty}
 use Rattle.dover_model.specs.Feed.{Account}

@@ -2,7 +2,7 @@ use Rattle.std.proofs.Common.{◌∙◌, ◌∷◌, [], arith, refl, subst}
 use Rattle.dover_model.specs.declared.horizon.Horizon.TheVariants.{Mark}
 use Rattle.snapshot.specs.Kept.{HasRun}
 use Rattle.snapshot.proofs.Joining.{with_room, jobs_here, so_far, valid_more, has_joined}
-use Rattle.snapshot.proofs.Settling.{release_known, on_err}
+use Rattle.snapshot.proofs.Settling.{on_err}
 use Rattle.snapshot.proofs.Turning.{same_about, few_items}
 use Rattle.snapshot.proofs.resuming.Resuming.admit.Goals as goal
 

@@ -1,6 +1,5 @@
 -- Where no job may finish early, the run is taken to the mark at once.
 use Rattle.std.proofs.Common.{sym, refl, arith, ◌∙◌}
-use Rattle.dover_model.specs.declared.horizon.Horizon.TheVariants.{Mark}
 use Rattle.snapshot.proofs.Turning.{plain_there, settled_there, same_about}
 use Rattle.snapshot.proofs.resuming.Resuming.run_to.Goals as goal
 
