@@ -215,7 +215,7 @@ module _ (J : Instance) (valid : IsValid J) where
   run_jobs = whole_in (run J) (opening J.jobs) (opening_keeps J) (run_is_whole J valid) ∙ opening_in J valid 0 J.jobs
 
   -- the steps of a whole run are of the run
-  whole_of : (xs : List Step) (s : State) → Keeps J s → IsWholeRun J.rules s xs → AreOf J valid xs
+  pub whole_of : (xs : List Step) (s : State) → Keeps J s → IsWholeRun J.rules s xs → AreOf J valid xs
   whole_of [] s kept whole = absurd whole
   whole_of (x ∷ xs) s kept whole = by_end (is_end (step J.rules s)) whole.1
       (whole_of xs (after s (step J.rules s)) (step_kept J valid s kept J.rules)) where

@@ -2,32 +2,30 @@
 use Rattle.std.proofs.Common.{◌≡◌, ◌⊎◌, ℕ, ◌≤◌, max, inl, inr, List, [], ◌∷◌, ◌++◌, length, map, append-nil, refl, sym}
 use Rattle.std.proofs.Common.{ap, ◌∙◌, subst, arith, Bool, true, false, cond}
 use Rattle.std.specs.Prelude.{Some, None}
-use Rattle.std.specs.Bool.{MatchBool}
 use Rattle.dover_model.specs.Finishes.{Finish}
 use Rattle.dover_model.specs.declared.events.Event.TheVariants.{Release, Run, Preempt, Take, Complete, Abandon, End}
 use Rattle.dover_model.specs.Instance.{Declaration, Instance, IsValid, under, declared_by}
 use Rattle.dover_model.specs.Limits.{most_items, most_ready}
 use Rattle.dover_model.specs.Lines.{in_lines}
-use Rattle.dover_model.specs.Run.{Step, is_end, run, printed}
+use Rattle.dover_model.specs.Run.{run, printed}
 use Rattle.dover_model.specs.Session.{Item, JobItem, RefusedItem, FinishItem, Session, FollowsItems, IsValidSession}
 use Rattle.dover_model.specs.Session.{admitted_jobs, early_finishes, refused_of_item}
 use Rattle.dover_model.specs.Session.{instance_of, session_with, may_finish_early, finish_at, is_full, mark_after}
-use Rattle.dover_model.specs.Sound.{IsMember, Each, Keeps}
+use Rattle.dover_model.specs.Sound.{IsMember, Each}
 use Rattle.dover_model.specs.State.{State, opening, running}
-use Rattle.dover_model.specs.Step.{Move, Prints, Waits, Ticks, step, after}
+use Rattle.dover_model.specs.Step.{Move, Prints, Waits, Ticks}
 use Rattle.dover_model.specs.Text.{header}
 use Rattle.dover_model.specs.Trace.{Placed, Printed, handed_by, session_of, session_of_run}
 use Rattle.dover_model.specs.Trace.{places_after, put_in, text_of_line, trace_of_session}
-use Rattle.dover_model.specs.WholeRun.{step_at, IsWholeRun}
-use Rattle.dover_model.proofs.EarlyEnds.{AreOf, shown_own}
+use Rattle.dover_model.proofs.EarlyEnds.{shown_own}
 use Rattle.dover_model.proofs.Ending.{run_is_whole}
 use Rattle.dover_model.proofs.Former.{none_early}
 use Rattle.dover_model.proofs.JobSessions.{session_of_valid, jobs_never}
-use Rattle.dover_model.proofs.Kept.{step_kept, opening_keeps}
+use Rattle.dover_model.proofs.Kept.{opening_keeps}
 use Rattle.dover_model.proofs.Meeting.{given_by}
 use Rattle.dover_model.proofs.Named.{same_trace}
 use Rattle.dover_model.proofs.NeverFull.{few_never}
-use Rattle.dover_model.proofs.RunSessions.{run_jobs, run_session_valid, same_printed}
+use Rattle.dover_model.proofs.RunSessions.{run_jobs, run_session_valid, same_printed, whole_of}
 use Rattle.dover_model.proofs.Shown.{Shows, early_says}
 use Rattle.dover_model.proofs.Tests.{none_is_some}
 
@@ -72,24 +70,10 @@ jobs_only (RefusedItem r ∷ items) good none = none_is_some (sym (good (Refused
 jobs_only (FinishItem f ∷ items) good none = absurd (let clash : f.finish ∷ early_finishes items ≡ [] = none in cc)
 
 module _ (J : Instance) (valid : IsValid J) where
-  -- the steps of a run are of it
-  whole_of : (xs : List Step) (s : State) → Keeps J s → IsWholeRun J.rules s xs → AreOf J valid xs
-  whole_of [] s kept whole = absurd whole
-  whole_of (x ∷ xs) s kept whole = by_end (is_end (step J.rules s)) whole.1
-      (whole_of xs (after s (step J.rules s)) (step_kept J valid s kept J.rules)) where
-        here : (y : Step) → y ≡ x → Keeps J y.before × (y ≡ step_at J.rules y.before)
-        here y e = subst (λ (z : Step). Keeps J z.before × (z ≡ step_at J.rules z.before)) (sym (e
-            ∙ whole.0)) (kept, refl)
-
-        by_end : (b : Bool) → MatchBool b (xs ≡ []) (IsWholeRun J.rules (after s (step J.rules s)) xs)
-            → (IsWholeRun J.rules (after s (step J.rules s)) xs → AreOf J valid xs) → AreOf J valid (x ∷ xs)
-        by_end b onward more y (inl e) = here y e
-        by_end true none more y (inr member) = absurd (subst (IsMember y) none member)
-        by_end false onward more y (inr member) = more onward y member
-
   -- the finishes that a run hands in are its own
   pub run_own : Each (λ f. IsMember f J.rules.finishes) (early_finishes (session_of_run J).items)
-  run_own = shown_own J valid (run J) (whole_of (run J) (opening J.jobs) (opening_keeps J) (run_is_whole J valid))
+  run_own =
+      shown_own J valid (run J) (whole_of J valid (run J) (opening J.jobs) (opening_keeps J) (run_is_whole J valid))
 
   -- where no job finishes early it hands in the jobs
   run_plain : J.rules.finishes ≡ [] → session_of_run J ≡ session_of J
