@@ -1,5 +1,6 @@
 //! The report as SVG.
 use crate::calls::call;
+use crate::told_reports::TAKEN;
 use dover_port::Status;
 use std::test::Fail;
 
@@ -17,8 +18,28 @@ const STYLE: &str =
          .k{stroke:#b87a00;stroke-width:2}.x{stroke:#a33c00;stroke-width:2}\n\
          .C{fill:#0072b2}.L{fill:#d55e00}.Q{fill:#8a949e}</style>\n";
 
-/// Words, traces, and what stands in the picture before and behind its styles.
-const PICTURES: [(&[&str], &str, &str, &str); 6] = [
+/// What is said of the colors of bars, the same in each picture, above the ticks and behind them.
+const RAN: &str =
+    "<g stroke-width='12'><path class='c' d='M90 40h14'/><path class='t' d='M205 40h14'/>\n\
+         <path class='l' d='M385 40h14'/></g><text class='s' x='109' y='44'>ran, completed</text>\n\
+         <text class='s' x='224' y='44'>ran, completed, after a take</text>\n\
+         <text class='s' x='404' y='44'>ran, then abandoned: lost work</text>\n";
+
+const WINDOWS: &str =
+    "<g stroke-width='12'><path class='w' d='M580 40h14'/><path class='g' d='M715 40h14'/>\n\
+         <path class='h' d='M855 40h14'/><path class='o' d='M990 40h14'/></g>\n\
+         <text class='s' x='599' y='44'>release to deadline</text>\n\
+         <text class='s' x='734' y='44'>the same, abandoned</text>\n\
+         <text class='s' x='874' y='44'>started, not running</text>\n\
+         <text class='s' x='1009' y='44'>interval with lost value</text>\n\
+         <text class='s' x='1139' y='44'>X abandoned: -value against that under way</text>\n";
+
+/// Words, a trace, and what stands in the picture between what is the same in each: its size, its sums, its ticks, and
+/// the rest.
+type Picture = (&'static [&'static str], &'static str, [&'static str; 4]);
+
+/// The pictures of traces.
+const PICTURES: [Picture; 6] = [
     // no job, and two lines that were refused
     (
         &["report", "svg"],
@@ -26,25 +47,15 @@ const PICTURES: [(&[&str], &str, &str, &str); 6] = [
          refuse 0 0 0 1 1 job\n\
          refuse 0 0 0 1 1 job\n\
          end 0\n",
-        "<svg xmlns='http://www.w3.org/2000/svg' width='1400' height='290' viewBox='0 0 1400 290'>\n",
-        "<rect width='1400' height='290' fill='#fff'/>\n\
+        [
+            "<svg xmlns='http://www.w3.org/2000/svg' width='1400' height='290' viewBox='0 0 1400 290'>\n",
+            "<rect width='1400' height='290' fill='#fff'/>\n\
          <text class='b' x='90' y='22'>jobs 0, completed 0 worth 0, abandoned 0 worth 0, taken 0, bound 0, lines \
-         refused 2</text>\n\
-         <g stroke-width='12'><path class='c' d='M90 40h14'/><path class='t' d='M205 40h14'/>\n\
-         <path class='l' d='M385 40h14'/></g><text class='s' x='109' y='44'>ran, completed</text>\n\
-         <text class='s' x='224' y='44'>ran, completed, after a take</text>\n\
-         <text class='s' x='404' y='44'>ran, then abandoned: lost work</text>\n\
-         <path class='a' d='M90 76V254'/><text class='s m' x='90' y='268'>0</text>\n\
+         refused 2</text>\n",
+            "<path class='a' d='M90 76V254'/><text class='s m' x='90' y='268'>0</text>\n\
          <path class='a' d='M1290 76V254'/><text class='s m' x='1290' y='268'>1</text>\n\
-         <text class='s r' x='1290' y='282'>tick</text>\n\
-         <g stroke-width='12'><path class='w' d='M580 40h14'/><path class='g' d='M715 40h14'/>\n\
-         <path class='h' d='M855 40h14'/><path class='o' d='M990 40h14'/></g>\n\
-         <text class='s' x='599' y='44'>release to deadline</text>\n\
-         <text class='s' x='734' y='44'>the same, abandoned</text>\n\
-         <text class='s' x='874' y='44'>started, not running</text>\n\
-         <text class='s' x='1009' y='44'>interval with lost value</text>\n\
-         <text class='s' x='1139' y='44'>X abandoned: -value against that under way</text>\n\
-         <path class='o' stroke-width='194' d=''/>\n\
+         <text class='s r' x='1290' y='282'>tick</text>\n",
+            "<path class='o' stroke-width='194' d=''/>\n\
          <text class='r' x='82' y='91'>processor</text>\n\
          <rect class='f' x='90' y='76' width='1200' height='22'/>\n\
          <path class='c' stroke-width='22' d=''/>\n\
@@ -71,6 +82,7 @@ const PICTURES: [(&[&str], &str, &str, &str); 6] = [
          <text class='s' x='1296' y='197'>lost</text><text class='s' x='1296' y='209'>0</text>\n\
          <text class='s' x='1296' y='240'>completed</text><text class='s' x='1296' y='252'>0</text>\n\
          </svg>\n",
+        ],
     ),
     // the tick behind the window is that of a release and an abandonment, which it doesn't show
     (
@@ -82,26 +94,16 @@ const PICTURES: [(&[&str], &str, &str, &str); 6] = [
          abandon 2 1\n\
          complete 4 0\n\
          end 4\n",
-        "<svg xmlns='http://www.w3.org/2000/svg' width='1400' height='290' viewBox='0 0 1400 290'>\n",
-        "<rect width='1400' height='290' fill='#fff'/>\n\
+        [
+            "<svg xmlns='http://www.w3.org/2000/svg' width='1400' height='290' viewBox='0 0 1400 290'>\n",
+            "<rect width='1400' height='290' fill='#fff'/>\n\
          <text class='b' x='90' y='22'>jobs 2, completed 1 worth 4, abandoned 1 worth 1, taken 0, bound 16</text>\
-         \n\
-         <g stroke-width='12'><path class='c' d='M90 40h14'/><path class='t' d='M205 40h14'/>\n\
-         <path class='l' d='M385 40h14'/></g><text class='s' x='109' y='44'>ran, completed</text>\n\
-         <text class='s' x='224' y='44'>ran, completed, after a take</text>\n\
-         <text class='s' x='404' y='44'>ran, then abandoned: lost work</text>\n\
-         <path class='a' d='M90 76V254'/><text class='s m' x='90' y='268'>0</text>\n\
+         \n",
+            "<path class='a' d='M90 76V254'/><text class='s m' x='90' y='268'>0</text>\n\
          <path class='a' d='M690 76V254'/><text class='s m' x='690' y='268'>1</text>\n\
          <path class='a' d='M1290 76V254'/><text class='s m' x='1290' y='268'>2</text>\n\
-         <text class='s r' x='1290' y='282'>tick</text>\n\
-         <g stroke-width='12'><path class='w' d='M580 40h14'/><path class='g' d='M715 40h14'/>\n\
-         <path class='h' d='M855 40h14'/><path class='o' d='M990 40h14'/></g>\n\
-         <text class='s' x='599' y='44'>release to deadline</text>\n\
-         <text class='s' x='734' y='44'>the same, abandoned</text>\n\
-         <text class='s' x='874' y='44'>started, not running</text>\n\
-         <text class='s' x='1009' y='44'>interval with lost value</text>\n\
-         <text class='s' x='1139' y='44'>X abandoned: -value against that under way</text>\n\
-         <path class='o' stroke-width='194' d='M90 157h1200'/>\n\
+         <text class='s r' x='1290' y='282'>tick</text>\n",
+            "<path class='o' stroke-width='194' d='M90 157h1200'/>\n\
          <text class='v' x='93' y='70'>lost 1 from 0 to 4</text>\n\
          <text class='r' x='82' y='91'>processor</text>\n\
          <rect class='f' x='90' y='76' width='1200' height='22'/>\n\
@@ -132,46 +134,26 @@ const PICTURES: [(&[&str], &str, &str, &str); 6] = [
          <text class='s' x='1296' y='197'>lost</text><text class='s' x='1296' y='209'>0</text>\n\
          <text class='s' x='1296' y='240'>completed</text><text class='s' x='1296' y='252'>0</text>\n\
          </svg>\n",
+        ],
     ),
     // a take
     (
         &["report", "svg"],
-        "dover 1 1 1\n\
-         job 0 0 3 30 3\n\
-         run 0 0\n\
-         job 1 0 2 4 2\n\
-         preempt 0 0 1\n\
-         job 2 0 12 12 12\n\
-         take 0 1 2\n\
-         abandon 2 1\n\
-         complete 12 2\n\
-         run 12 0\n\
-         complete 15 0\n\
-         end 15\n",
-        "<svg xmlns='http://www.w3.org/2000/svg' width='1400' height='326' viewBox='0 0 1400 326'>\n",
-        "<rect width='1400' height='326' fill='#fff'/>\n\
+        TAKEN,
+        [
+            "<svg xmlns='http://www.w3.org/2000/svg' width='1400' height='326' viewBox='0 0 1400 326'>\n",
+            "<rect width='1400' height='326' fill='#fff'/>\n\
          <text class='b' x='90' y='22'>jobs 3, completed 2 worth 15, abandoned 1 worth 2, taken 1, bound 60</text\
-         >\n\
-         <g stroke-width='12'><path class='c' d='M90 40h14'/><path class='t' d='M205 40h14'/>\n\
-         <path class='l' d='M385 40h14'/></g><text class='s' x='109' y='44'>ran, completed</text>\n\
-         <text class='s' x='224' y='44'>ran, completed, after a take</text>\n\
-         <text class='s' x='404' y='44'>ran, then abandoned: lost work</text>\n\
-         <path class='a' d='M90 76V290'/><text class='s m' x='90' y='304'>0</text>\n\
+         >\n",
+            "<path class='a' d='M90 76V290'/><text class='s m' x='90' y='304'>0</text>\n\
          <path class='a' d='M283 76V290'/><text class='s m' x='283' y='304'>5</text>\n\
          <path class='a' d='M477 76V290'/><text class='s m' x='477' y='304'>10</text>\n\
          <path class='a' d='M670 76V290'/><text class='s m' x='670' y='304'>15</text>\n\
          <path class='a' d='M864 76V290'/><text class='s m' x='864' y='304'>20</text>\n\
          <path class='a' d='M1057 76V290'/><text class='s m' x='1057' y='304'>25</text>\n\
          <path class='a' d='M1251 76V290'/><text class='s m' x='1251' y='304'>30</text>\n\
-         <text class='s r' x='1290' y='318'>tick</text>\n\
-         <g stroke-width='12'><path class='w' d='M580 40h14'/><path class='g' d='M715 40h14'/>\n\
-         <path class='h' d='M855 40h14'/><path class='o' d='M990 40h14'/></g>\n\
-         <text class='s' x='599' y='44'>release to deadline</text>\n\
-         <text class='s' x='734' y='44'>the same, abandoned</text>\n\
-         <text class='s' x='874' y='44'>started, not running</text>\n\
-         <text class='s' x='1009' y='44'>interval with lost value</text>\n\
-         <text class='s' x='1139' y='44'>X abandoned: -value against that under way</text>\n\
-         <path class='o' stroke-width='230' d='M90 175h464'/>\n\
+         <text class='s r' x='1290' y='318'>tick</text>\n",
+            "<path class='o' stroke-width='230' d='M90 175h464'/>\n\
          <text class='v' x='93' y='70'>lost 2</text>\n\
          <text class='r' x='82' y='91'>processor</text>\n\
          <rect class='f' x='90' y='76' width='1200' height='22'/>\n\
@@ -210,31 +192,18 @@ const PICTURES: [(&[&str], &str, &str, &str); 6] = [
          <text class='s' x='1296' y='190'>lost</text><text class='s' x='1296' y='202'>2</text>\n\
          <text class='s' x='1296' y='240'>completed</text><text class='s' x='1296' y='252'>15</text>\n\
          </svg>\n",
+        ],
     ),
     // a part of it
     (
         &["report", "svg", "1", "11"],
-        "dover 1 1 1\n\
-         job 0 0 3 30 3\n\
-         run 0 0\n\
-         job 1 0 2 4 2\n\
-         preempt 0 0 1\n\
-         job 2 0 12 12 12\n\
-         take 0 1 2\n\
-         abandon 2 1\n\
-         complete 12 2\n\
-         run 12 0\n\
-         complete 15 0\n\
-         end 15\n",
-        "<svg xmlns='http://www.w3.org/2000/svg' width='1400' height='326' viewBox='0 0 1400 326'>\n",
-        "<rect width='1400' height='326' fill='#fff'/>\n\
+        TAKEN,
+        [
+            "<svg xmlns='http://www.w3.org/2000/svg' width='1400' height='326' viewBox='0 0 1400 326'>\n",
+            "<rect width='1400' height='326' fill='#fff'/>\n\
          <text class='b' x='90' y='22'>jobs 3, completed 2 worth 15, abandoned 1 worth 2, taken 1, bound 60</text\
-         >\n\
-         <g stroke-width='12'><path class='c' d='M90 40h14'/><path class='t' d='M205 40h14'/>\n\
-         <path class='l' d='M385 40h14'/></g><text class='s' x='109' y='44'>ran, completed</text>\n\
-         <text class='s' x='224' y='44'>ran, completed, after a take</text>\n\
-         <text class='s' x='404' y='44'>ran, then abandoned: lost work</text>\n\
-         <path class='a' d='M90 76V290'/><text class='s m' x='90' y='304'>1</text>\n\
+         >\n",
+            "<path class='a' d='M90 76V290'/><text class='s m' x='90' y='304'>1</text>\n\
          <path class='a' d='M210 76V290'/><text class='s m' x='210' y='304'>2</text>\n\
          <path class='a' d='M330 76V290'/><text class='s m' x='330' y='304'>3</text>\n\
          <path class='a' d='M450 76V290'/><text class='s m' x='450' y='304'>4</text>\n\
@@ -245,15 +214,8 @@ const PICTURES: [(&[&str], &str, &str, &str); 6] = [
          <path class='a' d='M1050 76V290'/><text class='s m' x='1050' y='304'>9</text>\n\
          <path class='a' d='M1170 76V290'/><text class='s m' x='1170' y='304'>10</text>\n\
          <path class='a' d='M1290 76V290'/><text class='s m' x='1290' y='304'>11</text>\n\
-         <text class='s r' x='1290' y='318'>tick</text>\n\
-         <g stroke-width='12'><path class='w' d='M580 40h14'/><path class='g' d='M715 40h14'/>\n\
-         <path class='h' d='M855 40h14'/><path class='o' d='M990 40h14'/></g>\n\
-         <text class='s' x='599' y='44'>release to deadline</text>\n\
-         <text class='s' x='734' y='44'>the same, abandoned</text>\n\
-         <text class='s' x='874' y='44'>started, not running</text>\n\
-         <text class='s' x='1009' y='44'>interval with lost value</text>\n\
-         <text class='s' x='1139' y='44'>X abandoned: -value against that under way</text>\n\
-         <path class='o' stroke-width='230' d='M90 175h1200'/>\n\
+         <text class='s r' x='1290' y='318'>tick</text>\n",
+            "<path class='o' stroke-width='230' d='M90 175h1200'/>\n\
          <text class='v' x='93' y='70'>lost 2 from 0 to 12</text>\n\
          <text class='r' x='82' y='91'>processor</text>\n\
          <rect class='f' x='90' y='76' width='1200' height='22'/>\n\
@@ -291,6 +253,7 @@ const PICTURES: [(&[&str], &str, &str, &str); 6] = [
          <text class='s' x='1296' y='233'>lost</text><text class='s' x='1296' y='245'>2</text>\n\
          <text class='s' x='1296' y='276'>completed</text><text class='s' x='1296' y='288'>0</text>\n\
          </svg>\n",
+        ],
     ),
     // a job that ran, and is abandoned
     (
@@ -303,15 +266,12 @@ const PICTURES: [(&[&str], &str, &str, &str); 6] = [
          abandon 1 0\n\
          complete 10 1\n\
          end 9\n",
-        "<svg xmlns='http://www.w3.org/2000/svg' width='1400' height='308' viewBox='0 0 1400 308'>\n",
-        "<rect width='1400' height='308' fill='#fff'/>\n\
+        [
+            "<svg xmlns='http://www.w3.org/2000/svg' width='1400' height='308' viewBox='0 0 1400 308'>\n",
+            "<rect width='1400' height='308' fill='#fff'/>\n\
          <text class='b' x='90' y='22'>jobs 2, completed 1 worth 9, abandoned 1 worth 4, taken 1, bound 36</text>\
-         \n\
-         <g stroke-width='12'><path class='c' d='M90 40h14'/><path class='t' d='M205 40h14'/>\n\
-         <path class='l' d='M385 40h14'/></g><text class='s' x='109' y='44'>ran, completed</text>\n\
-         <text class='s' x='224' y='44'>ran, completed, after a take</text>\n\
-         <text class='s' x='404' y='44'>ran, then abandoned: lost work</text>\n\
-         <path class='a' d='M90 76V272'/><text class='s m' x='90' y='286'>0</text>\n\
+         \n",
+            "<path class='a' d='M90 76V272'/><text class='s m' x='90' y='286'>0</text>\n\
          <path class='a' d='M199 76V272'/><text class='s m' x='199' y='286'>1</text>\n\
          <path class='a' d='M308 76V272'/><text class='s m' x='308' y='286'>2</text>\n\
          <path class='a' d='M417 76V272'/><text class='s m' x='417' y='286'>3</text>\n\
@@ -323,15 +283,8 @@ const PICTURES: [(&[&str], &str, &str, &str); 6] = [
          <path class='a' d='M1071 76V272'/><text class='s m' x='1071' y='286'>9</text>\n\
          <path class='a' d='M1180 76V272'/><text class='s m' x='1180' y='286'>10</text>\n\
          <path class='a' d='M1290 76V272'/><text class='s m' x='1290' y='286'>11</text>\n\
-         <text class='s r' x='1290' y='300'>tick</text>\n\
-         <g stroke-width='12'><path class='w' d='M580 40h14'/><path class='g' d='M715 40h14'/>\n\
-         <path class='h' d='M855 40h14'/><path class='o' d='M990 40h14'/></g>\n\
-         <text class='s' x='599' y='44'>release to deadline</text>\n\
-         <text class='s' x='734' y='44'>the same, abandoned</text>\n\
-         <text class='s' x='874' y='44'>started, not running</text>\n\
-         <text class='s' x='1009' y='44'>interval with lost value</text>\n\
-         <text class='s' x='1139' y='44'>X abandoned: -value against that under way</text>\n\
-         <path class='o' stroke-width='212' d='M90 166h1090'/>\n\
+         <text class='s r' x='1290' y='300'>tick</text>\n",
+            "<path class='o' stroke-width='212' d='M90 166h1090'/>\n\
          <text class='v' x='93' y='70'>lost 4</text>\n\
          <text class='r' x='82' y='91'>processor</text>\n\
          <rect class='f' x='90' y='76' width='1200' height='22'/>\n\
@@ -368,6 +321,7 @@ const PICTURES: [(&[&str], &str, &str, &str); 6] = [
          <text class='s' x='1296' y='177'>lost</text><text class='s' x='1296' y='189'>4</text>\n\
          <text class='s' x='1296' y='232'>completed</text><text class='s' x='1296' y='244'>9</text>\n\
          </svg>\n",
+        ],
     ),
     // a take whose interval loses nothing, and a part of one that does
     (
@@ -387,30 +341,20 @@ const PICTURES: [(&[&str], &str, &str, &str); 6] = [
          run 7 1\n\
          complete 11 1\n\
          end 308\n",
-        "<svg xmlns='http://www.w3.org/2000/svg' width='1400' height='344' viewBox='0 0 1400 344'>\n",
-        "<rect width='1400' height='344' fill='#fff'/>\n\
+        [
+            "<svg xmlns='http://www.w3.org/2000/svg' width='1400' height='344' viewBox='0 0 1400 344'>\n",
+            "<rect width='1400' height='344' fill='#fff'/>\n\
          <text class='b' x='90' y='22'>jobs 4, completed 3 worth 308, abandoned 1 worth 3, taken 1, bound 37268</\
-         text>\n\
-         <g stroke-width='12'><path class='c' d='M90 40h14'/><path class='t' d='M205 40h14'/>\n\
-         <path class='l' d='M385 40h14'/></g><text class='s' x='109' y='44'>ran, completed</text>\n\
-         <text class='s' x='224' y='44'>ran, completed, after a take</text>\n\
-         <text class='s' x='404' y='44'>ran, then abandoned: lost work</text>\n\
-         <path class='a' d='M90 76V308'/><text class='s m' x='90' y='322'>0</text>\n\
+         text>\n",
+            "<path class='a' d='M90 76V308'/><text class='s m' x='90' y='322'>0</text>\n\
          <path class='a' d='M290 76V308'/><text class='s m' x='290' y='322'>1</text>\n\
          <path class='a' d='M490 76V308'/><text class='s m' x='490' y='322'>2</text>\n\
          <path class='a' d='M690 76V308'/><text class='s m' x='690' y='322'>3</text>\n\
          <path class='a' d='M890 76V308'/><text class='s m' x='890' y='322'>4</text>\n\
          <path class='a' d='M1090 76V308'/><text class='s m' x='1090' y='322'>5</text>\n\
          <path class='a' d='M1290 76V308'/><text class='s m' x='1290' y='322'>6</text>\n\
-         <text class='s r' x='1290' y='336'>tick</text>\n\
-         <g stroke-width='12'><path class='w' d='M580 40h14'/><path class='g' d='M715 40h14'/>\n\
-         <path class='h' d='M855 40h14'/><path class='o' d='M990 40h14'/></g>\n\
-         <text class='s' x='599' y='44'>release to deadline</text>\n\
-         <text class='s' x='734' y='44'>the same, abandoned</text>\n\
-         <text class='s' x='874' y='44'>started, not running</text>\n\
-         <text class='s' x='1009' y='44'>interval with lost value</text>\n\
-         <text class='s' x='1139' y='44'>X abandoned: -value against that under way</text>\n\
-         <path class='o' stroke-width='248' d='M1090 184h200'/>\n\
+         <text class='s r' x='1290' y='336'>tick</text>\n",
+            "<path class='o' stroke-width='248' d='M1090 184h200'/>\n\
          <text class='v' x='1093' y='70'>lost 3 from 5 to 7</text>\n\
          <text class='r' x='82' y='91'>processor</text>\n\
          <rect class='f' x='90' y='76' width='1200' height='22'/>\n\
@@ -451,37 +395,25 @@ const PICTURES: [(&[&str], &str, &str, &str); 6] = [
          <text class='s' x='1296' y='208'>lost</text><text class='s' x='1296' y='220'>0</text>\n\
          <text class='s' x='1296' y='251'>completed</text><text class='s' x='1296' y='263'>300</text>\n\
          </svg>\n",
+        ],
     ),
 ];
 
-/// Whether the words draw this picture of the trace, with the styles in it.
-fn is_drawn(
-    rt: &HostRuntime,
-    words: &[&'static str],
-    trace: &str,
-    front: &str,
-    rest: &str,
-) -> Result<bool, Fail> {
-    let alloc = rt.alloc();
+/// Whether the words draw this picture of the trace.
+fn is_drawn(rt: &HostRuntime, picture: &Picture) -> Result<bool, Fail> {
+    let (words, trace, [size, sums, ticks, rest]) = *picture;
     let called = call(rt, words, trace.as_bytes(), 4096)?;
-    let mut whole = Vec::from_slice(alloc, front.as_bytes())?;
-    whole.extend_from_slice(STYLE.as_bytes())?;
-    whole.extend_from_slice(rest.as_bytes())?;
+    let mut whole = Vec::new(rt.alloc());
+    for part in [size, STYLE, sums, RAN, ticks, WINDOWS, rest] {
+        whole.extend_from_slice(part.as_bytes())?;
+    }
     Ok(called.status == Status::Done && called.written.as_slice() == whole.as_slice())
 }
 
 /// Whether each trace has the picture beside it.
-fn are_drawn(
-    rt: &HostRuntime,
-    rows: &[(
-        &'static [&'static str],
-        &'static str,
-        &'static str,
-        &'static str,
-    )],
-) -> Result<bool, Fail> {
-    for (words, trace, front, rest) in rows {
-        if !is_drawn(rt, *words, *trace, *front, *rest)? {
+fn are_drawn(rt: &HostRuntime, pictures: &[Picture]) -> Result<bool, Fail> {
+    for picture in pictures {
+        if !is_drawn(rt, picture)? {
             return Ok(false);
         }
     }

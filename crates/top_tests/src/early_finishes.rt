@@ -3,6 +3,11 @@ use crate::calls::{CUTS, Row, agree, are_called};
 use dover_port::Status;
 use std::test::Fail;
 
+/// The trace of a run in which a job that took the processor finishes early.
+const TAKEN: &str =
+    "dover 3 1 1\njob 0 0 3 30 3\nrun 0 0\njob 1 0 2 4 2\npreempt 0 0 1\njob 2 0 12 12 12\ntake 0 1 2\n\
+     complete 1 2\nrun 1 1\ncomplete 3 1\nrun 3 0\ncomplete 6 0\nend 17\n";
+
 /// Feeds, how each ends, and what is written for it.
 const FEEDS: [(&str, Status, &str); 24] = [
     (
@@ -32,8 +37,7 @@ const FEEDS: [(&str, Status, &str); 24] = [
     (
         "k 1 1 3\njob 0 3 30 3\njob 0 2 4 2\njob 0 12 12 12\ndone 1 2\nend\n",
         Status::Done,
-        "dover 3 1 1\njob 0 0 3 30 3\nrun 0 0\njob 1 0 2 4 2\npreempt 0 0 1\njob 2 0 12 12 12\ntake 0 1 2\n\
-         complete 1 2\nrun 1 1\ncomplete 3 1\nrun 3 0\ncomplete 6 0\nend 17\n",
+        TAKEN,
     ),
     (
         "k 1 1 3\njob 0 5 9 5\njob 2 1 4 1\ndone 2 0\ntick 3\ndone 4 0\nend\n",
@@ -211,10 +215,25 @@ const EARLY: &str = "k 1 1 3\njob 0 2 2 2\njob 0 2 3 2\njob 0 3 5 3\ndone 1 0\ne
 /// A feed in which a job is given up before another finishes early.
 const LATE: &str = "k 1 1 3\njob 0 10 10 10\njob 0 6 7 6\ndone 2 0\nend\n";
 
-/// Words with feeds of version Three: many in one input, snapshots, and answers on the jobs as they are declared and
+/// Words with feeds of version Three: reports, many in one input, snapshots, and answers on the jobs as they are declared and
 /// as the run observed them. In the third feed of `best` the run completes more than a schedule of the declared jobs;
 /// in that of `LATE` it gives up a job although all observed ones can be served.
-const CALLS: [Row; 20] = [
+const CALLS: [Row; 22] = [
+    // what is left of a job that finishes early, and what the jobs have had
+    (
+        &["report", "text"],
+        TAKEN,
+        Status::Done,
+        "ratio 1 1\njobs 3\ncompleted 3 17\nabandoned 0 0\ntaken 1\nearly 1 11\nbound 68\n\
+         interval 1 0 1 0 12 5 0\ninterval 2 1 3 2 0 0 0\ninterval 3 3 6 3 0 0 0\n",
+    ),
+    (
+        &["report", "csv"],
+        TAKEN,
+        Status::Done,
+        "job,release,work,deadline,value,fate,tick,had\n\
+         0,0,3,30,3,complete,6,3\n1,0,2,4,2,complete,3,2\n2,0,12,12,12,complete,1,1\n",
+    ),
     (
         &["lanes"],
         "0 k 1 1 3\n7 k 1 1 3\n0 job 0 4 9 4\n7 job 0 2 4 2\n7 done 1 0\n0 done 2 1\n0 done 3 0\n0 end\n7 end\n\

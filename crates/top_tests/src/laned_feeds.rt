@@ -15,7 +15,7 @@ const LONG: &str =
     "0 xxxxxxxxxxxxxxxxxxxxxxxxxxxxxxxxxxxxxxxxxxxxxxxxxxxxxxxxxxxxxxxxxxxxxxxxxxxxxxxxxxxxxxxxxxxxxxxxxxxxxxxxxxxxxxxxxxxxxxxxxxxxxxx";
 
 // Inputs, how each ends, and what is written for it.
-const INPUTS: [(&str, Status, &str); 10] = [
+const INPUTS: [(&str, Status, &str); 17] = [
     (TWO_LANES, Status::Done, TWO_TRACES),
     // a lane at fault leaves the other alone
     (
@@ -49,6 +49,17 @@ const INPUTS: [(&str, Status, &str); 10] = [
         "0 dover 1 1 1\n0 refused 2 short\n",
     ),
     (LONG, Status::Refused, "refused 1 lane\n"),
+    ("64 k 1 1\n", Status::Refused, "refused 1 lane\n"),
+    ("5\n", Status::Refused, "refused 1 lane\n"),
+    ("05 x\n", Status::Refused, "refused 1 lane\n"),
+    ("close \n", Status::Refused, "refused 1 lane\n"),
+    (" k 1 1\n", Status::Refused, "refused 1 lane\n"),
+    ("\n", Status::Refused, "refused 1 lane\n"),
+    (
+        "0 k 1 1\n256 k 1 1\n",
+        Status::Refused,
+        "0 dover 1 1 1\nrefused 2 lane\n",
+    ),
     // a feed of version Two with a refused line
     (
         "3 k 1 1 2\n3 job 0 4 10 4\n3 job 0 1 5 9\n3 job 1 2 5 2\n3 end\nclose\n",

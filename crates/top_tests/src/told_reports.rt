@@ -6,12 +6,12 @@ use std::alloc::Global;
 use std::test::Fail;
 
 /// The trace of a run in which a job takes the processor.
-const TAKEN: &str =
+pub(crate) const TAKEN: &str =
     "dover 1 1 1\njob 0 0 3 30 3\nrun 0 0\njob 1 0 2 4 2\npreempt 0 0 1\njob 2 0 12 12 12\ntake 0 1 2\nabandon 2 1\n\
         complete 12 2\nrun 12 0\ncomplete 15 0\nend 15\n";
 
 /// A trace of one job.
-const ONE: &str = "dover 1 1 1\njob 0 0 2 2 2\nrun 0 0\ncomplete 2 0\nend 2\n";
+pub(crate) const ONE: &str = "dover 1 1 1\njob 0 0 2 2 2\nrun 0 0\ncomplete 2 0\nend 2\n";
 
 /// The trace of a minute of frames, telemetry and alarms, by tenths of a second.
 const MINUTE: &str =

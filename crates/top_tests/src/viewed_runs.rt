@@ -1,18 +1,11 @@
 //! The reports for a viewer, on one job, and for a terminal.
 use crate::calls::{AT_ONCE, Row, are_called, tells, words_of};
+use crate::told_reports::{ONE, TAKEN};
 use dover_port::Status;
 use std::test::Fail;
 
 /// The trace of no job.
 const EMPTY: &str = "dover 1 1 1\nend 0\n";
-
-/// The trace of one job.
-const ONE: &str = "dover 1 1 1\njob 0 0 2 2 2\nrun 0 0\ncomplete 2 0\nend 2\n";
-
-/// The trace of a run in which a job takes the processor.
-const TAKEN: &str =
-    "dover 1 1 1\njob 0 0 3 30 3\nrun 0 0\njob 1 0 2 4 2\npreempt 0 0 1\njob 2 0 12 12 12\ntake 0 1 2\n\
-    abandon 2 1\ncomplete 12 2\nrun 12 0\ncomplete 15 0\nend 15\n";
 
 /// The trace of a run in which a job waits until tick 61.
 const LATE: &str =

@@ -3,13 +3,14 @@ use crate::calls::{
     AT_ONCE, CUTS, Failing, Row, agree, all_fail, answer, are_called, call, pieces, port, tells_in,
     words_of,
 };
+use crate::told_reports::ONE;
 use crate::wrong_texts::{ENDS, HEADERS, JOBS, LINES, REFUSED, STARTS};
 use dover_port::{MemoryPort, Status};
 use std::alloc::Global;
 use std::test::Fail;
 
 /// Feeds, how each ends, and what is written for it.
-const FEEDS: [(&str, Status, &str); 37] = [
+const FEEDS: [(&str, Status, &str); 38] = [
     ("k 1 1\nend\n", Status::Done, "dover 1 1 1\nend 0\n"),
     (
         "k 1 1\njob 0 2 2 2\nend\n",
@@ -136,6 +137,11 @@ const FEEDS: [(&str, Status, &str); 37] = [
         "dover 2 1 1\njob 0 0 3 3 3\nrun 0 0\njob 1 0 4 10 4\njob 2 0 5 10 5\ncomplete 3 0\nrun 3 2\nabandon 6 1\ncomplete 8 2\nend 8\n",
     ),
     (
+        "k 1 1\njob 0 3 3 3\njob 0 4 10 4\njob 0 5 10 5\nend\n",
+        Status::Done,
+        "dover 1 1 1\njob 0 0 3 3 3\nrun 0 0\njob 1 0 4 10 4\njob 2 0 5 10 5\ncomplete 3 0\nrun 3 1\nabandon 5 2\ncomplete 7 1\nend 7\n",
+    ),
+    (
         "k 1 1 2\njob 0 10 10 10\njob 0 20 20 20\njob 0 21 21 21\nend\n",
         Status::Done,
         "dover 2 1 1\njob 0 0 10 10 10\nrun 0 0\njob 1 0 20 20 20\njob 2 0 21 21 21\ntake 0 0 2\nabandon 0 1\nabandon 0 0\ncomplete 21 2\nend 21\n",
@@ -171,16 +177,11 @@ const FEEDS: [(&str, Status, &str); 37] = [
 ];
 
 /// Texts, whether they are accepted, and their verdicts.
-const TEXTS: [(&str, Status, &str); 18] = [
+const TEXTS: [(&str, Status, &str); 12] = [
     (
         "dover 1 1 1\njob 0 0 2 2 2\nrun 0 0\ncomplete 2 0\nend 2\n",
         Status::Done,
         "accepted 2 8\n",
-    ),
-    (
-        "dover 1 1 1\njob 0 0 10 10 10\nrun 0 0\njob 1 0 20 20 20\ntake 0 0 1\ncomplete 10 0\nend 10\n",
-        Status::No,
-        "wrong 5 expected abandon 0 1\n",
     ),
     (
         "dover 1 1 1\njob 0 0 10 10 10\nrun 0 0\njob 1 0 20 20 20\ncomplete 10 0\nend 10\n",
@@ -188,23 +189,8 @@ const TEXTS: [(&str, Status, &str); 18] = [
         "wrong 5 expected abandon 0 1\n",
     ),
     ("dover 1 1 1\njob 0 0 2 2 2\nrun 0", Status::No, "short 2\n"),
-    (
-        "dover 1 1 1\njob 0 0 2 2 2\nrun 0 0\ncomplete 2 0\nend 2\nx\n",
-        Status::No,
-        "wrong 6 expected nothing\n",
-    ),
-    (
-        "dover 1 1 1\njob 0 0 2 2 2\nrun 0 0\ncomplete 2 0\nend 2\nx",
-        Status::No,
-        "wrong 6 expected nothing\n",
-    ),
     ("", Status::No, "short 0\n"),
     ("dover 4 1 1\n", Status::No, "wrong 1 expected header\n"),
-    (
-        "dover 1 1 1\njob 0 0 2 2 2\nrun  0 0\n",
-        Status::No,
-        "wrong 3 expected run 0 0\n",
-    ),
     (
         "dover 1 2 1\njob 0 0 1 5 1\nrun 0 0\njob 1 0 1 5 3\n",
         Status::No,
@@ -231,16 +217,6 @@ const TEXTS: [(&str, Status, &str); 18] = [
         "accepted 3 17\n",
     ),
     (
-        "dover 2 2 1\njob 0 0 1 5 1\nrun 0 0\njob 1 0 1 5 2\nrefuse 0 0 1 5 3 total\nrefuse 0 3 9 5 9 job\ncomplete 1 0\nrun 1 1\ncomplete 2 1\nend 3\n",
-        Status::No,
-        "wrong 5 expected complete 1 0\n",
-    ),
-    (
-        "dover 2 2 1\njob 0 0 1 5 1\nrun 0 0\njob 1 0 1 5 2\nrefuse 1 0 1 5 3 ratio\nrefuse 0 3 9 5 9 job\ncomplete 1 0\nrun 1 1\ncomplete 2 1\nend 3\n",
-        Status::No,
-        "wrong 5 expected complete 1 0\n",
-    ),
-    (
         "xxxxxxxxxxxxxxxxxxxxxxxxxxxxxxxxxxxxxxxxxxxxxxxxxxxxxxxxxxxxxxxxxxxxxxxxxxxxxxxxxxxxxxxxxxxxxxxxxxxxxxxxxxxxxxxxxxxxxxxxxxxxxxxxx",
         Status::No,
         "wrong 1 expected header\n",
@@ -252,30 +228,8 @@ const TEXTS: [(&str, Status, &str); 18] = [
     ),
 ];
 
-/// A run in which a job is taken.
-const TAKEN: &str =
-    "dover 1 1 1\njob 0 0 3 30 3\nrun 0 0\njob 1 0 2 4 2\npreempt 0 0 1\njob 2 0 12 12 12\ntake 0 1 2\nabandon 2 1\ncomplete 12 2\nrun 12 0\ncomplete 15 0\nend 15\n";
-
 /// Words, what is read, how the call ends, and what is written.
-const CALLS: [Row; 26] = [
-    (
-        &["report", "text"],
-        TAKEN,
-        Status::Done,
-        "ratio 1 1\njobs 3\ncompleted 2 15\nabandoned 1 2\ntaken 1\nbound 60\ninterval 1 0 12 0 12 5 2\ninterval 2 12 15 3 0 0 0\n",
-    ),
-    (
-        &["report", "csv"],
-        TAKEN,
-        Status::Done,
-        "job,release,work,deadline,value,fate,tick\n0,0,3,30,3,complete,15\n1,0,2,4,2,abandon,2\n2,0,12,12,12,complete,12\n",
-    ),
-    (
-        &["report", "text"],
-        "dover 1 1 1\njob 0 0 2 2 2\nrun 0",
-        Status::No,
-        "short 2\n",
-    ),
+const CALLS: [Row; 9] = [
     (
         &["trial", "1", "2", "1", "1"],
         "unread",
@@ -314,64 +268,9 @@ const CALLS: [Row; 26] = [
     ),
     (
         &["feasible"],
-        "k 1 1\njob 0 4 10 4\njob 1 2 5 2\nend\n",
-        Status::Done,
-        "feasible 3\npiece 0 1 0\npiece 1 3 1\npiece 3 6 0\n",
-    ),
-    (
-        &["feasible"],
-        "k 1 1\njob 0 10 10 10\njob 0 20 20 20\nend\n",
-        Status::No,
-        "window 0 20 30\n",
-    ),
-    (&["feasible"], "k 1 1\nend\n", Status::Done, "feasible 0\n"),
-    (
-        &["feasible"],
         "k 1 1 2\njob 0 2 2 2\njob 3 9 5 9\njob 0 2 5 2\nend\n",
         Status::Done,
         "feasible 2\npiece 0 2 0\npiece 2 4 1\n",
-    ),
-    (
-        &["feasible"],
-        "k 1 1\njob 0 2 2 2\njob 3 9 5 9\nend\n",
-        Status::Refused,
-        "refused 3 job\n",
-    ),
-    (
-        &["feasible"],
-        "k 1 1\njob 0 2 2 2\n",
-        Status::Refused,
-        "refused 3 short\n",
-    ),
-    (
-        &["compare"],
-        "k 1 1\njob 0 10 10 10\njob 0 21 21 21\nend\n",
-        Status::Done,
-        "dover 21\nedf 10\ndense 10\nbound 84\n",
-    ),
-    (
-        &["compare"],
-        "k 4 1\njob 0 4 4 4\njob 1 3 5 12\nend\n",
-        Status::Done,
-        "dover 4\nedf 4\ndense 12\nbound 36\n",
-    ),
-    (
-        &["compare"],
-        "k 1 1\njob 0 1 100001 1\nend\n",
-        Status::Refused,
-        "refused size\n",
-    ),
-    (
-        &["best"],
-        "k 1 1\njob 0 10 14 10\njob 1 2 5 2\njob 1 3 8 3\nend\n",
-        Status::Done,
-        "jobs 3\noptimum 13\nvalue 12\nbound 48\npiece 0 1 0\npiece 1 4 2\npiece 4 13 0\n",
-    ),
-    (
-        &["best"],
-        "k 1 1\njob 0 10 10 10\njob 0 21 21 21\nend\n",
-        Status::Done,
-        "jobs 2\noptimum 21\nvalue 21\nbound 84\npiece 0 21 1\n",
     ),
     // two lanes whose lines come in turn
     (
@@ -387,27 +286,6 @@ const CALLS: [Row; 26] = [
         Status::Refused,
         "0 dover 1 1 1\n5 dover 1 1 1\n0 job 0 0 2 2 2\n0 run 0 0\n5 refused 2 line\n0 complete 2 0\n0 end 2\n",
     ),
-    // a lane that is short at `close`, and no line behind it
-    (
-        &["lanes"],
-        "7 k 1 1\n63 k 1 1\n63 end\nclose\n64 x\n",
-        Status::Refused,
-        "7 dover 1 1 1\n63 dover 1 1 1\n63 end 0\n7 refused 2 short\n",
-    ),
-    // a line that is no lane's, the end of the input before `close`, and no lane at all
-    (
-        &["lanes"],
-        "0 k 1 1\n64 k 1 1\nclose\n",
-        Status::Refused,
-        "0 dover 1 1 1\nrefused 2 lane\n",
-    ),
-    (
-        &["lanes"],
-        "0 k 1 1\n0 end\n",
-        Status::Refused,
-        "0 dover 1 1 1\n0 end 0\nrefused 3 short\n",
-    ),
-    (&["lanes"], "close\n", Status::Done, ""),
 ];
 
 /// The baiting feed of ratio 1/1 with four rounds.
@@ -463,14 +341,12 @@ const BEGUN: &str = "dover 1 1 1\njob 0 0 2 2 2\nrun 0 0\n";
 
 const COMPLETED: &str = "dover 1 1 1\njob 0 0 2 2 2\nrun 0 0\ncomplete 2 0\n";
 
-const WHOLE: &str = "dover 1 1 1\njob 0 0 2 2 2\nrun 0 0\ncomplete 2 0\nend 2\n";
-
 /// Feeds, how a port fails, how `serve` ends over it, and what it writes.
 const FAILS: [(&str, Failing, Status, &str); 7] = [
     (FEED, (4096, 1, 0, 4096), Status::ReadFault, ""),
     (FEED, (18, 2, 0, 4096), Status::ReadFault, BEGUN),
     (FEED, (4096, 0, 1, 4096), Status::WriteFault, ""),
-    (FEED, (4096, 2, 0, 4096), Status::Done, WHOLE),
+    (FEED, (4096, 2, 0, 4096), Status::Done, ONE),
     (FEED, (1, 19, 0, 4096), Status::ReadFault, BEGUN),
     (FEED, (4096, 0, 5, 1), Status::WriteFault, "dove"),
     (TICKS, (25, 2, 0, 4096), Status::ReadFault, COMPLETED),
