@@ -1,4 +1,4 @@
-use dover_model::{Job, Ratio, Refusal, Version};
+use dover_model::{Job, Ratio, Version};
 use event_feed::{Cause, Fed, FeedFault, Intake};
 use line_text::{BackLine, JOB_NUMBERS};
 
@@ -41,44 +41,18 @@ fn are_faulty(rows: &[(&[u8], u64, Cause)]) -> bool {
     true
 }
 
-fn are_refused(rows: &[(&[u8], u64, u64, u64, u64, Refusal)]) -> bool {
-    for (text, release, work, deadline, value, cause) in rows {
-        let refused = Fed::Refused {
-            release: *release,
-            work: *work,
-            deadline: *deadline,
-            value: *value,
-            cause: *cause,
-        };
-        if answers(*text).last != Some(Ok(refused)) {
-            return false;
-        }
-    }
-    true
-}
-
 /// Texts, and the line and the cause of their first fault.
-const FAULTS: [(&[u8], u64, Cause); 21] = [
-    (b"job 0 1 1 1", 1, Cause::Declared),
+const FAULTS: [(&[u8], u64, Cause); 11] = [
     (b"tick 5", 1, Cause::Declared),
     (b"junk", 1, Cause::Line),
-    (b"done 0 0", 1, Cause::Line),
-    (b"k 1 2", 1, Cause::Declared),
-    (b"k 1 1 1", 1, Cause::Declared),
-    (b"k 1 1 4", 1, Cause::Declared),
     (b"k 1 1 02", 1, Cause::Line),
     (b"k 4294967297 1", 1, Cause::Declared),
     (b"k 1 2/k 1 1/end", 1, Cause::Declared),
     (b"k 1 1/k 1 1", 2, Cause::Declared),
-    (b"k 1 1/job 0 01 5 1", 2, Cause::Line),
-    (b"k 1 1/job 0 1 1000000000001 1", 2, Cause::BadJob),
     (b"k 1 1/tick 1000000000001", 2, Cause::Order),
     (b"k 1 1/job 1000000000001 1 5 1", 2, Cause::BadJob),
-    (b"k 1 1/tick 5/tick 4", 3, Cause::Order),
     (b"k 1 1/tick 5/tick 5/tick 4/tick 9", 4, Cause::Order),
-    (b"k 1 1 2/tick 5/job 4 1 9 1", 3, Cause::Order),
     (b"k 1 1 2/job 0 4 8 4/done 1 0", 3, Cause::Line),
-    (b"k 1 1 3/done 1000000000001 0", 2, Cause::Order),
     (
         b"k 2 1/job 0 1 5 1/job 0 1 5 2/job 0 1 5 3",
         4,
@@ -90,35 +64,6 @@ const FAULTS: [(&[u8], u64, Cause); 21] = [
 #[test]
 fn faults_stand_at_their_lines(rt: HostRuntime) {
     assert!(rt; are_faulty(&FAULTS));
-}
-
-/// Texts, and the numbers and the cause of the job line that is refused last.
-const REFUSED: [(&[u8], u64, u64, u64, u64, Refusal); 4] = [
-    (
-        b"k 2 1 2/job 0 1 5 1/job 0 1 5 2/job 0 1 5 3",
-        0,
-        1,
-        5,
-        3,
-        Refusal::Ratio,
-    ),
-    (b"k 2 1 2/job 3 9 5 9", 3, 9, 5, 9, Refusal::BadJob),
-    (b"k 1 1 3/tick 5/job 4 1 9 1", 4, 1, 9, 1, Refusal::Late),
-    (
-        b"k 1 1 2/job 9 9 9 9/job 2 5 6 5",
-        2,
-        5,
-        6,
-        5,
-        Refusal::BadJob,
-    ),
-];
-
-// A job line that isn't admitted is no fault from version Two on, nor one that is late in version Three. The mark
-// stays.
-#[test]
-fn refused_lines_go_on(rt: HostRuntime) {
-    assert!(rt; are_refused(&REFUSED));
 }
 
 // Good lines say what they say.

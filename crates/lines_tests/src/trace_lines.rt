@@ -2,23 +2,9 @@ use dover_model::{Event, Job, Refusal};
 use line_text::{BackLine, Lines, Step};
 use trace_format::{TraceLine, read_trace_line, write_event};
 
-// The lines behind the header of a trace of 24 jobs, and one of each further form.
+// Lines of a trace, of each form.
 const TRACE: &[u8] =
-    b"job 0 0 60 90 60\nrun 0 0\njob 1 10 5 30 25\npreempt 10 0 1\ncomplete 15 1\nrun 15 0\n\
-    job 2 50 5 70 25\npreempt 50 0 2\ncomplete 55 2\nrun 55 0\njob 3 65 10 75 1000\npreempt 65 0 3\n\
-    complete 75 3\nrun 75 0\ncomplete 80 0\njob 4 100 60 190 60\nrun 100 4\njob 5 110 5 130 25\n\
-    preempt 110 4 5\ncomplete 115 5\nrun 115 4\njob 6 120 40 170 40\njob 7 125 5 145 25\n\
-    preempt 125 4 7\ncomplete 130 7\nrun 130 4\nabandon 130 6\njob 8 150 10 160 1000\npreempt 150 4 8\n\
-    complete 160 8\nrun 160 4\ncomplete 180 4\njob 9 200 80 290 80\nrun 200 9\njob 10 210 20 230 2000\n\
-    take 210 9 10\njob 11 215 5 235 25\nabandon 220 9\ncomplete 230 10\nrun 230 11\ncomplete 235 11\n\
-    job 12 300 60 390 60\nrun 300 12\njob 13 300 5 320 25\npreempt 300 12 13\njob 14 300 5 320 25\n\
-    complete 305 13\nrun 305 14\ncomplete 310 14\nrun 310 12\njob 15 360 30 420 30\ncomplete 370 12\n\
-    run 370 15\njob 16 380 10 390 1000\npreempt 380 15 16\ncomplete 390 16\nrun 390 15\n\
-    job 17 400 60 490 60\ncomplete 410 15\nrun 410 17\njob 18 420 5 440 25\npreempt 420 17 18\n\
-    complete 425 18\nrun 425 17\njob 19 430 20 470 100\njob 20 440 10 450 1000\npreempt 440 17 20\n\
-    complete 450 20\nrun 450 17\nabandon 450 19\ncomplete 485 17\njob 21 500 60 590 60\nrun 500 21\n\
-    job 22 530 5 550 25\npreempt 530 21 22\ncomplete 535 22\nrun 535 21\njob 23 560 20 580 2000\n\
-    preempt 560 21 23\ncomplete 580 23\nrun 580 21\ncomplete 585 21\nend 8555\ntake 0 0 2\n\
+    b"job 0 0 60 90 60\nrun 0 0\npreempt 10 0 1\ntake 210 9 10\nabandon 130 6\ncomplete 585 21\nend 8555\n\
     refuse 0 0 1 5 3 ratio\nrefuse 0 3 9 5 9 job\nrefuse 2 2 5 6 5 count\n\
     refuse 5 2 5 9 5 order\nrefuse 7 7 2 9 5 full\nrefuse 5 4 2 done\nrefuse 2 2 999999999999999999 done\n\
     refuse 1000000000000 999999999999999999 0 0 0 total\n\
@@ -46,7 +32,7 @@ fn lines_are_read_and_written(rt: HostRuntime) {
             assert!(rt; is_taken(lines.line()));
         }
     }
-    let holds = lines.count() == 94 && lines.rest() == 0;
+    let holds = lines.count() == 17 && lines.rest() == 0;
     assert!(rt; holds);
 }
 
