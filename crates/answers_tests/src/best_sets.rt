@@ -48,29 +48,6 @@ fn no_jobs_are_worth_nothing(rt: HostRuntime) {
 }
 
 #[test]
-fn the_greater_of_two_is_chosen(rt: HostRuntime) {
-    let jobs = [job(&rt, 0, 10, 10, 10), job(&rt, 0, 21, 21, 21)];
-    comes_to(&rt, rt.alloc(), &jobs, 21, &[1], &[(0, 21, 1)]);
-}
-
-#[test]
-fn pieces_have_the_numbers_among_all_jobs(rt: HostRuntime) {
-    let jobs = [
-        job(&rt, 0, 10, 14, 10),
-        job(&rt, 1, 2, 5, 2),
-        job(&rt, 1, 3, 8, 3),
-    ];
-    comes_to(
-        &rt,
-        rt.alloc(),
-        &jobs,
-        13,
-        &[0, 2],
-        &[(0, 1, 0), (1, 4, 2), (4, 13, 0)],
-    );
-}
-
-#[test]
 fn the_earliest_of_equal_sets_is_chosen(rt: HostRuntime) {
     let jobs = [
         job(&rt, 0, 2, 2, 5),

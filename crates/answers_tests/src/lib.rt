@@ -1,13 +1,11 @@
 //! Tests of the judge, of what tells of runs and makes lists of jobs, and of the questions on a list: `trace_judge`,
-//! `intervals`, `dover_report`, `trial_jobs`, `adversary`, `feasibility`, `best_set` and `policy_lab`.
+//! `dover_report`, `trial_jobs`, `adversary`, `feasibility`, `best_set` and `policy_lab`.
 #![tactic(auto)]
 
 #[cfg(test)]
 mod baits;
 #[cfg(test)]
 mod best_sets;
-#[cfg(test)]
-mod charges;
 #[cfg(test)]
 mod drawn_jobs;
 #[cfg(test)]

@@ -43,20 +43,6 @@ fn comes_to<P: Policy>(
 }
 
 #[test]
-fn both_lose_the_greater_job(rt: HostRuntime) {
-    let jobs = [job(&rt, 0, 10, 10, 10), job(&rt, 0, 21, 21, 21)];
-    comes_to(&rt, rt.alloc(), &Edf, &jobs, 10, &[(0, 10, 0)]);
-    comes_to(&rt, rt.alloc(), &Dense, &jobs, 10, &[(0, 10, 0)]);
-}
-
-#[test]
-fn a_denser_job_preempts(rt: HostRuntime) {
-    let jobs = [job(&rt, 0, 4, 4, 4), job(&rt, 1, 3, 5, 12)];
-    comes_to(&rt, rt.alloc(), &Edf, &jobs, 4, &[(0, 4, 0)]);
-    comes_to(&rt, rt.alloc(), &Dense, &jobs, 12, &[(0, 1, 0), (1, 4, 1)]);
-}
-
-#[test]
 fn ticks_between_jobs_are_idle(rt: HostRuntime) {
     let jobs = [
         job(&rt, 1, 2, 4, 2),

@@ -3,8 +3,8 @@ ghost use Rattle.dover_model.specs.declared.events.Event.TheVariants.{Release, R
 ghost use Rattle.dover_model.specs.declared.events.Event.TheVariants.{End};
 ghost use Rattle.dover_model.specs.JobFacts.{job_of_numbers};
 
-use dover_model::{Event, Job, Ratio, Version};
-use dover_report::{summary, table, text};
+use dover_model::{Event, Job, Ratio};
+use dover_report::summary;
 use std::process::Abort;
 
 /// The ratio of these numbers.
@@ -63,109 +63,12 @@ fn steps(rt: &impl Abort) -> [Event; 11]
 }
 
 #[test]
-fn a_report_has_its_intervals(rt: HostRuntime) {
-    let k = ratio(&rt, 1, 1);
-    let run = steps(&rt);
-    let want =
-        b"ratio 1 1\njobs 3\ncompleted 2 15\nabandoned 1 2\ntaken 1\nbound 60\ninterval 1 0 12 0 12 5 2\ninterval 2 12 15 3 0 0 0\n";
-    assert!(rt;
-        text(rt.alloc(), Version::One, k, &run)
-            .expect(&rt, "memory")
-            .as_slice()
-            == want.as_slice()
-    );
-}
-
-#[test]
 fn a_summary_has_the_counts_alone(rt: HostRuntime) {
     let k = ratio(&rt, 1, 1);
     let run = steps(&rt);
     let want = b"jobs 3\ncompleted 2 15\nabandoned 1 2\ntaken 1\nbound 60\n";
     assert!(rt;
         summary(rt.alloc(), k, &run)
-            .expect(&rt, "memory")
-            .as_slice()
-            == want.as_slice()
-    );
-}
-
-#[test]
-fn a_table_has_a_row_for_each_job(rt: HostRuntime) {
-    let run = steps(&rt);
-    let want =
-        b"job,release,work,deadline,value,fate,tick\n0,0,3,30,3,complete,15\n1,0,2,4,2,abandon,2\n2,0,12,12,12,complete,12\n";
-    assert!(rt;
-        table(rt.alloc(), Version::One, &run)
-            .expect(&rt, "memory")
-            .as_slice()
-            == want.as_slice()
-    );
-}
-
-/// The printed steps of a run in which a job that took the processor finishes early.
-fn early_steps(rt: &impl Abort) -> [Event; 12]
-    ensures { result ≡ Release 0 (job_of_numbers 0 3 30 3) ∷ Run 0 0 ∷ Release 1 (job_of_numbers 0 2 4 2)
-        ∷ Preempt 0 0 1
-        ∷ Release 2 (job_of_numbers 0 12 12 12) ∷ Take 0 1 2 ∷ Complete 1 2 ∷ Run 1 1 ∷ Complete 3 1 ∷ Run 3 0
-        ∷ Complete 6 0 ∷ End 17 ∷ [] }
-{
-    let first = job(rt, 0, 3, 30, 3);
-    let second = job(rt, 0, 2, 4, 2);
-    let third = job(rt, 0, 12, 12, 12);
-    [
-        Event::Release {
-            number: 0,
-            job: first,
-        },
-        Event::Run { at: 0, number: 0 },
-        Event::Release {
-            number: 1,
-            job: second,
-        },
-        Event::Preempt {
-            at: 0,
-            stops: 0,
-            starts: 1,
-        },
-        Event::Release {
-            number: 2,
-            job: third,
-        },
-        Event::Take {
-            at: 0,
-            stops: 1,
-            starts: 2,
-        },
-        Event::Complete { at: 1, number: 2 },
-        Event::Run { at: 1, number: 1 },
-        Event::Complete { at: 3, number: 1 },
-        Event::Run { at: 3, number: 0 },
-        Event::Complete { at: 6, number: 0 },
-        Event::End { value: 17 },
-    ]
-}
-
-#[test]
-fn a_report_counts_what_is_left_of_early_jobs(rt: HostRuntime) {
-    let k = ratio(&rt, 1, 1);
-    let run = early_steps(&rt);
-    let want = b"ratio 1 1\njobs 3\ncompleted 3 17\nabandoned 0 0\ntaken 1\nearly 1 11\nbound 68\n\
-          interval 1 0 1 0 12 5 0\ninterval 2 1 3 2 0 0 0\ninterval 3 3 6 3 0 0 0\n";
-    assert!(rt;
-        text(rt.alloc(), Version::Three, k, &run)
-            .expect(&rt, "memory")
-            .as_slice()
-            == want.as_slice()
-    );
-}
-
-#[test]
-fn a_table_tells_what_the_jobs_had(rt: HostRuntime) {
-    let run = early_steps(&rt);
-    let want = b"job,release,work,deadline,value,fate,tick,had\n\
-          0,0,3,30,3,complete,6,3\n1,0,2,4,2,complete,3,2\n2,0,12,12,12,complete,1,1\n";
-    assert!(rt;
-        table(rt.alloc(), Version::Three, &run)
             .expect(&rt, "memory")
             .as_slice()
             == want.as_slice()

@@ -1,4 +1,0 @@
-use Rattle.answers_tests.proofs.verdicts.told.Given as goal
-
-abbrev pub ghosts-told_in : goal.ghosts-told_in
-ghosts-told_in a = record { name = a.blank.name; parts = a.blank.parts }
