@@ -9,7 +9,6 @@ use Rattle.std.proofs.lemmas.List.{append-nil, map-append, take_all, take_more, 
 use Rattle.std.proofs.lemmas.List.{get_or-set_other, length-set, set-set}
 use Rattle.std.proofs.lemmas.List.Elements.{filter-append}
 use Rattle.dover_model.specs.JobFacts.{JobFacts, IsJob}
-use Rattle.dover_model.specs.Limits.{last_tick}
 use Rattle.dover_model.specs.Orders.{first}
 use Rattle.place_heap.specs.Items.{ItemFacts, is_before}
 use Rattle.place_heap.specs.Table.{items_of}
@@ -164,8 +163,7 @@ module _ (m : Merge) (done : List JobFacts) (s : StandsBehind m done) where
         onward = ends (cases_lt s.tick m.until);
         within = s.within;
         ends = omega arith;
-        quiet = λ n x there low which. quiet_none n x (get_or m.next n None) (none n) (s.next n there) low
-            (early n x which);
+        quiet = λ n x there low which. quiet_none _ _ _ (none n) (s.next n there) low (early n x which);
       } in sym (s.done_is ∙ quiet_between tasks s.tick s.place m.until 0 quiet
       ∙ append-nil (jobs_before m.until tasks)) where
         ends : (s.tick < m.until) ⊎ (m.until ≤ s.tick) → (s.tick < m.until) ⊎ ((s.tick ≡ m.until) × (s.place ≤ 0))
@@ -193,8 +191,7 @@ module _ (m : Merge) (done : List JobFacts) (s : StandsBehind m done) where
           same g f h = let k : Some g ≡ Some f = h in cc
 
     at_place : IsNextRelease m.until it.place.at (task_at tasks it.place.at) (from_tick s.tick s.place it.place.at) e
-    at_place = next_is it.place.at (get_or m.next it.place.at None) e it.place.is
-        (s.next it.place.at (omega (arith, it.place.within, s.size)))
+    at_place = next_is _ _ _ it.place.is (s.next it.place.at (omega (arith, it.place.within, s.size)))
 
     -- it is kept at its own number
     own_place : e.place ≡ it.place.at
@@ -344,23 +341,6 @@ module _ (m : Merge) (done : List JobFacts) (s : StandsBehind m done) where
 
 -- ---- nothing came yet
 
--- the first releases are kept
-pub starts : (m : Merge) → m.until ≤ last_tick → length m.next ≡ length m.tasks
-    → ((n : ℕ) → n < length m.tasks → IsNext m.until n (task_at m.tasks n) 0 (get_or m.next n None))
-    → StandsBehind m []
-starts m limit size next = record {
-  limit = limit;
-  size = size;
-  tick = 0;
-  place = 0;
-  known = omega arith;
-  within = omega arith;
-  begun = λ at_end. refl;
-  done_is = refl;
-  next = λ n there. subst (λ f. IsNext m.until n (task_at m.tasks n) f (get_or m.next n None))
-      (sym (from_late 0 0 n (omega arith))) (next n there);
-}
-
 -- ---- what a heap gives
 
 -- no job came where none is given
@@ -437,11 +417,6 @@ module _ (tasks : List PeriodicTask) (until : ℕ) (old : List (Option ItemFacts
     ap (λ (t : List (Option ItemFacts)). length t) taken,
     length-set old e.place None,
   )
-
-  -- the deadline fits
-  pub due_given : (done : List JobFacts) → StandsBehind (merge tasks until old) done
-      → e.key + (get_or tasks e.place blank_task).deadline ≤ 1_000_000_000_000
-  due_given done s = (given_job (merge tasks until old) done s each e is (get_or tasks e.place blank_task) refl).due
 
   -- the next job
   pub next_given : (n w : List (Option ItemFacts)) (release : ℕ) → until < 2 ^ 64

@@ -90,8 +90,7 @@ in_order (suc until) tasks =
     (order_at (released_at until tasks) until (at_tick until tasks))
     (all_before (λ j. j.release ≤ until) until tasks
     (any_task (HasEach (λ j. j.release ≤ until) until) tasks (λ task tick low is. omega arith)))
-    (all_from (λ j. j.release ≡ until) (λ j. until ≤ j.release) (released_at until tasks) (λ j is. omega arith)
-    (at_tick until tasks))
+    (all_from (λ j. j.release ≡ until) (λ j. until ≤ j.release) _ (λ j is. omega arith) (at_tick until tasks))
 
 -- ---- the limits of a job
 
@@ -146,6 +145,5 @@ unrolled_valid until rules tasks ratio are fits =
           (all_from (λ a. AllByRecursion (AreWithin until k a) tasks)
           (HasEach (λ i. AllByRecursion (IsWithinRatio k i) jobs) until) tasks
           (λ a row tick early is. all_before (IsWithinRatio k (job_at a tick)) until tasks
-          (all_from (AreWithin until k a) (HasEach (IsWithinRatio k (job_at a tick)) until) tasks
-          (λ b within other low at. within) row)) are.densities);
+          (all_from _ _ _ (λ b within other low at. within) row)) are.densities);
     }

@@ -3,9 +3,8 @@ use Rattle.std.proofs.Common.{◌≡◌, ℕ, suc, ◌+◌, ◌-◌, ◌*◌, �
 use Rattle.std.proofs.Common.{false, cond, min, arith}
 use Rattle.std.proofs.Common.{Option, Some, None}
 use Rattle.std.specs.Prelude.{◌&&◌, ◌==◌, nat_le, nat_lt}
-use Rattle.std.proofs.Math.Nat.{zero-mod}
 use Rattle.std.proofs.lemmas.Nat.{div-add-mod', mod-mul-add}
-use Rattle.std.proofs.lemmas.Bool.{leb-true, le-leb, lt-leb, ltb-true, ltb-false, eqb-true, eq-eqb}
+use Rattle.std.proofs.lemmas.Bool.{leb-true, le-leb, ltb-true, ltb-false, eqb-true}
 use Rattle.std.proofs.lemmas.Bool.{ne_eqb, and_parts}
 use Rattle.place_heap.specs.Items.{ItemFacts}
 use Rattle.periodic_tasks.specs.Tasks.{releases}
@@ -17,32 +16,6 @@ abbrev kept_by : Bool → (number release : ℕ) → Option ItemFacts
 kept_by b number release = cond b (Some (release_item number release)) None
 
 -- ---- the first release
-
--- before the offset
-not_begun : (task : PeriodicTask) (tick : ℕ) → tick < task.offset → releases task tick ≡ false
-not_begun task tick early = ap (λ b. b && ((tick - task.offset) % task.period == 0)) (lt-leb task.offset tick early)
-
--- at the offset
-begins : (task : PeriodicTask) → releases task task.offset ≡ true
-begins task =
-    let none : task.offset - task.offset ≡ 0 = omega arith in
-    ap (λ b. b && ((task.offset - task.offset) % task.period == 0)) (le-leb task.offset task.offset (omega arith))
-    ∙ eq-eqb _ _ (ap (λ n. n % task.period) none ∙ zero-mod task.period)
-
--- the first release is kept
-pub first_kept : (until number : ℕ) (task : PeriodicTask)
-    → IsNext until number task 0 (kept_release until number task.offset)
-first_kept until number task = by (nat_lt task.offset until) refl where
-  by : (b : Bool) → nat_lt task.offset until ≡ b → IsNext until number task 0 (kept_by b number task.offset)
-  by true early = record {
-    item_is = refl;
-    early = omega arith;
-    late = ltb-true _ _ early;
-    released = begins task;
-    quiet = λ tick low high. not_begun task tick high;
-  }
-  by false late = λ tick low high. let after : until ≤ task.offset = ltb-false _ _ late in
-      not_begun task tick (omega (arith, high, after))
 
 -- ---- the next release
 

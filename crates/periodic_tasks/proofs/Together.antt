@@ -16,10 +16,6 @@ use Rattle.periodic_tasks.specs.Tasks.{tested_job}
 use Rattle.periodic_tasks.specs.Limits.{IsTask, AreWithin, AreTasks, task_rules}
 use Rattle.periodic_tasks.specs.declared.task.PeriodicTask.{PeriodicTask}
 
--- no tasks
-pub no_tasks : (until : ℕ) (k : Fraction) → AreTasks until k []
-no_tasks until k = record { each = tt; few = omega arith; densities = tt }
-
 -- what holds of each tested job holds of each task
 unmapped : (P : JobFacts → Type 0) (until : ℕ) (tasks : List PeriodicTask)
     → AllByRecursion P (map (tested_job until) tasks)
@@ -48,6 +44,5 @@ tasks_more until k tasks task above are period none =
           (all_both (λ a. AllByRecursion (AreWithin until k a) tasks) Both
           (λ a. AllByRecursion (AreWithin until k a) (tasks ++ task ∷ [])) tasks
           (λ a row with_task. all_behind (AreWithin until k a) tasks task row with_task.0) are.densities both)
-          (all_behind (AreWithin until k task) tasks task
-          (all_from Both (AreWithin until k task) tasks (λ a with_task. with_task.1) both) itself);
+          (all_behind _ _ _ (all_from Both (AreWithin until k task) tasks (λ a with_task. with_task.1) both) itself);
     }

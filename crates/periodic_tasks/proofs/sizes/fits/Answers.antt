@@ -89,9 +89,7 @@ returns-then-total-most_total c = (
 
 pub returns : goal.returns
 returns c = (
-  λ yes. all_fit c.args.until c.loop-task.count c.loop-task.total c.loop-task.task-index c.args.tasks.now c.requires
-      c.loop-task-test.false
-      c.loop-task.invariant.count_is c.loop-task.invariant.total_is c.loop-task.invariant.few
-      c.loop-task.invariant.modest,
+  λ yes. all_fit _ _ _ _ _ c.requires c.loop-task-test.false c.loop-task.invariant.count_is
+      c.loop-task.invariant.total_is c.loop-task.invariant.few c.loop-task.invariant.modest,
   λ fits. refl,
 )

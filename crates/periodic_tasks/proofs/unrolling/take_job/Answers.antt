@@ -12,16 +12,14 @@ pub bounds-tasks-number : goal.bounds-tasks-number
 bounds-tasks-number g c = omega (
   arith,
   c.place-number.ensures.is,
-  given_within (merge c.args.tasks.now c.args.until c.args.next.now) c.requires.stands.0 c.requires.stands.1
-      c.requires.each c.in-Some.first c.in-Some.ensures,
+  given_within _ _ c.requires.stands.1 c.requires.each _ c.in-Some.ensures,
 )
 
 pub keep_release-requires-clause-ready : goal.keep_release-requires-clause-ready
 keep_release-requires-clause-ready g c = omega (
   arith,
   c.place-number.ensures.is,
-  room_given c.args.tasks.now c.args.until c.args.next.now c.requires.each c.in-Some.first c.in-Some.ensures
-      c.requires.stands.0 c.requires.stands.1 c.remove.new.self
+  room_given _ _ _ c.requires.each _ c.in-Some.ensures _ c.requires.stands.1 _
       (c.remove.ensures.out ∙ ap (λ q. set c.args.next.now q None) c.place-number.ensures.is),
 )
 
@@ -34,15 +32,13 @@ returns-clause-next g c =
 
 pub returns-clause-end : goal.returns-clause-end
 returns-clause-end g c = λ done stands none. absurd
-    (read_some c.args.tasks.now c.args.until c.args.next.now c.requires.each c.in-Some.first c.in-Some.ensures
-    c.place-number.result c.key-release.result c.place-number.ensures.is c.key-release.ensures
-    c.new.result c.new.ensures.allowed done stands none)
+    (read_some _ _ _ c.requires.each _ c.in-Some.ensures _ _ c.place-number.ensures.is c.key-release.ensures _
+    c.new.ensures.allowed _ stands none)
 
 pub returns-clause-idle : goal.returns-clause-idle
 returns-clause-idle g c = λ none. absurd
-    (read_some c.args.tasks.now c.args.until c.args.next.now c.requires.each c.in-Some.first c.in-Some.ensures
-    c.place-number.result c.key-release.result c.place-number.ensures.is c.key-release.ensures
-    c.new.result c.new.ensures.allowed c.requires.stands.0 c.requires.stands.1 none)
+    (read_some _ _ _ c.requires.each _ c.in-Some.ensures _ _ c.place-number.ensures.is c.key-release.ensures _
+    c.new.ensures.allowed _ c.requires.stands.1 none)
 
 pub returns-clause-count : goal.returns-clause-count
 returns-clause-count g c = λ d enough.
