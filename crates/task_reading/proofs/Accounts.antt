@@ -49,9 +49,7 @@ module _ (until : ℕ) where
   -- the next line of an account that goes on
   pub next_of : (ls : List (List ℕ)) (l : List ℕ) → (account_of_lines until ls).standing ≡ Open
       → account_of_lines until (ls ++ l ∷ []) ≡ read_line until (counted (account_of_lines until ls)) l
-  next_of ls l opened = fold-append (next_line until) no_lines ls (l ∷ [])
-      ∙ ap (λ b. cond b (read_line until (counted (account_of_lines until ls)) l) (account_of_lines until ls))
-      (ap goes_on opened)
+  next_of ls l opened = cc (fold-append (next_line until) no_lines ls (l ∷ []))
 
   -- a line too many
   pub many_lines : (a : TaskAccount) (l : List ℕ) → most_lines Two < a.lines
@@ -83,9 +81,7 @@ module _ (until : ℕ) where
   -- an account that doesn't go on stays
   closed_stays : (ls : List (List ℕ)) (a : TaskAccount) → is_open a ≡ false → fold (next_line until) a ls ≡ a
   closed_stays [] a closed = refl
-  closed_stays (l ∷ ls) a closed =
-      ap (λ b. fold (next_line until) b ls) (ap (λ x. cond x (read_line until (counted a) l) a) closed)
-      ∙ closed_stays ls a closed
+  closed_stays (l ∷ ls) a closed = cc (closed_stays ls a closed)
 
   pub closed_account : (F G : List ℕ) → is_open (account until F) ≡ false → account until (F ++ G) ≡ account until F
   closed_account F G closed = let it = account_append F G in it.1 ∙ closed_stays it.0 (account until F) closed

@@ -1,5 +1,5 @@
 -- A text that goes on, or has ended.
-use Rattle.std.proofs.Common.{◌≡◌, ◌+◌, ℕ, suc, List, length, ap, sym, ◌∙◌, Bool, true, false, arith}
+use Rattle.std.proofs.Common.{◌≡◌, ◌+◌, ℕ, suc, List, length, ap, sym, ◌∙◌, true, false, arith}
 use Rattle.dover_model.specs.Lines.{whole_lines}
 use Rattle.event_feed.specs.Answers.{short_after}
 use Rattle.event_feed.specs.declared.faults.Cause.TheVariants as cause
@@ -21,21 +21,6 @@ pub short_is : (until : ℕ) (text : TaskText) (x : List ℕ) → TextStands unt
 short_is until text x it =
     let n : text.intake.lines + 1 ≡ suc (length (whole_lines x)) =
     omega (arith, it.keeps.keeps.counted, open_count until x it.keeps.stands it.short) in ap short_at n
-
--- whether its reading goes on
-abbrev pub is_going : Progress → Bool
-is_going progress.Open = true
-is_going progress.Ended = false
-is_going (progress.Refused cause) = false
-is_going progress.NoMemory = false
-
--- a text goes on while its reading does
-pub going_is : (until : ℕ) (p : Progress) (text : TaskText) (x : List ℕ) → IsSo until p text x
-    → is_going p ≡ is_open (account until x)
-going_is until progress.Open text x it = sym (ap goes_on it.keeps.stands)
-going_is until progress.Ended text x it = sym (ap goes_on it.0)
-going_is until (progress.Refused cause) text x it = sym (ap goes_on it.0)
-going_is until progress.NoMemory text x it = absurd it
 
 -- what is kept of a text that goes on
 pub going_stands : (until : ℕ) (p : Progress) (text : TaskText) (x : List ℕ) → IsSo until p text x

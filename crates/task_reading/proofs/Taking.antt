@@ -3,62 +3,49 @@ use Rattle.std.proofs.Common.{◌≡◌, ◌≤◌, ◌<◌, ◌+◌, ◌-◌, �
 use Rattle.std.proofs.Common.{Bool, true, false, cond}
 use Rattle.std.proofs.Common.{Option, Some, None, is_some, arith}
 use Rattle.std.specs.Option.{option_map}
-use Rattle.std.proofs.lemmas.Bool.{eq-eqb, ne_eqb}
+use Rattle.std.proofs.lemmas.Bool.{ne_eqb}
 use Rattle.std.proofs.lemmas.List.{map-append}
 use Rattle.dover_model.specs.declared.events.Refusal.{Refusal}
 use Rattle.dover_model.specs.declared.events.Refusal.TheVariants as refusal
 use Rattle.dover_model.specs.declared.events.Version.TheVariants.{Two}
 use Rattle.dover_model.specs.Limits.{most_lines}
-use Rattle.dover_model.specs.Lines.{lines_of}
 use Rattle.dover_model.specs.Fraction.{Fraction}
 use Rattle.dover_model.specs.JobFacts.{JobFacts, job_of_numbers}
 use Rattle.dover_model.specs.Instance.{Declaration as Rules}
 use Rattle.dover_model.specs.Admission.{refusal_of}
 use Rattle.dover_model.specs.Feed as feed
-use Rattle.dover_model.specs.Feed.{Open, Faulty, NotAdmitted, declared_rules, rules_with}
-use Rattle.dover_model.proofs.Accounts.{declared_good}
+use Rattle.dover_model.specs.Feed.{Open, Faulty, NotAdmitted, rules_with}
 use Rattle.admission.specs.Kept as admission
 use Rattle.admission.specs.Answers as admitting
-use Rattle.admission.specs.Answers.{refusal_of_refused, IsOther}
+use Rattle.admission.specs.Answers.{IsOther}
 use Rattle.admission.specs.declared.refused.Refused.{Refused}
 use Rattle.admission.specs.declared.refused.Refused.TheVariants as refused
-use Rattle.event_feed.specs.Kept.{cause_of_fault, cause_of_refused}
-use Rattle.event_feed.specs.declared.faults.Cause.{Cause as Fault}
+use Rattle.event_feed.specs.Kept.{cause_of_refused}
 use Rattle.event_feed.specs.declared.faults.Cause.TheVariants as cause
 use Rattle.periodic_tasks.specs.Tasks.{tested_job, count_before}
-use Rattle.periodic_tasks.specs.Limits.{AreTasks, task_refusal, task_rules}
+use Rattle.periodic_tasks.specs.Limits.{task_refusal, task_rules}
 use Rattle.periodic_tasks.specs.declared.task.PeriodicTask.{PeriodicTask}
-use Rattle.periodic_tasks.proofs.Together.{no_tasks, tasks_more}
-use Rattle.task_reading.specs.Account.{TaskAccount, fraction, with_line, cause_of, cause_under, account_of_lines}
+use Rattle.periodic_tasks.proofs.Together.{tasks_more}
+use Rattle.task_reading.specs.Account.{TaskAccount, with_line, cause_of, cause_under, account_of_lines}
 use Rattle.task_reading.specs.Account.{account}
-use Rattle.task_reading.specs.Faults.{NamesOther, NamesAt, NamesIn}
+use Rattle.task_reading.specs.Faults.{NamesOther, NamesAt}
 use Rattle.task_reading.specs.Lines.{task_line}
-use Rattle.task_reading.specs.Keeping.{IsKnown, Keeps, KeepsDeclared, KeepsRules, KeepsAccount, StandsAt}
+use Rattle.task_reading.specs.Keeping.{Keeps, KeepsDeclared, KeepsRules, KeepsAccount, StandsAt}
 use Rattle.task_reading.specs.declared.intake.Declaration.{Declaration}
 use Rattle.task_reading.specs.declared.intake.TaskIntake.{TaskIntake}
 use Rattle.task_reading.specs.declared.intake.Progress.{Progress}
 use Rattle.task_reading.specs.declared.intake.Progress.TheVariants as progress
 use Rattle.task_reading.specs.declared.lines.TaskLine.{TaskLine}
-use Rattle.task_reading.specs.declared.lines.TaskLine.TheVariants.{Declared, Task, End}
+use Rattle.task_reading.specs.declared.lines.TaskLine.TheVariants.{Task}
 use Rattle.task_reading.proofs.Accounts.{counted, next_of, line_as, many_lines}
 
 -- ---- a task behind others
-
--- a refusal as a cause
-pub refused_cause : (r : Refused) → cause_of_fault (cause_of_refused r) ≡ NotAdmitted (refusal_of_refused r)
-refused_cause refused.BadJob = refl
-refused_cause refused.Count = refl
-refused_cause refused.Total = refl
-refused_cause (refused.Ratio other) = refl
 
 module _ (until : ℕ) (task : PeriodicTask) (k : Fraction) (tasks : List PeriodicTask) where
   -- by whether it has a period
   abbrev by_period : Bool → Option Refusal
   by_period none = cond none (Some refusal.BadJob) (refusal_of (task_rules k) (map (tested_job until) tasks)
       (tested_job until task))
-
-  pub no_period : task.period ≡ 0 → task_refusal until k tasks task ≡ Some refusal.BadJob
-  no_period none = ap by_period (eq-eqb _ _ none)
 
   pub with_period : (task.period ≡ 0 → ⊥) → task_refusal until k tasks task
       ≡ refusal_of (task_rules k) (map (tested_job until) tasks) (tested_job until task)
@@ -132,15 +119,6 @@ module _ (until : ℕ) (task : PeriodicTask) (rules : Rules) (tasks : List Perio
         (ap (λ r. job_of_numbers r task.work (r + task.deadline) task.value) is) names);
   }
 
--- where the ratio is declared, the task that it is taken behind is named, whatever the rules are
-pub named_in : (until : ℕ) (task : PeriodicTask) (d : Declaration) (cause : Fault) (rules : Option Rules)
-    (tasks : List PeriodicTask) → KeepsRules until (Some d) rules tasks
-    → ((r : Rules) (ts : List PeriodicTask) → KeepsDeclared until d r ts
-    → NamesOther until (Some (Task task)) (Some r) ts cause)
-    → NamesOther until (Some (Task task)) rules tasks cause
-named_in until task d cause None tasks keeps names = absurd keeps
-named_in until task d cause (Some rules) tasks keeps names = names rules tasks keeps
-
 -- ---- the end line
 
 -- a text that has ended has a ratio
@@ -149,158 +127,7 @@ pub none_ended : (intake : TaskIntake) → intake.declared ≡ None → (until :
 none_ended intake none until x it = let clash : true ≡ false = sym it.2
     ∙ ap (λ (o : Option Declaration). is_some o) none in cc
 
--- ---- the line of the ratio
-
-module _ (until : ℕ) (intake : TaskIntake) (a : TaskAccount) (p q : ℕ) (version : Option ℕ)
-    (keeps : KeepsAccount until intake a) where
-  -- the line
-  abbrev line : TaskLine
-  line = Declared p q version
-
-  -- it is declared already
-  pub declared_again : is_some intake.declared ≡ true
-      → StandsAt until (progress.Refused cause.Declared) intake
-      (with_line a line (cause_under until a.rules a.tasks line))
-  declared_again there = by intake.declared a.rules there keeps.rules where
-    by : (o : Option Declaration) (r : Option Rules) → is_some o ≡ true → KeepsRules until o r a.tasks
-        → (with_line a line (cause_under until r a.tasks line)).standing ≡ Faulty intake.lines feed.Declared
-    by None r there kept = absurd (let e : false ≡ true = there in cc)
-    by (Some d) None there kept = absurd kept
-    by (Some d) (Some rules) there kept = ap (λ n. Faulty n feed.Declared) (sym keeps.counted)
-
-  -- it may not be declared
-  pub not_declared : is_some intake.declared ≡ false → declared_rules (fraction p q) version ≡ None
-      → StandsAt until (progress.Refused cause.Declared) intake
-      (with_line a line (cause_under until a.rules a.tasks line))
-  not_declared first none = by intake.declared a.rules first keeps.rules where
-    by : (o : Option Declaration) (r : Option Rules) → is_some o ≡ false → KeepsRules until o r a.tasks
-        → (with_line a line (cause_under until r a.tasks line)).standing ≡ Faulty intake.lines feed.Declared
-    by (Some d) r there kept = absurd (let e : true ≡ false = there in cc)
-    by None (Some rules) there kept = absurd kept
-    by None None there kept = ap (λ o. (with_line a line (cond (is_some o) None (Some feed.Declared))).standing) none
-        ∙ ap (λ n. Faulty n feed.Declared) (sym keeps.counted)
-
-  -- it is declared
-  module _ (new : TaskIntake) (d : Declaration) (new_is : new.declared ≡ Some d) (until_is : new.until ≡ intake.until)
-      (lines_are : new.lines ≡ intake.lines) (tasks_are : new.tasks.items ≡ intake.tasks.items) where
-    pub now_declared : (k : Fraction) → a.standing ≡ Open → is_some intake.declared ≡ false
-        → declared_rules (fraction p q) version ≡ Some (rules_with k d.version) → d.admission.rules ≡ task_rules k
-        → admission.StandsFor d.admission []
-        → StandsAt until progress.Open new (with_line a line (cause_under until a.rules a.tasks line))
-    now_declared k opened first said limits stands = by intake.declared a.rules first keeps.rules where
-      rules : Rules
-      rules = rules_with d.admission.rules.ratio d.version
-
-      ratio_is : d.admission.rules.ratio ≡ k
-      ratio_is = ap (λ (r : Rules). r.ratio) limits
-
-      some : declared_rules (fraction p q) version ≡ Some rules
-      some = said ∙ ap (λ k. Some (rules_with k d.version)) (sym ratio_is)
-
-      kept_now : a.tasks ≡ [] → KeepsAccount until new (record a { rules = Some rules })
-      kept_now none = record {
-        until_is = until_is ∙ keeps.until_is;
-        known = keeps.known;
-        counted = lines_are ∙ keeps.counted;
-        tasks_are = tasks_are ∙ keeps.tasks_are;
-        rules = subst (λ o. KeepsRules until o (Some rules) a.tasks) (sym new_is) (record {
-          rules_are = refl;
-          limits = limits ∙ ap task_rules (sym ratio_is);
-          ratio = declared_good (fraction p q) version rules some;
-          tested = subst (λ ts. admission.StandsFor d.admission (map (tested_job until) ts)) (sym none) stands;
-          are = subst (AreTasks until rules.ratio) (sym none) (no_tasks until rules.ratio);
-        });
-      }
-
-      by : (o : Option Declaration) (r : Option Rules) → is_some o ≡ false → KeepsRules until o r a.tasks
-          → StandsAt until progress.Open new (with_line a line (cause_under until r a.tasks line))
-      by (Some d) r there kept = absurd (let e : true ≡ false = there in cc)
-      by None (Some rules) there kept = absurd kept
-      by None None there kept =
-          subst (λ o. StandsAt until progress.Open new (with_line a line (cond (is_some o) None (Some feed.Declared))))
-          (sym some) (opened, subst (λ o. KeepsAccount until new (record a { rules = o })) (sym some) (kept_now kept))
-
--- ---- the line of a task
-
-module _ (until : ℕ) (old new : TaskIntake) (a : TaskAccount) (task : PeriodicTask)
-    (keeps : KeepsAccount until old a) where
-  -- it is at fault
-  pub task_refused : (c : Fault) → new.lines ≡ old.lines
-      → cause_under until a.rules a.tasks (Task task) ≡ Some (cause_of_fault c)
-      → StandsAt until (progress.Refused c) new
-      (with_line a (Task task) (cause_under until a.rules a.tasks (Task task)))
-  task_refused c lines_are is = ap (λ o. (with_line a (Task task) o).standing) is
-      ∙ ap (λ n. Faulty n (cause_of_fault c)) (sym (lines_are ∙ keeps.counted))
-
-  -- it is taken in
-  pub task_added : a.standing ≡ Open → new.until ≡ old.until → new.lines ≡ old.lines
-      → new.tasks.items ≡ old.tasks.items ++ task ∷ []
-      → cause_under until a.rules a.tasks (Task task) ≡ None
-      → KeepsRules until new.declared a.rules (a.tasks ++ task ∷ [])
-      → StandsAt until progress.Open new (with_line a (Task task) (cause_under until a.rules a.tasks (Task task)))
-  task_added opened until_is lines_are tasks_are none rules =
-      subst (λ o. StandsAt until progress.Open new (with_line a (Task task) o)) (sym none) (
-        opened,
-        record {
-          until_is = until_is ∙ keeps.until_is;
-          known = keeps.known;
-          counted = lines_are ∙ keeps.counted;
-          tasks_are = tasks_are ∙ ap (λ ts. ts ++ task ∷ []) keeps.tasks_are;
-          rules = rules;
-        },
-      )
-
--- ---- the line of the end
-
-module _ (until : ℕ) (intake : TaskIntake) (a : TaskAccount) (keeps : KeepsAccount until intake a) where
-  -- it ends the text
-  pub ended : is_some intake.declared ≡ true
-      → StandsAt until progress.Ended intake (with_line a End (cause_under until a.rules a.tasks End))
-  ended declared = by intake.declared a.rules declared keeps.rules where
-    by : (o : Option Declaration) (r : Option Rules) → is_some o ≡ true → KeepsRules until o r a.tasks
-        → StandsAt until progress.Ended intake (with_line a End (cause_under until r a.tasks End))
-    by None r there kept = absurd (let e : false ≡ true = there in cc)
-    by (Some d) None there kept = absurd kept
-    by (Some d) (Some rules) there kept = (
-      refl,
-      record {
-        until_is = keeps.until_is;
-        known = keeps.known;
-        counted = keeps.counted;
-        tasks_are = keeps.tasks_are;
-        rules = keeps.rules;
-      },
-      declared,
-    )
-
-  -- no ratio was declared before it
-  pub not_ended : is_some intake.declared ≡ false
-      → StandsAt until (progress.Refused cause.Declared) intake
-      (with_line a End (cause_under until a.rules a.tasks End))
-  not_ended first = by intake.declared a.rules first keeps.rules where
-    by : (o : Option Declaration) (r : Option Rules) → is_some o ≡ false → KeepsRules until o r a.tasks
-        → (with_line a End (cause_under until r a.tasks End)).standing ≡ Faulty intake.lines feed.Declared
-    by (Some d) r there kept = absurd (let e : true ≡ false = there in cc)
-    by None (Some rules) there kept = absurd kept
-    by None None there kept = ap (λ n. Faulty n feed.Declared) (sym keeps.counted)
-
 -- ---- a line
-
--- nothing was read
-pub keeps_none : (until : ℕ) (intake : TaskIntake) → intake.until ≡ until → IsKnown until → intake.lines ≡ 0
-    → intake.declared ≡ None
-    → intake.tasks.items ≡ [] → Keeps until intake []
-keeps_none until intake until_is known lines none tasks = record {
-  few = omega (arith, lines);
-  stands = refl;
-  keeps = record {
-    until_is = until_is;
-    known = known;
-    counted = lines;
-    tasks_are = tasks;
-    rules = subst (λ o. KeepsRules until o None []) (sym none) refl;
-  };
-}
 
 module _ (until : ℕ) (old mid : TaskIntake) (ls : List (List ℕ)) (l : List ℕ) (keeps : Keeps until old ls)
     (lines_are : mid.lines ≡ old.lines + 1)
@@ -353,16 +180,6 @@ named_before until l a progress.Open names = tt
 named_before until l a progress.Ended names = tt
 named_before until l a (progress.Refused cause) names = names
 named_before until l a progress.NoMemory names = tt
-
--- the last line of a text names the other task
-pub named_at : (until : ℕ) (p : Progress) (bytes : List ℕ) (ls : List (List ℕ)) (l : List ℕ)
-    → lines_of bytes ≡ ls ++ l ∷ [] → (account_of_lines until ls).standing ≡ Open
-    → NamesAt until (task_line l) (account_of_lines until ls) p → NamesIn until p bytes
-named_at until progress.Open bytes ls l is good names = tt
-named_at until progress.Ended bytes ls l is good names = tt
-named_at until (progress.Refused cause) bytes ls l is good names =
-    record { before = ls; line = l; lines = is; good = good; other = names }
-named_at until progress.NoMemory bytes ls l is good names = tt
 
 -- a text that goes on behind a line
 pub keeps_more : (until : ℕ) (new : TaskIntake) (ls : List (List ℕ)) → new.lines ≤ most_lines Two

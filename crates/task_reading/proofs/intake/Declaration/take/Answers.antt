@@ -14,5 +14,4 @@ returns-in-Ok-clause-takes c = λ rules tasks keeps. took c.args.until c.args.ta
 pub returns-in-Err-clause-names : goal.returns-in-Err-clause-names
 returns-in-Err-clause-names c = λ rules tasks keeps.
     subst (λ o. NamesOther c.args.until (Some (Task c.args.task.now)) (Some rules) tasks o) (sym c.of.ensures)
-    (named c.args.until c.args.task.now rules tasks c.args.self.now keeps c.last_release-release.result
-    c.last_release-release.ensures.is c.in-Err.refused (c.in-Err.ensures.other _ keeps.tested))
+    (named _ _ _ _ _ keeps _ c.last_release-release.ensures.is _ (c.in-Err.ensures.other _ keeps.tested))
