@@ -1,11 +1,10 @@
 -- The jobs of a duel are admitted one by one, where they are valid.
-use Rattle.std.proofs.Common.{◌≡◌, ℕ, ◌≤◌, List, [], ◌∷◌, ◌++◌, sym, ap, ◌∙◌, subst, length}
-use Rattle.std.proofs.Common.{append_assoc, arith, None}
+use Rattle.std.proofs.Common.{◌≡◌, ℕ, ◌≤◌, List, [], ◌∷◌, ◌++◌, sym, ap, ◌∙◌, subst}
+use Rattle.std.proofs.Common.{append_assoc, None}
 use Rattle.std.specs.List.{AllByRecursion}
-use Rattle.std.proofs.lemmas.List.{append-nil}
 use Rattle.dover_model.specs.declared.events.Version.TheVariants.{One}
-use Rattle.dover_model.specs.Fraction.{Fraction, IsRatio}
-use Rattle.dover_model.specs.JobFacts.{JobFacts, IsJob, job_of_numbers}
+use Rattle.dover_model.specs.Fraction.{Fraction}
+use Rattle.dover_model.specs.JobFacts.{JobFacts, IsJob}
 use Rattle.dover_model.specs.Instance.{IsInOrder, Declaration, jobs_under}
 use Rattle.dover_model.specs.Admission.{refusal_of}
 use Rattle.dover_model.proofs.Admitting.{admits, valid_admitted}
@@ -15,14 +14,6 @@ use Rattle.duel.specs.Game.{AreValid}
 use Rattle.duel.specs.Jobs.{jobs_of_links}
 use Rattle.duel.proofs.Plain.{order}
 use Rattle.duel.proofs.Chain.{phases_of, last_of, as_phases}
-
--- the job of its own numbers
-pub same_job : (j : JobFacts) (r c d v : ℕ) → r ≡ j.release → c ≡ j.work → d ≡ j.deadline → v ≡ j.value
-    → job_of_numbers r c d v ≡ j
-same_job j r c d v release work deadline value =
-    ap (λ x. job_of_numbers x c d v) release ∙ ap (λ x. job_of_numbers j.release x d v) work
-    ∙ ap (λ x. job_of_numbers j.release j.work x v) deadline
-    ∙ ap (λ x. job_of_numbers j.release j.work j.deadline x) value
 
 -- the jobs of links are in order of release
 pub links_order : (k : Fraction) (a b more : ℕ) (l : ℕ × ℕ) → k.q ≤ k.p → 1 ≤ l.1
@@ -51,35 +42,8 @@ pub record HasAdmitted (k : Fraction) (jobs : List JobFacts) (kept : Kept) (left
   pub rules : kept.rules ≡ declares k
   pub valid : AreValid One k done
 
-pub none_admitted : (k : Fraction) (jobs left : List JobFacts) (kept : Kept) → IsRatio k → left ≡ jobs
-    → StandsFor kept []
-    → kept.rules ≡ declares k → HasAdmitted k jobs kept left
-none_admitted k jobs left kept ratio is stands same = record {
-  done = [];
-  whole = sym is;
-  stands = stands;
-  rules = same;
-  valid = record {
-    ratio = ratio;
-    each = tt;
-    in_order = tt;
-    count = omega arith;
-    total = omega arith;
-    densities = tt;
-  };
-}
-
 module _ (k : Fraction) (jobs : List JobFacts) (kept : Kept) (left : List JobFacts)
     (it : HasAdmitted k jobs kept left) where
-  -- all were
-  pub all_admitted : left ≡ [] → (kept.count ≡ length jobs) × AreValid One k jobs
-  all_admitted none = (
-    it.stands.count ∙ ap (λ (js : List JobFacts). length js) (sym all),
-    subst (λ js. AreValid One k js) (sym all) it.valid,
-  ) where
-    all : jobs ≡ it.done
-    all = it.whole ∙ ap (λ js. it.done ++ js) none ∙ append-nil it.done
-
   -- one is too large
   pub too_large : ((j : JobFacts) × (rest : List JobFacts) × (left ≡ j ∷ rest) × (IsJob j → ⊥))
       → AreValid One k jobs → ⊥

@@ -37,12 +37,6 @@ no_pieces : (fuel size : ℕ) → pieces_for fuel size 0 ≡ []
 no_pieces zero size = refl
 no_pieces (suc fuel) size = refl
 
--- one piece, and those behind it
-pub next_piece : (fuel size ticks : ℕ) → 1 ≤ ticks
-    → pieces_for (suc fuel) size ticks ≡ min size ticks ∷ pieces_for fuel size (ticks - min size ticks)
-next_piece fuel size (suc ticks) more = refl
-next_piece fuel size zero more = absurd (omega (arith, more))
-
 -- it doesn't matter how many there might be
 pub enough : (f g size ticks : ℕ) → 1 ≤ size → ticks ≤ f → ticks ≤ g → pieces_for f size ticks ≡ pieces_for g size ticks
 enough f g size zero some low high = no_pieces f size ∙ sym (no_pieces g size)
@@ -249,8 +243,7 @@ module _ (k : Fraction) (a b : ℕ) where
             )
 
             rising : k.p * l.0 + k.q * l.1 ≤ k.p * next.0 + k.q * next.1
-            rising = cancel b (k.p * l.0 + k.q * l.1) (k.p * next.0 + k.q * next.1) some_b
-                (omega (arith, goes_on, stay))
+            rising = cancel _ _ _ some_b (omega (arith, goes_on, stay))
 
             fewer : length rest ≤ more
             fewer = level (length (smalls k.p l.0 gs)) (length rest) (length (smalls k.p l.0 gs ++ rest)) few

@@ -8,7 +8,6 @@ use Rattle.dover_model.specs.JobFacts.{JobFacts}
 use Rattle.dover_model.specs.Fraction.{Fraction}
 use Rattle.dover_model.specs.Online.{known_at}
 use Rattle.dover_model.specs.declared.events.Version.{Version}
-use Rattle.dover_model.specs.Instance.{jobs_under}
 use Rattle.dover_model.proofs.Calculus.{cancel}
 use Rattle.dover_model.proofs.Valid.{Split, split_known, valid_front}
 use Rattle.duel.specs.Links.{IsTooMuch, staying, leaving, IsLast}
@@ -86,17 +85,15 @@ module _ (kind : List JobFacts → Type 0) (k : Fraction) (a b : ℕ) (some_q : 
       judged = known_numbered
           (OnlyThis (scheduler (known_at tick whole)) x.0 a (b * reward k.p k.q 0 phases last tick)) tick 0 whole
           (order k ratio a b 0 phases last)
-          (judge_all (scheduler (known_at tick whole)) (path 0 0 phases) (end_of 0 phases) tick x.0 a
-          (b * reward k.p k.q 0 phases last tick) (on_front tick leaves) x.1 k.p k.q b
-          (reward k.p k.q 0 phases last tick) 0 0 phases last traps refl refl (λ u late. refl) (λ early. refl))
+          (judge_all _ _ _ _ _ _ _ (on_front tick leaves) x.1 _ _ _ _ _ _ _ _ traps refl refl (λ u late. refl)
+          (λ early. refl))
 
       less : a * parts (scheduler (known_at tick whole)) 0 (known_at tick whole)
           < b * parts (plan 0 0 phases last tick) 0 (known_at tick whole)
       less =
           let got : a * parts (scheduler (known_at tick whole)) 0 (known_at tick whole)
           < b * reward k.p k.q 0 phases last tick =
-          only_one (scheduler (known_at tick whole)) x.0 a (b * reward k.p k.q 0 phases last tick) 0
-          (known_at tick whole) some judged in
+          only_one _ _ _ _ _ _ some judged in
           let worth : reward k.p k.q 0 phases last tick
           ≤ k.p * 0 + parts (plan 0 0 phases last tick) 0 (known_at tick whole) =
           plan_worth k.p k.q 0 0 phases last tick (plan 0 0 phases last tick) (omega arith) refl in
@@ -216,8 +213,7 @@ pub valid_known : (version : Version) (k : Fraction) (jobs : List JobFacts) (tic
     → AreValid version k (known_at tick jobs)
 valid_known version k jobs tick valid = by_split (split_known tick jobs valid.in_order) where
   by_split : Split tick jobs → AreValid version k (known_at tick jobs)
-  by_split split = valid_front (jobs_under version k (known_at tick jobs)) split.more
-      (subst (λ js. AreValid version k js) split.whole valid)
+  by_split split = valid_front _ _ (subst (λ js. AreValid version k js) split.whole valid)
 
 -- and where the jobs are within the limits, a scheduler of valid jobs loses on a front of them
 pub valid_ones_do : (version : Version) (k : Fraction) (a b : ℕ) (scheduler : Scheduler) (phases : List (List ℕ))

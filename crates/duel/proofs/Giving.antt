@@ -1,6 +1,6 @@
 -- The jobs that are given, one by one.
 use Rattle.std.proofs.Common.{◌≡◌, ℕ, zero, suc, ◌+◌, ◌-◌, ◌*◌, ◌≤◌, List, [], ◌∷◌, ◌++◌, cond}
-use Rattle.std.proofs.Common.{refl, sym, ap, ◌∙◌, arith, Bool, true, false}
+use Rattle.std.proofs.Common.{refl, ap, ◌∙◌, arith, Bool, true, false}
 use Rattle.std.specs.Prelude.{min}
 use Rattle.std.proofs.lemmas.Nat.{mul-le}
 use Rattle.dover_model.specs.Fraction.{Fraction}
@@ -72,10 +72,6 @@ module _ (k : Fraction) (a b : ℕ) where
     comes : over ≡ false → now ≡ to_come more tick left size work
     comes on = is ∙ ap (λ c. cond c [] (to_come more tick left size work)) on
 
-    -- nothing
-    pub nothing : over ≡ true → now ≡ []
-    nothing ended = is ∙ ap (λ c. cond c [] (to_come more tick left size work)) ended
-
     -- a small job
     small_comes : over ≡ false → 1 ≤ size → 1 ≤ left
         → now ≡ tight_job tick (min size left) k.p ∷ to_come more (tick + min size left)
@@ -92,21 +88,7 @@ module _ (k : Fraction) (a b : ℕ) where
 
     pub small_given : (m : ℕ) (job : JobFacts) → over ≡ false → 1 ≤ size → 1 ≤ left → m ≡ min size left
         → job ≡ tight_job tick m k.p → now ≡ job ∷ cond over [] (to_come more (tick + m) (left - m) size work)
-    small_given m job on some left_some least job_is = small_comes on some left_some
-        ∙ ap (λ n. tight_job tick n k.p ∷ to_come more (tick + n) (left - n) size work) (sym least)
-        ∙ ap (λ j. j ∷ to_come more (tick + m) (left - m) size work) (sym job_is)
-        ∙ ap (λ c. job ∷ cond c [] (to_come more (tick + m) (left - m) size work)) (sym on)
-
-    pub small_too_large : (m : ℕ) → over ≡ false → 1 ≤ size → 1 ≤ left → m ≡ min size left
-        → (IsJob (tight_job tick m k.p) → ⊥)
-        → (j : JobFacts) × (rest : List JobFacts) × (now ≡ j ∷ rest) × (IsJob j → ⊥)
-    small_too_large m on some left_some least large = (
-      tight_job tick m k.p,
-      to_come more (tick + m) (left - m) size work,
-      small_comes on some left_some
-          ∙ ap (λ n. tight_job tick n k.p ∷ to_come more (tick + n) (left - n) size work) (sym least),
-      large,
-    )
+    small_given m job on some left_some least job_is = cc (small_comes on some left_some)
 
     -- a link
     link_comes : over ≡ false → left ≡ 0 → now ≡ jobs_of_links k a b more (tick, work)
@@ -115,30 +97,6 @@ module _ (k : Fraction) (a b : ℕ) where
         ∙ ap (λ t. jobs_of_links k a b more (t, work)) same where
           same : tick + 0 ≡ tick
           same = omega arith
-
-    pub last_given : (job : JobFacts) → over ≡ false → left ≡ 0 → job ≡ tight_job tick work k.q
-        → jobs_of_links k a b more (tick, work) ≡ tight_job tick work k.q ∷ [] → now ≡ job ∷ []
-    last_given job on none job_is last = link_comes on none ∙ last ∙ ap (λ j. j ∷ []) (sym job_is)
-
-    pub link_given : (job : JobFacts) (still : Bool) (fewer left_then size_then work_then : ℕ) → over ≡ false → left ≡ 0
-        → job ≡ tight_job tick work k.q → GoesOn k a b more (tick, work) → still ≡ false → fewer ≡ more - 1
-        → left_then ≡ work - 1 → size_then ≡ small_work k a b (tick, work)
-        → work_then ≡ (next_link k a b (tick, work)).1
-        → 1 ≤ work → now ≡ job ∷ cond still [] (to_come fewer tick left_then size_then work_then)
-    link_given job still fewer left_then size_then work_then on none job_is goes not_over fewer_is left_is size_is
-        work_is
-        some = link_comes on none ∙ goes.jobs
-        ∙ ap (λ j. j ∷ (smalls k.p tick (pieces (small_work k a b (tick, work)) (work - 1))
-        ++ jobs_of_links k a b (more - 1) (next_link k a b (tick, work)))) (sym job_is)
-        ∙ ap (λ t. job ∷ (smalls k.p tick (pieces (small_work k a b (tick, work)) (work - 1))
-        ++ jobs_of_links k a b (more - 1) (t, (next_link k a b (tick, work)).1))) (same some)
-        ∙ ap (λ w. job ∷ to_come (more - 1) tick (work - 1) (small_work k a b (tick, work)) w) (sym work_is)
-        ∙ ap (λ s. job ∷ to_come (more - 1) tick (work - 1) s work_then) (sym size_is)
-        ∙ ap (λ n. job ∷ to_come (more - 1) tick n size_then work_then) (sym left_is)
-        ∙ ap (λ m. job ∷ to_come m tick left_then size_then work_then) (sym fewer_is)
-        ∙ ap (λ c. job ∷ cond c [] (to_come fewer tick left_then size_then work_then)) (sym not_over) where
-          same : 1 ≤ work → tick + work - 1 ≡ tick + (work - 1)
-          same some = omega (arith, some)
 
     pub link_too_large : over ≡ false → left ≡ 0 → (IsJob (tight_job tick work k.q) → ⊥)
         → (j : JobFacts) × (rest : List JobFacts) × (now ≡ j ∷ rest) × (IsJob j → ⊥)

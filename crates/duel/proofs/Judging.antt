@@ -106,8 +106,7 @@ module _ (s : List ℕ) (way : ℕ → ℕ) (until tick x a most : ℕ) (leaves 
     tt,
   )
   judge_all p q b reached o t (gs ∷ rest) last traps is ends on worth = (
-    λ early. judge o t (sum gs + 1) q (omega arith) early
-        (inr (λ same. other same)) (value early (cases_lt tick (t + sum gs))),
+    λ early. judge _ _ _ _ (omega arith) early (inr (λ same. other same)) (value early (cases_lt tick (t + sum gs))),
     numbered_append (λ m j. j.release ≤ tick → OnlyThis s x a most m j) (suc o) (smalls p t gs)
         (jobs_from p q (t + sum gs) rest last) (front (cases_lt tick t))
         (subst (λ m. Numbered (λ m j. j.release ≤ tick → OnlyThis s x a most m j) m

@@ -10,6 +10,7 @@ use Rattle.dover_model.specs.Fraction.{Fraction}
 use Rattle.dover_model.specs.Instance.{IsInOrder, IsWithinRatio}
 use Rattle.dover_model.specs.Online.{known_at}
 use Rattle.dover_model.specs.Bait.{tight_job}
+use Rattle.dover_model.proofs.Valid.{all_from}
 use Rattle.duel.specs.Jobs.{smalls}
 use Rattle.duel.specs.Game.{ArePlain}
 use Rattle.duel.proofs.Phases.{jobs_from, AreTraps}
@@ -29,34 +30,13 @@ within k i j one other =
     mul-le (k.p * i.work) (k.q * j.work) (k.p * i.work) j.value (omega arith) other.least in
     omega (arith, up, down)
 
-all_within : (k : Fraction) (i : JobFacts) (jobs : List JobFacts) → IsPiece k i → AllByRecursion (IsPiece k) jobs
-    → AllByRecursion (IsWithinRatio k i) jobs
-all_within k i [] one all = tt
-all_within k i (j ∷ jobs) one all = (within k i j one all.0, all_within k i jobs one all.1)
-
-all_pairs : (k : Fraction) (is jobs : List JobFacts) → AllByRecursion (IsPiece k) is → AllByRecursion (IsPiece k) jobs
-    → AllByRecursion (λ i. AllByRecursion (IsWithinRatio k i) jobs) is
-all_pairs k [] jobs some all = tt
-all_pairs k (i ∷ is) jobs some all = (all_within k i jobs some.0 all, all_pairs k is jobs some.1 all)
-
-all_some : (k : Fraction) (jobs : List JobFacts) → AllByRecursion (IsPiece k) jobs
-    → AllByRecursion (λ j. 1 ≤ j.work) jobs
-all_some k [] all = tt
-all_some k (j ∷ jobs) all = (all.0.some, all_some k jobs all.1)
-
-all_due : (k : Fraction) (jobs : List JobFacts) → AllByRecursion (IsPiece k) jobs
-    → AllByRecursion (λ j. j.release + j.work ≤ j.deadline) jobs
-all_due k [] all = tt
-all_due k (j ∷ jobs) all = (level j.release j.work j.deadline all.0.due, all_due k jobs all.1) where
-  level : (r c d : ℕ) → d ≡ r + c → r + c ≤ d
-  level r c d is = omega (arith, is)
-
 plain_of : (k : Fraction) (jobs : List JobFacts) → AllByRecursion (IsPiece k) jobs → IsInOrder jobs → ArePlain k jobs
 plain_of k jobs all order = record {
-  some = all_some k jobs all;
-  windows = all_due k jobs all;
+  some = all_from (IsPiece k) (λ j. 1 ≤ j.work) jobs (λ j it. it.some) all;
+  windows = all_from (IsPiece k) (λ j. j.release + j.work ≤ j.deadline) jobs (λ j it. omega (arith, it.due)) all;
   in_order = order;
-  densities = all_pairs k jobs jobs all all;
+  densities = all_from (IsPiece k) (λ i. AllByRecursion (IsWithinRatio k i) jobs) jobs
+      (λ i one. all_from (IsPiece k) (IsWithinRatio k i) jobs (λ j other. within k i j one other) all) all;
 }
 
 -- ---- what is known keeps what each has
@@ -138,16 +118,14 @@ module _ (k : Fraction) (ratio : k.q ≤ k.p) (a b : ℕ) where
   after r t [] last less = (less, tt)
   after r t (gs ∷ rest) last less = (
     less,
-    smalls_after r t gs (jobs_from k.p k.q (t + sum gs) rest last) less
-        (after r (t + sum gs) rest last (omega (arith, less))),
+    smalls_after _ _ _ _ less (after r (t + sum gs) rest last (omega (arith, less))),
   )
 
   smalls_order : (t : ℕ) (gs : List ℕ) (phases : List (List ℕ)) (u last : ℕ) → t + sum gs ≤ u
       → IsInOrder (jobs_from k.p k.q u phases last) → IsInOrder (smalls k.p t gs ++ jobs_from k.p k.q u phases last)
   smalls_order t [] phases u last less order = order
   smalls_order t (g ∷ gs) phases u last less order = (
-    smalls_after t (t + g) gs (jobs_from k.p k.q u phases last) (omega arith)
-        (after t u phases last (omega (arith, less))),
+    smalls_after _ _ _ _ (omega arith) (after t u phases last (omega (arith, less))),
     smalls_order (t + g) gs phases u last
         (level (sum (g ∷ gs)) (sum gs) (sum_cons g gs) less) order,
   ) where
@@ -157,16 +135,14 @@ module _ (k : Fraction) (ratio : k.q ≤ k.p) (a b : ℕ) where
   pub order : (t : ℕ) (phases : List (List ℕ)) (last : ℕ) → IsInOrder (jobs_from k.p k.q t phases last)
   order t [] last = (tt, tt)
   order t (gs ∷ rest) last = (
-    smalls_after t t gs (jobs_from k.p k.q (t + sum gs) rest last) (omega arith)
-        (after t (t + sum gs) rest last (omega arith)),
+    smalls_after _ _ _ _ (omega arith) (after t (t + sum gs) rest last (omega arith)),
     smalls_order t gs rest (t + sum gs) last (omega arith)
         (order (t + sum gs) rest last),
   )
 
   pub plain_whole : (phases : List (List ℕ)) (last : ℕ) → AreTraps k.p k.q a b 0 phases last
       → ArePlain k (jobs_from k.p k.q 0 phases last)
-  plain_whole phases last traps = plain_of k (jobs_from k.p k.q 0 phases last) (pieces 0 phases last traps)
-      (order 0 phases last)
+  plain_whole phases last traps = plain_of _ _ (pieces 0 phases last traps) (order 0 phases last)
 
   pub plain_front : (phases : List (List ℕ)) (last tick : ℕ) → AreTraps k.p k.q a b 0 phases last
       → ArePlain k (known_at tick (jobs_from k.p k.q 0 phases last))

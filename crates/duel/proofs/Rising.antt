@@ -67,8 +67,7 @@ module _ (p q a b x y z w s : ℕ) (some_q : 1 ≤ q) (ratio : q ≤ p) (some_b 
       mul-le (4 * (p * b)) (h * h) (4 * (p * b)) (4 * (p * b) * d) (omega arith) square in
       let least_h : (2 * (p * b)) * ((32 * (b * b) * (p * p)) * h) ≤ (2 * (p * b)) * (h * h) =
       mul-le (2 * (p * b)) ((32 * (b * b) * (p * p)) * h) (2 * (p * b)) (h * h) (omega arith) large_h in
-      cancel (a * q) (16 * (p * p) * (b * b) * (y * z) + w * z) (16 * (p * p) * (b * b) * (s * w))
-      (mul-le 1 1 a q some_a some_q) (omega (arith, all, most_d, least_h, stay))
+      cancel _ _ _ (mul-le 1 1 a q some_a some_q) (omega (arith, all, most_d, least_h, stay))
 
   -- the ticks of small jobs, against the work, rise by a fixed part at each step
   pub rises : 32 * (b * b) * (p * p) ≤ y → q * a ≤ (p + q) * b + x → x * x < 4 * p * q * b * b
@@ -106,9 +105,8 @@ module _ (p q a b x y z w s : ℕ) (some_q : 1 ≤ q) (ratio : q ≤ p) (some_b 
     by_order (inl less) = high (b * p * y * y + b * q * z * z - x * y * z) z
         (gains (b * p * y * y + b * q * z * z - x * y * z) form over least) most (omega (arith, less)) (omega arith)
         (over_z (b * p * y * y + b * q * z * z - x * y * z) form) (omega (arith, less, large)) some_a
-    by_order (inr more) = high (b * p * y * y + b * q * z * z - x * y * z) y
-        (gains (b * p * y * y + b * q * z * z - x * y * z) form over least) most (omega arith) more
-        (over_y (b * p * y * y + b * q * z * z - x * y * z) form) large some_a
+    by_order (inr more) = high _ _ (gains (b * p * y * y + b * q * z * z - x * y * z) form over least) most
+        (omega arith) more (over_y (b * p * y * y + b * q * z * z - x * y * z) form) large some_a
 
 -- a factor that is short is at most four times the ratio
 pub modest : (p q a b x : ℕ) → 1 ≤ q → q ≤ p → 1 ≤ b → q * a ≤ (p + q) * b + x → x * x < 4 * p * q * b * b

@@ -32,15 +32,11 @@ module _ (k : Fraction) (a b : ℕ) (ratio : IsRatio k) (some_b : 1 ≤ b) where
       → fits (jobs_of_links k a b more (first_link k a b)) ≡ true
       → AreValid One k (jobs_of_links k a b more (first_link k a b))
   valid_links more low few test =
-      let one = both (nat_le (length (jobs_of_links k a b more (first_link k a b))) (most_jobs One)
-      && nat_le (total_value (jobs_of_links k a b more (first_link k a b))) (most_total One))
-      (list_all is_job (jobs_of_links k a b more (first_link k a b))) test in
-      let two = both (nat_le (length (jobs_of_links k a b more (first_link k a b))) (most_jobs One))
-      (nat_le (total_value (jobs_of_links k a b more (first_link k a b))) (most_total One)) one.0 in
+      let one = both _ _ test in
+      let two = both _ _ one.0 in
       let plain = plain_whole k ratio.above_one a b (phases_of k a b more (first_link k a b))
       (last_of k a b more (first_link k a b))
-      (traps_of k a b ratio.least some_b more (first_link k a b) (omega arith)
-      (first_cheap k a b ratio.least some_b) few) in
+      (traps_of _ _ _ ratio.least some_b _ _ (omega arith) (first_cheap k a b ratio.least some_b) few) in
       let here = subst (λ js. ArePlain k js) (sym same) plain in
       record {
         ratio = ratio;
@@ -63,9 +59,7 @@ fitting p a b scheduler ratio some_b test online = each_loses One (k_of p) a b s
       few : nat_le (length (duel_jobs (k_of p) a b)) (most_jobs One) ≡ true
       few = (both (nat_le (length (duel_jobs (k_of p) a b)) (most_jobs One))
           (nat_le (total_value (duel_jobs (k_of p) a b)) (most_total One))
-          (both (nat_le (length (duel_jobs (k_of p) a b)) (most_jobs One)
-          && nat_le (total_value (duel_jobs (k_of p) a b)) (most_total One)) (list_all is_job (duel_jobs
-          (k_of p) a b)) test).0).0
+          (both _ _ test).0).0
 
 one_fits : fits (duel_jobs (k_of 1) 393 100) ≡ true
 unfolding jobs_of_links

@@ -138,9 +138,7 @@ module _ (J : Instance) (valid : IsValid J) (K : Instance) (valid_more : IsValid
           all_over = all_each is_over (s.tasks ++ more) all
 
           ends : step rules (with_later s more) ≡ (ending (with_later s more) or_else Ticks)
-          ends = over_rests rules.ratio (with_later s more) (ending (with_later s more) or_else Ticks) all_over
-              (step rules (with_later s more))
-              (step_deed K valid_more (with_later s more) keeps_more rules)
+          ends = over_rests _ _ _ all_over _ (step_deed K valid_more (with_later s more) keeps_more rules)
 
           prints : step rules (with_later s more) ≡ Prints (End (value_sum (filter is_done (s.tasks ++ more))))
           prints = ends ∙ ap (λ b. then_some b (Prints (End (value_sum (filter is_done (s.tasks ++ more)))))
@@ -188,8 +186,7 @@ module _ (J : Instance) (valid : IsValid J) (K : Instance) (valid_more : IsValid
             subst (λ p. SameUpTo t s.clock p (places (x ∷ xs))) (sym left)
             (subst (λ p. SameUpTo t s.clock
             (cons_option (added (open_step rules s) (number (find is_running s.tasks))) (places ys)) p) (sym right)
-            (grow t s (open_step rules s) (number (find is_running s.tasks)) (places ys) (places xs)
-            (rest (subst (λ (z : State). IsWholeRun rules z ys) to onward))))
+            (grow _ _ _ _ _ _ (rest (subst (λ (z : State). IsWholeRun rules z ys) to onward))))
 
 -- ---- of instances
 

@@ -1,16 +1,12 @@
-use Rattle.duel.specs.Kept.{link_of}
 use Rattle.duel.proofs.Giving.{none_more, one_last, goes_on}
 use Rattle.std.proofs.Common.{◌∙◌, sym}
 use Rattle.duel.proofs.coming.ends.Goals as goal
 
 pub returns-then-more-eq0-clause-over : goal.returns-then-more-eq0-clause-over
-returns-then-more-eq0-clause-over c = λ _. none_more c.args.k c.args.share.whole c.args.share.part c.args.more
-    (link_of c.args.link) c.if-more-eq0.true
+returns-then-more-eq0-clause-over c = λ _. none_more _ _ _ _ _ c.if-more-eq0.true
 
 pub returns-clause-over : goal.returns-clause-over
-returns-clause-over c = λ e. one_last c.args.k c.args.share.whole c.args.share.part c.args.more
-    (link_of c.args.link) (sym c.is_last.ensures ∙ e)
+returns-clause-over c = λ e. one_last _ _ _ _ _ (sym c.is_last.ensures ∙ e)
 
 pub returns-clause-on : goal.returns-clause-on
-returns-clause-on c = λ e. goes_on c.args.k c.args.share.whole c.args.share.part c.args.more
-    (link_of c.args.link) c.if-more-eq0.false (sym c.is_last.ensures ∙ e)
+returns-clause-on c = λ e. goes_on _ _ _ _ _ c.if-more-eq0.false (sym c.is_last.ensures ∙ e)

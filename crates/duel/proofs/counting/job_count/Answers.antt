@@ -1,22 +1,19 @@
 use Rattle.std.proofs.Common.{refl, arith}
-use Rattle.duel.specs.Jobs.{first_link, duel_jobs}
+use Rattle.duel.specs.Jobs.{duel_jobs}
 use Rattle.duel.proofs.Admitting.{links_order, too_large, one_refused, one_admitted}
 use Rattle.duel.proofs.counting.job_count.Goals as goal
 
 pub returns-in-TooLarge-clause-valid : goal.returns-in-TooLarge-clause-valid
 returns-in-TooLarge-clause-valid c = (
   λ e. absurd (cc),
-  λ valid. absurd (too_large c.args.k (duel_jobs c.args.k c.args.share.whole c.args.share.part) c.loop-coming.admission
-      c.loop-coming.coming c.loop-coming.invariant c.in-TooLarge.ensures valid),
+  λ valid. absurd (too_large _ _ _ _ c.loop-coming.invariant c.in-TooLarge.ensures valid),
 )
 
 pub returns-then-not-admit-clause-valid : goal.returns-then-not-admit-clause-valid
 returns-then-not-admit-clause-valid c = (
   λ e. absurd (cc),
-  λ valid. absurd (one_refused c.args.k (duel_jobs c.args.k c.args.share.whole c.args.share.part)
-      c.loop-coming.admission c.loop-coming.coming c.loop-coming.invariant c.in-Job.job c.next_job.new.self
-      c.in-Job.ensures (c.if-not-admit.ensures.refused c.loop-coming.invariant.done c.loop-coming.invariant.stands refl)
-      valid),
+  λ valid. absurd (one_refused _ _ _ _ c.loop-coming.invariant _ _ c.in-Job.ensures
+      (c.if-not-admit.ensures.refused c.loop-coming.invariant.done c.loop-coming.invariant.stands refl) valid),
 )
 
 pub loop-coming-preserved : goal.loop-coming-preserved
@@ -25,6 +22,5 @@ loop-coming-preserved c =
     one_admitted c.args.k (duel_jobs c.args.k c.args.share.whole c.args.share.part) c.loop-coming.admission
     c.loop-coming.coming c.loop-coming.invariant c.in-Job.job c.next_job.new.self c.in-Job.ensures
     c.admit.new.admission
-    (links_order c.args.k c.args.share.whole c.args.share.part 1_000_000
-    (first_link c.args.k c.args.share.whole c.args.share.part) c.new-coming.ensures.ratio.above_one (omega arith))
+    (links_order _ _ _ _ _ c.new-coming.ensures.ratio.above_one (omega arith))
     it.0 it.1 c.if-not-admit.ensures.rules
