@@ -7,7 +7,7 @@ use Rattle.dover_model.specs.JobFacts.{JobFacts, IsJob}
 use Rattle.dover_model.specs.Lines.{in_lines}
 use Rattle.dover_model.proofs.Valid.{all_back}
 use Rattle.dover_port.specs.Moves.{Move, Passes, CutsShort, PutsThrough, IsProperPrefix}
-use Rattle.dover_port.proofs.Through.{passes_then, passes_then_cut, cut_longer, passes_nothing}
+use Rattle.dover_port.proofs.Through.{passes_then, passes_then_cut, cut_longer}
 use Rattle.duel.specs.declared.coming.Next.{Next}
 use Rattle.duel.specs.declared.coming.Next.TheVariants as next
 use Rattle.duel.specs.Kept.{Gives}
@@ -21,13 +21,6 @@ use Rattle.unroll_word.proofs.Putting.{texts, text_more, in_lines-append, feed_t
 
 texts_behind : (xs ys : List JobFacts) → texts (xs ++ ys) ≡ texts xs ++ texts ys
 texts_behind xs ys = ap in_lines (map-append job_text xs ys) ∙ in_lines-append (map job_text xs) (map job_text ys)
-
--- the first of two lists, by its length
-take_front : (count : ℕ) (xs ys : List JobFacts) → count ≡ length xs → take count (xs ++ ys) ≡ xs
-take_front zero [] ys is = refl
-take_front zero (x ∷ xs) ys is = absurd (omega (arith, is))
-take_front (suc count) [] ys is = absurd (omega (arith, is))
-take_front (suc count) (x ∷ xs) ys is = ap (λ zs. x ∷ zs) (take_front count xs ys (omega (arith, is)))
 
 -- the first of two lists is within what is taken
 take_more : (count : ℕ) (xs ys : List JobFacts) → length xs ≤ count
@@ -45,23 +38,8 @@ pub record HasPut (jobs left : List JobFacts) (count put : ℕ) (a b : Option (L
   pub low : put ≤ count
   pub passes : Passes a b p q (texts done)
 
-pub none_put : (jobs : List JobFacts) (count : ℕ) (a : Option (List Move)) (p : List ℕ)
-    → HasPut jobs jobs count 0 a a p p
-none_put jobs count a p = record {
-  done = [];
-  whole = refl;
-  so_many = refl;
-  low = omega arith;
-  passes = passes_nothing a p;
-}
-
 module _ (jobs left : List JobFacts) (count put : ℕ) (a b : Option (List Move)) (p q : List ℕ)
     (it : HasPut jobs left count put a b p q) where
-  -- all that were asked for
-  pub all_put : count ≤ put → Passes a b p q (in_lines (map job_text (take count jobs)))
-  all_put high = subst (λ js. Passes a b p q (texts js)) (sym (ap (λ js. take count js) it.whole
-      ∙ take_front count it.done left (omega (arith, high, it.low, it.so_many)))) it.passes
-
   module _ (few : count ≤ length jobs) (each : AllByRecursion IsJob jobs) (less : put < count) where
     -- there is a next one
     pub not_over : left ≡ [] → ⊥
@@ -135,16 +113,6 @@ pub front_taken : (front : Option ℕ) (jobs : List JobFacts) (count : ℕ) → 
     → take count jobs ≡ front_of front jobs
 front_taken None jobs count is = ap (λ n. take n jobs) is ∙ take_all jobs
 front_taken (Some n) jobs count is = ap (λ m. take m jobs) is ∙ take_again n jobs
-
--- and no more than there are
-take_low : (n : ℕ) (xs : List JobFacts) → length (take n xs) ≤ length xs
-take_low zero xs = omega arith
-take_low (suc n) [] = omega arith
-take_low (suc n) (x ∷ xs) = omega (arith, take_low n xs)
-
-pub front_low : (front : Option ℕ) (jobs : List JobFacts) → length (front_of front jobs) ≤ length jobs
-front_low None jobs = omega arith
-front_low (Some n) jobs = take_low n jobs
 
 -- the feed of so many of the jobs is that of the front
 pub is_front : (k : Fraction) (front : Option ℕ) (jobs coming : List JobFacts) (count : ℕ) → coming ≡ jobs

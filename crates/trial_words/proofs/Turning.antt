@@ -1,13 +1,12 @@
 -- The lines of turns, one behind another.
 use Rattle.std.proofs.Common.{◌≡◌, ℕ, List, [], ◌∷◌, ◌++◌, map, sym, ap, ◌∙◌, subst, Option, Result, None, Some, append_assoc}
-use Rattle.std.proofs.Common.{refl}
 use Rattle.std.proofs.lemmas.List.{append-nil, map-append}
 use Rattle.std.specs.List.{flat_map}
 use Rattle.dover_model.specs.FeedLine.{FeedLine, RatioLine, JobLine, DoneLine, EndLine, feed_text}
 use Rattle.dover_model.specs.Fraction.{Fraction}
 use Rattle.dover_model.specs.Lines.{in_lines}
 use Rattle.dover_port.specs.Moves.{Move, Passes, CutsShort, PutsThrough}
-use Rattle.dover_port.proofs.Through.{passes_then, passes_then_cut, cut_longer, passes_nothing}
+use Rattle.dover_port.proofs.Through.{passes_then, passes_then_cut, cut_longer}
 use Rattle.trial_jobs.specs.declared.turns.Done.{Done}
 use Rattle.trial_jobs.specs.declared.turns.Turn.{Turn}
 use Rattle.trial_words.specs.Drawing.{turn_lines, text_of_lines}
@@ -26,9 +25,6 @@ pub record HasPut (turns left : List Turn) (a b : Option (List Move)) (p q : Lis
   pub front : List ℕ
   pub whole : front ++ texts left ≡ texts turns
   pub passes : Passes a b p q front
-
-pub none_put : (turns : List Turn) (a : Option (List Move)) (p : List ℕ) → HasPut turns turns a a p p
-none_put turns a p = record { front = []; whole = refl; passes = passes_nothing a p }
 
 module _ (turns left : List Turn) (a b : Option (List Move)) (p q : List ℕ) (it : HasPut turns left a b p q) where
   -- all is put where none is left
