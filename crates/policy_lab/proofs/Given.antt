@@ -41,9 +41,6 @@ never_again t task released late = by_test (is_ready (t + 1) task) refl where
 pub given_other : (n : ℕ) (task : Task) → eqb task.number n ≡ false → given n task ≡ task
 given_other n task other = ap (λ b. cond b (record task { had = task.had + 1 }) task) other
 
-pub given_same : (n : ℕ) (task : Task) → eqb task.number n ≡ true → given n task ≡ record task { had = task.had + 1 }
-given_same n task same = ap (λ b. cond b (record task { had = task.had + 1 }) task) same
-
 -- numbers and jobs stay
 pub given_number : (n : ℕ) (task : Task) → (given n task).number ≡ task.number
 given_number n task = by_test (eqb task.number n) where

@@ -4,7 +4,7 @@ use Rattle.std.proofs.Common.{get_or, map, refl, sym}
 use Rattle.std.proofs.Common.{ap, ◌∙◌, subst}
 use Rattle.std.proofs.Common.{Bool, true, false, cond, eqb, arith, add-one, append_assoc}
 use Rattle.std.specs.List.{filter}
-use Rattle.std.proofs.lemmas.List.{drop_more, drop_all, map-append, length_push, append-nil}
+use Rattle.std.proofs.lemmas.List.{drop_more, map-append, length_push, append-nil}
 use Rattle.std.proofs.lemmas.List.Elements.{filter-append}
 use Rattle.dover_model.specs.JobFacts.{JobFacts, IsJob}
 use Rattle.dover_model.specs.Instance.{IsInOrder}
@@ -44,10 +44,6 @@ all_late t n jobs j order short is late = subst (Each (λ i. t < i.release)) (sy
   each i (inl e) = subst (λ (k : JobFacts). t < k.release) (sym e) late
   each i (inr member) = let above : j.release ≤ i.release =
       all_member (λ k. j.release ≤ k.release) (drop (n + 1) jobs) ordered.0 i member in omega arith
-
--- none is left
-pub none_late : (t n : ℕ) (jobs : List JobFacts) → length jobs ≤ n → Each (λ i. t < i.release) (drop n jobs)
-none_late t n jobs long = subst (Each (λ i. t < i.release)) (sym (drop_all n jobs long)) (λ i member. absurd member)
 
 -- what holds of the rest holds of the rest behind the next
 pub rest_behind : (P : JobFacts → Type 0) (n : ℕ) (jobs : List JobFacts) (j : JobFacts) → n < length jobs

@@ -127,8 +127,7 @@ module _ (picks : Picks) (idles : picks [] ≡ None) (t : ℕ) where
       (ap (to_come 0) parts.whole ∙ come_append 0 (known_at t jobs) parts.more)
       ∙ alone picks idles t tick (last_deadline jobs) 0 (to_come 0 (known_at t jobs))
       (to_come (0 + length (known_at t jobs)) parts.more) (omega arith)
-      (each_come (λ j. t < j.release) (0 + length (known_at t jobs)) parts.more
-      (λ j m. let late : t + 1 ≤ j.release = parts.late j m in omega arith))
+      (each_come (λ j. t < j.release) _ _ (λ j m. let late : t + 1 ≤ j.release = parts.late j m in omega arith))
       (each_come (λ j. j.deadline ≤ 0 + last_deadline jobs) 0 (known_at t jobs) (λ j m.
       let due : j.deadline ≤ last_deadline jobs =
       (greatest jobs 0).1 j (subst (IsMember j) (sym parts.whole) (member_front (known_at t jobs) parts.more j m)) in

@@ -39,9 +39,7 @@ module _ (picks : Picks) (jobs : List JobFacts) where
   -- the tasks keep their numbers
   pub numbered_at : (t : ℕ) → IsNumberedFrom 0 (tasks_at picks jobs t)
   numbered_at zero = come_numbered 0 jobs
-  numbered_at (suc t) = numbered_map (given (picked picks t (tasks_at picks jobs t)))
-      (given_number (picked picks t (tasks_at picks jobs t))) 0
-      (tasks_at picks jobs t) (numbered_at t)
+  numbered_at (suc t) = numbered_map _ (given_number (picked picks t (tasks_at picks jobs t))) _ _ (numbered_at t)
 
   -- and their jobs
   pub jobs_at : (t : ℕ) → jobs_of (tasks_at picks jobs t) ≡ jobs

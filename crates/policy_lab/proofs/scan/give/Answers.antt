@@ -10,9 +10,8 @@ abbrev CanBeGiven : Entry → Type 0
 CanBeGiven e = (1 ≤ e.left) × (e.latest + 1 < 2 ^ 64)
 
 pub loop-e-preserved : goal.loop-e-preserved
-loop-e-preserved c = map_front_next
-    (given_entry c.args.number) c.args.ready.now.items c.loop-e.e-items c.loop-e.e-index _ c.given_entry.result
-    c.loop-e.invariant (omega (arith, ap length c.deref_mut-e-items.ensures.value)) c.given_entry.ensures
+loop-e-preserved c = map_front_next _ _ _ _ _ _ c.loop-e.invariant
+    (omega (arith, ap length c.deref_mut-e-items.ensures.value)) c.given_entry.ensures
 
 pub returns : goal.returns
 returns c =
@@ -24,10 +23,8 @@ returns c =
 
 pub given_entry-requires-clause-left : goal.given_entry-requires-clause-left
 given_entry-requires-clause-left c =
-    (of_next (given_entry c.args.number) CanBeGiven c.args.ready.now.items c.loop-e.e-items c.loop-e.e-index _
-    c.loop-e.invariant (omega (arith, ap length c.deref_mut-e-items.ensures.value)) c.requires).0
+    (of_next _ _ _ _ _ _ c.loop-e.invariant (omega (arith, ap length c.deref_mut-e-items.ensures.value)) c.requires).0
 
 pub given_entry-requires-clause-latest : goal.given_entry-requires-clause-latest
 given_entry-requires-clause-latest c =
-    (of_next (given_entry c.args.number) CanBeGiven c.args.ready.now.items c.loop-e.e-items c.loop-e.e-index _
-    c.loop-e.invariant (omega (arith, ap length c.deref_mut-e-items.ensures.value)) c.requires).1
+    (of_next _ _ _ _ _ _ c.loop-e.invariant (omega (arith, ap length c.deref_mut-e-items.ensures.value)) c.requires).1

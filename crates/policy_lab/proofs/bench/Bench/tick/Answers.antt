@@ -1,5 +1,5 @@
 use Rattle.std.proofs.Common.{◌+◌, ◌++◌, ◌∷◌, [], map, ap, sym, subst, arith, ◌∙◌}
-use Rattle.std.specs.Prelude.{Some, ℕ}
+use Rattle.std.specs.Prelude.{ℕ}
 use Rattle.std.specs.List.{filter}
 use Rattle.std.proofs.lemmas.Result.{on_ok_weaker}
 use Rattle.dover_model.specs.Pieces.{stretches}
@@ -14,35 +14,24 @@ pub pick-requires : goal.pick-requires
 pick-requires g c =
     let picks = g.P.Policy.picks c.args.policy.now in
     subst AreReady (sym c.deref.ensures.value)
-    (may_pick picks (g.met.P.Policy.law c.args.policy.now) c.args.jobs.now c.requires.each c.requires.count c.args.tick
-    c.in_ok-self.field-0
-    c.release.new.ready.items
-    (c.in_ok-self.ensures.ready
-    (tasks_at picks c.args.jobs.now c.args.tick) c.requires.run.ready c.requires.run.later)
+    (may_pick _ (g.met.P.Policy.law c.args.policy.now) _ c.requires.each c.requires.count _ _ _
+    (c.in_ok-self.ensures.ready (tasks_at picks c.args.jobs.now c.args.tick) c.requires.run.ready c.requires.run.later)
     (c.in_ok-self.ensures.later c.requires.run.later))
 
 pub returns-in_default : goal.returns-in_default
 returns-in_default g c =
     let picks = g.P.Policy.picks c.args.policy.now in
-    run_idles picks (g.met.P.Policy.law c.args.policy.now) c.args.jobs.now c.requires.each c.requires.count c.args.tick
-    c.in_ok-self.field-0
-    c.release.new.ready.items
-    (c.in_ok-self.ensures.ready
-    (tasks_at picks c.args.jobs.now c.args.tick) c.requires.run.ready c.requires.run.later)
-    (c.in_ok-self.ensures.later c.requires.run.later) c.args.self.now.value c.args.self.now.pieces.items
-    c.requires.run.served
-    c.requires.run.stretched
+    run_idles _ (g.met.P.Policy.law c.args.policy.now) _ c.requires.each c.requires.count _ _ _
+    (c.in_ok-self.ensures.ready (tasks_at picks c.args.jobs.now c.args.tick) c.requires.run.ready c.requires.run.later)
+    (c.in_ok-self.ensures.later c.requires.run.later) _ _ c.requires.run.served c.requires.run.stretched
     (c.in_default.ensures.by_the_list ∙ ap picks c.deref.ensures.value)
     (sym c.deref.ensures.value ∙ c.in_default.ensures.one_of_them)
 
 pub give-requires : goal.give-requires
 give-requires g c =
     let picks = g.P.Policy.picks c.args.policy.now in
-    may_give picks (g.met.P.Policy.law c.args.policy.now) c.args.jobs.now c.requires.each c.requires.count c.args.tick
-    c.in_ok-self.field-0
-    c.release.new.ready.items
-    (c.in_ok-self.ensures.ready
-    (tasks_at picks c.args.jobs.now c.args.tick) c.requires.run.ready c.requires.run.later)
+    may_give _ (g.met.P.Policy.law c.args.policy.now) _ c.requires.each c.requires.count _ _ _
+    (c.in_ok-self.ensures.ready (tasks_at picks c.args.jobs.now c.args.tick) c.requires.run.ready c.requires.run.later)
     (c.in_ok-self.ensures.later c.requires.run.later)
 
 pub spent_value-requires : goal.spent_value-requires
@@ -52,13 +41,9 @@ spent_value-requires g c =
     let has = c.in_ok-self.ensures.ready
     (tasks_at picks c.args.jobs.now c.args.tick) c.requires.run.ready c.requires.run.later in
     let late = c.in_ok-self.ensures.later c.requires.run.later in
-    let is_n = is_picked picks law c.args.jobs.now c.requires.each c.requires.count c.args.tick c.in_ok-self.field-0
-    c.release.new.ready.items
-    has late
-    (Some c.in-Some.number) (c.in-Some.ensures.by_the_list ∙ ap picks c.deref.ensures.value) in
-    let most = most_after picks law c.args.jobs.now c.requires.each c.requires.count c.args.tick c.in_ok-self.field-0
-    c.release.new.ready.items
-    has late in
+    let is_n = is_picked _ law _ c.requires.each c.requires.count _ _ _ has late _
+    (c.in-Some.ensures.by_the_list ∙ ap picks c.deref.ensures.value) in
+    let most = most_after _ law _ c.requires.each c.requires.count _ _ _ has late in
     let same = ap spent_value
     (c.deref-2.ensures.value ∙ c.give.ensures
     ∙ ap (λ (n : ℕ). map (given_entry n) c.release.new.ready.items) is_n) in
@@ -71,13 +56,9 @@ overflow_add-self g c =
     let has = c.in_ok-self.ensures.ready
     (tasks_at picks c.args.jobs.now c.args.tick) c.requires.run.ready c.requires.run.later in
     let late = c.in_ok-self.ensures.later c.requires.run.later in
-    let is_n = is_picked picks law c.args.jobs.now c.requires.each c.requires.count c.args.tick c.in_ok-self.field-0
-    c.release.new.ready.items
-    has late
-    (Some c.in-Some.number) (c.in-Some.ensures.by_the_list ∙ ap picks c.deref.ensures.value) in
-    let most = most_after picks law c.args.jobs.now c.requires.each c.requires.count c.args.tick c.in_ok-self.field-0
-    c.release.new.ready.items
-    has late in
+    let is_n = is_picked _ law _ c.requires.each c.requires.count _ _ _ has late _
+    (c.in-Some.ensures.by_the_list ∙ ap picks c.deref.ensures.value) in
+    let most = most_after _ law _ c.requires.each c.requires.count _ _ _ has late in
     let same = ap spent_value
     (c.deref-2.ensures.value ∙ c.give.ensures
     ∙ ap (λ (n : ℕ). map (given_entry n) c.release.new.ready.items) is_n) in
@@ -86,12 +67,9 @@ overflow_add-self g c =
 pub extend-requires-clause-number : goal.extend-requires-clause-number
 extend-requires-clause-number g c = λ idle.
     let picks = g.P.Policy.picks c.args.policy.now in
-    let low = is_low picks (g.met.P.Policy.law c.args.policy.now) c.args.jobs.now c.requires.each c.requires.count
-    c.args.tick c.in_ok-self.field-0
-    c.release.new.ready.items
-    (c.in_ok-self.ensures.ready
-    (tasks_at picks c.args.jobs.now c.args.tick) c.requires.run.ready c.requires.run.later)
-    (c.in_ok-self.ensures.later c.requires.run.later) c.in-Some.number
+    let low = is_low _ (g.met.P.Policy.law c.args.policy.now) _ c.requires.each c.requires.count _ _ _
+    (c.in_ok-self.ensures.ready (tasks_at picks c.args.jobs.now c.args.tick) c.requires.run.ready c.requires.run.later)
+    (c.in_ok-self.ensures.later c.requires.run.later) _
     (subst (λ es. IsMember c.in-Some.number (map number_of es)) c.deref.ensures.value c.in-Some.ensures.one_of_them) in
     omega (arith, low, idle)
 
@@ -102,10 +80,8 @@ returns g c =
     let has = c.in_ok-self.ensures.ready
     (tasks_at picks c.args.jobs.now c.args.tick) c.requires.run.ready c.requires.run.later in
     let late = c.in_ok-self.ensures.later c.requires.run.later in
-    let is_n = is_picked picks law c.args.jobs.now c.requires.each c.requires.count c.args.tick c.in_ok-self.field-0
-    c.release.new.ready.items
-    has late
-    (Some c.in-Some.number) (c.in-Some.ensures.by_the_list ∙ ap picks c.deref.ensures.value) in
+    let is_n = is_picked _ law _ c.requires.each c.requires.count _ _ _ has late _
+    (c.in-Some.ensures.by_the_list ∙ ap picks c.deref.ensures.value) in
     let past = schedule_before picks c.args.jobs.now c.args.tick in
     let given = c.give.ensures ∙ ap (λ (n : ℕ). map (given_entry n) c.release.new.ready.items) is_n in
     on_ok_weaker c.extend.result (λ pieces.
