@@ -213,8 +213,7 @@ module _ (all : List JobFacts) (taken : List ℕ) (next : ℕ) (rise : RiseWithi
   pub none_with : (wanted : ℕ) → next < length all → (IsGood all (taken ++ (next ∷ [])) → ⊥)
       → NoneFound all (taken ++ (next ∷ [])) (next + 1) wanted
   none_with wanted short no_good other it good = absurd (no_good (part_good all (taken ++ (next ∷ [])) it.more
-      (rise_wider 0 0 (next + 1) (length all) (taken ++ (next ∷ [])) (omega arith) (omega arith)
-      (rise_with next taken rise))
+      (rise_wider _ _ _ _ _ (omega arith) (omega arith) (rise_with next taken rise))
       (subst (IsGood all) it.are good)))
 
   -- nothing in either

@@ -6,10 +6,8 @@ use Rattle.best_set.proofs.optimum.renumber.Goals as goal
 
 pub loop-piece-preserved : goal.loop-piece-preserved
 loop-piece-preserved c =
-    map_front_next (renumbered c.args.chosen.now) c.args.pieces.now.items c.loop-piece.piece-items
-    c.loop-piece.piece-index _
-    c.renumbered.result c.loop-piece.invariant
-    (omega (arith, ap length c.deref_mut-piece-items.ensures.value)) c.renumbered.ensures
+    map_front_next _ _ _ _ _ _ c.loop-piece.invariant (omega (arith, ap length c.deref_mut-piece-items.ensures.value))
+    c.renumbered.ensures
 
 pub returns : goal.returns
 returns c =

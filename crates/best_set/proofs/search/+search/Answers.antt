@@ -11,8 +11,7 @@ use Rattle.best_set.proofs.search.+search.Goals.{in-Some+in_ok-found-in-Some, in
 pub overflow_add-choice : goal.overflow_add-choice
 overflow_add-choice t c =
     let value = value_few c.args.jobs.now c.args.choice.numbers.items c.requires.each c.requires.count
-    (rise_wider 0 0 c.args.next (length c.args.jobs.now) c.args.choice.numbers.items
-    (omega arith) c.requires.next c.requires.choice.numbers) in
+    (rise_wider _ _ _ _ _ (omega arith) c.requires.next c.requires.choice.numbers) in
     omega (
       arith,
       value,
@@ -23,16 +22,12 @@ overflow_add-choice t c =
 
 pub returns-then-choice-left : goal.returns-then-choice-left
 returns-then-choice-left t c =
-    too_little c.args.jobs.now c.args.choice.numbers.items c.args.next c.requires.choice.numbers c.args.wanted
-    c.args.choice.value c.args.left
-    c.requires.choice.value c.requires.left c.if-choice-left.true
+    too_little _ _ _ c.requires.choice.numbers _ _ _ c.requires.choice.value c.requires.left c.if-choice-left.true
 
 pub returns-then-next-jobs : goal.returns-then-next-jobs
 returns-then-next-jobs t c =
-    found_here c.args.jobs.now c.args.choice.numbers.items c.args.next c.requires.choice.numbers c.args.wanted
-    c.args.left c.args.choice
-    c.requires.count c.if-next-jobs.true refl c.requires.choice c.requires.left
-    (λ less. let no = c.if-choice-left.false in omega (arith, less, no))
+    found_here _ _ _ c.requires.choice.numbers _ _ _ c.requires.count c.if-next-jobs.true refl c.requires.choice
+    c.requires.left (λ less. let no = c.if-choice-left.false in omega (arith, less, no))
 
 pub search-requires-in-None-found : goal.search-requires-in-None-found
 search-requires-in-None-found t c =
@@ -49,9 +44,7 @@ search-requires-in-None-found t c =
               omega arith,
               (
                 choice_later c.args.jobs.now c.args.next c.args.choice c.requires.choice,
-                left_next c.args.jobs.now c.args.next c.index-jobs-next.result c.args.left c.value.result
-                    c.requires.left short
-                    c.index-jobs-next.is c.value.ensures.is,
+                left_next _ _ _ _ _ c.requires.left short c.index-jobs-next.is c.value.ensures.is,
               ),
             ),
           ),
@@ -74,9 +67,7 @@ search-requires-in-Some-found t c =
               omega arith,
               (
                 choice_later c.args.jobs.now c.args.next c.args.choice c.requires.choice,
-                left_next c.args.jobs.now c.args.next c.index-jobs-next.result c.args.left c.value.result
-                    c.requires.left short
-                    c.index-jobs-next.is c.value.ensures.is,
+                left_next _ _ _ _ _ c.requires.left short c.index-jobs-next.is c.value.ensures.is,
               ),
             ),
           ),

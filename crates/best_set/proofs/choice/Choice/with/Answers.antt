@@ -34,8 +34,7 @@ judge_feasible-requires-clause-count c =
       jobs_few c.args.all.now numbers,
       c.requires.count,
       rise_length 0 (length c.args.all.now) numbers (omega arith)
-          (rise_all c.args.all.now c.args.self.now.numbers.items c.args.number c.requires.number
-          c.requires.choice.numbers),
+          (rise_all _ _ _ c.requires.number c.requires.choice.numbers),
     )
 
 pub returns-in_default-clause-none : goal.returns-in_default-clause-none
@@ -51,9 +50,7 @@ returns-in_default-clause-none c =
 pub overflow_add-result : goal.overflow_add-result
 overflow_add-result c =
     let value = value_few c.args.all.now c.args.self.now.numbers.items c.requires.each c.requires.count
-    (rise_wider 0 0 c.args.number (length c.args.all.now) c.args.self.now.numbers.items (omega arith)
-    (omega (arith, c.requires.number))
-    c.requires.choice.numbers) in
+    (rise_wider _ _ _ _ _ (omega arith) (omega (arith, c.requires.number)) c.requires.choice.numbers) in
     omega (arith, value, c.requires.choice.value, c.value.ensures.is, c.value.ensures.job.modest)
 
 pub returns-clause-choice : goal.returns-clause-choice
