@@ -185,10 +185,7 @@ not_all_done t tasks member some = by_bool _ (list_all is_served_fully tasks)
 edf_tick : (more clock m : ℕ) (tasks : List Task) → list_all is_served_fully tasks ≡ false
     → earliest_due clock tasks ≡ m
     → edf_from (suc more) clock tasks ≡ m ∷ edf_from more (clock + 1) (map (given m) tasks)
-edf_tick more clock m tasks busy runs =
-    ap (λ b. cond b [] (earliest_due clock tasks ∷ edf_from more (clock + 1)
-    (map (given (earliest_due clock tasks)) tasks))) busy
-    ∙ ap (λ n. n ∷ edf_from more (clock + 1) (map (given n) tasks)) runs
+edf_tick more clock m tasks busy runs = cc
 
 -- after a tick it still leads
 leads_on : (k m clock : ℕ) (tasks : List Task) → Leads (suc k) m clock tasks

@@ -49,23 +49,9 @@ asked_due a b j low = ap (λ x. cond (x && nat_le j.deadline b) j.work 0) (le-le
 asked_none : (a b : ℕ) (j : JobFacts) → j.release < a → asked a b j ≡ 0
 asked_none a b j early = ap (λ x. cond (x && nat_le j.deadline b) j.work 0) (lt-leb _ _ early)
 
--- where it isn't due
-due_none : (b : ℕ) (j : JobFacts) → b < j.deadline → due_work b j ≡ 0
-due_none b j late = ap (λ x. cond x j.work 0) (lt-leb _ _ late)
-
 -- where it is
 due_all : (b : ℕ) (j : JobFacts) → j.deadline ≤ b → due_work b j ≡ j.work
 due_all b j due = ap (λ x. cond x j.work 0) (le-leb _ _ due)
-
--- a job that isn't due adds nothing
-pub passed_late : (b work : ℕ) (j : JobFacts) (behind : List JobFacts) → IsInOrder (j ∷ behind) → b < j.deadline
-    → Passed b work behind
-    → Passed b work (j ∷ behind)
-passed_late b work j behind order late p = record {
-  sum = omega (arith, p.sum, sum_by-cons (due_work b) j behind, due_none b j late);
-  none = λ a low. let here : asked a b j ≤ due_work b j = asked_most a b j in
-      omega (arith, sum_by-cons (asked a b) j behind, due_none b j late, p.none a low);
-}
 
 -- a job that is due, where the window from its release isn't overfull
 pub passed_due : (b work : ℕ) (j : JobFacts) (behind : List JobFacts) → IsInOrder (j ∷ behind) → j.deadline ≤ b
@@ -174,16 +160,10 @@ module _ (jobs : List JobFacts) (order : IsInOrder jobs) (b work k : ℕ) (j : J
   -- the greatest start is here
   pub starts_at : IsJob j → j.deadline ≤ b → b - j.release < work + j.work → StartsAt jobs b j.release
   starts_at is_job due full = subst (λ js. StartsAt js b j.release) (sym whole)
-      (starts_here b work (take (k - 1) jobs) j (drop k jobs) (subst IsInOrder whole order) due
-      (omega (arith, due, is_job.window)) full p)
+      (starts_here _ _ _ _ _ (subst IsInOrder whole order) due (omega (arith, due, is_job.window)) full p)
 
   -- it isn't here
   pub passed_at : IsJob j → j.deadline ≤ b → work + j.work ≤ b - j.release
       → Passed b (work + j.work) (drop (k - 1) jobs)
   passed_at is_job due fits = subst (λ js. Passed b (work + j.work) js) (sym from_here)
       (passed_due b work j (drop k jobs) in_order_here due (omega (arith, due, is_job.window)) fits p)
-
-  -- the job isn't due
-  pub passed_by : b < j.deadline → Passed b work (drop (k - 1) jobs)
-  passed_by late = subst (λ js. Passed b work js) (sym from_here)
-      (passed_late b work j (drop k jobs) in_order_here late p)

@@ -391,8 +391,7 @@ module _ (jobs : List JobFacts) (clock released due n l : ℕ) (kept : List Kept
       -- the task that ran
       here : (u : Task) → IsMember u s.tasks → u.number ≡ n → kept_as (had_more k u) ≡ ((due, n), l - k)
       here u member same =
-          let is : u ≡ runner.0 = one_number 0 s.tasks s.come.numbered u runner.0 member runner.1
-          (same ∙ runner_number) in
+          let is : u ≡ runner.0 = one_number _ _ s.come.numbered _ _ member runner.1 (same ∙ runner_number) in
           let due_same : u.job.deadline ≡ due = ap (λ (t : Task). t.job.deadline) is ∙ sym runner_due in
           let left_same : left u ≡ l = ap left is ∙ sym runner_left in
           let left_after : left (had_more k u) ≡ l - k = omega (arith, left_same) in
@@ -433,8 +432,7 @@ module _ (jobs : List JobFacts) (clock released due n l : ℕ) (kept : List Kept
       -- the task that ran
       nothing : (u : Task) → IsMember u s.tasks → u.number ≡ n → 1 ≤ left (had_more k u) → ⊥
       nothing u member same some_left =
-          let is : u ≡ runner.0 = one_number 0 s.tasks s.come.numbered u runner.0 member runner.1
-          (same ∙ runner_number) in
+          let is : u ≡ runner.0 = one_number _ _ s.come.numbered _ _ member runner.1 (same ∙ runner_number) in
           let left_same : left u ≡ l = ap left is ∙ sym runner_left in
           omega (arith, left_same)
 

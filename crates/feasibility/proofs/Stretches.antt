@@ -280,8 +280,7 @@ module _ (s : List ℕ) (p : Piece) (some : p.from < p.until) (job : p.number �
         → new ≡ stretches (s ++ replicate (p.until - p.from) p.number)
     more_apart new other e =
         let stays : goes_on q p ≡ false =
-        by_bool _ (goes_on q p) (λ t. absurd (clash (and_parts (eqb q.number p.number) (eqb q.until p.from) t)))
-        (λ f. f) in
+        by_bool _ _ (λ t. absurd (clash (and_parts (eqb q.number p.number) (eqb q.until p.from) t))) (λ f. f) in
         e ∙ append_assoc xs (q ∷ []) (p ∷ [])
         ∙ sym (more_behind ∙ ap (λ b. xs ++ cond b (joined q p ∷ []) (q ∷ p ∷ [])) stays) where
           clash : (eqb q.number p.number ≡ true) × (eqb q.until p.from ≡ true) → ⊥

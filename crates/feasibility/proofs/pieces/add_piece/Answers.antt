@@ -5,10 +5,8 @@ use Rattle.feasibility.proofs.pieces.add_piece.Goals.{then-last-piece+else-last-
 
 pub returns-in_ok-push-in-Some-clause-stretches : goal.returns-in_ok-push-in-Some-clause-stretches
 returns-in_ok-push-in-Some-clause-stretches c = λ s here is.
-    more_joined s c.args.piece c.requires.some c.requires.job here c.pop.new.self.items c.args.pieces.now.items
-    c.in-Some.last is
-    c.in-Some.ensures.items c.push.new.self.items c.if-last-piece.true c.if-last-piece-2.true
-    c.in_ok-push-in-Some.ensures.items
+    more_joined _ c.args.piece c.requires.some c.requires.job here _ _ _ is c.in-Some.ensures.items _
+    c.if-last-piece.true c.if-last-piece-2.true c.in_ok-push-in-Some.ensures.items
 
 pub returns-in_ok-push-in-Some-2-2-clause-stretches : goal.returns-in_ok-push-in-Some-2-2-clause-stretches
 returns-in_ok-push-in-Some-2-2-clause-stretches c = λ s here is.

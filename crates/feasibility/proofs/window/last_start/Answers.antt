@@ -5,10 +5,8 @@ use Rattle.feasibility.proofs.window.last_start.Goals as goal
 -- the window from the release of the job at hand
 starts : (c : goal.After-release-then-b-release) → StartsAt c.args.jobs.now c.args.b c.release-then-b-release.result
 starts c = subst (λ r. StartsAt c.args.jobs.now c.args.b r) (sym c.release-then-b-release.ensures.is)
-    (starts_at c.args.jobs.now c.requires.order c.args.b c.loop-i.work c.loop-i.i c.index-jobs-i.result c.loop-i.auto.i
-    c.loop-i-test.true
-    c.index-jobs-i.is c.loop-i.invariant.passed c.work-work.ensures.job
-    (omega (arith, c.if-deadline-b.true, c.deadline.ensures.is))
+    (starts_at _ c.requires.order _ _ _ _ c.loop-i.auto.i c.loop-i-test.true c.index-jobs-i.is c.loop-i.invariant.passed
+    c.work-work.ensures.job (omega (arith, c.if-deadline-b.true, c.deadline.ensures.is))
     (omega (arith, c.if-b-release.true, c.release.ensures.is, c.work-work.ensures.is)))
 
 pub returns-then-b-release-clause-release : goal.returns-then-b-release-clause-release
@@ -24,10 +22,8 @@ pub loop-i-preserved-else-b-release : goal.loop-i-preserved-else-b-release
 loop-i-preserved-else-b-release c = record {
   passed = subst (λ w. Passed c.args.b (c.loop-i.work + w) (drop (c.loop-i.i - 1) c.args.jobs.now))
       (sym c.work-work.ensures.is)
-      (passed_at c.args.jobs.now c.requires.order c.args.b c.loop-i.work c.loop-i.i c.index-jobs-i.result
-      c.loop-i.auto.i c.loop-i-test.true
-      c.index-jobs-i.is c.loop-i.invariant.passed c.work-work.ensures.job
-      (omega (arith, c.if-deadline-b.true, c.deadline.ensures.is))
+      (passed_at _ c.requires.order _ _ _ _ c.loop-i.auto.i c.loop-i-test.true c.index-jobs-i.is
+      c.loop-i.invariant.passed c.work-work.ensures.job (omega (arith, c.if-deadline-b.true, c.deadline.ensures.is))
       (omega (arith, c.if-b-release.false, c.release.ensures.is, c.work-work.ensures.is)));
   small = omega (
     arith,

@@ -13,8 +13,7 @@ index_mut-requires c =
       arith,
       number,
       c.self.inside.left.ok.0,
-      first_low _ _ c.self.invariant c.requires.0 c.requires.1 (ap (λ (q : QueueFacts). q.kept) c.self.view_is
-          ∙ c.requires.2) 0,
+      first_low _ _ c.self.invariant _ _ (ap (λ (q : QueueFacts). q.kept) c.self.view_is ∙ c.requires.2) 0,
     )
 
 -- what the heap leaves
@@ -38,8 +37,7 @@ pub invariant_of-self-else-ticks-eq0 : goal.invariant_of-self-else-ticks-eq0
 invariant_of-self-else-ticks-eq0 c =
     subst (λ n. IsInTurn (slice_set c.self.inside.left.items n c.args.ticks) (heap_items c.self.inside.turns))
     c.requires.3
-    (changed_in_turn _ _ c.self.invariant c.requires.0 c.requires.1
-    (ap (λ (q : QueueFacts). q.kept) c.self.view_is ∙ c.requires.2) c.args.ticks)
+    (changed_in_turn _ _ c.self.invariant _ _ (ap (λ (q : QueueFacts). q.kept) c.self.view_is ∙ c.requires.2) _)
 
 -- the first one has the number
 number_is : (number : ℕ) (kept : List Kept) → ((it : Kept) × (rest : List Kept) × (kept ≡ it ∷ rest)
@@ -57,8 +55,7 @@ returns-then-ticks-eq0-clause-goes c = λ it rest is none.
     (number_is _ _ c.requires it rest is)
     (subst (λ (q : QueueFacts). IsTakenOut it q.kept
     (kept_of (slice_set c.self.inside.left.items it.0.1 c.args.ticks) (heap_items c.pop.new.self))) c.self.view_is
-    (left_none _ _ c.self.invariant it rest (ap (λ (q : QueueFacts). q.kept) c.self.view_is ∙ is) c.args.ticks _
-    (taken c)))
+    (left_none _ _ c.self.invariant _ _ (ap (λ (q : QueueFacts). q.kept) c.self.view_is ∙ is) _ _ (taken c)))
 
 pub returns-else-ticks-eq0-clause-stays : goal.returns-else-ticks-eq0-clause-stays
 returns-else-ticks-eq0-clause-stays c = λ it rest is some.

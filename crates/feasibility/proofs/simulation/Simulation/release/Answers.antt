@@ -15,8 +15,7 @@ loop-job-preserved c = record {
       (stands_release c.args.jobs.now c.loop-job.self.clock c.loop-job.self.queue.released c.loop-job.self.queue.kept
       c.loop-job.self.pieces.items
       c.loop-job.self.late c.loop-job.self.clock c.loop-job.invariant.stands c.in-Some.job.now
-      (next_found c.args.jobs.now _ _ c.in-Some.job.now c.released.ensures c.in-Some.ensures.lookup.3.0
-      c.in-Some.ensures.lookup.1)
+      (next_found _ _ _ _ c.released.ensures c.in-Some.ensures.lookup.3.0 c.in-Some.ensures.lookup.1)
       (omega arith) (omega (arith, c.if-self-release.false, c.release.ensures.is)) c.release.ensures.job) _
       (subst (λ w. IsPermutation (((c.in-Some.job.now.deadline, c.loop-job.self.queue.released), w)
       ∷ c.loop-job.self.queue.kept) c.release-in-Some.new.self.kept) c.work.ensures.is
@@ -40,8 +39,7 @@ returns-then-self-release-clause-stands c =
     c.loop-job.self.late c.loop-job.self.clock c.loop-job.invariant.stands c.requires.order (c.loop-job.self.clock + 1)
     (inr (
       c.in-Some.job.now,
-      next_found c.args.jobs.now _ _ c.in-Some.job.now c.released.ensures c.in-Some.ensures.lookup.3.0
-          c.in-Some.ensures.lookup.1,
+      next_found _ _ _ _ c.released.ensures c.in-Some.ensures.lookup.3.0 c.in-Some.ensures.lookup.1,
       omega (arith, c.if-self-release.true, c.release.ensures.is),
     ))
 
@@ -49,15 +47,12 @@ pub returns-then-self-release-clause-moves : goal.returns-then-self-release-clau
 returns-then-self-release-clause-moves c =
     moved_to_next c.args.jobs.now c.args.self.now.clock c.args.self.now.queue.released c.loop-job.self.queue.released
     c.in-Some.job.now c.loop-job.invariant.rises
-    (next_found c.args.jobs.now _ _ c.in-Some.job.now c.released.ensures c.in-Some.ensures.lookup.3.0
-    c.in-Some.ensures.lookup.1)
+    (next_found _ _ _ _ c.released.ensures c.in-Some.ensures.lookup.3.0 c.in-Some.ensures.lookup.1)
     (omega (arith, c.if-self-release.true, c.release.ensures.is, c.loop-job.invariant.clock))
 
 pub returns-in_default-clause-stands : goal.returns-in_default-clause-stands
 returns-in_default-clause-stands c =
-    stands_until c.args.jobs.now c.loop-job.self.clock c.loop-job.self.queue.released c.loop-job.self.queue.kept
-    c.loop-job.self.pieces.items
-    c.loop-job.self.late c.loop-job.self.clock c.loop-job.invariant.stands c.requires.order (c.loop-job.self.clock + 1)
+    stands_until _ _ _ _ _ _ _ c.loop-job.invariant.stands c.requires.order _
     (inl (omega (arith, c.in_default.ensures.lookup.3, c.released.ensures)))
 
 pub returns-in_default-clause-moves : goal.returns-in_default-clause-moves

@@ -5,16 +5,11 @@ use Rattle.feasibility.proofs.simulation.Simulation.run.Goals as goal
 
 pub until-until-requires-clause-some : goal.until-until-requires-clause-some
 until-until-requires-clause-some c =
-    some_left c.args.jobs.now c.args.self.now.clock c.args.self.now.queue.released c.args.job.deadline c.args.job.number
-    c.args.job.left c.args.self.now.queue.kept c.args.self.now.pieces.items c.args.self.now.late c.requires.stands
-    c.requires.first
+    some_left _ _ _ _ _ _ _ _ _ c.requires.stands c.requires.first
 
 pub until-until-requires-clause-none : goal.until-until-requires-clause-none
 until-until-requires-clause-none c =
-    none_before c.args.jobs.now c.args.self.now.clock c.args.self.now.queue.released c.args.job.deadline
-    c.args.job.number
-    c.args.job.left c.args.self.now.queue.kept c.args.self.now.pieces.items c.args.self.now.late c.requires.stands
-    c.requires.first
+    none_before _ _ _ _ _ _ _ _ _ c.requires.stands c.requires.first
 
 pub add_piece-requires-clause-job : goal.add_piece-requires-clause-job
 add_piece-requires-clause-job c =
@@ -32,10 +27,8 @@ returns-clause-stands c =
     (subst (λ n. Stands c.args.jobs.now c.until-until.result n c.leave.new.self.kept c.add_piece.new.pieces.items
     (with_late c.args.self.now.late c.args.job.deadline (c.args.self.now.clock + c.args.job.left)) c.until-until.result)
     (sym c.leave.ensures.released)
-    (ran c.args.jobs.now c.args.self.now.clock c.args.self.now.queue.released c.args.job.deadline c.args.job.number
-    c.args.job.left c.args.self.now.queue.kept c.args.self.now.pieces.items c.args.self.now.late c.requires.stands
-    c.requires.first c.requires.order c.until-until.result c.until-until.ensures c.add_piece.new.pieces.items
-    c.leave.new.self.kept (c.leave.ensures.stays _ _ c.requires.first.is) (c.leave.ensures.goes _ _ c.requires.first.is)
+    (ran _ _ _ _ _ _ _ _ _ c.requires.stands c.requires.first c.requires.order _ c.until-until.ensures _ _
+    (c.leave.ensures.stays _ _ c.requires.first.is) (c.leave.ensures.goes _ _ c.requires.first.is)
     c.in_ok-add_piece.ensures.stretches))
 
 pub returns-clause-few : goal.returns-clause-few
@@ -45,9 +38,6 @@ returns-clause-few c =
     ⊎ ((length c.add_piece.new.pieces.items + length c.leave.new.self.kept
     ≤ length c.args.self.now.pieces.items + length c.args.self.now.queue.kept + 1)
     × IsPending c.args.jobs.now c.until-until.result n)) (sym c.leave.ensures.released)
-    (few_after c.args.jobs.now c.args.self.now.clock c.args.self.now.queue.released c.args.job.deadline
-    c.args.job.number
-    c.args.job.left c.args.self.now.queue.kept c.args.self.now.pieces.items c.args.self.now.late c.requires.stands
-    c.requires.first c.requires.order c.until-until.result c.until-until.ensures c.add_piece.new.pieces.items
-    c.leave.new.self.kept (c.leave.ensures.stays _ _ c.requires.first.is) (c.leave.ensures.goes _ _ c.requires.first.is)
+    (few_after _ _ _ _ _ _ _ _ _ c.requires.stands c.requires.first c.requires.order _ c.until-until.ensures _ _
+    (c.leave.ensures.stays _ _ c.requires.first.is) (c.leave.ensures.goes _ _ c.requires.first.is)
     c.in_ok-add_piece.ensures.count)

@@ -33,8 +33,7 @@ release-requires-clause-stands c = elim c.match-first.branch [
       c.args.self.now.pieces.items
       c.args.self.now.late (c.args.self.now.clock + 1)) none c.requires.stands)
       w.in-Some-get.next.now
-      (next_found c.args.jobs.now _ _ w.in-Some-get.next.now w.released.ensures w.in-Some-get.ensures.lookup.3.0
-      w.in-Some-get.ensures.lookup.1)
+      (next_found _ _ _ _ w.released.ensures w.in-Some-get.ensures.lookup.3.0 w.in-Some-get.ensures.lookup.1)
       w.release-self.ensures.job in
       subst (λ (x : Simulation). StandsAt c.args.jobs.now x x.clock) (sym w.self-is)
       (subst (λ n. Stands c.args.jobs.now n c.args.self.now.queue.released c.args.self.now.queue.kept
@@ -58,6 +57,5 @@ returns-clause-later c = elim c.match-first.branch [
       (next_later c.args.jobs.now c.args.self.now.clock c.args.self.now.queue.released c.args.self.now.queue.kept
       c.args.self.now.pieces.items
       c.args.self.now.late c.requires.stands w.in-Some-get.next.now
-      (next_found c.args.jobs.now _ _ w.in-Some-get.next.now w.released.ensures w.in-Some-get.ensures.lookup.3.0
-      w.in-Some-get.ensures.lookup.1))
+      (next_found _ _ _ _ w.released.ensures w.in-Some-get.ensures.lookup.3.0 w.in-Some-get.ensures.lookup.1))
 ]
