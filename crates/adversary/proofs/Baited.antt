@@ -216,8 +216,7 @@ module _ (k : Fraction) (version : Version) (n : ℕ) (valid : IsValid (baiting 
   -- the run is worth the last link
   pub worth_last : completed_value J ≡ last_link k (suc n)
   worth_last = value_of_run J valid
-      ∙ value_of_steady k (bait_jobs k (suc n)) most Link Light chained (run_over J valid).last
-      last_steady.0.sound last_steady.0.jobs last_steady.1 (run_over J valid).over
+      ∙ value_of_steady _ _ _ _ _ chained _ last_steady.0.sound last_steady.0.jobs last_steady.1 (run_over J valid).over
       ∙ sym (last_is k n (first_link k) None)
 
 -- the run of a baiting feed is worth its last link

@@ -92,9 +92,7 @@ pub sum_part : (k : Fraction) (more less w sofar all : ℕ) → more ≡ suc les
     → 1_000_000 ≤ sofar + w
     → all < 1_000_000 → false ≡ true
 sum_part k more less w sofar all is whole much few =
-    too_much (sofar + w) (sum (chain_from k less (most_light k w + 1))) all
-    (sum_step k more less w (most_light k w) sofar all is refl whole) much
-    few
+    too_much _ _ _ (sum_step k more less w (most_light k w) sofar all is refl whole) much few
 
 -- where none is to come the sum so far is all
 pub all_summed : (k : Fraction) (rounds i w sofar all : ℕ) → i ≡ rounds
@@ -109,9 +107,7 @@ all_summed k rounds i w sofar all end whole =
 -- and the last value so far is the last of all
 pub last_summed : (k : Fraction) (rounds i w last end : ℕ) → i ≡ rounds
     → last_from last (chain_from k (rounds - i) w) ≡ end → last ≡ end
-last_summed k rounds i w last end over whole =
-    sym (ap (λ m. last_from last (chain_from k (rounds - m) w)) over
-    ∙ ap (λ ws. last_from last ws) (none_to_come k rounds w)) ∙ whole
+last_summed k rounds i w last end over whole = cc (none_to_come k rounds w)
 
 pub all_done : (rounds i : ℕ) → i ≤ rounds → rounds ≤ i → i ≡ rounds
 all_done rounds i low high = omega arith

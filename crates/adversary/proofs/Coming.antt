@@ -43,24 +43,14 @@ not_at t j xs before = ap (λ b. cond b (j ∷ at xs t) (at xs t)) (ne_eqb j.rel
 not_later : (unit : ℕ) (j : JobFacts) (xs : List JobFacts) (t n : ℕ) → j.release < t
     → flat_map (of_tick unit (j ∷ xs)) (range_with_len t n) ≡ flat_map (of_tick unit xs) (range_with_len t n)
 not_later unit j xs t zero before = refl
-not_later unit j xs t (suc n) before =
-    ap (λ ys. (ys ++ tight_job t 1 unit ∷ []) ++ flat_map (of_tick unit (j ∷ xs)) (range_with_len (t + 1) n))
-    (not_at t j xs before)
-    ∙ ap (λ ys. of_tick unit xs t ++ ys) (not_later unit j xs (t + 1) n (omega arith))
+not_later unit j xs t (suc n) before = cc (not_at t j xs before, not_later unit j xs (t + 1) n (omega arith))
 
 -- a link of the present tick comes first
 pub link_first : (unit bait b : ℕ) (j : JobFacts) (xs : List JobFacts) (t n : ℕ) → j.release ≡ t → t + n ≡ b
     → jobs_from unit bait b (j ∷ xs) t n ≡ j ∷ jobs_from unit bait b xs t n
 link_first unit bait b j xs t zero here end = ap (λ ys. ys ++ tight_job b bait 1 ∷ []) (one_at b j xs (omega arith))
-link_first unit bait b j xs t (suc n) here end =
-    ap (λ ys. (((ys ++ tight_job t 1 unit ∷ []) ++ flat_map (of_tick unit (j ∷ xs)) (range_with_len (t + 1) n)) ++ at
-    (j ∷ xs) b)
-    ++ tight_job b bait 1 ∷ []) (one_at t j xs here)
-    ∙ ap (λ ys. ((((j ∷ at xs t) ++ tight_job t 1 unit ∷ []) ++ ys) ++ at (j ∷ xs) b) ++ tight_job b bait 1 ∷ [])
-    (not_later unit j xs (t + 1) n (omega arith))
-    ∙ ap (λ ys. ((((j ∷ at xs t) ++ tight_job t 1 unit ∷ []) ++ flat_map (of_tick unit xs) (range_with_len (t + 1) n))
-    ++ ys)
-    ++ tight_job b bait 1 ∷ []) (not_at b j xs (omega arith))
+link_first unit bait b j xs t (suc n) here end = cc
+    (one_at t j xs here, not_later unit j xs (t + 1) n (omega arith), not_at b j xs (omega arith))
 
 -- where no link is left in the tick, the unit job is next
 pub unit_next : (unit bait b : ℕ) (xs : List JobFacts) (t n : ℕ) → AreAfter t xs

@@ -111,8 +111,7 @@ module _ (k : Fraction) (jobs : List JobFacts) (most : ℕ) (Link Light : JobFac
         ∙ ap displaced it.2,
   )
   taken_counts false none r x member runs some x_member waiting heavy =
-      on_taken k jobs most Link Light chained s sound are steady r x member runs some x_member waiting heavy
-      (λ t. t.role ≡ Done → ⊥)
+      on_taken _ _ _ _ _ chained _ sound are steady _ _ member runs some x_member waiting heavy (λ t. t.role ≡ Done → ⊥)
       (λ e. let f : Running ≡ Done = e in cc) (λ t m apart e. none t m (displaced_done t.role e))
 
   -- each deed completes a job, or leaves it as it is
@@ -211,8 +210,7 @@ module _ (k : Fraction) (version : Version) (n : ℕ) (valid : IsValid (baiting 
   -- the state after a step is steady
   then_steady : (s : State) → Keeps feed s → Steady s → Steady (after s (step feed.rules s))
   then_steady s keeps steady =
-      step_steady k (bait_jobs k (suc n)) (most k version n valid) (Link k version n valid) (Light k version n valid)
-      (chained k version n valid) s keeps.sound keeps.jobs steady (step feed.rules s)
+      step_steady _ _ _ _ _ (chained k version n valid) _ keeps.sound keeps.jobs steady _
       (step_deed feed valid s keeps feed.rules) (done_at_end s keeps.sound feed.rules refl)
 
   -- from a state on one job completes, if none has
@@ -226,9 +224,7 @@ module _ (k : Fraction) (version : Version) (n : ℕ) (valid : IsValid (baiting 
       (then_steady s keeps steady)
       it.then_done it.some) where
         it : Counts done s (step feed.rules s)
-        it = step_counts k (bait_jobs k (suc n)) (most k version n valid) (Link k version n valid)
-            (Light k version n valid)
-            (chained k version n valid) s keeps.sound keeps.jobs steady done some (step feed.rules s)
+        it = step_counts _ _ _ _ _ (chained k version n valid) _ keeps.sound keeps.jobs steady _ some _
             (step_deed feed valid s keeps feed.rules) (done_at_end s keeps.sound feed.rules refl)
 
         first_counted : completions (x ∷ xs) ≡ one_if (is_complete (step feed.rules s)) + completions xs

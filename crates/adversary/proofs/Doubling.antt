@@ -93,10 +93,8 @@ module _ (k : Fraction) (ratio : IsRatio k) (one : k.p ≡ k.q) where
       next_link w (sum (chain_from k (suc (suc m)) w)) (sum (chain_from k (suc m) next)) cons few in
       let more = doubles m next
       (less (sum (chain_from k (suc (suc m)) w)) (sum (chain_from k (suc m) next)) cons few) in (
-        double (2 ^ m) (2 ^ suc m) w next (last_from next (chain_from k m (suc (most_light k next))))
-            (pow-succ' 2 m) is more.0,
-        add (2 ^ m) (2 ^ suc m) w next m (sum (chain_from k (suc (suc m)) w)) (sum (chain_from k (suc m) next))
-            (pow-succ' 2 m) is cons more.1,
+        double _ _ _ _ _ (pow-succ' 2 m) is more.0,
+        add _ _ _ _ _ _ _ (pow-succ' 2 m) is cons more.1,
       ) where
         less : (all rest : ℕ) → all ≡ w + rest → all < most_jobs Two → rest < most_jobs Two
         less all rest is few = omega arith

@@ -153,8 +153,7 @@ module _ (k : Fraction) (rounds : ℕ) where
 
   -- it has a job more than its links are worth
   pub count : length (bait_jobs k rounds) ≡ sum (chain k rounds) + 1
-  count = how_many (unit_value k) (bait_value k rounds) 0 0 (bait_tick k rounds) 0 (chain k rounds) (bait_jobs k rounds)
-      (plan_from (bait_value k rounds) 0 (chain_jobs k rounds) 0 (bait_tick k rounds)) whole
+  count = how_many _ _ _ _ _ _ _ _ _ whole
       ∙ level (sum (chain k rounds)) (length (chain k rounds)) (length_chain k rounds (first_link k))
       (sum_least k rounds (first_link k) (omega arith)) where
         level : (all many : ℕ) → many ≡ rounds → rounds ≤ all → all - rounds + many + 1 ≡ all + 1

@@ -104,8 +104,7 @@ pub link_given : (unit bait b : ℕ) (k : Fraction) (links r w t light : ℕ) �
 link_given unit bait b k links r w t light many some now early lights =
     ap (λ ws. jobs_from unit bait b (chain_jobs_from r ws) t (b - t))
     (chain_step k links (links - 1) w light (fewer links many) lights)
-    ∙ link_first unit bait b (tight_job r w 1) (chain_jobs_from (r + w - 1) (chain_from k (links - 1) (light + 1))) t
-    (b - t) now (end t early)
+    ∙ link_first _ _ _ _ _ _ _ now (end t early)
     ∙ ap (λ s. tight_job r w 1 ∷ jobs_from unit bait b (chain_jobs_from s (chain_from k (links - 1) (light + 1))) t
     (b - t)) (next w some) where
       fewer : (m : ℕ) → 1 ≤ m → m ≡ suc (m - 1)
@@ -198,10 +197,7 @@ bait_given unit bait b k links r w t some early none end =
 pub turn : (before after : List JobFacts) (over : Bool) (xs ys : List JobFacts) (i j : JobFacts)
     → cond over [] xs ≡ before → over ≡ false → j ≡ i
     → xs ≡ i ∷ ys → cond over [] ys ≡ after → before ≡ j ∷ after
-turn before after over xs ys i j here not_over same given there =
-    sym here ∙ ap (λ o. cond o [] xs) not_over ∙ given ∙ ap (λ x. x ∷ ys) (sym same)
-    ∙ ap (λ o. j ∷ cond o [] ys) (sym not_over)
-    ∙ ap (λ zs. j ∷ zs) there
+turn before after over xs ys i j here not_over same given there = cc
 
 pub last_turn : (before : List JobFacts) (over : Bool) (xs : List JobFacts) (i j : JobFacts) → cond over [] xs ≡ before
     → over ≡ false → j ≡ i

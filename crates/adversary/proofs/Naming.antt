@@ -43,8 +43,7 @@ pub until_over : (k : Fraction) (links r w i tick all : ℕ) → 1 ≤ w → tic
     → i + until (chain_jobs_from r (chain_from k links w)) tick ≡ all
     → i ≡ all
 until_over k links r w i tick all some later whole = level (until (chain_jobs_from r (chain_from k links w)) tick)
-    (until_none (chain_jobs_from r (chain_from k links w)) tick
-    (are_after tick r (chain_from k links w) (are_some k links w some) later)) whole
+    (until_none _ _ (are_after tick r (chain_from k links w) (are_some k links w some) later)) whole
   where
     level : (rest : ℕ) → rest ≡ 0 → i + rest ≡ all → i ≡ all
     level rest none whole = omega arith
@@ -157,9 +156,7 @@ module _ (a : Inside) (kept : IsKept a) where
   -- before the bait's tick the unit job
   pub names_unit : (tick links : ℕ) → tick < a.bait_tick → links ≡ until (chain_jobs a.k a.rounds) tick
       → Some (links + tick) ≡ slice_get (bait_plan a.k a.rounds) tick
-  names_unit tick links before is = sym (get_range (unit_number a.k a.rounds) 0 (bait_tick a.k a.rounds)
-      (replicate (bait_value a.k a.rounds) (length (bait_jobs a.k a.rounds) - 1)) tick
-      (subst (λ b. tick < b) (kept_tick a kept) before)
+  names_unit tick links before is = sym (get_range _ _ _ _ _ (subst (λ b. tick < b) (kept_tick a kept) before)
       ∙ ap (λ m. Some (unit_number a.k a.rounds m)) same ∙ ap (λ m. Some m) (unit_number_is a.k a.rounds tick
       ∙ turned (until (chain_jobs a.k a.rounds) tick) is)) where
         same : 0 + tick ≡ tick
@@ -172,9 +169,7 @@ module _ (a : Inside) (kept : IsKept a) where
   pub names_bait : (tick : ℕ) → a.bait_tick ≤ tick → tick - a.bait_tick < a.chain.light
       → Some (a.bait_tick + a.rounds) ≡ slice_get
       (bait_plan a.k a.rounds) tick
-  names_bait tick late less = sym (get_behind (unit_number a.k a.rounds) 0 (bait_tick a.k a.rounds)
-      (replicate (bait_value a.k a.rounds) (length (bait_jobs a.k a.rounds) - 1)) tick
-      (subst (λ b. b ≤ tick) (kept_tick a kept) late)
+  names_bait tick late less = sym (get_behind _ _ _ _ _ (subst (λ b. b ≤ tick) (kept_tick a kept) late)
       ∙ get_same (length (bait_jobs a.k a.rounds) - 1) (bait_value a.k a.rounds) (tick - bait_tick a.k a.rounds)
       (subst (λ v. tick - bait_tick a.k a.rounds < v) kept.numbers.light
       (subst (λ b. tick - b < a.chain.light) (kept_tick a kept) less))
@@ -187,9 +182,7 @@ module _ (a : Inside) (kept : IsKept a) where
   -- and then nothing
   pub names_none : (tick : ℕ) → a.bait_tick ≤ tick → a.chain.light ≤ tick - a.bait_tick
       → None ≡ slice_get (bait_plan a.k a.rounds) tick
-  names_none tick late more = sym (get_behind (unit_number a.k a.rounds) 0 (bait_tick a.k a.rounds)
-      (replicate (bait_value a.k a.rounds) (length (bait_jobs a.k a.rounds) - 1)) tick
-      (subst (λ b. b ≤ tick) (kept_tick a kept) late)
+  names_none tick late more = sym (get_behind _ _ _ _ _ (subst (λ b. b ≤ tick) (kept_tick a kept) late)
       ∙ get_past (length (bait_jobs a.k a.rounds) - 1) (bait_value a.k a.rounds) (tick - bait_tick a.k a.rounds)
       (subst (λ v. v ≤ tick - bait_tick a.k a.rounds) kept.numbers.light
       (subst (λ b. a.chain.light ≤ tick - b) (kept_tick a kept) more)))

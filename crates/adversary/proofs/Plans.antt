@@ -262,6 +262,4 @@ pub plan_worth : (k : Fraction) (rounds : ℕ) (version : Version)
     → worth (jobs_under version k (bait_jobs k rounds)) (bait_plan k rounds)
     ≡ plan_value k rounds
 plan_worth k rounds version =
-    parts_are (unit_value k) (bait_value k rounds) (bait_plan k rounds) 0 0 (bait_tick k rounds) 0 (chain k rounds)
-    (bait_jobs k rounds)
-    (plan_from (bait_value k rounds) 0 (chain_jobs k rounds) 0 (bait_tick k rounds)) (whole k rounds) (plan_is k rounds)
+    parts_are _ _ _ _ _ _ _ _ _ _ (whole k rounds) (plan_is k rounds)

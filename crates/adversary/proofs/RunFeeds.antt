@@ -139,8 +139,7 @@ module _ (k : Fraction) (rounds : ℕ) where
       → IsMember j (bait_jobs k rounds)
   link_in_feed j member low = member_front front (bait ∷ []) j (by_low (cases_lt j.release (bait_tick k rounds))) where
     by_low : (j.release < bait_tick k rounds) ⊎ (bait_tick k rounds ≤ j.release) → IsMember j front
-    by_low (inl before) = member_front (released 0 (bait_tick k rounds)) (links_at k rounds (bait_tick k rounds)) j
-        (link_there 0 (bait_tick k rounds) j member (omega arith) (omega arith))
+    by_low (inl before) = member_front _ _ _ (link_there 0 (bait_tick k rounds) j member (omega arith) (omega arith))
     by_low (inr here) = member_behind (released 0 (bait_tick k rounds)) (links_at k rounds (bait_tick k rounds)) j
         (filter_member (λ i. i.release == bait_tick k rounds) (chain_jobs k rounds) j member
         (eq-eqb j.release (bait_tick k rounds) (omega arith)))

@@ -136,9 +136,8 @@ module _ (k : Fraction) (ratio : IsRatio k) where
       ∙ ap (λ (i : JobFacts). i.value) (sym e2) in omega arith)
   links_heavier (suc n) r w small a b (inl e) (inr mb) less = let same : a.value ≡ 1 * w =
       ap (λ (i : JobFacts). i.value) e in
-      heavy_grows k (suc (most_light k w)) w b.value a.value
-      (links_above n (r + w - 1) (suc (most_light k w)) (rest_small n r w small) b mb) (omega arith)
-      (next_heavy k ratio w (first_small n r w small))
+      heavy_grows _ _ _ _ _ (links_above n (r + w - 1) (suc (most_light k w)) (rest_small n r w small) b mb)
+      (omega arith) (next_heavy k ratio w (first_small n r w small))
   links_heavier (suc n) r w small a b (inr ma) (inl e) less = absurd (
       let same : b.value ≡ 1 * w = ap (λ (i : JobFacts). i.value) e in
       let more : w < suc (most_light k w) = next_more k ratio w (first_small n r w small) in

@@ -30,6 +30,7 @@ use Rattle.dover_model.proofs.Deeds.{Deed, Completed, Resumed, Started, Began, P
 use Rattle.dover_model.proofs.Deeds.{Abandoned, Rested}
 use Rattle.dover_model.proofs.Kept.{end_same}
 use Rattle.dover_model.proofs.Tests.{never}
+use Rattle.dover_model.proofs.Moves.{displaced_rests}
 
 -- where the move completes the job that runs, that has no work left
 abbrev pub DoneAtEnd : State → Move → Type 0
@@ -144,16 +145,6 @@ zero_task (x ∷ tasks) numbered t member = (x, inl refl, numbered.0)
 -- a role that isn't over
 not_over : (t : Task) (role : Role) → is_over (with_role t role) ≡ false → t.role ≡ role → is_over t ≡ true → ⊥
 not_over t role out e over = never (sym (passes is_over t role false e out) ∙ over)
-
--- what is displaced doesn't run
-displaced_rests : (role : Role) → displaced role ≡ Running → ⊥
-displaced_rests Coming e = cc
-displaced_rests Fresh e = cc
-displaced_rests Waiting e = cc
-displaced_rests Held e = cc
-displaced_rests Running e = cc
-displaced_rests Done e = cc
-displaced_rests Gone e = cc
 
 -- a displaced follower is one
 displaced_follows : (clock : ℕ) (role : Role) (t : Task) → Follows clock role t

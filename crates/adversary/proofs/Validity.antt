@@ -10,16 +10,15 @@ use Rattle.dover_model.specs.declared.events.Version.{Version}
 use Rattle.dover_model.specs.Fraction.{Fraction, IsRatio}
 use Rattle.dover_model.specs.JobFacts.{IsJob}
 use Rattle.dover_model.specs.Instance.{IsValid, IsWithinRatio, jobs_under, total_value}
-use Rattle.dover_model.specs.Bait.{unit_value, most_light, first_link, chain_from, chain, last_link, bait_value}
-use Rattle.dover_model.specs.Bait.{tight_job, chain_jobs}
-use Rattle.dover_model.specs.Bait.{bait_tick, bait_jobs}
+use Rattle.dover_model.specs.Bait.{unit_value, most_light, first_link, chain, last_link, bait_value}
+use Rattle.dover_model.specs.Bait.{tight_job}
+use Rattle.dover_model.specs.Bait.{bait_jobs}
 use Rattle.dover_model.proofs.Calculus.{dense_within}
 use Rattle.dover_model.proofs.Limiting.{jobs_least, total_least}
 use Rattle.adversary.specs.Baiting.{FitsLimits}
 use Rattle.adversary.proofs.Coming.{AreSome, are_some}
 use Rattle.adversary.proofs.Chains.{last_from}
 use Rattle.adversary.proofs.Heavy.{light_least}
-use Rattle.adversary.proofs.Streaming.{plan_from}
 use Rattle.adversary.proofs.Feeds.{how_much, in_order, whole, small, modest, all_jobs, unit_low, unit_some}
 
 -- the last link is some, and at most all of them
@@ -37,8 +36,7 @@ pub last_link_within : (k : Fraction) (rounds : ℕ) → 1 ≤ rounds → (1 ≤
     × (last_link k rounds ≤ sum (chain k rounds))
 last_link_within k zero many = absurd (omega (arith, many))
 last_link_within k (suc rounds) many =
-    last_within (first_link k) (chain_from k rounds (suc (most_light k (first_link k)))) (omega arith)
-    (are_some k rounds (suc (most_light k (first_link k))) (omega arith))
+    last_within _ _ (omega arith) (are_some k rounds (suc (most_light k (first_link k))) (omega arith))
 
 -- the bait is worth something
 pub some_bait : (k : Fraction) (rounds : ℕ) → IsRatio k → 1 ≤ rounds → FitsLimits k rounds → 1 ≤ bait_value k rounds
@@ -116,8 +114,7 @@ module _ (k : Fraction) (rounds : ℕ) (ratio : IsRatio k) (fits : FitsLimits k 
 
   total : total_value (bait_jobs k rounds) ≤ most_total Two
   total = level (total_value (bait_jobs k rounds)) (sum (chain k rounds)) (unit_value k) (bait_value k rounds)
-      (how_much (unit_value k) (bait_value k rounds) 0 0 (bait_tick k rounds) 0 (chain k rounds) (bait_jobs k rounds)
-      (plan_from (bait_value k rounds) 0 (chain_jobs k rounds) 0 (bait_tick k rounds)) (whole k rounds))
+      (how_much _ _ _ _ _ _ _ _ _ (whole k rounds))
       (small k rounds fits) (unit_low k ratio)
       (modest k rounds fits) where
         level : (all links unit bait : ℕ) → all ≡ links + unit * (links - rounds) + bait → links < most_jobs Two
@@ -134,9 +131,7 @@ module _ (k : Fraction) (rounds : ℕ) (ratio : IsRatio k) (fits : FitsLimits k 
   valid version = record {
     ratio = ratio;
     each = each_is_job;
-    in_order = in_order (unit_value k) (bait_value k rounds) 0 0 (bait_tick k rounds) 0 (chain k rounds)
-        (bait_jobs k rounds)
-        (plan_from (bait_value k rounds) 0 (chain_jobs k rounds) 0 (bait_tick k rounds)) (whole k rounds);
+    in_order = in_order _ _ _ _ _ _ _ _ _ (whole k rounds);
     count = omega (arith, fits.few, jobs_least version);
     total = omega (arith, total, total_least version);
     densities = densities;

@@ -1,6 +1,5 @@
-use Rattle.std.proofs.Common.{◌+◌, ◌-◌}
-use Rattle.std.specs.List.{sum}
-use Rattle.dover_model.specs.Bait.{chain, chain_jobs}
+use Rattle.std.proofs.Common.{◌-◌}
+use Rattle.dover_model.specs.Bait.{chain_jobs}
 use Rattle.adversary.proofs.Chains.{one_fewer, all_done}
 use Rattle.adversary.proofs.Streaming.{until}
 use Rattle.adversary.proofs.Giving.{first_some, some_work}
@@ -25,54 +24,30 @@ returns-then-release-tick c =
 
 pub overflow_add-release : goal.overflow_add-release
 overflow_add-release c = release_fits c.loop-links.release c.loop-links.work
-    (left_low c.args.k (c.args.rounds - c.loop-links.links)
-    (c.args.rounds - (c.loop-links.links + 1)) c.loop-links.release c.loop-links.work
-    c.loop-links.links
-    (sum (chain c.args.k c.args.rounds))
-    (one_fewer c.args.rounds c.loop-links.links c.loop-links-test.true) c.loop-links.invariant.left
-    c.requires.small)
+    (left_low _ _ _ _ _ _ _ (one_fewer c.args.rounds c.loop-links.links c.loop-links-test.true)
+    c.loop-links.invariant.left c.requires.small)
 
 pub light_value-work-requires : goal.light_value-work-requires
 light_value-work-requires c = work_low c.loop-links.release c.loop-links.work
-    (left_low c.args.k (c.args.rounds - c.loop-links.links)
-    (c.args.rounds - (c.loop-links.links + 1)) c.loop-links.release c.loop-links.work
-    c.loop-links.links
-    (sum (chain c.args.k c.args.rounds))
-    (one_fewer c.args.rounds c.loop-links.links c.loop-links-test.true) c.loop-links.invariant.left
-    c.requires.small)
+    (left_low _ _ _ _ _ _ _ (one_fewer c.args.rounds c.loop-links.links c.loop-links-test.true)
+    c.loop-links.invariant.left c.requires.small)
 
 pub overflow_add-work : goal.overflow_add-work
 overflow_add-work c = work_fits c.loop-links.release c.loop-links.work c.light_value-work.result
-    (left_low c.args.k (c.args.rounds - c.loop-links.links)
-    (c.args.rounds - (c.loop-links.links + 1)) c.loop-links.release c.loop-links.work
-    c.loop-links.links
-    (sum (chain c.args.k c.args.rounds))
-    (one_fewer c.args.rounds c.loop-links.links c.loop-links-test.true) c.loop-links.invariant.left
-    c.requires.small)
+    (left_low _ _ _ _ _ _ _ (one_fewer c.args.rounds c.loop-links.links c.loop-links-test.true)
+    c.loop-links.invariant.left c.requires.small)
     c.light_value-work.ensures.most
 
 pub loop-links-preserved : goal.loop-links-preserved
 loop-links-preserved c = record {
   some = some_work c.light_value-work.result;
-  left = left_step c.args.k (c.args.rounds - c.loop-links.links)
-      (c.args.rounds - (c.loop-links.links + 1)) c.loop-links.release c.loop-links.work
-      c.light_value-work.result c.loop-links.links (sum (chain c.args.k c.args.rounds))
-      (one_fewer c.args.rounds c.loop-links.links
-      c.loop-links-test.true)
+  left = left_step _ _ _ _ _ _ _ _ (one_fewer c.args.rounds c.loop-links.links c.loop-links-test.true)
       c.loop-links.invariant.some c.light_value-work.ensures.is c.loop-links.invariant.left;
-  counted = until_step c.args.k (c.args.rounds - c.loop-links.links)
-      (c.args.rounds - (c.loop-links.links + 1)) c.loop-links.release
-      c.loop-links.work
-      c.light_value-work.result c.loop-links.links c.args.tick (until (chain_jobs c.args.k c.args.rounds) c.args.tick)
-      (one_fewer c.args.rounds c.loop-links.links c.loop-links-test.true) c.loop-links.invariant.some
-      c.light_value-work.ensures.is
-      c.if-release-tick.false
-      c.loop-links.invariant.counted;
+  counted = until_step _ _ _ _ _ _ _ _ _ (one_fewer c.args.rounds c.loop-links.links c.loop-links-test.true)
+      c.loop-links.invariant.some c.light_value-work.ensures.is c.if-release-tick.false c.loop-links.invariant.counted;
 }
 
 pub returns : goal.returns
-returns c = until_end c.args.k c.args.rounds c.loop-links.links c.loop-links.release c.loop-links.work c.args.tick
-    (until (chain_jobs c.args.k c.args.rounds) c.args.tick)
-    (all_done c.args.rounds c.loop-links.links c.loop-links.auto.links-end
-    c.loop-links-test.false)
+returns c = until_end _ _ _ _ _ _ _
+    (all_done c.args.rounds c.loop-links.links c.loop-links.auto.links-end c.loop-links-test.false)
     c.loop-links.invariant.counted

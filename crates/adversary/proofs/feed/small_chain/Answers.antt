@@ -24,15 +24,10 @@ loop-init c = record {
 
 pub loop-preserved : goal.loop-preserved
 loop-preserved c = record {
-  total = sum_step c.args.k (c.args.rounds - c.loop.counter) (c.args.rounds - (c.loop.counter + 1))
-      (c.loop.light + 1) c.light_value-light.result c.loop.sum
-      (sum (chain c.args.k c.args.rounds))
-      (one_fewer c.args.rounds c.loop.counter c.loop-test.true) c.light_value-light.ensures.is
-      c.loop.invariant.total;
-  end = last_step c.args.k (c.args.rounds - c.loop.counter) (c.args.rounds - (c.loop.counter + 1)) c.loop.last
-      (c.loop.light + 1)
-      c.light_value-light.result _ (one_fewer c.args.rounds c.loop.counter c.loop-test.true)
-      c.light_value-light.ensures.is c.loop.invariant.end;
+  total = sum_step _ _ _ _ _ _ _ (one_fewer c.args.rounds c.loop.counter c.loop-test.true)
+      c.light_value-light.ensures.is c.loop.invariant.total;
+  end = last_step _ _ _ _ _ _ _ (one_fewer c.args.rounds c.loop.counter c.loop-test.true) c.light_value-light.ensures.is
+      c.loop.invariant.end;
   few = omega (arith, c.from.ensures, c.most_jobs.ensures, c.if-sum-from.false);
   low = low_step c.loop.sum c.loop.light c.light_value-light.result
       (omega (arith, c.from.ensures, c.most_jobs.ensures, c.if-sum-from.false)) c.light_value-light.ensures.most;
@@ -52,8 +47,7 @@ returns-then-sum-from-clause-small c = (
 
 pub returns-clause-small : goal.returns-clause-small
 returns-clause-small c = (
-  λ h. subst (λ n. n < most_jobs Two) (all_summed c.args.k c.args.rounds c.loop.counter (c.loop.light + 1) c.loop.sum
-      (sum (chain c.args.k c.args.rounds))
+  λ h. subst (λ n. n < most_jobs Two) (all_summed _ _ _ _ _ _
       (all_done c.args.rounds c.loop.counter c.loop.auto.counter-end c.loop-test.false) c.loop.invariant.total)
       c.loop.invariant.few,
   λ h. refl,
@@ -64,14 +58,11 @@ returns-clause-numbers c =
     let over : c.loop.counter ≡ c.args.rounds =
     all_done c.args.rounds c.loop.counter c.loop.auto.counter-end c.loop-test.false in
     let last : c.loop.last ≡ last_link c.args.k c.args.rounds =
-    last_summed c.args.k c.args.rounds c.loop.counter (c.loop.light + 1) c.loop.last
-    (last_link c.args.k c.args.rounds) over c.loop.invariant.end in
+    last_summed _ _ _ _ _ _ over c.loop.invariant.end in
     record {
       first = c.first_value-first.ensures.is;
       last = last;
-      sum = all_summed c.args.k c.args.rounds c.loop.counter (c.loop.light + 1) c.loop.sum
-          (sum (chain c.args.k c.args.rounds)) over
-          c.loop.invariant.total;
+      sum = all_summed _ _ _ _ _ _ over c.loop.invariant.total;
       light = c.loop.invariant.lights (some_done c.args.rounds c.loop.counter c.requires over)
           ∙ ap (λ w. most_light c.args.k w) last;
       few = c.loop.invariant.few;

@@ -1,5 +1,4 @@
 use Rattle.std.proofs.Common.{◌≡◌, ◌+◌, ◌*◌, ◌/◌, ◌≤◌, subst, sym, arith}
-use Rattle.dover_model.specs.Bait.{most_light}
 use Rattle.dover_model.specs.Greatest.{IsGreatest}
 use Rattle.root_compare.proofs.Roots.{one_greatest}
 use Rattle.adversary.proofs.Heavy.{is_light, light_is, root_is, root_small}
@@ -19,9 +18,7 @@ found c = root_is c.args.k c.args.work c.isqrt.result c.q.ensures.ratio (within 
     (λ r less. c.isqrt.ensures.greatest r (subst (λ n. r * r ≤ n) (sym (under c)) less))
 
 pub returns-clause-is : goal.returns-clause-is
-returns-clause-is c = one_greatest (is_light c.args.k c.args.work) (c.args.work + c.isqrt.result)
-    (most_light c.args.k c.args.work) (found c)
-    (light_is c.args.k c.args.work c.q.ensures.ratio c.requires)
+returns-clause-is c = one_greatest _ _ _ (found c) (light_is c.args.k c.args.work c.q.ensures.ratio c.requires)
 
 pub returns-clause-most : goal.returns-clause-most
 returns-clause-most c = omega (arith, root_small c.args.k c.args.work c.isqrt.result c.q.ensures.ratio (within c))

@@ -18,8 +18,7 @@ returns-then-chain-gt-MOST_VALUE-clause-fits c = (
 )
 
 pub overflow_sub-result : goal.overflow_sub-result
-overflow_sub-result c = rounds_low c.args.k c.args.rounds c.from.result c.in_ok-chain.chain.sum c.from.ensures
-    c.in_ok-chain.ensures.numbers.sum
+overflow_sub-result c = rounds_low _ _ _ _ c.from.ensures c.in_ok-chain.ensures.numbers.sum
 
 pub invariant_of-result : goal.invariant_of-result
 invariant_of-result c = record {
@@ -28,15 +27,13 @@ invariant_of-result c = record {
   numbers = c.in_ok-chain.ensures.numbers;
   modest = c.if-chain-gt-MOST_VALUE.false;
   bait_tick = tick_and_rounds c.in_ok-chain.chain.sum c.from.result c.args.rounds c.from.ensures
-      (rounds_low c.args.k c.args.rounds c.from.result c.in_ok-chain.chain.sum c.from.ensures
-      c.in_ok-chain.ensures.numbers.sum);
+      (rounds_low _ _ _ _ c.from.ensures c.in_ok-chain.ensures.numbers.sum);
   early = at_once;
   work = first_some c.args.k c.in_ok-chain.chain.first c.in_ok-chain.ensures.numbers.first;
   left = new_left c.args.k c.args.rounds c.in_ok-chain.chain.first c.in_ok-chain.chain.sum c.from.result
       c.in_ok-chain.ensures.numbers.first
       c.in_ok-chain.ensures.numbers.sum c.from.ensures
-      (rounds_low c.args.k c.args.rounds c.from.result c.in_ok-chain.chain.sum c.from.ensures
-      c.in_ok-chain.ensures.numbers.sum);
+      (rounds_low _ _ _ _ c.from.ensures c.in_ok-chain.ensures.numbers.sum);
 }
 
 pub returns-clause-fits : goal.returns-clause-fits
@@ -50,7 +47,5 @@ returns-clause-fits c = (
 
 pub returns-clause-feed : goal.returns-clause-feed
 returns-clause-feed c = ap (baiting c.args.k c.args.rounds)
-    (new_jobs c.args.k c.args.rounds c.in_ok-chain.chain.light c.in_ok-chain.chain.first c.in_ok-chain.chain.sum
-    c.from.result
-    c.in_ok-chain.ensures.numbers.light c.in_ok-chain.ensures.numbers.first c.in_ok-chain.ensures.numbers.sum
-    c.from.ensures)
+    (new_jobs _ _ _ _ _ _ c.in_ok-chain.ensures.numbers.light c.in_ok-chain.ensures.numbers.first
+    c.in_ok-chain.ensures.numbers.sum c.from.ensures)

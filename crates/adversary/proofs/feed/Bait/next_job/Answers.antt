@@ -39,9 +39,7 @@ invariant_of-self c = record {
   bait_tick = c.self.invariant.bait_tick;
   early = still_early c.self.inside.tick c.self.inside.release c.self.inside.work c.self.invariant.early;
   work = some_work c.light_value.result;
-  left = link_left c.self.inside.k c.self.inside.links c.self.inside.release c.self.inside.work c.self.inside.bait_tick
-      c.light_value.result
-      c.if-self-gt0.true c.self.invariant.work c.light_value.ensures.is c.self.invariant.left;
+  left = link_left _ _ _ _ _ _ c.if-self-gt0.true c.self.invariant.work c.light_value.ensures.is c.self.invariant.left;
 }
 
 -- the jobs before the call are the link and those after it
@@ -55,8 +53,7 @@ returns-then-self-2-clause-jobs c =
     c.self.inside.release
     c.self.inside.work c.self.inside.tick c.light_value.result c.if-self-gt0.true c.self.invariant.work c.if-self-2.true
     (within_end c.self.inside.tick c.self.inside.release c.self.inside.bait_tick c.self.invariant.early
-    (release_within c.self.inside.k c.self.inside.links c.self.inside.release c.self.inside.work
-    c.self.inside.bait_tick c.self.invariant.work c.self.invariant.left)) c.light_value.ensures.is) refl
+    (release_within _ _ _ _ _ c.self.invariant.work c.self.invariant.left)) c.light_value.ensures.is) refl
 
 pub returns-then-self-2-clause-none : goal.returns-then-self-2-clause-none
 returns-then-self-2-clause-none c = some_given _ _ _ (returns-then-self-2-clause-jobs c)
@@ -75,9 +72,7 @@ invariant_of-self-then-self-3 c =
       numbers = c.self.invariant.numbers;
       modest = c.self.invariant.modest;
       bait_tick = c.self.invariant.bait_tick;
-      early = unit_early c.self.inside.k c.self.inside.links c.self.inside.release c.self.inside.work
-          c.self.inside.bait_tick c.self.inside.tick
-          c.self.invariant.early none c.self.invariant.left c.if-self-3.true;
+      early = unit_early _ _ _ _ _ _ c.self.invariant.early none c.self.invariant.left c.if-self-3.true;
       work = c.self.invariant.work;
       left = c.self.invariant.left;
     }
@@ -93,10 +88,7 @@ returns-then-self-3-clause-jobs c =
     c.in_ok-job-2.job
     (ap (λ (b : Baiting). b.jobs) c.self.view_is) c.if-self.false (c.in_ok-job-2.ensures.is
     ∙ ap (λ u. tight_job c.self.inside.tick 1 u) c.unit.ensures.is)
-    (unit_given (unit_value c.self.inside.k) c.self.inside.chain.light c.self.inside.bait_tick c.self.inside.k
-    c.self.inside.links
-    c.self.inside.release
-    c.self.inside.work c.self.inside.tick c.self.invariant.work c.self.invariant.early none c.if-self-3.true) refl
+    (unit_given _ _ _ _ _ _ _ _ c.self.invariant.work c.self.invariant.early none c.if-self-3.true) refl
 
 pub returns-then-self-3-clause-none : goal.returns-then-self-3-clause-none
 returns-then-self-3-clause-none c = some_given _ _ _ (returns-then-self-3-clause-jobs c)
@@ -124,9 +116,7 @@ returns-clause-jobs c =
     c.self.inside.release
     c.self.inside.work c.self.inside.tick c.self.invariant.work c.self.invariant.early none
     (at_end c.self.inside.tick c.self.inside.release c.self.inside.bait_tick c.self.invariant.early
-    (release_within c.self.inside.k c.self.inside.links c.self.inside.release c.self.inside.work c.self.inside.bait_tick
-    c.self.invariant.work
-    c.self.invariant.left) c.if-self-3.false))
+    (release_within _ _ _ _ _ c.self.invariant.work c.self.invariant.left) c.if-self-3.false))
 
 pub returns-clause-none : goal.returns-clause-none
 returns-clause-none c = some_given _ _ _ (returns-clause-jobs c)

@@ -6,8 +6,7 @@ use Rattle.adversary.proofs.Naming.{number_fits, names_unit, names_bait, names_n
 use Rattle.adversary.proofs.feed.Bait.schedule_at.Goals as goal
 
 pub overflow_add-result : goal.overflow_add-result
-overflow_add-result c = number_fits c.self.inside c.self.invariant c.args.tick c.links_until.result c.if-tick-self.true
-    c.links_until.ensures
+overflow_add-result c = number_fits _ c.self.invariant _ _ c.if-tick-self.true c.links_until.ensures
 
 pub returns-then-tick-self : goal.returns-then-tick-self
 returns-then-tick-self c =

@@ -9,8 +9,7 @@ use Rattle.adversary.proofs.Giving.{kept_plan, tick_low, product_fits, plan_fits
 use Rattle.adversary.proofs.feed.Bait.schedule_value.Goals as goal
 
 pub overflow_mul-result : goal.overflow_mul-result
-overflow_mul-result c = product_fits c.unit.result c.self.inside.bait_tick c.unit.ensures.small
-    (tick_low c.self.inside c.self.invariant)
+overflow_mul-result c = product_fits _ _ c.unit.ensures.small (tick_low c.self.inside c.self.invariant)
 
 pub overflow_add-result : goal.overflow_add-result
 overflow_add-result c = plan_fits c.unit.result c.self.inside.bait_tick c.self.inside.chain.light c.unit.ensures.small
