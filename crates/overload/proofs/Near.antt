@@ -7,7 +7,7 @@ use Rattle.std.proofs.Common.{Bool, true, false, cond, arith}
 use Rattle.std.specs.Prelude.{◌&&◌, nat_le}
 use Rattle.std.specs.List.{filter, sum_by}
 use Rattle.std.proofs.lemmas.Bool.{lt-leb}
-use Rattle.std.proofs.lemmas.List.{append-nil, drop-drop, drop_more, drop_all, length-take, length-drop}
+use Rattle.std.proofs.lemmas.List.{append-nil, drop-drop, drop_more, length-take, length-drop}
 use Rattle.std.proofs.lemmas.List.Elements.{filter-append}
 use Rattle.dover_model.specs.JobFacts.{JobFacts, IsJob}
 use Rattle.dover_model.specs.Instance.{IsInOrder}
@@ -87,11 +87,6 @@ pub all_early : (tick n : ℕ) (jobs : List JobFacts) (j : JobFacts) → IsInOrd
     → j.release < tick → Each (λ i. i.release < tick) (take (n + 1) jobs)
 all_early tick n jobs j order short is early = subst (λ m. Each (λ (i : JobFacts). i.release < tick) (take m jobs))
     (let e : suc n ≡ n + 1 = omega arith in e) (all_before tick n jobs j order short is early)
-
--- where none is left, none is early
-pub none_left : (tick n : ℕ) (jobs : List JobFacts) → length jobs ≤ n → Each (λ i. tick ≤ i.release) (drop n jobs)
-none_left tick n jobs long = subst (Each (λ (i : JobFacts). tick ≤ i.release)) (sym (drop_all n jobs long))
-    (λ i member. absurd member)
 
 -- a job that is released too early isn't inside
 pub early_out : (a b : ℕ) (j : JobFacts) → j.release < a → is_inside a b j ≡ false

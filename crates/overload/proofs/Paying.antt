@@ -1,11 +1,8 @@
 -- What schedules pay, at a price for the ticks of each job.
-use Rattle.std.proofs.Common.{◌≡◌, ℕ, suc, ◌+◌, ◌-◌, ◌*◌, ◌/◌, ◌≤◌, ◌<◌, List, [], ◌∷◌, length, get_or, set, inl, inr}
-use Rattle.std.proofs.Common.{refl, sym, ap, ◌∙◌, subst, Bool, true, false, cond, eqb, arith}
+use Rattle.std.proofs.Common.{◌≡◌, ℕ, suc, ◌+◌, ◌-◌, ◌*◌, ◌≤◌, ◌<◌, List, [], ◌∷◌, length, get_or, inl, inr}
+use Rattle.std.proofs.Common.{ap, ◌∙◌, subst, Bool, true, false, cond, arith}
 use Rattle.std.specs.List.{sum_by, enumerate_from}
-use Rattle.std.proofs.lemmas.Bool.{eqb-true, eqb-false}
-use Rattle.std.proofs.lemmas.List.{get_or-set_same, get_or-set_other, get_or_default}
-use Rattle.std.proofs.lemmas.Nat.{mul-le, le-div}
-use Rattle.std.proofs.Math.Nat.{mul_comm}
+use Rattle.std.proofs.lemmas.Nat.{mul-le}
 use Rattle.dover_model.specs.JobFacts.{JobFacts}
 use Rattle.dover_model.specs.Instance.{Rules, total_value}
 use Rattle.dover_model.specs.Schedules.{is_served, worth, numbered}
@@ -71,31 +68,6 @@ module _ (jobs : List JobFacts) (a b more : ℕ) (old new : List ℕ) (raised : 
         pays s,
       )
 
--- one place more is raised
-module _ (jobs : List JobFacts) (a b more : ℕ) (start prices : List ℕ) (place v d : ℕ) (j : JobFacts)
-    (short : place < length prices) (is : j ≡ get_or jobs place j)
-    (up : v ≤ get_or prices place d + cond (is_inside a b j) more 0)
-    (later : (n : ℕ) → place ≤ n → get_or prices n 0 ≡ get_or start n 0) where
-  pub raised_more : IsRaised jobs a b more start prices → IsRaised jobs a b more start (set prices place v)
-  raised_more raised n i low same = by_place (eqb n place) refl where
-    by_place : (c : Bool) → eqb n place ≡ c
-        → get_or (set prices place v) n 0 ≤ get_or start n 0 + cond (is_inside a b i) more 0
-    by_place false apart = subst (λ p. p ≤ get_or start n 0 + cond (is_inside a b i) more 0)
-        (sym (get_or-set_other prices place n v 0 (eqb-false n place apart))) (raised n i low same)
-    by_place true at =
-        let here : n ≡ place = eqb-true n place at in
-        let job : i ≡ j = same ∙ get_or_default jobs n i j low ∙ ap (λ m. get_or jobs m j) here ∙ sym is in
-        let price : get_or prices place d ≡ get_or start n 0 = get_or_default prices place d 0 short
-        ∙ later place (omega arith) ∙ ap (λ m. get_or start m 0) (sym here) in
-        let new : get_or (set prices place v) n 0 ≡ v = ap (λ m. get_or (set prices place v) m 0) here
-        ∙ get_or-set_same prices place v 0 short in
-        subst (λ x. get_or (set prices place v) n 0 ≤ get_or start n 0 + cond (is_inside a b x) more 0) (sym job)
-        (omega (arith, new, up, price))
-
-  pub later_more : (n : ℕ) → place + 1 ≤ n → get_or (set prices place v) n 0 ≡ get_or start n 0
-  later_more n above = get_or-set_other prices place n v 0 (λ same. omega (arith, above, same))
-      ∙ later n (omega (arith, above))
-
 -- what a job is worth beyond the price of its work, at so many units of price for one of value
 abbrev pub beyond_by : ℕ → List ℕ → Job → ℕ
 beyond_by w prices (n, j) = w * j.value - get_or prices n 0 * j.work
@@ -129,15 +101,6 @@ none_paid jobs prices none s = omega (
       (λ n_j member. ap (λ p. p * cond (is_served s n_j) n_j.1.work 0) (none n_j.0)
       ∙ let z : 0 * cond (is_served s n_j) n_j.1.work 0 ≡ 0 = omega arith in z),
 )
-
--- in units of value it is a cap
-pub most_caps : (jobs : List JobFacts) (most d : ℕ) → d ≡ 1_000_000_000_000_000
-    → ((rules : Rules) (s : List ℕ) → 1_000_000_000_000_000 * worth (record { rules = rules; jobs = jobs }) s ≤ most)
-    → Caps jobs (most / d)
-most_caps jobs most d same above rules s =
-    subst (λ k. worth (record { rules = rules; jobs = jobs }) s ≤ most / k) (sym same)
-    (le-div (worth (record { rules = rules; jobs = jobs }) s) most 1_000_000_000_000_000 (omega arith)
-    (omega (arith, above rules s, mul_comm (worth (record { rules = rules; jobs = jobs }) s) 1_000_000_000_000_000)))
 
 -- any schedule is worth at most the value of all jobs
 pub total_caps : (jobs : List JobFacts) → Caps jobs (total_value jobs)

@@ -13,7 +13,6 @@ returns c =
       in_order = has.in_order;
       each = has.each;
       sum = has.sum;
-      most = subst (Caps jobs) (sym has.sum) (caps_all jobs it.costed.stretches.items (λ x member.
-          (has.each x member).cap));
+      most = subst (Caps jobs) (sym has.sum) (caps_all _ _ (λ x member. (has.each x member).cap));
       none = (c.in_ok-find.ensures.met, none_met jobs it.costed.stretches.items has.each);
     }

@@ -9,32 +9,27 @@ use Rattle.overload.proofs.costing.stretch.Goals as goal
 
 pub total_value-total-requires : goal.total_value-total-requires
 total_value-total-requires c = subst (λ js. length js ≤ most_jobs Two) (sym
-    (found_inside c.args.jobs.now c.args.ticks.from c.args.ticks.until c.requires.each c.near.result.now
-    c.in_ok-inside.inside.items c.deref.result.now c.deref.ensures.value c.in_ok-inside.ensures c.near.ensures))
+    (found_inside _ _ _ c.requires.each _ _ _ c.deref.ensures.value c.in_ok-inside.ensures c.near.ensures))
     (omega (arith, filter_few (is_inside c.args.ticks.from c.args.ticks.until) c.args.jobs.now, c.requires.count))
 
 pub cap-requires-clause-in_order : goal.cap-requires-clause-in_order
-cap-requires-clause-in_order c = subst IsInOrder (sym (found_inside c.args.jobs.now c.args.ticks.from
-    c.args.ticks.until c.requires.each c.near.result.now
-    c.in_ok-inside.inside.items c.deref-2.result.now c.deref-2.ensures.value c.in_ok-inside.ensures c.near.ensures))
+cap-requires-clause-in_order c = subst IsInOrder (sym (found_inside _ _ _ c.requires.each _ _ _ c.deref-2.ensures.value
+    c.in_ok-inside.ensures c.near.ensures))
     (filter_in_order (is_inside c.args.ticks.from c.args.ticks.until) c.args.jobs.now c.requires.in_order)
 
 pub cap-requires-clause-count : goal.cap-requires-clause-count
 cap-requires-clause-count c = subst (λ js. length js ≤ most_jobs Two) (sym
-    (found_inside c.args.jobs.now c.args.ticks.from c.args.ticks.until c.requires.each c.near.result.now
-    c.in_ok-inside.inside.items c.deref-2.result.now c.deref-2.ensures.value c.in_ok-inside.ensures c.near.ensures))
+    (found_inside _ _ _ c.requires.each _ _ _ c.deref-2.ensures.value c.in_ok-inside.ensures c.near.ensures))
     (omega (arith, filter_few (is_inside c.args.ticks.from c.args.ticks.until) c.args.jobs.now, c.requires.count))
 
 pub returns-clause-stretch : goal.returns-clause-stretch
 returns-clause-stretch c = record {
   some = c.requires.some;
   overfull = c.requires.overfull;
-  total = c.total_value-total.ensures.is ∙ ap total_value (found_inside c.args.jobs.now c.args.ticks.from
-      c.args.ticks.until c.requires.each c.near.result.now
-      c.in_ok-inside.inside.items c.deref.result.now c.deref.ensures.value c.in_ok-inside.ensures c.near.ensures);
-  cap = subst (λ js. Caps js c.in_ok-cap.cap) (found_inside c.args.jobs.now c.args.ticks.from c.args.ticks.until
-      c.requires.each c.near.result.now
-      c.in_ok-inside.inside.items c.deref-2.result.now c.deref-2.ensures.value c.in_ok-inside.ensures c.near.ensures)
+  total = c.total_value-total.ensures.is ∙ ap total_value (found_inside _ _ _ c.requires.each _ _ _
+      c.deref.ensures.value c.in_ok-inside.ensures c.near.ensures);
+  cap = subst (λ js. Caps js c.in_ok-cap.cap) (found_inside _ _ _ c.requires.each _ _ _ c.deref-2.ensures.value
+      c.in_ok-inside.ensures c.near.ensures)
       c.in_ok-cap.ensures.cap;
   less = c.in_ok-cap.ensures.less;
 }

@@ -5,9 +5,7 @@ use Rattle.overload.proofs.costing.value_inside.Goals as goal
 pub loop-place-init : goal.loop-place-init
 loop-place-init c = record {
   few = c.released-place.ensures.few;
-  value = sym (none_before c.args.jobs.now (λ n. get_or c.args.done.now n false) c.args.from c.args.until
-      c.released-place.result
-      c.released-place.ensures);
+  value = sym (none_before _ (λ n. get_or c.args.done.now n false) _ c.args.until _ c.released-place.ensures);
   most = omega arith;
 }
 
@@ -25,7 +23,5 @@ loop-place-preserved c = record {
 }
 
 pub returns : goal.returns
-returns c = c.loop-place.invariant.value ∙ all_added c.args.jobs.now
-    (λ n. get_or c.args.done.now n false) c.args.from c.args.until
-    c.released-second.result c.loop-place.place c.requires.each c.released-second.ensures
-    (omega (arith, c.loop-place-test.false))
+returns c = c.loop-place.invariant.value ∙ all_added _ (λ n. get_or c.args.done.now n false) _ _ _ _ c.requires.each
+    c.released-second.ensures (omega (arith, c.loop-place-test.false))

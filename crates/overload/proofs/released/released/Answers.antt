@@ -1,4 +1,4 @@
-use Rattle.std.proofs.Common.{◌≡◌, ◌≤◌, ◌+◌, ◌-◌, ◌/◌, drop, subst, arith}
+use Rattle.std.proofs.Common.{◌≡◌, ◌≤◌, ◌-◌, drop, subst, arith}
 use Rattle.dover_model.specs.Sound.{Each}
 use Rattle.overload.proofs.Near.{all_early, all_late, halved}
 use Rattle.overload.proofs.released.released.Goals as goal
@@ -8,8 +8,7 @@ loop-low-preserved-then-release-tick c =
     let low = halved c.loop-low.low c.loop-low.high c.loop-low-test.true in record {
       rise = omega (arith, low);
       few = c.loop-low.invariant.few;
-      before = all_early c.args.tick (c.loop-low.low + (c.loop-low.high - c.loop-low.low) / 2) c.args.jobs.now
-          c.index-jobs-middle.result c.requires (omega (arith, low, c.loop-low.invariant.few)) c.index-jobs-middle.is
+      before = all_early _ _ _ _ c.requires (omega (arith, low, c.loop-low.invariant.few)) c.index-jobs-middle.is
           (omega (arith, c.release.ensures.is, c.if-release-tick.true));
       behind = c.loop-low.invariant.behind;
     }
@@ -20,8 +19,7 @@ loop-low-preserved c =
       rise = omega arith;
       few = omega (arith, low, c.loop-low.invariant.few);
       before = c.loop-low.invariant.before;
-      behind = all_late c.args.tick (c.loop-low.low + (c.loop-low.high - c.loop-low.low) / 2) c.args.jobs.now
-          c.index-jobs-middle.result c.requires (omega (arith, low, c.loop-low.invariant.few)) c.index-jobs-middle.is
+      behind = all_late _ _ _ _ c.requires (omega (arith, low, c.loop-low.invariant.few)) c.index-jobs-middle.is
           (omega (arith, c.release.ensures.is, c.if-release-tick.false));
     }
 

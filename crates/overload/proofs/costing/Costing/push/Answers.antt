@@ -8,10 +8,8 @@ use Rattle.overload.proofs.Outside.{order_behind, less_left, sum_less, ended_lat
 use Rattle.overload.proofs.costing.Costing.push.Goals as goal
 
 pub overflow_sub-self-2 : goal.overflow_sub-self-2
-overflow_sub-self-2 c = less_left c.args.jobs.now c.args.self.now.costed.stretches.items c.in_ok-x.x c.args.self.now.at
-    c.requires.each c.requires.costed.ended (omega (arith, c.in_ok-x.ensures.from, c.requires.later))
-    c.args.self.now.costed.cap c.in_ok-x.ensures.stretch
-    c.requires.costed.sum
+overflow_sub-self-2 c = less_left _ _ _ _ c.requires.each c.requires.costed.ended
+    (omega (arith, c.in_ok-x.ensures.from, c.requires.later)) _ c.in_ok-x.ensures.stretch c.requires.costed.sum
 
 pub returns-clause-costed : goal.returns-clause-costed
 returns-clause-costed c =
@@ -25,9 +23,8 @@ returns-clause-costed c =
           (arith, c.in_ok-x.ensures.from, c.requires.later)));
       begun = λ none. never_empty xs y (sym same ∙ none);
       ended = subst (λ t. Each (λ (x : Stretch). x.until ≤ t) c.push.new.self.items) c.in_ok-x.ensures.until
-          (subst (Each (λ (x : Stretch). x.until ≤ y.until)) (sym same) (ended_later c.args.jobs.now xs y
-          c.args.self.now.at c.requires.each c.requires.costed.ended (omega
-          (arith, c.in_ok-x.ensures.from, c.requires.later)) it.some));
+          (subst (Each (λ (x : Stretch). x.until ≤ y.until)) (sym same) (ended_later _ _ _ _ c.requires.each
+          c.requires.costed.ended (omega (arith, c.in_ok-x.ensures.from, c.requires.later)) it.some));
       each = subst (Each (IsStretch c.args.jobs.now)) (sym same)
           (each_behind (IsStretch c.args.jobs.now) xs y c.requires.costed.each it);
       sum = sum_less c.args.jobs.now xs y c.args.self.now.at c.requires.each c.requires.costed.ended (omega
