@@ -39,6 +39,7 @@ use Rattle.dover_model.proofs.Ticking.{Quiet}
 use Rattle.dover_model.specs.Books.{Job}
 use Rattle.question_words.specs.Loss.{completes, is_completed}
 use Rattle.question_words.specs.Replaying.{with_work, job_seen, jobs_seen}
+use Rattle.dover_model.proofs.Booked.{displaced_done}
 
 -- ---- which jobs are done
 
@@ -55,16 +56,6 @@ IsTold done s = Each (λ t. is_done t ≡ done t.number) s.tasks
 -- those, and the one that a move completes
 abbrev with_move : (ℕ → Bool) → Move → ℕ → Bool
 with_move done m n = done n || finishes n m
-
--- a displaced job is done where it was
-displaced_done : (t : Task) (role : Role) → is_done (with_role t (displaced role)) ≡ is_done (with_role t role)
-displaced_done t Coming = refl
-displaced_done t Fresh = refl
-displaced_done t Waiting = refl
-displaced_done t Held = refl
-displaced_done t Running = refl
-displaced_done t Done = refl
-displaced_done t Gone = refl
 
 module _ (done : ℕ → Bool) (k : Fraction) (s : State) (are_numbered : IsNumberedFrom 0 s.tasks)
     (told : IsTold done s) where
