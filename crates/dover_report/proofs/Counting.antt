@@ -1,5 +1,5 @@
 -- Counts among the printed steps of a run are those of its report.
-use Rattle.std.proofs.Common.{◌≡◌, ℕ, ◌+◌, ◌*◌, ◌≤◌, ◌<◌, List, [], ◌∷◌, ◌++◌, length, map, take, get_or, refl}
+use Rattle.std.proofs.Common.{◌≡◌, ℕ, ◌+◌, ◌*◌, ◌^◌, ◌≤◌, ◌<◌, List, [], ◌∷◌, ◌++◌, length, map, take, get_or, refl}
 use Rattle.std.proofs.Common.{sym, ap, ◌∙◌}
 use Rattle.std.proofs.Common.{cond, arith}
 use Rattle.std.proofs.lemmas.List.{length-take, length-take-le}
@@ -36,13 +36,14 @@ use Rattle.dover_model.proofs.RunSessions.{run_jobs}
 use Rattle.intervals.specs.Rows.{IsRunOf, numbers_of, rows_of}
 use Rattle.intervals.specs.declared.interval.Interval.{Interval}
 use Rattle.dover_report.specs.Counts.{job_released, jobs_released, is_release, is_completion, is_abandonment}
-use Rattle.dover_report.specs.Counts.{value_in, value_lost, all_lost}
+use Rattle.dover_report.specs.Counts.{value_in, value_lost, value_released, all_lost}
 use Rattle.dover_report.specs.Counts.{counts_of, fates_lines, bound_line, counts_lines}
-use Rattle.dover_report.specs.Early.{left_in, left_at, early_of, with_left, HasRoom, early_line, early_lines}
+use Rattle.dover_report.specs.Early.{left_in, left_at, early_of, with_left, HasRoom, early_line, lines_where, early_lines}
 use Rattle.dover_report.specs.declared.early.Early.{Early}
 use Rattle.dover_report.proofs.Texts.{five_parts}
-use Rattle.dover_report.specs.Fates.{fates_of, with_fate, HasSpace}
-use Rattle.dover_report.specs.declared.counts.Fates.{Fates}
+use Rattle.dover_report.specs.Tallies.{tally_of, with_tally, HasSpace}
+use Rattle.dover_report.specs.declared.counts.Tally.{Tally}
+use Rattle.dover_report.specs.declared.counts.Counts.{Counts}
 use Rattle.dover_report.specs.Lines.{row_line, row_lines}
 
 -- ---- the jobs
@@ -172,31 +173,69 @@ losses jobs (Abandon at n ∷ run) = omega (
 )
 losses jobs (End value ∷ run) = omega (arith, sum_by-cons (value_lost jobs) (End value) run, losses jobs run)
 
--- what one step more makes of the jobs
-pub fates_more : (jobs : List JobFacts) (run : List Event) (i : ℕ) (e : Event) → e ≡ get_or run i e → i < length run
-    → with_fate jobs (fates_of jobs (take i run)) e ≡ fates_of jobs (take (i + 1) run)
-fates_more jobs run i e is there = sym (same_fates (more (λ x. cond (is_completion x) 1 0))
-    (more (λ x. cond (is_abandonment x) 1 0)) (more (value_lost jobs)) (more (λ x. cond (is_take x) 1 0))) where
-      whole : (b c d f : ℕ) → Fates
-      whole b c d f = record { jobs = length jobs; completed = b; abandoned = c; lost = d; taken = f }
+-- a sum with one step more
+pub sum_more : (f : Event → ℕ) (run : List Event) (i : ℕ) (e : Event) → e ≡ get_or run i e → i < length run
+    → sum_by f (take i run) + f e ≡ sum_by f (take (i + 1) run)
+sum_more f run i e is there = sym (sum_by_more f run i e there ∙ ap (λ x. sum_by f (take i run) + f x) (sym is))
 
-      same_fates : {b c d f b2 c2 d2 f2 : ℕ} → b ≡ b2 → c ≡ c2 → d ≡ d2 → f ≡ f2 → whole b c d f ≡ whole b2 c2 d2 f2
-      same_fates e1 e2 e3 e4 = cc
+-- what the steps tell with one more
+pub tally_more : (run : List Event) (i : ℕ) (e : Event) → e ≡ get_or run i e → i < length run
+    → with_tally (tally_of (take i run)) e ≡ tally_of (take (i + 1) run)
+tally_more run i e is there = same_tally (more (λ x. cond (is_release x) 1 0)) (more value_released)
+    (more (λ x. cond (is_completion x) 1 0)) (more (λ x. cond (is_abandonment x) 1 0))
+    (more (λ x. cond (is_take x) 1 0)) where
+      whole : (a b c d f : ℕ) → Tally
+      whole a b c d f = record { jobs = a; worth = b; completed = c; abandoned = d; taken = f }
 
-      more : (f : Event → ℕ) → sum_by f (take (i + 1) run) ≡ sum_by f (take i run) + f e
-      more f = sum_by_more f run i e there ∙ ap (λ x. sum_by f (take i run) + f x) (sym is)
+      same_tally : {a b c d f a2 b2 c2 d2 f2 : ℕ} → a ≡ a2 → b ≡ b2 → c ≡ c2 → d ≡ d2 → f ≡ f2
+          → whole a b c d f ≡ whole a2 b2 c2 d2 f2
+      same_tally e1 e2 e3 e4 e5 = cc
+
+      more : (f : Event → ℕ) → sum_by f (take i run) + f e ≡ sum_by f (take (i + 1) run)
+      more f = sum_more f run i e is there
 
 -- there is room for one step more
-pub fates_fit : (jobs : List JobFacts) (run : List Event) (i : ℕ) (f : Fates) → f ≡ fates_of jobs (take i run)
-    → f.lost ≤ 1_000_000_000 * i → i < length run → length run ≤ 5_000_001 → HasSpace f
-fates_fit jobs run i f is low there few = record {
-  completed = omega (arith, ap (λ (g : Fates). g.completed) is, front, count_by-le-length is_completion (take i run));
-  abandoned = omega (arith, ap (λ (g : Fates). g.abandoned) is, front, count_by-le-length is_abandonment (take i run));
-  lost = omega arith;
-  taken = omega (arith, ap (λ (g : Fates). g.taken) is, front, count_by-le-length is_take (take i run));
+pub tally_fits : (run : List Event) (i : ℕ) (t : Tally) → t ≡ tally_of (take i run) → t.worth ≤ 1_000_000_000 * i
+    → i < length run → length run < 2 ^ 64 → HasSpace t
+tally_fits run i t is low there few = record {
+  jobs = omega (arith, ap (λ (g : Tally). g.jobs) is, front, count_by-le-length is_release (take i run));
+  worth = omega (arith, low, there, few);
+  completed = omega (arith, ap (λ (g : Tally). g.completed) is, front, count_by-le-length is_completion (take i run));
+  abandoned = omega (arith, ap (λ (g : Tally). g.abandoned) is, front, count_by-le-length is_abandonment (take i run));
+  taken = omega (arith, ap (λ (g : Tally). g.taken) is, front, count_by-le-length is_take (take i run));
 } where
-  front : length (take i run) ≤ 5_000_001
-  front = omega (arith, length-take-le i run (omega arith))
+  front : length (take i run) + 1 < 2 ^ 64
+  front = omega (arith, length-take i run, there, few)
+
+-- what they tell, put together
+pub counts_are : (k : Fraction) (run : List Event) (tally : Tally) (jobs : List JobFacts) (count value lost most : ℕ)
+    → tally ≡ tally_of run → count ≡ length jobs → lost ≡ all_lost jobs run → most ≡ bound k value
+    → record {
+      jobs = count;
+      completed = tally.completed;
+      value = value;
+      abandoned = tally.abandoned;
+      lost = lost;
+      taken = tally.taken;
+      bound = most;
+    } ≡ counts_of k run jobs value
+counts_are k run tally jobs count value lost most is counted all bounds =
+    same_counts counted (ap (λ (t : Tally). t.completed) is) (ap (λ (t : Tally). t.abandoned) is) all
+    (ap (λ (t : Tally). t.taken) is) bounds where
+      whole : (a b c d f g : ℕ) → Counts
+      whole a b c d f g = record {
+        jobs = a;
+        completed = b;
+        value = value;
+        abandoned = c;
+        lost = d;
+        taken = f;
+        bound = g;
+      }
+
+      same_counts : {a b c d f g a2 b2 c2 d2 f2 g2 : ℕ} → a ≡ a2 → b ≡ b2 → c ≡ c2 → d ≡ d2 → f ≡ f2 → g ≡ g2
+          → whole a b c d f g ≡ whole a2 b2 c2 d2 f2 g2
+      same_counts e1 e2 e3 e4 e5 e6 = cc
 
 -- the steps of which each releases a job are as many as the jobs
 pub releases_count : (run : List Event) → count_by is_release run ≡ length (jobs_released run)
@@ -268,15 +307,15 @@ pub early_more : (jobs : List JobFacts) (hads : List ℕ) (run : List Event) (i 
     → i < length run
     → with_left (early_of jobs hads (take i run)) (left_at jobs hads e) ≡ early_of jobs hads (take (i + 1) run)
 early_more jobs hads run i e is there =
-    sym (same_early (more (λ x. cond (nat_lt 0 (left_at jobs hads x)) 1 0)) (more (left_at jobs hads))) where
+    same_early (more (λ x. cond (nat_lt 0 (left_at jobs hads x)) 1 0)) (more (left_at jobs hads)) where
       whole : (a b : ℕ) → Early
       whole a b = record { jobs = a; left = b }
 
       same_early : {a b c d : ℕ} → a ≡ c → b ≡ d → whole a b ≡ whole c d
       same_early e1 e2 = cc
 
-      more : (f : Event → ℕ) → sum_by f (take (i + 1) run) ≡ sum_by f (take i run) + f e
-      more f = sum_by_more f run i e there ∙ ap (λ x. sum_by f (take i run) + f x) (sym is)
+      more : (f : Event → ℕ) → sum_by f (take i run) + f e ≡ sum_by f (take (i + 1) run)
+      more f = sum_more f run i e is there
 
 -- there is room for one step more
 pub early_fits : (jobs : List JobFacts) (hads : List ℕ) (run : List Event) (i : ℕ) (early : Early)
@@ -293,6 +332,12 @@ early_fits jobs hads run i early is low there few = record {
 }
 
 -- ---- lines
+
+-- the line of those that completed early, where there is one
+pub same_where : (early : Bool) (it other : Early) → (early ≡ true → it ≡ other)
+    → lines_where early it ≡ lines_where early other
+same_where true it other same = ap (λ (e : Early). early_line e ∷ []) (same refl)
+same_where false it other same = refl
 
 -- equal numbers have equal lines
 same_lines : (more : List (List ℕ)) (n m x y a b g h v w t u c d : ℕ) → n ≡ m → x ≡ y → a ≡ b → g ≡ h → v ≡ w → t ≡ u

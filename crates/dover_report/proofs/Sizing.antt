@@ -1,16 +1,19 @@
 -- How many jobs a run has, and what they are worth together, counted step by step.
-use Rattle.std.proofs.Common.{◌≡◌, ℕ, ◌+◌, ◌≤◌, ◌<◌, List, [], ◌∷◌, length, take, get_or, refl, sym, ap, ◌∙◌, arith}
-use Rattle.std.specs.List.{sum_by, count_by, cons_option}
-use Rattle.std.proofs.lemmas.List.Sums.{sum_by-cons, sum_by_more}
+use Rattle.std.proofs.Common.{◌≡◌, ◌+◌, ◌≤◌, List, [], ◌∷◌, length, refl, sym, ap, ◌∙◌, arith}
+use Rattle.std.specs.List.{sum_by, cons_option}
+use Rattle.std.proofs.lemmas.List.Sums.{sum_by-cons}
 use Rattle.dover_model.specs.declared.events.Event.{Event}
 use Rattle.dover_model.specs.declared.events.Event.TheVariants.{Release, Run, Preempt, Take, Complete, Abandon, End}
 use Rattle.dover_model.specs.declared.events.Version.TheVariants.{Two}
 use Rattle.dover_model.specs.Instance.{Instance, IsListable, IsValid, total_value}
 use Rattle.dover_model.specs.Limits.{most_jobs, most_total}
 use Rattle.dover_model.specs.JobFacts.{JobFacts}
-use Rattle.dover_model.specs.Run.{printed}
-use Rattle.dover_report.specs.Counts.{is_release, job_released, jobs_released, value_released}
+use Rattle.dover_model.specs.Run.{printed, completed_value}
+use Rattle.dover_report.specs.Counts.{job_released, jobs_released, value_released, all_lost}
+use Rattle.dover_report.specs.Tallies.{tally_of}
+use Rattle.dover_report.specs.declared.counts.Tally.{Tally}
 use Rattle.dover_report.proofs.Counting.{releases_count, run_releases}
+use Rattle.dover_report.proofs.Losses.{lost_rest}
 
 -- the values of the steps are those of the jobs
 pub released_total : (run : List Event) → sum_by value_released run ≡ total_value (jobs_released run)
@@ -27,23 +30,23 @@ released_total (e ∷ run) = sum_by-cons value_released e run
       by_step (Abandon at n) jobs = omega arith
       by_step (End value) jobs = omega arith
 
--- with one step more
-pub total_more : (run : List Event) (i : ℕ) (e : Event) → e ≡ get_or run i e → i < length run
-    → sum_by value_released (take i run) + value_released e ≡ sum_by value_released (take (i + 1) run)
-total_more run i e is there = sym (sum_by_more value_released run i e there
-    ∙ ap (λ x. sum_by value_released (take i run) + value_released x) (sym is))
-
 -- these are the sizes of the run's jobs
-module _ (J : Instance) (valid : IsValid J) (run : List Event) (prints : printed J ≡ run) (count total : ℕ)
-    (counted : count ≡ count_by is_release run) (summed : total ≡ total_value (jobs_released run)) where
-  pub listable_by : (count ≤ most_jobs Two) × (total ≤ most_total Two) → IsListable J
-  listable_by fits = record {
-    count = omega (arith, fits.0, counted, releases_count run, ap length (run_releases J valid run prints));
-    total = omega (arith, fits.1, summed, ap total_value (run_releases J valid run prints));
-  }
+module _ (J : Instance) (valid : IsValid J) (run : List Event) (prints : printed J ≡ run) (tally : Tally)
+    (is : tally ≡ tally_of run) where
+  counted : tally.jobs ≡ length J.jobs
+  counted = ap (λ (t : Tally). t.jobs) is ∙ releases_count run ∙ ap length (run_releases J valid run prints)
 
-  pub sizes_fit : IsListable J → (count ≤ most_jobs Two) × (total ≤ most_total Two)
-  sizes_fit listable = (
-    omega (arith, listable.count, counted, releases_count run, ap length (run_releases J valid run prints)),
-    omega (arith, listable.total, summed, ap total_value (run_releases J valid run prints)),
-  )
+  summed : tally.worth ≡ total_value J.jobs
+  summed = ap (λ (t : Tally). t.worth) is ∙ released_total run ∙ ap total_value (run_releases J valid run prints)
+
+  pub listable_by : (tally.jobs ≤ most_jobs Two) × (tally.worth ≤ most_total Two) → IsListable J
+  listable_by fits = record { count = omega (arith, fits.0, counted); total = omega (arith, fits.1, summed) }
+
+  pub sizes_fit : IsListable J → (tally.jobs ≤ most_jobs Two) × (tally.worth ≤ most_total Two)
+  sizes_fit listable = (omega (arith, listable.count, counted), omega (arith, listable.total, summed))
+
+  -- what they are worth is completed or lost
+  pub worth_is : tally.worth ≡ completed_value J + all_lost (jobs_released run) run
+  worth_is = summed ∙ sym (lost_rest J valid)
+      ∙ ap (λ es. completed_value J + all_lost J.jobs es) prints
+      ∙ ap (λ js. completed_value J + all_lost js run) (sym (run_releases J valid run prints))

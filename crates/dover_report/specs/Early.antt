@@ -39,9 +39,13 @@ pub record HasRoom (early : Early) : Type 0 where
 abbrev pub early_line : Early → List ℕ
 early_line early = with_numbers (codes "early") (early.jobs ∷ early.left ∷ [])
 
--- the line where jobs may finish early
+-- where jobs may finish early
+abbrev pub lines_where : Bool → Early → List (List ℕ)
+lines_where early it = if early then early_line it ∷ [] else []
+
+-- the line of those that these steps complete, where jobs may finish early
 abbrev pub early_lines : Bool → List JobFacts → List ℕ → List Event → List (List ℕ)
-early_lines early jobs hads run = if early then early_line (early_of jobs hads run) ∷ [] else []
+early_lines early jobs hads run = lines_where early (early_of jobs hads run)
 
 -- what the job of number n had, where jobs may finish early
 abbrev pub had_at : Bool → List ℕ → ℕ → Option ℕ

@@ -1,5 +1,5 @@
 pub mod Counts
 pub mod Early
-pub mod Fates
+pub mod Tallies
 pub mod Lines
 pub mod Rows

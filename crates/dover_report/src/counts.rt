@@ -1,11 +1,13 @@
 //! What a report counts among the printed steps of a run.
-ghost use Rattle.std.specs.Prelude.{◌≡◌, ◌≤◌, ◌+◌, ◌++◌, List, length, count_by, OnOk, IfOk, option_to_list};
-ghost use Rattle.dover_model.specs.declared.events.Event.{Event};
+ghost use Rattle.std.specs.Prelude.{◌≡◌, ◌≤◌, ◌+◌, ◌++◌, length, count_by, OnOk, IfOk, option_to_list};
 ghost use Rattle.dover_model.specs.declared.events.Version.TheVariants.{Two};
-ghost use Rattle.dover_model.specs.JobFacts.{JobFacts};
+ghost use Rattle.dover_model.specs.Instance.{Instance};
 ghost use Rattle.dover_model.specs.Limits.{most_total, most_value};
+ghost use Rattle.dover_model.specs.Run.{completed_value};
+ghost use Rattle.intervals.specs.Rows.{IsRunOf};
 ghost use Rattle.dover_report.specs.Counts.{job_released, jobs_released, is_release, value_in, counts_of};
-ghost use Rattle.dover_report.specs.Fates.{fates_of, with_fate, HasSpace};
+ghost use Rattle.dover_report.specs.Counts as counts;
+ghost use Rattle.dover_report.specs.Tallies.{tally_of, with_tally, HasSpace};
 
 use dover_model::{Event, Job, Memory, Ratio};
 use root_compare::bound;
@@ -30,67 +32,50 @@ pub struct Counts {
     pub bound: u64,
 }
 
-/// What became of the jobs of a run: how many there are, are done and are gone, what those are worth that are gone, and
-/// how many took the processor.
+/// What a pass over the steps of a run tells of its jobs: how many are released and what those are worth, how many are
+/// done and are gone, and how many took the processor.
 #[derive(Clone, Copy)]
-pub(crate) struct Fates {
-    jobs: u64,
+pub(crate) struct Tally {
+    pub(crate) jobs: u64,
+    pub(crate) worth: u128,
     completed: u64,
     abandoned: u64,
-    lost: u64,
     taken: u64,
 }
 
-impl Fates {
-    /// What these steps make of these jobs, in one pass over them.
-    pub(crate) fn of(jobs: &[Job], run: &[Event]) -> Fates
-        requires { length run.now ≤ 5_000_001 }
-        ensures { result ≡ fates_of jobs.now run.now }
+impl Tally {
+    /// What these steps tell.
+    pub(crate) fn of(run: &[Event]) -> Tally
+        ensures { result ≡ tally_of run.now }
     {
-        let mut fates = Fates {
-            jobs: jobs.len() as u64,
+        let mut tally = Tally {
+            jobs: 0,
+            worth: 0,
             completed: 0,
             abandoned: 0,
-            lost: 0,
             taken: 0,
         };
         for event in run {
-            fates.add(jobs, event);
+            tally.add(event);
         }
-        fates
+        tally
     }
 
     /// Counts one more step.
-    fn add(&mut self, jobs: &[Job], event: &Event)
+    fn add(&mut self, event: &Event)
         requires { HasSpace self.old }
-        ensures is { self.new ≡ with_fate jobs.now self.old event.now }
-        ensures modest { self.new.lost ≤ self.old.lost + most_value }
+        ensures is { self.new ≡ with_tally self.old event.now }
+        ensures modest { self.new.worth ≤ self.old.worth + most_value }
     {
         match event {
-            Event::Complete { .. } => self.completed += 1,
-            Event::Abandon { number, .. } => {
-                self.abandoned += 1;
-                self.lost += value_of(jobs, *number);
+            Event::Release { job, .. } => {
+                self.jobs += 1;
+                self.worth += u128::from(job.value());
             }
+            Event::Complete { .. } => self.completed += 1,
+            Event::Abandon { .. } => self.abandoned += 1,
             Event::Take { .. } => self.taken += 1,
             _ => {}
-        }
-    }
-
-    /// The counts of the run, which completes this value.
-    pub(crate) fn counts(&self, k: Ratio, value: u64) -> Counts
-        requires { value ≤ most_total Two }
-        ensures { (jobs : List JobFacts) (run : List Event) → self.now ≡ fates_of jobs run
-            → result ≡ counts_of k run jobs value }
-    {
-        Counts {
-            jobs: self.jobs,
-            completed: self.completed,
-            value,
-            abandoned: self.abandoned,
-            lost: self.lost,
-            taken: self.taken,
-            bound: bound(value, k),
         }
     }
 }
@@ -101,16 +86,56 @@ pub fn count(k: Ratio, run: &[Event], jobs: &[Job], value: u64) -> Counts
     requires total { value ≤ most_total Two }
     ensures { result ≡ counts_of k run.now jobs.now value }
 {
-    Fates::of(jobs, run).counts(k, value)
+    let tally = Tally::of(run);
+    Counts {
+        jobs: jobs.len() as u64,
+        completed: tally.completed,
+        value,
+        abandoned: tally.abandoned,
+        lost: all_lost(jobs, run),
+        taken: tally.taken,
+        bound: bound(value, k),
+    }
 }
 
-/// What becomes of the jobs that these steps release.
-pub(crate) fn fates_in(alloc: Global, run: &[Event]) -> Result<Fates, Memory>
+/// The value of the jobs that these steps abandon.
+fn all_lost(jobs: &[Job], run: &[Event]) -> u64
     requires { length run.now ≤ 5_000_001 }
-    ensures { IfOk result (λ fates. fates ≡ fates_of (jobs_released run.now) run.now) }
+    ensures { result ≡ counts.all_lost jobs.now run.now }
 {
-    let jobs = released(alloc, run)?;
-    Ok(Fates::of(&jobs, run))
+    let mut lost = 0;
+    for event in run {
+        lost += value_lost(jobs, event);
+    }
+    lost
+}
+
+/// The value of the job that the step abandons, 0 for another step.
+fn value_lost(jobs: &[Job], event: &Event) -> u64
+    ensures is { result ≡ counts.value_lost jobs.now event.now }
+    ensures modest { result ≤ most_value }
+{
+    match event {
+        Event::Abandon { number, .. } => value_of(jobs, *number),
+        _ => 0,
+    }
+}
+
+/// The counts of a run of these steps, which completes this value, in one pass over them. What isn't completed is lost.
+pub(crate) fn run_counts(k: Ratio, run: &[Event], value: u64) -> Counts
+    requires { (J : Instance) × IsRunOf k run.now J × (value ≡ completed_value J) }
+    ensures { result ≡ counts_of k run.now (jobs_released run.now) value }
+{
+    let tally = Tally::of(run);
+    Counts {
+        jobs: tally.jobs,
+        completed: tally.completed,
+        value,
+        abandoned: tally.abandoned,
+        lost: (tally.worth - u128::from(value)) as u64,
+        taken: tally.taken,
+        bound: bound(value, k),
+    }
 }
 
 /// The jobs that these steps release, by number.

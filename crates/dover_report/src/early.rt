@@ -6,6 +6,7 @@ ghost use Rattle.dover_model.specs.Limits.{last_tick};
 ghost use Rattle.dover_model.specs.Lines.{in_lines};
 ghost use Rattle.dover_model.specs.Observed as observed;
 ghost use Rattle.intervals.specs.Rows.{IsRunOf};
+ghost use Rattle.dover_report.specs.Counts.{jobs_released};
 ghost use Rattle.dover_report.specs.Early.{early_of, left_in, left_at, with_left, HasRoom};
 ghost use Rattle.dover_report.specs.Early as lines;
 
@@ -64,20 +65,25 @@ pub(crate) fn hads_where(alloc: Global, early: bool, run: &[Event]) -> Result<Ve
     Ok(hads)
 }
 
-/// Appends the line of the jobs that these steps complete with work left, where `early` is true.
-pub(crate) fn put_early(
-    text: &mut Vec<u8>,
-    early: bool,
-    jobs: &[Job],
-    hads: &[u64],
-    run: &[Event],
-) -> Result<(), Memory>
-    requires { length run.now ≤ 5_000_001 }
-    ensures { OnOk result (text.new.items
-        ≡ text.old.items ++ in_lines (lines.early_lines early jobs.now hads.now run.now)) }
+/// Those that these steps complete with work left, where `early` is true, and else none.
+pub(crate) fn early_where(alloc: Global, early: bool, run: &[Event]) -> Result<Early, Memory>
+    requires { (k : Fraction) × ((J : Instance) × IsRunOf k run.now J) }
+    ensures { (k : Fraction) (J : Instance) → IsRunOf k run.now J → early ≡ true
+        → IfOk result (λ it. it ≡ early_of (jobs_released run.now) (observed.hads J) run.now) }
+{
+    if !early {
+        return Ok(Early { jobs: 0, left: 0 });
+    }
+    let jobs = released(alloc, run)?;
+    let hads = hads(alloc, &jobs, run)?;
+    Ok(Early::of(&jobs, &hads, run))
+}
+
+/// Appends their line, where `early` is true.
+pub(crate) fn put_early(text: &mut Vec<u8>, early: bool, it: Early) -> Result<(), Memory>
+    ensures { OnOk result (text.new.items ≡ text.old.items ++ in_lines (lines.lines_where early it)) }
 {
     if early {
-        let it = Early::of(jobs, hads, run);
         return put_line(text, b"early", &[it.jobs, it.left]);
     }
     Ok(())

@@ -7,8 +7,8 @@ ghost use Rattle.intervals.specs.Rows.{IsRunOf};
 ghost use Rattle.dover_report.specs.Counts.{fates_lines, counts_lines};
 ghost use Rattle.dover_report.specs.Lines.{row_lines};
 
-use crate::counts::{Counts, Fates, fates_in, released};
-use crate::early::{hads_where, put_early};
+use crate::counts::{Counts, run_counts};
+use crate::early::{early_where, put_early};
 use crate::lines::put_line;
 use dover_model::{Event, Memory, Ratio, Version};
 use intervals::{Charge, Interval};
@@ -23,14 +23,13 @@ pub fn text(alloc: Global, version: Version, k: Ratio, run: &[Event]) -> Result<
         → IfOk result (λ text. text.items ≡ report J) }
 {
     let early = version.may_finish_early();
-    let jobs = released(alloc, run)?;
-    let hads = hads_where(alloc, early, run)?;
+    let it = early_where(alloc, early, run)?;
     let charge = Charge::of(alloc, k, run)?;
-    let counts = Fates::of(&jobs, run).counts(k, charge.value());
+    let counts = run_counts(k, run, charge.value());
     let mut text = Vec::new(alloc);
     put_line(&mut text, b"ratio", &[u64::from(k.p()), u64::from(k.q())])?;
     put_fates(&mut text, counts)?;
-    put_early(&mut text, early, &jobs, &hads, run)?;
+    put_early(&mut text, early, it)?;
     put_line(&mut text, b"bound", &[counts.bound])?;
     put_rows(&mut text, charge.rows())?;
     Ok(text)
@@ -41,10 +40,9 @@ pub fn summary(alloc: Global, k: Ratio, run: &[Event]) -> Result<Vec<u8>, Memory
     requires { (J : Instance) × IsRunOf k run.now J }
     ensures { (J : Instance) → IsRunOf k run.now J → IfOk result (λ text. text.items ≡ summary J) }
 {
-    let fates = fates_in(alloc, run)?;
     let charge = Charge::of(alloc, k, run)?;
     let mut text = Vec::new(alloc);
-    put_counts(&mut text, fates.counts(k, charge.value()))?;
+    put_counts(&mut text, run_counts(k, run, charge.value()))?;
     Ok(text)
 }
 

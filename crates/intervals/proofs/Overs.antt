@@ -123,7 +123,7 @@ module _ (i : model.Interval) (at value : ℕ) where
   same_abandoned false = refl
 
 module _ (k : Fraction) (some_q : 1 ≤ k.q) (ratio : k.q ≤ k.p) (s : State) (sound : IsSound s) (l : Page)
-    (few : l.era + 1 < 2 ^ 64)
+    (few : l.era + 1 < 2 ^ 32)
     (total : sum_by (λ t. t.job.value) s.tasks ≤ 10_000_000_000_000) (count : length s.tasks ≤ 1_000_000) where
   -- ---- a preemption
   preempt_same : (current : Option model.Interval) (r f : ℕ) (xs : List Step)

@@ -40,7 +40,7 @@ use Rattle.intervals.proofs.Takes.{takes_next}
 -- ---- one step
 
 module _ (k : Fraction) (some_q : 1 ≤ k.q) (ratio : k.q ≤ k.p) (s : State) (sound : IsSound s) (l : Page)
-    (few : l.era + 1 < 2 ^ 64)
+    (few : l.era + 1 < 2 ^ 32)
     (total : sum_by (λ t. t.job.value) s.tasks ≤ 10_000_000_000_000) (count : length s.tasks ≤ 1_000_000)
     (current : Option model.Interval)
     (follows : Follows k s l current) where
@@ -130,7 +130,7 @@ one_of_two false fact = inr fact
 
 module _ (J : Instance) (valid : IsValid J) (listable : IsListable J) where
   -- the page follows each step
-  step_next : (s : State) → Keeps J s → (l : Page) → l.era + 1 < 2 ^ 64 → (current : Option model.Interval)
+  step_next : (s : State) → Keeps J s → (l : Page) → l.era + 1 < 2 ^ 32 → (current : Option model.Interval)
       → Follows J.rules.ratio s l current
       → Next J.rules.ratio s l current (step J.rules s)
   step_next s keeps l few current follows =

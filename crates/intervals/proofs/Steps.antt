@@ -185,7 +185,7 @@ module _ (k : Fraction) (s : State) (l : Page) (n : ℕ) where
   }
 
 module _ (k : Fraction) (some_q : 1 ≤ k.q) (ratio : k.q ≤ k.p) (s : State) (sound : IsSound s) (l : Page)
-    (few : l.era + 1 < 2 ^ 64)
+    (few : l.era + 1 < 2 ^ 32)
     (total : sum_by (λ t. t.job.value) s.tasks ≤ 10_000_000_000_000) (count : length s.tasks ≤ 1_000_000)
     (current : Option model.Interval)
     (follows : Follows k s l current) where

@@ -31,7 +31,7 @@ use Rattle.intervals.proofs.Steps.{waiting_idle, waiting_comes, running_comes}
 use Rattle.intervals.proofs.Overs.{same_tracks, under_is}
 
 module _ (k : Fraction) (some_q : 1 ≤ k.q) (ratio : k.q ≤ k.p) (s : State) (sound : IsSound s) (l : Page)
-    (few : l.era + 1 < 2 ^ 64)
+    (few : l.era + 1 < 2 ^ 32)
     (total : sum_by (λ t. t.job.value) s.tasks ≤ 10_000_000_000_000) (x : Task) (member : IsMember x s.tasks)
     (waiting : x.role ≡ Waiting)
     (heavy : is_heavy k x.job.value (value_sum (privileged s)) ≡ true) where

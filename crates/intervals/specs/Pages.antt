@@ -129,7 +129,7 @@ pub record CanJoin (l : Page) (n : ℕ) : Type 0 where
 -- there is room for what a take displaces
 pub record CanTake (l : Page) (n : ℕ) : Type 0 where
   pub known : n < length l.jobs
-  pub few : l.era + 1 < 2 ^ 64
+  pub few : l.era + 1 < 2 ^ 32
   pub small : (u : UnderWay) → l.under_way ≡ Some u → u.interval.displaced + l.worth < 2 ^ 64
 
 -- the job is active, and there is room for its value

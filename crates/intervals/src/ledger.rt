@@ -13,9 +13,9 @@ use std::marker::Model;
 #[derive(Clone, Copy)]
 pub struct Known {
     /// Its value.
-    pub value: u64,
+    pub value: u32,
     /// The era in which it last came to run.
-    pub era: u64,
+    pub era: u32,
 }
 
 /// What is known of the jobs, and the intervals so far.
@@ -24,7 +24,7 @@ pub struct Ledger {
     /// By number.
     jobs: Vec<Known>,
     /// From 1 on. A job that isn't over runs or is held where it came to run in this era.
-    era: u64,
+    era: u32,
     /// How many jobs run or are held.
     active: u64,
     /// Their value.
@@ -72,7 +72,7 @@ impl Ledger {
     {
         match event {
             Event::Release { job, .. } => self.jobs.push(Known {
-                value: job.value(),
+                value: job.value() as u32,
                 era: 0,
             })?,
             Event::Run { at, number } => {
@@ -112,7 +112,7 @@ impl Ledger {
         if job.era != self.era {
             job.era = self.era;
             self.active += 1;
-            self.worth += job.value;
+            self.worth += u64::from(job.value);
         }
     }
 
@@ -128,7 +128,7 @@ impl Ledger {
         let job = &mut self.jobs[number as usize];
         job.era = self.era;
         self.active = 1;
-        self.worth = job.value;
+        self.worth = u64::from(job.value);
     }
 
     /// The job of this number is done; the interval ends where it was the only active one.
@@ -136,7 +136,7 @@ impl Ledger {
         requires { CanComplete self.old number }
         ensures { OnOk result (self.new ≡ with_event self.old (Complete at number)) }
     {
-        let value = self.jobs[number as usize].value;
+        let value = u64::from(self.jobs[number as usize].value);
         if let Some(under_way) = &mut self.under_way {
             under_way.complete(at, value);
         }
@@ -165,7 +165,7 @@ impl Ledger {
         requires { CanAbandon self.old number }
         ensures { self.new ≡ with_event self.old (Abandon at number) }
     {
-        let value = self.jobs[number as usize].value;
+        let value = u64::from(self.jobs[number as usize].value);
         if let Some(under_way) = &mut self.under_way {
             under_way.abandon(at, value);
         }

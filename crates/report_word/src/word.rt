@@ -1,7 +1,8 @@
 //! The word as a whole.
-ghost use Rattle.std.specs.Prelude.{◌≡◌, true, IfOk};
+ghost use Rattle.std.specs.Prelude.{◌≡◌, ◌↔◌, IsTrue, true, IfOk};
 ghost use Rattle.intervals.specs.Rows.{IsRunOf};
-ghost use Rattle.dover_model.specs.Instance.{Instance};
+ghost use Rattle.dover_model.specs.Instance.{Instance, IsListable, IsValid};
+ghost use Rattle.dover_model.specs.Run.{printed};
 ghost use Rattle.dover_port.specs.Causes.{Causes, StopsWith};
 ghost use Rattle.dover_port.specs.Moves.{Since};
 ghost use Rattle.dialogue.specs.Sizes.{size_text};
@@ -87,6 +88,18 @@ fn put_size<P: Port>(port: &mut P) -> Result<(), Stop>
     }
 }
 
+/// Whether the run of this version that prints these steps has no more jobs than a report keeps. Before version Three
+/// none has more.
+fn is_small(version: Version, steps: &[Event]) -> bool
+    ensures { (J : Instance) → IsValid J → printed J ≡ steps.now → J.rules.version ≡ version →
+        IsTrue result ↔ IsListable J }
+{
+    if version.may_finish_early() {
+        return is_listable(steps);
+    }
+    true
+}
+
 /// Tells the report where the text is accepted, or that its jobs are too many for one, and else the line of the
 /// verdict.
 #[derive(Drop)]
@@ -113,7 +126,7 @@ impl Teller for Reporting {
         match closed.verdict {
             Verdict::Accepted { ratio, version, .. } => {
                 let (steps, refused) = (closed.steps.as_slice(), closed.refused);
-                if is_listable(steps) {
+                if is_small(version, steps) {
                     match put_report(self.alloc, port, self.form, version, ratio, steps, refused) {
                         Ok(()) => Ok(Status::Done),
                         Err(stop) => Err(stop),

@@ -1,4 +1,7 @@
+use Rattle.std.proofs.Common.{length, refl}
+use Rattle.dover_report.proofs.Counting.{counts_are}
 use Rattle.dover_report.proofs.counts.count.Goals as goal
 
 pub returns : goal.returns
-returns c = c.counts.ensures c.args.jobs.now c.args.run.now c.of.ensures
+returns c = counts_are c.args.k c.args.run.now c.of-tally.result c.args.jobs.now (length c.args.jobs.now)
+    c.args.value c.all_lost.result c.bound.result c.of-tally.ensures refl c.all_lost.ensures c.bound.ensures.is

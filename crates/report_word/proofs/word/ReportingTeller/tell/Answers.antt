@@ -11,16 +11,16 @@ put_report-requires g c =
     let are = c.as_slice-steps.ensures.value ∙ c.requires.closed.1.steps in (
       instance_of tells.0,
       run_of _ _ _ _ _ c.requires.closed.0 tells _ are
-          ((c.is_listable.ensures (instance_of tells.0) tells.7.valid.jobs
-          (prints _ _ _ _ _ c.requires.closed.0 tells _ are)).0 c.if-is_listable.true),
+          ((c.is_small.ensures (instance_of tells.0) tells.7.valid.jobs
+          (prints _ _ _ _ _ c.requires.closed.0 tells _ are) (sym tells.3)).0 c.if-is_small.true),
     )
 
 pub returns-in-Ok-clause-answers : goal.returns-in-Ok-clause-answers
 returns-in-Ok-clause-answers g c = λ text ended closed.
     let tells = rw c.in-Accepted.is at closed.tells in
     let are = c.as_slice-steps.ensures.value ∙ closed.steps in
-    let listable = (c.is_listable.ensures (instance_of tells.0) tells.7.valid.jobs
-    (prints _ _ _ _ _ text tells _ are)).0 c.if-is_listable.true in
+    let listable = (c.is_small.ensures (instance_of tells.0) tells.7.valid.jobs
+    (prints _ _ _ _ _ text tells _ are) (sym tells.3)).0 c.if-is_small.true in
     reported _ _ _ _ _ text tells c.args.self.form ended _ _ _ c.requires.empty c.args.closed.now.refused
     (closed.refused tells.0 tells.1) listable _ (c.in-Ok.ensures.puts (instance_of tells.0)
     (run_of _ _ _ _ _ text tells _ are listable) (sym tells.3))
@@ -29,8 +29,8 @@ pub returns-in-Err-clause-answers : goal.returns-in-Err-clause-answers
 returns-in-Err-clause-answers g c = λ text ended closed.
     let tells = rw c.in-Accepted.is at closed.tells in
     let are = c.as_slice-steps.ensures.value ∙ closed.steps in
-    let listable = (c.is_listable.ensures (instance_of tells.0) tells.7.valid.jobs
-    (prints _ _ _ _ _ text tells _ are)).0 c.if-is_listable.true in
+    let listable = (c.is_small.ensures (instance_of tells.0) tells.7.valid.jobs
+    (prints _ _ _ _ _ text tells _ are) (sym tells.3)).0 c.if-is_small.true in
     unreported _ _ _ _ _ text tells c.args.self.form ended _ _ _ c.requires.empty c.args.closed.now.refused
     (closed.refused tells.0 tells.1) listable c.in-Err.stop (c.in-Err.ensures.puts (instance_of tells.0)
     (run_of _ _ _ _ _ text tells _ are listable) (sym tells.3))
@@ -40,16 +40,16 @@ returns-in-Ok-put_size-clause-answers g c = λ text ended closed.
     let tells = rw c.in-Accepted.is at closed.tells in
     let are = c.as_slice-steps.ensures.value ∙ closed.steps in
     refused_size _ _ _ _ _ text tells c.args.self.form ended _ _ _ c.requires.empty
-    (λ listable. never (sym c.if-is_listable.false ∙ (c.is_listable.ensures (instance_of tells.0) tells.7.valid.jobs
-    (prints _ _ _ _ _ text tells _ are)).1 listable)) _ c.in-Ok-put_size.ensures.puts
+    (λ listable. never (sym c.if-is_small.false ∙ (c.is_small.ensures (instance_of tells.0) tells.7.valid.jobs
+    (prints _ _ _ _ _ text tells _ are) (sym tells.3)).1 listable)) _ c.in-Ok-put_size.ensures.puts
 
 pub returns-in-Err-put_size-clause-answers : goal.returns-in-Err-put_size-clause-answers
 returns-in-Err-put_size-clause-answers g c = λ text ended closed.
     let tells = rw c.in-Accepted.is at closed.tells in
     let are = c.as_slice-steps.ensures.value ∙ closed.steps in
     unrefused_size _ _ _ _ _ text tells c.args.self.form ended _ _ _ c.requires.empty
-    (λ listable. never (sym c.if-is_listable.false ∙ (c.is_listable.ensures (instance_of tells.0) tells.7.valid.jobs
-    (prints _ _ _ _ _ text tells _ are)).1 listable)) c.in-Err-put_size.stop c.in-Err-put_size.ensures.puts
+    (λ listable. never (sym c.if-is_small.false ∙ (c.is_small.ensures (instance_of tells.0) tells.7.valid.jobs
+    (prints _ _ _ _ _ text tells _ are) (sym tells.3)).1 listable)) c.in-Err-put_size.stop c.in-Err-put_size.ensures.puts
 
 pub put_verdict-requires : goal.put_verdict-requires
 put_verdict-requires g c = (c.requires.closed.0, c.requires.closed.1.tells)
