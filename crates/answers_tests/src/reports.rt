@@ -5,24 +5,25 @@ ghost use Rattle.dover_model.specs.JobFacts.{job_of_numbers};
 
 use dover_model::{Event, Job, Ratio};
 use dover_report::summary;
+use packed_event::PackedEvent;
 use std::process::Abort;
 
 /// The ratio of these numbers.
-fn ratio(rt: &impl Abort, p: u32, q: u32) -> Ratio
+pub(crate) fn ratio(rt: &impl Abort, p: u32, q: u32) -> Ratio
     ensures { result ≡ record { p = p; q = q } }
 {
     Ratio::new(p, q).expect(rt, "a ratio")
 }
 
 /// The job of these numbers.
-fn job(rt: &impl Abort, release: u64, work: u64, deadline: u64, value: u64) -> Job
+pub(crate) fn job(rt: &impl Abort, release: u64, work: u64, deadline: u64, value: u64) -> Job
     ensures { result ≡ job_of_numbers release work deadline value }
 {
     Job::new(release, work, deadline, value).expect(rt, "a job")
 }
 
 /// The printed steps of a run in which a job takes the processor.
-fn steps(rt: &impl Abort) -> [Event; 11]
+pub(crate) fn steps(rt: &impl Abort) -> [PackedEvent; 11]
     ensures { result ≡ Release 0 (job_of_numbers 0 3 30 3) ∷ Run 0 0 ∷ Release 1 (job_of_numbers 0 2 4 2)
         ∷ Preempt 0 0 1
         ∷ Release 2 (job_of_numbers 0 12 12 12) ∷ Take 0 1 2 ∷ Abandon 2 1 ∷ Complete 12 2 ∷ Run 12 0 ∷ Complete 15 0 ∷ End 15 ∷ [] }
@@ -31,34 +32,34 @@ fn steps(rt: &impl Abort) -> [Event; 11]
     let second = job(rt, 0, 2, 4, 2);
     let third = job(rt, 0, 12, 12, 12);
     [
-        Event::Release {
+        PackedEvent::new(&Event::Release {
             number: 0,
             job: first,
-        },
-        Event::Run { at: 0, number: 0 },
-        Event::Release {
+        }),
+        PackedEvent::new(&Event::Run { at: 0, number: 0 }),
+        PackedEvent::new(&Event::Release {
             number: 1,
             job: second,
-        },
-        Event::Preempt {
+        }),
+        PackedEvent::new(&Event::Preempt {
             at: 0,
             stops: 0,
             starts: 1,
-        },
-        Event::Release {
+        }),
+        PackedEvent::new(&Event::Release {
             number: 2,
             job: third,
-        },
-        Event::Take {
+        }),
+        PackedEvent::new(&Event::Take {
             at: 0,
             stops: 1,
             starts: 2,
-        },
-        Event::Abandon { at: 2, number: 1 },
-        Event::Complete { at: 12, number: 2 },
-        Event::Run { at: 12, number: 0 },
-        Event::Complete { at: 15, number: 0 },
-        Event::End { value: 15 },
+        }),
+        PackedEvent::new(&Event::Abandon { at: 2, number: 1 }),
+        PackedEvent::new(&Event::Complete { at: 12, number: 2 }),
+        PackedEvent::new(&Event::Run { at: 12, number: 0 }),
+        PackedEvent::new(&Event::Complete { at: 15, number: 0 }),
+        PackedEvent::new(&Event::End { value: 15 }),
     ]
 }
 

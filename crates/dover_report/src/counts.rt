@@ -10,6 +10,7 @@ ghost use Rattle.dover_report.specs.Counts as counts;
 ghost use Rattle.dover_report.specs.Tallies.{tally_of, with_tally, HasSpace};
 
 use dover_model::{Event, Job, Memory, Ratio};
+use packed_event::PackedEvent;
 use root_compare::bound;
 use std::alloc::Global;
 
@@ -45,7 +46,7 @@ pub(crate) struct Tally {
 
 impl Tally {
     /// What these steps tell.
-    pub(crate) fn of(run: &[Event]) -> Tally
+    pub(crate) fn of(run: &[PackedEvent]) -> Tally
         ensures { result ≡ tally_of run.now }
     {
         let mut tally = Tally {
@@ -62,12 +63,12 @@ impl Tally {
     }
 
     /// Counts one more step.
-    fn add(&mut self, event: &Event)
+    fn add(&mut self, event: &PackedEvent)
         requires { HasSpace self.old }
         ensures is { self.new ≡ with_tally self.old event.now }
         ensures modest { self.new.worth ≤ self.old.worth + most_value }
     {
-        match event {
+        match event.event() {
             Event::Release { job, .. } => {
                 self.jobs += 1;
                 self.worth += u128::from(job.value());
@@ -81,7 +82,7 @@ impl Tally {
 }
 
 /// The counts of these steps, which release these jobs and complete this value.
-pub fn count(k: Ratio, run: &[Event], jobs: &[Job], value: u64) -> Counts
+pub fn count(k: Ratio, run: &[PackedEvent], jobs: &[Job], value: u64) -> Counts
     requires steps { length run.now ≤ 5_000_001 }
     requires total { value ≤ most_total Two }
     ensures { result ≡ counts_of k run.now jobs.now value }
@@ -99,7 +100,7 @@ pub fn count(k: Ratio, run: &[Event], jobs: &[Job], value: u64) -> Counts
 }
 
 /// The value of the jobs that these steps abandon.
-fn all_lost(jobs: &[Job], run: &[Event]) -> u64
+fn all_lost(jobs: &[Job], run: &[PackedEvent]) -> u64
     requires { length run.now ≤ 5_000_001 }
     ensures { result ≡ counts.all_lost jobs.now run.now }
 {
@@ -111,18 +112,18 @@ fn all_lost(jobs: &[Job], run: &[Event]) -> u64
 }
 
 /// The value of the job that the step abandons, 0 for another step.
-fn value_lost(jobs: &[Job], event: &Event) -> u64
+fn value_lost(jobs: &[Job], event: &PackedEvent) -> u64
     ensures is { result ≡ counts.value_lost jobs.now event.now }
     ensures modest { result ≤ most_value }
 {
-    match event {
-        Event::Abandon { number, .. } => value_of(jobs, *number),
+    match event.event() {
+        Event::Abandon { number, .. } => value_of(jobs, number),
         _ => 0,
     }
 }
 
 /// The counts of a run of these steps, which completes this value, in one pass over them. What isn't completed is lost.
-pub(crate) fn run_counts(k: Ratio, run: &[Event], value: u64) -> Counts
+pub(crate) fn run_counts(k: Ratio, run: &[PackedEvent], value: u64) -> Counts
     requires { (J : Instance) × IsRunOf k run.now J × (value ≡ completed_value J) }
     ensures { result ≡ counts_of k run.now (jobs_released run.now) value }
 {
@@ -139,7 +140,7 @@ pub(crate) fn run_counts(k: Ratio, run: &[Event], value: u64) -> Counts
 }
 
 /// The jobs that these steps release, by number.
-pub fn released(alloc: Global, run: &[Event]) -> Result<Vec<Job>, Memory>
+pub fn released(alloc: Global, run: &[PackedEvent]) -> Result<Vec<Job>, Memory>
     ensures { IfOk result (λ jobs. jobs.items ≡ jobs_released run.now) }
 {
     let mut jobs = Vec::new(alloc);
@@ -150,21 +151,21 @@ pub fn released(alloc: Global, run: &[Event]) -> Result<Vec<Job>, Memory>
 }
 
 /// Appends the job that the step releases, if it releases one.
-fn keep_released(jobs: &mut Vec<Job>, event: &Event) -> Result<(), Memory>
+fn keep_released(jobs: &mut Vec<Job>, event: &PackedEvent) -> Result<(), Memory>
     ensures { OnOk result (jobs.new.items ≡ jobs.old.items ++ option_to_list (job_released event.now)) }
 {
-    if let Event::Release { job, .. } = event {
-        jobs.push(*job)?;
+    if let Event::Release { job, .. } = event.event() {
+        jobs.push(job)?;
     }
     Ok(())
 }
 
 /// How many jobs these steps release.
-pub(crate) fn releases(run: &[Event]) -> usize
+pub(crate) fn releases(run: &[PackedEvent]) -> usize
     ensures { result ≡ count_by is_release run.now }
 {
     run.iter()
-        .filter(|event| matches!(event, Event::Release { .. }))
+        .filter(|event| matches!(event.event(), Event::Release { .. }))
         .count()
 }
 

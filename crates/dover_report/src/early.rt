@@ -13,6 +13,7 @@ ghost use Rattle.dover_report.specs.Early as lines;
 use crate::counts::released;
 use crate::lines::put_line;
 use dover_model::{Event, Job, Memory};
+use packed_event::PackedEvent;
 use room_ledger::hads;
 use std::alloc::Global;
 
@@ -27,7 +28,7 @@ pub(crate) struct Early {
 
 impl Early {
     /// Those that these steps complete, by the ticks that each job had.
-    fn of(jobs: &[Job], hads: &[u64], run: &[Event]) -> Early
+    fn of(jobs: &[Job], hads: &[u64], run: &[PackedEvent]) -> Early
         requires { length run.now ≤ 5_000_001 }
         ensures { result ≡ early_of jobs.now hads.now run.now }
     {
@@ -52,7 +53,11 @@ impl Early {
 }
 
 /// The ticks that each job of the run has had, by number, where `early` is true, and else none.
-pub(crate) fn hads_where(alloc: Global, early: bool, run: &[Event]) -> Result<Vec<u64>, Memory>
+pub(crate) fn hads_where(
+    alloc: Global,
+    early: bool,
+    run: &[PackedEvent],
+) -> Result<Vec<u64>, Memory>
     requires { (k : Fraction) × ((J : Instance) × IsRunOf k run.now J) }
     ensures { (k : Fraction) (J : Instance) → IsRunOf k run.now J → early ≡ true
         → IfOk result (λ hads. hads.items ≡ observed.hads J) }
@@ -66,7 +71,7 @@ pub(crate) fn hads_where(alloc: Global, early: bool, run: &[Event]) -> Result<Ve
 }
 
 /// Those that these steps complete with work left, where `early` is true, and else none.
-pub(crate) fn early_where(alloc: Global, early: bool, run: &[Event]) -> Result<Early, Memory>
+pub(crate) fn early_where(alloc: Global, early: bool, run: &[PackedEvent]) -> Result<Early, Memory>
     requires { (k : Fraction) × ((J : Instance) × IsRunOf k run.now J) }
     ensures { (k : Fraction) (J : Instance) → IsRunOf k run.now J → early ≡ true
         → IfOk result (λ it. it ≡ early_of (jobs_released run.now) (observed.hads J) run.now) }
@@ -110,12 +115,12 @@ pub fn had_of(hads: &[u64], number: usize) -> u64
 }
 
 /// The work that is left of the job that a step completes, in ticks, and 0 for another step.
-pub fn left_at(jobs: &[Job], hads: &[u64], event: &Event) -> u64
+pub fn left_at(jobs: &[Job], hads: &[u64], event: &PackedEvent) -> u64
     ensures is { result ≡ left_at jobs.now hads.now event.now }
     ensures modest { result ≤ last_tick }
 {
-    match event {
-        Event::Complete { number, .. } => left_of(jobs, hads, *number as usize),
+    match event.event() {
+        Event::Complete { number, .. } => left_of(jobs, hads, number as usize),
         _ => 0,
     }
 }

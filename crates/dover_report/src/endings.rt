@@ -3,6 +3,7 @@ ghost use Rattle.std.specs.Prelude.{◌≡◌, ◌<◌, ℕ, length, slice_index
 ghost use Rattle.dover_report.specs.Rows.{ending_at, ending_in, with_place, with_step};
 
 use dover_model::{Event, Memory};
+use packed_event::PackedEvent;
 use std::alloc::Global;
 
 /// How a job ended, and at which tick.
@@ -16,7 +17,7 @@ pub enum Ending {
 
 /// For each job of the first numbers the place of the step that ends it, and for one that none ends a place behind the
 /// steps. Of the steps the last is read first.
-pub fn endings(alloc: Global, run: &[Event], count: usize) -> Result<Vec<usize>, Memory>
+pub fn endings(alloc: Global, run: &[PackedEvent], count: usize) -> Result<Vec<usize>, Memory>
     ensures count { IfOk result (λ places. length places.items ≡ count) }
     ensures each { IfOk result (λ places.
         (n : ℕ) → n < count → ending_at run.now (slice_index_or places.items n 0) ≡ ending_in run.now n) }
@@ -32,23 +33,23 @@ pub fn endings(alloc: Global, run: &[Event], count: usize) -> Result<Vec<usize>,
 }
 
 /// How the step at this place ends a job, if it does.
-pub fn ending_at(run: &[Event], place: usize) -> Option<Ending>
+pub fn ending_at(run: &[PackedEvent], place: usize) -> Option<Ending>
     ensures { result ≡ ending_at run.now place }
 {
-    match run.get(place) {
-        Some(Event::Complete { at, .. }) => Some(Ending::Completed(*at)),
-        Some(Event::Abandon { at, .. }) => Some(Ending::Abandoned(*at)),
+    match run.get(place)?.event() {
+        Event::Complete { at, .. } => Some(Ending::Completed(at)),
+        Event::Abandon { at, .. } => Some(Ending::Abandoned(at)),
         _ => None,
     }
 }
 
 /// Takes an earlier step into account, which stands at this place.
-fn put_step(places: &mut [usize], event: &Event, place: usize)
+fn put_step(places: &mut [usize], event: &PackedEvent, place: usize)
     ensures { places.new ≡ with_step places.old event.now place }
 {
-    match event {
-        Event::Complete { number, .. } => put_place(places, *number as usize, place),
-        Event::Abandon { number, .. } => put_place(places, *number as usize, place),
+    match event.event() {
+        Event::Complete { number, .. } => put_place(places, number as usize, place),
+        Event::Abandon { number, .. } => put_place(places, number as usize, place),
         _ => {}
     }
 }

@@ -6,11 +6,12 @@ ghost use Rattle.dover_model.specs.Limits.{most_jobs, most_total};
 ghost use Rattle.dover_model.specs.Run.{printed};
 
 use crate::counts::Tally;
-use dover_model::{Event, Version};
+use dover_model::Version;
+use packed_event::PackedEvent;
 
 /// Whether the jobs of the run that prints these steps are within the limits of version Two, which is what a report
 /// keeps at most. They are valid for some ratio. Takes no memory.
-pub fn is_listable(run: &[Event]) -> bool
+pub fn is_listable(run: &[PackedEvent]) -> bool
     ensures { (J : Instance) → IsValid J → printed J ≡ run.now → IsTrue result ↔ IsListable J }
 {
     let tally = Tally::of(run);

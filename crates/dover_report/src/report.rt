@@ -8,35 +8,89 @@ ghost use Rattle.dover_report.specs.Counts.{fates_lines, counts_lines};
 ghost use Rattle.dover_report.specs.Lines.{row_lines};
 
 use crate::counts::{Counts, run_counts};
-use crate::early::{early_where, put_early};
+use crate::early::{Early, early_where, put_early};
 use crate::lines::put_line;
-use dover_model::{Event, Memory, Ratio, Version};
+use dover_model::{Memory, Ratio, Version};
 use intervals::{Charge, Interval};
+use packed_event::PackedEvent;
 use std::alloc::Global;
+
+/// What the report on a run says: its ratio, its summary, where jobs may finish early those that did, and its intervals.
+#[derive(Drop)]
+pub struct Findings {
+    k: Ratio,
+    early: bool,
+    it: Early,
+    counts: Counts,
+    charge: Charge,
+}
+
+impl Findings {
+    ghost use Rattle.dover_report.specs.Findings.{told};
+
+    /// What is found of the run of this version that prints these steps. The jobs of the run are valid for the ratio
+    /// `k`, and within the limits of version Two. Want of memory is the only error.
+    pub fn of(
+        alloc: Global,
+        version: Version,
+        k: Ratio,
+        run: &[PackedEvent],
+    ) -> Result<Findings, Memory>
+        requires { (J : Instance) × IsRunOf k run.now J }
+        ensures { (J : Instance) → IsRunOf k run.now J → J.rules.version ≡ version
+            → IfOk result (λ found. told found ≡ report J) }
+    {
+        let early = version.may_finish_early();
+        let it = early_where(alloc, early, run)?;
+        let charge = Charge::of(alloc, k, run)?;
+        let counts = run_counts(k, run, charge.value());
+        Ok(Findings {
+            k,
+            early,
+            it,
+            counts,
+            charge,
+        })
+    }
+
+    /// The report as a text. Want of memory is the only error.
+    pub fn text(&self, alloc: Global) -> Result<Vec<u8>, Memory>
+        ensures { IfOk result (λ text. text.items ≡ told self.now) }
+    {
+        let mut text = Vec::new(alloc);
+        put_line(
+            &mut text,
+            b"ratio",
+            &[u64::from(self.k.p()), u64::from(self.k.q())],
+        )?;
+        put_fates(&mut text, self.counts)?;
+        put_early(&mut text, self.early, self.it)?;
+        put_line(&mut text, b"bound", &[self.counts.bound])?;
+        put_rows(&mut text, self.charge.rows())?;
+        Ok(text)
+    }
+}
 
 /// The report on the run of this version that prints these steps: its ratio, its summary and its intervals, and where
 /// jobs may finish early a line of those that did. The jobs of the run are valid for the ratio `k`, and within the
 /// limits of version Two. Want of memory is the only error.
-pub fn text(alloc: Global, version: Version, k: Ratio, run: &[Event]) -> Result<Vec<u8>, Memory>
+pub fn text(
+    alloc: Global,
+    version: Version,
+    k: Ratio,
+    run: &[PackedEvent],
+) -> Result<Vec<u8>, Memory>
     requires { (J : Instance) × IsRunOf k run.now J }
     ensures { (J : Instance) → IsRunOf k run.now J → J.rules.version ≡ version
         → IfOk result (λ text. text.items ≡ report J) }
 {
-    let early = version.may_finish_early();
-    let it = early_where(alloc, early, run)?;
-    let charge = Charge::of(alloc, k, run)?;
-    let counts = run_counts(k, run, charge.value());
-    let mut text = Vec::new(alloc);
-    put_line(&mut text, b"ratio", &[u64::from(k.p()), u64::from(k.q())])?;
-    put_fates(&mut text, counts)?;
-    put_early(&mut text, early, it)?;
-    put_line(&mut text, b"bound", &[counts.bound])?;
-    put_rows(&mut text, charge.rows())?;
+    let found = Findings::of(alloc, version, k, run)?;
+    let text = found.text(alloc)?;
     Ok(text)
 }
 
 /// The summary of that run alone.
-pub fn summary(alloc: Global, k: Ratio, run: &[Event]) -> Result<Vec<u8>, Memory>
+pub fn summary(alloc: Global, k: Ratio, run: &[PackedEvent]) -> Result<Vec<u8>, Memory>
     requires { (J : Instance) × IsRunOf k run.now J }
     ensures { (J : Instance) → IsRunOf k run.now J → IfOk result (λ text. text.items ≡ summary J) }
 {

@@ -14,12 +14,13 @@ use crate::early::{had_at, hads_where};
 use crate::endings::{Ending, ending_at, endings};
 use dover_model::{Event, Job, Memory, Version};
 use itoa::Buffer;
+use packed_event::PackedEvent;
 use std::alloc::Global;
 
 /// The table of the run of this version that prints these steps: a row of names, and a row for each job, which tells
 /// the ticks that it had where jobs may finish early. The jobs of the run are valid for some ratio, and within the
 /// limits of version Two. Want of memory is the only error.
-pub fn table(alloc: Global, version: Version, run: &[Event]) -> Result<Vec<u8>, Memory>
+pub fn table(alloc: Global, version: Version, run: &[PackedEvent]) -> Result<Vec<u8>, Memory>
     requires { (k : Fraction) × ((J : Instance) × IsRunOf k run.now J) }
     ensures { (k : Fraction) (J : Instance) → IsRunOf k run.now J → J.rules.version ≡ version
         → IfOk result (λ text. text.items ≡ table J) }
@@ -50,21 +51,21 @@ fn names_line(early: bool) -> &'static [u8]
 /// Answers how many jobs are released behind it.
 fn put_released(
     text: &mut Vec<u8>,
-    run: &[Event],
+    run: &[PackedEvent],
     places: &[usize],
     had: Option<u64>,
     number: usize,
-    event: &Event,
+    event: &PackedEvent,
 ) -> Result<usize, Memory>
     requires { CanRelease run.now places.now number event.now }
     ensures number { IfOk result (λ next. next ≡ number + length (option_to_list (job_released event.now))) }
     ensures text { OnOk result (text.new.items
         ≡ text.old.items ++ in_lines (released_rows run.now (λ n. had) number event.now)) }
 {
-    match event {
+    match event.event() {
         Event::Release { job, .. } => {
             let ending = ending_at(run, places[number]);
-            put_row(text, number as u64, job, ending, had)?;
+            put_row(text, number as u64, &job, ending, had)?;
             Ok(number + 1)
         }
         _ => Ok(number),

@@ -15,7 +15,8 @@ ghost use Rattle.intervals.specs.Rows.{IsRunOf, numbers_of, rows_of};
 
 use crate::interval::Interval;
 use crate::ledger::Ledger;
-use dover_model::{Event, Memory, Ratio};
+use dover_model::{Memory, Ratio};
+use packed_event::PackedEvent;
 use std::alloc::Global;
 use std::marker::Model;
 
@@ -37,7 +38,7 @@ impl Model for Charge {
 impl Charge {
     /// The intervals of the run that prints these steps, in one pass over them. The jobs of the run are valid for the
     /// ratio `k`, and within the limits of version Two. Want of memory is the only error.
-    pub fn of(alloc: Global, k: Ratio, run: &[Event]) -> Result<Charge, Memory>
+    pub fn of(alloc: Global, k: Ratio, run: &[PackedEvent]) -> Result<Charge, Memory>
         requires { (J : Instance) × IsRunOf k run.now J }
         ensures rows { (J : Instance) → IsRunOf k run.now J → IfOk result (λ c. c.rows ≡ rows_of J) }
         ensures value { (J : Instance) → IsRunOf k run.now J → IfOk result (λ c. c.value ≡ completed_value J) }
@@ -61,7 +62,7 @@ impl Charge {
     {
         let mut ledger = Ledger::new(alloc);
         for event in run {
-            ledger.read(*event)?;
+            ledger.read(event)?;
         }
         let (rows, value) = ledger.into_parts();
         Ok(Charge { rows, value })

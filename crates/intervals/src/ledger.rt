@@ -6,6 +6,7 @@ ghost use Rattle.dover_model.specs.declared.events.Event.TheVariants.{Complete, 
 
 use crate::interval::{Interval, UnderWay};
 use dover_model::{Event, Memory};
+use packed_event::PackedEvent;
 use std::alloc::Global;
 use std::marker::Model;
 
@@ -66,11 +67,11 @@ impl Ledger {
     }
 
     /// Takes the next printed step into account.
-    pub fn read(&mut self, event: Event) -> Result<(), Memory>
-        requires { IsReadable self.old event }
-        ensures { OnOk result (self.new ≡ with_event self.old event) }
+    pub fn read(&mut self, event: &PackedEvent) -> Result<(), Memory>
+        requires { IsReadable self.old event.now }
+        ensures { OnOk result (self.new ≡ with_event self.old event.now) }
     {
-        match event {
+        match event.event() {
             Event::Release { job, .. } => self.jobs.push(Known {
                 value: job.value() as u32,
                 era: 0,

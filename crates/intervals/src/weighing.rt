@@ -8,12 +8,13 @@ ghost use Rattle.intervals.specs.Rows.{IsRunOf};
 ghost use Rattle.intervals.specs.Rows as rows;
 
 use crate::ledger::Ledger;
-use dover_model::{Event, Memory, Ratio};
+use dover_model::{Memory, Ratio};
+use packed_event::PackedEvent;
 use std::alloc::Global;
 
 /// What the running and the held jobs are worth before each of the printed steps of a run, in one pass over them. The
 /// jobs of the run are valid for the ratio `k`, and within the limits of version Two. Want of memory is the only error.
-pub fn weights(alloc: Global, k: Ratio, run: &[Event]) -> Result<Vec<u64>, Memory>
+pub fn weights(alloc: Global, k: Ratio, run: &[PackedEvent]) -> Result<Vec<u64>, Memory>
     requires { (J : Instance) × IsRunOf k run.now J }
     ensures are { (J : Instance) → IsRunOf k run.now J → IfOk result (λ worths. worths.items ≡ rows.weights J) }
     ensures small { IfOk result (λ worths. AllByRecursion (λ worth. worth ≤ most_total Two) worths.items) }
@@ -22,7 +23,7 @@ pub fn weights(alloc: Global, k: Ratio, run: &[Event]) -> Result<Vec<u64>, Memor
     let mut worths = Vec::new(alloc);
     for event in run {
         worths.push(ledger.worth())?;
-        ledger.read(*event)?;
+        ledger.read(event)?;
     }
     Ok(worths)
 }

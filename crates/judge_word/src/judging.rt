@@ -62,7 +62,7 @@ impl<T: Teller, L: Ledger> Talker for Judging<T, L> {
         _ended: bool,
     ) -> Result<Status, Stop> {
         match self.judge.close() {
-            Ok(closed) => self.teller.tell(port, out, &closed),
+            Ok(closed) => self.teller.tell(port, out, closed),
             Err(_) => Err(Stop::NoMemory),
         }
     }

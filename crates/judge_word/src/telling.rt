@@ -33,10 +33,10 @@ pub trait Teller: Drop {
     /// # Errors
     ///
     /// `NoMemory` where there was none, of which nothing was put then, and `Unwritten` where a write failed.
-    fn tell<P: Port>(self, port: &mut P, out: &mut Output, closed: &Closed) -> Result<Status, Stop>
+    fn tell<P: Port>(self, port: &mut P, out: &mut Output, closed: Closed) -> Result<Status, Stop>
         requires empty { out.old ≡ [] }
-        requires closed { (x : List ℕ) × IsClosed keeps closed.now x }
-        ensures answers { (x : List ℕ) (ended : Bool) → IsClosed keeps closed.now x →
+        requires closed { (x : List ℕ) × IsClosed keeps closed x }
+        ensures answers { (x : List ℕ) (ended : Bool) → IsClosed keeps closed x →
             AnswersBy (judging_talk (says self) lacks) x ended (P.moves port.old) (P.moves port.new) out.new result }
         ensures cause { StopCause result
             (P.write_faults port.old) (P.write_faults port.new) (P.read_faults port.old) (P.read_faults port.new) }
@@ -56,14 +56,11 @@ impl Teller for VerdictLine {
 
     fn laws() {}
 
-    fn tell<P: Port>(
-        self,
-        port: &mut P,
-        out: &mut Output,
-        closed: &Closed,
-    ) -> Result<Status, Stop> {
-        match put_verdict(port, out, &closed.verdict) {
-            Ok(()) => Ok(status_of(&closed.verdict)),
+    fn tell<P: Port>(self, port: &mut P, out: &mut Output, closed: Closed) -> Result<Status, Stop> {
+        let verdict = closed.verdict;
+        drop(closed);
+        match put_verdict(port, out, &verdict) {
+            Ok(()) => Ok(status_of(&verdict)),
             Err(_) => Err(Stop::Unwritten),
         }
     }

@@ -15,6 +15,7 @@ ghost use Rattle.question_words.specs.Watching.{HasSeen};
 use crate::completing::Completion;
 use dover_model::{Event, Horizon, Job, Memory};
 use event_feed::Listed;
+use packed_event::PackedEvent;
 use ready_server::{ReadyServer, Watcher, finish_job, serve_jobs, show_to};
 use room_ledger::hads;
 use std::alloc::Global;
@@ -24,7 +25,7 @@ use step_count::Steps;
 /// The printed steps of a run, and whether one was lost for want of memory.
 #[derive(Drop)]
 struct Recorded {
-    events: Vec<Event>,
+    events: Vec<PackedEvent>,
     lost: bool,
 }
 
@@ -32,7 +33,7 @@ impl Watcher for Recorded {
     ghost seen = { HasRecorded };
 
     fn see(&mut self, event: &Event) {
-        match self.events.push(*event) {
+        match self.events.push(PackedEvent::new(event)) {
             Ok(()) => {}
             Err(_) => self.lost = true,
         }
@@ -69,7 +70,7 @@ fn record<L: Ledger>(
     alloc: Global,
     listed: &Listed,
     steps: &mut Steps<L>,
-) -> Result<Vec<Event>, Memory>
+) -> Result<Vec<PackedEvent>, Memory>
     requires valid { IsValid (listed_instance listed.now) }
     requires among { StandAmong listed.now.jobs.items listed.now.dones.items }
     ensures run { IfOk result (λ events. events.items ≡ printed (listed_instance listed.now)) }
@@ -101,13 +102,13 @@ fn record<L: Ledger>(
 }
 
 /// What these steps complete.
-fn completed_by(alloc: Global, run: &[Event]) -> Result<Completion, Memory>
+fn completed_by(alloc: Global, run: &[PackedEvent]) -> Result<Completion, Memory>
     requires { length run.now ≤ 5_000_001 }
     ensures { IfOk result (λ it. HasSeen it run.now) }
 {
     let mut completion = Completion::none(alloc)?;
     for event in run {
-        completion.see(event);
+        completion.see(&event.event());
     }
     Ok(completion)
 }

@@ -2,7 +2,7 @@
 use Rattle.std.proofs.Common.{◌≡◌, ℕ, List, [], refl, sym, ap, ◌∙◌, subst, Option, Bool, true, Ok, Err}
 use Rattle.intervals.specs.Rows.{IsRunOf}
 use Rattle.dover_model.specs.Fraction.{Fraction}
-use Rattle.dover_model.specs.Instance.{IsListable}
+use Rattle.dover_model.specs.Instance.{Instance, IsListable}
 use Rattle.dover_model.specs.Run.{printed}
 use Rattle.dover_model.specs.Session.{instance_of}
 use Rattle.dover_model.specs.Verdict as model
@@ -25,6 +25,10 @@ use Rattle.trace_judge.specs.declared.verdict.Verdict.TheVariants.{Accepted, Wro
 use Rattle.report_word.specs.declared.form.Form.{Form}
 use Rattle.report_word.specs.Talk.{IsListed, SaysReport, report_text, told, report_talk}
 use Rattle.report_word.specs.Talking.{Puts}
+
+-- the run of equal steps
+pub same_run : (k : Fraction) (J : Instance) (es fs : List Event) → es ≡ fs → IsRunOf k fs J → IsRunOf k es J
+same_run k J es fs same is = subst (λ xs. IsRunOf k xs J) (sym same) is
 
 -- ---- what is put
 

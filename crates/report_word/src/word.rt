@@ -2,6 +2,7 @@
 ghost use Rattle.std.specs.Prelude.{◌≡◌, ◌↔◌, IsTrue, true, IfOk};
 ghost use Rattle.intervals.specs.Rows.{IsRunOf};
 ghost use Rattle.dover_model.specs.Instance.{Instance, IsListable, IsValid};
+ghost use Rattle.dover_model.specs.Reports as model;
 ghost use Rattle.dover_model.specs.Run.{printed};
 ghost use Rattle.dover_port.specs.Causes.{Causes, StopsWith};
 ghost use Rattle.dover_port.specs.Moves.{Since};
@@ -15,10 +16,11 @@ ghost use Rattle.report_word.specs.Talking.{Puts};
 
 use crate::Form;
 use dialogue::Stop;
-use dover_model::{Event, Memory, Ratio, Version};
+use dover_model::{Memory, Ratio, Version};
 use dover_port::{Output, Port, Status, put_all};
-use dover_report::{is_listable, table, text};
+use dover_report::{Findings, is_listable, table};
 use judge_word::{Teller, judge_and_tell, put_verdict, status_of};
+use packed_event::PackedEvent;
 use run_picture::picture;
 use run_view::{chrome, timeline, why};
 use std::alloc::Global;
@@ -26,26 +28,43 @@ use std::sync::ledger::Ledger;
 use step_count::Steps;
 use trace_judge::{Closed, Verdict};
 
+/// The report as a text on the run of this version that prints these steps, which are let go before it is written.
+fn text_of(
+    alloc: Global,
+    version: Version,
+    ratio: Ratio,
+    steps: Vec<PackedEvent>,
+) -> Result<Vec<u8>, Memory>
+    requires { (J : Instance) × IsRunOf ratio steps.items J }
+    ensures { (J : Instance) → IsRunOf ratio steps.items J → J.rules.version ≡ version → IfOk result
+        (λ text. text.items ≡ model.report J) }
+{
+    let found = Findings::of(alloc, version, ratio, &steps)?;
+    drop(steps);
+    let text = found.text(alloc)?;
+    Ok(text)
+}
+
 /// The report on the run of this version that prints these steps, and on how many lines were refused.
 fn report(
     alloc: Global,
     form: Form,
     version: Version,
     ratio: Ratio,
-    steps: &[Event],
+    steps: Vec<PackedEvent>,
     refused: u64,
 ) -> Result<Vec<u8>, Memory>
-    requires { (J : Instance) × IsRunOf ratio steps.now J }
-    ensures { (J : Instance) → IsRunOf ratio steps.now J → J.rules.version ≡ version → IfOk result
+    requires { (J : Instance) × IsRunOf ratio steps.items J }
+    ensures { (J : Instance) → IsRunOf ratio steps.items J → J.rules.version ≡ version → IfOk result
         (λ text. text.items ≡ report_text form refused J) }
 {
     match form {
-        Form::Text => text(alloc, version, ratio, steps),
-        Form::Table => table(alloc, version, steps),
-        Form::Chrome => chrome(alloc, ratio, steps),
-        Form::Why(number) => why(alloc, ratio, steps, number),
-        Form::Timeline(window) => timeline(alloc, ratio, steps, window),
-        Form::Svg(window) => picture(alloc, ratio, steps, refused, window),
+        Form::Text => text_of(alloc, version, ratio, steps),
+        Form::Table => table(alloc, version, &steps),
+        Form::Chrome => chrome(alloc, ratio, &steps),
+        Form::Why(number) => why(alloc, ratio, &steps, number),
+        Form::Timeline(window) => timeline(alloc, ratio, &steps, window),
+        Form::Svg(window) => picture(alloc, ratio, &steps, refused, window),
     }
 }
 
@@ -56,11 +75,11 @@ fn put_report<P: Port>(
     form: Form,
     version: Version,
     ratio: Ratio,
-    steps: &[Event],
+    steps: Vec<PackedEvent>,
     refused: u64,
 ) -> Result<(), Stop>
-    requires { (J : Instance) × IsRunOf ratio steps.now J }
-    ensures puts { (J : Instance) → IsRunOf ratio steps.now J → J.rules.version ≡ version →
+    requires { (J : Instance) × IsRunOf ratio steps.items J }
+    ensures puts { (J : Instance) → IsRunOf ratio steps.items J → J.rules.version ≡ version →
         Puts result (P.moves port.old) (P.moves port.new) (report_text form refused J) }
     ensures cause { StopCause result
         (P.write_faults port.old) (P.write_faults port.new) (P.read_faults port.old) (P.read_faults port.new) }
@@ -90,7 +109,7 @@ fn put_size<P: Port>(port: &mut P) -> Result<(), Stop>
 
 /// Whether the run of this version that prints these steps has no more jobs than a report keeps. Before version Three
 /// none has more.
-fn is_small(version: Version, steps: &[Event]) -> bool
+fn is_small(version: Version, steps: &[PackedEvent]) -> bool
     ensures { (J : Instance) → IsValid J → printed J ≡ steps.now → J.rules.version ≡ version →
         IsTrue result ↔ IsListable J }
 {
@@ -117,31 +136,34 @@ impl Teller for Reporting {
 
     fn laws() {}
 
-    fn tell<P: Port>(
-        self,
-        port: &mut P,
-        out: &mut Output,
-        closed: &Closed,
-    ) -> Result<Status, Stop> {
-        match closed.verdict {
+    fn tell<P: Port>(self, port: &mut P, out: &mut Output, closed: Closed) -> Result<Status, Stop> {
+        let Closed {
+            verdict,
+            steps,
+            refused,
+        } = closed;
+        match verdict {
             Verdict::Accepted { ratio, version, .. } => {
-                let (steps, refused) = (closed.steps.as_slice(), closed.refused);
-                if is_small(version, steps) {
+                if is_small(version, &steps) {
                     match put_report(self.alloc, port, self.form, version, ratio, steps, refused) {
                         Ok(()) => Ok(Status::Done),
                         Err(stop) => Err(stop),
                     }
                 } else {
+                    drop(steps);
                     match put_size(port) {
                         Ok(()) => Ok(Status::Refused),
                         Err(stop) => Err(stop),
                     }
                 }
             }
-            _ => match put_verdict(port, out, &closed.verdict) {
-                Ok(()) => Ok(status_of(&closed.verdict)),
-                Err(_) => Err(Stop::Unwritten),
-            },
+            _ => {
+                drop(steps);
+                match put_verdict(port, out, &verdict) {
+                    Ok(()) => Ok(status_of(&verdict)),
+                    Err(_) => Err(Stop::Unwritten),
+                }
+            }
         }
     }
 }

@@ -14,13 +14,14 @@ ghost use Rattle.room_ledger.specs.Pages.{had_in};
 ghost use Rattle.room_ledger.specs.Rooms as tests;
 
 use crate::under_way::UnderWay;
-use dover_model::{Entry, Event, Job, Memory, Ratio};
+use dover_model::{Entry, Job, Memory, Ratio};
+use packed_event::PackedEvent;
 use std::alloc::Global;
 
 /// At each printed step of a run that is a release or a preemption the room that the running and the held jobs leave a
 /// fresh job, and at each other one 0, in one pass over the steps. The jobs of the run are these, valid for the ratio
 /// `k`, and within the limits of version Two. Want of memory is the only error.
-pub fn rooms(alloc: Global, k: Ratio, jobs: &[Job], run: &[Event]) -> Result<Vec<u64>, Memory>
+pub fn rooms(alloc: Global, k: Ratio, jobs: &[Job], run: &[PackedEvent]) -> Result<Vec<u64>, Memory>
     requires { (J : Instance) × IsRunOf k run.now J × (jobs.now ≡ J.jobs) }
     ensures { (J : Instance) → IsRunOf k run.now J → jobs.now ≡ J.jobs
         → IfOk result (λ rooms. rooms.items ≡ tests.rooms J) }
@@ -36,7 +37,7 @@ pub fn rooms(alloc: Global, k: Ratio, jobs: &[Job], run: &[Event]) -> Result<Vec
 
 /// How many ticks each job has had by the end of a run, by number, in one pass over its printed steps. The jobs of the
 /// run are these, valid for some ratio, and within the limits of version Two. Want of memory is the only error.
-pub fn hads(alloc: Global, jobs: &[Job], run: &[Event]) -> Result<Vec<u64>, Memory>
+pub fn hads(alloc: Global, jobs: &[Job], run: &[PackedEvent]) -> Result<Vec<u64>, Memory>
     requires { (k : Fraction) × ((J : Instance) × IsRunOf k run.now J × (jobs.now ≡ J.jobs)) }
     ensures { (k : Fraction) (J : Instance) → IsRunOf k run.now J → jobs.now ≡ J.jobs
         → IfOk result (λ hads. hads.items ≡ observed.hads J) }

@@ -7,6 +7,7 @@ ghost use Rattle.room_ledger.specs.Pages as pages;
 
 use dover_model::{Entry, Event, Job, Memory};
 use held_queue::Privileged;
+use packed_event::PackedEvent;
 use std::alloc::Global;
 use std::marker::Model;
 
@@ -56,11 +57,11 @@ impl UnderWay {
     }
 
     /// Takes the next printed step into account.
-    pub fn read(&mut self, alloc: Global, event: &Event) -> Result<(), Memory>
+    pub fn read(&mut self, alloc: Global, event: &PackedEvent) -> Result<(), Memory>
         requires { IsReadable self.old event.now }
         ensures { OnOk result (self.new ≡ with_event self.old event.now) }
     {
-        match *event {
+        match event.event() {
             Event::Run { at, number } => self.run(at, number),
             Event::Preempt { at, starts, .. } => return self.preempt(at, starts),
             Event::Take { at, starts, .. } => return self.take(alloc, at, starts),
@@ -72,11 +73,11 @@ impl UnderWay {
 
     /// What a fresh job's work is tested against at the next printed step: at a release and at a preemption the room of
     /// the running and the held jobs.
-    pub fn room(&self, event: &Event) -> u64
+    pub fn room(&self, event: &PackedEvent) -> u64
         requires { IsReadable self.now event.now }
         ensures { result ≡ room_on self.now event.now }
     {
-        match *event {
+        match event.event() {
             Event::Release { job, .. } => self.room_at(job.release()),
             Event::Preempt { at, .. } => self.room_at(at),
             _ => 0,

@@ -5,11 +5,12 @@ ghost use Rattle.run_picture.specs.Columns as columns;
 
 use crate::outline::{Measure, Outline, after, rise, tick_of};
 use crate::plot::{Window, column_at};
-use dover_model::{Event, Job, Memory};
+use dover_model::{Job, Memory};
+use packed_event::PackedEvent;
 use run_view::template::put;
 
 /// The left pixel of the column of a step, never before pixel x.
-pub fn column_of(window: Window, x: u64, event: &Event) -> u64
+pub fn column_of(window: Window, x: u64, event: &PackedEvent) -> u64
     ensures is { result ≡ columns.column_of window x event.now }
     ensures modest { x ≤ 1_284 → result ≤ 1_284 }
 {
@@ -24,7 +25,7 @@ fn in_column(
     x: u64,
     next: u64,
     number: u64,
-    event: &Event,
+    event: &PackedEvent,
 ) -> u64
     requires { number ≤ 6_000_000_000_000_000 }
     ensures is { result ≡ columns.in_column measure window jobs.now x next number event.now }
@@ -35,7 +36,7 @@ fn in_column(
 }
 
 /// The greatest number of a column.
-pub fn fullest(measure: Measure, window: Window, jobs: &[Job], run: &[Event]) -> u64
+pub fn fullest(measure: Measure, window: Window, jobs: &[Job], run: &[PackedEvent]) -> u64
     requires { length run.now ≤ 5_000_001 }
     ensures { result ≡ columns.fullest measure window jobs.now run.now }
 {
@@ -56,7 +57,7 @@ pub fn put_towers(
     text: &mut Vec<u8>,
     outline: &Outline,
     jobs: &[Job],
-    run: &[Event],
+    run: &[PackedEvent],
 ) -> Result<(), Memory>
     requires { length run.now ≤ 5_000_001 }
     ensures { OnOk result (text.new.items ≡ text.old.items ++ columns.towers outline.now jobs.now run.now) }

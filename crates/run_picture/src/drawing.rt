@@ -19,9 +19,10 @@ use crate::seen::{Seen, told_by};
 use crate::strip::{Bars, put_numbers, put_pieces};
 use crate::windows::put_windows;
 use dover_model::jobs::LAST_TICK;
-use dover_model::{Event, Job, Memory, Piece, Ratio};
+use dover_model::{Job, Memory, Piece, Ratio};
 use dover_report::{count, released};
 use intervals::{Charge, Interval, weights};
+use packed_event::PackedEvent;
 use run_view::template::put;
 use std::alloc::Global;
 
@@ -33,7 +34,7 @@ use std::alloc::Global;
 pub fn picture(
     alloc: Global,
     k: Ratio,
-    run: &[Event],
+    run: &[PackedEvent],
     refused: u64,
     asked: Option<Window>,
 ) -> Result<Vec<u8>, Memory>
@@ -102,7 +103,7 @@ fn drawn(
     totals: &Totals,
     seen: &[Seen],
     jobs: &[Job],
-    run: &[Event],
+    run: &[PackedEvent],
     pieces: &[Piece],
     rows: &[Interval],
 ) -> Result<Vec<u8>, Memory>
@@ -131,7 +132,7 @@ fn loaded(
     totals: &Totals,
     seen: &[Seen],
     jobs: &[Job],
-    run: &[Event],
+    run: &[PackedEvent],
     pieces: &[Piece],
     rows: &[Interval],
 ) -> Result<Vec<u8>, Memory>
@@ -155,7 +156,7 @@ fn put_by_lanes(
     totals: &Totals,
     lanes: &[Lane],
     jobs: &[Job],
-    run: &[Event],
+    run: &[PackedEvent],
     pieces: &[Piece],
     rows: &[Interval],
 ) -> Result<(), Memory>
@@ -235,7 +236,7 @@ fn put_over(
     coarse: bool,
     bottom: u64,
     jobs: &[Job],
-    run: &[Event],
+    run: &[PackedEvent],
 ) -> Result<(), Memory>
     requires steps { length run.now ≤ 5_000_001 }
     requires bottom { bottom ≤ 2 ^ 39 }
@@ -254,7 +255,7 @@ fn put_by_load(
     totals: &Totals,
     lanes: &[Lane],
     jobs: &[Job],
-    run: &[Event],
+    run: &[PackedEvent],
     pieces: &[Piece],
     rows: &[Interval],
 ) -> Result<(), Memory>
@@ -276,7 +277,7 @@ fn put_load(
     window: Window,
     lanes: &[Lane],
     jobs: &[Job],
-    run: &[Event],
+    run: &[PackedEvent],
     pieces: &[Piece],
 ) -> Result<(), Memory>
     requires { length run.now ≤ 5_000_001 }
@@ -296,7 +297,7 @@ fn put_middle(
     window: Window,
     unit: u64,
     lanes: &[Lane],
-    run: &[Event],
+    run: &[PackedEvent],
     pieces: &[Piece],
 ) -> Result<(), Memory>
     requires { unit ≤ 18 }
@@ -388,7 +389,7 @@ fn put_lanes(
     window: Window,
     unit: u64,
     lanes: &[Lane],
-    run: &[Event],
+    run: &[PackedEvent],
     pieces: &[Piece],
 ) -> Result<(), Memory>
     requires { unit ≤ 18 }
@@ -436,7 +437,7 @@ fn put_all_holds(
     window: Window,
     unit: u64,
     lanes: &[Lane],
-    run: &[Event],
+    run: &[PackedEvent],
 ) -> Result<(), Memory>
     requires { unit ≤ 18 }
     ensures { OnOk result (text.new.items ≡ text.old.items ++ pictures.holds_bars window unit lanes.now run.now) }
@@ -453,7 +454,7 @@ fn put_lanes_lines(
     window: Window,
     unit: u64,
     lanes: &[Lane],
-    run: &[Event],
+    run: &[PackedEvent],
 ) -> Result<(), Memory>
     requires { unit ≤ 18 }
     ensures { OnOk result (text.new.items ≡ text.old.items ++ pictures.lanes_lines window unit lanes.now run.now) }

@@ -5,6 +5,7 @@ ghost use Rattle.run_picture.specs.Marks as marks;
 use crate::lanes::{Lane, lane_at, middle, shows};
 use crate::plot::{Window, has, meets, put_bar, x_at};
 use dover_model::{Event, Memory};
+use packed_event::PackedEvent;
 use run_view::template::put;
 
 /// Appends bars where jobs are started and not over.
@@ -13,7 +14,7 @@ pub fn put_holds(
     window: Window,
     unit: u64,
     lanes: &[Lane],
-    run: &[Event],
+    run: &[PackedEvent],
 ) -> Result<(), Memory>
     requires { unit ≤ 18 }
     ensures { OnOk result (text.new.items ≡ text.old.items ++ marks.holds window unit lanes.now run.now) }
@@ -30,12 +31,12 @@ fn put_hold_of(
     window: Window,
     unit: u64,
     lanes: &[Lane],
-    event: &Event,
+    event: &PackedEvent,
 ) -> Result<(), Memory>
     requires { unit ≤ 18 }
     ensures { OnOk result (text.new.items ≡ text.old.items ++ marks.hold_of window unit lanes.now event.now) }
 {
-    match *event {
+    match event.event() {
         Event::Preempt { at, stops, .. } => put_hold(
             text,
             window,
@@ -72,7 +73,7 @@ pub fn put_crosses(
     window: Window,
     unit: u64,
     lanes: &[Lane],
-    run: &[Event],
+    run: &[PackedEvent],
 ) -> Result<(), Memory>
     requires { unit ≤ 18 }
     ensures { OnOk result (text.new.items ≡ text.old.items ++ marks.crosses window unit lanes.now run.now) }
@@ -89,12 +90,12 @@ fn put_cross_of(
     window: Window,
     unit: u64,
     lanes: &[Lane],
-    event: &Event,
+    event: &PackedEvent,
 ) -> Result<(), Memory>
     requires { unit ≤ 18 }
     ensures { OnOk result (text.new.items ≡ text.old.items ++ marks.cross_of window unit lanes.now event.now) }
 {
-    match *event {
+    match event.event() {
         Event::Abandon { at, number } => put_cross_in(
             text,
             window,
@@ -139,7 +140,7 @@ pub fn put_arrows(
     unit: u64,
     takes: bool,
     lanes: &[Lane],
-    run: &[Event],
+    run: &[PackedEvent],
 ) -> Result<(), Memory>
     requires { unit ≤ 18 }
     ensures { OnOk result (text.new.items ≡ text.old.items ++ marks.arrows window unit takes lanes.now run.now) }
@@ -157,12 +158,12 @@ fn put_arrow_of(
     unit: u64,
     takes: bool,
     lanes: &[Lane],
-    event: &Event,
+    event: &PackedEvent,
 ) -> Result<(), Memory>
     requires { unit ≤ 18 }
     ensures { OnOk result (text.new.items ≡ text.old.items ++ marks.arrow_of window unit takes lanes.now event.now) }
 {
-    match *event {
+    match event.event() {
         Event::Preempt { at, stops, starts } => {
             if takes {
                 return Ok(());

@@ -7,6 +7,7 @@ ghost use Rattle.run_picture.specs.Outlines as outlines;
 use crate::plot::{Window, column_at, has, scaled, x_at};
 use dover_model::{Event, Job, Memory};
 use dover_report::value_of;
+use packed_event::PackedEvent;
 use run_view::template::put;
 
 /// What is measured.
@@ -46,24 +47,24 @@ fn worth_at(window: Window, jobs: &[Job], at: u64, number: u32) -> u64
 }
 
 /// The value completed after a step.
-fn completed_after(window: Window, jobs: &[Job], event: &Event, value: u64) -> u64
+fn completed_after(window: Window, jobs: &[Job], event: &PackedEvent, value: u64) -> u64
     requires { value ≤ 6_000_000_000_000_000 }
     ensures is { result ≡ outlines.completed_after window jobs.now event.now value }
     ensures modest { result ≤ value + most_value }
 {
-    match *event {
+    match event.event() {
         Event::Complete { at, number } => value + worth_at(window, jobs, at, number),
         _ => value,
     }
 }
 
 /// The value completed or lost after a step.
-fn decided_after(window: Window, jobs: &[Job], event: &Event, value: u64) -> u64
+fn decided_after(window: Window, jobs: &[Job], event: &PackedEvent, value: u64) -> u64
     requires { value ≤ 6_000_000_000_000_000 }
     ensures is { result ≡ outlines.decided_after window jobs.now event.now value }
     ensures modest { result ≤ value + most_value }
 {
-    match *event {
+    match event.event() {
         Event::Complete { at, number } => value + worth_at(window, jobs, at, number),
         Event::Abandon { at, number } => value + worth_at(window, jobs, at, number),
         _ => value,
@@ -71,7 +72,13 @@ fn decided_after(window: Window, jobs: &[Job], event: &Event, value: u64) -> u64
 }
 
 /// The number after a step.
-pub fn after(measure: Measure, window: Window, jobs: &[Job], event: &Event, number: u64) -> u64
+pub fn after(
+    measure: Measure,
+    window: Window,
+    jobs: &[Job],
+    event: &PackedEvent,
+    number: u64,
+) -> u64
     requires { number ≤ 6_000_000_000_000_000 }
     ensures is { result ≡ outlines.after measure window jobs.now event.now number }
     ensures modest { result ≤ number + most_value }
@@ -83,7 +90,7 @@ pub fn after(measure: Measure, window: Window, jobs: &[Job], event: &Event, numb
 }
 
 /// The greatest number after any of these steps.
-pub fn greatest(measure: Measure, window: Window, jobs: &[Job], run: &[Event]) -> u64
+pub fn greatest(measure: Measure, window: Window, jobs: &[Job], run: &[PackedEvent]) -> u64
     requires { length run.now ≤ 5_000_001 }
     ensures { result ≡ outlines.greatest measure window jobs.now run.now }
 {
@@ -97,10 +104,10 @@ pub fn greatest(measure: Measure, window: Window, jobs: &[Job], run: &[Event]) -
 }
 
 /// The tick of a step.
-pub fn tick_of(event: &Event) -> u64
+pub fn tick_of(event: &PackedEvent) -> u64
     ensures { result ≡ tick_of_event event.now }
 {
-    match *event {
+    match event.event() {
         Event::Release { job, .. } => job.release(),
         Event::Run { at, .. } => at,
         Event::Preempt { at, .. } => at,
@@ -112,7 +119,7 @@ pub fn tick_of(event: &Event) -> u64
 }
 
 /// The pixel of a step, never before pixel x.
-fn pixel_of(outline: &Outline, x: u64, event: &Event) -> u64
+fn pixel_of(outline: &Outline, x: u64, event: &PackedEvent) -> u64
     ensures { result ≡ outlines.pixel_of outline.now x event.now }
 {
     let tick = tick_of(event);
@@ -138,7 +145,7 @@ pub fn put_outline(
     text: &mut Vec<u8>,
     outline: &Outline,
     jobs: &[Job],
-    run: &[Event],
+    run: &[PackedEvent],
 ) -> Result<(), Memory>
     requires { length run.now ≤ 5_000_001 }
     ensures { OnOk result (text.new.items ≡ text.old.items ++ outlines.outline outline.now jobs.now run.now) }
@@ -153,7 +160,7 @@ fn put_stairs(
     text: &mut Vec<u8>,
     outline: &Outline,
     jobs: &[Job],
-    run: &[Event],
+    run: &[PackedEvent],
 ) -> Result<(), Memory>
     requires { length run.now ≤ 5_000_001 }
     ensures { OnOk result (text.new.items ≡ text.old.items ++ outlines.stairs_from outline.now jobs.now 90 0 run.now) }

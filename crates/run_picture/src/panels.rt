@@ -6,7 +6,8 @@ use crate::columns::{fullest, put_towers};
 use crate::outline::{Measure, Outline, greatest, put_outline};
 use crate::plot::{Window, scaled};
 use crate::ready::{most_ready, put_peaks};
-use dover_model::{Event, Job, Memory};
+use dover_model::{Job, Memory};
+use packed_event::PackedEvent;
 use run_view::template::put;
 
 /// Appends an outline as an area of this class.
@@ -15,7 +16,7 @@ fn put_area(
     class: u8,
     outline: &Outline,
     jobs: &[Job],
-    run: &[Event],
+    run: &[PackedEvent],
 ) -> Result<(), Memory>
     requires { length run.now ≤ 5_000_001 }
     ensures { OnOk result (text.new.items ≡ text.old.items ++ panels.area class outline.now jobs.now run.now) }
@@ -43,7 +44,7 @@ pub fn put_values(
     coarse: bool,
     base: u64,
     jobs: &[Job],
-    run: &[Event],
+    run: &[PackedEvent],
 ) -> Result<(), Memory>
     requires steps { length run.now ≤ 5_000_001 }
     requires base { base ≤ 2 ^ 40 }
@@ -156,7 +157,7 @@ fn put_numbers_at(
 }
 
 /// Appends the panel of the jobs that are ready, in columns: the outline, the words beside it, and its border.
-pub fn put_ready(text: &mut Vec<u8>, window: Window, run: &[Event]) -> Result<(), Memory>
+pub fn put_ready(text: &mut Vec<u8>, window: Window, run: &[PackedEvent]) -> Result<(), Memory>
     requires { length run.now ≤ 5_000_001 }
     ensures { OnOk result (text.new.items ≡ text.old.items ++ panels.ready window run.now) }
 {
@@ -177,7 +178,7 @@ fn put_ready_area(
     text: &mut Vec<u8>,
     window: Window,
     most: u64,
-    run: &[Event],
+    run: &[PackedEvent],
 ) -> Result<(), Memory>
     requires { length run.now ≤ 5_000_001 }
     ensures { OnOk result (text.new.items ≡ text.old.items ++ panels.ready_area window most run.now) }
@@ -194,7 +195,7 @@ pub fn put_columns(
     text: &mut Vec<u8>,
     window: Window,
     jobs: &[Job],
-    run: &[Event],
+    run: &[PackedEvent],
 ) -> Result<(), Memory>
     requires { length run.now ≤ 5_000_001 }
     ensures { OnOk result (text.new.items ≡ text.old.items ++ panels.columns window jobs.now run.now) }
@@ -220,7 +221,7 @@ fn put_towers_area(
     class: u8,
     outline: &Outline,
     jobs: &[Job],
-    run: &[Event],
+    run: &[PackedEvent],
 ) -> Result<(), Memory>
     requires { length run.now ≤ 5_000_001 }
     ensures { OnOk result (text.new.items

@@ -3,6 +3,7 @@ ghost use Rattle.std.specs.Prelude.{◌≡◌, ◌++◌, OnOk, IfOk, None};
 ghost use Rattle.run_picture.specs.Processor as processor;
 
 use dover_model::{Event, Memory, Piece};
+use packed_event::PackedEvent;
 use std::alloc::Global;
 
 /// The job that has the processor, from this tick on.
@@ -15,7 +16,7 @@ pub struct Runner {
 }
 
 /// The pieces of these steps, in order of time.
-pub fn pieces(alloc: Global, run: &[Event]) -> Result<Vec<Piece>, Memory>
+pub fn pieces(alloc: Global, run: &[PackedEvent]) -> Result<Vec<Piece>, Memory>
     ensures { IfOk result (λ pieces. pieces.items ≡ processor.pieces_from None run.now) }
 {
     let mut pieces = Vec::new(alloc);
@@ -28,10 +29,10 @@ pub fn pieces(alloc: Global, run: &[Event]) -> Result<Vec<Piece>, Memory>
 }
 
 /// Appends the piece that a step ends.
-fn put_ended(pieces: &mut Vec<Piece>, on: Option<Runner>, event: &Event) -> Result<(), Memory>
+fn put_ended(pieces: &mut Vec<Piece>, on: Option<Runner>, event: &PackedEvent) -> Result<(), Memory>
     ensures { OnOk result (pieces.new.items ≡ pieces.old.items ++ processor.ended_by on event.now) }
 {
-    match *event {
+    match event.event() {
         Event::Run { at, .. } => put_piece(pieces, on, at),
         Event::Preempt { at, .. } => put_piece(pieces, on, at),
         Event::Take { at, .. } => put_piece(pieces, on, at),
@@ -58,10 +59,10 @@ fn put_piece(pieces: &mut Vec<Piece>, on: Option<Runner>, at: u64) -> Result<(),
 }
 
 /// Who has the processor after a step.
-fn on_after(on: Option<Runner>, event: &Event) -> Option<Runner>
+fn on_after(on: Option<Runner>, event: &PackedEvent) -> Option<Runner>
     ensures { result ≡ processor.on_after on event.now }
 {
-    match *event {
+    match event.event() {
         Event::Run { at, number } => Some(Runner { number, from: at }),
         Event::Preempt { at, starts, .. } => Some(Runner {
             number: starts,

@@ -6,14 +6,15 @@ use crate::columns::column_of;
 use crate::outline::{put_last, put_stair, tick_of};
 use crate::plot::{Window, has, scaled};
 use dover_model::{Event, Memory};
+use packed_event::PackedEvent;
 
 /// The jobs that are released and neither done nor gone, after a step.
-fn ready_after(event: &Event, count: u64) -> u64
+fn ready_after(event: &PackedEvent, count: u64) -> u64
     requires { count ≤ 6_000_000_000 }
     ensures is { result ≡ ready.ready_after event.now count }
     ensures modest { result ≤ count + 1 }
 {
-    match event {
+    match event.event() {
         Event::Release { .. } => count + 1,
         Event::Complete { .. } => count.saturating_sub(1),
         Event::Abandon { .. } => count.saturating_sub(1),
@@ -22,7 +23,7 @@ fn ready_after(event: &Event, count: u64) -> u64
 }
 
 /// The same, where no step counts at the end of the window or behind it.
-fn ready_in(window: Window, event: &Event, count: u64) -> u64
+fn ready_in(window: Window, event: &PackedEvent, count: u64) -> u64
     requires { count ≤ 6_000_000_000 }
     ensures is { result ≡ ready.ready_in window event.now count }
     ensures modest { result ≤ count + 1 }
@@ -35,7 +36,7 @@ fn ready_in(window: Window, event: &Event, count: u64) -> u64
 }
 
 /// The most so far, where so many are ready before a step, and so many after it.
-fn most_after(window: Window, event: &Event, before: u64, after: u64, most: u64) -> u64
+fn most_after(window: Window, event: &PackedEvent, before: u64, after: u64, most: u64) -> u64
     ensures { result ≡ ready.most_after window event.now before after most }
 {
     if has(window, tick_of(event)) {
@@ -46,7 +47,7 @@ fn most_after(window: Window, event: &Event, before: u64, after: u64, most: u64)
 }
 
 /// The most jobs that are ready in the window.
-pub fn most_ready(window: Window, run: &[Event]) -> u64
+pub fn most_ready(window: Window, run: &[PackedEvent]) -> u64
     requires { length run.now ≤ 5_000_001 }
     ensures { result ≡ ready.most_ready window run.now }
 {
@@ -68,7 +69,14 @@ fn level(most: u64, count: u64) -> u64
 }
 
 /// The most so far in a column after a step, where the step is in that column or in another one.
-fn high_after(window: Window, event: &Event, same: bool, before: u64, after: u64, high: u64) -> u64
+fn high_after(
+    window: Window,
+    event: &PackedEvent,
+    same: bool,
+    before: u64,
+    after: u64,
+    high: u64,
+) -> u64
     ensures { result ≡ ready.high_after window event.now same before after high }
 {
     let so_far = if same { high } else { 0 };
@@ -76,7 +84,12 @@ fn high_after(window: Window, event: &Event, same: bool, before: u64, after: u64
 }
 
 /// Appends the outline of the jobs that are ready, the most in each column.
-pub fn put_peaks(text: &mut Vec<u8>, window: Window, most: u64, run: &[Event]) -> Result<(), Memory>
+pub fn put_peaks(
+    text: &mut Vec<u8>,
+    window: Window,
+    most: u64,
+    run: &[PackedEvent],
+) -> Result<(), Memory>
     requires { length run.now ≤ 5_000_001 }
     ensures { OnOk result (text.new.items ≡ text.old.items ++ ready.peaks window most run.now) }
 {
@@ -85,7 +98,12 @@ pub fn put_peaks(text: &mut Vec<u8>, window: Window, most: u64, run: &[Event]) -
 }
 
 /// Appends the columns, from the left on.
-fn put_columns(text: &mut Vec<u8>, window: Window, most: u64, run: &[Event]) -> Result<(), Memory>
+fn put_columns(
+    text: &mut Vec<u8>,
+    window: Window,
+    most: u64,
+    run: &[PackedEvent],
+) -> Result<(), Memory>
     requires { length run.now ≤ 5_000_001 }
     ensures { OnOk result (text.new.items ≡ text.old.items ++ ready.peaks_from window most 90 0 0 run.now) }
 {

@@ -4,6 +4,7 @@ ghost use Rattle.std.specs.List.{zip};
 ghost use Rattle.run_picture.specs.Seen as tell;
 
 use dover_model::{Event, Job, Memory};
+use packed_event::PackedEvent;
 use std::alloc::Global;
 
 /// How a job ended, and at which tick.
@@ -39,7 +40,7 @@ pub struct Seen {
 }
 
 /// What these steps tell of the jobs, by number, where the jobs under way are worth so much before each.
-pub fn told_by(alloc: Global, run: &[Event], worths: &[u64]) -> Result<Vec<Seen>, Memory>
+pub fn told_by(alloc: Global, run: &[PackedEvent], worths: &[u64]) -> Result<Vec<Seen>, Memory>
     requires same { length worths.now ≡ length run.now }
     ensures { IfOk result (λ seen. seen.items ≡ tell.told_by [] (zip run.now worths.now)) }
 {
@@ -51,10 +52,10 @@ pub fn told_by(alloc: Global, run: &[Event], worths: &[u64]) -> Result<Vec<Seen>
 }
 
 /// One more step.
-fn put_step(seen: &mut Vec<Seen>, event: &Event, worth: u64) -> Result<(), Memory>
+fn put_step(seen: &mut Vec<Seen>, event: &PackedEvent, worth: u64) -> Result<(), Memory>
     ensures { OnOk result (seen.new.items ≡ tell.with_step seen.old.items event.now worth) }
 {
-    match *event {
+    match event.event() {
         Event::Release { number, job } => seen.push(fresh(number, &job))?,
         Event::Take { starts, .. } => take(seen, starts as usize, worth),
         Event::Complete { at, number } => complete(seen, number as usize, at),

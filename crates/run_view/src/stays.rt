@@ -5,6 +5,7 @@ ghost use Rattle.run_view.specs.Book.{blank, begun, with_step, Keeps};
 ghost use Rattle.run_view.specs.Stays.{stays_of};
 
 use dover_model::{Event, Memory};
+use packed_event::PackedEvent;
 use std::alloc::Global;
 use std::marker::Model;
 
@@ -49,7 +50,7 @@ impl Model for Stays {
 
 impl Stays {
     /// The stays of so many jobs in these steps, of which the last is read first.
-    pub fn of(alloc: Global, run: &[Event], count: usize) -> Result<Stays, Memory>
+    pub fn of(alloc: Global, run: &[PackedEvent], count: usize) -> Result<Stays, Memory>
         ensures count { IfOk result (λ stays. length stays.firsts ≡ count) }
         ensures keeps { IfOk result (λ stays. Keeps stays run.now) }
     {
@@ -76,10 +77,10 @@ impl Stays {
     }
 
     /// Takes an earlier step into account.
-    fn read(&mut self, event: &Event) -> Result<(), Memory>
+    fn read(&mut self, event: &PackedEvent) -> Result<(), Memory>
         ensures { OnOk result (self.new ≡ with_step self.old event.now) }
     {
-        match *event {
+        match event.event() {
             Event::Run { at, number } => self.begin(at, number as usize, false),
             Event::Preempt { at, starts, .. } => self.begin(at, starts as usize, false),
             Event::Take { at, starts, .. } => self.begin(at, starts as usize, true),

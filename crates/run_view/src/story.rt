@@ -14,6 +14,7 @@ use crate::threshold::least_heavy;
 use dover_model::{Event, Job, Memory, Ratio};
 use dover_report::{left_at, released};
 use intervals::weights;
+use packed_event::PackedEvent;
 use room_ledger::{hads, rooms};
 use std::alloc::Global;
 
@@ -44,7 +45,7 @@ pub struct Weighed {
 /// What happened to the job of this number in the run that prints these steps, and by which test, line by line; one
 /// line where there is no such job. The jobs of the run are valid for the ratio `k`, and within the limits of version
 /// Two. Want of memory is the only error.
-pub fn why(alloc: Global, k: Ratio, run: &[Event], number: u32) -> Result<Vec<u8>, Memory>
+pub fn why(alloc: Global, k: Ratio, run: &[PackedEvent], number: u32) -> Result<Vec<u8>, Memory>
     requires { (J : Instance) × IsRunOf k run.now J }
     ensures { (J : Instance) → IsRunOf k run.now J → IfOk result (λ written. written.items ≡ story.why number J) }
 {
@@ -98,7 +99,7 @@ fn put_story(
     asked: &Asked,
     jobs: &[Job],
     hads: &[u64],
-    run: &[Event],
+    run: &[PackedEvent],
     worths: &[u64],
     rooms: &[u64],
 ) -> Result<(), Memory>
@@ -125,12 +126,12 @@ fn put_story(
 }
 
 /// The work that counts at a step: that of the job that preempts, or of the one that completes.
-fn work_of(jobs: &[Job], event: &Event) -> u64
+fn work_of(jobs: &[Job], event: &PackedEvent) -> u64
     ensures { result ≡ story.work_of jobs.now event.now }
 {
-    match event {
-        Event::Preempt { starts, .. } => work_in(jobs, *starts),
-        Event::Complete { number, .. } => work_in(jobs, *number),
+    match event.event() {
+        Event::Preempt { starts, .. } => work_in(jobs, starts),
+        Event::Complete { number, .. } => work_in(jobs, number),
         _ => 0,
     }
 }
@@ -146,7 +147,7 @@ fn work_in(jobs: &[Job], number: u32) -> u64
 }
 
 /// Whether the step at this place starts the job of this number.
-fn starts_at(number: u32, run: &[Event], index: usize) -> bool
+fn starts_at(number: u32, run: &[PackedEvent], index: usize) -> bool
     ensures { result ≡ story.starts_first number (drop index run.now) }
 {
     match run.get(index) {
@@ -156,25 +157,25 @@ fn starts_at(number: u32, run: &[Event], index: usize) -> bool
 }
 
 /// Whether a step starts the job of this number.
-fn starts(number: u32, event: &Event) -> bool
+fn starts(number: u32, event: &PackedEvent) -> bool
     ensures { (more : List Event) → result ≡ story.starts_first number (event.now ∷ more) }
 {
-    match event {
-        Event::Run { number: other, .. } => *other == number,
-        Event::Preempt { starts, .. } => *starts == number,
+    match event.event() {
+        Event::Run { number: other, .. } => other == number,
+        Event::Preempt { starts, .. } => starts == number,
         _ => false,
     }
 }
 
 /// Whether the job runs or is held after a step.
-fn is_on_after(number: u32, on: bool, event: &Event) -> bool
+fn is_on_after(number: u32, on: bool, event: &PackedEvent) -> bool
     ensures { result ≡ story.on_after number on event.now }
 {
-    match event {
-        Event::Run { number: other, .. } => on || *other == number,
-        Event::Preempt { starts, .. } => on || *starts == number,
-        Event::Take { starts, .. } => *starts == number,
-        Event::Complete { number: other, .. } => on && *other != number,
+    match event.event() {
+        Event::Run { number: other, .. } => on || other == number,
+        Event::Preempt { starts, .. } => on || starts == number,
+        Event::Take { starts, .. } => starts == number,
+        Event::Complete { number: other, .. } => on && other != number,
         _ => on,
     }
 }
@@ -186,14 +187,14 @@ fn put_told(
     on: bool,
     starts: bool,
     weighed: &Weighed,
-    event: &Event,
+    event: &PackedEvent,
 ) -> Result<(), Memory>
     requires value { asked.now.value ≤ most_value }
     requires worth { weighed.now.worth ≤ most_total Two }
     ensures { OnOk result (text.new.items ≡ text.old.items
         ++ story.told asked.now.k asked.now.number asked.now.value on starts weighed.now event.now) }
 {
-    match *event {
+    match event.event() {
         Event::Release { number, job } => put_arrived(
             text,
             asked.number,

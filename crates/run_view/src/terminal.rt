@@ -13,11 +13,12 @@ use crate::signs::{put_blanks, put_signs};
 use crate::stays::{Stay, Stays};
 use crate::template::{put, put_wide};
 use crate::window::Window;
-use dover_model::{Event, Job, Memory, Ratio};
+use dover_model::{Job, Memory, Ratio};
 use dover_report::endings::{Ending, ending_at, endings};
 use dover_report::{Counts, count, released};
 use intervals::Charge;
 use itoa::Buffer;
+use packed_event::PackedEvent;
 use std::alloc::Global;
 
 /// The run that prints these steps as a picture for a terminal, in the ticks of the window, or in all up to the last
@@ -27,7 +28,7 @@ use std::alloc::Global;
 pub fn timeline(
     alloc: Global,
     k: Ratio,
-    run: &[Event],
+    run: &[PackedEvent],
     window: Option<Window>,
 ) -> Result<Vec<u8>, Memory>
     requires { (J : Instance) × IsRunOf k run.now J }
@@ -142,7 +143,7 @@ fn put_jobs(
     alloc: Global,
     text: &mut Vec<u8>,
     window: &Window,
-    run: &[Event],
+    run: &[PackedEvent],
     jobs: &[Job],
 ) -> Result<(), Memory>
     ensures { OnOk result (text.new.items

@@ -12,6 +12,7 @@ use crate::template::put;
 use dover_model::{Event, Job, Memory, Ratio};
 use dover_report::{had_of, left_of, released, value_of};
 use intervals::weights;
+use packed_event::PackedEvent;
 use room_ledger::hads;
 use std::alloc::Global;
 
@@ -19,7 +20,7 @@ use std::alloc::Global;
 /// job from its release to its fate, what is weighed at each take and abandonment, and the values completed and lost
 /// so far. The jobs of the run are valid for the ratio `k`, and within the limits of version Two. Want of memory is the
 /// only error.
-pub fn chrome(alloc: Global, k: Ratio, run: &[Event]) -> Result<Vec<u8>, Memory>
+pub fn chrome(alloc: Global, k: Ratio, run: &[PackedEvent]) -> Result<Vec<u8>, Memory>
     requires { (J : Instance) × IsRunOf k run.now J }
     ensures { (J : Instance) → IsRunOf k run.now J → IfOk result (λ written. written.items ≡ events.chrome J) }
 {
@@ -41,7 +42,7 @@ fn put_events(
     text: &mut Vec<u8>,
     jobs: &[Job],
     hads: &[u64],
-    run: &[Event],
+    run: &[PackedEvent],
     worths: &[u64],
 ) -> Result<(), Memory>
     requires few { length run.now ≤ 5_000_001 }
@@ -60,23 +61,23 @@ fn put_events(
 }
 
 /// The value that a step completes.
-fn value_done(jobs: &[Job], event: &Event) -> u64
+fn value_done(jobs: &[Job], event: &PackedEvent) -> u64
     ensures is { result ≡ events.value_done jobs.now event.now }
     ensures modest { result ≤ most_value }
 {
-    match event {
-        Event::Complete { number, .. } => value_of(jobs, *number),
+    match event.event() {
+        Event::Complete { number, .. } => value_of(jobs, number),
         _ => 0,
     }
 }
 
 /// The value that a step abandons.
-fn value_lost(jobs: &[Job], event: &Event) -> u64
+fn value_lost(jobs: &[Job], event: &PackedEvent) -> u64
     ensures is { result ≡ counts.value_lost jobs.now event.now }
     ensures modest { result ≤ most_value }
 {
-    match event {
-        Event::Abandon { number, .. } => value_of(jobs, *number),
+    match event.event() {
+        Event::Abandon { number, .. } => value_of(jobs, number),
         _ => 0,
     }
 }
@@ -86,7 +87,7 @@ fn put_event(
     text: &mut Vec<u8>,
     jobs: &[Job],
     hads: &[u64],
-    event: &Event,
+    event: &PackedEvent,
     done: u64,
     lost: u64,
     worth: u64,
@@ -94,7 +95,7 @@ fn put_event(
     ensures { OnOk result (text.new.items
         ≡ text.old.items ++ events.events_of jobs.now hads.now done lost worth event.now) }
 {
-    match *event {
+    match event.event() {
         Event::Release { number, job } => put_opens(text, u64::from(number), &job),
         Event::Run { at, number } => put_begins(text, at, u64::from(number)),
         Event::Preempt { at, stops, starts } => put_switch(

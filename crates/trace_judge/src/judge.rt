@@ -12,8 +12,9 @@ ghost use Rattle.trace_judge.specs.Judging.{Misses, Notes, HasPaidFor, PaysFor};
 use crate::reader::Reader;
 use crate::stage::Stage;
 use crate::verdict::{Expected, Verdict};
-use dover_model::{Event, Memory};
+use dover_model::Memory;
 use line_text::{Lines, Step};
+use packed_event::PackedEvent;
 use std::alloc::Global;
 use std::marker::Model;
 use std::sync::ledger::Ledger;
@@ -53,7 +54,7 @@ pub struct Closed {
     /// What the text is.
     pub verdict: Verdict,
     /// The printed steps of the run, or none.
-    pub steps: Vec<Event>,
+    pub steps: Vec<PackedEvent>,
     pub refused: u64,
 }
 

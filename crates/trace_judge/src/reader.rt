@@ -15,6 +15,7 @@ use crate::verdict::{Expected, Verdict};
 use admission::Admission;
 use dover_model::jobs::LAST_TICK;
 use dover_model::{Event, Job, Memory, Ratio, Refusal, Version};
+use packed_event::PackedEvent;
 use ready_jobs::{MOST_READY, Ready};
 use root_compare::long_bound;
 use std::alloc::Global;
@@ -35,7 +36,7 @@ pub struct Reader {
     items: u64,
     floor: u64,
     keep: bool,
-    steps: Vec<Event>,
+    steps: Vec<PackedEvent>,
     spare: u32,
     refused: u64,
     last: u64,
@@ -215,7 +216,7 @@ impl Reader {
     }
 
     /// The steps that were kept.
-    pub fn into_steps(self) -> Vec<Event>
+    pub fn into_steps(self) -> Vec<PackedEvent>
         ensures { result.items ≡ self.steps }
     {
         self.steps
@@ -255,7 +256,7 @@ impl Reader {
         if !self.course.follow(event, steps) {
             return false;
         }
-        keep_step(self.keep, &mut self.steps, *event);
+        keep_step(self.keep, &mut self.steps, event);
         self.last = self.course.clock();
         if is_end(event) {
             self.stage = Stage::Ended;
@@ -381,7 +382,7 @@ impl Reader {
         self.floor = release;
         self.last = release;
         self.spare -= 1;
-        keep_step(self.keep, &mut self.steps, Event::Release { number, job });
+        keep_step(self.keep, &mut self.steps, &Event::Release { number, job });
     }
 
     // The next line is that of a release.
@@ -443,7 +444,7 @@ impl Reader {
         self.items += 1;
         self.floor = at;
         self.last = at;
-        keep_step(self.keep, &mut self.steps, Event::Complete { at, number });
+        keep_step(self.keep, &mut self.steps, &Event::Complete { at, number });
     }
 
     // The next line is that of a completion, by which a job finishes early.
@@ -804,12 +805,12 @@ fn floor_after(event: &Event, clock: u64) -> u64
 }
 
 // Puts the step behind the others, where they are kept.
-fn keep_step(keep: bool, steps: &mut Vec<Event>, event: Event)
+fn keep_step(keep: bool, steps: &mut Vec<PackedEvent>, event: &Event)
     requires { keep ≡ true → vec_len steps.old < vec_capacity steps.old }
-    ensures items { steps.new.items ≡ (if keep then steps.old.items ++ event ∷ [] else steps.old.items) }
+    ensures items { steps.new.items ≡ (if keep then steps.old.items ++ event.now ∷ [] else steps.old.items) }
     ensures room { vec_capacity steps.new ≡ vec_capacity steps.old }
 {
     if keep {
-        steps.push_reserved(event);
+        steps.push_reserved(PackedEvent::new(event));
     }
 }

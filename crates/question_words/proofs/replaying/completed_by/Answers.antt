@@ -12,7 +12,7 @@ see-requires c = (
 
 pub loop-event-preserved : goal.loop-event-preserved
 loop-event-preserved c = subst (HasSeen c.see.new.self)
-    (ap (λ e. take c.loop-event.event-index c.args.run.now ++ e ∷ []) c.event-item.is
+    (ap (λ e. take c.loop-event.event-index c.args.run.now ++ e ∷ []) (c.event.ensures ∙ c.event-item.is)
     ∙ sym (take_more c.args.run.now c.loop-event.event-index c.event-item.result c.loop-event-test.true))
     (c.see.ensures (take c.loop-event.event-index c.args.run.now) c.loop-event.invariant)
 

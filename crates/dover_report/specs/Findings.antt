@@ -1,0 +1,13 @@
+-- What is found of a run, as a text.
+use Rattle.std.specs.Prelude.{ℕ, List, [], ◌∷◌, ◌++◌, codes}
+use Rattle.dover_model.specs.Lines.{with_numbers, in_lines}
+use Rattle.dover_report.specs.Counts.{fates_lines, bound_line}
+use Rattle.dover_report.specs.Early.{lines_where}
+use Rattle.dover_report.specs.Lines.{row_lines}
+use Rattle.dover_report.specs.declared.report.Findings.{Findings}
+
+-- the lines of the ratio, of the summary with those that completed early, and of the intervals
+abbrev pub told : Findings → List ℕ
+told f =
+    (((in_lines (with_numbers (codes "ratio") (f.k.p ∷ f.k.q ∷ []) ∷ []) ++ in_lines (fates_lines f.counts))
+    ++ in_lines (lines_where f.early f.it)) ++ in_lines (bound_line f.counts ∷ [])) ++ in_lines (row_lines f.charge.rows)

@@ -1,0 +1,156 @@
+//! A step in few bytes.
+ghost use Rattle.std.specs.Prelude.{◌≡◌, ◌≢◌};
+ghost use Rattle.dover_model.specs.declared.events.Event.TheVariants as model;
+ghost use Rattle.packed_event.specs.declared.kind.Kind.TheVariants.{Release};
+ghost use Rattle.packed_event.specs.Packing.{high_of, low_of, joined, event_of};
+
+use crate::kind::Kind;
+use dover_model::{Event, Job};
+use std::marker::Model;
+use std::mem::size_of;
+
+// The first number that doesn't fit the low part of one.
+const HIGH: u64 = 1 << 32;
+
+/// A printed step. The numbers of a job are below 2^40, so that each is kept as its low 32 digits and the others.
+#[derive(Drop)]
+pub struct PackedEvent {
+    kind: Kind,
+    // The high parts of the release, the work and the deadline of a job.
+    release: u8,
+    work: u8,
+    deadline: u8,
+    number: u32,
+    // The low parts of these, or the two of a tick, and what else a step names.
+    first: u32,
+    second: u32,
+    third: u32,
+    value: u32,
+}
+
+const _: () = prove!(size_of::<PackedEvent>() == 24);
+
+impl Model for PackedEvent {
+    ghost use Rattle.dover_model.specs.declared.events.Event.{Event};
+
+    ghost Value = { Event };
+
+    ghost use Rattle.packed_event.specs.Packing.{event_of, HasJob};
+
+    ghost view = { λ p.
+        event_of p.kind p.number p.first p.second p.third p.release p.work p.deadline p.value };
+
+    ghost invariant = { λ p.
+        HasJob p.kind p.first p.second p.third p.release p.work p.deadline p.value };
+}
+
+/// The low part of a number.
+#[inline(always)]
+fn low_of(number: u64) -> u32
+    ensures { result ≡ low_of number }
+{
+    (number % HIGH) as u32
+}
+
+/// The high part of a number.
+#[inline(always)]
+fn high_of(number: u64) -> u32
+    ensures { result ≡ high_of number }
+{
+    (number / HIGH) as u32
+}
+
+/// The number of these parts.
+#[inline(always)]
+fn joined(low: u32, high: u32) -> u64
+    ensures { result ≡ joined low high }
+{
+    u64::from(low) + u64::from(high) * HIGH
+}
+
+/// A step of this kind, which isn't a release, at a tick.
+#[inline(always)]
+fn at_tick(kind: Kind, at: u64, number: u32, other: u32) -> PackedEvent
+    requires { kind ≢ Release }
+    ensures { result ≡ event_of kind number (low_of at) (high_of at) other 0 0 0 0 }
+{
+    PackedEvent {
+        kind,
+        release: 0,
+        work: 0,
+        deadline: 0,
+        number,
+        first: low_of(at),
+        second: high_of(at),
+        third: other,
+        value: 0,
+    }
+}
+
+/// The release of this job.
+#[inline(always)]
+fn of_release(number: u32, job: &Job) -> PackedEvent
+    ensures { result ≡ model.Release number job.now }
+{
+    let (release, work, deadline) = (job.release(), job.work(), job.deadline());
+    PackedEvent {
+        kind: Kind::Release,
+        release: high_of(release) as u8,
+        work: high_of(work) as u8,
+        deadline: high_of(deadline) as u8,
+        number,
+        first: low_of(release),
+        second: low_of(work),
+        third: low_of(deadline),
+        value: job.value() as u32,
+    }
+}
+
+impl PackedEvent {
+    /// This step, kept.
+    #[inline(always)]
+    pub fn new(event: &Event) -> PackedEvent
+        ensures { result ≡ event.now }
+    {
+        match event {
+            Event::Release { number, job } => of_release(*number, job),
+            Event::Run { at, number } => at_tick(Kind::Run, *at, *number, 0),
+            Event::Preempt { at, stops, starts } => at_tick(Kind::Preempt, *at, *stops, *starts),
+            Event::Take { at, stops, starts } => at_tick(Kind::Take, *at, *stops, *starts),
+            Event::Complete { at, number } => at_tick(Kind::Complete, *at, *number, 0),
+            Event::Abandon { at, number } => at_tick(Kind::Abandon, *at, *number, 0),
+            Event::End { value } => at_tick(Kind::End, *value, 0, 0),
+        }
+    }
+
+    /// The step.
+    #[inline(always)]
+    pub fn event(&self) -> Event
+        ensures { result ≡ self.now }
+    {
+        let (at, number, other) = (joined(self.first, self.second), self.number, self.third);
+        match self.kind {
+            Kind::Release => {
+                let release = joined(self.first, u32::from(self.release));
+                let work = joined(self.second, u32::from(self.work));
+                let deadline = joined(self.third, u32::from(self.deadline));
+                let job = Job::new(release, work, deadline, u64::from(self.value)).unwrap();
+                Event::Release { number, job }
+            }
+            Kind::Run => Event::Run { at, number },
+            Kind::Preempt => Event::Preempt {
+                at,
+                stops: number,
+                starts: other,
+            },
+            Kind::Take => Event::Take {
+                at,
+                stops: number,
+                starts: other,
+            },
+            Kind::Complete => Event::Complete { at, number },
+            Kind::Abandon => Event::Abandon { at, number },
+            Kind::End => Event::End { value: at },
+        }
+    }
+}
