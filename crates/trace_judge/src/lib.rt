@@ -4,6 +4,7 @@
 mod judge;
 pub mod laws;
 mod reader;
+mod says;
 mod stage;
 mod verdict;
 

@@ -1,15 +1,11 @@
 //! What the judge keeps of the lines of a trace.
-ghost use Rattle.std.specs.Prelude.{◌≡◌, ◌≤◌, ◌<◌, ◌+◌, ◌∷◌, ◌++◌, ◌↔◌, ℕ, List, [], Bool, true, false, IsTrue, IfOk};
+ghost use Rattle.std.specs.Prelude.{◌≡◌, ◌≤◌, ◌<◌, ◌+◌, ◌∷◌, ◌++◌, ℕ, List, [], Bool, true, false, IsTrue, IfOk};
 ghost use Rattle.std.specs.Prelude.{OnOk, OnErr, IsOk, Some, None, vec_len, vec_capacity, length, if◌then◌else◌};
 ghost use Rattle.dover_model.specs.Limits.{last_tick, most_items};
-ghost use Rattle.dover_model.specs.Step.{Prints};
-ghost use Rattle.dover_model.specs.Run.{is_end};
-ghost use Rattle.dover_model.specs.Settled.{waits_for_mark};
-ghost use Rattle.dover_model.specs.Session.{may_finish_early, refuses_lines, late_refusal};
-ghost use Rattle.std.specs.Prelude.{◌&&◌, nat_le, is_some, ◌==◌};
-ghost use Rattle.std.specs.Bool.{then_some};
-ghost use Rattle.dover_model.specs.declared.events.Refusal.TheVariants.{Full};
+ghost use Rattle.dover_model.specs.Session.{may_finish_early, refuses_lines};
+ghost use Rattle.std.specs.Prelude.{◌&&◌, nat_le, is_some};
 
+use crate::says::{floor_after, is_end, is_full_cause, is_late_cause, is_same_cause};
 use crate::stage::Stage;
 use crate::verdict::{Expected, Verdict};
 use admission::Admission;
@@ -744,63 +740,6 @@ impl Reader {
             Ok(read) => self.take_read(&read, steps),
             Err(_) => Ok(false),
         }
-    }
-}
-
-// It is the cause for which a late job line is refused alone.
-fn is_late_cause(version: Version, cause: Refusal) -> bool
-    ensures { IsTrue result ↔ (late_refusal version ≡ Some cause) }
-{
-    match version {
-        Version::One | Version::Two => false,
-        Version::Three => is_same_cause(cause, Refusal::Late),
-    }
-}
-
-// It is the cause that as many jobs are ready as may be at once, of a line at its job's release.
-fn is_full_cause(release: u64, at: u64, cause: Refusal) -> bool
-    ensures { IsTrue result ↔ (then_some (release == at) Full ≡ Some cause) }
-{
-    if release != at {
-        return false;
-    }
-    is_same_cause(cause, Refusal::Full)
-}
-
-// Both are the same cause.
-fn is_same_cause(a: Refusal, b: Refusal) -> bool
-    ensures { IsTrue result ↔ (a ≡ b) }
-{
-    a == b
-}
-
-// Both are the same step.
-fn is_same(a: &Event, b: &Event) -> bool
-    ensures { IsTrue result ↔ (a.now ≡ b.now) }
-{
-    a == b
-}
-
-// The event is the last.
-fn is_end(event: &Event) -> bool
-    ensures { result ≡ is_end (Prints event.now) }
-{
-    matches!(event, Event::End { .. })
-}
-
-// The least tick at which the event is settled, right after it is printed.
-fn floor_after(event: &Event, clock: u64) -> u64
-    requires { clock ≤ last_tick }
-    ensures { result ≡ (if waits_for_mark (Prints event.now) then clock + 1 else clock) }
-{
-    match event {
-        Event::Take { .. } => clock + 1,
-        Event::Abandon { .. } => clock + 1,
-        Event::Release { .. } => clock,
-        Event::Run { .. } => clock,
-        Event::Preempt { .. } => clock,
-        Event::Complete { .. } => clock,
-        Event::End { .. } => clock,
     }
 }
 
