@@ -3,9 +3,8 @@ ghost use Rattle.dover_model.specs.declared.events.Event.TheVariants.{Release, R
 ghost use Rattle.dover_model.specs.declared.events.Event.TheVariants.{End};
 ghost use Rattle.dover_model.specs.JobFacts.{job_of_numbers};
 
-use dover_model::{Event, Job, Ratio};
+use dover_model::{Event, Job, PackedEvent, Ratio};
 use dover_report::summary;
-use packed_event::PackedEvent;
 use std::process::Abort;
 
 /// The ratio of these numbers.

@@ -5,6 +5,7 @@ pub mod Finishes
 pub mod Instance
 pub mod Schedules
 pub mod State
+pub mod Packing
 pub mod Ready
 pub mod Entries
 pub mod Orders

@@ -9,8 +9,7 @@ ghost use Rattle.dover_report.specs.Counts.{job_released, jobs_released, is_rele
 ghost use Rattle.dover_report.specs.Counts as counts;
 ghost use Rattle.dover_report.specs.Tallies.{tally_of, with_tally, HasSpace};
 
-use dover_model::{Event, Job, Memory, Ratio};
-use packed_event::PackedEvent;
+use dover_model::{Event, Job, Memory, PackedEvent, Ratio};
 use root_compare::bound;
 use std::alloc::Global;
 

@@ -12,8 +12,7 @@ ghost use Rattle.dover_report.specs.Early as lines;
 
 use crate::counts::released;
 use crate::lines::put_line;
-use dover_model::{Event, Job, Memory};
-use packed_event::PackedEvent;
+use dover_model::{Event, Job, Memory, PackedEvent};
 use room_ledger::hads;
 use std::alloc::Global;
 

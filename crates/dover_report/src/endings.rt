@@ -2,8 +2,7 @@
 ghost use Rattle.std.specs.Prelude.{◌≡◌, ◌<◌, ℕ, length, slice_index_or, IfOk};
 ghost use Rattle.dover_report.specs.Rows.{ending_at, ending_in, with_place, with_step};
 
-use dover_model::{Event, Memory};
-use packed_event::PackedEvent;
+use dover_model::{Event, Memory, PackedEvent};
 use std::alloc::Global;
 
 /// How a job ended, and at which tick.

@@ -6,8 +6,7 @@ ghost use Rattle.dover_model.specs.Limits.{most_jobs, most_total};
 ghost use Rattle.dover_model.specs.Run.{printed};
 
 use crate::counts::Tally;
-use dover_model::Version;
-use packed_event::PackedEvent;
+use dover_model::{PackedEvent, Version};
 
 /// Whether the jobs of the run that prints these steps are within the limits of version Two, which is what a report
 /// keeps at most. They are valid for some ratio. Takes no memory.

@@ -10,9 +10,8 @@ ghost use Rattle.dover_report.specs.Lines.{row_lines};
 use crate::counts::{Counts, run_counts};
 use crate::early::{Early, early_where, put_early};
 use crate::lines::put_line;
-use dover_model::{Memory, Ratio, Version};
+use dover_model::{Memory, PackedEvent, Ratio, Version};
 use intervals::{Charge, Interval};
-use packed_event::PackedEvent;
 use std::alloc::Global;
 
 /// What the report on a run says: its ratio, its summary, where jobs may finish early those that did, and its intervals.

@@ -12,9 +12,8 @@ ghost use Rattle.dover_report.specs.Rows.{had_fields, names_line};
 use crate::counts::releases;
 use crate::early::{had_at, hads_where};
 use crate::endings::{Ending, ending_at, endings};
-use dover_model::{Event, Job, Memory, Version};
+use dover_model::{Event, Job, Memory, PackedEvent, Version};
 use itoa::Buffer;
-use packed_event::PackedEvent;
 use std::alloc::Global;
 
 /// The table of the run of this version that prints these steps: a row of names, and a row for each job, which tells

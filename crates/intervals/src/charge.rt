@@ -15,8 +15,7 @@ ghost use Rattle.intervals.specs.Rows.{IsRunOf, numbers_of, rows_of};
 
 use crate::interval::Interval;
 use crate::ledger::Ledger;
-use dover_model::{Memory, Ratio};
-use packed_event::PackedEvent;
+use dover_model::{Memory, PackedEvent, Ratio};
 use std::alloc::Global;
 use std::marker::Model;
 

@@ -5,8 +5,7 @@ ghost use Rattle.intervals.specs.Pages.{IsReadable, CanJoin, CanTake, CanComplet
 ghost use Rattle.dover_model.specs.declared.events.Event.TheVariants.{Complete, Abandon};
 
 use crate::interval::{Interval, UnderWay};
-use dover_model::{Event, Memory};
-use packed_event::PackedEvent;
+use dover_model::{Event, Memory, PackedEvent};
 use std::alloc::Global;
 use std::marker::Model;
 

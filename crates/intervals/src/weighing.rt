@@ -8,8 +8,7 @@ ghost use Rattle.intervals.specs.Rows.{IsRunOf};
 ghost use Rattle.intervals.specs.Rows as rows;
 
 use crate::ledger::Ledger;
-use dover_model::{Memory, Ratio};
-use packed_event::PackedEvent;
+use dover_model::{Memory, PackedEvent, Ratio};
 use std::alloc::Global;
 
 /// What the running and the held jobs are worth before each of the printed steps of a run, in one pass over them. The

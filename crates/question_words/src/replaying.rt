@@ -13,9 +13,8 @@ ghost use Rattle.question_words.specs.Replaying.{HasRecorded, with_work, job_see
 ghost use Rattle.question_words.specs.Watching.{HasSeen};
 
 use crate::completing::Completion;
-use dover_model::{Event, Horizon, Job, Memory};
+use dover_model::{Event, Horizon, Job, Memory, PackedEvent};
 use event_feed::Listed;
-use packed_event::PackedEvent;
 use ready_server::{ReadyServer, Watcher, finish_job, serve_jobs, show_to};
 use room_ledger::hads;
 use std::alloc::Global;

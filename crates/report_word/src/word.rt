@@ -16,11 +16,10 @@ ghost use Rattle.report_word.specs.Talking.{Puts};
 
 use crate::Form;
 use dialogue::Stop;
-use dover_model::{Memory, Ratio, Version};
+use dover_model::{Memory, PackedEvent, Ratio, Version};
 use dover_port::{Output, Port, Status, put_all};
 use dover_report::{Findings, is_listable, table};
 use judge_word::{Teller, judge_and_tell, put_verdict, status_of};
-use packed_event::PackedEvent;
 use run_picture::picture;
 use run_view::{chrome, timeline, why};
 use std::alloc::Global;

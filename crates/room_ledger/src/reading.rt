@@ -14,8 +14,7 @@ ghost use Rattle.room_ledger.specs.Pages.{had_in};
 ghost use Rattle.room_ledger.specs.Rooms as tests;
 
 use crate::under_way::UnderWay;
-use dover_model::{Entry, Job, Memory, Ratio};
-use packed_event::PackedEvent;
+use dover_model::{Entry, Job, Memory, PackedEvent, Ratio};
 use std::alloc::Global;
 
 /// At each printed step of a run that is a release or a preemption the room that the running and the held jobs leave a

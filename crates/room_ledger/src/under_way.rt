@@ -5,9 +5,8 @@ ghost use Rattle.room_ledger.specs.Pages.{Page, nobody, ran, turn_at, stopped, s
 ghost use Rattle.room_ledger.specs.Pages.{empty, had_in, room_on, CanStop, CanPreempt, CanWeigh, IsReadable};
 ghost use Rattle.room_ledger.specs.Pages as pages;
 
-use dover_model::{Entry, Event, Job, Memory};
+use dover_model::{Entry, Event, Job, Memory, PackedEvent};
 use held_queue::Privileged;
-use packed_event::PackedEvent;
 use std::alloc::Global;
 use std::marker::Model;
 

@@ -5,8 +5,7 @@ ghost use Rattle.run_picture.specs.Columns as columns;
 
 use crate::outline::{Measure, Outline, after, rise, tick_of};
 use crate::plot::{Window, column_at};
-use dover_model::{Job, Memory};
-use packed_event::PackedEvent;
+use dover_model::{Job, Memory, PackedEvent};
 use run_view::template::put;
 
 /// The left pixel of the column of a step, never before pixel x.

@@ -19,10 +19,9 @@ use crate::seen::{Seen, told_by};
 use crate::strip::{Bars, put_numbers, put_pieces};
 use crate::windows::put_windows;
 use dover_model::jobs::LAST_TICK;
-use dover_model::{Job, Memory, Piece, Ratio};
+use dover_model::{Job, Memory, PackedEvent, Piece, Ratio};
 use dover_report::{count, released};
 use intervals::{Charge, Interval, weights};
-use packed_event::PackedEvent;
 use run_view::template::put;
 use std::alloc::Global;
 

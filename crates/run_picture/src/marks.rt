@@ -4,8 +4,7 @@ ghost use Rattle.run_picture.specs.Marks as marks;
 
 use crate::lanes::{Lane, lane_at, middle, shows};
 use crate::plot::{Window, has, meets, put_bar, x_at};
-use dover_model::{Event, Memory};
-use packed_event::PackedEvent;
+use dover_model::{Event, Memory, PackedEvent};
 use run_view::template::put;
 
 /// Appends bars where jobs are started and not over.

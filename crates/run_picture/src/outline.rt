@@ -5,9 +5,8 @@ ghost use Rattle.dover_model.specs.Settled.{tick_of_event};
 ghost use Rattle.run_picture.specs.Outlines as outlines;
 
 use crate::plot::{Window, column_at, has, scaled, x_at};
-use dover_model::{Event, Job, Memory};
+use dover_model::{Event, Job, Memory, PackedEvent};
 use dover_report::value_of;
-use packed_event::PackedEvent;
 use run_view::template::put;
 
 /// What is measured.

@@ -6,8 +6,7 @@ use crate::columns::{fullest, put_towers};
 use crate::outline::{Measure, Outline, greatest, put_outline};
 use crate::plot::{Window, scaled};
 use crate::ready::{most_ready, put_peaks};
-use dover_model::{Job, Memory};
-use packed_event::PackedEvent;
+use dover_model::{Job, Memory, PackedEvent};
 use run_view::template::put;
 
 /// Appends an outline as an area of this class.

@@ -2,8 +2,7 @@
 ghost use Rattle.std.specs.Prelude.{◌≡◌, ◌++◌, OnOk, IfOk, None};
 ghost use Rattle.run_picture.specs.Processor as processor;
 
-use dover_model::{Event, Memory, Piece};
-use packed_event::PackedEvent;
+use dover_model::{Event, Memory, PackedEvent, Piece};
 use std::alloc::Global;
 
 /// The job that has the processor, from this tick on.

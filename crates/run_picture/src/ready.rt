@@ -5,8 +5,7 @@ ghost use Rattle.run_picture.specs.Ready as ready;
 use crate::columns::column_of;
 use crate::outline::{put_last, put_stair, tick_of};
 use crate::plot::{Window, has, scaled};
-use dover_model::{Event, Memory};
-use packed_event::PackedEvent;
+use dover_model::{Event, Memory, PackedEvent};
 
 /// The jobs that are released and neither done nor gone, after a step.
 fn ready_after(event: &PackedEvent, count: u64) -> u64

@@ -3,8 +3,7 @@ ghost use Rattle.std.specs.Prelude.{◌≡◌, ◌≤◌, ◌++◌, length, OnOk
 ghost use Rattle.std.specs.List.{zip};
 ghost use Rattle.run_picture.specs.Seen as tell;
 
-use dover_model::{Event, Job, Memory};
-use packed_event::PackedEvent;
+use dover_model::{Event, Job, Memory, PackedEvent};
 use std::alloc::Global;
 
 /// How a job ended, and at which tick.

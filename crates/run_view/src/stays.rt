@@ -4,8 +4,7 @@ ghost use Rattle.dover_model.specs.declared.events.Event.{Event};
 ghost use Rattle.run_view.specs.Book.{blank, begun, with_step, Keeps};
 ghost use Rattle.run_view.specs.Stays.{stays_of};
 
-use dover_model::{Event, Memory};
-use packed_event::PackedEvent;
+use dover_model::{Event, Memory, PackedEvent};
 use std::alloc::Global;
 use std::marker::Model;
 

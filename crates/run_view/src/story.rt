@@ -11,10 +11,9 @@ ghost use Rattle.run_view.specs.Why as story;
 
 use crate::template::{put, put_wide};
 use crate::threshold::least_heavy;
-use dover_model::{Event, Job, Memory, Ratio};
+use dover_model::{Event, Job, Memory, PackedEvent, Ratio};
 use dover_report::{left_at, released};
 use intervals::weights;
-use packed_event::PackedEvent;
 use room_ledger::{hads, rooms};
 use std::alloc::Global;
 

@@ -13,12 +13,11 @@ use crate::signs::{put_blanks, put_signs};
 use crate::stays::{Stay, Stays};
 use crate::template::{put, put_wide};
 use crate::window::Window;
-use dover_model::{Job, Memory, Ratio};
+use dover_model::{Job, Memory, PackedEvent, Ratio};
 use dover_report::endings::{Ending, ending_at, endings};
 use dover_report::{Counts, count, released};
 use intervals::Charge;
 use itoa::Buffer;
-use packed_event::PackedEvent;
 use std::alloc::Global;
 
 /// The run that prints these steps as a picture for a terminal, in the ticks of the window, or in all up to the last

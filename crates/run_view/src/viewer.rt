@@ -9,10 +9,9 @@ ghost use Rattle.run_view.specs.Chrome as events;
 ghost use Rattle.run_view.specs.Templates.{filled};
 
 use crate::template::put;
-use dover_model::{Event, Job, Memory, Ratio};
+use dover_model::{Event, Job, Memory, PackedEvent, Ratio};
 use dover_report::{had_of, left_of, released, value_of};
 use intervals::weights;
-use packed_event::PackedEvent;
 use room_ledger::hads;
 use std::alloc::Global;
 

@@ -3,8 +3,8 @@ use Rattle.std.specs.Prelude.{ℕ, ◌+◌, ◌*◌, ◌/◌, ◌%◌, ◌^◌}
 use Rattle.dover_model.specs.JobFacts.{JobFacts, IsJob}
 use Rattle.dover_model.specs.declared.events.Event.{Event}
 use Rattle.dover_model.specs.declared.events.Event.TheVariants as event
-use Rattle.packed_event.specs.declared.kind.Kind.{Kind}
-use Rattle.packed_event.specs.declared.kind.Kind.TheVariants.{Release, Run, Preempt, Take, Complete, Abandon, End}
+use Rattle.dover_model.specs.declared.kind.Kind.{Kind}
+use Rattle.dover_model.specs.declared.kind.Kind.TheVariants.{Release, Run, Preempt, Take, Complete, Abandon, End}
 
 -- the two parts of a number
 abbrev pub low_of : ℕ → ℕ

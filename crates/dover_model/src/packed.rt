@@ -1,11 +1,12 @@
-//! A step in few bytes.
+//! A printed step in 24 bytes, as it is kept where all those of a run are.
 ghost use Rattle.std.specs.Prelude.{◌≡◌, ◌≢◌};
 ghost use Rattle.dover_model.specs.declared.events.Event.TheVariants as model;
-ghost use Rattle.packed_event.specs.declared.kind.Kind.TheVariants.{Release};
-ghost use Rattle.packed_event.specs.Packing.{high_of, low_of, joined, event_of};
+ghost use Rattle.dover_model.specs.declared.kind.Kind.TheVariants.{Release};
+ghost use Rattle.dover_model.specs.Packing.{high_of, low_of, joined, event_of};
 
+use crate::events::Event;
+use crate::jobs::Job;
 use crate::kind::Kind;
-use dover_model::{Event, Job};
 use std::marker::Model;
 use std::mem::size_of;
 
@@ -35,7 +36,7 @@ impl Model for PackedEvent {
 
     ghost Value = { Event };
 
-    ghost use Rattle.packed_event.specs.Packing.{event_of, HasJob};
+    ghost use Rattle.dover_model.specs.Packing.{event_of, HasJob};
 
     ghost view = { λ p.
         event_of p.kind p.number p.first p.second p.third p.release p.work p.deadline p.value };
