@@ -7,10 +7,9 @@ use Rattle.std.specs.List.{filter, sum_by}
 use Rattle.std.proofs.lemmas.List.{length-map}
 use Rattle.std.proofs.lemmas.Bool.{cases_eq}
 use Rattle.std.proofs.lemmas.List.Sums.{sum_by-cons, sum_by-append, length-filter, count_by-le-length}
-use Rattle.dover_model.specs.declared.events.Event.TheVariants.{Release, Run, Preempt, Take, Complete, Abandon, End}
+use Rattle.dover_model.specs.declared.events.Event.TheVariants.{Run, Preempt, Take, Complete, Abandon}
 use Rattle.dover_model.specs.declared.events.Role.TheVariants.{Held, Running}
 use Rattle.dover_model.specs.declared.events.Task.{Task}
-use Rattle.dover_model.specs.JobFacts.{JobFacts}
 use Rattle.dover_model.specs.Orders.{starts_before, first}
 use Rattle.dover_model.specs.State.{waiting, left, latest_start}
 use Rattle.dover_model.specs.Step.{View, view, with_role, is_at_latest_start}
@@ -23,7 +22,7 @@ use Rattle.ready_jobs.specs.Reordered.{IsReordered}
 use Rattle.ready_jobs.specs.Parts.{Parted, HaveRoles, AreSound, ready_of, state_of, head_of, tail_of}
 use Rattle.ready_jobs.specs.Changed.{named, AreOnce, Leaves, IsNext, printed, made_wait}
 use Rattle.ready_jobs.proofs.Reordering.{as_many}
-use Rattle.ready_jobs.proofs.Seeing.{seen_running, seen_fresh, seen_coming, waiting_list, late_none, late_later}
+use Rattle.ready_jobs.proofs.Seeing.{seen_running, seen_fresh, waiting_list, late_none, late_later}
 use Rattle.ready_jobs.proofs.Seeing.{late_found}
 use Rattle.ready_jobs.proofs.Changes.{completes, resumes, starts, begins, abandons, preempts, takes}
 use Rattle.ready_jobs.proofs.Naming.{Says, says}
@@ -225,11 +224,3 @@ module _ (p : Parted) (roles : HaveRoles p) (once : AreOnce (ready_of p)) where
           (once_displaced r (option_to_list p.fresh) p.held p.waiting
           (subst (λ o. AreOnce (option_to_list o ++ (option_to_list p.fresh ++ (p.held ++ p.waiting)))) is once))
           (subst (λ o. Each (λ t. t.number ≡ x.number → ⊥) (option_to_list o)) (sym stale) (λ t k. absurd k)))
-
-  -- no job is to come, and no open step ends a run
-  pub none_comes : (n : ℕ) (j : JobFacts) → IsNext p (Release n j) → ⊥
-  none_comes n j next = let it = says next.0 seen (Release n j) next.1 in
-      none_is_some (sym (seen_coming p roles) ∙ it.1)
-
-  pub none_ends : (value : ℕ) → IsNext p (End value) → ⊥
-  none_ends value next = says next.0 seen (End value) next.1

@@ -45,7 +45,7 @@ use Rattle.dover_model.specs.Ready.{is_ready}
 use Rattle.dover_model.proofs.Leading.{late_silent, over_ends}
 use Rattle.dover_model.proofs.ReadyParts.{change}
 use Rattle.dover_model.proofs.Waiting.{some_goes_on, settles_idles, over_waits_until}
-use Rattle.dover_model.proofs.Limiting.{jobs_most, total_most}
+use Rattle.dover_model.proofs.Limiting.{total_most}
 use Rattle.ready_jobs.specs.Reordered.{IsReordered}
 use Rattle.ready_jobs.specs.Parts.{Parted, HaveRoles, ready_of, state_of}
 use Rattle.ready_jobs.specs.Following.{PartOf, IsPart, SettlesTo}
@@ -245,15 +245,6 @@ none_ready c old none = let z : State = old.1 in
 follows_once : (c : Course) (J : Instance) (z : State) → Follows c J z → AreOnce c.ready
 follows_once c J z follows = once_still (filter is_ready z.tasks) c.ready follows.ready
     (once_some is_ready z.tasks (once_numbered 0 z.tasks follows.keeps.sound.numbered))
-
--- the jobs are few
-pub few_jobs : (c : Course) → IsCourse c → c.jobs ≤ 4_000_000_000
-few_jobs c old = omega (
-  arith,
-  old.2.valid.count,
-  jobs_most old.0.rules.version,
-  follows_count c old.0 old.1 old.2,
-)
 
 -- ---- the ready jobs by their roles
 

@@ -1,15 +1,15 @@
 -- What a deed does to the ready jobs.
 use Rattle.std.proofs.Common.{◌≡◌, ap, sym, ◌∙◌, subst}
-use Rattle.std.specs.Prelude.{Some, None}
+use Rattle.std.specs.Prelude.{Some}
 use Rattle.dover_model.specs.declared.events.Event.{Event}
-use Rattle.dover_model.specs.Step.{Move, Prints, Waits, Ticks, view}
+use Rattle.dover_model.specs.Step.{Move, Prints, Waits, Ticks}
 use Rattle.dover_model.specs.Run.{event_of}
 use Rattle.dover_model.proofs.Members.{some_same}
 use Rattle.dover_model.proofs.Tests.{none_is_some}
 use Rattle.ready_jobs.specs.declared.deeds.Deed.{Deed}
-use Rattle.ready_jobs.specs.Parts.{Parted, state_of}
+use Rattle.ready_jobs.specs.Parts.{Parted}
 use Rattle.ready_jobs.specs.Changed.{IsNext}
-use Rattle.ready_jobs.specs.Deeds.{step_at, Finds, Does}
+use Rattle.ready_jobs.specs.Deeds.{step_at, Does}
 use Rattle.ready_jobs.proofs.Naming.{same_event}
 
 -- the deed is this one, at whose step the event is printed
@@ -20,15 +20,6 @@ module _ (p : Parted) (deed other : Deed) (is : deed ≡ other) (m e : Event) (s
 
   pub does_next : IsNext p m
   does_next = subst (IsNext p) (sym does_print) does.next
-
-  pub does_find : Finds (view p.version (state_of p)) other
-  does_find = subst (Finds (view p.version (state_of p))) is does.finds
-
--- a silent step prints nothing
-pub silent_does : (p : Parted) (deed : Deed) (m : Move) (e : Event) → step_at p.clock deed ≡ m → event_of m ≡ None
-    → Does p deed e → ⊥
-silent_does p deed m e step silent does =
-    none_is_some (sym silent ∙ ap event_of (sym step ∙ does.prints))
 
 -- a step that prints this event
 pub prints_event : (m : Move) (e : Event) → event_of m ≡ Some e → m ≡ Prints e

@@ -20,7 +20,7 @@ use Rattle.dover_model.specs.Jumps.{ticked_by, later_by}
 use Rattle.dover_model.specs.Run.{Step, event_of}
 use Rattle.dover_model.specs.Settled.{waits_for_mark}
 use Rattle.dover_model.specs.Sound.{IsMember, Each, Keeps}
-use Rattle.dover_model.specs.State.{State, is_coming, is_fresh, is_waiting, is_running, is_privileged, is_done}
+use Rattle.dover_model.specs.State.{State, is_coming, is_waiting, is_running, is_privileged, is_done}
 use Rattle.dover_model.specs.State.{latest_start, value_sum}
 use Rattle.dover_model.specs.Step.{Move, Prints, Waits, Ticks, view, open_step, after, with_role, role_after, displaced}
 use Rattle.dover_model.specs.WholeRun.{open_at}
@@ -29,7 +29,7 @@ use Rattle.dover_model.proofs.Deeds.{Deed, tick_quiet}
 use Rattle.dover_model.proofs.Ticking.{Quiet}
 use Rattle.dover_model.proofs.Kept.{open_deed, open_kept, deed_kept, each_job}
 use Rattle.dover_model.proofs.Moves.{early_waits, says}
-use Rattle.dover_model.proofs.Members.{member_filter, filter_member, on_map, sum_filter, sum_le, sum_map}
+use Rattle.dover_model.proofs.Members.{member_filter, on_map, sum_filter, sum_le, sum_map}
 use Rattle.dover_model.proofs.Members.{member_front, member_behind}
 use Rattle.dover_model.proofs.Roles.{passes, is_running_role, is_fresh_role}
 use Rattle.dover_model.proofs.Tests.{never, none_is_some}
@@ -47,7 +47,7 @@ use Rattle.ready_jobs.specs.Changed.{AreOnce, Leaves}
 use Rattle.ready_jobs.proofs.Reordering.{filtered, mapped, further}
 use Rattle.ready_jobs.proofs.Views.{AreApart, step_still}
 use Rattle.ready_jobs.proofs.Naming.{waits_says}
-use Rattle.ready_jobs.proofs.Seeing.{seen_fresh, fresh_list, waiting_list, privileged_list}
+use Rattle.ready_jobs.proofs.Seeing.{seen_fresh, waiting_list, privileged_list}
 use Rattle.ready_jobs.proofs.Changes.{once_numbered, once_some, once_still, once_own, map_each}
 
 -- ---- a job that isn't to come stays so
@@ -375,28 +375,11 @@ settles_on p q J z mark one next = record {
 -- ---- where a silent tick is next, and where the fresh job waits
 
 module _ (p : Parted) (roles : HaveRoles p) (J : Instance) (z : State) (part : PartOf p J z) where
-  -- a job of the whole that is fresh is the fresh one
-  fresh_there : (t : Task) → IsMember t z.tasks → t.role ≡ Fresh → IsMember t (option_to_list p.fresh)
-  fresh_there t m fresh =
-      subst (IsMember t) (fresh_list p roles) (filter_member is_fresh (ready_of p) t
-      (part.ready.there t (filter_member is_ready z.tasks t m (passes is_ready t Fresh true fresh refl)))
-      (passes is_fresh t Fresh true fresh refl))
-
-  none_fresh : (o : Option Task) → p.fresh ≡ o → ((t : Task) → IsMember t (option_to_list p.fresh) → ⊥) → p.fresh ≡ None
-  none_fresh None is none = is
-  none_fresh (Some f) is none = absurd (none f (subst (λ o. IsMember f (option_to_list o)) (sym is) (inl refl)))
-
   -- where a silent tick is next, no job is fresh, and none that waits is at its latest start
   module _ (ticks : open_step J.rules (state_of p) ≡ Ticks) where
     quiet : Quiet z
     quiet = tick_quiet J.rules.ratio z Ticks (open_step J.rules z) (open_deed J part.valid z part.keeps J.rules)
         (sym (part_step p J z part) ∙ ticks)
-
-    pub ticks_stale : p.fresh ≡ None
-    ticks_stale = none_fresh p.fresh refl (λ t m. quiet.stale t
-        (there p J z part t
-        (member_behind (option_to_list p.running) (option_to_list p.fresh ++ (p.held ++ p.waiting)) t
-        (member_front (option_to_list p.fresh) (p.held ++ p.waiting) t m))) (roles.fresh t m))
 
     pub ticks_early : Each (λ t. p.clock < latest_start t) p.waiting
     ticks_early t m =

@@ -13,7 +13,7 @@ use Rattle.dover_model.specs.Sound.{Each, IsMember}
 use Rattle.ready_jobs.proofs.Deciding.{busy, free, busy_is, free_is}
 use Rattle.dover_model.specs.declared.events.Event.TheVariants.{Preempt, Release}
 use Rattle.dover_model.specs.Step.{View, Prints, Waits, Ticks, Move, ◌or_else◌, arrival, alarm, preempts, view, runs}
-use Rattle.dover_model.specs.Step.{declared_open_step, urgent_or, is_at_latest_start, completion, dispatch, decision}
+use Rattle.dover_model.specs.Step.{declared_open_step, urgent_or, is_at_latest_start}
 use Rattle.dover_model.specs.Fraction.{Fraction}
 use Rattle.dover_model.proofs.Members.{some_same, by_bool, filter_member, member_filter, reduce_none, filter_none}
 use Rattle.dover_model.proofs.Members.{found, on_map, map_member}
@@ -165,35 +165,6 @@ module _ (rules : Rules) (s : State) where
         ∙ ap (first (due_first rules.version))
         (filter_none is_waiting s.tasks (λ t member. (still.free none t member).0)))
         still.stale (none_arrives (find is_coming s.tasks) refl))
-
--- where an open step is a tick, nothing else is next
-pub tick_rests : (rules : Rules) (s : State) (other : Move) → declared_open_step rules s ≡ Ticks
-    → urgent_or rules.ratio (view rules.version s) other ≡ other
-tick_rests rules s other ticks = still_rests rules s other (tick_still rules s ticks)
-
--- the first answer, or what else is done
-or_same : (a b d c e : Option Move) (x y : Move)
-    → ((a or_else b or_else d or_else c or_else e or_else x) ≡ (a or_else b or_else d or_else c or_else e or_else y))
-    ⊎ ((a or_else b or_else d or_else c or_else e or_else x) ≡ x)
-or_same (Some m) b d c e x y = inl refl
-or_same None (Some m) d c e x y = inl refl
-or_same None None (Some m) c e x y = inl refl
-or_same None None None (Some m) e x y = inl refl
-or_same None None None None (Some m) x y = inl refl
-or_same None None None None None x y = inr refl
-
--- where an open step is none, it is next whatever else may be done
-pub urgent_is : (rules : Rules) (s : State) (other : Move) → (declared_open_step rules s ≡ Ticks → ⊥)
-    → urgent_or rules.ratio (view rules.version s) other ≡ declared_open_step rules s
-urgent_is rules s other some = let v = view rules.version s in by_case
-    (or_same (completion v v.running) (dispatch v v.running v.first_held v.first_waiting) (decision v v.running v.fresh)
-    (arrival_of v)
-    (alarm rules.ratio v v.running v.must_start) Ticks other) where
-      by_case : (declared_open_step rules s ≡ urgent_or rules.ratio (view rules.version s) other)
-          ⊎ (declared_open_step rules s ≡ Ticks)
-          → urgent_or rules.ratio (view rules.version s) other ≡ declared_open_step rules s
-      by_case (inl same) = sym same
-      by_case (inr ticks) = absurd (some ticks)
 
 -- ---- for how long
 

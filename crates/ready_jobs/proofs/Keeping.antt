@@ -21,12 +21,6 @@ use Rattle.ready_jobs.specs.Reordered.{IsReordered}
 use Rattle.ready_jobs.specs.Short.{no_number}
 use Rattle.ready_jobs.proofs.Reordering.{as_many}
 
--- each of at most one
-each_option : (P : Task → Type 0) (o : Option Task) → ((t : Task) → o ≡ Some t → P t) → Each P (option_to_list o)
-each_option P None all t m = absurd m
-each_option P (Some u) all t (inl e) = subst P (sym e) (all u refl)
-each_option P (Some u) all t (inr m) = absurd m
-
 module _ (p : Parted) (rooms : Lasting) (pool : Pooled) (capacity : ℕ) (kept : AreParts p rooms pool capacity) where
   abbrev small : Task → Type 0
   small t = t.number < no_number

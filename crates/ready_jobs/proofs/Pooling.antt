@@ -58,18 +58,6 @@ within [] n x at = none_is_some at
 within (y ∷ xs) zero x at = omega arith
 within (y ∷ xs) (suc n) x at = let rest : n < length xs = within xs n x at in omega arith
 
--- what is read there
-pub read_at : {X : Type 0} (xs : List X) (n : ℕ) (x d : X) → slice_get xs n ≡ Some x → get_or xs n d ≡ x
-read_at [] n x d at = none_is_some at
-read_at (y ∷ xs) zero x d at = some_same y x at
-read_at (y ∷ xs) (suc n) x d at = read_at xs n x d at
-
--- and there it is, where it is within
-pub get_at : {X : Type 0} (xs : List X) (n : ℕ) (d : X) → n < length xs → slice_get xs n ≡ Some (get_or xs n d)
-get_at [] n d inside = absurd (omega arith)
-get_at (y ∷ xs) zero d inside = refl
-get_at (y ∷ xs) (suc n) d inside = get_at xs n d (omega arith)
-
 pub same_length : {X : Type 0} (xs : List X) (n : ℕ) (x : X) → length (set xs n x) ≡ length xs
 same_length [] n x = refl
 same_length (y ∷ xs) zero x = refl
@@ -284,12 +272,6 @@ module _ (item : ℕ → Entry → ItemFacts) where
       ap (λ m. option_map (λ t. item p (entry_of t)) x ∷ set (items_from item (suc p) slots ++ rest) n
       (option_map (λ t. item m (entry_of t)) o)) same
       ∙ ap (λ l. option_map (λ t. item p (entry_of t)) x ∷ l) (item_set (suc p) slots rest n o (omega arith))
-
-  -- a free place comes behind
-  pub item_push : (p : ℕ) (slots : List (Option Task))
-      → items_from item p (slots ++ None ∷ []) ≡ items_from item p slots ++ None ∷ []
-  item_push p [] = refl
-  item_push p (o ∷ slots) = ap (λ l. option_map (λ t. item p (entry_of t)) o ∷ l) (item_push (suc p) slots)
 
   none_some : (k : ℕ) → count_by is_some (replicate {A = Option ItemFacts} k None) ≡ 0
   none_some zero = refl

@@ -1,7 +1,6 @@
 -- The ready jobs at any place of a run: what step comes, and a job that is released.
 use Rattle.std.proofs.Common.{◌≡◌, ℕ, ◌≤◌, ◌<◌, [], ◌∷◌, ◌++◌, inl, inr, length, refl, sym, ap, ◌∙◌, subst, true, false}
 use Rattle.std.proofs.Common.{arith}
-use Rattle.std.specs.Prelude.{None}
 use Rattle.std.specs.List.{filter}
 use Rattle.std.proofs.lemmas.List.{append-nil, length-append}
 use Rattle.std.proofs.lemmas.List.Elements.{filter-append}
@@ -9,48 +8,18 @@ use Rattle.dover_model.specs.Limits.{last_tick}
 use Rattle.dover_model.specs.JobFacts.{JobFacts}
 use Rattle.dover_model.specs.Finishes.{Finish}
 use Rattle.dover_model.specs.declared.events.Task.{Task}
-use Rattle.dover_model.specs.Instance.{Rules, under, bare, Instance, IsValid, finishing}
+use Rattle.dover_model.specs.Instance.{Rules, bare, Instance, IsValid}
 use Rattle.dover_model.specs.State.{State, is_coming, is_done, is_over, value_sum, state_at}
-use Rattle.dover_model.specs.Step.{open_step}
 use Rattle.dover_model.specs.Sound.{IsMember, Each, Keeps}
 use Rattle.dover_model.proofs.Members.{each_append}
 use Rattle.dover_model.proofs.Honest.{count_jobs}
-use Rattle.dover_model.proofs.Meeting.{finishing_valid}
-use Rattle.dover_model.proofs.Further.{over_open}
 use Rattle.dover_model.specs.Ready.{is_ready, with_fresh}
 use Rattle.ready_jobs.specs.Reordered.{IsReordered}
-use Rattle.ready_jobs.specs.Parts.{Parted}
 use Rattle.ready_jobs.specs.Course.{Course, Follows, fresh_job, with_release}
 use Rattle.ready_jobs.proofs.Reordering.{same_order, both_parts}
-use Rattle.ready_jobs.proofs.Following.{part_step}
 use Rattle.ready_jobs.proofs.Courses.{follows_count}
 
 module _ (c : Course) (J : Instance) (z : State) (follows : Follows c J z) where
-  -- the ready jobs, all in one part
-  abbrev together : Parted
-  together = record {
-    version = c.rules.version;
-    clock = c.clock;
-    running = None;
-    fresh = None;
-    held = [];
-    waiting = c.ready;
-    room = c.room;
-  }
-
-  -- the next open step is that of all jobs
-  pub follows_opens : open_step (under c.rules []) (state_at c.clock c.ready) ≡ open_step J.rules z
-  follows_opens = ap (λ r. open_step r (state_at c.clock c.ready)) (sym follows.rules)
-      ∙ part_step together (finishing J []) z (record {
-        valid = finishing_valid J [] follows.valid;
-        keeps = record { sound = follows.keeps.sound; jobs = follows.keeps.jobs };
-        version = ap (λ (r : Rules). r.version) follows.rules;
-        clock = follows.clock;
-        ready = follows.ready;
-        released = follows.released;
-      })
-      ∙ sym (over_open J.rules z follows.over)
-
   module _ (K : Instance) (j : JobFacts) (room : ℕ) (rules : K.rules ≡ J.rules) (valid : IsValid K)
       (keeps : Keeps K (with_fresh (state_at j.release z.tasks) c.jobs j)) (known : j.release ≤ last_tick) where
     -- the course with a job that is released

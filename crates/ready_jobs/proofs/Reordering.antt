@@ -60,10 +60,6 @@ module _ {X : Type 0} where
     pub as_many : length ys ≡ length xs
     as_many = length_sum ys ∙ same.weighs (λ _. 1) ∙ sym (length_sum xs)
 
-    -- what holds of each
-    pub each_still : (P : X → Type 0) → Each P xs → Each P ys
-    each_still P all x m = all x (same.back x m)
-
     -- what holds of each two
     pub two_still : (R : X → X → Type 0) → EachTwo R xs → EachTwo R ys
     two_still R all x y mx my = all x y (same.back x mx) (same.back y my)

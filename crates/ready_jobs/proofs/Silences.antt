@@ -28,7 +28,7 @@ use Rattle.ready_jobs.proofs.Changes.{stays}
 use Rattle.ready_jobs.proofs.Naming.{waits_says, ticks_next}
 use Rattle.ready_jobs.proofs.Seeing.{seen_fresh, seen_running, seen_coming, waiting_list, late_none, late_later}
 use Rattle.ready_jobs.proofs.Following.{part_step, part_sound, ready_once, parts_later, jumps, settles_none}
-use Rattle.ready_jobs.proofs.Following.{settles_one, settles_on, jump_low, jump_silent, jump_reaches, ticks_stale}
+use Rattle.ready_jobs.proofs.Following.{settles_one, settles_on, jump_low, jump_silent, jump_reaches}
 use Rattle.ready_jobs.proofs.Following.{ticks_early, had_fits, stale_ticks, roles_later}
 
 -- ---- from one part to another
@@ -111,9 +111,6 @@ module _ (k : Fraction) (p : Parted) (roles : HaveRoles p) (old : IsPart
     (ticks : open_step (record { ratio = k; version = p.version; finishes = [] }) (state_of p) ≡ Ticks) where
   next_ticks : open_step old.0.rules (state_of p) ≡ Ticks
   next_ticks = ap (λ r. open_step r (state_of p)) old.3 ∙ ticks
-
-  pub known_stale : p.fresh ≡ None
-  known_stale = ticks_stale p roles old.0 old.1 old.2 next_ticks
 
   pub known_early : Each (λ t. p.clock < latest_start t) p.waiting
   known_early = ticks_early p roles old.0 old.1 old.2 next_ticks
