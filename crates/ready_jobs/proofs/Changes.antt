@@ -93,8 +93,7 @@ module _ (a b c d : List Task) (x : Task) where
       (both_parts a a (b ++ (c ++ x ∷ d)) (b ++ (x ∷ (c ++ d))) (same_order a)
       (both_parts b b (c ++ x ∷ d) (x ∷ (c ++ d)) (same_order b) (turned (x ∷ (c ++ d)) (c ++ x ∷ d) (between x c d))))
       (further (a ++ (b ++ (x ∷ (c ++ d)))) (a ++ (x ∷ (b ++ (c ++ d)))) (x ∷ (a ++ (b ++ (c ++ d))))
-      (both_parts a a (b ++ (x ∷ (c ++ d))) (x ∷ (b ++ (c ++ d))) (same_order a)
-      (turned (x ∷ (b ++ (c ++ d))) (b ++ x ∷ (c ++ d)) (between x b (c ++ d))))
+      (both_parts _ _ _ _ (same_order a) (turned (x ∷ (b ++ (c ++ d))) (b ++ x ∷ (c ++ d)) (between x b (c ++ d))))
       (turned (x ∷ (a ++ (b ++ (c ++ d)))) (a ++ x ∷ (b ++ (c ++ d))) (between x a (b ++ (c ++ d)))))
 
   -- with the last part in another order
@@ -203,8 +202,7 @@ module _ (xs others : List Task) (x : Task) (same : IsReordered xs (x ∷ others
   -- it is gone
   pub goes : Leaves (renamed x.number Gone) xs others 0
   goes =
-      leaves_of (renamed x.number Gone) xs (x ∷ others) (with_role x Gone ∷ others) 0 same (changed Gone) others
-      (filter_each is_ready others still_ready) (none_done others still_ready)
+      leaves_of _ _ _ _ _ same (changed Gone) _ (filter_each is_ready others still_ready) (none_done others still_ready)
 
 -- with the jobs in another order
 pub leaves_still : (f : Task → Task) (xs ys zs : List Task) (worth : ℕ) → Leaves f xs ys worth → IsReordered ys zs
@@ -264,8 +262,7 @@ module _ (q : Parted) (roles : HaveRoles q) (once : AreOnce (ready_of q)) where
   -- a waiting job is gone
   pub abandons : (x : Task) (rest : List Task) → IsReordered q.waiting (x ∷ rest)
       → Leaves (renamed x.number Gone) (ready_of q) (ready_of (record q { waiting = rest })) 0
-  abandons x rest same = goes (ready_of q) (A ++ (B ++ (q.held ++ rest))) x
-      (bring_from A B q.held rest x q.waiting same) once ready
+  abandons x rest same = goes _ _ _ (bring_from A B q.held rest x q.waiting same) once ready
 
   -- the fresh job waits
   pub stays : (f : Task) (more : List Task) → q.fresh ≡ Some f → IsReordered (with_role f Waiting ∷ q.waiting) more
@@ -280,8 +277,7 @@ module _ (q : Parted) (roles : HaveRoles q) (once : AreOnce (ready_of q)) where
       once ready Waiting refl)
       (further (with_role f Waiting ∷ (A ++ (q.held ++ q.waiting))) (A ++ (q.held ++ (with_role f Waiting ∷ q.waiting)))
       (A ++ (q.held ++ more))
-      (turned (A ++ (q.held ++ (with_role f Waiting ∷ q.waiting))) (with_role f Waiting ∷ (A ++ (q.held ++ q.waiting)))
-      (bring_last A [] q.held q.waiting (with_role f Waiting)))
+      (turned _ _ (bring_last A [] q.held q.waiting (with_role f Waiting)))
       (both_parts A A (q.held ++ (with_role f Waiting ∷ q.waiting)) (q.held ++ more) (same_order A)
       (both_parts q.held q.held (with_role f Waiting ∷ q.waiting) more (same_order q.held) same)))
 
@@ -297,10 +293,7 @@ module _ (q : Parted) (roles : HaveRoles q) (once : AreOnce (ready_of q)) where
   preempts r f runs is = leaves_still (preempted r.number f.number) (ready_of q)
       (with_role r Held ∷ (with_role f Running ∷ rest))
       (with_role f Running ∷ (with_role r Held ∷ rest)) 0
-      (leaves_of (preempted r.number f.number) (ready_of q) (r ∷ (f ∷ rest))
-      (with_role r Held ∷ (with_role f Running ∷ rest)) 0 order after
-      (with_role r Held ∷ (with_role f Running ∷ rest))
-      (filter_each is_ready (with_role r Held ∷ (with_role f Running ∷ rest)) all)
+      (leaves_of _ _ _ _ _ order after _ (filter_each is_ready (with_role r Held ∷ (with_role f Running ∷ rest)) all)
       (none_done (with_role r Held ∷ (with_role f Running ∷ rest)) all))
       (between (with_role r Held) (with_role f Running ∷ []) rest) where
         rest : List Task
@@ -358,8 +351,7 @@ module _ (q : Parted) (roles : HaveRoles q) (once : AreOnce (ready_of q)) where
         (subst (IsReordered (filter is_ready (B ++ map (renamed x.number Running) D)))
         (filter_each is_ready (x' ∷ (B ++ rest)) all)
         (filtered (B ++ map (renamed x.number Running) D) (x' ∷ (B ++ rest)) moved is_ready));
-    done = sym ((filtered (map (taken x.number) (ready_of q))
-        (B ++ map (renamed x.number Running) D) whole is_done).weighs (λ t. t.job.value))
+    done = sym ((filtered _ _ whole _).weighs (λ t. t.job.value))
         ∙ sym ((filtered (B ++ map (renamed x.number Running) D) (x' ∷ (B ++ rest)) moved is_done).weighs
         (λ t. t.job.value))
         ∙ none_done (x' ∷ (B ++ rest)) all;
@@ -426,8 +418,7 @@ module _ (q : Parted) (roles : HaveRoles q) (once : AreOnce (ready_of q)) where
         ∷ (B ++ (map (renamed x.number Running) (map made_wait q.held) ++ map
         (renamed x.number Running) q.waiting)))
         (B ++ l)) (sym whole_d)
-        (between (renamed x.number Running (made_wait r)) B
-        (map (renamed x.number Running) (map made_wait q.held) ++ map (renamed x.number Running) q.waiting))))
+        (between _ _ _)))
 
     apart_rest : Each (λ t. t.number ≡ x.number → ⊥) rest
     apart_rest = others_apart x rest (once_still D (x ∷ rest) same once_d)
@@ -437,8 +428,7 @@ module _ (q : Parted) (roles : HaveRoles q) (once : AreOnce (ready_of q)) where
         (both_parts B B (map (renamed x.number Running) D) (x' ∷ rest) (same_order B)
         (subst (IsReordered (map (renamed x.number Running) D))
         (ap (λ y. y ∷ map (renamed x.number Running) rest) (renamed_here x.number Running x refl)
-        ∙ ap (λ l. x' ∷ l) (map_each (renamed x.number Running) rest
-        (λ t m. renamed_other x.number Running t (apart_rest t m))))
+        ∙ ap (λ l. x' ∷ l) (map_each _ _ (λ t m. renamed_other x.number Running t (apart_rest t m))))
         (mapped D (x ∷ rest) same (renamed x.number Running))))
         (turned (x' ∷ (B ++ rest)) (B ++ x' ∷ rest) (between x' B rest))
 

@@ -123,20 +123,17 @@ module _ (p : Parted) (roles : HaveRoles p) (d before after at : ℕ) where
   B = option_to_list p.fresh
 
   in_waiting : (t : Task) → IsMember t p.waiting → IsMember t (ready_of p)
-  in_waiting t m = member_behind A (B ++ (p.held ++ p.waiting)) t (member_behind B (p.held ++ p.waiting) t
-      (member_behind p.held p.waiting t m))
+  in_waiting t m = member_behind _ _ _ (member_behind B (p.held ++ p.waiting) t (member_behind p.held p.waiting t m))
 
   pub run_costs : (n : ℕ) (o : Task) → IsMember o p.waiting → o.number ≡ n → after ≤ before + 6 * d
       → after ≤ before + cost_of d (state_of p) (Prints (Run at n))
   run_costs n o m number cost =
-      one_leaves d (enters (state_of p) (Prints (Run at n))) (leaves (state_of p) (Prints (Run at n))) before after cost
-      (run_leaves (state_of p) o (in_waiting o m) at n (roles.waiting o m) number)
+      one_leaves _ _ _ _ _ cost (run_leaves (state_of p) o (in_waiting o m) at n (roles.waiting o m) number)
 
   pub abandon_costs : (n : ℕ) (o : Task) → IsMember o p.waiting → o.number ≡ n → after ≤ before + 6 * d
       → after ≤ before + cost_of d (state_of p) (Prints (Abandon at n))
   abandon_costs n o m number cost =
-      one_leaves d (enters (state_of p) (Prints (Abandon at n))) (leaves (state_of p) (Prints (Abandon at n))) before
-      after cost (abandon_leaves (state_of p) o (in_waiting o m) at n (roles.waiting o m) number)
+      one_leaves _ _ _ _ _ cost (abandon_leaves (state_of p) o (in_waiting o m) at n (roles.waiting o m) number)
 
   module _ (once : AreOnce (ready_of p)) (stops starts : ℕ) (r x : Task) (runs : p.running ≡ Some r)
       (waits : IsMember x p.waiting) (number : x.number ≡ starts) where
@@ -180,8 +177,7 @@ module _ (p : Parted) (roles : HaveRoles p) (d before after at : ℕ) where
 
     pub take_costs : after ≤ before + 6 * d + 2 * d * (length p.held + 1)
         → after ≤ before + cost_of d (state_of p) (Prints (Take at stops starts))
-    take_costs cost = take_sums d (enters (state_of p) (Prints (Take at stops starts)))
-        (leaves (state_of p) (Prints (Take at stops starts))) before after (length p.held) all_begin
+    take_costs cost = take_sums _ _ _ _ _ _ all_begin
         (take_leaves (state_of p) x (in_waiting x waits) at stops starts (roles.waiting x waits) number) cost
 
 -- ---- of a whole run

@@ -238,8 +238,7 @@ renewed_course c old none = (
 pub none_ready : (c : Course) → IsCourse c → c.jobs ≡ 0 → c.ready ≡ []
 none_ready c old none = let z : State = old.1 in
     let empty : z.tasks ≡ [] = no_items z.tasks (old.2.jobs ∙ none) in
-    no_items c.ready (as_many (filter is_ready z.tasks) c.ready old.2.ready
-    ∙ ap (λ ts. length (filter is_ready ts)) empty)
+    no_items _ (as_many (filter is_ready z.tasks) c.ready old.2.ready ∙ ap (λ ts. length (filter is_ready ts)) empty)
 
 -- the ready jobs have numbers of their own
 follows_once : (c : Course) (J : Instance) (z : State) → Follows c J z → AreOnce c.ready
@@ -327,8 +326,7 @@ module _ (k : Fraction) (p q : Parted) (jobs done mark : ℕ) (m : Move) (versio
       same_done k q jobs done J y (follows_on k p jobs done J z follows q 0 y it.part with_finishes.1 version
       (let same = it.done in omega (arith, same)) (omega arith)) in
       let idles : Idles J.rules z it.steps y × GoesOn y =
-      settles_idles J.rules mark it.steps z y (follows_goes_on (course_of k p jobs done) J z follows some)
-      with_finishes.0 in
+      settles_idles _ _ _ _ _ (follows_goes_on (course_of k p jobs done) J z follows some) with_finishes.0 in
       let step_y : open_step J.rules y ≡ m = sym (follows_step k q jobs done J y kept) ∙ sym comes in
       record {
         state = y;
@@ -585,8 +583,7 @@ module _ (k : Fraction) (p : Parted) (jobs done : ℕ) (roles : HaveRoles p) (r 
     over_finish f (inl m) = it.over f m
     over_finish f (inr (inl e)) = subst (λ (g : Finish). Each (λ t. t.number ≡ g.number → is_over t ≡ true)
         done_then.tasks) (sym e) (on_map (λ t. with_role t (cond (eqb t.number r.number) Done t.role))
-        (λ t. t.number ≡ r.number → is_over t ≡ true) z.tasks
-        (λ t m same. is_done_then t same (eqb t.number r.number) refl))
+        (λ t. t.number ≡ r.number → is_over t ≡ true) _ (λ t m same. is_done_then t same (eqb t.number r.number) refl))
     over_finish f (inr (inr m)) = absurd m
 
 -- where no job runs in these parts, none runs
@@ -705,8 +702,7 @@ module _ (k : Fraction) (p : Parted) (jobs done : ℕ) (j : JobFacts) (roles : H
     by_fresh (Some f) is = let here : IsMember f (option_to_list p.fresh) =
         subst (λ o. IsMember f (option_to_list o)) (sym is) (inl refl) in
         absurd (release_stale (course_of k p jobs done) j more f
-        (member_behind (option_to_list p.running) (option_to_list p.fresh ++ (p.held ++ p.waiting)) f
-        (member_front (option_to_list p.fresh) (p.held ++ p.waiting) f here)) (roles.fresh f here))
+        (member_behind _ _ _ (member_front (option_to_list p.fresh) (p.held ++ p.waiting) f here)) (roles.fresh f here))
 
   module _ (q : Parted) (is : q ≡ record p {
     clock = j.release;
@@ -721,8 +717,7 @@ module _ (k : Fraction) (p : Parted) (jobs done : ℕ) (j : JobFacts) (roles : H
         (option_to_list p.running ++ fresh_job (course_of k p jobs done) j ∷ (p.held ++ p.waiting))) (sym come_stale)
         (in_front (fresh_job (course_of k p jobs done) j) (option_to_list p.running) (p.held ++ p.waiting))) where
           in_front : (x : Task) (xs ys : List Task) → IsReordered ((xs ++ ys) ++ x ∷ []) (xs ++ x ∷ ys)
-          in_front x xs ys = further ((xs ++ ys) ++ x ∷ []) (x ∷ (xs ++ ys)) (xs ++ x ∷ ys)
-              (exchanged (xs ++ ys) (x ∷ [])) (between x xs ys)
+          in_front x xs ys = further _ _ _ (exchanged (xs ++ ys) (x ∷ [])) (between x xs ys)
 
     -- it is a course again
     pub come_course : IsCourse (course_of k q (jobs + 1) done)

@@ -43,8 +43,7 @@ one_waits t held waiting more add =
     further (made_wait t ∷ (map made_wait held ++ waiting)) (map made_wait held ++ made_wait t ∷ waiting)
     (map made_wait held ++ more)
     (between (made_wait t) (map made_wait held) waiting)
-    (both_parts (map made_wait held) (map made_wait held) (made_wait t ∷ waiting) more
-    (same_order (map made_wait held)) add)
+    (both_parts _ _ _ _ (same_order (map made_wait held)) add)
 
 -- one job leaves those that wait, one joins them, and then all held ones do
 pub taken_order : (r x : Task) (held waiting rest two three : List Task) → IsReordered waiting (x ∷ rest)
@@ -52,14 +51,11 @@ pub taken_order : (r x : Task) (held waiting rest two three : List Task) → IsR
     → IsReordered (map made_wait (r ∷ held) ++ waiting) (x ∷ three)
 taken_order r x held waiting rest two three out into all =
     further (map made_wait (r ∷ held) ++ waiting) (map made_wait (r ∷ held) ++ x ∷ rest) (x ∷ three)
-    (both_parts (map made_wait (r ∷ held)) (map made_wait (r ∷ held)) waiting (x ∷ rest)
-    (same_order (map made_wait (r ∷ held))) out)
+    (both_parts _ _ _ _ (same_order (map made_wait (r ∷ held))) out)
     (further (map made_wait (r ∷ held) ++ x ∷ rest) (x ∷ (map made_wait (r ∷ held) ++ rest)) (x ∷ three)
-    (turned (x ∷ (map made_wait (r ∷ held) ++ rest)) (map made_wait (r ∷ held) ++ x ∷ rest)
-    (between x (map made_wait (r ∷ held)) rest))
+    (turned _ _ (between x (map made_wait (r ∷ held)) rest))
     (both_parts (x ∷ []) (x ∷ []) (map made_wait (r ∷ held) ++ rest) three (same_order (x ∷ []))
-    (further (map made_wait (r ∷ held) ++ rest) (map made_wait held ++ two) three
-    (one_waits r held rest two into) all)))
+    (further _ _ _ (one_waits r held rest two into) all)))
 
 module _ (was is rest : List Task) (t : Task) (from to more : Pooled) (it : Displaces was is from to)
     (top : is ≡ rest ++ t ∷ []) where

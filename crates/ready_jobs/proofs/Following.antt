@@ -156,8 +156,7 @@ module _ (p : Parted) (J : Instance) (z : State) (part : PartOf p J z) where
     waits_there t m = (member_filter is_waiting (ready_of p) t (subst (IsMember t) (sym (waiting_list p roles)) m)).0
 
     busy_there : (t : Task) → IsMember t (option_to_list p.running ++ p.held) → IsMember t (ready_of p)
-    busy_there t m = (member_filter is_privileged (ready_of p) t
-        (subst (IsMember t) (sym (privileged_list p roles)) m)).0
+    busy_there t m = (member_filter _ _ _ (subst (IsMember t) (sym (privileged_list p roles)) m)).0
 
     -- what the machine has to know of them
     pub part_sound : AreSound p
@@ -189,8 +188,7 @@ module _ (p : Parted) (J : Instance) (z : State) (part : PartOf p J z) where
       version = part.version ∙ sym version;
       clock = clock;
       ready = subst (λ l. IsReordered l (ready_of q)) (sym ready_is)
-          (further (filter is_ready (map (change m) whole)) (filter is_ready (map (change m) (ready_of p))) (ready_of q)
-          (filtered (map (change m) whole) (map (change m) (ready_of p)) moved is_ready) leaves.ready);
+          (further _ _ _ (filtered (map (change m) whole) (map (change m) (ready_of p)) moved is_ready) leaves.ready);
       released = subst (Each (λ t. is_coming t ≡ false)) (sym (after_change z m))
           (on_map (change m) (λ t. is_coming t ≡ false) z.tasks (λ t k. not_coming m t (part.released t k)));
     },
@@ -378,8 +376,7 @@ module _ (p : Parted) (roles : HaveRoles p) (J : Instance) (z : State) (part : P
   -- where a silent tick is next, no job is fresh, and none that waits is at its latest start
   module _ (ticks : open_step J.rules (state_of p) ≡ Ticks) where
     quiet : Quiet z
-    quiet = tick_quiet J.rules.ratio z Ticks (open_step J.rules z) (open_deed J part.valid z part.keeps J.rules)
-        (sym (part_step p J z part) ∙ ticks)
+    quiet = tick_quiet _ _ _ _ (open_deed J part.valid z part.keeps J.rules) (sym (part_step p J z part) ∙ ticks)
 
     pub ticks_early : Each (λ t. p.clock < latest_start t) p.waiting
     ticks_early t m =
@@ -392,8 +389,7 @@ module _ (p : Parted) (roles : HaveRoles p) (J : Instance) (z : State) (part : P
       → Each (λ t. t.had + n < 18_446_744_073_709_551_616) (option_to_list p.running)
   had_fits n fits t m =
       let here : IsMember t z.tasks =
-      there p J z part t (member_front (option_to_list p.running)
-      (option_to_list p.fresh ++ (p.held ++ p.waiting)) t m) in
+      there p J z part t (member_front _ _ _ m) in
       let job : IsJob t.job = part_job p J z part t
       (member_front (option_to_list p.running) (option_to_list p.fresh ++ (p.held ++ p.waiting)) t m) in
       let window : t.job.release + t.job.work ≤ t.job.deadline = job.window in

@@ -120,8 +120,7 @@ module _ (rules : Rules) (s : State) where
           ahead = λ c first. apart _ _ (it.ahead c first);
           early = λ u same t member waits now.
               reduce_none (earlier (starts_before rules.version)) (filter (is_at_latest_start s) (waiting s)) it.early t
-              (filter_member (is_at_latest_start s) (waiting s) t (filter_member is_waiting s.tasks t member waits)
-              (eq-eqb _ _ now));
+              (filter_member _ _ _ (filter_member is_waiting s.tasks t member waits) (eq-eqb _ _ now));
         }
     by_running None none =
         let it : FreeTick v (next_ready rules.version s) (find is_fresh s.tasks) (find is_coming s.tasks) =
@@ -131,11 +130,9 @@ module _ (rules : Rules) (s : State) where
         record {
           free = λ _ t member. (
             by_bool (is_waiting t ≡ false) (is_waiting t)
-                (λ yes. absurd (reduce_none (earlier (due_first rules.version)) (waiting s) both.1 t
-                (filter_member is_waiting s.tasks t member yes))) (λ no. no),
+                (λ yes. absurd (reduce_none _ _ both.1 _ (filter_member is_waiting s.tasks t member yes))) (λ no. no),
             by_bool (is_held t ≡ false) (is_held t)
-                (λ yes. absurd (reduce_none (earlier (due_first rules.version)) (filter is_held s.tasks) both.0 t
-                (filter_member is_held s.tasks t member yes))) (λ no. no),
+                (λ yes. absurd (reduce_none _ _ both.0 _ (filter_member is_held s.tasks t member yes))) (λ no. no),
           );
           busy = λ u same. none_is_some (sym none ∙ same);
           stale = it.stale;
@@ -230,8 +227,7 @@ latest_cons clock most mid n t ts one rest = record {
 latest : (clock : ℕ) (ts : List Task) (most : ℕ) → UntilLatest clock most (fold (until_latest clock) most ts) ts
 latest clock [] most = record { within = omega arith; before = λ t member. absurd member; reached = inl refl }
 latest clock (t ∷ ts) most =
-    latest_cons clock most (until_latest clock most t) _ t ts (until (latest_start t) clock most)
-    (latest clock ts (until_latest clock most t))
+    latest_cons _ _ _ _ _ _ (until (latest_start t) clock most) (latest clock ts (until_latest clock most t))
 
 -- what n is where it is the ticks before the running job is done
 record UntilDone (runner : Option Task) (most n : ℕ) : Type 0 where
@@ -369,21 +365,18 @@ runs_on n r runs = ap (λ b. r.job.work - cond b (r.had + n) r.had) runs
 module _ (s : State) (n : ℕ) where
   -- what runs so many ticks on
   runs_before : (y : Task) → running (later_by n s) ≡ Some y → (x : Task) × (running s ≡ Some x) × (ticked_by n x ≡ y)
-  runs_before y e = found_before (ticked_by n) (running s) y
-      (sym (find_map is_running (ticked_by n) (λ t. refl) s.tasks) ∙ e)
+  runs_before y e = found_before _ _ _ (sym (find_map is_running (ticked_by n) (λ t. refl) s.tasks) ∙ e)
 
   -- what is to come
   comes_before : (y : Task) → find is_coming (later_by n s).tasks ≡ Some y → (x : Task)
       × (find is_coming s.tasks ≡ Some x) × (ticked_by n x ≡ y)
-  comes_before y e = found_before (ticked_by n) (find is_coming s.tasks) y
-      (sym (find_map is_coming (ticked_by n) (λ t. refl) s.tasks) ∙ e)
+  comes_before y e = found_before _ _ _ (sym (find_map is_coming (ticked_by n) (λ t. refl) s.tasks) ∙ e)
 
   -- before anything is due, nothing is due
   still_on : (most d : ℕ) → Dues s most d → Still s → n < d → Still (later_by n s)
   still_on most d it still early = record {
     free = λ none. on_map (ticked_by n) (λ t. (is_waiting t ≡ false) × (is_held t ≡ false)) s.tasks
-        (still.free (none_before (ticked_by n) (running s)
-        (sym (find_map is_running (ticked_by n) (λ t. refl) s.tasks) ∙ none)));
+        (still.free (none_before _ _ (sym (find_map is_running (ticked_by n) (λ t. refl) s.tasks) ∙ none)));
     busy = λ y runs. let x : (x : Task) × (running s ≡ Some x) × (ticked_by n x ≡ y) = runs_before y runs in
         subst (λ z. left z ≡ 0 → ⊥) x.2 (λ none.
         let some : d ≤ left x.0 = it.done x.0 x.1 in
@@ -450,8 +443,7 @@ module _ (rules : Rules) (s : State) (most : ℕ) where
 
   -- where it ends early, another step is next
   pub due : still_ticks most s < most → declared_open_step rules (later_by (still_ticks most s) s) ≡ Ticks → ⊥
-  due less ticks = due_on s (still_ticks most s) most (dues s most)
-      (tick_still rules (later_by (still_ticks most s) s) ticks) less
+  due less ticks = due_on _ _ _ (dues s most) (tick_still rules (later_by (still_ticks most s) s) ticks) less
 
 -- it is as long as it may be at most
 pub within : (s : State) (most : ℕ) → still_ticks most s ≤ most

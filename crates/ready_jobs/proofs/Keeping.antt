@@ -195,8 +195,7 @@ module _ (p : Parted) (rooms : Lasting) (pool : Pooled) (capacity : ℕ) (kept :
       four_length (option_to_list (option_map (ticked_by n) p.running)) B p.held p.waiting,
       as_long p.running,
     );
-    small = small_parts (option_to_list (option_map (ticked_by n) p.running)) B p.held p.waiting
-        (small_later p.running small_running) small_fresh small_held small_waiting;
+    small = small_parts _ _ _ _ (small_later p.running small_running) small_fresh small_held small_waiting;
     most = kept.most;
     pool_room = kept.pool_room;
     held_room = kept.held_room;
@@ -370,8 +369,7 @@ module _ (p : Parted) (rooms : Lasting) (pool : Pooled) (capacity : ℕ) (kept :
       four_length A B p.held pool'.tasks,
       as_many p.waiting (o ∷ pool'.tasks) less,
     );
-    small = small_parts A B p.held pool'.tasks small_running small_fresh small_held
-        (λ t m. small_waiting t (less.back t (inr m)));
+    small = small_parts _ _ _ _ small_running small_fresh small_held (λ t m. small_waiting t (less.back t (inr m)));
     most = kept.most;
     pool_room = omega (arith, kept.pool_room, room);
     held_room = kept.held_room;

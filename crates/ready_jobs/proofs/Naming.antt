@@ -73,8 +73,7 @@ module _ (k : Fraction) (v : View) (e : Event) where
       → Says v e
   decision_or r (Some f) runs_is fresh is = by_decision r f (preempts v f r) runs_is fresh is
   decision_or r None runs_is fresh is =
-      arrival_or v.coming (alarm k v (Some r) v.must_start or_else Ticks) refl is
-      (λ rest. late_or r v.must_start runs_is refl fresh rest)
+      arrival_or _ _ refl is (λ rest. late_or r v.must_start runs_is refl fresh rest)
 
   by_completion : (r : Task) (b : Bool) (rest : Move) → v.running ≡ Some r
       → (then_some b (Prints (Complete v.clock r.number)) or_else rest) ≡ Prints e
@@ -105,8 +104,7 @@ module _ (k : Fraction) (v : View) (e : Event) where
       subst (Says v) (same_event (Run v.clock f.number) e is)
       (free, inr (f, ap (λ q. next_of v q v.first_waiting) held_is ∙ ap (λ q. next_of v None q) waits, fresh, refl))
   free_or None None None free held_is waits fresh is =
-      arrival_or v.coming (alarm k v None v.must_start or_else Ticks) refl is
-      (λ rest. absurd (no_alarm v.must_start rest))
+      arrival_or _ _ refl is (λ rest. absurd (no_alarm v.must_start rest))
 
   by_running : (r : Option Task) → v.running ≡ r
       → (completion v r or_else dispatch v r v.first_held v.first_waiting or_else decision v r v.fresh or_else arrival v
@@ -114,10 +112,7 @@ module _ (k : Fraction) (v : View) (e : Event) where
       or_else alarm k v r v.must_start or_else Ticks)
       ≡ Prints e → Says v e
   by_running (Some r) runs_is is =
-      by_completion r (left r == 0)
-      (decision v (Some r) v.fresh or_else arrival v v.coming or_else alarm k v (Some r) v.must_start or_else Ticks)
-      runs_is is
-      (λ rest. decision_or r v.fresh runs_is refl rest)
+      by_completion _ _ _ runs_is is (λ rest. decision_or r v.fresh runs_is refl rest)
   by_running None free is = free_or v.first_held v.first_waiting v.fresh free refl refl refl is
 
   pub says : urgent_or k v Ticks ≡ Prints e → Says v e
@@ -135,8 +130,7 @@ module _ (k : Fraction) (v : View) (n : ℕ) where
   alarm_not r None is = rests_not is
   alarm_not None (Some x) is = rests_not is
   alarm_not (Some r) (Some x) is =
-      prints_not (cond (is_heavy k x.job.value v.privileged_value) (Take v.clock r.number x.number)
-      (Abandon v.clock x.number)) is
+      prints_not _ is
 
   arrival_not : (c r x : Option Task) → (arrival v c or_else alarm k v r x or_else Ticks) ≡ Waits n → ⊥
   arrival_not None r x is = alarm_not r x is

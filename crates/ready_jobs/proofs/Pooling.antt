@@ -95,8 +95,7 @@ jobs_out slots n t at =
     (sym (ap jobs_at (it.put None) ∙ jobs_append it.front (None ∷ it.back)))
     (subst (λ l. IsReordered l (t ∷ (jobs_at it.front ++ jobs_at it.back)))
     (sym (ap jobs_at it.is ∙ jobs_append it.front (Some t ∷ it.back)))
-    (turned (t ∷ (jobs_at it.front ++ jobs_at it.back)) (jobs_at it.front ++ t ∷ jobs_at it.back)
-    (between t (jobs_at it.front) (jobs_at it.back))))
+    (turned _ _ (between t (jobs_at it.front) (jobs_at it.back))))
 
 -- each job has a place
 pub place_of : (slots : List (Option Task)) (t : Task) → IsMember t (jobs_at slots) → (n : ℕ)

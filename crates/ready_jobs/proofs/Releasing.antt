@@ -44,8 +44,7 @@ module _ (c : Course) (J : Instance) (z : State) (follows : Follows c J z) where
       clock = refl;
       ready = subst (λ ts. IsReordered ts (c.ready ++ fresh_job c j ∷ []))
           (sym (filter-append is_ready z.tasks (fresh_job c j ∷ [])))
-          (both_parts (filter is_ready z.tasks) c.ready (fresh_job c j ∷ []) (fresh_job c j ∷ []) follows.ready
-          (same_order (fresh_job c j ∷ [])));
+          (both_parts _ _ _ _ follows.ready (same_order (fresh_job c j ∷ [])));
       jobs = omega (arith, length-append z.tasks (fresh_job c j ∷ []), follows.jobs);
       done = ap value_sum (filter-append is_done z.tasks (fresh_job c j ∷ []) ∙ append-nil (filter is_done z.tasks))
           ∙ follows.done;

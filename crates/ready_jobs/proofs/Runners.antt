@@ -17,8 +17,7 @@ module _ (c : Course) where
   pub ready_runs : (r : Task) → running (state_at c.clock c.ready) ≡ Some r → Runs c r.number
   ready_runs r some J z follows =
       let it : IsMember r c.ready × (is_running r ≡ true) = found is_running c.ready r some in
-      let there : IsMember r z.tasks × (is_ready r ≡ true) = member_filter is_ready z.tasks r
-      (follows.ready.back r it.0) in
+      let there : IsMember r z.tasks × (is_ready r ≡ true) = member_filter _ _ _ (follows.ready.back r it.0) in
       (r, runner z follows.keeps.sound r there.0 (is_running_role r it.1), refl)
 
   -- another job doesn't
@@ -44,6 +43,5 @@ module _ (c : Course) where
       let it : IsMember t z.tasks × (is_running t ≡ true) = found is_running z.tasks t here in
       let ready : is_ready t ≡ true = passes is_ready t Running true (is_running_role t it.1) refl in
       let kept : IsMember t c.ready = follows.ready.there t (filter_member is_ready z.tasks t it.0 ready) in
-      let other : IsMember t y.tasks × (is_ready t ≡ true) = member_filter is_ready y.tasks t
-      (others.ready.back t kept) in
+      let other : IsMember t y.tasks × (is_ready t ≡ true) = member_filter _ _ _ (others.ready.back t kept) in
       some_same t u (sym (runner y others.keeps.sound t other.0 (is_running_role t it.1)) ∙ there)

@@ -12,7 +12,7 @@ use Rattle.dover_model.specs.declared.events.Role.{Role}
 use Rattle.dover_model.specs.declared.events.Role.TheVariants.{Fresh, Waiting, Held, Running}
 use Rattle.dover_model.specs.declared.events.Task.{Task}
 use Rattle.dover_model.specs.declared.events.Entry.{Entry}
-use Rattle.dover_model.specs.Entries.{entry_of, is_due_before, is_start_before}
+use Rattle.dover_model.specs.Entries.{entry_of, is_due_before}
 use Rattle.dover_model.specs.State.{State, is_coming, is_fresh, is_waiting, is_held, is_running, is_privileged}
 use Rattle.dover_model.specs.State.{latest_start, running}
 use Rattle.dover_model.specs.Orders.{due_first, starts_before, first, earlier}
@@ -22,7 +22,7 @@ use Rattle.dover_model.proofs.EntryOrders.{strict_by, key_less}
 use Rattle.dover_model.proofs.Members.{reduce_none, filter_member, member_filter, some_same, find_none, find_head}
 use Rattle.dover_model.proofs.Roles.{passes}
 use Rattle.dover_model.proofs.Tests.{none_is_some}
-use Rattle.ready_jobs.specs.Dues.{until_latest, until_done, until_release, still_ticks}
+use Rattle.ready_jobs.specs.Dues.{until_latest, until_done, still_ticks}
 use Rattle.held_queue.specs.Stack.{IsByDeadline, IsDueBeforeAll}
 use Rattle.ready_jobs.specs.Parts.{Parted, HaveRole, HaveRoles, HaveOwnNumbers, ready_of, state_of, head_of}
 use Rattle.ready_jobs.proofs.Reordering.{first_is, first_only}
@@ -51,9 +51,7 @@ module _ (p : Task → Bool) (role : Role) (tasks : List Task) (have : HaveRole 
 -- in four parts
 pub four_parts : (p : Task → Bool) (a b c d : List Task)
     → filter p (a ++ (b ++ (c ++ d))) ≡ filter p a ++ (filter p b ++ (filter p c ++ filter p d))
-four_parts p a b c d =
-    filter-append p a (b ++ (c ++ d)) ∙ ap (λ l. filter p a ++ l) (filter-append p b (c ++ d))
-    ∙ ap (λ l. filter p a ++ (filter p b ++ l)) (filter-append p c d)
+four_parts p a b c d = cc (filter-append p a (b ++ (c ++ d)), filter-append p b (c ++ d), filter-append p c d)
 
 module _ (q : Parted) (roles : HaveRoles q) where
   abbrev runs_now : List Task
@@ -65,12 +63,7 @@ module _ (q : Parted) (roles : HaveRoles q) where
   parts_are : (p : Task → Bool) (a b c d : List Task) → filter p runs_now ≡ a → filter p fresh_now ≡ b
       → filter p q.held ≡ c → filter p q.waiting ≡ d
       → filter p (ready_of q) ≡ a ++ (b ++ (c ++ d))
-  parts_are p a b c d ia ib ic id =
-      four_parts p runs_now fresh_now q.held q.waiting
-      ∙ ap (λ l. l ++ (filter p fresh_now ++ (filter p q.held ++ filter p q.waiting))) ia
-      ∙ ap (λ l. a ++ (l ++ (filter p q.held ++ filter p q.waiting))) ib
-      ∙ ap (λ l. a ++ (b ++ (l ++ filter p q.waiting))) ic
-      ∙ ap (λ l. a ++ (b ++ (c ++ l))) id
+  parts_are p a b c d ia ib ic id = cc (four_parts p runs_now fresh_now q.held q.waiting)
 
   pub running_list : filter is_running (ready_of q) ≡ runs_now
   running_list =
@@ -197,8 +190,7 @@ module _ (v : Version) (s : State) (tasks : List Task) (own : HaveOwnNumbers tas
         (filter (is_at_latest_start s) tasks) x
         (filter_member (is_at_latest_start s) tasks x top.0 (eq-eqb (latest_start x) s.clock same))
         (λ y m. top.1 y (member_filter (is_at_latest_start s) tasks y m).0)
-        (apart_or_one (is_start_before v) (strict_by (λ e. e.latest) v) (filter (is_at_latest_start s) tasks)
-        (own_some (is_at_latest_start s) tasks own))
+        (apart_or_one _ (strict_by (λ e. e.latest) v) _ (own_some (is_at_latest_start s) tasks own))
 
   -- the first of those at their latest start, by the latest start of the first of all
   none_by : (o : Option Task) → first (starts_before v) tasks ≡ o → option_map latest_start o ≡ None
@@ -312,8 +304,4 @@ before_none v clock a (t ∷ ts) none = none_is_some (sym none)
 -- the ticks before anything is due, by the parts
 pub still_is : (p : Parted) → HaveRoles p → (most : ℕ)
     → fold (until_latest p.clock) (until_done (running (state_of p)) most) p.waiting ≡ still_ticks most (state_of p)
-still_is p roles most =
-    ap (λ l. fold (until_latest p.clock) (until_done (running (state_of p)) most) l) (sym (waiting_list p roles))
-    ∙ ap (λ c. fold (until_latest p.clock) (until_done (running (state_of p)) (until_release p.clock c most))
-    (filter is_waiting (ready_of p)))
-    (sym (seen_coming p roles))
+still_is p roles most = cc (waiting_list p roles, seen_coming p roles)

@@ -1,10 +1,8 @@
 -- The view of jobs in another order.
 use Rattle.std.proofs.Common.{◌≡◌, ℕ, ◌+◌, ◌-◌, inl, inr, List, map, sym, ap, ◌∙◌, Bool, true, false}
 use Rattle.std.proofs.Common.{nat_lt}
-use Rattle.std.specs.List.{filter, find, sum_by}
+use Rattle.std.specs.List.{filter, sum_by}
 use Rattle.std.proofs.lemmas.Bool.{cases_eq}
-use Rattle.dover_model.specs.Finishes.{is_finish_of}
-use Rattle.dover_model.specs.Step.{finish_or, declared_open_step}
 use Rattle.dover_model.specs.declared.events.Version.{Version}
 use Rattle.dover_model.specs.declared.events.Entry.{Entry}
 use Rattle.dover_model.specs.declared.events.Task.{Task}
@@ -13,7 +11,7 @@ use Rattle.dover_model.specs.Instance.{Rules}
 use Rattle.dover_model.specs.State.{State, is_coming, is_fresh, is_waiting, is_held, is_running, is_privileged, left}
 use Rattle.dover_model.specs.State.{least, demand_up_to, room}
 use Rattle.dover_model.specs.Orders.{first}
-use Rattle.dover_model.specs.Step.{view, open_step, urgent_or, Ticks, is_at_latest_start}
+use Rattle.dover_model.specs.Step.{view, open_step, is_at_latest_start}
 use Rattle.dover_model.specs.Sound.{Each, EachTwo}
 use Rattle.dover_model.proofs.EntryOrders.{strict_by}
 use Rattle.dover_model.proofs.Members.{map_same, member_filter}
@@ -85,8 +83,7 @@ module _ (version : Version) (clock : ℕ) (xs ys : List Task) (same : IsReorder
     first_still (is_start_before version) (strict_by (λ e. e.latest) version)
         (filter (is_at_latest_start here) (filter is_waiting xs))
         (filter (is_at_latest_start here) (filter is_waiting ys))
-        (filtered (filter is_waiting xs) (filter is_waiting ys) (filtered xs ys same is_waiting)
-        (is_at_latest_start here))
+        (filtered _ _ (filtered xs ys same is_waiting) _)
         (own_some (is_at_latest_start here) (filter is_waiting xs) (own_some is_waiting xs known.own)),
     room_still clock (filter is_held xs) (filter is_held ys) (filtered xs ys same is_held),
     room_still clock (filter is_privileged xs) (filter is_privileged ys) (filtered xs ys same is_privileged),
@@ -96,10 +93,5 @@ module _ (version : Version) (clock : ℕ) (xs ys : List Task) (same : IsReorder
 -- so is the open step
 pub step_still : (rules : Rules) (clock : ℕ) (xs ys : List Task) → IsReordered xs ys → AreApart xs
     → open_step rules (record { clock = clock; tasks = ys }) ≡ open_step rules (record { clock = clock; tasks = xs })
-step_still rules clock xs ys same known =
-    ap (λ o. finish_or clock (find (is_finish_of o) rules.finishes)
-    (declared_open_step rules (record { clock = clock; tasks = ys })))
-    (found_same xs ys same is_running known.one_runs)
-    ∙ ap (λ v. finish_or clock (find (is_finish_of (find is_running xs)) rules.finishes)
-    (urgent_or rules.ratio v Ticks))
-    (view_still rules.version clock xs ys same known)
+step_still rules clock xs ys same known = cc
+    (found_same xs ys same is_running known.one_runs, view_still rules.version clock xs ys same known)

@@ -12,9 +12,7 @@ clear_at-requires g c = within c.args.slots.now.items c.args.place (Some c.requi
 pub push_reserved-requires : goal.push_reserved-requires
 push_reserved-requires g c =
     let it = c.requires.pool in
-    let room = left_room it.0 c.args.slots.now.items c.args.free.now.items c.args.by_deadline.now c.args.by_latest.now
-    c.args.place it.1
-    c.requires.some.0 c.requires.some.1 in
+    let room = left_room _ _ _ _ _ _ it.1 _ c.requires.some.1 in
     omega (arith, room, c.requires.room, c.args.slots.now.ok.0, c.args.free.now.ok.0)
 
 pub returns-clause-rest : goal.returns-clause-rest
@@ -34,9 +32,7 @@ returns-clause-pool g c version pool =
     (subst (λ l. IsPool version (set c.args.slots.now.items c.args.place None)
     (c.args.free.now.items ++ c.args.place ∷ [])
     (set c.args.by_deadline.now c.args.place None) l) (sym c.remove-2.ensures.out)
-    (left_kept version c.args.slots.now.items c.args.free.now.items c.args.by_deadline.now c.args.by_latest.now
-    c.args.place pool
-    c.requires.some.0 c.requires.some.1))))
+    (left_kept _ _ _ _ _ _ pool _ c.requires.some.1))))
 
 pub returns-clause-due : goal.returns-clause-due
 returns-clause-due g c = ap (λ l. length l) c.remove.ensures.out ∙ same_length c.args.by_deadline.now c.args.place None
@@ -48,12 +44,8 @@ returns-clause-latest g c =
 pub returns-clause-count : goal.returns-clause-count
 returns-clause-count g c d fits =
     let it = c.requires.pool in
-    let due = left_due_count it.0 c.args.slots.now.items c.args.free.now.items c.args.by_deadline.now
-    c.args.by_latest.now c.args.place it.1
-    c.requires.some.0 c.requires.some.1 in
-    let latest = left_latest_count it.0 c.args.slots.now.items c.args.free.now.items c.args.by_deadline.now
-    c.args.by_latest.now c.args.place it.1
-    c.requires.some.0 c.requires.some.1 in
+    let due = left_due_count _ _ _ _ _ _ it.1 _ c.requires.some.1 in
+    let latest = left_latest_count _ _ _ _ _ _ it.1 _ c.requires.some.1 in
     omega (
       arith,
       c.remove.ensures.count d (omega (arith, due, fits)),

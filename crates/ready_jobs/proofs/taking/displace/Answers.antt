@@ -33,8 +33,7 @@ loop-t-preserved g c =
     c.add.ensures.more in
     let fewer = one_less was is rest t c.args.pool.now c.loop-t.pool c.add.new.self it top in
     record {
-      displaces = one_displaced was is rest t c.args.pool.now
-          c.loop-t.pool c.add.new.self it top c.add.ensures.kept more;
+      displaces = one_displaced _ _ _ _ _ _ _ it top c.add.ensures.kept more;
       capacity = c.pop.ensures.capacity ∙ c.loop-t.invariant.capacity;
       count = λ d fits.
           one_counted d c.loop-t.steps c.add.new.steps (length is) (length rest)
@@ -45,13 +44,11 @@ loop-t-preserved g c =
 
 pub add-requires-clause-room : goal.add-requires-clause-room
 add-requires-clause-room g c =
-    one_fits c.args.held.now.items c.loop-t.held.items c.pop.new.held.items c.in-Some.t c.args.pool.now
-    c.loop-t.pool c.loop-t.pool c.loop-t.invariant.displaces
+    one_fits _ _ _ _ _ _ c.loop-t.pool c.loop-t.invariant.displaces
     (c.pop.ensures.items ∙ ap (λ o. c.pop.new.held.items ++ option_to_list o) c.in-Some.is)
 
 pub add-requires-clause-number : goal.add-requires-clause-number
 add-requires-clause-number g c =
     subst (λ (t : Task). t.number < no_number) (sym c.in_role.ensures)
-    (one_small c.args.held.now.items c.loop-t.held.items c.pop.new.held.items c.in-Some.t c.args.pool.now
-    c.loop-t.pool c.loop-t.pool c.loop-t.invariant.displaces
+    (one_small _ _ _ _ _ _ c.loop-t.pool c.loop-t.invariant.displaces
     (c.pop.ensures.items ∙ ap (λ o. c.pop.new.held.items ++ option_to_list o) c.in-Some.is))

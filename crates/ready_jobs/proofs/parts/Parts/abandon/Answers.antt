@@ -1,7 +1,6 @@
 use Rattle.std.proofs.Common.{sym, ap}
 use Rattle.std.proofs.Common.{subst}
 use Rattle.std.specs.Prelude.{vec_capacity}
-use Rattle.dover_model.specs.Orders.{starts_before, first}
 use Rattle.ready_jobs.specs.Pools.{Pooled}
 use Rattle.ready_jobs.specs.Parts.{AreParts, AreSound}
 use Rattle.ready_jobs.specs.Kept.{parted_of}
@@ -18,7 +17,5 @@ invariant_of-self g c =
     subst (λ v. AreParts (record (parted_of inside) { version = v; waiting = after.tasks }) inside.rooms after
     (vec_capacity inside.held))
     (sym (ap (λ (q : Pooled). q.version) c.take_latest.ensures.kept))
-    (abandoned_kept (parted_of inside) inside.rooms inside.pool
-    (vec_capacity inside.held) c.self.invariant (first (starts_before inside.pool.version) inside.pool.tasks) after
-    c.take_latest.ensures.rest
-    c.take_latest.ensures.none (ap (λ (q : Pooled). q.room) c.take_latest.ensures.kept))
+    (abandoned_kept _ _ _ _ c.self.invariant _ _ c.take_latest.ensures.rest c.take_latest.ensures.none
+    (ap (λ (q : Pooled). q.room) c.take_latest.ensures.kept))

@@ -1,5 +1,5 @@
 use Rattle.std.proofs.Common.{◌+◌, ◌*◌, ◌≤◌, length, refl, subst}
-use Rattle.dover_model.specs.declared.events.Event.TheVariants.{Run, Preempt, Take, Complete, Abandon}
+use Rattle.dover_model.specs.declared.events.Event.TheVariants.{Run}
 use Rattle.dover_model.specs.Step.{Prints}
 use Rattle.dover_model.specs.Spending.{cost_of}
 use Rattle.ready_jobs.specs.Parts.{state_of}
@@ -14,59 +14,49 @@ pub resume_next-requires-clause-next : goal.resume_next-requires-clause-next
 resume_next-requires-clause-next g c =
     let p = c.args.self.now in (
       p.clock,
-      does_next p c.args.deed (deeds.Resume c.in-Resume.number) c.in-Resume.is (Run p.clock c.in-Resume.number)
-          c.requires.does.0 refl c.requires.does.1,
+      does_next _ _ _ c.in-Resume.is _ _ refl c.requires.does.1,
     )
 
 pub start_next-requires-clause-next : goal.start_next-requires-clause-next
 start_next-requires-clause-next g c =
     let p = c.args.self.now in (
       p.clock,
-      does_next p c.args.deed (deeds.Start c.in-Start.number) c.in-Start.is (Run p.clock c.in-Start.number)
-          c.requires.does.0 refl c.requires.does.1,
+      does_next _ _ _ c.in-Start.is _ _ refl c.requires.does.1,
     )
 
 pub begin_next-requires-clause-next : goal.begin_next-requires-clause-next
 begin_next-requires-clause-next g c =
     let p = c.args.self.now in (
       p.clock,
-      does_next p c.args.deed (deeds.Begin c.in-Begin.number) c.in-Begin.is (Run p.clock c.in-Begin.number)
-          c.requires.does.0 refl c.requires.does.1,
+      does_next _ _ _ c.in-Begin.is _ _ refl c.requires.does.1,
     )
 
 pub preempt_next-requires-clause-next : goal.preempt_next-requires-clause-next
 preempt_next-requires-clause-next g c =
     let p = c.args.self.now in (
       p.clock,
-      does_next p c.args.deed (deeds.Preempt c.in-Preempt.stops c.in-Preempt.starts) c.in-Preempt.is
-          (Preempt p.clock c.in-Preempt.stops c.in-Preempt.starts)
-          c.requires.does.0 refl c.requires.does.1,
+      does_next _ _ _ c.in-Preempt.is _ _ refl c.requires.does.1,
     )
 
 pub take_next-requires-clause-next : goal.take_next-requires-clause-next
 take_next-requires-clause-next g c =
     let p = c.args.self.now in (
       p.clock,
-      does_next p c.args.deed (deeds.Take c.in-Take.stops c.in-Take.starts) c.in-Take.is
-          (Take p.clock c.in-Take.stops c.in-Take.starts)
-          c.requires.does.0 refl c.requires.does.1,
+      does_next _ _ _ c.in-Take.is _ _ refl c.requires.does.1,
     )
 
 pub complete_next-requires-clause-next : goal.complete_next-requires-clause-next
 complete_next-requires-clause-next g c =
     let p = c.args.self.now in (
       p.clock,
-      does_next p c.args.deed (deeds.Complete c.in-Complete.number) c.in-Complete.is
-          (Complete p.clock c.in-Complete.number)
-          c.requires.does.0 refl c.requires.does.1,
+      does_next _ _ _ c.in-Complete.is _ _ refl c.requires.does.1,
     )
 
 pub abandon_next-requires-clause-next : goal.abandon_next-requires-clause-next
 abandon_next-requires-clause-next g c =
     let p = c.args.self.now in (
       p.clock,
-      does_next p c.args.deed (deeds.Abandon c.in-Abandon.number) c.in-Abandon.is (Abandon p.clock c.in-Abandon.number)
-          c.requires.does.0 refl c.requires.does.1,
+      does_next _ _ _ c.in-Abandon.is _ _ refl c.requires.does.1,
     )
 
 pub returns-in-Resume-clause-fewer : goal.returns-in-Resume-clause-fewer
@@ -101,32 +91,27 @@ pub returns-in-Take-clause-cost : goal.returns-in-Take-clause-cost
 returns-in-Take-clause-cost g c e d does fits =
     let p = c.args.self.now in
     subst (λ x. c.take_next.new.steps ≤ c.args.steps.now + cost_of d (state_of p) (Prints x))
-    (does_print p c.args.deed (deeds.Take c.in-Take.stops c.in-Take.starts) c.in-Take.is
-    (Take p.clock c.in-Take.stops c.in-Take.starts) e refl does)
+    (does_print _ _ _ c.in-Take.is _ _ refl does)
     (c.take_next.ensures.cost p.clock d fits)
 
 pub returns-in-Abandon-clause-cost : goal.returns-in-Abandon-clause-cost
 returns-in-Abandon-clause-cost g c e d does fits =
     let p = c.args.self.now in
     subst (λ x. c.abandon_next.new.steps ≤ c.args.steps.now + cost_of d (state_of p) (Prints x))
-    (does_print p c.args.deed (deeds.Abandon c.in-Abandon.number) c.in-Abandon.is
-    (Abandon p.clock c.in-Abandon.number) e refl does)
+    (does_print _ _ _ c.in-Abandon.is _ _ refl does)
     (c.abandon_next.ensures.cost p.clock d fits)
 
 pub returns-in-Start-clause-once : goal.returns-in-Start-clause-once
 returns-in-Start-clause-once g c e d does fits =
-    one_at_most d (wait_again e c.args.self.now.held) c.args.steps.now c.start_next.new.steps
-    (c.start_next.ensures.once d fits)
+    one_at_most _ _ _ _ (c.start_next.ensures.once d fits)
 
 pub returns-in-Take-clause-once : goal.returns-in-Take-clause-once
 returns-in-Take-clause-once g c e d does fits =
     let p = c.args.self.now in
     subst (λ x. c.take_next.new.steps ≤ c.args.steps.now + 2 * d * (4 + wait_again x p.held))
-    (does_print p c.args.deed (deeds.Take c.in-Take.stops c.in-Take.starts) c.in-Take.is
-    (Take p.clock c.in-Take.stops c.in-Take.starts) e refl does)
+    (does_print _ _ _ c.in-Take.is _ _ refl does)
     (take_at_most d (length p.held) c.args.steps.now c.take_next.new.steps (c.take_next.ensures.once d fits))
 
 pub returns-in-Abandon-clause-once : goal.returns-in-Abandon-clause-once
 returns-in-Abandon-clause-once g c e d does fits =
-    one_at_most d (wait_again e c.args.self.now.held) c.args.steps.now c.abandon_next.new.steps
-    (c.abandon_next.ensures.once d fits)
+    one_at_most _ _ _ _ (c.abandon_next.ensures.once d fits)

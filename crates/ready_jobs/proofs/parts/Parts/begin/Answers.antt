@@ -11,5 +11,4 @@ invariant_of-self c =
     subst (λ t. AreParts (record (parted_of inside) { running = Some t; fresh = None }) inside.rooms inside.pool
     (vec_capacity inside.held))
     (sym c.in_role.ensures)
-    (begun_kept (parted_of inside) inside.rooms inside.pool (vec_capacity inside.held) c.self.invariant c.in-Some.f
-    (ap (λ (q : Parted). q.running) c.self.view_is ∙ c.requires) c.in-Some.is)
+    (begun_kept _ _ _ _ c.self.invariant _ (ap (λ (q : Parted). q.running) c.self.view_is ∙ c.requires) c.in-Some.is)

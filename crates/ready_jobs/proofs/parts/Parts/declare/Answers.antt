@@ -14,5 +14,4 @@ invariant_of-self c =
     (record (parted_of inside) { version = q.version; waiting = q.tasks }) inside.rooms q
     (vec_capacity inside.held))
     (sym c.declare.ensures)
-    (versioned_kept (parted_of inside) inside.rooms inside.pool
-    (vec_capacity inside.held) c.self.invariant c.args.version)
+    (versioned_kept _ _ _ _ c.self.invariant _)

@@ -25,8 +25,7 @@ hold-requires-clause-spare c =
     let inside = c.self.inside in
     let p = parted_of inside in
     let kept = c.self.invariant in
-    let two = busy_two p inside.rooms inside.pool (vec_capacity inside.held) kept c.args.r.now c.args.f.now
-    (ap (λ (q : Parted). q.running) c.self.view_is ∙ c.requires.running)
+    let two = busy_two _ _ _ _ kept _ _ (ap (λ (q : Parted). q.running) c.self.view_is ∙ c.requires.running)
     (ap (λ (q : Parted). q.fresh) c.self.view_is ∙ c.requires.fresh) in
     omega (arith, two, kept.held_room)
 
@@ -52,8 +51,7 @@ push-requires c =
     let inside = c.self.inside in
     let p = parted_of inside in
     let kept = c.self.invariant in
-    let two = busy_two p inside.rooms inside.pool (vec_capacity inside.held) kept c.args.r.now c.args.f.now
-    (ap (λ (q : Parted). q.running) c.self.view_is ∙ c.requires.running)
+    let two = busy_two _ _ _ _ kept _ _ (ap (λ (q : Parted). q.running) c.self.view_is ∙ c.requires.running)
     (ap (λ (q : Parted). q.fresh) c.self.view_is ∙ c.requires.fresh) in
     omega (arith, two, kept.stack_room, length-reverse inside.held.items, inside.held.ok.0)
 
@@ -70,9 +68,7 @@ invariant_of-self c =
     let more_are = subst (λ e. AreRoomsOf c.hold.new.self (e ∷ map entry_of p.held)) c.entry_of.ensures
     (c.hold.ensures.kept (map entry_of p.held) c.self.invariant.held
     (subst (λ e. IsDueBeforeTop e (map entry_of p.held)) (sym c.entry_of.ensures) first)) in
-    let kept = preempted_kept p inside.rooms inside.pool
-    (vec_capacity inside.held) c.self.invariant c.args.r.now c.args.f.now c.hold.new.self
-    (vec_capacity c.push.new.held) runs fresh more_are c.hold.ensures.spare
+    let kept = preempted_kept _ _ _ _ c.self.invariant _ _ _ _ runs fresh more_are c.hold.ensures.spare
     (omega (arith, c.self.invariant.stack_room, c.push.ensures.capacity)) in
     let held_is = ap reverse c.push.ensures.items ∙ reverse-append inside.held.items (c.in_role.result ∷ [])
     ∙ ap (λ t. t ∷ reverse inside.held.items) c.in_role.ensures in

@@ -18,9 +18,8 @@ invariant_of-self-in_err-reserve-2 c =
     subst (λ h. AreParts (record p { held = reverse h }) c.reserve-2.new.self inside.pool
     (vec_capacity c.reserve.new.self)) (sym c.reserve.ensures.items)
     (subst (λ r. AreParts p r inside.pool (vec_capacity c.reserve.new.self)) (sym c.in_err-reserve-2.ensures.err)
-    (reserved_kept p inside.rooms inside.pool (vec_capacity inside.held) kept inside.room
-    (vec_capacity c.reserve.new.self) inside.rooms inside.pool kept.held
-    (omega arith) kept.most kept.pool_room kept.held_room (omega (arith, kept.stack_room, c.reserve.ensures.capacity))))
+    (reserved_kept _ _ _ _ kept _ _ _ _ kept.held (omega arith) kept.most kept.pool_room kept.held_room
+    (omega (arith, kept.stack_room, c.reserve.ensures.capacity))))
 
 pub invariant_of-self-in_err-reserve-3 : goal.invariant_of-self-in_err-reserve-3
 invariant_of-self-in_err-reserve-3 c =

@@ -36,9 +36,6 @@ invariant_of-self c =
     subst (λ t. AreParts (record (parted_of inside) { running = Some t; held = reverse rest }) c.release_one.new.self
     inside.pool (vec_capacity c.pop.new.held))
     (sym c.in_role.ensures)
-    (resumed_kept (parted_of inside) inside.rooms inside.pool (vec_capacity inside.held) kept h
-    (reverse rest) c.release_one.new.self
-    (vec_capacity c.pop.new.held) (ap (λ (q : Parted). q.running) c.self.view_is ∙ c.requires) held_is
+    (resumed_kept _ _ _ _ kept _ _ _ _ (ap (λ (q : Parted). q.running) c.self.view_is ∙ c.requires) held_is
     (c.release_one.ensures.kept (entry_of h) (map entry_of (reverse rest)) top (sym c.value.ensures.is))
-    c.release_one.ensures.spare
-    (omega (arith, kept.stack_room, c.pop.ensures.capacity)))
+    c.release_one.ensures.spare (omega (arith, kept.stack_room, c.pop.ensures.capacity)))

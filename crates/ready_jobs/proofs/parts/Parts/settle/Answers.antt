@@ -5,6 +5,5 @@ use Rattle.ready_jobs.proofs.parts.Parts.settle.Goals as goal
 
 pub returns-in-None-clause-settles : goal.returns-in-None-clause-settles
 returns-in-None-clause-settles g c =
-    from_on c.args.k c.args.mark c.args.self.now c.place.new.self c.tick_to.new.self
-    (ap (λ (q : Parted). q.version) c.place.ensures.kept) (c.place.ensures.settles c.args.mark)
+    from_on _ _ _ _ _ (ap (λ (q : Parted). q.version) c.place.ensures.kept) (c.place.ensures.settles c.args.mark)
     c.tick_to.ensures.settles

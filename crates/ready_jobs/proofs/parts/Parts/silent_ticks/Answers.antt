@@ -24,8 +24,7 @@ returns-in-Some-clause-still c ahead =
     c.min.ensures ∙ ap (λ n. min n c.saturating_sub.result) before
     ∙ ap (min (until_done (running (state_of p)) c.args.most))
     c.saturating_sub.ensures
-    ∙ before_start p.version p.clock (until_done (running (state_of p)) c.args.most) p.waiting c.in-Some.start
-    (sym c.first_start.ensures ∙ c.in-Some.is) early
+    ∙ before_start _ _ _ _ _ (sym c.first_start.ensures ∙ c.in-Some.is) early
     ∙ still_is p c.self.invariant.roles c.args.most
     ∙ ap (λ (q : Parted). still_ticks c.args.most (state_of q)) c.self.view_is
 
@@ -48,8 +47,7 @@ returns-in-None-clause-still c ahead =
     let p = parted_of c.self.inside in
     let before = c.until_done-before.ensures.is
     ∙ ap (λ (q : Parted). until_done (running (state_of q)) c.args.most) (sym c.self.view_is) in
-    before ∙ before_none p.version p.clock (until_done (running (state_of p)) c.args.most) p.waiting
-    (sym c.first_start.ensures ∙ c.in-None.is)
+    before ∙ before_none _ _ _ _ (sym c.first_start.ensures ∙ c.in-None.is)
     ∙ still_is p c.self.invariant.roles c.args.most
     ∙ ap (λ (q : Parted). still_ticks c.args.most (state_of q)) c.self.view_is
 

@@ -23,11 +23,8 @@ invariant_of-self g c =
     (subst (λ v. AreParts (record (parted_of inside)
     { version = v; running = Some (with_role c.in-Some.o Running); waiting = after.tasks }) inside.rooms after
     (vec_capacity inside.held)) (sym (ap (λ (q : Pooled). q.version) c.take_deadline.ensures.kept))
-    (started_kept (parted_of inside) inside.rooms inside.pool
-    (vec_capacity inside.held) c.self.invariant c.in-Some.o after
-    (ap (λ (q : Parted). q.running) c.self.view_is ∙ c.requires.free)
-    (c.take_deadline.ensures.rest c.in-Some.o c.in-Some.is)
-    (ap (λ (q : Pooled). q.room) c.take_deadline.ensures.kept)))
+    (started_kept _ _ _ _ c.self.invariant _ _ (ap (λ (q : Parted). q.running) c.self.view_is ∙ c.requires.free)
+    (c.take_deadline.ensures.rest c.in-Some.o c.in-Some.is) (ap (λ (q : Pooled). q.room) c.take_deadline.ensures.kept)))
 
 pub invariant_of-self-in_default : goal.invariant_of-self-in_default
 invariant_of-self-in_default g c =

@@ -14,8 +14,7 @@ pub add-requires-clause-number : goal.add-requires-clause-number
 add-requires-clause-number g c =
     let inside = c.self.inside in
     subst (λ (t : Task). t.number < no_number) (sym c.in_role.ensures)
-    (fresh_small (parted_of inside) inside.rooms inside.pool (vec_capacity inside.held) c.self.invariant c.args.f.now
-    (ap (λ (q : Parted). q.fresh) c.self.view_is ∙ c.requires.fresh))
+    (fresh_small _ _ _ _ c.self.invariant _ (ap (λ (q : Parted). q.fresh) c.self.view_is ∙ c.requires.fresh))
 
 pub invariant_of-self : goal.invariant_of-self
 invariant_of-self g c =
@@ -24,8 +23,6 @@ invariant_of-self g c =
     subst (λ v. AreParts (record (parted_of inside) { version = v; fresh = None; waiting = after.tasks }) inside.rooms
     after (vec_capacity inside.held))
     (sym (ap (λ (q : Pooled). q.version) c.add.ensures.kept))
-    (stayed_kept (parted_of inside) inside.rooms inside.pool
-    (vec_capacity inside.held) c.self.invariant c.args.f.now after
-    (ap (λ (q : Parted). q.fresh) c.self.view_is ∙ c.requires.fresh)
+    (stayed_kept _ _ _ _ c.self.invariant _ _ (ap (λ (q : Parted). q.fresh) c.self.view_is ∙ c.requires.fresh)
     (subst (λ t. IsReordered (t ∷ inside.pool.tasks) after.tasks) c.in_role.ensures c.add.ensures.more)
     (ap (λ (q : Pooled). q.room) c.add.ensures.kept))

@@ -39,8 +39,7 @@ add-requires-clause-number g c =
     let inside = c.self.inside in
     let runs = ap (λ (q : Parted). q.running) c.self.view_is ∙ c.requires.running in
     subst (λ (t : Task). t.number < no_number) (sym c.in_role.ensures)
-    (running_small (parted_of inside) inside.rooms inside.pool (vec_capacity inside.held) c.self.invariant
-    c.args.r.now runs)
+    (running_small _ _ _ _ c.self.invariant _ runs)
 
 pub displace-requires-clause-room : goal.displace-requires-clause-room
 displace-requires-clause-room g c =
@@ -98,8 +97,7 @@ invariant_of-self g c =
     c.clear.new.self three (vec_capacity c.displace.new.held)) (sym c.displace.ensures.none)
     (subst (λ t. AreParts (record p { running = Some t; held = []; waiting = three.tasks })
     c.clear.new.self three (vec_capacity c.displace.new.held)) (sym c.in_role-2.ensures)
-    (taken_kept p inside.rooms inside.pool (vec_capacity inside.held) c.self.invariant r x runs three order
-    c.clear.new.self (vec_capacity c.displace.new.held) c.clear.ensures.kept spare room
+    (taken_kept _ _ _ _ c.self.invariant _ _ runs _ order _ _ c.clear.ensures.kept spare room
     (omega (arith, c.self.invariant.stack_room, c.displace.ensures.capacity)))))
 
 pub returns-clause-rest : goal.returns-clause-rest

@@ -28,8 +28,7 @@ returns-in-Some-first_late-clause-cost g c at d fits =
     take_costs p c.laws.ensures.roles d _ _ at c.requires.once c.args.stops c.args.starts c.in-Some.r x
     (sym c.running.ensures.is ∙ c.in-Some.is)
     (first_member (starts_before p.version) p.waiting x (c.first_late.ensures.is x late))
-    (taken_named p c.laws.ensures.roles c.requires.once c.args.stops c.args.starts c.requires.next x
-    (sym c.first_late.ensures.seen ∙ late))
+    (taken_named _ c.laws.ensures.roles c.requires.once _ _ c.requires.next _ (sym c.first_late.ensures.seen ∙ late))
     (c.take.ensures.count d fits)
 
 pub returns-in-Some-first_late-clause-once : goal.returns-in-Some-first_late-clause-once

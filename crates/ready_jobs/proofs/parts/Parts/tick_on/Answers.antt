@@ -38,8 +38,7 @@ open_step-requires c =
     c.silent_ticks-count.ensures.done c.silent_ticks-count.ensures.start in
     subst AreSound (sym c.tick.ensures)
     (known_sound _ (parts_later n p) (roles_later n p roles)
-    (part_after c.args.k c.args.mark p (parts_later n p) refl
-    (jump_settles c.args.k c.args.mark n p roles it c.requires.low) c.requires.part))
+    (part_after _ _ _ _ refl (jump_settles c.args.k c.args.mark n p roles it c.requires.low) c.requires.part))
 
 pub returns-clause-settles : goal.returns-clause-settles
 returns-clause-settles c =

@@ -42,8 +42,7 @@ pool g c =
     (omega (arith, fit, c.self.invariant.1.most))
 
 pub due_item-due-requires : goal.due_item-due-requires
-due_item-due-requires g c = add_small _ _ c.next_place-place.new.free.items _ _ c.next_place-place.result
-    (pool g (goal.at.due_item-due-requires g c).After-next_place-place)
+due_item-due-requires g c = add_small _ _ _ _ _ _ (pool g (goal.at.due_item-due-requires g c).After-next_place-place)
 
 pub latest_item-latest-requires : goal.latest_item-latest-requires
 latest_item-latest-requires g c = add_small _ _ c.next_place-place.new.free.items _ _ c.next_place-place.result
@@ -56,26 +55,22 @@ put_at-requires-clause-inside g c = add_inside _ _ c.next_place-place.new.free.i
 pub insert-requires-clause-ready : goal.insert-requires-clause-ready
 insert-requires-clause-ready g c =
     subst (λ (i : ItemFacts). i.place < length c.self.inside.by_deadline) (sym c.due_item-due.ensures)
-    (add_due_ready _ _ c.next_place-place.new.free.items _ _ c.next_place-place.result
-    (pool g (goal.at.insert-requires-clause-ready g c).After-next_place-place))
+    (add_due_ready _ _ _ _ _ _ (pool g (goal.at.insert-requires-clause-ready g c).After-next_place-place))
 
 pub insert-requires-clause-free : goal.insert-requires-clause-free
 insert-requires-clause-free g c =
     subst (λ (i : ItemFacts). get_or c.self.inside.by_deadline i.place None ≡ None) (sym c.due_item-due.ensures)
-    (add_due_free _ _ c.next_place-place.new.free.items _ _ c.next_place-place.result
-    (pool g (goal.at.insert-requires-clause-free g c).After-next_place-place))
+    (add_due_free _ _ _ _ _ _ (pool g (goal.at.insert-requires-clause-free g c).After-next_place-place))
 
 pub insert-requires-2-clause-ready : goal.insert-requires-2-clause-ready
 insert-requires-2-clause-ready g c =
     subst (λ (i : ItemFacts). i.place < length c.self.inside.by_latest) (sym c.latest_item-latest.ensures)
-    (add_latest_ready _ _ c.next_place-place.new.free.items _ _ c.next_place-place.result
-    (pool g (goal.at.insert-requires-2-clause-ready g c).After-next_place-place))
+    (add_latest_ready _ _ _ _ _ _ (pool g (goal.at.insert-requires-2-clause-ready g c).After-next_place-place))
 
 pub insert-requires-2-clause-free : goal.insert-requires-2-clause-free
 insert-requires-2-clause-free g c =
     subst (λ (i : ItemFacts). get_or c.self.inside.by_latest i.place None ≡ None) (sym c.latest_item-latest.ensures)
-    (add_latest_free _ _ c.next_place-place.new.free.items _ _ c.next_place-place.result
-    (pool g (goal.at.insert-requires-2-clause-free g c).After-next_place-place))
+    (add_latest_free _ _ _ _ _ _ (pool g (goal.at.insert-requires-2-clause-free g c).After-next_place-place))
 
 pub invariant_of-self : goal.invariant_of-self
 invariant_of-self g c =
@@ -132,8 +127,7 @@ returns-clause-more g c =
     (subst (λ l. IsReordered (c.args.t ∷ l) (jobs_at c.put_at.new.slots.items)) c.next_place-place.ensures.jobs
     (subst (λ l. IsReordered (c.args.t ∷ jobs_at slots) (jobs_at l)) (sym c.put_at.ensures.items)
     (jobs_in slots c.next_place-place.result c.args.t
-    (add_free _ _ c.next_place-place.new.free.items _ _ c.next_place-place.result
-    (pool g (goal.at.returns-clause-more g c).After-next_place-place)))))
+    (add_free _ _ _ _ _ _ (pool g (goal.at.returns-clause-more g c).After-next_place-place)))))
 
 pub returns-clause-count : goal.returns-clause-count
 returns-clause-count g c d size =

@@ -13,9 +13,7 @@ job_at-requires c =
     let inside = c.self.inside in
     let own = subst (λ (q : Pooled). HaveOwnNumbers q.tasks) (sym c.self.view_is) c.requires.own in
     let modest = subst (λ (q : Pooled). AreModest q.tasks) (sym c.self.view_is) c.requires.modest in
-    let it = latest_found inside.version inside.slots.items inside.by_latest c.in_ok-item.item
-    (sym c.in_ok-item.was ∙ c.first.ensures) own modest
-    c.self.invariant.0.latest in
+    let it = latest_found _ _ _ _ (sym c.in_ok-item.was ∙ c.first.ensures) own modest c.self.invariant.0.latest in
     let here = within inside.slots.items c.in_ok-item.item.place (Some it.0) it.1 in
     omega (arith, here, c.place.ensures.is)
 
@@ -23,8 +21,7 @@ pub returns-in_err-item : goal.returns-in_err-item
 returns-in_err-item c =
     let inside = c.self.inside in
     ap seen c.from_residual.ensures
-    ∙ latest_none inside.version inside.slots.items inside.by_latest c.self.invariant.0.latest
-    (sym c.in_err-item.was ∙ c.first.ensures)
+    ∙ latest_none _ _ _ c.self.invariant.0.latest (sym c.in_err-item.was ∙ c.first.ensures)
     ∙ ap (λ (q : Pooled). first (starts_before q.version) q.tasks) c.self.view_is
 
 pub returns : goal.returns
@@ -32,8 +29,6 @@ returns c =
     let inside = c.self.inside in
     let own = subst (λ (q : Pooled). HaveOwnNumbers q.tasks) (sym c.self.view_is) c.requires.own in
     let modest = subst (λ (q : Pooled). AreModest q.tasks) (sym c.self.view_is) c.requires.modest in
-    let it = latest_found inside.version inside.slots.items inside.by_latest c.in_ok-item.item
-    (sym c.in_ok-item.was ∙ c.first.ensures) own modest
-    c.self.invariant.0.latest in
+    let it = latest_found _ _ _ _ (sym c.in_ok-item.was ∙ c.first.ensures) own modest c.self.invariant.0.latest in
     some_same _ _ (sym c.job_at.ensures ∙ ap (slice_get inside.slots.items) c.place.ensures.is ∙ it.1) ∙ sym it.2
     ∙ ap (λ (q : Pooled). first (starts_before q.version) q.tasks) c.self.view_is

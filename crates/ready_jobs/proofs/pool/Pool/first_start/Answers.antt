@@ -20,8 +20,7 @@ returns c =
     let inside = c.self.inside in
     let own = subst (λ (q : Pooled). HaveOwnNumbers q.tasks) (sym c.self.view_is) c.requires.own in
     let modest = subst (λ (q : Pooled). AreModest q.tasks) (sym c.self.view_is) c.requires.modest in
-    let it = latest_found inside.version inside.slots.items inside.by_latest c.in_ok-item.item
-    (sym c.in_ok-item.was ∙ c.first.ensures) own modest c.self.invariant.0.latest in
+    let it = latest_found _ _ _ _ (sym c.in_ok-item.was ∙ c.first.ensures) own modest c.self.invariant.0.latest in
     ap Some (c.key.ensures ∙ ap (λ (i : ItemFacts). i.key) it.3.1)
     ∙ ap (option_map latest_start) (sym it.2
     ∙ ap (λ (q : Pooled). first (starts_before q.version) q.tasks) c.self.view_is)

@@ -14,9 +14,7 @@ task_at-task-requires g c =
     let inside = c.self.inside in
     let own = subst (λ (q : Pooled). HaveOwnNumbers q.tasks) (sym c.self.view_is) c.requires.own in
     let modest = subst (λ (q : Pooled). AreModest q.tasks) (sym c.self.view_is) c.requires.modest in
-    let it = due_found inside.version inside.slots.items inside.by_deadline c.in_ok-item.item
-    (sym c.in_ok-item.was ∙ c.first.ensures) own modest
-    c.self.invariant.0.due in
+    let it = due_found _ _ _ _ (sym c.in_ok-item.was ∙ c.first.ensures) own modest c.self.invariant.0.due in
     let here = within inside.slots.items c.in_ok-item.item.place (Some it.0) it.1 in
     omega (arith, here, c.place-place.ensures.is)
 
@@ -25,9 +23,7 @@ take_at-requires-clause-some g c =
     let inside = c.self.inside in
     let own = subst (λ (q : Pooled). HaveOwnNumbers q.tasks) (sym c.self.view_is) c.requires.own in
     let modest = subst (λ (q : Pooled). AreModest q.tasks) (sym c.self.view_is) c.requires.modest in
-    let it = due_found inside.version inside.slots.items inside.by_deadline c.in_ok-item.item
-    (sym c.in_ok-item.was ∙ c.first.ensures) own modest
-    c.self.invariant.0.due in
+    let it = due_found _ _ _ _ (sym c.in_ok-item.was ∙ c.first.ensures) own modest c.self.invariant.0.due in
     (it.0, ap (slice_get inside.slots.items) c.place-place.ensures.is ∙ it.1)
 
 pub take_at-requires-clause-pool : goal.take_at-requires-clause-pool
@@ -60,8 +56,7 @@ pub returns-in_err-item-clause-was : goal.returns-in_err-item-clause-was
 returns-in_err-item-clause-was g c =
     let inside = c.self.inside in
     c.from_residual.ensures
-    ∙ due_none inside.version inside.slots.items inside.by_deadline c.self.invariant.0.due
-    (sym c.in_err-item.was ∙ c.first.ensures)
+    ∙ due_none _ _ _ c.self.invariant.0.due (sym c.in_err-item.was ∙ c.first.ensures)
     ∙ ap (λ (q : Pooled). first (due_first q.version) q.tasks) c.self.view_is
 
 pub returns-clause-was : goal.returns-clause-was
@@ -69,9 +64,7 @@ returns-clause-was g c =
     let inside = c.self.inside in
     let own = subst (λ (q : Pooled). HaveOwnNumbers q.tasks) (sym c.self.view_is) c.requires.own in
     let modest = subst (λ (q : Pooled). AreModest q.tasks) (sym c.self.view_is) c.requires.modest in
-    let it = due_found inside.version inside.slots.items inside.by_deadline c.in_ok-item.item
-    (sym c.in_ok-item.was ∙ c.first.ensures) own modest
-    c.self.invariant.0.due in
+    let it = due_found _ _ _ _ (sym c.in_ok-item.was ∙ c.first.ensures) own modest c.self.invariant.0.due in
     some_same _ _ (sym c.task_at-task.ensures ∙ ap (slice_get inside.slots.items) c.place-place.ensures.is ∙ it.1)
     ∙ sym it.2
     ∙ ap (λ (q : Pooled). first (due_first q.version) q.tasks) c.self.view_is
@@ -90,8 +83,6 @@ returns-clause-none g c none =
     let inside = c.self.inside in
     let own = subst (λ (q : Pooled). HaveOwnNumbers q.tasks) (sym c.self.view_is) c.requires.own in
     let modest = subst (λ (q : Pooled). AreModest q.tasks) (sym c.self.view_is) c.requires.modest in
-    let it = due_found inside.version inside.slots.items inside.by_deadline c.in_ok-item.item
-    (sym c.in_ok-item.was ∙ c.first.ensures) own modest
-    c.self.invariant.0.due in
+    let it = due_found _ _ _ _ (sym c.in_ok-item.was ∙ c.first.ensures) own modest c.self.invariant.0.due in
     none_is_some (sym none ∙ some_same _ _ (sym c.task_at-task.ensures
     ∙ ap (slice_get inside.slots.items) c.place-place.ensures.is ∙ it.1))

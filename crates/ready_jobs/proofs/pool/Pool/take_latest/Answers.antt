@@ -13,9 +13,7 @@ take_at-requires-clause-some g c =
     let inside = c.self.inside in
     let own = subst (λ (q : Pooled). HaveOwnNumbers q.tasks) (sym c.self.view_is) c.requires.own in
     let modest = subst (λ (q : Pooled). AreModest q.tasks) (sym c.self.view_is) c.requires.modest in
-    let it = latest_found inside.version inside.slots.items inside.by_latest c.in-Some.item
-    (sym c.in-Some.is ∙ c.first.ensures) own modest
-    c.self.invariant.0.latest in
+    let it = latest_found _ _ _ _ (sym c.in-Some.is ∙ c.first.ensures) own modest c.self.invariant.0.latest in
     (it.0, ap (slice_get inside.slots.items) c.place.ensures.is ∙ it.1)
 
 pub take_at-requires-clause-pool : goal.take_at-requires-clause-pool
@@ -49,9 +47,7 @@ returns-in-Some-clause-rest g c t is =
     let inside = c.self.inside in
     let own = subst (λ (q : Pooled). HaveOwnNumbers q.tasks) (sym c.self.view_is) c.requires.own in
     let modest = subst (λ (q : Pooled). AreModest q.tasks) (sym c.self.view_is) c.requires.modest in
-    let it = latest_found inside.version inside.slots.items inside.by_latest c.in-Some.item
-    (sym c.in-Some.is ∙ c.first.ensures) own modest
-    c.self.invariant.0.latest in
+    let it = latest_found _ _ _ _ (sym c.in-Some.is ∙ c.first.ensures) own modest c.self.invariant.0.latest in
     let same = sym it.2 ∙ ap (λ (q : Pooled). first (starts_before q.version) q.tasks) c.self.view_is ∙ is in
     subst (λ (q : Pooled). IsReordered q.tasks (t ∷ jobs_at c.take_at.new.slots.items)) c.self.view_is
     (c.take_at.ensures.rest t (ap (slice_get inside.slots.items) c.place.ensures.is ∙ it.1 ∙ ap Some same))
@@ -61,9 +57,7 @@ returns-in-Some-clause-none g c none =
     let inside = c.self.inside in
     let own = subst (λ (q : Pooled). HaveOwnNumbers q.tasks) (sym c.self.view_is) c.requires.own in
     let modest = subst (λ (q : Pooled). AreModest q.tasks) (sym c.self.view_is) c.requires.modest in
-    let it = latest_found inside.version inside.slots.items inside.by_latest c.in-Some.item
-    (sym c.in-Some.is ∙ c.first.ensures) own modest
-    c.self.invariant.0.latest in
+    let it = latest_found _ _ _ _ (sym c.in-Some.is ∙ c.first.ensures) own modest c.self.invariant.0.latest in
     none_is_some (sym (sym it.2 ∙ ap (λ (q : Pooled). first (starts_before q.version) q.tasks) c.self.view_is ∙ none))
 
 pub returns-in-Some-clause-count : goal.returns-in-Some-clause-count
@@ -73,6 +67,5 @@ returns-in-Some-clause-count g c d fits =
 pub returns-in_default-clause-rest : goal.returns-in_default-clause-rest
 returns-in_default-clause-rest g c t is =
     let inside = c.self.inside in
-    none_is_some (latest_none inside.version inside.slots.items inside.by_latest c.self.invariant.0.latest
-    (sym c.in_default.is ∙ c.first.ensures)
+    none_is_some (latest_none _ _ _ c.self.invariant.0.latest (sym c.in_default.is ∙ c.first.ensures)
     ∙ ap (λ (q : Pooled). first (starts_before q.version) q.tasks) c.self.view_is ∙ is)

@@ -7,8 +7,7 @@ use Rattle.ready_jobs.proofs.ready.Ready.declare.Goals as goal
 pub declare-requires : goal.declare-requires
 declare-requires c =
     let i = c.self.inside in
-    none_waits i.parts (none_ready (course_of i.ratio i.parts i.jobs i.done) c.self.invariant
-    (ap (λ (d : Course). d.jobs) c.self.view_is ∙ c.requires))
+    none_waits i.parts (none_ready _ c.self.invariant (ap (λ (d : Course). d.jobs) c.self.view_is ∙ c.requires))
 
 pub invariant_of-self : goal.invariant_of-self
 invariant_of-self c =

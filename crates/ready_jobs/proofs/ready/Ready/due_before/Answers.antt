@@ -36,6 +36,5 @@ returns-clause-settled g c J z follows =
           w.if-is_late_at.false)
       | in-None w ↦
           subst (λ o. Settled d J z c.args.mark (option_map (λ (due : Due). due.event) o)) (sym w.result-is)
-          (silent_settled d J z c.args.mark (step_at d.clock c.go_on-deed.result) (step_at d.clock c.go_on-deed.result)
-          reached refl (step ∙ w.in-None.is) c.go_on-deed.ensures.low)
+          (silent_settled _ _ _ _ _ _ reached refl (step ∙ w.in-None.is) c.go_on-deed.ensures.low)
     ]

@@ -50,9 +50,8 @@ returns-clause-yes c _ =
     let i = c.self.inside in
     let q : Parted = c.complete.new.self in
     subst (λ d. Finishes d c.args.number (course_of i.ratio q i.jobs (i.done + c.value.result))) c.self.view_is
-    (course_finishes i.ratio i.parts q i.jobs i.done c.value.result c.laws.ensures.roles
-    c.in-Some.r (sym c.running.ensures.is ∙ c.in-Some.is) c.complete.ensures c.value.ensures.is c.args.number
-    (sym c.from.ensures ∙ c.if-from-number.false))
+    (course_finishes _ _ _ _ _ _ c.laws.ensures.roles _ (sym c.running.ensures.is ∙ c.in-Some.is) c.complete.ensures
+    c.value.ensures.is _ (sym c.from.ensures ∙ c.if-from-number.false))
 
 pub returns-clause-paid : goal.returns-clause-paid
 returns-clause-paid c start now paid freely =

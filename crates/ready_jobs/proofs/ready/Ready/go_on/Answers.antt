@@ -18,24 +18,18 @@ settle-deed-requires-clause-part g c =
 pub invariant_of-self : goal.invariant_of-self
 invariant_of-self g c =
     let i = c.self.inside in
-    reaches_course i.ratio i.parts c.settle-deed.new.self i.jobs i.done c.args.mark
-    (step_at c.settle-deed.new.self.clock c.settle-deed.result)
-    (ap (λ (q : Parted). q.version) c.settle-deed.ensures.kept)
-    (subst (λ (d : Course). 0 < length d.ready) (sym c.self.view_is) c.requires.some)
-    c.settle-deed.ensures.settles c.settle-deed.ensures.step c.settle-deed.ensures.stops c.settle-deed.ensures.low
-    c.requires.known
-    c.self.invariant
+    reaches_course _ _ _ _ _ _ _ (ap (λ (q : Parted). q.version) c.settle-deed.ensures.kept)
+    (subst (λ (d : Course). 0 < length d.ready) (sym c.self.view_is) c.requires.some) c.settle-deed.ensures.settles
+    c.settle-deed.ensures.step c.settle-deed.ensures.stops c.settle-deed.ensures.low c.requires.known c.self.invariant
 
 pub returns-clause-reached : goal.returns-clause-reached
 returns-clause-reached g c K z follows =
     let i = c.self.inside in
     let q = c.settle-deed.new.self in
-    course_reaches i.ratio i.parts q i.jobs i.done c.args.mark (step_at q.clock c.settle-deed.result)
-    (ap (λ (p : Parted). p.version) c.settle-deed.ensures.kept)
-    (subst (λ (d : Course). 0 < length d.ready) (sym c.self.view_is) c.requires.some)
-    c.settle-deed.ensures.settles c.settle-deed.ensures.step c.settle-deed.ensures.stops c.settle-deed.ensures.low
-    c.requires.known
-    K z (subst (λ d. Follows d K z) (sym c.self.view_is) follows)
+    course_reaches _ _ _ _ _ _ _ (ap (λ (p : Parted). p.version) c.settle-deed.ensures.kept)
+    (subst (λ (d : Course). 0 < length d.ready) (sym c.self.view_is) c.requires.some) c.settle-deed.ensures.settles
+    c.settle-deed.ensures.step c.settle-deed.ensures.stops c.settle-deed.ensures.low c.requires.known _ _
+    (subst (λ d. Follows d K z) (sym c.self.view_is) follows)
 
 pub returns-clause-paid : goal.returns-clause-paid
 returns-clause-paid g c start paid =
@@ -43,13 +37,10 @@ returns-clause-paid g c start paid =
     silent_pays i.ratio i.parts c.settle-deed.new.self i.jobs i.done c.args.mark
     (step_at c.settle-deed.new.self.clock c.settle-deed.result)
     c.laws.ensures.roles c.laws-2.ensures.roles c.self.invariant
-    (course_reaches i.ratio i.parts c.settle-deed.new.self i.jobs i.done c.args.mark
-    (step_at c.settle-deed.new.self.clock c.settle-deed.result)
-    (ap (λ (q : Parted). q.version) c.settle-deed.ensures.kept)
-    (subst (λ (d : Course). 0 < length d.ready) (sym c.self.view_is) c.requires.some)
-    c.settle-deed.ensures.settles c.settle-deed.ensures.step c.settle-deed.ensures.stops c.settle-deed.ensures.low
-    c.requires.known
-    c.self.invariant.0 c.self.invariant.1 c.self.invariant.2)
+    (course_reaches _ _ _ _ _ _ _ (ap (λ (q : Parted). q.version) c.settle-deed.ensures.kept)
+    (subst (λ (d : Course). 0 < length d.ready) (sym c.self.view_is) c.requires.some) c.settle-deed.ensures.settles
+    c.settle-deed.ensures.step c.settle-deed.ensures.stops c.settle-deed.ensures.low c.requires.known _ _
+    c.self.invariant.2)
     c.args.steps.now c.settle-deed.new.steps c.settle-deed.ensures.count start
     (subst (λ d. HasPaid d start c.args.steps.now) (sym c.self.view_is) paid)
 
@@ -59,13 +50,10 @@ returns-clause-freely g c start paid freely =
     silent_frees i.ratio i.parts c.settle-deed.new.self i.jobs i.done c.args.mark
     (step_at c.settle-deed.new.self.clock c.settle-deed.result)
     c.laws.ensures.roles c.laws-2.ensures.roles c.self.invariant
-    (course_reaches i.ratio i.parts c.settle-deed.new.self i.jobs i.done c.args.mark
-    (step_at c.settle-deed.new.self.clock c.settle-deed.result)
-    (ap (λ (q : Parted). q.version) c.settle-deed.ensures.kept)
-    (subst (λ (d : Course). 0 < length d.ready) (sym c.self.view_is) c.requires.some)
-    c.settle-deed.ensures.settles c.settle-deed.ensures.step c.settle-deed.ensures.stops c.settle-deed.ensures.low
-    c.requires.known
-    c.self.invariant.0 c.self.invariant.1 c.self.invariant.2)
+    (course_reaches _ _ _ _ _ _ _ (ap (λ (q : Parted). q.version) c.settle-deed.ensures.kept)
+    (subst (λ (d : Course). 0 < length d.ready) (sym c.self.view_is) c.requires.some) c.settle-deed.ensures.settles
+    c.settle-deed.ensures.step c.settle-deed.ensures.stops c.settle-deed.ensures.low c.requires.known _ _
+    c.self.invariant.2)
     c.args.steps.now c.settle-deed.new.steps c.settle-deed.ensures.count start
     (subst (λ d. HasPaid d start c.args.steps.now) (sym c.self.view_is) paid)
     (λ same. subst (λ d. HasPaidFreely d start c.args.steps.now) (sym c.self.view_is)

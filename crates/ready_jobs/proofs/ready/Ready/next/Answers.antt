@@ -23,8 +23,6 @@ returns-clause-at c under =
     subst (λ d. PrintsAt d (c.clock-clock.result + c.silent_ticks.result)) c.self.view_is
     (subst (λ t. PrintsAt (course_of i.ratio i.parts i.jobs i.done) (t + c.silent_ticks.result))
     (sym c.clock-clock.ensures)
-    (prints_at i.ratio i.parts i.jobs i.done c.silent_ticks.result c.laws.ensures.roles c.self.invariant some
-    (omega (arith, c.silent_ticks.ensures.most, most))
+    (prints_at _ _ _ _ _ c.laws.ensures.roles c.self.invariant some (omega (arith, c.silent_ticks.ensures.most, most))
     (λ early. c.silent_ticks.ensures.still early ∙ ap (λ n. still_ticks n (state_of i.parts)) most)
-    c.silent_ticks.ensures.done c.silent_ticks.ensures.start
-    (subst IsUnderWay (sym c.self.view_is) under)))
+    c.silent_ticks.ensures.done c.silent_ticks.ensures.start (subst IsUnderWay (sym c.self.view_is) under)))

@@ -1,6 +1,4 @@
 use Rattle.std.proofs.Common.{◌+◌, ◌*◌, ◌≤◌, subst, arith}
-use Rattle.std.specs.List.{filter}
-use Rattle.dover_model.specs.State.{is_held}
 use Rattle.ready_jobs.specs.Spending.{wait_again}
 use Rattle.ready_jobs.proofs.Costing.{both_at_most}
 use Rattle.ready_jobs.proofs.ready.Ready.step.Goals as goal
@@ -12,6 +10,5 @@ pub returns-in-Some-clause-once : goal.returns-in-Some-clause-once
 returns-in-Some-clause-once g c d fits =
     let e = c.in-Some.due.event in
     subst (λ hs. c.take.new.steps ≤ c.args.steps.now + 2 * d * (6 + wait_again e hs)) c.due_before.ensures.held
-    (both_at_most d (wait_again e (filter is_held c.due_before.new.self.ready)) c.args.steps.now
-    c.due_before.new.steps c.take.new.steps (c.due_before.ensures.once d fits)
+    (both_at_most _ _ _ _ _ (c.due_before.ensures.once d fits)
     (c.take.ensures.once d (omega (arith, fits, c.due_before.ensures.fewer))))

@@ -1,6 +1,4 @@
 use Rattle.std.proofs.Common.{◌+◌, ◌*◌, ◌≤◌, sym, ap, ◌∙◌, subst, arith}
-use Rattle.std.specs.List.{filter}
-use Rattle.dover_model.specs.State.{is_held}
 use Rattle.dover_model.specs.declared.events.Event.TheVariants.{End}
 use Rattle.ready_jobs.specs.Course.{Course, Takes}
 use Rattle.ready_jobs.specs.Spending.{wait_again}
@@ -29,6 +27,5 @@ pub returns-clause-once : goal.returns-clause-once
 returns-clause-once g c d fits =
     let e = c.due_next-due.result.event in
     subst (λ hs. c.take.new.steps ≤ c.args.steps.now + 2 * d * (6 + wait_again e hs)) c.due_next-due.ensures.held
-    (both_at_most d (wait_again e (filter is_held c.due_next-due.new.self.ready)) c.args.steps.now
-    c.due_next-due.new.steps c.take.new.steps (c.due_next-due.ensures.once d fits)
+    (both_at_most _ _ _ _ _ (c.due_next-due.ensures.once d fits)
     (c.take.ensures.once d (omega (arith, fits, c.due_next-due.ensures.fewer))))

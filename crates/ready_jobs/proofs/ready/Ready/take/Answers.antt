@@ -2,7 +2,7 @@ use Rattle.std.proofs.Common.{◌+◌, ◌*◌, ◌≤◌, length, ap, sym, ◌�
 use Rattle.std.specs.List.{filter}
 use Rattle.dover_model.specs.State.{is_held}
 use Rattle.ready_jobs.specs.Parts.{Parted}
-use Rattle.ready_jobs.specs.Course.{Course, Follows, IsDue, course_of}
+use Rattle.ready_jobs.specs.Course.{Course, Follows, IsDue}
 use Rattle.ready_jobs.specs.Deeds.{Does}
 use Rattle.ready_jobs.specs.Spending.{HasPaid, wait_again}
 use Rattle.ready_jobs.proofs.Courses.{course_part, course_takes, takes_course, due_does, follows_modest}
@@ -43,8 +43,7 @@ overflow_add-self g c =
     c.self.invariant in
     omega (
       arith,
-      follows_modest (course_of i.ratio c.apply-worth.new.self i.jobs (i.done + c.apply-worth.result)) new.0 new.1
-          new.2,
+      follows_modest _ _ _ new.2,
     )
 
 pub invariant_of-self : goal.invariant_of-self
