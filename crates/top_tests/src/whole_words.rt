@@ -4,7 +4,7 @@ use crate::calls::{
     words_of,
 };
 use crate::told_reports::ONE;
-use crate::wrong_texts::{ENDS, HEADERS, JOBS, LINES, REFUSED, STARTS};
+use crate::wrong_texts::{BEHIND, ENDS, HEADERS, JOBS, LINES, REFUSED, STARTS};
 use dover_port::{MemoryPort, Status};
 use std::alloc::Global;
 use std::test::Fail;
@@ -313,6 +313,43 @@ fn are_wrong(rt: &HostRuntime, texts: &[(&'static str, &'static str)]) -> Result
         }
     }
     Ok(true)
+}
+
+/// Whether each of these behind the front has this verdict, in each cut.
+fn are_wrong_behind(
+    rt: &HostRuntime,
+    front: &str,
+    rests: &[&'static str],
+    verdict: &str,
+) -> Result<bool, Fail> {
+    let words = words_of(rt.alloc(), &["judge"])?;
+    for rest in rests {
+        let mut text = String::from_str(rt.alloc(), front)?;
+        text.push_str(*rest)?;
+        if !tells_in(rt, &words, text.as_str(), &CUTS, Status::No, verdict)? {
+            return Ok(false);
+        }
+    }
+    Ok(true)
+}
+
+/// Whether this is so of each row.
+fn all_are_wrong(
+    rt: &HostRuntime,
+    rows: &[(&'static str, &'static [&'static str], &'static str)],
+) -> Result<bool, Fail> {
+    for (front, rests, verdict) in rows {
+        if !are_wrong_behind(rt, *front, *rests, *verdict)? {
+            return Ok(false);
+        }
+    }
+    Ok(true)
+}
+
+#[test]
+fn wrong_lines_behind_fronts(rt: HostRuntime) -> Result<(), Fail> {
+    assert!(rt; all_are_wrong(&rt, &BEHIND)?);
+    Ok(())
 }
 
 #[test]
