@@ -102,10 +102,3 @@ pub not_complete : (clock : ℕ) (o : Option Finish) (m n : Move) → finish_or 
     → m ≡ n
 not_complete clock None m n e other = e
 not_complete clock (Some f) m n e other = never (sym (ap is_complete e ∙ other))
-
--- ---- the same finish
-
--- the finish that is due depends on the running job alone
-pub same_due : (finishes : List Finish) (s t : State) → running s ≡ running t
-    → due_finish finishes s ≡ due_finish finishes t
-same_due finishes s t same = ap (λ o. find (is_finish_of o) finishes) same

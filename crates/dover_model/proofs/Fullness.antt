@@ -172,14 +172,3 @@ mark_stays S mark j Total is = refl
 mark_stays S mark j Ratio is = refl
 mark_stays S mark j Late is = refl
 mark_stays S mark j Full is = absurd (never_alone S j is)
-
--- in versions One and Two no job is refused for that
-pub refusal_former : (S : Session) (j : JobFacts) → may_finish_early S.rules.version ≡ false
-    → refusal_in S j ≡ refusal_of S.rules (admitted_jobs S.items) j
-refusal_former S j former = by_alone (refusal_of S.rules (admitted_jobs S.items) j) refl where
-  by_alone : (o : Option Refusal) → refusal_of S.rules (admitted_jobs S.items) j ≡ o
-      → option_or o (then_some (is_full (instance_of S) j.release) Full) ≡ o
-  by_alone (Some refusal) is = refl
-  by_alone None is = ap (λ b. then_some b Full) (few_ready (instance_of S) j.release
-      (few_former S.rules.version (length (admitted_jobs S.items)) former
-      (not_refused S.rules (admitted_jobs S.items) j is).count))

@@ -37,12 +37,6 @@ module _ {X : Type 0} (f : X → X) where
       ∙ ap (λ x. set (map_front f i xs) i (f x)) (next_is i xs d)
       ∙ set_front i xs d short ∙ ap (λ n. map_front f n xs) (sym (add-one i))
 
-  -- an element that was read at the place is changed there
-  pub map_front_item : (xs ys : List X) (i : ℕ) (x new : X) → ys ≡ map_front f i xs → i < length xs → x ≡ get_or ys i x
-      → new ≡ f x
-      → set ys i new ≡ map_front f (i + 1) xs
-  map_front_item xs ys i x new front short at changed = map_front_next xs ys i x new front short (changed ∙ ap f at)
-
   -- all of them
   pub map_front_all : (xs : List X) → map_front f (length xs) xs ≡ map f xs
   map_front_all [] = refl
@@ -53,8 +47,3 @@ module _ {X : Type 0} (f : X → X) where
       → P (get_or ys i d)
   of_next P xs ys i d front short all =
       subst P (sym (ap (λ zs. get_or zs i d) front ∙ next_is i xs d)) (all (get_or xs i d) (member_at xs i d short))
-
-  -- the next element is one of the list
-  pub next_member : (xs : List X) (i : ℕ) (x : X) → i < length xs → x ≡ get_or (map_front f i xs) i x → IsMember x xs
-  next_member xs i x short at = subst (λ y. IsMember y xs) (sym at)
-      (of_next (λ y. IsMember y xs) xs (map_front f i xs) i x refl short (λ y m. m))

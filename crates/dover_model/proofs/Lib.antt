@@ -84,7 +84,6 @@ pub mod TurnsLosing
 pub mod Anew
 pub mod WaitingMoves
 pub mod Spending
-pub mod PathCosts
 pub mod OverFor
 pub mod RightFinishes
 pub mod Early

@@ -1,5 +1,5 @@
 -- Where each finish is of a job that is over, none is due, and the weights are those without finishes.
-use Rattle.std.proofs.Common.{◌≡◌, ℕ, List, [], ◌∷◌, inl, inr, refl, sym, ap, ◌∙◌, Bool, true, false, cond, eqb, not}
+use Rattle.std.proofs.Common.{◌≡◌, ℕ, List, [], ◌∷◌, inl, inr, refl, sym, ◌∙◌, Bool, true, false, cond, eqb}
 use Rattle.std.specs.Prelude.{◌==◌, ◌&&◌, ◌||◌, nat_lt}
 use Rattle.std.proofs.lemmas.Bool.{eqb-true, and_parts}
 use Rattle.dover_model.specs.Fraction.{Fraction}
@@ -8,7 +8,7 @@ use Rattle.dover_model.specs.Finishes.{Finish, has_come_to, is_due}
 use Rattle.dover_model.specs.declared.events.Role.{Role}
 use Rattle.dover_model.specs.declared.events.Role.TheVariants.{Coming, Fresh, Waiting, Held, Running, Done, Gone}
 use Rattle.dover_model.specs.declared.events.Task.{Task}
-use Rattle.dover_model.specs.State.{State, is_ready_behind, is_over, left}
+use Rattle.dover_model.specs.State.{State, is_ready_behind, is_over}
 use Rattle.dover_model.specs.Step.{Move, Ticks, after, with_role, displaced, ticked, open_step}
 use Rattle.dover_model.specs.Settled.{AreOverFor}
 use Rattle.dover_model.specs.Sound.{IsMember, Each, IsSound, Keeps}
@@ -19,7 +19,6 @@ use Rattle.dover_model.proofs.Deeds.{Deed, Completed, Resumed, Started, Began, P
 use Rattle.dover_model.proofs.Deeds.{Abandoned, Rested}
 use Rattle.dover_model.proofs.Kept.{open_deed}
 use Rattle.dover_model.proofs.Readiness.{IsReady}
-use Rattle.dover_model.specs.Weights.{stands}
 use Rattle.dover_model.proofs.Tests.{never}
 
 -- a job that has come to a finish is the job of one
@@ -54,18 +53,6 @@ module _ (finishes : List Finish) (s : State) (over : AreOverFor finishes s) whe
     out Running e = refl
     out Done e = never e
     out Gone e = never e
-
-  -- each stands against a take as without them
-  over_stands : (t : Task) → IsMember t s.tasks → (role : Role) → t.role ≡ role
-      → stands finishes (with_role t role) ≡ stands [] (with_role t role)
-  over_stands t member Running e = ap (λ b. cond (nat_lt 0 (left t) && not b) t.job.value 0)
-      (over_not_due t member (passes is_over t Running false e refl))
-  over_stands t member Coming e = refl
-  over_stands t member Fresh e = refl
-  over_stands t member Waiting e = refl
-  over_stands t member Held e = refl
-  over_stands t member Done e = refl
-  over_stands t member Gone e = refl
 
 -- ---- they stay over
 

@@ -1,6 +1,6 @@
 -- Only the running job comes to a finish, and a step says whether it has.
 use Rattle.std.proofs.Common.{◌≡◌, ◌≤◌, ◌⊎◌, List, [], ◌∷◌, inl, inr, refl, sym, ap, ◌∙◌, subst, Bool, true, false}
-use Rattle.std.proofs.Common.{cond, arith, eqb, not, length}
+use Rattle.std.proofs.Common.{cond, arith, eqb, not}
 use Rattle.std.specs.Prelude.{Option, Some, None, ◌==◌, ◌&&◌, ◌||◌, nat_lt}
 use Rattle.std.specs.Bool.{then_some}
 use Rattle.std.specs.List.{find, filter, list_all}
@@ -218,11 +218,6 @@ module _ (finishes : List Finish) (s : State) (sound : IsSound s) (ready : IsRea
   deed_ready k other rests m (Abandoned r x member runs some x_member waiting now stale light) it =
       one_ready x x_member Gone (λ e. never e)
   deed_ready k other rests m (Rested quiet) it = rests quiet
-
--- where no job finishes early
-pub plain_ready : (finishes : List Finish) (s : State) → length finishes ≤ 0 → IsReady finishes s
-plain_ready [] s none t member behind = refl
-plain_ready (f ∷ finishes) s none t member behind = absurd (omega arith)
 
 -- at the opening
 pub opening_ready : (finishes : List Finish) (jobs : List JobFacts) → IsReady finishes (opening jobs)

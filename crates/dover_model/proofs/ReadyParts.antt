@@ -21,7 +21,7 @@ use Rattle.dover_model.proofs.Tests.{never}
 use Rattle.dover_model.specs.Fraction.{Fraction}
 use Rattle.dover_model.proofs.Deeds.{Deed, Completed, Resumed, Started, Began, Preempted, Stayed, Arrived, Taken}
 use Rattle.dover_model.proofs.Deeds.{Abandoned, Rested}
-use Rattle.dover_model.proofs.Members.{sum_filter, on_map, member_filter}
+use Rattle.dover_model.proofs.Members.{sum_filter}
 use Rattle.dover_model.proofs.Kept.{open_deed}
 use Rattle.dover_model.specs.Leading.{IsSilent}
 use Rattle.dover_model.specs.Finishes.{is_finish_of}
@@ -224,11 +224,6 @@ module _ (J : Instance) (valid : IsValid J) (rules : Rules) (s : State) (keeps :
   pub over_stays : Each (λ t. is_over t ≡ true → change (open_step rules s) t ≡ t) s.tasks
   over_stays = over_still rules.ratio s keeps.sound _ (open_deed J valid s keeps rules)
 
-  -- after an open step the jobs that aren't over are those of its part
-  pub ready_after : filter is_ready (after s (open_step rules s)).tasks
-      ≡ filter is_ready (after (ready_part s) (open_step rules s)).tasks
-  ready_after = ready_then rules.ratio s keeps.sound _ (open_deed J valid s keeps rules)
-
 -- ---- silent steps
 
 -- a silent move leaves jobs that aren't over so
@@ -239,31 +234,3 @@ silent_ready (Waits n) silent t ready = by_test (eqb t.number n) where
   by_test true = refl
   by_test false = ready
 silent_ready Ticks silent t ready = ready
-
--- all that pass
-filter_all : (p : Task → Bool) (xs : List Task) → Each (λ t. p t ≡ true) xs → filter p xs ≡ xs
-filter_all p [] all = refl
-filter_all p (x ∷ xs) all = ap (λ b. cond b (x ∷ filter p xs) (filter p xs)) (all x (inl refl))
-    ∙ ap (λ ys. x ∷ ys) (filter_all p xs (λ t m. all t (inr m)))
-
-module _ (J : Instance) (valid : IsValid J) (rules : Rules) where
-  -- after a silent step the part is the part after it
-  pub part_after : (s : State) → Keeps J s → IsSilent (open_step rules s)
-      → after (ready_part s) (open_step rules s) ≡ ready_part (after s (open_step rules s))
-  part_after s keeps silent = parts (open_step rules s) (sym tasks) where
-    part : List Task
-    part = (after (ready_part s) (open_step rules s)).tasks
-
-    all : Each (λ t. is_ready t ≡ true) part
-    all = subst (Each (λ t. is_ready t ≡ true)) (sym (after_change (ready_part s) (open_step rules s)))
-        (on_map (change (open_step rules s)) (λ t. is_ready t ≡ true) (filter is_ready s.tasks)
-        (λ t m. silent_ready (open_step rules s) silent t (member_filter is_ready s.tasks t m).1))
-
-    tasks : filter is_ready (after s (open_step rules s)).tasks ≡ part
-    tasks = ready_after J valid rules s keeps ∙ filter_all is_ready part all
-
-    parts : (m : Move) → (after (ready_part s) m).tasks ≡ filter is_ready (after s m).tasks
-        → after (ready_part s) m ≡ ready_part (after s m)
-    parts (Prints e) same = ap (λ ts. record { clock = s.clock; tasks = ts }) same
-    parts (Waits n) same = ap (λ ts. record { clock = s.clock; tasks = ts }) same
-    parts Ticks same = ap (λ ts. record { clock = s.clock + 1; tasks = ts }) same
