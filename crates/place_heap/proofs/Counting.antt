@@ -22,9 +22,6 @@ abbrev pub CountsUp : (from start at now : ℕ) → Type 0
 CountsUp from start at now = (d : ℕ) → from * 3 + 1 < 2 ^ d
     → (e : ℕ) × (at * 3 + 1 < 2 ^ e) × (2 * now + e ≤ 2 * start + d)
 
-pub up_start : (from start : ℕ) → CountsUp from start from start
-up_start from start d fits = (d, fits, omega arith)
-
 pub up_more : (from start at p now next : ℕ) → CountsUp from start at now → p * 4 + 1 ≤ at → next ≡ now + 1
     → CountsUp from start p next
 up_more from start at p now next count above step d fits = by_cases (count d fits) where
@@ -52,9 +49,6 @@ up_last from start at now next d count some step fits =
 
 abbrev pub CountsDown : (start at now : ℕ) → Type 0
 CountsDown start at now = (m : ℕ) × (2 ^ m ≤ at * 3 + 1) × (now ≤ start + 2 * m)
-
-pub down_start : (start at : ℕ) → CountsDown start at start
-down_start start at = (0, omega arith, omega arith)
 
 pub down_more : (start at c now next : ℕ) → CountsDown start at now → at * 4 + 1 ≤ c → next ≤ now + 4
     → CountsDown start c next
@@ -92,11 +86,4 @@ pub settle_up : (len start mid next d : ℕ) → 0 < len → len + 2 < 2 ^ d →
 settle_up len start mid next d some fits step count =
     let one : 1 < d = pow_less 1 d (omega arith) in
     let most = count d (omega arith) in
-    omega (arith, most)
-
-pub put_count : (len start next d : ℕ) → len + 1 < 2 ^ d → ((d : ℕ) → len + 1 < 2 ^ d → 2 * next ≤ 2 * start + d + 1)
-    → next ≤ start + d
-put_count len start next d fits count =
-    let one : 0 < d = pow_less 0 d (omega arith) in
-    let most = count d fits in
     omega (arith, most)

@@ -1,10 +1,10 @@
 -- The item on top of a heap is the first of its set.
 use Rattle.std.proofs.Common.{◌≡◌, ℕ, zero, suc, ◌+◌, ◌-◌, ◌*◌, ◌/◌, ◌<◌, ◌≤◌, Bool, true, false, List, []}
 use Rattle.std.proofs.Common.{◌∷◌, Option, Some, None}
-use Rattle.std.proofs.Common.{length, get_or, map, option_map, refl, ap, ◌∙◌, sym, subst, ◌⊎◌, arith, inl, inr}
+use Rattle.std.proofs.Common.{length, get_or, refl, ap, ◌∙◌, sym, subst, ◌⊎◌, arith, inl, inr}
 use Rattle.std.proofs.lemmas.Bool.{cases_eq, false≢true}
 use Rattle.std.proofs.lemmas.Option.{slice_get-get_or, slice_get_past, same_Some}
-use Rattle.std.specs.Prelude.{slice_get, if◌then◌else◌}
+use Rattle.std.specs.Prelude.{slice_get}
 use Rattle.std.specs.List.{AllByRecursion, fold}
 use Rattle.dover_model.specs.Orders.{earlier, first}
 use Rattle.place_heap.specs.Items.{ItemFacts, is_before}
@@ -96,31 +96,6 @@ first_is e [] all there = absurd there
 first_is e (x ∷ xs) all (inl is) = ap (λ y. Some (fold (earlier is_before) y xs)) (sym is)
     ∙ ap Some (fold_stays e xs all.1)
 first_is e (x ∷ xs) all (inr later) = ap Some (fold_first e x xs all.1 all.0 later)
-
--- ---- the first of items that come as others do
-
-module _ {X : Type 0} (before : X → X → Bool) (f : X → ItemFacts) (P : X → Type 0)
-    (agree : (a b : X) → P a → P b → is_before (f a) (f b) ≡ before a b) where
-  choice_map : (b : Bool) (acc x : X) → (if b then f x else f acc) ≡ f (if b then x else acc)
-  choice_map true acc x = refl
-  choice_map false acc x = refl
-
-  choice_holds : (b : Bool) (acc x : X) → P acc → P x → P (if b then x else acc)
-  choice_holds true acc x p q = q
-  choice_holds false acc x p q = p
-
-  earlier_map : (acc x : X) → P acc → P x → earlier is_before (f acc) (f x) ≡ f (earlier before acc x)
-  earlier_map acc x p q = ap (λ c. if c then f x else f acc) (agree x acc q p) ∙ choice_map (before x acc) acc x
-
-  fold_map : (acc : X) (xs : List X) → P acc → AllByRecursion P xs
-      → fold (earlier is_before) (f acc) (map f xs) ≡ f (fold (earlier before) acc xs)
-  fold_map acc [] p all = refl
-  fold_map acc (x ∷ xs) p all = ap (λ y. fold (earlier is_before) y (map f xs)) (earlier_map acc x p all.0)
-      ∙ fold_map (earlier before acc x) xs (choice_holds (before x acc) acc x p all.0) all.1
-
-  pub first_map : (xs : List X) → AllByRecursion P xs → first is_before (map f xs) ≡ option_map f (first before xs)
-  first_map [] all = refl
-  first_map (x ∷ xs) all = ap Some (fold_map x xs all.0 all.1)
 
 -- ---- the top of a heap
 

@@ -12,7 +12,7 @@ use Rattle.place_heap.specs.Table.{IsIndexed, position, nowhere, table_of, blank
 use Rattle.place_heap.specs.HeapOrder.{IsHeap}
 use Rattle.place_heap.specs.Kept.{IsKept}
 use Rattle.place_heap.proofs.Indexing.{table_at, place_in}
-use Rattle.place_heap.proofs.Tables.{count_put, count_taken, count_free, grown_at, grown_count, table_grown}
+use Rattle.place_heap.proofs.Tables.{count_taken, count_free, grown_at, grown_count, table_grown}
 
 pub table_len : (es : List ItemFacts) (ps : List ℕ) → length (table_of es ps) ≡ length ps
 table_len es ps = length-map ps (slice_get es)
@@ -35,19 +35,6 @@ same_places : (es new : List ItemFacts) (ps qs : List ℕ) (n : ℕ) (o : Option
     → length qs ≡ length ps
 same_places es new ps qs n o is = sym (table_len new qs) ∙ ap length is ∙ length-set (table_of es ps) n o
     ∙ table_len es ps
-
-pub kept_put : (es new : List ItemFacts) (ps qs : List ℕ) (cap cap' : ℕ) (x : ItemFacts) → IsKept es ps cap
-    → x.place < length (table_of es ps) → get_or (table_of es ps) x.place None ≡ None → length new ≡ length es + 1
-    → cap ≤ cap'
-    → IsIndexed new qs → table_of new qs ≡ set (table_of es ps) x.place (Some x) → IsHeap new → IsKept new qs cap'
-kept_put es new ps qs cap cap' x kept ready free more larger indexed table heap = record {
-  indexed = indexed;
-  heap = heap;
-  count = ap (λ t. count_by is_some t) table ∙ count_put (table_of es ps) x.place x ready free
-      ∙ ap (λ n. n + 1) kept.count ∙ sym more;
-  fits = omega (arith, kept.fits, larger, same_places es new ps qs x.place (Some x) table);
-  places = omega (arith, kept.places, same_places es new ps qs x.place (Some x) table);
-}
 
 -- the item of a place whose position is kept
 pub item_there : (es : List ItemFacts) (ps : List ℕ) (cap n at : ℕ) → IsKept es ps cap → position ps n ≡ at

@@ -1,19 +1,19 @@
 -- What the loops of a heap keep: an item x that moves, the hole at, and the others.
 use Rattle.std.proofs.Common.{◌≡◌, ◌≢◌, ℕ, ◌+◌, ◌-◌, ◌*◌, ◌/◌, ◌<◌, ◌≤◌, true, false, List, length}
 use Rattle.std.proofs.Common.{get_or, set, take, drop}
-use Rattle.std.proofs.Common.{refl, ap, ◌∙◌, sym, subst, arith, inl, inr}
+use Rattle.std.proofs.Common.{ap, ◌∙◌, sym, subst, arith, inl, inr}
 use Rattle.std.proofs.lemmas.Bool.{cases_eq}
-use Rattle.std.proofs.lemmas.List.{get_or-set_same, get_or-set_other, set-get_or, length-set, get_or_default}
+use Rattle.std.proofs.lemmas.List.{get_or-set_same, get_or-set_other, length-set, get_or_default}
 use Rattle.std.proofs.lemmas.List.{get_or-take, get_or-drop}
 use Rattle.place_heap.specs.Items.{ItemFacts, is_before}
 use Rattle.place_heap.specs.Table.{IsIndexed, nowhere, table_of, blank}
 use Rattle.place_heap.specs.HeapOrder.{IsAhead, IsChild, IsHeap, IsHeapUp, IsHeapDown}
 use Rattle.place_heap.proofs.Swaps.{AreSwapped}
 use Rattle.place_heap.proofs.Ranking.{one_way}
-use Rattle.place_heap.proofs.Order.{ahead_from, ahead_if_before, IsFirstChild}
+use Rattle.place_heap.proofs.Order.{ahead_from, IsFirstChild}
 use Rattle.place_heap.proofs.Order as order
-use Rattle.place_heap.proofs.Indexing.{place_in, hole_swapped, hole_indexed, hole_table, hole_len, y_ready}
-use Rattle.place_heap.proofs.Counting.{CountsUp, CountsDown, up_start, up_more, down_start, down_more}
+use Rattle.place_heap.proofs.Indexing.{hole_swapped, hole_indexed, hole_table, hole_len, y_ready}
+use Rattle.place_heap.proofs.Counting.{CountsUp, CountsDown, up_more, down_more}
 
 -- with x in the hole the items are indexed, and their table is that at the start
 pub record HasHole (es₀ : List ItemFacts) (ps₀ : List ℕ) (x : ItemFacts) (items : List ItemFacts)
@@ -43,50 +43,6 @@ parent_low at some = omega arith
 
 pub parent_high : (at : ℕ) → at ≤ (at - 1) / 4 * 4 + 4
 parent_high at = omega arith
-
--- ---- at the start
-
-pub place_ready : (es : List ItemFacts) (ps : List ℕ) (at : ℕ) (d : ItemFacts) → IsIndexed es ps
-    → length es ≤ nowhere → at < length es
-    → (get_or es at d).place < length ps
-place_ready es ps at d kept few at_in =
-    place_in ps (get_or es at d).place at (kept.kept at d at_in) (λ e. omega (arith, few, at_in, e))
-
-same_positions : (es : List ItemFacts) (ps : List ℕ) (at : ℕ) (d : ItemFacts) → IsIndexed es ps → at < length es
-    → set ps (get_or es at d).place at ≡ ps
-same_positions es ps at d kept at_in = ap (set ps (get_or es at d).place) (sym (kept.kept at d at_in))
-    ∙ set-get_or ps (get_or es at d).place nowhere
-
-pub hole_start : (es : List ItemFacts) (ps : List ℕ) (at : ℕ) (d : ItemFacts) → IsIndexed es ps
-    → length es ≤ nowhere → at < length es
-    → HasHole es ps (get_or es at d) es ps at
-hole_start es ps at d kept few at_in = record {
-  indexed = subst (λ l. IsIndexed l (set ps (get_or es at d).place at)) (sym (set-get_or es at d))
-      (subst (IsIndexed es) (sym (same_positions es ps at d kept at_in)) kept);
-  table = ap (λ l. table_of l (set ps (get_or es at d).place at)) (set-get_or es at d)
-      ∙ ap (table_of es) (same_positions es ps at d kept at_in);
-  same_len = refl;
-  at_in = at_in;
-  ready = place_ready es ps at d kept few at_in;
-}
-
-pub up_loop_start : (es : List ItemFacts) (ps : List ℕ) (from start : ℕ) (d : ItemFacts) → IsIndexed es ps
-    → length es ≤ nowhere
-    → from < length es → IsHeapUp es from → UpLoop es ps (get_or es from d) from start es ps from start
-up_loop_start es ps from start d kept few inside heap = record {
-  hole = hole_start es ps from d kept few inside;
-  heap = subst (λ l. IsHeapUp l from) (sym (set-get_or es from d)) heap;
-  count = up_start from start;
-}
-
-pub down_loop_start : (es : List ItemFacts) (ps : List ℕ) (from start : ℕ) (d : ItemFacts) → IsIndexed es ps
-    → length es ≤ nowhere
-    → from < length es → IsHeapDown es from → DownLoop es ps (get_or es from d) start es ps from start
-down_loop_start es ps from start d kept few inside heap = record {
-  hole = hole_start es ps from d kept few inside;
-  heap = subst (λ l. IsHeapDown l from) (sym (set-get_or es from d)) heap;
-  count = down_start start from;
-}
 
 -- ---- a step: the item at p moves into the hole, and the hole to p
 

@@ -1,5 +1,5 @@
 -- The order of a heap, step by step.
-use Rattle.std.proofs.Common.{◌≡◌, ◌≢◌, ℕ, ◌+◌, ◌*◌, ◌<◌, ◌≤◌, true, false, List, length, get_or, set}
+use Rattle.std.proofs.Common.{◌≡◌, ◌≢◌, ℕ, ◌+◌, ◌<◌, true, false, List, length, get_or, set}
 use Rattle.std.proofs.Common.{◌++◌, ◌∷◌, [], ap, ◌∙◌, sym, subst, arith, inl, inr}
 use Rattle.std.proofs.lemmas.Bool.{cases_eq}
 use Rattle.std.proofs.lemmas.List.{get_or_default, get_or_append_left, get_or-set_other, length_push, length-set}
@@ -25,18 +25,12 @@ module _ (es : List ItemFacts) where
   pub ahead_through : (p q k : ℕ) → IsAhead es p q → IsAhead es q k → IsAhead es p k
   ahead_through p q k h i d = behind (get_or es p d) (get_or es q d) (get_or es k d) (h d) (i d)
 
-  pub up_top : IsHeapUp es 0 → IsHeap es
-  up_top heap p k child = heap.others p k (λ e. omega (arith, child.0)) child
-
   pub up_done : (at p : ℕ) → IsHeapUp es at → IsChild es p at → IsAhead es p at → IsHeap es
   up_done at p heap parent ahead q k child = elim (cases_eq k at) [
     | inl is ↦ subst (λ m. IsAhead es m k) (omega (arith, parent.0, parent.1, child.0, child.1))
         (subst (IsAhead es p) (sym is) ahead)
     | inr not ↦ heap.others q k not child
   ]
-
-  pub down_end : (at : ℕ) → IsHeapDown es at → length es ≤ at * 4 + 1 → IsHeap es
-  down_end at heap end p k child = heap.others p k (λ e. omega (arith, child.0, child.2)) child
 
   -- c is a child of at before which no other comes
   abbrev pub IsFirstChild : ℕ → ℕ → Type 0
@@ -67,12 +61,6 @@ module _ (es : List ItemFacts) where
           (subst (IsAhead es p) (sym is) ahead)
       | inr not_k ↦ heap.others q k not not_k child
     ];
-    across = heap.across;
-  }
-
-  pub save_top : IsHeapSave es 0 → IsHeapDown es 0
-  save_top heap = record {
-    others = λ q k not child. heap.others q k not (λ e. omega (arith, child.0)) child;
     across = heap.across;
   }
 
@@ -140,24 +128,7 @@ module _ (es ys : List ItemFacts) (same_len : length ys ≡ length es) where
         (heap.others c k (λ e. omega (arith, first.0.0)) (old_child c k below)));
   }
 
--- ---- an item put last, and the last one put at a position
-
--- a heap with an item put last is one but for that item and its parent
-pub put_up : (es new : List ItemFacts) (x : ItemFacts) → IsHeap es → new ≡ es ++ x ∷ [] → IsHeapUp new (length es)
-put_up es new x heap is = record {
-  others = λ p k not child. kept p k (omega (arith, child.0, child.2, len, not)) (omega (arith, child.2, len, not))
-      (heap p k (child.0, child.1, omega (arith, child.2, len, not)));
-  across = λ p k above below. absurd (omega (arith, below.0, below.2, len));
-} where
-  len : length new ≡ length es + 1
-  len = ap length is ∙ length_push es x
-
-  stays : (k : ℕ) → k < length es → (d : ItemFacts) → get_or new k d ≡ get_or es k d
-  stays k k_in d = ap (λ l. get_or l k d) is ∙ get_or_append_left es (x ∷ []) d k k_in
-
-  kept : (p k : ℕ) → p < length es → k < length es → IsAhead es p k → IsAhead new p k
-  kept p k p_in k_in h d = ap (λ y. is_before y (get_or new p d)) (stays k k_in d)
-      ∙ ap (is_before (get_or es k d)) (stays p p_in d) ∙ h d
+-- ---- the last item put at a position
 
 -- without its last item a heap is one
 pub drop_heap : (es rest : List ItemFacts) (x : ItemFacts) → IsHeap es → es ≡ rest ++ x ∷ [] → IsHeap rest
