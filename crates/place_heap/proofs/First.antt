@@ -59,9 +59,7 @@ pick b acc x h = ap (λ c. earlier (λ _ _. c) acc x) h
 -- the fold stays at e once it is there
 fold_stays : (e : ItemFacts) (xs : List ItemFacts) → AllByRecursion (Leads e) xs → fold (earlier is_before) e xs ≡ e
 fold_stays e [] all = refl
-fold_stays e (x ∷ xs) all =
-    ap (λ y. fold (earlier is_before) y xs) (pick false e x (not_before e x (is_before x e) all.0 refl))
-    ∙ fold_stays e xs all.1
+fold_stays e (x ∷ xs) all = cc (pick false e x (not_before e x (is_before x e) all.0 refl), fold_stays e xs all.1)
 
 fold_first : (e acc : ItemFacts) (xs : List ItemFacts) → AllByRecursion (Leads e) xs → Leads e acc → IsIn e xs
     → fold (earlier is_before) acc xs ≡ e

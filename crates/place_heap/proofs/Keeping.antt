@@ -52,8 +52,7 @@ kept_taken es new ps qs cap cap' n at kept is some fewer same indexed table heap
   indexed = indexed;
   heap = heap;
   count = let ready : n < length (table_of es ps) = omega (arith, place_in ps n at is some, table_len es ps) in
-      let counted = count_taken (table_of es ps) n (get_or es at blank) ready
-      (item_there es ps cap n at kept is some) in
+      let counted = count_taken _ _ _ ready (item_there es ps cap n at kept is some) in
       let now : count_by is_some (table_of new qs) ≡ count_by is_some (set (table_of es ps) n None) =
       ap (λ t. count_by is_some t) table in
       omega (arith, counted, now, kept.count, fewer);

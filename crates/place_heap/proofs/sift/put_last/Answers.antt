@@ -14,8 +14,7 @@ returns-clause-indexed c =
     let few : length old + 1 ≤ nowhere = omega (arith, c.requires.few) in
     subst (λ p. IsIndexed c.push.new.self.items (set c.args.positions.now p c.len-at.result)) (sym c.place.ensures.is)
     (subst (λ n. IsIndexed c.push.new.self.items (set c.args.positions.now x.place n)) (sym len)
-    (put_indexed old c.push.new.self.items c.args.positions.now x items c.requires.ready few c.requires.free
-    c.requires.indexed))
+    (put_indexed _ _ _ _ items c.requires.ready few c.requires.free c.requires.indexed))
 
 pub returns-clause-table : goal.returns-clause-table
 returns-clause-table c =
@@ -27,5 +26,4 @@ returns-clause-table c =
     let few : length old + 1 ≤ nowhere = omega (arith, c.requires.few) in
     ap (λ p. table_of c.push.new.self.items (set c.args.positions.now p c.len-at.result)) c.place.ensures.is
     ∙ ap (λ n. table_of c.push.new.self.items (set c.args.positions.now x.place n)) len
-    ∙ put_table old c.push.new.self.items c.args.positions.now x items c.requires.ready few c.requires.free
-    c.requires.indexed
+    ∙ put_table _ _ _ _ items c.requires.ready few c.requires.free c.requires.indexed

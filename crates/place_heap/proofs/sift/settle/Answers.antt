@@ -25,9 +25,7 @@ sift_up-requires-clause-heap g c =
 
 pub returns-then-is_before-clause-count : goal.returns-then-is_before-clause-count
 returns-then-is_before-clause-count g c d fits =
-    settle_up (length c.args.items.now) c.args.steps.now c.is_before.new.steps c.sift_up.new.steps d
-    (omega (arith, c.requires.at)) fits
-    c.is_before.ensures.count c.sift_up.ensures.count
+    settle_up _ _ _ _ _ (omega (arith, c.requires.at)) fits c.is_before.ensures.count c.sift_up.ensures.count
 
 pub sift_down-requires-2-clause-heap : goal.sift_down-requires-2-clause-heap
 sift_down-requires-2-clause-heap g c =

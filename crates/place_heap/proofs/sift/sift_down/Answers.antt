@@ -11,10 +11,8 @@ returns-then-not-is_before-clause-heap g c =
     let child = c.first_child-child.ensures in
     let few : length c.loop-at.items ≤ nowhere = omega (arith, c.requires.few, kept.hole.same_len) in
     subst IsHeap (sym c.set_at.ensures.items)
-    (down_stays c.args.items.now c.args.positions.now c.index-items-from.result c.args.steps.now c.loop-at.items
-    c.loop-at.positions
-    c.loop-at.at c.loop-at.steps kept few c.first_child-child.result child.low child.high child.inside child.first
-    c.index-items-child.result c.index-items-child.is (sym c.if-not-is_before.ensures.answer))
+    (down_stays _ _ _ _ _ _ _ _ kept few _ child.low child.high child.inside child.first _ c.index-items-child.is
+    (sym c.if-not-is_before.ensures.answer))
 
 pub returns-then-not-is_before-clause-count : goal.returns-then-not-is_before-clause-count
 returns-then-not-is_before-clause-count g c d fits =
@@ -28,26 +26,18 @@ set_at-requires-in-loop-at-clause-ready g c =
     let kept = c.loop-at.invariant in
     let child = c.first_child-child.ensures in
     let few : length c.loop-at.items ≤ nowhere = omega (arith, c.requires.few, kept.hole.same_len) in
-    moved_ready c.args.items.now c.args.positions.now c.index-items-from.result c.loop-at.items c.loop-at.positions
-    c.loop-at.at
-    c.first_child-child.result c.index-items-child.result few kept.hole child.inside (λ e. omega (arith, child.low, e))
-    c.index-items-child.is
+    moved_ready _ _ _ _ _ _ _ _ few kept.hole child.inside (λ e. omega (arith, child.low, e)) c.index-items-child.is
 
 pub loop-at-preserved : goal.loop-at-preserved
 loop-at-preserved g c =
     let kept = c.loop-at.invariant in
     let child = c.first_child-child.ensures in
     let few : length c.loop-at.items ≤ nowhere = omega (arith, c.requires.few, kept.hole.same_len) in
-    down_goes_on c.args.items.now c.args.positions.now c.index-items-from.result c.args.steps.now c.loop-at.items
-    c.loop-at.positions
-    c.loop-at.at c.loop-at.steps kept few c.first_child-child.result child.low child.high child.inside child.first
-    c.index-items-child.result c.index-items-child.is c.set_at-in-loop-at.new.items
-    c.set_at-in-loop-at.new.positions c.is_before.new.steps
+    down_goes_on _ _ _ _ _ _ _ _ kept few _ child.low child.high child.inside child.first _ c.index-items-child.is _ _ _
     (sym c.if-not-is_before.ensures.answer) c.set_at-in-loop-at.ensures.items c.set_at-in-loop-at.ensures.positions
     (omega (arith, c.is_before.ensures.count, c.first_child-child.ensures.count))
 
 pub returns-clause-count : goal.returns-clause-count
 returns-clause-count g c d fits =
     let kept = c.loop-at.invariant in
-    down_end (length c.loop-at.items) c.args.steps.now c.loop-at.at c.loop-at.steps d kept.count kept.hole.at_in
-    (omega (arith, kept.hole.same_len, fits))
+    down_end _ _ _ _ _ kept.count kept.hole.at_in (omega (arith, kept.hole.same_len, fits))

@@ -1,4 +1,4 @@
-use Rattle.std.proofs.Common.{◌≤◌, ◌-◌, ◌/◌, length, sym, subst, arith}
+use Rattle.std.proofs.Common.{◌≤◌, length, sym, subst, arith}
 use Rattle.place_heap.specs.Table.{nowhere}
 use Rattle.place_heap.specs.HeapOrder.{IsHeap}
 use Rattle.place_heap.proofs.Loops.{up_goes_on, up_stays, moved_ready, parent_low}
@@ -10,10 +10,7 @@ returns-then-not-is_before-clause-heap g c =
     let kept = c.loop-at.invariant in
     let few : length c.loop-at.items ≤ nowhere = omega (arith, c.requires.few, kept.hole.same_len) in
     subst IsHeap (sym c.set_at.ensures.items)
-    (up_stays c.args.items.now c.args.positions.now c.index-items-from.result c.args.from c.args.steps.now
-    c.loop-at.items
-    c.loop-at.positions c.loop-at.at c.loop-at.steps kept few c.loop-at-test.true c.index-items-parent.result
-    c.index-items-parent.is
+    (up_stays _ _ _ _ _ _ _ _ _ kept few c.loop-at-test.true _ c.index-items-parent.is
     (sym c.if-not-is_before.ensures.answer))
 
 pub returns-then-not-is_before-clause-count : goal.returns-then-not-is_before-clause-count
@@ -26,25 +23,17 @@ set_at-requires-in-loop-at-clause-ready g c =
     let kept = c.loop-at.invariant in
     let few : length c.loop-at.items ≤ nowhere = omega (arith, c.requires.few, kept.hole.same_len) in
     let low = parent_low c.loop-at.at c.loop-at-test.true in
-    moved_ready c.args.items.now c.args.positions.now c.index-items-from.result c.loop-at.items c.loop-at.positions
-    c.loop-at.at
-    ((c.loop-at.at - 1) / 4) c.index-items-parent.result few kept.hole (omega (arith, low, kept.hole.at_in))
-    (λ e. omega (arith, low, e))
+    moved_ready _ _ _ _ _ _ _ _ few kept.hole (omega (arith, low, kept.hole.at_in)) (λ e. omega (arith, low, e))
     c.index-items-parent.is
 
 pub loop-at-preserved : goal.loop-at-preserved
 loop-at-preserved g c =
     let kept = c.loop-at.invariant in
     let few : length c.loop-at.items ≤ nowhere = omega (arith, c.requires.few, kept.hole.same_len) in
-    up_goes_on c.args.items.now c.args.positions.now c.index-items-from.result c.args.from c.args.steps.now
-    c.loop-at.items
-    c.loop-at.positions c.loop-at.at c.loop-at.steps kept few c.loop-at-test.true c.index-items-parent.result
-    c.index-items-parent.is
-    c.set_at-in-loop-at.new.items c.set_at-in-loop-at.new.positions c.is_before.new.steps
-    (sym c.if-not-is_before.ensures.answer)
-    c.set_at-in-loop-at.ensures.items c.set_at-in-loop-at.ensures.positions c.is_before.ensures.count
+    up_goes_on _ _ _ _ _ _ _ _ _ kept few c.loop-at-test.true _ c.index-items-parent.is _ _ _
+    (sym c.if-not-is_before.ensures.answer) c.set_at-in-loop-at.ensures.items c.set_at-in-loop-at.ensures.positions
+    c.is_before.ensures.count
 
 pub returns-clause-count : goal.returns-clause-count
 returns-clause-count g c d fits =
-    up_end c.args.from c.args.steps.now c.loop-at.at c.loop-at.steps d c.loop-at.invariant.count
-    (omega (arith, c.requires.from, fits))
+    up_end _ _ _ _ _ c.loop-at.invariant.count (omega (arith, c.requires.from, fits))
