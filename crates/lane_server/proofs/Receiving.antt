@@ -20,8 +20,8 @@ use Rattle.lane_server.specs.LaneInput.{GivesDue, Ends}
 use Rattle.lane_server.specs.declared.lanes.Phase.{Phase}
 use Rattle.lane_server.specs.declared.lanes.Phase.TheVariants.{Ready, Giving, Closing}
 use Rattle.lane_server.specs.declared.out.LaneOut.{LaneOut}
-use Rattle.lane_server.specs.declared.refusal.Refusal.{Refusal}
-use Rattle.lane_server.specs.declared.refusal.Refusal.TheVariants.{Short, TooManyLines, BadLane}
+use Rattle.lane_server.specs.declared.refusal.InputRefusal.{InputRefusal}
+use Rattle.lane_server.specs.declared.refusal.InputRefusal.TheVariants.{Short, TooManyLines, BadLane}
 use Rattle.lane_server.specs.declared.lane_input.LaneInput.{LaneInput}
 use Rattle.lane_server.proofs.Few.{few_left}
 use Rattle.lane_server.proofs.Fine.{all_stand}
@@ -44,14 +44,14 @@ with_it x byte goes = ap (λ b. cond b x (x ++ byte ∷ [])) (short_rest x goes)
 -- ---- what is held
 
 -- lines by which the input stands so
-holds_so : (r : Option Refusal) (kept : Kept) (ls left : List (List ℕ))
+holds_so : (r : Option InputRefusal) (kept : Kept) (ls left : List (List ℕ))
     → (input_of_lines ls).standing ≡ standing_of kept.lines r
     → LeavesAt (standing_of kept.lines r) kept ls left
     → Holds r kept ls left
 holds_so r kept ls left stands leaves =
     record { stands = stands; leaves = subst (λ s. LeavesAt s kept ls left) (sym stands) leaves }
 
-module _ (r : Option Refusal) (kept : Kept) (ls left : List (List ℕ))
+module _ (r : Option InputRefusal) (kept : Kept) (ls left : List (List ℕ))
     (it : Holds r kept ls left) where
   -- what is left by why it would be refused
   leaves_so : LeavesAt (standing_of kept.lines r) kept ls left
@@ -116,7 +116,7 @@ module _ (ls : List (List ℕ)) (bytes : List ℕ) (opened : (input_of_lines ls)
 
   module _ (kept : Kept) where
     -- a line that hands in nothing
-    hands_none : (r : Option Refusal) → b.handed ≡ a.handed → b.standing ≡ standing_of kept.lines r
+    hands_none : (r : Option InputRefusal) → b.handed ≡ a.handed → b.standing ≡ standing_of kept.lines r
         → LeavesAt (standing_of kept.lines r) kept (ls ++ bytes ∷ []) []
         → Hands kept ls bytes (Ok r)
     hands_none r same stands leaves = (
@@ -126,7 +126,7 @@ module _ (ls : List (List ℕ)) (bytes : List ℕ) (opened : (input_of_lines ls)
     )
 
     -- a line at fault
-    pub hands_fault : (r : Refusal) (fault : InputFault) → kept.lines ≡ a.lines
+    pub hands_fault : (r : InputRefusal) (fault : InputFault) → kept.lines ≡ a.lines
         → length kept.lanes ≡ lane_count → AllStand kept.lanes a.handed
         → standing_of kept.lines (Some r) ≡ Faulty (suc kept.lines) fault
         → b ≡ record a { lines = suc a.lines; standing = Faulty (suc a.lines) fault }
@@ -237,7 +237,7 @@ module _ (i : LaneInput) (x : List ℕ) where
 
   module _ (front : List ℕ) (cut : cuts.StandsFor i.lines (x ++ front)) where
     -- no line has ended
-    pub adds_none : (r : Option Refusal) → goes_on (input x) ≡ true → lines_of (x ++ front) ≡ lines_of x
+    pub adds_none : (r : Option InputRefusal) → goes_on (input x) ≡ true → lines_of (x ++ front) ≡ lines_of x
         → Holds r i.lanes (lines_of x) [] → Adds i x front (Ok (Some Short))
     adds_none r on same holds = (
       [],
@@ -268,7 +268,7 @@ closing_lanes kept ls rest it closed = by kept.phase it.left where
   by (Closing next) left = refl
 
 -- the line that refuses the input
-pub refuses : (r : Refusal) (kept : Kept) (x : List ℕ) → Holds (Some r) kept (lines_of x) []
+pub refuses : (r : InputRefusal) (kept : Kept) (x : List ℕ) → Holds (Some r) kept (lines_of x) []
     → IsRefused kept x (word_of r)
 refuses r kept x it = by r it.stands (leaves_so (Some r) kept (lines_of x) [] it) where
   -- by how it stands
@@ -287,7 +287,7 @@ refuses r kept x it = by r it.stands (leaves_so (Some r) kept (lines_of x) [] it
         ∙ ap (λ n. refused_line n (fault_word fault) ∷ []) {x = suc kept.lines} {y = kept.lines + 1} (omega arith),
   )
 
-  by : (r : Refusal) → (input x).standing ≡ standing_of kept.lines (Some r)
+  by : (r : InputRefusal) → (input x).standing ≡ standing_of kept.lines (Some r)
       → LeavesAt (standing_of kept.lines (Some r)) kept (lines_of x) []
       → IsRefused kept x (word_of r)
   by Short is leaves =
@@ -305,7 +305,7 @@ refuses r kept x it = by r it.stands (leaves_so (Some r) kept (lines_of x) [] it
 pub adds_line : (i : LaneInput) (x front line : List ℕ)
     → cuts.StandsFor i.lines (x ++ front)
     → lines_of (x ++ front) ≡ lines_of x ++ line ∷ []
-    → (result : Result (Option Refusal) Memory) → Hands i.lanes (lines_of x) line result
+    → (result : Result (Option InputRefusal) Memory) → Hands i.lanes (lines_of x) line result
     → Adds i x front result
 adds_line i x front line cut more (Ok r) it = (
   it.0,

@@ -14,21 +14,21 @@ use Rattle.dover_model.specs.Text.{refused_line}
 use Rattle.lane_server.specs.Lane.{out_text, HasNumerals, NamesFault}
 use Rattle.lane_server.specs.Kept.{Kept, StandsFor, AllStand, IsReady, SaysShort}
 use Rattle.lane_server.specs.declared.out.LaneOut.{LaneOut}
-use Rattle.lane_server.specs.declared.refusal.Refusal.{Refusal}
-use Rattle.lane_server.specs.declared.refusal.Refusal.TheVariants.{Short, TooManyLines, BadLane}
-use Rattle.lane_server.specs.declared.lane_input.Refused.{Refused}
+use Rattle.lane_server.specs.declared.refusal.InputRefusal.{InputRefusal}
+use Rattle.lane_server.specs.declared.refusal.InputRefusal.TheVariants.{Short, TooManyLines, BadLane}
+use Rattle.lane_server.specs.declared.lane_input.RefusedInput.{RefusedInput}
 use Rattle.lane_server.specs.declared.lane_input.LaneInput.{LaneInput}
 
 -- ---- why the input is refused if no more of it comes
 
 -- the word
-abbrev pub word_of : Refusal → List ℕ
+abbrev pub word_of : InputRefusal → List ℕ
 word_of Short = codes "short"
 word_of TooManyLines = fault_word lanes.TooManyLines
 word_of BadLane = fault_word lanes.BadLane
 
 -- how the input stands behind so many good lines
-abbrev pub standing_of : ℕ → Option Refusal → InputStanding
+abbrev pub standing_of : ℕ → Option InputRefusal → InputStanding
 standing_of lines None = Closed
 standing_of lines (Some Short) = Open
 standing_of lines (Some TooManyLines) = Faulty (suc lines) lanes.TooManyLines
@@ -47,7 +47,7 @@ LeavesAt (Faulty line fault) kept ls left = (left ≡ []) × (kept.lines ≤ mos
     × (length kept.lanes ≡ lane_count) × AllStand kept.lanes (input_of_lines ls).handed
 
 -- These lines came, of which the lanes took the good ones, and these are left to give of what is due for them.
-pub record Holds (refusal : Option Refusal) (kept : Kept)
+pub record Holds (refusal : Option InputRefusal) (kept : Kept)
     (ls left : List (List ℕ)) : Type 0 where
   pub stands : (input_of_lines ls).standing ≡ standing_of kept.lines refusal
   pub leaves : LeavesAt (input_of_lines ls).standing kept ls left
@@ -71,7 +71,7 @@ Grows before after left = due_after [] after ≡ due_after [] before ++ left
 
 -- What a line behind these adds to what is due is left to give; or there was no memory for a line of a lane.
 abbrev pub Hands : Kept → List (List ℕ) → List ℕ
-    → Result (Option Refusal) Memory → Type 0
+    → Result (Option InputRefusal) Memory → Type 0
 Hands kept ls line (Ok refusal) = (left : List (List ℕ))
     × Grows (input_of_lines ls).handed (input_of_lines (ls ++ line ∷ [])).handed left
     × Holds refusal kept (ls ++ line ∷ []) left
@@ -84,7 +84,7 @@ HasMore i x bytes = (left : List (List ℕ))
 
 -- So it is once this is why the input would be refused; or there was no memory for a line of a lane.
 abbrev pub Adds : LaneInput → List ℕ → List ℕ
-    → Result (Option Refusal) Memory → Type 0
+    → Result (Option InputRefusal) Memory → Type 0
 Adds i x bytes (Ok refusal) = HasMore (record i { refusal = refusal }) x bytes
 Adds i x bytes (Err e) = HasLine (input (x ++ bytes)).handed
 
@@ -105,7 +105,7 @@ GivesDue (Some given) i x left =
     × (NamesFault given.1 (lane_lines (input x).handed given.0) ⊎ SaysShort given.1)
 
 -- the lanes with the short lines that `close` added, or the line that refuses the input
-abbrev pub Ends : Result Kept Refused → List ℕ → Type 0
+abbrev pub Ends : Result Kept RefusedInput → List ℕ → Type 0
 Ends (Ok kept) x = ((input x).standing ≡ Closed)
     × StandsFor kept (lines_of x) (shorts_from (input x).handed 0 lane_count)
 Ends (Err refused) x = ((input x).standing ≡ Closed → ⊥)

@@ -10,7 +10,7 @@ ghost use Rattle.lane_server.specs.declared.lane_input.LaneInput.{LaneInput};
 use crate::lane::Lane;
 use crate::lanes::{LaneFault, LaneStep, Lanes};
 use crate::out::LaneOut;
-use crate::refusal::Refusal;
+use crate::refusal::InputRefusal;
 use dover_model::Memory;
 use line_text::{Lines, Step};
 use std::alloc::Global;
@@ -19,11 +19,11 @@ use step_count::Steps;
 
 /// The line at which an input is refused, and why.
 #[derive(Clone, Copy, PartialEq, Eq)]
-pub struct Refused {
+pub struct RefusedInput {
     /// The number of the line, from 1 on.
     pub line: u64,
     /// Why the input is refused there.
-    pub cause: Refusal,
+    pub cause: InputRefusal,
 }
 
 /// Up to 64 feeds that come in one input, piece by piece: the line that has begun, the lanes, and why the input is
@@ -32,11 +32,11 @@ pub struct Refused {
 pub struct LaneInput {
     lines: Lines,
     lanes: Lanes,
-    refusal: Option<Refusal>,
+    refusal: Option<InputRefusal>,
 }
 
 /// Hands a line to the lanes, and says why the input is then refused if no more of it comes.
-fn hand(lanes: &mut Lanes, line: &[u8]) -> Result<Option<Refusal>, Memory>
+fn hand(lanes: &mut Lanes, line: &[u8]) -> Result<Option<InputRefusal>, Memory>
     requires { (ls : List (List ℕ)) × kept.StandsFor lanes.old ls [] × kept.IsReady lanes.old }
     ensures hands { (ls : List (List ℕ)) → kept.StandsFor lanes.old ls []
         → Hands lanes.new ls line.now result }
@@ -44,19 +44,19 @@ fn hand(lanes: &mut Lanes, line: &[u8]) -> Result<Option<Refusal>, Memory>
         → OnOk result (HavePaid lanes.new.lanes start now) }
 {
     match lanes.line(line) {
-        Ok(LaneStep::Fed(_)) => Ok(Some(Refusal::Short)),
+        Ok(LaneStep::Fed(_)) => Ok(Some(InputRefusal::Short)),
         Ok(LaneStep::Closed) => Ok(None),
-        Err(LaneFault::Lines) => Ok(Some(Refusal::TooManyLines)),
-        Err(LaneFault::BadLane) => Ok(Some(Refusal::BadLane)),
+        Err(LaneFault::Lines) => Ok(Some(InputRefusal::TooManyLines)),
+        Err(LaneFault::BadLane) => Ok(Some(InputRefusal::BadLane)),
         Err(LaneFault::Memory) => Err(Memory),
     }
 }
 
-fn is_short(refusal: Option<Refusal>) -> bool
+fn is_short(refusal: Option<InputRefusal>) -> bool
     ensures { (lines : ℕ) → result ≡ goes_on_at (standing_of lines refusal) }
 {
     match refusal {
-        Some(Refusal::Short) => true,
+        Some(InputRefusal::Short) => true,
         _ => false,
     }
 }
@@ -82,12 +82,12 @@ impl LaneInput {
         Ok(LaneInput {
             lines: Lines::new(),
             lanes: Lanes::new(alloc)?,
-            refusal: Some(Refusal::Short),
+            refusal: Some(InputRefusal::Short),
         })
     }
 
     /// Takes a byte, and says why the input is then refused if no more of it comes.
-    fn take_byte(&mut self, byte: u8) -> Result<Option<Refusal>, Memory>
+    fn take_byte(&mut self, byte: u8) -> Result<Option<InputRefusal>, Memory>
         requires { (x : List ℕ) × Rests self.old x × (goes_on (input x) ≡ true) }
         ensures adds { (x : List ℕ) → Rests self.old x → goes_on (input x) ≡ true
             → Adds self.new x (byte ∷ []) result }
@@ -95,14 +95,14 @@ impl LaneInput {
             → OnOk result (HavePaid self.new.lanes.lanes start now) }
     {
         match self.lines.push(byte) {
-            Step::More => Ok(Some(Refusal::Short)),
+            Step::More => Ok(Some(InputRefusal::Short)),
             Step::Line => hand(&mut self.lanes, self.lines.line()),
             Step::TooLong => hand(&mut self.lanes, self.lines.line()),
         }
     }
 
     /// Takes a byte or a whole line, and says why the input is then refused if no more of it comes.
-    fn take_front(&mut self, bytes: &[u8]) -> Result<Option<Refusal>, Memory>
+    fn take_front(&mut self, bytes: &[u8]) -> Result<Option<InputRefusal>, Memory>
         requires some { 0 < length bytes.now }
         requires whole { 1 < length bytes.now → IsWholeLine self.old.lines bytes.now }
         requires rests { (x : List ℕ) × Rests self.old x × (goes_on (input x) ≡ true) }
@@ -169,7 +169,7 @@ impl LaneInput {
     /// # Errors
     ///
     /// Else why the input is refused where no more of it comes, and at which line.
-    pub fn end(self) -> Result<Lanes, Refused>
+    pub fn end(self) -> Result<Lanes, RefusedInput>
         requires { (x : List ℕ) × Rests self x }
         ensures { (x : List ℕ) → Rests self x → Ends result x }
     {
@@ -177,7 +177,7 @@ impl LaneInput {
             None => Ok(self.lanes),
             Some(cause) => {
                 let line = self.lanes.lines() + 1;
-                Err(Refused { line, cause })
+                Err(RefusedInput { line, cause })
             }
         }
     }

@@ -11,7 +11,7 @@ mod refusal;
 
 pub use feed::Feed;
 pub use lane::Lane;
-pub use lane_input::{LaneInput, Refused};
+pub use lane_input::{LaneInput, RefusedInput};
 pub use lanes::{LaneFault, LaneStep, Lanes};
 pub use out::LaneOut;
-pub use refusal::Refusal;
+pub use refusal::InputRefusal;

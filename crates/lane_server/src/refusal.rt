@@ -4,7 +4,7 @@ ghost use Rattle.lane_server.specs.LaneInput.{word_of};
 
 /// Why an input is refused as a whole.
 #[derive(Clone, Copy, PartialEq, Eq)]
-pub enum Refusal {
+pub enum InputRefusal {
     /// It ends before `close`.
     Short,
     /// It has more than 16,000,000,000 lines.
@@ -13,16 +13,16 @@ pub enum Refusal {
     BadLane,
 }
 
-impl Refusal {
+impl InputRefusal {
     /// The word for it.
     pub fn word(self) -> &'static [u8]
         ensures is { result.now ≡ word_of self }
         ensures fits { length result.now ≤ 5 }
     {
         match self {
-            Refusal::Short => b"short",
-            Refusal::TooManyLines => b"lines",
-            Refusal::BadLane => b"lane",
+            InputRefusal::Short => b"short",
+            InputRefusal::TooManyLines => b"lines",
+            InputRefusal::BadLane => b"lane",
         }
     }
 }

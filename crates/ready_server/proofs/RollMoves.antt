@@ -13,7 +13,7 @@ use Rattle.dover_model.specs.Step.{with_role, displaced}
 use Rattle.dover_model.proofs.Members.{on_map, map_member, some_same}
 use Rattle.dover_model.proofs.Roles.{one_number, by_role}
 use Rattle.room_ledger.specs.Roles.{with_role_at, all_displaced}
-use Rattle.ready_server.specs.Roster.{Roll, Listed, had_with, stopped, is_turn, is_displaced, with_stop, halted}
+use Rattle.ready_server.specs.Roster.{Roll, ListedJob, had_with, stopped, is_turn, is_displaced, with_stop, halted}
 use Rattle.ready_server.specs.Roster.{started}
 use Rattle.ready_server.proofs.Rolls.{calm_role, Lists, Follows, set_here, set_there, length_set, at_clock, number_is}
 use Rattle.ready_server.proofs.Rolls.{job_is, had_ran, had_is, role_is, lists_other, lists_same, had_none, not_turn}
@@ -121,7 +121,7 @@ module _ (s : State) (sound : IsSound s) (p : Roll) (follows : Follows s p) wher
     of_r = follows.here r member r_here
 
     -- its entry
-    abbrev e_new : Listed
+    abbrev e_new : ListedJob
     e_new = stopped (s.clock - p.since) new p.takes of_r.listed
 
     -- the roll after it
@@ -343,7 +343,7 @@ module _ (s : State) (numbered : IsNumberedFrom 0 s.tasks) (p : Roll) (follows :
             idle : t.role ≡ Running → ⊥
             idle runs = absurd (let no : None ≡ Some t.number = sym free ∙ follows.runs t m runs in cc)
 
-            role_now : (e : Listed) → e.takes ≤ p.takes
+            role_now : (e : ListedJob) → e.takes ≤ p.takes
                 → cond (is_displaced p.takes e) Waiting e.task.role ≡ calm_role t.role
                 → cond (is_displaced (suc p.takes) e) Waiting e.task.role ≡ calm_role (displaced t.role)
             role_now e low is =

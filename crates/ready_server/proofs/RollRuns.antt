@@ -27,7 +27,7 @@ use Rattle.dover_model.proofs.Roles.{one_number, numbered_map, passes, is_runnin
 use Rattle.dover_model.proofs.Tests.{never}
 use Rattle.room_ledger.specs.Roles.{with_role_at, all_displaced}
 use Rattle.room_ledger.proofs.Changing.{displaced_same, task_at}
-use Rattle.ready_server.specs.Roster.{Roll, Listed, had_with, stopped, released, is_displaced, job_at, with_stop}
+use Rattle.ready_server.specs.Roster.{Roll, ListedJob, had_with, stopped, released, is_displaced, job_at, with_stop}
 use Rattle.ready_server.specs.Roster.{halted, started, with_event, empty_roll, roll_of}
 use Rattle.ready_server.proofs.Rolls.{calm_role, Lists, Follows, set_here, set_there, length_set, get_front, get_last}
 use Rattle.ready_server.proofs.Rolls.{at_clock, number_is, job_is, had_ran, had_is, lists_other, lists_same}
@@ -143,7 +143,7 @@ module _ (s : State) (sound : IsSound s) (p : Roll) (follows : Follows s p) wher
         it : Lists p s.clock x
         it = follows.here x member (not_coming x Waiting waits (λ e. cc))
 
-        e_new : Listed
+        e_new : ListedJob
         e_new = stopped 0 Gone p.takes it.listed
 
         q : Roll
@@ -179,7 +179,7 @@ module _ (s : State) (sound : IsSound s) (p : Roll) (follows : Follows s p) wher
         idle : c.role ≡ Running → ⊥
         idle = not_running c Coming comes (λ e. cc)
 
-        e_new : Listed
+        e_new : ListedJob
         e_new = released c.number c.job
 
         q : Roll

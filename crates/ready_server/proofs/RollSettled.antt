@@ -34,7 +34,7 @@ use Rattle.dover_model.proofs.Horizons.{due_few}
 use Rattle.dover_model.proofs.Limiting.{jobs_most}
 use Rattle.ready_server.specs.Serving as ready
 use Rattle.ready_server.specs.declared.server.ReadyServer.{ReadyServer}
-use Rattle.ready_server.specs.Roster.{Roll, Listed, stopped, released, job_at, with_event, empty_roll, roll_of}
+use Rattle.ready_server.specs.Roster.{Roll, ListedJob, stopped, released, job_at, with_event, empty_roll, roll_of}
 use Rattle.ready_server.specs.Roster.{with_stop}
 use Rattle.ready_server.specs.Roster.{halted}
 use Rattle.ready_server.proofs.Present.{none_to_come}
@@ -44,8 +44,8 @@ use Rattle.ready_server.proofs.RollRuns.{numbered_task, roll_follows}
 -- ---- all jobs at a mark
 
 -- a list that has each task under its number has all of them
-all_listed : (f : Listed → Task) (n : ℕ) (tasks : List Task) (jobs : List Listed) → IsNumberedFrom n tasks
-    → ((t : Task) → IsMember t tasks → (e : Listed) × (slice_get jobs (t.number - n) ≡ Some e) × (f e ≡ t))
+all_listed : (f : ListedJob → Task) (n : ℕ) (tasks : List Task) (jobs : List ListedJob) → IsNumberedFrom n tasks
+    → ((t : Task) → IsMember t tasks → (e : ListedJob) × (slice_get jobs (t.number - n) ≡ Some e) × (f e ≡ t))
     → length jobs ≤ length tasks → map f jobs ≡ tasks
 all_listed f n [] [] numbered there few = refl
 all_listed f n [] (e ∷ jobs) numbered there few = absurd (omega (arith, few))
@@ -58,8 +58,8 @@ all_listed f n (t ∷ tasks) (e ∷ jobs) numbered there few =
     ap (λ u. u ∷ map f jobs) (ap f same ∙ it.2)
     ∙ ap (λ ts. t ∷ ts) (all_listed f (suc n) tasks jobs numbered.1 (λ u m. later u m (there u (inr m)))
     (omega (arith, few))) where
-      later : (u : Task) → IsMember u tasks → (x : Listed) × (slice_get (e ∷ jobs) (u.number - n) ≡ Some x) × (f x ≡ u)
-          → (x : Listed) × (slice_get jobs (u.number - suc n) ≡ Some x) × (f x ≡ u)
+      later : (u : Task) → IsMember u tasks → (x : ListedJob) × (slice_get (e ∷ jobs) (u.number - n) ≡ Some x) × (f x ≡ u)
+          → (x : ListedJob) × (slice_get jobs (u.number - suc n) ≡ Some x) × (f x ≡ u)
       later u m (x, at, is) =
           let low : suc n ≤ u.number = numbers_above (suc n) tasks numbered.1 u m in
           let next : u.number - n ≡ suc (u.number - suc n) = omega (arith, low) in
@@ -111,7 +111,7 @@ module _ (J : Instance) (valid : IsValid J) (mark : ℕ) (known : AllByRecursion
   settled_jobs = all_listed (job_at (roll_of (settled J mark)) mark) 0 s.tasks (roll_of (settled J mark)).jobs
       bar.keeps.sound.numbered there follows.few where
         there : (t : Task) → IsMember t s.tasks
-            → (e : Listed) × (slice_get (roll_of (settled J mark)).jobs (t.number - 0) ≡ Some e)
+            → (e : ListedJob) × (slice_get (roll_of (settled J mark)).jobs (t.number - 0) ≡ Some e)
             × (job_at (roll_of (settled J mark)) mark e ≡ t)
         there t m =
             let it = follows.here t m (none_to_come J valid mark known t m) in
@@ -131,7 +131,7 @@ roll_more events e = fold-append with_event empty_roll events (e ∷ [])
 -- a stop is no take
 stop_takes : (p : Roll) (n ticks : ℕ) (role : Role) → (with_stop p n ticks role).takes ≡ p.takes
 stop_takes p n ticks role = by (slice_get p.jobs n) where
-  by : (o : Option Listed) → (let q : Roll = elim o
+  by : (o : Option ListedJob) → (let q : Roll = elim o
       [ None ↦ p | Some e ↦ record p { jobs = set p.jobs n (stopped ticks role p.takes e) } ] in q.takes) ≡ p.takes
   by None = refl
   by (Some x) = refl
@@ -160,7 +160,7 @@ takes_from (e ∷ events) p = omega (arith, takes_from events (with_event p e), 
 -- a stop leaves as many jobs
 stop_count : (p : Roll) (n ticks : ℕ) (role : Role) → length (with_stop p n ticks role).jobs ≡ length p.jobs
 stop_count p n ticks role = by (slice_get p.jobs n) where
-  by : (o : Option Listed) → (let q : Roll = elim o
+  by : (o : Option ListedJob) → (let q : Roll = elim o
       [ None ↦ p | Some e ↦ record p { jobs = set p.jobs n (stopped ticks role p.takes e) } ] in length q.jobs)
       ≡ length p.jobs
   by None = refl

@@ -10,7 +10,7 @@ use Rattle.dover_model.specs.declared.events.Task.{Task}
 use Rattle.dover_model.specs.Sound.{IsMember, Each}
 use Rattle.dover_model.specs.State.{State}
 use Rattle.dover_model.specs.Step.{with_role}
-use Rattle.ready_server.specs.Roster.{Roll, Listed, had_with, is_turn, is_displaced, job_at}
+use Rattle.ready_server.specs.Roster.{Roll, ListedJob, had_with, is_turn, is_displaced, job_at}
 
 -- the role of a job in a roll: what is fresh there waits
 abbrev pub calm_role : Role → Role
@@ -27,7 +27,7 @@ calm t = with_role t (calm_role t.role)
 
 -- the roll has this job as it is
 pub record Lists (p : Roll) (clock : ℕ) (t : Task) : Type 0 where
-  pub listed : Listed
+  pub listed : ListedJob
   pub there : slice_get p.jobs t.number ≡ Some listed
   pub is : job_at p clock listed ≡ calm t
   pub before : listed.takes ≤ p.takes
@@ -108,7 +108,7 @@ module _ (p : Roll) (clock : ℕ) (t : Task) (it : Lists p clock t) where
         (sym idle_here) ∙ ap (λ (u : Task). u.role) it.is
 
     -- another roll, in which it doesn't run either, has it in another role
-    pub lists_other : (q : Roll) (role : Role) (e : Listed) → slice_get q.jobs t.number ≡ Some e
+    pub lists_other : (q : Roll) (role : Role) (e : ListedJob) → slice_get q.jobs t.number ≡ Some e
         → e.task.number ≡ t.number → e.task.job ≡ t.job → e.task.had ≡ t.had → is_turn q.turn t.number ≡ false
         → cond (is_displaced q.takes e) Waiting e.task.role ≡ calm_role role → e.takes ≤ q.takes
         → (clock2 : ℕ) → Lists q clock2 (with_role t role)

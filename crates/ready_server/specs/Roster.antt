@@ -13,14 +13,14 @@ use Rattle.dover_model.specs.JobFacts.{JobFacts}
 use Rattle.dover_model.specs.State.{is_held}
 
 -- a job as it was when it last had the processor, and how many takes there were when it stopped
-pub record Listed : Type 0 where
+pub record ListedJob : Type 0 where
   pub task : Task
   pub takes : ℕ
 
 -- the jobs by number, as they were when they last had the processor; how many takes there were; and of the job that
 -- runs, the number and the tick at which it was as it is here
 pub record Roll : Type 0 where
-  pub jobs : List Listed
+  pub jobs : List ListedJob
   pub takes : ℕ
   pub turn : Option ℕ
   pub since : ℕ
@@ -41,14 +41,14 @@ abbrev pub had_with : ℕ → Task → ℕ
 had_with ticks t = t.job.work - (t.job.work - t.had - ticks)
 
 -- a job that stops after so many ticks more in this role, where there were so many takes
-abbrev pub stopped : ℕ → Role → ℕ → Listed → Listed
+abbrev pub stopped : ℕ → Role → ℕ → ListedJob → ListedJob
 stopped ticks role takes e = record {
   task = record { number = e.task.number; job = e.task.job; role = role; had = had_with ticks e.task };
   takes = takes;
 }
 
 -- a job that is released
-abbrev pub released : ℕ → JobFacts → Listed
+abbrev pub released : ℕ → JobFacts → ListedJob
 released n job = record { task = record { number = n; job = job; role = Waiting; had = 0 }; takes = 0 }
 
 -- the job of this number runs
@@ -57,11 +57,11 @@ is_turn None n = false
 is_turn (Some m) n = m == n
 
 -- a take since it stopped displaces a held job
-abbrev pub is_displaced : ℕ → Listed → Bool
+abbrev pub is_displaced : ℕ → ListedJob → Bool
 is_displaced takes e = is_held e.task && not (e.takes == takes)
 
 -- a job of the roll, as it is at a tick
-abbrev pub job_at : Roll → ℕ → Listed → Task
+abbrev pub job_at : Roll → ℕ → ListedJob → Task
 job_at p clock e = record {
   number = e.task.number;
   job = e.task.job;

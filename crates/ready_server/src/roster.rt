@@ -14,17 +14,17 @@ use std::marker::Model;
 
 /// A job as it was when it last had the processor.
 #[derive(Drop)]
-pub struct Listed {
+pub struct ListedJob {
     task: ShortTask,
     /// How many takes there were when it stopped: with one more, a held job waits.
     takes: u64,
 }
 
-impl Model for Listed {
+impl Model for ListedJob {
     ghost use Rattle.std.specs.Prelude.{◌≤◌};
-    ghost use Rattle.ready_server.specs.Roster.{Listed};
+    ghost use Rattle.ready_server.specs.Roster.{ListedJob};
 
-    ghost Value = { Listed };
+    ghost Value = { ListedJob };
 
     ghost view = { λ l. record { task = l.task; takes = l.takes } };
 
@@ -39,12 +39,12 @@ fn had_with(ticks: u64, task: &Task) -> u64
     work.saturating_sub(work.saturating_sub(task.had).saturating_sub(ticks))
 }
 
-impl Listed {
+impl ListedJob {
     /// A job that is released.
-    fn released(number: u32, job: Job) -> Listed
+    fn released(number: u32, job: Job) -> ListedJob
         ensures { result ≡ model.released number job }
     {
-        Listed {
+        ListedJob {
             task: ShortTask::of(&Task {
                 number,
                 job,
@@ -56,11 +56,11 @@ impl Listed {
     }
 
     /// A job that stops after so many ticks more in this role, where there were so many takes.
-    fn stopped(&self, ticks: u64, role: Role, takes: u64) -> Listed
+    fn stopped(&self, ticks: u64, role: Role, takes: u64) -> ListedJob
         ensures { result ≡ model.stopped ticks role takes self.now }
     {
         let task = self.task.task();
-        Listed {
+        ListedJob {
             task: ShortTask::of(&Task {
                 number: task.number,
                 job: task.job,
@@ -84,7 +84,7 @@ impl Listed {
 /// is, and the ticks that it has had, kept from the printed steps of the run alone.
 #[derive(Drop)]
 pub struct Roster {
-    jobs: Vec<Listed>,
+    jobs: Vec<ListedJob>,
     takes: u64,
     turn: Option<u32>,
     since: u64,
@@ -147,7 +147,7 @@ impl Roster {
         match *event {
             Event::Release { number, job } => self
                 .jobs
-                .push_reserved(Listed::released(number, job)),
+                .push_reserved(ListedJob::released(number, job)),
             Event::Run { at, number } => self.start(at, number),
             Event::Preempt { at, starts, .. } => {
                 self.halt(at, Role::Held);

@@ -17,7 +17,7 @@ use Rattle.dover_model.proofs.Barriers.{settled_at_barrier}
 use Rattle.dover_model.proofs.Honest.{count_jobs}
 use Rattle.dover_model.proofs.Limiting.{jobs_most, lines_most}
 use Rattle.dover_model.proofs.Members.{some_same}
-use Rattle.ready_server.specs.Roster.{Roll, Listed, job_at, roll_of, Kept, IsRollOf}
+use Rattle.ready_server.specs.Roster.{Roll, ListedJob, job_at, roll_of, Kept, IsRollOf}
 use Rattle.snapshot.specs.Snapshot.{head_line, state_line, snapshot}
 use Rattle.snapshot.specs.Pausing.{IsTakenTo, lines_in}
 use Rattle.ready_server.specs.declared.roster_server.RosterServer.{RosterServer}
@@ -82,14 +82,14 @@ module _ (v : RosterServer) (lines mark : ℕ) (F : List ℕ) (it : IsTakenTo v 
 -- ---- one line
 
 -- the line of a job
-pub line_of_job : (f : Listed → Task) (jobs : List Listed) (last : List ℕ) (n : ℕ) (t : Task)
+pub line_of_job : (f : ListedJob → Task) (jobs : List ListedJob) (last : List ℕ) (n : ℕ) (t : Task)
     → option_map f (slice_get jobs n) ≡ Some t → get_or (map state_line (map f jobs) ++ last ∷ []) n [] ≡ state_line t
 line_of_job f [] last n t e = absurd (let no : None ≡ Some t = e in cc)
 line_of_job f (x ∷ jobs) last zero t e = ap state_line (some_same (f x) t e)
 line_of_job f (x ∷ jobs) last (suc n) t e = line_of_job f jobs last n t e
 
 -- the last line
-pub last_line : (f : Listed → Task) (jobs : List Listed) (last : List ℕ) (n : ℕ)
+pub last_line : (f : ListedJob → Task) (jobs : List ListedJob) (last : List ℕ) (n : ℕ)
     → option_map f (slice_get jobs n) ≡ None → n ≤ length jobs
     → get_or (map state_line (map f jobs) ++ last ∷ []) n [] ≡ last
 last_line f [] last zero e low = refl

@@ -40,16 +40,16 @@ impl<L: Ledger> Talker for AskingTasks<L> {
 
     fn laws() {}
 
+    fn goes_on(&self, _meter: &Steps<L>) -> bool {
+        self.reader.goes_on()
+    }
+
     fn take(&mut self, _meter: &mut Steps<L>, piece: &[u8]) -> Result<usize, Memory> {
         self.reader.take(piece)
     }
 
     fn next_part(&mut self, _meter: &mut Steps<L>, _part: &mut BackLine) -> bool {
         false
-    }
-
-    fn goes_on(&self, _meter: &Steps<L>) -> bool {
-        self.reader.goes_on()
     }
 
     fn answer<P: Port>(

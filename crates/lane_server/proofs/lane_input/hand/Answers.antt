@@ -2,7 +2,7 @@ use Rattle.std.proofs.Common.{[], refl, sym, ap, ◌∙◌, subst}
 use Rattle.lane_server.specs.Kept.{Kept}
 use Rattle.lane_server.specs.Spending.{HavePaid}
 use Rattle.lane_server.specs.Lanes as lanes
-use Rattle.lane_server.specs.declared.refusal.Refusal.TheVariants.{TooManyLines, BadLane}
+use Rattle.lane_server.specs.declared.refusal.InputRefusal.TheVariants.{TooManyLines, BadLane}
 use Rattle.lane_server.proofs.Inputs.{input_many, input_bad}
 use Rattle.lane_server.proofs.Keeping.{ready_left}
 use Rattle.lane_server.proofs.Receiving.{hands_fed, hands_close, hands_fault, lacks, same_count, same_stand}
