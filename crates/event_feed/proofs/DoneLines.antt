@@ -1,14 +1,11 @@
 -- A done line in a session whose jobs may finish early.
 use Rattle.std.proofs.Common.{◌≡◌, ℕ, ◌≤◌, ◌<◌, max, ◌∷◌, [], refl, sym, ap, ◌∙◌, subst, cond, Option, Some, None, Ok}
-use Rattle.std.proofs.Common.{Err}
-use Rattle.std.proofs.Common.{Bool, true, false, ◌⊎◌, inl, inr, arith}
+use Rattle.std.proofs.Common.{Bool, true, false, arith}
 use Rattle.std.specs.Prelude.{nat_lt, nat_le, is_some, ◌&&◌}
 use Rattle.std.specs.Option.{option_map}
-use Rattle.std.proofs.lemmas.Bool.{le-ltb, lt-ltb, lt-leb, leb-true, and_parts}
+use Rattle.std.proofs.lemmas.Bool.{le-ltb, lt-leb, leb-true, and_parts}
 use Rattle.dover_model.specs.Limits.{last_tick}
 use Rattle.dover_model.specs.Numerals.{AreShort}
-use Rattle.dover_model.specs.declared.events.Version.{Version}
-use Rattle.dover_model.specs.declared.events.Version.TheVariants.{One, Two}
 use Rattle.dover_model.specs.Session.{Session, FinishItem, EarlyFinish, RefusedDone, may_finish_early, is_right}
 use Rattle.dover_model.specs.Session.{early_at}
 use Rattle.dover_model.specs.Session.{with_named, with_item, refused_done_at, admitted_jobs}
@@ -17,17 +14,11 @@ use Rattle.dover_model.specs.Feed.{Account, Cause, NotDone, Order, Line, cause_o
 use Rattle.dover_model.specs.Feed.{with_good_line, with_refused_done}
 use Rattle.dover_model.proofs.Growing.{finish_instance, refused_instance}
 use Rattle.admission.specs.Kept as admission
-use Rattle.event_feed.specs.declared.faults.Cause.TheVariants as fault
 use Rattle.event_feed.specs.declared.fed.Fed.TheVariants as fed
 use Rattle.event_feed.specs.declared.kept_session.KeptSession.{KeptSession}
 use Rattle.event_feed.specs.Kept.{IsKeptOf, KeepsSession}
 use Rattle.event_feed.specs.Answers.{with_done}
 use Rattle.event_feed.specs.Reading.{open_account, IsTaken, Takes}
-
--- in versions One and Two no job finishes early
-pub none_early : (v : Version) → (v ≡ One) ⊎ (v ≡ Two) → may_finish_early v ≡ false
-none_early v (inl one) = ap may_finish_early one
-none_early v (inr two) = ap may_finish_early two
 
 -- a finish that is right comes at no earlier tick than the mark
 pub later_mark : (S : Session) (mark t n : ℕ) → is_right S mark t n ≡ true → max mark t ≡ t
@@ -105,28 +96,10 @@ module _ (lines : ℕ) (S : Session) (mark t n : ℕ) where
   abbrev by_finish : Option Cause
   by_finish = cond (is_right S mark t n) None (Some NotDone)
 
-  -- where no job may finish early, it has no form
-  pub takes_none : (kept : KeptSession) → IsKeptOf kept S mark → may_finish_early S.rules.version ≡ false
-      → Takes (DoneLine t n) lines S mark kept (Err fault.Line)
-  takes_none kept it former =
-      subst (λ b. IsTaken (Some kept) (Some (DoneLine t n)) before b (Err fault.Line))
-      (sym (ap (λ b. with_line before (DoneLine t n) (cond b (cond (nat_lt last_tick t) (Some Order) by_finish)
-      (Some Line)))
-      former)) (record { keeps = it; gives = record { after_is = refl; other = tt } })
-
   module _ (may : may_finish_early S.rules.version ≡ true) where
     -- its cause
     done_cause : cause_of before (DoneLine t n) ≡ cond (nat_lt last_tick t) (Some Order) by_finish
     done_cause = ap (λ b. cond b (cond (nat_lt last_tick t) (Some Order) by_finish) (Some Line)) may
-
-    -- above the last tick it is at fault
-    pub takes_far : (kept : KeptSession) → IsKeptOf kept S mark → last_tick < t
-        → Takes (DoneLine t n) lines S mark kept (Err fault.Order)
-    takes_far kept it far =
-        subst (λ b. IsTaken (Some kept) (Some (DoneLine t n)) before b (Err fault.Order))
-        (sym (ap (with_line before (DoneLine t n)) (done_cause
-        ∙ ap (λ b. cond b (Some Order) by_finish) (lt-ltb _ _ far))))
-        (record { keeps = it; gives = record { after_is = refl; other = tt } })
 
     module _ (known : t ≤ last_tick) where
       -- the account with the line

@@ -1,14 +1,14 @@
 -- A job line in a session that goes on: admitted, refused, or at fault.
 use Rattle.std.proofs.Common.{◌≡◌, ℕ, ◌≤◌, ◌<◌, List, [], ◌∷◌, ◌++◌, refl, sym, ap, ◌∙◌, subst, cond, Option, Some}
 use Rattle.std.proofs.Common.{None, Ok}
-use Rattle.std.proofs.Common.{Err, true, false, Bool, ◌⊎◌, inl, inr}
+use Rattle.std.proofs.Common.{true, false, Bool, ◌⊎◌, inl, inr}
 use Rattle.std.specs.Prelude.{◌≢◌}
 use Rattle.std.specs.Bool.{then_some}
 use Rattle.std.specs.Option.{option_map, option_or}
 use Rattle.std.proofs.lemmas.Bool.{le-ltb, lt-ltb}
 use Rattle.dover_model.specs.Numerals.{AreShort}
 use Rattle.dover_model.specs.declared.events.Version.{Version}
-use Rattle.dover_model.specs.declared.events.Version.TheVariants.{One, Two, Three}
+use Rattle.dover_model.specs.declared.events.Version.TheVariants.{Two, Three}
 use Rattle.dover_model.specs.declared.events.Refusal.{Refusal}
 use Rattle.dover_model.specs.declared.events.Refusal.TheVariants.{Late, Full}
 use Rattle.dover_model.specs.JobFacts.{JobFacts, job_numbers}
@@ -18,29 +18,19 @@ use Rattle.dover_model.specs.Session.{late_refusal, refusal_in, refused_mark, is
 use Rattle.dover_model.specs.Session.{JobItem}
 use Rattle.dover_model.proofs.Fullness.{full_refuses, mark_stays, never_alone}
 use Rattle.dover_model.specs.FeedLine.{JobLine}
-use Rattle.dover_model.specs.Feed.{Account, NotAdmitted, Order, late_cause, cause_of, with_fault, with_line}
+use Rattle.dover_model.specs.Feed.{Account, NotAdmitted, late_cause, cause_of, with_fault, with_line}
 use Rattle.dover_model.specs.Feed.{with_refused_at}
 use Rattle.dover_model.proofs.Growing.{job_instance, refused_instance}
 use Rattle.admission.specs.Kept as admission
-use Rattle.admission.specs.Answers as answers
-use Rattle.admission.specs.declared.refused.Refused.{Refused}
-use Rattle.admission.specs.declared.refused.Refused.TheVariants.{BadJob, Count, Total, Ratio}
-use Rattle.event_feed.specs.declared.faults.Cause.TheVariants as fault
 use Rattle.event_feed.specs.declared.fed.Fed.TheVariants as fed
 use Rattle.event_feed.specs.declared.kept_session.KeptSession.{KeptSession}
-use Rattle.event_feed.specs.Kept.{cause_of_fault, cause_of_refused, IsKeptOf, KeepsSession, without_last}
-use Rattle.event_feed.specs.Answers.{NamesOther}
+use Rattle.event_feed.specs.Kept.{IsKeptOf, KeepsSession, without_last}
 use Rattle.event_feed.specs.Reading.{open_account, IsTaken, Takes}
 
 -- from Two on job lines are refused alone
 pub refuses_alone : (v : Version) → (v ≡ Two) ⊎ (v ≡ Three) → refuses_lines v ≡ true
 refuses_alone v (inl two) = ap refuses_lines two
 refuses_alone v (inr three) = ap refuses_lines three
-
--- before Three a late one ends the feed
-order_late : (v : Version) → (v ≡ One) ⊎ (v ≡ Two) → late_cause v ≡ Order
-order_late v (inl one) = ap late_cause one
-order_late v (inr two) = ap late_cause two
 
 module _ (lines : ℕ) (S : Session) (mark : ℕ) (j : JobFacts) where
   -- the account, with the line counted
@@ -95,18 +85,6 @@ module _ (lines : ℕ) (S : Session) (mark : ℕ) (j : JobFacts) where
       (ap (λ b. cond b (late_refusal S.rules.version) (refusal_in S j)) (lt-ltb _ _ late) ∙ ap late_refusal version)
       refl
       (late_line_cause late ∙ ap (λ v. Some (late_cause v)) version)
-
-  -- before it is at fault
-  pub takes_order : (kept : KeptSession) → IsKeptOf kept S mark → j.release < mark
-      → (S.rules.version ≡ One) ⊎ (S.rules.version ≡ Two)
-      → Takes (JobLine j) lines S mark kept (Err fault.Order)
-  takes_order kept it late version =
-      subst (λ b. IsTaken (Some kept) (Some (JobLine j)) before b (Err fault.Order))
-      (sym (ap (with_line before (JobLine j)) (late_line_cause late ∙ ap (λ c. Some c)
-      (order_late S.rules.version version)))) (record {
-        keeps = it;
-        gives = record { after_is = refl; other = tt };
-      })
 
 module _ (lines : ℕ) (S : Session) (mark : ℕ) (j : JobFacts) (no_fall : mark ≤ j.release) where
   -- the account, with the line counted
@@ -184,38 +162,3 @@ module _ (lines : ℕ) (S : Session) (mark : ℕ) (j : JobFacts) (no_fall : mark
       (ap (λ b. cond b (late_refusal S.rules.version) (refusal_in S j)) (le-ltb _ _ no_fall)
       ∙ ap (λ o. option_or o (then_some full Full)) is) (mark_stays S mark j refusal is)
       (job_cause (Some refusal) is)
-
-  -- the fault of a refused job names the other job
-  names_other : (refused : Refused) → answers.NamesOther S.rules.ratio (admitted_jobs S.items) j refused
-      → NamesOther (Some (JobLine j)) on_time (cause_of_refused refused)
-  names_other BadJob other = tt
-  names_other Count other = tt
-  names_other Total other = tt
-  names_other (Ratio n) other = record { session = S; before_is = refl; job = j; line_is = refl; earlier = other }
-
-  -- the fault of a refused job is its refusal
-  fault_of_refused : (refused : Refused)
-      → cause_of_fault (cause_of_refused refused) ≡ NotAdmitted (answers.refusal_of_refused refused)
-  fault_of_refused BadJob = refl
-  fault_of_refused Count = refl
-  fault_of_refused Total = refl
-  fault_of_refused (Ratio n) = refl
-
-  -- the line of a refused job is at fault, in version One
-  pub takes_fault : (kept : KeptSession) → IsKeptOf kept S mark → S.rules.version ≡ One → (refused : Refused)
-      → refusal_of S.rules (admitted_jobs S.items) j ≡ Some (answers.refusal_of_refused refused)
-      → answers.NamesOther S.rules.ratio (admitted_jobs S.items) j refused
-      → Takes (JobLine j) lines S mark kept (Err (cause_of_refused refused))
-  takes_fault kept it version refused is other =
-      let refusal : Refusal = answers.refusal_of_refused refused in
-      subst (λ b. IsTaken (Some kept) (Some (JobLine j)) on_time b (Err (cause_of_refused refused)))
-      (sym (ap (with_line on_time (JobLine j)) (job_cause (Some refusal) is)
-      ∙ ap (λ v. cond (refuses_lines v) (with_refused_at on_time (refused_mark mark j refusal) j refusal)
-      (with_fault on_time (NotAdmitted refusal))) version)) (record {
-        keeps = it;
-        gives = record {
-          after_is = ap (with_fault on_time) (sym (fault_of_refused refused));
-          other =
-              names_other refused other;
-        };
-      })

@@ -16,7 +16,7 @@ use Rattle.dover_model.specs.JobFacts.{JobFacts}
 use Rattle.dover_model.specs.Fraction.{Fraction}
 use Rattle.dover_model.specs.Instance.{Declaration, Instance, IsValid, under, with_jobs, finishing}
 use Rattle.dover_model.specs.Feed as feeds
-use Rattle.dover_model.specs.Feed.{Account, Open, account_of_lines, is_open, rules_with}
+use Rattle.dover_model.specs.Feed.{Account, Open, is_open, rules_with}
 use Rattle.dover_model.specs.Session.{Session, JobItem, FinishItem, EarlyFinish, RefusedDone, admitted_jobs, with_item}
 use Rattle.dover_model.specs.Session.{with_named, refused_at, refused_done_at, early_at, finish_at, is_right}
 use Rattle.dover_model.specs.Session.{instance_of, early_finishes, may_finish_early, is_full}
@@ -31,19 +31,15 @@ use Rattle.dover_model.proofs.Resting.{numbers_below}
 use Rattle.dover_model.proofs.RightFinishes.{none_other}
 use Rattle.dover_model.proofs.Valid.{all_from}
 use Rattle.event_feed.proofs.Admitting.{job_more, refused_more, admitted_by}
-use Rattle.dover_model.proofs.Admitting.{not_refused}
-use Rattle.dover_model.proofs.Fullness.{few_ready, few_former, full_many}
+use Rattle.dover_model.proofs.Fullness.{few_ready, full_many}
 use Rattle.dover_model.specs.Limits.{most_ready}
 use Rattle.dover_model.specs.Session.{RefusedJob}
 use Rattle.event_feed.proofs.DoneLines.{session_done, done_session, done_jobs, done_mark}
-use Rattle.event_feed.specs.Answers.{AddsJob, AddsRefused, AddsDone, MovesMark, EndsFeed, NewFault, OldFault, counted}
+use Rattle.event_feed.specs.Answers.{AddsJob, AddsRefused, AddsDone, MovesMark, counted}
 use Rattle.event_feed.specs.Answers.{admitted_in}
-use Rattle.event_feed.specs.Faults.{IsFirstFault}
 use Rattle.event_feed.specs.Kept as feed
 use Rattle.event_feed.specs.declared.fed.Fed.TheVariants as fed
 use Rattle.std.specs.Prelude.{Result, Ok, Err, OnOk, OnErr}
-use Rattle.event_feed.specs.Kept.{cause_of_fault}
-use Rattle.event_feed.specs.declared.faults.FeedFault.{FeedFault}
 use Rattle.event_feed.specs.declared.listed.DoneLine.{DoneLine}
 use Rattle.event_feed.specs.Listing.{ListsIn, StandsAmong, ComesBehind, AreInTurn, handed, with_early, with_right}
 use Rattle.event_feed.specs.Listing.{right_finishes}
@@ -61,14 +57,6 @@ open_by_test a on = by_standing a.standing refl where
   by_standing feeds.Open is = is
   by_standing feeds.Ended is = absurd (let e : true ≡ false = sym on ∙ ap goes_on is in cc)
   by_standing (feeds.Faulty line cause) is = absurd (let e : true ≡ false = sym on ∙ ap goes_on is in cc)
-
--- a faulty line behind lines that go on is the first
-pub first_fault : (ls : List (List ℕ)) (line : List ℕ) (fault : FeedFault) → (account_of_lines ls).standing ≡ feeds.Open
-    → NewFault line fault (account_of_lines ls) (account_of_lines (ls ++ line ∷ []))
-    ⊎ OldFault fault (account_of_lines ls) (account_of_lines (ls ++ line ∷ [])) → IsFirstFault fault (ls ++ line ∷ [])
-first_fault ls line fault stands (inl new) = record { before = ls; line = line; more = []; lines = refl; new = new }
-first_fault ls line fault stands (inr old) =
-    absurd (let e : feeds.Open ≡ feeds.Faulty fault.line (cause_of_fault fault.cause) = sym stands ∙ old.faulty in cc)
 
 -- ---- what is listed
 
@@ -185,13 +173,6 @@ finished t n J = finishing J (with_early J.rules.finishes (finish_at J t n))
 
 -- ---- what a line adds
 
--- in versions One and Two each job finds room
-pub room_former : (a b : Account) (number : ℕ) (job : JobFacts) (it : AddsJob number job a b)
-    → may_finish_early it.session.rules.version ≡ false → is_full (instance_of it.session) job.release ≡ false
-room_former a b number job it former = few_ready (instance_of it.session) job.release
-    (few_former it.session.rules.version (length (admitted_jobs it.session.items)) former
-    (not_refused it.session.rules (admitted_jobs it.session.items) job it.admitted).count)
-
 -- a job that finds room is handed in
 pub job_after : (a b : Account) (number : ℕ) (job : JobFacts) (it : AddsJob number job a b)
     → is_full (instance_of it.session) job.release ≡ false
@@ -260,12 +241,6 @@ module _ (a b : Account) (declared : Option (Fraction × Version)) (jobs : List 
   tick_listed tick it = same_listed it.session it.session it.before_is
       (ap (λ (x : Account). x.session) it.after_is ∙ it.before_is) refl
       (omega (arith, it.no_fall, ap (λ (x : Account). x.mark) it.after_is))
-
-  -- the end line
-  pub end_listed : EndsFeed (counted a) b → ListsIn declared jobs dones b
-  end_listed it = same_listed it.session it.session it.before_is
-      (ap (λ (x : Account). x.session) it.after_is ∙ it.before_is) refl
-      (omega (arith, ap (λ (x : Account). x.mark) it.after_is))
 
   -- a refused line
   pub refused_listed : (job : JobFacts) (refusal : Refusal) → AddsRefused job refusal (counted a) b

@@ -44,25 +44,6 @@ pub still_kept : (o : Option Kept) (e : Event) → is_some (option_map (with_ste
 still_kept None e = refl
 still_kept (Some k) e = refl
 
--- the same rolls were kept from the same steps
-pub same_read : (to : Horizon) (o p : Option Kept) (events : List Event)
-    → option_map (λ (k : Kept). k.roll) p ≡ option_map (λ (k : Kept). k.roll) o → HasRead to o events
-    → HasRead to p events
-same_read End o p events same read = tt
-same_read (Mark t) o None events same read = tt
-same_read (Mark t) None (Some k) events same read = absurd (let no : Some k.roll ≡ None = same in cc)
-same_read (Mark t) (Some j) (Some k) events same read = some_roll j.roll k.roll same ∙ read where
-  some_roll : (p q : Roll) → Some q ≡ Some p → q ≡ p
-  some_roll p q is = cc
-
--- nor does one come or go
-pub same_kept : (o p : Option Kept) → option_map (λ (k : Kept). k.roll) p ≡ option_map (λ (k : Kept). k.roll) o
-    → is_some p ≡ is_some o
-same_kept None None same = refl
-same_kept (Some j) (Some k) same = refl
-same_kept None (Some k) same = absurd (let no : Some k.roll ≡ None = same in cc)
-same_kept (Some j) None same = absurd (let no : None ≡ Some j.roll = same in cc)
-
 -- what was read up to a mark
 marked : (from : Horizon) (t : ℕ) (o : Option Kept) (events : List Event) → MayFollow from (Mark t)
     → HasRead from o events → IsRollOf events o
