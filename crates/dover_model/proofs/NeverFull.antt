@@ -16,7 +16,8 @@ use Rattle.dover_model.proofs.Tests.{never}
 
 module _ (rules : Declaration) where
   -- what follows behind the first item
-  tail_follows : (before : List Item) (mark : ℕ) (i : Item) (items : List Item) → FollowsItems rules before mark (i ∷ items)
+  tail_follows : (before : List Item) (mark : ℕ) (i : Item) (items : List Item)
+      → FollowsItems rules before mark (i ∷ items)
       → (m : ℕ) × FollowsItems rules (before ++ i ∷ []) m items
   tail_follows before mark (JobItem j) items follows = (_, follows.1)
   tail_follows before mark (RefusedItem r) items follows = (_, follows.1)

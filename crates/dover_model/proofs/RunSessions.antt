@@ -111,7 +111,8 @@ module _ (J : Instance) (valid : IsValid J) where
         (path_more front (opening J.jobs) s path on) rest)) never where
           -- no job finds it full, with this item
           NoneFull : Option Item → Type 0
-          NoneFull o = IsNeverFull (session_with (declared_by J.rules) (items_of front ++ cons_option o (items_of back)))
+          NoneFull o =
+              IsNeverFull (session_with (declared_by J.rules) (items_of front ++ cons_option o (items_of back)))
 
           keeps_s : Keeps J s
           keeps_s = (path_of J valid front (opening J.jobs) s (opening_keeps J) path).1

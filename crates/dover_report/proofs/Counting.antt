@@ -38,7 +38,8 @@ use Rattle.intervals.specs.declared.interval.Interval.{Interval}
 use Rattle.dover_report.specs.Counts.{job_released, jobs_released, is_release, is_completion, is_abandonment}
 use Rattle.dover_report.specs.Counts.{value_in, value_lost, value_released, all_lost}
 use Rattle.dover_report.specs.Counts.{counts_of, fates_lines, bound_line, counts_lines}
-use Rattle.dover_report.specs.Early.{left_in, left_at, early_of, with_left, HasRoom, early_line, lines_where, early_lines}
+use Rattle.dover_report.specs.Early.{left_in, left_at, early_of, with_left, HasRoom, early_line, lines_where}
+use Rattle.dover_report.specs.Early.{early_lines}
 use Rattle.dover_report.specs.declared.early.Early.{Early}
 use Rattle.dover_report.proofs.Texts.{five_parts}
 use Rattle.dover_report.specs.Tallies.{tally_of, with_tally, HasSpace}

@@ -10,4 +10,5 @@ use Rattle.dover_report.specs.declared.report.Findings.{Findings}
 abbrev pub told : Findings → List ℕ
 told f =
     (((in_lines (with_numbers (codes "ratio") (f.k.p ∷ f.k.q ∷ []) ∷ []) ++ in_lines (fates_lines f.counts))
-    ++ in_lines (lines_where f.early f.it)) ++ in_lines (bound_line f.counts ∷ [])) ++ in_lines (row_lines f.charge.rows)
+    ++ in_lines (lines_where f.early f.it)) ++ in_lines (bound_line f.counts ∷ []))
+    ++ in_lines (row_lines f.charge.rows)

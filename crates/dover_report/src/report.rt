@@ -14,7 +14,8 @@ use dover_model::{Memory, PackedEvent, Ratio, Version};
 use intervals::{Charge, Interval};
 use std::alloc::Global;
 
-/// What the report on a run says: its ratio, its summary, where jobs may finish early those that did, and its intervals.
+/// What the report on a run says: its ratio, its summary, where jobs may finish early those that did, and its
+/// intervals.
 #[derive(Drop)]
 pub struct Findings {
     k: Ratio,

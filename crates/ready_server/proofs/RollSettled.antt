@@ -58,7 +58,8 @@ all_listed f n (t ∷ tasks) (e ∷ jobs) numbered there few =
     ap (λ u. u ∷ map f jobs) (ap f same ∙ it.2)
     ∙ ap (λ ts. t ∷ ts) (all_listed f (suc n) tasks jobs numbered.1 (λ u m. later u m (there u (inr m)))
     (omega (arith, few))) where
-      later : (u : Task) → IsMember u tasks → (x : ListedJob) × (slice_get (e ∷ jobs) (u.number - n) ≡ Some x) × (f x ≡ u)
+      later : (u : Task) → IsMember u tasks
+          → (x : ListedJob) × (slice_get (e ∷ jobs) (u.number - n) ≡ Some x) × (f x ≡ u)
           → (x : ListedJob) × (slice_get jobs (u.number - suc n) ≡ Some x) × (f x ≡ u)
       later u m (x, at, is) =
           let low : suc n ≤ u.number = numbers_above (suc n) tasks numbered.1 u m in

@@ -215,9 +215,9 @@ const EARLY: &str = "k 1 1 3\njob 0 2 2 2\njob 0 2 3 2\njob 0 3 5 3\ndone 1 0\ne
 /// A feed in which a job is given up before another finishes early.
 const LATE: &str = "k 1 1 3\njob 0 10 10 10\njob 0 6 7 6\ndone 2 0\nend\n";
 
-/// Words with feeds of version Three: reports, many in one input, snapshots, and answers on the jobs as they are declared and
-/// as the run observed them. In the third feed of `best` the run completes more than a schedule of the declared jobs;
-/// in that of `LATE` it gives up a job although all observed ones can be served.
+/// Words with feeds of version Three: reports, many in one input, snapshots, and answers on the jobs as they are
+/// declared and as the run observed them. In the third feed of `best` the run completes more than a schedule of the
+/// declared jobs; in that of `LATE` it gives up a job although all observed ones can be served.
 const CALLS: [Row; 22] = [
     // what is left of a job that finishes early, and what the jobs have had
     (

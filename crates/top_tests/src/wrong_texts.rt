@@ -87,7 +87,8 @@ pub const JOBS: [(&str, &str); 12] = [
 
 /// Takes and abandonments changed, doubled, in one another's place.
 pub const STARTS: [(&str, &str); 8] = [
-    // of another tick or number, too early, doubled, in one another's place; in version Two the greater value comes first
+    // of another tick or number, too early, doubled, in one another's place; in version Two the greater value comes
+    // first
     (
         "dover 1 1 1\njob 0 0 3 30 3\nrun 0 0\njob 1 0 2 4 2\npreempt 0 0 1\njob 2 0 12 12 12\ntake 0 0 2\nabandon 2 1\n\
          complete 12 2\nrun 12 0\ncomplete 15 0\nend 15\n",

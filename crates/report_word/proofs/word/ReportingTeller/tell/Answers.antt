@@ -49,7 +49,8 @@ returns-in-Err-put_size-clause-answers g c = λ text ended closed.
     let are = c.deref.ensures.value ∙ closed.steps in
     unrefused_size _ _ _ _ _ text tells c.args.self.form ended _ _ _ c.requires.empty
     (λ listable. never (sym c.if-is_small.false ∙ (c.is_small.ensures (instance_of tells.0) tells.7.valid.jobs
-    (prints _ _ _ _ _ text tells _ are) (sym tells.3)).1 listable)) c.in-Err-put_size.stop c.in-Err-put_size.ensures.puts
+    (prints _ _ _ _ _ text tells _ are) (sym tells.3)).1 listable)) c.in-Err-put_size.stop
+    c.in-Err-put_size.ensures.puts
 
 pub put_verdict-requires : goal.put_verdict-requires
 put_verdict-requires g c = (c.requires.closed.0, c.requires.closed.1.tells)

@@ -3,4 +3,5 @@ use Rattle.room_ledger.specs.Pages.{IsReadable}
 use Rattle.room_ledger.proofs.under_way.UnderWay.read.Goals as goal
 
 pub preempt-requires-clause-hold : goal.preempt-requires-clause-hold
-preempt-requires-clause-hold c = (subst (IsReadable c.args.self.now) (sym c.event.ensures ∙ c.in-Preempt.is) c.requires).1
+preempt-requires-clause-hold c =
+    (subst (IsReadable c.args.self.now) (sym c.event.ensures ∙ c.in-Preempt.is) c.requires).1
