@@ -5,6 +5,7 @@
 pub enum AtEnd {
     /// It is refused as short.
     Refuse,
-    /// It is paused, if its ratio was declared and no line has begun, and else refused as short.
+    /// It is paused, if its ratio was declared and no line has begun, or refused for its size, if it has more jobs than
+    /// a snapshot lists; and else it is refused as short.
     Pause,
 }

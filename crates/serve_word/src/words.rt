@@ -28,7 +28,7 @@ pub fn serve_word<P: Port, L: Ledger>(alloc: Global, port: &mut P, steps: &mut S
 }
 
 /// Serves a feed, as `serve_word` does, but for the end of an input behind whole lines: there the feed's snapshot is
-/// put behind what is due.
+/// put behind what is due, or, where the feed has more than 1,000,000 jobs, that it is refused for its size.
 pub fn pause_word<P: Port, L: Ledger>(alloc: Global, port: &mut P, steps: &mut Steps<L>) -> Status
     ensures talks { Since (P.moves port.old) (P.moves port.new) (Talks (feed_talk Pause) result) }
     ensures count { Since (P.moves port.old) (P.moves port.new) (IsFrugal steps.old steps.new) }
