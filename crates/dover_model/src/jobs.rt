@@ -53,12 +53,21 @@ impl Job {
         if deadline < work || deadline - work < release {
             return None;
         }
-        Some(Job {
+        Some(Job::of(release, work, deadline, value))
+    }
+
+    /// The job of these numbers, which keep the limits of one job.
+    #[inline(always)]
+    pub fn of(release: u64, work: u64, deadline: u64, value: u64) -> Job
+        requires { IsJob (record { release = release; work = work; deadline = deadline; value = value }) }
+        ensures { result ≡ record { release = release; work = work; deadline = deadline; value = value } }
+    {
+        Job {
             release,
             work,
             deadline,
             value,
-        })
+        }
     }
 
     /// The tick from which it may run, and at which it becomes known: at most 10^12.

@@ -6,7 +6,7 @@ pub mod events;
 pub mod horizon;
 pub mod jobs;
 mod kind;
-mod packed;
+pub mod packed;
 pub mod pieces;
 pub mod ratios;
 pub mod rest_laws;

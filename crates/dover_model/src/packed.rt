@@ -47,7 +47,7 @@ impl Model for PackedEvent {
 
 /// The low part of a number.
 #[inline(always)]
-fn low_of(number: u64) -> u32
+pub fn low_of(number: u64) -> u32
     ensures { result ≡ low_of number }
 {
     (number % HIGH) as u32
@@ -55,7 +55,7 @@ fn low_of(number: u64) -> u32
 
 /// The high part of a number.
 #[inline(always)]
-fn high_of(number: u64) -> u32
+pub fn high_of(number: u64) -> u32
     ensures { result ≡ high_of number }
 {
     (number / HIGH) as u32
@@ -63,7 +63,7 @@ fn high_of(number: u64) -> u32
 
 /// The number of these parts.
 #[inline(always)]
-fn joined(low: u32, high: u32) -> u64
+pub fn joined(low: u32, high: u32) -> u64
     ensures { result ≡ joined low high }
 {
     u64::from(low) + u64::from(high) * HIGH
@@ -135,7 +135,7 @@ impl PackedEvent {
                 let release = joined(self.first, u32::from(self.release));
                 let work = joined(self.second, u32::from(self.work));
                 let deadline = joined(self.third, u32::from(self.deadline));
-                let job = Job::new(release, work, deadline, u64::from(self.value)).unwrap();
+                let job = Job::of(release, work, deadline, u64::from(self.value));
                 Event::Release { number, job }
             }
             Kind::Run => Event::Run { at, number },

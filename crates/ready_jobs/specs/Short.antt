@@ -1,6 +1,7 @@
 -- A job at a moment, as it is kept in little room.
-use Rattle.std.specs.Prelude.{ℕ, ◌+◌, ◌*◌, ◌^◌, ◌-◌}
+use Rattle.std.specs.Prelude.{ℕ, ◌^◌, ◌-◌}
 use Rattle.dover_model.specs.JobFacts.{JobFacts, IsJob}
+use Rattle.dover_model.specs.Packing.{job_of}
 use Rattle.dover_model.specs.declared.events.Task.{Task}
 use Rattle.ready_jobs.specs.declared.short.ShortTask.TheInside.{Inside}
 
@@ -8,18 +9,9 @@ use Rattle.ready_jobs.specs.declared.short.ShortTask.TheInside.{Inside}
 abbrev pub no_number : ℕ
 no_number = 2 ^ 32 - 1
 
--- the tick of these low 32 binary digits, and of those above them
-abbrev pub tick_of : (low high : ℕ) → ℕ
-tick_of low high = low + high * 2 ^ 32
-
 -- what the fields stand for
 abbrev pub job_in : Inside → JobFacts
-job_in s = record {
-  release = tick_of s.release s.release_high;
-  work = tick_of s.work s.work_high;
-  deadline = tick_of s.deadline s.deadline_high;
-  value = s.value;
-}
+job_in s = job_of s.release s.work s.deadline s.release_high s.work_high s.deadline_high s.value
 
 abbrev pub task_in : Inside → Task
 task_in s = record { number = s.number; job = job_in s; role = s.role; had = s.had }

@@ -1,9 +1,11 @@
 //! A job at a moment, in little room.
-ghost use Rattle.std.specs.Prelude.{◌≡◌, ◌≤◌, ◌/◌, ◌%◌, ◌^◌};
-ghost use Rattle.dover_model.specs.Limits.{last_tick, most_value};
+ghost use Rattle.std.specs.Prelude.{◌≡◌, ◌≤◌};
+ghost use Rattle.dover_model.specs.Limits.{most_value};
 ghost use Rattle.dover_model.specs.State.{left};
-ghost use Rattle.ready_jobs.specs.Short.{no_number, tick_of};
+ghost use Rattle.dover_model.specs.declared.events.Task.{Task};
+ghost use Rattle.ready_jobs.specs.Short.{no_number, task_in, IsShort};
 
+use dover_model::packed::{high_of, joined, low_of};
 use dover_model::{Job, Role, Task};
 use std::marker::Model;
 use std::mem::size_of;
@@ -11,10 +13,7 @@ use std::mem::size_of;
 /// The number of no job.
 pub(crate) const NO_NUMBER: u32 = u32::MAX;
 
-// A tick is below 2^40. Its low 32 binary digits are kept apart from those above them.
-const HIGH: u64 = 1 << 32;
-
-/// A job at a moment, in 32 bytes.
+/// A job at a moment, in 32 bytes. Its ticks are below 2^40, so that each is kept as its low 32 digits and the others.
 #[derive(Drop)]
 pub struct ShortTask {
     had: u64,
@@ -29,44 +28,15 @@ pub struct ShortTask {
     role: Role,
 }
 
-const _: () = prove!(size_of::<ShortTask>() == 32);
-
 impl Model for ShortTask {
-    ghost use Rattle.dover_model.specs.declared.events.Task.{Task};
-
     ghost Value = { Task };
-
-    ghost use Rattle.ready_jobs.specs.Short.{task_in, IsShort};
 
     ghost view = { task_in };
 
     ghost invariant = { IsShort };
 }
 
-// The low binary digits of a tick.
-#[inline(always)]
-fn low(tick: u64) -> u32
-    ensures { result ≡ tick % 2 ^ 32 }
-{
-    (tick % HIGH) as u32
-}
-
-// The binary digits of a tick above its low ones.
-#[inline(always)]
-fn high(tick: u64) -> u8
-    requires { tick ≤ last_tick }
-    ensures { result ≡ tick / 2 ^ 32 }
-{
-    (tick / HIGH) as u8
-}
-
-// The tick of these binary digits.
-#[inline(always)]
-fn tick(low: u32, high: u8) -> u64
-    ensures { result ≡ tick_of low high }
-{
-    low as u64 + high as u64 * HIGH
-}
+const _: () = prove!(size_of::<ShortTask>() == 32);
 
 impl ShortTask {
     /// What stands for no job.
@@ -93,16 +63,17 @@ impl ShortTask {
     pub fn of(t: &Task) -> ShortTask
         ensures { result ≡ t.now }
     {
+        let (release, work, deadline) = (t.job.release(), t.job.work(), t.job.deadline());
         ShortTask {
             had: t.had,
             number: t.number,
             value: t.job.value() as u32,
-            release: low(t.job.release()),
-            work: low(t.job.work()),
-            deadline: low(t.job.deadline()),
-            release_high: high(t.job.release()),
-            work_high: high(t.job.work()),
-            deadline_high: high(t.job.deadline()),
+            release: low_of(release),
+            work: low_of(work),
+            deadline: low_of(deadline),
+            release_high: high_of(release) as u8,
+            work_high: high_of(work) as u8,
+            deadline_high: high_of(deadline) as u8,
             role: t.role,
         }
     }
@@ -129,15 +100,40 @@ impl ShortTask {
     pub(crate) fn deadline(&self) -> u64
         ensures { result ≡ self.now.job.deadline }
     {
-        tick(self.deadline, self.deadline_high)
+        joined(self.deadline, u32::from(self.deadline_high))
+    }
+
+    /// Its work.
+    #[inline(always)]
+    pub fn work(&self) -> u64
+        ensures { result ≡ self.now.job.work }
+    {
+        joined(self.work, u32::from(self.work_high))
+    }
+
+    /// What it is.
+    #[inline(always)]
+    pub fn role(&self) -> Role
+        ensures { result ≡ self.now.role }
+    {
+        self.role
     }
 
     /// The ticks that it is still to have.
     #[inline(always)]
-    pub(crate) fn left(&self) -> u64
+    pub fn left(&self) -> u64
         ensures { result ≡ left self.now }
     {
-        tick(self.work, self.work_high).saturating_sub(self.had)
+        self.work().saturating_sub(self.had)
+    }
+
+    /// It stops in this role, where it has had so many ticks.
+    #[inline(always)]
+    pub fn stop(&mut self, role: Role, had: u64)
+        ensures { self.new ≡ record { number = self.old.number; job = self.old.job; role = role; had = had } }
+    {
+        self.role = role;
+        self.had = had;
     }
 
     /// The job.
@@ -145,15 +141,12 @@ impl ShortTask {
     pub fn task(&self) -> Task
         ensures { result ≡ self.now }
     {
-        let job = Job::new(
-            tick(self.release, self.release_high),
-            tick(self.work, self.work_high),
-            tick(self.deadline, self.deadline_high),
-            self.value as u64,
-        );
+        let release = joined(self.release, u32::from(self.release_high));
+        let work = joined(self.work, u32::from(self.work_high));
+        let deadline = joined(self.deadline, u32::from(self.deadline_high));
         Task {
             number: self.number,
-            job: job.unwrap(),
+            job: Job::of(release, work, deadline, self.value as u64),
             role: self.role,
             had: self.had,
         }
