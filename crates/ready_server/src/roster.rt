@@ -32,11 +32,11 @@ impl Model for ListedJob {
 }
 
 /// The ticks that a job has had with so many more, at most its work.
-fn had_with(ticks: u64, task: &Task) -> u64
+fn had_with(ticks: u64, task: &ShortTask) -> u64
     ensures { result ≡ model.had_with ticks task.now }
 {
-    let work = task.job.work();
-    work.saturating_sub(work.saturating_sub(task.had).saturating_sub(ticks))
+    task.work()
+        .saturating_sub(task.left().saturating_sub(ticks))
 }
 
 impl ListedJob {
@@ -55,20 +55,13 @@ impl ListedJob {
         }
     }
 
-    /// A job that stops after so many ticks more in this role, where there were so many takes.
-    fn stopped(&self, ticks: u64, role: Role, takes: u64) -> ListedJob
-        ensures { result ≡ model.stopped ticks role takes self.now }
+    /// It stops after so many ticks more in this role, where there were so many takes.
+    fn stop(&mut self, ticks: u64, role: Role, takes: u64)
+        ensures { self.new ≡ model.stopped ticks role takes self.old }
     {
-        let task = self.task.task();
-        ListedJob {
-            task: ShortTask::of(&Task {
-                number: task.number,
-                job: task.job,
-                role,
-                had: had_with(ticks, &task),
-            }),
-            takes,
-        }
+        let had = had_with(ticks, &self.task);
+        self.task.stop(role, had);
+        self.takes = takes;
     }
 
     /// Whether a take since it stopped displaces it.
@@ -169,11 +162,10 @@ impl Roster {
         ensures roll { self.new.roll ≡ model.with_stop self.old.roll number ticks role }
         ensures room { self.new.room ≡ self.old.room }
     {
-        let Some(job) = self.jobs.get(number as usize) else {
-            return;
-        };
-        let stopped = job.stopped(ticks, role, self.takes);
-        self.jobs[number as usize] = stopped;
+        let takes = self.takes;
+        if let Some(job) = self.jobs.get_mut(number as usize) {
+            job.stop(ticks, role, takes);
+        }
     }
 
     /// The job that runs stops in this role.
@@ -216,7 +208,7 @@ impl Roster {
                 number: task.number,
                 job: task.job,
                 role: Role::Running,
-                had: had_with(clock.saturating_sub(self.since), &task),
+                had: had_with(clock.saturating_sub(self.since), &listed.task),
             });
         }
         let displaced = listed.is_displaced(task.role, self.takes);
