@@ -1,5 +1,5 @@
 //! Bytes on their way out.
-ghost use Rattle.std.specs.Prelude.{◌≡◌, ◌≤◌, ◌+◌, ◌↔◌, ◌++◌, [], length, OnOk, OnErr, IsTrue};
+ghost use Rattle.std.specs.Prelude.{◌≡◌, ◌≤◌, ◌+◌, ◌↔◌, ◌++◌, ℕ, List, [], length, take, OnOk, OnErr, IsTrue};
 ghost use Rattle.dover_port.specs.Causes.{HasCause, StopsAtFailure};
 ghost use Rattle.dover_port.specs.Moves.{PutsThrough};
 
@@ -19,8 +19,6 @@ pub struct Output {
 }
 
 impl Model for Output {
-    ghost use Rattle.std.specs.Prelude.{ℕ, List, take, ◌≤◌};
-
     ghost Value = { List ℕ };
 
     ghost view = { λ o. take o.used o.bytes };

@@ -11,19 +11,12 @@ use line_text::{BadLine, LINE_BYTES, behind_word, numbers_in};
 fn ratio_line(numbers: &[u64]) -> Option<FeedLine>
     ensures { option_map form_of result ≡ model.ratio_line numbers.now }
 {
-    match numbers {
-        [p, q] => Some(FeedLine::Declared {
-            p: *p,
-            q: *q,
-            version: None,
-        }),
-        [p, q, version] => Some(FeedLine::Declared {
-            p: *p,
-            q: *q,
-            version: Some(*version),
-        }),
-        _ => None,
-    }
+    let (p, q, version) = match numbers {
+        [p, q] => (*p, *q, None),
+        [p, q, version] => (*p, *q, Some(*version)),
+        _ => return None,
+    };
+    Some(FeedLine::Declared { p, q, version })
 }
 
 fn job_line(numbers: &[u64]) -> Option<FeedLine>

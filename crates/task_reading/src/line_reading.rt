@@ -9,19 +9,12 @@ use periodic_tasks::PeriodicTask;
 fn ratio_line(numbers: &[u64]) -> Option<TaskLine>
     ensures { result ≡ model.ratio_line numbers.now }
 {
-    match numbers {
-        [p, q] => Some(TaskLine::Declared {
-            p: *p,
-            q: *q,
-            version: None,
-        }),
-        [p, q, version] => Some(TaskLine::Declared {
-            p: *p,
-            q: *q,
-            version: Some(*version),
-        }),
-        _ => None,
-    }
+    let (p, q, version) = match numbers {
+        [p, q] => (*p, *q, None),
+        [p, q, version] => (*p, *q, Some(*version)),
+        _ => return None,
+    };
+    Some(TaskLine::Declared { p, q, version })
 }
 
 fn task_line(numbers: &[u64]) -> Option<TaskLine>
