@@ -1,4 +1,4 @@
-//! Tests of the server and of what it stands on: `root_compare`, `held_queue`, `place_heap` and `ready_server`.
+//! Tests of what the server stands on: `root_compare`, `held_queue` and `place_heap`.
 #![tactic(auto)]
 
 #[cfg(test)]
@@ -7,7 +7,3 @@ mod held_jobs;
 mod items_at_places;
 #[cfg(test)]
 mod roots;
-#[cfg(test)]
-mod scanned_runs;
-#[cfg(test)]
-mod served_runs;
