@@ -49,6 +49,7 @@ fn line_of_step(step: Option<Event>) -> Option<TraceLine>
 }
 
 /// The number that the first field left spells, and what is left behind it.
+#[inline(always)]
 fn next_number(fields: Option<&[u8]>) -> Option<(u64, Option<&[u8]>)>
     ensures { option_map (λ f. (f.0, fields_left f.1)) result ≡ number_of_first (fields_left fields.entry) }
 {
@@ -77,6 +78,7 @@ fn refusal_of_word(word: &[u8]) -> Option<Refusal>
 }
 
 /// The refusal that the one field left is the word of.
+#[inline(always)]
 fn last_word(fields: Option<&[u8]>) -> Option<Refusal>
     ensures { result ≡ model.last_word (fields_left fields.entry) }
 {
