@@ -36,6 +36,7 @@ pub struct LaneInput {
 }
 
 /// Hands a line to the lanes, and says why the input is then refused if no more of it comes.
+#[inline(always)]
 fn hand(lanes: &mut Lanes, line: &[u8]) -> Result<Option<InputRefusal>, Memory>
     requires { (ls : List (List ℕ)) × kept.StandsFor lanes.old ls [] × kept.IsReady lanes.old }
     ensures hands { (ls : List (List ℕ)) → kept.StandsFor lanes.old ls []
@@ -52,6 +53,7 @@ fn hand(lanes: &mut Lanes, line: &[u8]) -> Result<Option<InputRefusal>, Memory>
     }
 }
 
+#[inline(always)]
 fn is_short(refusal: Option<InputRefusal>) -> bool
     ensures { (lines : ℕ) → result ≡ goes_on_at (standing_of lines refusal) }
 {
@@ -87,6 +89,7 @@ impl LaneInput {
     }
 
     /// Takes a byte, and says why the input is then refused if no more of it comes.
+    #[inline(never)]
     fn take_byte(&mut self, byte: u8) -> Result<Option<InputRefusal>, Memory>
         requires { (x : List ℕ) × Rests self.old x × (goes_on (input x) ≡ true) }
         ensures adds { (x : List ℕ) → Rests self.old x → goes_on (input x) ≡ true
@@ -102,6 +105,7 @@ impl LaneInput {
     }
 
     /// Takes a byte or a whole line, and says why the input is then refused if no more of it comes.
+    #[inline(always)]
     fn take_front(&mut self, bytes: &[u8]) -> Result<Option<InputRefusal>, Memory>
         requires some { 0 < length bytes.now }
         requires whole { 1 < length bytes.now → IsWholeLine self.old.lines bytes.now }
@@ -123,6 +127,7 @@ impl LaneInput {
     /// # Errors
     ///
     /// `Memory` where there is none for a lane's server or for its job; then the input is no longer of use.
+    #[inline(always)]
     pub fn take(&mut self, piece: &[u8]) -> Result<usize, Memory>
         requires some { 0 < length piece.now }
         requires rests { (x : List ℕ) × Rests self.old x × (goes_on (input x) ≡ true) }
@@ -143,6 +148,7 @@ impl LaneInput {
 
     /// The next line due, and the lane that it is of. None where all that is due was given. The short lines that
     /// `close` adds aren't among them: the lanes give those at the end.
+    #[inline(always)]
     pub fn next_out<L: Ledger>(&mut self, steps: &mut Steps<L>) -> Option<(u8, LaneOut)>
         requires { (x : List ℕ) × (left : List (List ℕ)) × Stands self.old x left }
         ensures gives { (x : List ℕ) (left : List (List ℕ)) → Stands self.old x left

@@ -126,6 +126,7 @@ impl Lanes {
         })
     }
 
+    #[inline(always)]
     fn feed(&mut self, lane: u8, line: &[u8]) -> Result<LaneStep, LaneFault>
         requires ready { IsReady self.old }
         requires stands { (ls : List (List ℕ)) × StandsFor self.old ls [] }
@@ -166,6 +167,7 @@ impl Lanes {
     /// # Errors
     ///
     /// `Lines`, `BadLane` and `Memory`, as they say. After the first two the lanes are as before.
+    #[inline(always)]
     pub fn line(&mut self, line: &[u8]) -> Result<LaneStep, LaneFault>
         requires ready { IsReady self.old }
         requires stands { (ls : List (List ℕ)) × StandsFor self.old ls [] }
@@ -184,6 +186,7 @@ impl Lanes {
         }
     }
 
+    #[inline(always)]
     fn give<L: Ledger>(&mut self, lane: u8, steps: &mut Steps<L>) -> Option<(u8, LaneOut)>
         requires phase { self.old.phase ≡ Giving lane }
         requires stands { (ls : List (List ℕ)) × (rest : List (List ℕ))
@@ -204,6 +207,7 @@ impl Lanes {
         }
     }
 
+    #[inline(never)]
     fn give_short(&mut self, from: u8) -> Option<(u8, LaneOut)>
         requires phase { self.old.phase ≡ Closing from }
         requires stands { (ls : List (List ℕ)) × (rest : List (List ℕ))
@@ -228,6 +232,7 @@ impl Lanes {
     }
 
     /// The next line due, and the lane that it is of. Behind `close` no jobs are compared.
+    #[inline(always)]
     pub fn next_out<L: Ledger>(&mut self, steps: &mut Steps<L>) -> Option<(u8, LaneOut)>
         requires stands { (ls : List (List ℕ)) × (rest : List (List ℕ))
             × StandsFor self.old ls rest }
