@@ -82,11 +82,13 @@ impl<L: Ledger> Talker for Hosting<L> {
         LaneInput::laws();
     }
 
+    #[inline(always)]
     fn take(&mut self, _meter: &mut Steps<L>, piece: &[u8]) -> Result<usize, Memory> {
         LaneInput::laws();
         self.input.take(piece)
     }
 
+    #[inline(always)]
     fn next_part(&mut self, meter: &mut Steps<L>, part: &mut BackLine) -> bool {
         match self.input.next_out(meter) {
             Some((lane, out)) => {

@@ -12,6 +12,7 @@ use line_output::{put_line, write_out};
 use line_text::{BackLine, LineBuf};
 
 /// Writes the line that is due for a lane, with the lane's number in front, in place of what `line` had.
+#[inline(always)]
 pub(crate) fn write_in_lane(lane: u8, out: LaneOut, line: &mut BackLine)
     requires { HasNumerals out }
     ensures { line.new ≡ in_lane lane (out_text out) ++ 10 ∷ [] }
