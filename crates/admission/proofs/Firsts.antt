@@ -13,6 +13,7 @@ use Rattle.admission.specs.declared.extremes.Numbered.{Numbered}
 use Rattle.admission.specs.declared.extremes.Extremes.{Extremes}
 use Rattle.admission.specs.Kept.{IsLessDense, IsFirstBy, IsLeastDense, IsDensest, AreExtremes}
 use Rattle.admission.proofs.Comparing.{not_both, no_less, chained}
+use Rattle.dover_model.proofs.JobLimits.{job_limits}
 
 -- ---- lists
 
@@ -96,7 +97,8 @@ module _ (k : Fraction) (jobs : List JobFacts) (e : Extremes) (it : AreExtremes 
         → IsLeastDense (jobs ++ y.job ∷ []) x
     by_order (inl less) = subst (IsLeastDense (jobs ++ y.job ∷ [])) (sym (new less))
         (becomes_first IsLessDense not_both jobs e.least it.least y number it.each
-        (λ i i_job none. chained y.job.value y.job.work e.least.job.value e.least.job.work i.value i.work i_job.work
+        (λ i i_job none. chained y.job.value y.job.work e.least.job.value e.least.job.work i.value i.work
+        (job_limits i_job).work
         less
         (no_less i e.least.job none)))
     by_order (inr more) = let over : IsLessDense y.job e.least.job → ⊥ = λ less. absurd (omega arith) in
@@ -116,7 +118,8 @@ module _ (k : Fraction) (jobs : List JobFacts) (e : Extremes) (it : AreExtremes 
             (becomes_first IsDenser not_both_denser jobs e.densest it.densest y number it.each (λ i i_job none.
             let at_most : i.value * e.densest.job.work ≤ e.densest.job.value * i.work = no_less e.densest.job i none in
             let swapped : y.job.work * i.value < i.work * y.job.value =
-            chained y.job.work y.job.value e.densest.job.work e.densest.job.value i.work i.value i_job.worth
+            chained y.job.work y.job.value e.densest.job.work e.densest.job.value i.work i.value
+            (job_limits i_job).worth
             (omega arith)
             (omega arith) in
             omega arith))

@@ -9,17 +9,18 @@ use Rattle.dover_model.specs.Limits.{most_jobs, most_total}
 use Rattle.dover_model.specs.declared.events.Refusal.TheVariants.{BadJob, Count, Total, Ratio}
 use Rattle.dover_model.specs.JobFacts.{JobFacts, IsJob, is_job}
 use Rattle.dover_model.specs.Fraction.{Fraction}
-use Rattle.dover_model.specs.Instance.{IsWithinRatio, Declaration, total_value}
+use Rattle.dover_model.specs.Instance.{Declaration, total_value}
 use Rattle.dover_model.specs.Admission.{is_within_ratio_both_ways, first_cause, refusal_of}
 use Rattle.dover_model.proofs.Calculus.{cancel}
 use Rattle.dover_model.proofs.Tests.{both, each}
-use Rattle.dover_model.proofs.Agreement.{is_within_ratio-agrees, is_job-agrees}
 use Rattle.dover_model.proofs.Members.{all_both}
 use Rattle.admission.specs.declared.extremes.Extremes.{Extremes}
 use Rattle.admission.specs.Kept.{IsLessDense, IsBetween, AreExtremes}
 use Rattle.admission.specs.Answers.{AllKeepRatio, LeastDenseKeeps}
 use Rattle.admission.proofs.Comparing.{not_both, no_less, within_least, within_densest}
 use Rattle.admission.proofs.Firsts.{none_under, first_is, IsDenser, not_both_denser}
+use Rattle.dover_model.proofs.ValidParts.{IsWithinRatio, is_within_ratio-agrees}
+use Rattle.dover_model.proofs.JobLimits.{job_limits}
 
 -- the test says so of both ways
 both_ways : (k : Fraction) (i j : JobFacts) → (IsWithinRatio k i j × IsWithinRatio k j i)
@@ -49,9 +50,11 @@ all_keep k jobs e j it least densest =
       keeps : (i : JobFacts) → (IsLessDense i e.least.job → ⊥) → (IsDenser i e.densest.job → ⊥)
           → is_within_ratio_both_ways k i j ≡ true
       keeps i no_less_dense no_denser = both_ways k i j (
-        within_densest k.p k.q j.value j.work e.densest.job.value e.densest.job.work i.value i.work densest_job.work
+        within_densest k.p k.q j.value j.work e.densest.job.value e.densest.job.work i.value i.work
+            (job_limits densest_job).work
             (no_less e.densest.job i no_denser) (ways k e.densest.job j densest).0,
-        within_least k.p k.q j.value j.work e.least.job.value e.least.job.work i.value i.work least_job.work
+        within_least k.p k.q j.value j.work e.least.job.value e.least.job.work i.value i.work
+            (job_limits least_job).work
             (no_less i e.least.job no_less_dense) (ways k e.least.job j least).1,
       )
 
@@ -72,10 +75,10 @@ pub between_keep : (k : Fraction) (jobs : List JobFacts) (e : Extremes) (j : Job
 between_keep k jobs e j it kept between = all_keep k jobs e j it (both_ways k e.least.job j (
   within_more k.p k.q e.least.job.value e.least.job.work j.value j.work ratio above,
   within_densest k.p k.q e.least.job.value e.least.job.work e.densest.job.value e.densest.job.work j.value j.work
-      densest_job.work below within.1,
+      (job_limits densest_job).work below within.1,
 )) (both_ways k e.densest.job j (
   within_least k.p k.q e.densest.job.value e.densest.job.work e.least.job.value e.least.job.work j.value j.work
-      least_job.work above within.1,
+      (job_limits least_job).work above within.1,
   within_more k.p k.q j.value j.work e.densest.job.value e.densest.job.work ratio below,
 )) where
   least_job : IsJob e.least.job
@@ -99,16 +102,18 @@ between_keep k jobs e j it kept between = all_keep k jobs e j it (both_ways k e.
 
   ratio : k.q ≤ k.p
   ratio = at_least_one k.p k.q e.least.job.value e.least.job.work e.densest.job.value e.densest.job.work
-      densest_job.worth least_job.work order within.1
+      (job_limits densest_job).worth (job_limits least_job).work order within.1
 
 -- what one least dense job keeps, each keeps
 pub least_keep : (k : Fraction) (jobs : List JobFacts) (e : Extremes) (j : JobFacts) → AreExtremes k jobs e
     → is_within_ratio_both_ways k e.least.job j ≡ true → LeastDenseKeeps k jobs j
 least_keep k jobs e j it keeps x least = both_ways k x.job j (
-  within_densest k.p k.q j.value j.work e.least.job.value e.least.job.work x.job.value x.job.work least_job.work
+  within_densest k.p k.q j.value j.work e.least.job.value e.least.job.work x.job.value x.job.work
+      (job_limits least_job).work
       (no_less e.least.job x.job (first_is IsLessDense not_both jobs e.least it.least (λ i. IsLessDense i x.job → ⊥)
       (none_under IsLessDense not_both jobs x least))) (ways k e.least.job j keeps).0,
-  within_least k.p k.q j.value j.work e.least.job.value e.least.job.work x.job.value x.job.work least_job.work
+  within_least k.p k.q j.value j.work e.least.job.value e.least.job.work x.job.value x.job.work
+      (job_limits least_job).work
       (no_less x.job e.least.job (first_is IsLessDense not_both jobs x least (λ i. IsLessDense i e.least.job → ⊥)
       (none_under IsLessDense not_both jobs e.least it.least))) (ways k e.least.job j keeps).1,
 ) where
@@ -130,7 +135,7 @@ not_refused rules jobs j job count total all =
     let k : Fraction = rules.ratio in
     no_cause (is_job j) (nat_le (most_jobs rules.version) (length jobs))
     (nat_lt (most_total rules.version) (total_value jobs + j.value))
-    (list_all (λ i. is_within_ratio_both_ways k i j) jobs) ((is_job-agrees j).1 job) (lt-leb _ _ count)
+    (list_all (λ i. is_within_ratio_both_ways k i j) jobs) job.passes (lt-leb _ _ count)
     (le-ltb _ _ total)
     ((each (λ i. is_within_ratio_both_ways k i j) (λ i. is_within_ratio_both_ways k i j ≡ true)
     (λ i. (λ h. h, λ h. h)) jobs).1 all)

@@ -29,6 +29,8 @@ use Rattle.adversary.proofs.RunLinks.{last_small, last_more, links_most, links_h
 use Rattle.adversary.proofs.RunLinks.{links_one}
 use Rattle.adversary.proofs.RunFeeds.{unit_at, IsUnit, bait, feed_is, link_in_feed, feed_begins, feed_sum}
 use Rattle.adversary.proofs.Steady.{IsLast, IsChained, Stands, IsSteady, done_at_end, step_steady, value_of_steady}
+use Rattle.dover_model.proofs.ValidParts.{valid_parts}
+use Rattle.dover_model.proofs.JobLimits.{job_limits}
 
 module _ (k : Fraction) (version : Version) (n : ℕ) (valid : IsValid (baiting k version (suc n))) where
   -- the feed
@@ -37,7 +39,7 @@ module _ (k : Fraction) (version : Version) (n : ℕ) (valid : IsValid (baiting 
 
   -- the ratio is within its limits
   pub ratio : IsRatio k
-  ratio = valid.ratio
+  ratio = (valid_parts valid).ratio
 
   -- the first link is at least one
   some : 1 ≤ first_link k
@@ -73,8 +75,8 @@ module _ (k : Fraction) (version : Version) (n : ℕ) (valid : IsValid (baiting 
 
   -- the links are within the limits
   pub small : AreSmall (chain_jobs k (suc n))
-  small j link = (all_member IsJob (bait_jobs k (suc n)) valid.each j
-      (link_in_feed k (suc n) j link (within j link))).modest
+  small j link = (job_limits (all_member IsJob (bait_jobs k (suc n)) (valid_parts valid).each j
+      (link_in_feed k (suc n) j link (within j link)))).modest
 
   -- so is the last
   small_most : most ≤ 1_000_000_000

@@ -10,7 +10,6 @@ use Rattle.dover_model.specs.Greatest.{greatest}
 use Rattle.dover_model.specs.Orders.{is_heavy}
 use Rattle.dover_model.specs.Bait.{unit_value, most_light, first_link, chain_from, chain, last_link, bait_value}
 use Rattle.dover_model.specs.Bait.{bait_tick, plan_value}
-use Rattle.dover_model.proofs.Agreement.{is_heavy-agrees}
 use Rattle.dover_model.proofs.Calculus.{square_order, heavy_more}
 use Rattle.root_compare.proofs.Roots.{one_greatest}
 use Rattle.adversary.specs.Baiting.{FitsLimits}
@@ -19,6 +18,7 @@ use Rattle.adversary.proofs.Coming.{sum_least}
 use Rattle.adversary.proofs.Chains.{last_from}
 use Rattle.adversary.proofs.Feeds.{small}
 use Rattle.adversary.proofs.Validity.{last_link_within}
+use Rattle.dover_model.proofs.JobLimits.{ratio_limits}
 
 -- one more power
 double : (power more w next last : ℕ) → more ≡ 2 * power → next ≡ w + w + 1 → last + 1 ≡ power * (next + 1)
@@ -46,12 +46,12 @@ add power more w next m all rest twice is sums whole =
 
 module _ (k : Fraction) (ratio : IsRatio k) (one : k.p ≡ k.q) where
   unit_one : unit_value k ≡ 1
-  unit_one = ap (λ p. p / k.q) one ∙ div_self (omega (arith, ratio.least))
+  unit_one = ap (λ p. p / k.q) one ∙ div_self (omega (arith, (ratio_limits ratio).least))
 
   first_one : first_link k ≡ 1
   first_one = subst (λ v. suc (greatest (λ n. is_heavy k v n)) ≡ 1) (sym unit_one)
       (first_is k 1 1 ratio same modest same (heavy_zero k 1 ratio same)
-      (λ heavy. never (heavy_more k 1 1 ((is_heavy-agrees k 1 1).0 heavy))))
+      (λ heavy. never (heavy_more k 1 1 heavy)))
     where
       same : 1 ≤ 1
       same = omega arith
@@ -68,7 +68,7 @@ module _ (k : Fraction) (ratio : IsRatio k) (one : k.p ≡ k.q) where
       (λ r less. square_order r w (subst (λ n. r * r ≤ n) under less)))
     where
       under : k.p * (w * w) / k.q ≡ w * w
-      under = ap (λ p. p * (w * w) / k.q) one ∙ mul-div_cancel_left (w * w) (omega (arith, ratio.least))
+      under = ap (λ p. p * (w * w) / k.q) one ∙ mul-div_cancel_left (w * w) (omega (arith, (ratio_limits ratio).least))
 
   next_link : (w all rest : ℕ) → all ≡ w + rest → all < most_jobs Two → suc (most_light k w) ≡ w + w + 1
   next_link w all rest is few = level (most_light k w) (light_double w (omega (arith, is, few))) where

@@ -9,7 +9,7 @@ use Rattle.dover_model.specs.declared.events.Version.TheVariants.{Two}
 use Rattle.dover_model.specs.Limits.{most_jobs, most_value}
 use Rattle.dover_model.specs.Fraction.{Fraction, IsRatio}
 use Rattle.dover_model.specs.JobFacts.{JobFacts}
-use Rattle.dover_model.specs.Instance.{IsInOrder, total_value}
+use Rattle.dover_model.specs.Instance.{total_value}
 use Rattle.dover_model.specs.Sound.{IsMember}
 use Rattle.dover_model.proofs.Members.{all_member}
 use Rattle.dover_model.specs.Bait.{unit_value, first_link, most_light, chain_from, chain, bait_value, tight_job}
@@ -17,6 +17,8 @@ use Rattle.dover_model.specs.Bait.{chain_jobs, bait_tick, bait_jobs}
 use Rattle.adversary.specs.Baiting.{FitsLimits}
 use Rattle.adversary.proofs.Coming.{are_some, sum_least}
 use Rattle.adversary.proofs.Streaming.{Streams, gives_link, gives_unit, gives_bait, LeadsTo, plan_from, streams}
+use Rattle.dover_model.proofs.ValidParts.{ReleasesInOrder}
+use Rattle.dover_model.proofs.JobLimits.{ratio_limits}
 
 module _ (unit bait : ℕ) where
   -- how many jobs there are
@@ -82,7 +84,7 @@ module _ (unit bait : ℕ) where
   -- the jobs are in the order of their releases
   pub in_order : (n t ticks r : ℕ) (ws : List ℕ) (jobs : List JobFacts) (plan : List ℕ)
       → Streams unit bait n t ticks r ws jobs plan
-      → IsInOrder jobs
+      → ReleasesInOrder jobs
   in_order n t ticks r (w ∷ ws) (j ∷ jobs) plan (gives_link now some more) = (
     all_later r (suc n) t ticks (r + w - 1) ws jobs plan more (omega (arith, now)),
     in_order (suc n) t ticks (r + w - 1) ws jobs plan more,
@@ -195,12 +197,12 @@ module _ (k : Fraction) (rounds : ℕ) where
 
 -- a unit job is worth at most a million
 pub unit_low : (k : Fraction) → IsRatio k → unit_value k ≤ 1_000_000
-unit_low k ratio = omega (arith, div-le_self k.p k.q, ratio.small_p)
+unit_low k ratio = omega (arith, div-le_self k.p k.q, (ratio_limits ratio).small_p)
 
 -- and at least one
 pub unit_some : (k : Fraction) → IsRatio k → 1 ≤ unit_value k
-unit_some k ratio = (le-div_iff_mul-le {k = k.q} {x = 1} {y = k.p} (omega (arith, ratio.least))).1
-    (omega (arith, ratio.above_one))
+unit_some k ratio = (le-div_iff_mul-le {k = k.q} {x = 1} {y = k.p} (omega (arith, (ratio_limits ratio).least))).1
+    (omega (arith, (ratio_limits ratio).above_one))
 
 -- a small chain with a modest bait is within the limits
 pub fits : (k : Fraction) (rounds : ℕ) → IsRatio k → sum (chain k rounds) < most_jobs Two

@@ -11,10 +11,10 @@ use Rattle.dover_model.specs.Orders.{IsHeavy, is_heavy}
 use Rattle.dover_model.specs.Bait.{most_light}
 use Rattle.adversary.specs.Links.{IsLeastUnmoved, IsLeastHeavy, IsMostLight}
 use Rattle.dover_model.proofs.Tests.{never}
-use Rattle.dover_model.proofs.Agreement.{is_heavy-agrees}
-use Rattle.dover_model.proofs.Calculus.{heavy_mono, heavy_more, not_heavy, square_order}
+use Rattle.dover_model.proofs.Calculus.{heavy_mono, heavy_more, not_heavy, square_order, heavy_from, heavy_excess}
 use Rattle.dover_model.proofs.GreatestLaws.{IsDownwardClosed, greatest-is}
 use Rattle.root_compare.proofs.Roots.{one_greatest}
+use Rattle.dover_model.proofs.JobLimits.{ratio_limits}
 
 -- ---- tests that fail
 
@@ -42,7 +42,7 @@ heavy_up k v more w less heavy =
     mul-le (v - w) (v - w) (more - w) (more - w) (omega arith) (omega arith) in
     let times : k.q * ((v - w) * (v - w)) ≤ k.q * ((more - w) * (more - w)) =
     mul-le k.q ((v - w) * (v - w)) k.q ((more - w) * (more - w)) (omega arith) square in
-    join (v - w) (more - w) heavy times where
+    heavy_from k more w (join (v - w) (more - w) (heavy_excess k v w heavy) times) where
       join : (x y : ℕ) → k.p * w * w < k.q * x * x → k.q * (x * x) ≤ k.q * (y * y) → k.p * w * w < k.q * y * y
       join x y heavy times = omega arith
 
@@ -51,10 +51,10 @@ abbrev pub is_light : Fraction → ℕ → ℕ → Bool
 is_light k w v = not (is_heavy k v w)
 
 light_fact : (k : Fraction) (w v : ℕ) → IsTrue (is_light k w v) → IsHeavy k v w → ⊥
-light_fact k w v light heavy = no_contrary (is_heavy k v w) light ((is_heavy-agrees k v w).1 heavy)
+light_fact k w v light heavy = no_contrary (is_heavy k v w) light heavy
 
 light_test : (k : Fraction) (w v : ℕ) → (IsHeavy k v w → ⊥) → IsTrue (is_light k w v)
-light_test k w v light = contrary (is_heavy k v w) (λ h. light ((is_heavy-agrees k v w).0 h))
+light_test k w v light = contrary (is_heavy k v w) light
 
 light_closed : (k : Fraction) (w : ℕ) → IsDownwardClosed (is_light k w)
 light_closed k w m n less light = light_test k w m (λ heavy. light_fact k w n light (heavy_up k m n w less heavy))
@@ -63,13 +63,15 @@ light_closed k w m n less light = light_test k w m (λ heavy. light_fact k w n l
 far_heavy : (k : Fraction) (w : ℕ) → IsRatio k → w ≤ 1_000_000 → IsHeavy k (2 ^ 80) w
 far_heavy k w ratio small =
     let one : k.p * (w * w) ≤ 1_000_000 * (1_000_000 * 1_000_000) =
-    mul-le k.p (w * w) 1_000_000 (1_000_000 * 1_000_000) ratio.small_p (mul-le w w 1_000_000 1_000_000 small small) in
+    mul-le k.p (w * w) 1_000_000 (1_000_000 * 1_000_000) (ratio_limits ratio).small_p
+    (mul-le w w 1_000_000 1_000_000 small small) in
     let far : 1_000_000_000_000 ≤ 2 ^ 80 - w = omega arith in
     let square : 1_000_000_000_000 * 1_000_000_000_000 ≤ (2 ^ 80 - w) * (2 ^ 80 - w) =
     mul-le 1_000_000_000_000 1_000_000_000_000 (2 ^ 80 - w) (2 ^ 80 - w) far far in
     let times : 1 * (1_000_000_000_000 * 1_000_000_000_000) ≤ k.q * ((2 ^ 80 - w) * (2 ^ 80 - w)) =
-    mul-le 1 (1_000_000_000_000 * 1_000_000_000_000) k.q ((2 ^ 80 - w) * (2 ^ 80 - w)) ratio.least square in
-    join (2 ^ 80 - w) times one where
+    mul-le 1 (1_000_000_000_000 * 1_000_000_000_000) k.q ((2 ^ 80 - w) * (2 ^ 80 - w)) (ratio_limits ratio).least
+    square in
+    heavy_from k (2 ^ 80) w (join (2 ^ 80 - w) times one) where
       join : (x : ℕ) → 1 * (1_000_000_000_000 * 1_000_000_000_000) ≤ k.q * (x * x)
           → k.p * (w * w) ≤ 1_000_000 * (1_000_000 * 1_000_000)
           → k.p * w * w < k.q * x * x
@@ -79,7 +81,7 @@ far_heavy k w ratio small =
 pub light_is : (k : Fraction) (w : ℕ) → IsRatio k → w ≤ 1_000_000 → IsGreatest (is_light k w) (most_light k w)
 light_is k w ratio small =
     greatest-is (is_light k w) (light_closed k w) (light_test k w 0 (λ heavy. nothing (heavy_more k 0 w heavy)))
-    (beyond (is_heavy k (2 ^ 80) w) ((is_heavy-agrees k (2 ^ 80) w).1 (far_heavy k w ratio small))) where
+    (beyond (is_heavy k (2 ^ 80) w) (far_heavy k w ratio small)) where
       nothing : w < 0 → ⊥
       nothing less = omega arith
 
@@ -111,14 +113,15 @@ root_is k w root ratio within greatest = record {
   does : IsHeavy k (w + root) w → ⊥
   does heavy =
       let over : w + root - w ≡ root = omega arith in
-      let more : k.p * w * w < k.q * root * root = subst (λ x. k.p * w * w < k.q * x * x) over heavy in
-      omega (arith, more, square)
+      let more : k.p * w * w < k.q * root * root =
+      subst (λ x. k.p * w * w < k.q * x * x) over (heavy_excess k (w + root) w heavy) in omega (arith, more, square)
 
   none_greater : (v : ℕ) → (IsHeavy k v w → ⊥) → v ≤ w + root
   none_greater v light =
       let row : k.q * (v - w) * (v - w) ≤ k.p * w * w = not_heavy k v w light in
       let divided : (v - w) * (v - w) ≤ k.p * (w * w) / k.q =
-      (le-div_iff_mul-le {k = k.q} {x = (v - w) * (v - w)} {y = k.p * (w * w)} (omega (arith, ratio.least))).1
+      (le-div_iff_mul-le {k = k.q} {x = (v - w) * (v - w)} {y = k.p * (w * w)}
+      (omega (arith, (ratio_limits ratio).least))).1
       (turn (v - w) row) in
       let less : v - w ≤ root = greatest (v - w) divided in
       omega (arith, less) where
@@ -131,20 +134,21 @@ root_small k w root ratio within = square_order root (1_000 * w)
     (let times : k.q * (root * root) ≤ k.q * (k.p * (w * w) / k.q) =
     mul-le k.q (root * root) k.q (k.p * (w * w) / k.q) (omega arith) within in
     let one : 1 * (root * root) ≤ k.q * (root * root) =
-    mul-le 1 (root * root) k.q (root * root) ratio.least (omega arith) in
-    let all : k.p * (w * w) ≤ 1_000_000 * (w * w) = mul-le k.p (w * w) 1_000_000 (w * w) ratio.small_p (omega arith) in
+    mul-le 1 (root * root) k.q (root * root) (ratio_limits ratio).least (omega arith) in
+    let all : k.p * (w * w) ≤ 1_000_000 * (w * w) = mul-le k.p (w * w) 1_000_000 (w * w) (ratio_limits ratio).small_p
+    (omega arith) in
     omega (arith, times, one, all, mul-div-le (k.p * (w * w)) k.q))
 
 -- ---- the first link
 
 heavy_closed : (k : Fraction) (v : ℕ) → IsDownwardClosed (λ w. is_heavy k v w)
-heavy_closed k v m n less heavy = (is_heavy-agrees k v m).1 (heavy_mono k v m n less ((is_heavy-agrees k v n).0 heavy))
+heavy_closed k v m n less heavy = heavy_mono k v m n less heavy
 
 -- a positive value is heavy against nothing
 pub heavy_zero : (k : Fraction) (v : ℕ) → IsRatio k → 1 ≤ v → IsTrue (is_heavy k v 0)
-heavy_zero k v ratio some = (is_heavy-agrees k v 0).1 (
+heavy_zero k v ratio some = heavy_from k v 0 (
     let square : 1 * 1 ≤ v * v = mul-le 1 1 v v some some in
-    let times : 1 * (1 * 1) ≤ k.q * (v * v) = mul-le 1 (1 * 1) k.q (v * v) ratio.least square in
+    let times : 1 * (1 * 1) ≤ k.q * (v * v) = mul-le 1 (1 * 1) k.q (v * v) (ratio_limits ratio).least square in
     let whole : v - 0 ≡ v = omega arith in
     subst (λ x. k.p * 0 * 0 < k.q * x * x) (sym whole) (omega (arith, times)))
 
@@ -153,7 +157,7 @@ pub moved_is : (k : Fraction) (v : ℕ) → IsRatio k → 1 ≤ v → v ≤ 1_00
     → IsGreatest (λ n. is_heavy k v n) (greatest (λ n. is_heavy k v n))
 moved_is k v ratio some small = greatest-is (λ n. is_heavy k v n) (heavy_closed k v) (heavy_zero k v ratio some)
     (fails (is_heavy k v (2 ^ 80))
-    (λ heavy. far (heavy_more k v (2 ^ 80) ((is_heavy-agrees k v (2 ^ 80)).0 heavy)))) where
+    (λ heavy. far (heavy_more k v (2 ^ 80) heavy))) where
       far : 2 ^ 80 < v → ⊥
       far less = omega arith
 
@@ -181,7 +185,7 @@ first_unmoved k v ratio some small =
       least : (g : ℕ) → IsGreatest (λ n. is_heavy k v n) g → IsLeastUnmoved k v (suc g)
       least g it = record {
         some = omega arith;
-        unmoved = λ heavy. over (it.greatest (suc g) ((is_heavy-agrees k v (suc g)).1 heavy));
+        unmoved = λ heavy. over (it.greatest (suc g) heavy);
         least = λ u _ unmoved. by_order u unmoved (cases_lt g u);
       } where
         over : suc g ≤ g → ⊥
@@ -189,7 +193,7 @@ first_unmoved k v ratio some small =
 
         by_order : (u : ℕ) → (IsHeavy k v u → ⊥) → (g < u) ⊎ (u ≤ g) → suc g ≤ u
         by_order u unmoved (inl less) = less
-        by_order u unmoved (inr low) = absurd (unmoved ((is_heavy-agrees k v u).0 (heavy_closed k v u g low it.does)))
+        by_order u unmoved (inr low) = absurd (unmoved (heavy_closed k v u g low it.does))
 
 -- ---- the next link, and the bait
 
@@ -212,9 +216,9 @@ next_is_heavy k w ratio small = least (most_light k w) (most_is_light k w ratio 
     over more = omega arith
 
     by_test : (b : Bool) → is_heavy k (suc m) w ≡ b → IsHeavy k (suc m) w
-    by_test true heavy = (is_heavy-agrees k (suc m) w).0 heavy
+    by_test true heavy = heavy
     by_test false light = absurd
-        (over (it.most (suc m) (λ heavy. never (sym light ∙ (is_heavy-agrees k (suc m) w).1 heavy))))
+        (over (it.most (suc m) (λ heavy. never (sym light ∙ heavy))))
 
     by_order : (u : ℕ) → IsHeavy k u w → (m < u) ⊎ (u ≤ m) → suc m ≤ u
     by_order u heavy (inl less) = less

@@ -13,6 +13,7 @@ use Rattle.dover_model.proofs.Calculus.{square_le}
 use Rattle.dover_model.proofs.GreatestLaws.{IsDownwardClosed, greatest-is}
 use Rattle.dover_model.proofs.Members.{by_bool}
 use Rattle.dover_model.proofs.Tests.{never, not_true}
+use Rattle.dover_model.proofs.JobLimits.{ratio_limits}
 
 -- the two tests of what is heavy
 heavy_parts : (k : Fraction) (v w : ℕ) → is_heavy k v w ≡ true → (w < v) × (k.p * w * w < k.q * (v - w) * (v - w))
@@ -53,7 +54,7 @@ module _ (k : Fraction) (ratio : IsRatio k) (w : ℕ) (small : w ≤ 1_000_000_0
       (let low : k.p * w * w ≤ k.p * 1_000_000_000 * 1_000_000_000 = square_le k.p w 1_000_000_000 small in
       let high : k.q * 30_000_000_000_000_000_000 * 30_000_000_000_000_000_000 ≤ k.q * (2 ^ 80 - w) * (2 ^ 80 - w) =
       square_le k.q 30_000_000_000_000_000_000 (2 ^ 80 - w) (omega (arith, small)) in
-      omega (arith, low, high, ratio.small_p, ratio.least))
+      omega (arith, low, high, (ratio_limits ratio).small_p, (ratio_limits ratio).least))
 
   -- the greatest value that isn't heavy against w
   light_greatest : IsGreatest (λ v. not (is_heavy k v w)) (most_light k w)
@@ -82,17 +83,18 @@ module _ (k : Fraction) (ratio : IsRatio k) (w : ℕ) (small : w ≤ 1_000_000_0
       (heavy_parts k (suc w) w heavy).1 in
       let one : suc w - w ≡ 1 = omega arith in
       let excess_one : k.p * w * w < k.q * 1 * 1 = subst (λ d. k.p * w * w < k.q * d * d) one excess in
-      let low : k.p * 1 * 1 ≤ k.p * w * w = square_le k.p 1 w some in omega (arith, ratio.above_one, excess_one, low)))
+      let low : k.p * 1 * 1 ≤ k.p * w * w = square_le k.p 1 w some in
+      omega (arith, (ratio_limits ratio).above_one, excess_one, low)))
       (λ out. light_greatest.greatest (suc w) (rw out (refl)))
 
 module _ (k : Fraction) (ratio : IsRatio k) where
   -- the value of a unit job is at least one
   pub some_value : 1 ≤ unit_value k
-  some_value = le-div 1 k.p k.q ratio.least (omega (arith, ratio.above_one))
+  some_value = le-div 1 k.p k.q (ratio_limits ratio).least (omega (arith, (ratio_limits ratio).above_one))
 
   -- and at most that of the numerator
   little_value : unit_value k ≤ 1_000_000
-  little_value = let low : k.p / k.q ≤ k.p = div-le_self k.p k.q in omega (arith, low, ratio.small_p)
+  little_value = let low : k.p / k.q ≤ k.p = div-le_self k.p k.q in omega (arith, low, (ratio_limits ratio).small_p)
 
   -- the greatest value against which a unit job is heavy
   unit_greatest : IsGreatest (λ w. is_heavy k (unit_value k) w) (greatest (λ w. is_heavy k (unit_value k) w))
@@ -100,7 +102,7 @@ module _ (k : Fraction) (ratio : IsRatio k) where
       (λ m n less heavy. heavy_grows k (unit_value k) n (unit_value k) m (omega arith) less heavy)
       (heavy_from k (unit_value k) 0 (omega (arith, some_value))
       (let low : k.q * 1 * 1 ≤ k.q * (unit_value k - 0) * (unit_value k - 0) =
-      square_le k.q 1 (unit_value k - 0) (omega (arith, some_value)) in omega (arith, low, ratio.least)))
+      square_le k.q 1 (unit_value k - 0) (omega (arith, some_value)) in omega (arith, low, (ratio_limits ratio).least)))
       (by_bool (is_heavy k (unit_value k) (2 ^ 80) ≡ false) (is_heavy k (unit_value k) (2 ^ 80))
       (λ heavy. absurd (let above : 2 ^ 80 < unit_value k = (heavy_parts k (unit_value k) (2 ^ 80) heavy).0 in
       omega (arith, little_value)))

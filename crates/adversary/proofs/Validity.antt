@@ -9,7 +9,7 @@ use Rattle.dover_model.specs.Limits.{most_jobs, most_value, most_total}
 use Rattle.dover_model.specs.declared.events.Version.{Version}
 use Rattle.dover_model.specs.Fraction.{Fraction, IsRatio}
 use Rattle.dover_model.specs.JobFacts.{IsJob}
-use Rattle.dover_model.specs.Instance.{IsValid, IsWithinRatio, jobs_under, total_value}
+use Rattle.dover_model.specs.Instance.{IsValid, jobs_under, total_value}
 use Rattle.dover_model.specs.Bait.{unit_value, most_light, first_link, chain, last_link, bait_value}
 use Rattle.dover_model.specs.Bait.{tight_job}
 use Rattle.dover_model.specs.Bait.{bait_jobs}
@@ -20,6 +20,8 @@ use Rattle.adversary.proofs.Coming.{AreSome, are_some}
 use Rattle.adversary.proofs.Chains.{last_from}
 use Rattle.adversary.proofs.Heavy.{light_least}
 use Rattle.adversary.proofs.Feeds.{how_much, in_order, whole, small, modest, all_jobs, unit_low, unit_some}
+use Rattle.dover_model.proofs.ValidParts.{IsWithinRatio, valid_from}
+use Rattle.dover_model.proofs.JobLimits.{ratio_limits, job_from}
 
 -- the last link is some, and at most all of them
 last_within : (w : ℕ) (ws : List ℕ) → 1 ≤ w → AreSome ws → (1 ≤ last_from w ws) × (last_from w ws ≤ sum (w ∷ ws))
@@ -51,13 +53,13 @@ some_bait k rounds ratio many fits =
 -- a job without slack is within the limits
 tight_is_job : (s w d : ℕ) → s < most_jobs Two → 1 ≤ w → w ≤ most_value → 1 ≤ d * w → d * w ≤ most_value
     → IsJob (tight_job s w d)
-tight_is_job s w d early some low worth modest = record {
+tight_is_job s w d early some low worth modest = job_from (record {
   work = some;
   window = omega arith;
   due = omega (arith, early, low);
   worth = worth;
   modest = modest;
-}
+})
 
 module _ (k : Fraction) (rounds : ℕ) (ratio : IsRatio k) (fits : FitsLimits k rounds)
     (some_bait : 1 ≤ bait_value k rounds) where
@@ -106,9 +108,9 @@ module _ (k : Fraction) (rounds : ℕ) (ratio : IsRatio k) (fits : FitsLimits k 
 
   densities : AllByRecursion (λ i. AllByRecursion (IsWithinRatio k i) (bait_jobs k rounds)) (bait_jobs k rounds)
   densities = all_jobs k rounds (λ i. AllByRecursion (IsWithinRatio k i) (bait_jobs k rounds)) (small k rounds fits)
-      (λ s w early some less. dense s w 1 (plain ratio.above_one))
+      (λ s w early some less. dense s w 1 (plain (ratio_limits ratio).above_one))
       (λ s early. dense s 1 (unit_value k) (mul-div-le k.p k.q))
-      (λ s early. dense s (bait_value k rounds) 1 (plain ratio.above_one)) where
+      (λ s early. dense s (bait_value k rounds) 1 (plain (ratio_limits ratio).above_one)) where
         plain : k.q ≤ k.p → k.q * 1 ≤ k.p
         plain low = omega arith
 
@@ -128,11 +130,11 @@ module _ (k : Fraction) (rounds : ℕ) (ratio : IsRatio k) (fits : FitsLimits k 
 
   pub valid : (version : Version)
       → IsValid (jobs_under version k (bait_jobs k rounds))
-  valid version = record {
+  valid version = valid_from (record {
     ratio = ratio;
     each = each_is_job;
     in_order = in_order _ _ _ _ _ _ _ _ _ (whole k rounds);
     count = omega (arith, fits.few, jobs_least version);
     total = omega (arith, total, total_least version);
     densities = densities;
-  }
+  })

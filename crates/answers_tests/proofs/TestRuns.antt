@@ -5,7 +5,6 @@ use Rattle.dover_model.specs.declared.events.Version.TheVariants.{One}
 use Rattle.dover_model.specs.JobFacts.{JobFacts, job_of_numbers}
 use Rattle.dover_model.specs.Instance.{Instance, IsListable, IsValid}
 use Rattle.dover_model.specs.Run.{printed}
-use Rattle.dover_model.proofs.Agreement.{is_valid-agrees}
 
 -- three jobs, of which the last has this work and value and no slack
 abbrev pub three : ℕ → Instance
@@ -19,7 +18,7 @@ pub listed : (n : ℕ) → n ≤ 12 → IsListable (three n)
 listed n low = record { count = omega arith; total = omega arith }
 
 pub taken_valid : IsValid (three 12)
-taken_valid = (is_valid-agrees (three 12)).0 refl
+taken_valid = record { passes = refl }
 
 pub taken_printed : (a b c : JobFacts) → a ≡ job_of_numbers 0 3 30 3 → b ≡ job_of_numbers 0 2 4 2
     → c ≡ job_of_numbers 0 12 12 12

@@ -6,7 +6,6 @@ use Rattle.std.specs.Prelude.{Some, None, Option, slice_get, IfSome, ◌&&◌, �
 use Rattle.std.specs.List.{enumerate_from, cons_option, AllByRecursion}
 use Rattle.std.proofs.lemmas.List.{map-append}
 use Rattle.dover_model.specs.JobFacts.{JobFacts}
-use Rattle.dover_model.specs.Instance.{IsInOrder}
 use Rattle.dover_model.specs.Schedules.{is_served}
 use Rattle.dover_model.specs.Sound.{IsMember, Each}
 use Rattle.dover_model.proofs.Parting.{served_map}
@@ -14,6 +13,7 @@ use Rattle.dover_model.specs.declared.pieces.Piece.{Piece}
 use Rattle.dover_model.specs.Pieces.{spread, spread_from, stretches, stretches_from, with_tick}
 use Rattle.best_set.specs.BestSet.{RiseWithin, Serves, jobs_at, renumbered}
 use Rattle.best_set.proofs.Values.{Has, has}
+use Rattle.dover_model.proofs.ValidParts.{ReleasesInOrder}
 
 -- the jobs of a set, one by one
 pub jobs_cons : (jobs : List JobFacts) (n : ℕ) (j : JobFacts) (chosen : List ℕ) → slice_get jobs n ≡ Some j
@@ -162,7 +162,8 @@ spread_is chosen s = spread_renumbered chosen 0 (stretches s) (busy_stretches 0 
 -- ---- in order
 
 -- of two numbers the smaller one is released first
-order_pair : (jobs : List JobFacts) → IsInOrder jobs → (n m : ℕ) (j i : JobFacts) → n < m → slice_get jobs n ≡ Some j
+order_pair : (jobs : List JobFacts) → ReleasesInOrder jobs → (n m : ℕ) (j i : JobFacts) → n < m
+    → slice_get jobs n ≡ Some j
     → slice_get jobs m ≡ Some i
     → j.release ≤ i.release
 order_pair [] order n m j i less at there = absurd (let e : None ≡ Some j = at in cc)
@@ -179,9 +180,9 @@ order_pair (k ∷ jobs) order (suc n) zero j i less at there = absurd (omega ari
 order_pair (k ∷ jobs) order (suc n) (suc m) j i less at there = order_pair jobs order.1 n m j i (omega arith) at there
 
 -- the jobs of a set are in order
-pub order_at : (jobs : List JobFacts) → IsInOrder jobs → (low : ℕ) (chosen : List ℕ)
+pub order_at : (jobs : List JobFacts) → ReleasesInOrder jobs → (low : ℕ) (chosen : List ℕ)
     → RiseWithin low (length jobs) chosen
-    → IsInOrder (jobs_at jobs chosen)
+    → ReleasesInOrder (jobs_at jobs chosen)
 order_at jobs order low [] rise = tt
 order_at jobs order low (c ∷ chosen) rise =
     with_job (has jobs c rise.1) (order_at jobs order (suc c) chosen rise.2) where
@@ -198,6 +199,6 @@ order_at jobs order low (c ∷ chosen) rise =
                 (sym (jobs_cons jobs m it.job more it.at))
                 (order_pair jobs order c m j it.job (let from : next ≤ m = rising.0 in omega arith) at it.at, rest)
 
-      with_job : Has jobs c → IsInOrder (jobs_at jobs chosen) → IsInOrder (jobs_at jobs (c ∷ chosen))
-      with_job it rest = subst IsInOrder (sym (jobs_cons jobs c it.job chosen it.at))
+      with_job : Has jobs c → ReleasesInOrder (jobs_at jobs chosen) → ReleasesInOrder (jobs_at jobs (c ∷ chosen))
+      with_job it rest = subst ReleasesInOrder (sym (jobs_cons jobs c it.job chosen it.at))
           (after it.job it.at (suc c) chosen (omega arith) rise.2, rest)

@@ -13,6 +13,7 @@ use Rattle.dover_model.specs.Schedules.{is_served, worth}
 use Rattle.dover_model.specs.Sound.{IsMember, Each}
 use Rattle.best_set.specs.BestSet.{RiseWithin, Serves, IsGood, value_at, value_of}
 use Rattle.best_set.proofs.Rising.{rise_wider}
+use Rattle.dover_model.proofs.JobLimits.{job_limits}
 
 -- the job of a number
 pub record Has (jobs : List JobFacts) (n : ℕ) : Type 0 where
@@ -72,7 +73,7 @@ most_more jobs next (n ∷ more) rise =
 pub total_few : (jobs : List JobFacts) → Each IsJob jobs → total_value jobs ≤ 1_000_000_000 * length jobs
 total_few [] all = omega arith
 total_few (j ∷ jobs) all =
-    let here : j.value ≤ 1_000_000_000 = (all j (inl refl)).modest in
+    let here : j.value ≤ 1_000_000_000 = (job_limits (all j (inl refl))).modest in
     let rest : total_value jobs ≤ 1_000_000_000 * length jobs = total_few jobs (λ i m. all i (inr m)) in
     omega (arith, sum_by-cons (λ (i : JobFacts). i.value) j jobs)
 

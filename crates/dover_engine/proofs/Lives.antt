@@ -61,6 +61,7 @@ use Rattle.dover_engine.specs.Calls.{since_rest, HasCause, IsBreaker, IsCause, c
 use Rattle.dover_engine.specs.Calls.{Holds, HasProcessor, HasNoProcessor, MayBeDone, IsDone}
 use Rattle.ready_server.proofs.Finishing.{one_finish}
 use Rattle.dover_engine.proofs.Giving.{fresh_gave, rests_now, finish_gave}
+use Rattle.dover_model.proofs.ValidParts.{valid_parts}
 use Rattle.dover_engine.proofs.Since as since
 
 -- ---- the beginning
@@ -651,7 +652,7 @@ module _ (v : Life) (J : Instance) (es : List Event) (g : Gave v J es) (none : v
 
     few : (d : ℕ) → most_jobs v.admission.rules.version + 1 < 2 ^ d → v.server.ready.jobs + 1 < 2 ^ d
     few d big =
-        let most = g.gave.serves.follows.valid.count in
+        let most = (valid_parts g.gave.serves.follows.valid).count in
         let limit = ap (λ (rules : Declaration). most_jobs rules.version) g.gave.rules in
         omega (arith, count, g.gave.admission.count, limit)
 

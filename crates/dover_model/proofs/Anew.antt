@@ -1,5 +1,5 @@
 -- Runs one after another, each in a time of its own.
-use Rattle.std.proofs.Common.{◌≡◌, ℕ, zero, suc, ◌+◌, ◌-◌, ◌*◌, ◌≤◌, inl, inr, List, [], ◌∷◌, ◌++◌, length, drop, take}
+use Rattle.std.proofs.Common.{◌≡◌, ℕ, zero, suc, ◌+◌, ◌-◌, ◌≤◌, inl, inr, List, [], ◌∷◌, ◌++◌, length, drop, take}
 use Rattle.std.proofs.Common.{map, refl, sym, ap, ◌∙◌, subst, arith, cond, Bool, true, false, append_assoc}
 use Rattle.std.proofs.Common.{replicate}
 use Rattle.std.specs.Prelude.{nat_le, ◌==◌}
@@ -31,8 +31,10 @@ use Rattle.dover_model.proofs.Runs.{last_value, value_last}
 use Rattle.dover_model.proofs.Resting.{at_tick, RunsFrom, alone, joined, runs_all, sees_all, later_due}
 use Rattle.dover_model.proofs.Resting.{due_least, dues_mono}
 use Rattle.dover_model.proofs.Apart.{settled_at_rest, behind_last}
-use Rattle.dover_model.proofs.Calculus.{within_less}
+use Rattle.dover_model.proofs.Calculus.{within_less, none_within}
 use Rattle.dover_model.proofs.Parting.{worth_to, worth_append, within_add}
+use Rattle.dover_model.proofs.ValidParts.{valid_parts}
+use Rattle.dover_model.proofs.JobLimits.{job_limits}
 
 -- ---- jobs to come, moved in time
 
@@ -142,8 +144,8 @@ module _ (rules : Rules) where
   anew_fits [] all = λ j member. absurd member
   anew_fits (t_turn ∷ turns) all =
       each_append (λ j. j.work ≤ j.deadline) t_turn.1.jobs (map (later_job t_turn.0) (anew turns).jobs)
-      (λ j member. let job : IsJob j = all_member IsJob t_turn.1.jobs all.0.0.each j member in
-      let window : j.release + j.work ≤ j.deadline = job.window in omega arith)
+      (λ j member. let job : IsJob j = all_member IsJob t_turn.1.jobs (valid_parts all.0.0).each j member in
+      let window : j.release + j.work ≤ j.deadline = (job_limits job).window in omega arith)
       (on_map (later_job t_turn.0) (λ j. j.work ≤ j.deadline) (anew turns).jobs
       (λ j member. let low : j.work ≤ j.deadline = anew_fits turns all.2 j member in omega arith))
 
@@ -261,8 +263,7 @@ module _ (rules : Rules) where
       → IsWithin rules.ratio (worth (of_rules (of turn)) s) (completed_value (of_turn turn)))
       → (turns : List (ℕ × Turn)) (s : List ℕ) → AreAnew rules turns
       → IsWithin rules.ratio (worth (of_rules (jobs_anew of turns)) s) (completed_anew rules turns)
-  within_anew of each [] s all = let none : rules.ratio.q * 0 - (rules.ratio.p + rules.ratio.q) * 0 ≡ 0 = omega arith in
-      subst (λ x. x * x ≤ 4 * rules.ratio.p * rules.ratio.q * 0 * 0) (sym none) (omega arith)
+  within_anew of each [] s all = none_within rules.ratio
   within_anew of each (t_turn ∷ turns) s all =
       let later : worth (of_rules (map (later_job t_turn.0) (jobs_anew of turns)))
       (map (λ m. m - length (of t_turn.1)) s)
@@ -352,5 +353,5 @@ run_moved J c valid valid_later =
     sym own.3 ∙ ap printed_of (one_run J.rules (at_tick c (map (later_job c) J.jobs)) own.0 moved.0 own.1 moved.1)
     ∙ moved.3 where
       fits : Each (λ j. j.work ≤ j.deadline) J.jobs
-      fits j member = let job : IsJob j = all_member IsJob J.jobs valid.each j member in
-          let window : j.release + j.work ≤ j.deadline = job.window in omega arith
+      fits j member = let job : IsJob j = all_member IsJob J.jobs (valid_parts valid).each j member in
+          let window : j.release + j.work ≤ j.deadline = (job_limits job).window in omega arith

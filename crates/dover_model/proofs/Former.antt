@@ -10,10 +10,11 @@ use Rattle.dover_model.specs.Instance.{Declaration}
 use Rattle.dover_model.specs.Admission.{refusal_of}
 use Rattle.dover_model.specs.Session.{Item, JobItem, RefusedItem, FinishItem, Session, instance_of, session_with}
 use Rattle.dover_model.specs.Session.{admitted_jobs, early_finishes, may_finish_early, late_refusal, finish_at}
-use Rattle.dover_model.specs.Session.{early_at, RefusedLine, RefusedJob, RefusedDone, Refused, MayRefuse, MayBeRefused}
-use Rattle.dover_model.specs.Session.{FollowsItems, IsValidSession, refusal_in}
+use Rattle.dover_model.specs.Session.{early_at, RefusedLine, RefusedJob, RefusedDone, Refused}
+use Rattle.dover_model.specs.Session.{IsValidSession, refusal_in}
 use Rattle.dover_model.proofs.Fullness.{refused_alone}
 use Rattle.dover_model.proofs.Tests.{never, none_is_some}
+use Rattle.dover_model.proofs.SessionParts.{MayRefuse, MayBeRefused, FollowsItems, session_parts}
 
 -- no finish is right
 none_right : (S : Session) (t n : ℕ) → may_finish_early S.rules.version ≡ false → early_at S t n ≡ None
@@ -32,7 +33,7 @@ none_early rules before mark (FinishItem f ∷ items) former follows =
 
 pub no_finishes : (S : Session) → may_finish_early S.rules.version ≡ false → IsValidSession S
     → early_finishes S.items ≡ []
-no_finishes S former valid = none_early S.rules [] 0 S.items former valid.items
+no_finishes S former valid = none_early S.rules [] 0 S.items former (session_parts valid).items
 
 -- no late job line is refused alone
 pub late_none : (v : Version) → may_finish_early v ≡ false → late_refusal v ≡ None

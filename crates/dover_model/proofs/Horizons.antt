@@ -13,6 +13,8 @@ use Rattle.dover_model.proofs.Beginnings.{begins_length}
 use Rattle.dover_model.proofs.Ending.{few_printed}
 use Rattle.dover_model.specs.JobFacts.{JobFacts, IsJob}
 use Rattle.dover_model.specs.Limits.{last_tick, most_jobs}
+use Rattle.dover_model.proofs.ValidParts.{valid_parts}
+use Rattle.dover_model.proofs.JobLimits.{job_limits}
 
 -- a horizon may follow itself, where it may follow another
 pub follows_on : (from to : Horizon) → MayFollow from to → MayFollow to to
@@ -32,7 +34,7 @@ pub due_few : (J : Instance) (to : Horizon) → IsValid J
 due_few J to valid = omega (
   arith,
   few_printed J valid,
-  valid.count,
+  (valid_parts valid).count,
   begins_length (due_by J to) (printed J) (due_begins J to valid),
 )
 
@@ -41,5 +43,6 @@ pub may_follow : (t : ℕ) (jobs : List JobFacts) → AllByRecursion (λ j. t �
     → AllByRecursion (λ j. MayFollow (Mark t) (Mark j.release)) jobs
 may_follow t [] later each = tt
 may_follow t (j ∷ jobs) later each =
-    let window : j.release + j.work ≤ j.deadline = each.0.window in let due : j.deadline ≤ last_tick = each.0.due in
+    let window : j.release + j.work ≤ j.deadline = (job_limits each.0).window in let due : j.deadline ≤ last_tick =
+    (job_limits each.0).due in
     ((later.0, omega arith), may_follow t jobs later.1 each.1)

@@ -1,6 +1,6 @@
 -- Lists in turn with their finishes: their runs are one run, and what is bounded by turns is bounded in all.
 use Rattle.std.proofs.Common.{◌≡◌, ℕ, ◌+◌, ◌≤◌, inl, inr, List, [], ◌∷◌, ◌++◌, length, length-append, map, refl, sym}
-use Rattle.std.proofs.Common.{ap, ◌∙◌, subst, arith, append-nil, append_assoc, ◌*◌, ◌-◌}
+use Rattle.std.proofs.Common.{ap, ◌∙◌, subst, arith, append-nil, append_assoc, ◌-◌}
 use Rattle.std.proofs.lemmas.List.{map-append}
 use Rattle.std.proofs.lemmas.List.Sums.{sum_by-cons}
 use Rattle.dover_model.proofs.Runs.{last_value, value_last}
@@ -23,7 +23,7 @@ use Rattle.dover_model.proofs.Apart.{SettlesFrom, settles_alone, settles_joined,
 use Rattle.dover_model.proofs.Apart.{before_append, behind_last}
 use Rattle.dover_model.proofs.Turns.{behind_twice, behind_none, before_twice, before_behind}
 use Rattle.dover_model.proofs.BoundLaws.{bound, observed_bound}
-use Rattle.dover_model.proofs.Calculus.{within_less}
+use Rattle.dover_model.proofs.Calculus.{within_less, none_within}
 use Rattle.dover_model.proofs.Parting.{within_add, worth_append}
 use Rattle.dover_model.proofs.Members.{each_append}
 
@@ -232,9 +232,7 @@ module _ (rules : Rules) where
       → (turns : List Turn) (s : List ℕ) → AreValid turns
       → IsWithin rules.ratio (worth (record { rules = rules; jobs = in_turns of turns }) s)
       (completed_turns rules turns)
-  within_all of each [] s valid =
-      let none : rules.ratio.q * 0 - (rules.ratio.p + rules.ratio.q) * 0 ≡ 0 = omega arith in
-      subst (λ x. x * x ≤ 4 * rules.ratio.p * rules.ratio.q * 0 * 0) (sym none) (omega arith)
+  within_all of each [] s valid = none_within rules.ratio
   within_all of each (turn ∷ turns) s valid =
       subst (IsWithin rules.ratio (worth (record { rules = rules; jobs = of turn ++ in_turns of turns }) s))
       (sym (completed_more turn turns))

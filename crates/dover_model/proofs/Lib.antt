@@ -16,7 +16,9 @@ pub mod FinishRows
 pub mod ThreeRows
 pub mod Tests
 pub mod Calculus
-pub mod Agreement
+pub mod JobLimits
+pub mod ValidParts
+pub mod SessionParts
 pub mod EntryOrders
 pub mod FirstOfTasks
 pub mod Members

@@ -7,6 +7,7 @@ use Rattle.dover_model.specs.declared.events.Version.TheVariants.{One, Two, Thre
 use Rattle.dover_model.specs.Session.{Session, may_finish_early}
 use Rattle.dover_model.specs.Feed.{most_lines_in}
 use Rattle.dover_model.proofs.Tests.{never}
+use Rattle.dover_model.proofs.ValidParts.{valid_parts}
 
 -- no version has more jobs than Three
 pub jobs_most : (v : Version) → most_jobs v ≤ 4_000_000_000
@@ -69,6 +70,6 @@ items_enough Three = omega arith
 -- the valid jobs of a version in which none finishes early are listable
 pub listable : (J : Instance) → IsValid J → may_finish_early J.rules.version ≡ false → IsListable J
 listable J valid former = record {
-  count = omega (arith, valid.count, few_jobs J.rules.version former);
-  total = omega (arith, valid.total, small_total J.rules.version former);
+  count = omega (arith, (valid_parts valid).count, few_jobs J.rules.version former);
+  total = omega (arith, (valid_parts valid).total, small_total J.rules.version former);
 }

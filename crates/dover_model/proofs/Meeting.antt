@@ -104,14 +104,7 @@ module _ (J : Instance) (gs : List Finish) (t : ℕ) where
 
 -- other finishes leave an instance valid
 pub finishing_valid : (J : Instance) (gs : List Finish) → IsValid J → IsValid (finishing J gs)
-finishing_valid J gs valid = record {
-  ratio = valid.ratio;
-  each = valid.each;
-  in_order = valid.in_order;
-  count = valid.count;
-  total = valid.total;
-  densities = valid.densities;
-}
+finishing_valid J gs valid = record { passes = valid.passes }
 
 module _ (t : ℕ) (J : Instance) (valid : IsValid J) where
   -- the finishes that the run comes to

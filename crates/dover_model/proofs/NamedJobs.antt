@@ -27,6 +27,7 @@ use Rattle.dover_model.proofs.RunSessions.{run_jobs}
 use Rattle.dover_model.proofs.ShortNumbers.{AreAllShort, printed_short}
 use Rattle.dover_model.proofs.Shown.{no_job_shown, items_of, items_cons}
 use Rattle.dover_model.proofs.TraceLines.{item_of_line, item_of-text_of_line}
+use Rattle.dover_model.proofs.ValidParts.{valid_parts}
 
 -- among the items of jobs alone no line is refused
 none_placed : (rules : Declaration) (before : List Item) (jobs : List JobFacts)
@@ -103,9 +104,10 @@ same_jobs J K plain_J plain_K valid_J valid_K same =
     sym (steps_alone J plain_J) ∙ sym (cut_back (session_of J)) ∙ ap whole_lines same
     ∙ cut_back (session_of K) ∙ steps_alone K plain_K in
     let rules : declared_by J.rules ≡ declared_by K.rules =
-    some_same (declared_by J.rules) (declared_by K.rules) (sym (header_names (declared_by J.rules) valid_J.ratio)
+    some_same (declared_by J.rules) (declared_by K.rules) (sym
+    (header_names (declared_by J.rules) (valid_parts valid_J).ratio)
     ∙ ap rules_of (heads (header (declared_by J.rules)) (header (declared_by K.rules)) (texts_of J) (texts_of K) lines)
-    ∙ header_names (declared_by K.rules) valid_K.ratio) in
+    ∙ header_names (declared_by K.rules) (valid_parts valid_K).ratio) in
     let jobs : J.jobs ≡ K.jobs = sym (run_named J valid_J)
     ∙ ap (filter_map job_named)
     (tails (header (declared_by J.rules)) (header (declared_by K.rules)) (texts_of J) (texts_of K) lines)

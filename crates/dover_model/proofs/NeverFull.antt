@@ -8,11 +8,13 @@ use Rattle.dover_model.specs.declared.events.Version.TheVariants.{One, Two, Thre
 use Rattle.dover_model.specs.JobFacts.{JobFacts}
 use Rattle.dover_model.specs.Instance.{Declaration, IsValid}
 use Rattle.dover_model.specs.Session.{Item, JobItem, RefusedItem, FinishItem, Session, session_with, instance_of}
-use Rattle.dover_model.specs.Session.{job_of_item, admitted_jobs, may_finish_early, is_full, FollowsItems, IsNeverFull}
+use Rattle.dover_model.specs.Session.{job_of_item, admitted_jobs, may_finish_early, is_full, IsNeverFull}
 use Rattle.dover_model.specs.Session.{IsValidSession}
 use Rattle.dover_model.proofs.Members.{heads, tails}
 use Rattle.dover_model.proofs.Fullness.{few_ready}
 use Rattle.dover_model.proofs.Tests.{never}
+use Rattle.dover_model.proofs.SessionParts.{FollowsItems, session_parts}
+use Rattle.dover_model.proofs.ValidParts.{valid_parts}
 
 module _ (rules : Declaration) where
   -- what follows behind the first item
@@ -42,7 +44,7 @@ module _ (rules : Declaration) where
 
 -- a valid session is never full
 pub valid_never : (S : Session) → IsValidSession S → IsNeverFull S
-valid_never S valid = follow_never S.rules S.items [] 0 valid.items
+valid_never S valid = follow_never S.rules S.items [] 0 (session_parts valid).items
 
 -- nor is one of no more jobs than may be ready at once
 pub few_never : (S : Session) → length (admitted_jobs S.items) ≤ most_ready → IsNeverFull S
@@ -56,7 +58,7 @@ few_never S few front j back is = few_ready (instance_of (session_with S.rules f
 
 -- so none of versions One and Two is
 pub former_never : (S : Session) → may_finish_early S.rules.version ≡ false → IsValid (instance_of S) → IsNeverFull S
-former_never S former valid = few_never S (by_version S.rules.version former valid.count) where
+former_never S former valid = few_never S (by_version S.rules.version former (valid_parts valid).count) where
   by_version : (v : Version) → may_finish_early v ≡ false → length (admitted_jobs S.items) ≤ most_jobs v
       → length (admitted_jobs S.items) ≤ most_ready
   by_version One former few = few

@@ -22,9 +22,10 @@ use Rattle.dover_model.proofs.Members.{sum_le, sum_plus, term_le_sum, all_member
 use Rattle.dover_model.proofs.GreatestLaws.{bound-is}
 use Rattle.dover_model.proofs.Runs.{none_lost, all_value}
 use Rattle.dover_model.proofs.BoundLaws.{bound as no_more, intervals_abandon}
-use Rattle.dover_model.proofs.Calculus.{below_add, within_less}
+use Rattle.dover_model.proofs.Calculus.{below_add, within_less, within_agrees, none_within}
 use Rattle.dover_model.specs.Books.{Job}
 use Rattle.dover_model.proofs.Limiting.{total_most}
+use Rattle.dover_model.proofs.ValidParts.{valid_parts}
 
 -- ---- a schedule under other numbers
 
@@ -229,7 +230,8 @@ module _ (owner : ℕ → ℕ) (jobs : List JobFacts) where
 -- what is within two values is together within their sum
 pub within_add : (k : Fraction) (c c2 a a2 : ℕ) → IsWithin k c a → IsWithin k c2 a2 → IsWithin k (c + c2) (a + a2)
 within_add k c c2 a a2 one other =
-    by_excess (k.q * c - (k.p + k.q) * a) (k.q * c2 - (k.p + k.q) * a2) one other (omega arith) where
+    by_excess (k.q * c - (k.p + k.q) * a) (k.q * c2 - (k.p + k.q) * a2) ((within_agrees k c a).0 one)
+    ((within_agrees k c2 a2).0 other) (omega arith) where
       by_excess : (x x2 : ℕ) → x * x ≤ 4 * k.p * k.q * a * a → x2 * x2 ≤ 4 * k.p * k.q * a2 * a2
           → k.q * (c + c2) - (k.p + k.q) * (a + a2) ≤ x + x2 → IsWithin k (c + c2) (a + a2)
       by_excess x x2 one other most =
@@ -237,14 +239,12 @@ within_add k c c2 a a2 one other =
           below_add (4 * k.p * k.q) x x2 a a2 one other in
           let square : (k.q * (c + c2) - (k.p + k.q) * (a + a2)) * (k.q * (c + c2) - (k.p + k.q) * (a + a2)) ≤ (x + x2)
           * (x + x2) =
-          mul-le _ _ _ _ most most in omega (arith, both, square)
+          mul-le _ _ _ _ most most in (within_agrees k (c + c2) (a + a2)).1 (omega (arith, both, square))
 
 -- and so are many
 pub within_sum : {X : Type 0} (k : Fraction) (f g : X → ℕ) (xs : List X) → Each (λ x. IsWithin k (f x) (g x)) xs
     → IsWithin k (sum_by f xs) (sum_by g xs)
-within_sum k f g [] all =
-    (let none : k.q * 0 - (k.p + k.q) * 0 ≡ 0 = omega arith in
-    subst (λ x. x * x ≤ 4 * k.p * k.q * 0 * 0) (sym none) (omega arith))
+within_sum k f g [] all = none_within k
 within_sum k f g (x ∷ xs) all = subst (λ c. IsWithin k c (sum_by g (x ∷ xs))) (sym (sum_by-cons f x xs))
     (subst (λ a. IsWithin k (f x + sum_by f xs) a) (sym (sum_by-cons g x xs))
     (within_add k (f x) (sum_by f xs) (g x) (sum_by g xs) (all x (inl refl))
@@ -255,13 +255,13 @@ completed_most : (J : Instance) → IsValid J → completed_value J < 10 ^ 18
 completed_most J valid =
     let all : completed_value J + sum_by (λ i. i.abandoned) (intervals J) ≡ sum_by (λ j. j.value) J.jobs =
     intervals_abandon J valid in
-    omega (arith, valid.total, total_most J.rules.version)
+    omega (arith, (valid_parts valid).total, total_most J.rules.version)
 
 -- each schedule of a valid instance is worth at most its bound
 pub bound_most : (J : Instance) (s : List ℕ) → IsValid J → worth J s ≤ bound J.rules.ratio (completed_value J)
-bound_most J s valid = (bound-is J.rules.ratio (completed_value J) valid.ratio (completed_most J valid)).greatest
-    (worth J s)
-    (le-leb _ _ (no_more J s valid))
+bound_most J s valid =
+    (bound-is J.rules.ratio (completed_value J) (valid_parts valid).ratio (completed_most J valid)).greatest (worth J s)
+    (no_more J s valid)
 
 -- ---- the bound of parts
 

@@ -49,6 +49,8 @@ use Rattle.dover_model.specs.Finishes.{Finish, is_finish_of}
 use Rattle.std.specs.Option.{option_or}
 use Rattle.std.proofs.lemmas.List.Folds.{find-append}
 use Rattle.dover_model.proofs.Tests.{never}
+use Rattle.dover_model.proofs.ValidParts.{valid_parts}
+use Rattle.dover_model.proofs.JobLimits.{job_limits}
 
 -- the jobs to come, at a tick
 abbrev pub at_tick : ℕ → List JobFacts → State
@@ -658,8 +660,8 @@ sees_all rules jobs events seen it =
 -- no valid job is due before its release
 pub due_later : (J : Instance) → IsValid J → (m : ℕ) → NoneBefore m J.jobs → Each (λ j. m ≤ j.deadline) J.jobs
 due_later J valid m late j member =
-    let job : IsJob j = all_member IsJob J.jobs valid.each j member in
-    let window : j.release + j.work ≤ j.deadline = job.window in
+    let job : IsJob j = all_member IsJob J.jobs (valid_parts valid).each j member in
+    let window : j.release + j.work ≤ j.deadline = (job_limits job).window in
     let at : m ≤ j.release = late j member in omega arith
 
 -- a run falls apart at rest

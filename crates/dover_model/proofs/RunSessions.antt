@@ -25,7 +25,7 @@ use Rattle.dover_model.specs.Paths.{IsPath}
 use Rattle.dover_model.specs.Sound.{IsMember, Each, Keeps}
 use Rattle.dover_model.specs.Session.{Item, JobItem, instance_of}
 use Rattle.dover_model.specs.Session.{admitted_jobs, early_finishes, session_with}
-use Rattle.dover_model.specs.Session.{may_finish_early, FollowsItems, IsValidSession, IsNeverFull}
+use Rattle.dover_model.specs.Session.{may_finish_early, IsValidSession, IsNeverFull}
 use Rattle.dover_model.specs.Trace.{early_of, handed_by, session_of_run}
 use Rattle.dover_model.proofs.Members.{found, some_same}
 use Rattle.dover_model.proofs.Roles.{passes, is_running_role}
@@ -43,6 +43,9 @@ use Rattle.dover_model.proofs.Shown.{early_says, Handed, coming_in, deed_in, ite
 use Rattle.dover_model.proofs.EarlyEnds.{as_open, same_here, AreOf, shown_own, shown_all, path_of, opening_in}
 use Rattle.dover_model.proofs.EarlyEnds.{right_there}
 use Rattle.dover_model.proofs.Limiting.{items_enough}
+use Rattle.dover_model.proofs.SessionParts.{FollowsItems, session_from}
+use Rattle.dover_model.proofs.ValidParts.{valid_parts}
+use Rattle.dover_model.proofs.JobLimits.{job_limits}
 
 module _ (J : Instance) (valid : IsValid J) where
   -- ---- each item may stand
@@ -76,7 +79,7 @@ module _ (J : Instance) (valid : IsValid J) where
       let slack : s.clock + left r ≤ r.job.deadline = active_slack s keeps.sound r it.0
       (passes is_privileged r Running true (is_running_role r it.1) refl) in
       let job : IsJob r.job = (realistic J valid s keeps).each r it.0 in
-      let due : r.job.deadline ≤ last_tick = job.due in omega (arith, slack, due)
+      let due : r.job.deadline ≤ last_tick = (job_limits job).due in omega (arith, slack, due)
 
   -- End shows nothing
   end_shows : (s : State) (m : Move) → is_end m ≡ true → handed_by (record { before = s; move = m }) ≡ None
@@ -327,15 +330,15 @@ module _ (J : Instance) (valid : IsValid J) where
   -- the session of a run is valid, where no job finds it full
   pub run_session_valid : may_finish_early J.rules.version ≡ true → IsNeverFull (session_of_run J)
       → IsValidSession (session_of_run J)
-  run_session_valid three never = record {
+  run_session_valid three never = session_from (record {
     jobs = valid_run;
     count = few;
     items = follows_run three (run J) [] (opening J.jobs) refl (run_is_whole J valid) 0 (omega arith) never;
-  } where
+  }) where
     few : length (session_of_run J).items ≤ most_items J.rules.version
     few = omega (
       arith,
-      valid.count,
+      (valid_parts valid).count,
       items_enough J.rules.version,
       shown_few (run J),
       shown_most (run J),

@@ -1,5 +1,5 @@
 -- The two orders of jobs, and the threshold of a take.
-use Rattle.std.specs.Prelude.{◌<◌, ℕ, ◌-◌, ◌*◌, List, Bool, ◌&&◌, nat_lt, if◌then◌else◌, Option}
+use Rattle.std.specs.Prelude.{ℕ, ◌-◌, ◌*◌, List, Bool, ◌&&◌, nat_lt, IsTrue, if◌then◌else◌, Option}
 use Rattle.std.specs.List.{reduce}
 use Rattle.dover_model.specs.declared.events.Version.{Version}
 use Rattle.dover_model.specs.Fraction.{Fraction}
@@ -26,6 +26,6 @@ first before xs = reduce (earlier before) xs
 abbrev pub is_heavy : Fraction → ℕ → ℕ → Bool
 is_heavy k v w = nat_lt w v && nat_lt (k.p * w * w) (k.q * (v - w) * (v - w))
 
--- the same as a fact. (Where v is not above w, the difference is 0, and so is the greater side.)
+-- the same as a fact
 abbrev pub IsHeavy : Fraction → ℕ → ℕ → Type 0
-IsHeavy k v w = k.p * w * w < k.q * (v - w) * (v - w)
+IsHeavy k v w = IsTrue (is_heavy k v w)

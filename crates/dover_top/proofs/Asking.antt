@@ -19,6 +19,7 @@ use Rattle.dover_top.specs.declared.request.Request.TheVariants.{Resume, Unroll,
 use Rattle.serve_word.specs.declared.at_end.AtEnd.{AtEnd}
 use Rattle.serve_word.specs.declared.at_end.AtEnd.TheVariants as ends
 use Rattle.question_words.specs.declared.question.Question.TheVariants.{Feasible, Best, Compare, Loss}
+use Rattle.dover_model.proofs.JobLimits.{ratio_limits}
 
 -- ---- words read as what they ask for, if they ask for something
 
@@ -88,13 +89,14 @@ number_same n small = ap (λ o. unwrap_or o 0) (numeral-decimal n small)
 
 -- so is a ratio
 ratio_same : (k : Fraction) → IsRatio k → record { p = number_of (decimal k.p); q = number_of (decimal k.q) } ≡ k
-ratio_same k r = both (number_same k.p (omega (arith, r.small_p))) (number_same k.q (omega (arith, r.small_q))) where
-  make : ℕ → ℕ → Fraction
-  make p q = record { p = p; q = q }
+ratio_same k r = both (number_same k.p (omega (arith, (ratio_limits r).small_p)))
+    (number_same k.q (omega (arith, (ratio_limits r).small_q))) where
+      make : ℕ → ℕ → Fraction
+      make p q = record { p = p; q = q }
 
-  both : number_of (decimal k.p) ≡ k.p → number_of (decimal k.q) ≡ k.q
-      → make (number_of (decimal k.p)) (number_of (decimal k.q)) ≡ k
-  both e f = ap (λ p. make p (number_of (decimal k.q))) e ∙ ap (λ q. make k.p q) f
+      both : number_of (decimal k.p) ≡ k.p → number_of (decimal k.q) ≡ k.q
+          → make (number_of (decimal k.p)) (number_of (decimal k.q)) ≡ k
+      both e f = ap (λ p. make p (number_of (decimal k.q))) e ∙ ap (λ q. make k.p q) f
 
 -- so is a share
 share_same : (s : Share) → IsShare s → record {

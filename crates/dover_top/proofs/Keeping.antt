@@ -4,7 +4,7 @@ use Rattle.std.proofs.Common.{Option, Some, None}
 use Rattle.std.proofs.lemmas.List.{take-append-drop}
 use Rattle.dover_model.specs.Instance.{Instance, IsValid, jobs_under}
 use Rattle.dover_model.specs.JobFacts.{JobFacts}
-use Rattle.dover_model.specs.Session.{Session, instance_of}
+use Rattle.dover_model.specs.Session.{instance_of}
 use Rattle.dover_model.specs.Verdict.{verdict}
 use Rattle.dover_model.specs.Due.{due}
 use Rattle.dover_model.specs.Feed.{account, is_ended, is_open}
@@ -45,6 +45,8 @@ use Rattle.trial_words.specs.Dueled.{duel_front}
 use Rattle.trial_words.specs.Lists.{trial_instance}
 use Rattle.trial_words.specs.Baited.{bait_instance}
 use Rattle.dover_top.specs.Promises.{KeepsPromises, IsTraceOf, IsResumed, IsAccepted, KeepsBaits, IsRun, KeepsDuel}
+use Rattle.dover_model.proofs.SessionParts.{session_jobs}
+use Rattle.dover_model.proofs.ValidParts.{valid_parts}
 
 -- the run of a valid list keeps the promises
 promises_of : (J : Instance) → IsValid J → KeepsPromises J
@@ -70,7 +72,7 @@ trace_of feed written ended same =
       valid = hands.valid;
       text = same ∙ accepted.1;
       accepted = ap verdict same ∙ accepted.2;
-      promises = promises_of (instance_of hands.session) hands.valid.jobs;
+      promises = promises_of (instance_of hands.session) (session_jobs hands.valid);
     }
 
 -- ---- a feed that was served
@@ -112,7 +114,7 @@ accepted moves it = record {
   session = it.0;
   valid = it.1;
   accepted = it.2;
-  promises = promises_of (instance_of it.0) it.1.jobs;
+  promises = promises_of (instance_of it.0) (session_jobs it.1);
 }
 
 pub ran : (says : asked.Says) (ended : Bool) (text : List ℕ) (moves : List Move)
@@ -121,7 +123,7 @@ ran says ended text moves (inl refused) = absurd (let e : Done ≡ Refused = ref
 ran says ended text moves (inr said) = record {
   session = said.session;
   named = said.session_is;
-  promises = promises_of (instance_of said.session) said.valid.jobs;
+  promises = promises_of (instance_of said.session) (session_jobs said.valid);
 }
 
 pub generated : (k : Fraction) (seed count : ℕ) → IsRatio k → count ≤ most_jobs Two
@@ -149,8 +151,9 @@ pub dueled : (k : Fraction) (share : Share) (front : Option ℕ) (moves : List M
     → IsDuel k share front → outs moves ≡ feed_of (duel_front k share front) → KeepsDuel k share front moves
 dueled k share front moves is it written = record {
   loses = λ scheduler online. each_loses One k share.whole share.part scheduler is.some_part it.valid
-      it.valid.count online;
+      (valid_parts it.valid).count online;
   feed = subst (IsFeedOf (duel_front k share front)) (sym written)
       (feed_is (duel_front k share front) (front_valid k front (jobs_for k share) it.valid) refl
-      (jobs_never (duel_front k share front) (front_valid k front (jobs_for k share) it.valid).count));
+      (jobs_never (duel_front k share front)
+      (valid_parts (front_valid k front (jobs_for k share) it.valid)).count));
 }

@@ -5,7 +5,7 @@ use Rattle.std.specs.List.{AllByRecursion}
 use Rattle.dover_model.specs.declared.events.Version.TheVariants.{One}
 use Rattle.dover_model.specs.Fraction.{Fraction}
 use Rattle.dover_model.specs.JobFacts.{JobFacts, IsJob}
-use Rattle.dover_model.specs.Instance.{IsInOrder, Declaration, jobs_under}
+use Rattle.dover_model.specs.Instance.{Declaration, jobs_under}
 use Rattle.dover_model.specs.Admission.{refusal_of}
 use Rattle.dover_model.proofs.Admitting.{admits, valid_admitted}
 use Rattle.dover_model.proofs.Valid.{all_back, valid_front}
@@ -14,15 +14,16 @@ use Rattle.duel.specs.Game.{AreValid}
 use Rattle.duel.specs.Jobs.{jobs_of_links}
 use Rattle.duel.proofs.Plain.{order}
 use Rattle.duel.proofs.Chain.{phases_of, last_of, as_phases}
+use Rattle.dover_model.proofs.ValidParts.{ReleasesInOrder, valid_parts}
 
 -- the jobs of links are in order of release
 pub links_order : (k : Fraction) (a b more : ℕ) (l : ℕ × ℕ) → k.q ≤ k.p → 1 ≤ l.1
-    → IsInOrder (jobs_of_links k a b more l)
-links_order k a b more l ratio some = subst IsInOrder (sym (as_phases k a b more l some))
+    → ReleasesInOrder (jobs_of_links k a b more l)
+links_order k a b more l ratio some = subst ReleasesInOrder (sym (as_phases k a b more l some))
     (order k ratio a b l.0 (phases_of k a b more l) (last_of k a b more l))
 
 -- each job before one is released no later
-before_it : (xs ys : List JobFacts) (j : JobFacts) → IsInOrder (xs ++ j ∷ ys)
+before_it : (xs ys : List JobFacts) (j : JobFacts) → ReleasesInOrder (xs ++ j ∷ ys)
     → AllByRecursion (λ i. i.release ≤ j.release) xs
 before_it [] ys j order = tt
 before_it (x ∷ xs) ys j order = (
@@ -48,7 +49,7 @@ module _ (k : Fraction) (jobs : List JobFacts) (kept : Kept) (left : List JobFac
   pub too_large : ((j : JobFacts) × (rest : List JobFacts) × (left ≡ j ∷ rest) × (IsJob j → ⊥))
       → AreValid One k jobs → ⊥
   too_large (j, rest, is, large) valid = large (all_back IsJob it.done (j ∷ rest)
-      (subst (λ js. AllByRecursion IsJob js) (it.whole ∙ ap (λ js. it.done ++ js) is) valid.each)).0
+      (subst (λ js. AllByRecursion IsJob js) (it.whole ∙ ap (λ js. it.done ++ js) is) (valid_parts valid).each)).0
 
   module _ (j : JobFacts) (rest : List JobFacts) (is : left ≡ j ∷ rest) where
     whole_now : jobs ≡ (it.done ++ j ∷ []) ++ rest
@@ -62,7 +63,7 @@ module _ (k : Fraction) (jobs : List JobFacts) (kept : Kept) (left : List JobFac
         (subst (λ js. AreValid One k js) whole_now valid))))
 
     -- one more is
-    pub one_admitted : (then : Kept) → IsInOrder jobs → StandsFor then (it.done ++ j ∷ [])
+    pub one_admitted : (then : Kept) → ReleasesInOrder jobs → StandsFor then (it.done ++ j ∷ [])
         → refusal_of kept.rules it.done j ≡ None → then.rules ≡ kept.rules → HasAdmitted k jobs then rest
     one_admitted then order stands none same = record {
       done = it.done ++ j ∷ [];
@@ -70,6 +71,6 @@ module _ (k : Fraction) (jobs : List JobFacts) (kept : Kept) (left : List JobFac
       stands = stands;
       rules = same ∙ it.rules;
       valid = admits (declares k) it.done j it.valid
-          (before_it it.done rest j (subst IsInOrder (it.whole ∙ ap (λ js. it.done ++ js) is) order))
+          (before_it it.done rest j (subst ReleasesInOrder (it.whole ∙ ap (λ js. it.done ++ js) is) order))
           (subst (λ r. refusal_of r it.done j ≡ None) it.rules none);
     }

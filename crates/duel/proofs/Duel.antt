@@ -19,6 +19,8 @@ use Rattle.duel.proofs.Judging.{judge_all, reward_least}
 use Rattle.duel.proofs.Planning.{plan_worth}
 use Rattle.duel.proofs.Plain.{order, plain_whole, plain_front, known_before}
 use Rattle.duel.proofs.Ends.{link, first_work, ends, stays, works, cheap}
+use Rattle.dover_model.proofs.ValidParts.{valid_parts}
+use Rattle.dover_model.proofs.JobLimits.{ratio_limits}
 
 -- the number that a place names, if it names one
 named_by : (x : Option ℕ) → (n : ℕ) × ((m : ℕ) → x ≡ Some m → m ≡ n)
@@ -211,7 +213,7 @@ every_one_loses k a b scheduler some_q ratio some_b short online =
 -- a front of valid jobs is valid
 pub valid_known : (version : Version) (k : Fraction) (jobs : List JobFacts) (tick : ℕ) → AreValid version k jobs
     → AreValid version k (known_at tick jobs)
-valid_known version k jobs tick valid = by_split (split_known tick jobs valid.in_order) where
+valid_known version k jobs tick valid = by_split (split_known tick jobs (valid_parts valid).in_order) where
   by_split : Split tick jobs → AreValid version k (known_at tick jobs)
   by_split split = valid_front _ _ (subst (λ js. AreValid version k js) split.whole valid)
 
@@ -221,5 +223,6 @@ pub valid_ones_do : (version : Version) (k : Fraction) (a b : ℕ) (scheduler : 
     → AreValid version k (jobs_from k.p k.q 0 phases last) → IsOnline (AreValid version k) scheduler
     → LosesOnFront k a b scheduler (jobs_from k.p k.q 0 phases last)
 valid_ones_do version k a b scheduler phases last some_b traps valid online =
-    loses (AreValid version k) k a b valid.ratio.least valid.ratio.above_one some_b scheduler online phases last traps
+    loses (AreValid version k) k a b (ratio_limits (valid_parts valid).ratio).least
+    (ratio_limits (valid_parts valid).ratio).above_one some_b scheduler online phases last traps
     valid (λ tick. valid_known version k (jobs_from k.p k.q 0 phases last) tick valid)

@@ -7,12 +7,12 @@ use Rattle.std.specs.List.{sum, AllByRecursion}
 use Rattle.std.proofs.lemmas.Bool.{cases_lt, le-leb, lt-leb}
 use Rattle.std.proofs.lemmas.List.Sums.{sum_by-cons}
 use Rattle.dover_model.specs.JobFacts.{JobFacts}
-use Rattle.dover_model.specs.Instance.{IsInOrder}
 use Rattle.dover_model.specs.Online.{known_at}
 use Rattle.dover_model.specs.Bait.{tight_job}
 use Rattle.duel.specs.Jobs.{smalls}
 use Rattle.duel.proofs.Phases.{jobs_from, path, end_of}
 use Rattle.duel.proofs.Served.{Numbered}
+use Rattle.dover_model.proofs.ValidParts.{ReleasesInOrder}
 
 -- ---- the first tick off the path
 
@@ -86,7 +86,7 @@ none_known t r (j ∷ jobs) less all =
     ∙ none_known t r jobs less all.1
 
 -- what is known of jobs in order has the same numbers
-pub known_numbered : (fact : ℕ → JobFacts → Type 0) (t n : ℕ) (jobs : List JobFacts) → IsInOrder jobs
+pub known_numbered : (fact : ℕ → JobFacts → Type 0) (t n : ℕ) (jobs : List JobFacts) → ReleasesInOrder jobs
     → Numbered (λ m j. j.release ≤ t → fact m j) n jobs → Numbered fact n (known_at t jobs)
 known_numbered fact t n [] order all = tt
 known_numbered fact t n (j ∷ jobs) order all = by_order (cases_lt t j.release)

@@ -9,6 +9,8 @@ use Rattle.duel.specs.Jobs.{jobs_of_links, first_link, duel_jobs}
 use Rattle.duel.proofs.Phases.{jobs_from}
 use Rattle.duel.proofs.Chain.{phases_of, last_of, as_phases, traps_of, first_cheap}
 use Rattle.duel.proofs.Duel.{valid_ones_do}
+use Rattle.dover_model.proofs.ValidParts.{valid_parts}
+use Rattle.dover_model.proofs.JobLimits.{ratio_limits}
 
 -- the jobs of at most so many links
 links_lose : (version : Version) (k : Fraction) (a b more : ℕ) (scheduler : Scheduler) → 1 ≤ b
@@ -20,8 +22,9 @@ links_lose version k a b more scheduler some_b valid few online =
     subst (λ js. LosesOnFront k a b scheduler js) (sym same)
     (valid_ones_do version k a b scheduler (phases_of k a b more (first_link k a b))
     (last_of k a b more (first_link k a b)) some_b
-    (traps_of k a b valid.ratio.least some_b more (first_link k a b) (omega arith)
-    (first_cheap k a b valid.ratio.least some_b) few) (subst (λ js. AreValid version k js) same valid) online) where
+    (traps_of k a b (ratio_limits (valid_parts valid).ratio).least some_b more (first_link k a b) (omega arith)
+    (first_cheap k a b (ratio_limits (valid_parts valid).ratio).least some_b) few)
+    (subst (λ js. AreValid version k js) same valid) online) where
       same : jobs_of_links k a b more (first_link k a b) ≡ jobs_from k.p k.q 0 (phases_of k a b more (first_link k a b))
           (last_of k a b more (first_link k a b))
       same = as_phases k a b more (first_link k a b) (omega arith)

@@ -1,13 +1,12 @@
 -- The jobs of a duel and their fronts are plain.
 use Rattle.std.proofs.Common.{◌≡◌, ℕ, ◌+◌, ◌*◌, ◌≤◌, ◌<◌, ◌⊎◌, inl, inr, List, [], ◌∷◌, ◌++◌, cond}
-use Rattle.std.proofs.Common.{refl, sym, ap, ◌∙◌, arith, Bool, true, false}
+use Rattle.std.proofs.Common.{refl, sym, ap, ◌∙◌, arith, Bool, true, false, IsTrue}
 use Rattle.std.specs.Prelude.{nat_le}
 use Rattle.std.specs.List.{sum, AllByRecursion}
 use Rattle.std.proofs.lemmas.Bool.{cases_lt, lt-leb}
 use Rattle.std.proofs.lemmas.Nat.{mul-le}
 use Rattle.dover_model.specs.JobFacts.{JobFacts}
 use Rattle.dover_model.specs.Fraction.{Fraction}
-use Rattle.dover_model.specs.Instance.{IsInOrder, IsWithinRatio}
 use Rattle.dover_model.specs.Online.{known_at}
 use Rattle.dover_model.specs.Bait.{tight_job}
 use Rattle.dover_model.proofs.Valid.{all_from}
@@ -15,6 +14,8 @@ use Rattle.duel.specs.Jobs.{smalls}
 use Rattle.duel.specs.Game.{ArePlain}
 use Rattle.duel.proofs.Phases.{jobs_from, AreTraps}
 use Rattle.duel.proofs.Fronts.{sum_cons, known_one}
+use Rattle.dover_model.proofs.ValidParts.{IsWithinRatio, is_within_ratio-agrees, ReleasesInOrder, order_from}
+use Rattle.dover_model.specs.Instance.{is_within_ratio}
 
 record IsPiece (k : Fraction) (j : JobFacts) : Type 0 where
   some : 1 ≤ j.work
@@ -30,13 +31,15 @@ within k i j one other =
     mul-le (k.p * i.work) (k.q * j.work) (k.p * i.work) j.value (omega arith) other.least in
     omega (arith, up, down)
 
-plain_of : (k : Fraction) (jobs : List JobFacts) → AllByRecursion (IsPiece k) jobs → IsInOrder jobs → ArePlain k jobs
+plain_of : (k : Fraction) (jobs : List JobFacts) → AllByRecursion (IsPiece k) jobs → ReleasesInOrder jobs
+    → ArePlain k jobs
 plain_of k jobs all order = record {
   some = all_from (IsPiece k) (λ j. 1 ≤ j.work) jobs (λ j it. it.some) all;
   windows = all_from (IsPiece k) (λ j. j.release + j.work ≤ j.deadline) jobs (λ j it. omega (arith, it.due)) all;
-  in_order = order;
-  densities = all_from (IsPiece k) (λ i. AllByRecursion (IsWithinRatio k i) jobs) jobs
-      (λ i one. all_from (IsPiece k) (IsWithinRatio k i) jobs (λ j other. within k i j one other) all) all;
+  in_order = order_from order;
+  densities = all_from (IsPiece k) (λ i. AllByRecursion (λ j. IsTrue (is_within_ratio k i j)) jobs) jobs
+      (λ i one. all_from (IsPiece k) (λ j. IsTrue (is_within_ratio k i j)) jobs
+      (λ j other. (is_within_ratio-agrees k i j).1 (within k i j one other)) all) all;
 }
 
 -- ---- what is known keeps what each has
@@ -50,10 +53,11 @@ all_known fact t (j ∷ jobs) all = by_test (nat_le j.release t) (all_known fact
   by_test true rest = (all.0, rest)
   by_test false rest = rest
 
-order_known : (t : ℕ) (jobs : List JobFacts) → IsInOrder jobs → IsInOrder (known_at t jobs)
+order_known : (t : ℕ) (jobs : List JobFacts) → ReleasesInOrder jobs → ReleasesInOrder (known_at t jobs)
 order_known t [] order = tt
 order_known t (j ∷ jobs) order = by_test (nat_le j.release t) (order_known t jobs order.1) where
-  by_test : (b : Bool) → IsInOrder (known_at t jobs) → IsInOrder (cond b (j ∷ known_at t jobs) (known_at t jobs))
+  by_test : (b : Bool) → ReleasesInOrder (known_at t jobs) → ReleasesInOrder
+      (cond b (j ∷ known_at t jobs) (known_at t jobs))
   by_test true rest = (all_known (λ later. j.release ≤ later.release) t jobs order.0, rest)
   by_test false rest = rest
 
@@ -122,7 +126,8 @@ module _ (k : Fraction) (ratio : k.q ≤ k.p) (a b : ℕ) where
   )
 
   smalls_order : (t : ℕ) (gs : List ℕ) (phases : List (List ℕ)) (u last : ℕ) → t + sum gs ≤ u
-      → IsInOrder (jobs_from k.p k.q u phases last) → IsInOrder (smalls k.p t gs ++ jobs_from k.p k.q u phases last)
+      → ReleasesInOrder (jobs_from k.p k.q u phases last) → ReleasesInOrder
+      (smalls k.p t gs ++ jobs_from k.p k.q u phases last)
   smalls_order t [] phases u last less order = order
   smalls_order t (g ∷ gs) phases u last less order = (
     smalls_after _ _ _ _ (omega arith) (after t u phases last (omega (arith, less))),
@@ -132,7 +137,7 @@ module _ (k : Fraction) (ratio : k.q ≤ k.p) (a b : ℕ) where
     level : (all rest : ℕ) → all ≡ g + rest → t + all ≤ u → t + g + rest ≤ u
     level all rest is less = omega (arith, is, less)
 
-  pub order : (t : ℕ) (phases : List (List ℕ)) (last : ℕ) → IsInOrder (jobs_from k.p k.q t phases last)
+  pub order : (t : ℕ) (phases : List (List ℕ)) (last : ℕ) → ReleasesInOrder (jobs_from k.p k.q t phases last)
   order t [] last = (tt, tt)
   order t (gs ∷ rest) last = (
     smalls_after _ _ _ _ (omega arith) (after t (t + sum gs) rest last (omega arith)),

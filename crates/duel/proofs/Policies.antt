@@ -10,6 +10,7 @@ use Rattle.policy_lab.specs.PolicyRun.{policy_run}
 use Rattle.policy_lab.proofs.Onlines.{on_line}
 use Rattle.duel.specs.Game.{IsOnline, AreValid}
 use Rattle.duel.proofs.Duel.{valid_known}
+use Rattle.dover_model.proofs.ValidParts.{valid_parts}
 
 -- a place that names a number has it
 place_has : (xs : List ℕ) (u n d : ℕ) → slice_get xs u ≡ Some n → slice_index_or xs u d ≡ n
@@ -37,7 +38,8 @@ online version k picks idles t jobs others valid valid2 same n known = (
 ) where
   agree : slice_index_or (policy_run picks jobs) t 4_000_000_000
       ≡ slice_index_or (policy_run picks others) t 4_000_000_000
-  agree = on_line picks t jobs others idles valid.in_order valid2.in_order same t (omega arith)
+  agree = on_line picks t jobs others idles (valid_parts valid).in_order (valid_parts valid2).in_order same t
+      (omega arith)
 
   other : 4_000_000_000 ≡ n → ⊥
-  other is = omega (arith, is, known, (valid_known version k jobs t valid).count, jobs_most version)
+  other is = omega (arith, is, known, (valid_parts (valid_known version k jobs t valid)).count, jobs_most version)

@@ -8,7 +8,6 @@ use Rattle.dover_model.specs.Fraction.{Fraction, IsRatio}
 use Rattle.dover_model.specs.JobFacts.{JobFacts, is_job, IsJob}
 use Rattle.dover_model.specs.Instance.{total_value}
 use Rattle.dover_model.specs.Limits.{most_jobs, most_total}
-use Rattle.dover_model.proofs.Agreement.{is_job-agrees}
 use Rattle.dover_model.proofs.Tests.{each}
 use Rattle.duel.specs.Game.{Scheduler, IsOnline, ArePlain, AreValid, LosesOnFront}
 use Rattle.duel.specs.Jobs.{jobs_of_links, first_link, duel_jobs}
@@ -17,6 +16,9 @@ use Rattle.duel.proofs.Phases.{jobs_from}
 use Rattle.duel.proofs.Plain.{plain_whole}
 use Rattle.duel.proofs.Chain.{phases_of, last_of, as_phases, traps_of, first_cheap}
 use Rattle.duel.proofs.Losing.{each_loses}
+use Rattle.dover_model.proofs.ValidParts.{is_within_ratio-agrees, order_parts, valid_from}
+use Rattle.dover_model.proofs.Valid.{all_from}
+use Rattle.dover_model.proofs.JobLimits.{ratio_limits, job_passes}
 
 -- jobs that are few, not worth too much, and each within its limits
 abbrev fits : List JobFacts → Bool
@@ -32,20 +34,22 @@ module _ (k : Fraction) (a b : ℕ) (ratio : IsRatio k) (some_b : 1 ≤ b) where
       → fits (jobs_of_links k a b more (first_link k a b)) ≡ true
       → AreValid One k (jobs_of_links k a b more (first_link k a b))
   valid_links more low few test =
+      let plain = plain_whole k (ratio_limits ratio).above_one a b (phases_of k a b more (first_link k a b))
+      (last_of k a b more (first_link k a b))
+      (traps_of _ _ _ (ratio_limits ratio).least some_b _ _ (omega arith)
+      (first_cheap k a b (ratio_limits ratio).least some_b) few) in
+      let here = subst (λ js. ArePlain k js) (sym same) plain in
       let one = both _ _ test in
       let two = both _ _ one.0 in
-      let plain = plain_whole k ratio.above_one a b (phases_of k a b more (first_link k a b))
-      (last_of k a b more (first_link k a b))
-      (traps_of _ _ _ ratio.least some_b _ _ (omega arith) (first_cheap k a b ratio.least some_b) few) in
-      let here = subst (λ js. ArePlain k js) (sym same) plain in
-      record {
+      valid_from (record {
         ratio = ratio;
-        each = (each is_job IsJob is_job-agrees (jobs_of_links k a b more (first_link k a b))).0 one.1;
-        in_order = here.in_order;
+        each = (each is_job IsJob job_passes (jobs_of_links k a b more (first_link k a b))).0 one.1;
+        in_order = order_parts here.in_order;
         count = leb-true _ _ two.0;
         total = leb-true _ _ two.1;
-        densities = here.densities;
-      } where
+        densities = all_from _ _ _ (λ i row. all_from _ _ _ (λ j within. (is_within_ratio-agrees k i j).0 within) row)
+            here.densities;
+      }) where
         same : jobs_of_links k a b more (first_link k a b) ≡ jobs_from k.p k.q 0
             (phases_of k a b more (first_link k a b)) (last_of k a b more (first_link k a b))
         same = as_phases k a b more (first_link k a b) (omega arith)
@@ -68,7 +72,7 @@ one_fits = refl
 pub one_loses : (scheduler : Scheduler) → IsOnline (AreValid One (k_of 1)) scheduler
     → LosesOnFront (k_of 1) 393 100 scheduler (duel_jobs (k_of 1) 393 100)
 one_loses scheduler online = fitting 1 393 100 scheduler
-    (record { least = omega arith; above_one = omega arith; small_q = omega arith; small_p = omega arith })
+    (record { passes = refl })
     (omega arith) one_fits online
 
 two_fits : fits (duel_jobs (k_of 2) 143 25) ≡ true
@@ -78,7 +82,7 @@ two_fits = refl
 pub two_loses : (scheduler : Scheduler) → IsOnline (AreValid One (k_of 2)) scheduler
     → LosesOnFront (k_of 2) 143 25 scheduler (duel_jobs (k_of 2) 143 25)
 two_loses scheduler online = fitting 2 143 25 scheduler
-    (record { least = omega arith; above_one = omega arith; small_q = omega arith; small_p = omega arith })
+    (record { passes = refl })
     (omega arith) two_fits online
 
 four_fits : fits (duel_jobs (k_of 4) 221 25) ≡ true
@@ -88,7 +92,7 @@ four_fits = refl
 pub four_loses : (scheduler : Scheduler) → IsOnline (AreValid One (k_of 4)) scheduler
     → LosesOnFront (k_of 4) 221 25 scheduler (duel_jobs (k_of 4) 221 25)
 four_loses scheduler online = fitting 4 221 25 scheduler
-    (record { least = omega arith; above_one = omega arith; small_q = omega arith; small_p = omega arith })
+    (record { passes = refl })
     (omega arith) four_fits online
 
 hundred_fits : fits (duel_jobs (k_of 100) 118 1) ≡ true
@@ -98,5 +102,5 @@ hundred_fits = refl
 pub hundred_loses : (scheduler : Scheduler) → IsOnline (AreValid One (k_of 100)) scheduler
     → LosesOnFront (k_of 100) 118 1 scheduler (duel_jobs (k_of 100) 118 1)
 hundred_loses scheduler online = fitting 100 118 1 scheduler
-    (record { least = omega arith; above_one = omega arith; small_q = omega arith; small_p = omega arith })
+    (record { passes = refl })
     (omega arith) hundred_fits online

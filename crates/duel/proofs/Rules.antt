@@ -30,6 +30,7 @@ use Rattle.dover_model.proofs.Tests.{never}
 use Rattle.dover_model.proofs.Limiting.{jobs_most}
 use Rattle.duel.specs.Game.{IsOnline, AreValid}
 use Rattle.duel.proofs.Duel.{valid_known}
+use Rattle.dover_model.proofs.ValidParts.{valid_parts}
 
 -- the schedule of these steps
 abbrev places : List Step → List ℕ
@@ -221,7 +222,7 @@ online version k t jobs others valid valid2 same n known = (
   less = omega arith
 
   other : n ≡ 4_000_000_000 → ⊥
-  other is = omega (arith, is, known, (valid_known version k jobs t valid).count, jobs_most version)
+  other is = omega (arith, is, known, (valid_parts (valid_known version k jobs t valid)).count, jobs_most version)
 
   here : SameUpTo t 0 (ran (jobs_under version k jobs))
       (places (settled_steps (known_part t (jobs_under version k jobs)) (t + 1)))

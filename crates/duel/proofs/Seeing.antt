@@ -6,7 +6,6 @@ use Rattle.dover_model.specs.Fraction.{Fraction}
 use Rattle.dover_model.specs.JobFacts.{JobFacts}
 use Rattle.dover_model.specs.Bait.{tight_job}
 use Rattle.dover_model.specs.Instance.{is_valid, jobs_under}
-use Rattle.dover_model.proofs.Agreement.{is_valid-agrees}
 use Rattle.duel.specs.Game.{AreValid, IsOnline}
 use Rattle.duel.specs.Rows.{k_of, farsighted}
 
@@ -22,7 +21,7 @@ two_jobs : List JobFacts
 two_jobs = tight_job 0 1 1 ∷ tight_job 5 1 1 ∷ []
 
 passes : (jobs : List JobFacts) → is_valid (jobs_under One (k_of 1) jobs) ≡ true → AreValid One (k_of 1) jobs
-passes jobs test = (is_valid-agrees (jobs_under One (k_of 1) jobs)).0 test
+passes jobs test = record { passes = test }
 
 -- at tick 0 the same is known of both
 pub sees_ahead : IsOnline (AreValid One (k_of 1)) farsighted → ⊥

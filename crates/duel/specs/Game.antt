@@ -1,11 +1,11 @@
 -- Schedulers, what makes one on-line, and what it is to lose.
-use Rattle.std.specs.Prelude.{ℕ, ◌+◌, ◌*◌, ◌≤◌, ◌<◌, ◌≡◌, ◌↔◌, List, length, slice_get, Some}
+use Rattle.std.specs.Prelude.{ℕ, ◌+◌, ◌*◌, ◌≤◌, ◌<◌, ◌≡◌, ◌↔◌, List, length, slice_get, Some, IsTrue}
 use Rattle.std.specs.List.{AllByRecursion}
 use Rattle.dover_model.specs.declared.events.Version.TheVariants.{One}
 use Rattle.dover_model.specs.Fraction.{Fraction}
 use Rattle.dover_model.specs.JobFacts.{JobFacts}
 use Rattle.dover_model.specs.declared.events.Version.{Version}
-use Rattle.dover_model.specs.Instance.{IsInOrder, IsWithinRatio, IsValid, jobs_under}
+use Rattle.dover_model.specs.Instance.{IsInOrder, is_within_ratio, IsValid, jobs_under}
 use Rattle.dover_model.specs.Schedules.{worth}
 use Rattle.dover_model.specs.Online.{known_at}
 
@@ -29,7 +29,7 @@ pub record ArePlain (k : Fraction) (jobs : List JobFacts) : Type 0 where
   pub some : AllByRecursion (λ j. 1 ≤ j.work) jobs
   pub windows : AllByRecursion (λ j. j.release + j.work ≤ j.deadline) jobs
   pub in_order : IsInOrder jobs
-  pub densities : AllByRecursion (λ i. AllByRecursion (IsWithinRatio k i) jobs) jobs
+  pub densities : AllByRecursion (λ i. AllByRecursion (λ j. IsTrue (is_within_ratio k i j)) jobs) jobs
 
 -- on these jobs the scheduler is worth less than part/whole of what some schedule is
 pub record IsBeaten (k : Fraction) (whole part : ℕ) (scheduler : Scheduler) (jobs : List JobFacts) : Type 0 where

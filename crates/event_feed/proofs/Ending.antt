@@ -24,6 +24,7 @@ use Rattle.event_feed.specs.declared.listed.DoneLine.{DoneLine}
 use Rattle.event_feed.specs.declared.listed.Listed.{Listed}
 use Rattle.event_feed.specs.declared.reader.FeedReader.{FeedReader}
 use Rattle.event_feed.proofs.Listing.{goes_on}
+use Rattle.dover_model.proofs.SessionParts.{session_jobs}
 
 -- ---- the end line
 
@@ -60,7 +61,7 @@ module _ (ls : List (List ℕ)) (ended : (account_of_lines ls).standing ≡ feed
 
 -- they are valid
 pub jobs_valid : (a : feeds.Account) (listed : Listed) → IsEnded listed a → IsValid (listed_instance listed)
-jobs_valid a listed it = subst IsValid (sym it.run) it.valid.jobs
+jobs_valid a listed it = subst IsValid (sym it.run) (session_jobs it.valid)
 
 -- what stands for lines keeps how they stand
 pub keeps_standing : (kept : Kept) (ls : List (List ℕ)) → feed.StandsFor kept ls

@@ -8,13 +8,14 @@ use Rattle.std.proofs.lemmas.Bool.{le-leb, lt-leb, cases_lt}
 use Rattle.std.proofs.lemmas.List.{drop_more}
 use Rattle.std.proofs.lemmas.List.Sums.{sum_by-cons, sum_by-append}
 use Rattle.dover_model.specs.JobFacts.{JobFacts, IsJob}
-use Rattle.dover_model.specs.Instance.{IsInOrder}
 use Rattle.dover_model.specs.Sound.{Each}
 use Rattle.dover_model.specs.Windows.{IsOverfull, is_inside, work_inside}
 use Rattle.dover_model.proofs.Members.{all_member, sum_le, sum_same, sum_zero, member_behind}
 use Rattle.dover_model.proofs.Valid.{order_back}
 use Rattle.feasibility.specs.Feasibility.{IsRelease}
 use Rattle.feasibility.proofs.Overfull.{work_is}
+use Rattle.dover_model.proofs.ValidParts.{ReleasesInOrder}
+use Rattle.dover_model.proofs.JobLimits.{job_limits}
 
 -- what a job asks of the window
 abbrev pub asked : ℕ → ℕ → JobFacts → ℕ
@@ -54,7 +55,7 @@ due_all : (b : ℕ) (j : JobFacts) → j.deadline ≤ b → due_work b j ≡ j.w
 due_all b j due = ap (λ x. cond x j.work 0) (le-leb _ _ due)
 
 -- a job that is due, where the window from its release isn't overfull
-pub passed_due : (b work : ℕ) (j : JobFacts) (behind : List JobFacts) → IsInOrder (j ∷ behind) → j.deadline ≤ b
+pub passed_due : (b work : ℕ) (j : JobFacts) (behind : List JobFacts) → ReleasesInOrder (j ∷ behind) → j.deadline ≤ b
     → j.release ≤ b
     → work + j.work ≤ b - j.release → Passed b work behind → Passed b (work + j.work) (j ∷ behind)
 passed_due b work j behind order due released fits p = record {
@@ -75,7 +76,7 @@ pub record StartsAt (jobs : List JobFacts) (b a : ℕ) : Type 0 where
   pub last : (c w : ℕ) → IsOverfull jobs c b w → c ≤ a
 
 -- the jobs before a place are released no later
-front_order : (front : List JobFacts) (j : JobFacts) (behind : List JobFacts) → IsInOrder (front ++ j ∷ behind)
+front_order : (front : List JobFacts) (j : JobFacts) (behind : List JobFacts) → ReleasesInOrder (front ++ j ∷ behind)
     → Each (λ i. i.release
     ≤ j.release) front
 front_order [] j behind order i member = absurd member
@@ -87,7 +88,7 @@ front_order (x ∷ front) j behind order i (inr member) = front_order front j be
 
 -- at the first place from the end at which the window is overfull
 pub starts_here : (b work : ℕ) (front : List JobFacts) (j : JobFacts) (behind : List JobFacts)
-    → IsInOrder (front ++ j ∷ behind) → j.deadline ≤ b
+    → ReleasesInOrder (front ++ j ∷ behind) → j.deadline ≤ b
     → j.release ≤ b → b - j.release < work + j.work → Passed b work behind → StartsAt (front ++ j ∷ behind) b j.release
 starts_here b work front j behind order due released full p = record {
   release = (j, member_behind front (j ∷ behind) j (inl refl), refl);
@@ -140,7 +141,7 @@ none_passed b work jobs p a w over =
 
 -- ---- by place
 
-module _ (jobs : List JobFacts) (order : IsInOrder jobs) (b work k : ℕ) (j : JobFacts) (low : k ≤ length jobs)
+module _ (jobs : List JobFacts) (order : ReleasesInOrder jobs) (b work k : ℕ) (j : JobFacts) (low : k ≤ length jobs)
     (some : 0 < k)
     (at : j ≡ get_or jobs (k - 1) j) (p : Passed b work (drop k jobs)) where
   -- the jobs from this place on
@@ -154,16 +155,17 @@ module _ (jobs : List JobFacts) (order : IsInOrder jobs) (b work k : ℕ) (j : J
   whole = sym (take-append-drop (k - 1) jobs) ∙ ap (λ xs. take (k - 1) jobs ++ xs) from_here
 
   -- they are in order
-  in_order_here : IsInOrder (j ∷ drop k jobs)
-  in_order_here = order_back (take (k - 1) jobs) (j ∷ drop k jobs) (subst IsInOrder whole order)
+  in_order_here : ReleasesInOrder (j ∷ drop k jobs)
+  in_order_here = order_back (take (k - 1) jobs) (j ∷ drop k jobs) (subst ReleasesInOrder whole order)
 
   -- the greatest start is here
   pub starts_at : IsJob j → j.deadline ≤ b → b - j.release < work + j.work → StartsAt jobs b j.release
   starts_at is_job due full = subst (λ js. StartsAt js b j.release) (sym whole)
-      (starts_here _ _ _ _ _ (subst IsInOrder whole order) due (omega (arith, due, is_job.window)) full p)
+      (starts_here _ _ _ _ _ (subst ReleasesInOrder whole order) due (omega (arith, due, (job_limits is_job).window))
+      full p)
 
   -- it isn't here
   pub passed_at : IsJob j → j.deadline ≤ b → work + j.work ≤ b - j.release
       → Passed b (work + j.work) (drop (k - 1) jobs)
   passed_at is_job due fits = subst (λ js. Passed b (work + j.work) js) (sym from_here)
-      (passed_due b work j (drop k jobs) in_order_here due (omega (arith, due, is_job.window)) fits p)
+      (passed_due b work j (drop k jobs) in_order_here due (omega (arith, due, (job_limits is_job).window)) fits p)

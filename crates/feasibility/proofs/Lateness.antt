@@ -19,6 +19,7 @@ use Rattle.feasibility.proofs.EarliestFirst.{had_more, given_ticks, by_given, Le
 use Rattle.feasibility.proofs.Shares.{named, run_adds, whole_window, given_grows}
 use Rattle.feasibility.proofs.Coming.{leader}
 use Rattle.feasibility.proofs.Overfull.{work_of_tasks}
+use Rattle.dover_model.proofs.JobLimits.{job_limits}
 
 -- ---- the late deadline
 
@@ -110,7 +111,7 @@ module _ (jobs : List JobFacts) (clock : ℕ) (s : List ℕ) (tasks : List Task)
         (
           w.since,
           record {
-            window = omega (arith, since, is_job.window);
+            window = omega (arith, since, (job_limits is_job).window);
             work = refl;
             too_much = omega (arith, late, sums, filled, work_most);
           },

@@ -7,7 +7,6 @@ use Rattle.std.specs.List.{sum_by, fold, enumerate_from}
 use Rattle.std.proofs.lemmas.List.Sums.{sum_by-cons}
 use Rattle.std.proofs.lemmas.Bool.{leb-true, leb-false}
 use Rattle.dover_model.specs.JobFacts.{JobFacts}
-use Rattle.dover_model.specs.Instance.{IsInOrder}
 use Rattle.dover_model.specs.State.{to_come, left}
 use Rattle.dover_model.specs.Sound.{IsMember, Each, IsNumberedFrom, jobs_of}
 use Rattle.dover_model.specs.Pieces.{last_release}
@@ -16,6 +15,7 @@ use Rattle.dover_model.specs.declared.events.Task.{Task}
 use Rattle.dover_model.proofs.Members.{all_member, map_member, some_same}
 use Rattle.dover_model.proofs.Roles.{numbers_above}
 use Rattle.dover_model.proofs.Tests.{none_is_some}
+use Rattle.dover_model.proofs.ValidParts.{ReleasesInOrder}
 
 -- ---- to come
 
@@ -51,7 +51,8 @@ task_at n (suc i) (t ∷ tasks) j numbered found = more (task_at (suc n) i tasks
   more it = (it.0, inr it.1, (let e : it.0.number ≡ suc n + i = it.2 in omega (arith, e)), it.3)
 
 -- releases don't fall as the numbers rise
-pub releases_rise : (n : ℕ) (tasks : List Task) → IsNumberedFrom n tasks → IsInOrder (jobs_of tasks) → (t u : Task)
+pub releases_rise : (n : ℕ) (tasks : List Task) → IsNumberedFrom n tasks → ReleasesInOrder (jobs_of tasks)
+    → (t u : Task)
     → IsMember t tasks
     → IsMember u tasks
     → t.number ≤ u.number → t.job.release ≤ u.job.release

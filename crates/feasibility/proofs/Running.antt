@@ -9,7 +9,6 @@ use Rattle.std.proofs.lemmas.Option.{slice_get_read, slice_get_within}
 use Rattle.dover_model.specs.declared.events.Version.TheVariants.{Two}
 use Rattle.dover_model.specs.Limits.{idle, most_jobs}
 use Rattle.dover_model.specs.JobFacts.{JobFacts}
-use Rattle.dover_model.specs.Instance.{IsInOrder}
 use Rattle.dover_model.specs.State.{left}
 use Rattle.dover_model.specs.Sound.{IsMember}
 use Rattle.dover_model.specs.Pieces.{stretches}
@@ -20,6 +19,7 @@ use Rattle.dover_model.proofs.Tests.{none_is_some}
 use Rattle.feasibility.specs.Progress.{with_late, Stands, IsPending, NoneBefore, RunsUntil, kept_as}
 use Rattle.feasibility.specs.Queue.{Kept, IsFirst, IsTakenOut}
 use Rattle.feasibility.proofs.Standing.{next_later, number_low, stands_until, stands_moved, stands_run, stands_done}
+use Rattle.dover_model.proofs.ValidParts.{ReleasesInOrder}
 
 -- past the end there is no job
 place_past : (jobs : List JobFacts) (i : ℕ) → slice_get jobs i ≡ None → length jobs ≤ i
@@ -98,7 +98,8 @@ module _ (jobs : List JobFacts) (clock released due n l : ℕ) (kept : List Kept
       (let later : clock < j.release = next_later jobs clock released kept pieces late before j e in omega arith),
     )
 
-  module _ (order : IsInOrder jobs) (until : ℕ) (runs : RunsUntil jobs clock released l until) (after : List Piece)
+  module _ (order : ReleasesInOrder jobs) (until : ℕ) (runs : RunsUntil jobs clock released l until)
+      (after : List Piece)
       (now : List Kept) (stays : 1 ≤ clock + l - until → now ≡ ((due, n), clock + l - until) ∷ first.rest)
       (goes : clock + l - until ≡ 0 → IsTakenOut ((due, n), l) kept now) where
     -- so much is left, or nothing

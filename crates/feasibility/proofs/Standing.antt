@@ -11,7 +11,6 @@ use Rattle.std.proofs.lemmas.Option.{slice_get_within}
 use Rattle.dover_model.specs.declared.events.Version.TheVariants.{Two}
 use Rattle.dover_model.specs.Limits.{idle, most_jobs}
 use Rattle.dover_model.specs.JobFacts.{JobFacts, IsJob}
-use Rattle.dover_model.specs.Instance.{IsInOrder}
 use Rattle.dover_model.specs.Schedules.{is_served, ticks_given}
 use Rattle.dover_model.specs.State.{to_come, left}
 use Rattle.dover_model.specs.Sound.{IsMember, Each, jobs_of}
@@ -35,6 +34,8 @@ use Rattle.dover_model.proofs.Kept.{come_numbered, come_jobs}
 use Rattle.feasibility.proofs.Numbered.{come_had, come_left, task_at, releases_rise, each_numbered}
 use Rattle.feasibility.proofs.Numbered.{release_before_last}
 use Rattle.feasibility.proofs.Stretches.{stretches_idle}
+use Rattle.dover_model.proofs.ValidParts.{ReleasesInOrder}
+use Rattle.dover_model.proofs.JobLimits.{job_limits}
 
 -- ---- at the beginning
 
@@ -95,7 +96,7 @@ module _ (jobs : List JobFacts) (clock released : ℕ) (kept : List Kept) (piece
       sym (s.come.had t member) ∙ none_behind t.number t.job.release s.so_far (omega (arith, s.come.ticks))
 
   -- no job comes before a later tick
-  pub released_until : IsInOrder jobs → (until : ℕ) → NoneBefore jobs until released
+  pub released_until : ReleasesInOrder jobs → (until : ℕ) → NoneBefore jobs until released
       → AreReleased released clock until s.tasks
   released_until order until none =
       record { past = s.releases.past; ahead = λ t member high. ahead none t member high } where
@@ -108,13 +109,14 @@ module _ (jobs : List JobFacts) (clock released : ℕ) (kept : List Kept) (piece
               let number : it.0.number ≡ released = it.2 in
               let release : it.0.job.release ≡ next.0.release = ap (λ (j : JobFacts). j.release) it.3 in
               let rise : it.0.job.release ≤ t.job.release =
-              releases_rise 0 s.tasks s.come.numbered (subst IsInOrder (sym s.come.of_jobs) order) it.0 t it.1 member
+              releases_rise 0 s.tasks s.come.numbered (subst ReleasesInOrder (sym s.come.of_jobs) order) it.0 t it.1
+              member
               (omega arith) in
               let low : until ≤ next.0.release = next.2 in
               omega arith
 
   -- so it stands the same
-  pub stands_until : IsInOrder jobs → (until : ℕ) → NoneBefore jobs until released
+  pub stands_until : ReleasesInOrder jobs → (until : ℕ) → NoneBefore jobs until released
       → Stands jobs clock released kept pieces late until
   stands_until order until none = record {
     tasks = s.tasks;
@@ -170,8 +172,8 @@ module _ (jobs : List JobFacts) (clock released : ℕ) (kept : List Kept) (piece
     soon = omega (
       arith,
       s.soon,
-      is_job.window,
-      is_job.due,
+      (job_limits is_job).window,
+      (job_limits is_job).due,
       sum_by-cons (λ (e : Kept). e.1) ((j.deadline, released), j.work) kept,
     );
   } where
@@ -198,7 +200,7 @@ module _ (jobs : List JobFacts) (clock released : ℕ) (kept : List Kept) (piece
         let same : it.0.number ≡ released = it.2 in
         let none : it.0.had ≡ 0 = had_none after it.0 it.1 (omega arith) in
         let work : it.0.job.work ≡ j.work = ap (λ (x : JobFacts). x.work) it.3 in
-        (it.0, it.1, omega arith, omega (arith, is_job.work, none), new ∙ sym (as_kept it.0 it.1 it.2))
+        (it.0, it.1, omega arith, omega (arith, (job_limits is_job).work, none), new ∙ sym (as_kept it.0 it.1 it.2))
     each e (inr old) = more (s.ready.each e old) where
       more : ((t : Task) × IsMember t s.tasks × (t.number < released) × (1 ≤ left t) × (e ≡ kept_as t))
           → (t : Task) × IsMember t s.tasks × (t.number < released + 1) × (1 ≤ left t) × (e ≡ kept_as t)
@@ -451,7 +453,7 @@ next_later jobs clock released kept pieces late s j found = by_task (task_of job
 
 -- the simulation waits for the next release
 pub stands_idle : (jobs : List JobFacts) (clock released : ℕ) (pieces : List Piece) (late : Option ℕ)
-    → length jobs ≤ most_jobs Two → IsInOrder jobs
+    → length jobs ≤ most_jobs Two → ReleasesInOrder jobs
     → Stands jobs clock released [] pieces late (clock + 1) → (j : JobFacts) → slice_get jobs released ≡ Some j
     → IsJob j
     → Stands jobs j.release released [] pieces late j.release
@@ -468,7 +470,7 @@ stands_idle jobs clock released pieces late count order s j found is_job = at_re
   some_left = let number : it.0.number ≡ released = it.2 in
       let none : it.0.had ≡ 0 =
       had_none jobs clock released [] pieces late (clock + 1) s (omega arith) it.0 it.1 (omega arith) in
-      let work : it.0.job.work ≡ j.work = ap (λ (x : JobFacts). x.work) it.3 in omega (arith, is_job.work)
+      let work : it.0.job.work ≡ j.work = ap (λ (x : JobFacts). x.work) it.3 in omega (arith, (job_limits is_job).work)
 
   -- none comes until then
   until : AreReleased released clock j.release s.tasks
@@ -516,7 +518,7 @@ stands_idle jobs clock released pieces late count order s j found is_job = at_re
         served = served_idle s.so_far (replicate k idle) s.tasks late s.served;
         shown = s.shown;
         few = s.few;
-        soon = omega (arith, s.soon, is_job.window, is_job.due);
+        soon = omega (arith, s.soon, (job_limits is_job).window, (job_limits is_job).due);
       })
 
 -- ---- the end

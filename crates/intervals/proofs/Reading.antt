@@ -36,6 +36,8 @@ use Rattle.intervals.proofs.Steps.{waiting_idle, fresh_idle, enters_next, resume
 use Rattle.intervals.proofs.Overs.{preempts_next, releases_next, abandons_next, completes_next, ticks_next}
 use Rattle.intervals.proofs.Overs.{ends_next}
 use Rattle.intervals.proofs.Takes.{takes_next}
+use Rattle.dover_model.proofs.ValidParts.{valid_parts}
+use Rattle.dover_model.proofs.JobLimits.{ratio_limits}
 
 -- ---- one step
 
@@ -134,10 +136,12 @@ module _ (J : Instance) (valid : IsValid J) (listable : IsListable J) where
       → Follows J.rules.ratio s l current
       → Next J.rules.ratio s l current (step J.rules s)
   step_next s keeps l few current follows =
-      deed_next J.rules.ratio valid.ratio.least valid.ratio.above_one s keeps.sound l few total count current
+      deed_next J.rules.ratio (ratio_limits (valid_parts valid).ratio).least
+      (ratio_limits (valid_parts valid).ratio).above_one s keeps.sound l few total count current
       follows
       (ending s or_else Ticks)
-      (λ _. rest_next J.rules.ratio valid.ratio.least valid.ratio.above_one s keeps.sound l few total count current
+      (λ _. rest_next J.rules.ratio (ratio_limits (valid_parts valid).ratio).least
+      (ratio_limits (valid_parts valid).ratio).above_one s keeps.sound l few total count current
       follows
       (list_all is_over s.tasks) (value_sum (filter is_done s.tasks)))
       (step J.rules s) (step_deed J valid s keeps J.rules) where

@@ -20,8 +20,7 @@ use Rattle.dover_model.proofs.Loads.{state_in}
 use Rattle.dover_model.proofs.OneChange.{changed}
 use Rattle.dover_model.proofs.Booking.{is_gone}
 use Rattle.dover_model.proofs.Booked.{displaced_idle, displaced_done, displaced_gone, privileged_value}
-use Rattle.dover_model.proofs.Agreement.{is_heavy-agrees}
-use Rattle.dover_model.proofs.Calculus.{rows_add, heavy_more}
+use Rattle.dover_model.proofs.Calculus.{rows_add, heavy_more, heavy_excess}
 use Rattle.intervals.specs.declared.interval.UnderWay.{UnderWay}
 use Rattle.intervals.specs.Pages.{Page, value_at, entered, CanTake, in_one, with_take, page_taken}
 use Rattle.intervals.proofs.Follows.{under_of, value_where, ArePaid, Tracks, Follows, Next}
@@ -137,7 +136,7 @@ module _ (k : Fraction) (some_q : 1 ≤ k.q) (ratio : k.q ≤ k.p) (s : State) (
   } where
     -- it is heavy against what it displaces
     is_more : IsHeavy k x.job.value (value_sum (privileged s))
-    is_more = (is_heavy-agrees k x.job.value (value_sum (privileged s))).0 heavy
+    is_more = heavy
 
     -- so it pays for that, beside what paid before
     pays : k.p * (i.displaced + value_sum (privileged s)) * (i.displaced + value_sum (privileged s))
@@ -154,7 +153,7 @@ module _ (k : Fraction) (some_q : 1 ≤ k.q) (ratio : k.q ≤ k.p) (s : State) (
         follows.paid.displaced in
         let now : k.p * value_sum (privileged s) * value_sum (privileged s)
         ≤ k.q * (x.job.value - value_sum (privileged s)) * (x.job.value - value_sum (privileged s)) =
-        omega (arith, is_more) in
+        omega (arith, heavy_excess k x.job.value (value_sum (privileged s)) is_more) in
         let sum : i.regular + i.taken + value_sum (privileged s) + (x.job.value - value_sum (privileged s))
         ≡ i.regular + i.taken + value_at l x.number =
         omega (arith, more, value) in

@@ -1,16 +1,37 @@
 -- Lanes that have no line, or are ended without a fault.
-use Rattle.std.proofs.Common.{◌≡◌, ◌<◌, ◌-◌, ◌+◌, ◌⊎◌, inl, inr, ℕ, suc, List, [], length, refl, sym, ap, ◌∙◌, subst}
+use Rattle.std.proofs.Common.{◌≡◌, ◌<◌, ◌-◌, ◌+◌, ◌⊎◌, inl, inr, ℕ, suc, List, [], ◌∷◌, length, refl, sym, ap, ◌∙◌, subst}
 use Rattle.std.proofs.Common.{Bool, true, false, ◌&&◌}
 use Rattle.std.proofs.Common.{arith, Some, get_or}
 use Rattle.std.specs.List.{slice_get, list_all, range_with_len}
 use Rattle.std.proofs.lemmas.Option.{slice_get_read}
 use Rattle.std.proofs.lemmas.Bool.{cases_eq}
+use Rattle.std.specs.Prelude.{nat_eq}
+use Rattle.dover_model.specs.Feed.{Open, Faulty, account_of_lines, is_open, is_ended}
+use Rattle.event_feed.specs.Answers.{short_after}
+use Rattle.event_feed.specs.Kept.{cause_of_fault}
+use Rattle.event_feed.specs.declared.faults.FeedFault.{FeedFault}
 use Rattle.lane_server.specs.Lanes.{lane_count, Handed, input_of_lines, lane_lines, is_fine, all_ended}
 use Rattle.lane_server.specs.Lane.{Stands}
 use Rattle.lane_server.specs.Kept.{Kept, AllStand, Leaves, StandsFor}
 use Rattle.lane_server.specs.declared.lane.Lane.{Lane}
 use Rattle.lane_server.specs.declared.lanes.Phase.{Phase}
 use Rattle.lane_server.specs.declared.lanes.Phase.TheVariants.{Ready, Giving, Closing}
+
+-- a line behind another isn't the first
+not_first : (n : ℕ) → nat_eq (suc (suc n)) 1 ≡ false
+not_first n = grind arith
+
+-- a feed that goes on, where the end of the input answers this fault
+pub short_fine : (ls : List (List ℕ)) (fault : FeedFault)
+    → ((((account_of_lines ls).standing ≡ Open) × (fault ≡ short_after (length ls)))
+    ⊎ ((account_of_lines ls).standing ≡ Faulty fault.line (cause_of_fault fault.cause)))
+    → is_open (account_of_lines ls) ≡ true
+    → nat_eq fault.line 1 ≡ is_fine ls
+short_fine [] fault (inl it) goes_on = ap (λ (f : FeedFault). nat_eq f.line 1) it.1
+short_fine (l ∷ ls) fault (inl it) goes_on = ap (λ (f : FeedFault). nat_eq f.line 1) it.1 ∙ not_first (length ls)
+    ∙ sym (ap (λ s. is_ended (record (account_of_lines (l ∷ ls)) { standing = s })) it.0)
+short_fine ls fault (inr faulty) goes_on = absurd (let e : true ≡ false = sym goes_on
+    ∙ ap (λ s. is_open (record (account_of_lines ls) { standing = s })) faulty in cc)
 
 -- whatever is under way, each lane was handed its lines
 pub all_stand : (kept : Kept) (ls rest : List (List ℕ)) → StandsFor kept ls rest

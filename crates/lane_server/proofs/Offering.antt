@@ -20,6 +20,7 @@ use Rattle.dover_model.specs.Numerals.{AreShort}
 use Rattle.dover_model.specs.WholeRun.{Begins}
 use Rattle.dover_model.specs.Feed.{Account, Open, account_of_lines}
 use Rattle.dover_model.specs.Due.{due_lines}
+use Rattle.dover_model.proofs.JobLimits.{job_limits}
 use Rattle.dover_model.proofs.Accounts.{IsKept}
 use Rattle.dover_model.proofs.Admitting.{not_refused}
 use Rattle.admission.proofs.Joining.{admitted_valid}
@@ -97,7 +98,7 @@ module _ (a b : Account) (n : ℕ) (j : JobFacts) (kept : IsKept a) (stands : a.
 
   -- its release is a tick
   job_known : j.release ≤ last_tick
-  job_known = let it = (not_refused it.session.rules (admitted_jobs it.session.items) j it.admitted).job in
+  job_known = let it = job_limits (not_refused it.session.rules (admitted_jobs it.session.items) j it.admitted).job in
       omega (arith, it.window, it.due)
 
   -- and has a numeral

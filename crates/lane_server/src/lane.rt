@@ -425,7 +425,7 @@ impl Lane {
     pub(crate) fn is_fine(&self) -> bool
         ensures { (ls rest : List (List ℕ)) → Stands self.now ls rest → result ≡ is_fine ls }
     {
-        match self.intake.end() {
+        match self.end() {
             Ok(()) => true,
             Err(fault) => self.is_open && fault.line == 1,
         }

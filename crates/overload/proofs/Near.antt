@@ -10,19 +10,21 @@ use Rattle.std.proofs.lemmas.Bool.{lt-leb}
 use Rattle.std.proofs.lemmas.List.{append-nil, drop-drop, drop_more, length-take, length-drop}
 use Rattle.std.proofs.lemmas.List.Elements.{filter-append}
 use Rattle.dover_model.specs.JobFacts.{JobFacts, IsJob}
-use Rattle.dover_model.specs.Instance.{IsInOrder}
 use Rattle.dover_model.specs.Sound.{IsMember, Each}
 use Rattle.dover_model.specs.Windows.{is_inside, work_inside}
 use Rattle.dover_model.proofs.Members.{filter_none, member_filter, member_behind, all_member, each_all}
 use Rattle.dover_model.proofs.Valid.{order_back}
 use Rattle.overload.specs.Stretches.{jobs_inside}
 use Rattle.overload.specs.Collecting.{IsCut, IsNear}
+use Rattle.dover_model.proofs.ValidParts.{ReleasesInOrder}
+use Rattle.dover_model.proofs.JobLimits.{job_limits}
 
 -- those of jobs in order that pass a test are in order
-pub filter_in_order : (p : JobFacts → Bool) (jobs : List JobFacts) → IsInOrder jobs → IsInOrder (filter p jobs)
+pub filter_in_order : (p : JobFacts → Bool) (jobs : List JobFacts) → ReleasesInOrder jobs
+    → ReleasesInOrder (filter p jobs)
 filter_in_order p [] order = tt
 filter_in_order p (j ∷ jobs) order = by_test (p j) (filter_in_order p jobs order.1) where
-  by_test : (b : Bool) → IsInOrder (filter p jobs) → IsInOrder (cond b (j ∷ filter p jobs) (filter p jobs))
+  by_test : (b : Bool) → ReleasesInOrder (filter p jobs) → ReleasesInOrder (cond b (j ∷ filter p jobs) (filter p jobs))
   by_test false rest = rest
   by_test true rest = (
     each_all (λ i. j.release ≤ i.release) (filter p jobs)
@@ -49,7 +51,7 @@ pub in_rest : {X : Type 0} (n : ℕ) (xs : List X) (x : X) → IsMember x (drop 
 in_rest n xs x member = subst (IsMember x) (take-append-drop n xs) (member_behind (take n xs) (drop n xs) x member)
 
 -- where the next job is late, all are
-pub all_late : (tick n : ℕ) (jobs : List JobFacts) (j : JobFacts) → IsInOrder jobs → n < length jobs
+pub all_late : (tick n : ℕ) (jobs : List JobFacts) (j : JobFacts) → ReleasesInOrder jobs → n < length jobs
     → j ≡ get_or jobs n j
     → tick ≤ j.release → Each (λ i. tick ≤ i.release) (drop n jobs)
 all_late tick n jobs j order short is late =
@@ -57,9 +59,9 @@ all_late tick n jobs j order short is late =
       rest_is : drop n jobs ≡ j ∷ drop (n + 1) jobs
       rest_is = drop_more jobs n j short ∙ ap (λ i. i ∷ drop (n + 1) jobs) (sym is)
 
-      ordered : IsInOrder (j ∷ drop (n + 1) jobs)
-      ordered = subst IsInOrder rest_is
-          (order_back (take n jobs) (drop n jobs) (subst IsInOrder (sym (take-append-drop n jobs)) order))
+      ordered : ReleasesInOrder (j ∷ drop (n + 1) jobs)
+      ordered = subst ReleasesInOrder rest_is
+          (order_back (take n jobs) (drop n jobs) (subst ReleasesInOrder (sym (take-append-drop n jobs)) order))
 
       by_member : (i : JobFacts) → IsMember i (j ∷ drop (n + 1) jobs) → tick ≤ i.release
       by_member i (inl e) = subst (λ (k : JobFacts). tick ≤ k.release) (sym e) late
@@ -68,7 +70,8 @@ all_late tick n jobs j order short is late =
           omega (arith, above, late)
 
 -- where some job is early, those before it are
-all_before : (tick n : ℕ) (jobs : List JobFacts) (j : JobFacts) → IsInOrder jobs → n < length jobs → j ≡ get_or jobs n j
+all_before : (tick n : ℕ) (jobs : List JobFacts) (j : JobFacts) → ReleasesInOrder jobs → n < length jobs
+    → j ≡ get_or jobs n j
     → j.release < tick → Each (λ i. i.release < tick) (take (suc n) jobs)
 all_before tick n [] j order short is early i member = absurd (omega (arith, short))
 all_before tick zero (k ∷ jobs) j order short is early i (inl e) =
@@ -82,7 +85,7 @@ all_before tick (suc n) (k ∷ jobs) j order short is early i (inl e) =
 all_before tick (suc n) (k ∷ jobs) j order short is early i (inr member) =
     all_before tick n jobs j order.1 (omega (arith, short)) is early i member
 
-pub all_early : (tick n : ℕ) (jobs : List JobFacts) (j : JobFacts) → IsInOrder jobs → n < length jobs
+pub all_early : (tick n : ℕ) (jobs : List JobFacts) (j : JobFacts) → ReleasesInOrder jobs → n < length jobs
     → j ≡ get_or jobs n j
     → j.release < tick → Each (λ i. i.release < tick) (take (n + 1) jobs)
 all_early tick n jobs j order short is early = subst (λ m. Each (λ (i : JobFacts). i.release < tick) (take m jobs))
@@ -97,7 +100,7 @@ pub late_out : (a b : ℕ) (j : JobFacts) → IsJob j → b ≤ j.release → is
 late_out a b j good late = by_test (nat_le a j.release) where
   by_test : (x : Bool) → (x && nat_le j.deadline b) ≡ false
   by_test false = refl
-  by_test true = lt-leb _ _ (omega (arith, good.work, good.window, late))
+  by_test true = lt-leb _ _ (omega (arith, (job_limits good).work, (job_limits good).window, late))
 
 module _ (jobs : List JobFacts) (a b m n : ℕ) (good : Each IsJob jobs) (first : IsCut jobs a m)
     (second : IsCut jobs b n) where

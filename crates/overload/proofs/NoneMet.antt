@@ -21,6 +21,7 @@ use Rattle.feasibility.specs.Feasibility.{CanMeet, IsAnswer, IsDeadline, ShowsWi
 use Rattle.feasibility.proofs.Overfull.{overfull_excludes}
 use Rattle.overload.specs.declared.stretch.Stretch.{Stretch}
 use Rattle.overload.specs.Stretches.{IsStretch, IsWorth}
+use Rattle.dover_model.proofs.JobLimits.{job_limits}
 
 -- no job is inside a window without ticks
 empty_out : (a b : ℕ) (j : JobFacts) → IsJob j → b ≤ a → is_inside a b j ≡ false
@@ -28,7 +29,7 @@ empty_out a b j good less = by_test (nat_le a j.release) refl where
   by_test : (x : Bool) → nat_le a j.release ≡ x → (x && nat_le j.deadline b) ≡ false
   by_test false e = refl
   by_test true e = let late : a ≤ j.release = leb-true _ _ e in
-      lt-leb _ _ (omega (arith, good.work, good.window, late, less))
+      lt-leb _ _ (omega (arith, (job_limits good).work, (job_limits good).window, late, less))
 
 module _ (jobs : List JobFacts) (good : Each IsJob jobs) where
   -- an overfull window has ticks
@@ -43,7 +44,7 @@ module _ (jobs : List JobFacts) (good : Each IsJob jobs) where
 
   -- a deadline is no later than the last tick
   pub deadline_low : (b : ℕ) → IsDeadline jobs b → b ≤ last_tick
-  deadline_low b it = subst (λ d. d ≤ last_tick) it.2 ((good it.0 it.1).due)
+  deadline_low b it = subst (λ d. d ≤ last_tick) it.2 ((job_limits (good it.0 it.1)).due)
 
 -- the answer of a window shows it
 pub window_shown : (jobs : List JobFacts) (answer : Feasible) (a b work : ℕ) → answer ≡ Window a b work
@@ -106,7 +107,7 @@ module _ (s : List ℕ) where
               arith,
               all,
               nothing,
-              (good j (inl refl)).worth,
+              (job_limits (good j (inl refl))).worth,
               sum_by-cons (worth_to s) (k, j) (enumerate_from (k + 1) jobs),
               sum_by-cons (λ (i : JobFacts). i.value) j jobs,
               earned_most (k + 1) jobs,

@@ -13,6 +13,7 @@ use Rattle.dover_model.proofs.Members.{sum_plus, sum_filter, sum_same, all_appen
 use Rattle.dover_model.proofs.Tests.{never}
 use Rattle.overload.specs.declared.stretch.Stretch.{Stretch}
 use Rattle.overload.specs.Stretches.{AreInOrder, IsStretch, is_inside_some, jobs_inside, value_outside}
+use Rattle.dover_model.proofs.JobLimits.{job_limits}
 
 -- with one behind them there is some
 pub never_empty : {Z : Type 0} (xs : List Stretch) (y : Stretch) → xs ++ y ∷ [] ≡ [] → Z
@@ -48,7 +49,7 @@ inside_none (x ∷ xs) at j good ended late = by_test (is_inside x.from x.until 
       by_test true within rest =
           let due : j.deadline ≤ x.until = (inside_says x.from x.until j within).1 in
           let before : x.until ≤ at = ended x (inl refl) in
-          absurd (omega (arith, due, before, late, good.work, good.window))
+          absurd (omega (arith, due, before, late, (job_limits good).work, (job_limits good).window))
 
 -- a job is inside some stretch of those so far and one behind them
 inside_behind : (xs : List Stretch) (y : Stretch) (j : JobFacts)

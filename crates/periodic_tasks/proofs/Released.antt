@@ -10,13 +10,15 @@ use Rattle.std.proofs.lemmas.Nat.{div-add-mod'}
 use Rattle.std.proofs.lemmas.Bool.{leb-true, eqb-true, and_parts}
 use Rattle.dover_model.specs.JobFacts.{JobFacts, IsJob}
 use Rattle.dover_model.specs.Fraction.{Fraction, IsRatio}
-use Rattle.dover_model.specs.Instance.{Declaration, IsInOrder, IsWithinRatio, IsValid}
+use Rattle.dover_model.specs.Instance.{Declaration, IsValid}
 use Rattle.dover_model.proofs.Valid.{all_from}
 use Rattle.dover_model.proofs.Members.{all_append}
 use Rattle.dover_model.proofs.Limiting.{jobs_least, total_least}
 use Rattle.periodic_tasks.specs.Tasks.{releases, job_at, released_at, jobs_before, count_before, tested_job, unrolled}
 use Rattle.periodic_tasks.specs.Limits.{IsTask, AreTasks, AreWithin, Fits}
 use Rattle.periodic_tasks.specs.declared.task.PeriodicTask.{PeriodicTask}
+use Rattle.dover_model.proofs.ValidParts.{IsWithinRatio, ReleasesInOrder, valid_from, is_within_ratio-agrees}
+use Rattle.dover_model.proofs.JobLimits.{job_limits, job_from}
 
 -- ---- what holds of each job
 
@@ -57,9 +59,9 @@ any_task P (task ∷ tasks) holds = (holds task, any_task P tasks holds)
 -- ---- the order
 
 -- jobs in order, and later ones in order behind them
-order_behind : (xs ys : List JobFacts) (tick : ℕ) → IsInOrder xs → IsInOrder ys
+order_behind : (xs ys : List JobFacts) (tick : ℕ) → ReleasesInOrder xs → ReleasesInOrder ys
     → AllByRecursion (λ j. j.release ≤ tick) xs
-    → AllByRecursion (λ j. tick ≤ j.release) ys → IsInOrder (xs ++ ys)
+    → AllByRecursion (λ j. tick ≤ j.release) ys → ReleasesInOrder (xs ++ ys)
 order_behind [] ys tick one other early late = other
 order_behind (x ∷ xs) ys tick one other early late = (
   all_append (λ later. x.release ≤ later.release) xs ys one.0
@@ -69,7 +71,7 @@ order_behind (x ∷ xs) ys tick one other early late = (
 )
 
 -- jobs of one tick
-order_at : (ys : List JobFacts) (tick : ℕ) → AllByRecursion (λ j. j.release ≡ tick) ys → IsInOrder ys
+order_at : (ys : List JobFacts) (tick : ℕ) → AllByRecursion (λ j. j.release ≡ tick) ys → ReleasesInOrder ys
 order_at [] tick same = tt
 order_at (y ∷ ys) tick same = (
   all_from (λ j. j.release ≡ tick) (λ later. y.release ≤ later.release) ys
@@ -83,7 +85,7 @@ at_tick tick tasks = all_at (λ j. j.release ≡ tick) tick tasks
     (any_task (λ task. releases task tick ≡ true → (job_at task tick).release ≡ tick) tasks (λ task is. refl))
 
 -- the jobs before a tick
-in_order : (until : ℕ) (tasks : List PeriodicTask) → IsInOrder (jobs_before until tasks)
+in_order : (until : ℕ) (tasks : List PeriodicTask) → ReleasesInOrder (jobs_before until tasks)
 in_order zero tasks = tt
 in_order (suc until) tasks =
     order_behind (jobs_before until tasks) (released_at until tasks) until (in_order until tasks)
@@ -116,15 +118,15 @@ pub job_within : (until : ℕ) (task : PeriodicTask) → IsTask until task → H
 job_within until task it tick early is =
     let last : tick ≤ (tested_job until task).release = before_last until tick task it.period early is in
     let window : (tested_job until task).release + task.work ≤ (tested_job until task).release + task.deadline =
-    it.job.window in
-    let due : (tested_job until task).release + task.deadline ≤ 1_000_000_000_000 = it.job.due in
-    record {
-      work = it.job.work;
+    (job_limits it.job).window in
+    let due : (tested_job until task).release + task.deadline ≤ 1_000_000_000_000 = (job_limits it.job).due in
+    job_from (record {
+      work = (job_limits it.job).work;
       window = omega (arith, window);
       due = omega (arith, last, due);
-      worth = it.job.worth;
-      modest = it.job.modest;
-    }
+      worth = (job_limits it.job).worth;
+      modest = (job_limits it.job).modest;
+    })
 
 -- ---- all
 
@@ -134,7 +136,7 @@ pub unrolled_valid : (until : ℕ) (rules : Declaration) (tasks : List PeriodicT
 unrolled_valid until rules tasks ratio are fits =
     let jobs : List JobFacts = jobs_before until tasks in
     let k : Fraction = rules.ratio in
-    record {
+    valid_from (record {
       ratio = ratio;
       each = all_before IsJob until tasks
           (all_from (IsTask until) (HasEach IsJob until) tasks (λ task it. job_within until task it) are.each);
@@ -145,5 +147,6 @@ unrolled_valid until rules tasks ratio are fits =
           (all_from (λ a. AllByRecursion (AreWithin until k a) tasks)
           (HasEach (λ i. AllByRecursion (IsWithinRatio k i) jobs) until) tasks
           (λ a row tick early is. all_before (IsWithinRatio k (job_at a tick)) until tasks
-          (all_from _ _ _ (λ b within other low at. within) row)) are.densities);
-    }
+          (all_from _ _ _ (λ b within other low at.
+          (is_within_ratio-agrees k (tested_job until a) (tested_job until b)).0 within) row)) are.densities);
+    })

@@ -6,7 +6,6 @@ use Rattle.std.proofs.Math.Nat.{mul-le-mul_right}
 use Rattle.std.proofs.lemmas.List.{length-map}
 use Rattle.dover_model.specs.Fraction.{Fraction}
 use Rattle.dover_model.specs.JobFacts.{JobFacts}
-use Rattle.dover_model.specs.Instance.{IsWithinRatio}
 use Rattle.dover_model.specs.Admission.{refusal_of}
 use Rattle.dover_model.proofs.Admitting.{Admitted, not_refused}
 use Rattle.dover_model.proofs.Growing.{all_behind}
@@ -15,6 +14,7 @@ use Rattle.dover_model.proofs.Members.{all_both}
 use Rattle.periodic_tasks.specs.Tasks.{tested_job}
 use Rattle.periodic_tasks.specs.Limits.{IsTask, AreWithin, AreTasks, task_rules}
 use Rattle.periodic_tasks.specs.declared.task.PeriodicTask.{PeriodicTask}
+use Rattle.dover_model.proofs.ValidParts.{IsWithinRatio, is_within_ratio-agrees}
 
 -- what holds of each tested job holds of each task
 unmapped : (P : JobFacts → Type 0) (until : ℕ) (tasks : List PeriodicTask)
@@ -34,9 +34,14 @@ tasks_more until k tasks task above are period none =
     let fewer : length (map (tested_job until) tasks) < 1_000_000 = it.count in
     let Both : PeriodicTask → Type 0 = λ a. AreWithin until k a task × AreWithin until k task a in
     let both : AllByRecursion Both tasks =
-    unmapped (λ i. IsWithinRatio k i (tested_job until task) × IsWithinRatio k (tested_job until task) i) until tasks
-    it.densities in
-    let itself : AreWithin until k task task = mul-le-mul_right task.work (mul-le-mul_right task.value above) in
+    all_from _ Both tasks (λ a within. (
+      (is_within_ratio-agrees k (tested_job until a) (tested_job until task)).1 within.0,
+      (is_within_ratio-agrees k (tested_job until task) (tested_job until a)).1 within.1,
+    )) (unmapped (λ i. IsWithinRatio k i (tested_job until task) × IsWithinRatio k (tested_job until task) i) until
+    tasks it.densities) in
+    let itself : AreWithin until k task task = (is_within_ratio-agrees k (tested_job until task)
+    (tested_job until task)).1
+    (mul-le-mul_right task.work (mul-le-mul_right task.value above)) in
     record {
       each = all_behind (IsTask until) tasks task are.each (record { period = period; job = it.job });
       few = omega (arith, fewer, length-map tasks (tested_job until), length-append tasks (task ∷ []));

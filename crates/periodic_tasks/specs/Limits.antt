@@ -1,5 +1,5 @@
 -- Which tasks may stand together, and how many jobs they may release.
-use Rattle.std.specs.Prelude.{ℕ, ◌*◌, ◌≤◌, List, map, length, ◌==◌, if◌then◌else◌, Option, Some}
+use Rattle.std.specs.Prelude.{ℕ, ◌*◌, ◌≤◌, List, map, length, ◌==◌, if◌then◌else◌, Option, Some, IsTrue}
 use Rattle.std.specs.List.{AllByRecursion, sum_by}
 use Rattle.dover_model.specs.declared.events.Version.TheVariants.{Two}
 use Rattle.dover_model.specs.Limits.{most_jobs, most_total}
@@ -7,7 +7,7 @@ use Rattle.dover_model.specs.declared.events.Refusal.{Refusal}
 use Rattle.dover_model.specs.declared.events.Refusal.TheVariants.{BadJob}
 use Rattle.dover_model.specs.JobFacts.{IsJob}
 use Rattle.dover_model.specs.Fraction.{Fraction}
-use Rattle.dover_model.specs.Instance.{Declaration, IsWithinRatio, total_value}
+use Rattle.dover_model.specs.Instance.{Declaration, is_within_ratio, total_value}
 use Rattle.dover_model.specs.Admission.{refusal_of}
 use Rattle.periodic_tasks.specs.Tasks.{jobs_before, count_before, tested_job}
 use Rattle.periodic_tasks.specs.declared.task.PeriodicTask.{PeriodicTask}
@@ -32,7 +32,7 @@ pub record IsTask (until : ℕ) (task : PeriodicTask) : Type 0 where
 
 -- the jobs of both are within the ratio of each other
 abbrev pub AreWithin : (until : ℕ) → Fraction → PeriodicTask → PeriodicTask → Type 0
-AreWithin until k a b = IsWithinRatio k (tested_job until a) (tested_job until b)
+AreWithin until k a b = IsTrue (is_within_ratio k (tested_job until a) (tested_job until b))
 
 -- tasks that may stand together
 pub record AreTasks (until : ℕ) (k : Fraction) (tasks : List PeriodicTask) : Type 0 where

@@ -7,7 +7,6 @@ use Rattle.std.specs.List.{filter}
 use Rattle.std.proofs.lemmas.List.{drop_more, map-append, length_push, append-nil}
 use Rattle.std.proofs.lemmas.List.Elements.{filter-append}
 use Rattle.dover_model.specs.JobFacts.{JobFacts, IsJob}
-use Rattle.dover_model.specs.Instance.{IsInOrder}
 use Rattle.dover_model.specs.declared.events.Task.{Task}
 use Rattle.dover_model.specs.declared.events.Entry.{Entry}
 use Rattle.dover_model.specs.Entries.{entry_of}
@@ -20,25 +19,28 @@ use Rattle.policy_lab.specs.PolicyRun.{is_ready}
 use Rattle.policy_lab.specs.Bench.{HasReady, given_entry, is_in_time, entry_to_come}
 use Rattle.policy_lab.proofs.Given.{ready_says, says_ready, given_other, given_job, Fits}
 use Rattle.policy_lab.proofs.Entries.{entries_after}
+use Rattle.dover_model.proofs.ValidParts.{ReleasesInOrder}
+use Rattle.dover_model.proofs.JobLimits.{job_limits}
 
 -- ---- jobs in order
 
 -- the rest of a list in order is in order
-order_drop : (n : ℕ) (jobs : List JobFacts) → IsInOrder jobs → IsInOrder (drop n jobs)
+order_drop : (n : ℕ) (jobs : List JobFacts) → ReleasesInOrder jobs → ReleasesInOrder (drop n jobs)
 order_drop zero jobs order = order
 order_drop (suc n) [] order = tt
 order_drop (suc n) (j ∷ jobs) order = order_drop n jobs order.1
 
 -- where the next job is late, all are
-pub all_late : (t n : ℕ) (jobs : List JobFacts) (j : JobFacts) → IsInOrder jobs → n < length jobs → j ≡ get_or jobs n j
+pub all_late : (t n : ℕ) (jobs : List JobFacts) (j : JobFacts) → ReleasesInOrder jobs → n < length jobs
+    → j ≡ get_or jobs n j
     → t < j.release
     → Each (λ i. t < i.release) (drop n jobs)
 all_late t n jobs j order short is late = subst (Each (λ i. t < i.release)) (sym rest_is) each where
   rest_is : drop n jobs ≡ j ∷ drop (n + 1) jobs
   rest_is = drop_more jobs n j short ∙ ap (λ i. i ∷ drop (n + 1) jobs) (sym is)
 
-  ordered : IsInOrder (j ∷ drop (n + 1) jobs)
-  ordered = subst IsInOrder rest_is (order_drop n jobs order)
+  ordered : ReleasesInOrder (j ∷ drop (n + 1) jobs)
+  ordered = subst ReleasesInOrder rest_is (order_drop n jobs order)
 
   each : Each (λ i. t < i.release) (j ∷ drop (n + 1) jobs)
   each i (inl e) = subst (λ (k : JobFacts). t < k.release) (sym e) late
@@ -90,7 +92,8 @@ ready_more t n jobs entries tasks j has short is released now good = record {
   rest_is = drop_more jobs n j short ∙ ap (λ i. i ∷ drop (n + 1) jobs) (sym is)
 
   ready_now : is_ready t (coming_task n j) ≡ true
-  ready_now = let work : 1 ≤ j.work = good.work in let window : j.release + j.work ≤ j.deadline = good.window in
+  ready_now = let work : 1 ≤ j.work = (job_limits good).work in let window : j.release + j.work ≤ j.deadline =
+      (job_limits good).window in
       says_ready t (coming_task n j) released (omega arith) (omega arith)
 
 -- of late jobs none is ready

@@ -8,7 +8,6 @@ use Rattle.std.specs.List.{filter, fold}
 use Rattle.std.proofs.lemmas.List.{map-append, append-nil}
 use Rattle.std.proofs.lemmas.List.Elements.{filter-append}
 use Rattle.dover_model.specs.JobFacts.{JobFacts}
-use Rattle.dover_model.specs.Instance.{IsInOrder}
 use Rattle.dover_model.specs.declared.events.Task.{Task}
 use Rattle.dover_model.specs.Entries.{entry_of}
 use Rattle.dover_model.specs.State.{to_come, left}
@@ -23,6 +22,7 @@ use Rattle.dover_model.proofs.Resting.{later_due, due_least}
 use Rattle.policy_lab.specs.Picks.{Picks}
 use Rattle.policy_lab.specs.PolicyRun.{is_ready, picked, policy_run_from, policy_run}
 use Rattle.policy_lab.proofs.Given.{ready_says, given_job}
+use Rattle.dover_model.proofs.ValidParts.{ReleasesInOrder}
 
 -- of tasks that can't be ready none is
 none_ready : (t : ℕ) (tasks : List Task) → Each (λ task. is_ready t task ≡ true → ⊥) tasks
@@ -120,7 +120,7 @@ each_come P n (j ∷ jobs) all task (inr member) = each_come P (suc n) jobs (λ 
 
 module _ (picks : Picks) (idles : picks [] ≡ None) (t : ℕ) where
   -- what is picked at a tick, from the jobs that are known then
-  pub by_known : (jobs : List JobFacts) → IsInOrder jobs → (tick : ℕ) → tick ≤ t
+  pub by_known : (jobs : List JobFacts) → ReleasesInOrder jobs → (tick : ℕ) → tick ≤ t
       → get_or (policy_run picks jobs) tick 4_000_000_000 ≡ seen picks tick 0 (to_come 0 (known_at t jobs))
   by_known jobs order tick early =
       ap (λ tasks. get_or (policy_run_from picks (last_deadline jobs) 0 tasks) tick 4_000_000_000)
@@ -136,8 +136,8 @@ module _ (picks : Picks) (idles : picks [] ≡ None) (t : ℕ) where
         parts = split_known t jobs order
 
 -- the schedules of a policy agree where the known jobs do
-pub on_line : (picks : Picks) (t : ℕ) (jobs others : List JobFacts) → picks [] ≡ None → IsInOrder jobs
-    → IsInOrder others
+pub on_line : (picks : Picks) (t : ℕ) (jobs others : List JobFacts) → picks [] ≡ None → ReleasesInOrder jobs
+    → ReleasesInOrder others
     → known_at t jobs ≡ known_at t others → (tick : ℕ) → tick ≤ t
     → get_or (policy_run picks jobs) tick 4_000_000_000 ≡ get_or (policy_run picks others) tick 4_000_000_000
 on_line picks t jobs others idles order order2 same tick early =

@@ -24,6 +24,7 @@ use Rattle.policy_lab.proofs.Entries.{each_entry, are_ready, number_ready, value
 use Rattle.policy_lab.proofs.Holding.{all_ready, ready_after}
 use Rattle.policy_lab.proofs.Runs.{numbered_at, jobs_at, tasks_next, schedule_next, low_numbers, fits_at}
 use Rattle.policy_lab.proofs.Stretching.{stretches_idle}
+use Rattle.dover_model.proofs.JobLimits.{job_limits}
 
 module _ (picks : Picks) (policy : IsPolicy picks) (jobs : List JobFacts) (good : Each IsJob jobs)
     (count : length jobs ≤ 10_000) where
@@ -60,7 +61,7 @@ module _ (picks : Picks) (policy : IsPolicy picks) (jobs : List JobFacts) (good 
     none n [] all task member = absurd member
     none n (j ∷ js) all task (inl e) =
         subst (λ (u : Task). cond (eqb (left u) 0) u.job.value 0 ≡ 0) (sym e)
-        (some_left j.work j.value (all j (inl refl)).work)
+        (some_left j.work j.value (job_limits (all j (inl refl))).work)
     none n (j ∷ js) all task (inr member) = none (suc n) js (λ i m. all i (inr m)) task member
 
   module _ (t released : ℕ) (entries : List Entry) (has : HasReady t jobs released entries (tasks_at picks jobs t))
@@ -85,7 +86,7 @@ module _ (picks : Picks) (policy : IsPolicy picks) (jobs : List JobFacts) (good 
         let says : (task.job.release ≤ t) × (0 < left task) × (t + left task ≤ task.job.deadline) =
         ready_says t task ready in
         let some : 0 < left task = says.1 in
-        let due : task.job.deadline ≤ 1000000000000 = (good_at t task member).due in
+        let due : task.job.deadline ≤ 1000000000000 = (job_limits (good_at t task member)).due in
         (omega arith, omega arith)))
 
     -- what the policy answers is what is picked

@@ -10,7 +10,6 @@ use Rattle.dover_model.specs.Limits.{most_total}
 use Rattle.dover_model.specs.Observed.{observed}
 use Rattle.dover_model.specs.Run.{completed_value}
 use Rattle.dover_model.specs.Schedules.{worth}
-use Rattle.dover_model.proofs.Agreement.{is_within-agrees}
 use Rattle.dover_model.proofs.BoundLaws as laws
 use Rattle.dover_model.proofs.GreatestLaws.{bound-is}
 use Rattle.dover_model.proofs.Limiting.{total_most}
@@ -19,6 +18,7 @@ use Rattle.policy_lab.specs.PolicyRun.{policy_run, AreTooLarge}
 use Rattle.policy_lab.specs.Standard.{earliest_deadline, greatest_density}
 use Rattle.question_words.specs.Compare.{SaysCompare, AreWithin, worth_of}
 use Rattle.question_words.proofs.Lines.{four, four_same}
+use Rattle.dover_model.proofs.ValidParts.{valid_parts}
 
 -- jobs that aren't too large
 pub not_large : (jobs others : List JobFacts) → jobs ≡ others → (large : Bool) → (IsTrue large ↔ AreTooLarge jobs)
@@ -36,10 +36,10 @@ module _ (J : Instance) (valid : IsValid J) where
 
   -- no schedule of the jobs as the run observed them is worth more than the bound
   pub worth_low : (s : List ℕ) → worth (observed J) s ≤ bound J.rules.ratio (completed_value J)
-  worth_low s = (bound-is J.rules.ratio (completed_value J) valid.ratio
-      (omega (arith, laws.intervals_abandon J valid, valid.total, total_most J.rules.version))).greatest
+  worth_low s = (bound-is J.rules.ratio (completed_value J) (valid_parts valid).ratio
+      (omega (arith, laws.intervals_abandon J valid, (valid_parts valid).total, total_most J.rules.version))).greatest
       (worth (observed J) s)
-      ((is_within-agrees J.rules.ratio (worth (observed J) s) (completed_value J)).1 (laws.observed_bound J s valid))
+      (laws.observed_bound J s valid)
 
   -- the two schedules are within it
   within : AreWithin J

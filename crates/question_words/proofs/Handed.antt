@@ -28,6 +28,7 @@ use Rattle.ready_server.specs.Running.{HasShown, CanFeed, HasFed, with_finish, f
 use Rattle.ready_server.specs.declared.server.ReadyServer.{ReadyServer}
 use Rattle.ready_server.proofs.Feeding.{can_first}
 use Rattle.question_words.specs.Replaying.{bare_instance}
+use Rattle.dover_model.proofs.ValidParts.{valid_parts}
 
 -- the run of the first of these jobs, with the finishes of these done lines
 abbrev pub run_of : Declaration → List JobFacts → (count : ℕ) → List DoneLine → Instance
@@ -194,7 +195,7 @@ module _ (rules : Declaration) (jobs : List JobFacts) (valid : IsValid (record {
           next = may_go_on jobs d rest each.1 turn.0;
           follow = may_follow d.at (drop d.behind jobs) each.0.later
               (all_back IsJob (take d.behind jobs) (drop d.behind jobs)
-              (subst (AllByRecursion IsJob) (sym (take-append-drop d.behind jobs)) valid.each));
+              (subst (AllByRecursion IsJob) (sym (take-append-drop d.behind jobs)) (valid_parts valid).each));
           ends = tt;
         }
 

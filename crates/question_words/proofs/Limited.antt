@@ -10,6 +10,8 @@ use Rattle.event_feed.specs.Listing.{listed_instance}
 use Rattle.event_feed.specs.declared.listed.Listed.{Listed}
 use Rattle.policy_lab.specs.PolicyRun.{AreTooLarge}
 use Rattle.question_words.specs.Replaying.{bare_instance}
+use Rattle.dover_model.proofs.ValidParts.{valid_parts}
+use Rattle.dover_model.proofs.JobLimits.{job_limits}
 
 -- no job is worth more than 10^9
 total_low : (jobs : List JobFacts) → AllByRecursion IsJob jobs → total_value jobs ≤ 1_000_000_000 * length jobs
@@ -17,7 +19,7 @@ total_low [] each = omega arith
 total_low (j ∷ jobs) each = omega (
   arith,
   sum_by-cons (λ (x : JobFacts). x.value) j jobs,
-  each.0.modest,
+  (job_limits each.0).modest,
   total_low jobs each.1,
 )
 
@@ -25,7 +27,7 @@ total_low (j ∷ jobs) each = omega (
 pub few_listable : (J : Instance) → IsValid J → length J.jobs ≤ 10_000 → IsListable J
 few_listable J valid few = record {
   count = omega (arith, few);
-  total = omega (arith, few, total_low J.jobs valid.each);
+  total = omega (arith, few, total_low J.jobs (valid_parts valid).each);
 }
 
 -- jobs over which policies are run are few

@@ -14,7 +14,7 @@ use Rattle.dover_model.specs.declared.events.Role.TheVariants.{Coming, Fresh, Wa
 use Rattle.dover_model.specs.declared.events.Task.{Task}
 use Rattle.dover_model.specs.Finishes.{Finish, need}
 use Rattle.dover_model.specs.Fraction.{Fraction}
-use Rattle.dover_model.specs.Instance.{Instance, IsValid, IsInOrder, total_value}
+use Rattle.dover_model.specs.Instance.{Instance, IsValid, total_value, IsInOrder}
 use Rattle.dover_model.specs.JobFacts.{JobFacts, IsJob, is_job}
 use Rattle.dover_model.specs.Observed.{observing, observed, end_state, hads}
 use Rattle.dover_model.specs.Run.{Step, is_end, run, ran, event_of, printed_of}
@@ -24,7 +24,6 @@ use Rattle.dover_model.specs.State.{State, opening, is_over, is_done, value_sum}
 use Rattle.dover_model.specs.Step.{Move, Prints, Waits, Ticks, step, after, ending, ◌or_else◌, with_role, displaced}
 use Rattle.dover_model.specs.Step.{ticked}
 use Rattle.dover_model.specs.WholeRun.{IsWholeRun}
-use Rattle.dover_model.proofs.Agreement.{is_job-agrees}
 use Rattle.dover_model.proofs.Deeds.{Deed, Completed, Resumed, Started, Began, Preempted, Stayed, Arrived, Taken}
 use Rattle.dover_model.proofs.Deeds.{Abandoned, Rested}
 use Rattle.dover_model.proofs.Ending.{end_over, run_is_whole}
@@ -40,6 +39,8 @@ use Rattle.dover_model.specs.Books.{Job}
 use Rattle.question_words.specs.Loss.{completes, is_completed}
 use Rattle.question_words.specs.Replaying.{with_work, job_seen, jobs_seen}
 use Rattle.dover_model.proofs.Booked.{displaced_done}
+use Rattle.dover_model.proofs.ValidParts.{ReleasesInOrder, order_from, valid_parts}
+use Rattle.dover_model.proofs.JobLimits.{job_limits, job_from}
 
 -- ---- which jobs are done
 
@@ -204,7 +205,7 @@ need_some (f ∷ fs) n work some =
       by_tests false b c above more = more
 
 -- with the same releases, the jobs are in order
-observing_in_order : (tasks : List Task) → IsInOrder (jobs_of tasks) → IsInOrder (map observing tasks)
+observing_in_order : (tasks : List Task) → ReleasesInOrder (jobs_of tasks) → ReleasesInOrder (map observing tasks)
 observing_in_order [] it = tt
 observing_in_order (t ∷ tasks) it = (later tasks it.0, observing_in_order tasks it.1) where
   later : (us : List Task) → AllByRecursion (λ j. t.job.release ≤ j.release) (jobs_of us)
@@ -254,14 +255,14 @@ of_work work j = record { release = j.release; work = work; deadline = j.deadlin
 
 -- where that is a job, it is seen
 pub work_some : (work : ℕ) (j : JobFacts) → IsJob (of_work work j) → with_work work j ≡ of_work work j
-work_some work j job = ap (λ b. cond b (of_work work j) j) ((is_job-agrees (of_work work j)).1 job)
+work_some work j job = ap (λ b. cond b (of_work work j) j) job.passes
 
 -- and else the job as it was
 pub work_none : (work : ℕ) (j : JobFacts) → (IsJob (of_work work j) → ⊥) → with_work work j ≡ j
 work_none work j none = by_test (is_job (of_work work j)) refl where
   by_test : (b : Bool) → is_job (of_work work j) ≡ b → cond b (of_work work j) j ≡ j
   by_test false fails = refl
-  by_test true is = absurd (none ((is_job-agrees (of_work work j)).0 is))
+  by_test true is = absurd (none (record { passes = is }))
 
 -- the jobs as they are seen are those observed, where each is
 seen_all : (done : List Bool) (hs : List ℕ) (n : ℕ) (tasks : List Task) → IsNumberedFrom n tasks
@@ -299,7 +300,7 @@ module _ (J : Instance) (valid : IsValid J) where
 
   -- each was a job
   was_job : (t : Task) → IsMember t last.tasks → IsJob t.job
-  was_job t member = all_member IsJob J.jobs valid.each t.job
+  was_job t member = all_member IsJob J.jobs (valid_parts valid).each t.job
       (subst (IsMember t.job) it.keeps.jobs (map_member (λ (u : Task). u.job) last.tasks t member))
 
   -- and is one with what it had, where it is done
@@ -316,13 +317,13 @@ module _ (J : Instance) (valid : IsValid J) where
         let job : IsJob t.job = was_job t member in
         let had : t.had ≡ need J.rules.finishes t.number t.job.work =
         (it.served t member).done (done_role t (it.over t member) is) in
-        record {
-          work = omega (arith, had, need_some J.rules.finishes t.number t.job.work job.work);
-          window = omega (arith, job.window, it.keeps.sound.at_most_work t member);
-          due = job.due;
-          worth = job.worth;
-          modest = job.modest;
-        }
+        job_from (record {
+          work = omega (arith, had, need_some J.rules.finishes t.number t.job.work (job_limits job).work);
+          window = omega (arith, (job_limits job).window, it.keeps.sound.at_most_work t member);
+          due = (job_limits job).due;
+          worth = (job_limits job).worth;
+          modest = (job_limits job).modest;
+        })
 
   -- each observed job is one
   pub observed_jobs : Each IsJob (observed J).jobs
@@ -330,8 +331,8 @@ module _ (J : Instance) (valid : IsValid J) where
 
   -- they are in order
   pub observed_in_order : IsInOrder (observed J).jobs
-  observed_in_order = subst IsInOrder (sym jobs_are)
-      (observing_in_order last.tasks (subst IsInOrder (sym it.keeps.jobs) valid.in_order))
+  observed_in_order = order_from (subst ReleasesInOrder (sym jobs_are)
+      (observing_in_order last.tasks (subst ReleasesInOrder (sym it.keeps.jobs) (valid_parts valid).in_order)))
 
   -- as many, and worth as much
   pub observed_count : length (observed J).jobs ≡ length J.jobs

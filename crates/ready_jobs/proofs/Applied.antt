@@ -190,6 +190,10 @@ module _ (p : Parted) (roles : HaveRoles p) (once : AreOnce (ready_of p)) where
       names_two : Says seen (Preempt next.0 m n)
       names_two = says next.1.0 seen (Preempt next.0 m n) next.1.1
 
+      -- so one is fresh
+      pub some_fresh : p.fresh ≡ None → ⊥
+      some_fresh none = none_is_some (sym none ∙ (sym (seen_fresh p roles) ∙ names_two.3))
+
       pub preempted_leaves : (r f : Task) → p.running ≡ Some r → p.fresh ≡ Some f → (at : ℕ)
           → Leaves (printed (Preempt at m n)) (ready_of p) (ready_of (record p
           { running = Some (with_role f Running); fresh = None; held = with_role r Held ∷ p.held })) 0
@@ -206,6 +210,10 @@ module _ (p : Parted) (roles : HaveRoles p) (once : AreOnce (ready_of p)) where
     module _ (next : (at : ℕ) × IsNext p (Take at m n)) where
       names_taken : Says seen (Take next.0 m n)
       names_taken = says next.1.0 seen (Take next.0 m n) next.1.1
+
+      -- so one is at its latest start
+      pub some_late : seen.must_start ≡ None → ⊥
+      some_late none = none_is_some (sym none ∙ names_taken.3)
 
       -- the job at its latest start is the one that the step names
       pub taken_named : (x : Task) → seen.must_start ≡ Some x → x.number ≡ n

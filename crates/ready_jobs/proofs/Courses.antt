@@ -59,6 +59,7 @@ use Rattle.ready_jobs.specs.Changed.{Leaves, AreOnce, named}
 use Rattle.ready_jobs.proofs.Changes.{once_numbered, once_some, once_still, map_each, completes}
 use Rattle.ready_jobs.proofs.Seeing.{running_list}
 use Rattle.ready_jobs.proofs.Following.{part_step, part_moves, part_does, there, ready_once}
+use Rattle.dover_model.proofs.ValidParts.{valid_parts, valid_from}
 
 -- ---- what is kept
 
@@ -71,7 +72,8 @@ no_items (x ∷ xs) none = absurd (omega arith)
 pub new_follows : (rules : Declaration) (room : ℕ) → IsRatio rules.ratio
     → Follows (new_course rules room) (record { rules = under rules []; jobs = [] }) (opening [])
 new_follows rules room ratio = record {
-  valid = record { ratio = ratio; each = tt; in_order = tt; count = omega arith; total = omega arith; densities = tt };
+  valid = valid_from (record
+      { ratio = ratio; each = tt; in_order = tt; count = omega arith; total = omega arith; densities = tt });
   keeps = opening_keeps (record { rules = under rules []; jobs = [] });
   rules = refl;
   own = λ f m. absurd m;
@@ -102,7 +104,7 @@ module _ (c : Course) (J : Instance) (z : State) (follows : Follows c J z) where
   -- the jobs done aren't worth too much
   pub follows_modest : c.done ≤ 999_999_999_999_999_999
   follows_modest = let modest : total_value J.jobs ≤ 999_999_999_999_999_999 =
-      omega (arith, follows.valid.total, total_most J.rules.version) in
+      omega (arith, (valid_parts follows.valid).total, total_most J.rules.version) in
       let all : value_sum z.tasks ≡ total_value J.jobs = sym (sum_map (λ (t : Task). t.job) (λ j. j.value) z.tasks)
       ∙ ap total_value follows.keeps.jobs in
       omega (
@@ -211,7 +213,7 @@ pub renewed_follows : (c : Course) → IsCourse c → length c.ready ≡ 0
     (record { clock = c.clock; tasks = [] })
 renewed_follows c old none =
     let ratio : IsRatio c.rules.ratio =
-    subst (λ (rules : Rules). IsRatio rules.ratio) old.2.rules old.2.valid.ratio in
+    subst (λ (rules : Rules). IsRatio rules.ratio) old.2.rules (valid_parts old.2.valid).ratio in
     let valid : IsValid (record { rules = under c.rules []; jobs = [] }) =
     (new_follows c.rules 0 ratio).valid in record {
       valid = valid;

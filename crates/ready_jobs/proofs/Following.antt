@@ -49,6 +49,8 @@ use Rattle.ready_jobs.proofs.Views.{AreApart, step_still}
 use Rattle.ready_jobs.proofs.Naming.{waits_says}
 use Rattle.ready_jobs.proofs.Seeing.{seen_fresh, waiting_list, privileged_list}
 use Rattle.ready_jobs.proofs.Changes.{once_numbered, once_some, once_still, once_own, map_each}
+use Rattle.dover_model.proofs.ValidParts.{valid_parts}
+use Rattle.dover_model.proofs.JobLimits.{job_limits}
 
 -- ---- a job that isn't to come stays so
 
@@ -129,13 +131,14 @@ module _ (p : Parted) (J : Instance) (z : State) (part : PartOf p J z) where
 
   -- each is a job within the limits
   pub part_job : Each (λ t. IsJob t.job) (ready_of p)
-  part_job t m = each_job IsJob z.tasks (subst (AllByRecursion IsJob) (sym part.keeps.jobs) part.valid.each) t
+  part_job t m = each_job IsJob z.tasks (subst (AllByRecursion IsJob) (sym part.keeps.jobs)
+      (valid_parts part.valid).each) t
       (there t m)
 
   -- they aren't worth too much
   part_total : (test : Task → Bool) → value_sum (filter test (ready_of p)) < 10 ^ 18
   part_total test = let modest : total_value J.jobs < 10 ^ 18 =
-      omega (arith, part.valid.total, total_most J.rules.version) in
+      omega (arith, (valid_parts part.valid).total, total_most J.rules.version) in
       let all : value_sum z.tasks ≡ total_value J.jobs = sym (sum_map (λ (t : Task). t.job) (λ j. j.value) z.tasks)
       ∙ ap total_value part.keeps.jobs in
       omega (
@@ -162,7 +165,7 @@ module _ (p : Parted) (J : Instance) (z : State) (part : PartOf p J z) where
     pub part_sound : AreSound p
     part_sound = record {
       own = once_own p.waiting (subst AreOnce (waiting_list p roles) (once_some is_waiting (ready_of p) ready_once));
-      modest = λ t m. (part_job t (waits_there t m)).modest;
+      modest = λ t m. (job_limits (part_job t (waits_there t m))).modest;
       total = subst (λ l. value_sum l < 10 ^ 18) (privileged_list p roles) (part_total is_privileged);
       first = λ r mr h mh. part.keeps.sound.running_first r h (there r (busy_there r
           (member_front (option_to_list p.running) p.held r mr)))
@@ -392,8 +395,8 @@ module _ (p : Parted) (roles : HaveRoles p) (J : Instance) (z : State) (part : P
       there p J z part t (member_front _ _ _ m) in
       let job : IsJob t.job = part_job p J z part t
       (member_front (option_to_list p.running) (option_to_list p.fresh ++ (p.held ++ p.waiting)) t m) in
-      let window : t.job.release + t.job.work ≤ t.job.deadline = job.window in
-      let due : t.job.deadline ≤ 1_000_000_000_000 = job.due in
+      let window : t.job.release + t.job.work ≤ t.job.deadline = (job_limits job).window in
+      let due : t.job.deadline ≤ 1_000_000_000_000 = (job_limits job).due in
       let had : t.had ≤ t.job.work = part.keeps.sound.at_most_work t here in
       omega (arith, fits)
 

@@ -18,20 +18,24 @@ use Rattle.dover_model.proofs.Spending.{few_more}
 use Rattle.ready_server.specs.Running.{HasShown, CanFeed, MayReach, HasFed}
 use Rattle.ready_server.specs.Serving.{Serves}
 use Rattle.ready_server.specs.declared.server.ReadyServer.{ReadyServer}
+use Rattle.dover_model.proofs.ValidParts.{valid_parts}
+use Rattle.dover_model.proofs.JobLimits.{job_limits}
 
 -- each release may follow the tick 0
 follow_first : (jobs : List JobFacts) → AllByRecursion IsJob jobs
     → AllByRecursion (λ j. MayFollow (Mark 0) (Mark j.release)) jobs
 follow_first [] each = tt
 follow_first (j ∷ jobs) each =
-    let window : j.release + j.work ≤ j.deadline = each.0.window in let due : j.deadline ≤ last_tick = each.0.due in
+    let window : j.release + j.work ≤ j.deadline = (job_limits each.0).window in let due : j.deadline ≤ last_tick =
+    (job_limits each.0).due in
     ((omega arith, omega arith), follow_first jobs each.1)
 
 -- all jobs of a valid list may be fed
 pub can_first : (k : Fraction) (version : Version) (jobs : List JobFacts)
     → IsValid (jobs_under version k jobs)
     → CanFeed (no_jobs version k) (Mark 0) jobs
-can_first k version jobs valid = record { valid = valid; follow = follow_first jobs valid.each; ends = tt }
+can_first k version jobs valid = record
+    { valid = valid; follow = follow_first jobs (valid_parts valid).each; ends = tt }
 
 module _ (J : Instance) (to : Horizon) (j : JobFacts) (rest : List JobFacts) (can : CanFeed J to (j ∷ rest)) where
   -- all jobs, with the first one apart
@@ -47,8 +51,8 @@ module _ (J : Instance) (to : Horizon) (j : JobFacts) (rest : List JobFacts) (ca
   pub can_further : CanFeed (with_jobs J (j ∷ [])) (Mark j.release) rest
   can_further = record {
     valid = apart;
-    follow = may_follow j.release rest (order_back J.jobs (j ∷ rest) can.valid.in_order).0
-        (all_back IsJob J.jobs (j ∷ rest) can.valid.each).1;
+    follow = may_follow j.release rest (order_back J.jobs (j ∷ rest) (valid_parts can.valid).in_order).0
+        (all_back IsJob J.jobs (j ∷ rest) (valid_parts can.valid).each).1;
     ends = tt;
   }
 

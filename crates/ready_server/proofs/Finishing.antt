@@ -35,6 +35,7 @@ use Rattle.ready_jobs.specs.Course as course
 use Rattle.ready_server.specs.Serving.{Rests, Finishes}
 use Rattle.ready_server.specs.declared.server.ReadyServer.{ReadyServer}
 use Rattle.ready_server.proofs.Stepping.{last_more}
+use Rattle.dover_model.proofs.ValidParts.{valid_parts}
 
 module _ (s : ReadyServer) (J : Instance) (at : ℕ) (rests : Rests s J (Mark at)) where
   -- where it has come
@@ -123,7 +124,7 @@ module _ (s : ReadyServer) (J : Instance) (at : ℕ) (rests : Rests s J (Mark at
     number_small =
         omega (
           arith,
-          rests.follows.valid.count,
+          (valid_parts rests.follows.valid).count,
           jobs_most J.rules.version,
           numbers_below J z rests.follows.keeps r member,
           named,

@@ -32,6 +32,8 @@ use Rattle.ready_jobs.proofs.Releasing.{release_follows}
 use Rattle.ready_server.specs.Serving.{Serves, Rests}
 use Rattle.ready_server.specs.declared.server.ReadyServer.{ReadyServer}
 use Rattle.ready_server.proofs.Stepping.{printed_event, printed_low, last_more}
+use Rattle.dover_model.proofs.ValidParts.{valid_parts}
+use Rattle.dover_model.proofs.JobLimits.{job_limits}
 
 -- a job that isn't to come was released
 pub not_ahead : (s : State) → IsSound s → (t : Task) → IsMember t s.tasks → is_coming t ≡ false
@@ -108,9 +110,9 @@ module _ (s : ReadyServer) (J : Instance) (j : JobFacts) (rests : Rests s J (Mar
       (path_keeps K valid j.release printed_next.steps (opening K.jobs) (with_fresh there s.ready.jobs j)
       (opening_keeps K) printed_next.path) known where
         known : j.release ≤ last_tick
-        known = let job : IsJob j = of_last IsJob J.jobs j valid.each in
-            let window : j.release + j.work ≤ j.deadline = job.window in
-            let due : j.deadline ≤ 1_000_000_000_000 = job.due in omega arith
+        known = let job : IsJob j = of_last IsJob J.jobs j (valid_parts valid).each in
+            let window : j.release + j.work ≤ j.deadline = (job_limits job).window in
+            let due : j.deadline ≤ 1_000_000_000_000 = (job_limits job).due in omega arith
 
   -- they are those of a run
   pub release_course : IsCourse (with_release s.ready j s.ready.room)

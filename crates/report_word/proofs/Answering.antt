@@ -25,6 +25,7 @@ use Rattle.trace_judge.specs.declared.verdict.Verdict.TheVariants.{Accepted, Wro
 use Rattle.report_word.specs.declared.form.Form.{Form}
 use Rattle.report_word.specs.Talk.{IsListed, SaysReport, report_text, told, report_talk}
 use Rattle.report_word.specs.Talking.{Puts}
+use Rattle.dover_model.proofs.SessionParts.{session_jobs}
 
 -- the run of equal steps
 pub same_run : (k : Fraction) (J : Instance) (es fs : List Event) → es ≡ fs → IsRunOf k fs J → IsRunOf k es J
@@ -64,7 +65,7 @@ module _ (k : Fraction) (version : Version) (value most jobs : ℕ) (text : List
     -- and so they are of a run that is reported on
     pub run_of : IsListable (instance_of tells.0) → IsRunOf k steps (instance_of tells.0)
     run_of it = record {
-      valid = tells.7.valid.jobs;
+      valid = session_jobs tells.7.valid;
       listable = it;
       ratio = sym tells.2;
       prints = prints;

@@ -12,7 +12,7 @@ use Rattle.dover_model.specs.declared.events.Task.{Task}
 use Rattle.dover_model.specs.JobFacts.{JobFacts, IsJob}
 use Rattle.dover_model.specs.declared.events.Refusal.TheVariants.{Full}
 use Rattle.dover_model.specs.Limits.{most_jobs, most_total, most_ready}
-use Rattle.dover_model.specs.Instance.{declared_by, under, Instance, IsInOrder, IsWithinRatio, IsValid, with_jobs}
+use Rattle.dover_model.specs.Instance.{declared_by, under, Instance, IsValid, with_jobs}
 use Rattle.dover_model.specs.Instance.{total_value}
 use Rattle.dover_model.specs.Admission.{is_within_ratio_both_ways, refusal_of}
 use Rattle.dover_model.specs.Session.{Session, admitted_jobs, instance_of, refusal_in}
@@ -20,7 +20,6 @@ use Rattle.dover_model.specs.Sound.{jobs_of}
 use Rattle.dover_model.specs.FeedLine.{JobLine}
 use Rattle.dover_model.specs.Feed.{Cause, NotAdmitted, late_cause, later_line_cause}
 use Rattle.dover_model.proofs.Tests.{both}
-use Rattle.dover_model.proofs.Agreement.{is_within_ratio-agrees}
 use Rattle.dover_model.proofs.Admitting.{admits}
 use Rattle.dover_model.proofs.Fullness.{few_ready}
 use Rattle.dover_model.proofs.Honest.{count_jobs}
@@ -30,6 +29,7 @@ use Rattle.admission.proofs.Refusing.{not_refused}
 use Rattle.snapshot.specs.Snapshot.{Head}
 use Rattle.snapshot.specs.Reading.{declared_jobs, last_release}
 use Rattle.snapshot.specs.Stored.{jobs_session}
+use Rattle.dover_model.proofs.ValidParts.{IsWithinRatio, is_within_ratio-agrees, ReleasesInOrder, valid_parts}
 
 -- ---- a valid job is admitted
 
@@ -52,16 +52,16 @@ all_pairs R xs y all = pairs xs (all_front (λ x. AllByRecursion (R x) (xs ++ y 
 -- a job that is valid behind others isn't refused
 pub valid_admitted : (J : Instance) (j : JobFacts) → IsValid (with_jobs J (j ∷ []))
     → refusal_of (declared_by J.rules) J.jobs j ≡ None
-valid_admitted J j valid = not_refused (declared_by J.rules) J.jobs j (all_last IsJob J.jobs j valid.each)
-    (let most : length (J.jobs ++ j ∷ []) ≤ most_jobs J.rules.version = valid.count in
+valid_admitted J j valid = not_refused (declared_by J.rules) J.jobs j (all_last IsJob J.jobs j (valid_parts valid).each)
+    (let most : length (J.jobs ++ j ∷ []) ≤ most_jobs J.rules.version = (valid_parts valid).count in
     omega (arith, length-append J.jobs (j ∷ [])))
-    (let most : total_value (J.jobs ++ j ∷ []) ≤ most_total J.rules.version = valid.total in
+    (let most : total_value (J.jobs ++ j ∷ []) ≤ most_total J.rules.version = (valid_parts valid).total in
     omega (
       arith,
       sum_by-append (λ (i : JobFacts). i.value) J.jobs (j ∷ []),
       sum_by-cons (λ (i : JobFacts). i.value) j [],
     ))
-    (keeps J.jobs (all_pairs (IsWithinRatio J.rules.ratio) J.jobs j valid.densities)) where
+    (keeps J.jobs (all_pairs (IsWithinRatio J.rules.ratio) J.jobs j (valid_parts valid).densities)) where
       keeps : (jobs : List JobFacts)
           → AllByRecursion (λ i. IsWithinRatio J.rules.ratio i j × IsWithinRatio J.rules.ratio j i) jobs
           → AllByRecursion (λ i. is_within_ratio_both_ways J.rules.ratio i j ≡ true) jobs
@@ -102,7 +102,7 @@ itself n = omega arith
 
 -- each release is at most the last
 up_to_last : (from : ℕ) (tasks : List Task) → AllByRecursion (λ (j : JobFacts). from ≤ j.release) (jobs_of tasks)
-    → IsInOrder (jobs_of tasks)
+    → ReleasesInOrder (jobs_of tasks)
     → (from ≤ last_from from tasks)
     × AllByRecursion (λ (j : JobFacts). j.release ≤ last_from from tasks) (jobs_of tasks)
 up_to_last from [] above order = (itself from, tt)
@@ -117,7 +117,7 @@ last_below most from [] all low = low
 last_below most from (t ∷ tasks) all low = last_below most t.job.release tasks all.1 all.0
 
 -- before a last job in order, no release is above its own
-before_last : (jobs : List JobFacts) (j : JobFacts) → IsInOrder (jobs ++ j ∷ [])
+before_last : (jobs : List JobFacts) (j : JobFacts) → ReleasesInOrder (jobs ++ j ∷ [])
     → AllByRecursion (λ i. i.release ≤ j.release) jobs
 before_last [] j order = tt
 before_last (i ∷ jobs) j order =
@@ -151,7 +151,7 @@ module _ (h : Head) (tasks : List Task) (t : Task) where
   -- where they are valid, the last release isn't above its own
   pub valid_ordered : IsValid (declared_jobs h (tasks ++ t ∷ [])) → last_release tasks ≤ t.job.release
   valid_ordered valid = last_below t.job.release 0 tasks
-      (before_last (jobs_of tasks) t.job (subst IsValid with_this valid).in_order) (omega arith)
+      (before_last (jobs_of tasks) t.job (valid_parts (subst IsValid with_this valid)).in_order) (omega arith)
 
   -- and there is no cause
   pub valid_no_cause : length tasks < most_ready → IsValid (declared_jobs h (tasks ++ t ∷ [])) → job_cause ≡ None
@@ -176,7 +176,7 @@ module _ (h : Head) (tasks : List Task) (t : Task) where
     by_order false ordered e =
         let last : last_release tasks ≤ t.job.release = ltb-false _ _ ordered in
         let all : AllByRecursion (λ (j : JobFacts). j.release ≤ last_release tasks) (jobs_of tasks) =
-        (up_to_last 0 tasks (from_zero (jobs_of tasks)) valid.in_order).1 in
+        (up_to_last 0 tasks (from_zero (jobs_of tasks)) (valid_parts valid).in_order).1 in
         subst IsValid (sym with_this) (admits h.rules (jobs_of tasks) t.job valid
         (all_from (λ (j : JobFacts). j.release ≤ last_release tasks) (λ j. j.release ≤ t.job.release) (jobs_of tasks)
         (λ j low. omega arith) all)

@@ -13,7 +13,7 @@ use Rattle.dover_model.specs.Finishes.{Finish, is_due, goes_on}
 use Rattle.dover_model.specs.Instance.{Declaration, Instance, IsValid, with_jobs, with_finishes}
 use Rattle.dover_model.specs.Paths.{HasPrinted}
 use Rattle.dover_model.specs.Processor.{is_complete}
-use Rattle.dover_model.specs.Session.{Item, JobItem, RefusedItem, FinishItem, Session, FollowsItems, mark_after}
+use Rattle.dover_model.specs.Session.{Item, JobItem, RefusedItem, FinishItem, Session, mark_after}
 use Rattle.dover_model.specs.Session.{admitted_jobs, early_finishes, job_of_item, finish_of_item, instance_of}
 use Rattle.dover_model.specs.Session.{session_with}
 use Rattle.dover_model.specs.Session.{EarlyFinish, Refused}
@@ -36,6 +36,7 @@ use Rattle.dover_model.proofs.Resting.{come_above, numbers_below}
 use Rattle.dover_model.proofs.Roles.{one_number}
 use Rattle.dover_model.proofs.Settling.{at_barrier}
 use Rattle.dover_model.proofs.Tests.{never}
+use Rattle.dover_model.proofs.SessionParts.{FollowsItems}
 use Rattle.dover_model.proofs.Valid.{valid_front}
 use Rattle.snapshot.proofs.Paces.{HasCome, comes, printed_later}
 

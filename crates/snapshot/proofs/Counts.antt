@@ -8,7 +8,7 @@ use Rattle.dover_model.specs.declared.events.Version.{Version}
 use Rattle.dover_model.specs.declared.events.Version.TheVariants.{One, Two, Three}
 use Rattle.dover_model.specs.Instance.{IsValid}
 use Rattle.dover_model.specs.Run.{printed}
-use Rattle.dover_model.specs.Session.{Session, JobItem, FollowsItems, instance_of, admitted_jobs, new_session}
+use Rattle.dover_model.specs.Session.{Session, JobItem, instance_of, admitted_jobs, new_session}
 use Rattle.dover_model.specs.Session.{with_named}
 use Rattle.dover_model.specs.Session.{may_finish_early, session_with}
 use Rattle.dover_model.specs.Settled.{settled}
@@ -20,6 +20,8 @@ use Rattle.dover_model.proofs.Growing.{item_in, with_line_named, lines_at, settl
 use Rattle.dover_model.proofs.Tests.{never}
 use Rattle.dover_model.proofs.Walks.{WalksTo, walks}
 use Rattle.snapshot.proofs.RunItems.{NoneRefused, jobs_only, no_places}
+use Rattle.dover_model.proofs.SessionParts.{FollowsItems}
+use Rattle.dover_model.proofs.ValidParts.{valid_parts}
 
 -- each line names an item at most
 names_few : (lines : List TraceLine) (S T : Session) → fold with_line_named S lines ≡ T
@@ -38,7 +40,7 @@ module _ (S : Session) (valid : IsValid (instance_of S)) (follows : FollowsItems
     (good : NoneRefused S.items) where
   -- its trace is read up to some mark
   read : WalksTo S.rules [] 0 S.items []
-  read = walks S.rules S.items [] [] 0 (reads_new S.rules valid.ratio)
+  read = walks S.rules S.items [] [] 0 (reads_new S.rules (valid_parts valid).ratio)
       (subst (FollowsItems S.rules [] 0) (sym (append-nil S.items)) follows)
       (subst (λ xs. IsValid (instance_of (session_with S.rules xs))) (sym (append-nil S.items)) valid)
 

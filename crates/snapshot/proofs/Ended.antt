@@ -41,6 +41,8 @@ use Rattle.snapshot.proofs.Counts.{good_count}
 use Rattle.snapshot.proofs.RunItems.{good_is_run}
 use Rattle.snapshot.proofs.Runner.{at_number}
 use Rattle.snapshot.proofs.Same.{stored_of}
+use Rattle.dover_model.proofs.SessionParts.{session_from}
+use Rattle.snapshot.proofs.Going.{handed_follows}
 
 -- ---- finishes that are still to come
 
@@ -232,19 +234,19 @@ module _ (v : RosterServer) (h : Head) (tasks : List Task) (items : List Item) (
           rules = h.rules;
           items = filter_map handed_by xs;
         } in T) (sym (run_alike J own early (same_alike own early finishes_same)))
-        ∙ sym (good_is_run S (record {
+        ∙ sym (good_is_run S (session_from (record {
           jobs = valid;
-          count = good_count S valid it.handed.follows it.handed.none_refused
+          count = good_count S valid (handed_follows it.handed) it.handed.none_refused
               (omega (
                 arith,
                 ap length it.handed.jobs,
                 count_jobs tasks,
                 few,
               ));
-          items = it.handed.follows;
-        }) it.handed.none_refused (by (may_finish_early h.rules.version) refl)
+          items = handed_follows it.handed;
+        })) it.handed.none_refused (by (may_finish_early h.rules.version) refl)
         (omega (arith, ap length it.handed.jobs, count_jobs tasks, few)))) where
           by : (b : Bool) → may_finish_early h.rules.version ≡ b
               → (may_finish_early h.rules.version ≡ true) ⊎ (own ≡ [])
           by true three = inl three
-          by false plain = inr (none_early h.rules [] 0 items plain it.handed.follows)
+          by false plain = inr (none_early h.rules [] 0 items plain (handed_follows it.handed))

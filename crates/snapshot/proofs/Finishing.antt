@@ -14,7 +14,7 @@ use Rattle.dover_model.proofs.Meeting.{finishing_valid}
 use Rattle.dover_model.proofs.RunSessions.{run_jobs}
 use Rattle.dover_model.proofs.Tests.{none_is_some}
 use Rattle.dover_model.specs.JobFacts.{JobFacts}
-use Rattle.dover_model.specs.Instance.{Instance, IsValid, IsInOrder}
+use Rattle.dover_model.specs.Instance.{Instance, IsValid}
 use Rattle.dover_model.specs.Sound.{jobs_of}
 use Rattle.dover_model.specs.State.{State}
 use Rattle.dover_model.specs.declared.events.Task.{Task}
@@ -45,12 +45,14 @@ use Rattle.snapshot.proofs.Comparing.{all_alike, alike_all}
 use Rattle.snapshot.proofs.Counts.{good_count}
 use Rattle.snapshot.proofs.Ended.{state_same, rests_stored, items_stored}
 use Rattle.snapshot.proofs.Formed.{denied}
+use Rattle.snapshot.proofs.Going.{handed_follows}
 use Rattle.snapshot.proofs.Handed.{goes_on}
 use Rattle.snapshot.proofs.RunItems.{NoneRefused}
 use Rattle.snapshot.proofs.Whole.{all_lines_account}
 use Rattle.ready_server.proofs.RollSettled.{settled_jobs}
 use Rattle.snapshot.proofs.Stepping.{served_count, refused_here}
 use Rattle.snapshot.proofs.Storing.{no_last, mark_beyond, other_state, last_stands}
+use Rattle.dover_model.proofs.ValidParts.{ReleasesInOrder, valid_parts}
 
 -- as many items as jobs at least
 jobs_least : (items : List Item) → length (admitted_jobs items) ≤ length items
@@ -70,7 +72,7 @@ jobs_are (FinishItem f ∷ items) good few = absurd (omega (arith, few, jobs_lea
 
 -- the mark behind jobs is the last release
 mark_from : (from : ℕ) (tasks : List Task) → AllByRecursion (λ (j : JobFacts). from ≤ j.release) (jobs_of tasks)
-    → IsInOrder (jobs_of tasks)
+    → ReleasesInOrder (jobs_of tasks)
     → mark_after from (map JobItem (jobs_of tasks)) ≡ fold (λ (last : ℕ) (t : Task). t.job.release) from tasks
 mark_from from [] above order = refl
 mark_from from (t ∷ tasks) above order =
@@ -79,7 +81,7 @@ mark_from from (t ∷ tasks) above order =
 
 jobs_mark : (h : Head) (tasks : List Task) → IsValid (declared_jobs h tasks)
     → mark_after 0 (map JobItem (jobs_of tasks)) ≡ last_release tasks
-jobs_mark h tasks valid = mark_from 0 tasks (from_zero (jobs_of tasks)) valid.in_order where
+jobs_mark h tasks valid = mark_from 0 tasks (from_zero (jobs_of tasks)) (valid_parts valid).in_order where
   from_zero : (jobs : List JobFacts) → AllByRecursion (λ (j : JobFacts). 0 ≤ j.release) jobs
   from_zero [] = tt
   from_zero (j ∷ jobs) = (omega arith, from_zero jobs)
@@ -194,7 +196,7 @@ module _ (h : Head) (tasks : List Task) (ls : List (List ℕ)) (read : HasRead h
         few_handed = omega (
           arith,
           run.counted.count,
-          good_count (session_with h.rules run.items) valid served.handed.follows served.handed.none_refused
+          good_count (session_with h.rules run.items) valid (handed_follows served.handed) served.handed.none_refused
               (omega (arith, ap length served.handed.jobs, count_jobs tasks, few_is)),
           items_low h.rules.version,
         ) where

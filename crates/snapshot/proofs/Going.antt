@@ -52,6 +52,12 @@ use Rattle.snapshot.proofs.Admitted.{jobs_more}
 use Rattle.snapshot.proofs.Paces.{HasLess, less_after, stays_less, printed_later}
 use Rattle.snapshot.proofs.Runner.{at_number, of_number, same_number}
 use Rattle.snapshot.proofs.Same.{IsEarly, stored_of, in_stored}
+use Rattle.dover_model.proofs.SessionParts.{FollowsItems, follows_items-agrees}
+
+-- what was handed in may stand where it stands
+pub handed_follows : {h : Head} {tasks : List Task} {items : List Item} → IsHandedIn h tasks items
+    → FollowsItems h.rules [] 0 items
+handed_follows {h} {tasks} {items} handed = (follows_items-agrees h.rules [] 0 items).0 handed.follows
 
 -- a role that is tested to be that of a job that is done
 done_role : (role : Role) → is_done_role role ≡ true → role ≡ Done
@@ -380,14 +386,15 @@ module _ (h : Head) (tasks : List Task) (items : List Item) (at : ℕ) (handed :
     -- it is handed in
     pub handed_finish : IsHandedIn h tasks more
     handed_finish = record {
-      follows = follows_behind h.rules [] 0 items (FinishItem item ∷ []) handed.follows (
-        record {
-          no_fall = low;
-          known = known;
-          right = ap (λ b. cond b (finish_at K at f.number) None) three ∙ right;
-        },
-        tt,
-      );
+      follows = (follows_items-agrees h.rules [] 0 more).1
+          (follows_behind h.rules [] 0 items (FinishItem item ∷ []) (handed_follows handed) (
+            record {
+              no_fall = low;
+              known = known;
+              right = ap (λ b. cond b (finish_at K at f.number) None) three ∙ right;
+            },
+            tt,
+          ));
       none_refused = each_append (λ i. refused_of_item i ≡ None) items (FinishItem item ∷ []) handed.none_refused one;
       jobs = filter_map-append job_of_item items (FinishItem item ∷ []) ∙ append-nil (admitted_jobs items)
           ∙ handed.jobs;
@@ -527,13 +534,14 @@ module _ (h : Head) (tasks : List Task) (items : List Item) (at : ℕ) (handed :
 
     pub handed_job : length tasks < most_ready → IsHandedIn h all with_job
     handed_job few = record {
-      follows = follows_behind h.rules [] 0 items (JobItem t.job ∷ []) handed.follows (
-        record {
-          no_fall = omega (arith, low, release);
-          room = few_ready K t.job.release (omega (arith, few, ap length handed.jobs, count_jobs tasks));
-        },
-        tt,
-      );
+      follows = (follows_items-agrees h.rules [] 0 with_job).1
+          (follows_behind h.rules [] 0 items (JobItem t.job ∷ []) (handed_follows handed) (
+            record {
+              no_fall = omega (arith, low, release);
+              room = few_ready K t.job.release (omega (arith, few, ap length handed.jobs, count_jobs tasks));
+            },
+            tt,
+          ));
       none_refused = each_append (λ i. refused_of_item i ≡ None) items (JobItem t.job ∷ []) handed.none_refused one;
       jobs = filter_map-append job_of_item items (JobItem t.job ∷ []) ∙ ap (λ js. js ++ t.job ∷ []) handed.jobs
           ∙ sym (jobs_more tasks t);

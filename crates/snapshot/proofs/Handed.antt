@@ -21,6 +21,7 @@ use Rattle.dover_model.proofs.Fullness.{few_ready}
 use Rattle.dover_model.proofs.Honest.{count_jobs}
 use Rattle.dover_model.proofs.Members.{some_same, all_last}
 use Rattle.dover_model.proofs.Tests.{never}
+use Rattle.dover_model.proofs.ValidParts.{valid_parts}
 use Rattle.event_feed.proofs.Listing.{left_all, job_after}
 use Rattle.dover_model.proofs.Growing.{job_instance, refused_instance}
 use Rattle.dover_model.proofs.JobSessions.{jobs_back}
@@ -322,4 +323,4 @@ module _ (h : Head) (tasks : List Task) (t : Task) (i new : feed.Kept) (it : IsF
 pub none_made : (h : Head) (tasks : List Task) (t : Task) → (IsJob t.job → ⊥)
     → IsValid (declared_jobs h (tasks ++ t ∷ [])) → ⊥
 none_made h tasks t none valid = none (all_last IsJob (declared_jobs h tasks).jobs t.job
-    (subst IsValid (with_this h tasks t) valid).each)
+    (valid_parts (subst IsValid (with_this h tasks t) valid)).each)

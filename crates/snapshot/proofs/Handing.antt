@@ -18,7 +18,6 @@ use Rattle.dover_model.specs.Sound.{jobs_of}
 use Rattle.dover_model.specs.FeedLine.{FeedLine, RatioLine, JobLine, TickLine, HasNumerals, feed_line, feed_text}
 use Rattle.dover_model.specs.Feed.{Account, Lines, Declared, Order, rules_with, declared_rules, cause_of, with_line}
 use Rattle.dover_model.specs.Feed.{with_fault, next_line, no_lines}
-use Rattle.dover_model.proofs.Agreement.{is_ratio-agrees}
 use Rattle.dover_model.proofs.FeedLines.{feed_line-feed_text}
 use Rattle.event_feed.specs.Reading.{open_account}
 use Rattle.event_feed.proofs.Counting.{after_form}
@@ -26,6 +25,7 @@ use Rattle.snapshot.specs.Snapshot.{Head}
 use Rattle.snapshot.specs.Reading.{last_release}
 use Rattle.snapshot.specs.Stored.{declared_number, jobs_session, jobs_account}
 use Rattle.snapshot.proofs.Admitted.{jobs_more, last_more}
+use Rattle.dover_model.proofs.JobLimits.{ratio_limits, job_limits}
 
 -- ---- the line of the ratio
 
@@ -36,8 +36,8 @@ module _ (p q : ℕ) (ratio : IsRatio (record { p = p; q = q })) where
 
   -- its numbers have numerals
   pub ratio_numerals : (v : Version) → HasNumerals (RatioLine p q (declared_number v))
-  ratio_numerals v = by_version v (let low : p ≤ 1_000_000 = ratio.small_p in omega arith)
-      (let low : q ≤ 1_000 = ratio.small_q in omega arith) where
+  ratio_numerals v = by_version v (let low : p ≤ 1_000_000 = (ratio_limits ratio).small_p in omega arith)
+      (let low : q ≤ 1_000 = (ratio_limits ratio).small_q in omega arith) where
         by_version : (v : Version) → p < 10 ^ 18 → q < 10 ^ 18 → HasNumerals (RatioLine p q (declared_number v))
         by_version One p_short q_short = (p_short, (q_short, tt))
         by_version Two p_short q_short = (p_short, (q_short, (omega arith, tt)))
@@ -45,9 +45,9 @@ module _ (p q : ℕ) (ratio : IsRatio (record { p = p; q = q })) where
 
   -- it declares the rules
   declares : (v : Version) → declared_rules k (declared_number v) ≡ Some (rules_with k v)
-  declares One = ap (λ b. cond b (Some (rules_with k One)) None) ((is_ratio-agrees k).1 ratio)
-  declares Two = ap (λ b. cond b (Some (rules_with k Two)) None) ((is_ratio-agrees k).1 ratio)
-  declares Three = ap (λ b. cond b (Some (rules_with k Three)) None) ((is_ratio-agrees k).1 ratio)
+  declares One = ap (λ b. cond b (Some (rules_with k One)) None) ratio.passes
+  declares Two = ap (λ b. cond b (Some (rules_with k Two)) None) ratio.passes
+  declares Three = ap (λ b. cond b (Some (rules_with k Three)) None) ratio.passes
 
   -- what it says as the first line
   pub ratio_account : (v : Version) → next_line no_lines (feed_text (RatioLine p q (declared_number v)))
@@ -65,9 +65,9 @@ module _ (p q : ℕ) (ratio : IsRatio (record { p = p; q = q })) where
 -- a job's numbers have numerals
 pub job_numerals : (j : JobFacts) → IsJob j → AreShort (job_numbers j)
 job_numerals j it =
-    let window : j.release + j.work ≤ j.deadline = it.window in
-    let due : j.deadline ≤ 1_000_000_000_000 = it.due in
-    let modest : j.value ≤ 1_000_000_000 = it.modest in
+    let window : j.release + j.work ≤ j.deadline = (job_limits it).window in
+    let due : j.deadline ≤ 1_000_000_000_000 = (job_limits it).due in
+    let modest : j.value ≤ 1_000_000_000 = (job_limits it).modest in
     (omega arith, (omega arith, (omega arith, (omega arith, tt))))
 
 module _ (h : Head) (tasks : List Task) (t : Task) where

@@ -13,8 +13,8 @@ use Rattle.std.specs.Bool.{then_some}
 use Rattle.std.specs.Option.{option_or}
 use Rattle.dover_model.specs.Admission.{refusal_of}
 use Rattle.dover_model.specs.declared.events.Refusal.TheVariants.{Full}
-use Rattle.dover_model.specs.Session.{MayBeAdmitted, refusal_in}
-use Rattle.dover_model.specs.Session.{Item, JobItem, RefusedItem, FinishItem, Session, FollowsItems, mark_after}
+use Rattle.dover_model.specs.Session.{refusal_in}
+use Rattle.dover_model.specs.Session.{Item, JobItem, RefusedItem, FinishItem, Session, mark_after}
 use Rattle.dover_model.specs.Session.{EarlyFinish, admitted_jobs, instance_of, session_with}
 use Rattle.dover_model.specs.Session.{with_item, with_named, may_finish_early, early_at, finish_at, is_right}
 use Rattle.dover_model.specs.FeedLine.{FeedLine, JobLine, DoneLine, feed_line, feed_text}
@@ -33,6 +33,8 @@ use Rattle.snapshot.proofs.Admitted.{valid_admitted, all_last}
 use Rattle.snapshot.proofs.Came.{front_valid}
 use Rattle.snapshot.proofs.Handing.{job_numerals}
 use Rattle.snapshot.proofs.RunItems.{NoneRefused}
+use Rattle.dover_model.proofs.SessionParts.{MayBeAdmitted, FollowsItems}
+use Rattle.dover_model.proofs.ValidParts.{valid_parts}
 
 module _ (S : Session) (lines mark : ℕ) (few : suc lines ≤ most_lines S.rules.version) where
   -- the account in which a line is counted
@@ -51,7 +53,7 @@ module _ (S : Session) (lines mark : ℕ) (few : suc lines ≤ most_lines S.rule
       ≡ open_account (suc lines) (Some (with_item S (JobItem j))) j.release
   job_item_account j may valid =
       read (JobLine j) (feed_line-feed_text (JobLine j) (job_numerals j (all_last IsJob
-      (instance_of S).jobs j valid.each)))
+      (instance_of S).jobs j (valid_parts valid).each)))
       ∙ ap (with_line a (JobLine j)) none where
         none : cause_of a (JobLine j) ≡ None
         none = ap (λ b. cond b (Some (late_cause S.rules.version))
@@ -70,7 +72,7 @@ module _ (S : Session) (lines mark : ℕ) (few : suc lines ≤ most_lines S.rule
         omega (arith, known),
         (
           omega
-              (arith, number, valid.count, jobs_most S.rules.version),
+              (arith, number, (valid_parts valid).count, jobs_most S.rules.version),
           tt,
         ),
       ))

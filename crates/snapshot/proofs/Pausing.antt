@@ -23,6 +23,7 @@ use Rattle.snapshot.specs.Pausing.{IsTakenTo, lines_in}
 use Rattle.ready_server.specs.declared.roster_server.RosterServer.{RosterServer}
 use Rattle.snapshot.proofs.Feeds.{holds, few, snapshot_is}
 use Rattle.ready_server.proofs.RollSettled.{settled_jobs}
+use Rattle.dover_model.proofs.ValidParts.{valid_parts}
 
 module _ (v : RosterServer) (lines mark : ℕ) (F : List ℕ) (it : IsTakenTo v lines mark F) (k : Kept)
     (there : v.roster ≡ Some k) where
@@ -63,7 +64,7 @@ module _ (v : RosterServer) (lines mark : ℕ) (F : List ℕ) (it : IsTakenTo v 
 
   -- they are few
   pub jobs_few : length k.roll.jobs ≤ most_jobs Three
-  jobs_few = omega (arith, count, kept.reads.valid.count, jobs_most it.session.rules.version)
+  jobs_few = omega (arith, count, (valid_parts kept.reads.valid).count, jobs_most it.session.rules.version)
 
   -- the lines are those of the snapshot
   pub text_is : in_lines (lines_in k.roll v.server.ready.rules lines mark) ≡ snapshot F

@@ -8,7 +8,7 @@ use Rattle.dover_model.specs.Instance.{Declaration, Instance, IsValid, under, de
 use Rattle.dover_model.specs.Limits.{most_items, most_ready}
 use Rattle.dover_model.specs.Lines.{in_lines}
 use Rattle.dover_model.specs.Run.{run, printed}
-use Rattle.dover_model.specs.Session.{Item, JobItem, RefusedItem, FinishItem, Session, FollowsItems, IsValidSession}
+use Rattle.dover_model.specs.Session.{Item, JobItem, RefusedItem, FinishItem, Session, IsValidSession}
 use Rattle.dover_model.specs.Session.{admitted_jobs, early_finishes, refused_of_item}
 use Rattle.dover_model.specs.Session.{instance_of, session_with, may_finish_early, finish_at, is_full, mark_after}
 use Rattle.dover_model.specs.Sound.{IsMember, Each}
@@ -28,6 +28,7 @@ use Rattle.dover_model.proofs.NeverFull.{few_never}
 use Rattle.dover_model.proofs.RunSessions.{run_jobs, run_session_valid, same_printed, whole_of}
 use Rattle.dover_model.proofs.Shown.{Shows, early_says}
 use Rattle.dover_model.proofs.Tests.{none_is_some}
+use Rattle.dover_model.proofs.SessionParts.{FollowsItems, session_from, session_jobs}
 
 -- no refused line stands among the items
 abbrev pub NoneRefused : List Item → Type 0
@@ -207,10 +208,11 @@ module _ (S : Session) (valid : IsValidSession S) (good : NoneRefused S.items)
     (modest : length (admitted_jobs S.items) ≤ most_ready) where
   -- it is what its run hands in
   pub good_is_run : S ≡ session_of_run (instance_of S)
-  good_is_run = same_trace S (session_of_run (instance_of S)) valid (run_valid (instance_of S) valid.jobs modest may)
+  good_is_run = same_trace S (session_of_run (instance_of S)) valid
+      (run_valid (instance_of S) (session_jobs valid) modest may)
       (good_trace S good
       ∙ ap (λ es. in_lines (header S.rules ∷ map text_of_line (map Printed es))) (sym (same_printed
-      (instance_of S) valid.jobs))
+      (instance_of S) (session_jobs valid)))
       ∙ sym (good_trace (session_of_run (instance_of S)) (run_good (instance_of S))))
 
 -- the mark behind the items that are kept isn't above that behind all
@@ -229,11 +231,11 @@ module _ (S : Session) (valid : IsValid (instance_of S)) (follows : FollowsItems
   kept_session = session_with S.rules (kept S.items)
 
   kept_valid : IsValidSession kept_session
-  kept_valid = record {
+  kept_valid = session_from (record {
     jobs = subst IsValid (sym (kept_instance S.rules S.items)) valid;
     count = few;
     items = kept_follows S.rules [] 0 0 S.items (omega arith) follows;
-  }
+  })
 
   may_finish : (b : Bool) → may_finish_early S.rules.version ≡ b
       → (may_finish_early S.rules.version ≡ true) ⊎ (early_finishes (kept S.items) ≡ [])

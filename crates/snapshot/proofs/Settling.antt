@@ -18,6 +18,8 @@ use Rattle.snapshot.specs.Reading.{declared_jobs}
 use Rattle.snapshot.specs.Kept.{MayAdmit}
 use Rattle.ready_server.specs.Rostering.{Serves, Rests}
 use Rattle.ready_server.specs.declared.roster_server.RosterServer.{RosterServer}
+use Rattle.dover_model.proofs.ValidParts.{valid_parts}
+use Rattle.dover_model.proofs.JobLimits.{job_limits}
 
 -- so many steps at least were printed on the way to a mark
 pub record IsOnTheWay (v : RosterServer) (J : Instance) (mark steps : ℕ) : Type 0 where
@@ -58,9 +60,9 @@ too_many v J mark steps it many =
 pub release_known : (h : Head) (tasks : List Task) (last : ℕ) (job : JobFacts) → MayAdmit last h tasks job
     → job.release ≤ last_tick
 release_known h tasks last job may =
-    let it : IsJob job = all_last IsJob (declared_jobs h tasks).jobs job may.valid.each in
-    let window : job.release + job.work ≤ job.deadline = it.window in
-    let due : job.deadline ≤ 1_000_000_000_000 = it.due in
+    let it : IsJob job = all_last IsJob (declared_jobs h tasks).jobs job (valid_parts may.valid).each in
+    let window : job.release + job.work ≤ job.deadline = (job_limits it).window in
+    let due : job.deadline ≤ 1_000_000_000_000 = (job_limits it).due in
     omega arith
 
 -- what is said of an error

@@ -22,7 +22,6 @@ use Rattle.dover_model.specs.Lines.{is_too_long, fields_of, line_of, with_number
 use Rattle.dover_model.specs.Text.{version_number}
 use Rattle.dover_model.proofs.Tests.{none_is_some}
 use Rattle.dover_model.proofs.Members.{some_same}
-use Rattle.dover_model.proofs.Agreement.{is_ratio-agrees}
 use Rattle.dover_model.proofs.ReadShort.{numerals_short}
 use Rattle.dover_model.proofs.Fields.{HasNoSpace, fields_of-line_of, line_of-fields_of, decimals-HasNoSpace}
 use Rattle.dover_model.proofs.Fields.{numerals-decimals, decimals-numerals}
@@ -94,7 +93,7 @@ numbers_head h ratio =
       ratio = h.rules.ratio;
       version = version;
     })) o)) (version_back h.rules.version)
-    ∙ ap (λ b. option_map head (then_some b h.rules)) ((is_ratio-agrees h.rules.ratio).1 ratio)
+    ∙ ap (λ b. option_map head (then_some b h.rules)) ratio.passes
 
 -- the first line is short
 pub head_fits : (h : Head) → AreShort (head_numbers h) → length (head_line h) ≤ 122
@@ -124,7 +123,7 @@ rules_read n p q rules = by (version_of n) refl where
       × IsRatio r.ratio)
       (some_same (rules_in v) rules read) (
         ap (λ m. m ∷ p ∷ q ∷ []) (version_from n v version),
-        (is_ratio-agrees (record { p = p; q = q })).0 passes,
+        record { passes = passes },
       )
 
   by : (o : Option Version) → version_of n ≡ o

@@ -22,7 +22,7 @@ pub first_served : (v : RosterServer) (h : Head) → Serves v (instance_of (sess
     → has_roster v ≡ true → IsServedTowards v h [] [] 0
 first_served v h it listed = record {
   handed = record {
-    follows = tt;
+    follows = refl;
     none_refused = λ i none. absurd none;
     jobs = refl;
     own = λ f none. absurd none;

@@ -9,7 +9,6 @@ use Rattle.dover_model.specs.declared.events.Task.{Task}
 use Rattle.dover_model.specs.JobFacts.{JobFacts, job_numbers}
 use Rattle.dover_model.specs.Instance.{IsValid, is_valid}
 use Rattle.dover_model.specs.Numerals.{AreShort}
-use Rattle.dover_model.proofs.Agreement.{is_valid-agrees}
 use Rattle.snapshot.specs.Snapshot.{Head}
 use Rattle.snapshot.specs.Reading.{Refused, declared_jobs, may_follow, refused_behind, read_task, reading_of}
 use Rattle.snapshot.specs.Stored.{HasRead}
@@ -69,7 +68,7 @@ module _ (h : Head) (tasks : List Task) (ls : List (List ℕ)) (read : HasRead h
                 (tasks ++ t ∷ []))) _ passes in
                 let both = and_parts (t.number == length tasks) (is_valid (declared_jobs h (tasks ++ t ∷ []))) all.0 in
                 absurd (never (eqb-true t.number (length tasks) both.0)
-                ((is_valid-agrees (declared_jobs h (tasks ++ t ∷ []))).0 both.1)
+                (record { passes = both.1 })
                 (leb-true t.job.release h.mark all.1))
 
       module _ (valid : IsValid (declared_jobs h (tasks ++ t ∷ []))) where
@@ -90,7 +89,7 @@ module _ (h : Head) (tasks : List Task) (ls : List (List ℕ)) (read : HasRead h
         read_more number low = task_stands h tasks ls read line more t spelled (by (t.number == length tasks)
             (is_valid (declared_jobs h (tasks ++ t ∷ []))) (nat_le t.job.release h.mark)
             (eq-eqb t.number (length tasks) number)
-            ((is_valid-agrees (declared_jobs h (tasks ++ t ∷ []))).1 valid) (le-leb t.job.release h.mark low)) where
+            valid.passes (le-leb t.job.release h.mark low)) where
               by : (a b c : Bool) → a ≡ true → b ≡ true → c ≡ true → (a && b && c) ≡ true
               by true true true p q s = refl
               by true true false p q s = absurd (let clash : false ≡ true = s in cc)

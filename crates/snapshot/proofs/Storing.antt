@@ -10,7 +10,6 @@ use Rattle.dover_model.specs.declared.events.Task.{Task}
 use Rattle.dover_model.specs.Instance.{Declaration, under, IsValid, is_valid}
 use Rattle.dover_model.specs.Fraction.{IsRatio}
 use Rattle.dover_model.specs.Sound.{IsNumberedFrom}
-use Rattle.dover_model.proofs.Agreement.{is_valid-agrees}
 use Rattle.dover_model.proofs.Growing.{all_behind, reads_new}
 use Rattle.snapshot.specs.Snapshot.{Head, head_line, state_line}
 use Rattle.snapshot.specs.Reading.{Begun, Going, Taken, Refused, is_within_limits, declared_jobs, may_follow}
@@ -99,7 +98,7 @@ module _ (h : Head) (tasks : List Task) (ls : List (List ℕ)) (it : HasRead h t
             ∙ ap (λ (xs : List (List ℕ)). xs ++ state_line t ∷ []) it.text
             ∙ ap (λ xs. head_line h ∷ xs) (sym (map-append state_line tasks (t ∷ [])));
         limits = it.limits;
-        valid = (is_valid-agrees (declared_jobs h (tasks ++ t ∷ []))).0 both.1;
+        valid = record { passes = both.1 };
         known = all_behind (λ u. u.job.release ≤ h.mark) tasks t it.known (leb-true _ _ all.1);
         numbered = numbered_more 0 tasks t it.numbered (omega (arith, eqb-true t.number (length tasks) both.0));
         count = omega (arith, length-append tasks (t ∷ []));

@@ -21,7 +21,6 @@ use Rattle.dover_model.specs.State.{State}
 use Rattle.dover_model.specs.Feed.{Account, Open}
 use Rattle.dover_model.proofs.Meeting.{finishing_valid}
 use Rattle.dover_model.proofs.Accounts.{Holds, HoldsBy, HoldsOpen, IsKept}
-use Rattle.dover_model.proofs.Agreement.{is_valid-agrees}
 use Rattle.dover_model.proofs.Barriers.{AtBarrier, settled_at_barrier}
 use Rattle.dover_model.proofs.Honest.{numbers_low, count_jobs}
 use Rattle.dover_model.proofs.Kept.{each_job}
@@ -42,6 +41,8 @@ use Rattle.snapshot.proofs.RunItems.{kept_instance, kept_follows}
 use Rattle.snapshot.proofs.Same.{stored_run, stored_state}
 use Rattle.snapshot.proofs.Spelled.{read_head-head_line, read_task-state_line}
 use Rattle.snapshot.proofs.Storing.{head_stands, task_stands, last_stands}
+use Rattle.dover_model.proofs.ValidParts.{valid_parts}
+use Rattle.dover_model.proofs.JobLimits.{job_limits}
 
 -- as many jobs as items at most
 jobs_in : (items : List Item) → length (admitted_jobs items) ≤ length items
@@ -95,11 +96,11 @@ module _ (S : Session) (mark lines : ℕ) (holds : Holds S mark lines) (few : li
 
     pub is_head : IsHead h
     is_head =
-        let rules = header_short S.rules holds.reads.valid.ratio in
+        let rules = header_short S.rules (valid_parts holds.reads.valid).ratio in
         let known : mark ≤ 1_000_000_000_000 = holds.known in
         let most : lines ≤ 16_000_000_000 = omega (arith, few, lines_most S.rules.version) in
         record {
-          ratio = holds.reads.valid.ratio;
+          ratio = (valid_parts holds.reads.valid).ratio;
           short =
               (rules.0, (rules.1.0, (rules.1.1.0, (omega arith, (omega arith, (omega (arith, jobs_small), tt))))));
         }
@@ -120,10 +121,10 @@ module _ (S : Session) (mark lines : ℕ) (holds : Holds S mark lines) (few : li
       pub is_state : IsState t
       is_state =
           let job : IsJob t.job = each_job IsJob tasks
-          (subst (AllByRecursion IsJob) (sym jobs_same) holds.reads.valid.each) t m in
-          let window : t.job.release + t.job.work ≤ t.job.deadline = job.window in
-          let due : t.job.deadline ≤ 1_000_000_000_000 = job.due in
-          let modest : t.job.value ≤ 1_000_000_000 = job.modest in
+          (subst (AllByRecursion IsJob) (sym jobs_same) (valid_parts holds.reads.valid).each) t m in
+          let window : t.job.release + t.job.work ≤ t.job.deadline = (job_limits job).window in
+          let due : t.job.deadline ≤ 1_000_000_000_000 = (job_limits job).due in
+          let modest : t.job.value ≤ 1_000_000_000 = (job_limits job).modest in
           let had : t.had ≤ t.job.work = bar.keeps.sound.at_most_work t m in
           let low : t.number < 0 + length tasks = numbers_low 0 tasks bar.keeps.sound.numbered t m in
           record {
@@ -172,7 +173,7 @@ module _ (S : Session) (mark lines : ℕ) (holds : Holds S mark lines) (few : li
           (nat_le t.job.release mark)
           (and_from (t.number == length front) (is_valid (declared_jobs h (front ++ t ∷ [])))
           (eq-eqb t.number (length front) number)
-          ((is_valid-agrees (declared_jobs h (front ++ t ∷ []))).1 valid_up_to)) (le-leb t.job.release mark released)
+          valid_up_to.passes) (le-leb t.job.release mark released)
 
       more : length front < length J.jobs
       more = omega (arith, count, ap length split, length-append front (t ∷ back))

@@ -43,9 +43,10 @@ use Rattle.dover_model.specs.Session.{may_finish_early, early_finishes}
 use Rattle.snapshot.specs.declared.resuming.Resuming.{Resuming}
 use Rattle.snapshot.proofs.Counts.{good_few}
 use Rattle.snapshot.proofs.Going.{all_near, none_comes, one_comes, Comes, next_later, handed_finish, finish_run}
-use Rattle.snapshot.proofs.Going.{finish_mark}
+use Rattle.snapshot.proofs.Going.{finish_mark, handed_follows}
 use Rattle.snapshot.proofs.Going.{finish_count, others_to_come}
 use Rattle.snapshot.proofs.Runner.{runner_is}
+use Rattle.dover_model.proofs.ValidParts.{valid_parts}
 
 -- ---- where a server rests
 
@@ -133,8 +134,8 @@ few_items v h tasks items mark many is handed rests =
     omega (
       arith,
       is,
-      good_few (session_with h.rules items) valid handed.follows handed.none_refused,
-      valid.count,
+      good_few (session_with h.rules items) valid (handed_follows handed) handed.none_refused,
+      (valid_parts valid).count,
       jobs_most h.rules.version,
     )
 

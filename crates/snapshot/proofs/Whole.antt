@@ -47,6 +47,8 @@ use Rattle.snapshot.proofs.ItemLines.{items_account}
 use Rattle.snapshot.proofs.RunItems.{run_good, run_own, run_valid}
 use Rattle.snapshot.proofs.Same.{stored_own}
 use Rattle.snapshot.proofs.Shown.{shown, same_state}
+use Rattle.dover_model.proofs.SessionParts.{session_parts, session_jobs}
+use Rattle.dover_model.proofs.ValidParts.{valid_parts}
 
 -- what holds of all of two lists
 all_both : {X : Type 0} (P : X → Type 0) (xs ys : List X) → AllByRecursion P xs → AllByRecursion P ys
@@ -126,8 +128,9 @@ module _ (h : Head) (tasks : List Task) (ls : List (List ℕ)) (it : IsWhole h t
       fold-append next_line no_lines (ratio_text h ∷ item_lines S.items) (tick_lines h (length S.items + 1))
       ∙ ap (λ a. fold next_line a (tick_lines h (length S.items + 1)))
       (ap (λ a. fold next_line a (item_lines S.items))
-      (ratio_account h.rules.ratio.p h.rules.ratio.q it.read.valid.ratio h.rules.version)
-      ∙ items_account h.rules [] 1 0 S.items valid_session.jobs (run_good J) valid_session.items
+      (ratio_account h.rules.ratio.p h.rules.ratio.q (valid_parts it.read.valid).ratio h.rules.version)
+      ∙ items_account h.rules [] 1 0 S.items (session_jobs valid_session) (run_good J)
+      (session_parts valid_session).items
       (omega (arith, has_lines.0, limits.lines)))
       ∙ tick_lines_account S (1 + length S.items) (h.lines - (length S.items + 1)) (mark_after 0 S.items) h.mark
       has_lines.1 limits.mark (omega (arith, has_lines.0, limits.lines))
@@ -253,7 +256,7 @@ module _ (h : Head) (tasks : List Task) (ls : List (List ℕ)) (it : IsWhole h t
             subst (λ ts. Each (λ f. IsMember f (early_finishes S.items)) (early_in h.rules.version ts)) (sym tasks_are)
                 (subst (λ (s : State). Each (λ f. IsMember f (early_finishes S.items))
                 (early_in h.rules.version s.tasks))
-                state_there (stored_own (instance_of S) valid_session.jobs h.mark h.rules.version)),
+                state_there (stored_own (instance_of S) (session_jobs valid_session) h.mark h.rules.version)),
             run_own J valid,
           )
 

@@ -1,7 +1,7 @@
 -- What a reader keeps of a snapshot, and for which lines it stands.
 use Rattle.std.specs.Prelude.{◌≡◌, ◌⊎◌, ℕ, ◌+◌, ◌-◌, List, [], ◌∷◌, ◌++◌, length, map, replicate, ◌≤◌, ◌<◌, Bool}
 use Rattle.std.specs.Prelude.{true, false, ◌&&◌, nat_lt, nat_le, if◌then◌else◌}
-use Rattle.std.specs.Prelude.{Option, Some, None, Result, Ok, Err, codes}
+use Rattle.std.specs.Prelude.{IsTrue, Option, Some, None, Result, Ok, Err, codes}
 use Rattle.std.specs.List.{slice_get, AllByRecursion}
 use Rattle.std.specs.Option.{option_map, option_and_then}
 use Rattle.std.specs.Bool.{then_some}
@@ -15,7 +15,7 @@ use Rattle.dover_model.specs.JobFacts.{JobFacts}
 use Rattle.dover_model.specs.Limits.{most_lines, most_ready}
 use Rattle.dover_model.specs.Instance.{Instance, IsValid, with_jobs}
 use Rattle.dover_model.specs.Session.{Item, JobItem, RefusedItem, FinishItem, RefusedLine, RefusedJob, RefusedDone}
-use Rattle.dover_model.specs.Session.{FollowsItems, mark_after, refused_of_item, admitted_jobs, early_finishes}
+use Rattle.dover_model.specs.Session.{follows_items, mark_after, refused_of_item, admitted_jobs, early_finishes}
 use Rattle.dover_model.specs.Session.{session_with, instance_of, finish_at, may_finish_early}
 use Rattle.dover_model.specs.Settled.{settled_state}
 use Rattle.dover_model.specs.Sound.{Each, IsMember, IsNumberedFrom, jobs_of}
@@ -121,7 +121,7 @@ paused_account h tasks =
 
 -- what was handed in so far: the jobs, and those of their early finishes that came so far, each where it is right
 pub record IsHandedIn (h : Head) (tasks : List Task) (items : List Item) : Type 0 where
-  pub follows : FollowsItems h.rules [] 0 items
+  pub follows : IsTrue (follows_items h.rules [] 0 items)
   pub none_refused : Each (λ i. refused_of_item i ≡ None) items
   pub jobs : admitted_jobs items ≡ jobs_of tasks
   pub own : Each (λ f. IsMember f (early_in h.rules.version tasks)) (early_finishes items)

@@ -38,6 +38,7 @@ use Rattle.task_reading.specs.declared.intake.Progress.TheVariants as progress
 use Rattle.task_reading.specs.declared.lines.TaskLine.{TaskLine}
 use Rattle.task_reading.specs.declared.lines.TaskLine.TheVariants.{Task}
 use Rattle.task_reading.proofs.Accounts.{counted, next_of, line_as, many_lines}
+use Rattle.dover_model.proofs.JobLimits.{ratio_limits}
 
 -- ---- a task behind others
 
@@ -66,7 +67,7 @@ module _ (until : ℕ) (task : PeriodicTask) (rules : Rules) (tasks : List Perio
       → new.admission.rules ≡ old.admission.rules → new.version ≡ old.version
       → KeepsDeclared until new rules (tasks ++ task ∷ [])
   taken none stands same version =
-      let above : rules.ratio.q ≤ rules.ratio.p = keeps.ratio.above_one in record {
+      let above : rules.ratio.q ≤ rules.ratio.p = (ratio_limits keeps.ratio).above_one in record {
         rules_are = keeps.rules_are ∙ ap (λ (r : Rules). rules_with r.ratio old.version) (sym same)
             ∙ ap (rules_with new.admission.rules.ratio) (sym version);
         limits = same ∙ keeps.limits;

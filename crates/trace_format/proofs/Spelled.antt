@@ -23,7 +23,6 @@ use Rattle.dover_model.specs.Trace.{Printed, Refuses}
 use Rattle.dover_model.specs.Verdict as verdict
 use Rattle.dover_model.proofs.Tests.{never, none_is_some}
 use Rattle.dover_model.proofs.Members.{some_same}
-use Rattle.dover_model.proofs.Agreement.{is_job-agrees}
 use Rattle.dover_model.proofs.Numerals.{numeral-decimal, decimal-numeral}
 use Rattle.dover_model.proofs.Fields.{HasNoSpace, fields_of-line_of, line_of-fields_of, decimals-HasNoSpace}
 use Rattle.dover_model.proofs.Fields.{numerals-decimals, decimals-numerals}
@@ -76,7 +75,7 @@ number_ok n low = ap (λ b. then_some b n) (le-leb n last_number low)
 
 -- a job within the limits
 job_ok : (j : JobFacts) → IsJob j → new_job j.release j.work j.deadline j.value ≡ Some j
-job_ok j it = ap (λ b. then_some b j) ((is_job-agrees j).1 it)
+job_ok j it = ap (λ b. then_some b j) it.passes
 
 -- a clock and one job
 one_ok : (at n : ℕ) → n ≤ last_number → one_job (at ∷ n ∷ []) ≡ Some (at, n)
@@ -201,7 +200,7 @@ release_from (n ∷ r ∷ c ∷ d ∷ v ∷ []) e read =
     subst (Reads (codes "job") (n ∷ r ∷ c ∷ d ∷ v ∷ [])) (some_same _ _ more.2) (record {
       spelled = refl;
       counted = ap (λ m. m ∷ job_numbers more.0) (sym number.0) ∙ ap (λ j. n ∷ job_numbers j) (sym job.1);
-      named = (number.1, subst IsJob job.1 ((is_job-agrees (job_of_numbers r c d v)).0 job.0));
+      named = (number.1, subst IsJob job.1 (record { passes = job.0 }));
     })
 release_from (n ∷ r ∷ c ∷ d ∷ v ∷ a ∷ ns) e read = none_is_some read
 

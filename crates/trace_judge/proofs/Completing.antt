@@ -24,7 +24,6 @@ use Rattle.dover_model.specs.Step.{Prints, after}
 use Rattle.dover_model.specs.Run.{Step, printed_of}
 use Rattle.dover_model.specs.Settled.{settled, settled_steps, settled_state, last_of, finish_now}
 use Rattle.dover_model.specs.Session.{FinishItem, EarlyFinish, Session, instance_of, admitted_jobs, with_item}
-use Rattle.dover_model.specs.Session.{MayFinish}
 use Rattle.dover_model.specs.Session.{job_of_item, refused_of_item, finish_at, early_at, may_finish_early, ready_at}
 use Rattle.dover_model.specs.Text.{text_of}
 use Rattle.dover_model.specs.Verdict.{named_item, begins_trace}
@@ -58,6 +57,8 @@ use Rattle.trace_judge.proofs.Readings.{goes_of, ahead_of, here_of, reads_of, re
 use Rattle.trace_judge.proofs.Readings.{version_kept}
 use Rattle.trace_judge.proofs.Seeing.{sees_rest}
 use Rattle.trace_judge.proofs.Taking.{kept_more, kept_length, last_more}
+use Rattle.dover_model.proofs.SessionParts.{MayFinish, session_jobs}
+use Rattle.trace_judge.proofs.Follows.{finish_parts}
 
 -- ---- whether a finish is right
 
@@ -120,7 +121,7 @@ module _ (r : Reading) (at : ℕ) (ls : List (List ℕ)) (S : Session) (z y : St
 
   -- all steps were taken before the tick just where the last printed one was
   tells : (t : Task) → running y ≡ Some t → all_before J at ≡ nat_lt r.last at
-  tells t some = last_tells J waited.goes.sees.valid.jobs at t (running_is ∙ some)
+  tells t some = last_tells J (session_jobs waited.goes.sees.valid) at t (running_is ∙ some)
       ∙ ap (λ n. nat_lt n at) last_is
 
   -- a step was printed in the tick
@@ -254,7 +255,7 @@ module _ (r : Reading) (at number : ℕ) (ls : List (List ℕ)) (can : CanComple
         length-append (printed_of sees.steps) (printed_of rest.0),
         ap length prints,
         length-append (printed_of can.waited.goes.sees.steps) (Complete at says.job.number ∷ []),
-        few_printed (instance_of S_done) sees.valid.jobs,
+        few_printed (instance_of S_done) (session_jobs sees.valid),
         ap length jobs,
         ap length can.waited.goes.steps,
         kept_length r.keep (printed_of can.waited.goes.sees.steps),
@@ -357,12 +358,12 @@ module _ (w : Reading) (going : w.stage ≡ Going) (at number : ℕ) where
   -- in a version in which jobs don't finish early none is
   pub not_early : may_finish_early w.kept.rules.version ≡ false → MayNotComplete w at number
   not_early none ls S z goes f y may is_at is_number = never (sym (ap may_finish_early (version_kept w ls S z z goes)
-      ∙ none) ∙ (early_finish S f.at f.finish.number f may.finishes.right).0)
+      ∙ none) ∙ (early_finish S f.at f.finish.number f (finish_parts may).right).0)
 
   -- above the last tick none is
   pub not_known : last_tick < at → MayNotComplete w at number
   not_known high ls S z goes f y may is_at is_number =
-      let known : f.at ≤ 1_000_000_000_000 = may.finishes.known in
+      let known : f.at ≤ 1_000_000_000_000 = (finish_parts may).known in
       let above : 1_000_000_000_000 < at = high in absurd (omega (arith, is_at))
 
   -- where there are as many items as may be none is
@@ -374,7 +375,7 @@ module _ (w : Reading) (going : w.stage ≡ Going) (at number : ℕ) where
   pub not_there : (w.floor ≤ at → (ls : List (List ℕ)) (S : Session) (z : State) → Goes w ls S z z → (x : State)
       → WaitsUntil (instance_of S).rules at z x → ⊥) → MayNotComplete w at number
   not_there none ls S z goes f y may is_at is_number =
-      none (omega (arith, may.finishes.no_fall, is_at)) ls S z goes y
+      none (omega (arith, (finish_parts may).no_fall, is_at)) ls S z goes y
       (subst (λ t. WaitsUntil (instance_of S).rules t z y) is_at may.waits)
 
   -- where the finish isn't right none is
@@ -387,7 +388,7 @@ module _ (w : Reading) (going : w.stage ≡ Going) (at number : ℕ) where
       never (wrong ls S z there.0 there.1
       ∙ ap is_some (ap (λ t. finish_at (instance_of S) t number) (sym is_at)
       ∙ ap (finish_at (instance_of S) f.at) (sym is_number)
-      ∙ (early_finish S f.at f.finish.number f may.finishes.right).1))
+      ∙ (early_finish S f.at f.finish.number f (finish_parts may).right).1))
 
 -- ---- it is one
 

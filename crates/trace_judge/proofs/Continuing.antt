@@ -23,7 +23,7 @@ use Rattle.dover_model.specs.Settled.{waits_for_mark, settled, settled_steps, se
 use Rattle.dover_model.specs.Sound.{Each, Keeps}
 use Rattle.dover_model.specs.WholeRun.{open_at, IsSettledRun, IsBarrier}
 use Rattle.dover_model.specs.Session.{JobItem, RefusedItem, Refused, Session, instance_of, admitted_jobs}
-use Rattle.dover_model.specs.Session.{FinishItem, EarlyFinish, MayFinish}
+use Rattle.dover_model.specs.Session.{FinishItem, EarlyFinish}
 use Rattle.dover_model.specs.Session.{IsValidSession, with_item, with_named, mark_after, new_session}
 use Rattle.dover_model.specs.Verdict.{named_session}
 use Rattle.dover_model.proofs.Kept.{opening_keeps, each_job}
@@ -62,6 +62,9 @@ use Rattle.dover_model.proofs.Released.{NoneComes, none_comes_passes, none_comes
 use Rattle.dover_model.proofs.Released.{after_release}
 use Rattle.trace_judge.proofs.Seeing.{led_named, sees_keeps, sees_ready, sees_names, sees_next}
 use Rattle.dover_model.specs.Fraction.{IsRatio}
+use Rattle.dover_model.proofs.SessionParts.{MayFinish, session_parts, session_from, session_jobs}
+use Rattle.trace_judge.proofs.Follows.{refused_parts}
+use Rattle.dover_model.proofs.ValidParts.{valid_from}
 
 -- texts with further lines behind
 texts_behind : (rules : Declaration) (front more : List TraceLine)
@@ -93,7 +96,7 @@ printed_unfinished ls S floor z sees e y next =
     let it : (more : List Event) × (printed (instance_of S) ≡ printed_of sees.steps ++ e ∷ more) =
     sees_next ls S floor z sees e y next in
     all_at (λ e. finish_in S e ≡ None) (printed_of sees.steps) e it.0
-    (subst (NameNone S) it.1 (run_names_none S sees.valid.jobs))
+    (subst (NameNone S) it.1 (run_names_none S (session_jobs sees.valid)))
 
 module _ (ls : List (List ℕ)) (S : Session) (floor : ℕ) (z : State) (sees : Sees ls S floor z) where
   -- the jobs of the session
@@ -115,12 +118,12 @@ module _ (ls : List (List ℕ)) (S : Session) (floor : ℕ) (z : State) (sees : 
       × (settled_steps J t ≡ sees.steps ++ ys)
   settled_from_floor t later =
       let it : Reaches J.rules t z (potential J.rules.finishes t z) =
-      settles J sees.valid.jobs J.rules t (potential J.rules.finishes t z) z (sees_keeps ls S floor z sees)
+      settles J (session_jobs sees.valid) J.rules t (potential J.rules.finishes t z) z (sees_keeps ls S floor z sees)
       (sees_ready ls S floor z sees) (omega arith) in (
         it.0,
         it.1,
         one_settled_run J.rules t (settled_steps J t) (sees.steps ++ it.0) (opening J.jobs)
-            (settled_is_run J t sees.valid.jobs)
+            (settled_is_run J t (session_jobs sees.valid))
             (passes_settled J.rules t sees.steps it.0 (opening J.jobs) z
             (leads_passes J.rules t sees.steps (opening J.jobs) z
             (leads_later_mark J.rules floor t later sees.steps (opening J.jobs) z sees.leads)) it.1),
@@ -131,12 +134,12 @@ module _ (ls : List (List ℕ)) (S : Session) (floor : ℕ) (z : State) (sees : 
   module _ (e : Event) (y : State) (next : PrintsNext J.rules z e y) (more : is_end (Prints e) ≡ false) where
     -- the state before the step is a sound one
     keeps_y : Keeps J y
-    keeps_y = passes_keeps J sees.valid.jobs J.rules y.clock next.steps z y (sees_keeps ls S floor z sees)
+    keeps_y = passes_keeps J (session_jobs sees.valid) J.rules y.clock next.steps z y (sees_keeps ls S floor z sees)
         (leads_passes J.rules y.clock next.steps z y (idles_leads J.rules next.steps z y next.idles))
 
     -- some job isn't over
     goes_on : GoesOn y
-    goes_on = prints_goes_on J sees.valid.jobs J.rules y e keeps_y next.prints more
+    goes_on = prints_goes_on J (session_jobs sees.valid) J.rules y e keeps_y next.prints more
 
     -- so the step is an open one
     opens : open_step J.rules y ≡ Prints e
@@ -195,7 +198,7 @@ module _ (ls : List (List ℕ)) (S : Session) (floor : ℕ) (z : State) (sees : 
         ∙ fold-append with_line_named (new_session S.rules) (lines_among S so_far) (Printed e ∷ [])
         ∙ ap (λ T. with_named T (item_in T (Printed e))) (sees_names ls S floor z sees)
         ∙ ap (with_named S) (ap (option_or (item_of_line (Printed e))) (printed_unfinished ls S floor z sees e y next)
-        ∙ ap (λ o. option_or o None) (printed_names_none J sees.valid.jobs y keeps_y J.rules none_y e opens))
+        ∙ ap (λ o. option_or o None) (printed_names_none J (session_jobs sees.valid) y keeps_y J.rules none_y e opens))
 
     -- they are within as well
     within_printed : RefusesWithin S (printed_of steps_more)
@@ -215,7 +218,7 @@ module _ (ls : List (List ℕ)) (S : Session) (floor : ℕ) (z : State) (sees : 
               let it : (ys : List Step) × IsSettledRun J.rules t z ys × (settled_steps J t ≡ sees.steps ++ ys) =
               settled_from_floor t from_floor in
               let none : printed_of it.0 ≡ [] =
-              stops_before J sees.valid.jobs J.rules t next.steps it.0 z y e (sees_keeps ls S floor z sees)
+              stops_before J (session_jobs sees.valid) J.rules t next.steps it.0 z y e (sees_keeps ls S floor z sees)
               (let low_z : z.clock ≤ floor = sees.clock in omega arith) next.idles opens early it.1 in
               omega (
                 arith,
@@ -303,7 +306,7 @@ module _ (ls : List (List ℕ)) (S : Session) (floor : ℕ) (z : State) (sees : 
 
     -- they are valid
     valid_K : IsValid K
-    valid_K = admitted_valid J j sees.valid.jobs known may.admitted
+    valid_K = admitted_valid J j (session_jobs sees.valid) known may.admitted
 
     -- the job, to come
     abbrev coming : List Task
@@ -318,7 +321,8 @@ module _ (ls : List (List ℕ)) (S : Session) (floor : ℕ) (z : State) (sees : 
 
     -- the state before it
     keeps_before : Keeps J y
-    keeps_before = passes_keeps J sees.valid.jobs J.rules j.release (sees.steps ++ may.waits.steps) (opening J.jobs) y
+    keeps_before = passes_keeps J (session_jobs sees.valid) J.rules j.release (sees.steps ++ may.waits.steps)
+        (opening J.jobs) y
         (opening_keeps J) passes_y
 
     -- the job comes at its release
@@ -340,7 +344,8 @@ module _ (ls : List (List ℕ)) (S : Session) (floor : ℕ) (z : State) (sees : 
 
     -- the steps before it, with the job behind
     behind : Later J.rules j.release (opening J.jobs) y coming (sees.steps ++ may.waits.steps)
-    behind = passes_later J sees.valid.jobs K valid_K J.rules j.release coming (come_from j.release n (j ∷ []) late)
+    behind = passes_later J (session_jobs sees.valid) K valid_K J.rules j.release coming
+        (come_from j.release n (j ∷ []) late)
         (coming_task n j) (inl refl)
         (sees.steps ++ may.waits.steps) (opening J.jobs) y (opening_keeps J)
         (later_keeps J (j ∷ []) j.release valid_K late) passes_y
@@ -413,10 +418,10 @@ module _ (ls : List (List ℕ)) (S : Session) (floor : ℕ) (z : State) (sees : 
 
     -- the session is valid
     valid_job : IsValidSession S_more
-    valid_job = record {
+    valid_job = session_from (record {
       jobs = subst IsValid (sym jobs_more) valid_K;
       count = omega (arith, may.room, length-append S.items (JobItem j ∷ []));
-      items = follows_behind S.rules [] 0 S.items (JobItem j ∷ []) sees.valid.items (
+      items = follows_behind S.rules [] 0 S.items (JobItem j ∷ []) (session_parts sees.valid).items (
         record {
           no_fall = let low : mark_after 0 S.items ≤ floor = sees.mark in
               let ordered : floor ≤ j.release = may.no_fall in omega arith;
@@ -424,7 +429,7 @@ module _ (ls : List (List ℕ)) (S : Session) (floor : ℕ) (z : State) (sees : 
         },
         tt,
       );
-    }
+    })
 
     -- the lines lead there
     leads_job : Leads (instance_of S_more).rules j.release (opening (admitted_jobs S_more.items)) steps_job fresh
@@ -477,7 +482,7 @@ module _ (ls : List (List ℕ)) (S : Session) (floor : ℕ) (z : State) (sees : 
     all_settled : length (settled J r.at) ≡ length so_far
     all_settled =
         let it : (ys : List Step) × IsSettledRun J.rules r.at z ys × (settled_steps J r.at ≡ sees.steps ++ ys) =
-        settled_from_floor r.at may.refused.no_fall in
+        settled_from_floor r.at (refused_parts may).no_fall in
         let none : printed_of it.0 ≡ [] = ap printed_of
         (one_settled_run J.rules r.at it.0 (may.waits.steps ++ []) z it.1
         (passes_settled J.rules r.at may.waits.steps [] z y
@@ -513,28 +518,29 @@ module _ (ls : List (List ℕ)) (S : Session) (floor : ℕ) (z : State) (sees : 
 
     -- the mark before it
     mark_low : mark_after 0 S.items ≤ r.at
-    mark_low = let low : mark_after 0 S.items ≤ floor = sees.mark in let ordered : floor ≤ r.at = may.refused.no_fall in
+    mark_low = let low : mark_after 0 S.items ≤ floor = sees.mark in let ordered : floor ≤ r.at =
+        (refused_parts may).no_fall in
         omega arith
 
     -- the session is valid
     valid_refused : IsValidSession S_refused
-    valid_refused = record {
-      jobs = subst IsValid (sym jobs_same) sees.valid.jobs;
+    valid_refused = session_from (record {
+      jobs = subst IsValid (sym jobs_same) (session_jobs sees.valid);
       count = omega (arith, may.room, length-append S.items (RefusedItem r ∷ []));
-      items = follows_behind S.rules [] 0 S.items (RefusedItem r ∷ []) sees.valid.items (
+      items = follows_behind S.rules [] 0 S.items (RefusedItem r ∷ []) (session_parts sees.valid).items (
         record {
           no_fall = mark_low;
-          known = may.refused.known;
-          line = may.refused.line;
+          known = (refused_parts may).known;
+          line = (refused_parts may).line;
         },
         tt,
       );
-    }
+    })
 
     -- the same steps lead on
     leads_refused : Leads (instance_of S_refused).rules r.at (opening (admitted_jobs S_refused.items)) sees.steps z
     leads_refused = subst (λ (I : Instance). Leads I.rules r.at (opening I.jobs) sees.steps z) (sym jobs_same)
-        (leads_later_mark J.rules floor r.at may.refused.no_fall sees.steps (opening J.jobs) z sees.leads)
+        (leads_later_mark J.rules floor r.at (refused_parts may).no_fall sees.steps (opening J.jobs) z sees.leads)
 
     -- the mark is at its tick
     mark_refused : mark_after 0 S_refused.items ≡ r.at
@@ -555,7 +561,8 @@ module _ (ls : List (List ℕ)) (S : Session) (floor : ℕ) (z : State) (sees : 
       lines = lines_refused;
       within = within_refused;
       released = sees.released;
-      clock = let low : z.clock ≤ floor = sees.clock in let ordered : floor ≤ r.at = may.refused.no_fall in omega arith;
+      clock = let low : z.clock ≤ floor = sees.clock in let ordered : floor ≤ r.at = (refused_parts may).no_fall in
+          omega arith;
       mark = omega (arith, mark_refused);
       tight = λ t marked low. absurd (omega (arith, mark_refused));
     }
@@ -607,7 +614,7 @@ module _ (ls : List (List ℕ)) (S : Session) (floor : ℕ) (z : State) (sees : 
     -- they are the settled ones
     settled_are : settled_steps J f.at ≡ sees.steps ++ xs
     settled_are = one_settled_run J.rules f.at (settled_steps J f.at) (sees.steps ++ xs) (opening J.jobs)
-        (settled_is_run J f.at sees.valid.jobs)
+        (settled_is_run J f.at (session_jobs sees.valid))
         (subst (IsSettledRun J.rules f.at (opening J.jobs)) (append-nil (sees.steps ++ xs))
         (passes_settled J.rules f.at (sees.steps ++ xs) [] (opening J.jobs) y
         (leads_passes J.rules f.at (sees.steps ++ xs) (opening J.jobs) y leads_y) barrier))
@@ -623,14 +630,15 @@ module _ (ls : List (List ℕ)) (S : Session) (floor : ℕ) (z : State) (sees : 
     none_due : Each (λ x. due_finish (f.finish ∷ []) x.before ≡ None) (sees.steps ++ xs)
     none_due = subst (λ steps. Each (λ x. due_finish (f.finish ∷ []) x.before ≡ None) steps) settled_are
         (subst (λ g. Each (λ x. due_finish (g ∷ []) x.before ≡ None) (settled_steps J f.at)) (sym it.is)
-        (none_due_before J sees.valid.jobs f.at it.job it.runs))
+        (none_due_before J (session_jobs sees.valid) f.at it.job it.runs))
 
     -- so they lead there with the finish as well
     leads_same : (steps : List Step) (s : State) → Each (λ x. due_finish (f.finish ∷ []) x.before ≡ None) steps
         → Leads J.rules f.at s steps y → Leads J_done.rules f.at s steps y
     leads_same [] s none leads = leads
     leads_same (x ∷ steps) s none leads =
-        let same : open_step J_done.rules s ≡ open_step J.rules s = same_open J sees.valid.jobs (f.finish ∷ []) f.at s
+        let same : open_step J_done.rules s ≡ open_step J.rules s =
+        same_open J (session_jobs sees.valid) (f.finish ∷ []) f.at s
         (subst (λ (v : Step). due_finish (f.finish ∷ []) v.before ≡ None) leads.0 (none x (inl refl))) in (
           leads.0 ∙ ap (λ m. let v : Step = record { before = s; move = m } in v) (sym same),
           ap (λ m. waits_for_mark m && nat_le f.at s.clock) same ∙ leads.1,
@@ -643,7 +651,7 @@ module _ (ls : List (List ℕ)) (S : Session) (floor : ℕ) (z : State) (sees : 
     completes : open_step J_done.rules y ≡ Prints done
     completes = subst (λ (s : State). open_step J_done.rules s ≡ Prints done) state_is
         (subst (λ g. open_step (with_finishes J (g ∷ [])).rules (settled_state J f.at) ≡ Prints done) (sym it.is)
-        (next_at_mark J sees.valid.jobs f.at it.job it.runs ∙ ap (λ n. Prints (Complete f.at n)) number_is))
+        (next_at_mark J (session_jobs sees.valid) f.at it.job it.runs ∙ ap (λ n. Prints (Complete f.at n)) number_is))
 
     -- some job isn't over
     runs_y : GoesOn y
@@ -705,13 +713,13 @@ module _ (ls : List (List ℕ)) (S : Session) (floor : ℕ) (z : State) (sees : 
 
     -- the session is valid
     valid_done : IsValidSession S_done
-    valid_done = record {
+    valid_done = session_from (record {
       jobs = subst IsValid (sym jobs_done)
-          (finishing_valid J (J.rules.finishes ++ f.finish ∷ []) sees.valid.jobs);
+          (finishing_valid J (J.rules.finishes ++ f.finish ∷ []) (session_jobs sees.valid));
       count = omega (arith, room, length-append S.items (FinishItem f ∷ []));
-      items = follows_behind S.rules [] 0 S.items (FinishItem f ∷ []) sees.valid.items
+      items = follows_behind S.rules [] 0 S.items (FinishItem f ∷ []) (session_parts sees.valid).items
           (record { no_fall = mark_before; known = may.known; right = may.right }, tt);
-    }
+    })
 
     -- the lines lead there
     leads_done : Leads (instance_of S_done).rules f.at (opening (admitted_jobs S_done.items)) steps_done y_done
@@ -770,11 +778,12 @@ sees_header rules ratio = record {
   tight = λ t marked low. absurd (omega arith);
 } where
   valid_new : IsValidSession (new_session rules)
-  valid_new = record {
-    jobs = record { ratio = ratio; each = tt; in_order = tt; count = omega arith; total = omega arith; densities = tt };
+  valid_new = session_from (record {
+    jobs = valid_from (record
+        { ratio = ratio; each = tt; in_order = tt; count = omega arith; total = omega arith; densities = tt });
     count = omega arith;
     items = tt;
-  }
+  })
 
 -- no step is printed
 pub sees_header_prints : (rules : Declaration) (ratio : IsRatio rules.ratio)

@@ -9,17 +9,17 @@ use Rattle.std.proofs.Math.Seq.{take-length}
 use Rattle.dover_model.specs.declared.events.Event.{Event}
 use Rattle.dover_model.specs.Lines.{whole_lines, rest_of}
 use Rattle.dover_model.specs.Run.{printed}
-use Rattle.dover_model.specs.Session.{Session, instance_of}
+use Rattle.dover_model.specs.Session.{Session, instance_of, is_valid_session}
 use Rattle.dover_model.specs.Numerals.{AreShort}
 use Rattle.dover_model.specs.Text.{step_numbers}
 use Rattle.dover_model.specs.Verdict.{Expected, Header, Step, Nothing, Verdict, Accepted, Wrong, Short, named_session}
 use Rattle.dover_model.specs.Verdict.{begins_trace, begins_trace_of}
 use Rattle.dover_model.specs.Verdict.{ends_with_end, is_empty, text_lines, first_wrong, step_after, expected_after}
 use Rattle.dover_model.specs.Verdict.{good_verdict, wrong_verdict, verdict}
-use Rattle.dover_model.proofs.Agreement.{is_valid_session-agrees}
 use Rattle.dover_model.proofs.Members.{some_same}
 use Rattle.dover_model.proofs.ShortNumbers.{printed_short, AreAllShort}
 use Rattle.dover_model.proofs.WrongStays.{next_wrong}
+use Rattle.dover_model.proofs.SessionParts.{session_jobs}
 
 -- the numbers of what is due have numerals
 abbrev IsShortDue : Expected → Type 0
@@ -40,7 +40,7 @@ named_valid : (l : List ℕ) (ls : List (List ℕ)) (o : Option Session)
 named_valid l ls None passes n = tt
 named_valid l ls (Some S) passes n =
     nth_short (printed (instance_of S)) _ (printed_short (instance_of S)
-    ((is_valid_session-agrees S).0 (and_parts _ _ passes).0).jobs)
+    (session_jobs {S = S} (record { passes = (and_parts (is_valid_session S) _ passes).0 })))
 
 -- what is due after lines that begin a trace
 begun_due : (ls : List (List ℕ)) → begins_trace ls ≡ true → IsShortDue (expected_after ls)

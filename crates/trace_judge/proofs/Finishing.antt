@@ -21,6 +21,7 @@ use Rattle.dover_model.specs.Trace.{Printed, text_of_line, places_of, lines_amon
 use Rattle.dover_model.proofs.PutIn.{put_in-more_steps}
 use Rattle.trace_judge.specs.Reading.{Sees}
 use Rattle.trace_judge.proofs.Seeing.{sees_rest, sees_keeps}
+use Rattle.dover_model.proofs.SessionParts.{session_jobs}
 
 module _ (J : Instance) (valid : IsValid J) (rules : Rules) (value : ℕ) where
   -- where End is printed next, nothing else is
@@ -54,7 +55,7 @@ module _ (ls : List (List ℕ)) (S : Session) (floor : ℕ) (z : State) (sees : 
       × (printed (instance_of S) ≡ printed_of sees.steps ++ printed_of ys) =
       sees_rest ls S floor z sees in
       it.2 ∙ ap (λ es. printed_of sees.steps ++ es)
-      (prints_last (instance_of S) sees.valid.jobs (instance_of S).rules value next.steps it.0 z y
+      (prints_last (instance_of S) (session_jobs sees.valid) (instance_of S).rules value next.steps it.0 z y
       (sees_keeps ls S floor z sees) next.idles next.prints it.1)
 
   -- with its text the trace is whole

@@ -32,6 +32,8 @@ use Rattle.dover_model.specs.Leading.{PrintsNext}
 use Rattle.trace_judge.specs.Reading.{Sees}
 use Rattle.dover_model.proofs.Leading.{leads_passes, idles_leads, passes_keeps}
 use Rattle.trace_judge.proofs.Seeing.{sees_keeps, sees_next}
+use Rattle.dover_model.proofs.SessionParts.{session_jobs}
+use Rattle.dover_model.proofs.ValidParts.{valid_parts}
 
 -- a line has one form
 pub one_form : (x y : TraceLine) → HasForm x → HasForm y → trace_text x ≡ trace_text y → x ≡ y
@@ -52,7 +54,7 @@ module _ (J : Instance) (valid : IsValid J) (s : State) (keeps : Keeps J s) wher
     numbers_low 0 s.tasks keeps.sound.numbered t member,
     count_jobs s.tasks,
     ap length keeps.jobs,
-    valid.count,
+    (valid_parts valid).count,
     jobs_most J.rules.version,
   )
 
@@ -65,8 +67,11 @@ module _ (J : Instance) (valid : IsValid J) (s : State) (keeps : Keeps J s) wher
   deed_names k other m rests (Preempted r f member runs some f_member fresh before fits) =
       (low r member, low f f_member)
   deed_names k other m rests (Stayed r f member runs some f_member fresh why) = tt
-  deed_names k other m rests (Arrived c member comes now first stale busy free) =
-      (low c member, each_job IsJob s.tasks (subst (AllByRecursion IsJob) (sym keeps.jobs) valid.each) c member)
+  deed_names k other m rests (Arrived c member comes now first stale busy free) = (
+    low c member,
+    each_job IsJob s.tasks (subst (AllByRecursion IsJob) (sym keeps.jobs) (valid_parts valid).each) c
+        member,
+  )
   deed_names k other m rests (Taken r x member runs some x_member waiting now stale heavy) =
       (low r member, low x x_member)
   deed_names k other m rests (Abandoned r x member runs some x_member waiting now stale light) = low x x_member
@@ -87,12 +92,13 @@ next_form ls S floor z sees e y next =
     let it : (more : List Event) × (printed (instance_of S) ≡ printed_of sees.steps ++ e ∷ more) =
     sees_next ls S floor z sees e y next in
     let keeps_y : Keeps (instance_of S) y =
-    passes_keeps (instance_of S) sees.valid.jobs (instance_of S).rules y.clock next.steps z y
+    passes_keeps (instance_of S) (session_jobs sees.valid) (instance_of S).rules y.clock next.steps z y
     (sees_keeps ls S floor z sees)
     (leads_passes (instance_of S).rules y.clock next.steps z y
     (idles_leads (instance_of S).rules next.steps z y next.idles)) in (
       all_at (λ e. AreShort (step_numbers e)) (printed_of sees.steps) e it.0
           (subst (AllByRecursion (λ e. AreShort (step_numbers e))) it.1
-          (printed_short (instance_of S) sees.valid.jobs)),
-      subst MoveNames next.prints (step_names (instance_of S) sees.valid.jobs y keeps_y (instance_of S).rules),
+          (printed_short (instance_of S) (session_jobs sees.valid))),
+      subst MoveNames next.prints (step_names (instance_of S) (session_jobs sees.valid) y keeps_y
+          (instance_of S).rules),
     )

@@ -2,10 +2,12 @@
 use Rattle.std.proofs.Common.{ℕ, max, List, ◌∷◌, ◌++◌, sym, subst, ◌≡◌, ◌≤◌, ap, arith, []}
 use Rattle.std.proofs.lemmas.List.{append_assoc, append-nil}
 use Rattle.dover_model.specs.Instance.{Declaration, IsValid}
-use Rattle.dover_model.specs.Session.{Item, JobItem, RefusedItem, FinishItem, FollowsItems, mark_after, instance_of}
+use Rattle.dover_model.specs.Session.{Item, JobItem, RefusedItem, FinishItem, mark_after, instance_of}
 use Rattle.dover_model.specs.Session.{Session, IsValidSession, session_with}
 use Rattle.dover_model.proofs.Walks.{tick_of_item, Takes, takes, follows_next, jobs_append}
 use Rattle.dover_model.proofs.Growing.{Reads, reads_new}
+use Rattle.dover_model.proofs.SessionParts.{FollowsItems, session_parts, session_jobs}
+use Rattle.dover_model.proofs.ValidParts.{valid_parts}
 
 -- and the other way round
 pub behind_follows : (rules : Declaration) (before : List Item) (mark : ℕ) (items more : List Item)
@@ -58,4 +60,5 @@ reads_items rules (x ∷ more) items mark reads follows valid =
 
 -- a valid session is read up to its mark
 pub reads_mark : (S : Session) → IsValidSession S → Reads S (mark_after 0 S.items)
-reads_mark S valid = reads_items S.rules S.items [] 0 (reads_new S.rules valid.jobs.ratio) valid.items valid.jobs
+reads_mark S valid = reads_items S.rules S.items [] 0 (reads_new S.rules (valid_parts (session_jobs valid)).ratio)
+    (session_parts valid).items (session_jobs valid)

@@ -50,6 +50,8 @@ use Rattle.trace_judge.specs.Reads.{Reading, expected_of, Ends, Reads, is_job_li
 use Rattle.trace_judge.specs.Judging.{jobs_named, steps_told, IsGood, IsCut, StandsFor, Fed, IsOverfed, Tells, IsEarned}
 use Rattle.trace_judge.specs.Judging.{Judged, is_wrong}
 use Rattle.trace_judge.proofs.Readings.{HereBy, ends_of, reads_ahead, with_room, room_opens, room_goes, room_ends}
+use Rattle.dover_model.proofs.SessionParts.{session_parts, session_jobs}
+use Rattle.dover_model.proofs.ValidParts.{valid_parts}
 
 -- ---- a trace has few lines
 
@@ -81,7 +83,7 @@ few_lines (l ∷ ls) passes =
     let it : Starts (l ∷ ls) = begun l ls passes in
     let S : Session = it.session in
     let steps : length (printed (instance_of S)) ≤ 5 * length (admitted_jobs S.items) + 1 =
-    few_printed (instance_of S) it.valid.jobs in
+    few_printed (instance_of S) (session_jobs it.valid) in
     let whole : length (trace_lines S) ≡ suc (length (lines_among S (printed (instance_of S)))) =
     ap suc (length-map (lines_among S (printed (instance_of S))) text_of_line) in
     omega (
@@ -91,8 +93,8 @@ few_lines (l ∷ ls) passes =
       steps,
       length_put_in (places_of S) 0 (printed (instance_of S)),
       few_places S.rules [] S.items,
-      it.valid.count,
-      it.valid.jobs.count,
+      (session_parts it.valid).count,
+      (valid_parts (session_jobs it.valid)).count,
       jobs_most S.rules.version,
       items_of_lines S.rules.version,
       lines_most S.rules.version,
@@ -457,10 +459,10 @@ room_stands j ready spare room text stands = by_found j.found stands where
 pub earned : (S : Session) → IsValidSession S → IsEarned S S.rules.ratio (completed_value (instance_of S))
 earned S valid = record {
   valid = valid;
-  within = λ s. none_worth_more (instance_of S) s valid.jobs;
-  within_observed = λ s. observed_bound (instance_of S) s valid.jobs;
-  honest = observed_honest (instance_of S) valid.jobs;
-  as_declared = λ former. observed_all (instance_of S) valid.jobs (no_finishes S former valid);
-  none_lost = none_lost (instance_of S) valid.jobs;
-  whole = all_value (instance_of S) valid.jobs;
+  within = λ s. none_worth_more (instance_of S) s (session_jobs valid);
+  within_observed = λ s. observed_bound (instance_of S) s (session_jobs valid);
+  honest = observed_honest (instance_of S) (session_jobs valid);
+  as_declared = λ former. observed_all (instance_of S) (session_jobs valid) (no_finishes S former valid);
+  none_lost = none_lost (instance_of S) (session_jobs valid);
+  whole = all_value (instance_of S) (session_jobs valid);
 }

@@ -2,6 +2,7 @@ pub mod Counts
 pub mod Items
 pub mod Seeing
 pub mod Naming
+pub mod Follows
 pub mod Continuing
 pub mod Only
 pub mod Finishing

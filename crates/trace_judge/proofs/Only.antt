@@ -14,11 +14,10 @@ use Rattle.dover_model.proofs.Beginnings.{begins_either, begins_onward}
 use Rattle.dover_model.proofs.Members.{tails, heads, some_same, all_last}
 use Rattle.dover_model.specs.Session.{Session, IsValidSession, is_valid_session, Item, JobItem, RefusedItem, FinishItem}
 use Rattle.dover_model.specs.Session.{Refused, EarlyFinish, new_session, with_named}
-use Rattle.dover_model.specs.Session.{FollowsItems, instance_of, admitted_jobs, with_item, mark_after}
+use Rattle.dover_model.specs.Session.{instance_of, admitted_jobs, with_item, mark_after}
 use Rattle.dover_model.specs.Trace.{trace_lines, text_of_line, TraceLine, Printed, Refuses, lines_among}
 use Rattle.dover_model.specs.Verdict.{named_session, named_behind, named_item, begins_trace, begins_trace_of}
 use Rattle.dover_model.specs.Verdict.{rules_of}
-use Rattle.dover_model.proofs.Agreement.{is_valid_session-agrees}
 use Rattle.dover_model.proofs.Tests.{never}
 use Rattle.dover_model.specs.Fraction.{IsRatio}
 use Rattle.dover_model.specs.Text.{header, text_of, refused_text}
@@ -48,6 +47,9 @@ use Rattle.trace_judge.proofs.Seeing.{sees_next_text, sees_names, sees_short}
 use Rattle.dover_model.proofs.Leading.{settled_settles}
 use Rattle.trace_judge.proofs.Continuing.{settled_from_floor}
 use Rattle.trace_judge.proofs.Counts.{length-lines}
+use Rattle.dover_model.proofs.SessionParts.{session_jobs}
+use Rattle.dover_model.proofs.SessionParts.{FollowsItems, session_parts, may_be_refused-agrees, may_finish-agrees}
+use Rattle.dover_model.proofs.ValidParts.{valid_parts}
 
 -- ---- lists
 
@@ -139,7 +141,7 @@ starts l ls passes = by_named (named_session (l ∷ ls)) refl passes where
       record {
         session = S;
         named = named;
-        valid = (is_valid_session-agrees S).0 both_hold.0;
+        valid = record { passes = both_hold.0 };
         begins = (
           _,
           (starts_is bytes_eq-Decides (trace_lines S) (l ∷ ls)
@@ -169,7 +171,7 @@ pub only_headers : (l : List ℕ) → begins_trace (l ∷ []) ≡ true → (rule
 only_headers l passes =
     let it : Starts (l ∷ []) = starts l [] passes in (
       it.session.rules,
-      it.valid.jobs.ratio,
+      (valid_parts (session_jobs it.valid)).ratio,
       sym (heads (header it.session.rules) l (map text_of_line (all_lines it.session)) it.begins.0 it.begins.1),
     )
 
@@ -195,7 +197,7 @@ module _ (ls : List (List ℕ)) (S : Session) (floor : ℕ) (z : State) (sees : 
 
   -- the session that they name
   same : it.session ≡ with_named S (named_item S l)
-  same = named_more S it.session l texts sees.valid.jobs.ratio
+  same = named_more S it.session l texts (valid_parts (session_jobs sees.valid)).ratio
       (ap named_session (sym sees.lines) ∙ sees.named) it.named
 
   -- a line that names no item is the text of the next printed step
@@ -225,11 +227,11 @@ module _ (ls : List (List ℕ)) (S : Session) (floor : ℕ) (z : State) (sees : 
 
     -- the item may follow
     follows_more : FollowsItems S.rules S.items (mark_after 0 S.items) (x ∷ [])
-    follows_more = behind_follows S.rules [] 0 S.items (x ∷ []) valid_more.items
+    follows_more = behind_follows S.rules [] 0 S.items (x ∷ []) (session_parts valid_more).items
 
     -- there is room for it
     room_more : HasRoom S
-    room_more = omega (arith, valid_more.count, length-append S.items (x ∷ []))
+    room_more = omega (arith, (session_parts valid_more).count, length-append S.items (x ∷ []))
 
     -- a line of the item behind what is settled at a tick, which begin the session's lines
     module _ (t : ℕ) (later : mark_after 0 S.items ≤ t) (line : TraceLine) (is : item_in S line ≡ Some x)
@@ -327,7 +329,7 @@ module _ (ls : List (List ℕ)) (S : Session) (floor : ℕ) (z : State) (sees : 
       let follows : FollowsItems S.rules S.items (mark_after 0 S.items) (JobItem j ∷ []) =
       follows_more (JobItem j) names in
       let valid_K : IsValid (with_jobs (instance_of S) (j ∷ [])) =
-      subst IsValid (job_instance S j) (valid_more (JobItem j) names).jobs in
+      subst IsValid (job_instance S j) (session_jobs (valid_more (JobItem j) names)) in
       let ordered : mark_after 0 S.items ≤ j.release = follows.0.no_fall in
       let before : Reads S j.release =
       reads_later S (mark_after 0 S.items) j.release (reads_mark S sees.valid) ordered in
@@ -368,11 +370,11 @@ module _ (ls : List (List ℕ)) (S : Session) (floor : ℕ) (z : State) (sees : 
         waits.0,
         record {
           room = room_more (RefusedItem r) names;
-          refused = record {
+          refused = (may_be_refused-agrees S floor r).1 (record {
             no_fall = only_later (RefusedItem r) names r.at ordered line refl before begins;
             known = follows.0.known;
             line = follows.0.line;
-          };
+          });
           waits = waits.1;
         },
       )
@@ -399,11 +401,11 @@ module _ (ls : List (List ℕ)) (S : Session) (floor : ℕ) (z : State) (sees : 
         waits.0,
         record {
           room = room_more (FinishItem f) names;
-          finishes = record {
+          finishes = (may_finish-agrees S floor f).1 (record {
             no_fall = only_later (FinishItem f) names f.at ordered line is before begins;
             known = follows.0.known;
             right = follows.0.right;
-          };
+          });
           waits = waits.1;
         },
       )

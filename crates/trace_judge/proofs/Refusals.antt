@@ -17,6 +17,8 @@ use Rattle.dover_model.specs.Session.{RefusedItem, Refused as RefusedAt, Session
 use Rattle.dover_model.specs.Session.{refuses_lines, is_full, refused_mark, may_finish_early, finish_at}
 use Rattle.dover_model.specs.Session.{refused_of_item}
 use Rattle.dover_model.specs.Session as session
+use Rattle.dover_model.proofs.SessionParts as parts
+use Rattle.dover_model.proofs.SessionParts.{may_be_refused-agrees}
 use Rattle.dover_model.specs.Text.{refused_text}
 use Rattle.dover_model.specs.Verdict.{named_item, begins_trace}
 use Rattle.dover_model.proofs.Growing.{refused_instance}
@@ -35,6 +37,7 @@ use Rattle.trace_judge.proofs.Causes.{full_there, refused_if_full, refused_there
 use Rattle.trace_judge.proofs.Readings.{goes_of, ahead_of, here_of, reads_of, reads_ahead, version_kept, room_kept}
 use Rattle.trace_judge.proofs.Readings.{room_left}
 use Rattle.dover_model.proofs.Tests.{never}
+use Rattle.trace_judge.proofs.Follows.{refused_parts}
 
 -- no more lines are refused than there are items
 few_refused : (items : List session.Item) → length (filter_map refused_of_item items) ≤ length items
@@ -74,13 +77,13 @@ module _ (line : RefusedAt) (named : (S : Session) → named_item S (refused_tex
         → (w.floor ≤ line.at → (ls : List (List ℕ)) (S : Session) (z : State) → Goes w ls S z z → (x : State)
         → WaitsUntil (instance_of S).rules line.at z x → ⊥) → StaysAhead w v2 → Took w v2 (refused_text line) false
     not_waited v2 none ahead = not_refused v2 ahead
-        (λ ls S z goes y may. none may.refused.no_fall ls S z goes y may.waits)
+        (λ ls S z goes y may. none (refused_parts may).no_fall ls S z goes y may.waits)
 
     -- it may come
     module _ (u v2 : Reading) (same : u ≡ v2) (kept : v2 ≡ record w { course = v2.course })
         (known : line.at ≤ last_tick) (few : w.items < most_items w.kept.rules.version)
         (may_line : (ls : List (List ℕ)) (S : Session) (z y x : State) → Goes w ls S z y
-        → Waited v2 line.at ls S z x → session.MayRefuse S line.at line.line)
+        → Waited v2 line.at ls S z x → parts.MayRefuse S line.at line.line)
         (waits : (ls : List (List ℕ)) (S : Session) (z y : State) → Goes w ls S z y → (x : State)
         × Waited v2 line.at ls S z x) where
       -- the reading with it
@@ -100,11 +103,11 @@ module _ (line : RefusedAt) (named : (S : Session) → named_item S (refused_tex
           let may : MayRefuse S u.floor z line (at_tick line.at x.tasks) = record {
             room = room_left u ls S z x here
                 (subst (λ (t : Reading). t.items < most_items t.kept.rules.version) (sym unchanged) few);
-            refused = record {
+            refused = (may_be_refused-agrees S u.floor line).1 (record {
               no_fall = waited.no_fall;
               known = known;
               line = may_line ls S z y x goes there.1;
-            };
+            });
             waits = waited.waits;
           } in
           let S_more : Session = with_item S (RefusedItem line) in
@@ -189,10 +192,12 @@ module _ (at r c d v : ℕ) (cause : Refusal) (form : HasForm (Refused at r c d 
       → refusal_if_full w.kept.rules jobs at (job_of_numbers r c d v) ≡ Some cause → ⊥)
       → Took w w (refused_text job_line) false
   job_not w going none = not_refused job_line job_named w going w (λ ls reads. reads) (λ ls S z goes y may.
-      none (ap refuses_lines (sym (version_kept w ls S z z goes)) ∙ may.refused.line.version) may.refused.known
+      none (ap refuses_lines (sym (version_kept w ls S z z goes)) ∙ (refused_parts may).line.version)
+      (refused_parts may).known
       (room_kept w ls S z z goes may.room) (admitted_jobs S.items) goes.kept
       (ap (λ k. refusal_if_full k (admitted_jobs S.items) at (job_of_numbers r c d v)) goes.rules
-      ∙ refused_if_full S at (job_of_numbers r c d v) cause may.refused.line.cause may.refused.line.raised))
+      ∙ refused_if_full S at (job_of_numbers r c d v) cause (refused_parts may).line.cause
+      (refused_parts may).line.raised))
 
   -- its cause is that as many jobs are ready as may be at once, and they aren't
   pub job_roomy : (w v2 : Reading) → w.stage ≡ Going → StaysAhead w v2
@@ -204,8 +209,8 @@ module _ (at r c d v : ℕ) (cause : Refusal) (form : HasForm (Refused at r c d 
   job_roomy w v2 going ahead waits is roomy = not_refused job_line job_named w going v2 ahead (λ ls S z goes y may.
       let there = waits ls S z z goes in
       never (sym (roomy at ls S z there.0 there.1)
-      ∙ full_there S at (job_of_numbers r c d v) (may.refused.line.cause ∙ ap Some is)
-      (subst (λ k. refused_mark at (job_of_numbers r c d v) k ≡ at) is may.refused.line.raised)))
+      ∙ full_there S at (job_of_numbers r c d v) ((refused_parts may).line.cause ∙ ap Some is)
+      (subst (λ k. refused_mark at (job_of_numbers r c d v) k ≡ at) is (refused_parts may).line.raised)))
 
   -- they refuse it so
   pub job_may : (w v2 : Reading) → refuses_lines w.kept.rules.version ≡ true
@@ -214,7 +219,7 @@ module _ (at r c d v : ℕ) (cause : Refusal) (form : HasForm (Refused at r c d 
       → (cause ≡ Full → (t : ℕ) (ls : List (List ℕ)) (S : Session) (z y : State) → Waited v2 t ls S z y
       → is_full (instance_of S) t ≡ true)
       → (ls : List (List ℕ)) (S : Session) (z y x : State) → Goes w ls S z y → Waited v2 at ls S z x
-      → session.MayRefuse S at job_line.line
+      → parts.MayRefuse S at job_line.line
   job_may w v2 version refuses full ls S z y x goes waited =
       let there = refused_there S at (job_of_numbers r c d v) cause
       (ap (λ k. refusal_if_full k (admitted_jobs S.items) at (job_of_numbers r c d v))
@@ -243,8 +248,9 @@ module _ (at tick number : ℕ) (form : HasForm (RefusedDone at tick number)) wh
       → w.items < most_items w.kept.rules.version → ⊥)
       → Took w w (refused_text done_line) false
   done_not w going none = not_refused done_line done_named w going w (λ ls reads. reads) (λ ls S z goes y may.
-      none (ap may_finish_early (sym (version_kept w ls S z z goes)) ∙ may.refused.line.version) may.refused.known
-      may.refused.line.no_later (room_kept w ls S z z goes may.room))
+      none (ap may_finish_early (sym (version_kept w ls S z z goes)) ∙ (refused_parts may).line.version)
+      (refused_parts may).known
+      (refused_parts may).line.no_later (room_kept w ls S z z goes may.room))
 
   -- whether the finish is right, where jobs may finish early
   right_is : (S : Session) → may_finish_early S.rules.version ≡ true
@@ -259,14 +265,15 @@ module _ (at tick number : ℕ) (form : HasForm (RefusedDone at tick number)) wh
       → Took w v2 (refused_text done_line) false
   done_right w v2 going ahead waits right = not_refused done_line done_named w going v2 ahead (λ ls S z goes y may.
       let there = waits ls S z z goes in
-      never (sym may.refused.line.cause ∙ right_is S may.refused.line.version ∙ sym (right ls S z there.0 there.1)))
+      never (sym (refused_parts may).line.cause ∙ right_is S (refused_parts may).line.version
+      ∙ sym (right ls S z there.0 there.1)))
 
   -- it isn't
   pub done_may : (w v2 : Reading) → may_finish_early w.kept.rules.version ≡ true → tick ≤ at
       → ((ls : List (List ℕ)) (S : Session) (z y : State) → Waited v2 at ls S z y
       → false ≡ (nat_le at tick && is_some (finish_at (instance_of S) tick number)))
       → (ls : List (List ℕ)) (S : Session) (z y x : State) → Goes w ls S z y → Waited v2 at ls S z x
-      → session.MayRefuse S at done_line.line
+      → parts.MayRefuse S at done_line.line
   done_may w v2 version low right ls S z y x goes waited =
       let early : may_finish_early S.rules.version ≡ true =
       ap may_finish_early (version_kept w ls S z y goes) ∙ version in

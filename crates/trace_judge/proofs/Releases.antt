@@ -47,6 +47,8 @@ use Rattle.dover_model.specs.Settled.{last_of}
 use Rattle.dover_model.specs.Session.{refused_of_item, is_full, ready_at}
 use Rattle.dover_model.proofs.Tests.{never}
 use Rattle.trace_judge.proofs.Completing.{ready_is}
+use Rattle.dover_model.proofs.SessionParts.{session_jobs}
+use Rattle.dover_model.proofs.JobLimits.{job_limits}
 
 -- ---- the line alone
 
@@ -148,14 +150,14 @@ module _ (r : Reading) (j : JobFacts) (room : ℕ) (ls : List (List ℕ)) (can :
   release_follows = subst (λ m. Follows (with_release r.course j room) (instance_of S_more) (with_fresh y m j))
       next_number
       (course.release_follows r.course (instance_of S) can.state can.waited.goes.follows (instance_of S_more) j room
-      (ap (λ (I : Instance). I.rules) (job_instance S j)) sees.valid.jobs
+      (ap (λ (I : Instance). I.rules) (job_instance S j)) (session_jobs sees.valid)
       (subst (λ m. Keeps (instance_of S_more) (with_fresh y m j)) (sym next_number)
       (sees_keeps (ls ++ release_text S j ∷ []) S_more j.release (with_fresh y n j) sees)) known) where
         known : j.release ≤ last_tick
         known = let admitted : Admitted S.rules (admitted_jobs S.items) j =
             not_refused S.rules (admitted_jobs S.items) j can.may.admitted in
-            let window : j.release + j.work ≤ j.deadline = admitted.job.window in
-            let due : j.deadline ≤ 1_000_000_000_000 = admitted.job.due in
+            let window : j.release + j.work ≤ j.deadline = (job_limits admitted.job).window in
+            let due : j.deadline ≤ 1_000_000_000_000 = (job_limits admitted.job).due in
             omega arith
 
   -- the course with it
@@ -184,7 +186,7 @@ module _ (r : Reading) (j : JobFacts) (room : ℕ) (ls : List (List ℕ)) (can :
         length-append (printed_of sees.steps) (printed_of rest.0),
         ap length (sees_release_prints ls S r.floor can.from can.waited.goes.sees j y can.may),
         length-append (printed_of can.waited.goes.sees.steps) (Release n j ∷ []),
-        few_printed (instance_of S_more) sees.valid.jobs,
+        few_printed (instance_of S_more) (session_jobs sees.valid),
         ap length jobs,
         length-append (admitted_jobs S.items) (j ∷ []),
         ap length can.waited.goes.steps,

@@ -37,6 +37,8 @@ use Rattle.dover_model.proofs.Tests.{never}
 use Rattle.trace_judge.specs.Reading.{Sees}
 use Rattle.trace_judge.proofs.Counts.{length-lines, get_behind}
 use Rattle.dover_model.proofs.Waiting.{next_exists}
+use Rattle.dover_model.proofs.SessionParts.{session_jobs}
+use Rattle.dover_model.proofs.ValidParts.{valid_parts}
 
 -- steps that pass leave no job that waits or is held at a finish
 pub passes_ready : (J : Instance) → IsValid J → (mark : ℕ) (xs : List Step) (s z : State) → Keeps J s
@@ -51,14 +53,14 @@ module _ (S : Session) (valid : IsValidSession S) (floor : ℕ)
     (leads : Leads (instance_of S).rules floor (opening (admitted_jobs S.items)) steps z) where
   -- the state is a sound one of the jobs
   pub led_keeps : Keeps (instance_of S) z
-  led_keeps = passes_keeps (instance_of S) valid.jobs (instance_of S).rules floor steps
+  led_keeps = passes_keeps (instance_of S) (session_jobs valid) (instance_of S).rules floor steps
       (opening (admitted_jobs S.items)) z
       (opening_keeps (instance_of S))
       (leads_passes (instance_of S).rules floor steps (opening (admitted_jobs S.items)) z leads)
 
   -- no job that waits or is held has come to a finish
   pub led_ready : IsReady (instance_of S).rules.finishes z
-  led_ready = passes_ready (instance_of S) valid.jobs floor steps (opening (admitted_jobs S.items)) z
+  led_ready = passes_ready (instance_of S) (session_jobs valid) floor steps (opening (admitted_jobs S.items)) z
       (opening_keeps (instance_of S)) (opening_ready (instance_of S).rules.finishes (admitted_jobs S.items))
       (leads_passes (instance_of S).rules floor steps (opening (admitted_jobs S.items)) z leads)
 
@@ -68,13 +70,16 @@ module _ (S : Session) (valid : IsValidSession S) (floor : ℕ)
   led_rest =
       let J : Instance = instance_of S in
       let it : Ends (instance_of S).rules z (potential J.rules.finishes (last_deadline J.jobs) z + 1) =
-      ends J valid.jobs (instance_of S).rules (potential J.rules.finishes (last_deadline J.jobs) z) z led_keeps
+      ends J (session_jobs valid) (instance_of S).rules (potential J.rules.finishes (last_deadline J.jobs) z) z
+      led_keeps
       led_ready (omega arith) in (
         it.0,
         it.1,
         ap printed_of
-            (one_run (instance_of S).rules (opening J.jobs) (run J) (steps ++ it.0) (run_is_whole J valid.jobs)
-            (leads_whole J valid.jobs (instance_of S).rules floor steps it.0 (opening J.jobs) z (opening_keeps J)
+            (one_run (instance_of S).rules (opening J.jobs) (run J) (steps ++ it.0)
+            (run_is_whole J (session_jobs valid))
+            (leads_whole J (session_jobs valid) (instance_of S).rules floor steps it.0 (opening J.jobs) z
+            (opening_keeps J)
             leads it.1))
             ∙ filter_map-append _ steps it.0,
       )
@@ -93,7 +98,7 @@ module _ (S : Session) (valid : IsValidSession S) (floor : ℕ)
     pub led_named : LinesName (lines_among S (printed_of steps)) S
         → named_session (texts_among S (printed_of steps)) ≡ Some S
     led_named names =
-        lines_name S.rules (lines_among S (printed_of steps)) S.items valid.jobs.ratio led_short
+        lines_name S.rules (lines_among S (printed_of steps)) S.items (valid_parts (session_jobs valid)).ratio led_short
         names
 
 module _ (ls : List (List ℕ)) (S : Session) (floor : ℕ) (z : State) (sees : Sees ls S floor z) where
@@ -137,7 +142,7 @@ module _ (ls : List (List ℕ)) (S : Session) (floor : ℕ) (z : State) (sees : 
   sees_names = sym (texts_name (new_session S.rules) (lines_among S so_far) sees_short)
       ∙ some_same _ _ (ap (option_map
       (λ r. named_behind (new_session r) (map text_of_line (lines_among S so_far))))
-      (sym (header_names S.rules sees.valid.jobs.ratio)) ∙ ap named_session (sym sees.lines)
+      (sym (header_names S.rules (valid_parts (session_jobs sees.valid)).ratio)) ∙ ap named_session (sym sees.lines)
       ∙ sees.named)
 
   module _ (e : Event) (y : State) (next : PrintsNext (instance_of S).rules z e y) where
@@ -145,7 +150,8 @@ module _ (ls : List (List ℕ)) (S : Session) (floor : ℕ) (z : State) (sees : 
     pub sees_next : (more : List Event) × (printed J ≡ so_far ++ e ∷ more)
     sees_next =
         let it : (more : List Event) × (printed_of sees_rest.0 ≡ e ∷ more) =
-        prints_first J sees.valid.jobs (instance_of S).rules next.steps sees_rest.0 z y e sees_keeps next.idles
+        prints_first J (session_jobs sees.valid) (instance_of S).rules next.steps sees_rest.0 z y e sees_keeps
+        next.idles
         next.prints
         sees_rest.1 in
         (it.0, sees_rest.2 ∙ ap (λ es. so_far ++ es) it.1)
@@ -196,7 +202,7 @@ module _ (ls : List (List ℕ)) (S : Session) (floor : ℕ) (z : State) (sees : 
 pub sees_some_next : (ls : List (List ℕ)) (S : Session) (floor : ℕ) (z : State) → Sees ls S floor z → (e : Event)
     × (y : State) × PrintsNext (instance_of S).rules z e y
 sees_some_next ls S floor z sees =
-    next_exists (instance_of S) sees.valid.jobs (instance_of S).rules (sees_rest ls S floor z sees).0 z
+    next_exists (instance_of S) (session_jobs sees.valid) (instance_of S).rules (sees_rest ls S floor z sees).0 z
     (sees_keeps ls S floor z sees)
     (sees_rest ls S floor z sees).1
 

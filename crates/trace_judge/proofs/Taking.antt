@@ -43,6 +43,7 @@ use Rattle.ready_jobs.proofs.Courses.{new_follows, follows_count}
 use Rattle.trace_judge.proofs.Forms.{one_form, next_form}
 use Rattle.trace_judge.proofs.Readings.{goes_of, ahead_of, here_of, reads_of, opens_of, reads_ahead, next_goes}
 use Rattle.trace_judge.proofs.Readings.{spare_stays, next_ahead}
+use Rattle.dover_model.proofs.SessionParts.{session_jobs}
 
 -- ---- silent steps up to a tick
 
@@ -347,7 +348,7 @@ module _ (r w : Reading) (same : r ≡ w) (going_w : w.stage ≡ Going) (d : Cou
         arith,
         ap length all.1,
         length-append (printed_of it.3.sees.steps) (due ∷ all.0),
-        few_printed (instance_of it.0) it.3.sees.valid.jobs,
+        few_printed (instance_of it.0) (session_jobs it.3.sees.valid),
         follows_count r.course (instance_of it.0) it.2 it.3.follows,
         ap length it.3.steps,
         kept_length r.keep (printed_of it.3.sees.steps),
@@ -389,7 +390,8 @@ module _ (r w : Reading) (same : r ≡ w) (going_w : w.stage ≡ Going) (d : Cou
             let next_end : PrintsNext (instance_of S).rules z (End v.0) new.0 = subst
             (λ e. PrintsNext (instance_of S).rules z e new.0) v.1 new.2 in
             let over : step J.rules new.0 ≡ Prints (End (value_sum (filter is_done new.0.tasks))) =
-            (end_over J goes.sees.valid.jobs new.0 new.1.follows.keeps J.rules (ap is_end new.2.prints ∙ last)).0 in
+            (end_over J (session_jobs goes.sees.valid) new.0 new.1.follows.keeps J.rules
+            (ap is_end new.2.prints ∙ last)).0 in
             let value : v.0 ≡ d.done =
             ends_same v.0 (value_sum (filter is_done new.0.tasks)) (sym next_end.prints ∙ over) ∙ new.1.follows.done in
             record {
@@ -474,7 +476,8 @@ module _ (r w : Reading) (same : r ≡ w) (going_w : w.stage ≡ Going) (d : Cou
                     ∙ ap (kept_steps r.keep) (sym sees.1);
                 refused = goes.refused;
                 last = at ∙ sym new.1.follows.clock
-                    ∙ sym (next_tick (instance_of S) goes.sees.valid.jobs x due new.1.follows.keeps new.2.prints more)
+                    ∙ sym (next_tick (instance_of S) (session_jobs goes.sees.valid) x due new.1.follows.keeps
+                    new.2.prints more)
                     ∙ sym (last_more (printed_of goes.sees.steps) due) ∙ ap last_of (sym sees.1);
               },
             )

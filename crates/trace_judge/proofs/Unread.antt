@@ -9,6 +9,7 @@ use Rattle.dover_model.specs.Instance.{Declaration}
 use Rattle.dover_model.specs.State.{State}
 use Rattle.dover_model.specs.Session.{Session, RefusedLine, RefusedJob, RefusedDone, instance_of, admitted_jobs}
 use Rattle.dover_model.specs.Session as lines
+use Rattle.dover_model.proofs.SessionParts as parts
 use Rattle.dover_model.specs.Finishes.{Finish}
 use Rattle.dover_model.specs.Settled.{settled_state}
 use Rattle.dover_model.specs.Sound.{Keeps}
@@ -36,6 +37,10 @@ use Rattle.trace_judge.specs.declared.stage.Stage.TheVariants.{Opening, Going, E
 use Rattle.trace_judge.specs.Reads.{Reading, Goes, Ends, Reads, Took, jobs_in, job_lines_in, is_job_item}
 use Rattle.trace_judge.proofs.Forms.{one_form, next_form}
 use Rattle.trace_judge.proofs.Readings.{HereBy, here_of, ends_of, reads_ahead}
+use Rattle.dover_model.proofs.SessionParts.{session_jobs}
+use Rattle.trace_judge.proofs.Follows.{refused_parts, finish_parts}
+use Rattle.dover_model.proofs.ValidParts.{valid_parts}
+use Rattle.dover_model.proofs.JobLimits.{job_limits}
 
 -- behind the end no line continues the trace
 ended_fails : (r : Reading) (ls : List (List ℕ)) (S : Session) → Ends r ls S → (l : List ℕ)
@@ -78,9 +83,9 @@ release_form S floor z l it =
     not_refused S.rules (admitted_jobs S.items) it.0 it.3.admitted in
     let few : length (admitted_jobs S.items) < 4_000_000_000 =
     omega (arith, admitted.count, jobs_most S.rules.version) in
-    let window : it.0.release + it.0.work ≤ it.0.deadline = admitted.job.window in
-    let due : it.0.deadline ≤ 1_000_000_000_000 = admitted.job.due in
-    let modest : it.0.value ≤ 1_000_000_000 = admitted.job.modest in (
+    let window : it.0.release + it.0.work ≤ it.0.deadline = (job_limits admitted.job).window in
+    let due : it.0.deadline ≤ 1_000_000_000_000 = (job_limits admitted.job).due in
+    let modest : it.0.value ≤ 1_000_000_000 = (job_limits admitted.job).modest in (
       Step (Release (length (admitted_jobs S.items)) it.0),
       ((omega arith, (omega arith, (omega arith, (omega arith, (omega arith, tt))))), (omega arith, admitted.job)),
       sym it.1,
@@ -90,12 +95,12 @@ release_form S floor z l it =
 refused_form : (S : Session) (floor : ℕ) (z : State) (l : List ℕ) → IsRefusedNext S floor z l → (x : TraceLine)
     × HasForm x × (trace_text x ≡ l)
 refused_form S floor z l it =
-    by_line it.0.line it.1 it.3.refused.line where
+    by_line it.0.line it.1 (refused_parts it.3).line where
       known : it.0.at ≤ 1_000_000_000_000
-      known = it.3.refused.known
+      known = (refused_parts it.3).known
 
       by_line : (line : RefusedLine) → l ≡ refused_text (record { at = it.0.at; line = line })
-          → lines.MayRefuse S it.0.at line → (x : TraceLine) × HasForm x × (trace_text x ≡ l)
+          → parts.MayRefuse S it.0.at line → (x : TraceLine) × HasForm x × (trace_text x ≡ l)
       by_line (RefusedJob j cause) is may = (
         Refused it.0.at j.release j.work j.deadline j.value cause,
         (omega (arith, known), may.numerals),
@@ -111,11 +116,11 @@ refused_form S floor z l it =
 completion_form : (ls : List (List ℕ)) (S : Session) (floor : ℕ) (z : State) (l : List ℕ) → Sees ls S floor z
     → IsCompletionNext S floor z l → (x : TraceLine) × HasForm x × (trace_text x ≡ l)
 completion_form ls S floor z l sees it =
-    let known : it.0.at ≤ 1_000_000_000_000 = it.3.finishes.known in
-    let job : Finishes S it.0 = finishing_job S it.0 it.3.finishes.right in
+    let known : it.0.at ≤ 1_000_000_000_000 = (finish_parts it.3).known in
+    let job : Finishes S it.0 = finishing_job S it.0 (finish_parts it.3).right in
     let number : it.0.finish.number ≡ job.job.number = ap (λ (g : Finish). g.number) job.is in
     let keeps : Keeps (instance_of S) (settled_state (instance_of S) it.0.at) =
-    (settled_at_barrier (instance_of S) sees.valid.jobs it.0.at).keeps in
+    (settled_at_barrier (instance_of S) (session_jobs sees.valid) it.0.at).keeps in
     let low : job.job.number < length (instance_of S).jobs = omega (
       arith,
       numbers_low 0 (settled_state (instance_of S) it.0.at).tasks keeps.sound.numbered job.job job.runs.member,
@@ -123,7 +128,7 @@ completion_form ls S floor z l sees it =
       ap length keeps.jobs,
     ) in
     let few : length (instance_of S).jobs ≤ 4_000_000_000 =
-    omega (arith, sees.valid.jobs.count, jobs_most S.rules.version) in (
+    omega (arith, (valid_parts (session_jobs sees.valid)).count, jobs_most S.rules.version) in (
       Step (Complete it.0.at it.0.finish.number),
       ((omega (arith, known), (omega (arith, number, low), tt)), omega (arith, number, low)),
       sym it.1,

@@ -1,12 +1,12 @@
 -- What the lines of a trace so far have come to, and which line may come next.
-use Rattle.std.specs.Prelude.{◌≡◌, ◌≤◌, ◌<◌, ◌+◌, ℕ, List, length, false, Some, None}
+use Rattle.std.specs.Prelude.{◌≡◌, ◌≤◌, ◌<◌, ◌+◌, ℕ, List, length, false, Some, None, IsTrue}
 use Rattle.std.specs.List.{AllByRecursion}
 use Rattle.dover_model.specs.State.{State, opening, is_coming}
 use Rattle.dover_model.specs.Run.{Step, printed_of}
 use Rattle.dover_model.specs.Sound.{Each}
 use Rattle.dover_model.specs.Settled.{settled}
 use Rattle.dover_model.specs.Session.{Session, instance_of, admitted_jobs, IsValidSession, mark_after, Refused}
-use Rattle.dover_model.specs.Session.{MayBeRefused, MayFinish, EarlyFinish, is_full}
+use Rattle.dover_model.specs.Session.{may_be_refused, may_finish, EarlyFinish, is_full}
 use Rattle.dover_model.specs.Trace.{places_of, texts_among}
 use Rattle.dover_model.specs.Verdict.{named_session}
 use Rattle.dover_model.specs.Leading.{Leads, WaitsUntil}
@@ -47,13 +47,13 @@ pub record MayRelease (S : Session) (floor : ℕ) (s : State) (j : JobFacts) (z 
 -- the refused line may come next, and the silent steps before it lead to z
 pub record MayRefuse (S : Session) (floor : ℕ) (s : State) (r : Refused) (z : State) : Type 0 where
   pub room : HasRoom S
-  pub refused : MayBeRefused S floor r
+  pub refused : IsTrue (may_be_refused S floor r)
   pub waits : WaitsUntil (instance_of S).rules r.at s z
 
 -- the early completion may come next, and the silent steps before it lead to z
 pub record MayComplete (S : Session) (floor : ℕ) (s : State) (f : EarlyFinish) (z : State) : Type 0 where
   pub room : HasRoom S
-  pub finishes : MayFinish S floor f
+  pub finishes : IsTrue (may_finish S floor f)
   pub waits : WaitsUntil (instance_of S).rules f.at s z
 
 -- the text of the completion of a job that finishes early

@@ -7,12 +7,14 @@ use Rattle.std.proofs.lemmas.List.Sums.{sum_by-cons}
 use Rattle.dover_model.specs.declared.events.Version.{Version}
 use Rattle.dover_model.specs.Fraction.{Fraction, IsRatio}
 use Rattle.dover_model.specs.JobFacts.{JobFacts, IsJob}
-use Rattle.dover_model.specs.Instance.{IsValid, IsWithinRatio, IsInOrder, jobs_under, total_value}
+use Rattle.dover_model.specs.Instance.{IsValid, jobs_under, total_value}
 use Rattle.dover_model.specs.Generator.{next_state, high_bits, most_density, job_of_draws, generated_jobs_from}
 use Rattle.dover_model.specs.Generator.{generated_jobs}
 use Rattle.dover_model.proofs.Calculus.{dense_within}
 use Rattle.dover_model.proofs.Limiting.{jobs_least, total_least}
 use Rattle.trial_jobs.specs.Turns.{next_four, next_job}
+use Rattle.dover_model.proofs.ValidParts.{IsWithinRatio, ReleasesInOrder, valid_from}
+use Rattle.dover_model.proofs.JobLimits.{ratio_limits, job_from}
 
 -- so many jobs are drawn
 pub so_many : (k : Fraction) (count state last : ℕ) → length (generated_jobs_from k count state last) ≡ count
@@ -61,8 +63,8 @@ module _ (k : Fraction) (ratio : IsRatio k) where
   -- a density is drawn from at least one
   some_density : 1 ≤ most_density k
   some_density = let one : 1 ≤ k.p / k.q =
-      (le-div_iff_mul-le {k = k.q} {x = 1} {y = k.p} (omega (arith, ratio.least))).1
-      (omega (arith, ratio.above_one)) in
+      (le-div_iff_mul-le {k = k.q} {x = 1} {y = k.p} (omega (arith, (ratio_limits ratio).least))).1
+      (omega (arith, (ratio_limits ratio).above_one)) in
       omega (arith, one)
 
   -- and is at most the ratio
@@ -82,13 +84,13 @@ module _ (k : Fraction) (ratio : IsRatio k) where
 
   -- a drawn job is a job
   pub is_job : (last r w s d : ℕ) → last ≤ 16_000_000 → IsJob (job_of_draws k last r w s d)
-  is_job last r w s d early = record {
+  is_job last r w s d early = job_from (record {
     work = omega arith;
     window = omega arith;
     due = omega (arith, early);
     worth = value_some d w;
     modest = omega (arith, value_low d w);
-  }
+  })
 
   -- two drawn jobs are within the ratio
   two_within : (last r w s d last2 r2 w2 s2 d2 : ℕ)
@@ -111,7 +113,7 @@ module _ (k : Fraction) (ratio : IsRatio k) where
   all_later low zero state last early = tt
   all_later low (suc count) state last early = (omega arith, all_later low count _ _ (omega arith))
 
-  in_order : (count state last : ℕ) → IsInOrder (generated_jobs_from k count state last)
+  in_order : (count state last : ℕ) → ReleasesInOrder (generated_jobs_from k count state last)
   in_order zero state last = tt
   in_order (suc count) state last = (all_later _ count _ _ (omega arith), in_order count _ _)
 
@@ -129,7 +131,7 @@ module _ (k : Fraction) (ratio : IsRatio k) where
   -- the list is valid
   pub valid : (seed count : ℕ) (version : Version) → count ≤ 1_000_000
       → IsValid (jobs_under version k (generated_jobs seed count k))
-  valid seed count version few = record {
+  valid seed count version few = valid_from (record {
     ratio = ratio;
     each = all_drawn IsJob is_job count seed 0 (omega (arith, few));
     in_order = in_order count seed 0;
@@ -139,4 +141,4 @@ module _ (k : Fraction) (ratio : IsRatio k) where
         (λ last r w s d _. all_drawn (IsWithinRatio k (job_of_draws k last r w s d))
         (λ last2 r2 w2 s2 d2 _. two_within last r w s d last2 r2 w2 s2 d2) count seed 0 (omega (arith, few))) count seed
         0 (omega (arith, few));
-  }
+  })

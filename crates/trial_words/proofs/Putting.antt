@@ -126,3 +126,9 @@ pub none_before : (put before text other : List ℕ) → before ≡ [] → text 
     → IsProperPrefix put other
 none_before put before text other none same it =
     (it.0, it.1, sym (ap (λ b. b ++ text) none ∙ same) ∙ it.2)
+
+-- what was put behind nothing, with nothing left, is the text
+pub nothing_before : (put before text other : List ℕ) → before ≡ [] → text ≡ other → put ++ [] ≡ before ++ text
+    → put ≡ other
+nothing_before put before text other none same it =
+    sym (append-nil put) ∙ it ∙ ap (λ b. b ++ text) none ∙ same

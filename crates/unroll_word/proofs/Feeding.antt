@@ -12,7 +12,7 @@ use Rattle.dover_model.specs.declared.events.Refusal.{Refusal}
 use Rattle.dover_model.specs.declared.events.Refusal.TheVariants.{Full}
 use Rattle.dover_model.specs.Limits.{most_lines}
 use Rattle.dover_model.specs.JobFacts.{JobFacts, IsJob}
-use Rattle.dover_model.specs.Instance.{Declaration, declared_by, Instance, IsInOrder, IsValid}
+use Rattle.dover_model.specs.Instance.{Declaration, declared_by, Instance, IsValid}
 use Rattle.dover_model.proofs.Meeting.{finishing_valid}
 use Rattle.dover_model.specs.Admission.{refusal_of}
 use Rattle.dover_model.specs.Session.{JobItem, instance_of, is_full, refusal_in, Session, session_with}
@@ -34,6 +34,7 @@ use Rattle.snapshot.proofs.Behind.{feedless_feed, lines_joined}
 use Rattle.snapshot.proofs.Handing.{ratio_account, job_numerals}
 use Rattle.snapshot.specs.Stored.{declared_number}
 use Rattle.unroll_word.specs.Feeds.{IsFeedOf, feed_of, feed_lines, job_text}
+use Rattle.dover_model.proofs.ValidParts.{ReleasesInOrder, valid_parts}
 
 -- ---- line by line
 
@@ -77,7 +78,7 @@ module _ (rules : Declaration) where
   -- the lines of all jobs
   all_more : (jobs done : List JobFacts) (lines mark : ℕ) → IsValid (instance_with rules (done ++ jobs))
       → lines + length jobs ≤ most_lines rules.version → IsNeverFull (session (done ++ jobs))
-      → AllByRecursion IsJob jobs → IsInOrder jobs → AllByRecursion (λ j. mark ≤ j.release) jobs
+      → AllByRecursion IsJob jobs → ReleasesInOrder jobs → AllByRecursion (λ j. mark ≤ j.release) jobs
       → (last : ℕ) × (fold next_line (told lines done mark) (map job_text jobs) ≡ told (lines + length jobs)
       (done ++ jobs) last)
   all_more [] done lines mark valid few never each order later = (
@@ -133,20 +134,20 @@ module _ (J : Instance) (valid : IsValid J) (plain : J.rules.finishes ≡ []) (n
   )
 
   few : 2 + length J.jobs ≤ most_lines J.rules.version
-  few = omega (arith, valid.count, items_enough J.rules.version, items_of_lines J.rules.version)
+  few = omega (arith, (valid_parts valid).count, items_enough J.rules.version, items_of_lines J.rules.version)
 
   -- the jobs
   jobs_told : (last : ℕ) × (fold next_line (told declared 1 [] 0) (map job_text J.jobs) ≡ told declared
       (1 + length J.jobs) J.jobs last)
   jobs_told = all_more declared J.jobs [] 1 0 (finishing_valid J [] valid)
-      (omega (arith, few)) never valid.each valid.in_order (from_zero J.jobs)
+      (omega (arith, few)) never (valid_parts valid).each (valid_parts valid).in_order (from_zero J.jobs)
 
   -- the account of the whole feed
   told_all : account (feed_of J) ≡ record (told declared (suc (1 + length J.jobs)) J.jobs jobs_told.0)
       { standing = Ended }
   told_all = ap account_of_lines (lines_joined (feed_lines J) feedless)
       ∙ ap (λ a. fold next_line a (map job_text J.jobs ++ feed_text EndLine ∷ []))
-      (ratio_account J.rules.ratio.p J.rules.ratio.q valid.ratio J.rules.version)
+      (ratio_account J.rules.ratio.p J.rules.ratio.q (valid_parts valid).ratio J.rules.version)
       ∙ fold-append next_line (told declared 1 [] 0) (map job_text J.jobs) (feed_text EndLine ∷ [])
       ∙ ap (λ a. next_line a (feed_text EndLine)) jobs_told.1
       ∙ ends declared (1 + length J.jobs) J.jobs jobs_told.0 (omega (arith, few))

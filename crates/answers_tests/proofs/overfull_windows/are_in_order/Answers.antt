@@ -2,9 +2,9 @@ use Rattle.std.proofs.Common.{ℕ, ◌≤◌, List, [], ◌∷◌, ◌++◌, tak
 use Rattle.std.specs.List.{AllByRecursion}
 use Rattle.std.proofs.lemmas.List.{take_more}
 use Rattle.dover_model.specs.JobFacts.{JobFacts}
-use Rattle.dover_model.specs.Instance.{IsInOrder}
 use Rattle.dover_model.specs.Sound.{Each}
 use Rattle.answers_tests.proofs.overfull_windows.are_in_order.Invariants.{HasRisen}
+use Rattle.dover_model.proofs.ValidParts.{ReleasesInOrder, order_parts, order_from}
 use Rattle.answers_tests.proofs.overfull_windows.are_in_order.Goals as goal
 
 -- one more that is released no sooner than each
@@ -13,8 +13,8 @@ all_and : (r : ℕ) (xs : List JobFacts) (j : JobFacts) → AllByRecursion (λ x
 all_and r [] j all low = (low, tt)
 all_and r (x ∷ xs) j all low = (all.0, all_and r xs j all.1 low)
 
-order_and : (xs : List JobFacts) (j : JobFacts) → IsInOrder xs → Each (λ x. x.release ≤ j.release) xs
-    → IsInOrder (xs ++ j ∷ [])
+order_and : (xs : List JobFacts) (j : JobFacts) → ReleasesInOrder xs → Each (λ x. x.release ≤ j.release) xs
+    → ReleasesInOrder (xs ++ j ∷ [])
 order_and [] j order low = (tt, tt)
 order_and (x ∷ xs) j order low =
     (all_and x.release xs j order.0 (low x (inl refl)), order_and xs j order.1 (λ y m. low y (inr m)))
@@ -29,7 +29,7 @@ each_and r (y ∷ xs) j low here x (inr member) = each_and r xs j (λ z m. low z
 risen_and : (xs : List JobFacts) (j : JobFacts) (last : ℕ) → HasRisen xs last → last ≤ j.release
     → HasRisen (xs ++ j ∷ []) j.release
 risen_and xs j last risen low = record {
-  order = order_and xs j risen.order (λ x m. omega (arith, risen.most x m));
+  order = order_from (order_and xs j (order_parts risen.order) (λ x m. omega (arith, risen.most x m)));
   most = each_and j.release xs j (λ x m. omega (arith, risen.most x m)) (omega arith);
 }
 

@@ -4,12 +4,18 @@ use Rattle.std.proofs.lemmas.Grind.{common_steps}
 use Rattle.dover_model.specs.JobFacts.{IsJob}
 use Rattle.dover_model.specs.Sound.{Each}
 use Rattle.dover_model.proofs.Taking.{each_more}
+use Rattle.dover_model.proofs.JobLimits.{job_limits}
 use Rattle.dover_model.proofs.jobs.total_value.Goals as goal
 
 pub loop-job-preserved : goal.loop-job-preserved
 loop-job-preserved c = record {
   value = let same = c.value-value.ensures.is in let is = c.job-item.is in grind (arith, common_steps);
-  most = omega (arith, c.loop-job.invariant.most, c.value-value.ensures.is, c.value-value.ensures.job.modest);
+  most = omega (
+    arith,
+    c.loop-job.invariant.most,
+    c.value-value.ensures.is,
+    (job_limits c.value-value.ensures.job).modest,
+  );
   each = each_more IsJob c.args.jobs.now c.loop-job.job-index c.job-item.result c.loop-job-test.true c.job-item.is
       c.loop-job.invariant.each
       c.value-value.ensures.job;

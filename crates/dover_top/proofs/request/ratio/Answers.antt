@@ -1,12 +1,14 @@
 use Rattle.std.proofs.Common.{◌≡◌, ℕ, ◌<◌, ◌^◌, Option, Some, None, IsNone, IsSome, true, false, arith}
 use Rattle.dover_model.specs.Fraction.{Fraction, IsRatio}
 use Rattle.dover_top.proofs.Numbers.{decimal_same}
+use Rattle.dover_model.proofs.JobLimits.{ratio_limits, ratio_from}
 use Rattle.dover_top.proofs.request.ratio.Goals as goal
 
 pub returns-clause-none : goal.returns-clause-none
 returns-clause-none c = λ none k allowed spells_p spells_q.
-    let small_p : k.p < 10 ^ 18 = omega (arith, allowed.small_p) in
-    let small_q : k.q < 10 ^ 18 = omega (arith, allowed.small_q, allowed.above_one, allowed.small_p) in
+    let small_p : k.p < 10 ^ 18 = omega (arith, (ratio_limits allowed).small_p) in
+    let small_q : k.q < 10 ^ 18 =
+    omega (arith, (ratio_limits allowed).small_q) in
     let p : c.in_ok-p.p ≡ k.p =
     decimal_same _ _ _ (omega (arith, c.in_ok-p.ensures.some.2)) small_p c.in_ok-p.ensures.some.0 spells_p in
     let q : c.in_ok-q.q ≡ k.q =
@@ -17,9 +19,9 @@ returns-clause-none c = λ none k allowed spells_p spells_q.
       refused (Some k) none some = absurd (let clash : true ≡ false = none in cc)
 
       same_ratio : (p q : ℕ) (k : Fraction) → p ≡ k.p → q ≡ k.q → IsRatio k → IsRatio (record { p = p; q = q })
-      same_ratio p q k e f allowed = record {
-        least = omega (arith, f, allowed.least);
-        above_one = omega (arith, e, f, allowed.above_one);
-        small_q = omega (arith, f, allowed.small_q);
-        small_p = omega (arith, e, allowed.small_p);
-      }
+      same_ratio p q k e f allowed = ratio_from (record {
+        least = omega (arith, f, (ratio_limits allowed).least);
+        above_one = omega (arith, e, f, (ratio_limits allowed).above_one);
+        small_q = omega (arith, f, (ratio_limits allowed).small_q);
+        small_p = omega (arith, e, (ratio_limits allowed).small_p);
+      })

@@ -1,6 +1,7 @@
 use Rattle.std.proofs.Common.{refl, arith}
 use Rattle.duel.specs.Jobs.{duel_jobs}
 use Rattle.duel.proofs.Admitting.{links_order, too_large, one_refused, one_admitted}
+use Rattle.dover_model.proofs.JobLimits.{ratio_limits}
 use Rattle.duel.proofs.counting.job_count.Goals as goal
 
 pub returns-in-TooLarge-clause-valid : goal.returns-in-TooLarge-clause-valid
@@ -22,5 +23,5 @@ loop-coming-preserved c =
     one_admitted c.args.k (duel_jobs c.args.k c.args.share.whole c.args.share.part) c.loop-coming.admission
     c.loop-coming.coming c.loop-coming.invariant c.in-Job.job c.next_job.new.self c.in-Job.ensures
     c.admit.new.admission
-    (links_order _ _ _ _ _ c.new-coming.ensures.ratio.above_one (omega arith))
+    (links_order _ _ _ _ _ (ratio_limits c.new-coming.ensures.ratio).above_one (omega arith))
     it.0 it.1 c.if-not-admit.ensures.rules

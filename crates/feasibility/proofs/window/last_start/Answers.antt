@@ -1,11 +1,14 @@
 use Rattle.std.proofs.Common.{◌≡◌, ◌-◌, ◌+◌, drop, sym, subst, arith}
 use Rattle.feasibility.proofs.LastStart.{StartsAt, Passed, starts_at, passed_at, none_passed}
+use Rattle.dover_model.proofs.ValidParts.{order_parts}
+use Rattle.dover_model.proofs.JobLimits.{job_limits}
 use Rattle.feasibility.proofs.window.last_start.Goals as goal
 
 -- the window from the release of the job at hand
 starts : (c : goal.After-release-then-b-release) → StartsAt c.args.jobs.now c.args.b c.release-then-b-release.result
 starts c = subst (λ r. StartsAt c.args.jobs.now c.args.b r) (sym c.release-then-b-release.ensures.is)
-    (starts_at _ c.requires.order _ _ _ _ c.loop-i.auto.i c.loop-i-test.true c.index-jobs-i.is c.loop-i.invariant.passed
+    (starts_at _ (order_parts c.requires.order) _ _ _ _ c.loop-i.auto.i c.loop-i-test.true c.index-jobs-i.is
+    c.loop-i.invariant.passed
     c.work-work.ensures.job (omega (arith, c.if-deadline-b.true, c.deadline.ensures.is))
     (omega (arith, c.if-b-release.true, c.release.ensures.is, c.work-work.ensures.is)))
 
@@ -22,7 +25,7 @@ pub loop-i-preserved-else-b-release : goal.loop-i-preserved-else-b-release
 loop-i-preserved-else-b-release c = record {
   passed = subst (λ w. Passed c.args.b (c.loop-i.work + w) (drop (c.loop-i.i - 1) c.args.jobs.now))
       (sym c.work-work.ensures.is)
-      (passed_at _ c.requires.order _ _ _ _ c.loop-i.auto.i c.loop-i-test.true c.index-jobs-i.is
+      (passed_at _ (order_parts c.requires.order) _ _ _ _ c.loop-i.auto.i c.loop-i-test.true c.index-jobs-i.is
       c.loop-i.invariant.passed c.work-work.ensures.job (omega (arith, c.if-deadline-b.true, c.deadline.ensures.is))
       (omega (arith, c.if-b-release.false, c.release.ensures.is, c.work-work.ensures.is)));
   small = omega (
@@ -30,8 +33,8 @@ loop-i-preserved-else-b-release c = record {
     c.loop-i.invariant.small,
     c.loop-i-test.true,
     c.work-work.ensures.is,
-    c.work-work.ensures.job.window,
-    c.work-work.ensures.job.due,
+    (job_limits c.work-work.ensures.job).window,
+    (job_limits c.work-work.ensures.job).due,
   );
 }
 

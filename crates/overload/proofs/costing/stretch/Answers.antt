@@ -5,6 +5,7 @@ use Rattle.dover_model.specs.Instance.{IsInOrder, total_value}
 use Rattle.dover_model.specs.Windows.{is_inside}
 use Rattle.overload.specs.Stretches.{Caps}
 use Rattle.overload.proofs.Near.{found_inside, filter_few, filter_in_order}
+use Rattle.dover_model.proofs.ValidParts.{order_parts, order_from}
 use Rattle.overload.proofs.costing.stretch.Goals as goal
 
 pub total_value-total-requires : goal.total_value-total-requires
@@ -15,7 +16,8 @@ total_value-total-requires c = subst (λ js. length js ≤ most_jobs Two) (sym
 pub cap-requires-clause-in_order : goal.cap-requires-clause-in_order
 cap-requires-clause-in_order c = subst IsInOrder (sym (found_inside _ _ _ c.requires.each _ _ _ c.deref-2.ensures.value
     c.in_ok-inside.ensures c.near.ensures))
-    (filter_in_order (is_inside c.args.ticks.from c.args.ticks.until) c.args.jobs.now c.requires.in_order)
+    (order_from (filter_in_order (is_inside c.args.ticks.from c.args.ticks.until) c.args.jobs.now
+    (order_parts c.requires.in_order)))
 
 pub cap-requires-clause-count : goal.cap-requires-clause-count
 cap-requires-clause-count c = subst (λ js. length js ≤ most_jobs Two) (sym

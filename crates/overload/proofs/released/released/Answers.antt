@@ -1,6 +1,7 @@
 use Rattle.std.proofs.Common.{◌≡◌, ◌≤◌, ◌-◌, drop, subst, arith}
 use Rattle.dover_model.specs.Sound.{Each}
 use Rattle.overload.proofs.Near.{all_early, all_late, halved}
+use Rattle.dover_model.proofs.ValidParts.{order_parts}
 use Rattle.overload.proofs.released.released.Goals as goal
 
 pub loop-low-preserved-then-release-tick : goal.loop-low-preserved-then-release-tick
@@ -8,7 +9,8 @@ loop-low-preserved-then-release-tick c =
     let low = halved c.loop-low.low c.loop-low.high c.loop-low-test.true in record {
       rise = omega (arith, low);
       few = c.loop-low.invariant.few;
-      before = all_early _ _ _ _ c.requires (omega (arith, low, c.loop-low.invariant.few)) c.index-jobs-middle.is
+      before = all_early _ _ _ _ (order_parts c.requires) (omega (arith, low, c.loop-low.invariant.few))
+          c.index-jobs-middle.is
           (omega (arith, c.release.ensures.is, c.if-release-tick.true));
       behind = c.loop-low.invariant.behind;
     }
@@ -19,7 +21,8 @@ loop-low-preserved c =
       rise = omega arith;
       few = omega (arith, low, c.loop-low.invariant.few);
       before = c.loop-low.invariant.before;
-      behind = all_late _ _ _ _ c.requires (omega (arith, low, c.loop-low.invariant.few)) c.index-jobs-middle.is
+      behind = all_late _ _ _ _ (order_parts c.requires) (omega (arith, low, c.loop-low.invariant.few))
+          c.index-jobs-middle.is
           (omega (arith, c.release.ensures.is, c.if-release-tick.false));
     }
 

@@ -1,11 +1,13 @@
 use Rattle.std.proofs.Common.{◌≤◌, ◌+◌, ◌++◌, ◌∷◌, [], ap, sym, subst, arith, ◌∙◌}
 use Rattle.policy_lab.specs.Bench.{HasReady}
 use Rattle.policy_lab.proofs.Holding.{all_late, ready_more, rest_behind, next_of_rest}
+use Rattle.dover_model.proofs.ValidParts.{order_parts}
 use Rattle.policy_lab.proofs.bench.release.Goals as goal
 
 pub returns-then-tick-release-clause-later : goal.returns-then-tick-release-clause-later
 returns-then-tick-release-clause-later c = λ now.
-    all_late c.args.tick c.loop-released.released c.args.jobs.now c.index-jobs-released.result c.requires.in_order
+    all_late c.args.tick c.loop-released.released c.args.jobs.now c.index-jobs-released.result
+    (order_parts c.requires.in_order)
     c.loop-released-test.true
     c.index-jobs-released.is (omega (arith, c.release.ensures.is))
 

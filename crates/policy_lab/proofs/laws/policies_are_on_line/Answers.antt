@@ -1,5 +1,7 @@
 use Rattle.policy_lab.proofs.Onlines.{on_line}
+use Rattle.dover_model.proofs.ValidParts.{order_parts}
 use Rattle.policy_lab.proofs.laws.policies_are_on_line.Goals as goal
 
 pub returns : goal.returns
-returns c = on_line
+returns c picks t jobs others idles order other =
+    on_line picks t jobs others idles (order_parts order) (order_parts other)

@@ -1,10 +1,10 @@
 use Rattle.std.proofs.Common.{◌≡◌, ◌+◌, ◌*◌, ◌/◌, ◌≤◌, ◌^◌, arith, subst, sym}
-use Rattle.std.proofs.lemmas.Bool.{leb-true}
 use Rattle.std.proofs.lemmas.Nat.{mul-le}
 use Rattle.dover_model.specs.Greatest.{IsGreatest}
 use Rattle.dover_model.specs.Bound.{is_within, bound}
 use Rattle.dover_model.proofs.GreatestLaws.{bound-is, root_small, sum_small, within_small}
 use Rattle.root_compare.proofs.Roots.{one_greatest, root_gives}
+use Rattle.dover_model.proofs.JobLimits.{ratio_limits}
 use Rattle.root_compare.proofs.compare.long_bound.Goals as goal
 
 -- what stands under the root, with the numbers of the ratio
@@ -21,7 +21,8 @@ overflow_add-result-2 c =
     sum_small c.args.k c.args.a c.q.ensures.ratio in
     let same : (c.from-p.result + c.from-q.result) * c.from-a.result ≡ (c.args.k.p + c.args.k.q) * c.args.a = cc in
     let product : c.args.k.q * c.args.a ≤ 1_000 * 10 ^ 18 =
-    mul-le c.args.k.q c.args.a 1_000 (10 ^ 18) c.q.ensures.ratio.small_q (omega (arith, c.requires.completed)) in
+    mul-le c.args.k.q c.args.a 1_000 (10 ^ 18) (ratio_limits c.q.ensures.ratio).small_q
+    (omega (arith, c.requires.completed)) in
     omega (arith, root, sum, same, product)
 
 pub returns-clause-greatest : goal.returns-clause-greatest
@@ -29,7 +30,7 @@ returns-clause-greatest c =
     let value : ((c.args.k.p + c.args.k.q) * c.args.a + c.scaled_root.result) / c.args.k.q
     ≡ ((c.from-p.result + c.from-q.result) * c.from-a.result + c.scaled_root.result) / c.from-q.result = cc in
     subst (IsGreatest (λ n. is_within c.args.k n c.args.a)) value
-    (root_gives c.args.k c.args.a c.scaled_root.result c.q.ensures.ratio.least
+    (root_gives c.args.k c.args.a c.scaled_root.result (ratio_limits c.q.ensures.ratio).least
     (subst (λ n. c.scaled_root.result * c.scaled_root.result ≤ n) (under c) c.scaled_root.ensures.within)
     (λ r less. c.scaled_root.ensures.greatest r (subst (λ n. r * r ≤ n) (sym (under c)) less)))
 
@@ -43,4 +44,4 @@ pub returns-clause-small : goal.returns-clause-small
 returns-clause-small c = within_small c.args.k
     (((c.from-p.result + c.from-q.result) * c.from-a.result + c.scaled_root.result) / c.from-q.result) c.args.a
     c.q.ensures.ratio
-    (leb-true _ _ (returns-clause-greatest c).does)
+    (returns-clause-greatest c).does

@@ -1,9 +1,12 @@
-use Rattle.std.proofs.Common.{◌∷◌, [], inl, inr, append-nil}
+use Rattle.std.proofs.Common.{◌∷◌, [], inl, inr, append-nil, subst, sym}
+use Rattle.std.specs.List.{AllByRecursion}
+use Rattle.dover_model.specs.JobFacts.{IsJob}
+use Rattle.dover_model.proofs.ValidParts.{valid_parts}
 use Rattle.dover_port.specs.Moves.Move.{Put}
 use Rattle.dover_port.proofs.Made.{since_weaker}
 use Rattle.unroll_word.specs.Feeds.{feed_of}
 use Rattle.trial_words.specs.Dueled.{duel_front, no_duel_text}
-use Rattle.trial_words.proofs.Putting.{is_front, none_before}
+use Rattle.trial_words.proofs.Putting.{is_front, none_before, nothing_before}
 use Rattle.trial_words.proofs.dueling.duel_word.Goals as goal
 
 pub returns-in-Ok-put_all-clause-ends : goal.returns-in-Ok-put_all-clause-ends
@@ -25,6 +28,21 @@ returns-in-Err-put_feed-clause-duels g c = since_weaker _ _ _ _ c.in-Err-put_fee
       (
         put.0,
         none_before _ _ _ _ c.new-out.ensures
+            (is_front c.args.k c.args.front _ _ _ c.new-coming.ensures.jobs c.in-Ok.ensures.1) put.1,
+      ),
+    ))
+
+pub put_feed-requires-clause-each : goal.put_feed-requires-clause-each
+put_feed-requires-clause-each g c = subst (λ jobs. AllByRecursion IsJob jobs) (sym c.new-coming.ensures.jobs)
+    (valid_parts c.in-Ok.ensures.0.valid).each
+
+pub returns-in-Ok-put_feed-clause-duels : goal.returns-in-Ok-put_feed-clause-duels
+returns-in-Ok-put_feed-clause-duels g c = since_weaker _ _ _ _ c.in-Ok-put_feed.ensures.text.all
+    (λ moves put. inl (
+      c.in-Ok.ensures.0,
+      (
+        put.0,
+        nothing_before _ _ _ _ c.new-out.ensures
             (is_front c.args.k c.args.front _ _ _ c.new-coming.ensures.jobs c.in-Ok.ensures.1) put.1,
       ),
     ))

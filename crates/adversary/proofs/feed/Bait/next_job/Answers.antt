@@ -1,4 +1,4 @@
-use Rattle.std.proofs.Common.{◌∙◌, ap, refl, inl, inr}
+use Rattle.std.proofs.Common.{◌≤◌, ◌∙◌, ap, refl, inl, inr, arith}
 use Rattle.dover_model.specs.Bait.{unit_value, tight_job}
 use Rattle.adversary.specs.Baiting.{Baiting}
 use Rattle.adversary.proofs.Giving.{tick_low, link_within, release_within, link_left, link_given, link_due, link_modest}
@@ -29,6 +29,15 @@ light_value-requires c = link_small c.self.inside.release c.self.inside.work c.s
     (link_within c.self.inside.k c.self.inside.links c.self.inside.release c.self.inside.work c.self.inside.bait_tick
     c.if-self-gt0.true
     c.self.invariant.work c.self.invariant.left) (tick_low c.self.inside c.self.invariant)
+
+pub overflow_add-self-then-self-2 : goal.overflow_add-self-then-self-2
+overflow_add-self-then-self-2 c =
+    let small : c.self.inside.work ≤ 1_000_000 =
+    link_small c.self.inside.release c.self.inside.work c.self.inside.bait_tick
+    (link_within c.self.inside.k c.self.inside.links c.self.inside.release c.self.inside.work c.self.inside.bait_tick
+    c.if-self-gt0.true
+    c.self.invariant.work c.self.invariant.left) (tick_low c.self.inside c.self.invariant) in
+    omega (arith, small, c.light_value.ensures.most)
 
 pub invariant_of-self : goal.invariant_of-self
 invariant_of-self c = record {

@@ -7,6 +7,8 @@ use Rattle.best_set.proofs.Rising.{rise_length, rise_wider}
 use Rattle.best_set.proofs.Values.{get_is, value_few}
 use Rattle.best_set.proofs.Lifting.{jobs_few, order_at}
 use Rattle.best_set.proofs.Searching.{jobs_grow, rise_all, rise_with, value_with, not_good}
+use Rattle.dover_model.proofs.ValidParts.{order_parts, order_from}
+use Rattle.dover_model.proofs.JobLimits.{job_limits}
 use Rattle.best_set.proofs.choice.Choice.with.Goals as goal
 
 pub judge_feasible-requires-clause-in_order : goal.judge_feasible-requires-clause-in_order
@@ -17,8 +19,8 @@ judge_feasible-requires-clause-in_order c =
     c.deref-2.result.now c.requires.number c.index-all-number.is c.requires.choice.jobs
     (c.deref-2.ensures.value ∙ c.in_ok-push.ensures.items
     ∙ ap (λ jobs. jobs ++ c.index-all-number.result ∷ []) (c.in_ok-jobs.ensures.items ∙ c.deref.ensures.value))))
-    (order_at c.args.all.now c.requires.in_order 0 numbers
-    (rise_all c.args.all.now c.args.self.now.numbers.items c.args.number c.requires.number c.requires.choice.numbers))
+    (order_from (order_at c.args.all.now (order_parts c.requires.in_order) 0 numbers
+    (rise_all c.args.all.now c.args.self.now.numbers.items c.args.number c.requires.number c.requires.choice.numbers)))
 
 pub judge_feasible-requires-clause-count : goal.judge_feasible-requires-clause-count
 judge_feasible-requires-clause-count c =
@@ -51,7 +53,7 @@ pub overflow_add-result : goal.overflow_add-result
 overflow_add-result c =
     let value = value_few c.args.all.now c.args.self.now.numbers.items c.requires.each c.requires.count
     (rise_wider _ _ _ _ _ (omega arith) (omega (arith, c.requires.number)) c.requires.choice.numbers) in
-    omega (arith, value, c.requires.choice.value, c.value.ensures.is, c.value.ensures.job.modest)
+    omega (arith, value, c.requires.choice.value, c.value.ensures.is, (job_limits c.value.ensures.job).modest)
 
 pub returns-clause-choice : goal.returns-clause-choice
 returns-clause-choice c =

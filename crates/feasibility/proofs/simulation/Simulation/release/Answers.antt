@@ -4,6 +4,7 @@ use Rattle.std.proofs.lemmas.List.Sorted.{length_permutation}
 use Rattle.feasibility.specs.Progress.{Stands}
 use Rattle.feasibility.proofs.Standing.{stands_until, stands_moved, stands_release, moved_to_next, moved_to_end}
 use Rattle.feasibility.proofs.Running.{next_found}
+use Rattle.dover_model.proofs.ValidParts.{order_parts}
 use Rattle.feasibility.proofs.simulation.Simulation.release.Goals as goal
 
 pub loop-job-preserved : goal.loop-job-preserved
@@ -36,7 +37,8 @@ pub returns-then-self-release-clause-stands : goal.returns-then-self-release-cla
 returns-then-self-release-clause-stands c =
     stands_until c.args.jobs.now c.loop-job.self.clock c.loop-job.self.queue.released c.loop-job.self.queue.kept
     c.loop-job.self.pieces.items
-    c.loop-job.self.late c.loop-job.self.clock c.loop-job.invariant.stands c.requires.order (c.loop-job.self.clock + 1)
+    c.loop-job.self.late c.loop-job.self.clock c.loop-job.invariant.stands (order_parts c.requires.order)
+    (c.loop-job.self.clock + 1)
     (inr (
       c.in-Some.job.now,
       next_found _ _ _ _ c.released.ensures c.in-Some.ensures.lookup.3.0 c.in-Some.ensures.lookup.1,
@@ -52,7 +54,7 @@ returns-then-self-release-clause-moves c =
 
 pub returns-in_default-clause-stands : goal.returns-in_default-clause-stands
 returns-in_default-clause-stands c =
-    stands_until _ _ _ _ _ _ _ c.loop-job.invariant.stands c.requires.order _
+    stands_until _ _ _ _ _ _ _ c.loop-job.invariant.stands (order_parts c.requires.order) _
     (inl (omega (arith, c.in_default.ensures.lookup.3, c.released.ensures)))
 
 pub returns-in_default-clause-moves : goal.returns-in_default-clause-moves

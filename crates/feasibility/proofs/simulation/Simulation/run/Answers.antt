@@ -1,6 +1,7 @@
 use Rattle.std.proofs.Common.{◌+◌, ◌≤◌, ◌⊎◌, ℕ, length, refl, sym, subst, Option}
 use Rattle.feasibility.specs.Progress.{Stands, IsPending, with_late}
 use Rattle.feasibility.proofs.Running.{some_left, none_before, not_idle, ran, few_after}
+use Rattle.dover_model.proofs.ValidParts.{order_parts}
 use Rattle.feasibility.proofs.simulation.Simulation.run.Goals as goal
 
 pub until-until-requires-clause-some : goal.until-until-requires-clause-some
@@ -27,7 +28,7 @@ returns-clause-stands c =
     (subst (λ n. Stands c.args.jobs.now c.until-until.result n c.leave.new.self.kept c.add_piece.new.pieces.items
     (with_late c.args.self.now.late c.args.job.deadline (c.args.self.now.clock + c.args.job.left)) c.until-until.result)
     (sym c.leave.ensures.released)
-    (ran _ _ _ _ _ _ _ _ _ c.requires.stands c.requires.first c.requires.order _ c.until-until.ensures _ _
+    (ran _ _ _ _ _ _ _ _ _ c.requires.stands c.requires.first (order_parts c.requires.order) _ c.until-until.ensures _ _
     (c.leave.ensures.stays _ _ c.requires.first.is) (c.leave.ensures.goes _ _ c.requires.first.is)
     c.in_ok-add_piece.ensures.stretches))
 
@@ -38,6 +39,7 @@ returns-clause-few c =
     ⊎ ((length c.add_piece.new.pieces.items + length c.leave.new.self.kept
     ≤ length c.args.self.now.pieces.items + length c.args.self.now.queue.kept + 1)
     × IsPending c.args.jobs.now c.until-until.result n)) (sym c.leave.ensures.released)
-    (few_after _ _ _ _ _ _ _ _ _ c.requires.stands c.requires.first c.requires.order _ c.until-until.ensures _ _
+    (few_after _ _ _ _ _ _ _ _ _ c.requires.stands c.requires.first (order_parts c.requires.order) _
+    c.until-until.ensures _ _
     (c.leave.ensures.stays _ _ c.requires.first.is) (c.leave.ensures.goes _ _ c.requires.first.is)
     c.in_ok-add_piece.ensures.count)

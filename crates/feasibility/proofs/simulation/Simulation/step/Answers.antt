@@ -6,6 +6,7 @@ use Rattle.feasibility.proofs.Standing.{stands_idle, stands_last, next_later}
 use Rattle.feasibility.proofs.Running.{next_found}
 use Rattle.feasibility.proofs.simulation.Simulation.step.Goals as goal
 use Rattle.feasibility.proofs.simulation.Simulation.step.Goals.{in-Some+in_ok-run-in-Some, in-None+in-Some-get}
+use Rattle.dover_model.proofs.ValidParts.{order_parts}
 
 pub returns-in-None-get-clause-whole : goal.returns-in-None-get-clause-whole
 returns-in-None-get-clause-whole c =
@@ -28,7 +29,7 @@ release-requires-clause-stands c = elim c.match-first.branch [
       w.in-Some-get.next.now.release =
       stands_idle c.args.jobs.now c.args.self.now.clock c.args.self.now.queue.released c.args.self.now.pieces.items
       c.args.self.now.late c.requires.count
-      c.requires.order
+      (order_parts c.requires.order)
       (subst (λ (kept : List Kept). Stands c.args.jobs.now c.args.self.now.clock c.args.self.now.queue.released kept
       c.args.self.now.pieces.items
       c.args.self.now.late (c.args.self.now.clock + 1)) none c.requires.stands)

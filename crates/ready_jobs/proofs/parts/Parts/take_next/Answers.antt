@@ -3,7 +3,7 @@ use Rattle.dover_model.specs.declared.events.Event.TheVariants.{Take}
 use Rattle.ready_jobs.specs.Changed.{Leaves, printed}
 use Rattle.ready_jobs.specs.Parts.{ready_of}
 use Rattle.ready_jobs.specs.Slots.{seen}
-use Rattle.ready_jobs.proofs.Applied.{taken_leaves, taken_named}
+use Rattle.ready_jobs.proofs.Applied.{taken_leaves, taken_named, some_late}
 use Rattle.dover_model.specs.Orders.{starts_before}
 use Rattle.dover_model.proofs.FirstOfTasks.{first_member}
 use Rattle.ready_jobs.proofs.Costing.{take_costs}
@@ -33,3 +33,8 @@ returns-in-Some-first_late-clause-cost g c at d fits =
 
 pub returns-in-Some-first_late-clause-once : goal.returns-in-Some-first_late-clause-once
 returns-in-Some-first_late-clause-once g c = c.take.ensures.count
+
+pub returns-in_default-first_late-clause-leaves : goal.returns-in_default-first_late-clause-leaves
+returns-in_default-first_late-clause-leaves g c at = absurd
+    (some_late c.args.self.now c.laws.ensures.roles c.requires.once c.args.stops c.args.starts c.requires.next
+    (sym c.first_late.ensures.seen ∙ ap seen c.in_default-first_late.is))

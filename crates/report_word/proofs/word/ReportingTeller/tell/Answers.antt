@@ -3,6 +3,7 @@ use Rattle.dover_model.specs.Session.{instance_of}
 use Rattle.dover_model.proofs.Tests.{never}
 use Rattle.report_word.proofs.Answering.{prints, run_of, reported, unreported, refused_size, unrefused_size, refused}
 use Rattle.report_word.proofs.Answering.{unrefused}
+use Rattle.dover_model.proofs.SessionParts.{session_jobs}
 use Rattle.report_word.proofs.word.ReportingTeller.tell.Goals as goal
 
 pub put_report-requires : goal.put_report-requires
@@ -11,7 +12,7 @@ put_report-requires g c =
     let are = c.deref.ensures.value ∙ c.requires.closed.1.steps in (
       instance_of tells.0,
       run_of _ _ _ _ _ c.requires.closed.0 tells _ c.requires.closed.1.steps
-          ((c.is_small.ensures (instance_of tells.0) tells.7.valid.jobs
+          ((c.is_small.ensures (instance_of tells.0) (session_jobs tells.7.valid)
           (prints _ _ _ _ _ c.requires.closed.0 tells _ are) (sym tells.3)).0 c.if-is_small.true),
     )
 
@@ -19,7 +20,7 @@ pub returns-in-Ok-clause-answers : goal.returns-in-Ok-clause-answers
 returns-in-Ok-clause-answers g c = λ text ended closed.
     let tells = rw c.in-Accepted.is at closed.tells in
     let are = c.deref.ensures.value ∙ closed.steps in
-    let listable = (c.is_small.ensures (instance_of tells.0) tells.7.valid.jobs
+    let listable = (c.is_small.ensures (instance_of tells.0) (session_jobs tells.7.valid)
     (prints _ _ _ _ _ text tells _ are) (sym tells.3)).0 c.if-is_small.true in
     reported _ _ _ _ _ text tells c.args.self.form ended _ _ _ c.requires.empty c.args.closed.refused
     (closed.refused tells.0 tells.1) listable _ (c.in-Ok.ensures.puts (instance_of tells.0)
@@ -29,7 +30,7 @@ pub returns-in-Err-clause-answers : goal.returns-in-Err-clause-answers
 returns-in-Err-clause-answers g c = λ text ended closed.
     let tells = rw c.in-Accepted.is at closed.tells in
     let are = c.deref.ensures.value ∙ closed.steps in
-    let listable = (c.is_small.ensures (instance_of tells.0) tells.7.valid.jobs
+    let listable = (c.is_small.ensures (instance_of tells.0) (session_jobs tells.7.valid)
     (prints _ _ _ _ _ text tells _ are) (sym tells.3)).0 c.if-is_small.true in
     unreported _ _ _ _ _ text tells c.args.self.form ended _ _ _ c.requires.empty c.args.closed.refused
     (closed.refused tells.0 tells.1) listable c.in-Err.stop (c.in-Err.ensures.puts (instance_of tells.0)
@@ -40,7 +41,7 @@ returns-in-Ok-put_size-clause-answers g c = λ text ended closed.
     let tells = rw c.in-Accepted.is at closed.tells in
     let are = c.deref.ensures.value ∙ closed.steps in
     refused_size _ _ _ _ _ text tells c.args.self.form ended _ _ _ c.requires.empty
-    (λ listable. never (sym c.if-is_small.false ∙ (c.is_small.ensures (instance_of tells.0) tells.7.valid.jobs
+    (λ listable. never (sym c.if-is_small.false ∙ (c.is_small.ensures (instance_of tells.0) (session_jobs tells.7.valid)
     (prints _ _ _ _ _ text tells _ are) (sym tells.3)).1 listable)) _ c.in-Ok-put_size.ensures.puts
 
 pub returns-in-Err-put_size-clause-answers : goal.returns-in-Err-put_size-clause-answers
@@ -48,7 +49,7 @@ returns-in-Err-put_size-clause-answers g c = λ text ended closed.
     let tells = rw c.in-Accepted.is at closed.tells in
     let are = c.deref.ensures.value ∙ closed.steps in
     unrefused_size _ _ _ _ _ text tells c.args.self.form ended _ _ _ c.requires.empty
-    (λ listable. never (sym c.if-is_small.false ∙ (c.is_small.ensures (instance_of tells.0) tells.7.valid.jobs
+    (λ listable. never (sym c.if-is_small.false ∙ (c.is_small.ensures (instance_of tells.0) (session_jobs tells.7.valid)
     (prints _ _ _ _ _ text tells _ are) (sym tells.3)).1 listable)) c.in-Err-put_size.stop
     c.in-Err-put_size.ensures.puts
 

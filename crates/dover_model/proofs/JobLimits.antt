@@ -1,0 +1,66 @@
+-- The limits of a ratio and of a job, one by one, as facts.
+use Rattle.std.proofs.Common.{◌+◌, ◌≤◌, ◌↔◌, IsTrue}
+use Rattle.dover_model.specs.Limits.{most_p, most_q, last_tick, most_value}
+use Rattle.dover_model.specs.Fraction.{Fraction, IsRatio, is_ratio}
+use Rattle.dover_model.specs.JobFacts.{JobFacts, IsJob, is_job}
+use Rattle.dover_model.proofs.Tests.{both, at_most}
+
+-- ---- a ratio
+
+-- its limits
+pub record RatioLimits (k : Fraction) : Type 0 where
+  pub least : 1 ≤ k.q
+  pub above_one : k.q ≤ k.p
+  pub small_q : k.q ≤ most_q
+  pub small_p : k.p ≤ most_p
+
+-- as the test says
+limits_of_ratio : (k : Fraction) → IsTrue (is_ratio k) ↔ RatioLimits k
+limits_of_ratio k = (
+  λ h. let f = parts.0 h in record { least = f.0.0.0; above_one = f.0.0.1; small_q = f.0.1; small_p = f.1 },
+  λ r. parts.1 (((r.least, r.above_one), r.small_q), r.small_p),
+) where
+  parts : IsTrue (is_ratio k) ↔ ((((1 ≤ k.q) × (k.q ≤ k.p)) × (k.q ≤ most_q)) × (k.p ≤ most_p))
+  parts = both _ _ (both _ _ (both _ _ (at_most _ _) (at_most _ _)) (at_most _ _)) (at_most _ _)
+
+-- a ratio is within its limits
+pub ratio_limits : {k : Fraction} → IsRatio k → RatioLimits k
+ratio_limits {k} ratio = (limits_of_ratio k).0 ratio.passes
+
+-- what is within them is a ratio
+pub ratio_from : {k : Fraction} → RatioLimits k → IsRatio k
+ratio_from {k} limits = record { passes = (limits_of_ratio k).1 limits }
+
+-- ---- a job
+
+-- its limits
+pub record JobLimits (j : JobFacts) : Type 0 where
+  pub work : 1 ≤ j.work
+  pub window : j.release + j.work ≤ j.deadline
+  pub due : j.deadline ≤ last_tick
+  pub worth : 1 ≤ j.value
+  pub modest : j.value ≤ most_value
+
+-- as the test says
+limits_of_job : (j : JobFacts) → IsTrue (is_job j) ↔ JobLimits j
+limits_of_job j = (
+  λ h. let f = parts.0 h in record { work = f.0.0.0.0; window = f.0.0.0.1; due = f.0.0.1; worth = f.0.1; modest = f.1 },
+  λ r. parts.1 ((((r.work, r.window), r.due), r.worth), r.modest),
+) where
+  parts : IsTrue (is_job j)
+      ↔ (((((1 ≤ j.work) × (j.release + j.work ≤ j.deadline)) × (j.deadline ≤ last_tick)) × (1 ≤ j.value)) ×
+      (j.value ≤ most_value))
+  parts = both _ _ (both _ _ (both _ _ (both _ _ (at_most _ _) (at_most _ _)) (at_most _ _)) (at_most _ _))
+      (at_most _ _)
+
+-- a job is within its limits
+pub job_limits : {j : JobFacts} → IsJob j → JobLimits j
+job_limits {j} job = (limits_of_job j).0 job.passes
+
+-- what is within them is a job
+pub job_from : {j : JobFacts} → JobLimits j → IsJob j
+job_from {j} limits = record { passes = (limits_of_job j).1 limits }
+
+-- the test of a job, as a fact
+pub job_passes : (j : JobFacts) → IsTrue (is_job j) ↔ IsJob j
+job_passes j = (λ h. record { passes = h }, λ job. job.passes)
