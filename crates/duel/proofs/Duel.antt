@@ -10,7 +10,7 @@ use Rattle.dover_model.specs.Online.{known_at}
 use Rattle.dover_model.specs.declared.events.Version.{Version}
 use Rattle.dover_model.proofs.Calculus.{cancel}
 use Rattle.dover_model.proofs.Valid.{Split, split_known, valid_front}
-use Rattle.duel.specs.Links.{IsTooMuch, staying, leaving, IsLast}
+use Rattle.duel.specs.Links.{IsTooMuch, staying, leaving}
 use Rattle.duel.specs.Game.{ArePlain, AreValid, Scheduler, IsOnline, Loses, LosesOnFront}
 use Rattle.duel.proofs.Phases.{jobs_from, path, plan, reward, first_of, end_of, AreTraps}
 use Rattle.duel.proofs.Served.{Numbered, OnlyThis, only_one, parts}
@@ -18,7 +18,7 @@ use Rattle.duel.proofs.Fronts.{Leaves, leaves_from, known_numbered, path_known, 
 use Rattle.duel.proofs.Judging.{judge_all, reward_least}
 use Rattle.duel.proofs.Planning.{plan_worth}
 use Rattle.duel.proofs.Plain.{order, plain_whole, plain_front, known_before}
-use Rattle.duel.proofs.Ends.{link, first_work, ends, stays, works, cheap}
+use Rattle.duel.proofs.Ends.{IsLast, link, first_work, ends, stays, works, cheap}
 use Rattle.dover_model.proofs.ValidParts.{valid_parts}
 use Rattle.dover_model.proofs.JobLimits.{ratio_limits}
 

@@ -5,7 +5,7 @@ use Rattle.std.proofs.lemmas.Nat.{mul-le}
 use Rattle.std.proofs.Math.Nat.{mul-div-le, lt-mul-div-succ}
 use Rattle.dover_model.specs.Fraction.{Fraction}
 use Rattle.dover_model.proofs.Calculus.{cancel}
-use Rattle.duel.specs.Links.{IsTooMuch, next_link, staying, leaving, IsLast}
+use Rattle.duel.specs.Links.{IsTooMuch, next_link, staying, leaving}
 use Rattle.duel.proofs.Rising.{rises, modest}
 
 -- the link of a number
@@ -16,6 +16,10 @@ link k a b first (suc n) = next_link k a b (link k a b first n)
 -- a work from which on rounding doesn't matter
 abbrev pub first_work : Fraction → ℕ → ℕ
 first_work k b = 32 * (b * b) * (k.p * k.p) + 1
+
+-- staying with this link is a loss without a further one
+abbrev pub IsLast : Fraction → (whole part : ℕ) → ℕ × ℕ → Type 0
+IsLast k whole part l = staying k whole l < leaving k part l
 
 -- each link has some work
 pub works : (k : Fraction) (a b first n : ℕ) → 1 ≤ first → 1 ≤ (link k a b first n).1

@@ -20,7 +20,3 @@ staying k whole l = whole * (k.q * l.1)
 -- so many times what the small jobs before a link and the link itself are worth
 abbrev pub leaving : Fraction → ℕ → ℕ × ℕ → ℕ
 leaving k part l = part * (k.p * l.0 + k.q * l.1)
-
--- staying with this link is a loss without a further one
-abbrev pub IsLast : Fraction → (whole part : ℕ) → ℕ × ℕ → Type 0
-IsLast k whole part l = staying k whole l < leaving k part l
