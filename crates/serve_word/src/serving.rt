@@ -67,6 +67,10 @@ impl<L: Ledger> Talker for Serving<L> {
         Lane::laws();
     }
 
+    fn goes_on(&self, _meter: &Steps<L>) -> bool {
+        self.feed.lane().goes_on()
+    }
+
     #[inline(always)]
     fn take(&mut self, _meter: &mut Steps<L>, piece: &[u8]) -> Result<usize, Memory> {
         Lane::laws();
@@ -82,10 +86,6 @@ impl<L: Ledger> Talker for Serving<L> {
             }
             None => false,
         }
-    }
-
-    fn goes_on(&self, _meter: &Steps<L>) -> bool {
-        self.feed.lane().goes_on()
     }
 
     fn answer<P: Port>(
