@@ -1,6 +1,6 @@
 //! Values against the root of the importance ratio.
-ghost use Rattle.std.specs.Prelude.{◌≡◌, ◌≤◌, ◌<◌, ◌*◌, ◌^◌, ◌↔◌, IsTrue};
-ghost use Rattle.dover_model.specs.Orders.{IsHeavy, is_heavy};
+ghost use Rattle.std.specs.Prelude.{◌≡◌, ◌≤◌, ◌<◌, ◌*◌, ◌^◌};
+ghost use Rattle.dover_model.specs.Orders.{is_heavy};
 ghost use Rattle.dover_model.specs.Bound.{is_within, bound};
 ghost use Rattle.dover_model.specs.Greatest.{IsGreatest};
 ghost use Rattle.dover_model.specs.Limits.{most_value};
@@ -11,8 +11,7 @@ use dover_model::Ratio;
 /// Whether the value `v` is more than `1 + √(p/q)` times the value `w`. `v` is at most 10^9.
 pub fn heavy(v: u64, w: u64, k: Ratio) -> bool
     requires value { v ≤ most_value }
-    ensures fact { IsTrue result ↔ IsHeavy k v w }
-    ensures test { result ≡ is_heavy k v w }
+    ensures { result ≡ is_heavy k v w }
 {
     if v <= w {
         return false;
