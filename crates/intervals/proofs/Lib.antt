@@ -7,3 +7,4 @@ pub mod Takes
 pub mod Reading
 pub mod Charges
 pub mod Weighed
+pub mod Counted

@@ -9,6 +9,7 @@ use Rattle.dover_model.specs.Run.{Step, event_of, printed, run}
 use Rattle.dover_model.specs.State.{privileged, value_sum}
 use Rattle.dover_model.specs.Intervals as model
 use Rattle.intervals.specs.declared.interval.Interval.{Interval}
+use Rattle.intervals.specs.declared.totals.JobTotals.{JobTotals}
 
 -- the six numbers of an interval
 abbrev pub numbers_of : model.Interval → Interval
@@ -41,7 +42,8 @@ pub record IsRunOf (k : Fraction) (run : List Event) (J : Instance) : Type 0 whe
   pub ratio : J.rules.ratio ≡ k
   pub prints : printed J ≡ run
 
--- rows, and the value that is completed
+-- rows, the value that is completed, and what the steps tell of the jobs
 pub record Charged : Type 0 where
   pub rows : List Interval
   pub value : ℕ
+  pub totals : JobTotals

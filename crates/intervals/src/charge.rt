@@ -12,18 +12,21 @@ ghost use Rattle.dover_model.specs.JobFacts.{JobFacts};
 ghost use Rattle.dover_model.specs.Orders.{IsHeavy};
 ghost use Rattle.dover_model.specs.Sound.{Each};
 ghost use Rattle.intervals.specs.Rows.{IsRunOf, numbers_of, rows_of};
+ghost use Rattle.intervals.specs.Totals.{totals_of};
 
 use crate::interval::Interval;
 use crate::ledger::Ledger;
+use crate::totals::JobTotals;
 use dover_model::{Memory, PackedEvent, Ratio};
 use std::alloc::Global;
 use std::marker::Model;
 
-/// The intervals of a run, and the value that the run completes.
+/// The intervals of a run, the value that the run completes, and what its steps tell of its jobs.
 #[derive(Drop)]
 pub struct Charge {
     rows: Vec<Interval>,
     value: u64,
+    totals: JobTotals,
 }
 
 impl Model for Charge {
@@ -31,7 +34,7 @@ impl Model for Charge {
 
     ghost Value = { Charged };
 
-    ghost view = { λ c. record { rows = c.rows.items; value = c.value } };
+    ghost view = { λ c. record { rows = c.rows.items; value = c.value; totals = c.totals } };
 }
 
 impl Charge {
@@ -58,13 +61,20 @@ impl Charge {
         ensures completed { IfOk result (λ c. sum_by (λ i. i.regular + i.taken) c.rows ≡ c.value) }
         ensures abandoned { (J : Instance) → IsRunOf k run.now J →
             IfOk result (λ c. c.value + sum_by (λ i. i.abandoned) c.rows ≡ total_value J.jobs) }
+        ensures totals { IfOk result (λ c. c.totals ≡ totals_of run.now) }
     {
         let mut ledger = Ledger::new(alloc);
+        let mut totals = JobTotals::new();
         for event in run {
+            totals.add(event);
             ledger.read(event)?;
         }
         let (rows, value) = ledger.into_parts();
-        Ok(Charge { rows, value })
+        Ok(Charge {
+            rows,
+            value,
+            totals,
+        })
     }
 
     /// The intervals in the order of their ticks.
@@ -79,5 +89,12 @@ impl Charge {
         ensures { result ≡ self.now.value }
     {
         self.value
+    }
+
+    /// What the steps tell of the jobs of the run.
+    pub fn totals(&self) -> JobTotals
+        ensures { result ≡ self.now.totals }
+    {
+        self.totals
     }
 }

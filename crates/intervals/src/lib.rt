@@ -4,8 +4,10 @@
 mod charge;
 mod interval;
 mod ledger;
+mod totals;
 mod weighing;
 
 pub use charge::Charge;
 pub use interval::Interval;
+pub use totals::JobTotals;
 pub use weighing::weights;

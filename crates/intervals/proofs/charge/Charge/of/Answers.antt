@@ -1,8 +1,12 @@
-use Rattle.std.proofs.Common.{◌≡◌, ◌+◌, drop, arith, subst, sym, ◌∙◌}
+use Rattle.std.proofs.Common.{◌≡◌, ◌+◌, drop, arith, subst, sym, ap, ◌∙◌}
+use Rattle.std.proofs.lemmas.List.{take_all}
 use Rattle.dover_model.specs.Instance.{Instance}
 use Rattle.dover_model.specs.Run.{completed_value}
 use Rattle.intervals.specs.Pages.{Page, blank}
 use Rattle.intervals.specs.Rows.{IsRunOf, rows_of}
+use Rattle.intervals.specs.Totals.{totals_of}
+use Rattle.intervals.specs.declared.totals.JobTotals.{JobTotals}
+use Rattle.intervals.proofs.Counted.{totals_fit, totals_on}
 use Rattle.intervals.proofs.Reading.{Reads, reads_next, none_read}
 use Rattle.intervals.proofs.Charges.{item_next, charged, rows_bound, rows_observed, rows_honest, rows_ordered}
 use Rattle.intervals.proofs.Charges.{rows_displaced, rows_paid, rows_light}
@@ -10,24 +14,42 @@ use Rattle.intervals.proofs.Charges.{rows_completed, rows_abandoned}
 use Rattle.intervals.proofs.charge.Charge.of.Goals as goal
 
 pub loop-event-init : goal.loop-event-init
-loop-event-init c J of = subst (λ (l : Page). Reads J l c.args.run.now) (sym c.new-ledger.ensures)
-    (subst (Reads J blank) of.prints (none_read J of.valid of.listable))
+loop-event-init c = record {
+  reads = λ J of. subst (λ (l : Page). Reads J l c.args.run.now) (sym c.new-ledger.ensures)
+      (subst (Reads J blank) of.prints (none_read J of.valid of.listable));
+  counted = record {
+    is = c.new-totals.ensures;
+    small = omega (arith, ap (λ (t : JobTotals). t.worth) c.new-totals.ensures);
+  };
+}
+
+pub add-requires : goal.add-requires
+add-requires c = totals_fit c.args.run.now c.loop-event.event-index c.loop-event.totals
+    c.loop-event.invariant.counted c.loop-event-test.true (omega arith)
 
 pub read-requires : goal.read-requires
 read-requires c = (reads_next c.requires.0 c.requires.1.valid c.requires.1.listable c.loop-event.ledger
     c.event-item.result (drop (c.loop-event.event-index + 1) c.args.run.now)
     (subst (Reads c.requires.0 c.loop-event.ledger)
     (item_next c.args.run.now c.loop-event.event-index c.event-item.result c.event-item.is c.loop-event-test.true)
-    (c.loop-event.invariant c.requires.0 c.requires.1))).0
+    (c.loop-event.invariant.reads c.requires.0 c.requires.1))).0
 
 pub loop-event-preserved : goal.loop-event-preserved
-loop-event-preserved c J of =
-    subst (λ (l : Page). Reads J l (drop (c.loop-event.event-index + 1) c.args.run.now)) (sym c.in_ok-read.ensures)
-    (reads_next J of.valid of.listable c.loop-event.ledger c.event-item.result
-    (drop (c.loop-event.event-index + 1) c.args.run.now)
-    (subst (Reads J c.loop-event.ledger)
-    (item_next c.args.run.now c.loop-event.event-index c.event-item.result c.event-item.is c.loop-event-test.true)
-    (c.loop-event.invariant J of))).1
+loop-event-preserved c = record {
+  reads = λ J of.
+      subst (λ (l : Page). Reads J l (drop (c.loop-event.event-index + 1) c.args.run.now)) (sym c.in_ok-read.ensures)
+      (reads_next J of.valid of.listable c.loop-event.ledger c.event-item.result
+      (drop (c.loop-event.event-index + 1) c.args.run.now)
+      (subst (Reads J c.loop-event.ledger)
+      (item_next c.args.run.now c.loop-event.event-index c.event-item.result c.event-item.is c.loop-event-test.true)
+      (c.loop-event.invariant.reads J of))).1;
+  counted = totals_on c.args.run.now c.loop-event.event-index c.event-item.result c.loop-event.totals _
+      c.event-item.is c.loop-event-test.true c.loop-event.invariant.counted c.add.ensures.is c.add.ensures.modest;
+}
+
+pub returns-clause-totals : goal.returns-clause-totals
+returns-clause-totals c = c.loop-event.invariant.counted.is
+    ∙ ap totals_of (take_all c.loop-event.event-index c.args.run.now (omega arith))
 
 -- the rows and the value
 done : (c : goal.After-into_parts-rows) (J : Instance) → IsRunOf c.args.k c.args.run.now J
@@ -35,7 +57,7 @@ done : (c : goal.After-into_parts-rows) (J : Instance) → IsRunOf c.args.k c.ar
 done c J of =
     let it : (c.loop-event.ledger.rows ≡ rows_of J) × (c.loop-event.ledger.value ≡ completed_value J) =
     charged c.args.k c.args.run.now J of c.loop-event.ledger c.loop-event.event-index (omega arith)
-    (c.loop-event.invariant J of) in
+    (c.loop-event.invariant.reads J of) in
     (c.into_parts-rows.ensures.rows ∙ it.0, c.into_parts-rows.ensures.value ∙ it.1)
 
 pub returns-clause-rows : goal.returns-clause-rows

@@ -1,9 +1,13 @@
 use Rattle.std.proofs.Common.{drop}
 use Rattle.dover_model.specs.Instance.{Instance}
 use Rattle.intervals.specs.Rows.{IsRunOf}
+use Rattle.intervals.proofs.Counted.{AreTotals}
 use Rattle.intervals.proofs.Reading.{Reads}
 use Rattle.intervals.proofs.charge.Charge.of.Given as goal
 
--- the ledger has read the steps so far
+-- the ledger has read the steps so far, and they are counted
 abbrev pub invariant-loop-event : goal.invariant-loop-event
-invariant-loop-event l = (J : Instance) → IsRunOf l.fn.k l.run J → Reads J l.ledger (drop l.event-index l.run)
+invariant-loop-event l = record {
+  reads : (J : Instance) → IsRunOf l.fn.k l.run J → Reads J l.ledger (drop l.event-index l.run);
+  counted : AreTotals l.totals l.run l.event-index;
+}
