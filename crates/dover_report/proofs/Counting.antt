@@ -1,5 +1,5 @@
 -- Counts among the printed steps of a run are those of its report.
-use Rattle.std.proofs.Common.{◌≡◌, ℕ, ◌+◌, ◌*◌, ◌^◌, ◌≤◌, ◌<◌, List, [], ◌∷◌, ◌++◌, length, map, take, get_or, refl}
+use Rattle.std.proofs.Common.{◌≡◌, ℕ, ◌+◌, ◌*◌, ◌≤◌, ◌<◌, List, [], ◌∷◌, ◌++◌, length, map, take, get_or, refl}
 use Rattle.std.proofs.Common.{sym, ap, ◌∙◌}
 use Rattle.std.proofs.Common.{cond, arith}
 use Rattle.std.proofs.lemmas.List.{length-take, length-take-le}
@@ -7,7 +7,7 @@ use Rattle.std.specs.Prelude.{Option, Some, None, option_to_list, codes, Bool, t
 use Rattle.std.specs.Bool.{then_some}
 use Rattle.std.specs.List.{filter_map, sum_by, count_by, cons_option, enumerate_from}
 use Rattle.std.proofs.lemmas.List.{take_more}
-use Rattle.std.proofs.lemmas.List.Sums.{sum_by-cons, sum_by_more, count_by-le-length}
+use Rattle.std.proofs.lemmas.List.Sums.{sum_by-cons, count_by-le-length}
 use Rattle.std.proofs.lemmas.List.Elements.{filter_map-append}
 use Rattle.std.proofs.lemmas.List.Concat.{flat_map-append}
 use Rattle.dover_model.specs.declared.events.Event.{Event}
@@ -34,16 +34,16 @@ use Rattle.dover_model.proofs.BoundLaws.{intervals_abandon}
 use Rattle.dover_model.proofs.ReleaseCounts.{releases}
 use Rattle.dover_model.proofs.RunSessions.{run_jobs}
 use Rattle.intervals.specs.Rows.{IsRunOf, numbers_of, rows_of}
+use Rattle.intervals.specs.Totals.{is_release, is_completion, is_abandonment, totals_of}
 use Rattle.intervals.specs.declared.interval.Interval.{Interval}
-use Rattle.dover_report.specs.Counts.{job_released, jobs_released, is_release, is_completion, is_abandonment}
-use Rattle.dover_report.specs.Counts.{value_in, value_lost, value_released, all_lost}
+use Rattle.intervals.specs.declared.totals.JobTotals.{JobTotals}
+use Rattle.intervals.proofs.Counted.{sum_more}
+use Rattle.dover_report.specs.Counts.{job_released, jobs_released, value_in, value_lost, all_lost}
 use Rattle.dover_report.specs.Counts.{counts_of, fates_lines, bound_line, counts_lines}
 use Rattle.dover_report.specs.Early.{left_in, left_at, early_of, with_left, HasRoom, early_line, lines_where}
 use Rattle.dover_report.specs.Early.{early_lines}
 use Rattle.dover_report.specs.declared.early.Early.{Early}
 use Rattle.dover_report.proofs.Texts.{five_parts}
-use Rattle.dover_report.specs.Tallies.{tally_of, with_tally, HasSpace}
-use Rattle.dover_report.specs.declared.counts.Tally.{Tally}
 use Rattle.dover_report.specs.declared.counts.Counts.{Counts}
 use Rattle.dover_report.specs.Lines.{row_line, row_lines}
 
@@ -174,55 +174,21 @@ losses jobs (Abandon at n ∷ run) = omega (
 )
 losses jobs (End value ∷ run) = omega (arith, sum_by-cons (value_lost jobs) (End value) run, losses jobs run)
 
--- a sum with one step more
-pub sum_more : (f : Event → ℕ) (run : List Event) (i : ℕ) (e : Event) → e ≡ get_or run i e → i < length run
-    → sum_by f (take i run) + f e ≡ sum_by f (take (i + 1) run)
-sum_more f run i e is there = sym (sum_by_more f run i e there ∙ ap (λ x. sum_by f (take i run) + f x) (sym is))
-
--- what the steps tell with one more
-pub tally_more : (run : List Event) (i : ℕ) (e : Event) → e ≡ get_or run i e → i < length run
-    → with_tally (tally_of (take i run)) e ≡ tally_of (take (i + 1) run)
-tally_more run i e is there = same_tally (more (λ x. cond (is_release x) 1 0)) (more value_released)
-    (more (λ x. cond (is_completion x) 1 0)) (more (λ x. cond (is_abandonment x) 1 0))
-    (more (λ x. cond (is_take x) 1 0)) where
-      whole : (a b c d f : ℕ) → Tally
-      whole a b c d f = record { jobs = a; worth = b; completed = c; abandoned = d; taken = f }
-
-      same_tally : {a b c d f a2 b2 c2 d2 f2 : ℕ} → a ≡ a2 → b ≡ b2 → c ≡ c2 → d ≡ d2 → f ≡ f2
-          → whole a b c d f ≡ whole a2 b2 c2 d2 f2
-      same_tally e1 e2 e3 e4 e5 = cc
-
-      more : (f : Event → ℕ) → sum_by f (take i run) + f e ≡ sum_by f (take (i + 1) run)
-      more f = sum_more f run i e is there
-
--- there is room for one step more
-pub tally_fits : (run : List Event) (i : ℕ) (t : Tally) → t ≡ tally_of (take i run) → t.worth ≤ 1_000_000_000 * i
-    → i < length run → length run < 2 ^ 64 → HasSpace t
-tally_fits run i t is low there few = record {
-  jobs = omega (arith, ap (λ (g : Tally). g.jobs) is, front, count_by-le-length is_release (take i run));
-  worth = omega (arith, low, there, few);
-  completed = omega (arith, ap (λ (g : Tally). g.completed) is, front, count_by-le-length is_completion (take i run));
-  abandoned = omega (arith, ap (λ (g : Tally). g.abandoned) is, front, count_by-le-length is_abandonment (take i run));
-  taken = omega (arith, ap (λ (g : Tally). g.taken) is, front, count_by-le-length is_take (take i run));
-} where
-  front : length (take i run) + 1 < 2 ^ 64
-  front = omega (arith, length-take i run, there, few)
-
--- what they tell, put together
-pub counts_are : (k : Fraction) (run : List Event) (tally : Tally) (jobs : List JobFacts) (count value lost most : ℕ)
-    → tally ≡ tally_of run → count ≡ length jobs → lost ≡ all_lost jobs run → most ≡ bound k value
+-- what the steps tell, put together
+pub counts_are : (k : Fraction) (run : List Event) (totals : JobTotals) (jobs : List JobFacts)
+    (count value lost most : ℕ) → totals ≡ totals_of run → count ≡ length jobs → lost ≡ all_lost jobs run → most ≡ bound k value
     → record {
       jobs = count;
-      completed = tally.completed;
+      completed = totals.completed;
       value = value;
-      abandoned = tally.abandoned;
+      abandoned = totals.abandoned;
       lost = lost;
-      taken = tally.taken;
+      taken = totals.taken;
       bound = most;
     } ≡ counts_of k run jobs value
-counts_are k run tally jobs count value lost most is counted all bounds =
-    same_counts counted (ap (λ (t : Tally). t.completed) is) (ap (λ (t : Tally). t.abandoned) is) all
-    (ap (λ (t : Tally). t.taken) is) bounds where
+counts_are k run totals jobs count value lost most is counted all bounds =
+    same_counts counted (ap (λ (t : JobTotals). t.completed) is) (ap (λ (t : JobTotals). t.abandoned) is) all
+    (ap (λ (t : JobTotals). t.taken) is) bounds where
       whole : (a b c d f g : ℕ) → Counts
       whole a b c d f g = record {
         jobs = a;

@@ -9,9 +9,9 @@ use Rattle.dover_model.specs.Instance.{Instance, IsListable, IsValid, total_valu
 use Rattle.dover_model.specs.Limits.{most_jobs, most_total}
 use Rattle.dover_model.specs.JobFacts.{JobFacts}
 use Rattle.dover_model.specs.Run.{printed, completed_value}
-use Rattle.dover_report.specs.Counts.{job_released, jobs_released, value_released, all_lost}
-use Rattle.dover_report.specs.Tallies.{tally_of}
-use Rattle.dover_report.specs.declared.counts.Tally.{Tally}
+use Rattle.intervals.specs.Totals.{value_released, totals_of}
+use Rattle.intervals.specs.declared.totals.JobTotals.{JobTotals}
+use Rattle.dover_report.specs.Counts.{job_released, jobs_released, all_lost}
 use Rattle.dover_report.proofs.Counting.{releases_count, run_releases}
 use Rattle.dover_report.proofs.Losses.{lost_rest}
 
@@ -31,22 +31,22 @@ released_total (e ∷ run) = sum_by-cons value_released e run
       by_step (End value) jobs = omega arith
 
 -- these are the sizes of the run's jobs
-module _ (J : Instance) (valid : IsValid J) (run : List Event) (prints : printed J ≡ run) (tally : Tally)
-    (is : tally ≡ tally_of run) where
-  counted : tally.jobs ≡ length J.jobs
-  counted = ap (λ (t : Tally). t.jobs) is ∙ releases_count run ∙ ap length (run_releases J valid run prints)
+module _ (J : Instance) (valid : IsValid J) (run : List Event) (prints : printed J ≡ run) (totals : JobTotals)
+    (is : totals ≡ totals_of run) where
+  counted : totals.jobs ≡ length J.jobs
+  counted = ap (λ (t : JobTotals). t.jobs) is ∙ releases_count run ∙ ap length (run_releases J valid run prints)
 
-  summed : tally.worth ≡ total_value J.jobs
-  summed = ap (λ (t : Tally). t.worth) is ∙ released_total run ∙ ap total_value (run_releases J valid run prints)
+  summed : totals.worth ≡ total_value J.jobs
+  summed = ap (λ (t : JobTotals). t.worth) is ∙ released_total run ∙ ap total_value (run_releases J valid run prints)
 
-  pub listable_by : (tally.jobs ≤ most_jobs Two) × (tally.worth ≤ most_total Two) → IsListable J
+  pub listable_by : (totals.jobs ≤ most_jobs Two) × (totals.worth ≤ most_total Two) → IsListable J
   listable_by fits = record { count = omega (arith, fits.0, counted); total = omega (arith, fits.1, summed) }
 
-  pub sizes_fit : IsListable J → (tally.jobs ≤ most_jobs Two) × (tally.worth ≤ most_total Two)
+  pub sizes_fit : IsListable J → (totals.jobs ≤ most_jobs Two) × (totals.worth ≤ most_total Two)
   sizes_fit listable = (omega (arith, listable.count, counted), omega (arith, listable.total, summed))
 
   -- what they are worth is completed or lost
-  pub worth_is : tally.worth ≡ completed_value J + all_lost (jobs_released run) run
+  pub worth_is : totals.worth ≡ completed_value J + all_lost (jobs_released run) run
   worth_is = summed ∙ sym (lost_rest J valid)
       ∙ ap (λ es. completed_value J + all_lost J.jobs es) prints
       ∙ ap (λ js. completed_value J + all_lost js run) (sym (run_releases J valid run prints))

@@ -1,18 +1,15 @@
 -- The table of a run, put together row by row.
 use Rattle.std.proofs.Common.{◌≡◌, ℕ, zero, suc, ◌+◌, ◌-◌, ◌≤◌, ◌<◌, List, [], ◌∷◌, ◌++◌, length, map, take, drop, set}
 use Rattle.std.proofs.Common.{refl, sym, ap, ◌∙◌, Bool, true, false, cond, arith, get_or, replicate}
-use Rattle.std.proofs.Common.{append_assoc, append-nil, length-append, length-set}
-use Rattle.std.specs.Prelude.{Option, Some, None, ◌==◌, nat_lt, option_to_list, codes, decimal, slice_index_or}
+use Rattle.std.proofs.Common.{append-nil, length-set}
+use Rattle.std.specs.Prelude.{Option, Some, None, ◌==◌, nat_lt, codes, decimal, slice_index_or}
 use Rattle.std.specs.List.{filter_map, find, enumerate_from, join_with_byte}
 use Rattle.std.specs.Option.{option_map}
 use Rattle.std.proofs.lemmas.Bool.{eqb-true, eqb-false, lt-ltb}
-use Rattle.std.proofs.lemmas.List.{length-take-le, get_or-set_same, get_or-set_other, length-replicate}
+use Rattle.std.proofs.lemmas.List.{get_or-set_same, get_or-set_other, length-replicate}
 use Rattle.std.proofs.lemmas.List.{get_or-replicate}
-use Rattle.std.proofs.lemmas.List.{drop_all, take-append-drop}
+use Rattle.std.proofs.lemmas.List.{drop_all}
 use Rattle.std.proofs.Math.Seq.{take-append_seam}
-use Rattle.std.proofs.lemmas.List.Concat.{flat_map-append}
-use Rattle.std.proofs.lemmas.List.Elements.{filter_map-append}
-use Rattle.std.proofs.lemmas.List.Sums.{count_by-le-length}
 use Rattle.dover_model.specs.declared.events.Event.{Event}
 use Rattle.dover_model.specs.declared.events.Event.TheVariants.{Release, Run, Preempt, Take, Complete, Abandon, End}
 use Rattle.dover_model.specs.Fraction.{Fraction}
@@ -27,11 +24,17 @@ use Rattle.intervals.specs.Rows.{IsRunOf}
 use Rattle.intervals.proofs.Charges.{item_next}
 use Rattle.dover_report.specs.declared.endings.Ending.{Ending}
 use Rattle.dover_report.specs.declared.endings.Ending.TheVariants.{Completed, Abandoned}
-use Rattle.dover_report.specs.Counts.{job_released, jobs_released, is_release}
+use Rattle.dover_report.specs.Counts.{jobs_released}
 use Rattle.dover_report.specs.Rows.{ending_of, ending_in, ending_by, ending_at, ending_fields, after_commas, row_text}
-use Rattle.dover_report.specs.Rows.{rows_from, released_rows, with_place, with_step, CanRelease, had_fields, names_line}
+use Rattle.dover_report.specs.Rows.{with_place, with_step, had_fields, names_line}
+use Rattle.dover_report.specs.Rows.{rows_of_steps, rows_left, FindsNext}
 use Rattle.dover_report.specs.Early.{had_at}
-use Rattle.dover_report.proofs.Counting.{jobs_are, released_more, releases_count}
+use Rattle.dover_report.proofs.Counting.{jobs_are}
+
+-- the rows of jobs from number n on, with how they ended in these steps and what each had
+abbrev rows_from : List Event → (ℕ → Option ℕ) → ℕ → List JobFacts → List (List ℕ)
+rows_from run had n jobs =
+    map (λ n_j. row_text n_j.0 n_j.1 (ending_in run n_j.0) (had n_j.0)) (enumerate_from n jobs)
 
 -- fields that are joined by commas
 joined_fields : (first : List ℕ) (fields : List (List ℕ))
@@ -100,75 +103,74 @@ module _ (k : Fraction) (run : List Event) (J : Instance) (of : IsRunOf k run J)
       ∙ ap (λ rs. names_line early ++ in_lines rs) (rows_are 0 J.jobs)
       ∙ names_are (map (model.table_row J) (enumerate_from 0 J.jobs))
 
--- one row more
-row_snoc : (run : List Event) (had : ℕ → Option ℕ) (n : ℕ) (jobs : List JobFacts) (j : JobFacts)
-    → rows_from run had n (jobs ++ j ∷ []) ≡ rows_from run had n jobs ++ row_text (n + length jobs) j
-    (ending_in run (n + length jobs)) (had (n + length jobs)) ∷ []
-row_snoc run had n [] j = ap (λ m. row_text m j (ending_in run m) (had m) ∷ []) (omega arith)
-row_snoc run had n (x ∷ jobs) j =
-    let same : n + 1 + length jobs ≡ n + length (x ∷ jobs) = omega arith in
-    ap (λ rs. row_text n x (ending_in run n) (had n) ∷ rs) (row_snoc run had (n + 1) jobs j
-    ∙ ap (λ m. rows_from run had (n + 1) jobs ++ row_text m j (ending_in run m) (had m) ∷ []) same)
+-- the rows of steps are those of the jobs that they release, where each ended so
+same_rows : (run : List Event) (ending : ℕ → Option Ending) (had : ℕ → Option ℕ) (n : ℕ) (es : List Event)
+    → ((m : ℕ) → m < n + length (jobs_released es) → ending m ≡ ending_in run m)
+    → rows_of_steps ending had n es ≡ rows_from run had n (jobs_released es)
+same_rows run ending had n [] each = refl
+same_rows run ending had n (Release m j ∷ es) each =
+    ap (λ o. row_text n j o (had n) ∷ rows_of_steps ending had (n + 1) es) (each n (omega arith))
+    ∙ ap (λ rs. row_text n j (ending_in run n) (had n) ∷ rs)
+    (same_rows run ending had (n + 1) es (λ k low. each k (omega (arith, low))))
+same_rows run ending had n (Run at m ∷ es) each = same_rows run ending had n es each
+same_rows run ending had n (Preempt at r m ∷ es) each = same_rows run ending had n es each
+same_rows run ending had n (Take at r m ∷ es) each = same_rows run ending had n es each
+same_rows run ending had n (Complete at m ∷ es) each = same_rows run ending had n es each
+same_rows run ending had n (Abandon at m ∷ es) each = same_rows run ending had n es each
+same_rows run ending had n (End value ∷ es) each = same_rows run ending had n es each
 
--- a step that releases none
-no_row : (run : List Event) (had : ℕ → Option ℕ) (jobs : List JobFacts) (text : List ℕ)
-    → (text ++ in_lines (rows_from run had 0 jobs)) ++ [] ≡ text ++ in_lines (rows_from run had 0 (jobs ++ []))
-no_row run had jobs text = append-nil (text ++ in_lines (rows_from run had 0 jobs))
-    ∙ ap (λ js. text ++ in_lines (rows_from run had 0 js)) (sym (append-nil jobs))
+-- all rows behind the names are the table
+pub whole_table : (k : Fraction) (run : List Event) (J : Instance) (of : IsRunOf k run J) (early : Bool)
+    (hads places : List ℕ) → early ≡ may_finish_early J.rules.version → (early ≡ true → hads ≡ model_hads J)
+    → ((n : ℕ) → n < length (jobs_released run) → ending_at run (slice_index_or places n 0) ≡ ending_in run n)
+    → (rows_left run early hads places 0 0).names ++ in_lines (rows_left run early hads places 0 0).rows ≡ model.table J
+whole_table k run J of early hads places is_early are each =
+    ap (λ rs. names_line early ++ in_lines rs)
+    (same_rows run (λ n. ending_at run (slice_index_or places n 0)) (had_at early hads) 0 run
+    (λ n low. each n (omega (arith, low))))
+    ∙ table_is k run J of early hads is_early are (jobs_released run) refl
 
--- one step more
-released_row : (run : List Event) (had : ℕ → Option ℕ) (jobs : List JobFacts) (text : List ℕ) (e : Event)
-    → (text ++ in_lines (rows_from run had 0 jobs)) ++ in_lines (released_rows run had (length jobs) e)
-    ≡ text ++ in_lines (rows_from run had 0 (jobs ++ option_to_list (job_released e)))
-released_row run had jobs text (Release m j) =
-    let number : 0 + length jobs ≡ length jobs = omega arith in
-    append_assoc text (in_lines (rows_from run had 0 jobs))
-    (in_lines (row_text (length jobs) j (ending_in run (length jobs)) (had (length jobs)) ∷ []))
-    ∙ ap (λ x. text ++ x) (sym (flat_map-append (λ (l : List ℕ). l ++ 10 ∷ []) (rows_from run had 0 jobs)
-    (row_text (length jobs) j (ending_in run (length jobs)) (had (length jobs)) ∷ []))
-    ∙ ap (λ m. in_lines (rows_from run had 0 jobs ++ row_text m j (ending_in run m) (had m) ∷ [])) (sym number)
-    ∙ ap in_lines (sym (row_snoc run had 0 jobs j)))
-released_row run had jobs text (Run at n) = no_row run had jobs text
-released_row run had jobs text (Preempt at r n) = no_row run had jobs text
-released_row run had jobs text (Take at r n) = no_row run had jobs text
-released_row run had jobs text (Complete at n) = no_row run had jobs text
-released_row run had jobs text (Abandon at n) = no_row run had jobs text
-released_row run had jobs text (End value) = no_row run had jobs text
+-- ---- the next release
 
--- a row of what one job had is that of what each had
-pub same_released : (run : List Event) (had : ℕ → Option ℕ) (n : ℕ) (one : Option ℕ) (e : Event) → one ≡ had n
-    → released_rows run (λ m. one) n e ≡ released_rows run had n e
-same_released run had n one (Release m j) same = ap (λ o. row_text n j (ending_in run n) o ∷ []) same
-same_released run had n one (Run at m) same = refl
-same_released run had n one (Preempt at r m) same = refl
-same_released run had n one (Take at r m) same = refl
-same_released run had n one (Complete at m) same = refl
-same_released run had n one (Abandon at m) same = refl
-same_released run had n one (End value) same = refl
+-- the same rows are left behind so many steps as behind others
+pub record LeaveSame (run : List Event) (a b : ℕ) : Type 0 where
+  pub same : (ending : ℕ → Option Ending) (had : ℕ → Option ℕ) (n : ℕ)
+      → rows_of_steps ending had n (drop a run) ≡ rows_of_steps ending had n (drop b run)
 
-pub row_more : (run : List Event) (had : ℕ → Option ℕ) (i : ℕ) (e : Event) (number : ℕ) (text line : List ℕ)
-    → e ≡ get_or run i e → i < length run → number ≡ length (jobs_released (take i run))
-    → line ≡ text ++ in_lines (rows_from run had 0 (jobs_released (take i run)))
-    → line ++ in_lines (released_rows run had number e)
-    ≡ text ++ in_lines (rows_from run had 0 (jobs_released (take (i + 1) run)))
-row_more run had i e number text line is there count before =
-    ap (λ x. x ++ in_lines (released_rows run had number e)) before
-    ∙ ap (λ n. (text ++ in_lines (rows_from run had 0 (jobs_released (take i run))))
-    ++ in_lines (released_rows run had n e)) count
-    ∙ released_row run had (jobs_released (take i run)) text e
-    ∙ ap (λ js. text ++ in_lines (rows_from run had 0 js))
-    (released_more run i e (jobs_released (take i run)) is there refl)
+-- a step that releases none leaves the same rows
+pub passed : (run : List Event) (a i : ℕ) (e : Event) → e ≡ get_or run i e → i < length run
+    → ((m : ℕ) (j : JobFacts) → e ≡ Release m j → ⊥) → LeaveSame run a i → LeaveSame run a (i + 1)
+passed run a i e is there none before = record {
+  same = λ ending had n. before.same ending had n
+      ∙ ap (rows_of_steps ending had n) (item_next run i e is there)
+      ∙ by_event e none ending had n (drop (i + 1) run);
+} where
+  by_event : (x : Event) → ((m : ℕ) (j : JobFacts) → x ≡ Release m j → ⊥)
+      → (ending : ℕ → Option Ending) (had : ℕ → Option ℕ) (n : ℕ) (es : List Event)
+      → rows_of_steps ending had n (x ∷ es) ≡ rows_of_steps ending had n es
+  by_event (Release m j) none ending had n es = absurd (none m j refl)
+  by_event (Run at m) none ending had n es = refl
+  by_event (Preempt at r m) none ending had n es = refl
+  by_event (Take at r m) none ending had n es = refl
+  by_event (Complete at m) none ending had n es = refl
+  by_event (Abandon at m) none ending had n es = refl
+  by_event (End value) none ending had n es = refl
 
--- as many jobs more as the step releases
-pub number_more : (run : List Event) (i : ℕ) (e : Event) (number : ℕ) → e ≡ get_or run i e → i < length run
-    → number ≡ length (jobs_released (take i run))
-    → number + length (option_to_list (job_released e)) ≡ length (jobs_released (take (i + 1) run))
-number_more run i e number is there count = omega (
-  arith,
-  count,
-  length-append (jobs_released (take i run)) (option_to_list (job_released e)),
-  ap length (released_more run i e (jobs_released (take i run)) is there refl),
+-- a release is found
+pub found : (run : List Event) (next i : ℕ) (e : Event) (m : ℕ) (job : JobFacts) → next ≤ i → e ≡ get_or run i e
+    → i < length run → e ≡ Release m job → LeaveSame run next i → FindsNext run next (Some (i + 1, job))
+found run next i e m job low is there releases before = (
+  omega arith,
+  omega arith,
+  λ ending had n. before.same ending had n
+      ∙ ap (rows_of_steps ending had n) (item_next run i e is there)
+      ∙ ap (λ x. rows_of_steps ending had n (x ∷ drop (i + 1) run)) releases,
 )
+
+-- none is left
+pub none_found : (run : List Event) (next i : ℕ) → length run ≤ i → LeaveSame run next i → FindsNext run next None
+none_found run next i past before = λ ending had n. before.same ending had n
+    ∙ ap (rows_of_steps ending had n) (drop_all i run past)
 
 -- ---- the places of the endings
 
@@ -295,34 +297,3 @@ none_there run before places len count past empty none are behind = (
   same : places ≡ replicate count past
   same = are ∙ ap (λ b. b ++ replicate (count - len) past) (no_front count before empty)
       ∙ ap (λ m. replicate m past) all
-
--- a front releases no more jobs
-released_front : (run : List Event) (i : ℕ) → length (jobs_released (take i run)) ≤ length (jobs_released run)
-released_front run i = omega (
-  arith,
-  ap length (filter_map-append job_released (take i run) (drop i run)),
-  length-append (jobs_released (take i run)) (jobs_released (drop i run)),
-  ap (λ es. length (jobs_released es)) (take-append-drop i run),
-)
-
--- nor more than there are steps
-released_few : (run : List Event) → length (jobs_released run) ≤ length run
-released_few run = omega (arith, releases_count run, count_by-le-length is_release run)
-
--- where a job is released, its ending stands at its place
-pub can_release : (run : List Event) (places : List ℕ) (i number : ℕ) (e : Event) → e ≡ get_or run i e → i < length run
-    → length run ≤ 5_000_001
-    → number ≡ length (jobs_released (take i run)) → length places ≡ length (jobs_released run)
-    → ((n : ℕ) → n < length (jobs_released run) → ending_at run (get_or places n 0) ≡ ending_in run n)
-    → CanRelease run places number e
-can_release run places i number (Release m j) is there few count as_many each =
-    let more = number_more run i (Release m j) number is there count in
-    let low : number < length (jobs_released run) = omega (arith, count, more, released_front run (i + 1)) in
-    let front : number ≤ i = omega (arith, count, released_few (take i run), length-take-le i run (omega arith)) in
-    (omega (arith, as_many, low), omega (arith, front), each number low)
-can_release run places i number (Run at m) is there few count as_many each = tt
-can_release run places i number (Preempt at r m) is there few count as_many each = tt
-can_release run places i number (Take at r m) is there few count as_many each = tt
-can_release run places i number (Complete at m) is there few count as_many each = tt
-can_release run places i number (Abandon at m) is there few count as_many each = tt
-can_release run places i number (End value) is there few count as_many each = tt

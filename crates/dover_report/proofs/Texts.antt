@@ -1,32 +1,39 @@
 -- Lines of words and numbers, put together piece by piece.
-use Rattle.std.proofs.Common.{◌≡◌, ℕ, List, [], ◌∷◌, ◌++◌, map, sym, ap, ◌∙◌, append_assoc, append-nil}
+use Rattle.std.proofs.Common.{◌≡◌, ◌≤◌, ◌<◌, ◌^◌, ℕ, List, [], ◌∷◌, ◌++◌, length, sym, ap, ◌∙◌, append_assoc, append-nil}
+use Rattle.std.proofs.Common.{arith}
 use Rattle.std.specs.Prelude.{decimal}
-use Rattle.std.specs.List.{flat_map, join_with_byte}
+use Rattle.std.proofs.lemmas.Fmt.{length-decimal-le}
 use Rattle.std.proofs.lemmas.List.Concat.{flat_map-append}
-use Rattle.dover_model.specs.Lines.{with_numbers, in_lines}
-use Rattle.dover_report.specs.Rows.{after_commas}
+use Rattle.dover_model.specs.JobFacts.{JobFacts, IsJob}
+use Rattle.dover_model.specs.Lines.{in_lines}
+use Rattle.dover_model.proofs.JobLimits.{JobLimits, job_limits}
 
--- the numbers, each behind this byte
-abbrev pub behind : ℕ → List ℕ → List ℕ
-behind byte numbers = flat_map (λ n. byte ∷ decimal n) numbers
+-- a number of 64 bits has at most twenty digits
+pub digits : (n : ℕ) → n < 2 ^ 64 → length (decimal n) ≤ 20
+digits n small = length-decimal-le 20 n (omega arith) (omega arith) small
 
--- a first field and numbers, joined by a byte
-pub joined : (byte : ℕ) (first : List ℕ) (numbers : List ℕ)
-    → join_with_byte byte (first ∷ map decimal numbers) ≡ first ++ behind byte numbers
-joined byte first [] = sym (append-nil first)
-joined byte first (n ∷ numbers) = ap (λ rest. first ++ byte ∷ rest) (joined byte (decimal n) numbers)
+-- how many digits the numbers of a job have at most
+pub record DigitsOf (j : JobFacts) : Type 0 where
+  pub release : length (decimal j.release) ≤ 13
+  pub work : length (decimal j.work) ≤ 13
+  pub deadline : length (decimal j.deadline) ≤ 13
+  pub value : length (decimal j.value) ≤ 10
+
+pub digits_of : (j : JobFacts) → IsJob j → DigitsOf j
+digits_of j is = record {
+  release = length-decimal-le 13 j.release (omega arith) (omega (arith, limits.window, limits.due))
+      (omega (arith, limits.window, limits.due));
+  work = length-decimal-le 13 j.work (omega arith) (omega (arith, limits.window, limits.due))
+      (omega (arith, limits.window, limits.due));
+  deadline = length-decimal-le 13 j.deadline (omega arith) (omega (arith, limits.due)) (omega (arith, limits.due));
+  value = length-decimal-le 10 j.value (omega arith) (omega (arith, limits.modest)) (omega (arith, limits.modest));
+} where
+  limits : JobLimits j
+  limits = job_limits is
 
 -- one line
 pub one_line : (line : List ℕ) → in_lines (line ∷ []) ≡ line ++ 10 ∷ []
 one_line line = append-nil (line ++ 10 ∷ [])
-
--- the line of a word and numbers, put together
-pub line_is : (text word numbers : List ℕ)
-    → ((text ++ word) ++ behind 32 numbers) ++ 10 ∷ [] ≡ text ++ in_lines (with_numbers word numbers ∷ [])
-line_is text word numbers = ap (λ x. x ++ 10 ∷ []) (append_assoc text word (behind 32 numbers))
-    ∙ append_assoc text (word ++ behind 32 numbers) (10 ∷ [])
-    ∙ ap (λ x. text ++ (x ++ 10 ∷ [])) (sym (joined 32 word numbers))
-    ∙ ap (λ x. text ++ x) (sym (one_line (with_numbers word numbers)))
 
 -- y is t with these lines put behind it, one by one
 abbrev pub GrowsByLines : List ℕ → List (List ℕ) → List ℕ → Type 0
@@ -38,22 +45,6 @@ pub lines_are : (t : List ℕ) (ls : List (List ℕ)) (y : List ℕ) → GrowsBy
 lines_are t [] y same = same ∙ sym (append-nil t)
 lines_are t (l ∷ ls) y (x, one, more) = lines_are x ls y more ∙ ap (λ s. s ++ in_lines ls) one
     ∙ append_assoc t (in_lines (l ∷ [])) (in_lines ls) ∙ ap (λ s. t ++ s) (ap (λ s. s ++ in_lines ls) (one_line l))
-
--- fields behind commas, and others behind them
-pub joined_commas : (t : List ℕ) (xs ys : List (List ℕ))
-    → (t ++ after_commas xs) ++ after_commas ys ≡ t ++ after_commas (xs ++ ys)
-joined_commas t xs ys = append_assoc t (after_commas xs) (after_commas ys)
-    ∙ ap (λ s. t ++ s) (sym (flat_map-append (λ field. 44 ∷ field) xs ys))
-
--- the row of a first field and two lists of others, put together
-pub row_is : (t first : List ℕ) (xs ys : List (List ℕ))
-    → (((t ++ first) ++ after_commas xs) ++ after_commas ys) ++ 10 ∷ []
-    ≡ t ++ in_lines ((first ++ after_commas (xs ++ ys)) ∷ [])
-row_is t first xs ys = ap (λ s. s ++ 10 ∷ []) (append_assoc (t ++ first) (after_commas xs) (after_commas ys)
-    ∙ ap (λ s. (t ++ first) ++ s) (sym (flat_map-append (λ field. 44 ∷ field) xs ys))
-    ∙ append_assoc t first (after_commas (xs ++ ys)))
-    ∙ append_assoc t (first ++ after_commas (xs ++ ys)) (10 ∷ [])
-    ∙ ap (λ s. t ++ s) (sym (one_line (first ++ after_commas (xs ++ ys))))
 
 -- lines behind lines
 joined_lines : (a b : List (List ℕ)) → in_lines a ++ in_lines b ≡ in_lines (a ++ b)

@@ -1,14 +1,15 @@
 -- What a report counts among the printed steps.
-use Rattle.std.specs.Prelude.{ℕ, List, [], ◌∷◌, ◌++◌, length, codes, Bool, true, false, Option, Some, None, slice_get}
+use Rattle.std.specs.Prelude.{ℕ, List, [], ◌∷◌, ◌++◌, length, codes, Option, Some, None, slice_get}
 use Rattle.std.specs.List.{filter_map, sum_by, count_by}
 use Rattle.std.specs.Option.{option_map_or}
 use Rattle.dover_model.specs.declared.events.Event.{Event}
-use Rattle.dover_model.specs.declared.events.Event.TheVariants.{Release, Complete, Abandon}
+use Rattle.dover_model.specs.declared.events.Event.TheVariants.{Release, Abandon}
 use Rattle.dover_model.specs.JobFacts.{JobFacts}
 use Rattle.dover_model.specs.Fraction.{Fraction}
 use Rattle.dover_model.specs.Bound.{bound}
 use Rattle.dover_model.specs.Lines.{with_numbers}
 use Rattle.dover_model.specs.Reports.{is_take}
+use Rattle.intervals.specs.Totals.{is_completion, is_abandonment}
 use Rattle.dover_report.specs.declared.counts.Counts.{Counts}
 
 -- the job that a step releases
@@ -19,26 +20,6 @@ job_released _ = None
 -- the jobs that these steps release
 abbrev pub jobs_released : List Event → List JobFacts
 jobs_released run = filter_map job_released run
-
--- a job is released
-abbrev pub is_release : Event → Bool
-is_release (Release n job) = true
-is_release _ = false
-
--- a job is done
-abbrev pub is_completion : Event → Bool
-is_completion (Complete at n) = true
-is_completion _ = false
-
--- a job is gone
-abbrev pub is_abandonment : Event → Bool
-is_abandonment (Abandon at n) = true
-is_abandonment _ = false
-
--- the value of the job that a step releases
-abbrev pub value_released : Event → ℕ
-value_released (Release n job) = job.value
-value_released _ = 0
 
 -- the value of the job of number n
 abbrev pub value_in : List JobFacts → ℕ → ℕ

@@ -1,6 +1,5 @@
 pub mod Counts
 pub mod Early
-pub mod Tallies
 pub mod Findings
 pub mod Lines
 pub mod Rows

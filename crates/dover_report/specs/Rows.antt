@@ -1,14 +1,16 @@
 -- The rows of a table: a job, and how it ended.
-use Rattle.std.specs.Prelude.{◌≡◌, ℕ, ◌+◌, ◌<◌, ◌^◌, List, [], ◌∷◌, ◌++◌, length, map, set, ◌==◌, nat_lt, Bool}
+use Rattle.std.specs.Prelude.{◌≡◌, ℕ, ◌+◌, ◌<◌, ◌≤◌, List, [], ◌∷◌, ◌++◌, length, map, drop, set, ◌==◌, nat_lt}
+use Rattle.std.specs.Prelude.{Bool, true, false}
 use Rattle.std.specs.Prelude.{if◌then◌else◌, slice_get, slice_index_or, Option, Some, None}
 use Rattle.std.specs.Prelude.{codes, decimal}
-use Rattle.std.specs.List.{filter_map, find, enumerate_from, flat_map}
+use Rattle.std.specs.List.{filter_map, find, flat_map}
 use Rattle.std.specs.Option.{option_map, option_map_or}
 use Rattle.dover_model.specs.declared.events.Event.{Event}
-use Rattle.dover_model.specs.declared.events.Event.TheVariants.{Release, Complete, Abandon}
+use Rattle.dover_model.specs.declared.events.Event.TheVariants.{Release, Run, Preempt, Take, Complete, Abandon, End}
 use Rattle.dover_model.specs.JobFacts.{JobFacts, job_numbers}
 use Rattle.dover_model.specs.Reports.{Fate, fate_of_event, number_of}
 use Rattle.dover_model.specs.Reports as model
+use Rattle.dover_report.specs.Early.{had_at}
 use Rattle.dover_report.specs.declared.endings.Ending.{Ending}
 use Rattle.dover_report.specs.declared.endings.Ending.TheVariants.{Completed, Abandoned}
 
@@ -66,18 +68,40 @@ abbrev pub row_text : ℕ → JobFacts → Option Ending → Option ℕ → List
 row_text n j ending had =
     decimal n ++ after_commas (map decimal (job_numbers j) ++ (ending_fields ending ++ had_fields had))
 
--- the rows of jobs from number n on, with how they ended in these steps and what each had
-abbrev pub rows_from : List Event → (ℕ → Option ℕ) → ℕ → List JobFacts → List (List ℕ)
-rows_from run had n jobs =
-    map (λ n_j. row_text n_j.0 n_j.1 (ending_in run n_j.0) (had n_j.0)) (enumerate_from n jobs)
+-- the rows of the jobs that these steps release, from number n on, by how each ended and what it had
+abbrev pub rows_of_steps : (ℕ → Option Ending) → (ℕ → Option ℕ) → ℕ → List Event → List (List ℕ)
+rows_of_steps ending had n [] = []
+rows_of_steps ending had n (Release m j ∷ es) =
+    row_text n j (ending n) (had n) ∷ rows_of_steps ending had (n + 1) es
+rows_of_steps ending had n (Run at m ∷ es) = rows_of_steps ending had n es
+rows_of_steps ending had n (Preempt at r m ∷ es) = rows_of_steps ending had n es
+rows_of_steps ending had n (Take at r m ∷ es) = rows_of_steps ending had n es
+rows_of_steps ending had n (Complete at m ∷ es) = rows_of_steps ending had n es
+rows_of_steps ending had n (Abandon at m ∷ es) = rows_of_steps ending had n es
+rows_of_steps ending had n (End value ∷ es) = rows_of_steps ending had n es
 
--- the row of the job of number n, where the step releases it
-abbrev pub released_rows : List Event → (ℕ → Option ℕ) → ℕ → Event → List (List ℕ)
-released_rows run had n (Release m j) = row_text n j (ending_in run n) (had n) ∷ []
-released_rows run had n _ = []
+-- the row of names with its line feed, and the rows of jobs
+pub record Table : Type 0 where
+  pub names : List ℕ
+  pub rows : List (List ℕ)
 
--- where the step releases the job of number n, its ending stands at its place
-abbrev pub CanRelease : List Event → List ℕ → ℕ → Event → Type 0
-CanRelease run places n (Release m j) = (n < length places) × (n + 1 < 2 ^ 64)
-    × (ending_at run (slice_index_or places n 0) ≡ ending_in run n)
-CanRelease run places n _ = Unit {0}
+-- what is left of a table, where so many steps are behind and release so many jobs
+abbrev pub rows_left : List Event → Bool → List ℕ → List ℕ → (next number : ℕ) → Table
+rows_left run early hads places next number = record {
+  names = names_line early;
+  rows = rows_of_steps (λ n. ending_at run (slice_index_or places n 0)) (had_at early hads) number (drop next run);
+}
+
+-- the next release behind so many steps is of this job, and so many steps are behind after it; or there is none
+abbrev pub FindsNext : List Event → ℕ → Option (ℕ × JobFacts) → Type 0
+FindsNext run next None =
+    (ending : ℕ → Option Ending) (had : ℕ → Option ℕ) (n : ℕ) → rows_of_steps ending had n (drop next run) ≡ []
+FindsNext run next (Some (later, job)) = (next < later) × (later ≤ length run)
+    × ((ending : ℕ → Option Ending) (had : ℕ → Option ℕ) (n : ℕ) → rows_of_steps ending had n (drop next run)
+    ≡ row_text n job (ending n) (had n) ∷ rows_of_steps ending had (n + 1) (drop later run))
+
+-- the first of the rows was given, or there is none
+abbrev pub GivesRow : (old new : Table) → (line : List ℕ) → (given : Bool) → Type 0
+GivesRow old new line true = (new.names ≡ old.names)
+    × ((row : List ℕ) × (line ≡ row ++ 10 ∷ []) × (old.rows ≡ row ∷ new.rows))
+GivesRow old new line false = old.rows ≡ []

@@ -1,15 +1,17 @@
 //! What a report counts among the printed steps of a run.
-ghost use Rattle.std.specs.Prelude.{◌≡◌, ◌≤◌, ◌+◌, ◌++◌, length, count_by, OnOk, IfOk, option_to_list};
+ghost use Rattle.std.specs.Prelude.{◌≡◌, ◌≤◌, ◌++◌, List, length, count_by, OnOk, IfOk, option_to_list};
+ghost use Rattle.dover_model.specs.declared.events.Event.{Event as PrintedStep};
 ghost use Rattle.dover_model.specs.declared.events.Version.TheVariants.{Two};
 ghost use Rattle.dover_model.specs.Instance.{Instance};
 ghost use Rattle.dover_model.specs.Limits.{most_total, most_value};
 ghost use Rattle.dover_model.specs.Run.{completed_value};
 ghost use Rattle.intervals.specs.Rows.{IsRunOf};
-ghost use Rattle.dover_report.specs.Counts.{job_released, jobs_released, is_release, value_in, counts_of};
+ghost use Rattle.intervals.specs.Totals.{is_release, totals_of};
+ghost use Rattle.dover_report.specs.Counts.{job_released, jobs_released, value_in, counts_of};
 ghost use Rattle.dover_report.specs.Counts as counts;
-ghost use Rattle.dover_report.specs.Tallies.{tally_of, with_tally, HasSpace};
 
 use dover_model::{Event, Job, Memory, PackedEvent, Ratio};
+use intervals::{Charge, JobTotals};
 use root_compare::bound;
 use std::alloc::Global;
 
@@ -32,68 +34,20 @@ pub struct Counts {
     pub bound: u64,
 }
 
-/// What a pass over the steps of a run tells of its jobs: how many are released and what those are worth, how many are
-/// done and are gone, and how many took the processor.
-#[derive(Clone, Copy)]
-pub(crate) struct Tally {
-    pub(crate) jobs: u64,
-    pub(crate) worth: u128,
-    completed: u64,
-    abandoned: u64,
-    taken: u64,
-}
-
-impl Tally {
-    /// What these steps tell.
-    pub(crate) fn of(run: &[PackedEvent]) -> Tally
-        ensures { result ≡ tally_of run.now }
-    {
-        let mut tally = Tally {
-            jobs: 0,
-            worth: 0,
-            completed: 0,
-            abandoned: 0,
-            taken: 0,
-        };
-        for event in run {
-            tally.add(event);
-        }
-        tally
-    }
-
-    /// Counts one more step.
-    fn add(&mut self, event: &PackedEvent)
-        requires { HasSpace self.old }
-        ensures is { self.new ≡ with_tally self.old event.now }
-        ensures modest { self.new.worth ≤ self.old.worth + most_value }
-    {
-        match event.event() {
-            Event::Release { job, .. } => {
-                self.jobs += 1;
-                self.worth += u128::from(job.value());
-            }
-            Event::Complete { .. } => self.completed += 1,
-            Event::Abandon { .. } => self.abandoned += 1,
-            Event::Take { .. } => self.taken += 1,
-            _ => {}
-        }
-    }
-}
-
 /// The counts of these steps, which release these jobs and complete this value.
 pub fn count(k: Ratio, run: &[PackedEvent], jobs: &[Job], value: u64) -> Counts
     requires steps { length run.now ≤ 5_000_001 }
     requires total { value ≤ most_total Two }
     ensures { result ≡ counts_of k run.now jobs.now value }
 {
-    let tally = Tally::of(run);
+    let totals = JobTotals::of(run);
     Counts {
         jobs: jobs.len() as u64,
-        completed: tally.completed,
+        completed: totals.completed,
         value,
-        abandoned: tally.abandoned,
+        abandoned: totals.abandoned,
         lost: all_lost(jobs, run),
-        taken: tally.taken,
+        taken: totals.taken,
         bound: bound(value, k),
     }
 }
@@ -121,19 +75,22 @@ fn value_lost(jobs: &[Job], event: &PackedEvent) -> u64
     }
 }
 
-/// The counts of a run of these steps, which completes this value, in one pass over them. What isn't completed is lost.
-pub(crate) fn run_counts(k: Ratio, run: &[PackedEvent], value: u64) -> Counts
-    requires { (J : Instance) × IsRunOf k run.now J × (value ≡ completed_value J) }
-    ensures { result ≡ counts_of k run.now (jobs_released run.now) value }
+/// The counts of a run, by its charge. What isn't completed is lost.
+pub(crate) fn run_counts(k: Ratio, charge: &Charge) -> Counts
+    requires { (run : List PrintedStep) × (J : Instance) × IsRunOf k run J × (charge.now.totals ≡ totals_of run)
+        × (charge.now.value ≡ completed_value J) }
+    ensures { (run : List PrintedStep) (J : Instance) → IsRunOf k run J → charge.now.totals ≡ totals_of run
+        → charge.now.value ≡ completed_value J → result ≡ counts_of k run (jobs_released run) charge.now.value }
 {
-    let tally = Tally::of(run);
+    let totals = charge.totals();
+    let value = charge.value();
     Counts {
-        jobs: tally.jobs,
-        completed: tally.completed,
+        jobs: totals.jobs,
+        completed: totals.completed,
         value,
-        abandoned: tally.abandoned,
-        lost: (tally.worth - u128::from(value)) as u64,
-        taken: tally.taken,
+        abandoned: totals.abandoned,
+        lost: (totals.worth - u128::from(value)) as u64,
+        taken: totals.taken,
         bound: bound(value, k),
     }
 }

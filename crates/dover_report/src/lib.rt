@@ -13,4 +13,4 @@ pub use counts::{Counts, count, released, value_of};
 pub use early::{had_of, left_at, left_of};
 pub use limits::is_listable;
 pub use report::{Findings, summary, text};
-pub use rows::table;
+pub use rows::TableRows;

@@ -5,16 +5,16 @@ ghost use Rattle.dover_model.specs.Instance.{Instance, IsListable, IsValid};
 ghost use Rattle.dover_model.specs.Limits.{most_jobs, most_total};
 ghost use Rattle.dover_model.specs.Run.{printed};
 
-use crate::counts::Tally;
 use dover_model::{PackedEvent, Version};
+use intervals::JobTotals;
 
 /// Whether the jobs of the run that prints these steps are within the limits of version Two, which is what a report
 /// keeps at most. They are valid for some ratio. Takes no memory.
 pub fn is_listable(run: &[PackedEvent]) -> bool
     ensures { (J : Instance) → IsValid J → printed J ≡ run.now → IsTrue result ↔ IsListable J }
 {
-    let tally = Tally::of(run);
-    fits(tally.jobs, tally.worth)
+    let totals = JobTotals::of(run);
+    fits(totals.jobs, totals.worth)
 }
 
 /// Whether so many jobs of so great a sum of values are within the limits of version Two.

@@ -43,7 +43,7 @@ impl Findings {
         let early = version.may_finish_early();
         let it = early_where(alloc, early, run)?;
         let charge = Charge::of(alloc, k, run)?;
-        let counts = run_counts(k, run, charge.value());
+        let counts = run_counts(k, &charge);
         Ok(Findings {
             k,
             early,
@@ -96,7 +96,7 @@ pub fn summary(alloc: Global, k: Ratio, run: &[PackedEvent]) -> Result<Vec<u8>, 
 {
     let charge = Charge::of(alloc, k, run)?;
     let mut text = Vec::new(alloc);
-    put_counts(&mut text, run_counts(k, run, charge.value()))?;
+    put_counts(&mut text, run_counts(k, &charge))?;
     Ok(text)
 }
 

@@ -1,44 +1,98 @@
-//! The table of jobs.
-ghost use Rattle.std.specs.Prelude.{◌≡◌, ◌+◌, ◌++◌, ◌∷◌, [], length, map, OnOk, IfOk, option_to_list, decimal};
+//! The table of jobs, row by row.
+ghost use Rattle.std.specs.Prelude.{◌≡◌, ◌≤◌, ◌+◌, ◌++◌, ◌∷◌, [], length, map, IfOk, decimal, slice_index_or};
 ghost use Rattle.dover_model.specs.Instance.{Instance};
+ghost use Rattle.dover_model.specs.JobFacts.{job_numbers};
 ghost use Rattle.dover_model.specs.Lines.{in_lines};
 ghost use Rattle.dover_model.specs.Fraction.{Fraction};
 ghost use Rattle.dover_model.specs.Reports.{table};
 ghost use Rattle.intervals.specs.Rows.{IsRunOf};
-ghost use Rattle.dover_report.specs.Counts.{job_released};
-ghost use Rattle.dover_report.specs.Rows.{CanRelease, released_rows, after_commas, ending_fields, row_text};
-ghost use Rattle.dover_report.specs.Rows.{had_fields, names_line};
+ghost use Rattle.line_text.specs.Writing.{most_written};
+ghost use Rattle.dover_report.specs.Rows.{after_commas, ending_fields, had_fields, names_line, row_text};
+ghost use Rattle.dover_report.specs.Rows.{FindsNext, GivesRow};
 
 use crate::counts::releases;
 use crate::early::{had_at, hads_where};
 use crate::endings::{Ending, ending_at, endings};
 use dover_model::{Event, Job, Memory, PackedEvent, Version};
-use itoa::Buffer;
+use line_text::BackLine;
 use std::alloc::Global;
+use std::marker::Model;
 
-/// The table of the run of this version that prints these steps: a row of names, and a row for each job, which tells
-/// the ticks that it had where jobs may finish early. The jobs of the run are valid for some ratio, and within the
-/// limits of version Two. Want of memory is the only error.
-pub fn table(alloc: Global, version: Version, run: &[PackedEvent]) -> Result<Vec<u8>, Memory>
-    requires { (k : Fraction) × ((J : Instance) × IsRunOf k run.now J) }
-    ensures { (k : Fraction) (J : Instance) → IsRunOf k run.now J → J.rules.version ≡ version
-        → IfOk result (λ text. text.items ≡ table J) }
-{
-    let early = version.may_finish_early();
-    let hads = hads_where(alloc, early, run)?;
-    let places = endings(alloc, run, releases(run))?;
-    let mut text = Vec::from_slice(alloc, names_line(early))?;
-    let mut number = 0;
-    for event in run {
-        let had = had_at(early, &hads, number);
-        number = put_released(&mut text, run, &places, had, number, event)?;
+/// The table of a run: the row of names, and the rows of its jobs that are not yet given.
+#[derive(Drop)]
+pub struct TableRows {
+    run: Vec<PackedEvent>,
+    early: bool,
+    hads: Vec<u64>,
+    places: Vec<usize>,
+    // How many steps are behind, and how many jobs they release.
+    next: usize,
+    number: usize,
+}
+
+impl Model for TableRows {
+    ghost use Rattle.std.specs.Prelude.{◌≤◌, length};
+    ghost use Rattle.dover_report.specs.Rows.{Table, rows_left};
+
+    ghost Value = { Table };
+
+    ghost view = { λ t. rows_left t.run.items t.early t.hads.items t.places.items t.next t.number };
+
+    ghost invariant = { λ t. (t.number ≤ t.next) × (t.next ≤ length t.run.items) };
+}
+
+impl TableRows {
+    /// All rows of the table of the run of this version that prints these steps. A row tells the ticks that the job had
+    /// where jobs may finish early. The jobs of the run are valid for some ratio, and within the limits of version Two.
+    /// Want of memory is the only error, and no call takes memory after this one.
+    pub fn of(alloc: Global, version: Version, run: Vec<PackedEvent>) -> Result<TableRows, Memory>
+        requires { (k : Fraction) × ((J : Instance) × IsRunOf k run.items J) }
+        ensures { (k : Fraction) (J : Instance) → IsRunOf k run.items J → J.rules.version ≡ version
+            → IfOk result (λ t. t.names ++ in_lines t.rows ≡ table J) }
+    {
+        let early = version.may_finish_early();
+        let hads = hads_where(alloc, early, &run)?;
+        let places = endings(alloc, &run, releases(&run))?;
+        Ok(TableRows {
+            run,
+            early,
+            hads,
+            places,
+            next: 0,
+            number: 0,
+        })
     }
-    Ok(text)
+
+    /// The row of names with its line feed.
+    pub fn names(&self) -> &'static [u8]
+        ensures is { result.now ≡ self.now.names }
+        ensures fits { length result.now ≤ 49 }
+    {
+        names_line(self.early)
+    }
+
+    /// Whether there is a next row, which `line` then holds with its line feed, whatever it held before.
+    #[inline(always)]
+    pub fn next_row(&mut self, line: &mut BackLine) -> bool
+        ensures { GivesRow self.old self.new line.new result }
+    {
+        let Some((next, job)) = next_release(&self.run, self.next) else {
+            return false;
+        };
+        let ending = ending_at(&self.run, place_at(&self.places, self.number));
+        let had = had_at(self.early, &self.hads, self.number);
+        line.clear();
+        write_row(line, self.number as u64, &job, ending, had);
+        self.next = next;
+        self.number += 1;
+        true
+    }
 }
 
 /// The names of the fields, by whether the ticks that a job had are among them.
 fn names_line(early: bool) -> &'static [u8]
-    ensures { result.now ≡ names_line early }
+    ensures is { result.now ≡ names_line early }
+    ensures fits { length result.now ≤ 49 }
 {
     if early {
         return b"job,release,work,deadline,value,fate,tick,had\n";
@@ -46,96 +100,96 @@ fn names_line(early: bool) -> &'static [u8]
     b"job,release,work,deadline,value,fate,tick\n"
 }
 
-/// Appends the row of the job of this number where the step releases it, with the ticks that it had, if these are told.
-/// Answers how many jobs are released behind it.
-fn put_released(
-    text: &mut Vec<u8>,
-    run: &[PackedEvent],
-    places: &[usize],
-    had: Option<u64>,
-    number: usize,
-    event: &PackedEvent,
-) -> Result<usize, Memory>
-    requires { CanRelease run.now places.now number event.now }
-    ensures number { IfOk result (λ next. next ≡ number + length (option_to_list (job_released event.now))) }
-    ensures text { OnOk result (text.new.items
-        ≡ text.old.items ++ in_lines (released_rows run.now (λ n. had) number event.now)) }
+/// The job that is released next, where so many steps are behind, and how many steps are behind after its release.
+#[inline(always)]
+fn next_release(run: &[PackedEvent], next: usize) -> Option<(usize, Job)>
+    requires { next ≤ length run.now }
+    ensures { FindsNext run.now next result }
 {
-    match event.event() {
-        Event::Release { job, .. } => {
-            let ending = ending_at(run, places[number]);
-            put_row(text, number as u64, &job, ending, had)?;
-            Ok(number + 1)
+    for place in next..run.len() {
+        if let Event::Release { job, .. } = run[place].event() {
+            return Some((place + 1, job));
         }
-        _ => Ok(number),
+    }
+    None
+}
+
+/// The place of this number, 0 for none.
+#[inline(always)]
+fn place_at(places: &[usize], number: usize) -> usize
+    ensures { result ≡ slice_index_or places.now number 0 }
+{
+    match places.get(number) {
+        Some(place) => *place,
+        None => 0,
     }
 }
 
-/// Appends the row of a job, with the ticks that it had, if these are told.
-fn put_row(
-    text: &mut Vec<u8>,
-    number: u64,
-    job: &Job,
-    ending: Option<Ending>,
-    had: Option<u64>,
-) -> Result<(), Memory>
-    ensures { OnOk result (text.new.items ≡ text.old.items ++ in_lines (row_text number job.now ending had ∷ [])) }
+/// Writes the row of a job before a line feed, with the ticks that it had, if these are told.
+#[inline(always)]
+fn write_row(line: &mut BackLine, number: u64, job: &Job, ending: Option<Ending>, had: Option<u64>)
+    requires { line.old ≡ 10 ∷ [] }
+    ensures text { line.new ≡ row_text number job.now ending had ++ 10 ∷ [] }
+    ensures fits { length line.new ≤ 125 }
 {
-    put_number(text, number)?;
-    put_numbers(
-        text,
-        &[job.release(), job.work(), job.deadline(), job.value()],
-    )?;
-    put_fields(text, ending)?;
-    put_had(text, had)?;
-    text.push(b'\n')?;
-    Ok(())
+    write_had(line, had);
+    write_ending(line, ending);
+    write_job(line, job);
+    line.put_number(number);
 }
 
-/// Appends a numeral.
-fn put_number(text: &mut Vec<u8>, number: u64) -> Result<(), Memory>
-    ensures { OnOk result (text.new.items ≡ text.old.items ++ decimal number) }
+/// Writes a number and a comma before it.
+#[inline(always)]
+fn write_field(line: &mut BackLine, number: u64)
+    requires { length (decimal number) + length line.old + 1 ≤ most_written }
+    ensures is { line.new ≡ 44 ∷ decimal number ++ line.old }
+    ensures size { length line.new ≡ length (decimal number) + length line.old + 1 }
 {
-    text.extend_from_slice(Buffer::new().format(number).as_bytes())?;
-    Ok(())
+    line.put_number(number);
+    line.put_word(b",");
 }
 
-/// Appends numerals, each behind a comma.
-fn put_numbers(text: &mut Vec<u8>, numbers: &[u64]) -> Result<(), Memory>
-    ensures { OnOk result (text.new.items ≡ text.old.items ++ after_commas (map decimal numbers.now)) }
+/// Writes the ticks that a job had behind a comma, if these are told.
+#[inline(always)]
+fn write_had(line: &mut BackLine, had: Option<u64>)
+    requires { 21 + length line.old ≤ most_written }
+    ensures is { line.new ≡ after_commas (had_fields had) ++ line.old }
+    ensures fits { length line.new ≤ 21 + length line.old }
 {
-    for number in numbers {
-        text.push(b',')?;
-        put_number(text, *number)?;
+    if let Some(had) = had {
+        write_field(line, had);
     }
-    Ok(())
 }
 
-/// Appends the fields of an ending, each behind a comma.
-fn put_fields(text: &mut Vec<u8>, ending: Option<Ending>) -> Result<(), Memory>
-    ensures { OnOk result (text.new.items ≡ text.old.items ++ after_commas (ending_fields ending)) }
+/// Writes the fields of an ending, each behind a comma.
+#[inline(always)]
+fn write_ending(line: &mut BackLine, ending: Option<Ending>)
+    requires { 30 + length line.old ≤ most_written }
+    ensures is { line.new ≡ after_commas (ending_fields ending) ++ line.old }
+    ensures fits { length line.new ≤ 30 + length line.old }
 {
     match ending {
-        None => Ok(()),
-        Some(Ending::Completed(at)) => put_ending(text, b",complete,", at),
-        Some(Ending::Abandoned(at)) => put_ending(text, b",abandon,", at),
+        None => {}
+        Some(Ending::Completed(at)) => {
+            line.put_number(at);
+            line.put_word(b",complete,");
+        }
+        Some(Ending::Abandoned(at)) => {
+            line.put_number(at);
+            line.put_word(b",abandon,");
+        }
     }
 }
 
-/// Appends the ticks that a job had behind a comma, if these are told.
-fn put_had(text: &mut Vec<u8>, had: Option<u64>) -> Result<(), Memory>
-    ensures { OnOk result (text.new.items ≡ text.old.items ++ after_commas (had_fields had)) }
+/// Writes the numbers of a job, each behind a comma.
+#[inline(always)]
+fn write_job(line: &mut BackLine, job: &Job)
+    requires { 53 + length line.old ≤ most_written }
+    ensures is { line.new ≡ after_commas (map decimal (job_numbers job.now)) ++ line.old }
+    ensures fits { length line.new ≤ 53 + length line.old }
 {
-    match had {
-        None => Ok(()),
-        Some(had) => put_ending(text, b",", had),
-    }
-}
-
-/// Appends a word and a tick.
-fn put_ending(text: &mut Vec<u8>, word: &[u8], at: u64) -> Result<(), Memory>
-    ensures { OnOk result (text.new.items ≡ text.old.items ++ (word.now ++ decimal at)) }
-{
-    text.extend_from_slice(word)?;
-    put_number(text, at)
+    write_field(line, job.value());
+    write_field(line, job.deadline());
+    write_field(line, job.work());
+    write_field(line, job.release());
 }

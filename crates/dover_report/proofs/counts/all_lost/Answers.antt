@@ -1,6 +1,6 @@
 use Rattle.std.proofs.Common.{◌+◌, take, ap, ◌∙◌, arith}
 use Rattle.dover_report.specs.Counts.{value_lost, all_lost}
-use Rattle.dover_report.proofs.Counting.{sum_more}
+use Rattle.intervals.proofs.Counted.{sum_more}
 use Rattle.dover_report.proofs.counts.all_lost.Goals as goal
 
 pub loop-event-preserved : goal.loop-event-preserved

@@ -1,5 +1,4 @@
 use Rattle.std.proofs.Common.{ap, ◌∙◌}
-use Rattle.dover_model.specs.Observed as observed
 use Rattle.dover_report.specs.Counts.{jobs_released}
 use Rattle.dover_report.specs.Early.{early_of}
 use Rattle.dover_report.proofs.Counting.{jobs_are, few_steps}

@@ -6,15 +6,18 @@ use Rattle.dover_report.proofs.report.summary.Goals as goal
 
 pub run_counts-requires : goal.run_counts-requires
 run_counts-requires c = (
+  c.args.run.now,
   c.requires.0,
   c.requires.1,
-  c.value.ensures ∙ c.in_ok-charge.ensures.value c.requires.0 c.requires.1,
+  c.in_ok-charge.ensures.totals,
+  c.in_ok-charge.ensures.value c.requires.0 c.requires.1,
 )
 
 pub returns : goal.returns
 returns c J of = c.in_ok-put_counts.ensures
     ∙ ap (λ x. x ++ in_lines (counts_lines c.run_counts.result)) c.new-text.ensures.items
-    ∙ ap (λ n. in_lines (counts_lines n)) c.run_counts.ensures
-    ∙ ap in_lines (summary_is c.args.k c.args.run.now J of (jobs_released c.args.run.now) c.value.result
+    ∙ ap (λ n. in_lines (counts_lines n)) (c.run_counts.ensures c.args.run.now J of c.in_ok-charge.ensures.totals
+    (c.in_ok-charge.ensures.value J of))
+    ∙ ap in_lines (summary_is c.args.k c.args.run.now J of (jobs_released c.args.run.now) c.in_ok-charge.charge.value
     refl
-    (c.value.ensures ∙ c.in_ok-charge.ensures.value J of))
+    (c.in_ok-charge.ensures.value J of))

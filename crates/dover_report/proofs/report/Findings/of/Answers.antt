@@ -11,9 +11,11 @@ use Rattle.dover_report.proofs.report.Findings.of.Goals as goal
 
 pub run_counts-counts-requires : goal.run_counts-counts-requires
 run_counts-counts-requires c = (
+  c.args.run.now,
   c.requires.0,
   c.requires.1,
-  c.value.ensures ∙ c.in_ok-charge.ensures.value c.requires.0 c.requires.1,
+  c.in_ok-charge.ensures.totals,
+  c.in_ok-charge.ensures.value c.requires.0 c.requires.1,
 )
 
 pub returns : goal.returns
@@ -24,10 +26,11 @@ returns c J of three =
     let rows = in_lines (row_lines c.in_ok-charge.charge.rows) in
     let head = in_lines (with_numbers (codes "ratio") (c.args.k.p ∷ c.args.k.q ∷ []) ∷ []) in
     ap (λ n. (((head ++ in_lines (fates_lines n)) ++ in_lines (lines_where early c.in_ok-it.it))
-    ++ in_lines (bound_line n ∷ [])) ++ rows) c.run_counts-counts.ensures
-    ∙ ap (λ ls. (((head ++ in_lines (fates_lines (counts_of c.args.k run jobs c.value.result))) ++ in_lines ls)
-    ++ in_lines (bound_line (counts_of c.args.k run jobs c.value.result) ∷ [])) ++ rows)
+    ++ in_lines (bound_line n ∷ [])) ++ rows) (c.run_counts-counts.ensures run J of c.in_ok-charge.ensures.totals
+    (c.in_ok-charge.ensures.value J of))
+    ∙ ap (λ ls. (((head ++ in_lines (fates_lines (counts_of c.args.k run jobs c.in_ok-charge.charge.value))) ++ in_lines ls)
+    ++ in_lines (bound_line (counts_of c.args.k run jobs c.in_ok-charge.charge.value) ∷ [])) ++ rows)
     (same_where early c.in_ok-it.it (early_of jobs (hads J) run) (c.in_ok-it.ensures c.args.k J of))
-    ∙ report_is c.args.k run J of early jobs (hads J) c.value.result c.in_ok-charge.charge.rows
+    ∙ report_is c.args.k run J of early jobs (hads J) c.in_ok-charge.charge.value c.in_ok-charge.charge.rows
     (c.may_finish_early-early.ensures ∙ ap may_finish_early (sym three)) (λ e. refl) refl
-    (c.value.ensures ∙ c.in_ok-charge.ensures.value J of) (c.in_ok-charge.ensures.rows J of)
+    (c.in_ok-charge.ensures.value J of) (c.in_ok-charge.ensures.rows J of)
