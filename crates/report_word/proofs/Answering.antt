@@ -71,7 +71,7 @@ module _ (k : Fraction) (version : Version) (value most jobs : ℕ) (text : List
       prints = prints;
     }
 
-  module _ (form : Form) (ended : Bool) (a b : Option (List Move)) (q : List ℕ) (none : q ≡ []) where
+  module _ (form : Form) (ended : Bool) (a b : Option (List Move)) (q : List ℕ) where
     -- ---- the report
 
     module _ (refused : ℕ) (refused_is : refused ≡ model.refused_count tells.0)
@@ -81,31 +81,31 @@ module _ (k : Fraction) (version : Version) (value most jobs : ℕ) (text : List
       told_report = ap (λ n. report_text form n (instance_of tells.0)) refused_is ∙ sym (ap (told form) tells.1)
 
       -- the report was put
-      pub reported : (x : Unit {0}) → Puts (Ok x) a b (report_text form refused (instance_of tells.0))
+      pub reported : (x : Unit {0}) → Puts (Ok x) a b q (report_text form refused (instance_of tells.0))
           → AnswersBy (report_talk form) text ended a b q (Ok Done)
-      reported x put = says_put form text ended a b q Done tt _ (trace, listed it, told_report) (rw none put)
+      reported x put = says_put form text ended a b q Done tt _ (trace, listed it, told_report) put
 
       -- it wasn't
       pub unreported : (stop : Stop)
-          → Puts {T = Unit {0}} (Err stop) a b (report_text form refused (instance_of tells.0))
+          → Puts {T = Unit {0}} (Err stop) a b q (report_text form refused (instance_of tells.0))
           → AnswersBy (report_talk form) text ended a b q (Err stop)
-      unreported NoMemory none_put = (λ _. trace, rw none none_put)
+      unreported NoMemory none_put = (λ _. trace, none_put)
       unreported Unwritten cut = says_cut form text ended a b q Done _ (trace, listed it, told_report) cut
 
     -- ---- too many jobs
 
-    module _ (too_many : IsListable (instance_of tells.0) → ⊥) where
+    module _ (none : q ≡ []) (too_many : IsListable (instance_of tells.0) → ⊥) where
       -- so it is refused
       says_size : SaysReport form Refused text size_text
       says_size = (trace, (λ all. too_many (all tells.0 tells.1)), refl)
 
       -- that was put
-      pub refused_size : (x : Unit {0}) → Puts (Ok x) a b size_text
+      pub refused_size : (x : Unit {0}) → Puts (Ok x) a b [] size_text
           → AnswersBy (report_talk form) text ended a b q (Ok Refused)
       refused_size x put = says_put form text ended a b q Refused tt size_text says_size (rw none put)
 
       -- it wasn't
-      pub unrefused_size : (stop : Stop) → Puts {T = Unit {0}} (Err stop) a b size_text
+      pub unrefused_size : (stop : Stop) → Puts {T = Unit {0}} (Err stop) a b [] size_text
           → AnswersBy (report_talk form) text ended a b q (Err stop)
       unrefused_size NoMemory none_put = (λ _. trace, rw none none_put)
       unrefused_size Unwritten cut = says_cut form text ended a b q Refused size_text says_size cut

@@ -1,11 +1,13 @@
 //! The word as a whole.
-ghost use Rattle.std.specs.Prelude.{◌≡◌, ◌↔◌, IsTrue, true, IfOk};
+ghost use Rattle.std.specs.Prelude.{◌≡◌, ◌↔◌, ◌++◌, ℕ, List, [], IsTrue, true, IfOk};
 ghost use Rattle.intervals.specs.Rows.{IsRunOf};
+ghost use Rattle.dover_model.specs.Fraction.{Fraction};
 ghost use Rattle.dover_model.specs.Instance.{Instance, IsListable, IsValid};
+ghost use Rattle.dover_model.specs.Lines.{in_lines};
 ghost use Rattle.dover_model.specs.Reports as model;
 ghost use Rattle.dover_model.specs.Run.{printed};
-ghost use Rattle.dover_port.specs.Causes.{Causes, StopsWith};
-ghost use Rattle.dover_port.specs.Moves.{Since};
+ghost use Rattle.dover_port.specs.Causes.{Causes, HasCause, StopsAtFailure, StopsWith};
+ghost use Rattle.dover_port.specs.Moves.{PutsThrough, Since};
 ghost use Rattle.dialogue.specs.Sizes.{size_text};
 ghost use Rattle.dialogue.specs.Talk.{Talks, CanEnd};
 ghost use Rattle.dialogue.specs.Turns.{StopCause, StopsOn};
@@ -17,9 +19,10 @@ ghost use Rattle.report_word.specs.Talking.{Puts};
 use crate::Form;
 use dialogue::Stop;
 use dover_model::{Memory, PackedEvent, Ratio, Version};
-use dover_port::{Output, Port, Status, put_all};
-use dover_report::{Findings, is_listable, table};
+use dover_port::{Failed, Output, Port, Status, put_all};
+use dover_report::{Findings, TableRows, is_listable};
 use judge_word::{Teller, judge_and_tell, put_verdict, status_of};
+use line_text::BackLine;
 use run_picture::picture;
 use run_view::{chrome, timeline, why};
 use std::alloc::Global;
@@ -44,47 +47,15 @@ fn text_of(
     Ok(text)
 }
 
-/// The report on the run of this version that prints these steps, and on how many lines were refused.
-fn report(
-    alloc: Global,
-    form: Form,
-    version: Version,
-    ratio: Ratio,
-    steps: Vec<PackedEvent>,
-    refused: u64,
-) -> Result<Vec<u8>, Memory>
-    requires { (J : Instance) × IsRunOf ratio steps.items J }
-    ensures { (J : Instance) → IsRunOf ratio steps.items J → J.rules.version ≡ version → IfOk result
-        (λ text. text.items ≡ report_text form refused J) }
-{
-    match form {
-        Form::Text => text_of(alloc, version, ratio, steps),
-        Form::Table => table(alloc, version, &steps),
-        Form::Chrome => chrome(alloc, ratio, &steps),
-        Form::Why(number) => why(alloc, ratio, &steps, number),
-        Form::Timeline(window) => timeline(alloc, ratio, &steps, window),
-        Form::Svg(window) => picture(alloc, ratio, &steps, refused, window),
-    }
-}
-
-/// Puts the report on the run of this version that prints these steps, once it stands in memory as a whole.
-fn put_report<P: Port>(
-    alloc: Global,
-    port: &mut P,
-    form: Form,
-    version: Version,
-    ratio: Ratio,
-    steps: Vec<PackedEvent>,
-    refused: u64,
-) -> Result<(), Stop>
-    requires { (J : Instance) × IsRunOf ratio steps.items J }
-    ensures puts { (J : Instance) → IsRunOf ratio steps.items J → J.rules.version ≡ version →
-        Puts result (P.moves port.old) (P.moves port.new) (report_text form refused J) }
+/// Puts a text that stands in memory as a whole, if there was memory for it.
+fn put_whole<P: Port>(port: &mut P, text: Result<Vec<u8>, Memory>) -> Result<(), Stop>
+    ensures puts { (said : List ℕ) → IfOk text (λ bytes. bytes.items ≡ said)
+        → Puts result (P.moves port.old) (P.moves port.new) [] said }
     ensures cause { StopCause result
         (P.write_faults port.old) (P.write_faults port.new) (P.read_faults port.old) (P.read_faults port.new) }
     ensures stops { StopsOn result (P.calls port.old) (P.calls port.new) }
 {
-    let Ok(text) = report(alloc, form, version, ratio, steps, refused) else {
+    let Ok(text) = text else {
         return Err(Stop::NoMemory);
     };
     match put_all(port, &text) {
@@ -93,9 +64,97 @@ fn put_report<P: Port>(
     }
 }
 
+/// Puts each row that is left of a table, or keeps it back in `out`. An `Err`: a write failed, and a front of what was
+/// kept back and of the rows was put, but not all of it.
+fn put_rows<P: Port>(port: &mut P, out: &mut Output, rows: &mut TableRows) -> Result<(), Failed>
+    ensures text { PutsThrough (P.moves port.old) (P.moves port.new) result out.old out.new (in_lines rows.old.rows) }
+    ensures cause { HasCause (P.write_faults port.old) (P.write_faults port.new) (P.read_faults port.old)
+        (P.read_faults port.new) result }
+    ensures stops { StopsAtFailure (P.calls port.old) (P.calls port.new) result }
+{
+    let mut line = BackLine::new();
+    while rows.next_row(&mut line) {
+        match out.put(port, line.bytes()) {
+            Ok(()) => {}
+            Err(failed) => return Err(failed),
+        }
+    }
+    Ok(())
+}
+
+/// Puts the names of a table, and each row that is left of it, as `put_rows` does.
+fn put_lines<P: Port>(port: &mut P, out: &mut Output, rows: &mut TableRows) -> Result<(), Failed>
+    ensures text { PutsThrough (P.moves port.old) (P.moves port.new) result out.old out.new
+        (rows.old.names ++ in_lines rows.old.rows) }
+    ensures cause { HasCause (P.write_faults port.old) (P.write_faults port.new) (P.read_faults port.old)
+        (P.read_faults port.new) result }
+    ensures stops { StopsAtFailure (P.calls port.old) (P.calls port.new) result }
+{
+    match out.put(port, rows.names()) {
+        Ok(()) => {}
+        Err(failed) => return Err(failed),
+    }
+    put_rows(port, out, rows)
+}
+
+/// Puts the table of the run of this version that prints these steps, row by row, once all memory for it is taken.
+fn put_table<P: Port>(
+    alloc: Global,
+    port: &mut P,
+    out: &mut Output,
+    version: Version,
+    steps: Vec<PackedEvent>,
+) -> Result<(), Stop>
+    requires empty { out.old ≡ [] }
+    requires run { (k : Fraction) × ((J : Instance) × IsRunOf k steps.items J) }
+    ensures puts { (k : Fraction) (J : Instance) → IsRunOf k steps.items J → J.rules.version ≡ version →
+        Puts result (P.moves port.old) (P.moves port.new) out.new (model.table J) }
+    ensures cause { StopCause result
+        (P.write_faults port.old) (P.write_faults port.new) (P.read_faults port.old) (P.read_faults port.new) }
+    ensures stops { StopsOn result (P.calls port.old) (P.calls port.new) }
+{
+    let Ok(mut rows) = TableRows::of(alloc, version, steps) else {
+        return Err(Stop::NoMemory);
+    };
+    match put_lines(port, out, &mut rows) {
+        Ok(()) => Ok(()),
+        Err(_) => Err(Stop::Unwritten),
+    }
+}
+
+/// Puts the report on the run of this version that prints these steps, and on how many lines were refused, or keeps an
+/// end of it back in `out`. Before its first byte all memory for it is taken.
+fn put_report<P: Port>(
+    alloc: Global,
+    port: &mut P,
+    out: &mut Output,
+    form: Form,
+    version: Version,
+    ratio: Ratio,
+    steps: Vec<PackedEvent>,
+    refused: u64,
+) -> Result<(), Stop>
+    requires empty { out.old ≡ [] }
+    requires run { (J : Instance) × IsRunOf ratio steps.items J }
+    ensures puts { (J : Instance) → IsRunOf ratio steps.items J → J.rules.version ≡ version →
+        Puts result (P.moves port.old) (P.moves port.new) out.new (report_text form refused J) }
+    ensures cause { StopCause result
+        (P.write_faults port.old) (P.write_faults port.new) (P.read_faults port.old) (P.read_faults port.new) }
+    ensures stops { StopsOn result (P.calls port.old) (P.calls port.new) }
+{
+    match form {
+        Form::Text => put_whole(port, text_of(alloc, version, ratio, steps)),
+        Form::Table => put_table(alloc, port, out, version, steps),
+        Form::Chrome => put_whole(port, chrome(alloc, ratio, &steps)),
+        Form::Why(number) => put_whole(port, why(alloc, ratio, &steps, number)),
+        Form::Timeline(window) => put_whole(port, timeline(alloc, ratio, &steps, window)),
+        Form::Svg(window) => put_whole(port, picture(alloc, ratio, &steps, refused, window)),
+    }
+}
+
 /// Puts the line that refuses a trace whose jobs are more than a report keeps.
 fn put_size<P: Port>(port: &mut P) -> Result<(), Stop>
-    ensures puts { Puts result (P.moves port.old) (P.moves port.new) size_text }
+    ensures puts { Puts result (P.moves port.old) (P.moves port.new) [] size_text }
     ensures cause { StopCause result
         (P.write_faults port.old) (P.write_faults port.new) (P.read_faults port.old) (P.read_faults port.new) }
     ensures stops { StopsOn result (P.calls port.old) (P.calls port.new) }
@@ -144,7 +203,8 @@ impl Teller for Reporting {
         match verdict {
             Verdict::Accepted { ratio, version, .. } => {
                 if is_small(version, &steps) {
-                    match put_report(self.alloc, port, self.form, version, ratio, steps, refused) {
+                    let (alloc, form) = (self.alloc, self.form);
+                    match put_report(alloc, port, out, form, version, ratio, steps, refused) {
                         Ok(()) => Ok(Status::Done),
                         Err(stop) => Err(stop),
                     }
@@ -169,8 +229,8 @@ impl Teller for Reporting {
 
 /// Reports on a trace: reads a text to its first wrong line or the end of the input, and then writes the report on
 /// the run of an accepted trace, or else the line of the verdict. A trace whose jobs are beyond the limits of version
-/// Two is refused. Memory is taken for the jobs and the steps that the text names, and for the report, which stands
-/// in memory as a whole before its first byte is written.
+/// Two is refused. Memory is taken for the jobs and the steps that the text names, and for the report, all of it before
+/// the first byte of the report is written.
 pub fn report_word<P: Port, L: Ledger>(
     alloc: Global,
     port: &mut P,

@@ -1,10 +1,7 @@
 -- What was counted of a run is what its summary says.
 use Rattle.std.proofs.Common.{◌≡◌, ◌+◌, ◌-◌, ◌≤◌, ℕ, List, [], ◌∷◌, length, sym, refl, ap, ◌∙◌, subst, Option, arith}
 use Rattle.std.proofs.Common.{◌++◌, append_assoc, codes, decimal}
-use Rattle.std.specs.List.{cons_option}
-use Rattle.std.proofs.lemmas.List.Sums.{sum_by-cons}
 use Rattle.dover_model.specs.declared.events.Event.{Event}
-use Rattle.dover_model.specs.declared.events.Event.TheVariants as event
 use Rattle.dover_model.specs.Bound.{bound}
 use Rattle.dover_model.specs.Fraction.{Fraction}
 use Rattle.dover_model.specs.Instance.{Instance, IsListable, IsValid, total_value}
@@ -17,13 +14,14 @@ use Rattle.dover_model.specs.Run.{printed, completed_value}
 use Rattle.dover_port.specs.Moves.{Move, Since}
 use Rattle.dover_port.specs.declared.status.Status.{Status}
 use Rattle.intervals.specs.Rows.{IsRunOf}
-use Rattle.dover_report.specs.Counts.{counts_of, counts_lines, all_lost, job_released, jobs_released}
+use Rattle.dover_report.specs.Counts.{counts_of, counts_lines, all_lost}
 use Rattle.dover_report.specs.declared.counts.Counts.{Counts}
 use Rattle.dover_report.proofs.Counting.{jobs_are, summary_is, value_small}
 use Rattle.dover_report.proofs.Losses.{lost_rest}
+use Rattle.dover_report.proofs.Sizing.{released_total}
 use Rattle.run_view.specs.Templates.{filled}
 use Rattle.trial_words.specs.Record.{Writes}
-use Rattle.trial_words.specs.Tallied.{value_released, all_released, tally_of, CountsRun}
+use Rattle.trial_words.specs.Tallied.{tally_of, CountsRun}
 use Rattle.trial_words.specs.declared.tally.Tally.{Tally}
 
 -- the counts of a tally
@@ -80,21 +78,6 @@ in_template c =
     (sym (append_assoc (decimal c.abandoned) (32 ∷ decimal c.lost) (10 ∷ taken)))
     ∙ fed_lines (counts_lines c)
 
--- the value that these steps release is that of the jobs that they release
-released_values : (events : List Event) → all_released events ≡ total_value (jobs_released events)
-released_values [] = refl
-released_values (e ∷ events) = sum_by-cons value_released e events
-    ∙ ap (λ n. value_released e + n) (released_values events) ∙ by_step e (jobs_released events) where
-      by_step : (e : Event) (jobs : List JobFacts)
-          → value_released e + total_value jobs ≡ total_value (cons_option (job_released e) jobs)
-      by_step (event.Release n job) jobs = sym (sum_by-cons (λ (j : JobFacts). j.value) job jobs)
-      by_step (event.Run at n) jobs = omega arith
-      by_step (event.Preempt at stops starts) jobs = omega arith
-      by_step (event.Take at stops starts) jobs = omega arith
-      by_step (event.Complete at n) jobs = omega arith
-      by_step (event.Abandon at n) jobs = omega arith
-      by_step (event.End value) jobs = omega arith
-
 module _ (J : Instance) (k : Fraction) (jobs : ℕ) (tally : Tally) (it : CountsRun J k jobs tally) where
   -- the value that was completed is that of a valid list
   pub within : tally.value ≤ most_total Two
@@ -107,7 +90,7 @@ module _ (J : Instance) (k : Fraction) (jobs : ℕ) (tally : Tally) (it : Counts
     arith,
     lost_rest J it.valid,
     ap total_value (jobs_are k (printed J) J (own_run J k it.valid it.listable it.ratio)),
-    released_values (printed J),
+    released_total (printed J),
     ap (λ (t : Tally). t.value) it.counted.counts,
     ap (λ (t : Tally). t.released) it.counted.counts,
   )
@@ -118,7 +101,7 @@ module _ (J : Instance) (k : Fraction) (jobs : ℕ) (tally : Tally) (it : Counts
     arith,
     it.listable.total,
     ap total_value (jobs_are k (printed J) J (own_run J k it.valid it.listable it.ratio)),
-    released_values (printed J),
+    released_total (printed J),
     ap (λ (t : Tally). t.released) it.counted.counts,
   )
 

@@ -2,19 +2,13 @@
 use Rattle.std.specs.Prelude.{◌≡◌, ◌≤◌, ◌*◌, ℕ, List, length}
 use Rattle.std.specs.List.{fold, count_by, sum_by}
 use Rattle.dover_model.specs.declared.events.Event.{Event}
-use Rattle.dover_model.specs.declared.events.Event.TheVariants.{Release}
 use Rattle.dover_model.specs.Fraction.{Fraction}
 use Rattle.dover_model.specs.Instance.{Instance, IsListable, IsValid}
 use Rattle.dover_model.specs.Limits.{most_value}
 use Rattle.dover_model.specs.Run.{printed, value_of_end}
 use Rattle.dover_model.specs.Reports.{is_take}
-use Rattle.dover_report.specs.Counts.{is_completion, is_abandonment}
+use Rattle.intervals.specs.Totals.{is_completion, is_abandonment, value_released}
 use Rattle.trial_words.specs.declared.tally.Tally.{Tally}
-
--- the value of the job that a step releases
-abbrev pub value_released : Event → ℕ
-value_released (Release n job) = job.value
-value_released _ = 0
 
 -- the value of the jobs that these steps release
 abbrev pub all_released : List Event → ℕ

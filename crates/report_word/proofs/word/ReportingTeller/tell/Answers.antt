@@ -6,8 +6,8 @@ use Rattle.report_word.proofs.Answering.{unrefused}
 use Rattle.dover_model.proofs.SessionParts.{session_jobs}
 use Rattle.report_word.proofs.word.ReportingTeller.tell.Goals as goal
 
-pub put_report-requires : goal.put_report-requires
-put_report-requires g c =
+pub put_report-requires-clause-run : goal.put_report-requires-clause-run
+put_report-requires-clause-run g c =
     let tells = rw c.in-Accepted.is at c.requires.closed.1.tells in
     let are = c.deref.ensures.value ∙ c.requires.closed.1.steps in (
       instance_of tells.0,
@@ -22,7 +22,7 @@ returns-in-Ok-clause-answers g c = λ text ended closed.
     let are = c.deref.ensures.value ∙ closed.steps in
     let listable = (c.is_small.ensures (instance_of tells.0) (session_jobs tells.7.valid)
     (prints _ _ _ _ _ text tells _ are) (sym tells.3)).0 c.if-is_small.true in
-    reported _ _ _ _ _ text tells c.args.self.form ended _ _ _ c.requires.empty c.args.closed.refused
+    reported _ _ _ _ _ text tells c.args.self.form ended _ _ _ c.args.closed.refused
     (closed.refused tells.0 tells.1) listable _ (c.in-Ok.ensures.puts (instance_of tells.0)
     (run_of _ _ _ _ _ text tells _ closed.steps listable) (sym tells.3))
 
@@ -32,7 +32,7 @@ returns-in-Err-clause-answers g c = λ text ended closed.
     let are = c.deref.ensures.value ∙ closed.steps in
     let listable = (c.is_small.ensures (instance_of tells.0) (session_jobs tells.7.valid)
     (prints _ _ _ _ _ text tells _ are) (sym tells.3)).0 c.if-is_small.true in
-    unreported _ _ _ _ _ text tells c.args.self.form ended _ _ _ c.requires.empty c.args.closed.refused
+    unreported _ _ _ _ _ text tells c.args.self.form ended _ _ c.put_report.new.out c.args.closed.refused
     (closed.refused tells.0 tells.1) listable c.in-Err.stop (c.in-Err.ensures.puts (instance_of tells.0)
     (run_of _ _ _ _ _ text tells _ closed.steps listable) (sym tells.3))
 
