@@ -66,6 +66,7 @@ impl Ledger {
     }
 
     /// Takes the next printed step into account.
+    #[inline(always)]
     pub fn read(&mut self, event: &PackedEvent) -> Result<(), Memory>
         requires { IsReadable self.old event.now }
         ensures { OnOk result (self.new ≡ with_event self.old event.now) }
