@@ -176,8 +176,8 @@ losses jobs (End value ∷ run) = omega (arith, sum_by-cons (value_lost jobs) (E
 
 -- what the steps tell, put together
 pub counts_are : (k : Fraction) (run : List Event) (totals : JobTotals) (jobs : List JobFacts)
-    (count value lost most : ℕ) → totals ≡ totals_of run → count ≡ length jobs → lost ≡ all_lost jobs run → most ≡ bound k value
-    → record {
+    (count value lost most : ℕ) → totals ≡ totals_of run → count ≡ length jobs → lost ≡ all_lost jobs run
+    → most ≡ bound k value → record {
       jobs = count;
       completed = totals.completed;
       value = value;

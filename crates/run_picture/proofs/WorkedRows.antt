@@ -16,7 +16,8 @@ use Rattle.run_picture.specs.Legends.{legend_bars, legend_words, legend, load_le
 use Rattle.run_picture.specs.Legends.{losses_words}
 use Rattle.run_picture.specs.Legends.{lanes_legend}
 use Rattle.run_picture.specs.Frame.{title_end, blank, page, tens, marks_from, axis_by, axis, bands}
-use Rattle.run_picture.specs.Panels.{area, values_by, values, ready_area, ready_by, ready, towers_area, columns_by, columns}
+use Rattle.run_picture.specs.Panels.{area, values_by, values, ready_area, ready_by, ready, towers_area, columns_by}
+use Rattle.run_picture.specs.Panels.{columns}
 use Rattle.run_picture.specs.Pictures.{bars_of, all_bars, strip, windows, holds_bars, lanes_bars, arrows_lines}
 use Rattle.run_picture.specs.Pictures.{crosses_lines, lanes_lines, lanes_of, ground_of, all_bands, under, under_load}
 use Rattle.run_picture.specs.Pictures.{middle_of}

@@ -96,8 +96,8 @@ const BEST: [(&str, Status, &str); 4] = [
     ),
 ];
 
-/// The same of `loss`: no stretch, two of few jobs, of which the second has a job that is due in it and released before,
-/// one at one price, one at prices in layers, and a feed that is refused.
+/// The same of `loss`: no stretch, two of few jobs, of which the second has a job that is due in it and released
+/// before, one at one price, one at prices in layers, and a feed that is refused.
 const LOST: [(&str, Status, &str); 6] = [
     (
         "k 1 1\njob 0 2 2 2\nend\n",

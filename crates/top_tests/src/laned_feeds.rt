@@ -11,8 +11,9 @@ const TWO_TRACES: &str =
     "0 dover 1 1 1\n5 dover 1 1 1\n0 job 0 0 2 2 2\n0 run 0 0\n5 end 0\n0 complete 2 0\n0 end 2\n";
 
 // A line of 129 bytes that hasn't ended.
-const LONG: &str =
-    "0 xxxxxxxxxxxxxxxxxxxxxxxxxxxxxxxxxxxxxxxxxxxxxxxxxxxxxxxxxxxxxxxxxxxxxxxxxxxxxxxxxxxxxxxxxxxxxxxxxxxxxxxxxxxxxxxxxxxxxxxxxxxxxxx";
+const LONG: &str = "0 \
+     xxxxxxxxxxxxxxxxxxxxxxxxxxxxxxxxxxxxxxxxxxxxxxxxxxxxxxxxxxxxxxxxxxxxxxxxxxxxxxxxxxxxxxxxxxxxxxxxxxxxxxxxxxx\
+     xxxxxxxxxxxxxxxxxxxx";
 
 // Inputs, how each ends, and what is written for it.
 const INPUTS: [(&str, Status, &str); 17] = [

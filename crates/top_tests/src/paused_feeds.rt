@@ -19,23 +19,28 @@ const PAUSES: [(&str, Status, &str); 15] = [
     (
         "k 1 1 2\njob 0 4 10 4\njob 1 1 1 1\n",
         Status::Done,
-        "dover 2 1 1\njob 0 0 4 10 4\nrun 0 0\nrefuse 0 1 1 1 1 job\nsnapshot 2 1 1 3 0 1\nstate 0 running 0 0 4 10 4\nresume\n",
+        "dover 2 1 1\njob 0 0 4 10 4\nrun 0 0\nrefuse 0 1 1 1 1 job\nsnapshot 2 1 1 3 0 1\n\
+         state 0 running 0 0 4 10 4\nresume\n",
     ),
     // one job waits, one is held, one runs, one is done, and one is over
     (
         "k 1 1\njob 0 3 30 3\njob 0 2 4 2\njob 0 12 12 12\ntick 1\n",
         Status::Done,
-        "dover 1 1 1\njob 0 0 3 30 3\nrun 0 0\njob 1 0 2 4 2\npreempt 0 0 1\njob 2 0 12 12 12\ntake 0 1 2\nsnapshot 1 1 1 5 1 3\nstate 0 waiting 0 0 3 30 3\nstate 1 waiting 0 0 2 4 2\nstate 2 running 1 0 12 12 12\nresume\n",
+        "dover 1 1 1\njob 0 0 3 30 3\nrun 0 0\njob 1 0 2 4 2\npreempt 0 0 1\njob 2 0 12 12 12\ntake 0 1 2\n\
+         snapshot 1 1 1 5 1 3\nstate 0 waiting 0 0 3 30 3\nstate 1 waiting 0 0 2 4 2\n\
+         state 2 running 1 0 12 12 12\nresume\n",
     ),
     (
         "k 1 1\njob 0 4 10 4\njob 1 2 5 2\n",
         Status::Done,
-        "dover 1 1 1\njob 0 0 4 10 4\nrun 0 0\njob 1 1 2 5 2\npreempt 1 0 1\nsnapshot 1 1 1 3 1 2\nstate 0 held 1 0 4 10 4\nstate 1 running 0 1 2 5 2\nresume\n",
+        "dover 1 1 1\njob 0 0 4 10 4\nrun 0 0\njob 1 1 2 5 2\npreempt 1 0 1\nsnapshot 1 1 1 3 1 2\n\
+         state 0 held 1 0 4 10 4\nstate 1 running 0 1 2 5 2\nresume\n",
     ),
     (
         "k 1 1\njob 0 10 10 10\njob 0 20 20 20\ntick 12\n",
         Status::Done,
-        "dover 1 1 1\njob 0 0 10 10 10\nrun 0 0\njob 1 0 20 20 20\nabandon 0 1\ncomplete 10 0\nsnapshot 1 1 1 4 12 2\nstate 0 done 10 0 10 10 10\nstate 1 gone 0 0 20 20 20\nresume\n",
+        "dover 1 1 1\njob 0 0 10 10 10\nrun 0 0\njob 1 0 20 20 20\nabandon 0 1\ncomplete 10 0\n\
+         snapshot 1 1 1 4 12 2\nstate 0 done 10 0 10 10 10\nstate 1 gone 0 0 20 20 20\nresume\n",
     ),
     (
         "k 1 1\njob 0 10 10 10\njob 0 21 21 21\ntick 3\n",
@@ -244,7 +249,8 @@ const AGAIN: [(&str, Status, &str); 5] = [
     (
         "snapshot 1 1 1 3 2 1\nstate 0 running 2 0 4 10 4\nresume\njob 2 1 4 1\n",
         Status::Done,
-        "job 1 2 1 4 1\npreempt 2 0 1\nsnapshot 1 1 1 4 2 2\nstate 0 held 2 0 4 10 4\nstate 1 running 0 2 1 4 1\nresume\n",
+        "job 1 2 1 4 1\npreempt 2 0 1\nsnapshot 1 1 1 4 2 2\nstate 0 held 2 0 4 10 4\n\
+         state 1 running 0 2 1 4 1\nresume\n",
     ),
     (
         "snapshot 1 1 1 3 2 1\nstate 0 running 2 0 4 10 4\nresume\nend\n",

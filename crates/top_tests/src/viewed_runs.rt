@@ -116,13 +116,15 @@ const RUNS: [(&str, &[(&[&str], &str)]); 5] = [
                 "job 1: release 0, work 2, deadline 4, value 2\n\
             at 0 it preempts job 0, which is due later, its work 2 within the room 27\n\
             at 0 it is displaced by job 2\n\
-            at 2 it is abandoned, its value 2 against 12 under way: 1 * 0^2 = 0 not above 1 * 12^2 = 144; heavy from 25 on\n",
+            at 2 it is abandoned, its value 2 against 12 under way: 1 * 0^2 = 0 not above 1 * 12^2 = 144; \
+            heavy from 25 on\n",
             ),
             (
                 &["report", "why", "2"],
                 "job 2: release 0, work 12, deadline 12, value 12\n\
             at 0 it waits, its work 12 above the room 2\n\
-            at 0 it takes the processor from job 1, its value 12 against 5 under way: 1 * 7^2 = 49 above 1 * 5^2 = 25; heavy from 11 on\n\
+            at 0 it takes the processor from job 1, its value 12 against 5 under way: 1 * 7^2 = 49 above 1 * \
+            5^2 = 25; heavy from 11 on\n\
             at 12 it is completed\n",
             ),
             (&["report", "why", "3"], "no job 3 among 3\n"),
@@ -196,13 +198,15 @@ const RUNS: [(&str, &[(&[&str], &str)]); 5] = [
                 &["report", "why", "6"],
                 "job 6: release 120, work 40, deadline 170, value 40\n\
             at 120 it waits, its work 40 above the room 25\n\
-            at 130 it is abandoned, its value 40 against 60 under way: 1 * 0^2 = 0 not above 5 * 60^2 = 18000; heavy from 195 on\n",
+            at 130 it is abandoned, its value 40 against 60 under way: 1 * 0^2 = 0 not above 5 * 60^2 = \
+            18000; heavy from 195 on\n",
             ),
             (
                 &["report", "why", "10"],
                 "job 10: release 210, work 20, deadline 230, value 100\n\
             at 210 it waits, its work 20 above the room 10\n\
-            at 210 it is abandoned, its value 100 against 80 under way: 1 * 20^2 = 400 not above 5 * 80^2 = 32000; heavy from 259 on\n",
+            at 210 it is abandoned, its value 100 against 80 under way: 1 * 20^2 = 400 not above 5 * 80^2 = \
+            32000; heavy from 259 on\n",
             ),
             (
                 &["report", "why", "14"],
@@ -219,13 +223,15 @@ const RUNS: [(&str, &[(&[&str], &str)]); 5] = [
             at 420 it is preempted by job 18, which is due earlier, its work 5 within the room 20\n\
             at 425 it runs\n\
             at 450 it is displaced by job 19\n\
-            at 465 it is abandoned, its value 60 against 300 under way: 1 * 0^2 = 0 not above 5 * 300^2 = 450000; heavy from 971 on\n",
+            at 465 it is abandoned, its value 60 against 300 under way: 1 * 0^2 = 0 not above 5 * 300^2 = \
+            450000; heavy from 971 on\n",
             ),
             (
                 &["report", "why", "19"],
                 "job 19: release 450, work 100, deadline 550, value 300\n\
             at 450 it waits, its work 100 above the room 15\n\
-            at 450 it takes the processor from job 17, its value 300 against 60 under way: 1 * 240^2 = 57600 above 5 * 60^2 = 18000; heavy from 195 on\n\
+            at 450 it takes the processor from job 17, its value 300 against 60 under way: 1 * 240^2 = 57600 \
+            above 5 * 60^2 = 18000; heavy from 195 on\n\
             at 550 it is completed\n",
             ),
             (

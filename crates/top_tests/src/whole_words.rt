@@ -20,7 +20,8 @@ const FEEDS: [(&str, Status, &str); 38] = [
     (
         "k 1 1\njob 0 4 10 4\njob 1 2 5 2\nend\n",
         Status::Done,
-        "dover 1 1 1\njob 0 0 4 10 4\nrun 0 0\njob 1 1 2 5 2\npreempt 1 0 1\ncomplete 3 1\nrun 3 0\ncomplete 6 0\nend 6\n",
+        "dover 1 1 1\njob 0 0 4 10 4\nrun 0 0\njob 1 1 2 5 2\npreempt 1 0 1\ncomplete 3 1\nrun 3 0\n\
+         complete 6 0\nend 6\n",
     ),
     (
         "k 1 1\njob 0 10 10 10\njob 0 20 20 20\nend\n",
@@ -35,12 +36,14 @@ const FEEDS: [(&str, Status, &str); 38] = [
     (
         "k 1 1\njob 0 3 30 3\njob 0 2 4 2\njob 0 12 12 12\nend\n",
         Status::Done,
-        "dover 1 1 1\njob 0 0 3 30 3\nrun 0 0\njob 1 0 2 4 2\npreempt 0 0 1\njob 2 0 12 12 12\ntake 0 1 2\nabandon 2 1\ncomplete 12 2\nrun 12 0\ncomplete 15 0\nend 15\n",
+        "dover 1 1 1\njob 0 0 3 30 3\nrun 0 0\njob 1 0 2 4 2\npreempt 0 0 1\njob 2 0 12 12 12\ntake 0 1 2\n\
+         abandon 2 1\ncomplete 12 2\nrun 12 0\ncomplete 15 0\nend 15\n",
     ),
     (
         "k 1 1\njob 0 3 30 3\njob 0 2 4 2\njob 0 10 10 10\nend\n",
         Status::Done,
-        "dover 1 1 1\njob 0 0 3 30 3\nrun 0 0\njob 1 0 2 4 2\npreempt 0 0 1\njob 2 0 10 10 10\nabandon 0 2\ncomplete 2 1\nrun 2 0\ncomplete 5 0\nend 5\n",
+        "dover 1 1 1\njob 0 0 3 30 3\nrun 0 0\njob 1 0 2 4 2\npreempt 0 0 1\njob 2 0 10 10 10\nabandon 0 2\n\
+         complete 2 1\nrun 2 0\ncomplete 5 0\nend 5\n",
     ),
     (
         "k 2 1\njob 0 10 10 10\njob 0 20 20 24\nend\n",
@@ -60,12 +63,14 @@ const FEEDS: [(&str, Status, &str); 38] = [
     (
         "k 1 1\njob 0 10 14 10\njob 1 2 5 2\njob 1 3 8 3\nend\n",
         Status::Done,
-        "dover 1 1 1\njob 0 0 10 14 10\nrun 0 0\njob 1 1 2 5 2\npreempt 1 0 1\njob 2 1 3 8 3\ncomplete 3 1\nrun 3 0\nabandon 5 2\ncomplete 12 0\nend 12\n",
+        "dover 1 1 1\njob 0 0 10 14 10\nrun 0 0\njob 1 1 2 5 2\npreempt 1 0 1\njob 2 1 3 8 3\ncomplete 3 1\n\
+         run 3 0\nabandon 5 2\ncomplete 12 0\nend 12\n",
     ),
     (
         "k 1 1\njob 0 10 14 10\njob 1 2 5 2\njob 1 2 8 2\nend\n",
         Status::Done,
-        "dover 1 1 1\njob 0 0 10 14 10\nrun 0 0\njob 1 1 2 5 2\npreempt 1 0 1\njob 2 1 2 8 2\ncomplete 3 1\nrun 3 2\ncomplete 5 2\nrun 5 0\ncomplete 14 0\nend 14\n",
+        "dover 1 1 1\njob 0 0 10 14 10\nrun 0 0\njob 1 1 2 5 2\npreempt 1 0 1\njob 2 1 2 8 2\ncomplete 3 1\n\
+         run 3 2\ncomplete 5 2\nrun 5 0\ncomplete 14 0\nend 14\n",
     ),
     (
         "k 1 1\njob 0 2 2 2\njob 2 1 3 1\nend\n",
@@ -80,12 +85,14 @@ const FEEDS: [(&str, Status, &str); 38] = [
     (
         "k 1 1\njob 0 5 9 5\njob 0 4 10 4\njob 6 1 7 1\nend\n",
         Status::Done,
-        "dover 1 1 1\njob 0 0 5 9 5\nrun 0 0\njob 1 0 4 10 4\ncomplete 5 0\nrun 5 1\njob 2 6 1 7 1\npreempt 6 1 2\ncomplete 7 2\nrun 7 1\ncomplete 10 1\nend 10\n",
+        "dover 1 1 1\njob 0 0 5 9 5\nrun 0 0\njob 1 0 4 10 4\ncomplete 5 0\nrun 5 1\njob 2 6 1 7 1\n\
+         preempt 6 1 2\ncomplete 7 2\nrun 7 1\ncomplete 10 1\nend 10\n",
     ),
     (
         "k 1 1\njob 0 9 9 9\njob 0 3 6 3\njob 3 30 33 30\nend\n",
         Status::Done,
-        "dover 1 1 1\njob 0 0 9 9 9\nrun 0 0\njob 1 0 3 6 3\njob 2 3 30 33 30\nabandon 3 1\ntake 3 0 2\nabandon 3 0\ncomplete 33 2\nend 30\n",
+        "dover 1 1 1\njob 0 0 9 9 9\nrun 0 0\njob 1 0 3 6 3\njob 2 3 30 33 30\nabandon 3 1\ntake 3 0 2\n\
+         abandon 3 0\ncomplete 33 2\nend 30\n",
     ),
     (
         "k 1 1\njob 0 1 1000000000000 1\nend\n",
@@ -98,7 +105,9 @@ const FEEDS: [(&str, Status, &str); 38] = [
         "dover 1 1 1\nrefused 2 job\n",
     ),
     (
-        "k 1 1\nxxxxxxxxxxxxxxxxxxxxxxxxxxxxxxxxxxxxxxxxxxxxxxxxxxxxxxxxxxxxxxxxxxxxxxxxxxxxxxxxxxxxxxxxxxxxxxxxxxxxxxxxxxxxxxxxxxxxxxxxxxxxxxxxx\n",
+        "k 1 1\n\
+         xxxxxxxxxxxxxxxxxxxxxxxxxxxxxxxxxxxxxxxxxxxxxxxxxxxxxxxxxxxxxxxxxxxxxxxxxxxxxxxxxxxxxxxxxxxxxxxxxxxxxxx\
+         xxxxxxxxxxxxxxxxxxxxxxxxxx\n",
         Status::Refused,
         "dover 1 1 1\nrefused 2 line\n",
     ),
@@ -124,39 +133,46 @@ const FEEDS: [(&str, Status, &str); 38] = [
     (
         "k 1 1\njob 0 1 1 1\njob 999999999999 1 1000000000000 1\nend\n",
         Status::Done,
-        "dover 1 1 1\njob 0 0 1 1 1\nrun 0 0\ncomplete 1 0\njob 1 999999999999 1 1000000000000 1\nrun 999999999999 1\ncomplete 1000000000000 1\nend 2\n",
+        "dover 1 1 1\njob 0 0 1 1 1\nrun 0 0\ncomplete 1 0\njob 1 999999999999 1 1000000000000 1\n\
+         run 999999999999 1\ncomplete 1000000000000 1\nend 2\n",
     ),
     (
-        "xxxxxxxxxxxxxxxxxxxxxxxxxxxxxxxxxxxxxxxxxxxxxxxxxxxxxxxxxxxxxxxxxxxxxxxxxxxxxxxxxxxxxxxxxxxxxxxxxxxxxxxxxxxxxxxxxxxxxxxxxxxxxxxxx",
+        "xxxxxxxxxxxxxxxxxxxxxxxxxxxxxxxxxxxxxxxxxxxxxxxxxxxxxxxxxxxxxxxxxxxxxxxxxxxxxxxxxxxxxxxxxxxxxxxxxxxxxxx\
+         xxxxxxxxxxxxxxxxxxxxxxxxxx",
         Status::Refused,
         "refused 1 line\n",
     ),
     (
         "k 1 1 2\njob 0 3 3 3\njob 0 4 10 4\njob 0 5 10 5\nend\n",
         Status::Done,
-        "dover 2 1 1\njob 0 0 3 3 3\nrun 0 0\njob 1 0 4 10 4\njob 2 0 5 10 5\ncomplete 3 0\nrun 3 2\nabandon 6 1\ncomplete 8 2\nend 8\n",
+        "dover 2 1 1\njob 0 0 3 3 3\nrun 0 0\njob 1 0 4 10 4\njob 2 0 5 10 5\ncomplete 3 0\nrun 3 2\n\
+         abandon 6 1\ncomplete 8 2\nend 8\n",
     ),
     (
         "k 1 1\njob 0 3 3 3\njob 0 4 10 4\njob 0 5 10 5\nend\n",
         Status::Done,
-        "dover 1 1 1\njob 0 0 3 3 3\nrun 0 0\njob 1 0 4 10 4\njob 2 0 5 10 5\ncomplete 3 0\nrun 3 1\nabandon 5 2\ncomplete 7 1\nend 7\n",
+        "dover 1 1 1\njob 0 0 3 3 3\nrun 0 0\njob 1 0 4 10 4\njob 2 0 5 10 5\ncomplete 3 0\nrun 3 1\n\
+         abandon 5 2\ncomplete 7 1\nend 7\n",
     ),
     (
         "k 1 1 2\njob 0 10 10 10\njob 0 20 20 20\njob 0 21 21 21\nend\n",
         Status::Done,
-        "dover 2 1 1\njob 0 0 10 10 10\nrun 0 0\njob 1 0 20 20 20\njob 2 0 21 21 21\ntake 0 0 2\nabandon 0 1\nabandon 0 0\ncomplete 21 2\nend 21\n",
+        "dover 2 1 1\njob 0 0 10 10 10\nrun 0 0\njob 1 0 20 20 20\njob 2 0 21 21 21\ntake 0 0 2\nabandon 0 1\n\
+         abandon 0 0\ncomplete 21 2\nend 21\n",
     ),
     (
         "k 1 1\njob 0 10 10 10\njob 0 20 20 20\njob 0 21 21 21\nend\n",
         Status::Done,
-        "dover 1 1 1\njob 0 0 10 10 10\nrun 0 0\njob 1 0 20 20 20\njob 2 0 21 21 21\nabandon 0 1\ntake 0 0 2\nabandon 0 0\ncomplete 21 2\nend 21\n",
+        "dover 1 1 1\njob 0 0 10 10 10\nrun 0 0\njob 1 0 20 20 20\njob 2 0 21 21 21\nabandon 0 1\ntake 0 0 2\n\
+         abandon 0 0\ncomplete 21 2\nend 21\n",
     ),
     ("k 1 1 1\n", Status::Refused, "refused 1 declared\n"),
     ("k 1 1 4\n", Status::Refused, "refused 1 declared\n"),
     (
         "k 2 1 2\njob 0 1 5 1\njob 0 1 5 2\njob 0 1 5 3\njob 3 9 5 9\nend\n",
         Status::Done,
-        "dover 2 2 1\njob 0 0 1 5 1\nrun 0 0\njob 1 0 1 5 2\nrefuse 0 0 1 5 3 ratio\nrefuse 0 3 9 5 9 job\ncomplete 1 0\nrun 1 1\ncomplete 2 1\nend 3\n",
+        "dover 2 2 1\njob 0 0 1 5 1\nrun 0 0\njob 1 0 1 5 2\nrefuse 0 0 1 5 3 ratio\nrefuse 0 3 9 5 9 job\n\
+         complete 1 0\nrun 1 1\ncomplete 2 1\nend 3\n",
     ),
     (
         "k 1 1 2\njob 0 2 2 2\ntick 2\njob 2 5 6 5\nend\n",
@@ -170,9 +186,27 @@ const FEEDS: [(&str, Status, &str); 38] = [
     ),
     // a minute of frames, telemetry and alarms, by tenths of a second
     (
-        "k 100 1\njob 0 60 90 60\njob 10 5 30 25\njob 50 5 70 25\njob 65 10 75 1000\njob 100 60 190 60\njob 110 5 130 25\njob 120 40 170 40\njob 125 5 145 25\njob 150 10 160 1000\njob 200 80 290 80\njob 210 20 230 2000\njob 215 5 235 25\njob 300 60 390 60\njob 300 5 320 25\njob 300 5 320 25\njob 360 30 420 30\njob 380 10 390 1000\njob 400 60 490 60\njob 420 5 440 25\njob 430 20 470 100\njob 440 10 450 1000\njob 500 60 590 60\njob 530 5 550 25\njob 560 20 580 2000\nend\n",
+        "k 100 1\njob 0 60 90 60\njob 10 5 30 25\njob 50 5 70 25\njob 65 10 75 1000\njob 100 60 190 60\n\
+         job 110 5 130 25\njob 120 40 170 40\njob 125 5 145 25\njob 150 10 160 1000\njob 200 80 290 80\n\
+         job 210 20 230 2000\njob 215 5 235 25\njob 300 60 390 60\njob 300 5 320 25\njob 300 5 320 25\n\
+         job 360 30 420 30\njob 380 10 390 1000\njob 400 60 490 60\njob 420 5 440 25\njob 430 20 470 100\n\
+         job 440 10 450 1000\njob 500 60 590 60\njob 530 5 550 25\njob 560 20 580 2000\nend\n",
         Status::Done,
-        "dover 1 100 1\njob 0 0 60 90 60\nrun 0 0\njob 1 10 5 30 25\npreempt 10 0 1\ncomplete 15 1\nrun 15 0\njob 2 50 5 70 25\npreempt 50 0 2\ncomplete 55 2\nrun 55 0\njob 3 65 10 75 1000\npreempt 65 0 3\ncomplete 75 3\nrun 75 0\ncomplete 80 0\njob 4 100 60 190 60\nrun 100 4\njob 5 110 5 130 25\npreempt 110 4 5\ncomplete 115 5\nrun 115 4\njob 6 120 40 170 40\njob 7 125 5 145 25\npreempt 125 4 7\ncomplete 130 7\nrun 130 4\nabandon 130 6\njob 8 150 10 160 1000\npreempt 150 4 8\ncomplete 160 8\nrun 160 4\ncomplete 180 4\njob 9 200 80 290 80\nrun 200 9\njob 10 210 20 230 2000\ntake 210 9 10\njob 11 215 5 235 25\nabandon 220 9\ncomplete 230 10\nrun 230 11\ncomplete 235 11\njob 12 300 60 390 60\nrun 300 12\njob 13 300 5 320 25\npreempt 300 12 13\njob 14 300 5 320 25\ncomplete 305 13\nrun 305 14\ncomplete 310 14\nrun 310 12\njob 15 360 30 420 30\ncomplete 370 12\nrun 370 15\njob 16 380 10 390 1000\npreempt 380 15 16\ncomplete 390 16\nrun 390 15\njob 17 400 60 490 60\ncomplete 410 15\nrun 410 17\njob 18 420 5 440 25\npreempt 420 17 18\ncomplete 425 18\nrun 425 17\njob 19 430 20 470 100\njob 20 440 10 450 1000\npreempt 440 17 20\ncomplete 450 20\nrun 450 17\nabandon 450 19\ncomplete 485 17\njob 21 500 60 590 60\nrun 500 21\njob 22 530 5 550 25\npreempt 530 21 22\ncomplete 535 22\nrun 535 21\njob 23 560 20 580 2000\npreempt 560 21 23\ncomplete 580 23\nrun 580 21\ncomplete 585 21\nend 8555\n",
+        "dover 1 100 1\njob 0 0 60 90 60\nrun 0 0\njob 1 10 5 30 25\npreempt 10 0 1\ncomplete 15 1\nrun 15 0\n\
+         job 2 50 5 70 25\npreempt 50 0 2\ncomplete 55 2\nrun 55 0\njob 3 65 10 75 1000\npreempt 65 0 3\n\
+         complete 75 3\nrun 75 0\ncomplete 80 0\njob 4 100 60 190 60\nrun 100 4\njob 5 110 5 130 25\n\
+         preempt 110 4 5\ncomplete 115 5\nrun 115 4\njob 6 120 40 170 40\njob 7 125 5 145 25\npreempt 125 4 7\n\
+         complete 130 7\nrun 130 4\nabandon 130 6\njob 8 150 10 160 1000\npreempt 150 4 8\ncomplete 160 8\n\
+         run 160 4\ncomplete 180 4\njob 9 200 80 290 80\nrun 200 9\njob 10 210 20 230 2000\ntake 210 9 10\n\
+         job 11 215 5 235 25\nabandon 220 9\ncomplete 230 10\nrun 230 11\ncomplete 235 11\n\
+         job 12 300 60 390 60\nrun 300 12\njob 13 300 5 320 25\npreempt 300 12 13\njob 14 300 5 320 25\n\
+         complete 305 13\nrun 305 14\ncomplete 310 14\nrun 310 12\njob 15 360 30 420 30\ncomplete 370 12\n\
+         run 370 15\njob 16 380 10 390 1000\npreempt 380 15 16\ncomplete 390 16\nrun 390 15\n\
+         job 17 400 60 490 60\ncomplete 410 15\nrun 410 17\njob 18 420 5 440 25\npreempt 420 17 18\n\
+         complete 425 18\nrun 425 17\njob 19 430 20 470 100\njob 20 440 10 450 1000\npreempt 440 17 20\n\
+         complete 450 20\nrun 450 17\nabandon 450 19\ncomplete 485 17\njob 21 500 60 590 60\nrun 500 21\n\
+         job 22 530 5 550 25\npreempt 530 21 22\ncomplete 535 22\nrun 535 21\njob 23 560 20 580 2000\n\
+         preempt 560 21 23\ncomplete 580 23\nrun 580 21\ncomplete 585 21\nend 8555\n",
     ),
 ];
 
@@ -197,32 +231,51 @@ const TEXTS: [(&str, Status, &str); 12] = [
         "wrong 4 expected complete 1 0\n",
     ),
     (
-        "dover 1 1 1\njob 0 0 1 1 1\nrun 0 0\ncomplete 1 0\njob 1 999999999999 1 1000000000000 1\nrun 999999999999 1\ncomplete 1000000000000 1\nend 2\n",
+        "dover 1 1 1\njob 0 0 1 1 1\nrun 0 0\ncomplete 1 0\njob 1 999999999999 1 1000000000000 1\n\
+         run 999999999999 1\ncomplete 1000000000000 1\nend 2\n",
         Status::Done,
         "accepted 2 8\n",
     ),
     (
-        "dover 2 1 1\njob 0 0 3 3 3\nrun 0 0\njob 1 0 4 10 4\njob 2 0 5 10 5\ncomplete 3 0\nrun 3 2\nabandon 6 1\ncomplete 8 2\nend 8\n",
+        "dover 2 1 1\njob 0 0 3 3 3\nrun 0 0\njob 1 0 4 10 4\njob 2 0 5 10 5\ncomplete 3 0\nrun 3 2\n\
+         abandon 6 1\ncomplete 8 2\nend 8\n",
         Status::Done,
         "accepted 8 32\n",
     ),
     (
-        "dover 2 1 1\njob 0 0 3 3 3\nrun 0 0\njob 1 0 4 10 4\njob 2 0 5 10 5\ncomplete 3 0\nrun 3 1\nabandon 6 1\ncomplete 8 2\nend 8\n",
+        "dover 2 1 1\njob 0 0 3 3 3\nrun 0 0\njob 1 0 4 10 4\njob 2 0 5 10 5\ncomplete 3 0\nrun 3 1\n\
+         abandon 6 1\ncomplete 8 2\nend 8\n",
         Status::No,
         "wrong 7 expected run 3 2\n",
     ),
     (
-        "dover 2 2 1\njob 0 0 1 5 1\nrun 0 0\njob 1 0 1 5 2\nrefuse 0 0 1 5 3 ratio\nrefuse 0 3 9 5 9 job\ncomplete 1 0\nrun 1 1\ncomplete 2 1\nend 3\n",
+        "dover 2 2 1\njob 0 0 1 5 1\nrun 0 0\njob 1 0 1 5 2\nrefuse 0 0 1 5 3 ratio\nrefuse 0 3 9 5 9 job\n\
+         complete 1 0\nrun 1 1\ncomplete 2 1\nend 3\n",
         Status::Done,
         "accepted 3 17\n",
     ),
     (
-        "xxxxxxxxxxxxxxxxxxxxxxxxxxxxxxxxxxxxxxxxxxxxxxxxxxxxxxxxxxxxxxxxxxxxxxxxxxxxxxxxxxxxxxxxxxxxxxxxxxxxxxxxxxxxxxxxxxxxxxxxxxxxxxxxx",
+        "xxxxxxxxxxxxxxxxxxxxxxxxxxxxxxxxxxxxxxxxxxxxxxxxxxxxxxxxxxxxxxxxxxxxxxxxxxxxxxxxxxxxxxxxxxxxxxxxxxxxxxx\
+         xxxxxxxxxxxxxxxxxxxxxxxxxx",
         Status::No,
         "wrong 1 expected header\n",
     ),
     (
-        "dover 1 100 1\njob 0 0 60 90 60\nrun 0 0\njob 1 10 5 30 25\npreempt 10 0 1\ncomplete 15 1\nrun 15 0\njob 2 50 5 70 25\npreempt 50 0 2\ncomplete 55 2\nrun 55 0\njob 3 65 10 75 1000\npreempt 65 0 3\ncomplete 75 3\nrun 75 0\ncomplete 80 0\njob 4 100 60 190 60\nrun 100 4\njob 5 110 5 130 25\npreempt 110 4 5\ncomplete 115 5\nrun 115 4\njob 6 120 40 170 40\njob 7 125 5 145 25\npreempt 125 4 7\ncomplete 130 7\nrun 130 4\nabandon 130 6\njob 8 150 10 160 1000\npreempt 150 4 8\ncomplete 160 8\nrun 160 4\ncomplete 180 4\njob 9 200 80 290 80\nrun 200 9\njob 10 210 20 230 2000\ntake 210 9 10\njob 11 215 5 235 25\nabandon 220 9\ncomplete 230 10\nrun 230 11\ncomplete 235 11\njob 12 300 60 390 60\nrun 300 12\njob 13 300 5 320 25\npreempt 300 12 13\njob 14 300 5 320 25\ncomplete 305 13\nrun 305 14\ncomplete 310 14\nrun 310 12\njob 15 360 30 420 30\ncomplete 370 12\nrun 370 15\njob 16 380 10 390 1000\npreempt 380 15 16\ncomplete 390 16\nrun 390 15\njob 17 400 60 490 60\ncomplete 410 15\nrun 410 17\njob 18 420 5 440 25\npreempt 420 17 18\ncomplete 425 18\nrun 425 17\njob 19 430 20 470 100\njob 20 440 10 450 1000\npreempt 440 17 20\ncomplete 450 20\nrun 450 17\nabandon 450 19\ncomplete 485 17\njob 21 500 60 590 60\nrun 500 21\njob 22 530 5 550 25\npreempt 530 21 22\ncomplete 535 22\nrun 535 21\njob 23 560 20 580 2000\npreempt 560 21 23\ncomplete 580 23\nrun 580 21\ncomplete 585 21\nend 8555\n",
+        "dover 1 100 1\njob 0 0 60 90 60\nrun 0 0\njob 1 10 5 30 25\npreempt 10 0 1\ncomplete 15 1\nrun 15 0\n\
+         job 2 50 5 70 25\npreempt 50 0 2\ncomplete 55 2\nrun 55 0\njob 3 65 10 75 1000\npreempt 65 0 3\n\
+         complete 75 3\nrun 75 0\ncomplete 80 0\njob 4 100 60 190 60\nrun 100 4\njob 5 110 5 130 25\n\
+         preempt 110 4 5\ncomplete 115 5\nrun 115 4\njob 6 120 40 170 40\njob 7 125 5 145 25\npreempt 125 4 7\n\
+         complete 130 7\nrun 130 4\nabandon 130 6\njob 8 150 10 160 1000\npreempt 150 4 8\ncomplete 160 8\n\
+         run 160 4\ncomplete 180 4\njob 9 200 80 290 80\nrun 200 9\njob 10 210 20 230 2000\ntake 210 9 10\n\
+         job 11 215 5 235 25\nabandon 220 9\ncomplete 230 10\nrun 230 11\ncomplete 235 11\n\
+         job 12 300 60 390 60\nrun 300 12\njob 13 300 5 320 25\npreempt 300 12 13\njob 14 300 5 320 25\n\
+         complete 305 13\nrun 305 14\ncomplete 310 14\nrun 310 12\njob 15 360 30 420 30\ncomplete 370 12\n\
+         run 370 15\njob 16 380 10 390 1000\npreempt 380 15 16\ncomplete 390 16\nrun 390 15\n\
+         job 17 400 60 490 60\ncomplete 410 15\nrun 410 17\njob 18 420 5 440 25\npreempt 420 17 18\n\
+         complete 425 18\nrun 425 17\njob 19 430 20 470 100\njob 20 440 10 450 1000\npreempt 440 17 20\n\
+         complete 450 20\nrun 450 17\nabandon 450 19\ncomplete 485 17\njob 21 500 60 590 60\nrun 500 21\n\
+         job 22 530 5 550 25\npreempt 530 21 22\ncomplete 535 22\nrun 535 21\njob 23 560 20 580 2000\n\
+         preempt 560 21 23\ncomplete 580 23\nrun 580 21\ncomplete 585 21\nend 8555\n",
         Status::Done,
         "accepted 8555 1035155\n",
     ),
@@ -277,7 +330,9 @@ const CALLS: [Row; 9] = [
         &["lanes"],
         "3 k 1 1\n0 k 1 1\n3 job 0 2 2 2\n0 job 0 4 10 4\n0 job 1 2 5 2\n3 end\n0 end\nclose\n",
         Status::Done,
-        "3 dover 1 1 1\n0 dover 1 1 1\n3 job 0 0 2 2 2\n3 run 0 0\n0 job 0 0 4 10 4\n0 run 0 0\n0 job 1 1 2 5 2\n0 preempt 1 0 1\n3 complete 2 0\n3 end 2\n0 complete 3 1\n0 run 3 0\n0 complete 6 0\n0 end 6\n",
+        "3 dover 1 1 1\n0 dover 1 1 1\n3 job 0 0 2 2 2\n3 run 0 0\n0 job 0 0 4 10 4\n0 run 0 0\n\
+         0 job 1 1 2 5 2\n0 preempt 1 0 1\n3 complete 2 0\n3 end 2\n0 complete 3 1\n0 run 3 0\n0 complete 6 0\n\
+         0 end 6\n",
     ),
     // a fault in one lane leaves the other alone
     (
@@ -290,7 +345,10 @@ const CALLS: [Row; 9] = [
 
 /// The baiting feed of ratio 1/1 with four rounds.
 const BAITING: &str =
-    "k 1 1\njob 0 1 1 1\njob 0 3 3 3\njob 0 1 1 1\njob 1 1 2 1\njob 2 7 9 7\njob 2 1 3 1\njob 3 1 4 1\njob 4 1 5 1\njob 5 1 6 1\njob 6 1 7 1\njob 7 1 8 1\njob 8 15 23 15\njob 8 1 9 1\njob 9 1 10 1\njob 10 1 11 1\njob 11 1 12 1\njob 12 1 13 1\njob 13 1 14 1\njob 14 1 15 1\njob 15 1 16 1\njob 16 1 17 1\njob 17 1 18 1\njob 18 1 19 1\njob 19 1 20 1\njob 20 1 21 1\njob 21 1 22 1\njob 22 30 52 30\nend\n";
+    "k 1 1\njob 0 1 1 1\njob 0 3 3 3\njob 0 1 1 1\njob 1 1 2 1\njob 2 7 9 7\njob 2 1 3 1\njob 3 1 4 1\n\
+     job 4 1 5 1\njob 5 1 6 1\njob 6 1 7 1\njob 7 1 8 1\njob 8 15 23 15\njob 8 1 9 1\njob 9 1 10 1\n\
+     job 10 1 11 1\njob 11 1 12 1\njob 12 1 13 1\njob 13 1 14 1\njob 14 1 15 1\njob 15 1 16 1\njob 16 1 17 1\n\
+     job 17 1 18 1\njob 18 1 19 1\njob 19 1 20 1\njob 20 1 21 1\njob 21 1 22 1\njob 22 30 52 30\nend\n";
 
 #[test]
 fn feeds_and_their_traces(rt: HostRuntime) -> Result<(), Fail> {

@@ -71,7 +71,8 @@ pub const JOBS: [(&str, &str); 12] = [
         "wrong 6 expected end 2\n",
     ),
     (
-        "dover 1 1 1\njob 0 0 10 14 10\nrun 0 0\njob 1 1 2 5 2\npreempt 1 0 1\njob 2 1 3 8 3\ncomplete 3 1\njob 3 3 1 9 1\n",
+        "dover 1 1 1\njob 0 0 10 14 10\nrun 0 0\njob 1 1 2 5 2\npreempt 1 0 1\njob 2 1 3 8 3\ncomplete 3 1\n\
+         job 3 3 1 9 1\n",
         "wrong 8 expected run 3 0\n",
     ),
     (
@@ -90,13 +91,13 @@ pub const STARTS: [(&str, &str); 8] = [
     // of another tick or number, too early, doubled, in one another's place; in version Two the greater value comes
     // first
     (
-        "dover 1 1 1\njob 0 0 3 30 3\nrun 0 0\njob 1 0 2 4 2\npreempt 0 0 1\njob 2 0 12 12 12\ntake 0 0 2\nabandon 2 1\n\
-         complete 12 2\nrun 12 0\ncomplete 15 0\nend 15\n",
+        "dover 1 1 1\njob 0 0 3 30 3\nrun 0 0\njob 1 0 2 4 2\npreempt 0 0 1\njob 2 0 12 12 12\ntake 0 0 2\n\
+         abandon 2 1\ncomplete 12 2\nrun 12 0\ncomplete 15 0\nend 15\n",
         "wrong 7 expected take 0 1 2\n",
     ),
     (
-        "dover 1 1 1\njob 0 0 10 10 10\nrun 0 0\njob 1 0 21 21 21\ntake 0 0 1\nabandon 0 0\nabandon 0 0\ncomplete 21 1\n\
-         end 21\n",
+        "dover 1 1 1\njob 0 0 10 10 10\nrun 0 0\njob 1 0 21 21 21\ntake 0 0 1\nabandon 0 0\nabandon 0 0\n\
+         complete 21 1\nend 21\n",
         "wrong 7 expected complete 21 1\n",
     ),
     (
@@ -105,28 +106,28 @@ pub const STARTS: [(&str, &str); 8] = [
         "wrong 6 expected abandon 3 1\n",
     ),
     (
-        "dover 1 1 1\njob 0 0 10 14 10\nrun 0 0\njob 1 1 2 5 2\npreempt 1 0 1\njob 2 1 3 8 3\ncomplete 3 1\nabandon 5 2\n\
-         run 3 0\ncomplete 12 0\nend 12\n",
+        "dover 1 1 1\njob 0 0 10 14 10\nrun 0 0\njob 1 1 2 5 2\npreempt 1 0 1\njob 2 1 3 8 3\ncomplete 3 1\n\
+         abandon 5 2\nrun 3 0\ncomplete 12 0\nend 12\n",
         "wrong 8 expected run 3 0\n",
     ),
     (
-        "dover 1 1 1\njob 0 0 3 30 3\nrun 0 0\njob 1 0 2 4 2\npreempt 0 0 1\njob 2 0 12 12 12\ntake 0 1 2\nabandon 0 1\n\
-         complete 12 2\nrun 12 0\ncomplete 15 0\nend 15\n",
+        "dover 1 1 1\njob 0 0 3 30 3\nrun 0 0\njob 1 0 2 4 2\npreempt 0 0 1\njob 2 0 12 12 12\ntake 0 1 2\n\
+         abandon 0 1\ncomplete 12 2\nrun 12 0\ncomplete 15 0\nend 15\n",
         "wrong 8 expected abandon 2 1\n",
     ),
     (
-        "dover 2 1 1\njob 0 0 10 10 10\nrun 0 0\njob 1 0 20 20 20\njob 2 0 21 21 21\nabandon 0 1\ntake 0 0 2\nabandon 0 0\n\
-         complete 21 2\nend 21\n",
+        "dover 2 1 1\njob 0 0 10 10 10\nrun 0 0\njob 1 0 20 20 20\njob 2 0 21 21 21\nabandon 0 1\ntake 0 0 2\n\
+         abandon 0 0\ncomplete 21 2\nend 21\n",
         "wrong 6 expected take 0 0 2\n",
     ),
     (
-        "dover 2 1 1\njob 0 0 10 10 10\nrun 0 0\njob 1 0 20 20 20\njob 2 0 21 21 21\ntake 0 0 2\nabandon 0 0\nabandon 0 1\n\
-         complete 21 2\nend 21\n",
+        "dover 2 1 1\njob 0 0 10 10 10\nrun 0 0\njob 1 0 20 20 20\njob 2 0 21 21 21\ntake 0 0 2\nabandon 0 0\n\
+         abandon 0 1\ncomplete 21 2\nend 21\n",
         "wrong 7 expected abandon 0 1\n",
     ),
     (
-        "dover 1 1 1\njob 0 0 10 10 10\nrun 0 0\njob 1 0 20 20 20\njob 2 0 21 21 21\ntake 0 0 2\nabandon 0 1\nabandon 0 0\n\
-         complete 21 2\nend 21\n",
+        "dover 1 1 1\njob 0 0 10 10 10\nrun 0 0\njob 1 0 20 20 20\njob 2 0 21 21 21\ntake 0 0 2\nabandon 0 1\n\
+         abandon 0 0\ncomplete 21 2\nend 21\n",
         "wrong 6 expected abandon 0 1\n",
     ),
 ];
@@ -134,13 +135,14 @@ pub const STARTS: [(&str, &str); 8] = [
 /// What comes behind an end.
 pub const ENDS: [(&str, &str); 2] = [
     (
-        "dover 2 2 1\njob 0 0 1 5 1\nrun 0 0\njob 1 0 1 5 2\nrefuse 0 0 1 5 3 ratio\nrefuse 0 3 9 5 9 job\ncomplete 1 0\n\
-         run 1 1\ncomplete 2 1\nend 3\nrefuse 0 3 9 5 9 job\n",
+        "dover 2 2 1\njob 0 0 1 5 1\nrun 0 0\njob 1 0 1 5 2\nrefuse 0 0 1 5 3 ratio\nrefuse 0 3 9 5 9 job\n\
+         complete 1 0\nrun 1 1\ncomplete 2 1\nend 3\nrefuse 0 3 9 5 9 job\n",
         "wrong 11 expected nothing\n",
     ),
     (
         "dover 1 1 1\nend 0\n\
-         xxxxxxxxxxxxxxxxxxxxxxxxxxxxxxxxxxxxxxxxxxxxxxxxxxxxxxxxxxxxxxxxxxxxxxxxxxxxxxxxxxxxxxxxxxxxxxxxxxxxxxxxxxxxxxxxxxxxxxxxxxxxxxxxx",
+         xxxxxxxxxxxxxxxxxxxxxxxxxxxxxxxxxxxxxxxxxxxxxxxxxxxxxxxxxxxxxxxxxxxxxxxxxxxxxxxxxxxxxxxxxxxxxxxx\
+         xxxxxxxxxxxxxxxxxxxxxxxxxxxxxxxxx",
         "wrong 3 expected nothing\n",
     ),
 ];
@@ -153,8 +155,8 @@ pub const REFUSED: [(&str, &str); 8] = [
         "wrong 5 expected complete 1 0\n",
     ),
     (
-        "dover 2 2 1\njob 0 0 1 5 1\nrefuse 0 3 9 5 9 job\nrun 0 0\njob 1 0 1 5 2\nrefuse 0 0 1 5 3 ratio\ncomplete 1 0\n\
-         run 1 1\ncomplete 2 1\nend 3\n",
+        "dover 2 2 1\njob 0 0 1 5 1\nrefuse 0 3 9 5 9 job\nrun 0 0\njob 1 0 1 5 2\nrefuse 0 0 1 5 3 ratio\n\
+         complete 1 0\nrun 1 1\ncomplete 2 1\nend 3\n",
         "wrong 3 expected run 0 0\n",
     ),
     (
@@ -171,7 +173,8 @@ pub const REFUSED: [(&str, &str); 8] = [
         "wrong 5 expected end 2\n",
     ),
     (
-        "dover 2 1 1\njob 0 0 10 10 10\nrun 0 0\njob 1 0 20 20 20\njob 2 0 21 21 21\ntake 0 0 2\nrefuse 0 0 1 0 1 job\n",
+        "dover 2 1 1\njob 0 0 10 10 10\nrun 0 0\njob 1 0 20 20 20\njob 2 0 21 21 21\ntake 0 0 2\n\
+         refuse 0 0 1 0 1 job\n",
         "wrong 7 expected abandon 0 1\n",
     ),
     (
@@ -179,7 +182,8 @@ pub const REFUSED: [(&str, &str); 8] = [
         "wrong 6 expected take 0 0 2\n",
     ),
     (
-        "dover 2 2 1\njob 0 0 1 5 1\nrun 0 0\njob 1 0 1 5 2\nrefuse 0 0 1 5 3 ratio\nrefuse 0 3 9 5 9 job\njob 2 0 1 5 3\n",
+        "dover 2 2 1\njob 0 0 1 5 1\nrun 0 0\njob 1 0 1 5 2\nrefuse 0 0 1 5 3 ratio\nrefuse 0 3 9 5 9 job\n\
+         job 2 0 1 5 3\n",
         "wrong 7 expected complete 1 0\n",
     ),
 ];
@@ -189,29 +193,32 @@ pub const LINES: [(&str, &str); 6] = [
     // lines that are no lines of a trace
     (
         "dover 1 1 1\n\
-         xxxxxxxxxxxxxxxxxxxxxxxxxxxxxxxxxxxxxxxxxxxxxxxxxxxxxxxxxxxxxxxxxxxxxxxxxxxxxxxxxxxxxxxxxxxxxxxxxxxxxxxxxxxxxxxxxxxxxxxxxxxxxxxx\n\
-         end 0\n",
+         xxxxxxxxxxxxxxxxxxxxxxxxxxxxxxxxxxxxxxxxxxxxxxxxxxxxxxxxxxxxxxxxxxxxxxxxxxxxxxxxxxxxxxxxxxxxxx\
+         xxxxxxxxxxxxxxxxxxxxxxxxxxxxxxxxxx\nend 0\n",
         "wrong 2 expected end 0\n",
     ),
     (
         "dover 1 1 1\n\
-         xxxxxxxxxxxxxxxxxxxxxxxxxxxxxxxxxxxxxxxxxxxxxxxxxxxxxxxxxxxxxxxxxxxxxxxxxxxxxxxxxxxxxxxxxxxxxxxxxxxxxxxxxxxxxxxxxxxxxxxxxxxxxxxxx\n\
-         end 0\n",
+         xxxxxxxxxxxxxxxxxxxxxxxxxxxxxxxxxxxxxxxxxxxxxxxxxxxxxxxxxxxxxxxxxxxxxxxxxxxxxxxxxxxxxxxxxxxxxx\
+         xxxxxxxxxxxxxxxxxxxxxxxxxxxxxxxxxxx\nend 0\n",
         "wrong 2 expected end 0\n",
     ),
     // rests without a line feed, of 128 bytes and of one more
     (
-        "xxxxxxxxxxxxxxxxxxxxxxxxxxxxxxxxxxxxxxxxxxxxxxxxxxxxxxxxxxxxxxxxxxxxxxxxxxxxxxxxxxxxxxxxxxxxxxxxxxxxxxxxxxxxxxxxxxxxxxxxxxxxxxxx",
+        "xxxxxxxxxxxxxxxxxxxxxxxxxxxxxxxxxxxxxxxxxxxxxxxxxxxxxxxxxxxxxxxxxxxxxxxxxxxxxxxxxxxxxxxxxxxxxxxxxxxxxxx\
+         xxxxxxxxxxxxxxxxxxxxxxxxx",
         "short 0\n",
     ),
     (
         "dover 1 1 1\njob 0 0 2 2 2\n\
-         xxxxxxxxxxxxxxxxxxxxxxxxxxxxxxxxxxxxxxxxxxxxxxxxxxxxxxxxxxxxxxxxxxxxxxxxxxxxxxxxxxxxxxxxxxxxxxxxxxxxxxxxxxxxxxxxxxxxxxxxxxxxxxxx",
+         xxxxxxxxxxxxxxxxxxxxxxxxxxxxxxxxxxxxxxxxxxxxxxxxxxxxxxxxxxxxxxxxxxxxxxxxxxxxxxxxxxxxxxxxxxxxxxxx\
+         xxxxxxxxxxxxxxxxxxxxxxxxxxxxxxxx",
         "short 2\n",
     ),
     (
         "dover 1 1 1\njob 0 0 2 2 2\n\
-         xxxxxxxxxxxxxxxxxxxxxxxxxxxxxxxxxxxxxxxxxxxxxxxxxxxxxxxxxxxxxxxxxxxxxxxxxxxxxxxxxxxxxxxxxxxxxxxxxxxxxxxxxxxxxxxxxxxxxxxxxxxxxxxxx",
+         xxxxxxxxxxxxxxxxxxxxxxxxxxxxxxxxxxxxxxxxxxxxxxxxxxxxxxxxxxxxxxxxxxxxxxxxxxxxxxxxxxxxxxxxxxxxxxxx\
+         xxxxxxxxxxxxxxxxxxxxxxxxxxxxxxxxx",
         "wrong 3 expected run 0 0\n",
     ),
     (

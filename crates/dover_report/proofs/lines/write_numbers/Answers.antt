@@ -1,5 +1,5 @@
-use Rattle.std.proofs.Common.{◌≡◌, ℕ, ◌+◌, ◌-◌, ◌^◌, ◌<◌, ◌≤◌, List, ◌∷◌, ◌++◌, length, get_or, drop, slice_set, sym, ap}
-use Rattle.std.proofs.Common.{◌∙◌, subst, arith, rules}
+use Rattle.std.proofs.Common.{◌≡◌, ℕ, ◌+◌, ◌-◌, ◌^◌, ◌<◌, ◌≤◌, List, ◌∷◌, ◌++◌, length, get_or, drop, slice_set}
+use Rattle.std.proofs.Common.{sym, ap, ◌∙◌, subst, arith, rules}
 use Rattle.std.proofs.lemmas.List.{drop_more, length-set}
 use Rattle.line_text.specs.Writing.{numbers_behind}
 use Rattle.line_text.proofs.Written.{number_before}
@@ -10,7 +10,12 @@ pub write_digits-start-requires : goal.write_digits-start-requires
 write_digits-start-requires c =
     let some : 0 < c.loop-left.left = c.loop-left-test.true in
     let is_low : get_or c.args.numbers.now (c.loop-left.left - 1) 0 < 2 ^ 64 = search rules in (
-      omega (arith, some, digits (get_or c.args.numbers.now (c.loop-left.left - 1) 0) is_low, c.loop-left.invariant.room),
+      omega (
+        arith,
+        some,
+        digits (get_or c.args.numbers.now (c.loop-left.left - 1) 0) is_low,
+        c.loop-left.invariant.room,
+      ),
       c.loop-left.invariant.inside,
     )
 
