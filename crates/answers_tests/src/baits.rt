@@ -42,71 +42,126 @@ const JOBS: [(u64, u64, u64); 27] = [
     (22, 30, 30),
 ];
 
+/// Ratios and rounds, and whether their feeds are small enough.
+const SIZES: [(u32, u32, u32, bool); 6] = [
+    (1, 1, 19, false),
+    (1, 1, 1_000_000, false),
+    (1_000_000, 1, 1, true),
+    (1_000_000, 1, 2, false),
+    (998_001, 1, 2, false),
+    (1_000_000, 1_000, 3, true),
+];
+
+/// Ticks of the feed of ratio 9/4 and two rounds, and the job that its schedule runs there.
+const SHORT: [(u64, Option<u32>); 6] = [
+    (0, Some(2)),
+    (1, Some(3)),
+    (2, Some(4)),
+    (8, Some(4)),
+    (9, None),
+    (u64::MAX, None),
+];
+
+/// Those of the feed of ratio 1 and four rounds.
+const LONG: [(u64, Option<u32>); 9] = [
+    (0, Some(2)),
+    (1, Some(3)),
+    (2, Some(5)),
+    (7, Some(10)),
+    (8, Some(12)),
+    (21, Some(25)),
+    (22, Some(26)),
+    (51, Some(26)),
+    (52, None),
+];
+
+/// The feed of a ratio and of so many rounds, if it is small enough.
+fn feed_of(p: u32, q: u32, rounds: u32) -> Option<Bait> {
+    let k = Ratio::new(p, q)?;
+    if rounds >= 1 {
+        return Bait::new(k, rounds);
+    }
+    None
+}
+
+/// Whether the feed of these numbers has so many jobs and these values.
+fn has_numbers(feed: &Bait, jobs: u32, value: u64, schedule: u64) -> bool {
+    feed.jobs() == jobs && feed.value() == value && feed.schedule_value() == schedule
+}
+
+/// Whether the feed of each row has its numbers.
+fn have_numbers(rows: &[(u32, u32, u32, u32, u64, u64)]) -> bool {
+    for (p, q, rounds, jobs, value, schedule) in rows {
+        match feed_of(*p, *q, *rounds) {
+            Some(feed) if has_numbers(&feed, *jobs, *value, *schedule) => {}
+            _ => return false,
+        }
+    }
+    true
+}
+
+/// Whether the next job of the feed is this one.
+fn is_next(feed: &mut Bait, release: u64, work: u64, value: u64) -> bool {
+    match feed.next_job() {
+        Some(job) => {
+            (job.release(), job.work(), job.value()) == (release, work, value)
+                && release.checked_add(work) == Some(job.deadline())
+        }
+        None => false,
+    }
+}
+
+/// Whether the jobs of the feed are these.
+fn has_jobs(feed: &mut Bait, jobs: &[(u64, u64, u64)]) -> bool {
+    for (release, work, value) in jobs {
+        if !is_next(feed, *release, *work, *value) {
+            return false;
+        }
+    }
+    feed.next_job().is_none() && feed.next_job().is_none()
+}
+
+/// Whether each row says if its feed is small enough.
+fn are_sized(rows: &[(u32, u32, u32, bool)]) -> bool {
+    for (p, q, rounds, fits) in rows {
+        if feed_of(*p, *q, *rounds).is_some() != *fits {
+            return false;
+        }
+    }
+    true
+}
+
+/// Whether the schedule of the feed runs these jobs at these ticks.
+fn runs(feed: Option<Bait>, rows: &[(u64, Option<u32>)]) -> bool {
+    let Some(feed) = feed else {
+        return false;
+    };
+    for (tick, number) in rows {
+        if feed.schedule_at(*tick) != *number {
+            return false;
+        }
+    }
+    true
+}
+
 #[test]
 fn feeds_have_these_numbers(rt: HostRuntime) {
-    for (p, q, rounds, jobs, value, schedule) in FEEDS {
-        let k = Ratio::new(p, q).expect(&rt, "a ratio");
-        assert!(rt; rounds >= 1);
-        let feed = Bait::new(k, rounds).expect(&rt, "a feed");
-        let holds = feed.jobs() == jobs
-            && feed.value() == value
-            && feed.schedule_value() == schedule;
-        assert!(rt; holds);
-    }
+    assert!(rt; have_numbers(&FEEDS));
 }
 
 #[test]
 fn a_feed_has_these_jobs(rt: HostRuntime) {
-    let mut feed = Bait::new(Ratio::new(1, 1).unwrap(), 4).expect(&rt, "a feed");
-    for (release, work, value) in JOBS {
-        let job = feed.next_job().expect(&rt, "a job");
-        let numbers = (job.release(), job.work(), job.value());
-        let end = release.checked_add(work);
-        assert!(rt; numbers == (release, work, value) && end == Some(job.deadline()));
-    }
-    assert!(rt; feed.next_job().is_none() && feed.next_job().is_none());
+    let mut feed = feed_of(1, 1, 4).expect(&rt, "a feed");
+    assert!(rt; has_jobs(&mut feed, &JOBS));
 }
 
 #[test]
 fn large_feeds_are_refused(rt: HostRuntime) {
-    for (p, q, rounds, fits) in [
-        (1, 1, 19, false),
-        (1, 1, 1_000_000, false),
-        (1_000_000, 1, 1, true),
-        (1_000_000, 1, 2, false),
-        (998_001, 1, 2, false),
-        (1_000_000, 1_000, 3, true),
-    ] {
-        let k = Ratio::new(p, q).expect(&rt, "a ratio");
-        assert!(rt; rounds >= 1 && Bait::new(k, rounds).is_some() == fits);
-    }
+    assert!(rt; are_sized(&SIZES));
 }
 
 #[test]
 fn the_schedule_names_unit_jobs_and_the_bait(rt: HostRuntime) {
-    let feed = Bait::new(Ratio::new(9, 4).unwrap(), 2).expect(&rt, "a feed");
-    let longer = Bait::new(Ratio::new(1, 1).unwrap(), 4).expect(&rt, "a feed");
-    for (tick, number) in [
-        (0, Some(2)),
-        (1, Some(3)),
-        (2, Some(4)),
-        (8, Some(4)),
-        (9, None),
-        (u64::MAX, None),
-    ] {
-        assert!(rt; feed.schedule_at(tick) == number);
-    }
-    for (tick, number) in [
-        (0, Some(2)),
-        (1, Some(3)),
-        (2, Some(5)),
-        (7, Some(10)),
-        (8, Some(12)),
-        (21, Some(25)),
-        (22, Some(26)),
-        (51, Some(26)),
-        (52, None),
-    ] {
-        assert!(rt; longer.schedule_at(tick) == number);
-    }
+    assert!(rt; runs(feed_of(9, 4, 2), &SHORT));
+    assert!(rt; runs(feed_of(1, 1, 4), &LONG));
 }

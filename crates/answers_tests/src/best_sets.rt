@@ -1,7 +1,7 @@
 ghost use Rattle.std.specs.Prelude.{◌≡◌};
 ghost use Rattle.dover_model.specs.Instance.{IsInOrder};
 
-use best_set::{BestFault, best};
+use best_set::{Best, BestFault, best};
 use dover_model::{Job, Piece};
 use std::alloc::Global;
 use std::process::Abort;
@@ -13,8 +13,24 @@ fn job(rt: &impl Abort, release: u64, work: u64, deadline: u64, value: u64) -> J
     Job::new(release, work, deadline, value).expect(rt, "a job")
 }
 
-/// The best set of these jobs has this value, these numbers and these stretches, each its first tick, the tick behind
-/// its last, and a number.
+/// Whether these are the stretches, each its first tick, the tick behind its last, and a number.
+fn are_stretches(pieces: &[Piece], stretches: &[(u64, u64, u32)]) -> bool {
+    for (piece, (from, until, number)) in pieces.iter().zip(stretches) {
+        if (piece.from, piece.until, piece.number) != (*from, *until, *number) {
+            return false;
+        }
+    }
+    pieces.len() == stretches.len()
+}
+
+/// Whether the best set has this value, these numbers and these stretches.
+fn is_best(found: &Best, value: u64, numbers: &[u32], stretches: &[(u64, u64, u32)]) -> bool {
+    found.value == value
+        && found.chosen.as_slice() == numbers
+        && are_stretches(&found.pieces, stretches)
+}
+
+/// The best set of these jobs has this value, these numbers and these stretches.
 fn comes_to(
     rt: &impl Abort,
     alloc: Global,
@@ -26,20 +42,7 @@ fn comes_to(
     requires { IsInOrder jobs.now }
 {
     let found = best(alloc, jobs).expect(rt, "memory");
-    let holds = found.value == value
-        && found.chosen.as_slice() == numbers
-        && found.pieces.len() == stretches.len();
-    assert!(rt; holds);
-    for (piece, (from, until, number)) in found.pieces.iter().zip(stretches) {
-        assert!(rt;
-            *piece
-                == Piece {
-                    from: *from,
-                    until: *until,
-                    number: *number
-                }
-        );
-    }
+    assert!(rt; is_best(&found, value, numbers, stretches));
 }
 
 #[test]

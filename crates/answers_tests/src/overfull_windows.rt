@@ -171,12 +171,16 @@ fn judge(rt: &(impl Abort + AllocGlobal), jobs: &[Job]) -> Feasible {
     judge_feasible(rt.alloc(), jobs).expect(rt, "memory")
 }
 
+fn put_piece(alloc: Global, text: &mut String, piece: &Piece) -> Result<(), Memory> {
+    let (from, until, number) = (piece.from, piece.until, piece.number);
+    let one = format!(in alloc; " {from}-{until}:{number}")?;
+    Ok(text.push_str(one.as_str())?)
+}
+
 fn text_of_pieces(alloc: Global, pieces: &[Piece]) -> Result<String, Memory> {
     let mut text = format!(in alloc; "all")?;
     for piece in pieces {
-        let (from, until, number) = (piece.from, piece.until, piece.number);
-        let one = format!(in alloc; " {from}-{until}:{number}")?;
-        text.push_str(one.as_str())?;
+        put_piece(alloc, &mut text, piece)?;
     }
     Ok(text)
 }
@@ -188,13 +192,23 @@ fn text_of(alloc: Global, answer: &Feasible) -> Result<String, Memory> {
     }
 }
 
-fn assert_row(rt: &(impl Abort + AllocGlobal), row: Row) -> Result<(), Fail> {
+/// Whether the answer is told so.
+fn is_told(alloc: Global, answer: &Feasible, text: &str) -> Result<bool, Memory> {
+    Ok(text_of(alloc, answer)?.as_str() == text)
+}
+
+/// The jobs of these numbers, each worth 1.
+fn jobs_of(rt: &(impl Abort + AllocGlobal), numbers: &[(u64, u64, u64)]) -> Result<Vec<Job>, Fail> {
     let mut jobs = Vec::new(rt.alloc());
-    for (release, work, deadline) in row.0 {
+    for (release, work, deadline) in numbers {
         jobs.push(Job::new(*release, *work, *deadline, 1).expect(rt, "a job"))?;
     }
-    let answer = judge(rt, &jobs);
-    assert!(rt; text_of(rt.alloc(), &answer)?.as_str() == row.1);
+    Ok(jobs)
+}
+
+fn assert_row(rt: &(impl Abort + AllocGlobal), row: Row) -> Result<(), Fail> {
+    let answer = judge(rt, &jobs_of(rt, row.0)?);
+    assert!(rt; is_told(rt.alloc(), &answer, row.1)?);
     Ok(())
 }
 

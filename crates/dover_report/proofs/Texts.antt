@@ -1,5 +1,5 @@
 -- Lines of words and numbers, put together piece by piece.
-use Rattle.std.proofs.Common.{◌≡◌, ◌≤◌, ◌<◌, ◌^◌, ℕ, List, [], ◌∷◌, ◌++◌, length, sym, ap, ◌∙◌, append_assoc}
+use Rattle.std.proofs.Common.{◌≡◌, ◌≤◌, ℕ, List, [], ◌∷◌, ◌++◌, length, sym, ap, ◌∙◌, append_assoc}
 use Rattle.std.proofs.Common.{append-nil, arith}
 use Rattle.std.specs.Prelude.{decimal}
 use Rattle.std.proofs.lemmas.Fmt.{length-decimal-le}
@@ -7,10 +7,6 @@ use Rattle.std.proofs.lemmas.List.Concat.{flat_map-append}
 use Rattle.dover_model.specs.JobFacts.{JobFacts, IsJob}
 use Rattle.dover_model.specs.Lines.{in_lines}
 use Rattle.dover_model.proofs.JobLimits.{JobLimits, job_limits}
-
--- a number of 64 bits has at most twenty digits
-pub digits : (n : ℕ) → n < 2 ^ 64 → length (decimal n) ≤ 20
-digits n small = length-decimal-le 20 n (omega arith) (omega arith) small
 
 -- how many digits the numbers of a job have at most
 pub record DigitsOf (j : JobFacts) : Type 0 where

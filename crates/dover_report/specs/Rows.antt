@@ -100,8 +100,8 @@ FindsNext run next (Some (later, job)) = (next < later) × (later ≤ length run
     × ((ending : ℕ → Option Ending) (had : ℕ → Option ℕ) (n : ℕ) → rows_of_steps ending had n (drop next run)
     ≡ row_text n job (ending n) (had n) ∷ rows_of_steps ending had (n + 1) (drop later run))
 
--- the first of the rows was given, or there is none
-abbrev pub GivesRow : (old new : Table) → (line : List ℕ) → (given : Bool) → Type 0
-GivesRow old new line true = (new.names ≡ old.names)
+-- the first of the rows was given in the line, or there is none, and all is as it was
+abbrev pub GivesRow : (old new : Table) → (before line : List ℕ) → (given : Bool) → Type 0
+GivesRow old new before line true = (new.names ≡ old.names)
     × ((row : List ℕ) × (line ≡ row ++ 10 ∷ []) × (old.rows ≡ row ∷ new.rows))
-GivesRow old new line false = old.rows ≡ []
+GivesRow old new before line false = (old.rows ≡ []) × (new ≡ old) × (line ≡ before)

@@ -5,29 +5,10 @@ ghost use Rattle.line_text.specs.Writing.{numbers_behind};
 ghost use Rattle.dover_report.specs.Lines.{with_line};
 
 use dover_model::Memory;
-use itoa::write_digits;
+use line_text::put_before;
 
 /// More than the bytes of a line of eight letters and seven numbers.
 const LINE_BYTES: usize = 160;
-
-/// Writes numbers, each behind a space, so that they end at `end`, and answers where they begin.
-#[inline(always)]
-fn write_numbers(bytes: &mut [u8], end: usize, numbers: &[u64]) -> usize
-    requires room { 21 * length numbers.now ≤ end }
-    requires end { end ≤ length bytes.old }
-    ensures written { drop result bytes.new ≡ numbers_behind numbers.now ++ drop end bytes.old }
-    ensures before { result ≤ end }
-    ensures start { end ≤ result + 21 * length numbers.now }
-{
-    let mut start = end;
-    let mut left = numbers.len();
-    while left > 0 {
-        left -= 1;
-        start = write_digits(numbers[left], bytes, start) - 1;
-        bytes[start] = b' ';
-    }
-    start
-}
 
 /// Writes the line of a word and numbers with its line feed at the end of the bytes, and answers where it begins.
 #[inline(always)]
@@ -38,7 +19,7 @@ fn write_line(bytes: &mut [u8], word: &[u8], numbers: &[u64]) -> usize
 {
     let end = bytes.len() - 1;
     bytes[end] = b'\n';
-    let behind = write_numbers(bytes, end, numbers);
+    let behind = put_before(bytes, end, numbers);
     let start = behind - word.len();
     bytes[start..behind].copy_from_slice(word);
     start

@@ -71,10 +71,11 @@ impl TableRows {
         names_line(self.early)
     }
 
-    /// Whether there is a next row, which `line` then holds with its line feed, whatever it held before.
+    /// Whether there is a next row, which `line` then holds with its line feed, whatever it held before. Where there is
+    /// none, all stays as it is.
     #[inline(always)]
     pub fn next_row(&mut self, line: &mut BackLine) -> bool
-        ensures { GivesRow self.old self.new line.new result }
+        ensures { GivesRow self.old self.new line.old line.new result }
     {
         let Some((next, job)) = next_release(&self.run, self.next) else {
             return false;

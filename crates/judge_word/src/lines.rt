@@ -9,7 +9,7 @@ ghost use Rattle.trace_judge.specs.Reads.{expected_of};
 ghost use Rattle.judge_word.specs.Line.{status_of, wrong_front, expected_text, verdict_text};
 
 use dover_port::{Failed, Output, Port, Status};
-use line_output::{put_numbers, write_numbers};
+use line_output::put_numbers;
 use line_text::{BackLine, LineBuf};
 use trace_format::write_event;
 use trace_judge::{Expected, Verdict};
@@ -21,7 +21,7 @@ fn accepted_line(value: u64, bound: u128) -> BackLine
     let mut line = BackLine::new();
     line.put_long(bound);
     line.put_word(b" ");
-    write_numbers(&mut line, b"accepted", &[value]);
+    line.put_with_wide(b"accepted", &[value]);
     line
 }
 

@@ -1,14 +1,10 @@
 -- The line that refuses a feed fits its buffer.
 use Rattle.std.proofs.Common.{◌≤◌, ◌<◌, ◌^◌, ◌∷◌, ℕ, length, codes, decimal, length-append, arith}
-use Rattle.std.proofs.lemmas.Fmt.{length-decimal-le}
 use Rattle.line_text.specs.Writing.{with_field}
+use Rattle.line_text.proofs.Written.{digits}
 use Rattle.dover_model.specs.Feed.{Cause, Lines, Line, Declared, Order, NotAdmitted, NotDone, Short}
 use Rattle.dover_model.specs.declared.events.Refusal.TheVariants.{BadJob, Count, Total, Ratio, Late, Full}
 use Rattle.dover_model.specs.Due.{cause_word}
-
--- a number of 64 bits has at most twenty digits
-pub digits : (n : ℕ) → n < 2 ^ 64 → length (decimal n) ≤ 20
-digits n small = length-decimal-le 20 n (omega arith) (omega arith) small
 
 -- the word and the number
 pub word_and_number : (n : ℕ) → n < 2 ^ 64 → length (with_field (codes "refused") (decimal n)) ≤ 28

@@ -7,4 +7,4 @@ mod lines;
 
 pub use faults::{fault_line, fault_text, put_fault};
 pub use lane_lines::{write_next, write_out};
-pub use lines::{put_line, put_numbers, write_numbers};
+pub use lines::{put_line, put_numbers};

@@ -20,22 +20,6 @@ pub fn put_line<P: Port>(port: &mut P, out: &mut Output, mut line: LineBuf) -> R
     out.put(port, line.bytes())
 }
 
-/// Writes a word and numbers before what a line has. With 21 bytes for each number there is room for them.
-#[inline(always)]
-pub fn write_numbers(line: &mut BackLine, word: &[u8], numbers: &[u64])
-    requires { length word.now + 21 * length numbers.now + length line.old ≤ 129 }
-    ensures is { line.new ≡ with_numbers word.now numbers.now ++ line.old }
-    ensures size { length line.new ≤ length word.now + 21 * length numbers.now + length line.old }
-{
-    let mut left = numbers.len();
-    while left > 0 {
-        left -= 1;
-        line.put_number(numbers[left]);
-        line.put_word(b" ");
-    }
-    line.put_word(word);
-}
-
 /// Puts the line of a word and numbers, as `put_line` does. With 21 bytes for each number it is shorter than 129 bytes.
 #[inline(always)]
 pub fn put_numbers<P: Port>(
@@ -52,6 +36,6 @@ pub fn put_numbers<P: Port>(
     ensures stops { StopsAtFailure (P.calls port.old) (P.calls port.new) result }
 {
     let mut line = BackLine::new();
-    write_numbers(&mut line, word, numbers);
+    line.put_with_wide(word, numbers);
     out.put(port, line.bytes())
 }

@@ -1,10 +1,10 @@
 -- A line that is written number by number.
-use Rattle.std.proofs.Common.{◌≡◌, ℕ, zero, suc, ◌+◌, ◌-◌, ◌*◌, ◌<◌, ◌≤◌, List, [], ◌∷◌, ◌++◌, length}
+use Rattle.std.proofs.Common.{◌≡◌, ℕ, zero, suc, ◌+◌, ◌-◌, ◌*◌, ◌^◌, ◌<◌, ◌≤◌, List, [], ◌∷◌, ◌++◌, length}
 use Rattle.std.proofs.Common.{length-append, append_assoc, append-nil, refl, ap}
 use Rattle.std.proofs.Common.{◌∙◌, sym, arith, decimal, drop, set, get_or}
 use Rattle.std.proofs.lemmas.Fmt.{length-decimal-le}
 use Rattle.std.proofs.Common.{take, subst}
-use Rattle.std.proofs.lemmas.List.{drop-set, length-take-le, drop-append-le, drop-drop}
+use Rattle.std.proofs.lemmas.List.{drop-set, drop_more, length-take-le, drop-append-le, drop-drop}
 use Rattle.std.proofs.Math.Seq.{drop-append-add}
 use borrow.Rule.Slice.PartMut.{put_mid, post_of}
 use Rattle.dover_model.specs.Numerals.{AreShort}
@@ -64,11 +64,34 @@ number_before written at n ns behind tail some inside digits rest =
       back : (m : ℕ) → 1 ≤ m → m - 1 + 1 ≡ m
       back m low = omega arith
 
--- a short number has at most 18 digits
-pub digits_at : (ns : List ℕ) (i : ℕ) → AreShort ns → i < length ns → length (decimal (get_or ns i 0)) ≤ 18
-digits_at [] i short less = absurd (omega arith)
-digits_at (n ∷ ns) zero short less = length-decimal-le 18 n (omega arith) short.0 (omega (arith, short.0))
-digits_at (n ∷ ns) (suc i) short less = digits_at ns i short.1 (omega arith)
+-- with the number before them, numbers are longer by its digits and a space
+pub one_longer : (ns : List ℕ) (i : ℕ) → i < length ns → length (numbers_behind (drop i ns))
+    ≡ 1 + length (decimal (get_or ns i 0)) + length (numbers_behind (drop (i + 1) ns))
+one_longer ns i within = omega (
+  arith,
+  ap (λ (ms : List ℕ). length (numbers_behind ms)) (drop_more ns i 0 within),
+  length-append (decimal (get_or ns i 0)) (numbers_behind (drop (i + 1) ns)),
+)
+
+-- numbers from any on are no longer than all
+pub no_longer : (ns : List ℕ) (i : ℕ) → length (numbers_behind (drop i ns)) ≤ length (numbers_behind ns)
+no_longer ns zero = omega arith
+no_longer [] (suc i) = omega arith
+no_longer (n ∷ ns) (suc i) = omega (arith, no_longer ns i, length-append (decimal n) (numbers_behind ns))
+
+-- a number of 64 bits has at most twenty digits
+pub digits : (n : ℕ) → n < 2 ^ 64 → length (decimal n) ≤ 20
+digits n small = length-decimal-le 20 n (omega arith) (omega arith) small
+
+-- numbers of 64 bits, each behind a space
+pub numbers_few : (ns : List ℕ) → ((i : ℕ) → get_or ns i 0 < 2 ^ 64) → length (numbers_behind ns) ≤ 21 * length ns
+numbers_few [] small = omega arith
+numbers_few (n ∷ ns) small = omega (
+  arith,
+  digits n (small 0),
+  numbers_few ns (λ i. small (suc i)),
+  length-append (decimal n) (numbers_behind ns),
+)
 
 -- what is dropped up to a place in a part that was written is the rest of the part and what follows it
 pub drop_into : (low k s : ℕ) (bytes part : List ℕ) → low ≤ length bytes → s ≤ length part

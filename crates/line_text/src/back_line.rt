@@ -1,6 +1,5 @@
 //! A line that is written from its end.
-ghost use Rattle.std.specs.Prelude.{◌≡◌, ◌≤◌, ◌+◌, ◌*◌, ◌++◌, drop, length};
-ghost use Rattle.dover_model.specs.Numerals.{AreShort};
+ghost use Rattle.std.specs.Prelude.{◌≡◌, ◌≤◌, ◌+◌, ◌++◌, drop, length};
 ghost use Rattle.line_text.specs.Writing.{numbers_behind};
 
 use crate::LINE_BYTES;
@@ -15,15 +14,13 @@ pub struct BackLine {
     start: usize,
 }
 
-// Writes numbers, each behind a space, so that they end at `end`, and answers where they begin.
+/// Writes numbers, each behind a space, so that they end at `end`, and answers where they begin.
 #[inline(always)]
-pub(crate) fn put_before(bytes: &mut [u8], end: usize, numbers: &[u64]) -> usize
-    requires short { AreShort numbers.now }
-    requires room { 19 * length numbers.now ≤ end }
+pub fn put_before(bytes: &mut [u8], end: usize, numbers: &[u64]) -> usize
+    requires room { length (numbers_behind numbers.now) ≤ end }
     requires end { end ≤ length bytes.old }
     ensures written { drop result bytes.new ≡ numbers_behind numbers.now ++ drop end bytes.old }
-    ensures before { result ≤ end }
-    ensures start { end ≤ result + 19 * length numbers.now }
+    ensures start { result + length (numbers_behind numbers.now) ≡ end }
 {
     let mut start = end;
     let mut left = numbers.len();
@@ -118,6 +115,17 @@ impl BackLine {
         requires short { AreShort numbers.now }
         requires fits { length word.now + 19 * length numbers.now + length self.old ≤ most_written }
         ensures { self.new ≡ with_numbers word.now numbers.now ++ self.old }
+    {
+        self.start = put_before(&mut self.bytes, self.start, numbers);
+        self.put_word(word);
+    }
+
+    /// Writes a word and numbers that may be wide. With 21 bytes for each number there is room for them.
+    #[inline(always)]
+    pub fn put_with_wide(&mut self, word: &[u8], numbers: &[u64])
+        requires { length word.now + 21 * length numbers.now + length self.old ≤ most_written }
+        ensures is { self.new ≡ with_numbers word.now numbers.now ++ self.old }
+        ensures size { length self.new ≤ length word.now + 21 * length numbers.now + length self.old }
     {
         self.start = put_before(&mut self.bytes, self.start, numbers);
         self.put_word(word);

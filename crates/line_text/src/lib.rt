@@ -8,7 +8,7 @@ mod line_buf;
 mod numerals;
 mod spelled;
 
-pub use back_line::BackLine;
+pub use back_line::{BackLine, put_before};
 pub use cutting::{Lines, Step};
 pub use fields::{Numbers, behind_word, cut_field, numbers_in, read_numbers};
 pub use line_buf::LineBuf;

@@ -13,7 +13,6 @@ use best_set::best;
 use dover_model::Memory;
 use dover_port::Status;
 use event_feed::Listed;
-use line_output::write_numbers;
 use line_text::BackLine;
 use root_compare::bound;
 use std::alloc::Global;
@@ -48,10 +47,10 @@ pub(crate) fn answer<L: Ledger>(
         return Err(Memory);
     };
     let mut head = BackLine::new();
-    write_numbers(&mut head, b"\nbound", &[bound(value, ratio)]);
-    write_numbers(&mut head, b"\nvalue", &[value]);
-    write_numbers(&mut head, b"\noptimum", &[best.value]);
-    write_numbers(&mut head, b"jobs", &[jobs.len() as u64]);
+    head.put_with_wide(b"\nbound", &[bound(value, ratio)]);
+    head.put_with_wide(b"\nvalue", &[value]);
+    head.put_with_wide(b"\noptimum", &[best.value]);
+    head.put_with_wide(b"jobs", &[jobs.len() as u64]);
     Ok(Answer {
         status: Status::Done,
         head,

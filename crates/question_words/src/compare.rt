@@ -12,7 +12,6 @@ use crate::observing::observe;
 use dover_model::Memory;
 use dover_port::Status;
 use event_feed::Listed;
-use line_output::write_numbers;
 use line_text::BackLine;
 use policy_lab::{Dense, Edf, are_too_large, run_policy};
 use root_compare::bound;
@@ -48,10 +47,10 @@ pub(crate) fn answer<L: Ledger>(
         return Err(Memory);
     };
     let mut head = BackLine::new();
-    write_numbers(&mut head, b"\nbound", &[bound(dover, ratio)]);
-    write_numbers(&mut head, b"\ndense", &[dense.value]);
-    write_numbers(&mut head, b"\nedf", &[edf.value]);
-    write_numbers(&mut head, b"dover", &[dover]);
+    head.put_with_wide(b"\nbound", &[bound(dover, ratio)]);
+    head.put_with_wide(b"\ndense", &[dense.value]);
+    head.put_with_wide(b"\nedf", &[edf.value]);
+    head.put_with_wide(b"dover", &[dover]);
     Ok(Answer {
         status: Status::Done,
         head,

@@ -12,7 +12,6 @@ use dover_model::Memory;
 use dover_port::Status;
 use event_feed::Listed;
 use feasibility::{Feasible, judge_feasible};
-use line_output::write_numbers;
 use line_text::BackLine;
 use std::alloc::Global;
 
@@ -30,7 +29,7 @@ pub(crate) fn answer(alloc: Global, listed: &Listed) -> Result<Answer, Memory>
     let mut head = BackLine::new();
     match judge_feasible(alloc, &listed.jobs)? {
         Feasible::All { pieces } => {
-            write_numbers(&mut head, b"feasible", &[pieces.len() as u64]);
+            head.put_with_wide(b"feasible", &[pieces.len() as u64]);
             Ok(Answer {
                 status: Status::Done,
                 head,
@@ -38,7 +37,7 @@ pub(crate) fn answer(alloc: Global, listed: &Listed) -> Result<Answer, Memory>
             })
         }
         Feasible::Window { a, b, work } => {
-            write_numbers(&mut head, b"window", &[a, b, work]);
+            head.put_with_wide(b"window", &[a, b, work]);
             Ok(Answer {
                 status: Status::No,
                 head,

@@ -17,7 +17,6 @@ use crate::observing::observe_each;
 use dover_model::{Job, Memory};
 use dover_port::Status;
 use event_feed::Listed;
-use line_output::write_numbers;
 use line_text::BackLine;
 use overload::{Stretch, cost_of, value_inside};
 use root_compare::bound;
@@ -75,10 +74,10 @@ pub(crate) fn answer<L: Ledger>(
     let costed = cost_of(alloc, &jobs, completed.value)?;
     let rows = rows(alloc, &jobs, &costed.stretches, &completed.done)?;
     let mut head = BackLine::new();
-    write_numbers(&mut head, b"\nbound", &[bound(completed.value, ratio)]);
-    write_numbers(&mut head, b"\nceiling", &[costed.cap]);
-    write_numbers(&mut head, b"\nvalue", &[completed.value]);
-    write_numbers(&mut head, b"total", &[costed.total]);
+    head.put_with_wide(b"\nbound", &[bound(completed.value, ratio)]);
+    head.put_with_wide(b"\nceiling", &[costed.cap]);
+    head.put_with_wide(b"\nvalue", &[completed.value]);
+    head.put_with_wide(b"total", &[costed.total]);
     Ok(Answer {
         status: Status::Done,
         head,

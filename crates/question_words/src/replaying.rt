@@ -1,10 +1,12 @@
 //! A feed whose jobs may finish early, served again once its end was read.
 ghost use Rattle.std.specs.Prelude.{◌≡◌, ◌≤◌, ◌<◌, ℕ, IfOk, OnOk, length, get_or, false};
 ghost use Rattle.dover_model.specs.Instance.{Instance, IsListable, IsValid, with_jobs};
+ghost use Rattle.dover_model.specs.Horizons.{no_jobs};
 ghost use Rattle.dover_model.specs.Observed.{observed};
 ghost use Rattle.dover_model.specs.Run.{completed_value, printed};
 ghost use Rattle.dover_model.specs.Spending.{CostsAtMost};
 ghost use Rattle.dover_model.specs.declared.horizon.Horizon.{Horizon};
+ghost use Rattle.dover_model.specs.declared.horizon.Horizon.TheVariants.{Mark};
 ghost use Rattle.event_feed.specs.Listing.{listed_instance, StandAmong};
 ghost use Rattle.ready_server.specs.Running.{HasShown, CanFeed, HasFed};
 ghost use Rattle.ready_server.specs.Serving.{HasPaid};
@@ -59,6 +61,32 @@ fn serve_part<L: Ledger>(
     serve_jobs::<&[Job], Recorded, L>(server, &mut jobs, run, steps)
 }
 
+/// Serves the listed jobs, with their finishes, to the end of their run. No job was served before.
+fn serve_listed<L: Ledger>(
+    server: &mut ReadyServer,
+    listed: &Listed,
+    run: &mut Recorded,
+    steps: &mut Steps<L>,
+) -> Result<(), Memory>
+    requires valid { IsValid (listed_instance listed.now) }
+    requires among { StandAmong listed.now.jobs.items listed.now.dones.items }
+    requires begins { HasShown HasRecorded server.old run.old (no_jobs listed.now.version listed.now.ratio) (Mark 0) }
+    requires paid { HasPaid server.old steps.old steps.old }
+    ensures run { OnOk result (HasRecorded run.new (printed (listed_instance listed.now))) }
+    ensures count { CostsAtMost (length listed.now.jobs.items) steps.old steps.new }
+{
+    ReadyServer::laws();
+    let mut count = 0;
+    for done in &listed.dones {
+        serve_part(server, &listed.jobs[count..done.behind], run, steps)?;
+        finish_job(server, done.at, done.number, run, steps);
+        count = done.behind;
+    }
+    serve_part(server, &listed.jobs[count..], run, steps)?;
+    show_to(server, Horizon::End, run, steps);
+    Ok(())
+}
+
 /// The printed steps of the run of the listed jobs, with their finishes. Memory is taken for the steps, and for the
 /// jobs that are ready at once.
 ///
@@ -75,25 +103,12 @@ fn record<L: Ledger>(
     ensures run { IfOk result (λ events. events.items ≡ printed (listed_instance listed.now)) }
     ensures count { CostsAtMost (length listed.now.jobs.items) steps.old steps.new }
 {
-    ReadyServer::laws();
     let mut server = ReadyServer::new(alloc, listed.version, listed.ratio)?;
     let mut run = Recorded {
         events: Vec::new(alloc),
         lost: false,
     };
-    let mut count = 0;
-    for done in &listed.dones {
-        serve_part(
-            &mut server,
-            &listed.jobs[count..done.behind],
-            &mut run,
-            steps,
-        )?;
-        finish_job(&mut server, done.at, done.number, &mut run, steps);
-        count = done.behind;
-    }
-    serve_part(&mut server, &listed.jobs[count..], &mut run, steps)?;
-    show_to(&mut server, Horizon::End, &mut run, steps);
+    serve_listed(&mut server, listed, &mut run, steps)?;
     if run.lost {
         return Err(Memory);
     }

@@ -16,9 +16,9 @@ pub record HasPut (old new : Option (List Move)) (before after whole : List ℕ)
 pub put_none : (a : Option (List Move)) (p : List ℕ) (left : Table) → HasPut a a p p (in_lines left.rows) left
 put_none a p left = record { said = []; parts = refl; passes = passes_nothing a p }
 
-module _ (a b : Option (List Move)) (p q whole : List ℕ) (left next : Table) (line : List ℕ)
+module _ (a b : Option (List Move)) (p q whole : List ℕ) (left next : Table) (before line : List ℕ)
     (put : HasPut a b p q whole left) where
-  module _ (given : Bool) (is : given ≡ true) (gives : GivesRow left next line given) where
+  module _ (given : Bool) (is : given ≡ true) (gives : GivesRow left next before line given) where
     -- what is said with one row more, and what is left behind it
     one_more : whole ≡ (put.said ++ line) ++ in_lines next.rows
     one_more =
@@ -42,14 +42,14 @@ module _ (a b : Option (List Move)) (p q whole : List ℕ) (left next : Table) (
         (passes_then_cut a b c p q q put.said line put.passes cut))
 
   -- none is left
-  pub put_all : (given : Bool) → given ≡ false → GivesRow left next line given → Passes a b p q whole
+  pub put_all : (given : Bool) → given ≡ false → GivesRow left next before line given → Passes a b p q whole
   put_all given is gives =
       let none = rw is at gives in
-      subst (Passes a b p q) (sym (put.parts ∙ ap (λ rows. put.said ++ in_lines rows) none ∙ append-nil put.said))
+      subst (Passes a b p q) (sym (put.parts ∙ ap (λ rows. put.said ++ in_lines rows) none.0 ∙ append-nil put.said))
       put.passes
 
 -- what is left behind a row that is given is fewer rows
-pub fewer : (left next : Table) (line : List ℕ) (given : Bool) → given ≡ true → GivesRow left next line given
-    → length next.rows < length left.rows
-fewer left next line given is gives =
+pub fewer : (left next : Table) (before line : List ℕ) (given : Bool) → given ≡ true
+    → GivesRow left next before line given → length next.rows < length left.rows
+fewer left next before line given is gives =
     let row = rw is at gives in omega (arith, ap (λ (rows : List (List ℕ)). length rows) row.1.2)

@@ -33,6 +33,15 @@ pub(crate) enum Stage<L: Ledger> {
     Serving(Serving<L>),
 }
 
+impl<L: Ledger> Stage<L> {
+    /// Turns to this stage.
+    fn turn_to(&mut self, to: Stage<L>)
+        ensures { self.new ≡ to }
+    {
+        *self = to;
+    }
+}
+
 /// A snapshot that is read, and then its feed, with what is done where the input ends.
 #[derive(Drop)]
 pub(crate) struct Resuming<L: Ledger> {
@@ -76,7 +85,8 @@ impl<L: Ledger> Resuming<L> {
         };
         let reader = replace(&mut opening.reader, Reader::new(self.alloc));
         let (server, intake, mark) = reader.take();
-        self.stage = Stage::Serving(Serving::resumed(self.alloc, server, intake, mark));
+        let serving = Serving::resumed(self.alloc, server, intake, mark);
+        self.stage.turn_to(Stage::Serving(serving));
     }
 }
 
@@ -107,7 +117,7 @@ impl<L: Ledger> Talker for Resuming<L> {
                     Ok(used)
                 }
                 Err(SnapFault::BadSnapshot { line }) => {
-                    self.stage = Stage::Refused(line);
+                    self.stage.turn_to(Stage::Refused(line));
                     Ok(piece.len())
                 }
                 Err(SnapFault::Memory) => Err(Memory),

@@ -1,5 +1,9 @@
 //! What the reading loop calls: a feed that is served.
-ghost use Rattle.std.specs.Prelude.{◌≡◌, ℕ, [], true};
+ghost use Rattle.std.specs.Prelude.{◌≡◌, ◌++◌, Bool, ℕ, List, [], true};
+ghost use Rattle.dialogue.specs.Talk.{IsOver};
+ghost use Rattle.dialogue.specs.Turns.{AnswersBy, StopCause, StopsOn};
+ghost use Rattle.dover_model.specs.Lines.{lines_of};
+ghost use Rattle.lane_server.specs.Lane.{Stands};
 ghost use Rattle.ready_server.specs.Rostering.{HasPaid};
 ghost use Rattle.snapshot.specs.Snapshot.{MayPause};
 ghost use Rattle.snapshot.specs.Feeds.{ResumesFeed};
@@ -50,6 +54,28 @@ impl<L: Ledger> Serving<L> {
     }
 }
 
+/// Tells how a feed ended. One that goes on is refused as short.
+fn tell_end<P: Port>(lane: &Lane, port: &mut P, out: &mut Output) -> Result<Status, Stop>
+    requires empty { out.old ≡ [] }
+    ensures answers { (c : Call) (x : List ℕ) (ended : Bool) → Stands lane.now (lines_of (c.feed ++ x)) [] →
+        IsOver (serve_talk Refuse c.feed) x ended →
+        AnswersBy (serve_talk Refuse c.feed) x ended (P.moves port.old) (P.moves port.new) out.new result }
+    ensures cause { StopCause result
+        (P.write_faults port.old) (P.write_faults port.new) (P.read_faults port.old) (P.read_faults port.new) }
+    ensures stops { StopsOn result (P.calls port.old) (P.calls port.new) }
+{
+    let Err(fault) = lane.end() else {
+        return Ok(Status::Done);
+    };
+    if !lane.goes_on() {
+        return Ok(Status::Refused);
+    }
+    match put_fault(port, out, fault) {
+        Ok(()) => Ok(Status::Refused),
+        Err(_) => Err(Stop::Unwritten),
+    }
+}
+
 impl<L: Ledger> Talker for Serving<L> {
     type Meter = Steps<L>;
 
@@ -96,16 +122,6 @@ impl<L: Ledger> Talker for Serving<L> {
         _ended: bool,
     ) -> Result<Status, Stop> {
         Lane::laws();
-        let lane = self.feed.into_lane();
-        let Err(fault) = lane.end() else {
-            return Ok(Status::Done);
-        };
-        if !lane.goes_on() {
-            return Ok(Status::Refused);
-        }
-        match put_fault(port, out, fault) {
-            Ok(()) => Ok(Status::Refused),
-            Err(_) => Err(Stop::Unwritten),
-        }
+        tell_end(self.feed.lane(), port, out)
     }
 }

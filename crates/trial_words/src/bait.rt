@@ -9,7 +9,6 @@ ghost use Rattle.trial_words.specs.Baited.{Baits, bait_instance, bait_text};
 use adversary::Bait;
 use dover_model::Ratio;
 use dover_port::{Port, Status, put_all};
-use line_output::write_numbers;
 use line_text::BackLine;
 use root_compare::bound;
 
@@ -24,10 +23,10 @@ fn text_of(feed: &Bait, k: Ratio) -> BackLine
     let jobs = u64::from(feed.jobs());
     let value = feed.value();
     let mut text = BackLine::new();
-    write_numbers(&mut text, b"\nbound", &[bound(value, k)]);
-    write_numbers(&mut text, b"\nschedule", &[feed.schedule_value()]);
-    write_numbers(&mut text, b"\nvalue", &[value]);
-    write_numbers(&mut text, b"jobs", &[jobs]);
+    text.put_with_wide(b"\nbound", &[bound(value, k)]);
+    text.put_with_wide(b"\nschedule", &[feed.schedule_value()]);
+    text.put_with_wide(b"\nvalue", &[value]);
+    text.put_with_wide(b"jobs", &[jobs]);
     text
 }
 

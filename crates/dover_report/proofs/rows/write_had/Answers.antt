@@ -1,5 +1,5 @@
 use Rattle.std.proofs.Common.{◌<◌, ◌^◌, arith, rules}
-use Rattle.dover_report.proofs.Texts.{digits}
+use Rattle.line_text.proofs.Written.{digits}
 use Rattle.dover_report.proofs.rows.write_had.Goals as goal
 
 pub write_field-requires : goal.write_field-requires

@@ -1,5 +1,5 @@
 use Rattle.std.proofs.Common.{length, length-append, decimal, ap, arith}
-use Rattle.dover_report.proofs.Texts.{digits}
+use Rattle.line_text.proofs.Written.{digits}
 use Rattle.dover_report.proofs.rows.write_row.Goals as goal
 
 pub put_number-requires : goal.put_number-requires

@@ -9,7 +9,7 @@ both value bound = ap (λ l. codes "accepted" ++ 32 ∷ l)
     (sym (append_assoc (decimal value) (32 ∷ decimal bound) (10 ∷ [])))
 
 pub returns : goal.returns
-returns c = c.write_numbers.ensures.is
+returns c = c.put_with_wide.ensures.is
     ∙ ap (λ l. with_numbers (codes "accepted") (c.args.value ∷ []) ++ l)
     (c.put_word.ensures ∙ ap (λ l. 32 ∷ l)
     (c.put_long.ensures.is ∙ ap (λ l. decimal c.args.bound ++ l) c.new-line.ensures))

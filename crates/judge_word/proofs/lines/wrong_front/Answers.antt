@@ -1,5 +1,5 @@
 use Rattle.std.proofs.Common.{arith, codes, decimal, length-append, ◌∷◌}
-use Rattle.line_output.proofs.FaultLines.{digits}
+use Rattle.line_text.proofs.Written.{digits}
 use Rattle.line_text.specs.Writing.{with_field}
 use Rattle.judge_word.proofs.lines.wrong_front.Goals as goal
 

@@ -1,5 +1,5 @@
 use Rattle.std.proofs.Common.{[], ◌∷◌, append_assoc, decimal, sym, arith}
-use Rattle.line_output.proofs.FaultLines.{digits}
+use Rattle.line_text.proofs.Written.{digits}
 use Rattle.lane_server.specs.Lane.{out_text}
 use Rattle.lanes_word.proofs.lines.write_in_lane.Goals as goal
 

@@ -51,6 +51,6 @@ returns-clause-says g c =
     }) count c.in_ok-value.ensures.value c.bound.ensures.is
     (λ many. absurd (omega (arith, many, c.len.ensures, c.args.listed.jobs.ok.0))) _
     (four_written (codes "jobs") (codes "optimum") (codes "value") (codes "bound") c.len-2.result best.value
-    c.in_ok-value.value c.bound.result (piece_lines best.pieces.items) c.new-head.result c.write_numbers.new.line
-    c.write_numbers-2.new.line c.write_numbers-3.new.line c.write_numbers-4.new.line c.new-head.ensures
-    c.write_numbers.ensures.is c.write_numbers-2.ensures.is c.write_numbers-3.ensures.is c.write_numbers-4.ensures.is)
+    c.in_ok-value.value c.bound.result (piece_lines best.pieces.items) c.new-head.result c.put_with_wide.new.self
+    c.put_with_wide-2.new.self c.put_with_wide-3.new.self c.put_with_wide-4.new.self c.new-head.ensures
+    c.put_with_wide.ensures.is c.put_with_wide-2.ensures.is c.put_with_wide-3.ensures.is c.put_with_wide-4.ensures.is)

@@ -69,8 +69,8 @@ returns-clause-says g c =
     (not_large c.deref.result.now c.args.listed.jobs.items c.deref.ensures.value c.are_too_large.result
     c.are_too_large.ensures c.if-are_too_large.false)
     _
-    (ap (λ ps. c.write_numbers-4.new.line ++ in_lines (piece_lines ps)) c.new.ensures.items
+    (ap (λ ps. c.put_with_wide-4.new.self ++ in_lines (piece_lines ps)) c.new.ensures.items
     ∙ four_written (codes "dover") (codes "edf") (codes "dense") (codes "bound") c.in_ok-dover.dover c.in-Ok.edf.value
-    c.in-Ok-run_policy.dense.value c.bound.result [] c.new-head.result c.write_numbers.new.line
-    c.write_numbers-2.new.line c.write_numbers-3.new.line c.write_numbers-4.new.line c.new-head.ensures
-    c.write_numbers.ensures.is c.write_numbers-2.ensures.is c.write_numbers-3.ensures.is c.write_numbers-4.ensures.is)
+    c.in-Ok-run_policy.dense.value c.bound.result [] c.new-head.result c.put_with_wide.new.self
+    c.put_with_wide-2.new.self c.put_with_wide-3.new.self c.put_with_wide-4.new.self c.new-head.ensures
+    c.put_with_wide.ensures.is c.put_with_wide-2.ensures.is c.put_with_wide-3.ensures.is c.put_with_wide-4.ensures.is)

@@ -17,7 +17,7 @@ returns-in-All-clause-says c =
         pieces,
         it,
         one_written (codes "feasible") (c.len.result ∷ []) (length pieces ∷ []) (piece_lines pieces) c.new-head.result
-            c.write_numbers.new.line c.new-head.ensures c.write_numbers.ensures.is
+            c.put_with_wide.new.self c.new-head.ensures c.put_with_wide.ensures.is
             (ap (λ n. n ∷ []) (let e : c.len.result ≡ length pieces = omega (arith, c.len.ensures) in e)),
       ),
     )
@@ -34,8 +34,8 @@ returns-in-Window-clause-says c =
         c.in-Window.b,
         c.in-Window.work,
         it,
-        ap (λ ps. c.write_numbers-in-Window.new.line ++ in_lines (piece_lines ps)) c.new.ensures.items
-            ∙ one_written (codes "window") numbers numbers [] c.new-head.result c.write_numbers-in-Window.new.line
-            c.new-head.ensures c.write_numbers-in-Window.ensures.is refl,
+        ap (λ ps. c.put_with_wide-in-Window.new.self ++ in_lines (piece_lines ps)) c.new.ensures.items
+            ∙ one_written (codes "window") numbers numbers [] c.new-head.result c.put_with_wide-in-Window.new.self
+            c.new-head.ensures c.put_with_wide-in-Window.ensures.is refl,
       ),
     )

@@ -74,6 +74,6 @@ returns-clause-says g c =
     rows c.in_ok-rows.ensures) _
     (four_written (codes "total") (codes "value") (codes "ceiling") (codes "bound") costed.total
     c.in_ok-completed.completed.value costed.cap c.bound.result (stretch_lines rows) c.new-head.result
-    c.write_numbers.new.line c.write_numbers-2.new.line c.write_numbers-3.new.line c.write_numbers-4.new.line
-    c.new-head.ensures c.write_numbers.ensures.is c.write_numbers-2.ensures.is c.write_numbers-3.ensures.is
-    c.write_numbers-4.ensures.is)
+    c.put_with_wide.new.self c.put_with_wide-2.new.self c.put_with_wide-3.new.self c.put_with_wide-4.new.self
+    c.new-head.ensures c.put_with_wide.ensures.is c.put_with_wide-2.ensures.is c.put_with_wide-3.ensures.is
+    c.put_with_wide-4.ensures.is)

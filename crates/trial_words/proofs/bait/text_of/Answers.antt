@@ -14,7 +14,7 @@ bound-requires c = record {
 pub returns-clause-text : goal.returns-clause-text
 returns-clause-text c =
     written c.from-jobs.result c.value-value.result c.schedule_value.result c.bound.result _ _ _ _ _ c.new-text.ensures
-    c.write_numbers.ensures.is c.write_numbers-2.ensures.is c.write_numbers-3.ensures.is c.write_numbers-4.ensures.is
+    c.put_with_wide.ensures.is c.put_with_wide-2.ensures.is c.put_with_wide-3.ensures.is c.put_with_wide-4.ensures.is
     ∙ told c.args.feed.now.ratio c.args.feed.now.rounds _ _ _ _ (c.from-jobs.ensures ∙ c.jobs.ensures.count)
     c.value-value.ensures.completed c.schedule_value.ensures.worth
     (c.bound.ensures.is ∙ ap (λ k. bound k c.value-value.result) (sym c.requires))

@@ -1,6 +1,7 @@
 use Rattle.std.proofs.Common.{◌≡◌, sym, ap, ◌∙◌, subst}
 use Rattle.snapshot.specs.Kept.{IsReady as IsWholeFor}
 use Rattle.snapshot.specs.Spending.{HasSpentOn}
+use Rattle.resume_word.specs.Keeping.{IsServedOn}
 use Rattle.resume_word.specs.declared.opening.Opening.{Opening}
 use Rattle.resume_word.specs.declared.resuming.Stage.TheVariants as stage
 use Rattle.resume_word.proofs.resuming.Resuming.go_on.Goals as goal
@@ -19,9 +20,10 @@ take-server-requires g c =
     )
 
 pub returns-clause-goes : goal.returns-clause-goes
-returns-clause-goes g c o ls is whole call now may text spent listed =
+returns-clause-goes g c o ls is whole =
     let same = one_opening _ _ (sym c.in-Opening.is ∙ is) in
     let reads = ap (λ (o : Opening). o.reader) (sym same) ∙ sym c.replace-reader.ensures.value in
     let gives = c.take-server.ensures.gives ls (subst (λ r. IsWholeFor r ls) reads whole) in
-    c.resumed.ensures call now may (gives.each call.feed may text)
-    (c.take-server.ensures.count call.start now (subst (λ r. HasSpentOn r call.start now) reads spent)) listed
+    subst (λ s. IsServedOn s o.reader ls) (sym c.turn_to.ensures)
+    (λ call now may text spent listed. c.resumed-serving.ensures call now may (gives.each call.feed may text)
+    (c.take-server.ensures.count call.start now (subst (λ r. HasSpentOn r call.start now) reads spent)) listed)

@@ -1,7 +1,9 @@
-use Rattle.std.proofs.Common.{◌++◌, List, ℕ, take, refl, sym, ◌∙◌, subst}
+use Rattle.std.proofs.Common.{◌≡◌, ◌++◌, List, ℕ, length, take, refl, sym, ◌∙◌, subst}
+use Rattle.dialogue.specs.Turns.{Takes}
 use Rattle.dover_model.specs.Lines.{lines_of}
 use Rattle.snapshot.specs.Reading.{Refused}
-use Rattle.resume_word.specs.Keeping.{IsReady}
+use Rattle.resume_word.specs.Keeping.{IsReady, IsGiving}
+use Rattle.resume_word.specs.Talk.{resume_talk}
 use Rattle.dover_model.proofs.Tests.{never}
 use Rattle.resume_word.proofs.Talking.{goes_at}
 use Rattle.resume_word.proofs.Stages.{front_costs, line_refused, line_lacks, opened_is}
@@ -43,10 +45,12 @@ returns-in-Err-BadSnapshot g c = record {
       let it = subst (λ s. IsReady a s c.args.meter.now x) c.in-Opening.is at.1 in
       let refused = line_refused a _ x it.0 c.args.piece.now c.take.new.self c.in-Err-BadSnapshot.line
       (rw c.in-Err-BadSnapshot.field-0-is at (c.in-Err-BadSnapshot.ensures.takes x it.0)) in
-      rw c.in-Err-BadSnapshot.line-is
+      subst (λ s. Takes (resume_talk a)
+      (λ y parts. (c.args.self.now.at_end ≡ a.at_end) × IsGiving a s c.take.new.steps y parts) x c.args.piece.now
+      (length c.args.piece.now)) (sym c.turn_to.ensures) (rw c.in-Err-BadSnapshot.line-is
       (refused_took a _ x it.0 _ at.0 c.args.piece.now c.requires.some c.in-Err-BadSnapshot.line _ refused
       (front_costs a _ x it.0 c.args.piece.now c.take.new.self _
-      (c.in-Err-BadSnapshot.ensures.count a.start it.1) (c.in-Err-BadSnapshot.ensures.jobs x it.0)));
+      (c.in-Err-BadSnapshot.ensures.count a.start it.1) (c.in-Err-BadSnapshot.ensures.jobs x it.0))));
 }
 
 pub go_on-requires : goal.go_on-requires

@@ -1,57 +1,8 @@
-use Rattle.std.proofs.Common.{◌++◌, ◌∷◌, [], sym, ◌∙◌}
-use Rattle.dover_model.specs.Due.{fault_text}
+use Rattle.std.proofs.Common.{◌++◌, [], sym, subst}
 use Rattle.dover_model.specs.Lines.{lines_of}
-use Rattle.dover_port.specs.declared.status.Status.TheVariants.{Refused}
-use Rattle.dover_port.proofs.Through.{passes_nothing}
-use Rattle.event_feed.specs.Kept.{cause_of_fault}
-use Rattle.serve_word.specs.declared.at_end.AtEnd.TheVariants.{Refuse}
-use Rattle.serve_word.proofs.Talking.{done, faulty, cut_off}
+use Rattle.lane_server.specs.Lane.{Stands}
 use Rattle.serve_word.proofs.serving.ServingTalker.answer.Goals as goal
 
-pub returns-in_default-clause-answers : goal.returns-in_default-clause-answers
-returns-in_default-clause-answers g c = λ a x at over.
-    let ended = (rw c.into_lane-lane.ensures at (c.in_default.ensures.answer (lines_of (a.feed ++ x)) []))
-    at.rests.lane.stands
-    in (tt, ([], done a Refuse x c.args._ended ended, rw c.requires.empty (passes_nothing _ [])))
-
-pub returns-then-not-goes_on-clause-answers : goal.returns-then-not-goes_on-clause-answers
-returns-then-not-goes_on-clause-answers g c = λ a x at over.
-    let why = (rw c.into_lane-lane.ensures at (c.in-Err.ensures.answer (lines_of (a.feed ++ x)) []))
-    at.rests.lane.stands in
-    let goes = (rw c.into_lane-lane.ensures at (c.goes_on.ensures (lines_of (a.feed ++ x)) [])) at.rests.lane.stands
-    in (
-      tt,
-      (
-        [],
-        faulty a x c.args._ended c.in-Err.fault why Refuse (sym goes ∙ c.if-not-goes_on.true),
-        rw c.requires.empty (passes_nothing _ []),
-      ),
-    )
-
-pub returns-in-Ok-clause-answers : goal.returns-in-Ok-clause-answers
-returns-in-Ok-clause-answers g c = λ a x at over.
-    let why = (rw c.into_lane-lane.ensures at (c.in-Err.ensures.answer (lines_of (a.feed ++ x)) []))
-    at.rests.lane.stands in
-    let goes = (rw c.into_lane-lane.ensures at (c.goes_on.ensures (lines_of (a.feed ++ x)) [])) at.rests.lane.stands
-    in (
-      tt,
-      (
-        fault_text c.in-Err.fault.line (cause_of_fault c.in-Err.fault.cause) ++ 10 ∷ [],
-        cut_off a x c.args._ended c.in-Err.fault why Refuse (sym goes ∙ c.if-not-goes_on.false) over (λ pauses. pauses)
-            (λ large. large),
-        rw c.requires.empty at c.in-Ok.ensures.text.all,
-      ),
-    )
-
 pub returns-clause-answers : goal.returns-clause-answers
-returns-clause-answers g c = λ a x at over.
-    let why = (rw c.into_lane-lane.ensures at (c.in-Err.ensures.answer (lines_of (a.feed ++ x)) []))
-    at.rests.lane.stands in
-    let goes = (rw c.into_lane-lane.ensures at (c.goes_on.ensures (lines_of (a.feed ++ x)) [])) at.rests.lane.stands
-    in (
-      Refused,
-      fault_text c.in-Err.fault.line (cause_of_fault c.in-Err.fault.cause) ++ 10 ∷ [],
-      cut_off a x c.args._ended c.in-Err.fault why Refuse (sym goes ∙ c.if-not-goes_on.false) over (λ pauses. pauses)
-          (λ large. large),
-      rw c.requires.empty at c.in-Err-put_fault.ensures.text.part,
-    )
+returns-clause-answers g c = λ a x at over. c.tell_end.ensures.answers a x c.args._ended
+    (subst (λ l. Stands l (lines_of (a.feed ++ x)) []) (sym c.lane.ensures) at.rests.lane.stands) over

@@ -3,7 +3,7 @@ use Rattle.event_feed.specs.Listing.{declared_in}
 use Rattle.ready_server.specs.Serving.{HasPaid}
 use Rattle.question_words.specs.Replaying.{HasRecorded}
 use Rattle.question_words.proofs.Handed.{IsAt}
-use Rattle.question_words.proofs.replaying.record.Given as goal
+use Rattle.question_words.proofs.replaying.serve_listed.Given as goal
 
 -- the done lines so far, and the jobs before them, are served
 abbrev pub invariant-loop-done : goal.invariant-loop-done
