@@ -112,6 +112,19 @@ pub(crate) fn tells(
     Ok(answer(rt, words, &mut port) == status && port.written() == text.as_bytes())
 }
 
+/// What the words do over this port.
+pub(crate) fn call_at(
+    rt: &HostRuntime,
+    words: &[&'static str],
+    port: &mut MemoryPort,
+) -> Result<Called, Fail> {
+    let words = words_of(rt.alloc(), words)?;
+    let status = answer(rt, &words, port);
+    let mut written = Vec::new(rt.alloc());
+    written.extend_from_slice(port.written())?;
+    Ok(Called { status, written })
+}
+
 /// What the words do with this input over such a port.
 pub(crate) fn call_over(
     rt: &HostRuntime,
@@ -119,13 +132,7 @@ pub(crate) fn call_over(
     input: &[u8],
     cut: Cut,
 ) -> Result<Called, Fail> {
-    let alloc = rt.alloc();
-    let words = words_of(alloc, words)?;
-    let mut port = port(alloc, input, cut)?;
-    let status = answer(rt, &words, &mut port);
-    let mut written = Vec::new(alloc);
-    written.extend_from_slice(port.written())?;
-    Ok(Called { status, written })
+    call_at(rt, words, &mut port(rt.alloc(), input, cut)?)
 }
 
 /// What the words do with this input, in pieces of so many bytes.

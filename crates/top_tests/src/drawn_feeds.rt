@@ -54,25 +54,38 @@ fn draw_line(draw: &mut Draw, place: u32, faulty: bool) -> FeedLine {
     }
 }
 
-/// A feed of twelve lines, of either version, with or without its `end` line. Its jobs are within the ratio.
-pub(crate) fn draw_feed(alloc: Global, seed: u64) -> Result<Vec<FeedLine>, AllocError> {
-    let mut draw = Draw::new(seed);
-    let two = draw.below(2) == 1;
-    let faulty = two || draw.below(3) == 0;
-    let mut lines = Vec::new(alloc);
-    lines.push(FeedLine::Declared {
+/// The first line of a feed, of this version.
+fn draw_declared(draw: &mut Draw, version: Option<u64>) -> FeedLine {
+    FeedLine::Declared {
         p: 3 + draw.below(3),
         q: 1,
-        version: if two { Some(2) } else { None },
-    })?;
-    for place in 0..10u32 {
-        lines.push(draw_line(&mut draw, place, faulty))?;
+        version,
     }
-    lines.push(if draw.below(4) == 0 {
-        FeedLine::Tick { at: 100 }
-    } else {
-        FeedLine::End
-    })?;
+}
+
+/// The last line of a feed: its end, or a tick that leaves it open.
+fn draw_last(draw: &mut Draw) -> FeedLine {
+    if draw.below(4) == 0 {
+        return FeedLine::Tick { at: 100 };
+    }
+    FeedLine::End
+}
+
+/// Appends the lines of a feed.
+fn draw_lines(draw: &mut Draw, lines: &mut Vec<FeedLine>) -> Result<(), AllocError> {
+    let two = draw.below(2) == 1;
+    let faulty = two || draw.below(3) == 0;
+    lines.push(draw_declared(draw, if two { Some(2) } else { None }))?;
+    for place in 0..10u32 {
+        lines.push(draw_line(draw, place, faulty))?;
+    }
+    Ok(lines.push(draw_last(draw))?)
+}
+
+/// A feed of twelve lines, of either version, with or without its `end` line. Its jobs are within the ratio.
+pub(crate) fn draw_feed(alloc: Global, seed: u64) -> Result<Vec<FeedLine>, AllocError> {
+    let mut lines = Vec::new(alloc);
+    draw_lines(&mut Draw::new(seed), &mut lines)?;
     Ok(lines)
 }
 
@@ -98,44 +111,48 @@ fn draw_early_line(draw: &mut Draw, place: u32) -> FeedLine {
     }
 }
 
+/// A job of the first tick.
+fn draw_first(draw: &mut Draw) -> FeedLine {
+    let work = 3 + draw.below(5);
+    FeedLine::Job {
+        release: 0,
+        work,
+        deadline: work + draw.below(12),
+        value: work,
+    }
+}
+
+/// Appends the lines of a feed of version Three.
+fn draw_early_lines(draw: &mut Draw, lines: &mut Vec<FeedLine>) -> Result<(), AllocError> {
+    lines.push(draw_declared(draw, Some(3)))?;
+    lines.push(draw_first(draw))?;
+    lines.push(draw_first(draw))?;
+    for place in 0..10u32 {
+        lines.push(draw_early_line(draw, place))?;
+    }
+    Ok(lines.push(draw_last(draw))?)
+}
+
 /// A feed of fourteen lines, of version Three, with or without its `end` line. Its first lines are jobs.
 pub(crate) fn draw_early_feed(alloc: Global, seed: u64) -> Result<Vec<FeedLine>, AllocError> {
-    let mut draw = Draw::new(seed);
     let mut lines = Vec::new(alloc);
-    lines.push(FeedLine::Declared {
-        p: 3 + draw.below(3),
-        q: 1,
-        version: Some(3),
-    })?;
-    for _first in 0..2u32 {
-        let work = 3 + draw.below(5);
-        lines.push(FeedLine::Job {
-            release: 0,
-            work,
-            deadline: work + draw.below(12),
-            value: work,
-        })?;
-    }
-    for place in 0..10u32 {
-        lines.push(draw_early_line(&mut draw, place))?;
-    }
-    lines.push(if draw.below(4) == 0 {
-        FeedLine::Tick { at: 100 }
-    } else {
-        FeedLine::End
-    })?;
+    draw_early_lines(&mut Draw::new(seed), &mut lines)?;
     Ok(lines)
+}
+
+/// Appends a number behind a space.
+fn put_number(text: &mut Vec<u8>, number: u64) -> Result<(), AllocError> {
+    text.push(b' ')?;
+    text.extend_from_slice(Buffer::new().format(number).as_bytes())
 }
 
 /// Appends a line of a word and numbers.
 fn put_numbers(text: &mut Vec<u8>, word: &[u8], numbers: &[u64]) -> Result<(), AllocError> {
     text.extend_from_slice(word)?;
     for number in numbers {
-        text.push(b' ')?;
-        text.extend_from_slice(Buffer::new().format(*number).as_bytes())?;
+        put_number(text, *number)?;
     }
-    text.push(b'\n')?;
-    Ok(())
+    Ok(text.push(b'\n')?)
 }
 
 /// Appends a line's text.

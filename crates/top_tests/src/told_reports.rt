@@ -113,30 +113,65 @@ fn number(row: &StringRecord, field: usize) -> Option<u64> {
     row.get(field)?.parse().ok()
 }
 
-/// Whether the row is that of this job, and the trace has the job's numbers and how it ended.
-fn is_told(alloc: Global, trace: &str, job: u64, row: &StringRecord) -> Result<bool, Fail> {
+/// The first five numbers of a row.
+fn numbers(row: &StringRecord) -> [u64; 5] {
     let mut fields = [0u64; 5];
     for (place, field) in fields.iter_mut().enumerate() {
         *field = number(row, place).unwrap_or(u64::MAX);
     }
-    let [named, release, work, deadline, value] = fields;
+    fields
+}
+
+/// Whether the row is that of this job, and the trace releases it with these numbers.
+fn is_released(alloc: Global, trace: &str, job: u64, row: &StringRecord) -> Result<bool, Fail> {
+    let [named, release, work, deadline, value] = numbers(row);
+    let line = format!(in alloc; "\njob {job} {release} {work} {deadline} {value}\n")?;
+    Ok(named == job && trace.contains(line.as_str()))
+}
+
+/// Whether the job ends in the trace as the row says.
+fn is_ended(alloc: Global, trace: &str, job: u64, row: &StringRecord) -> Result<bool, Fail> {
     let tick = number(row, 6).unwrap_or(u64::MAX);
     let fate = row.get(5).unwrap_or("none");
-    let released = format!(in alloc; "\njob {job} {release} {work} {deadline} {value}\n")?;
-    let ended = format!(in alloc; "\n{fate} {tick} {job}\n")?;
-    Ok(named == job && trace.contains(released.as_str()) && trace.contains(ended.as_str()))
+    let line = format!(in alloc; "\n{fate} {tick} {job}\n")?;
+    Ok(trace.contains(line.as_str()))
+}
+
+/// Whether the next row is that of this job, and says of it what the trace does.
+fn tells_next(
+    alloc: Global,
+    rows: &mut Reader<&[u8]>,
+    row: &mut StringRecord,
+    trace: &str,
+    job: u64,
+) -> Result<bool, Fail> {
+    if !rows.read_record(row)? || row.len() != 7 {
+        return Ok(false);
+    }
+    Ok(is_released(alloc, trace, job, row)? && is_ended(alloc, trace, job, row)?)
+}
+
+/// Whether there is such a row for each of so many jobs, and no other.
+fn tells_all(
+    alloc: Global,
+    rows: &mut Reader<&[u8]>,
+    row: &mut StringRecord,
+    trace: &str,
+    jobs: u64,
+) -> Result<bool, Fail> {
+    for job in 0..jobs {
+        if !tells_next(alloc, rows, row, trace, job)? {
+            return Ok(false);
+        }
+    }
+    Ok(!rows.read_record(row)?)
 }
 
 /// Whether the table has a row for each of so many jobs of the trace, and no other.
 fn tells_each(alloc: Global, table: &[u8], trace: &str, jobs: u64) -> Result<bool, Fail> {
     let mut rows = Reader::from_reader(alloc, table);
     let mut row = StringRecord::new(alloc);
-    for job in 0..jobs {
-        if !rows.read_record(&mut row)? || row.len() != 7 || !is_told(alloc, trace, job, &row)? {
-            return Ok(false);
-        }
-    }
-    Ok(!rows.read_record(&mut row)?)
+    tells_all(alloc, &mut rows, &mut row, trace, jobs)
 }
 
 /// Whether the table of the trace is written, and reads back as so many jobs.

@@ -1,6 +1,6 @@
 //! Feeds of version Three whose jobs are worth more than those of version Two may be, or are more: the first is served
 //! and judged, and each word that keeps all jobs refuses it.
-use crate::calls::{Called, answer, pieces, words_of};
+use crate::calls::{Called, call_at, pieces};
 use dover_port::{MemoryPort, Status};
 use std::alloc::Global;
 use std::test::Fail;
@@ -44,39 +44,49 @@ const LONG_FEEDS: [(&'static str, Status, &'static str); 2] = [
     ("job 0 1 9 1\nx\n", Status::Refused, "refused size\n"),
 ];
 
-/// 1,000,000 jobs that wait at once, 250 in a piece, and what follows them.
-fn long_feed(alloc: Global, rest: &str) -> Result<Vec<Vec<u8>>, Fail> {
+/// The lines of 250 jobs.
+fn job_lines(alloc: Global) -> Result<String, Fail> {
     let mut lines = String::new(alloc);
     for _ in 0..250 {
         lines.push_str("job 0 1 9 1\n")?;
     }
-    let mut script = Vec::new(alloc);
-    script.push(String::from_str(alloc, "k 1 1 3\n")?.into_bytes())?;
+    Ok(lines)
+}
+
+/// Appends a piece of this text.
+fn put_piece(alloc: Global, script: &mut Vec<Vec<u8>>, text: &str) -> Result<(), Fail> {
+    Ok(script.push(String::from_str(alloc, text)?.into_bytes())?)
+}
+
+/// Appends 4,000 pieces of this text.
+fn put_pieces(alloc: Global, script: &mut Vec<Vec<u8>>, text: &str) -> Result<(), Fail> {
     for _ in 0..4_000 {
-        let mut piece = Vec::new(alloc);
-        piece.extend_from_slice(lines.as_bytes())?;
-        script.push(piece)?;
+        put_piece(alloc, script, text)?;
     }
-    script.push(String::from_str(alloc, rest)?.into_bytes())?;
+    Ok(())
+}
+
+/// 1,000,000 jobs that wait at once, 250 in a piece, and what follows them.
+fn long_feed(alloc: Global, rest: &str) -> Result<Vec<Vec<u8>>, Fail> {
+    let mut script = Vec::new(alloc);
+    put_piece(alloc, &mut script, "k 1 1 3\n")?;
+    put_pieces(alloc, &mut script, job_lines(alloc)?.as_str())?;
+    put_piece(alloc, &mut script, rest)?;
     Ok(script)
 }
 
 /// What the words do with this input, over a port that has room for it and for the trace.
 fn told_in(rt: &HostRuntime, words: &[&'static str], script: Vec<Vec<u8>>) -> Result<Called, Fail> {
-    let alloc = rt.alloc();
-    let words = words_of(alloc, words)?;
+    let none = Vec::new(rt.alloc());
     let mut port = MemoryPort::new(
-        alloc,
+        rt.alloc(),
         script,
-        Vec::new(alloc),
-        Vec::new(alloc),
+        none,
+        Vec::new(rt.alloc()),
         4096,
         16_000_000,
     )?;
-    let status = answer(rt, &words, &mut port);
-    let mut written = Vec::new(alloc);
-    written.extend_from_slice(port.written())?;
-    Ok(Called { status, written })
+    call_at(rt, words, &mut port)
 }
 
 /// The same, in pieces of 4096 bytes.
