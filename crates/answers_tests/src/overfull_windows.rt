@@ -13,7 +13,7 @@ use std::test::Fail;
 /// Jobs by release, work and deadline, and what is said of them.
 type Row = (&'static [(u64, u64, u64)], &'static str);
 
-const ROWS: [Row; 39] = [
+static ROWS: [Row; 39] = [
     (&[(0, 4, 10), (1, 2, 5)], "all 0-1:0 1-3:1 3-6:0"),
     (&[(0, 10, 10), (0, 20, 20)], "window 0 20 30"),
     (&[], "all"),
