@@ -21,8 +21,8 @@ use step_count::Steps;
 /// of the tasks. It keeps the next release of each task, and takes memory when it is made alone.
 #[derive(Drop)]
 pub struct Unrolling {
-    tasks: Vec<PeriodicTask>,
     until: u64,
+    tasks: Vec<PeriodicTask>,
     next: Heap,
 }
 
