@@ -40,6 +40,14 @@ impl<L: Ledger> Stage<L> {
     {
         *self = to;
     }
+
+    /// Turns to a snapshot that is refused at this line.
+    #[inline(never)]
+    fn refuse(&mut self, line: u64)
+        ensures { self.new ≡ stage.Refused line }
+    {
+        self.turn_to(Stage::Refused(line));
+    }
 }
 
 /// A snapshot that is read, and then its feed, with what is done where the input ends.
@@ -117,7 +125,7 @@ impl<L: Ledger> Talker for Resuming<L> {
                     Ok(used)
                 }
                 Err(SnapFault::BadSnapshot { line }) => {
-                    self.stage.turn_to(Stage::Refused(line));
+                    self.stage.refuse(line);
                     Ok(piece.len())
                 }
                 Err(SnapFault::Memory) => Err(Memory),

@@ -47,7 +47,7 @@ returns-in-Err-BadSnapshot g c = record {
       (rw c.in-Err-BadSnapshot.field-0-is at (c.in-Err-BadSnapshot.ensures.takes x it.0)) in
       subst (λ s. Takes (resume_talk a)
       (λ y parts. (c.args.self.now.at_end ≡ a.at_end) × IsGiving a s c.take.new.steps y parts) x c.args.piece.now
-      (length c.args.piece.now)) (sym c.turn_to.ensures) (rw c.in-Err-BadSnapshot.line-is
+      (length c.args.piece.now)) (sym c.refuse.ensures) (rw c.in-Err-BadSnapshot.line-is
       (refused_took a _ x it.0 _ at.0 c.args.piece.now c.requires.some c.in-Err-BadSnapshot.line _ refused
       (front_costs a _ x it.0 c.args.piece.now c.take.new.self _
       (c.in-Err-BadSnapshot.ensures.count a.start it.1) (c.in-Err-BadSnapshot.ensures.jobs x it.0))));
