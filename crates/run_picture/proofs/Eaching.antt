@@ -32,3 +32,10 @@ each_more_at f xs i d text longer more there before next = each_more f xs i (get
 pub each_all : {A : Type 0} (f : A → Text) (xs : List A) (i : ℕ) (text longer : Text) → length xs ≤ i
     → longer ≡ text ++ flat_map f (take i xs) → longer ≡ text ++ flat_map f xs
 each_all f xs i text longer past before = before ∙ ap (λ l. text ++ flat_map f l) (take_all i xs past)
+
+-- all items behind a front, and an end behind them
+pub each_within : {A : Type 0} (f : A → Text) (xs : List A) (i : ℕ) (text front end longer : Text) → length xs ≤ i
+    → longer ≡ (text ++ front) ++ flat_map f (take i xs) → longer ++ end ≡ text ++ (front ++ flat_map f xs ++ end)
+each_within f xs i text front end longer past before =
+    ap (λ t. t ++ end) (each_all f xs i (text ++ front) longer past before ∙ append_assoc text front (flat_map f xs))
+    ∙ append_assoc text (front ++ flat_map f xs) end

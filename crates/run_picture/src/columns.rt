@@ -2,9 +2,10 @@
 ghost use Rattle.std.specs.Prelude.{◌≡◌, ◌≤◌, ◌+◌, ◌++◌, length, OnOk};
 ghost use Rattle.dover_model.specs.Limits.{most_value};
 ghost use Rattle.run_picture.specs.Columns as columns;
+ghost use Rattle.run_picture.specs.Frame.{bars_end};
 
 use crate::outline::{Measure, Outline, after, rise, tick_of};
-use crate::plot::{Window, column_at};
+use crate::plot::{Window, column_at, put_text};
 use dover_model::{Job, Memory, PackedEvent};
 use run_view::template::put;
 
@@ -51,16 +52,19 @@ pub fn fullest(measure: Measure, window: Window, jobs: &[Job], run: &[PackedEven
     most
 }
 
-/// Appends the towers of all columns.
+/// Appends the towers of all columns as an area, behind its front.
 pub fn put_towers(
     text: &mut Vec<u8>,
+    front: &[u8],
     outline: &Outline,
     jobs: &[Job],
     run: &[PackedEvent],
 ) -> Result<(), Memory>
     requires { length run.now ≤ 5_000_001 }
-    ensures { OnOk result (text.new.items ≡ text.old.items ++ columns.towers outline.now jobs.now run.now) }
+    ensures { OnOk result (text.new.items
+        ≡ text.old.items ++ (front.now ++ columns.towers outline.now jobs.now run.now ++ bars_end)) }
 {
+    put_text(text, front)?;
     let mut x = 90;
     let mut number = 0;
     for event in run {
@@ -77,7 +81,8 @@ pub fn put_towers(
         );
         x = next;
     }
-    put_tower(text, outline, x, number)
+    put_tower(text, outline, x, number)?;
+    put_text(text, b"'/>\n")
 }
 
 /// Appends the tower of a number, where the column is another one.

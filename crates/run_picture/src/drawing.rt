@@ -7,13 +7,13 @@ ghost use Rattle.dover_model.specs.Run as runs;
 ghost use Rattle.run_picture.specs.Lanes.{lanes_from};
 ghost use Rattle.run_picture.specs.Pictures as pictures;
 
-use crate::frame::{Totals, put_axis, put_band_words, put_bands, put_bars_front, put_page};
+use crate::frame::{Totals, put_axis, put_band_words, put_bands, put_page};
 use crate::labels::put_labels;
 use crate::lanes::{Lane, height, lanes, shown, unit_of};
 use crate::legends::{put_lanes_legend, put_load_legend};
 use crate::marks::{put_arrows, put_crosses, put_holds};
 use crate::panels::{put_columns, put_ready, put_values};
-use crate::plot::Window;
+use crate::plot::{Window, put_text};
 use crate::processor::pieces;
 use crate::seen::{Seen, told_by};
 use crate::strip::{Bars, put_numbers, put_pieces};
@@ -22,7 +22,6 @@ use dover_model::jobs::LAST_TICK;
 use dover_model::{Job, Memory, PackedEvent, Piece, Ratio};
 use dover_report::{count, released};
 use intervals::{Charge, Interval, weights};
-use run_view::template::put;
 use std::alloc::Global;
 
 /// The run that prints these steps as SVG: the processor, a lane for each job that the window shows, or above 400 of
@@ -168,9 +167,9 @@ fn put_by_lanes(
     let unit = unit_of(high);
     let bottom = 236 + unit * high;
     put_under(text, window, totals, bottom, rows)?;
-    put_middle(text, window, unit, lanes, run, pieces)?;
-    put_over(text, window, false, bottom, jobs, run)?;
-    Ok(())
+    put_strip(text, window, 1, lanes, pieces)?;
+    put_lanes(text, window, unit, lanes, run, pieces)?;
+    put_over(text, window, false, bottom, jobs, run)
 }
 
 /// Appends what stands under the lanes.
@@ -188,8 +187,7 @@ fn put_under(
     put_page(text, bottom + 36, totals)?;
     put_axis(text, window, bottom)?;
     put_lanes_legend(text)?;
-    put_all_bands(text, window, 1, bottom, rows)?;
-    Ok(())
+    put_all_bands(text, window, 1, bottom, rows)
 }
 
 /// Appends what stands under the load.
@@ -205,12 +203,10 @@ fn put_under_load(
     put_page(text, 510, totals)?;
     put_axis(text, window, 474)?;
     put_load_legend(text)?;
-    put_all_bands(text, window, 0, 474, rows)?;
-    Ok(())
+    put_all_bands(text, window, 0, 474, rows)
 }
 
 /// Appends the bands, so long at least, and their words.
-#[tactic(auto, unfolding(crate::specs::Pictures::all_bands))]
 fn put_all_bands(
     text: &mut Vec<u8>,
     window: Window,
@@ -223,12 +219,10 @@ fn put_all_bands(
     ensures { OnOk result (text.new.items ≡ text.old.items ++ pictures.all_bands window least bottom rows.now) }
 {
     put_bands(text, window, least, bottom, rows)?;
-    put_band_words(text, window, rows)?;
-    Ok(())
+    put_band_words(text, window, rows)
 }
 
 /// Appends the panel of values, and the end of the picture.
-#[tactic(auto, unfolding(crate::specs::Pictures::over))]
 fn put_over(
     text: &mut Vec<u8>,
     window: Window,
@@ -242,12 +236,10 @@ fn put_over(
     ensures { OnOk result (text.new.items ≡ text.old.items ++ pictures.over window coarse bottom jobs.now run.now) }
 {
     put_values(text, window, coarse, bottom, jobs, run)?;
-    text.extend_from_slice(b"</svg>\n")?;
-    Ok(())
+    put_text(text, b"</svg>\n")
 }
 
-/// Appends a picture of the load.
-#[tactic(auto, unfolding(crate::specs::Pictures::by_load))]
+/// Appends a picture of the load: the processor, the ready jobs, and the values by column.
 fn put_by_load(
     text: &mut Vec<u8>,
     window: Window,
@@ -264,48 +256,10 @@ fn put_by_load(
         ≡ text.old.items ++ pictures.by_load window totals.now lanes.now jobs.now run.now pieces.now rows.now) }
 {
     put_under_load(text, window, totals, rows)?;
-    put_load(text, window, lanes, jobs, run, pieces)?;
-    put_over(text, window, true, 474, jobs, run)?;
-    Ok(())
-}
-
-/// Appends the processor, the ready jobs, and the values by column.
-#[tactic(auto, unfolding(crate::specs::Pictures::load))]
-fn put_load(
-    text: &mut Vec<u8>,
-    window: Window,
-    lanes: &[Lane],
-    jobs: &[Job],
-    run: &[PackedEvent],
-    pieces: &[Piece],
-) -> Result<(), Memory>
-    requires { length run.now ≤ 5_000_001 }
-    ensures { OnOk result (text.new.items
-        ≡ text.old.items ++ pictures.load window lanes.now jobs.now run.now pieces.now) }
-{
     put_strip(text, window, 0, lanes, pieces)?;
     put_ready(text, window, run)?;
     put_columns(text, window, jobs, run)?;
-    Ok(())
-}
-
-/// Appends the processor and the lanes.
-#[tactic(auto, unfolding(crate::specs::Pictures::middle_of))]
-fn put_middle(
-    text: &mut Vec<u8>,
-    window: Window,
-    unit: u64,
-    lanes: &[Lane],
-    run: &[PackedEvent],
-    pieces: &[Piece],
-) -> Result<(), Memory>
-    requires { unit ≤ 18 }
-    ensures { OnOk result (text.new.items
-        ≡ text.old.items ++ pictures.middle_of window unit lanes.now run.now pieces.now) }
-{
-    put_strip(text, window, 1, lanes, pieces)?;
-    put_lanes(text, window, unit, lanes, run, pieces)?;
-    Ok(())
+    put_over(text, window, true, 474, jobs, run)
 }
 
 /// Appends the processor, with bars so long at least.
@@ -319,7 +273,8 @@ fn put_strip(
     requires { least ≤ 1_290 }
     ensures { OnOk result (text.new.items ≡ text.old.items ++ pictures.strip window least lanes.now pieces.now) }
 {
-    text.extend_from_slice(
+    put_text(
+        text,
         b"<text class='r' x='82' y='91'>processor</text>\n\
         <rect class='f' x='90' y='76' width='1200' height='22'/>\n",
     )?;
@@ -329,22 +284,10 @@ fn put_strip(
         least,
     };
     put_all_bars(text, &bars, lanes, 22, pieces)?;
-    put_strip_numbers(text, window, pieces)?;
-    Ok(())
-}
-
-/// Appends the numbers in the strip.
-fn put_strip_numbers(text: &mut Vec<u8>, window: Window, pieces: &[Piece]) -> Result<(), Memory>
-    ensures { OnOk result (text.new.items ≡ text.old.items ++ pictures.strip_numbers window pieces.now) }
-{
-    text.extend_from_slice(b"<g class='i'>\n")?;
-    put_numbers(text, window, pieces)?;
-    text.extend_from_slice(b"</g>\n")?;
-    Ok(())
+    put_numbers(text, window, pieces)
 }
 
 /// Appends the bars of pieces of all three colors, so high.
-#[tactic(auto, unfolding(crate::specs::Pictures::all_bars))]
 fn put_all_bars(
     text: &mut Vec<u8>,
     bars: &Bars,
@@ -356,30 +299,9 @@ fn put_all_bars(
     requires least { bars.now.least ≤ 1_290 }
     ensures { OnOk result (text.new.items ≡ text.old.items ++ pictures.all_bars bars.now lanes.now high pieces.now) }
 {
-    put_bars_of(text, bars, lanes, b'c', high, pieces)?;
-    put_bars_of(text, bars, lanes, b't', high, pieces)?;
-    put_bars_of(text, bars, lanes, b'l', high, pieces)?;
-    Ok(())
-}
-
-/// Appends the bars of pieces of one color, so high.
-fn put_bars_of(
-    text: &mut Vec<u8>,
-    bars: &Bars,
-    lanes: &[Lane],
-    color: u8,
-    high: u64,
-    pieces: &[Piece],
-) -> Result<(), Memory>
-    requires unit { bars.now.unit ≤ 18 }
-    requires least { bars.now.least ≤ 1_290 }
-    ensures { OnOk result (text.new.items
-        ≡ text.old.items ++ pictures.bars_of bars.now lanes.now color high pieces.now) }
-{
-    put_bars_front(text, color, high)?;
-    put_pieces(text, bars, lanes, color, pieces)?;
-    text.extend_from_slice(b"'/>\n")?;
-    Ok(())
+    put_pieces(text, bars, lanes, b'c', high, pieces)?;
+    put_pieces(text, bars, lanes, b't', high, pieces)?;
+    put_pieces(text, bars, lanes, b'l', high, pieces)
 }
 
 /// Appends all that stands in the lanes.
@@ -395,8 +317,8 @@ fn put_lanes(
     ensures { OnOk result (text.new.items
         ≡ text.old.items ++ pictures.lanes_of window unit lanes.now run.now pieces.now) }
 {
-    put_all_windows(text, window, unit, lanes)?;
-    put_all_holds(text, window, unit, lanes, run)?;
+    put_windows(text, window, unit, lanes)?;
+    put_holds(text, window, unit, lanes, run)?;
     let bars = Bars {
         window,
         unit,
@@ -405,46 +327,7 @@ fn put_lanes(
     let high = unit.saturating_sub(3);
     put_all_bars(text, &bars, lanes, high, pieces)?;
     put_lanes_lines(text, window, unit, lanes, run)?;
-    put_labels(text, window, unit, lanes)?;
-    Ok(())
-}
-
-/// Appends the word beside the lanes, and the jobs' windows.
-fn put_all_windows(
-    text: &mut Vec<u8>,
-    window: Window,
-    unit: u64,
-    lanes: &[Lane],
-) -> Result<(), Memory>
-    requires { unit ≤ 18 }
-    ensures { OnOk result (text.new.items ≡ text.old.items ++ pictures.windows window unit lanes.now) }
-{
-    let high = unit.saturating_sub(3);
-    put(
-        text,
-        b"<text class='r' x='82' y='124'>jobs</text>\n<g class='w' stroke-width='@'>\n",
-        &[high],
-    )?;
-    put_windows(text, window, unit, lanes)?;
-    text.extend_from_slice(b"</g>\n")?;
-    Ok(())
-}
-
-/// Appends where jobs are held.
-fn put_all_holds(
-    text: &mut Vec<u8>,
-    window: Window,
-    unit: u64,
-    lanes: &[Lane],
-    run: &[PackedEvent],
-) -> Result<(), Memory>
-    requires { unit ≤ 18 }
-    ensures { OnOk result (text.new.items ≡ text.old.items ++ pictures.holds_bars window unit lanes.now run.now) }
-{
-    put(text, b"<path class='h' stroke-width='@' d='", &[unit / 3])?;
-    put_holds(text, window, unit, lanes, run)?;
-    text.extend_from_slice(b"'/>\n")?;
-    Ok(())
+    put_labels(text, window, unit, lanes)
 }
 
 /// Appends the lines in the lanes: arrows of preemptions, arrows of takes, and crosses.
@@ -458,12 +341,15 @@ fn put_lanes_lines(
     requires { unit ≤ 18 }
     ensures { OnOk result (text.new.items ≡ text.old.items ++ pictures.lanes_lines window unit lanes.now run.now) }
 {
-    text.extend_from_slice(b"<path class='p' d='")?;
-    put_arrows(text, window, unit, false, lanes, run)?;
-    text.extend_from_slice(b"'/>\n<path class='k' d='")?;
-    put_arrows(text, window, unit, true, lanes, run)?;
-    text.extend_from_slice(b"'/>\n<path class='x' d='")?;
-    put_crosses(text, window, unit, lanes, run)?;
-    text.extend_from_slice(b"'/>\n")?;
-    Ok(())
+    put_arrows(
+        text,
+        b"<path class='p' d='",
+        window,
+        unit,
+        false,
+        lanes,
+        run,
+    )?;
+    put_arrows(text, b"<path class='k' d='", window, unit, true, lanes, run)?;
+    put_crosses(text, window, unit, lanes, run)
 }

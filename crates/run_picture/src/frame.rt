@@ -4,7 +4,7 @@ ghost use Rattle.dover_model.specs.Limits.{last_tick};
 ghost use Rattle.run_picture.specs.Frame as frame;
 
 use crate::legends::{put_legend, put_styles};
-use crate::plot::{Window, meets, pixels, put_bar, x_at};
+use crate::plot::{Window, meets, pixels, put_bar, put_text, x_at};
 use crate::sizes::{digits_of, room};
 use dover_model::Memory;
 use dover_report::Counts;
@@ -23,8 +23,7 @@ fn put_title_end(text: &mut Vec<u8>, refused: u64) -> Result<(), Memory>
     ensures { OnOk result (text.new.items ≡ text.old.items ++ frame.title_end refused) }
 {
     if refused == 0 {
-        text.extend_from_slice(b"</text>\n")?;
-        return Ok(());
+        return put_text(text, b"</text>\n");
     }
     put(text, b", lines refused @</text>\n", &[refused])
 }
@@ -41,13 +40,10 @@ pub fn put_page(text: &mut Vec<u8>, high: u64, totals: &Totals) -> Result<(), Me
     put_styles(text)?;
     put(
         text,
-        b"<rect width='1400' height='@' fill='#fff'/>\n",
-        &[high],
-    )?;
-    put(
-        text,
-        b"<text class='b' x='90' y='22'>jobs @, completed @ worth @, abandoned @ worth @, taken @, bound @",
+        b"<rect width='1400' height='@' fill='#fff'/>\n\
+        <text class='b' x='90' y='22'>jobs @, completed @ worth @, abandoned @ worth @, taken @, bound @",
         &[
+            high,
             totals.counts.jobs,
             totals.counts.completed,
             totals.counts.value,
@@ -58,8 +54,7 @@ pub fn put_page(text: &mut Vec<u8>, high: u64, totals: &Totals) -> Result<(), Me
         ],
     )?;
     put_title_end(text, totals.refused)?;
-    put_legend(text)?;
-    Ok(())
+    put_legend(text)
 }
 
 /// Ten times as much, where sixty of them are less than the span.
@@ -92,14 +87,13 @@ fn tens(times: u64, span: u64) -> u64
     ten
 }
 
-/// Ten, its double or its five-fold.
-fn step_by(span: u64, ten: u64) -> u64
-    requires least { 1 ≤ ten }
-    requires modest { ten ≤ 1_000_000_000_000 }
-    ensures is { result ≡ frame.step_by span ten }
+/// How many ticks there are from mark to mark: ten, its double or its five-fold.
+fn step_of(span: u64) -> u64
+    ensures is { result ≡ frame.step_of span }
     ensures least { 1 ≤ result }
     ensures modest { result ≤ 5_000_000_000_000 }
 {
+    let ten = tens(12, span);
     if span <= 12 * ten {
         ten
     } else if span <= 24 * ten {
@@ -107,15 +101,6 @@ fn step_by(span: u64, ten: u64) -> u64
     } else {
         5 * ten
     }
-}
-
-/// How many ticks there are from mark to mark.
-fn step_of(span: u64) -> u64
-    ensures is { result ≡ frame.step_of span }
-    ensures least { 1 ≤ result }
-    ensures modest { result ≤ 5_000_000_000_000 }
-{
-    step_by(span, tens(12, span))
 }
 
 /// Appends the axis.
@@ -133,7 +118,7 @@ pub fn put_axis(text: &mut Vec<u8>, window: Window, bottom: u64) -> Result<(), M
     )
 }
 
-/// Appends the axis, with marks so far apart.
+/// Appends the axis: 14 marks so far apart, from the last one up to the window on, and the word below them.
 fn put_axis_by(text: &mut Vec<u8>, window: Window, bottom: u64, step: u64) -> Result<(), Memory>
     requires bottom { bottom ≤ 2 ^ 40 }
     requires from { window.from ≤ last_tick + 1 }
@@ -141,13 +126,18 @@ fn put_axis_by(text: &mut Vec<u8>, window: Window, bottom: u64, step: u64) -> Re
     requires modest { step ≤ 5_000_000_000_000 }
     ensures { OnOk result (text.new.items ≡ text.old.items ++ frame.axis_by window bottom step) }
 {
-    put_marks(text, window, bottom, step, round_down(window.from, step))?;
+    let mut tick = round_down(window.from, step);
+    let mut left = 14u64;
+    while left > 0 {
+        put_mark(text, window, bottom, tick)?;
+        tick += step;
+        left -= 1;
+    }
     put(
         text,
         b"<text class='s r' x='1290' y='@'>tick</text>\n",
         &[bottom + 28],
-    )?;
-    Ok(())
+    )
 }
 
 /// The last multiple of a step up to a tick.
@@ -159,42 +149,13 @@ fn round_down(tick: u64, step: u64) -> u64
     tick / step * step
 }
 
-/// Appends 14 marks, from this tick on.
-fn put_marks(
-    text: &mut Vec<u8>,
-    window: Window,
-    bottom: u64,
-    step: u64,
-    first: u64,
-) -> Result<(), Memory>
-    requires bottom { bottom ≤ 2 ^ 40 }
-    requires modest { step ≤ 5_000_000_000_000 }
-    requires first { first ≤ last_tick + 1 }
-    ensures { OnOk result (text.new.items ≡ text.old.items ++ frame.marks_from window bottom step first 14) }
-{
-    let mut tick = first;
-    let mut left = 14u64;
-    while left > 0 {
-        put_mark(text, window, bottom, tick)?;
-        tick += step;
-        left -= 1;
-    }
-    Ok(())
-}
-
-/// A tick has its mark, from the window's first on up to the one behind its last.
-fn is_marked(window: Window, tick: u64) -> bool
-    ensures { result ≡ frame.is_marked window tick }
-{
-    window.from <= tick && tick <= window.until
-}
-
-/// Appends the mark of such a tick: a line down to the bottom, and the tick below.
+/// Appends the mark of a tick, from the window's first on up to the one behind its last: a line down to the bottom,
+/// and the tick below.
 fn put_mark(text: &mut Vec<u8>, window: Window, bottom: u64, tick: u64) -> Result<(), Memory>
     requires { bottom ≤ 2 ^ 40 }
     ensures { OnOk result (text.new.items ≡ text.old.items ++ frame.mark window bottom tick) }
 {
-    if is_marked(window, tick) {
+    if window.from <= tick && tick <= window.until {
         let x = x_at(window, tick);
         return put(
             text,
@@ -216,10 +177,9 @@ fn is_loss(window: Window, row: &Interval) -> bool
 pub fn put_bars_front(text: &mut Vec<u8>, class: u8, high: u64) -> Result<(), Memory>
     ensures { OnOk result (text.new.items ≡ text.old.items ++ frame.bars_front class high) }
 {
-    text.extend_from_slice(b"<path class='")?;
+    put_text(text, b"<path class='")?;
     text.push(class)?;
-    put(text, b"' stroke-width='@' d='", &[high])?;
-    Ok(())
+    put(text, b"' stroke-width='@' d='", &[high])
 }
 
 /// Appends the bands of the intervals that lost value, so long at least.
@@ -234,27 +194,12 @@ pub fn put_bands(
     requires bottom { bottom ≤ 2 ^ 40 }
     ensures { OnOk result (text.new.items ≡ text.old.items ++ frame.bands window least bottom rows.now) }
 {
-    put_bars_front(text, b'o', bottom.saturating_sub(60))?;
-    put_bands_at(text, window, least, (bottom + 60) / 2, rows)?;
-    text.extend_from_slice(b"'/>\n")?;
-    Ok(())
-}
-
-/// Appends the bands, around this height.
-fn put_bands_at(
-    text: &mut Vec<u8>,
-    window: Window,
-    least: u64,
-    y: u64,
-    rows: &[Interval],
-) -> Result<(), Memory>
-    requires { least ≤ 1_290 }
-    ensures { OnOk result (text.new.items ≡ text.old.items ++ frame.bands_at window least y rows.now) }
-{
+    let high = bottom.saturating_sub(60);
+    put(text, b"<path class='o' stroke-width='@' d='", &[high])?;
     for row in rows {
-        put_band(text, window, least, y, row)?;
+        put_band(text, window, least, (bottom + 60) / 2, row)?;
     }
-    Ok(())
+    put_text(text, b"'/>\n")
 }
 
 /// Appends the band of an interval, if it lost value.
@@ -269,7 +214,7 @@ fn put_band(
     ensures { OnOk result (text.new.items ≡ text.old.items ++ frame.band window least y row.now) }
 {
     if is_loss(window, row) {
-        put_bar(text, window, least, row.from, row.until, y)?;
+        return put_bar(text, window, least, row.from, row.until, y);
     }
     Ok(())
 }
@@ -284,35 +229,16 @@ pub fn put_band_words(text: &mut Vec<u8>, window: Window, rows: &[Interval]) -> 
     Ok(())
 }
 
-/// Appends what an interval lost, where there is room.
+/// Appends what an interval lost, where there is room, with its ticks where the window has a part of it alone.
 fn put_band_word(text: &mut Vec<u8>, window: Window, row: &Interval) -> Result<(), Memory>
     ensures { OnOk result (text.new.items ≡ text.old.items ++ frame.band_word window row.now) }
 {
-    if is_loss(window, row) {
-        let long = pixels(window, 0, row.from, row.until);
-        return put_lost_word(text, window, long, row);
+    if !is_loss(window, row) {
+        return Ok(());
     }
-    Ok(())
-}
-
-/// The window has all ticks of an interval.
-fn is_inside(window: Window, row: &Interval) -> bool
-    ensures { result ≡ frame.is_inside window row.now }
-{
-    window.from <= row.from && row.until <= window.until
-}
-
-/// Appends what an interval abandoned, with its ticks where the window has a part of it alone.
-fn put_lost_word(
-    text: &mut Vec<u8>,
-    window: Window,
-    long: u64,
-    row: &Interval,
-) -> Result<(), Memory>
-    ensures { OnOk result (text.new.items ≡ text.old.items ++ frame.lost_word window long row.now) }
-{
     let x = x_at(window, row.from);
-    if is_inside(window, row) {
+    let long = pixels(window, 0, row.from, row.until);
+    if window.from <= row.from && row.until <= window.until {
         return put_lost_in(text, x, long, row.abandoned);
     }
     put_lost_between(text, x, long, row)

@@ -1,10 +1,9 @@
 //! What is written in the lanes.
 ghost use Rattle.std.specs.Prelude.{◌≡◌, ◌≤◌, ◌++◌, ◌^◌, OnOk};
-ghost use Rattle.std.specs.List.{flat_map};
 ghost use Rattle.run_picture.specs.Labels as labels;
 
 use crate::lanes::{Lane, middle, shows};
-use crate::plot::{Window, has, pixels, x_at};
+use crate::plot::{Window, has, pixels, put_text, x_at};
 use crate::seen::Seen;
 use crate::sizes::{digits_of, room};
 use dover_model::Memory;
@@ -31,21 +30,11 @@ fn put_group(text: &mut Vec<u8>, window: Window, unit: u64, lanes: &[Lane]) -> R
     requires { unit ≤ 18 }
     ensures { OnOk result (text.new.items ≡ text.old.items ++ labels.group window unit lanes.now) }
 {
-    text.extend_from_slice(b"<g class='j'>\n")?;
-    put_each(text, window, unit, lanes)?;
-    text.extend_from_slice(b"</g>\n")?;
-    Ok(())
-}
-
-/// Appends what is written in each lane.
-fn put_each(text: &mut Vec<u8>, window: Window, unit: u64, lanes: &[Lane]) -> Result<(), Memory>
-    requires { unit ≤ 18 }
-    ensures { OnOk result (text.new.items ≡ text.old.items ++ flat_map (labels.label window unit) lanes.now) }
-{
+    put_text(text, b"<g class='j'>\n")?;
     for lane in lanes {
         put_label(text, window, unit, lane)?;
     }
-    Ok(())
+    put_text(text, b"</g>\n")
 }
 
 /// Appends what is written in a lane.
@@ -56,7 +45,7 @@ fn put_label(text: &mut Vec<u8>, window: Window, unit: u64, lane: &Lane) -> Resu
     if shows(window, &lane.seen) {
         let y = middle(unit, lane);
         put_number(text, window, y, &lane.seen)?;
-        put_loss(text, window, y, &lane.seen)?;
+        return put_loss(text, window, y, &lane.seen);
     }
     Ok(())
 }
@@ -68,23 +57,16 @@ fn has_loss(window: Window, seen: &Seen) -> bool
     seen.is_gone() && has(window, seen.fate_tick())
 }
 
-/// The tick up to which there is room for the job's number.
-fn number_end(window: Window, seen: &Seen) -> u64
-    ensures { result ≡ labels.number_end window seen.now }
-{
-    if has_loss(window, seen) {
-        seen.fate_tick()
-    } else {
-        seen.deadline
-    }
-}
-
-/// There is room for the job's number.
+/// There is room for the job's number, up to its cross or else its deadline.
 fn has_number(window: Window, seen: &Seen) -> bool
     ensures { result ≡ labels.has_number window seen.now }
 {
-    let long = pixels(window, 0, seen.release, number_end(window, seen));
-    room(1, u64::from(seen.number)) <= long
+    let end = if has_loss(window, seen) {
+        seen.fate_tick()
+    } else {
+        seen.deadline
+    };
+    room(1, u64::from(seen.number)) <= pixels(window, 0, seen.release, end)
 }
 
 /// Appends the job's number around the height y, where there is room.
@@ -104,34 +86,19 @@ fn put_number(text: &mut Vec<u8>, window: Window, y: u64, seen: &Seen) -> Result
     Ok(())
 }
 
-/// Appends what the job's loss weighed, if it is abandoned in the window.
+/// Appends what stands behind the cross of a job, if it is abandoned in the window: what its loss weighed, and its
+/// number where it doesn't stand before the cross.
 fn put_loss(text: &mut Vec<u8>, window: Window, y: u64, seen: &Seen) -> Result<(), Memory>
     requires { y ≤ 2 ^ 40 }
     ensures { OnOk result (text.new.items ≡ text.old.items ++ labels.loss_of window y seen.now) }
 {
-    if has_loss(window, seen) {
-        let tick = seen.fate_tick();
-        let long = pixels(window, 0, tick, seen.deadline);
-        let named = has_number(window, seen);
-        put_behind_cross(text, x_at(window, tick), y, long, named, seen)?;
+    if !has_loss(window, seen) {
+        return Ok(());
     }
-    Ok(())
-}
-
-/// Appends what stands behind the cross of a job, by whether its number stands before it.
-fn put_behind_cross(
-    text: &mut Vec<u8>,
-    x: u64,
-    y: u64,
-    long: u64,
-    named: bool,
-    seen: &Seen,
-) -> Result<(), Memory>
-    requires x { x ≤ 1_290 }
-    requires y { y ≤ 2 ^ 40 }
-    ensures { OnOk result (text.new.items ≡ text.old.items ++ labels.behind_cross x y long named seen.now) }
-{
-    if named {
+    let tick = seen.fate_tick();
+    let x = x_at(window, tick);
+    let long = pixels(window, 0, tick, seen.deadline);
+    if has_number(window, seen) {
         return put_loss_in(text, x, y, long, seen.value, seen.against);
     }
     put_named_loss_in(text, x, y, long, seen)

@@ -1,9 +1,11 @@
 //! Marks in the lanes, step by step.
 ghost use Rattle.std.specs.Prelude.{◌≡◌, ◌≤◌, ◌++◌, ◌^◌, OnOk, codes, if◌then◌else◌};
+ghost use Rattle.run_picture.specs.Frame.{bars_end};
 ghost use Rattle.run_picture.specs.Marks as marks;
+ghost use Rattle.run_picture.specs.Pictures as pictures;
 
 use crate::lanes::{Lane, lane_at, middle, shows};
-use crate::plot::{Window, has, meets, put_bar, x_at};
+use crate::plot::{Window, has, meets, put_bar, put_text, x_at};
 use dover_model::{Event, Memory, PackedEvent};
 use run_view::template::put;
 
@@ -16,12 +18,13 @@ pub fn put_holds(
     run: &[PackedEvent],
 ) -> Result<(), Memory>
     requires { unit ≤ 18 }
-    ensures { OnOk result (text.new.items ≡ text.old.items ++ marks.holds window unit lanes.now run.now) }
+    ensures { OnOk result (text.new.items ≡ text.old.items ++ pictures.holds_bars window unit lanes.now run.now) }
 {
+    put(text, b"<path class='h' stroke-width='@' d='", &[unit / 3])?;
     for event in run {
         put_hold_of(text, window, unit, lanes, event)?;
     }
-    Ok(())
+    put_text(text, b"'/>\n")
 }
 
 /// Appends the bar of the job that loses the processor at a step.
@@ -61,7 +64,7 @@ fn put_hold(
 {
     let until = lane.seen.fate_tick();
     if meets(window, at, until) {
-        put_bar(text, window, 1, at, until, middle(unit, lane))?;
+        return put_bar(text, window, 1, at, until, middle(unit, lane));
     }
     Ok(())
 }
@@ -75,12 +78,13 @@ pub fn put_crosses(
     run: &[PackedEvent],
 ) -> Result<(), Memory>
     requires { unit ≤ 18 }
-    ensures { OnOk result (text.new.items ≡ text.old.items ++ marks.crosses window unit lanes.now run.now) }
+    ensures { OnOk result (text.new.items ≡ text.old.items ++ pictures.crosses_lines window unit lanes.now run.now) }
 {
+    put_text(text, b"<path class='x' d='")?;
     for event in run {
         put_cross_of(text, window, unit, lanes, event)?;
     }
-    Ok(())
+    put_text(text, b"'/>\n")
 }
 
 /// Appends the cross of a step.
@@ -118,23 +122,18 @@ fn put_cross_in(
     ensures { OnOk result (text.new.items ≡ text.old.items ++ marks.cross_in window unit at lane.now) }
 {
     if has(window, at) && shows(window, &lane.seen) {
-        return put_cross(text, x_at(window, at), middle(unit, lane), unit / 2);
+        let high = unit / 2;
+        let left = x_at(window, at).saturating_sub(3);
+        let top = middle(unit, lane).saturating_sub(high / 2);
+        return put(text, b"M@ @l6 @m0-@l-6 @", &[left, top, high, high, high]);
     }
     Ok(())
 }
 
-/// Appends a cross of this height, around a point.
-fn put_cross(text: &mut Vec<u8>, x: u64, y: u64, high: u64) -> Result<(), Memory>
-    ensures { OnOk result (text.new.items ≡ text.old.items ++ marks.cross x y high) }
-{
-    let left = x.saturating_sub(3);
-    let top = y.saturating_sub(high / 2);
-    put(text, b"M@ @l6 @m0-@l-6 @", &[left, top, high, high, high])
-}
-
-/// Appends arrows from job to job, where one preempts or else where one takes the processor.
+/// Appends arrows from job to job behind this front, where one preempts or else where one takes the processor.
 pub fn put_arrows(
     text: &mut Vec<u8>,
+    front: &[u8],
     window: Window,
     unit: u64,
     takes: bool,
@@ -142,12 +141,14 @@ pub fn put_arrows(
     run: &[PackedEvent],
 ) -> Result<(), Memory>
     requires { unit ≤ 18 }
-    ensures { OnOk result (text.new.items ≡ text.old.items ++ marks.arrows window unit takes lanes.now run.now) }
+    ensures { OnOk result (text.new.items
+        ≡ text.old.items ++ (front.now ++ marks.arrows window unit takes lanes.now run.now ++ bars_end)) }
 {
+    put_text(text, front)?;
     for event in run {
         put_arrow_of(text, window, unit, takes, lanes, event)?;
     }
-    Ok(())
+    put_text(text, b"'/>\n")
 }
 
 /// Appends the arrow of a step.
@@ -179,7 +180,7 @@ fn put_arrow_of(
     }
 }
 
-/// Appends the arrow from the lane of one job to that of another.
+/// Appends the arrow from the lane of one job to that of another, if the window has the tick and shows both jobs.
 fn put_arrow_at(
     text: &mut Vec<u8>,
     window: Window,
@@ -194,27 +195,12 @@ fn put_arrow_at(
 {
     let from = lane_at(lanes, stops);
     let until = lane_at(lanes, starts);
-    put_arrow_in(text, window, unit, at, &from, &until)
-}
-
-/// Appends the arrow from one lane to another, if the window has the tick and shows both jobs.
-fn put_arrow_in(
-    text: &mut Vec<u8>,
-    window: Window,
-    unit: u64,
-    at: u64,
-    stops: &Lane,
-    starts: &Lane,
-) -> Result<(), Memory>
-    requires { unit ≤ 18 }
-    ensures { OnOk result (text.new.items ≡ text.old.items ++ marks.arrow_in window unit at stops.now starts.now) }
-{
-    if has(window, at) && shows(window, &stops.seen) && shows(window, &starts.seen) {
+    if has(window, at) && shows(window, &from.seen) && shows(window, &until.seen) {
         return put_arrow(
             text,
             x_at(window, at),
-            middle(unit, stops),
-            middle(unit, starts),
+            middle(unit, &from),
+            middle(unit, &until),
         );
     }
     Ok(())
@@ -225,8 +211,7 @@ fn put_arrow(text: &mut Vec<u8>, x: u64, from: u64, until: u64) -> Result<(), Me
     ensures { OnOk result (text.new.items ≡ text.old.items ++ marks.arrow x from until) }
 {
     put(text, b"M@ @V@", &[x, from, until])?;
-    text.extend_from_slice(head(from < until))?;
-    Ok(())
+    put_text(text, head(from < until))
 }
 
 /// The head of an arrow, by whether it goes down.

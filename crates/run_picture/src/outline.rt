@@ -1,7 +1,9 @@
 //! Outlines of the values so far.
-ghost use Rattle.std.specs.Prelude.{◌≡◌, ◌≤◌, ◌+◌, ◌++◌, length, OnOk};
+ghost use Rattle.std.specs.Prelude.{◌≡◌, ◌≤◌, ◌+◌, ◌++◌, [], ◌∷◌, length, OnOk};
 ghost use Rattle.dover_model.specs.Limits.{most_value};
 ghost use Rattle.dover_model.specs.Settled.{tick_of_event};
+ghost use Rattle.run_view.specs.Templates.{filled};
+ghost use Rattle.run_picture.specs.Frame.{bars_end};
 ghost use Rattle.run_picture.specs.Outlines as outlines;
 
 use crate::plot::{Window, column_at, has, scaled, x_at};
@@ -45,31 +47,6 @@ fn worth_at(window: Window, jobs: &[Job], at: u64, number: u32) -> u64
     }
 }
 
-/// The value completed after a step.
-fn completed_after(window: Window, jobs: &[Job], event: &PackedEvent, value: u64) -> u64
-    requires { value ≤ 6_000_000_000_000_000 }
-    ensures is { result ≡ outlines.completed_after window jobs.now event.now value }
-    ensures modest { result ≤ value + most_value }
-{
-    match event.event() {
-        Event::Complete { at, number } => value + worth_at(window, jobs, at, number),
-        _ => value,
-    }
-}
-
-/// The value completed or lost after a step.
-fn decided_after(window: Window, jobs: &[Job], event: &PackedEvent, value: u64) -> u64
-    requires { value ≤ 6_000_000_000_000_000 }
-    ensures is { result ≡ outlines.decided_after window jobs.now event.now value }
-    ensures modest { result ≤ value + most_value }
-{
-    match event.event() {
-        Event::Complete { at, number } => value + worth_at(window, jobs, at, number),
-        Event::Abandon { at, number } => value + worth_at(window, jobs, at, number),
-        _ => value,
-    }
-}
-
 /// The number after a step.
 pub fn after(
     measure: Measure,
@@ -82,9 +59,13 @@ pub fn after(
     ensures is { result ≡ outlines.after measure window jobs.now event.now number }
     ensures modest { result ≤ number + most_value }
 {
-    match measure {
-        Measure::Completed => completed_after(window, jobs, event, number),
-        Measure::Decided => decided_after(window, jobs, event, number),
+    match event.event() {
+        Event::Complete { at, number: job } => number + worth_at(window, jobs, at, job),
+        Event::Abandon { at, number: job } => match measure {
+            Measure::Completed => number,
+            Measure::Decided => number + worth_at(window, jobs, at, job),
+        },
+        _ => number,
     }
 }
 
@@ -139,31 +120,19 @@ pub fn rise(outline: &Outline, number: u64) -> u64
         .saturating_sub(scaled(number, outline.most, 110))
 }
 
-/// Appends the whole outline.
+/// Appends the whole outline as an area, behind a front that ends with the place of its base.
 pub fn put_outline(
     text: &mut Vec<u8>,
+    front: &[u8],
     outline: &Outline,
     jobs: &[Job],
     run: &[PackedEvent],
 ) -> Result<(), Memory>
     requires { length run.now ≤ 5_000_001 }
-    ensures { OnOk result (text.new.items ≡ text.old.items ++ outlines.outline outline.now jobs.now run.now) }
+    ensures { OnOk result (text.new.items ≡ text.old.items ++ (filled front.now (outline.now.base ∷ [])
+        ++ outlines.stairs_from outline.now jobs.now 90 0 run.now ++ bars_end)) }
 {
-    put(text, b"M90 @", &[outline.base])?;
-    put_stairs(text, outline, jobs, run)?;
-    Ok(())
-}
-
-/// Appends the outline from the left on.
-fn put_stairs(
-    text: &mut Vec<u8>,
-    outline: &Outline,
-    jobs: &[Job],
-    run: &[PackedEvent],
-) -> Result<(), Memory>
-    requires { length run.now ≤ 5_000_001 }
-    ensures { OnOk result (text.new.items ≡ text.old.items ++ outlines.stairs_from outline.now jobs.now 90 0 run.now) }
-{
+    put(text, front, &[outline.base])?;
     let mut x = 90;
     let mut number = 0;
     for event in run {
@@ -198,9 +167,9 @@ pub fn put_stair(text: &mut Vec<u8>, y: u64, next: u64) -> Result<(), Memory>
     put(text, b"V@H@", &[y, next])
 }
 
-/// Appends the last stair, up to a height, right to the end and down.
+/// Appends the last stair, up to a height, right to the end and down, and the end of the area.
 pub fn put_last(text: &mut Vec<u8>, y: u64, base: u64) -> Result<(), Memory>
-    ensures { OnOk result (text.new.items ≡ text.old.items ++ outlines.last_stair y base) }
+    ensures { OnOk result (text.new.items ≡ text.old.items ++ (outlines.last_stair y base ++ bars_end)) }
 {
-    put(text, b"V@H1290V@Z", &[y, base])
+    put(text, b"V@H1290V@Z'/>\n", &[y, base])
 }

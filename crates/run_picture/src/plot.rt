@@ -62,6 +62,14 @@ pub fn pixels(window: Window, least: u64, from: u64, until: u64) -> u64
     least.max(x_at(window, until).saturating_sub(x_at(window, from)))
 }
 
+/// Appends these bytes.
+pub fn put_text(text: &mut Vec<u8>, bytes: &[u8]) -> Result<(), Memory>
+    ensures { OnOk result (text.new.items ≡ text.old.items ++ bytes.now) }
+{
+    text.extend_from_slice(bytes)?;
+    Ok(())
+}
+
 /// Appends the bar of these ticks around the height y, where it has a length.
 pub fn put_bar(
     text: &mut Vec<u8>,

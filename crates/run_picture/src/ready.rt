@@ -1,10 +1,12 @@
 //! How many jobs are ready in each column.
 ghost use Rattle.std.specs.Prelude.{◌≡◌, ◌≤◌, ◌+◌, ◌++◌, length, OnOk};
+ghost use Rattle.run_picture.specs.Frame.{bars_end};
+ghost use Rattle.run_picture.specs.Panels.{ready_area};
 ghost use Rattle.run_picture.specs.Ready as ready;
 
 use crate::columns::column_of;
 use crate::outline::{put_last, put_stair, tick_of};
-use crate::plot::{Window, has, scaled};
+use crate::plot::{Window, has, put_text, scaled};
 use dover_model::{Event, Memory, PackedEvent};
 
 /// The jobs that are released and neither done nor gone, after a step.
@@ -82,7 +84,7 @@ fn high_after(
     most_after(window, event, before, after, so_far)
 }
 
-/// Appends the outline of the jobs that are ready, the most in each column.
+/// Appends the outline of the jobs that are ready, the most in each column, as an area.
 pub fn put_peaks(
     text: &mut Vec<u8>,
     window: Window,
@@ -90,22 +92,9 @@ pub fn put_peaks(
     run: &[PackedEvent],
 ) -> Result<(), Memory>
     requires { length run.now ≤ 5_000_001 }
-    ensures { OnOk result (text.new.items ≡ text.old.items ++ ready.peaks window most run.now) }
+    ensures { OnOk result (text.new.items ≡ text.old.items ++ ready_area window most run.now) }
 {
-    text.extend_from_slice(b"M90 222")?;
-    put_columns(text, window, most, run)
-}
-
-/// Appends the columns, from the left on.
-fn put_columns(
-    text: &mut Vec<u8>,
-    window: Window,
-    most: u64,
-    run: &[PackedEvent],
-) -> Result<(), Memory>
-    requires { length run.now ≤ 5_000_001 }
-    ensures { OnOk result (text.new.items ≡ text.old.items ++ ready.peaks_from window most 90 0 0 run.now) }
-{
+    put_text(text, b"<path class='Q' d='M90 222")?;
     let mut x = 90;
     let mut high = 0;
     let mut count = 0;
@@ -135,32 +124,17 @@ fn put_stairs_to(
     if x == next {
         return Ok(());
     }
-    put_stairs(text, most, x, high, count, next)
-}
-
-/// Appends the column at pixel x, and those behind it up to the next one.
-fn put_stairs(
-    text: &mut Vec<u8>,
-    most: u64,
-    x: u64,
-    high: u64,
-    count: u64,
-    next: u64,
-) -> Result<(), Memory>
-    requires { x ≤ 1_284 }
-    ensures { OnOk result (text.new.items ≡ text.old.items ++ ready.stairs most x high count next) }
-{
     put_stair(text, level(most, high.max(count)), x + 6)?;
-    if x + 6 != next {
-        put_stair(text, level(most, count), next)?;
+    if x + 6 == next {
+        return Ok(());
     }
-    Ok(())
+    put_stair(text, level(most, count), next)
 }
 
-/// Appends the column at pixel x and those behind it, and the end of the outline.
+/// Appends the column at pixel x and those behind it, and the end of the area.
 fn put_end(text: &mut Vec<u8>, most: u64, x: u64, high: u64, count: u64) -> Result<(), Memory>
     requires { x ≤ 1_284 }
-    ensures { OnOk result (text.new.items ≡ text.old.items ++ ready.last_stairs most x high count) }
+    ensures { OnOk result (text.new.items ≡ text.old.items ++ (ready.last_stairs most x high count ++ bars_end)) }
 {
     put_stair(text, level(most, high.max(count)), x + 6)?;
     put_last(text, level(most, count), 222)

@@ -1,9 +1,11 @@
 //! Pieces as bars.
 ghost use Rattle.std.specs.Prelude.{◌≡◌, ◌≤◌, ◌++◌, OnOk};
+ghost use Rattle.run_picture.specs.Pictures as pictures;
 ghost use Rattle.run_picture.specs.Strip as strip;
 
+use crate::frame::put_bars_front;
 use crate::lanes::{Lane, lane_at, middle};
-use crate::plot::{Window, meets, pixels, put_bar, x_at};
+use crate::plot::{Window, meets, pixels, put_bar, put_text, x_at};
 use crate::sizes::room;
 use dover_model::{Memory, Piece};
 use run_view::template::put;
@@ -27,22 +29,25 @@ fn level(unit: u64, lane: &Lane) -> u64
     if unit == 0 { 87 } else { middle(unit, lane) }
 }
 
-/// Appends the bars of the pieces of jobs of this color.
+/// Appends the bars of the pieces of jobs of this color, so high.
 pub fn put_pieces(
     text: &mut Vec<u8>,
     bars: &Bars,
     lanes: &[Lane],
     color: u8,
+    high: u64,
     pieces: &[Piece],
 ) -> Result<(), Memory>
     requires unit { bars.now.unit ≤ 18 }
     requires least { bars.now.least ≤ 1_290 }
-    ensures { OnOk result (text.new.items ≡ text.old.items ++ strip.piece_bars bars.now lanes.now color pieces.now) }
+    ensures { OnOk result (text.new.items
+        ≡ text.old.items ++ pictures.bars_of bars.now lanes.now color high pieces.now) }
 {
+    put_bars_front(text, color, high)?;
     for piece in pieces {
         put_piece(text, bars, lanes, color, piece)?;
     }
-    Ok(())
+    put_text(text, b"'/>\n")
 }
 
 /// Appends the bar of a piece, if its job has this color.
@@ -60,19 +65,20 @@ fn put_piece(
     let lane = lane_at(lanes, piece.number);
     if meets(bars.window, piece.from, piece.until) && lane.seen.tint() == color {
         let y = level(bars.unit, &lane);
-        put_bar(text, bars.window, bars.least, piece.from, piece.until, y)?;
+        return put_bar(text, bars.window, bars.least, piece.from, piece.until, y);
     }
     Ok(())
 }
 
-/// Appends the numbers of the jobs of pieces, where there is room.
+/// Appends the numbers of the jobs of pieces as one group, where there is room.
 pub fn put_numbers(text: &mut Vec<u8>, window: Window, pieces: &[Piece]) -> Result<(), Memory>
-    ensures { OnOk result (text.new.items ≡ text.old.items ++ strip.piece_numbers window pieces.now) }
+    ensures { OnOk result (text.new.items ≡ text.old.items ++ pictures.strip_numbers window pieces.now) }
 {
+    put_text(text, b"<g class='i'>\n")?;
     for piece in pieces {
         put_number(text, window, piece)?;
     }
-    Ok(())
+    put_text(text, b"</g>\n")
 }
 
 /// Appends the number of a piece's job, where there is room.

@@ -1,14 +1,15 @@
 //! The jobs' windows, with their tooltips.
 ghost use Rattle.std.specs.Prelude.{◌≡◌, ◌≤◌, ◌++◌, OnOk};
+ghost use Rattle.run_picture.specs.Pictures as pictures;
 ghost use Rattle.run_picture.specs.Windows as windows;
 
 use crate::lanes::{Lane, middle, shows};
-use crate::plot::{Window, put_bar};
+use crate::plot::{Window, put_bar, put_text};
 use crate::seen::{Fate, Seen};
 use dover_model::Memory;
 use run_view::template::put;
 
-/// Appends the windows of the jobs that the window of the picture shows.
+/// Appends the word beside the lanes, and the windows of the jobs that the window of the picture shows.
 pub fn put_windows(
     text: &mut Vec<u8>,
     window: Window,
@@ -16,12 +17,18 @@ pub fn put_windows(
     lanes: &[Lane],
 ) -> Result<(), Memory>
     requires { unit ≤ 18 }
-    ensures { OnOk result (text.new.items ≡ text.old.items ++ windows.job_windows window unit lanes.now) }
+    ensures { OnOk result (text.new.items ≡ text.old.items ++ pictures.windows window unit lanes.now) }
 {
+    let high = unit.saturating_sub(3);
+    put(
+        text,
+        b"<text class='r' x='82' y='124'>jobs</text>\n<g class='w' stroke-width='@'>\n",
+        &[high],
+    )?;
     for lane in lanes {
         put_job(text, window, unit, lane)?;
     }
-    Ok(())
+    put_text(text, b"</g>\n")
 }
 
 /// Appends the window of a job, if it is shown.
@@ -30,28 +37,26 @@ fn put_job(text: &mut Vec<u8>, window: Window, unit: u64, lane: &Lane) -> Result
     ensures { OnOk result (text.new.items ≡ text.old.items ++ windows.job_window window unit lane.now) }
 {
     if shows(window, &lane.seen) {
-        put_window(text, window, middle(unit, lane), &lane.seen)?;
+        return put_window(text, window, middle(unit, lane), &lane.seen);
     }
     Ok(())
 }
 
-/// Appends the bar of a job at this height, with its tooltip.
+/// Appends the bar of a job at this height, with its tooltip, which is all that is told of the job.
 fn put_window(text: &mut Vec<u8>, window: Window, y: u64, seen: &Seen) -> Result<(), Memory>
     ensures { OnOk result (text.new.items ≡ text.old.items ++ windows.window_of window y seen.now) }
 {
-    put_shape(text, window, y, seen)?;
-    put_title(text, seen)?;
-    Ok(())
-}
-
-/// Appends the bar, up to its tooltip.
-fn put_shape(text: &mut Vec<u8>, window: Window, y: u64, seen: &Seen) -> Result<(), Memory>
-    ensures { OnOk result (text.new.items ≡ text.old.items ++ windows.shape window y seen.now) }
-{
-    text.extend_from_slice(front(seen.is_gone()))?;
+    put_text(text, front(seen.is_gone()))?;
     put_bar(text, window, 1, seen.release, seen.deadline, y)?;
-    text.extend_from_slice(b"'><title>")?;
-    Ok(())
+    let number = u64::from(seen.number);
+    put(
+        text,
+        b"'><title>job @: @ to @, work @, value @",
+        &[number, seen.release, seen.deadline, seen.work, seen.value],
+    )?;
+    put_weighed(text, seen)?;
+    put_ended(text, seen.fate)?;
+    put_text(text, b"</title></path>\n")
 }
 
 /// The front of the bar, by whether the job is abandoned.
@@ -62,22 +67,6 @@ fn front(gone: bool) -> &'static [u8]
         return b"<path class='g' d='";
     }
     b"<path d='"
-}
-
-/// Appends the tooltip, which is all that is told of the job, and the end of the bar.
-fn put_title(text: &mut Vec<u8>, seen: &Seen) -> Result<(), Memory>
-    ensures { OnOk result (text.new.items ≡ text.old.items ++ windows.titled seen.now) }
-{
-    let number = u64::from(seen.number);
-    put(
-        text,
-        b"job @: @ to @, work @, value @",
-        &[number, seen.release, seen.deadline, seen.work, seen.value],
-    )?;
-    put_weighed(text, seen)?;
-    put_ended(text, seen.fate)?;
-    text.extend_from_slice(b"</title></path>\n")?;
-    Ok(())
 }
 
 /// Appends what stood against the job's value, where it was weighed.

@@ -1,6 +1,8 @@
-use Rattle.std.proofs.Common.{◌+◌, ◌++◌, drop, sym, ap, ◌∙◌, arith}
-use Rattle.run_picture.specs.Columns.{in_column, tower_before, towers_from}
-use Rattle.run_picture.proofs.Going.{goes_on}
+use Rattle.std.proofs.Common.{◌+◌, ◌++◌, drop, sym, ap, ◌∙◌, append_assoc, arith}
+use Rattle.std.proofs.lemmas.Result.{IfOk-equal}
+use Rattle.run_picture.specs.Columns.{in_column, tower, tower_before, towers, towers_from}
+use Rattle.run_picture.specs.Frame.{bars_end}
+use Rattle.run_picture.proofs.Going.{goes_on, goes_within}
 use Rattle.run_picture.proofs.columns.put_towers.Goals as goal
 
 pub loop-event-preserved : goal.loop-event-preserved
@@ -25,3 +27,14 @@ loop-event-preserved c =
           c.in_ok-put_tower_before.ensures c.loop-event.invariant.is;
       few = omega (arith, c.in_column-number.ensures.modest, c.loop-event.invariant.few);
     }
+
+pub returns : goal.returns
+returns c =
+    let o = c.args.outline.now in
+    let text = c.loop-event.text.items in
+    IfOk-equal c.put_text-2.result _ _ _ c.put_text-2.ensures
+    (ap (λ t. t ++ bars_end) c.in_ok-put_tower.ensures
+    ∙ append_assoc text (tower o c.loop-event.x c.loop-event.number) bars_end
+    ∙ goes_within (towers_from o c.args.jobs.now c.loop-event.x c.loop-event.number) c.args.run.now
+    c.loop-event.event-index text c.args.text.now.items c.args.front.now
+    (towers o c.args.jobs.now c.args.run.now) bars_end c.loop-event-test.false c.loop-event.invariant.is)

@@ -6,6 +6,6 @@ use Rattle.run_picture.proofs.columns.put_towers.Given as goal
 abbrev pub invariant-loop-event : goal.invariant-loop-event
 invariant-loop-event l = record {
   is : l.text.items ++ towers_from l.outline l.jobs l.x l.number (drop l.event-index l.run)
-      ≡ l.fn.text.items ++ towers l.outline l.jobs l.run;
+      ≡ (l.fn.text.items ++ l.front) ++ towers l.outline l.jobs l.run;
   few : l.number ≤ 1_000_000_000 * l.event-index;
 }

@@ -1,16 +1,18 @@
 use Rattle.std.proofs.Common.{[], ◌∷◌, refl}
+use Rattle.std.proofs.lemmas.Result.{IfOk-equal}
 use Rattle.run_view.proofs.Joining.{joined}
 use Rattle.run_picture.specs.Pictures.{strip_border, all_bars, strip_numbers, strip}
 use Rattle.run_picture.proofs.drawing.put_strip.Goals as goal
 
 pub returns : goal.returns
 unfolding strip
-returns c = joined c.args.text.now.items
+returns c = IfOk-equal c.put_numbers.result _ _ _ c.put_numbers.ensures
+    (joined c.args.text.now.items
     (strip_border
     ∷ all_bars (record { window = c.args.window; unit = 0; least = c.args.least }) c.args.lanes.now 22 c.args.pieces.now
     ∷ strip_numbers c.args.window c.args.pieces.now
     ∷ []) _ (
       _,
-      c.in_ok-extend_from_slice.ensures.items,
-      (_, c.in_ok-put_all_bars.ensures, (_, c.in_ok-put_strip_numbers.ensures, refl)),
-    )
+      c.in_ok-put_text.ensures,
+      (_, c.in_ok-put_all_bars.ensures, (_, refl, refl)),
+    ))

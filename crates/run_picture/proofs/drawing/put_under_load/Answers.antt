@@ -1,4 +1,5 @@
 use Rattle.std.proofs.Common.{[], ◌∷◌, refl}
+use Rattle.std.proofs.lemmas.Result.{IfOk-equal}
 use Rattle.run_view.proofs.Joining.{joined}
 use Rattle.run_picture.specs.Frame.{page, axis}
 use Rattle.run_picture.specs.Legends.{load_legend}
@@ -7,7 +8,8 @@ use Rattle.run_picture.proofs.drawing.put_under_load.Goals as goal
 
 pub returns : goal.returns
 unfolding ground_of under_load
-returns c = joined c.args.text.now.items
+returns c = IfOk-equal c.put_all_bands.result _ _ _ c.put_all_bands.ensures
+    (joined c.args.text.now.items
     (page 510 c.args.totals.now
     ∷ axis c.args.window 474
     ∷ load_legend
@@ -15,5 +17,5 @@ returns c = joined c.args.text.now.items
     ∷ []) _ (
       _,
       c.in_ok-put_page.ensures,
-      (_, c.in_ok-put_axis.ensures, (_, c.in_ok-put_load_legend.ensures, (_, c.in_ok-put_all_bands.ensures, refl))),
-    )
+      (_, c.in_ok-put_axis.ensures, (_, c.in_ok-put_load_legend.ensures, (_, refl, refl))),
+    ))

@@ -1,11 +1,13 @@
 use Rattle.std.proofs.Common.{[], ◌∷◌, refl}
 use Rattle.std.specs.Prelude.{codes}
+use Rattle.std.proofs.lemmas.Result.{IfOk-equal}
 use Rattle.run_view.proofs.Joining.{joined}
 use Rattle.run_view.specs.Templates.{filled}
 use Rattle.run_picture.proofs.frame.put_bars_front.Goals as goal
 
 pub returns : goal.returns
-returns c = joined c.args.text.now.items
+returns c = IfOk-equal c.put.result _ _ _ c.put.ensures
+    (joined c.args.text.now.items
     (codes "<path class='" ∷ (c.args.class ∷ [])
     ∷ filled (codes "' stroke-width='@' d='") (c.args.high ∷ []) ∷ []) _
-    (_, c.in_ok-extend_from_slice.ensures.items, (_, c.in_ok-push.ensures.items, (_, c.in_ok-put.ensures, refl)))
+    (_, c.in_ok-put_text.ensures, (_, c.in_ok-push.ensures.items, (_, refl, refl))))

@@ -3,4 +3,4 @@ use Rattle.run_picture.proofs.legends.put_legend.Goals as goal
 
 pub returns : goal.returns
 unfolding legend legend_bars legend_words
-returns c = c.in_ok-extend_from_slice.ensures.items
+returns c = c.put_text.ensures

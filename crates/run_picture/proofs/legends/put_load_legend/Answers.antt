@@ -3,4 +3,4 @@ use Rattle.run_picture.proofs.legends.put_load_legend.Goals as goal
 
 pub returns : goal.returns
 unfolding load_legend
-returns c = c.in_ok-extend_from_slice.ensures.items
+returns c = c.put_text.ensures

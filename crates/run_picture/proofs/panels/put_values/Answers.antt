@@ -1,34 +1,30 @@
-use Rattle.std.proofs.Common.{[], ◌∷◌, refl}
+use Rattle.std.proofs.Common.{[], ◌∷◌, ◌++◌, refl, ap, ◌∙◌}
+use Rattle.std.proofs.lemmas.Result.{IfOk-equal}
 use Rattle.run_view.proofs.Joining.{joined}
+use Rattle.run_view.specs.Templates.{filled}
 use Rattle.run_picture.specs.Outlines.{greatest}
 use Rattle.run_picture.specs.Panels.{area, measured, values_border, values_numbers, values_by, values}
 use Rattle.run_picture.specs.declared.outline.Measure.TheVariants.{Completed, Decided}
 use Rattle.run_picture.proofs.panels.put_values.Goals as goal
 
 pub returns : goal.returns
-unfolding values_by values
+unfolding filled area values_by values
 returns c =
-    let decided = greatest Decided c.args.window c.args.jobs.now c.args.run.now in
-    let completed = greatest Completed c.args.window c.args.jobs.now c.args.run.now in
-    joined c.args.text.now.items
-    (area 76 (measured c.args.window Decided c.args.coarse decided c.args.base) c.args.jobs.now c.args.run.now
-    ∷ area 67 (measured c.args.window Completed c.args.coarse decided c.args.base) c.args.jobs.now c.args.run.now
-    ∷ values_border c.args.base
-    ∷ values_numbers decided completed c.args.base
-    ∷ []) _ (
-      _,
-      rw (c.measured-all.ensures, c.greatest-decided.ensures) at c.in_ok-put_area.ensures,
-      (
-        _,
-        rw (c.measured-done.ensures, c.greatest-decided.ensures) at c.in_ok-put_area-2.ensures,
-        (
-          _,
-          c.in_ok-put_values_border.ensures,
-          (
-            _,
-            rw (c.greatest-decided.ensures, c.greatest-completed.ensures) at c.in_ok-put_values_numbers.ensures,
-            refl,
-          ),
-        ),
-      ),
-    )
+    let text = c.args.text.now.items in
+    let w = c.args.window in
+    let coarse = c.args.coarse in
+    let base = c.args.base in
+    let jobs = c.args.jobs.now in
+    let run = c.args.run.now in
+    let decided = c.greatest-decided.result in
+    let completed = c.greatest-completed.result in
+    IfOk-equal c.put_values_words.result _ _ _ c.put_values_words.ensures
+    (joined text
+    (area 76 (measured w Decided coarse decided base) jobs run
+    ∷ area 67 (measured w Completed coarse decided base) jobs run
+    ∷ values_border base
+    ∷ values_numbers decided completed base
+    ∷ []) _ (_, c.in_ok-put_outline.ensures, (_, c.in_ok-put_outline-2.ensures, (_, refl, (_, refl, refl))))
+    ∙ ap (λ d. text ++ values_by w coarse d completed base jobs run) c.greatest-decided.ensures
+    ∙ ap (λ d. text ++ values_by w coarse (greatest Decided w jobs run) d base jobs run)
+    c.greatest-completed.ensures)

@@ -1,8 +1,11 @@
 use Rattle.std.proofs.Common.{◌+◌, ◌++◌, drop, sym, ap, ◌∙◌, arith}
-use Rattle.std.specs.Prelude.{◌==◌}
+use Rattle.std.specs.Prelude.{◌==◌, codes}
+use Rattle.std.proofs.lemmas.Result.{IfOk-equal}
 use Rattle.run_picture.specs.Ready.{ready_in, stairs_to, high_after, peaks_from}
-use Rattle.run_picture.proofs.Going.{goes_on}
-use Rattle.run_picture.proofs.ready.put_columns.Goals as goal
+use Rattle.run_picture.specs.Frame.{bars_end}
+use Rattle.run_picture.specs.Panels.{ready_area}
+use Rattle.run_picture.proofs.Going.{goes_on, goes_within}
+use Rattle.run_picture.proofs.ready.put_peaks.Goals as goal
 
 pub loop-event-preserved : goal.loop-event-preserved
 loop-event-preserved c =
@@ -32,3 +35,11 @@ loop-event-preserved c =
       few = omega (arith, c.ready_in-after.ensures.modest, c.loop-event.invariant.few);
       modest = c.column_of-next.ensures.modest c.loop-event.invariant.modest;
     }
+
+pub returns : goal.returns
+unfolding ready_area
+returns c = IfOk-equal c.put_end.result _ _ _ c.put_end.ensures
+    (goes_within (peaks_from c.args.window c.args.most c.loop-event.x c.loop-event.high c.loop-event.count)
+    c.args.run.now c.loop-event.event-index c.loop-event.text.items c.args.text.now.items
+    (codes "<path class='Q' d='M90 222") (peaks_from c.args.window c.args.most 90 0 0 c.args.run.now) bars_end
+    c.loop-event-test.false c.loop-event.invariant.is)

@@ -1,7 +1,10 @@
-use Rattle.std.proofs.Common.{◌+◌, ◌++◌, drop, sym, ap, ◌∙◌, arith}
+use Rattle.std.proofs.Common.{◌+◌, ◌++◌, [], ◌∷◌, drop, sym, ap, ◌∙◌, arith}
+use Rattle.std.proofs.lemmas.Result.{IfOk-equal}
+use Rattle.run_view.specs.Templates.{filled}
 use Rattle.run_picture.specs.Outlines.{after, stair_to, stairs_from}
-use Rattle.run_picture.proofs.Going.{goes_on}
-use Rattle.run_picture.proofs.outline.put_stairs.Goals as goal
+use Rattle.run_picture.specs.Frame.{bars_end}
+use Rattle.run_picture.proofs.Going.{goes_on, goes_within}
+use Rattle.run_picture.proofs.outline.put_outline.Goals as goal
 
 pub loop-event-preserved : goal.loop-event-preserved
 loop-event-preserved c =
@@ -23,3 +26,11 @@ loop-event-preserved c =
           c.in_ok-put_stair_to.ensures c.loop-event.invariant.is;
       few = omega (arith, c.after-number.ensures.modest, c.loop-event.invariant.few);
     }
+
+pub returns : goal.returns
+returns c =
+    let o = c.args.outline.now in
+    IfOk-equal c.put_last.result _ _ _ (rw c.rise.ensures at c.put_last.ensures)
+    (goes_within (stairs_from o c.args.jobs.now c.loop-event.x c.loop-event.number) c.args.run.now
+    c.loop-event.event-index c.loop-event.text.items c.args.text.now.items (filled c.args.front.now (o.base ∷ []))
+    (stairs_from o c.args.jobs.now 90 0 c.args.run.now) bars_end c.loop-event-test.false c.loop-event.invariant.is)
