@@ -1,7 +1,7 @@
 -- A picture for a terminal, piece by piece.
 use Rattle.std.proofs.Common.{◌≡◌, ℕ, suc, ◌+◌, ◌-◌, ◌*◌, ◌≤◌, ◌<◌, List, [], ◌∷◌, ◌++◌, length, drop, get_or}
 use Rattle.std.proofs.Common.{refl, sym, ap, ◌∙◌, arith, append_assoc, append-nil, add-one, drop-cons}
-use Rattle.std.specs.Prelude.{Option, if◌then◌else◌, codes, decimal}
+use Rattle.std.specs.Prelude.{Option, Some, None, if◌then◌else◌, codes, decimal}
 use Rattle.std.proofs.lemmas.List.{drop_all}
 use Rattle.dover_model.specs.declared.events.Event.{Event}
 use Rattle.dover_model.specs.JobFacts.{JobFacts}
@@ -12,6 +12,7 @@ use Rattle.dover_report.specs.Counts.{jobs_released, counts_lines}
 use Rattle.dover_report.specs.declared.counts.Counts.{Counts}
 use Rattle.dover_report.specs.Rows.{ending_in}
 use Rattle.dover_report.specs.declared.endings.Ending.{Ending}
+use Rattle.dover_report.specs.declared.endings.Ending.TheVariants.{Completed, Abandoned}
 use Rattle.dover_report.proofs.Counting.{jobs_are}
 use Rattle.intervals.specs.Rows.{IsRunOf}
 use Rattle.run_view.specs.Templates.{filled}
@@ -19,7 +20,7 @@ use Rattle.run_view.specs.Stays.{stays_of}
 use Rattle.run_view.proofs.Joining.{whole}
 use Rattle.run_view.specs.Timeline.{window_or, first_tick, end_tick, padded, labels_from, frame, meets, sign}
 use Rattle.run_view.specs.Timeline.{signs_from}
-use Rattle.run_view.specs.Timeline.{summed_up, job_line, job_lines, timeline}
+use Rattle.run_view.specs.Timeline.{summed_up, loss_sign, job_line, job_lines, timeline}
 use Rattle.run_view.specs.declared.stays.Stay.{Stay}
 use Rattle.run_view.specs.declared.window.Window.{Window}
 
@@ -144,6 +145,19 @@ module _ (w : Window) (run : List Event) (jobs : List JobFacts) where
       → text ++ job_lines w run i (drop i jobs) ≡ whole → text ≡ whole
   lines_all i text whole past before = sym (append-nil text)
       ∙ ap (λ l. text ++ job_lines w run i l) (sym (drop_all i jobs past)) ∙ before
+
+-- its end
+pub value_line : (ending : Option Ending) (v : ℕ)
+    → filled (codes " " ++ (loss_sign ending ++ codes "@\n")) (v ∷ [])
+    ≡ codes " " ++ (loss_sign ending ++ (decimal v ++ codes "\n"))
+unfolding filled
+value_line None v = refl
+value_line (Some (Completed at)) v = refl
+value_line (Some (Abandoned at)) v = refl
+
+-- and what stands before it
+pub ended : (x s l d n : List ℕ) → x ++ (s ++ (l ++ (d ++ n))) ≡ x ++ s ++ l ++ d ++ n
+ended x s l d n = simp append_assoc
 
 -- ---- the picture
 

@@ -1,12 +1,11 @@
 //! What happened to one job.
-ghost use Rattle.std.specs.Prelude.{◌≡◌, ◌≤◌, ◌++◌, ◌∷◌, [], ◌*◌, List, false, length, drop, nat_le, OnOk, IfOk};
+ghost use Rattle.std.specs.Prelude.{◌≡◌, ◌≤◌, ◌++◌, ◌∷◌, ◌*◌, List, false, length, drop, OnOk, IfOk};
 ghost use Rattle.std.specs.List.{AllByRecursion};
 ghost use Rattle.intervals.specs.Rows.{IsRunOf};
 ghost use Rattle.dover_model.specs.declared.events.Event.{Event};
 ghost use Rattle.dover_model.specs.Instance.{Instance};
 ghost use Rattle.dover_model.specs.Limits.{most_total, most_value};
 ghost use Rattle.dover_model.specs.declared.events.Version.TheVariants.{Two};
-ghost use Rattle.run_view.specs.Templates.{filled};
 ghost use Rattle.run_view.specs.Why as story;
 
 use crate::template::{put, put_wide};
@@ -302,7 +301,7 @@ fn preempted_line(fits: bool) -> &'static [u8]
     b"at @ it is preempted by job @, which is due earlier, its work @ above the room @\n"
 }
 
-/// Appends what a release means for the job of this number, which starts at once or else waits.
+/// Appends what a release means for the job of this number, which starts at once or else waits, and why it does.
 fn put_arrived(
     text: &mut Vec<u8>,
     number: u32,
@@ -315,17 +314,10 @@ fn put_arrived(
         ≡ text.old.items ++ story.arrived number other job.now.release starts job.now.work room) }
 {
     if other == number && !starts {
-        return put_waits(text, job.release(), job.work(), room);
+        let (at, work) = (job.release(), job.work());
+        return put(text, waits_line(work <= room), &[at, work, room]);
     }
     Ok(())
-}
-
-/// Appends why a job waits.
-fn put_waits(text: &mut Vec<u8>, at: u64, work: u64, room: u64) -> Result<(), Memory>
-    ensures { OnOk result (text.new.items
-        ≡ text.old.items ++ filled (story.waits_line (nat_le work room)) (at ∷ work ∷ room ∷ [])) }
-{
-    put(text, waits_line(work <= room), &[at, work, room])
 }
 
 /// The line of a job that waits, by whether its work is within the room.
@@ -383,8 +375,7 @@ fn put_takes(
         b"at @ it takes the processor from job @",
         &[at, u64::from(stops)],
     )?;
-    put_tested(text, asked, worth, b" above")?;
-    Ok(())
+    put_tested(text, asked, worth, b" above")
 }
 
 /// Appends what an abandonment means for the job.
@@ -413,8 +404,7 @@ fn put_goes(text: &mut Vec<u8>, asked: &Asked, at: u64, worth: u64) -> Result<()
     ensures { OnOk result (text.new.items ≡ text.old.items ++ story.goes asked.now.k asked.now.value at worth) }
 {
     put(text, b"at @ it is abandoned", &[at])?;
-    put_tested(text, asked, worth, b" not above")?;
-    Ok(())
+    put_tested(text, asked, worth, b" not above")
 }
 
 /// Appends the test of its value against that of the jobs under way.
@@ -433,8 +423,7 @@ fn put_tested(text: &mut Vec<u8>, asked: &Asked, worth: u64, answer: &[u8]) -> R
     put_square(text, asked.k.q(), more)?;
     text.extend_from_slice(answer)?;
     put_square(text, asked.k.p(), worth)?;
-    put(text, b"; heavy from @ on\n", &[least_heavy(worth, asked.k)])?;
-    Ok(())
+    put(text, b"; heavy from @ on\n", &[least_heavy(worth, asked.k)])
 }
 
 /// Appends a part of a ratio times the square of a value.
@@ -444,8 +433,7 @@ fn put_square(text: &mut Vec<u8>, part: u32, value: u64) -> Result<(), Memory>
     ensures { OnOk result (text.new.items ≡ text.old.items ++ story.square part value) }
 {
     put(text, b" @ * @^2 = ", &[u64::from(part), value])?;
-    put_wide(text, times_square(part, value))?;
-    Ok(())
+    put_wide(text, times_square(part, value))
 }
 
 /// A part of a ratio times a square.

@@ -1,5 +1,6 @@
 //! A picture of a run for a terminal.
-ghost use Rattle.std.specs.Prelude.{◌≡◌, ◌≤◌, ◌<◌, ◌*◌, ◌^◌, ◌++◌, ◌∷◌, [], List, length, OnOk, IfOk, if◌then◌else◌};
+ghost use Rattle.std.specs.Prelude.{◌≡◌, ◌≤◌, ◌<◌, ◌*◌, ◌^◌, ◌++◌, ◌∷◌, [], List, length, OnOk, IfOk, codes};
+ghost use Rattle.std.specs.Prelude.{if◌then◌else◌};
 ghost use Rattle.intervals.specs.Rows.{IsRunOf};
 ghost use Rattle.dover_model.specs.declared.events.Event.{Event};
 ghost use Rattle.dover_model.specs.Instance.{Instance};
@@ -89,25 +90,16 @@ fn put_summary(text: &mut Vec<u8>, counts: Counts) -> Result<(), Memory>
     )
 }
 
-/// Appends the ticks of a column, and the ruler.
+/// Appends the ticks of a column, and the ruler: the first tick of each 20th column, above it.
 fn put_frame(text: &mut Vec<u8>, window: &Window) -> Result<(), Memory>
     ensures { OnOk result (text.new.items ≡ text.old.items ++ picture.frame window.now) }
 {
+    let last = window.column_of(window.until.saturating_sub(1));
     put(
         text,
-        b"       ticks of a column: @\n",
+        b"       ticks of a column: @\n       ",
         &[window.column_ticks()],
     )?;
-    put_ruler(text, window)?;
-    Ok(())
-}
-
-/// Appends the first tick of each 20th column, above it.
-fn put_ruler(text: &mut Vec<u8>, window: &Window) -> Result<(), Memory>
-    ensures { OnOk result (text.new.items ≡ text.old.items ++ picture.ruler window.now) }
-{
-    let last = window.column_of(window.until.saturating_sub(1));
-    put_blanks(text, 7)?;
     put_labels(text, window, last / 20)?;
     text.extend_from_slice(b"\n")?;
     Ok(())
@@ -122,8 +114,7 @@ fn put_labels(text: &mut Vec<u8>, window: &Window, more: u64) -> Result<(), Memo
     for index in 0..more {
         put_padded(text, window.first_tick(20 * index))?;
     }
-    put_wide(text, window.first_tick(20 * more))?;
-    Ok(())
+    put_wide(text, window.first_tick(20 * more))
 }
 
 /// Appends the number, with blanks behind it to 20 places.
@@ -133,8 +124,7 @@ fn put_padded(text: &mut Vec<u8>, number: u128) -> Result<(), Memory>
     let mut buffer = Buffer::new();
     let digits = buffer.format(number).as_bytes();
     text.extend_from_slice(digits)?;
-    put_blanks(text, 20u64.saturating_sub(digits.len() as u64))?;
-    Ok(())
+    put_blanks(text, 20u64.saturating_sub(digits.len() as u64))
 }
 
 /// Appends the lines of the jobs that meet the window.
@@ -196,10 +186,7 @@ fn put_job(
     put_placed(text, number)?;
     text.extend_from_slice(b" ")?;
     put_signs(text, window, job, own, ending)?;
-    text.extend_from_slice(b" ")?;
-    put_loss_sign(text, ending)?;
-    put(text, b"@\n", &[job.value()])?;
-    Ok(())
+    put(text, value_line(ending), &[job.value()])
 }
 
 /// Appends the number, with blanks in front of it to six places.
@@ -213,12 +200,12 @@ fn put_placed(text: &mut Vec<u8>, number: u64) -> Result<(), Memory>
     Ok(())
 }
 
-/// Appends a minus where the job is lost.
-fn put_loss_sign(text: &mut Vec<u8>, ending: Option<Ending>) -> Result<(), Memory>
-    ensures { OnOk result (text.new.items ≡ text.old.items ++ picture.loss_sign ending) }
+/// The end of a job's line, with its value, and a minus where the job is lost.
+fn value_line(ending: Option<Ending>) -> &'static [u8]
+    ensures { result.now ≡ codes " " ++ (picture.loss_sign ending ++ codes "@\n") }
 {
     if let Some(Ending::Abandoned(_)) = ending {
-        text.extend_from_slice(b"-")?;
+        return b" -@\n";
     }
-    Ok(())
+    b" @\n"
 }

@@ -1,12 +1,13 @@
 use Rattle.std.proofs.Common.{[], ◌∷◌, refl}
 use Rattle.std.specs.Prelude.{codes}
+use Rattle.std.proofs.lemmas.Result.{IfOk-equal}
 use Rattle.run_view.specs.Templates.{filled}
 use Rattle.run_view.specs.Why.{tested}
 use Rattle.run_view.proofs.Joining.{joined}
 use Rattle.run_view.proofs.story.put_goes.Goals as goal
 
 pub returns : goal.returns
-returns c = joined c.args.text.now.items
+returns c = IfOk-equal c.put_tested.result _ _ _ c.put_tested.ensures
+    (joined c.args.text.now.items
     (filled (codes "at @ it is abandoned") (c.args.at ∷ []) ∷ tested c.args.asked.now.k c.args.asked.now.value
-    c.args.worth (codes " not above") ∷ []) _
-    (_, c.in_ok-put.ensures, (_, c.in_ok-put_tested.ensures, refl))
+    c.args.worth (codes " not above") ∷ []) _ (_, c.in_ok-put.ensures, (_, refl, refl)))

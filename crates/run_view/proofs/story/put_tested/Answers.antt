@@ -1,5 +1,6 @@
 use Rattle.std.proofs.Common.{[], ◌∷◌, ◌-◌, refl}
 use Rattle.std.specs.Prelude.{codes}
+use Rattle.std.proofs.lemmas.Result.{IfOk-equal}
 use Rattle.run_view.specs.Templates.{filled}
 use Rattle.run_view.specs.Why.{least_heavy, square, tested}
 use Rattle.run_view.proofs.Joining.{joined}
@@ -7,7 +8,8 @@ use Rattle.run_view.proofs.story.put_tested.Goals as goal
 
 pub returns : goal.returns
 unfolding tested
-returns c = joined c.args.text.now.items
+returns c = IfOk-equal c.put-2.result _ _ _ (rw c.least_heavy.ensures.is at c.put-2.ensures)
+    (joined c.args.text.now.items
     (filled (codes ", its value @ against @ under way:") (c.args.asked.now.value ∷ c.args.worth ∷ [])
     ∷ square c.args.asked.now.k.q (c.args.asked.now.value - c.args.worth) ∷ c.args.answer.now
     ∷ square c.args.asked.now.k.p c.args.worth
@@ -23,8 +25,8 @@ returns c = joined c.args.text.now.items
           (
             _,
             rw c.p.ensures.is at c.in_ok-put_square-2.ensures,
-            (_, rw c.least_heavy.ensures.is at c.in_ok-put-2.ensures, refl),
+            (_, refl, refl),
           ),
         ),
       ),
-    )
+    ))
