@@ -65,8 +65,7 @@ pub(crate) fn hads_where(
         return Ok(Vec::new(alloc));
     }
     let jobs = released(alloc, run)?;
-    let hads = hads(alloc, &jobs, run)?;
-    Ok(hads)
+    hads(alloc, &jobs, run)
 }
 
 /// Those that these steps complete with work left, where `early` is true, and else none.

@@ -85,8 +85,7 @@ pub fn text(
         → IfOk result (λ text. text.items ≡ report J) }
 {
     let found = Findings::of(alloc, version, k, run)?;
-    let text = found.text(alloc)?;
-    Ok(text)
+    found.text(alloc)
 }
 
 /// The summary of that run alone.
@@ -105,8 +104,7 @@ fn put_counts(text: &mut Vec<u8>, counts: Counts) -> Result<(), Memory>
     ensures { OnOk result (text.new.items ≡ text.old.items ++ in_lines (counts_lines counts)) }
 {
     put_fates(text, counts)?;
-    put_line(text, b"bound", &[counts.bound])?;
-    Ok(())
+    put_line(text, b"bound", &[counts.bound])
 }
 
 /// Appends the lines of a summary before the one of the bound.
@@ -116,8 +114,7 @@ fn put_fates(text: &mut Vec<u8>, counts: Counts) -> Result<(), Memory>
     put_line(text, b"jobs", &[counts.jobs])?;
     put_line(text, b"completed", &[counts.completed, counts.value])?;
     put_line(text, b"abandoned", &[counts.abandoned, counts.lost])?;
-    put_line(text, b"taken", &[counts.taken])?;
-    Ok(())
+    put_line(text, b"taken", &[counts.taken])
 }
 
 /// Appends the lines of intervals, with their numbers from 1 on.

@@ -48,7 +48,7 @@ pub fn picture(
     let seen = told_by(alloc, run, &worths)?;
     let pieces = pieces(alloc, run)?;
     let window = window_of(asked, &jobs);
-    let text = drawn(
+    drawn(
         alloc,
         window,
         &totals,
@@ -57,8 +57,7 @@ pub fn picture(
         run,
         &pieces,
         charge.rows(),
-    )?;
-    Ok(text)
+    )
 }
 
 /// The window that is asked for, or all of the run.

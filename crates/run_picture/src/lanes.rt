@@ -1,5 +1,6 @@
 //! The lanes of the jobs that the window shows.
 ghost use Rattle.std.specs.Prelude.{◌≡◌, ◌≤◌, ◌<◌, ◌++◌, ◌^◌, length, OnOk, IfOk, []};
+ghost use Rattle.std.specs.Prelude.{if◌then◌else◌};
 ghost use Rattle.run_picture.specs.Lanes as places;
 
 use crate::plot::{Window, meets};
@@ -44,27 +45,29 @@ pub fn lanes(alloc: Global, window: Window, seen: &[Seen]) -> Result<Vec<Lane>, 
     let mut lanes = Vec::new(alloc);
     let mut dues = Vec::new(alloc);
     for one in seen {
-        let mut row = 0;
-        if shows(window, one) {
-            row = take_row(&mut dues, one.release, one.deadline)?;
-        }
+        let row = take_row(&mut dues, window, one)?;
         lanes.push(Lane { seen: *one, row })?;
     }
     Ok(lanes)
 }
 
-/// Puts a job into the first row that is free at its release, or into one more.
-fn take_row(dues: &mut Vec<u64>, release: u64, deadline: u64) -> Result<u32, Memory>
+/// Puts a job that the window shows into the first row that is free at its release, or into one more.
+fn take_row(dues: &mut Vec<u64>, window: Window, one: &Seen) -> Result<u32, Memory>
     requires { length dues.old.items < 2 ^ 32 }
-    ensures row { IfOk result (λ row. row ≡ places.free_row dues.old.items release) }
-    ensures dues { OnOk result (dues.new.items
-        ≡ places.with_due dues.old.items (places.free_row dues.old.items release) deadline) }
+    ensures row { IfOk result (λ row. row
+        ≡ (if places.shows window one.now then places.free_row dues.old.items one.now.release else 0)) }
+    ensures dues { OnOk result (dues.new.items ≡ (if places.shows window one.now
+        then places.with_due dues.old.items (places.free_row dues.old.items one.now.release) one.now.deadline
+        else dues.old.items)) }
 {
-    let row = free_row(dues, release);
+    if !shows(window, one) {
+        return Ok(0);
+    }
+    let row = free_row(dues, one.release);
     if row < dues.len() {
-        dues[row] = deadline;
+        dues[row] = one.deadline;
     } else {
-        dues.push(deadline)?;
+        dues.push(one.deadline)?;
     }
     Ok(row as u32)
 }

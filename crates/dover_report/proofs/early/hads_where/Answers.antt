@@ -13,5 +13,5 @@ hads-requires c = (
 )
 
 pub returns : goal.returns
-returns c k J of early = c.in_ok-hads.ensures k J of
+returns c k J of early = c.hads.ensures k J of
     (c.deref.ensures.value ∙ c.in_ok-jobs.ensures ∙ jobs_are k c.args.run.now J of)

@@ -1,5 +1,11 @@
-use Rattle.std.proofs.Common.{◌∙◌}
+use Rattle.std.proofs.Common.{◌≡◌, ℕ, List, ◌∙◌}
+use Rattle.std.proofs.lemmas.Result.{IfOk-weaker}
+use Rattle.dover_model.specs.Reports.{report}
+use Rattle.dover_report.specs.Findings.{told}
 use Rattle.dover_report.proofs.report.text.Goals as goal
 
 pub returns : goal.returns
-returns c J of three = c.in_ok-text.ensures ∙ c.in_ok-found.ensures J of three
+returns c J of three =
+    let finish : (text : List ℕ) → text ≡ told c.in_ok-found.found → text ≡ report J =
+    λ text is. is ∙ c.in_ok-found.ensures J of three in
+    IfOk-weaker c.text.result _ _ (λ written. finish written.items) c.text.ensures

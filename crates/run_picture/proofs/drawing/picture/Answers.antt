@@ -1,8 +1,10 @@
 use Rattle.std.proofs.Common.{◌≡◌, refl, ap, ◌∙◌}
+use Rattle.std.proofs.lemmas.Result.{IfOk-weaker}
 use Rattle.dover_report.specs.Counts.{counts_of, jobs_released}
 use Rattle.dover_report.proofs.Counting.{few_steps}
 use Rattle.run_view.proofs.Stepping.{same_length}
-use Rattle.run_picture.specs.Pictures.{window_of, drawn, totals}
+use Rattle.run_view.specs.Templates.{Text}
+use Rattle.run_picture.specs.Pictures.{window_of, drawn, totals, picture}
 use Rattle.run_picture.proofs.Whole.{few_seen, pictured}
 use Rattle.run_picture.proofs.drawing.picture.Goals as goal
 
@@ -32,14 +34,20 @@ returns c J of =
     let counted : c.deref.result.now ≡ jobs = c.deref.ensures.value ∙ c.in_ok-jobs.ensures in
     let shown : c.deref-3.result.now ≡ jobs = c.deref-3.ensures.value ∙ c.in_ok-jobs.ensures in
     let put : c.deref-5.result.now ≡ jobs = c.deref-5.ensures.value ∙ c.in_ok-jobs.ensures in
-    pictured c.args.k run J of c.args.asked c.args.refused jobs c.deref-2.result.now c.rows.result.now c.value.result
-    (totals c.count-counts.result c.args.refused) c.deref-4.result.now c.deref-6.result.now
-    c.window_of-window.result _ refl
+    let window = c.window_of-window.result in
+    let title = totals c.count-counts.result c.args.refused in
+    let seen = c.deref-4.result.now in
+    let pieces = c.deref-6.result.now in
+    let rows = c.rows.result.now in
+    let finish : (text : Text) → text ≡ drawn 400 window title seen c.deref-5.result.now run pieces rows
+    → text ≡ picture c.args.asked c.args.refused J =
+    λ text last. pictured c.args.k run J of c.args.asked c.args.refused jobs c.deref-2.result.now rows
+    c.value.result title seen pieces window text refl
     (c.deref-2.ensures.value ∙ c.in_ok-worths.ensures.are J of)
     (c.rows.ensures ∙ c.in_ok-charge.ensures.rows J of) (c.value.ensures ∙ c.in_ok-charge.ensures.value J of)
     (ap (λ n. totals n c.args.refused)
     (c.count-counts.ensures ∙ ap (λ js. counts_of c.args.k run js c.value.result) counted))
     (c.deref-4.ensures.value ∙ c.in_ok-seen.ensures) (c.deref-6.ensures.value ∙ c.in_ok-pieces.ensures)
     (c.window_of-window.ensures.is ∙ ap (window_of c.args.asked) shown)
-    (c.in_ok-text.ensures ∙ ap (λ js. drawn 400 c.window_of-window.result (totals c.count-counts.result c.args.refused)
-    c.deref-4.result.now js run c.deref-6.result.now c.rows.result.now) put)
+    (last ∙ ap (λ js. drawn 400 window title seen js run pieces rows) put) in
+    IfOk-weaker c.drawn.result _ _ (λ written. finish written.items) c.drawn.ensures
