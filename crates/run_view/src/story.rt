@@ -48,14 +48,13 @@ pub fn why(alloc: Global, k: Ratio, run: &[PackedEvent], number: u32) -> Result<
     ensures { (J : Instance) → IsRunOf k run.now J → IfOk result (λ written. written.items ≡ story.why number J) }
 {
     let jobs = released(alloc, run)?;
-    let mut text = Vec::new(alloc);
     let Some(job) = jobs.get(number as usize) else {
-        put_unknown(&mut text, number, jobs.len() as u64)?;
-        return Ok(text);
+        return unknown(alloc, number, jobs.len() as u64);
     };
     let worths = weights(alloc, k, run)?;
     let rooms = rooms(alloc, k, &jobs, run)?;
     let hads = hads(alloc, &jobs, run)?;
+    let mut text = Vec::new(alloc);
     put_asked(&mut text, number, job)?;
     let asked = Asked {
         k,
@@ -66,11 +65,14 @@ pub fn why(alloc: Global, k: Ratio, run: &[PackedEvent], number: u32) -> Result<
     Ok(text)
 }
 
-/// Appends that there is no such job.
-fn put_unknown(text: &mut Vec<u8>, number: u32, count: u64) -> Result<(), Memory>
-    ensures { OnOk result (text.new.items ≡ text.old.items ++ story.unknown number count) }
+/// The text where there is no such job.
+fn unknown(alloc: Global, number: u32, count: u64) -> Result<Vec<u8>, Memory>
+    ensures { IfOk result (λ text. text.items ≡ story.unknown number count) }
 {
-    put(text, b"no job @ among @\n", &[u64::from(number), count])
+    let mut text = Vec::new(alloc);
+    let numbers = [u64::from(number), count];
+    put(&mut text, b"no job @ among @\n", &numbers)?;
+    Ok(text)
 }
 
 /// Appends the numbers of the job.

@@ -31,12 +31,11 @@ pub fn chrome(alloc: Global, k: Ratio, run: &[PackedEvent]) -> Result<Vec<u8>, M
         b"{\"traceEvents\":[\n{\"pid\":0,\"tid\":0,\"ph\":\"M\",\"name\":\"thread_name\",\"args\":{\"name\":\"processor\"}}\n",
     )?;
     put_events(&mut text, &jobs, &hads, run, &worths)?;
-    text.extend_from_slice(b"]}\n")?;
     Ok(text)
 }
 
-/// Appends the events of these steps, each with what the jobs under way are worth before it. The jobs have had so many
-/// ticks at the end.
+/// Appends the events of these steps, each with what the jobs under way are worth before it, and the end of the list.
+/// The jobs have had so many ticks at the end.
 fn put_events(
     text: &mut Vec<u8>,
     jobs: &[Job],
@@ -47,7 +46,7 @@ fn put_events(
     requires few { length run.now ≤ 5_000_001 }
     requires same { length worths.now ≡ length run.now }
     ensures { OnOk result (text.new.items
-        ≡ text.old.items ++ events.events_from jobs.now hads.now 0 0 (zip run.now worths.now)) }
+        ≡ text.old.items ++ events.events_from jobs.now hads.now 0 0 (zip run.now worths.now) ++ codes "]}\n") }
 {
     let mut done = 0;
     let mut lost = 0;
@@ -56,6 +55,7 @@ fn put_events(
         lost += value_lost(jobs, event);
         put_event(text, jobs, hads, event, done, lost, worths[index])?;
     }
+    text.extend_from_slice(b"]}\n")?;
     Ok(())
 }
 

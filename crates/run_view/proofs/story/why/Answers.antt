@@ -1,15 +1,20 @@
-use Rattle.std.proofs.Common.{length, refl, sym, ap, ◌∙◌}
+use Rattle.std.proofs.Common.{[], length, refl, sym, ap, ◌∙◌}
 use Rattle.std.specs.Prelude.{slice_get}
 use Rattle.std.proofs.lemmas.Option.{slice_get_past, slice_get_read}
+use Rattle.std.proofs.lemmas.Result.{IfOk-weaker}
+use Rattle.run_view.specs.Why.{unknown}
 use Rattle.run_view.proofs.Stepping.{same_length, rooms_length}
 use Rattle.run_view.proofs.Telling.{same_jobs, why_none, why_some}
 use Rattle.run_view.proofs.story.why.Goals as goal
 
 pub returns-in_default : goal.returns-in_default
-returns-in_default c J of = why_none c.args.k c.args.run.now J of c.args.number c.deref.result.now
-    (c.deref.ensures.value ∙ c.in_ok-jobs.ensures) _ _
-    (slice_get_past c.deref.result.now c.args.number c.in_default.ensures.lookup.3) c.new-text.ensures.items (rw
-    (sym c.deref.ensures.len) at (rw c.len.ensures at c.in_ok-put_unknown.ensures))
+returns-in_default c J of =
+    IfOk-weaker c.unknown.result _ _
+    (λ text is. why_none c.args.k c.args.run.now J of c.args.number c.deref.result.now
+    (c.deref.ensures.value ∙ c.in_ok-jobs.ensures) [] text.items
+    (slice_get_past c.deref.result.now c.args.number c.in_default.ensures.lookup.3) refl
+    (is ∙ ap (unknown c.args.number) (c.len.ensures ∙ sym c.deref.ensures.len)))
+    c.unknown.ensures
 
 pub rooms-requires : goal.rooms-requires
 rooms-requires c = (

@@ -1,4 +1,4 @@
-use Rattle.std.proofs.Common.{◌∙◌}
+use Rattle.std.proofs.Common.{refl, ◌∙◌}
 use Rattle.run_view.proofs.Viewed.{viewed}
 use Rattle.run_view.proofs.Stepping.{same_length}
 use Rattle.dover_report.proofs.Counting.{few_steps, jobs_are}
@@ -28,4 +28,4 @@ returns c J of = viewed c.args.k c.args.run.now J of c.deref-2.result.now c.dere
     (c.deref-3.ensures.value ∙ c.in_ok-hads.ensures c.args.k J of
     (c.deref.ensures.value ∙ c.in_ok-jobs.ensures ∙ jobs_are c.args.k c.args.run.now J of))
     (c.deref-4.ensures.value ∙ c.in_ok-worths.ensures.are J of)
-    c.in_ok-text.ensures.items c.in_ok-put_events.ensures c.in_ok-extend_from_slice.ensures.items
+    c.in_ok-text.ensures.items refl c.in_ok-put_events.ensures

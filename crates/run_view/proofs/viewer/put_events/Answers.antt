@@ -1,4 +1,5 @@
-use Rattle.std.proofs.Common.{◌<◌, length, get_or, arith}
+use Rattle.std.proofs.Common.{◌<◌, ◌++◌, length, get_or, ap, ◌∙◌, arith}
+use Rattle.std.specs.Prelude.{codes}
 use Rattle.std.proofs.lemmas.List.{get_or_default}
 use Rattle.run_view.proofs.Viewed.{viewed_more, viewed_all}
 use Rattle.run_view.proofs.viewer.put_events.Goals as goal
@@ -25,7 +26,7 @@ loop-index-preserved c =
     }
 
 pub returns : goal.returns
-returns c = viewed_all c.args.jobs.now c.args.hads.now c.args.run.now c.args.worths.now c.loop-index.index
-    c.loop-index.done
-    c.loop-index.lost c.loop-index.text.items _
-    (omega arith) c.loop-index.invariant.is
+returns c = c.in_ok-extend_from_slice.ensures.items
+    ∙ ap (λ t. t ++ codes "]}\n") (viewed_all c.args.jobs.now c.args.hads.now c.args.run.now c.args.worths.now
+    c.loop-index.index c.loop-index.done c.loop-index.lost c.loop-index.text.items _ (omega arith)
+    c.loop-index.invariant.is)
