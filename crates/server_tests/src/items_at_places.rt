@@ -1,8 +1,8 @@
-//! A heap of items beside a list that is kept sorted, and the order of two items.
-ghost use Rattle.std.specs.Prelude.{◌≡◌, ◌<◌, ◌≤◌, ◌^◌, length};
-ghost use Rattle.dover_model.specs.Limits.{most_value};
+//! A heap of items beside a list of them by their places, and the order of two items.
+ghost use Rattle.std.specs.Prelude.{◌≡◌, ◌<◌, ◌^◌, length, IfSome};
 
-use dover_model::{Memory, Version};
+use dover_model::Version;
+use dover_model::jobs::MOST_VALUE;
 use place_heap::{Heap, Item, tie_of};
 use std::marker::Brand;
 use std::sync::ledger::{Blank, Ledger};
@@ -10,6 +10,9 @@ use step_count::Steps;
 
 // A key, a tie, a number and a place, compared in this order.
 type Row = (u64, u32, u32, u32);
+
+// What is listed of a place without an item: it comes behind all rows.
+const FREE: Row = (u64::MAX, 0, 0, 0);
 
 // The next number of the generator.
 fn draw(state: &mut u64) -> u64 {
@@ -28,125 +31,129 @@ fn drawn(state: &mut u64, place: u32) -> Row
     (key, tie, number, place)
 }
 
-// Puts a row where it belongs.
-fn put(list: &mut Vec<Row>, row: Row) -> Result<(), Memory> {
-    let after = list.iter().position(|r| row < *r);
-    list.insert(after.unwrap_or(list.len()), row)?;
-    Ok(())
-}
-
-// Takes the row of this place out, and says whether there was one.
-fn take(list: &mut Vec<Row>, place: u32) -> bool {
-    match list.iter().position(|r| r.3 == place) {
-        Some(at) => {
-            list.remove(at);
-            true
+// Whether the heap has as many items as are listed, and the first of them is its first.
+fn is_as_listed(heap: &Heap, rows: &[Row]) -> bool {
+    let mut first = FREE;
+    let mut count: u64 = 0;
+    for row in rows {
+        if *row < first {
+            first = *row;
         }
-        None => false,
+        if *row != FREE {
+            count = count.wrapping_add(1);
+        }
     }
+    let is_first = match heap.first() {
+        Some(item) => item.key() == first.0 && item.place() == first.3,
+        None => first == FREE,
+    };
+    is_first && u64::from(heap.len()) == count
 }
 
-// The first round, if there is one, in which the heap answers otherwise than the list, which begins empty.
-fn first_difference<L: Ledger>(
-    heap: &mut Heap,
-    list: &mut Vec<Row>,
-    steps: &mut Steps<L>,
-) -> Result<Option<u32>, Memory>
-    requires { length heap.old ≡ 200 }
+// Whether the heap, which begins empty, answers as the list of its items does, round by round.
+fn goes_as_listed<L: Ledger>(heap: &mut Heap, rows: &mut [Row], steps: &mut Steps<L>) -> bool
+    requires heap { length heap.old ≡ 200 }
+    requires rows { length rows.old ≡ 200 }
 {
     let mut state = 1;
-    for round in 0..3000 {
+    for _ in 0..3000 {
         let place = (draw(&mut state) % 200) as u32;
-        let held = heap.holds(place);
-        heap.remove(place, steps);
-        if take(list, place) != held {
-            return Ok(Some(round));
+        if heap.holds(place) != (rows[place as usize] != FREE) {
+            return false;
         }
+        heap.remove(place, steps);
+        rows[place as usize] = FREE;
         if draw(&mut state) % 8 != 0 {
             let row = drawn(&mut state, place);
             heap.insert(Item::new(row.0, row.1, row.2, row.3), steps);
-            put(list, row)?;
+            rows[place as usize] = row;
         }
-        let first = heap.first().map(|i| (i.key(), i.place()));
-        if first != list.first().map(|r| (r.0, r.3)) || heap.len() as usize != list.len() {
-            return Ok(Some(round));
+        if !is_as_listed(heap, rows) {
+            return false;
         }
     }
-    Ok(None)
+    true
 }
 
-// The same of a heap and of a list with nothing in them.
-fn difference<L: Ledger>(rt: &HostRuntime, blank: Blank) -> Result<Option<u32>, Memory>
+// A job by its deadline, its value and its number.
+type Due = (u64, u64, u32);
+
+/// Two jobs, at the places 0 and 1, and the place of the one that comes first.
+static TIES: [(Version, Due, Due, u32); 5] = [
+    (Version::One, (0, 1, 7), (1, 1_000_000_000, 0), 0),
+    (Version::Two, (1, 1_000_000_000, 0), (0, 1, 7), 1),
+    (
+        Version::One,
+        (1_000_000_000_000, 1_000_000_000, 999_999),
+        (1_000_000_000_000, 1, 3),
+        1,
+    ),
+    (
+        Version::Two,
+        (1_000_000_000_000, 1, 3),
+        (1_000_000_000_000, 1_000_000_000, 999_999),
+        1,
+    ),
+    (
+        Version::Two,
+        (1_000_000_000_000, 1, 3),
+        (1_000_000_000_000, 1, 3),
+        0,
+    ),
+];
+
+// The item of a job that is small enough.
+fn item(version: Version, job: Due, place: u32) -> Option<Item>
+    requires { place < 2 ^ 20 }
+    ensures { IfSome result (λ item. item.place ≡ place) }
+{
+    if job.0 <= 1_000_000_000_000 && job.1 <= MOST_VALUE {
+        return Some(Item::new(job.0, tie_of(version, job.1), job.2, place));
+    }
+    None
+}
+
+// Whether of each two jobs this one comes first. None is in the heap then.
+fn come_so<L: Ledger>(
+    heap: &mut Heap,
+    rows: &[(Version, Due, Due, u32)],
+    steps: &mut Steps<L>,
+) -> bool
+    requires { length heap.old ≡ 200 }
+    ensures { length heap.new ≡ 200 }
+{
+    for (version, one, other, place) in rows {
+        let (Some(one), Some(other)) = (item(*version, *one, 0), item(*version, *other, 1)) else {
+            return false;
+        };
+        heap.remove(0, steps);
+        heap.remove(1, steps);
+        heap.insert(one, steps);
+        heap.insert(other, steps);
+        match heap.first() {
+            Some(first) if first.place() == *place => {}
+            _ => return false,
+        }
+    }
+    heap.remove(0, steps);
+    heap.remove(1, steps);
+    true
+}
+
+// Whether a heap of 200 places orders its items so.
+fn orders<L: Ledger>(rt: &HostRuntime, blank: Blank) -> bool
     requires name { blank.name ≡ L.name }
     requires parts { blank.parts ≡ L.parts }
     requires some { 0 < blank.parts }
 {
     let mut steps: Steps<L> = Steps::new(rt.memory(), blank);
     let mut heap = Heap::new(rt.alloc());
-    heap.reserve(200)?;
-    let mut list = Vec::new(rt.alloc());
-    first_difference(&mut heap, &mut list, &mut steps)
+    heap.reserve(200).is_ok()
+        && come_so(&mut heap, &TIES, &mut steps)
+        && goes_as_listed(&mut heap, &mut [FREE; 200], &mut steps)
 }
 
 #[test]
-fn the_first_is_that_of_a_sorted_list(rt: HostRuntime) {
-    let found = difference::<Brand>(&rt, Blank::new(1));
-    assert!(rt; found == Ok(None));
-}
-
-// The item of a job by its deadline.
-fn due(version: Version, job: (u64, u64, u32), place: u32) -> Item
-    requires key { job.0 < 2 ^ 44 }
-    requires value { job.1 ≤ most_value }
-    requires place { place < 2 ^ 20 }
-    ensures { result.place ≡ place }
-{
-    Item::new(job.0, tie_of(version, job.1), job.2, place)
-}
-
-// The place of the first of two items.
-fn first_place<L: Ledger>(
-    rt: &HostRuntime,
-    blank: Blank,
-    a: Item,
-    b: Item,
-) -> Result<Option<u32>, Memory>
-    requires name { blank.name ≡ L.name }
-    requires parts { blank.parts ≡ L.parts }
-    requires some { 0 < blank.parts }
-    requires a { a.place ≡ 0 }
-    requires b { b.place ≡ 1 }
-{
-    let mut steps: Steps<L> = Steps::new(rt.memory(), blank);
-    let mut heap = Heap::new(rt.alloc());
-    heap.reserve(2)?;
-    heap.insert(a, &mut steps);
-    heap.insert(b, &mut steps);
-    Ok(heap.first().map(|i| i.place()))
-}
-
-#[test]
-fn ties_go_by_the_version(rt: HostRuntime) {
-    let least = (0, 1, 7);
-    let later = (1, 1_000_000_000, 0);
-    let cheap = (1_000_000_000_000, 1, 3);
-    let costly = (1_000_000_000_000, 1_000_000_000, 999_999);
-    let (one, two) = (Version::One, Version::Two);
-    let found = [
-        first_place::<Brand>(&rt, Blank::new(1), due(one, least, 0), due(one, later, 1)),
-        first_place::<Brand>(&rt, Blank::new(1), due(two, later, 0), due(two, least, 1)),
-        first_place::<Brand>(&rt, Blank::new(1), due(one, costly, 0), due(one, cheap, 1)),
-        first_place::<Brand>(&rt, Blank::new(1), due(two, cheap, 0), due(two, costly, 1)),
-        first_place::<Brand>(&rt, Blank::new(1), due(two, cheap, 0), due(two, cheap, 1)),
-    ];
-    assert!(rt;
-        found
-            == [
-                Ok(Some(0)),
-                Ok(Some(1)),
-                Ok(Some(1)),
-                Ok(Some(1)),
-                Ok(Some(0))
-            ]
-    );
+fn the_first_is_that_of_a_list(rt: HostRuntime) {
+    assert!(rt; orders::<Brand>(&rt, Blank::new(1)));
 }
