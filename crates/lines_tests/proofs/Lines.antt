@@ -5,7 +5,7 @@ use Rattle.dover_model.specs.Fraction.{Fraction}
 use Rattle.dover_model.specs.Instance.{Declaration}
 use Rattle.dover_model.specs.Limits.{most_lines}
 use Rattle.dover_model.specs.declared.events.Version.{Version}
-use Rattle.dover_model.specs.Session.{Session, new_session}
+use Rattle.dover_model.specs.Session.{new_session}
 use Rattle.dover_model.specs.Feed.{Account, account_of_lines, rules_with}
 use Rattle.event_feed.specs.Answers.{Answers}
 use Rattle.event_feed.specs.Kept.{Kept, KeepsSession, StandsFor, most_lines_of}

@@ -1,27 +1,21 @@
 use job_format::{FeedLine, read_feed_line, write_feed_line};
 use line_text::LineBuf;
 
-fn is_written_again(line: &[u8]) -> bool {
-    let Ok(read) = read_feed_line(line) else {
-        return false;
-    };
-    let mut again = LineBuf::new();
-    write_feed_line(&read, &mut again);
-    again.bytes() == line
-}
-
-fn are_written_again(lines: &[&[u8]]) -> bool {
-    for line in lines {
-        if !is_written_again(*line) {
-            return false;
+// Whether the line is written again as the same bytes, if it is read.
+fn is_written_again(line: &[u8]) -> Option<bool> {
+    match read_feed_line(line) {
+        Ok(read) => {
+            let mut again = LineBuf::new();
+            write_feed_line(&read, &mut again);
+            Some(again.bytes() == line)
         }
+        Err(_) => None,
     }
-    true
 }
 
-fn are_refused(lines: &[&[u8]]) -> bool {
+fn are_answered(lines: &[&[u8]], is_written: Option<bool>) -> bool {
     for line in lines {
-        if read_feed_line(*line).is_ok() {
+        if is_written_again(*line) != is_written {
             return false;
         }
     }
@@ -29,7 +23,7 @@ fn are_refused(lines: &[&[u8]]) -> bool {
 }
 
 /// Lines of feeds.
-const GOOD: [&[u8]; 9] = [
+static GOOD: [&[u8]; 9] = [
     b"k 1 1",
     b"k 1000000 1000",
     b"k 1 1 2",
@@ -41,40 +35,8 @@ const GOOD: [&[u8]; 9] = [
     b"end",
 ];
 
-// Each line is read, and written again as the same bytes.
-#[test]
-fn lines_are_read_and_written(rt: HostRuntime) {
-    assert!(rt; are_written_again(&GOOD));
-}
-
-#[test]
-fn values_are_read(rt: HostRuntime) {
-    let holds = read_feed_line(b"job 0 4 10 4")
-        == Ok(FeedLine::Job {
-            release: 0,
-            work: 4,
-            deadline: 10,
-            value: 4,
-        })
-        && read_feed_line(b"k 9 4")
-            == Ok(FeedLine::Declared {
-                p: 9,
-                q: 4,
-                version: None,
-            })
-        && read_feed_line(b"k 9 4 2")
-            == Ok(FeedLine::Declared {
-                p: 9,
-                q: 4,
-                version: Some(2),
-            })
-        && read_feed_line(b"tick 7") == Ok(FeedLine::Tick { at: 7 })
-        && read_feed_line(b"end") == Ok(FeedLine::End);
-    assert!(rt; holds);
-}
-
 /// Lines that are none of a feed.
-const REFUSED: [&[u8]; 24] = [
+static REFUSED: [&[u8]; 25] = [
     b"",
     b" ",
     b"end ",
@@ -99,9 +61,52 @@ const REFUSED: [&[u8]; 24] = [
     b"tick",
     b"tick 1000000000000000000",
     b"junk",
+    &[b'0'; 129],
 ];
 
+/// Lines, and what they say.
+static VALUES: [(&[u8], FeedLine); 5] = [
+    (
+        b"job 0 4 10 4",
+        FeedLine::Job {
+            release: 0,
+            work: 4,
+            deadline: 10,
+            value: 4,
+        },
+    ),
+    (
+        b"k 9 4",
+        FeedLine::Declared {
+            p: 9,
+            q: 4,
+            version: None,
+        },
+    ),
+    (
+        b"k 9 4 2",
+        FeedLine::Declared {
+            p: 9,
+            q: 4,
+            version: Some(2),
+        },
+    ),
+    (b"tick 7", FeedLine::Tick { at: 7 }),
+    (b"end", FeedLine::End),
+];
+
+fn are_read(rows: &[(&[u8], FeedLine)]) -> bool {
+    for (line, value) in rows {
+        if read_feed_line(*line) != Ok(*value) {
+            return false;
+        }
+    }
+    true
+}
+
+// Each line is read, and written again as the same bytes, and others are refused.
 #[test]
-fn other_lines_are_refused(rt: HostRuntime) {
-    assert!(rt; are_refused(&REFUSED) && read_feed_line(&[b'0'; 129]).is_err());
+fn lines_are_read_and_written(rt: HostRuntime) {
+    let are_kept = are_answered(&GOOD, Some(true)) && are_read(&VALUES);
+    assert!(rt; are_kept && are_answered(&REFUSED, None));
 }

@@ -1,17 +1,16 @@
 //! Lines over ports in memory.
 ghost use Rattle.lane_server.specs.Lane.{HasNumerals};
 
-use dover_model::{Event, Ratio, Refusal, Version};
-use dover_port::{Failed, MemoryPort, Output, Port, Status};
+use dover_model::{Event, Memory, Ratio, Refusal, Version};
+use dover_port::{MemoryPort, Output, Port, Status};
 use event_feed::{Cause, FeedFault};
 use lane_server::LaneOut;
 use line_output::{fault_line, put_fault, put_line, put_numbers, write_out};
 use line_text::{BackLine, LineBuf};
 use std::alloc::Global;
-use std::test::Fail;
 
 /// Causes, and the lines that refuse a feed for them.
-const FAULTS: [(u64, Cause, &str); 9] = [
+static FAULTS: [(u64, Cause, &str); 9] = [
     (4_000_001, Cause::Lines, "refused 4000001 lines\n"),
     (1, Cause::Line, "refused 1 line\n"),
     (2, Cause::Declared, "refused 2 declared\n"),
@@ -27,40 +26,48 @@ const FAULTS: [(u64, Cause, &str); 9] = [
     ),
 ];
 
-fn put_out<P: Port>(port: &mut P, out: &mut Output, line: &LaneOut) -> Result<(), Failed>
+/// A step, a job line that isn't admitted, and a done line that is wrong.
+const STEP: LaneOut = LaneOut::Step(Event::Run { at: 5, number: 3 });
+
+const REFUSED: LaneOut = LaneOut::Refuse {
+    at: 5,
+    release: 6,
+    work: 7,
+    deadline: 8,
+    value: 9,
+    cause: Refusal::Total,
+};
+
+const LATE: LaneOut = LaneOut::RefuseDone {
+    at: 7,
+    tick: 6,
+    number: 999_999_999_999_999_999,
+};
+
+fn is_out<P: Port>(port: &mut P, out: &mut Output, line: &LaneOut) -> bool
     requires { HasNumerals line.now }
 {
     let mut text = BackLine::new();
     write_out(line, &mut text);
-    out.put(port, text.bytes())
+    out.put(port, text.bytes()).is_ok()
 }
 
-fn put_all_lines<P: Port>(port: &mut P, k: Ratio) -> Result<(), Failed> {
-    let mut out = Output::new();
-    put_out(port, &mut out, &LaneOut::Header(Version::Two, k))?;
-    let run = Event::Run { at: 5, number: 3 };
-    put_out(port, &mut out, &LaneOut::Step(run))?;
-    let refused = LaneOut::Refuse {
-        at: 5,
-        release: 6,
-        work: 7,
-        deadline: 8,
-        value: 9,
-        cause: Refusal::Total,
-    };
-    put_out(port, &mut out, &refused)?;
-    let late = LaneOut::RefuseDone {
-        at: 7,
-        tick: 6,
-        number: 999_999_999_999_999_999,
-    };
-    put_out(port, &mut out, &late)?;
-    put_numbers(port, &mut out, b"window", &[0, 18_446_744_073_709_551_615])?;
-    put_numbers(port, &mut out, b"jobs", &[])?;
+fn are_out<P: Port>(port: &mut P, out: &mut Output, k: Ratio) -> bool {
+    is_out(port, out, &LaneOut::Header(Version::Two, k))
+        && is_out(port, out, &STEP)
+        && is_out(port, out, &REFUSED)
+        && is_out(port, out, &LATE)
+}
+
+fn are_numbers_out<P: Port>(port: &mut P, out: &mut Output) -> bool {
+    put_numbers(port, out, b"window", &[0, 18_446_744_073_709_551_615]).is_ok()
+        && put_numbers(port, out, b"jobs", &[]).is_ok()
+}
+
+fn is_line_out<P: Port>(port: &mut P, out: &mut Output) -> bool {
     let mut line = LineBuf::new();
     line.put_word(b"any line");
-    put_line(port, &mut out, line)?;
-    out.flush(port)
+    put_line(port, out, line).is_ok() && out.flush(port).is_ok()
 }
 
 /// What is put.
@@ -69,7 +76,7 @@ const LINES: &str =
     window 0 18446744073709551615\njobs\nany line\n";
 
 /// The write that fails, the bytes that a write takes at most, and what is put.
-const WRITES: [(u32, usize, &str); 4] = [
+static WRITES: [(u32, usize, &str); 4] = [
     (0, 4096, LINES),
     (0, 5, LINES),
     (1, 4096, ""),
@@ -77,84 +84,77 @@ const WRITES: [(u32, usize, &str); 4] = [
 ];
 
 /// A port without input, of which the write of this number fails, and a write takes at most so many bytes.
-fn port(alloc: Global, failing: u32, most: usize) -> Result<MemoryPort, Fail> {
-    let fails = vec![in alloc; failing]?;
-    Ok(MemoryPort::new(
+fn port(alloc: Global, failing: u32, most: usize) -> Result<MemoryPort, Memory> {
+    let mut fails = Vec::new(alloc);
+    fails.push(failing)?;
+    MemoryPort::new(
         alloc,
         Vec::new(alloc),
         Vec::new(alloc),
         fails,
         most.max(1),
         4096,
-    )?)
+    )
 }
 
-fn is_put(alloc: Global, k: Ratio, failing: u32, most: usize, written: &str) -> Result<bool, Fail> {
-    let mut port = port(alloc, failing, most)?;
-    let is_all = put_all_lines(&mut port, k).is_ok();
-    Ok(is_all == (failing == 0) && port.written() == written.as_bytes())
+// Whether all lines are put, or else a write fails, and this was written.
+fn is_put(port: &mut MemoryPort, k: Ratio, is_whole: bool, written: &str) -> bool {
+    let mut out = Output::new();
+    let is_all = are_out(port, &mut out, k)
+        && are_numbers_out(port, &mut out)
+        && is_line_out(port, &mut out);
+    is_all == is_whole && port.written() == written.as_bytes()
 }
 
-fn are_put(alloc: Global, k: Ratio, rows: &[(u32, usize, &str)]) -> Result<bool, Fail> {
+fn are_put(alloc: Global, k: Ratio, rows: &[(u32, usize, &str)]) -> bool {
     for (failing, most, written) in rows {
-        if !is_put(alloc, k, *failing, *most, *written)? {
-            return Ok(false);
+        let Ok(mut port) = port(alloc, *failing, *most) else {
+            return false;
+        };
+        if !is_put(&mut port, k, *failing == 0, *written) {
+            return false;
         }
     }
-    Ok(true)
+    true
 }
 
 #[test]
-fn lines_are_put(rt: HostRuntime) -> Result<(), Fail> {
-    assert!(rt; are_put(rt.alloc(), Ratio::new(7, 2).unwrap(), &WRITES)?);
-    Ok(())
+fn lines_are_put(rt: HostRuntime) {
+    assert!(rt; are_put(rt.alloc(), Ratio::new(7, 2).unwrap(), &WRITES));
 }
 
 /// Whether an output whose flush fails keeps its bytes, so that the next flush puts them.
-fn is_kept(alloc: Global) -> Result<bool, Fail> {
-    let mut port = port(alloc, 1, 4096)?;
+fn is_kept(port: &mut MemoryPort) -> bool {
     let mut out = Output::new();
-    let is_put = put_numbers(&mut port, &mut out, b"jobs", &[3]).is_ok();
-    let is_failed = out.flush(&mut port).is_err();
-    let is_flushed = out.flush(&mut port).is_ok();
-    Ok(is_put && is_failed && is_flushed && port.written() == "jobs 3\n".as_bytes())
+    let is_put = put_numbers(port, &mut out, b"jobs", &[3]).is_ok();
+    let is_failed = out.flush(port).is_err();
+    let is_flushed = out.flush(port).is_ok();
+    is_put && is_failed && is_flushed && port.written() == b"jobs 3\n".as_slice()
 }
 
-#[test]
-fn a_failed_flush_keeps_the_bytes(rt: HostRuntime) -> Result<(), Fail> {
-    assert!(rt; is_kept(rt.alloc())?);
-    Ok(())
-}
-
-fn is_worded(alloc: Global, fault: FeedFault, text: &str) -> Result<bool, Fail> {
-    let mut port = port(alloc, 0, 4096)?;
+// Whether this text is put behind what was written.
+fn is_worded(port: &mut MemoryPort, fault: FeedFault, text: &[u8]) -> bool {
     let mut out = Output::new();
-    let is_flushed = put_fault(&mut port, &mut out, fault).is_ok() && out.flush(&mut port).is_ok();
-    let is_put = port.written() == text.as_bytes();
-    Ok(is_flushed && is_put && fault_line(fault).bytes() == text.as_bytes())
+    let front = port.written().len();
+    let is_put = put_fault(port, &mut out, fault).is_ok() && out.flush(port).is_ok();
+    is_put && port.written().get(front..) == Some(text) && fault_line(fault).bytes() == text
 }
 
-fn are_worded(alloc: Global, rows: &[(u64, Cause, &str)]) -> Result<bool, Fail> {
+fn are_worded(port: &mut MemoryPort, rows: &[(u64, Cause, &str)]) -> bool {
     for (line, cause, text) in rows {
         let fault = FeedFault {
             line: *line,
             cause: *cause,
         };
-        if !is_worded(alloc, fault, *text)? {
-            return Ok(false);
+        if !is_worded(port, fault, text.as_bytes()) {
+            return false;
         }
     }
-    Ok(true)
-}
-
-#[test]
-fn faults_have_their_words(rt: HostRuntime) -> Result<(), Fail> {
-    assert!(rt; are_worded(rt.alloc(), &FAULTS)?);
-    Ok(())
+    true
 }
 
 /// Statuses and their codes.
-const CODES: [(Status, u8); 7] = [
+static CODES: [(Status, u8); 7] = [
     (Status::Done, 0),
     (Status::No, 1),
     (Status::Refused, 2),
@@ -173,7 +173,10 @@ fn are_coded(rows: &[(Status, u8)]) -> bool {
     true
 }
 
+// A failed flush keeps the bytes, faults have their words, and statuses their codes.
 #[test]
-fn statuses_have_their_codes(rt: HostRuntime) {
-    assert!(rt; are_coded(&CODES));
+fn faults_are_told(rt: HostRuntime) {
+    let mut port = port(rt.alloc(), 1, 4096).expect(&rt, "memory");
+    let are_told = is_kept(&mut port) && are_worded(&mut port, &FAULTS);
+    assert!(rt; are_told && are_coded(&CODES));
 }

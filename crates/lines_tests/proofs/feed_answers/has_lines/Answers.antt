@@ -1,11 +1,9 @@
 use Rattle.std.proofs.Common.{[], ◌∷◌, ap, ◌∙◌, subst, arith}
-use Rattle.std.specs.Prelude.{Result, Ok}
+use Rattle.std.specs.Prelude.{Ok}
 use Rattle.dover_model.specs.Feed.{account_of_lines, no_lines}
 use Rattle.dover_model.proofs.Limiting.{items_of_lines}
 use Rattle.event_feed.specs.Answers.{Answers}
 use Rattle.event_feed.specs.Kept.{StandsFor, left_in}
-use Rattle.event_feed.specs.declared.faults.FeedFault.{FeedFault}
-use Rattle.event_feed.specs.declared.fed.Fed.{Fed}
 use Rattle.lines_tests.proofs.Lines.{lines_declared}
 use Rattle.lines_tests.proofs.feed_answers.has_lines.Goals as goal
 
