@@ -1,18 +1,21 @@
 use dover_model::Ratio;
 use trial_jobs::Gen;
 
-#[test]
-fn the_first_jobs_of_a_seed(rt: HostRuntime) {
-    let mut jobs = Gen::new(1, 2, Ratio::new(1, 1).unwrap());
-    for want in [(6, 19, 28, 19), (9, 8, 17, 8)] {
-        let job = jobs.next().expect(&rt, "a job");
-        assert!(rt; (job.release(), job.work(), job.deadline(), job.value()) == want);
+// Whether these jobs come, by release, work, deadline and value, and none behind them.
+fn are_drawn(mut jobs: Gen, rows: &[(u64, u64, u64, u64)]) -> bool {
+    for row in rows {
+        match jobs.next() {
+            Some(job) if (job.release(), job.work(), job.deadline(), job.value()) == *row => {}
+            _ => return false,
+        }
     }
-    assert!(rt; jobs.next().is_none() && jobs.next().is_none());
+    jobs.next().is_none() && jobs.next().is_none()
 }
 
 #[test]
-fn no_jobs_of_a_count_of_none(rt: HostRuntime) {
-    let k = Ratio::new(1_000_000, 1).unwrap();
-    assert!(rt; Gen::new(2_147_483_647, 0, k).next().is_none());
+fn the_first_jobs_of_a_seed(rt: HostRuntime) {
+    let k = Ratio::new(1, 1).unwrap();
+    let most = Ratio::new(1_000_000, 1).unwrap();
+    let are_first = are_drawn(Gen::new(1, 2, k), &[(6, 19, 28, 19), (9, 8, 17, 8)]);
+    assert!(rt; are_first && are_drawn(Gen::new(2_147_483_647, 0, most), &[]));
 }

@@ -9,6 +9,8 @@ mod best_sets;
 #[cfg(test)]
 mod drawn_jobs;
 #[cfg(test)]
+mod lists;
+#[cfg(test)]
 mod overfull_windows;
 #[cfg(test)]
 mod policies;

@@ -3,115 +3,96 @@ ghost use Rattle.dover_model.specs.declared.events.Version.TheVariants.{Two};
 ghost use Rattle.dover_model.specs.Limits.{most_total};
 ghost use Rattle.dover_model.specs.Instance.{IsInOrder, total_value};
 
-use dover_model::{Entry, Job, Piece};
-use policy_lab::{Dense, Edf, LabFault, Policy, run_policy};
+use crate::lists::{Numbers, Stretch, are_few, are_in_order, are_stretches, fill};
+use dover_model::{Entry, Job};
+use policy_lab::{Dense, Edf, LabFault, Outcome, Policy, run_policy};
 use std::alloc::Global;
-use std::process::Abort;
 
-/// The job of these numbers.
-fn job(rt: &impl Abort, release: u64, work: u64, deadline: u64, value: u64) -> Job
-    ensures { result ≡ record { release = release; work = work; deadline = deadline; value = value } }
-{
-    Job::new(release, work, deadline, value).expect(rt, "a job")
-}
+/// The value and the stretches of a run, or none, since a deadline is too late.
+type Run = Option<(u64, &'static [Stretch])>;
 
-/// The run of the policy over these jobs has this value and these stretches, each its first tick, the tick behind its
-/// last, and a number.
-fn comes_to<P: Policy>(
-    rt: &impl Abort,
-    alloc: Global,
-    policy: &P,
-    jobs: &[Job],
-    value: u64,
-    stretches: &[(u64, u64, u32)],
-)
-    requires in_order { IsInOrder jobs.now }
-    requires total { total_value jobs.now ≤ most_total Two }
-{
-    let outcome = run_policy(alloc, policy, jobs).expect(rt, "memory");
-    assert!(rt; outcome.value == value && outcome.pieces.len() == stretches.len());
-    for (piece, (from, until, number)) in outcome.pieces.iter().zip(stretches) {
-        assert!(rt;
-            *piece
-                == Piece {
-                    from: *from,
-                    until: *until,
-                    number: *number
-                }
-        );
+/// Jobs, and the runs of `Edf` and of `Dense`: with idle ticks between jobs, with work on a job that is lost, which is
+/// kept in the pieces, with the latest deadline, and with one that is too late.
+static RUNS: [(&[Numbers], Run, Run); 4] = [
+    (
+        &[(1, 2, 4, 2), (1, 3, 9, 6), (3, 2, 5, 5), (9, 1, 10, 1)],
+        Some((14, &[(1, 3, 0), (3, 5, 2), (5, 8, 1), (9, 10, 3)])),
+        Some((7, &[(1, 4, 1), (9, 10, 3)])),
+    ),
+    (
+        &[
+            (3, 4, 9, 2),
+            (5, 1, 11, 13),
+            (5, 5, 16, 12),
+            (8, 5, 13, 15),
+            (8, 6, 16, 20),
+            (9, 1, 13, 15),
+            (11, 5, 21, 17),
+            (13, 4, 18, 19),
+        ],
+        Some((49, &[(3, 7, 0), (7, 8, 1), (8, 13, 3), (13, 17, 7)])),
+        Some((
+            76,
+            &[
+                (3, 5, 0),
+                (5, 6, 1),
+                (6, 9, 2),
+                (9, 10, 5),
+                (10, 12, 2),
+                (12, 13, 6),
+                (13, 17, 7),
+                (17, 21, 6),
+            ],
+        )),
+    ),
+    (
+        &[(99_999, 1, 100_000, 1)],
+        Some((1, &[(99_999, 100_000, 0)])),
+        Some((1, &[(99_999, 100_000, 0)])),
+    ),
+    (&[(0, 1, 100_001, 1)], None, None),
+];
+
+fn is_outcome(outcome: &Outcome, run: &Run) -> bool {
+    match run {
+        Some((value, stretches)) => {
+            outcome.value == *value && are_stretches(&outcome.pieces, *stretches)
+        }
+        None => false,
     }
 }
 
-#[test]
-fn ticks_between_jobs_are_idle(rt: HostRuntime) {
-    let jobs = [
-        job(&rt, 1, 2, 4, 2),
-        job(&rt, 1, 3, 9, 6),
-        job(&rt, 3, 2, 5, 5),
-        job(&rt, 9, 1, 10, 1),
-    ];
-    comes_to(
-        &rt,
-        rt.alloc(),
-        &Edf,
-        &jobs,
-        14,
-        &[(1, 3, 0), (3, 5, 2), (5, 8, 1), (9, 10, 3)],
-    );
-    comes_to(&rt, rt.alloc(), &Dense, &jobs, 7, &[(1, 4, 1), (9, 10, 3)]);
+fn is_run<P: Policy>(alloc: Global, policy: &P, jobs: &[Job], run: &Run) -> bool
+    requires in_order { IsInOrder jobs.now }
+    requires total { total_value jobs.now ≤ most_total Two }
+{
+    match run_policy(alloc, policy, jobs) {
+        Ok(outcome) => is_outcome(&outcome, run),
+        Err(fault) => fault == LabFault::TooLarge && run.is_none(),
+    }
+}
+
+// Whether these are the runs of both policies.
+fn are_both(alloc: Global, jobs: &[Job], edf: &Run, dense: &Run) -> bool {
+    are_in_order(jobs)
+        && are_few(jobs)
+        && is_run(alloc, &Edf, jobs, edf)
+        && is_run(alloc, &Dense, jobs, dense)
+}
+
+fn are_runs(alloc: Global, jobs: &mut Vec<Job>, rows: &[(&[Numbers], Run, Run)]) -> bool {
+    for (numbers, edf, dense) in rows {
+        if !fill(jobs, *numbers) || !are_both(alloc, jobs, edf, dense) {
+            return false;
+        }
+    }
+    true
 }
 
 #[test]
-fn work_on_a_job_that_is_lost_is_kept_in_the_pieces(rt: HostRuntime) {
-    let jobs = [
-        job(&rt, 3, 4, 9, 2),
-        job(&rt, 5, 1, 11, 13),
-        job(&rt, 5, 5, 16, 12),
-        job(&rt, 8, 5, 13, 15),
-        job(&rt, 8, 6, 16, 20),
-        job(&rt, 9, 1, 13, 15),
-        job(&rt, 11, 5, 21, 17),
-        job(&rt, 13, 4, 18, 19),
-    ];
-    comes_to(
-        &rt,
-        rt.alloc(),
-        &Edf,
-        &jobs,
-        49,
-        &[(3, 7, 0), (7, 8, 1), (8, 13, 3), (13, 17, 7)],
-    );
-    comes_to(
-        &rt,
-        rt.alloc(),
-        &Dense,
-        &jobs,
-        76,
-        &[
-            (3, 5, 0),
-            (5, 6, 1),
-            (6, 9, 2),
-            (9, 10, 5),
-            (10, 12, 2),
-            (12, 13, 6),
-            (13, 17, 7),
-            (17, 21, 6),
-        ],
-    );
-}
-
-#[test]
-fn a_late_deadline_is_too_large(rt: HostRuntime) {
-    let late = run_policy(rt.alloc(), &Edf, &[job(&rt, 0, 1, 100_001, 1)]);
-    assert!(rt; late == Err(LabFault::TooLarge));
-    comes_to(
-        &rt,
-        rt.alloc(),
-        &Edf,
-        &[job(&rt, 99_999, 1, 100_000, 1)],
-        1,
-        &[(99_999, 100_000, 0)],
-    );
+fn runs_have_these_pieces(rt: HostRuntime) {
+    let mut jobs = Vec::new(rt.alloc());
+    assert!(rt; are_runs(rt.alloc(), &mut jobs, &RUNS));
 }
 
 /// The entry of a job of this number.

@@ -3,9 +3,9 @@ use Rattle.std.specs.List.{AllByRecursion}
 use Rattle.std.proofs.lemmas.List.{take_more}
 use Rattle.dover_model.specs.JobFacts.{JobFacts}
 use Rattle.dover_model.specs.Sound.{Each}
-use Rattle.answers_tests.proofs.overfull_windows.are_in_order.Invariants.{HasRisen}
+use Rattle.answers_tests.proofs.lists.are_in_order.Invariants.{HasRisen}
 use Rattle.dover_model.proofs.ValidParts.{ReleasesInOrder, order_parts, order_from}
-use Rattle.answers_tests.proofs.overfull_windows.are_in_order.Goals as goal
+use Rattle.answers_tests.proofs.lists.are_in_order.Goals as goal
 
 -- one more that is released no sooner than each
 all_and : (r : ℕ) (xs : List JobFacts) (j : JobFacts) → AllByRecursion (λ x. r ≤ x.release) xs → r ≤ j.release
