@@ -3,8 +3,8 @@ use best_set::{Best, BestFault, best};
 use dover_model::Job;
 use std::alloc::Global;
 
-/// What is said of a list: its best set by its value, its numbers and its stretches, or by its value alone, or that there
-/// are too many jobs.
+/// What is said of a list: its best set by its value, its numbers and its stretches, or by its value alone, or that
+/// there are too many jobs.
 enum Told {
     Set(u64, &'static [u32], &'static [Stretch]),
     Worth(u64),

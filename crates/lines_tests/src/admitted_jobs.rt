@@ -55,8 +55,8 @@ fn are_admitted(
     admission.count() == count && admit(&mut admission, 1, 1, next) == refused
 }
 
-/// Versions with how many jobs are admitted, their value, the value of the next one, and why that is refused. The sum of
-/// the values may be 10^13, and a million jobs may be admitted, and not more; in version Three they may be more.
+/// Versions with how many jobs are admitted, their value, the value of the next one, and why that is refused. The sum
+/// of the values may be 10^13, and a million jobs may be admitted, and not more; in version Three they may be more.
 static BOUNDS: [(Version, u32, u64, u64, Option<Refused>); 4] = [
     (Version::Two, 10_000, 1_000_000_000, 1, Some(Refused::Total)),
     (Version::Three, 10_000, 1_000_000_000, 1_000_000_000, None),
