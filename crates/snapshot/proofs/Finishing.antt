@@ -334,3 +334,11 @@ last_same line other is test =
     let same : bytes_eq line (codes "resume") ≡ true = ap (bytes_eq line) (sym is)
     ∙ denied (bytes_eq line other) test in
     (same, (bytes_eq-Decides line (codes "resume")).0 same)
+
+-- another line isn't
+pub last_differs : (line other : List ℕ) → other ≡ codes "resume" → not (bytes_eq line other) ≡ true
+    → bytes_eq line (codes "resume") ≡ false
+last_differs line other is test = ap (bytes_eq line) (sym is) ∙ by (bytes_eq line other) test where
+  by : (b : Bool) → not b ≡ true → b ≡ false
+  by false it = refl
+  by true it = absurd (let clash : false ≡ true = it in cc)

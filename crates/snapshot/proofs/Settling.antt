@@ -1,7 +1,7 @@
 -- How a server is taken to a mark, step by step, and a job more is admitted there.
 use Rattle.std.proofs.Common.{◌≤◌, ◌+◌, ℕ, List, [], ◌∷◌, ◌++◌, length, length-append, ap}
-use Rattle.std.proofs.Common.{arith}
-use Rattle.std.specs.Prelude.{Some, Result, Ok, Err, OnErr}
+use Rattle.std.proofs.Common.{◌≡◌, true, false, arith}
+use Rattle.std.specs.Prelude.{Some, Result, Ok, Err, IsErr, OnOk, OnErr}
 use Rattle.dover_model.specs.declared.events.Event.{Event}
 use Rattle.dover_model.specs.declared.events.Task.{Task}
 use Rattle.dover_model.specs.JobFacts.{JobFacts, IsJob}
@@ -69,3 +69,8 @@ release_known h tasks last job may =
 pub on_err : {X E : Type 0} (r : Result X E) (P : Type 0) → P → OnErr r P
 on_err (Ok x) P it = tt
 on_err (Err e) P it = it
+
+-- where there is an error, nothing is said of a value
+pub no_ok : {X E : Type 0} (r : Result X E) (P : Type 0) → IsErr r → OnOk r P
+no_ok (Err e) P it = tt
+no_ok (Ok x) P it = absurd (let clash : false ≡ true = it in cc)

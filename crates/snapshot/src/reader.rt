@@ -71,8 +71,13 @@ impl Reader {
         ensures jobs { jobs_kept self.new ≤ jobs_read (reading_of (line.now ∷ [])) }
         ensures count { (start now : ℕ) → now ≤ start → HasSpentOn self.new start now }
     {
-        self.resuming = Some(Resuming::begin(self.alloc, line)?);
-        Ok(Got::More)
+        match Resuming::begin(self.alloc, line) {
+            Ok(resuming) => {
+                self.resuming = Some(resuming);
+                Ok(Got::More)
+            }
+            Err(fault) => Err(fault),
+        }
     }
 
     /// Takes the next line, without its line feed. After `Ready` or a fault no further line may be handed in.

@@ -168,12 +168,16 @@ impl Resuming {
         ensures { (k : Kept) → self.now.server.roster ≡ Some k
             → result ≡ next_early self.now.head.version self.now.stances.items at (runner_at k.roll at) }
     {
-        let job = self.server.roster().runner(at)?;
+        let Some(job) = self.server.roster().runner(at) else {
+            return None;
+        };
         if !self.head.version.may_finish_early() {
             return None;
         }
-        let stance = self.stances.get(job.number as usize)?;
-        early_behind(at, &job, stance)
+        match self.stances.get(job.number as usize) {
+            Some(stance) => early_behind(at, &job, stance),
+            None => None,
+        }
     }
 
     /// The next mark at which the running job may have to be finished, at most this one.

@@ -1,8 +1,9 @@
-use Rattle.std.proofs.Common.{◌∙◌, ◌∷◌, [], arith, refl, subst}
+use Rattle.std.proofs.Common.{◌+◌, ◌∙◌, ◌∷◌, [], ap, arith, refl, subst}
 use Rattle.dover_model.specs.declared.horizon.Horizon.TheVariants.{Mark}
 use Rattle.snapshot.specs.Kept.{HasRun}
+use Rattle.snapshot.specs.declared.resuming.Resuming.{Resuming}
 use Rattle.snapshot.proofs.Joining.{with_room, jobs_here, so_far, valid_more, has_joined}
-use Rattle.snapshot.proofs.Settling.{on_err}
+use Rattle.snapshot.proofs.Settling.{no_ok, on_err}
 use Rattle.snapshot.proofs.Turning.{same_about, few_items}
 use Rattle.snapshot.proofs.resuming.Resuming.admit.Goals as goal
 
@@ -64,3 +65,27 @@ returns-clause-run g c = λ h tasks t about start may same number.
 pub returns-clause-count : goal.returns-clause-count
 returns-clause-count g c = λ start paid. c.admit-release.ensures.paid start _
     (c.run_to.ensures.paid start (c.make_room.ensures.paid start _ paid))
+
+pub returns-in_err-make_room-clause-run : goal.returns-in_err-make_room-clause-run
+returns-in_err-make_room-clause-run g c = λ h tasks t about run may same number. no_ok c.from_residual.result _
+    c.from_residual.ensures.0
+
+pub returns-in_err-make_room-clause-last : goal.returns-in_err-make_room-clause-last
+returns-in_err-make_room-clause-last g c = no_ok c.from_residual.result _ c.from_residual.ensures.0
+
+pub returns-in_err-make_room-clause-same : goal.returns-in_err-make_room-clause-same
+returns-in_err-make_room-clause-same g c = no_ok c.from_residual.result _ c.from_residual.ensures.0
+
+pub returns-clause-last : goal.returns-clause-last
+returns-clause-last g c = c.release-self.ensures.is
+
+pub returns-clause-same : goal.returns-clause-same
+returns-clause-same g c = ap (λ (x : Resuming). record x {
+  handed = c.run_to.new.self.handed + 1;
+  last = c.release-self.result;
+  server = c.admit-release.new.self;
+})
+    c.run_to.ensures.same
+
+pub returns-clause-err : goal.returns-clause-err
+returns-clause-err g c = λ h tasks run. tt

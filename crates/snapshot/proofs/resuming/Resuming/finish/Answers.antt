@@ -1,4 +1,4 @@
-use Rattle.std.proofs.Common.{◌≡◌, length, map, sym, ap, ◌∙◌, subst, true, false}
+use Rattle.std.proofs.Common.{◌≡◌, length, map, arith, sym, ap, ◌∙◌, subst, true, false}
 use Rattle.event_feed.specs.Kept.{StandsFor}
 use Rattle.snapshot.specs.Snapshot.{Head}
 use Rattle.snapshot.specs.Reading.{has_reached_mark}
@@ -7,8 +7,8 @@ use Rattle.ready_server.specs.Roster.{job_at}
 use Rattle.snapshot.specs.Kept.{AreAt, HasRun, IsFed, CanPause, handed_lines}
 use Rattle.snapshot.specs.declared.resuming.Resuming.{Resuming}
 use Rattle.snapshot.proofs.Finishing.{mark_follows, run_so_far, reached_count, state_refused, few_handed, lines_are}
-use Rattle.snapshot.proofs.Finishing.{mark_refused, can_pause, is_whole, resumes, last_same}
-use Rattle.snapshot.proofs.Spending.{jobs_lines, jobs_run}
+use Rattle.snapshot.proofs.Finishing.{mark_refused, can_pause, is_whole, resumes, last_same, last_differs, other_refused}
+use Rattle.snapshot.proofs.Spending.{jobs_lines, jobs_run, jobs_stay}
 use Rattle.snapshot.proofs.resuming.Resuming.finish.Goals as goal
 
 pub run_to-requires-clause-run : goal.run_to-requires-clause-run
@@ -179,3 +179,27 @@ returns-clause-jobs g c = λ ls (h, tasks, read, it).
     c.run_to.ensures.run h tasks it.about (run_so_far h tasks ls read c.args.self.now it) in
     jobs_lines ls h tasks read c.args.line.now c.run_to.new.self.server.server.ready.jobs
     (jobs_run c.run_to.new.self h tasks c.args.self.now.head.mark run)
+
+pub overflow_add-bad : goal.overflow_add-bad
+overflow_add-bad g c = omega (arith, c.count.ensures, c.args.self.now.stances.ok.0)
+
+pub returns-then-ne-clause-answers : goal.returns-then-ne-clause-answers
+returns-then-ne-clause-answers g c = λ ls (h, tasks, read, it). other_refused h tasks ls read c.args.self.now it
+    c.args.line.now c.requires.all c.count.result c.count.ensures
+    (last_differs c.args.line.now c.as_slice.result.now c.as_slice.ensures (sym c.ne.ensures ∙ c.if-ne.true))
+
+pub returns-then-ne-clause-jobs : goal.returns-then-ne-clause-jobs
+returns-then-ne-clause-jobs g c = λ ls it. jobs_stay c.args.self.now ls it c.args.line.now
+    c.args.self.now.server.server.ready.jobs (omega arith)
+
+pub returns-then-ne-clause-count : goal.returns-then-ne-clause-count
+returns-then-ne-clause-count g c = λ start spent. spent
+
+pub returns-then-not-are_at-clause-count : goal.returns-then-not-are_at-clause-count
+returns-then-not-are_at-clause-count g c = λ start spent. c.run_to.ensures.paid start spent
+
+pub returns-then-not-has_lines-clause-count : goal.returns-then-not-has_lines-clause-count
+returns-then-not-has_lines-clause-count g c = λ start spent. c.run_to.ensures.paid start spent
+
+pub returns-clause-count : goal.returns-clause-count
+returns-clause-count g c = λ start spent. c.run_to.ensures.paid start spent

@@ -63,3 +63,27 @@ returns-clause-run g c = λ h tasks about near.
 
 pub returns-clause-paid : goal.returns-clause-paid
 returns-clause-paid g c = λ start paid. c.settle.ensures.paid start (c.in-Some-finish.ensures.paid start _ paid)
+
+pub returns-in_default-clause-same : goal.returns-in_default-clause-same
+returns-in_default-clause-same g c = refl
+
+pub returns-in_default-clause-room : goal.returns-in_default-clause-room
+returns-in_default-clause-room g c = λ room. room
+
+pub returns-in_default-clause-paid : goal.returns-in_default-clause-paid
+returns-in_default-clause-paid g c = λ start paid. paid
+
+pub returns-then-tick-at-clause-same : goal.returns-then-tick-at-clause-same
+returns-then-tick-at-clause-same g c = refl
+
+pub returns-then-tick-at-clause-room : goal.returns-then-tick-at-clause-room
+returns-then-tick-at-clause-room g c = λ room. room
+
+pub returns-then-tick-at-clause-paid : goal.returns-then-tick-at-clause-paid
+returns-then-tick-at-clause-paid g c = λ start paid. paid
+
+pub returns-clause-same : goal.returns-clause-same
+returns-clause-same g c = refl
+
+pub returns-clause-room : goal.returns-clause-room
+returns-clause-room g c = λ room. c.settle.ensures.room (c.in-Some-finish.ensures.room room)

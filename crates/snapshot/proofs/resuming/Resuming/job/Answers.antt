@@ -230,3 +230,49 @@ pub returns-in-Err-clause-jobs : goal.returns-in-Err-clause-jobs
 returns-in-Err-clause-jobs g c = λ ls it. jobs_left c.args.self.now ls it c.args.line.now
     c.admit.new.self.server.server.ready.jobs (λ h tasks run. c.in-Err.ensures.err h tasks
     (same_run c.args.self.now _ h tasks c.args.self.now.last refl refl refl run))
+
+pub overflow_add-bad : goal.overflow_add-bad
+overflow_add-bad g c = omega (arith, c.count-number.ensures, c.args.self.now.stances.ok.0)
+
+pub returns-in_default-clause-jobs : goal.returns-in_default-clause-jobs
+returns-in_default-clause-jobs g c = λ ls it. jobs_stay c.args.self.now ls it c.args.line.now
+    c.args.self.now.server.server.ready.jobs (omega arith)
+
+pub returns-in_default-clause-count : goal.returns-in_default-clause-count
+returns-in_default-clause-count g c = λ start spent. spent
+
+pub returns-then-state-number-clause-answers : goal.returns-then-state-number-clause-answers
+returns-then-state-number-clause-answers g c = λ ls it.
+    let more : length it.1 < it.0.jobs =
+    omega (
+      arith,
+      c.requires.more,
+      served_count it.0 it.1 ls it.2 c.args.self.now it.3,
+      jobs_count it.0 it.1 ls it.2 c.args.self.now it.3,
+    ) in
+    beyond_refused it.0 it.1 ls it.2 c.args.self.now it.3 c.args.line.now more (task_in c.in-Some.state)
+    (sym c.read_state.ensures ∙ ap (option_map task_in) c.in-Some.is) c.count-number.result c.count-number.ensures
+    (λ number valid low. c.if-state-number.true (number
+    ∙ sym (c.count-number.ensures ∙ served_count it.0 it.1 ls it.2 c.args.self.now it.3)))
+
+pub returns-then-state-number-clause-jobs : goal.returns-then-state-number-clause-jobs
+returns-then-state-number-clause-jobs g c = λ ls it. jobs_stay c.args.self.now ls it c.args.line.now
+    c.args.self.now.server.server.ready.jobs (omega arith)
+
+pub returns-then-state-number-clause-count : goal.returns-then-state-number-clause-count
+returns-then-state-number-clause-count g c = λ start spent. spent
+
+pub returns-then-state-self-clause-count : goal.returns-then-state-self-clause-count
+returns-then-state-self-clause-count g c = λ start spent. spent
+
+pub returns-in_default-hand_job-clause-count : goal.returns-in_default-hand_job-clause-count
+returns-in_default-hand_job-clause-count g c = λ start spent. spent
+
+pub returns-in-Err-clause-count : goal.returns-in-Err-clause-count
+returns-in-Err-clause-count g c = λ start spent. c.in-Err.ensures.count start spent
+
+pub returns-in-Ok-push-clause-count : goal.returns-in-Ok-push-clause-count
+returns-in-Ok-push-clause-count g c = λ start spent. c.in-Ok.ensures.count start spent
+
+pub returns-in-Err-push-clause-count : goal.returns-in-Err-push-clause-count
+returns-in-Err-push-clause-count g c = λ start spent. c.in-Ok.ensures.count start spent

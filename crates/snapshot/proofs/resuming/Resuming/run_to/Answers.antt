@@ -40,3 +40,18 @@ returns-else-may_finish_early-clause-run g c = λ h tasks about run. plain_there
     (sym c.may_finish_early.ensures ∙ c.if-may_finish_early.false) c.args.from c.args.mark run c.requires.low
     c.settle-else-may_finish_early.new.server c.settle-else-may_finish_early.ensures.rests c.requires.known
     c.settle-else-may_finish_early.ensures.roster
+
+pub returns-then-may_finish_early-clause-same : goal.returns-then-may_finish_early-clause-same
+returns-then-may_finish_early-clause-same g c = c.turn_to.ensures.same
+
+pub returns-then-may_finish_early-clause-room : goal.returns-then-may_finish_early-clause-room
+returns-then-may_finish_early-clause-room g c = λ room. c.turn_to.ensures.room (c.settle.ensures.room room)
+
+pub returns-else-may_finish_early-clause-same : goal.returns-else-may_finish_early-clause-same
+returns-else-may_finish_early-clause-same g c = refl
+
+pub returns-else-may_finish_early-clause-room : goal.returns-else-may_finish_early-clause-room
+returns-else-may_finish_early-clause-room g c = c.settle-else-may_finish_early.ensures.room
+
+pub returns-else-may_finish_early-clause-paid : goal.returns-else-may_finish_early-clause-paid
+returns-else-may_finish_early-clause-paid g c = c.settle-else-may_finish_early.ensures.paid

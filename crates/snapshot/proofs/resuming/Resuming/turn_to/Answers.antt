@@ -1,4 +1,4 @@
-use Rattle.std.proofs.Common.{◌∙◌, ◌<◌, ap, arith, refl}
+use Rattle.std.proofs.Common.{◌∙◌, ◌<◌, ap, arith, refl, subst}
 use Rattle.snapshot.specs.Kept.{IsAbout, HasRun}
 use Rattle.snapshot.specs.declared.resuming.Resuming.{Resuming}
 use Rattle.snapshot.proofs.Turning.{same_about, goes_behind, serves_on, nears}
@@ -73,3 +73,25 @@ loop-at-preserved g c = record {
   paid = λ start paid. c.finish_due.ensures.paid start (c.settle.ensures.paid start
       (c.loop-at.invariant.paid start paid));
 }
+
+pub loop-at-init : goal.loop-at-init
+loop-at-init g c = record {
+  on = λ h tasks about run. run;
+  low = c.requires.low;
+  same = refl;
+  room = λ room. room;
+  paid = λ start paid. paid;
+}
+
+pub returns-clause-run : goal.returns-clause-run
+returns-clause-run g c = λ h tasks about run. subst (HasRun c.loop-at.self h tasks)
+    (omega (arith, c.loop-at.invariant.low, c.loop-at-test.false)) (c.loop-at.invariant.on h tasks about run)
+
+pub returns-clause-same : goal.returns-clause-same
+returns-clause-same g c = c.loop-at.invariant.same
+
+pub returns-clause-room : goal.returns-clause-room
+returns-clause-room g c = c.loop-at.invariant.room
+
+pub returns-clause-paid : goal.returns-clause-paid
+returns-clause-paid g c = c.loop-at.invariant.paid
