@@ -34,19 +34,12 @@ pub(crate) enum Stage<L: Ledger> {
 }
 
 impl<L: Ledger> Stage<L> {
-    /// Turns to this stage.
-    fn turn_to(&mut self, to: Stage<L>)
-        ensures { self.new ≡ to }
-    {
-        *self = to;
-    }
-
     /// Turns to a snapshot that is refused at this line.
     #[inline(never)]
     fn refuse(&mut self, line: u64)
         ensures { self.new ≡ stage.Refused line }
     {
-        self.turn_to(Stage::Refused(line));
+        drop(replace(self, Stage::Refused(line)));
     }
 }
 
@@ -94,7 +87,7 @@ impl<L: Ledger> Resuming<L> {
         let reader = replace(&mut opening.reader, Reader::new(self.alloc));
         let (server, intake, mark) = reader.take();
         let serving = Serving::resumed(self.alloc, server, intake, mark);
-        self.stage.turn_to(Stage::Serving(serving));
+        drop(replace(&mut self.stage, Stage::Serving(serving)));
     }
 }
 
@@ -160,7 +153,11 @@ impl<L: Ledger> Talker for Resuming<L> {
     ) -> Result<Status, Stop> {
         let at_end = self.at_end;
         match self.stage {
-            Stage::Opening(opening) => refuse_snapshot(port, out, opening.lines.count() + 1),
+            Stage::Opening(opening) => {
+                let line = opening.lines.count() + 1;
+                drop(opening);
+                refuse_snapshot(port, out, line)
+            }
             Stage::Refused(line) => refuse_snapshot(port, out, line),
             Stage::Serving(serving) => match at_end {
                 AtEnd::Refuse => serving.answer(meter, port, out, ended),

@@ -1,4 +1,4 @@
-use Rattle.std.proofs.Common.{sym, ◌∙◌, subst, refl, ap, ◌+◌}
+use Rattle.std.proofs.Common.{◌≤◌, sym, ◌∙◌, subst, refl, ap, ◌+◌, arith}
 use Rattle.dialogue.specs.Turns.{AnswersBy}
 use Rattle.dover_port.specs.declared.status.Status.TheVariants as status
 use Rattle.serve_word.specs.Keeping as serve
@@ -7,6 +7,7 @@ use Rattle.snapshot.specs.Reading.{Refused}
 use Rattle.resume_word.specs.Record.{refused_text}
 use Rattle.resume_word.specs.Talk.{IsAnsweredBy}
 use Rattle.resume_word.specs.Keeping.{IsReady}
+use Rattle.resume_word.proofs.Bounds.{next_number}
 use Rattle.resume_word.proofs.Laws.{at_serving}
 use Rattle.resume_word.proofs.Talking.{due_at}
 use Rattle.resume_word.proofs.Stages.{opening_due, opening_answer, opening_costs, past_call, past_bytes, past_answers}
@@ -17,7 +18,7 @@ pub returns-in-Opening-clause-answers : goal.returns-in-Opening-clause-answers
 returns-in-Opening-clause-answers g c = λ a x at over.
     let it = subst (λ s. IsReady a s c.args.meter.now x) c.in-Opening.is at.1 in
     c.refuse_snapshot.ensures.answers a x c.args.ended (opening_due a _ x it.0)
-    (opening_answer a _ x it.0 _ (ap (λ n. n + 1) (rw c.in-Opening.is at c.count.ensures)) c.args.ended over)
+    (opening_answer a _ x it.0 _ (ap (λ n. n + 1) (rw c.in-Opening.is at c.count-line.ensures)) c.args.ended over)
 
 pub returns-in-Opening-clause-spent : goal.returns-in-Opening-clause-spent
 returns-in-Opening-clause-spent g c = λ a x at.
@@ -100,3 +101,48 @@ returns-in-Pause-clause-spent g c = λ a x at.
     (subst (λ s. serve.IsReady (past_call a x _ it) s.feed c.args.meter.now
     (past_bytes a x _ it))
     (sym (rw c.in-Serving.is at c.new.ensures)) it.holds))
+
+pub returns-in-Opening-clause-cause : goal.returns-in-Opening-clause-cause
+returns-in-Opening-clause-cause g c = c.refuse_snapshot.ensures.cause
+
+pub returns-in-Opening-clause-stops : goal.returns-in-Opening-clause-stops
+returns-in-Opening-clause-stops g c = c.refuse_snapshot.ensures.stops
+
+pub returns-in-Refused-clause-cause : goal.returns-in-Refused-clause-cause
+returns-in-Refused-clause-cause g c = c.refuse_snapshot-in-Refused.ensures.cause
+
+pub returns-in-Refused-clause-stops : goal.returns-in-Refused-clause-stops
+returns-in-Refused-clause-stops g c = c.refuse_snapshot-in-Refused.ensures.stops
+
+pub returns-in-Refuse-clause-cause : goal.returns-in-Refuse-clause-cause
+returns-in-Refuse-clause-cause g c = c.answer.ensures.cause
+
+pub returns-in-Refuse-clause-stops : goal.returns-in-Refuse-clause-stops
+returns-in-Refuse-clause-stops g c = c.answer.ensures.stops
+
+pub returns-in-Pause-clause-cause : goal.returns-in-Pause-clause-cause
+returns-in-Pause-clause-cause g c = c.answer-in-Pause.ensures.cause
+
+pub returns-in-Pause-clause-stops : goal.returns-in-Pause-clause-stops
+returns-in-Pause-clause-stops g c = c.answer-in-Pause.ensures.stops
+
+pub refuse_snapshot-requires : goal.refuse_snapshot-requires
+refuse_snapshot-requires g c = record { empty = c.requires.empty }
+
+pub refuse_snapshot-requires-in-Refused : goal.refuse_snapshot-requires-in-Refused
+refuse_snapshot-requires-in-Refused g c = record { empty = c.requires.empty }
+
+pub answer-requires-clause-empty : goal.answer-requires-clause-empty
+answer-requires-clause-empty g c = c.requires.empty
+
+pub answer-requires-in-Pause-clause-empty : goal.answer-requires-in-Pause-clause-empty
+answer-requires-in-Pause-clause-empty g c = c.requires.empty
+
+pub overflow_add-line : goal.overflow_add-line
+overflow_add-line g c =
+    let r = c.requires.ready in
+    let it = subst (λ s. IsReady r.0 s c.args.meter.now r.1) c.in-Opening.is r.2.1 in
+    let next = next_number c.in-Opening.opening r.1 it.0 in
+    let count : c.count-line.result ≤ 4_000_000_001 =
+    omega (arith, rw c.in-Opening.is at c.count-line.ensures, next.0, next.1) in
+    omega (arith, count)

@@ -7,7 +7,8 @@ use Rattle.ready_server.specs.Roster.{job_at}
 use Rattle.snapshot.specs.Kept.{AreAt, HasRun, IsFed, CanPause, handed_lines}
 use Rattle.snapshot.specs.declared.resuming.Resuming.{Resuming}
 use Rattle.snapshot.proofs.Finishing.{mark_follows, run_so_far, reached_count, state_refused, few_handed, lines_are}
-use Rattle.snapshot.proofs.Finishing.{mark_refused, can_pause, is_whole, resumes, last_same, last_differs, other_refused}
+use Rattle.snapshot.proofs.Finishing.{mark_refused, can_pause, is_whole, resumes, last_same, last_differs}
+use Rattle.snapshot.proofs.Finishing.{other_refused}
 use Rattle.snapshot.proofs.Spending.{jobs_lines, jobs_run, jobs_stay}
 use Rattle.snapshot.proofs.resuming.Resuming.finish.Goals as goal
 
