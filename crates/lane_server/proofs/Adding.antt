@@ -1,18 +1,15 @@
 -- What each line of a feed adds to what is due, and how the lane comes to owe it.
-use Rattle.std.proofs.Common.{◌≡◌, ℕ, suc, ◌≤◌, ◌<◌, ◌^◌, List, [], ◌∷◌, ◌++◌, length, map, refl, sym, ap, ◌∙◌}
+use Rattle.std.proofs.Common.{◌≡◌, ℕ, suc, ◌<◌, ◌^◌, List, [], ◌∷◌, ◌++◌, length, map, refl, sym, ap, ◌∙◌}
 use Rattle.std.proofs.Common.{subst, arith, inl, inr, ◌⊎◌, Bool, true, false, Some, None, Option, cond}
 use Rattle.std.proofs.lemmas.List.{append-nil}
 use Rattle.std.specs.Prelude.{drop}
 use Rattle.std.proofs.lemmas.List.Sums.{fold-append}
 use Rattle.dover_model.specs.declared.events.Event.{Event}
 use Rattle.dover_model.specs.declared.events.Version.{Version}
-use Rattle.dover_model.specs.Limits.{last_tick}
-use Rattle.dover_model.specs.JobFacts.{JobFacts}
 use Rattle.dover_model.specs.Fraction.{Fraction}
-use Rattle.dover_model.specs.Instance.{Declaration, Instance, IsValid, with_jobs}
-use Rattle.dover_model.specs.Session.{JobItem, RefusedItem, Refused, RefusedLine, Session, instance_of, new_session}
+use Rattle.dover_model.specs.Instance.{Declaration, IsValid}
+use Rattle.dover_model.specs.Session.{RefusedItem, Refused, RefusedLine, Session, instance_of, new_session}
 use Rattle.dover_model.specs.Session.{with_item}
-use Rattle.dover_model.specs.Session.{admitted_jobs}
 use Rattle.dover_model.specs.Run.{printed}
 use Rattle.dover_model.specs.Settled.{settled}
 use Rattle.dover_model.specs.WholeRun.{Begins}
@@ -22,23 +19,18 @@ use Rattle.dover_model.specs.Feed.{read_line, Account, Standing, Open, Ended, Fa
 use Rattle.dover_model.specs.Feed.{next_line, account_of_lines, is_open}
 use Rattle.dover_model.specs.Due.{due_lines, fault_text}
 use Rattle.dover_model.proofs.Accounts.{Holds, HoldsBy, IsKept, lines_goes, account_with}
-use Rattle.admission.proofs.Joining.{admitted_valid}
-use Rattle.dover_model.proofs.Admitting.{not_refused}
-use Rattle.dover_model.proofs.Beginnings.{begins_onward}
-use Rattle.dover_model.proofs.Emitting.{texts_more, texts_job, texts_refused}
-use Rattle.dover_model.proofs.Growing.{Reads, reads_later, settled_later, settled_of_run, job_instance}
+use Rattle.dover_model.proofs.Emitting.{texts_more, texts_refused}
+use Rattle.dover_model.proofs.Growing.{settled_later, settled_of_run}
 use Rattle.dover_model.proofs.Growing.{refused_instance}
-use Rattle.dover_model.specs.declared.horizon.Horizon.{Horizon}
 use Rattle.dover_model.specs.declared.horizon.Horizon.TheVariants.{Mark, End}
 use Rattle.dover_model.specs.Horizons.{no_jobs, due_by}
 use Rattle.event_feed.specs.Kept.{cause_of_fault}
-use Rattle.event_feed.specs.Answers.{DeclaresRatio, AddsJob, MovesMark, EndsFeed, NewFault, OldFault}
+use Rattle.event_feed.specs.Answers.{DeclaresRatio, MovesMark, EndsFeed, NewFault, OldFault}
 use Rattle.event_feed.specs.Answers.{counted}
 use Rattle.event_feed.specs.declared.faults.FeedFault.{FeedFault}
 use Rattle.lane_server.specs.Lanes.{lines_added}
-use Rattle.lane_server.specs.Lane.{Fits, Running, Admitting, reach}
-use Rattle.lane_server.proofs.Printing.{due_before}
-use Rattle.ready_server.specs.Rostering.{Serves, HasPlace}
+use Rattle.lane_server.specs.Lane.{Fits, Running, reach}
+use Rattle.ready_server.specs.Rostering.{Serves}
 use Rattle.ready_server.specs.declared.roster_server.RosterServer.{RosterServer}
 
 -- ---- accounts

@@ -1,6 +1,6 @@
 -- What bytes of a feed hand to its lane, and what is left to give then.
 use Rattle.std.proofs.Common.{Bool, ◌≡◌, ℕ, List, [], ◌∷◌, ◌++◌, sym, ap, ◌∙◌, subst, refl, true, false, cond, Some}
-use Rattle.std.proofs.Common.{Result, arith}
+use Rattle.std.proofs.Common.{Result}
 use Rattle.std.proofs.Common.{Ok, Err}
 use Rattle.std.proofs.lemmas.List.{append-nil}
 use Rattle.std.specs.Prelude.{OnOk, OnErr, None, length}

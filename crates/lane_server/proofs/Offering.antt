@@ -1,6 +1,6 @@
 -- The line of a job that may be admitted: what it adds, and what is left of that after each step of the server.
 use Rattle.std.proofs.Common.{◌≡◌, ◌≤◌, ◌<◌, ◌^◌, ℕ, List, [], ◌∷◌, ◌++◌, length, drop, map, refl, sym, ap, ◌∙◌}
-use Rattle.std.proofs.Common.{subst, Option, Some, None, cond, Bool, true, false, arith, Ok}
+use Rattle.std.proofs.Common.{subst, Option, Some, cond, Bool, true, false, arith, Ok}
 use Rattle.std.specs.Option.{option_map}
 use Rattle.std.proofs.lemmas.List.{append_assoc, same_from_push}
 use Rattle.dover_model.specs.Limits.{last_tick}

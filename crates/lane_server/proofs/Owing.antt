@@ -3,14 +3,12 @@ use Rattle.std.proofs.Common.{◌≡◌, List, [], ◌∷◌, ◌++◌, ℕ, map
 use Rattle.std.proofs.lemmas.List.{append-nil, append_assoc, append_cancel_left}
 use Rattle.dover_model.specs.declared.events.Event.{Event}
 use Rattle.dover_model.specs.JobFacts.{JobFacts}
-use Rattle.dover_model.specs.Instance.{Instance, IsValid, with_jobs}
-use Rattle.dover_model.specs.Session.{JobItem, Session, instance_of, with_item}
+use Rattle.dover_model.specs.Instance.{Instance}
+use Rattle.dover_model.specs.Session.{Session, instance_of}
 use Rattle.dover_model.specs.Numerals.{AreShort}
 use Rattle.dover_model.specs.WholeRun.{Begins}
 use Rattle.dover_model.specs.Text.{text_of, step_numbers}
 use Rattle.dover_model.specs.Feed.{Account, account_of_lines}
-use Rattle.dover_model.proofs.Beginnings.{begins_onward}
-use Rattle.dover_model.proofs.Growing.{job_instance}
 use Rattle.dover_model.specs.declared.horizon.Horizon.{Horizon}
 use Rattle.dover_model.specs.declared.horizon.Horizon.TheVariants.{Mark}
 use Rattle.dover_model.specs.Horizons.{MayFollow, due_by}
@@ -20,8 +18,8 @@ use Rattle.lane_server.specs.Lane.{Fits, Running, Admitting, Owes, GivesFault, S
 use Rattle.lane_server.specs.declared.lane.Lane.{Lane}
 use Rattle.lane_server.specs.declared.lane.Work.{Work}
 use Rattle.lane_server.specs.declared.lane.Work.TheVariants.{Nothing}
-use Rattle.lane_server.proofs.Printing.{due_before, event_short}
-use Rattle.ready_server.specs.Rostering.{Serves, Rests, HasPlace}
+use Rattle.lane_server.proofs.Printing.{event_short}
+use Rattle.ready_server.specs.Rostering.{Serves, Rests}
 use Rattle.ready_server.specs.declared.roster_server.RosterServer.{RosterServer}
 
 -- what is left begins with the event

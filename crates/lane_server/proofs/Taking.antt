@@ -7,7 +7,7 @@ use Rattle.dover_model.specs.declared.events.Version.{Version}
 use Rattle.dover_model.specs.declared.events.Refusal.{Refusal}
 use Rattle.dover_model.specs.JobFacts.{JobFacts, job_of_numbers}
 use Rattle.dover_model.specs.Fraction.{Fraction}
-use Rattle.dover_model.specs.Session.{JobItem, RefusedItem, RefusedLine, RefusedJob, RefusedDone, Session}
+use Rattle.dover_model.specs.Session.{RefusedItem, RefusedLine, RefusedJob, RefusedDone, Session}
 use Rattle.dover_model.specs.Session.{new_session, with_item}
 use Rattle.dover_model.specs.Feed.{Account, Open, Ended, account_of_lines, is_open, rules_with}
 use Rattle.dover_model.specs.Due.{due_lines}

@@ -149,7 +149,8 @@ impl Lane {
         ensures intake { self.new.intake ≡ self.old.intake }
         ensures work { OnOk result (self.new.work ≡ Give (Header version k)) }
     {
-        self.server = Some(RosterServer::new(alloc, version, k, self.listed)?);
+        let server = RosterServer::new(alloc, version, k, self.listed)?;
+        drop(self.server.replace(server));
         self.work = Work::Give(LaneOut::Header(version, k));
         Ok(())
     }
@@ -206,15 +207,17 @@ impl Lane {
         ensures turns { OnOk result (TurnsTo fed self.new.work) }
     {
         match fed {
-            Fed::Ratio(k, version) => self.declare(alloc, version, k)?,
-            Fed::Job(_, job) => self.arrive(job)?,
+            Fed::Ratio(k, version) => self.declare(alloc, version, k),
+            Fed::Job(_, job) => self.arrive(job),
             Fed::Tick(at) => {
                 self.mark = at;
                 self.work = Work::Run(Horizon::Mark(at));
+                Ok(())
             }
             Fed::Over => {
                 self.is_open = false;
                 self.work = Work::Run(Horizon::End);
+                Ok(())
             }
             Fed::Refused {
                 release,
@@ -231,10 +234,13 @@ impl Lane {
                     value,
                     cause,
                 });
+                Ok(())
             }
-            Fed::Done { at, number } => self.finish_at(at, number),
+            Fed::Done { at, number } => {
+                self.finish_at(at, number);
+                Ok(())
+            }
         }
-        Ok(())
     }
 
     /// Takes the next line of the feed, without its line feed, where all lines that were due before were given: at

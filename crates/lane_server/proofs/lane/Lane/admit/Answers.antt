@@ -1,5 +1,4 @@
-use Rattle.std.proofs.Common.{◌≡◌, ◌<◌, ◌++◌, ◌∷◌, [], length, sym, ap, ◌∙◌, subst, cond, true, false}
-use Rattle.dover_model.specs.Limits.{most_ready}
+use Rattle.std.proofs.Common.{◌≡◌, ◌++◌, ◌∷◌, [], length, sym, ap, ◌∙◌, subst, cond, true, false}
 use Rattle.dover_model.specs.Session.{instance_of, is_full}
 use Rattle.dover_model.specs.Feed.{account_of_lines}
 use Rattle.dover_model.specs.declared.horizon.Horizon.TheVariants.{Mark}

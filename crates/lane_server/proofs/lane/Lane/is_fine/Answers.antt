@@ -1,6 +1,5 @@
-use Rattle.std.proofs.Common.{◌≡◌, ◌∙◌, sym, subst, Err}
+use Rattle.std.proofs.Common.{◌∙◌, sym, subst}
 use Rattle.event_feed.specs.Answers.{EndAnswers}
-use Rattle.lane_server.specs.Lane.{Stands}
 use Rattle.lane_server.proofs.Fine.{short_fine}
 use Rattle.lane_server.proofs.lane.Lane.is_fine.Goals as goal
 
