@@ -1,5 +1,5 @@
 //! A feed whose jobs may finish early, served again once its end was read.
-ghost use Rattle.std.specs.Prelude.{◌≡◌, ◌≤◌, ◌<◌, ℕ, IfOk, OnOk, length, get_or, false};
+ghost use Rattle.std.specs.Prelude.{◌≡◌, ◌≤◌, ◌<◌, ℕ, [], IfOk, OnOk, length, get_or, false};
 ghost use Rattle.dover_model.specs.Instance.{Instance, IsListable, IsValid, with_jobs};
 ghost use Rattle.dover_model.specs.Horizons.{no_jobs};
 ghost use Rattle.dover_model.specs.Observed.{observed};
@@ -87,6 +87,23 @@ fn serve_listed<L: Ledger>(
     Ok(())
 }
 
+/// Serves the listed jobs, with their finishes, by a server of their own.
+fn serve_alone<L: Ledger>(
+    alloc: Global,
+    listed: &Listed,
+    run: &mut Recorded,
+    steps: &mut Steps<L>,
+) -> Result<(), Memory>
+    requires valid { IsValid (listed_instance listed.now) }
+    requires among { StandAmong listed.now.jobs.items listed.now.dones.items }
+    requires begins { HasRecorded run.old [] }
+    ensures run { OnOk result (HasRecorded run.new (printed (listed_instance listed.now))) }
+    ensures count { CostsAtMost (length listed.now.jobs.items) steps.old steps.new }
+{
+    let mut server = ReadyServer::new(alloc, listed.version, listed.ratio)?;
+    serve_listed(&mut server, listed, run, steps)
+}
+
 /// The printed steps of the run of the listed jobs, with their finishes. Memory is taken for the steps, and for the
 /// jobs that are ready at once.
 ///
@@ -103,12 +120,11 @@ fn record<L: Ledger>(
     ensures run { IfOk result (λ events. events.items ≡ printed (listed_instance listed.now)) }
     ensures count { CostsAtMost (length listed.now.jobs.items) steps.old steps.new }
 {
-    let mut server = ReadyServer::new(alloc, listed.version, listed.ratio)?;
     let mut run = Recorded {
         events: Vec::new(alloc),
         lost: false,
     };
-    serve_listed(&mut server, listed, &mut run, steps)?;
+    serve_alone(alloc, listed, &mut run, steps)?;
     if run.lost {
         return Err(Memory);
     }
