@@ -5,11 +5,13 @@ use Rattle.lane_server.proofs.Taking.{tick_adds, over_adds, refused_job_adds, er
 use Rattle.lane_server.proofs.lane.Lane.take.Goals as goal
 
 pub returns-in-Ratio-clause-adds : goal.returns-in-Ratio-clause-adds
-returns-in-Ratio-clause-adds c = λ a b at it. c.declare.ensures.adds a b at (subst (λ x. IsFed (counted a) b x) c.in-Ratio.is it)
+returns-in-Ratio-clause-adds c =
+    λ a b at it. c.declare.ensures.adds a b at (subst (λ x. IsFed (counted a) b x) c.in-Ratio.is it)
 
 pub returns-in-Ratio-clause-paid : goal.returns-in-Ratio-clause-paid
 returns-in-Ratio-clause-paid c =
-    λ a b start now at it paid. c.declare.ensures.paid a b start now at (subst (λ x. IsFed (counted a) b x) c.in-Ratio.is it) paid
+    λ a b start now at it paid. c.declare.ensures.paid a b start now at
+    (subst (λ x. IsFed (counted a) b x) c.in-Ratio.is it) paid
 
 pub returns-in-Ratio-clause-roster : goal.returns-in-Ratio-clause-roster
 returns-in-Ratio-clause-roster c = c.declare.ensures.roster
@@ -26,7 +28,8 @@ pub returns-in-Ratio-clause-intake : goal.returns-in-Ratio-clause-intake
 returns-in-Ratio-clause-intake c = c.declare.ensures.intake
 
 pub returns-in-Job-clause-adds : goal.returns-in-Job-clause-adds
-returns-in-Job-clause-adds c = λ a b at it. c.arrive.ensures.adds _ a b at (subst (λ x. IsFed (counted a) b x) c.in-Job.is it)
+returns-in-Job-clause-adds c =
+    λ a b at it. c.arrive.ensures.adds _ a b at (subst (λ x. IsFed (counted a) b x) c.in-Job.is it)
 
 pub returns-in-Job-clause-paid : goal.returns-in-Job-clause-paid
 returns-in-Job-clause-paid c = λ a b start now at it paid. c.arrive.ensures.paid start now paid
@@ -59,7 +62,8 @@ returns-in-Refused-clause-adds c =
     c.in-Refused.value c.in-Refused.cause a b at (subst (λ x. IsFed (counted a) b x) c.in-Refused.is it)
 
 pub returns-in-Done-clause-adds : goal.returns-in-Done-clause-adds
-returns-in-Done-clause-adds c = λ a b at it. c.finish_at.ensures.adds a b at (subst (λ x. IsFed (counted a) b x) c.in-Done.is it)
+returns-in-Done-clause-adds c =
+    λ a b at it. c.finish_at.ensures.adds a b at (subst (λ x. IsFed (counted a) b x) c.in-Done.is it)
 
 pub returns-in-Done-clause-intake : goal.returns-in-Done-clause-intake
 returns-in-Done-clause-intake c = c.finish_at.ensures.intake
