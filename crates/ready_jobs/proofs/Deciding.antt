@@ -1,16 +1,17 @@
 -- The open step of a state, where a job runs and where none does.
-use Rattle.std.proofs.Common.{Bool, ◌≡◌, ◌∙◌, ap, sym, refl}
-use Rattle.std.specs.Prelude.{Option, Some, None, ◌==◌}
+use Rattle.std.proofs.Common.{Bool, ◌≡◌, ◌<◌, ◌≤◌, ◌∙◌, ap, sym, refl}
+use Rattle.std.specs.Prelude.{Option, Some, None, ◌==◌, ◌&&◌, nat_le, if◌then◌else◌}
+use Rattle.std.proofs.lemmas.Bool.{lt-ltb, le-leb}
 use Rattle.std.specs.Bool.{then_some}
 use Rattle.std.specs.List.{find}
-use Rattle.dover_model.specs.declared.events.Event.TheVariants.{Complete}
+use Rattle.dover_model.specs.declared.events.Event.TheVariants.{Complete, Preempt}
 use Rattle.dover_model.specs.declared.events.Task.{Task}
 use Rattle.dover_model.specs.Fraction.{Fraction}
 use Rattle.dover_model.specs.Step.{View, Move, Prints, decision, alarm, ◌or_else◌, runs, view, completion, dispatch}
-use Rattle.dover_model.specs.Step.{urgent_or}
+use Rattle.dover_model.specs.Step.{urgent_or, Waits}
 use Rattle.dover_model.specs.declared.events.Version.{Version}
 use Rattle.dover_model.specs.State.{State, is_running, is_fresh, left}
-use Rattle.ready_jobs.specs.Cases.{next_of, next_ready, arrival_of}
+use Rattle.ready_jobs.specs.Cases.{next_of, next_ready, decision_of, arrival_of}
 
 -- what is done while r runs
 abbrev pub busy : Fraction → View → Task → Bool → Option Task → Option Move → Option Task → Move → Move
@@ -65,3 +66,12 @@ module _ (k : Fraction) (version : Version) (s : State) (other : Move) where
         by_ready None None (Some f) a x = refl
         by_ready None None None a (Some x) = refl
         by_ready None None None a None = refl
+
+-- a fresh job that is due before the running one, and fits the room, preempts it
+pub preempts_is : (v : View) (r f : Task) → f.job.deadline < r.job.deadline → f.job.work ≤ v.privileged_room
+    → Prints (Preempt v.clock r.number f.number) ≡ decision_of v r f
+preempts_is v r f due fits = sym (
+    ap (λ b. if b && nat_le f.job.work v.privileged_room then Prints (Preempt v.clock r.number f.number) else Waits
+    f.number) (lt-ltb f.job.deadline r.job.deadline due)
+    ∙ ap (λ b. if b then Prints (Preempt v.clock r.number f.number) else Waits f.number)
+    (le-leb f.job.work v.privileged_room fits))

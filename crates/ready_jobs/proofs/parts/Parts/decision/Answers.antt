@@ -1,0 +1,15 @@
+use Rattle.std.proofs.Common.{◌<◌, ◌≤◌, subst}
+use Rattle.dover_model.specs.State.{privileged, room}
+use Rattle.dover_model.specs.Step.{view}
+use Rattle.ready_jobs.specs.Parts.{state_of}
+use Rattle.ready_jobs.proofs.Deciding.{preempts_is}
+use Rattle.ready_jobs.proofs.parts.Parts.decision.Goals as goal
+
+pub returns-then-work-room_busy-clause-is : goal.returns-then-work-room_busy-clause-is
+returns-then-work-room_busy-clause-is c =
+    let now = c.args.self.now in
+    preempts_is (view now.version (state_of now)) c.args.r.now c.args.f.now
+    (subst (λ d. d < c.args.r.now.job.deadline) c.deadline.ensures.is
+    (subst (λ d. c.deadline.result < d) c.deadline-2.ensures.is c.if-deadline.true))
+    (subst (λ w. w ≤ room now.clock (privileged (state_of now))) c.work.ensures.is
+    (subst (λ most. c.work.result ≤ most) c.room_busy.ensures c.if-work-room_busy.true))
