@@ -24,7 +24,7 @@ use Rattle.place_heap.proofs.Ranking.{one_way, onward}
 use Rattle.place_heap.proofs.Tying.{ordered_as}
 use Rattle.ready_jobs.specs.Reordered.{IsReordered}
 use Rattle.ready_jobs.specs.Parts.{HaveOwnNumbers, AreModest}
-use Rattle.ready_jobs.specs.Pools.{jobs_at, items_from, times, is_free, AreFree, HasItems, IsPool}
+use Rattle.ready_jobs.specs.Pools.{jobs_at, items_from, times, is_free, AreFree, HasItems, IsPool, HasRoom}
 use Rattle.ready_jobs.proofs.Reordering.{same_order, exchanged, both_parts, turned, as_many, first_is, first_only}
 use Rattle.ready_jobs.proofs.Views.{apart_or_one}
 
@@ -615,3 +615,33 @@ opened v slots d l pool due latest few = record {
   count = omega (arith, pool.count, length_more slots None, ap (λ ts. length ts) (jobs_push slots));
   few = omega (arith, few, length_more slots None);
 }
+
+-- the pool with the same jobs and free places, and with other tables
+pub moved : (version : Version) (slots others : List (Option Task)) (free places : List ℕ)
+    (due latest sooner later : List (Option ItemFacts)) → others ≡ slots → places ≡ free
+    → HasItems (due_item version) slots sooner → HasItems (latest_item version) slots later
+    → IsPool version slots free due latest → IsPool version others places sooner later
+moved version slots others free places due latest sooner later same named by_due by_latest pool =
+    subst (λ s. IsPool version s places sooner later) (sym same)
+    (subst (λ f. IsPool version slots f sooner later) (sym named)
+    (record { due = by_due; latest = by_latest; free = pool.free; count = pool.count; few = pool.few }))
+
+-- room for as many, where no less fits
+pub still_fits : (room places others slots wider free freer due sooner latest later : ℕ)
+    → HasRoom room places slots free due latest → others ≡ places → slots ≤ wider → free ≤ freer → due ≤ sooner
+    → latest ≤ later → HasRoom room others wider freer sooner later
+still_fits room places others slots wider free freer due sooner latest later fits same more_slots more_free more_due
+    more_latest = record {
+      opened = subst (λ n. n ≤ room) (sym same) fits.opened;
+      most = fits.most;
+      slots_fit = omega (arith, fits.slots_fit, more_slots);
+      free_fit = omega (arith, fits.free_fit, more_free);
+      due_fit = omega (arith, fits.due_fit, more_due);
+      latest_fit = omega (arith, fits.latest_fit, more_latest);
+    }
+
+-- a table that grows is no shorter
+pub no_shorter : (table grown : List (Option ItemFacts)) (m : ℕ) → grown ≡ table ++ replicate m None
+    → length table ≤ length grown
+no_shorter table grown m is =
+    omega (arith, ap (λ l. length l) is, length-append table (replicate {A = Option ItemFacts} m None))

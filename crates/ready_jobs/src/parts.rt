@@ -14,7 +14,7 @@ ghost use Rattle.dover_model.specs.Orders.{due_first, starts_before, first};
 ghost use Rattle.dover_model.specs.Step.{open_step, view, with_role, is_at_latest_start, resumed, runs, displaced};
 ghost use Rattle.dover_model.specs.Jumps.{ticked_by};
 ghost use Rattle.dover_model.specs.Sound.{Each};
-ghost use Rattle.ready_jobs.specs.Cases.{decision_of, arrival_of, alarm_of};
+ghost use Rattle.ready_jobs.specs.Cases.{decision_of, alarm_of};
 ghost use Rattle.ready_jobs.specs.Dues.{still_ticks, until_done};
 ghost use Rattle.ready_jobs.specs.Changed.{made_wait};
 ghost use Rattle.ready_jobs.specs.Deeds.{step_at, Finds};
@@ -26,7 +26,7 @@ ghost use Rattle.ready_jobs.specs.Parts.{Parted, AreSound, HaveRoles, ready_of, 
 use crate::deeds::Deed;
 use crate::held::{peek, pop, push};
 use crate::pool::Pool;
-use crate::short::ShortTask;
+use crate::short::{ShortTask, left};
 use crate::taking::{displace, in_role};
 use dover_model::{Entry, Job, Memory, Ratio, Role, Task, Version};
 use held_queue::Rooms;
@@ -57,14 +57,6 @@ impl Model for Parts {
     ghost view = { parted_of };
 
     ghost invariant = { IsKept };
-}
-
-// The ticks that the job is still to have.
-#[inline(always)]
-fn left(t: &Task) -> u64
-    ensures { result ≡ left t.now }
-{
-    t.job.work().saturating_sub(t.had)
 }
 
 // The job as one that doesn't run.
@@ -202,17 +194,6 @@ impl Parts {
         self.room
     }
 
-    // No job is to come.
-    #[inline(always)]
-    fn arrival(&self) -> Option<Deed>
-        ensures is { option_map (step_at self.now.clock) result
-            ≡ arrival_of (view self.now.version (state_of self.now)) }
-        ensures none { result ≡ None }
-    {
-        self.laws();
-        None
-    }
-
     /// The first held job.
     #[inline(always)]
     pub(crate) fn first_held(&self) -> Option<&ShortTask>
@@ -330,9 +311,8 @@ impl Parts {
         if let Some(f) = self.fresh() {
             return self.decision(r, &f);
         }
-        if let Some(release) = self.arrival() {
-            return release;
-        }
+        // That no job is to come is known by the laws.
+        self.laws();
         match self.first_late() {
             Some(x) => self.alarm(k, r, x),
             None => Deed::Tick,
@@ -376,10 +356,9 @@ impl Parts {
         if let Some(f) = self.fresh() {
             return Deed::Begin { number: f.number };
         }
-        match self.arrival() {
-            Some(release) => release,
-            None => Deed::Tick,
-        }
+        // That no job is to come is known by the laws.
+        self.laws();
+        Deed::Tick
     }
 
     /// The next step where further jobs may come.

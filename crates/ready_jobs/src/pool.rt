@@ -13,11 +13,11 @@ ghost use Rattle.place_heap.specs.Items.{ItemFacts};
 ghost use Rattle.place_heap.specs.Orders.{due_item, latest_item};
 ghost use Rattle.ready_jobs.specs.Reordered.{IsReordered};
 ghost use Rattle.ready_jobs.specs.Parts.{HaveOwnNumbers, AreModest};
-ghost use Rattle.ready_jobs.specs.Pools.{Pooled, IsPool, jobs_at, most_places};
+ghost use Rattle.ready_jobs.specs.Pools.{Pooled, IsPool, HasRoom, jobs_at, most_places};
 ghost use Rattle.ready_jobs.specs.Short.{no_number};
 ghost use Rattle.ready_jobs.specs.Slots.{seen};
 
-use crate::short::ShortTask;
+use crate::short::{ShortTask, left};
 use crate::slot::Slot;
 use dover_model::{Memory, Task, Version};
 use place_heap::{Heap, Item, tie_of};
@@ -49,14 +49,6 @@ impl Model for Pool {
     ghost invariant = { λ p. IsPool p.version p.slots.items p.free.items p.by_deadline p.by_latest
         × HasRoom p.room (length p.slots.items) (vec_capacity p.slots) (vec_capacity p.free) (length p.by_deadline)
         (length p.by_latest) };
-}
-
-// The ticks that the job is still to have.
-#[inline(always)]
-fn left(t: &Task) -> u64
-    ensures { result ≡ (entry_of t.now).left }
-{
-    t.job.work().saturating_sub(t.had)
 }
 
 // The item of the job by its deadline.
@@ -196,6 +188,35 @@ fn take_at<L: Ledger>(
     by_latest.remove(place, steps);
 }
 
+// Memory for so many places, which all may be free, and for as many in both heaps. Want of it leaves what is there.
+fn reserve_places(
+    slots: &mut Vec<Slot>,
+    free: &mut Vec<u32>,
+    by_deadline: &mut Heap,
+    by_latest: &mut Heap,
+    places: u32,
+) -> Result<(), Memory>
+    requires opened { length slots.old.items ≤ places }
+    requires free { length free.old.items ≤ places }
+    requires most { places ≤ most_places }
+    ensures keeps { (version : Version) (room : ℕ) →
+        IsPool version slots.old.items free.old.items by_deadline.old by_latest.old →
+        HasRoom room (length slots.old.items) (vec_capacity slots.old) (vec_capacity free.old)
+        (length by_deadline.old) (length by_latest.old) →
+        IsPool version slots.new.items free.new.items by_deadline.new by_latest.new
+        × HasRoom room (length slots.new.items) (vec_capacity slots.new) (vec_capacity free.new)
+        (length by_deadline.new) (length by_latest.new) }
+    ensures same { slots.new.items ≡ slots.old.items }
+    ensures fits { OnOk result (HasRoom places (length slots.new.items) (vec_capacity slots.new)
+        (vec_capacity free.new) (length by_deadline.new) (length by_latest.new)) }
+{
+    slots.reserve(places as usize - slots.len())?;
+    free.reserve(places as usize - free.len())?;
+    by_deadline.reserve(places)?;
+    by_latest.reserve(places)?;
+    Ok(())
+}
+
 impl Pool {
     /// No jobs, and no room.
     pub fn new(alloc: Global, version: Version) -> Pool
@@ -247,10 +268,13 @@ impl Pool {
         if places <= self.room {
             return Ok(());
         }
-        self.slots.reserve(places as usize - self.slots.len())?;
-        self.free.reserve(places as usize - self.free.len())?;
-        self.by_deadline.reserve(places)?;
-        self.by_latest.reserve(places)?;
+        reserve_places(
+            &mut self.slots,
+            &mut self.free,
+            &mut self.by_deadline,
+            &mut self.by_latest,
+            places,
+        )?;
         self.room = places;
         Ok(())
     }

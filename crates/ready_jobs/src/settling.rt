@@ -18,21 +18,6 @@ use std::sync::ledger::Ledger;
 use step_count::Steps;
 
 impl Parts {
-    // The fresh job waits.
-    #[inline(always)]
-    fn wait<L: Ledger>(&mut self, steps: &mut Steps<L>)
-        requires { (rules : Rules) × (n : ℕ) × (open_step rules (state_of self.old) ≡ Waits n) }
-        ensures fresh { (f : Task) × (self.old.fresh ≡ Some f)
-            × IsReordered (with_role f Waiting ∷ self.old.waiting) self.new.waiting }
-        ensures kept { self.new ≡ record self.old { fresh = None; waiting = self.new.waiting } }
-        ensures count { (d : ℕ) → length self.old.waiting + 1 < 2 ^ d → steps.new ≤ steps.old + 2 * d }
-    {
-        match self.fresh() {
-            Some(f) => self.stay(&f, steps),
-            None => unreachable!(),
-        }
-    }
-
     // The fresh job, if there is one, gives a printed step, or it waits: no job is fresh any more.
     #[inline(always)]
     fn place<L: Ledger>(&mut self, k: Ratio, steps: &mut Steps<L>) -> Option<Deed>
@@ -49,13 +34,13 @@ impl Parts {
             steps.new ≤ steps.old + 2 * d * (length self.new.waiting - length self.old.waiting) }
     {
         self.laws();
-        if self.fresh().is_none() {
+        let Some(f) = self.fresh() else {
             return None;
-        }
+        };
         let deed = self.open_step(k);
         match deed {
             Deed::Wait { .. } => {
-                self.wait(steps);
+                self.stay(&f, steps);
                 None
             }
             _ => Some(deed),

@@ -152,3 +152,11 @@ impl ShortTask {
         }
     }
 }
+
+// The ticks that the job is still to have.
+#[inline(always)]
+pub(crate) fn left(t: &Task) -> u64
+    ensures { result ≡ left t.now }
+{
+    t.job.work().saturating_sub(t.had)
+}
