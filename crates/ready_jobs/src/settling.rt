@@ -1,13 +1,9 @@
 //! The silent steps of the ready jobs: those that print nothing.
-ghost use Rattle.std.specs.Prelude.{[], ◌≡◌, ◌≤◌, ◌<◌, ◌+◌, ◌-◌, ◌*◌, ◌^◌, ◌∷◌, ℕ, length, Some, None, IfSome, IfNone};
-ghost use Rattle.dover_model.specs.declared.events.Role.TheVariants.{Waiting};
-ghost use Rattle.dover_model.specs.declared.events.Task.{Task};
-ghost use Rattle.dover_model.specs.Instance.{Rules};
+ghost use Rattle.std.specs.Prelude.{[], ◌≡◌, ◌≤◌, ◌<◌, ◌+◌, ◌-◌, ◌*◌, ◌^◌, ℕ, length, Some, None, IfSome, IfNone};
 ghost use Rattle.dover_model.specs.Limits.{last_tick};
-ghost use Rattle.dover_model.specs.Step.{open_step, view, with_role, Waits, Ticks};
+ghost use Rattle.dover_model.specs.Step.{open_step, view, Ticks};
 ghost use Rattle.dover_model.specs.Leading.{IsSilent};
 ghost use Rattle.ready_jobs.specs.Deeds.{step_at, Finds};
-ghost use Rattle.ready_jobs.specs.Reordered.{IsReordered};
 ghost use Rattle.ready_jobs.specs.Parts.{Parted, ready_of, state_of};
 ghost use Rattle.ready_jobs.specs.Following.{IsPart, SettlesFrom};
 

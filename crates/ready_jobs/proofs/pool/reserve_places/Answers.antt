@@ -9,24 +9,19 @@ use Rattle.ready_jobs.proofs.pool.reserve_places.Goals as goal
 
 pub returns-in_err-reserve-clause-keeps : goal.returns-in_err-reserve-clause-keeps
 returns-in_err-reserve-clause-keeps c version room pool fits = (
-  moved version _ _ _ _ _ _ _ _ c.reserve.ensures.items refl
-      pool.due
-      pool.latest pool,
+  moved version _ _ _ _ _ _ _ _ c.reserve.ensures.items refl pool.due pool.latest pool,
   still_fits room _ _ _ _ _ _ _ _ _ _ fits (ap (λ l. length l) c.reserve.ensures.items)
-      c.reserve.ensures.capacity (omega arith)
-      (omega arith)
+      c.reserve.ensures.capacity (omega arith) (omega arith)
       (omega arith),
 )
 
 pub returns-in_err-reserve-2-clause-keeps : goal.returns-in_err-reserve-2-clause-keeps
 returns-in_err-reserve-2-clause-keeps c version room pool fits = (
-  moved version _ _ _ _ _ _ _ _ c.reserve.ensures.items c.reserve-2.ensures.items
-      pool.due
-      pool.latest pool,
+  moved version _ _ _ _ _ _ _ _ c.reserve.ensures.items c.reserve-2.ensures.items pool.due pool.latest
+      pool,
   still_fits room _ _ _ _ _ _ _ _ _ _ fits (ap (λ l. length l) c.reserve.ensures.items)
       c.reserve.ensures.capacity c.reserve-2.ensures.capacity
-      (omega arith)
-      (omega arith),
+      (omega arith) (omega arith),
 )
 
 pub returns-in_err-reserve-3-clause-keeps : goal.returns-in_err-reserve-3-clause-keeps
@@ -45,10 +40,12 @@ returns-in_err-reserve-4-clause-keeps c version room pool fits = (
   moved version _ _ _ _ _ _ _ _ c.reserve.ensures.items c.reserve-2.ensures.items
       (table_grows (due_item version) c.args.slots.now.items c.args.by_deadline.now c.reserve-3.new.self
       (c.args.places - length c.args.by_deadline.now) pool.due c.in_ok-reserve-3.ensures.ok)
-      (subst (HasItems (latest_item version) c.args.slots.now.items) (sym c.in_err-reserve-4.ensures.err) pool.latest) pool,
+      (subst (HasItems (latest_item version) c.args.slots.now.items) (sym c.in_err-reserve-4.ensures.err) pool.latest)
+      pool,
   still_fits room _ _ _ _ _ _ _ _ _ _ fits (ap (λ l. length l) c.reserve.ensures.items)
       c.reserve.ensures.capacity c.reserve-2.ensures.capacity
-      (no_shorter c.args.by_deadline.now c.reserve-3.new.self (c.args.places - length c.args.by_deadline.now) c.in_ok-reserve-3.ensures.ok)
+      (no_shorter c.args.by_deadline.now c.reserve-3.new.self (c.args.places - length c.args.by_deadline.now)
+      c.in_ok-reserve-3.ensures.ok)
       (omega (arith, ap (λ l. length l) c.in_err-reserve-4.ensures.err)),
 )
 
@@ -61,8 +58,10 @@ returns-clause-keeps c version room pool fits = (
       (c.args.places - length c.args.by_latest.now) pool.latest c.in_ok-reserve-4.ensures.ok) pool,
   still_fits room _ _ _ _ _ _ _ _ _ _ fits (ap (λ l. length l) c.reserve.ensures.items)
       c.reserve.ensures.capacity c.reserve-2.ensures.capacity
-      (no_shorter c.args.by_deadline.now c.reserve-3.new.self (c.args.places - length c.args.by_deadline.now) c.in_ok-reserve-3.ensures.ok)
-      (no_shorter c.args.by_latest.now c.reserve-4.new.self (c.args.places - length c.args.by_latest.now) c.in_ok-reserve-4.ensures.ok),
+      (no_shorter c.args.by_deadline.now c.reserve-3.new.self (c.args.places - length c.args.by_deadline.now)
+      c.in_ok-reserve-3.ensures.ok)
+      (no_shorter c.args.by_latest.now c.reserve-4.new.self (c.args.places - length c.args.by_latest.now)
+      c.in_ok-reserve-4.ensures.ok),
 )
 
 pub returns-clause-fits : goal.returns-clause-fits

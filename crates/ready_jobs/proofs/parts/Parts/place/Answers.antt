@@ -8,18 +8,21 @@ open_step-deed-requires g c = known_sound _ c.args.self.now c.laws.ensures.roles
 
 pub returns-in-Wait-clause-settles : goal.returns-in-Wait-clause-settles
 returns-in-Wait-clause-settles g c mark =
-    let stays : Stayed c.args.self.now c.stay.new.self = (c.in-Some.f, sym c.fresh.ensures.is ∙ c.in-Some.is, c.stay.ensures.waits) in
+    let stays : Stayed c.args.self.now c.stay.new.self =
+    (c.in-Some.f, sym c.fresh.ensures.is ∙ c.in-Some.is, c.stay.ensures.waits) in
     waits_settles c.args.k mark c.args.self.now c.stay.new.self c.in-Wait.number c.laws.ensures.roles
     (sym c.open_step-deed.ensures.is ∙ ap (step_at c.args.self.now.clock) c.in-Wait.is) stays
     c.stay.ensures.kept
 
 pub returns-in-Wait-clause-fewer : goal.returns-in-Wait-clause-fewer
 returns-in-Wait-clause-fewer g c =
-    let stays : Stayed c.args.self.now c.stay.new.self = (c.in-Some.f, sym c.fresh.ensures.is ∙ c.in-Some.is, c.stay.ensures.waits) in
+    let stays : Stayed c.args.self.now c.stay.new.self =
+    (c.in-Some.f, sym c.fresh.ensures.is ∙ c.in-Some.is, c.stay.ensures.waits) in
     waits_count c.args.self.now c.stay.new.self stays c.stay.ensures.kept
 
 pub returns-in-Wait-clause-count : goal.returns-in-Wait-clause-count
 returns-in-Wait-clause-count g c d large =
-    let stays : Stayed c.args.self.now c.stay.new.self = (c.in-Some.f, sym c.fresh.ensures.is ∙ c.in-Some.is, c.stay.ensures.waits) in
+    let stays : Stayed c.args.self.now c.stay.new.self =
+    (c.in-Some.f, sym c.fresh.ensures.is ∙ c.in-Some.is, c.stay.ensures.waits) in
     waits_cost c.args.self.now c.stay.new.self c.stay.new.self d c.args.steps.now c.stay.new.steps
     stays refl (c.stay.ensures.count d large)
