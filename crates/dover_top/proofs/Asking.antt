@@ -1,6 +1,6 @@
 -- That words ask for one thing at most.
-use Rattle.std.proofs.Common.{◌≡◌, ℕ, ◌+◌, ◌<◌, ◌^◌, List, [], ◌∷◌, String, get_or, decimal, sym, ap, ◌∙◌, inl, inr}
-use Rattle.std.proofs.Common.{subst, arith, drop, Option, Some, None}
+use Rattle.std.proofs.Common.{◌≡◌, ℕ, ◌+◌, ◌<◌, ◌^◌, List, [], ◌∷◌, String, get_or, decimal, sym, ap, ◌∙◌}
+use Rattle.std.proofs.Common.{subst, arith, drop, length, refl, suc, zero, string_bytes, Option, Some, None}
 use Rattle.std.specs.Prelude.{codes, bytes_eq, unwrap_or, if◌then◌else◌}
 use Rattle.std.specs.declared.alloc.Global.{Global}
 use Rattle.report_word.specs.declared.form.Form.{Form}
@@ -12,7 +12,7 @@ use Rattle.dover_model.specs.Fraction.{Fraction, IsRatio}
 use Rattle.dover_model.specs.Numerals.{numeral}
 use Rattle.dover_model.proofs.Numerals.{numeral-decimal}
 use Rattle.dover_top.specs.Requests.{Asks}
-use Rattle.dover_top.specs.Words.{spelled}
+use Rattle.dover_top.specs.Words.{IsFormed, form_words, spelled}
 use Rattle.dover_top.specs.declared.request.Request.{Request}
 use Rattle.dover_top.specs.declared.request.Request.TheVariants.{Serve, Judge, Report, Trial, Bait, Ask, Lanes, Pause}
 use Rattle.dover_top.specs.declared.request.Request.TheVariants.{Resume, Unroll, Duel, Draw}
@@ -174,3 +174,56 @@ is_read words (Duel k share (Some count)) asks = ap request_of asks.row
 -- words that ask for two things ask for one
 pub asks_one : (words : List (String Global)) (r other : Request) → Asks words r → Asks words other → r ≡ other
 asks_one words r other one two = sym (is_read words r one) ∙ is_read words other two
+
+-- words that ask for something ask for what they are read as
+pub asks_read : (word : String Global) (words : List (String Global)) (r : Request) (text : List ℕ)
+    → string_bytes word ≡ text → Asks (word ∷ words) r → Asks (word ∷ words) (request_of (text ∷ spelled words))
+asks_read word words r text is asks =
+    subst (Asks (word ∷ words)) (sym (is_read (word ∷ words) r asks) ∙ ap (λ w. request_of (w ∷ spelled words)) is) asks
+
+-- words for a report name its form
+pub asks_report : (word : String Global) (words : List (String Global)) (r : Request)
+    → string_bytes word ≡ codes "report" → Asks (word ∷ words) r
+    → (form : Form) × (spelled words ≡ form_words form) × IsFormed form
+asks_report word words r is asks =
+    let it = asks_read word words r (codes "report") is asks in (_, ap (drop 1) it.row, it.formed)
+
+-- ---- words one by one
+
+-- there are as many as there are words
+pub length_spelled : (words : List (String Global)) → length (spelled words) ≡ length words
+length_spelled [] = refl
+length_spelled (word ∷ words) = ap suc (length_spelled words)
+
+-- a word's bytes are what its place spells
+at_place : (words : List (String Global)) (n : ℕ) (word : String Global) → n < length words
+    → string_bytes (get_or words n word) ≡ get_or (spelled words) n []
+at_place [] n word low = absurd (omega (arith, low))
+at_place (w ∷ words) zero word low = refl
+at_place (w ∷ words) (suc n) word low = at_place words n word (omega (arith, low))
+
+-- so a word of a row spells what the row has there
+pub place_spells : (words : List (String Global)) (n : ℕ) (word : String Global) (row : List (List ℕ)) → n < length words
+    → word ≡ get_or words n word → spelled words ≡ row → string_bytes word ≡ get_or row n []
+place_spells words n word row low is e =
+    ap string_bytes is ∙ at_place words n word low ∙ ap (λ l. get_or l n []) e
+
+-- a row is its first word, and the words behind it
+pub row_of : (word : String Global) (words : List (String Global)) (first : List ℕ) (rest : List (List ℕ))
+    → string_bytes word ≡ first → spelled words ≡ rest → spelled (word ∷ words) ≡ first ∷ rest
+row_of word words first rest e f = cc
+
+-- words from a place on spell a row whose first is spelled there
+pub spelled_from : (words : List (String Global)) (n : ℕ) (word : String Global) {first : List ℕ}
+    {rest : List (List ℕ)} → n < length words → word ≡ get_or words n word → string_bytes word ≡ first
+    → spelled (drop (suc n) words) ≡ rest → spelled (drop n words) ≡ first ∷ rest
+spelled_from [] n word low is e f = absurd (omega (arith, low))
+spelled_from (w ∷ words) zero word low is e f = row_of w words _ _ (ap string_bytes (sym is) ∙ e) f
+spelled_from (w ∷ words) (suc n) word low is e f = spelled_from words n word (omega (arith, low)) is e f
+
+-- behind the last there is no more
+pub spelled_end : (words : List (String Global)) (n : ℕ) → length words ≡ n → spelled (drop n words) ≡ []
+spelled_end [] zero e = refl
+spelled_end [] (suc n) e = refl
+spelled_end (w ∷ words) zero e = absurd (omega (arith, e))
+spelled_end (w ∷ words) (suc n) e = spelled_end words n (omega (arith, e))

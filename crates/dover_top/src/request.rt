@@ -1,10 +1,15 @@
 //! What the words of the command line ask for.
-ghost use Rattle.std.specs.Prelude.{◌≡◌, ◌≤◌, ◌<◌, ◌∷◌, [], ◌^◌, ℕ, IfSome, IsNone, Some, decimal, map, string_bytes};
+ghost use Rattle.std.specs.Prelude.{◌≡◌, ◌≤◌, ◌<◌, ◌∷◌, [], ◌^◌, ℕ, IfSome, IsNone, Option, String, codes, decimal};
+ghost use Rattle.std.specs.Prelude.{length, map, string_bytes};
+ghost use Rattle.std.specs.declared.alloc.Global.{Global};
 ghost use Rattle.duel.specs.declared.links.Share.{Share};
 ghost use Rattle.duel.specs.Kept.{IsShare};
 ghost use Rattle.run_view.specs.declared.window.Window.{Window};
-ghost use Rattle.dover_top.specs.Words.{IsWindow, window_words};
+ghost use Rattle.dover_top.specs.Words.{IsFormed, IsFront, IsWindow, form_words, front_words};
+ghost use Rattle.dover_top.specs.Words.{window_words};
 ghost use Rattle.dover_model.specs.Fraction.{Fraction, IsRatio};
+ghost use Rattle.dover_model.specs.Limits.{most_jobs};
+ghost use Rattle.dover_model.specs.declared.events.Version.TheVariants.{Two};
 ghost use Rattle.dover_top.specs.Requests.{Asks};
 ghost use Rattle.dover_top.specs.declared.request.Request.{Request};
 
@@ -85,6 +90,18 @@ fn number(word: &String, least: u64, most: u64) -> Option<u64>
     Some(number)
 }
 
+/// The number that the only word spells, if it is from `least` to `most`.
+fn lone(words: &[String], least: u64, most: u64) -> Option<u64>
+    requires { most < 10 ^ 18 }
+    ensures some { IfSome result (λ n. (map string_bytes words.now ≡ decimal n ∷ []) × (least ≤ n) × (n ≤ most)) }
+    ensures none { IsNone result → (n : ℕ) → least ≤ n → n ≤ most → map string_bytes words.now ≡ decimal n ∷ [] → ⊥ }
+{
+    let [word] = words else {
+        return None;
+    };
+    number(word, least, most)
+}
+
 /// The ratio whose numbers these words spell, if it is one.
 fn ratio(p: &String, q: &String) -> Option<Ratio>
     ensures some { IfSome result
@@ -109,16 +126,49 @@ fn share(part: &String, whole: &String) -> Option<Share>
     Some(Share { part, whole })
 }
 
-/// The window that these words spell: two numerals, of which the first is below the second.
-fn window(from: &String, until: &String) -> Option<Window>
-    ensures some { IfSome result
-        (λ w. IsWindow (Some w) × (map string_bytes (from.now ∷ until.now ∷ []) ≡ window_words (Some w))) }
-    ensures none { IsNone result → (w : Window) → IsWindow (Some w) →
-        map string_bytes (from.now ∷ until.now ∷ []) ≡ window_words (Some w) → ⊥ }
+/// The window whose ticks these words spell, the first below the second, or none where there are no words.
+fn window(words: &[String]) -> Option<Option<Window>>
+    ensures some { IfSome result (λ w. IsWindow w × (map string_bytes words.now ≡ window_words w)) }
+    ensures none { IsNone result → (w : Option Window) → IsWindow w →
+        map string_bytes words.now ≡ window_words w → ⊥ }
 {
-    let from = number(from, 0, MOST_NUMBER)?;
-    let until = number(until, from + 1, MOST_NUMBER)?;
-    Some(Window { from, until })
+    match words {
+        [] => Some(None),
+        [from, until] => {
+            let from = number(from, 0, MOST_NUMBER)?;
+            let until = number(until, from + 1, MOST_NUMBER)?;
+            Some(Some(Window { from, until }))
+        }
+        _ => None,
+    }
+}
+
+/// The front whose number of jobs the word spells, or none where there is no word.
+fn front(words: &[String]) -> Option<Option<u32>>
+    ensures some { IfSome result (λ f. IsFront f × (map string_bytes words.now ≡ front_words f)) }
+    ensures none { IsNone result → (f : Option ℕ) → IsFront f → map string_bytes words.now ≡ front_words f → ⊥ }
+{
+    if words.is_empty() {
+        return Some(None);
+    }
+    let count = lone(words, 1, MOST)? as u32;
+    Some(Some(count))
+}
+
+/// The form of this name, on a window if there is one.
+fn form_on(name: &String, window: Option<Window>) -> Option<Form>
+    ensures some { IfSome result (λ f. (string_bytes name.now ∷ window_words window ≡ form_words f)
+        × (IsWindow window → IsFormed f)) }
+    ensures none { IsNone result → (f : Form) → string_bytes name.now ∷ window_words window ≡ form_words f → ⊥ }
+{
+    match (name.as_str(), window) {
+        ("text", None) => Some(Form::Text),
+        ("csv", None) => Some(Form::Table),
+        ("chrome", None) => Some(Form::Chrome),
+        ("timeline", _) => Some(Form::Timeline(window)),
+        ("svg", _) => Some(Form::Svg(window)),
+        _ => None,
+    }
 }
 
 /// One word.
@@ -140,121 +190,115 @@ fn one_word(word: &String) -> Option<Request>
     }
 }
 
-/// The words `resume pause`, the word `unroll` and a tick, or the word `report` and a form.
-fn two_words(word: &String, last: &String) -> Option<Request>
-    ensures some { IfSome result (λ r. Asks (word.now ∷ last.now ∷ []) r) }
-    ensures none { IsNone result → (r : Request) → Asks (word.now ∷ last.now ∷ []) r → ⊥ }
+/// The words behind `report`: a form, and what it is on.
+fn report(words: &[String]) -> Option<Request>
+    ensures some { (word : String Global) → string_bytes word ≡ codes "report" →
+        IfSome result (λ r. Asks (word ∷ words.now) r) }
+    ensures none { (word : String Global) → string_bytes word ≡ codes "report" →
+        IsNone result → (r : Request) → Asks (word ∷ words.now) r → ⊥ }
 {
-    match (word.as_str(), last.as_str()) {
-        ("resume", "pause") => Some(Request::Resume(AtEnd::Pause)),
-        ("unroll", _) => {
-            let until = number(last, 0, LAST_TICK)?;
-            Some(Request::Unroll { until })
+    let (name, words) = words.split_first()?;
+    match name.as_str() {
+        "why" => {
+            let job = lone(words, 0, MOST)? as u32;
+            Some(Request::Report(Form::Why(job)))
         }
-        ("report", "text") => Some(Request::Report(Form::Text)),
-        ("report", "csv") => Some(Request::Report(Form::Table)),
-        ("report", "chrome") => Some(Request::Report(Form::Chrome)),
-        ("report", "timeline") => Some(Request::Report(Form::Timeline(None))),
-        ("report", "svg") => Some(Request::Report(Form::Svg(None))),
+        _ => {
+            let form = form_on(name, window(words)?)?;
+            Some(Request::Report(form))
+        }
+    }
+}
+
+/// The words behind `bait`: a ratio, and so many rounds.
+fn bait(words: &[String]) -> Option<Request>
+    ensures some { (word : String Global) → string_bytes word ≡ codes "bait" →
+        IfSome result (λ r. Asks (word ∷ words.now) r) }
+    ensures none { (word : String Global) → string_bytes word ≡ codes "bait" →
+        IsNone result → (r : Request) → Asks (word ∷ words.now) r → ⊥ }
+{
+    let [p, q, rounds] = words else {
+        return None;
+    };
+    let k = ratio(p, q)?;
+    let rounds = number(rounds, 1, MOST)? as u32;
+    Some(Request::Bait { k, rounds })
+}
+
+/// The words behind `duel`: a ratio, a share, and a front if there is one.
+fn duel(words: &[String]) -> Option<Request>
+    ensures some { (word : String Global) → string_bytes word ≡ codes "duel" →
+        IfSome result (λ r. Asks (word ∷ words.now) r) }
+    ensures none { (word : String Global) → string_bytes word ≡ codes "duel" →
+        IsNone result → (r : Request) → Asks (word ∷ words.now) r → ⊥ }
+{
+    let [p, q, part, whole, last @ ..] = words else {
+        return None;
+    };
+    let k = ratio(p, q)?;
+    let share = share(part, whole)?;
+    let front = front(last)?;
+    Some(Request::Duel { k, share, front })
+}
+
+/// The words behind `trial` and behind `draw`: a seed, how many jobs, and a ratio.
+fn stated(words: &[String]) -> Option<(u32, u32, Ratio)>
+    ensures some { IfSome result (λ s. (map string_bytes words.now
+        ≡ decimal s.0 ∷ decimal s.1 ∷ decimal s.2.p ∷ decimal s.2.q ∷ [])
+        × (s.0 < 2 ^ 31) × (s.1 ≤ most_jobs Two) × IsRatio s.2) }
+    ensures none { IsNone result → (seed count : ℕ) (k : Fraction) → seed < 2 ^ 31 → count ≤ most_jobs Two →
+        IsRatio k → map string_bytes words.now
+        ≡ decimal seed ∷ decimal count ∷ decimal k.p ∷ decimal k.q ∷ [] → ⊥ }
+{
+    let [seed, count, p, q] = words else {
+        return None;
+    };
+    let seed = number(seed, 0, MOST_SEED)? as u32;
+    let count = number(count, 0, MOST)? as u32;
+    let k = ratio(p, q)?;
+    Some((seed, count, k))
+}
+
+/// The word behind `resume` that asks for another pause.
+fn paused(words: &[String]) -> Option<Request>
+    requires { 0 < length words.now }
+    ensures some { (word : String Global) → string_bytes word ≡ codes "resume" →
+        IfSome result (λ r. Asks (word ∷ words.now) r) }
+    ensures none { (word : String Global) → string_bytes word ≡ codes "resume" →
+        IsNone result → (r : Request) → Asks (word ∷ words.now) r → ⊥ }
+{
+    let [last] = words else {
+        return None;
+    };
+    match last.as_str() {
+        "pause" => Some(Request::Resume(AtEnd::Pause)),
         _ => None,
     }
 }
 
-/// The words `report` and `why`, and the number of a job.
-fn three_words(word: &String, form: &String, job: &String) -> Option<Request>
-    ensures some { IfSome result (λ r. Asks (word.now ∷ form.now ∷ job.now ∷ []) r) }
-    ensures none { IsNone result → (r : Request) → Asks (word.now ∷ form.now ∷ job.now ∷ []) r → ⊥ }
-{
-    match (word.as_str(), form.as_str()) {
-        ("report", "why") => {
-            let job = number(job, 0, MOST)?;
-            Some(Request::Report(Form::Why(job as u32)))
-        }
-        _ => None,
-    }
-}
-
-/// The words `bait P Q N`, or the word `report`, a form that has a window, and the window's ticks.
-fn four_words(word: &String, second: &String, third: &String, last: &String) -> Option<Request>
-    ensures some { IfSome result (λ r. Asks (word.now ∷ second.now ∷ third.now ∷ last.now ∷ []) r) }
-    ensures none { IsNone result → (r : Request) →
-        Asks (word.now ∷ second.now ∷ third.now ∷ last.now ∷ []) r → ⊥ }
-{
-    match (word.as_str(), second.as_str()) {
-        ("bait", _) => {
-            let k = ratio(second, third)?;
-            let rounds = number(last, 1, MOST)? as u32;
-            Some(Request::Bait { k, rounds })
-        }
-        ("report", "timeline") => {
-            let window = window(third, last)?;
-            Some(Request::Report(Form::Timeline(Some(window))))
-        }
-        ("report", "svg") => {
-            let window = window(third, last)?;
-            Some(Request::Report(Form::Svg(Some(window))))
-        }
-        _ => None,
-    }
-}
-
-/// The words `trial SEED COUNT P Q`, `draw SEED COUNT P Q`, or `duel P Q A B`.
-fn five_words(
-    word: &String,
-    second: &String,
-    third: &String,
-    fourth: &String,
-    last: &String,
-) -> Option<Request>
-    ensures some { IfSome result (λ r.
-        Asks (word.now ∷ second.now ∷ third.now ∷ fourth.now ∷ last.now ∷ []) r) }
-    ensures none { IsNone result → (r : Request) →
-        Asks (word.now ∷ second.now ∷ third.now ∷ fourth.now ∷ last.now ∷ []) r → ⊥ }
+/// Words of which there is more than one.
+fn more_words(word: &String, words: &[String]) -> Option<Request>
+    requires { 0 < length words.now }
+    ensures some { IfSome result (λ r. Asks (word.now ∷ words.now) r) }
+    ensures none { IsNone result → (r : Request) → Asks (word.now ∷ words.now) r → ⊥ }
 {
     match word.as_str() {
+        "report" => report(words),
         "trial" => {
-            let seed = number(second, 0, MOST_SEED)? as u32;
-            let count = number(third, 0, MOST)? as u32;
-            let k = ratio(fourth, last)?;
+            let (seed, count, k) = stated(words)?;
             Some(Request::Trial { seed, count, k })
         }
         "draw" => {
-            let seed = number(second, 0, MOST_SEED)? as u32;
-            let count = number(third, 0, MOST)? as u32;
-            let k = ratio(fourth, last)?;
+            let (seed, count, k) = stated(words)?;
             Some(Request::Draw { seed, count, k })
         }
-        "duel" => {
-            let k = ratio(second, third)?;
-            let share = share(fourth, last)?;
-            let front = None;
-            Some(Request::Duel { k, share, front })
+        "bait" => bait(words),
+        "duel" => duel(words),
+        "unroll" => {
+            let until = lone(words, 0, LAST_TICK)?;
+            Some(Request::Unroll { until })
         }
-        _ => None,
-    }
-}
-
-/// The words `duel P Q A B L`.
-fn six_words(
-    word: &String,
-    p: &String,
-    q: &String,
-    part: &String,
-    whole: &String,
-    front: &String,
-) -> Option<Request>
-    ensures some { IfSome result (λ r.
-        Asks (word.now ∷ p.now ∷ q.now ∷ part.now ∷ whole.now ∷ front.now ∷ []) r) }
-    ensures none { IsNone result → (r : Request) →
-        Asks (word.now ∷ p.now ∷ q.now ∷ part.now ∷ whole.now ∷ front.now ∷ []) r → ⊥ }
-{
-    match word.as_str() {
-        "duel" => {
-            let k = ratio(p, q)?;
-            let share = share(part, whole)?;
-            let front = Some(number(front, 1, MOST)? as u32);
-            Some(Request::Duel { k, share, front })
-        }
+        "resume" => paused(words),
         _ => None,
     }
 }
@@ -264,13 +308,9 @@ pub(crate) fn asked(words: &[String]) -> Option<Request>
     ensures some { IfSome result (λ r. Asks words.now r) }
     ensures none { IsNone result → (r : Request) → Asks words.now r → ⊥ }
 {
-    match words {
-        [word] => one_word(word),
-        [word, last] => two_words(word, last),
-        [word, form, job] => three_words(word, form, job),
-        [word, second, third, last] => four_words(word, second, third, last),
-        [word, second, third, fourth, last] => five_words(word, second, third, fourth, last),
-        [word, p, q, part, whole, front] => six_words(word, p, q, part, whole, front),
-        _ => None,
+    let (word, words) = words.split_first()?;
+    if words.is_empty() {
+        return one_word(word);
     }
+    more_words(word, words)
 }
