@@ -1,11 +1,13 @@
 -- The lines of so many jobs, one behind another.
 use Rattle.std.proofs.Common.{◌≡◌, ℕ, zero, suc, ◌+◌, ◌≤◌, ◌<◌, List, [], ◌∷◌, ◌++◌, length, length-append, map}
-use Rattle.std.proofs.Common.{append_assoc, refl, sym, ap, ◌∙◌, subst, take, Option, Some, None, Result, arith}
+use Rattle.std.proofs.Common.{append_assoc, refl, sym, ap, ◌∙◌, subst, take, Option, Some, None, Result, Ok, Err, arith}
 use Rattle.std.specs.List.{AllByRecursion}
 use Rattle.std.proofs.lemmas.List.{append-nil, map-append}
 use Rattle.dover_model.specs.JobFacts.{JobFacts, IsJob}
 use Rattle.dover_model.specs.Lines.{in_lines}
 use Rattle.dover_model.proofs.Valid.{all_back}
+use Rattle.dover_port.specs.Causes.{HasCause, StaysWell, StopsAtFailure}
+use Rattle.dover_port.specs.declared.calls.Calls.{Calls}
 use Rattle.dover_port.specs.Moves.{Move, Passes, CutsShort, PutsThrough, IsProperPrefix}
 use Rattle.dover_port.proofs.Through.{passes_then, passes_then_cut, cut_longer}
 use Rattle.duel.specs.declared.coming.Next.{Next}
@@ -132,3 +134,15 @@ pub nothing_before : (put before text other : List ℕ) → before ≡ [] → te
     → put ≡ other
 nothing_before put before text other none same it =
     sym (append-nil put) ∙ it ∙ ap (λ b. b ++ text) none ∙ same
+
+-- a call behind one that went well leaves the counts of faults as both do
+pub cause_behind : {T E : Type 0} (w0 w1 w2 r0 r1 r2 : ℕ) (result : Result T E) → w1 ≡ w0 → r1 ≡ r0
+    → HasCause w1 w2 r1 r2 result → HasCause w0 w2 r0 r2 result
+cause_behind w0 w1 w2 r0 r1 r2 result writes reads it =
+    subst (λ w. HasCause w w2 r0 r2 result) writes (subst (λ r. HasCause w1 w2 r r2 result) reads it)
+
+-- and what it leaves of the calls is what both do
+pub stops_behind : {T E : Type 0} (a b c : Calls) (result : Result T E) → StaysWell a b → StopsAtFailure b c result
+    → StopsAtFailure a c result
+stops_behind a b c (Ok x) first it = record { well = λ well. it.well (first well); stopped = tt }
+stops_behind a b c (Err x) first it = record { well = tt; stopped = λ well. it.stopped (first well) }

@@ -44,3 +44,33 @@ returns-in-Err-put_all-clause-baits g c = since_weaker _ _ _ _ (of_text _ _ Writ
     (c.bytes.ensures.is ∙ c.text_of.ensures.text
     ∙ ap (λ (b : Baiting). bait_text b.ratio b.rounds) c.in-Some.ensures.feed)
     c.in-Err-put_all.ensures.text.part) (λ moves put. inl (c.in-Some.ensures.fits.0 refl, put))
+
+pub returns-in-Ok-clause-causes : goal.returns-in-Ok-clause-causes
+returns-in-Ok-clause-causes g c = (c.in-Ok.ensures.cause.other, c.in-Ok.ensures.cause.ok)
+
+pub returns-in-Ok-clause-stops : goal.returns-in-Ok-clause-stops
+returns-in-Ok-clause-stops g c = c.in-Ok.ensures.stops.well
+
+pub returns-in-Err-clause-ends : goal.returns-in-Err-clause-ends
+returns-in-Err-clause-ends g c = inl refl
+
+pub returns-in-Err-clause-causes : goal.returns-in-Err-clause-causes
+returns-in-Err-clause-causes g c = (c.in-Err.ensures.cause.other, c.in-Err.ensures.cause.failed)
+
+pub returns-in-Err-clause-stops : goal.returns-in-Err-clause-stops
+returns-in-Err-clause-stops g c = c.in-Err.ensures.stops.stopped
+
+pub returns-in-Ok-put_all-clause-causes : goal.returns-in-Ok-put_all-clause-causes
+returns-in-Ok-put_all-clause-causes g c = (c.in-Ok-put_all.ensures.cause.other, c.in-Ok-put_all.ensures.cause.ok)
+
+pub returns-in-Ok-put_all-clause-stops : goal.returns-in-Ok-put_all-clause-stops
+returns-in-Ok-put_all-clause-stops g c = c.in-Ok-put_all.ensures.stops.well
+
+pub returns-in-Err-put_all-clause-ends : goal.returns-in-Err-put_all-clause-ends
+returns-in-Err-put_all-clause-ends g c = inl refl
+
+pub returns-in-Err-put_all-clause-causes : goal.returns-in-Err-put_all-clause-causes
+returns-in-Err-put_all-clause-causes g c = (c.in-Err-put_all.ensures.cause.other, c.in-Err-put_all.ensures.cause.failed)
+
+pub returns-in-Err-put_all-clause-stops : goal.returns-in-Err-put_all-clause-stops
+returns-in-Err-put_all-clause-stops g c = c.in-Err-put_all.ensures.stops.stopped

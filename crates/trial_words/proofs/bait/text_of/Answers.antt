@@ -1,4 +1,4 @@
-use Rattle.std.proofs.Common.{◌≤◌, ◌∙◌, sym, ap, subst}
+use Rattle.std.proofs.Common.{◌≤◌, ℕ, List, length, ◌∙◌, sym, ap, subst, arith}
 use Rattle.dover_model.specs.Bound.{bound}
 use Rattle.dover_model.specs.declared.events.Version.TheVariants.{Two}
 use Rattle.dover_model.specs.Limits.{most_total}
@@ -10,6 +10,36 @@ bound-requires c = record {
   completed = subst (λ v. v ≤ most_total Two) (sym c.value-value.ensures.completed)
       (value_within _ _ c.jobs.ensures.ratio c.jobs.ensures.some c.jobs.ensures.fits);
 }
+
+pub put_with_wide-requires : goal.put_with_wide-requires
+put_with_wide-requires c = omega (arith, ap (λ (bs : List ℕ). length bs) c.new-text.ensures)
+
+pub put_with_wide-requires-2 : goal.put_with_wide-requires-2
+put_with_wide-requires-2 c = omega (
+  arith,
+  ap (λ (bs : List ℕ). length bs) c.new-text.ensures,
+  c.put_with_wide.ensures.size,
+)
+
+pub put_with_wide-requires-3 : goal.put_with_wide-requires-3
+put_with_wide-requires-3 c = omega (
+  arith,
+  ap (λ (bs : List ℕ). length bs) c.new-text.ensures,
+  c.put_with_wide.ensures.size,
+  c.put_with_wide-2.ensures.size,
+)
+
+pub put_with_wide-requires-4 : goal.put_with_wide-requires-4
+put_with_wide-requires-4 c = omega (
+  arith,
+  ap (λ (bs : List ℕ). length bs) c.new-text.ensures,
+  c.put_with_wide.ensures.size,
+  c.put_with_wide-2.ensures.size,
+  c.put_with_wide-3.ensures.size,
+)
+
+pub returns-clause-alone : goal.returns-clause-alone
+returns-clause-alone c = c.value-value.ensures.alone
 
 pub returns-clause-text : goal.returns-clause-text
 returns-clause-text c =

@@ -1,4 +1,5 @@
 use Rattle.line_output.proofs.Putting.{puts_behind, puts_cut}
+use Rattle.trial_words.proofs.Putting.{cause_behind, stops_behind}
 use Rattle.trial_words.proofs.Turning.{feed_put}
 use Rattle.trial_words.proofs.draw.put_feed.Goals as goal
 
@@ -22,3 +23,41 @@ returns-clause-text g c = feed_put _ _ _ _ _ c.args.k c.args.turns.now
     (puts_behind _ _ _ _ _ _ _ _ _ c.in-Ok.ensures.text.all
     (puts_behind _ _ _ _ _ _ _ _ _ c.in-Ok-put_turns.ensures.text.all
     (puts_behind _ _ _ _ _ _ _ _ _ c.in-Ok-put_numbers.ensures.text.all c.flush.ensures.text)))
+
+pub returns-in-Err-clause-cause : goal.returns-in-Err-clause-cause
+returns-in-Err-clause-cause g c = c.in-Err.ensures.cause
+
+pub returns-in-Err-clause-stops : goal.returns-in-Err-clause-stops
+returns-in-Err-clause-stops g c = c.in-Err.ensures.stops
+
+pub returns-in-Err-put_turns-clause-cause : goal.returns-in-Err-put_turns-clause-cause
+returns-in-Err-put_turns-clause-cause g c =
+    cause_behind _ _ _ _ _ _ _ c.in-Ok.ensures.cause.ok c.in-Ok.ensures.cause.other c.in-Err-put_turns.ensures.cause
+
+pub returns-in-Err-put_turns-clause-stops : goal.returns-in-Err-put_turns-clause-stops
+returns-in-Err-put_turns-clause-stops g c =
+    stops_behind _ _ _ _ c.in-Ok.ensures.stops.well c.in-Err-put_turns.ensures.stops
+
+pub returns-in-Err-put_numbers-clause-cause : goal.returns-in-Err-put_numbers-clause-cause
+returns-in-Err-put_numbers-clause-cause g c =
+    cause_behind _ _ _ _ _ _ _ c.in-Ok.ensures.cause.ok c.in-Ok.ensures.cause.other
+    (cause_behind _ _ _ _ _ _ _ c.in-Ok-put_turns.ensures.cause.ok c.in-Ok-put_turns.ensures.cause.other
+    c.in-Err-put_numbers.ensures.cause)
+
+pub returns-in-Err-put_numbers-clause-stops : goal.returns-in-Err-put_numbers-clause-stops
+returns-in-Err-put_numbers-clause-stops g c =
+    stops_behind _ _ _ _ c.in-Ok.ensures.stops.well
+    (stops_behind _ _ _ _ c.in-Ok-put_turns.ensures.stops.well c.in-Err-put_numbers.ensures.stops)
+
+pub returns-clause-cause : goal.returns-clause-cause
+returns-clause-cause g c =
+    cause_behind _ _ _ _ _ _ _ c.in-Ok.ensures.cause.ok c.in-Ok.ensures.cause.other
+    (cause_behind _ _ _ _ _ _ _ c.in-Ok-put_turns.ensures.cause.ok c.in-Ok-put_turns.ensures.cause.other
+    (cause_behind _ _ _ _ _ _ _ c.in-Ok-put_numbers.ensures.cause.ok c.in-Ok-put_numbers.ensures.cause.other
+    c.flush.ensures.cause))
+
+pub returns-clause-stops : goal.returns-clause-stops
+returns-clause-stops g c =
+    stops_behind _ _ _ _ c.in-Ok.ensures.stops.well
+    (stops_behind _ _ _ _ c.in-Ok-put_turns.ensures.stops.well
+    (stops_behind _ _ _ _ c.in-Ok-put_numbers.ensures.stops.well c.flush.ensures.stops))
