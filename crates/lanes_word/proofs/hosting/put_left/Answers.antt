@@ -75,3 +75,24 @@ returns-in-Err-clause-idle g c = c.next_out.ensures.idle c.loop.invariant.closed
 
 pub returns-in_default-clause-idle : goal.returns-in_default-clause-idle
 returns-in_default-clause-idle g c = c.next_out.ensures.idle c.loop.invariant.closed ∙ c.loop.invariant.idle
+
+pub returns-in_default-clause-cause : goal.returns-in_default-clause-cause
+returns-in_default-clause-cause g c = let kept = c.loop.invariant in record {
+  later = omega (arith, kept.writes);
+  ok = kept.writes;
+  failed = tt;
+  other = kept.reads;
+}
+
+pub returns-in_default-clause-stops : goal.returns-in_default-clause-stops
+returns-in_default-clause-stops g c = record { well = c.loop.invariant.calls; stopped = tt }
+
+pub returns-in-Err-clause-cause : goal.returns-in-Err-clause-cause
+returns-in-Err-clause-cause g c =
+    rw (c.loop.invariant.writes, c.loop.invariant.reads) at c.in-Err.ensures.cause
+
+pub returns-in-Err-clause-stops : goal.returns-in-Err-clause-stops
+returns-in-Err-clause-stops g c = record {
+  well = tt;
+  stopped = λ well. c.in-Err.ensures.stops.stopped (c.loop.invariant.calls well);
+}

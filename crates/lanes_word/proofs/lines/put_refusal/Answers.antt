@@ -14,3 +14,6 @@ put_word-requires-2 g c = rw (c.put_number.ensures, c.put_word.ensures, c.new-li
 pub put_line-requires : goal.put_line-requires
 put_line-requires g c = rw (c.put_word-2.ensures, c.put_number.ensures, c.put_word.ensures, c.new-line.ensures)
     (omega (arith, whole_line c.args.number c.args.word.now (omega arith) c.requires))
+
+pub put_word-requires : goal.put_word-requires
+put_word-requires g c = rw c.new-line.ensures (omega arith)

@@ -95,3 +95,31 @@ returns-in-Ok-put_refusal-clause-spent g c = λ a x at.
 
 pub returns-clause-spent : goal.returns-clause-spent
 returns-clause-spent g c = λ a x at. c.laws.ensures.few c.args.self.input x _ a _ at.rests.stands at.paid
+
+pub returns-in-Ok-put_left-clause-cause : goal.returns-in-Ok-put_left-clause-cause
+returns-in-Ok-put_left-clause-cause g c =
+    (c.in-Ok-put_left.ensures.cause.ok, c.in-Ok-put_left.ensures.cause.other)
+
+pub returns-in-Ok-put_left-clause-stops : goal.returns-in-Ok-put_left-clause-stops
+returns-in-Ok-put_left-clause-stops g c = c.in-Ok-put_left.ensures.stops.well
+
+pub returns-in-Ok-clause-cause : goal.returns-in-Ok-clause-cause
+returns-in-Ok-clause-cause g c =
+    (c.in-Err-put_left.ensures.cause.failed, c.in-Err-put_left.ensures.cause.other)
+
+pub returns-in-Ok-clause-stops : goal.returns-in-Ok-clause-stops
+returns-in-Ok-clause-stops g c = c.in-Err-put_left.ensures.stops.stopped
+
+pub returns-in-Ok-put_refusal-clause-cause : goal.returns-in-Ok-put_refusal-clause-cause
+returns-in-Ok-put_refusal-clause-cause g c =
+    (c.in-Ok-put_refusal.ensures.cause.ok, c.in-Ok-put_refusal.ensures.cause.other)
+
+pub returns-in-Ok-put_refusal-clause-stops : goal.returns-in-Ok-put_refusal-clause-stops
+returns-in-Ok-put_refusal-clause-stops g c = c.in-Ok-put_refusal.ensures.stops.well
+
+pub returns-clause-cause : goal.returns-clause-cause
+returns-clause-cause g c =
+    (c.in-Err-put_refusal.ensures.cause.failed, c.in-Err-put_refusal.ensures.cause.other)
+
+pub returns-clause-stops : goal.returns-clause-stops
+returns-clause-stops g c = c.in-Err-put_refusal.ensures.stops.stopped
