@@ -1,4 +1,4 @@
-use Rattle.std.proofs.Common.{refl}
+use Rattle.std.proofs.Common.{refl, arith}
 use Rattle.dover_port.specs.declared.status.Status.TheVariants.{Done, Refused}
 use Rattle.periodic_tasks.specs.Tasks.{unrolled}
 use Rattle.task_reading.specs.Record.{listed_rules}
@@ -53,3 +53,33 @@ pub returns-clause-count : goal.returns-clause-count
 returns-clause-count g c = unroll_costs c.args.until c.args.listed.tasks.items
     c.in-Ok-new.unrolling.until c.in-Ok-new.unrolling.tasks c.in-Ok-new.ensures.until c.in-Ok-new.ensures.tasks _ _ _
     c.new.ensures.count c.put_feed.ensures.count
+
+pub returns-in-Ok-clause-count : goal.returns-in-Ok-clause-count
+returns-in-Ok-clause-count g c = λ d enough. omega arith
+
+pub returns-in-Err-clause-count : goal.returns-in-Err-clause-count
+returns-in-Err-clause-count g c = λ d enough. omega arith
+
+pub returns-in-Ok-clause-cause : goal.returns-in-Ok-clause-cause
+returns-in-Ok-clause-cause g c = (c.in-Ok.ensures.cause.ok, c.in-Ok.ensures.cause.other)
+
+pub returns-in-Ok-clause-stops : goal.returns-in-Ok-clause-stops
+returns-in-Ok-clause-stops g c = c.in-Ok.ensures.stops.well
+
+pub returns-in-Err-clause-cause : goal.returns-in-Err-clause-cause
+returns-in-Err-clause-cause g c = (c.in-Err.ensures.cause.failed, c.in-Err.ensures.cause.other)
+
+pub returns-in-Err-clause-stops : goal.returns-in-Err-clause-stops
+returns-in-Err-clause-stops g c = c.in-Err.ensures.stops.stopped
+
+pub returns-in-Ok-put_feed-clause-cause : goal.returns-in-Ok-put_feed-clause-cause
+returns-in-Ok-put_feed-clause-cause g c = (c.in-Ok-put_feed.ensures.cause.ok, c.in-Ok-put_feed.ensures.cause.other)
+
+pub returns-in-Ok-put_feed-clause-stops : goal.returns-in-Ok-put_feed-clause-stops
+returns-in-Ok-put_feed-clause-stops g c = c.in-Ok-put_feed.ensures.stops.well
+
+pub returns-clause-cause : goal.returns-clause-cause
+returns-clause-cause g c = (c.in-Err-put_feed.ensures.cause.failed, c.in-Err-put_feed.ensures.cause.other)
+
+pub returns-clause-stops : goal.returns-clause-stops
+returns-clause-stops g c = c.in-Err-put_feed.ensures.stops.stopped

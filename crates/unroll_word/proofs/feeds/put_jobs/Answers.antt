@@ -77,3 +77,24 @@ returns-in-Err-clause-count g c = λ d enough. let kept = c.loop-count.invariant
       kept.spent d enough,
       c.next_job.ensures.count d (omega (arith, enough, ap length kept.tasks)),
     ))
+
+pub returns-in_default-clause-cause : goal.returns-in_default-clause-cause
+returns-in_default-clause-cause g c = let kept = c.loop-count.invariant in record {
+  later = omega (arith, kept.writes);
+  ok = kept.writes;
+  failed = tt;
+  other = kept.reads;
+}
+
+pub returns-in_default-clause-stops : goal.returns-in_default-clause-stops
+returns-in_default-clause-stops g c = record { well = c.loop-count.invariant.calls; stopped = tt }
+
+pub returns-in-Err-clause-cause : goal.returns-in-Err-clause-cause
+returns-in-Err-clause-cause g c =
+    rw (c.loop-count.invariant.writes, c.loop-count.invariant.reads) at c.in-Err.ensures.cause
+
+pub returns-in-Err-clause-stops : goal.returns-in-Err-clause-stops
+returns-in-Err-clause-stops g c = record {
+  well = tt;
+  stopped = λ well. c.in-Err.ensures.stops.stopped (c.loop-count.invariant.calls well);
+}

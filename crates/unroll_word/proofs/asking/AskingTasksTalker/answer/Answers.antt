@@ -50,3 +50,23 @@ returns-in-Ok-put_fault-clause-spent g c = λ a x at. none_spent a.until _ _ a.b
 
 pub returns-in-Err-put_fault-clause-spent : goal.returns-in-Err-put_fault-clause-spent
 returns-in-Err-put_fault-clause-spent g c = λ a x at. none_spent a.until _ _ a.before _ at.counts
+
+pub returns-in-Ok-clause-cause : goal.returns-in-Ok-clause-cause
+returns-in-Ok-clause-cause g c = c.answer.ensures.cause
+
+pub returns-in-Ok-clause-stops : goal.returns-in-Ok-clause-stops
+returns-in-Ok-clause-stops g c = c.answer.ensures.stops
+
+pub returns-in-Ok-put_fault-clause-cause : goal.returns-in-Ok-put_fault-clause-cause
+returns-in-Ok-put_fault-clause-cause g c =
+    (c.in-Ok-put_fault.ensures.cause.ok, c.in-Ok-put_fault.ensures.cause.other)
+
+pub returns-in-Ok-put_fault-clause-stops : goal.returns-in-Ok-put_fault-clause-stops
+returns-in-Ok-put_fault-clause-stops g c = c.in-Ok-put_fault.ensures.stops.well
+
+pub returns-in-Err-put_fault-clause-cause : goal.returns-in-Err-put_fault-clause-cause
+returns-in-Err-put_fault-clause-cause g c =
+    (c.in-Err-put_fault.ensures.cause.failed, c.in-Err-put_fault.ensures.cause.other)
+
+pub returns-in-Err-put_fault-clause-stops : goal.returns-in-Err-put_fault-clause-stops
+returns-in-Err-put_fault-clause-stops g c = c.in-Err-put_fault.ensures.stops.stopped
