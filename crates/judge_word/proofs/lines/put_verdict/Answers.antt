@@ -8,3 +8,21 @@ pub returns-in-Accepted-clause-text : goal.returns-in-Accepted-clause-text
 returns-in-Accepted-clause-text g c =
     λ text tells. accepted_puts _ _ _ _ _ _ _ _ _ _ text (rw c.in-Accepted.is at tells)
     (rw (c.bytes.ensures.is, c.accepted_line.ensures) at c.put.ensures.text)
+
+pub returns-in-Accepted-clause-cause : goal.returns-in-Accepted-clause-cause
+returns-in-Accepted-clause-cause g c = c.put.ensures.cause
+
+pub returns-in-Accepted-clause-stops : goal.returns-in-Accepted-clause-stops
+returns-in-Accepted-clause-stops g c = c.put.ensures.stops
+
+pub returns-in-Wrong-clause-cause : goal.returns-in-Wrong-clause-cause
+returns-in-Wrong-clause-cause g c = c.put_wrong.ensures.cause
+
+pub returns-in-Wrong-clause-stops : goal.returns-in-Wrong-clause-stops
+returns-in-Wrong-clause-stops g c = c.put_wrong.ensures.stops
+
+pub returns-in-Short-clause-cause : goal.returns-in-Short-clause-cause
+returns-in-Short-clause-cause g c = c.put_numbers.ensures.cause
+
+pub returns-in-Short-clause-stops : goal.returns-in-Short-clause-stops
+returns-in-Short-clause-stops g c = c.put_numbers.ensures.stops

@@ -23,3 +23,12 @@ pub returns-clause-text : goal.returns-clause-text
 returns-clause-text g c = rw (sym (in_parts c.args.number (expected_of c.args.expected)))
     (puts_behind _ _ _ _ _ _ _ _ _ (rw (c.bytes.ensures, c.wrong_front.ensures.text) at c.in-Ok.ensures.text.all)
     (rw (c.bytes-2.ensures.is, c.due_line.ensures) at c.put-2.ensures.text))
+
+pub returns-in-Err-clause-cause : goal.returns-in-Err-clause-cause
+returns-in-Err-clause-cause g c = c.in-Err.ensures.cause
+
+pub returns-in-Err-clause-stops : goal.returns-in-Err-clause-stops
+returns-in-Err-clause-stops g c = c.in-Err.ensures.stops
+
+pub returns-clause-cause : goal.returns-clause-cause
+returns-clause-cause g c = rw (c.in-Ok.ensures.cause.ok, c.in-Ok.ensures.cause.other) at c.put-2.ensures.cause

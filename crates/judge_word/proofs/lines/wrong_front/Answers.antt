@@ -3,6 +3,9 @@ use Rattle.line_text.proofs.Written.{digits}
 use Rattle.line_text.specs.Writing.{with_field}
 use Rattle.judge_word.proofs.lines.wrong_front.Goals as goal
 
+pub put_word-requires : goal.put_word-requires
+put_word-requires c = rw c.new-line.ensures (omega arith)
+
 pub put_number-requires : goal.put_number-requires
 put_number-requires c = rw (c.put_word.ensures, c.new-line.ensures) (omega (
   arith,

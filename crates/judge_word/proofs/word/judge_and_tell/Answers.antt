@@ -23,3 +23,9 @@ pub returns-clause-ends : goal.returns-clause-ends
 returns-clause-ends g c = let new = c.in-Ok.ensures in
     c.converse.ensures.ends (record { teller = c.args.teller; start = c.args.steps.now })
     (ready_none _ _ _ _ new.stands new.paid (new.keep ∙ c.requires))
+
+pub returns-clause-causes : goal.returns-clause-causes
+returns-clause-causes g c = c.converse.ensures.causes
+
+pub returns-clause-stops : goal.returns-clause-stops
+returns-clause-stops g c = c.converse.ensures.stops

@@ -1,3 +1,4 @@
+use Rattle.std.proofs.Common.{refl}
 use Rattle.dover_model.proofs.Tests.{never}
 use Rattle.judge_word.proofs.Talking.{closed_with, spent}
 use Rattle.judge_word.proofs.judging.JudgingTalker.answer.Goals as goal
@@ -22,3 +23,15 @@ returns-in-Ok-clause-spent g c = λ call x at. spent _ call _ _ _ x at
 
 pub returns-in-Err-clause-spent : goal.returns-in-Err-clause-spent
 returns-in-Err-clause-spent g c = λ call x at. spent _ call _ _ _ x at
+
+pub returns-in-Ok-clause-cause : goal.returns-in-Ok-clause-cause
+returns-in-Ok-clause-cause g c = c.tell.ensures.cause
+
+pub returns-in-Ok-clause-stops : goal.returns-in-Ok-clause-stops
+returns-in-Ok-clause-stops g c = c.tell.ensures.stops
+
+pub returns-in-Err-clause-cause : goal.returns-in-Err-clause-cause
+returns-in-Err-clause-cause g c = (refl, refl)
+
+pub returns-in-Err-clause-stops : goal.returns-in-Err-clause-stops
+returns-in-Err-clause-stops g c = λ well. well
