@@ -68,3 +68,37 @@ returns-in-Err-Unwritten-clause-ends g c = λ a s. inl refl
 
 pub returns-in-Err-flush-clause-ends : goal.returns-in-Err-flush-clause-ends
 returns-in-Err-flush-clause-ends g c = λ a s. inl refl
+
+pub returns-in-Err-clause-causes : goal.returns-in-Err-clause-causes
+returns-in-Err-clause-causes g c = c.in-Err.ensures.causes
+
+pub returns-in-Err-clause-stops : goal.returns-in-Err-clause-stops
+returns-in-Err-clause-stops g c = c.in-Err.ensures.stops
+
+pub returns-in-Err-NoMemory-clause-causes : goal.returns-in-Err-NoMemory-clause-causes
+returns-in-Err-NoMemory-clause-causes g c =
+    let it = rw c.in-Err-NoMemory.field-0-is at c.in-Err-NoMemory.ensures.cause in
+    (it.1 ∙ c.in-Ok.ensures.causes.0, it.0 ∙ c.in-Ok.ensures.causes.1)
+
+pub returns-in-Err-NoMemory-clause-stops : goal.returns-in-Err-NoMemory-clause-stops
+returns-in-Err-NoMemory-clause-stops g c = λ well.
+    (rw c.in-Err-NoMemory.field-0-is at c.in-Err-NoMemory.ensures.stops) (c.in-Ok.ensures.stops well)
+
+pub returns-in-Err-Unwritten-clause-causes : goal.returns-in-Err-Unwritten-clause-causes
+returns-in-Err-Unwritten-clause-causes g c =
+    let it = rw c.in-Err-Unwritten.field-0-is at c.in-Err-Unwritten.ensures.cause in
+    (it.1 ∙ c.in-Ok.ensures.causes.0, rw c.in-Ok.ensures.causes.1 at it.0)
+
+pub returns-in-Err-Unwritten-clause-stops : goal.returns-in-Err-Unwritten-clause-stops
+returns-in-Err-Unwritten-clause-stops g c = λ well.
+    (rw c.in-Err-Unwritten.field-0-is at c.in-Err-Unwritten.ensures.stops) (c.in-Ok.ensures.stops well)
+
+pub returns-in-Err-flush-clause-causes : goal.returns-in-Err-flush-clause-causes
+returns-in-Err-flush-clause-causes g c = (
+  c.in-Err-flush.ensures.cause.other ∙ c.in-Ok-answer.ensures.cause.1 ∙ c.in-Ok.ensures.causes.0,
+  rw (c.in-Ok-answer.ensures.cause.0 ∙ c.in-Ok.ensures.causes.1) at c.in-Err-flush.ensures.cause.failed,
+)
+
+pub returns-in-Err-flush-clause-stops : goal.returns-in-Err-flush-clause-stops
+returns-in-Err-flush-clause-stops g c = λ well. c.in-Err-flush.ensures.stops.stopped
+    (c.in-Ok-answer.ensures.stops (c.in-Ok.ensures.stops well))

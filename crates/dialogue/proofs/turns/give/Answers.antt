@@ -59,3 +59,29 @@ unreachable-requires g c =
           _ _ _ _ c.requires.1 c.requires.2 _ given
           (c.laws.ensures.parts c.requires.0 c.args.talker.now c.args.meter.now c.requires.1 c.requires.2 c.requires.3),
     )
+
+pub returns-then-not-next_part-clause-ready : goal.returns-then-not-next_part-clause-ready
+returns-then-not-next_part-clause-ready g c = λ a x rest it.
+    let given = c.loop.invariant.given a x rest it in
+    (rw c.if-not-next_part.true at (c.next_part.ensures.gives a x given.left given.stands)).1
+
+pub returns-then-not-next_part-clause-cause : goal.returns-then-not-next_part-clause-cause
+returns-then-not-next_part-clause-cause g c = record {
+  later = omega (arith, c.loop.invariant.writes);
+  ok = c.loop.invariant.writes;
+  failed = tt;
+  other = c.loop.invariant.reads;
+}
+
+pub returns-then-not-next_part-clause-stops : goal.returns-then-not-next_part-clause-stops
+returns-then-not-next_part-clause-stops g c = record { well = c.loop.invariant.calls; stopped = tt }
+
+pub returns-in-Err-clause-cause : goal.returns-in-Err-clause-cause
+returns-in-Err-clause-cause g c =
+    rw (c.loop.invariant.writes, c.loop.invariant.reads) at c.in-Err.ensures.cause
+
+pub returns-in-Err-clause-stops : goal.returns-in-Err-clause-stops
+returns-in-Err-clause-stops g c = record {
+  well = tt;
+  stopped = λ well. c.in-Err.ensures.stops.stopped (c.loop.invariant.calls well);
+}

@@ -56,3 +56,34 @@ loop-rest-preserved g c = record {
   reads = c.in-Ok-give.ensures.cause.other ∙ c.loop-rest.invariant.reads;
   calls = λ well. c.in-Ok-give.ensures.stops.well (c.loop-rest.invariant.calls well);
 }
+
+pub returns-in_default-clause-cause : goal.returns-in_default-clause-cause
+returns-in_default-clause-cause g c = (c.loop-rest.invariant.writes, c.loop-rest.invariant.reads)
+
+pub returns-in_default-clause-stops : goal.returns-in_default-clause-stops
+returns-in_default-clause-stops g c = c.loop-rest.invariant.calls
+
+pub returns-in-Err-clause-cause : goal.returns-in-Err-clause-cause
+returns-in-Err-clause-cause g c = (
+  rw c.loop-rest.invariant.writes at c.in-Err.ensures.cause.failed,
+  c.in-Err.ensures.cause.other ∙ c.loop-rest.invariant.reads,
+)
+
+pub returns-in-Err-clause-stops : goal.returns-in-Err-clause-stops
+returns-in-Err-clause-stops g c = λ well. c.in-Err.ensures.stops.stopped (c.loop-rest.invariant.calls well)
+
+pub returns-then-not-goes_on-clause-cause : goal.returns-then-not-goes_on-clause-cause
+returns-then-not-goes_on-clause-cause g c = (
+  c.in-Ok-give.ensures.cause.ok ∙ c.loop-rest.invariant.writes,
+  c.in-Ok-give.ensures.cause.other ∙ c.loop-rest.invariant.reads,
+)
+
+pub returns-then-not-goes_on-clause-stops : goal.returns-then-not-goes_on-clause-stops
+returns-then-not-goes_on-clause-stops g c =
+    λ well. c.in-Ok-give.ensures.stops.well (c.loop-rest.invariant.calls well)
+
+pub returns-clause-cause : goal.returns-clause-cause
+returns-clause-cause g c = (c.loop-rest.invariant.writes, c.loop-rest.invariant.reads)
+
+pub returns-clause-stops : goal.returns-clause-stops
+returns-clause-stops g c = c.loop-rest.invariant.calls
