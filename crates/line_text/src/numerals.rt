@@ -62,7 +62,9 @@ pub fn numeral(text: &[u8]) -> Option<u64>
     ensures is { result ≡ model.numeral text.now }
     ensures short { IfSome result (λ n. n < 10 ^ 18) }
 {
-    let (number, digits) = leading_digits(text)?;
+    let Some((number, digits)) = leading_digits(text) else {
+        return None;
+    };
     if digits < text.len() {
         return None;
     }

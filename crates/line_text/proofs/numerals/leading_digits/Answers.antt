@@ -1,5 +1,6 @@
-use Rattle.std.proofs.Common.{◌≡◌, ℕ, ◌+◌, ◌-◌, ◌*◌, ◌^◌, ◌<◌, get_or, true, ap, sym, ◌∙◌, subst, arith}
+use Rattle.std.proofs.Common.{◌≡◌, ℕ, List, ◌+◌, ◌-◌, ◌*◌, ◌^◌, ◌<◌, get_or, take, true, ap, sym, ◌∙◌, subst, arith}
 use Rattle.std.specs.Char.{is_ascii_digit}
+use Rattle.std.specs.Str.{all_ascii_digits}
 use Rattle.line_text.proofs.FirstNumber.{at_most, small_more, digit_small, digits_more, number_more}
 use Rattle.line_text.proofs.numerals.leading_digits.Goals as goal
 
@@ -9,6 +10,14 @@ returns-then-digit-gt9-clause-short c =
 
 pub returns-clause-short : goal.returns-clause-short
 returns-clause-short c = at_most c.loop-at.number c.loop-at.at 18 c.loop-at.invariant.small c.loop-at.invariant.few
+
+pub returns-then-at-eq-MOST_DIGITS-clause-many : goal.returns-then-at-eq-MOST_DIGITS-clause-many
+returns-then-at-eq-MOST_DIGITS-clause-many c =
+    let text : List ℕ = c.args.text.now in
+    let digit : is_ascii_digit (get_or text c.loop-at.at 0) ≡ true =
+    (c.above_zero-digit.ensures.digit (omega (arith, c.if-digit-gt9.false))).0 in
+    subst (λ n. all_ascii_digits (take (n + 1) text) ≡ true) c.if-at-eq-MOST_DIGITS.true
+    (digits_more text c.loop-at.at c.loop-at-test.true c.loop-at.invariant.digits digit)
 
 pub overflow_mul-number : goal.overflow_mul-number
 overflow_mul-number c =
