@@ -1,3 +1,6 @@
+use Rattle.std.proofs.Common.{sym, ap, subst}
+use Rattle.dover_port.specs.Moves.{PutsThrough}
+use Rattle.judge_word.specs.Line.{verdict_text}
 use Rattle.judge_word.proofs.Answering.{accepted_puts}
 use Rattle.judge_word.proofs.lines.put_verdict.Goals as goal
 
@@ -26,3 +29,11 @@ returns-in-Short-clause-cause g c = c.put_numbers.ensures.cause
 
 pub returns-in-Short-clause-stops : goal.returns-in-Short-clause-stops
 returns-in-Short-clause-stops g c = c.put_numbers.ensures.stops
+
+pub returns-in-Wrong-clause-text : goal.returns-in-Wrong-clause-text
+returns-in-Wrong-clause-text g c = λ text tells.
+    subst (PutsThrough _ _ _ _ _) (sym (ap verdict_text (rw c.in-Wrong.is at tells))) c.put_wrong.ensures.text
+
+pub returns-in-Short-clause-text : goal.returns-in-Short-clause-text
+returns-in-Short-clause-text g c = λ text tells.
+    subst (PutsThrough _ _ _ _ _) (sym (ap verdict_text (rw c.in-Short.is at tells))) c.put_numbers.ensures.text
