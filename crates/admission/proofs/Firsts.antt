@@ -1,17 +1,19 @@
 -- The least dense and the densest of jobs that grow by one.
 use Rattle.std.proofs.Common.{◌≡◌, ◌*◌, ◌≤◌, ◌<◌, ◌⊎◌, inl, inr, List, [], ◌∷◌, ◌++◌, length, refl, sym, ap, ◌∙◌, subst}
-use Rattle.std.proofs.Common.{append_assoc, arith, Bool}
+use Rattle.std.proofs.Common.{append_assoc, arith, Bool, ◌+◌, Some, length-append}
 use Rattle.std.specs.List.{AllByRecursion}
 use Rattle.std.proofs.lemmas.Bool.{cases_lt}
+use Rattle.std.proofs.lemmas.List.Sums.{sum_by-append, sum_by-cons}
 use Rattle.dover_model.specs.JobFacts.{JobFacts, IsJob}
 use Rattle.dover_model.specs.Fraction.{Fraction}
+use Rattle.dover_model.specs.Instance.{total_value}
 use Rattle.dover_model.specs.Admission.{is_within_ratio_both_ways}
 use Rattle.dover_model.proofs.Members.{all_append, all_both, all_at}
 use Rattle.dover_model.proofs.Valid.{all_from}
 use Rattle.dover_model.proofs.Growing.{all_behind}
 use Rattle.admission.specs.declared.extremes.Numbered.{Numbered}
 use Rattle.admission.specs.declared.extremes.Extremes.{Extremes}
-use Rattle.admission.specs.Kept.{IsLessDense, IsFirstBy, IsLeastDense, IsDensest, AreExtremes}
+use Rattle.admission.specs.Kept.{IsLessDense, IsFirstBy, IsLeastDense, IsDensest, AreExtremes, Kept, StandsFor}
 use Rattle.admission.proofs.Comparing.{not_both, no_less, chained}
 use Rattle.dover_model.proofs.JobLimits.{job_limits}
 
@@ -126,3 +128,16 @@ module _ (k : Fraction) (jobs : List JobFacts) (e : Extremes) (it : AreExtremes 
         by_order (inr less) = let over : IsLessDense e.densest.job y.job → ⊥ = λ denser. absurd (omega arith) in
             subst (IsDensest (jobs ++ y.job ∷ [])) (sym (old over))
             (stays_first IsDenser not_both_denser jobs e.densest it.densest y.job over)
+
+-- what stands for the jobs stands for them with one more, where its extremes are theirs
+pub stands_more : (old new : Kept) (jobs : List JobFacts) (j : JobFacts) (e : Extremes) → StandsFor old jobs
+    → new.rules ≡ old.rules → new.count ≡ old.count + 1 → new.total ≡ old.total + j.value → new.extremes ≡ Some e
+    → AreExtremes old.rules.ratio (jobs ++ j ∷ []) e → StandsFor new (jobs ++ j ∷ [])
+stands_more old new jobs j e stands rules count total some it = record {
+  count = omega (arith, stands.count, count, length-append jobs (j ∷ []));
+  total = let sums : total_value (jobs ++ j ∷ []) ≡ total_value jobs + total_value (j ∷ []) =
+      sum_by-append (λ (i : JobFacts). i.value) jobs (j ∷ []) in
+      let last : total_value (j ∷ []) ≡ j.value + total_value [] = sum_by-cons (λ (i : JobFacts). i.value) j [] in
+      omega (arith, stands.total, total, sums, last);
+  extremes = rw (rules, some) it;
+}

@@ -1,10 +1,10 @@
 -- Testing a job against the least dense and the densest one is testing it against all.
 use Rattle.std.proofs.Common.{◌≡◌, ◌≤◌, List, [], ◌∷◌, Bool, true, false, refl, sym, ◌∙◌, arith}
-use Rattle.std.proofs.Common.{ℕ, ◌+◌, ◌*◌, ◌<◌, length, None, not}
+use Rattle.std.proofs.Common.{ℕ, ◌+◌, ◌*◌, ◌<◌, ◌⊎◌, inl, inr, length, Some, None, not}
 use Rattle.std.proofs.lemmas.Nat.{mul-le}
 use Rattle.std.specs.Prelude.{nat_le, nat_lt}
 use Rattle.std.specs.List.{list_all}
-use Rattle.std.proofs.lemmas.Bool.{lt-leb, le-ltb}
+use Rattle.std.proofs.lemmas.Bool.{lt-leb, le-leb, lt-ltb, le-ltb, false≢true}
 use Rattle.dover_model.specs.Limits.{most_jobs, most_total}
 use Rattle.dover_model.specs.declared.events.Refusal.TheVariants.{BadJob, Count, Total, Ratio}
 use Rattle.dover_model.specs.JobFacts.{JobFacts, IsJob, is_job}
@@ -13,10 +13,10 @@ use Rattle.dover_model.specs.Instance.{Declaration, total_value}
 use Rattle.dover_model.specs.Admission.{is_within_ratio_both_ways, first_cause, refusal_of}
 use Rattle.dover_model.proofs.Calculus.{cancel}
 use Rattle.dover_model.proofs.Tests.{both, each}
-use Rattle.dover_model.proofs.Members.{all_both}
+use Rattle.dover_model.proofs.Members.{all_both, by_bool}
 use Rattle.admission.specs.declared.extremes.Extremes.{Extremes}
-use Rattle.admission.specs.Kept.{IsLessDense, IsBetween, AreExtremes}
-use Rattle.admission.specs.Answers.{AllKeepRatio, LeastDenseKeeps}
+use Rattle.admission.specs.Kept.{IsLessDense, IsLeastDense, IsDensest, IsBetween, AreExtremes}
+use Rattle.admission.specs.Answers.{AllKeepRatio, LeastDenseKeeps, IsOther, numbered}
 use Rattle.admission.proofs.Comparing.{not_both, no_less, within_least, within_densest}
 use Rattle.admission.proofs.Firsts.{none_under, first_is, IsDenser, not_both_denser}
 use Rattle.dover_model.proofs.ValidParts.{IsWithinRatio, is_within_ratio-agrees}
@@ -122,6 +122,23 @@ least_keep k jobs e j it keeps x least = both_ways k x.job j (
 
 -- ---- the refusal
 
+-- the first cause that holds
+first_bad : (a b c d : Bool) → a ≡ false
+    → first_cause ((not a, BadJob) ∷ (b, Count) ∷ (c, Total) ∷ (not d, Ratio) ∷ []) ≡ Some BadJob
+first_bad a b c d one = rw one refl
+
+first_count : (a b c d : Bool) → a ≡ true → b ≡ true
+    → first_cause ((not a, BadJob) ∷ (b, Count) ∷ (c, Total) ∷ (not d, Ratio) ∷ []) ≡ Some Count
+first_count a b c d one two = rw (one, two) refl
+
+first_total : (a b c d : Bool) → a ≡ true → b ≡ false → c ≡ true
+    → first_cause ((not a, BadJob) ∷ (b, Count) ∷ (c, Total) ∷ (not d, Ratio) ∷ []) ≡ Some Total
+first_total a b c d one two three = rw (one, two, three) refl
+
+first_ratio : (a b c d : Bool) → a ≡ true → b ≡ false → c ≡ false → d ≡ false
+    → first_cause ((not a, BadJob) ∷ (b, Count) ∷ (c, Total) ∷ (not d, Ratio) ∷ []) ≡ Some Ratio
+first_ratio a b c d one two three four = rw (one, two, three, four) refl
+
 -- no cause holds
 no_cause : (a b c d : Bool) → a ≡ true → b ≡ false → c ≡ false → d ≡ true
     → first_cause ((not a, BadJob) ∷ (b, Count) ∷ (c, Total) ∷ (not d, Ratio) ∷ []) ≡ None
@@ -139,3 +156,55 @@ not_refused rules jobs j job count total all =
     (le-ltb _ _ total)
     ((each (λ i. is_within_ratio_both_ways k i j) (λ i. is_within_ratio_both_ways k i j ≡ true)
     (λ i. (λ h. h, λ h. h)) jobs).1 all)
+
+-- a job out of its limits is refused as that
+pub bad_refused : (rules : Declaration) (jobs : List JobFacts) (j : JobFacts) → (IsJob j → ⊥)
+    → refusal_of rules jobs j ≡ Some BadJob
+bad_refused rules jobs j bad =
+    first_bad (is_job j) (nat_le (most_jobs rules.version) (length jobs))
+    (nat_lt (most_total rules.version) (total_value jobs + j.value))
+    (list_all (λ i. is_within_ratio_both_ways rules.ratio i j) jobs)
+    (by_bool (is_job j ≡ false) (is_job j) (λ passes. absurd (bad (record { passes = passes }))) (λ fails. fails))
+
+-- a job behind as many as there may be is refused for their count
+pub count_refused : (rules : Declaration) (jobs : List JobFacts) (j : JobFacts) → IsJob j
+    → most_jobs rules.version ≤ length jobs → refusal_of rules jobs j ≡ Some Count
+count_refused rules jobs j job full =
+    first_count (is_job j) (nat_le (most_jobs rules.version) (length jobs))
+    (nat_lt (most_total rules.version) (total_value jobs + j.value))
+    (list_all (λ i. is_within_ratio_both_ways rules.ratio i j) jobs) job.passes (le-leb _ _ full)
+
+-- a job that takes the values past their limit is refused for their sum
+pub total_refused : (rules : Declaration) (jobs : List JobFacts) (j : JobFacts) → IsJob j
+    → length jobs < most_jobs rules.version → most_total rules.version < total_value jobs + j.value
+    → refusal_of rules jobs j ≡ Some Total
+total_refused rules jobs j job count over =
+    first_total (is_job j) (nat_le (most_jobs rules.version) (length jobs))
+    (nat_lt (most_total rules.version) (total_value jobs + j.value))
+    (list_all (λ i. is_within_ratio_both_ways rules.ratio i j) jobs) job.passes (lt-leb _ _ count) (lt-ltb _ _ over)
+
+-- a job with another that breaks the ratio is refused for it
+pub ratio_refused : (rules : Declaration) (jobs : List JobFacts) (j : JobFacts) (other : ℕ) → IsJob j
+    → length jobs < most_jobs rules.version → total_value jobs + j.value ≤ most_total rules.version
+    → IsOther rules.ratio jobs j other → refusal_of rules jobs j ≡ Some Ratio
+ratio_refused rules jobs j other job count total it =
+    let k : Fraction = rules.ratio in
+    first_ratio (is_job j) (nat_le (most_jobs rules.version) (length jobs))
+    (nat_lt (most_total rules.version) (total_value jobs + j.value))
+    (list_all (λ i. is_within_ratio_both_ways k i j) jobs) job.passes (lt-leb _ _ count)
+    (le-ltb _ _ total)
+    (by_bool (list_all (λ i. is_within_ratio_both_ways k i j) jobs ≡ false)
+    (list_all (λ i. is_within_ratio_both_ways k i j) jobs)
+    (λ all. absurd (by_which ((each (λ i. is_within_ratio_both_ways k i j)
+    (λ i. is_within_ratio_both_ways k i j ≡ true) (λ i. (λ h. h, λ h. h)) jobs).0 all) it.which))
+    (λ fails. fails)) where
+      broken : is_within_ratio_both_ways rules.ratio it.job j ≡ true → ⊥
+      broken keeps = false≢true (sym it.breaks ∙ keeps)
+
+      by_which : AllKeepRatio rules.ratio jobs j
+          → (IsLeastDense jobs (numbered other it.job) ⊎ (IsDensest jobs (numbered other it.job)
+          × LeastDenseKeeps rules.ratio jobs j)) → ⊥
+      by_which all (inl least) = broken (first_is IsLessDense not_both jobs (numbered other it.job) least
+          (λ i. is_within_ratio_both_ways rules.ratio i j ≡ true) all)
+      by_which all (inr densest) = broken (first_is IsDenser not_both_denser jobs (numbered other it.job) densest.0
+          (λ i. is_within_ratio_both_ways rules.ratio i j ≡ true) all)
