@@ -78,8 +78,8 @@ turn_rest (suc k) (d ∷ dones) turn = turn_rest k dones turn.1
 abbrev pub no_line : DoneLine
 no_line = record { at = 0; number = 0; behind = 0 }
 
--- The next done line may be taken. The jobs up to it may be fed, and then they are served and its tick may follow; and
--- where the line is taken, the server has come one line further.
+-- The next done line may be taken. The jobs up to it are there and may be fed, and then they are served and its tick
+-- may follow; and where the line is taken, the server has come one line further.
 pub record IsNext {W : Type 0} (seen : W → List Event → Type 0) (server : ReadyServer) (watcher : W)
     (rules : Declaration) (jobs : List JobFacts) (dones : List DoneLine) (k count : ℕ) (d : DoneLine)
     (part : List JobFacts) : Type 0 where
@@ -87,6 +87,8 @@ pub record IsNext {W : Type 0} (seen : W → List Event → Type 0) (server : Re
   pub shown : HasShown seen server watcher (run_of rules jobs count (take k dones)) from
   pub can : CanFeed (run_of rules jobs count (take k dones)) from part
   pub few : length (with_jobs (run_of rules jobs count (take k dones)) part).jobs ≤ length jobs
+  pub up : count ≤ d.behind
+  pub there : d.behind ≤ length jobs
   pub before : (u : ReadyServer) (x : W) → HasFed seen u x (run_of rules jobs count (take k dones)) from part
       → (to : Horizon) × HasShown seen u x (jobs_before rules jobs (right_finishes rules jobs (take k dones)) d) to
       × MayFollow to (Mark d.at)
@@ -231,6 +233,8 @@ module _ (rules : Declaration) (jobs : List JobFacts) (valid : IsValid (record {
             can = can_part s w (take k dones) d rest count at_line each_line line_turn;
             few = few_taken d.behind (take count jobs ++ part count d.behind)
                 (joined s w (take k dones) d rest count at_line each_line line_turn);
+            up = at_line.next.0.0;
+            there = each_line.0.behind;
             before = λ u x fed. (
               fed.to,
               part_shown s w (take k dones) d rest count at_line each_line line_turn u x fed,

@@ -54,3 +54,32 @@ returns-clause-says g c =
     c.in_ok-value.value c.bound.result (piece_lines best.pieces.items) c.new-head.result c.put_with_wide.new.self
     c.put_with_wide-2.new.self c.put_with_wide-3.new.self c.put_with_wide-4.new.self c.new-head.ensures
     c.put_with_wide.ensures.is c.put_with_wide-2.ensures.is c.put_with_wide-3.ensures.is c.put_with_wide-4.ensures.is)
+
+pub put_with_wide-requires : goal.put_with_wide-requires
+put_with_wide-requires g c = omega (arith, ap length c.new-head.ensures)
+
+pub put_with_wide-requires-2 : goal.put_with_wide-requires-2
+put_with_wide-requires-2 g c = omega (arith, c.put_with_wide.ensures.size, ap length c.new-head.ensures)
+
+pub put_with_wide-requires-3 : goal.put_with_wide-requires-3
+put_with_wide-requires-3 g c = omega (
+  arith,
+  c.put_with_wide.ensures.size,
+  c.put_with_wide-2.ensures.size,
+  ap length c.new-head.ensures,
+)
+
+pub put_with_wide-requires-4 : goal.put_with_wide-requires-4
+put_with_wide-requires-4 g c = omega (
+  arith,
+  c.put_with_wide.ensures.size,
+  c.put_with_wide-2.ensures.size,
+  c.put_with_wide-3.ensures.size,
+  ap length c.new-head.ensures,
+)
+
+pub returns-in_default-clause-count : goal.returns-in_default-clause-count
+returns-in_default-clause-count g c = c.observe.ensures.count
+
+pub returns-clause-count : goal.returns-clause-count
+returns-clause-count g c = c.observe.ensures.count

@@ -1,4 +1,4 @@
-use Rattle.std.proofs.Common.{◌≤◌, ◌∙◌, refl, List, ap, subst, length, sym, codes, get_or, false}
+use Rattle.std.proofs.Common.{◌≤◌, ◌∙◌, refl, List, ap, subst, length, sym, codes, get_or, false, arith}
 use Rattle.dover_model.specs.Instance.{IsInOrder}
 use Rattle.dover_model.specs.JobFacts.{IsJob, JobFacts}
 use Rattle.dover_model.specs.declared.events.Version.TheVariants.{Two}
@@ -77,3 +77,29 @@ returns-clause-says g c =
     c.put_with_wide.new.self c.put_with_wide-2.new.self c.put_with_wide-3.new.self c.put_with_wide-4.new.self
     c.new-head.ensures c.put_with_wide.ensures.is c.put_with_wide-2.ensures.is c.put_with_wide-3.ensures.is
     c.put_with_wide-4.ensures.is)
+
+pub put_with_wide-requires : goal.put_with_wide-requires
+put_with_wide-requires g c = omega (arith, ap length c.new-head.ensures)
+
+pub put_with_wide-requires-2 : goal.put_with_wide-requires-2
+put_with_wide-requires-2 g c = omega (arith, c.put_with_wide.ensures.size, ap length c.new-head.ensures)
+
+pub put_with_wide-requires-3 : goal.put_with_wide-requires-3
+put_with_wide-requires-3 g c = omega (
+  arith,
+  c.put_with_wide.ensures.size,
+  c.put_with_wide-2.ensures.size,
+  ap length c.new-head.ensures,
+)
+
+pub put_with_wide-requires-4 : goal.put_with_wide-requires-4
+put_with_wide-requires-4 g c = omega (
+  arith,
+  c.put_with_wide.ensures.size,
+  c.put_with_wide-2.ensures.size,
+  c.put_with_wide-3.ensures.size,
+  ap length c.new-head.ensures,
+)
+
+pub returns-clause-count : goal.returns-clause-count
+returns-clause-count g c = c.observe_each.ensures.count

@@ -52,3 +52,6 @@ returns-clause-jobs g c = let J = listed_instance c.args.listed.now in
       prints = sym (c.deref-3.ensures.value ∙ c.in_ok-run.ensures.run);
     }) c.deref-2.ensures.value)
     c.deref-6.result.now c.deref-6.ensures.value
+
+pub returns-clause-count : goal.returns-clause-count
+returns-clause-count g c = c.record.ensures.count

@@ -1,9 +1,9 @@
-use Rattle.std.proofs.Common.{[], false, length, arith}
+use Rattle.std.proofs.Common.{◌≤◌, [], false, length, get_or, sym, subst, arith}
 use Rattle.dover_model.proofs.Spending.{few_more}
 use Rattle.dover_model.specs.Run.{printed}
 use Rattle.dover_model.specs.declared.horizon.Horizon.TheVariants.{End}
 use Rattle.event_feed.specs.Listing.{declared_in, listed_instance}
-use Rattle.question_words.proofs.Handed.{bare_valid, at_first, next_done, last_done, last_shown, last_few}
+use Rattle.question_words.proofs.Handed.{bare_valid, at_first, no_line, next_done, last_done, last_shown, last_few}
 use Rattle.question_words.proofs.replaying.serve_listed.Goals as goal
 
 pub loop-done-init : goal.loop-done-init
@@ -12,6 +12,34 @@ loop-done-init g c = let L = c.args.listed.now in record {
       c.requires.begins L.dones.items c.requires.among.each;
   paid = c.requires.paid;
 }
+
+pub slice_bounds-serve_part-start : goal.slice_bounds-serve_part-start
+slice_bounds-serve_part-start g c =
+    let L = c.args.listed.now in
+    let n = next_done (declared_in L) L.jobs.items (bare_valid L c.requires.valid) c.loop-done.server c.loop-done.run
+    L.dones.items c.loop-done.done-index c.loop-done.count c.loop-done.invariant.at c.requires.among
+    c.deref-done-items.result.now c.deref-done-items.ensures.value c.loop-done-test.true c.deref.result.now
+    c.deref.ensures.value in
+    n.up
+
+pub slice_bounds-serve_part-end : goal.slice_bounds-serve_part-end
+slice_bounds-serve_part-end g c =
+    let L = c.args.listed.now in
+    let n = next_done (declared_in L) L.jobs.items (bare_valid L c.requires.valid) c.loop-done.server c.loop-done.run
+    L.dones.items c.loop-done.done-index c.loop-done.count c.loop-done.invariant.at c.requires.among
+    c.deref-done-items.result.now c.deref-done-items.ensures.value c.loop-done-test.true c.deref.result.now
+    c.deref.ensures.value in
+    subst (λ js. (get_or c.deref-done-items.result.now c.loop-done.done-index no_line).behind ≤ length js)
+    (sym c.deref.ensures.value) n.there
+
+pub slice_bounds-serve_part-count : goal.slice_bounds-serve_part-count
+slice_bounds-serve_part-count g c =
+    let L = c.args.listed.now in
+    let n = next_done (declared_in L) L.jobs.items (bare_valid L c.requires.valid) c.loop-done.server c.loop-done.run
+    L.dones.items c.loop-done.done-index c.loop-done.count c.loop-done.invariant.at c.requires.among
+    c.deref-done-items.result.now c.deref-done-items.ensures.value c.loop-done-test.true c.deref.result.now
+    c.deref.ensures.value in
+    n.up
 
 pub serve_part-requires : goal.serve_part-requires
 serve_part-requires g c =
