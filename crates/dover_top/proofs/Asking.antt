@@ -203,8 +203,8 @@ at_place (w ∷ words) zero word low = refl
 at_place (w ∷ words) (suc n) word low = at_place words n word (omega (arith, low))
 
 -- so a word of a row spells what the row has there
-pub place_spells : (words : List (String Global)) (n : ℕ) (word : String Global) (row : List (List ℕ)) → n < length words
-    → word ≡ get_or words n word → spelled words ≡ row → string_bytes word ≡ get_or row n []
+pub place_spells : (words : List (String Global)) (n : ℕ) (word : String Global) (row : List (List ℕ))
+    → n < length words → word ≡ get_or words n word → spelled words ≡ row → string_bytes word ≡ get_or row n []
 place_spells words n word row low is e =
     ap string_bytes is ∙ at_place words n word low ∙ ap (λ l. get_or l n []) e
 

@@ -58,7 +58,8 @@ joined {rest = rest} {name = name} e is spells = ap spelled e ∙ row_of name re
 pub returns-in_err-name-clause-none : goal.returns-in_err-name-clause-none
 returns-in_err-name-clause-none c = λ word is _ r asks.
     let it = asks_report word _ r is asks in
-    absurd (omega (arith, c.in_err-name.ensures.cases, length_spelled c.args.words.now, ap length it.1, some_words it.0))
+    let long = length_spelled c.args.words.now in
+    absurd (omega (arith, c.in_err-name.ensures.cases, long, ap length it.1, some_words it.0))
 
 pub returns-in_err-job-in-why-clause-none : goal.returns-in_err-job-in-why-clause-none
 returns-in_err-job-in-why-clause-none c = λ word is _ r asks.

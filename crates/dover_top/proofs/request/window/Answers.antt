@@ -19,7 +19,8 @@ returns-in_err-until-in-len2-clause-none c = λ _ window formed spells. by_windo
           let from : c.in_ok-from-in-len2.from ≡ w.from = decimal_same _ _ _
           (omega (arith, c.in_ok-from-in-len2.ensures.some.2)) (omega (arith, formed.0, formed.1))
           c.in_ok-from-in-len2.ensures.some.0 first in
-          c.in_err-until-in-len2.ensures.none refl w.until (omega (arith, from, formed.0)) (omega (arith, formed.1)) last
+          c.in_err-until-in-len2.ensures.none refl w.until (omega (arith, from, formed.0)) (omega (arith, formed.1))
+          last
 
 pub returns-in_ok-until-in-len2-clause-some : goal.returns-in_ok-until-in-len2-clause-some
 returns-in_ok-until-in-len2-clause-some c = (
