@@ -1,6 +1,6 @@
 -- A chain, value by value.
 use Rattle.std.proofs.Common.{◌≡◌, ℕ, zero, suc, ◌+◌, ◌-◌, ◌*◌, ◌≤◌, ◌<◌, List, [], ◌∷◌, Some, None, true, false, refl}
-use Rattle.std.proofs.Common.{sym, ap, ◌∙◌, arith}
+use Rattle.std.proofs.Common.{sym, ap, ◌∙◌, arith, Fits, w64}
 use Rattle.std.specs.Prelude.{unwrap_or}
 use Rattle.std.specs.List.{sum, last_or}
 use Rattle.std.proofs.lemmas.List.Sums.{sum_by-cons}
@@ -80,6 +80,12 @@ one_fewer rounds i less = omega arith
 pub low_step : (sofar light more : ℕ) → sofar + (light + 1) < 1_000_000 → more ≤ 1_001 * (light + 1)
     → more ≤ 1_001_000_000
 low_step sofar light more few most = omega arith
+
+pub last_fits : (light : ℕ) → light ≤ 1_001_000_000 → Fits w64 (light + 1)
+last_fits light low = omega (arith, low)
+
+pub sum_fits : (sofar light : ℕ) → sofar < 1_000_000 → light ≤ 1_001_000_000 → Fits w64 (sofar + (light + 1))
+sum_fits sofar light few low = omega (arith, few, low)
 
 pub some_step : (light more : ℕ) → light + 1 ≤ more → 1 ≤ more
 some_step light more least = omega arith

@@ -2,7 +2,7 @@
 use Rattle.std.proofs.Common.{◌≡◌, ℕ, zero, suc, ◌+◌, ◌-◌, ◌*◌, ◌≤◌, ◌<◌, ◌⊎◌, inl, inr, List, [], ◌∷◌, Bool, true}
 use Rattle.std.proofs.Common.{false, cond, length, sym, ap}
 use Rattle.std.proofs.Common.{◌∙◌, subst}
-use Rattle.std.proofs.Common.{arith, Fits, w64}
+use Rattle.std.proofs.Common.{arith, Fits, w32, w64}
 use Rattle.std.specs.List.{sum}
 use Rattle.std.proofs.lemmas.Nat.{mul-le}
 use Rattle.std.proofs.lemmas.Bool.{cases_lt}
@@ -58,6 +58,23 @@ product_fits unit b small low = let most : unit * b ≤ 1_000_000 * 1_000_000 = 
 pub plan_fits : (unit b v : ℕ) → unit ≤ 1_000_000 → b < 1_000_000 → v ≤ most_value → Fits w64 (unit * b + v)
 plan_fits unit b v small low modest = let most : unit * b ≤ 1_000_000 * 1_000_000 = product_low unit b small low in
     omega (arith, most, modest)
+
+-- the bait's tick and the rounds are as small as the chain
+pub tick_fits : (b : ℕ) → b < 1_000_000 → Fits w32 b
+tick_fits b low = omega (arith, low)
+
+pub all_fit : (b rounds all : ℕ) → b + rounds ≡ all → all < most_jobs Two → Fits w32 (b + rounds)
+all_fit b rounds all is few = omega (arith, is, few)
+
+pub jobs_fit : (b rounds all : ℕ) → b + rounds ≡ all → all < most_jobs Two → Fits w32 (b + rounds + 1)
+jobs_fit b rounds all is few = omega (arith, is, few)
+
+-- and so are the ticks before it
+pub before_fits : (t b : ℕ) → t < b → b < 1_000_000 → Fits w32 t
+before_fits t b before low = omega (arith, before, low)
+
+pub next_fits : (t b : ℕ) → t < b → b < 1_000_000 → Fits w64 (t + 1)
+next_fits t b before low = omega (arith, before, low)
 
 -- ---- the next link
 
@@ -120,6 +137,9 @@ link_given unit bait b k links r w t light many some now early lights =
 pub link_due : (r w b : ℕ) → r + w ≤ b + 1 → b < 1_000_000 → r + w ≤ last_tick
 link_due r w b within low = omega arith
 
+pub link_fits : (r w b : ℕ) → r + w ≤ b + 1 → b < 1_000_000 → Fits w64 (r + (w - 1))
+link_fits r w b within low = omega (arith, within, low)
+
 pub link_modest : (r w b : ℕ) → r + w ≤ b + 1 → b < 1_000_000 → 1 * w ≤ most_value
 link_modest r w b within low = omega arith
 
@@ -134,6 +154,21 @@ some_work light = omega arith
 
 pub bait_worth : (v : ℕ) → 1 ≤ v → 1 ≤ 1 * v
 bait_worth v some = omega arith
+
+pub bait_modest : (v : ℕ) → v ≤ most_value → 1 * v ≤ most_value
+bait_modest v modest = omega arith
+
+pub bait_due : (t b v : ℕ) → t ≤ b → b < 1_000_000 → v ≤ most_value → t + v ≤ last_tick
+bait_due t b v within low modest = omega arith
+
+pub unit_due : (t b : ℕ) → t < b → b < 1_000_000 → t + 1 ≤ last_tick
+unit_due t b before low = omega arith
+
+pub unit_worth : (u : ℕ) → 1 ≤ u → 1 ≤ u * 1
+unit_worth u some = omega arith
+
+pub unit_modest : (u : ℕ) → u ≤ 1_000_000 → u * 1 ≤ most_value
+unit_modest u small = omega arith
 
 pub within_end : (t r b : ℕ) → t ≤ r → r ≤ b → t ≤ b
 within_end t r b early within = omega arith

@@ -22,6 +22,9 @@ returns-then-release-tick c =
     (until (chain_jobs c.args.k c.args.rounds) c.args.tick) c.loop-links.invariant.some c.if-release-tick.true
     c.loop-links.invariant.counted
 
+pub overflow_sub-release : goal.overflow_sub-release
+overflow_sub-release c = c.loop-links.invariant.some
+
 pub overflow_add-release : goal.overflow_add-release
 overflow_add-release c = release_fits c.loop-links.release c.loop-links.work
     (left_low _ _ _ _ _ _ _ (one_fewer c.args.rounds c.loop-links.links c.loop-links-test.true)

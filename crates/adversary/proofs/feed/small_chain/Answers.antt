@@ -5,7 +5,7 @@ use Rattle.dover_model.specs.Limits.{most_jobs}
 use Rattle.dover_model.specs.Bait.{chain, last_link, most_light}
 use Rattle.adversary.proofs.Chains.{sum_step, last_step, all_to_come, last_to_come, from_nothing, first_low}
 use Rattle.adversary.proofs.Chains.{nothing_few, no_more, one_fewer}
-use Rattle.adversary.proofs.Chains.{low_step}
+use Rattle.adversary.proofs.Chains.{low_step, last_fits, sum_fits}
 use Rattle.adversary.proofs.Chains.{some_step, all_summed, last_summed, all_done, some_done, sum_part}
 use Rattle.adversary.proofs.feed.small_chain.Goals as goal
 
@@ -21,6 +21,18 @@ loop-init c = record {
   lights = λ h. no_more h;
   some = λ h. no_more h;
 }
+
+pub overflow_sub-light : goal.overflow_sub-light
+overflow_sub-light c = c.first_value-first.ensures.some
+
+pub overflow_add-last : goal.overflow_add-last
+overflow_add-last c = last_fits c.loop.light c.loop.invariant.low
+
+pub overflow_add-sum : goal.overflow_add-sum
+overflow_add-sum c = sum_fits c.loop.sum c.loop.light c.loop.invariant.few c.loop.invariant.low
+
+pub light_value-light-requires : goal.light_value-light-requires
+light_value-light-requires c = omega (arith, c.from.ensures, c.most_jobs.ensures, c.if-sum-from.false)
 
 pub loop-preserved : goal.loop-preserved
 loop-preserved c = record {
