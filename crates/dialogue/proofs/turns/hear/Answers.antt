@@ -1,4 +1,6 @@
-use Rattle.std.proofs.Common.{◌≡◌, refl, ◌∙◌, sym, true, false}
+use Rattle.std.proofs.Common.{◌≡◌, refl, ◌∙◌, sym, true, false, length}
+use Rattle.std.proofs.lemmas.Bool.{eqb-true}
+use Rattle.std.proofs.lemmas.List.{nil_from_length}
 use Rattle.dialogue.proofs.Hearing.{heard_none, heard_no_memory, heard_cut, heard_more}
 use Rattle.dialogue.proofs.turns.hear.Goals as goal
 
@@ -87,3 +89,31 @@ returns-clause-cause g c = (c.loop-rest.invariant.writes, c.loop-rest.invariant.
 
 pub returns-clause-stops : goal.returns-clause-stops
 returns-clause-stops g c = c.loop-rest.invariant.calls
+
+pub take-requires-clause-stands : goal.take-requires-clause-stands
+take-requires-clause-stands g c =
+    let asked = c.requires in
+    let heard = c.loop-rest.invariant.heard asked.0 asked.1 asked.2 asked.3 in
+    (asked.0, _, heard.stands, heard.goes_on)
+
+pub give-requires : goal.give-requires
+give-requires g c =
+    let asked = c.requires in
+    let heard = c.loop-rest.invariant.heard asked.0 asked.1 asked.2 asked.3 in
+    let takes = c.in-Ok.ensures.takes asked.0 _ heard.stands heard.goes_on in
+    (asked.0, _, _, takes.2.2)
+
+pub goes_on-requires : goal.goes_on-requires
+goes_on-requires g c =
+    let asked = c.requires in
+    let heard = c.loop-rest.invariant.heard asked.0 asked.1 asked.2 asked.3 in
+    let takes = c.in-Ok.ensures.takes asked.0 _ heard.stands heard.goes_on in
+    (asked.0, _, c.in-Ok-give.ensures.ready asked.0 _ _ takes.2.2)
+
+pub returns-clause-hears : goal.returns-clause-hears
+returns-clause-hears g c = λ a x s o. (
+  _,
+  c.loop-rest.invariant.heard a x s o,
+  λ more. nil_from_length c.loop-rest.rest.now
+      (eqb-true (length c.loop-rest.rest.now) 0 (sym c.is_empty.ensures ∙ c.loop-rest-test.false)),
+)
