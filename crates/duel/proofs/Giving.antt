@@ -1,11 +1,13 @@
 -- The jobs that are given, one by one.
-use Rattle.std.proofs.Common.{◌≡◌, ℕ, zero, suc, ◌+◌, ◌-◌, ◌*◌, ◌≤◌, List, [], ◌∷◌, ◌++◌, cond}
-use Rattle.std.proofs.Common.{refl, ap, ◌∙◌, arith, Bool, true, false}
+use Rattle.std.proofs.Common.{◌≡◌, ℕ, zero, suc, ◌+◌, ◌-◌, ◌*◌, ◌/◌, ◌≤◌, ◌<◌, List, [], ◌∷◌, ◌++◌, cond}
+use Rattle.std.proofs.Common.{refl, ap, ◌∙◌, arith, Bool, true, false, Fits}
+use Rattle.std.specs.Int.{w128}
 use Rattle.std.specs.Prelude.{min}
-use Rattle.std.proofs.lemmas.Nat.{mul-le}
+use Rattle.std.proofs.lemmas.Nat.{mul-le, div_below}
 use Rattle.dover_model.specs.Fraction.{Fraction}
 use Rattle.dover_model.specs.JobFacts.{JobFacts, IsJob}
 use Rattle.dover_model.specs.Bait.{tight_job}
+use Rattle.dover_model.specs.Limits.{last_tick}
 use Rattle.duel.specs.Links.{next_link}
 use Rattle.duel.specs.Jobs.{smalls, pieces, small_work, is_last, jobs_of_links, first_link}
 use Rattle.duel.specs.Kept.{GoesOn}
@@ -103,7 +105,29 @@ module _ (k : Fraction) (a b : ℕ) where
     link_too_large on none large = let it = some_link more (tick, work) in
         (tight_job tick work k.q, it.0, link_comes on none ∙ it.1, large)
 
--- a product that fits
+-- what the next link is missing is at most what it is worth, and its work is small
+pub next_small : (whole q work part other x : ℕ) → whole ≤ 1_000_000 → work ≤ 1_000_000_000 → 1 ≤ part → 1 ≤ q
+    → x ≡ whole * q * work - other → x / (part * q) < 1_000_000_000_000_001
+next_small whole q work part other x few modest some_part some_q is =
+    let least : 1 * 1 ≤ part * q = mul-le 1 1 part q some_part some_q in
+    let more : 1 * q ≤ part * q = mul-le 1 q part q some_part (omega arith) in
+    let product : whole * work ≤ 1_000_000 * 1_000_000_000 = mul-le whole work 1_000_000 1_000_000_000 few modest in
+    let all : q * (whole * work) ≤ q * (1_000_000 * 1_000_000_000) =
+    mul-le q (whole * work) q (1_000_000 * 1_000_000_000) (omega arith) product in
+    div_below x (part * q) 1_000_000_000_000_001 (omega (arith, least)) (omega (arith, is, all, more, least))
+
+-- products that fit
+pub leaving_fits : (part p r q w : ℕ) → part ≤ 1_000_000 → p ≤ 1_000_000 → q ≤ 1_000 → r + w ≤ last_tick
+    → Fits w128 (part * (p * r + q * w))
+leaving_fits part p r q w few small_p small_q early =
+    let pr : p * r ≤ 1_000_000 * 1_000_000_000_000 =
+    mul-le p r 1_000_000 1_000_000_000_000 small_p (omega (arith, early)) in
+    let qw : q * w ≤ 1_000 * 1_000_000_000_000 =
+    mul-le q w 1_000 1_000_000_000_000 small_q (omega (arith, early)) in
+    let all : part * (p * r + q * w) ≤ 1_000_000 * 1_001_000_000_000_000_000 =
+    mul-le part (p * r + q * w) 1_000_000 1_001_000_000_000_000_000 few (omega (arith, pr, qw)) in
+    omega (arith, all)
+
 pub root_small : (p q part : ℕ) → p ≤ 1_000_000 → q ≤ 1_000 → part ≤ 1_000_000
     → 4 * p * q * part * part ≤ 4_000_000_000_000_000_000_000
 root_small p q part small_p small_q small =

@@ -2,17 +2,18 @@ use Rattle.std.proofs.Common.{refl, arith}
 use Rattle.duel.specs.Jobs.{duel_jobs}
 use Rattle.duel.proofs.Admitting.{links_order, too_large, one_refused, one_admitted}
 use Rattle.dover_model.proofs.JobLimits.{ratio_limits}
+use Rattle.dover_model.proofs.Tests.{never}
 use Rattle.duel.proofs.counting.job_count.Goals as goal
 
 pub returns-in-TooLarge-clause-valid : goal.returns-in-TooLarge-clause-valid
 returns-in-TooLarge-clause-valid c = (
-  λ e. absurd (cc),
+  never,
   λ valid. absurd (too_large _ _ _ _ c.loop-coming.invariant c.in-TooLarge.ensures valid),
 )
 
 pub returns-then-not-admit-clause-valid : goal.returns-then-not-admit-clause-valid
 returns-then-not-admit-clause-valid c = (
-  λ e. absurd (cc),
+  never,
   λ valid. absurd (one_refused _ _ _ _ c.loop-coming.invariant _ _ c.in-Job.ensures
       (c.if-not-admit.ensures.refused c.loop-coming.invariant.done c.loop-coming.invariant.stands refl) valid),
 )
