@@ -3,6 +3,7 @@ use Rattle.std.specs.List.{sum}
 use Rattle.dover_model.specs.declared.events.Version.TheVariants.{Two}
 use Rattle.dover_model.specs.Limits.{most_jobs}
 use Rattle.dover_model.specs.Bait.{chain, last_link, most_light}
+use Rattle.dover_model.proofs.Tests.{never}
 use Rattle.adversary.proofs.Chains.{sum_step, last_step, all_to_come, last_to_come, from_nothing, first_low}
 use Rattle.adversary.proofs.Chains.{nothing_few, no_more, one_fewer}
 use Rattle.adversary.proofs.Chains.{low_step, last_fits, sum_fits}
@@ -49,7 +50,7 @@ loop-preserved c = record {
 
 pub returns-then-sum-from-clause-small : goal.returns-then-sum-from-clause-small
 returns-then-sum-from-clause-small c = (
-  λ h. absurd (cc),
+  never,
   sum_part c.args.k (c.args.rounds - c.loop.counter) (c.args.rounds - (c.loop.counter + 1))
       (c.loop.light + 1) c.loop.sum
       (sum (chain c.args.k c.args.rounds))

@@ -1,6 +1,7 @@
 use Rattle.std.proofs.Common.{◌<◌, ◌≤◌, ap, subst, refl}
 use Rattle.dover_model.specs.declared.events.Version.TheVariants.{Two}
 use Rattle.dover_model.specs.Limits.{most_jobs, most_value}
+use Rattle.dover_model.proofs.Tests.{never}
 use Rattle.adversary.proofs.Feeds.{small, modest, fits}
 use Rattle.adversary.proofs.Giving.{baiting, too_heavy, rounds_low, first_some, tick_and_rounds, new_left, new_jobs}
 use Rattle.adversary.proofs.Giving.{at_once}
@@ -8,11 +9,11 @@ use Rattle.adversary.proofs.feed.Bait.new.Goals as goal
 
 pub returns-in_err-chain-clause-fits : goal.returns-in_err-chain-clause-fits
 returns-in_err-chain-clause-fits c = rw c.from_residual.ensures
-    (λ h. absurd (cc), λ within. c.in_err-chain.ensures.small.1 (small c.args.k c.args.rounds within))
+    (never, λ within. c.in_err-chain.ensures.small.1 (small c.args.k c.args.rounds within))
 
 pub returns-then-chain-gt-MOST_VALUE-clause-fits : goal.returns-then-chain-gt-MOST_VALUE-clause-fits
 returns-then-chain-gt-MOST_VALUE-clause-fits c = (
-  λ h. absurd (cc),
+  never,
   λ within. too_heavy c.in_ok-chain.chain.light _ c.in_ok-chain.ensures.numbers.light c.if-chain-gt-MOST_VALUE.true
       (modest c.args.k c.args.rounds within),
 )
