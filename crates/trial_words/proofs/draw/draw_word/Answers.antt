@@ -1,4 +1,4 @@
-use Rattle.std.proofs.Common.{◌∷◌, [], inr, append-nil}
+use Rattle.std.proofs.Common.{◌∷◌, [], inl, inr, refl, append-nil}
 use Rattle.dover_port.specs.Moves.Move.{Put}
 use Rattle.trial_words.specs.Drawing.{drawn_feed, text_of_lines}
 use Rattle.trial_words.proofs.draw.draw_word.Goals as goal
@@ -6,3 +6,18 @@ use Rattle.trial_words.proofs.draw.draw_word.Goals as goal
 pub returns-in-Ok-clause-ends : goal.returns-in-Ok-clause-ends
 returns-in-Ok-clause-ends g c = let text = text_of_lines (drawn_feed c.args.k c.args.seed c.args.count) in
     inr (Put text ∷ [], (tt, append-nil text))
+
+pub returns-in-Ok-clause-causes : goal.returns-in-Ok-clause-causes
+returns-in-Ok-clause-causes g c = (c.in-Ok.ensures.cause.other, c.in-Ok.ensures.cause.ok)
+
+pub returns-in-Ok-clause-stops : goal.returns-in-Ok-clause-stops
+returns-in-Ok-clause-stops g c = c.in-Ok.ensures.stops.well
+
+pub returns-in-Err-clause-causes : goal.returns-in-Err-clause-causes
+returns-in-Err-clause-causes g c = (c.in-Err.ensures.cause.other, c.in-Err.ensures.cause.failed)
+
+pub returns-in-Err-clause-stops : goal.returns-in-Err-clause-stops
+returns-in-Err-clause-stops g c = c.in-Err.ensures.stops.stopped
+
+pub returns-in-Err-clause-ends : goal.returns-in-Err-clause-ends
+returns-in-Err-clause-ends g c = inl refl

@@ -1,4 +1,4 @@
-use Rattle.std.proofs.Common.{◌≡◌, ◌≤◌, ◌∷◌, [], ℕ, List, length, refl, sym, ap, ◌∙◌, subst, inr, append-nil}
+use Rattle.std.proofs.Common.{◌≡◌, ◌≤◌, ◌∷◌, [], ℕ, List, length, refl, sym, ap, ◌∙◌, subst, inl, inr, append-nil}
 use Rattle.dover_model.specs.Fraction.{Fraction, IsRatio}
 use Rattle.dover_model.specs.Generator.{generated_jobs}
 use Rattle.dover_model.specs.Instance.{IsValid, jobs_under}
@@ -7,9 +7,10 @@ use Rattle.dover_model.specs.declared.events.Version.TheVariants.{One, Two}
 use Rattle.dover_model.specs.Limits.{most_jobs}
 use Rattle.dover_model.specs.Reports.{summary}
 use Rattle.dover_model.specs.Run.{printed}
+use Rattle.dover_model.specs.Spending.{CostsAtMost}
 use Rattle.dover_model.proofs.Limiting.{listable}
 use Rattle.dover_port.specs.Moves.Move.{Put}
-use Rattle.dover_port.specs.declared.status.Status.TheVariants.{Done, WriteFault}
+use Rattle.dover_port.specs.declared.status.Status.TheVariants.{Done, WriteFault, Memory}
 use Rattle.dover_port.proofs.Made.{since_none}
 use Rattle.trial_jobs.proofs.Drawn.{valid}
 use Rattle.trial_words.specs.Lists.{trial_instance}
@@ -29,6 +30,13 @@ counted seed count k jobs tally ratio few is size seen = record {
   size = ap length (sym is) ∙ size;
   counted = subst (λ js. HasCounted tally (printed (jobs_under One k js))) is seen;
 }
+
+-- a run that isn't done has no count
+no_memory : {A : Type 0} → Memory ≡ Done → A
+no_memory e = absurd (cc)
+
+no_write : {A : Type 0} → WriteFault ≡ Done → A
+no_write e = absurd (cc)
 
 pub run_list-requires-clause-valid : goal.run_list-requires-clause-valid
 run_list-requires-clause-valid g c = subst (λ js. IsValid (jobs_under One c.args.k js)) (sym c.new.ensures.jobs)
@@ -61,3 +69,49 @@ returns-clause-writes g c = of_text _ _ WriteFault _ _
     (c.deref.ensures.value ∙ c.in-Ok-summary.ensures (trial_instance c.args.k c.args.seed c.args.count)
     (counted _ _ _ _ _ c.p.ensures.ratio c.requires.count c.new.ensures.jobs c.new.ensures.count c.in-Ok.ensures.seen))
     c.in-Err.ensures.text.part
+
+pub returns-in_default-clause-ends : goal.returns-in_default-clause-ends
+returns-in_default-clause-ends g c = inr ([], refl)
+
+pub returns-in_default-clause-causes : goal.returns-in_default-clause-causes
+returns-in_default-clause-causes g c = (refl, refl)
+
+pub returns-in_default-clause-stops : goal.returns-in_default-clause-stops
+returns-in_default-clause-stops g c = λ well. well
+
+pub returns-in_default-clause-count : goal.returns-in_default-clause-count
+returns-in_default-clause-count g c = no_memory
+
+pub returns-in_default-summary-clause-ends : goal.returns-in_default-summary-clause-ends
+returns-in_default-summary-clause-ends g c = inr ([], refl)
+
+pub returns-in_default-summary-clause-causes : goal.returns-in_default-summary-clause-causes
+returns-in_default-summary-clause-causes g c = (refl, refl)
+
+pub returns-in_default-summary-clause-stops : goal.returns-in_default-summary-clause-stops
+returns-in_default-summary-clause-stops g c = λ well. well
+
+pub returns-in_default-summary-clause-count : goal.returns-in_default-summary-clause-count
+returns-in_default-summary-clause-count g c = no_memory
+
+pub returns-in-Ok-put_all-clause-causes : goal.returns-in-Ok-put_all-clause-causes
+returns-in-Ok-put_all-clause-causes g c = (c.in-Ok-put_all.ensures.cause.other, c.in-Ok-put_all.ensures.cause.ok)
+
+pub returns-in-Ok-put_all-clause-stops : goal.returns-in-Ok-put_all-clause-stops
+returns-in-Ok-put_all-clause-stops g c = c.in-Ok-put_all.ensures.stops.well
+
+pub returns-in-Ok-put_all-clause-count : goal.returns-in-Ok-put_all-clause-count
+returns-in-Ok-put_all-clause-count g c = λ done.
+    subst (λ n. CostsAtMost n c.args.steps.now c.run_list.new.steps) c.new.ensures.count c.in-Ok.ensures.count
+
+pub returns-clause-ends : goal.returns-clause-ends
+returns-clause-ends g c = inl refl
+
+pub returns-clause-causes : goal.returns-clause-causes
+returns-clause-causes g c = (c.in-Err.ensures.cause.other, c.in-Err.ensures.cause.failed)
+
+pub returns-clause-stops : goal.returns-clause-stops
+returns-clause-stops g c = c.in-Err.ensures.stops.stopped
+
+pub returns-clause-count : goal.returns-clause-count
+returns-clause-count g c = no_write
