@@ -8,7 +8,7 @@ use Rattle.std.specs.Prelude.{◌&&◌, nat_le}
 use Rattle.std.specs.List.{filter, sum_by}
 use Rattle.std.proofs.lemmas.Bool.{lt-leb}
 use Rattle.std.proofs.lemmas.List.{append-nil, drop-drop, drop_more, length-take, length-drop}
-use Rattle.std.proofs.lemmas.List.Elements.{filter-append}
+use Rattle.std.proofs.lemmas.List.Elements.{filter-append, filter_more}
 use Rattle.dover_model.specs.JobFacts.{JobFacts, IsJob}
 use Rattle.dover_model.specs.Sound.{IsMember, Each}
 use Rattle.dover_model.specs.Windows.{is_inside, work_inside}
@@ -150,3 +150,12 @@ near_few jobs near a b cut = omega (
   length-take (cut.1 - cut.0) (drop cut.0 jobs),
   length-drop cut.0 jobs,
 )
+
+-- one job more, by whether it is inside
+pub inside_more : (jobs : List JobFacts) (i : ℕ) (j : JobFacts) (a b : ℕ) (is : Bool) → i < length jobs
+    → j ≡ get_or jobs i j → is ≡ is_inside a b j
+    → jobs_inside (take (i + 1) jobs) a b ≡ jobs_inside (take i jobs) a b ++ cond is (j ∷ []) []
+inside_more jobs i j a b is short here tells =
+    filter_more (is_inside a b) jobs i j short
+    ∙ ap (λ x. jobs_inside (take i jobs) a b ++ cond (is_inside a b x) (x ∷ []) []) (sym here)
+    ∙ ap (λ t. jobs_inside (take i jobs) a b ++ cond t (j ∷ []) []) (sym tells)

@@ -12,7 +12,7 @@ ghost use Rattle.overload.specs.Collecting.{HasCosted, IsCut, IsNear};
 
 use crate::caps::{MOST_SETS, cap};
 use crate::overfull::{Ticks, overfull};
-use crate::released::released;
+use crate::released::{is_inside, released};
 use crate::stretch::{Costed, Stretch};
 use dover_model::jobs::{LAST_TICK, total_value};
 use dover_model::{Job, Memory};
@@ -25,7 +25,7 @@ fn inside(alloc: Global, jobs: &[Job], from: u64, until: u64) -> Result<Vec<Job>
 {
     let mut inside = Vec::new(alloc);
     for job in jobs {
-        if from <= job.release() && job.deadline() <= until {
+        if is_inside(job, from, until) {
             inside.push(*job)?;
         }
     }
@@ -191,7 +191,7 @@ fn value_if(job: &Job, done: bool, from: u64, until: u64) -> u64
     ensures is { result ≡ cond (is_inside from until job.now && done) job.now.value 0 }
     ensures modest { result ≤ most_value }
 {
-    if done && from <= job.release() && job.deadline() <= until {
+    if done && is_inside(job, from, until) {
         return job.value();
     }
     0

@@ -9,7 +9,7 @@ ghost use Rattle.overload.specs.Pricing.{HasPriced, IsRaised};
 ghost use Rattle.overload.specs.Stretches.{Caps};
 
 use crate::overfull::{Ticks, overfull};
-use crate::released::released;
+use crate::released::{is_inside, released};
 use dover_model::jobs::LAST_TICK;
 use dover_model::{Job, Memory};
 use std::alloc::Global;
@@ -92,7 +92,7 @@ fn dearer(offers: &mut [(u128, u64)], ticks: u64) -> u128 {
 fn raised(price: u128, job: &Job, ticks: Ticks, more: u128) -> u128
     ensures { result ≤ price + cond (is_inside ticks.from ticks.until job.now) more 0 }
 {
-    if ticks.from <= job.release() && job.deadline() <= ticks.until {
+    if is_inside(job, ticks.from, ticks.until) {
         return price.saturating_add(more);
     }
     price

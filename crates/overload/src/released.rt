@@ -1,8 +1,17 @@
-//! Where in a list of jobs those begin that are released at a tick or later.
+//! Which jobs are inside some ticks, and where in a list of jobs those begin that are released at a tick or later.
+ghost use Rattle.std.specs.Prelude.{◌≡◌};
 ghost use Rattle.dover_model.specs.Instance.{IsInOrder};
+ghost use Rattle.dover_model.specs.Windows.{is_inside};
 ghost use Rattle.overload.specs.Collecting.{IsCut};
 
 use dover_model::Job;
+
+/// The job is released at `from` or later, and due by `until`.
+pub(crate) fn is_inside(job: &Job, from: u64, until: u64) -> bool
+    ensures { result ≡ is_inside from until job.now }
+{
+    from <= job.release() && job.deadline() <= until
+}
 
 /// How many jobs are released before a tick.
 pub(crate) fn released(jobs: &[Job], tick: u64) -> usize
