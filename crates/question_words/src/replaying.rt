@@ -174,6 +174,27 @@ fn jobs_seen(alloc: Global, done: &[bool], hads: &[u64], jobs: &[Job]) -> Result
     Ok(seen)
 }
 
+/// What these steps of the run of the listed jobs complete, and the jobs as the run observed them. Memory is taken for
+/// the jobs.
+fn told_by(
+    alloc: Global,
+    listed: &Listed,
+    run: &[PackedEvent],
+) -> Result<(Completion, Vec<Job>), Memory>
+    requires valid { IsValid (listed_instance listed.now) }
+    requires listable { IsListable (listed_instance listed.now) }
+    requires run { run.now ≡ printed (listed_instance listed.now) }
+    ensures value { IfOk result (λ it. it.0.value ≡ completed_value (listed_instance listed.now)) }
+    ensures done { IfOk result (λ it. (n : ℕ) → n < length listed.now.jobs.items →
+        get_or it.0.done.items n false ≡ is_completed (listed_instance listed.now) n) }
+    ensures jobs { IfOk result (λ it. it.1.items ≡ (observed (listed_instance listed.now)).jobs) }
+{
+    let completion = completed_by(alloc, run)?;
+    let hads = hads(alloc, &listed.jobs, run)?;
+    let seen = jobs_seen(alloc, &completion.done, &hads, &listed.jobs)?;
+    Ok((completion, seen))
+}
+
 /// What the run of the listed jobs completes, with their finishes, and the jobs as it observed them. Memory is taken
 /// for the printed steps, and for the jobs.
 ///
@@ -195,8 +216,5 @@ pub(crate) fn replayed<L: Ledger>(
     ensures count { CostsAtMost (length listed.now.jobs.items) steps.old steps.new }
 {
     let run = record(alloc, listed, steps)?;
-    let completion = completed_by(alloc, &run)?;
-    let hads = hads(alloc, &listed.jobs, &run)?;
-    let seen = jobs_seen(alloc, &completion.done, &hads, &listed.jobs)?;
-    Ok((completion, seen))
+    told_by(alloc, listed, &run)
 }

@@ -1,8 +1,11 @@
-use Rattle.std.proofs.Common.{◌∙◌, subst}
-use Rattle.dover_port.proofs.Through.{passes_then}
+use Rattle.std.proofs.Common.{◌≤◌, ◌∙◌, ap, refl, subst, arith}
+use Rattle.std.proofs.lemmas.List.{take_all}
+use Rattle.dover_model.specs.Lines.{in_lines}
+use Rattle.dover_port.proofs.Through.{passes_nothing, passes_then}
+use Rattle.dover_port.specs.Causes.{Rose}
 use Rattle.dover_port.specs.Moves.{Passes, PutsThrough}
 use Rattle.line_output.proofs.Putting.{puts_behind, puts_cut}
-use Rattle.question_words.specs.Texts.{stretch_line}
+use Rattle.question_words.specs.Texts.{stretch_line, stretch_lines}
 use Rattle.question_words.proofs.RowLines.{more, all}
 use Rattle.question_words.proofs.answer.put_stretches.Goals as goal
 
@@ -21,3 +24,34 @@ returns-in-Err-clause-text g c =
     subst (PutsThrough _ _ _ _ _) (all stretch_line c.args.stretches.now c.loop-x.x-index _ c.loop-x-test.true)
     (puts_behind _ _ _ _ _ _ _ _ _ c.loop-x.invariant.passes
     (puts_cut _ _ _ _ _ _ _ c.in-Err.ensures.text.part))
+
+pub loop-x-init : goal.loop-x-init
+loop-x-init g c = record {
+  passes = passes_nothing _ _;
+  writes = refl;
+  reads = refl;
+  calls = λ well. well;
+}
+
+pub returns-clause-text : goal.returns-clause-text
+returns-clause-text g c = record {
+  all = subst (Passes _ _ _ _) (ap (λ rows. in_lines (stretch_lines rows)) (take_all c.loop-x.x-index c.args.stretches.now
+      (omega arith))) c.loop-x.invariant.passes;
+  part = tt;
+}
+
+pub returns-in-Err-clause-cause : goal.returns-in-Err-clause-cause
+returns-in-Err-clause-cause g c = record {
+  later = subst (λ n. n ≤ g.P.Port.write_faults c.put_numbers.new.port) c.loop-x.invariant.writes
+      c.in-Err.ensures.cause.later;
+  ok = tt;
+  failed = subst (λ n. Rose n (g.P.Port.write_faults c.put_numbers.new.port)) c.loop-x.invariant.writes
+      c.in-Err.ensures.cause.failed;
+  other = c.in-Err.ensures.cause.other ∙ c.loop-x.invariant.reads;
+}
+
+pub returns-in-Err-clause-stops : goal.returns-in-Err-clause-stops
+returns-in-Err-clause-stops g c = record {
+  well = tt;
+  stopped = λ well. c.in-Err.ensures.stops.stopped (c.loop-x.invariant.calls well);
+}

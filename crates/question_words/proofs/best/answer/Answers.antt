@@ -1,7 +1,9 @@
 use Rattle.std.proofs.Common.{◌≡◌, ◌≤◌, ℕ, ◌∙◌, length, ap, sym, subst, codes, arith}
 use Rattle.dover_model.specs.Instance.{Instance, IsInOrder, IsListable, IsValid}
+use Rattle.dialogue.specs.Talk.{IsFinal}
 use Rattle.event_feed.specs.Listing.{listed_instance}
-use Rattle.question_words.specs.Texts.{piece_lines}
+use Rattle.question_words.specs.Best.{SaysBest}
+use Rattle.question_words.specs.Texts.{piece_lines, text_of}
 use Rattle.question_words.proofs.Comparing.{value_low}
 use Rattle.question_words.proofs.Finding.{found}
 use Rattle.question_words.proofs.Limited.{few_listable}
@@ -83,3 +85,15 @@ returns-in_default-clause-count g c = c.observe.ensures.count
 
 pub returns-clause-count : goal.returns-clause-count
 returns-clause-count g c = c.observe.ensures.count
+
+pub returns-then-len-gt-MOST_JOBS-clause-says : goal.returns-then-len-gt-MOST_JOBS-clause-says
+returns-then-len-gt-MOST_JOBS-clause-says g c =
+    subst (λ status. SaysBest (listed_instance c.args.listed) status (text_of c.refused.result))
+    (sym c.refused.ensures.status)
+    (omega (arith, c.if-len-gt-MOST_JOBS.true, c.len.ensures, c.args.listed.jobs.ok.0), c.refused.ensures.text)
+
+pub returns-then-len-gt-MOST_JOBS-clause-ends : goal.returns-then-len-gt-MOST_JOBS-clause-ends
+returns-then-len-gt-MOST_JOBS-clause-ends g c = subst IsFinal (sym c.refused.ensures.status) tt
+
+pub returns-clause-ends : goal.returns-clause-ends
+returns-clause-ends g c = tt

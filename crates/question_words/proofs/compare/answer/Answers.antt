@@ -4,10 +4,12 @@ use Rattle.dover_model.specs.declared.events.Version.TheVariants.{Two}
 use Rattle.dover_model.specs.Limits.{most_total}
 use Rattle.dover_model.specs.Lines.{in_lines}
 use Rattle.dover_model.specs.Schedules.{worth}
+use Rattle.dialogue.specs.Talk.{IsFinal}
 use Rattle.event_feed.specs.Listing.{listed_instance}
 use Rattle.policy_lab.specs.PolicyRun.{policy_run, AreTooLarge}
 use Rattle.policy_lab.specs.Standard.{greatest_density}
-use Rattle.question_words.specs.Texts.{piece_lines}
+use Rattle.question_words.specs.Compare.{SaysCompare}
+use Rattle.question_words.specs.Texts.{piece_lines, text_of}
 use Rattle.question_words.proofs.Comparing.{value_low, compared, not_large}
 use Rattle.question_words.proofs.Limited.{few_listable, run_few}
 use Rattle.question_words.proofs.Lines.{four_written}
@@ -106,3 +108,15 @@ returns-in_default-run_policy-clause-count g c = c.observe.ensures.count
 
 pub returns-clause-count : goal.returns-clause-count
 returns-clause-count g c = c.observe.ensures.count
+
+pub returns-then-are_too_large-clause-says : goal.returns-then-are_too_large-clause-says
+returns-then-are_too_large-clause-says g c =
+    subst (λ status. SaysCompare (listed_instance c.args.listed) status (text_of c.refused.result))
+    (sym c.refused.ensures.status)
+    (subst AreTooLarge c.deref.ensures.value (c.are_too_large.ensures.0 c.if-are_too_large.true), c.refused.ensures.text)
+
+pub returns-then-are_too_large-clause-ends : goal.returns-then-are_too_large-clause-ends
+returns-then-are_too_large-clause-ends g c = subst IsFinal (sym c.refused.ensures.status) tt
+
+pub returns-clause-ends : goal.returns-clause-ends
+returns-clause-ends g c = tt

@@ -1,5 +1,7 @@
-use Rattle.std.proofs.Common.{◌∙◌, ap, arith}
+use Rattle.std.proofs.Common.{◌∙◌, ap, length, subst, arith}
 use Rattle.dover_model.specs.Instance.{jobs_under}
+use Rattle.dover_model.specs.Run.{completed_value}
+use Rattle.dover_model.specs.Spending.{CostsAtMost}
 use Rattle.question_words.specs.Loss.{is_completed}
 use Rattle.question_words.proofs.completing.completed_jobs.Goals as goal
 
@@ -11,3 +13,18 @@ returns-clause-done g c = λ n low.
     c.in_ok-run_list.ensures.seen.done n (omega (arith, low, c.requires.listable.count))
     ∙ ap (λ js. is_completed (jobs_under c.args.listed.now.version c.args.listed.now.ratio js) n)
     c.as_slice-jobs.ensures.value
+
+pub returns-in_err-run_list-clause-count : goal.returns-in_err-run_list-clause-count
+returns-in_err-run_list-clause-count g c =
+    subst (λ js. CostsAtMost (length js) c.args.steps.now c.run_list.new.steps) c.as_slice-jobs.ensures.value
+    c.run_list.ensures.count
+
+pub returns-clause-value : goal.returns-clause-value
+returns-clause-value g c = c.in_ok-run_list.ensures.seen.value
+    ∙ ap (λ js. completed_value (jobs_under c.args.listed.now.version c.args.listed.now.ratio js))
+    c.as_slice-jobs.ensures.value
+
+pub returns-clause-count : goal.returns-clause-count
+returns-clause-count g c =
+    subst (λ js. CostsAtMost (length js) c.args.steps.now c.run_list.new.steps) c.as_slice-jobs.ensures.value
+    c.run_list.ensures.count

@@ -39,3 +39,9 @@ returns-in-Window-clause-says c =
             c.new-head.ensures c.put_with_wide-in-Window.ensures.is refl,
       ),
     )
+
+pub put_with_wide-requires : goal.put_with_wide-requires
+put_with_wide-requires c = omega (arith, ap length c.new-head.ensures)
+
+pub put_with_wide-requires-in-Window : goal.put_with_wide-requires-in-Window
+put_with_wide-requires-in-Window c = omega (arith, ap length c.new-head.ensures)

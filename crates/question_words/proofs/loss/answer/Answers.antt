@@ -6,9 +6,12 @@ use Rattle.dover_model.specs.Limits.{most_jobs}
 use Rattle.dover_model.specs.Sound.{Each}
 use Rattle.dover_model.specs.Run.{ran}
 use Rattle.dover_model.proofs.Honest.{observed_honest}
+use Rattle.dialogue.specs.Talk.{IsFinal}
+use Rattle.dover_model.proofs.Tests.{never}
 use Rattle.event_feed.specs.Listing.{listed_instance}
 use Rattle.overload.specs.Stretches.{IsWorth}
-use Rattle.question_words.specs.Texts.{stretch_lines}
+use Rattle.question_words.specs.Loss.{SaysLoss}
+use Rattle.question_words.specs.Texts.{stretch_lines, text_of}
 use Rattle.question_words.proofs.Comparing.{value_low}
 use Rattle.question_words.proofs.Lines.{four_written}
 use Rattle.question_words.proofs.Losing.{rows_said, lost}
@@ -103,3 +106,21 @@ put_with_wide-requires-4 g c = omega (
 
 pub returns-clause-count : goal.returns-clause-count
 returns-clause-count g c = c.observe_each.ensures.count
+
+pub returns-then-not-is_listable-clause-says : goal.returns-then-not-is_listable-clause-says
+returns-then-not-is_listable-clause-says g c =
+    subst (λ status. SaysLoss (listed_instance c.args.listed) status (text_of c.refused.result))
+    (sym c.refused.ensures.status)
+    (λ listable. never (sym c.if-not-is_listable.true ∙ c.is_listable.ensures.1 listable), c.refused.ensures.text)
+
+pub returns-then-not-is_listable-clause-ends : goal.returns-then-not-is_listable-clause-ends
+returns-then-not-is_listable-clause-ends g c = subst IsFinal (sym c.refused.ensures.status) tt
+
+pub returns-clause-ends : goal.returns-clause-ends
+returns-clause-ends g c = tt
+
+pub returns-in_err-rows-clause-count : goal.returns-in_err-rows-clause-count
+returns-in_err-rows-clause-count g c = c.observe_each.ensures.count
+
+pub returns-in_err-costed-clause-count : goal.returns-in_err-costed-clause-count
+returns-in_err-costed-clause-count g c = c.observe_each.ensures.count

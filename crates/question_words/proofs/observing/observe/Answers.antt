@@ -14,3 +14,15 @@ returns-then-is_empty-clause-value g c = c.in_ok-value.ensures.value
 pub returns-then-is_empty-clause-jobs : goal.returns-then-is_empty-clause-jobs
 returns-then-is_empty-clause-jobs g c =
     plain_observed c.args.listed c.requires.valid (nil_from_length _ (search (rules, tests)))
+
+pub returns-then-is_empty-clause-count : goal.returns-then-is_empty-clause-count
+returns-then-is_empty-clause-count g c = c.completed.ensures.count
+
+pub returns-clause-value : goal.returns-clause-value
+returns-clause-value g c = c.in_ok-completion.ensures.value
+
+pub returns-clause-jobs : goal.returns-clause-jobs
+returns-clause-jobs g c = c.in_ok-completion.ensures.jobs
+
+pub returns-clause-count : goal.returns-clause-count
+returns-clause-count g c = c.replayed.ensures.count

@@ -23,3 +23,18 @@ returns-then-is_empty-clause-done g c = λ n low. c.in_ok-completion.ensures.don
 pub returns-then-is_empty-clause-jobs : goal.returns-then-is_empty-clause-jobs
 returns-then-is_empty-clause-jobs g c =
     plain_observed c.args.listed c.requires.valid (nil_from_length _ (search (rules, tests)))
+
+pub returns-then-is_empty-clause-count : goal.returns-then-is_empty-clause-count
+returns-then-is_empty-clause-count g c = c.completed_jobs.ensures.count
+
+pub returns-clause-value : goal.returns-clause-value
+returns-clause-value g c = c.replayed.ensures.value
+
+pub returns-clause-done : goal.returns-clause-done
+returns-clause-done g c = c.replayed.ensures.done
+
+pub returns-clause-jobs : goal.returns-clause-jobs
+returns-clause-jobs g c = c.replayed.ensures.jobs
+
+pub returns-clause-count : goal.returns-clause-count
+returns-clause-count g c = c.replayed.ensures.count
