@@ -6,3 +6,8 @@ use Rattle.serve_word.proofs.serving.ServingTalker.answer.Goals as goal
 pub returns-clause-answers : goal.returns-clause-answers
 returns-clause-answers g c = λ a x at over. c.tell_end.ensures.answers a x c.args._ended
     (subst (λ l. Stands l (lines_of (a.feed ++ x)) []) (sym c.lane.ensures) at.rests.lane.stands) over
+
+pub returns-clause-spent : goal.returns-clause-spent
+returns-clause-spent g c = λ a x at.
+    c.laws.ensures.few c.args.self.feed.lane (lines_of (a.feed ++ x)) [] a.start c.args._meter.now
+    at.rests.lane.stands at.paid
