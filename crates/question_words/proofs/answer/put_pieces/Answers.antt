@@ -35,8 +35,9 @@ loop-piece-init g c = record {
 
 pub returns-clause-text : goal.returns-clause-text
 returns-clause-text g c = record {
-  all = subst (Passes _ _ _ _) (ap (λ rows. in_lines (piece_lines rows)) (take_all c.loop-piece.piece-index c.args.pieces.now
-      (omega arith))) c.loop-piece.invariant.passes;
+  all = subst (Passes _ _ _ _)
+      (ap (λ rows. in_lines (piece_lines rows)) (take_all c.loop-piece.piece-index c.args.pieces.now (omega arith)))
+      c.loop-piece.invariant.passes;
   part = tt;
 }
 

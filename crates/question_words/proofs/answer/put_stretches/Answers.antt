@@ -35,8 +35,9 @@ loop-x-init g c = record {
 
 pub returns-clause-text : goal.returns-clause-text
 returns-clause-text g c = record {
-  all = subst (Passes _ _ _ _) (ap (λ rows. in_lines (stretch_lines rows)) (take_all c.loop-x.x-index c.args.stretches.now
-      (omega arith))) c.loop-x.invariant.passes;
+  all = subst (Passes _ _ _ _)
+      (ap (λ rows. in_lines (stretch_lines rows)) (take_all c.loop-x.x-index c.args.stretches.now (omega arith)))
+      c.loop-x.invariant.passes;
   part = tt;
 }
 

@@ -1,4 +1,4 @@
-use Rattle.std.proofs.Common.{◌≤◌, [], false, length, get_or, sym, subst, arith}
+use Rattle.std.proofs.Common.{◌≤◌, length, get_or, sym, subst, arith}
 use Rattle.dover_model.proofs.Spending.{few_more}
 use Rattle.dover_model.specs.Run.{printed}
 use Rattle.dover_model.specs.declared.horizon.Horizon.TheVariants.{End}
