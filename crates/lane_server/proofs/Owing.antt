@@ -14,10 +14,12 @@ use Rattle.dover_model.specs.declared.horizon.Horizon.TheVariants.{Mark}
 use Rattle.dover_model.specs.Horizons.{MayFollow, due_by}
 use Rattle.dover_model.proofs.Horizons.{follows_on}
 use Rattle.event_feed.specs.Kept as feed
-use Rattle.lane_server.specs.Lane.{Fits, Running, Admitting, Owes, GivesFault, Stands, IsQuiet, IntakeStands, reach}
+use Rattle.lane_server.specs.Lane.{Fits, Running, Admitting, Owes, GivesFault, Stands, IsQuiet, Gives, IntakeStands}
+use Rattle.lane_server.specs.Lane.{reach}
 use Rattle.lane_server.specs.declared.lane.Lane.{Lane}
 use Rattle.lane_server.specs.declared.lane.Work.{Work}
-use Rattle.lane_server.specs.declared.lane.Work.TheVariants.{Nothing}
+use Rattle.lane_server.specs.declared.lane.Work.TheVariants.{Nothing, Give}
+use Rattle.lane_server.specs.declared.out.LaneOut.{LaneOut}
 use Rattle.lane_server.proofs.Printing.{event_short}
 use Rattle.ready_server.specs.Rostering.{Serves, Rests}
 use Rattle.ready_server.specs.declared.roster_server.RosterServer.{RosterServer}
@@ -142,3 +144,29 @@ lane_passes lane u ls rest it intake fits = record {
 pub work_intake : (lane : Lane) (w : Work) (ls rest : List (List ℕ)) → Stands lane ls rest → lane.work ≡ w
     → IntakeStands w lane.intake ls
 work_intake lane w ls rest it is = subst (λ x. IntakeStands x lane.intake ls) is it.intake
+
+-- the lane has given all
+pub lane_empty : (lane : Lane) (ls rest : List (List ℕ)) → Stands lane ls rest → lane.work ≡ Nothing
+    → (rest ≡ []) × IsQuiet lane ls
+lane_empty lane ls rest it is =
+    let owes = subst (λ w. Owes w lane.server (account_of_lines ls) rest) is it.owes in
+    (owes.0, record { stands = subst (Stands lane ls) owes.0 it; quiet = is })
+
+-- the lane gives its one line
+pub lane_given : (lane : Lane) (out : LaneOut) (ls rest : List (List ℕ)) → Stands lane ls rest
+    → lane.work ≡ Give out → Gives (Some out) (record lane { work = Nothing }) ls rest
+lane_given lane out ls rest it is =
+    let owes = subst (λ w. Owes w lane.server (account_of_lines ls) rest) is it.owes in (
+      [],
+      owes.0,
+      record {
+        intake = work_intake lane (Give out) ls rest it is;
+        opened = it.opened;
+        unended = it.unended;
+        marked = it.marked;
+        owes = (refl, owes.1);
+        names = tt;
+      },
+      owes.2,
+      subst (λ w. GivesFault w ls) is it.names,
+    )

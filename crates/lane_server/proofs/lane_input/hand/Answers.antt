@@ -48,3 +48,18 @@ pub returns-in-Err-BadLane-clause-paid : goal.returns-in-Err-BadLane-clause-paid
 returns-in-Err-BadLane-clause-paid c = λ start now paid.
     let it = rw c.in-Err-BadLane.field-0-is at (c.in-Err-BadLane.ensures.answers c.requires.0 c.requires.1) in
     subst (λ (k : Kept). HavePaid k.lanes start now) (sym it.2) paid
+
+pub line-requires-clause-ready : goal.line-requires-clause-ready
+line-requires-clause-ready c = c.requires.2
+
+pub line-requires-clause-stands : goal.line-requires-clause-stands
+line-requires-clause-stands c = (c.requires.0, c.requires.1)
+
+pub returns-in-Ok-Fed-clause-paid : goal.returns-in-Ok-Fed-clause-paid
+returns-in-Ok-Fed-clause-paid c = c.in-Ok-Fed.ensures.paid
+
+pub returns-in-Ok-Closed-clause-paid : goal.returns-in-Ok-Closed-clause-paid
+returns-in-Ok-Closed-clause-paid c = c.in-Ok-Closed.ensures.paid
+
+pub returns-in-Err-Memory-clause-paid : goal.returns-in-Err-Memory-clause-paid
+returns-in-Err-Memory-clause-paid c = λ start now paid. tt

@@ -1,6 +1,8 @@
-use Rattle.std.proofs.Common.{inl, inr, refl, subst}
+use Rattle.std.proofs.Common.{◌≡◌, IfSome, inl, inr, refl, sym, ◌∙◌, subst}
 use Rattle.event_feed.specs.Answers.{IsFed, counted}
 use Rattle.lane_server.specs.Lane.{IsDeclared, AsksForMemory}
+use Rattle.lane_server.specs.Spending.{HasPaid}
+use Rattle.ready_server.specs.Rostering.{has_roster}
 use Rattle.lane_server.proofs.Taking.{tick_adds, over_adds, refused_job_adds, err_any, ratio_declares, job_declared}
 use Rattle.lane_server.proofs.lane.Lane.take.Goals as goal
 
@@ -118,3 +120,22 @@ returns-in-Done-clause-lacks c = λ a b it. tt
 
 pub returns-in-Done-clause-asks : goal.returns-in-Done-clause-asks
 returns-in-Done-clause-asks c = λ a b it. tt
+
+pub arrive-requires : goal.arrive-requires
+arrive-requires c = (
+  _,
+  c.requires.0,
+  c.requires.1,
+  c.requires.2,
+  subst (λ x. IsFed (counted c.requires.0) c.requires.1 x) c.in-Job.is c.requires.3,
+)
+
+pub returns-in-Done-clause-paid : goal.returns-in-Done-clause-paid
+returns-in-Done-clause-paid c = λ a b start now at it paid.
+    subst (λ o. HasPaid o start now) (sym c.finish_at.ensures.server) paid
+
+pub returns-in-Done-clause-roster : goal.returns-in-Done-clause-roster
+returns-in-Done-clause-roster c = λ listed it. record {
+  asked = c.finish_at.ensures.listed ∙ it.asked;
+  kept = subst (λ o. IfSome o (λ v. has_roster v ≡ listed)) (sym c.finish_at.ensures.server) it.kept;
+}

@@ -1,4 +1,5 @@
-use Rattle.std.proofs.Common.{subst, sym, ap, ◌∙◌, arith}
+use Rattle.std.proofs.Common.{refl, subst, sym, ap, ◌∙◌, length, arith}
+use Rattle.std.proofs.lemmas.Bool.{false≢true}
 use Rattle.lane_server.specs.Lanes.{lane_lines, input_of_lines}
 use Rattle.lane_server.specs.Kept.{Kept, StandsFor, is_closed}
 use Rattle.lane_server.specs.Spending.{HavePaid}
@@ -58,3 +59,20 @@ returns-in-None-clause-paid g c = λ start paid.
     c.index_mut.ensures.value) start (omega (arith, c.from.ensures, low)) _ _
     (λ from has. c.in-None.ensures.paid from has)
     (subst (λ (k : Kept). HavePaid k.lanes start c.args.steps.now) (sym c.self.view_is) paid)
+
+pub index_mut-requires : goal.index_mut-requires
+index_mut-requires g c =
+    let it = c.requires.stands.2 in
+    omega (
+      arith,
+      c.from.ensures,
+      ap (λ (k : Kept). length k.lanes) c.self.view_is,
+      it.count,
+      giving_low c.args.self.now c.requires.stands.0 c.requires.stands.1 c.args.lane it c.requires.phase,
+    )
+
+pub returns-in-Some-clause-ready : goal.returns-in-Some-clause-ready
+returns-in-Some-clause-ready g c = λ none. absurd (false≢true (sym none))
+
+pub returns-in-None-clause-ready : goal.returns-in-None-clause-ready
+returns-in-None-clause-ready g c = λ none going. refl
