@@ -1,6 +1,25 @@
-use Rattle.std.proofs.Common.{ap, codes, drop, refl, arith}
-use Rattle.dover_top.proofs.Asking.{asks_read, place_spells}
+use Rattle.std.proofs.Common.{◌≡◌, ℕ, zero, suc, ◌-◌, List, [], ◌∷◌, String, ap, codes, drop, length, take, refl, sym, ◌∙◌}
+use Rattle.std.proofs.Common.{arith, length-drop}
+use Rattle.std.proofs.lemmas.List.{take_all}
+use Rattle.std.specs.declared.alloc.Global.{Global}
+use Rattle.dover_top.specs.Words.{spelled}
+use Rattle.dover_top.proofs.Asking.{asks_read, length_spelled, place_spells, row_of, spelled_from}
 use Rattle.dover_top.proofs.request.duel.Goals as goal
+
+-- the words behind so many are all of the rest
+all_behind : (words : List (String Global)) (n : ℕ) → take (length words - n) (drop n words) ≡ drop n words
+all_behind words n = take_all (length words - n) (drop n words) (omega (arith, length-drop n words))
+
+-- and are spelled behind so many
+spelled_behind : (words : List (String Global)) (n : ℕ) → spelled (drop n words) ≡ drop n (spelled words)
+spelled_behind words zero = refl
+spelled_behind [] (suc n) = refl
+spelled_behind (w ∷ words) (suc n) = spelled_behind words n
+
+pub returns-in_default-clause-none : goal.returns-in_default-clause-none
+returns-in_default-clause-none c = λ word is _ r asks.
+    let it = asks_read word c.args.words.now r (codes "duel") is asks in
+    absurd (omega (arith, c.in_default.len_below, length_spelled c.args.words.now, ap length it.row))
 
 pub returns-in_err-k-clause-none : goal.returns-in_err-k-clause-none
 returns-in_err-k-clause-none c = λ word is _ r asks.
@@ -15,3 +34,21 @@ returns-in_err-share-clause-none c = λ word is _ r asks.
     c.in_err-share.ensures.none refl _ it.share_is
     (place_spells c.args.words.now 2 _ _ (omega arith) c.part-item.is (ap (drop 1) it.row))
     (place_spells c.args.words.now 3 _ _ (omega arith) c.whole-item.is (ap (drop 1) it.row))
+
+pub returns-in_err-front-clause-none : goal.returns-in_err-front-clause-none
+returns-in_err-front-clause-none c = λ word is _ r asks.
+    let it = asks_read word c.args.words.now r (codes "duel") is asks in
+    c.in_err-front.ensures.none refl _ it.formed (ap spelled (all_behind c.args.words.now 4)
+    ∙ spelled_behind c.args.words.now 4 ∙ ap (drop 5) it.row)
+
+pub returns-clause-some : goal.returns-clause-some
+returns-clause-some c = λ word is. record {
+  row = row_of word c.args.words.now _ _ is (spelled_from c.args.words.now 0 _ (omega arith) c.p-item.is
+      c.in_ok-k.ensures.some.0 (spelled_from c.args.words.now 1 _ (omega arith) c.q-item.is c.in_ok-k.ensures.some.1
+      (spelled_from c.args.words.now 2 _ (omega arith) c.part-item.is c.in_ok-share.ensures.some.0
+      (spelled_from c.args.words.now 3 _ (omega arith) c.whole-item.is c.in_ok-share.ensures.some.1
+      (sym (ap spelled (all_behind c.args.words.now 4)) ∙ c.in_ok-front.ensures.some.1)))));
+  allowed = c.in_ok-k.ensures.some.2;
+  share_is = c.in_ok-share.ensures.some.2;
+  formed = c.in_ok-front.ensures.some.0;
+}
