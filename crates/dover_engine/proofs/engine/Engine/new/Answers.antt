@@ -1,8 +1,17 @@
-use Rattle.std.proofs.Common.{[], arith}
+use Rattle.std.proofs.Common.{◌≡◌, [], Bool, true, false, length, ap, arith, refl, sym}
+use Rattle.std.specs.Prelude.{if◌then◌else◌, Result, Ok, Err, OnOk}
+use Rattle.std.specs.Result.{is_err}
+use Rattle.std.proofs.lemmas.Bool.{lt-ltb, le-ltb, false≢true}
 use Rattle.dover_model.specs.declared.horizon.Horizon.TheVariants.{Mark}
 use Rattle.dover_model.specs.Horizons.{no_jobs}
+use Rattle.dover_engine.specs.declared.causes.NotMade.TheVariants.{Capacity, Memory}
 use Rattle.dover_engine.proofs.Lives.{new_gave}
 use Rattle.dover_engine.proofs.engine.Engine.new.Goals as goal
+
+-- what stands where there is no error
+on_ok : {A E : Type 0} (o : Result A E) (P : Type 0) → OnOk o P → false ≡ is_err o → P
+on_ok (Ok a) P it none = it
+on_ok (Err e) P it none = absurd (false≢true none)
 
 pub returns-clause-gave : goal.returns-clause-gave
 returns-clause-gave c = new_gave c.args.version c.args.k c.reserve.new.self c.new-2.result
@@ -26,3 +35,27 @@ returns-clause-paid c now = record {
   before = λ d big. omega arith;
   paid = c.reserve.ensures.paid now now (c.in-Ok.ensures.paid now now (omega arith));
 }
+
+pub returns-clause-begins : goal.returns-clause-begins
+returns-clause-begins c = refl
+
+pub returns-clause-room : goal.returns-clause-room
+returns-clause-room c = omega (
+  arith,
+  on_ok c.reserve.result _ c.reserve.ensures.room c.if-is_err.ensures.value,
+  ap length c.in-Ok.ensures.empty,
+  ap length c.reserve.ensures.same,
+  c.if-capacity-gt-MOST_READY.false,
+)
+
+pub returns-then-capacity-gt-MOST_READY-clause-err : goal.returns-then-capacity-gt-MOST_READY-clause-err
+returns-then-capacity-gt-MOST_READY-clause-err c =
+    sym (ap (λ (b : Bool). if b then Capacity else Memory) (lt-ltb _ _ c.if-capacity-gt-MOST_READY.true))
+
+pub returns-in_default-clause-err : goal.returns-in_default-clause-err
+returns-in_default-clause-err c =
+    sym (ap (λ (b : Bool). if b then Capacity else Memory) (le-ltb _ _ c.if-capacity-gt-MOST_READY.false))
+
+pub returns-then-is_err-clause-err : goal.returns-then-is_err-clause-err
+returns-then-is_err-clause-err c =
+    sym (ap (λ (b : Bool). if b then Capacity else Memory) (le-ltb _ _ c.if-capacity-gt-MOST_READY.false))

@@ -1,8 +1,8 @@
-use Rattle.std.proofs.Common.{◌+◌, refl, sym, ap₂, ◌∙◌, subst, arith}
+use Rattle.std.proofs.Common.{◌+◌, refl, sym, ap, ap₂, ◌∙◌, subst, arith}
 use Rattle.dover_model.specs.Rest.{turn_under}
 use Rattle.ready_jobs.proofs.Courses.{no_items}
 use Rattle.dover_engine.specs.Kept.{life_of}
-use Rattle.dover_engine.specs.Life.{life_with, Life, IsAtRest, HasPaid}
+use Rattle.dover_engine.specs.Life.{life_with, Life, IsAtRest, HasPaid, done_value, has_ended, spare_of, room_of}
 use Rattle.dover_engine.specs.Given.{Gave}
 use Rattle.dover_engine.proofs.Lives.{renew_gave, renew_paid}
 use Rattle.dover_engine.proofs.engine.Engine.renew.Goals as goal
@@ -47,3 +47,18 @@ returns-clause-paid c start now paid =
     c.renew.new.self c.new-self-inside.result v.last v.settled v.coming (v.forgotten + v.admission.count)
     (v.earned + c.value-value.result)) refl (c.new-self-inside.ensures.rules
     ∙ ap₂ (λ k version. record { ratio = k; version = version }) c.ratio.ensures c.version.ensures))
+
+pub returns-clause-anew : goal.returns-clause-anew
+returns-clause-anew c = λ rest few least. c.new-self-inside.ensures.stands
+
+pub returns-clause-value : goal.returns-clause-value
+returns-clause-value c = omega (arith, c.renew.ensures.done, c.value-value.ensures.is, ap done_value c.self.view_is)
+
+pub returns-clause-ended : goal.returns-clause-ended
+returns-clause-ended c = c.renew.ensures.ended ∙ ap has_ended c.self.view_is
+
+pub returns-clause-spare : goal.returns-clause-spare
+returns-clause-spare c = c.renew.ensures.spare ∙ ap spare_of c.self.view_is
+
+pub returns-clause-room : goal.returns-clause-room
+returns-clause-room c = ap (λ r. r.room) c.renew.ensures.renewed ∙ ap room_of c.self.view_is
