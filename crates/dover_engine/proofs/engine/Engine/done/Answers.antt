@@ -1,5 +1,6 @@
 use Rattle.std.proofs.Common.{◌≡◌, ℕ, ◌+◌, [], ◌∷◌, sym, ◌∙◌, ap, subst}
 use Rattle.std.specs.Prelude.{None, Some, false, is_some}
+use Rattle.std.proofs.lemmas.Bool.{false≢true}
 use Rattle.dover_model.specs.Instance.{Instance, with_finishes}
 use Rattle.dover_model.specs.Processor.{runner_of}
 use Rattle.dover_model.specs.Rest.{turn_under}
@@ -14,8 +15,23 @@ use Rattle.dover_engine.specs.Given.{Gave}
 use Rattle.dover_engine.specs.Calls.{IsDone, IsNotDone, MayBeDone}
 use Rattle.dover_engine.specs.declared.causes.NotDone.TheVariants.{Behind}
 use Rattle.dover_engine.proofs.Giving.{rests_now}
-use Rattle.dover_engine.proofs.Lives.{may_be_done, has_processor, behind_given, had_then, is_done}
+use Rattle.dover_engine.proofs.Lives.{version_given, may_be_done, has_processor, behind_given, had_then, is_done}
 use Rattle.dover_engine.proofs.engine.Engine.done.Goals as goal
+
+pub returns-then-not-may_finish_early-clause-cause : goal.returns-then-not-may_finish_early-clause-cause
+returns-then-not-may_finish_early-clause-cause c J events gave =
+    let v : Life = life_of c.self.inside in
+    ap may_finish_early (version_given v J events (subst (λ u. Gave u J events) (sym c.self.view_is) gave)
+    ∙ sym c.version.ensures) ∙ sym c.may_finish_early.ensures ∙ c.if-not-may_finish_early.true
+
+pub returns-then-not-is_ready_for-clause-cause : goal.returns-then-not-is_ready_for-clause-cause
+returns-then-not-is_ready_for-clause-cause c =
+    let v : Life = life_of c.self.inside in (
+      λ J events gave.
+          ap may_finish_early (version_given v J events (subst (λ u. Gave u J events) (sym c.self.view_is) gave)
+          ∙ sym c.version.ensures) ∙ sym c.may_finish_early.ensures ∙ c.if-not-may_finish_early.false,
+      λ ready. false≢true (sym c.if-not-is_ready_for.true ∙ c.is_ready_for.ensures.1 ready),
+    )
 
 pub returns-in_default-clause-cause : goal.returns-in_default-clause-cause
 returns-in_default-clause-cause c =
