@@ -1,6 +1,5 @@
-use Rattle.std.proofs.Common.{◌≤◌, ◌∙◌, arith, refl, subst, get_or, []}
+use Rattle.std.proofs.Common.{◌∙◌, arith, refl, get_or, []}
 use Rattle.std.proofs.lemmas.List.{take_all}
-use Rattle.dover_port.specs.Causes.{Rose}
 use Rattle.dover_port.proofs.Through.{passes_nothing}
 use Rattle.serve_word.proofs.Snapped.{passes_line, cuts_line}
 use Rattle.serve_word.proofs.pause.put_lines.Goals as goal
@@ -23,22 +22,6 @@ loop-number-init g c = record {
   writes = refl;
   reads = refl;
   calls = λ well. well;
-}
-
-pub returns-in-Err-clause-cause : goal.returns-in-Err-clause-cause
-returns-in-Err-clause-cause g c = record {
-  later = subst (λ n. n ≤ g.P.Port.write_faults c.put.new.port) c.loop-number.invariant.writes
-      c.in-Err.ensures.cause.later;
-  ok = tt;
-  failed = subst (λ n. Rose n (g.P.Port.write_faults c.put.new.port)) c.loop-number.invariant.writes
-      c.in-Err.ensures.cause.failed;
-  other = c.in-Err.ensures.cause.other ∙ c.loop-number.invariant.reads;
-}
-
-pub returns-in-Err-clause-stops : goal.returns-in-Err-clause-stops
-returns-in-Err-clause-stops g c = record {
-  well = tt;
-  stopped = λ well. c.in-Err.ensures.stops.stopped (c.loop-number.invariant.calls well);
 }
 
 pub returns-in-Err-clause-text : goal.returns-in-Err-clause-text
