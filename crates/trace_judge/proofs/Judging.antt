@@ -2,7 +2,7 @@
 use Rattle.std.proofs.Common.{◌≡◌, ℕ, suc, ◌+◌, ◌-◌, ◌*◌, ◌≤◌, ◌<◌, max, min, List, [], ◌∷◌, ◌++◌, length}
 use Rattle.std.proofs.Common.{length-append, map, take, drop, refl, sym, ap, ◌∙◌, subst, Bool, true, false, cond, ◌||◌}
 use Rattle.std.proofs.Common.{◌&&◌, arith, take-append-drop}
-use Rattle.std.specs.Prelude.{nat_lt, ◌==◌, Result, Ok, Err, OnOk, OnErr, IsErr}
+use Rattle.std.specs.Prelude.{nat_lt, ◌==◌, Result, Ok, Err, OnOk, OnErr, IsErr, IfOk}
 use Rattle.std.specs.List.{filter}
 use Rattle.std.proofs.lemmas.Bool.{lt-ltb}
 use Rattle.std.proofs.lemmas.List.{length-map, append_assoc}
@@ -318,6 +318,11 @@ err_onto (Err e) p f = f p
 pub err_of : {A P : Type 0} (r : Result A Memory) → IsErr r → P → OnErr r P
 err_of (Ok x) is p = never is
 err_of (Err e) is p = p
+
+-- what is said of an answer says nothing where there is none
+pub none_of : {A : Type 0} (P : A → Type 0) (r : Result A Memory) → IsErr r → IfOk r P
+none_of P (Ok x) is = never is
+none_of P (Err e) is = tt
 
 -- ---- texts that go on
 

@@ -20,7 +20,16 @@ use Rattle.trace_judge.specs.declared.stage.Stage.{Stage}
 use Rattle.trace_judge.specs.declared.stage.Stage.TheVariants.{Opening, Going, Ended}
 use Rattle.ready_jobs.specs.Course.{Course, Follows, GoesOnFrom}
 use Rattle.trace_judge.specs.Reads.{Reading, Opens, Goes, Ends, ReadsAhead, Reads, StaysAhead, HasSpare, IsReader}
+use Rattle.trace_judge.specs.Reads.{IsUnchangedFor}
 use Rattle.ready_jobs.proofs.Courses.{follows_room}
+
+-- ---- where the run has gone on
+
+-- the same is kept for what comes next
+pub unchanged_on : (old new : Reading) → new ≡ record old { course = new.course }
+    → new.course.jobs ≡ old.course.jobs → IsUnchangedFor old new
+unchanged_on old new same jobs =
+    record { keep = ap (λ (r : Reading). r.keep) same; spare = ap (λ (r : Reading). r.spare) same; jobs = jobs }
 
 -- ---- by the stage
 

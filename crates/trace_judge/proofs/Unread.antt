@@ -8,7 +8,6 @@ use Rattle.dover_model.specs.declared.events.Event.TheVariants.{Release, Run, Pr
 use Rattle.dover_model.specs.Instance.{Declaration}
 use Rattle.dover_model.specs.State.{State}
 use Rattle.dover_model.specs.Session.{Session, RefusedLine, RefusedJob, RefusedDone, instance_of, admitted_jobs}
-use Rattle.dover_model.specs.Session as lines
 use Rattle.dover_model.proofs.SessionParts as parts
 use Rattle.dover_model.specs.Finishes.{Finish}
 use Rattle.dover_model.specs.Settled.{settled_state}

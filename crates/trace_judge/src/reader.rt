@@ -109,10 +109,7 @@ impl Reader {
     {
         // The header declares the version and the ratio.
         let one = Ratio::new(1, 1).unwrap();
-        let mut steps = Vec::new(alloc);
-        if keep {
-            steps.reserve(1)?;
-        }
+        let steps = Vec::with_capacity(alloc, usize::from(keep))?;
         Ok(Reader {
             stage: Stage::Opening,
             course: Ready::new(alloc, Version::Three, one)?,

@@ -2,7 +2,7 @@ use Rattle.std.proofs.Common.{sym, ap, ◌∙◌}
 use Rattle.std.proofs.lemmas.List.{take_rest}
 use Rattle.dover_model.proofs.Tests.{never}
 use Rattle.trace_judge.specs.Judging.{Judged}
-use Rattle.trace_judge.proofs.Judging.{err_of, wrong_fed, good_not_wrong, stands_good}
+use Rattle.trace_judge.proofs.Judging.{err_of, none_of, wrong_fed, good_not_wrong, stands_good}
 use Rattle.trace_judge.proofs.Spending.{pays_none}
 use Rattle.trace_judge.proofs.EndedLines.{fed_some, overfed_rest, pays_rest}
 use Rattle.trace_judge.proofs.judge.Judge.feed.Goals as goal
@@ -45,3 +45,13 @@ returns-in-Wrong-clause-paid g c = pays_none c.args.self.now c.args.piece.now c.
 
 pub returns-in-NoMemory-clause-paid : goal.returns-in-NoMemory-clause-paid
 returns-in-NoMemory-clause-paid g c = pays_none c.args.self.now c.args.piece.now c.args.steps.now
+
+pub returns-in_err-count-clause-fed : goal.returns-in_err-count-clause-fed
+returns-in_err-count-clause-fed g c = none_of _ c.from_residual.result c.from_residual.ensures.0
+
+pub returns-in_err-count-clause-stays : goal.returns-in_err-count-clause-stays
+returns-in_err-count-clause-stays g c = none_of _ c.from_residual.result c.from_residual.ensures.0
+
+pub returns-in_err-count-clause-failed : goal.returns-in_err-count-clause-failed
+returns-in_err-count-clause-failed g c =
+    err_of c.from_residual.result c.from_residual.ensures.0 c.in_err-count.ensures.failed

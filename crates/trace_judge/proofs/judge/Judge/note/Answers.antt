@@ -1,6 +1,7 @@
 use Rattle.std.proofs.Common.{ap, sym, ◌∙◌, subst, refl}
-use Rattle.std.specs.Prelude.{Ok}
+use Rattle.std.specs.Prelude.{Ok, IsOk, IsErr}
 use Rattle.trace_judge.specs.declared.judge.Found.TheVariants.{NoMemory}
+use Rattle.trace_judge.specs.Reads.{IsPaid}
 use Rattle.trace_judge.specs.Judging.{Judged, Notes, Misses}
 use Rattle.trace_judge.proofs.judge.Judge.note.Goals as goal
 
@@ -19,3 +20,32 @@ returns-clause-notes g c =
     subst (Notes c.args.self.now c.miss.new.self) (sym (c.in-Ok.is ∙ ap Ok c.if-good.false))
     (subst (Misses c.args.self.now c.miss.new.self)
     (c.count-line.ensures ∙ ap (λ (j : Judged). j.lines.count) c.self.view_is) c.miss.ensures.missed)
+
+pub returns-in_default-clause-kept : goal.returns-in_default-clause-kept
+returns-in_default-clause-kept g c = record {
+  keep = ap (λ (j : Judged). j.reader.keep) c.self.view_is;
+  spare = ap (λ (j : Judged). j.reader.spare) c.self.view_is;
+  jobs = ap (λ (j : Judged). j.reader.course.jobs) c.self.view_is;
+}
+
+pub returns-in_default-clause-err : goal.returns-in_default-clause-err
+returns-in_default-clause-err g c = subst IsErr (sym c.in_default.is) refl
+
+pub returns-in_default-clause-paid : goal.returns-in_default-clause-paid
+returns-in_default-clause-paid g c start paid =
+    subst (λ (j : Judged). IsPaid j.reader start c.args.steps.now) (sym c.self.view_is) paid
+
+pub returns-then-good-clause-kept : goal.returns-then-good-clause-kept
+returns-then-good-clause-kept g c = record { keep = refl; spare = refl; jobs = refl }
+
+pub returns-then-good-clause-ok : goal.returns-then-good-clause-ok
+returns-then-good-clause-ok g c = subst IsOk (sym c.in-Ok.is) refl
+
+pub returns-clause-kept : goal.returns-clause-kept
+returns-clause-kept g c = c.miss.ensures.kept
+
+pub returns-clause-ok : goal.returns-clause-ok
+returns-clause-ok g c = subst IsOk (sym c.in-Ok.is) refl
+
+pub returns-clause-paid : goal.returns-clause-paid
+returns-clause-paid g c = c.miss.ensures.paid

@@ -1,8 +1,9 @@
-use Rattle.std.proofs.Common.{sym, subst}
+use Rattle.std.proofs.Common.{sym, subst, ap, ◌∙◌, refl}
+use Rattle.dover_model.specs.Verdict.{expected_after}
 use Rattle.trace_judge.specs.Reads.{IsPaid}
 use Rattle.trace_judge.specs.Reads.{Reading, ReadsAhead}
 use Rattle.trace_judge.proofs.Paying.{paid_on}
-use Rattle.trace_judge.proofs.Readings.{ends_of, ended_due, named_ahead, named_due, next_reader, kept_on}
+use Rattle.trace_judge.proofs.Readings.{opens_of, ends_of, ended_due, named_ahead, named_due, next_reader, kept_on}
 use Rattle.trace_judge.proofs.reader.Reader.due.Goals as goal
 
 pub invariant_of-self : goal.invariant_of-self
@@ -28,3 +29,23 @@ returns-in-Going-clause-paid g c start paid = paid_on _ c.upcoming.new.self _ st
     c.upcoming.new.steps
     (subst (λ (r : Reading). IsPaid r start c.args.steps.now) (sym c.self.view_is) paid)
     (c.upcoming.ensures.paid start) (c.upcoming.ensures.freely start)
+
+pub returns-in-Opening-clause-due : goal.returns-in-Opening-clause-due
+returns-in-Opening-clause-due g c ls reads = ap expected_after (opens_of c.args.self.now ls
+    (ap (λ (r : Reading). r.stage) (sym c.self.view_is) ∙ c.in-Opening.is) reads).lines
+
+pub returns-in-Opening-clause-kept : goal.returns-in-Opening-clause-kept
+returns-in-Opening-clause-kept g c = refl
+
+pub returns-in-Ended-clause-kept : goal.returns-in-Ended-clause-kept
+returns-in-Ended-clause-kept g c = refl
+
+pub returns-in-Opening-clause-ahead : goal.returns-in-Opening-clause-ahead
+returns-in-Opening-clause-ahead g c ls reads = reads
+
+pub returns-in-Ended-clause-ahead : goal.returns-in-Ended-clause-ahead
+returns-in-Ended-clause-ahead g c ls reads = reads
+
+pub returns-in-Going-clause-kept : goal.returns-in-Going-clause-kept
+returns-in-Going-clause-kept g c =
+    ap (λ (r : Reading). record r { course = c.upcoming.new.self }) c.self.view_is

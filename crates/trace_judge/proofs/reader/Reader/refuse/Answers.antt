@@ -1,7 +1,7 @@
-use Rattle.std.proofs.Common.{sym, subst, arith, ap, ◌∙◌}
+use Rattle.std.proofs.Common.{sym, subst, arith, ap, ◌∙◌, refl}
 use Rattle.trace_judge.specs.Reads.{IsPaid}
 use Rattle.trace_judge.specs.Reads.{Reading}
-use Rattle.trace_judge.proofs.Readings.{few_items}
+use Rattle.trace_judge.proofs.Readings.{few_items, unchanged_on}
 use Rattle.trace_judge.proofs.Refusals.{not_waited, refused_few, refused_took, refused_reader, job_line, job_named}
 use Rattle.trace_judge.proofs.Refusals.{job_not, job_may, job_roomy}
 use Rattle.trace_judge.proofs.reader.Reader.refuse.Goals as goal
@@ -62,3 +62,33 @@ overflow_add-self-2 g c = let same = c.self-2.view_is ∙ c.waits_until.ensures.
   ap (λ (r : Reading). r.items) same,
   few_items _ _ (c.may_refuse.ensures.yes c.if-not-may_refuse.false).2,
 )
+
+pub returns-then-not-may_refuse-clause-kept : goal.returns-then-not-may_refuse-clause-kept
+returns-then-not-may_refuse-clause-kept g c = record { keep = refl; spare = refl; jobs = refl }
+
+pub returns-then-not-waits_until-clause-kept : goal.returns-then-not-waits_until-clause-kept
+returns-then-not-waits_until-clause-kept g c = unchanged_on c.args.self.now c.waits_until.new.self
+    c.waits_until.ensures.kept c.waits_until.ensures.course.jobs
+
+pub returns-then-not-waits_until-clause-paid : goal.returns-then-not-waits_until-clause-paid
+returns-then-not-waits_until-clause-paid g c = c.waits_until.ensures.paid
+
+pub returns-then-not-bears_out-clause-kept : goal.returns-then-not-bears_out-clause-kept
+returns-then-not-bears_out-clause-kept g c = unchanged_on c.args.self.now c.waits_until.new.self
+    c.waits_until.ensures.kept c.waits_until.ensures.course.jobs
+
+pub returns-then-not-bears_out-clause-paid : goal.returns-then-not-bears_out-clause-paid
+returns-then-not-bears_out-clause-paid g c = c.waits_until.ensures.paid
+
+pub returns-clause-kept : goal.returns-clause-kept
+returns-clause-kept g c = let same = c.self-2.view_is ∙ c.waits_until.ensures.kept in record {
+  keep = ap (λ (r : Reading). r.keep) same;
+  spare = ap (λ (r : Reading). r.spare) same;
+  jobs = ap (λ (r : Reading). r.course.jobs) c.self-2.view_is ∙ c.waits_until.ensures.course.jobs;
+}
+
+pub waits_until-requires-clause-going : goal.waits_until-requires-clause-going
+waits_until-requires-clause-going g c = c.requires.going
+
+pub waits_until-requires-clause-known : goal.waits_until-requires-clause-known
+waits_until-requires-clause-known g c = (c.may_refuse.ensures.yes c.if-not-may_refuse.false).1

@@ -2,8 +2,9 @@ use Rattle.std.proofs.Common.{◌≡◌, ◌≤◌, ◌+◌, ◌∙◌, sym, ap,
 use Rattle.std.proofs.Common.{arith, ℕ, length, min, true, false}
 use Rattle.dover_model.specs.Limits.{most_ready}
 use Rattle.ready_jobs.specs.Course.{Course}
-use Rattle.trace_judge.specs.Reads.{IsReader}
+use Rattle.trace_judge.specs.Reads.{Reading, IsReader}
 use Rattle.trace_judge.specs.declared.reader.Reader.TheInside.{Inside}
+use Rattle.trace_judge.proofs.Judging.{err_of, none_of}
 use Rattle.trace_judge.proofs.Readings.{reserve_reader}
 use Rattle.trace_judge.proofs.reader.Reader.reserve.Goals as goal
 use Rattle.trace_judge.proofs.reader.Reader.reserve.Goals.{then-self+in_ok-reserve-2, else-self}
@@ -51,3 +52,25 @@ invariant_of-self-2 c =
           (reserve_reader _ c.self.invariant c.reserve.new.self _ c.args.more _ c.reserve.ensures.same refl ready
           (λ keep. absurd (let clash : false ≡ true = sym w.if-self.false ∙ keep in cc)))
     ]
+
+pub returns-in_err-reserve-clause-ok : goal.returns-in_err-reserve-clause-ok
+returns-in_err-reserve-clause-ok c = none_of _ c.from_residual.result c.from_residual.ensures.0
+
+pub returns-in_err-reserve-clause-grows : goal.returns-in_err-reserve-clause-grows
+returns-in_err-reserve-clause-grows c = omega (arith, ap (λ (r : Reading). r.spare) c.self.view_is)
+
+pub returns-in_err-reserve-clause-err : goal.returns-in_err-reserve-clause-err
+returns-in_err-reserve-clause-err c =
+    err_of c.from_residual.result c.from_residual.ensures.0 (ap (λ (r : Reading). r.spare) c.self.view_is)
+
+pub returns-in_err-reserve-2-clause-ok : goal.returns-in_err-reserve-2-clause-ok
+returns-in_err-reserve-2-clause-ok c =
+    none_of _ c.from_residual-in_err-reserve-2.result c.from_residual-in_err-reserve-2.ensures.0
+
+pub returns-in_err-reserve-2-clause-grows : goal.returns-in_err-reserve-2-clause-grows
+returns-in_err-reserve-2-clause-grows c = omega (arith, ap (λ (r : Reading). r.spare) c.self.view_is)
+
+pub returns-in_err-reserve-2-clause-err : goal.returns-in_err-reserve-2-clause-err
+returns-in_err-reserve-2-clause-err c =
+    err_of c.from_residual-in_err-reserve-2.result c.from_residual-in_err-reserve-2.ensures.0
+    (ap (λ (r : Reading). r.spare) c.self.view_is)

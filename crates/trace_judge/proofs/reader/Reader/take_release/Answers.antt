@@ -1,8 +1,10 @@
-use Rattle.std.proofs.Common.{◌≤◌, ℕ, List, ◌∙◌, sym, ap, subst}
+use Rattle.std.proofs.Common.{◌≤◌, ℕ, List, ◌∙◌, sym, ap, subst, arith}
 use Rattle.dover_model.specs.Session.{Session, instance_of}
 use Rattle.dover_model.specs.State.{State}
 use Rattle.dover_model.specs.Leading.{WaitsUntil}
+use Rattle.admission.specs.Kept.{Kept, HasRoom}
 use Rattle.trace_judge.specs.Reads.{Reading, ReadsAhead, Goes, Waited, CanRelease}
+use Rattle.trace_judge.proofs.Judging.{none_of}
 use Rattle.trace_judge.proofs.Readings.{goes_of}
 use Rattle.trace_judge.proofs.Releases.{not_admitted, not_waited, not_roomy, reserved_can, reserved_took}
 use Rattle.trace_judge.proofs.reader.Reader.take_release.Goals as goal
@@ -65,3 +67,84 @@ returns-in_err-make_room-clause-paid g c start paid =
 pub returns-clause-paid : goal.returns-clause-paid
 returns-clause-paid g c start paid = c.admit.ensures.paid start c.waits_until.new.steps
     (c.make_room.ensures.paid start c.waits_until.new.steps (c.waits_until.ensures.paid start paid))
+
+pub returns-then-not-may_admit-clause-spare : goal.returns-then-not-may_admit-clause-spare
+returns-then-not-may_admit-clause-spare g c = omega arith
+
+pub returns-then-not-may_admit-clause-jobs : goal.returns-then-not-may_admit-clause-jobs
+returns-then-not-may_admit-clause-jobs g c = omega arith
+
+pub returns-then-not-waits_until-clause-spare : goal.returns-then-not-waits_until-clause-spare
+returns-then-not-waits_until-clause-spare g c = omega (arith, ap (λ (r : Reading). r.spare) c.waits_until.ensures.kept)
+
+pub returns-then-not-waits_until-clause-keep : goal.returns-then-not-waits_until-clause-keep
+returns-then-not-waits_until-clause-keep g c = ap (λ (r : Reading). r.keep) c.waits_until.ensures.kept
+
+pub returns-then-not-waits_until-clause-jobs : goal.returns-then-not-waits_until-clause-jobs
+returns-then-not-waits_until-clause-jobs g c = omega (arith, c.waits_until.ensures.course.jobs)
+
+pub returns-then-not-waits_until-clause-paid : goal.returns-then-not-waits_until-clause-paid
+returns-then-not-waits_until-clause-paid g c = c.waits_until.ensures.paid
+
+pub returns-then-is_full-clause-spare : goal.returns-then-is_full-clause-spare
+returns-then-is_full-clause-spare g c = omega (arith, ap (λ (r : Reading). r.spare) c.waits_until.ensures.kept)
+
+pub returns-then-is_full-clause-keep : goal.returns-then-is_full-clause-keep
+returns-then-is_full-clause-keep g c = ap (λ (r : Reading). r.keep) c.waits_until.ensures.kept
+
+pub returns-then-is_full-clause-jobs : goal.returns-then-is_full-clause-jobs
+returns-then-is_full-clause-jobs g c = omega (arith, c.waits_until.ensures.course.jobs)
+
+pub returns-then-is_full-clause-paid : goal.returns-then-is_full-clause-paid
+returns-then-is_full-clause-paid g c = c.waits_until.ensures.paid
+
+pub returns-in_err-make_room-clause-took : goal.returns-in_err-make_room-clause-took
+returns-in_err-make_room-clause-took g c = none_of _ c.from_residual.result c.from_residual.ensures.0
+
+pub returns-in_err-make_room-clause-spare : goal.returns-in_err-make_room-clause-spare
+returns-in_err-make_room-clause-spare g c = omega
+    (arith, ap (λ (r : Reading). r.spare) c.waits_until.ensures.kept, c.make_room.ensures.grows)
+
+pub returns-in_err-make_room-clause-keep : goal.returns-in_err-make_room-clause-keep
+returns-in_err-make_room-clause-keep g c =
+    ap (λ (r : Reading). r.keep) c.make_room.ensures.same ∙ ap (λ (r : Reading). r.keep) c.waits_until.ensures.kept
+
+pub returns-in_err-make_room-clause-jobs : goal.returns-in_err-make_room-clause-jobs
+returns-in_err-make_room-clause-jobs g c = omega
+    (arith, ap (λ (r : Reading). r.course.jobs) c.make_room.ensures.same, c.waits_until.ensures.course.jobs)
+
+pub returns-clause-spare : goal.returns-clause-spare
+returns-clause-spare g c = omega (
+  arith,
+  ap (λ (r : Reading). r.spare) c.waits_until.ensures.kept,
+  c.make_room.ensures.grows,
+  c.admit.ensures.spare,
+)
+
+pub returns-clause-keep : goal.returns-clause-keep
+returns-clause-keep g c = c.admit.ensures.keep ∙ ap (λ (r : Reading). r.keep) c.make_room.ensures.same
+    ∙ ap (λ (r : Reading). r.keep) c.waits_until.ensures.kept
+
+pub returns-clause-jobs : goal.returns-clause-jobs
+returns-clause-jobs g c = omega (
+  arith,
+  ap (λ (r : Reading). r.course.jobs) c.make_room.ensures.same,
+  c.waits_until.ensures.course.jobs,
+  c.admit.ensures.jobs,
+)
+
+pub admit-requires-clause-going : goal.admit-requires-clause-going
+admit-requires-clause-going g c = ap (λ (r : Reading). r.stage) c.make_room.ensures.same
+    ∙ ap (λ (r : Reading). r.stage) c.waits_until.ensures.kept ∙ c.requires.going
+
+pub admit-requires-clause-room : goal.admit-requires-clause-room
+admit-requires-clause-room g c = subst (λ (k : Kept). HasRoom k c.args.job)
+    (sym (ap (λ (r : Reading). r.kept) c.make_room.ensures.same
+    ∙ ap (λ (r : Reading). r.kept) c.waits_until.ensures.kept))
+    (c.may_admit.ensures.yes c.if-not-may_admit.false).2
+
+pub admit-requires-clause-spare : goal.admit-requires-clause-spare
+admit-requires-clause-spare g c = c.in_ok-make_room.ensures.ok
+
+pub waits_until-requires-clause-going : goal.waits_until-requires-clause-going
+waits_until-requires-clause-going g c = c.requires.going
