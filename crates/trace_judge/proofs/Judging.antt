@@ -248,6 +248,10 @@ good_stands j text is good = subst (λ f. StandsBy f j text) (sym is) good
 pub stands_good : (j : Judged) (text : List ℕ) → j.found ≡ Good → StandsFor j text → IsGood j text
 stands_good j text is stands = let there : StandsBy Good j text = subst (λ f. StandsBy f j text) is stands in there
 
+-- and it stands for none where memory was lacking
+pub stands_not : (j : Judged) (text : List ℕ) → j.found ≡ NoMemory → StandsFor j text → ⊥
+stands_not j text is stands = let there : StandsBy NoMemory j text = subst (λ f. StandsBy f j text) is stands in there
+
 -- no rest counts behind a line feed
 pub rest_empty : (text : List ℕ) → rest_of text ≡ [] → model.rest_counts text ≡ false
 rest_empty text empty = ap

@@ -1,7 +1,7 @@
 use Rattle.std.proofs.Common.{arith, sym, ap, ◌∙◌, subst, take, length}
 use Rattle.std.proofs.Math.Seq.{take-length}
 use Rattle.trace_judge.specs.Judging.{Judged, Fed}
-use Rattle.trace_judge.proofs.Judging.{wrong_fed}
+use Rattle.trace_judge.proofs.Judging.{wrong_fed, stands_not}
 use Rattle.trace_judge.proofs.Spending.{pays_none}
 use Rattle.trace_judge.proofs.judge.Judge.take.Goals as goal
 
@@ -53,3 +53,7 @@ take_front-requires-clause-some g c = c.requires.some
 
 pub take_front-requires-clause-good : goal.take_front-requires-clause-good
 take_front-requires-clause-good g c = ap (λ (j : Judged). j.found) (sym c.self.view_is) ∙ c.in-Good.is
+
+pub returns-in-NoMemory-clause-room : goal.returns-in-NoMemory-clause-room
+returns-in-NoMemory-clause-room g c text stands = absurd (stands_not c.args.self.now text
+    (ap (λ (j : Judged). j.found) (sym c.self.view_is) ∙ c.in-NoMemory.is) stands)

@@ -1,7 +1,8 @@
-use Rattle.std.proofs.Common.{◌≡◌, true, false, None, Result, Ok, Err, sym, ap, ◌∙◌, subst}
+use Rattle.std.proofs.Common.{◌≡◌, true, false, None, Result, Ok, Err, sym, ap, ◌∙◌, subst, arith}
 use Rattle.std.specs.Prelude.{is_ok}
 use Rattle.dover_model.specs.JobFacts.{JobFacts, job_of_numbers}
 use Rattle.dover_model.specs.Admission.{refusal_of}
+use Rattle.dover_model.proofs.Tests.{never}
 use Rattle.admission.specs.Kept.{Kept, StandsFor}
 use Rattle.admission.specs.Answers.{refusal_in}
 use Rattle.admission.specs.declared.refused.Refused.{Refused}
@@ -24,3 +25,13 @@ returns-clause-no c failed _ _ jobs stands none =
     (sym (c.check-checked.ensures.refusal jobs (subst (λ kept. StandsFor kept jobs) (sym kept_is) stands))
     ∙ ap (refusal_of c.self.inside.admission.rules jobs) same
     ∙ ap (λ (kept : Kept). refusal_of kept.rules jobs j) kept_is ∙ none)
+
+pub returns-then-not-has_room-clause-yes : goal.returns-then-not-has_room-clause-yes
+returns-then-not-has_room-clause-yes c clash = never clash
+
+pub returns-then-not-has_room-clause-admits : goal.returns-then-not-has_room-clause-admits
+returns-then-not-has_room-clause-admits c clash = never clash
+
+pub returns-then-not-has_room-clause-no : goal.returns-then-not-has_room-clause-no
+returns-then-not-has_room-clause-no c _ _ room _ _ _ =
+    absurd (omega (arith, room, c.has_room.ensures.no c.if-not-has_room.true))
