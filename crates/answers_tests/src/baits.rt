@@ -1,5 +1,5 @@
-use adversary::Bait;
 use dover_model::Ratio;
+use stated_jobs::bait::Bait;
 
 /// Ratios and rounds, with how many jobs the feed has, the value that a run completes, and the value of the schedule.
 static FEEDS: [(u32, u32, u32, u32, u64, u64); 6] = [

@@ -1,5 +1,5 @@
 use crate::lists::{Numbers, Stretch, are_in_order, are_stretches, fill};
-use best_set::{Best, BestFault, best};
+use clairvoyant::best::{Best, BestFault, best};
 use dover_model::Job;
 use std::alloc::Global;
 

@@ -1,5 +1,5 @@
 use dover_model::Ratio;
-use trial_jobs::Gen;
+use stated_jobs::trial::Gen;
 
 // Whether these jobs come, by release, work, deadline and value, and none behind them.
 fn are_drawn(mut jobs: Gen, rows: &[(u64, u64, u64, u64)]) -> bool {

@@ -1,5 +1,5 @@
 //! Tests of the judge, of what tells of runs and makes lists of jobs, and of the questions on a list: `trace_judge`,
-//! `dover_report`, `trial_jobs`, `adversary`, `feasibility`, `best_set` and `policy_lab`.
+//! `run_reports`, `stated_jobs`, `clairvoyant` and `policy_lab`.
 #![tactic(auto)]
 
 #[cfg(test)]

@@ -1,8 +1,8 @@
 //! The judge on worked examples. What is expected comes from a reading of the definitions tick by tick, written apart
 //! from the program.
 use crate::lists::{Numbers, Stretch, are_in_order, are_stretches, fill, put};
+use clairvoyant::feasible::{Feasible, an_overfull_window_excludes_meeting, judge_feasible};
 use dover_model::Job;
-use feasibility::{Feasible, an_overfull_window_excludes_meeting, judge_feasible};
 use std::alloc::Global;
 
 /// What is said of a list: that all jobs are met, by these stretches or by so many, or a window and the work in it.

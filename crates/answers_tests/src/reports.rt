@@ -4,7 +4,7 @@ ghost use Rattle.dover_model.specs.declared.events.Event.TheVariants.{End};
 ghost use Rattle.dover_model.specs.JobFacts.{job_of_numbers};
 
 use dover_model::{Event, Job, PackedEvent, Ratio};
-use dover_report::summary;
+use run_reports::report::summary;
 use std::process::Abort;
 
 /// The ratio of these numbers.

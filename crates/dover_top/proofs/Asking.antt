@@ -3,11 +3,11 @@ use Rattle.std.proofs.Common.{◌≡◌, ℕ, ◌+◌, ◌<◌, ◌^◌, List, [
 use Rattle.std.proofs.Common.{subst, arith, drop, length, refl, suc, zero, string_bytes, Option, Some, None}
 use Rattle.std.specs.Prelude.{codes, bytes_eq, unwrap_or, if◌then◌else◌}
 use Rattle.std.specs.declared.alloc.Global.{Global}
-use Rattle.report_word.specs.declared.form.Form.{Form}
-use Rattle.report_word.specs.declared.form.Form.TheVariants.{Text, Table, Chrome, Why, Timeline, Svg}
-use Rattle.duel.specs.declared.links.Share.{Share}
-use Rattle.duel.specs.Kept.{IsShare}
-use Rattle.run_view.specs.declared.window.Window.{Window}
+use Rattle.trace_words.specs.declared.report.form.Form.{Form}
+use Rattle.trace_words.specs.declared.report.form.Form.TheVariants.{Text, Table, Chrome, Why, Timeline, Svg}
+use Rattle.stated_jobs.specs.declared.duel.links.Share.{Share}
+use Rattle.stated_jobs.specs.duel.Kept.{IsShare}
+use Rattle.run_reports.specs.declared.views.window.Window.{Window}
 use Rattle.dover_model.specs.Fraction.{Fraction, IsRatio}
 use Rattle.dover_model.specs.Numerals.{numeral}
 use Rattle.dover_model.proofs.Numerals.{numeral-decimal}
@@ -16,8 +16,8 @@ use Rattle.dover_top.specs.Words.{IsFormed, form_words, spelled}
 use Rattle.dover_top.specs.declared.request.Request.{Request}
 use Rattle.dover_top.specs.declared.request.Request.TheVariants.{Serve, Judge, Report, Trial, Bait, Ask, Lanes, Pause}
 use Rattle.dover_top.specs.declared.request.Request.TheVariants.{Resume, Unroll, Duel, Draw}
-use Rattle.serve_word.specs.declared.at_end.AtEnd.{AtEnd}
-use Rattle.serve_word.specs.declared.at_end.AtEnd.TheVariants as ends
+use Rattle.feed_words.specs.declared.serve.at_end.AtEnd.{AtEnd}
+use Rattle.feed_words.specs.declared.serve.at_end.AtEnd.TheVariants as ends
 use Rattle.question_words.specs.declared.question.Question.TheVariants.{Feasible, Best, Compare, Loss}
 use Rattle.dover_model.proofs.JobLimits.{ratio_limits}
 

@@ -21,25 +21,25 @@ use Rattle.dover_model.proofs.Members.{some_same}
 use Rattle.dover_model.proofs.Valid.{valid_front}
 use Rattle.dover_port.specs.Moves.{Move, ins, outs, has_ended}
 use Rattle.dover_port.specs.declared.status.Status.TheVariants.{Done, Refused}
-use Rattle.serve_word.specs.Talk.{PausesAt, IsServedAs}
-use Rattle.serve_word.specs.declared.at_end.AtEnd.{AtEnd}
-use Rattle.serve_word.specs.declared.at_end.AtEnd.TheVariants as ends
+use Rattle.feed_words.specs.serve.Talk.{PausesAt, IsServedAs}
+use Rattle.feed_words.specs.declared.serve.at_end.AtEnd.{AtEnd}
+use Rattle.feed_words.specs.declared.serve.at_end.AtEnd.TheVariants as ends
 use Rattle.lane_server.proofs.Feeding.{ended_over as said_ended}
-use Rattle.resume_word.specs.Record as resumed
-use Rattle.judge_word.specs.Talk.{IsTrace}
+use Rattle.feed_words.specs.resume.Record as resumed
+use Rattle.trace_words.specs.judge.Talk.{IsTrace}
 use Rattle.question_words.specs.Talk as asked
-use Rattle.trial_jobs.proofs.Drawn.{valid as generated_valid}
-use Rattle.adversary.proofs.Completions.{completes_last_alone}
-use Rattle.adversary.specs.Baiting.{FitsLimits}
-use Rattle.adversary.proofs.Validity.{some_bait, valid as bait_valid}
-use Rattle.adversary.proofs.Plans.{plan_worth}
-use Rattle.duel.specs.declared.links.Share.{Share}
-use Rattle.duel.specs.Kept.{IsShare}
-use Rattle.duel.specs.Answers.{jobs_for, front_of, IsDuel}
-use Rattle.duel.specs.Game.{AreValid}
-use Rattle.duel.proofs.Losing.{each_loses}
-use Rattle.unroll_word.specs.Feeds.{IsFeedOf, feed_of}
-use Rattle.unroll_word.proofs.Feeding.{feed_is}
+use Rattle.stated_jobs.proofs.trial.Drawn.{valid as generated_valid}
+use Rattle.stated_jobs.proofs.bait.Completions.{completes_last_alone}
+use Rattle.stated_jobs.specs.bait.Baiting.{FitsLimits}
+use Rattle.stated_jobs.proofs.bait.Validity.{some_bait, valid as bait_valid}
+use Rattle.stated_jobs.proofs.bait.Plans.{plan_worth}
+use Rattle.stated_jobs.specs.declared.duel.links.Share.{Share}
+use Rattle.stated_jobs.specs.duel.Kept.{IsShare}
+use Rattle.stated_jobs.specs.duel.Answers.{jobs_for, front_of, IsDuel}
+use Rattle.stated_jobs.specs.duel.Game.{AreValid}
+use Rattle.stated_jobs.proofs.duel.Losing.{each_loses}
+use Rattle.task_words.specs.unroll.Feeds.{IsFeedOf, feed_of}
+use Rattle.task_words.proofs.unroll.Feeding.{feed_is}
 use Rattle.dover_model.proofs.JobSessions.{jobs_never}
 use Rattle.trial_words.specs.Dueled.{duel_front}
 use Rattle.trial_words.specs.Lists.{trial_instance}

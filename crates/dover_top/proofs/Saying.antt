@@ -7,10 +7,10 @@ use Rattle.dover_port.specs.declared.status.Status.{Status}
 use Rattle.dover_port.specs.declared.status.Status.TheVariants.{Done, Refused, WriteFault, Memory, Usage}
 use Rattle.dover_port.proofs.Made.{since_weaker}
 use Rattle.dialogue.specs.Talk.{Talks, CanEnd}
-use Rattle.adversary.specs.Baiting.{FitsLimits}
-use Rattle.serve_word.specs.declared.at_end.AtEnd.TheVariants as ends
-use Rattle.duel.specs.declared.links.Share.{Share}
-use Rattle.duel.specs.Kept.{IsShare}
+use Rattle.stated_jobs.specs.bait.Baiting.{FitsLimits}
+use Rattle.feed_words.specs.declared.serve.at_end.AtEnd.TheVariants as ends
+use Rattle.stated_jobs.specs.declared.duel.links.Share.{Share}
+use Rattle.stated_jobs.specs.duel.Kept.{IsShare}
 use Rattle.trial_words.specs.Baited.{Baits}
 use Rattle.trial_words.specs.Dueled.{Duels}
 use Rattle.question_words.specs.Questions.{says}

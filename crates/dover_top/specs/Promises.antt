@@ -18,16 +18,16 @@ use Rattle.dover_model.specs.Trace.{trace_of_session}
 use Rattle.dover_model.specs.Underload.{takes_or_abandons}
 use Rattle.dover_model.specs.Verdict.{Accepted, verdict}
 use Rattle.dover_port.specs.Moves.{Move, ins, outs}
-use Rattle.adversary.specs.BaitingRuns.{CompletesLastAlone}
-use Rattle.duel.specs.declared.links.Share.{Share}
-use Rattle.duel.specs.Answers.{jobs_for}
-use Rattle.duel.specs.Game.{Scheduler, IsOnline, AreValid, LosesOnFront}
-use Rattle.unroll_word.specs.Feeds.{IsFeedOf}
+use Rattle.stated_jobs.specs.bait.BaitingRuns.{CompletesLastAlone}
+use Rattle.stated_jobs.specs.declared.duel.links.Share.{Share}
+use Rattle.stated_jobs.specs.duel.Answers.{jobs_for}
+use Rattle.stated_jobs.specs.duel.Game.{Scheduler, IsOnline, AreValid, LosesOnFront}
+use Rattle.task_words.specs.unroll.Feeds.{IsFeedOf}
 use Rattle.trial_words.specs.Baited.{bait_instance}
 use Rattle.trial_words.specs.Dueled.{duel_front}
 use Rattle.lane_server.specs.Lanes.{Closed, lane_count, input}
 use Rattle.lane_server.specs.Alone.{lane_feed, text_of_lane, served_alone}
-use Rattle.resume_word.specs.Record.{Behind}
+use Rattle.feed_words.specs.resume.Record.{Behind}
 
 -- what stands of the run of a valid list of jobs, whichever of them finish early
 pub record KeepsPromises (J : Instance) : Type 0 where

@@ -4,11 +4,11 @@ use Rattle.dover_model.specs.Reports.{summary}
 use Rattle.dover_port.specs.Moves.{Move}
 use Rattle.dover_port.specs.declared.status.Status.{Status}
 use Rattle.dialogue.specs.Talk.{Talks}
-use Rattle.serve_word.specs.Talk.{feed_talk}
-use Rattle.serve_word.specs.declared.at_end.AtEnd.TheVariants as ends
-use Rattle.resume_word.specs.Record.{Resumes}
-use Rattle.judge_word.specs.Talk.{judge_talk}
-use Rattle.report_word.specs.Talk.{report_talk}
+use Rattle.feed_words.specs.serve.Talk.{feed_talk}
+use Rattle.feed_words.specs.declared.serve.at_end.AtEnd.TheVariants as ends
+use Rattle.feed_words.specs.resume.Record.{Resumes}
+use Rattle.trace_words.specs.judge.Talk.{judge_talk}
+use Rattle.trace_words.specs.report.Talk.{report_talk}
 use Rattle.trial_words.specs.Record.{Writes}
 use Rattle.trial_words.specs.Lists.{trial_instance}
 use Rattle.trial_words.specs.Baited.{Baits}
@@ -17,7 +17,7 @@ use Rattle.trial_words.specs.Dueled.{Duels}
 use Rattle.question_words.specs.Questions.{says}
 use Rattle.question_words.specs.Talk.{ask_talk}
 use Rattle.lanes_word.specs.Record.{Serves}
-use Rattle.unroll_word.specs.Talk.{unroll_talk}
+use Rattle.task_words.specs.unroll.Talk.{unroll_talk}
 use Rattle.dover_top.specs.declared.request.Request.{Request}
 use Rattle.dover_top.specs.declared.request.Request.TheVariants.{Serve, Judge, Report, Trial, Bait, Ask, Lanes, Pause}
 use Rattle.dover_top.specs.declared.request.Request.TheVariants.{Resume, Unroll, Duel, Draw}

@@ -2,11 +2,11 @@
 use Rattle.std.specs.Prelude.{◌≡◌, ℕ, List}
 use Rattle.dover_model.specs.Spending.{CostsAtMost}
 use Rattle.dover_port.specs.Moves.{Move}
-use Rattle.serve_word.specs.Spending as served
-use Rattle.resume_word.specs.Record as resumed
-use Rattle.judge_word.specs.Spending as judged
+use Rattle.feed_words.specs.serve.Spending as served
+use Rattle.feed_words.specs.resume.Record as resumed
+use Rattle.trace_words.specs.judge.Spending as judged
 use Rattle.lanes_word.specs.Spending as hosted
-use Rattle.unroll_word.specs.Spending as unrolled
+use Rattle.task_words.specs.unroll.Spending as unrolled
 use Rattle.dover_top.specs.declared.request.Request.{Request}
 use Rattle.dover_top.specs.declared.request.Request.TheVariants.{Serve, Judge, Report, Trial, Bait, Ask, Lanes, Pause}
 use Rattle.dover_top.specs.declared.request.Request.TheVariants.{Resume, Unroll, Duel, Draw}

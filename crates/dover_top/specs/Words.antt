@@ -5,13 +5,13 @@ use Rattle.std.specs.declared.alloc.Global.{Global}
 use Rattle.dover_model.specs.Fraction.{Fraction, IsRatio}
 use Rattle.dover_model.specs.declared.events.Version.TheVariants.{Two}
 use Rattle.dover_model.specs.Limits.{most_digits, most_jobs, last_tick}
-use Rattle.duel.specs.declared.links.Share.{Share}
-use Rattle.duel.specs.Kept.{IsShare}
-use Rattle.report_word.specs.declared.form.Form.{Form}
-use Rattle.report_word.specs.declared.form.Form.TheVariants.{Text, Table, Chrome, Why, Timeline, Svg}
-use Rattle.run_view.specs.declared.window.Window.{Window}
-use Rattle.serve_word.specs.declared.at_end.AtEnd.{AtEnd}
-use Rattle.serve_word.specs.declared.at_end.AtEnd.TheVariants.{Refuse, Pause}
+use Rattle.stated_jobs.specs.declared.duel.links.Share.{Share}
+use Rattle.stated_jobs.specs.duel.Kept.{IsShare}
+use Rattle.trace_words.specs.declared.report.form.Form.{Form}
+use Rattle.trace_words.specs.declared.report.form.Form.TheVariants.{Text, Table, Chrome, Why, Timeline, Svg}
+use Rattle.run_reports.specs.declared.views.window.Window.{Window}
+use Rattle.feed_words.specs.declared.serve.at_end.AtEnd.{AtEnd}
+use Rattle.feed_words.specs.declared.serve.at_end.AtEnd.TheVariants.{Refuse, Pause}
 use Rattle.question_words.specs.declared.question.Question.{Question}
 use Rattle.question_words.specs.declared.question.Question.TheVariants.{Feasible, Best, Compare, Loss}
 

@@ -7,17 +7,17 @@ ghost use Rattle.dover_top.specs.Requests.{Asks};
 
 use crate::request::Request;
 use dover_port::{Port, Status};
-use judge_word::judge_word;
+use feed_words::resume::resume_word;
+use feed_words::serve::{pause_word, serve_word};
 use lanes_word::lanes_word;
 use question_words::question_word;
-use report_word::report_word;
-use resume_word::resume_word;
-use serve_word::{pause_word, serve_word};
 use std::alloc::Global;
 use std::sync::ledger::Ledger;
 use step_count::Steps;
+use task_words::unroll::unroll_word;
+use trace_words::judge::judge_word;
+use trace_words::report::report_word;
 use trial_words::{bait_word, draw_word, duel_word, trial_word};
-use unroll_word::unroll_word;
 
 /// Carries out a request that some words ask for.
 pub(crate) fn carry_out<P: Port, L: Ledger>(

@@ -2,9 +2,9 @@
 ghost use Rattle.std.specs.Prelude.{◌≡◌, ◌≤◌, ◌<◌, ◌∷◌, [], ◌^◌, ℕ, IfSome, IsNone, Option, String, codes, decimal};
 ghost use Rattle.std.specs.Prelude.{length, map, string_bytes};
 ghost use Rattle.std.specs.declared.alloc.Global.{Global};
-ghost use Rattle.duel.specs.declared.links.Share.{Share};
-ghost use Rattle.duel.specs.Kept.{IsShare};
-ghost use Rattle.run_view.specs.declared.window.Window.{Window};
+ghost use Rattle.stated_jobs.specs.declared.duel.links.Share.{Share};
+ghost use Rattle.stated_jobs.specs.duel.Kept.{IsShare};
+ghost use Rattle.run_reports.specs.declared.views.window.Window.{Window};
 ghost use Rattle.dover_top.specs.Words.{IsFormed, IsFront, IsWindow, form_words, front_words};
 ghost use Rattle.dover_top.specs.Words.{window_words};
 ghost use Rattle.dover_model.specs.Fraction.{Fraction, IsRatio};
@@ -15,12 +15,12 @@ ghost use Rattle.dover_top.specs.declared.request.Request.{Request};
 
 use dover_model::Ratio;
 use dover_model::jobs::LAST_TICK;
-use duel::Share;
+use feed_words::serve::AtEnd;
 use line_text::numeral;
 use question_words::Question;
-use report_word::Form;
-use run_view::Window;
-use serve_word::AtEnd;
+use run_reports::views::Window;
+use stated_jobs::duel::Share;
+use trace_words::report::Form;
 
 /// What the words of the command line ask for, one of the rows of `dover`.
 #[derive(Clone, Copy)]

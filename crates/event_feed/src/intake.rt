@@ -7,7 +7,7 @@ ghost use Rattle.dover_model.specs.Limits.{most_lines};
 ghost use Rattle.dover_model.specs.Session.{Session};
 ghost use Rattle.dover_model.specs.FeedLine as form;
 ghost use Rattle.dover_model.specs.Feed.{Account, Open, account_of_lines, read_line, rules_with, first_line_cause};
-ghost use Rattle.job_format.specs.Form.{form_of};
+ghost use Rattle.line_formats.specs.feeds.Form.{form_of};
 ghost use Rattle.event_feed.specs.Kept.{KeepsSession, cause_of_fault, most_lines_of};
 ghost use Rattle.event_feed.specs.Answers.{NamesOther};
 ghost use Rattle.event_feed.specs.Reading.{first_rules, open_account, TakesIn, IsTaken};
@@ -17,7 +17,7 @@ use crate::faults::{Cause, FeedFault};
 use crate::fed::Fed;
 use crate::kept_session::KeptSession;
 use dover_model::{Ratio, Version};
-use job_format::{FeedLine, read_feed_line};
+use line_formats::feeds::{FeedLine, read_feed_line};
 use line_text::Spelled;
 use std::marker::Model;
 

@@ -11,7 +11,7 @@ use Rattle.dover_model.specs.Lines.{line_of}
 use Rattle.dover_model.specs.Numerals.{AreShort}
 use Rattle.dover_model.specs.Text.{text_of, refused_text, refusal_word, step_numbers}
 use Rattle.dover_model.proofs.Fields.{length-with_numbers}
-use Rattle.trace_format.specs.Form.{refused_job, refused_done}
+use Rattle.line_formats.specs.traces.Form.{refused_job, refused_done}
 
 -- a word, numbers and a word
 numbers_size : (word : List ℕ) (ns : List ℕ) (last : List ℕ) → AreShort ns

@@ -7,14 +7,14 @@ ghost use Rattle.dover_model.specs.Lines.{line_of, with_numbers};
 ghost use Rattle.dover_model.specs.JobFacts.{job_numbers};
 ghost use Rattle.event_feed.specs.Kept.{cause_of_fault};
 ghost use Rattle.lane_server.specs.Lane.{out_text, HasNumerals};
-ghost use Rattle.trace_format.specs.Form.{refused_job, refused_done};
+ghost use Rattle.line_formats.specs.traces.Form.{refused_job, refused_done};
 
 use crate::faults::fault_text;
 use dover_model::{Event, Job, Ratio, Refusal, Version};
 use event_feed::{Cause, FeedFault};
 use lane_server::LaneOut;
+use line_formats::traces::{refusal_word, write_event};
 use line_text::{BackLine, Spelled};
-use trace_format::{refusal_word, write_event};
 
 /// Writes the first line of a trace before its line feed.
 #[inline(never)]

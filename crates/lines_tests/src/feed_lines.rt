@@ -1,4 +1,4 @@
-use job_format::{FeedLine, read_feed_line, write_feed_line};
+use line_formats::feeds::{FeedLine, read_feed_line, write_feed_line};
 use line_text::LineBuf;
 
 // Whether the line is written again as the same bytes, if it is read.

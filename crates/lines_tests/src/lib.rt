@@ -1,5 +1,5 @@
-//! Tests of the crates that read and write lines: `line_text`, `job_format`, `trace_format`, `line_output`, `admission`
-//! and `event_feed`.
+//! Tests of the crates that read and write lines: `line_text`, `line_formats`, `line_output`, `admission` and
+//! `event_feed`.
 #![tactic(auto)]
 
 #[cfg(test)]

@@ -1,6 +1,6 @@
 use dover_model::{Event, Job, Refusal};
+use line_formats::traces::{TraceLine, read_trace_line, write_event};
 use line_text::BackLine;
-use trace_format::{TraceLine, read_trace_line, write_event};
 
 // Whether the line of a step is written again as the same bytes, if it is read. That of a refused line is read alone.
 fn is_written_again(line: &[u8]) -> Option<bool> {

@@ -15,10 +15,10 @@ use Rattle.dover_model.specs.Instance.{total_value}
 use Rattle.dover_model.specs.Schedules.{is_served}
 use Rattle.dover_model.proofs.Members.{filter_none, cond_le}
 use Rattle.dover_model.proofs.Parting.{worth_to}
-use Rattle.feasibility.specs.declared.answer.Feasible.{Feasible}
-use Rattle.feasibility.specs.declared.answer.Feasible.TheVariants.{Window}
-use Rattle.feasibility.specs.Feasibility.{CanMeet, IsAnswer, IsDeadline, ShowsWindow}
-use Rattle.feasibility.proofs.Overfull.{overfull_excludes}
+use Rattle.clairvoyant.specs.declared.feasible.answer.Feasible.{Feasible}
+use Rattle.clairvoyant.specs.declared.feasible.answer.Feasible.TheVariants.{Window}
+use Rattle.clairvoyant.specs.feasible.Feasibility.{CanMeet, IsAnswer, IsDeadline, ShowsWindow}
+use Rattle.clairvoyant.proofs.feasible.Overfull.{overfull_excludes}
 use Rattle.overload.specs.declared.stretch.Stretch.{Stretch}
 use Rattle.overload.specs.Stretches.{IsStretch, IsWorth}
 use Rattle.dover_model.proofs.JobLimits.{job_limits}

@@ -6,7 +6,7 @@ use Rattle.dover_model.specs.Instance.{Rules, total_value}
 use Rattle.dover_model.specs.Schedules.{worth}
 use Rattle.dover_model.specs.Sound.{Each}
 use Rattle.dover_model.specs.Windows.{is_inside, work_inside}
-use Rattle.feasibility.specs.Feasibility.{CanMeet}
+use Rattle.clairvoyant.specs.feasible.Feasibility.{CanMeet}
 use Rattle.overload.specs.declared.stretch.Costed.{Costed}
 use Rattle.overload.specs.declared.stretch.Stretch.{Stretch}
 

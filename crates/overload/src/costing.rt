@@ -6,7 +6,7 @@ ghost use Rattle.dover_model.specs.declared.events.Version.TheVariants.{Two};
 ghost use Rattle.dover_model.specs.Limits.{last_tick, most_jobs, most_value};
 ghost use Rattle.dover_model.specs.Sound.{Each};
 ghost use Rattle.dover_model.specs.Windows.{is_inside, work_inside};
-ghost use Rattle.feasibility.specs.Feasibility.{CanMeet};
+ghost use Rattle.clairvoyant.specs.feasible.Feasibility.{CanMeet};
 ghost use Rattle.overload.specs.Stretches.{IsStretch, IsCosted, IsWorth, jobs_inside, value_inside};
 ghost use Rattle.overload.specs.Collecting.{HasCosted, IsCut, IsNear};
 
@@ -14,9 +14,9 @@ use crate::caps::{MOST_SETS, cap};
 use crate::overfull::{Ticks, overfull};
 use crate::released::{is_inside, released};
 use crate::stretch::{Costed, Stretch};
+use clairvoyant::feasible::{Feasible, judge_feasible, work_inside};
 use dover_model::jobs::{LAST_TICK, total_value};
 use dover_model::{Job, Memory};
-use feasibility::{Feasible, judge_feasible, work_inside};
 use std::alloc::Global;
 
 /// Those of the jobs that are released and due in some ticks.

@@ -1,6 +1,6 @@
 -- What the word `best` says is what was found.
 use Rattle.std.proofs.Common.{◌≡◌, ◌≤◌, ◌<◌, ℕ, List, length, sym, ap, ◌∙◌, subst, codes}
-use Rattle.best_set.specs.BestSet.{IsBestSet, value_of, pieces_of}
+use Rattle.clairvoyant.specs.best.BestSet.{IsBestSet, value_of, pieces_of}
 use Rattle.dover_model.specs.Bound.{bound}
 use Rattle.dover_model.specs.Instance.{Rules, Instance, IsValid}
 use Rattle.dover_model.specs.JobFacts.{JobFacts}

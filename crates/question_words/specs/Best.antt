@@ -1,6 +1,6 @@
 -- What the word `best` says of the jobs of a feed.
 use Rattle.std.specs.Prelude.{◌≡◌, ◌<◌, ◌≤◌, ℕ, List, [], ◌∷◌, length, codes}
-use Rattle.best_set.specs.BestSet.{IsBestSet, value_of, pieces_of}
+use Rattle.clairvoyant.specs.best.BestSet.{IsBestSet, value_of, pieces_of}
 use Rattle.dover_model.specs.Bound.{bound}
 use Rattle.dover_model.specs.Instance.{Instance}
 use Rattle.dover_model.specs.Lines.{with_numbers, in_lines}

@@ -6,7 +6,7 @@ use Rattle.dover_model.specs.Schedules.{Meets}
 use Rattle.dover_model.specs.declared.pieces.Piece.{Piece}
 use Rattle.dover_port.specs.declared.status.Status.{Status}
 use Rattle.dover_port.specs.declared.status.Status.TheVariants.{Done, No, Refused}
-use Rattle.feasibility.specs.Feasibility.{ShowsAll, ShowsWindow}
+use Rattle.clairvoyant.specs.feasible.Feasibility.{ShowsAll, ShowsWindow}
 use Rattle.dialogue.specs.Sizes.{size_text}
 use Rattle.question_words.specs.Texts.{piece_lines}
 

@@ -9,7 +9,7 @@ ghost use Rattle.question_words.specs.Texts.{text_of};
 
 use crate::answer::{Answer, Rows};
 use crate::observing::observe;
-use best_set::best;
+use clairvoyant::best::best;
 use dover_model::Memory;
 use dover_port::Status;
 use event_feed::Listed;

@@ -8,10 +8,10 @@ ghost use Rattle.question_words.specs.Texts.{text_of};
 
 use crate::answer::{Answer, Rows};
 use crate::limits::is_listable;
+use clairvoyant::feasible::{Feasible, judge_feasible};
 use dover_model::Memory;
 use dover_port::Status;
 use event_feed::Listed;
-use feasibility::{Feasible, judge_feasible};
 use line_text::BackLine;
 use std::alloc::Global;
 

@@ -18,7 +18,7 @@ use crate::completing::Completion;
 use dover_model::{Event, Horizon, Job, Memory, PackedEvent};
 use event_feed::Listed;
 use ready_server::{ReadyServer, Watcher, finish_job, serve_jobs, show_to};
-use room_ledger::hads;
+use run_record::ledger::hads;
 use std::alloc::Global;
 use std::sync::ledger::Ledger;
 use step_count::Steps;

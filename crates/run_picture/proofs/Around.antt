@@ -1,9 +1,9 @@
 -- The axis, step by step.
 use Rattle.std.proofs.Common.{◌≡◌, ℕ, zero, suc, ◌+◌, ◌-◌, ◌≤◌, ◌<◌, ◌++◌, sym, ap, ◌∙◌}
 use Rattle.std.proofs.Common.{append_assoc, append-nil, arith}
-use Rattle.run_view.specs.Templates.{Text}
+use Rattle.run_reports.specs.views.Templates.{Text}
 use Rattle.run_picture.specs.Frame.{next_ten, tens, mark, marks_from}
-use Rattle.run_view.specs.declared.window.Window.{Window}
+use Rattle.run_reports.specs.declared.views.window.Window.{Window}
 
 -- one more time
 pub tens_more : (left span ten next whole : ℕ) → 0 < left → next ≡ next_ten span ten → tens left span ten ≡ whole

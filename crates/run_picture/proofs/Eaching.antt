@@ -3,7 +3,7 @@ use Rattle.std.proofs.Common.{◌≡◌, ℕ, zero, suc, ◌+◌, ◌≤◌, ◌
 use Rattle.std.proofs.Common.{sym, ap, ◌∙◌, add-one, append_assoc, append-nil, arith}
 use Rattle.std.proofs.lemmas.List.{take_all, get_or_default}
 use Rattle.std.specs.List.{flat_map}
-use Rattle.run_view.specs.Templates.{Text}
+use Rattle.run_reports.specs.views.Templates.{Text}
 
 -- the text of one more item stands behind those before it
 flat_next : {A : Type 0} (f : A → Text) (xs : List A) (i : ℕ) (x : A) → x ≡ get_or xs i x → i < length xs

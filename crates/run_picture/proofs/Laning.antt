@@ -6,7 +6,7 @@ use Rattle.std.specs.Prelude.{Bool, true, false, nat_lt, if◌then◌else◌}
 use Rattle.run_picture.specs.Lanes.{shows, free_row, with_due, lanes_from}
 use Rattle.run_picture.specs.declared.seen.Seen.{Seen}
 use Rattle.run_picture.specs.declared.lanes.Lane.{Lane}
-use Rattle.run_view.specs.declared.window.Window.{Window}
+use Rattle.run_reports.specs.declared.views.window.Window.{Window}
 use Rattle.run_picture.proofs.Going.{goes_on}
 
 -- the row of a job, and what is due in the rows behind it

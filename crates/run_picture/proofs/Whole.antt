@@ -12,16 +12,16 @@ use Rattle.dover_model.specs.Fraction.{Fraction}
 use Rattle.dover_model.specs.JobFacts.{JobFacts}
 use Rattle.dover_model.specs.Instance.{Instance}
 use Rattle.dover_model.specs.Run.{completed_value}
-use Rattle.intervals.specs.Rows.{IsRunOf, rows_of, weights}
-use Rattle.intervals.specs.declared.interval.Interval.{Interval}
-use Rattle.dover_report.specs.Counts.{counts_of, jobs_released}
+use Rattle.run_record.specs.intervals.Rows.{IsRunOf, rows_of, weights}
+use Rattle.run_record.specs.declared.intervals.interval.Interval.{Interval}
+use Rattle.run_reports.specs.report.Counts.{counts_of, jobs_released}
 use Rattle.run_picture.specs.declared.frame.Totals.{Totals}
-use Rattle.dover_report.proofs.Counting.{jobs_are}
-use Rattle.run_view.specs.Templates.{Text}
+use Rattle.run_reports.proofs.report.Counting.{jobs_are}
+use Rattle.run_reports.specs.views.Templates.{Text}
 use Rattle.run_picture.specs.Seen.{fresh, taking, done, gone, seen_at, told_of, with_step, told_by}
 use Rattle.run_picture.specs.Processor.{pieces_from}
 use Rattle.run_picture.specs.Pictures.{window_of, drawn, totals, picture}
-use Rattle.run_view.specs.declared.window.Window.{Window}
+use Rattle.run_reports.specs.declared.views.window.Window.{Window}
 use Rattle.run_picture.specs.declared.seen.Seen.{Seen}
 
 -- ---- no more jobs than steps

@@ -5,9 +5,9 @@ use Rattle.std.specs.Fmt.{digits}
 use Rattle.dover_model.specs.Instance.{Instance}
 use Rattle.dover_model.proofs.Written.{job, one}
 use Rattle.dover_model.specs.Run.{printed}
-use Rattle.dover_report.proofs.WorkedRows.{held_and_early, took_and_early}
-use Rattle.run_view.specs.Moments.{moments}
-use Rattle.run_view.specs.Templates.{filled}
+use Rattle.run_reports.proofs.report.WorkedRows.{held_and_early, took_and_early}
+use Rattle.run_reports.specs.views.Moments.{moments}
+use Rattle.run_reports.specs.views.Templates.{filled}
 use Rattle.run_picture.specs.Processor.{pieces_from}
 use Rattle.run_picture.specs.Seen.{told_by, fate_tick}
 use Rattle.run_picture.specs.Legends.{texts_style, labels_style, bars_style, lines_style, texts_styles, paths_styles}

@@ -2,11 +2,11 @@
 use Rattle.std.specs.Prelude.{ℕ, min, max, List, [], ◌∷◌, ◌++◌, ◌==◌, if◌then◌else◌, codes}
 use Rattle.dover_model.specs.declared.events.Event.{Event}
 use Rattle.dover_model.specs.JobFacts.{JobFacts}
-use Rattle.run_view.specs.Templates.{Text, filled}
+use Rattle.run_reports.specs.views.Templates.{Text, filled}
 use Rattle.dover_model.specs.Settled.{tick_of_event}
 use Rattle.run_picture.specs.Plot.{column_at}
 use Rattle.run_picture.specs.Outlines.{after, rise}
-use Rattle.run_view.specs.declared.window.Window.{Window}
+use Rattle.run_reports.specs.declared.views.window.Window.{Window}
 use Rattle.run_picture.specs.declared.outline.Measure.{Measure}
 use Rattle.run_picture.specs.declared.outline.Outline.{Outline}
 

@@ -2,14 +2,14 @@
 use Rattle.std.specs.Prelude.{ℕ, zero, suc, ◌+◌, ◌-◌, ◌*◌, ◌/◌, List, [], ◌∷◌, ◌++◌, Bool, not, ◌&&◌, ◌||◌, ◌==◌}
 use Rattle.std.specs.Prelude.{nat_le, nat_lt, if◌then◌else◌, codes}
 use Rattle.std.specs.List.{flat_map}
-use Rattle.dover_report.specs.declared.counts.Counts.{Counts}
-use Rattle.intervals.specs.declared.interval.Interval.{Interval}
-use Rattle.run_view.specs.Templates.{Text, filled}
+use Rattle.run_reports.specs.declared.report.counts.Counts.{Counts}
+use Rattle.run_record.specs.declared.intervals.interval.Interval.{Interval}
+use Rattle.run_reports.specs.views.Templates.{Text, filled}
 use Rattle.run_picture.specs.declared.frame.Totals.{Totals}
 use Rattle.run_picture.specs.Sizes.{digits_of, room}
 use Rattle.run_picture.specs.Plot.{x_at, meets, pixels, bar}
 use Rattle.run_picture.specs.Legends.{styles, legend}
-use Rattle.run_view.specs.declared.window.Window.{Window}
+use Rattle.run_reports.specs.declared.views.window.Window.{Window}
 
 -- ---- the page
 

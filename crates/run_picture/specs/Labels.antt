@@ -1,12 +1,12 @@
 -- What is written in the lanes: the jobs' numbers, and what their losses weighed, where there is room.
 use Rattle.std.specs.Prelude.{ℕ, ◌+◌, ◌*◌, List, [], ◌∷◌, ◌++◌, Bool, ◌&&◌, nat_le, if◌then◌else◌, codes}
 use Rattle.std.specs.List.{flat_map}
-use Rattle.run_view.specs.Templates.{Text, filled}
+use Rattle.run_reports.specs.views.Templates.{Text, filled}
 use Rattle.run_picture.specs.Sizes.{digits_of, room}
 use Rattle.run_picture.specs.Plot.{x_at, has, pixels}
 use Rattle.run_picture.specs.Seen.{fate_tick, is_gone}
 use Rattle.run_picture.specs.Lanes.{shows, middle}
-use Rattle.run_view.specs.declared.window.Window.{Window}
+use Rattle.run_reports.specs.declared.views.window.Window.{Window}
 use Rattle.run_picture.specs.declared.seen.Seen.{Seen}
 use Rattle.run_picture.specs.declared.lanes.Lane.{Lane}
 

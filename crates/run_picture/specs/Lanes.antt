@@ -5,7 +5,7 @@ use Rattle.std.specs.Prelude.{slice_index_or}
 use Rattle.std.specs.List.{count_by, fold}
 use Rattle.run_picture.specs.Plot.{meets}
 use Rattle.run_picture.specs.Seen.{nobody}
-use Rattle.run_view.specs.declared.window.Window.{Window}
+use Rattle.run_reports.specs.declared.views.window.Window.{Window}
 use Rattle.run_picture.specs.declared.seen.Seen.{Seen}
 use Rattle.run_picture.specs.declared.lanes.Lane.{Lane}
 

@@ -1,6 +1,6 @@
 -- The texts of a picture that don't depend on the run: how texts look, the colors, and what they mean.
 use Rattle.std.specs.Prelude.{◌++◌, codes}
-use Rattle.run_view.specs.Templates.{Text}
+use Rattle.run_reports.specs.views.Templates.{Text}
 
 -- how texts look
 unfoldable pub texts_style : Text

@@ -3,11 +3,11 @@ use Rattle.std.specs.Prelude.{ℕ, ◌-◌, ◌/◌, List, [], ◌∷◌, ◌++�
 use Rattle.std.specs.List.{flat_map}
 use Rattle.dover_model.specs.declared.events.Event.{Event}
 use Rattle.dover_model.specs.declared.events.Event.TheVariants.{Preempt, Take, Abandon}
-use Rattle.run_view.specs.Templates.{Text, filled}
+use Rattle.run_reports.specs.views.Templates.{Text, filled}
 use Rattle.run_picture.specs.Plot.{x_at, meets, has, bar}
 use Rattle.run_picture.specs.Seen.{fate_tick}
 use Rattle.run_picture.specs.Lanes.{shows, lane_at, middle}
-use Rattle.run_view.specs.declared.window.Window.{Window}
+use Rattle.run_reports.specs.declared.views.window.Window.{Window}
 use Rattle.run_picture.specs.declared.lanes.Lane.{Lane}
 
 -- ---- held jobs

@@ -4,10 +4,10 @@ use Rattle.dover_model.specs.declared.events.Event.{Event}
 use Rattle.dover_model.specs.declared.events.Event.TheVariants.{Complete, Abandon}
 use Rattle.dover_model.specs.JobFacts.{JobFacts}
 use Rattle.dover_model.specs.Settled.{tick_of_event}
-use Rattle.dover_report.specs.Counts.{value_in}
-use Rattle.run_view.specs.Templates.{Text, filled}
+use Rattle.run_reports.specs.report.Counts.{value_in}
+use Rattle.run_reports.specs.views.Templates.{Text, filled}
 use Rattle.run_picture.specs.Plot.{scaled, x_at, column_at, has}
-use Rattle.run_view.specs.declared.window.Window.{Window}
+use Rattle.run_reports.specs.declared.views.window.Window.{Window}
 use Rattle.run_picture.specs.declared.outline.Measure.{Measure}
 use Rattle.run_picture.specs.declared.outline.Measure.TheVariants.{Completed, Decided}
 use Rattle.run_picture.specs.declared.outline.Outline.{Outline}

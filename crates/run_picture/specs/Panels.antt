@@ -2,12 +2,12 @@
 use Rattle.std.specs.Prelude.{ℕ, ◌+◌, ◌-◌, ◌/◌, min, max, List, [], ◌∷◌, ◌++◌, Bool, true, codes}
 use Rattle.dover_model.specs.declared.events.Event.{Event}
 use Rattle.dover_model.specs.JobFacts.{JobFacts}
-use Rattle.run_view.specs.Templates.{Text, filled}
+use Rattle.run_reports.specs.views.Templates.{Text, filled}
 use Rattle.run_picture.specs.Columns.{fullest, towers}
 use Rattle.run_picture.specs.Outlines.{greatest, outline}
 use Rattle.run_picture.specs.Plot.{scaled}
 use Rattle.run_picture.specs.Ready.{most_ready, peaks}
-use Rattle.run_view.specs.declared.window.Window.{Window}
+use Rattle.run_reports.specs.declared.views.window.Window.{Window}
 use Rattle.run_picture.specs.declared.outline.Measure.{Measure}
 use Rattle.run_picture.specs.declared.outline.Measure.TheVariants.{Completed, Decided}
 use Rattle.run_picture.specs.declared.outline.Outline.{Outline}

@@ -9,12 +9,12 @@ use Rattle.dover_model.specs.JobFacts.{JobFacts}
 use Rattle.dover_model.specs.Instance.{Instance}
 use Rattle.dover_model.specs.Limits.{last_tick}
 use Rattle.dover_model.specs.Run.{printed, completed_value, last_deadline}
-use Rattle.intervals.specs.Rows.{rows_of}
-use Rattle.intervals.specs.declared.interval.Interval.{Interval}
-use Rattle.dover_report.specs.Counts.{counts_of}
-use Rattle.dover_report.specs.declared.counts.Counts.{Counts}
-use Rattle.run_view.specs.Moments.{moments}
-use Rattle.run_view.specs.Templates.{Text, filled}
+use Rattle.run_record.specs.intervals.Rows.{rows_of}
+use Rattle.run_record.specs.declared.intervals.interval.Interval.{Interval}
+use Rattle.run_reports.specs.report.Counts.{counts_of}
+use Rattle.run_reports.specs.declared.report.counts.Counts.{Counts}
+use Rattle.run_reports.specs.views.Moments.{moments}
+use Rattle.run_reports.specs.views.Templates.{Text, filled}
 use Rattle.run_picture.specs.Seen.{told_by}
 use Rattle.run_picture.specs.Processor.{pieces_from}
 use Rattle.run_picture.specs.Lanes.{shown, lanes_from, height, unit_of}
@@ -25,7 +25,7 @@ use Rattle.run_picture.specs.Marks.{holds, crosses, arrows}
 use Rattle.run_picture.specs.Panels.{values, ready, columns}
 use Rattle.run_picture.specs.Legends.{lanes_legend, load_legend}
 use Rattle.run_picture.specs.Frame.{page, axis, bands, band_words, bars_front, bars_end}
-use Rattle.run_view.specs.declared.window.Window.{Window}
+use Rattle.run_reports.specs.declared.views.window.Window.{Window}
 use Rattle.run_picture.specs.declared.frame.Totals.{Totals}
 use Rattle.run_picture.specs.declared.seen.Seen.{Seen}
 use Rattle.run_picture.specs.declared.lanes.Lane.{Lane}

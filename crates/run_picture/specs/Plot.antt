@@ -1,8 +1,8 @@
 -- Where a tick stands in the picture: the plot is 1,200 pixels wide, from pixel 90 on.
 use Rattle.std.specs.Prelude.{ℕ, ◌+◌, ◌-◌, ◌*◌, ◌/◌, min, max, [], ◌∷◌, Bool, ◌&&◌, ◌==◌, nat_le, nat_lt, codes}
 use Rattle.std.specs.Prelude.{if◌then◌else◌}
-use Rattle.run_view.specs.Templates.{Text, filled}
-use Rattle.run_view.specs.declared.window.Window.{Window}
+use Rattle.run_reports.specs.views.Templates.{Text, filled}
+use Rattle.run_reports.specs.declared.views.window.Window.{Window}
 
 -- a part of the whole, where the whole is so high
 abbrev pub scaled : (part whole high : ℕ) → ℕ

@@ -2,12 +2,12 @@
 use Rattle.std.specs.Prelude.{ℕ, ◌+◌, ◌-◌, max, List, [], ◌∷◌, ◌++◌, Bool, ◌==◌, nat_lt, if◌then◌else◌, codes}
 use Rattle.dover_model.specs.declared.events.Event.{Event}
 use Rattle.dover_model.specs.declared.events.Event.TheVariants.{Release, Complete, Abandon}
-use Rattle.run_view.specs.Templates.{Text}
+use Rattle.run_reports.specs.views.Templates.{Text}
 use Rattle.dover_model.specs.Settled.{tick_of_event}
 use Rattle.run_picture.specs.Plot.{scaled, has}
 use Rattle.run_picture.specs.Outlines.{stair, last_stair}
 use Rattle.run_picture.specs.Columns.{column_of}
-use Rattle.run_view.specs.declared.window.Window.{Window}
+use Rattle.run_reports.specs.declared.views.window.Window.{Window}
 
 -- ---- how many are ready
 

@@ -2,12 +2,12 @@
 use Rattle.std.specs.Prelude.{ℕ, ◌+◌, ◌/◌, List, [], ◌∷◌, ◌&&◌, ◌==◌, nat_le, if◌then◌else◌, codes}
 use Rattle.std.specs.List.{flat_map}
 use Rattle.dover_model.specs.declared.pieces.Piece.{Piece}
-use Rattle.run_view.specs.Templates.{Text, filled}
+use Rattle.run_reports.specs.views.Templates.{Text, filled}
 use Rattle.run_picture.specs.Sizes.{room}
 use Rattle.run_picture.specs.Plot.{x_at, meets, pixels, bar}
 use Rattle.run_picture.specs.Seen.{tint}
 use Rattle.run_picture.specs.Lanes.{lane_at, middle}
-use Rattle.run_view.specs.declared.window.Window.{Window}
+use Rattle.run_reports.specs.declared.views.window.Window.{Window}
 use Rattle.run_picture.specs.declared.lanes.Lane.{Lane}
 use Rattle.run_picture.specs.declared.strip.Bars.{Bars}
 

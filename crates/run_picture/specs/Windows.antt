@@ -1,11 +1,11 @@
 -- The jobs' windows in their lanes: a bar from release to deadline, whose tooltip has the job's numbers and its fate.
 use Rattle.std.specs.Prelude.{ℕ, List, [], ◌∷◌, ◌++◌, Bool, if◌then◌else◌, codes}
 use Rattle.std.specs.List.{flat_map}
-use Rattle.run_view.specs.Templates.{Text, filled}
+use Rattle.run_reports.specs.views.Templates.{Text, filled}
 use Rattle.run_picture.specs.Plot.{bar}
 use Rattle.run_picture.specs.Seen.{is_gone}
 use Rattle.run_picture.specs.Lanes.{shows, middle}
-use Rattle.run_view.specs.declared.window.Window.{Window}
+use Rattle.run_reports.specs.declared.views.window.Window.{Window}
 use Rattle.run_picture.specs.declared.seen.Fate.{Fate}
 use Rattle.run_picture.specs.declared.seen.Fate.TheVariants.{Open, Completed, Abandoned}
 use Rattle.run_picture.specs.declared.seen.Seen.{Seen}

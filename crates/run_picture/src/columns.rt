@@ -7,7 +7,7 @@ ghost use Rattle.run_picture.specs.Frame.{bars_end};
 use crate::outline::{Measure, Outline, after, rise, tick_of};
 use crate::plot::{Window, column_at, put_text};
 use dover_model::{Job, Memory, PackedEvent};
-use run_view::template::put;
+use run_reports::views::template::put;
 
 /// The left pixel of the column of a step, never before pixel x.
 pub fn column_of(window: Window, x: u64, event: &PackedEvent) -> u64

@@ -1,6 +1,6 @@
 //! The picture as a whole.
 ghost use Rattle.std.specs.Prelude.{◌≡◌, ◌≤◌, ◌+◌, ◌++◌, ◌^◌, [], length, OnOk, IfOk, Option};
-ghost use Rattle.intervals.specs.Rows.{IsRunOf};
+ghost use Rattle.run_record.specs.intervals.Rows.{IsRunOf};
 ghost use Rattle.dover_model.specs.Instance.{Instance};
 ghost use Rattle.dover_model.specs.Limits.{last_tick};
 ghost use Rattle.dover_model.specs.Run as runs;
@@ -20,8 +20,8 @@ use crate::strip::{Bars, put_numbers, put_pieces};
 use crate::windows::put_windows;
 use dover_model::jobs::LAST_TICK;
 use dover_model::{Job, Memory, PackedEvent, Piece, Ratio};
-use dover_report::{count, released};
-use intervals::{Charge, Interval, weights};
+use run_record::intervals::{Charge, Interval, weights};
+use run_reports::report::{count, released};
 use std::alloc::Global;
 
 /// The run that prints these steps as SVG: the processor, a lane for each job that the window shows, or above 400 of

@@ -7,9 +7,9 @@ use crate::legends::{put_legend, put_styles};
 use crate::plot::{Window, meets, pixels, put_bar, put_text, x_at};
 use crate::sizes::{digits_of, room};
 use dover_model::Memory;
-use dover_report::Counts;
-use intervals::Interval;
-use run_view::template::put;
+use run_record::intervals::Interval;
+use run_reports::report::Counts;
+use run_reports::views::template::put;
 
 /// The numbers of a title: those of the summary, and how many lines were refused.
 #[derive(Clone, Copy)]

@@ -7,7 +7,7 @@ use crate::plot::{Window, has, pixels, put_text, x_at};
 use crate::seen::Seen;
 use crate::sizes::{digits_of, room};
 use dover_model::Memory;
-use run_view::template::put;
+use run_reports::views::template::put;
 
 /// Appends what is written in all lanes, where rows are high enough.
 pub fn put_labels(

@@ -7,7 +7,7 @@ ghost use Rattle.run_picture.specs.Pictures as pictures;
 use crate::lanes::{Lane, lane_at, middle, shows};
 use crate::plot::{Window, has, meets, put_bar, put_text, x_at};
 use dover_model::{Event, Memory, PackedEvent};
-use run_view::template::put;
+use run_reports::views::template::put;
 
 /// Appends bars where jobs are started and not over.
 pub fn put_holds(

@@ -2,14 +2,14 @@
 ghost use Rattle.std.specs.Prelude.{◌≡◌, ◌≤◌, ◌+◌, ◌++◌, [], ◌∷◌, length, OnOk};
 ghost use Rattle.dover_model.specs.Limits.{most_value};
 ghost use Rattle.dover_model.specs.Settled.{tick_of_event};
-ghost use Rattle.run_view.specs.Templates.{filled};
+ghost use Rattle.run_reports.specs.views.Templates.{filled};
 ghost use Rattle.run_picture.specs.Frame.{bars_end};
 ghost use Rattle.run_picture.specs.Outlines as outlines;
 
 use crate::plot::{Window, column_at, has, scaled, x_at};
 use dover_model::{Event, Job, Memory, PackedEvent};
-use dover_report::value_of;
-use run_view::template::put;
+use run_reports::report::value_of;
+use run_reports::views::template::put;
 
 /// What is measured.
 #[derive(Clone, Copy)]

@@ -7,7 +7,7 @@ use crate::outline::{Measure, Outline, greatest, put_outline};
 use crate::plot::{Window, scaled};
 use crate::ready::{most_ready, put_peaks};
 use dover_model::{Job, Memory, PackedEvent};
-use run_view::template::put;
+use run_reports::views::template::put;
 
 /// Appends the panel of the values so far in the window: the value completed, and on it the value lost.
 pub fn put_values(

@@ -3,8 +3,8 @@ ghost use Rattle.std.specs.Prelude.{◌≡◌, ◌≤◌, ◌++◌, OnOk};
 ghost use Rattle.run_picture.specs.Plot as plot;
 
 use dover_model::Memory;
-pub use run_view::Window;
-use run_view::template::put;
+pub use run_reports::views::Window;
+use run_reports::views::template::put;
 
 /// A part of the whole, where the whole is so high.
 pub fn scaled(part: u64, whole: u64, high: u64) -> u64

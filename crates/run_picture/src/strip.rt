@@ -8,7 +8,7 @@ use crate::lanes::{Lane, lane_at, middle};
 use crate::plot::{Window, meets, pixels, put_bar, put_text, x_at};
 use crate::sizes::room;
 use dover_model::{Memory, Piece};
-use run_view::template::put;
+use run_reports::views::template::put;
 
 /// Where bars are drawn.
 #[derive(Clone, Copy)]

@@ -7,7 +7,7 @@ use crate::lanes::{Lane, middle, shows};
 use crate::plot::{Window, put_bar, put_text};
 use crate::seen::{Fate, Seen};
 use dover_model::Memory;
-use run_view::template::put;
+use run_reports::views::template::put;
 
 /// Appends the word beside the lanes, and the windows of the jobs that the window of the picture shows.
 pub fn put_windows(

@@ -11,13 +11,13 @@ use crate::verdict::{Expected, Verdict};
 use admission::Admission;
 use dover_model::jobs::LAST_TICK;
 use dover_model::{Event, Job, Memory, PackedEvent, Ratio, Refusal, Version};
+use line_formats::traces::{TraceLine, read_trace_line};
 use ready_jobs::{MOST_READY, Ready};
 use root_compare::long_bound;
 use std::alloc::Global;
 use std::marker::Model;
 use std::sync::ledger::Ledger;
 use step_count::Steps;
-use trace_format::{TraceLine, read_trace_line};
 
 /// For how many jobs room is asked for at once.
 const JOBS_AT_ONCE: u32 = 64;
@@ -77,8 +77,9 @@ impl Reader {
     ghost use Rattle.dover_model.specs.Session.{Session, instance_of, admitted_jobs};
     ghost use Rattle.dover_model.specs.Verdict.{expected_after, refused_count};
     ghost use Rattle.trace_judge.specs.declared.stage.Stage.TheVariants.{Opening, Going, Ended};
-    ghost use Rattle.trace_format.specs.Form.{HasForm, item_in, trace_text};
-    ghost use Rattle.trace_format.specs.declared.lines.TraceLine.TheVariants.{Header, Step, Refused, RefusedDone};
+    ghost use Rattle.line_formats.specs.traces.Form.{HasForm, item_in, trace_text};
+    ghost use Rattle.line_formats.specs.declared.traces.lines.TraceLine.TheVariants.{Header, Step, Refused};
+    ghost use Rattle.line_formats.specs.declared.traces.lines.TraceLine.TheVariants.{RefusedDone};
     ghost use Rattle.dover_model.specs.declared.events.Event.TheVariants.{Release, Complete};
     ghost use Rattle.dover_model.specs.Session.{may_finish_early, refuses_lines, is_full, finish_at};
     ghost use Rattle.dover_model.specs.JobFacts.{JobFacts, job_of_numbers};

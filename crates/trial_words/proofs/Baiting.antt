@@ -10,9 +10,9 @@ use Rattle.dover_model.specs.Run.{printed, completed_value}
 use Rattle.dover_model.specs.Schedules.{worth}
 use Rattle.dover_model.specs.Instance.{IsValid}
 use Rattle.dover_model.proofs.Limiting.{listable}
-use Rattle.dover_report.proofs.Counting.{value_small}
-use Rattle.adversary.specs.Baiting.{FitsLimits}
-use Rattle.adversary.proofs.Validity.{some_bait, valid}
+use Rattle.run_reports.proofs.report.Counting.{value_small}
+use Rattle.stated_jobs.specs.bait.Baiting.{FitsLimits}
+use Rattle.stated_jobs.proofs.bait.Validity.{some_bait, valid}
 use Rattle.trial_words.specs.Baited.{bait_instance, bait_text}
 use Rattle.trial_words.proofs.Summing.{own_run, fed_lines}
 

@@ -10,16 +10,16 @@ use Rattle.dover_port.specs.Causes.{HasCause, StaysWell, StopsAtFailure}
 use Rattle.dover_port.specs.declared.calls.Calls.{Calls}
 use Rattle.dover_port.specs.Moves.{Move, Passes, CutsShort, PutsThrough, IsProperPrefix}
 use Rattle.dover_port.proofs.Through.{passes_then, passes_then_cut, cut_longer}
-use Rattle.duel.specs.declared.coming.Next.{Next}
-use Rattle.duel.specs.declared.coming.Next.TheVariants as next
-use Rattle.duel.specs.Kept.{Gives}
-use Rattle.duel.specs.Answers.{front_of}
+use Rattle.stated_jobs.specs.declared.duel.coming.Next.{Next}
+use Rattle.stated_jobs.specs.declared.duel.coming.Next.TheVariants as next
+use Rattle.stated_jobs.specs.duel.Kept.{Gives}
+use Rattle.stated_jobs.specs.duel.Answers.{front_of}
 use Rattle.dover_model.specs.FeedLine.{EndLine, feed_text}
 use Rattle.dover_model.specs.declared.events.Version.TheVariants.{One}
 use Rattle.dover_model.specs.Fraction.{Fraction}
 use Rattle.dover_model.specs.Instance.{Instance, declared_by, jobs_under}
-use Rattle.unroll_word.specs.Feeds.{job_text, rules_text, feed_of}
-use Rattle.unroll_word.proofs.Putting.{texts, text_more, in_lines-append, feed_through}
+use Rattle.task_words.specs.unroll.Feeds.{job_text, rules_text, feed_of}
+use Rattle.task_words.proofs.unroll.Putting.{texts, text_more, in_lines-append, feed_through}
 
 texts_behind : (xs ys : List JobFacts) → texts (xs ++ ys) ≡ texts xs ++ texts ys
 texts_behind xs ys = ap in_lines (map-append job_text xs ys) ∙ in_lines-append (map job_text xs) (map job_text ys)

@@ -13,13 +13,13 @@ use Rattle.dover_model.specs.Reports.{summary}
 use Rattle.dover_model.specs.Run.{printed, completed_value}
 use Rattle.dover_port.specs.Moves.{Move, Since}
 use Rattle.dover_port.specs.declared.status.Status.{Status}
-use Rattle.intervals.specs.Rows.{IsRunOf}
-use Rattle.dover_report.specs.Counts.{counts_of, counts_lines, all_lost}
-use Rattle.dover_report.specs.declared.counts.Counts.{Counts}
-use Rattle.dover_report.proofs.Counting.{jobs_are, summary_is, value_small}
-use Rattle.dover_report.proofs.Losses.{lost_rest}
-use Rattle.dover_report.proofs.Sizing.{released_total}
-use Rattle.run_view.specs.Templates.{filled}
+use Rattle.run_record.specs.intervals.Rows.{IsRunOf}
+use Rattle.run_reports.specs.report.Counts.{counts_of, counts_lines, all_lost}
+use Rattle.run_reports.specs.declared.report.counts.Counts.{Counts}
+use Rattle.run_reports.proofs.report.Counting.{jobs_are, summary_is, value_small}
+use Rattle.run_reports.proofs.report.Losses.{lost_rest}
+use Rattle.run_reports.proofs.report.Sizing.{released_total}
+use Rattle.run_reports.specs.views.Templates.{filled}
 use Rattle.trial_words.specs.Record.{Writes}
 use Rattle.trial_words.specs.Tallied.{tally_of, CountsRun}
 use Rattle.trial_words.specs.declared.tally.Tally.{Tally}

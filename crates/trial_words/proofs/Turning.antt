@@ -8,10 +8,10 @@ use Rattle.dover_model.specs.Fraction.{Fraction}
 use Rattle.dover_model.specs.Lines.{in_lines}
 use Rattle.dover_port.specs.Moves.{Move, Passes, CutsShort, PutsThrough}
 use Rattle.dover_port.proofs.Through.{passes_then, passes_then_cut, cut_longer}
-use Rattle.trial_jobs.specs.declared.turns.Done.{Done}
-use Rattle.trial_jobs.specs.declared.turns.Turn.{Turn}
+use Rattle.stated_jobs.specs.declared.trial.turns.Done.{Done}
+use Rattle.stated_jobs.specs.declared.trial.turns.Turn.{Turn}
 use Rattle.trial_words.specs.Drawing.{turn_lines, text_of_lines}
-use Rattle.unroll_word.proofs.Putting.{in_lines-append}
+use Rattle.task_words.proofs.unroll.Putting.{in_lines-append}
 
 -- lines behind lines
 text_behind : (xs ys : List FeedLine) → text_of_lines (xs ++ ys) ≡ text_of_lines xs ++ text_of_lines ys

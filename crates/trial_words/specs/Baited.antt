@@ -11,8 +11,8 @@ use Rattle.dover_model.specs.Lines.{with_numbers, in_lines}
 use Rattle.dover_port.specs.Moves.{Move}
 use Rattle.dover_port.specs.declared.status.Status.{Status}
 use Rattle.dialogue.specs.Sizes.{size_text}
-use Rattle.adversary.specs.Baiting.{FitsLimits}
-use Rattle.adversary.specs.BaitingRuns.{baiting}
+use Rattle.stated_jobs.specs.bait.Baiting.{FitsLimits}
+use Rattle.stated_jobs.specs.bait.BaitingRuns.{baiting}
 use Rattle.trial_words.specs.Record.{Writes, Refuses}
 
 -- the baiting feed of so many rounds

@@ -7,8 +7,8 @@ use Rattle.dover_model.specs.Lines.{in_lines}
 use Rattle.dover_port.specs.Moves.{Move, ArePuts, outs, IsProperPrefix}
 use Rattle.dover_port.specs.declared.status.Status.{Status}
 use Rattle.dover_port.specs.declared.status.Status.TheVariants.{Done, WriteFault}
-use Rattle.trial_jobs.specs.Turns.{drawn_turns}
-use Rattle.trial_jobs.specs.declared.turns.Turn.{Turn}
+use Rattle.stated_jobs.specs.trial.Turns.{drawn_turns}
+use Rattle.stated_jobs.specs.declared.trial.turns.Turn.{Turn}
 
 -- the lines of a turn: its job, and what is done behind it
 abbrev pub turn_lines : Turn → List FeedLine

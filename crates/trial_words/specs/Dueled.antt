@@ -7,11 +7,11 @@ use Rattle.dover_model.specs.Lines.{in_lines}
 use Rattle.dialogue.specs.Sizes.{size_text}
 use Rattle.dover_port.specs.Moves.{Move}
 use Rattle.dover_port.specs.declared.status.Status.{Status}
-use Rattle.duel.specs.declared.links.Share.{Share}
-use Rattle.duel.specs.declared.asking.NoDuel.{NoDuel}
-use Rattle.duel.specs.declared.asking.NoDuel.TheVariants as no
-use Rattle.duel.specs.Answers.{jobs_for, front_of, IsDuel, IsNoDuel}
-use Rattle.unroll_word.specs.Feeds.{feed_of}
+use Rattle.stated_jobs.specs.declared.duel.links.Share.{Share}
+use Rattle.stated_jobs.specs.declared.duel.asking.NoDuel.{NoDuel}
+use Rattle.stated_jobs.specs.declared.duel.asking.NoDuel.TheVariants as no
+use Rattle.stated_jobs.specs.duel.Answers.{jobs_for, front_of, IsDuel, IsNoDuel}
+use Rattle.task_words.specs.unroll.Feeds.{feed_of}
 use Rattle.trial_words.specs.Record.{Writes, Refuses}
 
 -- the jobs of a front of the duel for a share, or all of them

@@ -7,7 +7,7 @@ use Rattle.dover_model.specs.Instance.{Instance, IsListable, IsValid}
 use Rattle.dover_model.specs.Limits.{most_value}
 use Rattle.dover_model.specs.Run.{printed, value_of_end}
 use Rattle.dover_model.specs.Reports.{is_take}
-use Rattle.intervals.specs.Totals.{is_completion, is_abandonment, value_released}
+use Rattle.run_record.specs.intervals.Totals.{is_completion, is_abandonment, value_released}
 use Rattle.trial_words.specs.declared.tally.Tally.{Tally}
 
 -- the value of the jobs that these steps release

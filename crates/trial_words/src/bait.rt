@@ -3,14 +3,14 @@ ghost use Rattle.std.specs.Prelude.{◌≡◌, ◌≤◌};
 ghost use Rattle.dialogue.specs.Talk.{CanEnd};
 ghost use Rattle.dover_port.specs.Causes.{Causes, StopsWith};
 ghost use Rattle.dover_port.specs.Moves.{Since};
-ghost use Rattle.adversary.specs.BaitingRuns.{CompletesLastAlone};
+ghost use Rattle.stated_jobs.specs.bait.BaitingRuns.{CompletesLastAlone};
 ghost use Rattle.trial_words.specs.Baited.{Baits, bait_instance, bait_text};
 
-use adversary::Bait;
 use dover_model::Ratio;
 use dover_port::{Port, Status, put_all};
 use line_text::BackLine;
 use root_compare::bound;
+use stated_jobs::bait::Bait;
 
 /// What is written of a feed with this ratio: its jobs, the value that its run completes, the value of the given
 /// schedule, and the bound.

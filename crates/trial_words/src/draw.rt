@@ -12,8 +12,8 @@ ghost use Rattle.trial_words.specs.Drawing.{Draws, turn_lines, text_of_lines};
 use dover_model::{Ratio, Version};
 use dover_port::{Failed, Output, Port, Status};
 use line_output::put_numbers;
-use trial_jobs::{Turn, TurnGen};
-use unroll_word::{put_job, put_rules};
+use stated_jobs::trial::{Turn, TurnGen};
+use task_words::unroll::{put_job, put_rules};
 
 /// Puts the lines of a turn.
 fn put_turn<P: Port>(port: &mut P, out: &mut Output, turn: &Turn) -> Result<(), Failed>

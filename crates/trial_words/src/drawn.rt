@@ -1,7 +1,7 @@
 //! The jobs of a seed, as a list that is run.
 use dover_model::Job;
 use ready_server::JobSource;
-use trial_jobs::Gen;
+use stated_jobs::trial::Gen;
 
 /// The jobs of a seed that are still to come.
 #[derive(Drop)]

@@ -8,16 +8,16 @@ ghost use Rattle.dover_model.specs.JobFacts.{IsJob};
 ghost use Rattle.dover_model.specs.Lines.{in_lines};
 ghost use Rattle.dover_port.specs.Causes.{Causes, HasCause, StopsAtFailure, StopsWith};
 ghost use Rattle.dover_port.specs.Moves.{PutsThrough, Since};
-ghost use Rattle.duel.specs.Answers.{Answers, jobs_for};
-ghost use Rattle.duel.specs.Kept.{IsShare};
+ghost use Rattle.stated_jobs.specs.duel.Answers.{Answers, jobs_for};
+ghost use Rattle.stated_jobs.specs.duel.Kept.{IsShare};
 ghost use Rattle.trial_words.specs.Dueled.{Duels, duel_front, no_duel_text};
-ghost use Rattle.unroll_word.specs.Feeds.{feed_of, job_text};
+ghost use Rattle.task_words.specs.unroll.Feeds.{feed_of, job_text};
 
 use dover_model::{Ratio, Version};
 use dover_port::{Failed, Output, Port, Status, put_all};
-use duel::{Coming, Next, NoDuel, Share, front_count};
 use line_output::put_numbers;
-use unroll_word::{put_job, put_rules};
+use stated_jobs::duel::{Coming, Next, NoDuel, Share, front_count};
+use task_words::unroll::{put_job, put_rules};
 
 /// Puts the lines of so many jobs, each of which keeps its limits.
 fn put_jobs<P: Port>(

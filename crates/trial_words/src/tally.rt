@@ -4,7 +4,7 @@ ghost use Rattle.std.specs.Prelude.{◌≡◌};
 use dover_model::{Event, Memory, Ratio};
 use ready_server::Watcher;
 use root_compare::bound;
-use run_view::template::put;
+use run_reports::views::template::put;
 use std::alloc::Global;
 
 /// What was counted of the printed steps so far: the value of the released jobs, how many are done and the value that

@@ -15,10 +15,10 @@ use crate::tally::Tally;
 use dover_model::{Ratio, Version};
 use dover_port::{Port, Status, put_all};
 use ready_server::run_list;
+use stated_jobs::trial::Gen;
 use std::alloc::Global;
 use std::sync::ledger::Ledger;
 use step_count::Steps;
-use trial_jobs::Gen;
 
 /// Serves the stated jobs of a seed, and writes the summary of their run: the jobs, those that were completed and
 /// abandoned with their values, the takes, and the bound on the value of every schedule. Nothing is read. The seed is

@@ -3,9 +3,9 @@ use Rattle.std.proofs.Common.{◌<◌, ◌≤◌, String, decimal, length, strin
 use Rattle.std.specs.declared.alloc.Global.{Global}
 use Rattle.dover_model.specs.Limits.{most_jobs}
 use Rattle.dover_model.specs.declared.events.Version.TheVariants.{Two}
-use Rattle.report_word.specs.declared.form.Form.{Form}
-use Rattle.report_word.specs.declared.form.Form.TheVariants.{Text, Table, Chrome, Why, Timeline, Svg}
-use Rattle.run_view.specs.declared.window.Window.{Window}
+use Rattle.trace_words.specs.declared.report.form.Form.{Form}
+use Rattle.trace_words.specs.declared.report.form.Form.TheVariants.{Text, Table, Chrome, Why, Timeline, Svg}
+use Rattle.run_reports.specs.declared.views.window.Window.{Window}
 use Rattle.dover_top.specs.Words.{IsFormed, IsWindow, form_words, spelled, window_words}
 use Rattle.dover_top.proofs.Asking.{asks_report, length_spelled, row_of}
 use Rattle.dover_top.proofs.request.report.Goals as goal

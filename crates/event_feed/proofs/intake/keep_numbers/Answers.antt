@@ -2,8 +2,8 @@ use Rattle.std.proofs.Common.{◌≡◌, ℕ, List, length, ap, subst, arith}
 use Rattle.std.proofs.lemmas.List.{take_rest}
 use Rattle.dover_model.specs.JobFacts.{job_of_numbers}
 use Rattle.dover_model.specs.FeedLine.{feed_text, HasNumerals}
-use Rattle.job_format.specs.declared.lines.FeedLine.{FeedLine}
-use Rattle.job_format.specs.Form.{form_of}
+use Rattle.line_formats.specs.declared.feeds.lines.FeedLine.{FeedLine}
+use Rattle.line_formats.specs.feeds.Form.{form_of}
 use Rattle.event_feed.proofs.Spelling.{numbers_fit}
 use Rattle.event_feed.proofs.intake.keep_numbers.Goals as goal
 

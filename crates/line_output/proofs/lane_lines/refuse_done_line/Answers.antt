@@ -1,7 +1,7 @@
 use Rattle.std.proofs.Common.{ℕ, List, [], ◌∷◌, ◌++◌, codes, ap, ◌∙◌, arith}
 use Rattle.dover_model.specs.Lines.{with_numbers}
 use Rattle.dover_model.specs.Text.{refused_text}
-use Rattle.trace_format.specs.Form.{refused_done}
+use Rattle.line_formats.specs.traces.Form.{refused_done}
 use Rattle.line_output.proofs.Refusals.{refused_line}
 use Rattle.line_output.proofs.Sizes.{refuse_done_size, feed_size}
 use Rattle.line_output.proofs.lane_lines.refuse_done_line.Goals as goal

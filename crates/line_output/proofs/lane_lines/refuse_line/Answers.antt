@@ -2,7 +2,7 @@ use Rattle.std.proofs.Common.{ℕ, List, [], ◌∷◌, ◌++◌, codes, ap, ◌
 use Rattle.dover_model.specs.Lines.{with_numbers}
 use Rattle.dover_model.specs.Text.{refused_text, refusal_word}
 use Rattle.line_text.specs.Writing.{numbers_behind}
-use Rattle.trace_format.specs.Form.{refused_job}
+use Rattle.line_formats.specs.traces.Form.{refused_job}
 use Rattle.line_output.proofs.Refusals.{refused_line}
 use Rattle.line_output.proofs.Sizes.{refuse_size, feed_size}
 use Rattle.line_output.proofs.lane_lines.refuse_line.Goals as goal

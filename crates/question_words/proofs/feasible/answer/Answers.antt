@@ -1,6 +1,6 @@
 use Rattle.std.proofs.Common.{◌≡◌, ◌++◌, ◌∷◌, ◌∙◌, [], length, refl, ap, subst, codes, arith}
 use Rattle.dover_model.specs.Lines.{in_lines}
-use Rattle.feasibility.specs.Feasibility.{IsAnswer, ShowsAll, ShowsWindow}
+use Rattle.clairvoyant.specs.feasible.Feasibility.{IsAnswer, ShowsAll, ShowsWindow}
 use Rattle.event_feed.specs.Listing.{listed_instance}
 use Rattle.question_words.specs.Texts.{piece_lines}
 use Rattle.question_words.proofs.Lines.{one_written}

@@ -1,9 +1,9 @@
 use Rattle.std.proofs.Common.{◌≡◌, refl, ap, ◌∙◌}
 use Rattle.std.proofs.lemmas.Result.{IfOk-weaker}
-use Rattle.dover_report.specs.Counts.{counts_of, jobs_released}
-use Rattle.dover_report.proofs.Counting.{few_steps}
-use Rattle.run_view.proofs.Stepping.{same_length}
-use Rattle.run_view.specs.Templates.{Text}
+use Rattle.run_reports.specs.report.Counts.{counts_of, jobs_released}
+use Rattle.run_reports.proofs.report.Counting.{few_steps}
+use Rattle.run_reports.proofs.views.Stepping.{same_length}
+use Rattle.run_reports.specs.views.Templates.{Text}
 use Rattle.run_picture.specs.Pictures.{window_of, drawn, totals, picture}
 use Rattle.run_picture.proofs.Whole.{few_seen, pictured}
 use Rattle.run_picture.proofs.drawing.picture.Goals as goal

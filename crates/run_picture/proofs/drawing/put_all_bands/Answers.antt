@@ -1,6 +1,6 @@
 use Rattle.std.proofs.Common.{[], ◌∷◌, refl}
 use Rattle.std.proofs.lemmas.Result.{IfOk-equal}
-use Rattle.run_view.proofs.Joining.{joined}
+use Rattle.run_reports.proofs.views.Joining.{joined}
 use Rattle.run_picture.specs.Frame.{bands, band_words}
 use Rattle.run_picture.specs.Pictures.{all_bands}
 use Rattle.run_picture.proofs.drawing.put_all_bands.Goals as goal

@@ -1,7 +1,7 @@
 use Rattle.std.proofs.Common.{[], ◌∷◌, ℕ, refl}
 use Rattle.std.proofs.lemmas.Result.{IfOk-equal}
-use Rattle.run_view.proofs.Joining.{joined}
-use Rattle.run_view.specs.Templates.{Text}
+use Rattle.run_reports.proofs.views.Joining.{joined}
+use Rattle.run_reports.specs.views.Templates.{Text}
 use Rattle.run_picture.specs.Pictures.{bars_of, all_bars}
 use Rattle.run_picture.proofs.drawing.put_all_bars.Goals as goal
 

@@ -1,6 +1,6 @@
 use Rattle.std.proofs.Common.{[], ◌∷◌, refl, ◌+◌, ◌*◌, false}
 use Rattle.std.proofs.lemmas.Result.{IfOk-equal}
-use Rattle.run_view.proofs.Joining.{joined}
+use Rattle.run_reports.proofs.views.Joining.{joined}
 use Rattle.run_picture.specs.Lanes.{height, unit_of}
 use Rattle.run_picture.specs.Pictures.{under, strip, lanes_of, middle_of, over, lanes_to, by_lanes}
 use Rattle.run_picture.proofs.drawing.put_by_lanes.Goals as goal

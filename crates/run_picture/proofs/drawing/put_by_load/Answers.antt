@@ -1,6 +1,6 @@
 use Rattle.std.proofs.Common.{[], ◌∷◌, refl, true}
 use Rattle.std.proofs.lemmas.Result.{IfOk-equal}
-use Rattle.run_view.proofs.Joining.{joined}
+use Rattle.run_reports.proofs.views.Joining.{joined}
 use Rattle.run_picture.specs.Panels.{ready, columns}
 use Rattle.run_picture.specs.Pictures.{strip, under_load, load, over, by_load}
 use Rattle.run_picture.proofs.drawing.put_by_load.Goals as goal

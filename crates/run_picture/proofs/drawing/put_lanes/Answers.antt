@@ -1,6 +1,6 @@
 use Rattle.std.proofs.Common.{[], ◌∷◌, refl, ◌-◌}
 use Rattle.std.proofs.lemmas.Result.{IfOk-equal}
-use Rattle.run_view.proofs.Joining.{joined}
+use Rattle.run_reports.proofs.views.Joining.{joined}
 use Rattle.run_picture.specs.Labels.{labels}
 use Rattle.run_picture.specs.Pictures.{all_bars, windows, holds_bars, lanes_bars, lanes_lines, lanes_of}
 use Rattle.run_picture.proofs.drawing.put_lanes.Goals as goal

@@ -1,6 +1,6 @@
 use Rattle.std.proofs.Common.{[], ◌∷◌, true, false, refl}
 use Rattle.std.proofs.lemmas.Result.{IfOk-equal}
-use Rattle.run_view.proofs.Joining.{joined}
+use Rattle.run_reports.proofs.views.Joining.{joined}
 use Rattle.run_picture.specs.Pictures.{arrows_lines, crosses_lines, lanes_lines}
 use Rattle.run_picture.proofs.drawing.put_lanes_lines.Goals as goal
 

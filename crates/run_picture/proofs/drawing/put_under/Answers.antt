@@ -1,6 +1,6 @@
 use Rattle.std.proofs.Common.{[], ◌∷◌, refl, ◌+◌}
 use Rattle.std.proofs.lemmas.Result.{IfOk-equal}
-use Rattle.run_view.proofs.Joining.{joined}
+use Rattle.run_reports.proofs.views.Joining.{joined}
 use Rattle.run_picture.specs.Frame.{page, axis}
 use Rattle.run_picture.specs.Legends.{lanes_legend}
 use Rattle.run_picture.specs.Pictures.{ground_of, all_bands, under}

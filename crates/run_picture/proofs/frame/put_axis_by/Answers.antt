@@ -1,6 +1,6 @@
 use Rattle.std.proofs.Common.{[], ◌∷◌, refl, ◌*◌, ◌/◌, arith}
 use Rattle.std.proofs.lemmas.Result.{IfOk-equal}
-use Rattle.run_view.proofs.Joining.{joined}
+use Rattle.run_reports.proofs.views.Joining.{joined}
 use Rattle.run_picture.specs.Frame.{marks_from, ticks_word, axis_by}
 use Rattle.run_picture.proofs.Around.{marks_more, marks_all}
 use Rattle.run_picture.proofs.frame.put_axis_by.Goals as goal

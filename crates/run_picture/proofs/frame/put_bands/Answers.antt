@@ -1,6 +1,6 @@
 use Rattle.std.proofs.Common.{◌+◌, ◌-◌, ◌/◌, ◌++◌, ◌∙◌, sym, append-nil}
 use Rattle.std.proofs.lemmas.Result.{IfOk-equal}
-use Rattle.run_view.specs.Templates.{filled}
+use Rattle.run_reports.specs.views.Templates.{filled}
 use Rattle.run_picture.specs.Frame.{bars_front, bars_end, band, bands}
 use Rattle.run_picture.proofs.Eaching.{each_more_at, each_within}
 use Rattle.run_picture.proofs.frame.put_bands.Goals as goal

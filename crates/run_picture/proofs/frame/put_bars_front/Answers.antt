@@ -1,8 +1,8 @@
 use Rattle.std.proofs.Common.{[], ◌∷◌, refl}
 use Rattle.std.specs.Prelude.{codes}
 use Rattle.std.proofs.lemmas.Result.{IfOk-equal}
-use Rattle.run_view.proofs.Joining.{joined}
-use Rattle.run_view.specs.Templates.{filled}
+use Rattle.run_reports.proofs.views.Joining.{joined}
+use Rattle.run_reports.specs.views.Templates.{filled}
 use Rattle.run_picture.proofs.frame.put_bars_front.Goals as goal
 
 pub returns : goal.returns

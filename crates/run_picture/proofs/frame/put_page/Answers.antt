@@ -1,7 +1,7 @@
 use Rattle.std.proofs.Common.{[], ◌∷◌, refl}
 use Rattle.std.proofs.lemmas.Result.{IfOk-equal}
-use Rattle.run_view.proofs.Joining.{joined}
-use Rattle.run_view.proofs.Filling.{filled_two}
+use Rattle.run_reports.proofs.views.Joining.{joined}
+use Rattle.run_reports.proofs.views.Filling.{filled_two}
 use Rattle.run_picture.specs.Legends.{styles, legend}
 use Rattle.run_picture.specs.Frame.{front, ground, title_front, title_end, blank, page}
 use Rattle.run_picture.proofs.Lining.{parted}

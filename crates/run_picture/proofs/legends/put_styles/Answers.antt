@@ -1,6 +1,6 @@
 use Rattle.std.proofs.Common.{[], ◌∷◌, refl}
 use Rattle.std.proofs.lemmas.Result.{IfOk-equal}
-use Rattle.run_view.proofs.Joining.{joined}
+use Rattle.run_reports.proofs.views.Joining.{joined}
 use Rattle.run_picture.specs.Legends.{styles, texts_styles, paths_styles, texts_style, labels_style}
 use Rattle.run_picture.specs.Legends.{bars_style, lines_style}
 use Rattle.run_picture.proofs.legends.put_styles.Goals as goal

@@ -1,6 +1,6 @@
 use Rattle.std.proofs.Common.{◌++◌, ◌/◌, ◌∙◌, sym, append-nil}
 use Rattle.std.proofs.lemmas.Result.{IfOk-equal}
-use Rattle.run_view.specs.Templates.{filled}
+use Rattle.run_reports.specs.views.Templates.{filled}
 use Rattle.run_picture.specs.Frame.{bars_front, bars_end}
 use Rattle.run_picture.specs.Marks.{hold_of}
 use Rattle.run_picture.specs.Pictures.{holds_bars}

@@ -1,8 +1,8 @@
 use Rattle.std.proofs.Common.{[], ◌∷◌, ◌++◌, refl, ap}
 use Rattle.std.specs.Prelude.{codes}
 use Rattle.std.proofs.lemmas.Result.{IfOk-equal}
-use Rattle.run_view.proofs.Filling.{filled_two}
-use Rattle.run_view.specs.Templates.{filled}
+use Rattle.run_reports.proofs.views.Filling.{filled_two}
+use Rattle.run_reports.specs.views.Templates.{filled}
 use Rattle.run_picture.proofs.outline.put_last.Goals as goal
 
 pub returns : goal.returns

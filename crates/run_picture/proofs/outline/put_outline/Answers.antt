@@ -1,6 +1,6 @@
 use Rattle.std.proofs.Common.{◌+◌, ◌++◌, [], ◌∷◌, drop, sym, ap, ◌∙◌, arith}
 use Rattle.std.proofs.lemmas.Result.{IfOk-equal}
-use Rattle.run_view.specs.Templates.{filled}
+use Rattle.run_reports.specs.views.Templates.{filled}
 use Rattle.run_picture.specs.Outlines.{after, stair_to, stairs_from}
 use Rattle.run_picture.specs.Frame.{bars_end}
 use Rattle.run_picture.proofs.Going.{goes_on, goes_within}

@@ -1,5 +1,5 @@
 use Rattle.std.proofs.Common.{◌≡◌, ◌≤◌, ◌*◌, ◌++◌, [], ◌∷◌, drop}
-use Rattle.run_view.specs.Templates.{filled}
+use Rattle.run_reports.specs.views.Templates.{filled}
 use Rattle.run_picture.specs.Outlines.{stairs_from}
 use Rattle.run_picture.proofs.outline.put_outline.Given as goal
 

@@ -1,7 +1,7 @@
 use Rattle.std.proofs.Common.{[], ◌∷◌, ◌++◌, refl, true, ap, ◌∙◌}
 use Rattle.std.proofs.lemmas.Result.{IfOk-equal}
-use Rattle.run_view.proofs.Joining.{joined}
-use Rattle.run_view.specs.Templates.{filled}
+use Rattle.run_reports.proofs.views.Joining.{joined}
+use Rattle.run_reports.specs.views.Templates.{filled}
 use Rattle.run_picture.specs.Panels.{towers_area, measured, columns_border, columns_by, columns}
 use Rattle.run_picture.specs.declared.outline.Measure.TheVariants.{Completed, Decided}
 use Rattle.run_picture.proofs.panels.put_columns.Goals as goal

@@ -1,7 +1,7 @@
 use Rattle.std.proofs.Common.{[], ◌∷◌, ◌++◌, refl, ap, ◌∙◌}
 use Rattle.std.proofs.lemmas.Result.{IfOk-equal}
-use Rattle.run_view.proofs.Joining.{joined}
-use Rattle.run_view.specs.Templates.{filled}
+use Rattle.run_reports.proofs.views.Joining.{joined}
+use Rattle.run_reports.specs.views.Templates.{filled}
 use Rattle.run_picture.specs.Panels.{ready_area, ready_border, ready_by, ready}
 use Rattle.run_picture.proofs.panels.put_ready.Goals as goal
 

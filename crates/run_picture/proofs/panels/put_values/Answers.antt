@@ -1,7 +1,7 @@
 use Rattle.std.proofs.Common.{[], ◌∷◌, ◌++◌, refl, ap, ◌∙◌}
 use Rattle.std.proofs.lemmas.Result.{IfOk-equal}
-use Rattle.run_view.proofs.Joining.{joined}
-use Rattle.run_view.specs.Templates.{filled}
+use Rattle.run_reports.proofs.views.Joining.{joined}
+use Rattle.run_reports.specs.views.Templates.{filled}
 use Rattle.run_picture.specs.Outlines.{greatest}
 use Rattle.run_picture.specs.Panels.{area, measured, values_border, values_numbers, values_by, values}
 use Rattle.run_picture.specs.declared.outline.Measure.TheVariants.{Completed, Decided}

@@ -1,6 +1,6 @@
 use Rattle.std.proofs.Common.{[], ◌∷◌, ◌+◌, ◌-◌, ◌++◌, refl, ap, ◌∙◌, append_assoc}
 use Rattle.std.proofs.lemmas.Result.{IfOk-equal}
-use Rattle.run_view.proofs.Filling.{filled_two}
+use Rattle.run_reports.proofs.views.Filling.{filled_two}
 use Rattle.run_picture.specs.Plot.{scaled}
 use Rattle.run_picture.specs.Panels.{values_word, values_frame, lost_number, completed_number}
 use Rattle.run_picture.specs.Panels.{lost_height, completed_height}

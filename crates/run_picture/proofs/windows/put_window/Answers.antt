@@ -1,8 +1,8 @@
 use Rattle.std.proofs.Common.{[], ◌∷◌, ◌++◌, refl, ap, ◌∙◌}
 use Rattle.std.specs.Prelude.{codes}
 use Rattle.std.proofs.lemmas.Result.{IfOk-equal}
-use Rattle.run_view.proofs.Joining.{joined}
-use Rattle.run_view.specs.Templates.{filled}
+use Rattle.run_reports.proofs.views.Joining.{joined}
+use Rattle.run_reports.specs.views.Templates.{filled}
 use Rattle.run_picture.specs.Plot.{bar}
 use Rattle.run_picture.specs.Seen.{is_gone}
 use Rattle.run_picture.specs.Windows.{front, numbers, weighed, ended}

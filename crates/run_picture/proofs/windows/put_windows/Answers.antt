@@ -1,7 +1,7 @@
 use Rattle.std.proofs.Common.{◌++◌, ◌-◌, ◌∙◌, sym, append-nil}
 use Rattle.std.specs.Prelude.{codes}
 use Rattle.std.proofs.lemmas.Result.{IfOk-equal}
-use Rattle.run_view.specs.Templates.{filled}
+use Rattle.run_reports.specs.views.Templates.{filled}
 use Rattle.run_picture.specs.Pictures.{lanes_front, windows}
 use Rattle.run_picture.specs.Windows.{job_window}
 use Rattle.run_picture.proofs.Eaching.{each_more_at, each_within}

@@ -3,8 +3,8 @@ use Rattle.dover_model.proofs.Tests.{never}
 use Rattle.dover_port.specs.Moves.Move.{Put}
 use Rattle.dover_port.specs.declared.status.Status.TheVariants.{Done, WriteFault}
 use Rattle.dover_port.proofs.Made.{since_weaker}
-use Rattle.adversary.specs.Baiting.{Baiting}
-use Rattle.adversary.specs.BaitingRuns.{CompletesLastAlone}
+use Rattle.stated_jobs.specs.bait.Baiting.{Baiting}
+use Rattle.stated_jobs.specs.bait.BaitingRuns.{CompletesLastAlone}
 use Rattle.dialogue.specs.Sizes.{size_text}
 use Rattle.trial_words.specs.Baited.{bait_instance, bait_text}
 use Rattle.trial_words.proofs.Summing.{of_text}

@@ -12,7 +12,7 @@ use Rattle.dover_model.proofs.Limiting.{listable}
 use Rattle.dover_port.specs.Moves.Move.{Put}
 use Rattle.dover_port.specs.declared.status.Status.TheVariants.{Done, WriteFault, Memory}
 use Rattle.dover_port.proofs.Made.{since_none}
-use Rattle.trial_jobs.proofs.Drawn.{valid}
+use Rattle.stated_jobs.proofs.trial.Drawn.{valid}
 use Rattle.trial_words.specs.Lists.{trial_instance}
 use Rattle.trial_words.specs.Tallied.{HasCounted, CountsRun}
 use Rattle.trial_words.specs.declared.tally.Tally.{Tally}

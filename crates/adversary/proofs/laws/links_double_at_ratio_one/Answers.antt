@@ -1,8 +1,0 @@
-use Rattle.adversary.proofs.Doubling.{last_is, plan_is_four}
-use Rattle.adversary.proofs.laws.links_double_at_ratio_one.Goals as goal
-
-pub returns-clause-last : goal.returns-clause-last
-returns-clause-last c k rounds ratio one = last_is k ratio one rounds
-
-pub returns-clause-plan : goal.returns-clause-plan
-returns-clause-plan c k rounds ratio one = plan_is_four k ratio one rounds

@@ -1,7 +1,0 @@
-use Rattle.std.proofs.Common.{◌≡◌}
-use Rattle.best_set.specs.BestSet.{renumbered}
-use Rattle.dover_model.proofs.InPlace.{map_front}
-use Rattle.best_set.proofs.optimum.renumber.Given as goal
-
-abbrev pub invariant-loop-piece : goal.invariant-loop-piece
-invariant-loop-piece l = l.piece-items ≡ map_front (renumbered l.chosen) l.piece-index l.fn.pieces.items

@@ -1,0 +1,2 @@
+pub mod feasible
+pub mod best

@@ -1,0 +1,5 @@
+//! What a scheduler that knows all jobs can do: meet all deadlines, or complete the best set of few jobs.
+#![tactic(auto)]
+
+pub mod best;
+pub mod feasible;

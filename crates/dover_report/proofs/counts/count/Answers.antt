@@ -1,7 +1,0 @@
-use Rattle.std.proofs.Common.{length, refl}
-use Rattle.dover_report.proofs.Counting.{counts_are}
-use Rattle.dover_report.proofs.counts.count.Goals as goal
-
-pub returns : goal.returns
-returns c = counts_are c.args.k c.args.run.now c.of-totals.result c.args.jobs.now (length c.args.jobs.now)
-    c.args.value c.all_lost.result c.bound.result c.of-totals.ensures refl c.all_lost.ensures c.bound.ensures.is

@@ -1,0 +1,105 @@
+-- A feed that goes on from its snapshot, one that is paused, and the lines of a snapshot, put one behind another.
+use Rattle.std.proofs.Common.{◌≡◌, ℕ, [], append-nil, sym, ap, ◌∙◌, subst, Some, true, ◌<◌, ◌+◌, ◌-◌, List, ◌∷◌, ◌++◌}
+use Rattle.std.proofs.Common.{length, take, drop, get_or, Option, arith, inl, inr, Err}
+use Rattle.std.specs.Prelude.{IfSome}
+use Rattle.dover_model.specs.Session.{instance_of, Session}
+use Rattle.dover_model.specs.Lines.{lines_of, in_lines}
+use Rattle.dover_model.specs.Feed.{account}
+use Rattle.ready_server.specs.Rostering.{Serves, HasPaid as HasSpentBy, has_roster}
+use Rattle.ready_server.specs.declared.roster_server.RosterServer.{RosterServer}
+use Rattle.ready_server.proofs.Rostered.{roster_rests}
+use Rattle.event_feed.specs.Kept as feed
+use Rattle.lane_server.specs.Lane.{IsQuiet, Stands as LaneStands}
+use Rattle.lane_server.specs.Feeding.{FeedRests}
+use Rattle.lane_server.specs.Rosters.{KeepsRoster}
+use Rattle.lane_server.specs.Spending.{HasPaid}
+use Rattle.lane_server.specs.declared.feed.Feed.{Feed}
+use Rattle.lane_server.specs.declared.lane.Lane.{Lane}
+use Rattle.lane_server.specs.declared.lane.Work.TheVariants.{Nothing}
+use Rattle.lane_server.proofs.Feeding.{quiet_on, AtMark, quiet_serves}
+use Rattle.snapshot.specs.Snapshot.{MayPause}
+use Rattle.snapshot.specs.Feeds.{ResumesFeed}
+use Rattle.snapshot.proofs.Feeds.{opened}
+use Rattle.feed_words.specs.serve.Keeping.{Call, IsReady}
+use Rattle.std.proofs.lemmas.List.{append-nil, take_more, take-append-drop}
+use Rattle.dover_model.specs.Settled.{settled}
+use Rattle.dover_model.proofs.Beginnings.{in_lines-append}
+use Rattle.dover_port.specs.Moves.{Move, Passes, CutsShort}
+use Rattle.dover_port.proofs.Through.{passes_then, passes_then_cut, cut_longer}
+use Rattle.dover_model.specs.declared.horizon.Horizon.TheVariants.{Mark}
+use Rattle.event_feed.specs.Answers.{EndAnswers}
+use Rattle.event_feed.specs.declared.faults.FeedFault.{FeedFault}
+use Rattle.event_feed.proofs.Counting.{lines_counted}
+use Rattle.snapshot.specs.Pausing.{IsTakenTo}
+
+-- ---- it goes on
+
+-- it is ready for a call that goes on with it, from its mark
+pub ready_on : (c : Call) (now : ℕ) (may : MayPause c.feed) (v : RosterServer) (i : feed.Kept) (mark : ℕ)
+    (it : ResumesFeed v i mark c.feed) (l : Lane)
+    → l ≡ record { intake = i; server = Some v; mark = mark; is_open = true; work = Nothing; listed = has_roster v }
+    → (f : Feed) → f.lane ≡ l
+    → (IsQuiet l (lines_of c.feed) → FeedRests f c.feed)
+    → HasSpentBy v c.start now → c.listed ≡ true → IsReady c f now []
+ready_on c now may v i mark it l is f there rests spent listed = record {
+  rests = subst (FeedRests f) (sym (append-nil c.feed))
+      (rests (subst (λ l. IsQuiet l (lines_of c.feed)) (sym is)
+      (quiet_on (lines_of c.feed) (opened c.feed may) i v (has_roster v) it.session mark it.stands it.going
+      it.named it.marked
+      (subst (λ m. Serves v (instance_of it.session) (Mark m) (settled (instance_of it.session) m)) it.marked
+      (roster_rests v (instance_of it.session) (Mark mark) it.rests)))));
+  paid = subst (λ (l : Lane). HasPaid l.server c.start now) (sym (there ∙ is)) spent;
+  roster = subst (λ (l : Lane). KeepsRoster l c.listed) (sym (there ∙ is))
+      (record { asked = it.listed ∙ sym listed; kept = it.listed ∙ sym listed });
+}
+
+-- ---- it is paused
+
+-- the server has taken the feed to its mark, and its lines are those before the fault that says that it is short
+pub taken_to : (feed : Feed) (x : List ℕ) → FeedRests feed x → MayPause x
+    → KeepsRoster feed.lane true
+    → (lane : Lane) → lane ≡ feed.lane → (v : RosterServer) → lane.server ≡ Some v → (fault : FeedFault)
+    → ((ls rest : List (List ℕ)) → LaneStands lane ls rest → EndAnswers {X = Unit {0}} ls (Err fault))
+    → (mark : ℕ) → mark ≡ lane.mark → IsTakenTo v (fault.line - 1) mark x
+taken_to feed x rests may roster lane is v there fault answers mark marked = record {
+  may = may;
+  lines_are = by (answers (lines_of x) [] quiet.stands);
+  mark_is = marked ∙ quiet.stands.marked;
+  session = at.0;
+  named = at.1;
+  served = subst (λ m. Serves v (instance_of at.0) (Mark m) (settled (instance_of at.0) m))
+      (sym (marked ∙ quiet.stands.marked)) at.2;
+  listed = subst (λ o. IfSome o (λ (w : RosterServer). has_roster w ≡ true))
+      (sym (ap (λ (l : Lane). l.server) is) ∙ there) roster.kept;
+} where
+  quiet : IsQuiet lane (lines_of x)
+  quiet = subst (λ l. IsQuiet l (lines_of x)) (sym is) rests.lane
+
+  at : (S : Session) × ((account x).session ≡ Some S) × AtMark (lines_of x) (opened x may) v S
+      (account x).mark
+  at = quiet_serves (lines_of x) (opened x may) lane quiet v there
+
+  by : EndAnswers {X = Unit {0}} (lines_of x) (Err fault) → fault.line - 1 ≡ (account x).lines
+  by (inl it) = omega (arith, ap (λ (f : FeedFault). f.line) it.1, lines_counted (lines_of x) (opened x may))
+  by (inr was) = absurd (let e = sym (opened x may) ∙ was in cc)
+
+-- ---- its lines are put
+
+module _ (ls : List (List ℕ)) (i : ℕ) (within : i < length ls) (line : List ℕ) (is : line ≡ get_or ls i [])
+    (a b c : Option (List Move)) (p q r : List ℕ) (first : Passes a b p q (in_lines (take i ls))) where
+  one_more : in_lines (take (i + 1) ls) ≡ in_lines (take i ls) ++ (line ++ 10 ∷ [])
+  one_more = ap in_lines (take_more ls i [] within) ∙ in_lines-append (take i ls) (get_or ls i [] ∷ [])
+      ∙ ap (λ l. in_lines (take i ls) ++ l) (append-nil (get_or ls i [] ++ 10 ∷ []) ∙ ap (λ l. l ++ 10 ∷ []) (sym is))
+
+  -- a line more
+  pub passes_line : Passes b c q r (line ++ 10 ∷ []) → Passes a c p r (in_lines (take (i + 1) ls))
+  passes_line second = subst (Passes a c p r) (sym one_more)
+      (passes_then a b c p q r (in_lines (take i ls)) (line ++ 10 ∷ []) first second)
+
+  -- it is cut short
+  pub cuts_line : CutsShort b c q (line ++ 10 ∷ []) → CutsShort a c p (in_lines ls)
+  cuts_line second = subst (CutsShort a c p)
+      (sym (in_lines-append (take (i + 1) ls) (drop (i + 1) ls)) ∙ ap in_lines (take-append-drop (i + 1) ls))
+      (cut_longer a c p (in_lines (take (i + 1) ls)) (in_lines (drop (i + 1) ls))
+      (subst (CutsShort a c p) (sym one_more)
+      (passes_then_cut a b c p q r (in_lines (take i ls)) (line ++ 10 ∷ []) first second)))

@@ -1,0 +1,168 @@
+//! What the reading loop calls: a snapshot that is read, and then its feed, which goes on.
+ghost use Rattle.std.specs.Prelude.{◌≡◌, Bool, ℕ, List, []};
+ghost use Rattle.dialogue.specs.Turns.{AnswersBy, StopCause, StopsOn};
+ghost use Rattle.dover_port.specs.declared.status.Status.TheVariants as statuses;
+ghost use Rattle.feed_words.specs.resume.Record.{refused_text, IsFrugalFor};
+ghost use Rattle.feed_words.specs.resume.Talk.{Asked, resume_talk};
+ghost use Rattle.feed_words.specs.resume.Keeping.{IsReady, IsGiving, IsServedOn};
+ghost use Rattle.feed_words.specs.declared.resume.opening.Opening.{Opening};
+ghost use Rattle.feed_words.specs.declared.resume.resuming.Stage.TheVariants as stage;
+ghost use Rattle.snapshot.specs.Kept.{IsReady as IsWholeFor};
+
+use crate::resume::opening::Opening;
+use crate::serve::{AtEnd, Pausing, Serving};
+use dialogue::{Stop, Talker};
+use dover_model::Memory;
+use dover_port::{Output, Port, Status};
+use line_output::put_line;
+use line_text::{BackLine, LineBuf};
+use snapshot::{Got, Reader, SnapFault};
+use std::alloc::Global;
+use std::mem::replace;
+use std::sync::ledger::Ledger;
+use step_count::Steps;
+
+/// How far a snapshot was read.
+#[derive(Drop)]
+pub(crate) enum Stage<L: Ledger> {
+    /// Its last line is still to come.
+    Opening(Opening),
+    /// This line of it is refused.
+    Refused(u64),
+    /// It was whole, and its feed goes on.
+    Serving(Serving<L>),
+}
+
+impl<L: Ledger> Stage<L> {
+    /// Turns to a snapshot that is refused at this line.
+    #[inline(never)]
+    fn refuse(&mut self, line: u64)
+        ensures { self.new ≡ stage.Refused line }
+    {
+        drop(replace(self, Stage::Refused(line)));
+    }
+}
+
+/// A snapshot that is read, and then its feed, with what is done where the input ends.
+#[derive(Drop)]
+pub(crate) struct Resuming<L: Ledger> {
+    pub(crate) alloc: Global,
+    pub(crate) at_end: AtEnd,
+    pub(crate) stage: Stage<L>,
+}
+
+/// Refuses a snapshot at this line.
+fn refuse_snapshot<P: Port>(port: &mut P, out: &mut Output, line: u64) -> Result<Status, Stop>
+    requires empty { out.old ≡ [] }
+    ensures answers { (a : Asked) (x : List ℕ) (ended : Bool) → (resume_talk a).due x ≡ [] →
+        (resume_talk a).answer x ended statuses.Refused (refused_text line) →
+        AnswersBy (resume_talk a) x ended (P.moves port.old) (P.moves port.new) out.new result }
+    ensures cause { StopCause result
+        (P.write_faults port.old) (P.write_faults port.new) (P.read_faults port.old) (P.read_faults port.new) }
+    ensures stops { StopsOn result (P.calls port.old) (P.calls port.new) }
+{
+    let mut text = LineBuf::new();
+    text.put_word(b"refused");
+    text.put_number(line);
+    text.put_word(b"snapshot");
+    match put_line(port, out, text) {
+        Ok(()) => Ok(Status::Refused),
+        Err(_) => Err(Stop::Unwritten),
+    }
+}
+
+impl<L: Ledger> Resuming<L> {
+    /// The snapshot is whole: its feed goes on.
+    #[inline(never)]
+    fn go_on(&mut self)
+        requires { (o : Opening) × (self.old.stage ≡ stage.Opening o)
+            × ((ls : List (List ℕ)) × IsWholeFor o.reader ls) }
+        ensures goes { (o : Opening) (ls : List (List ℕ)) → self.old.stage ≡ stage.Opening o → IsWholeFor o.reader ls
+            → IsServedOn self.new.stage o.reader ls }
+        ensures same { self.new.at_end ≡ self.old.at_end }
+    {
+        let Stage::Opening(opening) = &mut self.stage else {
+            unreachable!();
+        };
+        let reader = replace(&mut opening.reader, Reader::new(self.alloc));
+        let (server, intake, mark) = reader.take();
+        let serving = Serving::resumed(self.alloc, server, intake, mark);
+        drop(replace(&mut self.stage, Stage::Serving(serving)));
+    }
+}
+
+impl<L: Ledger> Talker for Resuming<L> {
+    type Meter = Steps<L>;
+
+    ghost about = { Asked };
+
+    ghost talk = { resume_talk };
+
+    ghost stands = { λ a t now x parts. (t.at_end ≡ a.at_end) × IsGiving a t.stage now x parts };
+
+    ghost ready = { λ a t now x. (t.at_end ≡ a.at_end) × IsReady a t.stage now x };
+
+    ghost costs = { λ a now x. IsFrugalFor a.start now x };
+
+    fn laws() {
+        Serving::<L>::laws();
+    }
+
+    fn take(&mut self, meter: &mut Steps<L>, piece: &[u8]) -> Result<usize, Memory> {
+        Serving::<L>::laws();
+        match &mut self.stage {
+            Stage::Opening(opening) => match opening.take(piece, meter) {
+                Ok((used, Got::More)) => Ok(used),
+                Ok((used, Got::Ready)) => {
+                    self.go_on();
+                    Ok(used)
+                }
+                Err(SnapFault::BadSnapshot { line }) => {
+                    self.stage.refuse(line);
+                    Ok(piece.len())
+                }
+                Err(SnapFault::Memory) => Err(Memory),
+            },
+            Stage::Refused(_) => unreachable!(),
+            Stage::Serving(serving) => serving.take(meter, piece),
+        }
+    }
+
+    fn next_part(&mut self, meter: &mut Steps<L>, part: &mut BackLine) -> bool {
+        match &mut self.stage {
+            Stage::Opening(_) => false,
+            Stage::Refused(_) => false,
+            Stage::Serving(serving) => serving.next_part(meter, part),
+        }
+    }
+
+    fn goes_on(&self, meter: &Steps<L>) -> bool {
+        match &self.stage {
+            Stage::Opening(_) => true,
+            Stage::Refused(_) => false,
+            Stage::Serving(serving) => serving.goes_on(meter),
+        }
+    }
+
+    fn answer<P: Port>(
+        self,
+        meter: &mut Steps<L>,
+        port: &mut P,
+        out: &mut Output,
+        ended: bool,
+    ) -> Result<Status, Stop> {
+        let at_end = self.at_end;
+        match self.stage {
+            Stage::Opening(opening) => {
+                let line = opening.lines.count() + 1;
+                drop(opening);
+                refuse_snapshot(port, out, line)
+            }
+            Stage::Refused(line) => refuse_snapshot(port, out, line),
+            Stage::Serving(serving) => match at_end {
+                AtEnd::Refuse => serving.answer(meter, port, out, ended),
+                AtEnd::Pause => Pausing::new(serving).answer(meter, port, out, ended),
+            },
+        }
+    }
+}

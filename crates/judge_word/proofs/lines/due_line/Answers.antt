@@ -1,6 +1,0 @@
-use Rattle.trace_judge.proofs.Dues.{due_short}
-use Rattle.judge_word.proofs.lines.due_line.Goals as goal
-
-pub write_event-requires-clause-numbers : goal.write_event-requires-clause-numbers
-write_event-requires-clause-numbers c =
-    due_short c.requires.0 c.requires.1 c.in-Step.event (rw c.in-Step.is at c.requires.2)

@@ -1,8 +1,0 @@
-use Rattle.std.proofs.Common.{◌∙◌, sym, ap}
-use Rattle.judge_word.specs.Line.{verdict_text}
-use Rattle.judge_word.proofs.Talking.{told_same}
-use Rattle.judge_word.proofs.telling.VerdictLineTeller.laws.Goals as goal
-
-pub returns-clause-stays : goal.returns-clause-stays
-returns-clause-stays c = λ t x y status text same it.
-    (told_same x y same status it.0, it.1 ∙ ap verdict_text (sym same))

@@ -1,0 +1,5 @@
+//! The lines of feeds and of traces.
+#![tactic(auto)]
+
+pub mod feeds;
+pub mod traces;

@@ -1,9 +1,0 @@
-//! The words that report on a trace: a text is read and judged, and where it is accepted the report on its run is
-//! written.
-#![tactic(auto)]
-
-mod form;
-mod word;
-
-pub use form::Form;
-pub use word::report_word;

@@ -1,8 +1,0 @@
-//! The word `resume`: a snapshot is read, and the feed of which it is goes on from where it was paused.
-#![tactic(auto)]
-
-mod opening;
-mod resume;
-mod resuming;
-
-pub use resume::resume_word;

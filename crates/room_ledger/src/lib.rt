@@ -1,7 +1,0 @@
-//! What room the running and the held jobs leave a fresh job, and how many ticks the jobs have had.
-#![tactic(auto)]
-
-mod reading;
-mod under_way;
-
-pub use reading::{hads, rooms};

@@ -1,0 +1,87 @@
+-- What a run costs, said of its rows.
+use Rattle.std.proofs.Common.{◌≡◌, ℕ, ◌+◌, ◌-◌, ◌*◌, ◌≤◌, ◌<◌, List, ◌∷◌, length, drop, get_or, sym, ap, ◌∙◌}
+use Rattle.std.proofs.Common.{subst, arith}
+use Rattle.std.proofs.lemmas.List.{drop_all, drop_more}
+use Rattle.std.specs.List.{sum_by}
+use Rattle.dover_model.specs.Fraction.{Fraction}
+use Rattle.dover_model.specs.JobFacts.{JobFacts}
+use Rattle.dover_model.specs.declared.events.Event.{Event}
+use Rattle.dover_model.specs.Instance.{Instance, total_value}
+use Rattle.dover_model.specs.Run.{completed_value, ran}
+use Rattle.dover_model.specs.Schedules.{worth}
+use Rattle.dover_model.specs.Observed.{observed}
+use Rattle.dover_model.specs.Bound.{IsWithin}
+use Rattle.dover_model.specs.Books.{IsLeastDense}
+use Rattle.dover_model.specs.Orders.{IsHeavy}
+use Rattle.dover_model.specs.Intervals as model
+use Rattle.dover_model.specs.Sound.{Each}
+use Rattle.dover_model.proofs.Members.{on_map, sum_map}
+use Rattle.dover_model.proofs.BoundLaws.{bound, observed_bound, interval_ordered, interval_displaced, interval_paid}
+use Rattle.dover_model.proofs.BoundLaws.{interval_light, intervals_complete}
+use Rattle.dover_model.proofs.BoundLaws.{intervals_abandon}
+use Rattle.dover_model.proofs.Honest.{observed_honest}
+use Rattle.run_record.specs.declared.intervals.interval.Interval.{Interval}
+use Rattle.run_record.specs.intervals.Pages.{Page}
+use Rattle.run_record.specs.intervals.Rows.{IsRunOf, numbers_of, rows_of}
+use Rattle.run_record.proofs.intervals.Reading.{Reads, all_read}
+
+-- the item at an index, and those behind it
+pub item_next : {X : Type 0} (xs : List X) (i : ℕ) (x : X) → x ≡ get_or xs i x → i < length xs
+    → drop i xs ≡ x ∷ drop (i + 1) xs
+item_next xs i x is there = drop_more xs i x there ∙ ap (λ y. y ∷ drop (i + 1) xs) (sym is)
+
+-- where all steps are read, the page has the rows and the value
+pub charged : (k : Fraction) (run : List Event) (J : Instance) → IsRunOf k run J → (l : Page) (i : ℕ) → length run ≤ i
+    → Reads J l (drop i run)
+    → (l.rows ≡ rows_of J) × (l.value ≡ completed_value J)
+charged k run J of l i past reads = all_read J of.valid of.listable l (subst (Reads J l) (drop_all i run past) reads)
+
+module _ (k : Fraction) (run : List Event) (J : Instance) (of : IsRunOf k run J) (rows : List Interval) (value : ℕ)
+    (same : rows ≡ rows_of J)
+    (is : value ≡ completed_value J) where
+  -- of each row, by what holds of each interval
+  each_row : (P : Interval → Type 0) → Each (λ i. P (numbers_of i)) (model.intervals J) → Each P rows
+  each_row P all = subst (Each P) (sym same) (on_map numbers_of P (model.intervals J) all)
+
+  -- a sum over the rows
+  sum_rows : (f : Interval → ℕ) → sum_by f rows ≡ sum_by (λ i. f (numbers_of i)) (model.intervals J)
+  sum_rows f = ap (sum_by f) same ∙ sum_map numbers_of f (model.intervals J)
+
+  pub rows_bound : (s : List ℕ) → IsWithin k (worth J s) value
+  rows_bound s = subst (λ a. IsWithin k (worth J s) a) (sym is)
+      (subst (λ (r : Fraction). IsWithin r (worth J s) (completed_value J)) of.ratio
+      (bound J s of.valid))
+
+  pub rows_observed : (s : List ℕ) → IsWithin k (worth (observed J) s) value
+  rows_observed s = subst (λ a. IsWithin k (worth (observed J) s) a) (sym is)
+      (subst (λ (r : Fraction). IsWithin r (worth (observed J) s) (completed_value J)) of.ratio
+      (observed_bound J s of.valid))
+
+  pub rows_honest : worth (observed J) (ran J) ≡ value
+  rows_honest = observed_honest J of.valid ∙ sym is
+
+  pub rows_ordered : Each (λ i. i.from ≤ i.until) rows
+  rows_ordered = each_row (λ i. i.from ≤ i.until) (interval_ordered J of.valid)
+
+  pub rows_displaced : Each (λ i. k.p * i.displaced * i.displaced ≤ k.q * i.taken * i.taken) rows
+  rows_displaced = each_row (λ i. k.p * i.displaced * i.displaced ≤ k.q * i.taken * i.taken)
+      (subst (λ (r : Fraction). Each (λ (i : model.Interval). r.p * i.displaced * i.displaced ≤ r.q * i.taken * i.taken)
+      (model.intervals J)) of.ratio
+      (interval_displaced J of.valid))
+
+  pub rows_paid : (j : JobFacts) → IsLeastDense J j
+      → Each (λ i. j.value * (i.until - i.from) ≤ j.work * (i.regular + i.taken + i.displaced)) rows
+  rows_paid j least = each_row (λ i. j.value * (i.until - i.from) ≤ j.work * (i.regular + i.taken + i.displaced))
+      (interval_paid J j of.valid least)
+
+  pub rows_light : Each (λ i. Each (λ v. IsHeavy k v (i.regular + i.taken) → ⊥) i.lost) (model.intervals J)
+  rows_light = subst (λ (r : Fraction). Each
+      (λ (i : model.Interval). Each (λ v. IsHeavy r v (i.regular + i.taken) → ⊥) i.lost) (model.intervals J))
+      of.ratio
+      (interval_light J of.valid)
+
+  pub rows_completed : sum_by (λ i. i.regular + i.taken) rows ≡ value
+  rows_completed = sum_rows (λ i. i.regular + i.taken) ∙ intervals_complete J of.valid ∙ sym is
+
+  pub rows_abandoned : value + sum_by (λ i. i.abandoned) rows ≡ total_value J.jobs
+  rows_abandoned = omega (arith, is, sum_rows (λ i. i.abandoned), intervals_abandon J of.valid)

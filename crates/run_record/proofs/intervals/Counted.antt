@@ -1,0 +1,67 @@
+-- What steps tell of the jobs of a run, with one step more.
+use Rattle.std.proofs.Common.{◌≡◌, ℕ, ◌+◌, ◌*◌, ◌^◌, ◌≤◌, ◌<◌, List, length, take, get_or, sym, ap, ◌∙◌, cond, arith}
+use Rattle.std.proofs.lemmas.List.{length-take}
+use Rattle.std.specs.List.{sum_by}
+use Rattle.std.proofs.lemmas.List.Sums.{sum_by_more, count_by-le-length}
+use Rattle.dover_model.specs.declared.events.Event.{Event}
+use Rattle.dover_model.specs.Reports.{is_take}
+use Rattle.run_record.specs.intervals.Totals.{is_release, is_completion, is_abandonment, value_released}
+use Rattle.run_record.specs.intervals.Totals.{totals_of, with_step, HasSpace}
+use Rattle.run_record.specs.declared.intervals.totals.JobTotals.{JobTotals}
+
+-- a sum with one step more
+pub sum_more : (f : Event → ℕ) (run : List Event) (i : ℕ) (e : Event) → e ≡ get_or run i e → i < length run
+    → sum_by f (take i run) + f e ≡ sum_by f (take (i + 1) run)
+sum_more f run i e is there = sym (sum_by_more f run i e there ∙ ap (λ x. sum_by f (take i run) + f x) (sym is))
+
+-- what the steps tell with one more
+totals_more : (run : List Event) (i : ℕ) (e : Event) → e ≡ get_or run i e → i < length run
+    → with_step (totals_of (take i run)) e ≡ totals_of (take (i + 1) run)
+totals_more run i e is there = same_totals (more (λ x. cond (is_release x) 1 0)) (more value_released)
+    (more (λ x. cond (is_completion x) 1 0)) (more (λ x. cond (is_abandonment x) 1 0))
+    (more (λ x. cond (is_take x) 1 0)) where
+      whole : (a b c d f : ℕ) → JobTotals
+      whole a b c d f = record { jobs = a; worth = b; completed = c; abandoned = d; taken = f }
+
+      same_totals : {a b c d f a2 b2 c2 d2 f2 : ℕ} → a ≡ a2 → b ≡ b2 → c ≡ c2 → d ≡ d2 → f ≡ f2
+          → whole a b c d f ≡ whole a2 b2 c2 d2 f2
+      same_totals e1 e2 e3 e4 e5 = cc
+
+      more : (f : Event → ℕ) → sum_by f (take i run) + f e ≡ sum_by f (take (i + 1) run)
+      more f = sum_more f run i e is there
+
+-- these are the totals of the first steps
+pub record AreTotals (t : JobTotals) (run : List Event) (i : ℕ) : Type 0 where
+  pub is : t ≡ totals_of (take i run)
+  pub small : t.worth ≤ 1_000_000_000 * i
+
+-- there is room for one step more
+pub totals_fit : (run : List Event) (i : ℕ) (t : JobTotals) → AreTotals t run i → i < length run
+    → length run < 2 ^ 64 → HasSpace t
+totals_fit run i t are there few = record {
+  jobs = omega (arith, ap (λ (g : JobTotals). g.jobs) are.is, front, count_by-le-length is_release (take i run));
+  worth = omega (arith, are.small, there, few);
+  completed = omega (
+    arith,
+    ap (λ (g : JobTotals). g.completed) are.is,
+    front,
+    count_by-le-length is_completion (take i run),
+  );
+  abandoned = omega (
+    arith,
+    ap (λ (g : JobTotals). g.abandoned) are.is,
+    front,
+    count_by-le-length is_abandonment (take i run),
+  );
+  taken = omega (arith, ap (λ (g : JobTotals). g.taken) are.is, front, count_by-le-length is_take (take i run));
+} where
+  front : length (take i run) + 1 < 2 ^ 64
+  front = omega (arith, length-take i run, there, few)
+
+-- and they are those of one step more
+pub totals_on : (run : List Event) (i : ℕ) (e : Event) (t next : JobTotals) → e ≡ get_or run i e → i < length run
+    → AreTotals t run i → next ≡ with_step t e → next.worth ≤ t.worth + 1_000_000_000 → AreTotals next run (i + 1)
+totals_on run i e t next is there are same modest = record {
+  is = same ∙ ap (λ g. with_step g e) are.is ∙ totals_more run i e is there;
+  small = omega (arith, modest, are.small);
+}

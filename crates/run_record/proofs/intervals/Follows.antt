@@ -1,0 +1,90 @@
+-- The page of a ledger follows a state of the run.
+use Rattle.std.proofs.Common.{◌≡◌, ℕ, ◌+◌, ◌*◌, ◌≤◌, ◌<◌, List, ◌∷◌, ◌++◌, length, map, get_or, Bool, false, cond}
+use Rattle.std.specs.Prelude.{Option, Some, None, ◌==◌}
+use Rattle.std.specs.List.{sum_by}
+use Rattle.dover_model.specs.Fraction.{Fraction}
+use Rattle.dover_model.specs.Intervals as model
+use Rattle.dover_model.specs.declared.events.Role.TheVariants.{Coming}
+use Rattle.dover_model.specs.declared.events.Task.{Task}
+use Rattle.dover_model.specs.State.{State, is_privileged, is_done, is_over}
+use Rattle.dover_model.specs.Step.{Move, Prints, Waits, Ticks, after}
+use Rattle.dover_model.specs.Run.{Step}
+use Rattle.dover_model.specs.Sound.{Each}
+use Rattle.dover_model.proofs.Booking.{active_sum, is_gone}
+use Rattle.run_record.specs.declared.intervals.interval.UnderWay.{UnderWay}
+use Rattle.run_record.specs.declared.intervals.ledger.Known.{Known}
+use Rattle.run_record.specs.intervals.Pages.{Page, unknown, with_event, IsReadable}
+use Rattle.run_record.specs.intervals.Rows.{numbers_of}
+
+-- the interval under way, as the page has it
+abbrev pub under_of : model.Interval → UnderWay
+under_of i = record { interval = numbers_of i; took = i.took }
+
+-- if there is one
+abbrev pub page_of : Option model.Interval → Option UnderWay
+page_of None = None
+page_of (Some i) = Some (under_of i)
+
+-- what a page with these jobs in this era knows of a released job
+pub record IsKnown (jobs : List Known) (now : ℕ) (t : Task) : Type 0 where
+  pub there : t.number < length jobs
+  pub value : (get_or jobs t.number unknown).value ≡ t.job.value
+  pub era : (get_or jobs t.number unknown).era ≤ now
+  pub active : is_over t ≡ false → ((get_or jobs t.number unknown).era == now) ≡ is_privileged t
+
+-- each released job is known
+abbrev pub AllKnown : List Known → ℕ → List Task → Type 0
+AllKnown jobs era tasks = Each (λ t. (t.role ≡ Coming → ⊥) → IsKnown jobs era t) tasks
+
+-- the numbers of jobs to come are at least this
+abbrev pub AllAhead : ℕ → List Task → Type 0
+AllAhead n tasks = Each (λ t. t.role ≡ Coming → n ≤ t.number) tasks
+
+-- the value of the jobs that pass
+abbrev pub value_where : (Task → Bool) → List Task → ℕ
+value_where p tasks = sum_by (λ t. cond (p t) t.job.value 0) tasks
+
+-- what is displaced stands below what is completed or active, and the other values are those of jobs that are over
+pub record IsPaid (k : Fraction) (s : State) (worth : ℕ) (i : model.Interval) : Type 0 where
+  pub done : i.regular + i.taken ≤ value_where is_done s.tasks
+  pub gone : i.abandoned ≤ value_where is_gone s.tasks
+  pub displaced : k.p * i.displaced * i.displaced ≤ k.q * (i.regular + i.taken + worth) * (i.regular + i.taken + worth)
+
+-- if one is under way
+abbrev pub ArePaid : Fraction → State → ℕ → Option model.Interval → Type 0
+ArePaid k s worth None = Unit {0}
+ArePaid k s worth (Some i) = IsPaid k s worth i
+
+-- the page has the jobs of the state
+pub record Tracks (s : State) (l : Page) : Type 0 where
+  pub known : AllKnown l.jobs l.era s.tasks
+  pub ahead : AllAhead (length l.jobs) s.tasks
+  pub started : 1 ≤ l.era
+  pub active : l.active ≡ active_sum (λ t. 1) s.tasks
+  pub worth : l.worth ≡ active_sum (λ t. t.job.value) s.tasks
+
+-- the page follows the state, in which this interval is under way
+pub record Follows (k : Fraction) (s : State) (l : Page) (current : Option model.Interval) : Type 0 where
+  pub tracks : Tracks s l
+  pub under : l.under_way ≡ page_of current
+  pub paid : ArePaid k s l.worth current
+
+-- the page after a step
+abbrev pub page_after : Page → Move → Page
+page_after l (Prints e) = with_event l e
+page_after l (Waits n) = l
+page_after l Ticks = l
+
+-- the step can come next
+abbrev pub CanFollow : Page → Move → Type 0
+CanFollow l (Prints e) = IsReadable l e
+CanFollow l (Waits n) = Unit {0}
+CanFollow l Ticks = Unit {0}
+
+-- the page follows a step
+pub record Next (k : Fraction) (s : State) (l : Page) (current : Option model.Interval) (m : Move) : Type 0 where
+  pub readable : CanFollow l m
+  pub later : Option model.Interval
+  pub follows : Follows k (after s m) (page_after l m) later
+  pub same : (xs : List Step) → (page_after l m).rows ++ map numbers_of (model.intervals_of later xs)
+      ≡ l.rows ++ map numbers_of (model.intervals_of current (record { before = s; move = m } ∷ xs))

@@ -1,0 +1,295 @@
+-- The ledger reads a run: its page follows the states of the run, up to the end.
+use Rattle.std.proofs.Common.{◌≡◌, ℕ, ◌+◌, ◌≤◌, ◌<◌, ◌^◌, ◌⊎◌, inl, inr, List, [], ◌∷◌, ◌++◌, length, map, refl, sym}
+use Rattle.std.proofs.Common.{ap, ◌∙◌, subst, Bool, true}
+use Rattle.std.proofs.Common.{false, cond, arith, append-nil}
+use Rattle.std.specs.Prelude.{Option, None, ◌==◌}
+use Rattle.std.specs.Bool.{MatchBool, then_some}
+use Rattle.std.specs.List.{sum_by, filter, filter_map, list_all, cons_option}
+use Rattle.dover_model.specs.Fraction.{Fraction}
+use Rattle.dover_model.specs.Instance.{Instance, IsListable, IsValid}
+use Rattle.dover_model.specs.Intervals as model
+use Rattle.dover_model.specs.declared.events.Event.{Event}
+use Rattle.dover_model.specs.declared.events.Event.TheVariants.{Release, Run, Preempt, Take, Complete, Abandon, End}
+use Rattle.dover_model.specs.declared.events.Role.TheVariants.{Coming}
+use Rattle.dover_model.specs.declared.events.Task.{Task}
+use Rattle.dover_model.specs.State.{State, opening, is_privileged, is_done, is_over, value_sum}
+use Rattle.dover_model.specs.Step.{Move, Prints, Waits, Ticks, step, after, ending, ◌or_else◌}
+use Rattle.dover_model.specs.Run.{Step, is_end, event_of, printed_of, printed, run, completed_value, value_of_end}
+use Rattle.dover_model.specs.WholeRun.{IsWholeRun}
+use Rattle.dover_model.specs.Sound.{IsMember, IsSound, Keeps}
+use Rattle.dover_model.proofs.Members.{by_bool, sum_map, sum_zero}
+use Rattle.dover_model.proofs.Roles.{passes}
+use Rattle.dover_model.proofs.Booked.{privileged_value}
+use Rattle.dover_model.proofs.Ticking.{Quiet}
+use Rattle.dover_model.proofs.Deeds.{Deed, Completed, Resumed, Started, Began, Preempted, Stayed, Arrived, Taken}
+use Rattle.dover_model.proofs.Deeds.{Abandoned, Rested}
+use Rattle.dover_model.proofs.Kept.{step_deed, step_kept, opening_keeps, come_coming}
+use Rattle.dover_model.proofs.Ending.{run_is_whole, few_printed}
+use Rattle.dover_model.proofs.Honest.{count_jobs}
+use Rattle.dover_model.proofs.Runs.{last_value, some_printed}
+use Rattle.run_record.specs.intervals.Pages.{Page, blank, with_event, known_at, with_one_more, page_completed, ended}
+use Rattle.run_record.specs.intervals.Pages.{IsReadable}
+use Rattle.run_record.specs.intervals.Rows.{numbers_of, rows_of, weight_of, weights}
+use Rattle.run_record.proofs.intervals.Follows.{Follows, Next}
+use Rattle.run_record.proofs.intervals.Sums.{values_fit}
+use Rattle.run_record.proofs.intervals.Steps.{waiting_idle, fresh_idle, enters_next, resumes_next, waits_next}
+use Rattle.run_record.proofs.intervals.Overs.{preempts_next, releases_next, abandons_next, completes_next, ticks_next}
+use Rattle.run_record.proofs.intervals.Overs.{ends_next}
+use Rattle.run_record.proofs.intervals.Takes.{takes_next}
+use Rattle.dover_model.proofs.ValidParts.{valid_parts}
+use Rattle.dover_model.proofs.JobLimits.{ratio_limits}
+
+-- ---- one step
+
+module _ (k : Fraction) (some_q : 1 ≤ k.q) (ratio : k.q ≤ k.p) (s : State) (sound : IsSound s) (l : Page)
+    (few : l.era + 1 < 2 ^ 32)
+    (total : sum_by (λ t. t.job.value) s.tasks ≤ 10_000_000_000_000) (count : length s.tasks ≤ 1_000_000)
+    (current : Option model.Interval)
+    (follows : Follows k s l current) where
+  -- the page follows each deed
+  deed_next : (other : Move) → (Quiet s → Next k s l current other) → (m : Move) → Deed k s other m
+      → Next k s l current m
+  deed_next other rested m (Completed r member runs) =
+      completes_next k some_q ratio s sound l few total count r member runs current follows
+  deed_next other rested m (Resumed p member held none least why) =
+      resumes_next k some_q ratio s sound l few total count current follows p member
+      held
+  deed_next other rested m (Started o member waiting none first fits next) =
+      enters_next k some_q ratio s sound l few total count current follows o member (waiting_idle o waiting)
+  deed_next other rested m (Began f member fresh none free) =
+      enters_next k some_q ratio s sound l few total count current follows f member (fresh_idle f fresh)
+  deed_next other rested m (Preempted r f member runs some f_member fresh before fits) =
+      preempts_next k some_q ratio s sound l few total count current follows r f member runs f_member fresh
+  deed_next other rested m (Stayed r f member runs some f_member fresh why) =
+      waits_next k some_q ratio s sound l few total count current follows f f_member fresh
+  deed_next other rested m (Arrived c member comes now first stale busy free) =
+      releases_next k some_q ratio s sound l few total count current follows c member comes first
+  deed_next other rested m (Taken r x member runs some x_member waiting now stale heavy) =
+      takes_next k some_q ratio s sound l few total x x_member waiting heavy r.number current follows
+  deed_next other rested m (Abandoned r x member runs some x_member waiting now stale light) =
+      abandons_next k some_q ratio s sound l few total count x x_member waiting current follows
+  deed_next other rested m (Rested quiet) = rested quiet
+
+  -- where nothing is urgent
+  rest_next : (b : Bool) (value : ℕ) → Next k s l current (then_some b (Prints (End value)) or_else Ticks)
+  rest_next true value = ends_next k some_q ratio s sound l few total count current follows value
+  rest_next false value = ticks_next k some_q ratio s sound l few total count current follows
+
+-- a printed step raises the era by one at most
+era_after : (l : Page) (e : Event) → (with_event l e).era ≤ l.era + 1
+era_after l (Release n job) = omega arith
+era_after l (Run at n) =
+    by_bool _ ((known_at l n).era == l.era)
+    (λ e. omega (arith, ap (λ (b : Bool). (cond b l (with_one_more l n)).era) e))
+    (λ e. omega (arith, ap (λ (b : Bool). (cond b l (with_one_more l n)).era) e))
+era_after l (Preempt at r n) =
+    by_bool _ ((known_at l n).era == l.era)
+    (λ e. omega (arith, ap (λ (b : Bool). (cond b l (with_one_more l n)).era) e))
+    (λ e. omega (arith, ap (λ (b : Bool). (cond b l (with_one_more l n)).era) e))
+era_after l (Take at r n) = omega arith
+era_after l (Complete at n) = by_bool _ (l.active == 1)
+    (λ e. omega (arith, ap (λ (b : Bool). (cond b (ended (page_completed l at n)) (page_completed l at n)).era) e))
+    (λ e. omega (arith, ap (λ (b : Bool). (cond b (ended (page_completed l at n)) (page_completed l at n)).era) e))
+era_after l (Abandon at n) = omega arith
+era_after l (End value) = omega arith
+
+-- the end alone names the value
+value_after : (l : Page) (e : Event) → (with_event l e).value ≡ value_of_end e l.value
+value_after l (Release n job) = refl
+value_after l (Run at n) =
+    by_bool _ ((known_at l n).era == l.era) (ap (λ (b : Bool). (cond b l (with_one_more l n)).value))
+    (ap (λ (b : Bool). (cond b l (with_one_more l n)).value))
+value_after l (Preempt at r n) =
+    by_bool _ ((known_at l n).era == l.era) (ap (λ (b : Bool). (cond b l (with_one_more l n)).value))
+    (ap (λ (b : Bool). (cond b l (with_one_more l n)).value))
+value_after l (Take at r n) = refl
+value_after l (Complete at n) =
+    by_bool _ (l.active == 1)
+    (ap (λ (b : Bool). (cond b (ended (page_completed l at n)) (page_completed l at n)).value))
+    (ap (λ (b : Bool). (cond b (ended (page_completed l at n)) (page_completed l at n)).value))
+value_after l (Abandon at n) = refl
+value_after l (End value) = refl
+
+-- ---- the whole run
+
+-- the page where these printed steps are still to be read
+pub record Reads (J : Instance) (l : Page) (rest : List Event) : Type 0 where
+  pub before : State
+  pub steps : List Step
+  pub current : Option model.Interval
+  pub keeps : Keeps J before
+  pub whole : (steps ≡ []) ⊎ IsWholeRun J.rules before steps
+  pub prints : printed_of steps ≡ rest
+  pub follows : Follows J.rules.ratio before l current
+  pub rows : l.rows ++ map numbers_of (model.intervals_of current steps) ≡ rows_of J
+  pub value : last_value l.value rest ≡ completed_value J
+  pub few : l.era + length rest ≤ 5_000_002
+
+-- a test that is one of two facts
+pub one_of_two : {A B : Type 0} (b : Bool) → MatchBool b A B → A ⊎ B
+one_of_two true fact = inl fact
+one_of_two false fact = inr fact
+
+module _ (J : Instance) (valid : IsValid J) (listable : IsListable J) where
+  -- the page follows each step
+  step_next : (s : State) → Keeps J s → (l : Page) → l.era + 1 < 2 ^ 32 → (current : Option model.Interval)
+      → Follows J.rules.ratio s l current
+      → Next J.rules.ratio s l current (step J.rules s)
+  step_next s keeps l few current follows =
+      deed_next J.rules.ratio (ratio_limits (valid_parts valid).ratio).least
+      (ratio_limits (valid_parts valid).ratio).above_one s keeps.sound l few total count current
+      follows
+      (ending s or_else Ticks)
+      (λ _. rest_next J.rules.ratio (ratio_limits (valid_parts valid).ratio).least
+      (ratio_limits (valid_parts valid).ratio).above_one s keeps.sound l few total count current
+      follows
+      (list_all is_over s.tasks) (value_sum (filter is_done s.tasks)))
+      (step J.rules s) (step_deed J valid s keeps J.rules) where
+        total : sum_by (λ (t : Task). t.job.value) s.tasks ≤ 10_000_000_000_000
+        total = omega (
+          arith,
+          listable.total,
+          sum_map (λ (t : Task). t.job) (λ j. j.value) s.tasks,
+          ap (sum_by (λ j. j.value)) keeps.jobs,
+        )
+
+        count : length s.tasks ≤ 1_000_000
+        count = omega (arith, listable.count, count_jobs s.tasks, ap length keeps.jobs)
+
+  -- the next printed step can be read, the page after it follows, and the page before it has what the active jobs are
+  -- worth
+  module _ (l : Page) (e : Event) (rest : List Event) (value : last_value l.value (e ∷ rest) ≡ completed_value J)
+      (few : l.era + length (e ∷ rest) ≤ 5_000_002) where
+    abbrev OneRead : List Step → Type 0
+    OneRead xs = IsReadable l e
+        × ((r : Reads J (with_event l e) rest) × (filter_map weight_of xs ≡ l.worth ∷ filter_map weight_of r.steps))
+
+    next_read : (xs : List Step) (s : State) (current : Option model.Interval) → Keeps J s → (xs ≡ [])
+        ⊎ IsWholeRun J.rules s xs
+        → printed_of xs ≡ e ∷ rest → Follows J.rules.ratio s l current
+        → l.rows ++ map numbers_of (model.intervals_of current xs) ≡ rows_of J
+        → OneRead xs
+    next_read [] s current keeps whole prints follows rows = absurd (let no : printed_of [] ≡ e ∷ rest = prints in cc)
+    next_read (x ∷ xs) s current keeps (inl none) prints follows rows = absurd (let no : x ∷ xs ≡ [] = none in cc)
+    next_read (x ∷ xs) s current keeps (inr whole) prints follows rows =
+        subst (λ (y : Step). OneRead (y ∷ xs)) (sym whole.0)
+        (by_move (step J.rules s) (step_next s keeps l (omega (arith, few)) current follows)
+        (step_kept J valid s keeps J.rules)
+        (one_of_two (is_end (step J.rules s)) whole.1)
+        (ap (λ (y : Step). cons_option (event_of y.move) (printed_of xs)) (sym whole.0) ∙ prints)
+        (ap (λ (y : Step). l.rows ++ map numbers_of (model.intervals_of current (y ∷ xs))) (sym whole.0) ∙ rows)
+        (next_read xs)) where
+          by_move : (m : Move) → Next J.rules.ratio s l current m → Keeps J (after s m) → (xs ≡ [])
+              ⊎ IsWholeRun J.rules (after s m) xs
+              → cons_option (event_of m) (printed_of xs) ≡ e ∷ rest
+              → l.rows ++ map numbers_of (model.intervals_of current (record { before = s; move = m } ∷ xs)) ≡ rows_of J
+              → ((t : State) (o : Option model.Interval) → Keeps J t → (xs ≡ []) ⊎ IsWholeRun J.rules t xs
+              → printed_of xs ≡ e ∷ rest → Follows J.rules.ratio t l o
+              → l.rows ++ map numbers_of (model.intervals_of o xs) ≡ rows_of J
+              → OneRead xs)
+              → OneRead (record { before = s; move = m } ∷ xs)
+          by_move (Prints f) next kept onward same_events same_rows more =
+              let head : f ≡ e = cc in
+              let tail : printed_of xs ≡ rest = cc in (
+                subst (IsReadable l) head next.readable,
+                (
+                  record {
+                    before = after s (Prints f);
+                    steps = xs;
+                    current = next.later;
+                    keeps = kept;
+                    whole = onward;
+                    prints = tail;
+                    follows = subst (λ g. Follows J.rules.ratio (after s (Prints f)) (with_event l g) next.later) head
+                        next.follows;
+                    rows = ap (λ g. (with_event l g).rows ++ map numbers_of (model.intervals_of next.later xs))
+                        (sym head) ∙ next.same xs ∙ same_rows;
+                    value = ap (λ v. last_value v rest) (value_after l e) ∙ value;
+                    few = omega (arith, few, era_after l e);
+                  },
+                  ap (λ w. w ∷ filter_map weight_of xs) (privileged_value s ∙ sym follows.tracks.worth),
+                ),
+              )
+          by_move (Waits n) next kept onward same_events same_rows more =
+              more (after s (Waits n)) next.later kept onward same_events next.follows (next.same xs ∙ same_rows)
+          by_move Ticks next kept onward same_events same_rows more =
+              more (after s Ticks) next.later kept onward same_events next.follows (next.same xs ∙ same_rows)
+
+  -- the next printed step is read
+  one_read : (l : Page) (e : Event) (rest : List Event) (reads : Reads J l (e ∷ rest))
+      → OneRead l e rest reads.value reads.few reads.steps
+  one_read l e rest reads =
+      next_read l e rest reads.value reads.few reads.steps reads.before reads.current reads.keeps reads.whole
+      reads.prints
+      reads.follows reads.rows
+
+  -- it can be read, and the page after it follows
+  pub reads_next : (l : Page) (e : Event) (rest : List Event) → Reads J l (e ∷ rest) → IsReadable l e
+      × Reads J (with_event l e) rest
+  reads_next l e rest reads = let it = one_read l e rest reads in (it.0, it.1.0)
+
+  -- what the active jobs are worth before it, and before those behind it
+  pub weighs_next : (l : Page) (e : Event) (rest : List Event) (reads : Reads J l (e ∷ rest))
+      → (r : Reads J (with_event l e) rest)
+      × (filter_map weight_of reads.steps ≡ l.worth ∷ filter_map weight_of r.steps)
+  weighs_next l e rest reads = (one_read l e rest reads).1
+
+  -- where all is read, the page has the rows and the value
+  pub all_read : (l : Page) → Reads J l [] → (l.rows ≡ rows_of J) × (l.value ≡ completed_value J)
+  all_read l reads = (by_steps reads.whole, reads.value) where
+    by_steps : (reads.steps ≡ []) ⊎ IsWholeRun J.rules reads.before reads.steps → l.rows ≡ rows_of J
+    by_steps (inl none) = sym (append-nil l.rows)
+        ∙ ap (λ xs. l.rows ++ map numbers_of (model.intervals_of reads.current xs)) (sym none) ∙ reads.rows
+    by_steps (inr whole) = absurd (some_printed J.rules reads.steps reads.before whole reads.prints)
+
+  -- what the active jobs are worth is no more than all jobs are
+  pub worth_small : (l : Page) (rest : List Event) → Reads J l rest → l.worth ≤ 10_000_000_000_000
+  worth_small l rest reads = omega (
+    arith,
+    reads.follows.tracks.worth,
+    values_fit reads.before.tasks,
+    listable.total,
+    sum_map (λ (t : Task). t.job) (λ j. j.value) reads.before.tasks,
+    ap (sum_by (λ j. j.value)) reads.keeps.jobs,
+  )
+
+  -- and none is left to weigh
+  pub all_weighed : (l : Page) (reads : Reads J l []) → filter_map weight_of reads.steps ≡ []
+  all_weighed l reads = by_steps reads.whole where
+    by_steps : (reads.steps ≡ []) ⊎ IsWholeRun J.rules reads.before reads.steps → filter_map weight_of reads.steps ≡ []
+    by_steps (inl none) = ap (filter_map weight_of) none
+    by_steps (inr whole) = absurd (some_printed J.rules reads.steps reads.before whole reads.prints)
+
+  -- before the first step
+  pub none_read : Reads J blank (printed J)
+  none_read = record {
+    before = opening J.jobs;
+    steps = run J;
+    current = None;
+    keeps = opening_keeps J;
+    whole = inr (run_is_whole J valid);
+    prints = refl;
+    follows = record {
+      tracks = record {
+        known = λ t m never. absurd (never (come_coming 0 J.jobs t m).0);
+        ahead = λ t m comes. omega arith;
+        started = omega arith;
+        active = sym (sum_zero (λ t. cond (is_privileged t) 1 0) (opening J.jobs).tasks
+            (λ t m. ap (λ b. cond b 1 0) (idle t m)));
+        worth = sym (sum_zero (λ t. cond (is_privileged t) t.job.value 0) (opening J.jobs).tasks
+            (λ t m. ap (λ b. cond b t.job.value 0) (idle t m)));
+      };
+      under = refl;
+      paid = tt;
+    };
+    rows = refl;
+    value = refl;
+    few = omega (arith, few_printed J valid, listable.count);
+  } where
+    idle : (t : Task) → IsMember t (opening J.jobs).tasks → is_privileged t ≡ false
+    idle t m = passes is_privileged t Coming false (come_coming 0 J.jobs t m).0 refl
+
+  -- all steps are to be weighed
+  pub none_weighed : (reads : Reads J blank (printed J)) × (filter_map weight_of reads.steps ≡ weights J)
+  unfolding none_read
+  none_weighed = (none_read, refl)

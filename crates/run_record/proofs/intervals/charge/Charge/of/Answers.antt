@@ -1,0 +1,115 @@
+use Rattle.std.proofs.Common.{◌≡◌, ◌+◌, drop, arith, subst, sym, ap, ◌∙◌}
+use Rattle.std.proofs.lemmas.List.{take_all}
+use Rattle.dover_model.specs.Instance.{Instance}
+use Rattle.dover_model.specs.Run.{completed_value}
+use Rattle.run_record.specs.intervals.Pages.{Page, blank}
+use Rattle.run_record.specs.intervals.Rows.{IsRunOf, rows_of}
+use Rattle.run_record.specs.intervals.Totals.{totals_of}
+use Rattle.run_record.specs.declared.intervals.totals.JobTotals.{JobTotals}
+use Rattle.run_record.proofs.intervals.Counted.{totals_fit, totals_on}
+use Rattle.run_record.proofs.intervals.Reading.{Reads, reads_next, none_read}
+use Rattle.run_record.proofs.intervals.Charges.{item_next, charged, rows_bound, rows_observed, rows_honest}
+use Rattle.run_record.proofs.intervals.Charges.{rows_ordered}
+use Rattle.run_record.proofs.intervals.Charges.{rows_displaced, rows_paid, rows_light}
+use Rattle.run_record.proofs.intervals.Charges.{rows_completed, rows_abandoned}
+use Rattle.run_record.proofs.intervals.charge.Charge.of.Goals as goal
+
+pub loop-event-init : goal.loop-event-init
+loop-event-init c = record {
+  reads = λ J of. subst (λ (l : Page). Reads J l c.args.run.now) (sym c.new-ledger.ensures)
+      (subst (Reads J blank) of.prints (none_read J of.valid of.listable));
+  counted = record {
+    is = c.new-totals.ensures;
+    small = omega (arith, ap (λ (t : JobTotals). t.worth) c.new-totals.ensures);
+  };
+}
+
+pub add-requires : goal.add-requires
+add-requires c = totals_fit c.args.run.now c.loop-event.event-index c.loop-event.totals
+    c.loop-event.invariant.counted c.loop-event-test.true (omega arith)
+
+pub read-requires : goal.read-requires
+read-requires c = (reads_next c.requires.0 c.requires.1.valid c.requires.1.listable c.loop-event.ledger
+    c.event-item.result (drop (c.loop-event.event-index + 1) c.args.run.now)
+    (subst (Reads c.requires.0 c.loop-event.ledger)
+    (item_next c.args.run.now c.loop-event.event-index c.event-item.result c.event-item.is c.loop-event-test.true)
+    (c.loop-event.invariant.reads c.requires.0 c.requires.1))).0
+
+pub loop-event-preserved : goal.loop-event-preserved
+loop-event-preserved c = record {
+  reads = λ J of.
+      subst (λ (l : Page). Reads J l (drop (c.loop-event.event-index + 1) c.args.run.now)) (sym c.in_ok-read.ensures)
+      (reads_next J of.valid of.listable c.loop-event.ledger c.event-item.result
+      (drop (c.loop-event.event-index + 1) c.args.run.now)
+      (subst (Reads J c.loop-event.ledger)
+      (item_next c.args.run.now c.loop-event.event-index c.event-item.result c.event-item.is c.loop-event-test.true)
+      (c.loop-event.invariant.reads J of))).1;
+  counted = totals_on c.args.run.now c.loop-event.event-index c.event-item.result c.loop-event.totals _
+      c.event-item.is c.loop-event-test.true c.loop-event.invariant.counted c.add.ensures.is c.add.ensures.modest;
+}
+
+pub returns-clause-totals : goal.returns-clause-totals
+returns-clause-totals c = c.loop-event.invariant.counted.is
+    ∙ ap totals_of (take_all c.loop-event.event-index c.args.run.now (omega arith))
+
+-- the rows and the value
+done : (c : goal.After-into_parts-rows) (J : Instance) → IsRunOf c.args.k c.args.run.now J
+    → (c.into_parts-rows.result.0.items ≡ rows_of J) × (c.into_parts-rows.result.1 ≡ completed_value J)
+done c J of =
+    let it : (c.loop-event.ledger.rows ≡ rows_of J) × (c.loop-event.ledger.value ≡ completed_value J) =
+    charged c.args.k c.args.run.now J of c.loop-event.ledger c.loop-event.event-index (omega arith)
+    (c.loop-event.invariant.reads J of) in
+    (c.into_parts-rows.ensures.rows ∙ it.0, c.into_parts-rows.ensures.value ∙ it.1)
+
+pub returns-clause-rows : goal.returns-clause-rows
+returns-clause-rows c J of = (done c J of).0
+
+pub returns-clause-bound : goal.returns-clause-bound
+returns-clause-bound c J of =
+    rows_bound c.args.k c.args.run.now J of c.into_parts-rows.result.0.items c.into_parts-rows.result.1 (done c J of).0
+    (done c J of).1
+
+pub returns-clause-observed : goal.returns-clause-observed
+returns-clause-observed c J of =
+    rows_observed c.args.k c.args.run.now J of c.into_parts-rows.result.0.items c.into_parts-rows.result.1
+    (done c J of).0 (done c J of).1
+
+pub returns-clause-honest : goal.returns-clause-honest
+returns-clause-honest c J of =
+    rows_honest c.args.k c.args.run.now J of c.into_parts-rows.result.0.items c.into_parts-rows.result.1 (done c J of).0
+    (done c J of).1
+
+pub returns-clause-ordered : goal.returns-clause-ordered
+returns-clause-ordered c =
+    rows_ordered c.args.k c.args.run.now c.requires.0 c.requires.1 c.into_parts-rows.result.0.items
+    c.into_parts-rows.result.1
+    (done c c.requires.0 c.requires.1).0 (done c c.requires.0 c.requires.1).1
+
+pub returns-clause-displaced : goal.returns-clause-displaced
+returns-clause-displaced c =
+    rows_displaced c.args.k c.args.run.now c.requires.0 c.requires.1 c.into_parts-rows.result.0.items
+    c.into_parts-rows.result.1
+    (done c c.requires.0 c.requires.1).0 (done c c.requires.0 c.requires.1).1
+
+pub returns-clause-paid : goal.returns-clause-paid
+returns-clause-paid c J of =
+    rows_paid c.args.k c.args.run.now J of c.into_parts-rows.result.0.items c.into_parts-rows.result.1 (done c J of).0
+    (done c J of).1
+
+pub returns-clause-light : goal.returns-clause-light
+returns-clause-light c J of = (
+  (done c J of).0,
+  rows_light c.args.k c.args.run.now J of c.into_parts-rows.result.0.items c.into_parts-rows.result.1
+      (done c J of).0 (done c J of).1,
+)
+
+pub returns-clause-completed : goal.returns-clause-completed
+returns-clause-completed c =
+    rows_completed c.args.k c.args.run.now c.requires.0 c.requires.1 c.into_parts-rows.result.0.items
+    c.into_parts-rows.result.1
+    (done c c.requires.0 c.requires.1).0 (done c c.requires.0 c.requires.1).1
+
+pub returns-clause-abandoned : goal.returns-clause-abandoned
+returns-clause-abandoned c J of =
+    rows_abandoned c.args.k c.args.run.now J of c.into_parts-rows.result.0.items c.into_parts-rows.result.1
+    (done c J of).0 (done c J of).1

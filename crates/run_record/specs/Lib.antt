@@ -1,0 +1,2 @@
+pub mod intervals
+pub mod ledger

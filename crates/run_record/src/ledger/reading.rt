@@ -1,0 +1,86 @@
+//! What a fresh job's work is tested against, step by step.
+ghost use Rattle.std.specs.Prelude.{◌≡◌, ◌≤◌, IfOk, length, map};
+ghost use Rattle.std.specs.List.{enumerate_from};
+ghost use Rattle.run_record.specs.intervals.Rows.{IsRunOf};
+ghost use Rattle.dover_model.specs.declared.events.Role.TheVariants.{Coming};
+ghost use Rattle.dover_model.specs.Entries.{entry_of};
+ghost use Rattle.dover_model.specs.Fraction.{Fraction};
+ghost use Rattle.dover_model.specs.Instance.{Instance};
+ghost use Rattle.dover_model.specs.Limits.{most_jobs};
+ghost use Rattle.dover_model.specs.declared.events.Version.TheVariants.{Two};
+ghost use Rattle.dover_model.specs.Observed as observed;
+ghost use Rattle.dover_model.specs.State.{to_come};
+ghost use Rattle.run_record.specs.ledger.Pages.{had_in};
+ghost use Rattle.run_record.specs.ledger.Rooms as tests;
+
+use crate::ledger::under_way::UnderWay;
+use dover_model::{Entry, Job, Memory, PackedEvent, Ratio};
+use std::alloc::Global;
+
+/// At each printed step of a run that is a release or a preemption the room that the running and the held jobs leave a
+/// fresh job, and at each other one 0, in one pass over the steps. The jobs of the run are these, valid for the ratio
+/// `k`, and within the limits of version Two. Want of memory is the only error.
+pub fn rooms(alloc: Global, k: Ratio, jobs: &[Job], run: &[PackedEvent]) -> Result<Vec<u64>, Memory>
+    requires { (J : Instance) × IsRunOf k run.now J × (jobs.now ≡ J.jobs) }
+    ensures { (J : Instance) → IsRunOf k run.now J → jobs.now ≡ J.jobs
+        → IfOk result (λ rooms. rooms.items ≡ tests.rooms J) }
+{
+    let mut under_way = UnderWay::new(alloc, entries(alloc, jobs)?)?;
+    let mut rooms = Vec::new(alloc);
+    for event in run {
+        rooms.push(under_way.room(event))?;
+        under_way.read(alloc, event)?;
+    }
+    Ok(rooms)
+}
+
+/// How many ticks each job has had by the end of a run, by number, in one pass over its printed steps. The jobs of the
+/// run are these, valid for some ratio, and within the limits of version Two. Want of memory is the only error.
+pub fn hads(alloc: Global, jobs: &[Job], run: &[PackedEvent]) -> Result<Vec<u64>, Memory>
+    requires { (k : Fraction) × ((J : Instance) × IsRunOf k run.now J × (jobs.now ≡ J.jobs)) }
+    ensures { (k : Fraction) (J : Instance) → IsRunOf k run.now J → jobs.now ≡ J.jobs
+        → IfOk result (λ hads. hads.items ≡ observed.hads J) }
+{
+    let mut under_way = UnderWay::new(alloc, entries(alloc, jobs)?)?;
+    for event in run {
+        under_way.read(alloc, event)?;
+    }
+    let hads = had_by(alloc, jobs, &under_way)?;
+    Ok(hads)
+}
+
+/// How many ticks each job has had, where none runs.
+fn had_by(alloc: Global, jobs: &[Job], under_way: &UnderWay) -> Result<Vec<u64>, Memory>
+    ensures { IfOk result (λ hads. hads.items ≡ map (had_in under_way.now.entries) (enumerate_from 0 jobs.now)) }
+{
+    let mut hads = Vec::new(alloc);
+    for (number, job) in jobs.iter().enumerate() {
+        hads.push(under_way.had(number, job))?;
+    }
+    Ok(hads)
+}
+
+/// The jobs by number, before any of them ran.
+fn entries(alloc: Global, jobs: &[Job]) -> Result<Vec<Entry>, Memory>
+    requires { length jobs.now ≤ most_jobs Two }
+    ensures { IfOk result (λ entries. entries.items ≡ map entry_of (to_come 0 jobs.now)) }
+{
+    let mut entries = Vec::new(alloc);
+    for (number, job) in jobs.iter().enumerate() {
+        entries.push(fresh(number as u32, job))?;
+    }
+    Ok(entries)
+}
+
+/// A job before it runs.
+fn fresh(number: u32, job: &Job) -> Entry
+    ensures { result ≡ entry_of (record { number = number; job = job.now; role = Coming; had = 0 }) }
+{
+    Entry {
+        number,
+        deadline: job.deadline(),
+        latest: job.deadline().saturating_sub(job.work()),
+        left: job.work(),
+        value: job.value(),
+    }
+}

@@ -1,0 +1,430 @@
+-- Counts among the printed steps of a run are those of its report.
+use Rattle.std.proofs.Common.{◌≡◌, ℕ, ◌+◌, ◌*◌, ◌≤◌, ◌<◌, List, [], ◌∷◌, ◌++◌, length, map, take, get_or, refl}
+use Rattle.std.proofs.Common.{sym, ap, ◌∙◌}
+use Rattle.std.proofs.Common.{cond, arith}
+use Rattle.std.proofs.lemmas.List.{length-take, length-take-le}
+use Rattle.std.specs.Prelude.{Option, Some, None, option_to_list, codes, Bool, true, false, nat_lt}
+use Rattle.std.specs.Bool.{then_some}
+use Rattle.std.specs.List.{filter_map, sum_by, count_by, cons_option, enumerate_from}
+use Rattle.std.proofs.lemmas.List.{take_more}
+use Rattle.std.proofs.lemmas.List.Sums.{sum_by-cons, count_by-le-length}
+use Rattle.std.proofs.lemmas.List.Elements.{filter_map-append}
+use Rattle.std.proofs.lemmas.List.Concat.{flat_map-append}
+use Rattle.dover_model.specs.declared.events.Event.{Event}
+use Rattle.dover_model.specs.declared.events.Event.TheVariants.{Release, Run, Preempt, Take, Complete, Abandon, End}
+use Rattle.dover_model.specs.Fraction.{Fraction}
+use Rattle.dover_model.specs.JobFacts.{JobFacts}
+use Rattle.dover_model.specs.declared.events.Task.{Task}
+use Rattle.dover_model.specs.Instance.{Instance, IsValid}
+use Rattle.dover_model.specs.Session.{Item, FinishItem, admitted_jobs, may_finish_early}
+use Rattle.dover_model.specs.Settled.{finish_now}
+use Rattle.dover_model.specs.State.{running, left}
+use Rattle.dover_model.specs.Step.{Move, Prints, Waits, Ticks}
+use Rattle.dover_model.specs.Trace.{handed_by, early_of as shown_early}
+use Rattle.dover_model.specs.Run.{Step, run, event_of, printed_of, printed, completed_value}
+use Rattle.dover_model.specs.Intervals as model
+use Rattle.dover_model.specs.Bound.{bound}
+use Rattle.dover_model.specs.Lines.{with_numbers, in_lines}
+use Rattle.dover_model.specs.Reports.{fate_of_event, is_completed, abandoned_number, is_take}
+use Rattle.dover_model.specs.Reports.{Completed, Abandoned, lines_with, summary_lines, interval_line, report}
+use Rattle.dover_model.specs.Reports as reports
+use Rattle.dover_model.specs.Observed.{hads as model_hads}
+use Rattle.dover_model.proofs.Ending.{few_printed}
+use Rattle.dover_model.proofs.BoundLaws.{intervals_abandon}
+use Rattle.dover_model.proofs.ReleaseCounts.{releases}
+use Rattle.dover_model.proofs.RunSessions.{run_jobs}
+use Rattle.run_record.specs.intervals.Rows.{IsRunOf, numbers_of, rows_of}
+use Rattle.run_record.specs.intervals.Totals.{is_release, is_completion, is_abandonment, totals_of}
+use Rattle.run_record.specs.declared.intervals.interval.Interval.{Interval}
+use Rattle.run_record.specs.declared.intervals.totals.JobTotals.{JobTotals}
+use Rattle.run_record.proofs.intervals.Counted.{sum_more}
+use Rattle.run_reports.specs.report.Counts.{job_released, jobs_released, value_in, value_lost, all_lost}
+use Rattle.run_reports.specs.report.Counts.{counts_of, fates_lines, bound_line, counts_lines}
+use Rattle.run_reports.specs.report.Early.{left_in, left_at, early_of, with_left, HasRoom, early_line, lines_where}
+use Rattle.run_reports.specs.report.Early.{early_lines}
+use Rattle.run_reports.specs.declared.report.early.Early.{Early}
+use Rattle.run_reports.proofs.report.Texts.{five_parts}
+use Rattle.run_reports.specs.declared.report.counts.Counts.{Counts}
+use Rattle.run_reports.specs.report.Lines.{row_line, row_lines}
+
+-- ---- the jobs
+
+-- one step more
+pub released_more : (run : List Event) (i : ℕ) (e : Event) (jobs : List JobFacts) → e ≡ get_or run i e → i < length run
+    → jobs ≡ jobs_released (take i run) → jobs ++ option_to_list (job_released e) ≡ jobs_released (take (i + 1) run)
+released_more run i e jobs is there before =
+    ap (λ js. js ++ option_to_list (job_released e)) before
+    ∙ ap (λ x. jobs_released (take i run) ++ x) (one (job_released e))
+    ∙ sym (filter_map-append job_released (take i run) (e ∷ []))
+    ∙ ap (λ x. jobs_released (take i run ++ x ∷ [])) is ∙ ap jobs_released (sym (take_more run i e there)) where
+      one : (p : Option JobFacts) → option_to_list p ≡ cons_option p []
+      one None = refl
+      one (Some job) = refl
+
+-- the jobs of these steps, as the laws say it
+as_released : (run : List Event) → jobs_released run ≡ releases run
+as_released [] = refl
+as_released (Release n job ∷ run) = ap (λ js. job ∷ js) (as_released run)
+as_released (Run at n ∷ run) = as_released run
+as_released (Preempt at stops starts ∷ run) = as_released run
+as_released (Take at stops starts ∷ run) = as_released run
+as_released (Complete at n ∷ run) = as_released run
+as_released (Abandon at n ∷ run) = as_released run
+as_released (End value ∷ run) = as_released run
+
+-- steps release the jobs that they show to have been handed in
+released_shown : (xs : List Step) → releases (printed_of xs) ≡ admitted_jobs (filter_map handed_by xs)
+released_shown [] = refl
+released_shown (x ∷ xs) = by_move x.move (released_shown xs) where
+  shown : List Item
+  shown = filter_map handed_by xs
+
+  by_early : (o : Option Task) → admitted_jobs shown ≡ admitted_jobs (cons_option (shown_early x.before.clock o) shown)
+  by_early None = refl
+  by_early (Some r) = by_left (nat_lt 0 (left r)) where
+    by_left : (b : Bool) → admitted_jobs shown ≡ admitted_jobs (cons_option
+        (then_some b (FinishItem (record { at = x.before.clock; finish = finish_now r }))) shown)
+    by_left true = refl
+    by_left false = refl
+
+  by_move : (m : Move) → releases (printed_of xs) ≡ admitted_jobs shown
+      → releases (cons_option (event_of m) (printed_of xs))
+      ≡ admitted_jobs (cons_option (handed_by (record { before = x.before; move = m })) shown)
+  by_move (Prints (Release n j)) rest = ap (λ js. j ∷ js) rest
+  by_move (Prints (Run at n)) rest = rest
+  by_move (Prints (Preempt at stops starts)) rest = rest
+  by_move (Prints (Take at stops starts)) rest = rest
+  by_move (Prints (Complete at n)) rest = rest ∙ by_early (running x.before)
+  by_move (Prints (Abandon at n)) rest = rest
+  by_move (Prints (End value)) rest = rest
+  by_move (Waits n) rest = rest
+  by_move Ticks rest = rest
+
+-- a run releases its jobs, in their order
+pub releases_are : (J : Instance) → IsValid J → releases (printed J) ≡ J.jobs
+releases_are J valid = released_shown (run J) ∙ run_jobs J valid
+
+-- so do the steps that it prints
+pub run_releases : (J : Instance) → IsValid J → (steps : List Event) → printed J ≡ steps → jobs_released steps ≡ J.jobs
+run_releases J valid steps prints = as_released steps ∙ ap releases (sym prints) ∙ releases_are J valid
+
+-- ---- counts
+
+-- jobs that are done
+completions : (run : List Event) → count_by is_completed (filter_map fate_of_event run) ≡ count_by is_completion run
+completions [] = refl
+completions (Release n job ∷ run) =
+    omega (arith, sum_by-cons (λ e. cond (is_completion e) 1 0) (Release n job) run, completions run)
+completions (Run at n ∷ run) =
+    omega (arith, sum_by-cons (λ e. cond (is_completion e) 1 0) (Run at n) run, completions run)
+completions (Preempt at r n ∷ run) =
+    omega (arith, sum_by-cons (λ e. cond (is_completion e) 1 0) (Preempt at r n) run, completions run)
+completions (Take at r n ∷ run) =
+    omega (arith, sum_by-cons (λ e. cond (is_completion e) 1 0) (Take at r n) run, completions run)
+completions (Complete at n ∷ run) = omega (
+  arith,
+  sum_by-cons (λ e. cond (is_completion e) 1 0) (Complete at n) run,
+  sum_by-cons (λ f. cond (is_completed f) 1 0) (Completed n at) (filter_map fate_of_event run),
+  completions run,
+)
+completions (Abandon at n ∷ run) = omega (
+  arith,
+  sum_by-cons (λ e. cond (is_completion e) 1 0) (Abandon at n) run,
+  sum_by-cons (λ f. cond (is_completed f) 1 0) (Abandoned n at) (filter_map fate_of_event run),
+  completions run,
+)
+completions (End value ∷ run) =
+    omega (arith, sum_by-cons (λ e. cond (is_completion e) 1 0) (End value) run, completions run)
+
+-- the numbers of the jobs that are gone
+abbrev gone : List Event → List ℕ
+gone run = filter_map abandoned_number (filter_map fate_of_event run)
+
+-- jobs that are gone
+abandonments : (run : List Event) → length (gone run) ≡ count_by is_abandonment run
+abandonments [] = refl
+abandonments (Release n job ∷ run) =
+    omega (arith, sum_by-cons (λ e. cond (is_abandonment e) 1 0) (Release n job) run, abandonments run)
+abandonments (Run at n ∷ run) =
+    omega (arith, sum_by-cons (λ e. cond (is_abandonment e) 1 0) (Run at n) run, abandonments run)
+abandonments (Preempt at r n ∷ run) =
+    omega (arith, sum_by-cons (λ e. cond (is_abandonment e) 1 0) (Preempt at r n) run, abandonments run)
+abandonments (Take at r n ∷ run) =
+    omega (arith, sum_by-cons (λ e. cond (is_abandonment e) 1 0) (Take at r n) run, abandonments run)
+abandonments (Complete at n ∷ run) =
+    omega (arith, sum_by-cons (λ e. cond (is_abandonment e) 1 0) (Complete at n) run, abandonments run)
+abandonments (Abandon at n ∷ run) =
+    omega (arith, sum_by-cons (λ e. cond (is_abandonment e) 1 0) (Abandon at n) run, abandonments run)
+abandonments (End value ∷ run) =
+    omega (arith, sum_by-cons (λ e. cond (is_abandonment e) 1 0) (End value) run, abandonments run)
+
+-- their value
+losses : (jobs : List JobFacts) (run : List Event) → sum_by (value_in jobs) (gone run) ≡ all_lost jobs run
+losses jobs [] = refl
+losses jobs (Release n job ∷ run) = omega (arith, sum_by-cons (value_lost jobs) (Release n job) run, losses jobs run)
+losses jobs (Run at n ∷ run) = omega (arith, sum_by-cons (value_lost jobs) (Run at n) run, losses jobs run)
+losses jobs (Preempt at r n ∷ run) = omega (arith, sum_by-cons (value_lost jobs) (Preempt at r n) run, losses jobs run)
+losses jobs (Take at r n ∷ run) = omega (arith, sum_by-cons (value_lost jobs) (Take at r n) run, losses jobs run)
+losses jobs (Complete at n ∷ run) = omega (arith, sum_by-cons (value_lost jobs) (Complete at n) run, losses jobs run)
+losses jobs (Abandon at n ∷ run) = omega (
+  arith,
+  sum_by-cons (value_lost jobs) (Abandon at n) run,
+  sum_by-cons (value_in jobs) n (gone run),
+  losses jobs run,
+)
+losses jobs (End value ∷ run) = omega (arith, sum_by-cons (value_lost jobs) (End value) run, losses jobs run)
+
+-- what the steps tell, put together
+pub counts_are : (k : Fraction) (run : List Event) (totals : JobTotals) (jobs : List JobFacts)
+    (count value lost most : ℕ) → totals ≡ totals_of run → count ≡ length jobs → lost ≡ all_lost jobs run
+    → most ≡ bound k value → record {
+      jobs = count;
+      completed = totals.completed;
+      value = value;
+      abandoned = totals.abandoned;
+      lost = lost;
+      taken = totals.taken;
+      bound = most;
+    } ≡ counts_of k run jobs value
+counts_are k run totals jobs count value lost most is counted all bounds =
+    same_counts counted (ap (λ (t : JobTotals). t.completed) is) (ap (λ (t : JobTotals). t.abandoned) is) all
+    (ap (λ (t : JobTotals). t.taken) is) bounds where
+      whole : (a b c d f g : ℕ) → Counts
+      whole a b c d f g = record {
+        jobs = a;
+        completed = b;
+        value = value;
+        abandoned = c;
+        lost = d;
+        taken = f;
+        bound = g;
+      }
+
+      same_counts : {a b c d f g a2 b2 c2 d2 f2 g2 : ℕ} → a ≡ a2 → b ≡ b2 → c ≡ c2 → d ≡ d2 → f ≡ f2 → g ≡ g2
+          → whole a b c d f g ≡ whole a2 b2 c2 d2 f2 g2
+      same_counts e1 e2 e3 e4 e5 e6 = cc
+
+-- the steps of which each releases a job are as many as the jobs
+pub releases_count : (run : List Event) → count_by is_release run ≡ length (jobs_released run)
+releases_count [] = refl
+releases_count (Release n job ∷ run) =
+    omega (arith, sum_by-cons (λ e. cond (is_release e) 1 0) (Release n job) run, releases_count run)
+releases_count (Run at n ∷ run) =
+    omega (arith, sum_by-cons (λ e. cond (is_release e) 1 0) (Run at n) run, releases_count run)
+releases_count (Preempt at r n ∷ run) =
+    omega (arith, sum_by-cons (λ e. cond (is_release e) 1 0) (Preempt at r n) run, releases_count run)
+releases_count (Take at r n ∷ run) =
+    omega (arith, sum_by-cons (λ e. cond (is_release e) 1 0) (Take at r n) run, releases_count run)
+releases_count (Complete at n ∷ run) =
+    omega (arith, sum_by-cons (λ e. cond (is_release e) 1 0) (Complete at n) run, releases_count run)
+releases_count (Abandon at n ∷ run) =
+    omega (arith, sum_by-cons (λ e. cond (is_release e) 1 0) (Abandon at n) run, releases_count run)
+releases_count (End value ∷ run) =
+    omega (arith, sum_by-cons (λ e. cond (is_release e) 1 0) (End value) run, releases_count run)
+
+-- ---- jobs that completed with work left
+
+-- the numbers of the jobs that are done
+abbrev done : List Event → List ℕ
+done run = filter_map reports.completed_number (filter_map fate_of_event run)
+
+module _ (jobs : List JobFacts) (hads : List ℕ) where
+  -- how much is left of them
+  early_left : (run : List Event) → sum_by (left_in jobs hads) (done run) ≡ sum_by (left_at jobs hads) run
+  early_left [] = refl
+  early_left (Release n job ∷ run) = omega (arith, sum_by-cons (left_at jobs hads) (Release n job) run, early_left run)
+  early_left (Run at n ∷ run) = omega (arith, sum_by-cons (left_at jobs hads) (Run at n) run, early_left run)
+  early_left (Preempt at r n ∷ run) =
+      omega (arith, sum_by-cons (left_at jobs hads) (Preempt at r n) run, early_left run)
+  early_left (Take at r n ∷ run) = omega (arith, sum_by-cons (left_at jobs hads) (Take at r n) run, early_left run)
+  early_left (Complete at n ∷ run) = omega (
+    arith,
+    sum_by-cons (left_at jobs hads) (Complete at n) run,
+    sum_by-cons (left_in jobs hads) n (done run),
+    early_left run,
+  )
+  early_left (Abandon at n ∷ run) = omega (arith, sum_by-cons (left_at jobs hads) (Abandon at n) run, early_left run)
+  early_left (End value ∷ run) = omega (arith, sum_by-cons (left_at jobs hads) (End value) run, early_left run)
+
+  -- how many there are
+  early_count : (run : List Event)
+      → count_by (λ n. nat_lt 0 (left_in jobs hads n)) (done run) ≡ count_by (λ e. nat_lt 0 (left_at jobs hads e)) run
+  early_count [] = refl
+  early_count (Release n job ∷ run) =
+      omega (arith, sum_by-cons (λ e. cond (nat_lt 0 (left_at jobs hads e)) 1 0) (Release n job) run, early_count run)
+  early_count (Run at n ∷ run) =
+      omega (arith, sum_by-cons (λ e. cond (nat_lt 0 (left_at jobs hads e)) 1 0) (Run at n) run, early_count run)
+  early_count (Preempt at r n ∷ run) =
+      omega (arith, sum_by-cons (λ e. cond (nat_lt 0 (left_at jobs hads e)) 1 0) (Preempt at r n) run, early_count run)
+  early_count (Take at r n ∷ run) =
+      omega (arith, sum_by-cons (λ e. cond (nat_lt 0 (left_at jobs hads e)) 1 0) (Take at r n) run, early_count run)
+  early_count (Complete at n ∷ run) = omega (
+    arith,
+    sum_by-cons (λ e. cond (nat_lt 0 (left_at jobs hads e)) 1 0) (Complete at n) run,
+    sum_by-cons (λ n. cond (nat_lt 0 (left_in jobs hads n)) 1 0) n (done run),
+    early_count run,
+  )
+  early_count (Abandon at n ∷ run) =
+      omega (arith, sum_by-cons (λ e. cond (nat_lt 0 (left_at jobs hads e)) 1 0) (Abandon at n) run, early_count run)
+  early_count (End value ∷ run) =
+      omega (arith, sum_by-cons (λ e. cond (nat_lt 0 (left_at jobs hads e)) 1 0) (End value) run, early_count run)
+
+-- what one step more makes of them
+pub early_more : (jobs : List JobFacts) (hads : List ℕ) (run : List Event) (i : ℕ) (e : Event) → e ≡ get_or run i e
+    → i < length run
+    → with_left (early_of jobs hads (take i run)) (left_at jobs hads e) ≡ early_of jobs hads (take (i + 1) run)
+early_more jobs hads run i e is there =
+    same_early (more (λ x. cond (nat_lt 0 (left_at jobs hads x)) 1 0)) (more (left_at jobs hads)) where
+      whole : (a b : ℕ) → Early
+      whole a b = record { jobs = a; left = b }
+
+      same_early : {a b c d : ℕ} → a ≡ c → b ≡ d → whole a b ≡ whole c d
+      same_early e1 e2 = cc
+
+      more : (f : Event → ℕ) → sum_by f (take i run) + f e ≡ sum_by f (take (i + 1) run)
+      more f = sum_more f run i e is there
+
+-- there is room for one step more
+pub early_fits : (jobs : List JobFacts) (hads : List ℕ) (run : List Event) (i : ℕ) (early : Early)
+    → early ≡ early_of jobs hads (take i run)
+    → early.left ≤ 1_000_000_000_000 * i → i < length run → length run ≤ 5_000_001 → HasRoom early
+early_fits jobs hads run i early is low there few = record {
+  jobs = omega (
+    arith,
+    ap (λ (x : Early). x.jobs) is,
+    length-take-le i run (omega arith),
+    count_by-le-length (λ e. nat_lt 0 (left_at jobs hads e)) (take i run),
+  );
+  left = omega arith;
+}
+
+-- ---- lines
+
+-- the line of those that completed early, where there is one
+pub same_where : (early : Bool) (it other : Early) → (early ≡ true → it ≡ other)
+    → lines_where early it ≡ lines_where early other
+same_where true it other same = ap (λ (e : Early). early_line e ∷ []) (same refl)
+same_where false it other same = refl
+
+-- equal numbers have equal lines
+same_lines : (more : List (List ℕ)) (n m x y a b g h v w t u c d : ℕ) → n ≡ m → x ≡ y → a ≡ b → g ≡ h → v ≡ w → t ≡ u
+    → c ≡ d
+    → with_numbers (codes "jobs") (n ∷ []) ∷ with_numbers (codes "completed") (x ∷ a ∷ []) ∷ with_numbers
+    (codes "abandoned") (g ∷ v ∷ [])
+    ∷ with_numbers (codes "taken") (t ∷ []) ∷ (more ++ with_numbers (codes "bound") (c ∷ []) ∷ [])
+    ≡ with_numbers (codes "jobs") (m ∷ []) ∷ with_numbers (codes "completed") (y ∷ b ∷ []) ∷ with_numbers
+    (codes "abandoned") (h ∷ w ∷ [])
+    ∷ with_numbers (codes "taken") (u ∷ []) ∷ (more ++ with_numbers (codes "bound") (d ∷ []) ∷ [])
+same_lines more n m x y a b g h v w t u c d e1 e2 e3 e4 e5 e6 e7 = cc
+
+-- the rows have the lines of the intervals
+rows_lines : (n : ℕ) (is : List model.Interval)
+    → map row_line (enumerate_from n (map numbers_of is)) ≡ map interval_line (enumerate_from n is)
+rows_lines n [] = refl
+rows_lines n (i ∷ is) = ap (λ ls. interval_line (n, i) ∷ ls) (rows_lines (n + 1) is)
+
+-- one interval more
+lines_snoc : (n : ℕ) (rows : List Interval) (r : Interval) → map row_line (enumerate_from n (rows ++ r ∷ []))
+    ≡ map row_line (enumerate_from n rows) ++ row_line (n + length rows, r) ∷ []
+lines_snoc n [] r = ap (λ m. row_line (m, r) ∷ []) (omega arith)
+lines_snoc n (x ∷ rows) r =
+    let same : n + 1 + length rows ≡ n + length (x ∷ rows) = omega arith in
+    ap (λ ls. row_line (n, x) ∷ ls)
+    (lines_snoc (n + 1) rows r ∙ ap (λ m. map row_line (enumerate_from (n + 1) rows) ++ row_line (m, r) ∷ []) same)
+
+pub rows_more : (rows : List Interval) (i : ℕ) (d : Interval) → i < length rows
+    → in_lines (row_lines (take i rows)) ++ in_lines (row_line (i + 1, get_or rows i d) ∷ []) ≡ in_lines
+    (row_lines (take (i + 1) rows))
+rows_more rows i d there =
+    let count : length (take i rows) ≡ i = omega (arith, length-take i rows) in
+    let number : 1 + length (take i rows) ≡ i + 1 = omega (arith, count) in
+    sym (flat_map-append (λ (l : List ℕ). l ++ 10 ∷ []) (row_lines (take i rows))
+    (row_line (i + 1, get_or rows i d) ∷ []))
+    ∙ ap (λ m. in_lines (row_lines (take i rows) ++ row_line (m, get_or rows i d) ∷ [])) (sym number)
+    ∙ ap in_lines (sym (lines_snoc 1 (take i rows) (get_or rows i d)))
+    ∙ ap (λ rs. in_lines (row_lines rs)) (sym (take_more rows i d there))
+
+module _ (k : Fraction) (run : List Event) (J : Instance) (of : IsRunOf k run J) where
+  -- the jobs are those that the steps release
+  pub jobs_are : jobs_released run ≡ J.jobs
+  jobs_are = run_releases J of.valid run of.prints
+
+  -- the summary's lines are those of the counts, with others behind the one of the takes
+  lines_are : (more : List (List ℕ)) (jobs : List JobFacts) (value : ℕ) → jobs ≡ jobs_released run
+      → value ≡ completed_value J
+      → fates_lines (counts_of k run jobs value) ++ (more ++ bound_line (counts_of k run jobs value) ∷ [])
+      ≡ lines_with J more
+  lines_are more jobs value same worth = same_lines more _ _ _ _ _ _ _ _ _ _ _ _ _ _
+      (ap length jobs_same)
+      (sym (completions run) ∙ ap (λ es. count_by is_completed (filter_map fate_of_event es)) (sym of.prints))
+      worth
+      (sym (abandonments run) ∙ ap (λ es. length (gone es)) (sym of.prints))
+      (ap (λ js. all_lost js run) jobs_same ∙ sym (losses J.jobs run)
+      ∙ ap (λ es. sum_by (value_in J.jobs) (gone es)) (sym of.prints))
+      (ap (count_by is_take) (sym of.prints))
+      (ap (bound k) worth ∙ ap (λ (r : Fraction). bound r (completed_value J)) (sym of.ratio)) where
+        jobs_same : jobs ≡ J.jobs
+        jobs_same = same ∙ jobs_are
+
+  -- and without them
+  pub summary_is : (jobs : List JobFacts) (value : ℕ) → jobs ≡ jobs_released run → value ≡ completed_value J
+      → counts_lines (counts_of k run jobs value) ≡ summary_lines J
+  summary_is = lines_are []
+
+  -- the line of those that completed early
+  early_is : (early : Bool) (jobs : List JobFacts) (hads : List ℕ) → early ≡ may_finish_early J.rules.version
+      → (early ≡ true → hads ≡ model_hads J) → jobs ≡ jobs_released run
+      → early_lines early jobs hads run ≡ reports.early_lines J
+  early_is early jobs hads is same released = by_early early is same where
+    left : ℕ → ℕ
+    left = reports.left_of_job J
+
+    of_numbers : List ℕ → List (List ℕ)
+    of_numbers ns = with_numbers (codes "early") (count_by (λ n. nat_lt 0 (left n)) ns ∷ sum_by left ns ∷ []) ∷ []
+
+    counted : (es : List Event)
+        → early_line (early_of J.jobs (model_hads J) es) ∷ []
+        ≡ of_numbers (filter_map reports.completed_number (filter_map fate_of_event es))
+    counted es = ap (λ (n : ℕ). with_numbers (codes "early")
+        (n ∷ sum_by (left_at J.jobs (model_hads J)) es ∷ []) ∷ []) (sym (early_count J.jobs (model_hads J) es))
+        ∙ ap (λ (n : ℕ). with_numbers (codes "early")
+        (count_by (λ n. nat_lt 0 (left n)) (done es) ∷ n ∷ []) ∷ []) (sym (early_left J.jobs (model_hads J) es))
+
+    by_early : (b : Bool) → b ≡ may_finish_early J.rules.version → (b ≡ true → hads ≡ model_hads J)
+        → early_lines b jobs hads run ≡ reports.early_lines J
+    by_early true three are =
+        ap (λ js. early_line (early_of js hads run) ∷ []) (released ∙ jobs_are)
+        ∙ ap (λ hs. early_line (early_of J.jobs hs run) ∷ []) (are refl)
+        ∙ counted run
+        ∙ ap (λ es. of_numbers (done es)) (sym of.prints)
+        ∙ ap (λ (c : Bool). cond c (of_numbers (done (printed J))) []) three
+    by_early false three are = ap (λ (c : Bool). cond c (of_numbers (done (printed J))) []) three
+
+  -- the report, put together
+  pub report_is : (early : Bool) (jobs : List JobFacts) (hads : List ℕ) (value : ℕ) (rows : List Interval)
+      → early ≡ may_finish_early J.rules.version → (early ≡ true → hads ≡ model_hads J)
+      → jobs ≡ jobs_released run → value ≡ completed_value J → rows ≡ rows_of J
+      → (((in_lines (with_numbers (codes "ratio") (k.p ∷ k.q ∷ []) ∷ []) ++ in_lines
+      (fates_lines (counts_of k run jobs value))) ++ in_lines (early_lines early jobs hads run))
+      ++ in_lines (bound_line (counts_of k run jobs value) ∷ [])) ++ in_lines (row_lines rows)
+      ≡ report J
+  report_is early jobs hads value rows is are same worth all =
+      five_parts (with_numbers (codes "ratio") (k.p ∷ k.q ∷ []) ∷ []) (fates_lines (counts_of k run jobs value))
+      (early_lines early jobs hads run) (bound_line (counts_of k run jobs value) ∷ []) (row_lines rows)
+      ∙ ap (λ ls. in_lines (with_numbers (codes "ratio") (k.p ∷ k.q ∷ []) ∷ ls ++ row_lines rows))
+      (lines_are (early_lines early jobs hads run) jobs value same worth
+      ∙ ap (lines_with J) (early_is early jobs hads is are same))
+      ∙ ap (λ ls. in_lines (with_numbers (codes "ratio") (k.p ∷ k.q ∷ []) ∷ lines_with J (reports.early_lines J) ++ ls))
+      (ap row_lines all ∙ rows_lines 1 (model.intervals J))
+      ∙ ap (λ (r : Fraction). in_lines
+      (with_numbers (codes "ratio") (r.p ∷ r.q ∷ []) ∷ lines_with J (reports.early_lines J) ++ map interval_line
+      (enumerate_from 1 (model.intervals J))))
+      (sym of.ratio)
+
+  -- the steps are few
+  pub few_steps : length run ≤ 5_000_001
+  few_steps = omega (arith, ap length of.prints, few_printed J of.valid, of.listable.count)
+
+  -- and the value is that of a valid list
+  pub value_small : completed_value J ≤ 10_000_000_000_000
+  value_small = omega (arith, intervals_abandon J of.valid, of.listable.total)

@@ -1,0 +1,65 @@
+-- The printed steps of a run beside what is weighed before each, one after another.
+use Rattle.std.proofs.Common.{◌≡◌, ℕ, suc, ◌+◌, ◌≤◌, ◌<◌, List, [], ◌∷◌, length, drop, get_or, refl, sym, ap, ◌∙◌}
+use Rattle.std.proofs.Common.{arith, add-one, drop-cons}
+use Rattle.std.specs.List.{zip, filter_map, cons_option}
+use Rattle.std.specs.Option.{option_map}
+use Rattle.std.proofs.lemmas.List.{drop_all}
+use Rattle.std.proofs.lemmas.Slice.Zip.{length-zip, get_or-zip}
+use Rattle.dover_model.specs.declared.events.Event.{Event}
+use Rattle.dover_model.specs.Instance.{Instance}
+use Rattle.dover_model.specs.Fraction.{Fraction}
+use Rattle.dover_model.specs.State.{privileged, value_sum}
+use Rattle.dover_model.specs.Step.{Move, Prints, Waits, Ticks}
+use Rattle.dover_model.specs.Run.{Step, event_of, printed_of, run}
+use Rattle.run_record.specs.intervals.Rows.{IsRunOf, weight_of, weights}
+use Rattle.run_record.specs.ledger.Rooms.{room_before, room_of_step, rooms}
+
+-- a step beside what is weighed, and those behind it
+pub zip_next : (steps : List Event) (worths : List ℕ) (i : ℕ) (e : Event) (w : ℕ) → e ≡ get_or steps i e
+    → w ≡ get_or worths i w
+    → i < length steps → length worths ≡ length steps → drop i (zip steps worths) ≡ (e, w) ∷ drop (i + 1)
+    (zip steps worths)
+zip_next steps worths i e w is weighs there same =
+    drop-cons (zip steps worths) i (e, w) (omega (arith, there, same, length-zip steps worths))
+    ∙ ap (λ x. x ∷ drop (suc i) (zip steps worths)) (get_or-zip steps worths i (e, w) there (omega
+    (arith, there, same))
+    ∙ ap (λ x. (x, get_or worths i w)) (sym is) ∙ ap (λ y. (e, y)) (sym weighs))
+    ∙ ap (λ n. (e, w) ∷ drop n (zip steps worths)) (sym (add-one i))
+
+-- behind the last one
+pub zip_end : (steps : List Event) (worths : List ℕ) (i : ℕ) → length steps ≤ i → drop i (zip steps worths) ≡ []
+zip_end steps worths i past = drop_all i (zip steps worths) (omega (arith, past, length-zip steps worths))
+
+-- as many are weighed as are printed
+as_many : (steps : List Step) → length (filter_map weight_of steps) ≡ length (printed_of steps)
+as_many [] = refl
+as_many (x ∷ steps) = by_move x.move (as_many steps) where
+  by_move : (m : Move) → length (filter_map weight_of steps) ≡ length (printed_of steps)
+      → length (cons_option (option_map (λ (e : Event). value_sum (privileged x.before)) (event_of m))
+      (filter_map weight_of steps))
+      ≡ length (cons_option (event_of m) (printed_of steps))
+  by_move (Prints e) same = ap suc same
+  by_move (Waits n) same = same
+  by_move Ticks same = same
+
+-- of a run
+pub same_length : (k : Fraction) (steps : List Event) (J : Instance) → IsRunOf k steps J → (worths : List ℕ)
+    → worths ≡ weights J
+    → length worths ≡ length steps
+same_length k steps J of worths are = ap length are ∙ as_many (run J) ∙ ap length of.prints
+
+-- as many rooms are left as steps are printed
+rooms_many : (steps : List Step) → length (filter_map room_of_step steps) ≡ length (printed_of steps)
+rooms_many [] = refl
+rooms_many (x ∷ steps) = by_move x.move (rooms_many steps) where
+  by_move : (m : Move) → length (filter_map room_of_step steps) ≡ length (printed_of steps)
+      → length (cons_option (option_map (room_before x.before) (event_of m)) (filter_map room_of_step steps))
+      ≡ length (cons_option (event_of m) (printed_of steps))
+  by_move (Prints e) same = ap suc same
+  by_move (Waits n) same = same
+  by_move Ticks same = same
+
+-- of a run
+pub rooms_length : (k : Fraction) (steps : List Event) (J : Instance) → IsRunOf k steps J → (leaves : List ℕ)
+    → leaves ≡ rooms J → length leaves ≡ length steps
+rooms_length k steps J of leaves are = ap length are ∙ rooms_many (run J) ∙ ap length of.prints

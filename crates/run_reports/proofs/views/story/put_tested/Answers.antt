@@ -1,0 +1,32 @@
+use Rattle.std.proofs.Common.{[], ◌∷◌, ◌-◌, refl}
+use Rattle.std.specs.Prelude.{codes}
+use Rattle.std.proofs.lemmas.Result.{IfOk-equal}
+use Rattle.run_reports.specs.views.Templates.{filled}
+use Rattle.run_reports.specs.views.Why.{least_heavy, square, tested}
+use Rattle.run_reports.proofs.views.Joining.{joined}
+use Rattle.run_reports.proofs.views.story.put_tested.Goals as goal
+
+pub returns : goal.returns
+unfolding tested
+returns c = IfOk-equal c.put-2.result _ _ _ (rw c.least_heavy.ensures.is at c.put-2.ensures)
+    (joined c.args.text.now.items
+    (filled (codes ", its value @ against @ under way:") (c.args.asked.now.value ∷ c.args.worth ∷ [])
+    ∷ square c.args.asked.now.k.q (c.args.asked.now.value - c.args.worth) ∷ c.args.answer.now
+    ∷ square c.args.asked.now.k.p c.args.worth
+    ∷ filled (codes "; heavy from @ on\n") (least_heavy c.args.asked.now.k c.args.worth ∷ []) ∷ []) _ (
+      _,
+      c.in_ok-put.ensures,
+      (
+        _,
+        rw (c.q.ensures.is, c.saturating_sub-more.ensures) at c.in_ok-put_square.ensures,
+        (
+          _,
+          c.in_ok-extend_from_slice.ensures.items,
+          (
+            _,
+            rw c.p.ensures.is at c.in_ok-put_square-2.ensures,
+            (_, refl, refl),
+          ),
+        ),
+      ),
+    ))

@@ -1,0 +1,10 @@
+use Rattle.std.proofs.Common.{◌++◌, ap, ◌∙◌}
+use Rattle.run_reports.specs.views.Timeline.{padded}
+use Rattle.run_reports.proofs.views.Drawing.{labels_more}
+use Rattle.run_reports.proofs.views.terminal.put_labels.Goals as goal
+
+pub loop-index-preserved : goal.loop-index-preserved
+loop-index-preserved c = labels_more c.args.window.now c.args.more c.loop-index.index c.loop-index.text.items _ _
+    c.loop-index-test.true
+    (c.in_ok-put_padded.ensures ∙ ap (λ n. c.loop-index.text.items ++ padded n) c.first_tick.ensures)
+    c.loop-index.invariant

@@ -1,0 +1,107 @@
+-- The rows of a table: a job, and how it ended.
+use Rattle.std.specs.Prelude.{◌≡◌, ℕ, ◌+◌, ◌<◌, ◌≤◌, List, [], ◌∷◌, ◌++◌, length, map, drop, set, ◌==◌, nat_lt}
+use Rattle.std.specs.Prelude.{Bool, true, false}
+use Rattle.std.specs.Prelude.{if◌then◌else◌, slice_get, slice_index_or, Option, Some, None}
+use Rattle.std.specs.Prelude.{codes, decimal}
+use Rattle.std.specs.List.{filter_map, find, flat_map}
+use Rattle.std.specs.Option.{option_map, option_map_or}
+use Rattle.dover_model.specs.declared.events.Event.{Event}
+use Rattle.dover_model.specs.declared.events.Event.TheVariants.{Release, Run, Preempt, Take, Complete, Abandon, End}
+use Rattle.dover_model.specs.JobFacts.{JobFacts, job_numbers}
+use Rattle.dover_model.specs.Reports.{Fate, fate_of_event, number_of}
+use Rattle.dover_model.specs.Reports as model
+use Rattle.run_reports.specs.report.Early.{had_at}
+use Rattle.run_reports.specs.declared.report.endings.Ending.{Ending}
+use Rattle.run_reports.specs.declared.report.endings.Ending.TheVariants.{Completed, Abandoned}
+
+-- how the job of a fate ended
+abbrev pub ending_of : Fate → Ending
+ending_of (model.Completed n at) = Completed at
+ending_of (model.Abandoned n at) = Abandoned at
+
+-- how the job of number n ended in these steps
+abbrev pub ending_in : List Event → ℕ → Option Ending
+ending_in run n = option_map ending_of (find (λ fate. number_of fate == n) (filter_map fate_of_event run))
+
+-- how a step ends its job, if it does
+abbrev pub ending_by : Event → Option Ending
+ending_by (Complete at n) = Some (Completed at)
+ending_by (Abandon at n) = Some (Abandoned at)
+ending_by _ = None
+
+-- how the step at this place ends its job, if it does
+abbrev pub ending_at : List Event → ℕ → Option Ending
+ending_at run place = option_map_or ending_by (slice_get run place) None
+
+-- the places with this one at number n, if there are so many
+abbrev pub with_place : List ℕ → ℕ → ℕ → List ℕ
+with_place places n place = if nat_lt n (length places) then set places n place else places
+
+-- the places after an earlier step is read, which stands at this one
+abbrev pub with_step : List ℕ → Event → ℕ → List ℕ
+with_step places (Complete at n) place = with_place places n place
+with_step places (Abandon at n) place = with_place places n place
+with_step places _ place = places
+
+-- the fields of an ending
+abbrev pub ending_fields : Option Ending → List (List ℕ)
+ending_fields None = []
+ending_fields (Some (Completed at)) = codes "complete" ∷ decimal at ∷ []
+ending_fields (Some (Abandoned at)) = codes "abandon" ∷ decimal at ∷ []
+
+-- the field of the ticks that a job had
+abbrev pub had_fields : Option ℕ → List (List ℕ)
+had_fields None = []
+had_fields (Some had) = decimal had ∷ []
+
+-- the names of the fields, by whether the ticks that a job had are among them
+abbrev pub names_line : Bool → List ℕ
+names_line early = if early then codes "job,release,work,deadline,value,fate,tick,had\n"
+    else codes "job,release,work,deadline,value,fate,tick\n"
+
+-- each field behind a comma
+abbrev pub after_commas : List (List ℕ) → List ℕ
+after_commas fields = flat_map (λ field. 44 ∷ field) fields
+
+-- the row of a job with its number, its ending, and the ticks that it had, if these are told
+abbrev pub row_text : ℕ → JobFacts → Option Ending → Option ℕ → List ℕ
+row_text n j ending had =
+    decimal n ++ after_commas (map decimal (job_numbers j) ++ (ending_fields ending ++ had_fields had))
+
+-- the rows of the jobs that these steps release, from number n on, by how each ended and what it had
+abbrev pub rows_of_steps : (ℕ → Option Ending) → (ℕ → Option ℕ) → ℕ → List Event → List (List ℕ)
+rows_of_steps ending had n [] = []
+rows_of_steps ending had n (Release m j ∷ es) =
+    row_text n j (ending n) (had n) ∷ rows_of_steps ending had (n + 1) es
+rows_of_steps ending had n (Run at m ∷ es) = rows_of_steps ending had n es
+rows_of_steps ending had n (Preempt at r m ∷ es) = rows_of_steps ending had n es
+rows_of_steps ending had n (Take at r m ∷ es) = rows_of_steps ending had n es
+rows_of_steps ending had n (Complete at m ∷ es) = rows_of_steps ending had n es
+rows_of_steps ending had n (Abandon at m ∷ es) = rows_of_steps ending had n es
+rows_of_steps ending had n (End value ∷ es) = rows_of_steps ending had n es
+
+-- the row of names with its line feed, and the rows of jobs
+pub record Table : Type 0 where
+  pub names : List ℕ
+  pub rows : List (List ℕ)
+
+-- what is left of a table, where so many steps are behind and release so many jobs
+abbrev pub rows_left : List Event → Bool → List ℕ → List ℕ → (next number : ℕ) → Table
+rows_left run early hads places next number = record {
+  names = names_line early;
+  rows = rows_of_steps (λ n. ending_at run (slice_index_or places n 0)) (had_at early hads) number (drop next run);
+}
+
+-- the next release behind so many steps is of this job, and so many steps are behind after it; or there is none
+abbrev pub FindsNext : List Event → ℕ → Option (ℕ × JobFacts) → Type 0
+FindsNext run next None =
+    (ending : ℕ → Option Ending) (had : ℕ → Option ℕ) (n : ℕ) → rows_of_steps ending had n (drop next run) ≡ []
+FindsNext run next (Some (later, job)) = (next < later) × (later ≤ length run)
+    × ((ending : ℕ → Option Ending) (had : ℕ → Option ℕ) (n : ℕ) → rows_of_steps ending had n (drop next run)
+    ≡ row_text n job (ending n) (had n) ∷ rows_of_steps ending had (n + 1) (drop later run))
+
+-- the first of the rows was given in the line, or there is none, and all is as it was
+abbrev pub GivesRow : (old new : Table) → (before line : List ℕ) → (given : Bool) → Type 0
+GivesRow old new before line true = (new.names ≡ old.names)
+    × ((row : List ℕ) × (line ≡ row ++ 10 ∷ []) × (old.rows ≡ row ∷ new.rows))
+GivesRow old new before line false = (old.rows ≡ []) × (new ≡ old) × (line ≡ before)

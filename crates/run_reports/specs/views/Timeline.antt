@@ -1,0 +1,153 @@
+-- A picture of a run for a terminal: the summary, a ruler, and a line for each job, with a sign for each column.
+use Rattle.std.specs.Prelude.{ℕ, zero, suc, ◌+◌, ◌-◌, ◌*◌, ◌/◌, min, max, List, [], ◌∷◌, ◌++◌, length, replicate, Bool}
+use Rattle.std.specs.Prelude.{false, not, ◌&&◌, nat_lt, nat_le, if◌then◌else◌, Option, Some, None, codes, decimal}
+use Rattle.std.specs.List.{list_any}
+use Rattle.dover_model.specs.declared.events.Event.{Event}
+use Rattle.dover_model.specs.Instance.{Instance}
+use Rattle.dover_model.specs.JobFacts.{JobFacts}
+use Rattle.dover_model.specs.Reports.{summary_lines}
+use Rattle.dover_model.specs.Run.{last_deadline, printed}
+use Rattle.run_reports.specs.report.Rows.{ending_in}
+use Rattle.run_reports.specs.declared.report.endings.Ending.{Ending}
+use Rattle.run_reports.specs.declared.report.endings.Ending.TheVariants.{Completed, Abandoned}
+use Rattle.run_reports.specs.views.Templates.{Text, filled}
+use Rattle.run_reports.specs.views.Stays.{stays_of}
+use Rattle.run_reports.specs.declared.views.stays.Stay.{Stay}
+use Rattle.run_reports.specs.declared.views.window.Window.{Window}
+
+-- ---- the window and its columns
+
+-- the window that is asked for, or the ticks up to the last deadline
+abbrev pub window_or : Option Window → List JobFacts → Window
+window_or None jobs = record { from = 0; until = max 1 (last_deadline jobs) }
+window_or (Some w) jobs = w
+
+-- the ticks of a column: as few as make it at most 60 columns, so that no line of a job has more than 80 signs
+abbrev pub column_ticks : Window → ℕ
+column_ticks w = (w.until - w.from - 1) / 60 + 1
+
+-- the column of a tick, and the first column for a tick before the window
+abbrev pub column_of : Window → ℕ → ℕ
+column_of w t = (t - w.from) / column_ticks w
+
+-- the first tick of a column
+abbrev pub first_tick : Window → ℕ → ℕ
+first_tick w column = w.from + column * column_ticks w
+
+-- the tick behind the last one of a column, which is the window's at the latest
+abbrev pub end_tick : Window → ℕ → ℕ
+end_tick w column = min (first_tick w (column + 1)) w.until
+
+-- ---- the frame
+
+-- lines as one, with a comma and a space between each two
+abbrev pub on_one_line : List Text → Text
+on_one_line [] = []
+on_one_line (line ∷ []) = line
+on_one_line (line ∷ next ∷ more) = line ++ codes ", " ++ on_one_line (next ∷ more)
+
+-- the summary of these lines, as one
+abbrev pub summed_up : List Text → Text
+summed_up lines = on_one_line lines ++ codes "\n"
+
+-- so many spaces
+abbrev pub blanks : ℕ → Text
+blanks n = replicate n 32
+
+-- the number, with blanks behind it to 20 places
+abbrev pub padded : ℕ → Text
+padded n = decimal n ++ blanks (20 - length (decimal n))
+
+-- the first ticks of so many columns, each the 20th behind the one before it, and then the last one's
+abbrev pub labels_from : Window → (more column : ℕ) → Text
+labels_from w zero column = decimal (first_tick w column)
+labels_from w (suc more) column = padded (first_tick w column) ++ labels_from w more (column + 20)
+
+-- the first tick of each 20th column, above it
+abbrev pub ruler : Window → Text
+ruler w = blanks 7 ++ labels_from w (column_of w (w.until - 1) / 20) 0 ++ codes "\n"
+
+-- the ticks of a column, and the ruler
+abbrev pub frame : Window → Text
+frame w = filled (codes "       ticks of a column: @\n") (column_ticks w ∷ []) ++ ruler w
+
+-- ---- the signs of a job in the ticks from a on and before b
+
+-- it is abandoned there
+abbrev pub is_abandoned_in : (a b : ℕ) → Option Ending → Bool
+is_abandoned_in a b (Some (Abandoned at)) = nat_le a at && nat_lt at b
+is_abandoned_in a b _ = false
+
+-- it takes the processor there
+abbrev pub takes_in : (a b : ℕ) → Stay → Bool
+takes_in a b stay = stay.took && nat_le a stay.from && nat_lt stay.from b
+
+-- it runs in one of them
+abbrev pub runs_in : (a b : ℕ) → Stay → Bool
+runs_in a b stay = nat_lt stay.from stay.until && nat_lt stay.from b && nat_lt a stay.until
+
+-- it is completed or abandoned by tick a
+abbrev pub is_over_by : ℕ → Option Ending → Bool
+is_over_by a None = false
+is_over_by a (Some (Completed at)) = nat_le at a
+is_over_by a (Some (Abandoned at)) = nat_le at a
+
+-- it had the processor before tick b, and isn't over by tick a
+abbrev pub is_begun_in : (a b : ℕ) → List Stay → Option Ending → Bool
+is_begun_in a b stays ending = list_any (λ stay. nat_lt stay.from b) stays && not (is_over_by a ending)
+
+-- the first of the signs X ! # - . that applies
+abbrev pub sign : (a b : ℕ) → List Stay → Option Ending → ℕ
+sign a b stays ending =
+    if is_abandoned_in a b ending then 88 else (
+    if list_any (takes_in a b) stays then 33 else (
+    if list_any (runs_in a b) stays then 35 else (
+    if is_begun_in a b stays ending then 45 else 46)))
+
+-- ---- the line of a job
+
+-- some tick from its release on and before its deadline is in the window
+abbrev pub meets : Window → JobFacts → Bool
+meets w j = nat_lt (max j.release w.from) (min j.deadline w.until)
+
+-- the signs of so many columns
+abbrev pub signs_from : Window → List Stay → Option Ending → (more column : ℕ) → Text
+signs_from w stays ending zero column = []
+signs_from w stays ending (suc more) column =
+    sign (first_tick w column) (end_tick w column) stays ending ∷ signs_from w stays ending more (column + 1)
+
+-- a sign for each column from that of its release to that of the tick before its deadline
+abbrev pub signs : Window → JobFacts → List Stay → Option Ending → Text
+signs w j stays ending =
+    let first = column_of w j.release in let behind = column_of w (min j.deadline w.until - 1) + 1 in
+    blanks first ++ signs_from w stays ending (behind - first) first
+
+-- the number, with blanks in front of it to six places
+abbrev pub placed : ℕ → Text
+placed n = blanks (6 - length (decimal n)) ++ decimal n
+
+-- a minus where it is lost
+abbrev pub loss_sign : Option Ending → Text
+loss_sign (Some (Abandoned at)) = codes "-"
+loss_sign _ = []
+
+-- its number, its signs and its value
+abbrev pub job_line : Window → ℕ → JobFacts → List Stay → Option Ending → Text
+job_line w n j stays ending =
+    placed n ++ codes " " ++ signs w j stays ending ++ codes " " ++ loss_sign ending ++ decimal j.value ++ codes "\n"
+
+-- the lines of these jobs, from number n on, that meet the window
+abbrev pub job_lines : Window → List Event → ℕ → List JobFacts → Text
+job_lines w run n [] = []
+job_lines w run n (j ∷ jobs) =
+    (if meets w j then job_line w n j (stays_of n run) (ending_in run n) else []) ++ job_lines w run (n + 1) jobs
+
+-- ---- the picture
+
+-- of this window
+abbrev pub pictured : Window → Instance → Text
+pictured w J = summed_up (summary_lines J) ++ frame w ++ job_lines w (printed J) 0 J.jobs
+
+-- the whole text
+abbrev pub timeline : Option Window → Instance → Text
+timeline window J = pictured (window_or window J.jobs) J

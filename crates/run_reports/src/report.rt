@@ -1,0 +1,14 @@
+//! Reports on a run, as texts.
+mod counts;
+mod early;
+pub mod endings;
+mod limits;
+mod lines;
+mod report;
+mod rows;
+
+pub use counts::{Counts, count, released, value_of};
+pub use early::{had_of, left_at, left_of};
+pub use limits::is_listable;
+pub use report::{Findings, summary, text};
+pub use rows::TableRows;

@@ -1,0 +1,141 @@
+//! The report and the summary.
+ghost use Rattle.std.specs.Prelude.{◌≡◌, ◌++◌, OnOk, IfOk};
+ghost use Rattle.dover_model.specs.Instance.{Instance};
+ghost use Rattle.dover_model.specs.Lines.{in_lines};
+ghost use Rattle.dover_model.specs.Reports.{report, summary};
+ghost use Rattle.run_record.specs.intervals.Rows.{IsRunOf};
+ghost use Rattle.run_reports.specs.report.Counts.{fates_lines, counts_lines};
+ghost use Rattle.run_reports.specs.report.Lines.{row_lines};
+
+use crate::report::counts::{Counts, run_counts};
+use crate::report::early::{Early, early_where, put_early};
+use crate::report::lines::put_line;
+use dover_model::{Memory, PackedEvent, Ratio, Version};
+use run_record::intervals::{Charge, Interval};
+use std::alloc::Global;
+
+/// What the report on a run says: its ratio, its summary, where jobs may finish early those that did, and its
+/// intervals.
+#[derive(Drop)]
+pub struct Findings {
+    k: Ratio,
+    early: bool,
+    it: Early,
+    counts: Counts,
+    charge: Charge,
+}
+
+impl Findings {
+    ghost use Rattle.run_reports.specs.report.Findings.{told};
+
+    /// What is found of the run of this version that prints these steps. The jobs of the run are valid for the ratio
+    /// `k`, and within the limits of version Two. Want of memory is the only error.
+    pub fn of(
+        alloc: Global,
+        version: Version,
+        k: Ratio,
+        run: &[PackedEvent],
+    ) -> Result<Findings, Memory>
+        requires { (J : Instance) × IsRunOf k run.now J }
+        ensures { (J : Instance) → IsRunOf k run.now J → J.rules.version ≡ version
+            → IfOk result (λ found. told found ≡ report J) }
+    {
+        let early = version.may_finish_early();
+        let it = early_where(alloc, early, run)?;
+        let charge = Charge::of(alloc, k, run)?;
+        let counts = run_counts(k, &charge);
+        Ok(Findings {
+            k,
+            early,
+            it,
+            counts,
+            charge,
+        })
+    }
+
+    /// The report as a text. Want of memory is the only error.
+    pub fn text(&self, alloc: Global) -> Result<Vec<u8>, Memory>
+        ensures { IfOk result (λ text. text.items ≡ told self.now) }
+    {
+        let mut text = Vec::new(alloc);
+        put_line(
+            &mut text,
+            b"ratio",
+            &[u64::from(self.k.p()), u64::from(self.k.q())],
+        )?;
+        put_fates(&mut text, self.counts)?;
+        put_early(&mut text, self.early, self.it)?;
+        put_line(&mut text, b"bound", &[self.counts.bound])?;
+        put_rows(&mut text, self.charge.rows())?;
+        Ok(text)
+    }
+}
+
+/// The report on the run of this version that prints these steps: its ratio, its summary and its intervals, and where
+/// jobs may finish early a line of those that did. The jobs of the run are valid for the ratio `k`, and within the
+/// limits of version Two. Want of memory is the only error.
+pub fn text(
+    alloc: Global,
+    version: Version,
+    k: Ratio,
+    run: &[PackedEvent],
+) -> Result<Vec<u8>, Memory>
+    requires { (J : Instance) × IsRunOf k run.now J }
+    ensures { (J : Instance) → IsRunOf k run.now J → J.rules.version ≡ version
+        → IfOk result (λ text. text.items ≡ report J) }
+{
+    let found = Findings::of(alloc, version, k, run)?;
+    found.text(alloc)
+}
+
+/// The summary of that run alone.
+pub fn summary(alloc: Global, k: Ratio, run: &[PackedEvent]) -> Result<Vec<u8>, Memory>
+    requires { (J : Instance) × IsRunOf k run.now J }
+    ensures { (J : Instance) → IsRunOf k run.now J → IfOk result (λ text. text.items ≡ summary J) }
+{
+    let charge = Charge::of(alloc, k, run)?;
+    let mut text = Vec::new(alloc);
+    put_counts(&mut text, run_counts(k, &charge))?;
+    Ok(text)
+}
+
+/// Appends the lines of a summary.
+fn put_counts(text: &mut Vec<u8>, counts: Counts) -> Result<(), Memory>
+    ensures { OnOk result (text.new.items ≡ text.old.items ++ in_lines (counts_lines counts)) }
+{
+    put_fates(text, counts)?;
+    put_line(text, b"bound", &[counts.bound])
+}
+
+/// Appends the lines of a summary before the one of the bound.
+fn put_fates(text: &mut Vec<u8>, counts: Counts) -> Result<(), Memory>
+    ensures { OnOk result (text.new.items ≡ text.old.items ++ in_lines (fates_lines counts)) }
+{
+    put_line(text, b"jobs", &[counts.jobs])?;
+    put_line(text, b"completed", &[counts.completed, counts.value])?;
+    put_line(text, b"abandoned", &[counts.abandoned, counts.lost])?;
+    put_line(text, b"taken", &[counts.taken])
+}
+
+/// Appends the lines of intervals, with their numbers from 1 on.
+fn put_rows(text: &mut Vec<u8>, rows: &[Interval]) -> Result<(), Memory>
+    ensures { OnOk result (text.new.items ≡ text.old.items ++ in_lines (row_lines rows.now)) }
+{
+    for (index, row) in rows.iter().enumerate() {
+        let number = index as u64 + 1;
+        put_line(
+            text,
+            b"interval",
+            &[
+                number,
+                row.from,
+                row.until,
+                row.regular,
+                row.taken,
+                row.displaced,
+                row.abandoned,
+            ],
+        )?;
+    }
+    Ok(())
+}

@@ -1,0 +1,196 @@
+//! The table of jobs, row by row.
+ghost use Rattle.std.specs.Prelude.{◌≡◌, ◌≤◌, ◌+◌, ◌++◌, ◌∷◌, [], length, map, IfOk, decimal, slice_index_or};
+ghost use Rattle.dover_model.specs.Instance.{Instance};
+ghost use Rattle.dover_model.specs.JobFacts.{job_numbers};
+ghost use Rattle.dover_model.specs.Lines.{in_lines};
+ghost use Rattle.dover_model.specs.Fraction.{Fraction};
+ghost use Rattle.dover_model.specs.Reports.{table};
+ghost use Rattle.run_record.specs.intervals.Rows.{IsRunOf};
+ghost use Rattle.line_text.specs.Writing.{most_written};
+ghost use Rattle.run_reports.specs.report.Rows.{after_commas, ending_fields, had_fields, names_line, row_text};
+ghost use Rattle.run_reports.specs.report.Rows.{FindsNext, GivesRow};
+
+use crate::report::counts::releases;
+use crate::report::early::{had_at, hads_where};
+use crate::report::endings::{Ending, ending_at, endings};
+use dover_model::{Event, Job, Memory, PackedEvent, Version};
+use line_text::BackLine;
+use std::alloc::Global;
+use std::marker::Model;
+
+/// The table of a run: the row of names, and the rows of its jobs that are not yet given.
+#[derive(Drop)]
+pub struct TableRows {
+    run: Vec<PackedEvent>,
+    early: bool,
+    hads: Vec<u64>,
+    places: Vec<usize>,
+    // How many steps are behind, and how many jobs they release.
+    next: usize,
+    number: usize,
+}
+
+impl Model for TableRows {
+    ghost use Rattle.std.specs.Prelude.{◌≤◌, length};
+    ghost use Rattle.run_reports.specs.report.Rows.{Table, rows_left};
+
+    ghost Value = { Table };
+
+    ghost view = { λ t. rows_left t.run.items t.early t.hads.items t.places.items t.next t.number };
+
+    ghost invariant = { λ t. (t.number ≤ t.next) × (t.next ≤ length t.run.items) };
+}
+
+impl TableRows {
+    /// All rows of the table of the run of this version that prints these steps. A row tells the ticks that the job had
+    /// where jobs may finish early. The jobs of the run are valid for some ratio, and within the limits of version Two.
+    /// Want of memory is the only error, and no call takes memory after this one.
+    pub fn of(alloc: Global, version: Version, run: Vec<PackedEvent>) -> Result<TableRows, Memory>
+        requires { (k : Fraction) × ((J : Instance) × IsRunOf k run.items J) }
+        ensures { (k : Fraction) (J : Instance) → IsRunOf k run.items J → J.rules.version ≡ version
+            → IfOk result (λ t. t.names ++ in_lines t.rows ≡ table J) }
+    {
+        let early = version.may_finish_early();
+        let hads = hads_where(alloc, early, &run)?;
+        let places = endings(alloc, &run, releases(&run))?;
+        Ok(TableRows {
+            run,
+            early,
+            hads,
+            places,
+            next: 0,
+            number: 0,
+        })
+    }
+
+    /// The row of names with its line feed.
+    pub fn names(&self) -> &'static [u8]
+        ensures is { result.now ≡ self.now.names }
+        ensures fits { length result.now ≤ 49 }
+    {
+        names_line(self.early)
+    }
+
+    /// Whether there is a next row, which `line` then holds with its line feed, whatever it held before. Where there is
+    /// none, all stays as it is.
+    #[inline(always)]
+    pub fn next_row(&mut self, line: &mut BackLine) -> bool
+        ensures { GivesRow self.old self.new line.old line.new result }
+    {
+        let Some((next, job)) = next_release(&self.run, self.next) else {
+            return false;
+        };
+        let ending = ending_at(&self.run, place_at(&self.places, self.number));
+        let had = had_at(self.early, &self.hads, self.number);
+        line.clear();
+        write_row(line, self.number as u64, &job, ending, had);
+        self.next = next;
+        self.number += 1;
+        true
+    }
+}
+
+/// The names of the fields, by whether the ticks that a job had are among them.
+fn names_line(early: bool) -> &'static [u8]
+    ensures is { result.now ≡ names_line early }
+    ensures fits { length result.now ≤ 49 }
+{
+    if early {
+        return b"job,release,work,deadline,value,fate,tick,had\n";
+    }
+    b"job,release,work,deadline,value,fate,tick\n"
+}
+
+/// The job that is released next, where so many steps are behind, and how many steps are behind after its release.
+#[inline(always)]
+fn next_release(run: &[PackedEvent], next: usize) -> Option<(usize, Job)>
+    requires { next ≤ length run.now }
+    ensures { FindsNext run.now next result }
+{
+    for place in next..run.len() {
+        if let Event::Release { job, .. } = run[place].event() {
+            return Some((place + 1, job));
+        }
+    }
+    None
+}
+
+/// The place of this number, 0 for none.
+#[inline(always)]
+fn place_at(places: &[usize], number: usize) -> usize
+    ensures { result ≡ slice_index_or places.now number 0 }
+{
+    match places.get(number) {
+        Some(place) => *place,
+        None => 0,
+    }
+}
+
+/// Writes the row of a job before a line feed, with the ticks that it had, if these are told.
+#[inline(always)]
+fn write_row(line: &mut BackLine, number: u64, job: &Job, ending: Option<Ending>, had: Option<u64>)
+    requires { line.old ≡ 10 ∷ [] }
+    ensures text { line.new ≡ row_text number job.now ending had ++ 10 ∷ [] }
+    ensures fits { length line.new ≤ 125 }
+{
+    write_had(line, had);
+    write_ending(line, ending);
+    write_job(line, job);
+    line.put_number(number);
+}
+
+/// Writes a number and a comma before it.
+#[inline(always)]
+fn write_field(line: &mut BackLine, number: u64)
+    requires { length (decimal number) + length line.old + 1 ≤ most_written }
+    ensures is { line.new ≡ 44 ∷ decimal number ++ line.old }
+    ensures size { length line.new ≡ length (decimal number) + length line.old + 1 }
+{
+    line.put_number(number);
+    line.put_word(b",");
+}
+
+/// Writes the ticks that a job had behind a comma, if these are told.
+#[inline(always)]
+fn write_had(line: &mut BackLine, had: Option<u64>)
+    requires { 21 + length line.old ≤ most_written }
+    ensures is { line.new ≡ after_commas (had_fields had) ++ line.old }
+    ensures fits { length line.new ≤ 21 + length line.old }
+{
+    if let Some(had) = had {
+        write_field(line, had);
+    }
+}
+
+/// Writes the fields of an ending, each behind a comma.
+#[inline(always)]
+fn write_ending(line: &mut BackLine, ending: Option<Ending>)
+    requires { 30 + length line.old ≤ most_written }
+    ensures is { line.new ≡ after_commas (ending_fields ending) ++ line.old }
+    ensures fits { length line.new ≤ 30 + length line.old }
+{
+    match ending {
+        None => {}
+        Some(Ending::Completed(at)) => {
+            line.put_number(at);
+            line.put_word(b",complete,");
+        }
+        Some(Ending::Abandoned(at)) => {
+            line.put_number(at);
+            line.put_word(b",abandon,");
+        }
+    }
+}
+
+/// Writes the numbers of a job, each behind a comma.
+#[inline(always)]
+fn write_job(line: &mut BackLine, job: &Job)
+    requires { 53 + length line.old ≤ most_written }
+    ensures is { line.new ≡ after_commas (map decimal (job_numbers job.now)) ++ line.old }
+    ensures fits { length line.new ≤ 53 + length line.old }
+{
+    write_field(line, job.value());
+    write_field(line, job.deadline());
+    write_field(line, job.work());
+    write_field(line, job.release());
+}

@@ -1,0 +1,15 @@
+//! Reports on a run for viewers, and on what happened to one job, as texts.
+mod signs;
+mod stays;
+mod story;
+pub mod template;
+mod terminal;
+mod threshold;
+mod viewer;
+mod window;
+
+pub use story::{Asked, why};
+pub use terminal::timeline;
+pub use threshold::least_heavy;
+pub use viewer::chrome;
+pub use window::Window;

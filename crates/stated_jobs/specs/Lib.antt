@@ -1,0 +1,3 @@
+pub mod trial
+pub mod bait
+pub mod duel

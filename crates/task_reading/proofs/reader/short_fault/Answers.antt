@@ -1,5 +1,0 @@
-use Rattle.task_reading.proofs.Ending.{short_is}
-use Rattle.task_reading.proofs.reader.short_fault.Goals as goal
-
-pub returns : goal.returns
-returns c = λ until x stands. short_is until c.args.text.now x stands

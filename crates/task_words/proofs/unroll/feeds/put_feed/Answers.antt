@@ -1,0 +1,45 @@
+use Rattle.std.proofs.Common.{◌∙◌}
+use Rattle.dover_model.specs.Feed.{rules_with}
+use Rattle.line_output.proofs.Putting.{puts_behind, puts_cut}
+use Rattle.task_words.specs.tasks.Tasks.{unrolled}
+use Rattle.task_words.proofs.unroll.Putting.{feed_through}
+use Rattle.task_words.proofs.unroll.feeds.put_feed.Goals as goal
+
+pub returns-in-Err-clause-text : goal.returns-in-Err-clause-text
+returns-in-Err-clause-text g c = feed_through _ _ _ _ _
+    (unrolled c.args.unrolling.now.until (rules_with c.args.rules.0 c.args.rules.1) c.args.unrolling.now.tasks)
+    (puts_cut _ _ _ _ _ _ _ c.in-Err.ensures.text.part)
+
+pub returns-in-Err-put_jobs-clause-text : goal.returns-in-Err-put_jobs-clause-text
+returns-in-Err-put_jobs-clause-text g c = feed_through _ _ _ _ _
+    (unrolled c.args.unrolling.now.until (rules_with c.args.rules.0 c.args.rules.1) c.args.unrolling.now.tasks)
+    (puts_behind _ _ _ _ _ _ _ _ _ c.in-Ok.ensures.text.all
+    (puts_cut _ _ _ _ _ _ _ c.in-Err-put_jobs.ensures.text.part))
+
+pub returns-clause-text : goal.returns-clause-text
+returns-clause-text g c = feed_through _ _ _ _ _
+    (unrolled c.args.unrolling.now.until (rules_with c.args.rules.0 c.args.rules.1) c.args.unrolling.now.tasks)
+    (puts_behind _ _ _ _ _ _ _ _ _ c.in-Ok.ensures.text.all
+    (puts_behind _ _ _ _ _ _ _ _ _ c.in-Ok-put_jobs.ensures.text.all c.put_numbers.ensures.text))
+
+pub returns-in-Err-clause-cause : goal.returns-in-Err-clause-cause
+returns-in-Err-clause-cause g c = c.in-Err.ensures.cause
+
+pub returns-in-Err-clause-stops : goal.returns-in-Err-clause-stops
+returns-in-Err-clause-stops g c = c.in-Err.ensures.stops
+
+pub returns-in-Err-put_jobs-clause-cause : goal.returns-in-Err-put_jobs-clause-cause
+returns-in-Err-put_jobs-clause-cause g c =
+    rw (c.in-Ok.ensures.cause.ok, c.in-Ok.ensures.cause.other) at c.in-Err-put_jobs.ensures.cause
+
+pub returns-in-Err-put_jobs-clause-stops : goal.returns-in-Err-put_jobs-clause-stops
+returns-in-Err-put_jobs-clause-stops g c = record {
+  well = tt;
+  stopped = λ well. c.in-Err-put_jobs.ensures.stops.stopped (c.in-Ok.ensures.stops.well well);
+}
+
+pub returns-clause-cause : goal.returns-clause-cause
+returns-clause-cause g c = rw (
+  c.in-Ok-put_jobs.ensures.cause.ok ∙ c.in-Ok.ensures.cause.ok,
+  c.in-Ok-put_jobs.ensures.cause.other ∙ c.in-Ok.ensures.cause.other,
+) at c.put_numbers.ensures.cause

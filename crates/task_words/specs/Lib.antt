@@ -1,0 +1,3 @@
+pub mod tasks
+pub mod reading
+pub mod unroll

@@ -1,0 +1,31 @@
+use Rattle.std.proofs.Common.{◌∙◌}
+use Rattle.dover_port.proofs.Made.{since_weaker}
+use Rattle.trace_words.proofs.judge.Talking.{ready_none}
+use Rattle.trace_words.proofs.judge.word.judge_and_tell.Goals as goal
+
+pub converse-requires : goal.converse-requires
+converse-requires g c = let new = c.in-Ok.ensures in (
+  record { teller = c.args.teller; start = c.args.steps.now },
+  ready_none _ _ _ _ new.stands new.paid (new.keep ∙ c.requires),
+)
+
+pub returns-clause-talks : goal.returns-clause-talks
+returns-clause-talks g c = let new = c.in-Ok.ensures in since_weaker _ _ _ _ (c.converse.ensures.talks
+    (record { teller = c.args.teller; start = c.args.steps.now })
+    (ready_none _ _ _ _ new.stands new.paid (new.keep ∙ c.requires))) (λ moves it. it.0)
+
+pub returns-clause-count : goal.returns-clause-count
+returns-clause-count g c = let new = c.in-Ok.ensures in since_weaker _ _ _ _ (c.converse.ensures.talks
+    (record { teller = c.args.teller; start = c.args.steps.now })
+    (ready_none _ _ _ _ new.stands new.paid (new.keep ∙ c.requires))) (λ moves it. it.1)
+
+pub returns-clause-ends : goal.returns-clause-ends
+returns-clause-ends g c = let new = c.in-Ok.ensures in
+    c.converse.ensures.ends (record { teller = c.args.teller; start = c.args.steps.now })
+    (ready_none _ _ _ _ new.stands new.paid (new.keep ∙ c.requires))
+
+pub returns-clause-causes : goal.returns-clause-causes
+returns-clause-causes g c = c.converse.ensures.causes
+
+pub returns-clause-stops : goal.returns-clause-stops
+returns-clause-stops g c = c.converse.ensures.stops

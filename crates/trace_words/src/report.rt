@@ -1,0 +1,7 @@
+//! The words that report on a trace: a text is read and judged, and where it is accepted the report on its run is
+//! written.
+mod form;
+mod word;
+
+pub use form::Form;
+pub use word::report_word;

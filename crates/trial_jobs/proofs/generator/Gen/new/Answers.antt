@@ -1,5 +1,0 @@
-use Rattle.trial_jobs.proofs.Drawn.{so_many}
-use Rattle.trial_jobs.proofs.generator.Gen.new.Goals as goal
-
-pub returns-clause-count : goal.returns-clause-count
-returns-clause-count c = so_many c.args.k c.args.count c.from.result 0

@@ -1,5 +1,0 @@
-use Rattle.trial_jobs.proofs.Drawn.{valid}
-use Rattle.trial_jobs.proofs.laws.generated_jobs_are_valid.Goals as goal
-
-pub returns : goal.returns
-returns c seed count k version ratio few = valid k ratio seed count version few
