@@ -178,10 +178,14 @@ impl Row {
             [b'$', words @ ..] => put_words(rt.alloc(), &mut self.words, words),
             [b'>', text @ ..] => put_text(&mut self.input, text),
             [b'<', text @ ..] => put_text(&mut self.output, text),
-            [b'!', text @ ..] => Ok(self.cut = Some(cut_of(text))),
+            [b'!', text @ ..] => {
+                self.cut = Some(cut_of(text));
+                Ok(())
+            }
             [b'=', text @ ..] => {
                 let holds = self.holds(rt, numbers(text)[1])?;
-                Ok(self.begin_next(holds))
+                self.begin_next(holds);
+                Ok(())
             }
             _ => Ok(()),
         }
