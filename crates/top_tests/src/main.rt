@@ -1,7 +1,8 @@
 //! Tests of the whole program but its `main`: each row of the table that is read is called over ports in memory, and
-//! what comes of it is compared with what the row says.
+//! what comes of it is compared with what the row says. Two calls that no word makes count as two further rows.
 #![tactic(auto)]
 
+mod beside;
 mod calls;
 mod row;
 mod table;
@@ -14,7 +15,7 @@ fn main(rt: HostRuntime) -> io::Result<()> {
     for line in rt.lines(rt.alloc()) {
         row.read(&rt, line?.as_bytes())?;
     }
-    let tally = row.tally();
+    let tally = row.tally().and(beside::is_judged(&rt)).and(beside::is_summed(&rt));
     println!(rt;
         "rows {}, otherwise {}, the first of those {}",
         tally.rows, tally.wrong, tally.first

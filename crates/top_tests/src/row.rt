@@ -14,7 +14,7 @@ pub(crate) struct Tally {
 
 impl Tally {
     /// After one more row.
-    fn and(self, holds: bool) -> Tally {
+    pub(crate) fn and(self, holds: bool) -> Tally {
         let rows = self.rows.saturating_add(1);
         if holds {
             return Tally { rows, ..self };
