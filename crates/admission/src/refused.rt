@@ -2,7 +2,7 @@
 use dover_model::Refusal;
 
 /// Why a job isn't admitted. The first of these causes that holds is the one that is answered.
-#[derive(Clone, Copy, Debug, PartialEq, Eq)]
+#[derive(Clone, Copy, Debug)]
 pub enum Refused {
     /// A limit of one job is broken.
     BadJob,

@@ -3,7 +3,7 @@ use admission::Refused;
 use thiserror::Error;
 
 /// Why a line is at fault. The first of these causes that holds is the one that is answered.
-#[derive(Clone, Copy, Debug, PartialEq, Eq)]
+#[derive(Clone, Copy, Debug)]
 pub enum Cause {
     /// The line's number is above 4,000,000, in version Three above 16,000,000,000.
     Lines,
@@ -44,7 +44,7 @@ impl Cause {
 }
 
 /// The first faulty line of a feed, numbered from 1, and why it is one.
-#[derive(Clone, Copy, Debug, PartialEq, Eq, Error)]
+#[derive(Clone, Copy, Debug, Error)]
 #[error("a line of the feed is at fault")]
 pub struct FeedFault {
     /// The number of the line, from 1 on.

@@ -2,7 +2,7 @@
 use dover_model::{Job, Ratio, Refusal, Version};
 
 /// What a line says that isn't at fault.
-#[derive(Clone, Copy, PartialEq, Eq)]
+#[derive(Clone, Copy)]
 pub enum Fed {
     /// The ratio and the version are declared.
     Ratio(Ratio, Version),

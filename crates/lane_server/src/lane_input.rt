@@ -18,7 +18,7 @@ use std::sync::ledger::Ledger;
 use step_count::Steps;
 
 /// The line at which an input is refused, and why.
-#[derive(Clone, Copy, PartialEq, Eq)]
+#[derive(Clone, Copy)]
 pub struct RefusedInput {
     /// The number of the line, from 1 on.
     pub line: u64,

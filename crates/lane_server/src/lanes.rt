@@ -18,7 +18,7 @@ use std::sync::ledger::Ledger;
 use step_count::Steps;
 
 /// What a good line of the input is.
-#[derive(Clone, Copy, PartialEq, Eq)]
+#[derive(Clone, Copy)]
 pub enum LaneStep {
     /// A line of this lane's feed.
     Fed(u8),
@@ -27,7 +27,7 @@ pub enum LaneStep {
 }
 
 /// Why a line of the input wasn't taken.
-#[derive(Clone, Copy, PartialEq, Eq)]
+#[derive(Clone, Copy)]
 pub enum LaneFault {
     /// Its number in the whole input is above 16,000,000,000.
     Lines,

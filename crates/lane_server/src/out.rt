@@ -3,7 +3,7 @@ use dover_model::{Event, Ratio, Refusal, Version};
 use event_feed::Cause;
 
 /// A line that is due for a lane.
-#[derive(Clone, Copy, PartialEq, Eq)]
+#[derive(Clone, Copy)]
 pub enum LaneOut {
     /// The first line of its trace.
     Header(Version, Ratio),

@@ -3,7 +3,7 @@ ghost use Rattle.std.specs.Prelude.{◌≡◌, ◌≤◌, length};
 ghost use Rattle.lane_server.specs.LaneInput.{word_of};
 
 /// Why an input is refused as a whole.
-#[derive(Clone, Copy, PartialEq, Eq)]
+#[derive(Clone, Copy)]
 pub enum InputRefusal {
     /// It ends before `close`.
     Short,

@@ -4,7 +4,7 @@ use memchr::memchr;
 use std::marker::Model;
 
 /// What a byte made of the line.
-#[derive(Clone, Copy, PartialEq, Eq)]
+#[derive(Clone, Copy)]
 pub enum Step {
     /// The line goes on.
     More,

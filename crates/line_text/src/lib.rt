@@ -20,6 +20,6 @@ use thiserror::Error;
 pub const LINE_BYTES: usize = 129;
 
 /// The bytes aren't a line of the format.
-#[derive(Clone, Copy, Debug, PartialEq, Eq, Error)]
+#[derive(Clone, Copy, Debug, Error)]
 #[error("not a line of the format")]
 pub struct BadLine;

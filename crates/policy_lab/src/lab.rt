@@ -21,7 +21,7 @@ const MOST_JOBS: usize = 10_000;
 const LATEST_DEADLINE: u64 = 100_000;
 
 /// What a policy's schedule comes to.
-#[derive(PartialEq, Eq, Drop)]
+#[derive(Drop)]
 pub struct Outcome {
     /// The sum of the values of the jobs that it serves.
     pub value: u64,
@@ -30,7 +30,7 @@ pub struct Outcome {
 }
 
 /// Why there is no outcome.
-#[derive(Clone, Copy, Debug, PartialEq, Eq, Error)]
+#[derive(Clone, Copy, Debug, Error)]
 pub enum LabFault {
     /// More than 10,000 jobs, or a deadline above 100,000.
     #[error("too many jobs, or a deadline too late")]

@@ -25,7 +25,7 @@ pub enum Got {
 }
 
 /// Why a snapshot isn't taken.
-#[derive(Clone, Copy, Debug, PartialEq, Eq, Error)]
+#[derive(Clone, Copy, Debug, Error)]
 pub enum SnapFault {
     /// This line, numbered from 1, is the first that no snapshot has there.
     #[error("a line of the snapshot is refused")]

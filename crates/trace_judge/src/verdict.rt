@@ -2,7 +2,7 @@
 use dover_model::{Event, Ratio, Version};
 
 /// What is due in place of a wrong line.
-#[derive(Clone, Copy, PartialEq, Eq)]
+#[derive(Clone, Copy)]
 pub enum Expected {
     /// A header.
     Header,
@@ -13,7 +13,7 @@ pub enum Expected {
 }
 
 /// What a text is, as a trace.
-#[derive(Clone, Copy, PartialEq, Eq)]
+#[derive(Clone, Copy)]
 pub enum Verdict {
     /// It is the trace of a valid session of so many jobs, under this ratio and version. The run completes jobs of this
     /// value, and no schedule of its jobs is worth more than the bound.

@@ -3,7 +3,7 @@ use dover_model::Piece;
 use thiserror::Error;
 
 /// The jobs that are worth the most of those that one schedule serves, and such a schedule.
-#[derive(PartialEq, Eq, Drop)]
+#[derive(Drop)]
 pub struct Best {
     /// The sum of their values.
     pub value: u64,
@@ -14,7 +14,7 @@ pub struct Best {
 }
 
 /// Why there is no best set.
-#[derive(Clone, Copy, Debug, PartialEq, Eq, Error)]
+#[derive(Clone, Copy, Debug, Error)]
 pub enum BestFault {
     /// More than 20 jobs.
     #[error("too many jobs")]

@@ -1,7 +1,7 @@
 //! The forms of a feed's line.
 
 /// A line of a feed. Its numbers are below 10^18 where it was read, and may be out of the limits of a feed.
-#[derive(Clone, Copy, PartialEq, Eq)]
+#[derive(Clone, Copy)]
 pub enum FeedLine {
     /// `k P Q` or `k P Q N`: the ratio, and perhaps the version.
     Declared {

@@ -2,7 +2,7 @@
 use dover_model::{Event, Refusal};
 
 /// A line of a trace.
-#[derive(Clone, Copy, PartialEq, Eq)]
+#[derive(Clone, Copy)]
 pub enum TraceLine {
     /// `dover N P Q`: the version and the ratio. They are any numerals, and may be out of the limits.
     Header {

@@ -1,7 +1,7 @@
 //! Intervals in which the processor is busy with the jobs of one overload.
 
 /// From a run of a job while no interval is under way to the completion that leaves no job held: ticks and values.
-#[derive(Clone, Copy, PartialEq, Eq)]
+#[derive(Clone, Copy)]
 pub struct Interval {
     /// The tick at which it starts.
     pub from: u64,
