@@ -15,7 +15,10 @@ fn main(rt: HostRuntime) -> io::Result<()> {
     for line in rt.lines(rt.alloc()) {
         row.read(&rt, line?.as_bytes())?;
     }
-    let tally = row.tally().and(beside::is_judged(&rt)).and(beside::is_summed(&rt));
+    let tally = row
+        .tally()
+        .and(beside::is_judged(&rt))
+        .and(beside::is_summed(&rt));
     println!(rt;
         "rows {}, otherwise {}, the first of those {}",
         tally.rows, tally.wrong, tally.first
