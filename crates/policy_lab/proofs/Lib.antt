@@ -1,4 +1,6 @@
+pub mod Foremost
 pub mod Given
+pub mod Giving
 pub mod Entries
 pub mod Runs
 pub mod Taking

@@ -12,7 +12,7 @@ ghost use Rattle.dover_model.specs.Sound.{Each};
 ghost use Rattle.policy_lab.specs.Bench.{HasReady, HasRun, tasks_at, schedule_before, served_value, goes_on};
 
 use crate::policy::Policy;
-use crate::scan::{entry_to_come, give, keep_in_time, spent_value};
+use crate::scan::{entry_to_come, give, keep_in_time};
 use dover_model::{Entry, Job, Memory, Piece};
 use std::alloc::Global;
 
@@ -114,8 +114,7 @@ impl Bench {
         let Some(number) = policy.pick(&self.ready) else {
             return Ok(());
         };
-        give(number, &mut self.ready);
-        self.value += spent_value(&self.ready);
+        self.value += give(number, &mut self.ready);
         keep_in_time(tick + 1, &mut self.ready);
         extend(&mut self.pieces, tick, number)
     }

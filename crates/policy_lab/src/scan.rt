@@ -1,5 +1,5 @@
 //! Passes over the jobs, and over the entries of those that are ready.
-ghost use Rattle.std.specs.Prelude.{◌≡◌, ◌≤◌, ◌<◌, ◌+◌, ◌^◌, map};
+ghost use Rattle.std.specs.Prelude.{◌≡◌, ◌≤◌, ◌<◌, ◌+◌, ◌^◌, [], ◌∷◌, map};
 ghost use Rattle.std.specs.List.{filter};
 ghost use Rattle.dover_model.specs.declared.events.Version.TheVariants.{Two};
 ghost use Rattle.dover_model.specs.Limits.{most_total};
@@ -36,42 +36,31 @@ pub fn entry_to_come(number: u32, job: &Job) -> Entry
     }
 }
 
-/// The entry with a tick more, if this is its number.
-fn given_entry(number: u32, e: &Entry) -> Entry
-    requires left { 1 ≤ e.now.left }
-    requires latest { e.now.latest + 1 < 2 ^ 64 }
-    ensures { result ≡ given_entry number e.now }
+/// Gives the entry a tick, if this is its number. Answers its value if it has no work left then, and 0 otherwise.
+fn give_entry(number: u32, e: &mut Entry) -> u64
+    requires left { 1 ≤ e.old.left }
+    requires latest { e.old.latest + 1 < 2 ^ 64 }
+    ensures given { e.new ≡ given_entry number e.old }
+    ensures value { result ≡ spent_value (e.new ∷ []) }
 {
     if e.number != number {
-        return *e;
+        return 0;
     }
-    Entry {
-        latest: e.latest + 1,
-        left: e.left - 1,
-        ..*e
-    }
+    e.latest += 1;
+    e.left -= 1;
+    if e.left == 0 { e.value } else { 0 }
 }
 
-/// Gives the job of this number a tick.
-pub fn give(number: u32, ready: &mut Vec<Entry>)
-    requires { Each (λ e. (1 ≤ e.left) × (e.latest + 1 < 2 ^ 64)) ready.old.items }
-    ensures { ready.new.items ≡ map (given_entry number) ready.old.items }
-{
-    for e in ready.iter_mut() {
-        *e = given_entry(number, e);
-    }
-}
-
-/// The sum of the values of those that have no work left.
-pub fn spent_value(ready: &[Entry]) -> u64
-    requires { spent_value ready.now ≤ most_total Two }
-    ensures { result ≡ spent_value ready.now }
+/// Gives the job of this number a tick. Answers the sum of the values of those that have no work left.
+pub fn give(number: u32, ready: &mut Vec<Entry>) -> u64
+    requires each { Each (λ e. (1 ≤ e.left) × (e.latest + 1 < 2 ^ 64)) ready.old.items }
+    requires value { spent_value (map (given_entry number) ready.old.items) ≤ most_total Two }
+    ensures given { ready.new.items ≡ map (given_entry number) ready.old.items }
+    ensures value { result ≡ spent_value (map (given_entry number) ready.old.items) }
 {
     let mut value = 0;
-    for e in ready {
-        if e.left == 0 {
-            value += e.value;
-        }
+    for e in ready.iter_mut() {
+        value += give_entry(number, e);
     }
     value
 }

@@ -33,11 +33,14 @@ impl Policy for Edf {
     ghost picks = { λ _. earliest_deadline };
 
     fn pick(&self, ready: &[Entry]) -> Option<u32> {
-        ready
-            .iter()
-            .copied()
-            .reduce(|best, e| if is_due_first(&e, &best) { e } else { best })
-            .map(|e| e.number)
+        let (first, rest) = ready.split_first()?;
+        let mut best = first;
+        for e in rest {
+            if is_due_first(e, best) {
+                best = e;
+            }
+        }
+        Some(best.number)
     }
 
     ghost law = { λ _. deadlines_pick };
@@ -54,11 +57,14 @@ impl Policy for Dense {
     ghost picks = { λ _. greatest_density };
 
     fn pick(&self, ready: &[Entry]) -> Option<u32> {
-        ready
-            .iter()
-            .copied()
-            .reduce(|best, e| if is_denser(&e, &best) { e } else { best })
-            .map(|e| e.number)
+        let (first, rest) = ready.split_first()?;
+        let mut best = first;
+        for e in rest {
+            if is_denser(e, best) {
+                best = e;
+            }
+        }
+        Some(best.number)
     }
 
     ghost law = { λ _. densities_pick };

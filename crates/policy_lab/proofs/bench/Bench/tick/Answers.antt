@@ -27,15 +27,15 @@ returns-in_default g c =
     (c.in_default.ensures.by_the_list ∙ ap picks c.deref.ensures.value)
     (sym c.deref.ensures.value ∙ c.in_default.ensures.one_of_them)
 
-pub give-requires : goal.give-requires
-give-requires g c =
+pub give-requires-clause-each : goal.give-requires-clause-each
+give-requires-clause-each g c =
     let picks = g.P.Policy.picks c.args.policy.now in
     may_give _ (g.met.P.Policy.law c.args.policy.now) _ c.requires.each c.requires.count _ _ _
     (c.in_ok-self.ensures.ready (tasks_at picks c.args.jobs.now c.args.tick) c.requires.run.ready c.requires.run.later)
     (c.in_ok-self.ensures.later c.requires.run.later)
 
-pub spent_value-requires : goal.spent_value-requires
-spent_value-requires g c =
+pub give-requires-clause-value : goal.give-requires-clause-value
+give-requires-clause-value g c =
     let picks = g.P.Policy.picks c.args.policy.now in
     let law = g.met.P.Policy.law c.args.policy.now in
     let has = c.in_ok-self.ensures.ready
@@ -44,9 +44,7 @@ spent_value-requires g c =
     let is_n = is_picked _ law _ c.requires.each c.requires.count _ _ _ has late _
     (c.in-Some.ensures.by_the_list ∙ ap picks c.deref.ensures.value) in
     let most = most_after _ law _ c.requires.each c.requires.count _ _ _ has late in
-    let same = ap spent_value
-    (c.deref-2.ensures.value ∙ c.give.ensures
-    ∙ ap (λ (n : ℕ). map (given_entry n) c.release.new.ready.items) is_n) in
+    let same = ap (λ (n : ℕ). spent_value (map (given_entry n) c.release.new.ready.items)) is_n in
     omega (arith, most, same, c.requires.total)
 
 pub overflow_add-self : goal.overflow_add-self
@@ -59,10 +57,8 @@ overflow_add-self g c =
     let is_n = is_picked _ law _ c.requires.each c.requires.count _ _ _ has late _
     (c.in-Some.ensures.by_the_list ∙ ap picks c.deref.ensures.value) in
     let most = most_after _ law _ c.requires.each c.requires.count _ _ _ has late in
-    let same = ap spent_value
-    (c.deref-2.ensures.value ∙ c.give.ensures
-    ∙ ap (λ (n : ℕ). map (given_entry n) c.release.new.ready.items) is_n) in
-    omega (arith, most, same, c.requires.total, c.requires.run.served, c.spent_value.ensures)
+    let same = ap (λ (n : ℕ). spent_value (map (given_entry n) c.release.new.ready.items)) is_n in
+    omega (arith, most, same, c.requires.total, c.requires.run.served, c.give.ensures.value)
 
 pub extend-requires-clause-number : goal.extend-requires-clause-number
 extend-requires-clause-number g c = λ idle.
@@ -83,15 +79,15 @@ returns g c =
     let is_n = is_picked _ law _ c.requires.each c.requires.count _ _ _ has late _
     (c.in-Some.ensures.by_the_list ∙ ap picks c.deref.ensures.value) in
     let past = schedule_before picks c.args.jobs.now c.args.tick in
-    let given = c.give.ensures ∙ ap (λ (n : ℕ). map (given_entry n) c.release.new.ready.items) is_n in
+    let given = c.give.ensures.given ∙ ap (λ (n : ℕ). map (given_entry n) c.release.new.ready.items) is_n in
     on_ok_weaker c.extend.result (λ pieces.
     run_goes_on picks law c.args.jobs.now c.requires.each c.requires.count c.args.tick c.in_ok-self.field-0
     c.release.new.ready.items has late
-    c.args.self.now.value (c.args.self.now.value + c.spent_value.result) c.keep_in_time.new.ready.items
+    c.args.self.now.value (c.args.self.now.value + c.give.result) c.keep_in_time.new.ready.items
     c.extend.new.pieces.items
     c.requires.run.served
     (c.keep_in_time.ensures ∙ ap (filter (is_in_time (c.args.tick + 1))) given)
     (ap (λ (n : ℕ). c.args.self.now.value + n)
-    (c.spent_value.ensures ∙ ap spent_value (c.deref-2.ensures.value ∙ given)))
+    (c.give.ensures.value ∙ ap (λ (n : ℕ). spent_value (map (given_entry n) c.release.new.ready.items)) is_n))
     (pieces ∙ ap (λ (n : ℕ). stretches (past ++ n ∷ [])) is_n))
     (c.extend.ensures past (schedule_length picks c.args.jobs.now c.args.tick) c.requires.run.stretched)
