@@ -211,7 +211,11 @@ module _ (p : Parted) (roles : HaveRoles p) (once : AreOnce (ready_of p)) where
       names_taken : Says seen (Take next.0 m n)
       names_taken = says next.1.0 seen (Take next.0 m n) next.1.1
 
-      -- so one is at its latest start
+      -- so one runs
+      pub some_runs : p.running ≡ None → ⊥
+      some_runs none = none_is_some (sym none ∙ runs_here names_taken.0 names_taken.2)
+
+      -- and one is at its latest start
       pub some_late : seen.must_start ≡ None → ⊥
       some_late none = none_is_some (sym none ∙ names_taken.3)
 

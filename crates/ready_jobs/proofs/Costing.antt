@@ -78,6 +78,10 @@ fewer_wait p = omega (
   length-append p.held p.waiting,
 )
 
+-- what costs no comparison
+pub no_cost : (before more : ℕ) → before ≤ before + more
+no_cost before more = omega arith
+
 -- what one job costs that begins or ceases to wait
 pub one_at_most : (d x before now : ℕ) → now ≤ before + 6 * d → now ≤ before + 2 * d * (4 + x)
 one_at_most d x before now cost = omega (arith, cost)

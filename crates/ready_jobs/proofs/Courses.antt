@@ -17,8 +17,8 @@ use Rattle.dover_model.specs.declared.events.Task.{Task}
 use Rattle.dover_model.specs.Instance.{Rules, Declaration, under, Instance, IsValid, total_value, finishing}
 use Rattle.dover_model.specs.Instance.{with_finishes}
 use Rattle.dover_model.specs.Finishes.{Finish}
-use Rattle.dover_model.specs.State.{State, opening, is_over, is_done, is_running, running, value_sum}
-use Rattle.dover_model.specs.Step.{Move, Prints, Waits, Ticks, step, open_step, after, with_role}
+use Rattle.dover_model.specs.State.{State, state_at, opening, is_over, is_done, is_running, running, value_sum}
+use Rattle.dover_model.specs.Step.{Move, Prints, Waits, Ticks, step, open_step, after, view, with_role}
 use Rattle.dover_model.specs.Run.{event_of, is_end, last_deadline}
 use Rattle.dover_model.specs.Settled.{waits_for_mark, AreOverFor, finish_now}
 use Rattle.dover_model.specs.Sound.{IsMember, Each, Keeps}
@@ -45,19 +45,20 @@ use Rattle.dover_model.specs.Ready.{is_ready}
 use Rattle.dover_model.proofs.Leading.{late_silent, over_ends}
 use Rattle.dover_model.proofs.ReadyParts.{change}
 use Rattle.dover_model.proofs.Waiting.{some_goes_on, settles_idles, over_waits_until}
-use Rattle.dover_model.proofs.Limiting.{total_most}
+use Rattle.dover_model.proofs.Limiting.{jobs_most, total_most}
 use Rattle.ready_jobs.specs.Reordered.{IsReordered}
 use Rattle.ready_jobs.specs.Parts.{Parted, HaveRoles, ready_of, state_of}
 use Rattle.ready_jobs.specs.Following.{PartOf, IsPart, SettlesTo}
 use Rattle.ready_jobs.specs.Course.{Course, Follows, IsCourse, new_course, course_of, fresh_job, with_release, Reached}
 use Rattle.ready_jobs.specs.Course.{Settled, ComesNext, Takes, IsDue, Finishes, RunsNowhere}
-use Rattle.ready_jobs.specs.Deeds.{Does}
+use Rattle.ready_jobs.specs.Deeds.{Does, Finds, step_at}
 use Rattle.ready_jobs.specs.declared.deeds.Deed.{Deed}
 use Rattle.ready_jobs.proofs.Reordering.{same_order, further, exchanged, as_many}
 use Rattle.ready_jobs.proofs.Pooling.{between}
 use Rattle.ready_jobs.specs.Changed.{Leaves, AreOnce, named}
 use Rattle.ready_jobs.proofs.Changes.{once_numbered, once_some, once_still, map_each, completes}
 use Rattle.ready_jobs.proofs.Seeing.{running_list}
+use Rattle.ready_jobs.proofs.Doing.{prints_event}
 use Rattle.ready_jobs.proofs.Following.{part_step, part_moves, part_does, there, ready_once}
 use Rattle.dover_model.proofs.ValidParts.{valid_parts, valid_from}
 
@@ -67,6 +68,28 @@ use Rattle.dover_model.proofs.ValidParts.{valid_parts, valid_from}
 pub no_items : {X : Type 0} (xs : List X) → length xs ≡ 0 → xs ≡ []
 no_items [] none = refl
 no_items (x ∷ xs) none = absurd (omega arith)
+
+-- some are ready where the test for none says no
+pub some_jobs : (ts : List Task) (none : Bool) → none ≡ false → (ts ≡ [] → none ≡ true) → 0 < length ts
+some_jobs [] none other is = never (sym other ∙ is refl)
+some_jobs (t ∷ ts) none other is = omega arith
+
+-- the deed that comes now, at whose step the event is printed
+pub due_now : (c : Course) (at : ℕ) (deed : Deed) (e : Event) → at ≡ c.clock
+    → step_at c.clock deed ≡ open_step (under c.rules []) (state_at c.clock c.ready)
+    → Finds (view c.rules.version (state_at c.clock c.ready)) deed → event_of (step_at at deed) ≡ Some e
+    → IsDue c deed e
+due_now c at deed e now comes finds is =
+    let prints : step_at c.clock deed ≡ Prints e = ap (λ n. step_at n deed) (sym now)
+    ∙ prints_event (step_at at deed) e is in
+    record { prints = prints; opens = sym comes ∙ prints; finds = finds }
+
+-- what silent steps and a printed one keep
+pub kept_on : (c d e : Course) → d ≡ record c { clock = d.clock; ready = d.ready }
+    → e ≡ record d { ready = e.ready; done = e.done }
+    → e ≡ record c { clock = e.clock; ready = e.ready; done = e.done }
+kept_on c d e one next = next ∙ ap (λ (q : Course). record q { ready = e.ready; done = e.done }) one
+    ∙ ap (λ n. record c { clock = n; ready = e.ready; done = e.done }) (sym (ap (λ (q : Course). q.clock) next))
 
 -- the course of no jobs
 pub new_follows : (rules : Declaration) (room : ℕ) → IsRatio rules.ratio
@@ -174,6 +197,17 @@ follows_order c ready J z follows same = record {
   known = follows.known;
   released = follows.released;
 }
+
+-- the jobs are few enough to be counted
+pub course_few : (c : Course) → IsCourse c → c.jobs ≤ 4_000_000_000
+course_few c old =
+    let J : Instance = old.0 in
+    omega (
+      arith,
+      follows_count c J old.1 old.2,
+      (valid_parts old.2.valid).count,
+      jobs_most J.rules.version,
+    )
 
 -- with other rules, where no job was released
 pub declared_course : (c : Course) (rules : Declaration) → IsCourse c → c.jobs ≡ 0 → IsRatio rules.ratio

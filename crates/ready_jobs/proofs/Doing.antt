@@ -1,14 +1,15 @@
 -- What a deed does to the ready jobs.
-use Rattle.std.proofs.Common.{◌≡◌, ap, sym, ◌∙◌, subst}
+use Rattle.std.proofs.Common.{◌≡◌, ℕ, List, ap, sym, ◌∙◌, subst}
 use Rattle.std.specs.Prelude.{Some}
 use Rattle.dover_model.specs.declared.events.Event.{Event}
+use Rattle.dover_model.specs.declared.events.Task.{Task}
 use Rattle.dover_model.specs.Step.{Move, Prints, Waits, Ticks}
 use Rattle.dover_model.specs.Run.{event_of}
 use Rattle.dover_model.proofs.Members.{some_same}
 use Rattle.dover_model.proofs.Tests.{none_is_some}
 use Rattle.ready_jobs.specs.declared.deeds.Deed.{Deed}
-use Rattle.ready_jobs.specs.Parts.{Parted}
-use Rattle.ready_jobs.specs.Changed.{IsNext}
+use Rattle.ready_jobs.specs.Parts.{Parted, ready_of}
+use Rattle.ready_jobs.specs.Changed.{IsNext, Leaves, printed}
 use Rattle.ready_jobs.specs.Deeds.{step_at, Does}
 use Rattle.ready_jobs.proofs.Naming.{same_event}
 
@@ -20,6 +21,10 @@ module _ (p : Parted) (deed other : Deed) (is : deed ≡ other) (m e : Event) (s
 
   pub does_next : IsNext p m
   does_next = subst (IsNext p) (sym does_print) does.next
+
+  pub does_leaves : (ys : List Task) (worth : ℕ) → Leaves (printed m) (ready_of p) ys worth
+      → Leaves (printed e) (ready_of p) ys worth
+  does_leaves ys worth = subst (λ x. Leaves (printed x) (ready_of p) ys worth) does_print
 
 -- a step that prints this event
 pub prints_event : (m : Move) (e : Event) → event_of m ≡ Some e → m ≡ Prints e

@@ -29,10 +29,10 @@ use Rattle.dover_model.specs.Jumps.{ticked_by, later_by}
 -- ---- where a silent tick is next
 
 -- nothing is due at the clock
-record Still (s : State) : Type 0 where
+pub record Still (s : State) : Type 0 where
   free : running s ≡ None → Each (λ t. (is_waiting t ≡ false) × (is_held t ≡ false)) s.tasks
   busy : (r : Task) → running s ≡ Some r → left r ≡ 0 → ⊥
-  stale : find is_fresh s.tasks ≡ None
+  pub stale : find is_fresh s.tasks ≡ None
   ahead : (c : Task) → find is_coming s.tasks ≡ Some c → c.job.release ≡ s.clock → ⊥
   early : (r : Task) → running s ≡ Some r → Each (λ t. is_waiting t ≡ true → latest_start t ≡ s.clock → ⊥) s.tasks
 
@@ -106,7 +106,7 @@ module _ (rules : Rules) (s : State) where
   v = view rules.version s
 
   -- where a tick is next, nothing is due
-  tick_still : declared_open_step rules s ≡ Ticks → Still s
+  pub tick_still : declared_open_step rules s ≡ Ticks → Still s
   tick_still ticks = by_running (running s) refl where
     by_running : (o : Option Task) → running s ≡ o → Still s
     by_running (Some r) runs =

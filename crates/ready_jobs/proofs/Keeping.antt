@@ -1,7 +1,7 @@
 -- The parts are kept where jobs go from one to another.
 use Rattle.std.proofs.Common.{◌-◌, ◌≡◌, ℕ, ◌+◌, ◌≤◌, ◌<◌, inl, inr, List, [], ◌∷◌, ◌++◌, length, map}
 use Rattle.std.proofs.Common.{refl, sym, ap, ◌∙◌, subst, arith}
-use Rattle.std.specs.Prelude.{Option, Some, None}
+use Rattle.std.specs.Prelude.{Option, Some, None, Result, Ok, Err, OnErr}
 use Rattle.std.specs.Option.{option_to_list, option_map}
 use Rattle.std.proofs.lemmas.List.{length-append, length-map}
 use Rattle.dover_model.specs.JobFacts.{JobFacts}
@@ -15,11 +15,30 @@ use Rattle.dover_model.specs.Sound.{IsMember, Each}
 use Rattle.dover_model.proofs.Members.{on_map, member_front, member_behind, each_append}
 use Rattle.held_queue.specs.Kept.{Lasting, AreRoomsOf}
 use Rattle.ready_jobs.specs.Pools.{Pooled}
-use Rattle.ready_jobs.specs.Parts.{Parted, AreParts, HaveRole, ready_of}
+use Rattle.ready_jobs.specs.Parts.{Parted, AreParts, HaveRole, ready_of, head_of, tail_of}
 use Rattle.ready_jobs.specs.Changed.{made_wait}
 use Rattle.ready_jobs.specs.Reordered.{IsReordered}
 use Rattle.ready_jobs.specs.Short.{no_number}
 use Rattle.ready_jobs.proofs.Reordering.{as_many}
+
+-- whatever an error is
+pub err_any : {T E P : Type 0} (r : Result T E) → P → OnErr r P
+err_any (Ok x) p = tt
+err_any (Err e) p = p
+
+-- the first held job runs on
+abbrev pub resumed_of : Parted → Parted
+resumed_of p = record p { running = option_map (λ h. with_role h Running) (head_of p.held); held = tail_of p.held }
+
+pub resumed_one : (p : Parted) (h : Task) (rest : List Task) → p.held ≡ h ∷ rest
+    → record p { running = Some (with_role h Running); held = rest } ≡ resumed_of p
+resumed_one p h rest is = sym (ap (λ l. resumed_of (record p { held = l })) is)
+
+-- or none is held
+pub resumed_none : (p : Parted) → p.running ≡ None → p.held ≡ [] → p ≡ resumed_of p
+resumed_none p free none = ap (λ o. record p { running = o }) free
+    ∙ ap (λ l. record p { running = None; held = l }) none
+    ∙ sym (ap (λ l. resumed_of (record p { held = l })) none)
 
 module _ (p : Parted) (rooms : Lasting) (pool : Pooled) (capacity : ℕ) (kept : AreParts p rooms pool capacity) where
   abbrev small : Task → Type 0
@@ -235,6 +254,16 @@ module _ (p : Parted) (rooms : Lasting) (pool : Pooled) (capacity : ℕ) (kept :
     held_room = kept.held_room;
     stack_room = kept.stack_room;
   }
+
+  -- the held jobs have room
+  pub held_fit : length p.held ≤ p.room
+  held_fit = omega (
+    arith,
+    kept.few,
+    length-append A (B ++ (p.held ++ p.waiting)),
+    length-append B (p.held ++ p.waiting),
+    length-append p.held p.waiting,
+  )
 
   -- more room
   pub reserved_kept : (room more : ℕ) (left : Lasting) (pool' : Pooled) → AreRoomsOf left (map entry_of p.held)

@@ -1,7 +1,7 @@
 -- Jobs at places, and the heaps over them.
 use Rattle.std.proofs.Common.{◌≡◌, ℕ, zero, suc, ◌+◌, ◌-◌, ◌≤◌, ◌<◌, ◌⊎◌, inl, inr, List, [], ◌∷◌, ◌++◌, length}
 use Rattle.std.proofs.Common.{set, get_or, replicate, refl, sym, ap, ◌∙◌, subst, Bool, true, cond, arith}
-use Rattle.std.specs.Prelude.{Option, Some, None, option_map, ◌==◌, is_some}
+use Rattle.std.specs.Prelude.{Option, Some, None, option_map, ◌==◌, is_some, Result, Ok, Err, OnOk, IsErr}
 use Rattle.std.specs.List.{slice_get, sum_by, count_by}
 use Rattle.std.proofs.lemmas.Bool.{cases_eq, eq-eqb, ne_eqb}
 use Rattle.std.proofs.lemmas.List.{append_assoc, length-append, length-replicate}
@@ -27,6 +27,11 @@ use Rattle.ready_jobs.specs.Parts.{HaveOwnNumbers, AreModest}
 use Rattle.ready_jobs.specs.Pools.{jobs_at, items_from, times, is_free, AreFree, HasItems, IsPool, HasRoom}
 use Rattle.ready_jobs.proofs.Reordering.{same_order, exchanged, both_parts, turned, as_many, first_is, first_only}
 use Rattle.ready_jobs.proofs.Views.{apart_or_one}
+
+-- what is said of a success says nothing of an error
+pub not_ok : {T E : Type 0} (P : Type 0) (r : Result T E) → IsErr r → OnOk r P
+not_ok P (Ok x) is = never is
+not_ok P (Err e) is = tt
 
 -- ---- a list around a place
 

@@ -25,6 +25,13 @@ use Rattle.ready_jobs.specs.Following.{IsPart, SettlesTo, SettlesFrom}
 use Rattle.ready_jobs.proofs.Reordering.{as_many}
 use Rattle.ready_jobs.specs.Changed.{AreOnce, Leaves}
 use Rattle.ready_jobs.proofs.Changes.{stays}
+use Rattle.dover_model.proofs.Tests.{none_is_some}
+use Rattle.dover_model.specs.declared.events.Event.TheVariants as event
+use Rattle.ready_jobs.specs.Deeds.{step_at}
+use Rattle.ready_jobs.specs.declared.deeds.Deed.{Deed}
+use Rattle.ready_jobs.specs.declared.deeds.Deed.TheVariants.{Resume, Start, Begin, Preempt, Take, Complete, Abandon}
+use Rattle.ready_jobs.specs.declared.deeds.Deed.TheVariants.{Wait, Tick}
+use Rattle.ready_jobs.proofs.Jumping.{tick_still}
 use Rattle.ready_jobs.proofs.Naming.{waits_says, ticks_next}
 use Rattle.ready_jobs.proofs.Seeing.{seen_fresh, seen_running, seen_coming, waiting_list, late_none, late_later}
 use Rattle.ready_jobs.proofs.Following.{part_step, part_sound, ready_once, parts_later, jumps, settles_none}
@@ -59,6 +66,44 @@ from_on k mark p q r version one next J z rules part =
     let it : SettlesTo q J z mark = one J z rules part in
     settles_on q r J z mark it
     (next J it.state (rules ∙ ap (λ v. record { ratio = k; version = v; finishes = [] }) (sym version)) it.part)
+
+-- ---- the deed of a step
+
+-- that of a tick
+tick_only : (at : ℕ) (deed : Deed) → step_at at deed ≡ Ticks → deed ≡ Tick
+tick_only at Tick is = refl
+tick_only at (Wait n) is = absurd (let clash : Waits n ≡ Ticks = is in cc)
+tick_only at (Resume n) is = absurd (let clash : Prints (event.Run at n) ≡ Ticks = is in cc)
+tick_only at (Start n) is = absurd (let clash : Prints (event.Run at n) ≡ Ticks = is in cc)
+tick_only at (Begin n) is = absurd (let clash : Prints (event.Run at n) ≡ Ticks = is in cc)
+tick_only at (Preempt m n) is = absurd (let clash : Prints (event.Preempt at m n) ≡ Ticks = is in cc)
+tick_only at (Take m n) is = absurd (let clash : Prints (event.Take at m n) ≡ Ticks = is in cc)
+tick_only at (Complete n) is = absurd (let clash : Prints (event.Complete at n) ≡ Ticks = is in cc)
+tick_only at (Abandon n) is = absurd (let clash : Prints (event.Abandon at n) ≡ Ticks = is in cc)
+
+-- a silent one is a tick where no job is fresh
+pub stale_tick : (k : Fraction) (p : Parted) → HaveRoles p → p.fresh ≡ None → (deed : Deed)
+    → step_at p.clock deed ≡ open_step (record { ratio = k; version = p.version; finishes = [] }) (state_of p)
+    → IsSilent (step_at p.clock deed) → deed ≡ Tick
+stale_tick k p roles stale deed comes silent =
+    tick_only p.clock deed (stale_ticks p roles (record { ratio = k; version = p.version; finishes = [] }) stale
+    (step_at p.clock deed) (sym comes) silent)
+
+-- and where one is, all are printed but that it waits
+pub fresh_prints : (k : Fraction) (p : Parted) → HaveRoles p → (f : Task) → p.fresh ≡ Some f → (deed : Deed)
+    → step_at p.clock deed ≡ open_step (record { ratio = k; version = p.version; finishes = [] }) (state_of p)
+    → ((n : ℕ) → deed ≡ Wait n → ⊥) → IsSilent (step_at p.clock deed) → ⊥
+fresh_prints k p roles f is (Wait n) comes other silent = other n refl
+fresh_prints k p roles f is Tick comes other silent =
+    let rules : Rules = record { ratio = k; version = p.version; finishes = [] } in
+    none_is_some (sym (tick_still rules (state_of p) (sym comes)).stale ∙ seen_fresh p roles ∙ is)
+fresh_prints k p roles f is (Resume n) comes other silent = none_is_some (sym silent)
+fresh_prints k p roles f is (Start n) comes other silent = none_is_some (sym silent)
+fresh_prints k p roles f is (Begin n) comes other silent = none_is_some (sym silent)
+fresh_prints k p roles f is (Preempt m n) comes other silent = none_is_some (sym silent)
+fresh_prints k p roles f is (Take m n) comes other silent = none_is_some (sym silent)
+fresh_prints k p roles f is (Complete n) comes other silent = none_is_some (sym silent)
+fresh_prints k p roles f is (Abandon n) comes other silent = none_is_some (sym silent)
 
 -- ---- the fresh job waits
 

@@ -4,7 +4,7 @@ use Rattle.std.proofs.lemmas.List.{length-replicate}
 use Rattle.place_heap.specs.Items.{ItemFacts}
 use Rattle.place_heap.specs.Orders.{due_item, latest_item}
 use Rattle.ready_jobs.specs.Pools.{HasItems}
-use Rattle.ready_jobs.proofs.Pooling.{table_grows, no_shorter, moved, still_fits}
+use Rattle.ready_jobs.proofs.Pooling.{not_ok, table_grows, no_shorter, moved, still_fits}
 use Rattle.ready_jobs.proofs.pool.reserve_places.Goals as goal
 
 pub returns-in_err-reserve-clause-keeps : goal.returns-in_err-reserve-clause-keeps
@@ -85,3 +85,33 @@ returns-clause-fits c = record {
     length-replicate {A = Option ItemFacts} (c.args.places - length c.args.by_latest.now) None,
   );
 }
+
+pub returns-clause-same : goal.returns-clause-same
+returns-clause-same c = c.reserve.ensures.items
+
+pub returns-in_err-reserve-clause-same : goal.returns-in_err-reserve-clause-same
+returns-in_err-reserve-clause-same c = c.reserve.ensures.items
+
+pub returns-in_err-reserve-2-clause-same : goal.returns-in_err-reserve-2-clause-same
+returns-in_err-reserve-2-clause-same c = c.reserve.ensures.items
+
+pub returns-in_err-reserve-3-clause-same : goal.returns-in_err-reserve-3-clause-same
+returns-in_err-reserve-3-clause-same c = c.reserve.ensures.items
+
+pub returns-in_err-reserve-4-clause-same : goal.returns-in_err-reserve-4-clause-same
+returns-in_err-reserve-4-clause-same c = c.reserve.ensures.items
+
+pub returns-in_err-reserve-clause-fits : goal.returns-in_err-reserve-clause-fits
+returns-in_err-reserve-clause-fits c = not_ok _ c.from_residual.result c.from_residual.ensures.0
+
+pub returns-in_err-reserve-2-clause-fits : goal.returns-in_err-reserve-2-clause-fits
+returns-in_err-reserve-2-clause-fits c =
+    not_ok _ c.from_residual-in_err-reserve-2.result c.from_residual-in_err-reserve-2.ensures.0
+
+pub returns-in_err-reserve-3-clause-fits : goal.returns-in_err-reserve-3-clause-fits
+returns-in_err-reserve-3-clause-fits c =
+    not_ok _ c.from_residual-in_err-reserve-3.result c.from_residual-in_err-reserve-3.ensures.0
+
+pub returns-in_err-reserve-4-clause-fits : goal.returns-in_err-reserve-4-clause-fits
+returns-in_err-reserve-4-clause-fits c =
+    not_ok _ c.from_residual-in_err-reserve-4.result c.from_residual-in_err-reserve-4.ensures.0

@@ -1,9 +1,11 @@
 use Rattle.std.proofs.Common.{◌+◌, ◌*◌, ◌<◌, ◌∷◌, ◌++◌, length, refl, sym, ap, ◌∙◌, subst}
-use Rattle.std.proofs.Common.{arith}
+use Rattle.std.proofs.Common.{map, reverse, arith}
 use Rattle.std.specs.Option.{option_to_list}
 use Rattle.dover_model.specs.declared.events.Task.{Task}
+use Rattle.ready_jobs.specs.Changed.{made_wait}
 use Rattle.ready_jobs.specs.Reordered.{IsReordered}
 use Rattle.ready_jobs.specs.Short.{no_number}
+use Rattle.ready_jobs.proofs.Courses.{no_items}
 use Rattle.ready_jobs.proofs.Reordering.{same_order}
 use Rattle.ready_jobs.proofs.Displacing.{one_displaced, one_fits, one_small, one_less, one_counted}
 use Rattle.ready_jobs.proofs.taking.displace.Goals as goal
@@ -52,3 +54,17 @@ add-requires-clause-number g c =
     subst (λ (t : Task). t.number < no_number) (sym c.in_role.ensures)
     (one_small _ _ _ _ _ _ c.loop-t.pool c.loop-t.invariant.displaces
     (c.pop.ensures.items ∙ ap (λ o. c.pop.new.held.items ++ option_to_list o) c.in-Some.is))
+
+pub returns-clause-none : goal.returns-clause-none
+returns-clause-none g c =
+    no_items c.pop.new.held.items (omega (arith, c.in_default.ensures.cases.1, c.pop.new.held.ok.0))
+
+pub returns-clause-more : goal.returns-clause-more
+returns-clause-more g c =
+    let before = map made_wait (reverse c.args.held.now.items) ++ c.args.pool.now.tasks in
+    subst (λ l. IsReordered before (map made_wait (reverse l) ++ c.loop-t.pool.tasks))
+    (no_items c.loop-t.held.items (omega (arith, c.in_default.ensures.cases.0, c.loop-t.held.ok.0)))
+    c.loop-t.invariant.displaces.same
+
+pub returns-clause-count : goal.returns-clause-count
+returns-clause-count g c d fits = omega (arith, c.loop-t.invariant.count d fits)

@@ -1,13 +1,14 @@
 use Rattle.std.proofs.Common.{◌+◌, ◌*◌, ◌≤◌, length, refl, subst}
 use Rattle.dover_model.specs.declared.events.Event.TheVariants.{Run}
-use Rattle.dover_model.specs.Step.{Prints}
+use Rattle.dover_model.specs.Step.{Prints, view}
 use Rattle.dover_model.specs.Spending.{cost_of}
+use Rattle.ready_jobs.specs.Deeds.{Finds}
 use Rattle.ready_jobs.specs.Parts.{state_of}
 use Rattle.ready_jobs.specs.Spending.{wait_again}
 use Rattle.ready_jobs.specs.declared.deeds.Deed.TheVariants as deeds
 use Rattle.ready_jobs.proofs.Applied.{leaves_fewer}
-use Rattle.ready_jobs.proofs.Costing.{one_at_most, take_at_most}
-use Rattle.ready_jobs.proofs.Doing.{does_print, does_next}
+use Rattle.ready_jobs.proofs.Costing.{no_cost, one_at_most, take_at_most}
+use Rattle.ready_jobs.proofs.Doing.{does_print, does_next, does_leaves}
 use Rattle.ready_jobs.proofs.parts.Parts.apply.Goals as goal
 
 pub resume_next-requires-clause-next : goal.resume_next-requires-clause-next
@@ -115,3 +116,88 @@ returns-in-Take-clause-once g c e d does fits =
 pub returns-in-Abandon-clause-once : goal.returns-in-Abandon-clause-once
 returns-in-Abandon-clause-once g c e d does fits =
     one_at_most _ _ _ _ (c.abandon_next.ensures.once d fits)
+
+pub resume_next-requires-clause-finds : goal.resume_next-requires-clause-finds
+resume_next-requires-clause-finds g c =
+    let p = c.args.self.now in subst (Finds (view p.version (state_of p))) c.in-Resume.is c.requires.does.1.finds
+
+pub start_next-requires-clause-finds : goal.start_next-requires-clause-finds
+start_next-requires-clause-finds g c =
+    let p = c.args.self.now in subst (Finds (view p.version (state_of p))) c.in-Start.is c.requires.does.1.finds
+
+pub begin_next-requires-clause-finds : goal.begin_next-requires-clause-finds
+begin_next-requires-clause-finds g c =
+    let p = c.args.self.now in subst (Finds (view p.version (state_of p))) c.in-Begin.is c.requires.does.1.finds
+
+pub resume_next-requires-clause-once : goal.resume_next-requires-clause-once
+resume_next-requires-clause-once g c = c.requires.once
+
+pub start_next-requires-clause-once : goal.start_next-requires-clause-once
+start_next-requires-clause-once g c = c.requires.once
+
+pub begin_next-requires-clause-once : goal.begin_next-requires-clause-once
+begin_next-requires-clause-once g c = c.requires.once
+
+pub preempt_next-requires-clause-once : goal.preempt_next-requires-clause-once
+preempt_next-requires-clause-once g c = c.requires.once
+
+pub take_next-requires-clause-once : goal.take_next-requires-clause-once
+take_next-requires-clause-once g c = c.requires.once
+
+pub complete_next-requires-clause-once : goal.complete_next-requires-clause-once
+complete_next-requires-clause-once g c = c.requires.once
+
+pub abandon_next-requires-clause-once : goal.abandon_next-requires-clause-once
+abandon_next-requires-clause-once g c = c.requires.once
+
+pub returns-in-Resume-clause-leaves : goal.returns-in-Resume-clause-leaves
+returns-in-Resume-clause-leaves g c e does =
+    does_leaves _ _ _ c.in-Resume.is _ _ refl does _ _ (c.resume_next.ensures.leaves c.args.self.now.clock)
+
+pub returns-in-Start-clause-leaves : goal.returns-in-Start-clause-leaves
+returns-in-Start-clause-leaves g c e does =
+    does_leaves _ _ _ c.in-Start.is _ _ refl does _ _ (c.start_next.ensures.leaves c.args.self.now.clock)
+
+pub returns-in-Begin-clause-leaves : goal.returns-in-Begin-clause-leaves
+returns-in-Begin-clause-leaves g c e does =
+    does_leaves _ _ _ c.in-Begin.is _ _ refl does _ _ (c.begin_next.ensures.leaves c.args.self.now.clock)
+
+pub returns-in-Preempt-clause-leaves : goal.returns-in-Preempt-clause-leaves
+returns-in-Preempt-clause-leaves g c e does =
+    does_leaves _ _ _ c.in-Preempt.is _ _ refl does _ _ (c.preempt_next.ensures.leaves c.args.self.now.clock)
+
+pub returns-in-Take-clause-leaves : goal.returns-in-Take-clause-leaves
+returns-in-Take-clause-leaves g c e does =
+    does_leaves _ _ _ c.in-Take.is _ _ refl does _ _ (c.take_next.ensures.leaves c.args.self.now.clock)
+
+pub returns-in-Complete-clause-leaves : goal.returns-in-Complete-clause-leaves
+returns-in-Complete-clause-leaves g c e does =
+    does_leaves _ _ _ c.in-Complete.is _ _ refl does _ _ (c.complete_next.ensures.leaves c.args.self.now.clock)
+
+pub returns-in-Abandon-clause-leaves : goal.returns-in-Abandon-clause-leaves
+returns-in-Abandon-clause-leaves g c e does =
+    does_leaves _ _ _ c.in-Abandon.is _ _ refl does _ _ (c.abandon_next.ensures.leaves c.args.self.now.clock)
+
+pub returns-in-Resume-clause-cost : goal.returns-in-Resume-clause-cost
+returns-in-Resume-clause-cost g c e d does fits = no_cost _ _
+
+pub returns-in-Resume-clause-once : goal.returns-in-Resume-clause-once
+returns-in-Resume-clause-once g c e d does fits = no_cost _ _
+
+pub returns-in-Begin-clause-cost : goal.returns-in-Begin-clause-cost
+returns-in-Begin-clause-cost g c e d does fits = no_cost _ _
+
+pub returns-in-Begin-clause-once : goal.returns-in-Begin-clause-once
+returns-in-Begin-clause-once g c e d does fits = no_cost _ _
+
+pub returns-in-Preempt-clause-cost : goal.returns-in-Preempt-clause-cost
+returns-in-Preempt-clause-cost g c e d does fits = no_cost _ _
+
+pub returns-in-Preempt-clause-once : goal.returns-in-Preempt-clause-once
+returns-in-Preempt-clause-once g c e d does fits = no_cost _ _
+
+pub returns-in-Complete-clause-cost : goal.returns-in-Complete-clause-cost
+returns-in-Complete-clause-cost g c e d does fits = no_cost _ _
+
+pub returns-in-Complete-clause-once : goal.returns-in-Complete-clause-once
+returns-in-Complete-clause-once g c e d does fits = no_cost _ _

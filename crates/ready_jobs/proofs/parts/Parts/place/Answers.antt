@@ -1,6 +1,9 @@
 use Rattle.std.proofs.Common.{refl, sym, ap, ◌∙◌}
 use Rattle.ready_jobs.specs.Deeds.{step_at}
-use Rattle.ready_jobs.proofs.Silences.{Stayed, known_sound, waits_settles, waits_count, waits_cost}
+use Rattle.ready_jobs.specs.Parts.{Parted}
+use Rattle.ready_jobs.proofs.Costing.{no_cost}
+use Rattle.ready_jobs.proofs.Silences.{Stayed, known_sound, waits_settles, waits_count, waits_cost, from_none}
+use Rattle.ready_jobs.proofs.Silences.{fresh_prints}
 use Rattle.ready_jobs.proofs.parts.Parts.place.Goals as goal
 
 pub open_step-deed-requires : goal.open_step-deed-requires
@@ -26,3 +29,36 @@ returns-in-Wait-clause-count g c d large =
     (c.in-Some.f, sym c.fresh.ensures.is ∙ c.in-Some.is, c.stay.ensures.waits) in
     waits_cost c.args.self.now c.stay.new.self c.stay.new.self d c.args.steps.now c.stay.new.steps
     stays refl (c.stay.ensures.count d large)
+
+pub returns-in_default-deed : goal.returns-in_default-deed
+returns-in_default-deed g c =
+    let p = c.args.self.now in
+    record {
+      settles = λ mark. from_none c.args.k mark p;
+      some = c.open_step-deed.ensures.is;
+      finds = c.open_step-deed.ensures.finds;
+      prints = fresh_prints c.args.k p c.laws.ensures.roles c.in-Some.f (sym c.fresh.ensures.is ∙ c.in-Some.is)
+          c.open_step-deed.result c.open_step-deed.ensures.is c.in_default-deed.not-Wait;
+      none = tt;
+      kept = refl;
+      fewer = refl;
+      count = λ d large. no_cost _ _;
+    }
+
+pub returns-in_default-clause-settles : goal.returns-in_default-clause-settles
+returns-in_default-clause-settles g c mark = from_none c.args.k mark c.args.self.now
+
+pub returns-in_default-clause-count : goal.returns-in_default-clause-count
+returns-in_default-clause-count g c d large = no_cost _ _
+
+pub returns-in_default-clause-none : goal.returns-in_default-clause-none
+returns-in_default-clause-none g c = sym c.fresh.ensures.is ∙ c.in_default.is
+
+pub returns-in-Wait-clause-kept : goal.returns-in-Wait-clause-kept
+returns-in-Wait-clause-kept g c =
+    let q = c.stay.new.self in
+    c.stay.ensures.kept ∙ ap (λ o. record c.args.self.now { fresh = o; waiting = q.waiting })
+    (sym (ap (λ (q : Parted). q.fresh) c.stay.ensures.kept))
+
+pub returns-in-Wait-clause-none : goal.returns-in-Wait-clause-none
+returns-in-Wait-clause-none g c = ap (λ (q : Parted). q.fresh) c.stay.ensures.kept

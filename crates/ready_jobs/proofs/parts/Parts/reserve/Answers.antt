@@ -1,13 +1,15 @@
-use Rattle.std.proofs.Common.{reverse, sym, ap, subst, arith, map}
+use Rattle.std.proofs.Common.{reverse, sym, ap, ◌∙◌, subst, arith, map}
 use Rattle.std.specs.Prelude.{vec_capacity}
 use Rattle.std.proofs.lemmas.List.{length-reverse}
+use Rattle.std.proofs.Math.Nat.{max-eq_right}
 use Rattle.dover_model.specs.Entries.{entry_of}
 use Rattle.held_queue.specs.Kept.{Lasting, AreRoomsOf}
 use Rattle.held_queue.proofs.Holding.{spare_kept}
 use Rattle.ready_jobs.specs.Pools.{Pooled}
-use Rattle.ready_jobs.specs.Parts.{AreParts}
+use Rattle.ready_jobs.specs.Parts.{Parted, AreParts}
 use Rattle.ready_jobs.specs.Kept.{parted_of}
-use Rattle.ready_jobs.proofs.Keeping.{reserved_kept}
+use Rattle.ready_jobs.proofs.Keeping.{err_any, held_fit, reserved_kept}
+use Rattle.ready_jobs.proofs.Pooling.{not_ok}
 use Rattle.ready_jobs.proofs.parts.Parts.reserve.Goals as goal
 
 pub invariant_of-self-in_err-reserve-2 : goal.invariant_of-self-in_err-reserve-2
@@ -72,3 +74,116 @@ invariant_of-self-2 c =
       c.len-held.ensures,
     ))
     (omega (arith, c.in_ok-reserve.ensures.ok, inside.held.ok.0)))))
+
+pub overflow_cast-held : goal.overflow_cast-held
+overflow_cast-held c =
+    omega (
+      arith,
+      held_fit _ _ _ _ c.self.invariant,
+      length-reverse c.self.inside.held.items,
+      c.self.inside.held.ok.0,
+      c.len-held.ensures,
+      c.self.invariant.most,
+    )
+
+pub overflow_sub-room : goal.overflow_sub-room
+overflow_sub-room c =
+    omega (
+      arith,
+      held_fit _ _ _ _ c.self.invariant,
+      length-reverse c.self.inside.held.items,
+      c.self.inside.held.ok.0,
+      c.len-held.ensures,
+      c.if-room-self.false,
+    )
+
+pub overflow_sub-room-2 : goal.overflow_sub-room-2
+overflow_sub-room-2 c =
+    omega (
+      arith,
+      held_fit _ _ _ _ c.self.invariant,
+      length-reverse c.self.inside.held.items,
+      c.self.inside.held.ok.0,
+      c.len-held.ensures,
+      c.if-room-self.false,
+    )
+
+pub invariant_of-self : goal.invariant_of-self
+invariant_of-self c =
+    let inside = c.self.inside in
+    let p = parted_of inside in
+    let kept = c.self.invariant in
+    subst (λ h. AreParts (record p { held = reverse h }) inside.rooms inside.pool (vec_capacity c.reserve.new.self))
+    (sym c.reserve.ensures.items)
+    (reserved_kept p inside.rooms inside.pool (vec_capacity inside.held) kept inside.room
+    (vec_capacity c.reserve.new.self) inside.rooms inside.pool kept.held (omega arith) kept.most kept.pool_room
+    kept.held_room (omega (arith, kept.stack_room, c.reserve.ensures.capacity)))
+
+pub returns-clause-ok : goal.returns-clause-ok
+returns-clause-ok c = sym (max-eq_right {n = c.args.self.now.room} {m = c.args.room}
+    (omega (arith, c.if-room-self.false, ap (λ (q : Parted). q.room) c.self.view_is)))
+
+pub returns-clause-same : goal.returns-clause-same
+returns-clause-same c = c.reserve-3.ensures.same ∙ ap (λ (q : Parted). q.waiting) c.self.view_is
+
+pub returns-in_err-reserve-3-clause-same : goal.returns-in_err-reserve-3-clause-same
+returns-in_err-reserve-3-clause-same c = c.reserve-3.ensures.same ∙ ap (λ (q : Parted). q.waiting) c.self.view_is
+
+pub returns-in_err-reserve-2-clause-same : goal.returns-in_err-reserve-2-clause-same
+returns-in_err-reserve-2-clause-same c = ap (λ (q : Parted). q.waiting) c.self.view_is
+
+pub returns-in_err-reserve-clause-same : goal.returns-in_err-reserve-clause-same
+returns-in_err-reserve-clause-same c = ap (λ (q : Parted). q.waiting) c.self.view_is
+
+pub returns-clause-kept : goal.returns-clause-kept
+returns-clause-kept c =
+    let p = parted_of c.self.inside in
+    let pool = c.reserve-3.new.self in
+    let held = reverse c.reserve.new.self.items in
+    ap (λ v. record p { version = v; held = held; waiting = pool.tasks; room = c.args.room })
+    (ap (λ (q : Pooled). q.version) c.reserve-3.ensures.kept)
+    ∙ ap (λ h. record p { held = reverse h; waiting = pool.tasks; room = c.args.room }) c.reserve.ensures.items
+    ∙ ap (λ (q : Parted). record q { waiting = pool.tasks; room = c.args.room }) c.self.view_is
+
+pub returns-in_err-reserve-3-clause-kept : goal.returns-in_err-reserve-3-clause-kept
+returns-in_err-reserve-3-clause-kept c =
+    let p = parted_of c.self.inside in
+    let pool = c.reserve-3.new.self in
+    ap (λ v. record p { version = v; held = reverse c.reserve.new.self.items; waiting = pool.tasks })
+    (ap (λ (q : Pooled). q.version) c.reserve-3.ensures.kept)
+    ∙ ap (λ h. record p { held = reverse h; waiting = pool.tasks }) c.reserve.ensures.items
+    ∙ ap (λ (q : Parted). record q { waiting = pool.tasks; room = c.self.inside.room }) c.self.view_is
+
+pub returns-in_err-reserve-2-clause-kept : goal.returns-in_err-reserve-2-clause-kept
+returns-in_err-reserve-2-clause-kept c =
+    let p = parted_of c.self.inside in
+    ap (λ h. record p { held = reverse h }) c.reserve.ensures.items
+    ∙ ap (λ (q : Parted). record q { waiting = p.waiting; room = p.room }) c.self.view_is
+
+pub returns-in_err-reserve-clause-kept : goal.returns-in_err-reserve-clause-kept
+returns-in_err-reserve-clause-kept c =
+    let p = parted_of c.self.inside in
+    ap (λ h. record p { held = reverse h }) c.reserve.ensures.items
+    ∙ ap (λ (q : Parted). record q { waiting = p.waiting; room = p.room }) c.self.view_is
+
+pub returns-in_err-reserve-clause-err : goal.returns-in_err-reserve-clause-err
+returns-in_err-reserve-clause-err c = err_any c.from_residual.result (ap (λ (q : Parted). q.room) c.self.view_is)
+
+pub returns-in_err-reserve-2-clause-err : goal.returns-in_err-reserve-2-clause-err
+returns-in_err-reserve-2-clause-err c =
+    err_any c.from_residual-in_err-reserve-2.result (ap (λ (q : Parted). q.room) c.self.view_is)
+
+pub returns-in_err-reserve-3-clause-err : goal.returns-in_err-reserve-3-clause-err
+returns-in_err-reserve-3-clause-err c =
+    err_any c.from_residual-in_err-reserve-3.result (ap (λ (q : Parted). q.room) c.self.view_is)
+
+pub returns-in_err-reserve-clause-ok : goal.returns-in_err-reserve-clause-ok
+returns-in_err-reserve-clause-ok c = not_ok _ c.from_residual.result c.from_residual.ensures.0
+
+pub returns-in_err-reserve-2-clause-ok : goal.returns-in_err-reserve-2-clause-ok
+returns-in_err-reserve-2-clause-ok c =
+    not_ok _ c.from_residual-in_err-reserve-2.result c.from_residual-in_err-reserve-2.ensures.0
+
+pub returns-in_err-reserve-3-clause-ok : goal.returns-in_err-reserve-3-clause-ok
+returns-in_err-reserve-3-clause-ok c =
+    not_ok _ c.from_residual-in_err-reserve-3.result c.from_residual-in_err-reserve-3.ensures.0

@@ -1,8 +1,10 @@
-use Rattle.std.proofs.Common.{Some, sym, ap}
+use Rattle.std.proofs.Common.{◌+◌, ◌^◌, ◌<◌, ◌∷◌, Some, length, sym, ap}
 use Rattle.std.proofs.Common.{◌∙◌, subst}
 use Rattle.std.specs.Prelude.{vec_capacity}
 use Rattle.dover_model.specs.declared.events.Role.TheVariants.{Running}
+use Rattle.dover_model.specs.Orders.{first, due_first}
 use Rattle.dover_model.specs.Step.{with_role}
+use Rattle.ready_jobs.specs.Reordered.{IsReordered}
 use Rattle.ready_jobs.specs.Pools.{Pooled}
 use Rattle.ready_jobs.specs.Parts.{Parted, AreParts, AreSound}
 use Rattle.ready_jobs.specs.Kept.{parted_of}
@@ -36,3 +38,23 @@ invariant_of-self-in_default g c =
     (same_kept (parted_of inside) inside.rooms inside.pool (vec_capacity inside.held) c.self.invariant after
     (c.take_deadline.ensures.none c.in_default.is)
     (ap (λ (q : Pooled). q.room) c.take_deadline.ensures.kept))
+
+pub returns-in-Some-clause-rest : goal.returns-in-Some-clause-rest
+returns-in-Some-clause-rest g c o is =
+    let firsts = ap (λ (q : Parted). first (due_first q.version) q.waiting) c.self.view_is in
+    subst (λ (q : Parted). IsReordered q.waiting (o ∷ c.take_deadline.new.self.tasks)) c.self.view_is
+    (c.take_deadline.ensures.rest o (c.take_deadline.ensures.was ∙ firsts ∙ is))
+
+pub returns-in-Some-clause-count : goal.returns-in-Some-clause-count
+returns-in-Some-clause-count g c d fits =
+    c.take_deadline.ensures.count d (subst (λ (q : Parted). length q.waiting + 1 < 2 ^ d) (sym c.self.view_is) fits)
+
+pub returns-in_default-clause-rest : goal.returns-in_default-clause-rest
+returns-in_default-clause-rest g c o is =
+    let firsts = ap (λ (q : Parted). first (due_first q.version) q.waiting) c.self.view_is in
+    subst (λ (q : Parted). IsReordered q.waiting (o ∷ c.take_deadline.new.self.tasks)) c.self.view_is
+    (c.take_deadline.ensures.rest o (c.take_deadline.ensures.was ∙ firsts ∙ is))
+
+pub returns-in_default-clause-count : goal.returns-in_default-clause-count
+returns-in_default-clause-count g c d fits =
+    c.take_deadline.ensures.count d (subst (λ (q : Parted). length q.waiting + 1 < 2 ^ d) (sym c.self.view_is) fits)

@@ -1,13 +1,17 @@
-use Rattle.std.proofs.Common.{◌<◌, ◌∷◌, None, sym, ap}
+use Rattle.std.proofs.Common.{◌+◌, ◌^◌, ◌<◌, ◌∷◌, None, length, sym, ap, arith}
 use Rattle.std.proofs.Common.{◌∙◌, subst}
 use Rattle.std.specs.Prelude.{vec_capacity}
 use Rattle.dover_model.specs.declared.events.Task.{Task}
+use Rattle.std.specs.Option.{option_to_list}
+use Rattle.dover_model.specs.declared.events.Role.TheVariants.{Waiting}
+use Rattle.dover_model.specs.Step.{with_role}
 use Rattle.ready_jobs.specs.Reordered.{IsReordered}
 use Rattle.ready_jobs.specs.Pools.{Pooled}
 use Rattle.ready_jobs.specs.Parts.{Parted, AreParts}
 use Rattle.ready_jobs.specs.Kept.{parted_of}
 use Rattle.ready_jobs.specs.Short.{no_number}
 use Rattle.ready_jobs.proofs.Keeping.{fresh_small, stayed_kept}
+use Rattle.ready_jobs.proofs.Silences.{ready_count}
 use Rattle.ready_jobs.proofs.parts.Parts.stay.Goals as goal
 
 pub add-requires-clause-number : goal.add-requires-clause-number
@@ -26,3 +30,26 @@ invariant_of-self g c =
     (stayed_kept _ _ _ _ c.self.invariant _ _ (ap (λ (q : Parted). q.fresh) c.self.view_is ∙ c.requires.fresh)
     (subst (λ t. IsReordered (t ∷ inside.pool.tasks) after.tasks) c.in_role.ensures c.add.ensures.more)
     (ap (λ (q : Pooled). q.room) c.add.ensures.kept))
+
+pub add-requires-clause-room : goal.add-requires-clause-room
+add-requires-clause-room g c =
+    let kept = c.self.invariant in
+    let is = ap (λ (q : Parted). q.fresh) c.self.view_is ∙ c.requires.fresh in
+    omega (
+      arith,
+      kept.few,
+      kept.pool_room,
+      ready_count (parted_of c.self.inside),
+      ap (λ o. length (option_to_list o)) is,
+    )
+
+pub returns-clause-waits : goal.returns-clause-waits
+returns-clause-waits g c =
+    let after = c.add.new.self.tasks in
+    subst (λ ts. IsReordered (with_role c.args.f.now Waiting ∷ ts) after)
+    (ap (λ (q : Parted). q.waiting) c.self.view_is)
+    (subst (λ t. IsReordered (t ∷ c.self.inside.pool.tasks) after) c.in_role.ensures c.add.ensures.more)
+
+pub returns-clause-count : goal.returns-clause-count
+returns-clause-count g c d fits =
+    c.add.ensures.count d (subst (λ (q : Parted). length q.waiting + 1 < 2 ^ d) (sym c.self.view_is) fits)

@@ -1,12 +1,12 @@
-use Rattle.std.proofs.Common.{Some, sym, ap, ◌∙◌, subst}
+use Rattle.std.proofs.Common.{Some, sym, ap, ◌∙◌, subst, arith}
 use Rattle.dover_model.specs.declared.events.Event.TheVariants.{Take}
 use Rattle.ready_jobs.specs.Changed.{Leaves, printed}
 use Rattle.ready_jobs.specs.Parts.{ready_of}
 use Rattle.ready_jobs.specs.Slots.{seen}
-use Rattle.ready_jobs.proofs.Applied.{taken_leaves, taken_named, some_late}
+use Rattle.ready_jobs.proofs.Applied.{taken_leaves, taken_named, some_runs, some_late}
 use Rattle.dover_model.specs.Orders.{starts_before}
 use Rattle.dover_model.proofs.FirstOfTasks.{first_member}
-use Rattle.ready_jobs.proofs.Costing.{take_costs}
+use Rattle.ready_jobs.proofs.Costing.{no_cost, take_costs}
 use Rattle.ready_jobs.proofs.parts.Parts.take_next.Goals as goal
 
 pub returns-in-Some-first_late-clause-leaves : goal.returns-in-Some-first_late-clause-leaves
@@ -38,3 +38,31 @@ pub returns-in_default-first_late-clause-leaves : goal.returns-in_default-first_
 returns-in_default-first_late-clause-leaves g c at = absurd
     (some_late c.args.self.now c.laws.ensures.roles c.requires.once c.args.stops c.args.starts c.requires.next
     (sym c.first_late.ensures.seen ∙ ap seen c.in_default-first_late.is))
+
+pub take-requires-clause-late : goal.take-requires-clause-late
+take-requires-clause-late g c =
+    c.first_late.ensures.is c.task-x.result
+    (ap seen c.in-Some-first_late.is ∙ ap Some (sym c.task-x.ensures))
+
+pub take-requires-clause-running : goal.take-requires-clause-running
+take-requires-clause-running g c = sym c.running.ensures.is ∙ c.in-Some.is
+
+pub take-requires-clause-sound : goal.take-requires-clause-sound
+take-requires-clause-sound g c = c.requires.sound
+
+pub returns-in_default-first_late-clause-cost : goal.returns-in_default-first_late-clause-cost
+returns-in_default-first_late-clause-cost g c at d fits = no_cost _ _
+
+pub returns-in_default-clause-cost : goal.returns-in_default-clause-cost
+returns-in_default-clause-cost g c at d fits = no_cost _ _
+
+pub returns-in_default-first_late-clause-once : goal.returns-in_default-first_late-clause-once
+returns-in_default-first_late-clause-once g c d fits = omega arith
+
+pub returns-in_default-clause-once : goal.returns-in_default-clause-once
+returns-in_default-clause-once g c d fits = omega arith
+
+pub returns-in_default-clause-leaves : goal.returns-in_default-clause-leaves
+returns-in_default-clause-leaves g c at = absurd
+    (some_runs c.args.self.now c.laws.ensures.roles c.requires.once c.args.stops c.args.starts c.requires.next
+    (sym c.running.ensures.is ∙ c.in_default.is))

@@ -3,7 +3,7 @@ use Rattle.dover_model.specs.Run.{event_of}
 use Rattle.dover_model.specs.Step.{Prints}
 use Rattle.ready_jobs.specs.Course.{Course, Follows, Reached}
 use Rattle.ready_jobs.specs.Deeds.{step_at}
-use Rattle.ready_jobs.proofs.Courses.{reached_next, reached_last}
+use Rattle.ready_jobs.proofs.Courses.{reached_next, reached_last, due_now}
 use Rattle.ready_jobs.proofs.Doing.{prints_event}
 use Rattle.ready_jobs.proofs.ready.Ready.due_next.Goals as goal
 
@@ -34,3 +34,30 @@ returns-clause-comes g c J z follows =
     ∙ c.in-Some.is))
     (c.go_on-deed.ensures.reached J z follows) in
     (reached.state, reached.follows, reached_next d J z 1_000_000_000_000 c.in-Some.event reached)
+
+pub go_on-deed-requires-clause-some : goal.go_on-deed-requires-clause-some
+go_on-deed-requires-clause-some g c = c.requires.some
+
+pub returns-clause-due : goal.returns-clause-due
+returns-clause-due g c =
+    let at = c.clock.ensures ∙ ap (λ (d : Course). d.clock) c.self-2.view_is in
+    due_now c.go_on-deed.new.self c.clock.result c.go_on-deed.result c.in-Some.event at c.go_on-deed.ensures.step
+    c.go_on-deed.ensures.finds (sym c.event_at.ensures ∙ c.in-Some.is)
+
+pub returns-clause-kept : goal.returns-clause-kept
+returns-clause-kept g c = c.go_on-deed.ensures.kept
+
+pub returns-clause-fewer : goal.returns-clause-fewer
+returns-clause-fewer g c = c.go_on-deed.ensures.fewer
+
+pub returns-clause-paid : goal.returns-clause-paid
+returns-clause-paid g c = c.go_on-deed.ensures.paid
+
+pub returns-clause-freely : goal.returns-clause-freely
+returns-clause-freely g c = c.go_on-deed.ensures.freely
+
+pub returns-clause-once : goal.returns-clause-once
+returns-clause-once g c = c.go_on-deed.ensures.once
+
+pub returns-clause-held : goal.returns-clause-held
+returns-clause-held g c = c.go_on-deed.ensures.held

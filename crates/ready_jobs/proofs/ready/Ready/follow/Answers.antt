@@ -1,10 +1,11 @@
-use Rattle.std.proofs.Common.{sym, ap, ◌∙◌, subst}
+use Rattle.std.proofs.Common.{◌<◌, ◌≤◌, length, refl, sym, ap, ◌∙◌, subst, arith}
 use Rattle.std.proofs.lemmas.Bool.{false≢true}
 use Rattle.dover_model.specs.declared.events.Event.TheVariants.{End}
+use Rattle.dover_model.specs.Run.{event_of}
 use Rattle.dover_model.specs.Step.{Prints}
 use Rattle.ready_jobs.specs.Course.{Course, Follows, ComesNext, Takes}
 use Rattle.ready_jobs.specs.Deeds.{step_at}
-use Rattle.ready_jobs.proofs.Courses.{over_next, over_takes, reached_comes}
+use Rattle.ready_jobs.proofs.Courses.{over_next, over_takes, reached_comes, some_jobs, due_now, kept_on}
 use Rattle.ready_jobs.proofs.Naming.{same_event}
 use Rattle.ready_jobs.proofs.ready.Ready.follow.Goals as goal
 
@@ -60,3 +61,48 @@ returns-clause-yes g c is =
 
 pub returns-clause-paid : goal.returns-clause-paid
 returns-clause-paid g c start paid = c.take.ensures.paid start (c.go_on-deed.ensures.paid start paid)
+
+pub go_on-deed-requires-clause-some : goal.go_on-deed-requires-clause-some
+go_on-deed-requires-clause-some g c =
+    subst (λ (d : Course). 0 < length d.ready) c.self.view_is
+    (some_jobs _ c.is_empty.result c.if-is_empty.false c.is_empty.ensures.1)
+
+pub go_on-deed-requires-clause-low : goal.go_on-deed-requires-clause-low
+go_on-deed-requires-clause-low g c = omega (
+  arith,
+  c.self.invariant.2.known,
+  c.self.invariant.2.clock,
+  ap (λ (d : Course). d.clock) c.self.view_is,
+)
+
+pub take-requires : goal.take-requires
+take-requires g c =
+    let at = c.clock.ensures ∙ ap (λ (d : Course). d.clock) c.self-2.view_is in
+    due_now c.go_on-deed.new.self c.clock.result c.go_on-deed.result c.args.event.now at c.go_on-deed.ensures.step
+    c.go_on-deed.ensures.finds (ap event_of (c.prints.ensures.0 c.if-not-prints.false))
+
+pub returns-clause-freely : goal.returns-clause-freely
+returns-clause-freely g c other = absurd (false≢true (sym other))
+
+pub returns-clause-no : goal.returns-clause-no
+returns-clause-no g c other = absurd (false≢true (sym other))
+
+pub returns-clause-kept : goal.returns-clause-kept
+returns-clause-kept g c = kept_on c.args.self.now c.go_on-deed.new.self c.take.new.self c.go_on-deed.ensures.kept
+    c.take.ensures.kept
+
+pub returns-clause-fewer : goal.returns-clause-fewer
+returns-clause-fewer g c = subst (λ n. length c.take.new.self.ready ≤ n) c.go_on-deed.ensures.fewer c.take.ensures.fewer
+
+pub returns-then-not-prints-clause-freely : goal.returns-then-not-prints-clause-freely
+returns-then-not-prints-clause-freely g c other = c.go_on-deed.ensures.freely
+
+pub returns-then-not-prints-clause-paid : goal.returns-then-not-prints-clause-paid
+returns-then-not-prints-clause-paid g c = c.go_on-deed.ensures.paid
+
+pub returns-then-not-prints-clause-yes : goal.returns-then-not-prints-clause-yes
+returns-then-not-prints-clause-yes g c is = absurd (false≢true is)
+
+pub returns-then-not-prints-clause-kept : goal.returns-then-not-prints-clause-kept
+returns-then-not-prints-clause-kept g c =
+    let d = c.go_on-deed.new.self in kept_on c.args.self.now d d c.go_on-deed.ensures.kept refl

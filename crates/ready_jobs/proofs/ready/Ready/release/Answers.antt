@@ -1,11 +1,11 @@
-use Rattle.std.proofs.Common.{◌≤◌, ◌+◌, ◌++◌, ◌∷◌, [], sym, ap, subst}
+use Rattle.std.proofs.Common.{◌≤◌, ◌+◌, ◌++◌, ◌∷◌, [], sym, ap, subst, arith}
 use Rattle.dover_model.specs.State.{state_at}
 use Rattle.dover_model.specs.Spending.{HasSpentFor}
 use Rattle.ready_jobs.specs.Reordered.{IsReordered}
 use Rattle.ready_jobs.specs.Parts.{Parted, ready_of}
 use Rattle.ready_jobs.specs.Course.{Course, IsCourse, course_of, with_release, fresh_job}
 use Rattle.ready_jobs.specs.Spending.{HasPaid}
-use Rattle.ready_jobs.proofs.Courses.{come_stale, come_course, come_order}
+use Rattle.ready_jobs.proofs.Courses.{come_stale, come_course, come_order, course_few}
 use Rattle.ready_jobs.proofs.Spending.{release_pays}
 use Rattle.ready_jobs.proofs.ready.Ready.release.Goals as goal
 
@@ -42,3 +42,19 @@ returns-clause-paid c start now paid =
     (subst (λ (d : Course). IsCourse (with_release d c.args.job d.room)) (sym c.self.view_is) c.requires.course)
     c.come.new.self c.come.ensures) start now
     (subst (λ d. HasPaid d start now) (sym c.self.view_is) paid))
+
+pub overflow_add-self : goal.overflow_add-self
+overflow_add-self c =
+    omega (
+      arith,
+      course_few _ c.requires.course,
+      ap (λ (d : Course). d.jobs) c.self.view_is,
+    )
+
+pub come-requires-clause-number : goal.come-requires-clause-number
+come-requires-clause-number c =
+    omega (
+      arith,
+      course_few _ c.requires.course,
+      ap (λ (d : Course). d.jobs) c.self.view_is,
+    )

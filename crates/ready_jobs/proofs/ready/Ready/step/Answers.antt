@@ -1,5 +1,7 @@
-use Rattle.std.proofs.Common.{◌+◌, ◌*◌, ◌≤◌, subst, arith}
+use Rattle.std.proofs.Common.{◌+◌, ◌*◌, ◌≤◌, length, sym, subst, arith}
 use Rattle.ready_jobs.specs.Spending.{wait_again}
+use Rattle.dover_model.proofs.Tests.{none_is_some}
+use Rattle.ready_jobs.proofs.Courses.{kept_on}
 use Rattle.ready_jobs.proofs.Costing.{both_at_most}
 use Rattle.ready_jobs.proofs.ready.Ready.step.Goals as goal
 
@@ -12,3 +14,23 @@ returns-in-Some-clause-once g c d fits =
     subst (λ hs. c.take.new.steps ≤ c.args.steps.now + 2 * d * (6 + wait_again e hs)) c.due_before.ensures.held
     (both_at_most _ _ _ _ _ (c.due_before.ensures.once d fits)
     (c.take.ensures.once d (omega (arith, fits, c.due_before.ensures.fewer))))
+
+pub returns-in-None-clause-paid : goal.returns-in-None-clause-paid
+returns-in-None-clause-paid g c = c.due_before.ensures.paid
+
+pub returns-in-None-clause-freely : goal.returns-in-None-clause-freely
+returns-in-None-clause-freely g c same = c.due_before.ensures.freely
+
+pub returns-in-None-clause-once : goal.returns-in-None-clause-once
+returns-in-None-clause-once g c d fits = omega (arith, c.due_before.ensures.once d fits)
+
+pub returns-in-Some-clause-freely : goal.returns-in-Some-clause-freely
+returns-in-Some-clause-freely g c none = none_is_some (sym none)
+
+pub returns-in-Some-clause-kept : goal.returns-in-Some-clause-kept
+returns-in-Some-clause-kept g c =
+    kept_on c.args.self.now c.due_before.new.self c.take.new.self c.due_before.ensures.kept c.take.ensures.kept
+
+pub returns-in-Some-clause-fewer : goal.returns-in-Some-clause-fewer
+returns-in-Some-clause-fewer g c =
+    subst (λ n. length c.take.new.self.ready ≤ n) c.due_before.ensures.fewer c.take.ensures.fewer

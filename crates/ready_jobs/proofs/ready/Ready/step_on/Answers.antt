@@ -1,9 +1,9 @@
-use Rattle.std.proofs.Common.{◌+◌, ◌*◌, ◌≤◌, sym, ap, ◌∙◌, subst, arith}
+use Rattle.std.proofs.Common.{◌+◌, ◌*◌, ◌≤◌, ◌<◌, length, sym, ap, ◌∙◌, subst, arith}
 use Rattle.dover_model.specs.declared.events.Event.TheVariants.{End}
 use Rattle.ready_jobs.specs.Course.{Course, Takes}
 use Rattle.ready_jobs.specs.Spending.{wait_again}
-use Rattle.ready_jobs.proofs.Costing.{both_at_most}
-use Rattle.ready_jobs.proofs.Courses.{over_takes}
+use Rattle.ready_jobs.proofs.Costing.{no_cost, both_at_most}
+use Rattle.ready_jobs.proofs.Courses.{over_takes, some_jobs, kept_on}
 use Rattle.ready_jobs.proofs.ready.Ready.step_on.Goals as goal
 
 pub returns-then-is_empty-clause-taken : goal.returns-then-is_empty-clause-taken
@@ -29,3 +29,20 @@ returns-clause-once g c d fits =
     subst (λ hs. c.take.new.steps ≤ c.args.steps.now + 2 * d * (6 + wait_again e hs)) c.due_next-due.ensures.held
     (both_at_most _ _ _ _ _ (c.due_next-due.ensures.once d fits)
     (c.take.ensures.once d (omega (arith, fits, c.due_next-due.ensures.fewer))))
+
+pub due_next-due-requires : goal.due_next-due-requires
+due_next-due-requires g c = record {
+  some = subst (λ (d : Course). 0 < length d.ready) c.self.view_is
+      (some_jobs _ c.is_empty.result c.if-is_empty.false c.is_empty.ensures.1);
+}
+
+pub returns-clause-kept : goal.returns-clause-kept
+returns-clause-kept g c =
+    kept_on c.args.self.now c.due_next-due.new.self c.take.new.self c.due_next-due.ensures.kept c.take.ensures.kept
+
+pub returns-clause-fewer : goal.returns-clause-fewer
+returns-clause-fewer g c =
+    subst (λ n. length c.take.new.self.ready ≤ n) c.due_next-due.ensures.fewer c.take.ensures.fewer
+
+pub returns-then-is_empty-clause-once : goal.returns-then-is_empty-clause-once
+returns-then-is_empty-clause-once g c d fits = no_cost _ _
