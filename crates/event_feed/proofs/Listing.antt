@@ -39,7 +39,7 @@ use Rattle.event_feed.specs.Answers.{AddsJob, AddsRefused, AddsDone, MovesMark, 
 use Rattle.event_feed.specs.Answers.{admitted_in}
 use Rattle.event_feed.specs.Kept as feed
 use Rattle.event_feed.specs.declared.fed.Fed.TheVariants as fed
-use Rattle.std.specs.Prelude.{Result, Ok, Err, OnOk, OnErr}
+use Rattle.std.specs.Prelude.{Result, Ok, Err, OnOk}
 use Rattle.event_feed.specs.declared.listed.DoneLine.{DoneLine}
 use Rattle.event_feed.specs.Listing.{ListsIn, StandsAmong, ComesBehind, AreInTurn, handed, with_early, with_right}
 use Rattle.event_feed.specs.Listing.{right_finishes}
@@ -358,11 +358,6 @@ module _ (a b : Account) (declared : Option (Fraction × Version)) (jobs : List 
         by_why : (b.mark ≢ tick) ⊎ (length jobs ≤ number) → ListsIn declared jobs dones b
         by_why (inl other) = by_less other (nat_lt tick a.mark) refl
         by_why (inr above) = none_listed above
-
--- whatever an error is
-pub err_any : {T E : Type 0} {P : Type 0} (r : Result T E) → P → OnErr r P
-err_any (Ok x) p = tt
-err_any (Err e) p = p
 
 -- two facts of a good answer
 pub on_ok_both : {T E : Type 0} (P Q : Type 0) (r : Result T E) → OnOk r P → OnOk r Q → OnOk r (P × Q)

@@ -1,7 +1,6 @@
 -- How a lane comes to owe what a line of its feed adds.
 use Rattle.std.proofs.Common.{◌≡◌, ◌<◌, ◌^◌, ℕ, List, [], ◌∷◌, ◌++◌, refl, sym, ap, ◌∙◌, subst, Option, Some, None}
-use Rattle.std.proofs.Common.{Bool, true, false, Result, Ok, Err, arith, max, ◌≤◌}
-use Rattle.std.specs.Prelude.{OnErr}
+use Rattle.std.proofs.Common.{Bool, true, false, Result, Ok, arith, max, ◌≤◌}
 use Rattle.std.proofs.lemmas.List.{append-nil}
 use Rattle.dover_model.specs.declared.events.Version.{Version}
 use Rattle.dover_model.specs.declared.events.Refusal.{Refusal}
@@ -262,11 +261,6 @@ over_stands lane ls line it over =
 -- the line that was answered so is the end
 pub over_fed : {E : Type 0} (fed : Fed) (r : Result Fed E) → r ≡ Ok fed → r ≡ Ok Over → fed ≡ Over
 over_fed fed r e f = cc
-
--- whatever an error is
-pub err_any : {T E : Type 0} (r : Result T E) (P : Type 0) → P → OnErr r P
-err_any (Ok x) P p = tt
-err_any (Err e) P p = p
 
 -- the ratio line declares the session
 pub ratio_declares : (k : Fraction) (version : Version) (a b : Account) → DeclaresRatio k version a b → IsDeclared b

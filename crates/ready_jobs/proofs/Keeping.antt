@@ -1,7 +1,7 @@
 -- The parts are kept where jobs go from one to another.
 use Rattle.std.proofs.Common.{◌-◌, ◌≡◌, ℕ, ◌+◌, ◌≤◌, ◌<◌, inl, inr, List, [], ◌∷◌, ◌++◌, length, map}
 use Rattle.std.proofs.Common.{refl, sym, ap, ◌∙◌, subst, arith}
-use Rattle.std.specs.Prelude.{Option, Some, None, Result, Ok, Err, OnErr}
+use Rattle.std.specs.Prelude.{Option, Some, None}
 use Rattle.std.specs.Option.{option_to_list, option_map}
 use Rattle.std.proofs.lemmas.List.{length-append, length-map}
 use Rattle.dover_model.specs.JobFacts.{JobFacts}
@@ -20,11 +20,6 @@ use Rattle.ready_jobs.specs.Changed.{made_wait}
 use Rattle.ready_jobs.specs.Reordered.{IsReordered}
 use Rattle.ready_jobs.specs.Short.{no_number}
 use Rattle.ready_jobs.proofs.Reordering.{as_many}
-
--- whatever an error is
-pub err_any : {T E P : Type 0} (r : Result T E) → P → OnErr r P
-err_any (Ok x) p = tt
-err_any (Err e) p = p
 
 -- the first held job runs on
 abbrev pub resumed_of : Parted → Parted

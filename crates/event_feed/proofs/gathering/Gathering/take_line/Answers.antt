@@ -13,7 +13,8 @@ use Rattle.event_feed.specs.Keeping.{Keeps}
 use Rattle.event_feed.specs.Kept as feed
 use Rattle.event_feed.specs.Kept.{fault_of}
 use Rattle.event_feed.specs.Listing.{offered_in}
-use Rattle.event_feed.proofs.Listing.{finds_room, left_all, err_any, ok_any}
+use Rattle.dover_model.proofs.Members.{err_any}
+use Rattle.event_feed.proofs.Listing.{finds_room, left_all, ok_any}
 use Rattle.event_feed.proofs.Listing.{goes_on, job_listed, job_admitted, refused_listed, tick_listed}
 use Rattle.event_feed.proofs.Listing.{kept_listed, done_admitted}
 use Rattle.event_feed.proofs.DoneLines.{done_standing}

@@ -1,9 +1,9 @@
 use Rattle.std.proofs.Common.{◌≡◌, IfSome, inl, inr, refl, sym, ◌∙◌, subst}
+use Rattle.dover_model.proofs.Members.{err_any}
 use Rattle.event_feed.specs.Answers.{IsFed, counted}
-use Rattle.lane_server.specs.Lane.{IsDeclared, AsksForMemory}
 use Rattle.lane_server.specs.Spending.{HasPaid}
 use Rattle.ready_server.specs.Rostering.{has_roster}
-use Rattle.lane_server.proofs.Taking.{tick_adds, over_adds, refused_job_adds, err_any, ratio_declares, job_declared}
+use Rattle.lane_server.proofs.Taking.{tick_adds, over_adds, refused_job_adds, ratio_declares, job_declared}
 use Rattle.lane_server.proofs.lane.Lane.take.Goals as goal
 
 pub returns-in-Ratio-clause-adds : goal.returns-in-Ratio-clause-adds
@@ -19,11 +19,11 @@ pub returns-in-Ratio-clause-roster : goal.returns-in-Ratio-clause-roster
 returns-in-Ratio-clause-roster c = c.declare.ensures.roster
 
 pub returns-in-Ratio-clause-lacks : goal.returns-in-Ratio-clause-lacks
-returns-in-Ratio-clause-lacks c = λ a b it. err_any c.declare.result (IsDeclared b)
+returns-in-Ratio-clause-lacks c = λ a b it. err_any c.declare.result
     (ratio_declares _ _ (counted a) b (subst (λ x. IsFed (counted a) b x) c.in-Ratio.is it))
 
 pub returns-in-Ratio-clause-asks : goal.returns-in-Ratio-clause-asks
-returns-in-Ratio-clause-asks c = λ a b it. err_any c.declare.result (AsksForMemory a b)
+returns-in-Ratio-clause-asks c = λ a b it. err_any c.declare.result
     (inl (_, _, subst (λ x. IsFed (counted a) b x) c.in-Ratio.is it))
 
 pub returns-in-Ratio-clause-intake : goal.returns-in-Ratio-clause-intake
@@ -40,11 +40,11 @@ pub returns-in-Job-clause-roster : goal.returns-in-Job-clause-roster
 returns-in-Job-clause-roster c = c.arrive.ensures.roster
 
 pub returns-in-Job-clause-lacks : goal.returns-in-Job-clause-lacks
-returns-in-Job-clause-lacks c = λ a b it. err_any c.arrive.result (IsDeclared b)
+returns-in-Job-clause-lacks c = λ a b it. err_any c.arrive.result
     (job_declared _ _ (counted a) b (subst (λ x. IsFed (counted a) b x) c.in-Job.is it))
 
 pub returns-in-Job-clause-asks : goal.returns-in-Job-clause-asks
-returns-in-Job-clause-asks c = λ a b it. err_any c.arrive.result (AsksForMemory a b)
+returns-in-Job-clause-asks c = λ a b it. err_any c.arrive.result
     (inr (_, _, subst (λ x. IsFed (counted a) b x) c.in-Job.is it))
 
 pub returns-in-Job-clause-intake : goal.returns-in-Job-clause-intake

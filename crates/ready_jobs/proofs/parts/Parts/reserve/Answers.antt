@@ -8,7 +8,8 @@ use Rattle.held_queue.proofs.Holding.{spare_kept}
 use Rattle.ready_jobs.specs.Pools.{Pooled}
 use Rattle.ready_jobs.specs.Parts.{Parted, AreParts}
 use Rattle.ready_jobs.specs.Kept.{parted_of}
-use Rattle.ready_jobs.proofs.Keeping.{err_any, held_fit, reserved_kept}
+use Rattle.dover_model.proofs.Members.{err_any}
+use Rattle.ready_jobs.proofs.Keeping.{held_fit, reserved_kept}
 use Rattle.ready_jobs.proofs.Pooling.{not_ok}
 use Rattle.ready_jobs.proofs.parts.Parts.reserve.Goals as goal
 
