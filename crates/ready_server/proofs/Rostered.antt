@@ -10,6 +10,8 @@ use Rattle.dover_model.specs.Settled.{settled}
 use Rattle.dover_model.specs.declared.horizon.Horizon.{Horizon}
 use Rattle.dover_model.specs.declared.horizon.Horizon.TheVariants.{Mark, End}
 use Rattle.dover_model.specs.Horizons.{MayFollow, due_by, Gives}
+use Rattle.dover_model.proofs.Members.{some_same}
+use Rattle.dover_model.proofs.Tests.{none_is_some}
 use Rattle.ready_jobs.proofs.Courses.{follows_count}
 use Rattle.ready_server.specs.Serving as ready
 use Rattle.ready_server.specs.declared.server.ReadyServer.{ReadyServer}
@@ -43,6 +45,18 @@ room_in (Some k) e other room = omega (arith, same_count k.roll e other, room)
 pub still_kept : (o : Option Kept) (e : Event) → is_some (option_map (with_step e) o) ≡ is_some o
 still_kept None e = refl
 still_kept (Some k) e = refl
+
+-- a roster that lists the same was kept from the same steps
+same_read : (o p : Option Kept) (events : List Event) → option_map (λ k. k.roll) p ≡ option_map (λ k. k.roll) o
+    → IsRollOf events o → IsRollOf events p
+same_read o None events same it = tt
+same_read None (Some k) events same it = none_is_some (sym same)
+same_read (Some l) (Some k) events same it = some_same k.roll l.roll same ∙ it
+
+pub read_same : (to : Horizon) (o p : Option Kept) (events : List Event)
+    → option_map (λ k. k.roll) p ≡ option_map (λ k. k.roll) o → HasRead to o events → HasRead to p events
+read_same (Mark t) o p events same it = same_read o p events same it
+read_same End o p events same it = tt
 
 -- what was read up to a mark
 marked : (from : Horizon) (t : ℕ) (o : Option Kept) (events : List Event) → MayFollow from (Mark t)

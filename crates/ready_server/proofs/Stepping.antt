@@ -380,7 +380,38 @@ rests_serves s J End rests = record {
   last = tt;
 }
 
+-- what is served is served with other room
+pub serves_roomy : (s : ReadyServer) (d : Course) → d ≡ record s.ready { room = d.room } → (J : Instance) (to : Horizon)
+    (events : List Event) → Serves s J to events → Serves (record s { ready = d }) J to events
+serves_roomy s d same J to events serves =
+    let it = serves.follows in
+    record {
+      state = serves.state;
+      follows = subst (λ c. Follows c J serves.state) (sym same) (record {
+        valid = it.valid;
+        keeps = it.keeps;
+        rules = it.rules;
+        own = it.own;
+        over = it.over;
+        clock = it.clock;
+        ready = it.ready;
+        jobs = it.jobs;
+        done = it.done;
+        known = it.known;
+        released = it.released;
+      });
+      given = serves.given;
+      last = serves.last;
+    }
+
 -- ---- room
+
+-- there is as much room behind a step by which no more jobs are ready
+pub place_behind : (c d : Course) → length d.ready ≤ length c.ready → d.room ≡ c.room
+    → min (length c.ready + 1) most_ready ≤ c.room → min (length d.ready + 1) most_ready ≤ d.room
+place_behind c d fewer same place =
+    let made : min (length c.ready + 1) 1_000_000 ≤ c.room = place in
+    let left : min (length d.ready + 1) 1_000_000 ≤ d.room = omega (arith, fewer, same) in left
 
 -- there is room for one ready job more, unless as many are ready as may be, once it is made
 pub place_made : (s : ReadyServer) (d : Course) (more : ℕ) (r : Result Unit Memory)

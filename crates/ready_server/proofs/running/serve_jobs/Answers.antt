@@ -55,3 +55,6 @@ returns-clause-count g c = λ J from start shown can paid.
     some_few _ _ J from _ _ it start c.loop-job.steps
     (c.laws.ensures.few c.loop-job.server it.served it.to it.shown.events start c.loop-job.steps
     it.shown.served (c.loop-job.invariant.paid start paid))
+
+pub returns-clause-paid : goal.returns-clause-paid
+returns-clause-paid g c = λ start paid. c.loop-job.invariant.paid start paid

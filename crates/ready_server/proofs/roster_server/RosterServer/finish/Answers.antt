@@ -40,3 +40,17 @@ returns-clause-place c room = record { place = c.in-Some.ensures.place room.plac
 
 pub returns-clause-roster : goal.returns-clause-roster
 returns-clause-roster c = ap is_some c.read_into.ensures ∙ still_kept c.args.self.now.roster c.in-Some.event
+
+pub returns-clause-paid : goal.returns-clause-paid
+returns-clause-paid c = c.in-Some.ensures.paid
+
+pub returns-in_default-clause-room : goal.returns-in_default-clause-room
+returns-in_default-clause-room c room =
+    record { place = c.in_default.ensures.room room.place; listed = room.listed }
+
+pub returns-in_default-clause-place : goal.returns-in_default-clause-place
+returns-in_default-clause-place c room =
+    record { place = c.in_default.ensures.place room.place; listed = room.listed }
+
+pub returns-in_default-clause-paid : goal.returns-in_default-clause-paid
+returns-in_default-clause-paid c = c.in_default.ensures.paid

@@ -2,7 +2,7 @@ use Rattle.std.proofs.Common.{refl, ap, ◌∙◌, subst, sym, [], ◌∷◌, �
 use Rattle.std.specs.Prelude.{is_some}
 use Rattle.dover_model.specs.Horizons.{MayFollow}
 use Rattle.ready_server.specs.Serving as ready
-use Rattle.ready_server.specs.Rostering.{Serves}
+use Rattle.ready_server.specs.Rostering.{Serves, HasRead}
 use Rattle.ready_server.specs.Roster.{HasLine}
 use Rattle.ready_server.specs.declared.roster_server.RosterServer.{RosterServer}
 use Rattle.ready_server.proofs.Rostered.{few_takes, none_released, place_left, read_next, rests_now, still_kept}
@@ -61,3 +61,32 @@ returns-in-Mark-clause-place g c room = record {
 
 pub returns-in-Mark-clause-roster : goal.returns-in-Mark-clause-roster
 returns-in-Mark-clause-roster g c = ap is_some c.read_into.ensures ∙ still_kept c.args.self.now.roster c.in-Some.event
+
+pub returns-in_default-clause-room : goal.returns-in_default-clause-room
+returns-in_default-clause-room g c room =
+    record { place = c.in_default.ensures.room room.place; listed = room.listed }
+
+pub returns-in_default-clause-place : goal.returns-in_default-clause-place
+returns-in_default-clause-place g c room =
+    record { place = c.in_default.ensures.place room.place; listed = room.listed }
+
+pub returns-in_default-clause-paid : goal.returns-in_default-clause-paid
+returns-in_default-clause-paid g c = c.in_default.ensures.paid
+
+pub returns-in-Mark-clause-paid : goal.returns-in-Mark-clause-paid
+returns-in-Mark-clause-paid g c = c.in-Some.ensures.paid
+
+pub returns-in-End-clause-gives : goal.returns-in-End-clause-gives
+returns-in-End-clause-gives g c J from events it may = record {
+  served = c.in-Some.ensures.gives J from events it.served may;
+  read = subst (λ to. HasRead to c.args.self.now.roster (events ++ c.in-Some.event ∷ [])) (sym c.in-End.is) tt;
+}
+
+pub returns-in-End-clause-room : goal.returns-in-End-clause-room
+returns-in-End-clause-room g c room = record { place = c.in-Some.ensures.room room.place; listed = room.listed }
+
+pub returns-in-End-clause-place : goal.returns-in-End-clause-place
+returns-in-End-clause-place g c room = record { place = c.in-Some.ensures.place room.place; listed = room.listed }
+
+pub returns-in-End-clause-paid : goal.returns-in-End-clause-paid
+returns-in-End-clause-paid g c = c.in-Some.ensures.paid

@@ -1,6 +1,8 @@
-use Rattle.std.proofs.Common.{ap, refl, sym, ◌∙◌, arith}
+use Rattle.std.proofs.Common.{ap, refl, sym, subst, ◌∙◌, arith}
 use Rattle.ready_jobs.specs.Course.{Course}
+use Rattle.ready_server.proofs.Stepping.{place_behind}
 use Rattle.ready_server.proofs.Finishing.{late_wrong, other_wrong, clock_there, number_small, finish_given}
+use Rattle.ready_jobs.specs.Spending.{HasPaidSince}
 use Rattle.ready_server.proofs.server.ReadyServer.finish.Goals as goal
 
 pub returns-then-self-at-clause-finishes : goal.returns-then-self-at-clause-finishes
@@ -47,3 +49,35 @@ returns-clause-clock c =
     ap (λ (d : Course). d.clock) c.finish.ensures.kept ∙ sym it.1.follows.clock
     ∙ clock_there c.args.self.now it.0 c.args.at it.1 c.args.number c.finish.new.self
     (c.finish.ensures.yes c.if-not-finish.false)
+
+pub returns-then-not-finish-clause-spare : goal.returns-then-not-finish-clause-spare
+returns-then-not-finish-clause-spare c = omega (arith, c.finish.ensures.fewer, ap (λ (d : Course). d.room) c.finish.ensures.kept)
+
+pub returns-then-not-finish-clause-room : goal.returns-then-not-finish-clause-room
+returns-then-not-finish-clause-room c place =
+    omega (arith, place, c.finish.ensures.fewer, ap (λ (d : Course). d.room) c.finish.ensures.kept)
+
+pub returns-then-not-finish-clause-place : goal.returns-then-not-finish-clause-place
+returns-then-not-finish-clause-place c place =
+    place_behind c.args.self.now.ready c.finish.new.self c.finish.ensures.fewer (ap (λ (d : Course). d.room) c.finish.ensures.kept) place
+
+pub returns-then-not-finish-clause-room_stays : goal.returns-then-not-finish-clause-room_stays
+returns-then-not-finish-clause-room_stays c = ap (λ (d : Course). d.room) c.finish.ensures.kept
+
+pub returns-clause-spare : goal.returns-clause-spare
+returns-clause-spare c = omega (arith, c.finish.ensures.fewer, ap (λ (d : Course). d.room) c.finish.ensures.kept)
+
+pub returns-clause-room : goal.returns-clause-room
+returns-clause-room c place =
+    omega (arith, place, c.finish.ensures.fewer, ap (λ (d : Course). d.room) c.finish.ensures.kept)
+
+pub returns-clause-place : goal.returns-clause-place
+returns-clause-place c place =
+    place_behind c.args.self.now.ready c.finish.new.self c.finish.ensures.fewer (ap (λ (d : Course). d.room) c.finish.ensures.kept) place
+
+pub returns-clause-room_stays : goal.returns-clause-room_stays
+returns-clause-room_stays c = ap (λ (d : Course). d.room) c.finish.ensures.kept
+
+pub returns-then-not-finish-clause-paid : goal.returns-then-not-finish-clause-paid
+returns-then-not-finish-clause-paid c start now paid =
+    subst (λ d. HasPaidSince d c.args.self.now.last start now) (sym (c.finish.ensures.no c.if-not-finish.true).1) paid

@@ -1,6 +1,7 @@
 use Rattle.std.proofs.Common.{sym, ap, ◌∙◌, arith}
 use Rattle.dover_model.specs.Horizons.{is_end_given}
-use Rattle.ready_server.proofs.Stepping.{mark_low, mark_rested, mark_stepped, no_end_before}
+use Rattle.ready_jobs.specs.Course.{Course}
+use Rattle.ready_server.proofs.Stepping.{mark_low, mark_rested, mark_stepped, no_end_before, place_behind}
 use Rattle.ready_server.proofs.server.ReadyServer.step_to.Goals as goal
 
 pub step-requires-clause-low : goal.step-requires-clause-low
@@ -35,3 +36,37 @@ returns-clause-paid g c start paid = record {
   paid = c.step.ensures.paid start paid.paid;
   freely = λ less. absurd (omega (arith, less, c.clock-self.ensures.is));
 }
+
+pub returns-in_default-clause-spare : goal.returns-in_default-clause-spare
+returns-in_default-clause-spare g c = omega (arith, c.step.ensures.fewer, ap (λ (d : Course). d.room) c.step.ensures.kept)
+
+pub returns-in_default-clause-room : goal.returns-in_default-clause-room
+returns-in_default-clause-room g c place =
+    omega (arith, place, c.step.ensures.fewer, ap (λ (d : Course). d.room) c.step.ensures.kept)
+
+pub returns-in_default-clause-place : goal.returns-in_default-clause-place
+returns-in_default-clause-place g c place =
+    place_behind c.args.self.now.ready c.step.new.self c.step.ensures.fewer (ap (λ (d : Course). d.room) c.step.ensures.kept) place
+
+pub returns-in_default-clause-room_stays : goal.returns-in_default-clause-room_stays
+returns-in_default-clause-room_stays g c = ap (λ (d : Course). d.room) c.step.ensures.kept
+
+pub returns-in_default-clause-once : goal.returns-in_default-clause-once
+returns-in_default-clause-once g c = c.in_default.ensures.once
+
+pub returns-clause-spare : goal.returns-clause-spare
+returns-clause-spare g c = omega (arith, c.step.ensures.fewer, ap (λ (d : Course). d.room) c.step.ensures.kept)
+
+pub returns-clause-room : goal.returns-clause-room
+returns-clause-room g c place =
+    omega (arith, place, c.step.ensures.fewer, ap (λ (d : Course). d.room) c.step.ensures.kept)
+
+pub returns-clause-place : goal.returns-clause-place
+returns-clause-place g c place =
+    place_behind c.args.self.now.ready c.step.new.self c.step.ensures.fewer (ap (λ (d : Course). d.room) c.step.ensures.kept) place
+
+pub returns-clause-room_stays : goal.returns-clause-room_stays
+returns-clause-room_stays g c = ap (λ (d : Course). d.room) c.step.ensures.kept
+
+pub returns-clause-once : goal.returns-clause-once
+returns-clause-once g c = c.in-Some.ensures.once

@@ -1,0 +1,10 @@
+use Rattle.std.proofs.Common.{ap, ◌∙◌}
+use Rattle.ready_server.specs.Roster.{Kept}
+use Rattle.ready_server.proofs.roster.Roster.read.Goals as goal
+
+pub returns-in-Take-clause-room : goal.returns-in-Take-clause-room
+returns-in-Take-clause-room c =
+    c.start-in-Take.ensures.room ∙ ap (λ (k : Kept). k.room) c.self-in-Take.view_is ∙ c.halt-in-Take.ensures.room
+
+pub returns-in-Preempt-clause-room : goal.returns-in-Preempt-clause-room
+returns-in-Preempt-clause-room c = c.start-in-Preempt.ensures.room ∙ c.halt.ensures.room
