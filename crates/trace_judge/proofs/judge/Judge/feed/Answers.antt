@@ -1,6 +1,7 @@
-use Rattle.std.proofs.Common.{sym, ap, ◌∙◌}
+use Rattle.std.proofs.Common.{◌≡◌, sym, ap, ◌∙◌}
 use Rattle.std.proofs.lemmas.List.{take_rest}
 use Rattle.dover_model.proofs.Tests.{never}
+use Rattle.trace_judge.specs.declared.judge.Found.TheVariants.{Good, NoMemory}
 use Rattle.trace_judge.specs.Judging.{Judged}
 use Rattle.trace_judge.proofs.Judging.{err_of, none_of, wrong_fed, good_not_wrong, stands_good, stands_not}
 use Rattle.trace_judge.proofs.Spending.{pays_none}
@@ -66,3 +67,7 @@ returns-in-NoMemory-clause-decided g c text stands _ = absurd (stands_not c.args
 
 pub returns-in-NoMemory-clause-failed : goal.returns-in-NoMemory-clause-failed
 returns-in-NoMemory-clause-failed g c = ap (λ (j : Judged). j.found) (sym c.self.view_is) ∙ c.in-NoMemory.is
+
+pub returns-clause-stays : goal.returns-clause-stays
+returns-clause-stays g c none =
+    let clash : Good ≡ NoMemory = sym c.in-Good.is ∙ ap (λ (j : Judged). j.found) c.self.view_is ∙ none in cc

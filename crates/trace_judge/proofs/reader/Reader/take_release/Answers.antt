@@ -2,6 +2,7 @@ use Rattle.std.proofs.Common.{◌≤◌, ℕ, List, ◌∙◌, sym, ap, subst, a
 use Rattle.dover_model.specs.Session.{Session, instance_of}
 use Rattle.dover_model.specs.State.{State}
 use Rattle.dover_model.specs.Leading.{WaitsUntil}
+use Rattle.dover_model.proofs.JobLimits.{job_limits}
 use Rattle.admission.specs.Kept.{Kept, HasRoom}
 use Rattle.trace_judge.specs.Reads.{Reading, ReadsAhead, Goes, Waited, CanRelease}
 use Rattle.trace_judge.proofs.Judging.{none_of}
@@ -148,3 +149,7 @@ admit-requires-clause-spare g c = c.in_ok-make_room.ensures.ok
 
 pub waits_until-requires-clause-going : goal.waits_until-requires-clause-going
 waits_until-requires-clause-going g c = c.requires.going
+
+pub waits_until-requires-clause-known : goal.waits_until-requires-clause-known
+waits_until-requires-clause-known g c =
+    let limits = job_limits c.release.ensures.job in omega (arith, c.release.ensures.is, limits.window, limits.due)

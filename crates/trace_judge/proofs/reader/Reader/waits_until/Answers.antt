@@ -1,4 +1,5 @@
 use Rattle.std.proofs.Common.{◌∙◌, sym, ap, subst, arith}
+use Rattle.dover_model.proofs.Tests.{never}
 use Rattle.trace_judge.specs.Reads.{IsPaid}
 use Rattle.trace_judge.specs.Reads.{Reading}
 use Rattle.trace_judge.proofs.Paying.{paid_on}
@@ -35,3 +36,17 @@ pub returns-clause-paid : goal.returns-clause-paid
 returns-clause-paid g c start paid = paid_on _ c.settle.new.self _ start c.args.steps.now c.settle.new.steps
     (subst (λ (r : Reading). IsPaid r start c.args.steps.now) (sym c.self.view_is) paid)
     (c.settle.ensures.paid start) (c.settle.ensures.freely start)
+
+pub returns-clause-kept : goal.returns-clause-kept
+returns-clause-kept g c =
+    ap (λ (r : Reading). record r { course = c.settle.new.self }) c.self.view_is
+
+pub returns-then-self-tick-clause-no : goal.returns-then-self-tick-clause-no
+returns-then-self-tick-clause-no g c _ floor _ _ _ _ _ _ =
+    absurd (omega (arith, floor, c.if-self-tick.true, ap (λ (r : Reading). r.floor) c.self.view_is))
+
+pub returns-then-self-tick-clause-yes : goal.returns-then-self-tick-clause-yes
+returns-then-self-tick-clause-yes g c clash = never clash
+
+pub returns-then-clock-tick-clause-yes : goal.returns-then-clock-tick-clause-yes
+returns-then-clock-tick-clause-yes g c clash = never clash
