@@ -1,5 +1,5 @@
-use Rattle.std.proofs.Common.{◌++◌, ap, ◌∙◌, subst, append_assoc, take, drop}
-use Rattle.std.proofs.lemmas.List.{take-append-drop}
+use Rattle.std.proofs.Common.{◌++◌, sym, ap, ◌∙◌, subst, append_assoc, take, drop, arith}
+use Rattle.std.proofs.lemmas.List.{take-append-drop, length-take-le}
 use Rattle.dover_model.specs.Feed.{account}
 use Rattle.event_feed.proofs.Admitting.{declared_front}
 use Rattle.lane_server.specs.Lane.{IsDeclared}
@@ -12,3 +12,43 @@ returns-in-Err-clause-takes c = λ x at goes.
     subst (λ z. IsDeclared (account z))
     (append_assoc x (take n piece) (drop n piece) ∙ ap (λ l. x ++ l) (take-append-drop n piece))
     (declared_front (x ++ take n piece) (drop n piece) (c.in-Err.ensures.hands x at goes))
+
+pub returns-in-Ok-clause-takes : goal.returns-in-Ok-clause-takes
+returns-in-Ok-clause-takes c =
+    λ x at goes. (c.front-count.ensures.some, c.front-count.ensures.within, c.in-Ok.ensures.hands x at goes)
+
+pub returns-in-Ok-clause-paid : goal.returns-in-Ok-clause-paid
+returns-in-Ok-clause-paid c = c.in-Ok.ensures.paid
+
+pub returns-in-Ok-clause-roster : goal.returns-in-Ok-clause-roster
+returns-in-Ok-clause-roster c = c.in-Ok.ensures.roster
+
+pub returns-in-Err-clause-paid : goal.returns-in-Err-clause-paid
+returns-in-Err-clause-paid c = λ x start now at paid. tt
+
+pub returns-in-Err-clause-roster : goal.returns-in-Err-clause-roster
+returns-in-Err-clause-roster c = c.in-Err.ensures.roster
+
+pub front-count-requires : goal.front-count-requires
+front-count-requires c = c.requires.some
+
+pub slice_bounds-take_front-end : goal.slice_bounds-take_front-end
+slice_bounds-take_front-end c =
+    sym (length-take-le c.front-count.result c.args.piece.now c.front-count.ensures.within)
+
+pub take_front-requires-clause-some : goal.take_front-requires-clause-some
+take_front-requires-clause-some c = omega (
+  arith,
+  length-take-le c.front-count.result c.args.piece.now c.front-count.ensures.within,
+  c.front-count.ensures.some,
+)
+
+pub take_front-requires-clause-whole : goal.take_front-requires-clause-whole
+take_front-requires-clause-whole c = λ long. c.front-count.ensures.whole (omega (
+  arith,
+  length-take-le c.front-count.result c.args.piece.now c.front-count.ensures.within,
+  long,
+))
+
+pub take_front-requires-clause-rests : goal.take_front-requires-clause-rests
+take_front-requires-clause-rests c = c.requires.rests

@@ -1,6 +1,8 @@
 use Rattle.std.proofs.Common.{◌≡◌, IfSome, inl, inr, refl, sym, ◌∙◌, subst}
+use Rattle.std.specs.Prelude.{OnOk}
 use Rattle.dover_model.proofs.Members.{err_any}
 use Rattle.event_feed.specs.Answers.{IsFed, counted}
+use Rattle.lane_server.specs.Lane.{TurnsTo}
 use Rattle.lane_server.specs.Spending.{HasPaid}
 use Rattle.ready_server.specs.Rostering.{has_roster}
 use Rattle.lane_server.proofs.Taking.{tick_adds, over_adds, refused_job_adds, ratio_declares, job_declared}
@@ -139,3 +141,11 @@ returns-in-Done-clause-roster c = λ listed it. record {
   asked = c.finish_at.ensures.listed ∙ it.asked;
   kept = subst (λ o. IfSome o (λ v. has_roster v ≡ listed)) (sym c.finish_at.ensures.server) it.kept;
 }
+
+pub returns-in-Job-clause-turns : goal.returns-in-Job-clause-turns
+returns-in-Job-clause-turns c =
+    subst (λ x. OnOk c.arrive.result (TurnsTo x c.arrive.new.self.work)) (sym c.in-Job.is) c.arrive.ensures.work
+
+pub returns-in-Done-clause-turns : goal.returns-in-Done-clause-turns
+returns-in-Done-clause-turns c =
+    subst (λ x. TurnsTo x c.finish_at.new.self.work) (sym c.in-Done.is) c.finish_at.ensures.work
