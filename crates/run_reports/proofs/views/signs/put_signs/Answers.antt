@@ -1,6 +1,8 @@
-use Rattle.std.proofs.Common.{◌+◌, ◌++◌, ◌∷◌, [], ap, ◌∙◌}
-use Rattle.run_reports.specs.views.Timeline.{sign, first_tick}
+use Rattle.std.proofs.Common.{◌+◌, ◌++◌, ◌∷◌, [], ap, ◌∙◌, ℕ, ◌-◌, append_assoc}
+use Rattle.run_reports.specs.views.Timeline.{sign, first_tick, blanks, column_of, signs_from}
 use Rattle.run_reports.proofs.views.Drawing.{signs_more}
+use Rattle.run_reports.specs.views.Templates.{Text}
+use Rattle.std.specs.Prelude.{min}
 use Rattle.run_reports.proofs.views.signs.put_signs.Goals as goal
 
 pub loop-column-preserved : goal.loop-column-preserved
@@ -11,3 +13,16 @@ loop-column-preserved c = signs_more c.args.window.now c.args.own.now c.args.end
     ∙ ap (λ b. sign (first_tick c.args.window.now c.loop-column.column) b c.args.own.now c.args.ending)
     c.end_tick-until.ensures))
     c.loop-column.invariant
+
+pub loop-column-init : goal.loop-column-init
+loop-column-init c =
+    let w = c.args.window.now in
+    let first = c.column_of-first.result in
+    let last = c.column_of-last.result in
+    let text = c.args.text.now.items in
+    let rest : ℕ → ℕ → Text = λ from to. signs_from w c.args.own.now c.args.ending (to + 1 - from) from in
+    ap (λ t. t ++ rest first last) c.in_ok-put_blanks.ensures ∙ append_assoc text (blanks first) (rest first last)
+    ∙ ap (λ n. text ++ (blanks n ++ rest n last)) (c.column_of-first.ensures.is ∙ ap (column_of w) c.release.ensures.is)
+    ∙ ap (λ m. text ++ (blanks (column_of w c.args.job.now.release) ++ rest (column_of w c.args.job.now.release) m))
+    (c.column_of-last.ensures.is ∙ ap (column_of w) (c.saturating_sub.ensures
+    ∙ ap (λ n. n - 1) (c.min.ensures ∙ ap (λ d. min d w.until) c.deadline.ensures.is)))

@@ -1,9 +1,10 @@
-use Rattle.std.proofs.Common.{[], ◌∷◌, ◌-◌, refl}
+use Rattle.std.proofs.Common.{[], ◌∷◌, ◌-◌, refl, arith}
 use Rattle.std.specs.Prelude.{codes}
 use Rattle.std.proofs.lemmas.Result.{IfOk-equal}
 use Rattle.run_reports.specs.views.Templates.{filled}
 use Rattle.run_reports.specs.views.Why.{least_heavy, square, tested}
 use Rattle.run_reports.proofs.views.Joining.{joined}
+use Rattle.dover_model.proofs.JobLimits.{ratio_limits}
 use Rattle.run_reports.proofs.views.story.put_tested.Goals as goal
 
 pub returns : goal.returns
@@ -30,3 +31,18 @@ returns c = IfOk-equal c.put-2.result _ _ _ (rw c.least_heavy.ensures.is at c.pu
         ),
       ),
     ))
+
+pub put_square-requires-clause-part : goal.put_square-requires-clause-part
+put_square-requires-clause-part c = omega (arith, c.q.ensures.is, (ratio_limits c.q.ensures.ratio).small_q)
+
+pub put_square-requires-clause-value : goal.put_square-requires-clause-value
+put_square-requires-clause-value c = omega (arith, c.saturating_sub-more.ensures, c.requires.value)
+
+pub put_square-requires-2-clause-part : goal.put_square-requires-2-clause-part
+put_square-requires-2-clause-part c = omega (arith, c.p.ensures.is, (ratio_limits c.p.ensures.ratio).small_p)
+
+pub put_square-requires-2-clause-value : goal.put_square-requires-2-clause-value
+put_square-requires-2-clause-value c = c.requires.worth
+
+pub least_heavy-requires : goal.least_heavy-requires
+least_heavy-requires c = c.requires.worth

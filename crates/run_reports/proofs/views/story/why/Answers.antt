@@ -1,10 +1,12 @@
-use Rattle.std.proofs.Common.{[], length, refl, sym, ap, ◌∙◌}
+use Rattle.std.proofs.Common.{[], length, refl, sym, ap, ◌∙◌, ◌≤◌, subst, arith}
 use Rattle.std.specs.Prelude.{slice_get}
 use Rattle.std.proofs.lemmas.Option.{slice_get_past, slice_get_read}
-use Rattle.std.proofs.lemmas.Result.{IfOk-weaker}
+use Rattle.std.proofs.lemmas.Result.{IfOk-weaker, IfOk-from_err}
 use Rattle.run_reports.specs.views.Why.{unknown}
 use Rattle.run_reports.proofs.views.Stepping.{same_length, rooms_length}
 use Rattle.run_reports.proofs.views.Telling.{same_jobs, why_none, why_some}
+use Rattle.std.specs.List.{AllByRecursion}
+use Rattle.dover_model.proofs.JobLimits.{job_limits}
 use Rattle.run_reports.proofs.views.story.why.Goals as goal
 
 pub returns-in_default : goal.returns-in_default
@@ -62,3 +64,15 @@ returns c J of = why_some c.args.k c.args.run.now J of c.args.number c.deref-4.r
     (same_jobs c.args.k c.args.run.now J of c.args.number c.deref-2.result.now
     (c.deref-2.ensures.value ∙ c.in_ok-jobs.ensures)))
     c.new-text.ensures.items c.in_ok-put_asked.ensures (rw c.value.ensures.is at c.in_ok-put_story.ensures)
+
+pub put_story-requires-clause-value : goal.put_story-requires-clause-value
+put_story-requires-clause-value c =
+    omega (arith, c.value.ensures.is, (job_limits c.value.ensures.job).modest)
+
+pub put_story-requires-clause-small : goal.put_story-requires-clause-small
+put_story-requires-clause-small c = subst (AllByRecursion (λ worth. worth ≤ 10_000_000_000_000))
+    (sym c.deref-6.ensures.value) c.in_ok-worths.ensures.small
+
+pub returns-in_err-put_story : goal.returns-in_err-put_story
+returns-in_err-put_story c _ _ =
+    IfOk-from_err c.from_residual-in_err-put_story.result _ c.from_residual-in_err-put_story.ensures.0

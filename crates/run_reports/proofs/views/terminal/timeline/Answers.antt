@@ -3,6 +3,7 @@ use Rattle.run_reports.specs.report.Counts.{counts_lines}
 use Rattle.run_reports.proofs.report.Counting.{few_steps, value_small, summary_is}
 use Rattle.run_reports.specs.views.Timeline.{job_lines, window_or}
 use Rattle.run_reports.proofs.views.Drawing.{drawn}
+use Rattle.std.proofs.lemmas.Result.{IfOk-from_err}
 use Rattle.run_reports.proofs.views.terminal.timeline.Goals as goal
 
 pub count-requires-clause-steps : goal.count-requires-clause-steps
@@ -28,3 +29,11 @@ returns c J of = drawn c.args.k c.args.run.now J of c.args.window c.window_or-wi
     (c.in_ok-put_jobs.ensures
     ∙ ap (λ js. c.put_frame.new.text.items ++ job_lines c.window_or-window.result c.args.run.now 0 js)
     c.deref-3.ensures.value)
+
+pub returns-in_err-put_jobs : goal.returns-in_err-put_jobs
+returns-in_err-put_jobs c _ _ =
+    IfOk-from_err c.from_residual-in_err-put_jobs.result _ c.from_residual-in_err-put_jobs.ensures.0
+
+pub returns-in_err-put_frame : goal.returns-in_err-put_frame
+returns-in_err-put_frame c _ _ =
+    IfOk-from_err c.from_residual-in_err-put_frame.result _ c.from_residual-in_err-put_frame.ensures.0
