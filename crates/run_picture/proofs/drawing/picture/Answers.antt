@@ -1,7 +1,7 @@
-use Rattle.std.proofs.Common.{◌≡◌, refl, ap, ◌∙◌}
-use Rattle.std.proofs.lemmas.Result.{IfOk-weaker}
+use Rattle.std.proofs.Common.{◌≡◌, refl, ap, ◌∙◌, arith}
+use Rattle.std.proofs.lemmas.Result.{IfOk-weaker, IfOk-from_err}
 use Rattle.run_reports.specs.report.Counts.{counts_of, jobs_released}
-use Rattle.run_reports.proofs.report.Counting.{few_steps}
+use Rattle.run_reports.proofs.report.Counting.{few_steps, value_small}
 use Rattle.run_reports.proofs.views.Stepping.{same_length}
 use Rattle.run_reports.specs.views.Templates.{Text}
 use Rattle.run_picture.specs.Pictures.{window_of, drawn, totals, picture}
@@ -51,3 +51,19 @@ returns c J of =
     (c.window_of-window.ensures.is ∙ ap (window_of c.args.asked) shown)
     (last ∙ ap (λ js. drawn 400 window title seen js run pieces rows) put) in
     IfOk-weaker c.drawn.result _ _ (λ written. finish written.items) c.drawn.ensures
+
+pub count-counts-requires-clause-total : goal.count-counts-requires-clause-total
+count-counts-requires-clause-total c =
+    omega (
+      arith,
+      c.value.ensures,
+      c.in_ok-charge.ensures.value c.requires.0 c.requires.1,
+      value_small c.args.k c.args.run.now c.requires.0 c.requires.1,
+    )
+
+pub drawn-requires-clause-from : goal.drawn-requires-clause-from
+drawn-requires-clause-from c = c.window_of-window.ensures.from
+
+pub returns-in_err-pieces : goal.returns-in_err-pieces
+returns-in_err-pieces c _ _ =
+    IfOk-from_err c.from_residual-in_err-pieces.result _ c.from_residual-in_err-pieces.ensures.0

@@ -1,4 +1,5 @@
-use Rattle.std.proofs.Common.{[], ◌∷◌, refl, ◌+◌, ◌*◌, false}
+use Rattle.std.proofs.Common.{[], ◌∷◌, refl, ◌+◌, ◌*◌, false, arith}
+use Rattle.std.proofs.lemmas.Nat.{mul-le}
 use Rattle.std.proofs.lemmas.Result.{IfOk-equal}
 use Rattle.run_reports.proofs.views.Joining.{joined}
 use Rattle.run_picture.specs.Lanes.{height, unit_of}
@@ -33,3 +34,14 @@ returns c =
         (_, refl, refl),
       ),
     ))
+
+pub put_under-requires-clause-bottom : goal.put_under-requires-clause-bottom
+put_under-requires-clause-bottom c = omega (arith, mul-le c.unit_of-unit.result c.height-high.result 18 4_294_967_296
+    c.unit_of-unit.ensures.modest c.height-high.ensures.modest)
+
+pub put_over-requires-clause-bottom : goal.put_over-requires-clause-bottom
+put_over-requires-clause-bottom c = omega (arith, mul-le c.unit_of-unit.result c.height-high.result 18 4_294_967_296
+    c.unit_of-unit.ensures.modest c.height-high.ensures.modest)
+
+pub put_over-requires-clause-steps : goal.put_over-requires-clause-steps
+put_over-requires-clause-steps c = c.requires.steps
