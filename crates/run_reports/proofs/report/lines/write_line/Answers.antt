@@ -1,4 +1,4 @@
-use Rattle.std.proofs.Common.{◌≡◌, ◌≤◌, ◌<◌, ◌+◌, ◌*◌, ◌-◌, ◌^◌, ◌++◌, ◌∷◌, [], ℕ, List, drop, length, get_or}
+use Rattle.std.proofs.Common.{◌≡◌, ◌≤◌, ◌<◌, ◌+◌, ◌-◌, ◌^◌, ◌++◌, ◌∷◌, [], ℕ, List, drop, length, get_or}
 use Rattle.std.proofs.Common.{slice_set, append_assoc, ap, sym, ◌∙◌, arith, rules}
 use Rattle.std.proofs.lemmas.List.{drop-set, drop_all, length-set, length-drop, length-take-le}
 use borrow.Rule.Slice.PartMut.{put_mid}
