@@ -51,7 +51,8 @@ returns-clause-clock c =
     (c.finish.ensures.yes c.if-not-finish.false)
 
 pub returns-then-not-finish-clause-spare : goal.returns-then-not-finish-clause-spare
-returns-then-not-finish-clause-spare c = omega (arith, c.finish.ensures.fewer, ap (λ (d : Course). d.room) c.finish.ensures.kept)
+returns-then-not-finish-clause-spare c =
+    omega (arith, c.finish.ensures.fewer, ap (λ (d : Course). d.room) c.finish.ensures.kept)
 
 pub returns-then-not-finish-clause-room : goal.returns-then-not-finish-clause-room
 returns-then-not-finish-clause-room c place =
@@ -59,7 +60,8 @@ returns-then-not-finish-clause-room c place =
 
 pub returns-then-not-finish-clause-place : goal.returns-then-not-finish-clause-place
 returns-then-not-finish-clause-place c place =
-    place_behind c.args.self.now.ready c.finish.new.self c.finish.ensures.fewer (ap (λ (d : Course). d.room) c.finish.ensures.kept) place
+    place_behind c.args.self.now.ready c.finish.new.self c.finish.ensures.fewer
+    (ap (λ (d : Course). d.room) c.finish.ensures.kept) place
 
 pub returns-then-not-finish-clause-room_stays : goal.returns-then-not-finish-clause-room_stays
 returns-then-not-finish-clause-room_stays c = ap (λ (d : Course). d.room) c.finish.ensures.kept
@@ -73,7 +75,8 @@ returns-clause-room c place =
 
 pub returns-clause-place : goal.returns-clause-place
 returns-clause-place c place =
-    place_behind c.args.self.now.ready c.finish.new.self c.finish.ensures.fewer (ap (λ (d : Course). d.room) c.finish.ensures.kept) place
+    place_behind c.args.self.now.ready c.finish.new.self c.finish.ensures.fewer
+    (ap (λ (d : Course). d.room) c.finish.ensures.kept) place
 
 pub returns-clause-room_stays : goal.returns-clause-room_stays
 returns-clause-room_stays c = ap (λ (d : Course). d.room) c.finish.ensures.kept

@@ -64,7 +64,8 @@ returns-then-self-clause-gives g c J from events serves =
     given_before c.args.self.now J from events serves c.if-self.true
 
 pub returns-then-is_end-clause-spare : goal.returns-then-is_end-clause-spare
-returns-then-is_end-clause-spare g c = omega (arith, c.step_on-event.ensures.fewer, ap (λ (d : Course). d.room) c.step_on-event.ensures.kept)
+returns-then-is_end-clause-spare g c =
+    omega (arith, c.step_on-event.ensures.fewer, ap (λ (d : Course). d.room) c.step_on-event.ensures.kept)
 
 pub returns-then-is_end-clause-room : goal.returns-then-is_end-clause-room
 returns-then-is_end-clause-room g c place =
@@ -82,7 +83,8 @@ pub returns-then-is_end-clause-once : goal.returns-then-is_end-clause-once
 returns-then-is_end-clause-once g c = c.step_on-event.ensures.once
 
 pub returns-clause-spare : goal.returns-clause-spare
-returns-clause-spare g c = omega (arith, c.step_on-event.ensures.fewer, ap (λ (d : Course). d.room) c.step_on-event.ensures.kept)
+returns-clause-spare g c =
+    omega (arith, c.step_on-event.ensures.fewer, ap (λ (d : Course). d.room) c.step_on-event.ensures.kept)
 
 pub returns-clause-room : goal.returns-clause-room
 returns-clause-room g c place =

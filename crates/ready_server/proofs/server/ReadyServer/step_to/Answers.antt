@@ -38,7 +38,8 @@ returns-clause-paid g c start paid = record {
 }
 
 pub returns-in_default-clause-spare : goal.returns-in_default-clause-spare
-returns-in_default-clause-spare g c = omega (arith, c.step.ensures.fewer, ap (λ (d : Course). d.room) c.step.ensures.kept)
+returns-in_default-clause-spare g c =
+    omega (arith, c.step.ensures.fewer, ap (λ (d : Course). d.room) c.step.ensures.kept)
 
 pub returns-in_default-clause-room : goal.returns-in_default-clause-room
 returns-in_default-clause-room g c place =
@@ -46,7 +47,8 @@ returns-in_default-clause-room g c place =
 
 pub returns-in_default-clause-place : goal.returns-in_default-clause-place
 returns-in_default-clause-place g c place =
-    place_behind c.args.self.now.ready c.step.new.self c.step.ensures.fewer (ap (λ (d : Course). d.room) c.step.ensures.kept) place
+    place_behind c.args.self.now.ready c.step.new.self c.step.ensures.fewer
+    (ap (λ (d : Course). d.room) c.step.ensures.kept) place
 
 pub returns-in_default-clause-room_stays : goal.returns-in_default-clause-room_stays
 returns-in_default-clause-room_stays g c = ap (λ (d : Course). d.room) c.step.ensures.kept
@@ -63,7 +65,8 @@ returns-clause-room g c place =
 
 pub returns-clause-place : goal.returns-clause-place
 returns-clause-place g c place =
-    place_behind c.args.self.now.ready c.step.new.self c.step.ensures.fewer (ap (λ (d : Course). d.room) c.step.ensures.kept) place
+    place_behind c.args.self.now.ready c.step.new.self c.step.ensures.fewer
+    (ap (λ (d : Course). d.room) c.step.ensures.kept) place
 
 pub returns-clause-room_stays : goal.returns-clause-room_stays
 returns-clause-room_stays g c = ap (λ (d : Course). d.room) c.step.ensures.kept
