@@ -35,7 +35,7 @@ pub record Passed (b work : ℕ) (behind : List JobFacts) : Type 0 where
   pub none : NoneTo b behind
 
 -- of a job
-asked_most : (a b : ℕ) (j : JobFacts) → asked a b j ≤ due_work b j
+pub asked_most : (a b : ℕ) (j : JobFacts) → asked a b j ≤ due_work b j
 asked_most a b j = by_tests (nat_le a j.release) (nat_le j.deadline b) where
   by_tests : (x y : Bool) → cond (x && y) j.work 0 ≤ cond y j.work 0
   by_tests true y = omega arith
@@ -43,16 +43,20 @@ asked_most a b j = by_tests (nat_le a j.release) (nat_le j.deadline b) where
   by_tests false false = omega arith
 
 -- where it is released at a or later
-asked_due : (a b : ℕ) (j : JobFacts) → a ≤ j.release → asked a b j ≡ due_work b j
+pub asked_due : (a b : ℕ) (j : JobFacts) → a ≤ j.release → asked a b j ≡ due_work b j
 asked_due a b j low = ap (λ x. cond (x && nat_le j.deadline b) j.work 0) (le-leb _ _ low)
 
 -- where it is released sooner
-asked_none : (a b : ℕ) (j : JobFacts) → j.release < a → asked a b j ≡ 0
+pub asked_none : (a b : ℕ) (j : JobFacts) → j.release < a → asked a b j ≡ 0
 asked_none a b j early = ap (λ x. cond (x && nat_le j.deadline b) j.work 0) (lt-leb _ _ early)
 
 -- where it is
-due_all : (b : ℕ) (j : JobFacts) → j.deadline ≤ b → due_work b j ≡ j.work
+pub due_all : (b : ℕ) (j : JobFacts) → j.deadline ≤ b → due_work b j ≡ j.work
 due_all b j due = ap (λ x. cond x j.work 0) (le-leb _ _ due)
+
+-- where it isn't
+pub due_none : (b : ℕ) (j : JobFacts) → b < j.deadline → due_work b j ≡ 0
+due_none b j late = ap (λ x. cond x j.work 0) (lt-leb _ _ late)
 
 -- a job that is due, where the window from its release isn't overfull
 pub passed_due : (b work : ℕ) (j : JobFacts) (behind : List JobFacts) → ReleasesInOrder (j ∷ behind) → j.deadline ≤ b
@@ -169,3 +173,16 @@ module _ (jobs : List JobFacts) (order : ReleasesInOrder jobs) (b work k : ℕ) 
       → Passed b (work + j.work) (drop (k - 1) jobs)
   passed_at is_job due fits = subst (λ js. Passed b (work + j.work) js) (sym from_here)
       (passed_due b work j (drop k jobs) in_order_here due (omega (arith, due, (job_limits is_job).window)) fits p)
+
+  -- it isn't due by b
+  pub passed_late : b < j.deadline → Passed b work (drop (k - 1) jobs)
+  passed_late late = subst (λ js. Passed b work js) (sym from_here) (record {
+    sum = omega (arith, p.sum, sum_by-cons (due_work b) j (drop k jobs), due_none b j late);
+    none = λ a low. omega (
+      arith,
+      p.none a low,
+      sum_by-cons (asked a b) j (drop k jobs),
+      asked_most a b j,
+      due_none b j late,
+    );
+  })

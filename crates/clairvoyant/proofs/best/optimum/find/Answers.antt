@@ -1,3 +1,5 @@
+use Rattle.dover_model.specs.Pieces.{edf, stretches}
+use Rattle.clairvoyant.specs.best.Search.{IsFound}
 use Rattle.std.proofs.Common.{map, ap, subst, ◌∙◌}
 use Rattle.std.specs.Prelude.{Some, None}
 use Rattle.dover_model.specs.Schedules.{worth}
@@ -32,3 +34,16 @@ pub returns-clause-most : goal.returns-clause-most
 returns-clause-most c = found_most c.args.jobs.now c.in-Some.choice
     (subst (λ numbers. IsSearched c.args.jobs.now numbers 0 0 (Some c.in-Some.choice)) c.none.ensures.numbers
     (subst (IsSearched c.args.jobs.now c.none.result.numbers.items 0 0) c.in-Some.is c.in_ok-choice.ensures))
+
+-- what the search found
+found : (c : goal.After-drop-choice) → IsFound c.args.jobs.now c.none.result.numbers.items 0 0 c.in-Some.choice
+found c = subst (IsSearched c.args.jobs.now c.none.result.numbers.items 0 0) c.in-Some.is c.in_ok-choice.ensures
+
+pub returns-clause-value : goal.returns-clause-value
+returns-clause-value c = (found c).choice.value
+
+pub returns-clause-pieces : goal.returns-clause-pieces
+returns-clause-pieces c = c.renumber.ensures
+    ∙ ap (λ numbers. map (renumbered numbers) c.in-Some.choice.pieces.items) c.deref.ensures.value
+    ∙ ap (map (renumbered c.in-Some.choice.numbers.items))
+    ((found c).choice.pieces ∙ ap (λ jobs. stretches (edf jobs)) (found c).choice.jobs)

@@ -1,3 +1,10 @@
+use Rattle.std.proofs.Common.{ap, subst}
+use Rattle.std.specs.Prelude.{MatchOption}
+use Rattle.std.proofs.lemmas.List.Sums.{sum_by-drop_more}
+use Rattle.dover_model.specs.JobFacts.{JobFacts}
+use Rattle.dover_model.specs.Instance.{total_value}
+use Rattle.std.proofs.Common.{◌≡◌, drop, get_or}
+use Rattle.clairvoyant.specs.best.Search.{IsChoice}
 use Rattle.std.proofs.Common.{◌+◌, ◌<◌, ◌++◌, ◌∷◌, [], length, refl, arith, rules}
 use Rattle.clairvoyant.specs.best.Search.{IsSearched}
 use Rattle.clairvoyant.proofs.best.Rising.{rise_wider}
@@ -151,3 +158,76 @@ returns-after-more t c =
           c.in-Some-found.is
           c.in_ok-more-in-Some-found.ensures w.in-None-more.is w.result-is
     ]
+
+pub search-requires : goal.search-requires
+search-requires t c =
+    let short : c.args.next < length c.args.jobs.now =
+    (let other = c.if-next-jobs.false in omega (arith, other, c.requires.next)) in (
+      search rules,
+      (
+        c.requires.in_order,
+        (
+          c.requires.count,
+          (
+            c.requires.each,
+            (
+              omega arith,
+              (
+                subst (λ o. MatchOption o (Unit {0}) (λ choice. IsChoice c.args.jobs.now (c.args.next + 1) choice))
+                    c.in-Some.is c.in_ok-with.ensures.choice,
+                left_next _ _ _ _ _ c.requires.left short c.index-jobs-next.is c.value.ensures.is,
+              ),
+            ),
+          ),
+        ),
+      ),
+    )
+
+pub overflow_sub-left : goal.overflow_sub-left
+overflow_sub-left t c =
+    let short : c.args.next < length c.args.jobs.now =
+    (let other = c.if-next-jobs.false in omega (arith, other, c.requires.next)) in
+    let step : total_value (drop c.args.next c.args.jobs.now)
+    ≡ (get_or c.args.jobs.now c.args.next c.index-jobs-next.result).value
+    + total_value (drop (c.args.next + 1) c.args.jobs.now) =
+    sum_by-drop_more (λ (i : JobFacts). i.value) c.args.jobs.now c.args.next c.index-jobs-next.result short in
+    omega (
+      arith,
+      c.requires.left,
+      c.value.ensures.is,
+      step,
+      ap (λ (i : JobFacts). i.value) c.index-jobs-next.is,
+    )
+
+pub overflow_add-next : goal.overflow_add-next
+overflow_add-next t c = omega (arith, c.requires.next, c.requires.count)
+
+pub overflow_add-next-in-Some-found : goal.overflow_add-next-in-Some-found
+overflow_add-next-in-Some-found t c = omega (arith, c.requires.next, c.requires.count)
+
+pub overflow_add-next-in-None-found : goal.overflow_add-next-in-None-found
+overflow_add-next-in-None-found t c = omega (arith, c.requires.next, c.requires.count)
+
+pub with-requires-clause-number : goal.with-requires-clause-number
+with-requires-clause-number t c = let other = c.if-next-jobs.false in omega (arith, other, c.requires.next)
+
+pub with-requires-clause-choice : goal.with-requires-clause-choice
+with-requires-clause-choice t c = c.requires.choice
+
+pub overflow_cast-next : goal.overflow_cast-next
+overflow_cast-next t c = omega (arith, c.requires.next, c.requires.count)
+
+pub with-requires-clause-count : goal.with-requires-clause-count
+with-requires-clause-count t c = c.requires.count
+
+pub bounds-jobs-next : goal.bounds-jobs-next
+bounds-jobs-next t c = let other = c.if-next-jobs.false in omega (arith, other, c.requires.next)
+
+pub with-requires-clause-in_order : goal.with-requires-clause-in_order
+with-requires-clause-in_order t c = c.requires.in_order
+
+pub with-requires-clause-each : goal.with-requires-clause-each
+with-requires-clause-each t c = c.requires.each
+
+pub offset_bounds-jobs-next : goal.offset_bounds-jobs-next
+offset_bounds-jobs-next t c = omega (arith, c.requires.next, c.requires.count)

@@ -1,3 +1,6 @@
+use Rattle.std.proofs.Common.{length, refl}
+use Rattle.std.proofs.lemmas.List.{drop_all}
+use Rattle.clairvoyant.proofs.feasible.LastStart.{passed_late}
 use Rattle.std.proofs.Common.{◌≡◌, ◌-◌, ◌+◌, drop, sym, subst, arith}
 use Rattle.clairvoyant.proofs.feasible.LastStart.{StartsAt, Passed, starts_at, passed_at, none_passed}
 use Rattle.dover_model.proofs.ValidParts.{order_parts}
@@ -45,3 +48,36 @@ unreachable-requires c =
     (let none : c.loop-i.i ≡ 0 = omega (arith, c.loop-i-test.false) in none)
     c.loop-i.invariant.passed)
     c.requires.some.0 c.requires.some.1 c.requires.some.2
+
+pub loop-i-preserved : goal.loop-i-preserved
+loop-i-preserved c = record {
+  passed = passed_late _ (order_parts c.requires.order) _ _ _ _ c.loop-i.auto.i c.loop-i-test.true c.index-jobs-i.is
+      c.loop-i.invariant.passed (omega (arith, c.if-deadline-b.false, c.deadline.ensures.is));
+  small = omega (arith, c.loop-i.invariant.small, c.loop-i-test.true);
+}
+
+pub loop-i-init : goal.loop-i-init
+loop-i-init c = record {
+  passed = subst (Passed c.args.b 0) (sym (drop_all (length c.args.jobs.now) c.args.jobs.now (omega arith)))
+      (record { sum = refl; none = λ a low. omega (arith, low) });
+  small = omega arith;
+}
+
+pub overflow_sub-b : goal.overflow_sub-b
+overflow_sub-b c = omega (
+  arith,
+  c.release.ensures.is,
+  c.deadline.ensures.is,
+  c.if-deadline-b.true,
+  (job_limits c.release.ensures.job).window,
+)
+
+pub overflow_add-work : goal.overflow_add-work
+overflow_add-work c = omega (
+  arith,
+  c.loop-i.invariant.small,
+  c.requires.count,
+  c.work-work.ensures.is,
+  (job_limits c.work-work.ensures.job).window,
+  (job_limits c.work-work.ensures.job).due,
+)

@@ -79,3 +79,7 @@ returns-clause-choice c =
       pieces = shows.edf ∙ ap (λ jobs. stretches (edf jobs)) c.deref-2.ensures.value;
       serves = subst (λ jobs. ServesAll jobs c.in-All.pieces.items) c.deref-2.ensures.value shows.serves;
     }
+
+pub returns-clause-none : goal.returns-clause-none
+returns-clause-none c = c.in_ok-push-2.ensures.items
+    ∙ ap (λ ns. ns ++ c.args.number ∷ []) (c.in_ok-numbers.ensures.items ∙ c.deref-3.ensures.value)
