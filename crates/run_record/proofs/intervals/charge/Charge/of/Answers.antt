@@ -113,3 +113,6 @@ pub returns-clause-abandoned : goal.returns-clause-abandoned
 returns-clause-abandoned c J of =
     rows_abandoned c.args.k c.args.run.now J of c.into_parts-rows.result.0.items c.into_parts-rows.result.1
     (done c J of).0 (done c J of).1
+
+pub returns-clause-value : goal.returns-clause-value
+returns-clause-value c J of = (done c J of).1
