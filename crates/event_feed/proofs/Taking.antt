@@ -57,6 +57,14 @@ next_account ls bytes opened = fold-append next_line no_lines ls (bytes ∷ [])
     ∙ ap (λ b. cond b (read_line (counted (account_of_lines ls)) bytes) (account_of_lines ls))
     (ap (λ s. elim s [ Open ↦ true | Ended ↦ false | model.Faulty line cause ↦ false ]) opened)
 
+-- behind a fault all stays
+pub fault_stays : (ls : List (List ℕ)) (bytes : List ℕ) (line : ℕ) (cause : model.Cause)
+    → (account_of_lines ls).standing ≡ model.Faulty line cause
+    → account_of_lines (ls ++ bytes ∷ []) ≡ account_of_lines ls
+fault_stays ls bytes line cause faulty = fold-append next_line no_lines ls (bytes ∷ [])
+    ∙ ap (λ b. cond b (read_line (counted (account_of_lines ls)) bytes) (account_of_lines ls))
+    (ap (λ s. elim s [ Open ↦ true | Ended ↦ false | model.Faulty n of ↦ false ]) faulty)
+
 -- a fault is kept
 pub keeps_fault : (ls : List (List ℕ)) (bytes : List ℕ) (session : Option KeptSession) (lines : ℕ) (cause : Cause)
     → (account_of_lines ls).standing ≡ Open → lines ≡ suc (account_of_lines ls).lines
@@ -144,6 +152,28 @@ keeps_fed ls bytes session lines fed opened counts more it standing on =
             standing = ap standing_of on ∙ sym (stays.0 ∙ opened);
           });
     }
+
+-- and at the end
+pub keeps_over : (ls : List (List ℕ)) (bytes : List ℕ) (session : Option KeptSession) (lines : ℕ)
+    → (account_of_lines ls).standing ≡ Open → lines ≡ suc (account_of_lines ls).lines
+    → IsTaken session (feed_line bytes) (counted (account_of_lines ls))
+    (read_line (counted (account_of_lines ls)) bytes) (Ok feds.Over)
+    → StandsFor (record {
+      lines = lines;
+      session = left_by feds.Over (account_of_lines ls).session session;
+      standing = kept.Over;
+    }) (ls ++ bytes ∷ [])
+keeps_over ls bytes session lines opened counts it = record {
+  by_account = subst (KeepsAccount (record {
+    lines = lines;
+    session = left_by feds.Over (account_of_lines ls).session session;
+    standing = kept.Over;
+  })) (sym (next_account ls bytes opened)) (record {
+    counted = counts ∙ sym (ap (λ (x : Account). x.lines) it.gives.after_is);
+    session = it.keeps;
+    standing = sym (ap (λ (x : Account). x.standing) it.gives.after_is);
+  });
+}
 
 -- where neither the end nor a fault came, the feed goes on
 pub goes_on : (standing : standings.Standing)

@@ -1,3 +1,7 @@
+use Rattle.std.proofs.Common.{◌++◌, ◌∷◌, false}
+use Rattle.std.specs.Fmt.{digits}
+use Rattle.std.proofs.Common.{◌-◌, drop, sym, ◌∙◌, length-drop}
+use Rattle.std.proofs.lemmas.List.{take_all, append-nil}
 use Rattle.std.proofs.Common.{◌≡◌, ℕ, List, length, ap, subst, arith}
 use Rattle.std.proofs.lemmas.List.{take_rest}
 use Rattle.dover_model.specs.JobFacts.{job_of_numbers}
@@ -15,3 +19,11 @@ keep-requires-clause-fits c =
     let fits = numbers_fit line
     (job_of_numbers c.in-Job.release c.in-Job.work c.in-Job.deadline c.in-Job.value) short text in
     omega (arith, fits, ap (λ (bs : List ℕ). length bs) (take_rest line 3))
+
+pub keep-requires-clause-spelled : goal.keep-requires-clause-spelled
+keep-requires-clause-spelled c =
+    let text = subst (λ (read : FeedLine). feed_text (form_of read) ≡ c.args.line.now) c.in-Job.is c.requires.text in
+    take_all (length c.args.line.now - 3) (drop 3 c.args.line.now) (omega (arith, length-drop 3 c.args.line.now))
+    ∙ ap (λ (l : List ℕ). drop 3 l) (sym text)
+    ∙ ap (λ (ds : List ℕ). 32 ∷ (digits 10 false c.in-Job.release ++ 32 ∷ (digits 10 false c.in-Job.work
+    ++ 32 ∷ (digits 10 false c.in-Job.deadline ++ 32 ∷ ds)))) (sym (append-nil (digits 10 false c.in-Job.value)))

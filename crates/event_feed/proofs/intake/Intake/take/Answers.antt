@@ -1,4 +1,13 @@
 -- A fault is kept and answered.
+use Rattle.std.proofs.Common.{◌≤◌, inr, Ok}
+use Rattle.dover_model.specs.Limits.{most_lines}
+use Rattle.dover_model.specs.declared.events.Version.TheVariants.{Three}
+use Rattle.dover_model.specs.Feed as model
+use Rattle.dover_model.proofs.Members.{some_same}
+use Rattle.event_feed.specs.declared.fed.Fed.TheVariants as feds
+use Rattle.event_feed.specs.Kept.{Kept, KeepsAccount, IsCounted, cause_of_fault}
+use Rattle.event_feed.specs.Answers.{IsFed, EndsFeed}
+use Rattle.event_feed.proofs.Taking.{next_account, fault_stays, keeps_over}
 use Rattle.std.proofs.Common.{◌≡◌, ℕ, suc, ◌+◌, List, sym, ap, ◌∙◌, subst, refl, arith, Err, None, Some, rules}
 use Rattle.std.specs.Option.{option_map}
 use Rattle.dover_model.specs.Feed.{Open, account_of_lines, read_line}
@@ -73,3 +82,126 @@ pub returns-in-Ok-clause-going : goal.returns-in-Ok-clause-going
 returns-in-Ok-clause-going c not_over =
     is_going (c.self.inside.lines + 1) c.read.new.session c.self.inside.standing c.in-Ok.ensures.declared
     (goes_on c.self.inside.standing (ap has_ended c.self.view_is ∙ c.requires.unended) c.in_default.not-Faulty)
+
+pub returns-in-Ok-Over : goal.returns-in-Ok-Over
+returns-in-Ok-Over c = record {
+  stands = λ ls text is it. keeps_over ls text c.read.new.session (c.self.inside.lines + 1) (opened ls it)
+      (counts ls it) (taken ls text is it);
+  answer = λ ls text is it. (
+      opened ls it,
+      subst (λ a. EndsFeed (counted (account_of_lines ls)) a) (sym (next_account ls text (opened ls it)))
+          (taken ls text is it).gives,
+    );
+  going = λ other. absurd (other refl);
+  ended = (λ e. refl, λ e. refl);
+  fault = refl;
+  counted = omega (arith, ap (λ (k : Kept). k.lines) c.self.view_is);
+  again = λ fault is. absurd (let e : None ≡ Some fault =
+      ap (λ s. fault_of (record { lines = c.self.inside.lines; session = c.self.inside.session; standing = s }))
+      (sym still_open)
+      ∙ ap fault_of c.self.view_is ∙ is in cc);
+} where
+  still_open : c.self.inside.standing ≡ standings.Open
+  still_open = goes_on c.self.inside.standing (ap has_ended c.self.view_is ∙ c.requires.unended) c.in_default.not-Faulty
+
+  of_view : (ls : List (List ℕ)) → StandsFor c.args.self.now ls
+      → StandsFor (record {
+        lines = c.self.inside.lines;
+        session = c.self.inside.session;
+        standing =
+            c.self.inside.standing;
+      }) ls
+  of_view ls it = subst (λ k. StandsFor k ls) (sym c.self.view_is) it
+
+  opened : (ls : List (List ℕ)) → StandsFor c.args.self.now ls → (account_of_lines ls).standing ≡ Open
+  opened ls it = sym (of_view ls it).by_account.standing ∙ ap standing_of still_open
+
+  counts : (ls : List (List ℕ)) → StandsFor c.args.self.now ls
+      → c.self.inside.lines + 1 ≡ suc (account_of_lines ls).lines
+  counts ls it = omega (arith, (of_view ls it).by_account.counted)
+
+  taken : (ls : List (List ℕ)) (text : List ℕ) → feed_line text ≡ option_map form_of c.args.line
+      → StandsFor c.args.self.now ls
+      → IsTaken c.read.new.session (feed_line text) (counted (account_of_lines ls))
+      (read_line (counted (account_of_lines ls)) text) (Ok feds.Over)
+  taken ls text is it = subst (λ fed. IsTaken c.read.new.session (feed_line text) (counted (account_of_lines ls))
+      (read_line (counted (account_of_lines ls)) text) (Ok fed)) c.in-Ok-Over.field-0-is
+      (c.in-Ok-Over.ensures.taken (counted (account_of_lines ls)) text is (opened ls it)
+      (sym (counts ls it)) (of_view ls it).by_account.session)
+
+pub returns-in-Ok-clause-answer : goal.returns-in-Ok-clause-answer
+returns-in-Ok-clause-answer c ls text is it =
+    let before : StandsFor (record {
+      lines = c.self.inside.lines;
+      session = c.self.inside.session;
+      standing = c.self.inside.standing;
+    }) ls = subst (λ k. StandsFor k ls) (sym c.self.view_is) it in
+    let opened : (account_of_lines ls).standing ≡ Open =
+    sym before.by_account.standing ∙ ap standing_of (goes_on c.self.inside.standing
+    (ap has_ended c.self.view_is ∙ c.requires.unended) c.in_default.not-Faulty) in
+    let counts : c.self.inside.lines + 1 ≡ suc (account_of_lines ls).lines =
+    omega (arith, before.by_account.counted) in (
+      opened,
+      subst (λ a. IsFed (counted (account_of_lines ls)) a c.in-Ok.fed) (sym (next_account ls text opened))
+          (c.in-Ok.ensures.taken (counted (account_of_lines ls)) text is opened (sym counts)
+          before.by_account.session).gives,
+    )
+
+pub returns-in-Faulty-clause-answer : goal.returns-in-Faulty-clause-answer
+returns-in-Faulty-clause-answer c ls text is it =
+    let faulty : (account_of_lines ls).standing
+    ≡ model.Faulty c.in-Faulty.fault.line (cause_of_fault c.in-Faulty.fault.cause) =
+    sym it.by_account.standing ∙ ap (λ (k : Kept). standing_of k.standing) (sym c.self.view_is)
+    ∙ ap standing_of c.in-Faulty.is in
+    inr (record { faulty = faulty; after_is = fault_stays ls text _ _ faulty })
+
+pub returns-in-Faulty-clause-stands : goal.returns-in-Faulty-clause-stands
+returns-in-Faulty-clause-stands c ls text is it =
+    let faulty : (account_of_lines ls).standing
+    ≡ model.Faulty c.in-Faulty.fault.line (cause_of_fault c.in-Faulty.fault.cause) =
+    sym it.by_account.standing ∙ ap (λ (k : Kept). standing_of k.standing) (sym c.self.view_is)
+    ∙ ap standing_of c.in-Faulty.is in
+    record {
+      by_account = subst (KeepsAccount c.args.self.now) (sym (fault_stays ls text _ _ faulty)) it.by_account;
+    }
+
+pub returns-in-Ok-clause-again : goal.returns-in-Ok-clause-again
+returns-in-Ok-clause-again c fault is = absurd (let e : None ≡ Some fault =
+    ap (λ s. fault_of (record { lines = c.self.inside.lines; session = c.self.inside.session; standing = s }))
+    (sym (goes_on c.self.inside.standing (ap has_ended c.self.view_is ∙ c.requires.unended) c.in_default.not-Faulty))
+    ∙ ap fault_of c.self.view_is ∙ is in cc)
+
+pub invariant_of-self-in-Ok : goal.invariant_of-self-in-Ok
+invariant_of-self-in-Ok c = subst (λ s. IsCounted s (c.self.inside.lines + 1))
+    (sym (goes_on c.self.inside.standing (ap has_ended c.self.view_is ∙ c.requires.unended) c.in_default.not-Faulty))
+    c.in-Ok.ensures.few
+
+pub returns-in-Ok-clause-counted : goal.returns-in-Ok-clause-counted
+returns-in-Ok-clause-counted c = omega (arith, ap (λ (k : Kept). k.lines) c.self.view_is)
+
+pub invariant_of-self-in-Err : goal.invariant_of-self-in-Err
+invariant_of-self-in-Err c =
+    let few : c.self.inside.lines ≤ most_lines Three = subst (λ s. IsCounted s c.self.inside.lines)
+    (goes_on c.self.inside.standing (ap has_ended c.self.view_is ∙ c.requires.unended) c.in_default.not-Faulty)
+    c.self.invariant in
+    omega (arith, few)
+
+pub returns-in-Ok-clause-fault : goal.returns-in-Ok-clause-fault
+returns-in-Ok-clause-fault c =
+    ap (λ s. fault_of (record { lines = c.self.inside.lines + 1; session = c.read.new.session; standing = s }))
+    (goes_on c.self.inside.standing (ap has_ended c.self.view_is ∙ c.requires.unended) c.in_default.not-Faulty)
+
+pub returns-in-Faulty-clause-again : goal.returns-in-Faulty-clause-again
+returns-in-Faulty-clause-again c fault is = (
+  ap Err (some_same _ _
+      (ap (λ s. fault_of (record { lines = c.self.inside.lines; session = c.self.inside.session; standing = s }))
+      (sym c.in-Faulty.is) ∙ ap fault_of c.self.view_is ∙ is)),
+  refl,
+)
+
+pub overflow_add-self : goal.overflow_add-self
+overflow_add-self c =
+    let few : c.self.inside.lines ≤ most_lines Three = subst (λ s. IsCounted s c.self.inside.lines)
+    (goes_on c.self.inside.standing (ap has_ended c.self.view_is ∙ c.requires.unended) c.in_default.not-Faulty)
+    c.self.invariant in
+    omega (arith, few)
