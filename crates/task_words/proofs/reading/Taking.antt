@@ -1,5 +1,6 @@
 -- What a line makes of what is kept.
-use Rattle.std.proofs.Common.{◌≡◌, ◌≤◌, ◌<◌, ◌+◌, ◌-◌, ◌*◌, ℕ, List, ◌∷◌, ◌++◌, [], map, refl, sym, ap, ◌∙◌, subst}
+use Rattle.std.proofs.Common.{◌≡◌, ◌≤◌, ◌<◌, ◌+◌, ◌-◌, ◌*◌, ℕ, List, ◌∷◌, ◌++◌, [], length, map, refl, sym, ap}
+use Rattle.std.proofs.Common.{◌∙◌, subst}
 use Rattle.std.proofs.Common.{Bool, true, false, cond}
 use Rattle.std.proofs.Common.{Option, Some, None, is_some, arith}
 use Rattle.std.specs.Option.{option_map}
@@ -9,6 +10,8 @@ use Rattle.dover_model.specs.declared.events.Refusal.{Refusal}
 use Rattle.dover_model.specs.declared.events.Refusal.TheVariants as refusal
 use Rattle.dover_model.specs.declared.events.Version.TheVariants.{Two}
 use Rattle.dover_model.specs.Limits.{most_lines}
+use Rattle.dover_model.specs.Lines.{lines_of, rest_of, is_too_long}
+use Rattle.dover_model.proofs.Members.{all_last}
 use Rattle.dover_model.specs.Fraction.{Fraction}
 use Rattle.dover_model.specs.JobFacts.{JobFacts, job_of_numbers}
 use Rattle.dover_model.specs.Instance.{Declaration as Rules}
@@ -17,27 +20,29 @@ use Rattle.dover_model.specs.Feed as feed
 use Rattle.dover_model.specs.Feed.{Open, Faulty, NotAdmitted, rules_with}
 use Rattle.admission.specs.Kept as admission
 use Rattle.admission.specs.Answers as admitting
-use Rattle.admission.specs.Answers.{IsOther}
+use Rattle.admission.specs.Answers.{IsOther, refusal_of_refused}
 use Rattle.admission.specs.declared.refused.Refused.{Refused}
 use Rattle.admission.specs.declared.refused.Refused.TheVariants as refused
-use Rattle.event_feed.specs.Kept.{cause_of_refused}
+use Rattle.event_feed.specs.Kept.{cause_of_refused, cause_of_fault}
 use Rattle.event_feed.specs.declared.faults.Cause.TheVariants as cause
 use Rattle.task_words.specs.tasks.Tasks.{tested_job, count_before}
 use Rattle.task_words.specs.tasks.Limits.{task_refusal, task_rules}
 use Rattle.task_words.specs.declared.tasks.task.PeriodicTask.{PeriodicTask}
 use Rattle.task_words.proofs.tasks.Together.{tasks_more}
 use Rattle.task_words.specs.reading.Account.{TaskAccount, with_line, cause_of, cause_under, account_of_lines}
-use Rattle.task_words.specs.reading.Account.{account}
-use Rattle.task_words.specs.reading.Faults.{NamesOther, NamesAt}
+use Rattle.task_words.specs.reading.Account.{account, no_lines}
+use Rattle.task_words.specs.reading.Faults.{NamesOther, NamesAt, NamesIn}
 use Rattle.task_words.specs.reading.Lines.{task_line}
-use Rattle.task_words.specs.reading.Keeping.{Keeps, KeepsDeclared, KeepsRules, KeepsAccount, StandsAt}
+use Rattle.task_words.specs.reading.Keeping.{Keeps, KeepsDeclared, KeepsRules, KeepsAccount, StandsAt, TextStands}
+use Rattle.task_words.specs.declared.reading.text.TaskText.{TaskText}
+use Rattle.line_text.specs.Cutting as cutting
 use Rattle.task_words.specs.declared.reading.intake.Declaration.{Declaration}
 use Rattle.task_words.specs.declared.reading.intake.TaskIntake.{TaskIntake}
 use Rattle.task_words.specs.declared.reading.intake.Progress.{Progress}
 use Rattle.task_words.specs.declared.reading.intake.Progress.TheVariants as progress
 use Rattle.task_words.specs.declared.reading.lines.TaskLine.{TaskLine}
 use Rattle.task_words.specs.declared.reading.lines.TaskLine.TheVariants.{Task}
-use Rattle.task_words.proofs.reading.Accounts.{counted, next_of, line_as, many_lines}
+use Rattle.task_words.proofs.reading.Accounts.{counted, next_of, line_as, many_lines, lines_good}
 use Rattle.dover_model.proofs.JobLimits.{ratio_limits}
 
 -- ---- a task behind others
@@ -98,6 +103,20 @@ module _ (until : ℕ) (task : PeriodicTask) (rules : Rules) (tasks : List Perio
             (job_is ∙ tested) stands)
             same version,
       )
+
+  -- it isn't admitted
+  pub not_taken : (release : ℕ) → release ≡ task.offset + (count_before until task - 1) * task.period → (r : Refused)
+      → refusal_of old.admission.rules (map (tested_job until) tasks)
+      (job_of_numbers release task.work (release + task.deadline) task.value) ≡ Some (refusal_of_refused r)
+      → cause_under until (Some rules) tasks (Task task) ≡ Some (cause_of_fault (cause_of_refused r))
+  not_taken release is r refuses = ap (option_map NotAdmitted) (answered (Some (refusal_of_refused r))
+      (ap (λ n. refusal_of old.admission.rules (map (tested_job until) tasks)
+      (job_of_numbers n task.work (n + task.deadline) task.value)) (sym is) ∙ refuses)) ∙ same r where
+        same : (r : Refused) → Some (NotAdmitted (refusal_of_refused r)) ≡ Some (cause_of_fault (cause_of_refused r))
+        same refused.BadJob = refl
+        same refused.Count = refl
+        same refused.Total = refl
+        same (refused.Ratio other) = refl
 
 module _ (until : ℕ) (task : PeriodicTask) (rules : Rules) (tasks : List PeriodicTask) (old : Declaration)
     (keeps : KeepsDeclared until old rules tasks) where
@@ -186,3 +205,31 @@ named_before until l a progress.NoMemory names = tt
 pub keeps_more : (until : ℕ) (new : TaskIntake) (ls : List (List ℕ)) → new.lines ≤ most_lines Two
     → StandsAt until progress.Open new (account_of_lines until ls) → Keeps until new ls
 keeps_more until new ls few stands = record { few = few; stands = stands.0; keeps = stands.1 }
+
+-- ---- a text with one line more
+
+module _ (until : ℕ) (x y l : List ℕ) (is : lines_of y ≡ lines_of x ++ l ∷ []) where
+  -- how it stands
+  pub text_at : (p : Progress) (new : TaskIntake) → StandsAt until p new (account_of_lines until (lines_of x ++ l ∷ []))
+      → StandsAt until p new (account until y)
+  text_at p new stands = subst (λ ls. StandsAt until p new (account_of_lines until ls)) (sym is) stands
+
+  -- what it names
+  pub text_names : (p : Progress) (old : TaskIntake) → Keeps until old (lines_of x)
+      → NamesAt until (task_line l) (account_of_lines until (lines_of x)) p → NamesIn until p y
+  text_names progress.Open old keeps names = tt
+  text_names progress.Ended old keeps names = tt
+  text_names (progress.Refused cause) old keeps names =
+      record { before = lines_of x; line = l; lines = is; good = keeps.stands; other = names }
+  text_names progress.NoMemory old keeps names = tt
+
+  -- it goes on
+  pub text_stands : (text : TaskText) → cutting.StandsFor text.lines y
+      → (length l ≤ 128 → is_too_long (rest_of y) ≡ false) → Keeps until text.intake (lines_of x ++ l ∷ [])
+      → TextStands until text y
+  text_stands text cut short keeps = record {
+    cut = cut;
+    short = short (all_last (λ m. length m ≤ 128) (lines_of x) l
+        (lines_good until (lines_of x ++ l ∷ []) no_lines keeps.stands).short);
+    keeps = subst (Keeps until text.intake) (sym is) keeps;
+  }

@@ -348,6 +348,13 @@ absent : (r : Option JobFacts) → IsSome r → IsNone r → ⊥
 absent None some none = absurd (let e : false ≡ true = some in cc)
 absent (Some j) some none = absurd (let e : true ≡ false = none in cc)
 
+-- what holds of each task holds of the one at a place
+pub all_of : (P : PeriodicTask → Type 0) (xs : List PeriodicTask) (i : ℕ) (d : PeriodicTask) → AllByRecursion P xs
+    → i < length xs → P (get_or xs i d)
+all_of P [] i d all there = absurd (omega arith)
+all_of P (x ∷ xs) zero d all there = all.0
+all_of P (x ∷ xs) (suc i) d all there = all_of P xs i d all.1 (omega (arith, there))
+
 -- what holds of a job holds of the one given
 given : (P : JobFacts → Type 0) (r : Option JobFacts) (j : JobFacts) → IfSome r (λ i. i ≡ j) → P j → IfSome r P
 given P None j is holds = tt
@@ -370,14 +377,7 @@ module _ (m : Merge) (done : List JobFacts) (s : StandsBehind m done) where
     module _ (t : PeriodicTask) (task_is : t ≡ task m done s e it) where
       its : IsTask m.until t
       its = subst (IsTask m.until) (sym task_is)
-          (all_of (IsTask m.until) m.tasks e.place blank_task each given_within) where
-            all_of : (P : PeriodicTask → Type 0) (xs : List PeriodicTask) (i : ℕ) (d : PeriodicTask)
-                → AllByRecursion P xs
-                → i < length xs
-                → P (get_or xs i d)
-            all_of P [] i d all there = absurd (omega arith)
-            all_of P (x ∷ xs) zero d all there = all.0
-            all_of P (x ∷ xs) (suc i) d all there = all_of P xs i d all.1 (omega (arith, there))
+          (all_of (IsTask m.until) m.tasks e.place blank_task each given_within)
 
       released_then : releases t e.key ≡ true
       released_then = subst (λ u. releases u e.key ≡ true) (sym task_is) (released m done s e it)

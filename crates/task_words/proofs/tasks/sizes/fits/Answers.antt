@@ -10,6 +10,11 @@ use Rattle.dover_model.specs.Instance.{total_value}
 use Rattle.task_words.specs.tasks.Tasks.{count_before, jobs_before}
 use Rattle.task_words.specs.declared.tasks.task.PeriodicTask.{PeriodicTask}
 use Rattle.task_words.proofs.tasks.Counting.{HavePeriods, jobs_counted, jobs_worth}
+use Rattle.std.proofs.lemmas.Nat.{mul-le}
+use Rattle.std.proofs.lemmas.List.Sums.{sum_by_more}
+use Rattle.dover_model.proofs.JobLimits.{job_limits}
+use Rattle.task_words.specs.tasks.Merging.{blank_task}
+use Rattle.task_words.proofs.tasks.Merging.{all_of}
 use Rattle.task_words.proofs.tasks.sizes.fits.Goals as goal
 
 periods : (until : ℕ) (tasks : List PeriodicTask) → AllByRecursion (IsTask until) tasks → HavePeriods tasks
@@ -93,3 +98,61 @@ returns c = (
       c.loop-task.invariant.total_is c.loop-task.invariant.few c.loop-task.invariant.modest,
   λ fits. refl,
 )
+
+pub count_before-more-requires : goal.count_before-more-requires
+count_before-more-requires c =
+    let task = all_of (IsTask c.args.until) c.args.tasks.now c.loop-task.task-index blank_task c.requires in
+    (task c.loop-task-test.true).period
+
+-- so few jobs of one task are worth no more than a number can hold
+worth_fits : (until more i : ℕ) (d : PeriodicTask) (tasks : List PeriodicTask) → AllByRecursion (IsTask until) tasks
+    → i < length tasks → more ≤ 1_000_000 → more * (get_or tasks i d).value ≤ 1_000_000 * 1_000_000_000
+worth_fits until more i d tasks each there few = mul-le more (get_or tasks i d).value 1_000_000 1_000_000_000 few
+    (job_limits (all_of (IsTask until) tasks i d each there).job).modest
+
+pub overflow_add-count : goal.overflow_add-count
+overflow_add-count c =
+    omega (arith, c.loop-task.invariant.few, c.if-more-from.false, c.from.ensures, c.most_jobs.ensures)
+
+pub overflow_mul-total : goal.overflow_mul-total
+overflow_mul-total c = omega (
+  arith,
+  worth_fits c.args.until c.count_before-more.result c.loop-task.task-index blank_task c.args.tasks.now c.requires
+      c.loop-task-test.true (omega (arith, c.if-more-from.false, c.from.ensures, c.most_jobs.ensures)),
+)
+
+pub overflow_add-total : goal.overflow_add-total
+overflow_add-total c = omega (
+  arith,
+  c.loop-task.invariant.modest,
+  worth_fits c.args.until c.count_before-more.result c.loop-task.task-index blank_task c.args.tasks.now c.requires
+      c.loop-task-test.true (omega (arith, c.if-more-from.false, c.from.ensures, c.most_jobs.ensures)),
+)
+
+pub loop-task-preserved : goal.loop-task-preserved
+loop-task-preserved c =
+    let until = c.args.until in
+    let tasks = c.args.tasks.now in
+    let i = c.loop-task.task-index in
+    record {
+      count_is = omega (
+        arith,
+        c.loop-task.invariant.count_is,
+        c.count_before-more.ensures.is,
+        sum_by_more (count_before until) tasks i blank_task c.loop-task-test.true,
+      );
+      total_is = omega (
+        arith,
+        c.loop-task.invariant.total_is,
+        ap (λ n. n * (get_or tasks i blank_task).value) c.count_before-more.ensures.is,
+        sum_by_more (λ task. count_before until task * task.value) tasks i blank_task c.loop-task-test.true,
+      );
+      few = omega (
+        arith,
+        c.loop-task.invariant.few,
+        c.if-more-from.false,
+        c.from.ensures,
+        c.most_jobs.ensures,
+      );
+      modest = omega (arith, c.if-total-most_total.false, c.most_total.ensures);
+    }

@@ -2,6 +2,11 @@ use Rattle.std.proofs.Common.{◌∙◌, ap, None, set, length, length-set, is_s
 use Rattle.std.proofs.lemmas.List.Sums.{count_by-le-length}
 use Rattle.task_words.specs.tasks.Merging.{merge}
 use Rattle.task_words.proofs.tasks.Merging.{none_given, given_within, room_given, read_next, read_some}
+use Rattle.std.proofs.Common.{get_or, refl}
+use Rattle.std.proofs.lemmas.List.{get_or-set_same}
+use Rattle.dover_model.proofs.JobLimits.{job_limits}
+use Rattle.task_words.specs.tasks.Merging.{blank_task}
+use Rattle.task_words.proofs.tasks.Merging.{given_job}
 use Rattle.task_words.proofs.tasks.unrolling.take_job.Goals as goal
 
 pub returns-in_default-clause-end : goal.returns-in_default-clause-end
@@ -52,3 +57,30 @@ returns-clause-count g c = λ d enough.
       c.remove.ensures.count d (omega (arith, enough, size, before)),
       c.keep_release.ensures.count d (omega (arith, enough, size, behind, same)),
     )
+
+pub keep_release-requires-clause-known : goal.keep_release-requires-clause-known
+keep_release-requires-clause-known g c = c.requires.stands.1.limit
+
+pub keep_release-requires-clause-number : goal.keep_release-requires-clause-number
+keep_release-requires-clause-number g c = c.place-number.ensures.small
+
+pub keep_release-requires-clause-none : goal.keep_release-requires-clause-none
+keep_release-requires-clause-none g c =
+    ap (λ q. get_or q c.place-number.result None) c.remove.ensures.out
+    ∙ get_or-set_same c.args.next.now c.place-number.result None None (omega (
+      arith,
+      c.place-number.ensures.is,
+      c.requires.stands.1.size,
+      given_within _ _ c.requires.stands.1 c.requires.each _ c.in-Some.ensures,
+    ))
+
+pub overflow_add-release : goal.overflow_add-release
+overflow_add-release g c = omega (
+  arith,
+  c.key-release.ensures,
+  ap (λ n. (get_or c.args.tasks.now n blank_task).deadline) c.place-number.ensures.is,
+  (job_limits (given_job _ _ c.requires.stands.1 c.requires.each _ c.in-Some.ensures _ refl)).due,
+)
+
+pub returns-in_default-clause-count : goal.returns-in_default-clause-count
+returns-in_default-clause-count g c = λ d enough. omega arith

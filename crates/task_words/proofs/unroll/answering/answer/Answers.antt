@@ -6,6 +6,11 @@ use Rattle.task_words.specs.unroll.Feeds.{feed_of}
 use Rattle.dialogue.specs.Sizes.{size_text}
 use Rattle.task_words.proofs.unroll.Ending.{says_feed, passed, not_passed}
 use Rattle.task_words.proofs.unroll.Spending.{unroll_costs}
+use Rattle.std.proofs.Common.{◌≤◌, length, sym, subst}
+use Rattle.std.specs.List.{AllByRecursion}
+use Rattle.dover_port.proofs.Made.{since_none}
+use Rattle.task_words.specs.tasks.Limits.{IsTask}
+use Rattle.task_words.specs.tasks.Tasks.{jobs_before}
 use Rattle.task_words.proofs.unroll.answering.answer.Goals as goal
 
 pub returns-in-Ok-clause-says : goal.returns-in-Ok-clause-says
@@ -83,3 +88,38 @@ returns-clause-cause g c = (c.in-Err-put_feed.ensures.cause.failed, c.in-Err-put
 
 pub returns-clause-stops : goal.returns-clause-stops
 returns-clause-stops g c = c.in-Err-put_feed.ensures.stops.stopped
+
+pub fits-requires : goal.fits-requires
+fits-requires g c = subst (AllByRecursion (IsTask c.args.until)) (sym c.deref.ensures.value) c.requires.are.each
+
+pub new-requires-clause-few : goal.new-requires-clause-few
+new-requires-clause-few g c = c.requires.are.few
+
+pub new-requires-clause-known : goal.new-requires-clause-known
+new-requires-clause-known g c = c.requires.known
+
+pub put_feed-requires-clause-stands : goal.put_feed-requires-clause-stands
+put_feed-requires-clause-stands g c = c.in-Ok-new.ensures.stands
+
+pub put_feed-requires-clause-each : goal.put_feed-requires-clause-each
+put_feed-requires-clause-each g c =
+    subst (λ n. AllByRecursion (IsTask n) c.in-Ok-new.unrolling.tasks) (sym c.in-Ok-new.ensures.until)
+    (subst (AllByRecursion (IsTask c.args.until)) (sym c.in-Ok-new.ensures.tasks) c.requires.are.each)
+
+pub put_feed-requires-clause-few : goal.put_feed-requires-clause-few
+put_feed-requires-clause-few g c =
+    subst (λ n. length (jobs_before n c.in-Ok-new.unrolling.tasks) ≤ 1_000_000) (sym c.in-Ok-new.ensures.until)
+    (subst (λ ts. length (jobs_before c.args.until ts) ≤ 1_000_000) (sym c.in-Ok-new.ensures.tasks)
+    (passed c.args.until _ _ c.fits.result c.if-not-fits.false c.fits.ensures c.deref.ensures.value).count)
+
+pub returns-in_default-clause-says : goal.returns-in_default-clause-says
+returns-in_default-clause-says g c = since_none _ _ (tt, c.requires.empty)
+
+pub returns-in_default-clause-count : goal.returns-in_default-clause-count
+returns-in_default-clause-count g c = λ d enough. omega (arith, c.new.ensures.count d enough)
+
+pub returns-in_default-clause-cause : goal.returns-in_default-clause-cause
+returns-in_default-clause-cause g c = (refl, refl)
+
+pub returns-in_default-clause-stops : goal.returns-in_default-clause-stops
+returns-in_default-clause-stops g c = λ well. well

@@ -3,6 +3,8 @@ use Rattle.dover_model.specs.Feed.{rules_with}
 use Rattle.line_output.proofs.Putting.{puts_behind, puts_cut}
 use Rattle.task_words.specs.tasks.Tasks.{unrolled}
 use Rattle.task_words.proofs.unroll.Putting.{feed_through}
+use Rattle.std.proofs.Common.{arith}
+use Rattle.std.proofs.lemmas.Result.{on_ok_weaker, on_err_weaker}
 use Rattle.task_words.proofs.unroll.feeds.put_feed.Goals as goal
 
 pub returns-in-Err-clause-text : goal.returns-in-Err-clause-text
@@ -43,3 +45,31 @@ returns-clause-cause g c = rw (
   c.in-Ok-put_jobs.ensures.cause.ok ∙ c.in-Ok.ensures.cause.ok,
   c.in-Ok-put_jobs.ensures.cause.other ∙ c.in-Ok.ensures.cause.other,
 ) at c.put_numbers.ensures.cause
+
+pub put_jobs-requires-clause-stands : goal.put_jobs-requires-clause-stands
+put_jobs-requires-clause-stands g c = c.requires.stands
+
+pub put_jobs-requires-clause-each : goal.put_jobs-requires-clause-each
+put_jobs-requires-clause-each g c = c.requires.each
+
+pub put_jobs-requires-clause-few : goal.put_jobs-requires-clause-few
+put_jobs-requires-clause-few g c = c.requires.few
+
+pub returns-in-Err-clause-count : goal.returns-in-Err-clause-count
+returns-in-Err-clause-count g c = λ d enough. omega arith
+
+pub returns-in-Err-put_jobs-clause-count : goal.returns-in-Err-put_jobs-clause-count
+returns-in-Err-put_jobs-clause-count g c = c.put_jobs.ensures.count
+
+pub returns-clause-count : goal.returns-clause-count
+returns-clause-count g c = c.put_jobs.ensures.count
+
+pub returns-clause-stops : goal.returns-clause-stops
+returns-clause-stops g c = record {
+  well = on_ok_weaker c.put_numbers.result
+      (λ last well. last (c.in-Ok-put_jobs.ensures.stops.well (c.in-Ok.ensures.stops.well well)))
+      c.put_numbers.ensures.stops.well;
+  stopped = on_err_weaker c.put_numbers.result
+      (λ last well. last (c.in-Ok-put_jobs.ensures.stops.well (c.in-Ok.ensures.stops.well well)))
+      c.put_numbers.ensures.stops.stopped;
+}

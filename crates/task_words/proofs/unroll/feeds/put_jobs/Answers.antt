@@ -1,6 +1,11 @@
 use Rattle.std.proofs.Common.{refl, ap, ◌∙◌, ◌∷◌, ◌++◌, [], ◌+◌, length, length-append, arith}
 use Rattle.task_words.proofs.unroll.Putting.{put_all, put_few, put_more, put_cut, same_jobs}
 use Rattle.task_words.proofs.unroll.Spending.{came_few, all_cost}
+use Rattle.std.proofs.Common.{sym, subst}
+use Rattle.std.proofs.lemmas.List.{append-nil}
+use Rattle.std.specs.List.{AllByRecursion}
+use Rattle.dover_port.proofs.Made.{since_none}
+use Rattle.task_words.specs.tasks.Limits.{IsTask}
 use Rattle.task_words.proofs.unroll.feeds.put_jobs.Goals as goal
 
 pub returns-in_default-clause-text : goal.returns-in_default-clause-text
@@ -97,4 +102,28 @@ pub returns-in-Err-clause-stops : goal.returns-in-Err-clause-stops
 returns-in-Err-clause-stops g c = record {
   well = tt;
   stopped = λ well. c.in-Err.ensures.stops.stopped (c.loop-count.invariant.calls well);
+}
+
+pub next_job-requires-clause-stands : goal.next_job-requires-clause-stands
+next_job-requires-clause-stands g c = (c.loop-count.invariant.put.done, c.loop-count.invariant.put.stands)
+
+pub next_job-requires-clause-each : goal.next_job-requires-clause-each
+next_job-requires-clause-each g c =
+    subst (λ n. AllByRecursion (IsTask n) c.loop-count.unrolling.tasks) (sym c.loop-count.invariant.until)
+    (subst (AllByRecursion (IsTask c.args.unrolling.now.until)) (sym c.loop-count.invariant.tasks) c.requires.each)
+
+pub loop-count-init : goal.loop-count-init
+loop-count-init g c = record {
+  put = record {
+    done = [];
+    count_is = refl;
+    stands = c.requires.stands;
+    passes = since_none _ _ (tt, sym (append-nil c.args.out.now));
+  };
+  spent = λ d enough. omega arith;
+  tasks = refl;
+  until = refl;
+  writes = refl;
+  reads = refl;
+  calls = λ well. well;
 }

@@ -3,6 +3,10 @@ use Rattle.task_words.specs.reading.Account.{account_of_lines}
 use Rattle.task_words.specs.reading.Keeping.{StandsAt}
 use Rattle.task_words.specs.reading.Faults.{NamesAt}
 use Rattle.task_words.proofs.reading.Taking.{keeps_counted, line_taken, keeps_more, named_before}
+use Rattle.std.proofs.Common.{◌≡◌}
+use Rattle.event_feed.specs.declared.faults.Cause.TheVariants.{Line, Lines}
+use Rattle.task_words.specs.declared.reading.intake.Progress.TheVariants.{Open, Refused}
+use Rattle.task_words.proofs.reading.Taking.{line_many, line_bad}
 use Rattle.task_words.proofs.reading.intake.TaskIntake.take_line.Goals as goal
 
 pub returns-in-Ok-clause-stands : goal.returns-in-Ok-clause-stands
@@ -30,3 +34,20 @@ returns-in-Ok-clause-names c = λ until ls keeps.
     subst (λ l. NamesAt until l (account_of_lines until ls) c.take.result) (sym c.in-Ok.ensures.ok)
     (named_before until _ (account_of_lines until ls) c.take.result (c.take.ensures.names until _
     (keeps_counted until c.args.self.now mid ls c.args.line.now keeps refl refl refl refl)))
+
+pub returns-then-self-gt-MOST_LINES-clause-stands : goal.returns-then-self-gt-MOST_LINES-clause-stands
+returns-then-self-gt-MOST_LINES-clause-stands c = λ until ls keeps.
+    let mid = record c.args.self.now { lines = c.args.self.now.lines + 1 } in
+    line_many until c.args.self.now mid ls c.args.line.now keeps refl c.if-self-gt-MOST_LINES.true
+
+pub returns-then-self-gt-MOST_LINES-clause-keeps : goal.returns-then-self-gt-MOST_LINES-clause-keeps
+returns-then-self-gt-MOST_LINES-clause-keeps c = λ until ls keeps clash.
+    absurd (let it : Refused Lines ≡ Open = clash in cc)
+
+pub returns-in-Err-clause-stands : goal.returns-in-Err-clause-stands
+returns-in-Err-clause-stands c = λ until ls keeps.
+    let mid = record c.args.self.now { lines = c.args.self.now.lines + 1 } in
+    line_bad until c.args.self.now mid ls c.args.line.now keeps refl c.if-self-gt-MOST_LINES.false c.in-Err.ensures.err
+
+pub returns-in-Err-clause-keeps : goal.returns-in-Err-clause-keeps
+returns-in-Err-clause-keeps c = λ until ls keeps clash. absurd (let it : Refused Line ≡ Open = clash in cc)

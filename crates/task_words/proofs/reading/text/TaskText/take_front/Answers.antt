@@ -1,7 +1,9 @@
-use Rattle.std.proofs.Common.{◌≡◌, ◌<◌, ◌≤◌, ◌++◌, ◌∷◌, [], ℕ, List, length, get_or, refl, subst, arith}
+use Rattle.std.proofs.Common.{◌≡◌, ◌<◌, ◌≤◌, ◌++◌, ◌∷◌, [], ℕ, List, length, get_or, refl, ap, subst, arith}
 use Rattle.task_words.specs.reading.Account.{account}
 use Rattle.task_words.specs.reading.Faults.{NamesIn}
 use Rattle.task_words.specs.reading.Keeping.{StandsAt, TextStands}
+use Rattle.dover_model.specs.Lines.{lines_of, is_too_long}
+use Rattle.task_words.proofs.reading.Taking.{text_at, text_names, text_stands}
 use Rattle.task_words.proofs.reading.text.TaskText.take_front.Goals as goal
 
 -- one byte alone
@@ -24,3 +26,22 @@ pub returns-clause-names : goal.returns-clause-names
 returns-clause-names c = λ until x stands.
     subst (λ bs. NamesIn until c.take_byte.result (x ++ bs))
     (one_byte c.args.bytes.now c.requires.some c.if-bytes-gt1.false) (c.take_byte.ensures.names until x stands)
+
+pub returns-then-bytes-gt1-clause-at : goal.returns-then-bytes-gt1-clause-at
+returns-then-bytes-gt1-clause-at c = λ until x stands. text_at until x (x ++ c.args.bytes.now) c.pass.result.now
+    (c.pass.ensures.cut x stands.cut).2
+    c.take_line.result c.take_line.new.self (c.take_line.ensures.stands until (lines_of x) stands.keeps)
+
+pub returns-then-bytes-gt1-clause-stands : goal.returns-then-bytes-gt1-clause-stands
+returns-then-bytes-gt1-clause-stands c = λ until x stands open_still.
+    text_stands until x (x ++ c.args.bytes.now) c.pass.result.now
+    (c.pass.ensures.cut x stands.cut).2
+    (record { lines = c.pass.new.self; intake = c.take_line.new.self }) (c.pass.ensures.stands x stands.cut)
+    (λ _. ap is_too_long (c.pass.ensures.cut x stands.cut).1)
+    (c.take_line.ensures.keeps until (lines_of x) stands.keeps open_still)
+
+pub returns-then-bytes-gt1-clause-names : goal.returns-then-bytes-gt1-clause-names
+returns-then-bytes-gt1-clause-names c = λ until x stands. text_names until x (x ++ c.args.bytes.now) c.pass.result.now
+    (c.pass.ensures.cut x stands.cut).2
+    c.take_line.result c.args.self.now.intake stands.keeps
+    (c.take_line.ensures.names until (lines_of x) stands.keeps)
