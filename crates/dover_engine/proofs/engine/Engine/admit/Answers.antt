@@ -12,6 +12,8 @@ use Rattle.dover_engine.specs.Calls.{IsAdmitted, IsCause}
 use Rattle.dover_engine.proofs.Giving.{rests_there, may_admit, job_gave}
 use Rattle.dover_engine.proofs.Lives.{admit_gave, has_cause, refused_cause}
 use Rattle.dover_engine.specs.declared.causes.NotAdmitted.TheVariants.{Full}
+use Rattle.std.proofs.Common.{arith}
+use Rattle.std.proofs.lemmas.Bool.{false≢true}
 use Rattle.dover_engine.proofs.engine.Engine.admit.Goals as goal
 
 pub admit-event-requires-clause-valid : goal.admit-event-requires-clause-valid
@@ -97,3 +99,23 @@ returns-then-spare-eq0-clause-cause c =
       has_cause v job None c.in-Ok.ensures.refusal,
       sym c.spare.ensures ∙ c.if-spare-eq0.true,
     )
+
+pub admit-requires : goal.admit-requires
+admit-requires c = c.in-Ok.ensures.room
+
+pub admit-event-requires-clause-room : goal.admit-event-requires-clause-room
+admit-event-requires-clause-room c = omega (arith, c.if-spare-eq0.false, c.spare.ensures)
+
+pub overflow_add-result : goal.overflow_add-result
+overflow_add-result c =
+    omega (arith, c.self.invariant.forgotten_fits, c.from.ensures, c.count-number.type_inv)
+
+pub cause_behind-requires : goal.cause_behind-requires
+cause_behind-requires c = c.self.invariant.forgotten_fits
+
+pub returns-then-spare-eq0-clause-kept : goal.returns-then-spare-eq0-clause-kept
+returns-then-spare-eq0-clause-kept c = refl
+
+pub returns-then-not-is_ready_for-clause-cause : goal.returns-then-not-is_ready_for-clause-cause
+returns-then-not-is_ready_for-clause-cause c = λ ready.
+    false≢true (sym c.if-not-is_ready_for.true ∙ c.is_ready_for.ensures.1 ready)

@@ -5,6 +5,12 @@ use Rattle.dover_engine.specs.Kept.{life_of}
 use Rattle.dover_engine.specs.Life.{life_with, Life, IsAtRest, HasPaid, done_value, has_ended, spare_of, room_of}
 use Rattle.dover_engine.specs.Given.{Gave}
 use Rattle.dover_engine.proofs.Lives.{renew_gave, renew_paid}
+use Rattle.std.proofs.Common.{length}
+use Rattle.std.proofs.lemmas.Bool.{false≢true}
+use Rattle.dover_engine.proofs.engine.Engine.renew.Goals.{then-self-jobs-via-then-self-jobs}
+use Rattle.dover_engine.proofs.engine.Engine.renew.Goals.{then-self-jobs-via-else-self-jobs+then-self-value}
+use Rattle.dover_engine.proofs.engine.Engine.renew.Goals.{then-not-self-via-then-not-self}
+use Rattle.dover_engine.proofs.engine.Engine.renew.Goals.{then-not-self-via-else-not-self+then-not-is_idle}
 use Rattle.dover_engine.proofs.engine.Engine.renew.Goals as goal
 
 pub returns-clause-gave : goal.returns-clause-gave
@@ -62,3 +68,58 @@ returns-clause-spare c = c.renew.ensures.spare ∙ ap spare_of c.self.view_is
 
 pub returns-clause-room : goal.returns-clause-room
 returns-clause-room c = ap (λ r. r.room) c.renew.ensures.renewed ∙ ap room_of c.self.view_is
+
+-- it begins anew wherever it can: where it doesn't, the jobs or their value are too many to forget
+pub returns-then-self-jobs-clause-anew : goal.returns-then-self-jobs-clause-anew
+returns-then-self-jobs-clause-anew c = λ rest few modest.
+    let view = c.self.view_is in
+    absurd (elim c.then-self-jobs.branch [
+      | then-self-jobs-via-then-self-jobs w ↦ omega (
+        arith,
+        few,
+        w.if-self-jobs.true,
+        c.from-jobs.ensures,
+        c.count.ensures,
+        ap (λ (u : Life). u.forgotten + u.admission.count) view,
+      )
+      | then-self-jobs-via-else-self-jobs+then-self-value w ↦ omega (
+        arith,
+        modest,
+        w.if-self-value.true,
+        c.value-value.ensures.is,
+        ap done_value view,
+      )
+    ])
+
+-- it doesn't where something is still to be given, or a job is open
+pub returns-then-not-self-clause-anew : goal.returns-then-not-self-clause-anew
+returns-then-not-self-clause-anew c = λ rest few modest.
+    let view = c.self.view_is in
+    absurd (elim c.then-not-self.branch [
+      | then-not-self-via-then-not-self w ↦
+          false≢true (sym w.if-not-self.true ∙ ap (λ (u : Life). u.settled) view ∙ rest.settled)
+      | then-not-self-via-else-not-self+then-not-is_idle w ↦
+          false≢true (sym w.if-not-is_idle.true
+          ∙ w.is_idle.ensures.1 (ap (λ (u : Life). length u.server.ready.ready) view ∙ ap length rest.none))
+    ])
+
+pub renew-requires : goal.renew-requires
+renew-requires c = c.is_idle.ensures.0 c.if-not-is_idle.false
+
+pub returns-clause-settled : goal.returns-clause-settled
+returns-clause-settled c = ap (λ (u : Life). u.settled) c.self.view_is
+
+pub returns-clause-last : goal.returns-clause-last
+returns-clause-last c = ap (λ (u : Life). u.last) c.self.view_is
+
+pub overflow_sub-self-inside : goal.overflow_sub-self-inside
+overflow_sub-self-inside c = c.self.invariant.forgotten_fits
+
+pub overflow_sub-self-inside-else-self-jobs : goal.overflow_sub-self-inside-else-self-jobs
+overflow_sub-self-inside-else-self-jobs c = c.self.invariant.earned_fits
+
+pub overflow_add-self : goal.overflow_add-self
+overflow_add-self c = omega (arith, c.self.invariant.forgotten_fits, c.if-self-jobs.false)
+
+pub overflow_add-self-2 : goal.overflow_add-self-2
+overflow_add-self-2 c = omega (arith, c.self.invariant.earned_fits, c.if-self-value.false)
