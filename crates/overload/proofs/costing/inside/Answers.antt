@@ -1,6 +1,8 @@
 use Rattle.std.proofs.Common.{◌++◌, ◌∙◌, [], ◌∷◌, true, false, sym, ap, append-nil}
 use Rattle.overload.proofs.Near.{inside_more}
 use Rattle.overload.proofs.costing.inside.Goals as goal
+use Rattle.std.proofs.lemmas.List.{take_all}
+use Rattle.overload.specs.Stretches.{jobs_inside}
 use Rattle.overload.proofs.costing.inside.Goals.{then-is_inside+in_ok-push, else-is_inside}
 
 pub loop-job-preserved : goal.loop-job-preserved
@@ -13,3 +15,7 @@ loop-job-preserved c = elim c.if-is_inside.branch [
       ∙ sym (inside_more c.args.jobs.now c.loop-job.job-index c.job-item.result c.args.from c.args.until false
       c.loop-job-test.true c.job-item.is w.if-is_inside.ensures)
 ]
+
+pub returns : goal.returns
+returns c = c.loop-job.invariant
+    ∙ ap (λ jobs. jobs_inside jobs c.args.from c.args.until) (take_all _ c.args.jobs.now c.loop-job-test.false)
