@@ -36,12 +36,18 @@ returns c =
     ))
 
 pub put_under-requires-clause-bottom : goal.put_under-requires-clause-bottom
-put_under-requires-clause-bottom c = omega (arith, mul-le c.unit_of-unit.result c.height-high.result 18 4_294_967_296
-    c.unit_of-unit.ensures.modest c.height-high.ensures.modest)
+put_under-requires-clause-bottom c = omega (
+  arith,
+  mul-le c.unit_of-unit.result c.height-high.result 18 4_294_967_296
+      c.unit_of-unit.ensures.modest c.height-high.ensures.modest,
+)
 
 pub put_over-requires-clause-bottom : goal.put_over-requires-clause-bottom
-put_over-requires-clause-bottom c = omega (arith, mul-le c.unit_of-unit.result c.height-high.result 18 4_294_967_296
-    c.unit_of-unit.ensures.modest c.height-high.ensures.modest)
+put_over-requires-clause-bottom c = omega (
+  arith,
+  mul-le c.unit_of-unit.result c.height-high.result 18 4_294_967_296
+      c.unit_of-unit.ensures.modest c.height-high.ensures.modest,
+)
 
 pub put_over-requires-clause-steps : goal.put_over-requires-clause-steps
 put_over-requires-clause-steps c = c.requires.steps

@@ -25,32 +25,32 @@ loop-job-preserved c =
     let here = ap (asked c.args.a c.args.b) c.job-item.is in
     elim c.if-a-release.branch [
       | then-a-release+then-deadline-b w ↦ record {
-          sum = omega (
-            arith,
-            sum,
-            here,
-            w.work-is,
-            w.work-work.ensures.is,
-            c.loop-job.invariant.sum,
-            asked_due c.args.a c.args.b c.job-item.result (omega (arith, w.if-a-release.true, c.release.ensures.is)),
-            due_all c.args.b c.job-item.result (omega (arith, w.if-deadline-b.true, w.deadline.ensures.is)),
-          );
-          small = omega (
-            arith,
-            w.work-is,
-            w.work-work.ensures.is,
-            c.loop-job.invariant.small,
-            (job_limits w.work-work.ensures.job).window,
-            (job_limits w.work-work.ensures.job).due,
-          );
-        }
+        sum = omega (
+          arith,
+          sum,
+          here,
+          w.work-is,
+          w.work-work.ensures.is,
+          c.loop-job.invariant.sum,
+          asked_due c.args.a c.args.b c.job-item.result (omega (arith, w.if-a-release.true, c.release.ensures.is)),
+          due_all c.args.b c.job-item.result (omega (arith, w.if-deadline-b.true, w.deadline.ensures.is)),
+        );
+        small = omega (
+          arith,
+          w.work-is,
+          w.work-work.ensures.is,
+          c.loop-job.invariant.small,
+          (job_limits w.work-work.ensures.job).window,
+          (job_limits w.work-work.ensures.job).due,
+        );
+      }
       | else-a-release w ↦
           let none : asked c.args.a c.args.b c.job-item.result ≡ 0 = elim w.else-a-release.branch [
             | else-a-release-via-then-a-release+else-deadline-b v ↦ omega (
-                arith,
-                asked_most c.args.a c.args.b c.job-item.result,
-                due_none c.args.b c.job-item.result (omega (arith, v.if-deadline-b.false, v.deadline.ensures.is)),
-              )
+              arith,
+              asked_most c.args.a c.args.b c.job-item.result,
+              due_none c.args.b c.job-item.result (omega (arith, v.if-deadline-b.false, v.deadline.ensures.is)),
+            )
             | else-a-release-via-else-a-release v ↦
                 asked_none c.args.a c.args.b c.job-item.result
                 (omega (arith, v.if-a-release.false, c.release.ensures.is))

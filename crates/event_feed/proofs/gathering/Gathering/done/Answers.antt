@@ -6,9 +6,12 @@ pub returns-in-Ok-clause-dones : goal.returns-in-Ok-clause-dones
 returns-in-Ok-clause-dones c ls it =
     let behind : c.len-behind.result ≡ length c.args.self.now.jobs.items =
     omega (arith, c.len-behind.ensures, c.args.self.now.jobs.ok.0) in
-    inr (sym (c.mark.ensures ls it) ∙ c.if-mark-at.false, c.in-Ok.ensures.items ∙ ap (λ n.
-    let done : DoneLine = record { at = c.args.at; number = c.args.number; behind = n } in
-    c.args.self.now.dones.items ++ done ∷ []) behind)
+    inr (
+      sym (c.mark.ensures ls it) ∙ c.if-mark-at.false,
+      c.in-Ok.ensures.items ∙ ap (λ n.
+          let done : DoneLine = record { at = c.args.at; number = c.args.number; behind = n } in
+          c.args.self.now.dones.items ++ done ∷ []) behind,
+    )
 
 pub returns-then-number-len-clause-dones : goal.returns-then-number-len-clause-dones
 returns-then-number-len-clause-dones c ls it =

@@ -88,10 +88,10 @@ returns-in-Ok-Over c = record {
   stands = λ ls text is it. keeps_over ls text c.read.new.session (c.self.inside.lines + 1) (opened ls it)
       (counts ls it) (taken ls text is it);
   answer = λ ls text is it. (
-      opened ls it,
-      subst (λ a. EndsFeed (counted (account_of_lines ls)) a) (sym (next_account ls text (opened ls it)))
-          (taken ls text is it).gives,
-    );
+    opened ls it,
+    subst (λ a. EndsFeed (counted (account_of_lines ls)) a) (sym (next_account ls text (opened ls it)))
+        (taken ls text is it).gives,
+  );
   going = λ other. absurd (other refl);
   ended = (λ e. refl, λ e. refl);
   fault = refl;

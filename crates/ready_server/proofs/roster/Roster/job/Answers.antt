@@ -83,7 +83,7 @@ returns-clause-is c =
     λ b is. ap (is_displaced c.self.inside.takes) c.listed.view_is ∙ sym c.is_displaced-displaced.ensures ∙ is in
     let role : c.if-displaced.result ≡ cond (is_displaced c.self.inside.takes e) Waiting i.task.role =
     elim c.if-displaced.branch [
-      then-displaced w ↦ w.result-is ∙ sym (ap (λ b. cond b Waiting i.task.role) (by true w.if-displaced.true))
+      | then-displaced w ↦ w.result-is ∙ sym (ap (λ b. cond b Waiting i.task.role) (by true w.if-displaced.true))
       | else-displaced w ↦ w.result-is ∙ ap (λ (t : Task). t.role) c.task-task.ensures
           ∙ sym (ap (λ b. cond b Waiting i.task.role) (by false w.if-displaced.false))
     ] in

@@ -115,12 +115,12 @@ same_but r now d steps spare room viewed same items =
 
 pub returns-clause-same : goal.returns-clause-same
 returns-clause-same c = elim c.if-self.branch [
-    | then-self+in_ok-reserve-2 w ↦ subst (SameBut c.args.more c.args.self.now) (sym w.self-inside-is)
-        (same_but _ _ c.reserve.new.self _ c.args.more _ c.self.view_is c.reserve.ensures.same
-        w.reserve-then-self.ensures.items)
-    | else-self w ↦ subst (SameBut c.args.more c.args.self.now) (sym w.self-inside-is)
-        (same_but _ _ c.reserve.new.self _ c.args.more _ c.self.view_is c.reserve.ensures.same refl)
-  ]
+  | then-self+in_ok-reserve-2 w ↦ subst (SameBut c.args.more c.args.self.now) (sym w.self-inside-is)
+      (same_but _ _ c.reserve.new.self _ c.args.more _ c.self.view_is c.reserve.ensures.same
+      w.reserve-then-self.ensures.items)
+  | else-self w ↦ subst (SameBut c.args.more c.args.self.now) (sym w.self-inside-is)
+      (same_but _ _ c.reserve.new.self _ c.args.more _ c.self.view_is c.reserve.ensures.same refl)
+]
 
 pub returns-clause-paid : goal.returns-clause-paid
 returns-clause-paid c start now paid =

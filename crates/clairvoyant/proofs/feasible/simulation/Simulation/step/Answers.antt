@@ -80,14 +80,14 @@ returns-clause-few c = elim c.match-first.branch [
       ≤ length x.pieces.items + length x.queue.kept + c.release.new.self.queue.released) w.self-is
       c.in_ok-release.ensures.few)
   | in-None+in-Some-get w ↦ omega (
-      arith,
-      c.requires.few,
-      c.in_ok-release.ensures.few,
-      c.in_ok-release.ensures.rises,
-      ap (λ (x : Simulation). x.queue.released) w.self-is,
-      ap (λ (x : Simulation). length x.queue.kept) w.self-is,
-      ap (λ (x : Simulation). length x.pieces.items) w.self-is,
-    )
+    arith,
+    c.requires.few,
+    c.in_ok-release.ensures.few,
+    c.in_ok-release.ensures.rises,
+    ap (λ (x : Simulation). x.queue.released) w.self-is,
+    ap (λ (x : Simulation). length x.queue.kept) w.self-is,
+    ap (λ (x : Simulation). length x.pieces.items) w.self-is,
+  )
 ] where
   -- one more is made up for by a release
   few_then : (held kept released now after : ℕ) (P : Type 0) → kept ≤ 2 * released

@@ -13,19 +13,19 @@ overflow_sub-self-2 c =
     unknown in
     elim c.match-self.branch [
       | in-Some w ↦ omega (
-          arith,
-          can.worth,
-          c.from-value.ensures,
-          ap (λ (k : Known). k.value) read,
-          ap (λ (l : Inside). l.worth) w.self-inside-is,
-        )
+        arith,
+        can.worth,
+        c.from-value.ensures,
+        ap (λ (k : Known). k.value) read,
+        ap (λ (l : Inside). l.worth) w.self-inside-is,
+      )
       | in_default w ↦ omega (
-          arith,
-          can.worth,
-          c.from-value.ensures,
-          ap (λ (k : Known). k.value) read,
-          ap (λ (l : Inside). l.worth) w.self-inside-is,
-        )
+        arith,
+        can.worth,
+        c.from-value.ensures,
+        ap (λ (k : Known). k.value) read,
+        ap (λ (l : Inside). l.worth) w.self-inside-is,
+      )
     ]
 
 pub complete-requires-clause-taken : goal.complete-requires-clause-taken
