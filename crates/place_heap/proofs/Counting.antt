@@ -1,5 +1,5 @@
 -- How many comparisons the loops of a heap take, by the binary digits of its length.
-use Rattle.std.proofs.Common.{◌≡◌, ℕ, zero, suc, ◌+◌, ◌-◌, ◌*◌, ◌/◌, ◌^◌, ◌<◌, ◌≤◌, ap, ◌∙◌, ◌⊎◌, arith}
+use Rattle.std.proofs.Common.{◌≡◌, ℕ, zero, suc, ◌+◌, ◌-◌, ◌*◌, ◌/◌, ◌^◌, ◌<◌, ◌≤◌, ap, ◌∙◌, arith}
 use Rattle.std.proofs.Common.{inl, inr}
 use Rattle.std.proofs.lemmas.Bool.{cases_lt}
 use Rattle.std.proofs.lemmas.Nat.{pow-add}
@@ -45,45 +45,27 @@ up_last from start at now next d count some step fits =
     let above : (at - 1) / 4 * 4 + 1 ≤ at = omega arith in
     up_end from start ((at - 1) / 4) next d (up_more from start at ((at - 1) / 4) now next count above step) fits
 
--- ---- down: a step to a child takes four comparisons and two digits
+-- ---- down: a step to a child takes three comparisons and two digits
 
 abbrev pub CountsDown : (start at now : ℕ) → Type 0
-CountsDown start at now = (m : ℕ) × (2 ^ m ≤ at * 3 + 1) × (now ≤ start + 2 * m)
+CountsDown start at now = (m : ℕ) × (2 ^ m ≤ at * 3 + 1) × (2 * now ≤ 2 * start + 3 * m)
 
-pub down_more : (start at c now next : ℕ) → CountsDown start at now → at * 4 + 1 ≤ c → next ≤ now + 4
+pub down_more : (start at c now next : ℕ) → CountsDown start at now → at * 4 + 1 ≤ c → next ≤ now + 3
     → CountsDown start c next
 down_more start at c now next count below step =
     (suc (suc count.0), omega (arith, double_twice count.0, count.1), omega (arith, count.2))
 
--- after four comparisons more, with children that stay
-pub down_last : (len start at now next d : ℕ) → CountsDown start at now → at * 4 + 1 < len → next ≤ now + 4
-    → len + 2 < 2 ^ d
-    → next + 1 ≤ start + 3 * d
-down_last len start at now next d count inside step fits =
-    let less : count.0 < d = pow_less count.0 d (omega (arith, count.1)) in
-    let three : 2 < d = pow_less 2 d (omega arith) in
+-- where there are no children
+pub down_end : (len start at now d : ℕ) → CountsDown start at now → at < len → len + 2 < 2 ^ d
+    → 2 * now ≤ 2 * start + 3 * d + 3
+down_end len start at now d count inside fits =
+    let less : count.0 < suc (suc d) = pow_less count.0 (suc (suc d)) (omega (arith, count.1, double_twice d)) in
     omega (arith, count.2)
 
--- where there are no children
-pub down_end : (len start at now d : ℕ) → CountsDown start at now → at < len → len + 2 < 2 ^ d → now + 1 ≤ start + 3 * d
-down_end len start at now d count inside fits = by_cases (cases_lt count.0 2) where
-  some : 1 < d
-  some = pow_less 1 d (omega arith)
-
-  by_cases : (count.0 < 2) ⊎ (2 ≤ count.0) → now + 1 ≤ start + 3 * d
-  by_cases (inl few) = omega (arith, count.2, some)
-  by_cases (inr many) =
-      let two : 2 ^ 2 ≤ 2 ^ count.0 = pow_mono many in
-      let three : 2 < d = pow_less 2 d (omega (arith, count.1)) in
-      let less : count.0 < suc (suc d) = pow_less count.0 (suc (suc d)) (omega (arith, count.1, double_twice d)) in
-      omega (arith, count.2)
-
--- ---- both
-
--- one comparison with the parent, and then up
-pub settle_up : (len start mid next d : ℕ) → 0 < len → len + 2 < 2 ^ d → mid ≡ start + 1
+-- ---- down, and then up
+pub settle_end : (len start mid next d : ℕ) → 0 < len → len + 2 < 2 ^ d → 2 * mid ≤ 2 * start + 3 * d + 3
     → ((d : ℕ) → len < 2 ^ d → 2 * next ≤ 2 * mid + d + 1) → next ≤ start + 3 * d
-settle_up len start mid next d some fits step count =
+settle_end len start mid next d some fits down up =
     let one : 1 < d = pow_less 1 d (omega arith) in
-    let most = count d (omega arith) in
+    let most = up d (omega arith) in
     omega (arith, most)

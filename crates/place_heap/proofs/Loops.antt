@@ -7,7 +7,7 @@ use Rattle.std.proofs.lemmas.List.{get_or-set_same, get_or-set_other, length-set
 use Rattle.std.proofs.lemmas.List.{get_or-take, get_or-drop}
 use Rattle.place_heap.specs.Items.{ItemFacts, is_before}
 use Rattle.place_heap.specs.Table.{IsIndexed, nowhere, table_of, blank}
-use Rattle.place_heap.specs.HeapOrder.{IsAhead, IsChild, IsHeap, IsHeapUp, IsHeapDown}
+use Rattle.place_heap.specs.HeapOrder.{IsAhead, IsChild, IsHeap, IsHeapUp, IsHeapSave}
 use Rattle.place_heap.proofs.Swaps.{AreSwapped}
 use Rattle.place_heap.proofs.Ranking.{one_way}
 use Rattle.place_heap.proofs.Order.{ahead_from, IsFirstChild}
@@ -34,7 +34,7 @@ pub record UpLoop (es₀ : List ItemFacts) (ps₀ : List ℕ) (x : ItemFacts) (f
 pub record DownLoop (es₀ : List ItemFacts) (ps₀ : List ℕ) (x : ItemFacts) (start : ℕ) (items : List ItemFacts)
     (positions : List ℕ) (at now : ℕ) : Type 0 where
   pub hole : HasHole es₀ ps₀ x items positions at
-  pub heap : IsHeapDown (set items at x) at
+  pub heap : IsHeapSave (set items at x) at
   pub count : CountsDown start at now
 
 -- where a parent is
@@ -196,44 +196,34 @@ module _ (es₀ : List ItemFacts) (ps₀ : List ℕ) (x : ItemFacts) (from start
   up_stays before = order.up_done (set items at x) at p kept.heap p_parent
       (p_is_ahead es₀ ps₀ x items positions at p few kept.hole p_in p_apart (ap (is_before x) (sym above_at) ∙ before))
 
--- ---- a step down, and where the item stays
+-- ---- a step down, and where it ends
 
 module _ (es₀ : List ItemFacts) (ps₀ : List ℕ) (x : ItemFacts) (start : ℕ) (items : List ItemFacts) (positions : List ℕ)
-    (at now : ℕ) (kept : DownLoop es₀ ps₀ x start items positions at now) (few : length items ≤ nowhere) (c : ℕ)
-    (from : at * 4 + 1 ≤ c) (to : c ≤ at * 4 + 4) (inside : c < length items)
-    (all : (k : ℕ) → at * 4 + 1 ≤ k → k ≤ at * 4 + 4 → k < length items → IsAhead items c k)
-    (below : ItemFacts) (below_is : below ≡ get_or items c below) where
-  c_apart : c ≢ at
-  c_apart e = omega (arith, from, e)
-
-  below_at : below ≡ get_or items c blank
-  below_at = below_is ∙ get_or_default items c below blank inside
-
-  child_first : IsFirstChild (set items at x) at c
-  child_first = first_of_all items x at c from to inside all
-
-  pub down_goes_on : (items' : List ItemFacts) (positions' : List ℕ) (next : ℕ) → is_before below x ≡ true
-      → items' ≡ set items at below → positions' ≡ set positions below.place at → next ≤ now + 4
+    (at now : ℕ) (kept : DownLoop es₀ ps₀ x start items positions at now) where
+  pub down_goes_on : length items ≤ nowhere → (c : ℕ) → at * 4 + 1 ≤ c → c ≤ at * 4 + 4 → c < length items
+      → ((k : ℕ) → at * 4 + 1 ≤ k → k ≤ at * 4 + 4 → k < length items → IsAhead items c k)
+      → (below : ItemFacts) → below ≡ get_or items c below
+      → (items' : List ItemFacts) (positions' : List ℕ) (next : ℕ)
+      → items' ≡ set items at below → positions' ≡ set positions below.place at → next ≤ now + 3
       → DownLoop es₀ ps₀ x start items' positions' c next
-  down_goes_on items' positions' next before items_is positions_is step =
+  down_goes_on few c from to inside all below below_is items' positions' next items_is positions_is step =
       let y : ItemFacts = get_or items c blank in
-      let ahead : IsAhead (set items at x) c at = p_is_ahead es₀ ps₀ x items positions at c few kept.hole inside c_apart
-      (one_way y x (ap (λ z. is_before z x) (sym below_at) ∙ before)) in
+      let below_at : below ≡ y = below_is ∙ get_or_default items c below blank inside in
+      let apart : c ≢ at = λ e. omega (arith, from, e) in
       let moved : DownLoop es₀ ps₀ x start (set items at y) (set positions y.place at) c next = record {
-        hole = moved_hole es₀ ps₀ x items positions at c few kept.hole inside c_apart;
+        hole = moved_hole es₀ ps₀ x items positions at c few kept.hole inside apart;
         heap = order.down_step (set items at x) (set (set items at y) c x)
-            (moved_len es₀ ps₀ x items positions at c few kept.hole inside c_apart) at c kept.heap child_first ahead
-            (moved_swap es₀ ps₀ x items positions at c few kept.hole inside c_apart);
+            (moved_len es₀ ps₀ x items positions at c few kept.hole inside apart) at c kept.heap
+            (first_of_all items x at c from to inside all)
+            (moved_swap es₀ ps₀ x items positions at c few kept.hole inside apart);
         count = down_more start at c now next kept.count from step;
       } in
       subst (λ l. DownLoop es₀ ps₀ x start l positions' c next) (sym (items_is ∙ ap (set items at) below_at))
       (subst (λ q. DownLoop es₀ ps₀ x start (set items at y) q c next)
       (sym (positions_is ∙ ap (λ z. set positions z.place at) below_at)) moved)
 
-  pub down_stays : is_before below x ≡ false → IsHeap (set items at x)
-  down_stays before = order.down_done (set items at x) at c kept.heap child_first
-      (x_is_ahead es₀ ps₀ x items positions at c few kept.hole inside c_apart
-      (ap (λ z. is_before z x) (sym below_at) ∙ before))
+  pub down_ends : length items ≤ at * 4 + 1 → IsHeapUp (set items at x) at
+  down_ends none = order.down_done (set items at x) at kept.heap (omega (arith, none, length-set items at x))
 
 -- the item that moves in has a place that is ready
 pub moved_ready : (es₀ : List ItemFacts) (ps₀ : List ℕ) (x : ItemFacts) (items : List ItemFacts)

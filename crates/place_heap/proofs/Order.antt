@@ -1,13 +1,13 @@
 -- The order of a heap, step by step.
-use Rattle.std.proofs.Common.{◌≡◌, ◌≢◌, ℕ, ◌+◌, ◌<◌, true, false, List, length, get_or, set}
+use Rattle.std.proofs.Common.{◌≡◌, ◌≢◌, ℕ, ◌+◌, ◌*◌, ◌<◌, ◌≤◌, false, List, length, get_or, set}
 use Rattle.std.proofs.Common.{◌++◌, ◌∷◌, [], ap, ◌∙◌, sym, subst, arith, inl, inr}
 use Rattle.std.proofs.lemmas.Bool.{cases_eq}
 use Rattle.std.proofs.lemmas.List.{get_or_default, get_or_append_left, get_or-set_other, length_push, length-set}
 use Rattle.place_heap.proofs.Swaps.{AreSwapped}
 use Rattle.place_heap.specs.Items.{ItemFacts, is_before}
 use Rattle.place_heap.specs.Table.{blank}
-use Rattle.place_heap.specs.HeapOrder.{IsAhead, IsChild, IsHeap, IsHeapSave, IsHeapUp, IsHeapDown}
-use Rattle.place_heap.proofs.Ranking.{one_way, behind}
+use Rattle.place_heap.specs.HeapOrder.{IsAhead, IsChild, IsHeap, IsHeapSave, IsHeapUp}
+use Rattle.place_heap.proofs.Ranking.{behind}
 
 module _ (es : List ItemFacts) where
   -- what is read at one default is so at each
@@ -15,12 +15,6 @@ module _ (es : List ItemFacts) where
       → IsAhead es p k
   ahead_from p k p_in k_in h d = ap (λ x. is_before x (get_or es p d)) (get_or_default es k d blank k_in)
       ∙ ap (is_before (get_or es k blank)) (get_or_default es p d blank p_in) ∙ h
-
-  -- of two items the one before is ahead
-  pub ahead_if_before : (p k : ℕ) → p < length es → k < length es
-      → is_before (get_or es p blank) (get_or es k blank) ≡ true
-      → IsAhead es p k
-  ahead_if_before p k p_in k_in h = ahead_from p k p_in k_in (one_way (get_or es p blank) (get_or es k blank) h)
 
   pub ahead_through : (p q k : ℕ) → IsAhead es p q → IsAhead es q k → IsAhead es p k
   ahead_through p q k h i d = behind (get_or es p d) (get_or es q d) (get_or es k d) (h d) (i d)
@@ -36,30 +30,12 @@ module _ (es : List ItemFacts) where
   abbrev pub IsFirstChild : ℕ → ℕ → Type 0
   IsFirstChild at c = IsChild es at c × ((k : ℕ) → IsChild es at k → IsAhead es c k)
 
-  pub down_done : (at c : ℕ) → IsHeapDown es at → IsFirstChild at c → IsAhead es at c → IsHeap es
-  down_done at c heap first ahead p k child = elim (cases_eq p at) [
-    | inl is ↦ subst (λ m. IsAhead es m k) (sym is)
-        (ahead_through at c k ahead (first.1 k (subst (λ m. IsChild es m k) is child)))
-    | inr not ↦ heap.others p k not child
-  ]
-
-  -- a heap but for one item is either
-  pub save_up : (at p : ℕ) → IsHeapSave es at → IsChild es p at → IsAhead es at p → IsHeapUp es at
-  save_up at p heap parent ahead = record {
+  -- where the item that may stand wrong has no children, it may only come before its parent
+  pub down_done : (at : ℕ) → IsHeapSave es at → length es ≤ at * 4 + 1 → IsHeapUp es at
+  down_done at heap none = record {
     others = λ q k not child. elim (cases_eq q at) [
-      | inl is ↦ subst (λ m. IsAhead es m k) (sym is) (ahead_through at p k ahead
-          (heap.across p k parent (subst (λ m. IsChild es m k) is child)))
+      | inl is ↦ absurd (omega (arith, is, none, child.0, child.2))
       | inr not_q ↦ heap.others q k not_q not child
-    ];
-    across = heap.across;
-  }
-
-  pub save_down : (at p : ℕ) → IsHeapSave es at → IsChild es p at → IsAhead es p at → IsHeapDown es at
-  save_down at p heap parent ahead = record {
-    others = λ q k not child. elim (cases_eq k at) [
-      | inl is ↦ subst (λ m. IsAhead es m k) (omega (arith, parent.0, parent.1, child.0, child.1))
-          (subst (IsAhead es p) (sym is) ahead)
-      | inr not_k ↦ heap.others q k not not_k child
     ];
     across = heap.across;
   }
@@ -104,28 +80,25 @@ module _ (es ys : List ItemFacts) (same_len : length ys ≡ length es) where
         ];
   }
 
-  pub down_step : (at c : ℕ) → IsHeapDown es at → IsFirstChild es at c → IsAhead es c at → AreSwapped es ys at c
-      → IsHeapDown ys c
-  down_step at c heap first ahead swapped = record {
-    others = λ q k not child. elim (cases_eq q at) [
-      | inl is ↦ subst (λ m. IsAhead ys m k) (sym is) (elim (cases_eq k c) [
-        | inl is_c ↦ subst (IsAhead ys at) (sym is_c) (moved at c c at swapped.0 swapped.1 ahead)
-        | inr not_c ↦ moved at k c k swapped.0 (λ d. swapped.2 k d (λ e. omega (arith, child.0, is)) not_c)
-            (first.1 k (subst (λ m. IsChild es m k) is (old_child q k child)))
-      ])
+  pub down_step : (at c : ℕ) → IsHeapSave es at → IsFirstChild es at c → AreSwapped es ys at c → IsHeapSave ys c
+  down_step at c heap first swapped = record {
+    others = λ q k not_q not_k child. elim (cases_eq q at) [
+      | inl is ↦ subst (λ m. IsAhead ys m k) (sym is)
+          (moved at k c k swapped.0 (λ d. swapped.2 k d (λ e. omega (arith, e, child.0, is)) not_k)
+          (first.1 k (subst (λ m. IsChild es m k) is (old_child q k child))))
       | inr q_not_at ↦ elim (cases_eq k at) [
-        | inl is ↦ subst (IsAhead ys q) (sym is) (moved q at q c (λ d. swapped.2 q d q_not_at not) swapped.0
+        | inl is ↦ subst (IsAhead ys q) (sym is) (moved q at q c (λ d. swapped.2 q d q_not_at not_q) swapped.0
             (heap.across q c (subst (IsChild es q) is (old_child q k child)) first.0))
-        | inr not_at ↦ moved q k q k (λ d. swapped.2 q d q_not_at not)
-            (λ d. swapped.2 k d not_at (λ e. q_not_at (omega (arith, e, child.0, child.1, first.0.0, first.0.1))))
-            (heap.others q k q_not_at (old_child q k child))
+        | inr not_at ↦ moved q k q k (λ d. swapped.2 q d q_not_at not_q) (λ d. swapped.2 k d not_at not_k)
+            (heap.others q k q_not_at not_at (old_child q k child))
       ]
     ];
     across = λ q k above below.
         let q_is : at ≡ q = omega (arith, above.0, above.1, first.0.0, first.0.1) in
         subst (λ m. IsAhead ys m k) q_is (moved at k c k swapped.0
-        (λ d. swapped.2 k d (λ e. omega (arith, below.0, first.0.0)) (λ e. omega (arith, below.0)))
-        (heap.others c k (λ e. omega (arith, first.0.0)) (old_child c k below)));
+        (λ d. swapped.2 k d (λ e. omega (arith, e, below.0, first.0.0)) (λ e. omega (arith, e, below.0)))
+        (heap.others c k (λ e. omega (arith, e, first.0.0)) (λ e. omega (arith, e, below.0, first.0.0))
+        (old_child c k below)));
   }
 
 -- ---- the last item put at a position

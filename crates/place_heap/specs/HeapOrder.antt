@@ -23,8 +23,3 @@ pub record IsHeapSave (items : List ItemFacts) (i : ℕ) : Type 0 where
 pub record IsHeapUp (items : List ItemFacts) (i : ℕ) : Type 0 where
   pub others : (p k : ℕ) → k ≢ i → IsChild items p k → IsAhead items p k
   pub across : (p k : ℕ) → IsChild items p i → IsChild items i k → IsAhead items p k
-
--- only the children of the item at i may come before it
-pub record IsHeapDown (items : List ItemFacts) (i : ℕ) : Type 0 where
-  pub others : (p k : ℕ) → p ≢ i → IsChild items p k → IsAhead items p k
-  pub across : (p k : ℕ) → IsChild items p i → IsChild items i k → IsAhead items p k

@@ -4,7 +4,7 @@ ghost use Rattle.std.specs.Prelude.{◌≡◌, ◌≢◌, ℕ, ◌+◌, ◌*◌,
 ghost use Rattle.std.specs.Prelude.{length, slice_set, slice_index_or, vec_len, vec_capacity};
 ghost use Rattle.place_heap.specs.Items.{ItemFacts, is_before};
 ghost use Rattle.place_heap.specs.Table.{IsIndexed, table_of};
-ghost use Rattle.place_heap.specs.HeapOrder.{IsAhead, IsHeap, IsHeapUp, IsHeapDown, IsHeapSave};
+ghost use Rattle.place_heap.specs.HeapOrder.{IsAhead, IsHeap, IsHeapUp, IsHeapSave};
 
 use crate::item::Item;
 use std::sync::ledger::Ledger;
@@ -129,35 +129,36 @@ fn first_child<L: Ledger>(items: &[Item], at: usize, steps: &mut Steps<L>) -> us
     first_of_few(items, low, steps)
 }
 
-/// Moves an item down to where it comes before its children.
-pub(crate) fn sift_down<L: Ledger>(
+// Takes the item at a position out of the order, down to where it has no children: each time the child that comes first
+// moves up. Answers where it ends. What it is compared with is only what stands above it there, since a heap's last item
+// seldom belongs higher.
+fn sink<L: Ledger>(
     items: &mut [Item],
     positions: &mut [u32],
     from: usize,
     steps: &mut Steps<L>,
-)
+) -> usize
     requires indexed { IsIndexed items.old positions.old }
     requires few { length items.old < 2 ^ 32 }
     requires from { from < length items.old }
-    requires heap { IsHeapDown items.old from }
+    requires heap { IsHeapSave items.old from }
     ensures indexed { IsIndexed items.new positions.new }
     ensures table { table_of items.new positions.new ≡ table_of items.old positions.old }
-    ensures heap { IsHeap items.new }
-    ensures count { (d : ℕ) → length items.old + 2 < 2 ^ d → steps.new + 1 ≤ steps.old + 3 * d }
+    ensures len { length items.new ≡ length items.old }
+    ensures inside { result < length items.new }
+    ensures heap { IsHeapUp items.new result }
+    ensures count { (d : ℕ) → length items.old + 2 < 2 ^ d → 2 * steps.new ≤ 2 * steps.old + 3 * d + 3 }
 {
     let item = items[from];
     let mut at = from;
     while at * 4 + 1 < items.len() {
         let child = first_child(items, at, steps);
         let below = items[child];
-        if !below.is_before(&item, steps) {
-            set_at(items, positions, at, item);
-            return;
-        }
         set_at(items, positions, at, below);
         at = child;
     }
     set_at(items, positions, at, item);
+    at
 }
 
 /// Moves an item up or down to where it belongs.
@@ -176,16 +177,8 @@ pub(crate) fn settle<L: Ledger>(
     ensures heap { IsHeap items.new }
     ensures count { (d : ℕ) → length items.old + 2 < 2 ^ d → steps.new ≤ steps.old + 3 * d }
 {
-    if at == 0 {
-        sift_down(items, positions, at, steps);
-        return;
-    }
-    let parent = (at - 1) / 4;
-    if items[at].is_before(&items[parent], steps) {
-        sift_up(items, positions, at, steps);
-        return;
-    }
-    sift_down(items, positions, at, steps);
+    let leaf = sink(items, positions, at, steps);
+    sift_up(items, positions, leaf, steps);
 }
 
 /// Puts an item last.

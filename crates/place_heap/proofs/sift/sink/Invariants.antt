@@ -1,6 +1,6 @@
 use Rattle.std.proofs.Common.{length, ◌-◌}
 use Rattle.place_heap.proofs.Loops.{DownLoop}
-use Rattle.place_heap.proofs.sift.sift_down.Given as goal
+use Rattle.place_heap.proofs.sift.sink.Given as goal
 
 abbrev pub invariant-loop-at : goal.invariant-loop-at
 invariant-loop-at g l = DownLoop l.fn.items l.fn.positions l.item l.fn.steps l.items l.positions l.at l.steps
