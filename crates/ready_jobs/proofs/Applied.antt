@@ -18,10 +18,10 @@ use Rattle.dover_model.proofs.Members.{some_same, sum_map}
 use Rattle.dover_model.proofs.Tests.{none_is_some}
 use Rattle.ready_jobs.specs.Cases.{next_of}
 use Rattle.dover_model.specs.Ready.{is_ready}
-use Rattle.ready_jobs.specs.Reordered.{IsReordered}
+use Rattle.waiting_pool.specs.Reordered.{IsReordered}
 use Rattle.ready_jobs.specs.Parts.{Parted, HaveRoles, AreSound, ready_of, state_of, head_of, tail_of}
 use Rattle.ready_jobs.specs.Changed.{named, AreOnce, Leaves, IsNext, printed, made_wait}
-use Rattle.ready_jobs.proofs.Reordering.{as_many}
+use Rattle.waiting_pool.proofs.Reordering.{as_many}
 use Rattle.ready_jobs.proofs.Seeing.{seen_running, seen_fresh, waiting_list, late_none, late_later}
 use Rattle.ready_jobs.proofs.Seeing.{late_found}
 use Rattle.ready_jobs.proofs.Changes.{completes, resumes, starts, begins, abandons, preempts, takes}

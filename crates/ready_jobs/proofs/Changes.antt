@@ -17,11 +17,12 @@ use Rattle.dover_model.proofs.Members.{sum_filter, sum_zero, sum_le, term_le_sum
 use Rattle.dover_model.proofs.Roles.{passes, numbers_above}
 use Rattle.dover_model.proofs.Tests.{never}
 use Rattle.dover_model.specs.Ready.{is_ready}
-use Rattle.ready_jobs.specs.Reordered.{IsReordered}
-use Rattle.ready_jobs.specs.Parts.{Parted, HaveRole, HaveRoles, HaveOwnNumbers, ready_of}
+use Rattle.waiting_pool.specs.Reordered.{IsReordered}
+use Rattle.waiting_pool.specs.Pools.{HaveOwnNumbers}
+use Rattle.ready_jobs.specs.Parts.{Parted, HaveRole, HaveRoles, ready_of}
 use Rattle.ready_jobs.specs.Changed.{named, AreOnce, made_wait, Leaves}
-use Rattle.ready_jobs.proofs.Reordering.{same_order, both_parts, turned, further, filtered, mapped}
-use Rattle.ready_jobs.proofs.Pooling.{between}
+use Rattle.waiting_pool.proofs.Reordering.{same_order, both_parts, turned, further, filtered, mapped}
+use Rattle.waiting_pool.proofs.Pooling.{between}
 use Rattle.ready_jobs.proofs.Seeing.{filter_each, filter_none}
 
 -- ---- numbers of their own, as often as they are there

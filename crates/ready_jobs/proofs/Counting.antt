@@ -9,7 +9,7 @@ use Rattle.dover_model.specs.Session.{ready_at, is_full}
 use Rattle.dover_model.specs.Settled.{settled_state}
 use Rattle.dover_model.specs.State.{State, state_at}
 use Rattle.ready_jobs.specs.Course.{Course, Follows}
-use Rattle.ready_jobs.proofs.Reordering.{as_many}
+use Rattle.waiting_pool.proofs.Reordering.{as_many}
 
 module _ (c : Course) (J : Instance) (z : State) (follows : Follows c J z) (mark : ℕ)
     (there : settled_state J mark ≡ state_at mark z.tasks) where

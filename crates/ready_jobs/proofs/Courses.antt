@@ -46,15 +46,15 @@ use Rattle.dover_model.proofs.Leading.{late_silent, over_ends}
 use Rattle.dover_model.proofs.ReadyParts.{change}
 use Rattle.dover_model.proofs.Waiting.{some_goes_on, settles_idles, over_waits_until}
 use Rattle.dover_model.proofs.Limiting.{jobs_most, total_most}
-use Rattle.ready_jobs.specs.Reordered.{IsReordered}
+use Rattle.waiting_pool.specs.Reordered.{IsReordered}
 use Rattle.ready_jobs.specs.Parts.{Parted, HaveRoles, ready_of, state_of}
 use Rattle.ready_jobs.specs.Following.{PartOf, IsPart, SettlesTo}
 use Rattle.ready_jobs.specs.Course.{Course, Follows, IsCourse, new_course, course_of, fresh_job, with_release, Reached}
 use Rattle.ready_jobs.specs.Course.{Settled, ComesNext, Takes, IsDue, Finishes, RunsNowhere}
 use Rattle.ready_jobs.specs.Deeds.{Does, Finds, step_at}
 use Rattle.ready_jobs.specs.declared.deeds.Deed.{Deed}
-use Rattle.ready_jobs.proofs.Reordering.{same_order, further, exchanged, as_many}
-use Rattle.ready_jobs.proofs.Pooling.{between}
+use Rattle.waiting_pool.proofs.Reordering.{same_order, further, exchanged, as_many}
+use Rattle.waiting_pool.proofs.Pooling.{between}
 use Rattle.ready_jobs.specs.Changed.{Leaves, AreOnce, named}
 use Rattle.ready_jobs.proofs.Changes.{once_numbered, once_some, once_still, map_each, completes}
 use Rattle.ready_jobs.proofs.Seeing.{running_list}

@@ -5,11 +5,11 @@ use Rattle.std.proofs.lemmas.List.{reverse-append}
 use Rattle.dover_model.specs.declared.events.Task.{Task}
 use Rattle.dover_model.specs.Sound.{IsMember, Each}
 use Rattle.ready_jobs.specs.Changed.{made_wait}
-use Rattle.ready_jobs.specs.Pools.{Pooled}
-use Rattle.ready_jobs.specs.Reordered.{IsReordered}
-use Rattle.ready_jobs.specs.Short.{no_number}
-use Rattle.ready_jobs.proofs.Pooling.{between, length_more}
-use Rattle.ready_jobs.proofs.Reordering.{same_order, both_parts, further, turned, as_many}
+use Rattle.waiting_pool.specs.Pools.{Pooled}
+use Rattle.waiting_pool.specs.Reordered.{IsReordered}
+use Rattle.waiting_pool.specs.Short.{no_number}
+use Rattle.waiting_pool.proofs.Pooling.{between, length_more}
+use Rattle.waiting_pool.proofs.Reordering.{same_order, both_parts, further, turned, as_many}
 
 -- of the jobs that were held some are still, and the others wait: those that will wait in the end are the same
 pub record Displaces (was is : List Task) (from to : Pooled) : Type 0 where

@@ -40,11 +40,11 @@ use Rattle.dover_model.specs.Ready.{is_ready, ready_part}
 use Rattle.dover_model.proofs.Leading.{settles_append}
 use Rattle.dover_model.proofs.ReadyParts.{change, after_change, step_ready, ready_then, done_then}
 use Rattle.dover_model.proofs.Limiting.{total_most}
-use Rattle.ready_jobs.specs.Reordered.{IsReordered}
+use Rattle.waiting_pool.specs.Reordered.{IsReordered}
 use Rattle.ready_jobs.specs.Parts.{Parted, HaveRole, HaveRoles, AreSound, ready_of, state_of}
 use Rattle.ready_jobs.specs.Following.{PartOf, SettlesTo}
 use Rattle.ready_jobs.specs.Changed.{AreOnce, Leaves}
-use Rattle.ready_jobs.proofs.Reordering.{filtered, mapped, further}
+use Rattle.waiting_pool.proofs.Reordering.{filtered, mapped, further}
 use Rattle.ready_jobs.proofs.Views.{AreApart, step_still}
 use Rattle.ready_jobs.proofs.Naming.{waits_says}
 use Rattle.ready_jobs.proofs.Seeing.{seen_fresh, waiting_list, privileged_list}

@@ -14,12 +14,12 @@ use Rattle.dover_model.specs.Step.{with_role}
 use Rattle.dover_model.specs.Sound.{IsMember, Each}
 use Rattle.dover_model.proofs.Members.{on_map, member_front, member_behind, each_append}
 use Rattle.held_queue.specs.Kept.{Lasting, AreRoomsOf}
-use Rattle.ready_jobs.specs.Pools.{Pooled}
+use Rattle.waiting_pool.specs.Pools.{Pooled}
 use Rattle.ready_jobs.specs.Parts.{Parted, AreParts, HaveRole, ready_of, head_of, tail_of}
 use Rattle.ready_jobs.specs.Changed.{made_wait}
-use Rattle.ready_jobs.specs.Reordered.{IsReordered}
-use Rattle.ready_jobs.specs.Short.{no_number}
-use Rattle.ready_jobs.proofs.Reordering.{as_many}
+use Rattle.waiting_pool.specs.Reordered.{IsReordered}
+use Rattle.waiting_pool.specs.Short.{no_number}
+use Rattle.waiting_pool.proofs.Reordering.{as_many}
 
 -- the first held job runs on
 abbrev pub resumed_of : Parted → Parted

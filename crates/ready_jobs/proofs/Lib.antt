@@ -1,8 +1,6 @@
 pub mod Deciding
 pub mod Jumping
-pub mod Reordering
 pub mod Views
-pub mod Pooling
 pub mod Seeing
 pub mod Changes
 pub mod Displacing

@@ -14,9 +14,9 @@ use Rattle.dover_model.specs.Sound.{IsMember, Each, Keeps}
 use Rattle.dover_model.proofs.Members.{each_append}
 use Rattle.dover_model.proofs.Honest.{count_jobs}
 use Rattle.dover_model.specs.Ready.{is_ready, with_fresh}
-use Rattle.ready_jobs.specs.Reordered.{IsReordered}
+use Rattle.waiting_pool.specs.Reordered.{IsReordered}
 use Rattle.ready_jobs.specs.Course.{Course, Follows, fresh_job, with_release}
-use Rattle.ready_jobs.proofs.Reordering.{same_order, both_parts}
+use Rattle.waiting_pool.proofs.Reordering.{same_order, both_parts}
 use Rattle.ready_jobs.proofs.Courses.{follows_count}
 
 module _ (c : Course) (J : Instance) (z : State) (follows : Follows c J z) where

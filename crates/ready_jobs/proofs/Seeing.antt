@@ -24,9 +24,11 @@ use Rattle.dover_model.proofs.Roles.{passes}
 use Rattle.dover_model.proofs.Tests.{none_is_some}
 use Rattle.ready_jobs.specs.Dues.{until_latest, until_done, still_ticks}
 use Rattle.held_queue.specs.Stack.{IsByDeadline, IsDueBeforeAll}
-use Rattle.ready_jobs.specs.Parts.{Parted, HaveRole, HaveRoles, HaveOwnNumbers, ready_of, state_of, head_of}
-use Rattle.ready_jobs.proofs.Reordering.{first_is, first_only}
-use Rattle.ready_jobs.proofs.Views.{apart_or_one, own_some}
+use Rattle.waiting_pool.specs.Pools.{HaveOwnNumbers}
+use Rattle.ready_jobs.specs.Parts.{Parted, HaveRole, HaveRoles, ready_of, state_of, head_of}
+use Rattle.waiting_pool.proofs.Reordering.{first_is, first_only}
+use Rattle.ready_jobs.proofs.Views.{own_some}
+use Rattle.waiting_pool.proofs.Pooling.{apart_or_one}
 
 -- ---- those that pass
 

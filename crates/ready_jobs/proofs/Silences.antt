@@ -19,10 +19,10 @@ use Rattle.dover_model.specs.Step.{Move, Prints, Waits, Ticks, view, open_step, 
 use Rattle.dover_model.specs.Jumps.{ticked_by, later_by}
 use Rattle.ready_jobs.specs.Dues.{still_ticks}
 use Rattle.dover_model.proofs.ReadyParts.{change}
-use Rattle.ready_jobs.specs.Reordered.{IsReordered}
+use Rattle.waiting_pool.specs.Reordered.{IsReordered}
 use Rattle.ready_jobs.specs.Parts.{Parted, HaveRoles, AreSound, ready_of, state_of}
 use Rattle.ready_jobs.specs.Following.{IsPart, SettlesTo, SettlesFrom}
-use Rattle.ready_jobs.proofs.Reordering.{as_many}
+use Rattle.waiting_pool.proofs.Reordering.{as_many}
 use Rattle.ready_jobs.specs.Changed.{AreOnce, Leaves}
 use Rattle.ready_jobs.proofs.Changes.{stays}
 use Rattle.dover_model.proofs.Tests.{none_is_some}

@@ -32,7 +32,7 @@ use Rattle.dover_model.specs.Spending.{CostsAtMost}
 use Rattle.dover_model.proofs.WaitingMoves.{open_leaves}
 use Rattle.dover_model.proofs.Spending.{so_far_for, spent_few, spent_on, spent_more, open_falls, open_pays}
 use Rattle.dover_model.specs.Leading.{Idles}
-use Rattle.ready_jobs.specs.Reordered.{IsReordered}
+use Rattle.waiting_pool.specs.Reordered.{IsReordered}
 use Rattle.ready_jobs.specs.Parts.{Parted, HaveRoles, ready_of, state_of}
 use Rattle.ready_jobs.specs.Changed.{Leaves}
 use Rattle.ready_jobs.specs.Course.{Course, Follows, IsCourse, Reached, course_of, fresh_job, with_release}

@@ -1,8 +1,7 @@
 -- The view of jobs in another order.
-use Rattle.std.proofs.Common.{◌≡◌, ℕ, ◌+◌, ◌-◌, inl, inr, List, map, sym, ap, ◌∙◌, Bool, true, false}
+use Rattle.std.proofs.Common.{◌≡◌, ℕ, ◌+◌, ◌-◌, List, map, sym, ap, ◌∙◌, Bool, true, false}
 use Rattle.std.proofs.Common.{nat_lt}
 use Rattle.std.specs.List.{filter, sum_by}
-use Rattle.std.proofs.lemmas.Bool.{cases_eq}
 use Rattle.dover_model.specs.declared.events.Version.{Version}
 use Rattle.dover_model.specs.declared.events.Entry.{Entry}
 use Rattle.dover_model.specs.declared.events.Task.{Task}
@@ -16,17 +15,10 @@ use Rattle.dover_model.specs.Sound.{Each, EachTwo}
 use Rattle.dover_model.proofs.EntryOrders.{strict_by}
 use Rattle.dover_model.proofs.Members.{map_same, member_filter}
 use Rattle.dover_model.proofs.Tests.{never}
-use Rattle.ready_jobs.specs.Reordered.{IsReordered}
-use Rattle.ready_jobs.specs.Parts.{HaveOwnNumbers}
-use Rattle.ready_jobs.proofs.Reordering.{filtered, mapped, found_same, first_same, least_same}
-
--- of two jobs one comes before the other, or they are one
-pub apart_or_one : (before : Entry → Entry → Bool) → IsStrictOrder before → (tasks : List Task) → HaveOwnNumbers tasks
-    → EachTwo (λ t u. before (entry_of t) (entry_of u) ≡ false → before (entry_of u) (entry_of t) ≡ false → t ≡ u) tasks
-apart_or_one before strict tasks own t u mt mu ahead back = elim (cases_eq t.number u.number) [
-  | inl same ↦ own t u mt mu same
-  | inr other ↦ never (sym back ∙ strict.total (entry_of t) (entry_of u) other ahead)
-]
+use Rattle.waiting_pool.specs.Reordered.{IsReordered}
+use Rattle.waiting_pool.specs.Pools.{HaveOwnNumbers}
+use Rattle.waiting_pool.proofs.Pooling.{apart_or_one}
+use Rattle.waiting_pool.proofs.Reordering.{filtered, mapped, found_same, first_same, least_same}
 
 -- of some of them
 pub own_some : (p : Task → Bool) (tasks : List Task) → HaveOwnNumbers tasks → HaveOwnNumbers (filter p tasks)

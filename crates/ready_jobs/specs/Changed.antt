@@ -8,7 +8,7 @@ use Rattle.dover_model.specs.Fraction.{Fraction}
 use Rattle.dover_model.specs.State.{is_done, value_sum}
 use Rattle.dover_model.specs.Step.{Prints, open_step, with_role, role_after}
 use Rattle.dover_model.specs.Ready.{is_ready}
-use Rattle.ready_jobs.specs.Reordered.{IsReordered}
+use Rattle.waiting_pool.specs.Reordered.{IsReordered}
 use Rattle.ready_jobs.specs.Parts.{Parted, state_of}
 
 -- one for the job of this number

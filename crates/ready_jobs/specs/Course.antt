@@ -19,7 +19,7 @@ use Rattle.dover_model.specs.Sound.{Each, Keeps}
 use Rattle.dover_model.specs.WholeRun.{IsBefore}
 use Rattle.dover_model.specs.Leading.{Idles, IsSilent, GoesOn, WaitsUntil, PrintsNext}
 use Rattle.dover_model.specs.Ready.{is_ready}
-use Rattle.ready_jobs.specs.Reordered.{IsReordered}
+use Rattle.waiting_pool.specs.Reordered.{IsReordered}
 use Rattle.ready_jobs.specs.Parts.{Parted, ready_of}
 use Rattle.ready_jobs.specs.Deeds.{Finds, step_at}
 use Rattle.ready_jobs.specs.declared.deeds.Deed.{Deed}

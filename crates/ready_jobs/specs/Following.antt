@@ -8,7 +8,7 @@ use Rattle.dover_model.specs.Run.{Step}
 use Rattle.dover_model.specs.Sound.{Each, Keeps}
 use Rattle.dover_model.specs.Leading.{Settles}
 use Rattle.dover_model.specs.Ready.{is_ready}
-use Rattle.ready_jobs.specs.Reordered.{IsReordered}
+use Rattle.waiting_pool.specs.Reordered.{IsReordered}
 use Rattle.ready_jobs.specs.Parts.{Parted, ready_of}
 
 -- these are the jobs that aren't over, of these jobs in this state

@@ -1,7 +1,3 @@
-pub mod Reordered
-pub mod Short
-pub mod Slots
-pub mod Pools
 pub mod Parts
 pub mod Cases
 pub mod Dues

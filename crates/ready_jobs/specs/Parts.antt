@@ -5,21 +5,13 @@ use Rattle.dover_model.specs.declared.events.Version.{Version}
 use Rattle.dover_model.specs.declared.events.Task.{Task}
 use Rattle.dover_model.specs.declared.events.Role.{Role}
 use Rattle.dover_model.specs.declared.events.Role.TheVariants.{Fresh, Waiting, Held, Running}
-use Rattle.dover_model.specs.Limits.{most_value, most_ready}
+use Rattle.dover_model.specs.Limits.{most_ready}
 use Rattle.dover_model.specs.Entries.{entry_of}
 use Rattle.dover_model.specs.State.{State, latest_start, value_sum}
-use Rattle.dover_model.specs.Sound.{Each, EachTwo}
+use Rattle.dover_model.specs.Sound.{Each}
 use Rattle.held_queue.specs.Kept.{Lasting, AreRoomsOf}
-use Rattle.ready_jobs.specs.Pools.{Pooled}
-use Rattle.ready_jobs.specs.Short.{no_number}
-
--- no two jobs have one number
-abbrev pub HaveOwnNumbers : List Task → Type 0
-HaveOwnNumbers tasks = EachTwo (λ t u. t.number ≡ u.number → t ≡ u) tasks
-
--- no job is worth too much
-abbrev pub AreModest : List Task → Type 0
-AreModest tasks = Each (λ t. t.job.value ≤ most_value) tasks
+use Rattle.waiting_pool.specs.Pools.{Pooled, HaveOwnNumbers, AreModest}
+use Rattle.waiting_pool.specs.Short.{no_number}
 
 -- the version that breaks ties, the clock, the running and the fresh job, the held jobs, the one due first before the
 -- others, those that wait, and how many ready jobs there is room for

@@ -3,10 +3,10 @@ ghost use Rattle.std.specs.Prelude.{◌≡◌, ◌↔◌, ◌<◌, ◌+◌, [], 
 ghost use Rattle.std.specs.Prelude.{IsSome, MatchOption};
 ghost use Rattle.std.specs.Option.{option_to_list};
 ghost use Rattle.ready_jobs.specs.Parts.{head_of};
-ghost use Rattle.ready_jobs.specs.Slots.{seen};
+ghost use Rattle.waiting_pool.specs.Slots.{seen};
 
-use crate::short::ShortTask;
 use dover_model::Task;
+use waiting_pool::ShortTask;
 
 /// The job on top.
 #[inline(always)]

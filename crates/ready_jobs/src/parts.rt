@@ -18,15 +18,13 @@ ghost use Rattle.ready_jobs.specs.Cases.{decision_of, alarm_of};
 ghost use Rattle.ready_jobs.specs.Dues.{still_ticks, until_done};
 ghost use Rattle.ready_jobs.specs.Changed.{made_wait};
 ghost use Rattle.ready_jobs.specs.Deeds.{step_at, Finds};
-ghost use Rattle.ready_jobs.specs.Reordered.{IsReordered};
-ghost use Rattle.ready_jobs.specs.Short.{no_number};
-ghost use Rattle.ready_jobs.specs.Slots.{seen};
+ghost use Rattle.waiting_pool.specs.Reordered.{IsReordered};
+ghost use Rattle.waiting_pool.specs.Short.{no_number};
+ghost use Rattle.waiting_pool.specs.Slots.{seen};
 ghost use Rattle.ready_jobs.specs.Parts.{Parted, AreSound, HaveRoles, ready_of, state_of, head_of, tail_of};
 
 use crate::deeds::Deed;
 use crate::held::{peek, pop, push};
-use crate::pool::Pool;
-use crate::short::{ShortTask, left};
 use crate::taking::{displace, in_role};
 use dover_model::{Entry, Job, Memory, Ratio, Role, Task, Version};
 use held_queue::Rooms;
@@ -35,6 +33,7 @@ use std::alloc::Global;
 use std::marker::Model;
 use std::sync::ledger::Ledger;
 use step_count::Steps;
+use waiting_pool::{Pool, ShortTask, left};
 
 /// The ready jobs by their roles. Those that wait are in a pool, the held ones on a stack with their rooms.
 #[derive(Drop)]

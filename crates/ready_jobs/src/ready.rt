@@ -11,7 +11,7 @@ ghost use Rattle.std.specs.List.{filter};
 ghost use Rattle.dover_model.specs.State.{State, state_at, is_held};
 ghost use Rattle.dover_model.specs.Step.{Prints, open_step, view};
 ghost use Rattle.dover_model.specs.Settled.{waits_for_mark};
-ghost use Rattle.ready_jobs.specs.Reordered.{IsReordered};
+ghost use Rattle.waiting_pool.specs.Reordered.{IsReordered};
 ghost use Rattle.ready_jobs.specs.Course.{Course, Follows, IsCourse, Reached, Settled, new_course, fresh_job, IsDue};
 ghost use Rattle.ready_jobs.specs.Course.{SettlesAt, StepsBefore, ComesNext, Passes, Takes, with_release};
 ghost use Rattle.ready_jobs.specs.Course.{Finishes, Runs, RunsNowhere};

@@ -2,16 +2,15 @@
 ghost use Rattle.std.specs.Prelude.{◌≡◌, ℕ, ◌+◌, ◌*◌, ◌^◌, ◌<◌, ◌≤◌, [], ◌++◌, length, map, reverse, vec_capacity};
 ghost use Rattle.dover_model.specs.Step.{with_role};
 ghost use Rattle.dover_model.specs.Sound.{Each};
-ghost use Rattle.ready_jobs.specs.Reordered.{IsReordered};
+ghost use Rattle.waiting_pool.specs.Reordered.{IsReordered};
 ghost use Rattle.ready_jobs.specs.Changed.{made_wait};
-ghost use Rattle.ready_jobs.specs.Short.{no_number};
+ghost use Rattle.waiting_pool.specs.Short.{no_number};
 
 use crate::held::pop;
-use crate::pool::Pool;
-use crate::short::ShortTask;
 use dover_model::{Role, Task};
 use std::sync::ledger::Ledger;
 use step_count::Steps;
+use waiting_pool::{Pool, ShortTask};
 
 // The job in another role.
 #[inline(always)]

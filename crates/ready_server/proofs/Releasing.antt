@@ -25,7 +25,7 @@ use Rattle.dover_model.proofs.Tests.{never}
 use Rattle.dover_model.specs.Ready.{with_fresh}
 use Rattle.dover_model.proofs.Released.{after_release}
 use Rattle.dover_model.specs.declared.horizon.Horizon.TheVariants.{Mark}
-use Rattle.ready_jobs.specs.Reordered.{IsReordered}
+use Rattle.waiting_pool.specs.Reordered.{IsReordered}
 use Rattle.ready_jobs.specs.Course.{Course, Follows, IsCourse, fresh_job, with_release}
 use Rattle.ready_jobs.proofs.Courses.{follows_count, follows_order}
 use Rattle.ready_jobs.proofs.Releasing.{release_follows}

@@ -8,9 +8,9 @@ ghost use Rattle.ready_server.specs.Roster as model;
 ghost use Rattle.ready_server.specs.Roster.{empty_roll, with_event, job_at};
 
 use dover_model::{Event, Job, Memory, Role, Task};
-use ready_jobs::ShortTask;
 use std::alloc::Global;
 use std::marker::Model;
+use waiting_pool::ShortTask;
 
 /// A job as it was when it last had the processor.
 #[derive(Drop)]

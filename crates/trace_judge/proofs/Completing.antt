@@ -10,7 +10,7 @@ use Rattle.admission.specs.Kept as admission
 use Rattle.std.specs.Option.{option_map}
 use Rattle.std.specs.List.{filter}
 use Rattle.ready_jobs.proofs.Courses.{follows_count}
-use Rattle.ready_jobs.proofs.Reordering.{as_many}
+use Rattle.waiting_pool.proofs.Reordering.{as_many}
 use Rattle.dover_model.specs.Ready.{is_ready}
 use Rattle.dover_model.specs.Instance.{Instance, with_finishes}
 use Rattle.dover_model.specs.Limits.{last_tick, most_items}

@@ -33,8 +33,8 @@ use Rattle.trace_judge.proofs.Seeing.{sees_keeps, sees_rest}
 use Rattle.trace_judge.proofs.Only.{only_release}
 use Rattle.trace_judge.specs.declared.stage.Stage.TheVariants.{Going}
 use Rattle.ready_jobs.specs.Course.{Course, Follows, IsCourse, with_release, fresh_job}
-use Rattle.ready_jobs.specs.Reordered.{IsReordered}
-use Rattle.ready_jobs.proofs.Reordering.{as_many}
+use Rattle.waiting_pool.specs.Reordered.{IsReordered}
+use Rattle.waiting_pool.proofs.Reordering.{as_many}
 use Rattle.trace_judge.specs.Reads.{Reading, Goes, Reads, StaysAhead, HasSpare, IsReader, kept_steps, Took, Waited}
 use Rattle.trace_judge.specs.Reads.{CanRelease, at_tick}
 use Rattle.ready_jobs.proofs.Courses.{follows_count, follows_room, follows_order}

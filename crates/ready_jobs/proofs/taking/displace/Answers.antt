@@ -3,10 +3,10 @@ use Rattle.std.proofs.Common.{map, reverse, arith}
 use Rattle.std.specs.Option.{option_to_list}
 use Rattle.dover_model.specs.declared.events.Task.{Task}
 use Rattle.ready_jobs.specs.Changed.{made_wait}
-use Rattle.ready_jobs.specs.Reordered.{IsReordered}
-use Rattle.ready_jobs.specs.Short.{no_number}
+use Rattle.waiting_pool.specs.Reordered.{IsReordered}
+use Rattle.waiting_pool.specs.Short.{no_number}
 use Rattle.ready_jobs.proofs.Courses.{no_items}
-use Rattle.ready_jobs.proofs.Reordering.{same_order}
+use Rattle.waiting_pool.proofs.Reordering.{same_order}
 use Rattle.ready_jobs.proofs.Displacing.{one_displaced, one_fits, one_small, one_less, one_counted}
 use Rattle.ready_jobs.proofs.taking.displace.Goals as goal
 

@@ -1,7 +1,7 @@
 use Rattle.std.proofs.Common.{sym}
 use Rattle.std.proofs.Common.{subst}
 use Rattle.std.specs.Prelude.{vec_capacity}
-use Rattle.ready_jobs.specs.Pools.{Pooled}
+use Rattle.waiting_pool.specs.Pools.{Pooled}
 use Rattle.ready_jobs.specs.Parts.{AreParts}
 use Rattle.ready_jobs.specs.Kept.{parted_of}
 use Rattle.ready_jobs.proofs.Keeping.{versioned_kept}

@@ -7,7 +7,7 @@ use Rattle.dover_model.specs.Step.{is_at_latest_start}
 use Rattle.dover_model.specs.Orders.{starts_before, first}
 use Rattle.ready_jobs.specs.Parts.{Parted, AreSound, state_of}
 use Rattle.ready_jobs.specs.Kept.{parted_of}
-use Rattle.ready_jobs.specs.Slots.{seen}
+use Rattle.waiting_pool.specs.Slots.{seen}
 use Rattle.ready_jobs.proofs.Seeing.{waiting_list, start_none, start_later, start_found}
 use Rattle.ready_jobs.proofs.parts.Parts.first_late.Goals as goal
 

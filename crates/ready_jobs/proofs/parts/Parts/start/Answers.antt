@@ -4,8 +4,8 @@ use Rattle.std.specs.Prelude.{vec_capacity}
 use Rattle.dover_model.specs.declared.events.Role.TheVariants.{Running}
 use Rattle.dover_model.specs.Orders.{first, due_first}
 use Rattle.dover_model.specs.Step.{with_role}
-use Rattle.ready_jobs.specs.Reordered.{IsReordered}
-use Rattle.ready_jobs.specs.Pools.{Pooled}
+use Rattle.waiting_pool.specs.Reordered.{IsReordered}
+use Rattle.waiting_pool.specs.Pools.{Pooled}
 use Rattle.ready_jobs.specs.Parts.{Parted, AreParts, AreSound}
 use Rattle.ready_jobs.specs.Kept.{parted_of}
 use Rattle.ready_jobs.proofs.Keeping.{started_kept, same_kept}

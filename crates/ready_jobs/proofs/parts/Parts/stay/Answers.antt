@@ -5,11 +5,11 @@ use Rattle.dover_model.specs.declared.events.Task.{Task}
 use Rattle.std.specs.Option.{option_to_list}
 use Rattle.dover_model.specs.declared.events.Role.TheVariants.{Waiting}
 use Rattle.dover_model.specs.Step.{with_role}
-use Rattle.ready_jobs.specs.Reordered.{IsReordered}
-use Rattle.ready_jobs.specs.Pools.{Pooled}
+use Rattle.waiting_pool.specs.Reordered.{IsReordered}
+use Rattle.waiting_pool.specs.Pools.{Pooled}
 use Rattle.ready_jobs.specs.Parts.{Parted, AreParts}
 use Rattle.ready_jobs.specs.Kept.{parted_of}
-use Rattle.ready_jobs.specs.Short.{no_number}
+use Rattle.waiting_pool.specs.Short.{no_number}
 use Rattle.ready_jobs.proofs.Keeping.{fresh_small, stayed_kept}
 use Rattle.ready_jobs.proofs.Silences.{ready_count}
 use Rattle.ready_jobs.proofs.parts.Parts.stay.Goals as goal

@@ -6,14 +6,14 @@ use Rattle.dover_model.specs.declared.events.Task.{Task}
 use Rattle.dover_model.specs.Entries.{entry_of}
 use Rattle.dover_model.specs.Orders.{starts_before, first}
 use Rattle.ready_jobs.specs.Changed.{made_wait}
-use Rattle.ready_jobs.specs.Reordered.{IsReordered}
-use Rattle.ready_jobs.specs.Pools.{Pooled}
+use Rattle.waiting_pool.specs.Reordered.{IsReordered}
+use Rattle.waiting_pool.specs.Pools.{Pooled}
 use Rattle.ready_jobs.specs.Parts.{Parted, AreParts, AreSound, ready_of}
 use Rattle.ready_jobs.specs.Kept.{parted_of}
-use Rattle.ready_jobs.specs.Short.{no_number}
+use Rattle.waiting_pool.specs.Short.{no_number}
 use Rattle.ready_jobs.proofs.Keeping.{taken_kept, running_small, small_held, all_fit, some_busy}
 use Rattle.ready_jobs.proofs.Displacing.{taken_order, take_counted}
-use Rattle.ready_jobs.proofs.Reordering.{as_many}
+use Rattle.waiting_pool.proofs.Reordering.{as_many}
 use Rattle.ready_jobs.proofs.parts.Parts.take.Goals as goal
 
 pub take_latest-requires-clause-modest : goal.take_latest-requires-clause-modest

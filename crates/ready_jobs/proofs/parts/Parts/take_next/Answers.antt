@@ -2,7 +2,7 @@ use Rattle.std.proofs.Common.{Some, sym, ap, ◌∙◌, subst, arith}
 use Rattle.dover_model.specs.declared.events.Event.TheVariants.{Take}
 use Rattle.ready_jobs.specs.Changed.{Leaves, printed}
 use Rattle.ready_jobs.specs.Parts.{ready_of}
-use Rattle.ready_jobs.specs.Slots.{seen}
+use Rattle.waiting_pool.specs.Slots.{seen}
 use Rattle.ready_jobs.proofs.Applied.{taken_leaves, taken_named, some_runs, some_late}
 use Rattle.dover_model.specs.Orders.{starts_before}
 use Rattle.dover_model.proofs.FirstOfTasks.{first_member}

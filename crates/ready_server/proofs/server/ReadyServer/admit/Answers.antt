@@ -4,7 +4,7 @@ use Rattle.dover_model.specs.Instance.{with_jobs}
 use Rattle.dover_model.specs.Settled.{settled}
 use Rattle.dover_model.specs.declared.horizon.Horizon.TheVariants.{Mark}
 use Rattle.ready_jobs.specs.Course.{Course, fresh_job}
-use Rattle.ready_jobs.proofs.Reordering.{as_many}
+use Rattle.waiting_pool.proofs.Reordering.{as_many}
 use Rattle.ready_server.specs.Serving.{Serves}
 use Rattle.ready_server.proofs.Releasing.{release_course, release_ahead, release_given}
 use Rattle.ready_server.proofs.server.ReadyServer.admit.Goals as goal

@@ -1,0 +1,659 @@
+-- Jobs at places, and the heaps over them.
+use Rattle.std.proofs.Common.{◌≡◌, ℕ, zero, suc, ◌+◌, ◌-◌, ◌≤◌, ◌<◌, ◌⊎◌, inl, inr, List, [], ◌∷◌, ◌++◌, length}
+use Rattle.std.proofs.Common.{set, get_or, replicate, refl, sym, ap, ◌∙◌, subst, Bool, true, false, cond, arith}
+use Rattle.std.specs.Prelude.{Option, Some, None, option_map, ◌==◌, is_some, Result, Ok, Err, OnOk, IsErr}
+use Rattle.std.specs.List.{slice_get, sum_by, count_by}
+use Rattle.std.proofs.lemmas.Bool.{cases_eq, eq-eqb, ne_eqb}
+use Rattle.std.proofs.lemmas.List.{append_assoc, length-append, length-replicate}
+use Rattle.std.proofs.lemmas.List.{replicate-append-replicate}
+use Rattle.std.proofs.lemmas.List.Sums.{sum_by-cons, sum_by-append}
+use Rattle.dover_model.specs.Limits.{most_value}
+use Rattle.dover_model.specs.declared.events.Version.{Version}
+use Rattle.dover_model.specs.declared.events.Task.{Task}
+use Rattle.dover_model.specs.declared.events.Entry.{Entry}
+use Rattle.dover_model.specs.Entries.{IsStrictOrder, entry_of, is_due_before, is_start_before}
+use Rattle.dover_model.specs.Orders.{first, due_first, starts_before, earlier}
+use Rattle.dover_model.specs.Sound.{IsMember, Each, EachTwo}
+use Rattle.dover_model.proofs.EntryOrders.{strict_by}
+use Rattle.dover_model.proofs.Members.{some_same, reduce_none}
+use Rattle.dover_model.proofs.Tests.{never, none_is_some}
+use Rattle.place_heap.specs.Items.{ItemFacts, is_before}
+use Rattle.place_heap.specs.Orders.{due_item, latest_item}
+use Rattle.place_heap.specs.Table.{items_of}
+use Rattle.place_heap.proofs.Ranking.{one_way, onward}
+use Rattle.place_heap.proofs.Tying.{ordered_as}
+use Rattle.waiting_pool.specs.Reordered.{IsReordered}
+use Rattle.waiting_pool.specs.Pools.{HaveOwnNumbers, AreModest}
+use Rattle.waiting_pool.specs.Pools.{jobs_at, items_from, times, is_free, AreFree, HasItems, IsPool, HasRoom}
+use Rattle.waiting_pool.proofs.Reordering.{same_order, exchanged, both_parts, turned, as_many, first_is, first_only}
+
+-- what is said of a success says nothing of an error
+pub not_ok : {T E : Type 0} (P : Type 0) (r : Result T E) → IsErr r → OnOk r P
+not_ok P (Ok x) is = never is
+not_ok P (Err e) is = tt
+
+-- of two jobs one comes before the other, or they are one
+pub apart_or_one : (before : Entry → Entry → Bool) → IsStrictOrder before → (tasks : List Task) → HaveOwnNumbers tasks
+    → EachTwo (λ t u. before (entry_of t) (entry_of u) ≡ false → before (entry_of u) (entry_of t) ≡ false → t ≡ u) tasks
+apart_or_one before strict tasks own t u mt mu ahead back = elim (cases_eq t.number u.number) [
+  | inl same ↦ own t u mt mu same
+  | inr other ↦ never (sym back ∙ strict.total (entry_of t) (entry_of u) other ahead)
+]
+
+-- ---- a list around a place
+
+-- what stands before and behind
+pub record Around {X : Type 0} (xs : List X) (n : ℕ) (x : X) : Type 0 where
+  pub front : List X
+  pub back : List X
+  pub place : length front ≡ n
+  pub is : xs ≡ front ++ x ∷ back
+  pub put : (y : X) → set xs n y ≡ front ++ y ∷ back
+
+pub around : {X : Type 0} (xs : List X) (n : ℕ) (x : X) → slice_get xs n ≡ Some x → Around xs n x
+around [] n x at = none_is_some at
+around (y ∷ xs) zero x at =
+    record { front = []; back = xs; place = refl; is = ap (λ z. z ∷ xs) (some_same y x at); put = λ z. refl }
+around (y ∷ xs) (suc n) x at =
+    let rest = around xs n x at in
+    record {
+      front = y ∷ rest.front;
+      back = rest.back;
+      place = ap suc rest.place;
+      is = ap (λ l. y ∷ l) rest.is;
+      put = λ z. ap (λ l. y ∷ l) (rest.put z);
+    }
+
+-- it stands within
+pub within : {X : Type 0} (xs : List X) (n : ℕ) (x : X) → slice_get xs n ≡ Some x → n < length xs
+within [] n x at = none_is_some at
+within (y ∷ xs) zero x at = omega arith
+within (y ∷ xs) (suc n) x at = let rest : n < length xs = within xs n x at in omega arith
+
+pub same_length : {X : Type 0} (xs : List X) (n : ℕ) (x : X) → length (set xs n x) ≡ length xs
+same_length [] n x = refl
+same_length (y ∷ xs) zero x = refl
+same_length (y ∷ xs) (suc n) x = ap suc (same_length xs n x)
+
+-- ---- the jobs
+
+pub jobs_append : (xs ys : List (Option Task)) → jobs_at (xs ++ ys) ≡ jobs_at xs ++ jobs_at ys
+jobs_append [] ys = refl
+jobs_append (None ∷ xs) ys = jobs_append xs ys
+jobs_append (Some t ∷ xs) ys = ap (λ l. t ∷ l) (jobs_append xs ys)
+
+-- one stands in front, or between others
+pub between : {X : Type 0} (t : X) (xs ys : List X) → IsReordered (t ∷ (xs ++ ys)) (xs ++ t ∷ ys)
+between t xs ys = subst (IsReordered (t ∷ (xs ++ ys))) (append_assoc xs (t ∷ []) ys)
+    (both_parts ((t ∷ []) ++ xs) (xs ++ t ∷ []) ys ys (exchanged (t ∷ []) xs) (same_order ys))
+
+-- a job comes to a free place
+pub jobs_in : (slots : List (Option Task)) (n : ℕ) (t : Task) → slice_get slots n ≡ Some None
+    → IsReordered (t ∷ jobs_at slots) (jobs_at (set slots n (Some t)))
+jobs_in slots n t at =
+    let it = around slots n None at in
+    subst (λ l. IsReordered (t ∷ l) (jobs_at (set slots n (Some t))))
+    (sym (ap jobs_at it.is ∙ jobs_append it.front (None ∷ it.back)))
+    (subst (IsReordered (t ∷ (jobs_at it.front ++ jobs_at it.back)))
+    (sym (ap jobs_at (it.put (Some t)) ∙ jobs_append it.front (Some t ∷ it.back)))
+    (between t (jobs_at it.front) (jobs_at it.back)))
+
+-- a job leaves its place
+pub jobs_out : (slots : List (Option Task)) (n : ℕ) (t : Task) → slice_get slots n ≡ Some (Some t)
+    → IsReordered (jobs_at slots) (t ∷ jobs_at (set slots n None))
+jobs_out slots n t at =
+    let it = around slots n (Some t) at in
+    subst (λ l. IsReordered (jobs_at slots) (t ∷ l))
+    (sym (ap jobs_at (it.put None) ∙ jobs_append it.front (None ∷ it.back)))
+    (subst (λ l. IsReordered l (t ∷ (jobs_at it.front ++ jobs_at it.back)))
+    (sym (ap jobs_at it.is ∙ jobs_append it.front (Some t ∷ it.back)))
+    (turned _ _ (between t (jobs_at it.front) (jobs_at it.back))))
+
+-- each job has a place
+pub place_of : (slots : List (Option Task)) (t : Task) → IsMember t (jobs_at slots) → (n : ℕ)
+    × (slice_get slots n ≡ Some (Some t))
+place_of [] t m = absurd m
+place_of (None ∷ slots) t m = let rest = place_of slots t m in (suc rest.0, rest.1)
+place_of (Some u ∷ slots) t (inl e) = (0, ap (λ x. Some (Some x)) (sym e))
+place_of (Some u ∷ slots) t (inr m) = let rest = place_of slots t m in (suc rest.0, rest.1)
+
+-- and a job at a place is one of them
+pub job_there : (slots : List (Option Task)) (n : ℕ) (t : Task) → slice_get slots n ≡ Some (Some t)
+    → IsMember t (jobs_at slots)
+job_there [] n t at = none_is_some at
+job_there (None ∷ slots) zero t at = none_is_some (some_same None (Some t) at)
+job_there (Some u ∷ slots) zero t at = inl (sym (some_same u t (some_same (Some u) (Some t) at)))
+job_there (None ∷ slots) (suc n) t at = job_there slots n t at
+job_there (Some u ∷ slots) (suc n) t at = inr (job_there slots n t at)
+
+-- ---- the free places
+
+-- one for no job
+abbrev pub one_free : Option Task → ℕ
+one_free o = elim o [ None ↦ 1 | Some t ↦ 0 ]
+
+-- a free place is within, and no job is there
+pub free_none : (slots : List (Option Task)) (p : ℕ) → 1 ≤ is_free slots p → slice_get slots p ≡ Some None
+free_none [] p some = absurd (omega arith)
+free_none (None ∷ slots) zero some = refl
+free_none (Some t ∷ slots) zero some = absurd (omega arith)
+free_none (o ∷ slots) (suc p) some = free_none slots p some
+
+-- where something else is put at a place
+pub free_set : (slots : List (Option Task)) (n p : ℕ) (o : Option Task) → n < length slots
+    → is_free (set slots n o) p ≡ cond (n == p) (one_free o) (is_free slots p)
+free_set [] n p o inside = absurd (omega arith)
+free_set (x ∷ slots) zero zero o inside = refl
+free_set (x ∷ slots) zero (suc p) o inside =
+    ap (λ b. cond b (one_free o) (is_free slots p)) (sym (ne_eqb 0 (suc p) (λ e. omega (arith, e))))
+free_set (x ∷ slots) (suc n) zero o inside =
+    ap (λ b. cond b (one_free o) (is_free (x ∷ slots) 0)) (sym (ne_eqb (suc n) 0 (λ e. omega (arith, e))))
+free_set (x ∷ slots) (suc n) (suc p) o inside = free_set slots n p o (omega arith)
+    ∙ ap (λ b. cond b (one_free o) (is_free slots p)) (same n p) where
+      same : (a b : ℕ) → (a == b) ≡ (suc a == suc b)
+      same a b = grind arith
+
+-- and where a free place comes behind
+pub free_push : (slots : List (Option Task)) (p : ℕ)
+    → is_free (slots ++ None ∷ []) p ≡ is_free slots p + cond (length slots == p) 1 0
+free_push [] zero = refl
+free_push [] (suc p) = let other : cond {A = ℕ} (0 == suc p) 1 0 ≡ 0 =
+    ap (λ (b : Bool). cond {A = ℕ} b 1 0) (ne_eqb 0 (suc p) (λ e. omega (arith, e))) in omega (arith, other)
+free_push (x ∷ slots) zero = let other : cond {A = ℕ} (suc (length slots) == 0) 1 0 ≡ 0 =
+    ap (λ (b : Bool). cond {A = ℕ} b 1 0) (ne_eqb (suc (length slots)) 0 (λ e. omega (arith, e))) in
+    omega (arith, other)
+free_push (x ∷ slots) (suc p) = free_push slots p ∙ ap (λ b. is_free slots p + cond b 1 0) (same (length slots) p) where
+  same : (a b : ℕ) → (a == b) ≡ (suc a == suc b)
+  same a b = grind arith
+
+-- a place named once more
+pub times_push : (p q : ℕ) (places : List ℕ) → times p (places ++ q ∷ []) ≡ times p places + cond (q == p) 1 0
+times_push p q places =
+    omega (
+      arith,
+      sum_by-append (λ x. cond (x == p) 1 0) places (q ∷ []),
+      sum_by-cons (λ x. cond (x == p) 1 0) q [],
+      one,
+    ) where
+      one : sum_by (λ x. cond (x == p) 1 0) [] ≡ 0
+      one = refl
+
+-- the last named one is free
+pub last_free : (slots : List (Option Task)) (places : List ℕ) (p : ℕ) → AreFree slots (places ++ p ∷ [])
+    → slice_get slots p ≡ Some None
+last_free slots places p are =
+    free_none slots p (omega
+    (arith, are p, times_push p p places, ap (λ (b : Bool). cond {A = ℕ} b 1 0) (eq-eqb p p refl)))
+
+-- where it is taken, the others are
+pub free_taken : (slots : List (Option Task)) (places : List ℕ) (p : ℕ) (t : Task) → AreFree slots (places ++ p ∷ [])
+    → AreFree (set slots p (Some t)) places
+free_taken slots places p t are q = by_place (cases_eq p q) where
+  named : times q places + cond (p == q) 1 0 ≡ is_free slots q
+  named = sym (times_push q p places) ∙ are q
+
+  inside : p < length slots
+  inside = within slots p None (last_free slots places p are)
+
+  one : is_free slots p ≡ 1
+  one = by_slots slots p (last_free slots places p are) where
+    by_slots : (xs : List (Option Task)) (n : ℕ) → slice_get xs n ≡ Some None → is_free xs n ≡ 1
+    by_slots [] n at = none_is_some at
+    by_slots (None ∷ xs) zero at = refl
+    by_slots (Some u ∷ xs) zero at = none_is_some (sym (some_same (Some u) None at))
+    by_slots (x ∷ xs) (suc n) at = by_slots xs n at
+
+  by_place : (p ≡ q) ⊎ ((p ≡ q) → ⊥) → times q places ≡ is_free (set slots p (Some t)) q
+  by_place (inl same) =
+      let here = free_set slots p q (Some t) inside ∙ ap (λ b. cond b 0 (is_free slots q)) (eq-eqb p q same) in
+      omega (arith, here, named, ap (λ (b : Bool). cond {A = ℕ} b 1 0) (eq-eqb p q same), one, ap (is_free slots) same)
+  by_place (inr other) =
+      let there = free_set slots p q (Some t) inside ∙ ap (λ b. cond b 0 (is_free slots q)) (ne_eqb p q other) in
+      omega (arith, there, named, ap (λ (b : Bool). cond {A = ℕ} b 1 0) (ne_eqb p q other))
+
+-- where a job leaves, its place is free
+pub free_again : (slots : List (Option Task)) (places : List ℕ) (p : ℕ) (t : Task) → slice_get slots p ≡ Some (Some t)
+    → AreFree slots places
+    → AreFree (set slots p None) (places ++ p ∷ [])
+free_again slots places p t at are q = by_place (cases_eq p q) where
+  inside : p < length slots
+  inside = within slots p (Some t) at
+
+  taken : is_free slots p ≡ 0
+  taken = by_slots slots p at where
+    by_slots : (xs : List (Option Task)) (n : ℕ) → slice_get xs n ≡ Some (Some t) → is_free xs n ≡ 0
+    by_slots [] n e = refl
+    by_slots (None ∷ xs) zero e = none_is_some (some_same None (Some t) e)
+    by_slots (Some u ∷ xs) zero e = refl
+    by_slots (x ∷ xs) (suc n) e = by_slots xs n e
+
+  by_place : (p ≡ q) ⊎ ((p ≡ q) → ⊥) → times q (places ++ p ∷ []) ≡ is_free (set slots p None) q
+  by_place (inl same) =
+      let here = free_set slots p q None inside ∙ ap (λ b. cond b 1 (is_free slots q)) (eq-eqb p q same) in
+      omega (
+        arith,
+        here,
+        times_push q p places,
+        are q,
+        ap (λ (b : Bool). cond {A = ℕ} b 1 0) (eq-eqb p q same),
+        taken,
+        ap (is_free slots) same,
+      )
+  by_place (inr other) =
+      let there = free_set slots p q None inside ∙ ap (λ b. cond b 1 (is_free slots q)) (ne_eqb p q other) in
+      omega (arith, there, times_push q p places, are q, ap (λ (b : Bool). cond {A = ℕ} b 1 0) (ne_eqb p q other))
+
+-- a free place comes behind
+pub free_more : (slots : List (Option Task)) (places : List ℕ) (p : ℕ) → p ≡ length slots → AreFree slots places
+    → AreFree (slots ++ None ∷ []) (places ++ p ∷ [])
+free_more slots places p is are q =
+    omega (arith, times_push q p places, are q, free_push slots q, ap (λ n. cond {A = ℕ} (n == q) 1 0) is)
+
+-- ---- the items
+
+module _ (item : ℕ → Entry → ItemFacts) where
+  pub items_length : (p : ℕ) (slots : List (Option Task)) → length (items_from item p slots) ≡ length slots
+  items_length p [] = refl
+  items_length p (o ∷ slots) = ap suc (items_length (suc p) slots)
+
+  -- what the table has at a place
+  pub item_at : (p : ℕ) (slots : List (Option Task)) (rest : List (Option ItemFacts)) (n : ℕ) (o : Option Task)
+      → slice_get slots n ≡ Some o
+      → get_or (items_from item p slots ++ rest) n None ≡ option_map (λ t. item (p + n) (entry_of t)) o
+  item_at p [] rest n o at = none_is_some at
+  item_at p (x ∷ slots) rest zero o at =
+      let same : p ≡ p + 0 = omega arith in
+      ap (option_map (λ t. item p (entry_of t))) (some_same x o at)
+      ∙ ap (λ m. option_map (λ t. item m (entry_of t)) o) same
+  item_at p (x ∷ slots) rest (suc n) o at =
+      let same : suc p + n ≡ p + suc n = omega arith in
+      item_at (suc p) slots rest n o at ∙ ap (λ m. option_map (λ t. item m (entry_of t)) o) same
+
+  -- it follows what is put at a place
+  pub item_set : (p : ℕ) (slots : List (Option Task)) (rest : List (Option ItemFacts)) (n : ℕ) (o : Option Task)
+      → n < length slots
+      → set (items_from item p slots ++ rest) n (option_map (λ t. item (p + n) (entry_of t)) o) ≡ items_from item p
+      (set slots n o) ++ rest
+  item_set p [] rest n o inside = absurd (omega arith)
+  item_set p (x ∷ slots) rest zero o inside =
+      let same : p + 0 ≡ p = omega arith in
+      ap (λ m. option_map (λ t. item m (entry_of t)) o ∷ (items_from item (suc p) slots ++ rest)) same
+  item_set p (x ∷ slots) rest (suc n) o inside =
+      let same : p + suc n ≡ suc p + n = omega arith in
+      ap (λ m. option_map (λ t. item p (entry_of t)) x ∷ set (items_from item (suc p) slots ++ rest) n
+      (option_map (λ t. item m (entry_of t)) o)) same
+      ∙ ap (λ l. option_map (λ t. item p (entry_of t)) x ∷ l) (item_set (suc p) slots rest n o (omega arith))
+
+  none_some : (k : ℕ) → count_by is_some (replicate {A = Option ItemFacts} k None) ≡ 0
+  none_some zero = refl
+  none_some (suc k) = none_some k
+
+  -- as many as there are jobs
+  pub item_count : (p : ℕ) (slots : List (Option Task)) (k : ℕ)
+      → count_by is_some (items_from item p slots ++ replicate k None) ≡ length (jobs_at slots)
+  item_count p [] k = none_some k
+  item_count p (None ∷ slots) k =
+      omega (
+        arith,
+        item_count (suc p) slots k,
+        sum_by-cons (λ (o : Option ItemFacts). cond (is_some o) 1 0) None
+            (items_from item (suc p) slots ++ replicate k None),
+      )
+  item_count p (Some t ∷ slots) k =
+      omega (
+        arith,
+        item_count (suc p) slots k,
+        sum_by-cons (λ (o : Option ItemFacts). cond (is_some o) 1 0) (Some (item p (entry_of t)))
+            (items_from item (suc p) slots ++ replicate k None),
+      )
+
+  -- each item is that of a job at a place
+  pub item_job : (p : ℕ) (slots : List (Option Task)) (k : ℕ) (i : ItemFacts)
+      → IsMember i (items_of (items_from item p slots ++ replicate k None))
+      → (n : ℕ) × (t : Task) × (slice_get slots n ≡ Some (Some t)) × (i ≡ item (p + n) (entry_of t))
+  item_job p [] zero i m = absurd m
+  item_job p [] (suc k) i m = item_job p [] k i m
+  item_job p (None ∷ slots) k i m =
+      let rest = item_job (suc p) slots k i m in
+      let same : suc p + rest.0 ≡ p + suc rest.0 = omega arith in
+      (suc rest.0, rest.1, rest.2, rest.3 ∙ ap (λ n. item n (entry_of rest.1)) same)
+  item_job p (Some t ∷ slots) k i (inl e) = let same : p ≡ p + 0 = omega arith in
+      (0, t, refl, e ∙ ap (λ n. item n (entry_of t)) same)
+  item_job p (Some t ∷ slots) k i (inr m) =
+      let rest = item_job (suc p) slots k i m in
+      let same : suc p + rest.0 ≡ p + suc rest.0 = omega arith in
+      (suc rest.0, rest.1, rest.2, rest.3 ∙ ap (λ n. item n (entry_of rest.1)) same)
+
+  -- and each job at a place has its item
+  pub job_item : (p : ℕ) (slots : List (Option Task)) (k n : ℕ) (t : Task) → slice_get slots n ≡ Some (Some t)
+      → IsMember (item (p + n) (entry_of t)) (items_of (items_from item p slots ++ replicate k None))
+  job_item p [] k n t at = none_is_some at
+  job_item p (None ∷ slots) k zero t at = none_is_some (some_same None (Some t) at)
+  job_item p (Some u ∷ slots) k zero t at =
+      let same : p + 0 ≡ p = omega arith in
+      inl (ap (λ n. item n (entry_of t)) same
+      ∙ ap (λ x. item p (entry_of x)) (sym (some_same u t (some_same (Some u) (Some t) at))))
+  job_item p (None ∷ slots) k (suc n) t at =
+      let same : suc p + n ≡ p + suc n = omega arith in
+      subst (λ m. IsMember (item m (entry_of t)) (items_of (items_from item (suc p) slots ++ replicate k None))) same
+      (job_item (suc p) slots k n t at)
+  job_item p (Some u ∷ slots) k (suc n) t at =
+      let same : suc p + n ≡ p + suc n = omega arith in
+      inr (subst (λ m. IsMember (item m (entry_of t)) (items_of (items_from item (suc p) slots ++ replicate k None)))
+      same (job_item (suc p) slots k n t at))
+
+-- ---- the first
+
+module _ (item : ℕ → Entry → ItemFacts) (before : Entry → Entry → Bool) (strict : IsStrictOrder before)
+    (placed : (p : ℕ) (a : Entry) → (item p a).place ≡ p)
+    (law : (a b : Entry) (p q : ℕ) → (a.number ≡ b.number → ⊥) → a.value ≤ most_value → b.value ≤ most_value
+    → is_before (item p a) (item q b) ≡ before a b)
+    (slots : List (Option Task)) (table : List (Option ItemFacts)) (has : HasItems item slots table) where
+  -- where the heap has none, none waits
+  pub none_first : None ≡ first is_before (items_of table)
+      → None ≡ first (λ a b. before (entry_of a) (entry_of b)) (jobs_at slots)
+  none_first none = sym (empty (jobs_at slots) (λ t m.
+      let it = place_of slots t m in
+      let there = job_item item 0 slots has.0 it.0 t it.1 in
+      reduce_none (earlier is_before) (items_of table) (sym none) (item (0 + it.0) (entry_of t))
+      (subst (λ l. IsMember (item (0 + it.0) (entry_of t)) (items_of l)) (sym has.1) there))) where
+        empty : (ts : List Task) → Each (λ t. ⊥) ts → first (λ a b. before (entry_of a) (entry_of b)) ts ≡ None
+        empty [] not = refl
+        empty (t ∷ ts) not = absurd (not t (inl refl))
+
+  -- the first item is that of the first job, which stands at its place
+  pub found_first : (i : ItemFacts) → Some i ≡ first is_before (items_of table) → HaveOwnNumbers (jobs_at slots)
+      → AreModest (jobs_at slots)
+      → (t : Task) × (slice_get slots i.place ≡ Some (Some t))
+      × (first (λ a b. before (entry_of a) (entry_of b)) (jobs_at slots) ≡ Some t)
+      × ((p : ℕ) × (i ≡ item p (entry_of t)))
+  found_first i at own modest =
+      let top = first_is is_before one_way onward (items_of table) i (sym at) in
+      let it = item_job item 0 slots has.0 i (subst (λ l. IsMember i (items_of l)) has.1 top.0) in
+      let t : Task = it.1 in
+      let here : slice_get slots it.0 ≡ Some (Some t) = it.2 in
+      let number : i.place ≡ it.0 = ap (λ (x : ItemFacts). x.place) it.3 ∙ placed (0 + it.0) (entry_of t)
+      ∙ none_more it.0 in
+      let member : IsMember t (jobs_at slots) = job_there slots it.0 t here in (
+        t,
+        ap (slice_get slots) number ∙ here,
+        first_only (λ a b. before (entry_of a) (entry_of b)) (λ a b. strict.one_way (entry_of a) (entry_of b))
+            (λ a b c. strict.onward (entry_of a) (entry_of b) (entry_of c)) (jobs_at slots) t member
+            (λ u m ahead. best t it.0 it.3 member top.1 u m (cases_eq u.number t.number) ahead)
+            (apart_or_one before strict (jobs_at slots) own),
+        (0 + it.0, it.3),
+      ) where
+        none_more : (n : ℕ) → 0 + n ≡ n
+        none_more n = omega arith
+
+        best : (t : Task) (n : ℕ) → i ≡ item (0 + n) (entry_of t) → IsMember t (jobs_at slots)
+            → Each (λ y. is_before y i ≡ true → ⊥) (items_of table) → (u : Task) → IsMember u (jobs_at slots)
+            → (u.number ≡ t.number) ⊎ ((u.number ≡ t.number) → ⊥) → before (entry_of u) (entry_of t) ≡ true → ⊥
+        best t n is mt none u mu (inl same) ahead =
+            let one : u ≡ t = own u t mu mt same in
+            never (sym (strict.one_way (entry_of t) (entry_of t)
+            (ap (λ x. before (entry_of x) (entry_of t)) (sym one) ∙ ahead))
+            ∙ ap (λ x. before (entry_of x) (entry_of t)) (sym one) ∙ ahead)
+        best t n is mt none u mu (inr other) ahead =
+            let at_u = place_of slots u mu in
+            let there = subst (λ l. IsMember (item (0 + at_u.0) (entry_of u)) (items_of l)) (sym has.1)
+            (job_item item 0 slots has.0 at_u.0 u at_u.1) in
+            none (item (0 + at_u.0) (entry_of u)) there
+            (ap (is_before (item (0 + at_u.0) (entry_of u))) is
+            ∙ law (entry_of u) (entry_of t) (0 + at_u.0) (0 + n) other (modest u mu) (modest t mt) ∙ ahead)
+
+-- ---- both orders
+
+due_law : (v : Version) (a b : Entry) (p q : ℕ) → (a.number ≡ b.number → ⊥) → a.value ≤ most_value
+    → b.value ≤ most_value
+    → is_before (due_item v p a) (due_item v q b) ≡ is_due_before v a b
+due_law v a b p q apart low less = (ordered_as v a b p q apart low less).due
+
+latest_law : (v : Version) (a b : Entry) (p q : ℕ) → (a.number ≡ b.number → ⊥) → a.value ≤ most_value
+    → b.value ≤ most_value
+    → is_before (latest_item v p a) (latest_item v q b) ≡ is_start_before v a b
+latest_law v a b p q apart low less = (ordered_as v a b p q apart low less).latest
+
+module _ (v : Version) (slots : List (Option Task)) (table : List (Option ItemFacts)) where
+  pub due_none : HasItems (due_item v) slots table → None ≡ first is_before (items_of table)
+      → None ≡ first (due_first v) (jobs_at slots)
+  due_none has = none_first (due_item v) (is_due_before v) (strict_by (λ e. e.deadline) v) (λ p a. refl)
+      (due_law v) slots table has
+
+  pub latest_none : HasItems (latest_item v) slots table → None ≡ first is_before (items_of table)
+      → None ≡ first (starts_before v) (jobs_at slots)
+  latest_none has = none_first (latest_item v) (is_start_before v) (strict_by (λ e. e.latest) v) (λ p a. refl)
+      (latest_law v) slots table has
+
+  module _ (i : ItemFacts) (at : Some i ≡ first is_before (items_of table)) (own : HaveOwnNumbers (jobs_at slots))
+      (modest : AreModest (jobs_at slots)) where
+    pub due_found : HasItems (due_item v) slots table
+        → (t : Task) × (slice_get slots i.place ≡ Some (Some t)) × (first (due_first v) (jobs_at slots) ≡ Some t)
+        × ((p : ℕ) × (i ≡ due_item v p (entry_of t)))
+    due_found has = found_first (due_item v) (is_due_before v) (strict_by (λ e. e.deadline) v) (λ p a. refl)
+        (due_law v) slots table has i at own modest
+
+    pub latest_found : HasItems (latest_item v) slots table
+        → (t : Task) × (slice_get slots i.place ≡ Some (Some t)) × (first (starts_before v) (jobs_at slots) ≡ Some t)
+        × ((p : ℕ) × (i ≡ latest_item v p (entry_of t)))
+    latest_found has = found_first (latest_item v) (is_start_before v) (strict_by (λ e. e.latest) v) (λ p a. refl)
+        (latest_law v) slots table has i at own modest
+
+-- ---- the pool
+
+-- a table follows what is put at a place
+table_set : (item : ℕ → Entry → ItemFacts) (slots : List (Option Task)) (table : List (Option ItemFacts)) (p : ℕ)
+    (o : Option Task) → p < length slots
+    → HasItems item slots table → HasItems item (set slots p o) (set table p (option_map (λ t. item p (entry_of t)) o))
+table_set item slots table p o inside has = (
+  has.0,
+  ap (λ l. set l p (option_map (λ t. item p (entry_of t)) o)) has.1
+      ∙ ap (λ m. set (items_from item 0 slots ++ replicate has.0 None) p (option_map (λ t. item m (entry_of t)) o))
+      (let none : p ≡ 0 + p = omega arith in none)
+      ∙ item_set item 0 slots (replicate has.0 None) p o inside,
+)
+
+-- a place of the table is within, and free where no job is there
+table_within : (item : ℕ → Entry → ItemFacts) (slots : List (Option Task)) (table : List (Option ItemFacts)) (p : ℕ)
+    → p < length slots
+    → HasItems item slots table → p < length table
+table_within item slots table p inside has =
+    omega (
+      arith,
+      inside,
+      ap (λ l. length l) has.1,
+      length-append (items_from item 0 slots) (replicate has.0 None),
+      items_length item 0 slots,
+    )
+
+table_free : (item : ℕ → Entry → ItemFacts) (slots : List (Option Task)) (table : List (Option ItemFacts)) (p : ℕ)
+    → slice_get slots p ≡ Some None
+    → HasItems item slots table → get_or table p None ≡ None
+table_free item slots table p at has = ap (λ l. get_or l p None) has.1
+    ∙ item_at item 0 slots (replicate has.0 None) p None at
+
+module _ (v : Version) (slots : List (Option Task)) (places : List ℕ) (d l : List (Option ItemFacts)) (p : ℕ) where
+  -- a job comes to the last of the free places
+  module _ (pool : IsPool v slots (places ++ p ∷ []) d l) where
+    pub add_free : slice_get slots p ≡ Some None
+    add_free = last_free slots places p pool.free
+
+    pub add_inside : p < length slots
+    add_inside = within slots p None add_free
+
+    pub add_small : p < 1_048_576
+    add_small = let few : length slots ≤ 1_048_576 = pool.few in let inside : p < length slots = add_inside in
+        omega arith
+
+    pub add_due_ready : p < length d
+    add_due_ready = table_within (due_item v) slots d p add_inside pool.due
+
+    pub add_latest_ready : p < length l
+    add_latest_ready = table_within (latest_item v) slots l p add_inside pool.latest
+
+    pub add_due_free : get_or d p None ≡ None
+    add_due_free = table_free (due_item v) slots d p add_free pool.due
+
+    pub add_latest_free : get_or l p None ≡ None
+    add_latest_free = table_free (latest_item v) slots l p add_free pool.latest
+
+    pub add_due_count : count_by is_some d ≡ length (jobs_at slots)
+    add_due_count = ap (count_by is_some) pool.due.1 ∙ item_count (due_item v) 0 slots pool.due.0
+
+    pub add_latest_count : count_by is_some l ≡ length (jobs_at slots)
+    add_latest_count = ap (count_by is_some) pool.latest.1 ∙ item_count (latest_item v) 0 slots pool.latest.0
+
+    pub add_kept : (t : Task)
+        → IsPool v (set slots p (Some t)) places (set d p (Some (due_item v p (entry_of t))))
+        (set l p (Some (latest_item v p (entry_of t))))
+    add_kept t = record {
+      due = table_set (due_item v) slots d p (Some t) add_inside pool.due;
+      latest = table_set (latest_item v) slots l p (Some t) add_inside pool.latest;
+      free = free_taken slots places p t pool.free;
+      count = omega (
+        arith,
+        pool.count,
+        length-append places (p ∷ []),
+        as_many (t ∷ jobs_at slots) (jobs_at (set slots p (Some t))) (jobs_in slots p t add_free),
+        same_length slots p (Some t),
+      );
+      few = let few : length slots ≤ 1_048_576 = pool.few in omega (arith, few, same_length slots p (Some t));
+    }
+
+  -- a job leaves its place
+  module _ (pool : IsPool v slots places d l) (t : Task) (at : slice_get slots p ≡ Some (Some t)) where
+    pub left_inside : p < length slots
+    left_inside = within slots p (Some t) at
+
+    pub left_room : length places < length slots
+    left_room =
+        let out = as_many (jobs_at slots) (t ∷ jobs_at (set slots p None)) (jobs_out slots p t at) in
+        omega (arith, pool.count, out)
+
+    pub left_due_count : count_by is_some d ≡ length (jobs_at slots)
+    left_due_count = ap (count_by is_some) pool.due.1 ∙ item_count (due_item v) 0 slots pool.due.0
+
+    pub left_latest_count : count_by is_some l ≡ length (jobs_at slots)
+    left_latest_count = ap (count_by is_some) pool.latest.1 ∙ item_count (latest_item v) 0 slots pool.latest.0
+
+    pub left_kept : IsPool v (set slots p None) (places ++ p ∷ []) (set d p None) (set l p None)
+    left_kept = record {
+      due = table_set (due_item v) slots d p None left_inside pool.due;
+      latest = table_set (latest_item v) slots l p None left_inside pool.latest;
+      free = free_again slots places p t at pool.free;
+      count = omega (
+        arith,
+        pool.count,
+        length-append places (p ∷ []),
+        as_many (jobs_at slots) (t ∷ jobs_at (set slots p None)) (jobs_out slots p t at),
+        same_length slots p None,
+      );
+      few = let few : length slots ≤ 1_048_576 = pool.few in omega (arith, few, same_length slots p None);
+    }
+
+-- where no job is at a place, the items are none
+pub items_none : (item other : ℕ → Entry → ItemFacts) (k p : ℕ) (slots : List (Option Task)) → jobs_at slots ≡ []
+    → items_from item p slots ++ replicate {A = Option ItemFacts} k None ≡ items_from other p slots ++ replicate
+    {A = Option ItemFacts} k None
+items_none item other k p [] none = refl
+items_none item other k p (None ∷ slots) none = ap (λ l. None ∷ l) (items_none item other k (suc p) slots none)
+items_none item other k p (Some t ∷ slots) none = absurd (cons_none none) where
+  cons_none : t ∷ jobs_at slots ≡ [] → ⊥
+  cons_none e = cc
+
+-- ---- more places
+
+pub jobs_push : (slots : List (Option Task)) → jobs_at (slots ++ None ∷ []) ≡ jobs_at slots
+jobs_push [] = refl
+jobs_push (None ∷ slots) = jobs_push slots
+jobs_push (Some t ∷ slots) = ap (λ l. t ∷ l) (jobs_push slots)
+
+pub length_more : {X : Type 0} (xs : List X) (x : X) → length (xs ++ x ∷ []) ≡ length xs + 1
+length_more xs x = omega (arith, length-append xs (x ∷ []))
+
+module _ (item : ℕ → Entry → ItemFacts) where
+  -- the items of more places
+  items_more : (p m : ℕ) (slots : List (Option Task))
+      → items_from item p (slots ++ replicate m None) ≡ items_from item p slots ++ replicate
+      {A = Option ItemFacts} m None
+  items_more p zero [] = refl
+  items_more p (suc m) [] = ap (λ l. None ∷ l) (items_more (suc p) m [])
+  items_more p m (o ∷ slots) = ap (λ l. option_map (λ t. item p (entry_of t)) o ∷ l) (items_more (suc p) m slots)
+
+  -- a table that grows
+  pub table_grows : (slots : List (Option Task)) (table grown : List (Option ItemFacts)) (m : ℕ)
+      → HasItems item slots table
+      → grown ≡ table ++ replicate m None → HasItems item slots grown
+  table_grows slots table grown m has is = (
+    has.0 + m,
+    is ∙ ap (λ l. l ++ replicate {A = Option ItemFacts} m None) has.1
+        ∙ append_assoc (items_from item 0 slots) (replicate has.0 None) (replicate m None)
+        ∙ ap (λ l. items_from item 0 slots ++ l) (replicate-append-replicate has.0 m None),
+  )
+
+  -- and places with it
+  pub places_grow : (slots : List (Option Task)) (table : List (Option ItemFacts)) (m : ℕ) → HasItems item slots table
+      → length slots + m ≤ length table
+      → HasItems item (slots ++ replicate m None) table
+  places_grow slots table m has fits = (
+    has.0 - m,
+    has.1 ∙ ap (λ k. items_from item 0 slots ++ replicate {A = Option ItemFacts} k None) split
+        ∙ ap (λ l. items_from item 0 slots ++ l) (sym (replicate-append-replicate m (has.0 - m) None))
+        ∙ sym (append_assoc (items_from item 0 slots) (replicate m None) (replicate (has.0 - m) None))
+        ∙ ap (λ l. l ++ replicate {A = Option ItemFacts} (has.0 - m) None) (sym (items_more 0 m slots)),
+  ) where
+    split : has.0 ≡ m + (has.0 - m)
+    split = omega (
+      arith,
+      fits,
+      ap (λ l. length l) has.1,
+      length-append (items_from item 0 slots) (replicate has.0 None),
+      items_length item 0 slots,
+      length-replicate {A = Option ItemFacts} has.0 None,
+    )
+
+pub no_places : (places : List ℕ) → length places ≡ 0 → places ≡ []
+no_places [] none = refl
+no_places (p ∷ more) none = absurd (omega (arith, none))
+
+-- one place is opened
+pub opened : (v : Version) (slots : List (Option Task)) (d l : List (Option ItemFacts)) → IsPool v slots [] d l
+    → length slots + 1 ≤ length d → length slots + 1 ≤ length l → length slots + 1 ≤ 1_048_576
+    → IsPool v (slots ++ None ∷ []) (length slots ∷ []) d l
+opened v slots d l pool due latest few = record {
+  due = places_grow (due_item v) slots d 1 pool.due due;
+  latest = places_grow (latest_item v) slots l 1 pool.latest latest;
+  free = free_more slots [] (length slots) refl pool.free;
+  count = omega (arith, pool.count, length_more slots None, ap (λ ts. length ts) (jobs_push slots));
+  few = omega (arith, few, length_more slots None);
+}
+
+-- the pool with the same jobs and free places, and with other tables
+pub moved : (version : Version) (slots others : List (Option Task)) (free places : List ℕ)
+    (due latest sooner later : List (Option ItemFacts)) → others ≡ slots → places ≡ free
+    → HasItems (due_item version) slots sooner → HasItems (latest_item version) slots later
+    → IsPool version slots free due latest → IsPool version others places sooner later
+moved version slots others free places due latest sooner later same named by_due by_latest pool =
+    subst (λ s. IsPool version s places sooner later) (sym same)
+    (subst (λ f. IsPool version slots f sooner later) (sym named)
+    (record { due = by_due; latest = by_latest; free = pool.free; count = pool.count; few = pool.few }))
+
+-- room for as many, where no less fits
+pub still_fits : (room places others slots wider free freer due sooner latest later : ℕ)
+    → HasRoom room places slots free due latest → others ≡ places → slots ≤ wider → free ≤ freer → due ≤ sooner
+    → latest ≤ later → HasRoom room others wider freer sooner later
+still_fits room places others slots wider free freer due sooner latest later fits same more_slots more_free more_due
+    more_latest = record {
+      opened = subst (λ n. n ≤ room) (sym same) fits.opened;
+      most = fits.most;
+      slots_fit = omega (arith, fits.slots_fit, more_slots);
+      free_fit = omega (arith, fits.free_fit, more_free);
+      due_fit = omega (arith, fits.due_fit, more_due);
+      latest_fit = omega (arith, fits.latest_fit, more_latest);
+    }
+
+-- a table that grows is no shorter
+pub no_shorter : (table grown : List (Option ItemFacts)) (m : ℕ) → grown ≡ table ++ replicate m None
+    → length table ≤ length grown
+no_shorter table grown m is =
+    omega (arith, ap (λ l. length l) is, length-append table (replicate {A = Option ItemFacts} m None))

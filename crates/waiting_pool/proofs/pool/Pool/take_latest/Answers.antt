@@ -1,0 +1,71 @@
+use Rattle.std.proofs.Common.{◌∷◌, ◌+◌, ◌<◌, ◌^◌, Some, sym, ap, ◌∙◌, subst, length, arith}
+use Rattle.std.specs.List.{slice_get}
+use Rattle.dover_model.specs.Orders.{starts_before, first}
+use Rattle.dover_model.proofs.Tests.{none_is_some}
+use Rattle.waiting_pool.specs.Reordered.{IsReordered}
+use Rattle.waiting_pool.specs.Pools.{HaveOwnNumbers, AreModest}
+use Rattle.waiting_pool.specs.Pools.{Pooled, jobs_at}
+use Rattle.waiting_pool.proofs.Pooling.{latest_none, latest_found}
+use Rattle.waiting_pool.proofs.pool.Pool.take_latest.Goals as goal
+
+pub take_at-requires-clause-some : goal.take_at-requires-clause-some
+take_at-requires-clause-some g c =
+    let inside = c.self.inside in
+    let own = subst (λ (q : Pooled). HaveOwnNumbers q.tasks) (sym c.self.view_is) c.requires.own in
+    let modest = subst (λ (q : Pooled). AreModest q.tasks) (sym c.self.view_is) c.requires.modest in
+    let it = latest_found _ _ _ _ (sym c.in-Some.is ∙ c.first.ensures) own modest c.self.invariant.0.latest in
+    (it.0, ap (slice_get inside.slots.items) c.place.ensures.is ∙ it.1)
+
+pub take_at-requires-clause-pool : goal.take_at-requires-clause-pool
+take_at-requires-clause-pool g c = (c.self.inside.version, c.self.invariant.0)
+
+pub take_at-requires-clause-room : goal.take_at-requires-clause-room
+take_at-requires-clause-room g c =
+    omega (arith, c.self.invariant.1.opened, c.self.invariant.1.free_fit, c.self.inside.slots.ok.0)
+
+pub invariant_of-self : goal.invariant_of-self
+invariant_of-self g c = (
+  c.take_at.ensures.pool c.self.inside.version c.self.invariant.0,
+  record {
+    opened = omega (
+      arith,
+      c.self.invariant.1.opened,
+      c.take_at.ensures.places,
+      c.take_at.new.slots.ok.0,
+      c.self.inside.slots.ok.0,
+    );
+    most = c.self.invariant.1.most;
+    slots_fit = omega (arith, c.self.invariant.1.slots_fit, c.take_at.ensures.slots);
+    free_fit = omega (arith, c.self.invariant.1.free_fit, c.take_at.ensures.capacity);
+    due_fit = omega (arith, c.self.invariant.1.due_fit, c.take_at.ensures.due);
+    latest_fit = omega (arith, c.self.invariant.1.latest_fit, c.take_at.ensures.latest);
+  },
+)
+
+pub returns-in-Some-clause-rest : goal.returns-in-Some-clause-rest
+returns-in-Some-clause-rest g c t is =
+    let inside = c.self.inside in
+    let own = subst (λ (q : Pooled). HaveOwnNumbers q.tasks) (sym c.self.view_is) c.requires.own in
+    let modest = subst (λ (q : Pooled). AreModest q.tasks) (sym c.self.view_is) c.requires.modest in
+    let it = latest_found _ _ _ _ (sym c.in-Some.is ∙ c.first.ensures) own modest c.self.invariant.0.latest in
+    let same = sym it.2 ∙ ap (λ (q : Pooled). first (starts_before q.version) q.tasks) c.self.view_is ∙ is in
+    subst (λ (q : Pooled). IsReordered q.tasks (t ∷ jobs_at c.take_at.new.slots.items)) c.self.view_is
+    (c.take_at.ensures.rest t (ap (slice_get inside.slots.items) c.place.ensures.is ∙ it.1 ∙ ap Some same))
+
+pub returns-in-Some-clause-none : goal.returns-in-Some-clause-none
+returns-in-Some-clause-none g c none =
+    let inside = c.self.inside in
+    let own = subst (λ (q : Pooled). HaveOwnNumbers q.tasks) (sym c.self.view_is) c.requires.own in
+    let modest = subst (λ (q : Pooled). AreModest q.tasks) (sym c.self.view_is) c.requires.modest in
+    let it = latest_found _ _ _ _ (sym c.in-Some.is ∙ c.first.ensures) own modest c.self.invariant.0.latest in
+    none_is_some (sym (sym it.2 ∙ ap (λ (q : Pooled). first (starts_before q.version) q.tasks) c.self.view_is ∙ none))
+
+pub returns-in-Some-clause-count : goal.returns-in-Some-clause-count
+returns-in-Some-clause-count g c d fits =
+    c.take_at.ensures.count d (subst (λ (q : Pooled). length q.tasks + 1 < 2 ^ d) (sym c.self.view_is) fits)
+
+pub returns-in_default-clause-rest : goal.returns-in_default-clause-rest
+returns-in_default-clause-rest g c t is =
+    let inside = c.self.inside in
+    none_is_some (latest_none _ _ _ c.self.invariant.0.latest (sym c.in_default.is ∙ c.first.ensures)
+    ∙ ap (λ (q : Pooled). first (starts_before q.version) q.tasks) c.self.view_is ∙ is)

@@ -1,0 +1,4 @@
+pub mod Reordered
+pub mod Short
+pub mod Slots
+pub mod Pools

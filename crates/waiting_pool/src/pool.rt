@@ -1,0 +1,379 @@
+//! The jobs that wait.
+ghost use Rattle.std.specs.Prelude.{◌≡◌, ℕ, ◌+◌, ◌*◌, ◌^◌, ◌<◌, ◌≤◌, [], ◌∷◌, ◌++◌, slice_set, length, List, Option};
+ghost use Rattle.std.specs.Prelude.{Some, None, max, vec_len, vec_capacity, option_map, IsOk, IsNone, IfSome, OnOk};
+ghost use Rattle.std.specs.Prelude.{OnErr};
+ghost use Rattle.std.specs.List.{slice_get};
+ghost use Rattle.dover_model.specs.declared.events.Version.{Version};
+ghost use Rattle.dover_model.specs.declared.events.Task.{Task};
+ghost use Rattle.dover_model.specs.Entries.{entry_of};
+ghost use Rattle.dover_model.specs.State.{latest_start};
+ghost use Rattle.dover_model.specs.Orders.{due_first, starts_before, first};
+ghost use Rattle.dover_model.specs.Sound.{Each};
+ghost use Rattle.place_heap.specs.Items.{ItemFacts};
+ghost use Rattle.place_heap.specs.Orders.{due_item, latest_item};
+ghost use Rattle.waiting_pool.specs.Reordered.{IsReordered};
+ghost use Rattle.waiting_pool.specs.Pools.{HaveOwnNumbers, AreModest};
+ghost use Rattle.waiting_pool.specs.Pools.{Pooled, IsPool, HasRoom, jobs_at, most_places};
+ghost use Rattle.waiting_pool.specs.Short.{no_number};
+ghost use Rattle.waiting_pool.specs.Slots.{seen};
+
+use crate::short::{ShortTask, left};
+use crate::slot::Slot;
+use dover_model::{Memory, Task, Version};
+use place_heap::{Heap, Item, tie_of};
+use std::alloc::Global;
+use std::marker::Model;
+use std::sync::ledger::Ledger;
+use step_count::Steps;
+
+/// A set of jobs that wait, with the first by deadline and the first by latest start at hand. Each has a place, which
+/// another takes once it is gone. A place is opened where none is free, so room that no job needs isn't touched.
+#[derive(Drop)]
+pub struct Pool {
+    version: Version,
+    slots: Vec<Slot>,
+    free: Vec<u32>,
+    by_deadline: Heap,
+    by_latest: Heap,
+    room: u32,
+}
+
+impl Model for Pool {
+    ghost use Rattle.std.specs.Prelude.{vec_capacity, length};
+    ghost use Rattle.waiting_pool.specs.Pools.{Pooled, IsPool, HasRoom, jobs_at};
+
+    ghost Value = { Pooled };
+
+    ghost view = { λ p. record { version = p.version; tasks = jobs_at p.slots.items; room = p.room } };
+
+    ghost invariant = { λ p. IsPool p.version p.slots.items p.free.items p.by_deadline p.by_latest
+        × HasRoom p.room (length p.slots.items) (vec_capacity p.slots) (vec_capacity p.free) (length p.by_deadline)
+        (length p.by_latest) };
+}
+
+// The item of the job by its deadline.
+#[inline(always)]
+fn due_item(version: Version, place: u32, t: &Task) -> Item
+    requires { place < 2 ^ 20 }
+    ensures { result ≡ due_item version place (entry_of t.now) }
+{
+    Item::new(
+        t.job.deadline(),
+        tie_of(version, t.job.value()),
+        t.number,
+        place,
+    )
+}
+
+// The item of the job by its latest start.
+#[inline(always)]
+fn latest_item(version: Version, place: u32, t: &Task) -> Item
+    requires { place < 2 ^ 20 }
+    ensures { result ≡ latest_item version place (entry_of t.now) }
+{
+    Item::new(
+        t.job.deadline().saturating_sub(left(t)),
+        tie_of(version, t.job.value()),
+        t.number,
+        place,
+    )
+}
+
+// What is at a place.
+#[inline(always)]
+fn job_at(slots: &Vec<Slot>, place: u32) -> Option<&ShortTask>
+    requires { place < length slots.now.items }
+    ensures { slice_get slots.now.items place ≡ Some (seen result) }
+{
+    slots[place as usize].task()
+}
+
+// What is at a place, taken over.
+#[inline(always)]
+fn task_at(slots: &Vec<Slot>, place: u32) -> Option<Task>
+    requires { place < length slots.now.items }
+    ensures { slice_get slots.now.items place ≡ Some result }
+{
+    match job_at(slots, place) {
+        Some(t) => Some(t.task()),
+        None => None,
+    }
+}
+
+// Puts a job at a place.
+#[inline(always)]
+fn put_at(slots: &mut Vec<Slot>, place: u32, t: &Task)
+    requires inside { place < length slots.old.items }
+    requires number { t.now.number < no_number }
+    ensures items { slots.new.items ≡ slice_set slots.old.items place (Some t.now) }
+    ensures len { vec_len slots.new ≡ vec_len slots.old }
+    ensures capacity { vec_capacity slots.new ≡ vec_capacity slots.old }
+{
+    slots[place as usize] = Slot::of(t);
+}
+
+// Leaves no job at a place.
+#[inline(always)]
+fn clear_at(slots: &mut Vec<Slot>, place: u32)
+    requires { place < length slots.old.items }
+    ensures items { slots.new.items ≡ slice_set slots.old.items place None }
+    ensures len { vec_len slots.new ≡ vec_len slots.old }
+    ensures capacity { vec_capacity slots.new ≡ vec_capacity slots.old }
+{
+    slots[place as usize] = Slot::empty();
+}
+
+// Opens the next place, where no job is.
+#[inline(always)]
+fn open_place(slots: &mut Vec<Slot>)
+    requires { length slots.old.items < vec_capacity slots.old }
+    ensures items { slots.new.items ≡ slots.old.items ++ None ∷ [] }
+    ensures capacity { vec_capacity slots.new ≡ vec_capacity slots.old }
+{
+    slots.push_reserved(Slot::empty());
+}
+
+// The last free place, which is free no more. Where none is, the next one is opened.
+#[inline(always)]
+fn next_place(slots: &mut Vec<Slot>, free: &mut Vec<u32>) -> u32
+    requires room { length (jobs_at slots.old.items) < vec_capacity slots.old }
+    requires count { length free.old.items + length (jobs_at slots.old.items) ≡ length slots.old.items }
+    requires few { length slots.old.items < 2 ^ 32 }
+    ensures pool { (v : Version) (due latest : List (Option ItemFacts)) →
+        IsPool v slots.old.items free.old.items due latest → length slots.new.items ≤ length due →
+        length slots.new.items ≤ length latest → length slots.new.items ≤ most_places →
+        IsPool v slots.new.items (free.new.items ++ result ∷ []) due latest }
+    ensures jobs { jobs_at slots.new.items ≡ jobs_at slots.old.items }
+    ensures places { length slots.new.items ≤ max (length slots.old.items) (length (jobs_at slots.old.items) + 1) }
+    ensures slots { vec_capacity slots.new ≡ vec_capacity slots.old }
+    ensures free { vec_capacity free.new ≡ vec_capacity free.old }
+{
+    match free.pop() {
+        Some(place) => place,
+        None => {
+            let place = slots.len() as u32;
+            open_place(slots);
+            place
+        }
+    }
+}
+
+// Takes the job at a place out, which is then free.
+#[inline(always)]
+fn take_at<L: Ledger>(
+    slots: &mut Vec<Slot>,
+    free: &mut Vec<u32>,
+    by_deadline: &mut Heap,
+    by_latest: &mut Heap,
+    place: u32,
+    steps: &mut Steps<L>,
+)
+    requires some { (t : Task) × (slice_get slots.old.items place ≡ Some (Some t)) }
+    requires pool { (version : Version) × IsPool version slots.old.items free.old.items by_deadline.old by_latest.old }
+    requires room { vec_len slots.old ≤ vec_capacity free.old }
+    ensures rest { (t : Task) → slice_get slots.old.items place ≡ Some (Some t)
+        → IsReordered (jobs_at slots.old.items) (t ∷ jobs_at slots.new.items) }
+    ensures pool { (version : Version) → IsPool version slots.old.items free.old.items by_deadline.old by_latest.old →
+        IsPool version slots.new.items free.new.items by_deadline.new by_latest.new }
+    ensures places { vec_len slots.new ≡ vec_len slots.old }
+    ensures capacity { vec_capacity free.new ≡ vec_capacity free.old }
+    ensures slots { vec_capacity slots.new ≡ vec_capacity slots.old }
+    ensures due { length by_deadline.new ≡ length by_deadline.old }
+    ensures latest { length by_latest.new ≡ length by_latest.old }
+    ensures count { (d : ℕ) → length (jobs_at slots.old.items) + 1 < 2 ^ d → steps.new ≤ steps.old + 6 * d }
+{
+    clear_at(slots, place);
+    free.push_reserved(place);
+    by_deadline.remove(place, steps);
+    by_latest.remove(place, steps);
+}
+
+// Memory for so many places, which all may be free, and for as many in both heaps. Want of it leaves what is there.
+fn reserve_places(
+    slots: &mut Vec<Slot>,
+    free: &mut Vec<u32>,
+    by_deadline: &mut Heap,
+    by_latest: &mut Heap,
+    places: u32,
+) -> Result<(), Memory>
+    requires opened { length slots.old.items ≤ places }
+    requires free { length free.old.items ≤ places }
+    requires most { places ≤ most_places }
+    ensures keeps { (version : Version) (room : ℕ) →
+        IsPool version slots.old.items free.old.items by_deadline.old by_latest.old →
+        HasRoom room (length slots.old.items) (vec_capacity slots.old) (vec_capacity free.old)
+        (length by_deadline.old) (length by_latest.old) →
+        IsPool version slots.new.items free.new.items by_deadline.new by_latest.new
+        × HasRoom room (length slots.new.items) (vec_capacity slots.new) (vec_capacity free.new)
+        (length by_deadline.new) (length by_latest.new) }
+    ensures same { slots.new.items ≡ slots.old.items }
+    ensures fits { OnOk result (HasRoom places (length slots.new.items) (vec_capacity slots.new)
+        (vec_capacity free.new) (length by_deadline.new) (length by_latest.new)) }
+{
+    slots.reserve(places as usize - slots.len())?;
+    free.reserve(places as usize - free.len())?;
+    by_deadline.reserve(places)?;
+    by_latest.reserve(places)?;
+    Ok(())
+}
+
+impl Pool {
+    /// No jobs, and no room.
+    pub fn new(alloc: Global, version: Version) -> Pool
+        ensures { result ≡ record { version = version; tasks = []; room = 0 } }
+    {
+        Pool {
+            version,
+            slots: Vec::new(alloc),
+            free: Vec::new(alloc),
+            by_deadline: Heap::new(alloc),
+            by_latest: Heap::new(alloc),
+            room: 0,
+        }
+    }
+
+    /// The version that breaks ties.
+    #[inline(always)]
+    pub fn version(&self) -> Version
+        ensures { result ≡ self.now.version }
+    {
+        self.version
+    }
+
+    /// How many jobs wait.
+    #[inline(always)]
+    pub fn count(&self) -> u32
+        ensures { result ≡ length self.now.tasks }
+    {
+        (self.slots.len() - self.free.len()) as u32
+    }
+
+    /// Another version, where no job waits.
+    pub fn declare(&mut self, version: Version)
+        requires { self.old.tasks ≡ [] }
+        ensures { self.new ≡ record self.old { version = version } }
+    {
+        self.version = version;
+    }
+
+    /// Room for so many jobs in all. Where there is, it takes no memory; want of it leaves all as before.
+    pub fn reserve(&mut self, places: u32) -> Result<(), Memory>
+        requires { places ≤ most_places }
+        ensures kept { self.new ≡ record self.old { tasks = self.new.tasks; room = self.new.room } }
+        ensures same { self.new.tasks ≡ self.old.tasks }
+        ensures ok { OnOk result (self.new.room ≡ max self.old.room places) }
+        ensures err { OnErr result (self.new.room ≡ self.old.room) }
+        ensures enough { places ≤ self.old.room → IsOk result }
+    {
+        if places <= self.room {
+            return Ok(());
+        }
+        reserve_places(
+            &mut self.slots,
+            &mut self.free,
+            &mut self.by_deadline,
+            &mut self.by_latest,
+            places,
+        )?;
+        self.room = places;
+        Ok(())
+    }
+
+    /// A job begins to wait, for which there is room.
+    #[inline(always)]
+    pub fn add<L: Ledger>(&mut self, t: Task, steps: &mut Steps<L>)
+        requires room { length self.old.tasks < self.old.room }
+        requires number { t.number < no_number }
+        ensures kept { self.new ≡ record self.old { tasks = self.new.tasks } }
+        ensures more { IsReordered (t ∷ self.old.tasks) self.new.tasks }
+        ensures count { (d : ℕ) → length self.old.tasks + 1 < 2 ^ d → steps.new ≤ steps.old + 2 * d }
+    {
+        let place = next_place(&mut self.slots, &mut self.free);
+        let due = due_item(self.version, place, &t);
+        let latest = latest_item(self.version, place, &t);
+        put_at(&mut self.slots, place, &t);
+        self.by_deadline.insert(due, steps);
+        self.by_latest.insert(latest, steps);
+    }
+
+    /// The first by deadline, if one waits. Ties go by the version.
+    #[inline(always)]
+    pub fn first_deadline(&self) -> Option<&ShortTask>
+        requires own { HaveOwnNumbers self.now.tasks }
+        requires modest { AreModest self.now.tasks }
+        ensures { seen result ≡ first (due_first self.now.version) self.now.tasks }
+    {
+        let item = self.by_deadline.first()?;
+        job_at(&self.slots, item.place())
+    }
+
+    /// The first by latest start, if one waits. Ties go by the version.
+    #[inline(always)]
+    pub fn first_latest(&self) -> Option<&ShortTask>
+        requires own { HaveOwnNumbers self.now.tasks }
+        requires modest { AreModest self.now.tasks }
+        ensures { seen result ≡ first (starts_before self.now.version) self.now.tasks }
+    {
+        let item = self.by_latest.first()?;
+        job_at(&self.slots, item.place())
+    }
+
+    /// The latest start of the first by latest start, if one waits.
+    #[inline(always)]
+    pub fn first_start(&self) -> Option<u64>
+        requires own { HaveOwnNumbers self.now.tasks }
+        requires modest { AreModest self.now.tasks }
+        ensures { result ≡ option_map latest_start (first (starts_before self.now.version) self.now.tasks) }
+    {
+        let item = self.by_latest.first()?;
+        Some(item.key())
+    }
+
+    /// Takes the first by deadline out, if one waits.
+    #[inline(always)]
+    pub fn take_deadline<L: Ledger>(&mut self, steps: &mut Steps<L>) -> Option<Task>
+        requires own { HaveOwnNumbers self.old.tasks }
+        requires modest { AreModest self.old.tasks }
+        ensures was { result ≡ first (due_first self.old.version) self.old.tasks }
+        ensures rest { (t : Task) → result ≡ Some t → IsReordered self.old.tasks (t ∷ self.new.tasks) }
+        ensures none { result ≡ None → self.new.tasks ≡ self.old.tasks }
+        ensures kept { self.new ≡ record self.old { tasks = self.new.tasks } }
+        ensures count { (d : ℕ) → length self.old.tasks + 1 < 2 ^ d → steps.new ≤ steps.old + 6 * d }
+    {
+        let item = self.by_deadline.first()?;
+        let place = item.place();
+        let task = task_at(&self.slots, place);
+        take_at(
+            &mut self.slots,
+            &mut self.free,
+            &mut self.by_deadline,
+            &mut self.by_latest,
+            place,
+            steps,
+        );
+        task
+    }
+
+    /// Takes the first by latest start out, if one waits.
+    #[inline(always)]
+    pub fn take_latest<L: Ledger>(&mut self, steps: &mut Steps<L>)
+        requires own { HaveOwnNumbers self.old.tasks }
+        requires modest { AreModest self.old.tasks }
+        ensures rest { (t : Task) → first (starts_before self.old.version) self.old.tasks ≡ Some t
+            → IsReordered self.old.tasks (t ∷ self.new.tasks) }
+        ensures none { first (starts_before self.old.version) self.old.tasks ≡ None → self.new.tasks ≡ self.old.tasks }
+        ensures kept { self.new ≡ record self.old { tasks = self.new.tasks } }
+        ensures count { (d : ℕ) → length self.old.tasks + 1 < 2 ^ d → steps.new ≤ steps.old + 6 * d }
+    {
+        if let Some(item) = self.by_latest.first() {
+            take_at(
+                &mut self.slots,
+                &mut self.free,
+                &mut self.by_deadline,
+                &mut self.by_latest,
+                item.place(),
+                steps,
+            );
+        }
+    }
+}

@@ -1,0 +1,162 @@
+//! A job at a moment, in little room.
+ghost use Rattle.std.specs.Prelude.{◌≡◌, ◌≤◌};
+ghost use Rattle.dover_model.specs.Limits.{most_value};
+ghost use Rattle.dover_model.specs.State.{left};
+ghost use Rattle.dover_model.specs.declared.events.Task.{Task};
+ghost use Rattle.waiting_pool.specs.Short.{no_number, task_in, IsShort};
+
+use dover_model::packed::{high_of, joined, low_of};
+use dover_model::{Job, Role, Task};
+use std::marker::Model;
+use std::mem::size_of;
+
+/// The number of no job.
+pub(crate) const NO_NUMBER: u32 = u32::MAX;
+
+/// A job at a moment, in 32 bytes. Its ticks are below 2^40, so that each is kept as its low 32 digits and the others.
+#[derive(Drop)]
+pub struct ShortTask {
+    had: u64,
+    number: u32,
+    value: u32,
+    release: u32,
+    work: u32,
+    deadline: u32,
+    release_high: u8,
+    work_high: u8,
+    deadline_high: u8,
+    role: Role,
+}
+
+impl Model for ShortTask {
+    ghost Value = { Task };
+
+    ghost view = { task_in };
+
+    ghost invariant = { IsShort };
+}
+
+const _: () = prove!(size_of::<ShortTask>() == 32);
+
+impl ShortTask {
+    /// What stands for no job.
+    #[inline(always)]
+    pub(crate) fn blank() -> ShortTask
+        ensures { result.number ≡ no_number }
+    {
+        ShortTask {
+            had: 0,
+            number: NO_NUMBER,
+            value: 1,
+            release: 0,
+            work: 1,
+            deadline: 1,
+            release_high: 0,
+            work_high: 0,
+            deadline_high: 0,
+            role: Role::Gone,
+        }
+    }
+
+    /// The same job.
+    #[inline(always)]
+    pub fn of(t: &Task) -> ShortTask
+        ensures { result ≡ t.now }
+    {
+        let (release, work, deadline) = (t.job.release(), t.job.work(), t.job.deadline());
+        ShortTask {
+            had: t.had,
+            number: t.number,
+            value: t.job.value() as u32,
+            release: low_of(release),
+            work: low_of(work),
+            deadline: low_of(deadline),
+            release_high: high_of(release) as u8,
+            work_high: high_of(work) as u8,
+            deadline_high: high_of(deadline) as u8,
+            role: t.role,
+        }
+    }
+
+    /// Its number.
+    #[inline(always)]
+    pub fn number(&self) -> u32
+        ensures { result ≡ self.now.number }
+    {
+        self.number
+    }
+
+    /// Its value.
+    #[inline(always)]
+    pub fn value(&self) -> u64
+        ensures is { result ≡ self.now.job.value }
+        ensures most { result ≤ most_value }
+    {
+        self.value as u64
+    }
+
+    /// Its deadline.
+    #[inline(always)]
+    pub fn deadline(&self) -> u64
+        ensures { result ≡ self.now.job.deadline }
+    {
+        joined(self.deadline, u32::from(self.deadline_high))
+    }
+
+    /// Its work.
+    #[inline(always)]
+    pub fn work(&self) -> u64
+        ensures { result ≡ self.now.job.work }
+    {
+        joined(self.work, u32::from(self.work_high))
+    }
+
+    /// What it is.
+    #[inline(always)]
+    pub fn role(&self) -> Role
+        ensures { result ≡ self.now.role }
+    {
+        self.role
+    }
+
+    /// The ticks that it is still to have.
+    #[inline(always)]
+    pub fn left(&self) -> u64
+        ensures { result ≡ left self.now }
+    {
+        self.work().saturating_sub(self.had)
+    }
+
+    /// It stops in this role, where it has had so many ticks.
+    #[inline(always)]
+    pub fn stop(&mut self, role: Role, had: u64)
+        ensures { self.new ≡ record { number = self.old.number; job = self.old.job; role = role; had = had } }
+    {
+        self.role = role;
+        self.had = had;
+    }
+
+    /// The job.
+    #[inline(always)]
+    pub fn task(&self) -> Task
+        ensures { result ≡ self.now }
+    {
+        let release = joined(self.release, u32::from(self.release_high));
+        let work = joined(self.work, u32::from(self.work_high));
+        let deadline = joined(self.deadline, u32::from(self.deadline_high));
+        Task {
+            number: self.number,
+            job: Job::of(release, work, deadline, self.value as u64),
+            role: self.role,
+            had: self.had,
+        }
+    }
+}
+
+/// The ticks that the job is still to have.
+#[inline(always)]
+pub fn left(t: &Task) -> u64
+    ensures { result ≡ left t.now }
+{
+    t.job.work().saturating_sub(t.had)
+}
