@@ -27,6 +27,7 @@ fn set_at(items: &mut [Item], positions: &mut [u32], at: usize, item: Item)
 }
 
 /// Moves an item up to where its parent comes before it.
+#[inline(always)]
 pub(crate) fn sift_up<L: Ledger>(
     items: &mut [Item],
     positions: &mut [u32],
@@ -132,6 +133,7 @@ fn first_child<L: Ledger>(items: &[Item], at: usize, steps: &mut Steps<L>) -> us
 // Takes the item at a position out of the order, down to where it has no children: each time the child that comes first
 // moves up. Answers where it ends. What it is compared with is only what stands above it there, since a heap's last item
 // seldom belongs higher.
+#[inline(always)]
 fn sink<L: Ledger>(
     items: &mut [Item],
     positions: &mut [u32],
