@@ -369,16 +369,30 @@ impl Judge {
         ensures ok { (text : List ℕ) → StandsFor self text → IsOk result }
         ensures failed { OnOk result (self.found ≢ NoMemory) }
     {
-        let verdict = self.verdict()?;
+        match self.verdict() {
+            Ok(verdict) => Ok(self.told(verdict)),
+            Err(error) => Err(error),
+        }
+    }
+
+    // What is told of a text of this verdict: no steps where it isn't accepted.
+    fn told(self, verdict: Verdict) -> Closed
+        requires { (text : List ℕ) → StandsFor self text → Tells verdict text }
+        ensures verdict { result.verdict ≡ verdict }
+        ensures steps { (text : List ℕ) → StandsFor self text →
+            result.steps.items ≡ steps_told (keeps self) (model.verdict text) }
+        ensures refused { (text : List ℕ) (S : Session) → StandsFor self text →
+            model.verdict text ≡ model.Accepted S → result.refused ≡ model.refused_count S }
+    {
         let refused = self.reader.refused();
         let mut steps = self.reader.into_steps();
         if !matches!(verdict, Verdict::Accepted { .. }) {
             steps.clear();
         }
-        Ok(Closed {
+        Closed {
             verdict,
             steps,
             refused,
-        })
+        }
     }
 }
