@@ -1,16 +1,17 @@
 -- The jobs that are given, one by one.
 use Rattle.std.proofs.Common.{◌≡◌, ℕ, zero, suc, ◌+◌, ◌-◌, ◌*◌, ◌/◌, ◌≤◌, ◌<◌, List, [], ◌∷◌, ◌++◌, cond}
-use Rattle.std.proofs.Common.{refl, ap, ◌∙◌, arith, Bool, true, false, Fits}
+use Rattle.std.proofs.Common.{refl, ap, subst, ◌∙◌, arith, Bool, true, false, Fits}
 use Rattle.std.specs.Int.{w128}
 use Rattle.std.specs.Prelude.{min}
 use Rattle.std.proofs.lemmas.Nat.{mul-le, div_below}
-use Rattle.dover_model.specs.Fraction.{Fraction}
+use Rattle.dover_model.specs.Fraction.{Fraction, IsRatio}
 use Rattle.dover_model.specs.JobFacts.{JobFacts, IsJob}
 use Rattle.dover_model.specs.Bait.{tight_job}
 use Rattle.dover_model.specs.Limits.{last_tick}
+use Rattle.dover_model.proofs.JobLimits.{job_limits, ratio_limits}
 use Rattle.stated_jobs.specs.duel.Links.{next_link}
 use Rattle.stated_jobs.specs.duel.Jobs.{smalls, pieces, small_work, is_last, jobs_of_links, first_link}
-use Rattle.stated_jobs.specs.duel.Kept.{GoesOn}
+use Rattle.stated_jobs.specs.duel.Kept.{GoesOn, IsModest}
 use Rattle.stated_jobs.proofs.duel.Chain.{piece, piece_by_piece}
 
 module _ (k : Fraction) (a b : ℕ) where
@@ -92,6 +93,13 @@ module _ (k : Fraction) (a b : ℕ) where
         → job ≡ tight_job tick m k.p → now ≡ job ∷ cond over [] (to_come more (tick + m) (left - m) size work)
     small_given m job on some left_some least job_is = cc (small_comes on some left_some)
 
+    -- one that breaks a limit
+    pub small_too_large : (m : ℕ) → over ≡ false → 1 ≤ size → 1 ≤ left → m ≡ min size left
+        → (IsJob (tight_job tick m k.p) → ⊥)
+        → (j : JobFacts) × (rest : List JobFacts) × (now ≡ j ∷ rest) × (IsJob j → ⊥)
+    small_too_large m on some left_some least large =
+        (tight_job tick m k.p, to_come more (tick + m) (left - m) size work, cc (small_comes on some left_some), large)
+
     -- a link
     link_comes : over ≡ false → left ≡ 0 → now ≡ jobs_of_links k a b more (tick, work)
     link_comes on none = comes on ∙ ap (λ m. smalls k.p tick (pieces size m)
@@ -104,6 +112,31 @@ module _ (k : Fraction) (a b : ℕ) where
         → (j : JobFacts) × (rest : List JobFacts) × (now ≡ j ∷ rest) × (IsJob j → ⊥)
     link_too_large on none large = let it = some_link more (tick, work) in
         (tight_job tick work k.q, it.0, link_comes on none ∙ it.1, large)
+
+    module _ (on : over ≡ false) (none : left ≡ 0) (job : JobFacts) (job_is : job ≡ tight_job tick work k.q)
+        (ended : Bool) where
+      -- the last one
+      pub link_last : ended ≡ true
+          → jobs_of_links k a b more (tick, work) ≡ tight_job tick work k.q ∷ []
+          → (rest : List JobFacts) → now ≡ job ∷ cond ended [] rest
+      link_last is last rest = rw (is, job_is) (link_comes on none ∙ last)
+
+      -- one that others come behind
+      pub link_given : ended ≡ false → GoesOn k a b more (tick, work) → 1 ≤ work → (small next : ℕ)
+          → small ≡ small_work k a b (tick, work) → next ≡ (next_link k a b (tick, work)).1
+          → now ≡ job ∷ cond ended [] (to_come (more - 1) tick (work - 1) small next)
+      link_given is goes some small next small_is next_is =
+          let soon : tick + (work - 1) ≡ tick + work - 1 = omega (arith, some) in
+          rw (is, job_is, small_is, next_is, soon) (link_comes on none ∙ goes.jobs)
+
+-- a link whose job is within its limits is modest
+pub link_modest : (k : Fraction) (release work density : ℕ) (job : JobFacts) → IsRatio k → density ≡ k.q
+    → job ≡ tight_job release work density → IsJob job → IsModest (record { release = release; work = work })
+link_modest k release work density job ratio same is valid =
+    let limits = job_limits (subst IsJob is valid) in
+    let least = (ratio_limits ratio).least in
+    let worth : 1 * work ≤ density * work = mul-le 1 work density work (omega (arith, same, least)) (omega arith) in
+    record { some = limits.work; modest = omega (arith, worth, limits.modest); early = limits.due }
 
 -- what the next link is missing is at most what it is worth, and its work is small
 pub next_small : (whole q work part other x : ℕ) → whole ≤ 1_000_000 → work ≤ 1_000_000_000 → 1 ≤ part → 1 ≤ q

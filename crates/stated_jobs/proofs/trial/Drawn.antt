@@ -76,7 +76,7 @@ module _ (k : Fraction) (ratio : IsRatio k) where
       omega (arith, times, mul-div-le k.p k.q)
 
   -- the value of a job
-  value_low : (h w : ℕ) → (1 + h % most_density k) * (1 + w % 20) ≤ 20_000
+  pub value_low : (h w : ℕ) → (1 + h % most_density k) * (1 + w % 20) ≤ 20_000
   value_low h w = mul-le (1 + h % most_density k) (1 + w % 20) 1_000 20 (omega (arith, some_density)) (omega arith)
 
   value_some : (h w : ℕ) → 1 ≤ (1 + h % most_density k) * (1 + w % 20)

@@ -50,15 +50,14 @@ fn small_chain(k: Ratio, rounds: u32) -> Option<Chain>
 }
 
 /// A job without slack, whose value is its density times its work.
-fn tight_job(release: u64, work: u64, density: u64) -> Option<Job>
+fn tight_job(release: u64, work: u64, density: u64) -> Job
     requires some { 1 ≤ work }
     requires due { release + work ≤ last_tick }
     requires worth { 1 ≤ density * work }
     requires modest { density * work ≤ most_value }
-    ensures some { IsSome result }
-    ensures is { IfSome result (λ job. job ≡ tight_job release work density) }
+    ensures { result ≡ tight_job release work density }
 {
-    Job::new(release, work, release + work, density * work)
+    Job::new(release, work, release + work, density * work).unwrap()
 }
 
 /// How many of the chain's jobs are released up to a tick. The chain's first value is `first`, and its values sum to
@@ -164,18 +163,18 @@ impl Bait {
             return None;
         }
         if self.links > 0 && self.release == self.tick {
-            let job = tight_job(self.release, self.work, 1)?;
+            let job = tight_job(self.release, self.work, 1);
             self.links -= 1;
             self.release += self.work - 1;
             self.work = light_value(self.k, self.work) + 1;
             return Some(job);
         }
         if self.tick < self.bait_tick {
-            let job = tight_job(self.tick, 1, unit(self.k))?;
+            let job = tight_job(self.tick, 1, unit(self.k));
             self.tick += 1;
             return Some(job);
         }
-        let job = tight_job(self.tick, self.chain.light, 1)?;
+        let job = tight_job(self.tick, self.chain.light, 1);
         self.is_over = true;
         Some(job)
     }

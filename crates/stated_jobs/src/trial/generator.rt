@@ -68,7 +68,7 @@ impl Gen {
         let work = drawn(release);
         let slack = drawn(work);
         let density = drawn(slack);
-        let job = drawn_job(self.k, self.last, release, work, slack, density)?;
+        let job = drawn_job(self.k, self.last, release, work, slack, density);
         self.left -= 1;
         self.state = density;
         self.last = job.release();

@@ -107,7 +107,7 @@ impl TurnGen {
         let density = drawn(slack);
         let tick = drawn(density);
         let back = drawn(tick);
-        let job = drawn_job(self.k, self.last, release, work, slack, density)?;
+        let job = drawn_job(self.k, self.last, release, work, slack, density);
         let done = drawn_done(self.number, job.release(), tick, back);
         let turn = Turn { job, done };
         self.left -= 1;

@@ -1,5 +1,7 @@
 use Rattle.std.proofs.Common.{◌≡◌, ◌+◌, ◌*◌, ◌/◌, ◌≤◌, subst, sym, arith}
+use Rattle.std.proofs.lemmas.Nat.{mul-le}
 use Rattle.dover_model.specs.Greatest.{IsGreatest}
+use Rattle.dover_model.proofs.JobLimits.{ratio_limits}
 use Rattle.root_compare.proofs.Roots.{one_greatest}
 use Rattle.stated_jobs.proofs.bait.Heavy.{is_light, light_is, root_is, root_small}
 use Rattle.stated_jobs.proofs.bait.links.light_value.Goals as goal
@@ -22,3 +24,27 @@ returns-clause-is c = one_greatest _ _ _ (found c) (light_is c.args.k c.args.wor
 
 pub returns-clause-most : goal.returns-clause-most
 returns-clause-most c = omega (arith, root_small c.args.k c.args.work c.isqrt.result c.q.ensures.ratio (within c))
+
+pub overflow_mul-work : goal.overflow_mul-work
+overflow_mul-work c =
+    let square : c.args.work * c.args.work ≤ 1_000_000 * 1_000_000 =
+    mul-le c.args.work c.args.work 1_000_000 1_000_000 c.requires c.requires in
+    omega (arith, square)
+
+pub overflow_mul-p : goal.overflow_mul-p
+overflow_mul-p c =
+    let square : c.args.work * c.args.work ≤ 1_000_000 * 1_000_000 =
+    mul-le c.args.work c.args.work 1_000_000 1_000_000 c.requires c.requires in
+    let product : c.from-p.result * c.from-square.result ≤ 1_000_000 * 1_000_000_000_000 =
+    mul-le c.from-p.result c.from-square.result 1_000_000 1_000_000_000_000
+    (omega (arith, c.from-p.ensures, c.p.ensures.is, (ratio_limits c.p.ensures.ratio).small_p))
+    (omega (arith, c.from-square.ensures, square)) in
+    omega (arith, product)
+
+pub overflow_cast-result : goal.overflow_cast-result
+overflow_cast-result c =
+    omega (arith, c.requires, root_small c.args.k c.args.work c.isqrt.result c.q.ensures.ratio (within c))
+
+pub overflow_add-result : goal.overflow_add-result
+overflow_add-result c =
+    omega (arith, c.requires, root_small c.args.k c.args.work c.isqrt.result c.q.ensures.ratio (within c))

@@ -13,14 +13,14 @@ use Rattle.stated_jobs.proofs.bait.feed.Bait.next_job.Goals.{else-self-gt0-via-e
 
 -- ---- a link is given
 
-pub tight_job-requires-clause-due : goal.tight_job-requires-clause-due
-tight_job-requires-clause-due c = link_due c.self.inside.release c.self.inside.work c.self.inside.bait_tick
+pub tight_job-job-requires-clause-due : goal.tight_job-job-requires-clause-due
+tight_job-job-requires-clause-due c = link_due c.self.inside.release c.self.inside.work c.self.inside.bait_tick
     (link_within c.self.inside.k c.self.inside.links c.self.inside.release c.self.inside.work c.self.inside.bait_tick
     c.if-self-gt0.true
     c.self.invariant.work c.self.invariant.left) (tick_low c.self.inside c.self.invariant)
 
-pub tight_job-requires-clause-modest : goal.tight_job-requires-clause-modest
-tight_job-requires-clause-modest c = link_modest c.self.inside.release c.self.inside.work c.self.inside.bait_tick
+pub tight_job-job-requires-clause-modest : goal.tight_job-job-requires-clause-modest
+tight_job-job-requires-clause-modest c = link_modest c.self.inside.release c.self.inside.work c.self.inside.bait_tick
     (link_within c.self.inside.k c.self.inside.links c.self.inside.release c.self.inside.work c.self.inside.bait_tick
     c.if-self-gt0.true
     c.self.invariant.work c.self.invariant.left) (tick_low c.self.inside c.self.invariant)
@@ -52,11 +52,11 @@ invariant_of-self c = record {
   left = link_left _ _ _ _ _ _ c.if-self-gt0.true c.self.invariant.work c.light_value.ensures.is c.self.invariant.left;
 }
 
-pub tight_job-requires-clause-some : goal.tight_job-requires-clause-some
-tight_job-requires-clause-some c = c.self.invariant.work
+pub tight_job-job-requires-clause-some : goal.tight_job-job-requires-clause-some
+tight_job-job-requires-clause-some c = c.self.invariant.work
 
-pub tight_job-requires-clause-worth : goal.tight_job-requires-clause-worth
-tight_job-requires-clause-worth c = bait_worth c.self.inside.work c.self.invariant.work
+pub tight_job-job-requires-clause-worth : goal.tight_job-job-requires-clause-worth
+tight_job-job-requires-clause-worth c = bait_worth c.self.inside.work c.self.invariant.work
 
 pub overflow_sub-self : goal.overflow_sub-self
 overflow_sub-self c = c.if-self-gt0.true
@@ -80,8 +80,8 @@ returns-then-self-2-clause-rounds c = ap (λ (b : Baiting). b.rounds) c.self.vie
 pub returns-then-self-2-clause-jobs : goal.returns-then-self-2-clause-jobs
 returns-then-self-2-clause-jobs c =
     turn c.args.self.now.jobs _ c.self.inside.is_over _ _ (tight_job c.self.inside.release c.self.inside.work 1)
-    c.in_ok-job.job
-    (ap (λ (b : Baiting). b.jobs) c.self.view_is) c.if-self.false c.in_ok-job.ensures.is
+    c.tight_job-job.result
+    (ap (λ (b : Baiting). b.jobs) c.self.view_is) c.if-self.false c.tight_job-job.ensures
     (link_given (unit_value c.self.inside.k) c.self.inside.chain.light c.self.inside.bait_tick c.self.inside.k
     c.self.inside.links
     c.self.inside.release
@@ -94,15 +94,15 @@ returns-then-self-2-clause-none c = some_given _ _ _ (returns-then-self-2-clause
 
 -- ---- a unit job is given
 
-pub tight_job-requires-then-self-3-clause-due : goal.tight_job-requires-then-self-3-clause-due
-tight_job-requires-then-self-3-clause-due c = unit_due c.self.inside.tick c.self.inside.bait_tick c.if-self-3.true
+pub tight_job-job-requires-then-self-3-clause-due : goal.tight_job-job-requires-then-self-3-clause-due
+tight_job-job-requires-then-self-3-clause-due c = unit_due c.self.inside.tick c.self.inside.bait_tick c.if-self-3.true
     (tick_low c.self.inside c.self.invariant)
 
-pub tight_job-requires-then-self-3-clause-worth : goal.tight_job-requires-then-self-3-clause-worth
-tight_job-requires-then-self-3-clause-worth c = unit_worth c.unit.result c.unit.ensures.some
+pub tight_job-job-requires-then-self-3-clause-worth : goal.tight_job-job-requires-then-self-3-clause-worth
+tight_job-job-requires-then-self-3-clause-worth c = unit_worth c.unit.result c.unit.ensures.some
 
-pub tight_job-requires-then-self-3-clause-modest : goal.tight_job-requires-then-self-3-clause-modest
-tight_job-requires-then-self-3-clause-modest c = unit_modest c.unit.result c.unit.ensures.small
+pub tight_job-job-requires-then-self-3-clause-modest : goal.tight_job-job-requires-then-self-3-clause-modest
+tight_job-job-requires-then-self-3-clause-modest c = unit_modest c.unit.result c.unit.ensures.small
 
 pub overflow_add-self-then-self-3 : goal.overflow_add-self-then-self-3
 overflow_add-self-then-self-3 c = next_fits c.self.inside.tick c.self.inside.bait_tick c.if-self-3.true
@@ -136,8 +136,8 @@ returns-then-self-3-clause-jobs c =
       | else-self-gt0-via-else-self-gt0 w ↦ inl w.if-self-gt0.false
     ] in
     turn c.args.self.now.jobs _ c.self.inside.is_over _ _ (tight_job c.self.inside.tick 1 (unit_value c.self.inside.k))
-    c.in_ok-job-2.job
-    (ap (λ (b : Baiting). b.jobs) c.self.view_is) c.if-self.false (c.in_ok-job-2.ensures.is
+    c.tight_job-job-then-self-3.result
+    (ap (λ (b : Baiting). b.jobs) c.self.view_is) c.if-self.false (c.tight_job-job-then-self-3.ensures
     ∙ ap (λ u. tight_job c.self.inside.tick 1 u) c.unit.ensures.is)
     (unit_given _ _ _ _ _ _ _ _ c.self.invariant.work c.self.invariant.early none c.if-self-3.true) refl
 
@@ -146,20 +146,20 @@ returns-then-self-3-clause-none c = some_given _ _ _ (returns-then-self-3-clause
 
 -- ---- the bait is given
 
-pub tight_job-requires-2-clause-some : goal.tight_job-requires-2-clause-some
-tight_job-requires-2-clause-some c = c.self.invariant.numbers.some
+pub tight_job-job-requires-2-clause-some : goal.tight_job-job-requires-2-clause-some
+tight_job-job-requires-2-clause-some c = c.self.invariant.numbers.some
 
-pub tight_job-requires-2-clause-worth : goal.tight_job-requires-2-clause-worth
-tight_job-requires-2-clause-worth c = bait_worth c.self.inside.chain.light c.self.invariant.numbers.some
+pub tight_job-job-requires-2-clause-worth : goal.tight_job-job-requires-2-clause-worth
+tight_job-job-requires-2-clause-worth c = bait_worth c.self.inside.chain.light c.self.invariant.numbers.some
 
-pub tight_job-requires-2-clause-due : goal.tight_job-requires-2-clause-due
-tight_job-requires-2-clause-due c = bait_due c.self.inside.tick c.self.inside.bait_tick c.self.inside.chain.light
+pub tight_job-job-requires-2-clause-due : goal.tight_job-job-requires-2-clause-due
+tight_job-job-requires-2-clause-due c = bait_due c.self.inside.tick c.self.inside.bait_tick c.self.inside.chain.light
     (within_end c.self.inside.tick c.self.inside.release c.self.inside.bait_tick c.self.invariant.early
     (release_within _ _ _ _ _ c.self.invariant.work c.self.invariant.left)) (tick_low c.self.inside c.self.invariant)
     c.self.invariant.modest
 
-pub tight_job-requires-2-clause-modest : goal.tight_job-requires-2-clause-modest
-tight_job-requires-2-clause-modest c = bait_modest c.self.inside.chain.light c.self.invariant.modest
+pub tight_job-job-requires-2-clause-modest : goal.tight_job-job-requires-2-clause-modest
+tight_job-job-requires-2-clause-modest c = bait_modest c.self.inside.chain.light c.self.invariant.modest
 
 pub invariant_of-self-2 : goal.invariant_of-self-2
 invariant_of-self-2 c = record {
@@ -184,8 +184,8 @@ returns-clause-jobs c =
       | else-self-gt0-via-else-self-gt0 w ↦ inl w.if-self-gt0.false
     ] in
     last_turn c.args.self.now.jobs c.self.inside.is_over _ (tight_job c.self.inside.tick c.self.inside.chain.light 1)
-    c.in_ok-job-3.job
-    (ap (λ (b : Baiting). b.jobs) c.self.view_is) c.if-self.false c.in_ok-job-3.ensures.is
+    c.tight_job-job-2.result
+    (ap (λ (b : Baiting). b.jobs) c.self.view_is) c.if-self.false c.tight_job-job-2.ensures
     (bait_given (unit_value c.self.inside.k) c.self.inside.chain.light c.self.inside.bait_tick c.self.inside.k
     c.self.inside.links
     c.self.inside.release

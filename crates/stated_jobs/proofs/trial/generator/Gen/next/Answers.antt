@@ -6,21 +6,21 @@ use Rattle.stated_jobs.proofs.trial.generator.Gen.next.Goals as goal
 
 -- the jobs before the call are the next one and those after it
 split : (c : goal.After-self-3-1) → c.args.self.now
-    ≡ c.in_ok-job.job ∷ generated_jobs_from c.self.inside.k
+    ≡ c.drawn_job-job.result ∷ generated_jobs_from c.self.inside.k
     (c.self.inside.left - 1) c.drawn-density.result c.release-self-inside.result
 split c =
-    let here : c.in_ok-job.job ≡ next_job c.self.inside.k c.self.inside.state c.self.inside.last =
+    let here : c.drawn_job-job.result ≡ next_job c.self.inside.k c.self.inside.state c.self.inside.last =
     job_is c.self.inside.k c.self.inside.state c.self.inside.last c.drawn-release.result c.drawn-work.result
     c.drawn-slack.result
     c.drawn-density.result
     c.drawn-release.ensures.is c.drawn-work.ensures.is c.drawn-slack.ensures.is c.drawn-density.ensures.is
-    c.in_ok-job.job c.in_ok-job.ensures.is in
+    c.drawn_job-job.result c.drawn_job-job.ensures in
     let later : c.drawn-density.result ≡ next_four c.self.inside.state =
     four c.self.inside.k c.self.inside.state c.self.inside.last c.drawn-release.result c.drawn-work.result
     c.drawn-slack.result c.drawn-density.result
     c.drawn-release.ensures.is c.drawn-work.ensures.is c.drawn-slack.ensures.is c.drawn-density.ensures.is in
     sym c.self.view_is
-    ∙ next_one c.self.inside.k c.self.inside.left c.self.inside.state c.self.inside.last c.in_ok-job.job
+    ∙ next_one c.self.inside.k c.self.inside.left c.self.inside.state c.self.inside.last c.drawn_job-job.result
     c.drawn-density.result
     c.release-self-inside.result (omega arith) here later c.release-self-inside.ensures.is
 
@@ -30,6 +30,6 @@ returns-clause-jobs c = split c
 pub returns-clause-none : goal.returns-clause-none
 returns-clause-none c = (
   λ e. absurd (cc),
-  λ e. absurd (let no : c.in_ok-job.job ∷ generated_jobs_from c.self.inside.k (c.self.inside.left - 1)
+  λ e. absurd (let no : c.drawn_job-job.result ∷ generated_jobs_from c.self.inside.k (c.self.inside.left - 1)
       c.drawn-density.result c.release-self-inside.result ≡ [] = sym (split c) ∙ e in cc),
 )
