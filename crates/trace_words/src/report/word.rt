@@ -1,5 +1,5 @@
 //! The word as a whole.
-ghost use Rattle.std.specs.Prelude.{◌≡◌, ◌↔◌, ◌++◌, ℕ, List, [], IsTrue, true, IfOk};
+ghost use Rattle.std.specs.Prelude.{◌≡◌, ◌≢◌, ◌↔◌, ◌++◌, ℕ, List, [], IsTrue, true, IfOk};
 ghost use Rattle.run_record.specs.intervals.Rows.{IsRunOf};
 ghost use Rattle.dover_model.specs.Fraction.{Fraction};
 ghost use Rattle.dover_model.specs.Instance.{Instance, IsListable, IsValid};
@@ -15,6 +15,7 @@ ghost use Rattle.trace_words.specs.judge.Spending.{IsFrugal};
 ghost use Rattle.trace_words.specs.judge.Talk.{IsTrace};
 ghost use Rattle.trace_words.specs.report.Talk.{report_text, report_talk, SaysReport};
 ghost use Rattle.trace_words.specs.report.Talking.{Puts};
+ghost use Rattle.trace_words.specs.declared.report.form.Form.TheVariants.{Text, Table};
 
 use crate::judge::{Teller, judge_and_tell, put_verdict, status_of};
 use crate::report::Form;
@@ -122,6 +123,29 @@ fn put_table<P: Port>(
     }
 }
 
+/// The report in a form that is neither the text nor the table, on the run that prints these steps.
+fn view_of(
+    alloc: Global,
+    form: Form,
+    ratio: Ratio,
+    steps: &[PackedEvent],
+    refused: u64,
+) -> Result<Vec<u8>, Memory>
+    requires run { (J : Instance) × IsRunOf ratio steps.now J }
+    requires no_text { form ≢ Text }
+    requires no_table { form ≢ Table }
+    ensures { (J : Instance) → IsRunOf ratio steps.now J →
+        IfOk result (λ text. text.items ≡ report_text form refused J) }
+{
+    match form {
+        Form::Chrome => chrome(alloc, ratio, steps),
+        Form::Why(number) => why(alloc, ratio, steps, number),
+        Form::Timeline(window) => timeline(alloc, ratio, steps, window),
+        Form::Svg(window) => picture(alloc, ratio, steps, refused, window),
+        Form::Text | Form::Table => unreachable!(),
+    }
+}
+
 /// Puts the report on the run of this version that prints these steps, and on how many lines were refused, or keeps an
 /// end of it back in `out`. Before its first byte all memory for it is taken.
 fn put_report<P: Port>(
@@ -145,10 +169,7 @@ fn put_report<P: Port>(
     match form {
         Form::Text => put_whole(port, text_of(alloc, version, ratio, steps)),
         Form::Table => put_table(alloc, port, out, version, steps),
-        Form::Chrome => put_whole(port, chrome(alloc, ratio, &steps)),
-        Form::Why(number) => put_whole(port, why(alloc, ratio, &steps, number)),
-        Form::Timeline(window) => put_whole(port, timeline(alloc, ratio, &steps, window)),
-        Form::Svg(window) => put_whole(port, picture(alloc, ratio, &steps, refused, window)),
+        _ => put_whole(port, view_of(alloc, form, ratio, &steps, refused)),
     }
 }
 
