@@ -82,7 +82,7 @@ impl Ledger {
             }
             Event::Preempt { starts, .. } => self.join(starts),
             Event::Take { at, starts, .. } => self.take(at, starts),
-            Event::Complete { at, number } => self.complete(at, number)?,
+            Event::Complete { at, number } => return self.complete(at, number),
             Event::Abandon { at, number } => self.abandon(at, number),
             Event::End { value } => self.value = value,
         }
@@ -145,7 +145,7 @@ impl Ledger {
         self.active -= 1;
         self.worth -= value;
         if was_last {
-            self.end()?;
+            return self.end();
         }
         Ok(())
     }

@@ -1,5 +1,5 @@
 //! What a fresh job's work is tested against, step by step.
-ghost use Rattle.std.specs.Prelude.{◌≡◌, ◌≤◌, IfOk, length, map};
+ghost use Rattle.std.specs.Prelude.{◌≡◌, ◌≤◌, IfOk, None, length, map};
 ghost use Rattle.std.specs.List.{enumerate_from};
 ghost use Rattle.run_record.specs.intervals.Rows.{IsRunOf};
 ghost use Rattle.dover_model.specs.declared.events.Role.TheVariants.{Coming};
@@ -10,7 +10,7 @@ ghost use Rattle.dover_model.specs.Limits.{most_jobs};
 ghost use Rattle.dover_model.specs.declared.events.Version.TheVariants.{Two};
 ghost use Rattle.dover_model.specs.Observed as observed;
 ghost use Rattle.dover_model.specs.State.{to_come};
-ghost use Rattle.run_record.specs.ledger.Pages.{had_in};
+ghost use Rattle.run_record.specs.ledger.Pages.{empty, had_in};
 ghost use Rattle.run_record.specs.ledger.Rooms as tests;
 
 use crate::ledger::under_way::UnderWay;
@@ -25,7 +25,7 @@ pub fn rooms(alloc: Global, k: Ratio, jobs: &[Job], run: &[PackedEvent]) -> Resu
     ensures { (J : Instance) → IsRunOf k run.now J → jobs.now ≡ J.jobs
         → IfOk result (λ rooms. rooms.items ≡ tests.rooms J) }
 {
-    let mut under_way = UnderWay::new(alloc, entries(alloc, jobs)?)?;
+    let mut under_way = before_run(alloc, jobs)?;
     let mut rooms = Vec::new(alloc);
     for event in run {
         rooms.push(under_way.room(event))?;
@@ -41,12 +41,21 @@ pub fn hads(alloc: Global, jobs: &[Job], run: &[PackedEvent]) -> Result<Vec<u64>
     ensures { (k : Fraction) (J : Instance) → IsRunOf k run.now J → jobs.now ≡ J.jobs
         → IfOk result (λ hads. hads.items ≡ observed.hads J) }
 {
-    let mut under_way = UnderWay::new(alloc, entries(alloc, jobs)?)?;
+    let mut under_way = before_run(alloc, jobs)?;
     for event in run {
         under_way.read(alloc, event)?;
     }
-    let hads = had_by(alloc, jobs, &under_way)?;
-    Ok(hads)
+    had_by(alloc, jobs, &under_way)
+}
+
+/// The jobs by number, before the first step.
+fn before_run(alloc: Global, jobs: &[Job]) -> Result<UnderWay, Memory>
+    requires { length jobs.now ≤ most_jobs Two }
+    ensures { IfOk result (λ under_way. under_way ≡ record
+        { entries = map entry_of (to_come 0 jobs.now); since = 0; turn = None; held = empty }) }
+{
+    let entries = entries(alloc, jobs)?;
+    UnderWay::new(alloc, entries)
 }
 
 /// How many ticks each job has had, where none runs.

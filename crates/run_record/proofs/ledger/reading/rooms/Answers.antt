@@ -1,11 +1,13 @@
-use Rattle.std.proofs.Common.{ap, ◌∙◌, ◌++◌, ◌∷◌, [], arith}
+use Rattle.std.proofs.Common.{map, refl, ap, ◌∙◌, ◌++◌, ◌∷◌, [], arith}
+use Rattle.dover_model.specs.Entries.{entry_of}
+use Rattle.dover_model.specs.State.{to_come}
 use Rattle.run_record.proofs.ledger.Walking.{begun, readable, gone_on, weighed}
 use Rattle.run_record.proofs.ledger.reading.rooms.Goals as goal
 
 pub loop-event-init : goal.loop-event-init
 loop-event-init c J of same = begun c.args.k c.args.run.now J of
-    c.in_ok-under_way.under_way c.args.jobs.now c.in_ok-entries.field-0.items c.new-rooms.result.items same
-    c.in_ok-entries.ensures c.in_ok-under_way.ensures c.new-rooms.ensures.items
+    c.in_ok-under_way.under_way c.args.jobs.now (map entry_of (to_come 0 c.args.jobs.now)) c.new-rooms.result.items
+    same refl c.in_ok-under_way.ensures c.new-rooms.ensures.items
 
 pub room-requires : goal.room-requires
 room-requires c = readable c.args.k c.args.run.now c.requires.0 c.requires.1 c.loop-event.under_way
