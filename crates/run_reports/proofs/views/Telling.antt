@@ -88,18 +88,20 @@ module _ (k : Fraction) (steps : List Event) (J : Instance) (of : IsRunOf k step
       (length js)) same_jobs
       ∙ ap (answer n J) (sym (ap (λ js. slice_get js n) (sym same_jobs) ∙ none))
 
-  -- the job's story
-  pub why_some : (j : JobFacts) (had worths leaves a b c : List ℕ) → slice_get jobs n ≡ Some j → had ≡ hads J
-      → worths ≡ weights J → leaves ≡ rooms J → a ≡ [] → b ≡ a ++ asked n j
-      → c ≡ b ++ story_from k n j.value jobs had false steps worths leaves → c ≡ why n J
-  why_some j had worths leaves a b c some ran weighed left first middle last =
-      last ∙ ap (λ t. t ++ story_from k n j.value jobs had false steps worths leaves)
-      (middle ∙ ap (λ t. t ++ asked n j) first)
-      ∙ ap (λ (r : Fraction). asked n j ++ story_from r n j.value jobs had false steps worths leaves) (sym of.ratio)
-      ∙ ap (λ js. asked n j ++ story_from J.rules.ratio n j.value js had false steps worths leaves) same_jobs
-      ∙ ap (λ hs. asked n j ++ story_from J.rules.ratio n j.value J.jobs hs false steps worths leaves) ran
-      ∙ ap (λ ws. asked n j ++ story_from J.rules.ratio n j.value J.jobs (hads J) false steps ws leaves) weighed
-      ∙ ap (λ rs. asked n j ++ story_from J.rules.ratio n j.value J.jobs (hads J) false steps (weights J) rs) left
-      ∙ ap (λ es. asked n j ++ story_from J.rules.ratio n j.value J.jobs (hads J) false es (weights J) (rooms J))
-      (sym of.prints)
-      ∙ ap (answer n J) (sym (ap (λ js. slice_get js n) (sym same_jobs) ∙ some))
+  -- its text is that of the job which is there
+  pub why_some : (j : JobFacts) (text : List ℕ) → slice_get jobs n ≡ Some j → text ≡ answer n J (Some j)
+      → text ≡ why n J
+  why_some j text some is = is ∙ ap (answer n J) (sym (ap (λ js. slice_get js n) (sym same_jobs) ∙ some))
+
+-- the job's story
+pub story_is : (k : Fraction) (steps : List Event) (J : Instance) → IsRunOf k steps J → (n : ℕ) (jobs : List JobFacts)
+    → jobs ≡ J.jobs → (j : JobFacts) (a b c : List ℕ) → a ≡ [] → b ≡ a ++ asked n j
+    → c ≡ b ++ story_from k n j.value jobs (hads J) false steps (weights J) (rooms J) → c ≡ answer n J (Some j)
+story_is k steps J of n jobs same j a b c first middle last =
+    last ∙ ap (λ t. t ++ story_from k n j.value jobs (hads J) false steps (weights J) (rooms J))
+    (middle ∙ ap (λ t. t ++ asked n j) first)
+    ∙ ap (λ (r : Fraction). asked n j ++ story_from r n j.value jobs (hads J) false steps (weights J) (rooms J))
+    (sym of.ratio)
+    ∙ ap (λ js. asked n j ++ story_from J.rules.ratio n j.value js (hads J) false steps (weights J) (rooms J)) same
+    ∙ ap (λ es. asked n j ++ story_from J.rules.ratio n j.value J.jobs (hads J) false es (weights J) (rooms J))
+    (sym of.prints)

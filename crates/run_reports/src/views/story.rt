@@ -1,10 +1,13 @@
 //! What happened to one job.
-ghost use Rattle.std.specs.Prelude.{◌≡◌, ◌≤◌, ◌++◌, ◌∷◌, ◌*◌, List, false, length, drop, OnOk, IfOk};
+ghost use Rattle.std.specs.Prelude.{◌≡◌, ◌≤◌, ◌++◌, ◌∷◌, ◌*◌, List, Some, false, length, drop, OnOk, IfOk};
 ghost use Rattle.std.specs.List.{AllByRecursion};
 ghost use Rattle.run_record.specs.intervals.Rows.{IsRunOf};
+ghost use Rattle.run_record.specs.intervals.Rows as rows;
+ghost use Rattle.run_record.specs.ledger.Rooms as tests;
 ghost use Rattle.dover_model.specs.declared.events.Event.{Event};
 ghost use Rattle.dover_model.specs.Instance.{Instance};
 ghost use Rattle.dover_model.specs.Limits.{most_total, most_value};
+ghost use Rattle.dover_model.specs.Observed as observed;
 ghost use Rattle.dover_model.specs.declared.events.Version.TheVariants.{Two};
 ghost use Rattle.run_reports.specs.views.Why as story;
 
@@ -48,12 +51,25 @@ pub fn why(alloc: Global, k: Ratio, run: &[PackedEvent], number: u32) -> Result<
     ensures { (J : Instance) → IsRunOf k run.now J → IfOk result (λ written. written.items ≡ story.why number J) }
 {
     let jobs = released(alloc, run)?;
-    let Some(job) = jobs.get(number as usize) else {
-        return unknown(alloc, number, jobs.len() as u64);
-    };
-    let worths = weights(alloc, k, run)?;
-    let rooms = rooms(alloc, k, &jobs, run)?;
-    let hads = hads(alloc, &jobs, run)?;
+    match jobs.get(number as usize) {
+        Some(job) => story_of(alloc, k, run, &jobs, number, job),
+        None => unknown(alloc, number, jobs.len() as u64),
+    }
+}
+
+/// The text of the job of this number among those of the run.
+fn story_of(
+    alloc: Global,
+    k: Ratio,
+    run: &[PackedEvent],
+    jobs: &[Job],
+    number: u32,
+    job: &Job,
+) -> Result<Vec<u8>, Memory>
+    requires { (J : Instance) × IsRunOf k run.now J × (jobs.now ≡ J.jobs) }
+    ensures { (J : Instance) → IsRunOf k run.now J → jobs.now ≡ J.jobs
+        → IfOk result (λ text. text.items ≡ story.answer number J (Some job.now)) }
+{
     let mut text = Vec::new(alloc);
     put_asked(&mut text, number, job)?;
     let asked = Asked {
@@ -61,8 +77,29 @@ pub fn why(alloc: Global, k: Ratio, run: &[PackedEvent], number: u32) -> Result<
         number,
         value: job.value(),
     };
-    put_story(&mut text, &asked, &jobs, &hads, run, &worths, &rooms)?;
+    put_weighed(alloc, &mut text, &asked, jobs, run)?;
     Ok(text)
+}
+
+/// Appends what the steps of the run mean for the job, with what is weighed at each.
+fn put_weighed(
+    alloc: Global,
+    text: &mut Vec<u8>,
+    asked: &Asked,
+    jobs: &[Job],
+    run: &[PackedEvent],
+) -> Result<(), Memory>
+    requires run { (J : Instance) × IsRunOf asked.now.k run.now J × (jobs.now ≡ J.jobs) }
+    requires value { asked.now.value ≤ most_value }
+    ensures { (J : Instance) → IsRunOf asked.now.k run.now J → jobs.now ≡ J.jobs
+        → OnOk result (text.new.items ≡ text.old.items ++ story.story_from
+        asked.now.k asked.now.number asked.now.value jobs.now (observed.hads J) false run.now (rows.weights J)
+        (tests.rooms J)) }
+{
+    let worths = weights(alloc, asked.k, run)?;
+    let rooms = rooms(alloc, asked.k, jobs, run)?;
+    let hads = hads(alloc, jobs, run)?;
+    put_story(text, asked, jobs, &hads, run, &worths, &rooms)
 }
 
 /// The text where there is no such job.
