@@ -1,2 +1,3 @@
 pub mod Snapped
 pub mod Talking
+pub mod Putting

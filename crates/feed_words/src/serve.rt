@@ -3,6 +3,7 @@ mod at_end;
 mod pause;
 mod pausing;
 mod serving;
+mod told;
 mod words;
 
 pub use at_end::AtEnd;

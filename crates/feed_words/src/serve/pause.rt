@@ -12,11 +12,13 @@ ghost use Rattle.lane_server.specs.Spending.{HasPaid};
 ghost use Rattle.feed_words.specs.serve.Talk.{IsTooLarge};
 ghost use Rattle.snapshot.specs.Snapshot.{MayPause, snapshot};
 
+use crate::serve::serving::Serving;
 use dover_model::Version;
 use dover_port::{Failed, Output, Port};
 use lane_server::{Feed, Lane};
 use line_text::BackLine;
 use snapshot::Paused;
+use std::sync::ledger::Ledger;
 
 /// Puts the lines of a snapshot.
 pub(crate) fn put_lines<P: Port>(
@@ -61,18 +63,18 @@ pub(crate) fn is_too_large(feed: &Feed) -> bool
     }
 }
 
-/// A feed that may pause, as the lines of its snapshot.
-pub(crate) fn pause(feed: Feed) -> Paused
-    requires feed { (x : List ℕ) × FeedRests feed x × MayPause x }
-    requires roster { KeepsRoster feed.lane true }
-    ensures text { (x : List ℕ) → FeedRests feed x → MayPause x →
+/// A feed that is served and may pause, as the lines of its snapshot.
+pub(crate) fn pause<L: Ledger>(serving: Serving<L>) -> Paused
+    requires feed { (x : List ℕ) × FeedRests serving.feed x × MayPause x }
+    requires roster { KeepsRoster serving.feed.lane true }
+    ensures text { (x : List ℕ) → FeedRests serving.feed x → MayPause x →
         in_lines result ≡ snapshot x }
-    ensures paid { (x : List ℕ) (start now : ℕ) → FeedRests feed x → MayPause x →
-        HasPaid feed.lane.server start now →
+    ensures paid { (x : List ℕ) (start now : ℕ) → FeedRests serving.feed x → MayPause x →
+        HasPaid serving.feed.lane.server start now →
         CostsAtMost (admitted_in (account x)) start now }
 {
     Lane::laws();
-    let lane = feed.into_lane();
+    let lane = serving.feed.into_lane();
     let Err(fault) = lane.end() else {
         unreachable!();
     };

@@ -5,6 +5,7 @@ ghost use Rattle.feed_words.specs.declared.serve.at_end.AtEnd.TheVariants.{Pause
 
 use crate::serve::pause::{is_paused, is_too_large, pause, put_lines};
 use crate::serve::serving::Serving;
+use crate::serve::told::answer_with;
 use dialogue::{Stop, Talker};
 use dover_model::Memory;
 use dover_port::{Output, Port, Status};
@@ -65,17 +66,16 @@ impl<L: Ledger> Talker for Pausing<L> {
         ended: bool,
     ) -> Result<Status, Stop> {
         if is_paused(&self.serving.feed) {
-            return match put_lines(port, out, &pause(self.serving.feed)) {
-                Ok(()) => Ok(Status::Done),
-                Err(_) => Err(Stop::Unwritten),
-            };
+            let paused = pause(self.serving);
+            let put = put_lines(port, out, &paused);
+            drop(paused);
+            return answer_with(put, Status::Done);
         }
         if is_too_large(&self.serving.feed) {
+            drop(self);
             Lane::laws();
-            return match out.put(port, b"refused size\n") {
-                Ok(()) => Ok(Status::Refused),
-                Err(_) => Err(Stop::Unwritten),
-            };
+            let put = out.put(port, b"refused size\n");
+            return answer_with(put, Status::Refused);
         }
         self.serving.answer(meter, port, out, ended)
     }

@@ -122,6 +122,8 @@ impl<L: Ledger> Talker for Serving<L> {
         _ended: bool,
     ) -> Result<Status, Stop> {
         Lane::laws();
-        tell_end(self.feed.lane(), port, out)
+        let told = tell_end(self.feed.lane(), port, out);
+        drop(self);
+        told
     }
 }

@@ -4,7 +4,7 @@ use Rattle.lane_server.specs.Lane.{Stands}
 use Rattle.feed_words.proofs.serve.serving.ServingTalker.answer.Goals as goal
 
 pub returns-clause-answers : goal.returns-clause-answers
-returns-clause-answers g c = λ a x at over. c.tell_end.ensures.answers a x c.args._ended
+returns-clause-answers g c = λ a x at over. c.tell_end-told.ensures.answers a x c.args._ended
     (subst (λ l. Stands l (lines_of (a.feed ++ x)) []) (sym c.lane.ensures) at.rests.lane.stands) over
 
 pub returns-clause-spent : goal.returns-clause-spent
