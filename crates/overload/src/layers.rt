@@ -134,20 +134,35 @@ impl Priced {
         raise(&mut self.prices, jobs, ticks, more);
     }
 
-    /// Puts layers where the jobs that are worth more than their price are too many, at half of what would be best if
-    /// it were the last.
+    /// Puts a layer on each of these stretches, at half of what would be best if it were the last.
+    fn put_each(
+        &mut self,
+        alloc: Global,
+        jobs: &[Job],
+        stretches: &[Ticks],
+        is_last: bool,
+    ) -> Result<(), Memory>
+        requires in_order { IsInOrder jobs.now }
+        requires priced { HasPriced jobs.now self.old }
+        ensures { OnOk result (HasPriced jobs.now self.new) }
+    {
+        for ticks in stretches {
+            let mut offers = offers(alloc, jobs, &self.prices, *ticks)?;
+            let more = dearer(&mut offers, ticks.until.saturating_sub(ticks.from));
+            self.put(jobs, *ticks, if is_last { more } else { more / 2 });
+        }
+        Ok(())
+    }
+
+    /// Puts layers where the jobs that are worth more than their price are too many.
     fn round(&mut self, alloc: Global, jobs: &[Job], is_last: bool) -> Result<(), Memory>
         requires in_order { IsInOrder jobs.now }
         requires priced { HasPriced jobs.now self.old }
         ensures { OnOk result (HasPriced jobs.now self.new) }
     {
         let rest = rest(alloc, jobs, &self.prices)?;
-        for ticks in overfull(alloc, &rest)?.iter() {
-            let mut offers = offers(alloc, jobs, &self.prices, *ticks)?;
-            let more = dearer(&mut offers, ticks.until.saturating_sub(ticks.from));
-            self.put(jobs, *ticks, if is_last { more } else { more / 2 });
-        }
-        Ok(())
+        let stretches = overfull(alloc, &rest)?;
+        self.put_each(alloc, jobs, &stretches, is_last)
     }
 
     /// What no schedule is worth more than, in units of price.

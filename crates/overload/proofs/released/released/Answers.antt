@@ -1,4 +1,4 @@
-use Rattle.std.proofs.Common.{◌≡◌, ◌≤◌, ◌-◌, drop, subst, arith}
+use Rattle.std.proofs.Common.{◌≡◌, ◌≤◌, drop, subst, arith}
 use Rattle.dover_model.specs.Sound.{Each}
 use Rattle.overload.proofs.Near.{all_early, all_late, halved}
 use Rattle.dover_model.proofs.ValidParts.{order_parts}

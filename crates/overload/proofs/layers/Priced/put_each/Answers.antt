@@ -1,4 +1,4 @@
-use Rattle.overload.proofs.layers.Priced.round.Goals as goal
+use Rattle.overload.proofs.layers.Priced.put_each.Goals as goal
 
 pub loop-ticks-init : goal.loop-ticks-init
 loop-ticks-init c = c.requires.priced
