@@ -9,6 +9,7 @@ use Rattle.std.proofs.lemmas.List.{append-nil, map-append, take_all, take_more, 
 use Rattle.std.proofs.lemmas.List.{get_or-set_other, length-set, set-set}
 use Rattle.std.proofs.lemmas.List.Elements.{filter-append}
 use Rattle.dover_model.specs.JobFacts.{JobFacts, IsJob}
+use Rattle.dover_model.specs.Limits.{last_tick}
 use Rattle.dover_model.specs.Orders.{first}
 use Rattle.place_heap.specs.Items.{ItemFacts, is_before}
 use Rattle.place_heap.specs.Table.{items_of}
@@ -19,7 +20,7 @@ use Rattle.task_words.specs.tasks.Merging.{kept_release, StandsBehind}
 use Rattle.task_words.specs.declared.tasks.task.PeriodicTask.{PeriodicTask}
 use Rattle.task_words.proofs.tasks.Firsts.{IsFirst, first_is, none_first, lead_by}
 use Rattle.task_words.proofs.tasks.Released.{job_within}
-use Rattle.task_words.proofs.tasks.Releases.{follows_short}
+use Rattle.task_words.proofs.tasks.Releases.{first_kept, follows_short}
 
 -- ---- the tick from which a next release counts
 
@@ -340,6 +341,40 @@ module _ (m : Merge) (done : List JobFacts) (s : StandsBehind m done) where
           (sym (get_or-set_other m.next e.place n o None apart)) (other_next n apart there)
 
 -- ---- nothing came yet
+
+-- with the first release of one task more
+pub first_more : (until k : ℕ) (tasks : List PeriodicTask) (old : List (Option ItemFacts)) → k < length old
+    → ((n : ℕ) → n < k → IsNext until n (task_at tasks n) 0 (get_or old n None))
+    → (n : ℕ) → n < k + 1 → IsNext until n (task_at tasks n) 0
+    (get_or (set old k (kept_release until k (task_at tasks k).offset)) n None)
+first_more until k tasks old room kept n low = of (cases_eq n k) where
+  first : Option ItemFacts
+  first = kept_release until k (task_at tasks k).offset
+
+  of : (n ≡ k) ⊎ (n ≡ k → ⊥) → IsNext until n (task_at tasks n) 0 (get_or (set old k first) n None)
+  of (inl same) = subst (λ i. IsNext until i (task_at tasks i) 0 (get_or (set old k first) i None)) (sym same)
+      (subst (IsNext until k (task_at tasks k) 0) (sym (get_or-set_same old k first None room))
+      (first_kept until k (task_at tasks k)))
+  of (inr apart) = subst (IsNext until n (task_at tasks n) 0) (sym (get_or-set_other old k n first None apart))
+      (kept n (omega (arith, low, apart)))
+
+-- with those of all tasks
+pub stands_first : (tasks : List PeriodicTask) (until : ℕ) (next : List (Option ItemFacts)) → until ≤ last_tick
+    → length next ≡ length tasks
+    → ((n : ℕ) → n < length tasks → IsNext until n (task_at tasks n) 0 (get_or next n None))
+    → StandsBehind (merge tasks until next) []
+stands_first tasks until next limit size kept = record {
+  limit = limit;
+  size = size;
+  tick = 0;
+  place = 0;
+  known = omega arith;
+  within = omega arith;
+  begun = λ _. refl;
+  done_is = refl;
+  next = λ n low. subst (λ t. IsNext until n (task_at tasks n) t (get_or next n None))
+      (sym (from_late 0 0 n (omega arith))) (kept n low);
+}
 
 -- ---- what a heap gives
 

@@ -1,6 +1,6 @@
 -- When a task releases, and when it doesn't.
 use Rattle.std.proofs.Common.{◌≡◌, ℕ, suc, ◌+◌, ◌-◌, ◌*◌, ◌/◌, ◌%◌, ◌^◌, ◌<◌, ◌≤◌, refl, ap, ◌∙◌, Bool, true}
-use Rattle.std.proofs.Common.{false, cond, min, arith}
+use Rattle.std.proofs.Common.{false, cond, min, arith, rules}
 use Rattle.std.proofs.Common.{Option, Some, None}
 use Rattle.std.specs.Prelude.{◌&&◌, ◌==◌, nat_le, nat_lt}
 use Rattle.std.proofs.lemmas.Nat.{div-add-mod', mod-mul-add}
@@ -16,6 +16,27 @@ abbrev kept_by : Bool → (number release : ℕ) → Option ItemFacts
 kept_by b number release = cond b (Some (release_item number release)) None
 
 -- ---- the first release
+
+-- none is before the offset, where the first is
+pub first_kept : (until number : ℕ) (task : PeriodicTask)
+    → IsNext until number task 0 (kept_release until number task.offset)
+first_kept until number task = by (nat_lt task.offset until) refl where
+  none_before : (tick : ℕ) → tick < task.offset → releases task tick ≡ false
+  none_before tick before = search (rules, before)
+
+  at_offset : releases task task.offset ≡ true
+  at_offset = search rules
+
+  by : (b : Bool) → nat_lt task.offset until ≡ b → IsNext until number task 0 (kept_by b number task.offset)
+  by true early = record {
+    item_is = refl;
+    early = omega arith;
+    late = ltb-true _ _ early;
+    released = at_offset;
+    quiet = λ tick from before. none_before tick before;
+  }
+  by false late = λ tick low high. let after : until ≤ task.offset = ltb-false _ _ late in
+      none_before tick (omega (arith, high, after))
 
 -- ---- the next release
 

@@ -1,18 +1,30 @@
-use Rattle.std.proofs.Common.{rules, is_some, arith}
+use Rattle.std.proofs.Common.{is_some, arith}
 use Rattle.std.proofs.lemmas.List.Sums.{count_by-le-length}
-use Rattle.std.proofs.Common.{◌≡◌, ◌-◌, ◌++◌, ◌∙◌, ℕ, zero, suc, List, [], Option, None, length, replicate, get_or}
-use Rattle.std.proofs.Common.{ap, refl}
-use Rattle.std.proofs.lemmas.List.{length-replicate}
+use Rattle.std.proofs.Common.{◌+◌, ◌-◌, ◌++◌, ◌∙◌, ℕ, zero, suc, List, [], Option, None, length, replicate, get_or}
+use Rattle.std.proofs.Common.{◌≡◌, ap, refl, length-set, set, subst, sym}
+use Rattle.std.proofs.lemmas.List.{get_or-set_other, length-replicate}
 use Rattle.place_heap.specs.Items.{ItemFacts}
 use Rattle.std.proofs.Math.Nat.{mul-le-mul_left}
+use Rattle.task_words.specs.tasks.Merging.{IsNext, blank_task, kept_release}
+use Rattle.task_words.proofs.tasks.Merging.{first_more, stands_first}
 use Rattle.task_words.proofs.tasks.unrolling.first_releases.Goals as goal
 
 pub loop-task-preserved : goal.loop-task-preserved
 loop-task-preserved g c = record {
-  number_is = search rules;
-  size = search rules;
-  kept = search rules;
-  rest = search rules;
+  number_is = ap (λ n. n + 1) c.loop-task.invariant.number_is;
+  size = ap length c.keep_release.ensures.keeps ∙ length-set c.loop-task.next c.loop-task.number _
+      ∙ c.loop-task.invariant.size;
+  kept = λ n low.
+      let k = c.loop-task.task-index in
+      subst (λ t. IsNext c.args.until n (get_or c.args.tasks.now n blank_task) 0 (get_or t n None))
+      (sym (c.keep_release.ensures.keeps ∙ ap (λ i. set c.loop-task.next i
+      (kept_release c.args.until i (get_or c.args.tasks.now k blank_task).offset)) c.loop-task.invariant.number_is))
+      (first_more c.args.until k c.args.tasks.now c.loop-task.next
+      (omega (arith, c.loop-task.invariant.size)) c.loop-task.invariant.kept n low);
+  rest = λ n high. ap (λ t. get_or t n None) c.keep_release.ensures.keeps
+      ∙ get_or-set_other c.loop-task.next c.loop-task.number n _ None
+      (λ same. absurd (omega (arith, same, high, c.loop-task.invariant.number_is)))
+      ∙ c.loop-task.invariant.rest n (omega (arith, high));
   count = λ d enough.
       let before = c.loop-task.invariant.count d enough in
       let one = c.keep_release.ensures.count d
@@ -50,3 +62,7 @@ returns-clause-count g c = λ d enough. omega (
   c.loop-task.invariant.count d enough,
   mul-le-mul_left d c.loop-task.auto.task-index-end,
 )
+
+pub returns-clause-stands : goal.returns-clause-stands
+returns-clause-stands g c = stands_first c.args.tasks.now c.args.until c.loop-task.next c.requires.known
+    c.loop-task.invariant.size (λ n low. c.loop-task.invariant.kept n (omega (arith, low)))
