@@ -68,10 +68,12 @@ impl<L: Ledger> Talker for Pausing<L> {
         if is_paused(&self.serving.feed) {
             let paused = pause(self.serving);
             let put = put_lines(port, out, &paused);
+            // Let go here, so that no way out of the answer owns it.
             drop(paused);
             return answer_with(put, Status::Done);
         }
         if is_too_large(&self.serving.feed) {
+            // Let go here, as above.
             drop(self);
             Lane::laws();
             let put = out.put(port, b"refused size\n");

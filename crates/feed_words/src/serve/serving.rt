@@ -123,6 +123,7 @@ impl<L: Ledger> Talker for Serving<L> {
     ) -> Result<Status, Stop> {
         Lane::laws();
         let told = tell_end(self.feed.lane(), port, out);
+        // Let go here, so that no way out of the answer owns it.
         drop(self);
         told
     }
