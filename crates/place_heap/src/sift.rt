@@ -130,9 +130,9 @@ fn first_child<L: Ledger>(items: &[Item], at: usize, steps: &mut Steps<L>) -> us
     first_of_few(items, low, steps)
 }
 
-// Takes the item at a position out of the order, down to where it has no children: each time the child that comes first
-// moves up. Answers where it ends. What it is compared with is only what stands above it there, since a heap's last item
-// seldom belongs higher.
+// Takes the item at a position out of the order, down to where it has no children: each time the child that comes
+// first moves up. Answers where it ends. Nothing is compared with the item itself, since a heap's last one seldom
+// belongs higher than that.
 #[inline(always)]
 fn sink<L: Ledger>(
     items: &mut [Item],
