@@ -1,2 +1,3 @@
 pub mod feasible
 pub mod best
+pub mod overload

@@ -9,3 +9,5 @@ pub mod Spelling
 pub mod Ending
 pub mod Listing
 pub mod Offering
+pub mod Behind
+pub mod Saying

@@ -5,3 +5,4 @@ pub mod Faults
 pub mod Listing
 pub mod Keeping
 pub mod Record
+pub mod DueLines

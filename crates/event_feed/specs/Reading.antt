@@ -1,5 +1,7 @@
 -- What a line makes of what is kept, and its answer, step by step.
 use Rattle.std.specs.Prelude.{◌≡◌, ℕ, ◌≤◌, Option, Some, None, Result, Ok, Err}
+use Rattle.dover_model.specs.declared.events.Version.{Version}
+use Rattle.dover_model.specs.declared.events.Version.TheVariants.{One, Two, Three}
 use Rattle.dover_model.specs.Numerals.{AreShort}
 use Rattle.dover_model.specs.JobFacts.{JobFacts, job_numbers}
 use Rattle.dover_model.specs.Instance.{Declaration}
@@ -15,6 +17,12 @@ use Rattle.event_feed.specs.declared.fed.Fed.{Fed}
 use Rattle.event_feed.specs.declared.kept_session.KeptSession.{KeptSession}
 use Rattle.event_feed.specs.Kept.{cause_of_fault, IsKeptOf, KeepsSession, left_behind}
 use Rattle.event_feed.specs.Answers.{IsFed, NamesOther}
+
+-- the number with which a ratio line declares a version
+abbrev pub declared_number : Version → Option ℕ
+declared_number One = None
+declared_number Two = Some 2
+declared_number Three = Some 3
 
 -- the rules that a first line declares, if it may
 abbrev pub first_rules : FeedLine → Option Declaration

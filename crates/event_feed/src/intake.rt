@@ -7,7 +7,7 @@ ghost use Rattle.dover_model.specs.Limits.{most_lines};
 ghost use Rattle.dover_model.specs.Session.{Session};
 ghost use Rattle.dover_model.specs.FeedLine as form;
 ghost use Rattle.dover_model.specs.Feed.{Account, Open, account_of_lines, read_line, rules_with, first_line_cause};
-ghost use Rattle.line_formats.specs.feeds.Form.{form_of};
+ghost use Rattle.line_text.specs.feeds.Form.{form_of};
 ghost use Rattle.event_feed.specs.Kept.{KeepsSession, cause_of_fault, most_lines_of};
 ghost use Rattle.event_feed.specs.Answers.{NamesOther};
 ghost use Rattle.event_feed.specs.Reading.{first_rules, open_account, TakesIn, IsTaken};
@@ -17,8 +17,8 @@ use crate::faults::{Cause, FeedFault};
 use crate::fed::Fed;
 use crate::kept_session::KeptSession;
 use dover_model::{Ratio, Version};
-use line_formats::feeds::{FeedLine, read_feed_line};
 use line_text::Spelled;
+use line_text::feeds::{FeedLine, read_feed_line};
 use std::marker::Model;
 
 /// Whether a feed goes on.
@@ -211,9 +211,9 @@ impl Intake {
     /// # Errors
     ///
     /// The first faulty line, numbered from 1, with its cause. After a fault every line is answered by that same
-    /// fault. From version Two on a job that isn't admitted is no fault, and in version Three neither is one that comes
-    /// late: it is answered as `Fed::Refused`. Nor is a done line whose finish isn't right, nor a job for which there is
-    /// no room among those that are ready: the caller, who has the run, withdraws it.
+    /// fault. From version Two on a job that isn't admitted is no fault, and in version Three neither is one that
+    /// comes late: it is answered as `Fed::Refused`. Nor is a done line whose finish isn't right, nor a job for which
+    /// there is no room among those that are ready: the caller, who has the run, withdraws it.
     ///
     /// # Examples
     ///

@@ -5,7 +5,7 @@ ghost use Rattle.dover_model.specs.JobFacts.{job_of_numbers, job_numbers};
 ghost use Rattle.dover_model.specs.Session.{Session, new_session, may_finish_early};
 ghost use Rattle.dover_model.specs.Feed.{rules_with};
 ghost use Rattle.dover_model.specs.FeedLine.{JobLine, TickLine, DoneLine, HasNumerals};
-ghost use Rattle.line_formats.specs.feeds.Form.{form_of};
+ghost use Rattle.line_text.specs.feeds.Form.{form_of};
 ghost use Rattle.event_feed.specs.Kept.{IsKeptOf, without_last};
 ghost use Rattle.event_feed.specs.Reading.{Refuses, Takes};
 
@@ -14,7 +14,7 @@ use crate::fed::Fed;
 use admission::{Admission, Refused};
 use dover_model::jobs::LAST_TICK;
 use dover_model::{Ratio, Refusal, Version};
-use line_formats::feeds::FeedLine;
+use line_text::feeds::FeedLine;
 
 /// The jobs that were admitted, as far as the next one needs them, the same without the one that came last, and the
 /// mark.

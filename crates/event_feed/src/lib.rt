@@ -1,8 +1,9 @@
-//! What a feed says, line by line, and which line is at fault; and a feed in pieces, read to its end, with its jobs as
-//! a list.
+//! What a feed says, line by line, and which line is at fault; the lines that are due for it; and a feed in pieces,
+//! read to its end, with its jobs as a list.
 #![tactic(auto)]
 
 mod declaring;
+mod due_line;
 mod faults;
 mod fed;
 mod gathering;
@@ -12,6 +13,7 @@ mod listed;
 mod reader;
 
 pub use declaring::declared;
+pub use due_line::DueLine;
 pub use faults::{Cause, FeedFault};
 pub use fed::Fed;
 pub use intake::Intake;

@@ -16,8 +16,8 @@ use Rattle.lane_server.specs.Lanes.{lines_added, shorts_from}
 use Rattle.lane_server.specs.Lane.{Stands, IsQuiet, Gives}
 use Rattle.lane_server.specs.Kept.{Kept, AllQuiet, Leaves, StandsFor, IsFed, IsClosed, HasRoom, GivesNext, is_closed}
 use Rattle.lane_server.specs.Shorts.{IsFirstShort}
-use Rattle.lane_server.specs.declared.out.LaneOut.{LaneOut}
-use Rattle.lane_server.specs.declared.out.LaneOut.TheVariants.{Refused}
+use Rattle.event_feed.specs.declared.due_line.DueLine.{DueLine}
+use Rattle.event_feed.specs.declared.due_line.DueLine.TheVariants.{Refused}
 use Rattle.lane_server.specs.declared.lane.Lane.{Lane}
 use Rattle.lane_server.specs.declared.lanes.Phase.{Phase}
 use Rattle.lane_server.specs.declared.lanes.Phase.TheVariants.{Ready, Giving, Closing}
@@ -208,7 +208,7 @@ module _ (kept : Kept) (ls rest : List (List ℕ)) (lane at : ℕ) (l u : Lane)
   others i x other there = left.3.others i x other (get_other kept.lanes at i u x (λ e. other (e ∙ same)) there)
 
   -- a line is given
-  pub give_some : (out : LaneOut) → ((xs ys : List (List ℕ)) → Stands l xs ys
+  pub give_some : (out : DueLine) → ((xs ys : List (List ℕ)) → Stands l xs ys
       → Gives (Some out) u xs ys)
       → GivesNext (Some (lane, out))
       (record { lines = kept.lines; lanes = set kept.lanes at u; phase = kept.phase }) ls rest

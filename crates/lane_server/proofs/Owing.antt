@@ -19,7 +19,7 @@ use Rattle.lane_server.specs.Lane.{reach}
 use Rattle.lane_server.specs.declared.lane.Lane.{Lane}
 use Rattle.lane_server.specs.declared.lane.Work.{Work}
 use Rattle.lane_server.specs.declared.lane.Work.TheVariants.{Nothing, Give}
-use Rattle.lane_server.specs.declared.out.LaneOut.{LaneOut}
+use Rattle.event_feed.specs.declared.due_line.DueLine.{DueLine}
 use Rattle.lane_server.proofs.Printing.{event_short}
 use Rattle.ready_server.specs.Rostering.{Serves, Rests}
 use Rattle.ready_server.specs.declared.roster_server.RosterServer.{RosterServer}
@@ -153,7 +153,7 @@ lane_empty lane ls rest it is =
     (owes.0, record { stands = subst (Stands lane ls) owes.0 it; quiet = is })
 
 -- the lane gives its one line
-pub lane_given : (lane : Lane) (out : LaneOut) (ls rest : List (List ℕ)) → Stands lane ls rest
+pub lane_given : (lane : Lane) (out : DueLine) (ls rest : List (List ℕ)) → Stands lane ls rest
     → lane.work ≡ Give out → Gives (Some out) (record lane { work = Nothing }) ls rest
 lane_given lane out ls rest it is =
     let owes = subst (λ w. Owes w lane.server (account_of_lines ls) rest) is it.owes in (

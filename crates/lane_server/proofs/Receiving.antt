@@ -19,7 +19,7 @@ use Rattle.lane_server.specs.LaneInput.{word_of, standing_of, LeavesAt, Holds, S
 use Rattle.lane_server.specs.LaneInput.{GivesDue, Ends}
 use Rattle.lane_server.specs.declared.lanes.Phase.{Phase}
 use Rattle.lane_server.specs.declared.lanes.Phase.TheVariants.{Ready, Giving, Closing}
-use Rattle.lane_server.specs.declared.out.LaneOut.{LaneOut}
+use Rattle.event_feed.specs.declared.due_line.DueLine.{DueLine}
 use Rattle.lane_server.specs.declared.refusal.InputRefusal.{InputRefusal}
 use Rattle.lane_server.specs.declared.refusal.InputRefusal.TheVariants.{Short, TooManyLines, BadLane}
 use Rattle.lane_server.specs.declared.lane_input.LaneInput.{LaneInput}
@@ -204,7 +204,7 @@ module _ (i : LaneInput) (x : List ℕ) where
       lanes_stand = holds_open i.refusal i.lanes (lines_of x) left at.holds on
 
       -- and give what is left
-      pub gives_on : (new : Kept) (o : Option (ℕ × LaneOut)) → GivesNext o new (lines_of x) left
+      pub gives_on : (new : Kept) (o : Option (ℕ × DueLine)) → GivesNext o new (lines_of x) left
           → (IsNone o → is_closed i.lanes ≡ false → IsReady new)
           → GivesDue o (record i { lanes = new }) x left
       gives_on new None gives rests = (

@@ -20,16 +20,17 @@ use Rattle.event_feed.specs.Kept as feed
 use Rattle.event_feed.specs.Answers.{DeclaresRatio, AddsJob, MovesMark, EndsFeed, AddsRefused, AddsDone, NewFault}
 use Rattle.event_feed.specs.Answers.{IsFed, counted, offered_item}
 use Rattle.event_feed.proofs.DoneLines.{done_standing, done_mark, done_session, late_session}
+use Rattle.event_feed.specs.DueLines.{out_text, HasNumerals}
 use Rattle.event_feed.specs.declared.faults.FeedFault.{FeedFault}
 use Rattle.event_feed.specs.declared.fed.Fed.{Fed}
 use Rattle.event_feed.specs.declared.fed.Fed.TheVariants.{Over}
 use Rattle.lane_server.specs.Lanes.{lines_added}
-use Rattle.lane_server.specs.Lane.{IsDeclared, Fits, IsOpenAt, Owes, GivesFault, Adds, Stands, IsQuiet, HasNumerals}
-use Rattle.lane_server.specs.Lane.{out_text, NamesFault, IntakeStands}
+use Rattle.lane_server.specs.Lane.{IsDeclared, Fits, IsOpenAt, Owes, GivesFault, Adds, Stands, IsQuiet}
+use Rattle.lane_server.specs.Lane.{NamesFault, IntakeStands}
 use Rattle.lane_server.specs.declared.lane.Lane.{Lane}
 use Rattle.lane_server.specs.declared.lane.Work.TheVariants.{Nothing, Give, Run, Admit, Finish}
-use Rattle.lane_server.specs.declared.out.LaneOut.{LaneOut}
-use Rattle.lane_server.specs.declared.out.LaneOut.TheVariants.{Header, Refuse, RefuseDone, Refused}
+use Rattle.event_feed.specs.declared.due_line.DueLine.{DueLine}
+use Rattle.event_feed.specs.declared.due_line.DueLine.TheVariants.{Header, Refuse, RefuseDone, Refused}
 use Rattle.lane_server.proofs.Offering.{job_stands, job_mark, job_rest, job_due, job_owes}
 use Rattle.lane_server.proofs.Adding.{header_stands, header_mark, header_due, header_fits, tick_stands, tick_mark}
 use Rattle.lane_server.proofs.Adding.{tick_rest, tick_due}
@@ -105,7 +106,7 @@ over_adds lane a b at it = by_server lane.server at.fits where
 module _ (lane : Lane) (a b : Account) (S : Session) (line : RefusedLine) (at : IsOpenAt lane a)
     (there : a.session ≡ Some S) (open_still : b.standing ≡ Open) (same_mark : b.mark ≡ a.mark)
     (behind : b.session ≡ Some (with_item S (RefusedItem (record { at = a.mark; line = line })))) where
-  refused_adds : (out : LaneOut) → HasNumerals out → refused_text (record { at = a.mark; line = line }) ≡ out_text out
+  refused_adds : (out : DueLine) → HasNumerals out → refused_text (record { at = a.mark; line = line }) ≡ out_text out
       → ((ls : List (List ℕ)) → NamesFault out ls)
       → Adds (record lane { work = Give out }) a b
   refused_adds out numerals text names = record {

@@ -5,9 +5,10 @@ use Rattle.dover_model.specs.Due.{due_lines}
 use Rattle.dover_model.specs.Feed.{account}
 use Rattle.dover_model.specs.Lines.{lines_of}
 use Rattle.line_text.specs.Cutting as cutting
-use Rattle.lane_server.specs.Lane.{IsDeclared, Stands, IsQuiet, out_text, HasNumerals, NamesFault}
+use Rattle.event_feed.specs.DueLines.{out_text, HasNumerals}
+use Rattle.lane_server.specs.Lane.{IsDeclared, Stands, IsQuiet, NamesFault}
 use Rattle.lane_server.specs.declared.feed.Feed.{Feed}
-use Rattle.lane_server.specs.declared.out.LaneOut.{LaneOut}
+use Rattle.event_feed.specs.declared.due_line.DueLine.{DueLine}
 
 -- The server was handed the lines of these bytes, and these lines are left to give.
 pub record FeedStands (feed : Feed) (bytes : List ℕ)
@@ -35,7 +36,7 @@ Takes feed x piece (Ok n) =
 Takes feed x piece (Err e) = IsDeclared (account (x ++ piece))
 
 -- it gives the first of the lines that are left, if one is
-abbrev pub FeedGives : Option LaneOut → Feed → List ℕ → List (List ℕ) → Type 0
+abbrev pub FeedGives : Option DueLine → Feed → List ℕ → List (List ℕ) → Type 0
 FeedGives None feed x left = (left ≡ []) × FeedRests feed x
 FeedGives (Some out) feed x left = (more : List (List ℕ)) × (left ≡ out_text out ∷ more)
     × FeedStands feed x more × HasNumerals out × NamesFault out (lines_of x)

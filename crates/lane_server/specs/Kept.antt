@@ -4,13 +4,14 @@ use Rattle.std.specs.Prelude.{Option, Some, None, Result, Ok, Err}
 use Rattle.std.specs.List.{slice_get}
 use Rattle.dover_model.specs.declared.events.Version.TheVariants.{Three}
 use Rattle.dover_model.specs.Limits.{most_lines}
+use Rattle.event_feed.specs.DueLines.{out_text, HasNumerals}
 use Rattle.lane_server.specs.Lanes.{lane_count, OfLane, Close, lane_line, Handed, Input, Open, Closed, input_of_lines}
 use Rattle.lane_server.specs.Lanes.{lane_lines, in_lane}
 use Rattle.lane_server.specs.Lanes.{newly_due, shorts_from}
 use Rattle.event_feed.specs.declared.faults.Cause.TheVariants.{Short}
-use Rattle.lane_server.specs.Lane.{Stands, IsQuiet, out_text, HasNumerals, NamesFault}
-use Rattle.lane_server.specs.declared.out.LaneOut.{LaneOut}
-use Rattle.lane_server.specs.declared.out.LaneOut.TheVariants.{Refused}
+use Rattle.lane_server.specs.Lane.{Stands, IsQuiet, NamesFault}
+use Rattle.event_feed.specs.declared.due_line.DueLine.{DueLine}
+use Rattle.event_feed.specs.declared.due_line.DueLine.TheVariants.{Refused}
 use Rattle.lane_server.specs.declared.lane.Lane.{Lane}
 use Rattle.lane_server.specs.declared.lanes.Phase.{Phase}
 use Rattle.lane_server.specs.declared.lanes.Phase.TheVariants.{Ready, Giving, Closing}
@@ -102,13 +103,13 @@ Answers (Err fault.Memory) old new ls bytes =
     HasRoom ls × ((lane : ℕ) × (line : List ℕ) × (lane_line bytes ≡ Some (OfLane lane line)))
 
 -- it says that the feed is short
-abbrev pub SaysShort : LaneOut → Type 0
+abbrev pub SaysShort : DueLine → Type 0
 SaysShort (Refused line cause) = cause ≡ Short
 SaysShort _ = ⊥
 
 -- The next line is the first of those left, can be written, and names the fault for which it refuses a feed that isn't
 -- short. There is none exactly where none is left.
-abbrev pub GivesNext : Option (ℕ × LaneOut) → Kept → List (List ℕ)
+abbrev pub GivesNext : Option (ℕ × DueLine) → Kept → List (List ℕ)
     → List (List ℕ) → Type 0
 GivesNext None kept ls rest = (rest ≡ []) × StandsFor kept ls []
 GivesNext (Some given) kept ls rest =

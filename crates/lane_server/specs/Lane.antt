@@ -4,14 +4,14 @@ use Rattle.std.specs.Prelude.{Option, Some, None}
 use Rattle.std.specs.Option.{option_map_or}
 use Rattle.dover_model.specs.declared.events.Event.{Event}
 use Rattle.dover_model.specs.declared.events.Refusal.TheVariants.{Full}
-use Rattle.dover_model.specs.JobFacts.{JobFacts, job_of_numbers, job_numbers}
+use Rattle.dover_model.specs.JobFacts.{JobFacts, job_numbers}
 use Rattle.dover_model.specs.Instance.{IsValid, with_jobs, with_finishes}
 use Rattle.dover_model.specs.Session.{Item, FinishItem, is_full, RefusedJob, RefusedDone, Session}
 use Rattle.dover_model.specs.Session.{instance_of, with_item, finish_at, refused_done_at}
 use Rattle.dover_model.specs.Settled.{settled}
-use Rattle.dover_model.specs.Text.{header, text_of, refused_text, step_numbers}
-use Rattle.dover_model.specs.Feed.{Account, Cause, Open, Faulty, account_of_lines, is_open, is_ended, rules_with}
-use Rattle.dover_model.specs.Due.{due_lines, fault_text}
+use Rattle.dover_model.specs.Text.{text_of, refused_text}
+use Rattle.dover_model.specs.Feed.{Account, Cause, Open, Faulty, account_of_lines, is_open, is_ended}
+use Rattle.dover_model.specs.Due.{due_lines}
 use Rattle.dover_model.specs.Numerals.{AreShort}
 use Rattle.dover_model.proofs.Accounts.{IsKept}
 use Rattle.dover_model.specs.declared.horizon.Horizon.{Horizon}
@@ -21,12 +21,12 @@ use Rattle.dover_model.specs.declared.events.Version.{Version}
 use Rattle.dover_model.specs.Fraction.{Fraction}
 use Rattle.event_feed.specs.Answers.{DeclaresRatio, AddsJob, counted, offered_item}
 use Rattle.event_feed.specs.Kept as feed
-use Rattle.event_feed.specs.Kept.{cause_of_fault}
+use Rattle.event_feed.specs.DueLines.{out_text, HasNumerals}
 use Rattle.event_feed.specs.declared.fed.Fed.{Fed}
 use Rattle.event_feed.specs.declared.fed.Fed.TheVariants as fed
 use Rattle.event_feed.specs.Faults.{IsFirstFault}
-use Rattle.lane_server.specs.declared.out.LaneOut.{LaneOut}
-use Rattle.lane_server.specs.declared.out.LaneOut.TheVariants.{Header, Step as Printed, Refuse, RefuseDone, Refused}
+use Rattle.event_feed.specs.declared.due_line.DueLine.{DueLine}
+use Rattle.event_feed.specs.declared.due_line.DueLine.TheVariants.{Refused}
 use Rattle.lane_server.specs.declared.lane.Lane.{Lane}
 use Rattle.lane_server.specs.declared.lane.Work.{Work}
 use Rattle.lane_server.specs.declared.lane.Work.TheVariants.{Nothing, Give, Run, Admit, Finish}
@@ -50,26 +50,9 @@ IsFaulty a = (line : ℕ) × (cause : Cause) × (a.standing ≡ Faulty line caus
 
 -- ---- a line that is due
 
--- the text of a line
-abbrev pub out_text : LaneOut → List ℕ
-out_text (Header version k) = header (rules_with k version)
-out_text (Printed e) = text_of e
-out_text (Refuse at release work deadline value cause) =
-    refused_text (record { at = at; line = RefusedJob (job_of_numbers release work deadline value) cause })
-out_text (RefuseDone at tick number) = refused_text (record { at = at; line = RefusedDone tick number })
-out_text (Refused line cause) = fault_text line (cause_of_fault cause)
-
--- its numbers have numerals
-abbrev pub HasNumerals : LaneOut → Type 0
-HasNumerals (Header version k) = Unit {0}
-HasNumerals (Printed e) = AreShort (step_numbers e)
-HasNumerals (Refuse at release work deadline value cause) = AreShort (at ∷ release ∷ work ∷ deadline ∷ value ∷ [])
-HasNumerals (RefuseDone at tick number) = AreShort (at ∷ tick ∷ number ∷ [])
-HasNumerals (Refused line cause) = Unit {0}
-
 -- where it refuses the feed of these lines, it does so for the first that is at fault, and names the job with which its
 -- ratio is broken
-abbrev pub NamesFault : LaneOut → List (List ℕ) → Type 0
+abbrev pub NamesFault : DueLine → List (List ℕ) → Type 0
 NamesFault (Refused line cause) ls = IsFirstFault (record { line = line; cause = cause }) ls
 NamesFault _ ls = Unit {0}
 
@@ -206,7 +189,7 @@ pub record IsQuiet (lane : Lane) (ls : List (List ℕ)) : Type 0
     pub quiet : lane.work ≡ Nothing
 
 -- it gives the first of the lines that are left, if one is
-abbrev pub Gives : Option LaneOut → Lane → List (List ℕ) → List (List ℕ)
+abbrev pub Gives : Option DueLine → Lane → List (List ℕ) → List (List ℕ)
     → Type 0
 Gives None lane ls rest = (rest ≡ []) × IsQuiet lane ls
 Gives (Some out) lane ls rest = (more : List (List ℕ)) × (rest ≡ out_text out ∷ more)

@@ -6,14 +6,15 @@ use Rattle.dover_model.specs.declared.events.Version.TheVariants.{Three}
 use Rattle.dover_model.specs.Limits.{most_lines}
 use Rattle.dover_model.specs.Lines.{whole_lines, lines_of}
 use Rattle.line_text.specs.Cutting as cuts
+use Rattle.event_feed.specs.DueLines.{out_text, HasNumerals}
 use Rattle.lane_server.specs.Lanes as lanes
 use Rattle.lane_server.specs.Lanes.{lane_count, Handed, InputStanding, Open, Closed, Faulty, HasLine, goes_on, input}
 use Rattle.lane_server.specs.Lanes.{input_of_lines, lane_lines, in_lane, due_after, shorts_from, fault_word}
 use Rattle.lane_server.specs.Lanes.{closing_lines}
 use Rattle.dover_model.specs.Text.{refused_line}
-use Rattle.lane_server.specs.Lane.{out_text, HasNumerals, NamesFault}
+use Rattle.lane_server.specs.Lane.{NamesFault}
 use Rattle.lane_server.specs.Kept.{Kept, StandsFor, AllStand, IsReady, SaysShort}
-use Rattle.lane_server.specs.declared.out.LaneOut.{LaneOut}
+use Rattle.event_feed.specs.declared.due_line.DueLine.{DueLine}
 use Rattle.lane_server.specs.declared.refusal.InputRefusal.{InputRefusal}
 use Rattle.lane_server.specs.declared.refusal.InputRefusal.TheVariants.{Short, TooManyLines, BadLane}
 use Rattle.lane_server.specs.declared.lane_input.RefusedInput.{RefusedInput}
@@ -96,7 +97,7 @@ Takes i x piece (Err e) = HasLine (input (x ++ piece)).handed
 
 -- The next line is the first of those left, can be written, and names the fault for which it refuses a feed that isn't
 -- short. There is none exactly where none is left.
-abbrev pub GivesDue : Option (ℕ × LaneOut) → LaneInput → List ℕ
+abbrev pub GivesDue : Option (ℕ × DueLine) → LaneInput → List ℕ
     → List (List ℕ) → Type 0
 GivesDue None i x left = (left ≡ []) × Rests i x
 GivesDue (Some given) i x left =

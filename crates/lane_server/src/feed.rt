@@ -9,8 +9,8 @@ ghost use Rattle.lane_server.specs.Rosters.{KeepsRoster};
 ghost use Rattle.lane_server.specs.Spending.{HasPaid};
 
 use crate::lane::Lane;
-use crate::out::LaneOut;
 use dover_model::Memory;
+use event_feed::DueLine;
 use line_text::{Lines, Step};
 use std::alloc::Global;
 use std::sync::ledger::Ledger;
@@ -145,7 +145,7 @@ impl Feed {
 
     /// The next line due. None exactly where all that is due was given.
     #[inline(always)]
-    pub fn next_out<L: Ledger>(&mut self, steps: &mut Steps<L>) -> Option<LaneOut>
+    pub fn next_out<L: Ledger>(&mut self, steps: &mut Steps<L>) -> Option<DueLine>
         requires { (x : List ℕ) × (left : List (List ℕ)) × FeedStands self.old x left }
         ensures gives { (x : List ℕ) (left : List (List ℕ)) → FeedStands self.old x left →
             FeedGives result self.new x left }

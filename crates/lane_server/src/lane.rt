@@ -25,7 +25,7 @@ ghost use Rattle.dover_model.specs.Spending.{CostsAtMost};
 ghost use Rattle.event_feed.specs.Answers.{DeclaresRatio, AddsJob, AddsDone, IsFed, EndAnswers, counted, admitted_in};
 ghost use Rattle.event_feed.specs.Kept.{fault_of, withdrawn};
 ghost use Rattle.dover_model.specs.declared.events.Refusal.TheVariants.{Full};
-ghost use Rattle.lane_server.specs.declared.out.LaneOut.TheVariants.{Header, Refuse};
+ghost use Rattle.event_feed.specs.declared.due_line.DueLine.TheVariants.{Header, Refuse};
 ghost use Rattle.event_feed.specs.declared.faults.FeedFault.{FeedFault};
 ghost use Rattle.lane_server.specs.Lanes.{lines_added, feed_short, is_fine};
 ghost use Rattle.dover_model.specs.JobFacts.{JobFacts};
@@ -36,9 +36,8 @@ ghost use Rattle.ready_server.specs.Rostering.{has_roster};
 ghost use Rattle.lane_server.specs.Shorts.{short_texts};
 ghost use Rattle.lane_server.specs.declared.lane.Work.TheVariants.{Nothing, Give, Run, Admit, Finish};
 
-use crate::out::LaneOut;
 use dover_model::{Horizon, Job, Memory, Ratio, Refusal, Version};
-use event_feed::{Fed, FeedFault, Intake};
+use event_feed::{DueLine, Fed, FeedFault, Intake};
 use line_text::Spelled;
 use ready_server::RosterServer;
 use std::alloc::Global;
@@ -51,7 +50,7 @@ pub(crate) enum Work {
     /// All that is due was given.
     Nothing,
     /// One line is left.
-    Give(LaneOut),
+    Give(DueLine),
     /// The run goes up to this mark, or to its end.
     Run(Horizon),
     /// The run goes up to the job's release, then the job is admitted, and the run goes up to its release with it; or
@@ -151,7 +150,7 @@ impl Lane {
     {
         let server = RosterServer::new(alloc, version, k, self.listed)?;
         drop(self.server.replace(server));
-        self.work = Work::Give(LaneOut::Header(version, k));
+        self.work = Work::Give(DueLine::Header(version, k));
         Ok(())
     }
 
@@ -183,7 +182,7 @@ impl Lane {
         ensures work { (job : JobFacts) → self.new.work ≡ Admit job → ⊥ }
     {
         if at < self.mark {
-            self.work = Work::Give(LaneOut::RefuseDone {
+            self.work = Work::Give(DueLine::RefuseDone {
                 at: self.mark,
                 tick: at,
                 number,
@@ -226,7 +225,7 @@ impl Lane {
                 value,
                 cause,
             } => {
-                self.work = Work::Give(LaneOut::Refuse {
+                self.work = Work::Give(DueLine::Refuse {
                     at: self.mark,
                     release,
                     work,
@@ -270,7 +269,7 @@ impl Lane {
             Ok(fed) => self.take(alloc, fed),
             Err(fault) => {
                 self.is_open = false;
-                self.work = Work::Give(LaneOut::Refused {
+                self.work = Work::Give(DueLine::Refused {
                     line: fault.line,
                     cause: fault.cause,
                 });
@@ -280,7 +279,7 @@ impl Lane {
     }
 
     #[inline(always)]
-    fn run<L: Ledger>(&mut self, to: Horizon, steps: &mut Steps<L>) -> Option<LaneOut>
+    fn run<L: Ledger>(&mut self, to: Horizon, steps: &mut Steps<L>) -> Option<DueLine>
         requires work { self.old.work ≡ Run to }
         requires stands { (ls : List (List ℕ)) × (rest : List (List ℕ)) × Stands self.old ls rest }
         ensures gives { (ls rest : List (List ℕ)) → Stands self.old ls rest
@@ -294,7 +293,7 @@ impl Lane {
             unreachable!();
         };
         match server.step(to, steps) {
-            Some(event) => Some(LaneOut::Step(event)),
+            Some(event) => Some(DueLine::Step(event)),
             None => {
                 self.work = Work::Nothing;
                 None
@@ -304,13 +303,13 @@ impl Lane {
 
     // The job finds no room at its release.
     #[inline(never)]
-    fn pass(&mut self, job: Job) -> LaneOut
+    fn pass(&mut self, job: Job) -> DueLine
         ensures out { result ≡ Refuse job.release job.release job.work job.deadline job.value Full }
         ensures lane { self.new ≡ record self.old { intake = withdrawn self.old.intake; work = Nothing } }
     {
         self.intake.withdraw();
         self.work = Work::Nothing;
-        LaneOut::Refuse {
+        DueLine::Refuse {
             at: job.release(),
             release: job.release(),
             work: job.work(),
@@ -321,7 +320,7 @@ impl Lane {
     }
 
     #[inline(always)]
-    fn admit<L: Ledger>(&mut self, job: Job, steps: &mut Steps<L>) -> Option<LaneOut>
+    fn admit<L: Ledger>(&mut self, job: Job, steps: &mut Steps<L>) -> Option<DueLine>
         requires work { self.old.work ≡ Admit job }
         requires stands { (ls : List (List ℕ)) × (rest : List (List ℕ)) × Stands self.old ls rest }
         ensures gives { (ls rest : List (List ℕ)) → Stands self.old ls rest
@@ -336,18 +335,18 @@ impl Lane {
         };
         let release = Horizon::Mark(job.release());
         if let Some(event) = server.step(release, steps) {
-            return Some(LaneOut::Step(event));
+            return Some(DueLine::Step(event));
         }
         if server.is_full() {
             return Some(self.pass(job));
         }
         let event = server.admit(job);
         self.work = Work::Run(release);
-        Some(LaneOut::Step(event))
+        Some(DueLine::Step(event))
     }
 
     #[inline(never)]
-    fn finish<L: Ledger>(&mut self, at: u64, number: u64, steps: &mut Steps<L>) -> Option<LaneOut>
+    fn finish<L: Ledger>(&mut self, at: u64, number: u64, steps: &mut Steps<L>) -> Option<DueLine>
         requires work { self.old.work ≡ Finish at number }
         requires stands { (ls : List (List ℕ)) × (rest : List (List ℕ)) × Stands self.old ls rest }
         ensures gives { (ls rest : List (List ℕ)) → Stands self.old ls rest
@@ -361,16 +360,16 @@ impl Lane {
             unreachable!();
         };
         if let Some(event) = server.step(Horizon::Mark(at), steps) {
-            return Some(LaneOut::Step(event));
+            return Some(DueLine::Step(event));
         }
         match server.finish(at, number) {
             Some(event) => {
                 self.work = Work::Run(Horizon::Mark(at));
-                Some(LaneOut::Step(event))
+                Some(DueLine::Step(event))
             }
             None => {
                 self.work = Work::Nothing;
-                Some(LaneOut::RefuseDone {
+                Some(DueLine::RefuseDone {
                     at,
                     tick: at,
                     number,
@@ -381,7 +380,7 @@ impl Lane {
 
     /// The next line due. None exactly where all that is due was given.
     #[inline(always)]
-    pub fn next_out<L: Ledger>(&mut self, steps: &mut Steps<L>) -> Option<LaneOut>
+    pub fn next_out<L: Ledger>(&mut self, steps: &mut Steps<L>) -> Option<DueLine>
         requires { (ls : List (List ℕ)) × (rest : List (List ℕ)) × Stands self.old ls rest }
         ensures gives { (ls rest : List (List ℕ)) → Stands self.old ls rest
             → Gives result self.new ls rest }

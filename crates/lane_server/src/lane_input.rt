@@ -9,9 +9,9 @@ ghost use Rattle.lane_server.specs.declared.lane_input.LaneInput.{LaneInput};
 
 use crate::lane::Lane;
 use crate::lanes::{LaneFault, LaneStep, Lanes};
-use crate::out::LaneOut;
 use crate::refusal::InputRefusal;
 use dover_model::Memory;
+use event_feed::DueLine;
 use line_text::{Lines, Step};
 use std::alloc::Global;
 use std::sync::ledger::Ledger;
@@ -149,7 +149,7 @@ impl LaneInput {
     /// The next line due, and the lane that it is of. None where all that is due was given. The short lines that
     /// `close` adds aren't among them: the lanes give those at the end.
     #[inline(always)]
-    pub fn next_out<L: Ledger>(&mut self, steps: &mut Steps<L>) -> Option<(u8, LaneOut)>
+    pub fn next_out<L: Ledger>(&mut self, steps: &mut Steps<L>) -> Option<(u8, DueLine)>
         requires { (x : List ℕ) × (left : List (List ℕ)) × Stands self.old x left }
         ensures gives { (x : List ℕ) (left : List (List ℕ)) → Stands self.old x left
             → GivesDue result self.new x left }

@@ -8,10 +8,9 @@ ghost use Rattle.lane_server.specs.Shorts.{IsFirstShort};
 ghost use Rattle.lane_server.specs.declared.lanes.Phase.TheVariants.{Giving, Closing};
 
 use crate::lane::Lane;
-use crate::out::LaneOut;
 use crate::reading::{LANES, LaneLine, lane_line};
 use dover_model::{Memory, Version};
-use event_feed::Cause;
+use event_feed::{Cause, DueLine};
 use std::alloc::Global;
 use std::marker::Model;
 use std::sync::ledger::Ledger;
@@ -187,7 +186,7 @@ impl Lanes {
     }
 
     #[inline(always)]
-    fn give<L: Ledger>(&mut self, lane: u8, steps: &mut Steps<L>) -> Option<(u8, LaneOut)>
+    fn give<L: Ledger>(&mut self, lane: u8, steps: &mut Steps<L>) -> Option<(u8, DueLine)>
         requires phase { self.old.phase ≡ Giving lane }
         requires stands { (ls : List (List ℕ)) × (rest : List (List ℕ))
             × StandsFor self.old ls rest }
@@ -208,7 +207,7 @@ impl Lanes {
     }
 
     #[inline(never)]
-    fn give_short(&mut self, from: u8) -> Option<(u8, LaneOut)>
+    fn give_short(&mut self, from: u8) -> Option<(u8, DueLine)>
         requires phase { self.old.phase ≡ Closing from }
         requires stands { (ls : List (List ℕ)) × (rest : List (List ℕ))
             × StandsFor self.old ls rest }
@@ -222,7 +221,7 @@ impl Lanes {
             Some((lane, line)) => {
                 self.phase = Phase::Closing(lane + 1);
                 let cause = Cause::Short;
-                Some((lane, LaneOut::Refused { line, cause }))
+                Some((lane, DueLine::Refused { line, cause }))
             }
             None => {
                 self.phase = Phase::Closing(LANES);
@@ -233,7 +232,7 @@ impl Lanes {
 
     /// The next line due, and the lane that it is of. Behind `close` no jobs are compared.
     #[inline(always)]
-    pub fn next_out<L: Ledger>(&mut self, steps: &mut Steps<L>) -> Option<(u8, LaneOut)>
+    pub fn next_out<L: Ledger>(&mut self, steps: &mut Steps<L>) -> Option<(u8, DueLine)>
         requires stands { (ls : List (List ℕ)) × (rest : List (List ℕ))
             × StandsFor self.old ls rest }
         ensures gives { (ls rest : List (List ℕ)) → StandsFor self.old ls rest

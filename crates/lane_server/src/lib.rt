@@ -5,7 +5,6 @@ mod feed;
 mod lane;
 mod lane_input;
 mod lanes;
-mod out;
 mod reading;
 mod refusal;
 
@@ -13,5 +12,4 @@ pub use feed::Feed;
 pub use lane::Lane;
 pub use lane_input::{LaneInput, RefusedInput};
 pub use lanes::{LaneFault, LaneStep, Lanes};
-pub use out::LaneOut;
 pub use refusal::InputRefusal;

@@ -2,7 +2,7 @@
 use Rattle.std.proofs.Common.{◌<◌, ◌≤◌, ◌^◌, ℕ, List, ◌∷◌, length, arith}
 use Rattle.std.proofs.Common.{length-append, codes, decimal}
 use Rattle.line_text.specs.Writing.{with_field}
-use Rattle.line_output.proofs.FaultLines.{word_and_number}
+use Rattle.dialogue.proofs.FaultLines.{word_and_number}
 
 -- the whole line that refuses the input
 pub whole_line : (n : ℕ) (word : List ℕ) → n < 2 ^ 64 → length word ≤ 5

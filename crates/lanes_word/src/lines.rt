@@ -2,18 +2,18 @@
 ghost use Rattle.std.specs.Prelude.{◌≡◌, ◌≤◌, ◌++◌, ◌∷◌, [], length};
 ghost use Rattle.dover_port.specs.Causes.{HasCause, StopsAtFailure};
 ghost use Rattle.dover_port.specs.Moves.{PutsThrough};
-ghost use Rattle.lane_server.specs.Lane.{out_text, HasNumerals};
+ghost use Rattle.event_feed.specs.DueLines.{out_text, HasNumerals};
 ghost use Rattle.dover_model.specs.Text.{refused_line};
 ghost use Rattle.lane_server.specs.Lanes.{in_lane};
 
+use dialogue::{put_line, write_out};
 use dover_port::{Failed, Output, Port};
-use lane_server::LaneOut;
-use line_output::{put_line, write_out};
+use event_feed::DueLine;
 use line_text::{BackLine, LineBuf};
 
 /// Writes the line that is due for a lane, with the lane's number in front, in place of what `line` had.
 #[inline(always)]
-pub(crate) fn write_in_lane(lane: u8, out: LaneOut, line: &mut BackLine)
+pub(crate) fn write_in_lane(lane: u8, out: DueLine, line: &mut BackLine)
     requires { HasNumerals out }
     ensures { line.new ≡ in_lane lane (out_text out) ++ 10 ∷ [] }
 {

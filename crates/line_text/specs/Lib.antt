@@ -1,3 +1,5 @@
 pub mod Cutting
 pub mod Reading
 pub mod Writing
+pub mod feeds
+pub mod traces

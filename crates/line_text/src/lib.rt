@@ -1,19 +1,21 @@
-//! Lines of text, and the numbers and words in them.
+//! Lines of text, the numbers and words in them, and the lines of feeds and of traces.
 #![tactic(auto)]
 
 mod back_line;
 mod cutting;
+pub mod feeds;
 mod fields;
 mod line_buf;
 mod numerals;
 mod spelled;
+pub mod traces;
 
 pub use back_line::{BackLine, put_before};
 pub use cutting::{Lines, Step};
 pub use fields::{Numbers, behind_word, cut_field, numbers_in, read_numbers};
 pub use line_buf::LineBuf;
 pub use numerals::{first_number, numeral};
-pub use spelled::{JOB_NUMBERS, Spelled};
+pub use spelled::Spelled;
 use thiserror::Error;
 
 /// The most bytes that a line may have, with its line feed.

@@ -6,7 +6,7 @@ use block_copy::copy_short;
 use std::marker::Model;
 
 /// How many numbers a job line has.
-pub const JOB_NUMBERS: usize = 4;
+const JOB_NUMBERS: usize = 4;
 
 /// Room for the numbers of a job line, each of at most 18 digits behind a space.
 pub(crate) const SPELLED_BYTES: usize = 76;

@@ -17,11 +17,11 @@ use Rattle.dover_model.specs.Books.{Job}
 use Rattle.dover_model.specs.Schedules.{Meets, is_served, numbered}
 use Rattle.dover_model.specs.Windows.{is_inside}
 use Rattle.dover_port.specs.declared.status.Status.TheVariants.{Done}
-use Rattle.overload.specs.Stretches.{IsCosted, IsCapped, value_inside, value_outside}
-use Rattle.overload.specs.declared.stretch.Costed.{Costed}
-use Rattle.overload.specs.declared.stretch.Stretch.{Stretch}
-use Rattle.overload.proofs.Inside.{value_same}
-use Rattle.overload.proofs.Stretching.{earned_inside}
+use Rattle.clairvoyant.specs.overload.Stretches.{IsCosted, IsCapped, value_inside, value_outside}
+use Rattle.clairvoyant.specs.declared.overload.stretch.Costed.{Costed}
+use Rattle.clairvoyant.specs.declared.overload.stretch.Stretch.{Stretch}
+use Rattle.clairvoyant.proofs.overload.Inside.{value_same}
+use Rattle.clairvoyant.proofs.overload.Stretching.{earned_inside}
 use Rattle.question_words.specs.Loss.{SaysLoss, is_completed, row_of}
 use Rattle.question_words.specs.Texts.{stretch_lines}
 use Rattle.question_words.specs.declared.answer.StretchRow.{StretchRow}

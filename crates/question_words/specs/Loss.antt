@@ -12,9 +12,9 @@ use Rattle.dover_model.specs.declared.events.Event.{Event}
 use Rattle.dover_model.specs.declared.events.Event.TheVariants.{Complete}
 use Rattle.dover_port.specs.declared.status.Status.{Status}
 use Rattle.dover_port.specs.declared.status.Status.TheVariants.{Done, Refused}
-use Rattle.overload.specs.Stretches.{IsCosted, value_inside}
-use Rattle.overload.specs.declared.stretch.Costed.{Costed}
-use Rattle.overload.specs.declared.stretch.Stretch.{Stretch}
+use Rattle.clairvoyant.specs.overload.Stretches.{IsCosted, value_inside}
+use Rattle.clairvoyant.specs.declared.overload.stretch.Costed.{Costed}
+use Rattle.clairvoyant.specs.declared.overload.stretch.Stretch.{Stretch}
 use Rattle.dialogue.specs.Sizes.{size_text}
 use Rattle.question_words.specs.Texts.{stretch_lines}
 use Rattle.question_words.specs.declared.answer.StretchRow.{StretchRow}

@@ -7,10 +7,9 @@ ghost use Rattle.dover_port.specs.declared.status.Status.TheVariants.{Refused};
 ghost use Rattle.dialogue.specs.Turns.{StopCause, StopsOn};
 ghost use Rattle.question_words.specs.Texts.{PutsBy, piece_lines, row_lines, stretch_lines, text_of};
 
-use dialogue::Stop;
+use dialogue::{Stop, put_numbers};
 use dover_model::Piece;
 use dover_port::{Failed, Output, Port, Status};
-use line_output::put_numbers;
 use line_text::BackLine;
 use std::alloc::Global;
 

@@ -13,11 +13,10 @@ ghost use Rattle.question_words.specs.Texts.{text_of, refusal_line};
 
 use crate::answer::Answer;
 use crate::{Question, best, compare, feasible, loss};
-use dialogue::{Stop, Talker};
+use dialogue::{Stop, Talker, fault_text};
 use dover_model::Memory;
 use dover_port::{Output, Port, Status};
 use event_feed::{FeedReader, Listed, NotListed};
-use line_output::fault_text;
 use line_text::BackLine;
 use std::alloc::Global;
 use std::marker::PhantomData;

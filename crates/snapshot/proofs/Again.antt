@@ -3,7 +3,7 @@ use Rattle.std.proofs.Common.{◌≡◌, ℕ, List, [], ◌∷◌, ◌++◌, app
 use Rattle.std.proofs.lemmas.Bool.{eqb-true}
 use Rattle.dover_model.specs.Lines.{in_lines, lines_of, whole_lines, rest_of}
 use Rattle.dover_model.proofs.Cuts.{CutText, is_feed, put_before, cut_feed, cut_other}
-use Rattle.snapshot.proofs.Behind.{lines_whole}
+use Rattle.event_feed.proofs.Behind.{lines_whole}
 
 -- a cut text, joined
 abbrev joined : CutText → List ℕ

@@ -12,7 +12,7 @@ use Rattle.dover_model.specs.WholeRun.{Begins}
 use Rattle.snapshot.specs.Snapshot.{MayPause, Head, head_line, state_line, head_of_feed, snapshot_lines, snapshot}
 use Rattle.snapshot.specs.Reading.{Begun, Taken, Refused, next_line, reading_of, read_head}
 use Rattle.snapshot.specs.Kept.{IsWhole}
-use Rattle.snapshot.proofs.Behind.{whole_joined, rest_joined, whole_behind}
+use Rattle.event_feed.proofs.Behind.{whole_joined, rest_joined, whole_behind}
 use Rattle.snapshot.proofs.Feeds.{named, holds, few, reached, tasks, lines_taken, lines_feedless, snapshot_is, head_is}
 use Rattle.snapshot.proofs.Feeds.{listed}
 use Rattle.snapshot.proofs.Spelled.{read_head-head_line}

@@ -25,7 +25,7 @@ use Rattle.snapshot.specs.Snapshot.{Head}
 use Rattle.snapshot.specs.Reading.{is_within_limits, last_release}
 use Rattle.snapshot.specs.Stored.{ratio_text, job_lines, jobs_session, jobs_account}
 use Rattle.snapshot.specs.Kept.{IsFed, IsGoodNext, CanPause, tick_lines, handed_lines, handed_account}
-use Rattle.snapshot.proofs.Handing.{ratio_account, tick_account}
+use Rattle.event_feed.proofs.Saying.{ratio_account, tick_account}
 use Rattle.snapshot.proofs.Handed.{goes_on}
 
 -- a job line adds an item

@@ -25,8 +25,8 @@ use Rattle.snapshot.specs.Snapshot.{snapshot}
 use Rattle.snapshot.specs.Reading.{Taken, early_in, reading_of}
 use Rattle.snapshot.specs.Feeds.{GoOnEqually}
 use Rattle.snapshot.proofs.Alike.{Alike, SameRun, SameSession, GoAlike, lines_alike, state_same}
-use Rattle.snapshot.proofs.Behind.{feedless_head, feedless_states, same_lines, whole_behind, rest_behind, lines_whole}
-use Rattle.snapshot.proofs.Behind.{account_behind}
+use Rattle.event_feed.proofs.Behind.{same_lines, whole_behind, rest_behind, lines_whole, account_behind}
+use Rattle.snapshot.proofs.Feedless.{feedless_head, feedless_states}
 use Rattle.snapshot.proofs.Reached.{Reached, lines_reach, lines_few, few_open}
 use Rattle.snapshot.proofs.Same.{stand_jobs, same_finishes}
 use Rattle.snapshot.proofs.Takeable.{is_head, taken, holds_open, reaches_open}

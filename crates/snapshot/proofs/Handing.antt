@@ -1,74 +1,23 @@
--- What the lines say that an intake is handed: a line of the ratio, and a line for each job.
-use Rattle.std.proofs.Common.{◌≡◌, ℕ, suc, ◌+◌, ◌≤◌, ◌<◌, ◌^◌, List, [], ◌∷◌, ◌++◌, length, length-append, map, sym, ap}
-use Rattle.std.proofs.Common.{◌∙◌}
-use Rattle.std.proofs.Common.{cond, arith, Some, None, is_some, ◌||◌}
-use Rattle.std.specs.Prelude.{nat_lt}
-use Rattle.std.specs.Option.{option_map}
+-- What the line of a job says that an intake is handed.
+use Rattle.std.proofs.Common.{◌≡◌, ℕ, suc, ◌+◌, ◌≤◌, List, [], ◌∷◌, ◌++◌, length, length-append, map, sym, ap}
+use Rattle.std.proofs.Common.{◌∙◌, cond, arith, Some, None}
 use Rattle.std.proofs.lemmas.Bool.{le-ltb}
 use Rattle.std.proofs.lemmas.List.{map-append}
 use Rattle.dover_model.specs.declared.events.Task.{Task}
-use Rattle.dover_model.specs.declared.events.Version.{Version}
-use Rattle.dover_model.specs.declared.events.Version.TheVariants.{One, Two, Three}
-use Rattle.dover_model.specs.Limits.{last_tick, most_lines}
-use Rattle.dover_model.specs.JobFacts.{JobFacts, IsJob, job_numbers}
-use Rattle.dover_model.specs.Fraction.{Fraction, IsRatio}
+use Rattle.dover_model.specs.Limits.{most_lines}
+use Rattle.dover_model.specs.JobFacts.{JobFacts, job_numbers}
 use Rattle.dover_model.specs.Numerals.{AreShort}
-use Rattle.dover_model.specs.Session.{Session, JobItem, new_session}
+use Rattle.dover_model.specs.Session.{JobItem}
 use Rattle.dover_model.specs.Sound.{jobs_of}
-use Rattle.dover_model.specs.FeedLine.{FeedLine, RatioLine, JobLine, TickLine, HasNumerals, feed_line, feed_text}
-use Rattle.dover_model.specs.Feed.{Account, Lines, Declared, Order, rules_with, declared_rules, cause_of, with_line}
-use Rattle.dover_model.specs.Feed.{with_fault, next_line, no_lines}
+use Rattle.dover_model.specs.FeedLine.{JobLine, feed_line, feed_text}
+use Rattle.dover_model.specs.Feed.{Account, Lines, cause_of, with_line, with_fault, next_line}
 use Rattle.dover_model.proofs.FeedLines.{feed_line-feed_text}
 use Rattle.event_feed.specs.Reading.{open_account}
 use Rattle.event_feed.proofs.Counting.{after_form}
 use Rattle.snapshot.specs.Snapshot.{Head}
 use Rattle.snapshot.specs.Reading.{last_release}
-use Rattle.snapshot.specs.Stored.{declared_number, jobs_session, jobs_account}
+use Rattle.snapshot.specs.Stored.{jobs_session, jobs_account}
 use Rattle.snapshot.proofs.Admitted.{jobs_more, last_more}
-use Rattle.dover_model.proofs.JobLimits.{ratio_limits, job_limits}
-
--- ---- the line of the ratio
-
-module _ (p q : ℕ) (ratio : IsRatio (record { p = p; q = q })) where
-  -- the ratio
-  abbrev k : Fraction
-  k = record { p = p; q = q }
-
-  -- its numbers have numerals
-  pub ratio_numerals : (v : Version) → HasNumerals (RatioLine p q (declared_number v))
-  ratio_numerals v = by_version v (let low : p ≤ 1_000_000 = (ratio_limits ratio).small_p in omega arith)
-      (let low : q ≤ 1_000 = (ratio_limits ratio).small_q in omega arith) where
-        by_version : (v : Version) → p < 10 ^ 18 → q < 10 ^ 18 → HasNumerals (RatioLine p q (declared_number v))
-        by_version One p_short q_short = (p_short, (q_short, tt))
-        by_version Two p_short q_short = (p_short, (q_short, (omega arith, tt)))
-        by_version Three p_short q_short = (p_short, (q_short, (omega arith, tt)))
-
-  -- it declares the rules
-  declares : (v : Version) → declared_rules k (declared_number v) ≡ Some (rules_with k v)
-  declares One = ap (λ b. cond b (Some (rules_with k One)) None) ratio.passes
-  declares Two = ap (λ b. cond b (Some (rules_with k Two)) None) ratio.passes
-  declares Three = ap (λ b. cond b (Some (rules_with k Three)) None) ratio.passes
-
-  -- what it says as the first line
-  pub ratio_account : (v : Version) → next_line no_lines (feed_text (RatioLine p q (declared_number v)))
-      ≡ open_account 1
-      (Some (new_session (rules_with k v))) 0
-  ratio_account v =
-      let line : FeedLine = RatioLine p q (declared_number v) in
-      let a : Account = open_account 1 None 0 in
-      ap (after_form a) (feed_line-feed_text line (ratio_numerals v))
-      ∙ ap (λ o. with_line a line (cond (is_some o) None (Some Declared))) (declares v)
-      ∙ ap (λ o. record a { session = option_map new_session o }) (declares v)
-
--- ---- the line of a job
-
--- a job's numbers have numerals
-pub job_numerals : (j : JobFacts) → IsJob j → AreShort (job_numbers j)
-job_numerals j it =
-    let window : j.release + j.work ≤ j.deadline = (job_limits it).window in
-    let due : j.deadline ≤ 1_000_000_000_000 = (job_limits it).due in
-    let modest : j.value ≤ 1_000_000_000 = (job_limits it).modest in
-    (omega arith, (omega arith, (omega arith, (omega arith, tt))))
 
 module _ (h : Head) (tasks : List Task) (t : Task) where
   -- the account in which the line is counted
@@ -99,19 +48,3 @@ module _ (h : Head) (tasks : List Task) (t : Task) where
       ∙ ap (λ jobs. with_jobs (suc (length tasks + 1)) jobs t.job.release) (sym (jobs_more tasks t))
       ∙ ap (λ n. with_jobs n (jobs_of (tasks ++ t ∷ [])) t.job.release) lines
       ∙ ap (λ mark. with_jobs (length (tasks ++ t ∷ []) + 1) (jobs_of (tasks ++ t ∷ [])) mark) (sym (last_more tasks t))
-
--- ---- a tick
-
--- a tick at the mark or after it moves the mark
-pub tick_account : (lines : ℕ) (S : Session) (mark tick : ℕ) → mark ≤ tick → tick ≤ last_tick
-    → suc lines ≤ most_lines S.rules.version
-    → next_line (open_account lines (Some S) mark) (feed_text (TickLine tick)) ≡ open_account (suc lines) (Some S) tick
-tick_account lines S mark tick ordered known few =
-    let a : Account = open_account (suc lines) (Some S) mark in
-    let read : feed_line (feed_text (TickLine tick)) ≡ Some (TickLine tick) =
-    feed_line-feed_text (TickLine tick) (omega arith, tt) in
-    ap (λ b. cond b (with_fault a Lines) (after_form a (feed_line (feed_text (TickLine tick))))) (le-ltb _ _ few)
-    ∙ ap (after_form a) read
-    ∙ ap (λ b. with_line a (TickLine tick) (cond (b || nat_lt last_tick tick) (Some Order) None))
-    (le-ltb tick mark ordered)
-    ∙ ap (λ b. with_line a (TickLine tick) (cond b (Some Order) None)) (le-ltb last_tick tick known)

@@ -31,7 +31,7 @@ use Rattle.event_feed.proofs.Counting.{after_form}
 use Rattle.snapshot.specs.Kept.{item_lines}
 use Rattle.snapshot.proofs.Admitted.{valid_admitted, all_last}
 use Rattle.snapshot.proofs.Came.{front_valid}
-use Rattle.snapshot.proofs.Handing.{job_numerals}
+use Rattle.event_feed.proofs.Saying.{job_numerals}
 use Rattle.snapshot.proofs.RunItems.{NoneRefused}
 use Rattle.dover_model.proofs.SessionParts.{MayBeAdmitted, FollowsItems}
 use Rattle.dover_model.proofs.ValidParts.{valid_parts}

@@ -16,7 +16,7 @@ pub mod Finishing
 pub mod Reached
 pub mod Takeable
 pub mod Alike
-pub mod Behind
+pub mod Feedless
 pub mod Again
 pub mod Feeds
 pub mod Whole

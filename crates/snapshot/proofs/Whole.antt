@@ -39,10 +39,10 @@ use Rattle.snapshot.specs.Kept.{IsWhole, Resumes, line_of_item, item_lines, tick
 use Rattle.snapshot.specs.Feeds.{IsSnapshot, ResumesFeed}
 use Rattle.snapshot.proofs.Alike.{Alike, SameRun, SameSession, session_is}
 use Rattle.snapshot.proofs.Beginning.{Within, within}
-use Rattle.snapshot.proofs.Behind.{feedless_feed, rest_joined, lines_joined}
+use Rattle.event_feed.proofs.Behind.{feedless_feed, rest_joined, lines_joined}
 use Rattle.snapshot.proofs.Comparing.{same_tasks, alike_all}
 use Rattle.snapshot.proofs.Feeds.{both_there, same_alike}
-use Rattle.snapshot.proofs.Handing.{ratio_account, tick_account}
+use Rattle.event_feed.proofs.Saying.{ratio_account, tick_account}
 use Rattle.snapshot.proofs.ItemLines.{items_account}
 use Rattle.snapshot.proofs.RunItems.{run_good, run_own, run_valid}
 use Rattle.snapshot.proofs.Same.{stored_own}

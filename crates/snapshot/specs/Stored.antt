@@ -1,14 +1,13 @@
 -- What was read of a snapshot, and the feed for which it stands.
-use Rattle.std.specs.Prelude.{◌≡◌, ℕ, ◌+◌, ◌≤◌, List, ◌∷◌, length, map, true, Option, Some, None}
+use Rattle.std.specs.Prelude.{◌≡◌, ℕ, ◌+◌, ◌≤◌, List, ◌∷◌, length, map, true, Some}
 use Rattle.std.specs.List.{AllByRecursion}
 use Rattle.dover_model.specs.declared.events.Task.{Task}
-use Rattle.dover_model.specs.declared.events.Version.{Version}
-use Rattle.dover_model.specs.declared.events.Version.TheVariants.{One, Two, Three}
 use Rattle.dover_model.specs.Instance.{IsValid}
 use Rattle.dover_model.specs.Session.{Session, JobItem}
 use Rattle.dover_model.specs.Sound.{IsNumberedFrom, jobs_of}
 use Rattle.dover_model.specs.FeedLine.{RatioLine, JobLine, feed_text}
 use Rattle.dover_model.specs.Feed.{Account, Open}
+use Rattle.event_feed.specs.Reading.{declared_number}
 use Rattle.snapshot.specs.Snapshot.{Head, head_line, state_line}
 use Rattle.snapshot.specs.Reading.{Going, is_within_limits, declared_jobs, last_release, reading_of}
 
@@ -23,12 +22,6 @@ pub record HasRead (h : Head) (tasks : List Task) (ls : List (List ℕ)) : Type 
   pub count : length tasks ≤ h.jobs
 
 -- ---- the shortest feed with such jobs, if none of them finishes early
-
--- the number with which a ratio line declares a version
-abbrev pub declared_number : Version → Option ℕ
-declared_number One = None
-declared_number Two = Some 2
-declared_number Three = Some 3
 
 -- the line of the ratio
 abbrev pub ratio_text : Head → List ℕ

@@ -6,18 +6,18 @@ ghost use Rattle.dover_model.specs.Instance.{IsValid};
 ghost use Rattle.dover_model.specs.JobFacts.{job_numbers};
 ghost use Rattle.dover_model.specs.Numerals.{AreShort};
 ghost use Rattle.dover_model.specs.FeedLine.{HasNumerals, RatioLine, feed_text};
-ghost use Rattle.line_formats.specs.feeds.Form.{form_of};
+ghost use Rattle.line_text.specs.feeds.Form.{form_of};
 ghost use Rattle.event_feed.specs.Kept.{StandsFor, IsGoing, has_ended};
 ghost use Rattle.snapshot.specs.Snapshot as model;
 ghost use Rattle.snapshot.specs.Reading.{declared_jobs};
 ghost use Rattle.snapshot.specs.Forms.{head_in, task_in};
-ghost use Rattle.snapshot.specs.Stored.{declared_number};
+ghost use Rattle.event_feed.specs.Reading.{declared_number};
 ghost use Rattle.snapshot.specs.Kept.{IsFed, handed_lines, HasRoom, IsGoodNext, CanPause, job_in};
 
 use crate::forms::{Head, StateLine};
 use dover_model::{Job, Version};
 use event_feed::{Fed, Intake};
-use line_formats::feeds::FeedLine;
+use line_text::feeds::FeedLine;
 
 /// Hands in a line that isn't at fault and doesn't end the feed.
 fn hand(intake: &mut Intake, line: FeedLine)

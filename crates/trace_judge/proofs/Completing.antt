@@ -43,8 +43,8 @@ use Rattle.dover_model.proofs.Roles.{passes, is_running_role}
 use Rattle.dover_model.proofs.Runs.{printed_append}
 use Rattle.dover_model.proofs.Tests.{never}
 use Rattle.dover_model.proofs.Waiting.{some_goes_on}
-use Rattle.line_formats.specs.declared.traces.lines.TraceLine.TheVariants.{Step as StepLine}
-use Rattle.line_formats.specs.traces.Form.{HasForm}
+use Rattle.line_text.specs.declared.traces.lines.TraceLine.TheVariants.{Step as StepLine}
+use Rattle.line_text.specs.traces.Form.{HasForm}
 use Rattle.ready_jobs.specs.Course.{Course, Follows, Finishes, Runs, RunsNowhere}
 use Rattle.trace_judge.specs.Reading.{Sees, completion_text}
 use Rattle.trace_judge.specs.declared.stage.Stage.TheVariants.{Going}

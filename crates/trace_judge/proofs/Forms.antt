@@ -21,11 +21,11 @@ use Rattle.dover_model.proofs.Kept.{step_deed, each_job}
 use Rattle.dover_model.proofs.Honest.{numbers_low, count_jobs}
 use Rattle.dover_model.proofs.Limiting.{jobs_most}
 use Rattle.dover_model.proofs.ShortNumbers.{printed_short}
-use Rattle.line_formats.specs.declared.traces.lines.TraceLine.{TraceLine}
-use Rattle.line_formats.specs.declared.traces.lines.TraceLine.TheVariants.{Step}
-use Rattle.line_formats.specs.traces.Form.{HasForm, NamesJobs, trace_text}
-use Rattle.line_formats.specs.traces.Reading.{line_of_fields}
-use Rattle.line_formats.proofs.traces.Spelled.{text_read}
+use Rattle.line_text.specs.declared.traces.lines.TraceLine.{TraceLine}
+use Rattle.line_text.specs.declared.traces.lines.TraceLine.TheVariants.{Step}
+use Rattle.line_text.specs.traces.Form.{HasForm, NamesJobs, trace_text}
+use Rattle.line_text.specs.traces.Reading.{line_of_fields}
+use Rattle.line_text.proofs.traces.Spelled.{text_read}
 use Rattle.dover_model.specs.Lines.{fields_of}
 use Rattle.dover_model.specs.Text.{step_numbers}
 use Rattle.dover_model.specs.Leading.{PrintsNext}

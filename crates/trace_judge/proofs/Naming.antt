@@ -10,10 +10,10 @@ use Rattle.dover_model.specs.Trace.{Printed}
 use Rattle.dover_model.specs.Verdict.{named_item, item_of, finish_from}
 use Rattle.dover_model.proofs.Early.{finish_in}
 use Rattle.dover_model.proofs.Named.{named_text, first_word}
-use Rattle.line_formats.specs.declared.traces.lines.TraceLine.{TraceLine}
-use Rattle.line_formats.specs.declared.traces.lines.TraceLine.TheVariants.{Header, Step}
-use Rattle.line_formats.specs.traces.Form.{HasForm, item_in, trace_text}
-use Rattle.line_formats.proofs.traces.Spelled.{text_read, read_IsRead}
+use Rattle.line_text.specs.declared.traces.lines.TraceLine.{TraceLine}
+use Rattle.line_text.specs.declared.traces.lines.TraceLine.TheVariants.{Header, Step}
+use Rattle.line_text.specs.traces.Form.{HasForm, item_in, trace_text}
+use Rattle.line_text.proofs.traces.Spelled.{text_read, read_IsRead}
 
 -- the text of a line names its item
 pub text_item : (x : TraceLine) → HasForm x → item_of (trace_text x) ≡ item_in x

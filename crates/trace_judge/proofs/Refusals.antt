@@ -22,8 +22,8 @@ use Rattle.dover_model.proofs.SessionParts.{may_be_refused-agrees}
 use Rattle.dover_model.specs.Text.{refused_text}
 use Rattle.dover_model.specs.Verdict.{named_item, begins_trace}
 use Rattle.dover_model.proofs.Growing.{refused_instance}
-use Rattle.line_formats.specs.declared.traces.lines.TraceLine.TheVariants.{Refused, RefusedDone}
-use Rattle.line_formats.specs.traces.Form.{HasForm, refused_job, refused_done}
+use Rattle.line_text.specs.declared.traces.lines.TraceLine.TheVariants.{Refused, RefusedDone}
+use Rattle.line_text.specs.traces.Form.{HasForm, refused_job, refused_done}
 use Rattle.dover_model.specs.Leading.{Idles, WaitsUntil}
 use Rattle.trace_judge.specs.Reading.{Sees, MayRefuse}
 use Rattle.trace_judge.proofs.Continuing.{sees_refused, sees_refused_prints, sees_idles, sees_idles_prints}

@@ -23,8 +23,8 @@ use Rattle.dover_model.proofs.Admitting.{Admitted, not_refused}
 use Rattle.dover_model.proofs.Limiting.{jobs_most}
 use Rattle.dover_model.proofs.Growing.{job_instance}
 use Rattle.dover_model.proofs.Ending.{few_printed}
-use Rattle.line_formats.specs.declared.traces.lines.TraceLine.TheVariants.{Step as StepLine}
-use Rattle.line_formats.specs.traces.Form.{HasForm}
+use Rattle.line_text.specs.declared.traces.lines.TraceLine.TheVariants.{Step as StepLine}
+use Rattle.line_text.specs.traces.Form.{HasForm}
 use Rattle.dover_model.specs.Leading.{WaitsUntil}
 use Rattle.trace_judge.specs.Reading.{Sees, MayRelease, release_text}
 use Rattle.dover_model.specs.Ready.{with_fresh}

@@ -25,8 +25,8 @@ use Rattle.dover_model.proofs.TraceLines.{version_back, version_from}
 use Rattle.dover_model.proofs.Ending.{end_over, few_printed}
 use Rattle.dover_model.proofs.NoFeeds.{header_short}
 use Rattle.dover_model.proofs.Tests.{never}
-use Rattle.line_formats.specs.declared.traces.lines.TraceLine.TheVariants.{Header, Step as StepLine}
-use Rattle.line_formats.specs.traces.Form.{HasForm, trace_text}
+use Rattle.line_text.specs.declared.traces.lines.TraceLine.TheVariants.{Header, Step as StepLine}
+use Rattle.line_text.specs.traces.Form.{HasForm, trace_text}
 use Rattle.admission.specs.Kept as admission
 use Rattle.dover_model.specs.Leading.{Idles, GoesOn, WaitsUntil, PrintsNext, floor_after}
 use Rattle.trace_judge.specs.Reading.{Sees}

@@ -22,10 +22,10 @@ use Rattle.dover_model.proofs.Limiting.{jobs_most}
 use Rattle.dover_model.proofs.NoFeeds.{header_short}
 use Rattle.dover_model.proofs.TraceEnds.{trace_ends}
 use Rattle.dover_model.proofs.WrongStays.{after_end_fails}
-use Rattle.line_formats.specs.declared.traces.lines.TraceLine.{TraceLine}
-use Rattle.line_formats.specs.declared.traces.lines.TraceLine.TheVariants.{Header, Step, Refused}
-use Rattle.line_formats.specs.declared.traces.lines.TraceLine.TheVariants as format
-use Rattle.line_formats.specs.traces.Form.{HasForm, item_in, trace_text}
+use Rattle.line_text.specs.declared.traces.lines.TraceLine.{TraceLine}
+use Rattle.line_text.specs.declared.traces.lines.TraceLine.TheVariants.{Header, Step, Refused}
+use Rattle.line_text.specs.declared.traces.lines.TraceLine.TheVariants as format
+use Rattle.line_text.specs.traces.Form.{HasForm, item_in, trace_text}
 use Rattle.dover_model.specs.Leading.{PrintsNext}
 use Rattle.trace_judge.specs.Reading.{Sees, IsReleaseNext, IsRefusedNext, IsCompletionNext}
 use Rattle.trace_judge.proofs.Naming.{header_named}

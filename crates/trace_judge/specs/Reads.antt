@@ -22,8 +22,8 @@ use Rattle.dover_model.specs.Trace.{trace_lines}
 use Rattle.dover_model.specs.Verdict as model
 use Rattle.dover_model.specs.declared.events.Task.{Task}
 use Rattle.dover_model.specs.declared.events.Event.TheVariants.{Release}
-use Rattle.line_formats.specs.declared.traces.lines.TraceLine.{TraceLine}
-use Rattle.line_formats.specs.declared.traces.lines.TraceLine.TheVariants as format
+use Rattle.line_text.specs.declared.traces.lines.TraceLine.{TraceLine}
+use Rattle.line_text.specs.declared.traces.lines.TraceLine.TheVariants as format
 use Rattle.dover_model.specs.Leading.{Idles, GoesOn, WaitsUntil}
 use Rattle.trace_judge.specs.Reading.{Sees, HasRoom, MayRelease, MayComplete}
 use Rattle.trace_judge.specs.declared.stage.Stage.{Stage}

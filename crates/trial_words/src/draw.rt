@@ -9,9 +9,9 @@ ghost use Rattle.dover_port.specs.Causes.{Causes, HasCause, StopsAtFailure, Stop
 ghost use Rattle.dover_port.specs.Moves.{PutsThrough, Since};
 ghost use Rattle.trial_words.specs.Drawing.{Draws, turn_lines, text_of_lines};
 
+use dialogue::put_numbers;
 use dover_model::{Ratio, Version};
 use dover_port::{Failed, Output, Port, Status};
-use line_output::put_numbers;
 use stated_jobs::trial::{Turn, TurnGen};
 use task_words::unroll::{put_job, put_rules};
 

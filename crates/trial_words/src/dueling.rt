@@ -13,9 +13,9 @@ ghost use Rattle.stated_jobs.specs.duel.Kept.{IsShare};
 ghost use Rattle.trial_words.specs.Dueled.{Duels, duel_front, no_duel_text};
 ghost use Rattle.task_words.specs.unroll.Feeds.{feed_of, job_text};
 
+use dialogue::put_numbers;
 use dover_model::{Ratio, Version};
 use dover_port::{Failed, Output, Port, Status, put_all};
-use line_output::put_numbers;
 use stated_jobs::duel::{Coming, Next, NoDuel, Share, front_count};
 use task_words::unroll::{put_job, put_rules};
 

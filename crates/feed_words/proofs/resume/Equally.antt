@@ -22,7 +22,7 @@ use Rattle.dover_model.specs.Feed.{next_line}
 use Rattle.dover_model.proofs.Accounts.{account_kept}
 use Rattle.std.specs.List.{fold}
 use Rattle.snapshot.proofs.Alike.{Alike, SameRun, GoAlike, lines_alike}
-use Rattle.snapshot.proofs.Behind.{account_behind, rest_behind}
+use Rattle.event_feed.proofs.Behind.{account_behind, rest_behind}
 use Rattle.snapshot.proofs.Feeds.{go_on, same_alike, named}
 use Rattle.feed_words.specs.serve.Keeping.{due_behind, serve_talk}
 use Rattle.feed_words.specs.serve.Talk.{PausesAt, IsTooLargeAt, IsServedAs}

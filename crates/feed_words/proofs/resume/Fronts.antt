@@ -10,7 +10,7 @@ use Rattle.dover_port.specs.Moves.{Move, ins}
 use Rattle.snapshot.specs.Snapshot.{MayPause, Head, snapshot, snapshot_lines}
 use Rattle.snapshot.specs.Reading.{Begun, Taken, Refused, next_line, reading_of}
 use Rattle.snapshot.proofs.Apart.{snapshot_whole}
-use Rattle.snapshot.proofs.Behind.{lines_whole, lines_behind, rest_joined}
+use Rattle.event_feed.proofs.Behind.{lines_whole, lines_behind, rest_joined}
 use Rattle.snapshot.proofs.Feeds.{named, lines_feedless, snapshot_is}
 use Rattle.feed_words.specs.resume.Record.{is_part, IsPart, IsRefusedFor}
 use Rattle.feed_words.proofs.resume.Onward.{refused_on}

@@ -3,7 +3,7 @@ use Rattle.std.proofs.Common.{◌≡◌, ◌≤◌, ◌<◌, ◌^◌, ℕ, [], �
 use Rattle.std.proofs.Common.{decimal}
 use Rattle.std.proofs.Common.{length-append}
 use Rattle.line_text.specs.Writing.{with_field}
-use Rattle.line_output.proofs.FaultLines.{word_and_number}
+use Rattle.dialogue.proofs.FaultLines.{word_and_number}
 use Rattle.feed_words.specs.resume.Record.{refused_text}
 
 -- its words

@@ -11,10 +11,9 @@ ghost use Rattle.snapshot.specs.Kept.{IsReady as IsWholeFor};
 
 use crate::resume::opening::Opening;
 use crate::serve::{AtEnd, Pausing, Serving};
-use dialogue::{Stop, Talker};
+use dialogue::{Stop, Talker, put_line};
 use dover_model::Memory;
 use dover_port::{Output, Port, Status};
-use line_output::put_line;
 use line_text::{BackLine, LineBuf};
 use snapshot::{Got, Reader, SnapFault};
 use std::alloc::Global;

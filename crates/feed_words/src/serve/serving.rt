@@ -10,12 +10,11 @@ ghost use Rattle.snapshot.specs.Feeds.{ResumesFeed};
 ghost use Rattle.feed_words.specs.serve.Keeping.{Call, whole_call, serve_talk, IsGiving, IsReady, Costs};
 ghost use Rattle.feed_words.specs.declared.serve.at_end.AtEnd.TheVariants.{Refuse};
 
-use dialogue::{Stop, Talker};
+use dialogue::{Stop, Talker, put_fault, write_next};
 use dover_model::Memory;
 use dover_port::{Output, Port, Status};
 use event_feed::Intake;
 use lane_server::{Feed, Lane};
-use line_output::{put_fault, write_next};
 use line_text::BackLine;
 use ready_server::RosterServer;
 use std::alloc::Global;

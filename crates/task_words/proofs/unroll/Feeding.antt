@@ -30,9 +30,9 @@ use Rattle.dover_model.proofs.Valid.{valid_front}
 use Rattle.dover_model.proofs.Admitting.{valid_admitted}
 use Rattle.event_feed.specs.Reading.{open_account}
 use Rattle.event_feed.proofs.Counting.{after_form}
-use Rattle.snapshot.proofs.Behind.{feedless_feed, lines_joined}
-use Rattle.snapshot.proofs.Handing.{ratio_account, job_numerals}
-use Rattle.snapshot.specs.Stored.{declared_number}
+use Rattle.event_feed.proofs.Behind.{feedless_feed, lines_joined}
+use Rattle.event_feed.proofs.Saying.{ratio_account, job_numerals}
+use Rattle.event_feed.specs.Reading.{declared_number}
 use Rattle.task_words.specs.unroll.Feeds.{IsFeedOf, feed_of, feed_lines, job_text}
 use Rattle.dover_model.proofs.ValidParts.{ReleasesInOrder, valid_parts}
 

@@ -8,7 +8,7 @@ use Rattle.dover_model.specs.Feed.{account}
 use Rattle.dover_model.specs.Lines.{in_lines}
 use Rattle.dover_model.specs.Session.{IsValidSession}
 use Rattle.dover_model.specs.Trace.{session_of}
-use Rattle.snapshot.specs.Stored.{declared_number}
+use Rattle.event_feed.specs.Reading.{declared_number}
 
 -- the line that declares the rules
 abbrev pub rules_text : Declaration → List ℕ

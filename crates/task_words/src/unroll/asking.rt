@@ -5,10 +5,9 @@ ghost use Rattle.task_words.specs.unroll.Spending.{Costs};
 
 use crate::reading::TaskReader;
 use crate::unroll::answering::answer;
-use dialogue::{Stop, Talker};
+use dialogue::{Stop, Talker, put_fault};
 use dover_model::Memory;
 use dover_port::{Output, Port, Status};
-use line_output::put_fault;
 use line_text::BackLine;
 use std::alloc::Global;
 use std::marker::PhantomData;

@@ -16,9 +16,9 @@ ghost use Rattle.task_words.specs.tasks.Tasks.{jobs_before, unrolled};
 ghost use Rattle.task_words.specs.unroll.Feeds.{IsFeedOf, feed_of, rules_text, job_text};
 
 use crate::tasks::Unrolling;
+use dialogue::put_numbers;
 use dover_model::{Job, Ratio, Version};
 use dover_port::{Failed, Output, Port};
-use line_output::put_numbers;
 use line_text::BackLine;
 use std::sync::ledger::Ledger;
 use step_count::Steps;

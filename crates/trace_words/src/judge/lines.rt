@@ -8,9 +8,9 @@ ghost use Rattle.trace_judge.specs.Judging.{Tells};
 ghost use Rattle.trace_judge.specs.Reads.{expected_of};
 ghost use Rattle.trace_words.specs.judge.Line.{status_of, wrong_front, expected_text, verdict_text};
 
+use dialogue::put_numbers;
 use dover_port::{Failed, Output, Port, Status};
-use line_formats::traces::write_event;
-use line_output::put_numbers;
+use line_text::traces::write_event;
 use line_text::{BackLine, LineBuf};
 use trace_judge::{Expected, Verdict};
 

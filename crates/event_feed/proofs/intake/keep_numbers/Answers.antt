@@ -6,8 +6,8 @@ use Rattle.std.proofs.Common.{◌≡◌, ℕ, List, length, ap, subst, arith}
 use Rattle.std.proofs.lemmas.List.{take_rest}
 use Rattle.dover_model.specs.JobFacts.{job_of_numbers}
 use Rattle.dover_model.specs.FeedLine.{feed_text, HasNumerals}
-use Rattle.line_formats.specs.declared.feeds.lines.FeedLine.{FeedLine}
-use Rattle.line_formats.specs.feeds.Form.{form_of}
+use Rattle.line_text.specs.declared.feeds.lines.FeedLine.{FeedLine}
+use Rattle.line_text.specs.feeds.Form.{form_of}
 use Rattle.event_feed.proofs.Spelling.{numbers_fit}
 use Rattle.event_feed.proofs.intake.keep_numbers.Goals as goal
 

@@ -1,5 +1,5 @@
 use Rattle.std.proofs.Common.{arith}
-use Rattle.line_output.proofs.FaultLines.{word_and_number}
+use Rattle.dialogue.proofs.FaultLines.{word_and_number}
 use Rattle.lanes_word.proofs.Texts.{whole_line}
 use Rattle.lanes_word.proofs.lines.put_refusal.Goals as goal
 

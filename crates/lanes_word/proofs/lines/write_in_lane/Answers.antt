@@ -1,6 +1,6 @@
 use Rattle.std.proofs.Common.{[], ◌∷◌, append_assoc, decimal, sym, arith}
 use Rattle.line_text.proofs.Written.{digits}
-use Rattle.lane_server.specs.Lane.{out_text}
+use Rattle.event_feed.specs.DueLines.{out_text}
 use Rattle.lanes_word.proofs.lines.write_in_lane.Goals as goal
 
 pub put_word-requires : goal.put_word-requires

@@ -4,7 +4,7 @@ use Rattle.dover_model.specs.Lines.{in_lines}
 use Rattle.dover_port.proofs.Through.{passes_nothing, passes_then}
 use Rattle.dover_port.specs.Causes.{Rose}
 use Rattle.dover_port.specs.Moves.{Passes, PutsThrough}
-use Rattle.line_output.proofs.Putting.{puts_behind, puts_cut}
+use Rattle.dialogue.proofs.Putting.{puts_behind, puts_cut}
 use Rattle.question_words.specs.Texts.{piece_line, piece_lines}
 use Rattle.question_words.proofs.RowLines.{more, all}
 use Rattle.question_words.proofs.answer.put_pieces.Goals as goal

@@ -9,7 +9,7 @@ use Rattle.dover_model.proofs.Honest.{observed_honest}
 use Rattle.dialogue.specs.Talk.{IsFinal}
 use Rattle.dover_model.proofs.Tests.{never}
 use Rattle.event_feed.specs.Listing.{listed_instance}
-use Rattle.overload.specs.Stretches.{IsWorth}
+use Rattle.clairvoyant.specs.overload.Stretches.{IsWorth}
 use Rattle.question_words.specs.Loss.{SaysLoss}
 use Rattle.question_words.specs.Texts.{stretch_lines, text_of}
 use Rattle.question_words.proofs.Comparing.{value_low}

@@ -1,4 +1,4 @@
-use Rattle.line_output.proofs.Putting.{puts_behind, puts_cut}
+use Rattle.dialogue.proofs.Putting.{puts_behind, puts_cut}
 use Rattle.trial_words.proofs.Putting.{cause_behind, stops_behind}
 use Rattle.trial_words.proofs.Turning.{feed_put}
 use Rattle.trial_words.proofs.draw.put_feed.Goals as goal

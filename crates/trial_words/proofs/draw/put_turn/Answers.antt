@@ -1,6 +1,6 @@
 use Rattle.std.proofs.Common.{subst, sym}
 use Rattle.dover_port.specs.Moves.{PutsThrough}
-use Rattle.line_output.proofs.Putting.{puts_behind}
+use Rattle.dialogue.proofs.Putting.{puts_behind}
 use Rattle.trial_words.proofs.Putting.{cause_behind, stops_behind}
 use Rattle.trial_words.proofs.Turning.{done_parts, turn_cut}
 use Rattle.trial_words.proofs.draw.put_turn.Goals as goal

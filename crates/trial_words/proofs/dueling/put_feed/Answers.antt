@@ -1,7 +1,7 @@
 use Rattle.std.proofs.Common.{take}
 use Rattle.dover_model.specs.declared.events.Version.TheVariants.{One}
 use Rattle.dover_model.specs.Instance.{jobs_under}
-use Rattle.line_output.proofs.Putting.{puts_behind, puts_cut}
+use Rattle.dialogue.proofs.Putting.{puts_behind, puts_cut}
 use Rattle.trial_words.proofs.Putting.{feed_flushed, cause_behind, stops_behind}
 use Rattle.trial_words.proofs.dueling.put_feed.Goals as goal
 

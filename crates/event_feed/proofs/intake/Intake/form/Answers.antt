@@ -1,7 +1,7 @@
 -- The text of a form is read as that form.
 use Rattle.dover_model.specs.FeedLine.{feed_text}
 use Rattle.dover_model.proofs.FeedLines.{feed_line-feed_text}
-use Rattle.line_formats.specs.feeds.Form.{form_of}
+use Rattle.line_text.specs.feeds.Form.{form_of}
 use Rattle.event_feed.proofs.intake.Intake.form.Goals as goal
 
 pub returns-clause-stands : goal.returns-clause-stands

@@ -12,7 +12,7 @@ use Rattle.std.proofs.Common.{◌≡◌, ℕ, suc, ◌+◌, List, sym, ap, ◌�
 use Rattle.std.specs.Option.{option_map}
 use Rattle.dover_model.specs.Feed.{Open, account_of_lines, read_line}
 use Rattle.dover_model.specs.FeedLine.{feed_line}
-use Rattle.line_formats.specs.feeds.Form.{form_of}
+use Rattle.line_text.specs.feeds.Form.{form_of}
 use Rattle.event_feed.specs.declared.intake.Standing.TheVariants as standings
 use Rattle.event_feed.specs.Kept.{StandsFor, standing_of, has_ended, fault_of}
 use Rattle.event_feed.specs.Answers.{counted}

@@ -2,7 +2,7 @@ use Rattle.std.proofs.Common.{◌≡◌, ◌++◌, ◌∷◌, [], codes, decimal
 use Rattle.dover_port.specs.Moves.{Passes, CutsShort}
 use Rattle.dover_port.specs.declared.status.Status.TheVariants.{Refused}
 use Rattle.line_text.specs.Writing.{with_field}
-use Rattle.line_output.proofs.FaultLines.{word_and_number}
+use Rattle.dialogue.proofs.FaultLines.{word_and_number}
 use Rattle.feed_words.specs.resume.Record.{refused_text}
 use Rattle.feed_words.specs.resume.Talk.{resume_talk}
 use Rattle.feed_words.proofs.resume.Refusal.{refusal, refusal_is, refusal_size}

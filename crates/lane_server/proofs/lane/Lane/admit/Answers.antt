@@ -5,10 +5,11 @@ use Rattle.dover_model.specs.declared.horizon.Horizon.TheVariants.{Mark}
 use Rattle.dover_model.specs.Horizons.{MayFollow}
 use Rattle.dover_model.specs.Settled.{settled}
 use Rattle.event_feed.specs.Kept as feed
-use Rattle.lane_server.specs.Lane.{Admitting, Running, Stands, out_text}
+use Rattle.event_feed.specs.DueLines.{out_text}
+use Rattle.lane_server.specs.Lane.{Admitting, Running, Stands}
 use Rattle.lane_server.specs.Spending.{HasPaid}
 use Rattle.lane_server.specs.declared.lane.Work.TheVariants.{Run, Admit}
-use Rattle.lane_server.specs.declared.out.LaneOut.{LaneOut}
+use Rattle.event_feed.specs.declared.due_line.DueLine.{DueLine}
 use Rattle.lane_server.proofs.Owing.{lane_owes, lane_stands, lane_turns, lane_passes, work_intake, admit_steps}
 use Rattle.lane_server.proofs.Offering.{before_admission, at_admission, at_passing}
 use Rattle.ready_server.specs.Rostering.{Serves, Rests}
@@ -117,7 +118,7 @@ returns-then-is_full-clause-gives g c = λ ls rest it.
     let given = at_passing c.laws.ensures.begins c.args.job c.laws.ensures.rested c.in-Some.server c.step.new.self
     (account_of_lines ls) rest owes there.0 full there.1 in (
       [],
-      given.0 ∙ ap (λ (o : LaneOut). out_text o ∷ []) (sym c.pass.ensures.out),
+      given.0 ∙ ap (λ (o : DueLine). out_text o ∷ []) (sym c.pass.ensures.out),
       subst (λ l. Stands l ls []) (sym c.pass.ensures.lane) (lane_passes c.args.self.now c.step.new.self ls rest it
           (subst (λ b. feed.StandsFor (cond b (feed.withdrawn c.args.self.now.intake) c.args.self.now.intake) ls)
           full (work_intake c.args.self.now (Admit c.args.job) ls rest it c.requires.work owes.session owes.there))

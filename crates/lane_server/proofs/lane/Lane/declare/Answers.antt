@@ -3,7 +3,7 @@ use Rattle.ready_server.specs.Rostering.{has_roster}
 use Rattle.lane_server.specs.Lane.{Adds}
 use Rattle.lane_server.specs.Spending.{HasPaid}
 use Rattle.lane_server.specs.declared.lane.Work.TheVariants.{Give}
-use Rattle.lane_server.specs.declared.out.LaneOut.TheVariants.{Header}
+use Rattle.event_feed.specs.declared.due_line.DueLine.TheVariants.{Header}
 use Rattle.lane_server.proofs.Taking.{declare_adds}
 use Rattle.lane_server.proofs.Paying.{none_paid}
 use Rattle.lane_server.proofs.lane.Lane.declare.Goals as goal

@@ -1,6 +1,6 @@
 use Rattle.std.proofs.Common.{◌∙◌}
 use Rattle.dover_model.specs.Feed.{rules_with}
-use Rattle.line_output.proofs.Putting.{puts_behind, puts_cut}
+use Rattle.dialogue.proofs.Putting.{puts_behind, puts_cut}
 use Rattle.task_words.specs.tasks.Tasks.{unrolled}
 use Rattle.task_words.proofs.unroll.Putting.{feed_through}
 use Rattle.std.proofs.Common.{arith}

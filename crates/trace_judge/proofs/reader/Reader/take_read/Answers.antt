@@ -1,5 +1,5 @@
 use Rattle.std.proofs.Common.{◌∙◌, sym, ap, arith}
-use Rattle.line_formats.specs.traces.Form.{trace_text}
+use Rattle.line_text.specs.traces.Form.{trace_text}
 use Rattle.trace_judge.specs.Reads.{Reading}
 use Rattle.trace_judge.proofs.Unread.{ended_took_none}
 use Rattle.trace_judge.proofs.reader.Reader.take_read.Goals as goal

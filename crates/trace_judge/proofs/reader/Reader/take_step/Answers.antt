@@ -1,8 +1,8 @@
 use Rattle.std.proofs.Common.{◌≤◌, ◌+◌, sym, subst, arith}
 use Rattle.std.specs.Prelude.{IfOk}
 use Rattle.dover_model.specs.Text.{text_of}
-use Rattle.line_formats.specs.traces.Form.{HasForm}
-use Rattle.line_formats.specs.declared.traces.lines.TraceLine.TheVariants.{Step}
+use Rattle.line_text.specs.traces.Form.{HasForm}
+use Rattle.line_text.specs.declared.traces.lines.TraceLine.TheVariants.{Step}
 use Rattle.trace_judge.specs.Reads.{Took, releases_in}
 use Rattle.trace_judge.proofs.Naming.{quiet_named}
 use Rattle.trace_judge.proofs.Taking.{followed_took}

@@ -1,6 +1,6 @@
 use Rattle.std.proofs.Common.{◌≡◌, ℕ, append_assoc, ◌∷◌, ◌++◌, [], codes, decimal, sym, ap, ◌∙◌}
 use Rattle.dover_model.specs.Verdict.{Expected, Wrong}
-use Rattle.line_output.proofs.Putting.{puts_behind, puts_cut}
+use Rattle.dialogue.proofs.Putting.{puts_behind, puts_cut}
 use Rattle.trace_judge.specs.Reads.{expected_of}
 use Rattle.trace_words.specs.judge.Line.{wrong_front, expected_text, verdict_text}
 use Rattle.trace_words.proofs.judge.lines.put_wrong.Goals as goal

@@ -1,4 +1,4 @@
-use Rattle.line_output.proofs.Putting.{puts_behind, puts_cut}
+use Rattle.dialogue.proofs.Putting.{puts_behind, puts_cut}
 use Rattle.trace_words.proofs.report.word.put_lines.Goals as goal
 
 pub returns-in-Err-clause-text : goal.returns-in-Err-clause-text

@@ -1,0 +1,19 @@
+use Rattle.std.proofs.Common.{arith}
+use Rattle.clairvoyant.proofs.overload.Near.{near_few, near_work}
+use Rattle.clairvoyant.proofs.overload.costing.Costing.add.Goals as goal
+
+pub work_inside-requires : goal.work_inside-requires
+work_inside-requires c = omega (
+  arith,
+  near_few c.args.jobs.now c.near.result.now c.args.ticks.from c.args.ticks.until
+      c.near.ensures,
+  c.requires.count,
+)
+
+pub push-requires-clause-overfull : goal.push-requires-clause-overfull
+push-requires-clause-overfull c = omega (
+  arith,
+  c.if-work_inside-until.false,
+  c.work_inside.ensures,
+  near_work c.args.jobs.now c.near.result.now c.args.ticks.from c.args.ticks.until c.requires.each c.near.ensures,
+)

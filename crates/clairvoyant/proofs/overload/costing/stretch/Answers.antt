@@ -1,0 +1,37 @@
+use Rattle.std.proofs.Common.{◌≤◌, ◌∙◌, length, sym, ap, subst, arith}
+use Rattle.dover_model.specs.declared.events.Version.TheVariants.{Two}
+use Rattle.dover_model.specs.Limits.{most_jobs}
+use Rattle.dover_model.specs.Instance.{IsInOrder, total_value}
+use Rattle.dover_model.specs.Windows.{is_inside}
+use Rattle.clairvoyant.specs.overload.Stretches.{Caps}
+use Rattle.clairvoyant.proofs.overload.Near.{found_inside, filter_few, filter_in_order}
+use Rattle.dover_model.proofs.ValidParts.{order_parts, order_from}
+use Rattle.clairvoyant.proofs.overload.costing.stretch.Goals as goal
+
+pub total_value-total-requires : goal.total_value-total-requires
+total_value-total-requires c = subst (λ js. length js ≤ most_jobs Two) (sym
+    (found_inside _ _ _ c.requires.each _ _ _ c.deref.ensures.value c.in_ok-inside.ensures c.near.ensures))
+    (omega (arith, filter_few (is_inside c.args.ticks.from c.args.ticks.until) c.args.jobs.now, c.requires.count))
+
+pub cap-requires-clause-in_order : goal.cap-requires-clause-in_order
+cap-requires-clause-in_order c = subst IsInOrder (sym (found_inside _ _ _ c.requires.each _ _ _ c.deref-2.ensures.value
+    c.in_ok-inside.ensures c.near.ensures))
+    (order_from (filter_in_order (is_inside c.args.ticks.from c.args.ticks.until) c.args.jobs.now
+    (order_parts c.requires.in_order)))
+
+pub cap-requires-clause-count : goal.cap-requires-clause-count
+cap-requires-clause-count c = subst (λ js. length js ≤ most_jobs Two) (sym
+    (found_inside _ _ _ c.requires.each _ _ _ c.deref-2.ensures.value c.in_ok-inside.ensures c.near.ensures))
+    (omega (arith, filter_few (is_inside c.args.ticks.from c.args.ticks.until) c.args.jobs.now, c.requires.count))
+
+pub returns-clause-stretch : goal.returns-clause-stretch
+returns-clause-stretch c = record {
+  some = c.requires.some;
+  overfull = c.requires.overfull;
+  total = c.total_value-total.ensures.is ∙ ap total_value (found_inside _ _ _ c.requires.each _ _ _
+      c.deref.ensures.value c.in_ok-inside.ensures c.near.ensures);
+  cap = subst (λ js. Caps js c.in_ok-cap.cap) (found_inside _ _ _ c.requires.each _ _ _ c.deref-2.ensures.value
+      c.in_ok-inside.ensures c.near.ensures)
+      c.in_ok-cap.ensures.cap;
+  less = c.in_ok-cap.ensures.less;
+}

@@ -1,0 +1,53 @@
+//! Caps on what jobs are worth.
+ghost use Rattle.std.specs.Prelude.{◌≡◌, ◌≤◌, length, IfOk};
+ghost use Rattle.dover_model.specs.Instance.{IsInOrder, total_value};
+ghost use Rattle.dover_model.specs.declared.events.Version.TheVariants.{Two};
+ghost use Rattle.dover_model.specs.Limits.{most_jobs};
+ghost use Rattle.clairvoyant.specs.overload.Stretches.{Caps};
+
+use crate::best::{BestFault, best};
+use crate::overload::layers::cap_by_prices;
+use dover_model::{Job, Memory};
+use std::alloc::Global;
+
+/// Of so many jobs, at most, the best set is sought.
+const FEW: usize = 10;
+
+/// In all stretches together so many sets of jobs are looked at, at most.
+pub(crate) const MOST_SETS: u64 = 33_554_432;
+
+/// Whether the best set of so many jobs is sought: of few, and while their sets may still be looked at.
+fn is_sought(count: usize, sets: &mut u64) -> bool {
+    if FEW < count {
+        return false;
+    }
+    let more = 1 << count;
+    if *sets < more {
+        return false;
+    }
+    *sets -= more;
+    true
+}
+
+/// A cap on jobs: no schedule of them is worth more. `total` is their value, and of so many sets of jobs the best may
+/// still be sought.
+///
+/// # Errors
+///
+/// `Memory` where there is none, and nothing else.
+pub(crate) fn cap(alloc: Global, jobs: &[Job], total: u64, sets: &mut u64) -> Result<u64, Memory>
+    requires in_order { IsInOrder jobs.now }
+    requires count { length jobs.now ≤ most_jobs Two }
+    requires total { total ≡ total_value jobs.now }
+    ensures cap { IfOk result (λ cap. Caps jobs.now cap) }
+    ensures less { IfOk result (λ cap. cap ≤ total) }
+{
+    if !is_sought(jobs.len(), sets) {
+        return cap_by_prices(alloc, jobs, total);
+    }
+    match best(alloc, jobs) {
+        Ok(best) if best.value < total => Ok(best.value),
+        Err(BestFault::Memory) => Err(Memory),
+        _ => Ok(total),
+    }
+}

@@ -1,2 +1,0 @@
-pub mod feeds
-pub mod traces

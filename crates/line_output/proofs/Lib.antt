@@ -1,4 +1,0 @@
-pub mod FaultLines
-pub mod Putting
-pub mod Sizes
-pub mod Refusals

@@ -1,4 +1,0 @@
-use Rattle.overload.proofs.layers.raise.Goals as goal
-
-pub returns-clause-raised : goal.returns-clause-raised
-returns-clause-raised c = c.loop-place.invariant.raised
