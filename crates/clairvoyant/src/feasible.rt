@@ -10,4 +10,5 @@ mod window;
 pub use answer::Feasible;
 pub use judging::judge_feasible;
 pub use laws::an_overfull_window_excludes_meeting;
+pub use pieces::add_piece;
 pub use window::work_inside;

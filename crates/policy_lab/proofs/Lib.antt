@@ -4,7 +4,6 @@ pub mod Giving
 pub mod Entries
 pub mod Runs
 pub mod Taking
-pub mod Stretching
 pub mod Holding
 pub mod Ticks
 pub mod Onlines

@@ -23,7 +23,7 @@ use Rattle.policy_lab.proofs.Given.{ready_says}
 use Rattle.policy_lab.proofs.Entries.{each_entry, are_ready, number_ready, value_after}
 use Rattle.policy_lab.proofs.Holding.{all_ready, ready_after}
 use Rattle.policy_lab.proofs.Runs.{numbered_at, jobs_at, tasks_next, schedule_next, low_numbers, fits_at}
-use Rattle.policy_lab.proofs.Stretching.{stretches_idle}
+use Rattle.clairvoyant.proofs.feasible.Stretches.{stretches_idle}
 use Rattle.dover_model.proofs.JobLimits.{job_limits}
 
 module _ (picks : Picks) (policy : IsPolicy picks) (jobs : List JobFacts) (good : Each IsJob jobs)
@@ -133,7 +133,7 @@ module _ (picks : Picks) (policy : IsPolicy picks) (jobs : List JobFacts) (good 
     run_idles value pieces served stretched answer none = run_goes_on value value entries pieces served
         (none ∙ ap (λ es. filter (is_in_time (t + 1)) (map (given_entry n) es)) (sym none))
         (same_value ∙ ap (λ es. value + spent_value (map (given_entry n) es)) (sym none))
-        (stretched ∙ sym (stretches_idle (schedule_before picks jobs t))
+        (stretched ∙ sym (stretches_idle 0 (schedule_before picks jobs t) 1)
         ∙ ap (λ m. stretches (schedule_before picks jobs t ++ (m ∷ []))) (is_picked None answer)) where
           same_value : value ≡ value + 0
           same_value = omega arith

@@ -45,10 +45,6 @@ abbrev pub entry_to_come : ℕ → JobFacts → Entry
 entry_to_come n j = record
     { number = n; deadline = j.deadline; latest = j.deadline - j.work; left = j.work; value = j.value }
 
--- a stretch of this number, which ends where tick t begins
-abbrev pub goes_on : ℕ → ℕ → Piece → Bool
-goes_on t number piece = (piece.number == number) && (piece.until == t)
-
 -- so many of the jobs are released by tick t, and the entries are those of them that are ready
 pub record HasReady (t : ℕ) (jobs : List JobFacts) (released : ℕ) (entries : List Entry)
     (tasks : List Task) : Type 0 where

@@ -1,18 +1,17 @@
 //! A policy's run under way.
-ghost use Rattle.std.specs.Prelude.{◌≡◌, ◌≢◌, ◌≤◌, ◌<◌, ◌+◌, ◌-◌, ℕ, List, [], ◌∷◌, ◌++◌, length, drop, slice_get};
-ghost use Rattle.std.specs.Prelude.{false, IfOk, OnOk};
-ghost use Rattle.std.specs.Option.{option_map_or};
+ghost use Rattle.std.specs.Prelude.{◌≡◌, ◌≤◌, ◌<◌, ◌+◌, List, [], length, drop, IfOk, OnOk};
 ghost use Rattle.dover_model.specs.declared.events.Version.TheVariants.{Two};
-ghost use Rattle.dover_model.specs.Limits.{idle, most_total};
+ghost use Rattle.dover_model.specs.Limits.{most_total};
 ghost use Rattle.dover_model.specs.JobFacts.{IsJob};
 ghost use Rattle.dover_model.specs.Instance.{IsInOrder, total_value};
 ghost use Rattle.dover_model.specs.declared.events.Task.{Task};
 ghost use Rattle.dover_model.specs.Pieces.{stretches};
 ghost use Rattle.dover_model.specs.Sound.{Each};
-ghost use Rattle.policy_lab.specs.Bench.{HasReady, HasRun, tasks_at, schedule_before, served_value, goes_on};
+ghost use Rattle.policy_lab.specs.Bench.{HasReady, HasRun, tasks_at, schedule_before, served_value};
 
 use crate::policy::Policy;
 use crate::scan::{entry_to_come, give, keep_in_time};
+use clairvoyant::feasible::add_piece;
 use dover_model::{Entry, Job, Memory, Piece};
 use std::alloc::Global;
 
@@ -51,36 +50,6 @@ fn release(jobs: &[Job], before: usize, tick: u64, ready: &mut Vec<Entry>) -> Re
     Ok(released)
 }
 
-/// Whether the last stretch is of this number, and ends where the tick begins.
-fn goes_on(pieces: &[Piece], tick: u64, number: u32) -> bool
-    ensures { result ≡ option_map_or (goes_on tick number) (slice_get pieces.now (length pieces.now - 1)) false }
-{
-    match pieces.last() {
-        Some(last) => last.number == number && last.until == tick,
-        None => false,
-    }
-}
-
-/// Puts a tick of this number behind the stretches before it.
-fn extend(pieces: &mut Vec<Piece>, tick: u64, number: u32) -> Result<(), Memory>
-    requires tick { tick < 100_000 }
-    requires number { number ≢ idle }
-    ensures { (schedule : List ℕ) → length schedule ≡ tick → pieces.old.items ≡ stretches schedule →
-        OnOk result (pieces.new.items ≡ stretches (schedule ++ number ∷ [])) }
-{
-    if goes_on(pieces, tick, number) {
-        let last = pieces.len() - 1;
-        pieces[last].until = tick + 1;
-        return Ok(());
-    }
-    pieces.push(Piece {
-        from: tick,
-        until: tick + 1,
-        number,
-    })?;
-    Ok(())
-}
-
 impl Bench {
     /// Before the first tick.
     fn new(alloc: Global) -> Bench
@@ -116,7 +85,12 @@ impl Bench {
         };
         self.value += give(number, &mut self.ready);
         keep_in_time(tick + 1, &mut self.ready);
-        extend(&mut self.pieces, tick, number)
+        let piece = Piece {
+            from: tick,
+            until: tick + 1,
+            number,
+        };
+        add_piece(&mut self.pieces, piece)
     }
 }
 

@@ -1,14 +1,16 @@
 -- The jobs that are released and not done, as their heap changes.
-use Rattle.std.proofs.Common.{◌≡◌, ℕ, ◌≤◌, ◌<◌, ◌⊎◌, inl, inr, List, [], ◌∷◌, ◌++◌, length, refl, sym, ap, ◌∙◌}
-use Rattle.std.proofs.Common.{subst, arith, true, false, cond, Option}
+use Rattle.std.proofs.Common.{◌≡◌, ℕ, ◌+◌, ◌*◌, ◌/◌, ◌%◌, ◌^◌, ◌≤◌, ◌<◌, ◌⊎◌, inl, inr, List, [], ◌∷◌, ◌++◌, length}
+use Rattle.std.proofs.Common.{refl, sym, ap, ◌∙◌, subst, arith, true, false, cond, Option}
 use Rattle.std.specs.Prelude.{Some, None, IsSome, IfSome, slice_index_or, slice_set, IsPermutation, ◌==◌}
 use Rattle.std.specs.declared.cmp.Ordering.{Ordering}
 use Rattle.std.specs.declared.cmp.Ordering.TheVariants.{Less, Equal, Greater}
 use Rattle.std.specs.BinaryHeap.{IsHeap, IsUpperBound, PopsGreatest}
 use Rattle.std.specs.List.{sum_by}
-use Rattle.std.specs.Ordering.{nat_cmp, ordering_then, is_lt}
+use Rattle.std.specs.Ordering.{nat_cmp, is_lt}
 use Rattle.std.proofs.lemmas.Bool.{cases_eq, eq-eqb, ne_eqb}
 use Rattle.std.proofs.lemmas.Cmp.{ranked}
+use Rattle.std.proofs.lemmas.Nat.{div-mul-add, mod-mul-add}
+use Rattle.std.proofs.Math.Nat.{div-add-mod, mod-lt}
 use Rattle.std.proofs.lemmas.List.{get_or-set_same, get_or-set_other, get_or_append_left, get_or_push, length-set}
 use Rattle.std.proofs.lemmas.List.{length-append}
 use Rattle.std.proofs.lemmas.List.Elements.{All-from_recursion, recursion_from_All}
@@ -16,7 +18,7 @@ use Rattle.std.proofs.lemmas.List.Sorted.{All-permutation, IsPermutation-map, su
 use Rattle.std.proofs.lemmas.List.Sums.{sum_by-cons}
 use Rattle.dover_model.specs.Sound.{IsMember, Each}
 use Rattle.dover_model.proofs.Members.{all_member, on_map, map_same, sum_zero, term_le_sum, each_all}
-use Rattle.clairvoyant.specs.feasible.Queue.{Kept, Turn, turn_cmp, kept_of, is_of, IsInTurn, AreBehind, IsFirst}
+use Rattle.clairvoyant.specs.feasible.Queue.{Kept, Turn, key_of, turn_cmp, kept_of, is_of, IsInTurn, AreBehind, IsFirst}
 use Rattle.clairvoyant.specs.feasible.Queue.{IsTakenOut}
 
 -- ---- the same in another order
@@ -32,28 +34,44 @@ member_moved xs ys moved = each_moved (λ x. IsMember x xs) xs ys moved (λ x me
 
 -- ---- by deadline and number
 
--- of two jobs one is behind the other where it doesn't come before it
-key_behind : (d n e m : ℕ) → is_lt (ordering_then (nat_cmp e d) (nat_cmp m n)) ≡ false → (m ≡ n → ⊥)
-    → (d < e) ⊎ ((d ≡ e) × (n < m))
-key_behind d n e m not_before other = by_first (nat_cmp e d) refl not_before where
-  by_second : e ≡ d → (o : Ordering) → nat_cmp m n ≡ o → is_lt o ≡ false → (d < e) ⊎ ((d ≡ e) × (n < m))
-  by_second same Less f not = absurd (let no : true ≡ false = not in cc)
-  by_second same Equal f not = absurd (other (ranked m n Equal (sym f)))
-  by_second same Greater f not = inr (sym same, ranked m n Greater (sym f))
+-- a turn has its number behind its deadline
+parts_of : (t : Turn) → (t.0 ≡ 2 ^ 20 * (key_of t).0 + (key_of t).1) × ((key_of t).1 < 2 ^ 20)
+parts_of t = (sym (div-add-mod t.0 (2 ^ 20)), mod-lt t.0 (omega arith))
 
-  by_first : (o : Ordering) → nat_cmp e d ≡ o → is_lt (ordering_then o (nat_cmp m n)) ≡ false
-      → (d < e) ⊎ ((d ≡ e) × (n < m))
-  by_first Less f not = absurd (let no : true ≡ false = not in cc)
-  by_first Equal f not = by_second (ranked e d Equal (sym f)) (nat_cmp m n) refl not
-  by_first Greater f not = inl (ranked e d Greater (sym f))
+-- the turn of a deadline and a number
+pub key_is : (t : Turn) (due n : ℕ) → t.0 ≡ due * 2 ^ 20 + n → n < 2 ^ 20 → key_of t ≡ (due, n)
+key_is t due n is small =
+    ap (λ (k : ℕ). (k / 2 ^ 20, k % 2 ^ 20)) is
+    ∙ ap (λ (d : ℕ). (d, (due * 2 ^ 20 + n) % 2 ^ 20)) (div-mul-add due (2 ^ 20) n small)
+    ∙ ap (λ (m : ℕ). (due, m)) (mod-mul-add due (2 ^ 20) n small)
+
+-- of two jobs one is behind the other where it doesn't come before it
+key_behind : (s t : Turn) → is_lt (turn_cmp s t) ≡ false → ((key_of t).1 ≡ (key_of s).1 → ⊥)
+    → ((key_of s).0 < (key_of t).0) ⊎ (((key_of s).0 ≡ (key_of t).0) × ((key_of s).1 < (key_of t).1))
+key_behind s t not_before other = by_turn (nat_cmp t.0 s.0) refl not_before where
+  by_due : s.0 < t.0 → (o : Ordering) → nat_cmp (key_of t).0 (key_of s).0 ≡ o
+      → ((key_of s).0 < (key_of t).0) ⊎ (((key_of s).0 ≡ (key_of t).0) × ((key_of s).1 < (key_of t).1))
+  by_due low Less f =
+      let sooner : (key_of t).0 < (key_of s).0 = ranked (key_of t).0 (key_of s).0 Less (sym f) in
+      absurd (omega (arith, low, sooner, (parts_of s).0, (parts_of s).1, (parts_of t).0, (parts_of t).1))
+  by_due low Equal f =
+      let same : (key_of t).0 ≡ (key_of s).0 = ranked (key_of t).0 (key_of s).0 Equal (sym f) in
+      inr (sym same, omega (arith, low, same, (parts_of s).0, (parts_of t).0))
+  by_due low Greater f = inl (ranked (key_of t).0 (key_of s).0 Greater (sym f))
+
+  by_turn : (o : Ordering) → nat_cmp t.0 s.0 ≡ o → is_lt o ≡ false
+      → ((key_of s).0 < (key_of t).0) ⊎ (((key_of s).0 ≡ (key_of t).0) × ((key_of s).1 < (key_of t).1))
+  by_turn Less f not = absurd (let no : true ≡ false = not in cc)
+  by_turn Equal f not = absurd (other (ap (λ (k : ℕ). k % 2 ^ 20) (ranked t.0 s.0 Equal (sym f))))
+  by_turn Greater f not = by_due (ranked t.0 s.0 Greater (sym f)) (nat_cmp (key_of t).0 (key_of s).0) refl
 
 -- jobs of other numbers that don't come before one are behind it
 all_behind : (left : List ℕ) (t : Turn) (turns : List Turn) → IsUpperBound turn_cmp t turns
-    → Each (λ u. u.0.1 ≡ t.0.1 → ⊥) turns → AreBehind t.0.0 t.0.1 (kept_of left turns)
+    → Each (λ u. (key_of u).1 ≡ (key_of t).1 → ⊥) turns → AreBehind (key_of t).0 (key_of t).1 (kept_of left turns)
 all_behind left t turns bound others =
-    on_map (λ (u : Turn). (u.0, slice_index_or left u.0.1 0))
-    (λ e. (t.0.0 < e.0.0) ⊎ ((t.0.0 ≡ e.0.0) × (t.0.1 < e.0.1))) turns
-    (λ u member. key_behind t.0.0 t.0.1 u.0.0 u.0.1 (all_member _ turns bound u member) (others u member))
+    on_map (λ (u : Turn). (key_of u, slice_index_or left (key_of u).1 0))
+    (λ e. ((key_of t).0 < e.0.0) ⊎ (((key_of t).0 ≡ e.0.0) × ((key_of t).1 < e.0.1))) turns
+    (λ u member. key_behind t u (all_member _ turns bound u member) (others u member))
 
 -- ---- each job once
 
@@ -71,50 +89,50 @@ of_other m n other = ap (λ b. cond {A = ℕ} b 1 0) (ne_eqb m n other)
 
 -- of a job and others none has its number again
 head_apart : (t : Turn) (turns : List Turn) → ((n : ℕ) → sum_by (is_of n) (t ∷ turns) ≤ 1)
-    → Each (λ u. u.0.1 ≡ t.0.1 → ⊥) turns
+    → Each (λ u. (key_of u).1 ≡ (key_of t).1 → ⊥) turns
 head_apart t turns once u member same =
-    let here : is_of t.0.1 t ≡ 1 = of_itself t.0.1 in
-    let there : is_of t.0.1 u ≡ 1 = ap (λ m. one_of m t.0.1) same ∙ of_itself t.0.1 in
+    let here : is_of (key_of t).1 t ≡ 1 = of_itself (key_of t).1 in
+    let there : is_of (key_of t).1 u ≡ 1 = ap (λ m. one_of m (key_of t).1) same ∙ of_itself (key_of t).1 in
     omega (
       arith,
       here,
       there,
-      once t.0.1,
-      sum_by-cons (is_of t.0.1) t turns,
-      term_le_sum (is_of t.0.1) turns u member,
+      once (key_of t).1,
+      sum_by-cons (is_of (key_of t).1) t turns,
+      term_le_sum (is_of (key_of t).1) turns u member,
     )
 
 -- a new number is there once
-new_apart : (t : Turn) (turns now : List Turn) → IsPermutation (t ∷ turns) now → Each (λ u. u.0.1 < t.0.1) turns
+new_apart : (t : Turn) (turns now : List Turn) → IsPermutation (t ∷ turns) now → Each (λ u. (key_of u).1 < (key_of t).1) turns
     → ((n : ℕ) → sum_by (is_of n) turns ≤ 1)
     → (n : ℕ) → sum_by (is_of n) now ≤ 1
-new_apart t turns now moved low once n = by_number (cases_eq t.0.1 n) where
-  by_number : (t.0.1 ≡ n) ⊎ (t.0.1 ≡ n → ⊥) → sum_by (is_of n) now ≤ 1
+new_apart t turns now moved low once n = by_number (cases_eq (key_of t).1 n) where
+  by_number : ((key_of t).1 ≡ n) ⊎ ((key_of t).1 ≡ n → ⊥) → sum_by (is_of n) now ≤ 1
   by_number (inl same) =
       let none : sum_by (is_of n) turns ≡ 0 = sum_zero (is_of n) turns
-      (λ u member. of_other u.0.1 n (λ also. omega (arith, low u member))) in
+      (λ u member. of_other (key_of u).1 n (λ also. omega (arith, low u member))) in
       let one : is_of n t ≡ 1 = ap (λ m. one_of m n) same ∙ of_itself n in
       omega (arith, none, one, sum_by_pushed (is_of n) t turns now moved)
   by_number (inr other) =
-      omega (arith, of_other t.0.1 n other, once n, sum_by_pushed (is_of n) t turns now moved)
+      omega (arith, of_other (key_of t).1 n other, once n, sum_by_pushed (is_of n) t turns now moved)
 
 -- ---- what is left of each
 
 -- of jobs of other numbers the same is left
-left_of_others : (left : List ℕ) (n k : ℕ) (turns : List Turn) → Each (λ u. u.0.1 ≡ n → ⊥) turns
+left_of_others : (left : List ℕ) (n k : ℕ) (turns : List Turn) → Each (λ u. (key_of u).1 ≡ n → ⊥) turns
     → kept_of (slice_set left n k) turns ≡ kept_of left turns
 left_of_others left n k turns others =
-    map_same (λ (u : Turn). (u.0, slice_index_or (slice_set left n k) u.0.1 0))
-    (λ (u : Turn). (u.0, slice_index_or left u.0.1 0)) turns
-    (λ u member. ap (λ l. (u.0, l)) (get_or-set_other left n u.0.1 k 0 (others u member)))
+    map_same (λ (u : Turn). (key_of u, slice_index_or (slice_set left n k) (key_of u).1 0))
+    (λ (u : Turn). (key_of u, slice_index_or left (key_of u).1 0)) turns
+    (λ u member. ap (λ l. (key_of u, l)) (get_or-set_other left n (key_of u).1 k 0 (others u member)))
 
 -- and of jobs that were released before
-left_before : (left : List ℕ) (work : ℕ) (turns : List Turn) → Each (λ u. u.0.1 < length left) turns
+left_before : (left : List ℕ) (work : ℕ) (turns : List Turn) → Each (λ u. (key_of u).1 < length left) turns
     → kept_of (left ++ work ∷ []) turns ≡ kept_of left turns
 left_before left work turns low =
-    map_same (λ (u : Turn). (u.0, slice_index_or (left ++ work ∷ []) u.0.1 0))
-    (λ (u : Turn). (u.0, slice_index_or left u.0.1 0)) turns
-    (λ u member. ap (λ l. (u.0, l)) (get_or_append_left left (work ∷ []) 0 u.0.1 (low u member)))
+    map_same (λ (u : Turn). (key_of u, slice_index_or (left ++ work ∷ []) (key_of u).1 0))
+    (λ (u : Turn). (key_of u, slice_index_or left (key_of u).1 0)) turns
+    (λ u member. ap (λ l. (key_of u, l)) (get_or_append_left left (work ∷ []) 0 (key_of u).1 (low u member)))
 
 -- ---- a release
 
@@ -129,10 +147,10 @@ low_more left work turns it = record {
 
 module _ (left : List ℕ) (due n work : ℕ) (turns now : List Turn) (it : IsInTurn left turns) (new : n ≡ length left)
     (t : Turn)
-    (t_is : t.0 ≡ (due, n))
+    (t_is : key_of t ≡ (due, n))
     (moved : IsPermutation (t ∷ turns) now) where
   -- its number
-  number_is : t.0.1 ≡ length left
+  number_is : (key_of t).1 ≡ length left
   number_is = ap (λ (k : ℕ × ℕ). k.1) t_is ∙ new
 
   pub released_in_turn : (IsHeap turn_cmp turns → IsHeap turn_cmp now) → IsInTurn (left ++ work ∷ []) now
@@ -141,9 +159,9 @@ module _ (left : List ℕ) (due n work : ℕ) (turns now : List Turn) (it : IsIn
     apart = new_apart t turns now moved (λ u member. omega (arith, it.low u member, number_is)) it.apart;
     low = λ u member. by_member u (member_moved (t ∷ turns) now moved u member);
   } where
-    by_member : (u : Turn) → (u ≡ t) ⊎ IsMember u turns → u.0.1 < length (left ++ work ∷ [])
+    by_member : (u : Turn) → (u ≡ t) ⊎ IsMember u turns → (key_of u).1 < length (left ++ work ∷ [])
     by_member u (inl same) =
-        let number : u.0.1 ≡ t.0.1 = ap (λ (v : Turn). v.0.1) same in
+        let number : (key_of u).1 ≡ (key_of t).1 = ap (λ (v : Turn). (key_of v).1) same in
         omega (arith, number, number_is, length-append left (work ∷ []))
     by_member u (inr old) = omega (arith, it.low u old, length-append left (work ∷ []))
 
@@ -151,12 +169,12 @@ module _ (left : List ℕ) (due n work : ℕ) (turns now : List Turn) (it : IsIn
   pub released_kept : IsPermutation (((due, n), work) ∷ kept_of left turns) (kept_of (left ++ work ∷ []) now)
   released_kept =
       let more : List ℕ = left ++ work ∷ [] in
-      let all_left : slice_index_or more t.0.1 0 ≡ work = get_or_push left work 0 t.0.1 (sym number_is) in
+      let all_left : slice_index_or more (key_of t).1 0 ≡ work = get_or_push left work 0 (key_of t).1 (sym number_is) in
       subst (λ kept. IsPermutation kept (kept_of more now))
-      (ap (λ k. (k, slice_index_or more t.0.1 0) ∷ kept_of more turns) t_is
+      (ap (λ k. (k, slice_index_or more (key_of t).1 0) ∷ kept_of more turns) t_is
       ∙ ap (λ l. ((due, n), l) ∷ kept_of more turns) all_left
       ∙ ap (λ kept. ((due, n), work) ∷ kept) (left_before left work turns it.low))
-      (IsPermutation-map (λ (u : Turn). (u.0, slice_index_or more u.0.1 0)) (t ∷ turns) now moved)
+      (IsPermutation-map (λ (u : Turn). (key_of u, slice_index_or more (key_of u).1 0)) (t ∷ turns) now moved)
 
 -- ---- the first one
 
@@ -188,7 +206,7 @@ popped turns now (Some t) heap some top moved pops bound =
 -- the number of the top is that of a job that is released
 pub top_low : (left : List ℕ) (turns : List Turn) (t : Turn) → IsInTurn left turns → 0 < length turns
     → t ≡ slice_index_or turns 0 t
-    → t.0.1 < length left
+    → (key_of t).1 < length left
 top_low left turns t it some is =
     it.low t (subst (λ ts. IsMember t ts) (sym (head_of turns t some is).1) (inl refl))
 
@@ -196,9 +214,9 @@ top_low left turns t it some is =
 pub first_due : (left : List ℕ) (turns : List Turn) (t : Turn) → IsInTurn left turns → 0 < length turns
     → t ≡ slice_index_or turns 0 t
     → IsUpperBound turn_cmp t turns
-    → IsFirst (t.0, slice_index_or left t.0.1 0) (kept_of left turns)
+    → IsFirst (key_of t, slice_index_or left (key_of t).1 0) (kept_of left turns)
 first_due left turns t it some is bound = by_head (head_of turns t some is) where
-  by_head : ((rest : List Turn) × (turns ≡ t ∷ rest)) → IsFirst (t.0, slice_index_or left t.0.1 0) (kept_of left turns)
+  by_head : ((rest : List Turn) × (turns ≡ t ∷ rest)) → IsFirst (key_of t, slice_index_or left (key_of t).1 0) (kept_of left turns)
   by_head head =
       let same : turns ≡ t ∷ head.0 = head.1 in
       let all : IsUpperBound turn_cmp t (t ∷ head.0) = subst (IsUpperBound turn_cmp t) same bound in
@@ -214,24 +232,25 @@ first_due left turns t it some is bound = by_head (head_of turns t some is) wher
 module _ (left : List ℕ) (turns : List Turn) (it : IsInTurn left turns) (first : Kept) (rest : List Kept)
     (is : kept_of left turns ≡ first ∷ rest) (k : ℕ) where
   -- its place in the heap
-  pub first_turn : (t : Turn) × (ts : List Turn) × (turns ≡ t ∷ ts) × (t.0 ≡ first.0) × (kept_of left ts ≡ rest)
+  pub first_turn : (t : Turn) × (ts : List Turn) × (turns ≡ t ∷ ts) × (key_of t ≡ first.0) × (kept_of left ts ≡ rest)
   first_turn = by_turns turns is where
     by_turns : (ts : List Turn) → kept_of left ts ≡ first ∷ rest
-        → (t : Turn) × (us : List Turn) × (ts ≡ t ∷ us) × (t.0 ≡ first.0) × (kept_of left us ≡ rest)
+        → (t : Turn) × (us : List Turn) × (ts ≡ t ∷ us) × (key_of t ≡ first.0) × (kept_of left us ≡ rest)
     by_turns [] none = absurd (let e : [] ≡ first ∷ rest = none in cc)
     by_turns (t ∷ us) same =
-        let e : (t.0, slice_index_or left t.0.1 0) ∷ kept_of left us ≡ first ∷ rest = same in
-        (t, us, refl, (let h : t.0 ≡ first.0 = cc in h), (let r : kept_of left us ≡ rest = cc in r))
+        let e : (key_of t, slice_index_or left (key_of t).1 0) ∷ kept_of left us ≡ first ∷ rest = same in
+        let one : (key_of t, slice_index_or left (key_of t).1 0) ≡ first = cc in
+        (t, us, refl, ap (λ (k : Kept). k.0) one, (let r : kept_of left us ≡ rest = cc in r))
 
   -- the job's number is that of a job that is released
   pub first_low : first.0.1 < length left
   first_low =
       let member : IsMember first_turn.0 turns = subst (λ ts. IsMember first_turn.0 ts) (sym first_turn.2) (inl refl) in
-      let number : first_turn.0.0.1 ≡ first.0.1 = ap (λ (p : ℕ × ℕ). p.1) first_turn.3 in
+      let number : (key_of first_turn.0).1 ≡ first.0.1 = ap (λ (p : ℕ × ℕ). p.1) first_turn.3 in
       omega (arith, number, it.low first_turn.0 member)
 
   -- the others have other numbers
-  others_apart : Each (λ u. u.0.1 ≡ first.0.1 → ⊥) first_turn.1
+  others_apart : Each (λ u. (key_of u).1 ≡ first.0.1 → ⊥) first_turn.1
   others_apart u member same = head_apart first_turn.0 first_turn.1
       (subst (λ ts. (n : ℕ) → sum_by (is_of n) ts ≤ 1) first_turn.2 it.apart) u member
       (same ∙ sym (ap (λ (p : ℕ × ℕ). p.1) first_turn.3))
@@ -250,11 +269,11 @@ module _ (left : List ℕ) (turns : List Turn) (it : IsInTurn left turns) (first
       let t : Turn = first_turn.0 in
       let ts : List Turn = first_turn.1 in
       let changed : List ℕ = slice_set left first.0.1 k in
-      let number : t.0.1 ≡ first.0.1 = ap (λ (p : ℕ × ℕ). p.1) first_turn.3 in
-      let here : slice_index_or changed t.0.1 0 ≡ k = ap (λ n. slice_index_or changed n 0) number
+      let number : (key_of t).1 ≡ first.0.1 = ap (λ (p : ℕ × ℕ). p.1) first_turn.3 in
+      let here : slice_index_or changed (key_of t).1 0 ≡ k = ap (λ n. slice_index_or changed n 0) number
       ∙ get_or-set_same left first.0.1 k 0 first_low in
       ap (kept_of changed) first_turn.2
-      ∙ ap (λ l. (t.0, l) ∷ kept_of changed ts) here
+      ∙ ap (λ l. (key_of t, l) ∷ kept_of changed ts) here
       ∙ ap (λ p. (p, k) ∷ kept_of changed ts) first_turn.3
       ∙ ap (λ kept. (first.0, k) ∷ kept) (left_of_others left first.0.1 k ts others_apart ∙ first_turn.4)
 
@@ -267,8 +286,8 @@ module _ (left : List ℕ) (turns : List Turn) (it : IsInTurn left turns) (first
     top_is : t ≡ first_turn.0
     top_is = pop.top ∙ ap (λ ts. slice_index_or ts 0 t) first_turn.2
 
-    top_key : t.0 ≡ first.0
-    top_key = ap (λ (u : Turn). u.0) top_is ∙ first_turn.3
+    top_key : key_of t ≡ first.0
+    top_key = ap (λ (u : Turn). key_of u) top_is ∙ first_turn.3
 
     -- the others are there once
     once : (n : ℕ) → sum_by (is_of n) (t ∷ now) ≤ 1
@@ -291,22 +310,22 @@ module _ (left : List ℕ) (turns : List Turn) (it : IsInTurn left turns) (first
     left_none = record {
       rest = subst (λ kept. IsPermutation (kept_of left turns) kept)
           (ap (λ e. e ∷ kept_of left now) first_is ∙ ap (λ kept. first ∷ kept) (sym same))
-          (IsPermutation-map (λ (u : Turn). (u.0, slice_index_or left u.0.1 0)) turns (t ∷ now) pop.moved);
+          (IsPermutation-map (λ (u : Turn). (key_of u, slice_index_or left (key_of u).1 0)) turns (t ∷ now) pop.moved);
       behind = subst (λ kept. AreBehind first.0.0 first.0.1 kept) (sym same)
           (subst (λ (p : ℕ × ℕ). AreBehind p.0 p.1 (kept_of left now)) top_key
           (all_behind left t now pop.bound (head_apart t now once)));
     } where
-      others : Each (λ u. u.0.1 ≡ first.0.1 → ⊥) now
+      others : Each (λ u. (key_of u).1 ≡ first.0.1 → ⊥) now
       others u member e = head_apart t now once u member (e ∙ sym (ap (λ (p : ℕ × ℕ). p.1) top_key))
 
       same : kept_of (slice_set left first.0.1 k) now ≡ kept_of left now
       same = left_of_others left first.0.1 k now others
 
       -- the first one is what the heap has of it
-      first_is : (t.0, slice_index_or left t.0.1 0) ≡ first
-      first_is = ap (λ (u : Turn). (u.0, slice_index_or left u.0.1 0)) top_is ∙ by_head where
-        by_head : (first_turn.0.0, slice_index_or left first_turn.0.0.1 0) ≡ first
+      first_is : (key_of t, slice_index_or left (key_of t).1 0) ≡ first
+      first_is = ap (λ (u : Turn). (key_of u, slice_index_or left (key_of u).1 0)) top_is ∙ by_head where
+        by_head : (key_of first_turn.0, slice_index_or left (key_of first_turn.0).1 0) ≡ first
         by_head =
-            let e : (first_turn.0.0, slice_index_or left first_turn.0.0.1 0) ∷ kept_of left first_turn.1
+            let e : (key_of first_turn.0, slice_index_or left (key_of first_turn.0).1 0) ∷ kept_of left first_turn.1
             ≡ first ∷ rest =
             sym (ap (kept_of left) first_turn.2) ∙ is in cc

@@ -1,23 +1,19 @@
 -- The stretches of a schedule: in order, spread again, and with a run of one job behind.
 use Rattle.std.proofs.Common.{◌≡◌, ℕ, zero, suc, ◌+◌, ◌-◌, ◌≤◌, ◌<◌, List, [], ◌∷◌, ◌++◌, length, replicate, refl, sym}
-use Rattle.std.proofs.Common.{ap, ◌∙◌, Bool, true}
-use Rattle.std.proofs.Common.{false, cond, eqb, arith, append_assoc}
-use Rattle.std.specs.Prelude.{◌&&◌}
-use Rattle.std.proofs.lemmas.Bool.{eqb-true, eq-eqb, ne_eqb, and_parts, and_from}
-use Rattle.std.proofs.lemmas.List.{nil_from_length}
+use Rattle.std.proofs.Common.{ap, ◌∙◌, Bool, true, false, cond, eqb, arith, set, get_or}
+use Rattle.std.specs.Prelude.{◌&&◌, slice_get}
+use Rattle.std.specs.Option.{option_map_or}
+use Rattle.std.proofs.lemmas.Bool.{eqb-true, eq-eqb, ne_eqb, and_parts}
 use Rattle.dover_model.specs.Limits.{idle}
 use Rattle.dover_model.specs.Pieces.{InOrderFrom, spread_from, with_tick, stretches_from, stretches}
 use Rattle.dover_model.specs.declared.pieces.Piece.{Piece}
 use Rattle.dover_model.proofs.Members.{by_bool}
 use Rattle.dover_model.proofs.Tests.{never}
+use Rattle.clairvoyant.specs.feasible.Progress.{goes_on}
 
 -- the piece of these ticks
 abbrev pub piece_of : (from until number : ℕ) → Piece
 piece_of f u n = record { from = f; until = u; number = n }
-
--- whether the second goes on where the first ends, with the same job
-abbrev pub goes_on : Piece → Piece → Bool
-goes_on q p = eqb q.number p.number && eqb q.until p.from
 
 -- the two as one
 abbrev pub joined : Piece → Piece → Piece
@@ -26,15 +22,8 @@ joined q p = piece_of q.from p.until q.number
 -- a piece behind the others
 abbrev pub with_piece : List Piece → Piece → List Piece
 with_piece [] p = p ∷ []
-with_piece (q ∷ []) p = cond (goes_on q p) (joined q p ∷ []) (q ∷ p ∷ [])
+with_piece (q ∷ []) p = cond (goes_on p q) (joined q p ∷ []) (q ∷ p ∷ [])
 with_piece (q ∷ r ∷ more) p = q ∷ with_piece (r ∷ more) p
-
--- behind the last of the others
-pub piece_behind : (xs : List Piece) (q p : Piece)
-    → with_piece (xs ++ q ∷ []) p ≡ xs ++ cond (goes_on q p) (joined q p ∷ []) (q ∷ p ∷ [])
-piece_behind [] q p = refl
-piece_behind (x ∷ []) q p = refl
-piece_behind (x ∷ y ∷ xs) q p = ap (λ zs. x ∷ zs) (piece_behind (y ∷ xs) q p)
 
 -- whether a tick goes on as the piece
 abbrev before : ℕ → ℕ → Piece → Bool
@@ -53,13 +42,13 @@ turned m n = by_bool _ (eqb m n) (λ e. e ∙ sym (eq-eqb n m (sym (eqb-true m n
 pub tick_and_piece : (t m : ℕ) (ps : List Piece) (p : Piece)
     → with_tick t m (with_piece ps p) ≡ with_piece (with_tick t m ps) p
 tick_and_piece t m [] p = by_test (before t m p) refl where
-  same : goes_on (piece_of t (t + 1) m) p ≡ before t m p
+  same : goes_on p (piece_of t (t + 1) m) ≡ before t m p
   same = let e : eqb m p.number ≡ eqb p.number m = turned m p.number in
       let f : eqb (t + 1) p.from ≡ eqb p.from (t + 1) = turned (t + 1) p.from in
       ap (λ b. b && eqb (t + 1) p.from) e ∙ ap (λ b. eqb p.number m && b) f
 
   by_test : (b : Bool) → before t m p ≡ b
-      → in_front (before t m p) t m p [] ≡ cond (goes_on (piece_of t (t + 1) m) p) (piece_of t p.until m ∷ [])
+      → in_front (before t m p) t m p [] ≡ cond (goes_on p (piece_of t (t + 1) m)) (piece_of t p.until m ∷ [])
       (piece_of t (t + 1) m ∷ p ∷ [])
   by_test true e =
       let parts : (eqb p.number m ≡ true) × (eqb p.from (t + 1) ≡ true) =
@@ -69,9 +58,9 @@ tick_and_piece t m [] p = by_test (before t m p) refl where
       ∙ sym (ap (λ b. cond b (piece_of t p.until m ∷ []) (piece_of t (t + 1) m ∷ p ∷ [])) (same ∙ e))
   by_test false e = ap (λ b. in_front b t m p []) e
       ∙ sym (ap (λ b. cond b (piece_of t p.until m ∷ []) (piece_of t (t + 1) m ∷ p ∷ [])) (same ∙ e))
-tick_and_piece t m (q ∷ []) p = by_two (before t m q) (goes_on q p) refl refl where
-  by_two : (b c : Bool) → before t m q ≡ b → goes_on q p ≡ c
-      → with_tick t m (cond (goes_on q p) (joined q p ∷ []) (q ∷ p ∷ [])) ≡ with_piece
+tick_and_piece t m (q ∷ []) p = by_two (before t m q) (goes_on p q) refl refl where
+  by_two : (b c : Bool) → before t m q ≡ b → goes_on p q ≡ c
+      → with_tick t m (cond (goes_on p q) (joined q p ∷ []) (q ∷ p ∷ [])) ≡ with_piece
       (in_front (before t m q) t m q []) p
   by_two true true e f =
       ap (λ c. with_tick t m (cond c (joined q p ∷ []) (q ∷ p ∷ []))) f
@@ -242,46 +231,62 @@ spread_again t (x ∷ s) = by_idle (eqb x idle) refl (spread_again (t + 1) s) (s
 
 -- ---- one more piece
 
-module _ (s : List ℕ) (p : Piece) (some : p.from < p.until) (job : p.number ≡ idle → ⊥) (here : length s ≡ p.from) where
+-- whether the stretch at a place goes on
+abbrev goes_on_at : Piece → ℕ → List Piece → Bool
+goes_on_at p i ps = option_map_or (goes_on p) (slice_get ps i) false
+
+-- where the last one goes on, it is there
+some_last : (p : Piece) (i : ℕ) (ps : List Piece) → goes_on_at p i ps ≡ true → i < length ps
+some_last p i [] on = let e : false ≡ true = on in cc
+some_last p zero (q ∷ ps) on = omega arith
+some_last p (suc i) (q ∷ ps) on = let rest : i < length ps = some_last p i ps on in omega arith
+
+-- it goes on
+goes_on_in_place : (p : Piece) (i : ℕ) (ps : List Piece) (last : Piece) → i + 1 ≡ length ps → last ≡ get_or ps i last
+    → goes_on_at p i ps ≡ true → set ps i (record last { until = p.until }) ≡ with_piece ps p
+goes_on_in_place p i [] last at is on = absurd (omega arith)
+goes_on_in_place p zero (q ∷ []) last at is on = ap {A = Piece} (λ r. record r { until = p.until } ∷ []) is
+    ∙ ap (λ b. cond b (joined q p ∷ []) (q ∷ p ∷ [])) (sym on)
+goes_on_in_place p (suc i) (q ∷ []) last at is on = absurd (omega arith)
+goes_on_in_place p zero (q ∷ r ∷ ps) last at is on = absurd (omega arith)
+goes_on_in_place p (suc i) (q ∷ r ∷ ps) last at is on =
+    ap (λ rest. q ∷ rest) (goes_on_in_place p i (r ∷ ps) last (omega arith) is on)
+
+-- it is another one, or there is none
+stays_behind : (p : Piece) (i : ℕ) (ps : List Piece) → i ≡ length ps - 1 → goes_on_at p i ps ≡ false
+    → ps ++ p ∷ [] ≡ with_piece ps p
+stays_behind p i [] at other = refl
+stays_behind p zero (q ∷ []) at other = ap (λ b. cond b (joined q p ∷ []) (q ∷ p ∷ [])) (sym other)
+stays_behind p (suc i) (q ∷ []) at other = absurd (omega arith)
+stays_behind p zero (q ∷ r ∷ ps) at other = absurd (omega arith)
+stays_behind p (suc i) (q ∷ r ∷ ps) at other =
+    ap (λ rest. q ∷ rest) (stays_behind p i (r ∷ ps) (omega arith) other)
+
+module _ (s : List ℕ) (p : Piece) (some : p.from < p.until) (job : p.number ≡ idle → ⊥) (here : length s ≡ p.from)
+    (shown old : List Piece) (same : shown ≡ old) (is : old ≡ stretches s) where
   -- the stretches of the schedule with the ticks of the piece
-  pub stretches_more : stretches (s ++ replicate (p.until - p.from) p.number) ≡ with_piece (stretches s) p
+  stretches_more : with_piece old p ≡ stretches (s ++ replicate (p.until - p.from) p.number)
   stretches_more =
       let longer : p.until - p.from ≡ suc (p.until - p.from - 1) = omega (arith, some) in
-      ap (λ k. stretches (s ++ replicate k p.number)) longer
+      ap (λ ps. with_piece ps p) is
+      ∙ sym (ap (λ k. stretches (s ++ replicate k p.number)) longer
       ∙ stretches_run_from 0 s p.number (p.until - p.from - 1) p.from p.until job (omega (arith, here))
-      (omega (arith, some))
+      (omega (arith, some)))
 
-  -- behind no other
-  pub more_first : (old mid new : List Piece) → old ≡ stretches s → length old ≡ 0 → length mid ≡ 0
-      → new ≡ mid ++ p ∷ []
-      → new ≡ stretches (s ++ replicate (p.until - p.from) p.number)
-  more_first old mid new is none nothing e = e ∙ ap (λ ps. ps ++ p ∷ []) (nil_from_length mid nothing)
-      ∙ sym (ap (λ ps. with_piece ps p) (nil_from_length old none))
-      ∙ ap (λ ps. with_piece ps p) is ∙ sym stretches_more
+  -- the last one goes on, as the code finds it
+  pub grown : (n : ℕ) (last : Piece) → n ≡ length old
+      → true ≡ option_map_or (goes_on p) (slice_get shown (length shown - 1)) false
+      → last ≡ get_or old (n - 1) last
+      → set old (n - 1) (record last { until = p.until }) ≡ stretches (s ++ replicate (p.until - p.from) p.number)
+  grown n last long on at =
+      let goes : goes_on_at p (n - 1) old ≡ true = ap (λ m. goes_on_at p (m - 1) old) long
+      ∙ sym (on ∙ ap (λ ps. goes_on_at p (length ps - 1) ps) same) in
+      let there : n - 1 < length old = some_last p (n - 1) old goes in
+      goes_on_in_place p (n - 1) old last (omega arith) at goes ∙ stretches_more
 
-  module _ (xs old : List Piece) (q : Piece) (is : old ≡ stretches s) (last : old ≡ xs ++ q ∷ []) where
-    -- behind others
-    more_behind : stretches (s ++ replicate (p.until - p.from) p.number) ≡ xs ++ cond (goes_on q p) (joined q p ∷ [])
-        (q ∷ p ∷ [])
-    more_behind = stretches_more ∙ ap (λ ps. with_piece ps p) (sym is ∙ last) ∙ piece_behind xs q p
-
-    -- it goes on with the last
-    pub more_joined : (new : List Piece) → q.number ≡ p.number → q.until ≡ p.from
-        → new ≡ xs ++ piece_of q.from p.until p.number ∷ []
-        → new ≡ stretches (s ++ replicate (p.until - p.from) p.number)
-    more_joined new same at_end e =
-        let goes : goes_on q p ≡ true =
-        and_from (eqb q.number p.number) (eqb q.until p.from) (eq-eqb _ _ same) (eq-eqb _ _ at_end) in
-        e ∙ ap (λ n. xs ++ piece_of q.from p.until n ∷ []) (sym same)
-        ∙ sym (more_behind ∙ ap (λ b. xs ++ cond b (joined q p ∷ []) (q ∷ p ∷ [])) goes)
-
-    -- it doesn't
-    pub more_apart : (new : List Piece) → (q.number ≡ p.number → q.until ≡ p.from → ⊥) → new ≡ xs ++ q ∷ [] ++ p ∷ []
-        → new ≡ stretches (s ++ replicate (p.until - p.from) p.number)
-    more_apart new other e =
-        let stays : goes_on q p ≡ false =
-        by_bool _ _ (λ t. absurd (clash (and_parts (eqb q.number p.number) (eqb q.until p.from) t))) (λ f. f) in
-        e ∙ append_assoc xs (q ∷ []) (p ∷ [])
-        ∙ sym (more_behind ∙ ap (λ b. xs ++ cond b (joined q p ∷ []) (q ∷ p ∷ [])) stays) where
-          clash : (eqb q.number p.number ≡ true) × (eqb q.until p.from ≡ true) → ⊥
-          clash both = other (eqb-true _ _ both.0) (eqb-true _ _ both.1)
+  -- or one more begins
+  pub begun : false ≡ option_map_or (goes_on p) (slice_get shown (length shown - 1)) false
+      → old ++ p ∷ [] ≡ stretches (s ++ replicate (p.until - p.from) p.number)
+  begun other =
+      stays_behind p (length old - 1) old refl (sym (other ∙ ap (λ ps. goes_on_at p (length ps - 1) ps) same))
+      ∙ stretches_more

@@ -1,6 +1,6 @@
 -- Where the schedule by earliest deadline stands at a tick.
-use Rattle.std.specs.Prelude.{◌≡◌, ℕ, ◌+◌, ◌-◌, ◌*◌, ◌≤◌, ◌<◌, ◌⊎◌, List, ◌++◌, length, drop, ◌==◌, cond, IsTrue}
-use Rattle.std.specs.Prelude.{Option, None, Some}
+use Rattle.std.specs.Prelude.{◌≡◌, ℕ, ◌+◌, ◌-◌, ◌*◌, ◌≤◌, ◌<◌, ◌⊎◌, List, ◌++◌, length, drop, ◌==◌, ◌&&◌, cond, IsTrue}
+use Rattle.std.specs.Prelude.{Bool, Option, None, Some}
 use Rattle.std.specs.Prelude.{slice_get, nat_lt, min, if◌then◌else◌}
 use Rattle.std.specs.List.{sum_by, count_by, enumerate_from}
 use Rattle.dover_model.specs.Limits.{last_tick}
@@ -15,6 +15,10 @@ use Rattle.dover_model.specs.declared.pieces.Piece.{Piece}
 use Rattle.clairvoyant.specs.declared.feasible.simulation.Simulation.{Simulation}
 use Rattle.clairvoyant.specs.feasible.Feasibility.{IsDeadline}
 use Rattle.clairvoyant.specs.feasible.Queue.{Kept}
+
+-- whether a stretch goes on with the piece: it is of the same job, and ends as the piece begins
+abbrev pub goes_on : Piece → Piece → Bool
+goes_on p last = (last.number == p.number) && (last.until == p.from)
 
 -- the ticks that the jobs inside the window from a to d have had
 abbrev pub had_inside : ℕ → ℕ → List Task → ℕ

@@ -1,4 +1,5 @@
 //! The jobs that are released and not done.
+ghost use Rattle.std.specs.Prelude.{◌≡◌, ◌+◌, ◌*◌, ◌^◌, ◌<◌};
 
 use dover_model::Memory;
 use std::alloc::Global;
@@ -17,12 +18,25 @@ pub struct DueJob {
     pub left: u64,
 }
 
+// What one of a deadline counts for in a turn.
+const DEADLINE: u64 = 1 << 20;
+
+/// A deadline and a number as one number, so that a comparison is one of two numbers. The ticks of a feed are below
+/// 2^40.
+fn turn_of(deadline: u64, number: u64) -> u64
+    requires due { deadline < 2 ^ 44 }
+    requires few { number < 2 ^ 20 }
+    ensures { result ≡ deadline * 2 ^ 20 + number }
+{
+    deadline * DEADLINE + number
+}
+
 /// The jobs that are released and not done, of which the one that is due first is at hand. The jobs are released in
 /// the order of their numbers.
 #[derive(Drop)]
 pub struct DueQueue {
     left: Vec<u64>,
-    turns: BinaryHeap<Reverse<(u64, u32)>>,
+    turns: BinaryHeap<Reverse<u64>>,
 }
 
 impl Model for DueQueue {
@@ -67,15 +81,16 @@ impl DueQueue {
     ///
     /// `Memory` where there is none.
     pub fn release(&mut self, deadline: u64, work: u64) -> Result<(), Memory>
-        requires { self.old.released < 2 ^ 32 }
+        requires due { deadline < 2 ^ 44 }
+        requires few { self.old.released < 2 ^ 20 }
         ensures released { OnOk result (self.new.released ≡ self.old.released + 1) }
         ensures kept { OnOk result
             (IsPermutation (((deadline, self.old.released), work) ∷ self.old.kept) self.new.kept) }
         ensures rises { self.old.released ≤ self.new.released }
     {
-        let number = self.left.len() as u32;
+        let number = self.left.len() as u64;
         self.left.push(work)?;
-        self.turns.push(Reverse((deadline, number)))?;
+        self.turns.push(Reverse(turn_of(deadline, number)))?;
         Ok(())
     }
 
@@ -85,11 +100,14 @@ impl DueQueue {
         ensures none { IfNone result (self.now.kept ≡ []) }
     {
         match self.turns.peek() {
-            Some(Reverse((deadline, number))) => Some(DueJob {
-                deadline: *deadline,
-                number: *number,
-                left: self.left[*number as usize],
-            }),
+            Some(Reverse(turn)) => {
+                let number = (*turn % DEADLINE) as u32;
+                Some(DueJob {
+                    deadline: *turn / DEADLINE,
+                    number,
+                    left: self.left[number as usize],
+                })
+            }
             None => None,
         }
     }

@@ -1,4 +1,4 @@
-use Rattle.std.proofs.Common.{◌+◌, ◌++◌, ◌∷◌, [], map, ap, sym, subst, arith, ◌∙◌}
+use Rattle.std.proofs.Common.{◌≡◌, ◌+◌, ◌-◌, ◌++◌, ◌∷◌, [], map, replicate, ap, sym, subst, arith, ◌∙◌}
 use Rattle.std.specs.Prelude.{ℕ}
 use Rattle.std.specs.List.{filter}
 use Rattle.std.proofs.lemmas.Result.{on_ok_weaker}
@@ -60,8 +60,8 @@ overflow_add-self g c =
     let same = ap (λ (n : ℕ). spent_value (map (given_entry n) c.release.new.ready.items)) is_n in
     omega (arith, most, same, c.requires.total, c.requires.run.served, c.give.ensures.value)
 
-pub extend-requires-clause-number : goal.extend-requires-clause-number
-extend-requires-clause-number g c = λ idle.
+pub add_piece-requires-clause-job : goal.add_piece-requires-clause-job
+add_piece-requires-clause-job g c = λ idle.
     let picks = g.P.Policy.picks c.args.policy.now in
     let low = is_low _ (g.met.P.Policy.law c.args.policy.now) _ c.requires.each c.requires.count _ _ _
     (c.in_ok-self.ensures.ready (tasks_at picks c.args.jobs.now c.args.tick) c.requires.run.ready c.requires.run.later)
@@ -79,15 +79,17 @@ returns g c =
     let is_n = is_picked _ law _ c.requires.each c.requires.count _ _ _ has late _
     (c.in-Some.ensures.by_the_list ∙ ap picks c.deref.ensures.value) in
     let past = schedule_before picks c.args.jobs.now c.args.tick in
+    let one : c.args.tick + 1 - c.args.tick ≡ 1 = omega arith in
     let given = c.give.ensures.given ∙ ap (λ (n : ℕ). map (given_entry n) c.release.new.ready.items) is_n in
-    on_ok_weaker c.extend.result (λ pieces.
+    on_ok_weaker c.add_piece.result (λ pieces.
     run_goes_on picks law c.args.jobs.now c.requires.each c.requires.count c.args.tick c.in_ok-self.field-0
     c.release.new.ready.items has late
     c.args.self.now.value (c.args.self.now.value + c.give.result) c.keep_in_time.new.ready.items
-    c.extend.new.pieces.items
+    c.add_piece.new.pieces.items
     c.requires.run.served
     (c.keep_in_time.ensures ∙ ap (filter (is_in_time (c.args.tick + 1))) given)
     (ap (λ (n : ℕ). c.args.self.now.value + n)
     (c.give.ensures.value ∙ ap (λ (n : ℕ). spent_value (map (given_entry n) c.release.new.ready.items)) is_n))
-    (pieces ∙ ap (λ (n : ℕ). stretches (past ++ n ∷ [])) is_n))
-    (c.extend.ensures past (schedule_length picks c.args.jobs.now c.args.tick) c.requires.run.stretched)
+    (pieces ∙ ap (λ (k : ℕ). stretches (past ++ replicate k c.in-Some.number)) one
+    ∙ ap (λ (n : ℕ). stretches (past ++ n ∷ [])) is_n))
+    (c.add_piece.ensures.stretches past (schedule_length picks c.args.jobs.now c.args.tick) c.requires.run.stretched)
