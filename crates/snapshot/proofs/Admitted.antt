@@ -1,75 +1,35 @@
 -- A job may follow valid ones where they are valid with it, and exactly then its line has no cause.
-use Rattle.std.proofs.Common.{◌≡◌, ℕ, ◌≤◌, ◌<◌, List, [], ◌∷◌, ◌++◌, length, length-append, refl, sym, ap, ◌∙◌, subst}
+use Rattle.std.proofs.Common.{◌≡◌, ℕ, ◌≤◌, ◌<◌, List, [], ◌∷◌, ◌++◌, length, refl, sym, ap, ◌∙◌, subst}
 use Rattle.std.proofs.Common.{Bool, true, false, cond, arith, Option, Some, None}
 use Rattle.std.specs.Prelude.{nat_lt}
 use Rattle.std.specs.List.{AllByRecursion, fold}
 use Rattle.std.specs.Option.{option_map, option_or}
 use Rattle.std.specs.Bool.{then_some}
 use Rattle.std.proofs.lemmas.Bool.{le-ltb, ltb-false}
-use Rattle.std.proofs.lemmas.List.Sums.{fold-append, sum_by-append, sum_by-cons}
+use Rattle.std.proofs.lemmas.List.Sums.{fold-append}
 use Rattle.dover_model.specs.declared.events.Refusal.{Refusal}
 use Rattle.dover_model.specs.declared.events.Task.{Task}
-use Rattle.dover_model.specs.JobFacts.{JobFacts, IsJob}
+use Rattle.dover_model.specs.JobFacts.{JobFacts}
 use Rattle.dover_model.specs.declared.events.Refusal.TheVariants.{Full}
-use Rattle.dover_model.specs.Limits.{most_jobs, most_total, most_ready}
-use Rattle.dover_model.specs.Instance.{declared_by, under, Instance, IsValid, with_jobs}
-use Rattle.dover_model.specs.Instance.{total_value}
-use Rattle.dover_model.specs.Admission.{is_within_ratio_both_ways, refusal_of}
+use Rattle.dover_model.specs.Limits.{most_ready}
+use Rattle.dover_model.specs.Instance.{under, IsValid, with_jobs}
+use Rattle.dover_model.specs.Admission.{refusal_of}
 use Rattle.dover_model.specs.Session.{Session, admitted_jobs, instance_of, refusal_in}
 use Rattle.dover_model.specs.Sound.{jobs_of}
 use Rattle.dover_model.specs.FeedLine.{JobLine}
 use Rattle.dover_model.specs.Feed.{Cause, NotAdmitted, late_cause, later_line_cause}
-use Rattle.dover_model.proofs.Tests.{both}
-use Rattle.dover_model.proofs.Admitting.{admits}
+use Rattle.dover_model.proofs.Admitting.{admits, valid_admitted}
 use Rattle.dover_model.proofs.Fullness.{few_ready}
 use Rattle.dover_model.proofs.Honest.{count_jobs}
-use Rattle.dover_model.proofs.JobSessions.{jobs_back}
-use Rattle.dover_model.proofs.Valid.{all_front, all_from}
-use Rattle.admission.proofs.Refusing.{not_refused}
+use Rattle.dover_model.proofs.JobSessions.{from_zero, jobs_back}
+use Rattle.dover_model.proofs.Members.{all_last}
+use Rattle.dover_model.proofs.Valid.{all_from}
 use Rattle.snapshot.specs.Snapshot.{Head}
 use Rattle.snapshot.specs.Reading.{declared_jobs, last_release}
 use Rattle.snapshot.specs.Stored.{jobs_session}
-use Rattle.dover_model.proofs.ValidParts.{IsWithinRatio, is_within_ratio-agrees, ReleasesInOrder, valid_parts}
+use Rattle.dover_model.proofs.ValidParts.{ReleasesInOrder, valid_parts}
 
--- ---- a valid job is admitted
-
--- what holds of all holds of the last
-pub all_last : {X : Type 0} (P : X → Type 0) (xs : List X) (y : X) → AllByRecursion P (xs ++ y ∷ []) → P y
-all_last P [] y all = all.0
-all_last P (x ∷ xs) y all = all_last P xs y all.1
-
--- what holds of each with the last, and of the last with each
-all_pairs : {X : Type 0} (R : X → X → Type 0) (xs : List X) (y : X)
-    → AllByRecursion (λ x. AllByRecursion (R x) (xs ++ y ∷ [])) (xs ++ y ∷ [])
-    → AllByRecursion (λ x. R x y × R y x) xs
-all_pairs R xs y all = pairs xs (all_front (λ x. AllByRecursion (R x) (xs ++ y ∷ [])) xs (y ∷ []) all)
-    (all_front (R y) xs (y ∷ []) (all_last (λ x. AllByRecursion (R x) (xs ++ y ∷ [])) xs y all)) where
-      pairs : (us : List _) → AllByRecursion (λ x. AllByRecursion (R x) (xs ++ y ∷ [])) us → AllByRecursion (R y) us
-          → AllByRecursion (λ x. R x y × R y x) us
-      pairs [] one other = tt
-      pairs (u ∷ us) one other = ((all_last (R u) xs y one.0, other.0), pairs us one.1 other.1)
-
--- a job that is valid behind others isn't refused
-pub valid_admitted : (J : Instance) (j : JobFacts) → IsValid (with_jobs J (j ∷ []))
-    → refusal_of (declared_by J.rules) J.jobs j ≡ None
-valid_admitted J j valid = not_refused (declared_by J.rules) J.jobs j (all_last IsJob J.jobs j (valid_parts valid).each)
-    (let most : length (J.jobs ++ j ∷ []) ≤ most_jobs J.rules.version = (valid_parts valid).count in
-    omega (arith, length-append J.jobs (j ∷ [])))
-    (let most : total_value (J.jobs ++ j ∷ []) ≤ most_total J.rules.version = (valid_parts valid).total in
-    omega (
-      arith,
-      sum_by-append (λ (i : JobFacts). i.value) J.jobs (j ∷ []),
-      sum_by-cons (λ (i : JobFacts). i.value) j [],
-    ))
-    (keeps J.jobs (all_pairs (IsWithinRatio J.rules.ratio) J.jobs j (valid_parts valid).densities)) where
-      keeps : (jobs : List JobFacts)
-          → AllByRecursion (λ i. IsWithinRatio J.rules.ratio i j × IsWithinRatio J.rules.ratio j i) jobs
-          → AllByRecursion (λ i. is_within_ratio_both_ways J.rules.ratio i j ≡ true) jobs
-      keeps [] all = tt
-      keeps (i ∷ jobs) all = (
-        (both _ _ (is_within_ratio-agrees J.rules.ratio i j) (is_within_ratio-agrees J.rules.ratio j i)).1 all.0,
-        keeps jobs all.1,
-      )
+-- ---- among few
 
 -- behind few jobs one is refused by itself and the jobs before it
 pub refusal_few : (S : Session) (j : JobFacts) → length (admitted_jobs S.items) < most_ready
@@ -181,7 +141,4 @@ module _ (h : Head) (tasks : List Task) (t : Task) where
         (all_from (λ (j : JobFacts). j.release ≤ last_release tasks) (λ j. j.release ≤ t.job.release) (jobs_of tasks)
         (λ j low. omega arith) all)
         (ap (λ jobs. refusal_of h.rules jobs t.job) (sym (jobs_back (jobs_of tasks)))
-        ∙ sym (refusal_few (jobs_session h tasks) t.job (few_jobs few)) ∙ not_any refusal e)) where
-          from_zero : (jobs : List JobFacts) → AllByRecursion (λ (j : JobFacts). 0 ≤ j.release) jobs
-          from_zero [] = tt
-          from_zero (j ∷ jobs) = (omega arith, from_zero jobs)
+        ∙ sym (refusal_few (jobs_session h tasks) t.job (few_jobs few)) ∙ not_any refusal e))

@@ -21,15 +21,16 @@ use Rattle.dover_model.specs.FeedLine.{FeedLine, JobLine, DoneLine, feed_line, f
 use Rattle.dover_model.specs.Feed.{Account, Lines, Line, Order, NotAdmitted, NotDone, late_cause, with_fault}
 use Rattle.dover_model.specs.Feed.{with_line, cause_of, next_line}
 use Rattle.dover_model.proofs.FeedLines.{feed_line-feed_text}
+use Rattle.dover_model.proofs.Admitting.{valid_admitted}
 use Rattle.dover_model.proofs.Barriers.{settled_at_barrier}
 use Rattle.dover_model.proofs.Growing.{job_instance, Finishes, finishing_job}
 use Rattle.dover_model.proofs.Limiting.{jobs_most}
+use Rattle.dover_model.proofs.Members.{all_last}
 use Rattle.dover_model.proofs.Resting.{numbers_below}
 use Rattle.dover_model.proofs.Tests.{none_is_some}
 use Rattle.event_feed.specs.Reading.{open_account}
 use Rattle.event_feed.proofs.Counting.{after_form}
 use Rattle.snapshot.specs.Kept.{item_lines}
-use Rattle.snapshot.proofs.Admitted.{valid_admitted, all_last}
 use Rattle.snapshot.proofs.Came.{front_valid}
 use Rattle.event_feed.proofs.Saying.{job_numerals}
 use Rattle.snapshot.proofs.RunItems.{NoneRefused}
