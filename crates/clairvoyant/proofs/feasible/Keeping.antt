@@ -103,7 +103,8 @@ head_apart t turns once u member same =
     )
 
 -- a new number is there once
-new_apart : (t : Turn) (turns now : List Turn) → IsPermutation (t ∷ turns) now → Each (λ u. (key_of u).1 < (key_of t).1) turns
+new_apart : (t : Turn) (turns now : List Turn) → IsPermutation (t ∷ turns) now
+    → Each (λ u. (key_of u).1 < (key_of t).1) turns
     → ((n : ℕ) → sum_by (is_of n) turns ≤ 1)
     → (n : ℕ) → sum_by (is_of n) now ≤ 1
 new_apart t turns now moved low once n = by_number (cases_eq (key_of t).1 n) where
@@ -216,7 +217,8 @@ pub first_due : (left : List ℕ) (turns : List Turn) (t : Turn) → IsInTurn le
     → IsUpperBound turn_cmp t turns
     → IsFirst (key_of t, slice_index_or left (key_of t).1 0) (kept_of left turns)
 first_due left turns t it some is bound = by_head (head_of turns t some is) where
-  by_head : ((rest : List Turn) × (turns ≡ t ∷ rest)) → IsFirst (key_of t, slice_index_or left (key_of t).1 0) (kept_of left turns)
+  by_head : ((rest : List Turn) × (turns ≡ t ∷ rest))
+      → IsFirst (key_of t, slice_index_or left (key_of t).1 0) (kept_of left turns)
   by_head head =
       let same : turns ≡ t ∷ head.0 = head.1 in
       let all : IsUpperBound turn_cmp t (t ∷ head.0) = subst (IsUpperBound turn_cmp t) same bound in
