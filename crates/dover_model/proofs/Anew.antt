@@ -32,7 +32,8 @@ use Rattle.dover_model.proofs.Resting.{at_tick, RunsFrom, alone, joined, runs_al
 use Rattle.dover_model.proofs.Resting.{due_least, dues_mono}
 use Rattle.dover_model.proofs.Apart.{settled_at_rest, behind_last}
 use Rattle.dover_model.proofs.Calculus.{within_less, none_within}
-use Rattle.dover_model.proofs.Parting.{worth_to, worth_append, within_add}
+use Rattle.dover_model.proofs.Parting.{worth_to, worth_append}
+use Rattle.dover_model.proofs.Calculus.{within_add}
 use Rattle.dover_model.proofs.ValidParts.{valid_parts}
 use Rattle.dover_model.proofs.JobLimits.{job_limits}
 

@@ -24,7 +24,8 @@ use Rattle.dover_model.proofs.Apart.{before_append, behind_last}
 use Rattle.dover_model.proofs.Turns.{behind_twice, behind_none, before_twice, before_behind}
 use Rattle.dover_model.proofs.BoundLaws.{bound, observed_bound}
 use Rattle.dover_model.proofs.Calculus.{within_less, none_within}
-use Rattle.dover_model.proofs.Parting.{within_add, worth_append}
+use Rattle.dover_model.proofs.Parting.{worth_append}
+use Rattle.dover_model.proofs.Calculus.{within_add}
 use Rattle.dover_model.proofs.Members.{each_append}
 
 module _ (rules : Rules) where

@@ -1,9 +1,33 @@
 -- The limits of a ratio and of a job, one by one, as facts.
-use Rattle.std.proofs.Common.{◌+◌, ◌≤◌, ◌↔◌, IsTrue}
+use Rattle.std.proofs.Common.{◌+◌, ◌≤◌, ◌<◌, ◌↔◌, IsTrue}
+use Rattle.std.specs.Prelude.{Some}
 use Rattle.dover_model.specs.Limits.{most_p, most_q, last_tick, most_value}
-use Rattle.dover_model.specs.Fraction.{Fraction, IsRatio, is_ratio}
+use Rattle.dover_model.specs.Fraction.{Fraction, IsRatio, is_ratio, is_factor, is_some_factor}
+use Rattle.dover_model.specs.declared.factors.Factor.{Factor}
 use Rattle.dover_model.specs.JobFacts.{JobFacts, IsJob, is_job}
-use Rattle.dover_model.proofs.Tests.{both, at_most}
+use Rattle.dover_model.proofs.Tests.{both, at_most, below}
+
+-- ---- a factor
+
+-- its limits
+pub record FactorLimits (f : Factor) : Type 0 where
+  pub least : 1 ≤ f.c
+  pub more : f.c < f.b
+  pub small_c : f.c ≤ most_q
+  pub small_b : f.b ≤ most_p
+
+-- a factor is within its limits
+pub factor_limits : (f : Factor) → IsTrue (is_some_factor (Some f)) → FactorLimits f
+factor_limits f h =
+    let x = parts.0 h in record { least = x.0.0.0; more = x.0.0.1; small_c = x.0.1; small_b = x.1 } where
+      parts : IsTrue (is_factor f) ↔ ((((1 ≤ f.c) × (f.c < f.b)) × (f.c ≤ most_q)) × (f.b ≤ most_p))
+      parts = both _ _ (both _ _ (both _ _ (at_most _ _) (below _ _)) (at_most _ _)) (at_most _ _)
+
+-- what is within them is a factor
+pub factor_from : (f : Factor) → FactorLimits f → IsTrue (is_some_factor (Some f))
+factor_from f limits = parts.1 (((limits.least, limits.more), limits.small_c), limits.small_b) where
+  parts : IsTrue (is_factor f) ↔ ((((1 ≤ f.c) × (f.c < f.b)) × (f.c ≤ most_q)) × (f.b ≤ most_p))
+  parts = both _ _ (both _ _ (both _ _ (at_most _ _) (below _ _)) (at_most _ _)) (at_most _ _)
 
 -- ---- a ratio
 
@@ -13,15 +37,24 @@ pub record RatioLimits (k : Fraction) : Type 0 where
   pub above_one : k.q ≤ k.p
   pub small_q : k.q ≤ most_q
   pub small_p : k.p ≤ most_p
+  pub factor : IsTrue (is_some_factor k.factor)
 
 -- as the test says
 limits_of_ratio : (k : Fraction) → IsTrue (is_ratio k) ↔ RatioLimits k
 limits_of_ratio k = (
-  λ h. let f = parts.0 h in record { least = f.0.0.0; above_one = f.0.0.1; small_q = f.0.1; small_p = f.1 },
-  λ r. parts.1 (((r.least, r.above_one), r.small_q), r.small_p),
+  λ h. let f = parts.0 h in record {
+    least = f.0.0.0.0;
+    above_one = f.0.0.0.1;
+    small_q = f.0.0.1;
+    small_p = f.0.1;
+    factor = f.1;
+  },
+  λ r. parts.1 ((((r.least, r.above_one), r.small_q), r.small_p), r.factor),
 ) where
-  parts : IsTrue (is_ratio k) ↔ ((((1 ≤ k.q) × (k.q ≤ k.p)) × (k.q ≤ most_q)) × (k.p ≤ most_p))
-  parts = both _ _ (both _ _ (both _ _ (at_most _ _) (at_most _ _)) (at_most _ _)) (at_most _ _)
+  parts : IsTrue (is_ratio k)
+      ↔ (((((1 ≤ k.q) × (k.q ≤ k.p)) × (k.q ≤ most_q)) × (k.p ≤ most_p)) × IsTrue (is_some_factor k.factor))
+  parts = both _ _ (both _ _ (both _ _ (both _ _ (at_most _ _) (at_most _ _)) (at_most _ _)) (at_most _ _))
+      (λ h. h, λ h. h)
 
 -- a ratio is within its limits
 pub ratio_limits : {k : Fraction} → IsRatio k → RatioLimits k

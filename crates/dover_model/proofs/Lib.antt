@@ -6,6 +6,7 @@ pub mod FeedRows
 pub mod RefusedLineRows
 pub mod LimitRows
 pub mod VerdictRows
+pub mod FactorRows
 pub mod ReportRows
 pub mod BoundRows
 pub mod PieceRows
@@ -13,9 +14,12 @@ pub mod GeneratorRows
 pub mod BaitRows
 pub mod RestRows
 pub mod FinishRows
+pub mod SureRows
 pub mod ThreeRows
+pub mod SwitchRows
 pub mod Tests
 pub mod Calculus
+mod LeastBound
 pub mod JobLimits
 pub mod ValidParts
 pub mod SessionParts
@@ -90,15 +94,26 @@ pub mod OverFor
 pub mod RightFinishes
 pub mod Early
 pub mod Once
+pub mod Stacks
+pub mod Sure
+pub mod Switching
 pub mod Honest
+pub mod Stretches
+pub mod PayingForward
 pub mod Numerals
 pub mod Counting
 pub mod Books
+pub mod Streams
 pub mod Booking
 pub mod Closing
 pub mod Booked
 pub mod BookedRun
 pub mod BoundLaws
+pub mod LongerJobs
+pub mod Families
+pub mod FewChanges
+pub mod Augmented
+pub mod SlowerLaws
 pub mod Fields
 pub mod FeedLines
 pub mod GreatestLaws
@@ -119,6 +134,7 @@ pub mod NeverFull
 pub mod TraceEnds
 pub mod Accepting
 pub mod WrongStays
+pub mod AcceptedTexts
 pub mod JobSessions
 pub mod Former
 pub mod Shown

@@ -1,12 +1,11 @@
 -- What schedules of all jobs give to the jobs of a part, and sums of bounds.
-use Rattle.std.proofs.Common.{◌≡◌, ℕ, suc, ◌+◌, ◌-◌, ◌*◌, ◌^◌, ◌≤◌, ◌<◌, inl, inr, List, [], ◌∷◌, ◌++◌}
+use Rattle.std.proofs.Common.{◌≡◌, ℕ, suc, ◌+◌, ◌-◌, ◌^◌, ◌≤◌, ◌<◌, inl, inr, List, [], ◌∷◌, ◌++◌}
 use Rattle.std.proofs.Common.{length, drop, take, map}
 use Rattle.std.proofs.Common.{refl, sym, ap, ◌∙◌, subst, arith, cond, eqb, Bool, true, false, IsTrue}
 use Rattle.std.specs.List.{count_by, sum_by, filter, enumerate_from, AllByRecursion}
 use Rattle.std.proofs.lemmas.Bool.{le-leb, leb-true, eqb-true, eq-eqb, ne_eqb}
 use Rattle.std.proofs.lemmas.List.{take-map, drop-map}
 use Rattle.std.proofs.lemmas.List.Sums.{sum_by-cons, sum_by-append}
-use Rattle.std.proofs.lemmas.Nat.{mul-le}
 use Rattle.dover_model.specs.JobFacts.{JobFacts}
 use Rattle.dover_model.specs.Fraction.{Fraction}
 use Rattle.dover_model.specs.Instance.{Rules, Instance, IsValid, total_value}
@@ -22,7 +21,7 @@ use Rattle.dover_model.proofs.Members.{sum_le, sum_plus, term_le_sum, all_member
 use Rattle.dover_model.proofs.GreatestLaws.{bound-is}
 use Rattle.dover_model.proofs.Runs.{none_lost, all_value}
 use Rattle.dover_model.proofs.BoundLaws.{bound as no_more, intervals_abandon}
-use Rattle.dover_model.proofs.Calculus.{below_add, within_less, within_agrees, none_within}
+use Rattle.dover_model.proofs.Calculus.{within_less, within_add, none_within}
 use Rattle.dover_model.specs.Books.{Job}
 use Rattle.dover_model.proofs.Limiting.{total_most}
 use Rattle.dover_model.proofs.ValidParts.{valid_parts}
@@ -227,21 +226,7 @@ module _ (owner : ℕ → ℕ) (jobs : List JobFacts) where
 
 -- ---- bounds
 
--- what is within two values is together within their sum
-pub within_add : (k : Fraction) (c c2 a a2 : ℕ) → IsWithin k c a → IsWithin k c2 a2 → IsWithin k (c + c2) (a + a2)
-within_add k c c2 a a2 one other =
-    by_excess (k.q * c - (k.p + k.q) * a) (k.q * c2 - (k.p + k.q) * a2) ((within_agrees k c a).0 one)
-    ((within_agrees k c2 a2).0 other) (omega arith) where
-      by_excess : (x x2 : ℕ) → x * x ≤ 4 * k.p * k.q * a * a → x2 * x2 ≤ 4 * k.p * k.q * a2 * a2
-          → k.q * (c + c2) - (k.p + k.q) * (a + a2) ≤ x + x2 → IsWithin k (c + c2) (a + a2)
-      by_excess x x2 one other most =
-          let both : (x + x2) * (x + x2) ≤ 4 * k.p * k.q * (a + a2) * (a + a2) =
-          below_add (4 * k.p * k.q) x x2 a a2 one other in
-          let square : (k.q * (c + c2) - (k.p + k.q) * (a + a2)) * (k.q * (c + c2) - (k.p + k.q) * (a + a2)) ≤ (x + x2)
-          * (x + x2) =
-          mul-le _ _ _ _ most most in (within_agrees k (c + c2) (a + a2)).1 (omega (arith, both, square))
-
--- and so are many
+-- what is within many values is together within their sum
 pub within_sum : {X : Type 0} (k : Fraction) (f g : X → ℕ) (xs : List X) → Each (λ x. IsWithin k (f x) (g x)) xs
     → IsWithin k (sum_by f xs) (sum_by g xs)
 within_sum k f g [] all = none_within k

@@ -26,6 +26,7 @@ use Rattle.dover_model.specs.Sound.{IsMember, Each, Keeps}
 use Rattle.dover_model.specs.Session.{Item, JobItem, instance_of}
 use Rattle.dover_model.specs.Session.{admitted_jobs, early_finishes, session_with}
 use Rattle.dover_model.specs.Session.{may_finish_early, IsValidSession, IsNeverFull}
+use Rattle.dover_model.proofs.SessionParts.{early_declarable}
 use Rattle.dover_model.specs.Trace.{early_of, handed_by, session_of_run}
 use Rattle.dover_model.proofs.Members.{found, some_same}
 use Rattle.dover_model.proofs.Roles.{passes, is_running_role}
@@ -331,6 +332,7 @@ module _ (J : Instance) (valid : IsValid J) where
   pub run_session_valid : may_finish_early J.rules.version ≡ true → IsNeverFull (session_of_run J)
       → IsValidSession (session_of_run J)
   run_session_valid three never = session_from (record {
+    declared = early_declarable (declared_by J.rules) three;
     jobs = valid_run;
     count = few;
     items = follows_run three (run J) [] (opening J.jobs) refl (run_is_whole J valid) 0 (omega arith) never;

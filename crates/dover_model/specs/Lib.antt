@@ -21,10 +21,14 @@ pub mod WholeRun
 pub mod Paths
 pub mod Leading
 pub mod Online
+pub mod Sure
 pub mod Underload
 pub mod WaitingMoves
 pub mod Weights
 pub mod Spending
+pub mod Switches
+pub mod Slower
+pub mod Forward
 pub mod Processor
 pub mod Greatest
 pub mod Bound

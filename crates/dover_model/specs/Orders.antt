@@ -1,8 +1,9 @@
 -- The two orders of jobs, and the threshold of a take.
-use Rattle.std.specs.Prelude.{ℕ, ◌-◌, ◌*◌, List, Bool, ◌&&◌, nat_lt, IsTrue, if◌then◌else◌, Option}
+use Rattle.std.specs.Prelude.{ℕ, ◌-◌, ◌*◌, List, Bool, ◌&&◌, nat_lt, IsTrue, if◌then◌else◌, Option, Some, None}
 use Rattle.std.specs.List.{reduce}
 use Rattle.dover_model.specs.declared.events.Version.{Version}
 use Rattle.dover_model.specs.Fraction.{Fraction}
+use Rattle.dover_model.specs.declared.factors.Factor.{Factor}
 use Rattle.dover_model.specs.declared.events.Task.{Task}
 use Rattle.dover_model.specs.Entries.{entry_of, is_due_before, is_start_before}
 
@@ -22,9 +23,14 @@ earlier before best t = if before t best then t else best
 abbrev pub first : {X : Type 0} → (X → X → Bool) → List X → Option X
 first before xs = reduce (earlier before) xs
 
--- whether the value v is more than (1 + √(p/q)) times w
+-- whether the value v, where it is more than w, is more than so many times w: by the factor b/c, or by (1 + √(p/q))
+abbrev pub is_over : Fraction → Option Factor → ℕ → ℕ → Bool
+is_over k None v w = nat_lt (k.p * w * w) (k.q * (v - w) * (v - w))
+is_over k (Some f) v w = nat_lt (f.b * w) (f.c * v)
+
+-- whether the value v is more than w, and more than so many times w
 abbrev pub is_heavy : Fraction → ℕ → ℕ → Bool
-is_heavy k v w = nat_lt w v && nat_lt (k.p * w * w) (k.q * (v - w) * (v - w))
+is_heavy k v w = nat_lt w v && is_over k k.factor v w
 
 -- the same as a fact
 abbrev pub IsHeavy : Fraction → ℕ → ℕ → Type 0

@@ -3,6 +3,7 @@
 
 pub mod bound_laws;
 pub mod events;
+pub mod factors;
 pub mod horizon;
 pub mod jobs;
 mod kind;
@@ -11,9 +12,11 @@ pub mod pieces;
 pub mod ratios;
 pub mod rest_laws;
 pub mod run_laws;
+pub mod switch_laws;
 pub mod trace_laws;
 
 pub use events::{Entry, Event, Refusal, Role, Task, Version};
+pub use factors::Factor;
 pub use horizon::Horizon;
 pub use jobs::Job;
 pub use packed::PackedEvent;

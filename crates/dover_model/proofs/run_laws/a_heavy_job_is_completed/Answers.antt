@@ -1,0 +1,11 @@
+use Rattle.dover_model.proofs.Sure.{heavy_throughout, heavy_at_start, heavy_beside}
+use Rattle.dover_model.proofs.run_laws.a_heavy_job_is_completed.Goals as goal
+
+pub returns-clause-throughout : goal.returns-clause-throughout
+returns-clause-throughout c = heavy_throughout
+
+pub returns-clause-undisturbed : goal.returns-clause-undisturbed
+returns-clause-undisturbed c = heavy_at_start
+
+pub returns-clause-by_sum : goal.returns-clause-by_sum
+returns-clause-by_sum c = heavy_beside

@@ -1,0 +1,14 @@
+use Rattle.dover_model.proofs.Streams.{sure_streams, sure_of_stream, heavy_by_sum, heavy_by_sets}
+use Rattle.dover_model.proofs.run_laws.a_sure_job_is_completed.Goals as goal
+
+pub returns-clause-completed : goal.returns-clause-completed
+returns-clause-completed c = sure_streams
+
+pub returns-clause-of_stream : goal.returns-clause-of_stream
+returns-clause-of_stream c = sure_of_stream
+
+pub returns-clause-by_sum : goal.returns-clause-by_sum
+returns-clause-by_sum c = heavy_by_sum
+
+pub returns-clause-by_sets : goal.returns-clause-by_sets
+returns-clause-by_sets c = heavy_by_sets

@@ -1,0 +1,5 @@
+use Rattle.dover_model.proofs.AcceptedTexts.{accepted_is_trace}
+use Rattle.dover_model.proofs.trace_laws.accepted_texts_are_traces.Goals as goal
+
+pub returns : goal.returns
+returns c = accepted_is_trace

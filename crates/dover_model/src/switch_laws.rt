@@ -1,0 +1,106 @@
+//! Laws of how often the processor changes hands, and of what that costs, each the contract of a function that does
+//! nothing.
+ghost use Rattle.std.specs.Prelude.{None, ◌≡◌, ◌≤◌, ◌+◌, ◌-◌, ◌*◌, ℕ, List, length, true, false};
+ghost use Rattle.std.specs.List.{count_by};
+ghost use Rattle.dover_model.specs.Instance.{Instance, IsValid};
+ghost use Rattle.dover_model.specs.JobFacts.{JobFacts};
+ghost use Rattle.dover_model.specs.Schedules.{numbered, ticks_given, worth};
+ghost use Rattle.dover_model.specs.Run.{Step, run, ran, completed_value};
+ghost use Rattle.dover_model.specs.Bound.{IsWithin};
+ghost use Rattle.dover_model.specs.Finishes.{need};
+ghost use Rattle.dover_model.specs.Forward.{AreLoaded, gains_from};
+ghost use Rattle.dover_model.specs.Fraction.{Fraction};
+ghost use Rattle.dover_model.specs.Slower.{AskAtMost, IsWithinSlower, worth_by};
+ghost use Rattle.dover_model.specs.Observed.{end_state, observed};
+ghost use Rattle.dover_model.specs.State.{is_done};
+ghost use Rattle.dover_model.specs.declared.events.Task.{Task};
+ghost use Rattle.dover_model.specs.Sound.{IsMember};
+ghost use Rattle.dover_model.specs.Processor.{is_complete, is_take_of};
+ghost use Rattle.dover_model.specs.Switches.{gets, changes_hands, is_preempted, is_taken_from, is_complete_of, starts};
+ghost use Rattle.dover_model.specs.Switches.{returns, ComesBehind, may_preempt, may_take, most_changes, useful, NeedNoLess, AreOfTask};
+
+/// A job gets the processor once, and once more for each time that it was preempted or that a take stopped it. Only
+/// jobs that are released no sooner and due before it preempt it, only jobs that are heavy against it take the
+/// processor from it while it runs, and each of them once at most.
+pub fn few_jobs_stop_a_job()
+    ensures paid { (J : Instance) (n_j : ℕ × JobFacts) → IsValid J → IsMember n_j (numbered J)
+        → count_by (λ x. gets n_j.0 x.move) (run J) ≤ 1 + count_by (λ x. is_preempted n_j.0 x.move) (run J)
+        + count_by (λ x. is_taken_from n_j.0 x.move) (run J) }
+    ensures preempt { (J : Instance) (n_j : ℕ × JobFacts) → IsValid J → IsMember n_j (numbered J)
+        → count_by (λ x. is_preempted n_j.0 x.move) (run J) ≤ count_by (may_preempt n_j.1) (numbered J) }
+    ensures take { (J : Instance) (n_j : ℕ × JobFacts) → IsValid J → IsMember n_j (numbered J)
+        → count_by (λ x. is_taken_from n_j.0 x.move) (run J) ≤ count_by (may_take J.rules.ratio n_j.1) (numbered J) }
+    ensures gets { (J : Instance) (n_j : ℕ × JobFacts) → IsValid J → IsMember n_j (numbered J)
+        → count_by (λ x. gets n_j.0 x.move) (run J) ≤ most_changes J.rules.ratio (numbered J) n_j.1 }
+{}
+
+/// Of the jobs of one task few may stop a job: those that preempt it come while its window is longer than theirs would
+/// be, and those that take the processor from it have a window that meets its own.
+pub fn few_jobs_of_a_task_stop_a_job()
+    ensures preempt { (i : JobFacts) (distance due : ℕ) (jobs : List (ℕ × JobFacts)) → 1 ≤ distance
+        → AreOfTask distance due jobs
+        → distance * count_by (may_preempt i) jobs ≤ (i.deadline - (i.release + due)) + (distance - 1) }
+    ensures take { (k : Fraction) (i : JobFacts) (distance due : ℕ) (jobs : List (ℕ × JobFacts)) → 1 ≤ distance
+        → AreOfTask distance due jobs
+        → distance * count_by (may_take k i) jobs ≤ (i.deadline + due - (i.release + 1)) + (distance - 1) }
+{}
+
+/// Over a run the processor changes hands as often as jobs complete, preempt and take: three times for each job at most,
+/// and three times less where there are two jobs or more.
+pub fn the_processor_changes_hands_few_times()
+    ensures most { (J : Instance) → IsValid J → count_by (λ x. changes_hands x.move) (run J) ≤ 3 * length J.jobs }
+    ensures fewer { (J : Instance) → IsValid J → 2 ≤ length J.jobs
+        → count_by (λ x. changes_hands x.move) (run J) + 3 ≤ 3 * length J.jobs }
+{}
+
+/// Each change of hands is paid for by one job, three times at most: by the one that starts, as it is released, by the
+/// one that takes, or by the one that is done, where another gets the processor back right behind it.
+pub fn each_change_has_a_payer()
+    ensures starts { (J : Instance) (n_j : ℕ × JobFacts) → IsValid J → IsMember n_j (numbered J)
+        → count_by (starts n_j.0) (run J) ≤ 1 }
+    ensures completes { (J : Instance) (n_j : ℕ × JobFacts) → IsValid J → IsMember n_j (numbered J)
+        → count_by (λ x. is_complete_of n_j.0 x.move) (run J) ≤ 1 }
+    ensures returns { (J : Instance) → IsValid J → ComesBehind (λ x. is_complete x.move) returns false (run J) }
+{}
+
+/// Where each change of hands costs so many ticks, a job loses no more of what it had than it got the processor, times
+/// that. A job that is done got on with all its work, where its budget pays for the most that it may lose.
+pub fn budgets_pay_for_changes()
+    ensures given { (J : Instance) (cost : ℕ) (n_j : ℕ × JobFacts) → IsValid J → IsMember n_j (numbered J)
+        → ticks_given (ran J) n_j.0 n_j.1 ≤ useful cost (ran J) n_j
+        + cost * count_by (λ x. gets n_j.0 x.move) (run J) }
+    ensures had { (J : Instance) (cost : ℕ) (t : Task) → IsValid J → IsMember t (end_state J).tasks
+        → t.had ≤ useful cost (ran J) (t.number, t.job) + cost * count_by (λ x. gets t.number x.move) (run J) }
+    ensures enough { (J : Instance) (cost real : ℕ) (t : Task) → IsValid J → IsMember t (end_state J).tasks
+        → is_done t ≡ true
+        → real + cost * most_changes J.rules.ratio (numbered J) t.job ≤ need J.rules.finishes t.number t.job.work
+        → real ≤ useful cost (ran J) (t.number, t.job) }
+{}
+
+/// Three ticks a job are enough where each job that starts or takes loads itself in its first tick, and each that is done
+/// has loaded the one behind it in its last: no job gets on that the processor doesn't hold, and a job that is done got
+/// on with all its work, if its budget is three ticks more.
+pub fn three_ticks_pay_for_changes()
+    ensures loaded { (J : Instance) → IsValid J → AreLoaded false false None (run J) }
+    ensures had { (J : Instance) (t : Task) → IsValid J → IsMember t (end_state J).tasks
+        → t.had ≤ gains_from t.number false (run J) + 3 }
+    ensures enough { (J : Instance) (real : ℕ) (t : Task) → IsValid J → IsMember t (end_state J).tasks
+        → is_done t ≡ true → real + 3 ≤ need J.rules.finishes t.number t.job.work
+        → real ≤ gains_from t.number false (run J) }
+{}
+
+/// A schedule of jobs that need no less, in windows that are no longer, is worth no more than the run's bound.
+pub fn no_schedule_of_longer_jobs_is_worth_more()
+    ensures less { (J K : Instance) (s : List ℕ) → NeedNoLess K.jobs J.jobs → worth K s ≤ worth J s }
+    ensures bound { (J K : Instance) (s : List ℕ) → IsValid J → NeedNoLess K.jobs J.jobs
+        → IsWithin J.rules.ratio (worth K s) (completed_value J) }
+{}
+
+/// Where each job of a run asks for at most 1 + e times what a schedule needs for it, the schedule is worth at most
+/// (1 + √k)² · (1 + e · √k) times what the run completes, or where a factor β is declared (1 + e·k)·β + (1 + e)·k + the
+/// greater of 1 and (1 + e)·k/(β-1) times it. So it is where budgets have switches in them, and the schedule has none.
+pub fn no_schedule_without_switches_is_worth_much_more()
+    ensures { (J : Instance) (e : Fraction) (works : ℕ → ℕ) (s : List ℕ) → IsValid J → 1 ≤ e.q
+        → AskAtMost e works (observed J)
+        → IsWithinSlower J.rules.ratio e (worth_by works (observed J) s) (completed_value J) }
+{}
