@@ -2,17 +2,19 @@
 #![tactic(auto)]
 
 mod calls;
+mod counted;
 mod memory;
 mod output;
 mod port;
 mod puts;
-mod standard;
 mod status;
+mod stream;
+mod told;
 
 pub use calls::Calls;
 pub use memory::MemoryPort;
 pub use output::{OUTPUT_BYTES, Output};
 pub use port::{Failed, Port};
 pub use puts::put_all;
-pub use standard::StdPort;
 pub use status::Status;
+pub use stream::StreamPort;
