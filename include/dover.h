@@ -12,8 +12,9 @@
            deadline. Since the last moment of rest: 1,000,000 jobs, and 10,000,000,000,000 in value; in version 3
            4,000,000,000 jobs, and 999,999,999,999,999,999 in value. Rest is where dover_step answers DOVER_NONE and no
            job is open: dover_room is then the room that there was at first. From there on these two limits and that of
-           densities start anew; the clock and the numbers go on. An engine that never rests answers DOVER_COUNT or
-           DOVER_TOTAL from such a limit on till the open jobs are over.
+           densities start anew, each time; the clock and the numbers go on. An engine that never rests answers
+           DOVER_COUNT or DOVER_TOTAL from such a limit on till the open jobs are over. No rest lifts two: the last
+           tick, and 10,000,000,000,000,000,000 jobs in all, which are 10,000,000 for each tick that there is.
    Memory  dover_init takes all of it: 116 bytes for each job of the capacity and a little more. No later call takes
            or gives back any, but dover_drop, which gives all back.
    Errors  Every call answers whatever it is asked, in any order, of a place that dover_init was called for, and of one
@@ -23,8 +24,9 @@
            handler, or from the forked child of a process with threads. No call blocks, waits, locks or reads a clock.
    Time    With d the binary digits of one more than the open jobs, a step costs at most 12 * d comparisons, and a take
            2 * d more for each job that is held: it moves all of them at once, and the capacity bounds them. All steps
-           together cost at most 1,600 for each job: 20 for each binary digit of their count since the last moment of
-           rest, 20 digits at most, and each of the four times at most that a job begins or ceases to wait. */
+           together cost at most 1,600 for each job, and in version 3 at most 2,560: 20 for each binary digit of their
+           count since the last moment of rest, 20 digits at most and in version 3 at most 32, and each of the four
+           times at most that a job begins or ceases to wait. */
 #ifndef DOVER_H
 #define DOVER_H
 #include <stddef.h>
@@ -35,7 +37,7 @@ extern "C" {
 
 /* A place for an engine: static, on a stack or in an arena, at a multiple of 8 bytes. From dover_init on nobody but
    these calls reads or writes it. It isn't moved or copied. */
-#define DOVER_WORDS 80
+#define DOVER_WORDS 83
 typedef struct { uint64_t opaque[DOVER_WORDS]; } dover;
 
 /* How many bytes an engine takes: at most sizeof(dover). Test it once, at the start. */
@@ -45,6 +47,11 @@ size_t dover_size(void);
    dover_drop it leaks the first one's memory. */
 void dover_init(dover *, uint32_t p, uint32_t q, uint32_t version, uint32_t capacity);
 
+/* The same with a factor b/c of one's own, in any version: a waiting job at its latest start takes the processor where
+   it is worth more than b/c times what runs and is held together. 1 <= c <= 1,000, c < b <= 1,000,000. With dover_init
+   it has to be worth more than 1 + the root of p/q times as much. */
+void dover_init_factor(dover *, uint32_t p, uint32_t q, uint32_t version, uint32_t capacity, uint32_t b, uint32_t c);
+
 /* Whether there is an engine, and else why not: of the causes for which none was made the first that held. */
 enum {
     DOVER_MADE = 5,
@@ -52,6 +59,7 @@ enum {
     DOVER_BAD_VERSION = 4,  /* the version is none of 1, 2 and 3: from 2 on value breaks ties of deadlines, and in 3 a
                                job may be done before its work is out */
     DOVER_BAD_RATIO = 1,    /* p/q is out of its limits */
+    DOVER_BAD_FACTOR = 6,   /* b/c is out of its limits; dover_init never says so */
     DOVER_BAD_CAPACITY = 2, /* above 1,000,000 */
     DOVER_NO_MEMORY = 3
 };
@@ -70,7 +78,8 @@ enum {
     DOVER_COUNT = 3,     /* the most jobs since the last moment of rest */
     DOVER_TOTAL = 4,     /* too much value since then */
     DOVER_DENSITY = 5,   /* its density and that of a job since then, which `number` names, break the ratio */
-    DOVER_FULL = 6       /* as many jobs are open as the capacity allows: wait till one is over, or drop the job */
+    DOVER_FULL = 6,      /* as many jobs are open as the capacity allows: wait till one is over, or drop the job */
+    DOVER_NUMBERS = 8    /* the most jobs in all */
 };
 dover_admitted dover_admit(dover *, uint64_t release, uint64_t work, uint64_t deadline, uint64_t value);
 
@@ -93,7 +102,8 @@ enum {
 uint32_t dover_done(dover *, uint64_t tick, uint64_t job);
 
 /* The next decision that no job can change that is released at the mark or later, or DOVER_NONE where all of these were
-   given. Marks don't fall. What the fields say goes by the kind; all others are 0. */
+   given. Marks don't fall. What the fields say goes by the kind; all others are 0, and so is `other` at DOVER_END where
+   the value is below 2^64. */
 typedef struct { uint64_t tick, job, other; uint32_t kind; } dover_decision;
 enum {                  /* fields */
     DOVER_NONE = 0,
@@ -104,7 +114,7 @@ enum {                  /* fields */
                            that are held */
     DOVER_COMPLETE = 5, /* tick, job: it is done */
     DOVER_ABANDON = 6,  /* tick, job: it is given up */
-    DOVER_END = 7,      /* tick, which is the value of all jobs that completed: all are over */
+    DOVER_END = 7,      /* tick, other: the value of all jobs that completed is other * 2^64 + tick. All are over */
     DOVER_FALLS = 8,    /* the mark is below the last one */
     DOVER_LATE = 9,     /* the mark is above 1,000,000,000,000 */
     DOVER_FINISHED = 10, /* dover_finish was called */
@@ -127,8 +137,21 @@ enum {
 };
 dover_due dover_next(dover *);
 
-/* The value of all jobs that completed. 0 where there is no engine. */
+/* Who would get the processor next if the job that has it were done. Where the last dover_step answered DOVER_NONE and
+   no job was admitted or done since, and dover_done says of this mark that the job is done, then behind its
+   DOVER_COMPLETE the next step to the mark gives the DOVER_RUN of the job that was named here, and DOVER_NONE where
+   none was. So a program that asks behind dover_step to T+1, while tick T passes, can make that job ready before it
+   says at edge T+1 that the other one is done. */
+typedef struct { uint64_t job; uint32_t status; } dover_named;
+enum {
+    DOVER_NAMED = 0,
+    DOVER_NOBODY = 1 /* no other job is open; or DOVER_NOT_MADE. The job is 0 */
+};
+dover_named dover_successor(dover *);
+
+/* The value of all jobs that completed is dover_value_high * 2^64 + dover_value. 0 where there is no engine. */
 uint64_t dover_value(dover *);
+uint64_t dover_value_high(dover *);
 
 /* For how many open jobs more there is room. 0 where there is no engine. */
 uint32_t dover_room(dover *);

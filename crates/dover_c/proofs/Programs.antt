@@ -9,7 +9,7 @@ use Rattle.dover_model.specs.declared.events.Event.{Event}
 use Rattle.dover_model.specs.declared.events.Event.TheVariants as events
 use Rattle.dover_model.specs.declared.events.Version.{Version}
 use Rattle.dover_model.specs.declared.events.Version.TheVariants.{One, Two, Three}
-use Rattle.dover_model.specs.Fraction.{Fraction, is_ratio}
+use Rattle.dover_model.specs.Fraction.{Fraction, is_ratio, is_some_factor, fraction}
 use Rattle.dover_model.specs.Finishes as early
 use Rattle.dover_model.specs.JobFacts.{JobFacts}
 use Rattle.dover_model.specs.Observed.{observed}
@@ -41,7 +41,7 @@ use Rattle.dover_c.specs.declared.Admitted.{Admitted}
 use Rattle.dover_c.specs.declared.Decided.{Decided}
 use Rattle.dover_c.specs.declared.slot.Slot.{Slot}
 use Rattle.dover_c.specs.Codes.{version_number, made_status, mark_code, numbers_of, IsStepOf, Stands, IsMade, IsFresh}
-use Rattle.dover_c.specs.Codes.{CallsOn}
+use Rattle.dover_c.specs.Codes.{CallsOn, no_number, no_engine}
 use Rattle.dover_c.specs.Codes.{Admits, Ends, Steps, Finishes}
 use Rattle.dover_c.specs.Program.{Act, Admit, Done, Step, Finish, Ask, Drop, Does, DoesAll, IsProgram, told}
 use Rattle.dover_c.specs.Program.{jobs_told, finishes_told, all_told, is_decision, answers, given, shown}
@@ -195,7 +195,7 @@ may_end v = by_last v.last where
 
 -- a job
 turn_admit : (v : Life) (job : JobFacts) (answer : Admitted) (s t : Slot)
-    → CallsOn (Some v) s t (answer.status ≡ 7) (Admits job answer)
+    → CallsOn (Some v) s t (answer ≡ no_number) (Admits job answer)
     → Turned v (Admit job answer ∷ []) t
 turn_admit v job answer s t it = by_status (answer.status == 0) refl where
   by_status : (b : Bool) → (answer.status == 0) ≡ b → Turned v (Admit job answer ∷ []) t
@@ -221,7 +221,7 @@ turn_done v tick f answer s t it = by_answer (answer == 0) refl where
 
 -- a step to a mark
 turn_step : (v : Life) (mark : ℕ) (answer : Decided) (s t : Slot)
-    → CallsOn (Some v) s t (answer.kind ≡ 11) (Steps mark answer)
+    → CallsOn (Some v) s t (answer ≡ no_engine) (Steps mark answer)
     → Turned v (Step mark answer ∷ []) t
 turn_step v mark answer s t (w, is, it) = by_says it.says it.step it.shown where
   by_says : (says : Result (Option Decision) NotStepped) → IsStepOf mark v w says → answer ≡ elim says [
@@ -238,7 +238,7 @@ turn_step v mark answer s t (w, is, it) = by_says it.says it.step it.shown where
       (ap (λ a. filter is_decision (a ∷ [])) so ∙ no_decision cause)
 
 -- a step to the end
-turn_finish : (v : Life) (answer : Decided) (s t : Slot) → CallsOn (Some v) s t (answer.kind ≡ 11) (Finishes answer)
+turn_finish : (v : Life) (answer : Decided) (s t : Slot) → CallsOn (Some v) s t (answer ≡ no_engine) (Finishes answer)
     → Turned v (Finish answer ∷ []) t
 turn_finish v answer s t (w, is, it) =
     one_call v w (Finish answer) (engine.Stepped horizon.End it.says) t (ap (λ (x : Slot). x.engine) is)
@@ -249,13 +249,13 @@ turn_finish v answer s t (w, is, it) =
 -- a call
 turn_one : (v : Life) (act : Act) (s t : Slot) → s.engine ≡ Some v → Does act s t → Turned v (act ∷ []) t
 turn_one v (Admit job answer) s t there does = turn_admit v job answer s t
-    (subst (λ o. CallsOn o s t (answer.status ≡ 7) (Admits job answer)) there does)
+    (subst (λ o. CallsOn o s t (answer ≡ no_number) (Admits job answer)) there does)
 turn_one v (Done tick f answer) s t there does =
     turn_done v tick f answer s t (subst (λ o. CallsOn o s t (answer ≡ 7) (Ends tick f answer)) there does)
 turn_one v (Step mark answer) s t there does =
-    turn_step v mark answer s t (subst (λ o. CallsOn o s t (answer.kind ≡ 11) (Steps mark answer)) there does)
+    turn_step v mark answer s t (subst (λ o. CallsOn o s t (answer ≡ no_engine) (Steps mark answer)) there does)
 turn_one v (Finish answer) s t there does =
-    turn_finish v answer s t (subst (λ o. CallsOn o s t (answer.kind ≡ 11) (Finishes answer)) there does)
+    turn_finish v answer s t (subst (λ o. CallsOn o s t (answer ≡ no_engine) (Finishes answer)) there does)
 turn_one v Ask s t there does = nothing v Ask t (inl (ap (λ (x : Slot). x.engine) does ∙ there)) refl refl refl
 turn_one v Drop s t there does = nothing v Drop t (inr (ap (λ (x : Slot). x.engine) does)) refl refl refl
 
@@ -308,10 +308,10 @@ kind_idle answer is = ap (λ n. cond (nat_le 1 n && nat_le n 7) (answer ∷ []) 
 
 idle_one : (act : Act) (s t : Slot) → s.engine ≡ None → Does act s t → Idle (act ∷ []) t
 idle_one (Admit job answer) s t none does =
-    let it : (answer.status ≡ 7) × (t ≡ s) =
-    subst (λ o. CallsOn o s t (answer.status ≡ 7) (Admits job answer)) none does in record {
+    let it : (answer ≡ no_number) × (t ≡ s) =
+    subst (λ o. CallsOn o s t (answer ≡ no_number) (Admits job answer)) none does in record {
       there = ap (λ (x : Slot). x.engine) it.1 ∙ none;
-      jobs = ap (λ n. cond (n == 0) ((answer.number, job) ∷ []) []) it.0;
+      jobs = ap (λ (a : Admitted). cond (a.status == 0) ((answer.number, job) ∷ []) []) it.0;
       finishes = refl;
       decisions = refl;
     }
@@ -324,20 +324,20 @@ idle_one (Done tick f answer) s t none does =
       decisions = refl;
     }
 idle_one (Step mark answer) s t none does =
-    let it : (answer.kind ≡ 11) × (t ≡ s) =
-    subst (λ o. CallsOn o s t (answer.kind ≡ 11) (Steps mark answer)) none does in record {
+    let it : (answer ≡ no_engine) × (t ≡ s) =
+    subst (λ o. CallsOn o s t (answer ≡ no_engine) (Steps mark answer)) none does in record {
       there = ap (λ (x : Slot). x.engine) it.1 ∙ none;
       jobs = refl;
       finishes = refl;
-      decisions = kind_idle answer it.0;
+      decisions = kind_idle answer (ap (λ (d : Decided). d.kind) it.0);
     }
 idle_one (Finish answer) s t none does =
-    let it : (answer.kind ≡ 11) × (t ≡ s) =
-    subst (λ o. CallsOn o s t (answer.kind ≡ 11) (Finishes answer)) none does in record {
+    let it : (answer ≡ no_engine) × (t ≡ s) =
+    subst (λ o. CallsOn o s t (answer ≡ no_engine) (Finishes answer)) none does in record {
       there = ap (λ (x : Slot). x.engine) it.1 ∙ none;
       jobs = refl;
       finishes = refl;
-      decisions = kind_idle answer it.0;
+      decisions = kind_idle answer (ap (λ (d : Decided). d.kind) it.0);
     }
 idle_one Ask s t none does =
     record { there = ap (λ (x : Slot). x.engine) does ∙ none; jobs = refl; finishes = refl; decisions = refl }
@@ -409,11 +409,12 @@ turn_all (act ∷ acts) v s t there it = let one = turn_one v act s it.0 there i
 -- ---- from dover_init on
 
 -- no cause is the status of an engine
-some_status : (a b c : Bool) → cond {A = ℕ} a 4 (cond b 1 (cond c 2 3)) ≡ 5 → ⊥
-some_status true b c e = absurd (let f : 4 ≡ 5 = e in cc)
-some_status false true c e = absurd (let f : 1 ≡ 5 = e in cc)
-some_status false false true e = absurd (let f : 2 ≡ 5 = e in cc)
-some_status false false false e = absurd (let f : 3 ≡ 5 = e in cc)
+some_status : (a b c d : Bool) → cond {A = ℕ} a 4 (cond b 1 (cond c 6 (cond d 2 3))) ≡ 5 → ⊥
+some_status true b c d e = absurd (let f : 4 ≡ 5 = e in cc)
+some_status false true c d e = absurd (let f : 1 ≡ 5 = e in cc)
+some_status false false true d e = absurd (let f : 6 ≡ 5 = e in cc)
+some_status false false false true e = absurd (let f : 2 ≡ 5 = e in cc)
+some_status false false false false e = absurd (let f : 3 ≡ 5 = e in cc)
 
 -- versions have different numbers
 same_version : (v w : Version) → version_number v ≡ version_number w → v ≡ w
@@ -428,21 +429,18 @@ same_version Three Two e = absurd (let f : 3 ≡ 2 = e in cc)
 same_version Three Three e = refl
 
 -- its status is an engine
-engine_made : (p q version capacity : ℕ) (made : Slot) → IsMade p q version capacity made → made.status ≡ made_status
-    → (v : Life) × (made.engine ≡ Some v) × IsFresh p q version capacity v
-engine_made p q version capacity made is_made none = by_engine made.engine refl is_made where
-  by_engine : (o : Option Life) → made.engine ≡ o → Stands p q version capacity made.status o → (v : Life)
-      × (made.engine ≡ Some v) × IsFresh p q version capacity v
+engine_made : (k : Fraction) (version capacity : ℕ) (made : Slot) → IsMade k version capacity made
+    → made.status ≡ made_status → (v : Life) × (made.engine ≡ Some v) × IsFresh k version capacity v
+engine_made k version capacity made is_made none = by_engine made.engine refl is_made where
+  by_engine : (o : Option Life) → made.engine ≡ o → Stands k version capacity made.status o → (v : Life)
+      × (made.engine ≡ Some v) × IsFresh k version capacity v
   by_engine None e status =
       absurd (some_status (not ((version == 1) || (version == 2) || (version == 3)))
-      (not (is_ratio (record { p = p; q = q })))
+      (not (is_ratio (fraction k.p k.q))) (not (is_some_factor k.factor))
       (nat_lt most_ready capacity) (sym status ∙ none))
   by_engine (Some v) e it = (v, e, it.1)
 
-module _ (version : Version) (p q capacity : ℕ) where
-  abbrev k : Fraction
-  k = record { p = p; q = q }
-
+module _ (version : Version) (k : Fraction) (capacity : ℕ) where
   -- the calls of a program are a life
   record Living (acts : List Act) (t : Slot) : Type 0 where
     pub calls : List engine.Call
@@ -453,9 +451,9 @@ module _ (version : Version) (p q capacity : ℕ) where
     pub finishes : engine.finishes_in calls ≡ finishes_told acts
     pub decisions : map shown (engine.decided calls) ≡ given acts
 
-  living : (acts : List Act) (t : Slot) → IsProgram version p q capacity acts t → Living acts t
+  living : (acts : List Act) (t : Slot) → IsProgram version k capacity acts t → Living acts t
   living acts t program =
-      let made = engine_made p q (version_number version) capacity program.made program.is_made program.status in
+      let made = engine_made k (version_number version) capacity program.made program.is_made program.status in
       let turned = turn_all acts made.0 program.made t made.1 program.does in
       let same : version ≡ made.2.which = same_version version made.2.which made.2.version_is in record {
         calls = turned.calls;
@@ -484,7 +482,7 @@ module _ (version : Version) (p q capacity : ℕ) where
       (rest.0, rest.1, subst (Does act rest.0) (sym rest.2.2) rest.2.1)
 
   module _ (acts : List Act) (act : Act) (t : Slot)
-      (program : IsProgram version p q capacity (acts ++ (act ∷ [])) t) where
+      (program : IsProgram version k capacity (acts ++ (act ∷ [])) t) where
     parts : (u : Slot) × DoesAll acts program.made u × Does act u t
     parts = part acts act program.made t program.does
 
@@ -494,7 +492,7 @@ module _ (version : Version) (p q capacity : ℕ) where
 
   -- their jobs
   all_are : (calls : List engine.Call) (acts : List Act) → engine.admitted calls ≡ told acts
-      → engine.finishes_in calls ≡ finishes_told acts → engine.all_jobs version k calls ≡ all_told version p q acts
+      → engine.finishes_in calls ≡ finishes_told acts → engine.all_jobs version k calls ≡ all_told version k acts
   all_are calls acts jobs finishes = ap (λ (js : List (ℕ × JobFacts)). let J : Instance = record {
     rules = record { ratio = k; version = version; finishes = engine.finishes_in calls };
     jobs = map (λ (n_j : ℕ × JobFacts). n_j.1) js;
@@ -503,20 +501,20 @@ module _ (version : Version) (p q capacity : ℕ) where
     jobs = jobs_told acts;
   } in J) finishes
 
-  pub numbers : (acts : List Act) (t : Slot) → IsProgram version p q capacity acts t
+  pub numbers : (acts : List Act) (t : Slot) → IsProgram version k capacity acts t
       → told acts ≡ enumerate_from 0 (jobs_told acts)
   numbers acts t program = let it = living acts t program in
       subst (λ (js : List (ℕ × JobFacts)). js ≡ enumerate_from 0 (map (λ n_j. n_j.1) js)) it.jobs
       (life.numbers version k it.calls it.w it.lives)
 
   pub settled_given : (acts : List Act) (mark : ℕ) (answer : Decided) (t : Slot)
-      → IsProgram version p q capacity (acts ++ (Step mark answer ∷ [])) t
-      → answer.kind ≡ 0 → given acts ≡ map shown (settled (all_told version p q acts) mark)
+      → IsProgram version k capacity (acts ++ (Step mark answer ∷ [])) t
+      → answer.kind ≡ 0 → given acts ≡ map shown (settled (all_told version k acts) mark)
   settled_given acts mark answer t program none = elim it.there [
-    | inl here ↦ by_step (subst (λ o. CallsOn o u t (answer.kind ≡ 11) (Steps mark answer)) here does)
+    | inl here ↦ by_step (subst (λ o. CallsOn o u t (answer ≡ no_engine) (Steps mark answer)) here does)
     | inr gone ↦
-        let idle = subst (λ o. CallsOn o u t (answer.kind ≡ 11) (Steps mark answer)) gone does in
-        absurd (let f : 0 ≡ 11 = sym none ∙ idle.0 in cc)
+        let idle = subst (λ o. CallsOn o u t (answer ≡ no_engine) (Steps mark answer)) gone does in
+        absurd (let f : 0 ≡ 11 = sym none ∙ ap (λ (d : Decided). d.kind) idle.0 in cc)
   ] where
     it : Living acts (parts acts (Step mark answer) t program).0
     it = front acts (Step mark answer) t program
@@ -527,13 +525,13 @@ module _ (version : Version) (p q capacity : ℕ) where
     does : Does (Step mark answer) u t
     does = (parts acts (Step mark answer) t program).2
 
-    by_step : CallsOn (Some it.w) u t (answer.kind ≡ 11) (Steps mark answer)
-        → given acts ≡ map shown (settled (all_told version p q acts) mark)
+    by_step : CallsOn (Some it.w) u t (answer ≡ no_engine) (Steps mark answer)
+        → given acts ≡ map shown (settled (all_told version k acts) mark)
     by_step (w, is, step) = by_says step.says step.step step.shown where
       by_says : (says : Result (Option Decision) NotStepped) → IsStepOf mark it.w w says → answer ≡ elim says [
         | Ok decision ↦ numbers_of decision
         | Err cause ↦ record { tick = 0; job = 0; other = 0; kind = mark_code cause }
-      ] → given acts ≡ map shown (settled (all_told version p q acts) mark)
+      ] → given acts ≡ map shown (settled (all_told version k acts) mark)
       by_says (Err cause) leads so = absurd (not_none cause (sym (ap (λ (d : Decided). d.kind) so) ∙ none))
       by_says (Ok decision) leads so =
           let is_none : decision ≡ None = kind_none decision (sym (ap (λ (d : Decided). d.kind) so) ∙ none) in
@@ -550,7 +548,7 @@ module _ (version : Version) (p q capacity : ℕ) where
 
   -- behind a job that is done, its completion is given
   pub done_given : (acts : List Act) (tick mark : ℕ) (f : early.Finish) (answer : Decided) (t : Slot)
-      → IsProgram version p q capacity (acts ++ (Done tick f 0 ∷ Step mark answer ∷ [])) t
+      → IsProgram version k capacity (acts ++ (Done tick f 0 ∷ Step mark answer ∷ [])) t
       → is_decision answer ≡ true → answer ≡ shown (events.Complete tick f.number)
   done_given acts tick mark f answer t program decides = elim it.there [
     | inl here ↦ by_done (subst (λ o. CallsOn o u s (◌≡◌ {A = ℕ} 0 7) (Ends tick f 0)) here does.1)
@@ -593,7 +591,7 @@ module _ (version : Version) (p q capacity : ℕ) where
               ∙ ap shown (some_same (event_of d) (events.Complete tick f.number) is)
 
     by_step : (w : Life) → engine.IsDone it.w w tick f
-        → CallsOn (Some w) s does.2.0 (answer.kind ≡ 11) (Steps mark answer)
+        → CallsOn (Some w) s does.2.0 (answer ≡ no_engine) (Steps mark answer)
         → answer ≡ shown (events.Complete tick f.number)
     by_step w done (w2, is, step) = by_says step.says step.step step.shown where
       by_says : (says : Result (Option Decision) NotStepped) → IsStepOf mark w w2 says → answer ≡ elim says [
@@ -605,12 +603,12 @@ module _ (version : Version) (p q capacity : ℕ) where
 
     by_done : CallsOn (Some it.w) u s (◌≡◌ {A = ℕ} 0 7) (Ends tick f 0) → answer ≡ shown (events.Complete tick f.number)
     by_done (w, is, ends) = by_step w (ends.ok refl)
-        (subst (λ o. CallsOn o s does.2.0 (answer.kind ≡ 11) (Steps mark answer)) (ap (λ (x : Slot). x.engine) is)
+        (subst (λ o. CallsOn o s does.2.0 (answer ≡ no_engine) (Steps mark answer)) (ap (λ (x : Slot). x.engine) is)
         does.2.1)
 
   -- what was given begins the run
-  pub begins_given : (acts : List Act) (t : Slot) → IsProgram version p q capacity acts t → (later : List Decided)
-      × (map shown (printed (all_told version p q acts)) ≡ given acts ++ later)
+  pub begins_given : (acts : List Act) (t : Slot) → IsProgram version k capacity acts t → (later : List Decided)
+      × (map shown (printed (all_told version k acts)) ≡ given acts ++ later)
   begins_given acts t program =
       let it = living acts t program in
       let begins = life.begins_all version k it.calls it.w it.lives in (
@@ -620,43 +618,43 @@ module _ (version : Version) (p q capacity : ℕ) where
             ∙ ap (λ es. es ++ map shown begins.0) it.decisions,
       )
 
-  pub within_given : (acts : List Act) (t : Slot) → IsProgram version p q capacity acts t → (s : List ℕ)
-      → IsWithin k (worth (all_told version p q acts) s) (completed_value (all_told version p q acts))
+  pub within_given : (acts : List Act) (t : Slot) → IsProgram version k capacity acts t → (s : List ℕ)
+      → IsWithin k (worth (all_told version k acts) s) (completed_value (all_told version k acts))
   within_given acts t program s = let it = living acts t program in
       subst (λ (J : Instance). IsWithin k (worth J s) (completed_value J)) (all_are it.calls acts it.jobs it.finishes)
       (life.within_all version k it.calls it.w it.lives s)
 
-  pub observed_given : (acts : List Act) (t : Slot) → IsProgram version p q capacity acts t → (s : List ℕ)
-      → IsWithin k (worth (observed (all_told version p q acts)) s) (completed_value (all_told version p q acts))
+  pub observed_given : (acts : List Act) (t : Slot) → IsProgram version k capacity acts t → (s : List ℕ)
+      → IsWithin k (worth (observed (all_told version k acts)) s) (completed_value (all_told version k acts))
   observed_given acts t program s = let it = living acts t program in
       subst (λ (J : Instance). IsWithin k (worth (observed J) s) (completed_value J))
       (all_are it.calls acts it.jobs it.finishes)
       (life.observed_within_all version k it.calls it.w it.lives s)
 
-  pub as_declared_given : (acts : List Act) (t : Slot) → IsProgram version p q capacity acts t
-      → finishes_told acts ≡ [] → observed (all_told version p q acts) ≡ all_told version p q acts
+  pub as_declared_given : (acts : List Act) (t : Slot) → IsProgram version k capacity acts t
+      → finishes_told acts ≡ [] → observed (all_told version k acts) ≡ all_told version k acts
   as_declared_given acts t program none = let it = living acts t program in
       subst (λ (J : Instance). observed J ≡ J) (all_are it.calls acts it.jobs it.finishes)
       (life.as_declared_all version k it.calls it.w it.lives (it.finishes ∙ none))
 
-  pub honest_given : (acts : List Act) (t : Slot) → IsProgram version p q capacity acts t
-      → (s : List ℕ) × (completed_value (all_told version p q acts) ≤ worth (observed (all_told version p q acts)) s)
+  pub honest_given : (acts : List Act) (t : Slot) → IsProgram version k capacity acts t
+      → (s : List ℕ) × (completed_value (all_told version k acts) ≤ worth (observed (all_told version k acts)) s)
   honest_given acts t program = let it = living acts t program in
       subst (λ (J : Instance). (s : List ℕ) × (completed_value J ≤ worth (observed J) s))
       (all_are it.calls acts it.jobs it.finishes)
       (life.honest_all version k it.calls it.w it.lives)
 
-  pub underload_given : (acts : List Act) (t : Slot) → IsProgram version p q capacity acts t
-      → Meets (all_told version p q acts)
-      → completed_value (all_told version p q acts) ≡ total_value (jobs_told acts)
+  pub underload_given : (acts : List Act) (t : Slot) → IsProgram version k capacity acts t
+      → Meets (all_told version k acts)
+      → completed_value (all_told version k acts) ≡ total_value (jobs_told acts)
   underload_given acts t program = let it = living acts t program in
       subst (λ (J : Instance). Meets J → completed_value J ≡ total_value J.jobs)
       (all_are it.calls acts it.jobs it.finishes)
       (life.underload_all version k it.calls it.w it.lives)
 
   -- no decision that was given takes_or_abandons a job then
-  pub unlost_given : (acts : List Act) (t : Slot) → IsProgram version p q capacity acts t
-      → Meets (all_told version p q acts) → Each (λ answer. (answer.kind ≡ 4 → ⊥) × (answer.kind ≡ 6 → ⊥)) (given acts)
+  pub unlost_given : (acts : List Act) (t : Slot) → IsProgram version k capacity acts t
+      → Meets (all_told version k acts) → Each (λ answer. (answer.kind ≡ 4 → ⊥) × (answer.kind ≡ 6 → ⊥)) (given acts)
   unlost_given acts t program meets = let it = living acts t program in
       subst (Each IsKept) it.decisions (each_kept (engine.decided it.calls)
       (life.none_lost_all version k it.calls it.w it.lives (subst Meets
@@ -680,13 +678,13 @@ module _ (version : Version) (p q capacity : ℕ) where
   or_holds false b e = e
 
   pub ended_given : (acts : List Act) (answer : Decided) (t : Slot)
-      → IsProgram version p q capacity (acts ++ (Finish answer ∷ [])) t
-      → answer.kind ≡ 7 → given (acts ++ (Finish answer ∷ [])) ≡ map shown (printed (all_told version p q acts))
+      → IsProgram version k capacity (acts ++ (Finish answer ∷ [])) t
+      → answer.kind ≡ 7 → given (acts ++ (Finish answer ∷ [])) ≡ map shown (printed (all_told version k acts))
   ended_given acts answer t program seven = elim it.there [
-    | inl here ↦ by_finish (subst (λ o. CallsOn o u t (answer.kind ≡ 11) (Finishes answer)) here does)
+    | inl here ↦ by_finish (subst (λ o. CallsOn o u t (answer ≡ no_engine) (Finishes answer)) here does)
     | inr gone ↦
-        let idle = subst (λ o. CallsOn o u t (answer.kind ≡ 11) (Finishes answer)) gone does in
-        absurd (let f : 7 ≡ 11 = sym seven ∙ idle.0 in cc)
+        let idle = subst (λ o. CallsOn o u t (answer ≡ no_engine) (Finishes answer)) gone does in
+        absurd (let f : 7 ≡ 11 = sym seven ∙ ap (λ (d : Decided). d.kind) idle.0 in cc)
   ] where
     it : Living acts (parts acts (Finish answer) t program).0
     it = front acts (Finish answer) t program
@@ -697,8 +695,8 @@ module _ (version : Version) (p q capacity : ℕ) where
     does : Does (Finish answer) u t
     does = (parts acts (Finish answer) t program).2
 
-    by_finish : CallsOn (Some it.w) u t (answer.kind ≡ 11) (Finishes answer)
-        → given (acts ++ (Finish answer ∷ [])) ≡ map shown (printed (all_told version p q acts))
+    by_finish : CallsOn (Some it.w) u t (answer ≡ no_engine) (Finishes answer)
+        → given (acts ++ (Finish answer ∷ [])) ≡ map shown (printed (all_told version k acts))
     by_finish (w, is, fin) =
         let last : engine.Call = engine.Stepped horizon.End fin.says in
         let further : engine.Lives version k (it.calls ++ (last ∷ [])) w = record {

@@ -1,8 +1,8 @@
 -- What the numbers say that go to a caller in C.
-use Rattle.std.specs.Prelude.{◌≡◌, ◌≤◌, ℕ, [], Option, Some, None, not, ◌||◌, ◌==◌, nat_lt, if◌then◌else◌, Result, Ok}
-use Rattle.std.specs.Prelude.{Err}
+use Rattle.std.specs.Prelude.{◌≡◌, ℕ, [], Option, Some, None, not, ◌||◌, ◌==◌, nat_lt, if◌then◌else◌, Result, Ok}
+use Rattle.std.specs.Prelude.{Err, ◌/◌, ◌%◌, ◌^◌}
 use Rattle.dover_model.specs.Limits.{most_ready}
-use Rattle.dover_model.specs.Fraction.{is_ratio, IsRatio}
+use Rattle.dover_model.specs.Fraction.{Fraction, is_ratio, is_some_factor, IsRatio, fraction}
 use Rattle.dover_model.specs.declared.events.Version.{Version}
 use Rattle.dover_model.specs.declared.events.Version.TheVariants.{One, Two, Three}
 use Rattle.dover_model.specs.Finishes.{Finish}
@@ -11,6 +11,7 @@ use Rattle.dover_model.specs.declared.horizon.Horizon.TheVariants as horizon
 use Rattle.dover_model.specs.Horizons.{MayFollow, no_jobs}
 use Rattle.dover_engine.specs.declared.causes.NotAdmitted.{NotAdmitted}
 use Rattle.dover_engine.specs.declared.causes.NotAdmitted.TheVariants.{Unsettled, BadJob, Count, Total, Ratio, Full}
+use Rattle.dover_engine.specs.declared.causes.NotAdmitted.TheVariants.{Numbers}
 use Rattle.dover_engine.specs.declared.causes.NotMade.{NotMade}
 use Rattle.dover_engine.specs.declared.causes.NotMade.TheVariants as not_made
 use Rattle.dover_engine.specs.declared.causes.NotDone.{NotDone}
@@ -20,12 +21,13 @@ use Rattle.dover_engine.specs.declared.causes.NotStepped.TheVariants as not_step
 use Rattle.dover_engine.specs.declared.decision.Decision.{Decision}
 use Rattle.dover_engine.specs.declared.decision.Decision.TheVariants.{Release, Run, Preempt, Take, Complete, Abandon}
 use Rattle.dover_engine.specs.declared.decision.Decision.TheVariants.{End}
-use Rattle.dover_engine.specs.Life.{Life, done_value, spare_of}
+use Rattle.dover_engine.specs.Life.{Life, done_value, spare_of, successor_of}
 use Rattle.dover_engine.specs.Given.{Gave}
 use Rattle.dover_engine.specs.Calls.{IsAdmitted, IsCause, IsDone, IsNotDone, Decides, IsNext, mark_refusal}
 use Rattle.dover_c.specs.declared.Admitted.{Admitted}
 use Rattle.dover_c.specs.declared.Decided.{Decided}
 use Rattle.dover_c.specs.declared.Due.{Due}
+use Rattle.dover_c.specs.declared.Named.{Named}
 use Rattle.dover_c.specs.declared.slot.Slot.{Slot}
 
 -- ---- making
@@ -36,10 +38,11 @@ made_code not_made.Capacity = 2
 made_code not_made.Memory = 3
 
 -- why no engine was made: the first of the limits that is broken, and 3 for want of memory where none is
-abbrev pub status_of : (p q version capacity : ℕ) → ℕ
-status_of p q version capacity =
+abbrev pub status_of : Fraction → (version capacity : ℕ) → ℕ
+status_of k version capacity =
     if not ((version == 1) || (version == 2) || (version == 3)) then 4
-    else if not (is_ratio (record { p = p; q = q })) then 1
+    else if not (is_ratio (fraction k.p k.q)) then 1
+    else if not (is_some_factor k.factor) then 6
     else if nat_lt most_ready capacity then 2 else 3
 
 -- the number of a version
@@ -48,26 +51,31 @@ version_number One = 1
 version_number Two = 2
 version_number Three = 3
 
--- an engine of this ratio and version, with no jobs and room for so many open ones
-pub record IsFresh (p q version capacity : ℕ) (v : Life) : Type 0 where
+-- the version of a number
+abbrev pub version_of : ℕ → Option Version
+version_of number = if number == 1 then Some One else if number == 2 then Some Two
+    else if number == 3 then Some Three else None
+
+-- an engine of this ratio, with its factor if it has one, and version, with no jobs and room for so many open ones
+pub record IsFresh (k : Fraction) (version capacity : ℕ) (v : Life) : Type 0 where
   pub which : Version
   pub version_is : version ≡ version_number which
-  pub ratio : IsRatio (record { p = p; q = q })
-  pub gave : Gave v (no_jobs which (record { p = p; q = q })) []
+  pub ratio : IsRatio k
+  pub gave : Gave v (no_jobs which k) []
   pub last : v.last ≡ horizon.Mark 0
-  pub room : capacity ≤ spare_of v
+  pub room : spare_of v ≡ capacity
 
 -- the status of a place with an engine
 abbrev pub made_status : ℕ
 made_status = 5
 
 -- that status stands by an engine as it was asked for, and with none the status says why
-abbrev pub Stands : (p q version capacity : ℕ) → (status : ℕ) → Option Life → Type 0
-Stands p q version capacity status None = status ≡ status_of p q version capacity
-Stands p q version capacity status (Some v) = (status ≡ made_status) × IsFresh p q version capacity v
+abbrev pub Stands : Fraction → (version capacity : ℕ) → (status : ℕ) → Option Life → Type 0
+Stands k version capacity status None = status ≡ status_of k version capacity
+Stands k version capacity status (Some v) = (status ≡ made_status) × IsFresh k version capacity v
 
-abbrev pub IsMade : (p q version capacity : ℕ) → Slot → Type 0
-IsMade p q version capacity s = Stands p q version capacity s.status s.engine
+abbrev pub IsMade : Fraction → (version capacity : ℕ) → Slot → Type 0
+IsMade k version capacity s = Stands k version capacity s.status s.engine
 
 -- the status stands there, and nothing changed
 abbrev pub StatusAnswers : Slot → Slot → ℕ → Type 0
@@ -97,6 +105,7 @@ cause_code Count = 3
 cause_code Total = 4
 cause_code (Ratio other) = 5
 cause_code Full = 6
+cause_code Numbers = 8
 
 -- the job that it names, and 0 where it names none
 abbrev pub other_in : NotAdmitted → ℕ
@@ -116,8 +125,12 @@ pub record Admits (job : JobFacts) (answer : Admitted) (v w : Life) : Type 0 whe
   pub ok : answer.status ≡ 0 → IsAdmitted v w job answer.number
   pub refused : (answer.status ≡ 0 → ⊥) → IsRefused v w job answer
 
+-- no engine, where a number is asked for
+abbrev pub no_number : Admitted
+no_number = record { number = 0; status = 7 }
+
 abbrev pub AdmitAnswers : Slot → Slot → JobFacts → Admitted → Type 0
-AdmitAnswers s t job answer = Calls s t (answer.status ≡ 7) (Admits job answer)
+AdmitAnswers s t job answer = Calls s t (answer ≡ no_number) (Admits job answer)
 
 -- ---- early finishes
 
@@ -149,6 +162,17 @@ DoneSays tick job s t answer = (had : ℕ) × DoneAnswers tick (record { number 
 
 -- ---- steps
 
+-- how many times 2^64 a great number has, and what that leaves
+abbrev pub high_word : ℕ → ℕ
+high_word number = number / 2 ^ 64
+
+abbrev pub low_word : ℕ → ℕ
+low_word number = number % 2 ^ 64
+
+-- no engine, where a decision is asked for
+abbrev pub no_engine : Decided
+no_engine = record { tick = 0; job = 0; other = 0; kind = 11 }
+
 -- an answer as a caller in C sees it
 abbrev pub numbers_of : Option Decision → Decided
 numbers_of None = record { tick = 0; job = 0; other = 0; kind = 0 }
@@ -158,7 +182,7 @@ numbers_of (Some (Preempt at stops starts)) = record { tick = at; job = starts; 
 numbers_of (Some (Take at stops starts)) = record { tick = at; job = starts; other = stops; kind = 4 }
 numbers_of (Some (Complete at n)) = record { tick = at; job = n; other = 0; kind = 5 }
 numbers_of (Some (Abandon at n)) = record { tick = at; job = n; other = 0; kind = 6 }
-numbers_of (Some (End value)) = record { tick = value; job = 0; other = 0; kind = 7 }
+numbers_of (Some (End value)) = record { tick = low_word value; job = 0; other = high_word value; kind = 7 }
 
 -- the number of a cause
 abbrev pub mark_code : NotStepped → ℕ
@@ -181,7 +205,7 @@ pub record Steps (mark : ℕ) (answer : Decided) (v w : Life) : Type 0 where
   ]
 
 abbrev pub StepAnswers : ℕ → Slot → Slot → Decided → Type 0
-StepAnswers mark s t answer = Calls s t (answer.kind ≡ 11) (Steps mark answer)
+StepAnswers mark s t answer = Calls s t (answer ≡ no_engine) (Steps mark answer)
 
 -- the answer to a step to the end: a decision or none
 pub record Finishes (answer : Decided) (v w : Life) : Type 0 where
@@ -190,7 +214,7 @@ pub record Finishes (answer : Decided) (v w : Life) : Type 0 where
   pub shown : answer ≡ numbers_of says
 
 abbrev pub FinishAnswers : Slot → Slot → Decided → Type 0
-FinishAnswers s t answer = Calls s t (answer.kind ≡ 11) (Finishes answer)
+FinishAnswers s t answer = Calls s t (answer ≡ no_engine) (Finishes answer)
 
 -- ---- questions
 
@@ -207,11 +231,24 @@ pub record Awaits (answer : Due) (v w : Life) : Type 0 where
   pub same : w ≡ v
 
 abbrev pub NextAnswers : Slot → Slot → Due → Type 0
-NextAnswers s t answer = Calls s t (answer.status ≡ 7) (Awaits answer)
+NextAnswers s t answer = Calls s t (answer ≡ record { tick = 0; status = 7 }) (Awaits answer)
 
--- the value of all jobs that completed is told, and nothing changed
+-- who would be next, as a caller in C sees it
+abbrev pub named_of : Option ℕ → Named
+named_of (Some job) = record { job = job; status = 0 }
+named_of None = record { job = 0; status = 1 }
+
+-- who would get the processor if the job that runs were done is told, and nothing changed
+abbrev pub SuccessorAnswers : Slot → Slot → Named → Type 0
+SuccessorAnswers s t answer = Calls s t (answer ≡ record { job = 0; status = 7 })
+    (λ v w. (answer ≡ named_of (successor_of v)) × (w ≡ v))
+
+-- the value of all jobs that completed is told by its low word and its high one, and nothing changed
 abbrev pub ValueAnswers : Slot → Slot → ℕ → Type 0
-ValueAnswers s t answer = Calls s t (answer ≡ 0) (λ v w. (answer ≡ done_value v) × (w ≡ v))
+ValueAnswers s t answer = Calls s t (answer ≡ 0) (λ v w. (answer ≡ low_word (done_value v)) × (w ≡ v))
+
+abbrev pub HighAnswers : Slot → Slot → ℕ → Type 0
+HighAnswers s t answer = Calls s t (answer ≡ 0) (λ v w. (answer ≡ high_word (done_value v)) × (w ≡ v))
 
 -- for how many jobs there is room is told, and nothing changed
 abbrev pub RoomAnswers : Slot → Slot → ℕ → Type 0

@@ -1,4 +1,5 @@
 -- What a program in C does with an engine, and what it is given.
+use Rattle.dover_model.specs.Fraction.{Fraction}
 use Rattle.std.specs.Prelude.{◌≡◌, ℕ, List, [], ◌∷◌, map, Bool, ◌&&◌, ◌==◌, nat_le, if◌then◌else◌}
 use Rattle.std.specs.List.{filter}
 use Rattle.dover_model.specs.declared.events.Event.{Event}
@@ -11,7 +12,7 @@ use Rattle.dover_c.specs.declared.Admitted.{Admitted}
 use Rattle.dover_c.specs.declared.Decided.{Decided}
 use Rattle.dover_c.specs.declared.slot.Slot.{Slot}
 use Rattle.dover_c.specs.Codes.{version_number, made_status, IsMade, AdmitAnswers, StepAnswers, FinishAnswers}
-use Rattle.dover_c.specs.Codes.{DropAnswers, DoneAnswers}
+use Rattle.dover_c.specs.Codes.{DropAnswers, DoneAnswers, high_word, low_word}
 
 -- a call behind dover_init, with its answer
 pub data Act : Type 0 where
@@ -19,7 +20,7 @@ pub data Act : Type 0 where
   Done : (tick : ℕ) → early.Finish → (answer : ℕ) → Act  -- the call names the job, and not what it had
   Step : ℕ → Decided → Act
   Finish : Decided → Act
-  Ask : Act  -- for the status, the next tick, the value or the room
+  Ask : Act  -- for the status, the next tick, who would be next, the value or the room
   Drop : Act
 
 -- it leads from s to t
@@ -37,9 +38,9 @@ DoesAll [] s t = t ≡ s
 DoesAll (act ∷ acts) s t = (u : Slot) × Does act s u × DoesAll acts u t
 
 -- an engine was made, and the program did this with it, whatever and in whatever order
-pub record IsProgram (version : Version) (p q capacity : ℕ) (acts : List Act) (t : Slot) : Type 0 where
+pub record IsProgram (version : Version) (k : Fraction) (capacity : ℕ) (acts : List Act) (t : Slot) : Type 0 where
   pub made : Slot
-  pub is_made : IsMade p q (version_number version) capacity made
+  pub is_made : IsMade k (version_number version) capacity made
   pub status : made.status ≡ made_status
   pub does : DoesAll acts made t
 
@@ -68,9 +69,8 @@ finishes_told (Ask ∷ acts) = finishes_told acts
 finishes_told (Drop ∷ acts) = finishes_told acts
 
 -- the instance of these jobs and finishes
-abbrev pub all_told : Version → (p q : ℕ) → List Act → Instance
-all_told version p q acts =
-    with_finishes (jobs_under version (record { p = p; q = q }) (jobs_told acts)) (finishes_told acts)
+abbrev pub all_told : Version → Fraction → List Act → Instance
+all_told version k acts = with_finishes (jobs_under version k (jobs_told acts)) (finishes_told acts)
 
 -- an answer that is a decision
 abbrev pub is_decision : Decided → Bool
@@ -98,4 +98,4 @@ shown (Preempt at stops starts) = record { tick = at; job = starts; other = stop
 shown (Take at stops starts) = record { tick = at; job = starts; other = stops; kind = 4 }
 shown (Complete at n) = record { tick = at; job = n; other = 0; kind = 5 }
 shown (Abandon at n) = record { tick = at; job = n; other = 0; kind = 6 }
-shown (End value) = record { tick = value; job = 0; other = 0; kind = 7 }
+shown (End value) = record { tick = low_word value; job = 0; other = high_word value; kind = 7 }

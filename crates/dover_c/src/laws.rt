@@ -1,6 +1,7 @@
 //! What a program in C is given, whatever calls it makes and in whatever order, from `dover_init` on: the contract of a
 //! function that does nothing. The contracts of the calls are its premises, so it rests on the program's keeping what
 //! they require.
+ghost use Rattle.dover_model.specs.Fraction.{Fraction};
 ghost use Rattle.std.specs.Prelude.{◌≡◌, ◌≤◌, ◌++◌, ℕ, List, [], ◌∷◌, map, true};
 ghost use Rattle.std.specs.List.{enumerate_from};
 ghost use Rattle.dover_model.specs.declared.events.Version.{Version};
@@ -27,42 +28,42 @@ ghost use Rattle.dover_c.specs.Program.{all_told, is_decision, given, shown};
 /// is worth as much as it completes. Where one schedule serves all of them as declared, it completes all, and no
 /// decision that was given is a take or an abandonment.
 pub fn a_program_is_given_one_run()
-    ensures numbers { (version : Version) (p q capacity : ℕ) (acts : List Act) (t : Slot) →
-        IsProgram version p q capacity acts t →
+    ensures numbers { (version : Version) (k : Fraction) (capacity : ℕ) (acts : List Act) (t : Slot) →
+        IsProgram version k capacity acts t →
         told acts ≡ enumerate_from 0 (jobs_told acts) }
-    ensures settled { (version : Version) (p q capacity : ℕ) (acts : List Act) (mark : ℕ) (answer : Decided)
+    ensures settled { (version : Version) (k : Fraction) (capacity : ℕ) (acts : List Act) (mark : ℕ) (answer : Decided)
         (t : Slot) →
-        IsProgram version p q capacity (acts ++ (Step mark answer ∷ [])) t → answer.kind ≡ 0 →
-        given acts ≡ map shown (settled (all_told version p q acts) mark) }
-    ensures done { (version : Version) (p q capacity : ℕ) (acts : List Act) (tick mark : ℕ) (f : early.Finish)
-        (answer : Decided) (t : Slot) →
-        IsProgram version p q capacity (acts ++ (Done tick f 0 ∷ Step mark answer ∷ [])) t →
+        IsProgram version k capacity (acts ++ (Step mark answer ∷ [])) t → answer.kind ≡ 0 →
+        given acts ≡ map shown (settled (all_told version k acts) mark) }
+    ensures done { (version : Version) (k : Fraction) (capacity : ℕ) (acts : List Act) (tick mark : ℕ)
+        (f : early.Finish) (answer : Decided) (t : Slot) →
+        IsProgram version k capacity (acts ++ (Done tick f 0 ∷ Step mark answer ∷ [])) t →
         is_decision answer ≡ true → answer ≡ shown (Complete tick f.number) }
-    ensures ended { (version : Version) (p q capacity : ℕ) (acts : List Act) (answer : Decided) (t : Slot) →
-        IsProgram version p q capacity (acts ++ (Finish answer ∷ [])) t → answer.kind ≡ 7 →
-        given (acts ++ (Finish answer ∷ [])) ≡ map shown (printed (all_told version p q acts)) }
+    ensures ended { (version : Version) (k : Fraction) (capacity : ℕ) (acts : List Act) (answer : Decided) (t : Slot) →
+        IsProgram version k capacity (acts ++ (Finish answer ∷ [])) t → answer.kind ≡ 7 →
+        given (acts ++ (Finish answer ∷ [])) ≡ map shown (printed (all_told version k acts)) }
     ensures online { (acts more : List Act) → given (acts ++ more) ≡ given acts ++ given more }
-    ensures begins { (version : Version) (p q capacity : ℕ) (acts : List Act) (t : Slot) →
-        IsProgram version p q capacity acts t → (later : List Decided)
-        × (map shown (printed (all_told version p q acts)) ≡ given acts ++ later) }
-    ensures within { (version : Version) (p q capacity : ℕ) (acts : List Act) (t : Slot) (s : List ℕ) →
-        IsProgram version p q capacity acts t →
-        IsWithin (record { p = p; q = q }) (worth (all_told version p q acts) s)
-        (completed_value (all_told version p q acts)) }
-    ensures observed { (version : Version) (p q capacity : ℕ) (acts : List Act) (t : Slot) (s : List ℕ) →
-        IsProgram version p q capacity acts t →
-        IsWithin (record { p = p; q = q }) (worth (observed (all_told version p q acts)) s)
-        (completed_value (all_told version p q acts)) }
-    ensures as_declared { (version : Version) (p q capacity : ℕ) (acts : List Act) (t : Slot) →
-        IsProgram version p q capacity acts t → finishes_told acts ≡ [] →
-        observed (all_told version p q acts) ≡ all_told version p q acts }
-    ensures honest { (version : Version) (p q capacity : ℕ) (acts : List Act) (t : Slot) →
-        IsProgram version p q capacity acts t →
-        (s : List ℕ) × (completed_value (all_told version p q acts) ≤ worth (observed (all_told version p q acts)) s) }
-    ensures underload { (version : Version) (p q capacity : ℕ) (acts : List Act) (t : Slot) →
-        IsProgram version p q capacity acts t →
-        Meets (all_told version p q acts) → completed_value (all_told version p q acts) ≡ total_value (jobs_told acts) }
-    ensures none_lost { (version : Version) (p q capacity : ℕ) (acts : List Act) (t : Slot) →
-        IsProgram version p q capacity acts t → Meets (all_told version p q acts) →
+    ensures begins { (version : Version) (k : Fraction) (capacity : ℕ) (acts : List Act) (t : Slot) →
+        IsProgram version k capacity acts t → (later : List Decided)
+        × (map shown (printed (all_told version k acts)) ≡ given acts ++ later) }
+    ensures within { (version : Version) (k : Fraction) (capacity : ℕ) (acts : List Act) (t : Slot) (s : List ℕ) →
+        IsProgram version k capacity acts t →
+        IsWithin k (worth (all_told version k acts) s)
+        (completed_value (all_told version k acts)) }
+    ensures observed { (version : Version) (k : Fraction) (capacity : ℕ) (acts : List Act) (t : Slot) (s : List ℕ) →
+        IsProgram version k capacity acts t →
+        IsWithin k (worth (observed (all_told version k acts)) s)
+        (completed_value (all_told version k acts)) }
+    ensures as_declared { (version : Version) (k : Fraction) (capacity : ℕ) (acts : List Act) (t : Slot) →
+        IsProgram version k capacity acts t → finishes_told acts ≡ [] →
+        observed (all_told version k acts) ≡ all_told version k acts }
+    ensures honest { (version : Version) (k : Fraction) (capacity : ℕ) (acts : List Act) (t : Slot) →
+        IsProgram version k capacity acts t →
+        (s : List ℕ) × (completed_value (all_told version k acts) ≤ worth (observed (all_told version k acts)) s) }
+    ensures underload { (version : Version) (k : Fraction) (capacity : ℕ) (acts : List Act) (t : Slot) →
+        IsProgram version k capacity acts t →
+        Meets (all_told version k acts) → completed_value (all_told version k acts) ≡ total_value (jobs_told acts) }
+    ensures none_lost { (version : Version) (k : Fraction) (capacity : ℕ) (acts : List Act) (t : Slot) →
+        IsProgram version k capacity acts t → Meets (all_told version k acts) →
         Each (λ answer. (answer.kind ≡ 4 → ⊥) × (answer.kind ≡ 6 → ⊥)) (given acts) }
 {}

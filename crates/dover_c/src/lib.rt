@@ -12,11 +12,13 @@ ghost use denote.Param.{layout};
 ghost use types.Logic.{sem};
 ghost use base.Fraction.{full_share};
 ghost use denote.RawPtr.{lies_at, room_at};
+ghost use Rattle.dover_model.specs.Fraction.{fraction, with_factor};
 ghost use Rattle.dover_model.specs.JobFacts.{job_of_numbers};
 ghost use Rattle.dover_c.specs.declared.slot.Slot.{Slot};
 ghost use Rattle.dover_c.specs.contracts.slot.Slot.{the_row};
 ghost use Rattle.dover_c.specs.Codes.{IsMade, AdmitAnswers, StepAnswers, FinishAnswers, StatusAnswers};
-ghost use Rattle.dover_c.specs.Codes.{ValueAnswers, RoomAnswers, NextAnswers, DropAnswers, DoneSays};
+ghost use Rattle.dover_c.specs.Codes.{ValueAnswers, HighAnswers, RoomAnswers, NextAnswers, SuccessorAnswers};
+ghost use Rattle.dover_c.specs.Codes.{DropAnswers, DoneSays};
 ghost use Rattle.dover_c.specs.Places.{after_at};
 
 use crate::slot::Slot;
@@ -41,16 +43,16 @@ pub struct Admitted {
     pub status: u32,
 }
 
-/// A decision: its tick, or the value at the end; its job; the job that it stops; and its kind, which also says why
-/// there is none.
+/// A decision: its tick; its job; the job that it stops; and its kind, which also says why there is none. At the end it
+/// is the value in two words.
 #[repr(C)]
 #[derive(Clone, Copy)]
 pub struct Decided {
-    /// The tick of the decision, and at the end the value of all jobs that completed.
+    /// The tick of the decision, and at the end the low word of the value of all jobs that completed.
     pub tick: u64,
     /// The number of its job.
     pub job: u64,
-    /// The number of the job that it stops.
+    /// The number of the job that it stops, and at the end the high word of the value.
     pub other: u64,
     /// Which decision it is, or why there is none, by the numbers of the header.
     pub kind: u32,
@@ -66,6 +68,16 @@ pub struct Due {
     pub status: u32,
 }
 
+/// The job that would be next, with status 0, or why there is none.
+#[repr(C)]
+#[derive(Clone, Copy)]
+pub struct Named {
+    /// The number of the job; else 0.
+    pub job: u64,
+    /// 0 where there is one, else the cause, by the numbers of the header.
+    pub status: u32,
+}
+
 /// Makes an engine of this ratio and version with room for so many open jobs, and puts it at the address.
 /// `dover_status` says whether there is one.
 #[unsafe(no_mangle)]
@@ -78,9 +90,29 @@ pub unsafe extern "C" fn dover_init(
     capacity: u32,
 )
     requires* { sem 𝓛 (room_at the_row place) }
-    ensures* { sem 𝓛 (after_at place (λ made. IsMade p q version capacity made)) }
+    ensures* { sem 𝓛 (after_at place (λ made. IsMade (fraction p q) version capacity made)) }
 {
     let made = slot::make(alloc, p, q, version, capacity);
+    let at = place as *mut Slot;
+    at.write(made);
+}
+
+/// The same with a factor `b/c` beside the ratio, by which a value has to be more to be heavy.
+#[unsafe(no_mangle)]
+pub unsafe extern "C" fn dover_init_factor(
+    alloc: Global,
+    place: *mut Place,
+    p: u32,
+    q: u32,
+    version: u32,
+    capacity: u32,
+    b: u32,
+    c: u32,
+)
+    requires* { sem 𝓛 (room_at the_row place) }
+    ensures* { sem 𝓛 (after_at place (λ made. IsMade (with_factor (fraction p q) b c) version capacity made)) }
+{
+    let made = slot::make_with_factor(alloc, p, q, version, capacity, b, c);
     let at = place as *mut Slot;
     at.write(made);
 }
@@ -152,7 +184,17 @@ pub unsafe extern "C" fn dover_next(place: *mut Place) -> Due
     slot::next(&mut *(place as *mut Slot))
 }
 
-/// The value of all jobs that completed.
+/// The job that would get the processor next if the one that has it were done at the clock. No memory is taken.
+#[unsafe(no_mangle)]
+pub unsafe extern "C" fn dover_successor(place: *mut Place) -> Named
+    ghost v: { Slot }
+    requires* { sem 𝓛 (lies_at the_row full_share place v) }
+    ensures* { sem 𝓛 (after_at place (λ w. SuccessorAnswers v w result)) }
+{
+    slot::successor(&mut *(place as *mut Slot))
+}
+
+/// The low word of the value of all jobs that completed.
 #[unsafe(no_mangle)]
 pub unsafe extern "C" fn dover_value(place: *mut Place) -> u64
     ghost v: { Slot }
@@ -160,6 +202,16 @@ pub unsafe extern "C" fn dover_value(place: *mut Place) -> u64
     ensures* { sem 𝓛 (after_at place (λ w. ValueAnswers v w result)) }
 {
     slot::value(&mut *(place as *mut Slot))
+}
+
+/// The high word of that value.
+#[unsafe(no_mangle)]
+pub unsafe extern "C" fn dover_value_high(place: *mut Place) -> u64
+    ghost v: { Slot }
+    requires* { sem 𝓛 (lies_at the_row full_share place v) }
+    ensures* { sem 𝓛 (after_at place (λ w. HighAnswers v w result)) }
+{
+    slot::value_high(&mut *(place as *mut Slot))
 }
 
 /// For how many open jobs more there is room.

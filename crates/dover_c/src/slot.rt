@@ -1,14 +1,16 @@
 //! An engine where one could be made, and its calls with answers in numbers.
 ghost use Rattle.std.specs.Prelude.{◌≡◌, ◌<◌};
+ghost use Rattle.dover_model.specs.Fraction.{fraction, with_factor};
 ghost use Rattle.dover_model.specs.JobFacts.{job_of_numbers};
 ghost use Rattle.dover_model.specs.declared.horizon.Horizon.TheVariants.{End};
 ghost use Rattle.dover_engine.specs.Calls.{Decides};
 ghost use Rattle.dover_c.specs.Codes.{IsMade, AdmitAnswers, StepAnswers, FinishAnswers, StatusAnswers, DropAnswers};
-ghost use Rattle.dover_c.specs.Codes.{ValueAnswers, RoomAnswers, NextAnswers, due_of};
+ghost use Rattle.dover_c.specs.Codes.{ValueAnswers, HighAnswers, RoomAnswers, NextAnswers, SuccessorAnswers, due_of};
+ghost use Rattle.dover_c.specs.Codes.{version_of, version_number, named_of, high_word, low_word};
 ghost use Rattle.dover_c.specs.Codes.{DoneSays, done_code};
 ghost use Rattle.dover_c.specs.Codes.{cause_code, other_in, made_code, mark_code, numbers_of, IsStepOf};
 
-use crate::{Admitted, Decided, Due};
+use crate::{Admitted, Decided, Due, Named};
 use dover_engine::{Decision, Engine, NotAdmitted, NotDone, NotMade, NotStepped};
 use dover_model::{Ratio, Version};
 use std::alloc::Global;
@@ -16,6 +18,9 @@ use std::marker::Brand;
 use std::rt::Memory;
 use std::sync::ledger::{Blank, Ledger};
 use step_count::Steps;
+
+// 2^64, which is one more than the greatest number of 64 bits.
+const WORD: u128 = 1 << 64;
 
 /// An engine, or why there is none. Zeros say that there is none, as after a drop.
 #[derive(Drop)]
@@ -42,18 +47,57 @@ fn none(status: u32) -> Slot
     }
 }
 
-pub(crate) fn make(alloc: Global, p: u32, q: u32, version: u32, capacity: u32) -> Slot
-    ensures { IsMade p q version capacity result }
+// The version of this number.
+fn version_of(number: u32) -> Option<Version>
+    ensures { result ≡ version_of number }
 {
-    let version = match version {
-        1 => Version::One,
-        2 => Version::Two,
-        3 => Version::Three,
-        _ => return none(4),
+    match number {
+        1 => Some(Version::One),
+        2 => Some(Version::Two),
+        3 => Some(Version::Three),
+        _ => None,
+    }
+}
+
+pub(crate) fn make(alloc: Global, p: u32, q: u32, version: u32, capacity: u32) -> Slot
+    ensures { IsMade (fraction p q) version capacity result }
+{
+    let Some(version) = version_of(version) else {
+        return none(4);
     };
     let Some(k) = Ratio::new(p, q) else {
         return none(1);
     };
+    engine_of(alloc, version, k, capacity)
+}
+
+pub(crate) fn make_with_factor(
+    alloc: Global,
+    p: u32,
+    q: u32,
+    version: u32,
+    capacity: u32,
+    b: u32,
+    c: u32,
+) -> Slot
+    ensures { IsMade (with_factor (fraction p q) b c) version capacity result }
+{
+    let Some(version) = version_of(version) else {
+        return none(4);
+    };
+    let Some(k) = Ratio::new(p, q) else {
+        return none(1);
+    };
+    let Some(k) = k.with_factor(b, c) else {
+        return none(6);
+    };
+    engine_of(alloc, version, k, capacity)
+}
+
+// An engine of this ratio and version with room for so many open jobs, if it can be made.
+fn engine_of(alloc: Global, version: Version, k: Ratio, capacity: u32) -> Slot
+    ensures { IsMade k (version_number version) capacity result }
+{
     match Engine::new(alloc, version, k, capacity) {
         Ok(engine) => Slot {
             status: 5,
@@ -85,6 +129,7 @@ fn cause_code(cause: NotAdmitted) -> u32
         NotAdmitted::Total => 4,
         NotAdmitted::Ratio { .. } => 5,
         NotAdmitted::Full => 6,
+        NotAdmitted::Numbers => 8,
     }
 }
 
@@ -99,6 +144,7 @@ fn other_in(cause: NotAdmitted) -> u64
         NotAdmitted::Count => 0,
         NotAdmitted::Total => 0,
         NotAdmitted::Full => 0,
+        NotAdmitted::Numbers => 0,
     }
 }
 
@@ -154,6 +200,20 @@ fn numbers(kind: u32, tick: u64, job: u64, other: u64) -> Decided
     }
 }
 
+// The number below 2^64 that a great one leaves.
+fn low_word(number: u128) -> u64
+    ensures { result ≡ low_word number }
+{
+    (number % WORD) as u64
+}
+
+// How many times 2^64 a great number has.
+fn high_word(number: u128) -> u64
+    ensures { result ≡ high_word number }
+{
+    (number / WORD) as u64
+}
+
 fn numbers_of(answer: &Option<Decision>) -> Decided
     ensures { result ≡ numbers_of answer.now }
 {
@@ -165,7 +225,7 @@ fn numbers_of(answer: &Option<Decision>) -> Decided
         Some(Decision::Take { at, stops, starts }) => numbers(4, *at, *starts, *stops),
         Some(Decision::Complete { at, number }) => numbers(5, *at, *number, 0),
         Some(Decision::Abandon { at, number }) => numbers(6, *at, *number, 0),
-        Some(Decision::End { value }) => numbers(7, *value, 0, 0),
+        Some(Decision::End { value }) => numbers(7, low_word(*value), 0, high_word(*value)),
     }
 }
 
@@ -252,11 +312,38 @@ pub(crate) fn next(slot: &mut Slot) -> Due
     }
 }
 
+fn named_of(answer: Option<u64>) -> Named
+    ensures { result ≡ named_of answer }
+{
+    match answer {
+        Some(job) => Named { job, status: 0 },
+        None => Named { job: 0, status: 1 },
+    }
+}
+
+pub(crate) fn successor(slot: &mut Slot) -> Named
+    ensures { SuccessorAnswers slot.old slot.new result }
+{
+    match &slot.engine {
+        Some(engine) => named_of(engine.successor()),
+        None => Named { job: 0, status: 7 },
+    }
+}
+
 pub(crate) fn value(slot: &mut Slot) -> u64
     ensures { ValueAnswers slot.old slot.new result }
 {
     match &slot.engine {
-        Some(engine) => engine.value(),
+        Some(engine) => low_word(engine.value()),
+        None => 0,
+    }
+}
+
+pub(crate) fn value_high(slot: &mut Slot) -> u64
+    ensures { HighAnswers slot.old slot.new result }
+{
+    match &slot.engine {
+        Some(engine) => high_word(engine.value()),
         None => 0,
     }
 }

@@ -48,12 +48,15 @@ use Rattle.dover_model.specs.Spending.{waits_among}
 use Rattle.ready_jobs.specs.Spending.{wait_again_by}
 use Rattle.ready_jobs.proofs.Courses.{follows_count}
 use Rattle.ready_server.specs.NextStep.{ComesAt}
-use Rattle.ready_server.specs.Serving.{Serves, Rests, Finishes}
+use Rattle.ready_server.specs.Serving.{Serves, Rests, Finishes, GoesOnWith}
+use Rattle.ready_server.proofs.Stepping.{serves_begins}
+use Rattle.ready_server.proofs.Successors.{successor_next}
 use Rattle.ready_server.specs.declared.server.ReadyServer.{ReadyServer}
 use Rattle.dover_engine.specs.declared.decision.Decision.{Decision}
 use Rattle.dover_engine.specs.Decisions.{event_in}
 use Rattle.dover_engine.specs.Life.{life_with, Life, IsReadyFor, IsAtRest, HasPaid, CostsOnce, done_value, has_ended}
-use Rattle.dover_engine.specs.Life.{clock_of, spare_of}
+use Rattle.dover_engine.specs.Life.{clock_of, spare_of, successor_of}
+use Rattle.ready_jobs.specs.Course as course
 use Rattle.dover_model.proofs.Members.{some_same}
 use Rattle.dover_model.proofs.Tests.{never}
 use Rattle.dover_engine.specs.Given.{GaveSince, Gave, IsSince, IsPrompt}
@@ -378,6 +381,23 @@ module _ (v : Life) (J : Instance) (es : List Event) (g : Gave v J es) where
         ∙ ap (λ fs. fs ++ map (behind v.forgotten v.earned) begins.0) (sym g.all_events),
   )
 
+  -- up to a mark, it begins what is settled there
+  pub given_due : (t : ℕ) → v.last ≡ Mark t → Begins es (settled J t)
+  given_due t last =
+      let begins : Begins (g.told ++ option_to_list v.coming) (settled K t) = subst
+      (λ to. Begins (g.told ++ option_to_list v.coming) (due_by K to)) last
+      (serves_begins v.server K v.last (g.told ++ option_to_list v.coming) g.gave.serves) in
+      let rest : List Event = option_to_list v.coming ++ begins.0 in (
+        map (behind v.forgotten v.earned) rest,
+        settled_all t (subst (IsSince g.tick) last g.passed)
+            ∙ ap (λ fs. before ++ map (behind v.forgotten v.earned) fs) (begins.1
+            ∙ append_assoc g.told (option_to_list v.coming) begins.0)
+            ∙ ap (λ fs. before ++ fs) (map-append (behind v.forgotten v.earned) g.told rest)
+            ∙ sym (append_assoc before (map (behind v.forgotten v.earned) g.told)
+            (map (behind v.forgotten v.earned) rest))
+            ∙ ap (λ fs. fs ++ map (behind v.forgotten v.earned) rest) (sym g.all_events),
+      )
+
   -- what comes next of all jobs is what comes next of those since
   pub comes_given : (mark tick : ℕ) → IsReadyFor v mark → ComesAt K mark (settled K mark) tick → ComesAt J mark es tick
   comes_given mark tick ready it = record {
@@ -508,6 +528,23 @@ module _ (v : Life) (at number own : ℕ) (is : number ≡ v.forgotten + own) wh
             let sum : v.forgotten + n ≡ number = some_same (v.forgotten + n) number same in
             let one : n ≡ own = omega (arith, sum, is) in differs (e ∙ ap Some one)
 
+-- what goes on so for some jobs does for them behind others
+goes_on_behind : (front : List Event) (n value : ℕ) (J K : Instance) (at : ℕ) (fs : List Event) (o : Option ℕ)
+    → settled J at ≡ front ++ map (behind n value) (settled K at) → GoesOnWith K at fs o
+    → GoesOnWith J at (front ++ map (behind n value) fs) (option_map (λ m. n + m) o)
+goes_on_behind front n value J K at fs None same goes =
+    same ∙ ap (λ es. front ++ map (behind n value) es) goes
+goes_on_behind front n value J K at fs (Some m) same goes = (
+  map (behind n value) goes.0,
+  same ∙ ap (λ es. front ++ map (behind n value) es) goes.1
+      ∙ ap (λ es. front ++ es) (map-append (behind n value) (fs ++ events.Run at m ∷ []) goes.0
+      ∙ ap (λ es. es ++ map (behind n value) goes.0) (map-append (behind n value) fs (events.Run at m ∷ [])))
+      ∙ sym (append_assoc front (map (behind n value) fs ++ events.Run at (n + m) ∷ [])
+      (map (behind n value) goes.0))
+      ∙ ap (λ es. es ++ map (behind n value) goes.0)
+      (sym (append_assoc front (map (behind n value) fs) (events.Run at (n + m) ∷ []))),
+)
+
 -- the job is done, where the server finishes it
 module _ (v : Life) (at number own : ℕ) (is : number ≡ v.forgotten + own) (ready : IsReadyFor v at) (J0 : Instance)
     (es0 : List Event) (g0 : Gave v J0 es0) (s : ReadyServer) (e : Event)
@@ -551,6 +588,37 @@ module _ (v : Life) (at number own : ℕ) (is : number ≡ v.forgotten + own) (r
   prints J es g = let fin = finish_since J es g in
       finish_prints (K_since J es g) g.gave.serves.follows.valid at own fin.0 fin.1
 
+  -- behind it the processor goes to the one that the server names
+  succeeds : Holds v (λ J es. GoesOnWith (with_finishes J (finish ∷ [])) at (es ++ events.Complete at number ∷ [])
+      (successor_of v))
+  unfolding done_gave
+  succeeds J es g =
+      let fin = finish_since J es g in
+      let K : Instance = K_since J es g in
+      let f : Finish = fin.0.finish in
+      let J2 : Instance = with_finishes J (behind_finish v.forgotten f ∷ []) in
+      let front : List Event = before_end (printed (one_run J.rules g.turns)) in
+      let number_of : Event → Event = behind v.forgotten v.earned in
+      let gave : Gave w J2 es = done_gave v J es g s f e
+      (finish_gave v K g.told g.gave at ready s f e fin.3 (ap (λ d. is_end (Prints d)) fin.2)) in
+      let low : IsSince g.tick (Mark at) = subst (IsSince g.tick) ready.1 g.passed in
+      let all : settled J2 at ≡ front ++ map number_of (settled (with_finishes K (f ∷ [])) at) =
+      settled_all w J2 es gave at low in
+      let given : front ++ map number_of (settled K at ++ events.Complete at own ∷ [])
+      ≡ es ++ events.Complete at number ∷ [] =
+      ap (λ fs. front ++ fs) (map-append number_of (settled K at) (events.Complete at own ∷ []))
+      ∙ sym (append_assoc front (map number_of (settled K at)) (events.Complete at (v.forgotten + own) ∷ []))
+      ∙ ap (λ fs. (front ++ map number_of fs) ++ events.Complete at (v.forgotten + own) ∷ [])
+      (sym (told_there v J es g at ready))
+      ∙ ap (λ fs. fs ++ events.Complete at (v.forgotten + own) ∷ []) (sym g.all_events)
+      ∙ ap (λ n. es ++ events.Complete at n ∷ []) (sym is) in
+      subst (λ d. GoesOnWith (with_finishes J (d ∷ [])) at (es ++ events.Complete at number ∷ []) (successor_of v))
+      (same_finish J es g)
+      (subst (λ fs. GoesOnWith J2 at fs (successor_of v)) given
+      (goes_on_behind front v.forgotten v.earned J2 (with_finishes K (f ∷ [])) at
+      (settled K at ++ events.Complete at own ∷ []) (course.successor_of v.server.ready) all
+      (successor_next v.server K at (rests_since J es g) own fin.0 fin.1)))
+
   pub is_done : MayBeDone v at → spare_of v ≤ spare_of w → s.ready.room ≡ v.server.ready.room → s.ready.clock ≡ at
       → IsDone v w at (record { number = number; had = had_then })
   is_done may spare room clock = record {
@@ -567,6 +635,7 @@ module _ (v : Life) (at number own : ℕ) (is : number ≡ v.forgotten + own) (r
         (ap (λ d. is_end (Prints d)) fin.2)));
     next = ap (λ d. Some (behind v.forgotten v.earned d)) (finish_since J0 es0 g0).2
         ∙ ap (λ n. Some (events.Complete at n)) (sym is);
+    successor = succeeds;
     last = refl;
     clock = clock_then v.last ∙ clock;
     spare = spare;

@@ -24,18 +24,20 @@ use Rattle.dover_model.specs.Horizons.{MayFollow, is_ready_after, is_end_given, 
 use Rattle.admission.specs.declared.refused.Refused.{Refused}
 use Rattle.admission.specs.declared.refused.Refused.TheVariants as refused
 use Rattle.ready_server.specs.NextStep.{ComesAt}
+use Rattle.ready_server.specs.Serving.{GoesOnWith}
 use Rattle.dover_engine.specs.declared.causes.NotMade.{NotMade}
 use Rattle.dover_engine.specs.declared.causes.NotMade.TheVariants.{Capacity, Memory}
 use Rattle.dover_engine.specs.declared.causes.NotAdmitted.{NotAdmitted}
 use Rattle.dover_engine.specs.declared.causes.NotAdmitted.TheVariants.{Unsettled, BadJob, Count, Total, Ratio, Full}
+use Rattle.dover_engine.specs.declared.causes.NotAdmitted.TheVariants.{Numbers}
 use Rattle.dover_engine.specs.declared.causes.NotDone.{NotDone}
 use Rattle.dover_engine.specs.declared.causes.NotDone.TheVariants as not_done
 use Rattle.dover_engine.specs.declared.causes.NotStepped.{NotStepped}
 use Rattle.dover_engine.specs.declared.causes.NotStepped.TheVariants.{Falls, Late, Finished}
 use Rattle.dover_engine.specs.declared.decision.Decision.{Decision}
 use Rattle.dover_engine.specs.Decisions.{event_in, events_in}
-use Rattle.dover_engine.specs.Life.{Life, IsReadyFor, IsAtRest, most_forgotten, done_value, spare_of, room_of}
-use Rattle.dover_engine.specs.Life.{has_ended, clock_of, coming_of}
+use Rattle.dover_engine.specs.Life.{Life, IsReadyFor, IsAtRest, most_numbered, spare_of, room_of}
+use Rattle.dover_engine.specs.Life.{has_ended, clock_of, coming_of, successor_of}
 use Rattle.dover_engine.specs.Given.{Gave, IsPrompt}
 
 -- ---- making
@@ -84,6 +86,8 @@ IsCause v job Total = IsReadyFor v job.release × HasCause v job (Some plain.Tot
 IsCause v job (Ratio other) = IsReadyFor v job.release × HasCause v job (Some plain.Ratio)
     × ((J : Instance) (events : List Event) → Gave v J events → IsBreaker v J job other)
 IsCause v job Full = IsReadyFor v job.release × HasCause v job None × (spare_of v ≡ 0)
+IsCause v job Numbers = IsReadyFor v job.release × HasCause v job None × (0 < spare_of v)
+    × (most_numbered ≤ v.forgotten + v.admission.count)
 
 -- the cause of a refusal among the jobs behind these
 abbrev pub cause_behind : ℕ → Refused → NotAdmitted
@@ -112,13 +116,16 @@ pub record MayBeDone (v : Life) (at : ℕ) : Type 0 where
   pub ready : IsReadyFor v at
 
 -- The job of this finish had the processor in the tick that ends at this one, and is done though it may have work left.
--- Whatever was given before, it is given of the jobs with this finish, and the completion is to be given next.
+-- Whatever was given before, it is given of the jobs with this finish, and the completion is to be given next. Behind
+-- it the processor goes to the one that the engine named.
 pub record IsDone (v w : Life) (at : ℕ) (f : Finish) : Type 0 where
   pub may : MayBeDone v at
   pub runs : HasProcessor v f.number
   pub before : Holds v (λ J events. last_of events < at)
   pub gave : Holds v (λ J events. Gave w (with_finishes J (f ∷ [])) events)
   pub next : coming_of w ≡ Some (Complete at f.number)
+  pub successor : Holds v (λ J events.
+      GoesOnWith (with_finishes J (f ∷ [])) at (events ++ Complete at f.number ∷ []) (successor_of v))
   pub last : w.last ≡ v.last
   pub clock : clock_of w ≡ at
   pub spare : spare_of v ≤ spare_of w
@@ -141,10 +148,9 @@ mark_refusal End mark = Some Finished
 mark_refusal (Mark last) mark =
     if nat_lt mark last then Some Falls else if nat_lt last_tick mark then Some Late else None
 
--- at rest all jobs are forgotten, unless more than 10^18 jobs, or jobs of more than 10^18 in value, would be
+-- at rest all jobs are forgotten
 abbrev pub BeginsAnew : Life → Type 0
-BeginsAnew w = IsAtRest w → w.forgotten + w.admission.count ≤ most_forgotten → done_value w ≤ most_forgotten
-    → StandsFor w.admission []
+BeginsAnew w = IsAtRest w → StandsFor w.admission []
 
 -- a step to the horizon gave the next decision of the run, or None where all that are due by then were given
 pub record Decides (to : Horizon) (v w : Life) (answer : Option Decision) : Type 0 where

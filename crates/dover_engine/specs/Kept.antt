@@ -1,9 +1,9 @@
 -- What an engine keeps.
-use Rattle.std.specs.Prelude.{◌≤◌, List}
+use Rattle.std.specs.Prelude.{◌≤◌, ◌+◌, ◌*◌, List}
 use Rattle.dover_model.specs.declared.events.Event.{Event}
 use Rattle.dover_model.specs.Instance.{Instance}
 use Rattle.dover_engine.specs.declared.engine.Engine.TheInside.{Inside}
-use Rattle.dover_engine.specs.Life.{Life, most_forgotten}
+use Rattle.dover_engine.specs.Life.{Life, most_numbered}
 use Rattle.dover_engine.specs.Given.{Gave}
 
 -- what the fields stand for
@@ -23,5 +23,5 @@ pub record IsKept (e : Inside) : Type 0 where
   pub jobs : Instance
   pub events : List Event
   pub gave : Gave (life_of e) jobs events
-  pub forgotten_fits : e.forgotten ≤ most_forgotten
-  pub earned_fits : e.earned ≤ most_forgotten
+  pub numbered_fits : e.forgotten + e.admission.count ≤ most_numbered
+  pub earned_fits : e.earned ≤ 1_000_000_000_000_000_000 * e.forgotten

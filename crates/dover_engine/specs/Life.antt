@@ -8,6 +8,7 @@ use Rattle.admission.specs.Kept.{Kept}
 use Rattle.dover_model.specs.declared.horizon.Horizon.{Horizon}
 use Rattle.dover_model.specs.declared.horizon.Horizon.TheVariants.{Mark, End}
 use Rattle.ready_server.specs.declared.server.ReadyServer.{ReadyServer}
+use Rattle.ready_jobs.specs.Course as course
 use Rattle.ready_server.specs.Serving as serving
 
 -- the jobs that are open, what the next job is tested by, how far the steps were taken, and the jobs before the last
@@ -40,13 +41,22 @@ spare_of v = serving.spare_of v.server
 abbrev pub room_of : Life → ℕ
 room_of v = v.server.ready.room
 
+-- the job that would get the processor if the one that has it were done at the clock: of the first held and the first
+-- waiting one
+abbrev pub successor_of : Life → Option ℕ
+successor_of v = option_map (λ n. v.forgotten + n) (course.successor_of v.server.ready)
+
 -- the value of the jobs that completed
 abbrev pub done_value : Life → ℕ
 done_value v = v.earned + v.server.ready.done
 
--- how many jobs may be forgotten, and what they may have earned
-abbrev pub most_forgotten : ℕ
-most_forgotten = 1_000_000_000_000_000_000
+-- how many jobs may be admitted in all
+abbrev pub most_numbered : ℕ
+most_numbered = 10_000_000_000_000_000_000
+
+-- more than what so many jobs may earn
+abbrev pub most_earned : ℕ
+most_earned = 10_000_000_000_000_000_000_000_000_000_000_000_000
 
 -- the clock: the last mark where all that is settled there was given
 abbrev pub clock_of : Life → ℕ

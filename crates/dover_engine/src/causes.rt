@@ -1,7 +1,7 @@
 //! Why a call of an engine did nothing.
 ghost use Rattle.std.specs.Prelude.{◌≡◌, ◌≤◌};
 ghost use Rattle.dover_engine.specs.Calls.{cause_behind};
-ghost use Rattle.dover_engine.specs.Life.{most_forgotten};
+ghost use Rattle.dover_engine.specs.Life.{most_numbered};
 
 use admission::Refused;
 
@@ -31,11 +31,13 @@ pub enum NotAdmitted {
     Ratio { other: u64 },
     /// As many jobs are open as there is room for.
     Full,
+    /// 10,000,000,000,000,000,000 jobs were admitted in all, whose numbers are used up.
+    Numbers,
 }
 
 // The cause of a refusal among the jobs behind others that were forgotten.
 pub(crate) fn cause_behind(forgotten: u64, refused: Refused) -> NotAdmitted
-    requires { forgotten ≤ most_forgotten }
+    requires { forgotten ≤ most_numbered }
     ensures { result ≡ cause_behind forgotten refused }
 {
     match refused {

@@ -4,7 +4,7 @@ ghost use Rattle.std.specs.Option.{option_map};
 ghost use Rattle.dover_model.specs.Rest.{behind};
 ghost use Rattle.ready_server.specs.Serving.{HasShortValue};
 ghost use Rattle.dover_engine.specs.Decisions.{event_of, event_in};
-ghost use Rattle.dover_engine.specs.Life.{most_forgotten};
+ghost use Rattle.dover_engine.specs.Life.{most_numbered, most_earned};
 
 use dover_model::{Event, Job};
 
@@ -24,21 +24,21 @@ pub enum Decision {
     /// The job at its latest start is given up.
     Abandon { at: u64, number: u64 },
     /// All jobs are over, and those that completed were worth this.
-    End { value: u64 },
+    End { value: u128 },
 }
 
 // The number of a job behind others.
 fn behind(forgotten: u64, number: u32) -> u64
-    requires { forgotten ≤ most_forgotten }
+    requires { forgotten ≤ most_numbered }
     ensures { result ≡ forgotten + number }
 {
     forgotten + u64::from(number)
 }
 
 // The decision of an event of jobs behind others that were forgotten.
-fn decision_of(forgotten: u64, earned: u64, event: &Event) -> Decision
-    requires forgotten { forgotten ≤ most_forgotten }
-    requires earned { earned ≤ most_forgotten }
+fn decision_of(forgotten: u64, earned: u128, event: &Event) -> Decision
+    requires forgotten { forgotten ≤ most_numbered }
+    requires earned { earned ≤ most_earned }
     requires value { HasShortValue event.now }
     ensures { event_of result ≡ behind forgotten earned event.now }
 {
@@ -70,15 +70,15 @@ fn decision_of(forgotten: u64, earned: u64, event: &Event) -> Decision
             number: behind(forgotten, *number),
         },
         Event::End { value } => Decision::End {
-            value: earned + *value,
+            value: earned + u128::from(*value),
         },
     }
 }
 
 // The same of an answer.
-pub(crate) fn decision_in(forgotten: u64, earned: u64, answer: &Option<Event>) -> Option<Decision>
-    requires forgotten { forgotten ≤ most_forgotten }
-    requires earned { earned ≤ most_forgotten }
+pub(crate) fn decision_in(forgotten: u64, earned: u128, answer: &Option<Event>) -> Option<Decision>
+    requires forgotten { forgotten ≤ most_numbered }
+    requires earned { earned ≤ most_earned }
     requires value { IfSome answer.now HasShortValue }
     ensures { event_in result ≡ option_map (behind forgotten earned) answer.now }
 {

@@ -10,7 +10,7 @@ ghost use Rattle.dover_model.specs.declared.events.Event.{Event};
 ghost use Rattle.dover_model.specs.declared.horizon.Horizon.TheVariants.{Mark, End};
 ghost use Rattle.dover_model.specs.Horizons.{MayFollow, is_ready_after, is_end_given, no_jobs, due_by};
 ghost use Rattle.dover_engine.specs.Life.{spare_of, done_value, clock_of, has_ended, HasPaid, IsReadyFor, room_of};
-ghost use Rattle.dover_engine.specs.Life.{CostsOnce};
+ghost use Rattle.dover_engine.specs.Life.{CostsOnce, successor_of};
 ghost use Rattle.ready_server.specs.Serving.{HasShortValue, Rests};
 ghost use Rattle.dover_model.specs.Processor.{runner_of};
 ghost use Rattle.dover_model.specs.Settled.{settled};
@@ -21,6 +21,7 @@ ghost use Rattle.dover_engine.specs.Calls.{IsDone, IsNotDone, HasNoProcessor};
 
 use crate::causes::{NotAdmitted, NotDone, NotMade, NotStepped, cause_behind};
 use crate::decision::{Decision, decision_in};
+use crate::earned::Earned;
 use admission::Admission;
 use dover_model::jobs::LAST_TICK;
 use dover_model::{Event, Horizon, Ratio, Version};
@@ -31,8 +32,8 @@ use std::marker::Model;
 use std::sync::ledger::Ledger;
 use step_count::Steps;
 
-// How many jobs may be forgotten, and what they may have earned.
-const MOST_FORGOTTEN: u64 = 1_000_000_000_000_000_000;
+// How many jobs may be admitted in all.
+const MOST_NUMBERED: u64 = 10_000_000_000_000_000_000;
 
 /// A server with its admission, which takes all its memory when it is made, and forgets each job as it is over. Its
 /// capacity is for open jobs, and a job is over at its deadline at the latest: as many are enough as can come within
@@ -45,7 +46,7 @@ pub struct Engine {
     settled: bool,
     coming: Option<Event>,
     forgotten: u64,
-    earned: u64,
+    earned: Earned,
 }
 
 impl Model for Engine {
@@ -89,7 +90,7 @@ impl Engine {
     pub fn new(alloc: Global, version: Version, k: Ratio, capacity: u32) -> Result<Engine, NotMade>
         ensures gave { IfOk result (λ engine. Gave engine (no_jobs version k) []) }
         ensures begins { IfOk result (λ engine. engine.last ≡ Mark 0) }
-        ensures room { IfOk result (λ engine. capacity ≤ spare_of engine) }
+        ensures room { IfOk result (λ engine. spare_of engine ≡ capacity) }
         ensures paid { (now : ℕ) → IfOk result (λ engine. HasPaid engine now now) }
         ensures err { IfErr result (λ cause. cause ≡ not_made capacity) }
     {
@@ -109,7 +110,7 @@ impl Engine {
             settled: false,
             coming: None,
             forgotten: 0,
-            earned: 0,
+            earned: Earned::nothing(),
         })
     }
 
@@ -125,7 +126,7 @@ impl Engine {
     ///
     /// The limits of count, total and ratio are those of the jobs since the last moment of rest: a tick at which `step`
     /// answered None and no job was open. Then the jobs before are forgotten. An engine that never rests refuses jobs
-    /// from such a limit on till the open ones are over.
+    /// from such a limit on till the open ones are over. The numbers alone are counted over the whole life.
     ///
     /// # Errors
     ///
@@ -155,12 +156,15 @@ impl Engine {
         if self.server.spare() == 0 {
             return Err(NotAdmitted::Full);
         }
-        let number = self.admission.count();
+        let number = self.forgotten + u64::from(self.admission.count());
+        if number >= MOST_NUMBERED {
+            return Err(NotAdmitted::Numbers);
+        }
         let event = self.server.admit(job);
         self.admission.admit(job);
         self.settled = false;
         self.coming = Some(event);
-        Ok(self.forgotten + u64::from(number))
+        Ok(number)
     }
 
     // The number of the job among those since the last moment of rest, if it has the processor.
@@ -254,12 +258,11 @@ impl Engine {
         requires { IfSome event.now HasShortValue }
         ensures { event_in result ≡ option_map (behind self.now.forgotten self.now.earned) event.now }
     {
-        decision_in(self.forgotten, self.earned, event)
+        decision_in(self.forgotten, self.earned.total(), event)
     }
 
     // Begins anew where all jobs are over and all that is settled was given: the jobs are forgotten, and the clock and
-    // the numbers go on. It does so too rarely only where more than 10^18 jobs, or jobs of more than 10^18 in value,
-    // would be forgotten.
+    // the numbers go on.
     fn renew(&mut self)
         ensures gave { (J : Instance) (events : List Event) → Gave self.old J events → Gave self.new J events }
         ensures last { self.new.last ≡ self.old.last }
@@ -275,14 +278,14 @@ impl Engine {
             return;
         }
         let jobs = u64::from(self.admission.count());
-        let value = self.server.value();
-        if MOST_FORGOTTEN - self.forgotten < jobs || MOST_FORGOTTEN - self.earned < value {
+        if jobs == 0 {
             return;
         }
+        let value = self.server.value();
         self.server.renew();
         self.admission = Admission::new(self.admission.version(), self.admission.ratio());
         self.forgotten += jobs;
-        self.earned += value;
+        self.earned.add(value);
     }
 
     // The next decision before the horizon.
@@ -349,11 +352,24 @@ impl Engine {
         }
     }
 
+    /// The job that would get the processor next if the one that has it were done at the clock. Where `step` to a mark
+    /// answered None and no job was admitted or done since, it is the one that gets the processor at the mark if the
+    /// other is `done` there. None where no other job is open. No memory is taken, and no jobs are compared but the
+    /// first held and the first waiting one.
+    pub fn successor(&self) -> Option<u64>
+        ensures { result ≡ successor_of self.now }
+    {
+        match self.server.successor() {
+            Some(own) => Some(self.forgotten + u64::from(own)),
+            None => None,
+        }
+    }
+
     /// The sum of the values of all jobs that completed.
-    pub fn value(&self) -> u64
+    pub fn value(&self) -> u128
         ensures { result ≡ done_value self.now }
     {
-        self.earned + self.server.value()
+        self.earned.total() + u128::from(self.server.value())
     }
 
     /// The tick up to which all is settled, or else that of the last decision, or one behind it.

@@ -1,6 +1,7 @@
 //! What an engine gives over its whole life, whatever calls are made of it: each law is the contract of a function that
 //! does nothing.
 ghost use Rattle.std.specs.Prelude.{◌≡◌, ◌≤◌, ◌++◌, ℕ, List, [], ◌∷◌, true, false, Option, Some, None};
+ghost use Rattle.std.specs.Option.{option_map};
 ghost use Rattle.std.specs.List.{enumerate_from};
 ghost use Rattle.dover_model.specs.declared.events.Version.{Version};
 ghost use Rattle.dover_model.specs.declared.events.Event.{Event};
@@ -21,9 +22,9 @@ ghost use Rattle.dover_model.specs.declared.horizon.Horizon.{Horizon};
 ghost use Rattle.dover_model.specs.declared.horizon.Horizon.TheVariants.{Mark};
 ghost use Rattle.dover_engine.specs.declared.decision.Decision.{Decision};
 ghost use Rattle.dover_engine.specs.Decisions.{event_in};
-ghost use Rattle.dover_engine.specs.Life.{Life, done_value, has_ended, IsAtRest};
+ghost use Rattle.dover_engine.specs.Life.{Life, done_value, has_ended, IsAtRest, successor_of};
 ghost use Rattle.dover_engine.specs.Calls.{Call, Done, Stepped, Lives, admitted, jobs_in, finishes_in, all_jobs};
-ghost use Rattle.dover_engine.specs.Calls.{decided};
+ghost use Rattle.dover_engine.specs.Calls.{decided, LeadsAll};
 
 /// Whatever jobs were admitted, done early and forgotten, and steps taken: the jobs are numbered from 0 in the order in
 /// which they were admitted, and the decisions that were given are those of the one run of all of them, in which those
@@ -52,6 +53,16 @@ pub fn a_life_is_one_run()
         Lives version k (calls ++ more) w →
         has_ended w ≡ true → (later : List Event)
         × (printed (all_jobs version k (calls ++ more)) ≡ decided calls ++ later) }
+{}
+
+/// Of an engine that is asked which job would be next, and is told right behind that, at a tick for which all is given,
+/// that the job that has the processor is done there, the decision behind the completion is that the named job runs, or
+/// with none named there is none up to the tick.
+pub fn the_successor_is_next()
+    ensures { (version : Version) (k : Fraction) (calls : List Call) (at : ℕ) (f : Finish) (a b : Option Decision)
+        (v w : Life) → Lives version k calls v →
+        LeadsAll (Done at f ∷ Stepped (Mark at) a ∷ Stepped (Mark at) b ∷ []) v w →
+        event_in b ≡ option_map (events.Run at) (successor_of v) }
 {}
 
 /// So that run is what no schedule of all the jobs is worth much more than: with its ratio k, no schedule is worth more

@@ -4,6 +4,7 @@
 
 pub mod causes;
 pub mod decision;
+mod earned;
 pub mod engine;
 pub mod laws;
 

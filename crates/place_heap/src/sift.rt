@@ -77,7 +77,7 @@ fn earlier<L: Ledger>(items: &[Item], left: usize, right: usize, steps: &mut Ste
 }
 
 // Of four positions, from this one on, the one whose item comes first. Two pairs are compared, then their first ones,
-// since that takes no jump that can't be foretold.
+// since that has no unpredictable branch.
 #[inline(always)]
 fn first_of_four<L: Ledger>(items: &[Item], low: usize, steps: &mut Steps<L>) -> usize
     requires { low + 4 ≤ length items.now }

@@ -1,4 +1,5 @@
 -- What printed steps leave of worked ready jobs, by computation.
+use Rattle.dover_model.specs.Fraction.{fraction}
 use Rattle.std.proofs.Common.{◌≡◌, ℕ, [], ◌∷◌, map, refl}
 use Rattle.std.specs.Prelude.{Some, None}
 use Rattle.std.specs.List.{filter}
@@ -34,7 +35,7 @@ worked = record {
   room = 4;
 }
 
-takes_next : open_step (record { ratio = record { p = 1; q = 1 }; version = One; finishes = [] }) (state_of worked)
+takes_next : open_step (record { ratio = fraction 1 1; version = One; finishes = [] }) (state_of worked)
     ≡ Prints (Take 2 1 2)
 takes_next = refl
 

@@ -1,6 +1,6 @@
 -- A run of the jobs that were released so far: what is kept of it, and what that says.
 use Rattle.std.specs.Prelude.{◌≡◌, ◌≤◌, ◌+◌, ℕ, List, [], ◌∷◌, ◌++◌, length, ◌&&◌, nat_le, false, true, Option, Some}
-use Rattle.std.specs.Prelude.{None}
+use Rattle.std.specs.Prelude.{None, option_map}
 use Rattle.std.specs.List.{filter}
 use Rattle.dover_model.specs.Limits.{last_tick}
 use Rattle.dover_model.specs.declared.events.Event.{Event}
@@ -20,6 +20,7 @@ use Rattle.dover_model.specs.WholeRun.{IsBefore}
 use Rattle.dover_model.specs.Leading.{Idles, IsSilent, GoesOn, WaitsUntil, PrintsNext}
 use Rattle.dover_model.specs.Ready.{is_ready}
 use Rattle.waiting_pool.specs.Reordered.{IsReordered}
+use Rattle.ready_jobs.specs.Cases.{next_ready}
 use Rattle.ready_jobs.specs.Parts.{Parted, ready_of}
 use Rattle.ready_jobs.specs.Deeds.{Finds, step_at}
 use Rattle.ready_jobs.specs.declared.deeds.Deed.{Deed}
@@ -62,6 +63,10 @@ pub record Follows (c : Course) (J : Instance) (z : State) : Type 0 where
 -- it is kept of some jobs in some state
 abbrev pub IsCourse : Course → Type 0
 IsCourse c = (J : Instance) × (z : State) × Follows c J z
+
+-- the job that would get the processor if none ran, by its number: of the first held and the first waiting one
+abbrev pub successor_of : Course → Option ℕ
+successor_of c = option_map (λ t. t.number) (next_ready c.rules.version (state_at c.clock c.ready))
 
 -- the course of no jobs
 abbrev pub new_course : Declaration → ℕ → Course

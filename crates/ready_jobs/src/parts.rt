@@ -14,7 +14,7 @@ ghost use Rattle.dover_model.specs.Orders.{due_first, starts_before, first};
 ghost use Rattle.dover_model.specs.Step.{open_step, view, with_role, is_at_latest_start, resumed, runs, displaced};
 ghost use Rattle.dover_model.specs.Jumps.{ticked_by};
 ghost use Rattle.dover_model.specs.Sound.{Each};
-ghost use Rattle.ready_jobs.specs.Cases.{decision_of, alarm_of};
+ghost use Rattle.ready_jobs.specs.Cases.{decision_of, alarm_of, next_ready};
 ghost use Rattle.ready_jobs.specs.Dues.{still_ticks, until_done};
 ghost use Rattle.ready_jobs.specs.Changed.{made_wait};
 ghost use Rattle.ready_jobs.specs.Deeds.{step_at, Finds};
@@ -332,6 +332,43 @@ impl Parts {
                 Deed::Start { number: o.number() }
             }
             _ => Deed::Resume { number: p.number() },
+        }
+    }
+
+    // While p is held: the number of the job that gets the processor where it is free.
+    #[inline(always)]
+    fn successor_to_held(&self, p: &ShortTask) -> u32
+        requires sound { AreSound self.now }
+        ensures { let v = view self.now.version (state_of self.now) in
+            result ≡ (resumed v p.now v.first_waiting).number }
+    {
+        match self.first_waiting() {
+            Some(o) if o.deadline() < p.deadline() && o.left() <= self.room_held() => o.number(),
+            _ => p.number(),
+        }
+    }
+
+    /// The number of the job that gets the processor where it is free and none is fresh, if any is held or waits.
+    pub fn successor(&self) -> Option<u32>
+        requires { AreSound self.now }
+        ensures { result ≡ option_map (λ t. t.number) (next_ready self.now.version (state_of self.now)) }
+    {
+        match self.first_held() {
+            Some(p) => Some(self.successor_to_held(p)),
+            None => self.first_to_wait(),
+        }
+    }
+
+    // The number of the first waiting job by deadline.
+    #[inline(always)]
+    fn first_to_wait(&self) -> Option<u32>
+        requires { AreSound self.now }
+        ensures { result ≡ option_map (λ t. t.number)
+            (view self.now.version (state_of self.now)).first_waiting }
+    {
+        match self.first_waiting() {
+            Some(o) => Some(o.number()),
+            None => None,
         }
     }
 

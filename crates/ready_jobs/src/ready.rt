@@ -14,7 +14,7 @@ ghost use Rattle.dover_model.specs.Settled.{waits_for_mark};
 ghost use Rattle.waiting_pool.specs.Reordered.{IsReordered};
 ghost use Rattle.ready_jobs.specs.Course.{Course, Follows, IsCourse, Reached, Settled, new_course, fresh_job, IsDue};
 ghost use Rattle.ready_jobs.specs.Course.{SettlesAt, StepsBefore, ComesNext, Passes, Takes, with_release};
-ghost use Rattle.ready_jobs.specs.Course.{Finishes, Runs, RunsNowhere};
+ghost use Rattle.ready_jobs.specs.Course.{Finishes, Runs, RunsNowhere, successor_of};
 ghost use Rattle.ready_jobs.specs.Deeds.{Finds, step_at};
 ghost use Rattle.ready_jobs.specs.NextTick.{IsUnderWay, PrintsAt};
 ghost use Rattle.ready_jobs.specs.Spending.{HasPaid, HasPaidFreely, CostsOnce, wait_again};
@@ -436,6 +436,15 @@ impl Ready {
             Some(r) => u64::from(r.number) == number,
             None => false,
         }
+    }
+
+    /// The number of the job that would get the processor if none ran and none were fresh. None where none is held or
+    /// waits. No jobs are compared but the first held and the first waiting one.
+    pub fn successor(&self) -> Option<u32>
+        ensures { result ≡ successor_of self.now }
+    {
+        self.parts.laws();
+        self.parts.successor()
     }
 
     /// Takes the release of the next job, to which the clock goes on.

@@ -47,7 +47,7 @@ module _ (s : ReadyServer) (J : Instance) (at : ℕ) (rests : Rests s J (Mark at
   there = state_at at z.tasks
 
   -- the settled steps lead there
-  settled_there : settled_state J at ≡ there
+  pub settled_there : settled_state J at ≡ there
   settled_there = ap (state_after (opening J.jobs)) same_steps
       ∙ path_state J.rules at waits.steps (opening J.jobs) there waits.path where
         waits : HasPrinted J at there (settled J at)

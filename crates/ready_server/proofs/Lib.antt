@@ -2,6 +2,7 @@ pub mod Stepping
 pub mod NextSteps
 pub mod Releasing
 pub mod Finishing
+pub mod Successors
 pub mod Renewing
 pub mod Feeding
 pub mod Showing

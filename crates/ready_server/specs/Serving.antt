@@ -11,7 +11,7 @@ use Rattle.dover_model.specs.State.{State, state_at}
 use Rattle.dover_model.specs.Run.{Step, printed, printed_of}
 use Rattle.dover_model.specs.Settled.{settled, last_of}
 use Rattle.dover_model.specs.Leading.{GoesOn}
-use Rattle.dover_model.specs.WholeRun.{IsWholeRun, IsBarrier}
+use Rattle.dover_model.specs.WholeRun.{IsWholeRun, IsBarrier, Begins}
 use Rattle.dover_model.specs.Paths.{HasPrinted}
 use Rattle.dover_model.specs.declared.horizon.Horizon.{Horizon}
 use Rattle.dover_model.specs.declared.horizon.Horizon.TheVariants.{Mark, End}
@@ -70,6 +70,11 @@ Finishes old new J at number (Some e) = (f : EarlyFinish) × (finish_at J at num
     × (e ≡ events.Complete at number)
     × Serves new (with_finishes J (f.finish ∷ [])) (Mark at) (settled J at ++ e ∷ [])
 Finishes old new J at number None = (finish_at J at number ≡ None) × (new ≡ old)
+
+-- behind these events, what is settled at the tick is that the job of this number gets the processor, or nothing more
+abbrev pub GoesOnWith : Instance → (at : ℕ) → List Event → Option ℕ → Type 0
+GoesOnWith J at before None = settled J at ≡ before
+GoesOnWith J at before (Some n) = Begins (before ++ events.Run at n ∷ []) (settled J at)
 
 -- there is room for one ready job more
 abbrev pub HasPlace : ReadyServer → Type 0

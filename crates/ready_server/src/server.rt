@@ -2,13 +2,14 @@
 ghost use Rattle.std.specs.Prelude.{◌≡◌, ◌≤◌, ◌<◌, ◌+◌, ◌∷◌, [], ◌++◌, ◌||◌, ◌↔◌, ◌*◌, ℕ, List, length, min, max, IfOk};
 ghost use Rattle.std.specs.Prelude.{IsOk, OnOk, IfSome, IsNone, IsTrue, false, Some};
 ghost use Rattle.dover_model.specs.declared.events.Event.{Event};
+ghost use Rattle.dover_model.specs.declared.events.Event.TheVariants.{Complete};
 ghost use Rattle.dover_model.specs.Finishes.{Finish};
-ghost use Rattle.dover_model.specs.Instance.{Instance, IsValid, with_jobs, finishing};
+ghost use Rattle.dover_model.specs.Instance.{Instance, IsValid, with_jobs, with_finishes, finishing};
 ghost use Rattle.dover_model.specs.Limits.{most_ready, most_total, last_tick};
 ghost use Rattle.dover_model.specs.declared.events.Version.TheVariants.{Three};
 ghost use Rattle.dover_model.specs.Rest.{instead_with};
 ghost use Rattle.dover_model.specs.Processor.{runner_of};
-ghost use Rattle.dover_model.specs.Session.{is_full};
+ghost use Rattle.dover_model.specs.Session.{EarlyFinish, finish_at, is_full};
 ghost use Rattle.dover_model.specs.Settled.{settled};
 ghost use Rattle.dover_model.specs.Run.{is_end};
 ghost use Rattle.dover_model.specs.Spending.{CostsAtMost};
@@ -19,7 +20,8 @@ ghost use Rattle.dover_model.specs.declared.horizon.Horizon.{Horizon};
 ghost use Rattle.dover_model.specs.declared.horizon.Horizon.TheVariants.{Mark, End};
 ghost use Rattle.dover_model.specs.Horizons.{MayFollow, is_end_given, no_jobs, due_by, Gives};
 ghost use Rattle.ready_server.specs.Serving.{Serves, Rests, HasPlace, HasPaid, spare_of, HasShortValue, CostsOnce};
-ghost use Rattle.ready_server.specs.Serving.{Finishes, HasPlaceUnlessFull};
+ghost use Rattle.ready_server.specs.Serving.{Finishes, GoesOnWith, HasPlaceUnlessFull};
+ghost use Rattle.ready_jobs.specs.Course.{successor_of};
 ghost use Rattle.ready_server.specs.NextStep.{ComesAt};
 
 use dover_model::{Event, Horizon, Job, Memory, Ratio, Version};
@@ -30,16 +32,6 @@ use step_count::Steps;
 
 /// A server that keeps the jobs that are released and not over, and forgets each as it is over. However many come, it
 /// makes room for at most twice as many as are ready at once.
-///
-/// # Examples
-///
-/// ```
-/// let mut server = ReadyServer::new(alloc, Version::One, Ratio::new(1, 1).unwrap())?;
-/// server.make_room()?;
-/// while let Some(event) = server.step(Horizon::Mark(0), steps) {} // None comes before the first job.
-/// let release = server.admit(Job::new(0, 2, 2, 2).unwrap(), steps);
-/// while let Some(event) = server.step(Horizon::End, steps) {} // run 0 0, complete 2 0, end 2
-/// ```
 #[derive(Drop)]
 pub struct ReadyServer {
     ready: Ready,
@@ -82,6 +74,7 @@ impl ReadyServer {
     pub fn new(alloc: Global, version: Version, k: Ratio) -> Result<ReadyServer, Memory>
         ensures serves { IfOk result (λ s. Serves s (no_jobs version k) (Mark 0) []) }
         ensures empty { IfOk result (λ s. s.ready.ready ≡ []) }
+        ensures room { IfOk result (λ s. s.ready.room ≡ 0) }
         ensures paid { (start now : ℕ) → now ≤ start → IfOk result (λ s. HasPaid s start now) }
     {
         // A ratio is known to be one where it is read.
@@ -231,6 +224,18 @@ impl ReadyServer {
             → IfSome result (λ tick. ComesAt J mark (settled J mark) tick) }
     {
         self.ready.next()
+    }
+
+    /// The number of the job that would get the processor if none had it: where all is given up to a mark, the one that
+    /// gets it where the job that has it is done there early. None where no other job is ready. No jobs are compared
+    /// but the first held and the first waiting one.
+    pub fn successor(&self) -> Option<u32>
+        ensures is { result ≡ successor_of self.now.ready }
+        ensures next { (J : Instance) (at number : ℕ) (f : EarlyFinish) → Rests self.now J (Mark at)
+            → finish_at J at number ≡ Some f
+            → GoesOnWith (with_finishes J (f.finish ∷ [])) at (settled J at ++ Complete at number ∷ []) result }
+    {
+        self.ready.successor()
     }
 
     /// Forgets how many jobs there were, and what those done were worth, where none is ready: what is left at rest is

@@ -6,8 +6,8 @@ use Rattle.std.proofs.lemmas.Bool.{le-leb, leb-true, cases_lt}
 use Rattle.std.proofs.Math.Nat.{mul-div-le, le-div_iff_mul-le, mul-le-mul_left, mul-le-mul_right}
 use Rattle.dover_model.specs.Fraction.{Fraction}
 use Rattle.dover_model.specs.Greatest.{IsGreatest}
-use Rattle.dover_model.specs.Bound.{is_within}
-use Rattle.dover_model.proofs.Calculus.{Below, square_order, cancel}
+use Rattle.dover_model.specs.Bound.{is_within_root}
+use Rattle.dover_model.proofs.Calculus.{square_order}
 
 -- ---- the root of m times a, as its whole root times a and a rest
 
@@ -121,21 +121,17 @@ module _ (k : Fraction) (a root : ℕ) (some : 1 ≤ k.q)
       mul-div-le ((k.p + k.q) * a + root) k.q in omega (arith, whole)
 
   -- so the value is within
-  does : IsTrue (is_within k (((k.p + k.q) * a + root) / k.q) a)
+  does : IsTrue (is_within_root k (((k.p + k.q) * a + root) / k.q) a)
   does = le-leb _ _ (up _ over) where
     up : (x : ℕ) → x ≤ root → x * x ≤ 4 * k.p * k.q * a * a
     up x less = let squares : x * x ≤ root * root = mul-le x x root root less less in omega (arith, squares, square)
 
   -- and no greater one is
-  none_greater : (c : ℕ) → IsTrue (is_within k c a) → c ≤ ((k.p + k.q) * a + root) / k.q
+  none_greater : (c : ℕ) → IsTrue (is_within_root k c a) → c ≤ ((k.p + k.q) * a + root) / k.q
   none_greater c within =
       let less : k.q * c - (k.p + k.q) * a ≤ root = greatest (k.q * c - (k.p + k.q) * a) (leb-true _ _ within) in
       (le-div_iff_mul-le {k = k.q} {x = c} {y = (k.p + k.q) * a + root} (omega arith)).1 (omega (arith, less))
 
   -- the whole root gives the greatest value within the bound
-  pub root_gives : IsGreatest (λ c. is_within k c a) (((k.p + k.q) * a + root) / k.q)
+  pub root_gives : IsGreatest (λ c. is_within_root k c a) (((k.p + k.q) * a + root) / k.q)
   root_gives = record { does = does; greatest = none_greater }
-
--- what stands below the root is worth little more than an interval
-pub below_excess : (k : Fraction) (y a : ℕ) → 1 ≤ k.q → Below (k.p * k.q) (k.q * y) a → k.q * y * y ≤ k.p * a * a
-below_excess k y a some below = cancel k.q (k.q * y * y) (k.p * a * a) some (omega arith)

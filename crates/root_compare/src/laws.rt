@@ -4,6 +4,7 @@ ghost use Rattle.std.specs.List.{sum_by};
 ghost use Rattle.dover_model.specs.Fraction.{Fraction};
 ghost use Rattle.dover_model.specs.Orders.{IsHeavy};
 ghost use Rattle.dover_model.specs.Sound.{Each};
+ghost use Rattle.dover_model.specs.Books.{IsExcess};
 ghost use Rattle.root_compare.specs.Roots.{IsBelowRoot};
 
 /// Numbers below a root times a number multiply and add up, and less stays below more.
@@ -27,5 +28,5 @@ pub fn forms_of_rows()
 /// A value that is heavy is more, and one that isn't heavy exceeds by little.
 pub fn light_values_exceed_by_little()
     ensures heavy { (k : Fraction) (v w : ℕ) → IsHeavy k v w → w < v }
-    ensures light { (k : Fraction) (v w : ℕ) → (IsHeavy k v w → ⊥) → k.q * (v - w) * (v - w) ≤ k.p * w * w }
+    ensures light { (k : Fraction) (v w : ℕ) → (IsHeavy k v w → ⊥) → IsExcess k (v - w) w }
 {}

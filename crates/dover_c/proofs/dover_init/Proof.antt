@@ -17,6 +17,7 @@ use Rattle.std.proofs.alloc.Global.TheLaws as heap_laws
 use Rattle.dover_c.specs.declared.slot.Slot.{Slot}
 use Rattle.dover_c.specs.contracts.slot.Slot as slot
 use Rattle.dover_c.proofs.slot.Slot.TheLaws as slot_laws
+use Rattle.dover_model.specs.Fraction.{fraction}
 use Rattle.dover_c.specs.Codes.{IsMade}
 use Rattle.dover_c.specs.contracts.dover_init as f
 use Rattle.dover_c.proofs.dover_init.Statement.{statement}
@@ -89,7 +90,7 @@ dover_init_spec 𝓤 𝓛 𝓜 𝓡 wired =
     (and_then ! (get ! refl) (and_then ! (get ! refl) (and_then ! (get ! refl) (no_more !)))))) (λ u.
     use1 𝓛 (later (some (λ (r : R.Denot). (‵ ftrue ⊛ ‵ (R.own_val r (u ∷ []))) ⊛ some
     (λ (ws : Lasts g.ended tt given). ‵ (lasts g.ended tt given ws) ⊛ raw
-    (fact 𝓤 (IsMade p q version capacity r)))))) (id⊢ 𝓤 _) $
+    (fact 𝓤 (IsMade (fraction p q) version capacity r)))))) (id⊢ 𝓤 _) $
     await ! tt $ pick ! (λ r. split ! $ split ! $ drop ! $
     -- [what was made; what the call says; the room; the locals]
     peeks ! R (Is R) (shows 𝓛 R) r (u ∷ [])
@@ -100,8 +101,9 @@ dover_init_spec 𝓤 𝓛 𝓜 𝓡 wired =
     $ sets ! (of_opd ! (unit_lit !)) refl (tt, tt) $
     returns ! (look_at ! 0 refl) $ free_all ! refl
     $ use2 𝓛 (‵ (part_at R full_share r b o)) (part_in 𝓛 R refl full_share r b o u) $
-    nothing ! $ fpack ! (IsMade p q version capacity r) (λ _. ftrue) told $ move ! (1 ∷ 0 ∷ []) $ fjoin ! $
-    fpack ! Slot (λ w. fsep (lies_at R full_share (block_ptr b o) w) (fex (IsMade p q version capacity w) (λ _. ftrue)))
+    nothing ! $ fpack ! (IsMade (fraction p q) version capacity r) (λ _. ftrue) told $ move ! (1 ∷ 0 ∷ []) $ fjoin ! $
+    fpack ! Slot (λ w. fsep (lies_at R full_share (block_ptr b o) w)
+    (fex (IsMade (fraction p q) version capacity w) (λ _. ftrue)))
     r $
     suffices ! _ (ends_at 𝓛 f.ended stayed c (y (block_ptr b o)) vunit tt (tt, (tt, (tt, (tt, (tt, (tt, tt))))))
     (tt, (tt, (tt, (tt, (tt, (tt, tt))))))) $

@@ -19,11 +19,11 @@ pub returns-clause-begins : goal.returns-clause-begins
 returns-clause-begins c = begins_given
 
 pub returns-clause-within : goal.returns-clause-within
-returns-clause-within c = λ version p q capacity acts t s program. within_given version p q capacity acts t program s
+returns-clause-within c = λ version k capacity acts t s program. within_given version k capacity acts t program s
 
 pub returns-clause-observed : goal.returns-clause-observed
-returns-clause-observed c = λ version p q capacity acts t s program.
-    observed_given version p q capacity acts t program s
+returns-clause-observed c = λ version k capacity acts t s program.
+    observed_given version k capacity acts t program s
 
 pub returns-clause-as_declared : goal.returns-clause-as_declared
 returns-clause-as_declared c = as_declared_given

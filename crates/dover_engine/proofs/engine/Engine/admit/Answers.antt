@@ -11,8 +11,8 @@ use Rattle.dover_engine.specs.Given.{Gave}
 use Rattle.dover_engine.specs.Calls.{IsAdmitted, IsCause}
 use Rattle.dover_engine.proofs.Giving.{rests_there, may_admit, job_gave}
 use Rattle.dover_engine.proofs.Lives.{admit_gave, has_cause, refused_cause}
-use Rattle.dover_engine.specs.declared.causes.NotAdmitted.TheVariants.{Full}
-use Rattle.std.proofs.Common.{arith}
+use Rattle.dover_engine.specs.declared.causes.NotAdmitted.TheVariants.{Full, Numbers}
+use Rattle.std.proofs.Common.{arith, length-append}
 use Rattle.std.proofs.lemmas.Bool.{false≢true}
 use Rattle.dover_engine.proofs.engine.Engine.admit.Goals as goal
 
@@ -41,7 +41,7 @@ returns-clause-ok c =
     (job_of_numbers c.args.release c.args.work c.args.deadline c.args.value)
     (c.self.inside.forgotten + c.from.result)) c.self.view_is
     (subst (λ (j : JobFacts). IsAdmitted v w j (c.self.inside.forgotten + c.from.result)) c.in-Ok.ensures.job (record {
-      numbered = ap (λ n. v.forgotten + n) (c.from.ensures ∙ c.count-number.ensures);
+      numbered = ap (λ n. v.forgotten + n) (c.from.ensures ∙ c.count.ensures);
       ready = ready;
       gave = λ J events g.
           let K : Instance = turn_under J.rules g.since in
@@ -75,7 +75,15 @@ invariant_of-self c =
       events = kept.events;
       gave = (returns-clause-ok c).gave kept.jobs kept.events
           (subst (λ u. Gave u kept.jobs kept.events) c.self.view_is kept.gave);
-      forgotten_fits = kept.forgotten_fits;
+      numbered_fits = omega (
+        arith,
+        c.if-number-ge-MOST_NUMBERED.false,
+        c.from.ensures,
+        c.count.ensures,
+        (c.admit.ensures.stands kept.gave.since.jobs kept.gave.gave.admission).count,
+        kept.gave.gave.admission.count,
+        length-append kept.gave.since.jobs (c.in-Ok.job ∷ []),
+      );
       earned_fits = kept.earned_fits;
     }
 
@@ -106,12 +114,24 @@ admit-requires c = c.in-Ok.ensures.room
 pub admit-event-requires-clause-room : goal.admit-event-requires-clause-room
 admit-event-requires-clause-room c = omega (arith, c.if-spare-eq0.false, c.spare.ensures)
 
-pub overflow_add-result : goal.overflow_add-result
-overflow_add-result c =
-    omega (arith, c.self.invariant.forgotten_fits, c.from.ensures, c.count-number.type_inv)
+pub overflow_add-number : goal.overflow_add-number
+overflow_add-number c = omega (arith, c.self.invariant.numbered_fits, c.from.ensures, c.count.ensures)
+
+-- where a job would fit, its number may be one too many
+pub returns-then-number-ge-MOST_NUMBERED-clause-cause : goal.returns-then-number-ge-MOST_NUMBERED-clause-cause
+returns-then-number-ge-MOST_NUMBERED-clause-cause c =
+    let v : Life = life_of c.self.inside in
+    let job : JobFacts = job_of_numbers c.args.release c.args.work c.args.deadline c.args.value in
+    subst (λ u. IsCause u job Numbers) c.self.view_is (
+      subst (λ u. IsReadyFor u c.args.release) (sym c.self.view_is)
+          (c.is_ready_for.ensures.0 c.if-not-is_ready_for.false),
+      has_cause v job None c.in-Ok.ensures.refusal,
+      omega (arith, c.if-spare-eq0.false, c.spare.ensures),
+      omega (arith, c.if-number-ge-MOST_NUMBERED.true, c.from.ensures, c.count.ensures),
+    )
 
 pub cause_behind-requires : goal.cause_behind-requires
-cause_behind-requires c = c.self.invariant.forgotten_fits
+cause_behind-requires c = omega (arith, c.self.invariant.numbered_fits)
 
 pub returns-then-spare-eq0-clause-kept : goal.returns-then-spare-eq0-clause-kept
 returns-then-spare-eq0-clause-kept c = refl

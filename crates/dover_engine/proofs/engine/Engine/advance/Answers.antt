@@ -42,7 +42,7 @@ invariant_of-self g c =
       gave = decide_gave v kept.jobs kept.events kept.gave c.args.to may v.server false (Some c.in-Some.event)
           (came_gave v (turn_under kept.jobs.rules kept.gave.since) kept.gave.told kept.gave.gave c.args.to may
           c.in-Some.event c.in-Some.is);
-      forgotten_fits = kept.forgotten_fits;
+      numbered_fits = kept.numbered_fits;
       earned_fits = kept.earned_fits;
     }
 
@@ -88,7 +88,7 @@ invariant_of-self-in-None g c =
           (option_map (behind c.args.self.now.forgotten c.args.self.now.earned) c.step-event.result);
       gave = returns-in-None-clause-gave g c kept.jobs kept.events
           (subst (λ u. Gave u kept.jobs kept.events) c.self.view_is kept.gave);
-      forgotten_fits = kept.forgotten_fits;
+      numbered_fits = kept.numbered_fits;
       earned_fits = kept.earned_fits;
     }
 

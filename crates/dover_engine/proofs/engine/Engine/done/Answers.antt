@@ -64,7 +64,7 @@ invariant_of-self c =
       events = kept.events;
       gave = subst (λ u. Gave u kept.jobs kept.events) (c.self.view_is ∙ sym (returns-in_default-finish-clause-kept c))
           kept.gave;
-      forgotten_fits = kept.forgotten_fits;
+      numbered_fits = kept.numbered_fits;
       earned_fits = kept.earned_fits;
     }
 
@@ -127,7 +127,7 @@ invariant_of-self-2 c =
       jobs = with_finishes kept.jobs (record { number = c.args.number; had = done.0 } ∷ []);
       events = kept.events;
       gave = done.1.gave kept.jobs kept.events (subst (λ u. Gave u kept.jobs kept.events) c.self.view_is kept.gave);
-      forgotten_fits = kept.forgotten_fits;
+      numbered_fits = kept.numbered_fits;
       earned_fits = kept.earned_fits;
     }
 

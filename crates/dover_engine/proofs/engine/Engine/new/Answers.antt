@@ -1,10 +1,12 @@
-use Rattle.std.proofs.Common.{◌≡◌, [], Bool, true, false, length, ap, arith, refl, sym}
-use Rattle.std.specs.Prelude.{if◌then◌else◌, Result, Ok, Err, OnOk}
+use Rattle.std.proofs.Common.{◌≡◌, [], Bool, false, length, ap, arith, refl, sym, subst}
+use Rattle.std.specs.Prelude.{if◌then◌else◌, Result, Ok, Err, OnOk, None}
 use Rattle.std.specs.Result.{is_err}
 use Rattle.std.proofs.lemmas.Bool.{lt-ltb, le-ltb, false≢true}
 use Rattle.dover_model.specs.declared.horizon.Horizon.TheVariants.{Mark}
 use Rattle.dover_model.specs.Horizons.{no_jobs}
 use Rattle.dover_engine.specs.declared.causes.NotMade.TheVariants.{Capacity, Memory}
+use Rattle.dover_engine.specs.Life.{life_with}
+use Rattle.dover_engine.specs.Given.{Gave}
 use Rattle.dover_engine.proofs.Lives.{new_gave}
 use Rattle.dover_engine.proofs.engine.Engine.new.Goals as goal
 
@@ -14,19 +16,20 @@ on_ok (Ok a) P it none = it
 on_ok (Err e) P it none = absurd (false≢true none)
 
 pub returns-clause-gave : goal.returns-clause-gave
-returns-clause-gave c = new_gave c.args.version c.args.k c.reserve.new.self c.new-2.result
+returns-clause-gave c =
+    subst (λ earned. Gave (life_with c.reserve.new.self c.new-2.result (Mark 0) false None 0 earned)
+    (no_jobs c.args.version c.args.k) []) (sym c.nothing.ensures)
+    (new_gave c.args.version c.args.k c.reserve.new.self c.new-2.result
     (c.reserve.ensures.serves (no_jobs c.args.version c.args.k) (Mark 0) [] c.in-Ok.ensures.serves)
-    c.new-2.ensures.stands c.new-2.ensures.rules
+    c.new-2.ensures.stands c.new-2.ensures.rules)
 
 pub invariant_of-result : goal.invariant_of-result
 invariant_of-result c = record {
   jobs = no_jobs c.args.version c.args.k;
   events = [];
-  gave = new_gave c.args.version c.args.k c.reserve.new.self c.new-2.result
-      (c.reserve.ensures.serves (no_jobs c.args.version c.args.k) (Mark 0) [] c.in-Ok.ensures.serves)
-      c.new-2.ensures.stands c.new-2.ensures.rules;
-  forgotten_fits = omega arith;
-  earned_fits = omega arith;
+  gave = returns-clause-gave c;
+  numbered_fits = omega (arith, c.new-2.ensures.stands.count);
+  earned_fits = omega (arith, c.nothing.ensures);
 }
 
 pub returns-clause-paid : goal.returns-clause-paid
@@ -43,6 +46,8 @@ pub returns-clause-room : goal.returns-clause-room
 returns-clause-room c = omega (
   arith,
   on_ok c.reserve.result _ c.reserve.ensures.room c.if-is_err.ensures.value,
+  c.reserve.ensures.few,
+  c.in-Ok.ensures.room,
   ap length c.in-Ok.ensures.empty,
   ap length c.reserve.ensures.same,
   c.if-capacity-gt-MOST_READY.false,

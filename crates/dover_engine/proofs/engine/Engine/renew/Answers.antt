@@ -5,10 +5,9 @@ use Rattle.dover_engine.specs.Kept.{life_of}
 use Rattle.dover_engine.specs.Life.{life_with, Life, IsAtRest, HasPaid, done_value, has_ended, spare_of, room_of}
 use Rattle.dover_engine.specs.Given.{Gave}
 use Rattle.dover_engine.proofs.Lives.{renew_gave, renew_paid}
-use Rattle.std.proofs.Common.{length}
+use Rattle.std.proofs.Common.{[], length}
+use Rattle.admission.specs.Kept.{StandsFor}
 use Rattle.std.proofs.lemmas.Bool.{false≢true}
-use Rattle.dover_engine.proofs.engine.Engine.renew.Goals.{then-self-jobs-via-then-self-jobs}
-use Rattle.dover_engine.proofs.engine.Engine.renew.Goals.{then-self-jobs-via-else-self-jobs+then-self-value}
 use Rattle.dover_engine.proofs.engine.Engine.renew.Goals.{then-not-self-via-then-not-self}
 use Rattle.dover_engine.proofs.engine.Engine.renew.Goals.{then-not-self-via-else-not-self+then-not-is_idle}
 use Rattle.dover_engine.proofs.engine.Engine.renew.Goals as goal
@@ -21,14 +20,16 @@ returns-clause-gave c J events gave =
       settled = c.if-not-self.false;
       none = no_items v.server.ready.ready (c.is_idle.ensures.0 c.if-not-is_idle.false);
     } in
-    subst (λ n. Gave (life_with c.renew.new.self c.new-self-inside.result v.last v.settled v.coming (v.forgotten +
+    subst (λ earned. Gave (life_with c.renew.new.self c.new-self-inside.result v.last v.settled v.coming (v.forgotten +
+    c.from-jobs.result) earned) J events) (sym c.add.ensures)
+    (subst (λ n. Gave (life_with c.renew.new.self c.new-self-inside.result v.last v.settled v.coming (v.forgotten +
     n) (v.earned + c.value-value.result)) J events) (sym (c.from-jobs.ensures ∙ c.count.ensures))
     (subst (λ value. Gave (life_with c.renew.new.self c.new-self-inside.result v.last v.settled v.coming
     (v.forgotten + v.admission.count) (v.earned + value)) J events) (sym c.value-value.ensures.is)
     (renew_gave v J events it still c.renew.new.self c.new-self-inside.result
     (c.renew.ensures.rests (turn_under J.rules it.since)) c.new-self-inside.ensures.stands
     (c.new-self-inside.ensures.rules
-    ∙ ap₂ (λ k version. record { ratio = k; version = version }) c.ratio.ensures c.version.ensures)))
+    ∙ ap₂ (λ k version. record { ratio = k; version = version }) c.ratio.ensures c.version.ensures))))
 
 pub invariant_of-self : goal.invariant_of-self
 invariant_of-self c =
@@ -37,8 +38,20 @@ invariant_of-self c =
       events = kept.events;
       gave = returns-clause-gave c kept.jobs kept.events
           (subst (λ u. Gave u kept.jobs kept.events) c.self.view_is kept.gave);
-      forgotten_fits = omega (arith, c.if-self-jobs.false, kept.forgotten_fits);
-      earned_fits = omega (arith, c.if-self-value.false, kept.earned_fits);
+      numbered_fits = omega (
+        arith,
+        kept.numbered_fits,
+        c.from-jobs.ensures,
+        c.count.ensures,
+        c.new-self-inside.ensures.stands.count,
+      );
+      earned_fits = omega (
+        arith,
+        kept.earned_fits,
+        c.add.ensures,
+        c.value-value.ensures.modest,
+        c.if-jobs-eq0.false,
+      );
     }
 
 pub returns-clause-paid : goal.returns-clause-paid
@@ -47,18 +60,19 @@ returns-clause-paid c start now paid =
     let it = subst (λ u. HasPaid u start now) (sym c.self.view_is) paid in
     let kept = c.self.invariant in
     subst (λ n. HasPaid (life_with c.renew.new.self c.new-self-inside.result v.last v.settled v.coming (v.forgotten
-    + n) (v.earned + c.value-value.result)) start now) (sym (c.from-jobs.ensures ∙ c.count.ensures))
+    + n) c.add.new.self) start now) (sym (c.from-jobs.ensures ∙ c.count.ensures))
     (renew_paid v kept.jobs kept.events kept.gave
     (no_items v.server.ready.ready (c.is_idle.ensures.0 c.if-not-is_idle.false)) start now it (life_with
     c.renew.new.self c.new-self-inside.result v.last v.settled v.coming (v.forgotten + v.admission.count)
-    (v.earned + c.value-value.result)) refl (c.new-self-inside.ensures.rules
+    c.add.new.self) refl (c.new-self-inside.ensures.rules
     ∙ ap₂ (λ k version. record { ratio = k; version = version }) c.ratio.ensures c.version.ensures))
 
 pub returns-clause-anew : goal.returns-clause-anew
-returns-clause-anew c = λ rest few least. c.new-self-inside.ensures.stands
+returns-clause-anew c = λ rest. c.new-self-inside.ensures.stands
 
 pub returns-clause-value : goal.returns-clause-value
-returns-clause-value c = omega (arith, c.renew.ensures.done, c.value-value.ensures.is, ap done_value c.self.view_is)
+returns-clause-value c =
+    omega (arith, c.renew.ensures.done, c.value-value.ensures.is, c.add.ensures, ap done_value c.self.view_is)
 
 pub returns-clause-ended : goal.returns-clause-ended
 returns-clause-ended c = c.renew.ensures.ended ∙ ap has_ended c.self.view_is
@@ -69,31 +83,23 @@ returns-clause-spare c = c.renew.ensures.spare ∙ ap spare_of c.self.view_is
 pub returns-clause-room : goal.returns-clause-room
 returns-clause-room c = ap (λ r. r.room) c.renew.ensures.renewed ∙ ap room_of c.self.view_is
 
--- it begins anew wherever it can: where it doesn't, the jobs or their value are too many to forget
-pub returns-then-self-jobs-clause-anew : goal.returns-then-self-jobs-clause-anew
-returns-then-self-jobs-clause-anew c = λ rest few modest.
-    let view = c.self.view_is in
-    absurd (elim c.then-self-jobs.branch [
-      | then-self-jobs-via-then-self-jobs w ↦ omega (
-        arith,
-        few,
-        w.if-self-jobs.true,
-        c.from-jobs.ensures,
-        c.count.ensures,
-        ap (λ (u : Life). u.forgotten + u.admission.count) view,
-      )
-      | then-self-jobs-via-else-self-jobs+then-self-value w ↦ omega (
-        arith,
-        modest,
-        w.if-self-value.true,
-        c.value-value.ensures.is,
-        ap done_value view,
-      )
-    ])
+-- where no job came since, none is to be forgotten
+pub returns-then-jobs-eq0-clause-anew : goal.returns-then-jobs-eq0-clause-anew
+returns-then-jobs-eq0-clause-anew c = λ rest.
+    let v : Life = life_of c.self.inside in
+    let kept = c.self.invariant.gave in
+    subst (λ (u : Life). StandsFor u.admission []) c.self.view_is
+    (subst (StandsFor v.admission) (no_items kept.since.jobs (omega (
+      arith,
+      c.if-jobs-eq0.true,
+      c.from-jobs.ensures,
+      c.count.ensures,
+      kept.gave.admission.count,
+    ))) kept.gave.admission)
 
 -- it doesn't where something is still to be given, or a job is open
 pub returns-then-not-self-clause-anew : goal.returns-then-not-self-clause-anew
-returns-then-not-self-clause-anew c = λ rest few modest.
+returns-then-not-self-clause-anew c = λ rest.
     let view = c.self.view_is in
     absurd (elim c.then-not-self.branch [
       | then-not-self-via-then-not-self w ↦
@@ -112,14 +118,13 @@ returns-clause-settled c = ap (λ (u : Life). u.settled) c.self.view_is
 pub returns-clause-last : goal.returns-clause-last
 returns-clause-last c = ap (λ (u : Life). u.last) c.self.view_is
 
-pub overflow_sub-self-inside : goal.overflow_sub-self-inside
-overflow_sub-self-inside c = c.self.invariant.forgotten_fits
-
-pub overflow_sub-self-inside-else-self-jobs : goal.overflow_sub-self-inside-else-self-jobs
-overflow_sub-self-inside-else-self-jobs c = c.self.invariant.earned_fits
-
 pub overflow_add-self : goal.overflow_add-self
-overflow_add-self c = omega (arith, c.self.invariant.forgotten_fits, c.if-self-jobs.false)
+overflow_add-self c = omega (arith, c.self.invariant.numbered_fits, c.from-jobs.ensures, c.count.ensures)
 
-pub overflow_add-self-2 : goal.overflow_add-self-2
-overflow_add-self-2 c = omega (arith, c.self.invariant.earned_fits, c.if-self-value.false)
+pub add-requires : goal.add-requires
+add-requires c = omega (
+  arith,
+  c.self.invariant.earned_fits,
+  c.self.invariant.numbered_fits,
+  c.value-value.ensures.modest,
+)
