@@ -2,7 +2,7 @@
 ghost use Rattle.std.specs.Prelude.{◌≡◌, ◌≤◌, ◌++◌, ◌∷◌, [], length, map, decimal, codes, IsTrue};
 ghost use Rattle.dover_model.specs.Due.{fault_text};
 ghost use Rattle.dover_model.specs.Numerals.{AreShort};
-ghost use Rattle.dover_model.specs.Text.{header, refused_text, refusal_word as refusal_text};
+ghost use Rattle.dover_model.specs.Text.{header, version_number, refused_text, refusal_word as refusal_text};
 ghost use Rattle.dover_model.specs.Lines.{line_of, with_numbers};
 ghost use Rattle.dover_model.specs.JobFacts.{job_numbers};
 ghost use Rattle.event_feed.specs.Kept.{cause_of_fault};
@@ -10,24 +10,60 @@ ghost use Rattle.event_feed.specs.DueLines.{out_text, HasNumerals};
 ghost use Rattle.line_text.specs.traces.Form.{refused_job, refused_done};
 
 use crate::faults::fault_text;
-use dover_model::{Event, Job, Ratio, Refusal, Version};
+use dover_model::{Event, Factor, Job, Ratio, Refusal, Version};
 use event_feed::{Cause, DueLine, FeedFault};
 use line_text::traces::{refusal_word, write_event};
 use line_text::{BackLine, Spelled};
+
+/// The number of a version.
+fn number_of(version: Version) -> u64
+    ensures is { result ≡ version_number version }
+    ensures small { result ≤ 3 }
+{
+    match version {
+        Version::One => 1,
+        Version::Two => 2,
+        Version::Three => 3,
+    }
+}
+
+/// Writes the first line of a trace with no factor.
+fn plain_header(number: u64, k: Ratio, line: &mut BackLine)
+    requires small { number ≤ 3 }
+    requires empty { line.old ≡ 10 ∷ [] }
+    ensures text { line.new ≡ with_numbers (codes "dover") (number ∷ k.p ∷ k.q ∷ []) ++ 10 ∷ [] }
+    ensures fits { length line.new ≤ 63 }
+{
+    line.put_with_numbers(b"dover", &[number, u64::from(k.p()), u64::from(k.q())]);
+}
+
+/// Writes the first line of a trace with a factor.
+fn factor_header(number: u64, k: Ratio, factor: Factor, line: &mut BackLine)
+    requires small { number ≤ 3 }
+    requires empty { line.old ≡ 10 ∷ [] }
+    ensures text { line.new
+        ≡ with_numbers (codes "dover") (number ∷ k.p ∷ k.q ∷ factor.b ∷ factor.c ∷ []) ++ 10 ∷ [] }
+    ensures fits { length line.new ≤ 101 }
+{
+    let (b, c) = (u64::from(factor.b), u64::from(factor.c));
+    line.put_with_numbers(
+        b"dover",
+        &[number, u64::from(k.p()), u64::from(k.q()), b, c],
+    );
+}
 
 /// Writes the first line of a trace before its line feed.
 #[inline(never)]
 fn header_line(version: Version, k: Ratio, line: &mut BackLine)
     requires { line.old ≡ 10 ∷ [] }
     ensures text { line.new ≡ header (record { ratio = k; version = version }) ++ 10 ∷ [] }
-    ensures fits { length line.new ≤ 63 }
+    ensures fits { length line.new ≤ 101 }
 {
-    let number = match version {
-        Version::One => 1,
-        Version::Two => 2,
-        Version::Three => 3,
-    };
-    line.put_with_numbers(b"dover", &[number, u64::from(k.p()), u64::from(k.q())]);
+    let number = number_of(version);
+    match k.factor() {
+        None => plain_header(number, k, line),
+        Some(factor) => factor_header(number, k, factor, line),
+    }
 }
 
 /// Writes the line of a refused job line before its line feed.

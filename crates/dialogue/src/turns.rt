@@ -126,13 +126,6 @@ fn read_all<P: Port, T: Talker>(
 ///
 /// The status is that of the answer, and else `ReadFault` or `WriteFault` where the port failed, which is then the last
 /// call, and `Memory` where the talker had none.
-///
-/// # Examples
-///
-/// ```
-/// let judging = Judging { judge: Judge::new(alloc, false)?, counts: PhantomData };
-/// let status = converse(port, judging, steps);
-/// ```
 pub fn converse<P: Port, T: Talker>(port: &mut P, mut talker: T, meter: &mut T::Meter) -> Status
     requires { (a : T.about) × T.ready a talker meter.old [] }
     ensures talks { (a : T.about) → T.ready a talker meter.old [] → Since (P.moves port.old) (P.moves port.new)

@@ -18,7 +18,7 @@ use Rattle.dover_model.specs.Session.{is_right, refusal_in, refused_mark}
 use Rattle.dover_model.specs.Session.{late_refusal, may_finish_early}
 use Rattle.dover_model.specs.Session.{admitted_jobs, job_of_item}
 use Rattle.dover_model.specs.Session.{refuses_lines}
-use Rattle.dover_model.specs.FeedLine.{FeedLine, RatioLine, JobLine, TickLine, DoneLine, EndLine, feed_line}
+use Rattle.dover_model.specs.FeedLine.{FeedLine, RatioLine, FactorLine, JobLine, TickLine, DoneLine, EndLine, feed_line}
 use Rattle.dover_model.specs.Feed.{Account, Standing, Lines, Line, is_open, next_line, read_line, with_line, with_fault}
 use Rattle.dover_model.specs.Feed.{with_refused_at, later_line_cause, late_cause, Order, NotAdmitted, NotDone, account}
 use Rattle.dover_model.proofs.Accounts.{account_append}
@@ -127,6 +127,7 @@ module _ (lines : ℕ) (S : Session) (mark : ℕ) (standing : Standing) where
   -- any line that has a form
   form_keeps : (line : FeedLine) → BeginsWith S.items (with_line at line (later_line_cause S mark line))
   form_keeps (RatioLine p q version) = none
+  form_keeps (FactorLine p q version b c) = none
   form_keeps (JobLine j) = job_keeps j
   form_keeps (TickLine t) = by_tests (nat_lt t mark || nat_lt last_tick t) where
     by_tests : (b : Bool) → BeginsWith S.items (with_line at (TickLine t) (cond b (Some Order) None))

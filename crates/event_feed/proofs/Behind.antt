@@ -5,7 +5,7 @@ use Rattle.std.specs.List.{AllByRecursion, fold}
 use Rattle.std.proofs.lemmas.List.Sums.{fold-append}
 use Rattle.dover_model.specs.JobFacts.{job_numbers}
 use Rattle.dover_model.specs.Lines.{in_lines, lines_of, whole_lines, rest_of, cut, is_too_long}
-use Rattle.dover_model.specs.FeedLine.{FeedLine, RatioLine, JobLine, TickLine, DoneLine, EndLine, feed_text}
+use Rattle.dover_model.specs.FeedLine.{FeedLine, RatioLine, FactorLine, JobLine, TickLine, DoneLine, EndLine, feed_text}
 use Rattle.dover_model.specs.Feed.{next_line, no_lines, account}
 use Rattle.dover_model.proofs.NoFeeds.{feedless_numbers}
 use Rattle.dover_model.proofs.Cuts.{CutText, HasNoFeed, onto, cut_append, cut_in_lines}
@@ -14,6 +14,8 @@ use Rattle.dover_model.proofs.Cuts.{CutText, HasNoFeed, onto, cut_append, cut_in
 pub feedless_feed : (line : FeedLine) → HasNoFeed (feed_text line)
 feedless_feed (RatioLine p q None) = feedless_numbers (codes "k") (p ∷ q ∷ []) refl
 feedless_feed (RatioLine p q (Some version)) = feedless_numbers (codes "k") (p ∷ q ∷ version ∷ []) refl
+feedless_feed (FactorLine p q version b c) =
+    feedless_numbers (codes "k") (p ∷ q ∷ version ∷ b ∷ c ∷ []) refl
 feedless_feed (JobLine j) = feedless_numbers (codes "job") (job_numbers j) refl
 feedless_feed (TickLine t) = feedless_numbers (codes "tick") (t ∷ []) refl
 feedless_feed (DoneLine t n) = feedless_numbers (codes "done") (t ∷ n ∷ []) refl

@@ -6,7 +6,7 @@ use Rattle.std.specs.Prelude.{nat_lt}
 use Rattle.dover_model.specs.declared.events.Refusal.{Refusal}
 use Rattle.dover_model.specs.JobFacts.{JobFacts}
 use Rattle.dover_model.specs.Session.{Session, refuses_lines, refused_mark}
-use Rattle.dover_model.specs.FeedLine.{FeedLine, RatioLine, JobLine, TickLine, DoneLine, EndLine, feed_line}
+use Rattle.dover_model.specs.FeedLine.{FeedLine, RatioLine, FactorLine, JobLine, TickLine, DoneLine, EndLine, feed_line}
 use Rattle.dover_model.specs.Feed as model
 use Rattle.dover_model.specs.Feed.{Account, Cause, Standing, Open, Ended, Faulty}
 use Rattle.dover_model.specs.Feed.{cause_of, with_line, with_fault, with_refused_at, with_refused_job, read_line}
@@ -34,11 +34,13 @@ refused_lines a j refusal (Some S) = by_version (refuses_lines S.rules.version) 
 -- a line that is counted changes no count
 formed_lines : (a : Account) (line : FeedLine) (cause : Option Cause) → (with_line a line cause).lines ≡ a.lines
 formed_lines a (RatioLine p q version) None = refl
+formed_lines a (FactorLine p q version b c) None = refl
 formed_lines a (JobLine j) None = refl
 formed_lines a (TickLine t) None = refl
 formed_lines a (DoneLine t n) None = refl
 formed_lines a EndLine None = refl
 formed_lines a (RatioLine p q version) (Some cause) = refl
+formed_lines a (FactorLine p q version b c) (Some cause) = refl
 formed_lines a (JobLine j) (Some (NotAdmitted refusal)) = refused_lines a j refusal a.session
 formed_lines a (JobLine j) (Some model.Lines) = refl
 formed_lines a (JobLine j) (Some model.Line) = refl

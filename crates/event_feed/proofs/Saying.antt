@@ -1,5 +1,6 @@
 -- What the lines of ratios and of ticks say to an account that goes on, and that a job's numbers have numerals.
 use Rattle.std.proofs.Common.{◌≡◌, ℕ, suc, ◌+◌, ◌≤◌, ◌<◌, ◌^◌, ap, ◌∙◌, cond, arith, Some, None, is_some, ◌||◌}
+use Rattle.std.proofs.Common.{Option, [], ◌∷◌}
 use Rattle.std.specs.Prelude.{nat_lt}
 use Rattle.std.specs.Option.{option_map}
 use Rattle.std.proofs.lemmas.Bool.{le-ltb}
@@ -7,23 +8,28 @@ use Rattle.dover_model.specs.declared.events.Version.{Version}
 use Rattle.dover_model.specs.declared.events.Version.TheVariants.{One, Two, Three}
 use Rattle.dover_model.specs.Limits.{last_tick, most_lines}
 use Rattle.dover_model.specs.JobFacts.{JobFacts, IsJob, job_numbers}
-use Rattle.dover_model.specs.Fraction.{Fraction, IsRatio}
+use Rattle.dover_model.specs.Fraction.{Fraction, IsRatio, fraction, with_factor}
+use Rattle.dover_model.specs.declared.factors.Factor.{Factor}
+use Rattle.dover_model.specs.Instance.{Declaration}
+use Rattle.dover_model.specs.Text.{version_number}
 use Rattle.dover_model.specs.Numerals.{AreShort}
-use Rattle.dover_model.specs.Session.{Session, new_session}
-use Rattle.dover_model.specs.FeedLine.{FeedLine, RatioLine, TickLine, HasNumerals, feed_line, feed_text}
-use Rattle.dover_model.specs.Feed.{Account, Lines, Declared, Order, rules_with, declared_rules, with_line}
+use Rattle.dover_model.specs.Session.{Session, new_session, IsDeclarable}
+use Rattle.dover_model.specs.FeedLine.{FeedLine, RatioLine, FactorLine, TickLine, HasNumerals, feed_line, feed_text}
+use Rattle.dover_model.specs.Feed.{Account, Lines, Declared, Order, rules_with, declared_rules, factor_rules, with_line}
 use Rattle.dover_model.specs.Feed.{with_fault, next_line, no_lines}
 use Rattle.dover_model.proofs.FeedLines.{feed_line-feed_text}
 use Rattle.dover_model.proofs.JobLimits.{ratio_limits, job_limits}
-use Rattle.event_feed.specs.Reading.{declared_number, open_account}
+use Rattle.dover_model.proofs.NoFeeds.{header_short}
+use Rattle.dover_model.proofs.Tests.{never}
+use Rattle.event_feed.specs.Reading.{declared_number, rules_line, open_account}
 use Rattle.event_feed.proofs.Counting.{after_form}
 
 -- ---- the line of the ratio
 
-module _ (p q : ℕ) (ratio : IsRatio (record { p = p; q = q })) where
+module _ (p q : ℕ) (ratio : IsRatio (fraction p q)) where
   -- the ratio
   abbrev k : Fraction
-  k = record { p = p; q = q }
+  k = fraction p q
 
   -- its numbers have numerals
   pub ratio_numerals : (v : Version) → HasNumerals (RatioLine p q (declared_number v))
@@ -50,6 +56,60 @@ module _ (p q : ℕ) (ratio : IsRatio (record { p = p; q = q })) where
       ap (after_form a) (feed_line-feed_text line (ratio_numerals v))
       ∙ ap (λ o. with_line a line (cond (is_some o) None (Some Declared))) (declares v)
       ∙ ap (λ o. record a { session = option_map new_session o }) (declares v)
+
+-- ---- the same with a factor
+
+module _ (p q b c : ℕ) (ratio : IsRatio (with_factor (fraction p q) b c)) where
+  -- the ratio with its factor
+  abbrev factored : Fraction
+  factored = with_factor (fraction p q) b c
+
+  -- its numbers have numerals
+  pub factor_numerals : (v : Version) → HasNumerals (FactorLine p q (version_number v) b c)
+  factor_numerals v = reordered (version_number v) (header_short (rules_with factored v) ratio) where
+    reordered : (n : ℕ) → AreShort (n ∷ p ∷ q ∷ b ∷ c ∷ []) → AreShort (p ∷ q ∷ n ∷ b ∷ c ∷ [])
+    reordered n short = (short.1.0, (short.1.1.0, (short.0, short.1.1.1)))
+
+  -- it declares the rules
+  declares_factor : factor_rules factored 3 ≡ Some (rules_with factored Three)
+  declares_factor = ap (λ b. cond b (Some (rules_with factored Three)) None) ratio.passes
+
+  -- what it says as the first line
+  pub factor_account : next_line no_lines (feed_text (FactorLine p q 3 b c))
+      ≡ open_account 1 (Some (new_session (rules_with factored Three))) 0
+  factor_account =
+      let line : FeedLine = FactorLine p q 3 b c in
+      let a : Account = open_account 1 None 0 in
+      ap (after_form a) (feed_line-feed_text line (factor_numerals Three))
+      ∙ ap (λ o. with_line a line (cond (is_some o) None (Some Declared))) declares_factor
+      ∙ ap (λ o. record a { session = option_map new_session o }) declares_factor
+
+-- ---- the line of rules, with a factor or without
+
+-- the rules of these numbers
+abbrev rules_by : (p q : ℕ) → Option Factor → Version → Declaration
+rules_by p q o v = rules_with (record { p = p; q = q; factor = o }) v
+
+-- its numbers have numerals
+pub rules_numerals : (rules : Declaration) → IsRatio rules.ratio → HasNumerals (rules_line rules)
+rules_numerals rules = by rules.ratio.p rules.ratio.q rules.ratio.factor rules.version where
+  by : (p q : ℕ) (o : Option Factor) (v : Version) → IsRatio (rules_by p q o v).ratio
+      → HasNumerals (rules_line (rules_by p q o v))
+  by p q None v ratio = ratio_numerals p q ratio v
+  by p q (Some f) v ratio = factor_numerals p q f.b f.c ratio v
+
+-- what it says as the first line, where the rules may be declared
+pub rules_account : (rules : Declaration) → IsRatio rules.ratio → IsDeclarable rules
+    → next_line no_lines (feed_text (rules_line rules)) ≡ open_account 1 (Some (new_session rules)) 0
+rules_account rules = by rules.ratio.p rules.ratio.q rules.ratio.factor rules.version where
+  by : (p q : ℕ) (o : Option Factor) (v : Version) → IsRatio (rules_by p q o v).ratio
+      → IsDeclarable (rules_by p q o v)
+      → next_line no_lines (feed_text (rules_line (rules_by p q o v)))
+      ≡ open_account 1 (Some (new_session (rules_by p q o v))) 0
+  by p q None v ratio declared = ratio_account p q ratio v
+  by p q (Some f) Three ratio declared = factor_account p q f.b f.c ratio
+  by p q (Some f) One ratio declared = never declared
+  by p q (Some f) Two ratio declared = never declared
 
 -- ---- the line of a job
 

@@ -1,14 +1,16 @@
 -- What a line makes of what is kept, and its answer, step by step.
+use Rattle.dover_model.specs.Fraction.{fraction, with_factor}
 use Rattle.std.specs.Prelude.{◌≡◌, ℕ, ◌≤◌, Option, Some, None, Result, Ok, Err}
 use Rattle.dover_model.specs.declared.events.Version.{Version}
 use Rattle.dover_model.specs.declared.events.Version.TheVariants.{One, Two, Three}
 use Rattle.dover_model.specs.Numerals.{AreShort}
+use Rattle.dover_model.specs.Text.{version_number}
 use Rattle.dover_model.specs.JobFacts.{JobFacts, job_numbers}
 use Rattle.dover_model.specs.Instance.{Declaration}
 use Rattle.dover_model.specs.Admission.{refusal_of}
 use Rattle.dover_model.specs.Session.{Session, admitted_jobs}
-use Rattle.dover_model.specs.FeedLine.{FeedLine, RatioLine, JobLine, TickLine, DoneLine, EndLine}
-use Rattle.dover_model.specs.Feed.{Account, Open, declared_rules, cause_of, with_fault, with_line}
+use Rattle.dover_model.specs.FeedLine.{FeedLine, RatioLine, FactorLine, JobLine, TickLine, DoneLine, EndLine}
+use Rattle.dover_model.specs.Feed.{Account, Open, declared_rules, factor_rules, cause_of, with_fault, with_line}
 use Rattle.admission.specs.Answers as admission
 use Rattle.admission.specs.Answers.{refusal_of_refused}
 use Rattle.admission.specs.declared.refused.Refused.{Refused}
@@ -24,9 +26,17 @@ declared_number One = None
 declared_number Two = Some 2
 declared_number Three = Some 3
 
+-- the line that declares these rules, with the factor where there is one
+abbrev pub rules_line : Declaration → FeedLine
+rules_line rules = elim rules.ratio.factor [
+  | None ↦ RatioLine rules.ratio.p rules.ratio.q (declared_number rules.version)
+  | Some f ↦ FactorLine rules.ratio.p rules.ratio.q (version_number rules.version) f.b f.c
+]
+
 -- the rules that a first line declares, if it may
 abbrev pub first_rules : FeedLine → Option Declaration
-first_rules (RatioLine p q version) = declared_rules (record { p = p; q = q }) version
+first_rules (RatioLine p q version) = declared_rules (fraction p q) version
+first_rules (FactorLine p q version b c) = factor_rules (with_factor (fraction p q) b c) version
 first_rules (JobLine j) = None
 first_rules (TickLine t) = None
 first_rules (DoneLine t n) = None

@@ -12,7 +12,7 @@ ghost use Rattle.event_feed.specs.Kept.{KeepsSession, cause_of_fault, most_lines
 ghost use Rattle.event_feed.specs.Answers.{NamesOther};
 ghost use Rattle.event_feed.specs.Reading.{first_rules, open_account, TakesIn, IsTaken};
 
-use crate::declaring::declared;
+use crate::declaring::{declared, declared_with_factor};
 use crate::faults::{Cause, FeedFault};
 use crate::fed::Fed;
 use crate::kept_session::KeptSession;
@@ -33,10 +33,17 @@ enum Standing {
 fn declared_in(line: FeedLine) -> Option<(Ratio, Version)>
     ensures { option_map (λ declared. rules_with declared.0 declared.1) result ≡ first_rules (form_of line) }
 {
-    let FeedLine::Declared { p, q, version } = line else {
-        return None;
-    };
-    declared(p, q, version)
+    match line {
+        FeedLine::Declared { p, q, version } => declared(p, q, version),
+        FeedLine::Factored {
+            p,
+            q,
+            version,
+            b,
+            c,
+        } => declared_with_factor(p, q, version, b, c),
+        _ => None,
+    }
 }
 
 /// What is wrong with a first line that declares nothing. In the versions that are taken no done line has a form.
@@ -214,16 +221,6 @@ impl Intake {
     /// fault. From version Two on a job that isn't admitted is no fault, and in version Three neither is one that
     /// comes late: it is answered as `Fed::Refused`. Nor is a done line whose finish isn't right, nor a job for which
     /// there is no room among those that are ready: the caller, who has the run, withdraws it.
-    ///
-    /// # Examples
-    ///
-    /// ```
-    /// let mut intake = Intake::new();
-    /// intake.line(b"k 2 1")?; // Fed::Ratio(k, Version::One)
-    /// intake.line(b"job 0 4 6 8")?; // Fed::Job(0, job): release 0, work 4, deadline 6, value 8
-    /// intake.line(b"tick 3")?; // Fed::Tick(3)
-    /// intake.line(b"end")?; // Fed::Over
-    /// ```
     #[inline(always)]
     pub fn line(&mut self, line: &[u8]) -> Result<Fed, FeedFault>
         requires { has_ended self.old ≡ false }

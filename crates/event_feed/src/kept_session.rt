@@ -179,6 +179,7 @@ impl KeptSession {
     {
         match line {
             FeedLine::Declared { .. } => Err(Cause::Declared),
+            FeedLine::Factored { .. } => Err(Cause::Declared),
             FeedLine::Job {
                 release,
                 work,

@@ -12,7 +12,7 @@ mod kept_session;
 mod listed;
 mod reader;
 
-pub use declaring::declared;
+pub use declaring::{declared, declared_with_factor};
 pub use due_line::DueLine;
 pub use faults::{Cause, FeedFault};
 pub use fed::Fed;

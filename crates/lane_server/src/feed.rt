@@ -26,26 +26,11 @@ use step_count::Steps;
 /// feed, and ends it. Memory is taken at the ratio line and for each admitted job alone, and there is none for more
 /// than 1,000,000 jobs that are ready at once.
 ///
-/// # Examples
+/// # Use
 ///
-/// Each piece goes in front by front, and behind each front come the lines that are due for it:
-///
-/// ```
-/// let mut feed = Feed::new(alloc, false);
-/// while feed.lane().goes_on() {
-///     let Some(mut piece) = next_piece() else {
-///         return feed.lane().end();
-///     };
-///     while feed.lane().goes_on() && !piece.is_empty() {
-///         let count = feed.take(piece)?;
-///         while let Some(out) = feed.next_out(&mut steps) {
-///             act_on(out);
-///         }
-///         piece = &piece[count..];
-///     }
-/// }
-/// feed.lane().end()
-/// ```
+/// Each piece goes in front by front: `take` says how many of its bytes it took. Behind each front `next_out` gives the
+/// lines that are due for it, one by one, before the next front goes in. Where the input is over, or the lane doesn't
+/// go on, its `end` says how it ended.
 #[derive(Drop)]
 pub struct Feed {
     alloc: Global,

@@ -64,20 +64,10 @@ pub(crate) enum Work {
 /// A feed, its server from the ratio line on, and what is under way: each line of the feed goes in, and then each line
 /// that is due for it comes out.
 ///
-/// # Examples
+/// # Use
 ///
-/// A line of a feed goes in, and the lines that are due for it come out. The next line goes in when none is left:
-///
-/// ```
-/// let mut lane = Lane::new(false);
-/// while let Some(line) = next_line() {
-///     lane.line(alloc, line)?;
-///     while let Some(out) = lane.next_out(&mut steps) {
-///         act_on(out);
-///     }
-/// }
-/// lane.end()
-/// ```
+/// A line of a feed goes in by `line`, and the lines that are due for it come out by `next_out`, one by one. The next
+/// line goes in when none is left, and `end` says how the feed ended.
 #[derive(Drop)]
 pub struct Lane {
     intake: Intake,

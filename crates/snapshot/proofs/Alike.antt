@@ -30,7 +30,7 @@ use Rattle.dover_model.specs.Run.{printed, printed_of}
 use Rattle.dover_model.specs.Settled.{settled, settled_state}
 use Rattle.dover_model.specs.Text.{header, text_of, refused_text}
 use Rattle.dover_model.specs.Trace.{texts_among, places_of, put_in, text_of_line}
-use Rattle.dover_model.specs.FeedLine.{FeedLine, RatioLine, JobLine, TickLine, DoneLine, EndLine, feed_line}
+use Rattle.dover_model.specs.FeedLine.{FeedLine, RatioLine, FactorLine, JobLine, TickLine, DoneLine, EndLine, feed_line}
 use Rattle.dover_model.specs.Feed.{Cause, Lines, Line, Declared, Order, NotAdmitted, Standing, Open, Ended, Faulty}
 use Rattle.dover_model.specs.Feed.{Account, NotDone, late_cause}
 use Rattle.dover_model.specs.Feed.{later_line_cause, with_fault, with_refused_at, with_line, next_line}
@@ -501,6 +501,7 @@ module _ (S T : Session) (mark lines : ℕ) (holds : Holds S mark lines) (holds_
       → GoAlike a b (with_line counted_a line (later_line_cause S mark line))
       (with_line counted_b line (later_line_cause T mark line))
   formed_alike (RatioLine p q version) = faults_alike Declared
+  formed_alike (FactorLine p q version b c) = faults_alike Declared
   formed_alike (JobLine j) = job_lines_alike j
   formed_alike (TickLine t) = by_tests (nat_lt t mark) (nat_lt last_tick t) refl where
     by_tests : (c d : Bool) → nat_lt t mark ≡ c

@@ -15,7 +15,7 @@ use Rattle.dover_model.specs.Feed.{Account, next_line, no_lines, account_of_line
 use Rattle.event_feed.specs.Answers.{AddsJob, counted, offered_item}
 use Rattle.event_feed.specs.Kept as feed
 use Rattle.dover_model.specs.JobFacts.{JobFacts}
-use Rattle.dover_model.specs.Session.{Session, with_item}
+use Rattle.dover_model.specs.Session.{Session, with_item, IsDeclarable}
 use Rattle.dover_model.proofs.Members.{some_same}
 use Rattle.dover_model.proofs.Tests.{none_is_some}
 use Rattle.event_feed.specs.Reading.{open_account}
@@ -25,7 +25,7 @@ use Rattle.snapshot.specs.Snapshot.{Head}
 use Rattle.snapshot.specs.Reading.{is_within_limits, last_release}
 use Rattle.snapshot.specs.Stored.{ratio_text, job_lines, jobs_session, jobs_account}
 use Rattle.snapshot.specs.Kept.{IsFed, IsGoodNext, CanPause, tick_lines, handed_lines, handed_account}
-use Rattle.event_feed.proofs.Saying.{ratio_account, tick_account}
+use Rattle.event_feed.proofs.Saying.{rules_account, tick_account}
 use Rattle.snapshot.proofs.Handed.{goes_on}
 
 -- a job line adds an item
@@ -38,10 +38,10 @@ adds_item a b n job it same =
 
 -- ---- the ratio
 
-module _ (h : Head) (ratio : IsRatio h.rules.ratio) where
+module _ (h : Head) (ratio : IsRatio h.rules.ratio) (declared : IsDeclarable h.rules) where
   -- the account of its line
   begun : account_of_lines (ratio_text h ∷ []) ≡ jobs_account h []
-  begun = ratio_account h.rules.ratio.p h.rules.ratio.q ratio h.rules.version
+  begun = rules_account h.rules ratio declared
 
   -- it is a good first line
   pub begin_good : (i : feed.Kept) → feed.StandsFor i [] → IsGoodNext i [] (ratio_text h)

@@ -12,7 +12,7 @@ use Rattle.dover_model.specs.Instance.{Instance, IsValid, under, finishing}
 use Rattle.dover_model.specs.Paths.{IsOpenPath}
 use Rattle.dover_model.specs.Run.{Step}
 use Rattle.dover_model.specs.Session.{Item, Session, early_finishes, instance_of, session_with}
-use Rattle.dover_model.specs.Session.{may_finish_early}
+use Rattle.dover_model.specs.Session.{may_finish_early, IsDeclarable}
 use Rattle.dover_model.specs.Settled.{settled_steps, settled_state, AreYetToCome}
 use Rattle.dover_model.specs.Sound.{IsMember, Each, HaveTheSame, IsNumberedFrom}
 use Rattle.dover_model.specs.State.{State, opening}
@@ -226,8 +226,8 @@ module _ (v : RosterServer) (h : Head) (tasks : List Task) (items : List Item) (
     })
 
     -- which hands in the items
-    pub items_stored : length tasks ≤ 1_000_000 → (stored_session h tasks).items ≡ items
-    items_stored few =
+    pub items_stored : IsDeclarable h.rules → length tasks ≤ 1_000_000 → (stored_session h tasks).items ≡ items
+    items_stored declared few =
         let S : Session = session_with h.rules items in
         ap (λ (T : Session). T.items) (ap session_of_run stored_as
         ∙ ap (λ xs. let T : Session = record {
@@ -235,6 +235,7 @@ module _ (v : RosterServer) (h : Head) (tasks : List Task) (items : List Item) (
           items = filter_map handed_by xs;
         } in T) (sym (run_alike J own early (same_alike own early finishes_same)))
         ∙ sym (good_is_run S (session_from (record {
+          declared = declared;
           jobs = valid;
           count = good_count S valid (handed_follows it.handed) it.handed.none_refused
               (omega (

@@ -189,7 +189,8 @@ module _ (h : Head) (tasks : List Task) (ls : List (List ℕ)) (read : HasRead h
         as_stored = sym it.about.stances ∙ sym kept ∙ sym at ∙ ap (map stance_of) at_barrier
 
         items_are : (stored_session h tasks).items ≡ run.items
-        items_are = items_stored n.server h tasks run.items h.mark served it.about.numbered as_stored few_is
+        items_are = items_stored n.server h tasks run.items h.mark served it.about.numbered as_stored
+            read.declared few_is
 
         -- few items were handed in
         pub few_handed : n.handed < 2 ^ 63

@@ -1,6 +1,6 @@
 -- What is read field by field is what the line spells.
 use Rattle.std.proofs.Common.{◌≡◌, ◌≢◌, ℕ, ◌≤◌, List, [], ◌∷◌, ◌++◌, length, refl, sym, ap, ◌∙◌, Bool, true, false}
-use Rattle.std.proofs.Common.{cond, not, arith, Option, Some, None, codes}
+use Rattle.std.proofs.Common.{cond, not, Option, Some, None, codes}
 use Rattle.std.specs.Prelude.{bytes_eq}
 use Rattle.std.specs.Option.{option_and_then, option_map}
 use Rattle.std.proofs.lemmas.Bool.{le-ltb}
@@ -18,30 +18,50 @@ use Rattle.snapshot.proofs.Spelled.{role_back, role_from}
 
 -- ---- a first line
 
--- it has six numbers
-six_numbers : (ns : List ℕ) → (length ns ≡ 6 → ⊥) → head_from ns ≡ None
-six_numbers [] other = refl
-six_numbers (a ∷ []) other = refl
-six_numbers (a ∷ b ∷ []) other = refl
-six_numbers (a ∷ b ∷ c ∷ []) other = refl
-six_numbers (a ∷ b ∷ c ∷ d ∷ []) other = refl
-six_numbers (a ∷ b ∷ c ∷ d ∷ e ∷ []) other = refl
-six_numbers (a ∷ b ∷ c ∷ d ∷ e ∷ f ∷ []) other = absurd (other (omega arith))
-six_numbers (a ∷ b ∷ c ∷ d ∷ e ∷ f ∷ g ∷ ns) other = refl
+-- it has six numbers, or eight
+not_six_or_eight : (ns : List ℕ) → length ns ≢ 6 → length ns ≢ 8 → head_from ns ≡ None
+not_six_or_eight [] other more = refl
+not_six_or_eight (a ∷ []) other more = refl
+not_six_or_eight (a ∷ b ∷ []) other more = refl
+not_six_or_eight (a ∷ b ∷ c ∷ []) other more = refl
+not_six_or_eight (a ∷ b ∷ c ∷ d ∷ []) other more = refl
+not_six_or_eight (a ∷ b ∷ c ∷ d ∷ e ∷ []) other more = refl
+not_six_or_eight (a ∷ b ∷ c ∷ d ∷ e ∷ f ∷ []) other more = absurd (other refl)
+not_six_or_eight (a ∷ b ∷ c ∷ d ∷ e ∷ f ∷ g ∷ []) other more = refl
+not_six_or_eight (a ∷ b ∷ c ∷ d ∷ e ∷ f ∷ g ∷ i ∷ []) other more = absurd (more refl)
+not_six_or_eight (a ∷ b ∷ c ∷ d ∷ e ∷ f ∷ g ∷ i ∷ j ∷ ns) other more = refl
 
--- so other fields are none
-pub none_head : (line word : List ℕ) (fields : List (List ℕ)) → length line ≤ 128 → fields_of line ≡ word ∷ fields
-    → ((ns : List ℕ) → numerals fields ≡ Some ns → length ns ≡ 6 → ⊥) → read_head line ≡ None
-none_head line word fields fits cut other =
+-- so fields with no numbers, or others than so many, are none
+pub no_head_of : (o : Option (List ℕ)) → IsNot 6 o → IsNot 8 o → None ≡ option_and_then head_from o
+no_head_of None other more = refl
+no_head_of (Some ns) other more = sym (not_six_or_eight ns (other ns refl) (more ns refl))
+
+-- behind the word are its numbers
+pub head_behind : (line rest : List ℕ) → length line ≤ 128 → line ≡ codes "snapshot" ++ 32 ∷ rest
+    → read_head line ≡ option_and_then head_from (numerals (fields_of rest))
+head_behind line rest fits is =
     ap (λ b. cond b None (option_and_then head_from (numbers_of (codes "snapshot") line)))
     (le-ltb 128 (length line) fits)
-    ∙ ap (λ fs. option_and_then head_from (numbers_after (codes "snapshot") fs)) cut
-    ∙ by (bytes_eq word (codes "snapshot")) (numerals fields) other where
-      by : (b : Bool) (o : Option (List ℕ)) → ((ns : List ℕ) → o ≡ Some ns → length ns ≡ 6 → ⊥)
-          → option_and_then head_from (cond b o None) ≡ None
-      by true None other = refl
-      by true (Some ns) other = six_numbers ns (other ns refl)
-      by false o other = refl
+    ∙ ap (λ l. option_and_then head_from (numbers_of (codes "snapshot") l)) is
+
+-- and a line that doesn't begin with the word is none
+pub no_head_in : (line : List ℕ) → length line ≤ 128 → Lacks line (codes "snapshot") → read_head line ≡ None
+no_head_in line fits lacks =
+    ap (λ b. cond b None (option_and_then head_from (numbers_of (codes "snapshot") line)))
+    (le-ltb 128 (length line) fits)
+    ∙ by (fields_of line) refl where
+      by : (fields : List (List ℕ)) → fields_of line ≡ fields
+          → option_and_then head_from (numbers_after (codes "snapshot") fields) ≡ None
+      by [] cut = refl
+      by (word ∷ []) cut = alone (bytes_eq word (codes "snapshot")) where
+        alone : (b : Bool) → option_and_then head_from (cond b (Some []) None) ≡ None
+        alone true = refl
+        alone false = refl
+      by (word ∷ field ∷ fields) cut = other (bytes_eq word (codes "snapshot")) refl where
+        other : (b : Bool) → bytes_eq word (codes "snapshot") ≡ b
+            → option_and_then head_from (cond b (numerals (field ∷ fields)) None) ≡ None
+        other true same = absurd (differs line word field fields cut (codes "snapshot") lacks same)
+        other false apart = refl
 
 -- ---- the line of a job
 

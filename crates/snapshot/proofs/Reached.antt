@@ -1,4 +1,5 @@
 -- The mark of a feed that goes on is that behind its items, or there is a line that is no item; and its lines are few.
+use Rattle.dover_model.specs.Fraction.{fraction, with_factor}
 use Rattle.std.proofs.Common.{◌≡◌, ◌⊎◌, inl, inr, ℕ, suc, ◌+◌, ◌≤◌, ◌<◌, List, [], ◌∷◌, ◌++◌, length, length-append}
 use Rattle.std.proofs.Common.{refl, sym, ap, subst}
 use Rattle.std.proofs.Common.{Bool, true, false, cond, ◌||◌, arith, Option, Some, None, is_some}
@@ -17,10 +18,11 @@ use Rattle.dover_model.specs.Session.{EarlyFinish, mark_after}
 use Rattle.dover_model.specs.Session.{with_item, with_named, new_session, early_at}
 use Rattle.dover_model.specs.Session.{is_right}
 use Rattle.dover_model.specs.Session.{refuses_lines, may_finish_early, late_refusal}
-use Rattle.dover_model.specs.FeedLine.{FeedLine, RatioLine, JobLine, TickLine, DoneLine, EndLine, feed_line}
+use Rattle.dover_model.specs.FeedLine.{FeedLine, RatioLine, FactorLine, JobLine, TickLine, DoneLine, EndLine, feed_line}
 use Rattle.dover_model.specs.Feed.{Lines, Line, Declared, Order, NotAdmitted, NotDone, Standing, Open, Ended, Faulty}
 use Rattle.dover_model.specs.Feed.{Account}
-use Rattle.dover_model.specs.Feed.{declared_rules, first_line_cause, late_cause, later_line_cause, with_fault}
+use Rattle.dover_model.specs.Feed.{declared_rules, factor_rules, first_line_cause, late_cause, later_line_cause}
+use Rattle.dover_model.specs.Feed.{with_fault}
 use Rattle.dover_model.specs.Feed.{with_refused_at}
 use Rattle.dover_model.specs.Session.{refusal_in, refused_mark}
 use Rattle.dover_model.specs.Feed.{with_line, next_line, most_lines_in, Cause, Short}
@@ -52,9 +54,18 @@ account_with lines session mark standing = record { lines = lines; session = ses
 first_reaches : (lines mark : ℕ) → mark ≡ 0 → (line : FeedLine)
     → Reaches (with_line (account_with (suc lines) None mark Open) line (first_line_cause line))
 first_reaches lines mark zero_mark (RatioLine p q version) =
-    by_rules (declared_rules (record { p = p; q = q }) version) refl where
-      by_rules : (o : Option Declaration) → declared_rules (record { p = p; q = q }) version ≡ o
+    by_rules (declared_rules (fraction p q) version) refl where
+      by_rules : (o : Option Declaration) → declared_rules (fraction p q) version ≡ o
           → Reaches (with_line (account_with (suc lines) None mark Open) (RatioLine p q version)
+          (cond (is_some o) None (Some Declared)))
+      by_rules None e = tt
+      by_rules (Some rules) e =
+          subst (λ o. Reaches (account_with (suc lines) (option_map new_session o) mark Open)) (sym e)
+          (record { enough = omega arith; by = inl (omega (arith, zero_mark)) })
+first_reaches lines mark zero_mark (FactorLine p q version b c) =
+    by_rules (factor_rules (with_factor (fraction p q) b c) version) refl where
+      by_rules : (o : Option Declaration) → factor_rules (with_factor (fraction p q) b c) version ≡ o
+          → Reaches (with_line (account_with (suc lines) None mark Open) (FactorLine p q version b c)
           (cond (is_some o) None (Some Declared)))
       by_rules None e = tt
       by_rules (Some rules) e =
@@ -146,6 +157,7 @@ module _ (S : Session) (mark lines : ℕ) (it : Reached S.items mark lines) wher
   -- a line of any form
   later_reaches : (line : FeedLine) → Reaches (with_line counted line (later_line_cause S mark line))
   later_reaches (RatioLine p q version) = tt
+  later_reaches (FactorLine p q version b c) = tt
   later_reaches (JobLine j) = job_line_reaches j
   later_reaches (TickLine t) = by_tests (nat_lt t mark || nat_lt last_tick t) where
     by_tests : (b : Bool) → Reaches (with_line counted (TickLine t) (cond b (Some Order) None))
@@ -206,9 +218,17 @@ one_line Three = omega arith
 few_first : (lines mark : ℕ) → lines ≤ 1 → (line : FeedLine)
     → HasFew (with_line (account_with lines None mark Open) line (first_line_cause line))
 few_first lines mark few (RatioLine p q version) =
-    by_rules (declared_rules (record { p = p; q = q }) version) refl where
-      by_rules : (o : Option Declaration) → declared_rules (record { p = p; q = q }) version ≡ o
+    by_rules (declared_rules (fraction p q) version) refl where
+      by_rules : (o : Option Declaration) → declared_rules (fraction p q) version ≡ o
           → HasFew (with_line (account_with lines None mark Open) (RatioLine p q version)
+          (cond (is_some o) None (Some Declared)))
+      by_rules None e = tt
+      by_rules (Some rules) e = subst (λ o. HasFew (account_with lines (option_map new_session o) mark Open)) (sym e)
+          (let it : lines ≤ most_lines rules.version = omega (arith, few, one_line rules.version) in it)
+few_first lines mark few (FactorLine p q version b c) =
+    by_rules (factor_rules (with_factor (fraction p q) b c) version) refl where
+      by_rules : (o : Option Declaration) → factor_rules (with_factor (fraction p q) b c) version ≡ o
+          → HasFew (with_line (account_with lines None mark Open) (FactorLine p q version b c)
           (cond (is_some o) None (Some Declared)))
       by_rules None e = tt
       by_rules (Some rules) e = subst (λ o. HasFew (account_with lines (option_map new_session o) mark Open)) (sym e)
@@ -257,6 +277,7 @@ module _ (S : Session) (mark lines : ℕ) (few : lines ≤ most_lines S.rules.ve
   -- with a later line
   few_later : (line : FeedLine) → HasFew (with_line so_many line (later_line_cause S mark line))
   few_later (RatioLine p q version) = tt
+  few_later (FactorLine p q version b c) = tt
   few_later (JobLine j) = few_job j (later_line_cause S mark (JobLine j))
   few_later (TickLine t) = by_tests (nat_lt t mark || nat_lt last_tick t) where
     by_tests : (b : Bool) → HasFew (with_line so_many (TickLine t) (cond b (Some Order) None))

@@ -107,3 +107,20 @@ refused_lines : outcome (reading_of (whole_lines (snapshot (bytes (codes "k 1 1 
     ≡ Some 0
 unfolding digits
 refused_lines = refl
+
+-- with a factor there are two numbers more, in version Three alone
+with_factor : answer (codes "snapshot 3 1 1 1 0 0 3 2/resume/") ≡ Some 0
+unfolding digits
+with_factor = refl
+
+factor_of_version_two : answer (codes "snapshot 2 1 1 1 0 0 3 2/resume/") ≡ Some 1
+unfolding digits
+factor_of_version_two = refl
+
+factor_of_one : answer (codes "snapshot 3 1 1 1 0 0 3 3/resume/") ≡ Some 1
+unfolding digits
+factor_of_one = refl
+
+half_a_factor : answer (codes "snapshot 3 1 1 1 0 0 3/resume/") ≡ Some 1
+unfolding digits
+half_a_factor = refl

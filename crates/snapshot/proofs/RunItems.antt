@@ -9,6 +9,7 @@ use Rattle.dover_model.specs.Limits.{most_items, most_ready}
 use Rattle.dover_model.specs.Lines.{in_lines}
 use Rattle.dover_model.specs.Run.{run, printed}
 use Rattle.dover_model.specs.Session.{Item, JobItem, RefusedItem, FinishItem, Session, IsValidSession}
+use Rattle.dover_model.specs.Session.{IsDeclarable}
 use Rattle.dover_model.specs.Session.{admitted_jobs, early_finishes, refused_of_item}
 use Rattle.dover_model.specs.Session.{instance_of, session_with, may_finish_early, finish_at, is_full, mark_after}
 use Rattle.dover_model.specs.Sound.{IsMember, Each}
@@ -28,7 +29,7 @@ use Rattle.dover_model.proofs.NeverFull.{few_never}
 use Rattle.dover_model.proofs.RunSessions.{run_jobs, run_session_valid, same_printed, whole_of}
 use Rattle.dover_model.proofs.Shown.{Shows, early_says}
 use Rattle.dover_model.proofs.Tests.{none_is_some}
-use Rattle.dover_model.proofs.SessionParts.{FollowsItems, session_from, session_jobs}
+use Rattle.dover_model.proofs.SessionParts.{FollowsItems, session_from, session_declared, session_jobs}
 
 -- no refused line stands among the items
 abbrev pub NoneRefused : List Item → Type 0
@@ -89,12 +90,12 @@ module _ (J : Instance) (valid : IsValid J) where
         none_there (f ∷ fs) none = absurd (none f (inl refl))
 
   -- what it hands in is a valid session
-  pub run_valid : length J.jobs ≤ most_ready → (may_finish_early J.rules.version ≡ true) ⊎ (J.rules.finishes ≡ [])
-      → IsValidSession (session_of_run J)
-  run_valid few (inl three) = run_session_valid J valid three
+  pub run_valid : IsDeclarable (declared_by J.rules) → length J.jobs ≤ most_ready
+      → (may_finish_early J.rules.version ≡ true) ⊎ (J.rules.finishes ≡ []) → IsValidSession (session_of_run J)
+  run_valid declared few (inl three) = run_session_valid J valid three
       (few_never (session_of_run J) (omega (arith, few, ap length (run_jobs J valid))))
-  run_valid few (inr plain) =
-      subst IsValidSession (sym (run_plain plain)) (session_of_valid J plain valid (jobs_never J few))
+  run_valid declared few (inr plain) =
+      subst IsValidSession (sym (run_plain plain)) (session_of_valid J plain valid declared (jobs_never J few))
 
 -- ---- a session without its refused lines
 
@@ -209,7 +210,7 @@ module _ (S : Session) (valid : IsValidSession S) (good : NoneRefused S.items)
   -- it is what its run hands in
   pub good_is_run : S ≡ session_of_run (instance_of S)
   good_is_run = same_trace S (session_of_run (instance_of S)) valid
-      (run_valid (instance_of S) (session_jobs valid) modest may)
+      (run_valid (instance_of S) (session_jobs valid) (session_declared valid) modest may)
       (good_trace S good
       ∙ ap (λ es. in_lines (header S.rules ∷ map text_of_line (map Printed es))) (sym (same_printed
       (instance_of S) (session_jobs valid)))
@@ -223,8 +224,8 @@ kept_mark mark low (JobItem j ∷ items) below =
 kept_mark mark low (RefusedItem r ∷ items) below = kept_mark (max mark r.at) low items (omega (arith, below))
 kept_mark mark low (FinishItem f ∷ items) below = kept_mark (max mark f.at) (max low f.at) items (omega (arith, below))
 
-module _ (S : Session) (valid : IsValid (instance_of S)) (follows : FollowsItems S.rules [] 0 S.items)
-    (few : length (kept S.items) ≤ most_items S.rules.version)
+module _ (S : Session) (declared : IsDeclarable S.rules) (valid : IsValid (instance_of S))
+    (follows : FollowsItems S.rules [] 0 S.items) (few : length (kept S.items) ≤ most_items S.rules.version)
     (modest : length (admitted_jobs S.items) ≤ most_ready) where
   -- without its refused lines
   abbrev pub kept_session : Session
@@ -232,6 +233,7 @@ module _ (S : Session) (valid : IsValid (instance_of S)) (follows : FollowsItems
 
   kept_valid : IsValidSession kept_session
   kept_valid = session_from (record {
+    declared = declared;
     jobs = subst IsValid (sym (kept_instance S.rules S.items)) valid;
     count = few;
     items = kept_follows S.rules [] 0 0 S.items (omega arith) follows;

@@ -1,10 +1,10 @@
 -- The lines of a snapshot have one spelling: what is written is read as the same, and what is read was written so.
-use Rattle.std.proofs.Common.{◌≡◌, ℕ, ◌+◌, ◌*◌, ◌≤◌, List, [], ◌∷◌, ◌++◌, length, length-append, map, refl, sym, ap}
+use Rattle.std.proofs.Common.{◌≡◌, ℕ, ◌+◌, ◌*◌, ◌≤◌, ◌<◌, ◌^◌, List, [], ◌∷◌, ◌++◌, length, length-append, map, refl, sym, ap}
 use Rattle.std.proofs.Common.{◌∙◌, subst}
 use Rattle.std.proofs.Common.{Bool, true, false, cond, arith, decimal, Option, Some, None, codes}
 use Rattle.std.specs.Prelude.{bytes_eq, ◌==◌}
 use Rattle.std.specs.Bool.{then_some}
-use Rattle.std.specs.Option.{option_and_then, option_map}
+use Rattle.std.specs.Option.{option_and_then}
 use Rattle.std.specs.List.{AllByRecursion}
 use Rattle.std.proofs.lemmas.Bool.{le-ltb, eqb-true}
 use Rattle.std.proofs.lemmas.Fmt.{length-decimal-le}
@@ -14,13 +14,17 @@ use Rattle.dover_model.specs.declared.events.Role.TheVariants.{Coming, Fresh, Wa
 use Rattle.dover_model.specs.declared.events.Task.{Task}
 use Rattle.dover_model.specs.declared.events.Version.{Version}
 use Rattle.dover_model.specs.declared.events.Version.TheVariants.{One, Two}
-use Rattle.dover_model.specs.Fraction.{IsRatio, is_ratio}
+use Rattle.dover_model.specs.Fraction.{Fraction, IsRatio, is_ratio, fraction, with_factor, factor_numbers}
+use Rattle.dover_model.specs.declared.factors.Factor.{Factor}
+use Rattle.dover_model.specs.Feed.{rules_with, factor_rules}
+use Rattle.dover_model.specs.Session.{IsDeclarable}
 use Rattle.dover_model.specs.Instance.{Declaration}
 use Rattle.dover_model.specs.JobFacts.{job_of_numbers, job_numbers}
 use Rattle.dover_model.specs.Numerals.{numerals, AreShort}
 use Rattle.dover_model.specs.Lines.{is_too_long, fields_of, line_of, with_numbers, numbers_after, numbers_of}
 use Rattle.dover_model.specs.Text.{version_number}
-use Rattle.dover_model.proofs.Tests.{none_is_some}
+use Rattle.dover_model.proofs.Tests.{never, none_is_some}
+use Rattle.dover_model.proofs.JobLimits.{ratio_limits}
 use Rattle.dover_model.proofs.Members.{some_same}
 use Rattle.dover_model.proofs.ReadShort.{numerals_short}
 use Rattle.dover_model.proofs.Fields.{HasNoSpace, fields_of-line_of, line_of-fields_of, decimals-HasNoSpace}
@@ -28,7 +32,8 @@ use Rattle.dover_model.proofs.Fields.{numerals-decimals, decimals-numerals}
 use Rattle.dover_model.proofs.Fields.{length-with_numbers}
 use Rattle.snapshot.specs.Snapshot.{Head, head_numbers, head_line, IsHead, role_word, state_line, IsStored}
 use Rattle.snapshot.specs.Snapshot.{state_numbers, IsState}
-use Rattle.snapshot.specs.Reading.{rules_from, head_from, read_head, role_of_word, task_from, task_of_fields, read_task}
+use Rattle.snapshot.specs.Reading.{rules_from, head_with, head_from, read_head, role_of_word, task_from}
+use Rattle.snapshot.specs.Reading.{task_of_fields, read_task}
 use Rattle.dover_model.specs.declared.events.Version.TheVariants.{Three}
 use Rattle.snapshot.specs.Reading.{version_of}
 
@@ -85,75 +90,146 @@ version_from n v = by (n == 1) (n == 2) (n == 3) refl refl refl where
       subst (λ w. version_number w ≡ n) (some_same Three v read) (sym (eqb-true n 3 three))
   by false false false one two three read = none_is_some read
 
+-- the first line of these rules, of the other numbers
+abbrev head_of : (lines mark jobs : ℕ) → Declaration → Head
+head_of lines mark jobs rules = record { rules = rules; lines = lines; mark = mark; jobs = jobs }
+
+-- the rules of these numbers
+abbrev rules_by : (p q : ℕ) → Option Factor → Version → Declaration
+rules_by p q o v = rules_with (record { p = p; q = q; factor = o }) v
+
 -- its numbers are read as the first line
-numbers_head : (h : Head) → IsRatio h.rules.ratio → head_from (head_numbers h) ≡ Some h
-numbers_head h ratio =
-    let head : Declaration → Head = λ rules. record { rules = rules; lines = h.lines; mark = h.mark; jobs = h.jobs } in
-    ap (λ o. option_map head (option_and_then (λ version. then_some (is_ratio h.rules.ratio) (record {
-      ratio = h.rules.ratio;
-      version = version;
-    })) o)) (version_back h.rules.version)
-    ∙ ap (λ b. option_map head (then_some b h.rules)) ratio.passes
+numbers_head : (h : Head) → IsRatio h.rules.ratio → IsDeclarable h.rules → head_from (head_numbers h) ≡ Some h
+numbers_head h = by h.rules.ratio.p h.rules.ratio.q h.rules.ratio.factor h.rules.version where
+  by : (p q : ℕ) (o : Option Factor) (v : Version) → IsRatio (rules_by p q o v).ratio → IsDeclarable (rules_by p q o v)
+      → head_from (head_numbers (head_of h.lines h.mark h.jobs (rules_by p q o v)))
+      ≡ Some (head_of h.lines h.mark h.jobs (rules_by p q o v))
+  by p q None v ratio declared =
+      ap (λ w. head_with h.lines h.mark h.jobs
+      (option_and_then (λ version. then_some (is_ratio (fraction p q)) (rules_with (fraction p q) version)) w))
+      (version_back v)
+      ∙ ap (λ b. head_with h.lines h.mark h.jobs (then_some b (rules_by p q None v))) ratio.passes
+  by p q (Some f) Three ratio declared =
+      ap (λ b. head_with h.lines h.mark h.jobs (cond b (Some (rules_by p q (Some f) Three)) None)) ratio.passes
+  by p q (Some f) One ratio declared = never declared
+  by p q (Some f) Two ratio declared = never declared
+
+-- a word and numbers, the first of at most so many digits
+first_fits : (word : List ℕ) (n most : ℕ) (ns : List ℕ) → 1 ≤ most → n < 10 ^ most → n < 2 ^ 64
+    → (size : ℕ) → length (with_numbers (decimal n) ns) ≤ length (decimal n) + size
+    → length (with_numbers word (n ∷ ns)) ≤ length word + (1 + most + size)
+first_fits word n most ns some few small size behind = omega (
+  arith,
+  behind,
+  length-decimal-le most n some few small,
+  length-append word (32 ∷ with_numbers (decimal n) ns),
+)
 
 -- the first line is short
-pub head_fits : (h : Head) → AreShort (head_numbers h) → length (head_line h) ≤ 122
-head_fits h short = length-with_numbers (codes "snapshot") (head_numbers h) short
+pub head_fits : (h : Head) → IsRatio h.rules.ratio → AreShort (head_numbers h) → length (head_line h) ≤ 122
+head_fits h ratio short =
+    let small_p : h.rules.ratio.p ≤ 1_000_000 = (ratio_limits ratio).small_p in
+    let small_q : h.rules.ratio.q ≤ 1_000 = (ratio_limits ratio).small_q in
+    let last : List ℕ = h.lines ∷ h.mark ∷ h.jobs ∷ factor_numbers h.rules.ratio.factor in
+    let behind : length (with_numbers (decimal h.rules.ratio.q) last) ≤ length (decimal h.rules.ratio.q) + 95 =
+    omega (arith, length-with_numbers (decimal h.rules.ratio.q) last short.1.1.1, few h.rules.ratio.factor) in
+    let third : length (with_numbers (decimal h.rules.ratio.p) (h.rules.ratio.q ∷ last))
+    ≤ length (decimal h.rules.ratio.p) + 100 =
+    first_fits (decimal h.rules.ratio.p) h.rules.ratio.q 4 last (omega arith) (omega arith) (omega arith) 95 behind in
+    let second : length (with_numbers (decimal (version_number h.rules.version))
+    (h.rules.ratio.p ∷ h.rules.ratio.q ∷ last)) ≤ length (decimal (version_number h.rules.version)) + 108 =
+    first_fits (decimal (version_number h.rules.version)) h.rules.ratio.p 7 (h.rules.ratio.q ∷ last)
+    (omega arith) (omega arith) (omega arith) 100 third in
+    let first : length (head_line h) ≤ 8 + 110 =
+    first_fits (codes "snapshot") (version_number h.rules.version) 1 (h.rules.ratio.p ∷ h.rules.ratio.q ∷ last)
+    (omega arith) (one h.rules.version) (omega (arith, one h.rules.version)) 108 second in
+    omega (arith, first) where
+      one : (v : Version) → version_number v < 10
+      one One = omega arith
+      one Two = omega arith
+      one Three = omega arith
+
+      few : (o : Option Factor) → length (factor_numbers o) ≤ 2
+      few None = omega arith
+      few (Some f) = omega arith
 
 -- it is read as it was written
 pub read_head-head_line : (h : Head) → IsHead h → read_head (head_line h) ≡ Some h
 read_head-head_line h it =
     ap (λ b. cond b None (option_and_then head_from (numbers_of (codes "snapshot") (head_line h))))
-    (le-ltb 128 (length (head_line h)) (omega (arith, head_fits h it.short)))
+    (le-ltb 128 (length (head_line h)) (omega (arith, head_fits h it.ratio it.short)))
     ∙ ap (option_and_then head_from) (numbers_back (codes "snapshot") (head_numbers h) refl it.short)
-    ∙ numbers_head h it.ratio
+    ∙ numbers_head h it.ratio it.declared
+
+-- the numbers of rules, what they are, and that they may be declared
+abbrev AreOf : Declaration → (numbers factor : List ℕ) → Type 0
+AreOf rules numbers factor = (version_number rules.version ∷ rules.ratio.p ∷ rules.ratio.q ∷ [] ≡ numbers)
+    × (factor_numbers rules.ratio.factor ≡ factor) × IsRatio rules.ratio × IsDeclarable rules
 
 -- what rules are read from
-rules_read : (n p q : ℕ) (rules : Declaration) → rules_from n p q ≡ Some rules
-    → (version_number rules.version ∷ rules.ratio.p ∷ rules.ratio.q ∷ [] ≡ n ∷ p ∷ q ∷ []) × IsRatio rules.ratio
+rules_read : (n p q : ℕ) (rules : Declaration) → rules_from n p q ≡ Some rules → AreOf rules (n ∷ p ∷ q ∷ []) []
 rules_read n p q rules = by (version_of n) refl where
-  rules_in : Version → Declaration
-  rules_in version = record { ratio = record { p = p; q = q }; version = version }
-
-  by_ratio : (b : Bool) (v : Version) → is_ratio (record { p = p; q = q }) ≡ b → version_of n ≡ Some v
-      → then_some b (rules_in v) ≡ Some rules
-      → (version_number rules.version ∷ rules.ratio.p ∷ rules.ratio.q ∷ [] ≡ n ∷ p ∷ q ∷ []) × IsRatio rules.ratio
+  by_ratio : (b : Bool) (v : Version) → is_ratio (fraction p q) ≡ b → version_of n ≡ Some v
+      → then_some b (rules_with (fraction p q) v) ≡ Some rules → AreOf rules (n ∷ p ∷ q ∷ []) []
   by_ratio false v fails version read = none_is_some read
-  by_ratio true v passes version read =
-      subst (λ (r : Declaration). (version_number r.version ∷ r.ratio.p ∷ r.ratio.q ∷ [] ≡ n ∷ p ∷ q ∷ [])
-      × IsRatio r.ratio)
-      (some_same (rules_in v) rules read) (
-        ap (λ m. m ∷ p ∷ q ∷ []) (version_from n v version),
-        record { passes = passes },
-      )
+  by_ratio true v passes version read = subst (λ r. AreOf r (n ∷ p ∷ q ∷ []) [])
+      (some_same (rules_with (fraction p q) v) rules read)
+      (ap (λ m. m ∷ p ∷ q ∷ []) (version_from n v version), refl, record { passes = passes }, refl)
 
   by : (o : Option Version) → version_of n ≡ o
-      → option_and_then (λ version. then_some (is_ratio (record { p = p; q = q })) (rules_in version)) o ≡ Some rules
-      → (version_number rules.version ∷ rules.ratio.p ∷ rules.ratio.q ∷ [] ≡ n ∷ p ∷ q ∷ []) × IsRatio rules.ratio
+      → option_and_then (λ version. then_some (is_ratio (fraction p q)) (rules_with (fraction p q) version)) o
+      ≡ Some rules → AreOf rules (n ∷ p ∷ q ∷ []) []
   by None version read = none_is_some read
-  by (Some v) version read = by_ratio (is_ratio (record { p = p; q = q })) v refl version read
+  by (Some v) version read = by_ratio (is_ratio (fraction p q)) v refl version read
+
+-- so are rules with a factor
+factor_read : (n p q b c : ℕ) (rules : Declaration) → factor_rules (with_factor (fraction p q) b c) n ≡ Some rules
+    → AreOf rules (n ∷ p ∷ q ∷ []) (b ∷ c ∷ [])
+factor_read n p q b c rules = by (is_ratio k) (n == 3) refl refl where
+  k : Fraction
+  k = with_factor (fraction p q) b c
+
+  by : (good three : Bool) → is_ratio k ≡ good → (n == 3) ≡ three
+      → cond good (then_some three (rules_with k Three)) None ≡ Some rules → AreOf rules (n ∷ p ∷ q ∷ []) (b ∷ c ∷ [])
+  by false three fails version read = none_is_some read
+  by true false passes version read = none_is_some read
+  by true true passes version read = subst (λ r. AreOf r (n ∷ p ∷ q ∷ []) (b ∷ c ∷ []))
+      (some_same (rules_with k Three) rules read)
+      (ap (λ m. m ∷ p ∷ q ∷ []) (sym (eqb-true n 3 version)), refl, record { passes = passes }, refl)
+
+-- the numbers of a first line, and that its rules are a ratio's and may be declared
+abbrev IsOf : Head → List ℕ → Type 0
+IsOf h ns = (head_numbers h ≡ ns) × IsRatio h.rules.ratio × IsDeclarable h.rules
+
+-- a first line of rules is read from their numbers and the others
+with_rules : (v p q lines mark jobs : ℕ) (factor : List ℕ) (o : Option Declaration) (h : Head)
+    → ((rules : Declaration) → o ≡ Some rules → AreOf rules (v ∷ p ∷ q ∷ []) factor)
+    → head_with lines mark jobs o ≡ Some h → IsOf h (v ∷ p ∷ q ∷ lines ∷ mark ∷ jobs ∷ factor)
+with_rules v p q lines mark jobs factor None h it read = none_is_some read
+with_rules v p q lines mark jobs factor (Some rules) h it read =
+    let are : AreOf rules (v ∷ p ∷ q ∷ []) factor = it rules refl in
+    subst (λ g. IsOf g (v ∷ p ∷ q ∷ lines ∷ mark ∷ jobs ∷ factor)) (some_same (head_of lines mark jobs rules) h read) (
+      ap (λ ns. ns ++ lines ∷ mark ∷ jobs ∷ factor_numbers rules.ratio.factor) are.0
+          ∙ ap (λ ns. v ∷ p ∷ q ∷ lines ∷ mark ∷ jobs ∷ ns) are.1,
+      are.2,
+      are.3,
+    )
 
 -- what a first line is read from
-head_read : (ns : List ℕ) (h : Head) → head_from ns ≡ Some h → (head_numbers h ≡ ns) × IsRatio h.rules.ratio
-head_read (n ∷ p ∷ q ∷ lines ∷ mark ∷ jobs ∷ []) h = by (rules_from n p q) (rules_read n p q) where
-  head_in : Declaration → Head
-  head_in rules = record { rules = rules; lines = lines; mark = mark; jobs = jobs }
-
-  by : (o : Option Declaration)
-      → ((rules : Declaration) → o ≡ Some rules
-      → (version_number rules.version ∷ rules.ratio.p ∷ rules.ratio.q ∷ [] ≡ n ∷ p ∷ q ∷ []) × IsRatio rules.ratio)
-      → option_map head_in o ≡ Some h → (head_numbers h ≡ n ∷ p ∷ q ∷ lines ∷ mark ∷ jobs ∷ []) × IsRatio h.rules.ratio
-  by None it read = none_is_some read
-  by (Some rules) it read =
-      subst (λ (g : Head). (head_numbers g ≡ n ∷ p ∷ q ∷ lines ∷ mark ∷ jobs ∷ []) × IsRatio g.rules.ratio)
-      (some_same (head_in rules) h read)
-      (ap (λ ns. ns ++ lines ∷ mark ∷ jobs ∷ []) (it rules refl).0, (it rules refl).1)
+head_read : (ns : List ℕ) (h : Head) → head_from ns ≡ Some h → IsOf h ns
+head_read (n ∷ p ∷ q ∷ lines ∷ mark ∷ jobs ∷ []) h =
+    with_rules n p q lines mark jobs [] (rules_from n p q) h (rules_read n p q)
+head_read (n ∷ p ∷ q ∷ lines ∷ mark ∷ jobs ∷ b ∷ c ∷ []) h =
+    with_rules n p q lines mark jobs (b ∷ c ∷ []) (factor_rules (with_factor (fraction p q) b c) n) h
+    (factor_read n p q b c)
 head_read [] h = λ read. none_is_some read
 head_read (a ∷ []) h = λ read. none_is_some read
 head_read (a ∷ b ∷ []) h = λ read. none_is_some read
 head_read (a ∷ b ∷ c ∷ []) h = λ read. none_is_some read
 head_read (a ∷ b ∷ c ∷ d ∷ []) h = λ read. none_is_some read
 head_read (a ∷ b ∷ c ∷ d ∷ e ∷ []) h = λ read. none_is_some read
-head_read (a ∷ b ∷ c ∷ d ∷ e ∷ f ∷ g ∷ ns) h = λ read. none_is_some read
+head_read (a ∷ b ∷ c ∷ d ∷ e ∷ f ∷ g ∷ []) h = λ read. none_is_some read
+head_read (a ∷ b ∷ c ∷ d ∷ e ∷ f ∷ g ∷ i ∷ j ∷ ns) h = λ read. none_is_some read
 
 -- it was written as it is read
 pub head_line-read_head : (line : List ℕ) (h : Head) → read_head line ≡ Some h → (head_line h ≡ line) × IsHead h
@@ -167,7 +243,7 @@ head_line-read_head line h = by (is_too_long line) (numbers_of (codes "snapshot"
       let numbers = numbers_from (codes "snapshot") line ns cut in
       let it = head_read ns h read in (
         ap (with_numbers (codes "snapshot")) it.0 ∙ numbers.0,
-        record { ratio = it.1; short = subst AreShort (sym it.0) numbers.1 },
+        record { ratio = it.1; declared = it.2; short = subst AreShort (sym it.0) numbers.1 },
       )
 
 -- ---- the line of a job

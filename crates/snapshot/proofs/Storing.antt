@@ -44,6 +44,7 @@ head_stands line h read within =
       reads = ap with_head read ∙ ap (λ b. cond b (Going h []) (Refused 1)) within;
       text = ap (λ l. l ∷ []) (sym it.0);
       limits = within;
+      declared = it.1.declared;
       valid = none_valid h.rules it.1.ratio;
       known = tt;
       numbered = tt;
@@ -98,6 +99,7 @@ module _ (h : Head) (tasks : List Task) (ls : List (List ℕ)) (it : HasRead h t
             ∙ ap (λ (xs : List (List ℕ)). xs ++ state_line t ∷ []) it.text
             ∙ ap (λ xs. head_line h ∷ xs) (sym (map-append state_line tasks (t ∷ [])));
         limits = it.limits;
+        declared = it.declared;
         valid = record { passes = both.1 };
         known = all_behind (λ u. u.job.release ≤ h.mark) tasks t it.known (leb-true _ _ all.1);
         numbered = numbered_more 0 tasks t it.numbered (omega (arith, eqb-true t.number (length tasks) both.0));

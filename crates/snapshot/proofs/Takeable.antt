@@ -101,8 +101,11 @@ module _ (S : Session) (mark lines : ℕ) (holds : Holds S mark lines) (few : li
         let most : lines ≤ 16_000_000_000 = omega (arith, few, lines_most S.rules.version) in
         record {
           ratio = (valid_parts holds.reads.valid).ratio;
-          short =
-              (rules.0, (rules.1.0, (rules.1.1.0, (omega arith, (omega arith, (omega (arith, jobs_small), tt))))));
+          declared = holds.declared;
+          short = (
+            rules.0,
+            (rules.1.0, (rules.1.1.0, (omega arith, (omega arith, (omega (arith, jobs_small), rules.1.1.1))))),
+          );
         }
 
     module _ (t : Task) (m : IsMember t tasks) where
@@ -207,7 +210,7 @@ module _ (S : Session) (mark lines : ℕ) (holds : Holds S mark lines) (few : li
     -- what is stored of them hands in these
     items_are : (stored_session h tasks).items ≡ kept S.items
     items_are = ap (λ (T : Session). T.items) (stored_run S mark lines holds h refl
-        ∙ sym (kept_is_run S holds.reads.valid holds.follows kept_count (omega (arith, jobs_few))))
+        ∙ sym (kept_is_run S holds.declared holds.reads.valid holds.follows kept_count (omega (arith, jobs_few))))
 
     pub reached_mark : has_reached_mark h tasks ≡ true
     reached_mark = ap (has_lines_for h) items_are

@@ -16,7 +16,7 @@ use Rattle.dover_model.specs.Settled.{settled_state}
 use Rattle.dover_model.specs.Sound.{IsMember, Each, HaveTheSame, jobs_of}
 use Rattle.dover_model.specs.State.{State}
 use Rattle.dover_model.specs.Lines.{in_lines}
-use Rattle.dover_model.specs.FeedLine.{RatioLine, TickLine, feed_text}
+use Rattle.dover_model.specs.FeedLine.{TickLine, feed_text}
 use Rattle.dover_model.specs.Feed.{Account, no_lines, next_line, account_of_lines, account, is_open}
 use Rattle.dover_model.proofs.Barriers.{AtBarrier, settled_at_barrier}
 use Rattle.dover_model.proofs.Cuts.{HasNoFeed}
@@ -30,7 +30,7 @@ use Rattle.ready_server.proofs.SameFinishes.{rests_same, read_same}
 use Rattle.admission.specs.Kept as admission
 use Rattle.event_feed.specs.Kept as feed
 use Rattle.event_feed.specs.Listing.{HasFewJobs}
-use Rattle.event_feed.specs.Reading.{open_account}
+use Rattle.event_feed.specs.Reading.{open_account, rules_line}
 use Rattle.event_feed.specs.declared.kept_session.KeptSession.{KeptSession}
 use Rattle.snapshot.specs.Snapshot.{MayPause, Head, head_line, state_line, snapshot_lines, snapshot}
 use Rattle.snapshot.specs.Reading.{declared_jobs, early_of, early_in, stored, stored_session}
@@ -42,7 +42,7 @@ use Rattle.snapshot.proofs.Beginning.{Within, within}
 use Rattle.event_feed.proofs.Behind.{feedless_feed, rest_joined, lines_joined}
 use Rattle.snapshot.proofs.Comparing.{same_tasks, alike_all}
 use Rattle.snapshot.proofs.Feeds.{both_there, same_alike}
-use Rattle.event_feed.proofs.Saying.{ratio_account, tick_account}
+use Rattle.event_feed.proofs.Saying.{rules_account, tick_account}
 use Rattle.snapshot.proofs.ItemLines.{items_account}
 use Rattle.snapshot.proofs.RunItems.{run_good, run_own, run_valid}
 use Rattle.snapshot.proofs.Same.{stored_own}
@@ -98,7 +98,7 @@ module _ (h : Head) (tasks : List Task) (ls : List (List ℕ)) (it : IsWhole h t
   S = stored_session h tasks
 
   valid_session : IsValidSession S
-  valid_session = run_valid J valid few (by (may_finish_early h.rules.version) refl) where
+  valid_session = run_valid J valid it.read.declared few (by (may_finish_early h.rules.version) refl) where
     few : length J.jobs ≤ most_ready
     few = omega (arith, count_jobs tasks, it.all, limits.jobs)
 
@@ -128,7 +128,7 @@ module _ (h : Head) (tasks : List Task) (ls : List (List ℕ)) (it : IsWhole h t
       fold-append next_line no_lines (ratio_text h ∷ item_lines S.items) (tick_lines h (length S.items + 1))
       ∙ ap (λ a. fold next_line a (tick_lines h (length S.items + 1)))
       (ap (λ a. fold next_line a (item_lines S.items))
-      (ratio_account h.rules.ratio.p h.rules.ratio.q (valid_parts it.read.valid).ratio h.rules.version)
+      (rules_account h.rules (valid_parts it.read.valid).ratio it.read.declared)
       ∙ items_account h.rules [] 1 0 S.items (session_jobs valid_session) (run_good J)
       (session_parts valid_session).items
       (omega (arith, has_lines.0, limits.lines)))
@@ -141,7 +141,7 @@ module _ (h : Head) (tasks : List Task) (ls : List (List ℕ)) (it : IsWhole h t
   -- its lines have no line feed
   feedless : AllByRecursion HasNoFeed (feed_lines h tasks)
   feedless = all_both HasNoFeed (ratio_text h ∷ item_lines S.items) (tick_lines h (length S.items + 1)) (
-    feedless_feed (RatioLine h.rules.ratio.p h.rules.ratio.q _),
+    feedless_feed (rules_line h.rules),
     feedless_items S.items,
   ) (all_copies HasNoFeed (h.lines - (length S.items + 1)) (feed_text (TickLine h.mark))
       (feedless_feed (TickLine h.mark)))

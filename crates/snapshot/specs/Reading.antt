@@ -10,13 +10,13 @@ use Rattle.dover_model.specs.declared.events.Role.TheVariants.{Waiting, Held, Ru
 use Rattle.dover_model.specs.declared.events.Task.{Task}
 use Rattle.dover_model.specs.Limits.{last_tick, most_jobs, most_lines}
 use Rattle.dover_model.specs.JobFacts.{job_of_numbers}
-use Rattle.dover_model.specs.Fraction.{is_ratio}
+use Rattle.dover_model.specs.Fraction.{is_ratio, fraction, with_factor}
 use Rattle.dover_model.specs.Finishes.{Finish}
 use Rattle.dover_model.specs.Instance.{Instance, Declaration, under, finishing, is_valid}
 use Rattle.dover_model.specs.Session.{Item, Session, may_finish_early, mark_after}
 use Rattle.dover_model.specs.State.{is_done}
 use Rattle.dover_model.specs.Trace.{session_of_run}
-use Rattle.dover_model.specs.Feed.{declared_version}
+use Rattle.dover_model.specs.Feed.{declared_version, factor_rules}
 use Rattle.dover_model.specs.Numerals.{numerals}
 use Rattle.dover_model.specs.Lines.{is_too_long, fields_of, numbers_of}
 use Rattle.dover_model.specs.Settled.{settled_state, finish_now}
@@ -33,15 +33,21 @@ version_of n = if n == 1 then Some One else declared_version (Some n)
 
 -- the rules of a version's number and a ratio, if they are within the limits
 abbrev pub rules_from : (version p q : ℕ) → Option Declaration
-rules_from n p q = option_and_then (λ version. then_some (is_ratio (record { p = p; q = q })) (record {
-  ratio = record { p = p; q = q };
+rules_from n p q = option_and_then (λ version. then_some (is_ratio (fraction p q)) (record {
+  ratio = fraction p q;
   version = version;
 })) (version_of n)
 
--- the first line of these numbers, if its rules are within the limits
+-- the first line of these rules, if there are any, and of the other numbers
+abbrev pub head_with : (lines mark jobs : ℕ) → Option Declaration → Option Head
+head_with lines mark jobs o =
+    option_map (λ rules. record { rules = rules; lines = lines; mark = mark; jobs = jobs }) o
+
+-- the first line of these numbers, with a factor or without, if its rules are within the limits
 abbrev pub head_from : List ℕ → Option Head
-head_from (n ∷ p ∷ q ∷ lines ∷ mark ∷ jobs ∷ []) =
-    option_map (λ rules. record { rules = rules; lines = lines; mark = mark; jobs = jobs }) (rules_from n p q)
+head_from (n ∷ p ∷ q ∷ lines ∷ mark ∷ jobs ∷ []) = head_with lines mark jobs (rules_from n p q)
+head_from (n ∷ p ∷ q ∷ lines ∷ mark ∷ jobs ∷ b ∷ c ∷ []) =
+    head_with lines mark jobs (factor_rules (with_factor (fraction p q) b c) n)
 head_from _ = None
 
 -- the first line that these bytes spell, if they do and its rules are within the limits

@@ -4,10 +4,10 @@ use Rattle.std.specs.Prelude.{Some}
 use Rattle.dover_model.specs.declared.events.Role.{Role}
 use Rattle.dover_model.specs.declared.events.Role.TheVariants.{Coming, Fresh, Waiting, Held, Running, Done, Gone}
 use Rattle.dover_model.specs.declared.events.Task.{Task}
-use Rattle.dover_model.specs.Fraction.{IsRatio}
+use Rattle.dover_model.specs.Fraction.{IsRatio, factor_numbers}
 use Rattle.dover_model.specs.Instance.{Declaration}
 use Rattle.dover_model.specs.Numerals.{AreShort}
-use Rattle.dover_model.specs.Session.{Session, instance_of}
+use Rattle.dover_model.specs.Session.{Session, instance_of, IsDeclarable}
 use Rattle.dover_model.specs.Settled.{settled_state}
 use Rattle.dover_model.specs.Lines.{rest_of, in_lines, line_of, with_numbers}
 use Rattle.dover_model.specs.JobFacts.{job_numbers}
@@ -62,17 +62,19 @@ pub record Head : Type 0 where
   pub mark : ℕ
   pub jobs : ℕ  -- how many were admitted
 
--- the numbers of the first line
+-- the numbers of the first line, behind the others those of a factor where there is one
 abbrev pub head_numbers : Head → List ℕ
-head_numbers h = version_number h.rules.version ∷ h.rules.ratio.p ∷ h.rules.ratio.q ∷ h.lines ∷ h.mark ∷ h.jobs ∷ []
+head_numbers h = version_number h.rules.version ∷ h.rules.ratio.p ∷ h.rules.ratio.q ∷ h.lines ∷ h.mark ∷ h.jobs
+    ∷ factor_numbers h.rules.ratio.factor
 
 -- the first line
 abbrev pub head_line : Head → List ℕ
 head_line h = with_numbers (codes "snapshot") (head_numbers h)
 
--- the ratio is one, and the numbers have numerals
+-- the ratio is one, a factor is declared in version Three alone, and the numbers have numerals
 pub record IsHead (h : Head) : Type 0 where
   pub ratio : IsRatio h.rules.ratio
+  pub declared : IsDeclarable h.rules
   pub short : AreShort (head_numbers h)
 
 -- what the first line names of a feed

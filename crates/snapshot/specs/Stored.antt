@@ -3,11 +3,11 @@ use Rattle.std.specs.Prelude.{◌≡◌, ℕ, ◌+◌, ◌≤◌, List, ◌∷�
 use Rattle.std.specs.List.{AllByRecursion}
 use Rattle.dover_model.specs.declared.events.Task.{Task}
 use Rattle.dover_model.specs.Instance.{IsValid}
-use Rattle.dover_model.specs.Session.{Session, JobItem}
+use Rattle.dover_model.specs.Session.{Session, JobItem, IsDeclarable}
 use Rattle.dover_model.specs.Sound.{IsNumberedFrom, jobs_of}
-use Rattle.dover_model.specs.FeedLine.{RatioLine, JobLine, feed_text}
+use Rattle.dover_model.specs.FeedLine.{JobLine, feed_text}
 use Rattle.dover_model.specs.Feed.{Account, Open}
-use Rattle.event_feed.specs.Reading.{declared_number}
+use Rattle.event_feed.specs.Reading.{rules_line}
 use Rattle.snapshot.specs.Snapshot.{Head, head_line, state_line}
 use Rattle.snapshot.specs.Reading.{Going, is_within_limits, declared_jobs, last_release, reading_of}
 
@@ -16,6 +16,7 @@ pub record HasRead (h : Head) (tasks : List Task) (ls : List (List ℕ)) : Type 
   pub reads : reading_of ls ≡ Going h tasks
   pub text : ls ≡ head_line h ∷ map state_line tasks
   pub limits : is_within_limits h ≡ true
+  pub declared : IsDeclarable h.rules
   pub valid : IsValid (declared_jobs h tasks)
   pub known : AllByRecursion (λ t. t.job.release ≤ h.mark) tasks
   pub numbered : IsNumberedFrom 0 tasks
@@ -25,7 +26,7 @@ pub record HasRead (h : Head) (tasks : List Task) (ls : List (List ℕ)) : Type 
 
 -- the line of the ratio
 abbrev pub ratio_text : Head → List ℕ
-ratio_text h = feed_text (RatioLine h.rules.ratio.p h.rules.ratio.q (declared_number h.rules.version))
+ratio_text h = feed_text (rules_line h.rules)
 
 -- the line of the ratio, and one for each job
 abbrev pub job_lines : Head → List Task → List (List ℕ)

@@ -1,19 +1,18 @@
 //! The lines of a snapshot, as they are read.
-ghost use Rattle.std.specs.Prelude.{◌≡◌, ◌∷◌, ◌++◌, ◌<◌, ◌^◌, ℕ, List, length, Some, IfSome, IfNone, option_map};
+ghost use Rattle.std.specs.Prelude.{◌≡◌, ◌∷◌, ◌++◌, ◌<◌, ◌^◌, ℕ, List, Some, IfSome, IfNone, option_map};
 ghost use Rattle.std.specs.Option.{option_and_then};
 ghost use Rattle.dover_model.specs.declared.events.Role.{Role};
+ghost use Rattle.dover_model.specs.Feed.{rules_with};
 ghost use Rattle.dover_model.specs.Lines.{fields_of};
 ghost use Rattle.dover_model.specs.Numerals.{numerals};
-ghost use Rattle.line_text.specs.Reading.{fields_left};
 ghost use Rattle.snapshot.specs.Reading as model;
 ghost use Rattle.snapshot.specs.Snapshot.{role_word};
 ghost use Rattle.snapshot.specs.Forms.{head_in, task_in, behind_number, behind_word};
 
 use dover_model::jobs::LAST_TICK;
 use dover_model::{Ratio, Role, Version};
-use line_text::{
-    LINE_BYTES, Numbers, behind_word, cut_field, first_number, numbers_in, read_numbers,
-};
+use event_feed::declared_with_factor;
+use line_text::{LINE_BYTES, behind_word, first_number, numbers_in};
 
 /// The first line: the rules are within their limits, and the other numbers are below 10^18.
 #[derive(Clone, Copy)]
@@ -59,32 +58,56 @@ fn version_of(number: u64) -> Option<Version>
     }
 }
 
-/// The first line of a version's number and five more numbers.
-fn head_of(version: u64, numbers: &[u64]) -> Option<Head>
-    ensures { option_map head_in result ≡ model.head_from (version ∷ numbers.now) }
+/// The ratio and the version of these numbers.
+fn declared(version: u64, p: u64, q: u64) -> Option<(Ratio, Version)>
+    ensures { option_map (λ declared. rules_with declared.0 declared.1) result ≡ model.rules_from version p q }
 {
-    let [p, q, lines, mark, jobs] = numbers else {
-        return None;
-    };
     let version = version_of(version)?;
-    let ratio = Ratio::from_numbers(*p, *q)?;
+    let ratio = Ratio::from_numbers(p, q)?;
+    Some((ratio, version))
+}
+
+/// The first line of what is declared, if anything is, and of the other numbers.
+fn head_with(rules: Option<(Ratio, Version)>, lines: u64, mark: u64, jobs: u64) -> Option<Head>
+    ensures { option_map head_in result
+        ≡ model.head_with lines mark jobs (option_map (λ declared. rules_with declared.0 declared.1) rules) }
+{
+    let (ratio, version) = rules?;
     Some(Head {
         version,
         ratio,
-        lines: *lines,
-        mark: *mark,
-        jobs: *jobs,
+        lines,
+        mark,
+        jobs,
     })
 }
 
-/// The first of the numbers that the fields left spell, and up to five behind it.
-fn numbers_left(fields: Option<&[u8]>) -> Option<(u64, Numbers)>
-    ensures some { IfSome result (λ r. numerals (fields_left fields.entry) ≡ Some (r.0 ∷ r.1)) }
-    ensures none { IfNone result ((ns : List ℕ) → numerals (fields_left fields.entry) ≡ Some ns → length ns ≡ 6 → ⊥) }
+/// The first line of its numbers, with those of a factor or without.
+fn head_of(numbers: &[u64]) -> Option<Head>
+    ensures { option_map head_in result ≡ model.head_from numbers.now }
 {
-    let (first, rest) = first_number(fields?)?;
-    let numbers = read_numbers(rest)?;
-    Some((first, numbers))
+    match numbers {
+        [version, p, q, lines, mark, jobs] => {
+            head_with(declared(*version, *p, *q), *lines, *mark, *jobs)
+        }
+        [version, p, q, lines, mark, jobs, b, c] => {
+            let rules = declared_with_factor(*p, *q, *version, *b, *c);
+            head_with(rules, *lines, *mark, *jobs)
+        }
+        _ => None,
+    }
+}
+
+/// The first line, of the fields behind its word.
+#[tactic(auto, using(crate::proofs::Formed::no_head_of))]
+fn head_left(fields: &[u8]) -> Option<Head>
+    ensures { option_map head_in result ≡ option_and_then model.head_from (numerals (fields_of fields.now)) }
+{
+    if let Some(numbers) = numbers_in::<6>(fields) {
+        return head_of(&numbers);
+    }
+    let numbers = numbers_in::<8>(fields)?;
+    head_of(&numbers)
 }
 
 /// Reads the first line, without its line feed. None where it has another form, or its rules are out of the limits.
@@ -94,14 +117,10 @@ pub(crate) fn read_head(line: &[u8]) -> Option<Head>
     if line.len() >= LINE_BYTES {
         return None;
     }
-    let (word, rest) = cut_field(line);
-    if word != b"snapshot".as_slice() {
-        return None;
+    match behind_word(line, b"snapshot") {
+        Some(fields) => head_left(fields),
+        None => None,
     }
-    let Some((version, numbers)) = numbers_left(rest) else {
-        return None;
-    };
-    head_of(version, numbers.as_slice())
 }
 
 /// The role whose word and a space a line begins with, and what is left behind them. Most jobs are done, or gone.

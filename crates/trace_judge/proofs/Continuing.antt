@@ -23,7 +23,7 @@ use Rattle.dover_model.specs.Settled.{waits_for_mark, settled, settled_steps, se
 use Rattle.dover_model.specs.Sound.{Each, Keeps}
 use Rattle.dover_model.specs.WholeRun.{open_at, IsSettledRun, IsBarrier}
 use Rattle.dover_model.specs.Session.{JobItem, RefusedItem, Refused, Session, instance_of, admitted_jobs}
-use Rattle.dover_model.specs.Session.{FinishItem, EarlyFinish}
+use Rattle.dover_model.specs.Session.{FinishItem, EarlyFinish, IsDeclarable}
 use Rattle.dover_model.specs.Session.{IsValidSession, with_item, with_named, mark_after, new_session}
 use Rattle.dover_model.specs.Verdict.{named_session}
 use Rattle.dover_model.proofs.Kept.{opening_keeps, each_job}
@@ -62,7 +62,7 @@ use Rattle.dover_model.proofs.Released.{NoneComes, none_comes_passes, none_comes
 use Rattle.dover_model.proofs.Released.{after_release}
 use Rattle.trace_judge.proofs.Seeing.{led_named, sees_keeps, sees_ready, sees_names, sees_next}
 use Rattle.dover_model.specs.Fraction.{IsRatio}
-use Rattle.dover_model.proofs.SessionParts.{MayFinish, session_parts, session_from, session_jobs}
+use Rattle.dover_model.proofs.SessionParts.{MayFinish, session_parts, session_from, session_jobs, session_declared}
 use Rattle.trace_judge.proofs.Follows.{refused_parts}
 use Rattle.dover_model.proofs.ValidParts.{valid_from}
 
@@ -419,6 +419,7 @@ module _ (ls : List (List ℕ)) (S : Session) (floor : ℕ) (z : State) (sees : 
     -- the session is valid
     valid_job : IsValidSession S_more
     valid_job = session_from (record {
+      declared = session_declared sees.valid;
       jobs = subst IsValid (sym jobs_more) valid_K;
       count = omega (arith, may.room, length-append S.items (JobItem j ∷ []));
       items = follows_behind S.rules [] 0 S.items (JobItem j ∷ []) (session_parts sees.valid).items (
@@ -525,6 +526,7 @@ module _ (ls : List (List ℕ)) (S : Session) (floor : ℕ) (z : State) (sees : 
     -- the session is valid
     valid_refused : IsValidSession S_refused
     valid_refused = session_from (record {
+      declared = session_declared sees.valid;
       jobs = subst IsValid (sym jobs_same) (session_jobs sees.valid);
       count = omega (arith, may.room, length-append S.items (RefusedItem r ∷ []));
       items = follows_behind S.rules [] 0 S.items (RefusedItem r ∷ []) (session_parts sees.valid).items (
@@ -714,6 +716,7 @@ module _ (ls : List (List ℕ)) (S : Session) (floor : ℕ) (z : State) (sees : 
     -- the session is valid
     valid_done : IsValidSession S_done
     valid_done = session_from (record {
+      declared = session_declared sees.valid;
       jobs = subst IsValid (sym jobs_done)
           (finishing_valid J (J.rules.finishes ++ f.finish ∷ []) (session_jobs sees.valid));
       count = omega (arith, room, length-append S.items (FinishItem f ∷ []));
@@ -763,9 +766,9 @@ module _ (ls : List (List ℕ)) (S : Session) (floor : ℕ) (z : State) (sees : 
 -- ---- the header
 
 -- the header comes to the opening state of no jobs
-pub sees_header : (rules : Declaration) → IsRatio rules.ratio
+pub sees_header : (rules : Declaration) → IsRatio rules.ratio → IsDeclarable rules
     → Sees (header rules ∷ []) (new_session rules) 0 (opening [])
-sees_header rules ratio = record {
+sees_header rules ratio declared = record {
   valid = valid_new;
   named = led_named (new_session rules) valid_new 0 (opening []) [] refl tt refl;
   steps = [];
@@ -779,6 +782,7 @@ sees_header rules ratio = record {
 } where
   valid_new : IsValidSession (new_session rules)
   valid_new = session_from (record {
+    declared = declared;
     jobs = valid_from (record
         { ratio = ratio; each = tt; in_order = tt; count = omega arith; total = omega arith; densities = tt });
     count = omega arith;
@@ -786,7 +790,7 @@ sees_header rules ratio = record {
   })
 
 -- no step is printed
-pub sees_header_prints : (rules : Declaration) (ratio : IsRatio rules.ratio)
-    → printed_of (sees_header rules ratio).steps ≡ []
+pub sees_header_prints : (rules : Declaration) (ratio : IsRatio rules.ratio) (declared : IsDeclarable rules)
+    → printed_of (sees_header rules ratio declared).steps ≡ []
 unfolding sees_header
-sees_header_prints rules ratio = refl
+sees_header_prints rules ratio declared = refl

@@ -1,10 +1,17 @@
 -- What the text of a line names behind a session.
+use Rattle.std.proofs.Common.{sym, Option, subst, List}
 use Rattle.std.proofs.Common.{◌≡◌, ℕ, ◌∷◌, [], refl, ap, ◌∙◌, Some, None, codes}
 use Rattle.std.specs.Option.{option_or, option_and_then}
+use Rattle.dover_model.proofs.NoFeeds.{header_short}
+use Rattle.dover_model.specs.Numerals.{AreShort}
+use Rattle.dover_model.specs.Text.{header, version_number}
+use Rattle.dover_model.specs.Instance.{Declaration}
+use Rattle.dover_model.specs.declared.factors.Factor.{Factor}
+use Rattle.dover_model.specs.Fraction.{Fraction, IsRatio, ratio_with, factor_numbers}
 use Rattle.dover_model.specs.declared.events.Event.{Event}
 use Rattle.dover_model.specs.declared.events.Event.TheVariants.{Release, Run, Preempt, Take, Complete, Abandon, End}
 use Rattle.dover_model.specs.JobFacts.{JobFacts}
-use Rattle.dover_model.specs.Lines.{numbers_of}
+use Rattle.dover_model.specs.Lines.{numbers_of, with_numbers}
 use Rattle.dover_model.specs.Session.{Session, Item}
 use Rattle.dover_model.specs.Trace.{Printed}
 use Rattle.dover_model.specs.Verdict.{named_item, item_of, finish_from}
@@ -12,7 +19,7 @@ use Rattle.dover_model.proofs.Early.{finish_in}
 use Rattle.dover_model.proofs.Named.{named_text, first_word}
 use Rattle.line_text.specs.declared.traces.lines.TraceLine.{TraceLine}
 use Rattle.line_text.specs.declared.traces.lines.TraceLine.TheVariants.{Header, Step}
-use Rattle.line_text.specs.traces.Form.{HasForm, item_in, trace_text}
+use Rattle.line_text.specs.traces.Form.{HasForm, item_in, trace_text, pair_of}
 use Rattle.line_text.proofs.traces.Spelled.{text_read, read_IsRead}
 
 -- the text of a line names its item
@@ -50,8 +57,50 @@ quiet_named (Abandon at n) released completed form S = step_named S (Abandon at 
 quiet_named (End value) released completed form S = step_named S (End value) form refl
 
 -- a header names nothing
-pub header_named : (S : Session) (v p q : ℕ) → HasForm (Header v p q) → named_item S (trace_text (Header v p q)) ≡ None
-header_named S v p q form =
-    ap (λ o. option_or o (option_and_then (finish_from S) (numbers_of (codes "complete") (trace_text (Header v p q)))))
-    (text_item (Header v p q) form)
-    ∙ ap (option_and_then (finish_from S)) (first_word (codes "dover") (v ∷ p ∷ q ∷ []) refl form)
+pub header_named : (S : Session) (v p q : ℕ) (factor : Option (ℕ × ℕ)) → HasForm (Header v p q factor)
+    → named_item S (trace_text (Header v p q factor)) ≡ None
+header_named S v p q factor form =
+    ap (λ o. option_or o (option_and_then (finish_from S)
+    (numbers_of (codes "complete") (trace_text (Header v p q factor)))))
+    (text_item (Header v p q factor) form)
+    ∙ ap (option_and_then (finish_from S)) (first_word (codes "dover") (v ∷ p ∷ q ∷ pair_of factor) refl form)
+
+-- ---- the line of a header
+
+-- the numbers of a factor, if there is one
+abbrev pub pair_in : Option Factor → Option (ℕ × ℕ)
+pair_in None = None
+pair_in (Some f) = Some (f.b, f.c)
+
+-- the line of the header of these rules
+abbrev pub header_line : Declaration → TraceLine
+header_line rules = Header (version_number rules.version) rules.ratio.p rules.ratio.q (pair_in rules.ratio.factor)
+
+-- the numbers of a factor are those of the pair
+pair_back : (o : Option Factor) → pair_of (pair_in o) ≡ factor_numbers o
+pair_back None = refl
+pair_back (Some f) = refl
+
+-- its text is the header
+pub header_text : (rules : Declaration) → trace_text (header_line rules) ≡ header rules
+header_text rules = ap (λ ns. with_numbers (codes "dover") (version_number rules.version ∷ rules.ratio.p ∷ rules.ratio.q
+    ∷ ns)) (pair_back rules.ratio.factor)
+
+-- and it has a form
+pub header_form : (rules : Declaration) → IsRatio rules.ratio → HasForm (header_line rules)
+header_form rules ratio = subst (λ ns. AreShort (version_number rules.version ∷ rules.ratio.p ∷ rules.ratio.q ∷ ns))
+    (sym (pair_back rules.ratio.factor)) (header_short rules ratio)
+
+-- the ratio of its numbers is the ratio
+pub ratio_back : (k : Fraction) → ratio_with k.p k.q (pair_in k.factor) ≡ k
+ratio_back k = by k.p k.q k.factor where
+  by : (p q : ℕ) (o : Option Factor) → ratio_with p q (pair_in o) ≡ record { p = p; q = q; factor = o }
+  by p q None = refl
+  by p q (Some f) = refl
+
+-- the text of a header, by the ratio of its numbers
+pub with_text : (v p q : ℕ) (factor : Option (ℕ × ℕ)) → trace_text (Header v p q factor)
+    ≡ with_numbers (codes "dover") (v ∷ (ratio_with p q factor).p ∷ (ratio_with p q factor).q
+    ∷ factor_numbers (ratio_with p q factor).factor)
+with_text v p q None = refl
+with_text v p q (Some pair) = refl

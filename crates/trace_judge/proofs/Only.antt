@@ -14,7 +14,7 @@ use Rattle.dover_model.proofs.Beginnings.{begins_either, begins_onward}
 use Rattle.dover_model.proofs.Members.{tails, heads, some_same, all_last}
 use Rattle.dover_model.specs.Session.{Session, IsValidSession, is_valid_session, Item, JobItem, RefusedItem, FinishItem}
 use Rattle.dover_model.specs.Session.{Refused, EarlyFinish, new_session, with_named}
-use Rattle.dover_model.specs.Session.{instance_of, admitted_jobs, with_item, mark_after}
+use Rattle.dover_model.specs.Session.{instance_of, admitted_jobs, with_item, mark_after, IsDeclarable}
 use Rattle.dover_model.specs.Trace.{trace_lines, text_of_line, TraceLine, Printed, Refuses, lines_among}
 use Rattle.dover_model.specs.Verdict.{named_session, named_behind, named_item, begins_trace, begins_trace_of}
 use Rattle.dover_model.specs.Verdict.{rules_of}
@@ -47,7 +47,7 @@ use Rattle.trace_judge.proofs.Seeing.{sees_next_text, sees_names, sees_short}
 use Rattle.dover_model.proofs.Leading.{settled_settles}
 use Rattle.trace_judge.proofs.Continuing.{settled_from_floor}
 use Rattle.trace_judge.proofs.Counts.{length-lines}
-use Rattle.dover_model.proofs.SessionParts.{session_jobs}
+use Rattle.dover_model.proofs.SessionParts.{session_jobs, session_declared}
 use Rattle.dover_model.proofs.SessionParts.{FollowsItems, session_parts, may_be_refused-agrees, may_finish-agrees}
 use Rattle.dover_model.proofs.ValidParts.{valid_parts}
 
@@ -167,11 +167,12 @@ named_more S T l ls ratio one other =
 
 -- only headers begin a trace
 pub only_headers : (l : List ℕ) → begins_trace (l ∷ []) ≡ true → (rules : Declaration) × IsRatio rules.ratio
-    × (l ≡ header rules)
+    × IsDeclarable rules × (l ≡ header rules)
 only_headers l passes =
     let it : Starts (l ∷ []) = starts l [] passes in (
       it.session.rules,
       (valid_parts (session_jobs it.valid)).ratio,
+      session_declared it.valid,
       sym (heads (header it.session.rules) l (map text_of_line (all_lines it.session)) it.begins.0 it.begins.1),
     )
 

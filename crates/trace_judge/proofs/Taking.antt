@@ -1,10 +1,13 @@
 -- How the judge takes the lines of a trace.
+use Rattle.std.proofs.Common.{codes}
 use Rattle.std.proofs.Common.{◌≡◌, ℕ, suc, ◌+◌, ◌*◌, ◌≤◌, ◌<◌, max, List, [], ◌∷◌, ◌++◌, length, length-append}
 use Rattle.std.proofs.Common.{refl, sym, ap, ◌∙◌, subst, Bool, true, false, cond, arith}
 use Rattle.std.specs.Prelude.{Option, Some, None, is_some, not}
 use Rattle.std.specs.List.{filter}
 use Rattle.std.proofs.lemmas.Bool.{false_from_ne_true}
-use Rattle.dover_model.specs.Fraction.{Fraction, IsRatio}
+use Rattle.trace_judge.proofs.Naming.{header_line, header_text, header_form, pair_in, ratio_back, with_text}
+use Rattle.dover_model.specs.Lines.{with_numbers}
+use Rattle.dover_model.specs.Fraction.{Fraction, IsRatio, ratio_with, factor_numbers}
 use Rattle.dover_model.specs.declared.events.Event.{Event}
 use Rattle.dover_model.specs.declared.events.Event.TheVariants.{Release, Run, Preempt, Take, Complete, Abandon, End}
 use Rattle.dover_model.specs.declared.events.Version.{Version}
@@ -18,7 +21,9 @@ use Rattle.dover_model.proofs.LastSteps.{prints_clock}
 use Rattle.dover_model.proofs.Kept.{open_deed}
 use Rattle.dover_model.proofs.Prefixes.{step_open}
 use Rattle.std.proofs.lemmas.List.Sums.{fold-append}
-use Rattle.dover_model.specs.Session.{Session, instance_of, new_session}
+use Rattle.dover_model.specs.Session.{Session, instance_of, new_session, is_declarable, IsDeclarable}
+use Rattle.dover_model.specs.Feed.{rules_with}
+use Rattle.dover_model.proofs.Members.{some_same}
 use Rattle.dover_model.specs.Text.{header, text_of, version_number}
 use Rattle.dover_model.specs.Verdict.{begins_trace, named_item, version_of_number}
 use Rattle.dover_model.proofs.TraceLines.{version_back, version_from}
@@ -156,56 +161,77 @@ is_something (Some e) b test is = (e, refl)
 -- ---- the header
 
 -- a header that begins a trace
-header_only : (v p q : ℕ) → HasForm (Header v p q) → begins_trace (trace_text (Header v p q) ∷ []) ≡ true
-    → (rules : Declaration) × IsRatio rules.ratio
-    × (Header v p q ≡ Header (version_number rules.version) rules.ratio.p rules.ratio.q)
-header_only v p q form passes =
-    let it : (rules : Declaration) × IsRatio rules.ratio × (trace_text (Header v p q) ≡ header rules) =
-    only_headers (trace_text (Header v p q)) passes in (
+header_only : (v p q : ℕ) (factor : Option (ℕ × ℕ)) → HasForm (Header v p q factor)
+    → begins_trace (trace_text (Header v p q factor) ∷ []) ≡ true
+    → (rules : Declaration) × IsRatio rules.ratio × IsDeclarable rules × (Header v p q factor ≡ header_line rules)
+header_only v p q factor form passes =
+    let it : (rules : Declaration) × IsRatio rules.ratio × IsDeclarable rules
+    × (trace_text (Header v p q factor) ≡ header rules) =
+    only_headers (trace_text (Header v p q factor)) passes in (
       it.0,
       it.1,
-      one_form (Header v p q) (Header (version_number it.0.version) it.0.ratio.p it.0.ratio.q) form
-          (header_short it.0 it.1) it.2,
+      it.2,
+      one_form (Header v p q factor) (header_line it.0) form (header_form it.0 it.1)
+          (it.3 ∙ sym (header_text it.0)),
     )
 
-module _ (r : Reading) (opening_stage : r.stage ≡ Opening) (v p q : ℕ) (form : HasForm (Header v p q)) where
+-- the numbers of a version are the same in the same header
+number_is : {a b c : ℕ} {x : Option (ℕ × ℕ)} (rules : Declaration) → Header a b c x ≡ header_line rules
+    → a ≡ version_number rules.version
+number_is rules e = cc
+
+-- and the ratio is that of its numbers
+ratio_is : {a b c : ℕ} {x : Option (ℕ × ℕ)} (rules : Declaration) → Header a b c x ≡ header_line rules
+    → ratio_with b c x ≡ rules.ratio
+ratio_is {a} {b} {c} {x} rules same =
+    let one : b ≡ rules.ratio.p = cc in let two : c ≡ rules.ratio.q = cc in
+    let three : x ≡ pair_in rules.ratio.factor = cc in
+    ap (λ m. ratio_with m c x) one ∙ ap (λ m. ratio_with rules.ratio.p m x) two
+    ∙ ap (ratio_with rules.ratio.p rules.ratio.q) three ∙ ratio_back rules.ratio
+
+module _ (r : Reading) (opening_stage : r.stage ≡ Opening) (v p q : ℕ) (factor : Option (ℕ × ℕ))
+    (form : HasForm (Header v p q factor)) where
   -- a header that isn't one of a trace
-  not_header : ((rules : Declaration) → IsRatio rules.ratio → Header v p q
-      ≡ Header (version_number rules.version) rules.ratio.p rules.ratio.q → ⊥)
-      → Took r r (trace_text (Header v p q)) false
+  not_header : ((rules : Declaration) → IsRatio rules.ratio → IsDeclarable rules
+      → Header v p q factor ≡ header_line rules → ⊥)
+      → Took r r (trace_text (Header v p q factor)) false
   not_header none = record {
     yes = λ e. absurd (let clash : false ≡ true = e in cc);
     no = λ _ ls reads. (
       false_from_ne_true _ (λ passes.
           let opens : Opens r ls = opens_of r ls opening_stage (reads_ahead r ls reads) in
-          let it = header_only v p q form
-          (subst (λ xs. begins_trace (xs ++ trace_text (Header v p q) ∷ []) ≡ true) opens.lines passes) in
-          none it.0 it.1 it.2),
+          let it = header_only v p q factor form
+          (subst (λ xs. begins_trace (xs ++ trace_text (Header v p q factor) ∷ []) ≡ true) opens.lines passes) in
+          none it.0 it.1 it.2 it.3),
       reads_ahead r ls reads,
     );
   }
 
   -- its number is no version
-  pub no_version : version_of_number v ≡ None → Took r r (trace_text (Header v p q)) false
-  no_version none = not_header (λ rules ratio same.
-      let number : v ≡ version_number rules.version = numbers same in
-      let clash : None ≡ Some rules.version = sym none ∙ ap version_of_number number
+  pub no_version : version_of_number v ≡ None → Took r r (trace_text (Header v p q factor)) false
+  no_version none = not_header (λ rules ratio declared same.
+      let clash : None ≡ Some rules.version = sym none ∙ ap version_of_number (number_is rules same)
       ∙ version_back rules.version in
-      cc) where
-        numbers : {a b c d e f : ℕ} → Header a b c ≡ Header d e f → a ≡ d
-        numbers e = cc
+      cc)
 
   -- its ratio is none
-  pub no_ratio : (IsRatio (record { p = p; q = q }) → ⊥) → Took r r (trace_text (Header v p q)) false
-  no_ratio none = not_header (λ rules ratio same. none (subst IsRatio (sym (fraction same)) ratio)) where
-    fraction : {a b c d e f : ℕ} → Header a b c ≡ Header d e f
-        → ◌≡◌ {A = Fraction} (record { p = b; q = c }) (record { p = e; q = f })
-    fraction {b} {c} {e} {f} same = let one : b ≡ e = cc in let two : c ≡ f = cc in
-        let part : ℕ → ℕ → Fraction = λ m n. record { p = m; q = n } in ap (λ m. part m c) one ∙ ap (part e) two
+  pub no_ratio : (IsRatio (ratio_with p q factor) → ⊥) → Took r r (trace_text (Header v p q factor)) false
+  no_ratio none = not_header (λ rules ratio declared same. none (subst IsRatio (sym (ratio_is rules same)) ratio))
+
+  -- its ratio has a factor that its version doesn't take
+  pub no_declaration : (version : Version) (ratio : Fraction) → version_of_number v ≡ Some version
+      → ratio ≡ ratio_with p q factor → is_declarable (rules_with ratio version) ≡ false
+      → Took r r (trace_text (Header v p q factor)) false
+  no_declaration version ratio is_version is_ratio fails = not_header (λ rules good declared same.
+      let versions : version ≡ rules.version = some_same version rules.version
+      (sym is_version ∙ ap version_of_number (number_is rules same) ∙ version_back rules.version) in
+      never (sym fails ∙ ap (λ k. is_declarable (rules_with k version)) (is_ratio ∙ ratio_is rules same)
+      ∙ ap (λ w. is_declarable (rules_with rules.ratio w)) versions ∙ declared))
 
   -- it is one
   module _ (version : Version) (ratio : Fraction) (is_version : version_of_number v ≡ Some version)
-      (is_ratio : (ratio ≡ record { p = p; q = q }) × IsRatio ratio) (d : Course) (kept : admission.Kept)
+      (is_ratio : (ratio ≡ ratio_with p q factor) × IsRatio ratio) (may : IsDeclarable (rules_with ratio version))
+      (d : Course) (kept : admission.Kept)
       (declared : d ≡ record r.course { rules = record { ratio = ratio; version = version } })
       (kept_rules : kept.rules ≡ record { ratio = ratio; version = version })
       (stands : admission.StandsFor kept []) where
@@ -218,23 +244,25 @@ module _ (r : Reading) (opening_stage : r.stage ≡ Opening) (v p q : ℕ) (form
     opened = record r { stage = Going; course = d; kept = kept }
 
     -- the text is that of the rules
-    text_is : trace_text (Header v p q) ≡ header rules
-    text_is = ap (λ n. trace_text (Header n p q)) (sym (version_from v version is_version))
-        ∙ ap (λ (k : Fraction). trace_text (Header (version_number version) k.p k.q)) (sym is_ratio.0)
+    text_is : trace_text (Header v p q factor) ≡ header rules
+    text_is = ap (λ n. trace_text (Header n p q factor)) (sym (version_from v version is_version))
+        ∙ with_text (version_number version) p q factor
+        ∙ ap (λ (k : Fraction). with_numbers (codes "dover") (version_number version ∷ k.p ∷ k.q
+        ∷ factor_numbers k.factor)) (sym is_ratio.0)
 
     -- the header is kept
     pub opened_goes : (ls : List (List ℕ)) → Opens r ls
-        → Goes opened (ls ++ trace_text (Header v p q) ∷ []) (new_session rules) (opening []) (opening [])
+        → Goes opened (ls ++ trace_text (Header v p q factor) ∷ []) (new_session rules) (opening []) (opening [])
     opened_goes ls opens =
         let floor : 0 ≡ r.floor = sym opens.floor in
-        let lines : header rules ∷ [] ≡ ls ++ trace_text (Header v p q) ∷ [] =
-        ap (λ l. l ∷ []) (sym text_is) ∙ ap (λ xs. xs ++ trace_text (Header v p q) ∷ []) (sym opens.lines) in
-        let sees : (s : Sees (ls ++ trace_text (Header v p q) ∷ []) (new_session rules) r.floor (opening []))
+        let lines : header rules ∷ [] ≡ ls ++ trace_text (Header v p q factor) ∷ [] =
+        ap (λ l. l ∷ []) (sym text_is) ∙ ap (λ xs. xs ++ trace_text (Header v p q factor) ∷ []) (sym opens.lines) in
+        let sees : (s : Sees (ls ++ trace_text (Header v p q factor) ∷ []) (new_session rules) r.floor (opening []))
         × (printed_of s.steps ≡ []) =
         subst (λ xs. (s : Sees xs (new_session rules) r.floor (opening [])) × (printed_of s.steps ≡ [])) lines
         (subst (λ n. (s : Sees (header rules ∷ []) (new_session rules) n (opening [])) × (printed_of s.steps ≡ []))
         floor
-        (sees_header rules is_ratio.1, sees_header_prints rules is_ratio.1)) in
+        (sees_header rules is_ratio.1 may, sees_header_prints rules is_ratio.1 may)) in
         record {
           sees = sees.0;
           idles = ([], refl);
@@ -253,7 +281,7 @@ module _ (r : Reading) (opening_stage : r.stage ≡ Opening) (v p q : ℕ) (form
           no_steps false = refl
 
     -- the trace goes on
-    pub opened_took : (w : Reading) → r ≡ w → Took w opened (trace_text (Header v p q)) true
+    pub opened_took : (w : Reading) → r ≡ w → Took w opened (trace_text (Header v p q factor)) true
     opened_took w same = record {
       yes = λ _ ls reads. (
         new_session rules,
@@ -276,7 +304,7 @@ module _ (r : Reading) (opening_stage : r.stage ≡ Opening) (v p q : ℕ) (form
         steps = λ keep. let before : 5 * (r.course.jobs + r.spare) + 1 ≤ r.room = old.spare.steps keep in
             omega (arith, ap (λ (c : Course). c.jobs) declared);
       };
-      lines = old.lines ++ trace_text (Header v p q) ∷ [];
+      lines = old.lines ++ trace_text (Header v p q factor) ∷ [];
       reads = (
         new_session rules,
         opening [],

@@ -1,4 +1,5 @@
 -- Lines that continue no trace, and lines that continue one have a form.
+use Rattle.std.proofs.Common.{Option}
 use Rattle.std.proofs.Common.{◌≡◌, ℕ, ◌+◌, ◌≤◌, ◌<◌, ◌⊎◌, inl, inr, List, [], ◌∷◌, ◌++◌, length, sym, ap, ◌∙◌}
 use Rattle.std.proofs.Common.{subst, true, false, cond, arith}
 use Rattle.std.proofs.lemmas.Bool.{false_from_ne_true}
@@ -8,6 +9,7 @@ use Rattle.dover_model.specs.declared.events.Event.TheVariants.{Release, Run, Pr
 use Rattle.dover_model.specs.Instance.{Declaration}
 use Rattle.dover_model.specs.State.{State}
 use Rattle.dover_model.specs.Session.{Session, RefusedLine, RefusedJob, RefusedDone, instance_of, admitted_jobs}
+use Rattle.dover_model.specs.Session.{IsDeclarable}
 use Rattle.dover_model.proofs.SessionParts as parts
 use Rattle.dover_model.specs.Finishes.{Finish}
 use Rattle.dover_model.specs.Settled.{settled_state}
@@ -28,7 +30,7 @@ use Rattle.line_text.specs.declared.traces.lines.TraceLine.TheVariants as format
 use Rattle.line_text.specs.traces.Form.{HasForm, item_in, trace_text}
 use Rattle.dover_model.specs.Leading.{PrintsNext}
 use Rattle.trace_judge.specs.Reading.{Sees, IsReleaseNext, IsRefusedNext, IsCompletionNext}
-use Rattle.trace_judge.proofs.Naming.{header_named}
+use Rattle.trace_judge.proofs.Naming.{header_named, header_line, header_text, header_form}
 use Rattle.trace_judge.proofs.Only.{only_headers, only_step, continues_only}
 use Rattle.trace_judge.proofs.Seeing.{sees_some_next}
 use Rattle.trace_judge.specs.declared.stage.Stage.{Stage}
@@ -56,19 +58,19 @@ ended_took_none w stage l = record {
 }
 
 -- a second header is wrong
-pub header_took_none : (w : Reading) → w.stage ≡ Going → (v p q : ℕ) → HasForm (Header v p q)
-    → Took w w (trace_text (Header v p q)) false
-header_took_none w going v p q form = record {
+pub header_took_none : (w : Reading) → w.stage ≡ Going → (v p q : ℕ) (factor : Option (ℕ × ℕ))
+    → HasForm (Header v p q factor) → Took w w (trace_text (Header v p q factor)) false
+header_took_none w going v p q factor form = record {
   yes = λ e. absurd (let clash : false ≡ true = e in cc);
   no = λ _ ls reads.
       let here : (S : Session) × (z : State) × Goes w ls S z z = here_of w ls going reads in (
         false_from_ne_true _ (λ passes.
             let next : (e : Event) × (y : State) × PrintsNext (instance_of here.0).rules here.1 e y =
             sees_some_next ls here.0 w.floor here.1 here.2.sees in
-            let text : trace_text (Header v p q) ≡ text_of next.0 =
-            only_step ls here.0 w.floor here.1 here.2.sees (trace_text (Header v p q)) passes next.0 next.1 next.2
-            (header_named here.0 v p q form) in
-            let clash : Header v p q ≡ Step next.0 = one_form (Header v p q) (Step next.0) form
+            let text : trace_text (Header v p q factor) ≡ text_of next.0 =
+            only_step ls here.0 w.floor here.1 here.2.sees (trace_text (Header v p q factor)) passes next.0 next.1
+            next.2 (header_named here.0 v p q factor form) in
+            let clash : Header v p q factor ≡ Step next.0 = one_form (Header v p q factor) (Step next.0) form
             (next_form ls here.0 w.floor here.1 here.2.sees next.0 next.1 next.2) text in cc),
         reads_ahead w ls reads,
       );
@@ -150,9 +152,9 @@ unread_fails w l none ls reads = false_from_ne_true _ (by_stage w.stage reads) w
 
   by_stage : (s : Stage) → HereBy s w ls → begins_trace (ls ++ l ∷ []) ≡ true → ⊥
   by_stage Opening opens passes =
-      let it : (rules : Declaration) × IsRatio rules.ratio × (l ≡ header rules) =
+      let it : (rules : Declaration) × IsRatio rules.ratio × IsDeclarable rules × (l ≡ header rules) =
       only_headers l (subst (λ xs. begins_trace (xs ++ l ∷ []) ≡ true) opens.lines passes) in
-      none (Header (version_number it.0.version) it.0.ratio.p it.0.ratio.q) (header_short it.0 it.1) (sym it.2)
+      none (header_line it.0) (header_form it.0 it.1) (header_text it.0 ∙ sym it.3)
   by_stage Going here passes =
       let next : (e : Event) × (y : State) × PrintsNext (instance_of here.0).rules here.1 e y =
       sees_some_next ls here.0 w.floor here.1 here.2.sees in
@@ -170,7 +172,7 @@ unread_took w l none = record {
 
 -- a line that was read as a release names a job
 pub jobs_counted : (x : TraceLine) (l : List ℕ) → item_of l ≡ item_in x → jobs_in x ≤ job_lines_in l
-jobs_counted (Header v p q) l is = omega arith
+jobs_counted (Header v p q factor) l is = omega arith
 jobs_counted (Step (Release n j)) l is = subst (λ o. 1 ≤ cond (is_job_item o) 1 0) (sym is) (omega arith)
 jobs_counted (Step (Run at n)) l is = omega arith
 jobs_counted (Step (Preempt at stops starts)) l is = omega arith

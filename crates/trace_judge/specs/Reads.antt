@@ -212,7 +212,7 @@ releases_in _ = 0
 
 -- one for the line of a release
 abbrev pub jobs_in : TraceLine → ℕ
-jobs_in (format.Header v p q) = 0
+jobs_in (format.Header v p q factor) = 0
 jobs_in (format.Step e) = releases_in e
 jobs_in (format.Refused at r c d v cause) = 0
 jobs_in (format.RefusedDone at tick number) = 0

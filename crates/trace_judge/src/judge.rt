@@ -277,14 +277,6 @@ impl Judge {
     /// # Errors
     ///
     /// `Memory` where there is none for a job that the piece names, or `feed` answered it before.
-    ///
-    /// # Examples
-    ///
-    /// ```
-    /// let mut judge = Judge::new(alloc, false)?;
-    /// judge.feed(b"dover 1 1 1\njob 0 0 2 2 2\nru", steps)?;
-    /// judge.feed(b"n 0 0\ncomplete 2 0\nend 2\n", steps)?;
-    /// ```
     pub fn feed<L: Ledger>(&mut self, piece: &[u8], steps: &mut Steps<L>) -> Result<(), Memory>
         ensures fed { OnOk result (Fed self.old self.new piece.now) }
         ensures room { OnErr result (IsOverfed self.old piece.now) }
@@ -348,18 +340,6 @@ impl Judge {
     /// # Errors
     ///
     /// `Memory` where `feed` answered it.
-    ///
-    /// # Examples
-    ///
-    /// Behind the text of the example of `feed`:
-    ///
-    /// ```
-    /// match judge.close()?.verdict {
-    ///     Verdict::Accepted { value, bound, .. } => {} // 2 and 8
-    ///     Verdict::Wrong { line, expected } => {} // from 1 on
-    ///     Verdict::Short { lines } => {}
-    /// }
-    /// ```
     pub fn close(self) -> Result<Closed, Memory>
         ensures tells { IfOk result (λ closed. (text : List ℕ) → StandsFor self text → Tells closed.verdict text) }
         ensures steps { IfOk result (λ closed. (text : List ℕ) → StandsFor self text →

@@ -5,7 +5,7 @@ ghost use Rattle.dover_model.specs.Limits.{last_tick, most_items};
 ghost use Rattle.dover_model.specs.Session.{may_finish_early, refuses_lines};
 ghost use Rattle.std.specs.Prelude.{◌&&◌, nat_le, is_some};
 
-use crate::says::{floor_after, is_end, is_full_cause, is_late_cause, is_same_cause};
+use crate::says::{floor_after, is_end, is_full_cause, is_late_cause, is_same_cause, may_declare};
 use crate::stage::Stage;
 use crate::verdict::{Expected, Verdict};
 use admission::Admission;
@@ -216,19 +216,22 @@ impl Reader {
     }
 
     // The header comes first.
-    fn open_with(&mut self, version: u64, p: u64, q: u64) -> bool
+    fn open_with(&mut self, version: u64, p: u64, q: u64, factor: Option<(u64, u64)>) -> bool
         requires opening { self.old.stage ≡ Opening }
-        requires form { HasForm (Header version p q) }
-        ensures took { Took self.old self.new (trace_text (Header version p q)) result }
+        requires form { HasForm (Header version p q factor) }
+        ensures took { Took self.old self.new (trace_text (Header version p q factor)) result }
         ensures kept { IsUnchangedFor self.old self.new }
         ensures paid { (start now : ℕ) → IsPaid self.old start now → IsPaid self.new start now }
     {
         let Some(version) = Version::from_number(version) else {
             return false;
         };
-        let Some(ratio) = Ratio::from_numbers(p, q) else {
+        let Some(ratio) = Ratio::of_numbers(p, q, factor) else {
             return false;
         };
+        if !may_declare(version, ratio) {
+            return false;
+        }
         self.course.declare(version, ratio);
         self.admission = Admission::new(version, ratio);
         self.stage = Stage::Going;
@@ -527,7 +530,8 @@ impl Reader {
         }
     }
 
-    // If the cause is that as many jobs are ready as may be at once, so many are, where the run has gone on to.
+    // Whether the run bears the cause out. `Full` says that as many jobs are ready as may be at once: so many have to
+    // be ready where the run stands. Of any other cause the run says nothing.
     fn bears_out(&self, cause: Refusal) -> bool
         ensures yes { result ≡ true → cause ≡ Full → (at : ℕ) (ls : List (List ℕ)) (S : Session) (z y : State)
             → Waited self.now at ls S z y → is_full (instance_of S) at ≡ true }
@@ -636,7 +640,12 @@ impl Reader {
         ensures paid { (start now : ℕ) → IsPaid self.old start now → IsPaid self.new start now }
     {
         match read {
-            TraceLine::Header { version, p, q } => self.open_with(*version, *p, *q),
+            TraceLine::Header {
+                version,
+                p,
+                q,
+                factor,
+            } => self.open_with(*version, *p, *q, *factor),
             TraceLine::Step(_) => false,
             TraceLine::Refused { .. } => false,
             TraceLine::RefusedDone { .. } => false,

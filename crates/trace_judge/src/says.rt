@@ -1,14 +1,25 @@
-//! What a line of a trace says: the cause of a refusal, or a step.
+//! What a line of a trace says: what it declares, the cause of a refusal, or a step.
 ghost use Rattle.std.specs.Prelude.{◌≡◌, ◌≤◌, ◌+◌, ◌↔◌, IsTrue, Some, ◌==◌, if◌then◌else◌};
 ghost use Rattle.std.specs.Bool.{then_some};
 ghost use Rattle.dover_model.specs.Limits.{last_tick};
 ghost use Rattle.dover_model.specs.Step.{Prints};
 ghost use Rattle.dover_model.specs.Run.{is_end};
 ghost use Rattle.dover_model.specs.Settled.{waits_for_mark};
-ghost use Rattle.dover_model.specs.Session.{late_refusal};
+ghost use Rattle.dover_model.specs.Feed.{rules_with};
+ghost use Rattle.dover_model.specs.Session.{is_declarable, late_refusal};
 ghost use Rattle.dover_model.specs.declared.events.Refusal.TheVariants.{Full};
 
-use dover_model::{Event, Refusal, Version};
+use dover_model::{Event, Ratio, Refusal, Version};
+
+/// Both may be declared together: the ratio has no factor, or the version takes one.
+pub(crate) fn may_declare(version: Version, ratio: Ratio) -> bool
+    ensures { result ≡ is_declarable (rules_with ratio version) }
+{
+    match (ratio.factor(), version) {
+        (None, _) | (Some(_), Version::Three) => true,
+        (Some(_), Version::One | Version::Two) => false,
+    }
+}
 
 /// It is the cause for which a late job line is refused alone.
 pub(crate) fn is_late_cause(version: Version, cause: Refusal) -> bool

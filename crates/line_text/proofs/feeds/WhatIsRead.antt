@@ -44,12 +44,14 @@ not_two (a ∷ b ∷ []) other = absurd (other refl)
 not_two (a ∷ b ∷ c ∷ ns) other = refl
 
 -- of a ratio
-not_two_or_three : (ns : List ℕ) → length ns ≢ 2 → length ns ≢ 3 → model.ratio_line ns ≡ None
-not_two_or_three [] other more = refl
-not_two_or_three (a ∷ []) other more = refl
-not_two_or_three (a ∷ b ∷ []) other more = absurd (other refl)
-not_two_or_three (a ∷ b ∷ c ∷ []) other more = absurd (more refl)
-not_two_or_three (a ∷ b ∷ c ∷ d ∷ ns) other more = refl
+not_two_three_or_five : (ns : List ℕ) → length ns ≢ 2 → length ns ≢ 3 → length ns ≢ 5 → model.ratio_line ns ≡ None
+not_two_three_or_five [] other more most = refl
+not_two_three_or_five (a ∷ []) other more most = refl
+not_two_three_or_five (a ∷ b ∷ []) other more most = absurd (other refl)
+not_two_three_or_five (a ∷ b ∷ c ∷ []) other more most = absurd (more refl)
+not_two_three_or_five (a ∷ b ∷ c ∷ d ∷ []) other more most = refl
+not_two_three_or_five (a ∷ b ∷ c ∷ d ∷ e ∷ []) other more most = absurd (most refl)
+not_two_three_or_five (a ∷ b ∷ c ∷ d ∷ e ∷ f ∷ ns) other more most = refl
 
 pub no_job : (o : Option (List ℕ)) → IsNot 4 o → None ≡ option_and_then model.job_line o
 no_job = uncounted model.job_line 4 not_four
@@ -60,9 +62,10 @@ no_tick = uncounted model.tick_line 1 not_one
 pub no_done : (o : Option (List ℕ)) → IsNot 2 o → None ≡ option_and_then model.done_line o
 no_done = uncounted model.done_line 2 not_two
 
-pub no_ratio : (o : Option (List ℕ)) → IsNot 2 o → IsNot 3 o → None ≡ option_and_then model.ratio_line o
-no_ratio None other more = refl
-no_ratio (Some ns) other more = sym (not_two_or_three ns (other ns refl) (more ns refl))
+pub no_ratio : (o : Option (List ℕ)) → IsNot 2 o → IsNot 3 o → IsNot 5 o
+    → None ≡ option_and_then model.ratio_line o
+no_ratio None other more most = refl
+no_ratio (Some ns) other more most = sym (not_two_three_or_five ns (other ns refl) (more ns refl) (most ns refl))
 
 -- ---- the word
 

@@ -48,12 +48,14 @@ not_one (a ∷ []) other = absurd (other refl)
 not_one (a ∷ b ∷ ns) other = refl
 
 -- of a header
-no_three : (ns : List ℕ) → length ns ≢ 3 → header_of ns ≡ None
-no_three [] other = refl
-no_three (a ∷ []) other = refl
-no_three (a ∷ b ∷ []) other = refl
-no_three (a ∷ b ∷ c ∷ []) other = absurd (other refl)
-no_three (a ∷ b ∷ c ∷ d ∷ ns) other = refl
+no_three_or_five : (ns : List ℕ) → length ns ≢ 3 → length ns ≢ 5 → header_of ns ≡ None
+no_three_or_five [] other more = refl
+no_three_or_five (a ∷ []) other more = refl
+no_three_or_five (a ∷ b ∷ []) other more = refl
+no_three_or_five (a ∷ b ∷ c ∷ []) other more = absurd (other refl)
+no_three_or_five (a ∷ b ∷ c ∷ d ∷ []) other more = refl
+no_three_or_five (a ∷ b ∷ c ∷ d ∷ e ∷ []) other more = absurd (more refl)
+no_three_or_five (a ∷ b ∷ c ∷ d ∷ e ∷ f ∷ ns) other more = refl
 
 pub no_release : (o : Option (List ℕ)) → IsNot 5 o → None ≡ option_and_then release_of o
 no_release = uncounted release_of 5 not_five
@@ -61,8 +63,9 @@ no_release = uncounted release_of 5 not_five
 pub no_end : (o : Option (List ℕ)) → IsNot 1 o → None ≡ option_and_then end_of o
 no_end = uncounted end_of 1 not_one
 
-pub no_header : (o : Option (List ℕ)) → IsNot 3 o → None ≡ option_and_then header_of o
-no_header = uncounted header_of 3 no_three
+pub no_header : (o : Option (List ℕ)) → IsNot 3 o → IsNot 5 o → None ≡ option_and_then header_of o
+no_header None other more = refl
+no_header (Some ns) other more = sym (no_three_or_five ns (other ns refl) (more ns refl))
 
 -- a step of one job, and of two
 one_step : (step : ℕ → ℕ → Event) (o : Option (List ℕ)) → IsNot 2 o

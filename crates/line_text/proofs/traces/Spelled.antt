@@ -31,7 +31,7 @@ use Rattle.dover_model.proofs.TraceLines.{word_HasNoSpace, then_word, item_of-te
 use Rattle.line_text.specs.Reading.{number_of_first}
 use Rattle.line_text.specs.declared.traces.lines.TraceLine.{TraceLine}
 use Rattle.line_text.specs.declared.traces.lines.TraceLine.TheVariants.{Header, Step, Refused, RefusedDone}
-use Rattle.line_text.specs.traces.Form.{last_number, trace_text, NamesJobs, HasForm, item_in, rules_in}
+use Rattle.line_text.specs.traces.Form.{last_number, trace_text, NamesJobs, HasForm, item_in, rules_in, pair_of}
 use Rattle.line_text.specs.traces.Form.{refused_job, refused_done}
 use Rattle.line_text.specs.traces.Reading.{◌>>=◌, job_number, new_job, release_of, one_job, two_jobs}
 use Rattle.line_text.specs.traces.Reading.{end_of, step_of_word, header_of, line_of_word, last_word, refused_of}
@@ -253,7 +253,17 @@ header_from (a ∷ []) x read = none_is_some read
 header_from (a ∷ b ∷ []) x read = none_is_some read
 header_from (a ∷ b ∷ c ∷ []) x read =
     subst (Spells (codes "dover") (a ∷ b ∷ c ∷ [])) (some_same _ _ read) (record { text = refl; form = λ short. short })
-header_from (a ∷ b ∷ c ∷ d ∷ ns) x read = none_is_some read
+header_from (a ∷ b ∷ c ∷ d ∷ []) x read = none_is_some read
+header_from (a ∷ b ∷ c ∷ d ∷ e ∷ []) x read =
+    subst (Spells (codes "dover") (a ∷ b ∷ c ∷ d ∷ e ∷ [])) (some_same _ _ read)
+    (record { text = refl; form = λ short. short })
+header_from (a ∷ b ∷ c ∷ d ∷ e ∷ f ∷ ns) x read = none_is_some read
+
+-- the numbers of a header are read as it
+header_back : (v p q : ℕ) (factor : Option (ℕ × ℕ)) → header_of (v ∷ p ∷ q ∷ pair_of factor)
+    ≡ Some (Header v p q factor)
+header_back v p q None = refl
+header_back v p q (Some pair) = refl
 
 -- a printed step
 printed_from : (word ns : List ℕ) (x : TraceLine) (o : Option Event) → ((e : Event) → o ≡ Some e → Reads word ns e)
@@ -482,16 +492,16 @@ line_from (word ∷ fields) x read =
 
 -- the fields of a line's text
 abbrev fields_in : TraceLine → List (List ℕ)
-fields_in (Header version p q) = codes "dover" ∷ map decimal (version ∷ p ∷ q ∷ [])
+fields_in (Header version p q factor) = codes "dover" ∷ map decimal (version ∷ p ∷ q ∷ pair_of factor)
 fields_in (Step e) = word_of e ∷ map decimal (step_numbers e)
 fields_in (Refused t r c d v cause) = codes "refuse" ∷ map decimal (t ∷ r ∷ c ∷ d ∷ v ∷ []) ++ refusal_word cause ∷ []
 fields_in (RefusedDone t u n) = codes "refuse" ∷ map decimal (t ∷ u ∷ n ∷ []) ++ codes "done" ∷ []
 
 -- the text is cut into them
 text_cut : (x : TraceLine) → HasForm x → fields_of (trace_text x) ≡ fields_in x
-text_cut (Header version p q) form =
-    fields_of-line_of (codes "dover") (map decimal (version ∷ p ∷ q ∷ [])) refl
-    (decimals-HasNoSpace (version ∷ p ∷ q ∷ []) form)
+text_cut (Header version p q factor) form =
+    fields_of-line_of (codes "dover") (map decimal (version ∷ p ∷ q ∷ pair_of factor)) refl
+    (decimals-HasNoSpace (version ∷ p ∷ q ∷ pair_of factor) form)
 text_cut (Step e) form = ap fields_of (text_is e)
     ∙ fields_of-line_of (word_of e) (map decimal (step_numbers e)) (word_whole e)
     (decimals-HasNoSpace (step_numbers e) form.0)
@@ -515,7 +525,9 @@ step_line (End value) ns = refl
 
 -- the fields of what has a form are read as it
 fields_read : (x : TraceLine) → HasForm x → line_of_fields (fields_in x) ≡ Some x
-fields_read (Header version p q) form = ap (option_and_then header_of) (numerals-decimals (version ∷ p ∷ q ∷ []) form)
+fields_read (Header version p q factor) form =
+    ap (option_and_then header_of) (numerals-decimals (version ∷ p ∷ q ∷ pair_of factor) form)
+    ∙ header_back version p q factor
 fields_read (Step e) form = step_line e (step_numbers e)
     ∙ ap (option_and_then (λ ms. option_map Step (step_of_word (word_of e) ms)))
     (numerals-decimals (step_numbers e) form.0)
@@ -538,7 +550,8 @@ item_of_fields fields = option_or (option_and_then verdict.job_from (numbers_aft
 
 -- the text of a line names its item
 text_item : (x : TraceLine) → HasForm x → verdict.item_of (trace_text x) ≡ item_in x
-text_item (Header version p q) form = ap item_of_fields (text_cut (Header version p q) form)
+text_item (Header version p q None) form = ap item_of_fields (text_cut (Header version p q None) form)
+text_item (Header version p q (Some pair)) form = ap item_of_fields (text_cut (Header version p q (Some pair)) form)
 text_item (Step (Release n j)) form = item_of-text_of_line (Printed (Release n j)) form.0
 text_item (Step (Run at n)) form = item_of-text_of_line (Printed (Run at n)) form.0
 text_item (Step (Preempt at stops starts)) form = item_of-text_of_line (Printed (Preempt at stops starts)) form.0
@@ -555,8 +568,8 @@ rules_of_fields fields = option_and_then verdict.rules_from (numbers_after (code
 
 -- the text of a header declares its rules, and no other text does
 text_rules : (x : TraceLine) → HasForm x → verdict.rules_of (trace_text x) ≡ rules_in x
-text_rules (Header version p q) form = ap rules_of_fields (text_cut (Header version p q) form)
-    ∙ ap (option_and_then verdict.rules_from) (numerals-decimals (version ∷ p ∷ q ∷ []) form)
+text_rules (Header version p q factor) form = ap rules_of_fields (text_cut (Header version p q factor) form)
+    ∙ ap (option_and_then verdict.rules_from) (numerals-decimals (version ∷ p ∷ q ∷ pair_of factor) form)
 text_rules (Step e) form = ap rules_of_fields (text_cut (Step e) form) ∙ no_rules e (map decimal (step_numbers e)) where
   no_rules : (e : Event) (fields : List (List ℕ)) → rules_of_fields (word_of e ∷ fields) ≡ None
   no_rules (Release n j) fields = refl

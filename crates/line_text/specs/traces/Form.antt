@@ -28,9 +28,14 @@ refused_job at release work deadline value cause =
 abbrev pub refused_done : (at tick number : ℕ) → session.Refused
 refused_done at tick number = record { at = at; line = session.RefusedDone tick number }
 
+-- both numbers of a pair, if there is one
+abbrev pub pair_of : Option (ℕ × ℕ) → List ℕ
+pair_of None = []
+pair_of (Some pair) = pair.0 ∷ pair.1 ∷ []
+
 -- the bytes of a line
 abbrev pub trace_text : TraceLine → List ℕ
-trace_text (Header version p q) = with_numbers (codes "dover") (version ∷ p ∷ q ∷ [])
+trace_text (Header version p q factor) = with_numbers (codes "dover") (version ∷ p ∷ q ∷ pair_of factor)
 trace_text (Step e) = text_of e
 trace_text (Refused at r c d v cause) = refused_text (refused_job at r c d v cause)
 trace_text (RefusedDone at tick number) = refused_text (refused_done at tick number)
@@ -47,21 +52,21 @@ NamesJobs (End value) = Unit {0}
 
 -- the numbers have numerals, and a step names jobs
 abbrev pub HasForm : TraceLine → Type 0
-HasForm (Header version p q) = AreShort (version ∷ p ∷ q ∷ [])
+HasForm (Header version p q factor) = AreShort (version ∷ p ∷ q ∷ pair_of factor)
 HasForm (Step e) = AreShort (step_numbers e) × NamesJobs e
 HasForm (Refused at r c d v cause) = AreShort (at ∷ r ∷ c ∷ d ∷ v ∷ [])
 HasForm (RefusedDone at tick number) = AreShort (at ∷ tick ∷ number ∷ [])
 
 -- it is a refused line, and its numbers have numerals
 abbrev pub IsRefusedLine : TraceLine → Type 0
-IsRefusedLine (Header version p q) = ⊥
+IsRefusedLine (Header version p q factor) = ⊥
 IsRefusedLine (Step e) = ⊥
 IsRefusedLine (Refused at r c d v cause) = AreShort (at ∷ r ∷ c ∷ d ∷ v ∷ [])
 IsRefusedLine (RefusedDone at tick number) = AreShort (at ∷ tick ∷ number ∷ [])
 
 -- the item that the line names
 abbrev pub item_in : TraceLine → Option Item
-item_in (Header version p q) = None
+item_in (Header version p q factor) = None
 item_in (Step (Release n j)) = Some (JobItem j)
 item_in (Step _) = None
 item_in (Refused at r c d v cause) = Some (RefusedItem (refused_job at r c d v cause))
@@ -69,7 +74,7 @@ item_in (RefusedDone at tick number) = Some (refused_done_at at tick number)
 
 -- the rules that the line declares
 abbrev pub rules_in : TraceLine → Option Declaration
-rules_in (Header version p q) = rules_from (version ∷ p ∷ q ∷ [])
+rules_in (Header version p q factor) = rules_from (version ∷ p ∷ q ∷ pair_of factor)
 rules_in (Step e) = None
 rules_in (Refused at r c d v cause) = None
 rules_in (RefusedDone at tick number) = None

@@ -78,9 +78,10 @@ step_of_word word ns =
     (if bytes_eq word (codes "take") then take_of ns else
     (if bytes_eq word (codes "end") then end_of ns else None))))))
 
--- a header, of three numbers
+-- a header, of three numbers, or of five
 abbrev pub header_of : List ℕ → Option TraceLine
-header_of (version ∷ p ∷ q ∷ []) = Some (Header version p q)
+header_of (version ∷ p ∷ q ∷ []) = Some (Header version p q None)
+header_of (version ∷ p ∷ q ∷ b ∷ c ∷ []) = Some (Header version p q (Some (b, c)))
 header_of _ = None
 
 -- the line of a word and numbers

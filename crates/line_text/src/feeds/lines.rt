@@ -9,6 +9,14 @@ pub enum FeedLine {
         q: u64,
         version: Option<u64>,
     },
+    /// `k P Q N B C`: the ratio, the version, and the factor. It is a line of version Three alone.
+    Factored {
+        p: u64,
+        q: u64,
+        version: u64,
+        b: u64,
+        c: u64,
+    },
     /// `job R C D V`: release, work and deadline in ticks, and the value.
     Job {
         release: u64,

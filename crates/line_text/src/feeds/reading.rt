@@ -11,12 +11,26 @@ use crate::{BadLine, LINE_BYTES, behind_word, numbers_in};
 fn ratio_line(numbers: &[u64]) -> Option<FeedLine>
     ensures { option_map form_of result ≡ model.ratio_line numbers.now }
 {
-    let (p, q, version) = match numbers {
-        [p, q] => (*p, *q, None),
-        [p, q, version] => (*p, *q, Some(*version)),
-        _ => return None,
-    };
-    Some(FeedLine::Declared { p, q, version })
+    match numbers {
+        [p, q] => Some(FeedLine::Declared {
+            p: *p,
+            q: *q,
+            version: None,
+        }),
+        [p, q, version] => Some(FeedLine::Declared {
+            p: *p,
+            q: *q,
+            version: Some(*version),
+        }),
+        [p, q, version, b, c] => Some(FeedLine::Factored {
+            p: *p,
+            q: *q,
+            version: *version,
+            b: *b,
+            c: *c,
+        }),
+        _ => None,
+    }
 }
 
 fn job_line(numbers: &[u64]) -> Option<FeedLine>
@@ -54,7 +68,7 @@ fn done_line(numbers: &[u64]) -> Option<FeedLine>
     }
 }
 
-/// The ratio that fields spell behind its word, with a version or without.
+/// The ratio that fields spell behind its word, with a version or without, or with a version and a factor.
 #[inline(never)]
 #[tactic(auto, using(crate::proofs::feeds::WhatIsRead::no_ratio))]
 fn ratio_of(fields: &[u8]) -> Option<FeedLine>
@@ -63,7 +77,10 @@ fn ratio_of(fields: &[u8]) -> Option<FeedLine>
     if let Some(numbers) = numbers_in::<2>(fields) {
         return ratio_line(&numbers);
     }
-    let numbers = numbers_in::<3>(fields)?;
+    if let Some(numbers) = numbers_in::<3>(fields) {
+        return ratio_line(&numbers);
+    }
+    let numbers = numbers_in::<5>(fields)?;
     ratio_line(&numbers)
 }
 

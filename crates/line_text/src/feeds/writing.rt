@@ -23,6 +23,13 @@ fn write(line: &FeedLine, to: &mut LineBuf)
             q,
             version: Some(version),
         } => to.put_with_numbers(b"k", &[*p, *q, *version]),
+        FeedLine::Factored {
+            p,
+            q,
+            version,
+            b,
+            c,
+        } => to.put_with_numbers(b"k", &[*p, *q, *version, *b, *c]),
         FeedLine::Job {
             release,
             work,

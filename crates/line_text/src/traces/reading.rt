@@ -16,7 +16,7 @@ use crate::traces::steps::{
 use crate::{BadLine, behind_word, cut_field, first_number, numbers_in};
 use dover_model::{Event, Refusal};
 
-/// A header, of three numbers.
+/// A header, of three numbers, or of five.
 fn header_with(numbers: &[u64]) -> Option<TraceLine>
     ensures { result ≡ model.header_of numbers.now }
 {
@@ -25,6 +25,13 @@ fn header_with(numbers: &[u64]) -> Option<TraceLine>
             version: *version,
             p: *p,
             q: *q,
+            factor: None,
+        }),
+        [version, p, q, b, c] => Some(TraceLine::Header {
+            version: *version,
+            p: *p,
+            q: *q,
+            factor: Some((*b, *c)),
         }),
         _ => None,
     }
@@ -35,7 +42,10 @@ fn header_with(numbers: &[u64]) -> Option<TraceLine>
 fn header_of(fields: &[u8]) -> Option<TraceLine>
     ensures { result ≡ option_and_then model.header_of (numerals (fields_of fields.now)) }
 {
-    let numbers = numbers_in::<3>(fields)?;
+    if let Some(numbers) = numbers_in::<3>(fields) {
+        return header_with(&numbers);
+    }
+    let numbers = numbers_in::<5>(fields)?;
     header_with(&numbers)
 }
 

@@ -1,10 +1,11 @@
-use Rattle.std.proofs.Common.{sym, arith}
-use Rattle.line_text.specs.Reading.{fields_left}
-use Rattle.snapshot.proofs.Formed.{none_head}
+use Rattle.std.proofs.Common.{sym, ◌∙◌, arith}
+use Rattle.snapshot.proofs.Formed.{head_behind, no_head_in}
 use Rattle.snapshot.proofs.forms.read_head.Goals as goal
 
-pub returns-in_default : goal.returns-in_default
-returns-in_default c = sym
-    (none_head c.args.line.now c.cut_field.result.0.now (fields_left c.cut_field.result.1)
-    (omega (arith, c.if-line-ge-LINE_BYTES.false))
-    c.cut_field.ensures.fields c.in_default.ensures.none)
+pub returns-in-Some : goal.returns-in-Some
+returns-in-Some c = c.head_left.ensures ∙ sym (head_behind c.args.line.now c.in-Some.fields.now
+    (omega (arith, c.if-line-ge-LINE_BYTES.false)) c.in-Some.ensures.some)
+
+pub returns-in-None : goal.returns-in-None
+returns-in-None c = sym (no_head_in c.args.line.now (omega (arith, c.if-line-ge-LINE_BYTES.false))
+    c.in-None.ensures.none)

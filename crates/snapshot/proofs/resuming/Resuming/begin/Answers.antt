@@ -3,8 +3,13 @@ use Rattle.std.specs.Option.{option_map}
 use Rattle.snapshot.specs.Forms.{head_in}
 use Rattle.snapshot.specs.Stored.{HasRead}
 use Rattle.snapshot.proofs.Starting.{first_served}
+use Rattle.snapshot.proofs.Spelled.{head_line-read_head}
 use Rattle.snapshot.proofs.Storing.{head_stands}
 use Rattle.snapshot.proofs.resuming.Resuming.begin.Goals as goal
+
+pub begin-requires : goal.begin-requires
+begin-requires c = (head_line-read_head c.args.line.now (head_in c.in-Some.head)
+    (sym c.read_head.ensures ∙ ap (option_map head_in) c.in-Some.is)).1.declared
 
 pub returns : goal.returns
 returns c =

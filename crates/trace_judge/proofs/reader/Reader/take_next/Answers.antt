@@ -9,7 +9,7 @@ pub returns-in-Header-clause-took : goal.returns-in-Header-clause-took
 returns-in-Header-clause-took g c =
     subst (λ read. Took c.args.self.now c.args.self.now (trace_text read) false) (sym c.in-Header.is)
     (header_took_none c.args.self.now c.requires.going c.in-Header.version c.in-Header.p c.in-Header.q
-    (subst HasForm c.in-Header.is c.requires.form))
+    c.in-Header.factor (subst HasForm c.in-Header.is c.requires.form))
 
 pub returns-in-Header-clause-spare : goal.returns-in-Header-clause-spare
 returns-in-Header-clause-spare g c = omega arith
