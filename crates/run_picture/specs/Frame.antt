@@ -1,6 +1,6 @@
 -- What stands around a picture: the page, its title, the axis of ticks, the bands of intervals that lost value.
 use Rattle.std.specs.Prelude.{ℕ, zero, suc, ◌+◌, ◌-◌, ◌*◌, ◌/◌, List, [], ◌∷◌, ◌++◌, Bool, not, ◌&&◌, ◌||◌, ◌==◌}
-use Rattle.std.specs.Prelude.{nat_le, nat_lt, if◌then◌else◌, codes}
+use Rattle.std.specs.Prelude.{nat_le, nat_lt, if◌then◌else◌, codes, decimal}
 use Rattle.std.specs.List.{flat_map}
 use Rattle.run_reports.specs.declared.report.counts.Counts.{Counts}
 use Rattle.run_record.specs.declared.intervals.interval.Interval.{Interval}
@@ -25,8 +25,8 @@ ground high = filled (codes "<rect width='1400' height='@' fill='#fff'/>\n") (hi
 -- the numbers of the summary
 abbrev pub title_front : Counts → Text
 title_front c = filled (codes
-    "<text class='b' x='90' y='22'>jobs @, completed @ worth @, abandoned @ worth @, taken @, bound @")
-    (c.jobs ∷ c.completed ∷ c.value ∷ c.abandoned ∷ c.lost ∷ c.taken ∷ c.bound ∷ [])
+    "<text class='b' x='90' y='22'>jobs @, completed @ worth @, abandoned @ worth @, taken @, bound ")
+    (c.jobs ∷ c.completed ∷ c.value ∷ c.abandoned ∷ c.lost ∷ c.taken ∷ []) ++ decimal c.bound
 
 -- how many lines were refused, where some were
 abbrev pub title_end : (refused : ℕ) → Text

@@ -9,13 +9,32 @@ use crate::sizes::{digits_of, room};
 use dover_model::Memory;
 use run_record::intervals::Interval;
 use run_reports::report::Counts;
-use run_reports::views::template::put;
+use run_reports::views::template::{put, put_wide};
 
 /// The numbers of a title: those of the summary, and how many lines were refused.
 #[derive(Clone, Copy)]
 pub struct Totals {
     pub counts: Counts,
     pub refused: u64,
+}
+
+/// Appends the numbers of the summary.
+fn put_title_front(text: &mut Vec<u8>, counts: &Counts) -> Result<(), Memory>
+    ensures { OnOk result (text.new.items ≡ text.old.items ++ frame.title_front counts.now) }
+{
+    put(
+        text,
+        b"<text class='b' x='90' y='22'>jobs @, completed @ worth @, abandoned @ worth @, taken @, bound ",
+        &[
+            counts.jobs,
+            counts.completed,
+            counts.value,
+            counts.abandoned,
+            counts.lost,
+            counts.taken,
+        ],
+    )?;
+    put_wide(text, counts.bound)
 }
 
 /// Appends how many lines were refused, where some were, and the end of the title.
@@ -40,19 +59,10 @@ pub fn put_page(text: &mut Vec<u8>, high: u64, totals: &Totals) -> Result<(), Me
     put_styles(text)?;
     put(
         text,
-        b"<rect width='1400' height='@' fill='#fff'/>\n\
-        <text class='b' x='90' y='22'>jobs @, completed @ worth @, abandoned @ worth @, taken @, bound @",
-        &[
-            high,
-            totals.counts.jobs,
-            totals.counts.completed,
-            totals.counts.value,
-            totals.counts.abandoned,
-            totals.counts.lost,
-            totals.counts.taken,
-            totals.counts.bound,
-        ],
+        b"<rect width='1400' height='@' fill='#fff'/>\n",
+        &[high],
     )?;
+    put_title_front(text, &totals.counts)?;
     put_title_end(text, totals.refused)?;
     put_legend(text)
 }

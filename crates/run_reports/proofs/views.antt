@@ -2,7 +2,7 @@ pub mod Filling
 pub mod Joining
 pub mod Stepping
 pub mod Viewed
-pub mod Heavies
+pub mod Numerators
 pub mod Telling
 pub mod WorkedRows
 pub mod Threading

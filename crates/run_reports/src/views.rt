@@ -10,6 +10,5 @@ mod window;
 
 pub use story::{Asked, why};
 pub use terminal::timeline;
-pub use threshold::least_heavy;
 pub use viewer::chrome;
 pub use window::Window;

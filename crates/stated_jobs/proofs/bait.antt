@@ -15,5 +15,6 @@ pub mod RunWeights
 pub mod RunLinks
 pub mod RunFeeds
 pub mod Baited
+pub mod Twins
 pub mod Completions
 pub mod RunRows

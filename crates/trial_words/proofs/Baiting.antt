@@ -1,28 +1,34 @@
 -- The text of a baiting feed.
-use Rattle.std.proofs.Common.{◌≡◌, ◌≤◌, ◌++◌, ◌∷◌, [], ℕ, List, refl, ap, ◌∙◌, codes, length}
+use Rattle.std.proofs.Common.{◌≡◌, ◌≤◌, ◌<◌, ◌++◌, ◌∷◌, [], ℕ, List, ap, ◌∙◌, codes, decimal, length, arith}
+use Rattle.std.specs.List.{sum}
 use Rattle.dover_model.specs.Fraction.{Fraction, IsRatio}
-use Rattle.dover_model.specs.declared.events.Version.TheVariants.{One, Two}
-use Rattle.dover_model.specs.Bait.{bait_jobs, bait_plan}
+use Rattle.dover_model.specs.declared.events.Version.TheVariants.{Two}
+use Rattle.dover_model.specs.Bait.{chain, last_link, bait_jobs, bait_plan}
 use Rattle.dover_model.specs.Bound.{bound}
-use Rattle.dover_model.specs.Limits.{most_total}
+use Rattle.dover_model.specs.Limits.{most_jobs, most_total}
 use Rattle.dover_model.specs.Lines.{with_numbers, in_lines}
-use Rattle.dover_model.specs.Run.{printed, completed_value}
+use Rattle.dover_model.specs.Run.{completed_value}
 use Rattle.dover_model.specs.Schedules.{worth}
 use Rattle.dover_model.specs.Instance.{IsValid}
-use Rattle.dover_model.proofs.Limiting.{listable}
-use Rattle.run_reports.proofs.report.Counting.{value_small}
 use Rattle.stated_jobs.specs.bait.Baiting.{FitsLimits}
-use Rattle.stated_jobs.proofs.bait.Validity.{some_bait, valid}
+use Rattle.stated_jobs.specs.bait.BaitingRuns.{version_for}
+use Rattle.stated_jobs.proofs.bait.Completions.{completes_last_alone}
+use Rattle.stated_jobs.proofs.bait.Feeds.{small}
+use Rattle.stated_jobs.proofs.bait.Validity.{last_link_within, some_bait, valid}
 use Rattle.trial_words.specs.Baited.{bait_instance, bait_text}
-use Rattle.trial_words.proofs.Summing.{own_run, fed_lines}
+use Rattle.trial_words.proofs.Summing.{fed_lines}
 
--- the value that the run of a feed within the limits completes is that of a valid list
+-- the value that the run of a feed within the limits completes is that of a link, which is small
 pub value_within : (k : Fraction) (rounds : ℕ) → IsRatio k → 1 ≤ rounds → FitsLimits k rounds
     → completed_value (bait_instance k rounds) ≤ most_total Two
 value_within k rounds ratio some fits =
-    let J = bait_instance k rounds in
-    let it : IsValid J = valid k rounds ratio fits (some_bait k rounds ratio some fits) One in
-    value_small k (printed J) J (own_run J k it (listable J it refl) refl)
+    let it : IsValid (bait_instance k rounds) =
+    valid k rounds ratio fits (some_bait k rounds ratio some fits) (version_for k) in
+    join (completed_value (bait_instance k rounds)) (last_link k rounds) (sum (chain k rounds))
+    (completes_last_alone k (version_for k) rounds some it).worth (last_link_within k rounds some).1
+    (small k rounds fits) where
+      join : (value last all : ℕ) → value ≡ last → last ≤ all → all < most_jobs Two → value ≤ most_total Two
+      join value last all is low few = omega (arith, is, low, few)
 
 -- the text of four numbers
 abbrev text : (jobs value schedule most : ℕ) → List ℕ
@@ -33,6 +39,11 @@ text jobs value schedule most = in_lines (
     ∷ with_numbers (codes "bound") (most ∷ [])
     ∷ []
     )
+
+-- the bound's line is written in two
+pub bound_line : (most : ℕ) (a b c : List ℕ) → b ≡ decimal most ++ a → c ≡ codes "\nbound " ++ b
+    → c ≡ 10 ∷ (with_numbers (codes "bound") (most ∷ []) ++ a)
+bound_line most a b c number word = word ∙ ap (λ l. codes "\nbound " ++ l) number
 
 -- its lines are written from the last to the first, each but the first behind a line feed
 pub written : (jobs value schedule most : ℕ) (a b c d e : List ℕ) → a ≡ 10 ∷ []

@@ -3,14 +3,17 @@ use Rattle.std.proofs.Common.{◌≡◌, ℕ, List, [], ◌∷◌, ◌++◌, map
 use Rattle.std.proofs.Common.{append_assoc}
 use Rattle.std.proofs.lemmas.List.{append-nil, map-append}
 use Rattle.std.specs.List.{flat_map}
-use Rattle.dover_model.specs.FeedLine.{FeedLine, RatioLine, JobLine, DoneLine, EndLine, feed_text}
+use Rattle.dover_model.specs.FeedLine.{FeedLine, JobLine, DoneLine, EndLine, feed_text}
+use Rattle.dover_model.specs.declared.events.Version.TheVariants.{Three}
+use Rattle.dover_model.specs.Feed.{rules_with}
 use Rattle.dover_model.specs.Fraction.{Fraction}
 use Rattle.dover_model.specs.Lines.{in_lines}
 use Rattle.dover_port.specs.Moves.{Move, Passes, CutsShort, PutsThrough}
 use Rattle.dover_port.proofs.Through.{passes_then, passes_then_cut, cut_longer}
 use Rattle.stated_jobs.specs.declared.trial.turns.Done.{Done}
 use Rattle.stated_jobs.specs.declared.trial.turns.Turn.{Turn}
-use Rattle.trial_words.specs.Drawing.{turn_lines, text_of_lines}
+use Rattle.trial_words.specs.Drawing.{turn_lines, text_of_lines, feed_of_turns}
+use Rattle.task_words.specs.unroll.Feeds.{rules_text}
 use Rattle.task_words.proofs.unroll.Putting.{in_lines-append}
 
 -- lines behind lines
@@ -71,16 +74,15 @@ done_parts turn done is =
 
 -- the parts of a feed
 feed_parts : (k : Fraction) (turns : List Turn)
-    → text_of_lines (RatioLine k.p k.q (Some 3) ∷ (flat_map turn_lines turns ++ EndLine ∷ []))
-    ≡ (feed_text (RatioLine k.p k.q (Some 3)) ++ 10 ∷ []) ++ (texts turns ++ ((feed_text EndLine ++ 10 ∷ []) ++ []))
-feed_parts k turns = ap (λ t. (feed_text (RatioLine k.p k.q (Some 3)) ++ 10 ∷ []) ++ t)
+    → feed_of_turns k turns
+    ≡ (rules_text (rules_with k Three) ++ 10 ∷ []) ++ (texts turns ++ ((feed_text EndLine ++ 10 ∷ []) ++ []))
+feed_parts k turns = ap (λ t. (rules_text (rules_with k Three) ++ 10 ∷ []) ++ t)
     (text_behind (flat_map turn_lines turns) (EndLine ∷ []))
 
 -- its parts are put, and what was kept back of them
 pub feed_put : {T E : Type 0} (a b : Option (List Move)) (result : Result T E) (p q : List ℕ) (k : Fraction)
     (turns : List Turn)
-    → PutsThrough a b result p q ((feed_text (RatioLine k.p k.q (Some 3)) ++ 10 ∷ [])
+    → PutsThrough a b result p q ((rules_text (rules_with k Three) ++ 10 ∷ [])
     ++ (texts turns ++ ((feed_text EndLine ++ 10 ∷ []) ++ [])))
-    → PutsThrough a b result p q
-    (text_of_lines (RatioLine k.p k.q (Some 3) ∷ (flat_map turn_lines turns ++ EndLine ∷ [])))
+    → PutsThrough a b result p q (feed_of_turns k turns)
 feed_put a b result p q k turns it = subst (PutsThrough a b result p q) (sym (feed_parts k turns)) it

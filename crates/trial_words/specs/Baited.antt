@@ -1,6 +1,5 @@
 -- What the word `bait` writes.
 use Rattle.std.specs.Prelude.{ℕ, List, [], ◌∷◌, length, codes, ◌⊎◌}
-use Rattle.dover_model.specs.declared.events.Version.TheVariants.{One}
 use Rattle.dover_model.specs.Fraction.{Fraction}
 use Rattle.dover_model.specs.Instance.{Instance}
 use Rattle.dover_model.specs.Run.{completed_value}
@@ -12,12 +11,12 @@ use Rattle.dover_port.specs.Moves.{Move}
 use Rattle.dover_port.specs.declared.status.Status.{Status}
 use Rattle.dialogue.specs.Sizes.{size_text}
 use Rattle.stated_jobs.specs.bait.Baiting.{FitsLimits}
-use Rattle.stated_jobs.specs.bait.BaitingRuns.{baiting}
-use Rattle.trial_words.specs.Record.{Writes, Refuses}
+use Rattle.stated_jobs.specs.bait.BaitingRuns.{baiting_feed}
+use Rattle.trial_words.specs.Record.{Puts, Refuses}
 
 -- the baiting feed of so many rounds
 abbrev pub bait_instance : Fraction → (rounds : ℕ) → Instance
-bait_instance k rounds = baiting k One rounds
+bait_instance k rounds = baiting_feed k rounds
 
 -- what is written of a feed that is within the limits: how many jobs it has, what its run completes, what the schedule
 -- of its unit jobs and its bait is worth, and the bound
@@ -32,5 +31,5 @@ bait_text k rounds = let value = completed_value (bait_instance k rounds) in in_
 
 -- Of baiting jobs that fit the limits, what their run comes to was put, and of others that they don't.
 abbrev pub Baits : Fraction → (rounds : ℕ) → Status → List Move → Type 0
-Baits k rounds status moves = (FitsLimits k rounds × Writes status (bait_text k rounds) moves)
+Baits k rounds status moves = (FitsLimits k rounds × Puts status (bait_text k rounds) moves)
     ⊎ ((FitsLimits k rounds → ⊥) × Refuses status size_text moves)

@@ -12,7 +12,7 @@ use Rattle.stated_jobs.specs.declared.duel.asking.NoDuel.{NoDuel}
 use Rattle.stated_jobs.specs.declared.duel.asking.NoDuel.TheVariants as no
 use Rattle.stated_jobs.specs.duel.Answers.{jobs_for, front_of, IsDuel, IsNoDuel}
 use Rattle.task_words.specs.unroll.Feeds.{feed_of}
-use Rattle.trial_words.specs.Record.{Writes, Refuses}
+use Rattle.trial_words.specs.Record.{Puts, Refuses}
 
 -- the jobs of a front of the duel for a share, or all of them
 abbrev pub duel_front : Fraction → Share → Option ℕ → Instance
@@ -27,5 +27,5 @@ no_duel_text no.Front = in_lines (codes "refused front" ∷ [])
 -- Of a duel the feed of its front was put, and where there is none, why.
 abbrev pub Duels : Fraction → Share → Option ℕ → Status → List Move → Type 0
 Duels k share front status moves =
-    (IsDuel k share front × Writes status (feed_of (duel_front k share front)) moves)
+    (IsDuel k share front × Puts status (feed_of (duel_front k share front)) moves)
     ⊎ ((cause : NoDuel) × IsNoDuel k share front cause × Refuses status (no_duel_text cause) moves)

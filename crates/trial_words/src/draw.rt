@@ -1,13 +1,12 @@
 //! The word `draw`.
-ghost use Rattle.std.specs.Prelude.{◌<◌, ◌≤◌, ◌^◌, ◌++◌, ◌∷◌, [], Some};
+ghost use Rattle.std.specs.Prelude.{◌<◌, ◌≤◌, ◌^◌, []};
 ghost use Rattle.std.specs.List.{flat_map};
 ghost use Rattle.dialogue.specs.Talk.{CanEnd};
-ghost use Rattle.dover_model.specs.FeedLine.{RatioLine, EndLine};
 ghost use Rattle.dover_model.specs.declared.events.Version.TheVariants.{Two};
 ghost use Rattle.dover_model.specs.Limits.{most_jobs};
 ghost use Rattle.dover_port.specs.Causes.{Causes, HasCause, StopsAtFailure, StopsWith};
 ghost use Rattle.dover_port.specs.Moves.{PutsThrough, Since};
-ghost use Rattle.trial_words.specs.Drawing.{Draws, turn_lines, text_of_lines};
+ghost use Rattle.trial_words.specs.Drawing.{Draws, feed_of_turns, turn_lines, text_of_lines};
 
 use dialogue::put_numbers;
 use dover_model::{Ratio, Version};
@@ -58,7 +57,7 @@ fn put_feed<P: Port>(
     turns: &mut TurnGen,
 ) -> Result<(), Failed>
     ensures text { PutsThrough (P.moves port.old) (P.moves port.new) result out.old []
-        (text_of_lines (RatioLine k.p k.q (Some 3) ∷ (flat_map turn_lines turns.old ++ EndLine ∷ []))) }
+        (feed_of_turns k turns.old) }
     ensures cause { HasCause (P.write_faults port.old) (P.write_faults port.new) (P.read_faults port.old)
         (P.read_faults port.new) result }
     ensures stops { StopsAtFailure (P.calls port.old) (P.calls port.new) result }

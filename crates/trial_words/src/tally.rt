@@ -19,7 +19,7 @@ pub(crate) struct Tally {
 }
 
 impl Tally {
-    ghost use Rattle.std.specs.Prelude.{ℕ, ◌-◌, [], IfOk};
+    ghost use Rattle.std.specs.Prelude.{ℕ, ◌-◌, [], IfOk, None};
     ghost use Rattle.dover_model.specs.Fraction.{Fraction};
     ghost use Rattle.dover_model.specs.Instance.{Instance};
     ghost use Rattle.dover_model.specs.Reports.{summary};
@@ -48,7 +48,8 @@ impl Tally {
 
     /// The summary of the run that was counted, which has so many jobs. Want of memory is the only error.
     pub(crate) fn summary(&self, alloc: Global, jobs: u32, k: Ratio) -> Result<Vec<u8>, Memory>
-        requires { (J : Instance) × CountsRun J k jobs self.now }
+        requires run { (J : Instance) × CountsRun J k jobs self.now }
+        requires plain { k.factor ≡ None }
         ensures { (J : Instance) → CountsRun J k jobs self.now → IfOk result (λ text. text.items ≡ summary J) }
     {
         let numbers = [

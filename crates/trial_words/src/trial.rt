@@ -1,5 +1,5 @@
 //! The word `trial`.
-ghost use Rattle.std.specs.Prelude.{◌≡◌, ◌<◌, ◌≤◌, ◌^◌};
+ghost use Rattle.std.specs.Prelude.{◌≡◌, ◌<◌, ◌≤◌, ◌^◌, None};
 ghost use Rattle.dialogue.specs.Talk.{CanEnd};
 ghost use Rattle.dover_model.specs.declared.events.Version.TheVariants.{Two};
 ghost use Rattle.dover_model.specs.Limits.{most_jobs};
@@ -22,7 +22,8 @@ use step_count::Steps;
 
 /// Serves the stated jobs of a seed, and writes the summary of their run: the jobs, those that were completed and
 /// abandoned with their values, the takes, and the bound on the value of every schedule. Nothing is read. The seed is
-/// below 2^31, the count at most 1,000,000. Memory is taken for the jobs that are ready at once, and for the summary.
+/// below 2^31, the count at most 1,000,000, and the ratio has no factor. Memory is taken for the jobs that are ready at
+/// once, and for the summary.
 pub fn trial_word<P: Port, L: Ledger>(
     alloc: Global,
     port: &mut P,
@@ -33,13 +34,14 @@ pub fn trial_word<P: Port, L: Ledger>(
 ) -> Status
     requires seed { seed < 2 ^ 31 }
     requires count { count ≤ most_jobs Two }
+    requires plain { k.factor ≡ None }
     ensures writes { Since (P.moves port.old) (P.moves port.new)
         (Writes result (summary (trial_instance k seed count))) }
     ensures ends { CanEnd (λ status. Writes status (summary (trial_instance k seed count))) result }
     ensures causes { Causes result (P.read_faults port.old) (P.read_faults port.new) (P.write_faults port.old)
         (P.write_faults port.new) }
     ensures stops { StopsWith result (P.calls port.old) (P.calls port.new) }
-    ensures count { result ≡ Status.Done → CostsAtMost count steps.old steps.new }
+    ensures count { CostsAtMost count steps.old steps.new }
 {
     // That the numbers of a ratio are within its limits is what reading one of them tells.
     let _ = k.p();

@@ -3,6 +3,7 @@ use Rattle.std.proofs.Common.{◌≡◌, ℕ, ◌+◌, ◌-◌, ◌*◌, ◌≤�
 use Rattle.std.proofs.Common.{subst, arith}
 use Rattle.std.proofs.lemmas.List.{drop_all, drop_more}
 use Rattle.std.specs.List.{sum_by}
+use Rattle.dover_model.specs.Books as books
 use Rattle.dover_model.specs.Fraction.{Fraction}
 use Rattle.dover_model.specs.JobFacts.{JobFacts}
 use Rattle.dover_model.specs.declared.events.Event.{Event}
@@ -63,9 +64,9 @@ module _ (k : Fraction) (run : List Event) (J : Instance) (of : IsRunOf k run J)
   pub rows_ordered : Each (λ i. i.from ≤ i.until) rows
   rows_ordered = each_row (λ i. i.from ≤ i.until) (interval_ordered J of.valid)
 
-  pub rows_displaced : Each (λ i. k.p * i.displaced * i.displaced ≤ k.q * i.taken * i.taken) rows
-  rows_displaced = each_row (λ i. k.p * i.displaced * i.displaced ≤ k.q * i.taken * i.taken)
-      (subst (λ (r : Fraction). Each (λ (i : model.Interval). r.p * i.displaced * i.displaced ≤ r.q * i.taken * i.taken)
+  pub rows_displaced : Each (λ i. books.IsPaid k i.displaced i.taken) rows
+  rows_displaced = each_row (λ i. books.IsPaid k i.displaced i.taken)
+      (subst (λ (r : Fraction). Each (λ (i : model.Interval). books.IsPaid r i.displaced i.taken)
       (model.intervals J)) of.ratio
       (interval_displaced J of.valid))
 

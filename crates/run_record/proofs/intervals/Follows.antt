@@ -1,7 +1,8 @@
 -- The page of a ledger follows a state of the run.
-use Rattle.std.proofs.Common.{◌≡◌, ℕ, ◌+◌, ◌*◌, ◌≤◌, ◌<◌, List, ◌∷◌, ◌++◌, length, map, get_or, Bool, false, cond}
+use Rattle.std.proofs.Common.{◌≡◌, ℕ, ◌+◌, ◌≤◌, ◌<◌, List, ◌∷◌, ◌++◌, length, map, get_or, Bool, false, cond}
 use Rattle.std.specs.Prelude.{Option, Some, None, ◌==◌}
 use Rattle.std.specs.List.{sum_by}
+use Rattle.dover_model.specs.Books as books
 use Rattle.dover_model.specs.Fraction.{Fraction}
 use Rattle.dover_model.specs.Intervals as model
 use Rattle.dover_model.specs.declared.events.Role.TheVariants.{Coming}
@@ -48,7 +49,7 @@ value_where p tasks = sum_by (λ t. cond (p t) t.job.value 0) tasks
 pub record IsPaid (k : Fraction) (s : State) (worth : ℕ) (i : model.Interval) : Type 0 where
   pub done : i.regular + i.taken ≤ value_where is_done s.tasks
   pub gone : i.abandoned ≤ value_where is_gone s.tasks
-  pub displaced : k.p * i.displaced * i.displaced ≤ k.q * (i.regular + i.taken + worth) * (i.regular + i.taken + worth)
+  pub displaced : books.IsPaid k i.displaced (i.regular + i.taken + worth)
 
 -- if one is under way
 abbrev pub ArePaid : Fraction → State → ℕ → Option model.Interval → Type 0

@@ -1,12 +1,13 @@
 -- The page follows a preemption, a release, an abandonment, a completion, a silent tick and the end.
-use Rattle.std.proofs.Common.{◌≡◌, ℕ, zero, suc, ◌+◌, ◌-◌, ◌*◌, ◌≤◌, ◌<◌, ◌^◌, List, [], ◌∷◌, ◌++◌, length, map, refl}
+use Rattle.std.proofs.Common.{◌≡◌, ℕ, zero, suc, ◌+◌, ◌-◌, ◌≤◌, ◌<◌, ◌^◌, List, [], ◌∷◌, ◌++◌, length, map, refl}
 use Rattle.std.proofs.Common.{sym, ap, ◌∙◌, subst, Bool}
 use Rattle.std.proofs.Common.{true, false, cond, arith, append_assoc}
 use Rattle.std.specs.Prelude.{Option, Some, None, ◌==◌}
 use Rattle.std.specs.List.{sum_by, filter}
 use Rattle.std.proofs.lemmas.Bool.{eq-eqb, ne_eqb}
 use Rattle.std.proofs.lemmas.List.Sums.{sum_by-cons}
-use Rattle.dover_model.specs.Fraction.{Fraction}
+use Rattle.dover_model.specs.Books as books
+use Rattle.dover_model.specs.Fraction.{Fraction, IsRatio}
 use Rattle.dover_model.specs.Intervals as model
 use Rattle.dover_model.specs.declared.events.Event.TheVariants.{Release, Preempt, Complete, Abandon, End}
 use Rattle.dover_model.specs.declared.events.Role.{Role}
@@ -123,7 +124,7 @@ module _ (i : model.Interval) (at value : ℕ) where
   same_abandoned true = refl
   same_abandoned false = refl
 
-module _ (k : Fraction) (some_q : 1 ≤ k.q) (ratio : k.q ≤ k.p) (s : State) (sound : IsSound s) (l : Page)
+module _ (k : Fraction) (some_q : IsRatio k) (ratio : k.q ≤ k.p) (s : State) (sound : IsSound s) (l : Page)
     (few : l.era + 1 < 2 ^ 32)
     (total : sum_by (λ t. t.job.value) s.tasks ≤ 10_000_000_000_000) (count : length s.tasks ≤ 1_000_000) where
   -- ---- a preemption
@@ -449,8 +450,8 @@ module _ (k : Fraction) (some_q : 1 ≤ k.q) (ratio : k.q ≤ k.p) (s : State) (
               more_completed i s.clock (model.value_of s r.number) i.took,
               (can_complete (Some i) follows).worth,
             ) in
-            subst (λ n. k.p * then.displaced * then.displaced ≤ k.q * n * n) sum
-            (subst (λ d. k.p * d * d ≤ k.q * (i.regular + i.taken + l.worth) * (i.regular + i.taken + l.worth))
+            subst (books.IsPaid k then.displaced) sum
+            (subst (λ d. books.IsPaid k d (i.regular + i.taken + l.worth))
             (sym (same_displaced i s.clock (model.value_of s r.number) i.took)) follows.paid.displaced);
       }
 

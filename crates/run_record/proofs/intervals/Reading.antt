@@ -5,7 +5,7 @@ use Rattle.std.proofs.Common.{false, cond, arith, append-nil}
 use Rattle.std.specs.Prelude.{Option, None, ◌==◌}
 use Rattle.std.specs.Bool.{MatchBool, then_some}
 use Rattle.std.specs.List.{sum_by, filter, filter_map, list_all, cons_option}
-use Rattle.dover_model.specs.Fraction.{Fraction}
+use Rattle.dover_model.specs.Fraction.{Fraction, IsRatio}
 use Rattle.dover_model.specs.Instance.{Instance, IsListable, IsValid}
 use Rattle.dover_model.specs.Intervals as model
 use Rattle.dover_model.specs.declared.events.Event.{Event}
@@ -41,7 +41,7 @@ use Rattle.dover_model.proofs.JobLimits.{ratio_limits}
 
 -- ---- one step
 
-module _ (k : Fraction) (some_q : 1 ≤ k.q) (ratio : k.q ≤ k.p) (s : State) (sound : IsSound s) (l : Page)
+module _ (k : Fraction) (some_q : IsRatio k) (ratio : k.q ≤ k.p) (s : State) (sound : IsSound s) (l : Page)
     (few : l.era + 1 < 2 ^ 32)
     (total : sum_by (λ t. t.job.value) s.tasks ≤ 10_000_000_000_000) (count : length s.tasks ≤ 1_000_000)
     (current : Option model.Interval)
@@ -136,11 +136,11 @@ module _ (J : Instance) (valid : IsValid J) (listable : IsListable J) where
       → Follows J.rules.ratio s l current
       → Next J.rules.ratio s l current (step J.rules s)
   step_next s keeps l few current follows =
-      deed_next J.rules.ratio (ratio_limits (valid_parts valid).ratio).least
+      deed_next J.rules.ratio (valid_parts valid).ratio
       (ratio_limits (valid_parts valid).ratio).above_one s keeps.sound l few total count current
       follows
       (ending s or_else Ticks)
-      (λ _. rest_next J.rules.ratio (ratio_limits (valid_parts valid).ratio).least
+      (λ _. rest_next J.rules.ratio (valid_parts valid).ratio
       (ratio_limits (valid_parts valid).ratio).above_one s keeps.sound l few total count current
       follows
       (list_all is_over s.tasks) (value_sum (filter is_done s.tasks)))

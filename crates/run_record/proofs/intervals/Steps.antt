@@ -4,7 +4,7 @@ use Rattle.std.proofs.Common.{Bool, true, false, cond}
 use Rattle.std.proofs.Common.{arith}
 use Rattle.std.specs.Prelude.{Option, Some, None}
 use Rattle.std.specs.List.{sum_by}
-use Rattle.dover_model.specs.Fraction.{Fraction}
+use Rattle.dover_model.specs.Fraction.{Fraction, IsRatio}
 use Rattle.dover_model.specs.Intervals as model
 use Rattle.dover_model.specs.declared.events.Event.TheVariants.{Run}
 use Rattle.dover_model.specs.declared.events.Role.{Role}
@@ -19,7 +19,7 @@ use Rattle.dover_model.proofs.Roles.{passes}
 use Rattle.dover_model.proofs.Loads.{with_roles}
 use Rattle.dover_model.proofs.OneChange.{changed, state_with}
 use Rattle.dover_model.proofs.Booking.{is_gone}
-use Rattle.dover_model.proofs.Calculus.{square_le}
+use Rattle.dover_model.proofs.Calculus.{paid_zero, paid_more as displaced_more}
 use Rattle.run_record.specs.declared.intervals.interval.UnderWay.{UnderWay}
 use Rattle.run_record.specs.intervals.Pages.{Page, value_at, joined, with_one_more, begun_or, CanJoin}
 use Rattle.run_record.specs.intervals.Rows.{numbers_of}
@@ -35,11 +35,8 @@ paid_more k s t w v None done gone more paid = tt
 paid_more k s t w v (Some i) done gone more paid = record {
   done = omega (arith, paid.done);
   gone = omega (arith, paid.gone);
-  displaced = omega (
-    arith,
-    paid.displaced,
-    square_le k.q (i.regular + i.taken + w) (i.regular + i.taken + v) (omega arith),
-  );
+  displaced = displaced_more k i.displaced (i.regular + i.taken + w) (i.regular + i.taken + v) (omega (arith, more))
+      paid.displaced;
 }
 
 -- the interval that is under way once a job runs
@@ -145,7 +142,7 @@ module _ (k : Fraction) (s : State) (l : Page) (n : ℕ) where
       worth = follows.tracks.worth;
     };
     under = ap (λ u. Some (begun_or s.clock u)) follows.under;
-    paid = record { done = omega arith; gone = omega arith; displaced = omega arith };
+    paid = record { done = omega arith; gone = omega arith; displaced = paid_zero k _ };
   }
   begins t p (Some i) follows = record {
     tracks = record {
@@ -184,7 +181,7 @@ module _ (k : Fraction) (s : State) (l : Page) (n : ℕ) where
         ∙ ap (λ is. l.rows ++ map numbers_of is) (run_same current xs);
   }
 
-module _ (k : Fraction) (some_q : 1 ≤ k.q) (ratio : k.q ≤ k.p) (s : State) (sound : IsSound s) (l : Page)
+module _ (k : Fraction) (some_q : IsRatio k) (ratio : k.q ≤ k.p) (s : State) (sound : IsSound s) (l : Page)
     (few : l.era + 1 < 2 ^ 32)
     (total : sum_by (λ t. t.job.value) s.tasks ≤ 10_000_000_000_000) (count : length s.tasks ≤ 1_000_000)
     (current : Option model.Interval)

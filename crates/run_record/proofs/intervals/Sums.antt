@@ -1,13 +1,11 @@
 -- Sums over the tasks of a state, where some roles change.
-use Rattle.std.proofs.Common.{◌≡◌, ℕ, ◌+◌, ◌*◌, ◌≤◌, List, length, [], ◌∷◌, ap, ◌∙◌, Bool, true, false, cond, arith}
+use Rattle.std.proofs.Common.{◌≡◌, ℕ, ◌+◌, ◌≤◌, List, length, [], ◌∷◌, ap, ◌∙◌, Bool, true, false, cond, arith}
 use Rattle.std.specs.List.{sum_by}
-use Rattle.std.proofs.lemmas.Nat.{mul-le}
 use Rattle.std.proofs.lemmas.List.Sums.{sum_by-cons}
 use Rattle.dover_model.specs.JobFacts.{JobFacts}
 use Rattle.dover_model.specs.declared.events.Role.{Role}
 use Rattle.dover_model.specs.declared.events.Role.TheVariants.{Coming, Fresh, Waiting, Held, Running, Done, Gone}
 use Rattle.dover_model.specs.declared.events.Task.{Task}
-use Rattle.dover_model.specs.Fraction.{Fraction}
 use Rattle.dover_model.specs.State.{is_privileged, is_done}
 use Rattle.dover_model.specs.Step.{with_role}
 use Rattle.dover_model.specs.Sound.{IsMember, Each, IsNumberedFrom}
@@ -15,7 +13,6 @@ use Rattle.dover_model.proofs.Members.{sum_map, sum_same, sum_plus, sum_le, term
 use Rattle.dover_model.proofs.Roles.{by_role}
 use Rattle.dover_model.proofs.Loads.{with_roles}
 use Rattle.dover_model.proofs.OneChange.{changed}
-use Rattle.dover_model.proofs.Calculus.{square_order, cancel}
 use Rattle.dover_model.proofs.Booking.{sum_changed, active_sum, is_gone}
 use Rattle.run_record.proofs.intervals.Follows.{value_where}
 
@@ -95,10 +92,3 @@ values_fit tasks = omega (
       (λ t. t.job.value) tasks
       (λ t m. one_of t),
 )
-
--- what stands below a root of at least one is no more
-pub lesser : (k : Fraction) (d r : ℕ) → 1 ≤ k.q → k.q ≤ k.p → k.p * d * d ≤ k.q * r * r → d ≤ r
-lesser k d r some ratio below =
-    square_order d r (cancel k.p (d * d) (r * r) (omega arith)
-    (let more : k.q * (r * r) ≤ k.p * (r * r) = mul-le k.q (r * r) k.p (r * r) ratio (omega arith) in
-    omega (arith, below)))

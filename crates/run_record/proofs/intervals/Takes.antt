@@ -4,7 +4,7 @@ use Rattle.std.proofs.Common.{cond, eqb, arith, zero-add}
 use Rattle.std.specs.Prelude.{Option, Some, None}
 use Rattle.std.specs.List.{sum_by}
 use Rattle.std.proofs.lemmas.Bool.{eqb-true}
-use Rattle.dover_model.specs.Fraction.{Fraction}
+use Rattle.dover_model.specs.Fraction.{Fraction, IsRatio}
 use Rattle.dover_model.specs.Intervals as model
 use Rattle.dover_model.specs.Orders.{is_heavy, IsHeavy}
 use Rattle.dover_model.specs.declared.events.Event.TheVariants.{Take}
@@ -20,16 +20,19 @@ use Rattle.dover_model.proofs.Loads.{state_in}
 use Rattle.dover_model.proofs.OneChange.{changed}
 use Rattle.dover_model.proofs.Booking.{is_gone}
 use Rattle.dover_model.proofs.Booked.{displaced_idle, displaced_done, displaced_gone, privileged_value}
-use Rattle.dover_model.proofs.Calculus.{rows_add, heavy_more, heavy_excess}
+use Rattle.dover_model.specs.Books as books
+use Rattle.dover_model.proofs.Calculus.{paid_add, heavy_more, heavy_pays}
+use Rattle.dover_model.proofs.GreatestLaws.{paid_small}
+use Rattle.dover_model.proofs.JobLimits.{ratio_limits}
 use Rattle.run_record.specs.declared.intervals.interval.UnderWay.{UnderWay}
 use Rattle.run_record.specs.intervals.Pages.{Page, value_at, entered, CanTake, in_one, with_take, page_taken}
 use Rattle.run_record.proofs.intervals.Follows.{under_of, value_where, ArePaid, Tracks, Follows, Next}
-use Rattle.run_record.proofs.intervals.Sums.{stays, values_fit, lesser}
+use Rattle.run_record.proofs.intervals.Sums.{stays, values_fit}
 use Rattle.run_record.proofs.intervals.Knowing.{displaced_tracks, enters_tracks}
 use Rattle.run_record.proofs.intervals.Steps.{waiting_idle, waiting_comes, running_comes}
 use Rattle.run_record.proofs.intervals.Overs.{same_tracks, under_is}
 
-module _ (k : Fraction) (some_q : 1 ≤ k.q) (ratio : k.q ≤ k.p) (s : State) (sound : IsSound s) (l : Page)
+module _ (k : Fraction) (some_q : IsRatio k) (ratio : k.q ≤ k.p) (s : State) (sound : IsSound s) (l : Page)
     (few : l.era + 1 < 2 ^ 32)
     (total : sum_by (λ t. t.job.value) s.tasks ≤ 10_000_000_000_000) (x : Task) (member : IsMember x s.tasks)
     (waiting : x.role ≡ Waiting)
@@ -91,8 +94,8 @@ module _ (k : Fraction) (some_q : 1 ≤ k.q) (ratio : k.q ≤ k.p) (s : State) (
         let twin : i ≡ j = cc in
         let is : u.interval.displaced ≡ j.displaced = ap (λ (v : UnderWay). v.interval.displaced) same
         ∙ ap (λ (v : model.Interval). v.displaced) twin in
-        let less : j.displaced ≤ j.regular + j.taken + l.worth =
-        lesser k j.displaced (j.regular + j.taken + l.worth) some_q ratio paid.displaced in
+        let less : j.displaced ≤ 1_000 * (j.regular + j.taken + l.worth) =
+        paid_small k j.displaced (j.regular + j.taken + l.worth) some_q paid.displaced in
         omega (arith, is, less, paid.done, values_fit s.tasks, follows.tracks.worth)
 
   -- the value that is displaced
@@ -139,25 +142,20 @@ module _ (k : Fraction) (some_q : 1 ≤ k.q) (ratio : k.q ≤ k.p) (s : State) (
     is_more = heavy
 
     -- so it pays for that, beside what paid before
-    pays : k.p * (i.displaced + value_sum (privileged s)) * (i.displaced + value_sum (privileged s))
-        ≤ k.q * (i.regular + i.taken + value_at l x.number) * (i.regular + i.taken + value_at l x.number)
+    pays : books.IsPaid k (i.displaced + value_sum (privileged s)) (i.regular + i.taken + value_at l x.number)
     pays =
         let more : value_sum (privileged s) < x.job.value =
         heavy_more k x.job.value (value_sum (privileged s)) is_more in
         let value : value_at l x.number ≡ x.job.value =
         (follows.tracks.known x member (waiting_idle x waiting).released).value in
-        let before : k.p * i.displaced * i.displaced
-        ≤ k.q * (i.regular + i.taken + value_sum (privileged s)) * (i.regular + i.taken + value_sum (privileged s)) =
-        subst (λ n. k.p * i.displaced * i.displaced ≤ k.q * (i.regular + i.taken + n) * (i.regular + i.taken + n))
-        (worth_is follows.tracks)
+        let before : books.IsPaid k i.displaced (i.regular + i.taken + value_sum (privileged s)) =
+        subst (λ n. books.IsPaid k i.displaced (i.regular + i.taken + n)) (worth_is follows.tracks)
         follows.paid.displaced in
-        let now : k.p * value_sum (privileged s) * value_sum (privileged s)
-        ≤ k.q * (x.job.value - value_sum (privileged s)) * (x.job.value - value_sum (privileged s)) =
-        omega (arith, heavy_excess k x.job.value (value_sum (privileged s)) is_more) in
         let sum : i.regular + i.taken + value_sum (privileged s) + (x.job.value - value_sum (privileged s))
         ≡ i.regular + i.taken + value_at l x.number =
         omega (arith, more, value) in
-        subst (λ n. k.p * (i.displaced + value_sum (privileged s)) * (i.displaced + value_sum (privileged s)) ≤ k.q * n
-        * n) sum
-        (rows_add k some_q ratio i.displaced (value_sum (privileged s)) (i.regular + i.taken + value_sum (privileged s))
-        (x.job.value - value_sum (privileged s)) before now)
+        subst (books.IsPaid k (i.displaced + value_sum (privileged s))) sum
+        (paid_add k (ratio_limits some_q).least ratio i.displaced (value_sum (privileged s))
+        (i.regular + i.taken + value_sum (privileged s))
+        (x.job.value - value_sum (privileged s)) before
+        (heavy_pays k x.job.value (value_sum (privileged s)) is_more))

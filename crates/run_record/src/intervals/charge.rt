@@ -6,7 +6,7 @@ ghost use Rattle.dover_model.specs.Run.{ran, completed_value};
 ghost use Rattle.dover_model.specs.Schedules.{worth};
 ghost use Rattle.dover_model.specs.Observed.{observed};
 ghost use Rattle.dover_model.specs.Bound.{IsWithin};
-ghost use Rattle.dover_model.specs.Books.{IsLeastDense};
+ghost use Rattle.dover_model.specs.Books.{IsLeastDense, IsPaid};
 ghost use Rattle.dover_model.specs.Intervals.{intervals};
 ghost use Rattle.dover_model.specs.JobFacts.{JobFacts};
 ghost use Rattle.dover_model.specs.Orders.{IsHeavy};
@@ -52,7 +52,7 @@ impl Charge {
             → IfOk result (λ c. worth (observed J) (ran J) ≡ c.value) }
         ensures ordered { IfOk result (λ c. Each (λ i. i.from ≤ i.until) c.rows) }
         ensures displaced { IfOk result
-            (λ c. Each (λ i. k.p * i.displaced * i.displaced ≤ k.q * i.taken * i.taken) c.rows) }
+            (λ c. Each (λ i. IsPaid k i.displaced i.taken) c.rows) }
         ensures paid { (J : Instance) → IsRunOf k run.now J → IfOk result (λ c. (j : JobFacts) → IsLeastDense J j →
             Each (λ i. j.value * (i.until - i.from) ≤ j.work * (i.regular + i.taken + i.displaced)) c.rows) }
         ensures light { (J : Instance) → IsRunOf k run.now J

@@ -45,7 +45,7 @@ use Rattle.run_reports.specs.report.Early.{early_lines}
 use Rattle.run_reports.specs.declared.report.early.Early.{Early}
 use Rattle.run_reports.proofs.report.Texts.{five_parts}
 use Rattle.run_reports.specs.declared.report.counts.Counts.{Counts}
-use Rattle.run_reports.specs.report.Lines.{row_line, row_lines}
+use Rattle.run_reports.specs.report.Lines.{ratio_line, row_line, row_lines}
 
 -- ---- the jobs
 
@@ -404,21 +404,20 @@ module _ (k : Fraction) (run : List Event) (J : Instance) (of : IsRunOf k run J)
   pub report_is : (early : Bool) (jobs : List JobFacts) (hads : List ℕ) (value : ℕ) (rows : List Interval)
       → early ≡ may_finish_early J.rules.version → (early ≡ true → hads ≡ model_hads J)
       → jobs ≡ jobs_released run → value ≡ completed_value J → rows ≡ rows_of J
-      → (((in_lines (with_numbers (codes "ratio") (k.p ∷ k.q ∷ []) ∷ []) ++ in_lines
-      (fates_lines (counts_of k run jobs value))) ++ in_lines (early_lines early jobs hads run))
+      → (((in_lines (ratio_line k ∷ []) ++ in_lines (fates_lines (counts_of k run jobs value)))
+      ++ in_lines (early_lines early jobs hads run))
       ++ in_lines (bound_line (counts_of k run jobs value) ∷ [])) ++ in_lines (row_lines rows)
       ≡ report J
   report_is early jobs hads value rows is are same worth all =
-      five_parts (with_numbers (codes "ratio") (k.p ∷ k.q ∷ []) ∷ []) (fates_lines (counts_of k run jobs value))
+      five_parts (ratio_line k ∷ []) (fates_lines (counts_of k run jobs value))
       (early_lines early jobs hads run) (bound_line (counts_of k run jobs value) ∷ []) (row_lines rows)
-      ∙ ap (λ ls. in_lines (with_numbers (codes "ratio") (k.p ∷ k.q ∷ []) ∷ ls ++ row_lines rows))
+      ∙ ap (λ ls. in_lines (ratio_line k ∷ ls ++ row_lines rows))
       (lines_are (early_lines early jobs hads run) jobs value same worth
       ∙ ap (lines_with J) (early_is early jobs hads is are same))
-      ∙ ap (λ ls. in_lines (with_numbers (codes "ratio") (k.p ∷ k.q ∷ []) ∷ lines_with J (reports.early_lines J) ++ ls))
+      ∙ ap (λ ls. in_lines (ratio_line k ∷ lines_with J (reports.early_lines J) ++ ls))
       (ap row_lines all ∙ rows_lines 1 (model.intervals J))
       ∙ ap (λ (r : Fraction). in_lines
-      (with_numbers (codes "ratio") (r.p ∷ r.q ∷ []) ∷ lines_with J (reports.early_lines J) ++ map interval_line
-      (enumerate_from 1 (model.intervals J))))
+      (ratio_line r ∷ lines_with J (reports.early_lines J) ++ map interval_line (enumerate_from 1 (model.intervals J))))
       (sym of.ratio)
 
   -- the steps are few

@@ -1,4 +1,5 @@
 -- Reports on runs in which jobs finish early, by computation.
+use Rattle.dover_model.specs.Fraction.{fraction, with_factor}
 use Rattle.std.proofs.Common.{◌≡◌, ℕ, List, [], ◌∷◌, ◌++◌, refl}
 use Rattle.std.specs.Prelude.{codes}
 use Rattle.std.specs.Fmt.{digits}
@@ -12,7 +13,7 @@ use Rattle.dover_model.proofs.Written.{job, bytes}
 -- jobs of version Three under the ratio 1, with their early finishes
 abbrev pub finishing : List Finish → List JobFacts → Instance
 finishing finishes jobs = record {
-  rules = record { ratio = record { p = 1; q = 1 }; version = Three; finishes = finishes };
+  rules = record { ratio = fraction 1 1; version = Three; finishes = finishes };
   jobs = jobs;
 }
 
@@ -31,6 +32,13 @@ anomaly = finishing (finish 0 1 ∷ []) (job 0 2 2 2 ∷ job 0 2 3 2 ∷ job 0 3
 -- a job that took the processor finishes early
 abbrev pub took_and_early : Instance
 took_and_early = finishing (finish 2 1 ∷ []) (job 0 3 30 3 ∷ job 0 2 4 2 ∷ job 0 12 12 12 ∷ [])
+
+-- jobs of version Three under the ratio 1 and the factor 5/2, of which the last one is just not heavy
+abbrev pub with_a_factor : Instance
+with_a_factor = record {
+  rules = record { ratio = with_factor (fraction 1 1) 5 2; version = Three; finishes = [] };
+  jobs = job 0 2 2 2 ∷ job 0 5 5 5 ∷ [];
+}
 
 -- no job has work left
 abbrev pub none_early : Instance
@@ -77,6 +85,12 @@ none_report = refl
 none_table : table none_early ≡ bytes (codes "job,release,work,deadline,value,fate,tick,had/0,0,2,2,2,complete,2,2/")
 unfolding digits
 none_table = refl
+
+-- the line of the ratio has the factor, and the bound is that by the factor
+factor_report : report with_a_factor ≡ bytes (codes
+    "ratio 1 1 5 2/jobs 2/completed 1 2/abandoned 1 5/taken 0/early 0 0/bound 9/interval 1 0 2 2 0 0 5/")
+unfolding digits
+factor_report = refl
 
 -- a summary alone has no such line
 held_summary : summary held_and_early ≡ bytes (codes "jobs 2/completed 2 6/abandoned 0 0/taken 0/bound 24/")

@@ -58,14 +58,15 @@ one_line a b c d e f g =
 
 -- the same texts behind one another, grouped to the right
 grouped : (w a x b y c z d u e v f p g q : List ℕ)
-    → w ++ (a ++ (x ++ (b ++ (y ++ (c ++ (z ++ (d ++ (u ++ (e ++ (v ++ (f ++ (p ++ (g ++ q)))))))))))))
+    → w ++ (a ++ (x ++ (b ++ (y ++ (c ++ (z ++ (d ++ (u ++ (e ++ (v ++ (f ++ p))))))))))) ++ g ++ q
     ≡ (w ++ a) ++ (x ++ b) ++ (y ++ c) ++ (z ++ d) ++ (u ++ e) ++ (v ++ f) ++ (p ++ g) ++ q
 grouped w a x b y c z d u e v f p g q = simp append_assoc
 
 -- of counts
 pub summary_line : (n : Counts)
-    → filled (codes "jobs @, completed @ @, abandoned @ @, taken @, bound @\n")
-    (n.jobs ∷ n.completed ∷ n.value ∷ n.abandoned ∷ n.lost ∷ n.taken ∷ n.bound ∷ []) ≡ summed_up (counts_lines n)
+    → filled (codes "jobs @, completed @ @, abandoned @ @, taken @, bound ")
+    (n.jobs ∷ n.completed ∷ n.value ∷ n.abandoned ∷ n.lost ∷ n.taken ∷ []) ++ decimal n.bound ++ codes "\n"
+    ≡ summed_up (counts_lines n)
 unfolding filled
 summary_line n = grouped (codes "jobs ") (decimal n.jobs) (codes ", completed ") (decimal n.completed)
     (codes " ") (decimal n.value) (codes ", abandoned ") (decimal n.abandoned) (codes " ") (decimal n.lost)

@@ -5,9 +5,10 @@ use Rattle.std.specs.Fmt.{digits}
 use Rattle.dover_model.specs.Instance.{Instance}
 use Rattle.dover_model.proofs.Written.{job, one}
 use Rattle.run_reports.proofs.report.WorkedRows.{finish, finishing, held_and_early, anomaly, took_and_early}
+use Rattle.run_reports.proofs.report.WorkedRows.{with_a_factor}
 use Rattle.run_reports.specs.views.Templates.{filled}
 use Rattle.run_reports.specs.views.Chrome.{chrome}
-use Rattle.run_reports.specs.views.Why.{why, tested}
+use Rattle.run_reports.specs.views.Why.{why, tested, greatest_ratio}
 use Rattle.run_reports.specs.views.Timeline.{timeline}
 
 -- a take over a running and a held job
@@ -28,9 +29,25 @@ abandoned_job : why 1 take_over ≡
     codes "job 1: release 0, work 2, deadline 4, value 2\n"
     ++ codes "at 0 it preempts job 0, which is due later, its work 2 within the room 27\n"
     ++ codes "at 0 it is displaced by job 2\n"
-    ++ codes "at 2 it is abandoned, its value 2 against 12 under way: 1 * 0^2 = 0 not above 1 * 12^2 = 144; heavy from 25 on\n"
-unfolding digits filled tested
+    ++ codes "at 2 it is abandoned, its value 2 against 12 under way: 1 * 0^2 = 0 not above 1 * 12^2 = 144; heavy from 25 on, with this value for no k\n"
+unfolding digits filled tested greatest_ratio
 abandoned_job = refl
+
+-- what it exceeds the other by is 3, whose square is above twice that of 2, and not above three times it
+light_for_its_ratio : why 1 (one 3 1 (job 0 2 2 2 ∷ job 0 2 2 5 ∷ [])) ≡
+    codes "job 1: release 0, work 2, deadline 2, value 5\n"
+    ++ codes "at 0 it waits, its work 2 above the room 0\n"
+    ++ codes "at 0 it is abandoned, its value 5 against 2 under way: 1 * 3^2 = 9 not above 3 * 2^2 = 12; heavy from 6 on, with this value for k up to 2/1\n"
+unfolding digits filled tested greatest_ratio
+light_for_its_ratio = refl
+
+-- where a factor is declared, the test is by it, and no ratio plays a part
+light_by_its_factor : why 1 with_a_factor ≡
+    codes "job 1: release 0, work 5, deadline 5, value 5\n"
+    ++ codes "at 0 it waits, its work 5 above the room 0\n"
+    ++ codes "at 0 it is abandoned, its value 5 against 2 under way: 2 * 5 = 10 not above 5 * 2 = 10; heavy from 6 on\n"
+unfolding digits filled tested
+light_by_its_factor = refl
 
 takes_job : why 2 take_over ≡
     codes "job 2: release 0, work 12, deadline 12, value 12\n"
@@ -194,8 +211,8 @@ room_behind = refl
 weighed_behind : why 2 anomaly ≡
     codes "job 2: release 0, work 3, deadline 5, value 3\n"
     ++ codes "at 0 it waits, its work 3 above the room 0\n"
-    ++ codes "at 2 it is abandoned, its value 3 against 2 under way: 1 * 1^2 = 1 not above 1 * 2^2 = 4; heavy from 5 on\n"
-unfolding digits filled tested
+    ++ codes "at 2 it is abandoned, its value 3 against 2 under way: 1 * 1^2 = 1 not above 1 * 2^2 = 4; heavy from 5 on, with this value for no k\n"
+unfolding digits filled tested greatest_ratio
 weighed_behind = refl
 
 viewed_early : chrome held_and_early ≡

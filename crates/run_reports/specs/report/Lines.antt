@@ -1,12 +1,17 @@
 -- Lines of a report, one after another.
 use Rattle.std.specs.Prelude.{ℕ, List, [], ◌∷◌, ◌++◌, map, codes}
 use Rattle.std.specs.List.{enumerate_from}
+use Rattle.dover_model.specs.Fraction.{Fraction, factor_numbers}
 use Rattle.dover_model.specs.Lines.{with_numbers, in_lines}
 use Rattle.run_record.specs.declared.intervals.interval.Interval.{Interval}
 
 -- the text with one more line, of this word and these numbers
 abbrev pub with_line : List ℕ → List ℕ → List ℕ → List ℕ
 with_line text word numbers = text ++ in_lines (with_numbers word numbers ∷ [])
+
+-- the line of a ratio, with its factor where one is declared
+abbrev pub ratio_line : Fraction → List ℕ
+ratio_line k = with_numbers (codes "ratio") (k.p ∷ k.q ∷ factor_numbers k.factor)
 
 -- the line of an interval with its number
 abbrev pub row_line : ℕ × Interval → List ℕ

@@ -1,25 +1,24 @@
 -- What happened to one job of a run, and by which test.
-use Rattle.std.specs.Prelude.{ℕ, ◌+◌, ◌-◌, ◌*◌, List, [], ◌∷◌, ◌++◌, length, Bool, false, not, ◌&&◌, ◌||◌, ◌==◌}
+use Rattle.std.specs.Prelude.{ℕ, ◌-◌, ◌*◌, List, [], ◌∷◌, ◌++◌, length, Bool, false, not, ◌&&◌, ◌||◌, ◌==◌}
 use Rattle.std.specs.Prelude.{nat_le, nat_lt, if◌then◌else◌, Option, Some, None, slice_get, codes, decimal}
 use Rattle.std.specs.Option.{option_map_or}
 use Rattle.dover_model.specs.declared.events.Event.{Event}
 use Rattle.dover_model.specs.declared.events.Event.TheVariants.{Release, Run, Preempt, Take, Complete, Abandon, End}
-use Rattle.dover_model.specs.Fraction.{Fraction}
+use Rattle.dover_model.specs.Fraction.{Fraction, fraction}
+use Rattle.dover_model.specs.declared.factors.Factor.{Factor}
 use Rattle.dover_model.specs.Greatest.{greatest}
 use Rattle.dover_model.specs.JobFacts.{JobFacts}
 use Rattle.dover_model.specs.Instance.{Instance}
+use Rattle.dover_model.specs.Limits.{most_p}
 use Rattle.dover_model.specs.Observed.{hads}
 use Rattle.dover_model.specs.Orders.{is_heavy}
 use Rattle.dover_model.specs.Run.{printed}
+use Rattle.root_compare.specs.Least.{least_heavy}
 use Rattle.run_reports.specs.report.Early.{left_at}
 use Rattle.run_record.specs.intervals.Rows.{weights}
 use Rattle.run_record.specs.ledger.Rooms.{rooms}
 use Rattle.run_reports.specs.declared.views.story.Weighed.{Weighed}
 use Rattle.run_reports.specs.views.Templates.{Text, filled}
-
--- the least value that is heavy against w
-abbrev pub least_heavy : Fraction → ℕ → ℕ
-least_heavy k w = greatest (λ v. not (is_heavy k v w)) + 1
 
 -- the numbers of the job
 abbrev pub asked : ℕ → JobFacts → Text
@@ -30,20 +29,47 @@ asked n j = filled (codes "job @: release @, work @, deadline @, value @\n")
 abbrev pub square : (part value : ℕ) → Text
 square part value = filled (codes " @ * @^2 = ") (part ∷ value ∷ []) ++ decimal (part * value * value)
 
+-- a part of a factor times a value
+abbrev pub product : (part value : ℕ) → Text
+product part value = filled (codes " @ * @ = @") (part ∷ value ∷ part * value ∷ [])
+
+-- both sides of the test by this factor, or by the ratio where there is none, and this word between them
+abbrev pub sides : Fraction → Option Factor → (value worth : ℕ) → Text → Text
+sides k None value worth answer = square k.q (value - worth) ++ answer ++ square k.p worth
+sides k (Some f) value worth answer = product f.c value ++ answer ++ product f.b worth
+
 -- the test at a latest start: both sides of it, this word between them, and from which value on it is passed
 unfoldable pub tested : Fraction → (value worth : ℕ) → Text → Text
 tested k value worth answer = filled (codes ", its value @ against @ under way:") (value ∷ worth ∷ [])
-    ++ square k.q (value - worth) ++ answer ++ square k.p worth
-    ++ filled (codes "; heavy from @ on\n") (least_heavy k worth ∷ [])
+    ++ sides k k.factor value worth answer ++ filled (codes "; heavy from @ on") (least_heavy k worth ∷ [])
 
 -- the job takes the processor
 abbrev pub takes : Fraction → (value at stops worth : ℕ) → Text
 takes k value at stops worth = filled (codes "at @ it takes the processor from job @") (at ∷ stops ∷ [])
-    ++ tested k value worth (codes " above")
+    ++ tested k value worth (codes " above") ++ codes "\n"
+
+-- p is the numerator of a ratio where it is at least the denominator q
+abbrev pub numerator : (q p : ℕ) → Option ℕ
+numerator q p = if nat_le q p then Some p else None
+
+-- of the ratios with the denominator q, the numerator of the greatest for which the value v is heavy against w
+unfoldable pub greatest_ratio : (q v w : ℕ) → Option ℕ
+greatest_ratio q v w = numerator q (greatest (λ p. nat_le p most_p && is_heavy (fraction p q) v w))
+
+-- up to which ratio with this denominator a value is heavy
+abbrev pub up_to : (q : ℕ) → Option ℕ → Text
+up_to q None = codes ", with this value for no k"
+up_to q (Some p) = filled (codes ", with this value for k up to @/@") (p ∷ q ∷ [])
+
+-- the same of a value against w; where a factor is declared no ratio plays a part
+abbrev pub by_ratios : Fraction → Option Factor → (value worth : ℕ) → Text
+by_ratios k None value worth = up_to k.q (greatest_ratio k.q value worth)
+by_ratios k (Some f) value worth = []
 
 -- it is abandoned
 abbrev pub goes : Fraction → (value at worth : ℕ) → Text
 goes k value at worth = filled (codes "at @ it is abandoned") (at ∷ []) ++ tested k value worth (codes " not above")
+    ++ by_ratios k k.factor value worth ++ codes "\n"
 
 -- what an abandonment of job m means for job n
 abbrev pub gone : Fraction → (n value at m worth : ℕ) → Text

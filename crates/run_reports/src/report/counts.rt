@@ -11,7 +11,7 @@ ghost use Rattle.run_reports.specs.report.Counts.{job_released, jobs_released, v
 ghost use Rattle.run_reports.specs.report.Counts as counts;
 
 use dover_model::{Event, Job, Memory, PackedEvent, Ratio};
-use root_compare::bound;
+use root_compare::long_bound;
 use run_record::intervals::{Charge, JobTotals};
 use std::alloc::Global;
 
@@ -31,7 +31,7 @@ pub struct Counts {
     /// How many took the processor.
     pub taken: u64,
     /// What no schedule of the jobs is worth more than.
-    pub bound: u64,
+    pub bound: u128,
 }
 
 /// The counts of these steps, which release these jobs and complete this value.
@@ -48,7 +48,7 @@ pub fn count(k: Ratio, run: &[PackedEvent], jobs: &[Job], value: u64) -> Counts
         abandoned: totals.abandoned,
         lost: all_lost(jobs, run),
         taken: totals.taken,
-        bound: bound(value, k),
+        bound: long_bound(value, k),
     }
 }
 
@@ -91,7 +91,7 @@ pub(crate) fn run_counts(k: Ratio, charge: &Charge) -> Counts
         abandoned: totals.abandoned,
         lost: (totals.worth - u128::from(value)) as u64,
         taken: totals.taken,
-        bound: bound(value, k),
+        bound: long_bound(value, k),
     }
 }
 

@@ -2,9 +2,11 @@
 ghost use Rattle.std.specs.Prelude.{◌≡◌, ◌<◌, ◌≤◌, ◌+◌, ◌*◌, ◌++◌, ◌∷◌, [], drop, length, OnOk};
 ghost use Rattle.dover_model.specs.Lines.{with_numbers};
 ghost use Rattle.line_text.specs.Writing.{numbers_behind};
-ghost use Rattle.run_reports.specs.report.Lines.{with_line};
+ghost use Rattle.dover_model.specs.Lines.{in_lines};
+ghost use Rattle.run_reports.specs.report.Lines.{ratio_line, with_line};
 
-use dover_model::Memory;
+use dover_model::{Memory, Ratio};
+use itoa::Buffer;
 use line_text::put_before;
 
 /// More than the bytes of a line of eight letters and seven numbers.
@@ -35,4 +37,30 @@ pub fn put_line(text: &mut Vec<u8>, word: &[u8], numbers: &[u64]) -> Result<(), 
     let start = write_line(&mut line, word, numbers);
     text.extend_from_slice(&line[start..])?;
     Ok(())
+}
+
+/// Appends the line of this word and a number that may be wide.
+pub fn put_wide_line(text: &mut Vec<u8>, word: &[u8], number: u128) -> Result<(), Memory>
+    ensures { OnOk result (text.new.items ≡ with_line text.old.items word.now (number ∷ [])) }
+{
+    text.extend_from_slice(word)?;
+    text.extend_from_slice(b" ")?;
+    text.extend_from_slice(Buffer::new().format(number).as_bytes())?;
+    text.extend_from_slice(b"\n")?;
+    Ok(())
+}
+
+/// Appends the line of a ratio, with its factor where one is declared.
+pub fn put_ratio(text: &mut Vec<u8>, k: Ratio) -> Result<(), Memory>
+    ensures { OnOk result (text.new.items ≡ text.old.items ++ in_lines (ratio_line k ∷ [])) }
+{
+    let (p, q) = (u64::from(k.p()), u64::from(k.q()));
+    match k.factor() {
+        None => put_line(text, b"ratio", &[p, q]),
+        Some(factor) => put_line(
+            text,
+            b"ratio",
+            &[p, q, u64::from(factor.b), u64::from(factor.c)],
+        ),
+    }
 }

@@ -9,7 +9,7 @@ ghost use Rattle.run_reports.specs.report.Lines.{row_lines};
 
 use crate::report::counts::{Counts, run_counts};
 use crate::report::early::{Early, early_where, put_early};
-use crate::report::lines::put_line;
+use crate::report::lines::{put_line, put_ratio, put_wide_line};
 use dover_model::{Memory, PackedEvent, Ratio, Version};
 use run_record::intervals::{Charge, Interval};
 use std::alloc::Global;
@@ -58,14 +58,10 @@ impl Findings {
         ensures { IfOk result (λ text. text.items ≡ told self.now) }
     {
         let mut text = Vec::new(alloc);
-        put_line(
-            &mut text,
-            b"ratio",
-            &[u64::from(self.k.p()), u64::from(self.k.q())],
-        )?;
+        put_ratio(&mut text, self.k)?;
         put_fates(&mut text, self.counts)?;
         put_early(&mut text, self.early, self.it)?;
-        put_line(&mut text, b"bound", &[self.counts.bound])?;
+        put_wide_line(&mut text, b"bound", self.counts.bound)?;
         put_rows(&mut text, self.charge.rows())?;
         Ok(text)
     }
@@ -104,7 +100,7 @@ fn put_counts(text: &mut Vec<u8>, counts: Counts) -> Result<(), Memory>
     ensures { OnOk result (text.new.items ≡ text.old.items ++ in_lines (counts_lines counts)) }
 {
     put_fates(text, counts)?;
-    put_line(text, b"bound", &[counts.bound])
+    put_wide_line(text, b"bound", counts.bound)
 }
 
 /// Appends the lines of a summary before the one of the bound.

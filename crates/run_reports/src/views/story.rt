@@ -1,10 +1,12 @@
 //! What happened to one job.
-ghost use Rattle.std.specs.Prelude.{◌≡◌, ◌≤◌, ◌++◌, ◌∷◌, ◌*◌, List, Some, false, length, drop, OnOk, IfOk};
+ghost use Rattle.std.specs.Prelude.{◌≡◌, ◌≤◌, ◌++◌, ◌∷◌, ◌*◌, List, Some, None, false, length, drop, OnOk, IfOk};
+ghost use Rattle.std.specs.Prelude.{IsTrue};
 ghost use Rattle.std.specs.List.{AllByRecursion};
 ghost use Rattle.run_record.specs.intervals.Rows.{IsRunOf};
 ghost use Rattle.run_record.specs.intervals.Rows as rows;
 ghost use Rattle.run_record.specs.ledger.Rooms as tests;
 ghost use Rattle.dover_model.specs.declared.events.Event.{Event};
+ghost use Rattle.dover_model.specs.Fraction.{Fraction, is_factor};
 ghost use Rattle.dover_model.specs.Instance.{Instance};
 ghost use Rattle.dover_model.specs.Limits.{most_total, most_value};
 ghost use Rattle.dover_model.specs.Observed as observed;
@@ -13,8 +15,9 @@ ghost use Rattle.run_reports.specs.views.Why as story;
 
 use crate::report::{left_at, released};
 use crate::views::template::{put, put_wide};
-use crate::views::threshold::least_heavy;
-use dover_model::{Event, Job, Memory, PackedEvent, Ratio};
+use crate::views::threshold::greatest_ratio;
+use dover_model::{Event, Factor, Job, Memory, PackedEvent, Ratio};
+use root_compare::least_heavy;
 use run_record::intervals::weights;
 use run_record::ledger::{hads, rooms};
 use std::alloc::Global;
@@ -414,7 +417,9 @@ fn put_takes(
         b"at @ it takes the processor from job @",
         &[at, u64::from(stops)],
     )?;
-    put_tested(text, asked, worth, b" above")
+    put_tested(text, asked, worth, b" above")?;
+    text.extend_from_slice(b"\n")?;
+    Ok(())
 }
 
 /// Appends what an abandonment means for the job.
@@ -443,7 +448,36 @@ fn put_goes(text: &mut Vec<u8>, asked: &Asked, at: u64, worth: u64) -> Result<()
     ensures { OnOk result (text.new.items ≡ text.old.items ++ story.goes asked.now.k asked.now.value at worth) }
 {
     put(text, b"at @ it is abandoned", &[at])?;
-    put_tested(text, asked, worth, b" not above")
+    put_tested(text, asked, worth, b" not above")?;
+    put_by_ratios(text, asked, worth)?;
+    text.extend_from_slice(b"\n")?;
+    Ok(())
+}
+
+/// Appends for which ratios its value would be heavy, where no factor is declared.
+fn put_by_ratios(text: &mut Vec<u8>, asked: &Asked, worth: u64) -> Result<(), Memory>
+    requires value { asked.now.value ≤ most_value }
+    requires worth { worth ≤ most_total Two }
+    ensures { OnOk result (text.new.items
+        ≡ text.old.items ++ story.by_ratios asked.now.k asked.now.k.factor asked.now.value worth) }
+{
+    match asked.k.factor() {
+        Some(_) => Ok(()),
+        None => {
+            let q = asked.k.q();
+            put_up_to(text, u64::from(q), greatest_ratio(asked.value, worth, q))
+        }
+    }
+}
+
+/// Appends up to which ratio with this denominator a value is heavy.
+fn put_up_to(text: &mut Vec<u8>, q: u64, greatest: Option<u64>) -> Result<(), Memory>
+    ensures { OnOk result (text.new.items ≡ text.old.items ++ story.up_to q greatest) }
+{
+    match greatest {
+        None => put(text, b", with this value for no k", &[]),
+        Some(p) => put(text, b", with this value for k up to @/@", &[p, q]),
+    }
 }
 
 /// Appends the test of its value against that of the jobs under way.
@@ -453,16 +487,67 @@ fn put_tested(text: &mut Vec<u8>, asked: &Asked, worth: u64, answer: &[u8]) -> R
     ensures { OnOk result (text.new.items
         ≡ text.old.items ++ story.tested asked.now.k asked.now.value worth answer.now) }
 {
-    let more = asked.value.saturating_sub(worth);
     put(
         text,
         b", its value @ against @ under way:",
         &[asked.value, worth],
     )?;
-    put_square(text, asked.k.q(), more)?;
+    put_sides(text, asked, worth, answer)?;
+    put(text, b"; heavy from @ on", &[least_heavy(worth, asked.k)])
+}
+
+/// Appends both sides of the test.
+fn put_sides(text: &mut Vec<u8>, asked: &Asked, worth: u64, answer: &[u8]) -> Result<(), Memory>
+    requires value { asked.now.value ≤ most_value }
+    requires worth { worth ≤ most_total Two }
+    ensures { OnOk result (text.new.items
+        ≡ text.old.items ++ story.sides asked.now.k asked.now.k.factor asked.now.value worth answer.now) }
+{
+    match asked.k.factor() {
+        None => put_squares(text, asked, worth, answer),
+        Some(factor) => put_products(text, factor, asked.value, worth, answer),
+    }
+}
+
+/// Appends both sides of the test by the ratio.
+fn put_squares(text: &mut Vec<u8>, asked: &Asked, worth: u64, answer: &[u8]) -> Result<(), Memory>
+    requires value { asked.now.value ≤ most_value }
+    requires worth { worth ≤ most_total Two }
+    ensures { OnOk result (text.new.items
+        ≡ text.old.items ++ story.sides asked.now.k None asked.now.value worth answer.now) }
+{
+    put_square(text, asked.k.q(), asked.value.saturating_sub(worth))?;
     text.extend_from_slice(answer)?;
-    put_square(text, asked.k.p(), worth)?;
-    put(text, b"; heavy from @ on\n", &[least_heavy(worth, asked.k)])
+    put_square(text, asked.k.p(), worth)
+}
+
+/// Appends both sides of the test by a factor.
+fn put_products(
+    text: &mut Vec<u8>,
+    factor: Factor,
+    value: u64,
+    worth: u64,
+    answer: &[u8],
+) -> Result<(), Memory>
+    requires value { value ≤ most_value }
+    requires worth { worth ≤ most_total Two }
+    requires factor { IsTrue (is_factor factor) }
+    ensures { (k : Fraction) → OnOk result (text.new.items
+        ≡ text.old.items ++ story.sides k (Some factor) value worth answer.now) }
+{
+    put_product(text, factor.c, value)?;
+    text.extend_from_slice(answer)?;
+    put_product(text, factor.b, worth)
+}
+
+/// Appends a part of a factor times a value.
+fn put_product(text: &mut Vec<u8>, part: u32, value: u64) -> Result<(), Memory>
+    requires part { part ≤ 1_000_000 }
+    requires value { value ≤ most_total Two }
+    ensures { OnOk result (text.new.items ≡ text.old.items ++ story.product part value) }
+{
+    let part = u64::from(part);
+    put(text, b" @ * @ = @", &[part, value, part * value])
 }
 
 /// Appends a part of a ratio times the square of a value.

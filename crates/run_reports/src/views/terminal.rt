@@ -77,7 +77,7 @@ fn put_summary(text: &mut Vec<u8>, counts: Counts) -> Result<(), Memory>
 {
     put(
         text,
-        b"jobs @, completed @ @, abandoned @ @, taken @, bound @\n",
+        b"jobs @, completed @ @, abandoned @ @, taken @, bound ",
         &[
             counts.jobs,
             counts.completed,
@@ -85,9 +85,11 @@ fn put_summary(text: &mut Vec<u8>, counts: Counts) -> Result<(), Memory>
             counts.abandoned,
             counts.lost,
             counts.taken,
-            counts.bound,
         ],
-    )
+    )?;
+    put_wide(text, counts.bound)?;
+    text.extend_from_slice(b"\n")?;
+    Ok(())
 }
 
 /// Appends the ticks of a column, and the ruler: the first tick of each 20th column, above it.

@@ -1,9 +1,9 @@
 -- The run of a baiting feed is worth the last link.
 use Rattle.std.proofs.Common.{◌≡◌, ℕ, zero, suc, ◌+◌, ◌-◌, ◌*◌, ◌≤◌, ◌<◌, ◌⊎◌, inl, inr, List, [], ◌∷◌, refl, sym, ap}
-use Rattle.std.proofs.Common.{◌∙◌, subst, false, cond}
+use Rattle.std.proofs.Common.{◌∙◌, subst, Bool, true, false, cond}
 use Rattle.std.proofs.Common.{arith, eqb}
 use Rattle.std.specs.Prelude.{None}
-use Rattle.std.proofs.lemmas.Bool.{ne_eqb}
+use Rattle.std.proofs.lemmas.Bool.{eq-eqb, ne_eqb, eqb-true}
 use Rattle.dover_model.specs.Fraction.{Fraction, IsRatio}
 use Rattle.dover_model.specs.JobFacts.{JobFacts, IsJob}
 use Rattle.dover_model.specs.Instance.{Instance, IsValid}
@@ -17,12 +17,14 @@ use Rattle.dover_model.specs.Step.{step}
 use Rattle.dover_model.specs.Run.{Step, run, completed_value}
 use Rattle.dover_model.specs.WholeRun.{step_at}
 use Rattle.dover_model.specs.Sound.{IsMember, Each, Keeps}
-use Rattle.dover_model.proofs.Members.{all_member, member_behind}
+use Rattle.dover_model.proofs.Members.{all_member, member_behind, sum_same}
+use Rattle.dover_model.proofs.Tests.{never}
 use Rattle.dover_model.proofs.Kept.{step_deed, opening_keeps, come_coming}
 use Rattle.dover_model.proofs.Ending.{run_is_whole, run_over}
 use Rattle.dover_model.proofs.Runs.{run_states, value_of_run}
 use Rattle.stated_jobs.specs.bait.BaitingRuns.{baiting}
-use Rattle.stated_jobs.proofs.bait.RunWeights.{most_light_light, most_light_more, unit_light}
+use Rattle.stated_jobs.proofs.bait.Heavy.{light_least}
+use Rattle.stated_jobs.proofs.bait.RunWeights.{most_light_light, unit_light}
 use Rattle.stated_jobs.proofs.bait.RunLinks.{last_from, end_from, links, last_is, end_is, IsTight, links_tight}
 use Rattle.stated_jobs.proofs.bait.RunLinks.{links_due}
 use Rattle.stated_jobs.proofs.bait.RunLinks.{AreSmall, links_above, last_above}
@@ -89,23 +91,24 @@ module _ (k : Fraction) (version : Version) (n : ℕ) (valid : IsValid (baiting 
   some_most : 1 ≤ most
   some_most = omega (arith, some, last_above k ratio n 0 (first_link k) small)
 
-  -- where there is a unit job, the last link is at least two
-  two_most : (m : ℕ) → AreSmall (links k (suc m) 0 (first_link k)) → 0 < end_from k (suc m) 0 (first_link k)
-      → 2 ≤ last_from k m (first_link k)
-  two_most zero low later = omega arith
-  two_most (suc m) low later = omega (arith, some, last_more k ratio m 0 (first_link k) low)
-
-  -- so at each tick before the bait's
-  units_two : (t : ℕ) → t < bait_tick k (suc n) → 2 ≤ most
-  units_two t before = two_most n small (omega (arith, tick_is))
+  -- where the last link is no more than one, it is the only one
+  only : (m : ℕ) → AreSmall (links k (suc m) 0 (first_link k)) → last_from k m (first_link k) ≤ 1
+      → (m ≡ 0) × (first_link k ≡ 1)
+  only zero low one = (refl, omega (arith, some, one))
+  only (suc m) low one = absurd (omega (arith, some, one, last_more k ratio m 0 (first_link k) low))
 
   -- the value of the bait
   bait_is : bait_value k (suc n) ≡ most_light k most
   bait_is = ap (most_light k) (last_is k n (first_link k) None)
 
-  -- it is more than the last link
-  bait_more : most < bait_value k (suc n)
-  bait_more = omega (arith, bait_is, most_light_more k ratio most small_most some_most)
+  -- it is at least that of the last link
+  bait_least : most ≤ bait_value k (suc n)
+  bait_least = omega (arith, bait_is, light_least k most ratio small_most)
+
+  -- where it is no more than one, there is one link, of value one
+  pub twins : bait_value k (suc n) ≤ 1 → (n ≡ 0) × (first_link k ≡ 1) × (bait_value k (suc n) ≡ 1)
+  twins one = let it : (n ≡ 0) × (first_link k ≡ 1) = only n small (omega (arith, one, bait_least)) in
+      (it.0, it.1, omega (arith, one, bait_least, some_most))
 
   -- a link that is due after the bait's release is the last
   late_last : (r : JobFacts) → Link r → bait_tick k (suc n) < r.deadline → r.value ≡ most
@@ -154,9 +157,16 @@ module _ (k : Fraction) (version : Version) (n : ℕ) (valid : IsValid (baiting 
   last_due : (a : JobFacts) → IsLast most Link a → a.deadline ≡ bait_tick k (suc n) + 1
   last_due a last = omega (arith, links_last k ratio n 0 (first_link k) some small a last.0 last.1, tick_is)
 
-  -- the jobs of a baiting feed are such as a chain needs
-  pub chained : IsChained k (bait_jobs k (suc n)) most Link Light
-  chained = record {
+  -- of the links the last alone is due then
+  top : (j : JobFacts) → Link j → (b : Bool) → eqb j.work most ≡ b → eqb j.deadline (bait_tick k (suc n) + 1) ≡ b
+  top j link true same = eq-eqb j.deadline (bait_tick k (suc n) + 1)
+      (last_due j (link, (link_tight j link).even ∙ eqb-true _ _ same))
+  top j link false differs = ne_eqb j.deadline (bait_tick k (suc n) + 1) (λ due. absurd (never (sym differs
+      ∙ eq-eqb j.work most (sym (link_tight j link).even ∙ late_last j link (omega (arith, due))))))
+
+  -- the jobs of a baiting feed are such as a chain needs, where the bait is worth more than one
+  pub chained : 2 ≤ bait_value k (suc n) → IsChained k (bait_jobs k (suc n)) most Link Light
+  chained two = record {
     kinds = by_kind (λ j. Link j ⊎ Light j) (λ j link. inl link)
         (λ t before. inr (inl (let one : 1 * unit_value k ≡ unit_value k = omega arith in omega arith)))
         (inr (inr (refl, omega arith)));
@@ -174,16 +184,22 @@ module _ (k : Fraction) (version : Version) (n : ℕ) (valid : IsValid (baiting 
         feed_begins k (suc n) (tight_job 0 (first_link k) 1)
         (links k n (0 + first_link k - 1) (suc (most_light k (first_link k)))) refl refl in
         (tight_job 0 (first_link k) 1, it.0, it.1, inl refl);
-    even = λ a link. (link_tight a link).even;
-    known = by_kind (λ j. j.work ≡ most → Link j) (λ j link _. link)
-        (λ t before same. absurd (omega (arith, units_two t before)))
-        (λ same. absurd (omega (arith, bait_more)));
-    one = feed_sum k (suc n) (λ j. cond (eqb j.work most) j.value 0)
+    due_last = bait_tick k (suc n) + 1;
+    ends = last_due;
+    known = by_kind (λ j. j.deadline ≡ bait_tick k (suc n) + 1 → IsLast most Link j)
+        (λ j link due. (link, late_last j link (omega (arith, due))))
+        (λ t before due. absurd (omega (arith, before, due)))
+        (λ due. absurd (omega (arith, two, due)));
+    one = feed_sum k (suc n) (λ j. cond (eqb j.deadline (bait_tick k (suc n) + 1)) j.value 0)
         (λ t before. ap (λ b. cond b (unit_value k * 1) 0)
-        (ne_eqb 1 most (λ same. absurd (omega (arith, units_two t before)))))
+        (ne_eqb (t + 1) (bait_tick k (suc n) + 1) (λ same. absurd (omega (arith, before, same)))))
         (ap (λ b. cond b (1 * bait_value k (suc n)) 0)
-        (ne_eqb (bait_value k (suc n)) most (λ same. absurd (omega (arith, bait_more)))))
+        (ne_eqb (bait_tick k (suc n) + bait_value k (suc n)) (bait_tick k (suc n) + 1)
+        (λ same. absurd (omega (arith, two, same)))))
         within
+        ∙ sum_same (λ j. cond (eqb j.deadline (bait_tick k (suc n) + 1)) j.value 0)
+        (λ j. cond (eqb j.work most) j.value 0) (chain_jobs k (suc n))
+        (λ j link. ap (λ b. cond b j.value 0) (top j link (eqb j.work most) refl))
         ∙ links_one k ratio most n 0 (first_link k) small refl;
   }
 
@@ -198,34 +214,29 @@ module _ (k : Fraction) (version : Version) (n : ℕ) (valid : IsValid (baiting 
   }
 
   -- each step is taken in a steady state
-  pub each_steady : Each (λ x. (x.move ≡ step J.rules x.before) × Keeps J x.before
+  pub each_steady : 2 ≤ bait_value k (suc n) → Each (λ x. (x.move ≡ step J.rules x.before) × Keeps J x.before
       × IsSteady most Link Light x.before) (run J)
-  each_steady = run_states J valid J.rules (IsSteady most Link Light)
-      (λ s keeps steady on. step_steady k (bait_jobs k (suc n)) most Link Light chained s keeps.sound keeps.jobs steady
-      (step J.rules s) (step_deed J valid s keeps J.rules) (done_at_end s keeps.sound J.rules refl))
+  each_steady two = run_states J valid J.rules (IsSteady most Link Light)
+      (λ s keeps steady on. step_steady k (bait_jobs k (suc n)) most Link Light (chained two) s keeps.sound keeps.jobs
+      steady (step J.rules s) (step_deed J valid s keeps J.rules) (done_at_end s keeps.sound J.rules refl))
       (run J) (opening (bait_jobs k (suc n))) (opening_keeps J) opening_steady
       (run_is_whole J valid)
 
   -- so is the last
-  last_steady : Keeps J (run_over J valid).last
+  last_steady : 2 ≤ bait_value k (suc n) → Keeps J (run_over J valid).last
       × IsSteady most Link Light (run_over J valid).last
-  last_steady = let ends : Step = step_at J.rules (run_over J valid).last in
+  last_steady two = let ends : Step = step_at J.rules (run_over J valid).last in
       let it : (ends.move ≡ step J.rules ends.before) × Keeps J ends.before
       × IsSteady most Link Light ends.before =
-      each_steady (step_at J.rules (run_over J valid).last)
+      each_steady two (step_at J.rules (run_over J valid).last)
       (subst (IsMember (step_at J.rules (run_over J valid).last)) (sym (run_over J valid).steps)
       (member_behind (run_over J valid).front (step_at J.rules (run_over J valid).last ∷ [])
       (step_at J.rules (run_over J valid).last) (inl refl))) in
       (it.1, it.2)
 
   -- the run is worth the last link
-  pub worth_last : completed_value J ≡ last_link k (suc n)
-  worth_last = value_of_run J valid
-      ∙ value_of_steady _ _ _ _ _ chained _ last_steady.0.sound last_steady.0.jobs last_steady.1 (run_over J valid).over
+  pub worth_last : 2 ≤ bait_value k (suc n) → completed_value J ≡ last_link k (suc n)
+  worth_last two = value_of_run J valid
+      ∙ value_of_steady _ _ _ _ _ (chained two) _ (last_steady two).0.sound (last_steady two).0.jobs
+      (last_steady two).1 (run_over J valid).over
       ∙ sym (last_is k n (first_link k) None)
-
--- the run of a baiting feed is worth its last link
-pub bait_completes : (k : Fraction) (version : Version) (rounds : ℕ) → 1 ≤ rounds → IsValid (baiting k version rounds)
-    → completed_value (baiting k version rounds) ≡ last_link k rounds
-bait_completes k version zero some valid = absurd (omega arith)
-bait_completes k version (suc n) some valid = worth_last k version n valid

@@ -65,7 +65,7 @@ none_to_come k rounds w = ap (λ m. chain_from k m w) none where
 pub from_nothing : (rest all : ℕ) → rest ≡ all → 0 + rest ≡ all
 from_nothing rest all is = omega arith
 
-pub first_low : (first : ℕ) → first ≤ 1_000_000 → first - 1 ≤ 1_001_000_000
+pub first_low : (first : ℕ) → first ≤ 1_000_000 → first - 1 ≤ 1_000_000_000_000
 first_low first low = omega arith
 
 pub nothing_few : 0 < 1_000_000
@@ -77,14 +77,14 @@ no_more {A} h = absurd (omega (arith, h))
 pub one_fewer : (rounds i : ℕ) → i < rounds → rounds - i ≡ suc (rounds - (i + 1))
 one_fewer rounds i less = omega arith
 
-pub low_step : (sofar light more : ℕ) → sofar + (light + 1) < 1_000_000 → more ≤ 1_001 * (light + 1)
-    → more ≤ 1_001_000_000
+pub low_step : (sofar light more : ℕ) → sofar + (light + 1) < 1_000_000 → more ≤ 1_000_000 * (light + 1)
+    → more ≤ 1_000_000_000_000
 low_step sofar light more few most = omega arith
 
-pub last_fits : (light : ℕ) → light ≤ 1_001_000_000 → Fits w64 (light + 1)
+pub last_fits : (light : ℕ) → light ≤ 1_000_000_000_000 → Fits w64 (light + 1)
 last_fits light low = omega (arith, low)
 
-pub sum_fits : (sofar light : ℕ) → sofar < 1_000_000 → light ≤ 1_001_000_000 → Fits w64 (sofar + (light + 1))
+pub sum_fits : (sofar light : ℕ) → sofar < 1_000_000 → light ≤ 1_000_000_000_000 → Fits w64 (sofar + (light + 1))
 sum_fits sofar light few low = omega (arith, few, low)
 
 pub some_step : (light more : ℕ) → light + 1 ≤ more → 1 ≤ more

@@ -1,10 +1,10 @@
 -- One job completes in a run of a chain, and that is the last link.
-use Rattle.std.proofs.Common.{◌≡◌, ℕ, suc, zero, ◌+◌, ◌≤◌, ◌⊎◌, inl, inr, List, [], ◌∷◌, map, refl, sym, ap, ◌∙◌, subst}
-use Rattle.std.proofs.Common.{Bool, true, false, cond, arith, eqb}
+use Rattle.std.proofs.Common.{◌≡◌, ℕ, suc, zero, ◌+◌, ◌≤◌, ◌<◌, ◌⊎◌, inl, inr, List, [], ◌∷◌, map, refl, sym, ap}
+use Rattle.std.proofs.Common.{◌∙◌, subst, Bool, true, false, cond, arith, eqb}
 use Rattle.std.specs.Prelude.{None, Some}
 use Rattle.std.specs.Bool.{MatchBool, then_some}
 use Rattle.std.specs.List.{count_by, list_all, filter, last_or}
-use Rattle.std.proofs.lemmas.Bool.{eq-eqb, ne_eqb}
+use Rattle.std.proofs.lemmas.Bool.{eq-eqb, ne_eqb, cases_lt}
 use Rattle.std.proofs.lemmas.List.Sums.{sum_by-cons}
 use Rattle.dover_model.specs.declared.events.Version.{Version}
 use Rattle.dover_model.specs.declared.events.Role.{Role}
@@ -14,7 +14,7 @@ use Rattle.dover_model.specs.declared.events.Task.{Task}
 use Rattle.dover_model.specs.JobFacts.{JobFacts}
 use Rattle.dover_model.specs.Fraction.{Fraction}
 use Rattle.dover_model.specs.Instance.{Instance, IsValid}
-use Rattle.dover_model.specs.Bait.{first_link, bait_jobs, chain_jobs}
+use Rattle.dover_model.specs.Bait.{first_link, bait_jobs, chain_jobs, bait_value}
 use Rattle.dover_model.specs.State.{State, opening, is_done, is_over, left, privileged, value_sum}
 use Rattle.dover_model.specs.Orders.{is_heavy}
 use Rattle.dover_model.specs.Step.{Move, Prints, Ticks, step, after, ending, ◌or_else◌, with_role, displaced, ticked}
@@ -36,8 +36,9 @@ use Rattle.stated_jobs.proofs.bait.Steady.{IsLast, IsChained, IsSteady, alone, s
 use Rattle.stated_jobs.proofs.bait.Steady.{no_preemption}
 use Rattle.stated_jobs.proofs.bait.Steady.{DoneAtEnd, done_at_end, taken, on_taken, step_steady, value_of_steady}
 use Rattle.stated_jobs.proofs.bait.RunLinks.{links_ends}
-use Rattle.stated_jobs.proofs.bait.Baited.{bait_completes, most, Link, Light, ratio, small, chained, opening_steady}
-use Rattle.stated_jobs.proofs.bait.Baited.{each_steady}
+use Rattle.stated_jobs.proofs.bait.Baited.{most, Link, Light, ratio, small, chained, opening_steady, each_steady}
+use Rattle.stated_jobs.proofs.bait.Baited.{worth_last, twins}
+use Rattle.stated_jobs.proofs.bait.Twins.{twins_alone}
 
 -- some job is done, or none is
 abbrev SomeDone : Bool → List Task → Type 0
@@ -195,7 +196,8 @@ module _ (k : Fraction) (jobs : List JobFacts) (most : ℕ) (Link Light : JobFac
           by_role (inl e) = absurd (none t m e)
           by_role (inr e) = passes is_done t Gone false e refl
 
-module _ (k : Fraction) (version : Version) (n : ℕ) (valid : IsValid (baiting k version (suc n))) where
+module _ (k : Fraction) (version : Version) (n : ℕ) (valid : IsValid (baiting k version (suc n)))
+    (two : 2 ≤ bait_value k (suc n)) where
   -- the feed
   abbrev feed : Instance
   feed = baiting k version (suc n)
@@ -211,7 +213,7 @@ module _ (k : Fraction) (version : Version) (n : ℕ) (valid : IsValid (baiting 
   -- the state after a step is steady
   then_steady : (s : State) → Keeps feed s → Steady s → Steady (after s (step feed.rules s))
   then_steady s keeps steady =
-      step_steady _ _ _ _ _ (chained k version n valid) _ keeps.sound keeps.jobs steady _
+      step_steady _ _ _ _ _ (chained k version n valid two) _ keeps.sound keeps.jobs steady _
       (step_deed feed valid s keeps feed.rules) (done_at_end s keeps.sound feed.rules refl)
 
   -- from a state on one job completes, if none has
@@ -225,7 +227,7 @@ module _ (k : Fraction) (version : Version) (n : ℕ) (valid : IsValid (baiting 
       (then_steady s keeps steady)
       it.then_done it.some) where
         it : Counts done s (step feed.rules s)
-        it = step_counts _ _ _ _ _ (chained k version n valid) _ keeps.sound keeps.jobs steady _ some _
+        it = step_counts _ _ _ _ _ (chained k version n valid two) _ keeps.sound keeps.jobs steady _ some _
             (step_deed feed valid s keeps feed.rules) (done_at_end s keeps.sound feed.rules refl)
 
         first_counted : completions (x ∷ xs) ≡ one_if (is_complete (step feed.rules s)) + completions xs
@@ -242,7 +244,7 @@ module _ (k : Fraction) (version : Version) (n : ℕ) (valid : IsValid (baiting 
             end_over feed valid s keeps feed.rules last in
             let one : done ≡ true = over_done k (bait_jobs k (suc n)) (most k version n valid) (Link k version n valid)
             (Light k version n valid)
-            (chained k version n valid) s keeps.sound keeps.jobs steady done some ends.1 in
+            (chained k version n valid two) s keeps.sound keeps.jobs steady done some ends.1 in
             let no_complete : is_complete (step feed.rules s) ≡ false = ap is_complete ends.0 in
             omega (arith, first_counted, ap one_if one, ap one_if no_complete, ap completions none)
         by_end false on onward more = omega (arith, first_counted, it.balance, more onward)
@@ -263,7 +265,7 @@ module _ (k : Fraction) (version : Version) (n : ℕ) (valid : IsValid (baiting 
   last at m x member moves t mt same =
       links_ends k (ratio k version n valid) n 0 (first_link k) None (small k version n valid) t.job done.0 done.1 where
         it : (x.move ≡ step feed.rules x.before) × Keeps feed x.before × Steady x.before
-        it = each_steady k version n valid x member
+        it = each_steady k version n valid two x member
 
         later : Steady (after x.before (Prints (Complete at m)))
         later = subst (λ (move : Move). Steady (after x.before move)) (sym it.0 ∙ moves)
@@ -282,8 +284,16 @@ pub completes_last_alone : (k : Fraction) (version : Version) (rounds : ℕ) →
     → IsValid (baiting k version rounds)
     → CompletesLastAlone k rounds (baiting k version rounds)
 completes_last_alone k version zero some valid = absurd (omega arith)
-completes_last_alone k version (suc n) some valid = record {
-  worth = bait_completes k version (suc n) some valid;
-  once = once k version n valid;
-  last = last k version n valid;
-}
+completes_last_alone k version (suc n) some valid = by_bait (cases_lt 1 (bait_value k (suc n))) where
+  by_bait : (1 < bait_value k (suc n)) ⊎ (bait_value k (suc n) ≤ 1)
+      → CompletesLastAlone k (suc n) (baiting k version (suc n))
+  by_bait (inl two) = record {
+    worth = worth_last k version n valid two;
+    once = once k version n valid two;
+    last = last k version n valid two;
+  }
+  by_bait (inr one) =
+      let it : (n ≡ 0) × (first_link k ≡ 1) × (bait_value k (suc n) ≡ 1) = twins k version n valid one in
+      subst (λ (m : ℕ). IsValid (baiting k version (suc m)) → bait_value k (suc m) ≡ 1
+      → CompletesLastAlone k (suc m) (baiting k version (suc m))) (sym it.0)
+      (λ valid last. twins_alone k version valid it.1 last) valid it.2

@@ -1,5 +1,6 @@
 -- At ratio one each link is twice the one before it and one, and the schedule is worth almost four times the last.
 use Rattle.std.proofs.Common.{◌≡◌, ℕ, zero, suc, ◌+◌, ◌-◌, ◌*◌, ◌/◌, ◌^◌, ◌≤◌, ◌<◌, [], ◌∷◌, sym, ap, ◌∙◌, subst, arith}
+use Rattle.std.specs.Prelude.{None}
 use Rattle.std.specs.List.{sum}
 use Rattle.std.proofs.lemmas.List.Sums.{sum_by-cons}
 use Rattle.std.proofs.Math.Nat.{pow-succ', div_self, mul-div_cancel_left}
@@ -44,7 +45,7 @@ add power more w next m all rest twice is sums whole =
       level : (a b c : ℕ) → rest + m + 1 + next + 1 ≡ 2 * a → a ≡ 2 * b → c ≡ 2 * b → all + suc m + 1 + w + 1 ≡ 2 * c
       level a b c row one two = omega (arith, is, sums)
 
-module _ (k : Fraction) (ratio : IsRatio k) (one : k.p ≡ k.q) where
+module _ (k : Fraction) (ratio : IsRatio k) (plain : k.factor ≡ None) (one : k.p ≡ k.q) where
   unit_one : unit_value k ≡ 1
   unit_one = ap (λ p. p / k.q) one ∙ div_self (omega (arith, (ratio_limits ratio).least))
 
@@ -63,8 +64,9 @@ module _ (k : Fraction) (ratio : IsRatio k) (one : k.p ≡ k.q) where
       never less = omega arith
 
   light_double : (w : ℕ) → w ≤ 1_000_000 → most_light k w ≡ w + w
-  light_double w small = one_greatest (is_light k w) (most_light k w) (w + w) (light_is k w ratio small)
-      (root_is k w w ratio (subst (λ n. w * w ≤ n) (sym under) (omega arith))
+  light_double w small = one_greatest (is_light k w) (most_light k w) (w + w)
+      (light_is k w ratio (omega (arith, small)))
+      (root_is k w w ratio plain (subst (λ n. w * w ≤ n) (sym under) (omega arith))
       (λ r less. square_order r w (subst (λ n. r * r ≤ n) under less)))
     where
       under : k.p * (w * w) / k.q ≡ w * w

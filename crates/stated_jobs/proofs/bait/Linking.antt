@@ -1,15 +1,16 @@
 -- Each value of a chain is the least that takes the processor from the one before it.
-use Rattle.std.proofs.Common.{◌≡◌, ℕ, zero, suc, ◌+◌, ◌≤◌, ◌<◌, List, [], ◌∷◌, ◌++◌, subst, arith}
+use Rattle.std.proofs.Common.{◌≡◌, ℕ, zero, suc, ◌+◌, ◌*◌, ◌/◌, ◌≤◌, ◌<◌, refl, List, [], ◌∷◌, ◌++◌, subst, arith}
 use Rattle.std.specs.List.{sum}
 use Rattle.std.proofs.lemmas.List.Sums.{sum_by-cons}
 use Rattle.dover_model.specs.declared.events.Version.TheVariants.{Two}
 use Rattle.dover_model.specs.Limits.{most_jobs}
-use Rattle.dover_model.specs.Fraction.{Fraction, IsRatio}
+use Rattle.dover_model.specs.Fraction.{Fraction, IsRatio, with_factor}
 use Rattle.dover_model.specs.Bait.{unit_value, first_link, most_light, chain_from, chain, last_link, bait_value}
 use Rattle.stated_jobs.specs.bait.Baiting.{FitsLimits}
 use Rattle.stated_jobs.specs.bait.Links.{IsLeastUnmoved, IsLeastHeavy, IsMostLight}
 use Rattle.stated_jobs.proofs.bait.Feeds.{small, unit_low, unit_some}
-use Rattle.stated_jobs.proofs.bait.Heavy.{first_unmoved, next_is_heavy, most_is_light}
+use Rattle.stated_jobs.proofs.bait.Heavy.{first_unmoved, next_is_heavy, most_is_light, is_light, light_is, factor_is}
+use Rattle.root_compare.proofs.Roots.{one_greatest}
 use Rattle.stated_jobs.proofs.bait.Validity.{last_link_within}
 
 -- the heads and the tails of equal lists
@@ -30,9 +31,9 @@ first_least k (suc rounds) w rest ratio is =
       low v small = omega arith
 
 -- of a small chain the first value is small, and so is the rest
-part_small : (w : ℕ) (ws : List ℕ) → sum (w ∷ ws) < most_jobs Two → (w ≤ 1_000_000) × (sum ws < most_jobs Two)
+part_small : (w : ℕ) (ws : List ℕ) → sum (w ∷ ws) < most_jobs Two → (w ≤ 1_000_000_000) × (sum ws < most_jobs Two)
 part_small w ws few = level w (sum ws) (sum (w ∷ ws)) (sum_by-cons (λ x. x) w ws) few where
-  level : (w rest all : ℕ) → all ≡ w + rest → all < most_jobs Two → (w ≤ 1_000_000) × (rest < most_jobs Two)
+  level : (w rest all : ℕ) → all ≡ w + rest → all < most_jobs Two → (w ≤ 1_000_000_000) × (rest < most_jobs Two)
   level w rest all is few = (omega arith, omega arith)
 
 -- a value and the one before it
@@ -61,5 +62,13 @@ pub bait_most : (k : Fraction) (rounds : ℕ) → IsRatio k → 1 ≤ rounds →
 bait_most k rounds ratio some fits =
     most_is_light k (last_link k rounds) ratio
     (low (last_link k rounds) (sum (chain k rounds)) (last_link_within k rounds some).1 (small k rounds fits)) where
-      low : (last all : ℕ) → last ≤ all → all < most_jobs Two → last ≤ 1_000_000
+      low : (last all : ℕ) → last ≤ all → all < most_jobs Two → last ≤ 1_000_000_000
       low last all within few = omega arith
+
+-- by a factor
+pub light_by_factor : (k : Fraction) (b c w : ℕ) → IsRatio (with_factor k b c) → w ≤ 1_000_000
+    → most_light (with_factor k b c) w ≡ b * w / c
+light_by_factor k b c w ratio small =
+    one_greatest (is_light (with_factor k b c) w) (most_light (with_factor k b c) w) (b * w / c)
+    (light_is (with_factor k b c) w ratio (omega (arith, small)))
+    (factor_is (with_factor k b c) (record { b = b; c = c }) w ratio refl)

@@ -112,7 +112,7 @@ work_low r w low = omega arith
 pub release_fits : (r w : ℕ) → r + w < 1_000_000 → Fits w64 (r + (w - 1))
 release_fits r w low = omega (arith, low)
 
-pub work_fits : (r w light : ℕ) → r + w < 1_000_000 → light ≤ 1_001 * w → Fits w64 (light + 1)
+pub work_fits : (r w light : ℕ) → r + w < 1_000_000 → light ≤ 1_000_000 * w → Fits w64 (light + 1)
 work_fits r w light low most = omega (arith, low, most)
 
 -- ---- the job of a tick

@@ -1,11 +1,11 @@
 -- A run of a chain of links, each taking from the one before it: what every state keeps, and what is done at the end.
 use Rattle.std.proofs.Common.{◌≡◌, ℕ, ◌+◌, ◌≤◌, ◌<◌, ◌⊎◌, inl, inr, List, [], ◌∷◌, map, refl, sym, ap, ◌∙◌, subst, Bool}
 use Rattle.std.proofs.Common.{true, false, cond}
-use Rattle.std.proofs.Common.{arith, eqb, ◌-◌, ◌*◌}
+use Rattle.std.proofs.Common.{arith, eqb}
 use Rattle.std.specs.List.{sum_by, filter, list_all}
 use Rattle.std.specs.Prelude.{nat_lt, ◌&&◌}
 use Rattle.std.specs.Bool.{then_some}
-use Rattle.std.proofs.lemmas.Bool.{eqb-true, eq-eqb, ne_eqb, cases_lt, ltb-true, ltb-false, and_parts}
+use Rattle.std.proofs.lemmas.Bool.{eqb-true, eq-eqb, ne_eqb, cases_lt, ltb-false}
 use Rattle.dover_model.specs.JobFacts.{JobFacts}
 use Rattle.dover_model.specs.Fraction.{Fraction}
 use Rattle.dover_model.specs.Instance.{Rules}
@@ -28,6 +28,7 @@ use Rattle.dover_model.proofs.Moves.{says}
 use Rattle.dover_model.proofs.Ticking.{Quiet}
 use Rattle.dover_model.proofs.Deeds.{Deed, Completed, Resumed, Started, Began, Preempted, Stayed, Arrived, Taken}
 use Rattle.dover_model.proofs.Deeds.{Abandoned, Rested}
+use Rattle.dover_model.proofs.Calculus.{heavy_more}
 use Rattle.dover_model.proofs.Kept.{end_same}
 use Rattle.dover_model.proofs.Tests.{never}
 use Rattle.dover_model.proofs.Moves.{displaced_rests}
@@ -49,8 +50,8 @@ abbrev pub IsLast : ℕ → (JobFacts → Type 0) → JobFacts → Type 0
 IsLast most Link j = Link j × (j.value ≡ most)
 
 -- What the jobs have to have: each is a link or light. No job has slack. A link of more value is heavy against one of
--- less. The light ones
--- are light against the links that they meet. Each link but those of most value is followed one tick before it is due.
+-- less. The light ones are light against the links that they meet. Each link but those of most value is followed one
+-- tick before it is due. The last is due at its own tick.
 pub record IsChained (k : Fraction) (jobs : List JobFacts) (most : ℕ) (Link Light : JobFacts → Type 0) : Type 0 where
   pub kinds : Each (λ j. Link j ⊎ Light j) jobs
   pub tight : Each (λ j. j.deadline ≡ j.release + j.work) jobs
@@ -64,9 +65,10 @@ pub record IsChained (k : Fraction) (jobs : List JobFacts) (most : ℕ) (Link Li
   pub late : (a : JobFacts) → IsLast most Link a → Each (λ j. j.release < a.deadline) jobs
   pub due : (a b : JobFacts) → IsLast most Link a → Link b → b.deadline ≤ a.deadline
   pub first : (j : JobFacts) × (rest : List JobFacts) × (jobs ≡ j ∷ rest) × Link j
-  pub even : (a : JobFacts) → Link a → a.value ≡ a.work
-  pub known : Each (λ j. j.work ≡ most → Link j) jobs
-  pub one : sum_by (λ j. cond (eqb j.work most) j.value 0) jobs ≡ most
+  pub due_last : ℕ
+  pub ends : (a : JobFacts) → IsLast most Link a → a.deadline ≡ due_last
+  pub known : Each (λ j. j.deadline ≡ due_last → IsLast most Link j) jobs
+  pub one : sum_by (λ j. cond (eqb j.deadline due_last) j.value 0) jobs ≡ most
 
 -- of a job that waits or is about to: it is at its latest start, and if it's no link it came now
 abbrev pub Pending : (JobFacts → Type 0) → (JobFacts → Type 0) → ℕ → Task → Type 0
@@ -121,10 +123,6 @@ released_now clock Held t fits follows = absurd follows
 released_now clock Running t fits follows = absurd follows
 released_now clock Done t fits follows = absurd follows
 released_now clock Gone t fits follows = absurd follows
-
--- what is heavy is more
-heavy_more : (k : Fraction) (v w : ℕ) → is_heavy k v w ≡ true → w < v
-heavy_more k v w heavy = ltb-true _ _ (and_parts (nat_lt w v) (nat_lt (k.p * w * w) (k.q * (v - w) * (v - w))) heavy).0
 
 -- the first task has the first job
 first_task : (tasks : List Task) (j : JobFacts) (rest : List JobFacts) → IsNumberedFrom 0 tasks
@@ -231,24 +229,24 @@ module _ (k : Fraction) (jobs : List JobFacts) (most : ℕ) (Link Light : JobFac
     task_of u member = member_map (λ (x : Task). x.job) s.tasks u (subst (IsMember u) (sym are) member)
 
     -- the last link counts for its value
-    counted : (t : Task) → IsMember t s.tasks → IsLast most Link t.job → cond (eqb t.job.work most) t.job.value 0 ≡ most
+    counted : (t : Task) → IsMember t s.tasks → IsLast most Link t.job
+        → cond (eqb t.job.deadline chained.due_last) t.job.value 0 ≡ most
     counted t m last = ap (λ b. cond b t.job.value 0)
-        (eq-eqb t.job.work most (let same : t.job.value ≡ t.job.work = chained.even t.job last.0 in
-        let value : t.job.value ≡ most = last.1 in omega arith)) ∙ last.1
+        (eq-eqb t.job.deadline chained.due_last (chained.ends t.job last)) ∙ last.1
 
     -- the sum over the tasks
-    one_task : sum_by (λ t. cond (eqb t.job.work most) t.job.value 0) s.tasks ≡ most
-    one_task = sym (sum_map (λ (t : Task). t.job) (λ j. cond (eqb j.work most) j.value 0) s.tasks)
-        ∙ ap (sum_by (λ j. cond (eqb j.work most) j.value 0)) are ∙ chained.one
+    one_task : sum_by (λ t. cond (eqb t.job.deadline chained.due_last) t.job.value 0) s.tasks ≡ most
+    one_task = sym (sum_map (λ (t : Task). t.job) (λ j. cond (eqb j.deadline chained.due_last) j.value 0) s.tasks)
+        ∙ ap (sum_by (λ j. cond (eqb j.deadline chained.due_last) j.value 0)) are ∙ chained.one
 
     -- there is one last link
     pub alone : (t u : Task) → IsMember t s.tasks → IsMember u s.tasks → IsLast most Link t.job → IsLast most Link u.job
         → (t.number ≡ u.number → ⊥) → ⊥
     alone t u mt mu last_t last_u apart =
         let more : sum_by (λ x. cond (eqb x.number u.number) most 0) s.tasks + most
-        ≤ sum_by (λ x. cond (eqb x.job.work most) x.job.value 0) s.tasks + 0 =
+        ≤ sum_by (λ x. cond (eqb x.job.deadline chained.due_last) x.job.value 0) s.tasks + 0 =
         sum_change (λ x. cond (eqb x.number u.number) most 0)
-        (λ x. cond (eqb x.job.work most) x.job.value 0) most 0 0 s.tasks t sound.numbered mt
+        (λ x. cond (eqb x.job.deadline chained.due_last) x.job.value 0) most 0 0 s.tasks t sound.numbered mt
         (let none : cond (eqb t.number u.number) most 0 ≡ 0 =
         ap (λ b. cond b most 0) (ne_eqb t.number u.number apart) in
         omega (arith, none, counted t mt last_t))
@@ -260,8 +258,9 @@ module _ (k : Fraction) (jobs : List JobFacts) (most : ℕ) (Link Light : JobFac
         let positive : 1 ≤ most = chained.least in
         omega (arith, one_task) where
           at_most_one : (x : Task) → IsMember x s.tasks → (b : Bool) → eqb x.number u.number ≡ b
-              → cond b most 0 ≤ cond (eqb x.job.work most) x.job.value 0
-          at_most_one x mx true same = subst (λ (y : Task). most ≤ cond (eqb y.job.work most) y.job.value 0)
+              → cond b most 0 ≤ cond (eqb x.job.deadline chained.due_last) x.job.value 0
+          at_most_one x mx true same = subst
+              (λ (y : Task). most ≤ cond (eqb y.job.deadline chained.due_last) y.job.value 0)
               (sym (one_number 0 s.tasks sound.numbered x u mx mu (eqb-true _ _ same)))
               (omega (arith, counted u mu last_u))
           at_most_one x mx false differs = omega arith
@@ -603,18 +602,19 @@ module _ (k : Fraction) (jobs : List JobFacts) (most : ℕ) (Link Light : JobFac
       -- where all jobs are over, those that are done are worth the last link
       pub value_of_steady : Each (λ t. is_over t ≡ true) s.tasks → value_sum (filter is_done s.tasks) ≡ most
       value_of_steady over = sum_filter is_done (λ t. t.job.value) s.tasks
-          ∙ sum_same (λ t. cond (is_done t) t.job.value 0) (λ t. cond (eqb t.job.work most) t.job.value 0) s.tasks
+          ∙ sum_same (λ t. cond (is_done t) t.job.value 0)
+          (λ t. cond (eqb t.job.deadline chained.due_last) t.job.value 0) s.tasks
           (λ t m. by_role t m (is_over_role t (over t m))) ∙ one_task where
-            by_work : (t : Task) → IsMember t s.tasks → t.role ≡ Gone → (b : Bool) → eqb t.job.work most ≡ b
-                → cond b t.job.value 0 ≡ 0
-            by_work t m gone true same = absurd (
-                let link : Link t.job = of_task (λ j. j.work ≡ most → Link j) chained.known t m (eqb-true _ _ same) in
-                stands_as t m Gone gone (link, chained.even t.job link ∙ eqb-true _ _ same))
-            by_work t m gone false differs = refl
+            by_due : (t : Task) → IsMember t s.tasks → t.role ≡ Gone → (b : Bool)
+                → eqb t.job.deadline chained.due_last ≡ b → cond b t.job.value 0 ≡ 0
+            by_due t m gone true same = absurd (stands_as t m Gone gone
+                (of_task (λ j. j.deadline ≡ chained.due_last → IsLast most Link j) chained.known t m
+                (eqb-true _ _ same)))
+            by_due t m gone false differs = refl
 
             by_role : (t : Task) → IsMember t s.tasks → (t.role ≡ Done) ⊎ (t.role ≡ Gone)
-                → cond (is_done t) t.job.value 0 ≡ cond (eqb t.job.work most) t.job.value 0
+                → cond (is_done t) t.job.value 0 ≡ cond (eqb t.job.deadline chained.due_last) t.job.value 0
             by_role t m (inl done) = let last : IsLast most Link t.job = stands_as t m Done done in
                 ap (λ b. cond b t.job.value 0) (passes is_done t Done true done refl) ∙ last.1 ∙ sym (counted t m last)
             by_role t m (inr gone) = ap (λ b. cond b t.job.value 0) (passes is_done t Gone false gone refl)
-                ∙ sym (by_work t m gone (eqb t.job.work most) refl)
+                ∙ sym (by_due t m gone (eqb t.job.deadline chained.due_last) refl)

@@ -46,7 +46,7 @@ some_bait k rounds ratio many fits =
     let ends = last_link_within k rounds many in
     join (last_link k rounds) (sum (chain k rounds)) (bait_value k rounds) ends.0 ends.1 (small k rounds fits)
     (λ low. light_least k (last_link k rounds) ratio low) where
-      join : (last all light : ℕ) → 1 ≤ last → last ≤ all → all < most_jobs Two → (last ≤ 1_000_000 → last ≤ light)
+      join : (last all light : ℕ) → 1 ≤ last → last ≤ all → all < most_jobs Two → (last ≤ 1_000_000_000 → last ≤ light)
           → 1 ≤ light
       join last all light some low few least = omega (arith, some, least (omega (arith, low, few)))
 

@@ -2,6 +2,7 @@
 use Rattle.std.specs.Prelude.{◌≡◌, ℕ, None, Some}
 use Rattle.std.specs.List.{count_by, last_or}
 use Rattle.dover_model.specs.declared.events.Version.{Version}
+use Rattle.dover_model.specs.declared.events.Version.TheVariants.{One, Three}
 use Rattle.dover_model.specs.declared.events.Event.TheVariants.{Complete}
 use Rattle.dover_model.specs.Fraction.{Fraction}
 use Rattle.dover_model.specs.Instance.{Instance, jobs_under}
@@ -14,6 +15,14 @@ use Rattle.dover_model.specs.Sound.{Each}
 -- the jobs of a baiting feed, and the rules that it declares
 abbrev pub baiting : Fraction → Version → (rounds : ℕ) → Instance
 baiting k version rounds = jobs_under version k (bait_jobs k rounds)
+
+-- the first version in which a feed may declare the ratio: a factor is declared in version Three alone
+abbrev pub version_for : Fraction → Version
+version_for k = elim k.factor [ None ↦ One | Some f ↦ Three ]
+
+-- the baiting feed as it is declared
+abbrev pub baiting_feed : Fraction → (rounds : ℕ) → Instance
+baiting_feed k rounds = baiting k (version_for k) rounds
 
 -- the run of J completes the last job of the chain, and no other
 pub record CompletesLastAlone (k : Fraction) (rounds : ℕ) (J : Instance) : Type 0 where

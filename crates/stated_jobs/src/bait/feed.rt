@@ -112,10 +112,9 @@ impl Model for Bait {
 impl Bait {
     ghost use Rattle.std.specs.Prelude.{[], ◌++◌, IsNone, length, option_to_list, slice_get};
     ghost use Rattle.dover_model.specs.Bait.{last_link, bait_jobs, bait_plan, plan_value};
-    ghost use Rattle.dover_model.specs.declared.events.Version.TheVariants.{One};
     ghost use Rattle.dover_model.specs.Run.{completed_value};
     ghost use Rattle.dover_model.specs.Schedules.{worth};
-    ghost use Rattle.stated_jobs.specs.bait.BaitingRuns.{baiting, CompletesLastAlone};
+    ghost use Rattle.stated_jobs.specs.bait.BaitingRuns.{baiting_feed, CompletesLastAlone};
     ghost use Rattle.stated_jobs.specs.bait.Baiting.{FitsLimits};
 
     /// The feed with so many jobs in its chain, at least one. None exactly where it has more than 1,000,000 jobs or a
@@ -123,13 +122,8 @@ impl Bait {
     ///
     /// # Examples
     ///
-    /// ```
-    /// if let Some(bait) = Bait::new(k, 4) { // k is 1
-    ///     bait.jobs(); // 27
-    ///     bait.value(); // 15, which is what the rules complete
-    ///     bait.schedule_value(); // 52
-    /// }
-    /// ```
+    /// With k = 1 and 4 rounds there are 27 jobs. The rules complete 15, and the schedule that is set against them is
+    /// worth 52.
     pub fn new(k: Ratio, rounds: u32) -> Option<Bait>
         requires { 1 ≤ rounds }
         ensures fits { IsSome result ↔ FitsLimits k rounds }
@@ -192,8 +186,9 @@ impl Bait {
     /// The value that a run of the feed completes, which is that of the last job of the chain: it completes no other.
     pub fn value(&self) -> u64
         ensures last { result ≡ last_link self.now.ratio self.now.rounds }
-        ensures completed { result ≡ completed_value (baiting self.now.ratio One self.now.rounds) }
-        ensures alone { CompletesLastAlone self.now.ratio self.now.rounds (baiting self.now.ratio One self.now.rounds) }
+        ensures completed { result ≡ completed_value (baiting_feed self.now.ratio self.now.rounds) }
+        ensures alone { CompletesLastAlone self.now.ratio self.now.rounds
+            (baiting_feed self.now.ratio self.now.rounds) }
     {
         self.chain.last
     }
@@ -201,7 +196,7 @@ impl Bait {
     /// The value of the schedule that runs each unit job in its tick, and then the bait.
     pub fn schedule_value(&self) -> u64
         ensures plan { result ≡ plan_value self.now.ratio self.now.rounds }
-        ensures worth { result ≡ worth (baiting self.now.ratio One self.now.rounds)
+        ensures worth { result ≡ worth (baiting_feed self.now.ratio self.now.rounds)
             (bait_plan self.now.ratio self.now.rounds) }
     {
         unit(self.k) * self.bait_tick + self.chain.light

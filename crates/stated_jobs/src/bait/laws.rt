@@ -1,10 +1,11 @@
 //! Laws of the baiting feed, each the contract of a function that does nothing.
-ghost use Rattle.std.specs.Prelude.{◌≡◌, ◌≤◌, ◌+◌, ◌*◌, ◌^◌, ℕ, List, ◌∷◌, ◌++◌};
+ghost use Rattle.std.specs.Prelude.{◌≡◌, ◌≤◌, ◌+◌, ◌*◌, ◌/◌, ◌^◌, ℕ, List, ◌∷◌, ◌++◌, None};
 ghost use Rattle.dover_model.specs.declared.events.Version.{Version};
-ghost use Rattle.dover_model.specs.Fraction.{Fraction, IsRatio};
+ghost use Rattle.dover_model.specs.Fraction.{Fraction, IsRatio, with_factor};
 ghost use Rattle.dover_model.specs.Instance.{IsValid, jobs_under};
 ghost use Rattle.dover_model.specs.Schedules.{worth};
 ghost use Rattle.dover_model.specs.Bait.{unit_value, chain, last_link, bait_value, bait_jobs, bait_plan, plan_value};
+ghost use Rattle.dover_model.specs.Bait.{most_light};
 ghost use Rattle.stated_jobs.specs.bait.Baiting.{FitsLimits};
 ghost use Rattle.stated_jobs.specs.bait.BaitingRuns.{baiting, CompletesLastAlone};
 ghost use Rattle.stated_jobs.specs.bait.Links.{IsLeastUnmoved, IsLeastHeavy, IsMostLight};
@@ -22,17 +23,18 @@ pub fn the_plan_is_worth_its_value()
         (bait_plan k rounds) ≡ plan_value k rounds }
 {}
 
-/// At ratio one the last value of the chain is one less than a power of two, and the schedule is worth almost four
-/// times that.
+/// At ratio one and with no factor the last value of the chain is one less than a power of two, and the schedule is
+/// worth almost four times that.
 pub fn links_double_at_ratio_one()
-    ensures last { (k : Fraction) (rounds : ℕ) → IsRatio k → k.p ≡ k.q → 1 ≤ rounds → FitsLimits k rounds
-        → last_link k rounds + 1 ≡ 2 ^ rounds }
-    ensures plan { (k : Fraction) (rounds : ℕ) → IsRatio k → k.p ≡ k.q → 1 ≤ rounds → FitsLimits k rounds →
-        plan_value k rounds + 2 * rounds ≡ 4 * last_link k rounds }
+    ensures last { (k : Fraction) (rounds : ℕ) → IsRatio k → k.factor ≡ None → k.p ≡ k.q → 1 ≤ rounds →
+        FitsLimits k rounds → last_link k rounds + 1 ≡ 2 ^ rounds }
+    ensures plan { (k : Fraction) (rounds : ℕ) → IsRatio k → k.factor ≡ None → k.p ≡ k.q → 1 ≤ rounds →
+        FitsLimits k rounds → plan_value k rounds + 2 * rounds ≡ 4 * last_link k rounds }
 {}
 
 /// The first value of the chain is the least, at least 1, against which a unit job isn't heavy; each further one is the
-/// least that is heavy against the one before it; and the bait's is the greatest that isn't heavy against the last.
+/// least that is heavy against the one before it; and the bait's is the greatest that isn't heavy against the last. By
+/// a factor that is so many times the other value, rounded down.
 pub fn links_take_by_the_least_value()
     ensures first { (k : Fraction) (rounds w : ℕ) (rest : List ℕ) → IsRatio k → chain k rounds ≡ w ∷ rest
         → IsLeastUnmoved k (unit_value k) w }
@@ -40,6 +42,8 @@ pub fn links_take_by_the_least_value()
         chain k rounds ≡ before ++ w ∷ v ∷ rest → IsLeastHeavy k w v }
     ensures bait { (k : Fraction) (rounds : ℕ) → IsRatio k → 1 ≤ rounds → FitsLimits k rounds →
         IsMostLight k (last_link k rounds) (bait_value k rounds) }
+    ensures factor { (k : Fraction) (b c w : ℕ) → IsRatio (with_factor k b c) → w ≤ 1_000_000 →
+        most_light (with_factor k b c) w ≡ b * w / c }
 {}
 
 /// The run of a baiting feed completes the last job of its chain, and no other, and so is worth the last link.

@@ -1,5 +1,5 @@
 //! The values of the chain: each job of it is just heavy enough to take the processor from the one before.
-ghost use Rattle.std.specs.Prelude.{◌≡◌, ◌≤◌, ◌*◌};
+ghost use Rattle.std.specs.Prelude.{◌≡◌, ◌≤◌, ◌*◌, None};
 ghost use Rattle.dover_model.specs.Fraction.{IsRatio};
 ghost use Rattle.dover_model.specs.Bait.{unit_value, first_link, most_light};
 
@@ -36,6 +36,19 @@ pub fn light_value(k: Ratio, work: u64) -> u64
     requires { work ≤ 1_000_000 }
     ensures is { result ≡ most_light k work }
     ensures least { work ≤ result }
+    ensures most { result ≤ 1_000_000 * work }
+{
+    match k.factor() {
+        None => light_by_root(k, work),
+        Some(factor) => u64::from(factor.b) * work / u64::from(factor.c),
+    }
+}
+
+/// The same where no factor is declared.
+fn light_by_root(k: Ratio, work: u64) -> u64
+    requires plain { k.factor ≡ None }
+    requires small { work ≤ 1_000_000 }
+    ensures is { result ≡ most_light k work }
     ensures most { result ≤ 1_001 * work }
 {
     let (p, q) = (u128::from(k.p()), u128::from(k.q()));

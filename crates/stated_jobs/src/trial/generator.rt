@@ -33,15 +33,6 @@ impl Gen {
 
     /// So many jobs from a seed, within the ratio `k` of each other. The seed is below 2^31, the count at most
     /// 1,000,000.
-    ///
-    /// # Examples
-    ///
-    /// ```
-    /// let mut jobs = Gen::new(1, 2, k); // k is 1
-    /// jobs.next_job(); // release 6, work 19, deadline 28, value 19
-    /// jobs.next_job(); // release 9, work 8, deadline 17, value 8
-    /// jobs.next_job(); // None
-    /// ```
     pub fn new(seed: u32, count: u32, k: Ratio) -> Gen
         requires seed { seed < 2 ^ 31 }
         requires count { count ≤ most_jobs Two }

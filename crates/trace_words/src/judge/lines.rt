@@ -14,7 +14,7 @@ use line_text::traces::write_event;
 use line_text::{BackLine, LineBuf};
 use trace_judge::{Expected, Verdict};
 
-/// The line of an accepted trace, whose bound may have 25 digits.
+/// The line of an accepted trace, whose bound may have 28 digits.
 fn accepted_line(value: u64, bound: u128) -> BackLine
     ensures { result ≡ with_numbers (codes "accepted") (value ∷ bound ∷ []) ++ 10 ∷ [] }
 {

@@ -1,20 +1,18 @@
 use Rattle.std.proofs.Common.{[], ◌∷◌, refl}
 use Rattle.std.proofs.lemmas.Result.{IfOk-equal}
 use Rattle.run_reports.proofs.views.Joining.{joined}
-use Rattle.run_reports.proofs.views.Filling.{filled_two}
 use Rattle.run_picture.specs.Legends.{styles, legend}
 use Rattle.run_picture.specs.Frame.{front, ground, title_front, title_end, blank, page}
-use Rattle.run_picture.proofs.Lining.{parted}
 use Rattle.run_picture.proofs.frame.put_page.Goals as goal
 
 pub returns : goal.returns
 unfolding blank page
 returns c =
     let high = c.args.high in
-    let counts = c.args.totals.now.counts in
     IfOk-equal c.put_legend.result _ _ _ c.put_legend.ensures
     (joined c.args.text.now.items
-    (front high ∷ styles ∷ ground high ∷ title_front counts ∷ title_end c.args.totals.now.refused ∷ legend ∷ []) _ (
+    (front high ∷ styles ∷ ground high ∷ title_front c.args.totals.now.counts ∷ title_end c.args.totals.now.refused
+    ∷ legend ∷ []) _ (
       _,
       c.in_ok-put.ensures,
       (
@@ -22,13 +20,8 @@ returns c =
         c.in_ok-put_styles.ensures,
         (
           _,
-          refl,
-          (
-            _,
-            parted c.put_styles.new.text.items (ground high) (title_front counts) _ _
-                (filled_two _ _ (high ∷ []) _ refl) c.in_ok-put-2.ensures,
-            (_, c.in_ok-put_title_end.ensures, (_, refl, refl)),
-          ),
+          c.in_ok-put-2.ensures,
+          (_, c.in_ok-put_title_front.ensures, (_, c.in_ok-put_title_end.ensures, (_, refl, refl))),
         ),
       ),
     ))

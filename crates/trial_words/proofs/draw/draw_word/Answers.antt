@@ -1,10 +1,11 @@
 use Rattle.std.proofs.Common.{◌∷◌, [], inl, inr, refl, append-nil}
 use Rattle.dover_port.specs.Moves.Move.{Put}
-use Rattle.trial_words.specs.Drawing.{drawn_feed, text_of_lines}
+use Rattle.stated_jobs.specs.trial.Turns.{drawn_turns}
+use Rattle.trial_words.specs.Drawing.{feed_of_turns}
 use Rattle.trial_words.proofs.draw.draw_word.Goals as goal
 
 pub returns-in-Ok-clause-ends : goal.returns-in-Ok-clause-ends
-returns-in-Ok-clause-ends g c = let text = text_of_lines (drawn_feed c.args.k c.args.seed c.args.count) in
+returns-in-Ok-clause-ends g c = let text = feed_of_turns c.args.k (drawn_turns c.args.seed c.args.count c.args.k) in
     inr (Put text ∷ [], (tt, append-nil text))
 
 pub returns-in-Ok-clause-causes : goal.returns-in-Ok-clause-causes

@@ -10,7 +10,7 @@ use Rattle.dover_model.specs.Run.{printed}
 use Rattle.dover_model.specs.Spending.{CostsAtMost}
 use Rattle.dover_model.proofs.Limiting.{listable}
 use Rattle.dover_port.specs.Moves.Move.{Put}
-use Rattle.dover_port.specs.declared.status.Status.TheVariants.{Done, WriteFault, Memory}
+use Rattle.dover_port.specs.declared.status.Status.TheVariants.{Done, WriteFault}
 use Rattle.dover_port.proofs.Made.{since_none}
 use Rattle.stated_jobs.proofs.trial.Drawn.{valid}
 use Rattle.trial_words.specs.Lists.{trial_instance}
@@ -31,19 +31,12 @@ counted seed count k jobs tally ratio few is size seen = record {
   counted = subst (λ js. HasCounted tally (printed (jobs_under One k js))) is seen;
 }
 
--- a run that isn't done has no count
-no_memory : {A : Type 0} → Memory ≡ Done → A
-no_memory e = absurd (cc)
-
-no_write : {A : Type 0} → WriteFault ≡ Done → A
-no_write e = absurd (cc)
-
 pub run_list-requires-clause-valid : goal.run_list-requires-clause-valid
 run_list-requires-clause-valid g c = subst (λ js. IsValid (jobs_under One c.args.k js)) (sym c.new.ensures.jobs)
     (valid c.args.k c.p.ensures.ratio c.args.seed c.args.count One c.requires.count)
 
-pub summary-requires : goal.summary-requires
-summary-requires g c = (
+pub summary-requires-clause-run : goal.summary-requires-clause-run
+summary-requires-clause-run g c = (
   trial_instance c.args.k c.args.seed c.args.count,
   counted _ _ _ _ _ c.p.ensures.ratio c.requires.count c.new.ensures.jobs c.new.ensures.count c.in-Ok.ensures.seen,
 )
@@ -80,7 +73,8 @@ pub returns-in_default-clause-stops : goal.returns-in_default-clause-stops
 returns-in_default-clause-stops g c = λ well. well
 
 pub returns-in_default-clause-count : goal.returns-in_default-clause-count
-returns-in_default-clause-count g c = no_memory
+returns-in_default-clause-count g c =
+    subst (λ n. CostsAtMost n c.args.steps.now c.run_list.new.steps) c.new.ensures.count c.run_list.ensures.count
 
 pub returns-in_default-summary-clause-ends : goal.returns-in_default-summary-clause-ends
 returns-in_default-summary-clause-ends g c = inr ([], refl)
@@ -92,7 +86,8 @@ pub returns-in_default-summary-clause-stops : goal.returns-in_default-summary-cl
 returns-in_default-summary-clause-stops g c = λ well. well
 
 pub returns-in_default-summary-clause-count : goal.returns-in_default-summary-clause-count
-returns-in_default-summary-clause-count g c = no_memory
+returns-in_default-summary-clause-count g c =
+    subst (λ n. CostsAtMost n c.args.steps.now c.run_list.new.steps) c.new.ensures.count c.in-Ok.ensures.count
 
 pub returns-in-Ok-put_all-clause-causes : goal.returns-in-Ok-put_all-clause-causes
 returns-in-Ok-put_all-clause-causes g c = (c.in-Ok-put_all.ensures.cause.other, c.in-Ok-put_all.ensures.cause.ok)
@@ -101,7 +96,7 @@ pub returns-in-Ok-put_all-clause-stops : goal.returns-in-Ok-put_all-clause-stops
 returns-in-Ok-put_all-clause-stops g c = c.in-Ok-put_all.ensures.stops.well
 
 pub returns-in-Ok-put_all-clause-count : goal.returns-in-Ok-put_all-clause-count
-returns-in-Ok-put_all-clause-count g c = λ done.
+returns-in-Ok-put_all-clause-count g c =
     subst (λ n. CostsAtMost n c.args.steps.now c.run_list.new.steps) c.new.ensures.count c.in-Ok.ensures.count
 
 pub returns-clause-ends : goal.returns-clause-ends
@@ -114,4 +109,5 @@ pub returns-clause-stops : goal.returns-clause-stops
 returns-clause-stops g c = c.in-Err.ensures.stops.stopped
 
 pub returns-clause-count : goal.returns-clause-count
-returns-clause-count g c = no_write
+returns-clause-count g c =
+    subst (λ n. CostsAtMost n c.args.steps.now c.run_list.new.steps) c.new.ensures.count c.in-Ok.ensures.count

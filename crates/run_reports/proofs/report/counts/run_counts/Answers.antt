@@ -22,8 +22,8 @@ overflow_cast-result c = omega (
       (c.totals-totals.ensures ∙ c.requires.3) c.requires.2.listable).1,
 )
 
-pub bound-requires : goal.bound-requires
-bound-requires c = omega (
+pub long_bound-requires : goal.long_bound-requires
+long_bound-requires c = omega (
   arith,
   c.value-value.ensures,
   c.requires.4,
@@ -34,7 +34,7 @@ pub returns : goal.returns
 returns c run J of are value =
     let is : c.totals-totals.result ≡ c.args.charge.now.totals = c.totals-totals.ensures in
     counts_are c.args.k run c.totals-totals.result (jobs_released run) c.totals-totals.result.jobs
-    c.value-value.result _ c.bound.result (is ∙ are)
+    c.value-value.result _ c.long_bound.result (is ∙ are)
     (ap (λ (t : JobTotals). t.jobs) (is ∙ are) ∙ releases_count run)
     (omega (
       arith,
@@ -42,4 +42,4 @@ returns c run J of are value =
       value,
       c.value-value.ensures,
       c.from.ensures,
-    )) c.bound.ensures.is ∙ ap (counts_of c.args.k run (jobs_released run)) c.value-value.ensures
+    )) c.long_bound.ensures.is ∙ ap (counts_of c.args.k run (jobs_released run)) c.value-value.ensures

@@ -1,13 +1,22 @@
 use Rattle.std.proofs.Common.{[], ◌∷◌, refl}
 use Rattle.std.specs.Prelude.{codes}
-use Rattle.std.proofs.lemmas.Result.{IfOk-equal}
 use Rattle.run_reports.specs.views.Templates.{filled}
-use Rattle.run_reports.specs.views.Why.{tested}
+use Rattle.run_reports.specs.views.Why.{tested, by_ratios}
 use Rattle.run_reports.proofs.views.Joining.{joined}
 use Rattle.run_reports.proofs.views.story.put_goes.Goals as goal
 
 pub returns : goal.returns
-returns c = IfOk-equal c.put_tested.result _ _ _ c.put_tested.ensures
-    (joined c.args.text.now.items
-    (filled (codes "at @ it is abandoned") (c.args.at ∷ []) ∷ tested c.args.asked.now.k c.args.asked.now.value
-    c.args.worth (codes " not above") ∷ []) _ (_, c.in_ok-put.ensures, (_, refl, refl)))
+returns c =
+    let k = c.args.asked.now.k in
+    joined c.args.text.now.items
+    (filled (codes "at @ it is abandoned") (c.args.at ∷ [])
+    ∷ tested k c.args.asked.now.value c.args.worth (codes " not above")
+    ∷ by_ratios k k.factor c.args.asked.now.value c.args.worth ∷ codes "\n" ∷ []) _ (
+      _,
+      c.in_ok-put.ensures,
+      (
+        _,
+        c.in_ok-put_tested.ensures,
+        (_, c.in_ok-put_by_ratios.ensures, (_, c.in_ok-extend_from_slice.ensures.items, refl)),
+      ),
+    )

@@ -12,7 +12,7 @@ invariant-loop l = record {
   total : l.sum + sum (chain_from l.k (l.rounds - l.counter) (l.light + 1)) ≡ sum (chain l.k l.rounds);
   end : last_from l.last (chain_from l.k (l.rounds - l.counter) (l.light + 1)) ≡ last_link l.k l.rounds;
   few : l.sum < most_jobs Two;
-  low : l.light ≤ 1_001_000_000;
+  low : l.light ≤ 1_000_000_000_000;
   lights : 1 ≤ l.counter → l.light ≡ most_light l.k l.last;
   some : 1 ≤ l.counter → 1 ≤ l.light;
 }

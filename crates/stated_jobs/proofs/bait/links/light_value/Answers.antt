@@ -1,50 +1,38 @@
-use Rattle.std.proofs.Common.{◌≡◌, ◌+◌, ◌*◌, ◌/◌, ◌≤◌, subst, sym, arith}
-use Rattle.std.proofs.lemmas.Nat.{mul-le}
-use Rattle.dover_model.specs.Greatest.{IsGreatest}
-use Rattle.dover_model.proofs.JobLimits.{ratio_limits}
+use Rattle.std.proofs.Common.{◌≡◌, ◌*◌, ◌/◌, ◌≤◌, subst, sym, arith}
+use Rattle.std.specs.Prelude.{Some}
+use Rattle.dover_model.specs.Bait.{most_light}
 use Rattle.root_compare.proofs.Roots.{one_greatest}
-use Rattle.stated_jobs.proofs.bait.Heavy.{is_light, light_is, root_is, root_small}
+use Rattle.stated_jobs.proofs.bait.Heavy.{is_light, light_is, light_least, factor_is, factor_small}
 use Rattle.stated_jobs.proofs.bait.links.light_value.Goals as goal
 
--- what stands under the root
-under : (c : goal.After-isqrt)
-    → c.from-p.result * c.from-square.result / c.from-q.result ≡ c.args.k.p * (c.args.work * c.args.work) / c.args.k.q
-under c = cc
+-- the factor is that of the ratio
+declared : (c : goal.After-from-in-Some) → c.args.k.factor ≡ Some c.in-Some.factor
+declared c = cc
 
-within : (c : goal.After-isqrt)
-    → c.isqrt.result * c.isqrt.result ≤ c.args.k.p * (c.args.work * c.args.work) / c.args.k.q
-within c = subst (λ n. c.isqrt.result * c.isqrt.result ≤ n) (under c) c.isqrt.ensures.within
+-- what is given is so many times the work
+given : (c : goal.After-from-in-Some)
+    → c.in-Some.factor.b * c.args.work / c.in-Some.factor.c ≡ c.from.result * c.args.work / c.from-in-Some.result
+given c = cc
 
-found : (c : goal.After-isqrt) → IsGreatest (is_light c.args.k c.args.work) (c.args.work + c.isqrt.result)
-found c = root_is c.args.k c.args.work c.isqrt.result c.q.ensures.ratio (within c)
-    (λ r less. c.isqrt.ensures.greatest r (subst (λ n. r * r ≤ n) (sym (under c)) less))
+-- which is the greatest value that isn't heavy
+most : (c : goal.After-from-in-Some)
+    → c.from.result * c.args.work / c.from-in-Some.result ≡ most_light c.args.k c.args.work
+most c = subst (λ n. n ≡ most_light c.args.k c.args.work) (given c)
+    (one_greatest (is_light c.args.k c.args.work) _ _
+    (factor_is c.args.k c.in-Some.factor c.args.work c.factor.ensures.ratio (declared c))
+    (light_is c.args.k c.args.work c.factor.ensures.ratio (omega (arith, c.requires))))
 
-pub returns-clause-is : goal.returns-clause-is
-returns-clause-is c = one_greatest _ _ _ (found c) (light_is c.args.k c.args.work c.q.ensures.ratio c.requires)
+pub returns-in-None-clause-least : goal.returns-in-None-clause-least
+returns-in-None-clause-least c = subst (λ n. c.args.work ≤ n) (sym c.light_by_root.ensures.is)
+    (light_least c.args.k c.args.work c.factor.ensures.ratio (omega (arith, c.requires)))
 
-pub returns-clause-most : goal.returns-clause-most
-returns-clause-most c = omega (arith, root_small c.args.k c.args.work c.isqrt.result c.q.ensures.ratio (within c))
+pub returns-in-Some-clause-is : goal.returns-in-Some-clause-is
+returns-in-Some-clause-is c = most c
 
-pub overflow_mul-work : goal.overflow_mul-work
-overflow_mul-work c =
-    let square : c.args.work * c.args.work ≤ 1_000_000 * 1_000_000 =
-    mul-le c.args.work c.args.work 1_000_000 1_000_000 c.requires c.requires in
-    omega (arith, square)
+pub returns-in-Some-clause-least : goal.returns-in-Some-clause-least
+returns-in-Some-clause-least c = subst (λ n. c.args.work ≤ n) (sym (most c))
+    (light_least c.args.k c.args.work c.factor.ensures.ratio (omega (arith, c.requires)))
 
-pub overflow_mul-p : goal.overflow_mul-p
-overflow_mul-p c =
-    let square : c.args.work * c.args.work ≤ 1_000_000 * 1_000_000 =
-    mul-le c.args.work c.args.work 1_000_000 1_000_000 c.requires c.requires in
-    let product : c.from-p.result * c.from-square.result ≤ 1_000_000 * 1_000_000_000_000 =
-    mul-le c.from-p.result c.from-square.result 1_000_000 1_000_000_000_000
-    (omega (arith, c.from-p.ensures, c.p.ensures.is, (ratio_limits c.p.ensures.ratio).small_p))
-    (omega (arith, c.from-square.ensures, square)) in
-    omega (arith, product)
-
-pub overflow_cast-result : goal.overflow_cast-result
-overflow_cast-result c =
-    omega (arith, c.requires, root_small c.args.k c.args.work c.isqrt.result c.q.ensures.ratio (within c))
-
-pub overflow_add-result : goal.overflow_add-result
-overflow_add-result c =
-    omega (arith, c.requires, root_small c.args.k c.args.work c.isqrt.result c.q.ensures.ratio (within c))
+pub returns-in-Some-clause-most : goal.returns-in-Some-clause-most
+returns-in-Some-clause-most c = subst (λ n. n ≤ 1_000_000 * c.args.work) (given c)
+    (factor_small c.args.k c.in-Some.factor c.args.work c.factor.ensures.ratio (declared c))

@@ -4,10 +4,13 @@ use Rattle.trial_words.proofs.Summing.{within, told, in_template, counts_by, app
 use Rattle.trial_words.proofs.tally.Tally.summary.Goals as goal
 
 pub lost-requires : goal.lost-requires
-lost-requires c = (c.requires.0, c.args.k, c.args.jobs, c.requires.1)
+lost-requires c = (c.requires.run.0, c.args.k, c.args.jobs, c.requires.run.1)
 
 pub bound-requires : goal.bound-requires
-bound-requires c = record { completed = within c.requires.0 c.args.k c.args.jobs c.args.self.now c.requires.1 }
+bound-requires c = record {
+  completed = within c.requires.run.0 c.args.k c.args.jobs c.args.self.now c.requires.run.1;
+  plain = c.requires.plain;
+}
 
 pub returns : goal.returns
 returns c J it = appended _ _ _ c.new-text.ensures.items c.in_ok-put.ensures

@@ -1,11 +1,10 @@
 use Rattle.std.proofs.Common.{◌++◌, ◌∷◌, [], ap, ◌∙◌, refl, sym}
-use Rattle.std.specs.Prelude.{codes}
-use Rattle.dover_model.specs.Lines.{in_lines, with_numbers}
+use Rattle.dover_model.specs.Lines.{in_lines}
 use Rattle.dover_model.specs.Observed.{hads}
 use Rattle.dover_model.specs.Session.{may_finish_early}
 use Rattle.run_reports.specs.report.Counts.{counts_of, fates_lines, bound_line, jobs_released}
 use Rattle.run_reports.specs.report.Early.{early_of, lines_where}
-use Rattle.run_reports.specs.report.Lines.{row_lines}
+use Rattle.run_reports.specs.report.Lines.{ratio_line, row_lines}
 use Rattle.run_reports.proofs.report.Counting.{same_where, report_is}
 use Rattle.run_reports.proofs.report.report.Findings.of.Goals as goal
 
@@ -25,7 +24,7 @@ returns c J of three =
     let counts = counts_of c.args.k run jobs c.in_ok-charge.charge.value in
     let early = c.may_finish_early-early.result in
     let rows = in_lines (row_lines c.in_ok-charge.charge.rows) in
-    let head = in_lines (with_numbers (codes "ratio") (c.args.k.p ∷ c.args.k.q ∷ []) ∷ []) in
+    let head = in_lines (ratio_line c.args.k ∷ []) in
     ap (λ n. (((head ++ in_lines (fates_lines n)) ++ in_lines (lines_where early c.in_ok-it.it))
     ++ in_lines (bound_line n ∷ [])) ++ rows) (c.run_counts-counts.ensures run J of c.in_ok-charge.ensures.totals
     (c.in_ok-charge.ensures.value J of))

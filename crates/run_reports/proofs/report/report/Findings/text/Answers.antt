@@ -1,25 +1,19 @@
 use Rattle.std.proofs.Common.{◌++◌, ◌∷◌, [], ap, ◌∙◌}
-use Rattle.std.specs.Prelude.{codes}
-use Rattle.dover_model.specs.Lines.{in_lines, with_numbers}
+use Rattle.dover_model.specs.Lines.{in_lines}
 use Rattle.run_reports.specs.report.Counts.{fates_lines, bound_line}
 use Rattle.run_reports.specs.report.Early.{lines_where}
-use Rattle.run_reports.specs.report.Lines.{row_lines}
+use Rattle.run_reports.specs.report.Lines.{ratio_line, row_lines}
 use Rattle.run_reports.proofs.report.report.Findings.text.Goals as goal
 
 pub returns : goal.returns
 returns c =
     let found = c.args.self.now in
     c.in_ok-put_rows.ensures
-    ∙ ap (λ x. x ++ in_lines (row_lines c.rows.result.now)) (c.in_ok-put_line-2.ensures
+    ∙ ap (λ x. x ++ in_lines (row_lines c.rows.result.now)) (c.in_ok-put_wide_line.ensures
     ∙ ap (λ x. x ++ in_lines (bound_line found.counts ∷ [])) (c.in_ok-put_early.ensures
     ∙ ap (λ x. x ++ in_lines (lines_where found.early found.it)) (c.in_ok-put_fates.ensures
-    ∙ ap (λ x. x ++ in_lines (fates_lines found.counts)) (c.in_ok-put_line.ensures
-    ∙ ap (λ x. x ++ in_lines (with_numbers (codes "ratio") (c.from.result ∷ c.from-2.result ∷ []) ∷ []))
-    c.new-text.ensures.items
-    ∙ ap (λ p. in_lines (with_numbers (codes "ratio") (p ∷ c.from-2.result ∷ []) ∷ []))
-    (c.from.ensures ∙ c.p.ensures.is)
-    ∙ ap (λ q. in_lines (with_numbers (codes "ratio") (found.k.p ∷ q ∷ []) ∷ []))
-    (c.from-2.ensures ∙ c.q.ensures.is)))))
-    ∙ ap (λ rs. (((in_lines (with_numbers (codes "ratio") (found.k.p ∷ found.k.q ∷ []) ∷ [])
-    ++ in_lines (fates_lines found.counts)) ++ in_lines (lines_where found.early found.it))
-    ++ in_lines (bound_line found.counts ∷ [])) ++ in_lines (row_lines rs)) c.rows.ensures
+    ∙ ap (λ x. x ++ in_lines (fates_lines found.counts)) (c.in_ok-put_ratio.ensures
+    ∙ ap (λ x. x ++ in_lines (ratio_line found.k ∷ [])) c.new-text.ensures.items))))
+    ∙ ap (λ rs. (((in_lines (ratio_line found.k ∷ []) ++ in_lines (fates_lines found.counts))
+    ++ in_lines (lines_where found.early found.it)) ++ in_lines (bound_line found.counts ∷ []))
+    ++ in_lines (row_lines rs)) c.rows.ensures

@@ -1,8 +1,7 @@
 use Rattle.std.proofs.Common.{◌∙◌, ap, sym}
-use Rattle.dover_model.specs.declared.events.Version.TheVariants.{One}
 use Rattle.dover_model.specs.Bait.{bait_plan, plan_value}
 use Rattle.dover_model.specs.Schedules.{worth}
-use Rattle.stated_jobs.specs.bait.BaitingRuns.{baiting}
+use Rattle.stated_jobs.specs.bait.BaitingRuns.{version_for, baiting_feed}
 use Rattle.stated_jobs.proofs.bait.Plans.{plan_worth}
 use Rattle.stated_jobs.specs.bait.Baiting.{Baiting}
 use Rattle.stated_jobs.proofs.bait.Giving.{kept_plan, tick_low, product_fits, plan_fits}
@@ -21,5 +20,5 @@ returns-clause-plan c = kept_plan c.self.inside c.self.invariant c.unit.result c
 
 pub returns-clause-worth : goal.returns-clause-worth
 returns-clause-worth c = kept_plan c.self.inside c.self.invariant c.unit.result c.unit.ensures.is
-    ∙ sym (plan_worth c.self.inside.k c.self.inside.rounds One)
-    ∙ ap (λ (b : Baiting). worth (baiting b.ratio One b.rounds) (bait_plan b.ratio b.rounds)) c.self.view_is
+    ∙ sym (plan_worth c.self.inside.k c.self.inside.rounds (version_for c.self.inside.k))
+    ∙ ap (λ (b : Baiting). worth (baiting_feed b.ratio b.rounds) (bait_plan b.ratio b.rounds)) c.self.view_is
