@@ -5,3 +5,5 @@ pub mod Outside
 pub mod Near
 pub mod Inside
 pub mod NoneMet
+pub mod Filling
+pub mod Sets

@@ -1,5 +1,5 @@
 -- What the word `compare` says is what was computed.
-use Rattle.std.proofs.Common.{◌≡◌, ◌≤◌, ℕ, List, [], sym, ap, ◌∙◌, subst, codes, arith, ◌↔◌, IsTrue}
+use Rattle.std.proofs.Common.{◌≡◌, ◌≤◌, ◌<◌, ◌^◌, ℕ, List, [], sym, ap, ◌∙◌, subst, codes, arith, ◌↔◌, IsTrue}
 use Rattle.std.proofs.Common.{Bool, false}
 use Rattle.dover_model.proofs.Tests.{never}
 use Rattle.dover_model.specs.Bound.{bound}
@@ -31,8 +31,8 @@ module _ (J : Instance) (valid : IsValid J) where
   completed_low listable = omega (arith, laws.intervals_abandon J valid, listable.total)
 
   -- nor does what was computed
-  pub value_low : IsListable J → (value : ℕ) → value ≡ completed_value J → value ≤ most_total Two
-  value_low listable value is = subst (λ v. v ≤ most_total Two) (sym is) (completed_low listable)
+  pub value_short : IsListable J → (value : ℕ) → value ≡ completed_value J → value < 10 ^ 18
+  value_short listable value is = omega (arith, is, completed_low listable)
 
   -- no schedule of the jobs as the run observed them is worth more than the bound
   pub worth_low : (s : List ℕ) → worth (observed J) s ≤ bound J.rules.ratio (completed_value J)

@@ -6,10 +6,7 @@ use Rattle.std.proofs.lemmas.Bool.{ltb-true, ltb-false}
 use Rattle.std.proofs.lemmas.List.Sums.{sum_by-cons}
 use Rattle.dover_model.specs.Instance.{Instance, IsListable, IsValid, total_value}
 use Rattle.dover_model.specs.JobFacts.{JobFacts, IsJob}
-use Rattle.event_feed.specs.Listing.{listed_instance}
-use Rattle.event_feed.specs.declared.listed.Listed.{Listed}
 use Rattle.policy_lab.specs.PolicyRun.{AreTooLarge}
-use Rattle.question_words.specs.Replaying.{bare_instance}
 use Rattle.dover_model.proofs.ValidParts.{valid_parts}
 use Rattle.dover_model.proofs.JobLimits.{job_limits}
 
@@ -36,7 +33,3 @@ run_few jobs small = by_test (nat_lt 10_000 (length jobs)) refl where
   by_test : (b : Bool) → nat_lt 10_000 (length jobs) ≡ b → length jobs ≤ 10_000
   by_test true many = absurd (small (inl (ltb-true _ _ many)))
   by_test false few = ltb-false _ _ few
-
--- where none finishes early they are the same jobs
-pub bare_listable : (listed : Listed) → IsListable (listed_instance listed) → IsListable (bare_instance listed)
-bare_listable listed listable = record { count = listable.count; total = listable.total }

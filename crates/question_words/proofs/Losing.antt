@@ -21,12 +21,13 @@ use Rattle.clairvoyant.specs.overload.Stretches.{IsCosted, IsCapped, value_insid
 use Rattle.clairvoyant.specs.declared.overload.stretch.Costed.{Costed}
 use Rattle.clairvoyant.specs.declared.overload.stretch.Stretch.{Stretch}
 use Rattle.clairvoyant.proofs.overload.Inside.{value_same}
+use Rattle.clairvoyant.proofs.overload.Sets.{few_reached}
 use Rattle.clairvoyant.proofs.overload.Stretching.{earned_inside}
 use Rattle.question_words.specs.Loss.{SaysLoss, is_completed, row_of}
 use Rattle.question_words.specs.Texts.{stretch_lines}
 use Rattle.question_words.specs.declared.answer.StretchRow.{StretchRow}
 use Rattle.question_words.proofs.Lines.{four, four_same}
-use Rattle.question_words.proofs.Observations.{completed_served, observed_count, observed_total}
+use Rattle.question_words.proofs.Observations.{completed_served, observed_count, observed_jobs, observed_total}
 
 -- rows of the same jobs done are the same
 rows_same : (jobs : List JobFacts) (f g : ℕ → Bool) → ((n : ℕ) → n < length jobs → f n ≡ g n) → (xs : List Stretch)
@@ -89,6 +90,8 @@ module _ (J : Instance) (valid : IsValid J) (costed : Costed) where
                 ∙ ap (λ xs. value_outside (observed J).jobs xs + sum_by (λ (x : Stretch). x.cap) xs) none
                 ∙ (let e : total_value (observed J).jobs + 0 ≡ total_value (observed J).jobs = omega arith in e)
                 ∙ observed_total J valid;
+            reached = λ few. few_reached (observed J).jobs costed (observed_jobs J valid) it
+                (omega (arith, few, observed_count J valid));
             none_lost = λ plain none. all_value J valid
                 (subst Meets (observed_all J valid plain) (it.none.0 none J.rules));
           },

@@ -1,5 +1,5 @@
 -- What the word `loss` says of the jobs of a feed.
-use Rattle.std.specs.Prelude.{◌≡◌, ◌≤◌, ℕ, List, [], ◌∷◌, map, codes, Bool, false, ◌==◌}
+use Rattle.std.specs.Prelude.{◌≡◌, ◌≤◌, ℕ, List, [], ◌∷◌, length, map, codes, Bool, false, ◌==◌}
 use Rattle.std.specs.List.{list_any}
 use Rattle.dover_model.specs.Bound.{bound}
 use Rattle.dover_model.specs.Instance.{Instance, IsListable, total_value}
@@ -12,7 +12,7 @@ use Rattle.dover_model.specs.declared.events.Event.{Event}
 use Rattle.dover_model.specs.declared.events.Event.TheVariants.{Complete}
 use Rattle.dover_port.specs.declared.status.Status.{Status}
 use Rattle.dover_port.specs.declared.status.Status.TheVariants.{Done, Refused}
-use Rattle.clairvoyant.specs.overload.Stretches.{IsCosted, value_inside}
+use Rattle.clairvoyant.specs.overload.Stretches.{IsCosted, IsReached, value_inside}
 use Rattle.clairvoyant.specs.declared.overload.stretch.Costed.{Costed}
 use Rattle.clairvoyant.specs.declared.overload.stretch.Stretch.{Stretch}
 use Rattle.dialogue.specs.Sizes.{size_text}
@@ -50,12 +50,14 @@ loss_text J costed = in_lines (
 
 -- No schedule is worth more than the ceiling, which is the value of the jobs outside of the stretches, and their caps;
 -- all of the jobs as the run observed them. The run completes no more, nor more of a stretch than its cap. Where there
--- is no stretch the ceiling is all; and so is what the run completes, where no job finishes early.
+-- is no stretch the ceiling is all; and so is what the run completes, where no job finishes early. Where there are no
+-- more than 327,680 jobs, the cap of a stretch with few jobs inside is what some schedule of them is worth.
 pub record IsCeiling (J : Instance) (it : Costed) : Type 0 where
   pub costed : IsCosted (observed J).jobs it
   pub above : completed_value J ≤ it.cap
   pub each : Each (λ x. value_inside (observed J).jobs (is_completed J) x.from x.until ≤ x.cap) it.stretches.items
   pub all : it.stretches.items ≡ [] → it.cap ≡ total_value J.jobs
+  pub reached : length J.jobs ≤ 327_680 → Each (IsReached (observed J).jobs) it.stretches.items
   pub none_lost : J.rules.finishes ≡ [] → it.stretches.items ≡ [] → completed_value J ≡ total_value J.jobs
 
 -- Done with some stretches that show a ceiling, and Refused exactly where the jobs are more, or worth more, than those

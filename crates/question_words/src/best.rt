@@ -8,13 +8,13 @@ ghost use Rattle.question_words.specs.Best.{SaysBest};
 ghost use Rattle.question_words.specs.Texts.{text_of};
 
 use crate::answer::{Answer, Rows};
+use crate::bounding::put_bound;
 use crate::observing::observe;
 use clairvoyant::best::best;
 use dover_model::Memory;
 use dover_port::Status;
 use event_feed::Listed;
 use line_text::BackLine;
-use root_compare::bound;
 use std::alloc::Global;
 use std::sync::ledger::Ledger;
 use step_count::Steps;
@@ -47,7 +47,7 @@ pub(crate) fn answer<L: Ledger>(
         return Err(Memory);
     };
     let mut head = BackLine::new();
-    head.put_with_wide(b"\nbound", &[bound(value, ratio)]);
+    put_bound(&mut head, value, ratio);
     head.put_with_wide(b"\nvalue", &[value]);
     head.put_with_wide(b"\noptimum", &[best.value]);
     head.put_with_wide(b"jobs", &[jobs.len() as u64]);

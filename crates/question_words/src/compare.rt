@@ -8,13 +8,13 @@ ghost use Rattle.question_words.specs.Compare.{SaysCompare};
 ghost use Rattle.question_words.specs.Texts.{text_of};
 
 use crate::answer::{Answer, Rows};
+use crate::bounding::put_bound;
 use crate::observing::observe;
 use dover_model::Memory;
 use dover_port::Status;
 use event_feed::Listed;
 use line_text::BackLine;
 use policy_lab::{Dense, Edf, are_too_large, run_policy};
-use root_compare::bound;
 use std::alloc::Global;
 use std::sync::ledger::Ledger;
 use step_count::Steps;
@@ -47,7 +47,7 @@ pub(crate) fn answer<L: Ledger>(
         return Err(Memory);
     };
     let mut head = BackLine::new();
-    head.put_with_wide(b"\nbound", &[bound(dover, ratio)]);
+    put_bound(&mut head, dover, ratio);
     head.put_with_wide(b"\ndense", &[dense.value]);
     head.put_with_wide(b"\nedf", &[edf.value]);
     head.put_with_wide(b"dover", &[dover]);

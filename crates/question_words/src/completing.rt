@@ -1,6 +1,6 @@
 //! What a run completes.
-ghost use Rattle.std.specs.Prelude.{◌≡◌, ◌<◌, ℕ, [], IfOk, length, get_or, set, false, true};
-ghost use Rattle.dover_model.specs.Instance.{IsListable, IsValid};
+ghost use Rattle.std.specs.Prelude.{◌≡◌, ◌≤◌, ◌||◌, ◌==◌, ℕ, [], IfOk, OnOk, length, get_or, false};
+ghost use Rattle.dover_model.specs.Instance.{IsValid};
 ghost use Rattle.dover_model.specs.Run.{completed_value};
 ghost use Rattle.question_words.specs.Replaying.{bare_instance};
 ghost use Rattle.dover_model.specs.Spending.{CostsAtMost};
@@ -60,45 +60,50 @@ pub(crate) fn completed<L: Ledger>(
     Ok(end.value)
 }
 
-/// The most jobs of a feed of version Two.
-const MOST_JOBS: usize = 1_000_000;
-
-/// The value that the End of a run names, 0 before it, and by its number whether a job is completed.
+/// The value that the End of a run names, 0 before it, and by its number whether a job is completed, with flags up to
+/// the last that is; and whether there was no memory for one.
 #[derive(Drop)]
 pub(crate) struct Completion {
     pub(crate) value: u64,
     pub(crate) done: Vec<bool>,
-}
-
-/// So many flags, none of them set.
-fn flags(alloc: Global, count: usize) -> Result<Vec<bool>, Memory>
-    ensures size { IfOk result (λ flags. length flags.items ≡ count) }
-    ensures none { IfOk result (λ flags. (n : ℕ) → get_or flags.items n false ≡ false) }
-{
-    Ok(vec![in alloc; false; count]?)
+    pub(crate) lost: bool,
 }
 
 impl Completion {
     ghost use Rattle.question_words.specs.Watching.{HasSeen};
 
-    /// Nothing was seen yet.
-    pub(crate) fn none(alloc: Global) -> Result<Completion, Memory>
+    /// Nothing was seen yet, and there is memory for so many jobs.
+    pub(crate) fn none(alloc: Global, count: usize) -> Result<Completion, Memory>
         ensures { IfOk result (λ it. HasSeen it []) }
     {
         Ok(Completion {
             value: 0,
-            done: flags(alloc, MOST_JOBS)?,
+            done: Vec::with_capacity(alloc, count)?,
+            lost: false,
         })
     }
 }
 
-/// Notes that the job of the number is completed.
-fn note(done: &mut [bool], number: u32)
-    ensures { done.new ≡ set done.old number true }
+/// Puts flags behind, none of them set, until there are so many.
+fn lengthen(done: &mut Vec<bool>, count: usize) -> Result<(), Memory>
+    ensures enough { OnOk result (count ≤ length done.new.items) }
+    ensures same { OnOk result ((n : ℕ) → get_or done.new.items n false ≡ get_or done.old.items n false) }
 {
-    if (number as usize) < done.len() {
-        done[number as usize] = true;
+    if count <= done.len() {
+        return Ok(());
     }
+    done.resize(count, false)?;
+    Ok(())
+}
+
+/// Notes that the job of the number is completed.
+fn note(done: &mut Vec<bool>, number: u32) -> Result<(), Memory>
+    ensures { OnOk result ((n : ℕ) → get_or done.new.items n false ≡ (get_or done.old.items n false || number == n)) }
+{
+    let place = number as usize;
+    lengthen(done, place + 1)?;
+    done[place] = true;
+    Ok(())
 }
 
 impl Watcher for Completion {
@@ -108,7 +113,10 @@ impl Watcher for Completion {
 
     fn see(&mut self, event: &Event) {
         match event {
-            Event::Complete { number, .. } => note(&mut self.done, *number),
+            Event::Complete { number, .. } => match note(&mut self.done, *number) {
+                Ok(()) => {}
+                Err(_) => self.lost = true,
+            },
             Event::End { value } => self.value = *value,
             _ => {}
         }
@@ -116,7 +124,7 @@ impl Watcher for Completion {
 }
 
 /// What the run of the listed jobs completes, where none finishes early. Memory is taken for the jobs that are ready at
-/// once, and for a flag for each job.
+/// once, and for 1,000,000 flags, one for each job that a feed of version Two may have.
 ///
 /// # Errors
 ///
@@ -126,15 +134,14 @@ pub(crate) fn completed_jobs<L: Ledger>(
     listed: &Listed,
     steps: &mut Steps<L>,
 ) -> Result<Completion, Memory>
-    requires valid { IsValid (bare_instance listed.now) }
-    requires listable { IsListable (bare_instance listed.now) }
+    requires { IsValid (bare_instance listed.now) }
     ensures value { IfOk result (λ it. it.value ≡ completed_value (bare_instance listed.now)) }
-    ensures done { IfOk result (λ it. (n : ℕ) → n < length listed.now.jobs.items →
+    ensures done { IfOk result (λ it. (n : ℕ) →
         get_or it.done.items n false ≡ is_completed (bare_instance listed.now) n) }
     ensures count { CostsAtMost (length listed.now.jobs.items) steps.old steps.new }
 {
     let mut jobs = listed.jobs.as_slice();
-    let mut completion = Completion::none(alloc)?;
+    let mut completion = Completion::none(alloc, jobs.len())?;
     run_list::<&[Job], Completion, L>(
         alloc,
         listed.version,
@@ -143,5 +150,8 @@ pub(crate) fn completed_jobs<L: Ledger>(
         &mut completion,
         steps,
     )?;
+    if completion.lost {
+        return Err(Memory);
+    }
     Ok(completion)
 }

@@ -4,6 +4,7 @@
 mod answer;
 mod asking;
 mod best;
+mod bounding;
 mod compare;
 mod completing;
 mod feasible;

@@ -12,6 +12,7 @@ ghost use Rattle.question_words.specs.Loss.{SaysLoss, row_of};
 ghost use Rattle.question_words.specs.Texts.{text_of};
 
 use crate::answer::{Answer, Rows, StretchRow};
+use crate::bounding::put_bound;
 use crate::limits::is_listable;
 use crate::observing::observe_each;
 use clairvoyant::overload::{Stretch, cost_of, value_inside};
@@ -19,7 +20,6 @@ use dover_model::{Job, Memory};
 use dover_port::Status;
 use event_feed::Listed;
 use line_text::BackLine;
-use root_compare::bound;
 use std::alloc::Global;
 use std::sync::ledger::Ledger;
 use step_count::Steps;
@@ -74,7 +74,7 @@ pub(crate) fn answer<L: Ledger>(
     let costed = cost_of(alloc, &jobs, completed.value)?;
     let rows = rows(alloc, &jobs, &costed.stretches, &completed.done)?;
     let mut head = BackLine::new();
-    head.put_with_wide(b"\nbound", &[bound(completed.value, ratio)]);
+    put_bound(&mut head, completed.value, ratio);
     head.put_with_wide(b"\nceiling", &[costed.cap]);
     head.put_with_wide(b"\nvalue", &[completed.value]);
     head.put_with_wide(b"total", &[costed.total]);

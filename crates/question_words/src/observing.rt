@@ -1,5 +1,5 @@
 //! What the run of a feed completes, and its jobs as it observed them: what a completed one had stands for its work.
-ghost use Rattle.std.specs.Prelude.{◌≡◌, ◌<◌, ℕ, IfOk, length, get_or, false};
+ghost use Rattle.std.specs.Prelude.{◌≡◌, ℕ, IfOk, length, get_or, false};
 ghost use Rattle.dover_model.specs.Instance.{IsListable, IsValid};
 ghost use Rattle.dover_model.specs.Observed.{observed};
 ghost use Rattle.dover_model.specs.Run.{completed_value};
@@ -55,7 +55,7 @@ pub(crate) fn observe_each<L: Ledger>(
     requires listable { IsListable (listed_instance listed) }
     requires among { StandAmong listed.jobs.items listed.dones.items }
     ensures value { IfOk result (λ it. it.0.value ≡ completed_value (listed_instance listed)) }
-    ensures done { IfOk result (λ it. (n : ℕ) → n < length listed.jobs.items →
+    ensures done { IfOk result (λ it. (n : ℕ) →
         get_or it.0.done.items n false ≡ is_completed (listed_instance listed) n) }
     ensures jobs { IfOk result (λ it. it.1.items ≡ (observed (listed_instance listed)).jobs) }
     ensures count { CostsAtMost (length listed.jobs.items) steps.old steps.new }

@@ -1,5 +1,5 @@
 //! A feed whose jobs may finish early, served again once its end was read.
-ghost use Rattle.std.specs.Prelude.{◌≡◌, ◌≤◌, ◌<◌, ℕ, [], IfOk, OnOk, length, get_or, false};
+ghost use Rattle.std.specs.Prelude.{◌≡◌, ◌≤◌, ℕ, [], IfOk, OnOk, length, get_or, false};
 ghost use Rattle.dover_model.specs.Instance.{Instance, IsListable, IsValid, with_jobs};
 ghost use Rattle.dover_model.specs.Horizons.{no_jobs};
 ghost use Rattle.dover_model.specs.Observed.{observed};
@@ -131,14 +131,18 @@ fn record<L: Ledger>(
     Ok(run.events)
 }
 
-/// What these steps complete.
-fn completed_by(alloc: Global, run: &[PackedEvent]) -> Result<Completion, Memory>
+/// What these steps complete, of so many jobs.
+fn completed_by(alloc: Global, run: &[PackedEvent], count: usize) -> Result<Completion, Memory>
     requires { length run.now ≤ 5_000_001 }
-    ensures { IfOk result (λ it. HasSeen it run.now) }
+    ensures seen { IfOk result (λ it. HasSeen it run.now) }
+    ensures whole { IfOk result (λ it. it.lost ≡ false) }
 {
-    let mut completion = Completion::none(alloc)?;
+    let mut completion = Completion::none(alloc, count)?;
     for event in run {
         completion.see(&event.event());
+    }
+    if completion.lost {
+        return Err(Memory);
     }
     Ok(completion)
 }
@@ -185,11 +189,11 @@ fn told_by(
     requires listable { IsListable (listed_instance listed.now) }
     requires run { run.now ≡ printed (listed_instance listed.now) }
     ensures value { IfOk result (λ it. it.0.value ≡ completed_value (listed_instance listed.now)) }
-    ensures done { IfOk result (λ it. (n : ℕ) → n < length listed.now.jobs.items →
+    ensures done { IfOk result (λ it. (n : ℕ) →
         get_or it.0.done.items n false ≡ is_completed (listed_instance listed.now) n) }
     ensures jobs { IfOk result (λ it. it.1.items ≡ (observed (listed_instance listed.now)).jobs) }
 {
-    let completion = completed_by(alloc, run)?;
+    let completion = completed_by(alloc, run, listed.jobs.len())?;
     let hads = hads(alloc, &listed.jobs, run)?;
     let seen = jobs_seen(alloc, &completion.done, &hads, &listed.jobs)?;
     Ok((completion, seen))
@@ -210,7 +214,7 @@ pub(crate) fn replayed<L: Ledger>(
     requires listable { IsListable (listed_instance listed.now) }
     requires among { StandAmong listed.now.jobs.items listed.now.dones.items }
     ensures value { IfOk result (λ it. it.0.value ≡ completed_value (listed_instance listed.now)) }
-    ensures done { IfOk result (λ it. (n : ℕ) → n < length listed.now.jobs.items →
+    ensures done { IfOk result (λ it. (n : ℕ) →
         get_or it.0.done.items n false ≡ is_completed (listed_instance listed.now) n) }
     ensures jobs { IfOk result (λ it. it.1.items ≡ (observed (listed_instance listed.now)).jobs) }
     ensures count { CostsAtMost (length listed.now.jobs.items) steps.old steps.new }

@@ -1,4 +1,5 @@
 -- What one step of the search finds, from what its two branches find.
+use Rattle.dover_model.specs.Fraction.{fraction}
 use Rattle.std.proofs.Common.{◌≡◌, ℕ, suc, ◌+◌, ◌-◌, ◌≤◌, ◌<◌, ◌⊎◌, inl, inr, List, [], ◌∷◌, ◌++◌, length, drop, get_or}
 use Rattle.std.proofs.Common.{map, refl, sym, ap}
 use Rattle.std.proofs.Common.{◌∙◌, subst, arith, add-one, append_assoc, cond, eqb, leb, Bool, true, false}
@@ -69,7 +70,7 @@ good_meets all chosen good = λ rules. (
 
 -- some rules
 abbrev some_rules : Rules
-some_rules = record { ratio = record { p = 1; q = 1 }; version = One; finishes = [] }
+some_rules = record { ratio = fraction 1 1; version = One; finishes = [] }
 
 -- a set of jobs that can't all be served is not good
 pub not_good : (all : List JobFacts) (chosen : List ℕ) (jobs : List JobFacts) → jobs ≡ jobs_at all chosen

@@ -1,4 +1,5 @@
 -- Stretches, and whether all jobs can be served.
+use Rattle.dover_model.specs.Fraction.{fraction}
 use Rattle.std.proofs.Common.{◌≡◌, ℕ, ◌≤◌, ◌<◌, List, [], ◌∷◌, inl, inr, refl, ap, subst, cond}
 use Rattle.std.proofs.Common.{Bool, true, false, arith}
 use Rattle.std.specs.Prelude.{◌&&◌, ◌+◌, nat_le, IsTrue}
@@ -24,7 +25,7 @@ use Rattle.clairvoyant.specs.overload.Stretches.{IsStretch, IsWorth}
 use Rattle.dover_model.proofs.JobLimits.{job_limits}
 
 -- no job is inside a window without ticks
-empty_out : (a b : ℕ) (j : JobFacts) → IsJob j → b ≤ a → is_inside a b j ≡ false
+pub empty_out : (a b : ℕ) (j : JobFacts) → IsJob j → b ≤ a → is_inside a b j ≡ false
 empty_out a b j good less = by_test (nat_le a j.release) refl where
   by_test : (x : Bool) → nat_le a j.release ≡ x → (x && nat_le j.deadline b) ≡ false
   by_test false e = refl
@@ -52,8 +53,8 @@ pub window_shown : (jobs : List JobFacts) (answer : Feasible) (a b work : ℕ) �
 window_shown jobs answer a b work is shown = subst (λ (given : Feasible). IsAnswer jobs given) is shown
 
 -- some rules
-abbrev some_rules : Rules
-some_rules = record { ratio = record { p = 1; q = 1 }; version = One; finishes = [] }
+abbrev pub some_rules : Rules
+some_rules = record { ratio = fraction 1 1; version = One; finishes = [] }
 
 -- where there is a stretch, no schedule serves all jobs
 pub none_met : (jobs : List JobFacts) (xs : List Stretch) → Each (IsStretch jobs) xs → CanMeet jobs → xs ≡ []

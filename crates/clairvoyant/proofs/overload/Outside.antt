@@ -31,7 +31,7 @@ order_behind (x ∷ xs) y at order ended late = (
 )
 
 -- a job that is inside a window is released in it and due in it
-inside_says : (a b : ℕ) (j : JobFacts) → is_inside a b j ≡ true → (a ≤ j.release) × (j.deadline ≤ b)
+pub inside_says : (a b : ℕ) (j : JobFacts) → is_inside a b j ≡ true → (a ≤ j.release) × (j.deadline ≤ b)
 inside_says a b j inside =
     let both : (nat_le a j.release ≡ true) × (nat_le j.deadline b ≡ true) =
     and_parts (nat_le a j.release) (nat_le j.deadline b) inside in

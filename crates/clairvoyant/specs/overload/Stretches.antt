@@ -1,10 +1,11 @@
 -- Stretches of ticks, with what the jobs inside are worth at most.
-use Rattle.std.specs.Prelude.{◌≡◌, ◌↔◌, ℕ, ◌≤◌, ◌<◌, ◌+◌, ◌-◌, List, [], ◌∷◌, Bool, false, ◌||◌, ◌&&◌, cond}
+use Rattle.std.specs.Prelude.{◌≡◌, ◌↔◌, ℕ, ◌≤◌, ◌<◌, ◌+◌, ◌-◌, ◌^◌, List, [], ◌∷◌, Bool, false, ◌||◌, ◌&&◌, cond}
+use Rattle.std.specs.Prelude.{length, nat_le}
 use Rattle.std.specs.List.{filter, sum_by, enumerate_from, AllByRecursion}
 use Rattle.dover_model.specs.JobFacts.{JobFacts}
 use Rattle.dover_model.specs.Instance.{Rules, total_value}
 use Rattle.dover_model.specs.Schedules.{worth}
-use Rattle.dover_model.specs.Sound.{Each}
+use Rattle.dover_model.specs.Sound.{Each, IsMember}
 use Rattle.dover_model.specs.Windows.{is_inside, work_inside}
 use Rattle.clairvoyant.specs.feasible.Feasibility.{CanMeet}
 use Rattle.clairvoyant.specs.declared.overload.stretch.Costed.{Costed}
@@ -35,6 +36,31 @@ value_outside jobs xs = sum_by (λ j. cond (is_inside_some xs j) 0 j.value) jobs
 abbrev pub IsCapped : List JobFacts → Stretch → Type 0
 IsCapped jobs x = Caps (jobs_inside jobs x.from x.until) x.cap
 
+-- of so many jobs, at most, the best set is sought
+abbrev pub most_sought : ℕ
+most_sought = 10
+
+-- in all stretches together so many sets of jobs are looked at, at most
+abbrev pub most_sets : ℕ
+most_sets = 33_554_432
+
+-- how many sets of so many jobs are looked at
+abbrev pub sets_of : ℕ → ℕ
+sets_of count = cond (nat_le count most_sought) (2 ^ count) 0
+
+-- and of the jobs inside each of the stretches
+abbrev pub sets_in : List JobFacts → List Stretch → ℕ
+sets_in jobs xs = sum_by (λ x. sets_of (length (jobs_inside jobs x.from x.until))) xs
+
+-- where few jobs are inside, some schedule of them is worth the cap
+abbrev pub IsReached : List JobFacts → Stretch → Type 0
+IsReached jobs x =
+    length (jobs_inside jobs x.from x.until) ≤ most_sought → IsWorth (jobs_inside jobs x.from x.until) x.cap
+
+-- the window from a to b has a tick of one of the stretches
+abbrev pub MeetsSome : List Stretch → (a b : ℕ) → Type 0
+MeetsSome xs a b = (x : Stretch) × IsMember x xs × (x.from < b) × (a < x.until)
+
 -- what is known of a stretch of these jobs: they have more work in it than it has ticks
 pub record IsStretch (jobs : List JobFacts) (x : Stretch) : Type 0 where
   pub some : x.from < x.until
@@ -49,7 +75,9 @@ AreInOrder [] = Unit {0}
 AreInOrder (x ∷ xs) = AllByRecursion (λ y. x.until ≤ y.from) xs × AreInOrder xs
 
 -- The stretches are apart, and what no schedule is worth more than is the value of the jobs outside of them, and their
--- caps. There is none exactly where some schedule serves every job.
+-- caps. Each window with more work than ticks meets one, and there is none exactly where some schedule serves every
+-- job. Where the sets of few jobs are no more than may be looked at, the cap of few jobs is what some schedule is
+-- worth.
 pub record IsCosted (jobs : List JobFacts) (costed : Costed) : Type 0 where
   pub total : costed.total ≡ total_value jobs
   pub in_order : AreInOrder costed.stretches.items
@@ -57,6 +85,8 @@ pub record IsCosted (jobs : List JobFacts) (costed : Costed) : Type 0 where
   pub sum : costed.cap ≡ value_outside jobs costed.stretches.items + sum_by (λ x. x.cap) costed.stretches.items
   pub most : Caps jobs costed.cap
   pub none : (costed.stretches.items ≡ []) ↔ CanMeet jobs
+  pub meets : (a b : ℕ) → b - a < work_inside jobs a b → MeetsSome costed.stretches.items a b
+  pub few : sets_in jobs costed.stretches.items ≤ most_sets → Each (IsReached jobs) costed.stretches.items
 
 -- the value of the jobs inside that are done, by whether the job of each number is
 abbrev pub value_inside : List JobFacts → (done : ℕ → Bool) → (from until : ℕ) → ℕ

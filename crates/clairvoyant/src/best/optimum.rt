@@ -75,12 +75,8 @@ fn find(alloc: Global, jobs: &[Job]) -> Result<Best, Memory>
 /// # Examples
 ///
 /// Of a job of 10 ticks due at 14, one of 2 ticks due at 5 and one of 3 ticks due at 8, each worth its work and the
-/// last two released at 1, no schedule serves all:
-///
-/// ```
-/// let best = best(alloc, jobs)?;
-/// // best.value is 13, best.chosen is 0 and 2, and best.pieces are 0..1 of 0, 1..4 of 2 and 4..13 of 0.
-/// ```
+/// last two released at 1, no schedule serves all. The best set is 0 and 2, which are worth 13: job 0 runs at tick 0,
+/// job 2 up to tick 4, and job 0 up to tick 13.
 pub fn best(alloc: Global, jobs: &[Job]) -> Result<Best, BestFault>
     requires { IsInOrder jobs.now }
     ensures too_many { (result ≡ Err BestFault.TooMany) ↔ (20 < length jobs.now) }

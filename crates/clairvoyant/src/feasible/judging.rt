@@ -21,14 +21,7 @@ use std::alloc::Global;
 /// # Examples
 ///
 /// A job of 10 ticks due at 10, and one of 20 ticks due at 20, both released at 0, have 30 ticks of work in a window
-/// of 20:
-///
-/// ```
-/// match judge_feasible(alloc, jobs)? {
-///     Feasible::All { pieces } => {}
-///     Feasible::Window { a, b, work } => {} // 0, 20 and 30
-/// }
-/// ```
+/// of 20: `Window` with a = 0, b = 20 and work = 30.
 pub fn judge_feasible(alloc: Global, jobs: &[Job]) -> Result<Feasible, Memory>
     requires in_order { IsInOrder jobs.now }
     requires count { length jobs.now ≤ most_jobs Two }

@@ -1,5 +1,6 @@
 //! What an overload costs at most, stretch by stretch.
-ghost use Rattle.std.specs.Prelude.{◌≡◌, ◌≤◌, ◌<◌, ◌-◌, ◌&&◌, [], cond, false, get_or, length, OnOk, IfOk};
+ghost use Rattle.std.specs.Prelude.{◌≡◌, ◌≤◌, ◌<◌, ◌+◌, ◌-◌, ◌&&◌, [], cond, false, get_or, length, OnOk, IfOk};
+ghost use Rattle.std.specs.Prelude.{MatchOption};
 ghost use Rattle.dover_model.specs.Instance.{IsInOrder, total_value};
 ghost use Rattle.dover_model.specs.JobFacts.{IsJob};
 ghost use Rattle.dover_model.specs.declared.events.Version.TheVariants.{Two};
@@ -7,8 +8,9 @@ ghost use Rattle.dover_model.specs.Limits.{last_tick, most_jobs, most_value};
 ghost use Rattle.dover_model.specs.Sound.{Each};
 ghost use Rattle.dover_model.specs.Windows.{is_inside, work_inside};
 ghost use Rattle.clairvoyant.specs.feasible.Feasibility.{CanMeet};
-ghost use Rattle.clairvoyant.specs.overload.Stretches.{IsStretch, IsCosted, IsWorth, jobs_inside, value_inside};
-ghost use Rattle.clairvoyant.specs.overload.Collecting.{HasCosted, IsCut, IsNear};
+ghost use Rattle.clairvoyant.specs.overload.Stretches.{IsStretch, IsReached, IsCosted, IsWorth, jobs_inside, sets_of};
+ghost use Rattle.clairvoyant.specs.overload.Stretches.{value_inside};
+ghost use Rattle.clairvoyant.specs.overload.Collecting.{HasCosted, HasRoom, IsCut, IsFirst, IsNear};
 
 use crate::feasible::{Feasible, judge_feasible, work_inside};
 use crate::overload::caps::{MOST_SETS, cap};
@@ -54,6 +56,10 @@ fn stretch(alloc: Global, jobs: &[Job], ticks: Ticks, sets: &mut u64) -> Result<
     ensures from { IfOk result (λ x. x.from ≡ ticks.from) }
     ensures until { IfOk result (λ x. x.until ≡ ticks.until) }
     ensures stretch { IfOk result (IsStretch jobs.now) }
+    ensures reached { IfOk result (λ x. sets_of (length (jobs_inside jobs.now x.from x.until)) ≤ sets.old →
+        IsReached jobs.now x) }
+    ensures spent { IfOk result (λ x. sets.old ≤ sets.new +
+        sets_of (length (jobs_inside jobs.now x.from x.until))) }
 {
     let Ticks { from, until } = ticks;
     let inside = inside(alloc, near(jobs, from, until), from, until)?;
@@ -67,6 +73,26 @@ fn stretch(alloc: Global, jobs: &[Job], ticks: Ticks, sets: &mut u64) -> Result<
     })
 }
 
+/// The window between two ticks with more work than ticks that ends first, if there is one.
+fn overfull_between(
+    alloc: Global,
+    jobs: &[Job],
+    from: u64,
+    until: u64,
+) -> Result<Option<Ticks>, Memory>
+    requires in_order { IsInOrder jobs.now }
+    requires count { length jobs.now ≤ most_jobs Two }
+    requires each { Each IsJob jobs.now }
+    ensures { IfOk result (λ found. MatchOption found
+        (CanMeet (jobs_inside jobs.now from until)) (IsFirst jobs.now from until)) }
+{
+    let between = inside(alloc, near(jobs, from, until), from, until)?;
+    match judge_feasible(alloc, &between)? {
+        Feasible::All { .. } => Ok(None),
+        Feasible::Window { a, b, .. } => Ok(Some(Ticks { from: a, until: b })),
+    }
+}
+
 /// The stretches so far, where the last ends, and how many sets of jobs may still be looked at.
 #[derive(Drop)]
 struct Costing {
@@ -76,23 +102,38 @@ struct Costing {
 }
 
 impl Costing {
-    /// Puts a stretch behind the others.
+    /// Puts a stretch behind the others. Between it and the last of them no window has more work than ticks.
     fn push(&mut self, alloc: Global, jobs: &[Job], ticks: Ticks) -> Result<(), Memory>
         requires in_order { IsInOrder jobs.now }
         requires count { length jobs.now ≤ most_jobs Two }
         requires each { Each IsJob jobs.now }
         requires costed { HasCosted jobs.now self.old }
-        requires later { self.old.at ≤ ticks.from }
-        requires some { ticks.from < ticks.until }
-        requires due { ticks.until ≤ last_tick }
-        requires overfull { ticks.until - ticks.from < work_inside jobs.now ticks.from ticks.until }
+        requires first { IsFirst jobs.now self.old.at last_tick ticks }
         ensures costed { OnOk result (HasCosted jobs.now self.new) }
-        ensures some { OnOk result (self.new.costed.stretches.items ≡ [] → ⊥) }
+        ensures at { OnOk result (self.new.at ≡ ticks.until) }
     {
         let x = stretch(alloc, jobs, ticks, &mut self.sets)?;
         self.costed.stretches.push(x)?;
         self.costed.cap -= x.total - x.cap;
         self.at = ticks.until;
+        Ok(())
+    }
+
+    /// Puts stretches behind the others, until no window between the last of them and a tick has more work than ticks.
+    fn fill(&mut self, alloc: Global, jobs: &[Job], until: u64) -> Result<(), Memory>
+        requires in_order { IsInOrder jobs.now }
+        requires count { length jobs.now ≤ most_jobs Two }
+        requires each { Each IsJob jobs.now }
+        requires costed { HasCosted jobs.now self.old }
+        requires ahead { self.old.at ≤ until }
+        requires low { until ≤ last_tick }
+        ensures costed { OnOk result (HasCosted jobs.now self.new) }
+        ensures ahead { OnOk result (self.new.at ≤ until) }
+        ensures met { OnOk result (CanMeet (jobs_inside jobs.now self.new.at until)) }
+    {
+        while let Some(ticks) = overfull_between(alloc, jobs, self.at, until)? {
+            self.push(alloc, jobs, ticks)?;
+        }
         Ok(())
     }
 
@@ -112,25 +153,8 @@ impl Costing {
         if work_inside(near(jobs, from, until), from, until) <= until - from {
             return Ok(());
         }
+        self.fill(alloc, jobs, from)?;
         self.push(alloc, jobs, ticks)
-    }
-
-    /// Makes sure that there is a stretch where the jobs can't all be served.
-    fn complete(&mut self, alloc: Global, jobs: &[Job]) -> Result<(), Memory>
-        requires in_order { IsInOrder jobs.now }
-        requires count { length jobs.now ≤ most_jobs Two }
-        requires each { Each IsJob jobs.now }
-        requires costed { HasCosted jobs.now self.old }
-        ensures costed { OnOk result (HasCosted jobs.now self.new) }
-        ensures met { OnOk result (self.new.costed.stretches.items ≡ [] → CanMeet jobs.now) }
-    {
-        if !self.costed.stretches.is_empty() {
-            return Ok(());
-        }
-        match judge_feasible(alloc, jobs)? {
-            Feasible::All { .. } => Ok(()),
-            Feasible::Window { a, b, .. } => self.push(alloc, jobs, Ticks { from: a, until: b }),
-        }
     }
 
     /// Finds the stretches, where some schedule of the jobs has this value. Where that is all, there is none.
@@ -142,6 +166,7 @@ impl Costing {
         requires value { IsWorth jobs.now value }
         ensures costed { OnOk result (HasCosted jobs.now self.new) }
         ensures met { OnOk result (self.new.costed.stretches.items ≡ [] → CanMeet jobs.now) }
+        ensures room { OnOk result (HasRoom jobs.now self.new.at) }
     {
         if self.costed.total <= value {
             return Ok(());
@@ -149,7 +174,8 @@ impl Costing {
         for ticks in overfull(alloc, jobs)?.iter() {
             self.add(alloc, jobs, *ticks)?;
         }
-        self.complete(alloc, jobs)
+        self.fill(alloc, jobs, LAST_TICK)?;
+        Ok(())
     }
 }
 

@@ -1,13 +1,14 @@
-//! That prices are a certificate, as the contract of a function that does nothing.
-ghost use Rattle.std.specs.Prelude.{◌*◌, ◌+◌, ◌-◌, ◌≤◌, ℕ, List, get_or};
+//! That prices are a certificate, and caps of few jobs are reached, each the contract of a function that does nothing.
+ghost use Rattle.std.specs.Prelude.{◌*◌, ◌+◌, ◌-◌, ◌≤◌, ℕ, List, get_or, length};
 ghost use Rattle.std.specs.List.{sum_by, enumerate_from};
 ghost use Rattle.dover_model.specs.Instance.{Rules};
 ghost use Rattle.dover_model.specs.Schedules.{worth};
 ghost use Rattle.dover_model.specs.Sound.{Each};
-ghost use Rattle.dover_model.specs.JobFacts.{JobFacts};
+ghost use Rattle.dover_model.specs.JobFacts.{JobFacts, IsJob};
+ghost use Rattle.clairvoyant.specs.declared.overload.stretch.Costed.{Costed};
 ghost use Rattle.clairvoyant.specs.declared.overload.stretch.Stretch.{Stretch};
 ghost use Rattle.clairvoyant.specs.overload.Pricing.{PaysAtMost, IsRaised};
-ghost use Rattle.clairvoyant.specs.overload.Stretches.{Caps, IsCapped, value_outside};
+ghost use Rattle.clairvoyant.specs.overload.Stretches.{Caps, IsCapped, IsCosted, IsReached, value_outside};
 
 /// Where the prices of the jobs inside a window rise, schedules pay for the work of the jobs that they serve at most as
 /// much more as all ticks of the window cost at what is added.
@@ -28,4 +29,11 @@ pub fn prices_cap_schedules()
 pub fn capped_stretches_cap_all()
     ensures { (jobs : List JobFacts) (xs : List Stretch) → Each (IsCapped jobs) xs →
         Caps jobs (value_outside jobs xs + sum_by (λ x. x.cap) xs) }
+{}
+
+/// Of so many jobs, at most, some schedule of the jobs inside a stretch is worth its cap, where few are inside: their
+/// sets are then few enough, whatever the stretches are.
+pub fn caps_of_few_jobs_are_reached()
+    ensures { (jobs : List JobFacts) (costed : Costed) → Each IsJob jobs → IsCosted jobs costed →
+        length jobs ≤ 327_680 → Each (IsReached jobs) costed.stretches.items }
 {}

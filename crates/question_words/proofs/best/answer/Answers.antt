@@ -1,10 +1,11 @@
-use Rattle.std.proofs.Common.{◌≡◌, ◌≤◌, ℕ, ◌∙◌, length, ap, sym, subst, codes, arith}
+use Rattle.std.proofs.Common.{◌≡◌, ◌≤◌, ℕ, ◌∙◌, refl, length, ap, sym, subst, codes, arith}
+use Rattle.dover_model.specs.Bound.{bound}
 use Rattle.dover_model.specs.Instance.{Instance, IsInOrder, IsListable, IsValid}
 use Rattle.dialogue.specs.Talk.{IsFinal}
 use Rattle.event_feed.specs.Listing.{listed_instance}
 use Rattle.question_words.specs.Best.{SaysBest}
 use Rattle.question_words.specs.Texts.{piece_lines, text_of}
-use Rattle.question_words.proofs.Comparing.{value_low}
+use Rattle.question_words.proofs.Comparing.{value_short}
 use Rattle.question_words.proofs.Finding.{found}
 use Rattle.question_words.proofs.Limited.{few_listable}
 use Rattle.question_words.proofs.Lines.{four_written}
@@ -23,12 +24,10 @@ pub best-requires : goal.best-requires
 best-requires g c = subst IsInOrder (sym (c.deref.ensures.value ∙ c.in_ok-value.ensures.jobs))
     (observed_in_order (listed_instance c.args.listed) c.requires.valid)
 
-pub bound-requires : goal.bound-requires
-bound-requires g c = record {
-  completed = value_low (listed_instance c.args.listed) c.requires.valid
-      (few (listed_instance c.args.listed) c.requires.valid c.len.result
-      (omega arith) (omega (arith, c.len.ensures, c.args.listed.jobs.ok.0))) _ c.in_ok-value.ensures.value;
-}
+pub put_bound-requires-clause-value : goal.put_bound-requires-clause-value
+put_bound-requires-clause-value g c = value_short (listed_instance c.args.listed) c.requires.valid
+    (few (listed_instance c.args.listed) c.requires.valid c.len.result
+    (omega arith) (omega (arith, c.len.ensures, c.args.listed.jobs.ok.0))) _ c.in_ok-value.ensures.value
 
 pub returns-clause-says : goal.returns-clause-says
 returns-clause-says g c =
@@ -43,40 +42,41 @@ returns-clause-says g c =
       observed_count J c.requires.valid,
     ) in
     found J c.requires.valid c.deref.result.now (c.deref.ensures.value ∙ c.in_ok-value.ensures.jobs) best.chosen.items
-    c.len-2.result best.value c.in_ok-value.value c.bound.result best.pieces.items
+    c.len-2.result best.value c.in_ok-value.value (bound J.rules.ratio c.in_ok-value.value) best.pieces.items
     (record {
       best = c.in-Ok.ensures.chosen;
       value = c.in-Ok.ensures.value;
       are = c.in-Ok.ensures.pieces;
       earned = c.in-Ok.ensures.worth;
       most = c.in-Ok.ensures.most;
-    }) count c.in_ok-value.ensures.value c.bound.ensures.is
+    }) count c.in_ok-value.ensures.value refl
     (λ many. absurd (omega (arith, many, c.len.ensures, c.args.listed.jobs.ok.0))) _
     (four_written (codes "jobs") (codes "optimum") (codes "value") (codes "bound") c.len-2.result best.value
-    c.in_ok-value.value c.bound.result (piece_lines best.pieces.items) c.new-head.result c.put_with_wide.new.self
-    c.put_with_wide-2.new.self c.put_with_wide-3.new.self c.put_with_wide-4.new.self c.new-head.ensures
-    c.put_with_wide.ensures.is c.put_with_wide-2.ensures.is c.put_with_wide-3.ensures.is c.put_with_wide-4.ensures.is)
+    c.in_ok-value.value (bound J.rules.ratio c.in_ok-value.value) (piece_lines best.pieces.items) c.new-head.result
+    c.put_bound.new.head c.put_with_wide.new.self c.put_with_wide-2.new.self c.put_with_wide-3.new.self
+    c.new-head.ensures c.put_bound.ensures.is c.put_with_wide.ensures.is c.put_with_wide-2.ensures.is
+    c.put_with_wide-3.ensures.is)
+
+pub put_bound-requires-clause-fits : goal.put_bound-requires-clause-fits
+put_bound-requires-clause-fits g c = omega (arith, ap length c.new-head.ensures)
 
 pub put_with_wide-requires : goal.put_with_wide-requires
-put_with_wide-requires g c = omega (arith, ap length c.new-head.ensures)
+put_with_wide-requires g c = omega (arith, c.put_bound.ensures.size, ap length c.new-head.ensures)
 
 pub put_with_wide-requires-2 : goal.put_with_wide-requires-2
-put_with_wide-requires-2 g c = omega (arith, c.put_with_wide.ensures.size, ap length c.new-head.ensures)
+put_with_wide-requires-2 g c = omega (
+  arith,
+  c.put_bound.ensures.size,
+  c.put_with_wide.ensures.size,
+  ap length c.new-head.ensures,
+)
 
 pub put_with_wide-requires-3 : goal.put_with_wide-requires-3
 put_with_wide-requires-3 g c = omega (
   arith,
+  c.put_bound.ensures.size,
   c.put_with_wide.ensures.size,
   c.put_with_wide-2.ensures.size,
-  ap length c.new-head.ensures,
-)
-
-pub put_with_wide-requires-4 : goal.put_with_wide-requires-4
-put_with_wide-requires-4 g c = omega (
-  arith,
-  c.put_with_wide.ensures.size,
-  c.put_with_wide-2.ensures.size,
-  c.put_with_wide-3.ensures.size,
   ap length c.new-head.ensures,
 )
 

@@ -1,4 +1,5 @@
-use Rattle.std.proofs.Common.{◌≤◌, ◌++◌, ◌∙◌, [], length, sym, ap, subst, codes, arith}
+use Rattle.std.proofs.Common.{◌≤◌, ◌++◌, ◌∙◌, refl, [], length, sym, ap, subst, codes, arith}
+use Rattle.dover_model.specs.Bound.{bound}
 use Rattle.dover_model.specs.Instance.{Instance, IsInOrder, IsListable, IsValid, total_value}
 use Rattle.dover_model.specs.declared.events.Version.TheVariants.{Two}
 use Rattle.dover_model.specs.Limits.{most_total}
@@ -10,7 +11,7 @@ use Rattle.policy_lab.specs.PolicyRun.{policy_run, AreTooLarge}
 use Rattle.policy_lab.specs.Standard.{greatest_density}
 use Rattle.question_words.specs.Compare.{SaysCompare}
 use Rattle.question_words.specs.Texts.{piece_lines, text_of}
-use Rattle.question_words.proofs.Comparing.{value_low, compared, not_large}
+use Rattle.question_words.proofs.Comparing.{value_short, compared, not_large}
 use Rattle.question_words.proofs.Limited.{few_listable, run_few}
 use Rattle.question_words.proofs.Lines.{four_written}
 use Rattle.question_words.proofs.Observations.{observed_in_order, observed_total}
@@ -49,54 +50,52 @@ run_policy-requires-2-clause-total g c =
     (not_large c.deref.result.now c.args.listed.jobs.items c.deref.ensures.value c.are_too_large.result
     c.are_too_large.ensures c.if-are_too_large.false)).total)
 
-pub bound-requires : goal.bound-requires
-bound-requires g c = record {
-  completed = value_low (listed_instance c.args.listed) c.requires.valid
-      (few (listed_instance c.args.listed) c.requires.valid
-      (not_large c.deref.result.now c.args.listed.jobs.items c.deref.ensures.value c.are_too_large.result
-      c.are_too_large.ensures c.if-are_too_large.false)) _
-      c.in_ok-dover.ensures.value;
-}
+pub put_bound-requires-clause-value : goal.put_bound-requires-clause-value
+put_bound-requires-clause-value g c = value_short (listed_instance c.args.listed) c.requires.valid
+    (few (listed_instance c.args.listed) c.requires.valid
+    (not_large c.deref.result.now c.args.listed.jobs.items c.deref.ensures.value c.are_too_large.result
+    c.are_too_large.ensures c.if-are_too_large.false)) _
+    c.in_ok-dover.ensures.value
 
 pub returns-clause-says : goal.returns-clause-says
 returns-clause-says g c =
     let J = listed_instance c.args.listed in
     compared J c.requires.valid c.deref-2.result.now (c.deref-2.ensures.value ∙ c.in_ok-dover.ensures.jobs)
-    c.in_ok-dover.dover c.in-Ok.edf.value c.in-Ok-run_policy.dense.value c.bound.result c.in_ok-dover.ensures.value
-    (c.in-Ok.ensures.value J.rules)
+    c.in_ok-dover.dover c.in-Ok.edf.value c.in-Ok-run_policy.dense.value (bound J.rules.ratio c.in_ok-dover.dover)
+    c.in_ok-dover.ensures.value (c.in-Ok.ensures.value J.rules)
     (c.in-Ok-run_policy.ensures.value J.rules
     ∙ ap (λ js. worth (record { rules = J.rules; jobs = js }) (policy_run greatest_density js))
     (c.deref-3.ensures.value ∙ sym c.deref-2.ensures.value))
-    c.bound.ensures.is
+    refl
     (not_large c.deref.result.now c.args.listed.jobs.items c.deref.ensures.value c.are_too_large.result
     c.are_too_large.ensures c.if-are_too_large.false)
     _
-    (ap (λ ps. c.put_with_wide-4.new.self ++ in_lines (piece_lines ps)) c.new.ensures.items
+    (ap (λ ps. c.put_with_wide-3.new.self ++ in_lines (piece_lines ps)) c.new.ensures.items
     ∙ four_written (codes "dover") (codes "edf") (codes "dense") (codes "bound") c.in_ok-dover.dover c.in-Ok.edf.value
-    c.in-Ok-run_policy.dense.value c.bound.result [] c.new-head.result c.put_with_wide.new.self
-    c.put_with_wide-2.new.self c.put_with_wide-3.new.self c.put_with_wide-4.new.self c.new-head.ensures
-    c.put_with_wide.ensures.is c.put_with_wide-2.ensures.is c.put_with_wide-3.ensures.is c.put_with_wide-4.ensures.is)
+    c.in-Ok-run_policy.dense.value (bound J.rules.ratio c.in_ok-dover.dover) [] c.new-head.result c.put_bound.new.head
+    c.put_with_wide.new.self c.put_with_wide-2.new.self c.put_with_wide-3.new.self c.new-head.ensures
+    c.put_bound.ensures.is c.put_with_wide.ensures.is c.put_with_wide-2.ensures.is c.put_with_wide-3.ensures.is)
+
+pub put_bound-requires-clause-fits : goal.put_bound-requires-clause-fits
+put_bound-requires-clause-fits g c = omega (arith, ap length c.new-head.ensures)
 
 pub put_with_wide-requires : goal.put_with_wide-requires
-put_with_wide-requires g c = omega (arith, ap length c.new-head.ensures)
+put_with_wide-requires g c = omega (arith, c.put_bound.ensures.size, ap length c.new-head.ensures)
 
 pub put_with_wide-requires-2 : goal.put_with_wide-requires-2
-put_with_wide-requires-2 g c = omega (arith, c.put_with_wide.ensures.size, ap length c.new-head.ensures)
+put_with_wide-requires-2 g c = omega (
+  arith,
+  c.put_bound.ensures.size,
+  c.put_with_wide.ensures.size,
+  ap length c.new-head.ensures,
+)
 
 pub put_with_wide-requires-3 : goal.put_with_wide-requires-3
 put_with_wide-requires-3 g c = omega (
   arith,
+  c.put_bound.ensures.size,
   c.put_with_wide.ensures.size,
   c.put_with_wide-2.ensures.size,
-  ap length c.new-head.ensures,
-)
-
-pub put_with_wide-requires-4 : goal.put_with_wide-requires-4
-put_with_wide-requires-4 g c = omega (
-  arith,
-  c.put_with_wide.ensures.size,
-  c.put_with_wide-2.ensures.size,
-  c.put_with_wide-3.ensures.size,
   ap length c.new-head.ensures,
 )
 

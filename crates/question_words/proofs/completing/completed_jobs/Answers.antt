@@ -1,4 +1,4 @@
-use Rattle.std.proofs.Common.{◌∙◌, ap, length, subst, arith}
+use Rattle.std.proofs.Common.{◌∙◌, ap, length, subst}
 use Rattle.dover_model.specs.Instance.{jobs_under}
 use Rattle.dover_model.specs.Run.{completed_value}
 use Rattle.dover_model.specs.Spending.{CostsAtMost}
@@ -9,8 +9,7 @@ pub run_list-requires-clause-unseen : goal.run_list-requires-clause-unseen
 run_list-requires-clause-unseen g c = c.in_ok-completion.ensures
 
 pub returns-clause-done : goal.returns-clause-done
-returns-clause-done g c = λ n low.
-    c.in_ok-run_list.ensures.seen.done n (omega (arith, low, c.requires.listable.count))
+returns-clause-done g c = λ n. c.in_ok-run_list.ensures.seen.done c.if-completion.false n
     ∙ ap (λ js. is_completed (jobs_under c.args.listed.now.version c.args.listed.now.ratio js) n)
     c.as_slice-jobs.ensures.value
 

@@ -1,4 +1,5 @@
 use Rattle.std.proofs.Common.{◌≤◌, ◌∙◌, refl, List, ap, subst, length, sym, codes, get_or, false, arith}
+use Rattle.dover_model.specs.Bound.{bound}
 use Rattle.dover_model.specs.Instance.{IsInOrder}
 use Rattle.dover_model.specs.JobFacts.{IsJob, JobFacts}
 use Rattle.dover_model.specs.declared.events.Version.TheVariants.{Two}
@@ -12,7 +13,7 @@ use Rattle.event_feed.specs.Listing.{listed_instance}
 use Rattle.clairvoyant.specs.overload.Stretches.{IsWorth}
 use Rattle.question_words.specs.Loss.{SaysLoss}
 use Rattle.question_words.specs.Texts.{stretch_lines, text_of}
-use Rattle.question_words.proofs.Comparing.{value_low}
+use Rattle.question_words.proofs.Comparing.{value_short}
 use Rattle.question_words.proofs.Lines.{four_written}
 use Rattle.question_words.proofs.Losing.{rows_said, lost}
 use Rattle.question_words.proofs.Observations.{observed_jobs, observed_in_order, observed_count}
@@ -40,11 +41,9 @@ cost_of-requires-clause-value g c =
     (sym (c.deref.ensures.value ∙ c.in_ok-completed.ensures.jobs))
     (J.rules, ran J, observed_honest J c.requires.valid ∙ sym c.in_ok-completed.ensures.value)
 
-pub bound-requires : goal.bound-requires
-bound-requires g c = record {
-  completed = value_low (listed_instance c.args.listed) c.requires.valid
-      (c.if-not-is_listable.ensures.0 refl) _ c.in_ok-completed.ensures.value;
-}
+pub put_bound-requires-clause-value : goal.put_bound-requires-clause-value
+put_bound-requires-clause-value g c = value_short (listed_instance c.args.listed) c.requires.valid
+    (c.if-not-is_listable.ensures.0 refl) _ c.in_ok-completed.ensures.value
 
 pub rows-requires-clause-in_order : goal.rows-requires-clause-in_order
 rows-requires-clause-in_order g c = subst IsInOrder (sym (c.deref-2.ensures.value ∙ c.in_ok-completed.ensures.jobs))
@@ -69,38 +68,39 @@ returns-clause-says g c =
     lost J c.requires.valid costed (c.if-not-is_listable.ensures.0 refl) c.deref.result.now
     (c.deref.ensures.value ∙ c.in_ok-completed.ensures.jobs)
     c.in_ok-costed.ensures
-    c.in_ok-completed.completed.value c.bound.result c.in_ok-completed.ensures.value c.bound.ensures.is rows
+    c.in_ok-completed.completed.value (bound J.rules.ratio c.in_ok-completed.completed.value)
+    c.in_ok-completed.ensures.value refl rows
     (rows_said J c.requires.valid costed c.deref-2.result.now
     (c.deref-2.ensures.value ∙ c.in_ok-completed.ensures.jobs) c.deref-3.result.now
     c.deref-3.ensures.value (λ n. get_or c.deref-4.result.now n false)
-    (λ n low. ap (λ flags. get_or flags n false) c.deref-4.ensures.value ∙ c.in_ok-completed.ensures.done n low)
+    (λ n low. ap (λ flags. get_or flags n false) c.deref-4.ensures.value ∙ c.in_ok-completed.ensures.done n)
     rows c.in_ok-rows.ensures) _
     (four_written (codes "total") (codes "value") (codes "ceiling") (codes "bound") costed.total
-    c.in_ok-completed.completed.value costed.cap c.bound.result (stretch_lines rows) c.new-head.result
-    c.put_with_wide.new.self c.put_with_wide-2.new.self c.put_with_wide-3.new.self c.put_with_wide-4.new.self
-    c.new-head.ensures c.put_with_wide.ensures.is c.put_with_wide-2.ensures.is c.put_with_wide-3.ensures.is
-    c.put_with_wide-4.ensures.is)
+    c.in_ok-completed.completed.value costed.cap (bound J.rules.ratio c.in_ok-completed.completed.value)
+    (stretch_lines rows) c.new-head.result c.put_bound.new.head c.put_with_wide.new.self c.put_with_wide-2.new.self
+    c.put_with_wide-3.new.self c.new-head.ensures c.put_bound.ensures.is c.put_with_wide.ensures.is
+    c.put_with_wide-2.ensures.is c.put_with_wide-3.ensures.is)
+
+pub put_bound-requires-clause-fits : goal.put_bound-requires-clause-fits
+put_bound-requires-clause-fits g c = omega (arith, ap length c.new-head.ensures)
 
 pub put_with_wide-requires : goal.put_with_wide-requires
-put_with_wide-requires g c = omega (arith, ap length c.new-head.ensures)
+put_with_wide-requires g c = omega (arith, c.put_bound.ensures.size, ap length c.new-head.ensures)
 
 pub put_with_wide-requires-2 : goal.put_with_wide-requires-2
-put_with_wide-requires-2 g c = omega (arith, c.put_with_wide.ensures.size, ap length c.new-head.ensures)
+put_with_wide-requires-2 g c = omega (
+  arith,
+  c.put_bound.ensures.size,
+  c.put_with_wide.ensures.size,
+  ap length c.new-head.ensures,
+)
 
 pub put_with_wide-requires-3 : goal.put_with_wide-requires-3
 put_with_wide-requires-3 g c = omega (
   arith,
+  c.put_bound.ensures.size,
   c.put_with_wide.ensures.size,
   c.put_with_wide-2.ensures.size,
-  ap length c.new-head.ensures,
-)
-
-pub put_with_wide-requires-4 : goal.put_with_wide-requires-4
-put_with_wide-requires-4 g c = omega (
-  arith,
-  c.put_with_wide.ensures.size,
-  c.put_with_wide-2.ensures.size,
-  c.put_with_wide-3.ensures.size,
   ap length c.new-head.ensures,
 )
 

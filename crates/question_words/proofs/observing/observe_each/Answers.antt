@@ -3,21 +3,17 @@ use Rattle.std.proofs.lemmas.List.{nil_from_length}
 use Rattle.dover_model.specs.Run.{completed_value}
 use Rattle.question_words.specs.Loss.{is_completed}
 use Rattle.question_words.proofs.Handed.{plain_is, bare_valid, plain_observed}
-use Rattle.question_words.proofs.Limited.{bare_listable}
 use Rattle.question_words.proofs.observing.observe_each.Goals as goal
 
-pub completed_jobs-requires-clause-valid : goal.completed_jobs-requires-clause-valid
-completed_jobs-requires-clause-valid g c = bare_valid c.args.listed c.requires.valid
-
-pub completed_jobs-requires-clause-listable : goal.completed_jobs-requires-clause-listable
-completed_jobs-requires-clause-listable g c = bare_listable c.args.listed c.requires.listable
+pub completed_jobs-requires : goal.completed_jobs-requires
+completed_jobs-requires g c = bare_valid c.args.listed c.requires.valid
 
 pub returns-then-is_empty-clause-value : goal.returns-then-is_empty-clause-value
 returns-then-is_empty-clause-value g c = c.in_ok-completion.ensures.value
     ∙ ap completed_value (sym (plain_is c.args.listed (nil_from_length _ (search (rules, tests)))))
 
 pub returns-then-is_empty-clause-done : goal.returns-then-is_empty-clause-done
-returns-then-is_empty-clause-done g c = λ n low. c.in_ok-completion.ensures.done n low
+returns-then-is_empty-clause-done g c = λ n. c.in_ok-completion.ensures.done n
     ∙ ap (λ J. is_completed J n) (sym (plain_is c.args.listed (nil_from_length _ (search (rules, tests)))))
 
 pub returns-then-is_empty-clause-jobs : goal.returns-then-is_empty-clause-jobs

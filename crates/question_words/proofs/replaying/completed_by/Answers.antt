@@ -16,6 +16,6 @@ loop-event-preserved c = subst (HasSeen c.see.new.self)
     ∙ sym (take_more c.args.run.now c.loop-event.event-index c.event-item.result c.loop-event-test.true))
     (c.see.ensures (take c.loop-event.event-index c.args.run.now) c.loop-event.invariant)
 
-pub returns : goal.returns
-returns c = subst (HasSeen c.loop-event.completion)
+pub returns-clause-seen : goal.returns-clause-seen
+returns-clause-seen c = subst (HasSeen c.loop-event.completion)
     (take_all c.loop-event.event-index c.args.run.now (omega arith)) c.loop-event.invariant

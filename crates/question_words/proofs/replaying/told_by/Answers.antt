@@ -28,18 +28,18 @@ hads-requires c = let J = listed_instance c.args.listed.now in (
 )
 
 pub returns-clause-value : goal.returns-clause-value
-returns-clause-value c = c.in_ok-completion.ensures.value
+returns-clause-value c = c.in_ok-completion.ensures.seen.value
     ∙ ap (λ es. fold (λ value e. value_of_end e value) 0 es) c.requires.run
 
 pub returns-clause-done : goal.returns-clause-done
-returns-clause-done c = λ n low. c.in_ok-completion.ensures.done n (omega (arith, low, c.requires.listable.count))
+returns-clause-done c = λ n. c.in_ok-completion.ensures.seen.done c.in_ok-completion.ensures.whole n
     ∙ ap (list_any (completes n)) c.requires.run
 
 pub returns-clause-jobs : goal.returns-clause-jobs
 returns-clause-jobs c = let J = listed_instance c.args.listed.now in
     c.in_ok-seen.ensures ∙ seen_observed J c.requires.valid c.deref-2.result.now
     (λ n low. ap (λ flags. get_or flags n false) c.deref-2.ensures.value
-    ∙ c.in_ok-completion.ensures.done n (omega (arith, low, c.requires.listable.count))
+    ∙ c.in_ok-completion.ensures.seen.done c.in_ok-completion.ensures.whole n
     ∙ ap (list_any (completes n)) c.requires.run)
     c.deref-3.result.now
     (c.deref-3.ensures.value ∙ c.in_ok-hads.ensures J.rules.ratio J

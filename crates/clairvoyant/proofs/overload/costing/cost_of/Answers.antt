@@ -1,5 +1,6 @@
 use Rattle.std.proofs.Common.{sym, subst}
 use Rattle.clairvoyant.specs.overload.Stretches.{Caps}
+use Rattle.clairvoyant.proofs.overload.Filling.{meets_all}
 use Rattle.clairvoyant.proofs.overload.NoneMet.{none_met}
 use Rattle.clairvoyant.proofs.overload.Stretching.{caps_all}
 use Rattle.clairvoyant.proofs.overload.costing.cost_of.Goals as goal
@@ -15,4 +16,6 @@ returns c =
       sum = has.sum;
       most = subst (Caps jobs) (sym has.sum) (caps_all _ _ (λ x member. (has.each x member).cap));
       none = (c.in_ok-find.ensures.met, none_met jobs it.costed.stretches.items has.each);
+      meets = meets_all jobs it.costed.stretches.items it.at has.meets c.in_ok-find.ensures.room;
+      few = has.few;
     }

@@ -1,9 +1,9 @@
-use Rattle.std.proofs.Common.{◌≤◌, ◌∙◌, length, sym, ap, subst, arith}
+use Rattle.std.proofs.Common.{◌≤◌, ◌+◌, ◌∙◌, length, sym, ap, subst, arith}
 use Rattle.dover_model.specs.declared.events.Version.TheVariants.{Two}
 use Rattle.dover_model.specs.Limits.{most_jobs}
 use Rattle.dover_model.specs.Instance.{IsInOrder, total_value}
 use Rattle.dover_model.specs.Windows.{is_inside}
-use Rattle.clairvoyant.specs.overload.Stretches.{Caps}
+use Rattle.clairvoyant.specs.overload.Stretches.{Caps, IsWorth, most_sought, sets_of}
 use Rattle.clairvoyant.proofs.overload.Near.{found_inside, filter_few, filter_in_order}
 use Rattle.dover_model.proofs.ValidParts.{order_parts, order_from}
 use Rattle.clairvoyant.proofs.overload.costing.stretch.Goals as goal
@@ -35,3 +35,14 @@ returns-clause-stretch c = record {
       c.in_ok-cap.ensures.cap;
   less = c.in_ok-cap.ensures.less;
 }
+
+pub returns-clause-reached : goal.returns-clause-reached
+returns-clause-reached c = subst
+    (λ js. sets_of (length js) ≤ c.args.sets.now → length js ≤ most_sought → IsWorth js c.in_ok-cap.cap)
+    (found_inside _ _ _ c.requires.each _ _ _ c.deref-2.ensures.value c.in_ok-inside.ensures c.near.ensures)
+    c.in_ok-cap.ensures.reached
+
+pub returns-clause-spent : goal.returns-clause-spent
+returns-clause-spent c = subst (λ js. c.args.sets.now ≤ c.cap.new.sets + sets_of (length js))
+    (found_inside _ _ _ c.requires.each _ _ _ c.deref-2.ensures.value c.in_ok-inside.ensures c.near.ensures)
+    c.cap.ensures.spent
