@@ -1,4 +1,5 @@
 pub mod Read
 pub mod Accounts
 pub mod Taking
+pub mod Declaring
 pub mod Ending

@@ -1,5 +1,4 @@
 pub mod Feeding
 pub mod Putting
-pub mod Talking
 pub mod Ending
 pub mod Spending

@@ -1,5 +1,3 @@
 pub mod Feeds
-pub mod Texts
-pub mod Talk
+pub mod Says
 pub mod Spending
-pub mod Keeping

@@ -1,8 +1,6 @@
-//! The word `unroll`: periodic tasks are read, and the feed of their jobs is written.
+//! The word `unroll`: the feed of the jobs of periodic tasks is written.
 mod answering;
-mod asking;
 mod feeds;
-mod word;
 
+pub(crate) use answering::answer;
 pub use feeds::{feeds_of_jobs_are_read, put_job, put_rules};
-pub use word::unroll_word;

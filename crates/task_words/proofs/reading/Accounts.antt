@@ -18,7 +18,7 @@ use Rattle.task_words.specs.reading.Lines.{task_line, line_of_fields}
 use Rattle.task_words.specs.reading.Account.{TaskAccount, no_lines, cause_of, with_fault, with_line, read_line, is_open}
 use Rattle.task_words.specs.reading.Account.{next_line, account_of_lines, account}
 use Rattle.task_words.specs.declared.reading.lines.TaskLine.{TaskLine}
-use Rattle.task_words.specs.declared.reading.lines.TaskLine.TheVariants.{Declared, Task, End}
+use Rattle.task_words.specs.declared.reading.lines.TaskLine.TheVariants.{Declared, Factored, Task, End}
 
 -- ---- a line
 
@@ -102,6 +102,7 @@ module _ (until : ℕ) where
   -- a line changes no count
   same_count : (a : TaskAccount) (line : TaskLine) (o : Option Cause) → (with_line a line o).lines ≡ a.lines
   same_count a (Declared p q version) None = refl
+  same_count a (Factored p q version b c) None = refl
   same_count a (Task task) None = refl
   same_count a End None = refl
   same_count a line (Some cause) = refl

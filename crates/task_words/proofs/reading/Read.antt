@@ -12,7 +12,7 @@ use Rattle.line_text.specs.declared.BadLine.{BadLine}
 use Rattle.task_words.specs.reading.Lines.{task_of_numbers, ratio_line, task_numbers_line, end_line, line_of_word}
 use Rattle.task_words.specs.reading.Lines.{line_of_fields, task_line, HasNumerals}
 use Rattle.task_words.specs.declared.reading.lines.TaskLine.{TaskLine}
-use Rattle.task_words.specs.declared.reading.lines.TaskLine.TheVariants.{Declared, Task, End}
+use Rattle.task_words.specs.declared.reading.lines.TaskLine.TheVariants.{Declared, Factored, Task, End}
 
 -- ---- no line has more than five numbers
 
@@ -21,7 +21,9 @@ many_ratio [] many = absurd (omega arith)
 many_ratio (a ∷ []) many = refl
 many_ratio (a ∷ b ∷ []) many = absurd (omega arith)
 many_ratio (a ∷ b ∷ c ∷ []) many = absurd (omega arith)
-many_ratio (a ∷ b ∷ c ∷ d ∷ ns) many = refl
+many_ratio (a ∷ b ∷ c ∷ d ∷ []) many = refl
+many_ratio (a ∷ b ∷ c ∷ d ∷ e ∷ []) many = absurd (omega arith)
+many_ratio (a ∷ b ∷ c ∷ d ∷ e ∷ f ∷ ns) many = refl
 
 many_task : (ns : List ℕ) → 5 < length ns → task_numbers_line ns ≡ None
 many_task [] many = refl
@@ -64,7 +66,9 @@ ratio_short [] line read = none_is_some read
 ratio_short (p ∷ []) line read = none_is_some read
 ratio_short (p ∷ q ∷ []) line read = subst HasNumerals (some_same (Declared p q None) line read) tt
 ratio_short (p ∷ q ∷ v ∷ []) line read = subst HasNumerals (some_same (Declared p q (Some v)) line read) tt
-ratio_short (p ∷ q ∷ v ∷ n ∷ ns) line read = none_is_some read
+ratio_short (p ∷ q ∷ v ∷ b ∷ []) line read = none_is_some read
+ratio_short (p ∷ q ∷ v ∷ b ∷ c ∷ []) line read = subst HasNumerals (some_same (Factored p q v b c) line read) tt
+ratio_short (p ∷ q ∷ v ∷ b ∷ c ∷ n ∷ ns) line read = none_is_some read
 
 task_short : (ns : List ℕ) (line : TaskLine) → AreShort ns → task_numbers_line ns ≡ Some line → HasNumerals line
 task_short [] line short read = none_is_some read

@@ -77,6 +77,7 @@ module _ (until : ℕ) (task : PeriodicTask) (rules : Rules) (tasks : List Perio
             ∙ ap (rules_with new.admission.rules.ratio) (sym version);
         limits = same ∙ keeps.limits;
         ratio = keeps.ratio;
+        declarable = keeps.declarable;
         tested = subst (admission.StandsFor new.admission)
             (sym (map-append (tested_job until) tasks (task ∷ []))) stands;
         are = tasks_more until rules.ratio tasks task above keeps.are (positive task.period some)

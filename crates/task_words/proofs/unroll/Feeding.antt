@@ -1,7 +1,7 @@
 -- The feed of valid jobs is read as these jobs.
 use Rattle.std.proofs.Common.{◌≡◌, ℕ, suc, ◌+◌, ◌≤◌, List, [], ◌∷◌, ◌++◌, length, map, refl, sym}
 use Rattle.std.proofs.Common.{ap, ◌∙◌, subst, append_assoc, cond}
-use Rattle.std.proofs.Common.{Option, Some, None, arith, false}
+use Rattle.std.proofs.Common.{Option, Some, None, is_some, arith, true, false}
 use Rattle.std.specs.List.{AllByRecursion, fold}
 use Rattle.std.specs.Bool.{then_some}
 use Rattle.std.specs.Option.{option_map, option_or}
@@ -16,11 +16,16 @@ use Rattle.dover_model.specs.Instance.{Declaration, declared_by, Instance, IsVal
 use Rattle.dover_model.proofs.Meeting.{finishing_valid}
 use Rattle.dover_model.specs.Admission.{refusal_of}
 use Rattle.dover_model.specs.Session.{JobItem, instance_of, is_full, refusal_in, Session, session_with}
-use Rattle.dover_model.specs.Session.{IsNeverFull}
+use Rattle.dover_model.specs.Session.{IsNeverFull, IsDeclarable, new_session}
+use Rattle.dover_model.specs.declared.events.Version.{Version}
+use Rattle.dover_model.specs.declared.events.Version.TheVariants.{One, Two, Three}
+use Rattle.dover_model.specs.declared.factors.Factor.{Factor}
+use Rattle.dover_model.specs.Fraction.{IsRatio, fraction, with_factor}
+use Rattle.dover_model.proofs.JobLimits.{ratio_limits, FactorLimits, factor_limits}
 use Rattle.dover_model.specs.Trace.{session_of}
-use Rattle.dover_model.specs.FeedLine.{RatioLine, JobLine, EndLine, feed_line, feed_text}
-use Rattle.dover_model.specs.Feed.{Account, Ended, Lines, NotAdmitted, late_cause, with_line, with_fault}
-use Rattle.dover_model.specs.Feed.{next_line, account_of_lines, account}
+use Rattle.dover_model.specs.FeedLine.{FeedLine, FactorLine, JobLine, EndLine, HasNumerals, feed_line, feed_text}
+use Rattle.dover_model.specs.Feed.{Account, Declared, Ended, Lines, NotAdmitted, late_cause, with_line, with_fault}
+use Rattle.dover_model.specs.Feed.{next_line, no_lines, account_of_lines, account, factor_rules, rules_with}
 use Rattle.dover_model.proofs.Cuts.{HasNoFeed}
 use Rattle.dover_model.proofs.FeedLines.{feed_line-feed_text}
 use Rattle.dover_model.proofs.Growing.{instance_with}
@@ -32,8 +37,7 @@ use Rattle.event_feed.specs.Reading.{open_account}
 use Rattle.event_feed.proofs.Counting.{after_form}
 use Rattle.event_feed.proofs.Behind.{feedless_feed, lines_joined}
 use Rattle.event_feed.proofs.Saying.{ratio_account, job_numerals}
-use Rattle.event_feed.specs.Reading.{declared_number}
-use Rattle.task_words.specs.unroll.Feeds.{IsFeedOf, feed_of, feed_lines, job_text}
+use Rattle.task_words.specs.unroll.Feeds.{IsFeedOf, feed_of, feed_lines, job_text, line_declaring, rules_text}
 use Rattle.dover_model.proofs.ValidParts.{ReleasesInOrder, valid_parts}
 
 -- ---- line by line
@@ -114,6 +118,50 @@ module _ (rules : Declaration) where
       (le-ltb (most_lines rules.version) (suc lines) few)
       ∙ ap (after_form c) (feed_line-feed_text EndLine tt)
 
+-- ---- the first line
+
+-- the line that declares a factor
+module _ (p q : ℕ) (f : Factor) (ratio : IsRatio (with_factor (fraction p q) f.b f.c)) where
+  -- its numbers have numerals
+  factor_numerals : HasNumerals (FactorLine p q 3 f.b f.c)
+  factor_numerals =
+      let limits : FactorLimits f = factor_limits f (ratio_limits ratio).factor in
+      let low_p : p ≤ 1_000_000 = (ratio_limits ratio).small_p in
+      let low_q : q ≤ 1_000 = (ratio_limits ratio).small_q in
+      let low_b : f.b ≤ 1_000_000 = limits.small_b in
+      let low_c : f.c ≤ 1_000 = limits.small_c in
+      (omega arith, (omega arith, (omega arith, (omega arith, (omega arith, tt)))))
+
+  -- it declares the rules
+  factor_declares : factor_rules (with_factor (fraction p q) f.b f.c) 3
+      ≡ Some (rules_with (with_factor (fraction p q) f.b f.c) Three)
+  factor_declares =
+      ap (λ b. cond b (Some (rules_with (with_factor (fraction p q) f.b f.c) Three)) None) ratio.passes
+
+  -- what it says as the first line
+  factor_account : next_line no_lines (feed_text (FactorLine p q 3 f.b f.c))
+      ≡ open_account 1 (Some (new_session (rules_with (with_factor (fraction p q) f.b f.c) Three))) 0
+  factor_account =
+      let line : FeedLine = FactorLine p q 3 f.b f.c in
+      let a : Account = open_account 1 None 0 in
+      ap (after_form a) (feed_line-feed_text line factor_numerals)
+      ∙ ap (λ o. with_line a line (cond (is_some o) None (Some Declared))) factor_declares
+      ∙ ap (λ o. record a { session = option_map new_session o }) factor_declares
+
+-- the line of rules that may be declared
+pub rules_account : (rules : Declaration) → IsRatio rules.ratio → IsDeclarable rules
+    → next_line no_lines (rules_text rules) ≡ open_account 1 (Some (new_session rules)) 0
+rules_account rules ratio declarable = by rules.ratio.p rules.ratio.q rules.ratio.factor rules.version ratio declarable
+  where
+    by : (p q : ℕ) (o : Option Factor) (v : Version) → IsRatio (record { p = p; q = q; factor = o })
+        → IsDeclarable (rules_with (record { p = p; q = q; factor = o }) v)
+        → next_line no_lines (rules_text (rules_with (record { p = p; q = q; factor = o }) v))
+        ≡ open_account 1 (Some (new_session (rules_with (record { p = p; q = q; factor = o }) v))) 0
+    by p q None v ratio may = ratio_account p q ratio v
+    by p q (Some f) One ratio may = absurd (let e : false ≡ true = may in cc)
+    by p q (Some f) Two ratio may = absurd (let e : false ≡ true = may in cc)
+    by p q (Some f) Three ratio may = factor_account p q f ratio
+
 -- ---- the whole feed
 
 -- no line of a job has a line feed
@@ -121,7 +169,8 @@ feedless_jobs : (jobs : List JobFacts) → AllByRecursion HasNoFeed (map job_tex
 feedless_jobs [] = (refl, tt)
 feedless_jobs (j ∷ jobs) = (feedless_feed (JobLine j), feedless_jobs jobs)
 
-module _ (J : Instance) (valid : IsValid J) (plain : J.rules.finishes ≡ []) (never : IsNeverFull (session_of J)) where
+module _ (J : Instance) (valid : IsValid J) (declarable : IsDeclarable (declared_by J.rules))
+    (plain : J.rules.finishes ≡ []) (never : IsNeverFull (session_of J)) where
   -- what is declared
   abbrev declared : Declaration
   declared = declared_by J.rules
@@ -129,7 +178,7 @@ module _ (J : Instance) (valid : IsValid J) (plain : J.rules.finishes ≡ []) (n
   -- no line has one
   feedless : AllByRecursion HasNoFeed (feed_lines J)
   feedless = (
-    feedless_feed (RatioLine J.rules.ratio.p J.rules.ratio.q (declared_number J.rules.version)),
+    feedless_feed (line_declaring J.rules.ratio.p J.rules.ratio.q J.rules.ratio.factor J.rules.version),
     feedless_jobs J.jobs,
   )
 
@@ -147,7 +196,7 @@ module _ (J : Instance) (valid : IsValid J) (plain : J.rules.finishes ≡ []) (n
       { standing = Ended }
   told_all = ap account_of_lines (lines_joined (feed_lines J) feedless)
       ∙ ap (λ a. fold next_line a (map job_text J.jobs ++ feed_text EndLine ∷ []))
-      (ratio_account J.rules.ratio.p J.rules.ratio.q (valid_parts valid).ratio J.rules.version)
+      (rules_account declared (valid_parts valid).ratio declarable)
       ∙ fold-append next_line (told declared 1 [] 0) (map job_text J.jobs) (feed_text EndLine ∷ [])
       ∙ ap (λ a. next_line a (feed_text EndLine)) jobs_told.1
       ∙ ends declared (1 + length J.jobs) J.jobs jobs_told.0 (omega (arith, few))
@@ -158,5 +207,5 @@ module _ (J : Instance) (valid : IsValid J) (plain : J.rules.finishes ≡ []) (n
     text_is = refl;
     ended = ap (λ (a : Account). a.standing) told_all;
     session = ap (λ (a : Account). a.session) told_all;
-    valid_session = session_of_valid J plain valid never;
+    valid_session = session_of_valid J plain valid declarable never;
   }

@@ -1,6 +1,6 @@
 -- The lines of jobs, one behind another.
 use Rattle.std.proofs.Common.{◌≡◌, ℕ, ◌+◌, ◌≤◌, List, [], ◌∷◌, ◌++◌, length, length-append, map, sym, ap}
-use Rattle.std.proofs.Common.{◌∙◌, subst, Option, Result, codes, arith}
+use Rattle.std.proofs.Common.{◌∙◌, subst, Option, Some, None, Result, codes, arith}
 use Rattle.std.proofs.lemmas.List.{append-nil, map-append}
 use Rattle.std.proofs.lemmas.Grind.{flat_map-append}
 use Rattle.dover_model.specs.declared.events.Version.{Version}
@@ -9,14 +9,16 @@ use Rattle.dover_model.specs.Fraction.{Fraction}
 use Rattle.dover_model.specs.Instance.{Instance, declared_by}
 use Rattle.dover_model.specs.JobFacts.{JobFacts}
 use Rattle.dover_model.specs.Feed.{rules_with}
-use Rattle.dover_model.specs.FeedLine.{EndLine, feed_text}
+use Rattle.dover_model.specs.declared.factors.Factor.{Factor}
+use Rattle.dover_model.specs.FeedLine.{RatioLine, EndLine, feed_text}
+use Rattle.event_feed.specs.Reading.{declared_number}
 use Rattle.dover_model.specs.Lines.{in_lines, with_numbers}
 use Rattle.dover_port.specs.Moves.{Move, Passes, CutsShort, PutsThrough}
 use Rattle.dover_port.proofs.Through.{passes_then, passes_then_cut, cut_longer}
 use Rattle.task_words.specs.tasks.Merging.{Merge, StandsBehind}
 use Rattle.task_words.specs.tasks.Tasks.{jobs_before}
 use Rattle.task_words.proofs.tasks.Merging.{stands_front}
-use Rattle.task_words.specs.unroll.Feeds.{job_text, rules_text, feed_of}
+use Rattle.task_words.specs.unroll.Feeds.{job_text, line_declaring, rules_text, feed_of}
 
 -- the text of jobs
 abbrev pub texts : List JobFacts → List ℕ
@@ -86,26 +88,40 @@ module _ (m w : Merge) (a b c : Option (List Move)) (p q r : List ℕ) (count : 
 
 -- ---- the whole feed
 
+-- a line that declares a version, with no factor
+plain_line : (k : Fraction) (v : Version) → k.factor ≡ None
+    → feed_text (RatioLine k.p k.q (declared_number v)) ≡ rules_text (rules_with k v)
+plain_line k v plain = ap (λ o. feed_text (line_declaring k.p k.q o v)) (sym plain)
+
 -- the line that declares version One
-pub one_line : (k : Fraction) (v : Version) (m n : ℕ) → v ≡ One → m ≡ k.p → n ≡ k.q
+pub one_line : (k : Fraction) (v : Version) (m n : ℕ) → k.factor ≡ None → v ≡ One → m ≡ k.p → n ≡ k.q
     → with_numbers (codes "k") (m ∷ n ∷ []) ≡ rules_text (rules_with k v)
-one_line k v m n one p q = ap (λ x. with_numbers (codes "k") (x ∷ n ∷ [])) p
+one_line k v m n plain one p q = ap (λ x. with_numbers (codes "k") (x ∷ n ∷ [])) p
     ∙ ap (λ x. with_numbers (codes "k") (k.p ∷ x ∷ [])) q
-    ∙ ap (λ w. rules_text (rules_with k w)) (sym one)
+    ∙ ap (λ w. feed_text (RatioLine k.p k.q (declared_number w))) (sym one) ∙ plain_line k v plain
 
 -- the line that declares version Two
-pub two_line : (k : Fraction) (v : Version) (m n : ℕ) → v ≡ Two → m ≡ k.p → n ≡ k.q
+pub two_line : (k : Fraction) (v : Version) (m n : ℕ) → k.factor ≡ None → v ≡ Two → m ≡ k.p → n ≡ k.q
     → with_numbers (codes "k") (m ∷ n ∷ 2 ∷ []) ≡ rules_text (rules_with k v)
-two_line k v m n two p q = ap (λ x. with_numbers (codes "k") (x ∷ n ∷ 2 ∷ [])) p
+two_line k v m n plain two p q = ap (λ x. with_numbers (codes "k") (x ∷ n ∷ 2 ∷ [])) p
     ∙ ap (λ x. with_numbers (codes "k") (k.p ∷ x ∷ 2 ∷ [])) q
-    ∙ ap (λ w. rules_text (rules_with k w)) (sym two)
+    ∙ ap (λ w. feed_text (RatioLine k.p k.q (declared_number w))) (sym two) ∙ plain_line k v plain
 
 -- the line that declares version Three
-pub three_line : (k : Fraction) (v : Version) (m n : ℕ) → v ≡ Three → m ≡ k.p → n ≡ k.q
+pub three_line : (k : Fraction) (v : Version) (m n : ℕ) → k.factor ≡ None → v ≡ Three → m ≡ k.p → n ≡ k.q
     → with_numbers (codes "k") (m ∷ n ∷ 3 ∷ []) ≡ rules_text (rules_with k v)
-three_line k v m n three p q = ap (λ x. with_numbers (codes "k") (x ∷ n ∷ 3 ∷ [])) p
+three_line k v m n plain three p q = ap (λ x. with_numbers (codes "k") (x ∷ n ∷ 3 ∷ [])) p
     ∙ ap (λ x. with_numbers (codes "k") (k.p ∷ x ∷ 3 ∷ [])) q
-    ∙ ap (λ w. rules_text (rules_with k w)) (sym three)
+    ∙ ap (λ w. feed_text (RatioLine k.p k.q (declared_number w))) (sym three) ∙ plain_line k v plain
+
+-- the line that declares a factor
+pub factor_line : (k : Fraction) (v : Version) (f : Factor) (m n b c : ℕ) → k.factor ≡ Some f → m ≡ k.p → n ≡ k.q
+    → b ≡ f.b → c ≡ f.c → with_numbers (codes "k") (m ∷ n ∷ 3 ∷ b ∷ c ∷ []) ≡ rules_text (rules_with k v)
+factor_line k v f m n b c is p q b_is c_is = ap (λ x. with_numbers (codes "k") (x ∷ n ∷ 3 ∷ b ∷ c ∷ [])) p
+    ∙ ap (λ x. with_numbers (codes "k") (k.p ∷ x ∷ 3 ∷ b ∷ c ∷ [])) q
+    ∙ ap (λ x. with_numbers (codes "k") (k.p ∷ k.q ∷ 3 ∷ x ∷ c ∷ [])) b_is
+    ∙ ap (λ x. with_numbers (codes "k") (k.p ∷ k.q ∷ 3 ∷ f.b ∷ x ∷ [])) c_is
+    ∙ ap (λ o. feed_text (line_declaring k.p k.q o v)) (sym is)
 
 -- a line is put under another name
 pub line_as : {T E : Type 0} (a b : Option (List Move)) (result : Result T E) (p q line other : List ℕ) → line ≡ other

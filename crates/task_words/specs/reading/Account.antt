@@ -5,16 +5,16 @@ use Rattle.std.specs.List.{fold}
 use Rattle.std.specs.Option.{option_map}
 use Rattle.dover_model.specs.declared.events.Version.TheVariants.{Two}
 use Rattle.dover_model.specs.Limits.{most_lines}
-use Rattle.dover_model.specs.Fraction.{Fraction}
+use Rattle.dover_model.specs.Fraction.{fraction, with_factor}
 use Rattle.dover_model.specs.Instance.{Declaration as Rules}
 use Rattle.dover_model.specs.Lines.{lines_of}
 use Rattle.dover_model.specs.Feed as feed
-use Rattle.dover_model.specs.Feed.{Cause, Standing, Open, Ended, Faulty, NotAdmitted, declared_rules}
+use Rattle.dover_model.specs.Feed.{Cause, Standing, Open, Ended, Faulty, NotAdmitted, declared_rules, factor_rules}
 use Rattle.task_words.specs.tasks.Limits.{task_refusal}
 use Rattle.task_words.specs.declared.tasks.task.PeriodicTask.{PeriodicTask}
 use Rattle.task_words.specs.reading.Lines.{task_line}
 use Rattle.task_words.specs.declared.reading.lines.TaskLine.{TaskLine}
-use Rattle.task_words.specs.declared.reading.lines.TaskLine.TheVariants.{Declared, Task, End}
+use Rattle.task_words.specs.declared.reading.lines.TaskLine.TheVariants.{Declared, Factored, Task, End}
 
 -- what the lines so far say, up to the first faulty line or the end
 pub record TaskAccount : Type 0 where
@@ -29,20 +29,21 @@ no_lines = record { lines = 0; rules = None; tasks = []; standing = Open }
 
 -- ---- the cause of a line
 
--- a ratio
-abbrev pub fraction : (p q : ℕ) → Fraction
-fraction p q = record { p = p; q = q }
+-- the rules that a line declares, if it may
+abbrev pub rules_of_line : TaskLine → Option Rules
+rules_of_line (Declared p q version) = declared_rules (fraction p q) version
+rules_of_line (Factored p q version b c) = factor_rules (with_factor (fraction p q) b c) version
+rules_of_line (Task task) = None
+rules_of_line End = None
 
--- the cause of the first line: it has to declare the ratio
+-- the cause of the first line: it has to declare the rules
 abbrev pub first_line_cause : TaskLine → Option Cause
-first_line_cause (Declared p q version) =
-    if is_some (declared_rules (fraction p q) version) then None else Some feed.Declared
-first_line_cause (Task task) = Some feed.Declared
-first_line_cause End = Some feed.Declared
+first_line_cause line = if is_some (rules_of_line line) then None else Some feed.Declared
 
 -- the cause of a later line, under these rules and behind these tasks
 abbrev pub later_line_cause : (until : ℕ) → Rules → List PeriodicTask → TaskLine → Option Cause
 later_line_cause until rules tasks (Declared p q version) = Some feed.Declared
+later_line_cause until rules tasks (Factored p q version b c) = Some feed.Declared
 later_line_cause until rules tasks (Task task) = option_map NotAdmitted (task_refusal until rules.ratio tasks task)
 later_line_cause until rules tasks End = None
 
@@ -64,7 +65,8 @@ with_fault a cause = record a { standing = Faulty a.lines cause }
 
 -- the account with a good line
 abbrev pub with_good_line : TaskAccount → TaskLine → TaskAccount
-with_good_line a (Declared p q version) = record a { rules = declared_rules (fraction p q) version }
+with_good_line a (Declared p q version) = record a { rules = rules_of_line (Declared p q version) }
+with_good_line a (Factored p q version b c) = record a { rules = rules_of_line (Factored p q version b c) }
 with_good_line a (Task task) = record a { tasks = a.tasks ++ task ∷ [] }
 with_good_line a End = record a { standing = Ended }
 

@@ -7,6 +7,7 @@ use Rattle.dover_model.specs.Fraction.{IsRatio}
 use Rattle.dover_model.specs.Instance.{Declaration as Rules}
 use Rattle.dover_model.specs.Lines.{lines_of, rest_of, is_too_long}
 use Rattle.dover_model.specs.Feed.{Open, Ended, Faulty, rules_with}
+use Rattle.dover_model.specs.Session.{IsDeclarable}
 use Rattle.admission.specs.Kept as admission
 use Rattle.event_feed.specs.Kept.{cause_of_fault}
 use Rattle.event_feed.specs.declared.faults.Cause.{Cause}
@@ -14,9 +15,10 @@ use Rattle.line_text.specs.Cutting as cutting
 use Rattle.task_words.specs.tasks.Tasks.{tested_job}
 use Rattle.task_words.specs.tasks.Limits.{AreTasks, task_rules}
 use Rattle.task_words.specs.declared.tasks.task.PeriodicTask.{PeriodicTask}
-use Rattle.task_words.specs.reading.Account.{TaskAccount, account_of_lines, account, cause_under}
+use Rattle.task_words.specs.reading.Account.{TaskAccount, account_of_lines, account, cause_under, rules_of_line}
 use Rattle.task_words.specs.reading.Faults.{NamesFault}
-use Rattle.task_words.specs.declared.reading.lines.TaskLine.TheVariants.{Task}
+use Rattle.task_words.specs.declared.reading.lines.TaskLine.{TaskLine}
+use Rattle.task_words.specs.declared.reading.lines.TaskLine.TheVariants.{Declared, Factored, Task, End}
 use Rattle.task_words.specs.declared.reading.intake.Declaration.{Declaration}
 use Rattle.task_words.specs.declared.reading.intake.TaskIntake.{TaskIntake}
 use Rattle.task_words.specs.declared.reading.intake.Progress.{Progress}
@@ -28,12 +30,20 @@ use Rattle.task_words.specs.declared.reading.reader.TaskReader.{TaskReader}
 abbrev pub IsKnown : ℕ → Type 0
 IsKnown until = until ≤ last_tick
 
+-- a line that declares these rules, or nothing
+abbrev pub Declares : TaskLine → Option Rules → Type 0
+Declares (Declared p q version) declared = declared ≡ rules_of_line (Declared p q version)
+Declares (Factored p q version b c) declared = declared ≡ rules_of_line (Factored p q version b c)
+Declares (Task task) declared = ⊥
+Declares End declared = ⊥
+
 -- the rules that were declared, and of the tasks so far what the next one needs
 pub record KeepsDeclared (until : ℕ) (d : Declaration) (rules : Rules) (tasks : List PeriodicTask) : Type 0 where
   pub rules_are : rules ≡ rules_with d.admission.rules.ratio d.version
   -- whatever version that is, tasks have the limits of Two
   pub limits : d.admission.rules ≡ task_rules rules.ratio
   pub ratio : IsRatio rules.ratio
+  pub declarable : IsDeclarable rules
   pub tested : admission.StandsFor d.admission (map (tested_job until) tasks)
   pub are : AreTasks until rules.ratio tasks
 

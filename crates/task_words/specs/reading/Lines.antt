@@ -5,16 +5,17 @@ use Rattle.dover_model.specs.Lines.{is_too_long, fields_of}
 use Rattle.dover_model.specs.Numerals.{numerals, AreShort}
 use Rattle.task_words.specs.declared.tasks.task.PeriodicTask.{PeriodicTask}
 use Rattle.task_words.specs.declared.reading.lines.TaskLine.{TaskLine}
-use Rattle.task_words.specs.declared.reading.lines.TaskLine.TheVariants.{Declared, Task, End}
+use Rattle.task_words.specs.declared.reading.lines.TaskLine.TheVariants.{Declared, Factored, Task, End}
 
 -- the task of the five numbers of a line
 abbrev pub task_of_numbers : (offset period work deadline value : ℕ) → PeriodicTask
 task_of_numbers o p w d v = record { offset = o; period = p; work = w; deadline = d; value = v }
 
--- the ratio and perhaps the version
+-- the ratio and perhaps the version, and behind that perhaps the factor
 abbrev pub ratio_line : List ℕ → Option TaskLine
 ratio_line (p ∷ q ∷ []) = Some (Declared p q None)
 ratio_line (p ∷ q ∷ version ∷ []) = Some (Declared p q (Some version))
+ratio_line (p ∷ q ∷ version ∷ b ∷ c ∷ []) = Some (Factored p q version b c)
 ratio_line _ = None
 
 -- a task's five numbers
@@ -50,5 +51,6 @@ task_numbers task = task.offset ∷ task.period ∷ task.work ∷ task.deadline 
 -- the numbers of a task that was read have numerals
 abbrev pub HasNumerals : TaskLine → Type 0
 HasNumerals (Declared p q version) = Unit {0}
+HasNumerals (Factored p q version b c) = Unit {0}
 HasNumerals (Task task) = AreShort (task_numbers task)
 HasNumerals End = Unit {0}

@@ -4,6 +4,7 @@ use Rattle.dover_model.specs.Fraction.{IsRatio}
 use Rattle.dover_model.specs.Instance.{Declaration as Rules}
 use Rattle.dover_model.specs.Lines.{whole_lines}
 use Rattle.dover_model.specs.Feed.{Ended, Faulty, rules_with}
+use Rattle.dover_model.specs.Session.{IsDeclarable}
 use Rattle.event_feed.specs.Answers.{short_after}
 use Rattle.event_feed.specs.Kept.{cause_of_fault}
 use Rattle.event_feed.specs.declared.faults.FeedFault.{FeedFault}
@@ -22,6 +23,7 @@ pub record IsEnded (until : ℕ) (listed : ListedTasks) (bytes : List ℕ) : Typ
   pub rules : (account until bytes).rules ≡ Some (listed_rules listed)
   pub tasks : (account until bytes).tasks ≡ listed.tasks.items
   pub ratio : IsRatio (listed_rules listed).ratio
+  pub declarable : IsDeclarable (listed_rules listed)
   pub are : AreTasks until (listed_rules listed).ratio listed.tasks.items
 
 -- this is the fault of the text, with the other task named where the ratio is broken, or the text goes on and this says

@@ -1,8 +1,10 @@
 -- The feed of some jobs.
-use Rattle.std.specs.Prelude.{◌≡◌, ℕ, List, [], ◌∷◌, ◌++◌, map, Some}
+use Rattle.std.specs.Prelude.{◌≡◌, ℕ, List, [], ◌∷◌, ◌++◌, map, Option, Some, None}
+use Rattle.dover_model.specs.declared.events.Version.{Version}
 use Rattle.dover_model.specs.JobFacts.{JobFacts}
 use Rattle.dover_model.specs.Instance.{Declaration, declared_by, Instance, IsValid}
-use Rattle.dover_model.specs.FeedLine.{RatioLine, JobLine, EndLine, feed_text}
+use Rattle.dover_model.specs.declared.factors.Factor.{Factor}
+use Rattle.dover_model.specs.FeedLine.{FeedLine, RatioLine, FactorLine, JobLine, EndLine, feed_text}
 use Rattle.dover_model.specs.Feed as feed
 use Rattle.dover_model.specs.Feed.{account}
 use Rattle.dover_model.specs.Lines.{in_lines}
@@ -10,9 +12,14 @@ use Rattle.dover_model.specs.Session.{IsValidSession}
 use Rattle.dover_model.specs.Trace.{session_of}
 use Rattle.event_feed.specs.Reading.{declared_number}
 
--- the line that declares the rules
+-- the line that declares a ratio and a version, or with a factor version Three
+abbrev pub line_declaring : (p q : ℕ) → Option Factor → Version → FeedLine
+line_declaring p q None version = RatioLine p q (declared_number version)
+line_declaring p q (Some f) version = FactorLine p q 3 f.b f.c
+
+-- the text of the line that declares the rules
 abbrev pub rules_text : Declaration → List ℕ
-rules_text rules = feed_text (RatioLine rules.ratio.p rules.ratio.q (declared_number rules.version))
+rules_text rules = feed_text (line_declaring rules.ratio.p rules.ratio.q rules.ratio.factor rules.version)
 
 -- the line of a job
 abbrev pub job_text : JobFacts → List ℕ

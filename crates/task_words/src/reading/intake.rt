@@ -1,10 +1,13 @@
 //! What is kept of a task text between its lines.
 ghost use Rattle.std.specs.Prelude.{◌≡◌, ℕ, List, ◌∷◌, ◌++◌, [], Option, Some, IfErr};
 ghost use Rattle.dover_model.specs.Instance.{Declaration as Rules};
+ghost use Rattle.std.specs.Option.{option_map};
 ghost use Rattle.dover_model.specs.Feed as feed;
+ghost use Rattle.dover_model.specs.Feed.{rules_with};
 ghost use Rattle.task_words.specs.declared.tasks.task.PeriodicTask.{PeriodicTask};
 ghost use Rattle.task_words.specs.reading.Account.{TaskAccount, account_of_lines, cause_of, with_line};
-ghost use Rattle.task_words.specs.reading.Keeping.{IsKnown, Keeps, KeepsAccount, KeepsDeclared, KeepsRules, StandsAt};
+ghost use Rattle.task_words.specs.reading.Keeping.{Declares, IsKnown, Keeps, KeepsAccount, KeepsDeclared, KeepsRules};
+ghost use Rattle.task_words.specs.reading.Keeping.{StandsAt};
 ghost use Rattle.task_words.specs.reading.Keeping.{Takes};
 ghost use Rattle.task_words.specs.reading.Faults.{NamesOther, NamesAt};
 ghost use Rattle.task_words.specs.reading.Lines.{HasNumerals, task_line};
@@ -17,7 +20,7 @@ use crate::reading::lines::TaskLine;
 use crate::tasks::PeriodicTask;
 use admission::Admission;
 use dover_model::{Ratio, Version};
-use event_feed::{Cause, declared};
+use event_feed::{Cause, declared, declared_with_factor};
 use std::alloc::Global;
 
 /// How many lines a task text may have, as many as a feed of version Two.
@@ -110,18 +113,19 @@ impl TaskIntake {
         }
     }
 
-    /// The line of a ratio, which is counted.
-    fn declare(&mut self, p: u64, q: u64, version: Option<u64>) -> Progress
-        ensures stands { (until : ℕ) (a : TaskAccount) → a.standing ≡ feed.Open → KeepsAccount until self.old a →
-            StandsAt until result self.new
-            (with_line a (line.Declared p q version) (cause_of until a (line.Declared p q version))) }
+    /// A line that declares these rules, or nothing, and is counted.
+    fn declare(&mut self, rules: Option<(Ratio, Version)>) -> Progress
+        ensures stands { (until : ℕ) (read : TaskLine) (a : TaskAccount) →
+            Declares read (option_map (λ declared. rules_with declared.0 declared.1) rules) →
+            a.standing ≡ feed.Open → KeepsAccount until self.old a →
+            StandsAt until result self.new (with_line a read (cause_of until a read)) }
         ensures names { (until : ℕ) (line : Option TaskLine) (a : TaskAccount) → NamesAt until line a result }
         ensures lines { self.new.lines ≡ self.old.lines }
     {
         if self.declared.is_some() {
             return Progress::Refused(Cause::Declared);
         }
-        match declared(p, q, version) {
+        match rules {
             Some((ratio, version)) => {
                 self.declared = Some(Declaration {
                     version,
@@ -176,7 +180,14 @@ impl TaskIntake {
         ensures lines { self.new.lines ≡ self.old.lines }
     {
         match read {
-            TaskLine::Declared { p, q, version } => self.declare(p, q, version),
+            TaskLine::Declared { p, q, version } => self.declare(declared(p, q, version)),
+            TaskLine::Factored {
+                p,
+                q,
+                version,
+                b,
+                c,
+            } => self.declare(declared_with_factor(p, q, version, b, c)),
             TaskLine::Task(task) => self.add(task),
             TaskLine::End => self.end(),
         }

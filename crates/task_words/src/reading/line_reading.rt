@@ -9,12 +9,26 @@ use line_text::{BadLine, LINE_BYTES, cut_field, read_numbers};
 fn ratio_line(numbers: &[u64]) -> Option<TaskLine>
     ensures { result ≡ model.ratio_line numbers.now }
 {
-    let (p, q, version) = match numbers {
-        [p, q] => (*p, *q, None),
-        [p, q, version] => (*p, *q, Some(*version)),
-        _ => return None,
-    };
-    Some(TaskLine::Declared { p, q, version })
+    match numbers {
+        [p, q] => Some(TaskLine::Declared {
+            p: *p,
+            q: *q,
+            version: None,
+        }),
+        [p, q, version] => Some(TaskLine::Declared {
+            p: *p,
+            q: *q,
+            version: Some(*version),
+        }),
+        [p, q, version, b, c] => Some(TaskLine::Factored {
+            p: *p,
+            q: *q,
+            version: *version,
+            b: *b,
+            c: *c,
+        }),
+        _ => None,
+    }
 }
 
 fn task_line(numbers: &[u64]) -> Option<TaskLine>

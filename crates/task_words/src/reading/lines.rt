@@ -10,6 +10,14 @@ pub enum TaskLine {
         q: u64,
         version: Option<u64>,
     },
+    /// `k P Q N B C`: the ratio, the version, and the factor. It is a line of version Three alone.
+    Factored {
+        p: u64,
+        q: u64,
+        version: u64,
+        b: u64,
+        c: u64,
+    },
     /// `task OFFSET PERIOD WORK DEADLINE VALUE`: the deadline counts from the release.
     Task(PeriodicTask),
     /// `end`: no more tasks.

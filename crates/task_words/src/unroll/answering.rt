@@ -5,7 +5,9 @@ ghost use Rattle.dover_model.specs.Fraction.{IsRatio};
 ghost use Rattle.task_words.specs.tasks.Limits.{AreTasks};
 ghost use Rattle.task_words.specs.reading.Keeping.{IsKnown};
 ghost use Rattle.task_words.specs.reading.Record.{listed_rules};
-ghost use Rattle.task_words.specs.unroll.Keeping.{SaysBy};
+ghost use Rattle.dover_model.specs.Session.{IsDeclarable};
+ghost use Rattle.task_words.specs.asking.Putting.{SaysBy};
+ghost use Rattle.task_words.specs.unroll.Says.{Says};
 ghost use Rattle.task_words.specs.unroll.Spending.{UnrollsAtMost};
 
 use crate::reading::ListedTasks;
@@ -29,8 +31,9 @@ pub(crate) fn answer<P: Port, L: Ledger>(
     requires empty { out.old ≡ [] }
     requires known { IsKnown until }
     requires ratio { IsRatio (listed_rules listed).ratio }
+    requires declarable { IsDeclarable (listed_rules listed) }
     requires are { AreTasks until (listed_rules listed).ratio listed.tasks.items }
-    ensures says { SaysBy until (listed_rules listed) listed.tasks.items
+    ensures says { SaysBy (Says until (listed_rules listed) listed.tasks.items)
         (P.moves port.old) (P.moves port.new) out.new result }
     ensures count { UnrollsAtMost until listed.tasks.items steps.old steps.new }
     ensures cause { StopCause result

@@ -1,12 +1,12 @@
 //! The lines of a feed of jobs, on their way out.
 ghost use Rattle.std.specs.Prelude.{◌≡◌, ◌≤◌, ◌<◌, ◌^◌, ◌+◌, ◌*◌, ◌++◌, ◌∷◌, [], ℕ, List, length, map, true};
 ghost use Rattle.std.specs.List.{AllByRecursion};
-ghost use Rattle.dover_model.specs.Instance.{Instance, IsValid};
+ghost use Rattle.dover_model.specs.Instance.{Instance, IsValid, declared_by};
 ghost use Rattle.dover_model.specs.declared.events.Version.TheVariants.{Two};
 ghost use Rattle.dover_model.specs.Limits.{most_jobs};
 ghost use Rattle.dover_model.specs.Lines.{in_lines};
 ghost use Rattle.dover_model.specs.Feed.{rules_with};
-ghost use Rattle.dover_model.specs.Session.{IsNeverFull};
+ghost use Rattle.dover_model.specs.Session.{IsDeclarable, IsNeverFull};
 ghost use Rattle.dover_model.specs.Trace.{session_of};
 ghost use Rattle.dover_port.specs.Causes.{HasCause, StopsAtFailure};
 ghost use Rattle.dover_port.specs.Moves.{PutsThrough};
@@ -17,7 +17,7 @@ ghost use Rattle.task_words.specs.unroll.Feeds.{IsFeedOf, feed_of, rules_text, j
 
 use crate::tasks::Unrolling;
 use dialogue::put_numbers;
-use dover_model::{Job, Ratio, Version};
+use dover_model::{Factor, Job, Ratio, Version};
 use dover_port::{Failed, Output, Port};
 use line_text::BackLine;
 use std::sync::ledger::Ledger;
@@ -26,7 +26,7 @@ use step_count::Steps;
 /// More jobs than a feed has.
 const MORE_JOBS: u32 = 1_000_001;
 
-/// Puts the line that declares the ratio and the version.
+/// Puts the line that declares the ratio and the version, and the factor if there is one: it goes with version Three.
 pub fn put_rules<P: Port>(
     port: &mut P,
     out: &mut Output,
@@ -41,10 +41,13 @@ pub fn put_rules<P: Port>(
 {
     let p = u64::from(ratio.p());
     let q = u64::from(ratio.q());
-    match version {
-        Version::One => put_numbers(port, out, b"k", &[p, q]),
-        Version::Two => put_numbers(port, out, b"k", &[p, q, 2]),
-        Version::Three => put_numbers(port, out, b"k", &[p, q, 3]),
+    match (ratio.factor(), version) {
+        (None, Version::One) => put_numbers(port, out, b"k", &[p, q]),
+        (None, Version::Two) => put_numbers(port, out, b"k", &[p, q, 2]),
+        (None, Version::Three) => put_numbers(port, out, b"k", &[p, q, 3]),
+        (Some(Factor { b, c }), _) => {
+            put_numbers(port, out, b"k", &[p, q, 3, u64::from(b), u64::from(c)])
+        }
     }
 }
 
@@ -125,9 +128,9 @@ pub(crate) fn put_feed<P: Port, L: Ledger>(
     put_numbers(port, out, b"end", &[])
 }
 
-/// The feed of valid jobs, of which none finishes early, and none finds it full at its release, ends without a fault,
-/// and says these jobs and no others.
+/// The feed of valid jobs, whose rules may be declared, and of which none finishes early, and none finds it full at its
+/// release, ends without a fault, and says these jobs and no others.
 pub fn feeds_of_jobs_are_read()
-    ensures { (J : Instance) → IsValid J → J.rules.finishes ≡ [] → IsNeverFull (session_of J)
-        → IsFeedOf J (feed_of J) }
+    ensures { (J : Instance) → IsValid J → IsDeclarable (declared_by J.rules) → J.rules.finishes ≡ []
+        → IsNeverFull (session_of J) → IsFeedOf J (feed_of J) }
 {}

@@ -32,7 +32,7 @@ pub returns-in-Ok-put_feed-clause-says : goal.returns-in-Ok-put_feed-clause-says
 returns-in-Ok-put_feed-clause-says g c = (
   feed_of (unrolled c.in-Ok-new.unrolling.until (listed_rules c.args.listed) c.in-Ok-new.unrolling.tasks),
   says_feed c.args.until (listed_rules c.args.listed) c.args.listed.tasks.items c.requires.ratio
-      c.requires.are
+      c.requires.declarable c.requires.are
       (passed c.args.until _ _ c.fits.result c.if-not-fits.false c.fits.ensures c.deref.ensures.value)
       c.in-Ok-new.unrolling.until c.in-Ok-new.unrolling.tasks c.in-Ok-new.ensures.until c.in-Ok-new.ensures.tasks,
   rw c.requires.empty at c.in-Ok-put_feed.ensures.text.all,
@@ -43,7 +43,7 @@ returns-clause-says g c = (
   Done,
   feed_of (unrolled c.in-Ok-new.unrolling.until (listed_rules c.args.listed) c.in-Ok-new.unrolling.tasks),
   says_feed c.args.until (listed_rules c.args.listed) c.args.listed.tasks.items c.requires.ratio
-      c.requires.are
+      c.requires.declarable c.requires.are
       (passed c.args.until _ _ c.fits.result c.if-not-fits.false c.fits.ensures c.deref.ensures.value)
       c.in-Ok-new.unrolling.until c.in-Ok-new.unrolling.tasks c.in-Ok-new.ensures.until c.in-Ok-new.ensures.tasks,
   rw c.requires.empty at c.in-Err-put_feed.ensures.text.part,

@@ -1,0 +1,3 @@
+pub mod Talking
+pub mod Ending
+pub mod Spending

@@ -1,0 +1,64 @@
+-- The jobs that are left, step by step.
+use Rattle.std.proofs.Common.{◌≡◌, ℕ, zero, suc, ◌+◌, ◌-◌, ◌≤◌, ◌<◌, List, [], ◌∷◌, ◌++◌, length, refl, sym, ap}
+use Rattle.std.proofs.Common.{◌∙◌, drop, eqb, arith, max}
+use Rattle.std.proofs.lemmas.List.{drop_more}
+use Rattle.std.specs.List.{enumerate_from}
+use Rattle.dover_model.specs.Sure.{Stream, stream_at, blank_stream, most_crossing, others, best_of}
+use Rattle.task_words.specs.sure.Kept.{copies, left_from}
+use Rattle.task_words.specs.sure.Streams.{count_beside}
+use Rattle.task_words.proofs.sure.Beside.{copied, length_others}
+
+-- a list behind its end
+pub behind_end : {X : Type 0} (xs : List X) (n : ℕ) → length xs ≤ n → drop n xs ≡ []
+behind_end [] zero less = refl
+behind_end [] (suc n) less = refl
+behind_end (x ∷ xs) zero less = absurd (omega (arith, less))
+behind_end (x ∷ xs) (suc n) less = behind_end xs n (omega (arith, less))
+
+module _ (streams : List Stream) (x : ℕ) where
+  -- the first of those that are left
+  pub left_more : (n left : ℕ) → 0 < left
+      → left_from streams x n left ≡ stream_at streams n ∷ left_from streams x n (left - 1)
+  left_more n zero some = absurd (omega (arith, some))
+  left_more n (suc left) some =
+      ap (λ m. stream_at streams n ∷ left_from streams x n m) (let e : left ≡ suc left - 1 = omega arith in e)
+
+  -- of the others from a place on, those at the place come first
+  pub others_from : (n : ℕ) → n < length streams
+      → others x (enumerate_from n (drop n streams)) ≡ left_from streams x n (copies streams x n)
+  others_from n less =
+      ap (λ l. others x (enumerate_from n l)) (drop_more streams n blank_stream less)
+      ∙ ap (λ l. l ++ others x (enumerate_from (n + 1) (drop (n + 1) streams)))
+      (copied (eqb n x) (most_crossing (stream_at streams n)) (stream_at streams n))
+
+  -- where none is left of a stream, those of the next are
+  pub left_next : (n : ℕ) → n + 1 < length streams
+      → left_from streams x n 0 ≡ left_from streams x (n + 1) (copies streams x (n + 1))
+  left_next n less = others_from (n + 1) less
+
+  -- or none
+  pub left_none : (n : ℕ) → length streams ≤ n + 1 → left_from streams x n 0 ≡ []
+  left_none n over = ap (λ l. others x (enumerate_from (n + 1) l)) (behind_end streams (n + 1) over)
+
+  -- all of them
+  pub left_all : 0 < length streams → others x (enumerate_from 0 streams) ≡ left_from streams x 0 (copies streams x 0)
+  left_all some = others_from 0 some
+
+  -- so many
+  pub left_count : 0 < length streams → length (left_from streams x 0 (copies streams x 0)) ≡ count_beside streams x
+  left_count some = ap (λ (l : List Stream). length l) (sym (left_all some)) ∙ length_others x 0 streams
+
+  -- the best without the first and with it
+  pub best_more : (n left work span value : ℕ) → 0 < left
+      → best_of (left_from streams x n left) work span value
+      ≡ max (best_of (left_from streams x n (left - 1)) work span value)
+      (best_of (left_from streams x n (left - 1)) (work + (stream_at streams n).work)
+      (max span (stream_at streams n).span) (value + (stream_at streams n).value))
+  best_more n left work span value some = ap (λ l. best_of l work span value) (left_more n left some)
+
+  -- one fewer
+  pub count_less : (n left : ℕ) → 0 < left
+      → length (left_from streams x n left) ≡ length (left_from streams x n (left - 1)) + 1
+  count_less n left some =
+      let e : length (left_from streams x n left) ≡ length (stream_at streams n ∷ left_from streams x n (left - 1)) =
+      ap (λ (l : List Stream). length l) (left_more n left some) in omega (arith, e)
