@@ -1,25 +1,28 @@
 -- That words ask for one thing at most.
-use Rattle.std.proofs.Common.{◌≡◌, ℕ, ◌+◌, ◌<◌, ◌^◌, List, [], ◌∷◌, String, get_or, decimal, sym, ap, ◌∙◌}
-use Rattle.std.proofs.Common.{subst, arith, drop, length, refl, suc, zero, string_bytes, Option, Some, None}
+use Rattle.std.proofs.Common.{◌≡◌, ℕ, ◌+◌, ◌-◌, ◌<◌, ◌^◌, List, [], ◌∷◌, String, get_or, decimal, sym, ap, ◌∙◌}
+use Rattle.std.proofs.Common.{take, length-drop}
+use Rattle.std.proofs.Common.{subst, arith, drop, length, refl, suc, zero, string_bytes, Option, Some, None, IsTrue}
 use Rattle.std.specs.Prelude.{codes, bytes_eq, unwrap_or, if◌then◌else◌}
+use Rattle.std.proofs.lemmas.List.{take_all}
 use Rattle.std.specs.declared.alloc.Global.{Global}
 use Rattle.trace_words.specs.declared.report.form.Form.{Form}
 use Rattle.trace_words.specs.declared.report.form.Form.TheVariants.{Text, Table, Chrome, Why, Timeline, Svg}
 use Rattle.stated_jobs.specs.declared.duel.links.Share.{Share}
 use Rattle.stated_jobs.specs.duel.Kept.{IsShare}
 use Rattle.run_reports.specs.declared.views.window.Window.{Window}
-use Rattle.dover_model.specs.Fraction.{Fraction, IsRatio}
+use Rattle.dover_model.specs.Fraction.{Fraction, IsRatio, fraction, is_some_factor}
+use Rattle.dover_model.specs.declared.factors.Factor.{Factor}
 use Rattle.dover_model.specs.Numerals.{numeral}
 use Rattle.dover_model.proofs.Numerals.{numeral-decimal}
 use Rattle.dover_top.specs.Requests.{Asks}
-use Rattle.dover_top.specs.Words.{IsFormed, form_words, spelled}
+use Rattle.dover_top.specs.Words.{IsFormed, factor_words, form_words, spelled}
 use Rattle.dover_top.specs.declared.request.Request.{Request}
 use Rattle.dover_top.specs.declared.request.Request.TheVariants.{Serve, Judge, Report, Trial, Bait, Ask, Lanes, Pause}
-use Rattle.dover_top.specs.declared.request.Request.TheVariants.{Resume, Unroll, Duel, Draw}
+use Rattle.dover_top.specs.declared.request.Request.TheVariants.{Resume, Unroll, Duel, Draw, Sure}
 use Rattle.feed_words.specs.declared.serve.at_end.AtEnd.{AtEnd}
 use Rattle.feed_words.specs.declared.serve.at_end.AtEnd.TheVariants as ends
 use Rattle.question_words.specs.declared.question.Question.TheVariants.{Feasible, Best, Compare, Loss}
-use Rattle.dover_model.proofs.JobLimits.{ratio_limits}
+use Rattle.dover_model.proofs.JobLimits.{ratio_limits, factor_limits}
 
 -- ---- words read as what they ask for, if they ask for something
 
@@ -33,7 +36,17 @@ number_of word = unwrap_or (numeral word) 0
 
 -- the ratio whose numbers are spelled from this place on
 abbrev ratio_at : ℕ → List (List ℕ) → Fraction
-ratio_at n words = record { p = number_of (word_at n words); q = number_of (word_at (n + 1) words) }
+ratio_at n words = fraction (number_of (word_at n words)) (number_of (word_at (n + 1) words))
+
+-- the factor that words spell, if there is one
+abbrev factor_of : List (List ℕ) → Option Factor
+factor_of [] = None
+factor_of (b ∷ more) = Some (record { b = number_of b; c = number_of (word_at 0 more) })
+
+-- the ratio with the factor behind the rounds
+abbrev baited_at : List (List ℕ) → Fraction
+baited_at words =
+    record { p = number_of (word_at 1 words); q = number_of (word_at 2 words); factor = factor_of (drop 4 words) }
 
 -- the share whose numbers are spelled from this place on
 abbrev share_at : ℕ → List (List ℕ) → Share
@@ -69,7 +82,7 @@ request_of words =
     if bytes_eq (word_at 0 words) (codes "report") then Report (form_of words) else (
     if bytes_eq (word_at 0 words) (codes "trial")
     then Trial (number_of (word_at 1 words)) (number_of (word_at 2 words)) (ratio_at 3 words) else (
-    if bytes_eq (word_at 0 words) (codes "bait") then Bait (ratio_at 1 words) (number_of (word_at 3 words)) else (
+    if bytes_eq (word_at 0 words) (codes "bait") then Bait (baited_at words) (number_of (word_at 3 words)) else (
     if bytes_eq (word_at 0 words) (codes "feasible") then Ask Feasible else (
     if bytes_eq (word_at 0 words) (codes "best") then Ask Best else (
     if bytes_eq (word_at 0 words) (codes "compare") then Ask Compare else (
@@ -77,26 +90,45 @@ request_of words =
     if bytes_eq (word_at 0 words) (codes "lanes") then Lanes else (
     if bytes_eq (word_at 0 words) (codes "pause") then Pause else (
     if bytes_eq (word_at 0 words) (codes "resume") then Resume (end_of (word_at 1 words)) else (
+    if bytes_eq (word_at 0 words) (codes "sure") then Sure else (
     if bytes_eq (word_at 0 words) (codes "duel")
     then Duel (ratio_at 1 words) (share_at 3 words) (front_of (drop 5 words)) else (
     if bytes_eq (word_at 0 words) (codes "draw")
     then Draw (number_of (word_at 1 words)) (number_of (word_at 2 words)) (ratio_at 3 words) else Unroll
-    (number_of (word_at 1 words)))))))))))))))
+    (number_of (word_at 1 words))))))))))))))))
 
 -- a number is read back
 number_same : (n : ℕ) → n < 10 ^ 18 → number_of (decimal n) ≡ n
 number_same n small = ap (λ o. unwrap_or o 0) (numeral-decimal n small)
 
--- so is a ratio
-ratio_same : (k : Fraction) → IsRatio k → record { p = number_of (decimal k.p); q = number_of (decimal k.q) } ≡ k
-ratio_same k r = both (number_same k.p (omega (arith, (ratio_limits r).small_p)))
+-- so is a ratio, with what is its factor
+numbers_same : (k : Fraction) → IsRatio k → (o : Option Factor) → o ≡ k.factor
+    → record { p = number_of (decimal k.p); q = number_of (decimal k.q); factor = o } ≡ k
+numbers_same k r o is = all (number_same k.p (omega (arith, (ratio_limits r).small_p)))
     (number_same k.q (omega (arith, (ratio_limits r).small_q))) where
-      make : ℕ → ℕ → Fraction
-      make p q = record { p = p; q = q }
+      make : ℕ → ℕ → Option Factor → Fraction
+      make p q o = record { p = p; q = q; factor = o }
 
-      both : number_of (decimal k.p) ≡ k.p → number_of (decimal k.q) ≡ k.q
-          → make (number_of (decimal k.p)) (number_of (decimal k.q)) ≡ k
-      both e f = ap (λ p. make p (number_of (decimal k.q))) e ∙ ap (λ q. make k.p q) f
+      all : number_of (decimal k.p) ≡ k.p → number_of (decimal k.q) ≡ k.q
+          → make (number_of (decimal k.p)) (number_of (decimal k.q)) o ≡ k
+      all e f = ap (λ p. make p (number_of (decimal k.q)) o) e ∙ ap (λ q. make k.p q o) f ∙ ap (λ x. make k.p k.q x) is
+
+-- so is one with no factor
+ratio_same : (k : Fraction) → IsRatio k → k.factor ≡ None
+    → fraction (number_of (decimal k.p)) (number_of (decimal k.q)) ≡ k
+ratio_same k r plain = numbers_same k r None (sym plain)
+
+-- so is a factor
+factor_same : (o : Option Factor) → IsTrue (is_some_factor o) → factor_of (factor_words o) ≡ o
+factor_same None some = refl
+factor_same (Some f) some = both (number_same f.b (omega (arith, (factor_limits f some).small_b)))
+    (number_same f.c (omega (arith, (factor_limits f some).small_c))) where
+      make : ℕ → ℕ → Option Factor
+      make b c = Some (record { b = b; c = c })
+
+      both : number_of (decimal f.b) ≡ f.b → number_of (decimal f.c) ≡ f.c
+          → make (number_of (decimal f.b)) (number_of (decimal f.c)) ≡ Some f
+      both e f2 = ap (λ b. make b (number_of (decimal f.c))) e ∙ ap (λ c. make f.b c) f2
 
 -- so is a share
 share_same : (s : Share) → IsShare s → record {
@@ -143,14 +175,16 @@ is_read words (Trial seed count k) asks = ap request_of asks.row
     ∙ ap (λ n. Trial n (number_of (decimal count)) (ratio_at 0 (decimal k.p ∷ decimal k.q ∷ [])))
     (number_same seed (omega (arith, asks.small)))
     ∙ ap (λ n. Trial seed n (ratio_at 0 (decimal k.p ∷ decimal k.q ∷ []))) (number_same count (omega (arith, asks.few)))
-    ∙ ap (λ l. Trial seed count l) (ratio_same k asks.allowed)
+    ∙ ap (λ l. Trial seed count l) (ratio_same k asks.allowed asks.plain)
 is_read words (Draw seed count k) asks = ap request_of asks.row
     ∙ ap (λ n. Draw n (number_of (decimal count)) (ratio_at 0 (decimal k.p ∷ decimal k.q ∷ [])))
     (number_same seed (omega (arith, asks.small)))
     ∙ ap (λ n. Draw seed n (ratio_at 0 (decimal k.p ∷ decimal k.q ∷ []))) (number_same count (omega (arith, asks.few)))
-    ∙ ap (λ l. Draw seed count l) (ratio_same k asks.allowed)
+    ∙ ap (λ l. Draw seed count l) (ratio_same k asks.allowed asks.plain)
 is_read words (Bait k rounds) asks = ap request_of asks.row
-    ∙ ap (λ l. Bait l (number_of (decimal rounds))) (ratio_same k asks.allowed)
+    ∙ ap (λ l. Bait l (number_of (decimal rounds)))
+    (numbers_same k asks.allowed (factor_of (factor_words k.factor))
+    (factor_same k.factor (ratio_limits asks.allowed).factor))
     ∙ ap (λ n. Bait k n) (number_same rounds (omega (arith, asks.few)))
 is_read words (Ask Feasible) asks = ap request_of asks
 is_read words (Ask Best) asks = ap request_of asks
@@ -160,14 +194,16 @@ is_read words Lanes asks = ap request_of asks
 is_read words Pause asks = ap request_of asks
 is_read words (Resume ends.Refuse) asks = ap request_of asks
 is_read words (Resume ends.Pause) asks = ap request_of asks
+is_read words Sure asks = ap request_of asks
 is_read words (Unroll until) asks = ap request_of asks.row
     ∙ ap (λ n. Unroll n) (number_same until (omega (arith, asks.known)))
 is_read words (Duel k share None) asks = ap request_of asks.row
-    ∙ ap (λ l. Duel l (share_at 0 (decimal share.part ∷ decimal share.whole ∷ [])) None) (ratio_same k asks.allowed)
+    ∙ ap (λ l. Duel l (share_at 0 (decimal share.part ∷ decimal share.whole ∷ [])) None)
+    (ratio_same k asks.allowed asks.plain)
     ∙ ap (λ s. Duel k s None) (share_same share asks.share_is)
 is_read words (Duel k share (Some count)) asks = ap request_of asks.row
     ∙ ap (λ l. Duel l (share_at 0 (decimal share.part ∷ decimal share.whole ∷ [])) (Some (number_of (decimal count))))
-    (ratio_same k asks.allowed)
+    (ratio_same k asks.allowed asks.plain)
     ∙ ap (λ s. Duel k s (Some (number_of (decimal count)))) (share_same share asks.share_is)
     ∙ ap (λ n. Duel k share (Some n)) (number_same count (omega (arith, asks.formed.1)))
 
@@ -227,3 +263,13 @@ spelled_end [] zero e = refl
 spelled_end [] (suc n) e = refl
 spelled_end (w ∷ words) zero e = absurd (omega (arith, e))
 spelled_end (w ∷ words) (suc n) e = spelled_end words n (omega (arith, e))
+
+-- the words behind so many are all of the rest
+pub all_behind : (words : List (String Global)) (n : ℕ) → take (length words - n) (drop n words) ≡ drop n words
+all_behind words n = take_all (length words - n) (drop n words) (omega (arith, length-drop n words))
+
+-- and are spelled behind so many
+pub spelled_behind : (words : List (String Global)) (n : ℕ) → spelled (drop n words) ≡ drop n (spelled words)
+spelled_behind words zero = refl
+spelled_behind [] (suc n) = refl
+spelled_behind (w ∷ words) (suc n) = spelled_behind words n

@@ -1,23 +1,25 @@
 -- What is promised of what was read and written.
-use Rattle.std.proofs.Common.{◌≡◌, ◌≤◌, ℕ, List, [], ◌++◌, Bool, true, refl, sym, ap, ◌∙◌, inl, inr, subst, take, drop}
+use Rattle.std.proofs.Common.{◌≡◌, ◌≤◌, ℕ, List, ◌++◌, Bool, true, refl, sym, ap, ◌∙◌, inl, inr, subst, take, drop}
 use Rattle.std.proofs.Common.{Option, Some, None}
 use Rattle.std.proofs.lemmas.List.{take-append-drop}
 use Rattle.dover_model.specs.Instance.{Instance, IsValid, jobs_under}
 use Rattle.dover_model.specs.JobFacts.{JobFacts}
-use Rattle.dover_model.specs.Session.{instance_of}
+use Rattle.dover_model.specs.Session.{instance_of, IsDeclarable, takes_factors}
 use Rattle.dover_model.specs.Verdict.{verdict}
 use Rattle.dover_model.specs.Due.{due}
 use Rattle.dover_model.specs.Feed.{account, is_ended, is_open}
 use Rattle.dover_model.specs.Fraction.{Fraction, IsRatio}
+use Rattle.dover_model.specs.declared.factors.Factor.{Factor}
+use Rattle.dover_model.specs.declared.events.Version.{Version}
 use Rattle.dover_model.specs.Limits.{most_jobs}
 use Rattle.dover_model.specs.declared.events.Version.TheVariants.{One, Two}
 use Rattle.dover_model.proofs.Accepting.{feed_hands, feed_accepted}
+use Rattle.dover_model.proofs.AcceptedTexts.{accepted_is_trace}
 use Rattle.dover_model.proofs.BoundLaws.{bound, observed_bound}
 use Rattle.dover_model.proofs.Honest.{observed_honest, observed_all}
 use Rattle.dover_model.proofs.Meeting.{on_line_finishes}
 use Rattle.dover_model.proofs.Runs.{none_lost, all_value}
 use Rattle.dover_model.proofs.Tests.{never}
-use Rattle.dover_model.proofs.Members.{some_same}
 use Rattle.dover_model.proofs.Valid.{valid_front}
 use Rattle.dover_port.specs.Moves.{Move, ins, outs, has_ended}
 use Rattle.dover_port.specs.declared.status.Status.TheVariants.{Done, Refused}
@@ -31,6 +33,7 @@ use Rattle.question_words.specs.Talk as asked
 use Rattle.stated_jobs.proofs.trial.Drawn.{valid as generated_valid}
 use Rattle.stated_jobs.proofs.bait.Completions.{completes_last_alone}
 use Rattle.stated_jobs.specs.bait.Baiting.{FitsLimits}
+use Rattle.stated_jobs.specs.bait.BaitingRuns.{version_for}
 use Rattle.stated_jobs.proofs.bait.Validity.{some_bait, valid as bait_valid}
 use Rattle.stated_jobs.proofs.bait.Plans.{plan_worth}
 use Rattle.stated_jobs.specs.declared.duel.links.Share.{Share}
@@ -49,7 +52,7 @@ use Rattle.dover_model.proofs.SessionParts.{session_jobs}
 use Rattle.dover_model.proofs.ValidParts.{valid_parts}
 
 -- the run of a valid list keeps the promises
-promises_of : (J : Instance) → IsValid J → KeepsPromises J
+pub promises_of : (J : Instance) → IsValid J → KeepsPromises J
 promises_of J valid = record {
   bound = λ s. bound J s valid;
   observed_bound = λ s. observed_bound J s valid;
@@ -113,6 +116,7 @@ pub accepted : (moves : List Move) → IsTrace (ins moves) → IsAccepted moves
 accepted moves it = record {
   session = it.0;
   valid = it.1;
+  text = (accepted_is_trace (ins moves) it.0 it.2).1;
   accepted = it.2;
   promises = promises_of (instance_of it.0) (session_jobs it.1);
 }
@@ -133,10 +137,10 @@ generated k seed count allowed few =
 
 pub baited : (k : Fraction) (rounds : ℕ) → IsRatio k → 1 ≤ rounds → FitsLimits k rounds → KeepsBaits k rounds
 baited k rounds allowed some fits =
-    let valid = bait_valid k rounds allowed fits (some_bait k rounds allowed some fits) One in
+    let valid = bait_valid k rounds allowed fits (some_bait k rounds allowed some fits) (version_for k) in
     record {
-      schedule = plan_worth k rounds One;
-      last = completes_last_alone k One rounds some valid;
+      schedule = plan_worth k rounds (version_for k);
+      last = completes_last_alone k (version_for k) rounds some valid;
       promises = promises_of (bait_instance k rounds) valid;
     }
 
@@ -147,13 +151,19 @@ front_valid k None jobs valid = valid
 front_valid k (Some count) jobs valid = valid_front (jobs_under One k (take count jobs)) (drop count jobs)
     (subst (λ js. AreValid One k js) (sym (take-append-drop count jobs)) valid)
 
-pub dueled : (k : Fraction) (share : Share) (front : Option ℕ) (moves : List Move) → IsShare share
+-- where there is no factor, any version may be declared
+no_factor : (k : Fraction) (version : Version) → k.factor ≡ None
+    → IsDeclarable (record { ratio = k; version = version })
+no_factor k version plain =
+    subst (λ (o : Option Factor). elim o [ None ↦ true | Some f ↦ takes_factors version ] ≡ true) (sym plain) refl
+
+pub dueled : (k : Fraction) (share : Share) (front : Option ℕ) (moves : List Move) → k.factor ≡ None → IsShare share
     → IsDuel k share front → outs moves ≡ feed_of (duel_front k share front) → KeepsDuel k share front moves
-dueled k share front moves is it written = record {
+dueled k share front moves plain is it written = record {
   loses = λ scheduler online. each_loses One k share.whole share.part scheduler is.some_part it.valid
       (valid_parts it.valid).count online;
   feed = subst (IsFeedOf (duel_front k share front)) (sym written)
-      (feed_is (duel_front k share front) (front_valid k front (jobs_for k share) it.valid) refl
+      (feed_is (duel_front k share front) (front_valid k front (jobs_for k share) it.valid) (no_factor k One plain) refl
       (jobs_never (duel_front k share front)
       (valid_parts (front_valid k front (jobs_for k share) it.valid)).count));
 }

@@ -1,4 +1,6 @@
 pub mod Keeping
+pub mod ToldSure
+pub mod SoFar
 pub mod ServedLanes
 pub mod Asking
 pub mod Numbers

@@ -1,5 +1,5 @@
 -- What a call says and keeps, for each row of words.
-use Rattle.std.proofs.Common.{◌≡◌, ℕ, List, sym, subst, ◌∙◌, ◌⊎◌, inl, inr, Option, String}
+use Rattle.std.proofs.Common.{None, ◌≡◌, ℕ, List, sym, subst, ◌∙◌, ◌⊎◌, inl, inr, Option, String}
 use Rattle.std.specs.declared.alloc.Global.{Global}
 use Rattle.dover_model.specs.Fraction.{Fraction}
 use Rattle.dover_port.specs.Moves.{Move, Since, ins, outs, has_ended}
@@ -18,16 +18,18 @@ use Rattle.lanes_word.specs.Record as laned
 use Rattle.lanes_word.specs.Talk.{lanes_talk}
 use Rattle.dover_top.specs.Says.{Says}
 use Rattle.dover_top.specs.Keeps.{Keeps}
-use Rattle.dover_top.specs.Promises.{AreServed, HaveEnded, KeepsBaits, KeepsDuel}
+use Rattle.dover_top.specs.Promises.{AreServed, HaveEnded, KeepsBaits, KeepsDuel, feed_in}
 use Rattle.dover_top.specs.Requests.{Asks}
 use Rattle.dover_top.specs.Carrying.{CarriesOut}
 use Rattle.dover_top.specs.Spending.{IsFrugal, IsFrugalAsAsked}
 use Rattle.dover_top.specs.declared.request.Request.{Request}
 use Rattle.dover_top.specs.declared.request.Request.TheVariants.{Serve, Judge, Report, Trial, Bait, Ask, Lanes, Pause}
-use Rattle.dover_top.specs.declared.request.Request.TheVariants.{Resume, Unroll, Duel, Draw}
+use Rattle.dover_top.specs.declared.request.Request.TheVariants.{Resume, Unroll, Duel, Draw, Sure}
 use Rattle.dover_top.proofs.Asking.{asks_one}
 use Rattle.dover_top.proofs.Keeping.{served, traced, resumed_so, accepted, ran, generated, baited, dueled}
+use Rattle.dover_top.proofs.ToldSure.{told_sure}
 use Rattle.dover_top.proofs.ServedLanes.{are_served, have_ended}
+use Rattle.dover_top.proofs.SoFar.{kept_so, served_so_far, resumed_so_far}
 
 -- ---- Usage
 
@@ -48,6 +50,7 @@ no_usage (Resume at_end) moves s = elim s.ends [
   | inr it ↦ it.each it.feed it.more it.may it.read
 ]
 no_usage (Unroll until) moves s = s.ends
+no_usage Sure moves s = s.ends
 no_usage (Duel k share front) moves (inl s) = s.1
 no_usage (Duel k share front) moves (inr s) = s.2
 no_usage (Draw seed count k) moves s = s
@@ -69,10 +72,10 @@ module _ (moves : List Move) where
   bait_kept k rounds kept (inl it) = kept it.0
   bait_kept k rounds kept (inr it) = absurd it.1
 
-  duel_kept : (k : Fraction) (share : Share) (front : Option ℕ) → IsShare share → Duels k share front Done moves
-      → KeepsDuel k share front moves
-  duel_kept k share front is (inl it) = dueled k share front moves is it.0 it.1.1
-  duel_kept k share front is (inr it) = absurd it.2
+  duel_kept : (k : Fraction) (share : Share) (front : Option ℕ) → k.factor ≡ None → IsShare share
+      → Duels k share front Done moves → KeepsDuel k share front moves
+  duel_kept k share front plain is (inl it) = dueled k share front moves plain is it.0 it.1.1
+  duel_kept k share front plain is (inr it) = absurd it.2
 
   lanes_served : (status : Status) → (status ≡ Done) ⊎ (status ≡ Refused) → laned.Serves status moves → AreServed moves
   lanes_served status (inl is) (inl it) = are_served Done moves (subst (λ s. Talks lanes_talk s moves) is it).ends
@@ -86,8 +89,10 @@ module _ (moves : List Move) where
 
   keeps_of : (words : List (String Global)) (r : Request) → Asks words r → (status : Status) → Says r status moves
       → Keeps r status moves
-  keeps_of words Serve asks status s = λ done.
-      traced (ins moves) (has_ended moves) (outs moves) (at Serve status s done).ends.answer
+  keeps_of words Serve asks status s = (
+    served_so_far ends.Refuse status (ins moves) (outs moves) (has_ended moves) s.ends,
+    (λ done. traced (ins moves) (has_ended moves) (outs moves) (at Serve status s done).ends.answer),
+  )
   keeps_of words Judge asks status s = λ done. accepted moves (at Judge status s done).ends.answer.0
   keeps_of words (Report form) asks status s = λ done. accepted moves (at (Report form) status s done).ends.answer.0
   keeps_of words (Trial seed count k) asks status s = λ done. generated k seed count asks.allowed asks.few
@@ -96,16 +101,22 @@ module _ (moves : List Move) where
   keeps_of words (Ask question) asks status s = λ done.
       ran (says question) (has_ended moves) (outs moves) moves (at (Ask question) status s done).ends.answer
   keeps_of words Lanes asks status s = (
+    (λ lane low. kept_so (feed_in moves lane)),
     (λ over. lanes_served status over s),
     (λ done. lanes_ended (at Lanes status s done)),
   )
-  keeps_of words Pause asks status s = λ done.
-      served ends.Pause (ins moves) (has_ended moves) (outs moves) (at Pause status s done).ends.answer
-  keeps_of words (Resume at_end) asks status s = λ done.
-      resumed_so at_end moves (at (Resume at_end) status s done).ends
+  keeps_of words Pause asks status s = (
+    served_so_far ends.Pause status (ins moves) (outs moves) (has_ended moves) s.ends,
+    (λ done. served ends.Pause (ins moves) (has_ended moves) (outs moves) (at Pause status s done).ends.answer),
+  )
+  keeps_of words (Resume at_end) asks status s = (
+    resumed_so_far at_end status moves s.ends,
+    (λ done. resumed_so at_end moves (at (Resume at_end) status s done).ends),
+  )
   keeps_of words (Unroll until) asks status s = tt
+  keeps_of words Sure asks status s = λ done. told_sure (has_ended moves) moves (at Sure status s done).ends.answer
   keeps_of words (Duel k share front) asks status s = λ done.
-      duel_kept k share front asks.share_is (at (Duel k share front) status s done)
+      duel_kept k share front asks.plain asks.share_is (at (Duel k share front) status s done)
   keeps_of words (Draw seed count k) asks status s = tt
 
 -- ---- of a call
@@ -113,7 +124,7 @@ module _ (moves : List Move) where
 -- what is said of a request that is this one
 pub carried : (request r : Request) (status : Status) (old new : Option (List Move)) (before now : ℕ) → request ≡ r
     → Since old new (Says r status) → CanEnd (Says r) status → Since old new (IsFrugal r before now)
-    → (status ≡ Done → IsFrugalAsAsked r before now) → CarriesOut request status old new before now
+    → IsFrugalAsAsked r before now → CarriesOut request status old new before now
 carried request r status old new before now is talks ends comparisons stated =
     subst (λ q. CarriesOut q status old new before now) (sym is)
     (record { talks = talks; ends = ends; comparisons = comparisons; stated = stated })

@@ -1,9 +1,8 @@
 -- What carrying out a request leaves.
-use Rattle.std.specs.Prelude.{◌≡◌, ℕ, List, Option}
+use Rattle.std.specs.Prelude.{ℕ, List, Option}
 use Rattle.dialogue.specs.Talk.{CanEnd}
 use Rattle.dover_port.specs.Moves.{Move, Since}
 use Rattle.dover_port.specs.declared.status.Status.{Status}
-use Rattle.dover_port.specs.declared.status.Status.TheVariants.{Done}
 use Rattle.dover_top.specs.Says.{Says}
 use Rattle.dover_top.specs.Spending.{IsFrugal, IsFrugalAsAsked}
 use Rattle.dover_top.specs.declared.request.Request.{Request}
@@ -14,4 +13,4 @@ pub record CarriesOut (request : Request) (status : Status) (old new : Option (L
     pub talks : Since old new (Says request status)
     pub ends : CanEnd (Says request) status
     pub comparisons : Since old new (IsFrugal request before now)
-    pub stated : status ≡ Done → IsFrugalAsAsked request before now
+    pub stated : IsFrugalAsAsked request before now

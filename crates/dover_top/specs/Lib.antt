@@ -1,4 +1,5 @@
 pub mod Promises
+pub mod SureTasks
 pub mod Words
 pub mod Requests
 pub mod Says

@@ -1,22 +1,28 @@
 -- What is promised of what was read and written.
-use Rattle.std.specs.Prelude.{◌≡◌, ◌≢◌, ◌<◌, ℕ, List, [], ◌++◌, true, false, Option, Some}
+use Rattle.std.specs.Prelude.{◌≡◌, ◌≢◌, ◌<◌, ◌⊎◌, ℕ, List, [], ◌++◌, true, false, Option, Some}
+use Rattle.std.specs.Prelude.{if◌then◌else◌}
 use Rattle.std.specs.List.{sum_by}
 use Rattle.dover_model.specs.Instance.{Instance, IsValid, bare}
 use Rattle.dover_model.specs.Session.{Session, IsValidSession, instance_of}
 use Rattle.dover_model.specs.Bait.{bait_plan, plan_value}
 use Rattle.dover_model.specs.Bound.{IsWithin}
-use Rattle.dover_model.specs.Due.{due}
-use Rattle.dover_model.specs.Feed.{account, is_ended}
+use Rattle.dover_model.specs.Due.{due, decided_lines}
+use Rattle.dover_model.specs.Feed.{Account, account, is_ended}
+use Rattle.dover_model.specs.Lines.{in_lines}
+use Rattle.dover_model.specs.declared.events.Event.{Event}
 use Rattle.dover_model.specs.declared.events.Version.TheVariants.{One}
 use Rattle.dover_model.specs.Fraction.{Fraction}
 use Rattle.dover_model.specs.Observed.{observed}
 use Rattle.dover_model.specs.Online.{printed_up_to, finishes_up_to, known_at}
-use Rattle.dover_model.specs.Run.{run, ran, completed_value}
+use Rattle.dover_model.specs.Run.{run, ran, printed, completed_value}
 use Rattle.dover_model.specs.Schedules.{worth, Meets}
+use Rattle.dover_model.specs.Settled.{settled}
 use Rattle.dover_model.specs.Sound.{Each}
+use Rattle.dover_model.specs.Step.{Prints}
 use Rattle.dover_model.specs.Trace.{trace_of_session}
 use Rattle.dover_model.specs.Underload.{takes_or_abandons}
 use Rattle.dover_model.specs.Verdict.{Accepted, verdict}
+use Rattle.dover_model.specs.WholeRun.{Begins}
 use Rattle.dover_port.specs.Moves.{Move, ins, outs}
 use Rattle.stated_jobs.specs.bait.BaitingRuns.{CompletesLastAlone}
 use Rattle.stated_jobs.specs.declared.duel.links.Share.{Share}
@@ -49,6 +55,39 @@ pub record KeepsPromises (J : Instance) : Type 0 where
   -- and the run completes all value.
   pub all_value : Meets J → completed_value J ≡ sum_by (λ j. j.value) J.jobs
 
+-- ---- a feed so far, ended or not
+
+-- the steps that are decided for the bytes so far: all of the run where the feed has ended, else those that are settled
+abbrev pub decided : Account → Session → List Event
+decided a S = if is_ended a then printed (instance_of S) else settled (instance_of S) a.mark
+
+-- what stands of the session of a feed so far
+pub record IsKeptBy (feed : List ℕ) (session : Session) : Type 0 where
+  pub valid : IsValid (instance_of session)
+  -- The run of its jobs keeps the promises,
+  pub promises : KeepsPromises (instance_of session)
+  -- the steps that are decided begin this run,
+  pub begins : Begins (decided (account feed) session) (printed (instance_of session))
+  -- and where some schedule serves every job, none of them takes a job late or abandons one.
+  pub none_lost : Meets (instance_of session)
+      → Each (λ event. takes_or_abandons (Prints event) ≡ false) (decided (account feed) session)
+
+-- From the ratio line on, the feed so far has a session, of which this stands.
+abbrev pub IsKept : List ℕ → Type 0
+IsKept feed = (session : Session) → (account feed).session ≡ Some session → IsKeptBy feed session
+
+-- one of the two texts begins the other
+abbrev pub Agree : List ℕ → List ℕ → Type 0
+Agree one other = Begins one other ⊎ Begins other one
+
+-- What was written for the feed so far is, as far as both go, the lines of the steps that are decided, with the refused
+-- lines among them.
+pub record IsServedSoFar (feed written : List ℕ) : Type 0 where
+  pub kept : IsKept feed
+  pub text : Agree written (in_lines (decided_lines (account feed)))
+
+-- ---- by what was read and written
+
 -- this feed ended without a fault, and this was written: the trace of its session
 pub record IsTraceOf (feed written : List ℕ) : Type 0 where
   pub session : Session
@@ -73,10 +112,16 @@ abbrev pub IsResumed : List Move → Type 0
 IsResumed moves = Behind (ins moves)
     (λ F H. is_ended (account (F ++ H)) ≡ true → IsTraceOf (F ++ H) (due F ++ outs moves))
 
+-- Of each feed whose snapshot was read, and what follows it: what was due where it was paused, and what was written
+-- behind that, serve the whole feed so far.
+abbrev pub IsResumedSoFar : List Move → Type 0
+IsResumedSoFar moves = Behind (ins moves) (λ F H. IsServedSoFar (F ++ H) (due F ++ outs moves))
+
 -- the text that was read is the trace of a valid session
 pub record IsAccepted (moves : List Move) : Type 0 where
   pub session : Session
   pub valid : IsValidSession session
+  pub text : ins moves ≡ trace_of_session session
   pub accepted : verdict (ins moves) ≡ Accepted session
   pub promises : KeepsPromises (instance_of session)
 

@@ -6,10 +6,11 @@ use Rattle.feed_words.specs.serve.Spending as served
 use Rattle.feed_words.specs.resume.Record as resumed
 use Rattle.trace_words.specs.judge.Spending as judged
 use Rattle.lanes_word.specs.Spending as hosted
-use Rattle.task_words.specs.unroll.Spending as unrolled
+use Rattle.task_words.specs.asking.Spending as asked
+use Rattle.task_words.specs.declared.asking.question.TaskQuestion.TheVariants as tasks
 use Rattle.dover_top.specs.declared.request.Request.{Request}
 use Rattle.dover_top.specs.declared.request.Request.TheVariants.{Serve, Judge, Report, Trial, Bait, Ask, Lanes, Pause}
-use Rattle.dover_top.specs.declared.request.Request.TheVariants.{Resume, Unroll, Duel, Draw}
+use Rattle.dover_top.specs.declared.request.Request.TheVariants.{Resume, Unroll, Duel, Draw, Sure}
 
 -- how few comparisons it made, with so many before and now, for the jobs of what was read, at whatever status
 abbrev pub IsFrugal : Request → (before now : ℕ) → List Move → Type 0
@@ -20,7 +21,8 @@ IsFrugal Pause before now = served.IsFrugal before now
 IsFrugal (Resume at_end) before now = resumed.IsFrugal before now
 IsFrugal (Ask question) before now = served.IsFrugal before now
 IsFrugal Lanes before now = hosted.IsFrugal before now
-IsFrugal (Unroll until) before now = unrolled.IsFrugal until before now
+IsFrugal (Unroll until) before now = asked.IsFrugal (tasks.Unroll until) before now
+IsFrugal Sure before now = asked.IsFrugal tasks.Sure before now
 IsFrugal _ before now = λ moves. Unit {0}
 
 -- the same where the words alone tell how many jobs there are, and where none are served

@@ -1,8 +1,9 @@
 -- The command line: the rows of words.
-use Rattle.std.specs.Prelude.{◌≡◌, ℕ, ◌^◌, ◌<◌, ◌≤◌, ◌⊎◌, List, [], ◌∷◌, map, codes, decimal, String, string_bytes}
+use Rattle.std.specs.Prelude.{◌≡◌, ℕ, ◌^◌, ◌<◌, ◌≤◌, List, [], ◌∷◌, map, codes, decimal, String, string_bytes}
 use Rattle.std.specs.Prelude.{Option, Some, None}
 use Rattle.std.specs.declared.alloc.Global.{Global}
 use Rattle.dover_model.specs.Fraction.{Fraction, IsRatio}
+use Rattle.dover_model.specs.declared.factors.Factor.{Factor}
 use Rattle.dover_model.specs.declared.events.Version.TheVariants.{Two}
 use Rattle.dover_model.specs.Limits.{most_digits, most_jobs, last_tick}
 use Rattle.stated_jobs.specs.declared.duel.links.Share.{Share}
@@ -64,6 +65,7 @@ pub record AsksTrial (words : List (String Global)) (seed count : ℕ) (k : Frac
   pub small : seed < 2 ^ 31
   pub few : count ≤ most_jobs Two
   pub allowed : IsRatio k
+  pub plain : k.factor ≡ None
 
 -- the words that ask for the stated feed of so many jobs of a seed, within a ratio
 pub record AsksDraw (words : List (String Global)) (seed count : ℕ) (k : Fraction) : Type 0 where
@@ -71,10 +73,16 @@ pub record AsksDraw (words : List (String Global)) (seed count : ℕ) (k : Fract
   pub small : seed < 2 ^ 31
   pub few : count ≤ most_jobs Two
   pub allowed : IsRatio k
+  pub plain : k.factor ≡ None
 
--- the words that ask for the run of the baiting jobs of a ratio, with so many rounds
+-- the words for a factor, if there is one
+abbrev pub factor_words : Option Factor → List (List ℕ)
+factor_words None = []
+factor_words (Some f) = decimal f.b ∷ decimal f.c ∷ []
+
+-- the words that ask for the run of the baiting jobs of a ratio, with a factor or without, and with so many rounds
 pub record AsksBait (words : List (String Global)) (k : Fraction) (rounds : ℕ) : Type 0 where
-  pub row : spelled words ≡ codes "bait" ∷ decimal k.p ∷ decimal k.q ∷ decimal rounds ∷ []
+  pub row : spelled words ≡ codes "bait" ∷ decimal k.p ∷ decimal k.q ∷ decimal rounds ∷ factor_words k.factor
   pub some : 1 ≤ rounds
   pub few : rounds ≤ most_jobs Two
   pub allowed : IsRatio k
@@ -94,6 +102,7 @@ pub record AsksDuel (words : List (String Global)) (k : Fraction) (share : Share
   pub row : spelled words ≡ codes "duel" ∷ decimal k.p ∷ decimal k.q ∷ decimal share.part ∷ decimal share.whole
       ∷ front_words front
   pub allowed : IsRatio k
+  pub plain : k.factor ≡ None
   pub share_is : IsShare share
   pub formed : IsFront front
 
@@ -129,3 +138,7 @@ AsksResume words at_end = spelled words ≡ codes "resume" ∷ end_words at_end
 pub record AsksUnroll (words : List (String Global)) (until : ℕ) : Type 0 where
   pub row : spelled words ≡ codes "unroll" ∷ decimal until ∷ []
   pub known : until ≤ last_tick
+
+-- the one word that asks of each task whether a job of it can be lost
+abbrev pub AsksSure : List (String Global) → Type 0
+AsksSure words = spelled words ≡ codes "sure" ∷ []

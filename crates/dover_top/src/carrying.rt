@@ -14,7 +14,7 @@ use question_words::question_word;
 use std::alloc::Global;
 use std::sync::ledger::Ledger;
 use step_count::Steps;
-use task_words::unroll::unroll_word;
+use task_words::asking::{TaskQuestion, tasks_word};
 use trace_words::judge::judge_word;
 use trace_words::report::report_word;
 use trial_words::{bait_word, draw_word, duel_word, trial_word};
@@ -42,7 +42,8 @@ pub(crate) fn carry_out<P: Port, L: Ledger>(
         Request::Lanes => lanes_word(alloc, port, steps),
         Request::Pause => pause_word(alloc, port, steps),
         Request::Resume(at_end) => resume_word(alloc, port, at_end, steps),
-        Request::Unroll { until } => unroll_word(alloc, port, until, steps),
+        Request::Unroll { until } => tasks_word(alloc, port, TaskQuestion::Unroll { until }, steps),
+        Request::Sure => tasks_word(alloc, port, TaskQuestion::Sure, steps),
         Request::Duel { k, share, front } => duel_word(port, k, share, front),
         Request::Draw { seed, count, k } => draw_word(port, seed, count, k),
     }

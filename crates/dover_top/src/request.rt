@@ -1,13 +1,14 @@
 //! What the words of the command line ask for.
 ghost use Rattle.std.specs.Prelude.{◌≡◌, ◌≤◌, ◌<◌, ◌∷◌, [], ◌^◌, ℕ, IfSome, IsNone, Option, String, codes, decimal};
-ghost use Rattle.std.specs.Prelude.{length, map, string_bytes};
+ghost use Rattle.std.specs.Prelude.{IsTrue, None, length, map, string_bytes};
 ghost use Rattle.std.specs.declared.alloc.Global.{Global};
 ghost use Rattle.stated_jobs.specs.declared.duel.links.Share.{Share};
 ghost use Rattle.stated_jobs.specs.duel.Kept.{IsShare};
 ghost use Rattle.run_reports.specs.declared.views.window.Window.{Window};
 ghost use Rattle.dover_top.specs.Words.{IsFormed, IsFront, IsWindow, form_words, front_words};
-ghost use Rattle.dover_top.specs.Words.{window_words};
-ghost use Rattle.dover_model.specs.Fraction.{Fraction, IsRatio};
+ghost use Rattle.dover_top.specs.Words.{factor_words, window_words};
+ghost use Rattle.dover_model.specs.Fraction.{Fraction, IsRatio, is_some_factor};
+ghost use Rattle.dover_model.specs.declared.factors.Factor.{Factor};
 ghost use Rattle.dover_model.specs.Limits.{most_jobs};
 ghost use Rattle.dover_model.specs.declared.events.Version.TheVariants.{Two};
 ghost use Rattle.dover_top.specs.Requests.{Asks};
@@ -37,7 +38,8 @@ pub enum Request {
         count: u32,
         k: Ratio,
     },
-    /// What the run of the baiting jobs of so many rounds comes to is told; nothing is served.
+    /// What the run of the baiting jobs of so many rounds comes to is told, by the factor of the ratio if there is one;
+    /// nothing is served.
     Bait {
         k: Ratio,
         rounds: u32,
@@ -54,6 +56,8 @@ pub enum Request {
     Unroll {
         until: u64,
     },
+    /// Of each task, whether a job of it can be lost.
+    Sure,
     /// The feed of the duel for a share is written, or of a front of so many of its jobs.
     Duel {
         k: Ratio,
@@ -102,16 +106,36 @@ fn lone(words: &[String], least: u64, most: u64) -> Option<u64>
     number(word, least, most)
 }
 
-/// The ratio whose numbers these words spell, if it is one.
+/// The ratio whose numbers these words spell, if it is one. It has no factor.
 fn ratio(p: &String, q: &String) -> Option<Ratio>
-    ensures some { IfSome result
-        (λ k. (string_bytes p.now ≡ decimal k.p) × (string_bytes q.now ≡ decimal k.q) × IsRatio k) }
+    ensures some { IfSome result (λ k. (string_bytes p.now ≡ decimal k.p) × (string_bytes q.now ≡ decimal k.q)
+        × IsRatio k × (k.factor ≡ None)) }
     ensures none { IsNone result → (k : Fraction) → IsRatio k → string_bytes p.now ≡ decimal k.p →
         string_bytes q.now ≡ decimal k.q → ⊥ }
 {
     let p = number(p, 0, MOST)?;
     let q = number(q, 0, MOST)?;
     Ratio::new(p as u32, q as u32)
+}
+
+/// The ratio with the factor whose numbers these words spell, if it is one, or as it is where there are no words.
+fn factored(k: Ratio, words: &[String]) -> Option<Ratio>
+    requires ratio { IsRatio k }
+    requires plain { k.factor ≡ None }
+    ensures some { IfSome result (λ r. (r.p ≡ k.p) × (r.q ≡ k.q) × IsRatio r
+        × (map string_bytes words.now ≡ factor_words r.factor)) }
+    ensures none { IsNone result → (f : Option Factor) → IsTrue (is_some_factor f) →
+        map string_bytes words.now ≡ factor_words f → ⊥ }
+{
+    match words {
+        [] => Some(k),
+        [b, c] => {
+            let b = number(b, 0, MOST)?;
+            let c = number(c, 0, MOST)?;
+            k.with_factor(b as u32, c as u32)
+        }
+        _ => None,
+    }
 }
 
 /// The share whose numbers these words spell, if it is one.
@@ -186,6 +210,7 @@ fn one_word(word: &String) -> Option<Request>
         "lanes" => Some(Request::Lanes),
         "pause" => Some(Request::Pause),
         "resume" => Some(Request::Resume(AtEnd::Refuse)),
+        "sure" => Some(Request::Sure),
         _ => None,
     }
 }
@@ -210,18 +235,19 @@ fn report(words: &[String]) -> Option<Request>
     }
 }
 
-/// The words behind `bait`: a ratio, and so many rounds.
+/// The words behind `bait`: a ratio, so many rounds, and a factor if there is one.
 fn bait(words: &[String]) -> Option<Request>
     ensures some { (word : String Global) → string_bytes word ≡ codes "bait" →
         IfSome result (λ r. Asks (word ∷ words.now) r) }
     ensures none { (word : String Global) → string_bytes word ≡ codes "bait" →
         IsNone result → (r : Request) → Asks (word ∷ words.now) r → ⊥ }
 {
-    let [p, q, rounds] = words else {
+    let [p, q, rounds, factor @ ..] = words else {
         return None;
     };
     let k = ratio(p, q)?;
     let rounds = number(rounds, 1, MOST)? as u32;
+    let k = factored(k, factor)?;
     Some(Request::Bait { k, rounds })
 }
 
@@ -245,7 +271,7 @@ fn duel(words: &[String]) -> Option<Request>
 fn stated(words: &[String]) -> Option<(u32, u32, Ratio)>
     ensures some { IfSome result (λ s. (map string_bytes words.now
         ≡ decimal s.0 ∷ decimal s.1 ∷ decimal s.2.p ∷ decimal s.2.q ∷ [])
-        × (s.0 < 2 ^ 31) × (s.1 ≤ most_jobs Two) × IsRatio s.2) }
+        × (s.0 < 2 ^ 31) × (s.1 ≤ most_jobs Two) × IsRatio s.2 × (s.2.factor ≡ None)) }
     ensures none { IsNone result → (seed count : ℕ) (k : Fraction) → seed < 2 ^ 31 → count ≤ most_jobs Two →
         IsRatio k → map string_bytes words.now
         ≡ decimal seed ∷ decimal count ∷ decimal k.p ∷ decimal k.q ∷ [] → ⊥ }

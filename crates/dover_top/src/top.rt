@@ -51,6 +51,8 @@ use step_count::Steps;
 ///   beyond what was settled where it was paused. `resume pause` does the same, but where the input ends it does what
 ///   `pause` does.
 /// - `unroll UNTIL` reads periodic tasks, and writes the feed of all jobs that they release before this tick.
+/// - `sure` reads periodic tasks, and writes of each whether a job of it can be lost, however the jobs of all tasks
+///   come, and if so which value would rule it out.
 ///
 /// The statuses: `Done` where the feed ended without a fault and its whole trace was written, where the text was
 /// accepted, the run was told, or the question answered, where the feed that was asked for was written, for lanes where
@@ -70,7 +72,7 @@ pub fn dover<P: Port, L: Ledger>(
     // What was got and put before each read, and in all, by the status.
     ensures talks { (request : Request) → Asks words.now request →
         Since (P.moves port.old) (P.moves port.new) (Says request result) }
-    // What it promises of the run besides.
+    // What it promises of the run besides: of a feed that is served also so far, at every status.
     ensures promises { (request : Request) → Asks words.now request →
         Since (P.moves port.old) (P.moves port.new) (Keeps request result) }
     // Whatever the port tells, it is a status with which what these words ask for may end.
@@ -81,11 +83,11 @@ pub fn dover<P: Port, L: Ledger>(
     // and report for the whole lines that name a job; resume and resume pause for the jobs of the snapshot and those
     // admitted behind it together, and before its last line for those of its lines so far. lanes makes as many for each
     // lane as serving its feed alone may. unroll makes at most d * (t + 4 * n) for t tasks that release n jobs, where
-    // t + 1 has at most d binary digits.
+    // t + 1 has at most d binary digits. sure makes none.
     ensures comparisons { (request : Request) → Asks words.now request →
         Since (P.moves port.old) (P.moves port.new) (IsFrugal request steps.old steps.new) }
     // trial at Done, where the words alone tell how many jobs there are; bait, duel and draw make none.
-    ensures stated { (request : Request) → Asks words.now request → result ≡ Status.Done →
+    ensures stated { (request : Request) → Asks words.now request →
         IsFrugalAsAsked request steps.old steps.new }
 
     // A fault comes only where its count rose in this call, and each count rises for its own fault alone. So where none

@@ -1,6 +1,8 @@
-//! Tests of what the server stands on: `root_compare`, `held_queue` and `place_heap`.
+//! Tests of what the server stands on: `root_compare`, `held_queue` and `place_heap`, and of a port over streams.
 #![tactic(auto)]
 
+#[cfg(test)]
+mod failing_streams;
 #[cfg(test)]
 mod held_jobs;
 #[cfg(test)]

@@ -81,11 +81,19 @@ static BOUNDS: [(u32, u32, u64, u128); 17] = [
     (1_000_000, 1, 10_000_000_000_001, 10_020_010_000_001_002_001),
 ];
 
-// Whether this is the bound of the sum, also by the function for sums that are small enough for it.
+// Whether this is the bound of the sum, which is small enough and goes by the root, also by the function for such sums.
+fn is_short_bound(sum: u64, k: Ratio, most: u128) -> bool {
+    if sum > 10_000_000_000_000 {
+        return true;
+    }
+    match k.factor() {
+        None => u128::from(bound(sum, k)) == most,
+        Some(_) => true,
+    }
+}
+
 fn is_bound(sum: u64, k: Ratio, most: u128) -> bool {
-    sum < 1_000_000_000_000_000_000
-        && long_bound(sum, k) == most
-        && (sum > 10_000_000_000_000 || u128::from(bound(sum, k)) == most)
+    sum < 1_000_000_000_000_000_000 && long_bound(sum, k) == most && is_short_bound(sum, k, most)
 }
 
 fn are_bounds(rows: &[(u32, u32, u64, u128)]) -> bool {

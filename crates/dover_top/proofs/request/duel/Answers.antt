@@ -1,20 +1,8 @@
-use Rattle.std.proofs.Common.{◌≡◌, ℕ, zero, suc, ◌-◌, List, [], ◌∷◌, String, ap, codes, drop, length, take, refl, sym}
-use Rattle.std.proofs.Common.{◌∙◌, arith, length-drop}
-use Rattle.std.proofs.lemmas.List.{take_all}
-use Rattle.std.specs.declared.alloc.Global.{Global}
+use Rattle.std.proofs.Common.{ap, codes, drop, length, refl, sym, ◌∙◌, arith}
 use Rattle.dover_top.specs.Words.{spelled}
-use Rattle.dover_top.proofs.Asking.{asks_read, length_spelled, place_spells, row_of, spelled_from}
+use Rattle.dover_top.proofs.Asking.{all_behind, asks_read, length_spelled, place_spells, row_of, spelled_behind}
+use Rattle.dover_top.proofs.Asking.{spelled_from}
 use Rattle.dover_top.proofs.request.duel.Goals as goal
-
--- the words behind so many are all of the rest
-all_behind : (words : List (String Global)) (n : ℕ) → take (length words - n) (drop n words) ≡ drop n words
-all_behind words n = take_all (length words - n) (drop n words) (omega (arith, length-drop n words))
-
--- and are spelled behind so many
-spelled_behind : (words : List (String Global)) (n : ℕ) → spelled (drop n words) ≡ drop n (spelled words)
-spelled_behind words zero = refl
-spelled_behind [] (suc n) = refl
-spelled_behind (w ∷ words) (suc n) = spelled_behind words n
 
 pub returns-in_default-clause-none : goal.returns-in_default-clause-none
 returns-in_default-clause-none c = λ word is _ r asks.
@@ -49,6 +37,7 @@ returns-clause-some c = λ word is. record {
       (spelled_from c.args.words.now 3 _ (omega arith) c.whole-item.is c.in_ok-share.ensures.some.1
       (sym (ap spelled (all_behind c.args.words.now 4)) ∙ c.in_ok-front.ensures.some.1)))));
   allowed = c.in_ok-k.ensures.some.2;
+  plain = c.in_ok-k.ensures.some.3;
   share_is = c.in_ok-share.ensures.some.2;
   formed = c.in_ok-front.ensures.some.0;
 }

@@ -45,6 +45,7 @@ returns-in_ok-seed-in-trial-clause-some c = let it = c.in_ok-seed-in-trial.ensur
   small = it.1;
   few = it.2;
   allowed = it.3;
+  plain = it.4;
 }
 
 pub returns-in_err-seed-in-draw-clause-none : goal.returns-in_err-seed-in-draw-clause-none
@@ -58,6 +59,7 @@ returns-in_ok-seed-in-draw-clause-some c = let it = c.in_ok-seed-in-draw.ensures
   small = it.1;
   few = it.2;
   allowed = it.3;
+  plain = it.4;
 }
 
 pub returns-in_err-until-in-unroll-clause-none : goal.returns-in_err-until-in-unroll-clause-none

@@ -1,5 +1,5 @@
-use Rattle.std.proofs.Common.{◌≡◌, ℕ, ◌<◌, ◌^◌, Option, Some, None, IsNone, IsSome, true, false, arith}
-use Rattle.dover_model.specs.Fraction.{Fraction, IsRatio}
+use Rattle.std.proofs.Common.{◌≡◌, ℕ, ◌<◌, ◌^◌, Option, Some, None, IsNone, IsSome, true, false, refl, arith}
+use Rattle.dover_model.specs.Fraction.{Fraction, IsRatio, fraction}
 use Rattle.dover_top.proofs.Numbers.{decimal_same}
 use Rattle.dover_model.proofs.JobLimits.{ratio_limits, ratio_from}
 use Rattle.dover_top.proofs.request.ratio.Goals as goal
@@ -18,10 +18,11 @@ returns-clause-none c = λ none k allowed spells_p spells_q.
       refused None none some = absurd (let clash : false ≡ true = some in cc)
       refused (Some k) none some = absurd (let clash : true ≡ false = none in cc)
 
-      same_ratio : (p q : ℕ) (k : Fraction) → p ≡ k.p → q ≡ k.q → IsRatio k → IsRatio (record { p = p; q = q })
+      same_ratio : (p q : ℕ) (k : Fraction) → p ≡ k.p → q ≡ k.q → IsRatio k → IsRatio (fraction p q)
       same_ratio p q k e f allowed = ratio_from (record {
         least = omega (arith, f, (ratio_limits allowed).least);
         above_one = omega (arith, e, f, (ratio_limits allowed).above_one);
         small_q = omega (arith, f, (ratio_limits allowed).small_q);
         small_p = omega (arith, e, (ratio_limits allowed).small_p);
+        factor = refl;
       })

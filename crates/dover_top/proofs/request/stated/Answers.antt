@@ -28,4 +28,5 @@ returns-clause-some c = (
   omega (arith, c.in_ok-seed.ensures.some.2),
   c.in_ok-count.ensures.some.2,
   c.in_ok-k.ensures.some.2,
+  c.in_ok-k.ensures.some.3,
 )

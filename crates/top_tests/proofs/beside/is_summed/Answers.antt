@@ -1,3 +1,4 @@
+use Rattle.dover_model.specs.Fraction.{fraction}
 use Rattle.std.proofs.Common.{[], refl, sym, arith}
 use Rattle.dover_model.specs.declared.events.Version.TheVariants.{One}
 use Rattle.top_tests.proofs.beside.is_summed.Goals as goal
@@ -5,7 +6,7 @@ use Rattle.top_tests.proofs.beside.is_summed.Goals as goal
 -- a run without a job
 pub summary-requires : goal.summary-requires
 summary-requires c = (
-  record { rules = record { ratio = record { p = 1; q = 1 }; version = One; finishes = [] }; jobs = [] },
+  record { rules = record { ratio = fraction 1 1; version = One; finishes = [] }; jobs = [] },
   record {
     valid = record { passes = refl };
     listable = record { count = omega arith; total = omega arith };
