@@ -27,6 +27,12 @@ static uint32_t status_of(uint32_t p, uint32_t q, uint32_t version, uint32_t cap
     dover_drop(&b);
     return status;
 }
+static uint32_t factor_status(uint32_t p, uint32_t version, uint32_t capacity, uint32_t f, uint32_t c) {
+    dover_init_factor(&b, p, 1, version, capacity, f, c);
+    uint32_t status = dover_status(&b);
+    dover_drop(&b);
+    return status;
+}
 static uint32_t settle(dover *d, uint64_t mark) {
     dover_decision e;
     while ((e = dover_step(d, mark)).kind != DOVER_NONE && e.kind <= DOVER_END) {}
@@ -39,6 +45,10 @@ static uint32_t admit(dover *d, uint64_t r, uint64_t c, uint64_t dl, uint64_t v)
 static int is_due(dover *d, uint64_t tick) {
     dover_due due = dover_next(d);
     return due.status == DOVER_DUE && due.tick == tick;
+}
+static int is_named(dover *d, uint32_t status, uint64_t job) {
+    dover_named next = dover_successor(d);
+    return next.status == status && next.job == job;
 }
 static int is_idle(dover *d, uint32_t status) {
     dover_due due = dover_next(d);
@@ -59,8 +69,18 @@ static void making(void) {
     ROW(status_of(1, 1, 1, 0) == DOVER_MADE);
     ROW(status_of(1000000, 1, 2, 1000000) == DOVER_MADE);
     ROW(status_of(1000000, 1, 3, 1000000) == DOVER_MADE);
+    ROW(factor_status(1, 1, 10, 2, 1) == DOVER_MADE && factor_status(1, 2, 10, 1000000, 1000) == DOVER_MADE);
+    ROW(factor_status(1, 3, 10, 1001, 1000) == DOVER_MADE && factor_status(1, 3, 0, 3, 2) == DOVER_MADE);
+    ROW(factor_status(1, 3, 10, 1, 1) == DOVER_BAD_FACTOR && factor_status(1, 3, 10, 2, 0) == DOVER_BAD_FACTOR);
+    ROW(factor_status(1, 3, 10, 1000001, 1) == DOVER_BAD_FACTOR);
+    ROW(factor_status(1, 3, 10, 2000, 1001) == DOVER_BAD_FACTOR);
+    ROW(factor_status(0, 4, 1000001, 0, 0) == DOVER_BAD_VERSION);
+    ROW(factor_status(0, 3, 1000001, 0, 0) == DOVER_BAD_RATIO);
+    ROW(factor_status(1, 3, 1000001, 0, 0) == DOVER_BAD_FACTOR);
+    ROW(factor_status(1, 3, 1000001, 2, 1) == DOVER_BAD_CAPACITY);
     none = 1;
     ROW(status_of(1, 1, 1, 10) == DOVER_NO_MEMORY && status_of(1, 1, 1, 1000001) == DOVER_BAD_CAPACITY);
+    ROW(factor_status(1, 1, 10, 2, 1) == DOVER_NO_MEMORY);
     none = 0;
     dover_init(&b, 0, 0, 1, 10); /* no engine */
     ROW(admit(&b, 0, 1, 1, 1) == DOVER_NOT_MADE && dover_step(&b, 0).kind == DOVER_NO_ENGINE &&
@@ -77,7 +97,9 @@ static int is_none(dover *d) {
     dover_decision e = dover_step(d, 3), f = dover_step(d, big), g = dover_finish(d);
     return dover_status(d) == DOVER_EMPTY && x.status == DOVER_NOT_MADE && x.number == 0 &&
            e.kind == DOVER_NO_ENGINE && f.kind == DOVER_NO_ENGINE && g.kind == DOVER_NO_ENGINE &&
-           e.tick + e.job + e.other == 0 && dover_value(d) == 0 && dover_room(d) == 0 && is_idle(d, DOVER_NOT_MADE);
+           e.tick + e.job + e.other == 0 && f.tick + f.job + f.other == 0 && g.tick + g.job + g.other == 0 &&
+           dover_value(d) == 0 && dover_value_high(d) == 0 && dover_room(d) == 0 && is_idle(d, DOVER_NOT_MADE) &&
+           is_named(d, DOVER_NOT_MADE, 0);
 }
 
 static void without_one(void) {
@@ -218,6 +240,35 @@ static void early(void) {
     ROW(dover_done(&a, 0, 0) == DOVER_NOT_MADE && dover_done(&never, big, big) == DOVER_NOT_MADE);
 }
 
+/* The job that would be next, as it is where the other is done; and by a factor a take that there isn't by the root. */
+static void choosing(void) {
+    dover_decision e;
+    dover_init(&a, 10, 1, 3, 10);
+    unsigned long before = taken;
+    ROW(is_named(&a, DOVER_NOBODY, 0) && settle(&a, 0) == DOVER_NONE && admit(&a, 0, 10, 40, 10) == DOVER_ADMITTED);
+    ROW(settle(&a, 1) == DOVER_NONE && is_named(&a, DOVER_NOBODY, 0)); /* no other job is open */
+    ROW(admit(&a, 1, 5, 20, 5) == DOVER_ADMITTED && settle(&a, 2) == DOVER_NONE);
+    ROW(is_named(&a, DOVER_NAMED, 0)); /* it is held */
+    ROW(admit(&a, 2, 1, 21, 1) == DOVER_ADMITTED && settle(&a, 3) == DOVER_NONE);
+    ROW(is_named(&a, DOVER_NAMED, 2)); /* it waits, and is due before the held one */
+    ROW(dover_done(&a, 3, 1) == DOVER_DONE && is_next(&a, 3, DOVER_COMPLETE, 3, 1) && is_next(&a, 3, DOVER_RUN, 3, 2));
+    ROW(settle(&a, 3) == DOVER_NONE && is_named(&a, DOVER_NAMED, 0) && settle(&a, 4) == DOVER_NONE);
+    ROW(is_named(&a, DOVER_NOBODY, 0) && settle(&a, 20) == DOVER_NONE && is_named(&a, DOVER_NOBODY, 0)); /* at rest */
+    ROW(admit(&a, 20, 9, 90, 9) == DOVER_ADMITTED && settle(&a, 20) == DOVER_NONE &&
+        admit(&a, 20, 9, 91, 9) == DOVER_ADMITTED && settle(&a, 21) == DOVER_NONE && is_named(&a, DOVER_NAMED, 4));
+    ROW(taken == before && dover_value_high(&a) == 0);
+    dover_drop(&a);
+    for (int i = 0; i < 2; i++) { /* worth 300 against 100: heavy by the factor 2, not by 1 + the root of 1,000,000 */
+        if (i == 0) dover_init(&a, 1000000, 1, 1, 10);
+        else dover_init_factor(&a, 1000000, 1, 1, 10, 2, 1);
+        ROW(settle(&a, 0) == DOVER_NONE && admit(&a, 0, 100, 100, 100) == DOVER_ADMITTED);
+        ROW(settle(&a, 10) == DOVER_NONE && admit(&a, 10, 1, 11, 300) == DOVER_ADMITTED);
+        ROW((e = dover_step(&a, 11)).kind == DOVER_RELEASE);
+        ROW((e = dover_step(&a, 11)).kind == (i == 0 ? DOVER_ABANDON : DOVER_TAKE) && e.tick == 10 && e.job == 1);
+        dover_drop(&a);
+    }
+}
+
 /* The job that breaks the ratio is named by its number over the whole life, also where others were forgotten. A refused
    job has moved the clock. */
 static void renumbered(void) {
@@ -296,6 +347,7 @@ int main(void) {
     one_by_one();
     sleeping();
     early();
+    choosing();
     renumbered();
     for_long();
     limits();

@@ -7,7 +7,7 @@ use std::mem::MaybeUninit;
 const MADE: u32 = 5;
 
 #[repr(C, align(8))]
-struct Place([u64; 80]);
+struct Place([u64; 83]);
 
 /// The answer to a job: status 0 and its number, or why it wasn't admitted, with the job that breaks the ratio.
 #[repr(C)]
@@ -27,6 +27,14 @@ pub struct Decision {
     pub kind: u32,
 }
 
+/// The job that would be next, with status 0, or by its status why there is none.
+#[repr(C)]
+#[derive(Clone, Copy, Debug, PartialEq, Eq)]
+pub struct Named {
+    pub job: u64,
+    pub status: u32,
+}
+
 /// The tick for which to call next, with status 0, or by its status why there is none.
 #[repr(C)]
 #[derive(Clone, Copy, Debug, PartialEq, Eq)]
@@ -36,19 +44,23 @@ pub struct Due {
 }
 
 const _: () = assert!(size_of::<Due>() == 16 && std::mem::offset_of!(Due, status) == 8);
+const _: () = assert!(size_of::<Named>() == 16 && std::mem::offset_of!(Named, status) == 8);
 const _: () = assert!(size_of::<Admitted>() == 16 && std::mem::offset_of!(Admitted, status) == 8);
 const _: () = assert!(size_of::<Decision>() == 32 && std::mem::offset_of!(Decision, kind) == 24);
 
 unsafe extern "C" {
     fn dover_size() -> usize;
     fn dover_init(place: *mut Place, p: u32, q: u32, version: u32, capacity: u32);
+    fn dover_init_factor(place: *mut Place, p: u32, q: u32, version: u32, capacity: u32, b: u32, c: u32);
     fn dover_status(place: *mut Place) -> u32;
     fn dover_admit(place: *mut Place, release: u64, work: u64, deadline: u64, value: u64) -> Admitted;
     fn dover_done(place: *mut Place, tick: u64, job: u64) -> u32;
     fn dover_step(place: *mut Place, mark: u64) -> Decision;
     fn dover_finish(place: *mut Place) -> Decision;
     fn dover_next(place: *mut Place) -> Due;
+    fn dover_successor(place: *mut Place) -> Named;
     fn dover_value(place: *mut Place) -> u64;
+    fn dover_value_high(place: *mut Place) -> u64;
     fn dover_room(place: *mut Place) -> u32;
     fn dover_drop(place: *mut Place);
 }
@@ -59,9 +71,18 @@ pub struct Dover(*mut Place);
 impl Dover {
     /// An engine, or the status that says why there is none.
     pub fn new(p: u32, q: u32, version: u32, capacity: u32) -> Result<Dover, u32> {
+        Dover::made(|place| unsafe { dover_init(place, p, q, version, capacity) })
+    }
+
+    /// The same with a factor b/c of one's own.
+    pub fn with_factor(p: u32, q: u32, version: u32, capacity: u32, b: u32, c: u32) -> Result<Dover, u32> {
+        Dover::made(|place| unsafe { dover_init_factor(place, p, q, version, capacity, b, c) })
+    }
+
+    fn made(init: impl FnOnce(*mut Place)) -> Result<Dover, u32> {
         assert!(unsafe { dover_size() } <= size_of::<Place>(), "the place is too small");
         let place = Box::into_raw(Box::new(MaybeUninit::<Place>::uninit())).cast::<Place>();
-        unsafe { dover_init(place, p, q, version, capacity) };
+        init(place);
         let engine = Dover(place);
         match unsafe { dover_status(place) } {
             MADE => Ok(engine),
@@ -90,8 +111,13 @@ impl Dover {
         unsafe { dover_next(self.0) }
     }
 
-    pub fn value(&mut self) -> u64 {
-        unsafe { dover_value(self.0) }
+    /// The job that would be next if the one that has the processor were done.
+    pub fn successor(&mut self) -> Named {
+        unsafe { dover_successor(self.0) }
+    }
+
+    pub fn value(&mut self) -> u128 {
+        unsafe { u128::from(dover_value_high(self.0)) << 64 | u128::from(dover_value(self.0)) }
     }
 
     pub fn room(&mut self) -> u32 {
