@@ -46,7 +46,7 @@ void free(void *block) {
     (void)block;
 }
 
-static long linux(long number, long a, long b, long c) {
+static long system_call(long number, long a, long b, long c) {
     long answer;
     __asm__ volatile("syscall" : "=a"(answer) : "a"(number), "D"(a), "S"(b), "d"(c) : "rcx", "r11", "memory");
     return answer;
@@ -55,11 +55,11 @@ static long linux(long number, long a, long b, long c) {
 static void say(const char *text) {
     size_t length = 0;
     while (text[length]) length++;
-    (void)linux(1, 1, (long)text, (long)length);
+    (void)system_call(1, 1, (long)text, (long)length);
 }
 
 static _Noreturn void leave(int status) {
-    for (;;) (void)linux(60, status, 0, 0);
+    for (;;) (void)system_call(60, status, 0, 0);
 }
 
 static void say_number(uint64_t number) {
