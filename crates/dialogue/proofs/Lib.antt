@@ -4,7 +4,4 @@ pub mod Giving
 pub mod Hearing
 pub mod Allowed
 pub mod Records
-pub mod FaultLines
 pub mod Putting
-pub mod Sizes
-pub mod Refusals

@@ -1,41 +1,11 @@
-//! Lines of words and numbers.
-ghost use Rattle.std.specs.Prelude.{◌≡◌, ◌<◌, ◌≤◌, ◌+◌, ◌*◌, ◌++◌, ◌∷◌, [], length};
-ghost use Rattle.dover_model.specs.Lines.{with_numbers};
-ghost use Rattle.dover_port.specs.Causes.{HasCause, StopsAtFailure};
-ghost use Rattle.dover_port.specs.Moves.{PutsThrough};
+//! Lines on their way out: those that are due for feeds, those of feeds, those that refuse what is read, and those of a
+//! word and numbers, each written, and put with its line feed through the buffer of a port.
+mod due_lines;
+mod faults;
+mod feed_lines;
+mod numbers;
 
-use dover_port::{Failed, Output, Port};
-use line_text::{BackLine, LineBuf};
-
-/// Puts a line with its line feed, or keeps it back in `out`. The line has at most 128 bytes. An `Err`: a write failed,
-/// and a front of what was kept back and of the line was put, but not all of it.
-pub fn put_line<P: Port>(port: &mut P, out: &mut Output, mut line: LineBuf) -> Result<(), Failed>
-    requires { length line < 129 }
-    ensures text { PutsThrough (P.moves port.old) (P.moves port.new) result out.old out.new (line ++ 10 ∷ []) }
-    ensures cause { HasCause (P.write_faults port.old) (P.write_faults port.new) (P.read_faults port.old)
-        (P.read_faults port.new) result }
-    ensures stops { StopsAtFailure (P.calls port.old) (P.calls port.new) result }
-{
-    line.end_line();
-    out.put(port, line.bytes())
-}
-
-/// Puts the line of a word and numbers, as `put_line` does. With 21 bytes for each number it is shorter than 129 bytes.
-#[inline(always)]
-pub fn put_numbers<P: Port>(
-    port: &mut P,
-    out: &mut Output,
-    word: &[u8],
-    numbers: &[u64],
-) -> Result<(), Failed>
-    requires { length word.now + 21 * length numbers.now < 129 }
-    ensures text { PutsThrough (P.moves port.old) (P.moves port.new) result out.old out.new
-        (with_numbers word.now numbers.now ++ 10 ∷ []) }
-    ensures cause { HasCause (P.write_faults port.old) (P.write_faults port.new) (P.read_faults port.old)
-        (P.read_faults port.new) result }
-    ensures stops { StopsAtFailure (P.calls port.old) (P.calls port.new) result }
-{
-    let mut line = BackLine::new();
-    line.put_with_wide(word, numbers);
-    out.put(port, line.bytes())
-}
+pub use due_lines::{write_next, write_out};
+pub use faults::{fault_line, put_fault, put_refused, write_refused};
+pub use feed_lines::{put_feed_line, put_job, put_rules};
+pub use numbers::put_numbers;

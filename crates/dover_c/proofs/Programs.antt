@@ -40,7 +40,8 @@ use Rattle.dover_engine.proofs.LifeLaws as life
 use Rattle.dover_c.specs.declared.Admitted.{Admitted}
 use Rattle.dover_c.specs.declared.Decided.{Decided}
 use Rattle.dover_c.specs.declared.slot.Slot.{Slot}
-use Rattle.dover_c.specs.Codes.{version_number, made_status, mark_code, numbers_of, IsStepOf, Stands, IsMade, IsFresh}
+use Rattle.dover_c.specs.Codes.{made_status, mark_code, numbers_of, IsStepOf, Stands, IsMade, IsFresh}
+use Rattle.dover_model.specs.Text.{version_number}
 use Rattle.dover_c.specs.Codes.{CallsOn, no_number, no_engine}
 use Rattle.dover_c.specs.Codes.{Admits, Ends, Steps, Finishes}
 use Rattle.dover_c.specs.Program.{Act, Admit, Done, Step, Finish, Ask, Drop, Does, DoesAll, IsProgram, told}

@@ -4,7 +4,7 @@ use Rattle.std.specs.Prelude.{Err, ◌/◌, ◌%◌, ◌^◌}
 use Rattle.dover_model.specs.Limits.{most_ready}
 use Rattle.dover_model.specs.Fraction.{Fraction, is_ratio, is_some_factor, IsRatio, fraction}
 use Rattle.dover_model.specs.declared.events.Version.{Version}
-use Rattle.dover_model.specs.declared.events.Version.TheVariants.{One, Two, Three}
+use Rattle.dover_model.specs.Text.{version_number}
 use Rattle.dover_model.specs.Finishes.{Finish}
 use Rattle.dover_model.specs.JobFacts.{JobFacts}
 use Rattle.dover_model.specs.declared.horizon.Horizon.TheVariants as horizon
@@ -44,17 +44,6 @@ status_of k version capacity =
     else if not (is_ratio (fraction k.p k.q)) then 1
     else if not (is_some_factor k.factor) then 6
     else if nat_lt most_ready capacity then 2 else 3
-
--- the number of a version
-abbrev pub version_number : Version → ℕ
-version_number One = 1
-version_number Two = 2
-version_number Three = 3
-
--- the version of a number
-abbrev pub version_of : ℕ → Option Version
-version_of number = if number == 1 then Some One else if number == 2 then Some Two
-    else if number == 3 then Some Three else None
 
 -- an engine of this ratio, with its factor if it has one, and version, with no jobs and room for so many open ones
 pub record IsFresh (k : Fraction) (version capacity : ℕ) (v : Life) : Type 0 where

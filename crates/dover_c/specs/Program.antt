@@ -11,7 +11,8 @@ use Rattle.dover_model.specs.Instance.{Instance, jobs_under, with_finishes}
 use Rattle.dover_c.specs.declared.Admitted.{Admitted}
 use Rattle.dover_c.specs.declared.Decided.{Decided}
 use Rattle.dover_c.specs.declared.slot.Slot.{Slot}
-use Rattle.dover_c.specs.Codes.{version_number, made_status, IsMade, AdmitAnswers, StepAnswers, FinishAnswers}
+use Rattle.dover_c.specs.Codes.{made_status, IsMade, AdmitAnswers, StepAnswers, FinishAnswers}
+use Rattle.dover_model.specs.Text.{version_number}
 use Rattle.dover_c.specs.Codes.{DropAnswers, DoneAnswers, high_word, low_word}
 
 -- a call behind dover_init, with its answer

@@ -6,7 +6,8 @@ ghost use Rattle.dover_model.specs.declared.horizon.Horizon.TheVariants.{End};
 ghost use Rattle.dover_engine.specs.Calls.{Decides};
 ghost use Rattle.dover_c.specs.Codes.{IsMade, AdmitAnswers, StepAnswers, FinishAnswers, StatusAnswers, DropAnswers};
 ghost use Rattle.dover_c.specs.Codes.{ValueAnswers, HighAnswers, RoomAnswers, NextAnswers, SuccessorAnswers, due_of};
-ghost use Rattle.dover_c.specs.Codes.{version_of, version_number, named_of, high_word, low_word};
+ghost use Rattle.dover_model.specs.Text.{version_number};
+ghost use Rattle.dover_c.specs.Codes.{named_of, high_word, low_word};
 ghost use Rattle.dover_c.specs.Codes.{DoneSays, done_code};
 ghost use Rattle.dover_c.specs.Codes.{cause_code, other_in, made_code, mark_code, numbers_of, IsStepOf};
 
@@ -47,22 +48,10 @@ fn none(status: u32) -> Slot
     }
 }
 
-// The version of this number.
-fn version_of(number: u32) -> Option<Version>
-    ensures { result ≡ version_of number }
-{
-    match number {
-        1 => Some(Version::One),
-        2 => Some(Version::Two),
-        3 => Some(Version::Three),
-        _ => None,
-    }
-}
-
 pub(crate) fn make(alloc: Global, p: u32, q: u32, version: u32, capacity: u32) -> Slot
     ensures { IsMade (fraction p q) version capacity result }
 {
-    let Some(version) = version_of(version) else {
+    let Some(version) = Version::from_number(u64::from(version)) else {
         return none(4);
     };
     let Some(k) = Ratio::new(p, q) else {
@@ -82,7 +71,7 @@ pub(crate) fn make_with_factor(
 ) -> Slot
     ensures { IsMade (with_factor (fraction p q) b c) version capacity result }
 {
-    let Some(version) = version_of(version) else {
+    let Some(version) = Version::from_number(u64::from(version)) else {
         return none(4);
     };
     let Some(k) = Ratio::new(p, q) else {

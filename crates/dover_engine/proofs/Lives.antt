@@ -775,12 +775,3 @@ due_settled v tick it all some = record {
   unsettled = λ more. never (sym more ∙ all);
   some = some;
 }
-
--- otherwise now
-pub due_now : (v : Life) (tick : ℕ) → tick ≡ clock_of v → v.settled ≡ false → (v.server.ready.ready ≡ [] → ⊥)
-    → IsDueAt v tick
-due_now v tick now more some = record {
-  comes = λ J es mark g ready. never (sym more ∙ ready.0);
-  unsettled = λ _. now;
-  some = some;
-}

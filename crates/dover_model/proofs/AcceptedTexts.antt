@@ -30,7 +30,7 @@ before_joined : (b : ℕ) (ls : List (List ℕ)) (rest : List ℕ) → joined (p
 before_joined b [] rest = refl
 before_joined b (l ∷ ls) rest = refl
 
-text_joined : (bytes : List ℕ) → in_lines (whole_lines bytes) ++ rest_of bytes ≡ bytes
+pub text_joined : (bytes : List ℕ) → in_lines (whole_lines bytes) ++ rest_of bytes ≡ bytes
 text_joined [] = refl
 text_joined (b ∷ bytes) = by (is_feed b) refl (text_joined bytes) where
   by : (c : Bool) → is_feed b ≡ c → in_lines (whole_lines bytes) ++ rest_of bytes ≡ bytes

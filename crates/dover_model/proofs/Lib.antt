@@ -32,6 +32,7 @@ pub mod Taking
 pub mod Cases
 pub mod RunLaws
 pub mod Roles
+pub mod RoleChanges
 pub mod Loads
 pub mod OneChange
 pub mod Moves

@@ -14,9 +14,10 @@ pub enum Version {
 }
 
 impl Version {
-    ghost use Rattle.std.specs.Prelude.{◌≡◌};
+    ghost use Rattle.std.specs.Prelude.{◌≡◌, ◌≤◌};
     ghost use Rattle.dover_model.specs.Limits as limits;
     ghost use Rattle.dover_model.specs.Session as session;
+    ghost use Rattle.dover_model.specs.Text.{version_number};
     ghost use Rattle.dover_model.specs.Verdict.{version_of_number};
 
     /// The version of this number, if it has one.
@@ -28,6 +29,19 @@ impl Version {
             2 => Some(Version::Two),
             3 => Some(Version::Three),
             _ => None,
+        }
+    }
+
+    /// The number of this version.
+    #[inline(always)]
+    pub fn number(self) -> u64
+        ensures is { result ≡ version_number self }
+        ensures small { result ≤ 3 }
+    {
+        match self {
+            Version::One => 1,
+            Version::Two => 2,
+            Version::Three => 3,
         }
     }
 

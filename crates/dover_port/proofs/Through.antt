@@ -1,9 +1,8 @@
 -- Texts that pass through a buffer, one behind another.
-use Rattle.std.proofs.Common.{◌≡◌, ℕ, List, [], ◌++◌, Result, Option, length-append, arith, sym, ap, ◌∙◌}
+use Rattle.std.proofs.Common.{◌≡◌, ℕ, List, [], ◌++◌, Option, length-append, arith, sym, ap, ◌∙◌}
 use Rattle.std.proofs.Common.{append_assoc}
 use Rattle.std.proofs.lemmas.List.{append-nil}
-use Rattle.std.proofs.lemmas.Result.{on_ok_weaker}
-use Rattle.dover_port.specs.Moves.{IsProperPrefix, PutsText, Passes, CutsShort, PutsThrough, Move, ArePuts, outs}
+use Rattle.dover_port.specs.Moves.{IsProperPrefix, Passes, CutsShort, Move, ArePuts, outs}
 use Rattle.dover_port.proofs.Made.{since_none, since_then, since_weaker, ArePuts-append, outs-append}
 
 module _ (a b c : Option (List Move)) (p q r t u : List ℕ) where
@@ -55,14 +54,6 @@ module _ (a b : Option (List Move)) (p t : List ℕ) where
   -- What cuts a text short cuts a longer one short.
   pub cut_longer : (u : List ℕ) → CutsShort a b p t → CutsShort a b p (t ++ u)
   cut_longer u first = since_weaker a b _ _ first (longer u)
-
-  -- What is put at once passes with nothing pending after it.
-  pub passes_at_once : {T E : Type 0} (result : Result T E) → PutsText a b result (p ++ t)
-      → PutsThrough a b result p [] t
-  passes_at_once result f = record {
-    all = on_ok_weaker result (λ more. since_weaker a b _ _ more (λ xs it. (it.0, append-nil (outs xs) ∙ it.1))) f.all;
-    part = f.part;
-  }
 
 -- Nothing passes where nothing is done.
 pub passes_nothing : (a : Option (List Move)) (p : List ℕ) → Passes a a p p []

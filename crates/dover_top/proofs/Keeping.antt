@@ -41,8 +41,8 @@ use Rattle.stated_jobs.specs.duel.Kept.{IsShare}
 use Rattle.stated_jobs.specs.duel.Answers.{jobs_for, front_of, IsDuel}
 use Rattle.stated_jobs.specs.duel.Game.{AreValid}
 use Rattle.stated_jobs.proofs.duel.Losing.{each_loses}
-use Rattle.task_words.specs.unroll.Feeds.{IsFeedOf, feed_of}
-use Rattle.task_words.proofs.unroll.Feeding.{feed_is}
+use Rattle.event_feed.specs.Feeds.{IsFeedOf, feed_of}
+use Rattle.event_feed.proofs.FeedsOfJobs.{feed_is}
 use Rattle.dover_model.proofs.JobSessions.{jobs_never}
 use Rattle.trial_words.specs.Dueled.{duel_front}
 use Rattle.trial_words.specs.Lists.{trial_instance}

@@ -28,7 +28,7 @@ use Rattle.stated_jobs.specs.bait.BaitingRuns.{CompletesLastAlone}
 use Rattle.stated_jobs.specs.declared.duel.links.Share.{Share}
 use Rattle.stated_jobs.specs.duel.Answers.{jobs_for}
 use Rattle.stated_jobs.specs.duel.Game.{Scheduler, IsOnline, AreValid, LosesOnFront}
-use Rattle.task_words.specs.unroll.Feeds.{IsFeedOf}
+use Rattle.event_feed.specs.Feeds.{IsFeedOf}
 use Rattle.trial_words.specs.Baited.{bait_instance}
 use Rattle.trial_words.specs.Dueled.{duel_front}
 use Rattle.lane_server.specs.Lanes.{Closed, lane_count, input}

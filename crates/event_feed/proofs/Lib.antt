@@ -11,3 +11,4 @@ pub mod Listing
 pub mod Offering
 pub mod Behind
 pub mod Saying
+pub mod FeedsOfJobs

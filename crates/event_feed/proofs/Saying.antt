@@ -90,14 +90,6 @@ module _ (p q b c : ℕ) (ratio : IsRatio (with_factor (fraction p q) b c)) wher
 abbrev rules_by : (p q : ℕ) → Option Factor → Version → Declaration
 rules_by p q o v = rules_with (record { p = p; q = q; factor = o }) v
 
--- its numbers have numerals
-pub rules_numerals : (rules : Declaration) → IsRatio rules.ratio → HasNumerals (rules_line rules)
-rules_numerals rules = by rules.ratio.p rules.ratio.q rules.ratio.factor rules.version where
-  by : (p q : ℕ) (o : Option Factor) (v : Version) → IsRatio (rules_by p q o v).ratio
-      → HasNumerals (rules_line (rules_by p q o v))
-  by p q None v ratio = ratio_numerals p q ratio v
-  by p q (Some f) v ratio = factor_numerals p q f.b f.c ratio v
-
 -- what it says as the first line, where the rules may be declared
 pub rules_account : (rules : Declaration) → IsRatio rules.ratio → IsDeclarable rules
     → next_line no_lines (feed_text (rules_line rules)) ≡ open_account 1 (Some (new_session rules)) 0

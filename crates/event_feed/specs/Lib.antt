@@ -1,6 +1,7 @@
 pub mod Kept
 pub mod Answers
 pub mod Reading
+pub mod Feeds
 pub mod Faults
 pub mod Listing
 pub mod Keeping

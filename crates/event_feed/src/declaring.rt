@@ -1,10 +1,14 @@
-//! What the numbers of a line declare: a ratio and a version, and perhaps a factor.
-ghost use Rattle.dover_model.specs.Fraction.{fraction, with_factor};
+//! What the numbers of a line declare: a ratio and a version, and perhaps a factor; and the line that declares them.
+ghost use Rattle.dover_model.specs.FeedLine.{HasNumerals};
+ghost use Rattle.dover_model.specs.Fraction.{IsRatio, fraction, with_factor};
 ghost use Rattle.std.specs.Prelude.{◌≡◌, ℕ, Option};
 ghost use Rattle.std.specs.Option.{option_map};
 ghost use Rattle.dover_model.specs.Feed.{declared_rules, declared_version, factor_rules, rules_with};
+ghost use Rattle.event_feed.specs.Reading.{declared_number, rules_line};
+ghost use Rattle.line_text.specs.feeds.Form.{form_of};
 
 use dover_model::{Ratio, Version};
+use line_text::feeds::FeedLine;
 
 /// The version of this number: none stands for One.
 fn version_of(number: Option<u64>) -> Option<Version>
@@ -45,4 +49,38 @@ pub fn declared_with_factor(
         return None;
     }
     Some((ratio, Version::Three))
+}
+
+/// The number with which a line without a factor declares a version.
+fn plain_number(version: Version) -> Option<u64>
+    ensures { result ≡ declared_number version }
+{
+    match version {
+        Version::One => None,
+        Version::Two => Some(2),
+        Version::Three => Some(3),
+    }
+}
+
+/// The line that declares the ratio and the version, and the factor if there is one.
+pub fn rules_line(ratio: Ratio, version: Version) -> FeedLine
+    ensures is { form_of result ≡ rules_line (rules_with ratio version) }
+    ensures numerals { HasNumerals (form_of result) }
+    ensures ratio { IsRatio ratio }
+{
+    let (p, q) = (u64::from(ratio.p()), u64::from(ratio.q()));
+    match ratio.factor() {
+        None => FeedLine::Declared {
+            p,
+            q,
+            version: plain_number(version),
+        },
+        Some(factor) => FeedLine::Factored {
+            p,
+            q,
+            version: version.number(),
+            b: u64::from(factor.b),
+            c: u64::from(factor.c),
+        },
+    }
 }

@@ -9,13 +9,15 @@ mod fed;
 mod gathering;
 mod intake;
 mod kept_session;
+mod laws;
 mod listed;
 mod reader;
 
-pub use declaring::{declared, declared_with_factor};
+pub use declaring::{declared, declared_with_factor, rules_line};
 pub use due_line::DueLine;
 pub use faults::{Cause, FeedFault};
 pub use fed::Fed;
 pub use intake::Intake;
+pub use laws::feeds_of_jobs_are_read;
 pub use listed::{DoneLine, Listed, NotListed};
 pub use reader::FeedReader;

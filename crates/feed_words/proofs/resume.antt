@@ -3,11 +3,9 @@ pub mod Opened
 pub mod Bounds
 pub mod Parts
 pub mod Sparing
-pub mod Fronts
 pub mod Equally
 pub mod Onward
 pub mod Talking
 pub mod Stages
 pub mod Laws
-pub mod Refusal
 pub mod Records

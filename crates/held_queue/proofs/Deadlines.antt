@@ -78,10 +78,6 @@ least_sorted f (x ∷ y ∷ ys) =
 
 -- ---- the room
 
--- what is left of the members that are due before t
-due_before : List Entry → Entry → ℕ
-due_before set t = sum_by (λ u. cond (nat_lt u.deadline t.deadline) u.left 0) set
-
 demand_sorted : (xs : List Entry) (t : Entry) → demand (by_deadline xs) t ≡ demand xs t
 demand_sorted xs t = ap (λ n. t.left + n) (
     sum_filter (λ u. nat_lt u.deadline t.deadline) (λ u. u.left) (by_deadline xs)

@@ -5,7 +5,7 @@ ghost use Rattle.std.specs.Prelude.{◌≡◌, ◌-◌, ◌^◌, ◌<◌, ◌≤
 ghost use Rattle.dover_model.specs.Entries.{room_of};
 ghost use Rattle.dover_model.specs.Sound.{Each};
 ghost use Rattle.held_queue.specs.Stack.{Stack, top_of, value_of, IsByDeadline, IsDueBeforeTop};
-ghost use Rattle.held_queue.specs.Stack.{room_at, top_with_room, without_top};
+ghost use Rattle.held_queue.specs.Stack.{without_top};
 
 mod rooms;
 
@@ -59,13 +59,6 @@ impl Privileged {
         Ok(())
     }
 
-    /// How many more can be held.
-    pub fn spare(&self) -> u32
-        ensures { result ≡ self.now.spare }
-    {
-        self.rooms.spare()
-    }
-
     /// Puts a job on top. It is due before the others, and the sum of the values stays below 10^18.
     pub fn hold(&mut self, e: Entry)
         requires spare { 1 ≤ self.old.spare }
@@ -85,30 +78,12 @@ impl Privileged {
         self.entries.last().copied()
     }
 
-    /// How many ticks could go to others from the tick `now` on before some held job misses its deadline, if any is
-    /// held.
-    pub fn room(&self, now: u64) -> Option<u64>
-        ensures { result ≡ room_at now self.now.held }
-    {
-        self.rooms.room(now)
-    }
-
     /// The room of the held jobs with `e`, which is due before them.
     pub fn room_with(&self, e: &Entry, now: u64) -> u64
         requires { Each (λ f. e.now.deadline < f.deadline) self.now.held }
         ensures { result ≡ room_of now (e.now ∷ self.now.held) }
     {
         self.rooms.room_with(e, now)
-    }
-
-    /// Takes the one on top out, with the room of the held jobs and it at the tick `now`, if any is held.
-    pub fn resume(&mut self, now: u64) -> Option<(Entry, u64)>
-        ensures room { result ≡ top_with_room now self.old.held }
-        ensures rest { self.new ≡ without_top self.old }
-    {
-        let room = self.room(now)?;
-        let entry = self.release_one()?;
-        Some((entry, room))
     }
 
     /// Takes the one on top out, if any is held.
@@ -120,13 +95,5 @@ impl Privileged {
         let e = self.entries.pop()?;
         self.rooms.release_one(e.value);
         Some(e)
-    }
-
-    /// The sum of the values of the held jobs.
-    pub fn value_sum(&self) -> u64
-        ensures is { result ≡ value_of self.now.held }
-        ensures most { result < 10 ^ 18 }
-    {
-        self.rooms.value_sum()
     }
 }

@@ -1,2 +1,1 @@
 pub mod Talking
-pub mod Texts

@@ -67,10 +67,6 @@ few_parts left parts is few = omega (
   length-map left (λ (l : List ℕ). l ++ 10 ∷ []),
 )
 
--- where no line is left, no part is
-pub no_parts : (left parts : List (List ℕ)) → parts ≡ parts_of left → left ≡ [] → parts ≡ []
-no_parts left parts is none = is ∙ ap parts_of none
-
 -- what is newly due
 due_parts : (before after : List Handed) (left : List (List ℕ)) → Grows before after left
     → in_lines (due_after [] after) ≡ in_lines (due_after [] before) ++ joined (parts_of left)

@@ -7,7 +7,8 @@ ghost use Rattle.lane_server.specs.Kept.{StandsFor, is_closed};
 ghost use Rattle.lanes_word.specs.Talk.{lanes_talk};
 ghost use Rattle.lanes_word.specs.Keeping.{parts_of, IsGiving, IsReady, Costs};
 
-use crate::lines::{put_refusal, write_in_lane};
+use crate::lines::write_in_lane;
+use dialogue::lines::put_refused;
 use dialogue::{Stop, Talker};
 use dover_model::Memory;
 use dover_port::{Failed, Output, Port, Status};
@@ -119,7 +120,7 @@ impl<L: Ledger> Talker for Hosting<L> {
                     Err(_) => Err(Stop::Unwritten),
                 }
             }
-            Err(refused) => match put_refusal(port, out, refused.line, refused.cause.word()) {
+            Err(refused) => match put_refused(port, out, refused.line, refused.cause.word()) {
                 Ok(()) => Ok(Status::Refused),
                 Err(_) => Err(Stop::Unwritten),
             },

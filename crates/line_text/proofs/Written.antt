@@ -1,6 +1,6 @@
 -- A line that is written number by number.
 use Rattle.std.proofs.Common.{◌≡◌, ℕ, zero, suc, ◌+◌, ◌-◌, ◌*◌, ◌^◌, ◌<◌, ◌≤◌, List, [], ◌∷◌, ◌++◌, length}
-use Rattle.std.proofs.Common.{length-append, append_assoc, append-nil, refl, ap}
+use Rattle.std.proofs.Common.{length-append, append_assoc, append-nil, ap}
 use Rattle.std.proofs.Common.{◌∙◌, sym, arith, decimal, drop, set, get_or}
 use Rattle.std.proofs.lemmas.Fmt.{length-decimal-le}
 use Rattle.std.proofs.Common.{take, subst}
@@ -10,7 +10,7 @@ use borrow.Rule.Slice.PartMut.{put_mid, post_of}
 use Rattle.dover_model.specs.Numerals.{AreShort}
 use Rattle.dover_model.specs.Lines.{with_numbers}
 use Rattle.dover_model.proofs.Fields.{length-with_numbers}
-use Rattle.line_text.specs.Writing.{with_field, numbers_behind}
+use Rattle.line_text.specs.Writing.{numbers_behind}
 
 -- a word and numbers are the word with the numbers behind it
 pub with_numbers-behind : (word ns : List ℕ) → word ++ numbers_behind ns ≡ with_numbers word ns
@@ -24,31 +24,6 @@ length-numbers_behind ns short = omega (
   ap (λ (bs : List ℕ). length bs) (with_numbers-behind [] ns),
   length-with_numbers [] ns short,
 )
-
--- a field behind a line that has begun
-pub with_field-begun : (line field : List ℕ) → 0 < length line → with_field line field ≡ line ++ 32 ∷ field
-with_field-begun [] field begun = absurd (omega arith)
-with_field-begun (b ∷ line) field begun = refl
-
--- a line with a field more is longer by the field and a space at most
-pub field_fits : (line field : List ℕ) → length (with_field line field) ≤ length line + length field + 1
-field_fits [] field = omega arith
-field_fits (b ∷ line) field = omega (arith, length-append (b ∷ line) (32 ∷ field))
-
--- one number more
-pub one_behind : (line : List ℕ) (n : ℕ) (ns whole : List ℕ) → 0 < length line → line ++ numbers_behind (n ∷ ns) ≡ whole
-    → with_field line (decimal n) ++ numbers_behind ns ≡ whole
-one_behind line n ns whole begun e = ap (λ bs. bs ++ numbers_behind ns) (with_field-begun line (decimal n) begun)
-    ∙ append_assoc line (32 ∷ decimal n) (numbers_behind ns) ∙ e
-
--- it fits where the whole fits
-pub one_fits : (line : List ℕ) (n : ℕ) (ns whole : List ℕ) (most : ℕ) → 0 < length line
-    → line ++ numbers_behind (n ∷ ns) ≡ whole
-    → length whole ≤ most → length (with_field line (decimal n)) ≤ most
-one_fits line n ns whole most begun e fits =
-    let size : length (with_field line (decimal n) ++ numbers_behind ns) ≡ length whole =
-    ap length (one_behind line n ns whole begun e) in
-    omega (arith, length-append (with_field line (decimal n)) (numbers_behind ns))
 
 -- ---- a line that is written from its end
 

@@ -59,6 +59,16 @@ impl BackLine {
         BackLine { bytes, start }
     }
 
+    /// A line with nothing in it yet, not even a line feed.
+    pub fn empty() -> BackLine
+        ensures { result ≡ [] }
+    {
+        BackLine {
+            bytes: [0; LINE_BYTES],
+            start: LINE_BYTES,
+        }
+    }
+
     /// Leaves its line feed alone.
     #[inline(always)]
     pub fn clear(&mut self)
@@ -116,7 +126,7 @@ impl BackLine {
         requires fits { length word.now + 19 * length numbers.now + length self.old ≤ most_written }
         ensures { self.new ≡ with_numbers word.now numbers.now ++ self.old }
     {
-        self.start = put_before(&mut self.bytes, self.start, numbers);
+        self.put_numbers(numbers);
         self.put_word(word);
     }
 

@@ -1,7 +1,7 @@
 -- What a heap keeps, with one item more, with one less, and with more places.
-use Rattle.std.proofs.Common.{◌≡◌, ◌≢◌, ℕ, ◌+◌, ◌-◌, ◌^◌, ◌<◌, ◌≤◌, true, false, List, ◌++◌}
+use Rattle.std.proofs.Common.{◌≡◌, ◌≢◌, ℕ, ◌+◌, ◌-◌, ◌^◌, ◌<◌, ◌≤◌, List, ◌++◌}
 use Rattle.std.proofs.Common.{Option, Some, None}
-use Rattle.std.proofs.Common.{length, replicate, set, get_or, refl, ap, ◌∙◌, sym, arith}
+use Rattle.std.proofs.Common.{length, replicate, set, get_or, ap, ◌∙◌, sym, arith}
 use Rattle.std.specs.Prelude.{is_some, slice_get}
 use Rattle.std.specs.List.{count_by}
 use Rattle.std.proofs.lemmas.Option.{slice_get-get_or, slice_get_past}
@@ -99,13 +99,3 @@ pub grown_table : (es : List ItemFacts) (ps qs : List ℕ) (cap n : ℕ) → IsK
     → table_of es qs ≡ table_of es ps ++ replicate (n - length (table_of es ps)) None
 grown_table es ps qs cap n kept is = ap (table_of es) is ∙ table_grown es ps (n - length ps) (few_kept es ps cap kept)
     ∙ ap (λ k. table_of es ps ++ replicate (n - k) None) (sym (table_len es ps))
-
--- whether an item is there, by its position
-pub held : (es : List ItemFacts) (ps : List ℕ) (cap n : ℕ) → IsKept es ps cap → position ps n ≢ nowhere
-    → is_some (get_or (table_of es ps) n None) ≡ true
-held es ps cap n kept some = ap is_some (item_there es ps cap n (position ps n) kept refl some)
-
-pub not_held : (es : List ItemFacts) (ps : List ℕ) (cap n : ℕ) → IsKept es ps cap → position ps n ≡ nowhere
-    → is_some (get_or (table_of es ps) n None) ≡ false
-not_held es ps cap n kept is = ap is_some (table_at es ps n (few_kept es ps cap kept) ∙ ap (slice_get es) is
-    ∙ slice_get_past es nowhere (few_kept es ps cap kept))

@@ -84,14 +84,6 @@ impl Heap {
         self.items.len() as u32
     }
 
-    /// Whether there is an item at the place.
-    #[inline(always)]
-    pub fn holds(&self, place: u32) -> bool
-        ensures { result ≡ is_some (slice_index_or self.now place None) }
-    {
-        position_of(&self.positions, place) != NOWHERE
-    }
-
     /// The item that comes before all others, if there is any.
     #[inline(always)]
     pub fn first(&self) -> Option<Item>

@@ -1,5 +1,5 @@
 //! What is put of an answer.
-ghost use Rattle.std.specs.Prelude.{◌≡◌, ◌<◌, ◌∷◌, [], length};
+ghost use Rattle.std.specs.Prelude.{◌≡◌, ◌++◌, ◌∷◌, [], ℕ, List, codes};
 ghost use Rattle.dover_model.specs.Lines.{in_lines};
 ghost use Rattle.dover_port.specs.Causes.{HasCause, StopsAtFailure};
 ghost use Rattle.dover_port.specs.Moves.{PutsThrough};
@@ -7,7 +7,8 @@ ghost use Rattle.dover_port.specs.declared.status.Status.TheVariants.{Refused};
 ghost use Rattle.dialogue.specs.Turns.{StopCause, StopsOn};
 ghost use Rattle.question_words.specs.Texts.{PutsBy, piece_lines, row_lines, stretch_lines, text_of};
 
-use dialogue::{Stop, put_numbers};
+use dialogue::Stop;
+use dialogue::lines::put_numbers;
 use dover_model::Piece;
 use dover_port::{Failed, Output, Port, Status};
 use line_text::BackLine;
@@ -96,19 +97,26 @@ fn put_rows<P: Port>(port: &mut P, out: &mut Output, rows: &Rows) -> Result<(), 
 }
 
 impl Answer {
-    /// A line that refuses.
-    pub(crate) fn refused(alloc: Global, line: &[u8]) -> Answer
-        requires { length line.now < 129 }
+    /// A line that refuses, with its line feed.
+    pub(crate) fn refused(alloc: Global, head: BackLine) -> Answer
         ensures status { result.status ≡ Refused }
-        ensures text { text_of result ≡ in_lines (line.now ∷ []) }
+        ensures text { (line : List ℕ) → head ≡ line ++ 10 ∷ [] → text_of result ≡ in_lines (line ∷ []) }
     {
-        let mut head = BackLine::new();
-        head.put_word(line);
         Answer {
             status: Status::Refused,
             head,
             rows: Rows::Pieces(Vec::new(alloc)),
         }
+    }
+
+    /// The line that refuses more jobs than are answered.
+    pub(crate) fn too_many(alloc: Global) -> Answer
+        ensures status { result.status ≡ Refused }
+        ensures text { text_of result ≡ in_lines (codes "refused size" ∷ []) }
+    {
+        let mut head = BackLine::new();
+        head.put_word(b"refused size");
+        Answer::refused(alloc, head)
     }
 
     /// Puts its text.

@@ -13,7 +13,8 @@ ghost use Rattle.question_words.specs.Texts.{text_of, refusal_line};
 
 use crate::answer::Answer;
 use crate::{Question, best, compare, feasible, loss};
-use dialogue::{Stop, Talker, fault_text};
+use dialogue::lines::fault_line;
+use dialogue::{Stop, Talker};
 use dover_model::Memory;
 use dover_port::{Output, Port, Status};
 use event_feed::{FeedReader, Listed, NotListed};
@@ -60,8 +61,8 @@ fn refused(alloc: Global, why: NotListed) -> Answer
     ensures text { text_of result ≡ in_lines (refusal_line why ∷ []) }
 {
     match why {
-        NotListed::Fault(fault) => Answer::refused(alloc, fault_text(fault).bytes()),
-        NotListed::TooMany => Answer::refused(alloc, b"refused size"),
+        NotListed::Fault(fault) => Answer::refused(alloc, fault_line(fault)),
+        NotListed::TooMany => Answer::too_many(alloc),
     }
 }
 

@@ -38,7 +38,7 @@ pub(crate) fn answer<L: Ledger>(
     ensures count { CostsAtMost (length listed.jobs.items) steps.old steps.new }
 {
     if MOST_JOBS < listed.jobs.len() {
-        return Ok(Answer::refused(alloc, b"refused size"));
+        return Ok(Answer::too_many(alloc));
     }
     let ratio = listed.ratio;
     let (value, jobs) = observe(alloc, listed, steps)?;

@@ -35,7 +35,7 @@ pub(crate) fn answer<L: Ledger>(
     ensures count { CostsAtMost (length listed.jobs.items) steps.old steps.new }
 {
     if are_too_large(&listed.jobs) {
-        return Ok(Answer::refused(alloc, b"refused size"));
+        return Ok(Answer::too_many(alloc));
     }
     let ratio = listed.ratio;
     let (dover, jobs) = observe(alloc, listed, steps)?;

@@ -24,7 +24,7 @@ pub(crate) fn answer(alloc: Global, listed: &Listed) -> Result<Answer, Memory>
     ensures ends { IfOk result (λ answer. IsFinal answer.status) }
 {
     if !is_listable(listed) {
-        return Ok(Answer::refused(alloc, b"refused size"));
+        return Ok(Answer::too_many(alloc));
     }
     let mut head = BackLine::new();
     match judge_feasible(alloc, &listed.jobs)? {

@@ -67,7 +67,7 @@ pub(crate) fn answer<L: Ledger>(
     ensures count { CostsAtMost (length listed.jobs.items) steps.old steps.new }
 {
     if !is_listable(&listed) {
-        return Ok(Answer::refused(alloc, b"refused size"));
+        return Ok(Answer::too_many(alloc));
     }
     let ratio = listed.ratio;
     let (completed, jobs) = observe_each(alloc, listed, steps)?;

@@ -25,8 +25,7 @@ use Rattle.dover_model.proofs.Members.{on_map, map_member, map_map}
 use Rattle.dover_model.proofs.Moves.{says}
 use Rattle.dover_model.proofs.Roles.{one_number, numbered_map, passes, is_running_role}
 use Rattle.dover_model.proofs.Tests.{never}
-use Rattle.run_record.specs.ledger.Roles.{with_role_at, all_displaced}
-use Rattle.run_record.proofs.ledger.Changing.{displaced_same, task_at}
+use Rattle.dover_model.proofs.RoleChanges.{with_role_at, all_displaced, displaced_same, task_at}
 use Rattle.ready_server.specs.Roster.{Roll, ListedJob, had_with, stopped, released, is_displaced, job_at, with_stop}
 use Rattle.ready_server.specs.Roster.{halted, started, with_event, empty_roll, roll_of}
 use Rattle.ready_server.proofs.Rolls.{calm_role, Lists, Follows, set_here, set_there, length_set, get_front, get_last}

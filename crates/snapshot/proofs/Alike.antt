@@ -37,7 +37,7 @@ use Rattle.dover_model.specs.Feed.{later_line_cause, with_fault, with_refused_at
 use Rattle.dover_model.specs.Due.{due_lines, fault_text}
 use Rattle.dover_model.specs.WholeRun.{Begins}
 use Rattle.dover_model.specs.Sound.{IsMember, HaveTheSame}
-use Rattle.dover_model.proofs.Accounts.{Holds, IsKept, lines_goes}
+use Rattle.dover_model.proofs.Accounts.{account_with, Holds, IsKept, lines_goes}
 use Rattle.dover_model.proofs.FinishOrders.{same_alike, settled_alike, state_alike, finish_alike, run_alike}
 use Rattle.dover_model.proofs.Fullness.{admitted_in}
 use Rattle.dover_model.proofs.Further.{completes_at_mark}
@@ -49,10 +49,6 @@ use Rattle.dover_model.proofs.Growing.{settled_later, settled_of_run, Finishes, 
 use Rattle.dover_model.proofs.Prefixes.{settled_prefix}
 use Rattle.dover_model.proofs.PutIn.{places_after-append}
 use Rattle.event_feed.proofs.Counting.{after_form}
-
--- an account
-abbrev account_with : ℕ → Option Session → ℕ → Standing → Account
-account_with lines session mark standing = record { lines = lines; session = session; mark = mark; standing = standing }
 
 -- both are declared, with the same jobs under the same rules, and the same early finishes in whatever order
 pub record SameSession (S T : Session) : Type 0 where

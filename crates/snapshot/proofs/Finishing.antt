@@ -48,18 +48,12 @@ use Rattle.snapshot.proofs.Formed.{denied}
 use Rattle.snapshot.proofs.Going.{handed_follows}
 use Rattle.snapshot.proofs.Handed.{goes_on}
 use Rattle.snapshot.proofs.RunItems.{NoneRefused}
+use Rattle.snapshot.proofs.Takeable.{jobs_least}
 use Rattle.snapshot.proofs.Whole.{all_lines_account}
 use Rattle.ready_server.proofs.RollSettled.{settled_jobs}
 use Rattle.snapshot.proofs.Stepping.{served_count, refused_here}
 use Rattle.snapshot.proofs.Storing.{no_last, mark_beyond, other_state, last_stands}
 use Rattle.dover_model.proofs.ValidParts.{ReleasesInOrder, valid_parts}
-
--- as many items as jobs at least
-jobs_least : (items : List Item) → length (admitted_jobs items) ≤ length items
-jobs_least [] = omega arith
-jobs_least (JobItem j ∷ items) = omega (arith, jobs_least items)
-jobs_least (RefusedItem r ∷ items) = omega (arith, jobs_least items)
-jobs_least (FinishItem f ∷ items) = omega (arith, jobs_least items)
 
 -- where they are no more, they are the jobs
 jobs_are : (items : List Item) → NoneRefused items → length items ≤ length (admitted_jobs items)

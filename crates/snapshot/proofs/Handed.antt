@@ -10,7 +10,7 @@ use Rattle.dover_model.specs.declared.events.Task.{Task}
 use Rattle.dover_model.specs.JobFacts.{JobFacts, IsJob, job_numbers, job_of_numbers}
 use Rattle.dover_model.specs.Instance.{IsValid}
 use Rattle.dover_model.specs.Numerals.{AreShort}
-use Rattle.dover_model.specs.Session.{Session, JobItem, RefusedJob, with_item, admitted_jobs, refuses_lines}
+use Rattle.dover_model.specs.Session.{Session, RefusedJob, admitted_jobs, refuses_lines}
 use Rattle.dover_model.specs.Sound.{jobs_of}
 use Rattle.dover_model.specs.FeedLine.{JobLine, feed_text}
 use Rattle.dover_model.specs.Feed as model
@@ -72,19 +72,6 @@ jobs_in_session (Some S) = admitted_jobs S.items
 -- how many they are
 abbrev count : Account → ℕ
 count a = length (jobs_in_session a.session)
-
--- one more with a job
-count_job : (S : Session) (j : JobFacts)
-    → length (admitted_jobs (with_item S (JobItem j)).items) ≡ length (admitted_jobs S.items) + 1
-count_job S j = omega (
-  arith,
-  ap (λ J. length J.jobs) (job_instance S j),
-  length-append (admitted_jobs S.items) (j ∷ []),
-)
-
--- the last of a list
-last_of : JobFacts → List JobFacts → JobFacts
-last_of d xs = fold (λ x y. y) d xs
 
 -- lists with equal last elements
 same_last : (xs ys : List JobFacts) (x y : JobFacts) → xs ++ x ∷ [] ≡ ys ++ y ∷ [] → x ≡ y

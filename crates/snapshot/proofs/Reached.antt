@@ -26,7 +26,7 @@ use Rattle.dover_model.specs.Feed.{with_fault}
 use Rattle.dover_model.specs.Feed.{with_refused_at}
 use Rattle.dover_model.specs.Session.{refusal_in, refused_mark}
 use Rattle.dover_model.specs.Feed.{with_line, next_line, most_lines_in, Cause, Short}
-use Rattle.dover_model.proofs.Accounts.{mark_behind}
+use Rattle.dover_model.proofs.Accounts.{account_with, mark_behind}
 use Rattle.dover_model.proofs.Growing.{early_says}
 use Rattle.event_feed.proofs.Counting.{after_form}
 
@@ -44,10 +44,6 @@ ReachesBy (Faulty line cause) session mark lines = Unit {0}
 
 abbrev pub Reaches : Account → Type 0
 Reaches a = ReachesBy a.standing a.session a.mark a.lines
-
--- an account
-abbrev account_with : ℕ → Option Session → ℕ → Standing → Account
-account_with lines session mark standing = record { lines = lines; session = session; mark = mark; standing = standing }
 
 -- ---- the first line
 

@@ -12,13 +12,13 @@ use Rattle.dover_model.specs.declared.events.Version.{Version}
 use Rattle.dover_model.specs.Finishes.{Finish, AreDueAlike}
 use Rattle.dover_model.specs.Instance.{Instance, IsValid, under, finishing}
 use Rattle.dover_model.specs.Session.{Session, instance_of, admitted_jobs, early_finishes, may_finish_early}
-use Rattle.dover_model.specs.Settled.{settled, settled_state, finish_now}
+use Rattle.dover_model.specs.Settled.{settled_state, finish_now}
 use Rattle.dover_model.specs.Sound.{IsMember, Each, HaveTheSame, jobs_of}
 use Rattle.dover_model.specs.State.{is_done}
 use Rattle.dover_model.specs.Trace.{handed_by, session_of_run}
 use Rattle.dover_model.proofs.Accounts.{Holds}
 use Rattle.dover_model.proofs.Barriers.{AtBarrier, settled_at_barrier}
-use Rattle.dover_model.proofs.FinishOrders.{same_alike, settled_alike, state_alike, run_alike}
+use Rattle.dover_model.proofs.FinishOrders.{same_alike, state_alike, run_alike}
 use Rattle.dover_model.proofs.Former.{none_early}
 use Rattle.dover_model.proofs.Honest.{count_jobs}
 use Rattle.dover_model.proofs.Meeting.{given_in, given_by}
@@ -167,10 +167,6 @@ module _ (S : Session) (mark lines : ℕ) (holds : Holds S mark lines) where
     pub stored_state : (m : ℕ) → settled_state (stored h stand) m ≡ settled_state K m
     stored_state m = ap (λ L. settled_state L m) stored_as
         ∙ sym (state_alike K (early_finishes S.items) (early_in S.rules.version stand) due_alike m)
-
-    pub stored_settled : (m : ℕ) → settled (stored h stand) m ≡ settled K m
-    stored_settled m = ap (λ L. settled L m) stored_as
-        ∙ sym (settled_alike K (early_finishes S.items) (early_in S.rules.version stand) due_alike m)
 
     -- and the run hands in the same
     pub stored_run : stored_session h stand ≡ session_of_run K

@@ -35,7 +35,8 @@ use Rattle.snapshot.specs.Snapshot.{state_numbers, IsState}
 use Rattle.snapshot.specs.Reading.{rules_from, head_with, head_from, read_head, role_of_word, task_from}
 use Rattle.snapshot.specs.Reading.{task_of_fields, read_task}
 use Rattle.dover_model.specs.declared.events.Version.TheVariants.{Three}
-use Rattle.snapshot.specs.Reading.{version_of}
+use Rattle.dover_model.specs.Verdict.{version_of_number}
+use Rattle.dover_model.proofs.TraceLines.{version_back, version_from}
 
 -- ---- a word and numbers
 
@@ -70,25 +71,6 @@ numbers_from word line ns = by (fields_of line) refl where
       )
 
 -- ---- the first line
-
--- a version is read from its number
-version_back : (v : Version) → version_of (version_number v) ≡ Some v
-version_back One = refl
-version_back Two = refl
-version_back Three = refl
-
--- and its number from it
-version_from : (n : ℕ) (v : Version) → version_of n ≡ Some v → version_number v ≡ n
-version_from n v = by (n == 1) (n == 2) (n == 3) refl refl refl where
-  by : (a b c : Bool) → (n == 1) ≡ a → (n == 2) ≡ b → (n == 3) ≡ c
-      → cond a (Some One) (cond b (Some Two) (then_some c Three)) ≡ Some v → version_number v ≡ n
-  by true b c one two three read =
-      subst (λ w. version_number w ≡ n) (some_same One v read) (sym (eqb-true n 1 one))
-  by false true c one two three read =
-      subst (λ w. version_number w ≡ n) (some_same Two v read) (sym (eqb-true n 2 two))
-  by false false true one two three read =
-      subst (λ w. version_number w ≡ n) (some_same Three v read) (sym (eqb-true n 3 three))
-  by false false false one two three read = none_is_some read
 
 -- the first line of these rules, of the other numbers
 abbrev head_of : (lines mark jobs : ℕ) → Declaration → Head
@@ -168,15 +150,15 @@ AreOf rules numbers factor = (version_number rules.version ∷ rules.ratio.p ∷
 
 -- what rules are read from
 rules_read : (n p q : ℕ) (rules : Declaration) → rules_from n p q ≡ Some rules → AreOf rules (n ∷ p ∷ q ∷ []) []
-rules_read n p q rules = by (version_of n) refl where
-  by_ratio : (b : Bool) (v : Version) → is_ratio (fraction p q) ≡ b → version_of n ≡ Some v
+rules_read n p q rules = by (version_of_number n) refl where
+  by_ratio : (b : Bool) (v : Version) → is_ratio (fraction p q) ≡ b → version_of_number n ≡ Some v
       → then_some b (rules_with (fraction p q) v) ≡ Some rules → AreOf rules (n ∷ p ∷ q ∷ []) []
   by_ratio false v fails version read = none_is_some read
   by_ratio true v passes version read = subst (λ r. AreOf r (n ∷ p ∷ q ∷ []) [])
       (some_same (rules_with (fraction p q) v) rules read)
       (ap (λ m. m ∷ p ∷ q ∷ []) (version_from n v version), refl, record { passes = passes }, refl)
 
-  by : (o : Option Version) → version_of n ≡ o
+  by : (o : Option Version) → version_of_number n ≡ o
       → option_and_then (λ version. then_some (is_ratio (fraction p q)) (rules_with (fraction p q) version)) o
       ≡ Some rules → AreOf rules (n ∷ p ∷ q ∷ []) []
   by None version read = none_is_some read

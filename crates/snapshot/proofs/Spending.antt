@@ -9,13 +9,13 @@ use Rattle.dover_model.specs.Instance.{Instance}
 use Rattle.dover_model.specs.Settled.{settled}
 use Rattle.snapshot.specs.Snapshot.{Head}
 use Rattle.snapshot.specs.Reading.{Begun, Going, Taken, read_task, with_task, with_last, may_follow, has_reached_mark}
-use Rattle.snapshot.specs.Reading.{is_settled, refused_behind, next_line, reading_of, stored, last_release}
+use Rattle.snapshot.specs.Reading.{is_settled, refused_behind, next_line, reading_of, last_release}
 use Rattle.dover_model.proofs.Honest.{count_jobs}
 use Rattle.ready_jobs.proofs.Courses.{follows_count}
 use Rattle.ready_server.proofs.Rostered.{roster_rests}
 use Rattle.dover_model.specs.declared.horizon.Horizon.TheVariants.{Mark}
 use Rattle.snapshot.specs.Stored.{HasRead}
-use Rattle.ready_server.specs.Rostering.{Serves, Rests}
+use Rattle.ready_server.specs.Rostering.{Serves}
 use Rattle.dover_model.specs.Session.{Item, instance_of, session_with}
 use Rattle.snapshot.specs.Kept.{IsReading, IsHandedIn, HasRun, HasRunTowards}
 use Rattle.ready_server.specs.declared.roster_server.RosterServer.{RosterServer}
@@ -75,15 +75,6 @@ jobs_left r ls (h, tasks, read, it) line n same = subst (λ reading. n ≤ jobs_
       same h tasks (subst (HasRunTowards r h tasks) (sym it.released) it.run),
       jobs_next h tasks line,
     ))
-
--- at rest it has as many
-pub jobs_rested : (v : RosterServer) (h : Head) (tasks : List Task) (mark : ℕ) → Rests v (stored h tasks) (Mark mark)
-    → v.server.ready.jobs ≡ length tasks
-jobs_rested v h tasks mark it = omega (
-  arith,
-  follows_count v.server.ready (stored h tasks) it.rests.state it.rests.follows,
-  count_jobs tasks,
-)
 
 -- a line more has no fewer jobs
 pub jobs_lines : (ls : List (List ℕ)) (h : Head) (tasks : List Task) → HasRead h tasks ls → (line : List ℕ) (n : ℕ)

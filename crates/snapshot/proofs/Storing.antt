@@ -22,15 +22,6 @@ use Rattle.snapshot.proofs.Spelled.{head_line-read_head, state_line-read_task}
 
 -- ---- the first line
 
--- it is no first line
-pub no_head : (line : List ℕ) → read_head line ≡ None → reading_of (line ∷ []) ≡ Refused 1
-no_head line none = ap with_head none
-
--- it isn't within the limits
-pub head_beyond : (line : List ℕ) (h : Head) → read_head line ≡ Some h → is_within_limits h ≡ false
-    → reading_of (line ∷ []) ≡ Refused 1
-head_beyond line h read beyond = ap with_head read ∙ ap (λ b. cond b (Going h []) (Refused 1)) beyond
-
 -- no job is valid under rules with a ratio
 none_valid : (rules : Declaration) → IsRatio rules.ratio → IsValid (record { rules = under rules []; jobs = [] })
 none_valid rules ratio = (reads_new rules ratio).valid

@@ -44,12 +44,12 @@ use Rattle.snapshot.proofs.Storing.{head_stands, task_stands, last_stands}
 use Rattle.dover_model.proofs.ValidParts.{valid_parts}
 use Rattle.dover_model.proofs.JobLimits.{job_limits}
 
--- as many jobs as items at most
-jobs_in : (items : List Item) → length (admitted_jobs items) ≤ length items
-jobs_in [] = omega arith
-jobs_in (JobItem j ∷ items) = omega (arith, jobs_in items)
-jobs_in (RefusedItem r ∷ items) = omega (arith, jobs_in items)
-jobs_in (FinishItem f ∷ items) = omega (arith, jobs_in items)
+-- as many items as jobs at least
+pub jobs_least : (items : List Item) → length (admitted_jobs items) ≤ length items
+jobs_least [] = omega arith
+jobs_least (JobItem j ∷ items) = omega (arith, jobs_least items)
+jobs_least (RefusedItem r ∷ items) = omega (arith, jobs_least items)
+jobs_least (FinishItem f ∷ items) = omega (arith, jobs_least items)
 
 -- the number of a job is how many stand before it
 numbered_at : (n : ℕ) (front : List Task) (t : Task) (back : List Task) → IsNumberedFrom n (front ++ t ∷ back)
@@ -145,7 +145,7 @@ module _ (S : Session) (mark lines : ℕ) (holds : Holds S mark lines) (few : li
         (and_from ab (nat_le (length J.jobs + 1) lines)
         (and_from (nat_le mark last_tick) (nat_le (length J.jobs) (most_jobs Two))
         (le-leb mark last_tick holds.known) (le-leb (length J.jobs) (most_jobs Two) listed))
-        (le-leb (length J.jobs + 1) lines (omega (arith, reached.enough, jobs_in S.items)))) (le-leb lines
+        (le-leb (length J.jobs + 1) lines (omega (arith, reached.enough, jobs_least S.items)))) (le-leb lines
         (most_lines S.rules.version) few)
       where
         ab : Bool

@@ -18,6 +18,7 @@ use Rattle.dover_model.specs.State.{State}
 use Rattle.dover_model.specs.Lines.{in_lines}
 use Rattle.dover_model.specs.FeedLine.{TickLine, feed_text}
 use Rattle.dover_model.specs.Feed.{Account, no_lines, next_line, account_of_lines, account, is_open}
+use Rattle.dover_model.proofs.Members.{all_copies}
 use Rattle.dover_model.proofs.Barriers.{AtBarrier, settled_at_barrier}
 use Rattle.dover_model.proofs.Cuts.{HasNoFeed}
 use Rattle.dover_model.proofs.Honest.{count_jobs}
@@ -55,11 +56,6 @@ all_both : {X : Type 0} (P : X → Type 0) (xs ys : List X) → AllByRecursion P
     → AllByRecursion P (xs ++ ys)
 all_both P [] ys all more = more
 all_both P (x ∷ xs) ys all more = (all.0, all_both P xs ys all.1 more)
-
--- what holds of one holds of all its copies
-all_copies : {X : Type 0} (P : X → Type 0) (n : ℕ) (x : X) → P x → AllByRecursion P (replicate n x)
-all_copies P zero x it = tt
-all_copies P (suc n) x it = (it, all_copies P n x it)
 
 -- the lines of items have no line feed
 feedless_items : (items : List Item) → AllByRecursion HasNoFeed (item_lines items)

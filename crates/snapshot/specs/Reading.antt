@@ -16,27 +16,24 @@ use Rattle.dover_model.specs.Instance.{Instance, Declaration, under, finishing, 
 use Rattle.dover_model.specs.Session.{Item, Session, may_finish_early, mark_after}
 use Rattle.dover_model.specs.State.{is_done}
 use Rattle.dover_model.specs.Trace.{session_of_run}
-use Rattle.dover_model.specs.Feed.{declared_version, factor_rules}
+use Rattle.dover_model.specs.Feed.{factor_rules}
 use Rattle.dover_model.specs.Numerals.{numerals}
 use Rattle.dover_model.specs.Lines.{is_too_long, fields_of, numbers_of}
+use Rattle.dover_model.specs.Verdict.{version_of_number}
 use Rattle.dover_model.specs.Settled.{settled_state, finish_now}
 use Rattle.dover_model.specs.Sound.{jobs_of}
 use Rattle.snapshot.specs.Snapshot.{Head, role_word}
 use Rattle.dover_model.specs.declared.events.Version.{Version}
-use Rattle.dover_model.specs.declared.events.Version.TheVariants.{One, Two}
+use Rattle.dover_model.specs.declared.events.Version.TheVariants.{Two}
 
 -- ---- the forms of its lines
-
--- the version of this number: none but One has no number in a feed
-abbrev pub version_of : ℕ → Option Version
-version_of n = if n == 1 then Some One else declared_version (Some n)
 
 -- the rules of a version's number and a ratio, if they are within the limits
 abbrev pub rules_from : (version p q : ℕ) → Option Declaration
 rules_from n p q = option_and_then (λ version. then_some (is_ratio (fraction p q)) (record {
   ratio = fraction p q;
   version = version;
-})) (version_of n)
+})) (version_of_number n)
 
 -- the first line of these rules, if there are any, and of the other numbers
 abbrev pub head_with : (lines mark jobs : ℕ) → Option Declaration → Option Head

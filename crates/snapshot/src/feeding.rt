@@ -1,7 +1,6 @@
 //! The lines of a feed, handed in again.
 ghost use Rattle.std.specs.Prelude.{◌≡◌, ℕ, List, [], ◌∷◌, ◌++◌, true, false, IfSome, IsNone, is_some};
 ghost use Rattle.dover_model.specs.declared.events.Task.{Task};
-ghost use Rattle.dover_model.specs.Fraction.{IsRatio};
 ghost use Rattle.dover_model.specs.Instance.{IsValid};
 ghost use Rattle.dover_model.specs.JobFacts.{job_numbers};
 ghost use Rattle.dover_model.specs.Numerals.{AreShort};
@@ -11,14 +10,12 @@ ghost use Rattle.event_feed.specs.Kept.{StandsFor, IsGoing, has_ended};
 ghost use Rattle.snapshot.specs.Snapshot as model;
 ghost use Rattle.snapshot.specs.Reading.{declared_jobs};
 ghost use Rattle.snapshot.specs.Forms.{head_in, task_in};
-ghost use Rattle.event_feed.specs.Reading.{declared_number, rules_line};
 ghost use Rattle.dover_model.specs.Session.{IsDeclarable};
 ghost use Rattle.snapshot.specs.Kept.{IsFed, handed_lines, HasRoom, IsGoodNext, CanPause, job_in};
 
 use crate::forms::{Head, StateLine};
-use crate::writing::number_of;
-use dover_model::{Job, Version};
-use event_feed::{Fed, Intake};
+use dover_model::Job;
+use event_feed::{Fed, Intake, rules_line};
 use line_text::feeds::FeedLine;
 
 /// Hands in a line that isn't at fault and doesn't end the feed.
@@ -34,47 +31,13 @@ fn hand(intake: &mut Intake, line: FeedLine)
     };
 }
 
-/// The number with which a line without a factor declares a version.
-fn plain_number(version: Version) -> Option<u64>
-    ensures { result ≡ declared_number version }
-{
-    match version {
-        Version::One => None,
-        Version::Two => Some(2),
-        Version::Three => Some(3),
-    }
-}
-
-/// The line of the ratio, with its factor where it has one.
-fn ratio_line(head: &Head) -> FeedLine
-    ensures is { form_of result ≡ rules_line (head_in head.now).rules }
-    ensures numerals { HasNumerals (form_of result) }
-    ensures ratio { IsRatio head.now.ratio }
-{
-    let (p, q) = (u64::from(head.ratio.p()), u64::from(head.ratio.q()));
-    match head.ratio.factor() {
-        None => FeedLine::Declared {
-            p,
-            q,
-            version: plain_number(head.version),
-        },
-        Some(factor) => FeedLine::Factored {
-            p,
-            q,
-            version: number_of(head.version),
-            b: u64::from(factor.b),
-            c: u64::from(factor.c),
-        },
-    }
-}
-
 /// An intake that was handed the line of the ratio.
 pub(crate) fn begin(head: &Head) -> Intake
     requires { IsDeclarable (head_in head.now).rules }
     ensures { IsFed result (head_in head.now) [] }
 {
     let mut intake = Intake::new();
-    hand(&mut intake, ratio_line(head));
+    hand(&mut intake, rules_line(head.ratio, head.version));
     intake
 }
 

@@ -46,23 +46,11 @@ pub(crate) fn is_within_limits(head: &Head) -> bool
         && head.lines <= head.version.most_lines()
 }
 
-/// The version of this number.
-fn version_of(number: u64) -> Option<Version>
-    ensures { result ≡ model.version_of number }
-{
-    match number {
-        1 => Some(Version::One),
-        2 => Some(Version::Two),
-        3 => Some(Version::Three),
-        _ => None,
-    }
-}
-
 /// The ratio and the version of these numbers.
 fn declared(version: u64, p: u64, q: u64) -> Option<(Ratio, Version)>
     ensures { option_map (λ declared. rules_with declared.0 declared.1) result ≡ model.rules_from version p q }
 {
-    let version = version_of(version)?;
+    let version = Version::from_number(version)?;
     let ratio = Ratio::from_numbers(p, q)?;
     Some((ratio, version))
 }

@@ -5,24 +5,11 @@ ghost use Rattle.dover_model.specs.declared.events.Version.TheVariants.{Three};
 ghost use Rattle.dover_model.specs.Limits.{last_tick, most_jobs, most_lines};
 ghost use Rattle.dover_model.specs.Feed.{rules_with};
 ghost use Rattle.dover_model.specs.Fraction.{factor_numbers};
-ghost use Rattle.dover_model.specs.Text.{version_number};
 ghost use Rattle.line_text.specs.Writing.{numbers_behind};
 ghost use Rattle.snapshot.specs.Snapshot as model;
 
 use dover_model::{Ratio, Role, Task, Version};
 use line_text::BackLine;
-
-/// The number of a version.
-pub(crate) fn number_of(version: Version) -> u64
-    ensures is { result ≡ version_number version }
-    ensures small { result ≤ 3 }
-{
-    match version {
-        Version::One => 1,
-        Version::Two => 2,
-        Version::Three => 3,
-    }
-}
 
 /// Writes the numbers of the first line behind the ratio, the last of them those of a factor where there is one.
 fn put_counts(k: Ratio, lines: u64, mark: u64, jobs: u64, to: &mut BackLine)
@@ -54,7 +41,7 @@ pub(crate) fn head(version: Version, k: Ratio, lines: u64, mark: u64, jobs: u64,
     to.clear();
     put_counts(k, lines, mark, jobs, to);
     let (p, q) = (u64::from(k.p()), u64::from(k.q()));
-    to.put_with_numbers(b"snapshot", &[number_of(version), p, q]);
+    to.put_with_numbers(b"snapshot", &[version.number(), p, q]);
 }
 
 fn role_word(role: Role) -> &'static [u8]

@@ -7,7 +7,6 @@ pub mod Giving
 pub mod Plans
 pub mod Validity
 pub mod Linking
-pub mod Naming
 pub mod Doubling
 pub mod Worths
 pub mod Steady

@@ -1,4 +1,3 @@
-pub mod Feeding
 pub mod Putting
 pub mod Ending
 pub mod Spending

@@ -1,3 +1,2 @@
-pub mod Feeds
 pub mod Says
 pub mod Spending

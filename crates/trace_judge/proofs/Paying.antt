@@ -1,10 +1,7 @@
 -- What the run of a reading costs is paid for.
-use Rattle.std.proofs.Common.{◌≡◌, ℕ, ◌≤◌, sym, ap, subst, arith}
+use Rattle.std.proofs.Common.{◌≡◌, ℕ, ◌≤◌, sym, subst, arith}
 use Rattle.ready_jobs.specs.Course.{Course}
 use Rattle.ready_jobs.specs.Spending.{HasPaid, HasPaidFreely, HasPaidSince}
-use Rattle.trace_judge.specs.declared.stage.Stage.TheVariants.{Opening}
-use Rattle.trace_judge.specs.Reads.{Reading, Opens, IsReader}
-use Rattle.trace_judge.proofs.Readings.{opens_of}
 
 -- where the last step was printed at the clock
 pub paid_late : (c : Course) (last start now : ℕ) → HasPaid c start now → c.clock ≤ last → HasPaidSince c last start now
@@ -25,8 +22,3 @@ pub paid_room : (c d : Course) (last start now : ℕ) → d ≡ record c { room 
     → HasPaidSince d last start now
 paid_room c d last start now same it = subst (λ e. HasPaidSince e last start now) (sym same)
     (record { paid = it.paid; freely = it.freely })
-
--- before the header the clock is at its beginning
-pub opening_clock : (r : Reading) → IsReader r → r.stage ≡ Opening → r.course.clock ≡ 0
-opening_clock r old opening = let opens : Opens r old.lines = opens_of r old.lines opening old.reads in
-    ap (λ (c : Course). c.clock) opens.course

@@ -2,7 +2,7 @@
 use Rattle.std.proofs.Common.{◌≡◌, ℕ, zero, suc, ◌+◌, ◌≤◌, ◌<◌, List, [], ◌∷◌, ◌++◌, length, length-append, map}
 use Rattle.std.proofs.Common.{append_assoc, refl, sym, ap, ◌∙◌, subst, take, Option, Some, None, Result, Ok, Err, arith}
 use Rattle.std.specs.List.{AllByRecursion}
-use Rattle.std.proofs.lemmas.List.{append-nil, map-append}
+use Rattle.std.proofs.lemmas.List.{append-nil}
 use Rattle.dover_model.specs.JobFacts.{JobFacts, IsJob}
 use Rattle.dover_model.specs.Lines.{in_lines}
 use Rattle.dover_model.proofs.Valid.{all_back}
@@ -18,11 +18,8 @@ use Rattle.dover_model.specs.FeedLine.{EndLine, feed_text}
 use Rattle.dover_model.specs.declared.events.Version.TheVariants.{One}
 use Rattle.dover_model.specs.Fraction.{Fraction}
 use Rattle.dover_model.specs.Instance.{Instance, declared_by, jobs_under}
-use Rattle.task_words.specs.unroll.Feeds.{job_text, rules_text, feed_of}
-use Rattle.task_words.proofs.unroll.Putting.{texts, text_more, in_lines-append, feed_through}
-
-texts_behind : (xs ys : List JobFacts) → texts (xs ++ ys) ≡ texts xs ++ texts ys
-texts_behind xs ys = ap in_lines (map-append job_text xs ys) ∙ in_lines-append (map job_text xs) (map job_text ys)
+use Rattle.event_feed.specs.Feeds.{job_text, rules_text, feed_of}
+use Rattle.dialogue.proofs.lines.FeedTexts.{texts, texts_behind, text_more, feed_through}
 
 -- the first of two lists is within what is taken
 take_more : (count : ℕ) (xs ys : List JobFacts) → length xs ≤ count

@@ -13,8 +13,8 @@ use Rattle.dover_port.proofs.Through.{passes_then, passes_then_cut, cut_longer}
 use Rattle.stated_jobs.specs.declared.trial.turns.Done.{Done}
 use Rattle.stated_jobs.specs.declared.trial.turns.Turn.{Turn}
 use Rattle.trial_words.specs.Drawing.{turn_lines, text_of_lines, feed_of_turns}
-use Rattle.task_words.specs.unroll.Feeds.{rules_text}
-use Rattle.task_words.proofs.unroll.Putting.{in_lines-append}
+use Rattle.event_feed.specs.Feeds.{rules_text}
+use Rattle.dover_model.proofs.Beginnings.{in_lines-append}
 
 -- lines behind lines
 text_behind : (xs ys : List FeedLine) → text_of_lines (xs ++ ys) ≡ text_of_lines xs ++ text_of_lines ys

@@ -10,7 +10,7 @@ use Rattle.dover_port.specs.Moves.{Move}
 use Rattle.dover_port.specs.declared.status.Status.{Status}
 use Rattle.stated_jobs.specs.trial.Turns.{drawn_turns}
 use Rattle.stated_jobs.specs.declared.trial.turns.Turn.{Turn}
-use Rattle.task_words.specs.unroll.Feeds.{rules_text}
+use Rattle.event_feed.specs.Feeds.{rules_text}
 use Rattle.trial_words.specs.Record.{Puts}
 
 -- the lines of a turn: its job, and what is done behind it

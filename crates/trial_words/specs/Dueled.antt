@@ -11,7 +11,7 @@ use Rattle.stated_jobs.specs.declared.duel.links.Share.{Share}
 use Rattle.stated_jobs.specs.declared.duel.asking.NoDuel.{NoDuel}
 use Rattle.stated_jobs.specs.declared.duel.asking.NoDuel.TheVariants as no
 use Rattle.stated_jobs.specs.duel.Answers.{jobs_for, front_of, IsDuel, IsNoDuel}
-use Rattle.task_words.specs.unroll.Feeds.{feed_of}
+use Rattle.event_feed.specs.Feeds.{feed_of}
 use Rattle.trial_words.specs.Record.{Puts, Refuses}
 
 -- the jobs of a front of the duel for a share, or all of them

@@ -8,11 +8,11 @@ ghost use Rattle.dover_port.specs.Causes.{Causes, HasCause, StopsAtFailure, Stop
 ghost use Rattle.dover_port.specs.Moves.{PutsThrough, Since};
 ghost use Rattle.trial_words.specs.Drawing.{Draws, feed_of_turns, turn_lines, text_of_lines};
 
-use dialogue::put_numbers;
+use dialogue::lines::{put_feed_line, put_job, put_rules};
 use dover_model::{Ratio, Version};
 use dover_port::{Failed, Output, Port, Status};
+use line_text::feeds::FeedLine;
 use stated_jobs::trial::{Turn, TurnGen};
-use task_words::unroll::{put_job, put_rules};
 
 /// Puts the lines of a turn.
 fn put_turn<P: Port>(port: &mut P, out: &mut Output, turn: &Turn) -> Result<(), Failed>
@@ -27,7 +27,13 @@ fn put_turn<P: Port>(port: &mut P, out: &mut Output, turn: &Turn) -> Result<(), 
         Err(failed) => return Err(failed),
     }
     match turn.done {
-        Some(done) => put_numbers(port, out, b"done", &[done.tick, done.number]),
+        Some(done) => {
+            let line = FeedLine::Done {
+                at: done.tick,
+                number: done.number,
+            };
+            put_feed_line(port, out, &line)
+        }
         None => Ok(()),
     }
 }
@@ -70,7 +76,7 @@ fn put_feed<P: Port>(
         Ok(()) => {}
         Err(failed) => return Err(failed),
     }
-    match put_numbers(port, out, b"end", &[]) {
+    match put_feed_line(port, out, &FeedLine::End) {
         Ok(()) => {}
         Err(failed) => return Err(failed),
     }

@@ -11,13 +11,13 @@ ghost use Rattle.dover_port.specs.Moves.{PutsThrough, Since};
 ghost use Rattle.stated_jobs.specs.duel.Answers.{Answers, jobs_for};
 ghost use Rattle.stated_jobs.specs.duel.Kept.{IsShare};
 ghost use Rattle.trial_words.specs.Dueled.{Duels, duel_front, no_duel_text};
-ghost use Rattle.task_words.specs.unroll.Feeds.{feed_of, job_text};
+ghost use Rattle.event_feed.specs.Feeds.{feed_of, job_text};
 
-use dialogue::put_numbers;
+use dialogue::lines::{put_feed_line, put_job, put_rules};
 use dover_model::{Ratio, Version};
 use dover_port::{Failed, Output, Port, Status, put_all};
+use line_text::feeds::FeedLine;
 use stated_jobs::duel::{Coming, Next, NoDuel, Share, front_count};
-use task_words::unroll::{put_job, put_rules};
 
 /// Puts the lines of so many jobs, each of which keeps its limits.
 fn put_jobs<P: Port>(
@@ -72,7 +72,7 @@ fn put_feed<P: Port>(
         Ok(()) => {}
         Err(failed) => return Err(failed),
     }
-    match put_numbers(port, out, b"end", &[]) {
+    match put_feed_line(port, out, &FeedLine::End) {
         Ok(()) => {}
         Err(failed) => return Err(failed),
     }

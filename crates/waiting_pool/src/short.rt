@@ -111,14 +111,6 @@ impl ShortTask {
         joined(self.work, u32::from(self.work_high))
     }
 
-    /// What it is.
-    #[inline(always)]
-    pub fn role(&self) -> Role
-        ensures { result ≡ self.now.role }
-    {
-        self.role
-    }
-
     /// The ticks that it is still to have.
     #[inline(always)]
     pub fn left(&self) -> u64

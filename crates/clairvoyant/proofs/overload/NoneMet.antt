@@ -8,7 +8,6 @@ use Rattle.std.proofs.lemmas.List.Sums.{sum_by-cons}
 use Rattle.std.proofs.lemmas.Bool.{leb-true, leb-false, lt-leb}
 use Rattle.dover_model.specs.Instance.{Rules}
 use Rattle.dover_model.specs.JobFacts.{JobFacts, IsJob}
-use Rattle.dover_model.specs.Limits.{last_tick}
 use Rattle.dover_model.specs.Sound.{Each}
 use Rattle.dover_model.specs.Windows.{IsOverfull, is_inside, work_inside}
 use Rattle.dover_model.specs.declared.events.Version.TheVariants.{One}
@@ -18,7 +17,7 @@ use Rattle.dover_model.proofs.Members.{filter_none, cond_le}
 use Rattle.dover_model.proofs.Parting.{worth_to}
 use Rattle.clairvoyant.specs.declared.feasible.answer.Feasible.{Feasible}
 use Rattle.clairvoyant.specs.declared.feasible.answer.Feasible.TheVariants.{Window}
-use Rattle.clairvoyant.specs.feasible.Feasibility.{CanMeet, IsAnswer, IsDeadline, ShowsWindow}
+use Rattle.clairvoyant.specs.feasible.Feasibility.{CanMeet, IsAnswer, ShowsWindow}
 use Rattle.clairvoyant.proofs.feasible.Overfull.{overfull_excludes}
 use Rattle.clairvoyant.specs.declared.overload.stretch.Stretch.{Stretch}
 use Rattle.clairvoyant.specs.overload.Stretches.{IsStretch, IsWorth}
@@ -42,10 +41,6 @@ module _ (jobs : List JobFacts) (good : Each IsJob jobs) where
         let none : work_inside jobs a b ≡ 0 = ap (sum_by (λ (j : JobFacts). j.work)) (filter_none (is_inside a b) jobs
         (λ j member. empty_out a b j (good j member) (leb-true _ _ e))) in
         absurd (omega (arith, none, full.work, full.too_much))
-
-  -- a deadline is no later than the last tick
-  pub deadline_low : (b : ℕ) → IsDeadline jobs b → b ≤ last_tick
-  deadline_low b it = subst (λ d. d ≤ last_tick) it.2 ((job_limits (good it.0 it.1)).due)
 
 -- the answer of a window shows it
 pub window_shown : (jobs : List JobFacts) (answer : Feasible) (a b work : ℕ) → answer ≡ Window a b work

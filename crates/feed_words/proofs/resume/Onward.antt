@@ -11,7 +11,7 @@ use Rattle.dover_model.proofs.Cuts.{CutText, onto, put_before, cut_append}
 use Rattle.dover_model.proofs.Beginnings.{in_lines-append}
 use Rattle.snapshot.specs.Snapshot.{MayPause, Head, snapshot}
 use Rattle.snapshot.specs.Reading.{Reading, Begun, Going, Taken, Refused, refused_behind, next_line, reading_of}
-use Rattle.snapshot.proofs.Again.{joined_again}
+use Rattle.dover_model.proofs.AcceptedTexts.{text_joined}
 use Rattle.feed_words.proofs.resume.Taking.{IsWholeFront, taken_whole, refused_stays, taken_stays}
 use Rattle.snapshot.proofs.Whole.{shortest_may, shortest_text}
 use Rattle.feed_words.specs.resume.Talk.{feed_of, behind_snapshot}
@@ -59,10 +59,6 @@ module _ (x : List ℕ) where
     by true long = by_reading (reading_of (whole_lines x)) (sym (long_lines long) ∙ is)
 
   module _ (y : List ℕ) where
-    -- the whole lines go on
-    whole_more : whole_lines (x ++ y) ≡ whole_lines x ++ (onto (rest_of x) (cut y)).0
-    whole_more = ap (λ (c : CutText). c.0) (cut_append x y)
-
     -- the lines that come
     abbrev more_lines : CutText → List (List ℕ)
     more_lines c = c.0 ++ cond (is_too_long c.1) (c.1 ∷ []) []
@@ -135,7 +131,7 @@ module _ (x : List ℕ) (h : Head) (ts : List Task) (is : reading_of (lines_of x
 
   -- the bytes are its snapshot, and what follows
   first_part : x ≡ snapshot (feed_of h ts) ++ (in_lines front.more ++ rest_of x)
-  first_part = sym (joined_again x) ∙ ap (λ ls. in_lines ls ++ rest_of x) front.cut
+  first_part = sym (text_joined x) ∙ ap (λ ls. in_lines ls ++ rest_of x) front.cut
       ∙ ap (λ l. l ++ rest_of x) (in_lines-append front.front front.more)
       ∙ append_assoc (in_lines front.front) (in_lines front.more) (rest_of x)
       ∙ ap (λ l. l ++ (in_lines front.more ++ rest_of x)) (sym feed_text)

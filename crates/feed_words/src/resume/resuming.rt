@@ -11,10 +11,11 @@ ghost use Rattle.snapshot.specs.Kept.{IsReady as IsWholeFor};
 
 use crate::resume::opening::Opening;
 use crate::serve::{AtEnd, Pausing, Serving};
-use dialogue::{Stop, Talker, put_line};
+use dialogue::lines::put_refused;
+use dialogue::{Stop, Talker};
 use dover_model::Memory;
 use dover_port::{Output, Port, Status};
-use line_text::{BackLine, LineBuf};
+use line_text::BackLine;
 use snapshot::{Got, Reader, SnapFault};
 use std::alloc::Global;
 use std::mem::replace;
@@ -60,11 +61,7 @@ fn refuse_snapshot<P: Port>(port: &mut P, out: &mut Output, line: u64) -> Result
         (P.write_faults port.old) (P.write_faults port.new) (P.read_faults port.old) (P.read_faults port.new) }
     ensures stops { StopsOn result (P.calls port.old) (P.calls port.new) }
 {
-    let mut text = LineBuf::new();
-    text.put_word(b"refused");
-    text.put_number(line);
-    text.put_word(b"snapshot");
-    match put_line(port, out, text) {
+    match put_refused(port, out, line, b"snapshot") {
         Ok(()) => Ok(Status::Refused),
         Err(_) => Err(Stop::Unwritten),
     }

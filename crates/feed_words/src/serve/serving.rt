@@ -10,7 +10,8 @@ ghost use Rattle.snapshot.specs.Feeds.{ResumesFeed};
 ghost use Rattle.feed_words.specs.serve.Keeping.{Call, whole_call, serve_talk, IsGiving, IsReady, Costs};
 ghost use Rattle.feed_words.specs.declared.serve.at_end.AtEnd.TheVariants.{Refuse};
 
-use dialogue::{Stop, Talker, put_fault, write_next};
+use dialogue::lines::{put_fault, write_next};
+use dialogue::{Stop, Talker};
 use dover_model::Memory;
 use dover_port::{Output, Port, Status};
 use event_feed::Intake;

@@ -57,13 +57,6 @@ HasForm (Step e) = AreShort (step_numbers e) × NamesJobs e
 HasForm (Refused at r c d v cause) = AreShort (at ∷ r ∷ c ∷ d ∷ v ∷ [])
 HasForm (RefusedDone at tick number) = AreShort (at ∷ tick ∷ number ∷ [])
 
--- it is a refused line, and its numbers have numerals
-abbrev pub IsRefusedLine : TraceLine → Type 0
-IsRefusedLine (Header version p q factor) = ⊥
-IsRefusedLine (Step e) = ⊥
-IsRefusedLine (Refused at r c d v cause) = AreShort (at ∷ r ∷ c ∷ d ∷ v ∷ [])
-IsRefusedLine (RefusedDone at tick number) = AreShort (at ∷ tick ∷ number ∷ [])
-
 -- the item that the line names
 abbrev pub item_in : TraceLine → Option Item
 item_in (Header version p q factor) = None

@@ -1,35 +1,30 @@
 -- What a change of one job's role says of the tasks and of the held jobs.
-use Rattle.std.proofs.Common.{◌≡◌, ℕ, suc, ◌-◌, ◌≤◌, inl, inr, List, ◌∷◌, sym, ap, ◌∙◌, arith, map, refl, ◌+◌, ◌<◌, []}
+use Rattle.std.proofs.Common.{◌≡◌, ℕ, suc, inl, inr, List, ◌∷◌, sym, ap, ◌∙◌, arith, map, refl, ◌+◌, ◌<◌, []}
 use Rattle.std.proofs.Common.{◌++◌, length, zero, set, get_or, subst, Bool, true, false, cond}
-use Rattle.std.specs.Prelude.{Some, ◌==◌, Option, None, nat_lt}
+use Rattle.std.specs.Prelude.{Some, ◌==◌, nat_lt}
 use Rattle.std.specs.List.{slice_get, filter}
-use Rattle.std.specs.Option.{option_to_list}
 use Rattle.dover_model.specs.declared.events.Task.{Task}
 use Rattle.dover_model.specs.Sound.{IsMember, IsNumberedFrom, Each}
-use Rattle.dover_model.proofs.Roles.{numbers_above, one_number}
+use Rattle.dover_model.proofs.Roles.{numbers_above}
 use Rattle.dover_model.specs.declared.events.Entry.{Entry}
 use Rattle.dover_model.specs.Entries.{entry_of}
 use Rattle.dover_model.specs.declared.events.Role.{Role}
-use Rattle.dover_model.specs.Step.{with_role, displaced}
-use Rattle.run_record.specs.ledger.Roles.{Changes, with_role_at, all_displaced}
+use Rattle.dover_model.specs.Step.{with_role}
+use Rattle.dover_model.proofs.RoleChanges.{with_role_at}
 use Rattle.dover_model.proofs.Tests.{never}
-use Rattle.dover_model.proofs.Members.{map_member, filter_member, some_same, map_map, map_same, member_filter}
-use Rattle.dover_model.specs.declared.events.Role.TheVariants.{Waiting}
+use Rattle.dover_model.proofs.Members.{some_same, member_filter}
 use Rattle.held_queue.specs.Stack.{put_in, held_entries, by_deadline}
 use Rattle.dover_model.specs.State.{is_held}
 use Rattle.held_queue.proofs.Deadlines.{member_sorted}
 
--- a job stands at its number
-pub at_number : (n : ℕ) (tasks : List Task) (t : Task) → IsNumberedFrom n tasks → IsMember t tasks
-    → slice_get tasks (t.number - n) ≡ Some t
-at_number n [] t all member = absurd member
-at_number n (x ∷ tasks) t all (inl e) =
-    let here : t.number - n ≡ 0 = let same : t.number ≡ n = ap (λ (y : Task). y.number) e ∙ all.0 in omega arith in
-    ap (slice_get (x ∷ tasks)) here ∙ ap Some (sym e)
-at_number n (x ∷ tasks) t all (inr member) =
-    let past : t.number - n ≡ suc (t.number - suc n) = let above : suc n ≤ t.number =
-    numbers_above (suc n) tasks all.1 t member in omega arith in
-    ap (slice_get (x ∷ tasks)) past ∙ at_number (suc n) tasks t all.1 member
+-- t is the one of number n in tasks, and has another role in changed
+pub record Changes (n : ℕ) (role : Role) (tasks changed : List Task) : Type 0 where
+  pub front : List Task
+  pub task : Task
+  pub back : List Task
+  pub place : length front ≡ n
+  pub before : tasks ≡ front ++ task ∷ back
+  pub after : changed ≡ front ++ with_role task role ∷ back
 
 -- the job of an entry
 pub of_entry : (ts : List Task) (y : Entry) → IsMember y (map entry_of ts) → (t : Task) × IsMember t ts
@@ -37,13 +32,6 @@ pub of_entry : (ts : List Task) (y : Entry) → IsMember y (map entry_of ts) →
 of_entry [] y m = absurd m
 of_entry (u ∷ us) y (inl e) = (u, inl refl, e)
 of_entry (u ∷ us) y (inr m) = let rest = of_entry us y m in (rest.0, inr rest.1, rest.2)
-
--- a job stands at its number
-pub task_at : (tasks : List Task) (t : Task) → IsNumberedFrom 0 tasks → IsMember t tasks
-    → slice_get tasks t.number ≡ Some t
-task_at tasks t all member = ap (slice_get tasks) (off t.number) ∙ at_number 0 tasks t all member where
-  off : (m : ℕ) → m ≡ m - 0
-  off m = omega arith
 
 -- its place is its number
 pub place_number : (n : ℕ) (front back : List Task) (t : Task) → IsNumberedFrom n (front ++ t ∷ back)
@@ -91,10 +79,6 @@ at_place : {X : Type 0} (front back : List X) (t : X) → slice_get (front ++ t 
 at_place [] back t = refl
 at_place (x ∷ front) back t = at_place front back t
 
-pub in_middle : {X : Type 0} (front back : List X) (t : X) → IsMember t (front ++ t ∷ back)
-in_middle [] back t = inl refl
-in_middle (y ∷ front) back t = inr (in_middle front back t)
-
 module _ (n : ℕ) (tasks changed : List Task) (new : Role) (ch : Changes n new tasks changed) where
   found_here : slice_get tasks n ≡ Some ch.task
   found_here = ap (λ ts. slice_get ts n) ch.before ∙ ap (slice_get (ch.front ++ ch.task ∷ ch.back)) (sym ch.place)
@@ -105,9 +89,6 @@ module _ (n : ℕ) (tasks changed : List Task) (new : Role) (ch : Changes n new 
       ∙ no_more (length ch.front) ∙ ch.place where
         no_more : (m : ℕ) → 0 + m ≡ m
         no_more m = omega arith
-
-  pub is_member : IsMember ch.task tasks
-  is_member = subst (IsMember ch.task) (sym ch.before) (in_middle ch.front ch.back ch.task)
 
   -- the change as one of all jobs
   pub is_map : IsNumberedFrom 0 tasks → changed ≡ with_role_at n new tasks
@@ -142,17 +123,6 @@ module _ (n : ℕ) (tasks changed : List Task) (new : Role) (ch : Changes n new 
             omega (arith, less, number, e)))))
             ∙ ap (λ ys. with_role x (cond (x.number == n) new x.role) ∷ ys) (by_front (suc m) xs numbered.1 number)
 
--- the only one that passes gives the option
-pub only_one : {A : Type 0} (f : Task → A) (p : Task → Bool) (tasks : List Task) (o : Option A) (t : Task)
-    → map f (filter p tasks) ≡ option_to_list o
-    → IsMember t tasks → p t ≡ true → o ≡ Some (f t)
-only_one {A} f p tasks o t one member passes = by_option o (subst (IsMember (f t)) one
-    (map_member f (filter p tasks) t (filter_member p tasks t member passes))) where
-      by_option : (q : Option A) → IsMember (f t) (option_to_list q) → q ≡ Some (f t)
-      by_option None m = absurd m
-      by_option (Some a) (inl e) = ap Some (sym e)
-      by_option (Some a) (inr m) = absurd m
-
 -- the tasks around t, before and after t has another role
 pub record Splits (t : Task) (new : Role) (tasks changed : List Task) : Type 0 where
   pub front : List Task
@@ -172,27 +142,6 @@ splits t new tasks changed found ch =
       before = ch.before ∙ ap (λ x. ch.front ++ x ∷ ch.back) same;
       after = ch.after ∙ ap (λ x. ch.front ++ with_role x new ∷ ch.back) same;
     }
-
--- a job that waits already is displaced as before
-pub displaced_same : (tasks : List Task) (p : Task) → IsNumberedFrom 0 tasks → IsMember p tasks
-    → displaced p.role ≡ Waiting
-    → all_displaced (with_role_at p.number Waiting tasks) ≡ all_displaced tasks
-displaced_same tasks p all member waits =
-    map_map (λ t. with_role t (displaced t.role)) (λ t. with_role t (cond (t.number == p.number) Waiting t.role)) tasks
-    ∙ map_same (λ t. with_role t (displaced (cond (t.number == p.number) Waiting t.role)))
-    (λ t. with_role t (displaced t.role)) tasks each where
-      equal : (a b : ℕ) → (a == b) ≡ true → a ≡ b
-      equal a b e = grind arith
-
-      each : (t : Task) → IsMember t tasks
-          → with_role t (displaced (cond (t.number == p.number) Waiting t.role)) ≡ with_role t (displaced t.role)
-      each t m = by_test (t.number == p.number) refl where
-        by_test : (b : Bool) → (t.number == p.number) ≡ b
-            → with_role t (displaced (cond b Waiting t.role)) ≡ with_role t (displaced t.role)
-        by_test true e =
-            let same : t ≡ p = one_number 0 tasks all t p m member (equal t.number p.number e) in
-            ap (with_role t) (sym (ap (λ (x : Task). displaced x.role) same ∙ waits))
-        by_test false e = refl
 
 -- an entry that is due before all goes to the front
 pub put_first : (e : Entry) (xs : List Entry) → Each (λ f. e.deadline < f.deadline) xs → put_in e xs ≡ e ∷ xs
@@ -224,60 +173,6 @@ module _ (p : Task → Bool) (t u : Task) where
     by_tests false true h k = never (sym k)
     by_tests false false h k = refl
   filter_same (x ∷ front) back t_fails u_fails = ap (λ l. cond (p x) (x ∷ l) l) (filter_same front back t_fails u_fails)
-
-  module _ {A : Type 0} (f : Task → A) (t_fails : p t ≡ false) (u_passes : p u ≡ true) where
-    there : (front back : List Task) → map f (filter p (front ++ u ∷ back)) ≡ [] → ⊥
-    there [] back none = by_test (p u) u_passes none where
-      by_test : (b : Bool) → b ≡ true → map f (cond b (u ∷ filter p back) (filter p back)) ≡ [] → ⊥
-      by_test true h e = cons_none e where
-        cons_none : f u ∷ map f (filter p back) ≡ [] → ⊥
-        cons_none e = cc
-      by_test false h e = never h
-    there (x ∷ front) back none = by_test (p x) none (there front back) where
-      by_test : (b : Bool) → map f (cond b (x ∷ filter p (front ++ u ∷ back)) (filter p (front ++ u ∷ back))) ≡ []
-          → (map f (filter p (front ++ u ∷ back)) ≡ [] → ⊥) → ⊥
-      by_test true e rest = cons_none e where
-        cons_none : f x ∷ map f (filter p (front ++ u ∷ back)) ≡ [] → ⊥
-        cons_none e = cc
-      by_test false e rest = rest e
-
-    -- the only one that passes comes in
-    pub filter_in : (front back : List Task) → map f (filter p (front ++ t ∷ back)) ≡ []
-        → map f (filter p (front ++ u ∷ back)) ≡ f u ∷ []
-    filter_in [] back none = by_tests (p t) (p u) t_fails u_passes none where
-      by_tests : (b c : Bool) → b ≡ false → c ≡ true → map f (cond b (t ∷ filter p back) (filter p back)) ≡ []
-          → map f (cond c (u ∷ filter p back) (filter p back)) ≡ f u ∷ []
-      by_tests true c h k e = never (sym h)
-      by_tests false true h k e = ap (λ l. f u ∷ l) e
-      by_tests false false h k e = never k
-    filter_in (x ∷ front) back none = by_test (p x) none (filter_in front back) where
-      by_test : (b : Bool) → map f (cond b (x ∷ filter p (front ++ t ∷ back)) (filter p (front ++ t ∷ back))) ≡ []
-          → (map f (filter p (front ++ t ∷ back)) ≡ [] → map f (filter p (front ++ u ∷ back)) ≡ f u ∷ [])
-          → map f (cond b (x ∷ filter p (front ++ u ∷ back)) (filter p (front ++ u ∷ back))) ≡ f u ∷ []
-      by_test true e rest = absurd (cons_none e) where
-        cons_none : f x ∷ map f (filter p (front ++ t ∷ back)) ≡ [] → ⊥
-        cons_none e = cc
-      by_test false e rest = rest e
-
-    -- and goes out
-    pub filter_out : (a : A) (front back : List Task) → map f (filter p (front ++ u ∷ back)) ≡ a ∷ []
-        → map f (filter p (front ++ t ∷ back)) ≡ []
-    filter_out a [] back one = by_tests (p t) (p u) t_fails u_passes one where
-      by_tests : (b c : Bool) → b ≡ false → c ≡ true → map f (cond c (u ∷ filter p back) (filter p back)) ≡ a ∷ []
-          → map f (cond b (t ∷ filter p back) (filter p back)) ≡ []
-      by_tests true c h k e = never (sym h)
-      by_tests false true h k e = tail e where
-        tail : f u ∷ map f (filter p back) ≡ a ∷ [] → map f (filter p back) ≡ []
-        tail e = cc
-      by_tests false false h k e = never k
-    filter_out a (x ∷ front) back one = by_test (p x) one (filter_out a front back) where
-      by_test : (b : Bool) → map f (cond b (x ∷ filter p (front ++ u ∷ back)) (filter p (front ++ u ∷ back))) ≡ a ∷ []
-          → (map f (filter p (front ++ u ∷ back)) ≡ a ∷ [] → map f (filter p (front ++ t ∷ back)) ≡ [])
-          → map f (cond b (x ∷ filter p (front ++ t ∷ back)) (filter p (front ++ t ∷ back))) ≡ []
-      by_test true e rest = absurd (there front back (tail e)) where
-        tail : f x ∷ map f (filter p (front ++ u ∷ back)) ≡ a ∷ [] → map f (filter p (front ++ u ∷ back)) ≡ []
-        tail e = cc
-      by_test false e rest = rest e
 
 -- one that is due before all comes on top
 pub held_in : (t u : Task) → is_held t ≡ false → is_held u ≡ true → (front back : List Task)

@@ -25,8 +25,8 @@ use Rattle.dover_model.proofs.Roles.{numbered_map}
 use Rattle.dover_model.proofs.Tests.{never}
 use Rattle.dover_model.proofs.Ticking.{Quiet}
 use Rattle.held_queue.specs.Stack.{Stack, top_of, popped, IsByDeadline, held_entries}
-use Rattle.run_record.specs.ledger.Roles.{with_role_at, all_displaced}
-use Rattle.run_record.proofs.ledger.Changing.{displaced_same, entries_later}
+use Rattle.dover_model.proofs.RoleChanges.{with_role_at, all_displaced, displaced_same}
+use Rattle.run_record.proofs.ledger.Changing.{entries_later}
 use Rattle.run_record.proofs.ledger.Held.{busy_room, held_value, value_room}
 use Rattle.run_record.specs.ledger.Pages.{Page, empty, turn_at, stopped, started, with_hold, without, room_with}
 use Rattle.run_record.specs.ledger.Pages.{CanHold}

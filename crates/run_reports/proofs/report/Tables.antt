@@ -49,12 +49,6 @@ same_fields None = refl
 same_fields (Some (model.Completed n at)) = refl
 same_fields (Some (model.Abandoned n at)) = refl
 
--- so are those of the ticks that it had
-same_had : (early : Bool) (hads : List ℕ) (n : ℕ)
-    → had_fields (had_at early hads n) ≡ cond early (decimal (slice_index_or hads n 0) ∷ []) []
-same_had true hads n = refl
-same_had false hads n = refl
-
 module _ (k : Fraction) (run : List Event) (J : Instance) (of : IsRunOf k run J) (early : Bool) (hads : List ℕ)
     (is_early : early ≡ may_finish_early J.rules.version) (are : early ≡ true → hads ≡ model_hads J) where
   -- what a job had is told as the table tells it

@@ -113,13 +113,6 @@ module _ (w : Window) (own : List Stay) (ending : Option Ending) where
       ap (λ t. t ++ rest) grows ∙ append_assoc text (mark ∷ []) rest
       ∙ ap (λ n. text ++ signs_from w own ending n column) (sym one) ∙ before
 
-  -- all signs
-  pub signs_all : (behind column : ℕ) (text whole : List ℕ) → behind ≤ column
-      → text ++ signs_from w own ending (behind - column) column ≡ whole → text ≡ whole
-  signs_all behind column text whole past before =
-      let none : 0 ≡ behind - column = omega (arith, past) in
-      sym (append-nil text) ∙ ap (λ n. text ++ signs_from w own ending n column) none ∙ before
-
 -- ---- the lines of the jobs
 
 module _ (w : Window) (run : List Event) (jobs : List JobFacts) where

@@ -69,10 +69,6 @@ all_fit b rounds all is few = omega (arith, is, few)
 pub jobs_fit : (b rounds all : ℕ) → b + rounds ≡ all → all < most_jobs Two → Fits w32 (b + rounds + 1)
 jobs_fit b rounds all is few = omega (arith, is, few)
 
--- and so are the ticks before it
-pub before_fits : (t b : ℕ) → t < b → b < 1_000_000 → Fits w32 t
-before_fits t b before low = omega (arith, before, low)
-
 pub next_fits : (t b : ℕ) → t < b → b < 1_000_000 → Fits w64 (t + 1)
 next_fits t b before low = omega (arith, before, low)
 

@@ -1,10 +1,10 @@
 //! The baiting feed, job by job.
-ghost use Rattle.std.specs.Prelude.{◌≡◌, ◌↔◌, ◌≤◌, ◌<◌, ◌+◌, ◌*◌, IsSome, IfSome, nat_le};
-ghost use Rattle.std.specs.List.{sum, count_by};
+ghost use Rattle.std.specs.Prelude.{◌≡◌, ◌↔◌, ◌≤◌, ◌<◌, ◌+◌, ◌*◌, IsSome, IfSome};
+ghost use Rattle.std.specs.List.{sum};
 ghost use Rattle.dover_model.specs.declared.events.Version.TheVariants.{Two};
 ghost use Rattle.dover_model.specs.Limits.{last_tick, most_value, most_jobs};
 ghost use Rattle.dover_model.specs.Fraction.{IsRatio};
-ghost use Rattle.dover_model.specs.Bait.{first_link, chain, chain_jobs, tight_job};
+ghost use Rattle.dover_model.specs.Bait.{chain, tight_job};
 ghost use Rattle.stated_jobs.specs.bait.Kept.{HasNumbers};
 
 use crate::bait::links::{first_value, light_value, unit};
@@ -60,25 +60,6 @@ fn tight_job(release: u64, work: u64, density: u64) -> Job
     Job::new(release, work, release + work, density * work).unwrap()
 }
 
-/// How many of the chain's jobs are released up to a tick. The chain's first value is `first`, and its values sum to
-/// less than 1,000,000.
-fn links_until(k: Ratio, rounds: u32, first: u64, tick: u64) -> u32
-    requires first { first ≡ first_link k }
-    requires small { sum (chain k rounds) < most_jobs Two }
-    ensures { result ≡ count_by (λ j. nat_le j.release tick) (chain_jobs k rounds) }
-{
-    let mut work = first;
-    let mut release = 0;
-    for links in 0..rounds {
-        if release > tick {
-            return links;
-        }
-        release += work - 1;
-        work = light_value(k, work) + 1;
-    }
-    rounds
-}
-
 /// The jobs of a baiting feed that are still to come.
 #[derive(Drop)]
 pub struct Bait {
@@ -110,7 +91,7 @@ impl Model for Bait {
 }
 
 impl Bait {
-    ghost use Rattle.std.specs.Prelude.{[], ◌++◌, IsNone, length, option_to_list, slice_get};
+    ghost use Rattle.std.specs.Prelude.{[], ◌++◌, IsNone, length, option_to_list};
     ghost use Rattle.dover_model.specs.Bait.{last_link, bait_jobs, bait_plan, plan_value};
     ghost use Rattle.dover_model.specs.Run.{completed_value};
     ghost use Rattle.dover_model.specs.Schedules.{worth};
@@ -200,18 +181,5 @@ impl Bait {
             (bait_plan self.now.ratio self.now.rounds) }
     {
         unit(self.k) * self.bait_tick + self.chain.light
-    }
-
-    /// The number of the job that this schedule runs in a tick. None exactly where it runs none.
-    pub fn schedule_at(&self, tick: u64) -> Option<u32>
-        ensures { result ≡ slice_get (bait_plan self.now.ratio self.now.rounds) tick }
-    {
-        if tick < self.bait_tick {
-            return Some(links_until(self.k, self.rounds, self.chain.first, tick) + tick as u32);
-        }
-        if tick - self.bait_tick < self.chain.light {
-            return Some(self.bait_tick as u32 + self.rounds);
-        }
-        None
     }
 }

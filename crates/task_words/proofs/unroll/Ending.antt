@@ -8,9 +8,9 @@ use Rattle.task_words.specs.tasks.Limits.{AreTasks, Fits}
 use Rattle.task_words.specs.tasks.Tasks.{unrolled}
 use Rattle.task_words.specs.declared.tasks.task.PeriodicTask.{PeriodicTask}
 use Rattle.task_words.proofs.tasks.Released.{unrolled_valid}
-use Rattle.task_words.specs.unroll.Feeds.{IsFeedOf, feed_of}
+use Rattle.event_feed.specs.Feeds.{IsFeedOf, feed_of}
 use Rattle.task_words.specs.unroll.Says.{Says}
-use Rattle.task_words.proofs.unroll.Feeding.{feed_is}
+use Rattle.event_feed.proofs.FeedsOfJobs.{feed_is}
 use Rattle.dover_model.proofs.JobSessions.{jobs_never}
 
 -- the feed of the jobs is said of the tasks

@@ -7,7 +7,7 @@ use Rattle.dialogue.specs.Sizes.{size_text}
 use Rattle.task_words.specs.tasks.Tasks.{unrolled}
 use Rattle.task_words.specs.tasks.Limits.{Fits}
 use Rattle.task_words.specs.declared.tasks.task.PeriodicTask.{PeriodicTask}
-use Rattle.task_words.specs.unroll.Feeds.{IsFeedOf}
+use Rattle.event_feed.specs.Feeds.{IsFeedOf}
 
 -- Done with the feed of all jobs that they release before a tick, and Refused exactly where these are too many for a
 -- feed, or worth too much

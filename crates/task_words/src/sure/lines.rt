@@ -9,7 +9,7 @@ ghost use Rattle.task_words.specs.sure.Streams.{streams_of};
 
 use crate::sure::telling::{Together, Told, tell};
 use crate::tasks::PeriodicTask;
-use dialogue::put_numbers;
+use dialogue::lines::put_numbers;
 use dover_port::{Failed, Output, Port};
 use line_text::BackLine;
 

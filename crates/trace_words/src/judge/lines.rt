@@ -1,5 +1,5 @@
 //! The line of a verdict on its way out.
-ghost use Rattle.std.specs.Prelude.{◌≡◌, ◌≤◌, ◌++◌, ◌∷◌, [], List, ℕ, codes, length};
+ghost use Rattle.std.specs.Prelude.{◌≡◌, ◌++◌, ◌∷◌, [], List, ℕ, codes};
 ghost use Rattle.dover_model.specs.Lines.{with_numbers};
 ghost use Rattle.dover_model.specs.Verdict as model;
 ghost use Rattle.dover_port.specs.Causes.{HasCause, StopsAtFailure};
@@ -8,10 +8,10 @@ ghost use Rattle.trace_judge.specs.Judging.{Tells};
 ghost use Rattle.trace_judge.specs.Reads.{expected_of};
 ghost use Rattle.trace_words.specs.judge.Line.{status_of, wrong_front, expected_text, verdict_text};
 
-use dialogue::put_numbers;
+use dialogue::lines::put_numbers;
 use dover_port::{Failed, Output, Port, Status};
+use line_text::BackLine;
 use line_text::traces::write_event;
-use line_text::{BackLine, LineBuf};
 use trace_judge::{Expected, Verdict};
 
 /// The line of an accepted trace, whose bound may have 28 digits.
@@ -26,14 +26,12 @@ fn accepted_line(value: u64, bound: u128) -> BackLine
 }
 
 /// What stands before the text of what is due, in the line of a wrong text.
-fn wrong_front(number: u64) -> LineBuf
-    ensures text { result ≡ wrong_front number }
-    ensures fits { length result ≤ 129 }
+fn wrong_front(number: u64) -> BackLine
+    ensures { result ≡ wrong_front number }
 {
-    let mut line = LineBuf::new();
-    line.put_word(b"wrong");
-    line.put_number(number);
-    line.put_word(b"expected ");
+    let mut line = BackLine::empty();
+    line.put_word(b" expected ");
+    line.put_with_wide(b"wrong", &[number]);
     line
 }
 

@@ -88,12 +88,12 @@ returns-clause-count g c = c.observe.ensures.count
 
 pub returns-then-len-gt-MOST_JOBS-clause-says : goal.returns-then-len-gt-MOST_JOBS-clause-says
 returns-then-len-gt-MOST_JOBS-clause-says g c =
-    subst (λ status. SaysBest (listed_instance c.args.listed) status (text_of c.refused.result))
-    (sym c.refused.ensures.status)
-    (omega (arith, c.if-len-gt-MOST_JOBS.true, c.len.ensures, c.args.listed.jobs.ok.0), c.refused.ensures.text)
+    subst (λ status. SaysBest (listed_instance c.args.listed) status (text_of c.too_many.result))
+    (sym c.too_many.ensures.status)
+    (omega (arith, c.if-len-gt-MOST_JOBS.true, c.len.ensures, c.args.listed.jobs.ok.0), c.too_many.ensures.text)
 
 pub returns-then-len-gt-MOST_JOBS-clause-ends : goal.returns-then-len-gt-MOST_JOBS-clause-ends
-returns-then-len-gt-MOST_JOBS-clause-ends g c = subst IsFinal (sym c.refused.ensures.status) tt
+returns-then-len-gt-MOST_JOBS-clause-ends g c = subst IsFinal (sym c.too_many.ensures.status) tt
 
 pub returns-clause-ends : goal.returns-clause-ends
 returns-clause-ends g c = tt

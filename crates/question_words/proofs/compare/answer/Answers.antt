@@ -110,14 +110,14 @@ returns-clause-count g c = c.observe.ensures.count
 
 pub returns-then-are_too_large-clause-says : goal.returns-then-are_too_large-clause-says
 returns-then-are_too_large-clause-says g c =
-    subst (λ status. SaysCompare (listed_instance c.args.listed) status (text_of c.refused.result))
-    (sym c.refused.ensures.status) (
+    subst (λ status. SaysCompare (listed_instance c.args.listed) status (text_of c.too_many.result))
+    (sym c.too_many.ensures.status) (
       subst AreTooLarge c.deref.ensures.value (c.are_too_large.ensures.0 c.if-are_too_large.true),
-      c.refused.ensures.text,
+      c.too_many.ensures.text,
     )
 
 pub returns-then-are_too_large-clause-ends : goal.returns-then-are_too_large-clause-ends
-returns-then-are_too_large-clause-ends g c = subst IsFinal (sym c.refused.ensures.status) tt
+returns-then-are_too_large-clause-ends g c = subst IsFinal (sym c.too_many.ensures.status) tt
 
 pub returns-clause-ends : goal.returns-clause-ends
 returns-clause-ends g c = tt

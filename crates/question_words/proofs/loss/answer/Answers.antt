@@ -109,12 +109,12 @@ returns-clause-count g c = c.observe_each.ensures.count
 
 pub returns-then-not-is_listable-clause-says : goal.returns-then-not-is_listable-clause-says
 returns-then-not-is_listable-clause-says g c =
-    subst (λ status. SaysLoss (listed_instance c.args.listed) status (text_of c.refused.result))
-    (sym c.refused.ensures.status)
-    (λ listable. never (sym c.if-not-is_listable.true ∙ c.is_listable.ensures.1 listable), c.refused.ensures.text)
+    subst (λ status. SaysLoss (listed_instance c.args.listed) status (text_of c.too_many.result))
+    (sym c.too_many.ensures.status)
+    (λ listable. never (sym c.if-not-is_listable.true ∙ c.is_listable.ensures.1 listable), c.too_many.ensures.text)
 
 pub returns-then-not-is_listable-clause-ends : goal.returns-then-not-is_listable-clause-ends
-returns-then-not-is_listable-clause-ends g c = subst IsFinal (sym c.refused.ensures.status) tt
+returns-then-not-is_listable-clause-ends g c = subst IsFinal (sym c.too_many.ensures.status) tt
 
 pub returns-clause-ends : goal.returns-clause-ends
 returns-clause-ends g c = tt

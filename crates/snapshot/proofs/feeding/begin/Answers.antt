@@ -9,12 +9,12 @@ use Rattle.snapshot.proofs.feeding.begin.Goals as goal
 pub hand-requires-clause-good : goal.hand-requires-clause-good
 hand-requires-clause-good c = (
   [],
-  subst (λ line. IsGoodNext c.new-intake.result [] (feed_text line)) (sym c.ratio_line.ensures.is)
-      (begin_good (head_in c.args.head.now) c.ratio_line.ensures.ratio c.requires c.new-intake.result
+  subst (λ line. IsGoodNext c.new-intake.result [] (feed_text line)) (sym c.rules_line.ensures.is)
+      (begin_good (head_in c.args.head.now) c.rules_line.ensures.ratio c.requires c.new-intake.result
       c.new-intake.ensures.stands),
 )
 
 pub returns : goal.returns
-returns c = begin_fed (head_in c.args.head.now) c.ratio_line.ensures.ratio c.requires c.hand.new.intake
-    (subst (λ line. StandsFor c.hand.new.intake (feed_text line ∷ [])) c.ratio_line.ensures.is
+returns c = begin_fed (head_in c.args.head.now) c.rules_line.ensures.ratio c.requires c.hand.new.intake
+    (subst (λ line. StandsFor c.hand.new.intake (feed_text line ∷ [])) c.rules_line.ensures.is
     (c.hand.ensures.stands [] c.new-intake.ensures.stands))

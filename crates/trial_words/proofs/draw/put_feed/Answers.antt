@@ -12,17 +12,17 @@ returns-in-Err-put_turns-clause-text g c = feed_put _ _ _ _ _ c.args.k c.args.tu
     (puts_behind _ _ _ _ _ _ _ _ _ c.in-Ok.ensures.text.all
     (puts_cut _ _ _ _ _ _ _ c.in-Err-put_turns.ensures.text.part))
 
-pub returns-in-Err-put_numbers-clause-text : goal.returns-in-Err-put_numbers-clause-text
-returns-in-Err-put_numbers-clause-text g c = feed_put _ _ _ _ _ c.args.k c.args.turns.now
+pub returns-in-Err-put_feed_line-clause-text : goal.returns-in-Err-put_feed_line-clause-text
+returns-in-Err-put_feed_line-clause-text g c = feed_put _ _ _ _ _ c.args.k c.args.turns.now
     (puts_behind _ _ _ _ _ _ _ _ _ c.in-Ok.ensures.text.all
     (puts_behind _ _ _ _ _ _ _ _ _ c.in-Ok-put_turns.ensures.text.all
-    (puts_cut _ _ _ _ _ _ _ c.in-Err-put_numbers.ensures.text.part)))
+    (puts_cut _ _ _ _ _ _ _ c.in-Err-put_feed_line.ensures.text.part)))
 
 pub returns-clause-text : goal.returns-clause-text
 returns-clause-text g c = feed_put _ _ _ _ _ c.args.k c.args.turns.now
     (puts_behind _ _ _ _ _ _ _ _ _ c.in-Ok.ensures.text.all
     (puts_behind _ _ _ _ _ _ _ _ _ c.in-Ok-put_turns.ensures.text.all
-    (puts_behind _ _ _ _ _ _ _ _ _ c.in-Ok-put_numbers.ensures.text.all c.flush.ensures.text)))
+    (puts_behind _ _ _ _ _ _ _ _ _ c.in-Ok-put_feed_line.ensures.text.all c.flush.ensures.text)))
 
 pub returns-in-Err-clause-cause : goal.returns-in-Err-clause-cause
 returns-in-Err-clause-cause g c = c.in-Err.ensures.cause
@@ -38,26 +38,26 @@ pub returns-in-Err-put_turns-clause-stops : goal.returns-in-Err-put_turns-clause
 returns-in-Err-put_turns-clause-stops g c =
     stops_behind _ _ _ _ c.in-Ok.ensures.stops.well c.in-Err-put_turns.ensures.stops
 
-pub returns-in-Err-put_numbers-clause-cause : goal.returns-in-Err-put_numbers-clause-cause
-returns-in-Err-put_numbers-clause-cause g c =
+pub returns-in-Err-put_feed_line-clause-cause : goal.returns-in-Err-put_feed_line-clause-cause
+returns-in-Err-put_feed_line-clause-cause g c =
     cause_behind _ _ _ _ _ _ _ c.in-Ok.ensures.cause.ok c.in-Ok.ensures.cause.other
     (cause_behind _ _ _ _ _ _ _ c.in-Ok-put_turns.ensures.cause.ok c.in-Ok-put_turns.ensures.cause.other
-    c.in-Err-put_numbers.ensures.cause)
+    c.in-Err-put_feed_line.ensures.cause)
 
-pub returns-in-Err-put_numbers-clause-stops : goal.returns-in-Err-put_numbers-clause-stops
-returns-in-Err-put_numbers-clause-stops g c =
+pub returns-in-Err-put_feed_line-clause-stops : goal.returns-in-Err-put_feed_line-clause-stops
+returns-in-Err-put_feed_line-clause-stops g c =
     stops_behind _ _ _ _ c.in-Ok.ensures.stops.well
-    (stops_behind _ _ _ _ c.in-Ok-put_turns.ensures.stops.well c.in-Err-put_numbers.ensures.stops)
+    (stops_behind _ _ _ _ c.in-Ok-put_turns.ensures.stops.well c.in-Err-put_feed_line.ensures.stops)
 
 pub returns-clause-cause : goal.returns-clause-cause
 returns-clause-cause g c =
     cause_behind _ _ _ _ _ _ _ c.in-Ok.ensures.cause.ok c.in-Ok.ensures.cause.other
     (cause_behind _ _ _ _ _ _ _ c.in-Ok-put_turns.ensures.cause.ok c.in-Ok-put_turns.ensures.cause.other
-    (cause_behind _ _ _ _ _ _ _ c.in-Ok-put_numbers.ensures.cause.ok c.in-Ok-put_numbers.ensures.cause.other
+    (cause_behind _ _ _ _ _ _ _ c.in-Ok-put_feed_line.ensures.cause.ok c.in-Ok-put_feed_line.ensures.cause.other
     c.flush.ensures.cause))
 
 pub returns-clause-stops : goal.returns-clause-stops
 returns-clause-stops g c =
     stops_behind _ _ _ _ c.in-Ok.ensures.stops.well
     (stops_behind _ _ _ _ c.in-Ok-put_turns.ensures.stops.well
-    (stops_behind _ _ _ _ c.in-Ok-put_numbers.ensures.stops.well c.flush.ensures.stops))
+    (stops_behind _ _ _ _ c.in-Ok-put_feed_line.ensures.stops.well c.flush.ensures.stops))

@@ -14,7 +14,7 @@ returns-in-Err-clause-text g c = record {
 pub returns-in-Some-clause-text : goal.returns-in-Some-clause-text
 returns-in-Some-clause-text g c = subst (PutsThrough _ _ _ _ _)
     (sym (done_parts c.args.turn.now c.in-Some.done c.in-Some.is))
-    (puts_behind _ _ _ _ _ _ _ _ _ c.in-Ok.ensures.text.all c.put_numbers.ensures.text)
+    (puts_behind _ _ _ _ _ _ _ _ _ c.in-Ok.ensures.text.all c.put_feed_line.ensures.text)
 
 pub returns-in-Err-clause-cause : goal.returns-in-Err-clause-cause
 returns-in-Err-clause-cause g c = c.in-Err.ensures.cause
@@ -30,8 +30,8 @@ returns-in-None-clause-stops g c = c.in-Ok.ensures.stops
 
 pub returns-in-Some-clause-cause : goal.returns-in-Some-clause-cause
 returns-in-Some-clause-cause g c =
-    cause_behind _ _ _ _ _ _ _ c.in-Ok.ensures.cause.ok c.in-Ok.ensures.cause.other c.put_numbers.ensures.cause
+    cause_behind _ _ _ _ _ _ _ c.in-Ok.ensures.cause.ok c.in-Ok.ensures.cause.other c.put_feed_line.ensures.cause
 
 pub returns-in-Some-clause-stops : goal.returns-in-Some-clause-stops
 returns-in-Some-clause-stops g c =
-    stops_behind _ _ _ _ c.in-Ok.ensures.stops.well c.put_numbers.ensures.stops
+    stops_behind _ _ _ _ c.in-Ok.ensures.stops.well c.put_feed_line.ensures.stops

@@ -5,7 +5,7 @@ use Rattle.dover_model.proofs.ValidParts.{valid_parts}
 use Rattle.dover_port.specs.Moves.{IsProperPrefix, outs}
 use Rattle.dover_port.specs.Moves.Move.{Put}
 use Rattle.dover_port.proofs.Made.{since_weaker}
-use Rattle.task_words.specs.unroll.Feeds.{feed_of}
+use Rattle.event_feed.specs.Feeds.{feed_of}
 use Rattle.trial_words.specs.Dueled.{duel_front, no_duel_text}
 use Rattle.trial_words.proofs.Putting.{is_front, none_before, nothing_before}
 use Rattle.trial_words.proofs.dueling.duel_word.Goals as goal

@@ -55,8 +55,8 @@ returns-in-Ok-clause-answers g c = λ a x at over.
       rw c.requires.empty at (c.in-Err-put_left.ensures.text (lines_of x) _ ended.1).part,
     )
 
-pub returns-in-Ok-put_refusal-clause-answers : goal.returns-in-Ok-put_refusal-clause-answers
-returns-in-Ok-put_refusal-clause-answers g c = λ a x at over.
+pub returns-in-Ok-put_refused-clause-answers : goal.returns-in-Ok-put_refused-clause-answers
+returns-in-Ok-put_refused-clause-answers g c = λ a x at over.
     let ended = c.in-Err.ensures x at.rests in (
       tt,
       (
@@ -65,7 +65,7 @@ returns-in-Ok-put_refusal-clause-answers g c = λ a x at over.
           refused_status x ended.0,
           rw c.word.ensures.is (refused_text x _ ended.1),
         ),
-        rw c.requires.empty at c.in-Ok-put_refusal.ensures.text.all,
+        rw c.requires.empty at c.in-Ok-put_refused.ensures.text.all,
       ),
     )
 
@@ -78,7 +78,7 @@ returns-clause-answers g c = λ a x at over.
         refused_status x ended.0,
         rw c.word.ensures.is (refused_text x _ ended.1),
       ),
-      rw c.requires.empty at c.in-Err-put_refusal.ensures.text.part,
+      rw c.requires.empty at c.in-Err-put_refused.ensures.text.part,
     )
 
 pub returns-in-Ok-put_left-clause-spent : goal.returns-in-Ok-put_left-clause-spent
@@ -89,8 +89,8 @@ pub returns-in-Ok-clause-spent : goal.returns-in-Ok-clause-spent
 returns-in-Ok-clause-spent g c = λ a x at. subst (λ n. Costs a n x) (sym c.put_left.ensures.idle)
     (c.laws.ensures.few c.args.self.input x _ a _ at.rests.stands at.paid)
 
-pub returns-in-Ok-put_refusal-clause-spent : goal.returns-in-Ok-put_refusal-clause-spent
-returns-in-Ok-put_refusal-clause-spent g c = λ a x at.
+pub returns-in-Ok-put_refused-clause-spent : goal.returns-in-Ok-put_refused-clause-spent
+returns-in-Ok-put_refused-clause-spent g c = λ a x at.
     c.laws.ensures.few c.args.self.input x _ a _ at.rests.stands at.paid
 
 pub returns-clause-spent : goal.returns-clause-spent
@@ -110,16 +110,16 @@ returns-in-Ok-clause-cause g c =
 pub returns-in-Ok-clause-stops : goal.returns-in-Ok-clause-stops
 returns-in-Ok-clause-stops g c = c.in-Err-put_left.ensures.stops.stopped
 
-pub returns-in-Ok-put_refusal-clause-cause : goal.returns-in-Ok-put_refusal-clause-cause
-returns-in-Ok-put_refusal-clause-cause g c =
-    (c.in-Ok-put_refusal.ensures.cause.ok, c.in-Ok-put_refusal.ensures.cause.other)
+pub returns-in-Ok-put_refused-clause-cause : goal.returns-in-Ok-put_refused-clause-cause
+returns-in-Ok-put_refused-clause-cause g c =
+    (c.in-Ok-put_refused.ensures.cause.ok, c.in-Ok-put_refused.ensures.cause.other)
 
-pub returns-in-Ok-put_refusal-clause-stops : goal.returns-in-Ok-put_refusal-clause-stops
-returns-in-Ok-put_refusal-clause-stops g c = c.in-Ok-put_refusal.ensures.stops.well
+pub returns-in-Ok-put_refused-clause-stops : goal.returns-in-Ok-put_refused-clause-stops
+returns-in-Ok-put_refused-clause-stops g c = c.in-Ok-put_refused.ensures.stops.well
 
 pub returns-clause-cause : goal.returns-clause-cause
 returns-clause-cause g c =
-    (c.in-Err-put_refusal.ensures.cause.failed, c.in-Err-put_refusal.ensures.cause.other)
+    (c.in-Err-put_refused.ensures.cause.failed, c.in-Err-put_refused.ensures.cause.other)
 
 pub returns-clause-stops : goal.returns-clause-stops
-returns-clause-stops g c = c.in-Err-put_refusal.ensures.stops.stopped
+returns-clause-stops g c = c.in-Err-put_refused.ensures.stops.stopped

@@ -1,9 +1,6 @@
-use Rattle.std.proofs.Common.{ap, ◌∙◌}
-use Rattle.dover_model.specs.FeedLine.{feed_line}
 use Rattle.dover_model.proofs.FeedLines.{feed_line-feed_text}
 use Rattle.line_text.specs.feeds.Form.{form_of}
 use Rattle.line_text.proofs.feeds.writing.write_feed_line.Goals as goal
 
 pub returns-clause-again : goal.returns-clause-again
-returns-clause-again c = ap feed_line c.write.ensures.text
-    ∙ feed_line-feed_text (form_of c.args.line.now) c.requires.numbers
+returns-clause-again c = feed_line-feed_text (form_of c.args.line.now)

@@ -2,7 +2,7 @@ use Rattle.std.proofs.Common.{refl, arith}
 use Rattle.dover_port.specs.declared.status.Status.TheVariants.{Done, Refused}
 use Rattle.task_words.specs.tasks.Tasks.{unrolled}
 use Rattle.task_words.specs.reading.Record.{listed_rules}
-use Rattle.task_words.specs.unroll.Feeds.{feed_of}
+use Rattle.event_feed.specs.Feeds.{feed_of}
 use Rattle.dialogue.specs.Sizes.{size_text}
 use Rattle.task_words.proofs.unroll.Ending.{says_feed, passed, not_passed}
 use Rattle.task_words.proofs.unroll.Spending.{unroll_costs}

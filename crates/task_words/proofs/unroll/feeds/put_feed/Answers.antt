@@ -2,7 +2,7 @@ use Rattle.std.proofs.Common.{◌∙◌}
 use Rattle.dover_model.specs.Feed.{rules_with}
 use Rattle.dialogue.proofs.Putting.{puts_behind, puts_cut}
 use Rattle.task_words.specs.tasks.Tasks.{unrolled}
-use Rattle.task_words.proofs.unroll.Putting.{feed_through}
+use Rattle.dialogue.proofs.lines.FeedTexts.{feed_through}
 use Rattle.std.proofs.Common.{arith}
 use Rattle.std.proofs.lemmas.Result.{on_ok_weaker, on_err_weaker}
 use Rattle.task_words.proofs.unroll.feeds.put_feed.Goals as goal
@@ -22,7 +22,7 @@ pub returns-clause-text : goal.returns-clause-text
 returns-clause-text g c = feed_through _ _ _ _ _
     (unrolled c.args.unrolling.now.until (rules_with c.args.rules.0 c.args.rules.1) c.args.unrolling.now.tasks)
     (puts_behind _ _ _ _ _ _ _ _ _ c.in-Ok.ensures.text.all
-    (puts_behind _ _ _ _ _ _ _ _ _ c.in-Ok-put_jobs.ensures.text.all c.put_numbers.ensures.text))
+    (puts_behind _ _ _ _ _ _ _ _ _ c.in-Ok-put_jobs.ensures.text.all c.put_feed_line.ensures.text))
 
 pub returns-in-Err-clause-cause : goal.returns-in-Err-clause-cause
 returns-in-Err-clause-cause g c = c.in-Err.ensures.cause
@@ -44,7 +44,7 @@ pub returns-clause-cause : goal.returns-clause-cause
 returns-clause-cause g c = rw (
   c.in-Ok-put_jobs.ensures.cause.ok ∙ c.in-Ok.ensures.cause.ok,
   c.in-Ok-put_jobs.ensures.cause.other ∙ c.in-Ok.ensures.cause.other,
-) at c.put_numbers.ensures.cause
+) at c.put_feed_line.ensures.cause
 
 pub put_jobs-requires-clause-stands : goal.put_jobs-requires-clause-stands
 put_jobs-requires-clause-stands g c = c.requires.stands
@@ -66,10 +66,10 @@ returns-clause-count g c = c.put_jobs.ensures.count
 
 pub returns-clause-stops : goal.returns-clause-stops
 returns-clause-stops g c = record {
-  well = on_ok_weaker c.put_numbers.result
+  well = on_ok_weaker c.put_feed_line.result
       (λ last well. last (c.in-Ok-put_jobs.ensures.stops.well (c.in-Ok.ensures.stops.well well)))
-      c.put_numbers.ensures.stops.well;
-  stopped = on_err_weaker c.put_numbers.result
+      c.put_feed_line.ensures.stops.well;
+  stopped = on_err_weaker c.put_feed_line.result
       (λ last well. last (c.in-Ok-put_jobs.ensures.stops.well (c.in-Ok.ensures.stops.well well)))
-      c.put_numbers.ensures.stops.stopped;
+      c.put_feed_line.ensures.stops.stopped;
 }

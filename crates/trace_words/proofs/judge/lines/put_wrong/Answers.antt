@@ -17,11 +17,11 @@ due_line-requires g c = (c.requires.0, c.args.number, c.requires.1)
 
 pub returns-in-Err-clause-text : goal.returns-in-Err-clause-text
 returns-in-Err-clause-text g c = rw (sym (in_parts c.args.number (expected_of c.args.expected)))
-    (puts_cut _ _ _ _ _ _ _ (rw (c.bytes.ensures, c.wrong_front.ensures.text) at c.in-Err.ensures.text.part))
+    (puts_cut _ _ _ _ _ _ _ (rw (c.bytes.ensures.is, c.wrong_front.ensures) at c.in-Err.ensures.text.part))
 
 pub returns-clause-text : goal.returns-clause-text
 returns-clause-text g c = rw (sym (in_parts c.args.number (expected_of c.args.expected)))
-    (puts_behind _ _ _ _ _ _ _ _ _ (rw (c.bytes.ensures, c.wrong_front.ensures.text) at c.in-Ok.ensures.text.all)
+    (puts_behind _ _ _ _ _ _ _ _ _ (rw (c.bytes.ensures.is, c.wrong_front.ensures) at c.in-Ok.ensures.text.all)
     (rw (c.bytes-2.ensures.is, c.due_line.ensures) at c.put-2.ensures.text))
 
 pub returns-in-Err-clause-cause : goal.returns-in-Err-clause-cause

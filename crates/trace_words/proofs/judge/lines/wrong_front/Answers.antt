@@ -1,30 +1,15 @@
-use Rattle.std.proofs.Common.{arith, codes, decimal, length-append, ◌∷◌}
-use Rattle.line_text.proofs.Written.{digits}
-use Rattle.line_text.specs.Writing.{with_field}
+use Rattle.std.proofs.Common.{[], ◌∷◌, ◌++◌, append_assoc, codes, decimal, ap, ◌∙◌, arith}
+use Rattle.dover_model.specs.Lines.{with_numbers}
 use Rattle.trace_words.proofs.judge.lines.wrong_front.Goals as goal
 
 pub put_word-requires : goal.put_word-requires
-put_word-requires c = rw c.new-line.ensures (omega arith)
+put_word-requires c = rw c.empty-line.ensures (omega arith)
 
-pub put_number-requires : goal.put_number-requires
-put_number-requires c = rw (c.put_word.ensures, c.new-line.ensures) (omega (
-  arith,
-  digits c.args.number (omega arith),
-  length-append (codes "wrong") (32 ∷ decimal c.args.number),
-))
+pub put_with_wide-requires : goal.put_with_wide-requires
+put_with_wide-requires c = rw (c.put_word.ensures, c.empty-line.ensures) (omega arith)
 
-pub put_word-requires-2 : goal.put_word-requires-2
-put_word-requires-2 c = rw (c.put_number.ensures, c.put_word.ensures, c.new-line.ensures) (omega (
-  arith,
-  digits c.args.number (omega arith),
-  length-append (codes "wrong") (32 ∷ decimal c.args.number),
-  length-append (with_field (codes "wrong") (decimal c.args.number)) (32 ∷ codes "expected "),
-))
-
-pub returns-clause-fits : goal.returns-clause-fits
-returns-clause-fits c = rw (c.put_word-2.ensures, c.put_number.ensures, c.put_word.ensures, c.new-line.ensures) (omega (
-  arith,
-  digits c.args.number (omega arith),
-  length-append (codes "wrong") (32 ∷ decimal c.args.number),
-  length-append (with_field (codes "wrong") (decimal c.args.number)) (32 ∷ codes "expected "),
-))
+pub returns : goal.returns
+returns c = c.put_with_wide.ensures.is
+    ∙ ap (λ bs. with_numbers (codes "wrong") (c.args.number ∷ []) ++ bs)
+    (c.put_word.ensures ∙ ap (λ bs. codes " expected " ++ bs) c.empty-line.ensures)
+    ∙ append_assoc (codes "wrong") (32 ∷ decimal c.args.number) (codes " expected ")

@@ -1,0 +1,3 @@
+pub mod FeedTexts
+pub mod Refusals
+pub mod Sizes
