@@ -35,6 +35,10 @@
 extern "C" {
 #endif
 
+/* The version of the library that this header is of: the year, the month in two digits, and then two digits that tell
+   versions of one month apart. It has nothing to do with the versions of the rules, which are 1, 2 and 3. */
+#define DOVER_VERSION 20261100
+
 /* A place for an engine: static, on a stack or in an arena, at a multiple of 8 bytes. From dover_init on nobody but
    these calls reads or writes it. It isn't moved or copied. */
 #define DOVER_WORDS 83

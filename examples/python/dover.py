@@ -1,0 +1,190 @@
+"""The engine of include/dover.h from Python: an on-line scheduler for one processor under overload (D-over).
+
+    engine = Engine(2)                      # k = 2
+    for decision in engine.settle(0):       # what is decided before tick 0
+        act_on(decision)
+    number = engine.admit(0, 4, 6, 8)       # release, work, deadline, value
+
+The library is libdover.so, which `./dover install` makes, or what the variable LIBDOVER names. The header says what
+each call means, with units and limits. What it answers by a status is an exception here. One thread at a time calls an
+engine; an interpreter with a global lock sees to that, since it is kept through each call.
+"""
+import collections
+import ctypes
+import operator
+import os
+
+U32, U64 = ctypes.c_uint32, ctypes.c_uint64
+
+
+class _Admitted(ctypes.Structure):
+    _fields_ = [("number", U64), ("status", U32)]
+
+
+class _Decision(ctypes.Structure):
+    _fields_ = [("tick", U64), ("job", U64), ("other", U64), ("kind", U32)]
+
+
+class _Due(ctypes.Structure):
+    _fields_ = [("tick", U64), ("status", U32)]
+
+
+class _Named(ctypes.Structure):
+    _fields_ = [("job", U64), ("status", U32)]
+
+
+CALLS = {"size": (ctypes.c_size_t,), "init": (None, U32, U32, U32, U32), "status": (U32,), "drop": (None,),
+         "init_factor": (None, U32, U32, U32, U32, U32, U32), "admit": (_Admitted, U64, U64, U64, U64),
+         "done": (U32, U64, U64), "step": (_Decision, U64), "finish": (_Decision,), "next": (_Due,),
+         "successor": (_Named,), "value": (U64,), "value_high": (U64,), "room": (U32,)}
+MADE, MOST_KINDS = 5, 8
+KINDS = [None, "job", "run", "preempt", "take", "complete", "abandon", "end"]
+NOT_MADE = {0: "empty", 1: "ratio", 2: "capacity", 3: "memory", 4: "version", 6: "factor"}
+NOT_ADMITTED = {1: "unsettled", 2: "job", 3: "count", 4: "total", 5: "ratio", 6: "full", 7: "closed", 8: "numbers"}
+NOT_DONE = {1: "unsettled", 2: "behind", 3: "not running", 4: "version", 7: "closed"}
+NOT_STEPPED = {8: "falls", 9: "late", 10: "finished", 11: "closed"}
+
+# At a tick, a job gets the processor, or ends. `other` is the job that stops, at a preemption or a take. At the end the
+# tick is the value of all jobs that completed.
+Decision = collections.namedtuple("Decision", "kind tick job other")
+
+
+def _load(path):
+    # PyDLL keeps the interpreter's lock through a call, so that no two threads are in one engine.
+    library, place = ctypes.PyDLL(path), ctypes.c_void_p
+    for name, (answer, *numbers) in CALLS.items():
+        call = getattr(library, f"dover_{name}")
+        call.restype, call.argtypes = answer, numbers if name == "size" else [place, *numbers]
+    return library
+
+
+_LIBRARY = _load(os.environ.get("LIBDOVER", "libdover.so"))
+
+
+class DoverError(Exception):
+    """A call was refused, and changed nothing. `cause` says why, and `status` is the header's number for it."""
+
+    def __init__(self, status, causes):
+        self.status, self.cause = status, causes.get(status, "unknown")
+        super().__init__(self.cause)
+
+
+class NotMade(DoverError):
+    """No engine was made: ratio, capacity, memory, version or factor."""
+
+
+class NotAdmitted(DoverError):
+    """The job wasn't admitted: unsettled, job, count, total, ratio, full or numbers; closed behind close(). Where it is
+    the ratio, `breaks` is the number of the job that breaks it with this one."""
+
+    def __init__(self, status, number):
+        super().__init__(status, NOT_ADMITTED)
+        self.breaks = number if self.cause == "ratio" else None
+
+
+class NotDone(DoverError):
+    """The job isn't done early: unsettled, behind, not running, version or closed."""
+
+
+class NotStepped(DoverError):
+    """There is no step to the mark: it falls, is late, or comes behind the end (finished); or closed."""
+
+
+def _numbers(bits, *values):
+    """Whole numbers that a word of so many bits holds, since ctypes would cut others off without a word."""
+    numbers = [operator.index(it) for it in values]
+    for it in numbers:
+        if not 0 <= it < 1 << bits:
+            raise ValueError(f"{it} is no number of {bits} bits")
+    return numbers
+
+
+class Engine:
+    """An engine for k = p/q, of a version of the rules (1, 2 or 3), with room for so many open jobs at once, and with a
+    factor (b, c) of one's own where one is given. All its memory is taken here; close(), or the end of a `with`, gives
+    it back."""
+
+    def __init__(self, p, q=1, version=1, capacity=1000, factor=None):
+        self._place = (U64 * (-(-_LIBRARY.dover_size() // 8)))()
+        if factor is None:
+            _LIBRARY.dover_init(self._place, *_numbers(32, p, q, version, capacity))
+        else:
+            _LIBRARY.dover_init_factor(self._place, *_numbers(32, p, q, version, capacity, *factor))
+        status = _LIBRARY.dover_status(self._place)
+        if status != MADE:
+            raise NotMade(status, NOT_MADE)
+
+    def admit(self, release, work, deadline, value):
+        """The number of a job that is handed in; or NotAdmitted."""
+        answer = _LIBRARY.dover_admit(self._place, *_numbers(64, release, work, deadline, value))
+        if answer.status:
+            raise NotAdmitted(answer.status, answer.number)
+        return answer.number
+
+    def done(self, tick, job):
+        """Says that a job is done at this tick with work left, in version 3; or NotDone."""
+        status = _LIBRARY.dover_done(self._place, *_numbers(64, tick, job))
+        if status:
+            raise NotDone(status, NOT_DONE)
+
+    def step(self, mark):
+        """The next decision that no job of the mark or later can change; None where there is none; or NotStepped."""
+        return self._decided(_LIBRARY.dover_step(self._place, *_numbers(64, mark)))
+
+    def settle(self, mark):
+        """All decisions that step(mark) gives, up to None."""
+        return iter(lambda: self.step(mark), None)
+
+    def finish(self):
+        """The next decision where no job can come any more; None behind the end."""
+        return self._decided(_LIBRARY.dover_finish(self._place))
+
+    def rest(self):
+        """All decisions that finish() gives, up to None."""
+        return iter(self.finish, None)
+
+    def next(self):
+        """The tick for which to call step next, if no job comes before; None where no job is open."""
+        answer = _LIBRARY.dover_next(self._place)
+        return None if answer.status else answer.tick
+
+    def successor(self):
+        """The job that would get the processor if the one that has it were done; None where there is none."""
+        answer = _LIBRARY.dover_successor(self._place)
+        return None if answer.status else answer.job
+
+    @property
+    def value(self):
+        """What all jobs are worth that completed."""
+        return _LIBRARY.dover_value_high(self._place) << 64 | _LIBRARY.dover_value(self._place)
+
+    @property
+    def room(self):
+        """For how many open jobs more there is room."""
+        return _LIBRARY.dover_room(self._place)
+
+    def close(self):
+        """Gives the memory back. There is no engine then: next() and successor() are None, value and room are 0, and
+        all other calls are refused as closed."""
+        _LIBRARY.dover_drop(self._place)
+
+    def _decided(self, answer):
+        if answer.kind >= MOST_KINDS:
+            raise NotStepped(answer.kind, NOT_STEPPED)
+        if not answer.kind:
+            return None
+        tick = answer.tick + (answer.other << 64 if KINDS[answer.kind] == "end" else 0)
+        return Decision(KINDS[answer.kind], tick, answer.job, answer.other)
+
+    def __enter__(self):
+        return self
+
+    def __exit__(self, *_):
+        self.close()
+
+    def __del__(self):
+        if hasattr(self, "_place"):
+            self.close()
+
+    def __reduce_ex__(self, _):
+        raise TypeError("an engine can't be copied")
