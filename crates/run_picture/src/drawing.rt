@@ -43,7 +43,7 @@ pub fn picture(
     let jobs = released(alloc, run)?;
     let worths = weights(alloc, k, run)?;
     let charge = Charge::of(alloc, k, run)?;
-    let counts = count(k, run, &jobs, charge.value());
+    let counts = count(k, &charge);
     let totals = Totals { counts, refused };
     let seen = told_by(alloc, run, &worths)?;
     let pieces = pieces(alloc, run)?;

@@ -39,7 +39,7 @@ pub fn timeline(
     let jobs = released(alloc, run)?;
     let window = window_or(window, &jobs);
     let mut text = Vec::new(alloc);
-    put_summary(&mut text, count(k, run, &jobs, charge.value()))?;
+    put_summary(&mut text, count(k, &charge))?;
     put_frame(&mut text, &window)?;
     put_jobs(alloc, &mut text, &window, run, &jobs)?;
     Ok(text)
