@@ -1,7 +1,7 @@
 //! The ledger of a run, kept from its printed steps alone.
-ghost use Rattle.std.specs.Prelude.{◌≡◌, OnOk};
+ghost use Rattle.std.specs.Prelude.{◌≡◌, ◌<◌, length, OnOk};
 ghost use Rattle.run_record.specs.intervals.Pages.{Page, blank, joined, ended, page_taken, with_event};
-ghost use Rattle.run_record.specs.intervals.Pages.{IsReadable, CanJoin, CanTake, CanComplete, CanAbandon};
+ghost use Rattle.run_record.specs.intervals.Pages.{IsReadable, CanJoin, CanTake, CanComplete};
 ghost use Rattle.dover_model.specs.declared.events.Event.TheVariants.{Complete, Abandon};
 
 use crate::intervals::interval::{Interval, UnderWay};
@@ -163,7 +163,7 @@ impl Ledger {
 
     /// The job of this number is gone.
     fn abandon(&mut self, at: u64, number: u32)
-        requires { CanAbandon self.old number }
+        requires { number < length self.old.jobs }
         ensures { self.new ≡ with_event self.old (Abandon at number) }
     {
         let value = u64::from(self.jobs[number as usize].value);

@@ -28,22 +28,6 @@ overflow_sub-self-2 c =
       )
     ]
 
-pub complete-requires-clause-taken : goal.complete-requires-clause-taken
-complete-requires-clause-taken c =
-    let can = subst (λ (p : Page). CanComplete p c.args.number) (sym c.self.view_is) c.requires in
-    let read = get_or_read c.self.inside.jobs.items c.args.number c.index.result.now can.known c.index.ensures
-    unknown in
-    let small = can.small c.in-Some.under_way c.in-Some.is in
-    omega (arith, small.1, c.from-value.ensures, ap (λ (k : Known). k.value) read)
-
-pub complete-requires-clause-regular : goal.complete-requires-clause-regular
-complete-requires-clause-regular c =
-    let can = subst (λ (p : Page). CanComplete p c.args.number) (sym c.self.view_is) c.requires in
-    let read = get_or_read c.self.inside.jobs.items c.args.number c.index.result.now can.known c.index.ensures
-    unknown in
-    let small = can.small c.in-Some.under_way c.in-Some.is in
-    omega (arith, small.0, c.from-value.ensures, ap (λ (k : Known). k.value) read)
-
 pub overflow_sub-self : goal.overflow_sub-self
 overflow_sub-self c =
     let can = subst (λ (p : Page). CanComplete p c.args.number) (sym c.self.view_is) c.requires in
