@@ -1,5 +1,5 @@
 -- The page follows a preemption, a release, an abandonment, a completion, a silent tick and the end.
-use Rattle.std.proofs.Common.{◌≡◌, ℕ, zero, suc, ◌+◌, ◌-◌, ◌≤◌, ◌<◌, ◌^◌, List, [], ◌∷◌, ◌++◌, length, map, refl}
+use Rattle.std.proofs.Common.{◌≡◌, ℕ, zero, suc, ◌+◌, ◌-◌, ◌≤◌, ◌<◌, List, [], ◌∷◌, ◌++◌, length, map, refl}
 use Rattle.std.proofs.Common.{sym, ap, ◌∙◌, subst, Bool}
 use Rattle.std.proofs.Common.{true, false, cond, arith, append_assoc}
 use Rattle.std.specs.Prelude.{Option, Some, None, ◌==◌}
@@ -12,7 +12,7 @@ use Rattle.dover_model.specs.declared.events.Role.{Role}
 use Rattle.dover_model.specs.declared.events.Role.TheVariants.{Coming, Fresh, Waiting, Held, Running, Done, Gone}
 use Rattle.dover_model.specs.declared.events.Task.{Task}
 use Rattle.dover_model.specs.State.{State, held, is_held, is_running, is_privileged}
-use Rattle.dover_model.specs.Step.{Prints, Ticks, with_role, ticked, after}
+use Rattle.dover_model.specs.Step.{Prints, Ticks, with_role, after}
 use Rattle.dover_model.specs.Run.{Step}
 use Rattle.dover_model.specs.Sound.{IsMember, Each, IsSound}
 use Rattle.dover_model.proofs.Members.{map_map, sum_plus, sum_same, by_bool}
@@ -24,7 +24,7 @@ use Rattle.dover_model.proofs.Kept.{end_same}
 use Rattle.run_record.specs.intervals.Pages.{Page, value_at, capped, with_one_more, CanComplete, in_one, with_row}
 use Rattle.run_record.specs.intervals.Pages.{with_abandonment}
 use Rattle.run_record.specs.intervals.Pages.{with_completion, ended, page_completed}
-use Rattle.run_record.proofs.intervals.Follows.{capped_of, under_of, page_of, Tracks, Follows, Next}
+use Rattle.run_record.proofs.intervals.Follows.{capped_of, under_of, Tracks, Follows, Next}
 use Rattle.run_record.proofs.intervals.Sums.{capped_more, counts}
 use Rattle.run_record.proofs.intervals.Knowing.{leaves_tracks, ends_tracks, releases_tracks, tick_tracks}
 use Rattle.run_record.proofs.intervals.Steps.{same_tracks, enters, turns, can_join, joins, fresh_idle}

@@ -233,11 +233,11 @@ module _ (J : Instance) (valid : IsValid J) (listable : IsListable J) where
   all_capped : map capped_of (model.intervals J) ≡ rows_of J
   all_capped = map_same capped_of numbers_of (model.intervals J) (λ i m.
       let done : i.regular + i.taken ≤ completed_value J = omega
-          (arith, term_le_sum (λ i. i.regular + i.taken) (model.intervals J) i m, intervals_complete J valid) in
+      (arith, term_le_sum (λ i. i.regular + i.taken) (model.intervals J) i m, intervals_complete J valid) in
       let gone : i.abandoned ≤ sum_by (λ i. i.abandoned) (model.intervals J) =
-          term_le_sum (λ i. i.abandoned) (model.intervals J) i m in
+      term_le_sum (λ i. i.abandoned) (model.intervals J) i m in
       let lost : i.displaced ≤ 1_000 * i.taken =
-          paid_small J.rules.ratio i.displaced i.taken (valid_parts valid).ratio (interval_displaced J valid i m) in
+      paid_small J.rules.ratio i.displaced i.taken (valid_parts valid).ratio (interval_displaced J valid i m) in
       let all = intervals_abandon J valid in
       same_row i (capped_small i.regular (omega (arith, done, all, listable.total)))
       (capped_small i.taken (omega (arith, done, all, listable.total)))

@@ -1,6 +1,6 @@
 -- The page follows each step of the machine.
-use Rattle.std.proofs.Common.{◌≡◌, ℕ, ◌+◌, ◌≤◌, ◌<◌, ◌^◌, List, ◌∷◌, ◌++◌, length, map, refl, sym, ap, ◌∙◌, subst}
-use Rattle.std.proofs.Common.{Bool, true, false, cond}
+use Rattle.std.proofs.Common.{◌≡◌, ℕ, ◌≤◌, List, ◌∷◌, ◌++◌, length, map, refl, sym, ap, ◌∙◌, subst}
+use Rattle.std.proofs.Common.{true, false, cond}
 use Rattle.std.proofs.Common.{arith}
 use Rattle.std.specs.Prelude.{Option, Some, None}
 use Rattle.std.specs.List.{sum_by}
@@ -18,7 +18,7 @@ use Rattle.dover_model.proofs.Roles.{passes}
 use Rattle.dover_model.proofs.OneChange.{state_with}
 use Rattle.run_record.specs.declared.intervals.interval.Interval.{Interval}
 use Rattle.run_record.specs.declared.intervals.interval.UnderWay.{UnderWay}
-use Rattle.run_record.specs.intervals.Pages.{Page, value_at, joined, with_one_more, begun_or, CanJoin}
+use Rattle.run_record.specs.intervals.Pages.{Page, joined, with_one_more, begun_or, CanJoin}
 use Rattle.run_record.proofs.intervals.Follows.{capped_of, page_of, Tracks, Follows, Next}
 use Rattle.run_record.proofs.intervals.Sums.{active_few, active_fit}
 use Rattle.run_record.proofs.intervals.Knowing.{turns_tracks, enters_tracks}
