@@ -76,7 +76,6 @@ module _ (s : State) (sound : IsSound s) (l : Page) (few : l.era + 1 < 2 ^ 32)
 
 -- a printed step raises the era by one at most
 era_after : (l : Page) (e : Event) → (with_event l e).era ≤ l.era + 1
-era_after l (Release n job) = omega arith
 era_after l (Run at n) =
     by_bool _ ((known_at l n).era == l.era)
     (λ e. omega (arith, ap (λ (b : Bool). (cond b l (with_one_more l n)).era) e))
@@ -85,29 +84,24 @@ era_after l (Preempt at r n) =
     by_bool _ ((known_at l n).era == l.era)
     (λ e. omega (arith, ap (λ (b : Bool). (cond b l (with_one_more l n)).era) e))
     (λ e. omega (arith, ap (λ (b : Bool). (cond b l (with_one_more l n)).era) e))
-era_after l (Take at r n) = omega arith
 era_after l (Complete at n) = by_bool _ (l.active == 1)
     (λ e. omega (arith, ap (λ (b : Bool). (cond b (ended (page_completed l at n)) (page_completed l at n)).era) e))
     (λ e. omega (arith, ap (λ (b : Bool). (cond b (ended (page_completed l at n)) (page_completed l at n)).era) e))
-era_after l (Abandon at n) = omega arith
-era_after l (End value) = omega arith
+era_after l _ = omega arith
 
 -- the end alone names the value
 value_after : (l : Page) (e : Event) → (with_event l e).value ≡ value_of_end e l.value
-value_after l (Release n job) = refl
 value_after l (Run at n) =
     by_bool _ ((known_at l n).era == l.era) (ap (λ (b : Bool). (cond b l (with_one_more l n)).value))
     (ap (λ (b : Bool). (cond b l (with_one_more l n)).value))
 value_after l (Preempt at r n) =
     by_bool _ ((known_at l n).era == l.era) (ap (λ (b : Bool). (cond b l (with_one_more l n)).value))
     (ap (λ (b : Bool). (cond b l (with_one_more l n)).value))
-value_after l (Take at r n) = refl
 value_after l (Complete at n) =
     by_bool _ (l.active == 1)
     (ap (λ (b : Bool). (cond b (ended (page_completed l at n)) (page_completed l at n)).value))
     (ap (λ (b : Bool). (cond b (ended (page_completed l at n)) (page_completed l at n)).value))
-value_after l (Abandon at n) = refl
-value_after l (End value) = refl
+value_after l _ = refl
 
 -- ---- the whole run
 

@@ -252,9 +252,4 @@ module _ (s : State) (p : Page) (follows : Follows s p) where
   } where
     by_case : (role : Role) → displaced role ≡ Running → ⊥
     by_case Coming e = cc
-    by_case Fresh e = cc
-    by_case Waiting e = cc
-    by_case Held e = cc
-    by_case Running e = cc
-    by_case Done e = cc
-    by_case Gone e = cc
+    by_case _ e = cc

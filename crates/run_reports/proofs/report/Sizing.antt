@@ -23,12 +23,7 @@ released_total (e ∷ run) = sum_by-cons value_released e run
       by_step : (e : Event) (jobs : List JobFacts)
           → value_released e + total_value jobs ≡ total_value (cons_option (job_released e) jobs)
       by_step (Release n job) jobs = sym (sum_by-cons (λ (j : JobFacts). j.value) job jobs)
-      by_step (Run at n) jobs = omega arith
-      by_step (Preempt at stops starts) jobs = omega arith
-      by_step (Take at stops starts) jobs = omega arith
-      by_step (Complete at n) jobs = omega arith
-      by_step (Abandon at n) jobs = omega arith
-      by_step (End value) jobs = omega arith
+      by_step _ jobs = omega arith
 
 -- these are the sizes of the run's jobs
 module _ (J : Instance) (valid : IsValid J) (run : List Event) (prints : printed J ≡ run) (totals : JobTotals)

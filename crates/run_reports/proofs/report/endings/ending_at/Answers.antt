@@ -17,13 +17,9 @@ as_read c = ap ending_by c.event.ensures ∙ ap (λ e. option_map_or ending_by e
 -- no other step ends a job
 ends_none : (e : Event) → ((at n : ℕ) → e ≡ Complete at n → ⊥) → ((at n : ℕ) → e ≡ Abandon at n → ⊥)
     → (let none : Option Ending = None in none) ≡ ending_by e
-ends_none (Release n job) no_complete no_abandon = refl
-ends_none (Run at n) no_complete no_abandon = refl
-ends_none (Preempt at stops starts) no_complete no_abandon = refl
-ends_none (Take at stops starts) no_complete no_abandon = refl
 ends_none (Complete at n) no_complete no_abandon = absurd (no_complete at n refl)
 ends_none (Abandon at n) no_complete no_abandon = absurd (no_abandon at n refl)
-ends_none (End value) no_complete no_abandon = refl
+ends_none _ no_complete no_abandon = refl
 
 pub returns-in-Abandon : goal.returns-in-Abandon
 returns-in-Abandon c = ap ending_by (sym c.in-Abandon.is ∙ c.event.ensures)
