@@ -21,11 +21,11 @@ use Rattle.dover_model.proofs.OneChange.{changed, state_with, changed_there}
 use Rattle.dover_model.proofs.Booking.{active_sum}
 use Rattle.dover_model.proofs.Closing.{single_sum, value_of_number}
 use Rattle.dover_model.proofs.Kept.{end_same}
-use Rattle.run_record.specs.intervals.Pages.{Page, value_at, capped, with_one_more, CanComplete, in_one, with_row}
+use Rattle.run_record.specs.intervals.Pages.{Page, value_at, capped, with_one_more, in_one, with_row}
 use Rattle.run_record.specs.intervals.Pages.{with_abandonment}
 use Rattle.run_record.specs.intervals.Pages.{with_completion, ended, page_completed}
 use Rattle.run_record.proofs.intervals.Follows.{capped_of, under_of, Tracks, Follows, Next}
-use Rattle.run_record.proofs.intervals.Sums.{capped_more, counts}
+use Rattle.run_record.proofs.intervals.Sums.{capped_more}
 use Rattle.run_record.proofs.intervals.Knowing.{leaves_tracks, ends_tracks, releases_tracks, tick_tracks}
 use Rattle.run_record.proofs.intervals.Steps.{same_tracks, enters, turns, can_join, joins, fresh_idle}
 use Rattle.run_record.proofs.intervals.Steps.{waiting_idle}
@@ -50,12 +50,7 @@ one_way t = by_role (λ u role. cond (is_privileged u) 1 0 ≡ cond (is_held u) 
   each : (role : Role) → cond (is_privileged (with_role t role)) 1 0 ≡ cond (is_held (with_role t role)) 1 0 + cond
       (is_running (with_role t role)) 1 0
   each Coming = refl
-  each Fresh = refl
-  each Waiting = refl
-  each Held = refl
-  each Running = refl
-  each Done = refl
-  each Gone = refl
+  each _ = refl
 
 -- one is all where none is left
 one_left : (n m : ℕ) → m ≡ n + 1 → (m == 1) ≡ (n == 0)
@@ -244,17 +239,8 @@ module _ (s : State) (sound : IsSound s) (l : Page)
     active : is_privileged r ≡ true
     active = passes is_privileged r Running true runs refl
 
-    can_complete : (current : Option model.Interval) → Follows s l current → CanComplete l r.number
-    can_complete current follows = record {
-      known = (follows.tracks.known r member released).there;
-      some = omega (arith, follows.tracks.active, active_count);
-      worth = omega (
-        arith,
-        (follows.tracks.known r member released).value,
-        follows.tracks.worth,
-        counts is_privileged (λ j. j.value) s.tasks sound.numbered r member active,
-      );
-    }
+    known : (current : Option model.Interval) → Follows s l current → r.number < length l.jobs
+    known current follows = (follows.tracks.known r member released).there
 
     -- the jobs of that page
     tracks_then : (current : Option model.Interval) → Follows s l current
@@ -274,7 +260,7 @@ module _ (s : State) (sound : IsSound s) (l : Page)
     completes_none : (b : Bool) → (l.active == 1) ≡ b → Follows s l None
         → Next s l None (Prints (Complete s.clock r.number))
     completes_none b e follows = record {
-      readable = can_complete None follows;
+      readable = known None follows;
       later = None;
       follows = subst (λ (c : Bool). Follows (state_with s r Done) (cond c (ended (page_completed l s.clock r.number))
           (page_completed l s.clock r.number)) None)
@@ -316,7 +302,7 @@ module _ (s : State) (sound : IsSound s) (l : Page)
 
       completes_last : (length (held s) == 0) ≡ true → Next s l (Some i) (Prints (Complete s.clock r.number))
       completes_last e = record {
-        readable = can_complete (Some i) follows;
+        readable = known (Some i) follows;
         later = None;
         follows = subst (λ (c : Bool). Follows (state_with s r Done)
             (cond c (ended (page_completed l s.clock r.number))
@@ -340,7 +326,7 @@ module _ (s : State) (sound : IsSound s) (l : Page)
 
       completes_more : (length (held s) == 0) ≡ false → Next s l (Some i) (Prints (Complete s.clock r.number))
       completes_more e = record {
-        readable = can_complete (Some i) follows;
+        readable = known (Some i) follows;
         later = Some then;
         follows = subst (λ (c : Bool). Follows (state_with s r Done)
             (cond c (ended (page_completed l s.clock r.number))

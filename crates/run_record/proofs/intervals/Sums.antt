@@ -8,7 +8,7 @@ use Rattle.dover_model.specs.declared.events.Task.{Task}
 use Rattle.dover_model.specs.State.{is_privileged}
 use Rattle.dover_model.specs.Step.{with_role}
 use Rattle.dover_model.specs.Sound.{IsMember, IsNumberedFrom}
-use Rattle.dover_model.proofs.Members.{sum_le, term_le_sum}
+use Rattle.dover_model.proofs.Members.{sum_le}
 use Rattle.dover_model.proofs.Loads.{with_roles}
 use Rattle.dover_model.proofs.OneChange.{changed}
 use Rattle.dover_model.proofs.Booking.{sum_changed, active_sum}
@@ -26,25 +26,17 @@ capped_small n small = omega (arith, small)
 abbrev pub sum_of : (Task → Bool) → (JobFacts → ℕ) → List Task → ℕ
 sum_of p f tasks = sum_by (λ t. cond (p t) (f t.job) 0) tasks
 
-module _ (p : Task → Bool) (f : JobFacts → ℕ) (tasks : List Task) where
-  module _ (numbered : IsNumberedFrom 0 tasks) (r : Task) (member : IsMember r tasks) where
-    -- after one job has a new role
-    pub turned : (new : Role) (a b : Bool) → p r ≡ a → p (with_role r new) ≡ b
-        → sum_of p f (with_roles (changed r new) tasks) + cond a (f r.job) 0 ≡ sum_of p f tasks + cond b (f r.job) 0
-    turned new a b before after = omega (
-      arith,
-      sum_changed (λ t. cond (p t) (f t.job) 0) tasks r new numbered member,
-      ap (λ c. cond c (f r.job) 0) before,
-      ap (λ c. cond c (f r.job) 0) after,
-    )
-
-    -- a job that passes counts
-    pub counts : p r ≡ true → f r.job ≤ sum_of p f tasks
-    counts passes = omega (
-      arith,
-      term_le_sum (λ t. cond (p t) (f t.job) 0) tasks r member,
-      ap (λ c. cond c (f r.job) 0) passes,
-    )
+module _ (p : Task → Bool) (f : JobFacts → ℕ) (tasks : List Task) (numbered : IsNumberedFrom 0 tasks) (r : Task)
+    (member : IsMember r tasks) where
+  -- after one job has a new role
+  pub turned : (new : Role) (a b : Bool) → p r ≡ a → p (with_role r new) ≡ b
+      → sum_of p f (with_roles (changed r new) tasks) + cond a (f r.job) 0 ≡ sum_of p f tasks + cond b (f r.job) 0
+  turned new a b before after = omega (
+    arith,
+    sum_changed (λ t. cond (p t) (f t.job) 0) tasks r new numbered member,
+    ap (λ c. cond c (f r.job) 0) before,
+    ap (λ c. cond c (f r.job) 0) after,
+  )
 
 -- the running and held jobs are no more than the tasks
 pub active_few : (tasks : List Task) → active_sum (λ t. 1) tasks ≤ length tasks

@@ -135,18 +135,12 @@ pub record CanTake (l : Page) (n : ℕ) : Type 0 where
   pub known : n < length l.jobs
   pub few : l.era + 1 < 2 ^ 32
 
--- the job is active
-pub record CanComplete (l : Page) (n : ℕ) : Type 0 where
-  pub known : n < length l.jobs
-  pub some : 1 ≤ l.active
-  pub worth : value_at l n ≤ l.worth
-
 -- the step can come next
 abbrev pub IsReadable : Page → Event → Type 0
 IsReadable l (Release n job) = Unit {0}
 IsReadable l (Run at n) = CanJoin l n
 IsReadable l (Preempt at stops starts) = CanJoin l starts
 IsReadable l (Take at stops starts) = CanTake l starts
-IsReadable l (Complete at n) = CanComplete l n
+IsReadable l (Complete at n) = n < length l.jobs
 IsReadable l (Abandon at n) = n < length l.jobs
 IsReadable l (End value) = Unit {0}
