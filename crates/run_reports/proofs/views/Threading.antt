@@ -8,7 +8,7 @@ use Rattle.std.proofs.lemmas.List.{get_or-set_other}
 use Rattle.std.proofs.lemmas.Bool.{cases_lt}
 use Rattle.std.proofs.lemmas.Bool.Decides.{Decides-eqb, Decides-ltb}
 use Rattle.dover_model.specs.declared.events.Event.{Event}
-use Rattle.dover_model.specs.declared.events.Event.TheVariants.{Release, Run, Preempt, Take, Complete, Abandon, End}
+use Rattle.dover_model.specs.declared.events.Event.TheVariants.{Run, Preempt, Take, Complete}
 use Rattle.run_reports.specs.views.Stays.{next_switch, with_stay, stays_of}
 use Rattle.run_reports.specs.views.Book.{Book, blank, linked, begun, with_step, IsLink, Threads, Keeps}
 use Rattle.run_reports.specs.declared.views.stays.Stay.{Stay}
