@@ -5,7 +5,6 @@ use Rattle.std.proofs.lemmas.List.{drop_all, get_or_default, length-set}
 use Rattle.std.specs.Prelude.{Bool, true, false, nat_lt, if◌then◌else◌}
 use Rattle.run_picture.specs.Lanes.{shows, free_row, with_due, lanes_from}
 use Rattle.run_picture.specs.declared.seen.Seen.{Seen}
-use Rattle.run_picture.specs.declared.lanes.Lane.{Lane}
 use Rattle.run_reports.specs.declared.views.window.Window.{Window}
 use Rattle.run_picture.proofs.Going.{goes_on}
 
@@ -18,15 +17,15 @@ dues_after w dues s = if shows w s then with_due dues (free_row dues s.release) 
 
 -- one job more
 pub lanes_more : (w : Window) (seen : List Seen) (i : ℕ) (d : Seen) (dues next : List ℕ) (row : ℕ)
-    (lanes more whole : List Lane) → i < length seen → row ≡ row_of w dues (get_or seen i d)
+    (lanes more whole : List Seen) → i < length seen → row ≡ row_of w dues (get_or seen i d)
     → next ≡ dues_after w dues (get_or seen i d)
-    → more ≡ lanes ++ record { seen = get_or seen i d; row = row } ∷ []
+    → more ≡ lanes ++ record (get_or seen i d) { row = row } ∷ []
     → lanes ++ lanes_from w dues (drop i seen) ≡ whole → more ++ lanes_from w next (drop (i + 1) seen) ≡ whole
 lanes_more w seen i d dues next row lanes more whole there stands due longer before =
-    goes_on (lanes_from w dues) (lanes_from w next) (record { seen = s; row = row } ∷ []) seen i s lanes more whole
+    goes_on (lanes_from w dues) (lanes_from w next) (record s { row = row } ∷ []) seen i s lanes more whole
     (get_or_default seen i d s there) there
-    (by_test (shows w s) ∙ ap (λ r. record { seen = s; row = r } ∷ lanes_from w (dues_after w dues s) rest) (sym stands)
-    ∙ ap (λ (x : List ℕ). record { seen = s; row = row } ∷ lanes_from w x rest) (sym due))
+    (by_test (shows w s) ∙ ap (λ r. record s { row = r } ∷ lanes_from w (dues_after w dues s) rest) (sym stands)
+    ∙ ap (λ (x : List ℕ). record s { row = row } ∷ lanes_from w x rest) (sym due))
     longer before where
       s : Seen
       s = get_or seen i d
@@ -35,16 +34,16 @@ lanes_more w seen i d dues next row lanes more whole there stands due longer bef
       rest = drop (i + 1) seen
 
       by_test : (b : Bool)
-          → (if b then record { seen = s; row = free_row dues s.release }
+          → (if b then record s { row = free_row dues s.release }
           ∷ lanes_from w (with_due dues (free_row dues s.release) s.deadline) rest
-          else record { seen = s; row = 0 } ∷ lanes_from w dues rest)
-          ≡ record { seen = s; row = if b then free_row dues s.release else 0 }
+          else record s { row = 0 } ∷ lanes_from w dues rest)
+          ≡ record s { row = if b then free_row dues s.release else 0 }
           ∷ lanes_from w (if b then with_due dues (free_row dues s.release) s.deadline else dues) rest
       by_test true = refl
       by_test false = refl
 
 -- all jobs
-pub lanes_all : (w : Window) (seen : List Seen) (i : ℕ) (dues : List ℕ) (lanes whole : List Lane) → length seen ≤ i
+pub lanes_all : (w : Window) (seen : List Seen) (i : ℕ) (dues : List ℕ) (lanes whole : List Seen) → length seen ≤ i
     → lanes ++ lanes_from w dues (drop i seen) ≡ whole → lanes ≡ whole
 lanes_all w seen i dues lanes whole past before = sym (append-nil lanes)
     ∙ ap (λ l. lanes ++ lanes_from w dues l) (sym (drop_all i seen past)) ∙ before

@@ -6,7 +6,7 @@ use Rattle.std.specs.Prelude.{Bool, true, false, nat_lt, if◌then◌else◌, Op
 use Rattle.std.specs.List.{zip}
 use Rattle.std.proofs.lemmas.Slice.Zip.{length-zip}
 use Rattle.dover_model.specs.declared.events.Event.{Event}
-use Rattle.dover_model.specs.declared.events.Event.TheVariants.{Release, Run, Preempt, Take, Complete, Abandon, End}
+use Rattle.dover_model.specs.declared.events.Event.TheVariants.{Release, Take, Complete, Abandon}
 use Rattle.dover_model.specs.declared.pieces.Piece.{Piece}
 use Rattle.dover_model.specs.Fraction.{Fraction}
 use Rattle.dover_model.specs.JobFacts.{JobFacts}
@@ -36,12 +36,10 @@ told_length f seen n = by_test (nat_lt n (length seen)) where
 -- a step adds one at most
 step_length : (seen : List Seen) (e : Event) (w : ℕ) → length (with_step seen e w) ≤ length seen + 1
 step_length seen (Release n job) w = omega (arith, length-append seen (fresh n job ∷ []))
-step_length seen (Run at n) w = omega arith
-step_length seen (Preempt at stops starts) w = omega arith
 step_length seen (Take at stops starts) w = omega (arith, told_length (taking w) seen starts)
 step_length seen (Complete at n) w = omega (arith, told_length (done at) seen n)
 step_length seen (Abandon at n) w = omega (arith, told_length (gone at w) seen n)
-step_length seen (End value) w = omega arith
+step_length seen _ w = omega arith
 
 -- so all steps add as many at most as they are
 steps_length : (seen : List Seen) (more : List (Event × ℕ)) → length (told_by seen more) ≤ length seen + length more

@@ -9,7 +9,7 @@ use Rattle.run_reports.proofs.report.WorkedRows.{held_and_early, took_and_early}
 use Rattle.run_reports.specs.views.Moments.{moments}
 use Rattle.run_reports.specs.views.Templates.{filled}
 use Rattle.run_picture.specs.Processor.{pieces_from}
-use Rattle.run_picture.specs.Seen.{told_by, fate_tick}
+use Rattle.run_picture.specs.Seen.{told_by, end_tick}
 use Rattle.run_picture.specs.Legends.{texts_style, labels_style, bars_style, lines_style, texts_styles, paths_styles}
 use Rattle.run_picture.specs.Legends.{styles}
 use Rattle.run_picture.specs.Legends.{legend_bars, legend_words, legend, load_legend, lanes_colors, lanes_words}
@@ -280,5 +280,5 @@ taken_pieces : pieces_from None (printed took_and_early) ≡
 taken_pieces = refl
 
 -- and the ticks of their fates are those
-early_fates : map fate_tick (told_by [] (moments took_and_early)) ≡ 6 ∷ 3 ∷ 1 ∷ []
+early_fates : map end_tick (told_by [] (moments took_and_early)) ≡ 6 ∷ 3 ∷ 1 ∷ []
 early_fates = refl

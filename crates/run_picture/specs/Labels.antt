@@ -4,11 +4,10 @@ use Rattle.std.specs.List.{flat_map}
 use Rattle.run_reports.specs.views.Templates.{Text, filled}
 use Rattle.run_picture.specs.Sizes.{digits_of, room}
 use Rattle.run_picture.specs.Plot.{x_at, has, pixels}
-use Rattle.run_picture.specs.Seen.{fate_tick, is_gone}
+use Rattle.run_picture.specs.Seen.{end_tick, is_gone}
 use Rattle.run_picture.specs.Lanes.{shows, middle}
 use Rattle.run_reports.specs.declared.views.window.Window.{Window}
 use Rattle.run_picture.specs.declared.seen.Seen.{Seen}
-use Rattle.run_picture.specs.declared.lanes.Lane.{Lane}
 
 -- a number behind pixel x, around the height y
 abbrev pub number_at : (x y n : ℕ) → Text
@@ -39,11 +38,11 @@ named_weighed_at x y n value against = filled (codes "<text class='v' x='@' y='@
 
 -- the window has the tick at which the job is abandoned
 abbrev pub has_loss : Window → Seen → Bool
-has_loss w s = is_gone s && has w (fate_tick s)
+has_loss w s = is_gone s && has w (end_tick s)
 
 -- the tick up to which there is room for the job's number: that of its cross, and else its deadline
 abbrev pub number_end : Window → Seen → ℕ
-number_end w s = if has_loss w s then fate_tick s else s.deadline
+number_end w s = if has_loss w s then end_tick s else s.deadline
 
 -- there is room for the job's number
 abbrev pub has_number : Window → Seen → Bool
@@ -74,17 +73,17 @@ behind_cross x y long named s =
 -- what the job's loss weighed, if it is abandoned in the window
 abbrev pub loss_of : Window → (y : ℕ) → Seen → Text
 loss_of w y s = if has_loss w s
-    then behind_cross (x_at w (fate_tick s)) y (pixels w 0 (fate_tick s) s.deadline) (has_number w s) s else []
+    then behind_cross (x_at w (end_tick s)) y (pixels w 0 (end_tick s) s.deadline) (has_number w s) s else []
 
 -- what is written in a lane
-abbrev pub label : Window → (unit : ℕ) → Lane → Text
-label w unit lane = if shows w lane.seen
-    then number_of w (middle unit lane) lane.seen ++ loss_of w (middle unit lane) lane.seen else []
+abbrev pub label : Window → (unit : ℕ) → Seen → Text
+label w unit lane = if shows w lane
+    then number_of w (middle unit lane) lane ++ loss_of w (middle unit lane) lane else []
 
 -- what is written in all lanes
-abbrev pub group : Window → (unit : ℕ) → List Lane → Text
+abbrev pub group : Window → (unit : ℕ) → List Seen → Text
 group w unit lanes = codes "<g class='j'>\n" ++ flat_map (label w unit) lanes ++ codes "</g>\n"
 
 -- the same where rows are high enough
-abbrev pub labels : Window → (unit : ℕ) → List Lane → Text
+abbrev pub labels : Window → (unit : ℕ) → List Seen → Text
 labels w unit lanes = if nat_le 12 unit then group w unit lanes else []

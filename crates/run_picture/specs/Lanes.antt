@@ -1,13 +1,10 @@
 -- The lanes: each job that the window shows stands in the first row that is free at its release.
 use Rattle.std.specs.Prelude.{ℕ, suc, ◌+◌, ◌*◌, ◌/◌, max, List, [], ◌∷◌, ◌++◌, length, set, Bool}
 use Rattle.std.specs.Prelude.{nat_le, nat_lt, if◌then◌else◌}
-use Rattle.std.specs.Prelude.{slice_index_or}
 use Rattle.std.specs.List.{count_by, fold}
 use Rattle.run_picture.specs.Plot.{meets}
-use Rattle.run_picture.specs.Seen.{nobody}
 use Rattle.run_reports.specs.declared.views.window.Window.{Window}
 use Rattle.run_picture.specs.declared.seen.Seen.{Seen}
-use Rattle.run_picture.specs.declared.lanes.Lane.{Lane}
 
 -- the window shows the job
 abbrev pub shows : Window → Seen → Bool
@@ -27,23 +24,15 @@ abbrev pub with_due : List ℕ → ℕ → ℕ → List ℕ
 with_due dues row due = if nat_lt row (length dues) then set dues row due else dues ++ due ∷ []
 
 -- these jobs with their rows; what the window doesn't show takes none
-abbrev pub lanes_from : Window → List ℕ → List Seen → List Lane
+abbrev pub lanes_from : Window → List ℕ → List Seen → List Seen
 lanes_from w dues [] = []
 lanes_from w dues (s ∷ more) = if shows w s
-    then record { seen = s; row = free_row dues s.release }
+    then record s { row = free_row dues s.release }
     ∷ lanes_from w (with_due dues (free_row dues s.release) s.deadline) more
-    else record { seen = s; row = 0 } ∷ lanes_from w dues more
-
--- no lane
-abbrev pub nowhere : Lane
-nowhere = record { seen = nobody; row = 0 }
-
--- the lane of the job of this number
-abbrev pub lane_at : List Lane → ℕ → Lane
-lane_at lanes n = slice_index_or lanes n nowhere
+    else record s { row = 0 } ∷ lanes_from w dues more
 
 -- how many rows there are
-abbrev pub height : List Lane → ℕ
+abbrev pub height : List Seen → ℕ
 height lanes = fold (λ high lane. max high (lane.row + 1)) 1 lanes
 
 -- how many pixels a row is high, where there are so many
@@ -51,5 +40,5 @@ abbrev pub unit_of : ℕ → ℕ
 unit_of high = if nat_le high 24 then 18 else (if nat_le high 48 then 12 else 6)
 
 -- the middle of the lane, where rows are so high
-abbrev pub middle : (unit : ℕ) → Lane → ℕ
+abbrev pub middle : (unit : ℕ) → Seen → ℕ
 middle unit lane = 112 + unit * lane.row + unit / 2

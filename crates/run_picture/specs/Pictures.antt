@@ -28,17 +28,16 @@ use Rattle.run_picture.specs.Frame.{page, axis, bands, band_words, bars_front, b
 use Rattle.run_reports.specs.declared.views.window.Window.{Window}
 use Rattle.run_picture.specs.declared.frame.Totals.{Totals}
 use Rattle.run_picture.specs.declared.seen.Seen.{Seen}
-use Rattle.run_picture.specs.declared.lanes.Lane.{Lane}
 use Rattle.run_picture.specs.declared.strip.Bars.{Bars}
 
 -- ---- the processor
 
 -- the bars of pieces of one color, so high
-unfoldable pub bars_of : Bars → List Lane → (color high : ℕ) → List Piece → Text
+unfoldable pub bars_of : Bars → List Seen → (color high : ℕ) → List Piece → Text
 bars_of b lanes color high pieces = bars_front color high ++ piece_bars b lanes color pieces ++ bars_end
 
 -- the bars of pieces of all three
-unfoldable pub all_bars : Bars → List Lane → (high : ℕ) → List Piece → Text
+unfoldable pub all_bars : Bars → List Seen → (high : ℕ) → List Piece → Text
 all_bars b lanes high pieces = bars_of b lanes 99 high pieces ++ bars_of b lanes 116 high pieces
     ++ bars_of b lanes 108 high pieces
 
@@ -52,7 +51,7 @@ abbrev pub strip_numbers : Window → List Piece → Text
 strip_numbers w pieces = codes "<g class='i'>\n" ++ piece_numbers w pieces ++ codes "</g>\n"
 
 -- the strip, with bars so long at least
-unfoldable pub strip : Window → (least : ℕ) → List Lane → List Piece → Text
+unfoldable pub strip : Window → (least : ℕ) → List Seen → List Piece → Text
 strip w least lanes pieces = strip_border ++ all_bars (record { window = w; unit = 0; least = least }) lanes 22 pieces
     ++ strip_numbers w pieces
 
@@ -64,15 +63,15 @@ lanes_front high = codes "<text class='r' x='82' y='124'>jobs</text>\n"
     ++ filled (codes "<g class='w' stroke-width='@'>\n") (high ∷ [])
 
 -- the jobs' windows
-unfoldable pub windows : Window → (unit : ℕ) → List Lane → Text
+unfoldable pub windows : Window → (unit : ℕ) → List Seen → Text
 windows w unit lanes = lanes_front (unit - 3) ++ job_windows w unit lanes ++ codes "</g>\n"
 
 -- where jobs are held
-unfoldable pub holds_bars : Window → (unit : ℕ) → List Lane → List Event → Text
+unfoldable pub holds_bars : Window → (unit : ℕ) → List Seen → List Event → Text
 holds_bars w unit lanes run = bars_front 104 (unit / 3) ++ holds w unit lanes run ++ bars_end
 
 -- the bars in the lanes
-unfoldable pub lanes_bars : Window → (unit : ℕ) → List Lane → List Event → List Piece → Text
+unfoldable pub lanes_bars : Window → (unit : ℕ) → List Seen → List Event → List Piece → Text
 lanes_bars w unit lanes run pieces = windows w unit lanes ++ holds_bars w unit lanes run
     ++ all_bars (record { window = w; unit = unit; least = 1 }) lanes (unit - 3) pieces
 
@@ -81,20 +80,20 @@ abbrev pub lines_front : (class : ℕ) → Text
 lines_front class = codes "<path class='" ++ (class ∷ []) ++ codes "' d='"
 
 -- crosses
-unfoldable pub crosses_lines : Window → (unit : ℕ) → List Lane → List Event → Text
+unfoldable pub crosses_lines : Window → (unit : ℕ) → List Seen → List Event → Text
 crosses_lines w unit lanes run = lines_front 120 ++ crosses w unit lanes run ++ bars_end
 
 -- arrows of this class
-unfoldable pub arrows_lines : Window → (unit class : ℕ) → (takes : Bool) → List Lane → List Event → Text
+unfoldable pub arrows_lines : Window → (unit class : ℕ) → (takes : Bool) → List Seen → List Event → Text
 arrows_lines w unit class takes lanes run = lines_front class ++ arrows w unit takes lanes run ++ bars_end
 
 -- the lines in the lanes
-unfoldable pub lanes_lines : Window → (unit : ℕ) → List Lane → List Event → Text
+unfoldable pub lanes_lines : Window → (unit : ℕ) → List Seen → List Event → Text
 lanes_lines w unit lanes run = arrows_lines w unit 112 false lanes run ++ arrows_lines w unit 107 true lanes run
     ++ crosses_lines w unit lanes run
 
 -- all that stands in the lanes
-unfoldable pub lanes_of : Window → (unit : ℕ) → List Lane → List Event → List Piece → Text
+unfoldable pub lanes_of : Window → (unit : ℕ) → List Seen → List Event → List Piece → Text
 lanes_of w unit lanes run pieces = lanes_bars w unit lanes run pieces ++ lanes_lines w unit lanes run
     ++ labels w unit lanes
 
@@ -117,7 +116,7 @@ unfoldable pub under_load : Window → Totals → List Interval → Text
 under_load w t rows = ground_of w t 474 ++ load_legend ++ all_bands w 0 474 rows
 
 -- the processor and the lanes
-unfoldable pub middle_of : Window → (unit : ℕ) → List Lane → List Event → List Piece → Text
+unfoldable pub middle_of : Window → (unit : ℕ) → List Seen → List Event → List Piece → Text
 middle_of w unit lanes run pieces = strip w 1 lanes pieces ++ lanes_of w unit lanes run pieces
 
 -- the values, and the end
@@ -125,29 +124,25 @@ unfoldable pub over : Window → (coarse : Bool) → (bottom : ℕ) → List Job
 over w coarse bottom jobs run = values w coarse bottom jobs run ++ codes "</svg>\n"
 
 -- lanes, where rows are so high and the panel of values ends at this pixel
-unfoldable pub lanes_to : Window → Totals → (unit bottom : ℕ) → List Lane → List JobFacts → List Event → List Piece
+unfoldable pub lanes_to : Window → Totals → (unit bottom : ℕ) → List Seen → List JobFacts → List Event → List Piece
     → List Interval → Text
 lanes_to w t unit bottom lanes jobs run pieces rows = under w t bottom rows ++ middle_of w unit lanes run pieces
     ++ over w false bottom jobs run
 
 -- a lane for each job that the window shows
-unfoldable pub by_lanes : Window → Totals → List Lane → List JobFacts → List Event → List Piece → List Interval → Text
+unfoldable pub by_lanes : Window → Totals → List Seen → List JobFacts → List Event → List Piece → List Interval → Text
 by_lanes w t lanes jobs run pieces rows =
     let unit = unit_of (height lanes) in
     lanes_to w t unit (236 + unit * height lanes) lanes jobs run pieces rows
 
 -- the processor, the ready jobs, and the values by column
-unfoldable pub load : Window → List Lane → List JobFacts → List Event → List Piece → Text
+unfoldable pub load : Window → List Seen → List JobFacts → List Event → List Piece → Text
 load w lanes jobs run pieces = strip w 0 lanes pieces ++ ready w run ++ columns w jobs run
 
 -- the load in columns
-unfoldable pub by_load : Window → Totals → List Lane → List JobFacts → List Event → List Piece → List Interval → Text
+unfoldable pub by_load : Window → Totals → List Seen → List JobFacts → List Event → List Piece → List Interval → Text
 by_load w t lanes jobs run pieces rows = under_load w t rows ++ load w lanes jobs run pieces
     ++ over w true 474 jobs run
-
--- a window that shows no job
-abbrev pub nothing : Window
-nothing = record { from = 0; until = 0 }
 
 -- lanes where they take at most 75,000 bytes, and else the load
 abbrev pub fitting : (lanes load : Text) → Text
@@ -158,8 +153,8 @@ unfoldable pub drawn : (most : ℕ) → Window → Totals → List Seen → List
     → List Interval → Text
 drawn most w t seen jobs run pieces rows = if nat_le (shown w seen) most
     then fitting (by_lanes w t (lanes_from w [] seen) jobs run pieces rows)
-    (by_load w t (lanes_from nothing [] seen) jobs run pieces rows)
-    else by_load w t (lanes_from nothing [] seen) jobs run pieces rows
+    (by_load w t seen jobs run pieces rows)
+    else by_load w t seen jobs run pieces rows
 
 -- all of the run, so that the last deadline is its last tick
 abbrev pub whole : List JobFacts → Window

@@ -5,25 +5,25 @@ use Rattle.dover_model.specs.declared.pieces.Piece.{Piece}
 use Rattle.run_reports.specs.views.Templates.{Text, filled}
 use Rattle.run_picture.specs.Sizes.{room}
 use Rattle.run_picture.specs.Plot.{x_at, meets, pixels, bar}
-use Rattle.run_picture.specs.Seen.{tint}
-use Rattle.run_picture.specs.Lanes.{lane_at, middle}
+use Rattle.run_picture.specs.Seen.{seen_at, tint}
+use Rattle.run_picture.specs.Lanes.{middle}
 use Rattle.run_reports.specs.declared.views.window.Window.{Window}
-use Rattle.run_picture.specs.declared.lanes.Lane.{Lane}
+use Rattle.run_picture.specs.declared.seen.Seen.{Seen}
 use Rattle.run_picture.specs.declared.strip.Bars.{Bars}
 
 -- the height of a bar: of its lane, or where rows have no height, of the strip
-abbrev pub level : (unit : ℕ) → Lane → ℕ
+abbrev pub level : (unit : ℕ) → Seen → ℕ
 level unit lane = if unit == 0 then 87 else middle unit lane
 
 -- the bar of a piece, if its job has this color
-abbrev pub piece_bar : Bars → List Lane → (color : ℕ) → Piece → Text
+abbrev pub piece_bar : Bars → List Seen → (color : ℕ) → Piece → Text
 piece_bar b lanes color p =
-    let lane = lane_at lanes p.number in
-    if meets b.window p.from p.until && (tint lane.seen == color)
+    let lane = seen_at lanes p.number in
+    if meets b.window p.from p.until && (tint lane == color)
     then bar b.window b.least p.from p.until (level b.unit lane) else []
 
 -- the bars of pieces
-abbrev pub piece_bars : Bars → List Lane → (color : ℕ) → List Piece → Text
+abbrev pub piece_bars : Bars → List Seen → (color : ℕ) → List Piece → Text
 piece_bars b lanes color pieces = flat_map (piece_bar b lanes color) pieces
 
 -- a number in the strip, around pixel x

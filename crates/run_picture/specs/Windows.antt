@@ -1,15 +1,14 @@
--- The jobs' windows in their lanes: a bar from release to deadline, whose tooltip has the job's numbers and its fate.
-use Rattle.std.specs.Prelude.{ℕ, List, [], ◌∷◌, ◌++◌, Bool, if◌then◌else◌, codes}
+-- The jobs' windows in their lanes: a bar from release to deadline, whose tooltip has the job's numbers and its end.
+use Rattle.std.specs.Prelude.{ℕ, List, [], ◌∷◌, ◌++◌, Bool, if◌then◌else◌, Option, Some, None, codes}
 use Rattle.std.specs.List.{flat_map}
 use Rattle.run_reports.specs.views.Templates.{Text, filled}
 use Rattle.run_picture.specs.Plot.{bar}
 use Rattle.run_picture.specs.Seen.{is_gone}
 use Rattle.run_picture.specs.Lanes.{shows, middle}
 use Rattle.run_reports.specs.declared.views.window.Window.{Window}
-use Rattle.run_picture.specs.declared.seen.Fate.{Fate}
-use Rattle.run_picture.specs.declared.seen.Fate.TheVariants.{Open, Completed, Abandoned}
+use Rattle.run_reports.specs.declared.report.endings.Ending.{Ending}
+use Rattle.run_reports.specs.declared.report.endings.Ending.TheVariants.{Completed, Abandoned}
 use Rattle.run_picture.specs.declared.seen.Seen.{Seen}
-use Rattle.run_picture.specs.declared.lanes.Lane.{Lane}
 
 -- ---- the tooltip
 
@@ -19,10 +18,10 @@ weighed s = if is_gone s then filled (codes " against @") (s.against ∷ [])
     else (if s.took then filled (codes " against @, taken") (s.against ∷ []) else [])
 
 -- how it ended
-abbrev pub ended : Fate → Text
-ended Open = []
-ended (Completed at) = filled (codes ", complete @") (at ∷ [])
-ended (Abandoned at) = filled (codes ", abandon @") (at ∷ [])
+abbrev pub ended : Option Ending → Text
+ended None = []
+ended (Some (Completed at)) = filled (codes ", complete @") (at ∷ [])
+ended (Some (Abandoned at)) = filled (codes ", abandon @") (at ∷ [])
 
 -- its numbers: release to deadline, work and value
 abbrev pub numbers : (n release deadline work value : ℕ) → Text
@@ -31,7 +30,7 @@ numbers n release deadline work value =
 
 -- all that is told of it
 abbrev pub note : Seen → Text
-note s = numbers s.number s.release s.deadline s.work s.value ++ weighed s ++ ended s.fate
+note s = numbers s.number s.release s.deadline s.work s.value ++ weighed s ++ ended s.ending
 
 -- ---- the bar
 
@@ -52,9 +51,9 @@ abbrev pub window_of : Window → (y : ℕ) → Seen → Text
 window_of w y s = shape w y s ++ titled s
 
 -- of a job that the window shows
-abbrev pub job_window : Window → (unit : ℕ) → Lane → Text
-job_window w unit lane = if shows w lane.seen then window_of w (middle unit lane) lane.seen else []
+abbrev pub job_window : Window → (unit : ℕ) → Seen → Text
+job_window w unit lane = if shows w lane then window_of w (middle unit lane) lane else []
 
 -- of all jobs
-abbrev pub job_windows : Window → (unit : ℕ) → List Lane → Text
+abbrev pub job_windows : Window → (unit : ℕ) → List Seen → Text
 job_windows w unit lanes = flat_map (job_window w unit) lanes

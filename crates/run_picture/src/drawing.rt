@@ -1,15 +1,13 @@
 //! The picture as a whole.
-ghost use Rattle.std.specs.Prelude.{◌≡◌, ◌≤◌, ◌+◌, ◌++◌, ◌^◌, [], length, OnOk, IfOk, Option};
+ghost use Rattle.std.specs.Prelude.{◌≡◌, ◌≤◌, ◌+◌, ◌++◌, ◌^◌, length, OnOk, IfOk, Option};
 ghost use Rattle.run_record.specs.intervals.Rows.{IsRunOf};
 ghost use Rattle.dover_model.specs.Instance.{Instance};
 ghost use Rattle.dover_model.specs.Limits.{last_tick};
-ghost use Rattle.dover_model.specs.Run as runs;
-ghost use Rattle.run_picture.specs.Lanes.{lanes_from};
 ghost use Rattle.run_picture.specs.Pictures as pictures;
 
 use crate::frame::{Totals, put_axis, put_band_words, put_bands, put_page};
 use crate::labels::put_labels;
-use crate::lanes::{Lane, height, lanes, shown, unit_of};
+use crate::lanes::{height, lanes, shown, unit_of};
 use crate::legends::{put_lanes_legend, put_load_legend};
 use crate::marks::{put_arrows, put_crosses, put_holds};
 use crate::panels::{put_columns, put_ready, put_values};
@@ -22,6 +20,7 @@ use dover_model::jobs::LAST_TICK;
 use dover_model::{Job, Memory, PackedEvent, Piece, Ratio};
 use run_record::intervals::{Charge, Interval, weights};
 use run_reports::report::{count, released};
+use run_reports::views::last_deadline;
 use std::alloc::Global;
 
 /// The run that prints these steps as SVG: the processor, a lane for each job that the window shows, or above 400 of
@@ -43,7 +42,7 @@ pub fn picture(
     let jobs = released(alloc, run)?;
     let worths = weights(alloc, k, run)?;
     let charge = Charge::of(alloc, k, run)?;
-    let counts = count(k, run, &jobs, charge.value());
+    let counts = count(k, &charge);
     let totals = Totals { counts, refused };
     let seen = told_by(alloc, run, &worths)?;
     let pieces = pieces(alloc, run)?;
@@ -75,21 +74,6 @@ fn window_of(asked: Option<Window>, jobs: &[Job]) -> Window
             until: window.until.min(LAST_TICK + 1),
         },
     }
-}
-
-/// The greatest deadline.
-fn last_deadline(jobs: &[Job]) -> u64
-    ensures is { result ≡ runs.last_deadline jobs.now }
-    ensures known { result ≤ last_tick }
-{
-    let mut last = 0;
-    for job in jobs {
-        let due = job.deadline();
-        if last <= due {
-            last = due;
-        }
-    }
-    last
 }
 
 /// Lanes where the window shows at most 400 jobs and they take at most 75,000 bytes, and else the load.
@@ -134,15 +118,12 @@ fn loaded(
     rows: &[Interval],
 ) -> Result<Vec<u8>, Memory>
     requires steps { length run.now ≤ 5_000_001 }
-    requires jobs { length seen.now ≤ 5_000_001 }
     requires from { window.from ≤ last_tick + 1 }
-    ensures { IfOk result (λ text. text.items ≡ pictures.by_load
-        window totals.now (lanes_from pictures.nothing [] seen.now) jobs.now run.now pieces.now rows.now) }
+    ensures { IfOk result (λ text. text.items
+        ≡ pictures.by_load window totals.now seen.now jobs.now run.now pieces.now rows.now) }
 {
-    let nothing = Window { from: 0, until: 0 };
-    let lanes = lanes(alloc, nothing, seen)?;
     let mut text = Vec::new(alloc);
-    put_by_load(&mut text, window, totals, &lanes, jobs, run, pieces, rows)?;
+    put_by_load(&mut text, window, totals, seen, jobs, run, pieces, rows)?;
     Ok(text)
 }
 
@@ -151,7 +132,7 @@ fn put_by_lanes(
     text: &mut Vec<u8>,
     window: Window,
     totals: &Totals,
-    lanes: &[Lane],
+    lanes: &[Seen],
     jobs: &[Job],
     run: &[PackedEvent],
     pieces: &[Piece],
@@ -243,7 +224,7 @@ fn put_by_load(
     text: &mut Vec<u8>,
     window: Window,
     totals: &Totals,
-    lanes: &[Lane],
+    seen: &[Seen],
     jobs: &[Job],
     run: &[PackedEvent],
     pieces: &[Piece],
@@ -252,10 +233,10 @@ fn put_by_load(
     requires steps { length run.now ≤ 5_000_001 }
     requires from { window.from ≤ last_tick + 1 }
     ensures { OnOk result (text.new.items
-        ≡ text.old.items ++ pictures.by_load window totals.now lanes.now jobs.now run.now pieces.now rows.now) }
+        ≡ text.old.items ++ pictures.by_load window totals.now seen.now jobs.now run.now pieces.now rows.now) }
 {
     put_under_load(text, window, totals, rows)?;
-    put_strip(text, window, 0, lanes, pieces)?;
+    put_strip(text, window, 0, seen, pieces)?;
     put_ready(text, window, run)?;
     put_columns(text, window, jobs, run)?;
     put_over(text, window, true, 474, jobs, run)
@@ -266,11 +247,11 @@ fn put_strip(
     text: &mut Vec<u8>,
     window: Window,
     least: u64,
-    lanes: &[Lane],
+    seen: &[Seen],
     pieces: &[Piece],
 ) -> Result<(), Memory>
     requires { least ≤ 1_290 }
-    ensures { OnOk result (text.new.items ≡ text.old.items ++ pictures.strip window least lanes.now pieces.now) }
+    ensures { OnOk result (text.new.items ≡ text.old.items ++ pictures.strip window least seen.now pieces.now) }
 {
     put_text(
         text,
@@ -282,7 +263,7 @@ fn put_strip(
         unit: 0,
         least,
     };
-    put_all_bars(text, &bars, lanes, 22, pieces)?;
+    put_all_bars(text, &bars, seen, 22, pieces)?;
     put_numbers(text, window, pieces)
 }
 
@@ -290,17 +271,17 @@ fn put_strip(
 fn put_all_bars(
     text: &mut Vec<u8>,
     bars: &Bars,
-    lanes: &[Lane],
+    seen: &[Seen],
     high: u64,
     pieces: &[Piece],
 ) -> Result<(), Memory>
     requires unit { bars.now.unit ≤ 18 }
     requires least { bars.now.least ≤ 1_290 }
-    ensures { OnOk result (text.new.items ≡ text.old.items ++ pictures.all_bars bars.now lanes.now high pieces.now) }
+    ensures { OnOk result (text.new.items ≡ text.old.items ++ pictures.all_bars bars.now seen.now high pieces.now) }
 {
-    put_pieces(text, bars, lanes, b'c', high, pieces)?;
-    put_pieces(text, bars, lanes, b't', high, pieces)?;
-    put_pieces(text, bars, lanes, b'l', high, pieces)
+    put_pieces(text, bars, seen, b'c', high, pieces)?;
+    put_pieces(text, bars, seen, b't', high, pieces)?;
+    put_pieces(text, bars, seen, b'l', high, pieces)
 }
 
 /// Appends all that stands in the lanes.
@@ -308,7 +289,7 @@ fn put_lanes(
     text: &mut Vec<u8>,
     window: Window,
     unit: u64,
-    lanes: &[Lane],
+    lanes: &[Seen],
     run: &[PackedEvent],
     pieces: &[Piece],
 ) -> Result<(), Memory>
@@ -334,7 +315,7 @@ fn put_lanes_lines(
     text: &mut Vec<u8>,
     window: Window,
     unit: u64,
-    lanes: &[Lane],
+    lanes: &[Seen],
     run: &[PackedEvent],
 ) -> Result<(), Memory>
     requires { unit ≤ 18 }

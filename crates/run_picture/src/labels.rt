@@ -2,7 +2,7 @@
 ghost use Rattle.std.specs.Prelude.{◌≡◌, ◌≤◌, ◌++◌, ◌^◌, OnOk};
 ghost use Rattle.run_picture.specs.Labels as labels;
 
-use crate::lanes::{Lane, middle, shows};
+use crate::lanes::{middle, shows};
 use crate::plot::{Window, has, pixels, put_text, x_at};
 use crate::seen::Seen;
 use crate::sizes::{digits_of, room};
@@ -14,7 +14,7 @@ pub fn put_labels(
     text: &mut Vec<u8>,
     window: Window,
     unit: u64,
-    lanes: &[Lane],
+    lanes: &[Seen],
 ) -> Result<(), Memory>
     requires { unit ≤ 18 }
     ensures { OnOk result (text.new.items ≡ text.old.items ++ labels.labels window unit lanes.now) }
@@ -26,7 +26,7 @@ pub fn put_labels(
 }
 
 /// Appends what is written in all lanes, as one group.
-fn put_group(text: &mut Vec<u8>, window: Window, unit: u64, lanes: &[Lane]) -> Result<(), Memory>
+fn put_group(text: &mut Vec<u8>, window: Window, unit: u64, lanes: &[Seen]) -> Result<(), Memory>
     requires { unit ≤ 18 }
     ensures { OnOk result (text.new.items ≡ text.old.items ++ labels.group window unit lanes.now) }
 {
@@ -38,14 +38,14 @@ fn put_group(text: &mut Vec<u8>, window: Window, unit: u64, lanes: &[Lane]) -> R
 }
 
 /// Appends what is written in a lane.
-fn put_label(text: &mut Vec<u8>, window: Window, unit: u64, lane: &Lane) -> Result<(), Memory>
+fn put_label(text: &mut Vec<u8>, window: Window, unit: u64, lane: &Seen) -> Result<(), Memory>
     requires { unit ≤ 18 }
     ensures { OnOk result (text.new.items ≡ text.old.items ++ labels.label window unit lane.now) }
 {
-    if shows(window, &lane.seen) {
+    if shows(window, lane) {
         let y = middle(unit, lane);
-        put_number(text, window, y, &lane.seen)?;
-        return put_loss(text, window, y, &lane.seen);
+        put_number(text, window, y, lane)?;
+        return put_loss(text, window, y, lane);
     }
     Ok(())
 }
@@ -54,7 +54,7 @@ fn put_label(text: &mut Vec<u8>, window: Window, unit: u64, lane: &Lane) -> Resu
 fn has_loss(window: Window, seen: &Seen) -> bool
     ensures { result ≡ labels.has_loss window seen.now }
 {
-    seen.is_gone() && has(window, seen.fate_tick())
+    seen.is_gone() && has(window, seen.end_tick())
 }
 
 /// There is room for the job's number, up to its cross or else its deadline.
@@ -62,7 +62,7 @@ fn has_number(window: Window, seen: &Seen) -> bool
     ensures { result ≡ labels.has_number window seen.now }
 {
     let end = if has_loss(window, seen) {
-        seen.fate_tick()
+        seen.end_tick()
     } else {
         seen.deadline
     };
@@ -95,7 +95,7 @@ fn put_loss(text: &mut Vec<u8>, window: Window, y: u64, seen: &Seen) -> Result<(
     if !has_loss(window, seen) {
         return Ok(());
     }
-    let tick = seen.fate_tick();
+    let tick = seen.end_tick();
     let x = x_at(window, tick);
     let long = pixels(window, 0, tick, seen.deadline);
     if has_number(window, seen) {

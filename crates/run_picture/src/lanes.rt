@@ -4,18 +4,9 @@ ghost use Rattle.std.specs.Prelude.{if◌then◌else◌};
 ghost use Rattle.run_picture.specs.Lanes as places;
 
 use crate::plot::{Window, meets};
-use crate::seen::{Fate, Seen};
+use crate::seen::Seen;
 use dover_model::Memory;
 use std::alloc::Global;
-
-/// What is told of a job, and its row.
-#[derive(Clone, Copy)]
-pub struct Lane {
-    /// What is told of it.
-    pub seen: Seen,
-    /// Its row, from 0 on.
-    pub row: u32,
-}
 
 /// How many jobs the window shows.
 pub fn shown(window: Window, seen: &[Seen]) -> usize
@@ -38,7 +29,7 @@ pub fn shows(window: Window, seen: &Seen) -> bool
 }
 
 /// These jobs with their rows.
-pub fn lanes(alloc: Global, window: Window, seen: &[Seen]) -> Result<Vec<Lane>, Memory>
+pub fn lanes(alloc: Global, window: Window, seen: &[Seen]) -> Result<Vec<Seen>, Memory>
     requires { length seen.now ≤ 5_000_001 }
     ensures { IfOk result (λ lanes. lanes.items ≡ places.lanes_from window [] seen.now) }
 {
@@ -46,7 +37,7 @@ pub fn lanes(alloc: Global, window: Window, seen: &[Seen]) -> Result<Vec<Lane>, 
     let mut dues = Vec::new(alloc);
     for one in seen {
         let row = take_row(&mut dues, window, one)?;
-        lanes.push(Lane { seen: *one, row })?;
+        lanes.push(Seen { row, ..*one })?;
     }
     Ok(lanes)
 }
@@ -84,37 +75,8 @@ fn free_row(dues: &[u64], release: u64) -> usize
     row
 }
 
-/// The lane of the job of this number.
-pub fn lane_at(lanes: &[Lane], number: u32) -> Lane
-    ensures { result ≡ places.lane_at lanes.now number }
-{
-    match lanes.get(number as usize) {
-        Some(lane) => *lane,
-        None => nowhere(),
-    }
-}
-
-/// No lane.
-fn nowhere() -> Lane
-    ensures { result ≡ places.nowhere }
-{
-    Lane {
-        seen: Seen {
-            number: 0,
-            release: 0,
-            work: 0,
-            deadline: 0,
-            value: 0,
-            took: false,
-            against: 0,
-            fate: Fate::Open,
-        },
-        row: 0,
-    }
-}
-
 /// How many rows there are.
-pub fn height(lanes: &[Lane]) -> u64
+pub fn height(lanes: &[Seen]) -> u64
     ensures is { result ≡ places.height lanes.now }
     ensures modest { result ≤ 4_294_967_296 }
 {
@@ -140,7 +102,7 @@ pub fn unit_of(high: u64) -> u64
 }
 
 /// The middle of the lane, where rows are so high.
-pub fn middle(unit: u64, lane: &Lane) -> u64
+pub fn middle(unit: u64, lane: &Seen) -> u64
     requires { unit ≤ 18 }
     ensures is { result ≡ places.middle unit lane.now }
     ensures modest { result ≤ 2 ^ 40 }

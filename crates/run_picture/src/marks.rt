@@ -4,8 +4,9 @@ ghost use Rattle.run_picture.specs.Frame.{bars_end};
 ghost use Rattle.run_picture.specs.Marks as marks;
 ghost use Rattle.run_picture.specs.Pictures as pictures;
 
-use crate::lanes::{Lane, lane_at, middle, shows};
+use crate::lanes::{middle, shows};
 use crate::plot::{Window, has, meets, put_bar, put_text, x_at};
+use crate::seen::{Seen, seen_at};
 use dover_model::{Event, Memory, PackedEvent};
 use run_reports::views::template::put;
 
@@ -14,7 +15,7 @@ pub fn put_holds(
     text: &mut Vec<u8>,
     window: Window,
     unit: u64,
-    lanes: &[Lane],
+    lanes: &[Seen],
     run: &[PackedEvent],
 ) -> Result<(), Memory>
     requires { unit ≤ 18 }
@@ -32,7 +33,7 @@ fn put_hold_of(
     text: &mut Vec<u8>,
     window: Window,
     unit: u64,
-    lanes: &[Lane],
+    lanes: &[Seen],
     event: &PackedEvent,
 ) -> Result<(), Memory>
     requires { unit ≤ 18 }
@@ -44,9 +45,9 @@ fn put_hold_of(
             window,
             unit,
             at,
-            &lane_at(lanes, stops),
+            &seen_at(lanes, stops),
         ),
-        Event::Take { at, stops, .. } => put_hold(text, window, unit, at, &lane_at(lanes, stops)),
+        Event::Take { at, stops, .. } => put_hold(text, window, unit, at, &seen_at(lanes, stops)),
         _ => Ok(()),
     }
 }
@@ -57,12 +58,12 @@ fn put_hold(
     window: Window,
     unit: u64,
     at: u64,
-    lane: &Lane,
+    lane: &Seen,
 ) -> Result<(), Memory>
     requires { unit ≤ 18 }
     ensures { OnOk result (text.new.items ≡ text.old.items ++ marks.hold window unit at lane.now) }
 {
-    let until = lane.seen.fate_tick();
+    let until = lane.end_tick();
     if meets(window, at, until) {
         return put_bar(text, window, 1, at, until, middle(unit, lane));
     }
@@ -74,7 +75,7 @@ pub fn put_crosses(
     text: &mut Vec<u8>,
     window: Window,
     unit: u64,
-    lanes: &[Lane],
+    lanes: &[Seen],
     run: &[PackedEvent],
 ) -> Result<(), Memory>
     requires { unit ≤ 18 }
@@ -92,7 +93,7 @@ fn put_cross_of(
     text: &mut Vec<u8>,
     window: Window,
     unit: u64,
-    lanes: &[Lane],
+    lanes: &[Seen],
     event: &PackedEvent,
 ) -> Result<(), Memory>
     requires { unit ≤ 18 }
@@ -104,7 +105,7 @@ fn put_cross_of(
             window,
             unit,
             at,
-            &lane_at(lanes, number),
+            &seen_at(lanes, number),
         ),
         _ => Ok(()),
     }
@@ -116,12 +117,12 @@ fn put_cross_in(
     window: Window,
     unit: u64,
     at: u64,
-    lane: &Lane,
+    lane: &Seen,
 ) -> Result<(), Memory>
     requires { unit ≤ 18 }
     ensures { OnOk result (text.new.items ≡ text.old.items ++ marks.cross_in window unit at lane.now) }
 {
-    if has(window, at) && shows(window, &lane.seen) {
+    if has(window, at) && shows(window, lane) {
         let high = unit / 2;
         let left = x_at(window, at).saturating_sub(3);
         let top = middle(unit, lane).saturating_sub(high / 2);
@@ -137,7 +138,7 @@ pub fn put_arrows(
     window: Window,
     unit: u64,
     takes: bool,
-    lanes: &[Lane],
+    lanes: &[Seen],
     run: &[PackedEvent],
 ) -> Result<(), Memory>
     requires { unit ≤ 18 }
@@ -157,7 +158,7 @@ fn put_arrow_of(
     window: Window,
     unit: u64,
     takes: bool,
-    lanes: &[Lane],
+    lanes: &[Seen],
     event: &PackedEvent,
 ) -> Result<(), Memory>
     requires { unit ≤ 18 }
@@ -185,7 +186,7 @@ fn put_arrow_at(
     text: &mut Vec<u8>,
     window: Window,
     unit: u64,
-    lanes: &[Lane],
+    lanes: &[Seen],
     at: u64,
     stops: u32,
     starts: u32,
@@ -193,9 +194,9 @@ fn put_arrow_at(
     requires { unit ≤ 18 }
     ensures { OnOk result (text.new.items ≡ text.old.items ++ marks.arrow_at window unit lanes.now at stops starts) }
 {
-    let from = lane_at(lanes, stops);
-    let until = lane_at(lanes, starts);
-    if has(window, at) && shows(window, &from.seen) && shows(window, &until.seen) {
+    let from = seen_at(lanes, stops);
+    let until = seen_at(lanes, starts);
+    if has(window, at) && shows(window, &from) && shows(window, &until) {
         return put_arrow(
             text,
             x_at(window, at),

@@ -4,18 +4,8 @@ ghost use Rattle.std.specs.List.{zip};
 ghost use Rattle.run_picture.specs.Seen as tell;
 
 use dover_model::{Event, Job, Memory, PackedEvent};
+use run_reports::report::endings::Ending;
 use std::alloc::Global;
-
-/// How a job ended, and at which tick.
-#[derive(Clone, Copy)]
-pub enum Fate {
-    /// These steps end it nowhere.
-    Open,
-    /// It completed at this tick.
-    Completed(u64),
-    /// It was abandoned at this tick.
-    Abandoned(u64),
-}
 
 /// What is told of a job.
 #[derive(Clone, Copy)]
@@ -34,8 +24,10 @@ pub struct Seen {
     pub took: bool,
     /// What the jobs under way are worth when it is weighed.
     pub against: u64,
-    /// How it ended.
-    pub fate: Fate,
+    /// How it ended, None where these steps end it nowhere.
+    pub ending: Option<Ending>,
+    /// Its row in the picture, from 0 on.
+    pub row: u32,
 }
 
 /// What these steps tell of the jobs, by number, where the jobs under way are worth so much before each.
@@ -76,7 +68,35 @@ fn fresh(number: u32, job: &Job) -> Seen
         value: job.value(),
         took: false,
         against: 0,
-        fate: Fate::Open,
+        ending: None,
+        row: 0,
+    }
+}
+
+/// What is told of the job of this number.
+pub fn seen_at(seen: &[Seen], number: u32) -> Seen
+    ensures { result ≡ tell.seen_at seen.now number }
+{
+    match seen.get(number as usize) {
+        Some(one) => *one,
+        None => nobody(),
+    }
+}
+
+/// No job.
+fn nobody() -> Seen
+    ensures { result ≡ tell.nobody }
+{
+    Seen {
+        number: 0,
+        release: 0,
+        work: 0,
+        deadline: 0,
+        value: 0,
+        took: false,
+        against: 0,
+        ending: None,
+        row: 0,
     }
 }
 
@@ -98,7 +118,7 @@ fn complete(seen: &mut [Seen], number: usize, at: u64)
     ensures { seen.new ≡ tell.told_of (tell.done at) seen.old number }
 {
     if number < seen.len() {
-        seen[number].fate = Fate::Completed(at);
+        seen[number].ending = Some(Ending::Completed(at));
     }
 }
 
@@ -109,7 +129,7 @@ fn abandon(seen: &mut [Seen], number: usize, at: u64, worth: u64)
     if number < seen.len() {
         seen[number] = Seen {
             against: worth,
-            fate: Fate::Abandoned(at),
+            ending: Some(Ending::Abandoned(at)),
             ..seen[number]
         };
     }
@@ -119,14 +139,14 @@ impl Seen {
     ghost use Rattle.std.specs.Prelude.{◌≡◌};
     ghost use Rattle.run_picture.specs.Seen as tell;
 
-    /// The tick of its fate.
-    pub fn fate_tick(&self) -> u64
-        ensures { result ≡ tell.fate_tick self.now }
+    /// The tick at which it ended, or its deadline.
+    pub fn end_tick(&self) -> u64
+        ensures { result ≡ tell.end_tick self.now }
     {
-        match self.fate {
-            Fate::Open => self.deadline,
-            Fate::Completed(at) => at,
-            Fate::Abandoned(at) => at,
+        match self.ending {
+            None => self.deadline,
+            Some(Ending::Completed(at)) => at,
+            Some(Ending::Abandoned(at)) => at,
         }
     }
 
@@ -134,11 +154,7 @@ impl Seen {
     pub fn is_gone(&self) -> bool
         ensures { result ≡ tell.is_gone self.now }
     {
-        match self.fate {
-            Fate::Open => false,
-            Fate::Completed(_) => false,
-            Fate::Abandoned(_) => true,
-        }
+        matches!(self.ending, Some(Ending::Abandoned(_)))
     }
 
     /// The letter of its color.

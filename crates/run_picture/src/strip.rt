@@ -4,8 +4,9 @@ ghost use Rattle.run_picture.specs.Pictures as pictures;
 ghost use Rattle.run_picture.specs.Strip as strip;
 
 use crate::frame::put_bars_front;
-use crate::lanes::{Lane, lane_at, middle};
+use crate::lanes::middle;
 use crate::plot::{Window, meets, pixels, put_bar, put_text, x_at};
+use crate::seen::{Seen, seen_at};
 use crate::sizes::room;
 use dover_model::{Memory, Piece};
 use run_reports::views::template::put;
@@ -22,7 +23,7 @@ pub struct Bars {
 }
 
 /// The height of a bar.
-fn level(unit: u64, lane: &Lane) -> u64
+fn level(unit: u64, lane: &Seen) -> u64
     requires { unit ≤ 18 }
     ensures { result ≡ strip.level unit lane.now }
 {
@@ -33,7 +34,7 @@ fn level(unit: u64, lane: &Lane) -> u64
 pub fn put_pieces(
     text: &mut Vec<u8>,
     bars: &Bars,
-    lanes: &[Lane],
+    lanes: &[Seen],
     color: u8,
     high: u64,
     pieces: &[Piece],
@@ -54,7 +55,7 @@ pub fn put_pieces(
 fn put_piece(
     text: &mut Vec<u8>,
     bars: &Bars,
-    lanes: &[Lane],
+    lanes: &[Seen],
     color: u8,
     piece: &Piece,
 ) -> Result<(), Memory>
@@ -62,8 +63,8 @@ fn put_piece(
     requires least { bars.now.least ≤ 1_290 }
     ensures { OnOk result (text.new.items ≡ text.old.items ++ strip.piece_bar bars.now lanes.now color piece.now) }
 {
-    let lane = lane_at(lanes, piece.number);
-    if meets(bars.window, piece.from, piece.until) && lane.seen.tint() == color {
+    let lane = seen_at(lanes, piece.number);
+    if meets(bars.window, piece.from, piece.until) && lane.tint() == color {
         let y = level(bars.unit, &lane);
         return put_bar(text, bars.window, bars.least, piece.from, piece.until, y);
     }

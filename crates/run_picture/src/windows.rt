@@ -3,10 +3,11 @@ ghost use Rattle.std.specs.Prelude.{◌≡◌, ◌≤◌, ◌++◌, OnOk};
 ghost use Rattle.run_picture.specs.Pictures as pictures;
 ghost use Rattle.run_picture.specs.Windows as windows;
 
-use crate::lanes::{Lane, middle, shows};
+use crate::lanes::{middle, shows};
 use crate::plot::{Window, put_bar, put_text};
-use crate::seen::{Fate, Seen};
+use crate::seen::Seen;
 use dover_model::Memory;
+use run_reports::report::endings::Ending;
 use run_reports::views::template::put;
 
 /// Appends the word beside the lanes, and the windows of the jobs that the window of the picture shows.
@@ -14,7 +15,7 @@ pub fn put_windows(
     text: &mut Vec<u8>,
     window: Window,
     unit: u64,
-    lanes: &[Lane],
+    lanes: &[Seen],
 ) -> Result<(), Memory>
     requires { unit ≤ 18 }
     ensures { OnOk result (text.new.items ≡ text.old.items ++ pictures.windows window unit lanes.now) }
@@ -32,12 +33,12 @@ pub fn put_windows(
 }
 
 /// Appends the window of a job, if it is shown.
-fn put_job(text: &mut Vec<u8>, window: Window, unit: u64, lane: &Lane) -> Result<(), Memory>
+fn put_job(text: &mut Vec<u8>, window: Window, unit: u64, lane: &Seen) -> Result<(), Memory>
     requires { unit ≤ 18 }
     ensures { OnOk result (text.new.items ≡ text.old.items ++ windows.job_window window unit lane.now) }
 {
-    if shows(window, &lane.seen) {
-        return put_window(text, window, middle(unit, lane), &lane.seen);
+    if shows(window, lane) {
+        return put_window(text, window, middle(unit, lane), lane);
     }
     Ok(())
 }
@@ -55,7 +56,7 @@ fn put_window(text: &mut Vec<u8>, window: Window, y: u64, seen: &Seen) -> Result
         &[number, seen.release, seen.deadline, seen.work, seen.value],
     )?;
     put_weighed(text, seen)?;
-    put_ended(text, seen.fate)?;
+    put_ended(text, seen.ending)?;
     put_text(text, b"</title></path>\n")
 }
 
@@ -83,12 +84,12 @@ fn put_weighed(text: &mut Vec<u8>, seen: &Seen) -> Result<(), Memory>
 }
 
 /// Appends how a job ended.
-fn put_ended(text: &mut Vec<u8>, fate: Fate) -> Result<(), Memory>
-    ensures { OnOk result (text.new.items ≡ text.old.items ++ windows.ended fate) }
+fn put_ended(text: &mut Vec<u8>, ending: Option<Ending>) -> Result<(), Memory>
+    ensures { OnOk result (text.new.items ≡ text.old.items ++ windows.ended ending) }
 {
-    match fate {
-        Fate::Open => Ok(()),
-        Fate::Completed(at) => put(text, b", complete @", &[at]),
-        Fate::Abandoned(at) => put(text, b", abandon @", &[at]),
+    match ending {
+        None => Ok(()),
+        Some(Ending::Completed(at)) => put(text, b", complete @", &[at]),
+        Some(Ending::Abandoned(at)) => put(text, b", abandon @", &[at]),
     }
 }

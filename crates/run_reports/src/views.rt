@@ -11,4 +11,4 @@ mod window;
 pub use story::{Asked, why};
 pub use terminal::timeline;
 pub use viewer::chrome;
-pub use window::Window;
+pub use window::{Window, last_deadline};

@@ -1,25 +1,33 @@
 -- The page of a ledger follows a state of the run.
-use Rattle.std.proofs.Common.{◌≡◌, ℕ, ◌+◌, ◌≤◌, ◌<◌, List, ◌∷◌, ◌++◌, length, map, get_or, Bool, false, cond}
+use Rattle.std.proofs.Common.{◌≡◌, ℕ, ◌≤◌, ◌<◌, List, ◌∷◌, ◌++◌, length, map, get_or, false}
 use Rattle.std.specs.Prelude.{Option, Some, None, ◌==◌}
-use Rattle.std.specs.List.{sum_by}
-use Rattle.dover_model.specs.Books as books
-use Rattle.dover_model.specs.Fraction.{Fraction}
 use Rattle.dover_model.specs.Intervals as model
 use Rattle.dover_model.specs.declared.events.Role.TheVariants.{Coming}
 use Rattle.dover_model.specs.declared.events.Task.{Task}
-use Rattle.dover_model.specs.State.{State, is_privileged, is_done, is_over}
+use Rattle.dover_model.specs.State.{State, is_privileged, is_over}
 use Rattle.dover_model.specs.Step.{Move, Prints, Waits, Ticks, after}
 use Rattle.dover_model.specs.Run.{Step}
 use Rattle.dover_model.specs.Sound.{Each}
-use Rattle.dover_model.proofs.Booking.{active_sum, is_gone}
+use Rattle.dover_model.proofs.Booking.{active_sum}
+use Rattle.run_record.specs.declared.intervals.interval.Interval.{Interval}
 use Rattle.run_record.specs.declared.intervals.interval.UnderWay.{UnderWay}
 use Rattle.run_record.specs.declared.intervals.ledger.Known.{Known}
-use Rattle.run_record.specs.intervals.Pages.{Page, unknown, with_event, IsReadable}
-use Rattle.run_record.specs.intervals.Rows.{numbers_of}
+use Rattle.run_record.specs.intervals.Pages.{Page, unknown, capped, with_event, IsReadable}
+
+-- the numbers of an interval, as far as words take them
+abbrev pub capped_of : model.Interval → Interval
+capped_of i = record {
+  from = i.from;
+  until = i.until;
+  regular = capped i.regular;
+  taken = capped i.taken;
+  displaced = capped i.displaced;
+  abandoned = capped i.abandoned;
+}
 
 -- the interval under way, as the page has it
 abbrev pub under_of : model.Interval → UnderWay
-under_of i = record { interval = numbers_of i; took = i.took }
+under_of i = record { interval = capped_of i; took = i.took }
 
 -- if there is one
 abbrev pub page_of : Option model.Interval → Option UnderWay
@@ -41,21 +49,6 @@ AllKnown jobs era tasks = Each (λ t. (t.role ≡ Coming → ⊥) → IsKnown jo
 abbrev pub AllAhead : ℕ → List Task → Type 0
 AllAhead n tasks = Each (λ t. t.role ≡ Coming → n ≤ t.number) tasks
 
--- the value of the jobs that pass
-abbrev pub value_where : (Task → Bool) → List Task → ℕ
-value_where p tasks = sum_by (λ t. cond (p t) t.job.value 0) tasks
-
--- what is displaced stands below what is completed or active, and the other values are those of jobs that are over
-pub record IsPaid (k : Fraction) (s : State) (worth : ℕ) (i : model.Interval) : Type 0 where
-  pub done : i.regular + i.taken ≤ value_where is_done s.tasks
-  pub gone : i.abandoned ≤ value_where is_gone s.tasks
-  pub displaced : books.IsPaid k i.displaced (i.regular + i.taken + worth)
-
--- if one is under way
-abbrev pub ArePaid : Fraction → State → ℕ → Option model.Interval → Type 0
-ArePaid k s worth None = Unit {0}
-ArePaid k s worth (Some i) = IsPaid k s worth i
-
 -- the page has the jobs of the state
 pub record Tracks (s : State) (l : Page) : Type 0 where
   pub known : AllKnown l.jobs l.era s.tasks
@@ -65,10 +58,9 @@ pub record Tracks (s : State) (l : Page) : Type 0 where
   pub worth : l.worth ≡ active_sum (λ t. t.job.value) s.tasks
 
 -- the page follows the state, in which this interval is under way
-pub record Follows (k : Fraction) (s : State) (l : Page) (current : Option model.Interval) : Type 0 where
+pub record Follows (s : State) (l : Page) (current : Option model.Interval) : Type 0 where
   pub tracks : Tracks s l
   pub under : l.under_way ≡ page_of current
-  pub paid : ArePaid k s l.worth current
 
 -- the page after a step
 abbrev pub page_after : Page → Move → Page
@@ -83,9 +75,9 @@ CanFollow l (Waits n) = Unit {0}
 CanFollow l Ticks = Unit {0}
 
 -- the page follows a step
-pub record Next (k : Fraction) (s : State) (l : Page) (current : Option model.Interval) (m : Move) : Type 0 where
+pub record Next (s : State) (l : Page) (current : Option model.Interval) (m : Move) : Type 0 where
   pub readable : CanFollow l m
   pub later : Option model.Interval
-  pub follows : Follows k (after s m) (page_after l m) later
-  pub same : (xs : List Step) → (page_after l m).rows ++ map numbers_of (model.intervals_of later xs)
-      ≡ l.rows ++ map numbers_of (model.intervals_of current (record { before = s; move = m } ∷ xs))
+  pub follows : Follows (after s m) (page_after l m) later
+  pub same : (xs : List Step) → (page_after l m).rows ++ map capped_of (model.intervals_of later xs)
+      ≡ l.rows ++ map capped_of (model.intervals_of current (record { before = s; move = m } ∷ xs))

@@ -1,59 +1,36 @@
 -- The page follows a preemption, a release, an abandonment, a completion, a silent tick and the end.
-use Rattle.std.proofs.Common.{◌≡◌, ℕ, zero, suc, ◌+◌, ◌-◌, ◌≤◌, ◌<◌, ◌^◌, List, [], ◌∷◌, ◌++◌, length, map, refl}
+use Rattle.std.proofs.Common.{◌≡◌, ℕ, zero, suc, ◌+◌, ◌-◌, ◌≤◌, ◌<◌, List, [], ◌∷◌, ◌++◌, length, map, refl}
 use Rattle.std.proofs.Common.{sym, ap, ◌∙◌, subst, Bool}
 use Rattle.std.proofs.Common.{true, false, cond, arith, append_assoc}
 use Rattle.std.specs.Prelude.{Option, Some, None, ◌==◌}
 use Rattle.std.specs.List.{sum_by, filter}
 use Rattle.std.proofs.lemmas.Bool.{eq-eqb, ne_eqb}
 use Rattle.std.proofs.lemmas.List.Sums.{sum_by-cons}
-use Rattle.dover_model.specs.Books as books
-use Rattle.dover_model.specs.Fraction.{Fraction, IsRatio}
 use Rattle.dover_model.specs.Intervals as model
 use Rattle.dover_model.specs.declared.events.Event.TheVariants.{Release, Preempt, Complete, Abandon, End}
 use Rattle.dover_model.specs.declared.events.Role.{Role}
 use Rattle.dover_model.specs.declared.events.Role.TheVariants.{Coming, Fresh, Waiting, Held, Running, Done, Gone}
 use Rattle.dover_model.specs.declared.events.Task.{Task}
-use Rattle.dover_model.specs.State.{State, held, is_held, is_running, is_privileged, is_done}
-use Rattle.dover_model.specs.Step.{Prints, Ticks, with_role, ticked, after}
+use Rattle.dover_model.specs.State.{State, held, is_held, is_running, is_privileged}
+use Rattle.dover_model.specs.Step.{Prints, Ticks, with_role, after}
 use Rattle.dover_model.specs.Run.{Step}
 use Rattle.dover_model.specs.Sound.{IsMember, Each, IsSound}
-use Rattle.dover_model.proofs.Members.{term_le_sum, map_map, sum_map, sum_plus, sum_same, by_bool}
+use Rattle.dover_model.proofs.Members.{map_map, sum_plus, sum_same, by_bool}
 use Rattle.dover_model.proofs.Roles.{by_role, passes, numbered_map, one_number, is_running_role}
 use Rattle.dover_model.proofs.OneChange.{changed, state_with, changed_there}
-use Rattle.dover_model.proofs.Booking.{active_sum, is_gone}
+use Rattle.dover_model.proofs.Booking.{active_sum}
 use Rattle.dover_model.proofs.Closing.{single_sum, value_of_number}
 use Rattle.dover_model.proofs.Kept.{end_same}
-use Rattle.run_record.specs.declared.intervals.interval.Interval.{Interval}
-use Rattle.run_record.specs.declared.intervals.interval.UnderWay.{UnderWay}
-use Rattle.run_record.specs.intervals.Pages.{Page, value_at, with_one_more, CanAbandon, CanComplete, in_one, with_row}
+use Rattle.run_record.specs.intervals.Pages.{Page, value_at, capped, with_one_more, in_one, with_row}
 use Rattle.run_record.specs.intervals.Pages.{with_abandonment}
 use Rattle.run_record.specs.intervals.Pages.{with_completion, ended, page_completed}
-use Rattle.run_record.specs.intervals.Rows.{numbers_of}
-use Rattle.run_record.proofs.intervals.Follows.{under_of, page_of, IsPaid, ArePaid, Tracks, Follows, Next}
-use Rattle.run_record.proofs.intervals.Sums.{turned, counts, values_fit}
+use Rattle.run_record.proofs.intervals.Follows.{capped_of, under_of, Tracks, Follows, Next}
+use Rattle.run_record.proofs.intervals.Sums.{capped_more}
 use Rattle.run_record.proofs.intervals.Knowing.{leaves_tracks, ends_tracks, releases_tracks, tick_tracks}
-use Rattle.run_record.proofs.intervals.Steps.{paid_more, none_of, enters, turns, can_join, joins, fresh_idle}
+use Rattle.run_record.proofs.intervals.Steps.{same_tracks, enters, turns, can_join, joins, fresh_idle}
 use Rattle.run_record.proofs.intervals.Steps.{waiting_idle}
 use Rattle.run_record.proofs.intervals.Steps.{running_comes, held_comes}
 use Rattle.run_record.proofs.intervals.Steps.{gone_comes, done_comes}
-
--- the page of a state may have another interval under way, and other rows
-pub same_tracks : (s : State) (l : Page) (u : Option UnderWay) (rows : List Interval) → Tracks s l
-    → Tracks s (record l { under_way = u; rows = rows })
-same_tracks s l u rows tracks = record {
-  known = tracks.known;
-  ahead = tracks.ahead;
-  started = tracks.started;
-  active = tracks.active;
-  worth = tracks.worth;
-}
-
--- what is under way on the page is what is under way
-pub under_is : (l : Page) (current : Option model.Interval) (u : UnderWay) → l.under_way ≡ page_of current
-    → l.under_way ≡ Some u
-    → (i : model.Interval) × (current ≡ Some i) × (u ≡ under_of i)
-under_is l None u page some = absurd (let no : None ≡ Some u = sym page ∙ some in cc)
-under_is l (Some i) u page some = (i, refl, let e : Some (under_of i) ≡ Some u = sym page ∙ some in cc)
 
 -- ---- completions
 
@@ -73,12 +50,7 @@ one_way t = by_role (λ u role. cond (is_privileged u) 1 0 ≡ cond (is_held u) 
   each : (role : Role) → cond (is_privileged (with_role t role)) 1 0 ≡ cond (is_held (with_role t role)) 1 0 + cond
       (is_running (with_role t role)) 1 0
   each Coming = refl
-  each Fresh = refl
-  each Waiting = refl
-  each Held = refl
-  each Running = refl
-  each Done = refl
-  each Gone = refl
+  each _ = refl
 
 -- one is all where none is left
 one_left : (n m : ℕ) → m ≡ n + 1 → (m == 1) ≡ (n == 0)
@@ -92,40 +64,25 @@ after_completion i at value = cond i.took (model.with_taken i at value) (model.w
 -- so on the page
 completed_under : (i : model.Interval) (at value : ℕ)
     → with_completion at value (under_of i) ≡ under_of (after_completion i at value)
-completed_under i at value = by_bool _ i.took
-    (λ e. ap (λ b. record {
-      interval = cond b (numbers_of (model.with_taken i at value)) (numbers_of (model.with_regular i at value));
-      took =
-          i.took;
-    }) e
-    ∙ ap (λ b. under_of (cond b (model.with_taken i at value) (model.with_regular i at value))) (sym e))
-    (λ e. ap (λ b. record {
-      interval = cond b (numbers_of (model.with_taken i at value)) (numbers_of (model.with_regular i at value));
-      took =
-          i.took;
-    }) e
-    ∙ ap (λ b. under_of (cond b (model.with_taken i at value) (model.with_regular i at value))) (sym e))
+completed_under i at value = by_took i.took where
+  by_took : (b : Bool) → record {
+    interval = cond b (record (capped_of i) { until = at; taken = capped (capped i.taken + value) })
+        (record (capped_of i) { until = at; regular = capped (capped i.regular + value) });
+    took = i.took;
+  } ≡ under_of (cond b (model.with_taken i at value) (model.with_regular i at value))
+  by_took true = ap (λ n. record { interval = record (capped_of i) { until = at; taken = n }; took = i.took })
+      (capped_more i.taken value)
+  by_took false = ap (λ n. record { interval = record (capped_of i) { until = at; regular = n }; took = i.took })
+      (capped_more i.regular value)
 
-module _ (i : model.Interval) (at value : ℕ) where
-  -- the value is added
-  more_completed : (b : Bool) → (cond b (model.with_taken i at value) (model.with_regular i at value)).regular
-      + (cond b (model.with_taken i at value) (model.with_regular i at value)).taken ≡ i.regular + i.taken + value
-  more_completed true = omega arith
-  more_completed false = omega arith
+-- the interval under way after an abandonment
+abandoned_under : (i : model.Interval) (at value : ℕ)
+    → with_abandonment at value (under_of i) ≡ under_of (model.with_abandoned i at value)
+abandoned_under i at value = ap
+    (λ n. record { interval = record (capped_of i) { until = at; abandoned = n }; took = i.took })
+    (capped_more i.abandoned value)
 
-  -- and no other
-  same_displaced : (b : Bool)
-      → (cond b (model.with_taken i at value) (model.with_regular i at value)).displaced ≡ i.displaced
-  same_displaced true = refl
-  same_displaced false = refl
-
-  same_abandoned : (b : Bool)
-      → (cond b (model.with_taken i at value) (model.with_regular i at value)).abandoned ≡ i.abandoned
-  same_abandoned true = refl
-  same_abandoned false = refl
-
-module _ (k : Fraction) (some_q : IsRatio k) (ratio : k.q ≤ k.p) (s : State) (sound : IsSound s) (l : Page)
-    (few : l.era + 1 < 2 ^ 32)
+module _ (s : State) (sound : IsSound s) (l : Page)
     (total : sum_by (λ t. t.job.value) s.tasks ≤ 10_000_000_000_000) (count : length s.tasks ≤ 1_000_000) where
   -- ---- a preemption
   preempt_same : (current : Option model.Interval) (r f : ℕ) (xs : List Step)
@@ -134,27 +91,26 @@ module _ (k : Fraction) (some_q : IsRatio k) (ratio : k.q ≤ k.p) (s : State) (
   preempt_same None r f xs = refl
   preempt_same (Some i) r f xs = refl
 
-  pub preempts_next : (current : Option model.Interval) → Follows k s l current → (r f : Task) → IsMember r s.tasks
+  pub preempts_next : (current : Option model.Interval) → Follows s l current → (r f : Task) → IsMember r s.tasks
       → r.role ≡ Running
       → IsMember f s.tasks → f.role ≡ Fresh
-      → Next k s l current (Prints (Preempt s.clock r.number f.number))
+      → Next s l current (Prints (Preempt s.clock r.number f.number))
   preempts_next current follows r f member runs f_member fresh = record {
-    readable = can_join k some_q ratio s sound l few total count current follows f f_member
+    readable = can_join s sound l total count current follows f f_member
         (fresh_idle f fresh).released;
     later = current;
-    follows = subst (λ (p : Page). Follows k (after s (Prints (Preempt s.clock r.number f.number))) p current)
-        (sym (joins k some_q ratio s sound l few total count current follows f f_member (fresh_idle f fresh)))
-        (subst (λ (tasks : List Task). Follows k (record { clock = s.clock; tasks = tasks })
+    follows = subst (λ (p : Page). Follows (after s (Prints (Preempt s.clock r.number f.number))) p current)
+        (sym (joins s sound l total count current follows f f_member (fresh_idle f fresh)))
+        (subst (λ (tasks : List Task). Follows (record { clock = s.clock; tasks = tasks })
         (with_one_more l f.number) current)
         (map_map (λ t. with_role t (changed f Running t)) (λ t. with_role t (changed r Held t)) s.tasks)
-        (enters k (state_with s r Held)
+        (enters (state_with s r Held)
         (numbered_map (λ t. with_role t (changed r Held t)) (λ t. refl) 0 s.tasks sound.numbered) l current
-        (turns k s sound.numbered l current follows r member Running Held runs running_comes held_comes refl refl refl
-        refl refl refl) f
+        (turns s sound.numbered l current follows r member Running Held runs running_comes held_comes refl refl) f
         (changed_there s.tasks r f Held f_member differs) (fresh_idle f fresh)));
-    same = λ xs. ap (λ (p : Page). p.rows ++ map numbers_of (model.intervals_of current xs))
-        (joins k some_q ratio s sound l few total count current follows f f_member (fresh_idle f fresh))
-        ∙ ap (λ is. l.rows ++ map numbers_of is) (preempt_same current r.number f.number xs);
+    same = λ xs. ap (λ (p : Page). p.rows ++ map capped_of (model.intervals_of current xs))
+        (joins s sound l total count current follows f f_member (fresh_idle f fresh))
+        ∙ ap (λ is. l.rows ++ map capped_of is) (preempt_same current r.number f.number xs);
   } where
     differs : f.number ≡ r.number → ⊥
     differs same = let twin : f ≡ r = one_number 0 s.tasks sound.numbered f r f_member member same in
@@ -167,62 +123,28 @@ module _ (k : Fraction) (some_q : IsRatio k) (ratio : k.q ≤ k.p) (s : State) (
   release_same None c xs = refl
   release_same (Some i) c xs = refl
 
-  pub releases_next : (current : Option model.Interval) → Follows k s l current → (c : Task) → IsMember c s.tasks
+  pub releases_next : (current : Option model.Interval) → Follows s l current → (c : Task) → IsMember c s.tasks
       → c.role ≡ Coming
       → Each (λ t. t.role ≡ Coming → c.number ≤ t.number) s.tasks
-      → Next k s l current (Prints (Release c.number c.job))
+      → Next s l current (Prints (Release c.number c.job))
   releases_next current follows c member comes first = record {
     readable = tt;
     later = current;
     follows = record {
       tracks = releases_tracks s sound.numbered l follows.tracks c member comes first;
       under = follows.under;
-      paid = paid_more k s (state_with s c Fresh) l.worth l.worth current
-          (omega (
-            arith,
-            none_of k s sound.numbered l current follows c member is_done Fresh
-                (passes is_done c Coming false comes refl) refl,
-          ))
-          (omega (
-            arith,
-            none_of k s sound.numbered l current follows c member is_gone Fresh
-                (passes is_gone c Coming false comes refl) refl,
-          ))
-          (omega arith) follows.paid;
     };
-    same = λ xs. ap (λ is. l.rows ++ map numbers_of is) (release_same current c xs);
+    same = λ xs. ap (λ is. l.rows ++ map capped_of is) (release_same current c xs);
   }
 
   -- ---- an abandonment
   module _ (x : Task) (member : IsMember x s.tasks) (waiting : x.role ≡ Waiting) where
-    -- its value is at most that of all
-    some_value : x.job.value ≤ 10_000_000_000_000
-    some_value = omega (arith, term_le_sum (λ t. t.job.value) s.tasks x member)
+    -- it is known
+    can_abandon : (current : Option model.Interval) → Follows s l current → x.number < length l.jobs
+    can_abandon current follows = (follows.tracks.known x member (waiting_idle x waiting).released).there
 
-    can_abandon : (current : Option model.Interval) → Follows k s l current → CanAbandon l x.number
-    can_abandon current follows = record {
-      known = (follows.tracks.known x member (waiting_idle x waiting).released).there;
-      small = λ u some. by_open current follows.paid (under_is l current u follows.under some);
-    } where
-      by_open : (o : Option model.Interval) {u : UnderWay} → ArePaid k s l.worth o → (i : model.Interval) × (o ≡ Some i)
-          × (u ≡ under_of i)
-          → u.interval.abandoned + value_at l x.number < 2 ^ 64
-      by_open None paid (i, e, _) = absurd (let no : None ≡ Some i = e in cc)
-      by_open (Some j) {u} paid (i, e, same) =
-          let twin : i ≡ j = cc in
-          let is : u.interval.abandoned ≡ j.abandoned = ap (λ (v : UnderWay). v.interval.abandoned) same
-          ∙ ap (λ (v : model.Interval). v.abandoned) twin in
-          omega (
-            arith,
-            is,
-            paid.gone,
-            values_fit s.tasks,
-            some_value,
-            (follows.tracks.known x member (waiting_idle x waiting).released).value,
-          )
-
-    pub abandons_next : (current : Option model.Interval) → Follows k s l current
-        → Next k s l current (Prints (Abandon s.clock x.number))
+    pub abandons_next : (current : Option model.Interval) → Follows s l current
+        → Next s l current (Prints (Abandon s.clock x.number))
     abandons_next None follows = record {
       readable = can_abandon None follows;
       later = None;
@@ -233,7 +155,6 @@ module _ (k : Fraction) (some_q : IsRatio k) (ratio : k.q ≤ k.p) (s : State) (
             (waiting_idle x waiting).released Gone gone_comes refl
             (waiting_idle x waiting).idle refl);
         under = ap (in_one (with_abandonment s.clock (value_at l x.number))) follows.under;
-        paid = tt;
       };
       same = λ xs. refl;
     }
@@ -249,37 +170,20 @@ module _ (k : Fraction) (some_q : IsRatio k) (ratio : k.q ≤ k.p) (s : State) (
         under = ap (in_one (with_abandonment s.clock (value_at l x.number))) follows.under
             ∙ ap (λ v. Some (with_abandonment s.clock v (under_of i)))
             ((follows.tracks.known x member (waiting_idle x waiting).released).value
-            ∙ sym (value_of_number s sound.numbered x member));
-        paid = record {
-          done = omega (
-            arith,
-            follows.paid.done,
-            none_of k s sound.numbered l (Some i) follows x member is_done Gone (waiting_idle x waiting).not_done refl,
-          );
-          gone = omega (
-            arith,
-            follows.paid.gone,
-            value_of_number s sound.numbered x member,
-            turned is_gone (λ j. j.value) s.tasks sound.numbered x member Gone false true
-                (waiting_idle x waiting).not_gone refl,
-          );
-          displaced = follows.paid.displaced;
-        };
+            ∙ sym (value_of_number s sound.numbered x member))
+            ∙ ap (λ u. Some u) (abandoned_under i s.clock (model.value_of s x.number));
       };
       same = λ xs. refl;
     }
 
   -- ---- a silent tick and the end
-  pub ticks_next : (current : Option model.Interval) → Follows k s l current → Next k s l current Ticks
+  pub ticks_next : (current : Option model.Interval) → Follows s l current → Next s l current Ticks
   ticks_next current follows = record {
     readable = tt;
     later = current;
     follows = record {
       tracks = tick_tracks s sound.numbered l follows.tracks;
       under = follows.under;
-      paid = paid_more k s (after s Ticks) l.worth l.worth current
-          (omega (arith, sum_map ticked (λ t. cond (is_done t) t.job.value 0) s.tasks))
-          (omega (arith, sum_map ticked (λ t. cond (is_gone t) t.job.value 0) s.tasks)) (omega arith) follows.paid;
     };
     same = λ xs. refl;
   }
@@ -290,12 +194,12 @@ module _ (k : Fraction) (some_q : IsRatio k) (ratio : k.q ≤ k.p) (s : State) (
   end_same_intervals None value xs = refl
   end_same_intervals (Some i) value xs = refl
 
-  pub ends_next : (current : Option model.Interval) → Follows k s l current → (value : ℕ)
-      → Next k s l current (Prints (End value))
+  pub ends_next : (current : Option model.Interval) → Follows s l current → (value : ℕ)
+      → Next s l current (Prints (End value))
   ends_next current follows value = record {
     readable = tt;
     later = current;
-    follows = subst (λ (tasks : List Task). Follows k (record { clock = s.clock; tasks = tasks })
+    follows = subst (λ (tasks : List Task). Follows (record { clock = s.clock; tasks = tasks })
         (record l { value = value }) current)
         (sym (end_same s value)) (record {
           tracks = record {
@@ -306,9 +210,8 @@ module _ (k : Fraction) (some_q : IsRatio k) (ratio : k.q ≤ k.p) (s : State) (
             worth = follows.tracks.worth;
           };
           under = follows.under;
-          paid = paid_more k s s l.worth l.worth current (omega arith) (omega arith) (omega arith) follows.paid;
         });
-    same = λ xs. ap (λ is. l.rows ++ map numbers_of is) (end_same_intervals current value xs);
+    same = λ xs. ap (λ is. l.rows ++ map capped_of is) (end_same_intervals current value xs);
   }
 
   -- ---- a completion
@@ -327,7 +230,7 @@ module _ (k : Fraction) (some_q : IsRatio k) (ratio : k.q ≤ k.p) (s : State) (
     )
 
     -- it is the last where none is held
-    is_last : (current : Option model.Interval) → Follows k s l current → (l.active == 1) ≡ (length (held s) == 0)
+    is_last : (current : Option model.Interval) → Follows s l current → (l.active == 1) ≡ (length (held s) == 0)
     is_last current follows = one_left (length (held s)) l.active (follows.tracks.active ∙ active_count)
 
     released : r.role ≡ Coming → ⊥
@@ -336,36 +239,11 @@ module _ (k : Fraction) (some_q : IsRatio k) (ratio : k.q ≤ k.p) (s : State) (
     active : is_privileged r ≡ true
     active = passes is_privileged r Running true runs refl
 
-    can_complete : (current : Option model.Interval) → Follows k s l current → CanComplete l r.number
-    can_complete current follows = record {
-      known = (follows.tracks.known r member released).there;
-      some = omega (arith, follows.tracks.active, active_count);
-      worth = omega (
-        arith,
-        (follows.tracks.known r member released).value,
-        follows.tracks.worth,
-        counts is_privileged (λ j. j.value) s.tasks sound.numbered r member active,
-      );
-      small = λ u some. by_open current follows.paid (under_is l current u follows.under some);
-    } where
-      by_open : (o : Option model.Interval) {u : UnderWay} → ArePaid k s l.worth o → (i : model.Interval) × (o ≡ Some i)
-          × (u ≡ under_of i)
-          → (u.interval.regular + value_at l r.number < 2 ^ 64) × (u.interval.taken + value_at l r.number < 2 ^ 64)
-      by_open None paid (i, e, _) = absurd (let no : None ≡ Some i = e in cc)
-      by_open (Some j) {u} paid (i, e, same) =
-          let twin : i ≡ j = cc in
-          let regular : u.interval.regular ≡ j.regular = ap (λ (v : UnderWay). v.interval.regular) same
-          ∙ ap (λ (v : model.Interval). v.regular) twin in
-          let taken : u.interval.taken ≡ j.taken = ap (λ (v : UnderWay). v.interval.taken) same
-          ∙ ap (λ (v : model.Interval). v.taken) twin in
-          let most : r.job.value ≤ sum_by (λ t. t.job.value) s.tasks =
-          term_le_sum (λ t. t.job.value) s.tasks r member in (
-            omega (arith, paid.done, values_fit s.tasks, (follows.tracks.known r member released).value),
-            omega (arith, paid.done, values_fit s.tasks, (follows.tracks.known r member released).value),
-          )
+    known : (current : Option model.Interval) → Follows s l current → r.number < length l.jobs
+    known current follows = (follows.tracks.known r member released).there
 
     -- the jobs of that page
-    tracks_then : (current : Option model.Interval) → Follows k s l current
+    tracks_then : (current : Option model.Interval) → Follows s l current
         → Tracks (state_with s r Done) (page_completed l s.clock r.number)
     tracks_then current follows =
         same_tracks (state_with s r Done) (record l { active = l.active - 1; worth = l.worth - value_at l r.number })
@@ -373,47 +251,45 @@ module _ (k : Fraction) (some_q : IsRatio k) (ratio : k.q ≤ k.p) (s : State) (
         (ends_tracks s sound.numbered l follows.tracks r member released Done done_comes refl active refl)
 
     -- the value on the page is that of the job
-    value_is : (current : Option model.Interval) → Follows k s l current
+    value_is : (current : Option model.Interval) → Follows s l current
         → value_at l r.number ≡ model.value_of s r.number
     value_is current follows = (follows.tracks.known r member released).value
         ∙ sym (value_of_number s sound.numbered r member)
 
     -- none is under way
-    completes_none : (b : Bool) → (l.active == 1) ≡ b → Follows k s l None
-        → Next k s l None (Prints (Complete s.clock r.number))
+    completes_none : (b : Bool) → (l.active == 1) ≡ b → Follows s l None
+        → Next s l None (Prints (Complete s.clock r.number))
     completes_none b e follows = record {
-      readable = can_complete None follows;
+      readable = known None follows;
       later = None;
-      follows = subst (λ (c : Bool). Follows k (state_with s r Done) (cond c (ended (page_completed l s.clock r.number))
+      follows = subst (λ (c : Bool). Follows (state_with s r Done) (cond c (ended (page_completed l s.clock r.number))
           (page_completed l s.clock r.number)) None)
           (sym e) (by_test b);
       same = λ xs. ap (λ (c : Bool).
           (cond c (ended (page_completed l s.clock r.number)) (page_completed l s.clock r.number)).rows
-          ++ map numbers_of (model.intervals_of None xs)) e ∙ same_rows b xs;
+          ++ map capped_of (model.intervals_of None xs)) e ∙ same_rows b xs;
     } where
-      by_test : (c : Bool) → Follows k (state_with s r Done) (cond c (ended (page_completed l s.clock r.number))
+      by_test : (c : Bool) → Follows (state_with s r Done) (cond c (ended (page_completed l s.clock r.number))
           (page_completed l s.clock r.number)) None
       by_test true = record {
         tracks = same_tracks (state_with s r Done) (page_completed l s.clock r.number) None
             (with_row l.rows (in_one (with_completion s.clock (value_at l r.number)) l.under_way))
             (tracks_then None follows);
         under = refl;
-        paid = tt;
       }
       by_test false = record {
         tracks = tracks_then None follows;
         under = ap (in_one (with_completion s.clock (value_at l r.number))) follows.under;
-        paid = tt;
       }
 
       same_rows : (c : Bool) (xs : List Step)
           → (cond c (ended (page_completed l s.clock r.number)) (page_completed l s.clock r.number)).rows
-          ++ map numbers_of (model.intervals_of None xs) ≡ l.rows ++ map numbers_of (model.intervals_of None xs)
+          ++ map capped_of (model.intervals_of None xs) ≡ l.rows ++ map capped_of (model.intervals_of None xs)
       same_rows true xs = ap (λ u. with_row l.rows (in_one (with_completion s.clock (value_at l r.number)) u)
-          ++ map numbers_of (model.intervals_of None xs)) follows.under
+          ++ map capped_of (model.intervals_of None xs)) follows.under
       same_rows false xs = refl
 
-    module _ (i : model.Interval) (follows : Follows k s l (Some i)) where
+    module _ (i : model.Interval) (follows : Follows s l (Some i)) where
       -- the interval that it makes
       abbrev then : model.Interval
       then = after_completion i s.clock (model.value_of s r.number)
@@ -424,42 +300,11 @@ module _ (k : Fraction) (some_q : IsRatio k) (ratio : k.q ≤ k.p) (s : State) (
           ∙ ap (λ v. Some (with_completion s.clock v (under_of i))) (value_is (Some i) follows)
           ∙ ap (λ u. Some u) (completed_under i s.clock (model.value_of s r.number))
 
-      -- it is paid for
-      paid_then : IsPaid k (state_with s r Done) (l.worth - value_at l r.number) then
-      paid_then = record {
-        done = omega (
-          arith,
-          follows.paid.done,
-          value_of_number s sound.numbered r member,
-          more_completed i s.clock (model.value_of s r.number) i.took,
-          turned is_done (λ j. j.value) s.tasks sound.numbered r member Done false true
-              (passes is_done r Running false runs refl) refl,
-        );
-        gone = omega (
-          arith,
-          follows.paid.gone,
-          same_abandoned i s.clock (model.value_of s r.number) i.took,
-          none_of k s sound.numbered l (Some i) follows r member is_gone Done
-              (passes is_gone r Running false runs refl) refl,
-        );
-        displaced =
-            let sum : i.regular + i.taken + l.worth ≡ then.regular + then.taken + (l.worth - value_at l r.number) =
-            omega (
-              arith,
-              value_is (Some i) follows,
-              more_completed i s.clock (model.value_of s r.number) i.took,
-              (can_complete (Some i) follows).worth,
-            ) in
-            subst (books.IsPaid k then.displaced) sum
-            (subst (λ d. books.IsPaid k d (i.regular + i.taken + l.worth))
-            (sym (same_displaced i s.clock (model.value_of s r.number) i.took)) follows.paid.displaced);
-      }
-
-      completes_last : (length (held s) == 0) ≡ true → Next k s l (Some i) (Prints (Complete s.clock r.number))
+      completes_last : (length (held s) == 0) ≡ true → Next s l (Some i) (Prints (Complete s.clock r.number))
       completes_last e = record {
-        readable = can_complete (Some i) follows;
+        readable = known (Some i) follows;
         later = None;
-        follows = subst (λ (c : Bool). Follows k (state_with s r Done)
+        follows = subst (λ (c : Bool). Follows (state_with s r Done)
             (cond c (ended (page_completed l s.clock r.number))
             (page_completed l s.clock r.number)) None)
             (sym (is_last (Some i) follows ∙ e)) (record {
@@ -467,39 +312,38 @@ module _ (k : Fraction) (some_q : IsRatio k) (ratio : k.q ≤ k.p) (s : State) (
                   (with_row l.rows (in_one (with_completion s.clock (value_at l r.number)) l.under_way))
                   (tracks_then (Some i) follows);
               under = refl;
-              paid = tt;
             });
         same = λ xs. ap (λ (c : Bool).
             (cond c (ended (page_completed l s.clock r.number)) (page_completed l s.clock r.number)).rows
-            ++ map numbers_of (model.intervals_of None xs)) (is_last (Some i) follows ∙ e)
-            ∙ ap (λ u. with_row l.rows u ++ map numbers_of (model.intervals_of None xs)) under_then
-            ∙ append_assoc l.rows (numbers_of then ∷ []) (map numbers_of (model.intervals_of None xs))
-            ∙ ap (λ (c : Bool). l.rows ++ map numbers_of (elim c [
+            ++ map capped_of (model.intervals_of None xs)) (is_last (Some i) follows ∙ e)
+            ∙ ap (λ u. with_row l.rows u ++ map capped_of (model.intervals_of None xs)) under_then
+            ∙ append_assoc l.rows (capped_of then ∷ []) (map capped_of (model.intervals_of None xs))
+            ∙ ap (λ (c : Bool). l.rows ++ map capped_of (elim c [
               | true ↦ then ∷ model.intervals_of None xs
               | false ↦ model.intervals_of (Some then) xs
             ])) (sym e);
       }
 
-      completes_more : (length (held s) == 0) ≡ false → Next k s l (Some i) (Prints (Complete s.clock r.number))
+      completes_more : (length (held s) == 0) ≡ false → Next s l (Some i) (Prints (Complete s.clock r.number))
       completes_more e = record {
-        readable = can_complete (Some i) follows;
+        readable = known (Some i) follows;
         later = Some then;
-        follows = subst (λ (c : Bool). Follows k (state_with s r Done)
+        follows = subst (λ (c : Bool). Follows (state_with s r Done)
             (cond c (ended (page_completed l s.clock r.number))
             (page_completed l s.clock r.number)) (Some then))
             (sym (is_last (Some i) follows ∙ e))
-            (record { tracks = tracks_then (Some i) follows; under = under_then; paid = paid_then });
+            (record { tracks = tracks_then (Some i) follows; under = under_then });
         same = λ xs. ap (λ (c : Bool).
             (cond c (ended (page_completed l s.clock r.number)) (page_completed l s.clock r.number)).rows
-            ++ map numbers_of (model.intervals_of (Some then) xs)) (is_last (Some i) follows ∙ e)
-            ∙ ap (λ (c : Bool). l.rows ++ map numbers_of (elim c [
+            ++ map capped_of (model.intervals_of (Some then) xs)) (is_last (Some i) follows ∙ e)
+            ∙ ap (λ (c : Bool). l.rows ++ map capped_of (elim c [
               | true ↦ then ∷ model.intervals_of None xs
               | false ↦ model.intervals_of (Some then) xs
             ])) (sym e);
       }
 
-    pub completes_next : (current : Option model.Interval) → Follows k s l current
-        → Next k s l current (Prints (Complete s.clock r.number))
+    pub completes_next : (current : Option model.Interval) → Follows s l current
+        → Next s l current (Prints (Complete s.clock r.number))
     completes_next None follows = completes_none (l.active == 1) refl follows
     completes_next (Some i) follows =
         by_bool _ (length (held s) == 0) (completes_last i follows) (completes_more i follows)

@@ -1,51 +1,42 @@
 -- Sums over the tasks of a state, where some roles change.
-use Rattle.std.proofs.Common.{◌≡◌, ℕ, ◌+◌, ◌≤◌, List, length, [], ◌∷◌, ap, ◌∙◌, Bool, true, false, cond, arith}
+use Rattle.std.proofs.Common.{◌≡◌, ℕ, ◌+◌, ◌≤◌, ◌<◌, ◌^◌, List, length, [], ◌∷◌, ap, Bool, true, false, cond, arith}
 use Rattle.std.specs.List.{sum_by}
 use Rattle.std.proofs.lemmas.List.Sums.{sum_by-cons}
 use Rattle.dover_model.specs.JobFacts.{JobFacts}
 use Rattle.dover_model.specs.declared.events.Role.{Role}
-use Rattle.dover_model.specs.declared.events.Role.TheVariants.{Coming, Fresh, Waiting, Held, Running, Done, Gone}
 use Rattle.dover_model.specs.declared.events.Task.{Task}
-use Rattle.dover_model.specs.State.{is_privileged, is_done}
+use Rattle.dover_model.specs.State.{is_privileged}
 use Rattle.dover_model.specs.Step.{with_role}
-use Rattle.dover_model.specs.Sound.{IsMember, Each, IsNumberedFrom}
-use Rattle.dover_model.proofs.Members.{sum_map, sum_same, sum_plus, sum_le, term_le_sum}
-use Rattle.dover_model.proofs.Roles.{by_role}
+use Rattle.dover_model.specs.Sound.{IsMember, IsNumberedFrom}
+use Rattle.dover_model.proofs.Members.{sum_le}
 use Rattle.dover_model.proofs.Loads.{with_roles}
 use Rattle.dover_model.proofs.OneChange.{changed}
-use Rattle.dover_model.proofs.Booking.{sum_changed, active_sum, is_gone}
-use Rattle.run_record.proofs.intervals.Follows.{value_where}
+use Rattle.dover_model.proofs.Booking.{sum_changed, active_sum}
+use Rattle.run_record.specs.intervals.Pages.{capped}
+
+-- a sum of two parts, of which one is as far as a word takes it
+pub capped_more : (a b : ℕ) → capped (capped a + b) ≡ capped (a + b)
+capped_more a b = omega arith
+
+-- a number that a word takes
+pub capped_small : (n : ℕ) → n < 2 ^ 64 → capped n ≡ n
+capped_small n small = omega (arith, small)
 
 -- a sum over the jobs that pass
 abbrev pub sum_of : (Task → Bool) → (JobFacts → ℕ) → List Task → ℕ
 sum_of p f tasks = sum_by (λ t. cond (p t) (f t.job) 0) tasks
 
-module _ (p : Task → Bool) (f : JobFacts → ℕ) (tasks : List Task) where
-  -- it stays where the same jobs pass
-  pub stays : (g : Task → Role) → Each (λ t. p (with_role t (g t)) ≡ p t) tasks
-      → sum_of p f (with_roles g tasks) ≡ sum_of p f tasks
-  stays g same = sum_map (λ t. with_role t (g t)) (λ t. cond (p t) (f t.job) 0) tasks
-      ∙ sum_same (λ t. cond (p (with_role t (g t))) (f t.job) 0) (λ t. cond (p t) (f t.job) 0) tasks
-      (λ t m. ap (λ b. cond b (f t.job) 0) (same t m))
-
-  module _ (numbered : IsNumberedFrom 0 tasks) (r : Task) (member : IsMember r tasks) where
-    -- after one job has a new role
-    pub turned : (new : Role) (a b : Bool) → p r ≡ a → p (with_role r new) ≡ b
-        → sum_of p f (with_roles (changed r new) tasks) + cond a (f r.job) 0 ≡ sum_of p f tasks + cond b (f r.job) 0
-    turned new a b before after = omega (
-      arith,
-      sum_changed (λ t. cond (p t) (f t.job) 0) tasks r new numbered member,
-      ap (λ c. cond c (f r.job) 0) before,
-      ap (λ c. cond c (f r.job) 0) after,
-    )
-
-    -- a job that passes counts
-    pub counts : p r ≡ true → f r.job ≤ sum_of p f tasks
-    counts passes = omega (
-      arith,
-      term_le_sum (λ t. cond (p t) (f t.job) 0) tasks r member,
-      ap (λ c. cond c (f r.job) 0) passes,
-    )
+module _ (p : Task → Bool) (f : JobFacts → ℕ) (tasks : List Task) (numbered : IsNumberedFrom 0 tasks) (r : Task)
+    (member : IsMember r tasks) where
+  -- after one job has a new role
+  pub turned : (new : Role) (a b : Bool) → p r ≡ a → p (with_role r new) ≡ b
+      → sum_of p f (with_roles (changed r new) tasks) + cond a (f r.job) 0 ≡ sum_of p f tasks + cond b (f r.job) 0
+  turned new a b before after = omega (
+    arith,
+    sum_changed (λ t. cond (p t) (f t.job) 0) tasks r new numbered member,
+    ap (λ c. cond c (f r.job) 0) before,
+    ap (λ c. cond c (f r.job) 0) after,
+  )
 
 -- the running and held jobs are no more than the tasks
 pub active_few : (tasks : List Task) → active_sum (λ t. 1) tasks ≤ length tasks
@@ -61,34 +52,10 @@ active_few (t ∷ tasks) =
       one true = omega arith
       one false = omega arith
 
--- no job counts twice
-one_of : (t : Task) → cond (is_done t) t.job.value 0 + cond (is_gone t) t.job.value 0 + cond
-    (is_privileged t) t.job.value 0 ≤ t.job.value
-one_of t = by_role (λ u role. cond (is_done u) t.job.value 0 + cond (is_gone u) t.job.value 0 + cond
-    (is_privileged u) t.job.value 0 ≤ t.job.value) t
-    each where
-      each : (role : Role) → cond (is_done (with_role t role)) t.job.value 0 + cond
-          (is_gone (with_role t role)) t.job.value 0
-          + cond (is_privileged (with_role t role)) t.job.value 0 ≤ t.job.value
-      each Coming = omega arith
-      each Fresh = omega arith
-      each Waiting = omega arith
-      each Held = omega arith
-      each Running = omega arith
-      each Done = omega arith
-      each Gone = omega arith
-
--- the values of jobs done, gone and active are at most those of all
-pub values_fit : (tasks : List Task)
-    → value_where is_done tasks + value_where is_gone tasks + active_sum (λ t. t.job.value) tasks
-    ≤ sum_by (λ t. t.job.value) tasks
-values_fit tasks = omega (
-  arith,
-  sum_plus (λ (t : Task). cond (is_done t) t.job.value 0) (λ t. cond (is_gone t) t.job.value 0) tasks,
-  sum_plus (λ (t : Task). cond (is_done t) t.job.value 0 + cond (is_gone t) t.job.value 0)
-      (λ t. cond (is_privileged t) t.job.value 0) tasks,
-  sum_le (λ (t : Task). cond (is_done t) t.job.value 0 + cond (is_gone t) t.job.value 0 + cond
-      (is_privileged t) t.job.value 0)
-      (λ t. t.job.value) tasks
-      (λ t m. one_of t),
-)
+-- and what they are worth is no more than all are
+pub active_fit : (tasks : List Task) → active_sum (λ t. t.job.value) tasks ≤ sum_by (λ t. t.job.value) tasks
+active_fit tasks = sum_le (λ (t : Task). cond (is_privileged t) t.job.value 0) (λ t. t.job.value) tasks
+    (λ t m. part (is_privileged t) t.job.value) where
+      part : (b : Bool) (n : ℕ) → cond b n 0 ≤ n
+      part true n = omega arith
+      part false n = omega arith

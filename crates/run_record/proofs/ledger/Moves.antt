@@ -9,6 +9,7 @@ use Rattle.std.specs.Bool.{then_some}
 use Rattle.dover_model.specs.Fraction.{Fraction}
 use Rattle.dover_model.specs.declared.events.Entry.{Entry}
 use Rattle.dover_model.specs.declared.events.Event.TheVariants.{Release, Run, Preempt, Take, Complete, Abandon, End}
+use Rattle.dover_model.specs.declared.events.Role.{Role}
 use Rattle.dover_model.specs.declared.events.Role.TheVariants.{Coming, Fresh, Waiting, Held, Running, Done, Gone}
 use Rattle.dover_model.specs.declared.events.Task.{Task}
 use Rattle.dover_model.specs.Entries.{entry_of}
@@ -34,6 +35,10 @@ use Rattle.run_record.specs.ledger.Pages.{CanStop}
 use Rattle.run_record.proofs.ledger.Follows.{IsTurn, Follows, Next}
 use Rattle.run_record.proofs.ledger.Roles.{held_same, held_more, held_less, none_pass, top_held, one_runner, each_all}
 use Rattle.run_record.proofs.ledger.Steps.{at_clock, within, the_turn, turned, halted, passed, starts, displaces}
+
+-- a job in another role doesn't run
+idle_in : (t : Task) (role : Role) → t.role ≡ role → (role ≡ Running → ⊥) → t.role ≡ Running → ⊥
+idle_in t role is other runs = other (sym is ∙ runs)
 
 module _ (s : State) (sound : IsSound s) (p : Page) (follows : Follows s p)
     (total : value_sum s.tasks ≤ 10_000_000_000_000) where
@@ -131,16 +136,12 @@ module _ (s : State) (sound : IsSound s) (p : Page) (follows : Follows s p)
       g_in = map_member (λ t. with_role t (cond (t.number == r.number) Held t.role)) s.tasks f f_in
 
       g_fresh : g.role ≡ Fresh
-      g_fresh = ap (λ b. cond b Held f.role) (ne_eqb f.number r.number (λ e. two
-          (sym fresh ∙ ap (λ (t : Task). t.role) (one_number 0 s.tasks sound.numbered f r f_in member e) ∙ runs)))
-          ∙ fresh where
-            two : Fresh ≡ Running → ⊥
-            two e = cc
+      g_fresh = ap (λ b. cond b Held f.role) (ne_eqb f.number r.number (λ e. idle_in f Fresh fresh (λ e. cc)
+          (ap (λ (t : Task). t.role) (one_number 0 s.tasks sound.numbered f r f_in member e) ∙ runs)))
+          ∙ fresh
 
       g_idle : g.role ≡ Running → ⊥
-      g_idle e = two (sym g_fresh ∙ e) where
-        two : Fresh ≡ Running → ⊥
-        two e = cc
+      g_idle = idle_in g Fresh g_fresh (λ e. cc)
 
       g_out : is_held g ≡ false
       g_out = passes is_held g Fresh false g_fresh refl
@@ -191,9 +192,7 @@ module _ (s : State) (sound : IsSound s) (p : Page) (follows : Follows s p)
         by_test false = ap displaced waits
 
       g_idle : g.role ≡ Running → ⊥
-      g_idle e = two (sym g_waits ∙ e) where
-        two : Waiting ≡ Running → ⊥
-        two e = cc
+      g_idle = idle_in g Waiting g_waits (λ e. cc)
 
       g_out : is_held g ≡ false
       g_out = passes is_held g Waiting false g_waits refl
@@ -216,9 +215,7 @@ module _ (s : State) (sound : IsSound s) (p : Page) (follows : Follows s p)
     held = passes is_held q Held true holds refl
 
     idle : q.role ≡ Running → ⊥
-    idle e = two (sym holds ∙ e) where
-      two : Held ≡ Running → ⊥
-      two e = cc
+    idle = idle_in q Held holds (λ e. cc)
 
     later : Each (λ x. is_held x ≡ true → q.job.deadline < x.job.deadline) tasks
     later = on_map (λ t. with_role t (cond (t.number == q.number) Running t.role))
@@ -279,12 +276,9 @@ module _ (s : State) (sound : IsSound s) (p : Page) (follows : Follows s p)
       subst (λ m. room_with m p.held (turn_at p m) ≡ room s.clock (privileged s)) (sym now)
           (by_turn (turn_at p s.clock) refl follows.turn),
     );
-    follows = turned s sound p follows c member (λ e. two (sym comes ∙ e)) (passes is_held c Coming false comes refl)
-        Fresh (λ e. cc) refl;
+    follows = turned s sound p follows c member (idle_in c Coming comes (λ e. cc))
+        (passes is_held c Coming false comes refl) Fresh (λ e. cc) refl;
   } where
-    two : Coming ≡ Running → ⊥
-    two e = cc
-
     firsts : (o : Option Entry) → IsTurn s.tasks o
         → ForSome o (λ e. Each (λ f. e.deadline < f.deadline) p.held.held)
     firsts None none e at = absurd (let no : None ≡ Some e = at in cc)
@@ -306,31 +300,17 @@ module _ (s : State) (sound : IsSound s) (p : Page) (follows : Follows s p)
   abandons : (x : Task) → IsMember x s.tasks → x.role ≡ Waiting → Next s p (Prints (Abandon s.clock x.number))
   abandons x member waits = record {
     can = (tt, refl);
-    follows = turned s sound p follows x member (λ e. two (sym waits ∙ e)) (passes is_held x Waiting false waits refl)
-        Gone (λ e. cc) refl;
-  } where
-    two : Waiting ≡ Running → ⊥
-    two e = cc
+    follows = turned s sound p follows x member (idle_in x Waiting waits (λ e. cc))
+        (passes is_held x Waiting false waits refl) Gone (λ e. cc) refl;
+  }
 
   -- a wait
   stays : (f : Task) → IsMember f s.tasks → f.role ≡ Fresh → Next s p (Waits f.number)
   stays f member fresh = record {
     can = tt;
-    follows = turned s sound p follows f member (λ e. two (sym fresh ∙ e)) (passes is_held f Fresh false fresh refl)
-        Waiting (λ e. cc) refl;
-  } where
-    two : Fresh ≡ Running → ⊥
-    two e = cc
-
-  not_running_waiting : (t : Task) → t.role ≡ Waiting → t.role ≡ Running → ⊥
-  not_running_waiting t waits e = two (sym waits ∙ e) where
-    two : Waiting ≡ Running → ⊥
-    two e = cc
-
-  not_running_fresh : (t : Task) → t.role ≡ Fresh → t.role ≡ Running → ⊥
-  not_running_fresh t fresh e = two (sym fresh ∙ e) where
-    two : Fresh ≡ Running → ⊥
-    two e = cc
+    follows = turned s sound p follows f member (idle_in f Fresh fresh (λ e. cc))
+        (passes is_held f Fresh false fresh refl) Waiting (λ e. cc) refl;
+  }
 
   -- the end, or a tick
   pub rests : (b : Bool) (value : ℕ) → Next s p (then_some b (Prints (End value)) or_else Ticks)
@@ -346,9 +326,9 @@ module _ (s : State) (sound : IsSound s) (p : Page) (follows : Follows s p)
   deed_next k other rested m (Completed r member runs) = completes r member runs
   deed_next k other rested m (Resumed q member holds none least why) = resumes q member holds least
   deed_next k other rested m (Started o member waits none first fits next) =
-      begins o member (not_running_waiting o waits) (passes is_held o Waiting false waits refl)
+      begins o member (idle_in o Waiting waits (λ e. cc)) (passes is_held o Waiting false waits refl)
   deed_next k other rested m (Began f member fresh none free) =
-      begins f member (not_running_fresh f fresh) (passes is_held f Fresh false fresh refl)
+      begins f member (idle_in f Fresh fresh (λ e. cc)) (passes is_held f Fresh false fresh refl)
   deed_next k other rested m (Preempted r f member runs some f_member fresh before fits) =
       preempts r member runs f f_member fresh
   deed_next k other rested m (Stayed r f member runs some f_member fresh why) = stays f f_member fresh

@@ -7,7 +7,7 @@ use Rattle.std.proofs.lemmas.Option.{slice_get_within}
 use Rattle.std.specs.Prelude.{Option, Some, None, ◌==◌, option_map, slice_index_or}
 use Rattle.dover_model.specs.declared.events.Entry.{Entry}
 use Rattle.dover_model.specs.declared.events.Role.{Role}
-use Rattle.dover_model.specs.declared.events.Role.TheVariants.{Coming, Fresh, Waiting, Held, Running, Done, Gone}
+use Rattle.dover_model.specs.declared.events.Role.TheVariants.{Coming, Running}
 use Rattle.dover_model.specs.declared.events.Task.{Task}
 use Rattle.dover_model.specs.Entries.{entry_of}
 use Rattle.dover_model.specs.Sound.{IsMember, IsNumberedFrom, IsSound, NoneRuns}
@@ -251,9 +251,4 @@ module _ (s : State) (p : Page) (follows : Follows s p) where
   } where
     by_case : (role : Role) → displaced role ≡ Running → ⊥
     by_case Coming e = cc
-    by_case Fresh e = cc
-    by_case Waiting e = cc
-    by_case Held e = cc
-    by_case Running e = cc
-    by_case Done e = cc
-    by_case Gone e = cc
+    by_case _ e = cc

@@ -1,5 +1,5 @@
 -- What the ledger keeps of a run, and what each printed step does to it.
-use Rattle.std.specs.Prelude.{◌≡◌, ℕ, ◌+◌, ◌-◌, ◌≤◌, ◌<◌, ◌^◌, List, [], ◌∷◌, ◌++◌, length, set, true, false, ◌==◌}
+use Rattle.std.specs.Prelude.{ℕ, ◌+◌, ◌-◌, min, ◌<◌, ◌^◌, List, [], ◌∷◌, ◌++◌, length, set, true, false, ◌==◌}
 use Rattle.std.specs.Prelude.{if◌then◌else◌, Option, Some, None}
 use Rattle.std.specs.Prelude.{slice_index_or}
 use Rattle.dover_model.specs.declared.events.Event.{Event}
@@ -58,23 +58,27 @@ abbrev pub begun_or : ℕ → Option UnderWay → UnderWay
 begun_or at None = begun at
 begun_or at (Some u) = u
 
+-- a sum, as far as a word takes it
+abbrev pub capped : ℕ → ℕ
+capped n = min n (2 ^ 64 - 1)
+
 -- after a take that displaces so much value
 abbrev pub with_take : ℕ → ℕ → UnderWay → UnderWay
 with_take at value u = record
-    { interval = record u.interval { until = at; displaced = u.interval.displaced + value }; took = true }
+    { interval = record u.interval { until = at; displaced = capped (u.interval.displaced + value) }; took = true }
 
 -- after a completion
 abbrev pub with_completion : ℕ → ℕ → UnderWay → UnderWay
 with_completion at value u = record u {
   interval =
-      if u.took then record u.interval { until = at; taken = u.interval.taken + value }
-      else record u.interval { until = at; regular = u.interval.regular + value };
+      if u.took then record u.interval { until = at; taken = capped (u.interval.taken + value) }
+      else record u.interval { until = at; regular = capped (u.interval.regular + value) };
 }
 
 -- after an abandonment
 abbrev pub with_abandonment : ℕ → ℕ → UnderWay → UnderWay
 with_abandonment at value u =
-    record u { interval = record u.interval { until = at; abandoned = u.interval.abandoned + value } }
+    record u { interval = record u.interval { until = at; abandoned = capped (u.interval.abandoned + value) } }
 
 -- what is done to the interval under way, if there is one
 abbrev pub in_one : (UnderWay → UnderWay) → Option UnderWay → Option UnderWay
@@ -126,24 +130,10 @@ pub record CanJoin (l : Page) (n : ℕ) : Type 0 where
   pub few : l.active + 1 < 2 ^ 64
   pub small : l.worth + value_at l n < 2 ^ 64
 
--- there is room for what a take displaces
+-- the job is known, and there is room for another era
 pub record CanTake (l : Page) (n : ℕ) : Type 0 where
   pub known : n < length l.jobs
   pub few : l.era + 1 < 2 ^ 32
-  pub small : (u : UnderWay) → l.under_way ≡ Some u → u.interval.displaced + l.worth < 2 ^ 64
-
--- the job is active, and there is room for its value
-pub record CanComplete (l : Page) (n : ℕ) : Type 0 where
-  pub known : n < length l.jobs
-  pub some : 1 ≤ l.active
-  pub worth : value_at l n ≤ l.worth
-  pub small : (u : UnderWay) → l.under_way ≡ Some u → (u.interval.regular + value_at l n < 2 ^ 64)
-      × (u.interval.taken + value_at l n < 2 ^ 64)
-
--- there is room for what is abandoned
-pub record CanAbandon (l : Page) (n : ℕ) : Type 0 where
-  pub known : n < length l.jobs
-  pub small : (u : UnderWay) → l.under_way ≡ Some u → u.interval.abandoned + value_at l n < 2 ^ 64
 
 -- the step can come next
 abbrev pub IsReadable : Page → Event → Type 0
@@ -151,6 +141,6 @@ IsReadable l (Release n job) = Unit {0}
 IsReadable l (Run at n) = CanJoin l n
 IsReadable l (Preempt at stops starts) = CanJoin l starts
 IsReadable l (Take at stops starts) = CanTake l starts
-IsReadable l (Complete at n) = CanComplete l n
-IsReadable l (Abandon at n) = CanAbandon l n
+IsReadable l (Complete at n) = n < length l.jobs
+IsReadable l (Abandon at n) = n < length l.jobs
 IsReadable l (End value) = Unit {0}

@@ -27,7 +27,7 @@ pub struct UnderWay {
 }
 
 impl UnderWay {
-    ghost use Rattle.std.specs.Prelude.{◌≡◌, ◌+◌, ◌<◌, ◌^◌};
+    ghost use Rattle.std.specs.Prelude.{◌≡◌};
     ghost use Rattle.run_record.specs.intervals.Pages.{begun, with_take, with_completion, with_abandonment};
 
     /// The interval that starts at this tick.
@@ -49,34 +49,30 @@ impl UnderWay {
 
     /// A take displaces so much value.
     pub fn displace(&mut self, at: u64, value: u64)
-        requires { self.old.interval.displaced + value < 2 ^ 64 }
         ensures { self.new ≡ with_take at value self.old }
     {
         self.interval.until = at;
-        self.interval.displaced += value;
+        self.interval.displaced = self.interval.displaced.saturating_add(value);
         self.took = true;
     }
 
     /// A job of this value is done.
     pub fn complete(&mut self, at: u64, value: u64)
-        requires regular { self.old.interval.regular + value < 2 ^ 64 }
-        requires taken { self.old.interval.taken + value < 2 ^ 64 }
         ensures { self.new ≡ with_completion at value self.old }
     {
         self.interval.until = at;
         if self.took {
-            self.interval.taken += value;
+            self.interval.taken = self.interval.taken.saturating_add(value);
         } else {
-            self.interval.regular += value;
+            self.interval.regular = self.interval.regular.saturating_add(value);
         }
     }
 
     /// A job of this value is gone.
     pub fn abandon(&mut self, at: u64, value: u64)
-        requires { self.old.interval.abandoned + value < 2 ^ 64 }
         ensures { self.new ≡ with_abandonment at value self.old }
     {
         self.interval.until = at;
-        self.interval.abandoned += value;
+        self.interval.abandoned = self.interval.abandoned.saturating_add(value);
     }
 }

@@ -1,7 +1,7 @@
 //! The ledger of a run, kept from its printed steps alone.
-ghost use Rattle.std.specs.Prelude.{◌≡◌, OnOk};
+ghost use Rattle.std.specs.Prelude.{◌≡◌, ◌<◌, length, OnOk};
 ghost use Rattle.run_record.specs.intervals.Pages.{Page, blank, joined, ended, page_taken, with_event};
-ghost use Rattle.run_record.specs.intervals.Pages.{IsReadable, CanJoin, CanTake, CanComplete, CanAbandon};
+ghost use Rattle.run_record.specs.intervals.Pages.{IsReadable, CanJoin, CanTake};
 ghost use Rattle.dover_model.specs.declared.events.Event.TheVariants.{Complete, Abandon};
 
 use crate::intervals::interval::{Interval, UnderWay};
@@ -134,7 +134,7 @@ impl Ledger {
 
     /// The job of this number is done; the interval ends where it was the only active one.
     fn complete(&mut self, at: u64, number: u32) -> Result<(), Memory>
-        requires { CanComplete self.old number }
+        requires { number < length self.old.jobs }
         ensures { OnOk result (self.new ≡ with_event self.old (Complete at number)) }
     {
         let value = u64::from(self.jobs[number as usize].value);
@@ -142,8 +142,8 @@ impl Ledger {
             under_way.complete(at, value);
         }
         let was_last = self.active == 1;
-        self.active -= 1;
-        self.worth -= value;
+        self.active = self.active.saturating_sub(1);
+        self.worth = self.worth.saturating_sub(value);
         if was_last {
             return self.end();
         }
@@ -163,7 +163,7 @@ impl Ledger {
 
     /// The job of this number is gone.
     fn abandon(&mut self, at: u64, number: u32)
-        requires { CanAbandon self.old number }
+        requires { number < length self.old.jobs }
         ensures { self.new ≡ with_event self.old (Abandon at number) }
     {
         let value = u64::from(self.jobs[number as usize].value);

@@ -11,7 +11,7 @@ use Rattle.std.proofs.lemmas.List.Sums.{sum_by-cons, count_by-le-length}
 use Rattle.std.proofs.lemmas.List.Elements.{filter_map-append}
 use Rattle.std.proofs.lemmas.List.Concat.{flat_map-append}
 use Rattle.dover_model.specs.declared.events.Event.{Event}
-use Rattle.dover_model.specs.declared.events.Event.TheVariants.{Release, Run, Preempt, Take, Complete, Abandon, End}
+use Rattle.dover_model.specs.declared.events.Event.TheVariants.{Release, Complete, Abandon}
 use Rattle.dover_model.specs.Fraction.{Fraction}
 use Rattle.dover_model.specs.JobFacts.{JobFacts}
 use Rattle.dover_model.specs.declared.events.Task.{Task}
@@ -19,7 +19,7 @@ use Rattle.dover_model.specs.Instance.{Instance, IsValid}
 use Rattle.dover_model.specs.Session.{Item, FinishItem, admitted_jobs, may_finish_early}
 use Rattle.dover_model.specs.Settled.{finish_now}
 use Rattle.dover_model.specs.State.{running, left}
-use Rattle.dover_model.specs.Step.{Move, Prints, Waits, Ticks}
+use Rattle.dover_model.specs.Step.{Move, Prints}
 use Rattle.dover_model.specs.Trace.{handed_by, early_of as shown_early}
 use Rattle.dover_model.specs.Run.{Step, run, event_of, printed_of, printed, completed_value}
 use Rattle.dover_model.specs.Intervals as model
@@ -65,12 +65,7 @@ released_more run i e jobs is there before =
 as_released : (run : List Event) → jobs_released run ≡ releases run
 as_released [] = refl
 as_released (Release n job ∷ run) = ap (λ js. job ∷ js) (as_released run)
-as_released (Run at n ∷ run) = as_released run
-as_released (Preempt at stops starts ∷ run) = as_released run
-as_released (Take at stops starts ∷ run) = as_released run
-as_released (Complete at n ∷ run) = as_released run
-as_released (Abandon at n ∷ run) = as_released run
-as_released (End value ∷ run) = as_released run
+as_released (_ ∷ run) = as_released run
 
 -- steps release the jobs that they show to have been handed in
 released_shown : (xs : List Step) → releases (printed_of xs) ≡ admitted_jobs (filter_map handed_by xs)
@@ -91,14 +86,8 @@ released_shown (x ∷ xs) = by_move x.move (released_shown xs) where
       → releases (cons_option (event_of m) (printed_of xs))
       ≡ admitted_jobs (cons_option (handed_by (record { before = x.before; move = m })) shown)
   by_move (Prints (Release n j)) rest = ap (λ js. j ∷ js) rest
-  by_move (Prints (Run at n)) rest = rest
-  by_move (Prints (Preempt at stops starts)) rest = rest
-  by_move (Prints (Take at stops starts)) rest = rest
   by_move (Prints (Complete at n)) rest = rest ∙ by_early (running x.before)
-  by_move (Prints (Abandon at n)) rest = rest
-  by_move (Prints (End value)) rest = rest
-  by_move (Waits n) rest = rest
-  by_move Ticks rest = rest
+  by_move _ rest = rest
 
 -- a run releases its jobs, in their order
 pub releases_are : (J : Instance) → IsValid J → releases (printed J) ≡ J.jobs
@@ -113,14 +102,6 @@ run_releases J valid steps prints = as_released steps ∙ ap releases (sym print
 -- jobs that are done
 completions : (run : List Event) → count_by is_completed (filter_map fate_of_event run) ≡ count_by is_completion run
 completions [] = refl
-completions (Release n job ∷ run) =
-    omega (arith, sum_by-cons (λ e. cond (is_completion e) 1 0) (Release n job) run, completions run)
-completions (Run at n ∷ run) =
-    omega (arith, sum_by-cons (λ e. cond (is_completion e) 1 0) (Run at n) run, completions run)
-completions (Preempt at r n ∷ run) =
-    omega (arith, sum_by-cons (λ e. cond (is_completion e) 1 0) (Preempt at r n) run, completions run)
-completions (Take at r n ∷ run) =
-    omega (arith, sum_by-cons (λ e. cond (is_completion e) 1 0) (Take at r n) run, completions run)
 completions (Complete at n ∷ run) = omega (
   arith,
   sum_by-cons (λ e. cond (is_completion e) 1 0) (Complete at n) run,
@@ -133,8 +114,7 @@ completions (Abandon at n ∷ run) = omega (
   sum_by-cons (λ f. cond (is_completed f) 1 0) (Abandoned n at) (filter_map fate_of_event run),
   completions run,
 )
-completions (End value ∷ run) =
-    omega (arith, sum_by-cons (λ e. cond (is_completion e) 1 0) (End value) run, completions run)
+completions (e ∷ run) = omega (arith, sum_by-cons (λ e. cond (is_completion e) 1 0) e run, completions run)
 
 -- the numbers of the jobs that are gone
 abbrev gone : List Event → List ℕ
@@ -143,36 +123,20 @@ gone run = filter_map abandoned_number (filter_map fate_of_event run)
 -- jobs that are gone
 abandonments : (run : List Event) → length (gone run) ≡ count_by is_abandonment run
 abandonments [] = refl
-abandonments (Release n job ∷ run) =
-    omega (arith, sum_by-cons (λ e. cond (is_abandonment e) 1 0) (Release n job) run, abandonments run)
-abandonments (Run at n ∷ run) =
-    omega (arith, sum_by-cons (λ e. cond (is_abandonment e) 1 0) (Run at n) run, abandonments run)
-abandonments (Preempt at r n ∷ run) =
-    omega (arith, sum_by-cons (λ e. cond (is_abandonment e) 1 0) (Preempt at r n) run, abandonments run)
-abandonments (Take at r n ∷ run) =
-    omega (arith, sum_by-cons (λ e. cond (is_abandonment e) 1 0) (Take at r n) run, abandonments run)
-abandonments (Complete at n ∷ run) =
-    omega (arith, sum_by-cons (λ e. cond (is_abandonment e) 1 0) (Complete at n) run, abandonments run)
 abandonments (Abandon at n ∷ run) =
     omega (arith, sum_by-cons (λ e. cond (is_abandonment e) 1 0) (Abandon at n) run, abandonments run)
-abandonments (End value ∷ run) =
-    omega (arith, sum_by-cons (λ e. cond (is_abandonment e) 1 0) (End value) run, abandonments run)
+abandonments (e ∷ run) = omega (arith, sum_by-cons (λ e. cond (is_abandonment e) 1 0) e run, abandonments run)
 
 -- their value
 losses : (jobs : List JobFacts) (run : List Event) → sum_by (value_in jobs) (gone run) ≡ all_lost jobs run
 losses jobs [] = refl
-losses jobs (Release n job ∷ run) = omega (arith, sum_by-cons (value_lost jobs) (Release n job) run, losses jobs run)
-losses jobs (Run at n ∷ run) = omega (arith, sum_by-cons (value_lost jobs) (Run at n) run, losses jobs run)
-losses jobs (Preempt at r n ∷ run) = omega (arith, sum_by-cons (value_lost jobs) (Preempt at r n) run, losses jobs run)
-losses jobs (Take at r n ∷ run) = omega (arith, sum_by-cons (value_lost jobs) (Take at r n) run, losses jobs run)
-losses jobs (Complete at n ∷ run) = omega (arith, sum_by-cons (value_lost jobs) (Complete at n) run, losses jobs run)
 losses jobs (Abandon at n ∷ run) = omega (
   arith,
   sum_by-cons (value_lost jobs) (Abandon at n) run,
   sum_by-cons (value_in jobs) n (gone run),
   losses jobs run,
 )
-losses jobs (End value ∷ run) = omega (arith, sum_by-cons (value_lost jobs) (End value) run, losses jobs run)
+losses jobs (e ∷ run) = omega (arith, sum_by-cons (value_lost jobs) e run, losses jobs run)
 
 -- what the steps tell, put together
 pub counts_are : (k : Fraction) (run : List Event) (totals : JobTotals) (jobs : List JobFacts)
@@ -209,18 +173,7 @@ pub releases_count : (run : List Event) → count_by is_release run ≡ length (
 releases_count [] = refl
 releases_count (Release n job ∷ run) =
     omega (arith, sum_by-cons (λ e. cond (is_release e) 1 0) (Release n job) run, releases_count run)
-releases_count (Run at n ∷ run) =
-    omega (arith, sum_by-cons (λ e. cond (is_release e) 1 0) (Run at n) run, releases_count run)
-releases_count (Preempt at r n ∷ run) =
-    omega (arith, sum_by-cons (λ e. cond (is_release e) 1 0) (Preempt at r n) run, releases_count run)
-releases_count (Take at r n ∷ run) =
-    omega (arith, sum_by-cons (λ e. cond (is_release e) 1 0) (Take at r n) run, releases_count run)
-releases_count (Complete at n ∷ run) =
-    omega (arith, sum_by-cons (λ e. cond (is_release e) 1 0) (Complete at n) run, releases_count run)
-releases_count (Abandon at n ∷ run) =
-    omega (arith, sum_by-cons (λ e. cond (is_release e) 1 0) (Abandon at n) run, releases_count run)
-releases_count (End value ∷ run) =
-    omega (arith, sum_by-cons (λ e. cond (is_release e) 1 0) (End value) run, releases_count run)
+releases_count (e ∷ run) = omega (arith, sum_by-cons (λ e. cond (is_release e) 1 0) e run, releases_count run)
 
 -- ---- jobs that completed with work left
 
@@ -232,42 +185,26 @@ module _ (jobs : List JobFacts) (hads : List ℕ) where
   -- how much is left of them
   early_left : (run : List Event) → sum_by (left_in jobs hads) (done run) ≡ sum_by (left_at jobs hads) run
   early_left [] = refl
-  early_left (Release n job ∷ run) = omega (arith, sum_by-cons (left_at jobs hads) (Release n job) run, early_left run)
-  early_left (Run at n ∷ run) = omega (arith, sum_by-cons (left_at jobs hads) (Run at n) run, early_left run)
-  early_left (Preempt at r n ∷ run) =
-      omega (arith, sum_by-cons (left_at jobs hads) (Preempt at r n) run, early_left run)
-  early_left (Take at r n ∷ run) = omega (arith, sum_by-cons (left_at jobs hads) (Take at r n) run, early_left run)
   early_left (Complete at n ∷ run) = omega (
     arith,
     sum_by-cons (left_at jobs hads) (Complete at n) run,
     sum_by-cons (left_in jobs hads) n (done run),
     early_left run,
   )
-  early_left (Abandon at n ∷ run) = omega (arith, sum_by-cons (left_at jobs hads) (Abandon at n) run, early_left run)
-  early_left (End value ∷ run) = omega (arith, sum_by-cons (left_at jobs hads) (End value) run, early_left run)
+  early_left (e ∷ run) = omega (arith, sum_by-cons (left_at jobs hads) e run, early_left run)
 
   -- how many there are
   early_count : (run : List Event)
       → count_by (λ n. nat_lt 0 (left_in jobs hads n)) (done run) ≡ count_by (λ e. nat_lt 0 (left_at jobs hads e)) run
   early_count [] = refl
-  early_count (Release n job ∷ run) =
-      omega (arith, sum_by-cons (λ e. cond (nat_lt 0 (left_at jobs hads e)) 1 0) (Release n job) run, early_count run)
-  early_count (Run at n ∷ run) =
-      omega (arith, sum_by-cons (λ e. cond (nat_lt 0 (left_at jobs hads e)) 1 0) (Run at n) run, early_count run)
-  early_count (Preempt at r n ∷ run) =
-      omega (arith, sum_by-cons (λ e. cond (nat_lt 0 (left_at jobs hads e)) 1 0) (Preempt at r n) run, early_count run)
-  early_count (Take at r n ∷ run) =
-      omega (arith, sum_by-cons (λ e. cond (nat_lt 0 (left_at jobs hads e)) 1 0) (Take at r n) run, early_count run)
   early_count (Complete at n ∷ run) = omega (
     arith,
     sum_by-cons (λ e. cond (nat_lt 0 (left_at jobs hads e)) 1 0) (Complete at n) run,
     sum_by-cons (λ n. cond (nat_lt 0 (left_in jobs hads n)) 1 0) n (done run),
     early_count run,
   )
-  early_count (Abandon at n ∷ run) =
-      omega (arith, sum_by-cons (λ e. cond (nat_lt 0 (left_at jobs hads e)) 1 0) (Abandon at n) run, early_count run)
-  early_count (End value ∷ run) =
-      omega (arith, sum_by-cons (λ e. cond (nat_lt 0 (left_at jobs hads e)) 1 0) (End value) run, early_count run)
+  early_count (e ∷ run) =
+      omega (arith, sum_by-cons (λ e. cond (nat_lt 0 (left_at jobs hads e)) 1 0) e run, early_count run)
 
 -- what one step more makes of them
 pub early_more : (jobs : List JobFacts) (hads : List ℕ) (run : List Event) (i : ℕ) (e : Event) → e ≡ get_or run i e

@@ -184,20 +184,9 @@ module _ (J : Instance) (valid : IsValid J) where
   step_names : (m : Move) (es : List Event) → is_end m ≡ false
       → named (cons_option (event_of m) es) + all_lost J.jobs (cons_option (event_of m) es)
       ≡ named es + all_lost J.jobs es + lost_in J.jobs m
-  step_names (Prints (event.Release n j)) es on =
-      omega (arith, sum_by-cons (value_lost J.jobs) (event.Release n j) es)
-  step_names (Prints (event.Run at n)) es on = omega (arith, sum_by-cons (value_lost J.jobs) (event.Run at n) es)
-  step_names (Prints (event.Preempt at stops starts)) es on =
-      omega (arith, sum_by-cons (value_lost J.jobs) (event.Preempt at stops starts) es)
-  step_names (Prints (event.Take at stops starts)) es on =
-      omega (arith, sum_by-cons (value_lost J.jobs) (event.Take at stops starts) es)
-  step_names (Prints (event.Complete at n)) es on =
-      omega (arith, sum_by-cons (value_lost J.jobs) (event.Complete at n) es)
-  step_names (Prints (event.Abandon at n)) es on =
-      omega (arith, sum_by-cons (value_lost J.jobs) (event.Abandon at n) es)
   step_names (Prints (event.End value)) es on = never (sym on)
-  step_names (Waits n) es on = omega arith
-  step_names Ticks es on = omega arith
+  step_names (Prints e) es on = omega (arith, sum_by-cons (value_lost J.jobs) e es)
+  step_names _ es on = omega arith
 
   -- where all jobs are over, those that aren't gone are done
   over_keeps : (tasks : List Task) → Each (λ t. is_over t ≡ true) tasks

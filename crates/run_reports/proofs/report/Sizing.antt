@@ -3,7 +3,7 @@ use Rattle.std.proofs.Common.{◌≡◌, ◌+◌, ◌≤◌, List, [], ◌∷◌
 use Rattle.std.specs.List.{sum_by, cons_option}
 use Rattle.std.proofs.lemmas.List.Sums.{sum_by-cons}
 use Rattle.dover_model.specs.declared.events.Event.{Event}
-use Rattle.dover_model.specs.declared.events.Event.TheVariants.{Release, Run, Preempt, Take, Complete, Abandon, End}
+use Rattle.dover_model.specs.declared.events.Event.TheVariants.{Release}
 use Rattle.dover_model.specs.declared.events.Version.TheVariants.{Two}
 use Rattle.dover_model.specs.Instance.{Instance, IsListable, IsValid, total_value}
 use Rattle.dover_model.specs.Limits.{most_jobs, most_total}
@@ -23,12 +23,7 @@ released_total (e ∷ run) = sum_by-cons value_released e run
       by_step : (e : Event) (jobs : List JobFacts)
           → value_released e + total_value jobs ≡ total_value (cons_option (job_released e) jobs)
       by_step (Release n job) jobs = sym (sum_by-cons (λ (j : JobFacts). j.value) job jobs)
-      by_step (Run at n) jobs = omega arith
-      by_step (Preempt at stops starts) jobs = omega arith
-      by_step (Take at stops starts) jobs = omega arith
-      by_step (Complete at n) jobs = omega arith
-      by_step (Abandon at n) jobs = omega arith
-      by_step (End value) jobs = omega arith
+      by_step _ jobs = omega arith
 
 -- these are the sizes of the run's jobs
 module _ (J : Instance) (valid : IsValid J) (run : List Event) (prints : printed J ≡ run) (totals : JobTotals)

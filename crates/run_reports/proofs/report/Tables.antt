@@ -11,7 +11,7 @@ use Rattle.std.proofs.lemmas.List.{get_or-replicate}
 use Rattle.std.proofs.lemmas.List.{drop_all}
 use Rattle.std.proofs.Math.Seq.{take-append_seam}
 use Rattle.dover_model.specs.declared.events.Event.{Event}
-use Rattle.dover_model.specs.declared.events.Event.TheVariants.{Release, Run, Preempt, Take, Complete, Abandon, End}
+use Rattle.dover_model.specs.declared.events.Event.TheVariants.{Release, Complete, Abandon}
 use Rattle.dover_model.specs.Fraction.{Fraction}
 use Rattle.dover_model.specs.JobFacts.{JobFacts, job_numbers}
 use Rattle.dover_model.specs.Instance.{Instance}
@@ -107,12 +107,7 @@ same_rows run ending had n (Release m j ∷ es) each =
     ap (λ o. row_text n j o (had n) ∷ rows_of_steps ending had (n + 1) es) (each n (omega arith))
     ∙ ap (λ rs. row_text n j (ending_in run n) (had n) ∷ rs)
     (same_rows run ending had (n + 1) es (λ k low. each k (omega (arith, low))))
-same_rows run ending had n (Run at m ∷ es) each = same_rows run ending had n es each
-same_rows run ending had n (Preempt at r m ∷ es) each = same_rows run ending had n es each
-same_rows run ending had n (Take at r m ∷ es) each = same_rows run ending had n es each
-same_rows run ending had n (Complete at m ∷ es) each = same_rows run ending had n es each
-same_rows run ending had n (Abandon at m ∷ es) each = same_rows run ending had n es each
-same_rows run ending had n (End value ∷ es) each = same_rows run ending had n es each
+same_rows run ending had n (_ ∷ es) each = same_rows run ending had n es each
 
 -- all rows behind the names are the table
 pub whole_table : (k : Fraction) (run : List Event) (J : Instance) (of : IsRunOf k run J) (early : Bool)
@@ -144,12 +139,7 @@ passed run a i e is there none before = record {
       → (ending : ℕ → Option Ending) (had : ℕ → Option ℕ) (n : ℕ) (es : List Event)
       → rows_of_steps ending had n (x ∷ es) ≡ rows_of_steps ending had n es
   by_event (Release m j) none ending had n es = absurd (none m j refl)
-  by_event (Run at m) none ending had n es = refl
-  by_event (Preempt at r m) none ending had n es = refl
-  by_event (Take at r m) none ending had n es = refl
-  by_event (Complete at m) none ending had n es = refl
-  by_event (Abandon at m) none ending had n es = refl
-  by_event (End value) none ending had n es = refl
+  by_event _ none ending had n es = refl
 
 -- a release is found
 pub found : (run : List Event) (next i : ℕ) (e : Event) (m : ℕ) (job : JobFacts) → next ≤ i → e ≡ get_or run i e
@@ -236,17 +226,13 @@ read_more run places count left e is there as_many before n low =
 
       by_event : (x : Event) → ending_at run left ≡ ending_by x
           → ending_at run (get_or (with_step places x left) n 0) ≡ ending_in (x ∷ drop (left + 1) run) n
-      by_event (Release m j) ends = before n low
-      by_event (Run at m) ends = before n low
-      by_event (Preempt at r m) ends = before n low
-      by_event (Take at r m) ends = before n low
       by_event (Complete at m) ends =
           place_more run places left n in_range m (Completed at) _ ends (before n low)
           ∙ sym (found_more (model.Completed m at) (filter_map model.fate_of_event (drop (left + 1) run)) n)
       by_event (Abandon at m) ends =
           place_more run places left n in_range m (Abandoned at) _ ends (before n low)
           ∙ sym (found_more (model.Abandoned m at) (filter_map model.fate_of_event (drop (left + 1) run)) n)
-      by_event (End value) ends = before n low
+      by_event _ ends = before n low
 
 -- there are as many places with one more ending
 length_with_place : (places : List ℕ) (m place : ℕ) → length (with_place places m place) ≡ length places
@@ -256,13 +242,9 @@ length_with_place places m place = by_bool _ (nat_lt m (length places))
 
 -- there are as many places as before
 pub as_many_places : (places : List ℕ) (e : Event) (place : ℕ) → length (with_step places e place) ≡ length places
-as_many_places places (Release m j) place = refl
-as_many_places places (Run at m) place = refl
-as_many_places places (Preempt at r m) place = refl
-as_many_places places (Take at r m) place = refl
 as_many_places places (Complete at m) place = length_with_place places m place
 as_many_places places (Abandon at m) place = length_with_place places m place
-as_many_places places (End value) place = refl
+as_many_places places _ place = refl
 
 -- no step stands behind the steps
 there_none : (run : List Event) (i : ℕ) → length run ≤ i → ending_at run i ≡ None

@@ -8,7 +8,7 @@ use Rattle.std.proofs.lemmas.List.{get_or-set_other}
 use Rattle.std.proofs.lemmas.Bool.{cases_lt}
 use Rattle.std.proofs.lemmas.Bool.Decides.{Decides-eqb, Decides-ltb}
 use Rattle.dover_model.specs.declared.events.Event.{Event}
-use Rattle.dover_model.specs.declared.events.Event.TheVariants.{Release, Run, Preempt, Take, Complete, Abandon, End}
+use Rattle.dover_model.specs.declared.events.Event.TheVariants.{Run, Preempt, Take, Complete}
 use Rattle.run_reports.specs.views.Stays.{next_switch, with_stay, stays_of}
 use Rattle.run_reports.specs.views.Book.{Book, blank, linked, begun, with_step, IsLink, Threads, Keeps}
 use Rattle.run_reports.specs.declared.views.stays.Stay.{Stay}
@@ -126,25 +126,20 @@ keeps_none count = record {
 
 -- an earlier step
 pub keeps_more : (b : Book) (e : Event) (steps : List Event) → Keeps b steps → Keeps (with_step b e) (e ∷ steps)
-keeps_more b (Release n job) steps keeps = record { switch = keeps.switch; each = keeps.each }
 keeps_more b (Run at n) steps keeps = record { switch = refl; each = each_begun b at n false steps keeps }
 keeps_more b (Preempt at stops starts) steps keeps =
     record { switch = refl; each = each_begun b at starts false steps keeps }
 keeps_more b (Take at stops starts) steps keeps =
     record { switch = refl; each = each_begun b at starts true steps keeps }
 keeps_more b (Complete at n) steps keeps = record { switch = refl; each = keeps.each }
-keeps_more b (Abandon at n) steps keeps = record { switch = keeps.switch; each = keeps.each }
-keeps_more b (End value) steps keeps = record { switch = keeps.switch; each = keeps.each }
+keeps_more b _ steps keeps = record { switch = keeps.switch; each = keeps.each }
 
 -- a step changes no number of jobs
 pub as_many : (b : Book) (e : Event) → length (with_step b e).firsts ≡ length b.firsts
-as_many b (Release n job) = refl
 as_many b (Run at n) = as_many_begun b at n false
 as_many b (Preempt at stops starts) = as_many_begun b at starts false
 as_many b (Take at stops starts) = as_many_begun b at starts true
-as_many b (Complete at n) = refl
-as_many b (Abandon at n) = refl
-as_many b (End value) = refl
+as_many b _ = refl
 
 -- the step before those that are read
 pub before : (run : List Event) (left : ℕ) (e : Event) (b : Book) → 0 < left → left ≤ length run

@@ -8,11 +8,10 @@ ghost use Rattle.dover_model.specs.Run.{completed_value};
 ghost use Rattle.run_record.specs.intervals.Rows.{IsRunOf};
 ghost use Rattle.run_record.specs.intervals.Totals.{is_release, totals_of};
 ghost use Rattle.run_reports.specs.report.Counts.{job_released, jobs_released, value_in, counts_of};
-ghost use Rattle.run_reports.specs.report.Counts as counts;
 
 use dover_model::{Event, Job, Memory, PackedEvent, Ratio};
 use root_compare::long_bound;
-use run_record::intervals::{Charge, JobTotals};
+use run_record::intervals::Charge;
 use std::alloc::Global;
 
 /// What the summary of a run says: counts of jobs and of takes, and sums of values.
@@ -34,49 +33,8 @@ pub struct Counts {
     pub bound: u128,
 }
 
-/// The counts of these steps, which release these jobs and complete this value.
-pub fn count(k: Ratio, run: &[PackedEvent], jobs: &[Job], value: u64) -> Counts
-    requires steps { length run.now ≤ 5_000_001 }
-    requires total { value ≤ most_total Two }
-    ensures { result ≡ counts_of k run.now jobs.now value }
-{
-    let totals = JobTotals::of(run);
-    Counts {
-        jobs: jobs.len() as u64,
-        completed: totals.completed,
-        value,
-        abandoned: totals.abandoned,
-        lost: all_lost(jobs, run),
-        taken: totals.taken,
-        bound: long_bound(value, k),
-    }
-}
-
-/// The value of the jobs that these steps abandon.
-fn all_lost(jobs: &[Job], run: &[PackedEvent]) -> u64
-    requires { length run.now ≤ 5_000_001 }
-    ensures { result ≡ counts.all_lost jobs.now run.now }
-{
-    let mut lost = 0;
-    for event in run {
-        lost += value_lost(jobs, event);
-    }
-    lost
-}
-
-/// The value of the job that the step abandons, 0 for another step.
-fn value_lost(jobs: &[Job], event: &PackedEvent) -> u64
-    ensures is { result ≡ counts.value_lost jobs.now event.now }
-    ensures modest { result ≤ most_value }
-{
-    match event.event() {
-        Event::Abandon { number, .. } => value_of(jobs, number),
-        _ => 0,
-    }
-}
-
 /// The counts of a run, by its charge. What isn't completed is lost.
-pub(crate) fn run_counts(k: Ratio, charge: &Charge) -> Counts
+pub fn count(k: Ratio, charge: &Charge) -> Counts
     requires { (run : List PrintedStep) × (J : Instance) × IsRunOf k run J × (charge.now.totals ≡ totals_of run)
         × (charge.now.value ≡ completed_value J) }
     ensures { (run : List PrintedStep) (J : Instance) → IsRunOf k run J → charge.now.totals ≡ totals_of run

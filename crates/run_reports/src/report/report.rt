@@ -7,7 +7,7 @@ ghost use Rattle.run_record.specs.intervals.Rows.{IsRunOf};
 ghost use Rattle.run_reports.specs.report.Counts.{fates_lines, counts_lines};
 ghost use Rattle.run_reports.specs.report.Lines.{row_lines};
 
-use crate::report::counts::{Counts, run_counts};
+use crate::report::counts::{Counts, count};
 use crate::report::early::{Early, early_where, put_early};
 use crate::report::lines::{put_line, put_ratio, put_wide_line};
 use dover_model::{Memory, PackedEvent, Ratio, Version};
@@ -43,7 +43,7 @@ impl Findings {
         let early = version.may_finish_early();
         let it = early_where(alloc, early, run)?;
         let charge = Charge::of(alloc, k, run)?;
-        let counts = run_counts(k, &charge);
+        let counts = count(k, &charge);
         Ok(Findings {
             k,
             early,
@@ -91,7 +91,7 @@ pub fn summary(alloc: Global, k: Ratio, run: &[PackedEvent]) -> Result<Vec<u8>, 
 {
     let charge = Charge::of(alloc, k, run)?;
     let mut text = Vec::new(alloc);
-    put_counts(&mut text, run_counts(k, &charge))?;
+    put_counts(&mut text, count(k, &charge))?;
     Ok(text)
 }
 

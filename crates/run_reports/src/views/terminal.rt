@@ -4,7 +4,6 @@ ghost use Rattle.std.specs.Prelude.{if◌then◌else◌};
 ghost use Rattle.run_record.specs.intervals.Rows.{IsRunOf};
 ghost use Rattle.dover_model.specs.declared.events.Event.{Event};
 ghost use Rattle.dover_model.specs.Instance.{Instance};
-ghost use Rattle.dover_model.specs.Run as model;
 ghost use Rattle.run_reports.specs.report.Counts.{counts_lines};
 ghost use Rattle.run_reports.specs.views.Book.{Keeps};
 ghost use Rattle.run_reports.specs.views.Stays.{stays_of};
@@ -15,7 +14,7 @@ use crate::report::{Counts, count, released};
 use crate::views::signs::{put_blanks, put_signs};
 use crate::views::stays::{Stay, Stays};
 use crate::views::template::{put, put_wide};
-use crate::views::window::Window;
+use crate::views::window::{Window, last_deadline};
 use dover_model::{Job, Memory, PackedEvent, Ratio};
 use itoa::Buffer;
 use run_record::intervals::Charge;
@@ -39,7 +38,7 @@ pub fn timeline(
     let jobs = released(alloc, run)?;
     let window = window_or(window, &jobs);
     let mut text = Vec::new(alloc);
-    put_summary(&mut text, count(k, run, &jobs, charge.value()))?;
+    put_summary(&mut text, count(k, &charge))?;
     put_frame(&mut text, &window)?;
     put_jobs(alloc, &mut text, &window, run, &jobs)?;
     Ok(text)
@@ -56,19 +55,6 @@ fn window_or(window: Option<Window>, jobs: &[Job]) -> Window
             until: last_deadline(jobs).max(1),
         },
     }
-}
-
-/// The greatest deadline, 0 where there is no job.
-fn last_deadline(jobs: &[Job]) -> u64
-    ensures { result ≡ model.last_deadline jobs.now }
-{
-    let mut last = 0;
-    for job in jobs {
-        if last <= job.deadline() {
-            last = job.deadline();
-        }
-    }
-    last
 }
 
 /// Appends the lines of a summary, as one.

@@ -9,8 +9,5 @@ put_by_lanes-requires-clause-from c = c.requires.from
 pub loaded-requires-2-clause-steps : goal.loaded-requires-2-clause-steps
 loaded-requires-2-clause-steps c = c.requires.steps
 
-pub loaded-requires-2-clause-jobs : goal.loaded-requires-2-clause-jobs
-loaded-requires-2-clause-jobs c = c.requires.jobs
-
 pub loaded-requires-2-clause-from : goal.loaded-requires-2-clause-from
 loaded-requires-2-clause-from c = c.requires.from

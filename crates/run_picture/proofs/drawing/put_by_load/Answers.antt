@@ -9,7 +9,7 @@ pub returns : goal.returns
 unfolding load by_load
 returns c =
     let w = c.args.window in
-    let lanes = c.args.lanes.now in
+    let lanes = c.args.seen.now in
     let jobs = c.args.jobs.now in
     let run = c.args.run.now in
     let pieces = c.args.pieces.now in

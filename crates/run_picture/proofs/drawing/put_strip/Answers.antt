@@ -9,7 +9,7 @@ unfolding strip
 returns c = IfOk-equal c.put_numbers.result _ _ _ c.put_numbers.ensures
     (joined c.args.text.now.items
     (strip_border
-    ∷ all_bars (record { window = c.args.window; unit = 0; least = c.args.least }) c.args.lanes.now 22 c.args.pieces.now
+    ∷ all_bars (record { window = c.args.window; unit = 0; least = c.args.least }) c.args.seen.now 22 c.args.pieces.now
     ∷ strip_numbers c.args.window c.args.pieces.now
     ∷ []) _ (
       _,

@@ -8,7 +8,7 @@ use Rattle.run_picture.proofs.labels.put_label.Goals as goal
 pub returns-then-shows : goal.returns-then-shows
 returns-then-shows c =
     let w = c.args.window in
-    let s = c.args.lane.now.seen in
+    let s = c.args.lane.now in
     let text = c.args.text.now.items in
     let y = middle c.args.unit c.args.lane.now in
     IfOk-equal c.put_loss.result _ _ _ c.put_loss.ensures

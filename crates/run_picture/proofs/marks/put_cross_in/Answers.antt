@@ -13,8 +13,8 @@ returns-then-shows c =
     let text = c.args.text.now.items in
     let x = x_at w c.args.at in
     let high = c.args.unit / 2 in
-    let tested : true ≡ (has w c.args.at && shows w lane.seen) = sym c.if-shows.true ∙ c.shows.ensures
-    ∙ ap (λ a. a && shows w lane.seen) (sym c.if-has.true ∙ c.has.ensures) in
+    let tested : true ≡ (has w c.args.at && shows w lane) = sym c.if-shows.true ∙ c.shows.ensures
+    ∙ ap (λ a. a && shows w lane) (sym c.if-has.true ∙ c.has.ensures) in
     IfOk-equal c.put.result _ _ _ c.put.ensures
     (ap (λ l. text ++ cross_from l c.saturating_sub-top.result high)
     (c.saturating_sub-left.ensures ∙ ap (λ n. n - 3) c.x_at.ensures.is)

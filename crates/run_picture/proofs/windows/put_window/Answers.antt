@@ -19,7 +19,7 @@ returns c =
     let told = numbers s.number s.release s.deadline s.work s.value in
     IfOk-equal c.put_text-2.result _ _ _ c.put_text-2.ensures
     (joined text
-    (fore ∷ dash ∷ (codes "'><title>" ++ told) ∷ weighed s ∷ ended s.fate ∷ codes "</title></path>\n" ∷ []) _ (
+    (fore ∷ dash ∷ (codes "'><title>" ++ told) ∷ weighed s ∷ ended s.ending ∷ codes "</title></path>\n" ∷ []) _ (
       _,
       rw (c.front.ensures, c.is_gone.ensures) at c.in_ok-put_text.ensures,
       (
@@ -32,5 +32,5 @@ returns c =
         ),
       ),
     )
-    ∙ ap (λ l. text ++ l) (titled fore dash (codes "'><title>") told (weighed s) (ended s.fate)
+    ∙ ap (λ l. text ++ l) (titled fore dash (codes "'><title>") told (weighed s) (ended s.ending)
     (codes "</title></path>\n")))

@@ -3,7 +3,7 @@ use Rattle.std.specs.Prelude.{Option, None}
 use Rattle.std.specs.Option.{option_map_or}
 use Rattle.std.proofs.lemmas.Option.{slice_get_past, slice_get_read}
 use Rattle.dover_model.specs.declared.events.Event.{Event}
-use Rattle.dover_model.specs.declared.events.Event.TheVariants.{Release, Run, Preempt, Take, Complete, Abandon, End}
+use Rattle.dover_model.specs.declared.events.Event.TheVariants.{Complete, Abandon}
 use Rattle.run_reports.specs.declared.report.endings.Ending.{Ending}
 use Rattle.run_reports.specs.report.Rows.{ending_by, ending_at}
 use Rattle.run_reports.proofs.report.endings.ending_at.Goals as goal
@@ -17,13 +17,9 @@ as_read c = ap ending_by c.event.ensures ∙ ap (λ e. option_map_or ending_by e
 -- no other step ends a job
 ends_none : (e : Event) → ((at n : ℕ) → e ≡ Complete at n → ⊥) → ((at n : ℕ) → e ≡ Abandon at n → ⊥)
     → (let none : Option Ending = None in none) ≡ ending_by e
-ends_none (Release n job) no_complete no_abandon = refl
-ends_none (Run at n) no_complete no_abandon = refl
-ends_none (Preempt at stops starts) no_complete no_abandon = refl
-ends_none (Take at stops starts) no_complete no_abandon = refl
 ends_none (Complete at n) no_complete no_abandon = absurd (no_complete at n refl)
 ends_none (Abandon at n) no_complete no_abandon = absurd (no_abandon at n refl)
-ends_none (End value) no_complete no_abandon = refl
+ends_none _ no_complete no_abandon = refl
 
 pub returns-in-Abandon : goal.returns-in-Abandon
 returns-in-Abandon c = ap ending_by (sym c.in-Abandon.is ∙ c.event.ensures)

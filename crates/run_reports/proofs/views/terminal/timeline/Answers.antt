@@ -1,34 +1,32 @@
-use Rattle.std.proofs.Common.{◌++◌, ap, ◌∙◌, arith}
-use Rattle.run_reports.specs.report.Counts.{counts_lines}
-use Rattle.run_reports.proofs.report.Counting.{few_steps, value_small, summary_is}
+use Rattle.std.proofs.Common.{◌++◌, ap, ◌∙◌, refl}
+use Rattle.run_reports.specs.report.Counts.{counts_lines, jobs_released}
+use Rattle.run_reports.proofs.report.Counting.{summary_is}
 use Rattle.run_reports.specs.views.Timeline.{job_lines, window_or}
 use Rattle.run_reports.proofs.views.Drawing.{drawn}
 use Rattle.std.proofs.lemmas.Result.{IfOk-from_err}
 use Rattle.run_reports.proofs.views.terminal.timeline.Goals as goal
 
-pub count-requires-clause-steps : goal.count-requires-clause-steps
-count-requires-clause-steps c = few_steps c.args.k c.args.run.now c.requires.0 c.requires.1
-
-pub count-requires-clause-total : goal.count-requires-clause-total
-count-requires-clause-total c =
-    omega (
-      arith,
-      c.value.ensures,
-      c.in_ok-charge.ensures.value c.requires.0 c.requires.1,
-      value_small c.args.k c.args.run.now c.requires.0
-          c.requires.1,
-    )
+pub count-requires : goal.count-requires
+count-requires c = (
+  c.args.run.now,
+  c.requires.0,
+  c.requires.1,
+  c.in_ok-charge.ensures.totals,
+  c.in_ok-charge.ensures.value c.requires.0 c.requires.1,
+)
 
 pub returns : goal.returns
 returns c J of = drawn c.args.k c.args.run.now J of c.args.window c.window_or-window.result c.in_ok-jobs.jobs.items
     (counts_lines c.count.result) _ _ _ _ c.in_ok-jobs.ensures
     (c.window_or-window.ensures ∙ ap (window_or c.args.window) c.deref.ensures.value)
-    (ap counts_lines c.count.ensures ∙ summary_is c.args.k c.args.run.now J of c.deref-2.result.now c.value.result
-    (c.deref-2.ensures.value ∙ c.in_ok-jobs.ensures) (c.value.ensures ∙ c.in_ok-charge.ensures.value J of))
+    (ap counts_lines (c.count.ensures c.args.run.now J of c.in_ok-charge.ensures.totals
+    (c.in_ok-charge.ensures.value J of))
+    ∙ summary_is c.args.k c.args.run.now J of (jobs_released c.args.run.now) c.in_ok-charge.charge.value refl
+    (c.in_ok-charge.ensures.value J of))
     c.new-text.ensures.items c.in_ok-put_summary.ensures c.in_ok-put_frame.ensures
     (c.in_ok-put_jobs.ensures
     ∙ ap (λ js. c.put_frame.new.text.items ++ job_lines c.window_or-window.result c.args.run.now 0 js)
-    c.deref-3.ensures.value)
+    c.deref-2.ensures.value)
 
 pub returns-in_err-put_jobs : goal.returns-in_err-put_jobs
 returns-in_err-put_jobs c _ _ =

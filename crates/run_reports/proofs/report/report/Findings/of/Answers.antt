@@ -8,8 +8,8 @@ use Rattle.run_reports.specs.report.Lines.{ratio_line, row_lines}
 use Rattle.run_reports.proofs.report.Counting.{same_where, report_is}
 use Rattle.run_reports.proofs.report.report.Findings.of.Goals as goal
 
-pub run_counts-counts-requires : goal.run_counts-counts-requires
-run_counts-counts-requires c = (
+pub count-counts-requires : goal.count-counts-requires
+count-counts-requires c = (
   c.args.run.now,
   c.requires.0,
   c.requires.1,
@@ -26,7 +26,7 @@ returns c J of three =
     let rows = in_lines (row_lines c.in_ok-charge.charge.rows) in
     let head = in_lines (ratio_line c.args.k ∷ []) in
     ap (λ n. (((head ++ in_lines (fates_lines n)) ++ in_lines (lines_where early c.in_ok-it.it))
-    ++ in_lines (bound_line n ∷ [])) ++ rows) (c.run_counts-counts.ensures run J of c.in_ok-charge.ensures.totals
+    ++ in_lines (bound_line n ∷ [])) ++ rows) (c.count-counts.ensures run J of c.in_ok-charge.ensures.totals
     (c.in_ok-charge.ensures.value J of))
     ∙ ap (λ ls. (((head ++ in_lines (fates_lines counts)) ++ in_lines ls) ++ in_lines (bound_line counts ∷ []))
     ++ rows)

@@ -4,7 +4,7 @@ use Rattle.std.specs.List.{fold}
 use Rattle.dover_model.specs.JobFacts.{JobFacts}
 use Rattle.dover_model.specs.Limits.{last_tick}
 use Rattle.dover_model.specs.Run.{last_deadline}
-use Rattle.run_picture.proofs.drawing.last_deadline.Given as goal
+use Rattle.run_reports.proofs.views.window.last_deadline.Given as goal
 
 -- the greatest deadline so far, and those to come
 abbrev pub invariant-loop-job : goal.invariant-loop-job
