@@ -2,11 +2,9 @@
 use Rattle.std.proofs.Common.{◌≡◌, ℕ, ◌+◌, ◌*◌, ◌≤◌, ◌<◌, List, [], ◌∷◌, ◌++◌, length, length-append, refl, sym, ap}
 use Rattle.std.proofs.Common.{◌∙◌}
 use Rattle.std.proofs.Common.{subst, Bool, true, false, cond, arith, Option, Some, None}
-use Rattle.std.specs.Prelude.{is_some, nat_lt, nat_le, ◌&&◌, filter_map}
+use Rattle.std.specs.Prelude.{is_some, nat_lt, nat_le, ◌&&◌}
 use Rattle.std.proofs.lemmas.Bool.{false_from_ne_true, le-leb, le-ltb, lt-ltb, ltb-true, ltb-false}
-use Rattle.std.proofs.lemmas.List.{append-nil}
 use Rattle.std.proofs.lemmas.List.Elements.{filter_map-append}
-use Rattle.admission.specs.Kept as admission
 use Rattle.std.specs.Option.{option_map}
 use Rattle.std.specs.List.{filter}
 use Rattle.ready_jobs.proofs.Courses.{follows_count}
@@ -19,46 +17,40 @@ use Rattle.dover_model.specs.declared.events.Event.TheVariants.{Complete}
 use Rattle.dover_model.specs.declared.events.Role.TheVariants.{Running}
 use Rattle.dover_model.specs.declared.events.Task.{Task}
 use Rattle.dover_model.specs.Sound.{IsMember}
-use Rattle.dover_model.specs.State.{State, opening, running, is_running, is_over}
+use Rattle.dover_model.specs.State.{State, running, is_running, is_over}
 use Rattle.dover_model.specs.Step.{Prints, after}
-use Rattle.dover_model.specs.Run.{Step, printed_of}
-use Rattle.dover_model.specs.Settled.{settled, settled_steps, settled_state, last_of, finish_now}
+use Rattle.dover_model.specs.Run.{printed_of}
+use Rattle.dover_model.specs.Settled.{settled, settled_state, last_of, finish_now}
 use Rattle.dover_model.specs.Session.{FinishItem, EarlyFinish, Session, instance_of, admitted_jobs, with_item}
-use Rattle.dover_model.specs.Session.{job_of_item, refused_of_item, finish_at, early_at, may_finish_early, ready_at}
+use Rattle.dover_model.specs.Session.{job_of_item, finish_at, early_at, may_finish_early, ready_at}
 use Rattle.dover_model.specs.Text.{text_of}
 use Rattle.dover_model.specs.Verdict.{named_item, begins_trace}
 use Rattle.dover_model.specs.Leading.{WaitsUntil}
-use Rattle.dover_model.specs.WholeRun.{IsSettledRun, IsBarrier}
-use Rattle.dover_model.specs.Paths.{IsOpenPath}
-use Rattle.dover_model.proofs.Ending.{few_printed}
+use Rattle.dover_model.specs.WholeRun.{IsBarrier}
 use Rattle.dover_model.proofs.Growing.{finish_instance}
 use Rattle.dover_model.proofs.LastSteps.{last_tells}
-use Rattle.dover_model.proofs.Leading.{settles_passes, passes_settled, passes_append, settles_silent, leads_passes}
-use Rattle.dover_model.proofs.Leading.{leads_later_mark}
 use Rattle.dover_model.proofs.Members.{found, some_same}
-use Rattle.dover_model.proofs.Paths.{one_settled_run}
-use Rattle.dover_model.proofs.Resting.{path_state}
 use Rattle.dover_model.proofs.RightFinishes.{all_before, FinishSays, finish_says, right_finish, none_late, none_other}
 use Rattle.dover_model.proofs.Roles.{passes, is_running_role}
-use Rattle.dover_model.proofs.Runs.{printed_append}
 use Rattle.dover_model.proofs.Tests.{never}
 use Rattle.dover_model.proofs.Waiting.{some_goes_on}
 use Rattle.line_text.specs.declared.traces.lines.TraceLine.TheVariants.{Step as StepLine}
 use Rattle.line_text.specs.traces.Form.{HasForm}
 use Rattle.ready_jobs.specs.Course.{Course, Follows, Finishes, Runs, RunsNowhere}
-use Rattle.trace_judge.specs.Reading.{Sees, completion_text}
+use Rattle.trace_judge.specs.Reading.{completion_text}
 use Rattle.trace_judge.specs.declared.stage.Stage.TheVariants.{Going}
-use Rattle.trace_judge.specs.Reads.{Reading, Goes, ReadsAhead, Reads, StaysAhead, IsReader, HasSpare, kept_steps, Took}
+use Rattle.trace_judge.specs.Reads.{Reading, Goes, ReadsAhead, Reads, StaysAhead, IsReader, HasSpare, Took}
 use Rattle.trace_judge.specs.Reads.{Followed, Waited, at_tick, CanComplete, MayNotComplete}
-use Rattle.trace_judge.proofs.Continuing.{settled_from_floor, passes_path, sees_completion, sees_completion_prints}
+use Rattle.trace_judge.proofs.Continuing.{sees_completion}
 use Rattle.trace_judge.proofs.Naming.{step_named}
 use Rattle.trace_judge.proofs.Only.{only_completion}
-use Rattle.trace_judge.proofs.Readings.{goes_of, ahead_of, here_of, reads_of, reads_ahead, room_kept, room_left}
+use Rattle.trace_judge.proofs.Readings.{goes_of, here_of, reads_of, reads_ahead, room_kept, room_left}
 use Rattle.trace_judge.proofs.Readings.{version_kept}
 use Rattle.trace_judge.proofs.Seeing.{sees_rest}
-use Rattle.trace_judge.proofs.Taking.{kept_more, kept_length, last_more}
 use Rattle.dover_model.proofs.SessionParts.{MayFinish, session_jobs}
 use Rattle.trace_judge.proofs.Follows.{finish_parts}
+use Rattle.trace_judge.proofs.Continuing.{printed_there, state_there, SeesWith}
+use Rattle.trace_judge.proofs.Readings.{room_for, GoesHere, here_reader, goes_some, item_more, no_job}
 
 -- ---- whether a finish is right
 
@@ -80,35 +72,14 @@ module _ (r : Reading) (at : ℕ) (ls : List (List ℕ)) (S : Session) (z y : St
   abbrev there : State
   there = at_tick at y.tasks
 
-  -- what is settled at the tick: what was printed, and the silent steps
-  all_settled : settled_steps J at ≡ waited.goes.sees.steps ++ waited.waits.steps
-  all_settled =
-      let it : (ys : List Step) × IsSettledRun J.rules at z ys
-      × (settled_steps J at ≡ waited.goes.sees.steps ++ ys) =
-      settled_from_floor ls S r.floor z waited.goes.sees at waited.no_fall in
-      it.2 ∙ ap (λ ys. waited.goes.sees.steps ++ ys)
-      (one_settled_run J.rules at it.0 (waited.waits.steps ++ []) z it.1
-      (passes_settled J.rules at waited.waits.steps [] z there
-      (settles_passes J.rules at waited.waits.steps z there waited.waits.settles) waited.waits.barrier)
-      ∙ append-nil waited.waits.steps)
-
   -- no more is printed then
   last_is : last_of (settled J at) ≡ r.last
-  last_is = ap last_of (ap printed_of all_settled ∙ printed_append waited.goes.sees.steps waited.waits.steps
-      ∙ ap (λ es. printed_of waited.goes.sees.steps ++ es)
-      (settles_silent J.rules at waited.waits.steps z there waited.waits.settles)
-      ∙ append-nil (printed_of waited.goes.sees.steps)) ∙ sym waited.goes.last
+  last_is = ap last_of (printed_there ls S r.floor z waited.goes.sees at there waited.no_fall waited.waits)
+      ∙ sym waited.goes.last
 
   -- the state there
   pub state_is : settled_state J at ≡ there
-  state_is = path_state J.rules at (settled_steps J at) (opening J.jobs) there
-      (subst (λ steps. IsOpenPath J.rules at (opening J.jobs) steps there) (sym all_settled)
-      (passes_path J.rules at (waited.goes.sees.steps ++ waited.waits.steps) (opening J.jobs) there
-      (passes_append J.rules at waited.goes.sees.steps waited.waits.steps (opening J.jobs) z there
-      (leads_passes J.rules at waited.goes.sees.steps (opening J.jobs) z
-      (leads_later_mark J.rules r.floor at waited.no_fall waited.goes.sees.steps (opening J.jobs) z
-      waited.goes.sees.leads))
-      (settles_passes J.rules at waited.waits.steps z there waited.waits.settles))))
+  state_is = state_there ls S r.floor z waited.goes.sees at there waited.no_fall waited.waits
 
   -- as many jobs are ready there as the course keeps
   pub ready_is : length r.course.ready ≡ ready_at J at
@@ -232,34 +203,29 @@ module _ (r : Reading) (at number : ℕ) (ls : List (List ℕ)) (can : CanComple
   y_done = after y (Prints (Complete f.at f.finish.number))
 
   -- the lines with its completion
-  abbrev sees : Sees (ls ++ completion_text f ∷ []) S_done at y_done
+  abbrev sees : SeesWith (ls ++ completion_text f ∷ []) S_done at y_done
+      (printed_of can.waited.goes.sees.steps ++ Complete at says.job.number ∷ [])
   sees = sees_completion ls S r.floor can.from can.waited.goes.sees f can.waited.goes.idles.0 y can.room may_f
-      can.waited.goes.idles.1 at_clock barrier_f
-
-  -- it is printed behind the others
-  prints : printed_of sees.steps ≡ printed_of can.waited.goes.sees.steps ++ Complete at says.job.number ∷ []
-  prints = sees_completion_prints ls S r.floor can.from can.waited.goes.sees f can.waited.goes.idles.0 y can.room may_f
       can.waited.goes.idles.1 at_clock barrier_f
 
   -- there is room for it
   pub done_room : HasSpare r → r.keep ≡ true → length r.steps < r.room
   done_room spare keep =
-      let all : 5 * (r.course.jobs + r.spare) + 1 ≤ r.room = spare.steps keep in
-      let rest = sees_rest (ls ++ completion_text f ∷ []) S_done at y_done sees in
-      let jobs : admitted_jobs S_done.items ≡ admitted_jobs S.items =
-      filter_map-append job_of_item S.items (FinishItem f ∷ []) ∙ append-nil (admitted_jobs S.items) in
-      omega (
+      let rest = sees_rest (ls ++ completion_text f ∷ []) S_done at y_done sees.0 in
+      room_for r ls S can.from y can.waited.goes spare keep (instance_of S_done) (session_jobs sees.0.valid)
+      (omega (
+        arith,
+        ap length rest.2,
+        length-append (printed_of sees.0.steps) (printed_of rest.0),
+        ap length sees.1,
+        length-append (printed_of can.waited.goes.sees.steps) (Complete at says.job.number ∷ []),
+      ))
+      (omega (
         arith,
         follows_count r.course J_here y can.waited.goes.follows,
-        ap length rest.2,
-        length-append (printed_of sees.steps) (printed_of rest.0),
-        ap length prints,
-        length-append (printed_of can.waited.goes.sees.steps) (Complete at says.job.number ∷ []),
-        few_printed (instance_of S_done) (session_jobs sees.valid),
-        ap length jobs,
-        ap length can.waited.goes.steps,
-        kept_length r.keep (printed_of can.waited.goes.sees.steps),
-      )
+        ap length (filter_map-append job_of_item S.items (FinishItem f ∷ [])),
+        length-append (admitted_jobs S.items) [],
+      ))
 
   module _ (d : Course) (o : Bool) (yes : o ≡ true → Finishes r.course number d)
       (no : o ≡ false → RunsNowhere r.course number × (d ≡ r.course)) (steps : List Event) (room : ℕ)
@@ -280,58 +246,18 @@ module _ (r : Reading) (at number : ℕ) (ls : List (List ℕ)) (can : CanComple
         (ap (λ c. Complete c number) at_clock ∙ ap (Complete at) (sym says.number)) it.3))
 
     -- it is kept of the lines with its text
-    pub completed_goes : Goes (completed r d at steps room) (ls ++ text_of (Complete at number) ∷ []) S_done y_done
-        y_done
+    pub completed_goes : GoesHere (completed r d at steps room) (ls ++ text_of (Complete at number) ∷ [])
     completed_goes =
-        let jobs : admitted_jobs S_done.items ≡ admitted_jobs S.items =
-        filter_map-append job_of_item S.items (FinishItem f ∷ []) ∙ append-nil (admitted_jobs S.items) in
-        let text : (s : Sees (ls ++ text_of (Complete at number) ∷ []) S_done at y_done)
-        × (printed_of s.steps ≡ printed_of can.waited.goes.sees.steps ++ Complete at number ∷ []) =
-        subst (λ n. (s : Sees (ls ++ text_of (Complete at n) ∷ []) S_done at y_done)
-        × (printed_of s.steps ≡ printed_of can.waited.goes.sees.steps ++ Complete at n ∷ [])) says.number
-        (sees, prints) in
-        record {
-          sees = text.0;
-          idles = ([], refl);
-          follows = follows_done;
-          kept = subst (admission.StandsFor r.kept) (sym jobs) can.waited.goes.kept;
-          rules = can.waited.goes.rules;
-          items = omega (arith, can.waited.goes.items, length-append S.items (FinishItem f ∷ []));
-          steps = more ∙ kept_more r.keep (printed_of can.waited.goes.sees.steps) r.steps (Complete at number)
-              can.waited.goes.steps ∙ ap (kept_steps r.keep) (sym text.1);
-          refused = can.waited.goes.refused
-              ∙ ap length (sym (filter_map-append refused_of_item S.items (FinishItem f ∷ [])
-              ∙ append-nil (filter_map refused_of_item S.items)));
-          last = sym (last_more (printed_of can.waited.goes.sees.steps) (Complete at number))
-              ∙ ap last_of (sym text.1);
-        }
-
-    -- so the trace goes on
-    pub completed_reads : r.stage ≡ Going
-        → Reads (completed r d at steps room) (ls ++ text_of (Complete at number) ∷ [])
-    completed_reads going =
-        reads_of (completed r d at steps room) (ls ++ text_of (Complete at number) ∷ []) going S_done y_done
-        completed_goes
-
-    -- and what is kept is kept of some lines
-    pub completed_reader : r.stage ≡ Going → HasSpare r
-        → d ≡ record r.course { ready = d.ready; done = d.done } → length d.ready ≤ length r.course.ready
-        → room ≡ r.room → IsReader (completed r d at steps room)
-    completed_reader going old kept fewer same_room = record {
-      spare = record {
-        ready = omega (
-          arith,
-          old.ready,
-          fewer,
-          ap (λ (c : Course). c.room) kept,
-        );
-        steps = λ keep. let before : 5 * (r.course.jobs + r.spare) + 1 ≤ r.room = old.steps keep in
-            omega (arith, ap (λ (c : Course). c.jobs) kept, same_room);
-      };
-      lines = ls ++ text_of (Complete at number) ∷ [];
-      reads = ahead_of (completed r d at steps room) (ls ++ text_of (Complete at number) ∷ []) going S_done y_done
-          y_done completed_goes;
-    }
+        let so_far : List Event = printed_of can.waited.goes.sees.steps in
+        let text : SeesWith (ls ++ text_of (Complete at number) ∷ []) S_done at y_done (so_far ++ Complete at number ∷ [])
+        = subst (λ n. SeesWith (ls ++ text_of (Complete at n) ∷ []) S_done at y_done (so_far ++ Complete at n ∷ []))
+        says.number sees in (
+          S_done,
+          y_done,
+          item_more r ls S can.from y can.waited.goes (FinishItem f) (completed r d at steps room)
+              (ls ++ text_of (Complete at number) ∷ []) y_done (Complete at number ∷ []) text follows_done
+              (no_job r.kept) refl refl refl more (omega arith) refl,
+        )
 
 -- a reading under another name, and a completion that was taken in it
 module _ (r w : Reading) (same : r ≡ w) (going_w : w.stage ≡ Going) (at number : ℕ) (d : Course) (o : Bool)
@@ -340,17 +266,23 @@ module _ (r w : Reading) (same : r ≡ w) (going_w : w.stage ≡ Going) (at numb
   -- the trace goes on
   pub named_reads : (ls : List (List ℕ)) → CanComplete w at number ls
       → Reads (completed r d at steps room) (ls ++ text_of (Complete at number) ∷ [])
-  named_reads ls can = completed_reads r at number ls (subst (λ v. CanComplete v at number ls) (sym same) can) d o
-      yes no
-      steps room more (ap (λ (v : Reading). v.stage) same ∙ going_w)
+  named_reads ls can =
+      let it = completed_goes r at number ls (subst (λ v. CanComplete v at number ls) (sym same) can) d o yes no steps
+      room more in
+      reads_of (completed r d at steps room) (ls ++ text_of (Complete at number) ∷ [])
+      (ap (λ (v : Reading). v.stage) same ∙ going_w) it.0 it.1 it.2
 
   -- and it is kept of some lines
   pub named_reader : (ls : List (List ℕ)) → CanComplete w at number ls → IsReader r
       → d ≡ record r.course { ready = d.ready; done = d.done } → length d.ready ≤ length r.course.ready → room ≡ r.room
       → IsReader (completed r d at steps room)
-  named_reader ls can old kept fewer same_room =
-      completed_reader r at number ls (subst (λ v. CanComplete v at number ls) (sym same) can) d o yes no
-      steps room more (ap (λ (v : Reading). v.stage) same ∙ going_w) old.spare kept fewer same_room
+  named_reader ls can old kept fewer same_room = here_reader (completed r d at steps room)
+      (ap (λ (v : Reading). v.stage) same ∙ going_w) (record {
+        ready = omega (arith, old.spare.ready, fewer, ap (λ (c : Course). c.room) kept);
+        steps = λ keep. let before : 5 * (r.course.jobs + r.spare) + 1 ≤ r.room = old.spare.steps keep in
+            omega (arith, ap (λ (c : Course). c.jobs) kept, same_room);
+      }) (ls ++ text_of (Complete at number) ∷ [])
+      (completed_goes r at number ls (subst (λ v. CanComplete v at number ls) (sym same) can) d o yes no steps room more)
 
 -- ---- whether it is one
 
@@ -432,12 +364,8 @@ module _ (w v : Reading) (at number : ℕ) (kept : v ≡ record w { course = v.c
   pub right_took : w.stage ≡ Going → (t : Reading)
       → ((ls : List (List ℕ)) → CanComplete v at number ls → Reads t (ls ++ text_of (Complete at number) ∷ []))
       → Took w t (text_of (Complete at number)) true
-  right_took going t reads_more = record {
-    yes = λ _ ls reads.
-        let here : (S : Session) × (z : State) × Goes w ls S z z = here_of w ls going reads in
-        reads_more ls (right_can ls here.0 here.1 here.1 here.2);
-    no = λ e. absurd (let clash : true ≡ false = e in cc);
-  }
+  right_took going t reads_more = goes_some w t (text_of (Complete at number)) going
+      (λ ls S z goes. reads_more ls (right_can ls S z z goes))
 
 -- ---- a completion
 

@@ -34,7 +34,7 @@ use Rattle.dover_model.proofs.Prefixes.{step_open, come_from, opening_later, lat
 use Rattle.dover_model.proofs.Releasing.{coming_task, barrier_releases}
 use Rattle.dover_model.proofs.PutIn.{RefusesWithin, AllPlacedWithin, put_in-more_steps, put_in-more_refused}
 use Rattle.dover_model.proofs.PutIn.{places_after-append}
-use Rattle.dover_model.proofs.Growing.{Reads, LinesName, item_in, with_line_named, one_named, reads_later, Finishes}
+use Rattle.dover_model.proofs.Growing.{Reads, LinesName, item_in, with_line_named, reads_later, Finishes}
 use Rattle.dover_model.proofs.Growing.{finishing_job, finish_instance, finish_is_named}
 use Rattle.dover_model.proofs.Growing.{job_instance, refused_instance, all_behind}
 use Rattle.admission.proofs.Joining.{admitted_valid}
@@ -65,6 +65,16 @@ use Rattle.dover_model.specs.Fraction.{IsRatio}
 use Rattle.dover_model.proofs.SessionParts.{MayFinish, session_parts, session_from, session_jobs, session_declared}
 use Rattle.trace_judge.proofs.Follows.{refused_parts}
 use Rattle.dover_model.proofs.ValidParts.{valid_from}
+use Rattle.dover_model.specs.Leading.{WaitsUntil}
+use Rattle.dover_model.specs.Session.{Item}
+use Rattle.dover_model.proofs.SessionParts.{FollowsItems}
+use Rattle.dover_model.proofs.Walks.{tick_of_item}
+use Rattle.trace_judge.proofs.Items.{mark_next}
+use Rattle.dover_model.proofs.Leading.{idles_settles}
+
+-- lines that come to a state, and what was printed up to it
+abbrev pub SeesWith : List (List ℕ) → Session → ℕ → State → List Event → Type 0
+SeesWith ls S floor z es = (s : Sees ls S floor z) × (printed_of s.steps ≡ es)
 
 -- texts with further lines behind
 texts_behind : (rules : Declaration) (front more : List TraceLine)
@@ -113,6 +123,10 @@ module _ (ls : List (List ℕ)) (S : Session) (floor : ℕ) (z : State) (sees : 
       (places_of S)
       (λ p low. omega (arith, length-append so_far es)) sees.within
 
+  -- with steps that print nothing
+  prints_same : (xs : List Step) → printed_of xs ≡ [] → printed_of (sees.steps ++ xs) ≡ so_far
+  prints_same xs silent = printed_append sees.steps xs ∙ ap (λ es. so_far ++ es) silent ∙ append-nil so_far
+
   -- what is settled at a tick from the floor on
   pub settled_from_floor : (t : ℕ) → floor ≤ t → (ys : List Step) × IsSettledRun J.rules t z ys
       × (settled_steps J t ≡ sees.steps ++ ys)
@@ -128,6 +142,124 @@ module _ (ls : List (List ℕ)) (S : Session) (floor : ℕ) (z : State) (sees : 
             (leads_passes J.rules t sees.steps (opening J.jobs) z
             (leads_later_mark J.rules floor t later sees.steps (opening J.jobs) z sees.leads)) it.1),
       )
+
+  -- ---- a barrier
+
+  module _ (t : ℕ) (y : State) (later : floor ≤ t) (waits : WaitsUntil J.rules t z y) where
+    -- the steps so far and the silent ones come to it
+    pub passes_there : Passes J.rules t (opening J.jobs) (sees.steps ++ waits.steps) y
+    passes_there = passes_append J.rules t sees.steps waits.steps (opening J.jobs) z y
+        (leads_passes J.rules t sees.steps (opening J.jobs) z
+        (leads_later_mark J.rules floor t later sees.steps (opening J.jobs) z sees.leads))
+        (settles_passes J.rules t waits.steps z y waits.settles)
+
+    -- they are all that is settled there
+    pub settled_there : settled_steps J t ≡ sees.steps ++ waits.steps
+    settled_there = one_settled_run J.rules t (settled_steps J t) (sees.steps ++ waits.steps) (opening J.jobs)
+        (settled_is_run J t (session_jobs sees.valid))
+        (subst (IsSettledRun J.rules t (opening J.jobs)) (append-nil (sees.steps ++ waits.steps))
+        (passes_settled J.rules t (sees.steps ++ waits.steps) [] (opening J.jobs) y passes_there waits.barrier))
+
+    -- so no more is printed
+    pub printed_there : settled J t ≡ so_far
+    printed_there = ap printed_of settled_there
+        ∙ prints_same waits.steps (settles_silent J.rules t waits.steps z y waits.settles)
+
+    -- and the state there is the settled one
+    pub state_there : settled_state J t ≡ y
+    state_there = path_state J.rules t (settled_steps J t) (opening J.jobs) y
+        (subst (λ steps. IsOpenPath J.rules t (opening J.jobs) steps y) (sym settled_there)
+        (passes_path J.rules t (sees.steps ++ waits.steps) (opening J.jobs) y passes_there))
+
+  -- ---- one line more
+
+  -- the line of a step more, where no line more is refused
+  module _ (T : Session) (places : places_of T ≡ places_of S) (e : Event) where
+    -- it comes behind the others
+    among_step : lines_among T (so_far ++ e ∷ []) ≡ lines_among S so_far ++ Printed e ∷ []
+    among_step = ap (λ ps. put_in ps 0 (so_far ++ e ∷ [])) places
+        ∙ put_in-more_steps (places_of S) 0 so_far (e ∷ []) sees.within
+
+    -- the refused ones are within
+    within_step : RefusesWithin T (so_far ++ e ∷ [])
+    within_step = subst (AllPlacedWithin 0 (so_far ++ e ∷ [])) (sym places) (within_more (e ∷ []))
+
+  -- a line more, and what is printed up to it
+  module _ (T : Session) (rules : T.rules ≡ S.rules) (valid : IsValidSession T) (line : TraceLine)
+      (names : with_line_named S line ≡ T) (steps : List Step) (es : List Event) (print : printed_of steps ≡ es)
+      (among : lines_among T es ≡ lines_among S so_far ++ line ∷ []) (within : RefusesWithin T es) (tick : ℕ)
+      (y : State) (leads : Leads (instance_of T).rules tick (opening (admitted_jobs T.items)) steps y)
+      (released : NoneComes y.tasks) (clock : y.clock ≤ tick) (mark : mark_after 0 T.items ≤ tick)
+      (tight : (t : ℕ) → mark_after 0 T.items ≤ t → t < tick → length (settled (instance_of T) t) < length es) where
+    -- the lines of the steps
+    among_steps : lines_among T (printed_of steps) ≡ lines_among S so_far ++ line ∷ []
+    among_steps = ap (lines_among T) print ∙ among
+
+    -- the lines so far, and its text
+    lines_more : ls ++ text_of_line line ∷ [] ≡ texts_among T (printed_of steps)
+    lines_more = ap (λ xs. xs ++ text_of_line line ∷ []) sees.lines
+        ∙ sym (texts_behind S.rules (lines_among S so_far) (line ∷ []))
+        ∙ ap (λ k. header k ∷ map text_of_line (lines_among S so_far ++ line ∷ [])) (sym rules)
+        ∙ ap (λ xs. header T.rules ∷ map text_of_line xs) (sym among_steps)
+
+    -- they name the session
+    names_more : LinesName (lines_among T (printed_of steps)) T
+    names_more = ap (λ k. fold with_line_named (new_session k) (lines_among T (printed_of steps))) rules
+        ∙ ap (fold with_line_named (new_session S.rules)) among_steps
+        ∙ fold-append with_line_named (new_session S.rules) (lines_among S so_far) (line ∷ [])
+        ∙ ap (λ V. with_line_named V line) (sees_names ls S floor z sees) ∙ names
+
+    -- they are within the steps as well
+    within_steps : RefusesWithin T (printed_of steps)
+    within_steps = subst (λ us. AllPlacedWithin 0 us (places_of T)) (sym print) within
+
+    -- its text comes to the state
+    sees_line : SeesWith (ls ++ text_of_line line ∷ []) T tick y es
+    sees_line = (
+      record {
+        valid = valid;
+        named = ap named_session lines_more ∙ led_named T valid tick y steps leads within_steps names_more;
+        steps = steps;
+        leads = leads;
+        lines = lines_more;
+        within = within_steps;
+        released = released;
+        clock = clock;
+        mark = mark;
+        tight = subst (λ us. (t : ℕ) → mark_after 0 T.items ≤ t → t < tick
+            → length (settled (instance_of T) t) < length us) (sym print) tight;
+      },
+      print,
+    )
+
+  -- an item more: its line, and the steps that lead to a state with it
+  module _ (x : Item) (K : Instance) (is_K : instance_of (with_item S x) ≡ K) (valid_K : IsValid K) (room : HasRoom S)
+      (follows : FollowsItems S.rules S.items (mark_after 0 S.items) (x ∷ []))
+      (line : TraceLine) (names : item_in S line ≡ Some x) (steps : List Step) (es : List Event)
+      (print : printed_of steps ≡ es)
+      (among : lines_among (with_item S x) es ≡ lines_among S so_far ++ line ∷ [])
+      (within : RefusesWithin (with_item S x) es) (y : State)
+      (leads : Leads K.rules (tick_of_item x) (opening K.jobs) steps y) (released : NoneComes y.tasks)
+      (clock : y.clock ≤ tick_of_item x) where
+    -- the session is valid
+    valid_item : IsValidSession (with_item S x)
+    valid_item = session_from (record {
+      declared = session_declared sees.valid;
+      jobs = subst IsValid (sym is_K) valid_K;
+      count = omega (arith, room, length-append S.items (x ∷ []));
+      items = follows_behind S.rules [] 0 S.items (x ∷ []) (session_parts sees.valid).items follows;
+    })
+
+    -- the mark is at its tick
+    mark_item : mark_after 0 (S.items ++ x ∷ []) ≡ tick_of_item x
+    mark_item = mark_behind 0 S.items x ∙ sym (mark_next S.rules S.items (mark_after 0 S.items) x [] follows)
+
+    -- its text comes to the state
+    sees_item : SeesWith (ls ++ text_of_line line ∷ []) (with_item S x) (tick_of_item x) y es
+    sees_item = sees_line (with_item S x) refl valid_item line (ap (with_named S) names) steps es print among within
+        (tick_of_item x) y
+        (subst (λ (I : Instance). Leads I.rules (tick_of_item x) (opening I.jobs) steps y) (sym is_K) leads)
+        released clock (omega (arith, mark_item)) (λ t marked low. absurd (omega (arith, mark_item)))
 
   -- ---- a printed step
 
@@ -182,33 +314,17 @@ module _ (ls : List (List ℕ)) (S : Session) (floor : ℕ) (z : State) (sees : 
           ap (after y) opens,
         ))
 
-    -- the lines so far, and its text
-    lines_more : ls ++ text_of e ∷ [] ≡ texts_among S (printed_of steps_more)
-    lines_more = ap (λ xs. xs ++ text_of e ∷ []) sees.lines
-        ∙ sym (texts_behind S.rules (lines_among S so_far) (Printed e ∷ []))
-        ∙ ap (λ xs. header S.rules ∷ map text_of_line xs)
-        (sym (put_in-more_steps (places_of S) 0 so_far (e ∷ []) sees.within))
-        ∙ ap (texts_among S) (sym print_more)
-
     -- no further item is named
-    names_more : LinesName (lines_among S (printed_of steps_more)) S
-    names_more = ap (λ es. fold with_line_named (new_session S.rules) (lines_among S es)) print_more
-        ∙ ap (fold with_line_named (new_session S.rules))
-        (put_in-more_steps (places_of S) 0 so_far (e ∷ []) sees.within)
-        ∙ fold-append with_line_named (new_session S.rules) (lines_among S so_far) (Printed e ∷ [])
-        ∙ ap (λ T. with_named T (item_in T (Printed e))) (sees_names ls S floor z sees)
-        ∙ ap (with_named S) (ap (option_or (item_of_line (Printed e))) (printed_unfinished ls S floor z sees e y next)
+    names_none : with_line_named S (Printed e) ≡ S
+    names_none = ap (with_named S) (ap (option_or (item_of_line (Printed e))) (printed_unfinished ls S floor z sees e y
+        next)
         ∙ ap (λ o. option_or o None) (printed_names_none J (session_jobs sees.valid) y keeps_y J.rules none_y e opens))
-
-    -- they are within as well
-    within_printed : RefusesWithin S (printed_of steps_more)
-    within_printed = subst (λ es. AllPlacedWithin 0 es (places_of S)) (sym print_more) (within_more (e ∷ []))
 
     -- at a tick below the floor less is settled
     tight_more : (t : ℕ) → mark_after 0 S.items ≤ t → t < new_floor
-        → length (settled J t) < length (printed_of steps_more)
+        → length (settled J t) < length (so_far ++ e ∷ [])
     tight_more t marked low =
-        omega (arith, ap length print_more, length-append so_far (e ∷ []), by_floor (nat_lt t floor) refl) where
+        omega (arith, length-append so_far (e ∷ []), by_floor (nat_lt t floor) refl) where
           by_floor : (b : Bool) → nat_lt t floor ≡ b → length (settled J t) ≤ length so_far
           by_floor true below = let less : length (settled J t) < length so_far =
               sees.tight t marked (ltb-true _ _ below) in omega arith
@@ -220,64 +336,39 @@ module _ (ls : List (List ℕ)) (S : Session) (floor : ℕ) (z : State) (sees : 
               let none : printed_of it.0 ≡ [] =
               stops_before J (session_jobs sees.valid) J.rules t next.steps it.0 z y e (sees_keeps ls S floor z sees)
               (let low_z : z.clock ≤ floor = sees.clock in omega arith) next.idles opens early it.1 in
-              omega (
-                arith,
-                ap length (ap printed_of it.2 ∙ printed_append sees.steps it.0 ∙ ap (λ es. so_far ++ es) none
-                    ∙ append-nil so_far),
-              )
+              omega (arith, ap length (ap printed_of it.2 ∙ prints_same it.0 none))
 
     -- the text of the next printed step comes to the state after it
-    pub sees_step : Sees (ls ++ text_of e ∷ []) S new_floor (after y (Prints e))
-    sees_step = record {
-      valid = sees.valid;
-      named = ap named_session lines_more
-          ∙ led_named S sees.valid new_floor (after y (Prints e)) steps_more lead_more within_printed
-          names_more;
-      steps = steps_more;
-      leads = lead_more;
-      lines = lines_more;
-      within = within_printed;
-      released = none_comes_after y (Prints e) none_y;
-      clock = clock_below floor (waits_for_mark (Prints e)) y.clock;
-      mark = let low : mark_after 0 S.items ≤ floor = sees.mark in omega arith;
-      tight = tight_more;
-    }
-
-    -- it is printed behind the others
-    pub sees_step_prints : printed_of sees_step.steps ≡ so_far ++ e ∷ []
-    unfolding sees_step
-    sees_step_prints = print_more
+    pub sees_step : SeesWith (ls ++ text_of e ∷ []) S new_floor (after y (Prints e)) (so_far ++ e ∷ [])
+    sees_step = sees_line S refl sees.valid (Printed e) names_none steps_more (so_far ++ e ∷ []) print_more
+        (among_step S refl e) (within_more (e ∷ [])) new_floor (after y (Prints e)) lead_more
+        (none_comes_after y (Prints e) none_y) (clock_below floor (waits_for_mark (Prints e)) y.clock)
+        (let low : mark_after 0 S.items ≤ floor = sees.mark in omega arith) tight_more
 
   -- ---- silent steps
 
   -- silent steps that don't pass the floor change nothing else
-  pub sees_idles : (xs : List Step) (y : State) → Idles J.rules z xs y → y.clock ≤ floor → Sees ls S floor y
+  pub sees_idles : (xs : List Step) (y : State) → Idles J.rules z xs y → y.clock ≤ floor → SeesWith ls S floor y so_far
   sees_idles xs y idles low =
-      let print_same : printed_of (sees.steps ++ xs) ≡ so_far = printed_append sees.steps xs
-      ∙ ap (λ es. so_far ++ es) (idles_silent J.rules xs z y idles) ∙ append-nil so_far in
-      let leads_on : Leads J.rules y.clock z xs y = idles_leads J.rules xs z y idles in
-      record {
-        valid = sees.valid;
-        named = sees.named;
-        steps = sees.steps ++ xs;
-        leads = leads_append J.rules floor sees.steps xs (opening J.jobs) z y sees.leads
-            (leads_later_mark J.rules y.clock floor low xs z y leads_on);
-        lines = sees.lines ∙ ap (texts_among S) (sym print_same);
-        within = subst (λ es. AllPlacedWithin 0 es (places_of S)) (sym print_same) sees.within;
-        released = none_comes_passes J.rules y.clock xs z y
-            (leads_passes J.rules y.clock xs z y leads_on) sees.released;
-        clock = low;
-        mark = sees.mark;
-        tight = subst (λ es. (t : ℕ) → mark_after 0 S.items ≤ t → t < floor → length (settled J t) < length es)
-            (sym print_same) sees.tight;
-      }
-
-  -- they print nothing
-  pub sees_idles_prints : (xs : List Step) (y : State) (idles : Idles J.rules z xs y) (low : y.clock ≤ floor)
-      → printed_of (sees_idles xs y idles low).steps ≡ so_far
-  unfolding sees_idles
-  sees_idles_prints xs y idles low = printed_append sees.steps xs
-      ∙ ap (λ es. so_far ++ es) (idles_silent J.rules xs z y idles) ∙ append-nil so_far
+      let print_same : printed_of (sees.steps ++ xs) ≡ so_far = prints_same xs (idles_silent J.rules xs z y idles) in
+      let leads_on : Leads J.rules y.clock z xs y = idles_leads J.rules xs z y idles in (
+        record {
+          valid = sees.valid;
+          named = sees.named;
+          steps = sees.steps ++ xs;
+          leads = leads_append J.rules floor sees.steps xs (opening J.jobs) z y sees.leads
+              (leads_later_mark J.rules y.clock floor low xs z y leads_on);
+          lines = sees.lines ∙ ap (texts_among S) (sym print_same);
+          within = subst (λ es. AllPlacedWithin 0 es (places_of S)) (sym print_same) sees.within;
+          released = none_comes_passes J.rules y.clock xs z y
+              (leads_passes J.rules y.clock xs z y leads_on) sees.released;
+          clock = low;
+          mark = sees.mark;
+          tight = subst (λ es. (t : ℕ) → mark_after 0 S.items ≤ t → t < floor → length (settled J t) < length es)
+              (sym print_same) sees.tight;
+        },
+        print_same,
+      )
 
   -- ---- a job
 
@@ -312,18 +403,11 @@ module _ (ls : List (List ℕ)) (S : Session) (floor : ℕ) (z : State) (sees : 
     abbrev coming : List Task
     coming = coming_task n j ∷ []
 
-    -- the steps before the release
-    passes_y : Passes J.rules j.release (opening J.jobs) (sees.steps ++ may.waits.steps) y
-    passes_y = passes_append J.rules j.release sees.steps may.waits.steps (opening J.jobs) z y
-        (leads_passes J.rules j.release sees.steps (opening J.jobs) z
-        (leads_later_mark J.rules floor j.release may.no_fall sees.steps (opening J.jobs) z sees.leads))
-        (settles_passes J.rules j.release may.waits.steps z y may.waits.settles)
-
     -- the state before it
     keeps_before : Keeps J y
     keeps_before = passes_keeps J (session_jobs sees.valid) J.rules j.release (sees.steps ++ may.waits.steps)
         (opening J.jobs) y
-        (opening_keeps J) passes_y
+        (opening_keeps J) (passes_there j.release y may.no_fall may.waits)
 
     -- the job comes at its release
     late : Each (λ i. j.release ≤ i.release) (j ∷ [])
@@ -348,7 +432,7 @@ module _ (ls : List (List ℕ)) (S : Session) (floor : ℕ) (z : State) (sees : 
         (come_from j.release n (j ∷ []) late)
         (coming_task n j) (inl refl)
         (sees.steps ++ may.waits.steps) (opening J.jobs) y (opening_keeps J)
-        (later_keeps J (j ∷ []) j.release valid_K late) passes_y
+        (later_keeps J (j ∷ []) j.release valid_K late) (passes_there j.release y may.no_fall may.waits)
 
     -- the release
     releases : open_step J.rules (with_later y coming) ≡ Prints (Release n j)
@@ -369,10 +453,6 @@ module _ (ls : List (List ℕ)) (S : Session) (floor : ℕ) (z : State) (sees : 
     abbrev fresh : State
     fresh = with_fresh y n j
 
-    -- the jobs of the session
-    jobs_more : instance_of S_more ≡ K
-    jobs_more = job_instance S j
-
     -- they lead to it
     lead_job : Leads J.rules j.release (opening K.jobs) steps_job fresh
     lead_job = subst (λ u. Leads J.rules j.release u steps_job fresh)
@@ -390,83 +470,28 @@ module _ (ls : List (List ℕ)) (S : Session) (floor : ℕ) (z : State) (sees : 
     print_job : printed_of steps_job ≡ so_far ++ Release n j ∷ []
     print_job = printed_append behind.steps (open_at J.rules (with_later y coming) ∷ [])
         ∙ ap (λ es. es ++ printed_of (open_at J.rules (with_later y coming) ∷ []))
-        (behind.printed ∙ printed_append sees.steps may.waits.steps
-        ∙ ap (λ es. so_far ++ es) (settles_silent J.rules j.release may.waits.steps z y may.waits.settles)
-        ∙ append-nil so_far)
+        (behind.printed
+        ∙ prints_same may.waits.steps (settles_silent J.rules j.release may.waits.steps z y may.waits.settles))
         ∙ ap (λ m. so_far ++ printed_of (record { before = with_later y coming; move = m } ∷ [])) releases
 
     -- a job has no place
     places_job : places_of S_more ≡ places_of S
     places_job = places_after-append S.rules [] S.items (JobItem j ∷ []) ∙ append-nil (places_of S)
 
-    -- the lines with the release
-    among_job : lines_among S_more (printed_of steps_job) ≡ lines_among S so_far ++ Printed (Release n j) ∷ []
-    among_job = ap (λ es. put_in (places_of S_more) 0 es) print_job
-        ∙ ap (λ ps. put_in ps 0 (so_far ++ Release n j ∷ [])) places_job
-        ∙ put_in-more_steps (places_of S) 0 so_far (Release n j ∷ []) sees.within
-
-    -- as texts
-    lines_job : ls ++ release_text S j ∷ [] ≡ texts_among S_more (printed_of steps_job)
-    lines_job = ap (λ xs. xs ++ release_text S j ∷ []) sees.lines
-        ∙ sym (texts_behind S.rules (lines_among S so_far) (Printed (Release n j) ∷ []))
-        ∙ ap (λ xs. header S.rules ∷ map text_of_line xs) (sym among_job)
-
-    -- they are within
-    within_job : RefusesWithin S_more (printed_of steps_job)
-    within_job = subst (λ es. AllPlacedWithin 0 es (places_of S_more)) (sym print_job)
-        (subst (AllPlacedWithin 0 (so_far ++ Release n j ∷ [])) (sym places_job) (within_more (Release n j ∷ [])))
-
-    -- the session is valid
-    valid_job : IsValidSession S_more
-    valid_job = session_from (record {
-      declared = session_declared sees.valid;
-      jobs = subst IsValid (sym jobs_more) valid_K;
-      count = omega (arith, may.room, length-append S.items (JobItem j ∷ []));
-      items = follows_behind S.rules [] 0 S.items (JobItem j ∷ []) (session_parts sees.valid).items (
-        record {
-          no_fall = let low : mark_after 0 S.items ≤ floor = sees.mark in
-              let ordered : floor ≤ j.release = may.no_fall in omega arith;
-          room = may.not_full;
-        },
-        tt,
-      );
-    })
-
-    -- the lines lead there
-    leads_job : Leads (instance_of S_more).rules j.release (opening (admitted_jobs S_more.items)) steps_job fresh
-    leads_job = subst (λ (I : Instance). Leads I.rules j.release (opening I.jobs) steps_job fresh)
-        (sym jobs_more) lead_job
-
-    -- the mark is at the release
-    mark_job : mark_after 0 S_more.items ≡ j.release
-    mark_job = let low : mark_after 0 S.items ≤ floor = sees.mark in let ordered : floor ≤ j.release = may.no_fall in
-        let last : mark_after 0 S_more.items ≡ max (mark_after 0 S.items) j.release =
-        mark_behind 0 S.items (JobItem j) in omega arith
-
     -- the text of the job's release comes to the state after it
-    pub sees_release : Sees (ls ++ release_text S j ∷ []) S_more j.release fresh
-    sees_release = record {
-      valid = valid_job;
-      named = ap named_session lines_job
-          ∙ led_named S_more valid_job j.release fresh steps_job leads_job within_job
-          (ap (fold with_line_named (new_session S.rules)) among_job
-          ∙ one_named (lines_among S so_far) S (Printed (Release n j)) (JobItem j) (sees_names ls S floor z sees) refl);
-      steps = steps_job;
-      leads = leads_job;
-      lines = lines_job;
-      within = within_job;
-      released = each_behind (λ t. is_coming t ≡ false) y.tasks (record { number = n; job = j; role = Fresh; had = 0 })
-          (none_comes_passes J.rules j.release may.waits.steps z y
-          (settles_passes J.rules j.release may.waits.steps z y may.waits.settles) sees.released) refl;
-      clock = omega arith;
-      mark = omega (arith, mark_job);
-      tight = λ t marked low. absurd (omega (arith, mark_job));
-    }
-
-    -- it is printed behind the others
-    pub sees_release_prints : printed_of sees_release.steps ≡ so_far ++ Release n j ∷ []
-    unfolding sees_release
-    sees_release_prints = print_job
+    pub sees_release : SeesWith (ls ++ release_text S j ∷ []) S_more j.release fresh (so_far ++ Release n j ∷ [])
+    sees_release = sees_item (JobItem j) K (job_instance S j) valid_K may.room (
+      record {
+        no_fall = let low : mark_after 0 S.items ≤ floor = sees.mark in
+            let ordered : floor ≤ j.release = may.no_fall in omega arith;
+        room = may.not_full;
+      },
+      tt,
+    ) (Printed (Release n j)) refl steps_job (so_far ++ Release n j ∷ []) print_job
+        (among_step S_more places_job (Release n j)) (within_step S_more places_job (Release n j)) fresh lead_job
+        (each_behind (λ t. is_coming t ≡ false) y.tasks (record { number = n; job = j; role = Fresh; had = 0 })
+        (none_comes_passes J.rules j.release may.waits.steps z y
+        (settles_passes J.rules j.release may.waits.steps z y may.waits.settles) sees.released) refl) (omega arith)
 
   -- ---- a refused line
 
@@ -475,22 +500,9 @@ module _ (ls : List (List ℕ)) (S : Session) (floor : ℕ) (z : State) (sees : 
     abbrev S_refused : Session
     S_refused = with_item S (RefusedItem r)
 
-    -- its jobs are the same
-    jobs_same : instance_of S_refused ≡ J
-    jobs_same = refused_instance S r
-
     -- no more is settled at its tick
     all_settled : length (settled J r.at) ≡ length so_far
-    all_settled =
-        let it : (ys : List Step) × IsSettledRun J.rules r.at z ys × (settled_steps J r.at ≡ sees.steps ++ ys) =
-        settled_from_floor r.at (refused_parts may).no_fall in
-        let none : printed_of it.0 ≡ [] = ap printed_of
-        (one_settled_run J.rules r.at it.0 (may.waits.steps ++ []) z it.1
-        (passes_settled J.rules r.at may.waits.steps [] z y
-        (settles_passes J.rules r.at may.waits.steps z y may.waits.settles) may.waits.barrier)
-        ∙ append-nil may.waits.steps) ∙ settles_silent J.rules r.at may.waits.steps z y may.waits.settles in
-        ap length (ap printed_of it.2 ∙ printed_append sees.steps it.0 ∙ ap (λ es. so_far ++ es) none
-        ∙ append-nil so_far)
+    all_settled = ap length (printed_there r.at y (refused_parts may).no_fall may.waits)
 
     -- its place
     abbrev placed : Placed
@@ -505,12 +517,6 @@ module _ (ls : List (List ℕ)) (S : Session) (floor : ℕ) (z : State) (sees : 
     among_refused = ap (λ ps. put_in ps 0 so_far) places_refused
         ∙ put_in-more_refused (places_of S) 0 so_far placed (omega (arith, all_settled)) sees.within
 
-    -- as texts
-    lines_refused : ls ++ refused_text r ∷ [] ≡ texts_among S_refused so_far
-    lines_refused = ap (λ xs. xs ++ refused_text r ∷ []) sees.lines
-        ∙ sym (texts_behind S.rules (lines_among S so_far) (Refuses r ∷ []))
-        ∙ ap (λ xs. header S.rules ∷ map text_of_line xs) (sym among_refused)
-
     -- they are within
     within_refused : RefusesWithin S_refused so_far
     within_refused = subst (AllPlacedWithin 0 so_far) (sym places_refused)
@@ -523,56 +529,15 @@ module _ (ls : List (List ℕ)) (S : Session) (floor : ℕ) (z : State) (sees : 
         (refused_parts may).no_fall in
         omega arith
 
-    -- the session is valid
-    valid_refused : IsValidSession S_refused
-    valid_refused = session_from (record {
-      declared = session_declared sees.valid;
-      jobs = subst IsValid (sym jobs_same) (session_jobs sees.valid);
-      count = omega (arith, may.room, length-append S.items (RefusedItem r ∷ []));
-      items = follows_behind S.rules [] 0 S.items (RefusedItem r ∷ []) (session_parts sees.valid).items (
-        record {
-          no_fall = mark_low;
-          known = (refused_parts may).known;
-          line = (refused_parts may).line;
-        },
-        tt,
-      );
-    })
-
-    -- the same steps lead on
-    leads_refused : Leads (instance_of S_refused).rules r.at (opening (admitted_jobs S_refused.items)) sees.steps z
-    leads_refused = subst (λ (I : Instance). Leads I.rules r.at (opening I.jobs) sees.steps z) (sym jobs_same)
-        (leads_later_mark J.rules floor r.at (refused_parts may).no_fall sees.steps (opening J.jobs) z sees.leads)
-
-    -- the mark is at its tick
-    mark_refused : mark_after 0 S_refused.items ≡ r.at
-    mark_refused = let last : mark_after 0 S_refused.items ≡ max (mark_after 0 S.items) r.at =
-        mark_behind 0 S.items (RefusedItem r) in
-        omega (arith, mark_low)
-
     -- the text of the refused line leaves the state as it is
-    pub sees_refused : Sees (ls ++ refused_text r ∷ []) S_refused r.at z
-    sees_refused = record {
-      valid = valid_refused;
-      named = ap named_session lines_refused
-          ∙ led_named S_refused valid_refused r.at z sees.steps leads_refused within_refused
-          (ap (fold with_line_named (new_session S.rules)) among_refused
-          ∙ one_named (lines_among S so_far) S (Refuses r) (RefusedItem r) (sees_names ls S floor z sees) refl);
-      steps = sees.steps;
-      leads = leads_refused;
-      lines = lines_refused;
-      within = within_refused;
-      released = sees.released;
-      clock = let low : z.clock ≤ floor = sees.clock in let ordered : floor ≤ r.at = (refused_parts may).no_fall in
-          omega arith;
-      mark = omega (arith, mark_refused);
-      tight = λ t marked low. absurd (omega (arith, mark_refused));
-    }
-
-    -- no step is printed
-    pub sees_refused_prints : printed_of sees_refused.steps ≡ so_far
-    unfolding sees_refused
-    sees_refused_prints = refl
+    pub sees_refused : SeesWith (ls ++ refused_text r ∷ []) S_refused r.at z so_far
+    sees_refused = sees_item (RefusedItem r) J (refused_instance S r) (session_jobs sees.valid) may.room
+        (record { no_fall = mark_low; known = (refused_parts may).known; line = (refused_parts may).line }, tt)
+        (Refuses r) refl sees.steps so_far refl among_refused within_refused z
+        (leads_later_mark J.rules floor r.at (refused_parts may).no_fall sees.steps (opening J.jobs) z sees.leads)
+        sees.released
+        (let low : z.clock ≤ floor = sees.clock in let ordered : floor ≤ r.at = (refused_parts may).no_fall in
+        omega arith)
 
   -- ---- an early completion
 
@@ -613,20 +578,21 @@ module _ (ls : List (List ℕ)) (S : Session) (floor : ℕ) (z : State) (sees : 
         (leads_later_mark J.rules floor f.at may.no_fall sees.steps (opening J.jobs) z sees.leads)
         (leads_later_mark J.rules y.clock f.at (omega (arith, now)) xs z y (idles_leads J.rules xs z y idles))
 
+    -- the silent ones come to the barrier
+    abbrev waits_y : WaitsUntil J.rules f.at z y
+    waits_y = record {
+      steps = xs;
+      settles = idles_settles J.rules f.at xs z y idles (omega (arith, now));
+      barrier = barrier;
+    }
+
     -- they are the settled ones
     settled_are : settled_steps J f.at ≡ sees.steps ++ xs
-    settled_are = one_settled_run J.rules f.at (settled_steps J f.at) (sees.steps ++ xs) (opening J.jobs)
-        (settled_is_run J f.at (session_jobs sees.valid))
-        (subst (IsSettledRun J.rules f.at (opening J.jobs)) (append-nil (sees.steps ++ xs))
-        (passes_settled J.rules f.at (sees.steps ++ xs) [] (opening J.jobs) y
-        (leads_passes J.rules f.at (sees.steps ++ xs) (opening J.jobs) y leads_y) barrier))
+    settled_are = settled_there f.at y may.no_fall waits_y
 
     -- and the state there is the settled one
     state_is : settled_state J f.at ≡ y
-    state_is = path_state J.rules f.at (settled_steps J f.at) (opening J.jobs) y
-        (subst (λ steps. IsOpenPath J.rules f.at (opening J.jobs) steps y) (sym settled_are)
-        (passes_path J.rules f.at (sees.steps ++ xs) (opening J.jobs) y
-        (leads_passes J.rules f.at (sees.steps ++ xs) (opening J.jobs) y leads_y)))
+    state_is = state_there f.at y may.no_fall waits_y
 
     -- the finish is due in none of them
     none_due : Each (λ x. due_finish (f.finish ∷ []) x.before ≡ None) (sees.steps ++ xs)
@@ -684,102 +650,48 @@ module _ (ls : List (List ℕ)) (S : Session) (floor : ℕ) (z : State) (sees : 
     print_done : printed_of steps_done ≡ so_far ++ done ∷ []
     print_done = printed_append (sees.steps ++ xs) (open_at J_done.rules y ∷ [])
         ∙ ap (λ es. es ++ printed_of (open_at J_done.rules y ∷ []))
-        (printed_append sees.steps xs ∙ ap (λ es. so_far ++ es) (idles_silent J.rules xs z y idles)
-        ∙ append-nil so_far)
+        (prints_same xs (idles_silent J.rules xs z y idles))
         ∙ ap (λ m. so_far ++ printed_of (record { before = y; move = m } ∷ [])) completes
-
-    -- the jobs of the session
-    jobs_done : instance_of S_done ≡ J_done
-    jobs_done = finish_instance S f
 
     -- a finish has no place
     places_done : places_of S_done ≡ places_of S
     places_done = places_after-append S.rules [] S.items (FinishItem f ∷ []) ∙ append-nil (places_of S)
-
-    -- the lines with the completion
-    among_done : lines_among S_done (printed_of steps_done) ≡ lines_among S so_far ++ Printed done ∷ []
-    among_done = ap (λ es. put_in (places_of S_done) 0 es) print_done
-        ∙ ap (λ ps. put_in ps 0 (so_far ++ done ∷ [])) places_done
-        ∙ put_in-more_steps (places_of S) 0 so_far (done ∷ []) sees.within
-
-    -- as texts
-    lines_done : ls ++ completion_text f ∷ [] ≡ texts_among S_done (printed_of steps_done)
-    lines_done = ap (λ xs. xs ++ completion_text f ∷ []) sees.lines
-        ∙ sym (texts_behind S.rules (lines_among S so_far) (Printed done ∷ []))
-        ∙ ap (λ xs. header S.rules ∷ map text_of_line xs) (sym among_done)
-
-    -- they are within
-    within_done : RefusesWithin S_done (printed_of steps_done)
-    within_done = subst (λ es. AllPlacedWithin 0 es (places_of S_done)) (sym print_done)
-        (subst (AllPlacedWithin 0 (so_far ++ done ∷ [])) (sym places_done) (within_more (done ∷ [])))
-
-    -- the session is valid
-    valid_done : IsValidSession S_done
-    valid_done = session_from (record {
-      declared = session_declared sees.valid;
-      jobs = subst IsValid (sym jobs_done)
-          (finishing_valid J (J.rules.finishes ++ f.finish ∷ []) (session_jobs sees.valid));
-      count = omega (arith, room, length-append S.items (FinishItem f ∷ []));
-      items = follows_behind S.rules [] 0 S.items (FinishItem f ∷ []) (session_parts sees.valid).items
-          (record { no_fall = mark_before; known = may.known; right = may.right }, tt);
-    })
-
-    -- the lines lead there
-    leads_done : Leads (instance_of S_done).rules f.at (opening (admitted_jobs S_done.items)) steps_done y_done
-    leads_done = subst (λ (I : Instance). Leads I.rules f.at (opening I.jobs) steps_done y_done)
-        (sym jobs_done) lead_done
-
-    -- the mark is at its tick
-    mark_done : mark_after 0 S_done.items ≡ f.at
-    mark_done = let last : mark_after 0 S_done.items ≡ max (mark_after 0 S.items) f.at =
-        mark_behind 0 S.items (FinishItem f) in omega (arith, mark_before)
 
     -- the completion names the finish
     named_done : item_in S (Printed done) ≡ Some (FinishItem f)
     named_done = ap (λ n. item_in S (Printed (Complete f.at n))) (sym number_is) ∙ finish_is_named S f reads_f it
 
     -- the text of the completion comes to the state after it
-    pub sees_completion : Sees (ls ++ completion_text f ∷ []) S_done f.at y_done
-    sees_completion = record {
-      valid = valid_done;
-      named = ap named_session lines_done
-          ∙ led_named S_done valid_done f.at y_done steps_done leads_done within_done
-          (ap (fold with_line_named (new_session S.rules)) among_done
-          ∙ one_named (lines_among S so_far) S (Printed done) (FinishItem f) (sees_names ls S floor z sees) named_done);
-      steps = steps_done;
-      leads = leads_done;
-      lines = lines_done;
-      within = within_done;
-      released = none_comes_after y (Prints done)
-          (none_comes_passes J.rules y.clock xs z y
-          (leads_passes J.rules y.clock xs z y (idles_leads J.rules xs z y idles)) sees.released);
-      clock = omega (arith, now);
-      mark = omega (arith, mark_done);
-      tight = λ t marked low. absurd (omega (arith, mark_done));
-    }
-
-    -- it is printed behind the others
-    pub sees_completion_prints : printed_of sees_completion.steps ≡ so_far ++ done ∷ []
-    unfolding sees_completion
-    sees_completion_prints = print_done
+    pub sees_completion : SeesWith (ls ++ completion_text f ∷ []) S_done f.at y_done (so_far ++ done ∷ [])
+    sees_completion = sees_item (FinishItem f) J_done (finish_instance S f)
+        (finishing_valid J (J.rules.finishes ++ f.finish ∷ []) (session_jobs sees.valid)) room
+        (record { no_fall = mark_before; known = may.known; right = may.right }, tt) (Printed done) named_done
+        steps_done (so_far ++ done ∷ []) print_done (among_step S_done places_done done)
+        (within_step S_done places_done done) y_done lead_done
+        (none_comes_after y (Prints done)
+        (none_comes_passes J.rules y.clock xs z y
+        (leads_passes J.rules y.clock xs z y (idles_leads J.rules xs z y idles)) sees.released)) (omega (arith, now))
 
 -- ---- the header
 
 -- the header comes to the opening state of no jobs
 pub sees_header : (rules : Declaration) → IsRatio rules.ratio → IsDeclarable rules
-    → Sees (header rules ∷ []) (new_session rules) 0 (opening [])
-sees_header rules ratio declared = record {
-  valid = valid_new;
-  named = led_named (new_session rules) valid_new 0 (opening []) [] refl tt refl;
-  steps = [];
-  leads = refl;
-  lines = refl;
-  within = tt;
-  released = λ t m. absurd m;
-  clock = omega arith;
-  mark = omega arith;
-  tight = λ t marked low. absurd (omega arith);
-} where
+    → SeesWith (header rules ∷ []) (new_session rules) 0 (opening []) []
+sees_header rules ratio declared = (
+  record {
+    valid = valid_new;
+    named = led_named (new_session rules) valid_new 0 (opening []) [] refl tt refl;
+    steps = [];
+    leads = refl;
+    lines = refl;
+    within = tt;
+    released = λ t m. absurd m;
+    clock = omega arith;
+    mark = omega arith;
+    tight = λ t marked low. absurd (omega arith);
+  },
+  refl,
+) where
   valid_new : IsValidSession (new_session rules)
   valid_new = session_from (record {
     declared = declared;
@@ -788,9 +700,3 @@ sees_header rules ratio declared = record {
     count = omega arith;
     items = tt;
   })
-
--- no step is printed
-pub sees_header_prints : (rules : Declaration) (ratio : IsRatio rules.ratio) (declared : IsDeclarable rules)
-    → printed_of (sees_header rules ratio declared).steps ≡ []
-unfolding sees_header
-sees_header_prints rules ratio declared = refl

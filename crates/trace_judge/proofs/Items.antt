@@ -33,7 +33,7 @@ later : (mark t : ℕ) → mark ≤ t → max mark t ≡ t
 later mark t ordered = omega arith
 
 -- the mark after a first item that may follow
-mark_next : (rules : Declaration) (before : List Item) (mark : ℕ) (x : Item) (more : List Item)
+pub mark_next : (rules : Declaration) (before : List Item) (mark : ℕ) (x : Item) (more : List Item)
     → FollowsItems rules before mark (x ∷ more)
     → mark_after (tick_of_item x) more ≡ mark_after mark (x ∷ more)
 mark_next rules before mark (JobItem j) more follows =

@@ -1,6 +1,6 @@
 -- What the text of a line names behind a session.
-use Rattle.std.proofs.Common.{sym, Option, subst, List}
-use Rattle.std.proofs.Common.{◌≡◌, ℕ, ◌∷◌, [], refl, ap, ◌∙◌, Some, None, codes}
+use Rattle.std.proofs.Common.{sym, Option, subst}
+use Rattle.std.proofs.Common.{◌≡◌, ℕ, ◌∷◌, refl, ap, ◌∙◌, Some, None, codes}
 use Rattle.std.specs.Option.{option_or, option_and_then}
 use Rattle.dover_model.proofs.NoFeeds.{header_short}
 use Rattle.dover_model.specs.Numerals.{AreShort}

@@ -15,6 +15,7 @@ use Rattle.dover_model.proofs.TraceEnds.{trace_ends}
 use Rattle.dover_model.specs.Leading.{PrintsNext}
 use Rattle.dover_model.proofs.Leading.{idles_append}
 use Rattle.trace_judge.specs.Reading.{HasRoom}
+use Rattle.admission.specs.Kept as admission
 use Rattle.trace_judge.proofs.Seeing.{sees_expects}
 use Rattle.trace_judge.specs.declared.stage.Stage.{Stage}
 use Rattle.trace_judge.specs.declared.stage.Stage.TheVariants.{Opening, Going, Ended}
@@ -22,6 +23,23 @@ use Rattle.ready_jobs.specs.Course.{Course, Follows, GoesOnFrom}
 use Rattle.trace_judge.specs.Reads.{Reading, Opens, Goes, Ends, ReadsAhead, Reads, StaysAhead, HasSpare, IsReader}
 use Rattle.trace_judge.specs.Reads.{IsUnchangedFor}
 use Rattle.ready_jobs.proofs.Courses.{follows_room}
+use Rattle.dover_model.specs.Verdict.{begins_trace}
+use Rattle.trace_judge.specs.Reads.{Took, kept_steps}
+use Rattle.dover_model.specs.Run.{Step, printed_of, printed}
+use Rattle.std.proofs.Common.{Bool, false, refl, length-append}
+use Rattle.std.proofs.lemmas.List.{append-nil}
+use Rattle.std.proofs.lemmas.Bool.{false_from_ne_true}
+use Rattle.dover_model.specs.Instance.{IsValid}
+use Rattle.dover_model.proofs.Ending.{few_printed}
+use Rattle.std.specs.List.{fold}
+use Rattle.std.proofs.lemmas.List.Sums.{fold-append}
+use Rattle.dover_model.specs.Settled.{tick_of_event, last_of}
+use Rattle.dover_model.specs.Session.{Item, with_item, admitted_jobs, job_of_item, refused_of_item}
+use Rattle.dover_model.specs.JobFacts.{JobFacts}
+use Rattle.trace_judge.proofs.Continuing.{SeesWith}
+use Rattle.dover_model.specs.Leading.{Idles}
+use Rattle.std.specs.Prelude.{filter_map}
+use Rattle.std.proofs.lemmas.List.Elements.{filter_map-append}
 
 -- ---- where the run has gone on
 
@@ -78,6 +96,144 @@ module _ (r : Reading) (ls : List (List ℕ)) where
     by_stage Opening opens = opens
     by_stage Going it = (it.0, it.1, it.1, it.2)
     by_stage Ended it = it
+
+-- ---- lines that come next
+
+-- the run has gone on just as far as the lines
+abbrev pub GoesHere : Reading → List (List ℕ) → Type 0
+GoesHere r ls = (S : Session) × (z : State) × Goes r ls S z z
+
+-- with the line the reading goes on to the other, behind whichever lines
+abbrev pub Continues : (w t : Reading) → List ℕ → Type 0
+Continues w t line = (ls : List (List ℕ)) (S : Session) (z y : State) → Goes w ls S z y → GoesHere t (ls ++ line ∷ [])
+
+module _ (w t : Reading) (line : List ℕ) where
+  -- no trace goes on with the line
+  pub took_none : StaysAhead w t
+      → ((ls : List (List ℕ)) → Reads w ls → begins_trace (ls ++ line ∷ []) ≡ true → ⊥) → Took w t line false
+  took_none ahead none = record {
+    yes = λ e. absurd (let clash : false ≡ true = e in cc);
+    no = λ _ ls reads. (false_from_ne_true _ (none ls reads), ahead ls (reads_ahead w ls reads));
+  }
+
+  module _ (going : w.stage ≡ Going) where
+    -- behind the header
+    pub goes_none : StaysAhead w t
+        → ((ls : List (List ℕ)) (S : Session) (z : State) → Goes w ls S z z → begins_trace (ls ++ line ∷ []) ≡ true → ⊥)
+        → Took w t line false
+    goes_none ahead none = took_none ahead (λ ls reads passes.
+        let here : GoesHere w ls = here_of w ls going reads in none ls here.0 here.1 here.2 passes)
+
+    -- the trace goes on with it
+    pub goes_some : ((ls : List (List ℕ)) (S : Session) (z : State) → Goes w ls S z z → Reads t (ls ++ line ∷ []))
+        → Took w t line true
+    goes_some more = record {
+      yes = λ _ ls reads. let here : GoesHere w ls = here_of w ls going reads in more ls here.0 here.1 here.2;
+      no = λ e. absurd (let clash : true ≡ false = e in cc);
+    }
+
+-- what is kept of lines to which the run has gone on
+pub here_reader : (t : Reading) → t.stage ≡ Going → HasSpare t → (ls : List (List ℕ)) → GoesHere t ls → IsReader t
+here_reader t going spare ls it =
+    record { spare = spare; lines = ls; reads = ahead_of t ls going it.0 it.1 it.1 it.2 }
+
+-- so it is of the lines of a reading, with one more
+pub continued_reader : (r w t : Reading) (line : List ℕ) → r ≡ w → w.stage ≡ Going → t.stage ≡ Going → IsReader r
+    → HasSpare t → Continues w t line → IsReader t
+continued_reader r w t line same going going_t old spare more =
+    let it : (S : Session) × (z : State) × (y : State) × Goes w old.lines S z y =
+    goes_of w old.lines going (subst (λ v. ReadsAhead v old.lines) same old.reads) in
+    here_reader t going_t spare (old.lines ++ line ∷ []) (more old.lines it.0 it.1 it.2 it.3)
+
+-- the run has gone on silently
+pub goes_along : (r : Reading) (d : Course) (ls : List (List ℕ)) (S : Session) (z y x : State) → Goes r ls S z y
+    → (xs : List Step) → Idles (instance_of S).rules y xs x → Follows d (instance_of S) x
+    → Goes (record r { course = d }) ls S z x
+goes_along r d ls S z y x goes xs idles follows = record {
+  sees = goes.sees;
+  idles = (goes.idles.0 ++ xs, idles_append (instance_of S).rules goes.idles.0 xs z y x goes.idles.1 idles);
+  follows = follows;
+  kept = goes.kept;
+  rules = goes.rules;
+  items = goes.items;
+  steps = goes.steps;
+  refused = goes.refused;
+  last = goes.last;
+}
+
+-- the steps that are kept, with more
+pub kept_more : (b : Bool) (es more kept : List Event) → kept ≡ kept_steps b es
+    → cond b (kept ++ more) kept ≡ kept_steps b (es ++ more)
+kept_more true es more kept is = ap (λ xs. xs ++ more) is
+kept_more false es more kept is = is
+
+-- or with none
+pub kept_none : (b : Bool) (kept : List Event) → kept ≡ cond b (kept ++ []) kept
+kept_none true kept = sym (append-nil kept)
+kept_none false kept = refl
+
+-- no more steps are kept than there are
+kept_length : (b : Bool) (es : List Event) → length (kept_steps b es) ≤ length es
+kept_length true es = omega arith
+kept_length false es = omega arith
+
+-- where an item is no job, the same jobs stand
+pub no_job : (kept : admission.Kept) (jobs : List JobFacts) → admission.StandsFor kept jobs
+    → admission.StandsFor kept (jobs ++ [])
+no_job kept jobs stands = subst (admission.StandsFor kept) (sym (append-nil jobs)) stands
+
+module _ (r : Reading) (ls : List (List ℕ)) (S : Session) (z y : State) (goes : Goes r ls S z y) where
+  -- the steps so far
+  abbrev so_far : List Event
+  so_far = printed_of goes.sees.steps
+
+  -- there is room for a step, where the run of no more jobs than there is room for prints more than these
+  pub room_for : HasSpare r → r.keep ≡ true → (J : Instance) → IsValid J → length so_far < length (printed J)
+      → length J.jobs ≤ r.course.jobs + r.spare → length r.steps < r.room
+  room_for spare keep J valid longer few =
+      let room : 5 * (r.course.jobs + r.spare) + 1 ≤ r.room = spare.steps keep in
+      omega (arith, longer, few, few_printed J valid, ap length goes.steps, kept_length r.keep so_far)
+
+  -- so the steps are kept with those of a line more, and the tick of the last
+  module _ (t : Reading) (keep : t.keep ≡ r.keep) (es all : List Event) (are : all ≡ so_far ++ es) where
+    pub steps_more : t.steps ≡ cond r.keep (r.steps ++ es) r.steps → t.steps ≡ kept_steps t.keep all
+    steps_more steps = steps ∙ kept_more r.keep so_far es r.steps goes.steps
+        ∙ ap (λ b. kept_steps b (so_far ++ es)) (sym keep) ∙ ap (kept_steps t.keep) (sym are)
+
+    pub last_more : t.last ≡ fold (λ tick e. tick_of_event e) r.last es → t.last ≡ last_of all
+    last_more last = last ∙ ap (λ n. fold (λ tick e. tick_of_event e) n es) goes.last
+        ∙ sym (fold-append (λ tick e. tick_of_event e) 0 so_far es) ∙ ap last_of (sym are)
+
+  -- an item more, and what is printed with it
+  module _ (x : Item) (t : Reading) (more : List (List ℕ)) (u : State) (es : List Event)
+      (sees : SeesWith more (with_item S x) t.floor u (so_far ++ es))
+      (follows : Follows t.course (instance_of (with_item S x)) u)
+      (stands : (jobs : List JobFacts) → admission.StandsFor r.kept jobs
+      → admission.StandsFor t.kept (jobs ++ filter_map job_of_item (x ∷ [])))
+      (rules : t.kept.rules ≡ r.kept.rules) (items : t.items ≡ r.items + 1) (keep : t.keep ≡ r.keep)
+      (steps : t.steps ≡ cond r.keep (r.steps ++ es) r.steps)
+      (refused : t.refused ≡ r.refused + length (filter_map refused_of_item (x ∷ [])))
+      (last : t.last ≡ fold (λ tick e. tick_of_event e) r.last es) where
+    -- it is kept of the lines with its own
+    pub item_more : Goes t more (with_item S x) u u
+    item_more = record {
+      sees = sees.0;
+      idles = ([], refl);
+      follows = follows;
+      kept = subst (admission.StandsFor t.kept) (sym (filter_map-append job_of_item S.items (x ∷ [])))
+          (stands (admitted_jobs S.items) goes.kept);
+      rules = rules ∙ goes.rules;
+      items = omega (arith, items, goes.items, length-append S.items (x ∷ []));
+      steps = steps_more t keep es (printed_of sees.0.steps) sees.1 steps;
+      refused = omega (
+        arith,
+        refused,
+        goes.refused,
+        ap length (filter_map-append refused_of_item S.items (x ∷ [])),
+        length-append (filter_map refused_of_item S.items) (filter_map refused_of_item (x ∷ [])),
+      );
+      last = last_more t keep es (printed_of sees.0.steps) sees.1 last;
+    }
 
 -- items are few
 pub few_items : (v : Version) (n : ℕ) → n < most_items v → n < 16_000_000_000
@@ -168,28 +324,10 @@ module _ (r : Reading) (d : Course) (e : Event) (going : r.stage ≡ Going)
       → (x : State) × Goes (record r { course = d }) ls S z x × PrintsNext (instance_of S).rules z e x
   next_goes ls S z y goes =
       let it : (x : State) × Follows d (instance_of S) x × PrintsNext (instance_of S).rules y e x =
-      next (instance_of S) y goes.follows in (
-        it.0,
-        record {
-          sees = goes.sees;
-          idles = (
-            goes.idles.0 ++ it.2.steps,
-            idles_append (instance_of S).rules goes.idles.0 it.2.steps z y it.0 goes.idles.1 it.2.idles,
-          );
-          follows = it.1;
-          kept = goes.kept;
-          rules = goes.rules;
-          items = goes.items;
-          steps = goes.steps;
-          refused = goes.refused;
-          last = goes.last;
-        },
-        record {
-          steps = goes.idles.0 ++ it.2.steps;
-          idles = idles_append (instance_of S).rules goes.idles.0 it.2.steps z y it.0 goes.idles.1 it.2.idles;
-          prints = it.2.prints;
-        },
-      )
+      next (instance_of S) y goes.follows in
+      let on : Goes (record r { course = d }) ls S z it.0 =
+      goes_along r d ls S z y it.0 goes it.2.steps it.2.idles it.1 in
+      (it.0, on, record { steps = on.idles.0; idles = on.idles.1; prints = it.2.prints })
 
   -- it stays kept
   pub next_ahead : (ls : List (List ℕ)) → ReadsAhead r ls → ReadsAhead (record r { course = d }) ls

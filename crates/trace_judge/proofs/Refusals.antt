@@ -1,9 +1,7 @@
 -- How the judge takes a refused line: of a job, or a done line.
-use Rattle.std.proofs.Common.{◌≡◌, ℕ, ◌+◌, ◌≤◌, ◌<◌, List, [], ◌∷◌, ◌++◌, length, length-append, refl, sym, ap, ◌∙◌}
+use Rattle.std.proofs.Common.{◌≡◌, ℕ, ◌+◌, ◌≤◌, ◌<◌, List, [], ◌∷◌, ◌++◌, length, refl, sym, ap, ◌∙◌}
 use Rattle.std.proofs.Common.{subst, true, false, arith, Some, None, cond}
 use Rattle.std.specs.Prelude.{◌&&◌, nat_le, is_some, filter_map}
-use Rattle.std.proofs.lemmas.Bool.{false_from_ne_true}
-use Rattle.std.proofs.lemmas.List.Elements.{filter_map-append}
 use Rattle.admission.specs.Kept as admission
 use Rattle.dover_model.specs.Limits.{last_tick, most_items}
 use Rattle.dover_model.specs.JobFacts.{JobFacts, job_of_numbers}
@@ -12,7 +10,6 @@ use Rattle.dover_model.specs.declared.events.Refusal.TheVariants.{Full}
 use Rattle.dover_model.specs.Instance.{Instance}
 use Rattle.dover_model.specs.State.{State}
 use Rattle.dover_model.specs.Run.{printed_of}
-use Rattle.dover_model.specs.Settled.{last_of}
 use Rattle.dover_model.specs.Session.{RefusedItem, Refused as RefusedAt, Session, instance_of, admitted_jobs, with_item}
 use Rattle.dover_model.specs.Session.{refuses_lines, is_full, refused_mark, may_finish_early, finish_at}
 use Rattle.dover_model.specs.Session.{refused_of_item}
@@ -25,19 +22,22 @@ use Rattle.dover_model.proofs.Growing.{refused_instance}
 use Rattle.line_text.specs.declared.traces.lines.TraceLine.TheVariants.{Refused, RefusedDone}
 use Rattle.line_text.specs.traces.Form.{HasForm, refused_job, refused_done}
 use Rattle.dover_model.specs.Leading.{Idles, WaitsUntil}
-use Rattle.trace_judge.specs.Reading.{Sees, MayRefuse}
-use Rattle.trace_judge.proofs.Continuing.{sees_refused, sees_refused_prints, sees_idles, sees_idles_prints}
+use Rattle.trace_judge.specs.Reading.{MayRefuse}
+use Rattle.trace_judge.proofs.Continuing.{sees_refused, sees_idles}
 use Rattle.trace_judge.proofs.Naming.{item_named}
 use Rattle.trace_judge.proofs.Only.{only_refused}
 use Rattle.trace_judge.specs.declared.stage.Stage.TheVariants.{Going}
 use Rattle.ready_jobs.specs.Course.{Follows}
-use Rattle.trace_judge.specs.Reads.{Reading, Goes, ReadsAhead, StaysAhead, IsReader, kept_steps, Took, Waited, at_tick}
+use Rattle.trace_judge.specs.Reads.{Reading, Goes, StaysAhead, IsReader, Took, Waited, at_tick}
 use Rattle.trace_judge.specs.Reads.{refusal_if_full}
 use Rattle.trace_judge.proofs.Causes.{full_there, refused_if_full, refused_there}
-use Rattle.trace_judge.proofs.Readings.{goes_of, ahead_of, here_of, reads_of, reads_ahead, version_kept, room_kept}
+use Rattle.trace_judge.proofs.Readings.{goes_of, reads_of, version_kept, room_kept}
 use Rattle.trace_judge.proofs.Readings.{room_left}
 use Rattle.dover_model.proofs.Tests.{never}
 use Rattle.trace_judge.proofs.Follows.{refused_parts}
+use Rattle.trace_judge.proofs.Continuing.{SeesWith}
+use Rattle.trace_judge.proofs.Readings.{goes_none, goes_some, Continues, continued_reader, item_more, no_job, kept_none}
+use Rattle.std.proofs.lemmas.List.{append-nil}
 
 -- no more lines are refused than there are items
 few_refused : (items : List session.Item) → length (filter_map refused_of_item items) ≤ length items
@@ -60,17 +60,9 @@ module _ (line : RefusedAt) (named : (S : Session) → named_item S (refused_tex
         → ((ls : List (List ℕ)) (S : Session) (z : State) → Goes w ls S z z → (y : State)
         → MayRefuse S w.floor z line y → ⊥)
         → Took w v2 (refused_text line) false
-    not_refused v2 ahead none = record {
-      yes = λ e. absurd (let clash : false ≡ true = e in cc);
-      no = λ _ ls reads.
-          let here : (S : Session) × (z : State) × Goes w ls S z z = here_of w ls going reads in (
-            false_from_ne_true _ (λ passes.
-                let it : (y : State) × MayRefuse here.0 w.floor here.1 line y =
-                refused_only w ls here.0 here.1 here.2 passes in
-                none ls here.0 here.1 here.2 it.0 it.1),
-            ahead ls (reads_ahead w ls reads),
-          );
-    }
+    not_refused v2 ahead none = goes_none w v2 (refused_text line) going ahead (λ ls S z goes passes.
+        let it : (y : State) × MayRefuse S w.floor z line y = refused_only w ls S z goes passes in
+        none ls S z goes it.0 it.1)
 
     -- something comes before its tick
     pub not_waited : (v2 : Reading)
@@ -91,8 +83,7 @@ module _ (line : RefusedAt) (named : (S : Session) → named_item S (refused_tex
       refused = record u { items = u.items + 1; floor = line.at; refused = u.refused + 1 }
 
       -- it is kept of the lines with its text
-      refused_goes : (ls : List (List ℕ)) (S : Session) (z y : State) → Goes w ls S z y
-          → (x : State) × Goes refused (ls ++ refused_text line ∷ []) (with_item S (RefusedItem line)) x x
+      refused_goes : Continues w refused (refused_text line)
       refused_goes ls S z y goes =
           let there : (x : State) × Waited v2 line.at ls S z x = waits ls S z y goes in
           let waited : Waited u line.at ls S z there.0 =
@@ -112,32 +103,19 @@ module _ (line : RefusedAt) (named : (S : Session) → named_item S (refused_tex
           } in
           let S_more : Session = with_item S (RefusedItem line) in
           let J_same : instance_of S_more ≡ instance_of S = refused_instance S line in
-          let sees : Sees (ls ++ refused_text line ∷ []) S_more line.at z =
+          let sees : SeesWith (ls ++ refused_text line ∷ []) S_more line.at z (printed_of here.sees.steps) =
           sees_refused ls S u.floor z here.sees line (at_tick line.at x.tasks) may in
           let idles : Idles (instance_of S_more).rules z here.idles.0 x =
           subst (λ (J : Instance). Idles J.rules z here.idles.0 x) (sym J_same) here.idles.1 in
-          let low : x.clock ≤ line.at = omega (arith, here.follows.clock, waited.low) in
-          let prints : printed_of (sees_idles (ls ++ refused_text line ∷ []) S_more line.at z sees here.idles.0 x
-          idles low).steps ≡ printed_of here.sees.steps =
-          sees_idles_prints (ls ++ refused_text line ∷ []) S_more line.at z sees here.idles.0 x idles low
-          ∙ sees_refused_prints ls S u.floor z here.sees line (at_tick line.at x.tasks) may in (
+          let on : SeesWith (ls ++ refused_text line ∷ []) S_more line.at x (printed_of sees.0.steps) =
+          sees_idles (ls ++ refused_text line ∷ []) S_more line.at z sees.0 here.idles.0 x idles
+          (omega (arith, here.follows.clock, waited.low)) in (
+            S_more,
             x,
-            record {
-              sees = sees_idles (ls ++ refused_text line ∷ []) S_more line.at z sees here.idles.0 x idles low;
-              idles = ([], refl);
-              follows = subst (λ J. Follows u.course J x) (sym J_same) here.follows;
-              kept = subst (λ (J : Instance). admission.StandsFor u.kept J.jobs) (sym J_same) here.kept;
-              rules = here.rules;
-              items = omega (arith, here.items, length-append S.items (RefusedItem line ∷ []));
-              steps = here.steps ∙ ap (kept_steps u.keep) (sym prints);
-              refused = omega (
-                arith,
-                here.refused,
-                ap length (filter_map-append refused_of_item S.items (RefusedItem line ∷ [])),
-                length-append (filter_map refused_of_item S.items) (line ∷ []),
-              );
-              last = here.last ∙ ap last_of (sym prints);
-            },
+            item_more u ls S z x here (RefusedItem line) refused (ls ++ refused_text line ∷ []) x []
+                (on.0, on.1 ∙ sees.1 ∙ sym (append-nil (printed_of here.sees.steps)))
+                (subst (λ J. Follows u.course J x) (sym J_same) here.follows) (no_job u.kept) refl refl refl
+                (kept_none u.keep u.steps) (omega arith) refl,
           )
 
       -- the stage
@@ -146,26 +124,14 @@ module _ (line : RefusedAt) (named : (S : Session) → named_item S (refused_tex
 
       -- the trace goes on
       pub refused_took : Took w refused (refused_text line) true
-      refused_took = record {
-        yes = λ _ ls reads.
-            let here : (S : Session) × (z : State) × Goes w ls S z z = here_of w ls going reads in
-            let new = refused_goes ls here.0 here.1 here.1 here.2 in
-            reads_of refused (ls ++ refused_text line ∷ []) going_u (with_item here.0 (RefusedItem line)) new.0 new.1;
-        no = λ e. absurd (let clash : true ≡ false = e in cc);
-      }
+      refused_took = goes_some w refused (refused_text line) going (λ ls S z goes.
+          let new = refused_goes ls S z z goes in
+          reads_of refused (ls ++ refused_text line ∷ []) going_u new.0 new.1 new.2)
 
       -- and it is kept of some lines
       pub refused_reader : IsReader u → (t : Reading) → t ≡ w → IsReader t → IsReader refused
-      refused_reader old t is_w before =
-          let it : (S : Session) × (z : State) × (y : State) × Goes w before.lines S z y =
-          goes_of w before.lines going (subst (λ s. ReadsAhead s before.lines) is_w before.reads) in
-          let new = refused_goes before.lines it.0 it.1 it.2 it.3 in
-          record {
-            spare = record { ready = old.spare.ready; steps = old.spare.steps };
-            lines = before.lines ++ refused_text line ∷ [];
-            reads = ahead_of refused (before.lines ++ refused_text line ∷ []) going_u
-                (with_item it.0 (RefusedItem line)) new.0 new.0 new.1;
-          }
+      refused_reader old t is_w before = continued_reader t w refused (refused_text line) is_w going going_u before
+          (record { ready = old.spare.ready; steps = old.spare.steps }) refused_goes
 
 -- fewer lines were refused than there are items
 pub refused_few : (r : Reading) → IsReader r → r.stage ≡ Going → r.refused ≤ r.items

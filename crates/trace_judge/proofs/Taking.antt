@@ -20,24 +20,21 @@ use Rattle.dover_model.specs.Sound.{Keeps}
 use Rattle.dover_model.proofs.LastSteps.{prints_clock}
 use Rattle.dover_model.proofs.Kept.{open_deed}
 use Rattle.dover_model.proofs.Prefixes.{step_open}
-use Rattle.std.proofs.lemmas.List.Sums.{fold-append}
 use Rattle.dover_model.specs.Session.{Session, instance_of, new_session, is_declarable, IsDeclarable}
 use Rattle.dover_model.specs.Feed.{rules_with}
 use Rattle.dover_model.proofs.Members.{some_same}
 use Rattle.dover_model.specs.Text.{header, text_of, version_number}
 use Rattle.dover_model.specs.Verdict.{begins_trace, named_item, version_of_number}
 use Rattle.dover_model.proofs.TraceLines.{version_back, version_from}
-use Rattle.dover_model.proofs.Ending.{end_over, few_printed}
-use Rattle.dover_model.proofs.NoFeeds.{header_short}
+use Rattle.dover_model.proofs.Ending.{end_over}
 use Rattle.dover_model.proofs.Tests.{never}
 use Rattle.line_text.specs.declared.traces.lines.TraceLine.TheVariants.{Header, Step as StepLine}
 use Rattle.line_text.specs.traces.Form.{HasForm, trace_text}
 use Rattle.admission.specs.Kept as admission
 use Rattle.dover_model.specs.Leading.{Idles, GoesOn, WaitsUntil, PrintsNext, floor_after}
-use Rattle.trace_judge.specs.Reading.{Sees}
-use Rattle.dover_model.proofs.Leading.{idles_append, idles_settles, settles_append, settles_or_prints, prints_goes_on}
+use Rattle.dover_model.proofs.Leading.{idles_settles, settles_append, settles_or_prints, prints_goes_on}
 use Rattle.trace_judge.proofs.Seeing.{sees_next}
-use Rattle.trace_judge.proofs.Continuing.{sees_step, sees_step_prints, sees_header, sees_header_prints}
+use Rattle.trace_judge.proofs.Continuing.{sees_step, sees_header}
 use Rattle.trace_judge.proofs.Finishing.{ended_run, ended_trace, ended_value}
 use Rattle.trace_judge.proofs.Only.{only_headers, only_step}
 use Rattle.trace_judge.specs.declared.stage.Stage.TheVariants.{Opening, Going, Ended}
@@ -49,6 +46,8 @@ use Rattle.trace_judge.proofs.Forms.{one_form, next_form}
 use Rattle.trace_judge.proofs.Readings.{goes_of, ahead_of, here_of, reads_of, opens_of, reads_ahead, next_goes}
 use Rattle.trace_judge.proofs.Readings.{spare_stays, next_ahead}
 use Rattle.dover_model.proofs.SessionParts.{session_jobs}
+use Rattle.trace_judge.proofs.Readings.{goes_along, took_none, room_for, kept_more, steps_more, last_more, Continues, continued_reader}
+use Rattle.trace_judge.proofs.Continuing.{SeesWith}
 
 -- ---- silent steps up to a tick
 
@@ -69,20 +68,7 @@ module _ (r w : Reading) (same : r ≡ w) (d : Course) (tick : ℕ) (o : Option 
       → Goes (record r { course = d }) ls S z (settled (instance_of S) y goes.follows).state
   settled_goes ls S z y goes =
       let it : Settled d (instance_of S) y tick o = settled (instance_of S) y goes.follows in
-      record {
-        sees = goes.sees;
-        idles = (
-          goes.idles.0 ++ it.idles.0,
-          idles_append (instance_of S).rules goes.idles.0 it.idles.0 z y it.state goes.idles.1 it.idles.1,
-        );
-        follows = it.follows;
-        kept = goes.kept;
-        rules = goes.rules;
-        items = goes.items;
-        steps = goes.steps;
-        refused = goes.refused;
-        last = goes.last;
-      }
+      goes_along r d ls S z y it.state goes it.idles.0 it.idles.1 it.follows
 
   -- they stay kept
   pub settled_ahead : r.stage ≡ Going → StaysAhead w (record r { course = d })
@@ -103,20 +89,7 @@ module _ (r w : Reading) (same : r ≡ w) (d : Course) (tick : ℕ) (o : Option 
       let at : y.clock ≤ tick = omega (arith, goes.follows.clock) in (
         it.state,
         record {
-          goes = record {
-            sees = goes.sees;
-            idles = (
-              goes.idles.0 ++ it.idles.0,
-              idles_append (instance_of S).rules goes.idles.0 it.idles.0 z y it.state goes.idles.1 it.idles.1,
-            );
-            follows = it.follows;
-            kept = goes.kept;
-            rules = goes.rules;
-            items = goes.items;
-            steps = goes.steps;
-            refused = goes.refused;
-            last = goes.last;
-          };
+          goes = goes_along r d ls S z y it.state goes it.idles.0 it.idles.1 it.follows;
           no_fall = floor;
           low = low;
           there = it.comes.1;
@@ -195,17 +168,11 @@ module _ (r : Reading) (opening_stage : r.stage ≡ Opening) (v p q : ℕ) (fact
   not_header : ((rules : Declaration) → IsRatio rules.ratio → IsDeclarable rules
       → Header v p q factor ≡ header_line rules → ⊥)
       → Took r r (trace_text (Header v p q factor)) false
-  not_header none = record {
-    yes = λ e. absurd (let clash : false ≡ true = e in cc);
-    no = λ _ ls reads. (
-      false_from_ne_true _ (λ passes.
-          let opens : Opens r ls = opens_of r ls opening_stage (reads_ahead r ls reads) in
-          let it = header_only v p q factor form
-          (subst (λ xs. begins_trace (xs ++ trace_text (Header v p q factor) ∷ []) ≡ true) opens.lines passes) in
-          none it.0 it.1 it.2 it.3),
-      reads_ahead r ls reads,
-    );
-  }
+  not_header none = took_none r r (trace_text (Header v p q factor)) (λ ls reads. reads) (λ ls reads passes.
+      let opens : Opens r ls = opens_of r ls opening_stage (reads_ahead r ls reads) in
+      let it = header_only v p q factor form
+      (subst (λ xs. begins_trace (xs ++ trace_text (Header v p q factor) ∷ []) ≡ true) opens.lines passes) in
+      none it.0 it.1 it.2 it.3)
 
   -- its number is no version
   pub no_version : version_of_number v ≡ None → Took r r (trace_text (Header v p q factor)) false
@@ -257,12 +224,10 @@ module _ (r : Reading) (opening_stage : r.stage ≡ Opening) (v p q : ℕ) (fact
         let floor : 0 ≡ r.floor = sym opens.floor in
         let lines : header rules ∷ [] ≡ ls ++ trace_text (Header v p q factor) ∷ [] =
         ap (λ l. l ∷ []) (sym text_is) ∙ ap (λ xs. xs ++ trace_text (Header v p q factor) ∷ []) (sym opens.lines) in
-        let sees : (s : Sees (ls ++ trace_text (Header v p q factor) ∷ []) (new_session rules) r.floor (opening []))
-        × (printed_of s.steps ≡ []) =
-        subst (λ xs. (s : Sees xs (new_session rules) r.floor (opening [])) × (printed_of s.steps ≡ [])) lines
-        (subst (λ n. (s : Sees (header rules ∷ []) (new_session rules) n (opening [])) × (printed_of s.steps ≡ []))
-        floor
-        (sees_header rules is_ratio.1 may, sees_header_prints rules is_ratio.1 may)) in
+        let sees : SeesWith (ls ++ trace_text (Header v p q factor) ∷ []) (new_session rules) r.floor (opening []) [] =
+        subst (λ xs. SeesWith xs (new_session rules) r.floor (opening []) []) lines
+        (subst (λ n. SeesWith (header rules ∷ []) (new_session rules) n (opening []) []) floor
+        (sees_header rules is_ratio.1 may)) in
         record {
           sees = sees.0;
           idles = ([], refl);
@@ -315,17 +280,6 @@ module _ (r : Reading) (opening_stage : r.stage ≡ Opening) (v p q : ℕ) (fact
 
 -- ---- a printed step
 
--- the steps that are kept, with one more
-pub kept_more : (b : Bool) (es kept : List Event) (e : Event) → kept ≡ kept_steps b es
-    → cond b (kept ++ e ∷ []) kept ≡ kept_steps b (es ++ e ∷ [])
-kept_more true es kept e is = ap (λ xs. xs ++ e ∷ []) is
-kept_more false es kept e is = is
-
--- no more steps are kept than there are
-pub kept_length : (b : Bool) (es : List Event) → length (kept_steps b es) ≤ length es
-kept_length true es = omega arith
-kept_length false es = omega arith
-
 -- an event that is the last
 end_is : (e : Event) → is_end (Prints e) ≡ true → (v : ℕ) × (e ≡ End v)
 end_is (End v) is = (v, refl)
@@ -335,10 +289,6 @@ end_is (Preempt at stops starts) is = never is
 end_is (Take at stops starts) is = never is
 end_is (Complete at n) is = never is
 end_is (Abandon at n) is = never is
-
--- the tick of the last of steps, with one more
-pub last_more : (es : List Event) (e : Event) → last_of (es ++ e ∷ []) ≡ tick_of_event e
-last_more es e = fold-append (λ tick e. tick_of_event e) 0 es (e ∷ [])
 
 -- the floor after an event, as it is computed
 floor_is : (z : State) (e : Event) (clock : ℕ) → clock ≡ z.clock
@@ -371,16 +321,9 @@ module _ (r w : Reading) (same : r ≡ w) (going_w : w.stage ≡ Going) (d : Cou
       let new = next_goes r d due going next old.lines it.0 it.1 it.2 it.3 in
       let all : (more : List Event) × (printed (instance_of it.0) ≡ printed_of it.3.sees.steps ++ due ∷ more) =
       sees_next old.lines it.0 r.floor it.1 it.3.sees due new.0 new.2 in
-      let room : 5 * (r.course.jobs + r.spare) + 1 ≤ r.room = old.spare.steps keep in
-      omega (
-        arith,
-        ap length all.1,
-        length-append (printed_of it.3.sees.steps) (due ∷ all.0),
-        few_printed (instance_of it.0) (session_jobs it.3.sees.valid),
-        follows_count r.course (instance_of it.0) it.2 it.3.follows,
-        ap length it.3.steps,
-        kept_length r.keep (printed_of it.3.sees.steps),
-      )
+      room_for r old.lines it.0 it.1 it.2 it.3 old.spare keep (instance_of it.0) (session_jobs it.3.sees.valid)
+      (omega (arith, ap length all.1, length-append (printed_of it.3.sees.steps) (due ∷ all.0)))
+      (omega (arith, follows_count r.course (instance_of it.0) it.2 it.3.follows))
 
   module _ (event : Event) (form : HasForm (StepLine event)) where
     -- another step
@@ -430,7 +373,7 @@ module _ (r w : Reading) (same : r ≡ w) (going_w : w.stage ≡ Going) (d : Cou
               value = ended_value ls S r.floor z goes.sees v.0 new.0 next_end ∙ value;
               jobs = sym (follows_count d J new.0 new.1.follows);
               refused = goes.refused;
-              steps = kept ∙ kept_more r.keep (printed_of goes.sees.steps) r.steps due goes.steps
+              steps = kept ∙ kept_more r.keep (printed_of goes.sees.steps) (due ∷ []) r.steps goes.steps
                   ∙ ap (λ e. kept_steps r.keep (printed_of goes.sees.steps ++ e ∷ [])) v.1
                   ∙ ap (kept_steps r.keep) (sym (ended_run ls S r.floor z goes.sees v.0 new.0 next_end));
             } where
@@ -475,24 +418,20 @@ module _ (r w : Reading) (same : r ≡ w) (going_w : w.stage ≡ Going) (d : Cou
         abbrev stepped : Reading
         stepped = record r { course = d2; floor = floor; steps = steps; room = room; last = clock }
 
-        -- the lines with its text
-        stepped_goes : (ls : List (List ℕ)) (S : Session) (z y : State) (goes : Goes r ls S z y)
-            → (x : State) × Goes stepped (ls ++ text_of event ∷ []) S (after x (Prints due)) (after x (Prints due))
+        -- it is kept of the lines with its text
+        stepped_goes : Continues r stepped (text_of event)
         stepped_goes ls S z y goes =
             let new = next_goes r d due going next ls S z y goes in
             let x : State = new.0 in
             let where_to : max r.floor (floor_after x due) ≡ floor =
             ap (max r.floor) (sym (floor_is x due clock (at ∙ sym new.1.follows.clock))) ∙ sym floor_at in
-            let sees : (s : Sees (ls ++ text_of event ∷ []) S floor (after x (Prints due)))
-            × (printed_of s.steps ≡ printed_of goes.sees.steps ++ due ∷ []) =
-            subst (λ n. (s : Sees (ls ++ text_of event ∷ []) S n (after x (Prints due)))
-            × (printed_of s.steps ≡ printed_of goes.sees.steps ++ due ∷ [])) where_to
-            (subst (λ e. (s : Sees (ls ++ text_of e ∷ []) S (max r.floor (floor_after x due)) (after x (Prints due))) ×
-            (printed_of s.steps ≡ printed_of goes.sees.steps ++ due ∷ [])) is_event (
-              sees_step ls S r.floor z goes.sees due x new.2 more,
-              sees_step_prints ls S r.floor z goes.sees due x new.2 more,
-            )) in (
-              x,
+            let so_far : List Event = printed_of goes.sees.steps in
+            let sees : SeesWith (ls ++ text_of event ∷ []) S floor (after x (Prints due)) (so_far ++ due ∷ []) =
+            subst (λ n. SeesWith (ls ++ text_of event ∷ []) S n (after x (Prints due)) (so_far ++ due ∷ [])) where_to
+            (subst (λ e. SeesWith (ls ++ text_of e ∷ []) S (max r.floor (floor_after x due)) (after x (Prints due))
+            (so_far ++ due ∷ [])) is_event (sees_step ls S r.floor z goes.sees due x new.2 more)) in (
+              S,
+              after x (Prints due),
               record {
                 sees = sees.0;
                 idles = ([], refl);
@@ -500,13 +439,12 @@ module _ (r w : Reading) (same : r ≡ w) (going_w : w.stage ≡ Going) (d : Cou
                 kept = goes.kept;
                 rules = goes.rules;
                 items = goes.items;
-                steps = kept ∙ kept_more r.keep (printed_of goes.sees.steps) r.steps due goes.steps
-                    ∙ ap (kept_steps r.keep) (sym sees.1);
+                steps = steps_more r ls S z y goes stepped refl (due ∷ []) (printed_of sees.0.steps) sees.1 kept;
                 refused = goes.refused;
-                last = at ∙ sym new.1.follows.clock
+                last = last_more r ls S z y goes stepped refl (due ∷ []) (printed_of sees.0.steps) sees.1
+                    (at ∙ sym new.1.follows.clock
                     ∙ sym (next_tick (instance_of S) (session_jobs goes.sees.valid) x due new.1.follows.keeps
-                    new.2.prints more)
-                    ∙ sym (last_more (printed_of goes.sees.steps) due) ∙ ap last_of (sym sees.1);
+                    new.2.prints more));
               },
             )
 
@@ -517,7 +455,7 @@ module _ (r w : Reading) (same : r ≡ w) (going_w : w.stage ≡ Going) (d : Cou
               let here : (S : Session) × (z : State) × (y : State) × Goes r ls S z y =
               goes_of r ls going (subst (λ v. ReadsAhead v ls) (sym same) reads) in
               let new = stepped_goes ls here.0 here.1 here.2 here.3 in
-              reads_of stepped (ls ++ text_of event ∷ []) going here.0 (after new.0 (Prints due)) new.1;
+              reads_of stepped (ls ++ text_of event ∷ []) going new.0 new.1 new.2;
           no = λ e. absurd (let clash : true ≡ false = e in cc);
           ahead = λ e. absurd (let clash : true ≡ false = e in cc);
         }
@@ -525,20 +463,13 @@ module _ (r w : Reading) (same : r ≡ w) (going_w : w.stage ≡ Going) (d : Cou
         -- what is kept behind it
         pub stepped_reader : IsReader r → GoesOnFrom r.course d2 → IsReader stepped
         stepped_reader old on =
-            let it : (S : Session) × (z : State) × (y : State) × Goes r old.lines S z y =
-            goes_of r old.lines going old.reads in
-            let new = stepped_goes old.lines it.0 it.1 it.2 it.3 in
-            record {
-              spare = record {
-                ready = (spare_stays r d2 old.spare on.fewer on.jobs on.room).ready;
-                steps = λ keep. let most : 5 * (d2.jobs + r.spare) + 1 ≤ r.room =
-                    (spare_stays r d2 old.spare on.fewer on.jobs on.room).steps keep in
-                    omega (arith, same_room);
-              };
-              lines = old.lines ++ text_of event ∷ [];
-              reads = ahead_of stepped (old.lines ++ text_of event ∷ []) going it.0 (after new.0 (Prints due))
-                  (after new.0 (Prints due)) new.1;
-            }
+            let stays : HasSpare (record r { course = d2 }) =
+            spare_stays r d2 old.spare on.fewer on.jobs on.room in
+            continued_reader r r stepped (text_of event) refl going going old (record {
+              ready = stays.ready;
+              steps = λ keep. let most : 5 * (d2.jobs + r.spare) + 1 ≤ r.room = stays.steps keep in
+                  omega (arith, same_room);
+            }) stepped_goes
 
 -- a step whose text names nothing behind any session is taken so
 pub followed_took : (w new : Reading) (e : Event) (good : Bool) → w.stage ≡ Going → Followed w new e good

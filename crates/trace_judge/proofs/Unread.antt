@@ -2,7 +2,6 @@
 use Rattle.std.proofs.Common.{Option}
 use Rattle.std.proofs.Common.{◌≡◌, ℕ, ◌+◌, ◌≤◌, ◌<◌, ◌⊎◌, inl, inr, List, [], ◌∷◌, ◌++◌, length, sym, ap, ◌∙◌}
 use Rattle.std.proofs.Common.{subst, true, false, cond, arith}
-use Rattle.std.proofs.lemmas.Bool.{false_from_ne_true}
 use Rattle.dover_model.specs.Fraction.{IsRatio}
 use Rattle.dover_model.specs.declared.events.Event.{Event}
 use Rattle.dover_model.specs.declared.events.Event.TheVariants.{Release, Run, Preempt, Take, Complete, Abandon, End}
@@ -17,11 +16,10 @@ use Rattle.dover_model.specs.Sound.{Keeps}
 use Rattle.dover_model.proofs.Growing.{Finishes, finishing_job}
 use Rattle.dover_model.proofs.Barriers.{settled_at_barrier}
 use Rattle.dover_model.proofs.Honest.{numbers_low, count_jobs}
-use Rattle.dover_model.specs.Text.{header, text_of, refused_text, version_number}
+use Rattle.dover_model.specs.Text.{header, text_of, refused_text}
 use Rattle.dover_model.specs.Verdict.{item_of, begins_trace, ends_with_end}
 use Rattle.dover_model.proofs.Admitting.{Admitted, not_refused}
 use Rattle.dover_model.proofs.Limiting.{jobs_most}
-use Rattle.dover_model.proofs.NoFeeds.{header_short}
 use Rattle.dover_model.proofs.TraceEnds.{trace_ends}
 use Rattle.dover_model.proofs.WrongStays.{after_end_fails}
 use Rattle.line_text.specs.declared.traces.lines.TraceLine.{TraceLine}
@@ -37,11 +35,13 @@ use Rattle.trace_judge.specs.declared.stage.Stage.{Stage}
 use Rattle.trace_judge.specs.declared.stage.Stage.TheVariants.{Opening, Going, Ended}
 use Rattle.trace_judge.specs.Reads.{Reading, Goes, Ends, Reads, Took, jobs_in, job_lines_in, is_job_item}
 use Rattle.trace_judge.proofs.Forms.{one_form, next_form}
-use Rattle.trace_judge.proofs.Readings.{HereBy, here_of, ends_of, reads_ahead}
+use Rattle.trace_judge.proofs.Readings.{HereBy, ends_of, reads_ahead}
 use Rattle.dover_model.proofs.SessionParts.{session_jobs}
 use Rattle.trace_judge.proofs.Follows.{refused_parts, finish_parts}
 use Rattle.dover_model.proofs.ValidParts.{valid_parts}
 use Rattle.dover_model.proofs.JobLimits.{job_limits}
+use Rattle.trace_judge.proofs.Readings.{took_none, goes_none}
+use Rattle.dover_model.proofs.Tests.{never}
 
 -- behind the end no line continues the trace
 ended_fails : (r : Reading) (ls : List (List ℕ)) (S : Session) → Ends r ls S → (l : List ℕ)
@@ -50,31 +50,22 @@ ended_fails r ls S ends l = after_end_fails ls l (ap ends_with_end ends.lines �
 
 -- so each is wrong
 pub ended_took_none : (w : Reading) → w.stage ≡ Ended → (l : List ℕ) → Took w w l false
-ended_took_none w stage l = record {
-  yes = λ e. absurd (let clash : false ≡ true = e in cc);
-  no = λ _ ls reads.
-      let it : (S : Session) × Ends w ls S = ends_of w ls stage (reads_ahead w ls reads) in
-      (ended_fails w ls it.0 it.1 l, reads_ahead w ls reads);
-}
+ended_took_none w stage l = took_none w w l (λ ls reads. reads) (λ ls reads passes.
+    let it : (S : Session) × Ends w ls S = ends_of w ls stage (reads_ahead w ls reads) in
+    never (sym (ended_fails w ls it.0 it.1 l) ∙ passes))
 
 -- a second header is wrong
 pub header_took_none : (w : Reading) → w.stage ≡ Going → (v p q : ℕ) (factor : Option (ℕ × ℕ))
     → HasForm (Header v p q factor) → Took w w (trace_text (Header v p q factor)) false
-header_took_none w going v p q factor form = record {
-  yes = λ e. absurd (let clash : false ≡ true = e in cc);
-  no = λ _ ls reads.
-      let here : (S : Session) × (z : State) × Goes w ls S z z = here_of w ls going reads in (
-        false_from_ne_true _ (λ passes.
-            let next : (e : Event) × (y : State) × PrintsNext (instance_of here.0).rules here.1 e y =
-            sees_some_next ls here.0 w.floor here.1 here.2.sees in
-            let text : trace_text (Header v p q factor) ≡ text_of next.0 =
-            only_step ls here.0 w.floor here.1 here.2.sees (trace_text (Header v p q factor)) passes next.0 next.1
-            next.2 (header_named here.0 v p q factor form) in
-            let clash : Header v p q factor ≡ Step next.0 = one_form (Header v p q factor) (Step next.0) form
-            (next_form ls here.0 w.floor here.1 here.2.sees next.0 next.1 next.2) text in cc),
-        reads_ahead w ls reads,
-      );
-}
+header_took_none w going v p q factor form =
+    goes_none w w (trace_text (Header v p q factor)) going (λ ls reads. reads) (λ ls S z goes passes.
+    let next : (e : Event) × (y : State) × PrintsNext (instance_of S).rules z e y =
+    sees_some_next ls S w.floor z goes.sees in
+    let text : trace_text (Header v p q factor) ≡ text_of next.0 =
+    only_step ls S w.floor z goes.sees (trace_text (Header v p q factor)) passes next.0 next.1 next.2
+    (header_named S v p q factor form) in
+    let clash : Header v p q factor ≡ Step next.0 = one_form (Header v p q factor) (Step next.0) form
+    (next_form ls S w.floor z goes.sees next.0 next.1 next.2) text in cc)
 
 -- the line of a job that may be released has a form
 release_form : (S : Session) (floor : ℕ) (z : State) (l : List ℕ) → IsReleaseNext S floor z l → (x : TraceLine)
@@ -138,8 +129,8 @@ completion_form ls S floor z l sees it =
 -- a line without a form continues no trace
 unread_fails : (w : Reading) (l : List ℕ) → ((x : TraceLine) → HasForm x → trace_text x ≡ l → ⊥)
     → (ls : List (List ℕ)) → Reads w ls
-    → begins_trace (ls ++ l ∷ []) ≡ false
-unread_fails w l none ls reads = false_from_ne_true _ (by_stage w.stage reads) where
+    → begins_trace (ls ++ l ∷ []) ≡ true → ⊥
+unread_fails w l none ls reads = by_stage w.stage reads where
   by_line : (S : Session) (z : State) (goes : Goes w ls S z z) (e : Event) (y : State)
       → PrintsNext (instance_of S).rules z e y
       → (l ≡ text_of e)
@@ -165,10 +156,7 @@ unread_fails w l none ls reads = false_from_ne_true _ (by_stage w.stage reads) w
 -- so it is wrong
 pub unread_took : (w : Reading) (l : List ℕ) → ((x : TraceLine) → HasForm x → trace_text x ≡ l → ⊥)
     → Took w w l false
-unread_took w l none = record {
-  yes = λ e. absurd (let clash : false ≡ true = e in cc);
-  no = λ _ ls reads. (unread_fails w l none ls reads, reads_ahead w ls reads);
-}
+unread_took w l none = took_none w w l (λ ls reads. reads) (unread_fails w l none)
 
 -- a line that was read as a release names a job
 pub jobs_counted : (x : TraceLine) (l : List ℕ) → item_of l ≡ item_in x → jobs_in x ≤ job_lines_in l

@@ -35,16 +35,16 @@ keep_step-requires c keep = omega (
 )
 
 pub invariant_of-self : goal.invariant_of-self
-invariant_of-self c = taken_reader _ _ c.self.view_is c.self.invariant c.requires.going c.args.job c.release.new.self
+invariant_of-self c = taken_reader _ _ c.self.view_is c.requires.going c.args.job c.release.new.self
     c.jobs-number.result c.release-release.result
     c.admit.new.self _ c.keep_step.new.steps.items _ _ c.release.ensures.kept c.release.ensures.ready
     c.jobs-number.ensures.is
     c.release-release.ensures.is c.admit.ensures.stands c.admit.ensures.rules refl c.keep_step.ensures.items
-    c.requires.can.0 c.requires.can.1
+    c.self.invariant c.requires.can.0 c.requires.can.1
     (omega (arith, c.requires.spare, ap (λ (r : Reading). r.spare) c.self.view_is)) c.keep_step.ensures.room
 
 pub returns-clause-reads : goal.returns-clause-reads
-returns-clause-reads c = taken_reads _ _ c.self.view_is c.self.invariant c.requires.going c.args.job c.release.new.self
+returns-clause-reads c = taken_reads _ _ c.self.view_is c.requires.going c.args.job c.release.new.self
     c.jobs-number.result c.release-release.result
     c.admit.new.self _ c.keep_step.new.steps.items _ _ c.release.ensures.kept c.release.ensures.ready
     c.jobs-number.ensures.is
