@@ -89,7 +89,7 @@ impl Admission {
             → AllKeepRatio self.now.rules.ratio jobs job.now }
     {
         match &self.extremes {
-            Some(extremes) => extremes.breaker(self.ratio, job),
+            Some(extremes) => extremes.breaker(&self.ratio, job),
             None => None,
         }
     }
@@ -138,8 +138,8 @@ impl Admission {
             job,
         };
         match &mut self.extremes {
-            Some(extremes) => extremes.add(self.ratio, &next),
-            None => self.extremes = Some(Extremes::of(self.ratio, next)),
+            Some(extremes) => extremes.add(&self.ratio, &next),
+            None => self.extremes = Some(Extremes::of(&self.ratio, next)),
         }
         self.count += 1;
         self.total += value;

@@ -14,8 +14,8 @@ pub fn is_less_dense(i: &Job, j: &Job) -> bool
 }
 
 /// The density of i is at most the ratio times that of j.
-fn is_within(ratio: Ratio, i: &Job, j: &Job) -> bool
-    ensures { result ≡ is_within_ratio ratio i.now j.now }
+fn is_within(ratio: &Ratio, i: &Job, j: &Job) -> bool
+    ensures { result ≡ is_within_ratio ratio.now i.now j.now }
 {
     let left = u128::from(ratio.q()) * u128::from(i.value()) * u128::from(j.work());
     let right = u128::from(ratio.p()) * u128::from(j.value()) * u128::from(i.work());
@@ -23,8 +23,8 @@ fn is_within(ratio: Ratio, i: &Job, j: &Job) -> bool
 }
 
 /// Neither density is more than the ratio times the other.
-pub fn keeps_ratio(ratio: Ratio, i: &Job, j: &Job) -> bool
-    ensures { result ≡ is_within_ratio_both_ways ratio i.now j.now }
+pub fn keeps_ratio(ratio: &Ratio, i: &Job, j: &Job) -> bool
+    ensures { result ≡ is_within_ratio_both_ways ratio.now i.now j.now }
 {
     is_within(ratio, i, j) && is_within(ratio, j, i)
 }

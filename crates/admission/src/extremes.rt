@@ -53,9 +53,9 @@ impl Extremes {
     ghost use Rattle.admission.specs.Answers.{IsOther, AllKeepRatio};
 
     /// Those of one job.
-    pub fn of(ratio: Ratio, first: Numbered) -> Extremes
+    pub fn of(ratio: &Ratio, first: Numbered) -> Extremes
         requires { IsJob first.job }
-        ensures { first.number ≡ 0 → AreExtremes ratio (first.job ∷ []) result }
+        ensures { first.number ≡ 0 → AreExtremes ratio.now (first.job ∷ []) result }
     {
         let densest = first;
         Extremes {
@@ -75,10 +75,10 @@ impl Extremes {
 
     /// Those of the jobs with one more behind them, which isn't between them.
     #[inline(never)]
-    fn widen(&mut self, ratio: Ratio, next: &Numbered)
+    fn widen(&mut self, ratio: &Ratio, next: &Numbered)
         requires { IsJob next.now.job }
-        ensures { (jobs : List JobFacts) → AreExtremes ratio jobs self.old → next.now.number ≡ length jobs →
-            AreExtremes ratio (jobs ++ next.now.job ∷ []) self.new }
+        ensures { (jobs : List JobFacts) → AreExtremes ratio.now jobs self.old → next.now.number ≡ length jobs →
+            AreExtremes ratio.now (jobs ++ next.now.job ∷ []) self.new }
     {
         keep_less_dense(&mut self.least, next);
         keep_denser(&mut self.densest, next);
@@ -87,10 +87,10 @@ impl Extremes {
 
     /// Those of the jobs with one more behind them.
     #[inline(always)]
-    pub fn add(&mut self, ratio: Ratio, next: &Numbered)
+    pub fn add(&mut self, ratio: &Ratio, next: &Numbered)
         requires { IsJob next.now.job }
-        ensures { (jobs : List JobFacts) → AreExtremes ratio jobs self.old → next.now.number ≡ length jobs →
-            AreExtremes ratio (jobs ++ next.now.job ∷ []) self.new }
+        ensures { (jobs : List JobFacts) → AreExtremes ratio.now jobs self.old → next.now.number ≡ length jobs →
+            AreExtremes ratio.now (jobs ++ next.now.job ∷ []) self.new }
     {
         if !self.have_between(&next.job) {
             self.widen(ratio, next);
@@ -99,11 +99,11 @@ impl Extremes {
 
     /// The number of the one of the two that breaks the ratio with this job, if one does: the least dense one first.
     #[inline(never)]
-    fn first_breaker(&self, ratio: Ratio, job: &Job) -> Option<u32>
-        ensures other { (jobs : List JobFacts) → AreExtremes ratio jobs self.now
-            → IfSome result (λ other. IsOther ratio jobs job.now other) }
-        ensures none { (jobs : List JobFacts) → AreExtremes ratio jobs self.now → IsNone result
-            → AllKeepRatio ratio jobs job.now }
+    fn first_breaker(&self, ratio: &Ratio, job: &Job) -> Option<u32>
+        ensures other { (jobs : List JobFacts) → AreExtremes ratio.now jobs self.now
+            → IfSome result (λ other. IsOther ratio.now jobs job.now other) }
+        ensures none { (jobs : List JobFacts) → AreExtremes ratio.now jobs self.now → IsNone result
+            → AllKeepRatio ratio.now jobs job.now }
     {
         if !keeps_ratio(ratio, &self.least.job, job) {
             return Some(self.least.number);
@@ -116,11 +116,11 @@ impl Extremes {
 
     /// The number of the one that breaks the ratio with this job, if one does: the least dense one first.
     #[inline(always)]
-    pub fn breaker(&self, ratio: Ratio, job: &Job) -> Option<u32>
-        ensures other { (jobs : List JobFacts) → AreExtremes ratio jobs self.now
-            → IfSome result (λ other. IsOther ratio jobs job.now other) }
-        ensures none { (jobs : List JobFacts) → AreExtremes ratio jobs self.now → IsNone result
-            → AllKeepRatio ratio jobs job.now }
+    pub fn breaker(&self, ratio: &Ratio, job: &Job) -> Option<u32>
+        ensures other { (jobs : List JobFacts) → AreExtremes ratio.now jobs self.now
+            → IfSome result (λ other. IsOther ratio.now jobs job.now other) }
+        ensures none { (jobs : List JobFacts) → AreExtremes ratio.now jobs self.now → IsNone result
+            → AllKeepRatio ratio.now jobs job.now }
     {
         if self.keep_ratio && self.have_between(job) {
             return None;

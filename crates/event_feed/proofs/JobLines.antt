@@ -1,5 +1,5 @@
 -- A job line in a session that goes on: admitted, refused, or at fault.
-use Rattle.std.proofs.Common.{◌≡◌, ℕ, ◌≤◌, ◌<◌, List, [], ◌∷◌, ◌++◌, refl, sym, ap, ◌∙◌, subst, cond, Option, Some}
+use Rattle.std.proofs.Common.{◌≡◌, ℕ, ◌≤◌, ◌<◌, refl, sym, ap, ◌∙◌, subst, cond, Option, Some}
 use Rattle.std.proofs.Common.{None, Ok}
 use Rattle.std.proofs.Common.{true, false, Bool, ◌⊎◌, inl, inr}
 use Rattle.std.specs.Prelude.{◌≢◌}
@@ -20,11 +20,11 @@ use Rattle.dover_model.proofs.Fullness.{full_refuses, mark_stays, never_alone}
 use Rattle.dover_model.specs.FeedLine.{JobLine}
 use Rattle.dover_model.specs.Feed.{Account, NotAdmitted, late_cause, cause_of, with_fault, with_line}
 use Rattle.dover_model.specs.Feed.{with_refused_at}
-use Rattle.dover_model.proofs.Growing.{job_instance, refused_instance}
+use Rattle.dover_model.proofs.Growing.{refused_instance}
 use Rattle.admission.specs.Kept as admission
 use Rattle.event_feed.specs.declared.fed.Fed.TheVariants as fed
 use Rattle.event_feed.specs.declared.kept_session.KeptSession.{KeptSession}
-use Rattle.event_feed.specs.Kept.{IsKeptOf, KeepsSession, without_last}
+use Rattle.event_feed.specs.Kept.{IsKeptOf}
 use Rattle.event_feed.specs.Reading.{open_account, IsTaken, Takes}
 
 -- from Two on job lines are refused alone
@@ -111,36 +111,15 @@ module _ (lines : ℕ) (S : Session) (mark : ℕ) (j : JobFacts) (no_fall : mark
   after_offer none true is = ap (λ b. cond b (with_refused_at on_time j.release j Full)
       (with_fault on_time (NotAdmitted Full))) (full_refuses S j none is)
 
-  -- the job is kept, or taken back
-  keeps_offer : (kept new : KeptSession) → IsKeptOf kept S mark
-      → new.admission.rules ≡ kept.admission.rules → new.mark ≡ j.release → new.former ≡ kept.admission
-      → admission.StandsFor new.admission (admitted_jobs S.items ++ j ∷ []) → (b : Bool)
-      → KeepsSession (cond b (Some (without_last new)) (Some new))
-      (Some (with_item S (cond b (refused_at j.release j Full) (JobItem j)))) j.release
-  keeps_offer kept new it same marked former stands true = record {
-    rules = it.rules ∙ ap (λ a. a.rules) (sym former);
-    jobs = subst (λ a. admission.StandsFor a (admitted_jobs (with_item S (refused_at j.release j Full)).items))
-        (sym former) (subst (admission.StandsFor kept.admission)
-        (sym (ap (λ J. J.jobs) (refused_instance S (record { at = j.release; line = RefusedJob j Full })))) it.jobs);
-    marked = marked;
-  }
-  keeps_offer kept new it same marked former stands false = record {
-    rules = it.rules ∙ sym same;
-    jobs = subst (admission.StandsFor new.admission) (sym (ap (λ J. J.jobs) (job_instance S j))) stands;
-    marked = marked;
-  }
-
-  -- the job is admitted, or finds no room
-  pub takes_job : (kept new : KeptSession) (number : ℕ) → IsKeptOf kept S mark
-      → new.admission.rules ≡ kept.admission.rules → new.mark ≡ j.release → new.former ≡ kept.admission
-      → AreShort (job_numbers j) → ((jobs : List JobFacts) → admission.StandsFor kept.admission jobs
-      → admission.StandsFor new.admission (jobs ++ j ∷ []))
+  -- the job is offered: nothing is kept of it yet, but the mark
+  pub takes_job : (kept : KeptSession) (number : ℕ) → IsKeptOf kept S mark → AreShort (job_numbers j)
       → refusal_of S.rules (admitted_jobs S.items) j ≡ None → number ≡ kept.admission.count
-      → Takes (JobLine j) lines S mark new (Ok (fed.Job number j))
-  takes_job kept new number it same marked former numerals stands none counts =
-      subst (λ b. IsTaken (Some new) (Some (JobLine j)) on_time b (Ok (fed.Job number j)))
+      → Takes (JobLine j) lines S mark (record kept { mark = j.release }) (Ok (fed.Job number j))
+  takes_job kept number it numerals none counts =
+      subst (λ b. IsTaken (Some (record kept { mark = j.release })) (Some (JobLine j)) on_time b
+      (Ok (fed.Job number j)))
       (sym (ap (with_line on_time (JobLine j)) (job_cause None none) ∙ after_offer none full refl)) (record {
-        keeps = keeps_offer kept new it same marked former (stands (admitted_jobs S.items) it.jobs) full;
+        keeps = record { rules = it.rules; jobs = it.jobs; marked = refl };
         gives = record {
           session = S;
           before_is = refl;

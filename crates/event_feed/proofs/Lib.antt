@@ -8,6 +8,7 @@ pub mod Admitting
 pub mod Spelling
 pub mod Ending
 pub mod Listing
+pub mod Accepting
 pub mod Offering
 pub mod Behind
 pub mod Saying

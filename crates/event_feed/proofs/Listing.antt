@@ -37,8 +37,6 @@ use Rattle.dover_model.specs.Session.{RefusedJob}
 use Rattle.event_feed.proofs.DoneLines.{session_done, done_session, done_jobs, done_mark}
 use Rattle.event_feed.specs.Answers.{AddsJob, AddsRefused, AddsDone, MovesMark, counted}
 use Rattle.event_feed.specs.Answers.{admitted_in}
-use Rattle.event_feed.specs.Kept as feed
-use Rattle.event_feed.specs.declared.fed.Fed.TheVariants as fed
 use Rattle.std.specs.Prelude.{Result, Ok, Err, OnOk}
 use Rattle.event_feed.specs.declared.listed.DoneLine.{DoneLine}
 use Rattle.event_feed.specs.Listing.{ListsIn, StandsAmong, ComesBehind, AreInTurn, handed, with_early, with_right}
@@ -368,17 +366,6 @@ on_ok_both P Q (Err e) p q = tt
 pub ok_any : {T E : Type 0} {P : Type 0} (r : Result T E) → P → OnOk r P
 ok_any (Ok x) p = p
 ok_any (Err e) p = tt
-
--- all is left where the job finds room
-pub left_all : (kept : feed.Kept) (number : ℕ) (job : JobFacts) (a : Account) {b : Account}
-    (it : AddsJob number job (counted a) b) → is_full (instance_of it.session) job.release ≡ false
-    → feed.left_in (Ok (fed.Job number job)) a kept ≡ kept
-left_all kept number job a it room =
-    ap (λ o. let left : feed.Kept = record kept { session = feed.left_by (fed.Job number job) o kept.session } in left)
-    it.before_is
-    ∙ ap (λ full. let left : feed.Kept = record kept {
-      session = cond full (option_map feed.without_last kept.session) kept.session;
-    } in left) room
 
 -- behind a job line some job is admitted: its own, or those for which that finds no room
 pub job_admitted : (a b : Account) (number : ℕ) (job : JobFacts) → AddsJob number job (counted a) b → 0 < admitted_in b

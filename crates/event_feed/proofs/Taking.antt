@@ -18,8 +18,8 @@ use Rattle.event_feed.specs.declared.intake.Standing.TheVariants as kept
 use Rattle.event_feed.specs.declared.kept_session.KeptSession.{KeptSession}
 use Rattle.event_feed.specs.declared.fed.Fed.{Fed}
 use Rattle.event_feed.specs.declared.fed.Fed.TheVariants as feds
-use Rattle.event_feed.specs.Kept.{KeepsSession, most_lines_of, left_by}
-use Rattle.event_feed.specs.Kept.{KeepsAccount, StandsFor, IsGoing, cause_of_fault, fault_of, has_ended, standing_of}
+use Rattle.event_feed.specs.Kept.{KeepsSession, StandsBehind, most_lines_of, session_by}
+use Rattle.event_feed.specs.Kept.{KeepsAccount, IsGoing, cause_of_fault, fault_of, has_ended, standing_of}
 use Rattle.event_feed.specs.Answers.{counted, Answers, IsFed}
 use Rattle.event_feed.proofs.DoneLines.{done_standing, done_lines}
 use Rattle.event_feed.specs.Reading.{open_account, IsTaken, TakesIn}
@@ -70,22 +70,17 @@ pub keeps_fault : (ls : List (List ℕ)) (bytes : List ℕ) (session : Option Ke
     → (account_of_lines ls).standing ≡ Open → lines ≡ suc (account_of_lines ls).lines
     → IsTaken session (feed_line bytes) (counted (account_of_lines ls))
     (read_line (counted (account_of_lines ls)) bytes) (Err cause)
-    → StandsFor (record {
-      lines = lines;
-      session = session;
-      standing =
-          kept.Faulty (record { line = lines; cause = cause });
-    }) (ls ++ bytes ∷ [])
-keeps_fault ls bytes session lines cause opened counts it = record {
-  by_account = subst (KeepsAccount
-      (record { lines = lines; session = session; standing = kept.Faulty (record { line = lines; cause = cause }) }))
-      (sym (next_account ls bytes opened)) (record {
-        counted = counts ∙ sym (ap (λ a. a.lines) it.gives.after_is);
-        session = it.keeps;
-        standing = ap (λ n. model.Faulty n (cause_of_fault cause)) counts
-            ∙ sym (ap (λ a. a.standing) it.gives.after_is);
-      });
-}
+    → KeepsAccount
+    (record { lines = lines; session = session; standing = kept.Faulty (record { line = lines; cause = cause }) })
+    (account_of_lines (ls ++ bytes ∷ []))
+keeps_fault ls bytes session lines cause opened counts it = subst (KeepsAccount
+    (record { lines = lines; session = session; standing = kept.Faulty (record { line = lines; cause = cause }) }))
+    (sym (next_account ls bytes opened)) (record {
+      counted = counts ∙ sym (ap (λ a. a.lines) it.gives.after_is);
+      session = it.keeps;
+      standing = ap (λ n. model.Faulty n (cause_of_fault cause)) counts
+          ∙ sym (ap (λ a. a.standing) it.gives.after_is);
+    })
 
 -- and answered
 pub answers_fault : (ls : List (List ℕ)) (bytes : List ℕ) (session : Option KeptSession) (lines : ℕ) (cause : Cause)
@@ -131,49 +126,32 @@ pub keeps_fed : (ls : List (List ℕ)) (bytes : List ℕ) (session : Option Kept
     → IsTaken session (feed_line bytes) (counted (account_of_lines ls))
     (read_line (counted (account_of_lines ls)) bytes) (Ok fed)
     → (standing : standings.Standing) → standing ≡ kept.Open
-    → StandsFor (record {
-      lines = lines;
-      session = left_by fed (account_of_lines ls).session session;
-      standing = standing;
-    }) (ls ++ bytes ∷ [])
+    → StandsBehind {E = FeedFault} (Ok fed) (record { lines = lines; session = session; standing = standing }) ls bytes
 keeps_fed ls bytes session lines fed opened counts more it standing on =
     let a : Account = account_of_lines ls in
     let stays : Stays (counted a) (read_line (counted a) bytes) =
     fed_stays fed (counted a) (read_line (counted a) bytes) more it.gives in
-    record {
-      by_account = subst (KeepsAccount (record {
-        lines = lines;
-        session = left_by fed a.session session;
-        standing = standing;
-      }))
-          (sym (next_account ls bytes opened)) (record {
-            counted = counts ∙ sym stays.1;
-            session = it.keeps;
-            standing = ap standing_of on ∙ sym (stays.0 ∙ opened);
-          });
-    }
+    subst (λ (b : Account). KeepsAccount (record { lines = lines; session = session; standing = standing })
+    (record b { session = session_by fed a.session b.session })) (sym (next_account ls bytes opened)) (record {
+      counted = counts ∙ sym stays.1;
+      session = it.keeps;
+      standing = ap standing_of on ∙ sym (stays.0 ∙ opened);
+    })
 
 -- and at the end
 pub keeps_over : (ls : List (List ℕ)) (bytes : List ℕ) (session : Option KeptSession) (lines : ℕ)
     → (account_of_lines ls).standing ≡ Open → lines ≡ suc (account_of_lines ls).lines
     → IsTaken session (feed_line bytes) (counted (account_of_lines ls))
     (read_line (counted (account_of_lines ls)) bytes) (Ok feds.Over)
-    → StandsFor (record {
-      lines = lines;
-      session = left_by feds.Over (account_of_lines ls).session session;
-      standing = kept.Over;
-    }) (ls ++ bytes ∷ [])
-keeps_over ls bytes session lines opened counts it = record {
-  by_account = subst (KeepsAccount (record {
-    lines = lines;
-    session = left_by feds.Over (account_of_lines ls).session session;
-    standing = kept.Over;
-  })) (sym (next_account ls bytes opened)) (record {
-    counted = counts ∙ sym (ap (λ (x : Account). x.lines) it.gives.after_is);
-    session = it.keeps;
-    standing = sym (ap (λ (x : Account). x.standing) it.gives.after_is);
-  });
-}
+    → KeepsAccount (record { lines = lines; session = session; standing = kept.Over })
+    (account_of_lines (ls ++ bytes ∷ []))
+keeps_over ls bytes session lines opened counts it =
+    subst (KeepsAccount (record { lines = lines; session = session; standing = kept.Over }))
+    (sym (next_account ls bytes opened)) (record {
+      counted = counts ∙ sym (ap (λ (x : Account). x.lines) it.gives.after_is);
+      session = it.keeps;
+      standing = sym (ap (λ (x : Account). x.standing) it.gives.after_is);
+    })
 
 -- where neither the end nor a fault came, the feed goes on
 pub goes_on : (standing : standings.Standing)

@@ -1,12 +1,11 @@
 -- What is kept of the lines of a feed, and for which lines it stands.
-use Rattle.std.specs.Prelude.{◌≡◌, ℕ, ◌+◌, ◌≤◌, List, Bool, true, false, Option, Some, None, IsSome}
-use Rattle.std.specs.Prelude.{if◌then◌else◌, Result, Ok, Err}
-use Rattle.std.specs.Option.{option_map}
+use Rattle.std.specs.Prelude.{◌≡◌, ℕ, ◌+◌, ◌≤◌, List, [], ◌∷◌, ◌++◌, Bool, true, false, Option, Some, None, IsSome}
+use Rattle.std.specs.Prelude.{IfSome, Result, Ok, Err}
 use Rattle.dover_model.specs.Limits.{most_lines}
 use Rattle.dover_model.specs.declared.events.Version.TheVariants.{Three}
 use Rattle.dover_model.specs.declared.events.Refusal.TheVariants as refusal
 use Rattle.dover_model.specs.JobFacts.{JobFacts}
-use Rattle.dover_model.specs.Session.{Session, admitted_jobs, instance_of, is_full}
+use Rattle.dover_model.specs.Session.{Session, JobItem, admitted_jobs, with_item}
 use Rattle.dover_model.specs.Feed as model
 use Rattle.dover_model.specs.Feed.{Account, account_of_lines}
 use Rattle.admission.specs.Kept as admission
@@ -57,26 +56,15 @@ pub record IsKeptOf (kept : KeptSession) (S : Session) (mark : ℕ) : Type 0 whe
   pub jobs : admission.StandsFor kept.admission (admitted_jobs S.items)
   pub marked : kept.mark ≡ mark
 
--- what is kept without the job that came last
-abbrev pub without_last : KeptSession → KeptSession
-without_last kept = record kept { admission = kept.former }
-
--- so many jobs are ready at the release of this one, behind the session, that it finds no room
-abbrev pub finds_no_room : Option Session → JobFacts → Bool
-finds_no_room None job = false
-finds_no_room (Some S) job = is_full (instance_of S) job.release
-
--- What is left of what is kept, behind what a line of this session said: all, or all but the job that came, where it
--- finds no room.
-abbrev pub left_by : Fed → Option Session → Option KeptSession → Option KeptSession
-left_by (fed.Job number job) session kept =
-    if finds_no_room session job then option_map without_last kept else kept
-left_by _ session kept = kept
+-- the session that is kept behind what a line said: the one before it, where it offers a job, and else the one after
+abbrev pub session_by : Fed → (before after : Option Session) → Option Session
+session_by (fed.Job number job) before after = before
+session_by _ before after = after
 
 -- the same behind the answer
-abbrev pub left_behind : {E : Type 0} → Result Fed E → Option Session → Option KeptSession → Option KeptSession
-left_behind (Ok said) session kept = left_by said session kept
-left_behind (Err fault) session kept = kept
+abbrev pub session_behind : {E : Type 0} → Result Fed E → (before after : Option Session) → Option Session
+session_behind (Ok said) before after = session_by said before after
+session_behind (Err fault) before after = after
 
 -- the session is kept if there is one, and before that the mark is 0
 abbrev pub KeepsSession : Option KeptSession → Option Session → ℕ → Type 0
@@ -102,17 +90,30 @@ pub record KeepsAccount (kept : Kept) (a : Account) : Type 0 where
   pub session : KeepsSession kept.session a.session a.mark
   pub standing : standing_of kept.standing ≡ a.standing
 
--- what is left behind an answer to a line of this account
-abbrev pub left_in : Result Fed FeedFault → Account → Kept → Kept
-left_in answer a kept = record kept { session = left_behind answer a.session kept.session }
-
--- without the job that came last
-abbrev pub withdrawn : Kept → Kept
-withdrawn kept = record kept { session = option_map without_last kept.session }
-
 -- this is kept of these lines
 pub record StandsFor (kept : Kept) (ls : List (List ℕ)) : Type 0 where
   pub by_account : KeepsAccount kept (account_of_lines ls)
+
+-- the account behind an answer, without what becomes of a job that is offered
+abbrev pub before_offer : {E : Type 0} → Result Fed E → (before after : Account) → Account
+before_offer answer before after =
+    record after { session = session_behind answer before.session after.session }
+
+-- this is kept of these lines and one more, behind the answer to it; of a job that it offers nothing is kept
+abbrev pub StandsBehind : {E : Type 0} → Result Fed E → Kept → List (List ℕ) → (line : List ℕ) → Type 0
+StandsBehind answer kept ls line =
+    KeepsAccount kept (before_offer answer (account_of_lines ls) (account_of_lines (ls ++ line ∷ [])))
+
+-- the limits of all jobs leave room for this one
+abbrev pub HasRoom : Kept → JobFacts → Type 0
+HasRoom kept job = IfSome kept.session (λ s. admission.HasRoom s.admission job)
+
+-- the job is accepted behind the session, and all else stays
+pub record Accepts (job : JobFacts) (kept after : Kept) : Type 0 where
+  pub lines : after.lines ≡ kept.lines
+  pub standing : after.standing ≡ kept.standing
+  pub session : (S : Session) (mark : ℕ) → KeepsSession kept.session (Some S) mark
+      → KeepsSession after.session (Some (with_item S (JobItem job))) mark
 
 -- ---- what a caller knows of it
 

@@ -17,7 +17,7 @@ use Rattle.admission.specs.declared.refused.Refused.{Refused}
 use Rattle.event_feed.specs.declared.faults.Cause.{Cause}
 use Rattle.event_feed.specs.declared.fed.Fed.{Fed}
 use Rattle.event_feed.specs.declared.kept_session.KeptSession.{KeptSession}
-use Rattle.event_feed.specs.Kept.{cause_of_fault, IsKeptOf, KeepsSession, left_behind}
+use Rattle.event_feed.specs.Kept.{cause_of_fault, IsKeptOf, KeepsSession, session_behind}
 use Rattle.event_feed.specs.Answers.{IsFed, NamesOther}
 
 -- the number with which a ratio line declares a version
@@ -55,7 +55,7 @@ Gives line a after (Err cause) = IsFault line a after cause
 -- what is kept afterwards, and the answer
 pub record IsTaken (kept : Option KeptSession) (line : Option FeedLine) (a after : Account)
     (answer : Result Fed Cause) : Type 0 where
-  pub keeps : KeepsSession (left_behind answer a.session kept) after.session after.mark
+  pub keeps : KeepsSession kept (session_behind answer a.session after.session) after.mark
   pub gives : Gives line a after answer
 
 -- an account that goes on

@@ -6,8 +6,8 @@ use dover_model::{Job, Ratio, Refusal, Version};
 pub enum Fed {
     /// The ratio and the version are declared.
     Ratio(Ratio, Version),
-    /// A job may be admitted under this number: so it is, unless the caller withdraws it, since too many jobs are ready
-    /// at its release.
+    /// A job is offered, which may be admitted under this number: so it is, where the caller accepts it, and else too
+    /// many jobs are ready at its release.
     Job(u32, Job),
     /// The mark is this tick: no later line names a release or a tick below it.
     Tick(u64),

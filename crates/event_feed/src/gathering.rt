@@ -50,22 +50,24 @@ impl Gathering {
         }
     }
 
-    /// Keeps a job, unless it is one too many.
+    /// Accepts and keeps a job, unless it is one too many.
     fn job(&mut self, job: Job) -> Result<(), Memory>
-        ensures intake { self.new.intake ≡ self.old.intake }
+        requires { feed.HasRoom self.old.intake job }
         ensures declared { self.new.declared ≡ self.old.declared }
         ensures dones { self.new.dones ≡ self.old.dones }
         ensures few { length self.old.jobs.items < most_jobs Two → (self.new.going ≡ self.old.going)
             × (self.new.too_many ≡ self.old.too_many)
+            × feed.Accepts job self.old.intake self.new.intake
             × OnOk result (self.new.jobs.items ≡ self.old.jobs.items ++ job ∷ []) }
-        ensures many { most_jobs Two ≤ length self.old.jobs.items
-            → (self.new.going ≡ false) × (self.new.too_many ≡ true) }
+        ensures many { most_jobs Two ≤ length self.old.jobs.items → (self.new.going ≡ false)
+            × (self.new.too_many ≡ true) × (self.new.intake ≡ self.old.intake) }
     {
         if self.jobs.len() >= Version::Two.most_jobs() as usize {
             self.going = false;
             self.too_many = true;
             return Ok(());
         }
+        self.intake.accept(job);
         match self.jobs.push(job) {
             Ok(()) => Ok(()),
             Err(_) => Err(Memory),

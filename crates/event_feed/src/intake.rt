@@ -16,7 +16,7 @@ use crate::declaring::{declared, declared_with_factor};
 use crate::faults::{Cause, FeedFault};
 use crate::fed::Fed;
 use crate::kept_session::KeptSession;
-use dover_model::{Ratio, Version};
+use dover_model::{Job, Ratio, Version};
 use line_text::Spelled;
 use line_text::feeds::{FeedLine, read_feed_line};
 use std::marker::Model;
@@ -157,8 +157,8 @@ impl Model for Intake {
 }
 
 impl Intake {
-    ghost use Rattle.event_feed.specs.Kept.{StandsFor, KeepsStanding, IsGoing, HasLines, has_ended, fault_of, left_in};
-    ghost use Rattle.event_feed.specs.Kept.{withdrawn};
+    ghost use Rattle.event_feed.specs.Kept.{StandsFor, StandsBehind, KeepsStanding, IsGoing, HasLines, has_ended};
+    ghost use Rattle.event_feed.specs.Kept.{fault_of, HasRoom, Accepts};
     ghost use Rattle.event_feed.specs.Answers.{Answers, EndAnswers, fault_in};
 
     /// No line came yet.
@@ -182,7 +182,7 @@ impl Intake {
         requires numerals { IfSome line (λ l. form.HasNumerals (form_of l)) }
         requires unended { has_ended self.old ≡ false }
         ensures stands { (ls : List (List ℕ)) (text : List ℕ) → form.feed_line text ≡ option_map form_of line →
-            StandsFor self.old ls → StandsFor (left_in result (account_of_lines ls) self.new) (ls ++ text ∷ []) }
+            StandsFor self.old ls → StandsBehind result self.new ls text }
         ensures answer { (ls : List (List ℕ)) (text : List ℕ) → form.feed_line text ≡ option_map form_of line →
             StandsFor self.old ls → Answers text (account_of_lines ls) (account_of_lines (ls ++ text ∷ [])) result }
         ensures going { IfOk result (λ fed. (fed ≡ Fed.Over → ⊥) → IsGoing self.new) }
@@ -220,12 +220,12 @@ impl Intake {
     /// The first faulty line, numbered from 1, with its cause. After a fault every line is answered by that same
     /// fault. From version Two on a job that isn't admitted is no fault, and in version Three neither is one that
     /// comes late: it is answered as `Fed::Refused`. Nor is a done line whose finish isn't right, nor a job for which
-    /// there is no room among those that are ready: the caller, who has the run, withdraws it.
+    /// there is no room among those that are ready: it is offered, and the caller, who has the run, doesn't accept it.
     #[inline(always)]
     pub fn line(&mut self, line: &[u8]) -> Result<Fed, FeedFault>
         requires { has_ended self.old ≡ false }
         ensures stands { (ls : List (List ℕ)) → StandsFor self.old ls
-            → StandsFor (left_in result (account_of_lines ls) self.new) (ls ++ line.now ∷ []) }
+            → StandsBehind result self.new ls line.now }
         ensures answer { (ls : List (List ℕ)) → StandsFor self.old ls →
             Answers line.now (account_of_lines ls) (account_of_lines (ls ++ line.now ∷ [])) result }
         ensures going { IfOk result (λ fed. (fed ≡ Fed.Over → ⊥) → IsGoing self.new) }
@@ -254,7 +254,7 @@ impl Intake {
         requires numerals { form.HasNumerals (form_of line) }
         requires unended { has_ended self.old ≡ false }
         ensures stands { (ls : List (List ℕ)) → StandsFor self.old ls →
-            StandsFor (left_in result (account_of_lines ls) self.new) (ls ++ form.feed_text (form_of line) ∷ []) }
+            StandsBehind result self.new ls (form.feed_text (form_of line)) }
         ensures answer { (ls : List (List ℕ)) → StandsFor self.old ls →
             Answers (form.feed_text (form_of line)) (account_of_lines ls)
             (account_of_lines (ls ++ form.feed_text (form_of line) ∷ [])) result }
@@ -265,13 +265,15 @@ impl Intake {
         self.take(Some(line))
     }
 
-    /// Takes back the job of the last line, which was answered as `Fed::Job`, since too many jobs are ready at its
-    /// release. No line came since.
-    pub fn withdraw(&mut self)
-        ensures { self.new ≡ withdrawn self.old }
+    /// Accepts the job of the last line, which was answered as `Fed::Job`. It isn't accepted where too many jobs are
+    /// ready at its release. No line came since.
+    #[inline(always)]
+    pub fn accept(&mut self, job: Job)
+        requires { HasRoom self.old job }
+        ensures { Accepts job self.old self.new }
     {
         if let Some(kept) = &mut self.session {
-            kept.withdraw();
+            kept.accept(job);
         }
     }
 

@@ -2,26 +2,25 @@
 ghost use Rattle.std.specs.Prelude.{◌≡◌, ◌<◌, ℕ, [], ◌∷◌, true};
 ghost use Rattle.dover_model.specs.Numerals.{AreShort};
 ghost use Rattle.dover_model.specs.JobFacts.{job_of_numbers, job_numbers};
-ghost use Rattle.dover_model.specs.Session.{Session, new_session, may_finish_early};
+ghost use Rattle.dover_model.specs.Session.{Session, JobItem, new_session, with_item, may_finish_early};
+ghost use Rattle.admission.specs.Kept.{HasRoom};
 ghost use Rattle.dover_model.specs.Feed.{rules_with};
 ghost use Rattle.dover_model.specs.FeedLine.{JobLine, TickLine, DoneLine, HasNumerals};
 ghost use Rattle.line_text.specs.feeds.Form.{form_of};
-ghost use Rattle.event_feed.specs.Kept.{IsKeptOf, without_last};
+ghost use Rattle.event_feed.specs.Kept.{IsKeptOf};
 ghost use Rattle.event_feed.specs.Reading.{Refuses, Takes};
 
 use crate::faults::Cause;
 use crate::fed::Fed;
 use admission::{Admission, Refused};
 use dover_model::jobs::LAST_TICK;
-use dover_model::{Ratio, Refusal, Version};
+use dover_model::{Job, Ratio, Refusal, Version};
 use line_text::feeds::FeedLine;
 
-/// The jobs that were admitted, as far as the next one needs them, the same without the one that came last, and the
-/// mark.
+/// The jobs that were admitted, as far as the next one needs them, and the mark.
 #[derive(Drop)]
 pub struct KeptSession {
     admission: Admission,
-    former: Admission,
     mark: u64,
 }
 
@@ -30,10 +29,8 @@ impl KeptSession {
     pub fn new(ratio: Ratio, version: Version) -> KeptSession
         ensures { IsKeptOf result (new_session (rules_with ratio version)) 0 }
     {
-        let admission = Admission::new(version, ratio);
         KeptSession {
-            admission,
-            former: admission,
+            admission: Admission::new(version, ratio),
             mark: 0,
         }
     }
@@ -110,21 +107,21 @@ impl KeptSession {
         }
         match self.admission.check(release, work, deadline, value) {
             Ok(job) => {
-                let number = self.admission.count();
-                self.former = self.admission;
-                self.admission.admit(job);
                 self.mark = release;
-                Ok(Fed::Job(number, job))
+                Ok(Fed::Job(self.admission.count(), job))
             }
             Err(refused) => self.refuse(release, work, deadline, value, refused),
         }
     }
 
-    /// Takes back the job that came last.
-    pub fn withdraw(&mut self)
-        ensures { self.new ≡ without_last self.old }
+    /// Accepts a job that was offered.
+    #[inline(always)]
+    pub fn accept(&mut self, job: Job)
+        requires { HasRoom self.old.admission job }
+        ensures { (S : Session) (mark : ℕ) → IsKeptOf self.old S mark →
+            IsKeptOf self.new (with_item S (JobItem job)) mark }
     {
-        self.admission = self.former;
+        self.admission.admit(job);
     }
 
     /// The line of this tick.

@@ -1,8 +1,9 @@
 -- The line of a job that may be admitted: what it adds, and what is left of that after each step of the server.
 use Rattle.std.proofs.Common.{◌≡◌, ◌≤◌, ◌<◌, ◌^◌, ℕ, List, [], ◌∷◌, ◌++◌, length, drop, map, refl, sym, ap, ◌∙◌}
-use Rattle.std.proofs.Common.{subst, Option, Some, cond, Bool, true, false, arith, Ok}
-use Rattle.std.specs.Option.{option_map}
+use Rattle.std.proofs.Common.{subst, Some, cond, Bool, true, false, arith, Ok}
+use Rattle.std.proofs.Common.{length-append}
 use Rattle.std.proofs.lemmas.List.{append_assoc, same_from_push}
+use Rattle.std.proofs.lemmas.List.Sums.{sum_by-append, sum_by-cons}
 use Rattle.dover_model.specs.Limits.{last_tick}
 use Rattle.dover_model.specs.declared.events.Event.{Event}
 use Rattle.dover_model.specs.declared.events.Refusal.TheVariants.{Full}
@@ -29,9 +30,11 @@ use Rattle.dover_model.proofs.Emitting.{texts_more, texts_job, texts_refused}
 use Rattle.dover_model.proofs.Growing.{Reads, reads_later, settled_later, job_instance, refused_instance}
 use Rattle.dover_model.proofs.Horizons.{follows_on}
 use Rattle.dover_model.proofs.Members.{some_same}
+use Rattle.dover_model.proofs.ValidParts.{ValidParts, valid_parts}
 use Rattle.event_feed.specs.Answers.{AddsJob, IsFed, counted, offered_item}
 use Rattle.event_feed.specs.Kept as feed
-use Rattle.event_feed.specs.declared.kept_session.KeptSession.{KeptSession}
+use Rattle.event_feed.specs.declared.faults.FeedFault.{FeedFault}
+use Rattle.event_feed.proofs.Accepting.{room_behind}
 use Rattle.event_feed.specs.declared.fed.Fed.{Fed}
 use Rattle.event_feed.specs.declared.fed.Fed.TheVariants as fed
 use Rattle.lane_server.specs.Lane.{Fits, Running, Admitting, IntakeStands, TurnsTo, job_lines}
@@ -266,21 +269,18 @@ same_session S T x y same =
     ∙ ap (λ is. let U : Session = record { rules = T.rules; items = is } in U)
     (same_from_push S.items T.items x y items).0
 
--- what is left behind a job line, by whether the job finds no room
-left_job : (i : feed.Kept) (n : ℕ) (j : JobFacts) (a : Account) (S : Session) → a.session ≡ Some S
-    → feed.left_in (Ok (fed.Job n j)) a i ≡ cond (is_full (instance_of S) j.release) (feed.withdrawn i) i
-left_job i n j a S there =
-    ap (λ o. let left : feed.Kept = record i { session = feed.left_by (fed.Job n j) o i.session } in left) there
-    ∙ by_room (is_full (instance_of S) j.release)
-  where
-    with_session : Option KeptSession → feed.Kept
-    with_session o = record i { session = o }
-
-    by_room : (full : Bool)
-        → with_session (cond full (option_map feed.without_last i.session) i.session)
-        ≡ cond full (feed.withdrawn i) i
-    by_room true = refl
-    by_room false = refl
+-- the limits leave room for a job with which the others are valid
+pub job_room : (S : Session) (j : JobFacts) (i : feed.Kept) (mark : ℕ) → IsValid (with_jobs (instance_of S) (j ∷ []))
+    → feed.KeepsSession i.session (Some S) mark → feed.HasRoom i j
+job_room S j i mark valid keeps =
+    let jobs : List JobFacts = admitted_jobs S.items in
+    let parts : ValidParts (with_jobs (instance_of S) (j ∷ [])) = valid_parts valid in
+    room_behind S j i mark keeps (omega (arith, parts.count, length-append jobs (j ∷ []))) (omega (
+      arith,
+      parts.total,
+      sum_by-append (λ (k : JobFacts). k.value) jobs (j ∷ []),
+      sum_by-cons (λ (k : JobFacts). k.value) j [],
+    ))
 
 -- with no job under way, it stands for the lines
 no_job : (w : Work) (i : feed.Kept) (ls : List (List ℕ)) → ((job : JobFacts) → w ≡ Admit job → ⊥)
@@ -294,17 +294,20 @@ no_job (Finish at number) i ls none stands = stands
 -- the intake stands as the work wants
 pub intake_turns : (said : Fed) (w : Work) (i : feed.Kept) (ls : List (List ℕ)) (line : List ℕ)
     → IsFed (counted (account_of_lines ls)) (account_of_lines (ls ++ line ∷ [])) said → TurnsTo said w
-    → feed.StandsFor (feed.left_in (Ok said) (account_of_lines ls) i) (ls ++ line ∷ [])
-    → IntakeStands w i (ls ++ line ∷ [])
+    → feed.StandsBehind {E = FeedFault} (Ok said) i ls line → IntakeStands w i (ls ++ line ∷ [])
 intake_turns (fed.Job n j) w i ls line it turns stands =
     subst (λ x. IntakeStands x i (ls ++ line ∷ [])) (sym turns) (λ S there.
     let same : it.session ≡ S = same_session it.session S (offered_item it.session j) (offered_item S j)
     (sym (ap (λ (x : Account). x.session) it.after_is) ∙ there) in
-    subst (λ k. feed.StandsFor k (ls ++ line ∷ []))
-    (left_job i n j (account_of_lines ls) S (it.before_is ∙ ap (λ T. Some T) same)) stands)
-intake_turns (fed.Ratio k version) w i ls line it turns stands = no_job w i (ls ++ line ∷ []) turns stands
-intake_turns (fed.Tick tick) w i ls line it turns stands = no_job w i (ls ++ line ∷ []) turns stands
-intake_turns fed.Over w i ls line it turns stands = no_job w i (ls ++ line ∷ []) turns stands
+    subst (λ o. feed.KeepsAccount i (record (account_of_lines (ls ++ line ∷ [])) { session = o }))
+    (it.before_is ∙ ap (λ T. Some T) same) stands)
+intake_turns (fed.Ratio k version) w i ls line it turns stands =
+    no_job w i (ls ++ line ∷ []) turns (record { by_account = stands })
+intake_turns (fed.Tick tick) w i ls line it turns stands =
+    no_job w i (ls ++ line ∷ []) turns (record { by_account = stands })
+intake_turns fed.Over w i ls line it turns stands =
+    no_job w i (ls ++ line ∷ []) turns (record { by_account = stands })
 intake_turns (fed.Refused release work deadline value cause) w i ls line it turns stands =
-    no_job w i (ls ++ line ∷ []) turns stands
-intake_turns (fed.Done tick number) w i ls line it turns stands = no_job w i (ls ++ line ∷ []) turns stands
+    no_job w i (ls ++ line ∷ []) turns (record { by_account = stands })
+intake_turns (fed.Done tick number) w i ls line it turns stands =
+    no_job w i (ls ++ line ∷ []) turns (record { by_account = stands })

@@ -107,14 +107,15 @@ lane_stands lane w u ls rest more it is owes = record {
   names = it.names;
 }
 
--- the lane with its server taken further, and other work
-pub lane_turns : (lane : Lane) (w : Work) (u : RosterServer) (ls rest more : List (List ℕ)) → Stands lane ls rest
-    → IntakeStands w lane.intake ls → Owes w (Some u) (account_of_lines ls) more → GivesFault w ls
-    → Stands (record lane { server = Some u; work = w }) ls more
-lane_turns lane w u ls rest more it intake owes names = record {
+-- the lane with its intake and its server taken further, and other work
+pub lane_turns : (lane : Lane) (i : feed.Kept) (w : Work) (u : RosterServer) (ls rest more : List (List ℕ))
+    → Stands lane ls rest → feed.has_ended i ≡ feed.has_ended lane.intake
+    → IntakeStands w i ls → Owes w (Some u) (account_of_lines ls) more → GivesFault w ls
+    → Stands (record lane { intake = i; server = Some u; work = w }) ls more
+lane_turns lane i w u ls rest more it ends intake owes names = record {
   intake = intake;
   opened = it.opened;
-  unended = it.unended;
+  unended = λ goes_on. ends ∙ it.unended goes_on;
   marked = it.marked;
   owes = owes;
   names = names;
@@ -125,20 +126,7 @@ pub lane_rests : (lane : Lane) (u : RosterServer) (ls rest : List (List ℕ)) �
     → feed.StandsFor lane.intake ls → Fits (account_of_lines ls) (Some u)
     → IsQuiet (record lane { server = Some u; work = Nothing }) ls
 lane_rests lane u ls rest it intake fits =
-    record { stands = lane_turns lane Nothing u ls rest [] it intake (refl, fits) tt; quiet = refl }
-
--- the lane is at rest without the job for which there is no room
-pub lane_passes : (lane : Lane) (u : RosterServer) (ls rest : List (List ℕ)) → Stands lane ls rest
-    → feed.StandsFor (feed.withdrawn lane.intake) ls → Fits (account_of_lines ls) (Some u)
-    → Stands (record lane { intake = feed.withdrawn lane.intake; server = Some u; work = Nothing }) ls []
-lane_passes lane u ls rest it intake fits = record {
-  intake = intake;
-  opened = it.opened;
-  unended = it.unended;
-  marked = it.marked;
-  owes = (refl, fits);
-  names = tt;
-}
+    record { stands = lane_turns lane lane.intake Nothing u ls rest [] it refl intake (refl, fits) tt; quiet = refl }
 
 -- the intake, where its work is none with a job
 pub work_intake : (lane : Lane) (w : Work) (ls rest : List (List ℕ)) → Stands lane ls rest → lane.work ≡ w

@@ -160,11 +160,11 @@ GivesFault _ ls = Unit {0}
 
 -- ---- a lane
 
--- The intake stands for the lines; where a job is still to be admitted, with it or without it, as it finds room or not.
+-- the intake stands for the lines; where a job is still to be admitted, for the session before it
 abbrev pub IntakeStands : Work → feed.Kept → List (List ℕ) → Type 0
 IntakeStands (Admit job) intake ls = (S : Session)
     → (account_of_lines ls).session ≡ Some (with_item S (offered_item S job))
-    → feed.StandsFor (if is_full (instance_of S) job.release then feed.withdrawn intake else intake) ls
+    → feed.KeepsAccount intake (record (account_of_lines ls) { session = Some S })
 IntakeStands _ intake ls = feed.StandsFor intake ls
 
 -- the work that follows what a line said: where that is a job, to admit it, and else none of the kind

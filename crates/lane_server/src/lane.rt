@@ -23,7 +23,7 @@ ghost use Rattle.dover_model.specs.Feed.{Account, account_of_lines, is_open};
 ghost use Rattle.dover_model.specs.Session.{admitted_jobs};
 ghost use Rattle.dover_model.specs.Spending.{CostsAtMost};
 ghost use Rattle.event_feed.specs.Answers.{DeclaresRatio, AddsJob, AddsDone, IsFed, EndAnswers, counted, admitted_in};
-ghost use Rattle.event_feed.specs.Kept.{fault_of, withdrawn};
+ghost use Rattle.event_feed.specs.Kept.{fault_of};
 ghost use Rattle.dover_model.specs.declared.events.Refusal.TheVariants.{Full};
 ghost use Rattle.event_feed.specs.declared.due_line.DueLine.TheVariants.{Header, Refuse};
 ghost use Rattle.event_feed.specs.declared.faults.FeedFault.{FeedFault};
@@ -295,9 +295,8 @@ impl Lane {
     #[inline(never)]
     fn pass(&mut self, job: Job) -> DueLine
         ensures out { result ≡ Refuse job.release job.release job.work job.deadline job.value Full }
-        ensures lane { self.new ≡ record self.old { intake = withdrawn self.old.intake; work = Nothing } }
+        ensures lane { self.new ≡ record self.old { work = Nothing } }
     {
-        self.intake.withdraw();
         self.work = Work::Nothing;
         DueLine::Refuse {
             at: job.release(),
@@ -331,6 +330,7 @@ impl Lane {
             return Some(self.pass(job));
         }
         let event = server.admit(job);
+        self.intake.accept(job);
         self.work = Work::Run(release);
         Some(DueLine::Step(event))
     }

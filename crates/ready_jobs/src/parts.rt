@@ -277,14 +277,14 @@ impl Parts {
 
     // The job x takes the processor from the running job r, or is abandoned.
     #[inline(always)]
-    fn alarm(&self, k: Ratio, r: &Task, x: &ShortTask) -> Deed
+    fn alarm(&self, k: &Ratio, r: &Task, x: &ShortTask) -> Deed
         requires sound { AreSound self.now }
         requires running { self.now.running ≡ Some r.now }
         ensures is { step_at self.now.clock result
-            ≡ alarm_of k (view self.now.version (state_of self.now)) r.now x.now }
+            ≡ alarm_of k.now (view self.now.version (state_of self.now)) r.now x.now }
         ensures finds { Finds (view self.now.version (state_of self.now)) result }
     {
-        if heavy(x.value(), self.value_busy(r), k) {
+        if heavy(x.value(), self.value_busy(r), *k) {
             Deed::Take {
                 stops: r.number,
                 starts: x.number(),
@@ -296,12 +296,12 @@ impl Parts {
 
     // The next step while r runs.
     #[inline(always)]
-    fn busy_step(&self, k: Ratio, r: &Task) -> Deed
+    fn busy_step(&self, k: &Ratio, r: &Task) -> Deed
         requires sound { AreSound self.now }
         requires running { self.now.running ≡ Some r.now }
         requires runs { running (state_of self.now) ≡ Some r.now }
         ensures is { step_at self.now.clock result
-            ≡ open_step (record { ratio = k; version = self.now.version; finishes = [] }) (state_of self.now) }
+            ≡ open_step (record { ratio = k.now; version = self.now.version; finishes = [] }) (state_of self.now) }
         ensures finds { Finds (view self.now.version (state_of self.now)) result }
     {
         if left(r) == 0 {
@@ -374,11 +374,11 @@ impl Parts {
 
     // The next step while no job runs.
     #[inline(always)]
-    fn free_step(&self, k: Ratio) -> Deed
+    fn free_step(&self, k: &Ratio) -> Deed
         requires sound { AreSound self.now }
         requires free { running (state_of self.now) ≡ None }
         ensures is { step_at self.now.clock result
-            ≡ open_step (record { ratio = k; version = self.now.version; finishes = [] }) (state_of self.now) }
+            ≡ open_step (record { ratio = k.now; version = self.now.version; finishes = [] }) (state_of self.now) }
         ensures finds { Finds (view self.now.version (state_of self.now)) result }
     {
         // A ratio is known to be one where it is read.
@@ -399,10 +399,10 @@ impl Parts {
 
     /// The next step where further jobs may come.
     #[inline(always)]
-    pub fn open_step(&self, k: Ratio) -> Deed
+    pub fn open_step(&self, k: &Ratio) -> Deed
         requires { AreSound self.now }
         ensures is { step_at self.now.clock result
-            ≡ open_step (record { ratio = k; version = self.now.version; finishes = [] }) (state_of self.now) }
+            ≡ open_step (record { ratio = k.now; version = self.now.version; finishes = [] }) (state_of self.now) }
         ensures finds { Finds (view self.now.version (state_of self.now)) result }
     {
         match self.running() {

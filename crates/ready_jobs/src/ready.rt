@@ -213,7 +213,7 @@ impl Ready {
         ensures held { filter is_held self.new.ready ≡ filter is_held self.old.ready }
     {
         self.parts.laws();
-        let deed = self.parts.settle(self.ratio, mark, steps);
+        let deed = self.parts.settle(&self.ratio, mark, steps);
         self.parts.laws();
         deed
     }

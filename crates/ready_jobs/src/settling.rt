@@ -16,11 +16,11 @@ use step_count::Steps;
 impl Parts {
     // The fresh job, if there is one, gives a printed step, or it waits: no job is fresh any more.
     #[inline(always)]
-    fn place<L: Ledger>(&mut self, k: Ratio, steps: &mut Steps<L>) -> Option<Deed>
-        requires { IsPart (record { ratio = k; version = self.old.version; finishes = [] }) self.old }
-        ensures settles { (mark : ℕ) → SettlesFrom k mark self.old self.new }
+    fn place<L: Ledger>(&mut self, k: &Ratio, steps: &mut Steps<L>) -> Option<Deed>
+        requires { IsPart (record { ratio = k.now; version = self.old.version; finishes = [] }) self.old }
+        ensures settles { (mark : ℕ) → SettlesFrom k.now mark self.old self.new }
         ensures some { IfSome result (λ deed. step_at self.new.clock deed
-            ≡ open_step (record { ratio = k; version = self.new.version; finishes = [] }) (state_of self.new)) }
+            ≡ open_step (record { ratio = k.now; version = self.new.version; finishes = [] }) (state_of self.new)) }
         ensures finds { IfSome result (λ deed. Finds (view self.new.version (state_of self.new)) deed) }
         ensures prints { IfSome result (λ deed. IsSilent (step_at self.new.clock deed) → ⊥) }
         ensures none { IfNone result (self.new.fresh ≡ None) }
@@ -46,16 +46,17 @@ impl Parts {
     // Takes the silent ticks that come now, up to the next other step or to the mark. No job is fresh, and one runs or
     // a tick is next.
     #[inline(always)]
-    fn tick_on(&mut self, k: Ratio, mark: u64) -> Deed
-        requires part { IsPart (record { ratio = k; version = self.old.version; finishes = [] }) self.old }
+    fn tick_on(&mut self, k: &Ratio, mark: u64) -> Deed
+        requires part { IsPart (record { ratio = k.now; version = self.old.version; finishes = [] }) self.old }
         requires stale { self.old.fresh ≡ None }
         requires ticks { self.old.running ≡ None →
-            open_step (record { ratio = k; version = self.old.version; finishes = [] }) (state_of self.old) ≡ Ticks }
+            open_step (record { ratio = k.now; version = self.old.version; finishes = [] }) (state_of self.old)
+            ≡ Ticks }
         requires low { self.old.clock ≤ mark }
         requires known { mark ≤ last_tick }
-        ensures settles { SettlesFrom k mark self.old self.new }
+        ensures settles { SettlesFrom k.now mark self.old self.new }
         ensures step { step_at self.new.clock result
-            ≡ open_step (record { ratio = k; version = self.new.version; finishes = [] }) (state_of self.new) }
+            ≡ open_step (record { ratio = k.now; version = self.new.version; finishes = [] }) (state_of self.new) }
         ensures finds { Finds (view self.new.version (state_of self.new)) result }
         ensures stops { let step = step_at self.new.clock result in
             IsSilent step → (step ≡ Ticks) × (mark ≤ self.new.clock) }
@@ -72,14 +73,14 @@ impl Parts {
 
     // Takes the silent ticks up to the next other step, or to the mark. No job is fresh.
     #[inline(always)]
-    fn tick_to(&mut self, k: Ratio, mark: u64) -> Deed
-        requires part { IsPart (record { ratio = k; version = self.old.version; finishes = [] }) self.old }
+    fn tick_to(&mut self, k: &Ratio, mark: u64) -> Deed
+        requires part { IsPart (record { ratio = k.now; version = self.old.version; finishes = [] }) self.old }
         requires stale { self.old.fresh ≡ None }
         requires low { self.old.clock ≤ mark }
         requires known { mark ≤ last_tick }
-        ensures settles { SettlesFrom k mark self.old self.new }
+        ensures settles { SettlesFrom k.now mark self.old self.new }
         ensures step { step_at self.new.clock result
-            ≡ open_step (record { ratio = k; version = self.new.version; finishes = [] }) (state_of self.new) }
+            ≡ open_step (record { ratio = k.now; version = self.new.version; finishes = [] }) (state_of self.new) }
         ensures finds { Finds (view self.new.version (state_of self.new)) result }
         ensures stops { let step = step_at self.new.clock result in
             IsSilent step → (step ≡ Ticks) × (mark ≤ self.new.clock) }
@@ -100,13 +101,13 @@ impl Parts {
 
     /// Takes the silent steps up to the next printed one, which it gives, or up to the barrier of the mark.
     #[inline(always)]
-    pub fn settle<L: Ledger>(&mut self, k: Ratio, mark: u64, steps: &mut Steps<L>) -> Deed
-        requires part { IsPart (record { ratio = k; version = self.old.version; finishes = [] }) self.old }
+    pub fn settle<L: Ledger>(&mut self, k: &Ratio, mark: u64, steps: &mut Steps<L>) -> Deed
+        requires part { IsPart (record { ratio = k.now; version = self.old.version; finishes = [] }) self.old }
         requires low { self.old.clock ≤ mark }
         requires known { mark ≤ last_tick }
-        ensures settles { SettlesFrom k mark self.old self.new }
+        ensures settles { SettlesFrom k.now mark self.old self.new }
         ensures step { step_at self.new.clock result
-            ≡ open_step (record { ratio = k; version = self.new.version; finishes = [] }) (state_of self.new) }
+            ≡ open_step (record { ratio = k.now; version = self.new.version; finishes = [] }) (state_of self.new) }
         ensures finds { Finds (view self.new.version (state_of self.new)) result }
         ensures stops { let step = step_at self.new.clock result in
             IsSilent step → (step ≡ Ticks) × (mark ≤ self.new.clock) }

@@ -2,7 +2,7 @@
 use Rattle.std.proofs.Common.{◌≡◌, ℕ, ◌+◌, List, [], ◌∷◌, ◌++◌, length, length-append, refl, sym, ap, ◌∙◌, subst, inl}
 use Rattle.std.proofs.Common.{inr}
 use Rattle.std.proofs.Common.{Bool, true, false, cond, arith, Option, Some, None}
-use Rattle.std.specs.Prelude.{Ok, Err, IsSome, IfSome, IsNone, is_some}
+use Rattle.std.specs.Prelude.{Ok, Err, IsSome, is_some}
 use Rattle.std.specs.List.{fold}
 use Rattle.std.proofs.lemmas.List.{map-append}
 use Rattle.std.proofs.lemmas.List.Sums.{fold-append}
@@ -22,7 +22,8 @@ use Rattle.dover_model.proofs.Honest.{count_jobs}
 use Rattle.dover_model.proofs.Members.{some_same, all_last}
 use Rattle.dover_model.proofs.Tests.{never}
 use Rattle.dover_model.proofs.ValidParts.{valid_parts}
-use Rattle.event_feed.proofs.Listing.{left_all, job_after}
+use Rattle.event_feed.proofs.Accepting.{offer_room, offer_accepted}
+use Rattle.event_feed.proofs.Listing.{job_after}
 use Rattle.dover_model.proofs.Growing.{job_instance, refused_instance}
 use Rattle.dover_model.proofs.JobSessions.{jobs_back}
 use Rattle.event_feed.specs.declared.fed.Fed.{Fed}
@@ -129,7 +130,7 @@ cause_adds_none a j model.Short = refl
 
 -- ---- the line of a job
 
-module _ (h : Head) (tasks : List Task) (t : Task) (i new : feed.Kept) (it : IsFed i h tasks) (room : HasRoom h tasks)
+module _ (h : Head) (tasks : List Task) (t : Task) (i : feed.Kept) (it : IsFed i h tasks) (room : HasRoom h tasks)
     (short : AreShort (job_numbers t.job)) where
   -- the line
   abbrev line : List ℕ
@@ -173,11 +174,13 @@ module _ (h : Head) (tasks : List Task) (t : Task) (i new : feed.Kept) (it : IsF
       → IsValid (declared_jobs h (tasks ++ t ∷ [])) → ⊥
   not_valid same valid = absurd (omega (arith, same, counts, none_counts (valid_no_cause h tasks t room.2 valid)))
 
-  -- an answer with no job says that it isn't valid
-  pub no_job : (answer : Fed) → job_in answer ≡ None
-      → Answers line (account_of_lines (job_lines h tasks)) (account_of_lines (job_lines h tasks ++ line ∷ []))
+  -- the answer to it
+  abbrev Says : Fed → Type 0
+  Says answer = Answers line (account_of_lines (job_lines h tasks)) (account_of_lines (job_lines h tasks ++ line ∷ []))
       (Ok answer)
-      → IsValid (declared_jobs h (tasks ++ t ∷ [])) → ⊥
+
+  -- an answer with no job says that it isn't valid
+  no_job : (answer : Fed) → job_in answer ≡ None → Says answer → IsValid (declared_jobs h (tasks ++ t ∷ [])) → ⊥
   no_job answer none said =
       not_valid (none_added line (account_of_lines (job_lines h tasks)) _ (jobs_session h tasks) answer
       (ap (λ a. a.session) it.account) none said.1)
@@ -189,20 +192,14 @@ module _ (h : Head) (tasks : List Task) (t : Task) (i new : feed.Kept) (it : IsF
       → IsValid (declared_jobs h (tasks ++ t ∷ [])) → ⊥
   no_fault fault said = not_valid (none_at_fault line (account_of_lines (job_lines h tasks)) _ fault said)
 
-  -- what an answer with a job says
-  pub record IsAdded (job : JobFacts) : Type 0 where
-    pub same : job ≡ t.job
+  -- the job is valid, there is room for it, and once it is accepted its line was handed in
+  pub record Offers (offers : feed.Kept) : Type 0 where
     pub valid : IsValid (declared_jobs h (tasks ++ t ∷ []))
-    pub fed : IsFed new h (tasks ++ t ∷ [])
+    pub has_room : feed.HasRoom offers t.job
+    pub fed : (after : feed.Kept) → feed.Accepts t.job offers after → IsFed after h (tasks ++ t ∷ [])
 
   -- an answer with a job
-  pub added : (n : ℕ) (job : JobFacts)
-      → feed.StandsFor (feed.left_in (Ok (fed.Job n job)) (account_of_lines (job_lines h tasks)) new)
-      (job_lines h tasks ++ line ∷ [])
-      → Answers line (account_of_lines (job_lines h tasks)) (account_of_lines (job_lines h tasks ++ line ∷ []))
-      (Ok (fed.Job n job))
-      → IsAdded job
-  added n job left said = by_cause (job_cause h tasks t) refl where
+  module _ (n : ℕ) (job : JobFacts) (said : Says (fed.Job n job)) where
     adds : AddsJob n job (counted (account_of_lines (job_lines h tasks)))
         (account_of_lines (job_lines h tasks ++ line ∷ []))
     adds = said.1
@@ -220,89 +217,68 @@ module _ (h : Head) (tasks : List Task) (t : Task) (i new : feed.Kept) (it : IsF
       count_jobs tasks,
     ))
 
-    stands : feed.StandsFor new (job_lines h tasks ++ line ∷ [])
-    stands = subst (λ k. feed.StandsFor k (job_lines h tasks ++ line ∷ []))
-        (left_all new n job (account_of_lines (job_lines h tasks)) adds room_here) left
-
     jobs_after : jobs_in_session (account_of_lines (job_lines h tasks ++ line ∷ [])).session
-        ≡ admitted_jobs said.1.session.items ++ job ∷ []
+        ≡ admitted_jobs adds.session.items ++ job ∷ []
     jobs_after = ap (λ (x : Account). jobs_in_session x.session)
         (job_after (counted (account_of_lines (job_lines h tasks))) _ n job adds room_here)
-        ∙ ap (λ J. J.jobs) (job_instance said.1.session job)
+        ∙ ap (λ J. J.jobs) (job_instance adds.session job)
 
-    by_cause : (o : Option model.Cause) → job_cause h tasks t ≡ o → IsAdded job
-    by_cause (Some cause) is = absurd (omega (
-      arith,
-      cause_counts cause is,
-      counts,
-      ap (λ o. length (jobs_in_session o)) said.1.before_is,
-      ap length jobs_after,
-      length-append (admitted_jobs said.1.session.items) (job ∷ []),
-    ))
-    by_cause None none = record {
-      same = same_last (admitted_jobs said.1.session.items) (jobs_of tasks) job t.job
-          (sym jobs_after ∙ ap (λ (x : Account). jobs_in_session x.session) (none_account none)
-          ∙ jobs_back (jobs_of (tasks ++ t ∷ [])) ∙ jobs_more tasks t);
-      valid = no_cause_valid h tasks t room.2 room.0 none;
-      fed = record {
-        stands = subst (feed.StandsFor new) lines_more stands;
-        account = ap account_of_lines (sym lines_more) ∙ none_account none;
-        going = goes_on new (job_lines h tasks ++ line ∷ []) (jobs_session h (tasks ++ t ∷ [])) stands
-            (ap (λ (x : Account). x.standing) (none_account none))
-            (ap (λ (x : Account). x.session) (none_account none));
-      };
+    -- the line has no cause
+    no_cause : job_cause h tasks t ≡ None
+    no_cause = by_cause (job_cause h tasks t) refl where
+      by_cause : (o : Option model.Cause) → job_cause h tasks t ≡ o → job_cause h tasks t ≡ None
+      by_cause (Some cause) is = absurd (omega (
+        arith,
+        cause_counts cause is,
+        counts,
+        ap (λ o. length (jobs_in_session o)) adds.before_is,
+        ap length jobs_after,
+        length-append (admitted_jobs adds.session.items) (job ∷ []),
+      ))
+      by_cause None none = none
+
+    -- the job is the line's
+    same_job : job ≡ t.job
+    same_job = same_last (admitted_jobs adds.session.items) (jobs_of tasks) job t.job
+        (sym jobs_after ∙ ap (λ (x : Account). jobs_in_session x.session) (none_account no_cause)
+        ∙ jobs_back (jobs_of (tasks ++ t ∷ [])) ∙ jobs_more tasks t)
+
+    -- it is valid, there is room for it, and once it is accepted its line was handed in
+    job_offered : (offers : feed.Kept)
+        → feed.StandsBehind {E = FeedFault} (Ok (fed.Job n job)) offers (job_lines h tasks) line → Offers offers
+    job_offered offers stands = record {
+      valid = no_cause_valid h tasks t room.2 room.0 no_cause;
+      has_room = subst (feed.HasRoom offers) same_job (offer_room (account_of_lines (job_lines h tasks))
+          (account_of_lines (job_lines h tasks ++ line ∷ [])) n job adds offers stands);
+      fed = λ after accepts.
+          let now : feed.StandsFor after (job_lines h tasks ++ line ∷ []) = record {
+            by_account = offer_accepted (account_of_lines (job_lines h tasks))
+                (account_of_lines (job_lines h tasks ++ line ∷ [])) n job adds offers stands after
+                (subst (λ j. feed.Accepts j offers after) (sym same_job) accepts) room_here;
+          } in record {
+            stands = subst (feed.StandsFor after) lines_more now;
+            account = ap account_of_lines (sym lines_more) ∙ none_account no_cause;
+            going = goes_on after (job_lines h tasks ++ line ∷ []) (jobs_session h (tasks ++ t ∷ [])) now
+                (ap (λ (x : Account). x.standing) (none_account no_cause))
+                (ap (λ (x : Account). x.session) (none_account no_cause));
+          };
     }
 
-  -- the job that is handed on
-  abbrev IsHandedOn : JobFacts → Type 0
-  IsHandedOn job = (job ≡ t.job) × IsValid (declared_jobs h (tasks ++ t ∷ [])) × IsFed new h (tasks ++ t ∷ [])
+  -- so says any answer that offers a job
+  pub offered : (answer : Fed) (offers : feed.Kept) → is_some (job_in answer) ≡ true
+      → feed.StandsBehind {E = FeedFault} (Ok answer) offers (job_lines h tasks) line → Says answer → Offers offers
+  offered (fed.Ratio k version) offers some stands said = never some
+  offered (fed.Job n job) offers some stands said = job_offered n job said offers stands
+  offered (fed.Tick tick) offers some stands said = never some
+  offered fed.Over offers some stands said = never some
+  offered (fed.Refused r c d v refusal) offers some stands said = never some
+  offered (fed.Done t n) offers some stands said = never some
 
-  -- it is the line's, and valid
-  pub handed_on : (answer : Fed) (result : Option JobFacts) → result ≡ job_in answer
-      → feed.StandsFor (feed.left_in (Ok answer) (account_of_lines (job_lines h tasks)) new)
-      (job_lines h tasks ++ line ∷ [])
-      → Answers line (account_of_lines (job_lines h tasks)) (account_of_lines (job_lines h tasks ++ line ∷ []))
-      (Ok answer)
-      → IfSome result IsHandedOn
-  handed_on answer result is stands said = subst (λ o. IfSome o IsHandedOn) (sym is) (by answer stands said) where
-    by : (x : Fed) → feed.StandsFor (feed.left_in (Ok x) (account_of_lines (job_lines h tasks)) new)
-        (job_lines h tasks ++ line ∷ [])
-        → Answers line (account_of_lines (job_lines h tasks))
-        (account_of_lines (job_lines h tasks ++ line ∷ [])) (Ok x)
-        → IfSome (job_in x) IsHandedOn
-    by (fed.Ratio k version) left s = tt
-    by (fed.Job n job) left s = let it = added n job left s in (it.same, it.valid, it.fed)
-    by (fed.Tick tick) left s = tt
-    by fed.Over left s = tt
-    by (fed.Refused r c d v refusal) left s = tt
-    by (fed.Done t n) left s = tt
-
-  -- where one is handed on, it may be made again of its numbers
-  pub handed_again : (answer : Fed) (result : Option JobFacts) → is_some (job_in answer) ≡ true
-      → IfSome result (λ job. job ≡ t.job)
-      → feed.StandsFor (feed.left_in (Ok answer) (account_of_lines (job_lines h tasks)) new)
-      (job_lines h tasks ++ line ∷ [])
-      → Answers line (account_of_lines (job_lines h tasks)) (account_of_lines (job_lines h tasks ++ line ∷ []))
-      (Ok answer)
-      → IfSome result IsHandedOn
-  handed_again answer result some same stands said = by result same (in_some (job_in answer) some (handed_on answer
-      (job_in answer) refl stands said)) where
-        in_some : (o : Option JobFacts) → is_some o ≡ true → IfSome o IsHandedOn → (job : JobFacts) × IsHandedOn job
-        in_some None e it = never e
-        in_some (Some job) e it = (job, it)
-
-        by : (o : Option JobFacts) → IfSome o (λ job. job ≡ t.job) → (job : JobFacts) × IsHandedOn job
-            → IfSome o IsHandedOn
-        by None same it = tt
-        by (Some job) same it = (same, it.1.1, it.1.2)
-
-  -- none is handed on where it isn't valid
-  pub none_handed_on : (answer : Fed) (result : Option JobFacts) → result ≡ job_in answer → IsNone result
-      → Answers line (account_of_lines (job_lines h tasks)) (account_of_lines (job_lines h tasks ++ line ∷ []))
-      (Ok answer)
+  -- an answer that offers none says that it isn't valid
+  pub none_offered : (answer : Fed) → is_some (job_in answer) ≡ false → Says answer
       → IsValid (declared_jobs h (tasks ++ t ∷ [])) → ⊥
-  none_handed_on answer result is none said = no_job answer (sym is ∙ by result none) said where
-    by : (o : Option JobFacts) → IsNone o → o ≡ None
+  none_offered answer none said = no_job answer (by (job_in answer) none) said where
+    by : (o : Option JobFacts) → is_some o ≡ false → o ≡ None
     by None n = refl
     by (Some j) n = absurd (let clash : true ≡ false = n in cc)
 

@@ -48,7 +48,7 @@ pub record IsFed (i : feed.Kept) (h : Head) (tasks : List Task) : Type 0 where
   pub account : account_of_lines (job_lines h tasks) ≡ jobs_account h tasks
   pub going : feed.IsGoing i
 
--- the job that is admitted, if one is
+-- the job that is offered, if one is
 abbrev pub job_in : Fed → Option JobFacts
 job_in (fed.Ratio k version) = None
 job_in (fed.Job number job) = Some job

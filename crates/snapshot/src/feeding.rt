@@ -41,7 +41,7 @@ pub(crate) fn begin(head: &Head) -> Intake
     intake
 }
 
-/// Whether a job is admitted.
+/// Whether a job is offered.
 #[inline(always)]
 fn is_job(fed: Fed) -> bool
     ensures { result ≡ is_some (job_in fed) }
@@ -72,7 +72,11 @@ pub(crate) fn hand_job(intake: &mut Intake, state: &StateLine) -> Option<Job>
                 return None;
             }
             // Made of its numbers again, it needn't be carried through the answer.
-            Job::new(state.release, state.work, state.deadline, state.value)
+            let Some(job) = Job::new(state.release, state.work, state.deadline, state.value) else {
+                return None;
+            };
+            intake.accept(job);
+            Some(job)
         }
         Err(_) => None,
     }

@@ -1,28 +1,44 @@
-use Rattle.std.proofs.Common.{refl, sym, ◌∙◌}
+use Rattle.std.proofs.Common.{sym, subst, ◌∙◌}
 use Rattle.dover_model.proofs.Tests.{never}
 use Rattle.snapshot.specs.Forms.{task_in}
 use Rattle.snapshot.specs.Stored.{job_lines}
-use Rattle.snapshot.specs.Kept.{job_in}
-use Rattle.snapshot.proofs.Handed.{handed_again, none_handed_on, none_made, no_fault}
+use Rattle.event_feed.specs.Kept.{HasRoom, Accepts}
+use Rattle.snapshot.proofs.Handed.{offered, none_offered, none_made, no_fault}
 use Rattle.snapshot.proofs.feeding.hand_job.Goals as goal
 
 pub returns-then-not-is_job-clause-none : goal.returns-then-not-is_job-clause-none
 returns-then-not-is_job-clause-none c =
-    λ h tasks it room none. none_handed_on h tasks (task_in c.args.state.now) c.args.intake.now c.form.new.self it room
-    c.requires.numerals c.in-Ok.fed (job_in c.in-Ok.fed) refl (sym c.is_job.ensures ∙ c.if-not-is_job.true)
+    λ h tasks it room none. none_offered h tasks (task_in c.args.state.now) c.args.intake.now it room
+    c.requires.numerals c.in-Ok.fed (sym c.is_job.ensures ∙ c.if-not-is_job.true)
     (c.in-Ok.ensures.answer (job_lines h tasks) it.stands)
 
-pub returns-else-not-is_job-clause-some : goal.returns-else-not-is_job-clause-some
-returns-else-not-is_job-clause-some c =
-    λ h tasks it room. handed_again h tasks (task_in c.args.state.now) c.args.intake.now c.form.new.self it room
-    c.requires.numerals c.in-Ok.fed c.new.result (sym c.is_job.ensures ∙ c.if-not-is_job.false) c.new.ensures.facts
-    (c.in-Ok.ensures.stands (job_lines h tasks) it.stands) (c.in-Ok.ensures.answer (job_lines h tasks) it.stands)
+pub accept-requires : goal.accept-requires
+accept-requires c =
+    let h = c.requires.fed.0 in
+    let tasks = c.requires.fed.1 in
+    let it = c.requires.fed.2 in
+    let offers = offered h tasks (task_in c.args.state.now) c.args.intake.now it c.requires.fed.3 c.requires.numerals
+    c.in-Ok.fed c.form.new.self (sym c.is_job.ensures ∙ c.if-not-is_job.false)
+    (c.in-Ok.ensures.stands (job_lines h tasks) it.stands) (c.in-Ok.ensures.answer (job_lines h tasks) it.stands) in
+    subst (HasRoom c.form.new.self) (sym c.in-Some.ensures.facts) offers.has_room
 
-pub returns-else-not-is_job-clause-none : goal.returns-else-not-is_job-clause-none
-returns-else-not-is_job-clause-none c = λ h tasks it room none. none_made h tasks (task_in c.args.state.now)
-    (λ job. never (sym none ∙ c.new.ensures.allowed.1 job))
+pub returns-in-Some-clause-some : goal.returns-in-Some-clause-some
+returns-in-Some-clause-some c = λ h tasks it room.
+    let same = c.in-Some.ensures.facts in
+    let offers = offered h tasks (task_in c.args.state.now) c.args.intake.now it room c.requires.numerals
+    c.in-Ok.fed c.form.new.self (sym c.is_job.ensures ∙ c.if-not-is_job.false)
+    (c.in-Ok.ensures.stands (job_lines h tasks) it.stands) (c.in-Ok.ensures.answer (job_lines h tasks) it.stands) in (
+      same,
+      offers.valid,
+      offers.fed c.accept.new.self
+          (subst (λ j. Accepts j c.form.new.self c.accept.new.self) same c.accept.ensures),
+    )
+
+pub returns-in_default-clause-none : goal.returns-in_default-clause-none
+returns-in_default-clause-none c = λ h tasks it room none. none_made h tasks (task_in c.args.state.now)
+    (λ job. never (c.in_default.ensures.allowed.1 job))
 
 pub returns-in-Err-clause-none : goal.returns-in-Err-clause-none
 returns-in-Err-clause-none c =
-    λ h tasks it room none. no_fault h tasks (task_in c.args.state.now) c.args.intake.now c.form.new.self it room
+    λ h tasks it room none. no_fault h tasks (task_in c.args.state.now) c.args.intake.now it room
     c.requires.numerals c.in-Err.field-0 (c.in-Err.ensures.answer (job_lines h tasks) it.stands)

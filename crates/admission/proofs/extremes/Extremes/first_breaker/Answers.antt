@@ -8,12 +8,12 @@ returns-then-not-keeps_ratio-2-clause-other c jobs it = record {
   breaks = sym c.keeps_ratio-2.ensures ∙ c.if-not-keeps_ratio-2.true;
   which = inr (
     it.densest,
-    least_keep c.args.ratio jobs c.args.self.now c.args.job.now it
+    least_keep c.args.ratio.now jobs c.args.self.now c.args.job.now it
         (sym c.keeps_ratio.ensures ∙ c.if-not-keeps_ratio.false),
   );
 }
 
 pub returns-clause-none : goal.returns-clause-none
-returns-clause-none c jobs it none = all_keep c.args.ratio jobs c.args.self.now c.args.job.now it
+returns-clause-none c jobs it none = all_keep c.args.ratio.now jobs c.args.self.now c.args.job.now it
     (sym c.keeps_ratio.ensures ∙ c.if-not-keeps_ratio.false)
     (sym c.keeps_ratio-2.ensures ∙ c.if-not-keeps_ratio-2.false)

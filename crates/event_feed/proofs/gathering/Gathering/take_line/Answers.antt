@@ -10,11 +10,13 @@ use Rattle.dover_model.specs.declared.events.Version.TheVariants.{Two}
 use Rattle.dover_model.proofs.Accounts.{lines_goes}
 use Rattle.event_feed.specs.Answers.{IsFed, AddsJob, counted}
 use Rattle.event_feed.specs.Keeping.{Keeps}
+use Rattle.event_feed.specs.declared.faults.FeedFault.{FeedFault}
 use Rattle.event_feed.specs.Kept as feed
 use Rattle.event_feed.specs.Kept.{fault_of}
 use Rattle.event_feed.specs.Listing.{offered_in}
 use Rattle.dover_model.proofs.Members.{err_any}
-use Rattle.event_feed.proofs.Listing.{finds_room, left_all, ok_any}
+use Rattle.event_feed.proofs.Accepting.{offer_accepted, offer_room}
+use Rattle.event_feed.proofs.Listing.{finds_room, ok_any}
 use Rattle.event_feed.proofs.Listing.{goes_on, job_listed, job_admitted, refused_listed, tick_listed}
 use Rattle.event_feed.proofs.Listing.{kept_listed, done_admitted}
 use Rattle.event_feed.proofs.DoneLines.{done_standing}
@@ -57,10 +59,11 @@ returns-in-Job-clause-keeps c ls keeps on =
           keeps_few c.job.new.self (ls ++ c.args.line.now ∷ []) (kept.1 ∙ it.few)
           (kept.0 ∙ on ∙ sym it.opened ∙ sym (ap is_open adds.after_is))
           (omega (arith, few, ap length jobs, length-append c.args.self.now.jobs.items (c.in-Job.job ∷ []))) (record {
-            intake = rw c.job.ensures.intake (subst (λ k. feed.StandsFor k (ls ++ c.args.line.now ∷ []))
-                (left_all c.line.new.self c.in-Job.field-0 c.in-Job.job a adds room)
-                (subst (λ f. feed.StandsFor (feed.left_in (Ok f) a c.line.new.self) (ls ++ c.args.line.now ∷ []))
-                c.in-Job.is (c.in-Ok.ensures.stands ls it.all.intake)));
+            intake = record {
+              by_account = offer_accepted a b c.in-Job.field-0 c.in-Job.job adds c.line.new.self
+                  (subst (λ f. feed.StandsBehind {E = FeedFault} (Ok f) c.line.new.self ls c.args.line.now) c.in-Job.is
+                  (c.in-Ok.ensures.stands ls it.all.intake)) c.job.new.self.intake kept.2 room;
+            };
             lists = rw (c.job.ensures.declared, c.job.ensures.dones, jobs)
                 (job_listed a b _ _ _ it.all.lists c.in-Job.field-0 c.in-Job.job adds room);
             offered = omega (
@@ -71,8 +74,9 @@ returns-in-Job-clause-keeps c ls keeps on =
               length-append c.args.self.now.jobs.items (c.in-Job.job ∷ []),
             );
             names = λ fault is. absurd (let e : None ≡ Some fault =
-                sym (ap fault_of c.job.ensures.intake ∙ c.in-Ok.ensures.fault) ∙ is in cc);
-          })) kept.2
+                sym (ap (λ s. fault_of (record { lines = 0; session = None; standing = s })) kept.2.standing
+                ∙ c.in-Ok.ensures.fault) ∙ is in cc);
+          })) kept.3
       by_count false is =
           let many : most_jobs Two ≤ length c.args.self.now.jobs.items = ltb-false _ _ is in
           let kept = c.job.ensures.many many in
@@ -86,8 +90,10 @@ returns-in-Refused-clause-keeps c = λ ls keeps on.
     let it = is_gathering c.args.self.now ls keeps on in
     let adds = subst (IsFed (counted a) b) c.in-Refused.is (c.in-Ok.ensures.answer ls it.all.intake).1 in
     keeps_few _ _ it.few (on ∙ sym it.opened ∙ sym (ap is_open adds.after_is)) it.most (record {
-      intake = subst (λ f. feed.StandsFor (feed.left_in (Ok f) a c.line.new.self) (ls ++ c.args.line.now ∷ []))
-          c.in-Refused.is (c.in-Ok.ensures.stands ls it.all.intake);
+      intake = record {
+        by_account = subst (λ f. feed.StandsBehind {E = FeedFault} (Ok f) c.line.new.self ls c.args.line.now)
+            c.in-Refused.is (c.in-Ok.ensures.stands ls it.all.intake);
+      };
       lists = refused_listed a b _ _ _ it.all.lists _ _ adds;
       offered = offered_refused a b _ _ adds ∙ it.all.offered;
       names = λ fault is. absurd (let e : None ≡ Some fault = sym c.in-Ok.ensures.fault ∙ is in cc);
@@ -100,8 +106,10 @@ returns-in-Tick-clause-keeps c = λ ls keeps on.
     let it = is_gathering c.args.self.now ls keeps on in
     let adds = subst (IsFed (counted a) b) c.in-Tick.is (c.in-Ok.ensures.answer ls it.all.intake).1 in
     keeps_few _ _ it.few (on ∙ sym it.opened ∙ sym (ap is_open adds.after_is)) it.most (record {
-      intake = subst (λ f. feed.StandsFor (feed.left_in (Ok f) a c.line.new.self) (ls ++ c.args.line.now ∷ []))
-          c.in-Tick.is (c.in-Ok.ensures.stands ls it.all.intake);
+      intake = record {
+        by_account = subst (λ f. feed.StandsBehind {E = FeedFault} (Ok f) c.line.new.self ls c.args.line.now)
+            c.in-Tick.is (c.in-Ok.ensures.stands ls it.all.intake);
+      };
       lists = tick_listed a b _ _ _ it.all.lists _ adds;
       offered = ap offered_in adds.after_is ∙ it.all.offered;
       names = λ fault is. absurd (let e : None ≡ Some fault = sym c.in-Ok.ensures.fault ∙ is in cc);
@@ -114,8 +122,10 @@ returns-in-Done-clause-keeps c = λ ls keeps on.
     let it = is_gathering c.args.self.now ls keeps on in
     let answer = c.in-Ok.ensures.answer ls it.all.intake in
     let adds = subst (IsFed (counted a) b) c.in-Done.is answer.1 in
-    let stands = subst (λ f. feed.StandsFor (feed.left_in (Ok f) a c.line.new.self) (ls ++ c.args.line.now ∷ []))
-    c.in-Done.is (c.in-Ok.ensures.stands ls it.all.intake) in
+    let stands : feed.StandsFor c.line.new.self (ls ++ c.args.line.now ∷ []) = record {
+      by_account = subst (λ f. feed.StandsBehind {E = FeedFault} (Ok f) c.line.new.self ls c.args.line.now) c.in-Done.is
+          (c.in-Ok.ensures.stands ls it.all.intake);
+    } in
     on_ok_weaker c.done.result (λ kept. keeps_few c.done.new.self (ls ++ c.args.line.now ∷ [])
     (c.done.ensures.too_many ∙ it.few)
     (c.done.ensures.going ∙ on ∙ sym it.opened ∙ sym (ap is_open adds.after_is
@@ -136,3 +146,14 @@ returns-in-Done-clause-memory c = λ ls keeps on.
     let it = is_gathering c.args.self.now ls keeps on in
     let adds = subst (IsFed (counted a) b) c.in-Done.is (c.in-Ok.ensures.answer ls it.all.intake).1 in
     on_err_weaker c.done.result (λ some. done_admitted a b _ _ _ it.all.lists _ _ adds some) c.done.ensures.memory
+
+pub job-requires : goal.job-requires
+job-requires c =
+    let ls = c.requires.0 in
+    let a = account_of_lines ls in
+    let b = account_of_lines (ls ++ c.args.line.now ∷ []) in
+    let it = is_gathering c.args.self.now ls c.requires.1 c.requires.2 in
+    offer_room a b c.in-Job.field-0 c.in-Job.job
+    (subst (IsFed (counted a) b) c.in-Job.is (c.in-Ok.ensures.answer ls it.all.intake).1) c.line.new.self
+    (subst (λ f. feed.StandsBehind {E = FeedFault} (Ok f) c.line.new.self ls c.args.line.now) c.in-Job.is
+    (c.in-Ok.ensures.stands ls it.all.intake))

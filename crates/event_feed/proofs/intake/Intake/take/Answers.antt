@@ -161,9 +161,7 @@ returns-in-Faulty-clause-stands c ls text is it =
     ≡ model.Faulty c.in-Faulty.fault.line (cause_of_fault c.in-Faulty.fault.cause) =
     sym it.by_account.standing ∙ ap (λ (k : Kept). standing_of k.standing) (sym c.self.view_is)
     ∙ ap standing_of c.in-Faulty.is in
-    record {
-      by_account = subst (KeepsAccount c.args.self.now) (sym (fault_stays ls text _ _ faulty)) it.by_account;
-    }
+    subst (KeepsAccount c.args.self.now) (sym (fault_stays ls text _ _ faulty)) it.by_account
 
 pub returns-in-Ok-clause-again : goal.returns-in-Ok-clause-again
 returns-in-Ok-clause-again c fault is = absurd (let e : None ≡ Some fault =

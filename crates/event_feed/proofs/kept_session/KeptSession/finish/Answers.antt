@@ -8,8 +8,7 @@ use Rattle.event_feed.proofs.kept_session.KeptSession.finish.Goals as goal
 pub returns : goal.returns
 returns c lines S mark it may =
     let kept : KeptSession = c.args.self.now in
-    let new : KeptSession =
-    record { admission = kept.admission; former = kept.former; mark = c.max-self.result } in
+    let new : KeptSession = record { admission = kept.admission; mark = c.max-self.result } in
     let known : c.args.at ≤ last_tick = omega arith in
     takes_done lines S mark c.args.at c.args.number may known new
     (record {

@@ -1,10 +1,9 @@
--- A job line by what admitting the job answers.
-use Rattle.std.proofs.Common.{◌≡◌, ◌∷◌, [], ◌++◌, ◌∙◌, sym, ap, subst, refl, arith, Ok}
+-- A job line by what the test of the job answers.
+use Rattle.std.proofs.Common.{◌∙◌, sym, ap, subst, arith, Ok}
 use Rattle.dover_model.specs.JobFacts.{JobFacts, job_of_numbers}
 use Rattle.dover_model.specs.Admission.{refusal_of}
 use Rattle.dover_model.specs.Session.{admitted_jobs}
 use Rattle.dover_model.specs.FeedLine.{JobLine}
-use Rattle.admission.specs.Kept as admission
 use Rattle.admission.specs.Answers as answers
 use Rattle.event_feed.specs.declared.fed.Fed.TheVariants as fed
 use Rattle.event_feed.specs.declared.kept_session.KeptSession.{KeptSession}
@@ -16,16 +15,12 @@ pub returns-in-Ok : goal.returns-in-Ok
 returns-in-Ok c lines S mark it =
     let j : JobFacts = job_of_numbers c.args.release c.args.work c.args.deadline c.args.value in
     let kept : KeptSession = c.args.self.now in
-    let new : KeptSession = record { admission = c.admit.new.self; former = kept.admission; mark = c.args.release } in
-    let same : c.in-Ok.job ≡ j = c.in-Ok.ensures.job in
-    subst (λ job. Takes (JobLine j) lines S mark new (Ok (fed.Job c.count-number.result job))) (sym same)
-    (takes_job lines S mark j
-    (omega (arith, it.marked)) kept new c.count-number.result it c.admit.ensures.rules refl refl c.requires
-    (λ jobs stands. subst (λ job. admission.StandsFor c.admit.new.self (jobs ++ job ∷ [])) same
-    (c.admit.ensures.stands jobs stands))
+    subst (λ job. Takes (JobLine j) lines S mark (record kept { mark = c.args.release })
+    (Ok (fed.Job c.count.result job))) (sym c.in-Ok.ensures.job)
+    (takes_job lines S mark j (omega (arith, it.marked)) kept c.count.result it c.requires
     (ap (λ rules. refusal_of rules (admitted_jobs S.items) j) it.rules
     ∙ c.in-Ok.ensures.refusal (admitted_jobs S.items) it.jobs)
-    c.count-number.ensures)
+    c.count.ensures)
 
 pub returns-in-Err : goal.returns-in-Err
 returns-in-Err c lines S mark it =

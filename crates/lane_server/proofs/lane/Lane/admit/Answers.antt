@@ -1,4 +1,4 @@
-use Rattle.std.proofs.Common.{◌≡◌, ◌++◌, ◌∷◌, [], length, sym, ap, ◌∙◌, subst, cond, true, false}
+use Rattle.std.proofs.Common.{◌≡◌, ◌++◌, ◌∷◌, [], length, sym, ap, ◌∙◌, subst, true, false, None}
 use Rattle.dover_model.specs.Session.{instance_of, is_full}
 use Rattle.dover_model.specs.Feed.{account_of_lines}
 use Rattle.dover_model.specs.declared.horizon.Horizon.TheVariants.{Mark}
@@ -10,8 +10,9 @@ use Rattle.lane_server.specs.Lane.{Admitting, Running, Stands}
 use Rattle.lane_server.specs.Spending.{HasPaid}
 use Rattle.lane_server.specs.declared.lane.Work.TheVariants.{Run, Admit}
 use Rattle.event_feed.specs.declared.due_line.DueLine.{DueLine}
-use Rattle.lane_server.proofs.Owing.{lane_owes, lane_stands, lane_turns, lane_passes, work_intake, admit_steps}
-use Rattle.lane_server.proofs.Offering.{before_admission, at_admission, at_passing}
+use Rattle.event_feed.proofs.Accepting.{accepted, passed}
+use Rattle.lane_server.proofs.Owing.{lane_owes, lane_stands, lane_turns, lane_rests, work_intake, admit_steps}
+use Rattle.lane_server.proofs.Offering.{before_admission, at_admission, at_passing, job_room}
 use Rattle.ready_server.specs.Rostering.{Serves, Rests}
 use Rattle.ready_server.proofs.Stepping.{few_ready}
 use Rattle.lane_server.proofs.lane.Lane.admit.Goals as goal
@@ -77,6 +78,17 @@ admit-event-requires-clause-valid g c =
       owes.valid,
     )
 
+pub accept-requires : goal.accept-requires
+accept-requires g c =
+    let ls = c.requires.stands.0 in
+    let rest = c.requires.stands.1 in
+    let owes : Admitting c.args.job c.in-Some.server (account_of_lines ls) rest =
+    lane_owes c.args.self.now (Admit c.args.job) c.in-Some.server (account_of_lines ls) rest c.requires.work
+    c.in-Some.is c.requires.stands.2.owes in
+    job_room owes.session c.args.job c.args.self.now.intake (account_of_lines ls).mark owes.valid
+    (work_intake c.args.self.now (Admit c.args.job) ls rest c.requires.stands.2 c.requires.work owes.session
+    owes.there).session
+
 pub returns-clause-gives : goal.returns-clause-gives
 returns-clause-gives g c = λ ls rest it.
     let owes : Admitting c.args.job c.in-Some.server (account_of_lines ls) rest =
@@ -94,9 +106,13 @@ returns-clause-gives g c = λ ls rest it.
     (c.admit-event.ensures.serves (instance_of owes.session) there.1 owes.valid) in (
       given.0,
       given.1,
-      lane_turns c.args.self.now (Run (Mark c.release.result)) c.admit-event.new.self ls rest given.0 it
-          (subst (λ full. feed.StandsFor (cond full (feed.withdrawn c.args.self.now.intake) c.args.self.now.intake) ls)
-          room (work_intake c.args.self.now (Admit c.args.job) ls rest it c.requires.work owes.session owes.there))
+      lane_turns c.args.self.now c.accept.new.self (Run (Mark c.release.result)) c.admit-event.new.self ls rest given.0
+          it (ap (λ s. feed.has_ended (record { lines = 0; session = None; standing = s })) c.accept.ensures.standing)
+          (record {
+            by_account = accepted owes.session c.args.job (account_of_lines ls) owes.there c.args.self.now.intake
+                (work_intake c.args.self.now (Admit c.args.job) ls rest it c.requires.work owes.session owes.there)
+                c.accept.new.self c.accept.ensures room;
+          })
           (subst (λ m. Running (Mark m) c.admit-event.new.self (account_of_lines ls) given.0)
           (sym c.release.ensures.is) given.2) tt,
       given.3,
@@ -119,10 +135,12 @@ returns-then-is_full-clause-gives g c = λ ls rest it.
     (account_of_lines ls) rest owes there.0 full there.1 in (
       [],
       given.0 ∙ ap (λ (o : DueLine). out_text o ∷ []) (sym c.pass.ensures.out),
-      subst (λ l. Stands l ls []) (sym c.pass.ensures.lane) (lane_passes c.args.self.now c.step.new.self ls rest it
-          (subst (λ b. feed.StandsFor (cond b (feed.withdrawn c.args.self.now.intake) c.args.self.now.intake) ls)
-          full (work_intake c.args.self.now (Admit c.args.job) ls rest it c.requires.work owes.session owes.there))
-          given.1),
+      subst (λ l. Stands l ls []) (sym c.pass.ensures.lane) (lane_rests c.args.self.now c.step.new.self ls rest it
+          (record {
+            by_account = passed owes.session c.args.job (account_of_lines ls) owes.there c.args.self.now.intake
+                (work_intake c.args.self.now (Admit c.args.job) ls rest it c.requires.work owes.session owes.there)
+                full;
+          }) given.1).stands,
       rw c.pass.ensures.out owes.numerals,
       rw c.pass.ensures.out tt,
     )

@@ -1,4 +1,4 @@
-use Rattle.std.proofs.Common.{[], sym, subst}
+use Rattle.std.proofs.Common.{[], sym, subst, refl}
 use Rattle.dover_model.specs.Session.{instance_of}
 use Rattle.dover_model.specs.Feed.{account_of_lines}
 use Rattle.dover_model.specs.declared.horizon.Horizon.TheVariants.{Mark}
@@ -55,7 +55,7 @@ returns-in-Some-finish-clause-gives g c = λ ls rest it.
     (account_of_lines ls) rest owes there.0 right.0 right.1 c.in-Some-finish.event right.3 in (
       given.0,
       given.1,
-      lane_turns c.args.self.now (Run (Mark c.args.at)) c.finish.new.self ls rest given.0 it
+      lane_turns c.args.self.now c.args.self.now.intake (Run (Mark c.args.at)) c.finish.new.self ls rest given.0 it refl
           (work_intake c.args.self.now (Finish c.args.at c.args.number) ls rest it c.requires.work) given.2 tt,
       given.3,
       tt,

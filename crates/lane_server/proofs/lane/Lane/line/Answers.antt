@@ -41,7 +41,7 @@ returns-in-Err-clause-stands c = λ ls it.
     (account_of_lines ls) =
     open_at c.args.self.now c.line.new.self ls it c.if-not-self.false in
     fault_stands c.args.self.now c.line.new.self ls c.args.line.now c.in-Err.fault
-    (c.in-Err.ensures.stands ls (quiet_intake c.args.self.now ls it)) at
+    (record { by_account = c.in-Err.ensures.stands ls (quiet_intake c.args.self.now ls it) }) at
     (new_fault c.args.line.now c.in-Err.fault (account_of_lines ls) (account_of_lines (ls ++ c.args.line.now ∷ []))
     at.stands (c.in-Err.ensures.answer ls (quiet_intake c.args.self.now ls it)))
 

@@ -16,7 +16,7 @@ returns-else-heavy-clause-is c =
     = λ b. if b then Take now.clock c.args.r.now.number x.number else Abandon now.clock x.number in
     ap (λ n. Prints (Abandon now.clock n)) c.number-else-heavy.ensures
     ∙ sym (ap (λ b. Prints (printed b))
-    (ap (λ v. is_heavy c.args.k v (value_sum (privileged (state_of now)))) (sym c.value.ensures.is)
-    ∙ ap (λ w. is_heavy c.args.k c.value.result w) (sym c.value_busy.ensures)
+    (ap (λ v. is_heavy c.args.k.now v (value_sum (privileged (state_of now)))) (sym c.value.ensures.is)
+    ∙ ap (λ w. is_heavy c.args.k.now c.value.result w) (sym c.value_busy.ensures)
     ∙ sym c.heavy.ensures
     ∙ c.if-heavy.false))

@@ -13,7 +13,7 @@ pub returns-in-Wait-clause-settles : goal.returns-in-Wait-clause-settles
 returns-in-Wait-clause-settles g c mark =
     let stays : Stayed c.args.self.now c.stay.new.self =
     (c.in-Some.f, sym c.fresh.ensures.is ∙ c.in-Some.is, c.stay.ensures.waits) in
-    waits_settles c.args.k mark c.args.self.now c.stay.new.self c.in-Wait.number c.laws.ensures.roles
+    waits_settles c.args.k.now mark c.args.self.now c.stay.new.self c.in-Wait.number c.laws.ensures.roles
     (sym c.open_step-deed.ensures.is ∙ ap (step_at c.args.self.now.clock) c.in-Wait.is) stays
     c.stay.ensures.kept
 
@@ -34,10 +34,10 @@ pub returns-in_default-deed : goal.returns-in_default-deed
 returns-in_default-deed g c =
     let p = c.args.self.now in
     record {
-      settles = λ mark. from_none c.args.k mark p;
+      settles = λ mark. from_none c.args.k.now mark p;
       some = c.open_step-deed.ensures.is;
       finds = c.open_step-deed.ensures.finds;
-      prints = fresh_prints c.args.k p c.laws.ensures.roles c.in-Some.f (sym c.fresh.ensures.is ∙ c.in-Some.is)
+      prints = fresh_prints c.args.k.now p c.laws.ensures.roles c.in-Some.f (sym c.fresh.ensures.is ∙ c.in-Some.is)
           c.open_step-deed.result c.open_step-deed.ensures.is c.in_default-deed.not-Wait;
       none = tt;
       kept = refl;
@@ -46,7 +46,7 @@ returns-in_default-deed g c =
     }
 
 pub returns-in_default-clause-settles : goal.returns-in_default-clause-settles
-returns-in_default-clause-settles g c mark = from_none c.args.k mark c.args.self.now
+returns-in_default-clause-settles g c mark = from_none c.args.k.now mark c.args.self.now
 
 pub returns-in_default-clause-count : goal.returns-in_default-clause-count
 returns-in_default-clause-count g c d large = no_cost _ _

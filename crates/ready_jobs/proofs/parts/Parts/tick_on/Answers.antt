@@ -32,13 +32,13 @@ open_step-requires c =
     let n = c.silent_ticks-count.result in
     let roles = c.laws.ensures.roles in
     let most = ap (λ t. still_ticks (c.args.mark - t) (state_of p)) c.clock-clock.ensures in
-    let it : Jump c.args.k c.args.mark n p roles =
-    jump c.args.k c.args.mark n p roles c.requires.part c.requires.stale c.requires.ticks
+    let it : Jump c.args.k.now c.args.mark n p roles =
+    jump c.args.k.now c.args.mark n p roles c.requires.part c.requires.stale c.requires.ticks
     (λ early. c.silent_ticks-count.ensures.still early ∙ most)
     c.silent_ticks-count.ensures.done c.silent_ticks-count.ensures.start in
     subst AreSound (sym c.tick.ensures)
     (known_sound _ (parts_later n p) (roles_later n p roles)
-    (part_after _ _ _ _ refl (jump_settles c.args.k c.args.mark n p roles it c.requires.low) c.requires.part))
+    (part_after _ _ _ _ refl (jump_settles c.args.k.now c.args.mark n p roles it c.requires.low) c.requires.part))
 
 pub returns-clause-settles : goal.returns-clause-settles
 returns-clause-settles c =
@@ -46,12 +46,12 @@ returns-clause-settles c =
     let n = c.silent_ticks-count.result in
     let roles = c.laws.ensures.roles in
     let most = ap (λ t. still_ticks (c.args.mark - t) (state_of p)) c.clock-clock.ensures in
-    let it : Jump c.args.k c.args.mark n p roles =
-    jump c.args.k c.args.mark n p roles c.requires.part c.requires.stale c.requires.ticks
+    let it : Jump c.args.k.now c.args.mark n p roles =
+    jump c.args.k.now c.args.mark n p roles c.requires.part c.requires.stale c.requires.ticks
     (λ early. c.silent_ticks-count.ensures.still early ∙ most)
     c.silent_ticks-count.ensures.done c.silent_ticks-count.ensures.start in
-    subst (SettlesFrom c.args.k c.args.mark p) (sym c.tick.ensures)
-    (jump_settles c.args.k c.args.mark n p roles it c.requires.low)
+    subst (SettlesFrom c.args.k.now c.args.mark p) (sym c.tick.ensures)
+    (jump_settles c.args.k.now c.args.mark n p roles it c.requires.low)
 
 pub returns-clause-stops : goal.returns-clause-stops
 returns-clause-stops c silent =
@@ -59,14 +59,14 @@ returns-clause-stops c silent =
     let n = c.silent_ticks-count.result in
     let roles = c.laws.ensures.roles in
     let most = ap (λ t. still_ticks (c.args.mark - t) (state_of p)) c.clock-clock.ensures in
-    let it : Jump c.args.k c.args.mark n p roles =
-    jump c.args.k c.args.mark n p roles c.requires.part c.requires.stale c.requires.ticks
+    let it : Jump c.args.k.now c.args.mark n p roles =
+    jump c.args.k.now c.args.mark n p roles c.requires.part c.requires.stale c.requires.ticks
     (λ early. c.silent_ticks-count.ensures.still early ∙ most)
     c.silent_ticks-count.ensures.done c.silent_ticks-count.ensures.start in
-    let stops = jump_stops c.args.k c.args.mark n p roles it c.requires.low c.requires.stale
+    let stops = jump_stops c.args.k.now c.args.mark n p roles it c.requires.low c.requires.stale
     (step_at c.tick.new.self.clock c.open_step.result)
-    (sym (ap (λ (q : Parted). open_step (record { ratio = c.args.k; version = q.version; finishes = [] }) (state_of q))
-    c.tick.ensures)
+    (sym (ap (λ (q : Parted).
+    open_step (record { ratio = c.args.k.now; version = q.version; finishes = [] }) (state_of q)) c.tick.ensures)
     ∙ sym c.open_step.ensures.is) silent in
     (stops.0, omega (arith, stops.1, ap (λ (q : Parted). q.clock) c.tick.ensures))
 

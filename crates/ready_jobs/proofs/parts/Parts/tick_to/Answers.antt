@@ -10,10 +10,10 @@ pub returns-in_default : goal.returns-in_default
 returns-in_default c =
     let p = c.args.self.now in
     record {
-      settles = from_none c.args.k c.args.mark p;
+      settles = from_none c.args.k.now c.args.mark p;
       step = c.open_step-deed.ensures.is;
       finds = c.open_step-deed.ensures.finds;
-      stops = λ silent. absurd (c.in_default.not-Tick (stale_tick c.args.k p c.laws.ensures.roles c.requires.stale
+      stops = λ silent. absurd (c.in_default.not-Tick (stale_tick c.args.k.now p c.laws.ensures.roles c.requires.stale
           c.open_step-deed.result c.open_step-deed.ensures.is silent));
       low = c.requires.low;
       kept = refl;
