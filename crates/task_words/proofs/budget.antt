@@ -1,1 +1,4 @@
 pub mod Counted
+pub mod Standing
+pub mod Texts
+pub mod Unpaid

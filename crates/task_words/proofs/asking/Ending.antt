@@ -20,7 +20,7 @@ use Rattle.task_words.specs.reading.Record.{IsEnded, IsRefusedBy, listed_rules}
 use Rattle.task_words.specs.declared.reading.listed.ListedTasks.{ListedTasks}
 use Rattle.task_words.proofs.reading.Accounts.{goes_on, open_by_test}
 use Rattle.task_words.specs.declared.asking.question.TaskQuestion.{TaskQuestion}
-use Rattle.task_words.specs.declared.asking.question.TaskQuestion.TheVariants.{Unroll, Sure}
+use Rattle.task_words.specs.declared.asking.question.TaskQuestion.TheVariants.{Unroll, Sure, Budget}
 use Rattle.task_words.specs.asking.Questions.{Says, until_of}
 use Rattle.task_words.specs.asking.Putting.{SaysBy}
 use Rattle.task_words.specs.asking.Talk.{IsRefusedAt, IsSaid, tasks_talk}
@@ -70,6 +70,10 @@ says_final Sure rules tasks ReadFault text says = absurd says
 says_final Sure rules tasks WriteFault text says = absurd says
 says_final Sure rules tasks Memory text says = absurd says
 says_final Sure rules tasks Usage text says = absurd says
+says_final (Budget cost) rules tasks ReadFault text says = absurd says
+says_final (Budget cost) rules tasks WriteFault text says = absurd says
+says_final (Budget cost) rules tasks Memory text says = absurd says
+says_final (Budget cost) rules tasks Usage text says = absurd says
 
 module _ (question : TaskQuestion) (x : List ℕ) (ended : Bool) (over : IsOver (tasks_talk question) x ended)
     (listed : ListedTasks) (by : IsEnded (until_of question) listed x) (a b : Option (List Move)) (q : List ℕ) where

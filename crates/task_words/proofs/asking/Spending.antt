@@ -7,7 +7,7 @@ use Rattle.task_words.specs.reading.Record.{IsEnded}
 use Rattle.task_words.specs.declared.reading.listed.ListedTasks.{ListedTasks}
 use Rattle.task_words.proofs.reading.Accounts.{closed_account, goes_on}
 use Rattle.task_words.specs.declared.asking.question.TaskQuestion.{TaskQuestion}
-use Rattle.task_words.specs.declared.asking.question.TaskQuestion.TheVariants.{Unroll, Sure}
+use Rattle.task_words.specs.declared.asking.question.TaskQuestion.TheVariants.{Unroll, Sure, Budget}
 use Rattle.task_words.specs.asking.Questions.{until_of, CostsFew}
 use Rattle.task_words.specs.asking.Spending.{CostsAt, Costs}
 
@@ -16,6 +16,7 @@ none_few : (question : TaskQuestion) (tasks : List PeriodicTask) (before after :
     → CostsFew question tasks before after
 none_few (Unroll until) tasks before after same = λ d enough. omega (arith, same)
 none_few Sure tasks before after same = same
+none_few (Budget cost) tasks before after same = same
 
 -- however a text stands
 pub none_spent : (question : TaskQuestion) (tasks : List PeriodicTask) (s : Standing) (before after : ℕ)

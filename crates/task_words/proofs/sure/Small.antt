@@ -18,7 +18,7 @@ use Rattle.task_words.specs.sure.Streams.{stream_of, streams_of}
 use Rattle.task_words.specs.sure.Kept.{IsSmall, AreSmall}
 
 -- what holds of each holds at each place
-at_place : {X : Type 0} (P : X → Type 0) (xs : List X) (d : X) → AllByRecursion P xs → (i : ℕ) → i < length xs
+pub at_place : {X : Type 0} (P : X → Type 0) (xs : List X) (d : X) → AllByRecursion P xs → (i : ℕ) → i < length xs
     → P (get_or xs i d)
 at_place P [] d all i less = absurd (omega arith)
 at_place P (x ∷ xs) d all zero less = all.0

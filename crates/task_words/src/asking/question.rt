@@ -9,6 +9,8 @@ pub enum TaskQuestion {
     Unroll { until: u64 },
     /// Of each, whether a job of it can be lost.
     Sure,
+    /// The tasks with their works made budgets that pay for changes of hands of at most `cost` ticks.
+    Budget { cost: u64 },
 }
 
 /// The tick before which the tasks release the jobs that are asked for. Where none are, a task is tested by its first.
@@ -18,5 +20,6 @@ pub(crate) fn until_of(question: TaskQuestion) -> u64
     match question {
         TaskQuestion::Unroll { until } => until,
         TaskQuestion::Sure => 0,
+        TaskQuestion::Budget { .. } => 0,
     }
 }

@@ -14,7 +14,7 @@ ghost use Rattle.task_words.specs.asking.Spending.{Costs};
 
 use crate::asking::question::TaskQuestion;
 use crate::reading::{ListedTasks, TaskReader};
-use crate::{sure, unroll};
+use crate::{budget, sure, unroll};
 use dialogue::lines::put_fault;
 use dialogue::{Stop, Talker};
 use dover_model::Memory;
@@ -49,6 +49,7 @@ fn answer<P: Port, L: Ledger>(
     match question {
         TaskQuestion::Unroll { until } => unroll::answer(alloc, port, out, listed, until, steps),
         TaskQuestion::Sure => sure::answer(port, out, &listed),
+        TaskQuestion::Budget { cost } => budget::answer(alloc, port, out, &listed, cost),
     }
 }
 

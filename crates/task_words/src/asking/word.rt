@@ -25,6 +25,10 @@ use step_count::Steps;
 ///   jobs, or whose jobs are worth more than 10^13, are refused.
 /// - `Sure` writes a line for each task: whether a job of it can be lost, however the jobs of all tasks come, and if so
 ///   which value would rule it out, if one does.
+/// - `Budget` writes the task text again, with each work made a budget that pays for changes of hands of at most `cost`
+///   ticks: the work, and the cost for each time that a job of the task gets the processor at most. Tasks of which a
+///   budget is above its deadline are refused, and then those of which two budgets break the ratio: the first such task
+///   is named, with how often a job of it gets the processor, or with the first other that it breaks the ratio with.
 pub fn tasks_word<P: Port, L: Ledger>(
     alloc: Global,
     port: &mut P,
