@@ -249,8 +249,9 @@ module _ (r : Reading) (at number : ℕ) (ls : List (List ℕ)) (can : CanComple
     pub completed_goes : GoesHere (completed r d at steps room) (ls ++ text_of (Complete at number) ∷ [])
     completed_goes =
         let so_far : List Event = printed_of can.waited.goes.sees.steps in
-        let text : SeesWith (ls ++ text_of (Complete at number) ∷ []) S_done at y_done (so_far ++ Complete at number ∷ [])
-        = subst (λ n. SeesWith (ls ++ text_of (Complete at n) ∷ []) S_done at y_done (so_far ++ Complete at n ∷ []))
+        let text : SeesWith (ls ++ text_of (Complete at number) ∷ []) S_done at y_done
+        (so_far ++ Complete at number ∷ []) =
+        subst (λ n. SeesWith (ls ++ text_of (Complete at n) ∷ []) S_done at y_done (so_far ++ Complete at n ∷ []))
         says.number sees in (
           S_done,
           y_done,
@@ -282,7 +283,8 @@ module _ (r w : Reading) (same : r ≡ w) (going_w : w.stage ≡ Going) (at numb
         steps = λ keep. let before : 5 * (r.course.jobs + r.spare) + 1 ≤ r.room = old.spare.steps keep in
             omega (arith, ap (λ (c : Course). c.jobs) kept, same_room);
       }) (ls ++ text_of (Complete at number) ∷ [])
-      (completed_goes r at number ls (subst (λ v. CanComplete v at number ls) (sym same) can) d o yes no steps room more)
+      (completed_goes r at number ls (subst (λ v. CanComplete v at number ls) (sym same) can) d o yes no steps room
+      more)
 
 -- ---- whether it is one
 

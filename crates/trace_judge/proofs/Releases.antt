@@ -223,7 +223,8 @@ module _ (r w : Reading) (same : r ≡ w) (going_w : w.stage ≡ Going) (j : Job
       (so_far ++ Release number j ∷ []) =
       subst (λ t. SeesWith (ls ++ text_of (Release w.course.jobs j) ∷ []) S_more t z (so_far ++ Release number j ∷ []))
       (sym is_floor)
-      (subst (λ m. SeesWith (ls ++ text_of (Release m j) ∷ []) S_more j.release z (so_far ++ Release number j ∷ [])) is_w
+      (subst (λ m. SeesWith (ls ++ text_of (Release m j) ∷ []) S_more j.release z (so_far ++ Release number j ∷ []))
+      is_w
       (subst (λ m. SeesWith (ls ++ release_text S j ∷ []) S_more j.release z (so_far ++ Release m j ∷ [])) is_n
       (sees_release ls S r.floor can.from can.waited.goes.sees j (at_tick j.release can.state.tasks) can.may))) in (
         S_more,
@@ -237,7 +238,8 @@ module _ (r w : Reading) (same : r ≡ w) (going_w : w.stage ≡ Going) (j : Job
       )
 
   -- so the trace goes on
-  pub taken_reads : (ls : List (List ℕ)) → CanRelease w j ls → Reads taken (ls ++ text_of (Release w.course.jobs j) ∷ [])
+  pub taken_reads : (ls : List (List ℕ)) → CanRelease w j ls
+      → Reads taken (ls ++ text_of (Release w.course.jobs j) ∷ [])
   taken_reads ls can =
       let it = taken_goes ls can in
       reads_of taken (ls ++ text_of (Release w.course.jobs j) ∷ []) going it.0 it.1 it.2

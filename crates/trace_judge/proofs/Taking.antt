@@ -46,7 +46,8 @@ use Rattle.trace_judge.proofs.Forms.{one_form, next_form}
 use Rattle.trace_judge.proofs.Readings.{goes_of, ahead_of, here_of, reads_of, opens_of, reads_ahead, next_goes}
 use Rattle.trace_judge.proofs.Readings.{spare_stays, next_ahead}
 use Rattle.dover_model.proofs.SessionParts.{session_jobs}
-use Rattle.trace_judge.proofs.Readings.{goes_along, took_none, room_for, kept_more, steps_more, last_more, Continues, continued_reader}
+use Rattle.trace_judge.proofs.Readings.{goes_along, took_none, room_for, kept_more, steps_more, last_more, Continues}
+use Rattle.trace_judge.proofs.Readings.{continued_reader}
 use Rattle.trace_judge.proofs.Continuing.{SeesWith}
 
 -- ---- silent steps up to a tick

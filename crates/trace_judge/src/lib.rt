@@ -3,6 +3,7 @@
 
 mod judge;
 pub mod laws;
+mod lines;
 mod reader;
 mod says;
 mod stage;

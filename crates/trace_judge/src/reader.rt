@@ -1,4 +1,4 @@
-//! What the judge keeps of the lines of a trace.
+//! What the judge keeps of the lines of a trace: the course of its session, and what may come next in it.
 ghost use Rattle.std.specs.Prelude.{◌≡◌, ◌≤◌, ◌<◌, ◌+◌, ◌∷◌, ◌++◌, ℕ, List, [], Bool, true, false, IsTrue, IfOk};
 ghost use Rattle.std.specs.Prelude.{OnOk, OnErr, IsOk, Some, None, vec_len, vec_capacity, length, if◌then◌else◌};
 ghost use Rattle.dover_model.specs.Limits.{last_tick, most_items};
@@ -11,7 +11,6 @@ use crate::verdict::{Expected, Verdict};
 use admission::Admission;
 use dover_model::jobs::LAST_TICK;
 use dover_model::{Event, Job, Memory, PackedEvent, Ratio, Refusal, Version};
-use line_text::traces::{TraceLine, read_trace_line};
 use ready_jobs::{MOST_READY, Ready};
 use root_compare::long_bound;
 use std::alloc::Global;
@@ -92,7 +91,7 @@ impl Reader {
     ghost use Rattle.dover_model.specs.Leading.{WaitsUntil};
     ghost use Rattle.ready_jobs.specs.Course.{GoesOnFrom};
     ghost use Rattle.trace_judge.specs.Reads.{Reads, ReadsAhead, StaysAhead, Goes, Ends, Waited, CanRelease, Took};
-    ghost use Rattle.trace_judge.specs.Reads.{IsUnchangedFor, expected_of, releases_in, jobs_in, job_lines_in};
+    ghost use Rattle.trace_judge.specs.Reads.{IsUnchangedFor, expected_of};
     ghost use Rattle.trace_judge.specs.Reads.{Followed, CanComplete, MayNotComplete, IsPaid, refusal_if_full};
     ghost use Rattle.dover_model.specs.declared.events.Refusal.TheVariants.{Full};
 
@@ -215,8 +214,14 @@ impl Reader {
         self.steps
     }
 
-    // The header comes first.
-    fn open_with(&mut self, version: u64, p: u64, q: u64, factor: Option<(u64, u64)>) -> bool
+    /// The header comes first.
+    pub(crate) fn open_with(
+        &mut self,
+        version: u64,
+        p: u64,
+        q: u64,
+        factor: Option<(u64, u64)>,
+    ) -> bool
         requires opening { self.old.stage ≡ Opening }
         requires form { HasForm (Header version p q factor) }
         ensures took { Took self.old self.new (trace_text (Header version p q factor)) result }
@@ -238,9 +243,9 @@ impl Reader {
         true
     }
 
-    // The next line is that of the printed step that is due, up to which the run may have gone on.
+    /// The next line is that of the printed step that is due, up to which the run may have gone on.
     #[inline(always)]
-    fn follow<L: Ledger>(&mut self, event: &Event, steps: &mut Steps<L>) -> bool
+    pub(crate) fn follow<L: Ledger>(&mut self, event: &Event, steps: &mut Steps<L>) -> bool
         requires going { self.old.stage ≡ Going }
         requires form { HasForm (Step event.now) }
         requires none { item_in (Step event.now) ≡ None }
@@ -381,8 +386,8 @@ impl Reader {
         keep_step(self.keep, &mut self.steps, &Event::Release { number, job });
     }
 
-    // The next line is that of a release.
-    fn take_release<L: Ledger>(
+    /// The next line is that of a release.
+    pub(crate) fn take_release<L: Ledger>(
         &mut self,
         number: u32,
         job: Job,
@@ -476,9 +481,9 @@ impl Reader {
         true
     }
 
-    // The next line is that of a completion, early or not.
+    /// The next line is that of a completion, early or not.
     #[inline(always)]
-    fn complete<L: Ledger>(&mut self, at: u64, number: u32, steps: &mut Steps<L>) -> bool
+    pub(crate) fn complete<L: Ledger>(&mut self, at: u64, number: u32, steps: &mut Steps<L>) -> bool
         requires going { self.old.stage ≡ Going }
         requires form { HasForm (Step (Complete at number)) }
         ensures took { Took self.old self.new (text_of (Complete at number)) result }
@@ -545,8 +550,8 @@ impl Reader {
         self.is_full()
     }
 
-    // The next line is that of a refused job line.
-    fn refuse<L: Ledger>(
+    /// The next line is that of a refused job line.
+    pub(crate) fn refuse<L: Ledger>(
         &mut self,
         at: u64,
         release: u64,
@@ -599,8 +604,8 @@ impl Reader {
         self.has_room()
     }
 
-    // The next line is that of a done line that was refused.
-    fn refuse_done<L: Ledger>(
+    /// The next line is that of a done line that was refused.
+    pub(crate) fn refuse_done<L: Ledger>(
         &mut self,
         at: u64,
         tick: u64,
@@ -629,123 +634,6 @@ impl Reader {
         self.refused += 1;
         self.floor = at;
         true
-    }
-
-    // The first line: a header.
-    fn take_first(&mut self, read: &TraceLine) -> bool
-        requires opening { self.old.stage ≡ Opening }
-        requires form { HasForm read.now }
-        ensures took { Took self.old self.new (trace_text read.now) result }
-        ensures kept { IsUnchangedFor self.old self.new }
-        ensures paid { (start now : ℕ) → IsPaid self.old start now → IsPaid self.new start now }
-    {
-        match read {
-            TraceLine::Header {
-                version,
-                p,
-                q,
-                factor,
-            } => self.open_with(*version, *p, *q, *factor),
-            TraceLine::Step(_) => false,
-            TraceLine::Refused { .. } => false,
-            TraceLine::RefusedDone { .. } => false,
-        }
-    }
-
-    // A line of a step.
-    #[inline(always)]
-    fn take_step<L: Ledger>(&mut self, event: &Event, steps: &mut Steps<L>) -> Result<bool, Memory>
-        requires going { self.old.stage ≡ Going }
-        requires form { HasForm (Step event.now) }
-        ensures took { IfOk result (Took self.old self.new (text_of event.now)) }
-        ensures room { releases_in event.now ≤ self.old.spare → IsOk result }
-        ensures spare { self.old.spare ≤ self.new.spare + releases_in event.now }
-        ensures keep { self.new.keep ≡ self.old.keep }
-        ensures jobs { self.new.course.jobs ≤ self.old.course.jobs + releases_in event.now }
-        ensures paid { (start : ℕ) → IsPaid self.old start steps.old →
-            IsPaid self.new start steps.new }
-    {
-        match event {
-            Event::Release { number, job } => self.take_release(*number, *job, steps),
-            Event::Complete { at, number } => Ok(self.complete(*at, *number, steps)),
-            _ => Ok(self.follow(event, steps)),
-        }
-    }
-
-    // A line behind the header.
-    fn take_next<L: Ledger>(
-        &mut self,
-        read: &TraceLine,
-        steps: &mut Steps<L>,
-    ) -> Result<bool, Memory>
-        requires going { self.old.stage ≡ Going }
-        requires form { HasForm read.now }
-        ensures took { IfOk result (Took self.old self.new (trace_text read.now)) }
-        ensures room { jobs_in read.now ≤ self.old.spare → IsOk result }
-        ensures spare { self.old.spare ≤ self.new.spare + jobs_in read.now }
-        ensures keep { self.new.keep ≡ self.old.keep }
-        ensures jobs { self.new.course.jobs ≤ self.old.course.jobs + jobs_in read.now }
-        ensures paid { (start : ℕ) → IsPaid self.old start steps.old →
-            IsPaid self.new start steps.new }
-    {
-        match read {
-            TraceLine::Header { .. } => Ok(false),
-            TraceLine::Step(event) => self.take_step(event, steps),
-            TraceLine::Refused {
-                at,
-                release,
-                work,
-                deadline,
-                value,
-                cause,
-            } => { Ok(self.refuse(*at, *release, *work, *deadline, *value, *cause, steps)) }
-            TraceLine::RefusedDone { at, tick, number } => {
-                Ok(self.refuse_done(*at, *tick, *number, steps))
-            }
-        }
-    }
-
-    // A line that was read.
-    fn take_read<L: Ledger>(
-        &mut self,
-        read: &TraceLine,
-        steps: &mut Steps<L>,
-    ) -> Result<bool, Memory>
-        requires { HasForm read.now }
-        ensures took { IfOk result (Took self.old self.new (trace_text read.now)) }
-        ensures room { jobs_in read.now ≤ self.old.spare → IsOk result }
-        ensures spare { self.old.spare ≤ self.new.spare + jobs_in read.now }
-        ensures keep { self.new.keep ≡ self.old.keep }
-        ensures jobs { self.new.course.jobs ≤ self.old.course.jobs + jobs_in read.now }
-        ensures paid { (start : ℕ) → IsPaid self.old start steps.old →
-            IsPaid self.new start steps.new }
-    {
-        match self.stage {
-            Stage::Opening => Ok(self.take_first(read)),
-            Stage::Going => self.take_next(read, steps),
-            Stage::Ended => Ok(false),
-        }
-    }
-
-    /// The next line. Where it doesn't go on as a trace does, `due` gives what is due in its place, and further lines
-    /// aren't to be taken.
-    ///
-    /// # Errors
-    ///
-    /// `Memory` where there is none for the line's job or step.
-    pub fn take<L: Ledger>(&mut self, line: &[u8], steps: &mut Steps<L>) -> Result<bool, Memory>
-        ensures took { IfOk result (Took self.old self.new line.now) }
-        ensures room { job_lines_in line.now ≤ self.old.spare → IsOk result }
-        ensures spare { self.old.spare ≤ self.new.spare + job_lines_in line.now }
-        ensures keep { self.new.keep ≡ self.old.keep }
-        ensures jobs { self.new.course.jobs ≤ self.old.course.jobs + job_lines_in line.now }
-        ensures paid { (start : ℕ) → IsPaid self.old start steps.old →
-            IsPaid self.new start steps.new }
-    {
-        match read_trace_line(line) {
-            Ok(read) => self.take_read(&read, steps),
-            Err(_) => Ok(false),
-        }
     }
 }
 

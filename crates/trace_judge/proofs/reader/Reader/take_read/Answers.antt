@@ -1,12 +1,11 @@
-use Rattle.std.proofs.Common.{◌∙◌, sym, ap, arith}
+use Rattle.std.proofs.Common.{◌∙◌, sym, arith}
 use Rattle.line_text.specs.traces.Form.{trace_text}
-use Rattle.trace_judge.specs.Reads.{Reading}
 use Rattle.trace_judge.proofs.Unread.{ended_took_none}
 use Rattle.trace_judge.proofs.reader.Reader.take_read.Goals as goal
 
 pub returns-in-Ended-clause-took : goal.returns-in-Ended-clause-took
 returns-in-Ended-clause-took g c =
-    ended_took_none c.args.self.now (ap (λ (r : Reading). r.stage) (sym c.self.view_is) ∙ c.in-Ended.is)
+    ended_took_none c.args.self.now (sym c.stage.ensures ∙ c.in-Ended.is)
     (trace_text c.args.read.now)
 
 pub returns-in-Opening-clause-took : goal.returns-in-Opening-clause-took
@@ -49,13 +48,13 @@ pub returns-in-Ended-clause-jobs : goal.returns-in-Ended-clause-jobs
 returns-in-Ended-clause-jobs g c = omega arith
 
 pub take_first-requires-clause-opening : goal.take_first-requires-clause-opening
-take_first-requires-clause-opening g c = ap (λ (r : Reading). r.stage) (sym c.self.view_is) ∙ c.in-Opening.is
+take_first-requires-clause-opening g c = sym c.stage.ensures ∙ c.in-Opening.is
 
 pub take_first-requires-clause-form : goal.take_first-requires-clause-form
 take_first-requires-clause-form g c = c.requires
 
 pub take_next-requires-clause-going : goal.take_next-requires-clause-going
-take_next-requires-clause-going g c = ap (λ (r : Reading). r.stage) (sym c.self.view_is) ∙ c.in-Going.is
+take_next-requires-clause-going g c = sym c.stage.ensures ∙ c.in-Going.is
 
 pub take_next-requires-clause-form : goal.take_next-requires-clause-form
 take_next-requires-clause-form g c = c.requires
