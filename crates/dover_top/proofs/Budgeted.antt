@@ -1,7 +1,6 @@
 -- What is promised of tasks that are written with budgets.
-use Rattle.std.proofs.Common.{◌≡◌, ◌≤◌, ◌<◌, ℕ, List, length, Bool, sym, ap, subst, inl, inr, arith}
+use Rattle.std.proofs.Common.{◌≡◌, ◌≤◌, ◌<◌, ℕ, List, length, Bool, sym, subst, inl, inr, arith}
 use Rattle.dover_model.specs.Fraction.{Fraction}
-use Rattle.dover_model.specs.Instance.{Instance}
 use Rattle.dover_port.specs.Moves.{Move, ins, outs}
 use Rattle.dover_port.specs.declared.status.Status.TheVariants.{Done, Refused}
 use Rattle.task_words.specs.asking.Talk.{tasks_talk}
