@@ -24,10 +24,11 @@ use Rattle.dover_top.specs.Carrying.{CarriesOut}
 use Rattle.dover_top.specs.Spending.{IsFrugal, IsFrugalAsAsked}
 use Rattle.dover_top.specs.declared.request.Request.{Request}
 use Rattle.dover_top.specs.declared.request.Request.TheVariants.{Serve, Judge, Report, Trial, Bait, Ask, Lanes, Pause}
-use Rattle.dover_top.specs.declared.request.Request.TheVariants.{Resume, Unroll, Duel, Draw, Sure}
+use Rattle.dover_top.specs.declared.request.Request.TheVariants.{Resume, Unroll, Duel, Draw, Sure, Budget}
 use Rattle.dover_top.proofs.Asking.{asks_one}
 use Rattle.dover_top.proofs.Keeping.{served, traced, resumed_so, accepted, ran, generated, baited, dueled}
 use Rattle.dover_top.proofs.ToldSure.{told_sure}
+use Rattle.dover_top.proofs.Budgeted.{budgeted_so}
 use Rattle.dover_top.proofs.ServedLanes.{are_served, have_ended}
 use Rattle.dover_top.proofs.SoFar.{kept_so, served_so_far, resumed_so_far}
 
@@ -51,6 +52,7 @@ no_usage (Resume at_end) moves s = elim s.ends [
 ]
 no_usage (Unroll until) moves s = s.ends
 no_usage Sure moves s = s.ends
+no_usage (Budget cost) moves s = s.ends
 no_usage (Duel k share front) moves (inl s) = s.1
 no_usage (Duel k share front) moves (inr s) = s.2
 no_usage (Draw seed count k) moves s = s
@@ -115,6 +117,8 @@ module _ (moves : List Move) where
   )
   keeps_of words (Unroll until) asks status s = tt
   keeps_of words Sure asks status s = λ done. told_sure (has_ended moves) moves (at Sure status s done).ends.answer
+  keeps_of words (Budget cost) asks status s = λ done.
+      budgeted_so cost (has_ended moves) moves (at (Budget cost) status s done).ends.answer
   keeps_of words (Duel k share front) asks status s = λ done.
       duel_kept k share front asks.plain asks.share_is (at (Duel k share front) status s done)
   keeps_of words (Draw seed count k) asks status s = tt

@@ -9,9 +9,10 @@ use Rattle.trial_words.specs.Lists.{trial_instance}
 use Rattle.dover_top.specs.Promises.{KeepsPromises, IsTraced, IsTracedIfEnded, IsResumed, IsAccepted, KeepsBaits, IsRun}
 use Rattle.dover_top.specs.Promises.{AreServed, HaveEnded, KeepsDuel, IsKept, IsServedSoFar, IsResumedSoFar, feed_in}
 use Rattle.dover_top.specs.SureTasks.{KeepsSure}
+use Rattle.dover_top.specs.BudgetTasks.{KeepsBudgets}
 use Rattle.dover_top.specs.declared.request.Request.{Request}
 use Rattle.dover_top.specs.declared.request.Request.TheVariants.{Serve, Judge, Report, Trial, Bait, Ask, Lanes, Pause}
-use Rattle.dover_top.specs.declared.request.Request.TheVariants.{Resume, Unroll, Duel, Draw, Sure}
+use Rattle.dover_top.specs.declared.request.Request.TheVariants.{Resume, Unroll, Duel, Draw, Sure, Budget}
 
 -- What serves a feed promises of the feed so far at every status, and more where all is done; what else is promised
 -- stands by the status.
@@ -29,5 +30,6 @@ Keeps (Resume at_end) status moves =
     (EndsBefore status moves ⊎ IsResumedSoFar moves) × (status ≡ Done → IsResumed moves)
 Keeps (Unroll until) status moves = Unit {0}
 Keeps Sure status moves = status ≡ Done → KeepsSure moves
+Keeps (Budget cost) status moves = status ≡ Done → KeepsBudgets cost moves
 Keeps (Duel k share front) status moves = status ≡ Done → KeepsDuel k share front moves
 Keeps (Draw seed count k) status moves = Unit {0}

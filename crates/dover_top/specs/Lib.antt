@@ -1,5 +1,6 @@
 pub mod Promises
 pub mod SureTasks
+pub mod BudgetTasks
 pub mod Words
 pub mod Requests
 pub mod Says

@@ -21,7 +21,7 @@ use Rattle.task_words.specs.asking.Talk.{tasks_talk}
 use Rattle.task_words.specs.declared.asking.question.TaskQuestion.TheVariants as tasks
 use Rattle.dover_top.specs.declared.request.Request.{Request}
 use Rattle.dover_top.specs.declared.request.Request.TheVariants.{Serve, Judge, Report, Trial, Bait, Ask, Lanes, Pause}
-use Rattle.dover_top.specs.declared.request.Request.TheVariants.{Resume, Unroll, Duel, Draw, Sure}
+use Rattle.dover_top.specs.declared.request.Request.TheVariants.{Resume, Unroll, Duel, Draw, Sure, Budget}
 
 -- What was got and put before each read, and in all. What reads says a talk; trial, bait, duel and draw read nothing
 -- and write a text; and resume says of each feed with its snapshot what serving the feed on does.
@@ -37,5 +37,6 @@ Says Pause = Talks (feed_talk ends.Pause)
 Says (Resume at_end) = Resumes at_end
 Says (Unroll until) = Talks (tasks_talk (tasks.Unroll until))
 Says Sure = Talks (tasks_talk tasks.Sure)
+Says (Budget cost) = Talks (tasks_talk (tasks.Budget cost))
 Says (Duel k share front) = Duels k share front
 Says (Draw seed count k) = Draws k seed count

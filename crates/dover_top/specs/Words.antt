@@ -142,3 +142,8 @@ pub record AsksUnroll (words : List (String Global)) (until : ℕ) : Type 0 wher
 -- the one word that asks of each task whether a job of it can be lost
 abbrev pub AsksSure : List (String Global) → Type 0
 AsksSure words = spelled words ≡ codes "sure" ∷ []
+
+-- the words that ask for tasks with budgets that pay for changes of hands of at most so many ticks
+pub record AsksBudget (words : List (String Global)) (cost : ℕ) : Type 0 where
+  pub row : spelled words ≡ codes "budget" ∷ decimal cost ∷ []
+  pub known : cost ≤ last_tick

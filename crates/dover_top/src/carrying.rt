@@ -44,6 +44,7 @@ pub(crate) fn carry_out<P: Port, L: Ledger>(
         Request::Resume(at_end) => resume_word(alloc, port, at_end, steps),
         Request::Unroll { until } => tasks_word(alloc, port, TaskQuestion::Unroll { until }, steps),
         Request::Sure => tasks_word(alloc, port, TaskQuestion::Sure, steps),
+        Request::Budget { cost } => tasks_word(alloc, port, TaskQuestion::Budget { cost }, steps),
         Request::Duel { k, share, front } => duel_word(port, k, share, front),
         Request::Draw { seed, count, k } => draw_word(port, seed, count, k),
     }

@@ -58,6 +58,10 @@ pub enum Request {
     },
     /// Of each task, whether a job of it can be lost.
     Sure,
+    /// Tasks are written again, with budgets that pay for changes of hands of at most so many ticks.
+    Budget {
+        cost: u64,
+    },
     /// The feed of the duel for a share is written, or of a front of so many of its jobs.
     Duel {
         k: Ratio,
@@ -323,6 +327,10 @@ fn more_words(word: &String, words: &[String]) -> Option<Request>
         "unroll" => {
             let until = lone(words, 0, LAST_TICK)?;
             Some(Request::Unroll { until })
+        }
+        "budget" => {
+            let cost = lone(words, 0, LAST_TICK)?;
+            Some(Request::Budget { cost })
         }
         "resume" => paused(words),
         _ => None,

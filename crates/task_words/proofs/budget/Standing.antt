@@ -93,7 +93,8 @@ module _ (k : Fraction) (cost : ℕ) (tasks : List PeriodicTask) where
     }
 
     -- within the ratio of each other they may stand together
-    pub stand : KeepUpTo k (budgeted k cost tasks) (length (budgeted k cost tasks)) → AreTasks 0 k (budgeted k cost tasks)
+    pub stand : KeepUpTo k (budgeted k cost tasks) (length (budgeted k cost tasks))
+        → AreTasks 0 k (budgeted k cost tasks)
     stand keep = record {
       each = all_there (IsTask 0) (budgeted k cost tasks) blank_task paid_there;
       few = let few : length tasks ≤ 1_000_000 = are.few in omega (arith, as_many, few);

@@ -77,6 +77,7 @@ IsUnpaid k cost tasks text =
 -- its deadline or breaks the ratio
 abbrev pub SaysBudgets : (cost : ℕ) → Declaration → List PeriodicTask → Status → List ℕ → Type 0
 SaysBudgets cost rules tasks Done text =
-    AreTasks 0 rules.ratio (budgeted rules.ratio cost tasks) × (text ≡ tasks_text rules (budgeted rules.ratio cost tasks))
+    AreTasks 0 rules.ratio (budgeted rules.ratio cost tasks)
+    × (text ≡ tasks_text rules (budgeted rules.ratio cost tasks))
 SaysBudgets cost rules tasks Refused text = IsUnpaid rules.ratio cost tasks text
 SaysBudgets cost rules tasks _ text = ⊥

@@ -68,8 +68,8 @@ fn answer_paid<P: Port>(
     }
 }
 
-/// Puts the text of the tasks with budgets that pay for changes of hands of at most `cost` ticks, or why they have none.
-/// It takes memory for the budgets, and none once the first byte is put.
+/// Puts the text of the tasks with budgets that pay for changes of hands of at most `cost` ticks, or why they have
+/// none. It takes memory for the budgets, and none once the first byte is put.
 pub(crate) fn answer<P: Port>(
     alloc: Global,
     port: &mut P,

@@ -47,6 +47,10 @@ pub returns-in-Sure-clause-carries : goal.returns-in-Sure-clause-carries
 returns-in-Sure-clause-carries g c = let w = c.tasks_word-in-Sure.ensures in
     carried _ _ _ _ _ _ _ c.in-Sure.is w.talks w.ends w.count tt
 
+pub returns-in-Budget-clause-carries : goal.returns-in-Budget-clause-carries
+returns-in-Budget-clause-carries g c = let w = c.tasks_word-in-Budget.ensures in
+    carried _ _ _ _ _ _ _ c.in-Budget.is w.talks w.ends w.count tt
+
 pub returns-in-Draw-clause-carries : goal.returns-in-Draw-clause-carries
 returns-in-Draw-clause-carries g c = let w = c.draw_word.ensures in
     carried _ _ _ _ _ _ _ c.in-Draw.is w.draws w.ends (since_weaker _ _ _ _ w.draws (λ _ _. tt)) refl

@@ -73,3 +73,15 @@ returns-in_ok-until-in-unroll-clause-some c = record {
       c.in_ok-until-in-unroll.ensures.some.0;
   known = c.in_ok-until-in-unroll.ensures.some.2;
 }
+
+pub returns-in_err-cost-in-budget-clause-none : goal.returns-in_err-cost-in-budget-clause-none
+returns-in_err-cost-in-budget-clause-none c = λ _ r asks.
+    let it = asks_read _ _ r (codes "budget") (sym c.as_str.ensures.value ∙ c.in-budget.is) asks in
+    c.in_err-cost-in-budget.ensures.none refl _ (omega arith) it.known (ap (drop 1) it.row)
+
+pub returns-in_ok-cost-in-budget-clause-some : goal.returns-in_ok-cost-in-budget-clause-some
+returns-in_ok-cost-in-budget-clause-some c = record {
+  row = row_of c.args.word.now c.args.words.now _ _ (sym c.as_str.ensures.value ∙ c.in-budget.is)
+      c.in_ok-cost-in-budget.ensures.some.0;
+  known = c.in_ok-cost-in-budget.ensures.some.2;
+}
