@@ -12,7 +12,8 @@ use Rattle.dover_model.specs.declared.events.Role.TheVariants.{Coming}
 use Rattle.dover_model.specs.Limits.{idle}
 use Rattle.dover_model.specs.Instance.{Rules, Instance, IsValid, having}
 use Rattle.dover_model.specs.Observed.{observed, observing}
-use Rattle.dover_model.specs.State.{State, to_come}
+use Rattle.dover_model.specs.State.{state_at}
+use Rattle.dover_model.specs.State.{to_come}
 use Rattle.dover_model.specs.Run.{printed_of, printed, last_deadline, completed_value, ran}
 use Rattle.dover_model.specs.WholeRun.{step_at, IsWholeRun}
 use Rattle.dover_model.specs.Schedules.{worth}
@@ -109,9 +110,9 @@ module _ (c : ℕ) where
   moved_runs rules jobs events seen fits it =
       let moved = whole_later c rules it.0 (at_tick 0 jobs) (come_fits 0 jobs fits) it.1 in
       let start : moved_state c (at_tick 0 jobs) ≡ at_tick c (map (later_job c) jobs) =
-      ap (λ clock. let s : State = record { clock = clock; tasks = map (moved_task c) (to_come 0 jobs) } in s)
+      ap (λ clock. state_at clock (map (moved_task c) (to_come 0 jobs)))
       (omega arith)
-      ∙ ap (λ ts. let s : State = record { clock = c; tasks = ts } in s) (come_moved 0 jobs) in (
+      ∙ ap (λ ts. state_at c ts) (come_moved 0 jobs) in (
         moved.0,
         subst (λ s. IsWholeRun rules s moved.0) start moved.1,
         omega (arith, moved.2, it.2, ticks_moved jobs, count_moved jobs),

@@ -8,6 +8,7 @@ use Rattle.dover_model.specs.declared.events.Event.{Event}
 use Rattle.dover_model.specs.declared.events.Event.TheVariants.{Release, Run, Preempt, Take, Complete, Abandon, End}
 use Rattle.dover_model.specs.declared.events.Task.{Task}
 use Rattle.dover_model.specs.Instance.{Rules, Instance, IsValid, having}
+use Rattle.dover_model.specs.State.{state_at}
 use Rattle.dover_model.specs.State.{State, with_later, opening, to_come, is_done, value_sum}
 use Rattle.dover_model.specs.Step.{Move, Prints, Waits, Ticks, open_step, after, finish_or, declared_open_step}
 use Rattle.dover_model.specs.Run.{Step, is_end, event_of, printed_of, printed, run, completed_value}
@@ -17,6 +18,7 @@ use Rattle.dover_model.specs.Paths.{IsOpenPath}
 use Rattle.dover_model.specs.Sound.{Keeps}
 use Rattle.dover_model.specs.Rest.{NoneBefore, IsAtRest, behind, names_end, before_end, AreOwn, instead_with}
 use Rattle.dover_model.specs.Rest.{followed_by}
+use Rattle.dover_model.proofs.Pressing.{over_calm}
 use Rattle.dover_model.proofs.Kept.{open_deed, open_kept, opening_keeps}
 use Rattle.dover_model.proofs.Ending.{run_over}
 use Rattle.dover_model.proofs.Settling.{late_early, settled_is_run, enough_settled}
@@ -148,12 +150,15 @@ module _ (J : Instance) (valid : IsValid J) (m0 m mark : ℕ) (late0 : NoneBefor
         (at_tick m more) it.1
 
     joins : with_later r.last ks_there ≡ beside n r.last.tasks (at_tick m more)
-    joins = ap (λ clock. let s : State = record { clock = clock; tasks = r.last.tasks ++ ks_there } in s) r.clock
-        ∙ ap (λ ts. let s : State = record { clock = m; tasks = r.last.tasks ++ ts } in s)
+    joins = ap (λ b. let s : State = record { clock = r.last.clock; pressed = b; tasks = r.last.tasks ++ ks_there }
+        in s)
+        (over_calm r.last r.keeps.pressed r.over)
+        ∙ ap (λ clock. state_at clock (r.last.tasks ++ ks_there)) r.clock
+        ∙ ap (λ ts. state_at m (r.last.tasks ++ ts))
         (ap (λ k. to_come k more) (omega arith) ∙ come_shift n 0 more)
 
     begins : at_tick m0 (J.jobs ++ more) ≡ with_later (at_tick m0 J.jobs) ks_there
-    begins = ap (λ ts. let s : State = record { clock = m0; tasks = ts } in s)
+    begins = ap (λ ts. state_at m0 ts)
         (come_append 0 J.jobs more ∙ ap (λ k. to_come 0 J.jobs ++ to_come k more) (omega arith))
 
     came : came_to (having J.rules fs) n J.rules.finishes own r.last.tasks r.over ≡ completed_value J

@@ -14,6 +14,7 @@ use Rattle.dover_model.specs.declared.events.Role.TheVariants.{Coming, Fresh, Ru
 use Rattle.dover_model.specs.declared.events.Task.{Task}
 use Rattle.dover_model.specs.Finishes.{Finish, is_finish_of, has_come_to, is_due, goes_on}
 use Rattle.dover_model.specs.Instance.{Instance, IsValid, declared_by, having}
+use Rattle.dover_model.specs.State.{state_at}
 use Rattle.dover_model.specs.State.{State, opening, to_come, with_later, is_coming, is_running, is_over}
 use Rattle.dover_model.specs.State.{running, left}
 use Rattle.dover_model.specs.Step.{Move, Prints, Waits, Ticks, View, view, completion, dispatch, decision}
@@ -385,7 +386,7 @@ module _ (J : Instance) (valid : IsValid J) where
               }
 
     begins : opening J.jobs ≡ with_later (opening (admitted_jobs items)) ks
-    begins = ap opening (sym all_jobs) ∙ ap (λ ts. let z : State = record { clock = 0; tasks = ts } in z)
+    begins = ap opening (sym all_jobs) ∙ ap (λ ts. state_at 0 ts)
         (come_append 0 (admitted_jobs items) rest
         ∙ ap (λ n. to_come 0 (admitted_jobs items) ++ to_come n rest) (omega arith))
 

@@ -3,7 +3,7 @@ use Rattle.std.proofs.Common.{◌≡◌, ℕ, ◌≤◌, max, List, [], ◌∷�
 use Rattle.std.specs.Prelude.{Some, None, nat_lt}
 use Rattle.std.proofs.lemmas.Bool.{ltb-false}
 use Rattle.dover_model.specs.declared.events.Version.{Version}
-use Rattle.dover_model.specs.declared.events.Version.TheVariants.{One, Two, Three}
+use Rattle.dover_model.specs.declared.events.Version.TheVariants.{One, Two, Three, Four}
 use Rattle.dover_model.specs.declared.events.Refusal.{Refusal}
 use Rattle.dover_model.specs.JobFacts.{JobFacts}
 use Rattle.dover_model.specs.Instance.{Declaration}
@@ -40,6 +40,7 @@ pub late_none : (v : Version) → may_finish_early v ≡ false → late_refusal 
 late_none One former = refl
 late_none Two former = refl
 late_none Three former = never (sym former)
+late_none Four former = never (sym former)
 
 -- a refused line is a job line that isn't late, with the cause for which it isn't admitted
 pub job_refused : (S : Session) (mark : ℕ) (r : Refused) → may_finish_early S.rules.version ≡ false

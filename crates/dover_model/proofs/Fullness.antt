@@ -8,7 +8,7 @@ use Rattle.std.specs.Option.{option_or}
 use Rattle.std.proofs.lemmas.Bool.{lt-leb, leb-true, le-ltb, ltb-false}
 use Rattle.dover_model.specs.Limits.{most_ready, most_jobs, most_total}
 use Rattle.dover_model.specs.declared.events.Version.{Version}
-use Rattle.dover_model.specs.declared.events.Version.TheVariants.{One, Two, Three}
+use Rattle.dover_model.specs.declared.events.Version.TheVariants.{One, Two, Three, Four}
 use Rattle.dover_model.specs.declared.events.Refusal.{Refusal}
 use Rattle.dover_model.specs.declared.events.Refusal.TheVariants.{BadJob, Count, Total, Ratio, Late, Full}
 use Rattle.dover_model.specs.declared.events.Task.{Task}
@@ -83,6 +83,7 @@ pub few_former : (v : Version) (n : ℕ) → may_finish_early v ≡ false → n 
 few_former One n former few = few
 few_former Two n former few = few
 few_former Three n former few = never (sym former)
+few_former Four n former few = never (sym former)
 
 module _ (S : Session) (j : JobFacts) where
   -- why the job isn't admitted by itself and the jobs before it
@@ -135,6 +136,7 @@ late_for_late : (v : Version) → late_refusal v ≡ Some Full → ⊥
 late_for_late One e = let same : None ≡ Some Full = e in cc
 late_for_late Two e = let same : None ≡ Some Full = e in cc
 late_for_late Three e = let same : Some Late ≡ Some Full = e in cc
+late_for_late Four e = let same : Some Late ≡ Some Full = e in cc
 
 -- so a job that is refused for that comes in time
 pub full_at : (S : Session) (mark : ℕ) (j : JobFacts) → refusal_at S mark j ≡ Some Full
@@ -162,6 +164,7 @@ full_refuses S j none full = by_version S.rules.version (λ former. few_ready (i
       by_version One room = never (sym (room refl) ∙ full)
       by_version Two room = refl
       by_version Three room = refl
+      by_version Four room = refl
 
 -- a job that is refused by itself, or for the jobs before it, leaves the mark
 pub mark_stays : (S : Session) (mark : ℕ) (j : JobFacts) (refusal : Refusal)

@@ -16,6 +16,9 @@ pub mod RestRows
 pub mod FinishRows
 pub mod SureRows
 pub mod ThreeRows
+pub mod FourRows
+pub mod Calm
+pub mod OneDensity
 pub mod SwitchRows
 pub mod Tests
 pub mod Calculus
@@ -41,6 +44,7 @@ pub mod Rooms
 pub mod Deeds
 pub mod Finishing
 pub mod Preempting
+mod Pressing
 pub mod Kept
 pub mod Readiness
 pub mod Needing

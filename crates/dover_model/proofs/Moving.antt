@@ -1,20 +1,21 @@
 -- The steps of jobs that are moved in time.
 use Rattle.std.proofs.Common.{◌≡◌, ℕ, ◌+◌, ◌-◌, ◌≤◌, ◌<◌, inl, inr, List, [], ◌∷◌, length, map, refl, sym, ap, ◌∙◌}
 use Rattle.std.proofs.Common.{subst, Bool, true, false, cond, arith, eqb, Option, Some, None}
-use Rattle.std.specs.Prelude.{nat_lt, nat_le, ◌&&◌, ◌||◌}
+use Rattle.std.specs.Prelude.{nat_lt, nat_le, not, ◌&&◌, ◌||◌}
 use Rattle.std.specs.Bool.{MatchBool, then_some}
-use Rattle.std.specs.List.{find, filter, fold, sum_by, list_all, cons_option}
+use Rattle.std.specs.List.{find, filter, fold, sum_by, list_all, list_any, cons_option}
 use Rattle.std.proofs.lemmas.Bool.{ne_eqb, eq-eqb, eqb-true, eqb-false, lt-ltb, ltb-true, ltb-false, le-ltb}
 use Rattle.dover_model.specs.Fraction.{Fraction}
 use Rattle.dover_model.specs.declared.events.Event.{Event}
 use Rattle.dover_model.specs.declared.events.Event.TheVariants.{Release, Run, Preempt, Take, Complete, Abandon, End}
 use Rattle.dover_model.specs.declared.events.Version.{Version}
-use Rattle.dover_model.specs.declared.events.Version.TheVariants.{One, Two, Three}
+use Rattle.dover_model.specs.declared.events.Version.TheVariants.{One, Two, Three, Four}
 use Rattle.dover_model.specs.declared.events.Task.{Task}
 use Rattle.dover_model.specs.Instance.{Rules}
 use Rattle.dover_model.specs.State.{State, is_coming, is_fresh, is_waiting, is_held, is_running, is_privileged, is_done}
-use Rattle.dover_model.specs.State.{is_over, left, latest_start, running, room, demand_by, least, value_sum}
-use Rattle.dover_model.specs.Orders.{is_heavy, first, earlier, due_first, starts_before}
+use Rattle.dover_model.specs.State.{is_open, is_over, left, latest_start, running, room, demand_by, least, value_sum}
+use Rattle.dover_model.specs.Orders.{is_heavy, first, earlier, due_first, waiting_order, by_density, is_less_dense}
+use Rattle.dover_model.specs.Orders.{starts_before}
 use Rattle.dover_model.specs.Step.{Move, Prints, Waits, Ticks, View, view, ◌or_else◌, completion, dispatch, decision}
 use Rattle.dover_model.specs.Step.{arrival, alarm, urgent_or, step, ending, after, ticked, runs, preempts}
 use Rattle.dover_model.specs.Step.{is_at_latest_start, declared_step, due_finish, finish_or}
@@ -34,7 +35,7 @@ moved_task c t = record { number = t.number; job = later_job c t.job; role = t.r
 
 -- the state with all c ticks later
 abbrev pub moved_state : ℕ → State → State
-moved_state c s = record { clock = s.clock + c; tasks = map (moved_task c) s.tasks }
+moved_state c s = record s { clock = s.clock + c; tasks = map (moved_task c) s.tasks }
 
 -- a task whose work fits before its deadline
 abbrev pub IsFitting : Task → Type 0
@@ -153,6 +154,12 @@ module _ (c : ℕ) where
       ∙ ap (λ same. nat_lt a.job.deadline b.job.deadline || (same
       && (nat_lt b.job.value a.job.value || (eqb a.job.value b.job.value && nat_lt a.number b.number))))
       (eq_later c a.job.deadline b.job.deadline)
+  due_later Four a b fit fit2 = ap (λ less. less || (eqb (a.job.deadline + c) (b.job.deadline + c)
+      && (nat_lt b.job.value a.job.value || (eqb a.job.value b.job.value && nat_lt a.number b.number))))
+      (lt_later c a.job.deadline b.job.deadline)
+      ∙ ap (λ same. nat_lt a.job.deadline b.job.deadline || (same
+      && (nat_lt b.job.value a.job.value || (eqb a.job.value b.job.value && nat_lt a.number b.number))))
+      (eq_later c a.job.deadline b.job.deadline)
 
   -- two keys c later
   keys_later : (x y a b : ℕ) (rest : Bool) → x ≡ a + c → y ≡ b + c
@@ -173,6 +180,10 @@ module _ (c : ℕ) where
       (nat_lt b.job.value a.job.value || (eqb a.job.value b.job.value && nat_lt a.number b.number))
       (latest_later c a fit) (latest_later c b fit2)
   start_later Three a b fit fit2 =
+      keys_later (latest_start (moved_task c a)) (latest_start (moved_task c b)) (latest_start a) (latest_start b)
+      (nat_lt b.job.value a.job.value || (eqb a.job.value b.job.value && nat_lt a.number b.number))
+      (latest_later c a fit) (latest_later c b fit2)
+  start_later Four a b fit fit2 =
       keys_later (latest_start (moved_task c a)) (latest_start (moved_task c b)) (latest_start a) (latest_start b)
       (nat_lt b.job.value a.job.value || (eqb a.job.value b.job.value && nat_lt a.number b.number))
       (latest_later c a fit) (latest_later c b fit2)
@@ -216,7 +227,22 @@ module _ (c : ℕ) where
     held_room = v.held_room;
     privileged_room = v.privileged_room;
     privileged_value = v.privileged_value;
+    yields = v.yields;
   }
+
+  -- any that passes does so later
+  any_later : (p : Task → Bool) → ((t : Task) → p (moved_task c t) ≡ p t) → (tasks : List Task)
+      → list_any p (map (moved_task c) tasks) ≡ list_any p tasks
+  any_later p same [] = refl
+  any_later p same (t ∷ tasks) = ap (λ b. b || list_any p (map (moved_task c) tasks)) (same t)
+      ∙ ap (λ b. p t || b) (any_later p same tasks)
+
+  -- the order of waiting jobs
+  waiting_later : (v : Version) (pressed : Bool) (a b : Task) → IsFitting a → IsFitting b
+      → waiting_order v pressed (moved_task c a) (moved_task c b) ≡ waiting_order v pressed a b
+  waiting_later v true a b fit fit2 =
+      ap (λ d. is_less_dense b a || (not (is_less_dense a b) && d)) (due_later v a b fit fit2)
+  waiting_later v false a b fit fit2 = due_later v a b fit fit2
 
   -- some of them fit as well
   filter_fits : (p : Task → Bool) (tasks : List Task) → Each IsFitting tasks → Each IsFitting (filter p tasks)
@@ -246,7 +272,8 @@ module _ (c : ℕ) where
         e_waiting,
         e_privileged,
         first_later (due_first version) (due_later version) (filter is_held s.tasks) (filter_fits is_held s.tasks fits),
-        first_later (due_first version) (due_later version) (filter is_waiting s.tasks)
+        first_later (waiting_order version (by_density version s.pressed))
+            (waiting_later version (by_density version s.pressed)) (filter is_waiting s.tasks)
             (filter_fits is_waiting s.tasks fits),
         e_late,
         first_later (starts_before version) (start_later version)
@@ -316,8 +343,8 @@ module _ (c : ℕ) where
   decision_later v (Some r) None = refl
   decision_later v None (Some f) = refl
   decision_later v (Some r) (Some f) =
-      ap (λ b. Some (cond (b && nat_le f.job.work v.privileged_room) (Prints (Preempt (v.clock + c) r.number f.number))
-      (Waits f.number)))
+      ap (λ b. Some (cond ((b && nat_le f.job.work v.privileged_room) && not (v.yields && is_less_dense f r))
+      (Prints (Preempt (v.clock + c) r.number f.number)) (Waits f.number)))
       (lt_later c f.job.deadline r.job.deadline) ∙ by_test (preempts v f r) where
         by_test : (b : Bool) → Some (cond b (Prints (Preempt (v.clock + c) r.number f.number)) (Waits f.number))
             ≡ moved_choice (Some (cond b (Prints (Preempt v.clock r.number f.number)) (Waits f.number)))
@@ -437,8 +464,8 @@ module _ (c : ℕ) where
           by_due (Some f) = refl
 
     -- a state
-    abbrev state_of : ℕ → List Task → State
-    state_of clock tasks = record { clock = clock; tasks = tasks }
+    abbrev state_of : Bool → ℕ → List Task → State
+    state_of pressed clock tasks = record { clock = clock; pressed = pressed; tasks = tasks }
 
     -- a change of roles and a move in time
     change_later : (f : Task → Task) → ((t : Task) → f (moved_task c t) ≡ moved_task c (f t)) → (tasks : List Task)
@@ -449,16 +476,24 @@ module _ (c : ℕ) where
 
     -- the state after the step
     pub after_later : (s : State) (m : Move) → after (moved_state c s) (moved_move m) ≡ moved_state c (after s m)
-    after_later s (Prints (Release m job)) = ap (state_of (s.clock + c)) (change_later _ (λ _. refl) s.tasks)
-    after_later s (Prints (Run at m)) = ap (state_of (s.clock + c)) (change_later _ (λ _. refl) s.tasks)
-    after_later s (Prints (Complete at m)) = ap (state_of (s.clock + c)) (change_later _ (λ _. refl) s.tasks)
-    after_later s (Prints (Abandon at m)) = ap (state_of (s.clock + c)) (change_later _ (λ _. refl) s.tasks)
-    after_later s (Prints (Preempt at stops starts)) = ap (state_of (s.clock + c)) (change_later _ (λ _. refl) s.tasks)
-    after_later s (Prints (Take at stops starts)) = ap (state_of (s.clock + c)) (change_later _ (λ _. refl) s.tasks)
-    after_later s (Prints (End value)) = ap (state_of (s.clock + c)) (change_later _ (λ _. refl) s.tasks)
-    after_later s (Waits m) = ap (state_of (s.clock + c)) (change_later _ (λ _. refl) s.tasks)
-    after_later s Ticks = ap (λ clock. state_of clock (map (ticked) (map (moved_task c) s.tasks))) (omega arith)
-        ∙ ap (state_of (s.clock + 1 + c)) (change_later ticked (λ _. refl) s.tasks)
+    after_later s (Prints (Release m job)) = ap (state_of s.pressed (s.clock + c)) (change_later _ (λ _. refl) s.tasks)
+    after_later s (Prints (Run at m)) = ap (state_of s.pressed (s.clock + c)) (change_later _ (λ _. refl) s.tasks)
+    after_later s (Prints (Complete at m)) = ap
+        (λ tasks. state_of (s.pressed && list_any is_open tasks) (s.clock + c) tasks) (change_later _ (λ _. refl)
+            s.tasks)
+        ∙ ap (λ b. state_of (s.pressed && b) (s.clock + c) (map (moved_task c) (after s (Prints (Complete at
+            m))).tasks))
+        (any_later is_open (λ _. refl) (after s (Prints (Complete at m))).tasks)
+    after_later s (Prints (Abandon at m)) = ap (state_of true (s.clock + c)) (change_later _ (λ _. refl) s.tasks)
+    after_later s (Prints (Preempt at stops starts)) = ap (state_of s.pressed (s.clock + c)) (change_later _ (λ _.
+        refl) s.tasks)
+    after_later s (Prints (Take at stops starts)) = ap (state_of s.pressed (s.clock + c)) (change_later _ (λ _.
+        refl) s.tasks)
+    after_later s (Prints (End value)) = ap (state_of s.pressed (s.clock + c)) (change_later _ (λ _. refl) s.tasks)
+    after_later s (Waits m) = ap (state_of s.pressed (s.clock + c)) (change_later _ (λ _. refl) s.tasks)
+    after_later s Ticks = ap (λ clock. state_of s.pressed clock (map (ticked) (map (moved_task c) s.tasks))) (omega
+        arith)
+        ∙ ap (state_of s.pressed (s.clock + 1 + c)) (change_later ticked (λ _. refl) s.tasks)
 
     -- the jobs fit after a step as before it
     fits_after : (s : State) (m : Move) → Each IsFitting s.tasks → Each IsFitting (after s m).tasks

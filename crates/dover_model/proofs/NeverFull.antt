@@ -4,7 +4,7 @@ use Rattle.std.proofs.Common.{append_assoc, append-nil, length-append}
 use Rattle.std.proofs.lemmas.List.Elements.{filter_map-append}
 use Rattle.dover_model.specs.Limits.{most_ready, most_jobs}
 use Rattle.dover_model.specs.declared.events.Version.{Version}
-use Rattle.dover_model.specs.declared.events.Version.TheVariants.{One, Two, Three}
+use Rattle.dover_model.specs.declared.events.Version.TheVariants.{One, Two, Three, Four}
 use Rattle.dover_model.specs.JobFacts.{JobFacts}
 use Rattle.dover_model.specs.Instance.{Declaration, IsValid}
 use Rattle.dover_model.specs.Session.{Item, JobItem, RefusedItem, FinishItem, Session, session_with, instance_of}
@@ -64,3 +64,4 @@ former_never S former valid = few_never S (by_version S.rules.version former (va
   by_version One former few = few
   by_version Two former few = few
   by_version Three former few = never (sym former)
+  by_version Four former few = never (sym former)

@@ -1,9 +1,9 @@
 -- The steps of tasks that stand behind tasks that are over, under greater numbers.
 use Rattle.std.proofs.Common.{◌≡◌, ℕ, ◌+◌, ◌-◌, ◌≤◌, ◌<◌, ◌⊎◌, inl, inr, List, [], ◌∷◌, ◌++◌, length, map, refl, sym}
 use Rattle.std.proofs.Common.{ap, ◌∙◌, subst, Bool, true, false, cond, arith, eqb, Option, Some, None}
-use Rattle.std.specs.Prelude.{nat_lt, nat_le, ◌&&◌, ◌||◌, ◌==◌}
+use Rattle.std.specs.Prelude.{nat_lt, nat_le, not, ◌&&◌, ◌||◌, ◌==◌}
 use Rattle.std.specs.Bool.{MatchBool, then_some}
-use Rattle.std.specs.List.{find, filter, fold, sum_by, list_all, cons_option}
+use Rattle.std.specs.List.{find, filter, fold, sum_by, list_all, list_any, cons_option}
 use Rattle.std.proofs.lemmas.Bool.{ne_eqb, eq-eqb, eqb-true, eqb-false, lt-ltb, ltb-true, ltb-false, le-ltb}
 use Rattle.std.proofs.lemmas.List.Sums.{sum_by-cons}
 use Rattle.dover_model.specs.Fraction.{Fraction}
@@ -12,12 +12,13 @@ use Rattle.dover_model.specs.declared.events.Event.TheVariants.{Release, Run, Pr
 use Rattle.dover_model.specs.declared.events.Role.{Role}
 use Rattle.dover_model.specs.declared.events.Role.TheVariants.{Fresh, Waiting, Held, Running, Done, Gone}
 use Rattle.dover_model.specs.declared.events.Version.{Version}
-use Rattle.dover_model.specs.declared.events.Version.TheVariants.{One, Two, Three}
+use Rattle.dover_model.specs.declared.events.Version.TheVariants.{One, Two, Three, Four}
 use Rattle.dover_model.specs.declared.events.Task.{Task}
 use Rattle.dover_model.specs.Instance.{Rules, having}
 use Rattle.dover_model.specs.State.{State, is_coming, is_fresh, is_waiting, is_held, is_running, is_privileged, is_done}
-use Rattle.dover_model.specs.State.{is_over, left, latest_start, room, demand_by, least, value_sum}
-use Rattle.dover_model.specs.Orders.{is_heavy, first, earlier, due_first, starts_before}
+use Rattle.dover_model.specs.State.{is_open, is_over, left, latest_start, room, demand_by, least, value_sum}
+use Rattle.dover_model.specs.Orders.{is_heavy, first, earlier, due_first, waiting_order, by_density, is_less_dense}
+use Rattle.dover_model.specs.Orders.{starts_before}
 use Rattle.dover_model.specs.Step.{Move, Prints, Waits, Ticks, View, view, with_role, ticked, displaced, ◌or_else◌}
 use Rattle.dover_model.specs.Step.{completion, dispatch, decision, arrival, alarm, urgent_or, step, open_step, ending}
 use Rattle.dover_model.specs.Step.{after, preempts, runs, is_at_latest_start, due_finish, finish_or, declared_step}
@@ -41,7 +42,7 @@ shifted n t = record { number = n + t.number; job = t.job; role = t.role; had = 
 
 -- the tasks of a state behind others, under greater numbers
 abbrev pub beside : ℕ → List Task → State → State
-beside n overs s = record { clock = s.clock; tasks = overs ++ map (shifted n) s.tasks }
+beside n overs s = record s { tasks = overs ++ map (shifted n) s.tasks }
 
 -- ---- numbers
 
@@ -167,6 +168,14 @@ module _ (n : ℕ) where
       && (nat_lt b.job.value a.job.value || (eqb a.job.value b.job.value && less)))) (lt_shift n a.number b.number)
   due_shift Three a b = ap (λ less. nat_lt a.job.deadline b.job.deadline || (eqb a.job.deadline b.job.deadline
       && (nat_lt b.job.value a.job.value || (eqb a.job.value b.job.value && less)))) (lt_shift n a.number b.number)
+  due_shift Four a b = ap (λ less. nat_lt a.job.deadline b.job.deadline || (eqb a.job.deadline b.job.deadline
+      && (nat_lt b.job.value a.job.value || (eqb a.job.value b.job.value && less)))) (lt_shift n a.number b.number)
+
+  -- the order of waiting jobs
+  waiting_shift : (v : Version) (dense : Bool) (a b : Task)
+      → waiting_order v dense (shifted n a) (shifted n b) ≡ waiting_order v dense a b
+  waiting_shift v true a b = ap (λ d. is_less_dense b a || (not (is_less_dense a b) && d)) (due_shift v a b)
+  waiting_shift v false a b = due_shift v a b
 
   -- the order by latest start
   latest_shift : (v : Version) (a b : Task) → starts_before v (shifted n a) (shifted n b) ≡ starts_before v a b
@@ -176,6 +185,9 @@ module _ (n : ℕ) where
   latest_shift Two a b = ap (λ less. nat_lt (latest_start a) (latest_start b) || (eqb (latest_start a) (latest_start b)
       && (nat_lt b.job.value a.job.value || (eqb a.job.value b.job.value && less)))) (lt_shift n a.number b.number)
   latest_shift Three a b = ap (λ less. nat_lt (latest_start a) (latest_start b) || (eqb (latest_start a)
+      (latest_start b)
+      && (nat_lt b.job.value a.job.value || (eqb a.job.value b.job.value && less)))) (lt_shift n a.number b.number)
+  latest_shift Four a b = ap (λ less. nat_lt (latest_start a) (latest_start b) || (eqb (latest_start a)
       (latest_start b)
       && (nat_lt b.job.value a.job.value || (eqb a.job.value b.job.value && less)))) (lt_shift n a.number b.number)
 
@@ -214,6 +226,7 @@ module _ (n : ℕ) where
     held_room = v.held_room;
     privileged_room = v.privileged_room;
     privileged_value = v.privileged_value;
+    yields = v.yields;
   }
 
   module _ (overs : List Task) (over : Each (λ t. is_over t ≡ true) overs) where
@@ -242,6 +255,19 @@ module _ (n : ℕ) where
     filter_there p done gone same tasks = filter_back p overs (map (shifted n) tasks) (over_fails p done gone)
         ∙ filter_shift n p same tasks
 
+    -- some job is open just where one is behind
+    open_there : (tasks : List Task) → list_any is_open (overs ++ map (shifted n) tasks) ≡ list_any is_open tasks
+    open_there tasks = front overs (over_fails is_open (λ _. refl) (λ _. refl)) where
+      back : (ts : List Task) → list_any is_open (map (shifted n) ts) ≡ list_any is_open ts
+      back [] = refl
+      back (t ∷ ts) = ap (λ b. is_open t || b) (back ts)
+
+      front : (us : List Task) → Each (λ t. is_open t ≡ false) us
+          → list_any is_open (us ++ map (shifted n) tasks) ≡ list_any is_open tasks
+      front [] none = back tasks
+      front (u ∷ us) none = ap (λ b. b || list_any is_open (us ++ map (shifted n) tasks)) (none u (inl refl))
+          ∙ front us (λ x m. none x (inr m))
+
     -- the view of a state behind
     view_beside : (version : Version) (s : State) → view version (beside n overs s) ≡ shifted_view (view version s)
     view_beside version s =
@@ -267,7 +293,8 @@ module _ (n : ℕ) where
           e_waiting,
           e_privileged,
           first_shift (due_first version) (due_shift version) (filter is_held s.tasks),
-          first_shift (due_first version) (due_shift version) (filter is_waiting s.tasks),
+          first_shift (waiting_order version (by_density version s.pressed))
+              (waiting_shift version (by_density version s.pressed)) (filter is_waiting s.tasks),
           filter_shift n (is_at_latest_start s) (λ _. refl) (filter is_waiting s.tasks),
           first_shift (starts_before version) (latest_shift version)
               (filter (is_at_latest_start s) (filter is_waiting s.tasks)),
@@ -599,18 +626,22 @@ module _ (rules : Rules) (n : ℕ) (first : List Finish) (own : Each (λ f. f.nu
       by_end (inr e) = ap still (passes is_running u Gone false e refl)
 
     -- a state
-    abbrev state_of : ℕ → List Task → State
-    state_of clock tasks = record { clock = clock; tasks = tasks }
+    abbrev state_of : Bool → ℕ → List Task → State
+    state_of pressed clock tasks = record { clock = clock; pressed = pressed; tasks = tasks }
 
     -- the state after the step of a state behind
     pub after_beside : (s : State) (m : Move)
         → after (beside n overs s) (moved n came_to m) ≡ beside n overs (after s m)
-    after_beside s (Prints (Release m job)) = ap (state_of s.clock) (one_beside s.clock m Fresh s.tasks)
-    after_beside s (Prints (Run at m)) = ap (state_of s.clock) (one_beside s.clock m Running s.tasks)
-    after_beside s (Prints (Complete at m)) = ap (state_of s.clock) (one_beside s.clock m Done s.tasks)
-    after_beside s (Prints (Abandon at m)) = ap (state_of s.clock) (one_beside s.clock m Gone s.tasks)
-    after_beside s (Waits m) = ap (state_of s.clock) (one_beside s.clock m Waiting s.tasks)
-    after_beside s (Prints (Preempt at stops starts)) = ap (state_of s.clock) (change_beside s.clock
+    after_beside s (Prints (Release m job)) = ap (state_of s.pressed s.clock) (one_beside s.clock m Fresh s.tasks)
+    after_beside s (Prints (Run at m)) = ap (state_of s.pressed s.clock) (one_beside s.clock m Running s.tasks)
+    after_beside s (Prints (Complete at m)) = ap (λ tasks. state_of (s.pressed && list_any is_open tasks) s.clock tasks)
+        (one_beside s.clock m Done s.tasks)
+        ∙ ap (λ b. state_of (s.pressed && b) s.clock (overs ++ map (shifted n) (after s (Prints (Complete at
+            m))).tasks))
+        (open_there n overs over (after s (Prints (Complete at m))).tasks)
+    after_beside s (Prints (Abandon at m)) = ap (state_of true s.clock) (one_beside s.clock m Gone s.tasks)
+    after_beside s (Waits m) = ap (state_of s.pressed s.clock) (one_beside s.clock m Waiting s.tasks)
+    after_beside s (Prints (Preempt at stops starts)) = ap (state_of s.pressed s.clock) (change_beside s.clock
         (λ t. with_role t (cond (eqb t.number (n + starts)) Running (cond (eqb t.number (n + stops)) Held t.role)))
         (λ t. with_role t (cond (eqb t.number starts) Running (cond (eqb t.number stops) Held t.role)))
         (λ u member. ap (λ b. with_role u (cond b Running (cond (eqb u.number (n + stops)) Held u.role)))
@@ -620,7 +651,7 @@ module _ (rules : Rules) (n : ℕ) (first : List Finish) (own : Each (λ f. f.nu
         (eq_shift n t.number starts)
         ∙ ap (λ b. with_role (shifted n t) (cond (eqb t.number starts) Running (cond b Held t.role)))
         (eq_shift n t.number stops)) s.tasks)
-    after_beside s (Prints (Take at stops starts)) = ap (state_of s.clock) (change_beside s.clock
+    after_beside s (Prints (Take at stops starts)) = ap (state_of s.pressed s.clock) (change_beside s.clock
         (λ t. with_role t (cond (eqb t.number (n + starts)) Running (displaced t.role)))
         (λ t. with_role t (cond (eqb t.number starts) Running (displaced t.role)))
         (λ u member. ap (λ b. with_role u (cond b Running (displaced u.role))) (unnamed starts u member)
@@ -628,9 +659,9 @@ module _ (rules : Rules) (n : ℕ) (first : List Finish) (own : Each (λ f. f.nu
         (λ t. ap (λ b. with_role (shifted n t) (cond b Running (displaced t.role))) (eq_shift n t.number starts))
         s.tasks)
     after_beside s (Prints (End value)) =
-        ap (state_of s.clock) (change_beside s.clock (λ t. with_role t t.role) (λ t. with_role t t.role)
+        ap (state_of s.pressed s.clock) (change_beside s.clock (λ t. with_role t t.role) (λ t. with_role t t.role)
         (λ u member. refl) (λ t. refl) s.tasks)
-    after_beside s Ticks = ap (state_of (s.clock + 1)) (change_beside s.clock ticked ticked
+    after_beside s Ticks = ap (state_of s.pressed (s.clock + 1)) (change_beside s.clock ticked ticked
         (λ u member. over_still u (over u member)) (λ t. refl) s.tasks)
 
     -- what a step prints

@@ -205,7 +205,7 @@ module _ (n : ℕ) (s : State) (clock : ℕ) (t : Task) (later : s.clock ≤ clo
     (new : (t.role ≡ Coming) ⊎ (t.role ≡ Fresh)) where
   -- the state with the job, at a later clock
   abbrev more : State
-  more = record { clock = clock; tasks = s.tasks ++ t ∷ [] }
+  more = record s { clock = clock; tasks = s.tasks ++ t ∷ [] }
 
   one_more : (f : Task → ℕ) (a : ℕ) → f t ≡ a → sum_by f (s.tasks ++ t ∷ []) ≡ sum_by f s.tasks + a
   one_more f a is = omega (arith, is, sum_by-append f s.tasks (t ∷ []), sum_by-cons f t [])

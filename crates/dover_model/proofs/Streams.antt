@@ -14,7 +14,7 @@ use Rattle.dover_model.specs.Fraction.{Fraction}
 use Rattle.dover_model.specs.JobFacts.{JobFacts, IsJob}
 use Rattle.dover_model.specs.Instance.{Instance, IsValid}
 use Rattle.dover_model.specs.Schedules.{numbered}
-use Rattle.dover_model.specs.Orders.{IsHeavy}
+use Rattle.dover_model.specs.Orders.{IsHeavy, IsByDeadline}
 use Rattle.dover_model.specs.Sound.{IsMember, Each, EachTwo}
 use Rattle.dover_model.specs.Sure.{crosses, chosen_value, chosen_work, CanHold, IsHeavyAt, NoneDisplaces, IsCompleted}
 use Rattle.dover_model.specs.Sure.{Stream, stream_at, blank_stream, AreOfStreams, most_crossing, work_within, CanStack}
@@ -65,7 +65,8 @@ module _ {X : Type 0} where
       ∙ is_at (k + 1) xs d n_x member
 
 -- a number has a member, counted from 0 on
-member_at : {X : Type 0} (xs : List X) (d : X) (i : ℕ) → i < length xs → IsMember (i, get_or xs i d) (enumerate_from 0 xs)
+member_at : {X : Type 0} (xs : List X) (d : X) (i : ℕ) → i < length xs → IsMember (i, get_or xs i d) (enumerate_from
+    0 xs)
 member_at xs d i less = subst (λ m. IsMember (m, get_or xs i d) (enumerate_from 0 xs))
     (let e : 0 + i ≡ i = omega arith in e) (at_number 0 xs d i less)
 
@@ -555,6 +556,7 @@ heavy_by_sets k streams x v heavy counts can =
     heavy_mono k v (worth_of counts streams) (most_fitting streams x) (stacked_most streams x counts can) heavy
 
 module _ (J : Instance) (streams : List Stream) (of : ℕ → ℕ) (n : ℕ) (j : JobFacts) (valid : IsValid J)
+    (dated : IsByDeadline J.rules.version)
     (are : AreOfStreams streams of J) (there : IsMember (n, j) (numbered J))
     (sure : IsSure J.rules.ratio streams (of n) j) where
   -- the job's stream
@@ -895,7 +897,7 @@ module _ (J : Instance) (streams : List Stream) (of : ℕ → ℕ) (n : ℕ) (j 
 
   -- so it is completed
   pub sure_job : IsCompleted J n j
-  sure_job = heavy_at_start J n j valid there heavy_there none_displaces where
+  sure_job = heavy_at_start J n j valid dated there heavy_there none_displaces where
     none_displaces : NoneDisplaces J j
     none_displaces i member due from heavy = by_name (number_of 0 J.jobs i member) where
       by_name : (m : ℕ) × IsMember (m, i) (enumerate_from 0 J.jobs) → ⊥
@@ -903,6 +905,7 @@ module _ (J : Instance) (streams : List Stream) (of : ℕ → ℕ) (n : ℕ) (j 
 
 -- the law
 pub sure_streams : (J : Instance) (streams : List Stream) (of : ℕ → ℕ) (n : ℕ) (j : JobFacts) → IsValid J
-    → AreOfStreams streams of J → IsMember (n, j) (numbered J) → IsSure J.rules.ratio streams (of n) j
+    → IsByDeadline J.rules.version → AreOfStreams streams of J → IsMember (n, j) (numbered J) → IsSure J.rules.ratio
+        streams (of n) j
     → IsCompleted J n j
-sure_streams J streams of n j valid are there sure = sure_job J streams of n j valid are there sure
+sure_streams J streams of n j valid dated are there sure = sure_job J streams of n j valid dated are there sure

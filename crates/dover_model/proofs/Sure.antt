@@ -16,12 +16,13 @@ use Rattle.dover_model.specs.Instance.{Instance, IsValid}
 use Rattle.dover_model.specs.Schedules.{numbered}
 use Rattle.dover_model.specs.State.{State, opening, is_privileged, is_over, is_done, left, latest_start, privileged}
 use Rattle.dover_model.specs.State.{value_sum}
-use Rattle.dover_model.specs.Orders.{IsHeavy, is_heavy}
+use Rattle.dover_model.specs.Orders.{IsByDeadline, IsHeavy, is_heavy}
 use Rattle.dover_model.specs.Step.{Move, Prints, Ticks, step, after, ending, ◌or_else◌, with_role, displaced, ticked}
 use Rattle.dover_model.specs.Run.{Step, is_end, run, printed, printed_of, event_of}
 use Rattle.dover_model.specs.WholeRun.{IsWholeRun}
 use Rattle.dover_model.specs.Sound.{IsMember, Each, IsNumberedFrom, IsSound, Keeps, jobs_of}
-use Rattle.dover_model.specs.Sure.{crosses, crossing_beside, worth_beside, chosen_value, chosen_work, CanHold, IsHeavyAt}
+use Rattle.dover_model.specs.Sure.{crosses, crossing_beside, worth_beside, chosen_value, chosen_work, CanHold}
+use Rattle.dover_model.specs.Sure.{IsHeavyAt}
 use Rattle.dover_model.specs.Sure.{FitWindows, NoneDisplaces, IsCompleted}
 use Rattle.dover_model.proofs.Members.{on_map, map_member, filter_member, sum_filter, sum_le, sum_same}
 use Rattle.dover_model.proofs.Members.{sum_zero, term_le_sum, cond_le, found, not_found}
@@ -193,7 +194,8 @@ printed_later e (Some f) events member = inr member
 
 -- ---- over a run
 
-module _ (J : Instance) (valid : IsValid J) (n : ℕ) (j : JobFacts) (there : IsMember (n, j) (numbered J))
+module _ (J : Instance) (valid : IsValid J) (by_order : IsByDeadline J.rules.version) (n : ℕ) (j : JobFacts)
+    (there : IsMember (n, j) (numbered J))
     (steady : Bool)
     (heavy : (t : ℕ) → j.deadline ≤ t + j.work → t < j.deadline → (steady ≡ true → t + j.work ≡ j.deadline)
     → IsHeavyAt J n j t)
@@ -467,7 +469,7 @@ module _ (J : Instance) (valid : IsValid J) (n : ℕ) (j : JobFacts) (there : Is
         (λ quiet. by_end (list_all is_over s.tasks)) unlost (step J.rules s) (step_deed J valid s keeps J.rules) where
           by_end : (b : Bool) → IsUnlost steady n
               (after s (then_some b (Prints (End (value_sum (filter is_done s.tasks)))) or_else Ticks))
-          by_end true = subst (λ (tasks : List Task). IsUnlost steady n (record { clock = s.clock; tasks = tasks }))
+          by_end true = subst (λ (tasks : List Task). IsUnlost steady n (record s { tasks = tasks }))
               (sym (end_same s (value_sum (filter is_done s.tasks)))) unlost
           by_end false = tick_unlost steady n s unlost
 
@@ -492,7 +494,7 @@ module _ (J : Instance) (valid : IsValid J) (n : ℕ) (j : JobFacts) (there : Is
   completes (x ∷ xs) s keeps stacked unlost whole =
       by_step (step_unlost s keeps stacked unlost)
       (λ later more. completes xs (after s (step J.rules s)) (step_kept J valid s keeps J.rules)
-      (step_stacked J valid s keeps J.rules stacked) later more) where
+      (step_stacked J valid s keeps J.rules by_order stacked) later more) where
         by_step : IsUnlost steady n (after s (step J.rules s)) ⊎ Ends n s (step J.rules s)
             → (IsUnlost steady n (after s (step J.rules s)) → IsWholeRun J.rules (after s (step J.rules s)) xs
             → CompletedIn (printed_of xs)) → CompletedIn (printed_of (x ∷ xs))
@@ -521,16 +523,18 @@ module _ (J : Instance) (valid : IsValid J) (n : ℕ) (j : JobFacts) (there : Is
         as_record it = record { tick = it.0; event = it.1; in_time = it.2 }
 
 -- a job that is heavy, at each tick from its latest start to its deadline, against what can hold the processor there
-pub heavy_throughout : (J : Instance) (n : ℕ) (j : JobFacts) → IsValid J → IsMember (n, j) (numbered J)
+pub heavy_throughout : (J : Instance) (n : ℕ) (j : JobFacts) → IsValid J
+    → IsByDeadline J.rules.version → IsMember (n, j) (numbered J)
     → ((t : ℕ) → j.deadline ≤ t + j.work → t < j.deadline → IsHeavyAt J n j t) → IsCompleted J n j
-heavy_throughout J n j valid there heavy =
-    run_completes J valid n j there false (λ t from until _. heavy t from until) (λ e. never e)
+heavy_throughout J n j valid by_order there heavy =
+    run_completes J valid by_order n j there false (λ t from until _. heavy t from until) (λ e. never e)
 
 -- so is one that is heavy at its latest start, where no job can displace it
-pub heavy_at_start : (J : Instance) (n : ℕ) (j : JobFacts) → IsValid J → IsMember (n, j) (numbered J)
+pub heavy_at_start : (J : Instance) (n : ℕ) (j : JobFacts) → IsValid J
+    → IsByDeadline J.rules.version → IsMember (n, j) (numbered J)
     → IsHeavyAt J n j (j.deadline - j.work) → NoneDisplaces J j → IsCompleted J n j
-heavy_at_start J n j valid there heavy none =
-    run_completes J valid n j there true
+heavy_at_start J n j valid by_order there heavy none =
+    run_completes J valid by_order n j there true
     (λ t from until now. let at : t + j.work ≡ j.deadline = now refl in
     subst (IsHeavyAt J n j) (let e : j.deadline - j.work ≡ t = omega arith in e) heavy) (λ _. none)
 
@@ -549,9 +553,10 @@ heavy_beside J n j t heavy chosen can =
       by_chosen m_i m true is_in false e = rw (can.crossing m_i m is_in) (omega arith)
 
 -- in each state of a run, what holds the processor fits its windows
-pub run_fits : (J : Instance) → IsValid J → Each (λ x. FitWindows x.before.tasks) (run J)
-run_fits J valid x m l member is_in =
+pub run_fits : (J : Instance) → IsValid J → IsByDeadline J.rules.version → Each (λ x. FitWindows x.before.tasks) (run J)
+run_fits J valid by_order x m l member is_in =
     let it : (x.move ≡ step J.rules x.before) × Keeps J x.before × IsStacked x.before =
-    run_states J valid J.rules IsStacked (λ s keeps stacked on. step_stacked J valid s keeps J.rules stacked) (run J)
+    run_states J valid J.rules IsStacked (λ s keeps stacked on. step_stacked J valid s keeps J.rules by_order
+        stacked) (run J)
     (opening J.jobs) (opening_keeps J) (opening_stacked J.jobs) (run_is_whole J valid) x m in
     works_fit x.before it.1.sound it.2 l member is_in

@@ -570,7 +570,7 @@ rest_prompt : (s : State) → IsPrompt s → Quiet s → IsPrompt (after s (rest
 rest_prompt s prompt quiet = by_end (list_all is_over s.tasks) where
   by_end : (b : Bool)
       → IsPrompt (after s (then_some b (Prints (End (value_sum (filter is_done s.tasks)))) or_else Ticks))
-  by_end true = subst (λ (tasks : List Task). IsPrompt (record { clock = s.clock; tasks = tasks }))
+  by_end true = subst (λ (tasks : List Task). IsPrompt (record s { tasks = tasks }))
       (sym (end_same s (value_sum (filter is_done s.tasks)))) prompt
   by_end false = on_map ticked (λ t. t.role ≡ Fresh → t.job.release ≡ s.clock + 1) s.tasks
       (λ t m fresh. absurd (quiet.stale t m fresh))
@@ -912,7 +912,7 @@ pub rest_taken : (s : State) → Quiet s → IsTaken (after s (rest_of s))
 rest_taken s quiet = by_end (list_all is_over s.tasks) where
   by_end : (b : Bool)
       → IsTaken (after s (then_some b (Prints (End (value_sum (filter is_done s.tasks)))) or_else Ticks))
-  by_end true = subst (λ (tasks : List Task). IsTaken (record { clock = s.clock; tasks = tasks }))
+  by_end true = subst (λ (tasks : List Task). IsTaken (record s { tasks = tasks }))
       (sym (end_same s (value_sum (filter is_done s.tasks)))) quiet.free
   by_end false = λ free. on_map ticked (λ t. is_ready_behind t ≡ true → ⊥) s.tasks
       (λ t m. quiet.free (λ u mu runs. free (ticked u) (map_member ticked s.tasks u mu) runs) t m)
