@@ -61,7 +61,7 @@ unsafe extern "C" {
     fn dover_successor(place: *mut Place) -> Named;
     fn dover_value(place: *mut Place) -> u64;
     fn dover_value_high(place: *mut Place) -> u64;
-    fn dover_room(place: *mut Place) -> u32;
+    fn dover_spare(place: *mut Place) -> u32;
     fn dover_drop(place: *mut Place);
 }
 
@@ -121,7 +121,7 @@ impl Dover {
     }
 
     pub fn room(&mut self) -> u32 {
-        unsafe { dover_room(self.0) }
+        unsafe { dover_spare(self.0) }
     }
 }
 

@@ -216,7 +216,7 @@ pub unsafe extern "C" fn dover_value_high(place: *mut Place) -> u64
 
 /// For how many open jobs more there is room.
 #[unsafe(no_mangle)]
-pub unsafe extern "C" fn dover_room(place: *mut Place) -> u32
+pub unsafe extern "C" fn dover_spare(place: *mut Place) -> u32
     ghost v: { Slot }
     requires* { sem 𝓛 (lies_at the_row full_share place v) }
     ensures* { sem 𝓛 (after_at place (λ w. RoomAnswers v w result)) }

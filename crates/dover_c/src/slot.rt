@@ -18,7 +18,7 @@ use std::alloc::Global;
 use std::marker::Brand;
 use std::rt::Memory;
 use std::sync::ledger::{Blank, Ledger};
-use step_count::Steps;
+use comparison_count::Comparisons;
 
 // 2^64, which is one more than the greatest number of 64 bits.
 const WORD: u128 = 1 << 64;
@@ -240,8 +240,8 @@ fn step_to<L: Ledger>(
     requires some { 0 < blank.parts }
     ensures { IsStepOf mark engine.old engine.new result }
 {
-    let mut steps = Steps::<L>::new(memory, blank);
-    engine.step(mark, &mut steps)
+    let mut comparisons = Comparisons::<L>::new(memory, blank);
+    engine.step(mark, &mut comparisons)
 }
 
 pub(crate) fn step(slot: &mut Slot, mark: u64, memory: Memory) -> Decided
@@ -263,8 +263,8 @@ fn step_to_end<L: Ledger>(engine: &mut Engine, memory: Memory, blank: Blank) -> 
     requires some { 0 < blank.parts }
     ensures { Decides End engine.old engine.new result }
 {
-    let mut steps = Steps::<L>::new(memory, blank);
-    engine.finish(&mut steps)
+    let mut comparisons = Comparisons::<L>::new(memory, blank);
+    engine.finish(&mut comparisons)
 }
 
 pub(crate) fn finish(slot: &mut Slot, memory: Memory) -> Decided

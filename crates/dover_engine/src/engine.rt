@@ -30,7 +30,7 @@ use ready_server::ReadyServer;
 use std::alloc::Global;
 use std::marker::Model;
 use std::sync::ledger::Ledger;
-use step_count::Steps;
+use comparison_count::Comparisons;
 
 // How many jobs may be admitted in all.
 const MOST_NUMBERED: u64 = 10_000_000_000_000_000_000;
@@ -220,7 +220,7 @@ impl Engine {
     }
 
     // The next event before the horizon, of the jobs since the last moment of rest.
-    fn advance<L: Ledger>(&mut self, to: Horizon, steps: &mut Steps<L>) -> Option<Event>
+    fn advance<L: Ledger>(&mut self, to: Horizon, comparisons: &mut Comparisons<L>) -> Option<Event>
         requires { MayFollow self.old.last to }
         ensures gave { (J : Instance) (events : List Event) → Gave self.old J events →
             Gave self.new J (events ++ option_to_list (option_map (behind self.old.forgotten self.old.earned) result)) }
@@ -235,8 +235,8 @@ impl Engine {
         ensures short { IfSome result HasShortValue }
         ensures spare { spare_of self.old ≤ spare_of self.new }
         ensures room { room_of self.new ≡ room_of self.old }
-        ensures paid { (start : ℕ) → HasPaid self.old start steps.old → HasPaid self.new start steps.new }
-        ensures once { CostsOnce self.old result steps.old steps.new }
+        ensures paid { (start : ℕ) → HasPaid self.old start comparisons.old → HasPaid self.new start comparisons.new }
+        ensures once { CostsOnce self.old result comparisons.old comparisons.new }
     {
         self.last = to;
         match self.coming {
@@ -246,7 +246,7 @@ impl Engine {
                 Some(event)
             }
             None => {
-                let event = self.server.step(to, steps);
+                let event = self.server.step(to, comparisons);
                 self.settled = is_ready_after(to, &event);
                 event
             }
@@ -289,13 +289,13 @@ impl Engine {
     }
 
     // The next decision before the horizon.
-    fn decide<L: Ledger>(&mut self, to: Horizon, steps: &mut Steps<L>) -> Option<Decision>
+    fn decide<L: Ledger>(&mut self, to: Horizon, comparisons: &mut Comparisons<L>) -> Option<Decision>
         requires { MayFollow self.old.last to }
         ensures decides { Decides to self.old self.new result }
-        ensures paid { (start : ℕ) → HasPaid self.old start steps.old → HasPaid self.new start steps.new }
-        ensures once { CostsOnce self.old (event_in result) steps.old steps.new }
+        ensures paid { (start : ℕ) → HasPaid self.old start comparisons.old → HasPaid self.new start comparisons.new }
+        ensures once { CostsOnce self.old (event_in result) comparisons.old comparisons.new }
     {
-        let event = self.advance(to, steps);
+        let event = self.advance(to, comparisons);
         let decision = self.shown(&event);
         self.renew();
         decision
@@ -310,30 +310,30 @@ impl Engine {
     pub fn step<L: Ledger>(
         &mut self,
         mark: u64,
-        steps: &mut Steps<L>,
+        comparisons: &mut Comparisons<L>,
     ) -> Result<Option<Decision>, NotStepped>
         ensures refusal { IfErr result (λ cause. mark_refusal self.old.last mark ≡ Some cause) }
         ensures kept { OnErr result (self.new ≡ self.old) }
-        ensures free { OnErr result (steps.new ≡ steps.old) }
+        ensures free { OnErr result (comparisons.new ≡ comparisons.old) }
         ensures may { OnOk result (MayFollow self.old.last (Mark mark)) }
         ensures decides { IfOk result (λ answer. Decides (Mark mark) self.old self.new answer) }
-        ensures paid { (start : ℕ) → HasPaid self.old start steps.old → HasPaid self.new start steps.new }
-        ensures once { IfOk result (λ answer. CostsOnce self.old (event_in answer) steps.old steps.new) }
+        ensures paid { (start : ℕ) → HasPaid self.old start comparisons.old → HasPaid self.new start comparisons.new }
+        ensures once { IfOk result (λ answer. CostsOnce self.old (event_in answer) comparisons.old comparisons.new) }
     {
         if let Some(cause) = mark_refusal(self.last, mark) {
             return Err(cause);
         }
-        Ok(self.decide(Horizon::Mark(mark), steps))
+        Ok(self.decide(Horizon::Mark(mark), comparisons))
     }
 
     /// The next decision, where no further job can come. None after the End. From the first of these calls on no job is
     /// admitted and no step is taken to a mark. No memory is taken.
-    pub fn finish<L: Ledger>(&mut self, steps: &mut Steps<L>) -> Option<Decision>
+    pub fn finish<L: Ledger>(&mut self, comparisons: &mut Comparisons<L>) -> Option<Decision>
         ensures decides { Decides End self.old self.new result }
-        ensures paid { (start : ℕ) → HasPaid self.old start steps.old → HasPaid self.new start steps.new }
-        ensures once { CostsOnce self.old (event_in result) steps.old steps.new }
+        ensures paid { (start : ℕ) → HasPaid self.old start comparisons.old → HasPaid self.new start comparisons.new }
+        ensures once { CostsOnce self.old (event_in result) comparisons.old comparisons.new }
     {
-        self.decide(Horizon::End, steps)
+        self.decide(Horizon::End, comparisons)
     }
 
     /// The tick for which to call next. Where `step` to a mark answered None and no job was admitted or done since, it

@@ -15,8 +15,10 @@ use Rattle.dover_model.specs.Books.{Row, IsRow, GoneIn, TakenIn, IsBusy, IsDense
 use Rattle.dover_model.specs.Books.{IsPaid, IsPaidBy, IsExcess, IsExcessBy}
 use Rattle.dover_model.specs.Sound.{IsMember, Each}
 use Rattle.dover_model.specs.Schedules.{ticks_given}
-use Rattle.dover_model.proofs.Members.{each_cons, sum_le, sum_plus, sum_filter, term_le_sum, member_filter, cond_le, sum_zero}
-use Rattle.dover_model.proofs.Calculus.{Below, cancel, below_add, below_mono, displaced_below, excess_below, regular_below}
+use Rattle.dover_model.proofs.Members.{each_cons, sum_le, sum_plus, sum_filter, term_le_sum, member_filter, cond_le}
+use Rattle.dover_model.proofs.Members.{sum_zero}
+use Rattle.dover_model.proofs.Calculus.{Below, cancel, below_add, below_mono, displaced_below, excess_below}
+use Rattle.dover_model.proofs.Calculus.{regular_below}
 use Rattle.dover_model.proofs.Calculus.{not_heavy, excess_zero, excess_add, paid_sum, factor_within}
 use Rattle.dover_model.proofs.Counting.{one, range_count, share_of, given_share, share_le, NamesOnce}
 use Rattle.dover_model.proofs.Counting.{shares_most}

@@ -16,7 +16,8 @@ use Rattle.dover_model.specs.declared.events.Task.{Task}
 use Rattle.dover_model.specs.Instance.{Instance, IsValid}
 use Rattle.dover_model.specs.Schedules.{numbered, ticks_given}
 use Rattle.dover_model.specs.Observed.{end_state}
-use Rattle.dover_model.specs.State.{State, opening, is_fresh, is_over, is_done, is_running, is_ready_behind, running, value_sum}
+use Rattle.dover_model.specs.State.{State, opening, is_fresh, is_over, is_done, is_running, is_ready_behind, running}
+use Rattle.dover_model.specs.State.{value_sum}
 use Rattle.dover_model.specs.Step.{Move, Prints, Waits, Ticks, step, after, ◌or_else◌, ticked}
 use Rattle.dover_model.specs.Run.{Step, is_end, run, ran, tick_of, number_running}
 use Rattle.dover_model.specs.WholeRun.{IsWholeRun, step_at}

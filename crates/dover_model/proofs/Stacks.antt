@@ -1,5 +1,6 @@
 -- The running job and the held ones fit their windows together, with all the work that they declare.
-use Rattle.std.proofs.Common.{◌≡◌, ℕ, zero, suc, ◌+◌, ◌-◌, ◌≤◌, ◌<◌, ◌⊎◌, inl, inr, List, map, refl, sym, ap, ◌∙◌, subst}
+use Rattle.std.proofs.Common.{◌≡◌, ℕ, zero, suc, ◌+◌, ◌-◌, ◌≤◌, ◌<◌, ◌⊎◌, inl, inr, List, map, refl, sym, ap, ◌∙◌}
+use Rattle.std.proofs.Common.{subst}
 use Rattle.std.proofs.Common.{Bool, true, false, cond, eqb, arith}
 use Rattle.std.specs.Prelude.{nat_le, ◌&&◌}
 use Rattle.std.specs.Bool.{then_some}
@@ -16,7 +17,8 @@ use Rattle.dover_model.specs.State.{State, opening, is_privileged, is_running, i
 use Rattle.dover_model.specs.State.{latest_start, value_sum}
 use Rattle.dover_model.specs.Step.{Move, Prints, Ticks, step, after, ending, ◌or_else◌, with_role, displaced, ticked}
 use Rattle.dover_model.specs.Sound.{IsMember, Each, EachTwo, IsSound, Keeps, NoneRuns}
-use Rattle.dover_model.proofs.Members.{on_map, by_bool, sum_map, sum_le, sum_zero, sum_plus, sum_same, term_le_sum, cond_le}
+use Rattle.dover_model.proofs.Members.{on_map, by_bool, sum_map, sum_le, sum_zero, sum_plus, sum_same, term_le_sum}
+use Rattle.dover_model.proofs.Members.{cond_le}
 use Rattle.dover_model.proofs.Roles.{passes, one_number, is_privileged_role, is_running_role}
 use Rattle.dover_model.proofs.Loads.{Fits, with_roles, sum_change, share, load, fits_of_room}
 use Rattle.dover_model.proofs.OneChange.{state_with, changed, on_changed, on_changed_role, changed_here}

@@ -21,7 +21,8 @@ use Rattle.dover_model.specs.Step.{Move, Prints, Ticks, step, after, ending, ◌
 use Rattle.dover_model.specs.Run.{Step, is_end, run, printed, printed_of, event_of}
 use Rattle.dover_model.specs.WholeRun.{IsWholeRun}
 use Rattle.dover_model.specs.Sound.{IsMember, Each, IsNumberedFrom, IsSound, Keeps, jobs_of}
-use Rattle.dover_model.specs.Sure.{crosses, crossing_beside, worth_beside, chosen_value, chosen_work, CanHold, IsHeavyAt}
+use Rattle.dover_model.specs.Sure.{crosses, crossing_beside, worth_beside, chosen_value, chosen_work, CanHold}
+use Rattle.dover_model.specs.Sure.{IsHeavyAt}
 use Rattle.dover_model.specs.Sure.{FitWindows, NoneDisplaces, IsCompleted}
 use Rattle.dover_model.proofs.Members.{on_map, map_member, filter_member, sum_filter, sum_le, sum_same}
 use Rattle.dover_model.proofs.Members.{sum_zero, term_le_sum, cond_le, found, not_found}

@@ -17,7 +17,8 @@ use Rattle.dover_model.specs.Schedules.{numbered}
 use Rattle.dover_model.specs.State.{State, opening, to_come, is_fresh, is_over, is_done, is_privileged, is_ready_behind}
 use Rattle.dover_model.specs.State.{left, value_sum, privileged}
 use Rattle.dover_model.specs.Orders.{is_heavy}
-use Rattle.dover_model.specs.Step.{Move, Prints, Waits, Ticks, step, after, ending, ◌or_else◌, with_role, displaced, ticked}
+use Rattle.dover_model.specs.Step.{Move, Prints, Waits, Ticks, step, after, ending, ◌or_else◌, with_role, displaced}
+use Rattle.dover_model.specs.Step.{ticked}
 use Rattle.dover_model.specs.Step.{role_after}
 use Rattle.dover_model.specs.Run.{Step, is_end, run}
 use Rattle.dover_model.specs.WholeRun.{IsWholeRun, step_at}
@@ -27,7 +28,8 @@ use Rattle.dover_model.specs.Switches.{gets, changes_hands, is_preempted, is_tak
 use Rattle.dover_model.specs.Switches.{returns, returns_by, ComesBehind, may_preempt, may_take, most_changes}
 use Rattle.dover_model.specs.Sound.{IsMember, Each, NoneRuns, IsSound, IsNumberedFrom, jobs_of, Keeps}
 use Rattle.dover_model.specs.Weights.{one_if}
-use Rattle.dover_model.proofs.Members.{map_member, on_map, filter_member, sum_le, sum_plus, sum_same, sum_zero, term_le_sum}
+use Rattle.dover_model.proofs.Members.{map_member, on_map, filter_member, sum_le, sum_plus, sum_same, sum_zero}
+use Rattle.dover_model.proofs.Members.{term_le_sum}
 use Rattle.dover_model.proofs.Roles.{passes, one_number, numbers_above}
 use Rattle.dover_model.proofs.OneChange.{state_with, on_changed}
 use Rattle.dover_model.proofs.Moves.{says, active_slack}

@@ -1,6 +1,7 @@
 -- Paying forward: a job that starts or takes loads itself in its first tick, and in its last tick before it is done it
 -- loads the job that gets the processor back behind it.
-use Rattle.std.specs.Prelude.{◌≡◌, ℕ, ◌+◌, List, [], ◌∷◌, Bool, true, false, not, ◌==◌, ◌&&◌, if◌then◌else◌, Option, Some}
+use Rattle.std.specs.Prelude.{◌≡◌, ℕ, ◌+◌, List, [], ◌∷◌, Bool, true, false, not, ◌==◌, ◌&&◌, if◌then◌else◌, Option}
+use Rattle.std.specs.Prelude.{Some}
 use Rattle.dover_model.specs.declared.events.Event.{Event}
 use Rattle.dover_model.specs.declared.events.Event.TheVariants.{Run}
 use Rattle.dover_model.specs.Step.{Prints, Waits, Ticks}

@@ -12,8 +12,8 @@ abbrev pub end_state : Instance → State
 end_state J = fold (λ s x. x.before) (opening J.jobs) (run J)
 
 -- the ticks that each job has had by then, by number
-abbrev pub hads : Instance → List ℕ
-hads J = map (λ t. t.had) (end_state J).tasks
+abbrev pub served : Instance → List ℕ
+served J = map (λ t. t.had) (end_state J).tasks
 
 -- the job that asks for what it had, where it is done, and for all its work otherwise
 abbrev pub observing : Task → JobFacts

@@ -17,7 +17,8 @@ ghost use Rattle.dover_model.specs.declared.events.Task.{Task};
 ghost use Rattle.dover_model.specs.Sound.{IsMember};
 ghost use Rattle.dover_model.specs.Processor.{is_complete, is_take_of};
 ghost use Rattle.dover_model.specs.Switches.{gets, changes_hands, is_preempted, is_taken_from, is_complete_of, starts};
-ghost use Rattle.dover_model.specs.Switches.{returns, ComesBehind, may_preempt, may_take, most_changes, useful, NeedNoLess, AreOfTask};
+ghost use Rattle.dover_model.specs.Switches.{returns, ComesBehind, may_preempt, may_take, most_changes, useful};
+ghost use Rattle.dover_model.specs.Switches.{NeedNoLess, AreOfTask};
 
 /// A job gets the processor once, and once more for each time that it was preempted or that a take stopped it. Only
 /// jobs that are released no sooner and due before it preempt it, only jobs that are heavy against it take the

@@ -36,14 +36,15 @@ module _ (ls : List (List ℕ)) (ended : (account_of_lines ls).standing ≡ feed
       (account_of_lines ls).lines) ended (lines_goes ls no_lines refl).0
 
   -- a feed that is ended has a session
-  pub none_ended : (jobs : List JobFacts) (dones : List DoneLine) → ListsIn None jobs dones (account_of_lines ls) → ⊥
-  none_ended jobs dones it = subst (λ s. HoldsBy feeds.Ended s (account_of_lines ls).mark
+  pub none_ended : (jobs : List JobFacts) (done_lines : List DoneLine)
+      → ListsIn None jobs done_lines (account_of_lines ls) → ⊥
+  none_ended jobs done_lines it = subst (λ s. HoldsBy feeds.Ended s (account_of_lines ls).mark
       (account_of_lines ls).lines) it.2
       ended_keeps
 
   -- its jobs are those listed
   pub ended_jobs : (listed : Listed) → has_too_many (account_of_lines ls) ≡ false
-      → ListsIn (Some (listed.ratio, listed.version)) listed.jobs.items listed.dones.items (account_of_lines ls)
+      → ListsIn (Some (listed.ratio, listed.version)) listed.jobs.items listed.done_lines.items (account_of_lines ls)
       → IsEnded listed (account_of_lines ls)
   ended_jobs listed few it =
       let closes : Closes it.named =

@@ -21,7 +21,7 @@ pub record IsEnded (listed : Listed) (a : Account) : Type 0 where
   pub session_is : a.session ≡ Some session
   pub valid : IsValidSession session
   pub run : listed_instance listed ≡ instance_of session
-  pub among : StandAmong listed.jobs.items listed.dones.items
+  pub among : StandAmong listed.jobs.items listed.done_lines.items
 
 -- this is the fault of the feed, with the other job named where the ratio is broken, or the feed goes on and this says
 -- that it is short

@@ -42,7 +42,7 @@ use line_text::Spelled;
 use ready_server::RosterServer;
 use std::alloc::Global;
 use std::sync::ledger::Ledger;
-use step_count::Steps;
+use comparison_count::Comparisons;
 
 /// What is under way in a lane.
 #[derive(Clone, Copy)]
@@ -269,20 +269,20 @@ impl Lane {
     }
 
     #[inline(always)]
-    fn run<L: Ledger>(&mut self, to: Horizon, steps: &mut Steps<L>) -> Option<DueLine>
+    fn run<L: Ledger>(&mut self, to: Horizon, comparisons: &mut Comparisons<L>) -> Option<DueLine>
         requires work { self.old.work ≡ Run to }
         requires stands { (ls : List (List ℕ)) × (rest : List (List ℕ)) × Stands self.old ls rest }
         ensures gives { (ls rest : List (List ℕ)) → Stands self.old ls rest
             → Gives result self.new ls rest }
-        ensures paid { (start : ℕ) → HasPaid self.old.server start steps.old
-            → HasPaid self.new.server start steps.new }
+        ensures paid { (start : ℕ) → HasPaid self.old.server start comparisons.old
+            → HasPaid self.new.server start comparisons.new }
         ensures roster { (listed : Bool) → KeepsRoster self.old listed → KeepsRoster self.new listed }
     {
         RosterServer::laws();
         let Some(server) = &mut self.server else {
             unreachable!();
         };
-        match server.step(to, steps) {
+        match server.step(to, comparisons) {
             Some(event) => Some(DueLine::Step(event)),
             None => {
                 self.work = Work::Nothing;
@@ -309,13 +309,13 @@ impl Lane {
     }
 
     #[inline(always)]
-    fn admit<L: Ledger>(&mut self, job: Job, steps: &mut Steps<L>) -> Option<DueLine>
+    fn admit<L: Ledger>(&mut self, job: Job, comparisons: &mut Comparisons<L>) -> Option<DueLine>
         requires work { self.old.work ≡ Admit job }
         requires stands { (ls : List (List ℕ)) × (rest : List (List ℕ)) × Stands self.old ls rest }
         ensures gives { (ls rest : List (List ℕ)) → Stands self.old ls rest
             → Gives result self.new ls rest }
-        ensures paid { (start : ℕ) → HasPaid self.old.server start steps.old
-            → HasPaid self.new.server start steps.new }
+        ensures paid { (start : ℕ) → HasPaid self.old.server start comparisons.old
+            → HasPaid self.new.server start comparisons.new }
         ensures roster { (listed : Bool) → KeepsRoster self.old listed → KeepsRoster self.new listed }
     {
         RosterServer::laws();
@@ -323,7 +323,7 @@ impl Lane {
             unreachable!();
         };
         let release = Horizon::Mark(job.release());
-        if let Some(event) = server.step(release, steps) {
+        if let Some(event) = server.step(release, comparisons) {
             return Some(DueLine::Step(event));
         }
         if server.is_full() {
@@ -336,20 +336,20 @@ impl Lane {
     }
 
     #[inline(never)]
-    fn finish<L: Ledger>(&mut self, at: u64, number: u64, steps: &mut Steps<L>) -> Option<DueLine>
+    fn finish<L: Ledger>(&mut self, at: u64, number: u64, comparisons: &mut Comparisons<L>) -> Option<DueLine>
         requires work { self.old.work ≡ Finish at number }
         requires stands { (ls : List (List ℕ)) × (rest : List (List ℕ)) × Stands self.old ls rest }
         ensures gives { (ls rest : List (List ℕ)) → Stands self.old ls rest
             → Gives result self.new ls rest }
-        ensures paid { (start : ℕ) → HasPaid self.old.server start steps.old
-            → HasPaid self.new.server start steps.new }
+        ensures paid { (start : ℕ) → HasPaid self.old.server start comparisons.old
+            → HasPaid self.new.server start comparisons.new }
         ensures roster { (listed : Bool) → KeepsRoster self.old listed → KeepsRoster self.new listed }
     {
         RosterServer::laws();
         let Some(server) = &mut self.server else {
             unreachable!();
         };
-        if let Some(event) = server.step(Horizon::Mark(at), steps) {
+        if let Some(event) = server.step(Horizon::Mark(at), comparisons) {
             return Some(DueLine::Step(event));
         }
         match server.finish(at, number) {
@@ -370,12 +370,12 @@ impl Lane {
 
     /// The next line due. None exactly where all that is due was given.
     #[inline(always)]
-    pub fn next_out<L: Ledger>(&mut self, steps: &mut Steps<L>) -> Option<DueLine>
+    pub fn next_out<L: Ledger>(&mut self, comparisons: &mut Comparisons<L>) -> Option<DueLine>
         requires { (ls : List (List ℕ)) × (rest : List (List ℕ)) × Stands self.old ls rest }
         ensures gives { (ls rest : List (List ℕ)) → Stands self.old ls rest
             → Gives result self.new ls rest }
-        ensures paid { (start : ℕ) → HasPaid self.old.server start steps.old
-            → HasPaid self.new.server start steps.new }
+        ensures paid { (start : ℕ) → HasPaid self.old.server start comparisons.old
+            → HasPaid self.new.server start comparisons.new }
         ensures roster { (listed : Bool) → KeepsRoster self.old listed → KeepsRoster self.new listed }
     {
         match &self.work {
@@ -387,16 +387,16 @@ impl Lane {
             }
             Work::Run(to) => {
                 let to = *to;
-                self.run(to, steps)
+                self.run(to, comparisons)
             }
             Work::Admit(job) => {
                 let job = *job;
-                self.admit(job, steps)
+                self.admit(job, comparisons)
             }
             Work::Finish { at, number } => {
                 let at = *at;
                 let number = *number;
-                self.finish(at, number, steps)
+                self.finish(at, number, comparisons)
             }
         }
     }

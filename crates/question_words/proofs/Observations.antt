@@ -16,7 +16,7 @@ use Rattle.dover_model.specs.Finishes.{Finish, need}
 use Rattle.dover_model.specs.Fraction.{Fraction}
 use Rattle.dover_model.specs.Instance.{Instance, IsValid, total_value, IsInOrder}
 use Rattle.dover_model.specs.JobFacts.{JobFacts, IsJob, is_job}
-use Rattle.dover_model.specs.Observed.{observing, observed, end_state, hads}
+use Rattle.dover_model.specs.Observed.{observing, observed, end_state, served}
 use Rattle.dover_model.specs.Run.{Step, is_end, run, ran, event_of, printed_of}
 use Rattle.dover_model.specs.Schedules.{ticks_given, is_served, numbered}
 use Rattle.dover_model.specs.Sound.{IsMember, Each, IsNumberedFrom, Keeps, jobs_of}
@@ -356,7 +356,7 @@ module _ (J : Instance) (valid : IsValid J) where
       ))))
 
   module _ (done : List Bool) (flags : (n : ℕ) → n < length J.jobs → get_or done n false ≡ is_completed J n)
-      (hs : List ℕ) (are : hs ≡ hads J) (jobs : List JobFacts) (same : jobs ≡ J.jobs) where
+      (hs : List ℕ) (are : hs ≡ served J) (jobs : List JobFacts) (same : jobs ≡ J.jobs) where
     -- what each had
     had_here : (t : Task) → IsMember t last.tasks → get_or hs t.number 0 ≡ t.had
     had_here t member = ap (λ ns. get_or ns t.number 0)

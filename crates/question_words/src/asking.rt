@@ -22,7 +22,7 @@ use line_text::BackLine;
 use std::alloc::Global;
 use std::marker::PhantomData;
 use std::sync::ledger::Ledger;
-use step_count::Steps;
+use comparison_count::Comparisons;
 
 /// A question on the jobs of the feed that is read. Nothing is due before the answer.
 #[derive(Drop)]
@@ -38,20 +38,20 @@ fn answer<L: Ledger>(
     alloc: Global,
     question: Question,
     listed: Listed,
-    steps: &mut Steps<L>,
+    comparisons: &mut Comparisons<L>,
 ) -> Result<Answer, Memory>
     requires valid { IsValid (listed_instance listed) }
-    requires among { StandAmong listed.jobs.items listed.dones.items }
+    requires among { StandAmong listed.jobs.items listed.done_lines.items }
     ensures says { IfOk result
         (λ answer. says question (listed_instance listed) answer.status (text_of answer)) }
     ensures ends { IfOk result (λ answer. IsFinal answer.status) }
-    ensures count { CostsAtMost (length listed.jobs.items) steps.old steps.new }
+    ensures count { CostsAtMost (length listed.jobs.items) comparisons.old comparisons.new }
 {
     match question {
         Question::Feasible => feasible::answer(alloc, &listed),
-        Question::Best => best::answer(alloc, listed, steps),
-        Question::Compare => compare::answer(alloc, listed, steps),
-        Question::Loss => loss::answer(alloc, listed, steps),
+        Question::Best => best::answer(alloc, listed, comparisons),
+        Question::Compare => compare::answer(alloc, listed, comparisons),
+        Question::Loss => loss::answer(alloc, listed, comparisons),
     }
 }
 
@@ -67,7 +67,7 @@ fn refused(alloc: Global, why: NotListed) -> Answer
 }
 
 impl<L: Ledger> Talker for Asking<L> {
-    type Meter = Steps<L>;
+    type Meter = Comparisons<L>;
 
     ghost about = { Asked };
 
@@ -81,24 +81,24 @@ impl<L: Ledger> Talker for Asking<L> {
 
     fn laws() {}
 
-    fn take(&mut self, _meter: &mut Steps<L>, piece: &[u8]) -> Result<usize, Memory> {
+    fn take(&mut self, _meter: &mut Comparisons<L>, piece: &[u8]) -> Result<usize, Memory> {
         match self.reader.take(piece) {
             Ok(()) => Ok(piece.len()),
             Err(error) => Err(error),
         }
     }
 
-    fn next_part(&mut self, _meter: &mut Steps<L>, _part: &mut BackLine) -> bool {
+    fn next_part(&mut self, _meter: &mut Comparisons<L>, _part: &mut BackLine) -> bool {
         false
     }
 
-    fn goes_on(&self, _meter: &Steps<L>) -> bool {
+    fn goes_on(&self, _meter: &Comparisons<L>) -> bool {
         self.reader.goes_on()
     }
 
     fn answer<P: Port>(
         self,
-        meter: &mut Steps<L>,
+        meter: &mut Comparisons<L>,
         port: &mut P,
         out: &mut Output,
         _ended: bool,

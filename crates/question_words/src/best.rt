@@ -17,7 +17,7 @@ use event_feed::Listed;
 use line_text::BackLine;
 use std::alloc::Global;
 use std::sync::ledger::Ledger;
-use step_count::Steps;
+use comparison_count::Comparisons;
 
 /// The most jobs of which the best set is sought.
 const MOST_JOBS: usize = 20;
@@ -29,19 +29,19 @@ const MOST_JOBS: usize = 20;
 pub(crate) fn answer<L: Ledger>(
     alloc: Global,
     listed: Listed,
-    steps: &mut Steps<L>,
+    comparisons: &mut Comparisons<L>,
 ) -> Result<Answer, Memory>
     requires valid { IsValid (listed_instance listed) }
-    requires among { StandAmong listed.jobs.items listed.dones.items }
+    requires among { StandAmong listed.jobs.items listed.done_lines.items }
     ensures says { IfOk result (λ answer. SaysBest (listed_instance listed) answer.status (text_of answer)) }
     ensures ends { IfOk result (λ answer. IsFinal answer.status) }
-    ensures count { CostsAtMost (length listed.jobs.items) steps.old steps.new }
+    ensures count { CostsAtMost (length listed.jobs.items) comparisons.old comparisons.new }
 {
     if MOST_JOBS < listed.jobs.len() {
         return Ok(Answer::too_many(alloc));
     }
     let ratio = listed.ratio;
-    let (value, jobs) = observe(alloc, listed, steps)?;
+    let (value, jobs) = observe(alloc, listed, comparisons)?;
     // There are as many jobs as before.
     let Ok(best) = best(alloc, &jobs) else {
         return Err(Memory);

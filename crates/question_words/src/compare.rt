@@ -17,7 +17,7 @@ use line_text::BackLine;
 use policy_lab::{Dense, Edf, are_too_large, run_policy};
 use std::alloc::Global;
 use std::sync::ledger::Ledger;
-use step_count::Steps;
+use comparison_count::Comparisons;
 
 /// Compares the rules with the policies over the jobs, which these know as the run observed them, and says what came of
 /// it: the value that the run completes, what the schedules by earliest deadline and by greatest density are worth, and
@@ -26,19 +26,19 @@ use step_count::Steps;
 pub(crate) fn answer<L: Ledger>(
     alloc: Global,
     listed: Listed,
-    steps: &mut Steps<L>,
+    comparisons: &mut Comparisons<L>,
 ) -> Result<Answer, Memory>
     requires valid { IsValid (listed_instance listed) }
-    requires among { StandAmong listed.jobs.items listed.dones.items }
+    requires among { StandAmong listed.jobs.items listed.done_lines.items }
     ensures says { IfOk result (λ answer. SaysCompare (listed_instance listed) answer.status (text_of answer)) }
     ensures ends { IfOk result (λ answer. IsFinal answer.status) }
-    ensures count { CostsAtMost (length listed.jobs.items) steps.old steps.new }
+    ensures count { CostsAtMost (length listed.jobs.items) comparisons.old comparisons.new }
 {
     if are_too_large(&listed.jobs) {
         return Ok(Answer::too_many(alloc));
     }
     let ratio = listed.ratio;
-    let (dover, jobs) = observe(alloc, listed, steps)?;
+    let (dover, jobs) = observe(alloc, listed, comparisons)?;
     // There are as many jobs as before, and they are due as before.
     let Ok(edf) = run_policy(alloc, &Edf, &jobs) else {
         return Err(Memory);

@@ -11,7 +11,7 @@ use event_feed::Listed;
 use ready_server::{Watcher, run_list};
 use std::alloc::Global;
 use std::sync::ledger::Ledger;
-use step_count::Steps;
+use comparison_count::Comparisons;
 
 /// The value that the End of a run names, 0 before it.
 #[derive(Clone, Copy)]
@@ -41,11 +41,11 @@ impl Watcher for EndValue {
 pub(crate) fn completed<L: Ledger>(
     alloc: Global,
     listed: &Listed,
-    steps: &mut Steps<L>,
+    comparisons: &mut Comparisons<L>,
 ) -> Result<u64, Memory>
     requires { IsValid (bare_instance listed.now) }
     ensures value { IfOk result (λ value. value ≡ completed_value (bare_instance listed.now)) }
-    ensures count { CostsAtMost (length listed.now.jobs.items) steps.old steps.new }
+    ensures count { CostsAtMost (length listed.now.jobs.items) comparisons.old comparisons.new }
 {
     let mut jobs = listed.jobs.as_slice();
     let mut end = EndValue { value: 0 };
@@ -55,7 +55,7 @@ pub(crate) fn completed<L: Ledger>(
         listed.ratio,
         &mut jobs,
         &mut end,
-        steps,
+        comparisons,
     )?;
     Ok(end.value)
 }
@@ -132,13 +132,13 @@ impl Watcher for Completion {
 pub(crate) fn completed_jobs<L: Ledger>(
     alloc: Global,
     listed: &Listed,
-    steps: &mut Steps<L>,
+    comparisons: &mut Comparisons<L>,
 ) -> Result<Completion, Memory>
     requires { IsValid (bare_instance listed.now) }
     ensures value { IfOk result (λ it. it.value ≡ completed_value (bare_instance listed.now)) }
     ensures done { IfOk result (λ it. (n : ℕ) →
         get_or it.done.items n false ≡ is_completed (bare_instance listed.now) n) }
-    ensures count { CostsAtMost (length listed.now.jobs.items) steps.old steps.new }
+    ensures count { CostsAtMost (length listed.now.jobs.items) comparisons.old comparisons.new }
 {
     let mut jobs = listed.jobs.as_slice();
     let mut completion = Completion::none(alloc, jobs.len())?;
@@ -148,7 +148,7 @@ pub(crate) fn completed_jobs<L: Ledger>(
         listed.ratio,
         &mut jobs,
         &mut completion,
-        steps,
+        comparisons,
     )?;
     if completion.lost {
         return Err(Memory);

@@ -22,7 +22,7 @@ use event_feed::Listed;
 use line_text::BackLine;
 use std::alloc::Global;
 use std::sync::ledger::Ledger;
-use step_count::Steps;
+use comparison_count::Comparisons;
 
 /// The stretches, with what is done of the jobs inside.
 fn rows(
@@ -58,19 +58,19 @@ fn rows(
 pub(crate) fn answer<L: Ledger>(
     alloc: Global,
     listed: Listed,
-    steps: &mut Steps<L>,
+    comparisons: &mut Comparisons<L>,
 ) -> Result<Answer, Memory>
     requires valid { IsValid (listed_instance listed) }
-    requires among { StandAmong listed.jobs.items listed.dones.items }
+    requires among { StandAmong listed.jobs.items listed.done_lines.items }
     ensures says { IfOk result (λ answer. SaysLoss (listed_instance listed) answer.status (text_of answer)) }
     ensures ends { IfOk result (λ answer. IsFinal answer.status) }
-    ensures count { CostsAtMost (length listed.jobs.items) steps.old steps.new }
+    ensures count { CostsAtMost (length listed.jobs.items) comparisons.old comparisons.new }
 {
     if !is_listable(&listed) {
         return Ok(Answer::too_many(alloc));
     }
     let ratio = listed.ratio;
-    let (completed, jobs) = observe_each(alloc, listed, steps)?;
+    let (completed, jobs) = observe_each(alloc, listed, comparisons)?;
     let costed = cost_of(alloc, &jobs, completed.value)?;
     let rows = rows(alloc, &jobs, &costed.stretches, &completed.done)?;
     let mut head = BackLine::new();

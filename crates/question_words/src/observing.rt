@@ -13,7 +13,7 @@ use dover_model::{Job, Memory};
 use event_feed::Listed;
 use std::alloc::Global;
 use std::sync::ledger::Ledger;
-use step_count::Steps;
+use comparison_count::Comparisons;
 
 /// The value that the run completes, and the jobs as it observed them. Where no job can have finished early these are
 /// the listed ones.
@@ -24,20 +24,20 @@ use step_count::Steps;
 pub(crate) fn observe<L: Ledger>(
     alloc: Global,
     listed: Listed,
-    steps: &mut Steps<L>,
+    comparisons: &mut Comparisons<L>,
 ) -> Result<(u64, Vec<Job>), Memory>
     requires valid { IsValid (listed_instance listed) }
     requires listable { IsListable (listed_instance listed) }
-    requires among { StandAmong listed.jobs.items listed.dones.items }
+    requires among { StandAmong listed.jobs.items listed.done_lines.items }
     ensures value { IfOk result (λ it. it.0 ≡ completed_value (listed_instance listed)) }
     ensures jobs { IfOk result (λ it. it.1.items ≡ (observed (listed_instance listed)).jobs) }
-    ensures count { CostsAtMost (length listed.jobs.items) steps.old steps.new }
+    ensures count { CostsAtMost (length listed.jobs.items) comparisons.old comparisons.new }
 {
-    if listed.dones.is_empty() {
-        let value = completed(alloc, &listed, steps)?;
+    if listed.done_lines.is_empty() {
+        let value = completed(alloc, &listed, comparisons)?;
         return Ok((value, listed.jobs));
     }
-    let (completion, jobs) = replayed(alloc, &listed, steps)?;
+    let (completion, jobs) = replayed(alloc, &listed, comparisons)?;
     Ok((completion.value, jobs))
 }
 
@@ -49,20 +49,20 @@ pub(crate) fn observe<L: Ledger>(
 pub(crate) fn observe_each<L: Ledger>(
     alloc: Global,
     listed: Listed,
-    steps: &mut Steps<L>,
+    comparisons: &mut Comparisons<L>,
 ) -> Result<(Completion, Vec<Job>), Memory>
     requires valid { IsValid (listed_instance listed) }
     requires listable { IsListable (listed_instance listed) }
-    requires among { StandAmong listed.jobs.items listed.dones.items }
+    requires among { StandAmong listed.jobs.items listed.done_lines.items }
     ensures value { IfOk result (λ it. it.0.value ≡ completed_value (listed_instance listed)) }
     ensures done { IfOk result (λ it. (n : ℕ) →
         get_or it.0.done.items n false ≡ is_completed (listed_instance listed) n) }
     ensures jobs { IfOk result (λ it. it.1.items ≡ (observed (listed_instance listed)).jobs) }
-    ensures count { CostsAtMost (length listed.jobs.items) steps.old steps.new }
+    ensures count { CostsAtMost (length listed.jobs.items) comparisons.old comparisons.new }
 {
-    if listed.dones.is_empty() {
-        let completion = completed_jobs(alloc, &listed, steps)?;
+    if listed.done_lines.is_empty() {
+        let completion = completed_jobs(alloc, &listed, comparisons)?;
         return Ok((completion, listed.jobs));
     }
-    replayed(alloc, &listed, steps)
+    replayed(alloc, &listed, comparisons)
 }

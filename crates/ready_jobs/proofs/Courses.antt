@@ -52,7 +52,7 @@ use Rattle.ready_jobs.specs.Following.{PartOf, IsPart, SettlesTo}
 use Rattle.ready_jobs.specs.Course.{Course, Follows, IsCourse, new_course, course_of, fresh_job, with_release, Reached}
 use Rattle.ready_jobs.specs.Course.{Settled, ComesNext, Takes, IsDue, Finishes, RunsNowhere}
 use Rattle.ready_jobs.specs.Deeds.{Does, Finds, step_at}
-use Rattle.ready_jobs.specs.declared.deeds.Deed.{Deed}
+use Rattle.ready_jobs.specs.declared.actions.Action.{Action}
 use Rattle.waiting_pool.proofs.Reordering.{same_order, further, exchanged, as_many}
 use Rattle.waiting_pool.proofs.Pooling.{between}
 use Rattle.ready_jobs.specs.Changed.{Leaves, AreOnce, named}
@@ -75,7 +75,7 @@ some_jobs [] none other is = never (sym other ∙ is refl)
 some_jobs (t ∷ ts) none other is = omega arith
 
 -- the deed that comes now, at whose step the event is printed
-pub due_now : (c : Course) (at : ℕ) (deed : Deed) (e : Event) → at ≡ c.clock
+pub due_now : (c : Course) (at : ℕ) (deed : Action) (e : Event) → at ≡ c.clock
     → step_at c.clock deed ≡ open_step (under c.rules []) (state_at c.clock c.ready)
     → Finds (view c.rules.version (state_at c.clock c.ready)) deed → event_of (step_at at deed) ≡ Some e
     → IsDue c deed e
@@ -695,7 +695,7 @@ over_takes c none = record {
 }
 
 -- the deed that is due of the course is that of its jobs
-pub due_does : (k : Fraction) (p : Parted) (jobs done : ℕ) (deed : Deed) (e : Event)
+pub due_does : (k : Fraction) (p : Parted) (jobs done : ℕ) (deed : Action) (e : Event)
     → IsDue (course_of k p jobs done) deed e → Does p deed e
 due_does k p jobs done deed e due = record { prints = due.prints; next = (k, due.opens); finds = due.finds }
 

@@ -7,14 +7,14 @@ use Rattle.dover_model.specs.Step.{Move, Prints, Waits, Ticks}
 use Rattle.dover_model.specs.Run.{event_of}
 use Rattle.dover_model.proofs.Members.{some_same}
 use Rattle.dover_model.proofs.Tests.{none_is_some}
-use Rattle.ready_jobs.specs.declared.deeds.Deed.{Deed}
+use Rattle.ready_jobs.specs.declared.actions.Action.{Action}
 use Rattle.ready_jobs.specs.Parts.{Parted, ready_of}
 use Rattle.ready_jobs.specs.Changed.{IsNext, Leaves, printed}
 use Rattle.ready_jobs.specs.Deeds.{step_at, Does}
 use Rattle.ready_jobs.proofs.Naming.{same_event}
 
 -- the deed is this one, at whose step the event is printed
-module _ (p : Parted) (deed other : Deed) (is : deed ≡ other) (m e : Event) (step : step_at p.clock other ≡ Prints m)
+module _ (p : Parted) (deed other : Action) (is : deed ≡ other) (m e : Event) (step : step_at p.clock other ≡ Prints m)
     (does : Does p deed e) where
   pub does_print : m ≡ e
   does_print = same_event m e (sym step ∙ ap (step_at p.clock) (sym is) ∙ does.prints)

@@ -280,12 +280,13 @@ record Dues (s : State) (most n : ℕ) : Type 0 where
 
 dues : (s : State) (most : ℕ) → Dues s most (still_ticks most s)
 dues s most = record {
-  within = let low : n ≤ after_done = waits.within in let mid : after_done ≤ after_release = dones.within in
+  within = let low : n ≤ after_done = waits.within in let mid : after_done ≤ after_release = done_lines.within in
       let high : after_release ≤ most =
       comes.within in omega arith;
   release = λ c first ahead. let at : s.clock + after_release ≤ c.job.release = comes.before c first ahead in
-      let low : n ≤ after_done = waits.within in let mid : after_done ≤ after_release = dones.within in omega arith;
-  done = λ r runs. let at : after_done ≤ left r = dones.before r runs in let low : n ≤ after_done = waits.within in
+      let low : n ≤ after_done = waits.within in let mid : after_done
+          ≤ after_release = done_lines.within in omega arith;
+  done = λ r runs. let at : after_done ≤ left r = done_lines.before r runs in let low : n ≤ after_done = waits.within in
       omega arith;
   before = waits.before;
   reached = by_waits waits.reached;
@@ -302,8 +303,8 @@ dues s most = record {
   waits : UntilLatest s.clock after_done n (waiting s)
   waits = latest s.clock (waiting s) after_done
 
-  dones : UntilDone (running s) after_release after_done
-  dones = done_by (running s) after_release
+  done_lines : UntilDone (running s) after_release after_done
+  done_lines = done_by (running s) after_release
 
   comes : UntilRelease s.clock (find is_coming s.tasks) most after_release
   comes = release_by s.clock (find is_coming s.tasks) most
@@ -326,7 +327,7 @@ dues s most = record {
   by_waits : (n ≡ after_done) ⊎ Reaches s.clock n (waiting s) → n < most
       → ((c : Task) × (find is_coming s.tasks ≡ Some c) × (s.clock + n ≡ c.job.release))
       ⊎ (((r : Task) × (running s ≡ Some r) × (n ≡ left r)) ⊎ Reaches s.clock n (waiting s))
-  by_waits (inl same) less = by_dones same dones.reached less
+  by_waits (inl same) less = by_dones same done_lines.reached less
   by_waits (inr it) less = inr (inr it)
 
 -- ---- so many ticks on

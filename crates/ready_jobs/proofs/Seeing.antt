@@ -23,7 +23,7 @@ use Rattle.dover_model.proofs.Members.{reduce_none, filter_member, member_filter
 use Rattle.dover_model.proofs.Roles.{passes}
 use Rattle.dover_model.proofs.Tests.{none_is_some}
 use Rattle.ready_jobs.specs.Dues.{until_latest, until_done, still_ticks}
-use Rattle.held_queue.specs.Stack.{IsByDeadline, IsDueBeforeAll}
+use Rattle.held_stack.specs.Stack.{IsByDeadline, IsDueBeforeAll}
 use Rattle.waiting_pool.specs.Pools.{HaveOwnNumbers}
 use Rattle.ready_jobs.specs.Parts.{Parted, HaveRole, HaveRoles, ready_of, state_of, head_of}
 use Rattle.waiting_pool.proofs.Reordering.{first_is, first_only}

@@ -28,9 +28,9 @@ use Rattle.ready_jobs.proofs.Changes.{stays}
 use Rattle.dover_model.proofs.Tests.{none_is_some}
 use Rattle.dover_model.specs.declared.events.Event.TheVariants as event
 use Rattle.ready_jobs.specs.Deeds.{step_at}
-use Rattle.ready_jobs.specs.declared.deeds.Deed.{Deed}
-use Rattle.ready_jobs.specs.declared.deeds.Deed.TheVariants.{Resume, Start, Begin, Preempt, Take, Complete, Abandon}
-use Rattle.ready_jobs.specs.declared.deeds.Deed.TheVariants.{Wait, Tick}
+use Rattle.ready_jobs.specs.declared.actions.Action.{Action}
+use Rattle.ready_jobs.specs.declared.actions.Action.TheVariants.{Resume, Start, Begin, Preempt, Take, Complete, Abandon}
+use Rattle.ready_jobs.specs.declared.actions.Action.TheVariants.{Wait, Tick}
 use Rattle.ready_jobs.proofs.Jumping.{tick_still}
 use Rattle.ready_jobs.proofs.Naming.{waits_says, ticks_next}
 use Rattle.ready_jobs.proofs.Seeing.{seen_fresh, seen_running, seen_coming, waiting_list, late_none, late_later}
@@ -70,7 +70,7 @@ from_on k mark p q r version one next J z rules part =
 -- ---- the deed of a step
 
 -- that of a tick
-tick_only : (at : ℕ) (deed : Deed) → step_at at deed ≡ Ticks → deed ≡ Tick
+tick_only : (at : ℕ) (deed : Action) → step_at at deed ≡ Ticks → deed ≡ Tick
 tick_only at Tick is = refl
 tick_only at (Wait n) is = absurd (let clash : Waits n ≡ Ticks = is in cc)
 tick_only at (Resume n) is = absurd (let clash : Prints (event.Run at n) ≡ Ticks = is in cc)
@@ -82,7 +82,7 @@ tick_only at (Complete n) is = absurd (let clash : Prints (event.Complete at n) 
 tick_only at (Abandon n) is = absurd (let clash : Prints (event.Abandon at n) ≡ Ticks = is in cc)
 
 -- a silent one is a tick where no job is fresh
-pub stale_tick : (k : Fraction) (p : Parted) → HaveRoles p → p.fresh ≡ None → (deed : Deed)
+pub stale_tick : (k : Fraction) (p : Parted) → HaveRoles p → p.fresh ≡ None → (deed : Action)
     → step_at p.clock deed ≡ open_step (record { ratio = k; version = p.version; finishes = [] }) (state_of p)
     → IsSilent (step_at p.clock deed) → deed ≡ Tick
 stale_tick k p roles stale deed comes silent =
@@ -90,7 +90,7 @@ stale_tick k p roles stale deed comes silent =
     (step_at p.clock deed) (sym comes) silent)
 
 -- and where one is, all are printed but that it waits
-pub fresh_prints : (k : Fraction) (p : Parted) → HaveRoles p → (f : Task) → p.fresh ≡ Some f → (deed : Deed)
+pub fresh_prints : (k : Fraction) (p : Parted) → HaveRoles p → (f : Task) → p.fresh ≡ Some f → (deed : Action)
     → step_at p.clock deed ≡ open_step (record { ratio = k; version = p.version; finishes = [] }) (state_of p)
     → ((n : ℕ) → deed ≡ Wait n → ⊥) → IsSilent (step_at p.clock deed) → ⊥
 fresh_prints k p roles f is (Wait n) comes other silent = other n refl

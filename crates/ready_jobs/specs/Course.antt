@@ -23,7 +23,7 @@ use Rattle.waiting_pool.specs.Reordered.{IsReordered}
 use Rattle.ready_jobs.specs.Cases.{next_ready}
 use Rattle.ready_jobs.specs.Parts.{Parted, ready_of}
 use Rattle.ready_jobs.specs.Deeds.{Finds, step_at}
-use Rattle.ready_jobs.specs.declared.deeds.Deed.{Deed}
+use Rattle.ready_jobs.specs.declared.actions.Action.{Action}
 
 -- what is kept of a run: the clock, the jobs that aren't over, in no told order, how many there are in all, what those
 -- done are worth, and how many ready jobs there is room for
@@ -153,7 +153,7 @@ abbrev pub Runs : Course → (number : ℕ) → Type 0
 Runs c number = (J : Instance) (z : State) → Follows c J z → (r : Task) × (running z ≡ Some r) × (r.number ≡ number)
 
 -- the deed is the open step of the ready jobs, which prints e
-pub record IsDue (c : Course) (deed : Deed) (e : Event) : Type 0 where
+pub record IsDue (c : Course) (deed : Action) (e : Event) : Type 0 where
   pub prints : step_at c.clock deed ≡ Prints e
   pub opens : open_step (under c.rules []) (state_at c.clock c.ready) ≡ Prints e
   pub finds : Finds (view c.rules.version (state_at c.clock c.ready)) deed

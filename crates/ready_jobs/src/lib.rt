@@ -2,13 +2,13 @@
 #![tactic(auto)]
 
 mod applying;
-mod deeds;
+mod actions;
 mod held;
 mod parts;
 mod ready;
 mod settling;
 mod taking;
 
-pub use deeds::Deed;
+pub use actions::Action;
 pub use parts::Parts;
 pub use ready::{MOST_READY, Ready};

@@ -9,7 +9,7 @@ ghost use Rattle.waiting_pool.specs.Short.{no_number};
 use crate::held::pop;
 use dover_model::{Role, Task};
 use std::sync::ledger::Ledger;
-use step_count::Steps;
+use comparison_count::Comparisons;
 use waiting_pool::{Pool, ShortTask};
 
 // The job in another role.
@@ -26,7 +26,7 @@ pub(crate) fn in_role(t: &Task, role: Role) -> Task
 }
 
 // The held jobs wait in the pool.
-pub(crate) fn displace<L: Ledger>(held: &mut Vec<ShortTask>, pool: &mut Pool, steps: &mut Steps<L>)
+pub(crate) fn displace<L: Ledger>(held: &mut Vec<ShortTask>, pool: &mut Pool, comparisons: &mut Comparisons<L>)
     requires room { length held.old.items + length pool.old.tasks ≤ pool.old.room }
     requires numbers { Each (λ t. t.number < no_number) (reverse held.old.items) }
     ensures none { held.new.items ≡ [] }
@@ -34,9 +34,9 @@ pub(crate) fn displace<L: Ledger>(held: &mut Vec<ShortTask>, pool: &mut Pool, st
     ensures kept { pool.new ≡ record pool.old { tasks = pool.new.tasks } }
     ensures more { IsReordered (map made_wait (reverse held.old.items) ++ pool.old.tasks) pool.new.tasks }
     ensures count { (d : ℕ) → length held.old.items + length pool.old.tasks + 1 < 2 ^ d →
-        steps.new ≤ steps.old + 2 * d * length held.old.items }
+        comparisons.new ≤ comparisons.old + 2 * d * length held.old.items }
 {
     while let Some(t) = pop(held) {
-        pool.add(in_role(&t, Role::Waiting), steps);
+        pool.add(in_role(&t, Role::Waiting), comparisons);
     }
 }

@@ -26,7 +26,7 @@ use crate::server::ReadyServer;
 use dover_model::{Event, Horizon, Job, Memory, Ratio, Version};
 use std::alloc::Global;
 use std::sync::ledger::Ledger;
-use step_count::Steps;
+use comparison_count::Comparisons;
 
 /// A server that forgets each job as it is over, and keeps a roster of all jobs for a snapshot where one is asked for.
 /// The roster is kept up to the last mark, and not on the way to the end.
@@ -164,11 +164,11 @@ impl RosterServer {
 
     /// The next printed step of the run of the admitted jobs. At a mark it is None where none comes before the first
     /// decision at a latest start, or silent tick, at the mark or after it. At the end it is None where End was given
-    /// before. No memory is taken. Comparisons of jobs are counted in `steps`.
+    /// before. No memory is taken. Comparisons of jobs are counted in `comparisons`.
     ///
     /// A mark is a tick, at most 1,000,000,000,000. Marks never fall, and none comes behind `Horizon::End`.
     #[inline(always)]
-    pub fn step<L: Ledger>(&mut self, to: Horizon, steps: &mut Steps<L>) -> Option<Event>
+    pub fn step<L: Ledger>(&mut self, to: Horizon, comparisons: &mut Comparisons<L>) -> Option<Event>
         requires { (J : Instance) × (from : Horizon) × (events : List Event) × Serves self.old J from events
             × MayFollow from to }
         ensures gives { (J : Instance) (from : Horizon) (events : List Event) → Serves self.old J from events
@@ -176,10 +176,10 @@ impl RosterServer {
             → Gives (Serves self.new J to) (Rests self.new J to) (due_by J to) events result }
         ensures room { HasPlace self.old → HasPlace self.new }
         ensures place { HasPlaceUnlessFull self.old → HasPlaceUnlessFull self.new }
-        ensures paid { (start : ℕ) → HasPaid self.old start steps.old → HasPaid self.new start steps.new }
+        ensures paid { (start : ℕ) → HasPaid self.old start comparisons.old → HasPaid self.new start comparisons.new }
         ensures roster { has_roster self.new ≡ has_roster self.old }
     {
-        let Some(event) = self.server.step(to, steps) else {
+        let Some(event) = self.server.step(to, comparisons) else {
             return None;
         };
         match to {

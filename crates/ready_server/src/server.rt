@@ -28,7 +28,7 @@ use dover_model::{Event, Horizon, Job, Memory, Ratio, Version};
 use ready_jobs::{MOST_READY, Ready};
 use std::alloc::Global;
 use std::sync::ledger::Ledger;
-use step_count::Steps;
+use comparison_count::Comparisons;
 
 /// A server that keeps the jobs that are released and not over, and forgets each as it is over. However many come, it
 /// makes room for at most twice as many as are ready at once.
@@ -255,7 +255,7 @@ impl ReadyServer {
 
     // The next printed step before the barrier of the mark.
     #[inline(always)]
-    fn step_to<L: Ledger>(&mut self, mark: u64, steps: &mut Steps<L>) -> Option<Event>
+    fn step_to<L: Ledger>(&mut self, mark: u64, comparisons: &mut Comparisons<L>) -> Option<Event>
         requires { (J : Instance) × (from : Horizon) × (events : List Event) × Serves self.old J from events
             × MayFollow from (Mark mark) }
         ensures gives { (J : Instance) (from : Horizon) (events : List Event) → Serves self.old J from events
@@ -268,10 +268,10 @@ impl ReadyServer {
         ensures room { HasPlace self.old → HasPlace self.new }
         ensures place { HasPlaceUnlessFull self.old → HasPlaceUnlessFull self.new }
         ensures room_stays { self.new.ready.room ≡ self.old.ready.room }
-        ensures paid { (start : ℕ) → HasPaid self.old start steps.old → HasPaid self.new start steps.new }
-        ensures once { CostsOnce self.old result steps.old steps.new }
+        ensures paid { (start : ℕ) → HasPaid self.old start comparisons.old → HasPaid self.new start comparisons.new }
+        ensures once { CostsOnce self.old result comparisons.old comparisons.new }
     {
-        let Some(event) = self.ready.step(mark, steps) else {
+        let Some(event) = self.ready.step(mark, comparisons) else {
             return None;
         };
         self.last = self.ready.clock();
@@ -280,7 +280,7 @@ impl ReadyServer {
 
     // The next printed step of the run, where no further job comes.
     #[inline(never)]
-    fn step_on<L: Ledger>(&mut self, steps: &mut Steps<L>) -> Option<Event>
+    fn step_on<L: Ledger>(&mut self, comparisons: &mut Comparisons<L>) -> Option<Event>
         requires { (J : Instance) × (from : Horizon) × (events : List Event) × Serves self.old J from events }
         ensures gives { (J : Instance) (from : Horizon) (events : List Event) → Serves self.old J from events
             → Gives (Serves self.new J End) (Rests self.new J End) (due_by J End) events result }
@@ -290,13 +290,13 @@ impl ReadyServer {
         ensures room { HasPlace self.old → HasPlace self.new }
         ensures place { HasPlaceUnlessFull self.old → HasPlaceUnlessFull self.new }
         ensures room_stays { self.new.ready.room ≡ self.old.ready.room }
-        ensures paid { (start : ℕ) → HasPaid self.old start steps.old → HasPaid self.new start steps.new }
-        ensures once { CostsOnce self.old result steps.old steps.new }
+        ensures paid { (start : ℕ) → HasPaid self.old start comparisons.old → HasPaid self.new start comparisons.new }
+        ensures once { CostsOnce self.old result comparisons.old comparisons.new }
     {
         if self.ended {
             return None;
         }
-        let event = self.ready.step_on(steps);
+        let event = self.ready.step_on(comparisons);
         self.last = self.ready.clock();
         if is_end(&event) {
             self.ended = true;
@@ -307,11 +307,11 @@ impl ReadyServer {
 
     /// The next printed step of the run of the admitted jobs. At a mark it is None where none comes before the first
     /// decision at a latest start, or silent tick, at the mark or after it. At the end it is None where End was given
-    /// before. No memory is taken. Comparisons of jobs are counted in `steps`.
+    /// before. No memory is taken. Comparisons of jobs are counted in `comparisons`.
     ///
     /// A mark is a tick, at most 1,000,000,000,000. Marks never fall, and none comes behind `Horizon::End`.
     #[inline(always)]
-    pub fn step<L: Ledger>(&mut self, to: Horizon, steps: &mut Steps<L>) -> Option<Event>
+    pub fn step<L: Ledger>(&mut self, to: Horizon, comparisons: &mut Comparisons<L>) -> Option<Event>
         requires { (J : Instance) × (from : Horizon) × (events : List Event) × Serves self.old J from events
             × MayFollow from to }
         ensures gives { (J : Instance) (from : Horizon) (events : List Event) → Serves self.old J from events
@@ -323,12 +323,12 @@ impl ReadyServer {
         ensures room { HasPlace self.old → HasPlace self.new }
         ensures place { HasPlaceUnlessFull self.old → HasPlaceUnlessFull self.new }
         ensures room_stays { self.new.ready.room ≡ self.old.ready.room }
-        ensures paid { (start : ℕ) → HasPaid self.old start steps.old → HasPaid self.new start steps.new }
-        ensures once { CostsOnce self.old result steps.old steps.new }
+        ensures paid { (start : ℕ) → HasPaid self.old start comparisons.old → HasPaid self.new start comparisons.new }
+        ensures once { CostsOnce self.old result comparisons.old comparisons.new }
     {
         match to {
-            Horizon::Mark(mark) => self.step_to(mark, steps),
-            Horizon::End => self.step_on(steps),
+            Horizon::Mark(mark) => self.step_to(mark, comparisons),
+            Horizon::End => self.step_on(comparisons),
         }
     }
 

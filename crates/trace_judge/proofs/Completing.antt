@@ -38,7 +38,7 @@ use Rattle.line_text.specs.declared.traces.lines.TraceLine.TheVariants.{Step as 
 use Rattle.line_text.specs.traces.Form.{HasForm}
 use Rattle.ready_jobs.specs.Course.{Course, Follows, Finishes, Runs, RunsNowhere}
 use Rattle.trace_judge.specs.Reading.{completion_text}
-use Rattle.trace_judge.specs.declared.stage.Stage.TheVariants.{Going}
+use Rattle.trace_judge.specs.declared.stage.TraceStage.TheVariants.{Going}
 use Rattle.trace_judge.specs.Reads.{Reading, Goes, ReadsAhead, Reads, StaysAhead, IsReader, HasSpare, Took}
 use Rattle.trace_judge.specs.Reads.{Followed, Waited, at_tick, CanComplete, MayNotComplete}
 use Rattle.trace_judge.proofs.Continuing.{sees_completion}

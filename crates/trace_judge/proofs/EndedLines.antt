@@ -9,7 +9,7 @@ use Rattle.dover_model.specs.Verdict as model
 use Rattle.dover_model.proofs.Tests.{never}
 use Rattle.line_text.specs.Cutting as cutting
 use Rattle.line_text.specs.Cutting.{HasCut}
-use Rattle.line_text.specs.declared.cutting.Step.TheVariants.{Line}
+use Rattle.line_text.specs.declared.cutting.ByteEffect.TheVariants.{Line}
 use Rattle.trace_judge.proofs.Texts.{wrong_line}
 use Rattle.trace_judge.specs.declared.judge.Found.TheVariants.{Good}
 use Rattle.trace_judge.specs.Reads.{Reading, Reads, Took, IsUnchangedFor, job_lines_in}

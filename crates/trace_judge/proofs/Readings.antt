@@ -17,8 +17,8 @@ use Rattle.dover_model.proofs.Leading.{idles_append}
 use Rattle.trace_judge.specs.Reading.{HasRoom}
 use Rattle.admission.specs.Kept as admission
 use Rattle.trace_judge.proofs.Seeing.{sees_expects}
-use Rattle.trace_judge.specs.declared.stage.Stage.{Stage}
-use Rattle.trace_judge.specs.declared.stage.Stage.TheVariants.{Opening, Going, Ended}
+use Rattle.trace_judge.specs.declared.stage.TraceStage.{TraceStage}
+use Rattle.trace_judge.specs.declared.stage.TraceStage.TheVariants.{Opening, Going, Ended}
 use Rattle.ready_jobs.specs.Course.{Course, Follows, GoesOnFrom}
 use Rattle.trace_judge.specs.Reads.{Reading, Opens, Goes, Ends, ReadsAhead, Reads, StaysAhead, HasSpare, IsReader}
 use Rattle.trace_judge.specs.Reads.{IsUnchangedFor}
@@ -52,7 +52,7 @@ unchanged_on old new same jobs =
 -- ---- by the stage
 
 -- what is read by a stage
-abbrev pub AheadBy : Stage → Reading → List (List ℕ) → Type 0
+abbrev pub AheadBy : TraceStage → Reading → List (List ℕ) → Type 0
 AheadBy stage r ls = elim stage [
   | Opening ↦ Opens r ls
   | Going ↦ (S : Session) × (z : State) × (y : State) × Goes r ls S z y
@@ -60,7 +60,7 @@ AheadBy stage r ls = elim stage [
 ]
 
 -- the same, where the run hasn't gone on
-abbrev pub HereBy : Stage → Reading → List (List ℕ) → Type 0
+abbrev pub HereBy : TraceStage → Reading → List (List ℕ) → Type 0
 HereBy stage r ls = elim stage [
   | Opening ↦ Opens r ls
   | Going ↦ (S : Session) × (z : State) × Goes r ls S z z
@@ -92,7 +92,7 @@ module _ (r : Reading) (ls : List (List ℕ)) where
   -- what is kept of lines is kept as well of a run that may have gone on
   pub reads_ahead : Reads r ls → ReadsAhead r ls
   reads_ahead reads = by_stage r.stage reads where
-    by_stage : (s : Stage) → HereBy s r ls → AheadBy s r ls
+    by_stage : (s : TraceStage) → HereBy s r ls → AheadBy s r ls
     by_stage Opening opens = opens
     by_stage Going it = (it.0, it.1, it.1, it.2)
     by_stage Ended it = it
@@ -299,7 +299,7 @@ module _ (r : Reading) (ready spare room : ℕ) (ls : List (List ℕ)) where
 
   pub room_ahead : ReadsAhead r ls → ReadsAhead (with_room r ready spare room) ls
   room_ahead reads = by_stage r.stage reads where
-    by_stage : (s : Stage) → AheadBy s r ls → AheadBy s (with_room r ready spare room) ls
+    by_stage : (s : TraceStage) → AheadBy s r ls → AheadBy s (with_room r ready spare room) ls
     by_stage Opening it = room_opens it
     by_stage Going it = (it.0, it.1, it.2, room_goes it.0 it.1 it.2 it.3)
     by_stage Ended it = (it.0, room_ends it.0 it.1)

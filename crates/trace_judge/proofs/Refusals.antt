@@ -26,7 +26,7 @@ use Rattle.trace_judge.specs.Reading.{MayRefuse}
 use Rattle.trace_judge.proofs.Continuing.{sees_refused, sees_idles}
 use Rattle.trace_judge.proofs.Naming.{item_named}
 use Rattle.trace_judge.proofs.Only.{only_refused}
-use Rattle.trace_judge.specs.declared.stage.Stage.TheVariants.{Going}
+use Rattle.trace_judge.specs.declared.stage.TraceStage.TheVariants.{Going}
 use Rattle.ready_jobs.specs.Course.{Follows}
 use Rattle.trace_judge.specs.Reads.{Reading, Goes, StaysAhead, IsReader, Took, Waited, at_tick}
 use Rattle.trace_judge.specs.Reads.{refusal_if_full}

@@ -28,7 +28,7 @@ use Rattle.dover_model.specs.Ready.{with_fresh}
 use Rattle.trace_judge.proofs.Continuing.{sees_release}
 use Rattle.trace_judge.proofs.Seeing.{sees_keeps, sees_rest}
 use Rattle.trace_judge.proofs.Only.{only_release}
-use Rattle.trace_judge.specs.declared.stage.Stage.TheVariants.{Going}
+use Rattle.trace_judge.specs.declared.stage.TraceStage.TheVariants.{Going}
 use Rattle.ready_jobs.specs.Course.{Course, Follows, IsCourse, with_release, fresh_job}
 use Rattle.waiting_pool.specs.Reordered.{IsReordered}
 use Rattle.waiting_pool.proofs.Reordering.{as_many}

@@ -37,7 +37,7 @@ use Rattle.trace_judge.proofs.Seeing.{sees_next}
 use Rattle.trace_judge.proofs.Continuing.{sees_step, sees_header}
 use Rattle.trace_judge.proofs.Finishing.{ended_run, ended_trace, ended_value}
 use Rattle.trace_judge.proofs.Only.{only_headers, only_step}
-use Rattle.trace_judge.specs.declared.stage.Stage.TheVariants.{Opening, Going, Ended}
+use Rattle.trace_judge.specs.declared.stage.TraceStage.TheVariants.{Opening, Going, Ended}
 use Rattle.ready_jobs.specs.Course.{Course, Follows, Settled, GoesOnFrom}
 use Rattle.trace_judge.specs.Reads.{Reading, Opens, Goes, Ends, ReadsAhead, Reads, StaysAhead, HasSpare, IsReader}
 use Rattle.trace_judge.specs.Reads.{kept_steps, Took, Followed, Waited, at_tick}

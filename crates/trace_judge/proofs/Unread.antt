@@ -31,8 +31,8 @@ use Rattle.trace_judge.specs.Reading.{Sees, IsReleaseNext, IsRefusedNext, IsComp
 use Rattle.trace_judge.proofs.Naming.{header_named, header_line, header_text, header_form}
 use Rattle.trace_judge.proofs.Only.{only_headers, only_step, continues_only}
 use Rattle.trace_judge.proofs.Seeing.{sees_some_next}
-use Rattle.trace_judge.specs.declared.stage.Stage.{Stage}
-use Rattle.trace_judge.specs.declared.stage.Stage.TheVariants.{Opening, Going, Ended}
+use Rattle.trace_judge.specs.declared.stage.TraceStage.{TraceStage}
+use Rattle.trace_judge.specs.declared.stage.TraceStage.TheVariants.{Opening, Going, Ended}
 use Rattle.trace_judge.specs.Reads.{Reading, Goes, Ends, Reads, Took, jobs_in, job_lines_in, is_job_item}
 use Rattle.trace_judge.proofs.Forms.{one_form, next_form}
 use Rattle.trace_judge.proofs.Readings.{HereBy, ends_of, reads_ahead}
@@ -141,7 +141,7 @@ unread_fails w l none ls reads = by_stage w.stage reads where
   by_line S z goes e y next (inr (inr (inr it))) =
       let form = completion_form ls S w.floor z l goes.sees it in none form.0 form.1 form.2
 
-  by_stage : (s : Stage) → HereBy s w ls → begins_trace (ls ++ l ∷ []) ≡ true → ⊥
+  by_stage : (s : TraceStage) → HereBy s w ls → begins_trace (ls ++ l ∷ []) ≡ true → ⊥
   by_stage Opening opens passes =
       let it : (rules : Declaration) × IsRatio rules.ratio × IsDeclarable rules × (l ≡ header rules) =
       only_headers l (subst (λ xs. begins_trace (xs ++ l ∷ []) ≡ true) opens.lines passes) in

@@ -17,7 +17,7 @@ use Rattle.dover_model.specs.Lines.{whole_lines}
 use Rattle.dover_model.specs.Verdict as model
 use Rattle.line_text.specs.Cutting as cutting
 use Rattle.line_text.specs.Cutting.{Cutting}
-use Rattle.line_text.specs.declared.cutting.Step.{Step}
+use Rattle.line_text.specs.declared.cutting.ByteEffect.{ByteEffect}
 use Rattle.trace_judge.specs.declared.verdict.Verdict.{Verdict}
 use Rattle.trace_judge.specs.declared.verdict.Verdict.TheVariants.{Accepted, Wrong, Short}
 use Rattle.trace_judge.specs.declared.judge.Found.{Found}
@@ -89,7 +89,7 @@ Notes old new (Ok false) = Misses old new old.lines.count
 Notes old new (Err e) = new ≡ record old { found = NoMemory }
 
 -- no line before the last byte was wrong, and this is kept of the bytes before it and cut with it
-pub record IsCut (j : Judged) (step : Step) (before text : List ℕ) : Type 0 where
+pub record IsCut (j : Judged) (step : ByteEffect) (before text : List ℕ) : Type 0 where
   pub cut : cutting.StandsFor j.lines text
   pub last : j.lines.last ≡ step
   pub parts : cutting.HasCut step j.lines.line before text

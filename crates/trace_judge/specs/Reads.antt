@@ -26,8 +26,8 @@ use Rattle.line_text.specs.declared.traces.lines.TraceLine.{TraceLine}
 use Rattle.line_text.specs.declared.traces.lines.TraceLine.TheVariants as format
 use Rattle.dover_model.specs.Leading.{Idles, GoesOn, WaitsUntil}
 use Rattle.trace_judge.specs.Reading.{Sees, HasRoom, MayRelease, MayComplete}
-use Rattle.trace_judge.specs.declared.stage.Stage.{Stage}
-use Rattle.trace_judge.specs.declared.stage.Stage.TheVariants.{Opening, Going, Ended}
+use Rattle.trace_judge.specs.declared.stage.TraceStage.{TraceStage}
+use Rattle.trace_judge.specs.declared.stage.TraceStage.TheVariants.{Opening, Going, Ended}
 use Rattle.trace_judge.specs.declared.verdict.Expected.{Expected}
 use Rattle.trace_judge.specs.declared.verdict.Expected.TheVariants.{Header, Step as Due, Nothing}
 use Rattle.ready_jobs.specs.Course.{Course, Follows, new_course}
@@ -37,7 +37,7 @@ use Rattle.ready_jobs.specs.Spending.{HasPaidSince}
 -- floor, the steps where they are asked for, for how many jobs more there is room, and for how many steps in all, how
 -- many lines were refused, and the tick of the last printed step
 pub record Reading : Type 0 where
-  pub stage : Stage
+  pub stage : TraceStage
   pub course : Course
   pub kept : admission.Kept
   pub items : ℕ

@@ -11,14 +11,14 @@ ghost use Rattle.trial_words.specs.Record.{Writes};
 ghost use Rattle.dover_model.specs.Spending.{CostsAtMost};
 
 use crate::drawn::Drawn;
-use crate::tally::Tally;
+use crate::tally::RunTally;
 use dover_model::{Ratio, Version};
 use dover_port::{Port, Status, put_all};
 use ready_server::run_list;
 use stated_jobs::trial::Gen;
 use std::alloc::Global;
 use std::sync::ledger::Ledger;
-use step_count::Steps;
+use comparison_count::Comparisons;
 
 /// Serves the stated jobs of a seed, and writes the summary of their run: the jobs, those that were completed and
 /// abandoned with their values, the takes, and the bound on the value of every schedule. Nothing is read. The seed is
@@ -30,7 +30,7 @@ pub fn trial_word<P: Port, L: Ledger>(
     seed: u32,
     count: u32,
     k: Ratio,
-    steps: &mut Steps<L>,
+    comparisons: &mut Comparisons<L>,
 ) -> Status
     requires seed { seed < 2 ^ 31 }
     requires count { count ≤ most_jobs Two }
@@ -41,13 +41,13 @@ pub fn trial_word<P: Port, L: Ledger>(
     ensures causes { Causes result (P.read_faults port.old) (P.read_faults port.new) (P.write_faults port.old)
         (P.write_faults port.new) }
     ensures stops { StopsWith result (P.calls port.old) (P.calls port.new) }
-    ensures count { CostsAtMost count steps.old steps.new }
+    ensures count { CostsAtMost count comparisons.old comparisons.new }
 {
     // That the numbers of a ratio are within its limits is what reading one of them tells.
     let _ = k.p();
     let mut jobs = Drawn(Gen::new(seed, count, k));
-    let mut tally = Tally::new();
-    let Ok(()) = run_list::<Drawn, Tally, L>(alloc, Version::One, k, &mut jobs, &mut tally, steps)
+    let mut tally = RunTally::new();
+    let Ok(()) = run_list::<Drawn, RunTally, L>(alloc, Version::One, k, &mut jobs, &mut tally, comparisons)
     else {
         return Status::Memory;
     };

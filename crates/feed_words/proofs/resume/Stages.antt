@@ -38,8 +38,8 @@ use Rattle.feed_words.specs.resume.Record.{is_part, IsFrugalFor, refused_text}
 use Rattle.feed_words.specs.resume.Talk.{Asked, feed_of, behind_snapshot, goes_by, due_by, HasBegun, LacksBy}
 use Rattle.feed_words.specs.resume.Keeping.{IsPast}
 use Rattle.feed_words.specs.resume.Keeping.{IsOpen, IsStopped, IsGiving, IsServedOn}
-use Rattle.feed_words.specs.declared.resume.resuming.Stage.{Stage}
-use Rattle.feed_words.specs.declared.resume.resuming.Stage.TheVariants as stage
+use Rattle.feed_words.specs.declared.resume.resuming.SnapshotStage.{SnapshotStage}
+use Rattle.feed_words.specs.declared.resume.resuming.SnapshotStage.TheVariants as stage
 use Rattle.feed_words.specs.resume.Talk.{IsAnsweredBy, resume_talk}
 use Rattle.feed_words.specs.declared.resume.opening.Opening.{Opening}
 use Rattle.feed_words.proofs.resume.Bounds.{next_number}
@@ -230,7 +230,7 @@ module _ (a : Asked) (y : List ℕ) (it : IsOpened y) where
   -- it was read, and its feed goes on
   pub whole_took : {L : Type 0} (o : Opening) (x : List ℕ) → OpeningStands o x → (E : Type 0) → E
       → (piece : List ℕ) (n : ℕ) → 0 < n → n ≤ length piece → y ≡ x ++ take n piece
-      → (s : Stage L) (reader : Option Resuming) (now : ℕ) → IsServedOn s reader (lines_of y)
+      → (s : SnapshotStage L) (reader : Option Resuming) (now : ℕ) → IsServedOn s reader (lines_of y)
       → HasSpentOn reader a.start now → Takes (resume_talk a) (λ z parts. E × IsGiving a s now z parts) x piece n
   whole_took o x was E e piece n some fits is (stage.Opening p) reader now gone spent = absurd gone
   whole_took o x was E e piece n some fits is (stage.Refused at) reader now gone spent = absurd gone

@@ -13,9 +13,9 @@ use Rattle.dover_model.specs.Step.{with_role}
 use Rattle.dover_model.proofs.RoleChanges.{with_role_at}
 use Rattle.dover_model.proofs.Tests.{never}
 use Rattle.dover_model.proofs.Members.{some_same, member_filter}
-use Rattle.held_queue.specs.Stack.{put_in, held_entries, by_deadline}
+use Rattle.held_stack.specs.Stack.{put_in, held_entries, by_deadline}
 use Rattle.dover_model.specs.State.{is_held}
-use Rattle.held_queue.proofs.Deadlines.{member_sorted}
+use Rattle.held_stack.proofs.Deadlines.{member_sorted}
 
 -- t is the one of number n in tasks, and has another role in changed
 pub record Changes (n : ℕ) (role : Role) (tasks changed : List Task) : Type 0 where

@@ -8,7 +8,7 @@ use Rattle.dover_model.specs.Entries.{entry_of}
 use Rattle.dover_model.specs.Sound.{IsMember, Each, NoneRuns}
 use Rattle.dover_model.specs.State.{State}
 use Rattle.dover_model.specs.Step.{Move, Prints, Waits, Ticks, after}
-use Rattle.held_queue.specs.Stack.{IsByDeadline, held_entries}
+use Rattle.held_stack.specs.Stack.{IsByDeadline, held_entries}
 use Rattle.run_record.specs.ledger.Pages.{Page, nobody, turn_at, with_event, room_on, IsReadable}
 use Rattle.run_record.specs.ledger.Rooms.{room_before}
 

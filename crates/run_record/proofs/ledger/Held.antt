@@ -11,8 +11,8 @@ use Rattle.dover_model.proofs.Roles.{is_running_role, is_held_role}
 use Rattle.dover_model.specs.declared.events.Entry.{Entry}
 use Rattle.dover_model.specs.Entries.{entry_of, room_of}
 use Rattle.dover_model.proofs.Members.{sum_map, sum_filter, sum_le, some_same}
-use Rattle.held_queue.specs.Stack.{value_of, held_entries, put_in, by_deadline, top_of}
-use Rattle.held_queue.proofs.Deadlines.{sum_sorted, room_sorted, room_map}
+use Rattle.held_stack.specs.Stack.{value_of, held_entries, put_in, by_deadline, top_of}
+use Rattle.held_stack.proofs.Deadlines.{sum_sorted, room_sorted, room_map}
 use Rattle.dover_model.specs.Sound.{Each, IsMember}
 use Rattle.run_record.proofs.ledger.Changing.{put_first, entries_later}
 use Rattle.dover_model.proofs.Tests.{none_is_some}

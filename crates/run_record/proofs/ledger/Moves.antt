@@ -25,7 +25,7 @@ use Rattle.dover_model.proofs.Roles.{one_number, passes, is_held_role, is_runnin
 use Rattle.dover_model.proofs.Roles.{numbered_map}
 use Rattle.dover_model.proofs.Tests.{never}
 use Rattle.dover_model.proofs.Ticking.{Quiet}
-use Rattle.held_queue.specs.Stack.{Stack, top_of, popped, IsByDeadline, held_entries}
+use Rattle.held_stack.specs.Stack.{Stack, top_of, popped, IsByDeadline, held_entries}
 use Rattle.dover_model.proofs.RoleChanges.{with_role_at, all_displaced, displaced_same}
 use Rattle.run_record.proofs.ledger.Changing.{entries_later}
 use Rattle.run_record.proofs.ledger.Held.{busy_room, held_value, value_room}

@@ -15,7 +15,7 @@ use Rattle.dover_model.specs.declared.events.Event.TheVariants.{End}
 use Rattle.dover_model.specs.declared.events.Task.{Task}
 use Rattle.dover_model.specs.Entries.{entry_of}
 use Rattle.dover_model.specs.JobFacts.{JobFacts}
-use Rattle.dover_model.specs.Observed.{end_state, hads}
+use Rattle.dover_model.specs.Observed.{end_state, served}
 use Rattle.dover_model.specs.Sound.{IsMember, Each, IsNumberedFrom, jobs_of, Keeps}
 use Rattle.dover_model.specs.State.{State, opening, to_come, is_done, is_over, is_held, value_sum}
 use Rattle.dover_model.specs.Step.{Move, Prints, Waits, Ticks, step, after, ending, ◌or_else◌}
@@ -29,7 +29,7 @@ use Rattle.dover_model.proofs.Tests.{never}
 use Rattle.run_record.specs.intervals.Rows.{IsRunOf}
 use Rattle.run_record.proofs.intervals.Charges.{item_next}
 use Rattle.run_record.proofs.intervals.Reading.{one_of_two}
-use Rattle.held_queue.specs.Stack.{by_deadline}
+use Rattle.held_stack.specs.Stack.{by_deadline}
 use Rattle.dover_model.proofs.Runs.{some_printed}
 use Rattle.run_record.specs.ledger.Pages.{Page, nobody, empty, with_event, room_on, IsReadable, had_in}
 use Rattle.run_record.specs.ledger.Rooms.{room_of_step}
@@ -310,7 +310,7 @@ module _ (k : Fraction) (steps : List Event) (J : Instance) (of : IsRunOf k step
 
   -- where all is read, the jobs had what they have at the end
   pub had_at_end : (p : Page) (jobs : List JobFacts) (i : ℕ) → length steps ≤ i → jobs ≡ J.jobs
-      → IsBehind J p (drop i steps) → map (had_in p.entries) (enumerate_from 0 jobs) ≡ hads J
+      → IsBehind J p (drop i steps) → map (had_in p.entries) (enumerate_from 0 jobs) ≡ served J
   had_at_end p jobs i past same behind =
       let it = end_stored J of.valid of.listable p behind.0
       (subst (λ es. Reads J p es behind.0) (drop_all i steps past) behind.1) in

@@ -8,7 +8,7 @@ use Rattle.dover_model.specs.declared.events.Event.TheVariants.{Release, Run, Pr
 use Rattle.dover_model.specs.Entries.{room_of}
 use Rattle.dover_model.specs.JobFacts.{JobFacts}
 use Rattle.dover_model.specs.Sound.{Each}
-use Rattle.held_queue.specs.Stack.{Stack, top_of, value_of, popped}
+use Rattle.held_stack.specs.Stack.{Stack, top_of, value_of, popped}
 
 -- the jobs by number, as they were when they last had the processor; the one that runs, as it was at a tick; and the
 -- held ones

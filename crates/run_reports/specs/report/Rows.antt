@@ -87,9 +87,9 @@ pub record Table : Type 0 where
 
 -- what is left of a table, where so many steps are behind and release so many jobs
 abbrev pub rows_left : List Event → Bool → List ℕ → List ℕ → (next number : ℕ) → Table
-rows_left run early hads places next number = record {
+rows_left run early served places next number = record {
   names = names_line early;
-  rows = rows_of_steps (λ n. ending_at run (slice_index_or places n 0)) (had_at early hads) number (drop next run);
+  rows = rows_of_steps (λ n. ending_at run (slice_index_or places n 0)) (had_at early served) number (drop next run);
 }
 
 -- the next release behind so many steps is of this job, and so many steps are behind after it; or there is none

@@ -11,7 +11,7 @@ ghost use Rattle.run_reports.specs.report.Rows.{after_commas, ending_fields, had
 ghost use Rattle.run_reports.specs.report.Rows.{FindsNext, GivesRow};
 
 use crate::report::counts::releases;
-use crate::report::early::{had_at, hads_where};
+use crate::report::early::{had_at, served_where};
 use crate::report::endings::{Ending, ending_at, endings};
 use dover_model::{Event, Job, Memory, PackedEvent, Version};
 use line_text::BackLine;
@@ -23,7 +23,7 @@ use std::marker::Model;
 pub struct TableRows {
     run: Vec<PackedEvent>,
     early: bool,
-    hads: Vec<u64>,
+    served: Vec<u64>,
     places: Vec<usize>,
     // How many steps are behind, and how many jobs they release.
     next: usize,
@@ -36,7 +36,7 @@ impl Model for TableRows {
 
     ghost Value = { Table };
 
-    ghost view = { λ t. rows_left t.run.items t.early t.hads.items t.places.items t.next t.number };
+    ghost view = { λ t. rows_left t.run.items t.early t.served.items t.places.items t.next t.number };
 
     ghost invariant = { λ t. (t.number ≤ t.next) × (t.next ≤ length t.run.items) };
 }
@@ -51,12 +51,12 @@ impl TableRows {
             → IfOk result (λ t. t.names ++ in_lines t.rows ≡ table J) }
     {
         let early = version.may_finish_early();
-        let hads = hads_where(alloc, early, &run)?;
+        let served = served_where(alloc, early, &run)?;
         let places = endings(alloc, &run, releases(&run))?;
         Ok(TableRows {
             run,
             early,
-            hads,
+            served,
             places,
             next: 0,
             number: 0,
@@ -81,7 +81,7 @@ impl TableRows {
             return false;
         };
         let ending = ending_at(&self.run, place_at(&self.places, self.number));
-        let had = had_at(self.early, &self.hads, self.number);
+        let had = had_at(self.early, &self.served, self.number);
         line.clear();
         write_row(line, self.number as u64, &job, ending, had);
         self.next = next;

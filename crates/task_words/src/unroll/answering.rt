@@ -17,7 +17,7 @@ use dialogue::Stop;
 use dover_port::{Output, Port, Status};
 use std::alloc::Global;
 use std::sync::ledger::Ledger;
-use step_count::Steps;
+use comparison_count::Comparisons;
 
 /// Puts the feed of the jobs that the tasks release before a tick, or that it would be too large.
 pub(crate) fn answer<P: Port, L: Ledger>(
@@ -26,7 +26,7 @@ pub(crate) fn answer<P: Port, L: Ledger>(
     out: &mut Output,
     listed: ListedTasks,
     until: u64,
-    steps: &mut Steps<L>,
+    comparisons: &mut Comparisons<L>,
 ) -> Result<Status, Stop>
     requires empty { out.old ≡ [] }
     requires known { IsKnown until }
@@ -35,7 +35,7 @@ pub(crate) fn answer<P: Port, L: Ledger>(
     requires are { AreTasks until (listed_rules listed).ratio listed.tasks.items }
     ensures says { SaysBy (Says until (listed_rules listed) listed.tasks.items)
         (P.moves port.old) (P.moves port.new) out.new result }
-    ensures count { UnrollsAtMost until listed.tasks.items steps.old steps.new }
+    ensures count { UnrollsAtMost until listed.tasks.items comparisons.old comparisons.new }
     ensures cause { StopCause result
         (P.write_faults port.old) (P.write_faults port.new) (P.read_faults port.old) (P.read_faults port.new) }
     ensures stops { StopsOn result (P.calls port.old) (P.calls port.new) }
@@ -47,10 +47,10 @@ pub(crate) fn answer<P: Port, L: Ledger>(
         }
     }
     let rules = (listed.ratio, listed.version);
-    let Ok(mut unrolling) = Unrolling::new(alloc, listed.tasks, until, steps) else {
+    let Ok(mut unrolling) = Unrolling::new(alloc, listed.tasks, until, comparisons) else {
         return Err(Stop::NoMemory);
     };
-    match put_feed(port, out, rules, &mut unrolling, steps) {
+    match put_feed(port, out, rules, &mut unrolling, comparisons) {
         Ok(()) => Ok(Status::Done),
         Err(_) => Err(Stop::Unwritten),
     }

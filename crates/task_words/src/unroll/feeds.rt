@@ -18,7 +18,7 @@ use dover_model::{Ratio, Version};
 use dover_port::{Failed, Output, Port};
 use line_text::feeds::FeedLine;
 use std::sync::ledger::Ledger;
-use step_count::Steps;
+use comparison_count::Comparisons;
 
 /// More jobs than a feed has.
 const MORE_JOBS: u32 = 1_000_001;
@@ -28,7 +28,7 @@ fn put_jobs<P: Port, L: Ledger>(
     port: &mut P,
     out: &mut Output,
     unrolling: &mut Unrolling,
-    steps: &mut Steps<L>,
+    comparisons: &mut Comparisons<L>,
 ) -> Result<(), Failed>
     requires stands { StandsBehind unrolling.old [] }
     requires each { AllByRecursion (IsTask unrolling.old.until) unrolling.old.tasks }
@@ -36,7 +36,7 @@ fn put_jobs<P: Port, L: Ledger>(
     ensures text { PutsThrough (P.moves port.old) (P.moves port.new) result out.old out.new
         (in_lines (map job_text (jobs_before unrolling.old.until unrolling.old.tasks))) }
     ensures count { (d : ℕ) → length unrolling.old.tasks + 1 < 2 ^ d →
-        steps.new ≤ steps.old + 4 * d * length (jobs_before unrolling.old.until unrolling.old.tasks) }
+        comparisons.new ≤ comparisons.old + 4 * d * length (jobs_before unrolling.old.until unrolling.old.tasks) }
     ensures cause { HasCause (P.write_faults port.old) (P.write_faults port.new) (P.read_faults port.old)
         (P.read_faults port.new) result }
     ensures stops { StopsAtFailure (P.calls port.old) (P.calls port.new) result }
@@ -44,7 +44,7 @@ fn put_jobs<P: Port, L: Ledger>(
     let mut count = 0u32;
     while count < MORE_JOBS {
         count += 1;
-        let Some(job) = unrolling.next_job(steps) else {
+        let Some(job) = unrolling.next_job(comparisons) else {
             return Ok(());
         };
         match put_job(port, out, &job) {
@@ -61,7 +61,7 @@ pub(crate) fn put_feed<P: Port, L: Ledger>(
     out: &mut Output,
     rules: (Ratio, Version),
     unrolling: &mut Unrolling,
-    steps: &mut Steps<L>,
+    comparisons: &mut Comparisons<L>,
 ) -> Result<(), Failed>
     requires stands { StandsBehind unrolling.old [] }
     requires each { AllByRecursion (IsTask unrolling.old.until) unrolling.old.tasks }
@@ -69,7 +69,7 @@ pub(crate) fn put_feed<P: Port, L: Ledger>(
     ensures text { PutsThrough (P.moves port.old) (P.moves port.new) result out.old out.new
         (feed_of (unrolled unrolling.old.until (rules_with rules.0 rules.1) unrolling.old.tasks)) }
     ensures count { (d : ℕ) → length unrolling.old.tasks + 1 < 2 ^ d →
-        steps.new ≤ steps.old + 4 * d * length (jobs_before unrolling.old.until unrolling.old.tasks) }
+        comparisons.new ≤ comparisons.old + 4 * d * length (jobs_before unrolling.old.until unrolling.old.tasks) }
     ensures cause { HasCause (P.write_faults port.old) (P.write_faults port.new) (P.read_faults port.old)
         (P.read_faults port.new) result }
     ensures stops { StopsAtFailure (P.calls port.old) (P.calls port.new) result }
@@ -78,7 +78,7 @@ pub(crate) fn put_feed<P: Port, L: Ledger>(
         Ok(()) => {}
         Err(failed) => return Err(failed),
     }
-    match put_jobs(port, out, unrolling, steps) {
+    match put_jobs(port, out, unrolling, comparisons) {
         Ok(()) => {}
         Err(failed) => return Err(failed),
     }

@@ -28,7 +28,7 @@ use run_reports::report::{Findings, TableRows, is_listable};
 use run_reports::views::{chrome, timeline, why};
 use std::alloc::Global;
 use std::sync::ledger::Ledger;
-use step_count::Steps;
+use comparison_count::Comparisons;
 use trace_judge::{Closed, Verdict};
 
 /// The report as a text on the run of this version that prints these steps, which are let go before it is written.
@@ -256,14 +256,14 @@ pub fn report_word<P: Port, L: Ledger>(
     alloc: Global,
     port: &mut P,
     form: Form,
-    steps: &mut Steps<L>,
+    comparisons: &mut Comparisons<L>,
 ) -> Status
     ensures talks { Since (P.moves port.old) (P.moves port.new) (Talks (report_talk form) result) }
-    ensures count { Since (P.moves port.old) (P.moves port.new) (IsFrugal steps.old steps.new) }
+    ensures count { Since (P.moves port.old) (P.moves port.new) (IsFrugal comparisons.old comparisons.new) }
     ensures ends { CanEnd (Talks (report_talk form)) result }
     ensures causes { Causes result
         (P.read_faults port.old) (P.read_faults port.new) (P.write_faults port.old) (P.write_faults port.new) }
     ensures stops { StopsWith result (P.calls port.old) (P.calls port.new) }
 {
-    judge_and_tell(alloc, port, Reporting { alloc, form }, true, steps)
+    judge_and_tell(alloc, port, Reporting { alloc, form }, true, comparisons)
 }

@@ -11,5 +11,6 @@ returns-clause-value g c = c.in_ok-run_list.ensures.seen
 
 pub returns-clause-count : goal.returns-clause-count
 returns-clause-count g c =
-    subst (λ js. CostsAtMost (length js) c.args.steps.now c.run_list.new.steps) c.as_slice-jobs.ensures.value
+    subst (λ js. CostsAtMost (length js) c.args.comparisons.now c.run_list.new.comparisons)
+    c.as_slice-jobs.ensures.value
     c.run_list.ensures.count

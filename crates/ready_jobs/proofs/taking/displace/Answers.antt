@@ -38,8 +38,8 @@ loop-t-preserved g c =
       displaces = one_displaced _ _ _ _ _ _ _ it top c.add.ensures.kept more;
       capacity = c.pop.ensures.capacity ∙ c.loop-t.invariant.capacity;
       count = λ d fits.
-          one_counted d c.loop-t.steps c.add.new.steps (length is) (length rest)
-          (c.args.steps.now + 2 * d * length was) fewer
+          one_counted d c.loop-t.comparisons c.add.new.comparisons (length is) (length rest)
+          (c.args.comparisons.now + 2 * d * length was) fewer
           (c.add.ensures.count d (omega (arith, fits, it.sum, fewer)))
           (c.loop-t.invariant.count d fits);
     }

@@ -45,9 +45,9 @@ returns-in_default-clause-shown g c = λ J from it follows.
     })
 
 pub returns-in-Some-clause-paid : goal.returns-in-Some-clause-paid
-returns-in-Some-clause-paid g c = λ start paid. c.in-Some.ensures.paid start c.show_to.new.steps
+returns-in-Some-clause-paid g c = λ start paid. c.in-Some.ensures.paid start c.show_to.new.comparisons
     (c.show_to.ensures.paid start paid)
 
 pub returns-in_default-clause-paid : goal.returns-in_default-clause-paid
-returns-in_default-clause-paid g c = λ start paid. c.in_default.ensures.paid start c.show_to.new.steps
+returns-in_default-clause-paid g c = λ start paid. c.in_default.ensures.paid start c.show_to.new.comparisons
     (c.show_to.ensures.paid start paid)

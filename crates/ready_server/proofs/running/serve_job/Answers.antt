@@ -36,5 +36,5 @@ returns-clause-shown g c J from it follows valid =
     }
 
 pub returns-clause-paid : goal.returns-clause-paid
-returns-clause-paid g c = λ start paid. c.admit.ensures.paid start c.show_to.new.steps
+returns-clause-paid g c = λ start paid. c.admit.ensures.paid start c.show_to.new.comparisons
     (c.show_to.ensures.paid start paid)

@@ -15,6 +15,6 @@ invariant-loop g l = record {
       → MayFollow from l.to
       → IsShowing g.W.Watcher.seen l.server l.watcher J l.to l.counter;
   room : HasPlace l.initial.server → HasPlace l.server;
-  paid : (start : ℕ) → HasPaid l.initial.server start l.initial.steps
-      → HasPaid l.server start l.steps;
+  paid : (start : ℕ) → HasPaid l.initial.server start l.initial.comparisons
+      → HasPaid l.server start l.comparisons;
 }

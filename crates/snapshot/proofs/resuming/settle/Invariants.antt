@@ -14,5 +14,5 @@ invariant-loop-step g l = record {
       → MayFollow (Mark m) (Mark l.mark) → IsOnTheWay l.server J l.mark l._step;
   room : HasPlace l.initial.server → HasPlace l.server;
   roster : has_roster l.server ≡ has_roster l.initial.server;
-  paid : (start : ℕ) → HasPaid l.initial.server start l.initial.steps → HasPaid l.server start l.steps;
+  paid : (start : ℕ) → HasPaid l.initial.server start l.initial.comparisons → HasPaid l.server start l.comparisons;
 }

@@ -104,7 +104,7 @@ returns-in-None-clause-prompt g c J events gave none =
 
 pub returns-in-None-clause-paid : goal.returns-in-None-clause-paid
 returns-in-None-clause-paid g c start paid =
-    let it = subst (λ u. HasPaid u start c.args.steps.now) (sym c.self.view_is) paid in
+    let it = subst (λ u. HasPaid u start c.args.comparisons.now) (sym c.self.view_is) paid in
     record { since = it.since; before = it.before; paid = c.step-event.ensures.paid it.since it.paid }
 
 -- where something is given, not all that is settled was
@@ -137,7 +137,7 @@ returns-in-Some-clause-once g c = λ d enough. omega arith
 
 pub returns-in-Some-clause-paid : goal.returns-in-Some-clause-paid
 returns-in-Some-clause-paid g c = λ start paid.
-    let it = subst (λ u. HasPaid u start c.args.steps.now) (sym c.self.view_is) paid in
+    let it = subst (λ u. HasPaid u start c.args.comparisons.now) (sym c.self.view_is) paid in
     record { since = it.since; before = it.before; paid = it.paid }
 
 pub step-event-requires : goal.step-event-requires
@@ -177,5 +177,5 @@ returns-in-None-clause-room g c = c.step-event.ensures.room_stays ∙ ap room_of
 
 pub returns-in-None-clause-once : goal.returns-in-None-clause-once
 returns-in-None-clause-once g c =
-    subst (λ u. CostsOnce u c.step-event.result c.args.steps.now c.step-event.new.steps) c.self.view_is
+    subst (λ u. CostsOnce u c.step-event.result c.args.comparisons.now c.step-event.new.comparisons) c.self.view_is
     c.step-event.ensures.once

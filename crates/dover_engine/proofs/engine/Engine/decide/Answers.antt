@@ -44,5 +44,6 @@ returns-clause-once g c =
     let same = c.shown-decision.ensures
     ∙ ap (λ n. option_map (behind n c.advance-event.new.self.earned) o) c.advance-event.ensures.forgotten
     ∙ ap (λ value. option_map (behind v.forgotten value) o) c.advance-event.ensures.earned in
-    shown_once v v.forgotten v.earned o (event_in c.shown-decision.result) c.args.steps.now c.advance-event.new.steps
+    shown_once v v.forgotten v.earned o (event_in c.shown-decision.result) c.args.comparisons.now
+    c.advance-event.new.comparisons
     same c.advance-event.ensures.once

@@ -64,7 +64,7 @@ returns-in-Job-clause-keeps c ls keeps on =
                   (subst (λ f. feed.StandsBehind {E = FeedFault} (Ok f) c.line.new.self ls c.args.line.now) c.in-Job.is
                   (c.in-Ok.ensures.stands ls it.all.intake)) c.job.new.self.intake kept.2 room;
             };
-            lists = rw (c.job.ensures.declared, c.job.ensures.dones, jobs)
+            lists = rw (c.job.ensures.declared, c.job.ensures.done_lines, jobs)
                 (job_listed a b _ _ _ it.all.lists c.in-Job.field-0 c.in-Job.job adds room);
             offered = omega (
               arith,
@@ -137,7 +137,7 @@ returns-in-Done-clause-keeps c = λ ls keeps on.
       offered = rw c.done.ensures.jobs (offered_done a b _ _ adds ∙ it.all.offered);
       names = λ fault is. absurd (let e : None ≡ Some fault =
           sym (ap fault_of c.done.ensures.intake ∙ c.in-Ok.ensures.fault) ∙ is in cc);
-    })) (c.done.ensures.dones (ls ++ c.args.line.now ∷ []) stands)
+    })) (c.done.ensures.done_lines (ls ++ c.args.line.now ∷ []) stands)
 
 pub returns-in-Done-clause-memory : goal.returns-in-Done-clause-memory
 returns-in-Done-clause-memory c = λ ls keeps on.

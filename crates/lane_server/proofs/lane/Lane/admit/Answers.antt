@@ -146,14 +146,14 @@ returns-then-is_full-clause-gives g c = λ ls rest it.
     )
 
 pub returns-clause-paid : goal.returns-clause-paid
-returns-clause-paid g c = λ start paid. c.admit-event.ensures.paid start c.step.new.steps
-    (c.in_default-step.ensures.paid start (subst (λ o. HasPaid o start c.args.steps.now) c.in-Some.is paid))
+returns-clause-paid g c = λ start paid. c.admit-event.ensures.paid start c.step.new.comparisons
+    (c.in_default-step.ensures.paid start (subst (λ o. HasPaid o start c.args.comparisons.now) c.in-Some.is paid))
 
 pub returns-in-Some-step-clause-paid : goal.returns-in-Some-step-clause-paid
 returns-in-Some-step-clause-paid g c = λ start paid. c.in-Some-step.ensures.paid start
-    (subst (λ o. HasPaid o start c.args.steps.now) c.in-Some.is paid)
+    (subst (λ o. HasPaid o start c.args.comparisons.now) c.in-Some.is paid)
 
 pub returns-then-is_full-clause-paid : goal.returns-then-is_full-clause-paid
-returns-then-is_full-clause-paid g c = λ start paid. subst (λ l. HasPaid l.server start c.step.new.steps)
+returns-then-is_full-clause-paid g c = λ start paid. subst (λ l. HasPaid l.server start c.step.new.comparisons)
     (sym c.pass.ensures.lane)
-    (c.in_default-step.ensures.paid start (subst (λ o. HasPaid o start c.args.steps.now) c.in-Some.is paid))
+    (c.in_default-step.ensures.paid start (subst (λ o. HasPaid o start c.args.comparisons.now) c.in-Some.is paid))

@@ -41,11 +41,11 @@ returns-in-Err-clause-answers g c = λ a x at over.
     )) c.put-in-Err.ensures.puts
 
 pub returns-in-Ok-answer-clause-spent : goal.returns-in-Ok-answer-clause-spent
-returns-in-Ok-answer-clause-spent g c = λ a x at. subst (λ n. CostsAtMost n a.before c.answer.new.steps)
+returns-in-Ok-answer-clause-spent g c = λ a x at. subst (λ n. CostsAtMost n a.before c.answer.new.comparisons)
     (listed_count x c.in-Ok.listed (c.in-Ok.ensures.jobs x at.reads)) (rw at.counts at c.answer.ensures.count)
 
 pub returns-in-Err-answer-clause-spent : goal.returns-in-Err-answer-clause-spent
-returns-in-Err-answer-clause-spent g c = λ a x at. subst (λ n. CostsAtMost n a.before c.answer.new.steps)
+returns-in-Err-answer-clause-spent g c = λ a x at. subst (λ n. CostsAtMost n a.before c.answer.new.comparisons)
     (listed_count x c.in-Ok.listed (c.in-Ok.ensures.jobs x at.reads)) (rw at.counts at c.answer.ensures.count)
 
 pub returns-in-Err-clause-spent : goal.returns-in-Err-clause-spent

@@ -5,7 +5,7 @@ use Rattle.dover_model.specs.Spending.{cost_of}
 use Rattle.ready_jobs.specs.Deeds.{Finds}
 use Rattle.ready_jobs.specs.Parts.{state_of}
 use Rattle.ready_jobs.specs.Spending.{wait_again}
-use Rattle.ready_jobs.specs.declared.deeds.Deed.TheVariants as deeds
+use Rattle.ready_jobs.specs.declared.actions.Action.TheVariants as actions
 use Rattle.ready_jobs.proofs.Applied.{leaves_fewer}
 use Rattle.ready_jobs.proofs.Costing.{no_cost, one_at_most, take_at_most}
 use Rattle.ready_jobs.proofs.Doing.{does_print, does_next, does_leaves}
@@ -84,21 +84,22 @@ returns-in-Abandon-clause-fewer g c = leaves_fewer _ _ _ _ (c.abandon_next.ensur
 pub returns-in-Start-clause-cost : goal.returns-in-Start-clause-cost
 returns-in-Start-clause-cost g c e d does fits =
     let p = c.args.self.now in
-    subst (λ x. c.start_next.new.steps ≤ c.args.steps.now + cost_of d (state_of p) (Prints x))
-    (does_print p c.args.deed (deeds.Start c.in-Start.number) c.in-Start.is (Run p.clock c.in-Start.number) e refl does)
+    subst (λ x. c.start_next.new.comparisons ≤ c.args.comparisons.now + cost_of d (state_of p) (Prints x))
+    (does_print p c.args.action (actions.Start c.in-Start.number) c.in-Start.is (Run p.clock c.in-Start.number) e refl
+    does)
     (c.start_next.ensures.cost p.clock d fits)
 
 pub returns-in-Take-clause-cost : goal.returns-in-Take-clause-cost
 returns-in-Take-clause-cost g c e d does fits =
     let p = c.args.self.now in
-    subst (λ x. c.take_next.new.steps ≤ c.args.steps.now + cost_of d (state_of p) (Prints x))
+    subst (λ x. c.take_next.new.comparisons ≤ c.args.comparisons.now + cost_of d (state_of p) (Prints x))
     (does_print _ _ _ c.in-Take.is _ _ refl does)
     (c.take_next.ensures.cost p.clock d fits)
 
 pub returns-in-Abandon-clause-cost : goal.returns-in-Abandon-clause-cost
 returns-in-Abandon-clause-cost g c e d does fits =
     let p = c.args.self.now in
-    subst (λ x. c.abandon_next.new.steps ≤ c.args.steps.now + cost_of d (state_of p) (Prints x))
+    subst (λ x. c.abandon_next.new.comparisons ≤ c.args.comparisons.now + cost_of d (state_of p) (Prints x))
     (does_print _ _ _ c.in-Abandon.is _ _ refl does)
     (c.abandon_next.ensures.cost p.clock d fits)
 
@@ -109,9 +110,10 @@ returns-in-Start-clause-once g c e d does fits =
 pub returns-in-Take-clause-once : goal.returns-in-Take-clause-once
 returns-in-Take-clause-once g c e d does fits =
     let p = c.args.self.now in
-    subst (λ x. c.take_next.new.steps ≤ c.args.steps.now + 2 * d * (4 + wait_again x p.held))
+    subst (λ x. c.take_next.new.comparisons ≤ c.args.comparisons.now + 2 * d * (4 + wait_again x p.held))
     (does_print _ _ _ c.in-Take.is _ _ refl does)
-    (take_at_most d (length p.held) c.args.steps.now c.take_next.new.steps (c.take_next.ensures.once d fits))
+    (take_at_most d (length p.held) c.args.comparisons.now c.take_next.new.comparisons
+    (c.take_next.ensures.once d fits))
 
 pub returns-in-Abandon-clause-once : goal.returns-in-Abandon-clause-once
 returns-in-Abandon-clause-once g c e d does fits =

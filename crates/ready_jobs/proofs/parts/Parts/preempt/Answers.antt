@@ -12,9 +12,9 @@ use Rattle.dover_model.specs.State.{value_sum}
 use Rattle.dover_model.specs.Step.{with_role}
 use Rattle.dover_model.specs.Sound.{IsMember}
 use Rattle.dover_model.proofs.Members.{on_map, sum_map}
-use Rattle.held_queue.specs.Stack.{IsDueBeforeTop}
-use Rattle.held_queue.specs.Kept.{AreRoomsOf}
-use Rattle.held_queue.proofs.Holding.{before_top}
+use Rattle.held_stack.specs.Stack.{IsDueBeforeTop}
+use Rattle.held_stack.specs.Kept.{AreRoomsOf}
+use Rattle.held_stack.proofs.Holding.{before_top}
 use Rattle.ready_jobs.specs.Parts.{Parted, AreParts, AreSound}
 use Rattle.ready_jobs.specs.Kept.{parted_of}
 use Rattle.ready_jobs.proofs.Keeping.{busy_two, preempted_kept}

@@ -3,8 +3,8 @@ use Rattle.std.specs.Prelude.{vec_capacity}
 use Rattle.std.proofs.lemmas.List.{length-reverse}
 use Rattle.std.proofs.Math.Nat.{max-eq_right}
 use Rattle.dover_model.specs.Entries.{entry_of}
-use Rattle.held_queue.specs.Kept.{Lasting, AreRoomsOf}
-use Rattle.held_queue.proofs.Holding.{spare_kept}
+use Rattle.held_stack.specs.Kept.{Lasting, AreRoomsOf}
+use Rattle.held_stack.proofs.Holding.{spare_kept}
 use Rattle.waiting_pool.specs.Pools.{Pooled}
 use Rattle.ready_jobs.specs.Parts.{Parted, AreParts}
 use Rattle.ready_jobs.specs.Kept.{parted_of}

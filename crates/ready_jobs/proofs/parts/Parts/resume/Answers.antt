@@ -3,7 +3,7 @@ use Rattle.std.specs.Prelude.{vec_capacity}
 use Rattle.std.specs.Option.{option_to_list}
 use Rattle.std.proofs.lemmas.List.{reverse-append}
 use Rattle.dover_model.specs.Entries.{entry_of}
-use Rattle.held_queue.specs.Kept.{AreRoomsOf}
+use Rattle.held_stack.specs.Kept.{AreRoomsOf}
 use Rattle.ready_jobs.specs.Parts.{Parted, AreParts}
 use Rattle.ready_jobs.specs.Kept.{parted_of}
 use Rattle.ready_jobs.proofs.Courses.{no_items}

@@ -11,7 +11,8 @@ returns-in-Some-clause-paid g c start paid = c.take.ensures.paid start (c.due_be
 pub returns-in-Some-clause-once : goal.returns-in-Some-clause-once
 returns-in-Some-clause-once g c d fits =
     let e = c.in-Some.due.event in
-    subst (λ hs. c.take.new.steps ≤ c.args.steps.now + 2 * d * (6 + wait_again e hs)) c.due_before.ensures.held
+    subst (λ hs. c.take.new.comparisons ≤ c.args.comparisons.now + 2 * d * (6 + wait_again e hs))
+    c.due_before.ensures.held
     (both_at_most _ _ _ _ _ (c.due_before.ensures.once d fits)
     (c.take.ensures.once d (omega (arith, fits, c.due_before.ensures.fewer))))
 

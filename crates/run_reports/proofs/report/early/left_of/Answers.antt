@@ -21,6 +21,6 @@ returns-in-Some-clause-modest c =
 
 pub returns-in-None-clause-is : goal.returns-in-None-clause-is
 returns-in-None-clause-is c =
-    let none : 0 ≡ 0 - slice_index_or c.args.hads.now c.args.number 0 = omega arith in
-    none ∙ ap (λ j. option_map_or (λ (j : JobFacts). j.work) j 0 - slice_index_or c.args.hads.now c.args.number 0)
+    let none : 0 ≡ 0 - slice_index_or c.args.served.now c.args.number 0 = omega arith in
+    none ∙ ap (λ j. option_map_or (λ (j : JobFacts). j.work) j 0 - slice_index_or c.args.served.now c.args.number 0)
     (sym (slice_get_past c.args.jobs.now c.args.number c.in-None.ensures.lookup.3))

@@ -26,4 +26,4 @@ returns-clause-kept g c = record {
 
 pub returns-clause-paid : goal.returns-clause-paid
 returns-clause-paid g c start paid = c.due-expected.ensures.paid start
-    (subst (λ (j : Judged). IsPaid j.reader start c.args.steps.now) (sym c.self.view_is) paid)
+    (subst (λ (j : Judged). IsPaid j.reader start c.args.comparisons.now) (sym c.self.view_is) paid)

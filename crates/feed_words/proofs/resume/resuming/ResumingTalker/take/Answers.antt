@@ -46,7 +46,7 @@ returns-in-Err-BadSnapshot g c = record {
       let refused = line_refused a _ x it.0 c.args.piece.now c.take.new.self c.in-Err-BadSnapshot.line
       (rw c.in-Err-BadSnapshot.field-0-is at (c.in-Err-BadSnapshot.ensures.takes x it.0)) in
       subst (λ s. Takes (resume_talk a)
-      (λ y parts. (c.args.self.now.at_end ≡ a.at_end) × IsGiving a s c.take.new.steps y parts) x c.args.piece.now
+      (λ y parts. (c.args.self.now.at_end ≡ a.at_end) × IsGiving a s c.take.new.comparisons y parts) x c.args.piece.now
       (length c.args.piece.now)) (sym c.refuse.ensures) (rw c.in-Err-BadSnapshot.line-is
       (refused_took a _ x it.0 _ at.0 c.args.piece.now c.requires.some c.in-Err-BadSnapshot.line _ refused
       (front_costs a _ x it.0 c.args.piece.now c.take.new.self _
