@@ -11,16 +11,16 @@ use Rattle.dover_model.specs.JobFacts.{JobFacts, IsJob, is_job}
 use Rattle.dover_model.specs.Fraction.{Fraction}
 use Rattle.dover_model.specs.Instance.{Declaration, total_value}
 use Rattle.dover_model.specs.Admission.{is_within_ratio_both_ways, first_cause, refusal_of}
-use Rattle.dover_model.proofs.Calculus.{cancel}
-use Rattle.dover_model.proofs.Tests.{both, each}
-use Rattle.dover_model.proofs.Members.{all_both, by_bool}
+use Rattle.dover_model.proofs.bound.Calculus.{cancel}
+use Rattle.dover_model.proofs.lists.Tests.{both, each}
+use Rattle.dover_model.proofs.lists.Members.{all_both, by_bool}
 use Rattle.admission.specs.declared.extremes.Extremes.{Extremes}
 use Rattle.admission.specs.Kept.{IsLessDense, IsLeastDense, IsDensest, IsBetween, AreExtremes}
 use Rattle.admission.specs.Answers.{AllKeepRatio, LeastDenseKeeps, IsOther, numbered}
 use Rattle.admission.proofs.Comparing.{not_both, no_less, within_least, within_densest}
 use Rattle.admission.proofs.Firsts.{none_under, first_is, IsDenser, not_both_denser}
-use Rattle.dover_model.proofs.ValidParts.{IsWithinRatio, is_within_ratio-agrees}
-use Rattle.dover_model.proofs.JobLimits.{job_limits}
+use Rattle.dover_model.proofs.valid.ValidParts.{IsWithinRatio, is_within_ratio-agrees}
+use Rattle.dover_model.proofs.valid.JobLimits.{job_limits}
 
 -- the test says so of both ways
 both_ways : (k : Fraction) (i j : JobFacts) → (IsWithinRatio k i j × IsWithinRatio k j i)

@@ -22,8 +22,8 @@ use Rattle.dover_model.specs.Step.{Prints}
 use Rattle.dover_model.specs.Underload.{takes_or_abandons}
 use Rattle.dover_model.specs.Schedules.{Meets, worth}
 use Rattle.dover_model.specs.Bound.{IsWithin}
-use Rattle.dover_model.proofs.Members.{some_same}
-use Rattle.dover_model.proofs.Tests.{never}
+use Rattle.dover_model.proofs.lists.Members.{some_same}
+use Rattle.dover_model.proofs.lists.Tests.{never}
 use Rattle.dover_model.specs.declared.horizon.Horizon.{Horizon}
 use Rattle.dover_model.specs.declared.horizon.Horizon.TheVariants as horizon
 use Rattle.dover_model.specs.Horizons.{is_end_given, MayFollow, no_jobs}

@@ -21,13 +21,13 @@ use Rattle.dover_model.specs.Finishes.{Finish}
 use Rattle.dover_model.specs.Observed.{observed}
 use Rattle.dover_model.specs.Underload.{takes_or_abandons}
 use Rattle.dover_model.specs.WholeRun.{Begins}
-use Rattle.dover_model.proofs.InTurns.{declared_within, observed_within}
-use Rattle.dover_model.proofs.Members.{member_front}
-use Rattle.dover_model.proofs.RestTick.{rests_from}
-use Rattle.dover_model.proofs.TurnSchedules.{one_run_honest, one_run_plain}
-use Rattle.dover_model.proofs.TurnsGrowing.{ends_behind}
-use Rattle.dover_model.proofs.TurnsLosing.{one_run_loses_none, one_run_earns_all}
-use Rattle.dover_model.proofs.Runs.{last_value, value_last}
+use Rattle.dover_model.proofs.rest.InTurns.{declared_within, observed_within}
+use Rattle.dover_model.proofs.lists.Members.{member_front}
+use Rattle.dover_model.proofs.rest.RestTick.{rests_from}
+use Rattle.dover_model.proofs.rest.TurnSchedules.{one_run_honest, one_run_plain}
+use Rattle.dover_model.proofs.rest.TurnsGrowing.{ends_behind}
+use Rattle.dover_model.proofs.rest.TurnsLosing.{one_run_loses_none, one_run_earns_all}
+use Rattle.dover_model.proofs.runs.Runs.{last_value, value_last}
 use Rattle.dover_model.specs.declared.horizon.Horizon.{Horizon}
 use Rattle.dover_model.specs.declared.horizon.Horizon.TheVariants.{Mark}
 use Rattle.dover_model.specs.Horizons.{no_jobs}

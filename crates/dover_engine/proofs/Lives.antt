@@ -23,19 +23,19 @@ use Rattle.dover_model.specs.Settled.{settled, tick_of_event, last_of}
 use Rattle.dover_model.specs.Session.{EarlyFinish, finish_at, may_finish_early}
 use Rattle.dover_model.specs.Finishes.{Finish}
 use Rattle.dover_model.specs.Processor.{runner_of, runner_after}
-use Rattle.dover_model.proofs.LastSteps.{last_from}
-use Rattle.dover_model.proofs.Processors.{finish_prints, late_prints, runner_behind, runner_behind_turns}
-use Rattle.dover_model.proofs.RightFinishes.{finish_says}
+use Rattle.dover_model.proofs.settled.LastSteps.{last_from}
+use Rattle.dover_model.proofs.finishes.Processors.{finish_prints, late_prints, runner_behind, runner_behind_turns}
+use Rattle.dover_model.proofs.finishes.RightFinishes.{finish_says}
 use Rattle.std.proofs.lemmas.List.Sums.{fold-append}
 use Rattle.dover_model.specs.Step.{Prints}
 use Rattle.dover_model.specs.WholeRun.{Begins}
 use Rattle.dover_model.specs.Rest.{IsTurn, NoneBefore, Turn, behind, behind_finish, before_end, completed_turns}
 use Rattle.dover_model.specs.Rest.{instead_with}
 use Rattle.dover_model.specs.Rest.{one_run, turn_under, turns_finishes, turns_jobs}
-use Rattle.dover_model.proofs.Apart.{behind_last, end_at_rest}
-use Rattle.dover_model.proofs.InTurns.{one_run_prints, settled_of_last}
-use Rattle.dover_model.proofs.TurnsGrowing.{before_end_of_last, completed_behind, ends_behind, finishes_behind}
-use Rattle.dover_model.proofs.TurnsGrowing.{jobs_behind, printed_of_last}
+use Rattle.dover_model.proofs.rest.Apart.{behind_last, end_at_rest}
+use Rattle.dover_model.proofs.rest.InTurns.{one_run_prints, settled_of_last}
+use Rattle.dover_model.proofs.rest.TurnsGrowing.{before_end_of_last, completed_behind, ends_behind, finishes_behind}
+use Rattle.dover_model.proofs.rest.TurnsGrowing.{jobs_behind, printed_of_last}
 use Rattle.dover_model.specs.Admission.{refusal_of}
 use Rattle.admission.specs.declared.refused.Refused.{Refused}
 use Rattle.admission.specs.declared.refused.Refused.TheVariants as refused
@@ -57,14 +57,14 @@ use Rattle.dover_engine.specs.Decisions.{event_in}
 use Rattle.dover_engine.specs.Life.{life_with, Life, IsReadyFor, IsAtRest, HasPaid, CostsOnce, done_value, has_ended}
 use Rattle.dover_engine.specs.Life.{clock_of, spare_of, successor_of}
 use Rattle.ready_jobs.specs.Course as course
-use Rattle.dover_model.proofs.Members.{some_same}
-use Rattle.dover_model.proofs.Tests.{never}
+use Rattle.dover_model.proofs.lists.Members.{some_same}
+use Rattle.dover_model.proofs.lists.Tests.{never}
 use Rattle.dover_engine.specs.Given.{GaveSince, Gave, IsSince, IsPrompt}
 use Rattle.dover_engine.specs.Calls.{since_rest, HasCause, IsBreaker, IsCause, cause_behind, IsDueAt}
 use Rattle.dover_engine.specs.Calls.{Holds, HasProcessor, HasNoProcessor, MayBeDone, IsDone}
 use Rattle.ready_server.proofs.Finishing.{one_finish}
 use Rattle.dover_engine.proofs.Giving.{fresh_gave, rests_now, finish_gave}
-use Rattle.dover_model.proofs.ValidParts.{valid_parts}
+use Rattle.dover_model.proofs.valid.ValidParts.{valid_parts}
 use Rattle.dover_engine.proofs.Since as since
 
 -- ---- the beginning

@@ -14,14 +14,14 @@ use Rattle.dover_model.specs.Settled.{settled_steps, settled_state}
 use Rattle.dover_model.specs.Sound.{Each, IsMember}
 use Rattle.dover_model.specs.Rest as rest
 use Rattle.dover_model.specs.WholeRun.{Begins}
-use Rattle.dover_model.proofs.Apart.{settled_at_rest}
-use Rattle.dover_model.proofs.Barriers.{state_after}
-use Rattle.dover_model.proofs.Growing.{settled_of_run}
-use Rattle.dover_model.proofs.Members.{filter_member}
-use Rattle.dover_model.proofs.Paths.{path_settles, one_settled_run}
-use Rattle.dover_model.proofs.Resting.{path_state, value_there}
-use Rattle.dover_model.proofs.Settling.{settled_is_run}
-use Rattle.dover_model.proofs.Tests.{never}
+use Rattle.dover_model.proofs.rest.Apart.{settled_at_rest}
+use Rattle.dover_model.proofs.settled.Barriers.{state_after}
+use Rattle.dover_model.proofs.sessions.Growing.{settled_of_run}
+use Rattle.dover_model.proofs.lists.Members.{filter_member}
+use Rattle.dover_model.proofs.settled.Paths.{path_settles, one_settled_run}
+use Rattle.dover_model.proofs.rest.Resting.{path_state, value_there}
+use Rattle.dover_model.proofs.settled.Settling.{settled_is_run}
+use Rattle.dover_model.proofs.lists.Tests.{never}
 use Rattle.dover_model.specs.Ready.{is_ready}
 use Rattle.dover_model.specs.declared.horizon.Horizon.{Horizon}
 use Rattle.dover_model.specs.declared.horizon.Horizon.TheVariants.{Mark, End}

@@ -13,7 +13,7 @@ use Rattle.run_reports.specs.declared.views.window.Window.{Window}
 use Rattle.dover_model.specs.Fraction.{Fraction, IsRatio, fraction, is_some_factor}
 use Rattle.dover_model.specs.declared.factors.Factor.{Factor}
 use Rattle.dover_model.specs.Numerals.{numeral}
-use Rattle.dover_model.proofs.Numerals.{numeral-decimal}
+use Rattle.dover_model.proofs.texts.Numerals.{numeral-decimal}
 use Rattle.dover_top.specs.Requests.{Asks}
 use Rattle.dover_top.specs.Words.{IsFormed, factor_words, form_words, spelled}
 use Rattle.dover_top.specs.declared.request.Request.{Request}
@@ -22,7 +22,7 @@ use Rattle.dover_top.specs.declared.request.Request.TheVariants.{Resume, Unroll,
 use Rattle.feed_words.specs.declared.serve.at_end.AtEnd.{AtEnd}
 use Rattle.feed_words.specs.declared.serve.at_end.AtEnd.TheVariants as ends
 use Rattle.question_words.specs.declared.question.Question.TheVariants.{Feasible, Best, Compare, Loss}
-use Rattle.dover_model.proofs.JobLimits.{ratio_limits, factor_limits}
+use Rattle.dover_model.proofs.valid.JobLimits.{ratio_limits, factor_limits}
 
 -- ---- words read as what they ask for, if they ask for something
 

@@ -20,13 +20,14 @@ use Rattle.dover_model.specs.Sound.{Each, IsMember}
 use Rattle.dover_model.specs.Step.{Move as Step, Prints, Waits, Ticks}
 use Rattle.dover_model.specs.Underload.{takes_or_abandons}
 use Rattle.dover_model.specs.WholeRun.{Begins}
-use Rattle.dover_model.proofs.Accounts.{IsKept as KeepsAccount, lines_goes, HoldsBy}
-use Rattle.dover_model.proofs.Beginnings.{begins_itself, begins_all, begins_onward, begins_behind, in_lines-append}
-use Rattle.dover_model.proofs.Growing.{settled_of_run}
-use Rattle.dover_model.proofs.Meeting.{given_by}
-use Rattle.dover_model.proofs.Members.{some_same, member_front, heads, tails}
-use Rattle.dover_model.proofs.Runs.{none_lost}
-use Rattle.dover_model.proofs.Tests.{none_is_some}
+use Rattle.dover_model.proofs.sessions.Accounts.{IsKept as KeepsAccount, lines_goes, HoldsBy}
+use Rattle.dover_model.proofs.lists.Beginnings.{begins_itself, begins_all, begins_onward, begins_behind}
+use Rattle.dover_model.proofs.lists.Beginnings.{in_lines-append}
+use Rattle.dover_model.proofs.sessions.Growing.{settled_of_run}
+use Rattle.dover_model.proofs.finishes.Meeting.{given_by}
+use Rattle.dover_model.proofs.lists.Members.{some_same, member_front, heads, tails}
+use Rattle.dover_model.proofs.runs.Runs.{none_lost}
+use Rattle.dover_model.proofs.lists.Tests.{none_is_some}
 use Rattle.dover_port.specs.Moves.{Move, outs, has_ended}
 use Rattle.dover_port.specs.declared.status.Status.{Status}
 use Rattle.dover_port.specs.declared.status.Status.TheVariants.{Done, No, Refused, ReadFault, WriteFault, Memory, Usage}

@@ -8,8 +8,8 @@ use Rattle.dover_model.specs.Instance.{total_value}
 use Rattle.dover_model.specs.Session.{Session, JobItem, RefusedJob, Refused, refused_at, admitted_jobs, with_item}
 use Rattle.dover_model.specs.Session.{instance_of, is_full}
 use Rattle.dover_model.specs.Feed.{Account}
-use Rattle.dover_model.proofs.Admitting.{Admitted, not_refused}
-use Rattle.dover_model.proofs.Growing.{refused_instance}
+use Rattle.dover_model.proofs.valid.Admitting.{Admitted, not_refused}
+use Rattle.dover_model.proofs.sessions.Growing.{refused_instance}
 use Rattle.admission.specs.Kept as admission
 use Rattle.event_feed.specs.declared.faults.FeedFault.{FeedFault}
 use Rattle.event_feed.specs.declared.fed.Fed.TheVariants as fed

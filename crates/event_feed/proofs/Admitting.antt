@@ -21,7 +21,7 @@ use Rattle.dover_model.specs.Session.{refuses_lines}
 use Rattle.dover_model.specs.FeedLine.{FeedLine, RatioLine, FactorLine, JobLine, TickLine, DoneLine, EndLine, feed_line}
 use Rattle.dover_model.specs.Feed.{Account, Standing, Lines, Line, is_open, next_line, read_line, with_line, with_fault}
 use Rattle.dover_model.specs.Feed.{with_refused_at, later_line_cause, late_cause, Order, NotAdmitted, NotDone, account}
-use Rattle.dover_model.proofs.Accounts.{account_append}
+use Rattle.dover_model.proofs.sessions.Accounts.{account_append}
 use Rattle.event_feed.specs.Answers.{admitted_in}
 use Rattle.event_feed.specs.Listing.{is_offered, offered_in, has_too_many}
 

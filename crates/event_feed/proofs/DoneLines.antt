@@ -12,7 +12,7 @@ use Rattle.dover_model.specs.Session.{with_named, with_item, refused_done_at, ad
 use Rattle.dover_model.specs.FeedLine.{DoneLine}
 use Rattle.dover_model.specs.Feed.{Account, Cause, NotDone, Order, Line, cause_of, with_line}
 use Rattle.dover_model.specs.Feed.{with_good_line, with_refused_done}
-use Rattle.dover_model.proofs.Growing.{finish_instance, refused_instance}
+use Rattle.dover_model.proofs.sessions.Growing.{finish_instance, refused_instance}
 use Rattle.admission.specs.Kept as admission
 use Rattle.event_feed.specs.declared.fed.Fed.TheVariants as fed
 use Rattle.event_feed.specs.declared.kept_session.KeptSession.{KeptSession}

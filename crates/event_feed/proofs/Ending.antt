@@ -7,7 +7,7 @@ use Rattle.dover_model.specs.Feed.{no_lines, account, account_of_lines, is_open}
 use Rattle.dover_model.specs.Instance.{IsValid}
 use Rattle.dover_model.specs.JobFacts.{JobFacts}
 use Rattle.dover_model.specs.Lines.{lines_of, whole_lines, rest_of}
-use Rattle.dover_model.proofs.Accounts.{Closes, HoldsBy, lines_goes}
+use Rattle.dover_model.proofs.sessions.Accounts.{Closes, HoldsBy, lines_goes}
 use Rattle.event_feed.specs.Answers.{EndAnswers, short_after}
 use Rattle.event_feed.specs.Kept as feed
 use Rattle.event_feed.specs.Kept.{Kept, standing_of, fault_of, cause_of_fault}
@@ -24,7 +24,7 @@ use Rattle.event_feed.specs.declared.listed.DoneLine.{DoneLine}
 use Rattle.event_feed.specs.declared.listed.Listed.{Listed}
 use Rattle.event_feed.specs.declared.reader.FeedReader.{FeedReader}
 use Rattle.event_feed.proofs.Listing.{goes_on}
-use Rattle.dover_model.proofs.SessionParts.{session_jobs}
+use Rattle.dover_model.proofs.sessions.SessionParts.{session_jobs}
 
 -- ---- the end line
 

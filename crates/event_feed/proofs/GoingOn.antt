@@ -14,8 +14,8 @@ use Rattle.dover_model.specs.Session.{Session}
 use Rattle.dover_model.specs.Feed.{Account, Standing, Open, Ended, Faulty, Lines, Short, Cause, no_lines, is_open}
 use Rattle.dover_model.specs.Feed.{next_line, read_line, with_fault, account, most_lines_in}
 use Rattle.dover_model.specs.Due.{due, closed, fault_text}
-use Rattle.dover_model.proofs.Accounts.{account_append}
-use Rattle.dover_model.proofs.Limiting.{lines_most_in}
+use Rattle.dover_model.proofs.sessions.Accounts.{account_append}
+use Rattle.dover_model.proofs.valid.Limiting.{lines_most_in}
 use Rattle.line_text.proofs.Lengths.{AreNotTooLong, text_few}
 use Rattle.event_feed.proofs.Counting.{after_form, next_counted, all_counted}
 

@@ -16,11 +16,11 @@ use Rattle.dover_model.specs.Admission.{refusal_of}
 use Rattle.dover_model.specs.Session.{Session, RefusedJob, refused_at, admitted_jobs, refuses_lines, refusal_at}
 use Rattle.dover_model.specs.Session.{late_refusal, refusal_in, refused_mark, is_full, instance_of, with_item}
 use Rattle.dover_model.specs.Session.{JobItem}
-use Rattle.dover_model.proofs.Fullness.{full_refuses, mark_stays, never_alone}
+use Rattle.dover_model.proofs.sessions.Fullness.{full_refuses, mark_stays, never_alone}
 use Rattle.dover_model.specs.FeedLine.{JobLine}
 use Rattle.dover_model.specs.Feed.{Account, NotAdmitted, late_cause, cause_of, with_fault, with_line}
 use Rattle.dover_model.specs.Feed.{with_refused_at}
-use Rattle.dover_model.proofs.Growing.{refused_instance}
+use Rattle.dover_model.proofs.sessions.Growing.{refused_instance}
 use Rattle.admission.specs.Kept as admission
 use Rattle.event_feed.specs.declared.fed.Fed.TheVariants as fed
 use Rattle.event_feed.specs.declared.kept_session.KeptSession.{KeptSession}

@@ -23,15 +23,15 @@ use Rattle.dover_model.specs.Session.{instance_of, early_finishes, may_finish_ea
 use Rattle.dover_model.specs.declared.events.Refusal.TheVariants.{Full}
 use Rattle.dover_model.specs.Settled.{settled_state}
 use Rattle.dover_model.specs.State.{is_running}
-use Rattle.dover_model.proofs.Accounts.{IsKept, Holds, HoldsBy}
-use Rattle.dover_model.proofs.Barriers.{settled_at_barrier}
-use Rattle.dover_model.proofs.Growing.{job_instance, refused_instance, finish_instance}
-use Rattle.dover_model.proofs.Members.{found, some_same, all_append}
-use Rattle.dover_model.proofs.Resting.{numbers_below}
-use Rattle.dover_model.proofs.RightFinishes.{none_other}
-use Rattle.dover_model.proofs.Valid.{all_from}
+use Rattle.dover_model.proofs.sessions.Accounts.{IsKept, Holds, HoldsBy}
+use Rattle.dover_model.proofs.settled.Barriers.{settled_at_barrier}
+use Rattle.dover_model.proofs.sessions.Growing.{job_instance, refused_instance, finish_instance}
+use Rattle.dover_model.proofs.lists.Members.{found, some_same, all_append}
+use Rattle.dover_model.proofs.rest.Resting.{numbers_below}
+use Rattle.dover_model.proofs.finishes.RightFinishes.{none_other}
+use Rattle.dover_model.proofs.valid.Valid.{all_from}
 use Rattle.event_feed.proofs.Admitting.{job_more, refused_more, admitted_by}
-use Rattle.dover_model.proofs.Fullness.{few_ready, full_many}
+use Rattle.dover_model.proofs.sessions.Fullness.{few_ready, full_many}
 use Rattle.dover_model.specs.Limits.{most_ready}
 use Rattle.dover_model.specs.Session.{RefusedJob}
 use Rattle.event_feed.proofs.DoneLines.{session_done, done_session, done_jobs, done_mark}

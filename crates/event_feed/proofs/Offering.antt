@@ -16,7 +16,7 @@ use Rattle.dover_model.specs.Session.{Session, Item, JobItem, FinishItem, EarlyF
 use Rattle.dover_model.specs.Session.{with_item, with_named, early_at, is_right, is_full, instance_of, is_same_refusal}
 use Rattle.dover_model.specs.Feed.{Account, account, account_of_lines, is_open}
 use Rattle.dover_model.specs.Lines.{rest_of, is_too_long}
-use Rattle.dover_model.proofs.Tests.{not_true}
+use Rattle.dover_model.proofs.lists.Tests.{not_true}
 use Rattle.event_feed.specs.Answers.{AddsJob, AddsRefused, AddsDone, counted}
 use Rattle.event_feed.specs.Keeping.{Keeps, KeepsAll}
 use Rattle.event_feed.specs.Listing.{is_offered, offered_in, has_too_many, wants_more}

@@ -17,10 +17,10 @@ use Rattle.dover_model.specs.Session.{Session, new_session, IsDeclarable}
 use Rattle.dover_model.specs.FeedLine.{FeedLine, RatioLine, FactorLine, TickLine, HasNumerals, feed_line, feed_text}
 use Rattle.dover_model.specs.Feed.{Account, Lines, Declared, Order, rules_with, declared_rules, factor_rules, with_line}
 use Rattle.dover_model.specs.Feed.{with_fault, next_line, no_lines}
-use Rattle.dover_model.proofs.FeedLines.{feed_line-feed_text}
-use Rattle.dover_model.proofs.JobLimits.{ratio_limits, job_limits}
-use Rattle.dover_model.proofs.NoFeeds.{header_short}
-use Rattle.dover_model.proofs.Tests.{never}
+use Rattle.dover_model.proofs.texts.FeedLines.{feed_line-feed_text}
+use Rattle.dover_model.proofs.valid.JobLimits.{ratio_limits, job_limits}
+use Rattle.dover_model.proofs.texts.NoFeeds.{header_short}
+use Rattle.dover_model.proofs.lists.Tests.{never}
 use Rattle.event_feed.specs.Reading.{declared_number, rules_line, open_account}
 use Rattle.event_feed.proofs.Counting.{after_form}
 

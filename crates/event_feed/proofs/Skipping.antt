@@ -10,8 +10,8 @@ use Rattle.dover_model.specs.Session.{Session}
 use Rattle.dover_model.specs.FeedLine.{TickLine, feed_line, feed_text}
 use Rattle.dover_model.specs.Feed.{Account, Open, Order, Lines, with_fault, with_line, next_line, no_lines}
 use Rattle.dover_model.specs.Feed.{account_of_lines}
-use Rattle.dover_model.proofs.FeedLines.{feed_line-feed_text}
-use Rattle.dover_model.proofs.Accounts.{HoldsBy, HoldsOpen, Holds, IsKept, lines_goes}
+use Rattle.dover_model.proofs.texts.FeedLines.{feed_line-feed_text}
+use Rattle.dover_model.proofs.sessions.Accounts.{HoldsBy, HoldsOpen, Holds, IsKept, lines_goes}
 use Rattle.event_feed.specs.declared.intake.Standing.TheVariants as standings
 use Rattle.event_feed.specs.declared.kept_session.KeptSession.{KeptSession}
 use Rattle.event_feed.specs.Kept.{Kept, KeepsSession, KeepsAccount, StandsFor, IsGoing, HasLines, standing_of}

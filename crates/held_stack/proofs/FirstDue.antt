@@ -7,8 +7,8 @@ use Rattle.dover_model.specs.declared.events.Entry.{Entry}
 use Rattle.dover_model.specs.State.{least, demand_by}
 use Rattle.dover_model.specs.Entries.{room_of}
 use Rattle.dover_model.specs.Sound.{IsMember, Each}
-use Rattle.dover_model.proofs.Members.{some_same, sum_filter, sum_zero}
-use Rattle.dover_model.proofs.Tests.{none_is_some}
+use Rattle.dover_model.proofs.lists.Members.{some_same, sum_filter, sum_zero}
+use Rattle.dover_model.proofs.lists.Tests.{none_is_some}
 use Rattle.held_stack.specs.Stack.{room_at}
 
 -- what is left of the job and of all members that are due before it

@@ -18,10 +18,10 @@ use Rattle.dover_model.specs.Trace.{Printed, text_of_line, texts_among}
 use Rattle.dover_model.specs.Feed.{read_line, Account, Standing, Open, Ended, Faulty, Cause, rules_with, no_lines}
 use Rattle.dover_model.specs.Feed.{next_line, account_of_lines, is_open}
 use Rattle.dover_model.specs.Due.{due_lines, fault_text}
-use Rattle.dover_model.proofs.Accounts.{Holds, HoldsBy, IsKept, lines_goes, account_with}
-use Rattle.dover_model.proofs.Emitting.{texts_more, texts_refused}
-use Rattle.dover_model.proofs.Growing.{settled_later, settled_of_run}
-use Rattle.dover_model.proofs.Growing.{refused_instance}
+use Rattle.dover_model.proofs.sessions.Accounts.{Holds, HoldsBy, IsKept, lines_goes, account_with}
+use Rattle.dover_model.proofs.sessions.Emitting.{texts_more, texts_refused}
+use Rattle.dover_model.proofs.sessions.Growing.{settled_later, settled_of_run}
+use Rattle.dover_model.proofs.sessions.Growing.{refused_instance}
 use Rattle.dover_model.specs.declared.horizon.Horizon.TheVariants.{Mark, End}
 use Rattle.dover_model.specs.Horizons.{no_jobs, due_by}
 use Rattle.event_feed.specs.Kept.{cause_of_fault}

@@ -18,13 +18,13 @@ use Rattle.dover_model.specs.Numerals.{numeral}
 use Rattle.dover_model.specs.Lines.{fields_of, line_of, in_lines, whole_lines, lines_of, is_too_long}
 use Rattle.dover_model.specs.Feed.{account_of_lines, account}
 use Rattle.dover_model.specs.Due.{due, due_lines, closed, short_lines}
-use Rattle.dover_model.proofs.Beginnings.{in_lines-append}
-use Rattle.dover_model.proofs.Cuts.{CutText, HasNoFeed, cut_in_lines}
-use Rattle.dover_model.proofs.Fields.{is_space, HasNoSpace, digits_have_no_space, line_of-fields_of}
-use Rattle.dover_model.proofs.Members.{all_append}
-use Rattle.dover_model.proofs.NoFeeds.{feedless_line, feedless_behind, feedless_decimal, decimal_digits}
-use Rattle.dover_model.proofs.ShortNumbers.{all_drop}
-use Rattle.dover_model.proofs.Tests.{never, not_true}
+use Rattle.dover_model.proofs.lists.Beginnings.{in_lines-append}
+use Rattle.dover_model.proofs.texts.Cuts.{CutText, HasNoFeed, cut_in_lines}
+use Rattle.dover_model.proofs.texts.Fields.{is_space, HasNoSpace, digits_have_no_space, line_of-fields_of}
+use Rattle.dover_model.proofs.lists.Members.{all_append}
+use Rattle.dover_model.proofs.texts.NoFeeds.{feedless_line, feedless_behind, feedless_decimal, decimal_digits}
+use Rattle.dover_model.proofs.traces.ShortNumbers.{all_drop}
+use Rattle.dover_model.proofs.lists.Tests.{never, not_true}
 use Rattle.lane_server.specs.Lanes.{lane_count, LaneLine, OfLane, Close, lane_line, numbered_line, of_lane, Handed}
 use Rattle.lane_server.specs.Lanes.{Input, InputStanding, Open, Closed, Faulty}
 use Rattle.lane_server.specs.Lanes.{TooManyLines, BadLane, no_input, next_line, goes_on}

@@ -13,7 +13,7 @@ use Rattle.dover_model.specs.Lines.{lines_of, rest_of, is_too_long}
 use Rattle.dover_model.specs.Session.{Session, instance_of, admitted_jobs}
 use Rattle.dover_model.specs.Settled.{settled}
 use Rattle.dover_model.specs.WholeRun.{Begins}
-use Rattle.dover_model.proofs.Accounts.{lines_goes}
+use Rattle.dover_model.proofs.sessions.Accounts.{lines_goes}
 use Rattle.line_text.specs.Cutting.{Cutting, StandsFor, with_byte}
 use Rattle.dover_model.specs.Horizons.{due_by}
 use Rattle.dover_model.specs.declared.horizon.Horizon.TheVariants.{Mark}

@@ -13,10 +13,10 @@ use Rattle.dover_model.specs.Trace.{texts_among}
 use Rattle.dover_model.specs.Feed.{Account, Standing, Open, Ended, Faulty, Cause, Lines, Line, Declared, Order}
 use Rattle.dover_model.specs.Feed.{NotAdmitted, NotDone, Short, is_ended, is_open}
 use Rattle.dover_model.specs.Due.{due_lines, decided_lines, fault_lines, fault_text, cause_word, short_lines}
-use Rattle.dover_model.proofs.Cuts.{is_feed, HasNoFeed}
-use Rattle.dover_model.proofs.Members.{all_append}
-use Rattle.dover_model.proofs.NoFeeds.{feedless_line, feedless_decimal, feedless_refusal, feedless_texts}
-use Rattle.dover_model.proofs.NoFeeds.{feedless_header}
+use Rattle.dover_model.proofs.texts.Cuts.{is_feed, HasNoFeed}
+use Rattle.dover_model.proofs.lists.Members.{all_append}
+use Rattle.dover_model.proofs.texts.NoFeeds.{feedless_line, feedless_decimal, feedless_refusal, feedless_texts}
+use Rattle.dover_model.proofs.texts.NoFeeds.{feedless_header}
 
 -- ---- lines that are due
 

@@ -13,11 +13,11 @@ use Rattle.dover_model.specs.Due.{fault_text}
 use Rattle.dover_model.specs.declared.horizon.Horizon.{Horizon}
 use Rattle.dover_model.specs.declared.horizon.Horizon.TheVariants.{Mark}
 use Rattle.dover_model.specs.Horizons.{due_by}
-use Rattle.dover_model.proofs.Horizons.{due_few}
-use Rattle.dover_model.proofs.Meeting.{finishing_valid}
-use Rattle.dover_model.proofs.Limiting.{jobs_most}
+use Rattle.dover_model.proofs.settled.Horizons.{due_few}
+use Rattle.dover_model.proofs.finishes.Meeting.{finishing_valid}
+use Rattle.dover_model.proofs.valid.Limiting.{jobs_most}
 use Rattle.dover_model.specs.Settled.{settled}
-use Rattle.dover_model.proofs.Valid.{valid_front}
+use Rattle.dover_model.proofs.valid.Valid.{valid_front}
 use Rattle.dover_model.specs.Session.{is_full}
 use Rattle.dover_model.specs.JobFacts.{JobFacts}
 use Rattle.lane_server.proofs.Finishing.{lines_by}

@@ -20,15 +20,15 @@ use Rattle.dover_model.specs.Numerals.{AreShort}
 use Rattle.dover_model.specs.WholeRun.{Begins}
 use Rattle.dover_model.specs.Feed.{Account, Open}
 use Rattle.dover_model.specs.Due.{due_lines}
-use Rattle.dover_model.proofs.Accounts.{IsKept}
-use Rattle.dover_model.proofs.Beginnings.{begins_all, begins_onward}
-use Rattle.dover_model.proofs.Emitting.{texts_more, texts_refused}
-use Rattle.dover_model.proofs.Further.{completes_at_mark}
-use Rattle.dover_model.proofs.Growing.{Reads, reads_later, settled_later, finish_instance, refused_instance}
-use Rattle.dover_model.proofs.Horizons.{follows_on}
-use Rattle.dover_model.proofs.Meeting.{finishing_valid}
-use Rattle.dover_model.proofs.PutIn.{places_after-append}
-use Rattle.dover_model.proofs.RightFinishes.{FinishSays, finish_says, finish_runs}
+use Rattle.dover_model.proofs.sessions.Accounts.{IsKept}
+use Rattle.dover_model.proofs.lists.Beginnings.{begins_all, begins_onward}
+use Rattle.dover_model.proofs.sessions.Emitting.{texts_more, texts_refused}
+use Rattle.dover_model.proofs.finishes.Further.{completes_at_mark}
+use Rattle.dover_model.proofs.sessions.Growing.{Reads, reads_later, settled_later, finish_instance, refused_instance}
+use Rattle.dover_model.proofs.settled.Horizons.{follows_on}
+use Rattle.dover_model.proofs.finishes.Meeting.{finishing_valid}
+use Rattle.dover_model.proofs.sessions.PutIn.{places_after-append}
+use Rattle.dover_model.proofs.finishes.RightFinishes.{FinishSays, finish_says, finish_runs}
 use Rattle.event_feed.specs.Answers.{AddsDone, counted}
 use Rattle.event_feed.proofs.DoneLines.{session_done, done_session, done_standing, done_mark}
 use Rattle.lane_server.specs.Lane.{Fits, Running, Finishing, done_item, done_lines}

@@ -11,9 +11,9 @@ use Rattle.dover_model.specs.declared.events.Version.TheVariants.{Three}
 use Rattle.dover_model.specs.Limits.{most_lines}
 use Rattle.dover_model.specs.Lines.{whole_lines, rest_of, lines_of, is_too_long, fields_of}
 use Rattle.dover_model.specs.WholeRun.{Begins}
-use Rattle.dover_model.proofs.GrowingTexts.{read_append}
-use Rattle.dover_model.proofs.Beginnings.{begins_in_lines}
-use Rattle.dover_model.proofs.Tests.{never}
+use Rattle.dover_model.proofs.texts.GrowingTexts.{read_append}
+use Rattle.dover_model.proofs.lists.Beginnings.{begins_in_lines}
+use Rattle.dover_model.proofs.lists.Tests.{never}
 use Rattle.line_text.proofs.Lengths.{AreNotTooLong, text_few}
 use Rattle.lane_server.specs.Lanes.{LaneLine, OfLane, Close, lane_line, numbered_line, Handed, Input, InputStanding}
 use Rattle.lane_server.specs.Lanes.{Open, Closed, Faulty}

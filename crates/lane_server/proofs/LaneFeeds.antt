@@ -10,7 +10,7 @@ use Rattle.dover_model.specs.Lines.{whole_lines, in_lines}
 use Rattle.dover_model.specs.Feed as feeds
 use Rattle.dover_model.specs.Feed.{Standing, Short, account, account_of_lines, is_ended}
 use Rattle.dover_model.specs.Due.{due, fault_text}
-use Rattle.dover_model.proofs.Tests.{never}
+use Rattle.dover_model.proofs.lists.Tests.{never}
 use Rattle.lane_server.specs.Lanes.{lane_count, Handed, Input, InputStanding, Open, Closed, Faulty}
 use Rattle.lane_server.specs.Lanes.{input, lane_lines, is_fine, all_ended}
 use Rattle.lane_server.specs.Alone.{lane_feed, closed_feed, served_alone}

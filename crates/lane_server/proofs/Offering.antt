@@ -21,16 +21,16 @@ use Rattle.dover_model.specs.Numerals.{AreShort}
 use Rattle.dover_model.specs.WholeRun.{Begins}
 use Rattle.dover_model.specs.Feed.{Account, Open, account_of_lines}
 use Rattle.dover_model.specs.Due.{due_lines}
-use Rattle.dover_model.proofs.JobLimits.{job_limits}
-use Rattle.dover_model.proofs.Accounts.{IsKept}
-use Rattle.dover_model.proofs.Admitting.{not_refused}
+use Rattle.dover_model.proofs.valid.JobLimits.{job_limits}
+use Rattle.dover_model.proofs.sessions.Accounts.{IsKept}
+use Rattle.dover_model.proofs.valid.Admitting.{not_refused}
 use Rattle.admission.proofs.Joining.{admitted_valid}
-use Rattle.dover_model.proofs.Beginnings.{begins_onward}
-use Rattle.dover_model.proofs.Emitting.{texts_more, texts_job, texts_refused}
-use Rattle.dover_model.proofs.Growing.{Reads, reads_later, settled_later, job_instance, refused_instance}
-use Rattle.dover_model.proofs.Horizons.{follows_on}
-use Rattle.dover_model.proofs.Members.{some_same}
-use Rattle.dover_model.proofs.ValidParts.{ValidParts, valid_parts}
+use Rattle.dover_model.proofs.lists.Beginnings.{begins_onward}
+use Rattle.dover_model.proofs.sessions.Emitting.{texts_more, texts_job, texts_refused}
+use Rattle.dover_model.proofs.sessions.Growing.{Reads, reads_later, settled_later, job_instance, refused_instance}
+use Rattle.dover_model.proofs.settled.Horizons.{follows_on}
+use Rattle.dover_model.proofs.lists.Members.{some_same}
+use Rattle.dover_model.proofs.valid.ValidParts.{ValidParts, valid_parts}
 use Rattle.event_feed.specs.Answers.{AddsJob, IsFed, counted, offered_item}
 use Rattle.event_feed.specs.Kept as feed
 use Rattle.event_feed.specs.declared.faults.FeedFault.{FeedFault}

@@ -12,7 +12,7 @@ use Rattle.dover_model.specs.Feed.{Account, account_of_lines}
 use Rattle.dover_model.specs.declared.horizon.Horizon.{Horizon}
 use Rattle.dover_model.specs.declared.horizon.Horizon.TheVariants.{Mark}
 use Rattle.dover_model.specs.Horizons.{MayFollow, due_by}
-use Rattle.dover_model.proofs.Horizons.{follows_on}
+use Rattle.dover_model.proofs.settled.Horizons.{follows_on}
 use Rattle.event_feed.specs.Kept as feed
 use Rattle.lane_server.specs.Lane.{Fits, Running, Admitting, Owes, GivesFault, Stands, IsQuiet, Gives, IntakeStands}
 use Rattle.lane_server.specs.Lane.{reach}

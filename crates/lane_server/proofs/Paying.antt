@@ -12,7 +12,7 @@ use Rattle.event_feed.specs.Answers.{offered_item}
 use Rattle.std.specs.Option.{option_map_or}
 use Rattle.dover_model.specs.declared.horizon.Horizon.{Horizon}
 use Rattle.dover_model.specs.Spending.{CostsAtMost}
-use Rattle.dover_model.proofs.Spending.{few_more}
+use Rattle.dover_model.proofs.runs.Spending.{few_more}
 use Rattle.event_feed.specs.Answers.{admitted_in}
 use Rattle.event_feed.proofs.Admitting.{job_more, refused_more, finish_more, admitted_by}
 use Rattle.lane_server.specs.Lane.{Fits, Owes, done_item}

@@ -13,7 +13,7 @@ use Rattle.dover_model.specs.Text.{text_of, refused_text}
 use Rattle.dover_model.specs.Feed.{Account, Cause, Open, Faulty, account_of_lines, is_open, is_ended}
 use Rattle.dover_model.specs.Due.{due_lines}
 use Rattle.dover_model.specs.Numerals.{AreShort}
-use Rattle.dover_model.proofs.Accounts.{IsKept}
+use Rattle.dover_model.proofs.sessions.Accounts.{IsKept}
 use Rattle.dover_model.specs.declared.horizon.Horizon.{Horizon}
 use Rattle.dover_model.specs.declared.horizon.Horizon.TheVariants.{Mark, End}
 use Rattle.dover_model.specs.Horizons.{MayFollow, due_by}

@@ -4,8 +4,8 @@ use Rattle.std.proofs.Common.{◌∙◌, subst}
 use Rattle.std.proofs.Common.{Bool, true, false, cond, arith}
 use Rattle.std.specs.Prelude.{if◌then◌else◌}
 use Rattle.dover_model.specs.Lines.{whole_lines, rest_of, lines_of, is_too_long, cut}
-use Rattle.dover_model.proofs.Cuts.{CutText, is_feed, onto, cut_feed, cut_other, cut_append}
-use Rattle.dover_model.proofs.Tests.{never}
+use Rattle.dover_model.proofs.texts.Cuts.{CutText, is_feed, onto, cut_feed, cut_other, cut_append}
+use Rattle.dover_model.proofs.lists.Tests.{never}
 use Rattle.line_text.specs.declared.cutting.ByteEffect.{ByteEffect}
 use Rattle.line_text.specs.declared.cutting.ByteEffect.TheVariants.{More, Line, TooLong}
 use Rattle.line_text.specs.Cutting.{Cutting, most_count, is_over, StandsFor, with_byte, HasCut, goes_on, after_byte}

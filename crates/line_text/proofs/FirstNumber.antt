@@ -18,7 +18,7 @@ use Rattle.std.proofs.lemmas.List.Splits.{slice_split-cons_yes, slice_split-cons
 use denote.Ref.{Bor}
 use Rattle.dover_model.specs.Lines.{fields_of}
 use Rattle.dover_model.specs.Numerals.{number_onto, is_plain, numeral, numerals}
-use Rattle.dover_model.proofs.Fields.{is_space, HasNoSpace, digits_have_no_space}
+use Rattle.dover_model.proofs.texts.Fields.{is_space, HasNoSpace, digits_have_no_space}
 use Rattle.line_text.specs.Reading.{fields_left, number_of_first}
 
 -- ---- digits

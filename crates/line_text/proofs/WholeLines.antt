@@ -8,7 +8,7 @@ use Rattle.std.proofs.lemmas.List.{append-nil, take_at, take_more, length-take}
 use Rattle.std.proofs.lemmas.List.Concat.{flat_map-cons}
 use Rattle.std.proofs.lemmas.Bool.{and_from, eqb-true}
 use Rattle.dover_model.specs.Lines.{cut, whole_lines, rest_of, lines_of, is_too_long}
-use Rattle.dover_model.proofs.Cuts.{CutText, HasNoFeed, onto, cut_append, cut_in_lines}
+use Rattle.dover_model.proofs.texts.Cuts.{CutText, HasNoFeed, onto, cut_append, cut_in_lines}
 use Rattle.line_text.specs.declared.cutting.ByteEffect.TheVariants.{Line}
 use Rattle.line_text.specs.Cutting.{Cutting, StandsFor, HasCut, IsWholeLine, begun_line, most_count}
 

@@ -11,7 +11,7 @@ use Rattle.dover_model.specs.Entries.{entry_of}
 use Rattle.dover_model.specs.State.{left, latest_start}
 use Rattle.dover_model.specs.Sound.{IsMember, Each, IsNumberedFrom}
 use Rattle.dover_model.specs.Pieces.{given}
-use Rattle.dover_model.proofs.Roles.{numbers_above}
+use Rattle.dover_model.proofs.steps.Roles.{numbers_above}
 use Rattle.policy_lab.specs.Picks.{HaveOwnNumbers, AreReady, number_of}
 use Rattle.policy_lab.specs.PolicyRun.{is_ready}
 use Rattle.policy_lab.specs.Bench.{given_entry, is_in_time, served_value, spent_value}

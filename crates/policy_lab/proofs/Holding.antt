@@ -13,14 +13,14 @@ use Rattle.dover_model.specs.Entries.{entry_of}
 use Rattle.dover_model.specs.State.{to_come}
 use Rattle.dover_model.specs.Pieces.{given}
 use Rattle.dover_model.specs.Sound.{IsMember, Each}
-use Rattle.dover_model.proofs.Members.{on_map, all_member, member_front, member_behind, each_behind}
-use Rattle.dover_model.proofs.Releasing.{coming_task}
+use Rattle.dover_model.proofs.lists.Members.{on_map, all_member, member_front, member_behind, each_behind}
+use Rattle.dover_model.proofs.settled.Releasing.{coming_task}
 use Rattle.policy_lab.specs.PolicyRun.{is_ready}
 use Rattle.policy_lab.specs.Bench.{HasReady, given_entry, is_in_time, entry_to_come}
 use Rattle.policy_lab.proofs.Given.{ready_says, says_ready, given_other, given_job, Fits}
 use Rattle.policy_lab.proofs.Entries.{entries_after}
-use Rattle.dover_model.proofs.ValidParts.{ReleasesInOrder}
-use Rattle.dover_model.proofs.JobLimits.{job_limits}
+use Rattle.dover_model.proofs.valid.ValidParts.{ReleasesInOrder}
+use Rattle.dover_model.proofs.valid.JobLimits.{job_limits}
 
 -- ---- jobs in order
 

@@ -15,14 +15,14 @@ use Rattle.dover_model.specs.Run.{last_deadline}
 use Rattle.dover_model.specs.Pieces.{given}
 use Rattle.dover_model.specs.Online.{known_at}
 use Rattle.dover_model.specs.Sound.{IsMember, Each}
-use Rattle.dover_model.proofs.Members.{on_map, member_front}
-use Rattle.dover_model.proofs.Prefixes.{come_append}
-use Rattle.dover_model.proofs.Valid.{Split, split_known}
-use Rattle.dover_model.proofs.Resting.{later_due, due_least}
+use Rattle.dover_model.proofs.lists.Members.{on_map, member_front}
+use Rattle.dover_model.proofs.settled.Prefixes.{come_append}
+use Rattle.dover_model.proofs.valid.Valid.{Split, split_known}
+use Rattle.dover_model.proofs.rest.Resting.{later_due, due_least}
 use Rattle.policy_lab.specs.Picks.{Picks}
 use Rattle.policy_lab.specs.PolicyRun.{is_ready, picked, policy_run_from, policy_run}
 use Rattle.policy_lab.proofs.Given.{ready_says, given_job}
-use Rattle.dover_model.proofs.ValidParts.{ReleasesInOrder}
+use Rattle.dover_model.proofs.valid.ValidParts.{ReleasesInOrder}
 
 -- of tasks that can't be ready none is
 none_ready : (t : ℕ) (tasks : List Task) → Each (λ task. is_ready t task ≡ true → ⊥) tasks

@@ -17,11 +17,11 @@ use Rattle.dover_model.specs.Schedules.{ticks_given, is_served, worth}
 use Rattle.dover_model.specs.Pieces.{given}
 use Rattle.dover_model.specs.Run.{last_deadline}
 use Rattle.dover_model.specs.Sound.{IsMember, Each, IsNumberedFrom, jobs_of}
-use Rattle.dover_model.proofs.Kept.{come_numbered, come_jobs}
-use Rattle.dover_model.proofs.Members.{on_map, sum_same}
-use Rattle.dover_model.proofs.Roles.{numbered_map, one_number}
-use Rattle.dover_model.proofs.Serving.{given_nil}
-use Rattle.dover_model.proofs.Honest.{numbers_low, count_jobs, sum_tasks, given_miss, given_hit}
+use Rattle.dover_model.proofs.steps.Kept.{come_numbered, come_jobs}
+use Rattle.dover_model.proofs.lists.Members.{on_map, sum_same}
+use Rattle.dover_model.proofs.steps.Roles.{numbered_map, one_number}
+use Rattle.dover_model.proofs.runs.Serving.{given_nil}
+use Rattle.dover_model.proofs.runs.Honest.{numbers_low, count_jobs, sum_tasks, given_miss, given_hit}
 use Rattle.policy_lab.specs.Picks.{Picks, IsPick, IsPolicy}
 use Rattle.policy_lab.specs.PolicyRun.{is_ready, picked, policy_run_from, policy_run}
 use Rattle.policy_lab.specs.Bench.{tasks_at, schedule_before, served_value}

@@ -9,7 +9,7 @@ use Rattle.dover_model.specs.Pieces.{spread}
 use Rattle.dover_model.specs.Run.{completed_value, ran}
 use Rattle.dover_model.specs.Schedules.{worth}
 use Rattle.dover_model.specs.declared.pieces.Piece.{Piece}
-use Rattle.dover_model.proofs.Honest.{observed_honest}
+use Rattle.dover_model.proofs.runs.Honest.{observed_honest}
 use Rattle.dover_port.specs.declared.status.Status.TheVariants.{Done}
 use Rattle.question_words.specs.Best.{SaysBest, IsOptimum}
 use Rattle.question_words.specs.Texts.{piece_lines}

@@ -15,10 +15,10 @@ use Rattle.dover_model.specs.JobFacts.{JobFacts, IsJob}
 use Rattle.dover_model.specs.Session.{EarlyFinish, finish_at}
 use Rattle.dover_model.specs.Spending.{CostsAtMost}
 use Rattle.dover_model.specs.Observed.{observed}
-use Rattle.dover_model.proofs.Honest.{observed_all}
-use Rattle.dover_model.proofs.Horizons.{may_follow}
-use Rattle.dover_model.proofs.Meeting.{finishing_valid}
-use Rattle.dover_model.proofs.Valid.{all_front, all_back, valid_front}
+use Rattle.dover_model.proofs.runs.Honest.{observed_all}
+use Rattle.dover_model.proofs.settled.Horizons.{may_follow}
+use Rattle.dover_model.proofs.finishes.Meeting.{finishing_valid}
+use Rattle.dover_model.proofs.valid.Valid.{all_front, all_back, valid_front}
 use Rattle.event_feed.specs.declared.listed.DoneLine.{DoneLine}
 use Rattle.event_feed.specs.Listing.{StandsAmong, StandAmong, ComesBehind, AreInTurn, jobs_before, with_early}
 use Rattle.event_feed.specs.Listing.{right_finishes, handed, declared_in, listed_instance}
@@ -28,7 +28,7 @@ use Rattle.ready_server.specs.Running.{HasShown, CanFeed, HasFed, with_finish, f
 use Rattle.ready_server.specs.declared.server.ReadyServer.{ReadyServer}
 use Rattle.ready_server.proofs.Feeding.{can_first}
 use Rattle.question_words.specs.Replaying.{bare_instance}
-use Rattle.dover_model.proofs.ValidParts.{valid_parts}
+use Rattle.dover_model.proofs.valid.ValidParts.{valid_parts}
 
 -- the run of the first of these jobs, with the finishes of these done lines
 abbrev pub run_of : Declaration → List JobFacts → (count : ℕ) → List DoneLine → Instance

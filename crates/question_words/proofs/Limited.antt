@@ -7,8 +7,8 @@ use Rattle.std.proofs.lemmas.List.Sums.{sum_by-cons}
 use Rattle.dover_model.specs.Instance.{Instance, IsListable, IsValid, total_value}
 use Rattle.dover_model.specs.JobFacts.{JobFacts, IsJob}
 use Rattle.policy_lab.specs.PolicyRun.{AreTooLarge}
-use Rattle.dover_model.proofs.ValidParts.{valid_parts}
-use Rattle.dover_model.proofs.JobLimits.{job_limits}
+use Rattle.dover_model.proofs.valid.ValidParts.{valid_parts}
+use Rattle.dover_model.proofs.valid.JobLimits.{job_limits}
 
 -- no job is worth more than 10^9
 total_low : (jobs : List JobFacts) → AllByRecursion IsJob jobs → total_value jobs ≤ 1_000_000_000 * length jobs

@@ -9,10 +9,10 @@ use Rattle.dover_model.specs.Instance.{Instance, IsListable, IsValid, total_valu
 use Rattle.dover_model.specs.JobFacts.{JobFacts}
 use Rattle.dover_model.specs.Observed.{observed}
 use Rattle.dover_model.specs.Run.{completed_value, ran}
-use Rattle.dover_model.proofs.Honest.{observed_honest, observed_all}
-use Rattle.dover_model.proofs.Members.{map_same, sum_le, sum_filter}
-use Rattle.dover_model.proofs.Parting.{worth_to}
-use Rattle.dover_model.proofs.Runs.{all_value}
+use Rattle.dover_model.proofs.runs.Honest.{observed_honest, observed_all}
+use Rattle.dover_model.proofs.lists.Members.{map_same, sum_le, sum_filter}
+use Rattle.dover_model.proofs.rest.Parting.{worth_to}
+use Rattle.dover_model.proofs.runs.Runs.{all_value}
 use Rattle.dover_model.specs.Books.{Job}
 use Rattle.dover_model.specs.Schedules.{Meets, is_served, numbered}
 use Rattle.dover_model.specs.Windows.{is_inside}

@@ -24,23 +24,23 @@ use Rattle.dover_model.specs.State.{State, opening, is_over, is_done, value_sum}
 use Rattle.dover_model.specs.Step.{Move, Prints, Waits, Ticks, step, after, ending, ◌or_else◌, with_role, displaced}
 use Rattle.dover_model.specs.Step.{ticked}
 use Rattle.dover_model.specs.WholeRun.{IsWholeRun}
-use Rattle.dover_model.proofs.Deeds.{Deed, Completed, Resumed, Started, Began, Preempted, Stayed, Arrived, Taken}
-use Rattle.dover_model.proofs.Deeds.{Abandoned, Rested}
-use Rattle.dover_model.proofs.Ending.{end_over, run_is_whole}
-use Rattle.dover_model.proofs.Honest.{Outcome, whole_outcome}
-use Rattle.dover_model.proofs.Kept.{step_deed, step_kept, opening_keeps, come_coming, end_same}
-use Rattle.dover_model.proofs.Members.{on_map, all_member, map_member}
-use Rattle.dover_model.proofs.OneChange.{state_with, on_changed}
-use Rattle.dover_model.proofs.Resting.{numbers_below}
-use Rattle.dover_model.proofs.Roles.{passes, one_number, is_over_role, numbers_above}
-use Rattle.dover_model.proofs.Tests.{never}
-use Rattle.dover_model.proofs.Ticking.{Quiet}
+use Rattle.dover_model.proofs.steps.Deeds.{Deed, Completed, Resumed, Started, Began, Preempted, Stayed, Arrived, Taken}
+use Rattle.dover_model.proofs.steps.Deeds.{Abandoned, Rested}
+use Rattle.dover_model.proofs.runs.Ending.{end_over, run_is_whole}
+use Rattle.dover_model.proofs.runs.Honest.{Outcome, whole_outcome}
+use Rattle.dover_model.proofs.steps.Kept.{step_deed, step_kept, opening_keeps, come_coming, end_same}
+use Rattle.dover_model.proofs.lists.Members.{on_map, all_member, map_member}
+use Rattle.dover_model.proofs.steps.OneChange.{state_with, on_changed}
+use Rattle.dover_model.proofs.rest.Resting.{numbers_below}
+use Rattle.dover_model.proofs.steps.Roles.{passes, one_number, is_over_role, numbers_above}
+use Rattle.dover_model.proofs.lists.Tests.{never}
+use Rattle.dover_model.proofs.steps.Ticking.{Quiet}
 use Rattle.dover_model.specs.Books.{Job}
 use Rattle.question_words.specs.Loss.{completes, is_completed}
 use Rattle.question_words.specs.Replaying.{with_work, job_seen, jobs_seen}
-use Rattle.dover_model.proofs.Booked.{displaced_done}
-use Rattle.dover_model.proofs.ValidParts.{ReleasesInOrder, order_from, valid_parts}
-use Rattle.dover_model.proofs.JobLimits.{job_limits, job_from}
+use Rattle.dover_model.proofs.bound.Booked.{displaced_done}
+use Rattle.dover_model.proofs.valid.ValidParts.{ReleasesInOrder, order_from, valid_parts}
+use Rattle.dover_model.proofs.valid.JobLimits.{job_limits, job_from}
 
 -- ---- which jobs are done
 

@@ -14,8 +14,8 @@ use Rattle.dover_model.specs.Orders.{starts_before, first}
 use Rattle.dover_model.specs.State.{waiting, left, latest_start}
 use Rattle.dover_model.specs.Step.{View, view, with_role, is_at_latest_start}
 use Rattle.dover_model.specs.Sound.{Each}
-use Rattle.dover_model.proofs.Members.{some_same, sum_map}
-use Rattle.dover_model.proofs.Tests.{none_is_some}
+use Rattle.dover_model.proofs.lists.Members.{some_same, sum_map}
+use Rattle.dover_model.proofs.lists.Tests.{none_is_some}
 use Rattle.ready_jobs.specs.Cases.{next_of}
 use Rattle.dover_model.specs.Ready.{is_ready}
 use Rattle.waiting_pool.specs.Reordered.{IsReordered}

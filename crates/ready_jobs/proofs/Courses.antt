@@ -23,29 +23,28 @@ use Rattle.dover_model.specs.Run.{event_of, is_end, last_deadline}
 use Rattle.dover_model.specs.Settled.{waits_for_mark, AreOverFor, finish_now}
 use Rattle.dover_model.specs.Sound.{IsMember, Each, Keeps}
 use Rattle.dover_model.specs.WholeRun.{IsBarrier}
-use Rattle.dover_model.proofs.Members.{sum_filter, sum_le, sum_map, member_filter, term_le_sum, member_either, on_map}
-use Rattle.dover_model.proofs.Members.{found, member_front, member_behind}
-use Rattle.dover_model.proofs.Members.{filter_member, some_same}
-use Rattle.dover_model.proofs.Roles.{passes, is_running_role}
-use Rattle.dover_model.proofs.Readiness.{runner}
-use Rattle.dover_model.proofs.Deeds.{Deed as RunDeed, Completed}
-use Rattle.dover_model.proofs.Kept.{opening_keeps}
-use Rattle.dover_model.proofs.Honest.{count_jobs}
-use Rattle.dover_model.proofs.Prefixes.{step_open}
-use Rattle.dover_model.proofs.Resting.{tick_keeps, numbers_below}
-use Rattle.dover_model.proofs.Settling.{at_barrier}
-use Rattle.dover_model.proofs.ShortNumbers.{deadline_known, ticks_early}
-use Rattle.dover_model.proofs.Tests.{not_true, never, none_is_some}
+use Rattle.dover_model.proofs.lists.Members.{sum_filter, sum_le, sum_map, member_filter, term_le_sum, member_either}
+use Rattle.dover_model.proofs.lists.Members.{on_map, found, member_front, member_behind, filter_member, some_same}
+use Rattle.dover_model.proofs.steps.Roles.{passes, is_running_role}
+use Rattle.dover_model.proofs.finishes.Readiness.{runner}
+use Rattle.dover_model.proofs.steps.Deeds.{Deed as RunDeed, Completed}
+use Rattle.dover_model.proofs.steps.Kept.{opening_keeps}
+use Rattle.dover_model.proofs.runs.Honest.{count_jobs}
+use Rattle.dover_model.proofs.settled.Prefixes.{step_open}
+use Rattle.dover_model.proofs.rest.Resting.{tick_keeps, numbers_below}
+use Rattle.dover_model.proofs.settled.Settling.{at_barrier}
+use Rattle.dover_model.proofs.traces.ShortNumbers.{deadline_known, ticks_early}
+use Rattle.dover_model.proofs.lists.Tests.{not_true, never, none_is_some}
 use Rattle.dover_model.specs.Leading.{GoesOn, IsSilent, Idles, Settles, WaitsUntil, PrintsNext}
-use Rattle.dover_model.proofs.Meeting.{finishing_valid}
-use Rattle.dover_model.proofs.Further.{over_open}
-use Rattle.dover_model.proofs.OverFor.{over_after, over_then}
-use Rattle.dover_model.proofs.OverPaths.{settles_over}
+use Rattle.dover_model.proofs.finishes.Meeting.{finishing_valid}
+use Rattle.dover_model.proofs.finishes.Further.{over_open}
+use Rattle.dover_model.proofs.finishes.OverFor.{over_after, over_then}
+use Rattle.dover_model.proofs.finishes.OverPaths.{settles_over}
 use Rattle.dover_model.specs.Ready.{is_ready}
-use Rattle.dover_model.proofs.Leading.{late_silent, over_ends}
-use Rattle.dover_model.proofs.ReadyParts.{change}
-use Rattle.dover_model.proofs.Waiting.{some_goes_on, settles_idles, over_waits_until}
-use Rattle.dover_model.proofs.Limiting.{jobs_most, total_most}
+use Rattle.dover_model.proofs.settled.Leading.{late_silent, over_ends}
+use Rattle.dover_model.proofs.steps.ReadyParts.{change}
+use Rattle.dover_model.proofs.settled.Waiting.{some_goes_on, settles_idles, over_waits_until}
+use Rattle.dover_model.proofs.valid.Limiting.{jobs_most, total_most}
 use Rattle.waiting_pool.specs.Reordered.{IsReordered}
 use Rattle.ready_jobs.specs.Parts.{Parted, HaveRoles, ready_of, state_of}
 use Rattle.ready_jobs.specs.Following.{PartOf, IsPart, SettlesTo}
@@ -60,7 +59,7 @@ use Rattle.ready_jobs.proofs.Changes.{once_numbered, once_some, once_still, map_
 use Rattle.ready_jobs.proofs.Seeing.{running_list}
 use Rattle.ready_jobs.proofs.Doing.{prints_event}
 use Rattle.ready_jobs.proofs.Following.{part_step, part_moves, part_does, there, ready_once}
-use Rattle.dover_model.proofs.ValidParts.{valid_parts, valid_from}
+use Rattle.dover_model.proofs.valid.ValidParts.{valid_parts, valid_from}
 
 -- ---- what is kept
 

@@ -12,7 +12,7 @@ use Rattle.dover_model.specs.Entries.{entry_of}
 use Rattle.dover_model.specs.Jumps.{ticked_by}
 use Rattle.dover_model.specs.Step.{with_role}
 use Rattle.dover_model.specs.Sound.{IsMember, Each}
-use Rattle.dover_model.proofs.Members.{on_map, member_front, member_behind, each_append}
+use Rattle.dover_model.proofs.lists.Members.{on_map, member_front, member_behind, each_append}
 use Rattle.held_stack.specs.Kept.{Lasting, AreRoomsOf}
 use Rattle.waiting_pool.specs.Pools.{Pooled}
 use Rattle.ready_jobs.specs.Parts.{Parted, AreParts, HaveRole, ready_of, head_of, tail_of}

@@ -12,9 +12,9 @@ use Rattle.dover_model.specs.State.{State, is_fresh, is_running, left, latest_st
 use Rattle.dover_model.specs.Step.{Move, Prints, open_step}
 use Rattle.dover_model.specs.Run.{is_end}
 use Rattle.dover_model.specs.Sound.{Each}
-use Rattle.dover_model.proofs.Members.{found, not_found}
-use Rattle.dover_model.proofs.Prefixes.{open_goes_on}
-use Rattle.dover_model.proofs.Roles.{fails, is_fresh_role}
+use Rattle.dover_model.proofs.lists.Members.{found, not_found}
+use Rattle.dover_model.proofs.settled.Prefixes.{open_goes_on}
+use Rattle.dover_model.proofs.steps.Roles.{fails, is_fresh_role}
 use Rattle.ready_jobs.specs.Course.{Course, Follows, IsCourse, Reached, ComesNext, course_of}
 use Rattle.ready_jobs.specs.Dues.{still_ticks}
 use Rattle.ready_jobs.specs.NextTick.{IsUnderWay, PrintsAt}

@@ -11,8 +11,8 @@ use Rattle.dover_model.specs.declared.events.Task.{Task}
 use Rattle.dover_model.specs.Instance.{Rules, bare, Instance, IsValid}
 use Rattle.dover_model.specs.State.{State, is_coming, is_done, is_over, value_sum, state_at}
 use Rattle.dover_model.specs.Sound.{IsMember, Each, Keeps}
-use Rattle.dover_model.proofs.Members.{each_append}
-use Rattle.dover_model.proofs.Honest.{count_jobs}
+use Rattle.dover_model.proofs.lists.Members.{each_append}
+use Rattle.dover_model.proofs.runs.Honest.{count_jobs}
 use Rattle.dover_model.specs.Ready.{is_ready, with_fresh}
 use Rattle.waiting_pool.specs.Reordered.{IsReordered}
 use Rattle.ready_jobs.specs.Course.{Course, Follows, fresh_job, with_release}

@@ -18,10 +18,10 @@ use Rattle.dover_model.specs.State.{latest_start, running}
 use Rattle.dover_model.specs.Orders.{due_first, starts_before, first, earlier}
 use Rattle.dover_model.specs.Step.{with_role, is_at_latest_start}
 use Rattle.dover_model.specs.Sound.{IsMember, Each}
-use Rattle.dover_model.proofs.EntryOrders.{strict_by, key_less}
-use Rattle.dover_model.proofs.Members.{reduce_none, filter_member, member_filter, some_same, find_none, find_head}
-use Rattle.dover_model.proofs.Roles.{passes}
-use Rattle.dover_model.proofs.Tests.{none_is_some}
+use Rattle.dover_model.proofs.steps.EntryOrders.{strict_by, key_less}
+use Rattle.dover_model.proofs.lists.Members.{reduce_none, filter_member, member_filter, some_same, find_none, find_head}
+use Rattle.dover_model.proofs.steps.Roles.{passes}
+use Rattle.dover_model.proofs.lists.Tests.{none_is_some}
 use Rattle.ready_jobs.specs.Dues.{until_latest, until_done, still_ticks}
 use Rattle.held_stack.specs.Stack.{IsByDeadline, IsDueBeforeAll}
 use Rattle.waiting_pool.specs.Pools.{HaveOwnNumbers}

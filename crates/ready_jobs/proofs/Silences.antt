@@ -6,7 +6,7 @@ use Rattle.std.specs.Option.{option_to_list, option_map}
 use Rattle.std.specs.List.{filter}
 use Rattle.std.proofs.lemmas.List.{length-append}
 use Rattle.dover_model.specs.Step.{due_finish}
-use Rattle.dover_model.proofs.Finishing.{not_complete}
+use Rattle.dover_model.proofs.finishes.Finishing.{not_complete}
 use Rattle.dover_model.specs.Fraction.{Fraction}
 use Rattle.dover_model.specs.Instance.{Rules}
 use Rattle.dover_model.specs.declared.events.Role.TheVariants.{Waiting}
@@ -18,14 +18,14 @@ use Rattle.dover_model.specs.Leading.{IsSilent}
 use Rattle.dover_model.specs.Step.{Move, Prints, Waits, Ticks, view, open_step, with_role, is_at_latest_start}
 use Rattle.dover_model.specs.Jumps.{ticked_by, later_by}
 use Rattle.ready_jobs.specs.Dues.{still_ticks}
-use Rattle.dover_model.proofs.ReadyParts.{change}
+use Rattle.dover_model.proofs.steps.ReadyParts.{change}
 use Rattle.waiting_pool.specs.Reordered.{IsReordered}
 use Rattle.ready_jobs.specs.Parts.{Parted, HaveRoles, AreSound, ready_of, state_of}
 use Rattle.ready_jobs.specs.Following.{IsPart, SettlesTo, SettlesFrom}
 use Rattle.waiting_pool.proofs.Reordering.{as_many}
 use Rattle.ready_jobs.specs.Changed.{AreOnce, Leaves}
 use Rattle.ready_jobs.proofs.Changes.{stays}
-use Rattle.dover_model.proofs.Tests.{none_is_some}
+use Rattle.dover_model.proofs.lists.Tests.{none_is_some}
 use Rattle.dover_model.specs.declared.events.Event.TheVariants as event
 use Rattle.ready_jobs.specs.Deeds.{step_at}
 use Rattle.ready_jobs.specs.declared.actions.Action.{Action}

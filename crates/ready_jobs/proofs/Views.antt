@@ -12,9 +12,9 @@ use Rattle.dover_model.specs.State.{least, demand_up_to, room}
 use Rattle.dover_model.specs.Orders.{first}
 use Rattle.dover_model.specs.Step.{view, open_step, is_at_latest_start}
 use Rattle.dover_model.specs.Sound.{Each, EachTwo}
-use Rattle.dover_model.proofs.EntryOrders.{strict_by}
-use Rattle.dover_model.proofs.Members.{map_same, member_filter}
-use Rattle.dover_model.proofs.Tests.{never}
+use Rattle.dover_model.proofs.steps.EntryOrders.{strict_by}
+use Rattle.dover_model.proofs.lists.Members.{map_same, member_filter}
+use Rattle.dover_model.proofs.lists.Tests.{never}
 use Rattle.waiting_pool.specs.Reordered.{IsReordered}
 use Rattle.waiting_pool.specs.Pools.{HaveOwnNumbers}
 use Rattle.waiting_pool.proofs.Pooling.{apart_or_one}

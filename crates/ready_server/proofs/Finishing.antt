@@ -15,19 +15,19 @@ use Rattle.dover_model.specs.Session.{EarlyFinish, finish_at, is_full}
 use Rattle.dover_model.specs.Sound.{IsMember}
 use Rattle.dover_model.specs.Paths.{HasPrinted}
 use Rattle.dover_model.specs.declared.horizon.Horizon.TheVariants.{Mark}
-use Rattle.dover_model.proofs.Barriers.{state_after}
-use Rattle.dover_model.proofs.Further.{printed_at_mark}
-use Rattle.dover_model.proofs.LastSteps.{last_tells}
-use Rattle.dover_model.proofs.Members.{found, all_member}
+use Rattle.dover_model.proofs.settled.Barriers.{state_after}
+use Rattle.dover_model.proofs.finishes.Further.{printed_at_mark}
+use Rattle.dover_model.proofs.settled.LastSteps.{last_tells}
+use Rattle.dover_model.proofs.lists.Members.{found, all_member}
 use Rattle.dover_model.specs.Processor.{runner_of}
-use Rattle.dover_model.proofs.Processors.{runner_said, runner_there}
-use Rattle.dover_model.proofs.Paths.{path_settles, one_settled_run}
-use Rattle.dover_model.proofs.Resting.{path_state, numbers_below}
-use Rattle.dover_model.proofs.RightFinishes.{all_before, finish_says, right_finish, none_late, none_other}
-use Rattle.dover_model.proofs.Roles.{passes, is_running_role}
-use Rattle.dover_model.proofs.Settling.{settled_is_run}
-use Rattle.dover_model.proofs.Waiting.{some_goes_on}
-use Rattle.dover_model.proofs.Limiting.{jobs_most}
+use Rattle.dover_model.proofs.finishes.Processors.{runner_said, runner_there}
+use Rattle.dover_model.proofs.settled.Paths.{path_settles, one_settled_run}
+use Rattle.dover_model.proofs.rest.Resting.{path_state, numbers_below}
+use Rattle.dover_model.proofs.finishes.RightFinishes.{all_before, finish_says, right_finish, none_late, none_other}
+use Rattle.dover_model.proofs.steps.Roles.{passes, is_running_role}
+use Rattle.dover_model.proofs.settled.Settling.{settled_is_run}
+use Rattle.dover_model.proofs.settled.Waiting.{some_goes_on}
+use Rattle.dover_model.proofs.valid.Limiting.{jobs_most}
 use Rattle.ready_jobs.proofs.Counting.{full_kept}
 use Rattle.ready_jobs.proofs.Runners.{one_runs}
 use Rattle.ready_jobs.specs.Course.{Course}
@@ -35,7 +35,7 @@ use Rattle.ready_jobs.specs.Course as course
 use Rattle.ready_server.specs.Serving.{Rests, Finishes}
 use Rattle.ready_server.specs.declared.server.ReadyServer.{ReadyServer}
 use Rattle.ready_server.proofs.Stepping.{last_more}
-use Rattle.dover_model.proofs.ValidParts.{valid_parts}
+use Rattle.dover_model.proofs.valid.ValidParts.{valid_parts}
 
 module _ (s : ReadyServer) (J : Instance) (at : ℕ) (rests : Rests s J (Mark at)) where
   -- where it has come

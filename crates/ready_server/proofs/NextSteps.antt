@@ -16,22 +16,22 @@ use Rattle.dover_model.specs.State.{State, opening, state_at, is_over, is_coming
 use Rattle.dover_model.specs.Step.{Move, Prints, Ticks, open_step, with_role}
 use Rattle.dover_model.specs.Paths.{HasPrinted}
 use Rattle.dover_model.specs.declared.horizon.Horizon.TheVariants.{Mark}
-use Rattle.dover_model.proofs.Barriers.{late_none_fresh}
-use Rattle.dover_model.proofs.Deeds.{Deed, Completed, Resumed, Started, Began, Preempted, Stayed, Arrived, Taken}
-use Rattle.dover_model.proofs.Deeds.{Abandoned, Rested}
-use Rattle.dover_model.proofs.Ending.{potential, ends}
-use Rattle.dover_model.proofs.Kept.{open_deed, opening_keeps}
-use Rattle.dover_model.proofs.LastSteps.{prints_clock}
-use Rattle.dover_model.proofs.Leading.{prints_first, prints_goes_on, stops_before}
-use Rattle.dover_model.proofs.Members.{filter_member, member_filter}
-use Rattle.dover_model.proofs.Paths.{one_settled_run, path_keeps, path_later, path_ready, path_then_settled}
-use Rattle.dover_model.proofs.Paths.{printed_then_run}
-use Rattle.dover_model.proofs.Prefixes.{step_open}
-use Rattle.dover_model.proofs.Readiness.{IsReady, opening_ready}
-use Rattle.dover_model.proofs.Roles.{passes, by_role}
-use Rattle.dover_model.proofs.Runs.{printed_append}
-use Rattle.dover_model.proofs.Settling.{at_barrier, settles, settled_is_run}
-use Rattle.dover_model.proofs.Tests.{never}
+use Rattle.dover_model.proofs.settled.Barriers.{late_none_fresh}
+use Rattle.dover_model.proofs.steps.Deeds.{Deed, Completed, Resumed, Started, Began, Preempted, Stayed, Arrived, Taken}
+use Rattle.dover_model.proofs.steps.Deeds.{Abandoned, Rested}
+use Rattle.dover_model.proofs.runs.Ending.{potential, ends}
+use Rattle.dover_model.proofs.steps.Kept.{open_deed, opening_keeps}
+use Rattle.dover_model.proofs.settled.LastSteps.{prints_clock}
+use Rattle.dover_model.proofs.settled.Leading.{prints_first, prints_goes_on, stops_before}
+use Rattle.dover_model.proofs.lists.Members.{filter_member, member_filter}
+use Rattle.dover_model.proofs.settled.Paths.{one_settled_run, path_keeps, path_later, path_ready, path_then_settled}
+use Rattle.dover_model.proofs.settled.Paths.{printed_then_run}
+use Rattle.dover_model.proofs.settled.Prefixes.{step_open}
+use Rattle.dover_model.proofs.finishes.Readiness.{IsReady, opening_ready}
+use Rattle.dover_model.proofs.steps.Roles.{passes, by_role}
+use Rattle.dover_model.proofs.runs.Runs.{printed_append}
+use Rattle.dover_model.proofs.settled.Settling.{at_barrier, settles, settled_is_run}
+use Rattle.dover_model.proofs.lists.Tests.{never}
 use Rattle.ready_jobs.specs.Course.{Follows}
 use Rattle.ready_jobs.specs.NextTick.{IsUnderWay, PrintsAt}
 use Rattle.ready_server.specs.NextStep.{ComesAt}

@@ -9,16 +9,16 @@ use Rattle.dover_model.specs.State.{State, is_coming}
 use Rattle.dover_model.specs.Step.{Move, Ticks, View, view, due_finish, declared_open_step, open_step}
 use Rattle.dover_model.specs.Settled.{waits_for_mark, settled_state}
 use Rattle.dover_model.specs.Sound.{IsMember, Each}
-use Rattle.dover_model.proofs.Barriers.{AtBarrier, settled_at_barrier}
-use Rattle.dover_model.proofs.Cases.{Case, Completes, Resumes, Starts, Begins, Preempts, Stays, Arrives, Takes}
-use Rattle.dover_model.proofs.Cases.{Abandons, Rests, NoneArrives, step_case}
-use Rattle.dover_model.proofs.Finishing.{late_unfinished}
-use Rattle.dover_model.proofs.Kept.{each_job}
-use Rattle.dover_model.proofs.Members.{found, not_found}
-use Rattle.dover_model.proofs.Moves.{says}
-use Rattle.dover_model.proofs.Roles.{fails, is_coming_role}
-use Rattle.dover_model.proofs.Settling.{at_barrier}
-use Rattle.dover_model.proofs.Tests.{never}
+use Rattle.dover_model.proofs.settled.Barriers.{AtBarrier, settled_at_barrier}
+use Rattle.dover_model.proofs.steps.Cases.{Case, Completes, Resumes, Starts, Begins, Preempts, Stays, Arrives, Takes}
+use Rattle.dover_model.proofs.steps.Cases.{Abandons, Rests, NoneArrives, step_case}
+use Rattle.dover_model.proofs.finishes.Finishing.{late_unfinished}
+use Rattle.dover_model.proofs.steps.Kept.{each_job}
+use Rattle.dover_model.proofs.lists.Members.{found, not_found}
+use Rattle.dover_model.proofs.steps.Moves.{says}
+use Rattle.dover_model.proofs.steps.Roles.{fails, is_coming_role}
+use Rattle.dover_model.proofs.settled.Settling.{at_barrier}
+use Rattle.dover_model.proofs.lists.Tests.{never}
 
 module _ (J : Instance) (valid : IsValid J) (mark : ℕ) (known : AllByRecursion (λ j. j.release ≤ mark) J.jobs) where
   -- the state at the barrier

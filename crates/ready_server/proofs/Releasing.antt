@@ -16,14 +16,14 @@ use Rattle.dover_model.specs.Settled.{waits_for_mark, settled}
 use Rattle.dover_model.specs.WholeRun.{IsBefore}
 use Rattle.dover_model.specs.Paths.{HasPrinted}
 use Rattle.dover_model.specs.Sound.{IsMember, Each, FitsRole, IsSound, Keeps}
-use Rattle.dover_model.proofs.Kept.{opening_keeps}
-use Rattle.dover_model.proofs.Paths.{path_keeps, printed_behind}
-use Rattle.dover_model.proofs.Releasing.{coming_task, barrier_releases}
-use Rattle.dover_model.proofs.Roles.{passes}
-use Rattle.dover_model.proofs.Settling.{at_barrier}
-use Rattle.dover_model.proofs.Tests.{never}
+use Rattle.dover_model.proofs.steps.Kept.{opening_keeps}
+use Rattle.dover_model.proofs.settled.Paths.{path_keeps, printed_behind}
+use Rattle.dover_model.proofs.settled.Releasing.{coming_task, barrier_releases}
+use Rattle.dover_model.proofs.steps.Roles.{passes}
+use Rattle.dover_model.proofs.settled.Settling.{at_barrier}
+use Rattle.dover_model.proofs.lists.Tests.{never}
 use Rattle.dover_model.specs.Ready.{with_fresh}
-use Rattle.dover_model.proofs.Released.{after_release}
+use Rattle.dover_model.proofs.runs.Released.{after_release}
 use Rattle.dover_model.specs.declared.horizon.Horizon.TheVariants.{Mark}
 use Rattle.waiting_pool.specs.Reordered.{IsReordered}
 use Rattle.ready_jobs.specs.Course.{Course, Follows, IsCourse, fresh_job, with_release}
@@ -32,8 +32,8 @@ use Rattle.ready_jobs.proofs.Releasing.{release_follows}
 use Rattle.ready_server.specs.Serving.{Serves, Rests}
 use Rattle.ready_server.specs.declared.server.ReadyServer.{ReadyServer}
 use Rattle.ready_server.proofs.Stepping.{printed_event, printed_low, last_more}
-use Rattle.dover_model.proofs.ValidParts.{valid_parts}
-use Rattle.dover_model.proofs.JobLimits.{job_limits}
+use Rattle.dover_model.proofs.valid.ValidParts.{valid_parts}
+use Rattle.dover_model.proofs.valid.JobLimits.{job_limits}
 
 -- a job that isn't to come was released
 pub not_ahead : (s : State) → IsSound s → (t : Task) → IsMember t s.tasks → is_coming t ≡ false

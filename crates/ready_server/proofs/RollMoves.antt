@@ -10,9 +10,9 @@ use Rattle.dover_model.specs.declared.events.Task.{Task}
 use Rattle.dover_model.specs.Sound.{IsMember, IsNumberedFrom, IsSound, NoneRuns}
 use Rattle.dover_model.specs.State.{State, is_held}
 use Rattle.dover_model.specs.Step.{with_role, displaced}
-use Rattle.dover_model.proofs.Members.{on_map, map_member, some_same}
-use Rattle.dover_model.proofs.Roles.{one_number, by_role}
-use Rattle.dover_model.proofs.RoleChanges.{with_role_at, all_displaced}
+use Rattle.dover_model.proofs.lists.Members.{on_map, map_member, some_same}
+use Rattle.dover_model.proofs.steps.Roles.{one_number, by_role}
+use Rattle.dover_model.proofs.steps.RoleChanges.{with_role_at, all_displaced}
 use Rattle.ready_server.specs.Roster.{Roll, ListedJob, had_with, stopped, is_turn, is_displaced, with_stop, halted}
 use Rattle.ready_server.specs.Roster.{started}
 use Rattle.ready_server.proofs.Rolls.{calm_role, Lists, Follows, set_here, set_there, length_set, at_clock, number_is}

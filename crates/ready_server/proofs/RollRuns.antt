@@ -18,14 +18,14 @@ use Rattle.dover_model.specs.Run.{Step, event_of, printed_of}
 use Rattle.dover_model.specs.Sound.{IsMember, Each, IsNumberedFrom, IsSound, Keeps, NoneRuns}
 use Rattle.dover_model.specs.State.{State, opening, is_running, left}
 use Rattle.dover_model.specs.Step.{Move, Prints, Waits, Ticks, open_step, after, with_role, ticked, displaced}
-use Rattle.dover_model.proofs.Deeds.{Deed, Completed, Resumed, Started, Began, Preempted, Stayed, Arrived, Taken}
-use Rattle.dover_model.proofs.Deeds.{Abandoned, Rested}
-use Rattle.dover_model.proofs.Kept.{open_deed, open_kept, opening_keeps, come_coming}
-use Rattle.dover_model.proofs.Members.{on_map, map_member, map_map}
-use Rattle.dover_model.proofs.Moves.{says}
-use Rattle.dover_model.proofs.Roles.{one_number, numbered_map, passes, is_running_role}
-use Rattle.dover_model.proofs.Tests.{never}
-use Rattle.dover_model.proofs.RoleChanges.{with_role_at, all_displaced, displaced_same, task_at}
+use Rattle.dover_model.proofs.steps.Deeds.{Deed, Completed, Resumed, Started, Began, Preempted, Stayed, Arrived, Taken}
+use Rattle.dover_model.proofs.steps.Deeds.{Abandoned, Rested}
+use Rattle.dover_model.proofs.steps.Kept.{open_deed, open_kept, opening_keeps, come_coming}
+use Rattle.dover_model.proofs.lists.Members.{on_map, map_member, map_map}
+use Rattle.dover_model.proofs.steps.Moves.{says}
+use Rattle.dover_model.proofs.steps.Roles.{one_number, numbered_map, passes, is_running_role}
+use Rattle.dover_model.proofs.lists.Tests.{never}
+use Rattle.dover_model.proofs.steps.RoleChanges.{with_role_at, all_displaced, displaced_same, task_at}
 use Rattle.ready_server.specs.Roster.{Roll, ListedJob, had_with, stopped, released, is_displaced, job_at, with_stop}
 use Rattle.ready_server.specs.Roster.{halted, started, with_event, empty_roll, roll_of}
 use Rattle.ready_server.proofs.Rolls.{calm_role, Lists, Follows, set_here, set_there, length_set, get_front, get_last}

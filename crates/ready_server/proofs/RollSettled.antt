@@ -21,17 +21,17 @@ use Rattle.dover_model.specs.WholeRun.{IsSettledRun, Begins}
 use Rattle.dover_model.specs.Sound.{IsMember, Each, IsNumberedFrom, Keeps}
 use Rattle.dover_model.specs.State.{State, opening, is_coming}
 use Rattle.dover_model.specs.Step.{open_step, after, with_role}
-use Rattle.dover_model.proofs.Barriers.{AtBarrier, settled_at_barrier, state_after}
-use Rattle.dover_model.proofs.Honest.{count_jobs}
-use Rattle.dover_model.proofs.Members.{some_same}
-use Rattle.dover_model.proofs.Roles.{passes, numbers_above}
-use Rattle.dover_model.proofs.Settling.{settled_is_run}
-use Rattle.dover_model.proofs.Tests.{never}
+use Rattle.dover_model.proofs.settled.Barriers.{AtBarrier, settled_at_barrier, state_after}
+use Rattle.dover_model.proofs.runs.Honest.{count_jobs}
+use Rattle.dover_model.proofs.lists.Members.{some_same}
+use Rattle.dover_model.proofs.steps.Roles.{passes, numbers_above}
+use Rattle.dover_model.proofs.settled.Settling.{settled_is_run}
+use Rattle.dover_model.proofs.lists.Tests.{never}
 use Rattle.dover_model.specs.declared.horizon.Horizon.{Horizon}
 use Rattle.dover_model.specs.declared.horizon.Horizon.TheVariants.{Mark, End}
 use Rattle.dover_model.specs.Horizons.{due_by}
-use Rattle.dover_model.proofs.Horizons.{due_few}
-use Rattle.dover_model.proofs.Limiting.{jobs_most}
+use Rattle.dover_model.proofs.settled.Horizons.{due_few}
+use Rattle.dover_model.proofs.valid.Limiting.{jobs_most}
 use Rattle.ready_server.specs.Serving as ready
 use Rattle.ready_server.specs.declared.server.ReadyServer.{ReadyServer}
 use Rattle.ready_server.specs.Roster.{Roll, ListedJob, stopped, released, job_at, with_event, empty_roll, roll_of}

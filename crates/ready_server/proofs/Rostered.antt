@@ -10,8 +10,8 @@ use Rattle.dover_model.specs.Settled.{settled}
 use Rattle.dover_model.specs.declared.horizon.Horizon.{Horizon}
 use Rattle.dover_model.specs.declared.horizon.Horizon.TheVariants.{Mark, End}
 use Rattle.dover_model.specs.Horizons.{MayFollow, due_by, Gives}
-use Rattle.dover_model.proofs.Members.{some_same}
-use Rattle.dover_model.proofs.Tests.{none_is_some}
+use Rattle.dover_model.proofs.lists.Members.{some_same}
+use Rattle.dover_model.proofs.lists.Tests.{none_is_some}
 use Rattle.ready_jobs.proofs.Courses.{follows_count}
 use Rattle.ready_server.specs.Serving as ready
 use Rattle.ready_server.specs.declared.server.ReadyServer.{ReadyServer}

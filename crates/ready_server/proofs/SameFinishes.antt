@@ -12,9 +12,9 @@ use Rattle.dover_model.specs.Settled.{waits_for_mark, last_of}
 use Rattle.dover_model.specs.Horizons.{due_by}
 use Rattle.dover_model.specs.Paths.{HasPrinted}
 use Rattle.dover_model.specs.Sound.{HaveTheSame}
-use Rattle.dover_model.proofs.FinishOrders.{same_alike, same_open, settled_alike, run_alike, has_printed_alike}
-use Rattle.dover_model.proofs.FinishOrders.{whole_alike}
-use Rattle.dover_model.proofs.Meeting.{finishing_valid}
+use Rattle.dover_model.proofs.finishes.FinishOrders.{same_alike, same_open, settled_alike, run_alike, has_printed_alike}
+use Rattle.dover_model.proofs.finishes.FinishOrders.{whole_alike}
+use Rattle.dover_model.proofs.finishes.Meeting.{finishing_valid}
 use Rattle.ready_jobs.specs.Course.{Course, Follows}
 use Rattle.ready_server.specs.Roster.{Kept, IsRollOf}
 use Rattle.ready_server.specs.Rostering.{HasRead}

@@ -19,17 +19,17 @@ use Rattle.dover_model.specs.Settled.{settled, AreOverFor, tick_of_event, last_o
 use Rattle.dover_model.specs.WholeRun.{open_at, IsBefore, IsWholeRun, Begins}
 use Rattle.dover_model.specs.Paths.{IsOpenPath, HasPrinted}
 use Rattle.dover_model.specs.Sound.{Keeps}
-use Rattle.dover_model.proofs.OverFor.{over_ready}
-use Rattle.dover_model.proofs.LastSteps.{open_clock}
-use Rattle.dover_model.proofs.Members.{some_same}
-use Rattle.dover_model.proofs.Tests.{none_is_some, never}
-use Rattle.dover_model.proofs.Ending.{potential, ends}
-use Rattle.dover_model.proofs.Kept.{open_kept}
-use Rattle.dover_model.proofs.Paths.{printed_more, printed_settled, printed_then_run, printed_begins, path_low}
-use Rattle.dover_model.proofs.Prefixes.{step_open, open_goes_on}
-use Rattle.dover_model.proofs.ShortNumbers.{step_short, IsShortMove}
+use Rattle.dover_model.proofs.finishes.OverFor.{over_ready}
+use Rattle.dover_model.proofs.settled.LastSteps.{open_clock}
+use Rattle.dover_model.proofs.lists.Members.{some_same}
+use Rattle.dover_model.proofs.lists.Tests.{none_is_some, never}
+use Rattle.dover_model.proofs.runs.Ending.{potential, ends}
+use Rattle.dover_model.proofs.steps.Kept.{open_kept}
+use Rattle.dover_model.proofs.settled.Paths.{printed_more, printed_settled, printed_then_run, printed_begins, path_low}
+use Rattle.dover_model.proofs.settled.Prefixes.{step_open, open_goes_on}
+use Rattle.dover_model.proofs.traces.ShortNumbers.{step_short, IsShortMove}
 use Rattle.dover_model.specs.Leading.{Settles, Idles, GoesOn, WaitsUntil, PrintsNext}
-use Rattle.dover_model.proofs.Leading.{idles_settles, settles_silent}
+use Rattle.dover_model.proofs.settled.Leading.{idles_settles, settles_silent}
 use Rattle.dover_model.specs.declared.horizon.Horizon.{Horizon}
 use Rattle.dover_model.specs.declared.horizon.Horizon.TheVariants.{Mark, End}
 use Rattle.dover_model.specs.Horizons.{MayFollow, is_end_given, due_by, Gives}

@@ -24,16 +24,16 @@ use Rattle.dover_model.specs.Ready.{is_ready}
 use Rattle.dover_model.specs.Paths.{HasPrinted}
 use Rattle.dover_model.specs.WholeRun.{open_at, Begins}
 use Rattle.dover_model.specs.declared.horizon.Horizon.TheVariants.{Mark}
-use Rattle.dover_model.proofs.Barriers.{AtBarrier, settled_at_barrier}
-use Rattle.dover_model.proofs.Finishing.{none_without}
-use Rattle.dover_model.proofs.Further.{printed_at_mark}
-use Rattle.dover_model.proofs.Meeting.{finishing_valid}
-use Rattle.dover_model.proofs.Members.{find_none, found, member_filter, on_map}
-use Rattle.dover_model.proofs.Paths.{printed_more, printed_settled, printed_begins}
-use Rattle.dover_model.proofs.ReadyParts.{view_ready}
-use Rattle.dover_model.proofs.RightFinishes.{FinishSays, finish_says, finish_runs}
-use Rattle.dover_model.proofs.Roles.{passes, one_number, is_running_role, is_fresh_role}
-use Rattle.dover_model.proofs.Waiting.{some_goes_on}
+use Rattle.dover_model.proofs.settled.Barriers.{AtBarrier, settled_at_barrier}
+use Rattle.dover_model.proofs.finishes.Finishing.{none_without}
+use Rattle.dover_model.proofs.finishes.Further.{printed_at_mark}
+use Rattle.dover_model.proofs.finishes.Meeting.{finishing_valid}
+use Rattle.dover_model.proofs.lists.Members.{find_none, found, member_filter, on_map}
+use Rattle.dover_model.proofs.settled.Paths.{printed_more, printed_settled, printed_begins}
+use Rattle.dover_model.proofs.steps.ReadyParts.{view_ready}
+use Rattle.dover_model.proofs.finishes.RightFinishes.{FinishSays, finish_says, finish_runs}
+use Rattle.dover_model.proofs.steps.Roles.{passes, one_number, is_running_role, is_fresh_role}
+use Rattle.dover_model.proofs.settled.Waiting.{some_goes_on}
 use Rattle.ready_jobs.specs.Cases.{next_of, next_ready}
 use Rattle.ready_jobs.specs.Changed.{AreOnce}
 use Rattle.ready_jobs.specs.Course.{Course, Follows, successor_of}

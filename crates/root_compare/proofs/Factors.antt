@@ -6,9 +6,9 @@ use Rattle.std.proofs.Math.Nat.{mul-div-le, max-le}
 use Rattle.dover_model.specs.declared.factors.Factor.{Factor}
 use Rattle.dover_model.specs.Fraction.{Fraction, IsRatio, is_some_factor}
 use Rattle.dover_model.specs.Bound.{scale, share}
-use Rattle.dover_model.proofs.Calculus.{cancel}
-use Rattle.dover_model.proofs.GreatestLaws.{scale_some}
-use Rattle.dover_model.proofs.JobLimits.{ratio_limits, FactorLimits, factor_limits}
+use Rattle.dover_model.proofs.bound.Calculus.{cancel}
+use Rattle.dover_model.proofs.bound.GreatestLaws.{scale_some}
+use Rattle.dover_model.proofs.valid.JobLimits.{ratio_limits, FactorLimits, factor_limits}
 
 -- so many times the ratio and the factor is no great number
 few : (p q b c e : ℕ) → p ≤ 1_000_000 → q ≤ 1_000 → b ≤ 1_000_000 → c ≤ 1_000 → e ≤ 1_000_000

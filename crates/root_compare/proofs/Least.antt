@@ -9,12 +9,12 @@ use Rattle.dover_model.specs.declared.factors.Factor.{Factor}
 use Rattle.dover_model.specs.Fraction.{Fraction, IsRatio, is_some_factor}
 use Rattle.dover_model.specs.Greatest.{IsGreatest, greatest}
 use Rattle.dover_model.specs.Orders.{is_heavy, IsHeavy}
-use Rattle.dover_model.proofs.GreatestLaws.{IsDownwardClosed, greatest-is}
-use Rattle.dover_model.proofs.Members.{by_bool}
-use Rattle.dover_model.proofs.Tests.{never}
-use Rattle.dover_model.proofs.Calculus.{HeavyBy, heavy_from, heavy_excess, heavy_more, heavy_up, factor_from}
-use Rattle.dover_model.proofs.Calculus.{factor_over, root_from}
-use Rattle.dover_model.proofs.JobLimits.{ratio_limits, FactorLimits, factor_limits}
+use Rattle.dover_model.proofs.bound.GreatestLaws.{IsDownwardClosed, greatest-is}
+use Rattle.dover_model.proofs.lists.Members.{by_bool}
+use Rattle.dover_model.proofs.lists.Tests.{never}
+use Rattle.dover_model.proofs.bound.Calculus.{HeavyBy, heavy_from, heavy_excess, heavy_more, heavy_up, factor_from}
+use Rattle.dover_model.proofs.bound.Calculus.{factor_over, root_from}
+use Rattle.dover_model.proofs.valid.JobLimits.{ratio_limits, FactorLimits, factor_limits}
 use Rattle.root_compare.specs.Least.{least_heavy}
 use Rattle.root_compare.proofs.Roots.{beyond_root}
 

@@ -7,7 +7,7 @@ use Rattle.std.proofs.Math.Nat.{mul-div-le, le-div_iff_mul-le, mul-le-mul_left, 
 use Rattle.dover_model.specs.Fraction.{Fraction}
 use Rattle.dover_model.specs.Greatest.{IsGreatest}
 use Rattle.dover_model.specs.Bound.{is_within_root}
-use Rattle.dover_model.proofs.Calculus.{square_order}
+use Rattle.dover_model.proofs.bound.Calculus.{square_order}
 
 -- ---- the root of m times a, as its whole root times a and a rest
 

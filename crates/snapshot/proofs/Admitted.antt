@@ -18,16 +18,16 @@ use Rattle.dover_model.specs.Session.{Session, admitted_jobs, instance_of, refus
 use Rattle.dover_model.specs.Sound.{jobs_of}
 use Rattle.dover_model.specs.FeedLine.{JobLine}
 use Rattle.dover_model.specs.Feed.{Cause, NotAdmitted, late_cause, later_line_cause}
-use Rattle.dover_model.proofs.Admitting.{admits, valid_admitted}
-use Rattle.dover_model.proofs.Fullness.{few_ready}
-use Rattle.dover_model.proofs.Honest.{count_jobs}
-use Rattle.dover_model.proofs.JobSessions.{from_zero, jobs_back}
-use Rattle.dover_model.proofs.Members.{all_last}
-use Rattle.dover_model.proofs.Valid.{all_from}
+use Rattle.dover_model.proofs.valid.Admitting.{admits, valid_admitted}
+use Rattle.dover_model.proofs.sessions.Fullness.{few_ready}
+use Rattle.dover_model.proofs.runs.Honest.{count_jobs}
+use Rattle.dover_model.proofs.sessions.JobSessions.{from_zero, jobs_back}
+use Rattle.dover_model.proofs.lists.Members.{all_last}
+use Rattle.dover_model.proofs.valid.Valid.{all_from}
 use Rattle.snapshot.specs.Snapshot.{Head}
 use Rattle.snapshot.specs.Reading.{declared_jobs, last_release}
 use Rattle.snapshot.specs.Stored.{jobs_session}
-use Rattle.dover_model.proofs.ValidParts.{ReleasesInOrder, valid_parts}
+use Rattle.dover_model.proofs.valid.ValidParts.{ReleasesInOrder, valid_parts}
 
 -- ---- among few
 

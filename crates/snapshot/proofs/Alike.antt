@@ -37,17 +37,17 @@ use Rattle.dover_model.specs.Feed.{later_line_cause, with_fault, with_refused_at
 use Rattle.dover_model.specs.Due.{due_lines, fault_text}
 use Rattle.dover_model.specs.WholeRun.{Begins}
 use Rattle.dover_model.specs.Sound.{IsMember, HaveTheSame}
-use Rattle.dover_model.proofs.Accounts.{account_with, Holds, IsKept, lines_goes}
-use Rattle.dover_model.proofs.FinishOrders.{same_alike, settled_alike, state_alike, finish_alike, run_alike}
-use Rattle.dover_model.proofs.Fullness.{admitted_in}
-use Rattle.dover_model.proofs.Further.{completes_at_mark}
-use Rattle.dover_model.proofs.Members.{each_append, member_front, member_behind}
+use Rattle.dover_model.proofs.sessions.Accounts.{account_with, Holds, IsKept, lines_goes}
+use Rattle.dover_model.proofs.finishes.FinishOrders.{same_alike, settled_alike, state_alike, finish_alike, run_alike}
+use Rattle.dover_model.proofs.sessions.Fullness.{admitted_in}
+use Rattle.dover_model.proofs.finishes.Further.{completes_at_mark}
+use Rattle.dover_model.proofs.lists.Members.{each_append, member_front, member_behind}
 use Rattle.admission.proofs.Joining.{admitted_valid}
-use Rattle.dover_model.proofs.Emitting.{texts_more, texts_job, texts_refused}
-use Rattle.dover_model.proofs.Growing.{Reads, reads_later, job_instance, finish_instance}
-use Rattle.dover_model.proofs.Growing.{settled_later, settled_of_run, Finishes, finishing_job, right_again, early_says}
-use Rattle.dover_model.proofs.Prefixes.{settled_prefix}
-use Rattle.dover_model.proofs.PutIn.{places_after-append}
+use Rattle.dover_model.proofs.sessions.Emitting.{texts_more, texts_job, texts_refused}
+use Rattle.dover_model.proofs.sessions.Growing.{Reads, reads_later, job_instance, finish_instance, settled_later}
+use Rattle.dover_model.proofs.sessions.Growing.{settled_of_run, Finishes, finishing_job, right_again, early_says}
+use Rattle.dover_model.proofs.settled.Prefixes.{settled_prefix}
+use Rattle.dover_model.proofs.sessions.PutIn.{places_after-append}
 use Rattle.event_feed.proofs.Counting.{after_form}
 
 -- both are declared, with the same jobs under the same rules, and the same early finishes in whatever order

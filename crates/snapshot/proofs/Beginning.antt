@@ -16,8 +16,8 @@ use Rattle.event_feed.specs.Answers.{AddsJob, counted, offered_item}
 use Rattle.event_feed.specs.Kept as feed
 use Rattle.dover_model.specs.JobFacts.{JobFacts}
 use Rattle.dover_model.specs.Session.{Session, with_item, IsDeclarable}
-use Rattle.dover_model.proofs.Members.{some_same}
-use Rattle.dover_model.proofs.Tests.{none_is_some}
+use Rattle.dover_model.proofs.lists.Members.{some_same}
+use Rattle.dover_model.proofs.lists.Tests.{none_is_some}
 use Rattle.event_feed.specs.Reading.{open_account}
 use Rattle.event_feed.proofs.Skipping.{ticks}
 use Rattle.event_feed.proofs.Taking.{kept_most}

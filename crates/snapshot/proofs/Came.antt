@@ -21,23 +21,24 @@ use Rattle.dover_model.specs.Settled.{waits_for_mark, settled, settled_state, fi
 use Rattle.dover_model.specs.Sound.{IsMember, Each, Keeps}
 use Rattle.dover_model.specs.State.{State, is_over, left, with_later, to_come}
 use Rattle.dover_model.specs.Step.{Move, Prints, Ticks, open_step, after, with_role}
-use Rattle.dover_model.proofs.Barriers.{AtBarrier, settled_at_barrier}
-use Rattle.dover_model.proofs.Deeds.{Deed, Completed, Resumed, Started, Began, Preempted, Stayed, Arrived, Taken}
-use Rattle.dover_model.proofs.Deeds.{Abandoned, Rested}
-use Rattle.dover_model.proofs.Further.{next_at_mark, printed_at_mark}
-use Rattle.dover_model.proofs.Growing.{job_instance, refused_instance, finish_instance, Finishes, finishing_job}
-use Rattle.dover_model.proofs.Kept.{open_deed}
-use Rattle.dover_model.proofs.Meeting.{finishing_valid}
-use Rattle.dover_model.proofs.Members.{on_map, member_either, each_append}
-use Rattle.dover_model.proofs.OverFor.{due_member}
-use Rattle.dover_model.proofs.Paths.{printed_behind}
-use Rattle.dover_model.proofs.Readiness.{open_decides}
-use Rattle.dover_model.proofs.Resting.{come_above, numbers_below}
-use Rattle.dover_model.proofs.Roles.{one_number}
-use Rattle.dover_model.proofs.Settling.{at_barrier}
-use Rattle.dover_model.proofs.Tests.{never}
-use Rattle.dover_model.proofs.SessionParts.{FollowsItems}
-use Rattle.dover_model.proofs.Valid.{valid_front}
+use Rattle.dover_model.proofs.settled.Barriers.{AtBarrier, settled_at_barrier}
+use Rattle.dover_model.proofs.steps.Deeds.{Deed, Completed, Resumed, Started, Began, Preempted, Stayed, Arrived, Taken}
+use Rattle.dover_model.proofs.steps.Deeds.{Abandoned, Rested}
+use Rattle.dover_model.proofs.finishes.Further.{next_at_mark, printed_at_mark}
+use Rattle.dover_model.proofs.sessions.Growing.{job_instance, refused_instance, finish_instance, Finishes}
+use Rattle.dover_model.proofs.sessions.Growing.{finishing_job}
+use Rattle.dover_model.proofs.steps.Kept.{open_deed}
+use Rattle.dover_model.proofs.finishes.Meeting.{finishing_valid}
+use Rattle.dover_model.proofs.lists.Members.{on_map, member_either, each_append}
+use Rattle.dover_model.proofs.finishes.OverFor.{due_member}
+use Rattle.dover_model.proofs.settled.Paths.{printed_behind}
+use Rattle.dover_model.proofs.finishes.Readiness.{open_decides}
+use Rattle.dover_model.proofs.rest.Resting.{come_above, numbers_below}
+use Rattle.dover_model.proofs.steps.Roles.{one_number}
+use Rattle.dover_model.proofs.settled.Settling.{at_barrier}
+use Rattle.dover_model.proofs.lists.Tests.{never}
+use Rattle.dover_model.proofs.sessions.SessionParts.{FollowsItems}
+use Rattle.dover_model.proofs.valid.Valid.{valid_front}
 use Rattle.snapshot.proofs.Paces.{HasCome, comes, printed_later}
 
 -- ---- the job that runs at a barrier

@@ -12,7 +12,7 @@ use Rattle.dover_model.specs.declared.events.Role.{Role}
 use Rattle.dover_model.specs.declared.events.Role.TheVariants.{Coming, Fresh, Waiting, Held, Running, Done, Gone}
 use Rattle.dover_model.specs.declared.events.Task.{Task}
 use Rattle.dover_model.specs.Sound.{IsNumberedFrom, jobs_of}
-use Rattle.dover_model.proofs.Members.{some_same}
+use Rattle.dover_model.proofs.lists.Members.{some_same}
 use Rattle.snapshot.specs.Snapshot.{role_word}
 use Rattle.snapshot.specs.Reading.{is_alike, are_alike}
 use Rattle.snapshot.specs.Kept.{stance_of, IsAt, AreAt}

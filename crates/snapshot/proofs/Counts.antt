@@ -13,15 +13,15 @@ use Rattle.dover_model.specs.Session.{with_named}
 use Rattle.dover_model.specs.Session.{may_finish_early, session_with}
 use Rattle.dover_model.specs.Settled.{settled}
 use Rattle.dover_model.specs.Trace.{TraceLine, Printed, Placed, put_in}
-use Rattle.dover_model.proofs.Beginnings.{begins_length}
-use Rattle.dover_model.proofs.Ending.{few_printed}
-use Rattle.dover_model.proofs.Former.{none_early}
-use Rattle.dover_model.proofs.Growing.{item_in, with_line_named, lines_at, settled_of_run, reads_new}
-use Rattle.dover_model.proofs.Tests.{never}
-use Rattle.dover_model.proofs.Walks.{WalksTo, walks}
+use Rattle.dover_model.proofs.lists.Beginnings.{begins_length}
+use Rattle.dover_model.proofs.runs.Ending.{few_printed}
+use Rattle.dover_model.proofs.sessions.Former.{none_early}
+use Rattle.dover_model.proofs.sessions.Growing.{item_in, with_line_named, lines_at, settled_of_run, reads_new}
+use Rattle.dover_model.proofs.lists.Tests.{never}
+use Rattle.dover_model.proofs.sessions.Walks.{WalksTo, walks}
 use Rattle.snapshot.proofs.RunItems.{NoneRefused, jobs_only, no_places}
-use Rattle.dover_model.proofs.SessionParts.{FollowsItems}
-use Rattle.dover_model.proofs.ValidParts.{valid_parts}
+use Rattle.dover_model.proofs.sessions.SessionParts.{FollowsItems}
+use Rattle.dover_model.proofs.valid.ValidParts.{valid_parts}
 
 -- each line names an item at most
 names_few : (lines : List TraceLine) (S T : Session) → fold with_line_named S lines ≡ T

@@ -5,8 +5,8 @@ use Rattle.dover_model.specs.declared.events.Role.{Role}
 use Rattle.dover_model.specs.declared.events.Role.TheVariants.{Coming, Fresh, Waiting, Held, Running, Done, Gone}
 use Rattle.dover_model.specs.declared.events.Task.{Task}
 use Rattle.dover_model.specs.JobFacts.{job_numbers}
-use Rattle.dover_model.proofs.NoFeeds.{feedless_line, feedless_decimals, feedless_numbers}
-use Rattle.dover_model.proofs.Cuts.{HasNoFeed}
+use Rattle.dover_model.proofs.texts.NoFeeds.{feedless_line, feedless_decimals, feedless_numbers}
+use Rattle.dover_model.proofs.texts.Cuts.{HasNoFeed}
 use Rattle.snapshot.specs.Snapshot.{Head, head_line, head_numbers, role_word, state_line}
 
 -- the word of a role

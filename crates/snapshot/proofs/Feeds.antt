@@ -16,8 +16,8 @@ use Rattle.dover_model.specs.State.{State}
 use Rattle.dover_model.specs.Lines.{in_lines, lines_of, whole_lines, rest_of}
 use Rattle.dover_model.specs.Feed.{Standing, Open, Ended, Faulty, Short, no_lines, next_line, account}
 use Rattle.dover_model.specs.Due.{due_lines, due, short_lines, fault_text}
-use Rattle.dover_model.proofs.Accounts.{Holds, account_kept}
-use Rattle.dover_model.proofs.Cuts.{HasNoFeed}
+use Rattle.dover_model.proofs.sessions.Accounts.{Holds, account_kept}
+use Rattle.dover_model.proofs.texts.Cuts.{HasNoFeed}
 use Rattle.event_feed.specs.Listing.{HasFewJobs}
 use Rattle.event_feed.proofs.Counting.{lines_counted}
 use Rattle.snapshot.specs.Snapshot.{MayPause, Head, IsHead, head_line, state_line, head_of_feed, snapshot_lines}

@@ -7,12 +7,12 @@ use Rattle.std.specs.List.{AllByRecursion, fold}
 use Rattle.std.proofs.lemmas.Bool.{and_parts, le-leb, leb-true, ltb-true}
 use Rattle.std.proofs.lemmas.Slice.Eq.{bytes_eq-Decides}
 use Rattle.std.proofs.lemmas.List.{length-map}
-use Rattle.dover_model.proofs.Barriers.{settled_at_barrier}
-use Rattle.dover_model.proofs.Honest.{count_jobs}
-use Rattle.dover_model.proofs.JobSessions.{jobs_back}
-use Rattle.dover_model.proofs.Meeting.{finishing_valid}
-use Rattle.dover_model.proofs.RunSessions.{run_jobs}
-use Rattle.dover_model.proofs.Tests.{none_is_some}
+use Rattle.dover_model.proofs.settled.Barriers.{settled_at_barrier}
+use Rattle.dover_model.proofs.runs.Honest.{count_jobs}
+use Rattle.dover_model.proofs.sessions.JobSessions.{jobs_back}
+use Rattle.dover_model.proofs.finishes.Meeting.{finishing_valid}
+use Rattle.dover_model.proofs.sessions.RunSessions.{run_jobs}
+use Rattle.dover_model.proofs.lists.Tests.{none_is_some}
 use Rattle.dover_model.specs.JobFacts.{JobFacts}
 use Rattle.dover_model.specs.Instance.{Instance, IsValid}
 use Rattle.dover_model.specs.Sound.{jobs_of}
@@ -53,7 +53,7 @@ use Rattle.snapshot.proofs.Whole.{all_lines_account}
 use Rattle.ready_server.proofs.RollSettled.{settled_jobs}
 use Rattle.snapshot.proofs.Stepping.{served_count, refused_here}
 use Rattle.snapshot.proofs.Storing.{no_last, mark_beyond, other_state, last_stands}
-use Rattle.dover_model.proofs.ValidParts.{ReleasesInOrder, valid_parts}
+use Rattle.dover_model.proofs.valid.ValidParts.{ReleasesInOrder, valid_parts}
 
 -- where they are no more, they are the jobs
 jobs_are : (items : List Item) → NoneRefused items → length items ≤ length (admitted_jobs items)

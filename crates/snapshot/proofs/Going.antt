@@ -23,24 +23,24 @@ use Rattle.dover_model.specs.State.{State, running, is_running, is_over, with_la
 use Rattle.dover_model.specs.Step.{Prints, after}
 use Rattle.dover_model.specs.Paths.{HasPrinted}
 use Rattle.dover_model.specs.Limits.{last_tick, most_ready}
-use Rattle.dover_model.proofs.Accounts.{follows_behind, mark_behind}
-use Rattle.dover_model.proofs.Barriers.{AtBarrier, settled_at_barrier}
-use Rattle.dover_model.proofs.Fullness.{few_ready}
-use Rattle.dover_model.proofs.Further.{printed_at_mark}
-use Rattle.dover_model.proofs.Growing.{finish_instance, job_instance}
-use Rattle.dover_model.proofs.Honest.{count_jobs}
-use Rattle.dover_model.proofs.Kept.{come_coming}
-use Rattle.dover_model.proofs.Meeting.{finishing_valid}
-use Rattle.dover_model.proofs.Paths.{printed_behind}
-use Rattle.dover_model.proofs.Resting.{numbers_below}
-use Rattle.dover_model.proofs.Valid.{valid_front}
-use Rattle.dover_model.proofs.Members.{some_same, found, member_front, member_behind, member_either, each_append}
-use Rattle.dover_model.proofs.OverFor.{due_member}
-use Rattle.dover_model.proofs.Readiness.{runner}
-use Rattle.dover_model.proofs.RightFinishes.{right_finish, finish_says, finish_runs, FinishSays}
-use Rattle.dover_model.proofs.Roles.{passes, is_running_role, one_number}
-use Rattle.dover_model.proofs.Shown.{come_to_now}
-use Rattle.dover_model.proofs.Tests.{never, none_is_some}
+use Rattle.dover_model.proofs.sessions.Accounts.{follows_behind, mark_behind}
+use Rattle.dover_model.proofs.settled.Barriers.{AtBarrier, settled_at_barrier}
+use Rattle.dover_model.proofs.sessions.Fullness.{few_ready}
+use Rattle.dover_model.proofs.finishes.Further.{printed_at_mark}
+use Rattle.dover_model.proofs.sessions.Growing.{finish_instance, job_instance}
+use Rattle.dover_model.proofs.runs.Honest.{count_jobs}
+use Rattle.dover_model.proofs.steps.Kept.{come_coming}
+use Rattle.dover_model.proofs.finishes.Meeting.{finishing_valid}
+use Rattle.dover_model.proofs.settled.Paths.{printed_behind}
+use Rattle.dover_model.proofs.rest.Resting.{numbers_below}
+use Rattle.dover_model.proofs.valid.Valid.{valid_front}
+use Rattle.dover_model.proofs.lists.Members.{some_same, found, member_front, member_behind, member_either, each_append}
+use Rattle.dover_model.proofs.finishes.OverFor.{due_member}
+use Rattle.dover_model.proofs.finishes.Readiness.{runner}
+use Rattle.dover_model.proofs.finishes.RightFinishes.{right_finish, finish_says, finish_runs, FinishSays}
+use Rattle.dover_model.proofs.steps.Roles.{passes, is_running_role, one_number}
+use Rattle.dover_model.proofs.steps.Shown.{come_to_now}
+use Rattle.dover_model.proofs.lists.Tests.{never, none_is_some}
 use Rattle.snapshot.specs.Snapshot.{Head}
 use Rattle.snapshot.specs.Reading.{early_of, early_in}
 use Rattle.snapshot.specs.Kept.{IsHandedIn, IsToCome, IsNear, stance_of, is_early}
@@ -52,7 +52,7 @@ use Rattle.snapshot.proofs.Admitted.{jobs_more}
 use Rattle.snapshot.proofs.Paces.{HasLess, less_after, stays_less, printed_later}
 use Rattle.snapshot.proofs.Runner.{at_number, of_number, same_number}
 use Rattle.snapshot.proofs.Same.{IsEarly, stored_of, in_stored}
-use Rattle.dover_model.proofs.SessionParts.{FollowsItems, follows_items-agrees}
+use Rattle.dover_model.proofs.sessions.SessionParts.{FollowsItems, follows_items-agrees}
 
 -- what was handed in may stand where it stands
 pub handed_follows : {h : Head} {tasks : List Task} {items : List Item} → IsHandedIn h tasks items

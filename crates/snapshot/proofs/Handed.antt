@@ -17,15 +17,15 @@ use Rattle.dover_model.specs.Feed as model
 use Rattle.dover_model.specs.Feed.{Account, Standing, Open, Faulty, NotAdmitted, next_line, no_lines, account_of_lines}
 use Rattle.dover_model.specs.Feed.{with_line, with_fault, with_refused_at}
 use Rattle.dover_model.specs.Session.{refused_mark, is_full, instance_of}
-use Rattle.dover_model.proofs.Fullness.{few_ready}
-use Rattle.dover_model.proofs.Honest.{count_jobs}
-use Rattle.dover_model.proofs.Members.{some_same, all_last}
-use Rattle.dover_model.proofs.Tests.{never}
-use Rattle.dover_model.proofs.ValidParts.{valid_parts}
+use Rattle.dover_model.proofs.sessions.Fullness.{few_ready}
+use Rattle.dover_model.proofs.runs.Honest.{count_jobs}
+use Rattle.dover_model.proofs.lists.Members.{some_same, all_last}
+use Rattle.dover_model.proofs.lists.Tests.{never}
+use Rattle.dover_model.proofs.valid.ValidParts.{valid_parts}
 use Rattle.event_feed.proofs.Accepting.{offer_room, offer_accepted}
 use Rattle.event_feed.proofs.Listing.{job_after}
-use Rattle.dover_model.proofs.Growing.{job_instance, refused_instance}
-use Rattle.dover_model.proofs.JobSessions.{jobs_back}
+use Rattle.dover_model.proofs.sessions.Growing.{job_instance, refused_instance}
+use Rattle.dover_model.proofs.sessions.JobSessions.{jobs_back}
 use Rattle.event_feed.specs.declared.fed.Fed.{Fed}
 use Rattle.event_feed.specs.declared.fed.Fed.TheVariants as fed
 use Rattle.event_feed.specs.declared.faults.FeedFault.{FeedFault}

@@ -11,7 +11,7 @@ use Rattle.dover_model.specs.Session.{JobItem}
 use Rattle.dover_model.specs.Sound.{jobs_of}
 use Rattle.dover_model.specs.FeedLine.{JobLine, feed_line, feed_text}
 use Rattle.dover_model.specs.Feed.{Account, Lines, cause_of, with_line, with_fault, next_line}
-use Rattle.dover_model.proofs.FeedLines.{feed_line-feed_text}
+use Rattle.dover_model.proofs.texts.FeedLines.{feed_line-feed_text}
 use Rattle.event_feed.specs.Reading.{open_account}
 use Rattle.event_feed.proofs.Counting.{after_form}
 use Rattle.snapshot.specs.Snapshot.{Head}

@@ -20,22 +20,22 @@ use Rattle.dover_model.specs.Session.{with_item, with_named, may_finish_early, e
 use Rattle.dover_model.specs.FeedLine.{FeedLine, JobLine, DoneLine, feed_line, feed_text}
 use Rattle.dover_model.specs.Feed.{Account, Lines, Line, Order, NotAdmitted, NotDone, late_cause, with_fault}
 use Rattle.dover_model.specs.Feed.{with_line, cause_of, next_line}
-use Rattle.dover_model.proofs.FeedLines.{feed_line-feed_text}
-use Rattle.dover_model.proofs.Admitting.{valid_admitted}
-use Rattle.dover_model.proofs.Barriers.{settled_at_barrier}
-use Rattle.dover_model.proofs.Growing.{job_instance, Finishes, finishing_job}
-use Rattle.dover_model.proofs.Limiting.{jobs_most}
-use Rattle.dover_model.proofs.Members.{all_last}
-use Rattle.dover_model.proofs.Resting.{numbers_below}
-use Rattle.dover_model.proofs.Tests.{none_is_some}
+use Rattle.dover_model.proofs.texts.FeedLines.{feed_line-feed_text}
+use Rattle.dover_model.proofs.valid.Admitting.{valid_admitted}
+use Rattle.dover_model.proofs.settled.Barriers.{settled_at_barrier}
+use Rattle.dover_model.proofs.sessions.Growing.{job_instance, Finishes, finishing_job}
+use Rattle.dover_model.proofs.valid.Limiting.{jobs_most}
+use Rattle.dover_model.proofs.lists.Members.{all_last}
+use Rattle.dover_model.proofs.rest.Resting.{numbers_below}
+use Rattle.dover_model.proofs.lists.Tests.{none_is_some}
 use Rattle.event_feed.specs.Reading.{open_account}
 use Rattle.event_feed.proofs.Counting.{after_form}
 use Rattle.snapshot.specs.Kept.{item_lines}
 use Rattle.snapshot.proofs.Came.{front_valid}
 use Rattle.event_feed.proofs.Saying.{job_numerals}
 use Rattle.snapshot.proofs.RunItems.{NoneRefused}
-use Rattle.dover_model.proofs.SessionParts.{MayBeAdmitted, FollowsItems}
-use Rattle.dover_model.proofs.ValidParts.{valid_parts}
+use Rattle.dover_model.proofs.sessions.SessionParts.{MayBeAdmitted, FollowsItems}
+use Rattle.dover_model.proofs.valid.ValidParts.{valid_parts}
 
 module _ (S : Session) (lines mark : ℕ) (few : suc lines ≤ most_lines S.rules.version) where
   -- the account in which a line is counted

@@ -10,8 +10,8 @@ use Rattle.dover_model.specs.Session.{JobItem, early_finishes, instance_of, sess
 use Rattle.dover_model.specs.Settled.{settled}
 use Rattle.dover_model.specs.Sound.{jobs_of}
 use Rattle.dover_model.specs.declared.horizon.Horizon.TheVariants.{Mark}
-use Rattle.dover_model.proofs.Growing.{all_behind}
-use Rattle.dover_model.proofs.Meeting.{finishing_valid}
+use Rattle.dover_model.proofs.sessions.Growing.{all_behind}
+use Rattle.dover_model.proofs.finishes.Meeting.{finishing_valid}
 use Rattle.ready_server.specs.Rostering.{Serves, Rests, has_roster}
 use Rattle.ready_server.specs.declared.roster_server.RosterServer.{RosterServer}
 use Rattle.snapshot.specs.Snapshot.{Head}

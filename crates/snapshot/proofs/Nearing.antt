@@ -18,21 +18,21 @@ use Rattle.dover_model.specs.Sound.{IsMember, Each, Keeps}
 use Rattle.dover_model.specs.State.{State, opening, is_running}
 use Rattle.dover_model.specs.Step.{Move, Ticks, open_step, after, ticked}
 use Rattle.dover_model.specs.WholeRun.{open_at, IsBarrier, IsBefore}
-use Rattle.dover_model.proofs.Barriers.{AtBarrier, settled_at_barrier, late_none_fresh}
-use Rattle.dover_model.proofs.Deeds.{Deed, Completed, Resumed, Started, Began, Preempted, Stayed, Arrived, Taken}
-use Rattle.dover_model.proofs.Deeds.{Abandoned, Rested}
-use Rattle.dover_model.proofs.Ending.{clock_after, later_clock}
-use Rattle.dover_model.proofs.Honest.{count_jobs, numbers_low}
-use Rattle.dover_model.proofs.Kept.{open_deed, open_kept, each_job}
-use Rattle.dover_model.proofs.Members.{on_map, map_member, each_append, each_all}
-use Rattle.dover_model.proofs.Paths.{path_append, path_keeps, path_later, path_settles, one_settled_run}
-use Rattle.dover_model.proofs.Readiness.{going, open_decides}
-use Rattle.dover_model.proofs.Resting.{settled_path, path_state}
-use Rattle.dover_model.proofs.RightFinishes.{all_before}
-use Rattle.dover_model.proofs.Roles.{one_number, is_running_role}
-use Rattle.dover_model.proofs.Settling.{settled_is_run}
-use Rattle.dover_model.proofs.SilentTicks.{steps_between, state_between}
-use Rattle.dover_model.proofs.Tests.{never, each, below}
+use Rattle.dover_model.proofs.settled.Barriers.{AtBarrier, settled_at_barrier, late_none_fresh}
+use Rattle.dover_model.proofs.steps.Deeds.{Deed, Completed, Resumed, Started, Began, Preempted, Stayed, Arrived, Taken}
+use Rattle.dover_model.proofs.steps.Deeds.{Abandoned, Rested}
+use Rattle.dover_model.proofs.runs.Ending.{clock_after, later_clock}
+use Rattle.dover_model.proofs.runs.Honest.{count_jobs, numbers_low}
+use Rattle.dover_model.proofs.steps.Kept.{open_deed, open_kept, each_job}
+use Rattle.dover_model.proofs.lists.Members.{on_map, map_member, each_append, each_all}
+use Rattle.dover_model.proofs.settled.Paths.{path_append, path_keeps, path_later, path_settles, one_settled_run}
+use Rattle.dover_model.proofs.finishes.Readiness.{going, open_decides}
+use Rattle.dover_model.proofs.rest.Resting.{settled_path, path_state}
+use Rattle.dover_model.proofs.finishes.RightFinishes.{all_before}
+use Rattle.dover_model.proofs.steps.Roles.{one_number, is_running_role}
+use Rattle.dover_model.proofs.settled.Settling.{settled_is_run}
+use Rattle.dover_model.proofs.settled.SilentTicks.{steps_between, state_between}
+use Rattle.dover_model.proofs.lists.Tests.{never, each, below}
 use Rattle.ready_server.proofs.RollRuns.{numbered_task}
 use Rattle.snapshot.proofs.Runner.{same_number}
 use Rattle.snapshot.proofs.Paces.{HasLess, less_on, GoesOn, goes_on, printed_later}

@@ -26,8 +26,8 @@ use Rattle.dover_model.specs.Feed.{with_fault}
 use Rattle.dover_model.specs.Feed.{with_refused_at}
 use Rattle.dover_model.specs.Session.{refusal_in, refused_mark}
 use Rattle.dover_model.specs.Feed.{with_line, next_line, most_lines_in, Cause, Short}
-use Rattle.dover_model.proofs.Accounts.{account_with, mark_behind}
-use Rattle.dover_model.proofs.Growing.{early_says}
+use Rattle.dover_model.proofs.sessions.Accounts.{account_with, mark_behind}
+use Rattle.dover_model.proofs.sessions.Growing.{early_says}
 use Rattle.event_feed.proofs.Counting.{after_form}
 
 -- there are lines for the ratio and the items, and the mark is that behind them, or there is a line more

@@ -18,18 +18,18 @@ use Rattle.dover_model.specs.Step.{Move, Prints, Waits, Ticks}
 use Rattle.dover_model.specs.Text.{header}
 use Rattle.dover_model.specs.Trace.{Placed, Printed, handed_by, session_of, session_of_run}
 use Rattle.dover_model.specs.Trace.{places_after, put_in, text_of_line, trace_of_session}
-use Rattle.dover_model.proofs.EarlyEnds.{shown_own}
-use Rattle.dover_model.proofs.Ending.{run_is_whole}
-use Rattle.dover_model.proofs.Former.{none_early}
-use Rattle.dover_model.proofs.JobSessions.{session_of_valid, jobs_never}
-use Rattle.dover_model.proofs.Kept.{opening_keeps}
-use Rattle.dover_model.proofs.Meeting.{given_by}
-use Rattle.dover_model.proofs.Named.{same_trace}
-use Rattle.dover_model.proofs.NeverFull.{few_never}
-use Rattle.dover_model.proofs.RunSessions.{run_jobs, run_session_valid, same_printed, whole_of}
-use Rattle.dover_model.proofs.Shown.{Shows, early_says}
-use Rattle.dover_model.proofs.Tests.{none_is_some}
-use Rattle.dover_model.proofs.SessionParts.{FollowsItems, session_from, session_declared, session_jobs}
+use Rattle.dover_model.proofs.finishes.EarlyEnds.{shown_own}
+use Rattle.dover_model.proofs.runs.Ending.{run_is_whole}
+use Rattle.dover_model.proofs.sessions.Former.{none_early}
+use Rattle.dover_model.proofs.sessions.JobSessions.{session_of_valid, jobs_never}
+use Rattle.dover_model.proofs.steps.Kept.{opening_keeps}
+use Rattle.dover_model.proofs.finishes.Meeting.{given_by}
+use Rattle.dover_model.proofs.traces.Named.{same_trace}
+use Rattle.dover_model.proofs.sessions.NeverFull.{few_never}
+use Rattle.dover_model.proofs.sessions.RunSessions.{run_jobs, run_session_valid, same_printed, whole_of}
+use Rattle.dover_model.proofs.steps.Shown.{Shows, early_says}
+use Rattle.dover_model.proofs.lists.Tests.{none_is_some}
+use Rattle.dover_model.proofs.sessions.SessionParts.{FollowsItems, session_from, session_declared, session_jobs}
 
 -- no refused line stands among the items
 abbrev pub NoneRefused : List Item → Type 0

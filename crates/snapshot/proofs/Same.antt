@@ -16,15 +16,15 @@ use Rattle.dover_model.specs.Settled.{settled_state, finish_now}
 use Rattle.dover_model.specs.Sound.{IsMember, Each, HaveTheSame, jobs_of}
 use Rattle.dover_model.specs.State.{is_done}
 use Rattle.dover_model.specs.Trace.{handed_by, session_of_run}
-use Rattle.dover_model.proofs.Accounts.{Holds}
-use Rattle.dover_model.proofs.Barriers.{AtBarrier, settled_at_barrier}
-use Rattle.dover_model.proofs.FinishOrders.{same_alike, state_alike, run_alike}
-use Rattle.dover_model.proofs.Former.{none_early}
-use Rattle.dover_model.proofs.Honest.{count_jobs}
-use Rattle.dover_model.proofs.Meeting.{given_in, given_by}
-use Rattle.dover_model.proofs.Members.{some_same}
-use Rattle.dover_model.proofs.Roles.{passes}
-use Rattle.dover_model.proofs.Tests.{never, none_is_some}
+use Rattle.dover_model.proofs.sessions.Accounts.{Holds}
+use Rattle.dover_model.proofs.settled.Barriers.{AtBarrier, settled_at_barrier}
+use Rattle.dover_model.proofs.finishes.FinishOrders.{same_alike, state_alike, run_alike}
+use Rattle.dover_model.proofs.sessions.Former.{none_early}
+use Rattle.dover_model.proofs.runs.Honest.{count_jobs}
+use Rattle.dover_model.proofs.finishes.Meeting.{given_in, given_by}
+use Rattle.dover_model.proofs.lists.Members.{some_same}
+use Rattle.dover_model.proofs.steps.Roles.{passes}
+use Rattle.dover_model.proofs.lists.Tests.{never, none_is_some}
 use Rattle.ready_server.proofs.RollRuns.{numbered_task}
 use Rattle.snapshot.specs.Snapshot.{Head}
 use Rattle.snapshot.specs.Reading.{early_of, early_in, stored, stored_session}

@@ -15,13 +15,13 @@ use Rattle.dover_model.specs.Sound.{IsMember, Keeps}
 use Rattle.dover_model.specs.State.{State, opening}
 use Rattle.dover_model.specs.Step.{Ticks, open_step, after}
 use Rattle.dover_model.specs.WholeRun.{IsBarrier}
-use Rattle.dover_model.proofs.Kept.{open_deed, open_kept, opening_keeps}
-use Rattle.dover_model.proofs.Needing.{Served, AllServed, opening_served, ticks_served, deed_served}
-use Rattle.dover_model.proofs.Readiness.{IsReady, Decides, open_decides, open_ready, opening_ready}
-use Rattle.dover_model.proofs.Resting.{path_state, settled_path}
-use Rattle.dover_model.proofs.Roles.{is_over_role}
-use Rattle.dover_model.proofs.Settling.{settled_is_run}
-use Rattle.dover_model.proofs.Tests.{never}
+use Rattle.dover_model.proofs.steps.Kept.{open_deed, open_kept, opening_keeps}
+use Rattle.dover_model.proofs.finishes.Needing.{Served, AllServed, opening_served, ticks_served, deed_served}
+use Rattle.dover_model.proofs.finishes.Readiness.{IsReady, Decides, open_decides, open_ready, opening_ready}
+use Rattle.dover_model.proofs.rest.Resting.{path_state, settled_path}
+use Rattle.dover_model.proofs.steps.Roles.{is_over_role}
+use Rattle.dover_model.proofs.settled.Settling.{settled_is_run}
+use Rattle.dover_model.proofs.lists.Tests.{never}
 use Rattle.snapshot.proofs.Paces.{HasCome}
 
 -- ---- along the settled steps

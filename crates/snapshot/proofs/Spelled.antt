@@ -24,20 +24,20 @@ use Rattle.dover_model.specs.JobFacts.{job_of_numbers, job_numbers}
 use Rattle.dover_model.specs.Numerals.{numerals, AreShort}
 use Rattle.dover_model.specs.Lines.{is_too_long, fields_of, line_of, with_numbers, numbers_after, numbers_of}
 use Rattle.dover_model.specs.Text.{version_number}
-use Rattle.dover_model.proofs.Tests.{never, none_is_some}
-use Rattle.dover_model.proofs.JobLimits.{ratio_limits}
-use Rattle.dover_model.proofs.Members.{some_same}
-use Rattle.dover_model.proofs.ReadShort.{numerals_short}
-use Rattle.dover_model.proofs.Fields.{HasNoSpace, fields_of-line_of, line_of-fields_of, decimals-HasNoSpace}
-use Rattle.dover_model.proofs.Fields.{numerals-decimals, decimals-numerals}
-use Rattle.dover_model.proofs.Fields.{length-with_numbers}
+use Rattle.dover_model.proofs.lists.Tests.{never, none_is_some}
+use Rattle.dover_model.proofs.valid.JobLimits.{ratio_limits}
+use Rattle.dover_model.proofs.lists.Members.{some_same}
+use Rattle.dover_model.proofs.texts.ReadShort.{numerals_short}
+use Rattle.dover_model.proofs.texts.Fields.{HasNoSpace, fields_of-line_of, line_of-fields_of, decimals-HasNoSpace}
+use Rattle.dover_model.proofs.texts.Fields.{numerals-decimals, decimals-numerals}
+use Rattle.dover_model.proofs.texts.Fields.{length-with_numbers}
 use Rattle.snapshot.specs.Snapshot.{Head, head_numbers, head_line, IsHead, role_word, state_line, IsStored}
 use Rattle.snapshot.specs.Snapshot.{state_numbers, IsState}
 use Rattle.snapshot.specs.Reading.{rules_from, head_with, head_from, read_head, role_of_word, task_from}
 use Rattle.snapshot.specs.Reading.{task_of_fields, read_task}
 use Rattle.dover_model.specs.declared.events.Version.TheVariants.{Three}
 use Rattle.dover_model.specs.Verdict.{version_of_number}
-use Rattle.dover_model.proofs.TraceLines.{version_back, version_from}
+use Rattle.dover_model.proofs.texts.TraceLines.{version_back, version_from}
 
 -- ---- a word and numbers
 

@@ -10,7 +10,7 @@ use Rattle.dover_model.specs.Settled.{settled}
 use Rattle.snapshot.specs.Snapshot.{Head}
 use Rattle.snapshot.specs.Reading.{Begun, Going, Taken, read_task, with_task, with_last, may_follow, has_reached_mark}
 use Rattle.snapshot.specs.Reading.{is_settled, refused_behind, next_line, reading_of, last_release}
-use Rattle.dover_model.proofs.Honest.{count_jobs}
+use Rattle.dover_model.proofs.runs.Honest.{count_jobs}
 use Rattle.ready_jobs.proofs.Courses.{follows_count}
 use Rattle.ready_server.proofs.Rostered.{roster_rests}
 use Rattle.dover_model.specs.declared.horizon.Horizon.TheVariants.{Mark}

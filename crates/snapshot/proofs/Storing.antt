@@ -10,7 +10,7 @@ use Rattle.dover_model.specs.declared.events.Task.{Task}
 use Rattle.dover_model.specs.Instance.{Declaration, under, IsValid, is_valid}
 use Rattle.dover_model.specs.Fraction.{IsRatio}
 use Rattle.dover_model.specs.Sound.{IsNumberedFrom}
-use Rattle.dover_model.proofs.Growing.{all_behind, reads_new}
+use Rattle.dover_model.proofs.sessions.Growing.{all_behind, reads_new}
 use Rattle.snapshot.specs.Snapshot.{Head, head_line, state_line}
 use Rattle.snapshot.specs.Reading.{Begun, Going, Taken, Refused, is_within_limits, declared_jobs, may_follow}
 use Rattle.snapshot.specs.Reading.{has_reached_mark}

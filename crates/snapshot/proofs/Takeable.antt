@@ -19,14 +19,14 @@ use Rattle.dover_model.specs.Settled.{settled_state}
 use Rattle.dover_model.specs.Sound.{IsMember, IsNumberedFrom, jobs_of}
 use Rattle.dover_model.specs.State.{State}
 use Rattle.dover_model.specs.Feed.{Account, Open}
-use Rattle.dover_model.proofs.Meeting.{finishing_valid}
-use Rattle.dover_model.proofs.Accounts.{Holds, HoldsBy, HoldsOpen, IsKept}
-use Rattle.dover_model.proofs.Barriers.{AtBarrier, settled_at_barrier}
-use Rattle.dover_model.proofs.Honest.{numbers_low, count_jobs}
-use Rattle.dover_model.proofs.Kept.{each_job}
-use Rattle.dover_model.proofs.Limiting.{lines_most}
-use Rattle.dover_model.proofs.NoFeeds.{header_short}
-use Rattle.dover_model.proofs.Valid.{valid_front}
+use Rattle.dover_model.proofs.finishes.Meeting.{finishing_valid}
+use Rattle.dover_model.proofs.sessions.Accounts.{Holds, HoldsBy, HoldsOpen, IsKept}
+use Rattle.dover_model.proofs.settled.Barriers.{AtBarrier, settled_at_barrier}
+use Rattle.dover_model.proofs.runs.Honest.{numbers_low, count_jobs}
+use Rattle.dover_model.proofs.steps.Kept.{each_job}
+use Rattle.dover_model.proofs.valid.Limiting.{lines_most}
+use Rattle.dover_model.proofs.texts.NoFeeds.{header_short}
+use Rattle.dover_model.proofs.valid.Valid.{valid_front}
 use Rattle.snapshot.specs.Snapshot.{Head, IsHead, IsStored, IsState, head_line, state_line}
 use Rattle.snapshot.specs.Reading.{Taken, is_within_limits, declared_jobs, stored, stored_session, may_follow}
 use Rattle.snapshot.specs.Reading.{has_lines_for, has_reached_mark, is_settled, reading_of}
@@ -41,8 +41,8 @@ use Rattle.snapshot.proofs.RunItems.{kept_instance, kept_follows}
 use Rattle.snapshot.proofs.Same.{stored_run, stored_state}
 use Rattle.snapshot.proofs.Spelled.{read_head-head_line, read_task-state_line}
 use Rattle.snapshot.proofs.Storing.{head_stands, task_stands, last_stands}
-use Rattle.dover_model.proofs.ValidParts.{valid_parts}
-use Rattle.dover_model.proofs.JobLimits.{job_limits}
+use Rattle.dover_model.proofs.valid.ValidParts.{valid_parts}
+use Rattle.dover_model.proofs.valid.JobLimits.{job_limits}
 
 -- as many items as jobs at least
 pub jobs_least : (items : List Item) → length (admitted_jobs items) ≤ length items

@@ -19,16 +19,16 @@ use Rattle.dover_model.specs.Sound.{IsMember, Each, jobs_of}
 use Rattle.dover_model.specs.State.{State, opening, is_over, running, state_at}
 use Rattle.dover_model.specs.Horizons.{MayFollow}
 use Rattle.dover_model.specs.declared.horizon.Horizon.TheVariants.{Mark}
-use Rattle.dover_model.proofs.Apart.{settled_at_rest}
-use Rattle.dover_model.proofs.Barriers.{state_after}
-use Rattle.dover_model.proofs.Limiting.{jobs_most}
-use Rattle.dover_model.proofs.Members.{filter_member, some_same}
-use Rattle.dover_model.proofs.Paths.{path_settles, one_settled_run}
-use Rattle.dover_model.proofs.Resting.{path_state}
-use Rattle.dover_model.proofs.RestTick.{rests_where_ended}
-use Rattle.dover_model.proofs.Settling.{settled_is_run}
-use Rattle.dover_model.proofs.Tests.{never, none_is_some}
-use Rattle.dover_model.proofs.Valid.{all_from}
+use Rattle.dover_model.proofs.rest.Apart.{settled_at_rest}
+use Rattle.dover_model.proofs.settled.Barriers.{state_after}
+use Rattle.dover_model.proofs.valid.Limiting.{jobs_most}
+use Rattle.dover_model.proofs.lists.Members.{filter_member, some_same}
+use Rattle.dover_model.proofs.settled.Paths.{path_settles, one_settled_run}
+use Rattle.dover_model.proofs.rest.Resting.{path_state}
+use Rattle.dover_model.proofs.rest.RestTick.{rests_where_ended}
+use Rattle.dover_model.proofs.settled.Settling.{settled_is_run}
+use Rattle.dover_model.proofs.lists.Tests.{never, none_is_some}
+use Rattle.dover_model.proofs.valid.Valid.{all_from}
 use Rattle.ready_server.proofs.Rostered.{roster_rests}
 use Rattle.ready_server.specs.NextStep.{ComesAt}
 use Rattle.ready_server.specs.Roster.{Kept, Roll, IsRollOf, runner_at}
@@ -46,7 +46,7 @@ use Rattle.snapshot.proofs.Going.{all_near, none_comes, one_comes, Comes, next_l
 use Rattle.snapshot.proofs.Going.{finish_mark, handed_follows}
 use Rattle.snapshot.proofs.Going.{finish_count, others_to_come}
 use Rattle.snapshot.proofs.Runner.{runner_is}
-use Rattle.dover_model.proofs.ValidParts.{valid_parts}
+use Rattle.dover_model.proofs.valid.ValidParts.{valid_parts}
 
 -- ---- where a server rests
 

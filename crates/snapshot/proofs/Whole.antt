@@ -18,12 +18,12 @@ use Rattle.dover_model.specs.State.{State}
 use Rattle.dover_model.specs.Lines.{in_lines}
 use Rattle.dover_model.specs.FeedLine.{TickLine, feed_text}
 use Rattle.dover_model.specs.Feed.{Account, no_lines, next_line, account_of_lines, account, is_open}
-use Rattle.dover_model.proofs.Members.{all_copies}
-use Rattle.dover_model.proofs.Barriers.{AtBarrier, settled_at_barrier}
-use Rattle.dover_model.proofs.Cuts.{HasNoFeed}
-use Rattle.dover_model.proofs.Honest.{count_jobs}
-use Rattle.dover_model.proofs.Meeting.{finishing_valid}
-use Rattle.dover_model.proofs.RunSessions.{run_jobs}
+use Rattle.dover_model.proofs.lists.Members.{all_copies}
+use Rattle.dover_model.proofs.settled.Barriers.{AtBarrier, settled_at_barrier}
+use Rattle.dover_model.proofs.texts.Cuts.{HasNoFeed}
+use Rattle.dover_model.proofs.runs.Honest.{count_jobs}
+use Rattle.dover_model.proofs.finishes.Meeting.{finishing_valid}
+use Rattle.dover_model.proofs.sessions.RunSessions.{run_jobs}
 use Rattle.dover_model.specs.declared.horizon.Horizon.TheVariants.{Mark}
 use Rattle.ready_server.specs.Rostering.{Rests}
 use Rattle.ready_server.specs.declared.roster_server.RosterServer.{RosterServer}
@@ -48,8 +48,8 @@ use Rattle.snapshot.proofs.ItemLines.{items_account}
 use Rattle.snapshot.proofs.RunItems.{run_good, run_own, run_valid}
 use Rattle.snapshot.proofs.Same.{stored_own}
 use Rattle.snapshot.proofs.Shown.{shown, same_state}
-use Rattle.dover_model.proofs.SessionParts.{session_parts, session_jobs}
-use Rattle.dover_model.proofs.ValidParts.{valid_parts}
+use Rattle.dover_model.proofs.sessions.SessionParts.{session_parts, session_jobs}
+use Rattle.dover_model.proofs.valid.ValidParts.{valid_parts}
 
 -- what holds of all of two lists
 all_both : {X : Type 0} (P : X → Type 0) (xs ys : List X) → AllByRecursion P xs → AllByRecursion P ys

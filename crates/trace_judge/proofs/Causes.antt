@@ -11,9 +11,9 @@ use Rattle.dover_model.specs.JobFacts.{JobFacts}
 use Rattle.dover_model.specs.Admission.{refusal_of}
 use Rattle.dover_model.specs.Session.{Session, instance_of, admitted_jobs, is_full, late_refusal, refusal_in}
 use Rattle.dover_model.specs.Session.{refusal_at, refused_mark}
-use Rattle.dover_model.proofs.Fullness.{full_in, full_at}
-use Rattle.dover_model.proofs.Members.{some_same}
-use Rattle.dover_model.proofs.Tests.{none_is_some}
+use Rattle.dover_model.proofs.sessions.Fullness.{full_in, full_at}
+use Rattle.dover_model.proofs.lists.Members.{some_same}
+use Rattle.dover_model.proofs.lists.Tests.{none_is_some}
 use Rattle.trace_judge.specs.Reads.{refusal_if_full}
 
 -- but for that cause the mark stays

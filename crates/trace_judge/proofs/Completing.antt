@@ -27,13 +27,14 @@ use Rattle.dover_model.specs.Text.{text_of}
 use Rattle.dover_model.specs.Verdict.{named_item, begins_trace}
 use Rattle.dover_model.specs.Leading.{WaitsUntil}
 use Rattle.dover_model.specs.WholeRun.{IsBarrier}
-use Rattle.dover_model.proofs.Growing.{finish_instance}
-use Rattle.dover_model.proofs.LastSteps.{last_tells}
-use Rattle.dover_model.proofs.Members.{found, some_same}
-use Rattle.dover_model.proofs.RightFinishes.{all_before, FinishSays, finish_says, right_finish, none_late, none_other}
-use Rattle.dover_model.proofs.Roles.{passes, is_running_role}
-use Rattle.dover_model.proofs.Tests.{never}
-use Rattle.dover_model.proofs.Waiting.{some_goes_on}
+use Rattle.dover_model.proofs.sessions.Growing.{finish_instance}
+use Rattle.dover_model.proofs.settled.LastSteps.{last_tells}
+use Rattle.dover_model.proofs.lists.Members.{found, some_same}
+use Rattle.dover_model.proofs.finishes.RightFinishes.{all_before, FinishSays, finish_says, right_finish, none_late}
+use Rattle.dover_model.proofs.finishes.RightFinishes.{none_other}
+use Rattle.dover_model.proofs.steps.Roles.{passes, is_running_role}
+use Rattle.dover_model.proofs.lists.Tests.{never}
+use Rattle.dover_model.proofs.settled.Waiting.{some_goes_on}
 use Rattle.line_text.specs.declared.traces.lines.TraceLine.TheVariants.{Step as StepLine}
 use Rattle.line_text.specs.traces.Form.{HasForm}
 use Rattle.ready_jobs.specs.Course.{Course, Follows, Finishes, Runs, RunsNowhere}
@@ -47,7 +48,7 @@ use Rattle.trace_judge.proofs.Only.{only_completion}
 use Rattle.trace_judge.proofs.Readings.{goes_of, here_of, reads_of, reads_ahead, room_kept, room_left}
 use Rattle.trace_judge.proofs.Readings.{version_kept}
 use Rattle.trace_judge.proofs.Seeing.{sees_rest}
-use Rattle.dover_model.proofs.SessionParts.{MayFinish, session_jobs}
+use Rattle.dover_model.proofs.sessions.SessionParts.{MayFinish, session_jobs}
 use Rattle.trace_judge.proofs.Follows.{finish_parts}
 use Rattle.trace_judge.proofs.Continuing.{printed_there, state_there, SeesWith}
 use Rattle.trace_judge.proofs.Readings.{room_for, GoesHere, here_reader, goes_some, item_more, no_job}

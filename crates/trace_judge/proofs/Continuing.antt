@@ -26,51 +26,53 @@ use Rattle.dover_model.specs.Session.{JobItem, RefusedItem, Refused, Session, in
 use Rattle.dover_model.specs.Session.{FinishItem, EarlyFinish, IsDeclarable}
 use Rattle.dover_model.specs.Session.{IsValidSession, with_item, with_named, mark_after, new_session}
 use Rattle.dover_model.specs.Verdict.{named_session}
-use Rattle.dover_model.proofs.Kept.{opening_keeps, each_job}
-use Rattle.dover_model.proofs.Ending.{potential}
-use Rattle.dover_model.proofs.Settling.{Settles as Reaches, settles, settled_is_run, at_barrier}
-use Rattle.dover_model.proofs.Valid.{all_from}
-use Rattle.dover_model.proofs.Prefixes.{step_open, come_from, opening_later, later_keeps}
-use Rattle.dover_model.proofs.Releasing.{coming_task, barrier_releases}
-use Rattle.dover_model.proofs.PutIn.{RefusesWithin, AllPlacedWithin, put_in-more_steps, put_in-more_refused}
-use Rattle.dover_model.proofs.PutIn.{places_after-append}
-use Rattle.dover_model.proofs.Growing.{Reads, LinesName, item_in, with_line_named, reads_later, Finishes}
-use Rattle.dover_model.proofs.Growing.{finishing_job, finish_instance, finish_is_named}
-use Rattle.dover_model.proofs.Growing.{job_instance, refused_instance, all_behind}
+use Rattle.dover_model.proofs.steps.Kept.{opening_keeps, each_job}
+use Rattle.dover_model.proofs.runs.Ending.{potential}
+use Rattle.dover_model.proofs.settled.Settling.{Settles as Reaches, settles, settled_is_run, at_barrier}
+use Rattle.dover_model.proofs.valid.Valid.{all_from}
+use Rattle.dover_model.proofs.settled.Prefixes.{step_open, come_from, opening_later, later_keeps}
+use Rattle.dover_model.proofs.settled.Releasing.{coming_task, barrier_releases}
+use Rattle.dover_model.proofs.sessions.PutIn.{RefusesWithin, AllPlacedWithin, put_in-more_steps, put_in-more_refused}
+use Rattle.dover_model.proofs.sessions.PutIn.{places_after-append}
+use Rattle.dover_model.proofs.sessions.Growing.{Reads, LinesName, item_in, with_line_named, reads_later, Finishes}
+use Rattle.dover_model.proofs.sessions.Growing.{finishing_job, finish_instance, finish_is_named}
+use Rattle.dover_model.proofs.sessions.Growing.{job_instance, refused_instance, all_behind}
 use Rattle.admission.proofs.Joining.{admitted_valid}
-use Rattle.dover_model.proofs.Accounts.{follows_behind, mark_behind}
-use Rattle.dover_model.proofs.Members.{each_behind, all_at, all_each}
-use Rattle.dover_model.proofs.Early.{finish_in, NameNone, run_names_none}
-use Rattle.dover_model.proofs.TraceLines.{item_of_line}
-use Rattle.dover_model.proofs.Runs.{printed_append}
-use Rattle.dover_model.proofs.Paths.{one_settled_run}
-use Rattle.dover_model.proofs.Resting.{path_state}
-use Rattle.dover_model.proofs.Meeting.{finishing_valid}
-use Rattle.dover_model.proofs.Further.{none_due_before, same_open, next_at_mark}
-use Rattle.dover_model.proofs.Roles.{passes}
-use Rattle.dover_model.proofs.Tests.{never}
+use Rattle.dover_model.proofs.sessions.Accounts.{follows_behind, mark_behind}
+use Rattle.dover_model.proofs.lists.Members.{each_behind, all_at, all_each}
+use Rattle.dover_model.proofs.finishes.Early.{finish_in, NameNone, run_names_none}
+use Rattle.dover_model.proofs.texts.TraceLines.{item_of_line}
+use Rattle.dover_model.proofs.runs.Runs.{printed_append}
+use Rattle.dover_model.proofs.settled.Paths.{one_settled_run}
+use Rattle.dover_model.proofs.rest.Resting.{path_state}
+use Rattle.dover_model.proofs.finishes.Meeting.{finishing_valid}
+use Rattle.dover_model.proofs.finishes.Further.{none_due_before, same_open, next_at_mark}
+use Rattle.dover_model.proofs.steps.Roles.{passes}
+use Rattle.dover_model.proofs.lists.Tests.{never}
 use Rattle.dover_model.specs.Finishes.{Finish}
 use Rattle.dover_model.specs.Paths.{IsOpenPath}
 use Rattle.dover_model.specs.Leading.{GoesOn, Leads, Passes, Idles, PrintsNext, floor_after}
 use Rattle.trace_judge.specs.Reading.{Sees, HasRoom, MayRelease, MayRefuse, release_text, completion_text}
 use Rattle.dover_model.specs.Ready.{with_fresh}
 use Rattle.trace_judge.proofs.Items.{reads_mark}
-use Rattle.dover_model.proofs.Leading.{leads_later_mark, leads_append, leads_passes, settles_passes, passes_append}
-use Rattle.dover_model.proofs.Leading.{passes_settled, settles_silent, idles_silent, idles_leads, settles_clock}
-use Rattle.dover_model.proofs.Leading.{passes_keeps, prints_goes_on, stops_before, Later, passes_later, coming_goes_on}
-use Rattle.dover_model.proofs.Released.{NoneComes, none_comes_passes, none_comes_after, printed_names_none}
-use Rattle.dover_model.proofs.Released.{after_release}
+use Rattle.dover_model.proofs.settled.Leading.{leads_later_mark, leads_append, leads_passes, settles_passes}
+use Rattle.dover_model.proofs.settled.Leading.{passes_append, passes_settled, settles_silent, idles_silent, idles_leads}
+use Rattle.dover_model.proofs.settled.Leading.{settles_clock, passes_keeps, prints_goes_on, stops_before, Later}
+use Rattle.dover_model.proofs.settled.Leading.{passes_later, coming_goes_on}
+use Rattle.dover_model.proofs.runs.Released.{NoneComes, none_comes_passes, none_comes_after, printed_names_none}
+use Rattle.dover_model.proofs.runs.Released.{after_release}
 use Rattle.trace_judge.proofs.Seeing.{led_named, sees_keeps, sees_ready, sees_names, sees_next}
 use Rattle.dover_model.specs.Fraction.{IsRatio}
-use Rattle.dover_model.proofs.SessionParts.{MayFinish, session_parts, session_from, session_jobs, session_declared}
+use Rattle.dover_model.proofs.sessions.SessionParts.{MayFinish, session_parts, session_from, session_jobs}
+use Rattle.dover_model.proofs.sessions.SessionParts.{session_declared}
 use Rattle.trace_judge.proofs.Follows.{refused_parts}
-use Rattle.dover_model.proofs.ValidParts.{valid_from}
+use Rattle.dover_model.proofs.valid.ValidParts.{valid_from}
 use Rattle.dover_model.specs.Leading.{WaitsUntil}
 use Rattle.dover_model.specs.Session.{Item}
-use Rattle.dover_model.proofs.SessionParts.{FollowsItems}
-use Rattle.dover_model.proofs.Walks.{tick_of_item}
+use Rattle.dover_model.proofs.sessions.SessionParts.{FollowsItems}
+use Rattle.dover_model.proofs.sessions.Walks.{tick_of_item}
 use Rattle.trace_judge.proofs.Items.{mark_next}
-use Rattle.dover_model.proofs.Leading.{idles_settles}
+use Rattle.dover_model.proofs.settled.Leading.{idles_settles}
 
 -- lines that come to a state, and what was printed up to it
 abbrev pub SeesWith : List (List ℕ) → Session → ℕ → State → List Event → Type 0

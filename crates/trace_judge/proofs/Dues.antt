@@ -16,10 +16,10 @@ use Rattle.dover_model.specs.Verdict.{Expected, Header, Step, Nothing, Verdict, 
 use Rattle.dover_model.specs.Verdict.{begins_trace, begins_trace_of}
 use Rattle.dover_model.specs.Verdict.{ends_with_end, is_empty, text_lines, first_wrong, step_after, expected_after}
 use Rattle.dover_model.specs.Verdict.{good_verdict, wrong_verdict, verdict}
-use Rattle.dover_model.proofs.Members.{some_same}
-use Rattle.dover_model.proofs.ShortNumbers.{printed_short, AreAllShort}
-use Rattle.dover_model.proofs.WrongStays.{next_wrong}
-use Rattle.dover_model.proofs.SessionParts.{session_jobs}
+use Rattle.dover_model.proofs.lists.Members.{some_same}
+use Rattle.dover_model.proofs.traces.ShortNumbers.{printed_short, AreAllShort}
+use Rattle.dover_model.proofs.traces.WrongStays.{next_wrong}
+use Rattle.dover_model.proofs.sessions.SessionParts.{session_jobs}
 
 -- the numbers of what is due have numerals
 abbrev IsShortDue : Expected → Type 0

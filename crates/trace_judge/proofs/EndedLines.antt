@@ -6,7 +6,7 @@ use Rattle.std.proofs.lemmas.Bool.{ltb-true, ltb-false}
 use Rattle.dover_model.specs.declared.Memory.{Memory}
 use Rattle.dover_model.specs.Lines.{whole_lines}
 use Rattle.dover_model.specs.Verdict as model
-use Rattle.dover_model.proofs.Tests.{never}
+use Rattle.dover_model.proofs.lists.Tests.{never}
 use Rattle.line_text.specs.Cutting as cutting
 use Rattle.line_text.specs.Cutting.{HasCut}
 use Rattle.line_text.specs.declared.cutting.ByteEffect.TheVariants.{Line}

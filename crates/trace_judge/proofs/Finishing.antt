@@ -11,17 +11,17 @@ use Rattle.dover_model.specs.Step.{Prints, step, open_step, after}
 use Rattle.dover_model.specs.Run.{Step, is_end, event_of, printed_of, printed, value_of_end, completed_value}
 use Rattle.dover_model.specs.Sound.{Keeps}
 use Rattle.dover_model.specs.WholeRun.{IsWholeRun}
-use Rattle.dover_model.proofs.Kept.{open_kept}
-use Rattle.dover_model.proofs.Prefixes.{step_open}
+use Rattle.dover_model.proofs.steps.Kept.{open_kept}
+use Rattle.dover_model.proofs.settled.Prefixes.{step_open}
 use Rattle.dover_model.specs.Leading.{Idles, PrintsNext}
-use Rattle.dover_model.proofs.Leading.{not_end}
+use Rattle.dover_model.proofs.settled.Leading.{not_end}
 use Rattle.dover_model.specs.Session.{Session, instance_of}
 use Rattle.dover_model.specs.Text.{header, text_of}
 use Rattle.dover_model.specs.Trace.{Printed, text_of_line, places_of, lines_among, texts_among, trace_lines}
-use Rattle.dover_model.proofs.PutIn.{put_in-more_steps}
+use Rattle.dover_model.proofs.sessions.PutIn.{put_in-more_steps}
 use Rattle.trace_judge.specs.Reading.{Sees}
 use Rattle.trace_judge.proofs.Seeing.{sees_rest, sees_keeps}
-use Rattle.dover_model.proofs.SessionParts.{session_jobs}
+use Rattle.dover_model.proofs.sessions.SessionParts.{session_jobs}
 
 module _ (J : Instance) (valid : IsValid J) (rules : Rules) (value : ℕ) where
   -- where End is printed next, nothing else is

@@ -14,13 +14,13 @@ use Rattle.dover_model.specs.Step.{Move, Prints, Waits, Ticks, step, ending, ◌
 use Rattle.dover_model.specs.Run.{printed, printed_of}
 use Rattle.dover_model.specs.Sound.{IsMember, Keeps}
 use Rattle.dover_model.specs.Session.{Session, instance_of}
-use Rattle.dover_model.proofs.Members.{some_same, all_at}
-use Rattle.dover_model.proofs.Deeds.{Deed, Completed, Resumed, Started, Began, Preempted, Stayed, Arrived, Taken}
-use Rattle.dover_model.proofs.Deeds.{Abandoned, Rested}
-use Rattle.dover_model.proofs.Kept.{step_deed, each_job}
-use Rattle.dover_model.proofs.Honest.{numbers_low, count_jobs}
-use Rattle.dover_model.proofs.Limiting.{jobs_most}
-use Rattle.dover_model.proofs.ShortNumbers.{printed_short}
+use Rattle.dover_model.proofs.lists.Members.{some_same, all_at}
+use Rattle.dover_model.proofs.steps.Deeds.{Deed, Completed, Resumed, Started, Began, Preempted, Stayed, Arrived, Taken}
+use Rattle.dover_model.proofs.steps.Deeds.{Abandoned, Rested}
+use Rattle.dover_model.proofs.steps.Kept.{step_deed, each_job}
+use Rattle.dover_model.proofs.runs.Honest.{numbers_low, count_jobs}
+use Rattle.dover_model.proofs.valid.Limiting.{jobs_most}
+use Rattle.dover_model.proofs.traces.ShortNumbers.{printed_short}
 use Rattle.line_text.specs.declared.traces.lines.TraceLine.{TraceLine}
 use Rattle.line_text.specs.declared.traces.lines.TraceLine.TheVariants.{Step}
 use Rattle.line_text.specs.traces.Form.{HasForm, NamesJobs, trace_text}
@@ -30,10 +30,10 @@ use Rattle.dover_model.specs.Lines.{fields_of}
 use Rattle.dover_model.specs.Text.{step_numbers}
 use Rattle.dover_model.specs.Leading.{PrintsNext}
 use Rattle.trace_judge.specs.Reading.{Sees}
-use Rattle.dover_model.proofs.Leading.{leads_passes, idles_leads, passes_keeps}
+use Rattle.dover_model.proofs.settled.Leading.{leads_passes, idles_leads, passes_keeps}
 use Rattle.trace_judge.proofs.Seeing.{sees_keeps, sees_next}
-use Rattle.dover_model.proofs.SessionParts.{session_jobs}
-use Rattle.dover_model.proofs.ValidParts.{valid_parts}
+use Rattle.dover_model.proofs.sessions.SessionParts.{session_jobs}
+use Rattle.dover_model.proofs.valid.ValidParts.{valid_parts}
 
 -- a line has one form
 pub one_form : (x y : TraceLine) → HasForm x → HasForm y → trace_text x ≡ trace_text y → x ≡ y

@@ -17,23 +17,23 @@ use Rattle.dover_model.specs.Session.{IsValidSession}
 use Rattle.dover_model.specs.Trace.{Printed, Refuses, Placed, put_in, places_after, places_of, lines_among}
 use Rattle.dover_model.specs.Trace.{text_of_line, trace_lines}
 use Rattle.dover_model.specs.Verdict as model
-use Rattle.dover_model.proofs.Beginnings.{begins_length}
-use Rattle.dover_model.proofs.Cuts.{onto, cut_append}
-use Rattle.dover_model.proofs.BoundLaws.{bound as none_worth_more}
-use Rattle.dover_model.proofs.Ending.{few_printed}
-use Rattle.dover_model.proofs.Honest.{observed_honest, observed_all}
-use Rattle.dover_model.proofs.Limiting.{items_of_lines, jobs_most, lines_most}
-use Rattle.dover_model.proofs.Named.{beginnings_pass}
-use Rattle.dover_model.proofs.Runs.{none_lost, all_value}
-use Rattle.dover_model.proofs.Tests.{never}
-use Rattle.dover_model.proofs.TraceEnds.{trace_ends}
-use Rattle.dover_model.proofs.WrongStays.{begun, Starts, wrong_verdict_stays}
+use Rattle.dover_model.proofs.lists.Beginnings.{begins_length}
+use Rattle.dover_model.proofs.texts.Cuts.{onto, cut_append}
+use Rattle.dover_model.proofs.bound.BoundLaws.{bound as none_worth_more}
+use Rattle.dover_model.proofs.runs.Ending.{few_printed}
+use Rattle.dover_model.proofs.runs.Honest.{observed_honest, observed_all}
+use Rattle.dover_model.proofs.valid.Limiting.{items_of_lines, jobs_most, lines_most}
+use Rattle.dover_model.proofs.traces.Named.{beginnings_pass}
+use Rattle.dover_model.proofs.runs.Runs.{none_lost, all_value}
+use Rattle.dover_model.proofs.lists.Tests.{never}
+use Rattle.dover_model.proofs.traces.TraceEnds.{trace_ends}
+use Rattle.dover_model.proofs.traces.WrongStays.{begun, Starts, wrong_verdict_stays}
 use Rattle.line_text.specs.Cutting as cutting
 use Rattle.line_text.specs.Cutting.{Cutting, with_byte, after_byte, goes_on, most_count, HasCut}
 use Rattle.line_text.specs.declared.cutting.ByteEffect.{ByteEffect}
 use Rattle.line_text.specs.declared.cutting.ByteEffect.TheVariants.{More, Line, TooLong}
-use Rattle.dover_model.proofs.Former.{no_finishes}
-use Rattle.dover_model.proofs.BoundLaws.{observed_bound}
+use Rattle.dover_model.proofs.sessions.Former.{no_finishes}
+use Rattle.dover_model.proofs.bound.BoundLaws.{observed_bound}
 use Rattle.trace_judge.proofs.Texts.{good_text, wrong_rest, accepted_text, short_text}
 use Rattle.trace_judge.proofs.Seeing.{sees_begins, sees_not_ended}
 use Rattle.trace_judge.specs.declared.stage.TraceStage.{TraceStage}
@@ -50,8 +50,8 @@ use Rattle.trace_judge.specs.Reads.{Reading, expected_of, Ends, Reads, is_job_li
 use Rattle.trace_judge.specs.Judging.{jobs_named, steps_told, IsGood, IsCut, StandsFor, Fed, IsOverfed, Tells, IsEarned}
 use Rattle.trace_judge.specs.Judging.{Judged, is_wrong}
 use Rattle.trace_judge.proofs.Readings.{HereBy, ends_of, reads_ahead, with_room, room_opens, room_goes, room_ends}
-use Rattle.dover_model.proofs.SessionParts.{session_parts, session_jobs}
-use Rattle.dover_model.proofs.ValidParts.{valid_parts}
+use Rattle.dover_model.proofs.sessions.SessionParts.{session_parts, session_jobs}
+use Rattle.dover_model.proofs.valid.ValidParts.{valid_parts}
 
 -- ---- a trace has few lines
 

@@ -10,10 +10,10 @@ use Rattle.dover_model.specs.Session.{Session, instance_of}
 use Rattle.dover_model.specs.Trace.{trace_lines}
 use Rattle.dover_model.specs.Verdict as model
 use Rattle.dover_model.specs.declared.events.Version.{Version}
-use Rattle.dover_model.proofs.Limiting.{items_of_lines, lines_most}
-use Rattle.dover_model.proofs.TraceEnds.{trace_ends}
+use Rattle.dover_model.proofs.valid.Limiting.{items_of_lines, lines_most}
+use Rattle.dover_model.proofs.traces.TraceEnds.{trace_ends}
 use Rattle.dover_model.specs.Leading.{PrintsNext}
-use Rattle.dover_model.proofs.Leading.{idles_append}
+use Rattle.dover_model.proofs.settled.Leading.{idles_append}
 use Rattle.trace_judge.specs.Reading.{HasRoom}
 use Rattle.admission.specs.Kept as admission
 use Rattle.trace_judge.proofs.Seeing.{sees_expects}
@@ -30,7 +30,7 @@ use Rattle.std.proofs.Common.{Bool, false, refl, length-append}
 use Rattle.std.proofs.lemmas.List.{append-nil}
 use Rattle.std.proofs.lemmas.Bool.{false_from_ne_true}
 use Rattle.dover_model.specs.Instance.{IsValid}
-use Rattle.dover_model.proofs.Ending.{few_printed}
+use Rattle.dover_model.proofs.runs.Ending.{few_printed}
 use Rattle.std.specs.List.{fold}
 use Rattle.std.proofs.lemmas.List.Sums.{fold-append}
 use Rattle.dover_model.specs.Settled.{tick_of_event, last_of}

@@ -14,11 +14,11 @@ use Rattle.dover_model.specs.Session.{RefusedItem, Refused as RefusedAt, Session
 use Rattle.dover_model.specs.Session.{refuses_lines, is_full, refused_mark, may_finish_early, finish_at}
 use Rattle.dover_model.specs.Session.{refused_of_item}
 use Rattle.dover_model.specs.Session as session
-use Rattle.dover_model.proofs.SessionParts as parts
-use Rattle.dover_model.proofs.SessionParts.{may_be_refused-agrees}
+use Rattle.dover_model.proofs.sessions.SessionParts as parts
+use Rattle.dover_model.proofs.sessions.SessionParts.{may_be_refused-agrees}
 use Rattle.dover_model.specs.Text.{refused_text}
 use Rattle.dover_model.specs.Verdict.{named_item, begins_trace}
-use Rattle.dover_model.proofs.Growing.{refused_instance}
+use Rattle.dover_model.proofs.sessions.Growing.{refused_instance}
 use Rattle.line_text.specs.declared.traces.lines.TraceLine.TheVariants.{Refused, RefusedDone}
 use Rattle.line_text.specs.traces.Form.{HasForm, refused_job, refused_done}
 use Rattle.dover_model.specs.Leading.{Idles, WaitsUntil}
@@ -33,7 +33,7 @@ use Rattle.trace_judge.specs.Reads.{refusal_if_full}
 use Rattle.trace_judge.proofs.Causes.{full_there, refused_if_full, refused_there}
 use Rattle.trace_judge.proofs.Readings.{goes_of, reads_of, version_kept, room_kept}
 use Rattle.trace_judge.proofs.Readings.{room_left}
-use Rattle.dover_model.proofs.Tests.{never}
+use Rattle.dover_model.proofs.lists.Tests.{never}
 use Rattle.trace_judge.proofs.Follows.{refused_parts}
 use Rattle.trace_judge.proofs.Continuing.{SeesWith}
 use Rattle.trace_judge.proofs.Readings.{goes_none, goes_some, Continues, continued_reader, item_more, no_job, kept_none}

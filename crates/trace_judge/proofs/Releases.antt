@@ -17,9 +17,9 @@ use Rattle.dover_model.specs.Run.{printed_of}
 use Rattle.dover_model.specs.Session.{JobItem, Session, instance_of, admitted_jobs, with_item, job_of_item}
 use Rattle.dover_model.specs.Text.{text_of}
 use Rattle.dover_model.specs.Verdict.{begins_trace}
-use Rattle.dover_model.proofs.Admitting.{Admitted, not_refused}
-use Rattle.dover_model.proofs.Limiting.{jobs_most}
-use Rattle.dover_model.proofs.Growing.{job_instance}
+use Rattle.dover_model.proofs.valid.Admitting.{Admitted, not_refused}
+use Rattle.dover_model.proofs.valid.Limiting.{jobs_most}
+use Rattle.dover_model.proofs.sessions.Growing.{job_instance}
 use Rattle.line_text.specs.declared.traces.lines.TraceLine.TheVariants.{Step as StepLine}
 use Rattle.line_text.specs.traces.Form.{HasForm}
 use Rattle.dover_model.specs.Leading.{WaitsUntil}
@@ -40,10 +40,10 @@ use Rattle.trace_judge.proofs.Forms.{one_form}
 use Rattle.trace_judge.proofs.Readings.{reads_of, with_room, room_kept, room_left}
 use Rattle.trace_judge.proofs.Naming.{item_named}
 use Rattle.dover_model.specs.Session.{is_full, ready_at}
-use Rattle.dover_model.proofs.Tests.{never}
+use Rattle.dover_model.proofs.lists.Tests.{never}
 use Rattle.trace_judge.proofs.Completing.{ready_is}
-use Rattle.dover_model.proofs.SessionParts.{session_jobs}
-use Rattle.dover_model.proofs.JobLimits.{job_limits}
+use Rattle.dover_model.proofs.sessions.SessionParts.{session_jobs}
+use Rattle.dover_model.proofs.valid.JobLimits.{job_limits}
 use Rattle.trace_judge.proofs.Continuing.{SeesWith}
 use Rattle.trace_judge.proofs.Readings.{room_goes, room_for, GoesHere, here_reader, goes_none, goes_some, item_more}
 

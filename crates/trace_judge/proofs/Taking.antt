@@ -17,22 +17,22 @@ use Rattle.dover_model.specs.Step.{Prints, step, open_step, after}
 use Rattle.dover_model.specs.Run.{Step, is_end, printed, printed_of}
 use Rattle.dover_model.specs.Settled.{waits_for_mark, last_of, tick_of_event}
 use Rattle.dover_model.specs.Sound.{Keeps}
-use Rattle.dover_model.proofs.LastSteps.{prints_clock}
-use Rattle.dover_model.proofs.Kept.{open_deed}
-use Rattle.dover_model.proofs.Prefixes.{step_open}
+use Rattle.dover_model.proofs.settled.LastSteps.{prints_clock}
+use Rattle.dover_model.proofs.steps.Kept.{open_deed}
+use Rattle.dover_model.proofs.settled.Prefixes.{step_open}
 use Rattle.dover_model.specs.Session.{Session, instance_of, new_session, is_declarable, IsDeclarable}
 use Rattle.dover_model.specs.Feed.{rules_with}
-use Rattle.dover_model.proofs.Members.{some_same}
+use Rattle.dover_model.proofs.lists.Members.{some_same}
 use Rattle.dover_model.specs.Text.{header, text_of, version_number}
 use Rattle.dover_model.specs.Verdict.{begins_trace, named_item, version_of_number}
-use Rattle.dover_model.proofs.TraceLines.{version_back, version_from}
-use Rattle.dover_model.proofs.Ending.{end_over}
-use Rattle.dover_model.proofs.Tests.{never}
+use Rattle.dover_model.proofs.texts.TraceLines.{version_back, version_from}
+use Rattle.dover_model.proofs.runs.Ending.{end_over}
+use Rattle.dover_model.proofs.lists.Tests.{never}
 use Rattle.line_text.specs.declared.traces.lines.TraceLine.TheVariants.{Header, Step as StepLine}
 use Rattle.line_text.specs.traces.Form.{HasForm, trace_text}
 use Rattle.admission.specs.Kept as admission
 use Rattle.dover_model.specs.Leading.{Idles, GoesOn, WaitsUntil, PrintsNext, floor_after}
-use Rattle.dover_model.proofs.Leading.{idles_settles, settles_append, settles_or_prints, prints_goes_on}
+use Rattle.dover_model.proofs.settled.Leading.{idles_settles, settles_append, settles_or_prints, prints_goes_on}
 use Rattle.trace_judge.proofs.Seeing.{sees_next}
 use Rattle.trace_judge.proofs.Continuing.{sees_step, sees_header}
 use Rattle.trace_judge.proofs.Finishing.{ended_run, ended_trace, ended_value}
@@ -45,7 +45,7 @@ use Rattle.ready_jobs.proofs.Courses.{new_follows, follows_count}
 use Rattle.trace_judge.proofs.Forms.{one_form, next_form}
 use Rattle.trace_judge.proofs.Readings.{goes_of, ahead_of, here_of, reads_of, opens_of, reads_ahead, next_goes}
 use Rattle.trace_judge.proofs.Readings.{spare_stays, next_ahead}
-use Rattle.dover_model.proofs.SessionParts.{session_jobs}
+use Rattle.dover_model.proofs.sessions.SessionParts.{session_jobs}
 use Rattle.trace_judge.proofs.Readings.{goes_along, took_none, room_for, kept_more, steps_more, last_more, Continues}
 use Rattle.trace_judge.proofs.Readings.{continued_reader}
 use Rattle.trace_judge.proofs.Continuing.{SeesWith}

@@ -9,19 +9,19 @@ use Rattle.dover_model.specs.Instance.{Declaration}
 use Rattle.dover_model.specs.State.{State}
 use Rattle.dover_model.specs.Session.{Session, RefusedLine, RefusedJob, RefusedDone, instance_of, admitted_jobs}
 use Rattle.dover_model.specs.Session.{IsDeclarable}
-use Rattle.dover_model.proofs.SessionParts as parts
+use Rattle.dover_model.proofs.sessions.SessionParts as parts
 use Rattle.dover_model.specs.Finishes.{Finish}
 use Rattle.dover_model.specs.Settled.{settled_state}
 use Rattle.dover_model.specs.Sound.{Keeps}
-use Rattle.dover_model.proofs.Growing.{Finishes, finishing_job}
-use Rattle.dover_model.proofs.Barriers.{settled_at_barrier}
-use Rattle.dover_model.proofs.Honest.{numbers_low, count_jobs}
+use Rattle.dover_model.proofs.sessions.Growing.{Finishes, finishing_job}
+use Rattle.dover_model.proofs.settled.Barriers.{settled_at_barrier}
+use Rattle.dover_model.proofs.runs.Honest.{numbers_low, count_jobs}
 use Rattle.dover_model.specs.Text.{header, text_of, refused_text}
 use Rattle.dover_model.specs.Verdict.{item_of, begins_trace, ends_with_end}
-use Rattle.dover_model.proofs.Admitting.{Admitted, not_refused}
-use Rattle.dover_model.proofs.Limiting.{jobs_most}
-use Rattle.dover_model.proofs.TraceEnds.{trace_ends}
-use Rattle.dover_model.proofs.WrongStays.{after_end_fails}
+use Rattle.dover_model.proofs.valid.Admitting.{Admitted, not_refused}
+use Rattle.dover_model.proofs.valid.Limiting.{jobs_most}
+use Rattle.dover_model.proofs.traces.TraceEnds.{trace_ends}
+use Rattle.dover_model.proofs.traces.WrongStays.{after_end_fails}
 use Rattle.line_text.specs.declared.traces.lines.TraceLine.{TraceLine}
 use Rattle.line_text.specs.declared.traces.lines.TraceLine.TheVariants.{Header, Step, Refused}
 use Rattle.line_text.specs.declared.traces.lines.TraceLine.TheVariants as format
@@ -36,12 +36,12 @@ use Rattle.trace_judge.specs.declared.stage.TraceStage.TheVariants.{Opening, Goi
 use Rattle.trace_judge.specs.Reads.{Reading, Goes, Ends, Reads, Took, jobs_in, job_lines_in, is_job_item}
 use Rattle.trace_judge.proofs.Forms.{one_form, next_form}
 use Rattle.trace_judge.proofs.Readings.{HereBy, ends_of, reads_ahead}
-use Rattle.dover_model.proofs.SessionParts.{session_jobs}
+use Rattle.dover_model.proofs.sessions.SessionParts.{session_jobs}
 use Rattle.trace_judge.proofs.Follows.{refused_parts, finish_parts}
-use Rattle.dover_model.proofs.ValidParts.{valid_parts}
-use Rattle.dover_model.proofs.JobLimits.{job_limits}
+use Rattle.dover_model.proofs.valid.ValidParts.{valid_parts}
+use Rattle.dover_model.proofs.valid.JobLimits.{job_limits}
 use Rattle.trace_judge.proofs.Readings.{took_none, goes_none}
-use Rattle.dover_model.proofs.Tests.{never}
+use Rattle.dover_model.proofs.lists.Tests.{never}
 
 -- behind the end no line continues the trace
 ended_fails : (r : Reading) (ls : List (List ℕ)) (S : Session) → Ends r ls S → (l : List ℕ)

@@ -5,7 +5,7 @@ use Rattle.std.specs.List.{AllByRecursion}
 use Rattle.std.proofs.lemmas.List.{append-nil}
 use Rattle.dover_model.specs.JobFacts.{JobFacts, IsJob}
 use Rattle.dover_model.specs.Lines.{in_lines}
-use Rattle.dover_model.proofs.Valid.{all_back}
+use Rattle.dover_model.proofs.valid.Valid.{all_back}
 use Rattle.dover_port.specs.Causes.{HasCause, StaysWell, StopsAtFailure}
 use Rattle.dover_port.specs.declared.calls.Calls.{Calls}
 use Rattle.dover_port.specs.Moves.{Move, Passes, CutsShort, PutsThrough, IsProperPrefix}

@@ -14,7 +14,7 @@ use Rattle.stated_jobs.specs.declared.trial.turns.Done.{Done}
 use Rattle.stated_jobs.specs.declared.trial.turns.Turn.{Turn}
 use Rattle.trial_words.specs.Drawing.{turn_lines, text_of_lines, feed_of_turns}
 use Rattle.event_feed.specs.Feeds.{rules_text}
-use Rattle.dover_model.proofs.Beginnings.{in_lines-append}
+use Rattle.dover_model.proofs.lists.Beginnings.{in_lines-append}
 
 -- lines behind lines
 text_behind : (xs ys : List FeedLine) → text_of_lines (xs ++ ys) ≡ text_of_lines xs ++ text_of_lines ys

@@ -14,9 +14,9 @@ use Rattle.dover_model.specs.declared.events.Entry.{Entry}
 use Rattle.dover_model.specs.Entries.{IsStrictOrder, entry_of, is_due_before, is_start_before}
 use Rattle.dover_model.specs.Orders.{first, due_first, starts_before, earlier}
 use Rattle.dover_model.specs.Sound.{IsMember, Each, EachTwo}
-use Rattle.dover_model.proofs.EntryOrders.{strict_by}
-use Rattle.dover_model.proofs.Members.{some_same, reduce_none}
-use Rattle.dover_model.proofs.Tests.{never, none_is_some}
+use Rattle.dover_model.proofs.steps.EntryOrders.{strict_by}
+use Rattle.dover_model.proofs.lists.Members.{some_same, reduce_none}
+use Rattle.dover_model.proofs.lists.Tests.{never, none_is_some}
 use Rattle.place_heap.specs.Items.{ItemFacts, is_before}
 use Rattle.place_heap.specs.Orders.{due_item, latest_item}
 use Rattle.place_heap.specs.Table.{items_of}

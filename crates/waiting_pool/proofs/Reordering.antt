@@ -8,10 +8,10 @@ use Rattle.std.proofs.lemmas.List.Sums.{sum_by-cons, sum_by-append}
 use Rattle.dover_model.specs.State.{least}
 use Rattle.dover_model.specs.Orders.{earlier, first}
 use Rattle.dover_model.specs.Sound.{IsMember, Each, EachTwo}
-use Rattle.dover_model.proofs.Members.{some_same, filter_member, member_filter, found, not_found, reduce_none, on_map}
-use Rattle.dover_model.proofs.Members.{map_member, sum_filter, sum_map, member_front, member_behind, each_cons}
-use Rattle.dover_model.proofs.Members.{each_append}
-use Rattle.dover_model.proofs.Tests.{never, none_is_some}
+use Rattle.dover_model.proofs.lists.Members.{some_same, filter_member, member_filter, found, not_found, reduce_none}
+use Rattle.dover_model.proofs.lists.Members.{on_map, map_member, sum_filter, sum_map, member_front, member_behind}
+use Rattle.dover_model.proofs.lists.Members.{each_cons, each_append}
+use Rattle.dover_model.proofs.lists.Tests.{never, none_is_some}
 use Rattle.waiting_pool.specs.Reordered.{IsReordered}
 
 -- ---- a list in two parts

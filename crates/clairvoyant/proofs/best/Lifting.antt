@@ -8,12 +8,12 @@ use Rattle.std.proofs.lemmas.List.{map-append}
 use Rattle.dover_model.specs.JobFacts.{JobFacts}
 use Rattle.dover_model.specs.Schedules.{is_served}
 use Rattle.dover_model.specs.Sound.{IsMember, Each}
-use Rattle.dover_model.proofs.Parting.{served_map}
+use Rattle.dover_model.proofs.rest.Parting.{served_map}
 use Rattle.dover_model.specs.declared.pieces.Piece.{Piece}
 use Rattle.dover_model.specs.Pieces.{spread, spread_from, stretches, stretches_from, with_tick}
 use Rattle.clairvoyant.specs.best.BestSet.{RiseWithin, Serves, jobs_at, renumbered}
 use Rattle.clairvoyant.proofs.best.Values.{Has, has}
-use Rattle.dover_model.proofs.ValidParts.{ReleasesInOrder}
+use Rattle.dover_model.proofs.valid.ValidParts.{ReleasesInOrder}
 
 -- the jobs of a set, one by one
 pub jobs_cons : (jobs : List JobFacts) (n : ℕ) (j : JobFacts) (chosen : List ℕ) → slice_get jobs n ≡ Some j

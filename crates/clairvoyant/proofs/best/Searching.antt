@@ -14,7 +14,7 @@ use Rattle.dover_model.specs.Sound.{IsMember, Each}
 use Rattle.dover_model.specs.declared.events.Version.TheVariants.{One}
 use Rattle.dover_model.specs.Pieces.{edf, spread}
 use Rattle.clairvoyant.specs.feasible.Feasibility.{ServesAll, CannotMeet, CanMeet}
-use Rattle.dover_model.proofs.Members.{member_front, member_behind, member_either}
+use Rattle.dover_model.proofs.lists.Members.{member_front, member_behind, member_either}
 use Rattle.clairvoyant.specs.declared.best.choice.Choice.{Choice}
 use Rattle.clairvoyant.specs.best.BestSet.{RiseWithin, Serves, IsGood, IsEarlier, IsBestSet, value_at, value_of}
 use Rattle.clairvoyant.specs.best.BestSet.{jobs_at}

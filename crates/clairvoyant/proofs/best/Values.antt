@@ -13,7 +13,7 @@ use Rattle.dover_model.specs.Schedules.{is_served, worth}
 use Rattle.dover_model.specs.Sound.{IsMember, Each}
 use Rattle.clairvoyant.specs.best.BestSet.{RiseWithin, Serves, IsGood, value_at, value_of}
 use Rattle.clairvoyant.proofs.best.Rising.{rise_wider}
-use Rattle.dover_model.proofs.JobLimits.{job_limits}
+use Rattle.dover_model.proofs.valid.JobLimits.{job_limits}
 
 -- the job of a number
 pub record Has (jobs : List JobFacts) (n : ℕ) : Type 0 where

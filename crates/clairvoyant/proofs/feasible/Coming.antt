@@ -13,9 +13,9 @@ use Rattle.dover_model.specs.Sound.{IsMember, Each, IsNumberedFrom, jobs_of}
 use Rattle.dover_model.specs.Windows.{is_inside}
 use Rattle.dover_model.specs.Pieces.{edf_from, last_release}
 use Rattle.dover_model.specs.declared.events.Task.{Task}
-use Rattle.dover_model.proofs.Members.{on_map, map_map, map_same, sum_map, term_le_sum}
-use Rattle.dover_model.proofs.Roles.{one_number, numbered_map}
-use Rattle.dover_model.proofs.Loads.{sum_change}
+use Rattle.dover_model.proofs.lists.Members.{on_map, map_map, map_same, sum_map, term_le_sum}
+use Rattle.dover_model.proofs.steps.Roles.{one_number, numbered_map}
+use Rattle.dover_model.proofs.steps.Loads.{sum_change}
 use Rattle.clairvoyant.specs.feasible.Progress.{had_inside, IsBusy, HasCome}
 use Rattle.clairvoyant.proofs.feasible.EarliestFirst.{given_ticks, by_given, IsBehind, Leads, Rests, edf_run, edf_idle}
 use Rattle.clairvoyant.proofs.feasible.Shares.{named, run_adds, other_adds_none}

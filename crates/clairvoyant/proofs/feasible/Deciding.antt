@@ -14,8 +14,8 @@ use Rattle.dover_model.specs.Sound.{IsMember, Each}
 use Rattle.dover_model.specs.Windows.{IsOverfull, is_inside, work_inside}
 use Rattle.dover_model.specs.Pieces.{AreInOrder, spread, stretches, edf}
 use Rattle.dover_model.specs.declared.pieces.Piece.{Piece}
-use Rattle.dover_model.proofs.Members.{sum_le, each_all}
-use Rattle.dover_model.proofs.Serving.{given_less, one_name_per_tick, sum_numbered}
+use Rattle.dover_model.proofs.lists.Members.{sum_le, each_all}
+use Rattle.dover_model.proofs.runs.Serving.{given_less, one_name_per_tick, sum_numbered}
 use Rattle.clairvoyant.specs.feasible.Feasibility.{IsRelease, ServesAll, ShowsAll, ShowsWindow}
 use Rattle.clairvoyant.specs.feasible.Progress.{IsLateBy, IsWhole}
 use Rattle.clairvoyant.proofs.feasible.Overfull.{work_is, overfull_excludes}

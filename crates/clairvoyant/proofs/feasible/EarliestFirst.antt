@@ -15,10 +15,10 @@ use Rattle.dover_model.specs.Pieces.{given, is_served_fully, earliest_due, edf_f
 use Rattle.dover_model.specs.declared.events.Task.{Task}
 use Rattle.dover_model.specs.declared.events.Version.TheVariants.{One}
 use Rattle.dover_model.specs.Entries.{entry_of}
-use Rattle.dover_model.proofs.EntryOrders.{strict_by}
-use Rattle.dover_model.proofs.Members.{by_bool, filter_member, member_filter, all_each, on_map, map_member, map_map}
-use Rattle.dover_model.proofs.Members.{map_same, map_self, filter_none}
-use Rattle.dover_model.proofs.Roles.{one_number, numbered_map}
+use Rattle.dover_model.proofs.steps.EntryOrders.{strict_by}
+use Rattle.dover_model.proofs.lists.Members.{by_bool, filter_member, member_filter, all_each, on_map, map_member}
+use Rattle.dover_model.proofs.lists.Members.{map_map, map_same, map_self, filter_none}
+use Rattle.dover_model.proofs.steps.Roles.{one_number, numbered_map}
 
 -- ---- ticks given to one job
 

@@ -17,7 +17,7 @@ use Rattle.std.proofs.lemmas.List.Elements.{All-from_recursion, recursion_from_A
 use Rattle.std.proofs.lemmas.List.Sorted.{All-permutation, IsPermutation-map, sum_by_pushed, sum_by_popped}
 use Rattle.std.proofs.lemmas.List.Sums.{sum_by-cons}
 use Rattle.dover_model.specs.Sound.{IsMember, Each}
-use Rattle.dover_model.proofs.Members.{all_member, on_map, map_same, sum_zero, term_le_sum, each_all}
+use Rattle.dover_model.proofs.lists.Members.{all_member, on_map, map_same, sum_zero, term_le_sum, each_all}
 use Rattle.clairvoyant.specs.feasible.Queue.{Kept, Turn, key_of, turn_cmp, kept_of, is_of, IsInTurn, AreBehind, IsFirst}
 use Rattle.clairvoyant.specs.feasible.Queue.{IsTakenOut}
 

@@ -10,12 +10,12 @@ use Rattle.std.proofs.lemmas.List.Sums.{sum_by-cons, sum_by-append}
 use Rattle.dover_model.specs.JobFacts.{JobFacts, IsJob}
 use Rattle.dover_model.specs.Sound.{Each}
 use Rattle.dover_model.specs.Windows.{IsOverfull, is_inside, work_inside}
-use Rattle.dover_model.proofs.Members.{all_member, sum_le, sum_same, sum_zero, member_behind}
-use Rattle.dover_model.proofs.Valid.{order_back}
+use Rattle.dover_model.proofs.lists.Members.{all_member, sum_le, sum_same, sum_zero, member_behind}
+use Rattle.dover_model.proofs.valid.Valid.{order_back}
 use Rattle.clairvoyant.specs.feasible.Feasibility.{IsRelease}
 use Rattle.clairvoyant.proofs.feasible.Overfull.{work_is}
-use Rattle.dover_model.proofs.ValidParts.{ReleasesInOrder}
-use Rattle.dover_model.proofs.JobLimits.{job_limits}
+use Rattle.dover_model.proofs.valid.ValidParts.{ReleasesInOrder}
+use Rattle.dover_model.proofs.valid.JobLimits.{job_limits}
 
 -- what a job asks of the window
 abbrev pub asked : ℕ → ℕ → JobFacts → ℕ

@@ -11,15 +11,15 @@ use Rattle.dover_model.specs.State.{left}
 use Rattle.dover_model.specs.Sound.{IsMember}
 use Rattle.dover_model.specs.Windows.{is_inside, work_inside}
 use Rattle.dover_model.specs.declared.events.Task.{Task}
-use Rattle.dover_model.proofs.Members.{on_map, map_member}
-use Rattle.dover_model.proofs.Loads.{sum_change}
-use Rattle.dover_model.proofs.Serving.{demand_in}
+use Rattle.dover_model.proofs.lists.Members.{on_map, map_member}
+use Rattle.dover_model.proofs.steps.Loads.{sum_change}
+use Rattle.dover_model.proofs.runs.Serving.{demand_in}
 use Rattle.clairvoyant.specs.feasible.Progress.{had_inside, IsBusy, HasCome, IsLateBy, with_late, IsShown, AreServed}
 use Rattle.clairvoyant.proofs.feasible.EarliestFirst.{had_more, given_ticks, by_given, Leads}
 use Rattle.clairvoyant.proofs.feasible.Shares.{named, run_adds, whole_window, given_grows}
 use Rattle.clairvoyant.proofs.feasible.Coming.{leader}
 use Rattle.clairvoyant.proofs.feasible.Overfull.{work_of_tasks}
-use Rattle.dover_model.proofs.JobLimits.{job_limits}
+use Rattle.dover_model.proofs.valid.JobLimits.{job_limits}
 
 -- ---- the late deadline
 

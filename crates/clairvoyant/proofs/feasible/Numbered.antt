@@ -12,10 +12,10 @@ use Rattle.dover_model.specs.Sound.{IsMember, Each, IsNumberedFrom, jobs_of}
 use Rattle.dover_model.specs.Pieces.{last_release}
 use Rattle.dover_model.specs.declared.events.Role.TheVariants.{Coming}
 use Rattle.dover_model.specs.declared.events.Task.{Task}
-use Rattle.dover_model.proofs.Members.{all_member, map_member, some_same}
-use Rattle.dover_model.proofs.Roles.{numbers_above}
-use Rattle.dover_model.proofs.Tests.{none_is_some}
-use Rattle.dover_model.proofs.ValidParts.{ReleasesInOrder}
+use Rattle.dover_model.proofs.lists.Members.{all_member, map_member, some_same}
+use Rattle.dover_model.proofs.steps.Roles.{numbers_above}
+use Rattle.dover_model.proofs.lists.Tests.{none_is_some}
+use Rattle.dover_model.proofs.valid.ValidParts.{ReleasesInOrder}
 
 -- ---- to come
 

@@ -14,13 +14,13 @@ use Rattle.dover_model.specs.Sound.{IsMember}
 use Rattle.dover_model.specs.Pieces.{stretches}
 use Rattle.dover_model.specs.declared.events.Task.{Task}
 use Rattle.dover_model.specs.declared.pieces.Piece.{Piece}
-use Rattle.dover_model.proofs.Members.{some_same}
-use Rattle.dover_model.proofs.Tests.{none_is_some}
+use Rattle.dover_model.proofs.lists.Members.{some_same}
+use Rattle.dover_model.proofs.lists.Tests.{none_is_some}
 use Rattle.clairvoyant.specs.feasible.Progress.{with_late, Stands, IsPending, NoneBefore, RunsUntil, kept_as}
 use Rattle.clairvoyant.specs.feasible.Queue.{Kept, IsFirst, IsTakenOut}
 use Rattle.clairvoyant.proofs.feasible.Standing.{next_later, number_low, stands_until, stands_moved, stands_run}
 use Rattle.clairvoyant.proofs.feasible.Standing.{stands_done}
-use Rattle.dover_model.proofs.ValidParts.{ReleasesInOrder}
+use Rattle.dover_model.proofs.valid.ValidParts.{ReleasesInOrder}
 
 -- past the end there is no job
 place_past : (jobs : List JobFacts) (i : ℕ) → slice_get jobs i ≡ None → length jobs ≤ i

@@ -7,7 +7,7 @@ use Rattle.std.proofs.lemmas.Bool.{eq-eqb, ne_eqb}
 use Rattle.std.proofs.lemmas.List.{drop-append-le, drop-replicate, take_all, drop_all}
 use Rattle.std.proofs.lemmas.List.Sums.{sum_by-cons, sum_by-append}
 use Rattle.std.proofs.lemmas.List.Folds.{sum_by-replicate}
-use Rattle.dover_model.proofs.Serving.{given, given_nil, given_zero}
+use Rattle.dover_model.proofs.runs.Serving.{given, given_nil, given_zero}
 
 -- how often a list names the number
 abbrev pub named : ℕ → List ℕ → ℕ

@@ -17,9 +17,9 @@ use Rattle.dover_model.specs.Sound.{IsMember, Each, jobs_of}
 use Rattle.dover_model.specs.Pieces.{stretches, edf, last_release}
 use Rattle.dover_model.specs.declared.events.Task.{Task}
 use Rattle.dover_model.specs.declared.pieces.Piece.{Piece}
-use Rattle.dover_model.proofs.Members.{on_map, map_member, some_same}
-use Rattle.dover_model.proofs.Roles.{one_number}
-use Rattle.dover_model.proofs.Honest.{numbers_low, count_jobs}
+use Rattle.dover_model.proofs.lists.Members.{on_map, map_member, some_same}
+use Rattle.dover_model.proofs.steps.Roles.{one_number}
+use Rattle.dover_model.proofs.runs.Honest.{numbers_low, count_jobs}
 use Rattle.clairvoyant.specs.feasible.Progress.{AreReleased, IsLateBy, with_late, IsShown, AreServed, Stands, IsPending}
 use Rattle.clairvoyant.specs.feasible.Progress.{NoneBefore, IsWhole}
 use Rattle.clairvoyant.specs.feasible.Progress.{kept_as}
@@ -31,12 +31,12 @@ use Rattle.clairvoyant.proofs.feasible.Shares.{none_behind}
 use Rattle.clairvoyant.proofs.feasible.Coming.{come_run, come_idle}
 use Rattle.clairvoyant.proofs.feasible.Lateness.{shown_on, late_shows, served_run, served_idle}
 use Rattle.clairvoyant.proofs.feasible.Keeping.{member_moved}
-use Rattle.dover_model.proofs.Kept.{come_numbered, come_jobs}
+use Rattle.dover_model.proofs.steps.Kept.{come_numbered, come_jobs}
 use Rattle.clairvoyant.proofs.feasible.Numbered.{come_had, come_left, task_at, releases_rise, each_numbered}
 use Rattle.clairvoyant.proofs.feasible.Numbered.{release_before_last}
 use Rattle.clairvoyant.proofs.feasible.Stretches.{stretches_idle}
-use Rattle.dover_model.proofs.ValidParts.{ReleasesInOrder}
-use Rattle.dover_model.proofs.JobLimits.{job_limits}
+use Rattle.dover_model.proofs.valid.ValidParts.{ReleasesInOrder}
+use Rattle.dover_model.proofs.valid.JobLimits.{job_limits}
 
 -- ---- at the beginning
 

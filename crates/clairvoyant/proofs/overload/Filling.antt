@@ -8,9 +8,9 @@ use Rattle.dover_model.specs.JobFacts.{JobFacts, IsJob}
 use Rattle.dover_model.specs.Limits.{last_tick}
 use Rattle.dover_model.specs.Sound.{Each}
 use Rattle.dover_model.specs.Windows.{is_inside, work_inside}
-use Rattle.dover_model.proofs.JobLimits.{job_limits}
-use Rattle.dover_model.proofs.Members.{filter_none, member_front, member_behind, member_filter}
-use Rattle.dover_model.proofs.Tests.{never}
+use Rattle.dover_model.proofs.valid.JobLimits.{job_limits}
+use Rattle.dover_model.proofs.lists.Members.{filter_none, member_front, member_behind, member_filter}
+use Rattle.dover_model.proofs.lists.Tests.{never}
 use Rattle.clairvoyant.specs.feasible.Feasibility.{CanMeet, ShowsWindow}
 use Rattle.clairvoyant.proofs.feasible.Overfull.{overfull_excludes}
 use Rattle.clairvoyant.specs.declared.overload.stretch.Stretch.{Stretch}

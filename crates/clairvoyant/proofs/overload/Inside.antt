@@ -10,8 +10,8 @@ use Rattle.dover_model.specs.JobFacts.{JobFacts, IsJob}
 use Rattle.dover_model.specs.Books.{Job}
 use Rattle.dover_model.specs.Sound.{IsMember, Each}
 use Rattle.dover_model.specs.Windows.{is_inside}
-use Rattle.dover_model.proofs.Members.{sum_same}
-use Rattle.dover_model.proofs.Parting.{enumerate_append}
+use Rattle.dover_model.proofs.lists.Members.{sum_same}
+use Rattle.dover_model.proofs.rest.Parting.{enumerate_append}
 use Rattle.clairvoyant.specs.overload.Stretches.{value_inside}
 use Rattle.clairvoyant.specs.overload.Collecting.{IsCut}
 use Rattle.clairvoyant.proofs.overload.Near.{early_out, late_out, in_rest}

@@ -12,12 +12,12 @@ use Rattle.std.proofs.lemmas.List.Elements.{filter-append, filter_more}
 use Rattle.dover_model.specs.JobFacts.{JobFacts, IsJob}
 use Rattle.dover_model.specs.Sound.{IsMember, Each}
 use Rattle.dover_model.specs.Windows.{is_inside, work_inside}
-use Rattle.dover_model.proofs.Members.{filter_none, member_filter, member_behind, all_member, each_all}
-use Rattle.dover_model.proofs.Valid.{order_back}
+use Rattle.dover_model.proofs.lists.Members.{filter_none, member_filter, member_behind, all_member, each_all}
+use Rattle.dover_model.proofs.valid.Valid.{order_back}
 use Rattle.clairvoyant.specs.overload.Stretches.{jobs_inside}
 use Rattle.clairvoyant.specs.overload.Collecting.{IsCut, IsNear}
-use Rattle.dover_model.proofs.ValidParts.{ReleasesInOrder}
-use Rattle.dover_model.proofs.JobLimits.{job_limits}
+use Rattle.dover_model.proofs.valid.ValidParts.{ReleasesInOrder}
+use Rattle.dover_model.proofs.valid.JobLimits.{job_limits}
 
 -- those of jobs in order that pass a test are in order
 pub filter_in_order : (p : JobFacts → Bool) (jobs : List JobFacts) → ReleasesInOrder jobs

@@ -13,15 +13,15 @@ use Rattle.dover_model.specs.Windows.{IsOverfull, is_inside, work_inside}
 use Rattle.dover_model.specs.declared.events.Version.TheVariants.{One}
 use Rattle.dover_model.specs.Instance.{total_value}
 use Rattle.dover_model.specs.Schedules.{is_served}
-use Rattle.dover_model.proofs.Members.{filter_none, cond_le}
-use Rattle.dover_model.proofs.Parting.{worth_to}
+use Rattle.dover_model.proofs.lists.Members.{filter_none, cond_le}
+use Rattle.dover_model.proofs.rest.Parting.{worth_to}
 use Rattle.clairvoyant.specs.declared.feasible.answer.Feasible.{Feasible}
 use Rattle.clairvoyant.specs.declared.feasible.answer.Feasible.TheVariants.{Window}
 use Rattle.clairvoyant.specs.feasible.Feasibility.{CanMeet, IsAnswer, ShowsWindow}
 use Rattle.clairvoyant.proofs.feasible.Overfull.{overfull_excludes}
 use Rattle.clairvoyant.specs.declared.overload.stretch.Stretch.{Stretch}
 use Rattle.clairvoyant.specs.overload.Stretches.{IsStretch, IsWorth}
-use Rattle.dover_model.proofs.JobLimits.{job_limits}
+use Rattle.dover_model.proofs.valid.JobLimits.{job_limits}
 
 -- no job is inside a window without ticks
 pub empty_out : (a b : ℕ) (j : JobFacts) → IsJob j → b ≤ a → is_inside a b j ≡ false

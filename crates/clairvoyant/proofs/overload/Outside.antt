@@ -9,11 +9,11 @@ use Rattle.dover_model.specs.JobFacts.{JobFacts, IsJob}
 use Rattle.dover_model.specs.Instance.{total_value}
 use Rattle.dover_model.specs.Sound.{Each}
 use Rattle.dover_model.specs.Windows.{is_inside}
-use Rattle.dover_model.proofs.Members.{sum_plus, sum_filter, sum_same, all_append, each_behind}
-use Rattle.dover_model.proofs.Tests.{never}
+use Rattle.dover_model.proofs.lists.Members.{sum_plus, sum_filter, sum_same, all_append, each_behind}
+use Rattle.dover_model.proofs.lists.Tests.{never}
 use Rattle.clairvoyant.specs.declared.overload.stretch.Stretch.{Stretch}
 use Rattle.clairvoyant.specs.overload.Stretches.{AreInOrder, IsStretch, is_inside_some, jobs_inside, value_outside}
-use Rattle.dover_model.proofs.JobLimits.{job_limits}
+use Rattle.dover_model.proofs.valid.JobLimits.{job_limits}
 
 -- with one behind them there is some
 pub never_empty : {Z : Type 0} (xs : List Stretch) (y : Stretch) → xs ++ y ∷ [] ≡ [] → Z

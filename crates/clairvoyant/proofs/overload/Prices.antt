@@ -9,8 +9,8 @@ use Rattle.std.proofs.lemmas.List.Sums.{sum_by-cons}
 use Rattle.dover_model.specs.JobFacts.{JobFacts}
 use Rattle.dover_model.specs.Schedules.{ticks_given, is_served}
 use Rattle.dover_model.specs.Windows.{is_inside}
-use Rattle.dover_model.proofs.Members.{sum_le}
-use Rattle.dover_model.proofs.Serving.{given_less, one_name_per_tick}
+use Rattle.dover_model.proofs.lists.Members.{sum_le}
+use Rattle.dover_model.proofs.runs.Serving.{given_less, one_name_per_tick}
 use Rattle.dover_model.specs.Books.{Job}
 
 -- the work of a job that the schedule serves

@@ -8,8 +8,8 @@ use Rattle.std.proofs.Math.Nat.{pow-succ'}
 use Rattle.dover_model.specs.JobFacts.{JobFacts, IsJob}
 use Rattle.dover_model.specs.Sound.{Each}
 use Rattle.dover_model.specs.Windows.{is_inside}
-use Rattle.dover_model.proofs.JobLimits.{job_limits}
-use Rattle.dover_model.proofs.Members.{all_member, each_behind, member_filter, sum_same}
+use Rattle.dover_model.proofs.valid.JobLimits.{job_limits}
+use Rattle.dover_model.proofs.lists.Members.{all_member, each_behind, member_filter, sum_same}
 use Rattle.clairvoyant.specs.declared.overload.stretch.Costed.{Costed}
 use Rattle.clairvoyant.specs.declared.overload.stretch.Stretch.{Stretch}
 use Rattle.clairvoyant.specs.overload.Stretches.{AreInOrder, IsCosted, IsReached, IsStretch, jobs_inside, most_sets}

@@ -5,7 +5,7 @@ use Rattle.dover_model.specs.FeedLine.{EndLine, feed_text}
 use Rattle.dover_model.specs.Instance.{Instance, declared_by}
 use Rattle.dover_model.specs.JobFacts.{JobFacts}
 use Rattle.dover_model.specs.Lines.{in_lines}
-use Rattle.dover_model.proofs.Beginnings.{in_lines-append}
+use Rattle.dover_model.proofs.lists.Beginnings.{in_lines-append}
 use Rattle.dover_port.specs.Moves.{Move, PutsThrough}
 use Rattle.event_feed.specs.Feeds.{job_text, rules_text, feed_of}
 

@@ -10,7 +10,7 @@ use Rattle.dover_model.specs.JobFacts.{job_numbers}
 use Rattle.dover_model.specs.Lines.{line_of}
 use Rattle.dover_model.specs.Numerals.{AreShort}
 use Rattle.dover_model.specs.Text.{text_of, refused_text, refusal_word, step_numbers}
-use Rattle.dover_model.proofs.Fields.{length-with_numbers}
+use Rattle.dover_model.proofs.texts.Fields.{length-with_numbers}
 use Rattle.line_text.specs.traces.Form.{refused_job, refused_done}
 
 -- a word, numbers and a word

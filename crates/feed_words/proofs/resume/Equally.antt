@@ -19,7 +19,7 @@ use Rattle.dover_model.specs.declared.events.Version.TheVariants.{Two}
 use Rattle.dover_model.specs.Limits.{most_jobs}
 use Rattle.dover_model.specs.Lines.{lines_of, rest_of}
 use Rattle.dover_model.specs.Feed.{next_line}
-use Rattle.dover_model.proofs.Accounts.{account_kept}
+use Rattle.dover_model.proofs.sessions.Accounts.{account_kept}
 use Rattle.std.specs.List.{fold}
 use Rattle.snapshot.proofs.Alike.{Alike, SameRun, GoAlike, lines_alike}
 use Rattle.event_feed.proofs.Behind.{account_behind, rest_behind}

@@ -1,7 +1,7 @@
 -- What holds of what is kept, whatever is read.
 use Rattle.std.proofs.Common.{◌≡◌, ◌<◌, ◌^◌, ◌-◌, ℕ, List, ◌++◌, length, ap, sym, subst, ◌∙◌, true, arith}
 use Rattle.dover_model.specs.Feed.{account}
-use Rattle.dover_model.proofs.Tests.{never}
+use Rattle.dover_model.proofs.lists.Tests.{never}
 use Rattle.event_feed.proofs.GoingOn.{open_bytes, open_short}
 use Rattle.lane_server.proofs.Adding.{open_stands}
 use Rattle.feed_words.specs.serve.Keeping as serve

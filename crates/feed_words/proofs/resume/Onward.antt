@@ -7,11 +7,11 @@ use Rattle.std.proofs.lemmas.Bool.{ltb-true, lt-ltb}
 use Rattle.std.proofs.lemmas.List.Sums.{fold-append}
 use Rattle.dover_model.specs.declared.events.Task.{Task}
 use Rattle.dover_model.specs.Lines.{cut, in_lines, lines_of, whole_lines, rest_of, is_too_long}
-use Rattle.dover_model.proofs.Cuts.{CutText, onto, put_before, cut_append}
-use Rattle.dover_model.proofs.Beginnings.{in_lines-append}
+use Rattle.dover_model.proofs.texts.Cuts.{CutText, onto, put_before, cut_append}
+use Rattle.dover_model.proofs.lists.Beginnings.{in_lines-append}
 use Rattle.snapshot.specs.Snapshot.{MayPause, Head, snapshot}
 use Rattle.snapshot.specs.Reading.{Reading, Begun, Going, Taken, Refused, refused_behind, next_line, reading_of}
-use Rattle.dover_model.proofs.AcceptedTexts.{text_joined}
+use Rattle.dover_model.proofs.traces.AcceptedTexts.{text_joined}
 use Rattle.feed_words.proofs.resume.Taking.{IsWholeFront, taken_whole, refused_stays, taken_stays}
 use Rattle.snapshot.proofs.Whole.{shortest_may, shortest_text}
 use Rattle.feed_words.specs.resume.Talk.{feed_of, behind_snapshot}

@@ -10,7 +10,7 @@ use Rattle.dover_model.specs.declared.events.Task.{Task}
 use Rattle.dover_model.specs.Lines.{in_lines, lines_of, whole_lines}
 use Rattle.dover_model.specs.Feed.{account, is_open}
 use Rattle.dover_model.specs.WholeRun.{Begins}
-use Rattle.dover_model.proofs.Tests.{never}
+use Rattle.dover_model.proofs.lists.Tests.{never}
 use Rattle.dover_port.specs.Moves.{Move}
 use Rattle.dover_port.specs.declared.status.Status.{Status}
 use Rattle.dover_port.specs.declared.status.Status.TheVariants as status

@@ -6,13 +6,13 @@ use Rattle.dover_model.specs.declared.events.Task.{Task}
 use Rattle.dover_model.specs.Lines.{in_lines, lines_of}
 use Rattle.dover_model.specs.Feed.{account, is_open}
 use Rattle.dover_model.specs.WholeRun.{Begins}
-use Rattle.dover_model.proofs.Beginnings.{in_lines-append}
-use Rattle.dover_model.proofs.Tests.{never}
+use Rattle.dover_model.proofs.lists.Beginnings.{in_lines-append}
+use Rattle.dover_model.proofs.lists.Tests.{never}
 use Rattle.line_text.proofs.Lengths.{AreNotTooLong}
 use Rattle.dover_port.specs.declared.status.Status.{Status}
 use Rattle.dialogue.specs.Talk.{IsSteady}
 use Rattle.dover_model.specs.Spending.{CostsAtMost}
-use Rattle.dover_model.proofs.Spending.{few_more}
+use Rattle.dover_model.proofs.runs.Spending.{few_more}
 use Rattle.event_feed.specs.Answers.{admitted_in}
 use Rattle.event_feed.proofs.Admitting.{admitted_front}
 use Rattle.snapshot.specs.Snapshot.{MayPause, Head, state_line, snapshot}

@@ -23,7 +23,7 @@ use Rattle.snapshot.proofs.Feeds.{opened}
 use Rattle.feed_words.specs.serve.Keeping.{Call, IsReady}
 use Rattle.std.proofs.lemmas.List.{append-nil, take_more, take-append-drop}
 use Rattle.dover_model.specs.Settled.{settled}
-use Rattle.dover_model.proofs.Beginnings.{in_lines-append}
+use Rattle.dover_model.proofs.lists.Beginnings.{in_lines-append}
 use Rattle.dover_port.specs.Moves.{Move, Passes, CutsShort}
 use Rattle.dover_port.proofs.Through.{passes_then, passes_then_cut, cut_longer}
 use Rattle.dover_model.specs.declared.horizon.Horizon.TheVariants.{Mark}

@@ -10,9 +10,9 @@ use Rattle.dover_model.specs.Feed as feeds
 use Rattle.dover_model.specs.Feed.{is_open, is_ended, account}
 use Rattle.dover_model.specs.Due.{due, closed, due_lines, fault_text}
 use Rattle.dover_model.specs.Lines.{in_lines, lines_of, whole_lines, rest_of}
-use Rattle.dover_model.proofs.Accounts.{due_grows}
-use Rattle.dover_model.proofs.Beginnings.{in_lines-append}
-use Rattle.dover_model.proofs.Tests.{never}
+use Rattle.dover_model.proofs.sessions.Accounts.{due_grows}
+use Rattle.dover_model.proofs.lists.Beginnings.{in_lines-append}
+use Rattle.dover_model.proofs.lists.Tests.{never}
 use Rattle.dover_port.specs.declared.status.Status.{Status}
 use Rattle.dover_port.specs.declared.status.Status.TheVariants.{Done, No, Refused, ReadFault, WriteFault, Memory, Usage}
 use Rattle.event_feed.specs.Answers.{EndAnswers, admitted_in}
@@ -34,7 +34,7 @@ use Rattle.lane_server.specs.Spending.{HasPaid}
 use Rattle.lane_server.specs.declared.feed.Feed.{Feed}
 use Rattle.lane_server.proofs.Adding.{open_stands, opens_by}
 use Rattle.lane_server.proofs.Few.{owes_few}
-use Rattle.dover_model.proofs.Spending.{few_more}
+use Rattle.dover_model.proofs.runs.Spending.{few_more}
 use Rattle.feed_words.specs.serve.Keeping.{Call, due_behind, serve_talk, Costs, IsGiving}
 use Rattle.feed_words.specs.serve.Talk.{PausesAt, IsTooLarge, IsTooLargeAt, IsServedAs, feed_talk}
 use Rattle.dialogue.specs.Sizes.{size_text}

@@ -21,13 +21,13 @@ use Rattle.dover_model.specs.Session.{Item}
 use Rattle.dover_model.specs.Text.{text_of, refusal_word, step_numbers}
 use Rattle.dover_model.specs.Trace.{Printed, Refuses}
 use Rattle.dover_model.specs.Verdict as verdict
-use Rattle.dover_model.proofs.Tests.{never, none_is_some}
-use Rattle.dover_model.proofs.Members.{some_same}
-use Rattle.dover_model.proofs.Numerals.{numeral-decimal, decimal-numeral}
-use Rattle.dover_model.proofs.Fields.{HasNoSpace, fields_of-line_of, line_of-fields_of, decimals-HasNoSpace}
-use Rattle.dover_model.proofs.Fields.{numerals-decimals, decimals-numerals}
-use Rattle.dover_model.proofs.ReadShort.{numerals_short}
-use Rattle.dover_model.proofs.TraceLines.{word_HasNoSpace, then_word, item_of-text_of_line}
+use Rattle.dover_model.proofs.lists.Tests.{never, none_is_some}
+use Rattle.dover_model.proofs.lists.Members.{some_same}
+use Rattle.dover_model.proofs.texts.Numerals.{numeral-decimal, decimal-numeral}
+use Rattle.dover_model.proofs.texts.Fields.{HasNoSpace, fields_of-line_of, line_of-fields_of, decimals-HasNoSpace}
+use Rattle.dover_model.proofs.texts.Fields.{numerals-decimals, decimals-numerals}
+use Rattle.dover_model.proofs.texts.ReadShort.{numerals_short}
+use Rattle.dover_model.proofs.texts.TraceLines.{word_HasNoSpace, then_word, item_of-text_of_line}
 use Rattle.line_text.specs.Reading.{number_of_first}
 use Rattle.line_text.specs.declared.traces.lines.TraceLine.{TraceLine}
 use Rattle.line_text.specs.declared.traces.lines.TraceLine.TheVariants.{Header, Step, Refused, RefusedDone}

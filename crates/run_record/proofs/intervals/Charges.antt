@@ -16,11 +16,10 @@ use Rattle.dover_model.specs.Books.{IsLeastDense}
 use Rattle.dover_model.specs.Orders.{IsHeavy}
 use Rattle.dover_model.specs.Intervals as model
 use Rattle.dover_model.specs.Sound.{Each}
-use Rattle.dover_model.proofs.Members.{on_map, sum_map}
-use Rattle.dover_model.proofs.BoundLaws.{bound, observed_bound, interval_ordered, interval_displaced, interval_paid}
-use Rattle.dover_model.proofs.BoundLaws.{interval_light, intervals_complete}
-use Rattle.dover_model.proofs.BoundLaws.{intervals_abandon}
-use Rattle.dover_model.proofs.Honest.{observed_honest}
+use Rattle.dover_model.proofs.lists.Members.{on_map, sum_map}
+use Rattle.dover_model.proofs.bound.BoundLaws.{bound, observed_bound, interval_ordered, interval_displaced}
+use Rattle.dover_model.proofs.bound.BoundLaws.{interval_paid, interval_light, intervals_complete, intervals_abandon}
+use Rattle.dover_model.proofs.runs.Honest.{observed_honest}
 use Rattle.run_record.specs.declared.intervals.interval.Interval.{Interval}
 use Rattle.run_record.specs.intervals.Pages.{Page}
 use Rattle.run_record.specs.intervals.Rows.{IsRunOf, numbers_of, rows_of}

@@ -8,7 +8,7 @@ use Rattle.dover_model.specs.State.{State, is_privileged, is_over}
 use Rattle.dover_model.specs.Step.{Move, Prints, Waits, Ticks, after}
 use Rattle.dover_model.specs.Run.{Step}
 use Rattle.dover_model.specs.Sound.{Each}
-use Rattle.dover_model.proofs.Booking.{active_sum}
+use Rattle.dover_model.proofs.bound.Booking.{active_sum}
 use Rattle.run_record.specs.declared.intervals.interval.Interval.{Interval}
 use Rattle.run_record.specs.declared.intervals.interval.UnderWay.{UnderWay}
 use Rattle.run_record.specs.declared.intervals.ledger.Known.{Known}

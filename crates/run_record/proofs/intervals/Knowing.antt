@@ -14,13 +14,13 @@ use Rattle.dover_model.specs.declared.events.Task.{Task}
 use Rattle.dover_model.specs.State.{State, is_coming, is_privileged, is_over}
 use Rattle.dover_model.specs.Step.{with_role, displaced, ticked}
 use Rattle.dover_model.specs.Sound.{IsMember, Each, IsNumberedFrom}
-use Rattle.dover_model.proofs.Members.{on_map, by_bool, sum_map, sum_zero}
-use Rattle.dover_model.proofs.Moves.{displaced_role}
-use Rattle.dover_model.proofs.Roles.{passes, fails, is_coming_role}
-use Rattle.dover_model.proofs.Loads.{with_roles, state_in}
-use Rattle.dover_model.proofs.OneChange.{changed, on_changed, state_with}
-use Rattle.dover_model.proofs.Booking.{active_sum}
-use Rattle.dover_model.proofs.Booked.{displaced_idle}
+use Rattle.dover_model.proofs.lists.Members.{on_map, by_bool, sum_map, sum_zero}
+use Rattle.dover_model.proofs.steps.Moves.{displaced_role}
+use Rattle.dover_model.proofs.steps.Roles.{passes, fails, is_coming_role}
+use Rattle.dover_model.proofs.steps.Loads.{with_roles, state_in}
+use Rattle.dover_model.proofs.steps.OneChange.{changed, on_changed, state_with}
+use Rattle.dover_model.proofs.bound.Booking.{active_sum}
+use Rattle.dover_model.proofs.bound.Booked.{displaced_idle}
 use Rattle.run_record.specs.declared.intervals.ledger.Known.{Known}
 use Rattle.run_record.specs.intervals.Pages.{Page, unknown, value_at, entered, with_one_more}
 use Rattle.run_record.proofs.intervals.Follows.{IsKnown, AllKnown, AllAhead, Tracks}

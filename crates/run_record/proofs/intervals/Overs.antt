@@ -15,12 +15,12 @@ use Rattle.dover_model.specs.State.{State, held, is_held, is_running, is_privile
 use Rattle.dover_model.specs.Step.{Prints, Ticks, with_role, after}
 use Rattle.dover_model.specs.Run.{Step}
 use Rattle.dover_model.specs.Sound.{IsMember, Each, IsSound}
-use Rattle.dover_model.proofs.Members.{map_map, sum_plus, sum_same, by_bool}
-use Rattle.dover_model.proofs.Roles.{by_role, passes, numbered_map, one_number, is_running_role}
-use Rattle.dover_model.proofs.OneChange.{changed, state_with, changed_there}
-use Rattle.dover_model.proofs.Booking.{active_sum}
-use Rattle.dover_model.proofs.Closing.{single_sum, value_of_number}
-use Rattle.dover_model.proofs.Kept.{end_same}
+use Rattle.dover_model.proofs.lists.Members.{map_map, sum_plus, sum_same, by_bool}
+use Rattle.dover_model.proofs.steps.Roles.{by_role, passes, numbered_map, one_number, is_running_role}
+use Rattle.dover_model.proofs.steps.OneChange.{changed, state_with, changed_there}
+use Rattle.dover_model.proofs.bound.Booking.{active_sum}
+use Rattle.dover_model.proofs.bound.Closing.{single_sum, value_of_number}
+use Rattle.dover_model.proofs.steps.Kept.{end_same}
 use Rattle.run_record.specs.intervals.Pages.{Page, value_at, capped, with_one_more, in_one, with_row}
 use Rattle.run_record.specs.intervals.Pages.{with_abandonment}
 use Rattle.run_record.specs.intervals.Pages.{with_completion, ended, page_completed}

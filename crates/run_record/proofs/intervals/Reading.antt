@@ -18,16 +18,16 @@ use Rattle.dover_model.specs.Step.{Move, Prints, Waits, Ticks, step, after, endi
 use Rattle.dover_model.specs.Run.{Step, is_end, event_of, printed_of, printed, run, completed_value, value_of_end}
 use Rattle.dover_model.specs.WholeRun.{IsWholeRun}
 use Rattle.dover_model.specs.Sound.{IsMember, IsSound, Keeps}
-use Rattle.dover_model.proofs.Members.{by_bool, map_same, sum_map, sum_zero, term_le_sum}
-use Rattle.dover_model.proofs.Roles.{passes}
-use Rattle.dover_model.proofs.Booked.{privileged_value}
-use Rattle.dover_model.proofs.Ticking.{Quiet}
-use Rattle.dover_model.proofs.Deeds.{Deed, Completed, Resumed, Started, Began, Preempted, Stayed, Arrived, Taken}
-use Rattle.dover_model.proofs.Deeds.{Abandoned, Rested}
-use Rattle.dover_model.proofs.Kept.{step_deed, step_kept, opening_keeps, come_coming}
-use Rattle.dover_model.proofs.Ending.{run_is_whole, few_printed}
-use Rattle.dover_model.proofs.Honest.{count_jobs}
-use Rattle.dover_model.proofs.Runs.{last_value, some_printed}
+use Rattle.dover_model.proofs.lists.Members.{by_bool, map_same, sum_map, sum_zero, term_le_sum}
+use Rattle.dover_model.proofs.steps.Roles.{passes}
+use Rattle.dover_model.proofs.bound.Booked.{privileged_value}
+use Rattle.dover_model.proofs.steps.Ticking.{Quiet}
+use Rattle.dover_model.proofs.steps.Deeds.{Deed, Completed, Resumed, Started, Began, Preempted, Stayed, Arrived, Taken}
+use Rattle.dover_model.proofs.steps.Deeds.{Abandoned, Rested}
+use Rattle.dover_model.proofs.steps.Kept.{step_deed, step_kept, opening_keeps, come_coming}
+use Rattle.dover_model.proofs.runs.Ending.{run_is_whole, few_printed}
+use Rattle.dover_model.proofs.runs.Honest.{count_jobs}
+use Rattle.dover_model.proofs.runs.Runs.{last_value, some_printed}
 use Rattle.run_record.specs.declared.intervals.interval.Interval.{Interval}
 use Rattle.run_record.specs.intervals.Pages.{Page, blank, with_event, known_at, with_one_more, page_completed, ended}
 use Rattle.run_record.specs.intervals.Pages.{IsReadable}
@@ -38,9 +38,9 @@ use Rattle.run_record.proofs.intervals.Steps.{waiting_idle, fresh_idle, enters_n
 use Rattle.run_record.proofs.intervals.Overs.{preempts_next, releases_next, abandons_next, completes_next, ticks_next}
 use Rattle.run_record.proofs.intervals.Overs.{ends_next}
 use Rattle.run_record.proofs.intervals.Takes.{takes_next}
-use Rattle.dover_model.proofs.ValidParts.{valid_parts}
-use Rattle.dover_model.proofs.BoundLaws.{interval_displaced, intervals_complete, intervals_abandon}
-use Rattle.dover_model.proofs.GreatestLaws.{paid_small}
+use Rattle.dover_model.proofs.valid.ValidParts.{valid_parts}
+use Rattle.dover_model.proofs.bound.BoundLaws.{interval_displaced, intervals_complete, intervals_abandon}
+use Rattle.dover_model.proofs.bound.GreatestLaws.{paid_small}
 
 -- ---- one step
 

@@ -13,9 +13,9 @@ use Rattle.dover_model.specs.State.{State, is_privileged, is_over}
 use Rattle.dover_model.specs.Step.{Prints, Waits, with_role, after}
 use Rattle.dover_model.specs.Run.{Step}
 use Rattle.dover_model.specs.Sound.{IsMember, IsSound, IsNumberedFrom}
-use Rattle.dover_model.proofs.Members.{term_le_sum}
-use Rattle.dover_model.proofs.Roles.{passes}
-use Rattle.dover_model.proofs.OneChange.{state_with}
+use Rattle.dover_model.proofs.lists.Members.{term_le_sum}
+use Rattle.dover_model.proofs.steps.Roles.{passes}
+use Rattle.dover_model.proofs.steps.OneChange.{state_with}
 use Rattle.run_record.specs.declared.intervals.interval.Interval.{Interval}
 use Rattle.run_record.specs.declared.intervals.interval.UnderWay.{UnderWay}
 use Rattle.run_record.specs.intervals.Pages.{Page, joined, with_one_more, begun_or, CanJoin}

@@ -17,16 +17,16 @@ use Rattle.dover_model.specs.Sound.{IsMember, Each, IsNumberedFrom, IsSound, Non
 use Rattle.dover_model.specs.State.{State, is_held, is_running, is_privileged, is_ready_behind, privileged, room}
 use Rattle.dover_model.specs.State.{value_sum}
 use Rattle.dover_model.specs.Step.{Move, Prints, Waits, Ticks, with_role, displaced, ◌or_else◌}
-use Rattle.dover_model.proofs.Deeds.{Deed, Completed, Resumed, Started, Began, Preempted, Stayed, Arrived, Taken}
-use Rattle.dover_model.proofs.Deeds.{Abandoned, Rested}
-use Rattle.dover_model.proofs.Kept.{end_same}
-use Rattle.dover_model.proofs.Members.{on_map, map_map, map_member, some_same, by_bool}
-use Rattle.dover_model.proofs.Roles.{one_number, passes, is_held_role, is_running_role, is_privileged_role}
-use Rattle.dover_model.proofs.Roles.{numbered_map}
-use Rattle.dover_model.proofs.Tests.{never}
-use Rattle.dover_model.proofs.Ticking.{Quiet}
+use Rattle.dover_model.proofs.steps.Deeds.{Deed, Completed, Resumed, Started, Began, Preempted, Stayed, Arrived, Taken}
+use Rattle.dover_model.proofs.steps.Deeds.{Abandoned, Rested}
+use Rattle.dover_model.proofs.steps.Kept.{end_same}
+use Rattle.dover_model.proofs.lists.Members.{on_map, map_map, map_member, some_same, by_bool}
+use Rattle.dover_model.proofs.steps.Roles.{one_number, passes, is_held_role, is_running_role, is_privileged_role}
+use Rattle.dover_model.proofs.steps.Roles.{numbered_map}
+use Rattle.dover_model.proofs.lists.Tests.{never}
+use Rattle.dover_model.proofs.steps.Ticking.{Quiet}
 use Rattle.held_stack.specs.Stack.{Stack, top_of, popped, IsByDeadline, held_entries}
-use Rattle.dover_model.proofs.RoleChanges.{with_role_at, all_displaced, displaced_same}
+use Rattle.dover_model.proofs.steps.RoleChanges.{with_role_at, all_displaced, displaced_same}
 use Rattle.run_record.proofs.ledger.Changing.{entries_later}
 use Rattle.run_record.proofs.ledger.Held.{busy_room, held_value, value_room}
 use Rattle.run_record.specs.ledger.Pages.{Page, empty, turn_at, stopped, started, with_hold, without, room_with}

@@ -12,11 +12,11 @@ use Rattle.dover_model.specs.Entries.{entry_of}
 use Rattle.dover_model.specs.Sound.{IsMember, Each, IsNumberedFrom}
 use Rattle.dover_model.specs.State.{is_held, is_running}
 use Rattle.dover_model.specs.Step.{with_role, displaced, ticked}
-use Rattle.dover_model.proofs.Members.{on_map, member_filter, by_bool}
-use Rattle.dover_model.proofs.Roles.{is_held_role, is_running_role, numbers_above}
-use Rattle.dover_model.proofs.Tests.{never, none_is_some}
+use Rattle.dover_model.proofs.lists.Members.{on_map, member_filter, by_bool}
+use Rattle.dover_model.proofs.steps.Roles.{is_held_role, is_running_role, numbers_above}
+use Rattle.dover_model.proofs.lists.Tests.{never, none_is_some}
 use Rattle.held_stack.specs.Stack.{top_of, by_deadline, held_entries}
-use Rattle.dover_model.proofs.RoleChanges.{with_role_at, all_displaced, task_at}
+use Rattle.dover_model.proofs.steps.RoleChanges.{with_role_at, all_displaced, task_at}
 use Rattle.run_record.proofs.ledger.Changing.{Changes, Splits, changes_at, is_map, splits, of_entry, filter_same}
 use Rattle.run_record.proofs.ledger.Changing.{held_in}
 use Rattle.held_stack.proofs.Deadlines.{member_sorted}

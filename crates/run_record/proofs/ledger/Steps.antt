@@ -13,11 +13,11 @@ use Rattle.dover_model.specs.Entries.{entry_of}
 use Rattle.dover_model.specs.Sound.{IsMember, IsNumberedFrom, IsSound, NoneRuns}
 use Rattle.dover_model.specs.State.{State, is_held, is_running}
 use Rattle.dover_model.specs.Step.{with_role, displaced, ticked, after, Ticks}
-use Rattle.dover_model.proofs.Members.{on_map, map_member}
-use Rattle.dover_model.proofs.Roles.{one_number, is_running_role, passes}
-use Rattle.dover_model.proofs.Tests.{never}
+use Rattle.dover_model.proofs.lists.Members.{on_map, map_member}
+use Rattle.dover_model.proofs.steps.Roles.{one_number, is_running_role, passes}
+use Rattle.dover_model.proofs.lists.Tests.{never}
 use Rattle.held_stack.specs.Stack.{Stack, IsByDeadline, held_entries}
-use Rattle.dover_model.proofs.RoleChanges.{with_role_at, all_displaced, task_at}
+use Rattle.dover_model.proofs.steps.RoleChanges.{with_role_at, all_displaced, task_at}
 use Rattle.run_record.specs.ledger.Pages.{Page, nobody, empty, ran, turn_at, stored, stopped, started}
 use Rattle.run_record.proofs.ledger.Follows.{IsTurn, AreStored, Follows}
 use Rattle.run_record.proofs.ledger.Roles.{held_same, held_ticked, none_held}

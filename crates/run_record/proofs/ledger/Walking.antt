@@ -21,16 +21,16 @@ use Rattle.dover_model.specs.State.{State, opening, to_come, is_done, is_over, i
 use Rattle.dover_model.specs.Step.{Move, Prints, Waits, Ticks, step, after, ending, ◌or_else◌}
 use Rattle.dover_model.specs.Run.{Step, is_end, event_of, printed_of, printed, run}
 use Rattle.dover_model.specs.WholeRun.{IsWholeRun}
-use Rattle.dover_model.proofs.Ending.{run_is_whole, end_over}
-use Rattle.dover_model.proofs.Kept.{step_deed, step_kept, opening_keeps, come_coming, end_same}
-use Rattle.dover_model.proofs.Members.{sum_map}
-use Rattle.dover_model.proofs.Roles.{passes}
-use Rattle.dover_model.proofs.Tests.{never}
+use Rattle.dover_model.proofs.runs.Ending.{run_is_whole, end_over}
+use Rattle.dover_model.proofs.steps.Kept.{step_deed, step_kept, opening_keeps, come_coming, end_same}
+use Rattle.dover_model.proofs.lists.Members.{sum_map}
+use Rattle.dover_model.proofs.steps.Roles.{passes}
+use Rattle.dover_model.proofs.lists.Tests.{never}
 use Rattle.run_record.specs.intervals.Rows.{IsRunOf}
 use Rattle.run_record.proofs.intervals.Charges.{item_next}
 use Rattle.run_record.proofs.intervals.Reading.{one_of_two}
 use Rattle.held_stack.specs.Stack.{by_deadline}
-use Rattle.dover_model.proofs.Runs.{some_printed}
+use Rattle.dover_model.proofs.runs.Runs.{some_printed}
 use Rattle.run_record.specs.ledger.Pages.{Page, nobody, empty, with_event, room_on, IsReadable, had_in}
 use Rattle.run_record.specs.ledger.Rooms.{room_of_step}
 use Rattle.run_record.specs.ledger.Rooms as tests

@@ -29,10 +29,10 @@ use Rattle.dover_model.specs.Reports.{fate_of_event, is_completed, abandoned_num
 use Rattle.dover_model.specs.Reports.{Completed, Abandoned, lines_with, summary_lines, interval_line, report}
 use Rattle.dover_model.specs.Reports as reports
 use Rattle.dover_model.specs.Observed.{served as model_served}
-use Rattle.dover_model.proofs.Ending.{few_printed}
-use Rattle.dover_model.proofs.BoundLaws.{intervals_abandon}
-use Rattle.dover_model.proofs.ReleaseCounts.{releases}
-use Rattle.dover_model.proofs.RunSessions.{run_jobs}
+use Rattle.dover_model.proofs.runs.Ending.{few_printed}
+use Rattle.dover_model.proofs.bound.BoundLaws.{intervals_abandon}
+use Rattle.dover_model.proofs.runs.ReleaseCounts.{releases}
+use Rattle.dover_model.proofs.sessions.RunSessions.{run_jobs}
 use Rattle.run_record.specs.intervals.Rows.{IsRunOf, numbers_of, rows_of}
 use Rattle.run_record.specs.intervals.Totals.{is_release, is_completion, is_abandonment, totals_of}
 use Rattle.run_record.specs.declared.intervals.interval.Interval.{Interval}

@@ -29,17 +29,17 @@ use Rattle.dover_model.specs.Step.{
 use Rattle.dover_model.specs.Run.{Step, is_end, event_of, printed_of, printed, value_of_end, completed_value, run}
 use Rattle.dover_model.specs.WholeRun.{IsWholeRun}
 use Rattle.dover_model.specs.Sound.{IsMember, Each, IsNumberedFrom, Keeps, jobs_of}
-use Rattle.dover_model.proofs.Booking.{is_gone, sum_changed}
-use Rattle.dover_model.proofs.Booked.{displaced_gone}
-use Rattle.dover_model.proofs.Deeds.{Deed, Completed, Resumed, Started, Began, Preempted, Stayed, Arrived, Taken}
-use Rattle.dover_model.proofs.Deeds.{Abandoned, Rested}
-use Rattle.dover_model.proofs.Ending.{end_over, run_is_whole}
-use Rattle.dover_model.proofs.Kept.{step_deed, step_kept, end_same, opening_keeps}
-use Rattle.dover_model.proofs.Loads.{with_roles}
-use Rattle.dover_model.proofs.Members.{sum_map, sum_same, sum_filter}
-use Rattle.dover_model.proofs.OneChange.{changed}
-use Rattle.dover_model.proofs.Roles.{passes, one_number, numbers_above, is_over_role}
-use Rattle.dover_model.proofs.Tests.{never}
+use Rattle.dover_model.proofs.bound.Booking.{is_gone, sum_changed}
+use Rattle.dover_model.proofs.bound.Booked.{displaced_gone}
+use Rattle.dover_model.proofs.steps.Deeds.{Deed, Completed, Resumed, Started, Began, Preempted, Stayed, Arrived, Taken}
+use Rattle.dover_model.proofs.steps.Deeds.{Abandoned, Rested}
+use Rattle.dover_model.proofs.runs.Ending.{end_over, run_is_whole}
+use Rattle.dover_model.proofs.steps.Kept.{step_deed, step_kept, end_same, opening_keeps}
+use Rattle.dover_model.proofs.steps.Loads.{with_roles}
+use Rattle.dover_model.proofs.lists.Members.{sum_map, sum_same, sum_filter}
+use Rattle.dover_model.proofs.steps.OneChange.{changed}
+use Rattle.dover_model.proofs.steps.Roles.{passes, one_number, numbers_above, is_over_role}
+use Rattle.dover_model.proofs.lists.Tests.{never}
 use Rattle.run_reports.specs.report.Counts.{value_in, value_lost, all_lost}
 
 -- ---- what is not gone

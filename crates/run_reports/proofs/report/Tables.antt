@@ -19,7 +19,7 @@ use Rattle.dover_model.specs.Lines.{in_lines}
 use Rattle.dover_model.specs.Observed.{served as model_served}
 use Rattle.dover_model.specs.Session.{may_finish_early}
 use Rattle.dover_model.specs.Reports as model
-use Rattle.dover_model.proofs.Members.{by_bool}
+use Rattle.dover_model.proofs.lists.Members.{by_bool}
 use Rattle.run_record.specs.intervals.Rows.{IsRunOf}
 use Rattle.run_record.proofs.intervals.Charges.{item_next}
 use Rattle.run_reports.specs.declared.report.endings.Ending.{Ending}

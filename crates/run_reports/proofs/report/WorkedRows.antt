@@ -8,7 +8,7 @@ use Rattle.dover_model.specs.Finishes.{Finish}
 use Rattle.dover_model.specs.Instance.{Instance}
 use Rattle.dover_model.specs.JobFacts.{JobFacts}
 use Rattle.dover_model.specs.Reports.{report, table, summary}
-use Rattle.dover_model.proofs.Written.{job, bytes}
+use Rattle.dover_model.proofs.rows.Written.{job, bytes}
 
 -- jobs of version Three under the ratio 1, with their early finishes
 abbrev pub finishing : List Finish → List JobFacts → Instance

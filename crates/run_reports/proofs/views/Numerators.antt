@@ -10,10 +10,10 @@ use Rattle.dover_model.specs.Fraction.{IsRatio, fraction}
 use Rattle.dover_model.specs.Greatest.{greatest, greatest_from}
 use Rattle.dover_model.specs.Limits.{most_p}
 use Rattle.dover_model.specs.Orders.{is_heavy, IsHeavy}
-use Rattle.dover_model.proofs.GreatestLaws.{IsDownwardClosed, greatest-is}
-use Rattle.dover_model.proofs.JobLimits.{ratio_from, ratio_limits}
-use Rattle.dover_model.proofs.Tests.{both, at_most}
-use Rattle.dover_model.proofs.Calculus.{heavy_from, heavy_excess}
+use Rattle.dover_model.proofs.bound.GreatestLaws.{IsDownwardClosed, greatest-is}
+use Rattle.dover_model.proofs.valid.JobLimits.{ratio_from, ratio_limits}
+use Rattle.dover_model.proofs.lists.Tests.{both, at_most}
+use Rattle.dover_model.proofs.bound.Calculus.{heavy_from, heavy_excess}
 use Rattle.root_compare.proofs.Roots.{one_greatest}
 use Rattle.run_reports.specs.views.Why.{numerator, greatest_ratio}
 

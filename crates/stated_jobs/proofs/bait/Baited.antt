@@ -17,11 +17,11 @@ use Rattle.dover_model.specs.Step.{step}
 use Rattle.dover_model.specs.Run.{Step, run, completed_value}
 use Rattle.dover_model.specs.WholeRun.{step_at}
 use Rattle.dover_model.specs.Sound.{IsMember, Each, Keeps}
-use Rattle.dover_model.proofs.Members.{all_member, member_behind, sum_same}
-use Rattle.dover_model.proofs.Tests.{never}
-use Rattle.dover_model.proofs.Kept.{step_deed, opening_keeps, come_coming}
-use Rattle.dover_model.proofs.Ending.{run_is_whole, run_over}
-use Rattle.dover_model.proofs.Runs.{run_states, value_of_run}
+use Rattle.dover_model.proofs.lists.Members.{all_member, member_behind, sum_same}
+use Rattle.dover_model.proofs.lists.Tests.{never}
+use Rattle.dover_model.proofs.steps.Kept.{step_deed, opening_keeps, come_coming}
+use Rattle.dover_model.proofs.runs.Ending.{run_is_whole, run_over}
+use Rattle.dover_model.proofs.runs.Runs.{run_states, value_of_run}
 use Rattle.stated_jobs.specs.bait.BaitingRuns.{baiting}
 use Rattle.stated_jobs.proofs.bait.Heavy.{light_least}
 use Rattle.stated_jobs.proofs.bait.RunWeights.{most_light_light, unit_light}
@@ -34,8 +34,8 @@ use Rattle.stated_jobs.proofs.bait.RunLinks.{links_one}
 use Rattle.stated_jobs.proofs.bait.RunFeeds.{unit_at, IsUnit, bait, feed_is, link_in_feed, feed_begins, feed_sum}
 use Rattle.stated_jobs.proofs.bait.Steady.{IsLast, IsChained, Stands, IsSteady, done_at_end, step_steady}
 use Rattle.stated_jobs.proofs.bait.Steady.{value_of_steady}
-use Rattle.dover_model.proofs.ValidParts.{valid_parts}
-use Rattle.dover_model.proofs.JobLimits.{job_limits}
+use Rattle.dover_model.proofs.valid.ValidParts.{valid_parts}
+use Rattle.dover_model.proofs.valid.JobLimits.{job_limits}
 
 module _ (k : Fraction) (version : Version) (n : ℕ) (valid : IsValid (baiting k version (suc n))) where
   -- the feed

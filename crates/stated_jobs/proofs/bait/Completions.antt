@@ -22,14 +22,14 @@ use Rattle.dover_model.specs.Run.{Step, is_end, run}
 use Rattle.dover_model.specs.WholeRun.{IsWholeRun}
 use Rattle.dover_model.specs.Processor.{is_complete}
 use Rattle.dover_model.specs.Sound.{IsMember, Each, IsSound, jobs_of, Keeps}
-use Rattle.dover_model.proofs.Members.{on_map, map_member, sum_filter, sum_zero}
-use Rattle.dover_model.proofs.Roles.{one_number, passes, is_over_role}
-use Rattle.dover_model.proofs.OneChange.{state_with, on_changed, changed_here, changed_there}
-use Rattle.dover_model.proofs.Ticking.{Quiet}
-use Rattle.dover_model.proofs.Deeds.{Deed, Completed, Resumed, Started, Began, Preempted, Stayed, Arrived, Taken}
-use Rattle.dover_model.proofs.Deeds.{Abandoned, Rested}
-use Rattle.dover_model.proofs.Kept.{step_deed, step_kept, opening_keeps, come_coming, end_same}
-use Rattle.dover_model.proofs.Ending.{end_over, run_is_whole}
+use Rattle.dover_model.proofs.lists.Members.{on_map, map_member, sum_filter, sum_zero}
+use Rattle.dover_model.proofs.steps.Roles.{one_number, passes, is_over_role}
+use Rattle.dover_model.proofs.steps.OneChange.{state_with, on_changed, changed_here, changed_there}
+use Rattle.dover_model.proofs.steps.Ticking.{Quiet}
+use Rattle.dover_model.proofs.steps.Deeds.{Deed, Completed, Resumed, Started, Began, Preempted, Stayed, Arrived, Taken}
+use Rattle.dover_model.proofs.steps.Deeds.{Abandoned, Rested}
+use Rattle.dover_model.proofs.steps.Kept.{step_deed, step_kept, opening_keeps, come_coming, end_same}
+use Rattle.dover_model.proofs.runs.Ending.{end_over, run_is_whole}
 use Rattle.dover_model.specs.Weights.{one_if}
 use Rattle.stated_jobs.specs.bait.BaitingRuns.{baiting, CompletesLastAlone}
 use Rattle.stated_jobs.proofs.bait.Steady.{IsLast, IsChained, IsSteady, alone, stands_as, differ, completes}

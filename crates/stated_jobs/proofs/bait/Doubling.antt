@@ -11,7 +11,7 @@ use Rattle.dover_model.specs.Greatest.{greatest}
 use Rattle.dover_model.specs.Orders.{is_heavy}
 use Rattle.dover_model.specs.Bait.{unit_value, most_light, first_link, chain_from, chain, last_link, bait_value}
 use Rattle.dover_model.specs.Bait.{bait_tick, plan_value}
-use Rattle.dover_model.proofs.Calculus.{square_order, heavy_more}
+use Rattle.dover_model.proofs.bound.Calculus.{square_order, heavy_more}
 use Rattle.root_compare.proofs.Roots.{one_greatest}
 use Rattle.stated_jobs.specs.bait.Baiting.{FitsLimits}
 use Rattle.stated_jobs.proofs.bait.Heavy.{is_light, light_is, root_is, heavy_zero, first_is}
@@ -19,7 +19,7 @@ use Rattle.stated_jobs.proofs.bait.Coming.{sum_least}
 use Rattle.stated_jobs.proofs.bait.Chains.{last_from}
 use Rattle.stated_jobs.proofs.bait.Feeds.{small}
 use Rattle.stated_jobs.proofs.bait.Validity.{last_link_within}
-use Rattle.dover_model.proofs.JobLimits.{ratio_limits}
+use Rattle.dover_model.proofs.valid.JobLimits.{ratio_limits}
 
 -- one more power
 double : (power more w next last : ℕ) → more ≡ 2 * power → next ≡ w + w + 1 → last + 1 ≡ power * (next + 1)

@@ -11,14 +11,14 @@ use Rattle.dover_model.specs.Fraction.{Fraction, IsRatio}
 use Rattle.dover_model.specs.JobFacts.{JobFacts}
 use Rattle.dover_model.specs.Instance.{total_value}
 use Rattle.dover_model.specs.Sound.{IsMember}
-use Rattle.dover_model.proofs.Members.{all_member}
+use Rattle.dover_model.proofs.lists.Members.{all_member}
 use Rattle.dover_model.specs.Bait.{unit_value, first_link, most_light, chain_from, chain, bait_value, tight_job}
 use Rattle.dover_model.specs.Bait.{chain_jobs, bait_tick, bait_jobs}
 use Rattle.stated_jobs.specs.bait.Baiting.{FitsLimits}
 use Rattle.stated_jobs.proofs.bait.Coming.{are_some, sum_least}
 use Rattle.stated_jobs.proofs.bait.Streaming.{Streams, gives_link, gives_unit, gives_bait, LeadsTo, plan_from, streams}
-use Rattle.dover_model.proofs.ValidParts.{ReleasesInOrder}
-use Rattle.dover_model.proofs.JobLimits.{ratio_limits}
+use Rattle.dover_model.proofs.valid.ValidParts.{ReleasesInOrder}
+use Rattle.dover_model.proofs.valid.JobLimits.{ratio_limits}
 
 module _ (unit bait : ℕ) where
   -- how many jobs there are

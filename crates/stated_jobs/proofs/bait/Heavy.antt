@@ -11,13 +11,13 @@ use Rattle.dover_model.specs.Greatest.{IsGreatest, greatest}
 use Rattle.dover_model.specs.Orders.{IsHeavy, is_heavy}
 use Rattle.dover_model.specs.Bait.{most_light}
 use Rattle.stated_jobs.specs.bait.Links.{IsLeastUnmoved, IsLeastHeavy, IsMostLight}
-use Rattle.dover_model.proofs.Tests.{never}
+use Rattle.dover_model.proofs.lists.Tests.{never}
 use Rattle.dover_model.specs.Books.{IsExcessBy}
-use Rattle.dover_model.proofs.Calculus.{HeavyBy, heavy_mono, heavy_more, heavy_up, not_heavy, square_order}
-use Rattle.dover_model.proofs.Calculus.{heavy_excess, root_from, factor_from, factor_over}
-use Rattle.dover_model.proofs.GreatestLaws.{IsDownwardClosed, greatest-is}
+use Rattle.dover_model.proofs.bound.Calculus.{HeavyBy, heavy_mono, heavy_more, heavy_up, not_heavy, square_order}
+use Rattle.dover_model.proofs.bound.Calculus.{heavy_excess, root_from, factor_from, factor_over}
+use Rattle.dover_model.proofs.bound.GreatestLaws.{IsDownwardClosed, greatest-is}
 use Rattle.root_compare.proofs.Roots.{one_greatest}
-use Rattle.dover_model.proofs.JobLimits.{ratio_limits, FactorLimits, factor_limits}
+use Rattle.dover_model.proofs.valid.JobLimits.{ratio_limits, FactorLimits, factor_limits}
 
 -- ---- tests that fail
 

@@ -11,8 +11,8 @@ use Rattle.dover_model.specs.JobFacts.{JobFacts}
 use Rattle.dover_model.specs.Bait.{unit_value, bait_value, bait_tick, tight_job, chain_jobs, links_at, released_at}
 use Rattle.dover_model.specs.Bait.{bait_jobs}
 use Rattle.dover_model.specs.Sound.{IsMember, Each}
-use Rattle.dover_model.proofs.Members.{filter_member, member_filter, sum_filter, sum_plus, sum_same}
-use Rattle.dover_model.proofs.Members.{member_front, member_behind, member_either}
+use Rattle.dover_model.proofs.lists.Members.{filter_member, member_filter, sum_filter, sum_plus, sum_same}
+use Rattle.dover_model.proofs.lists.Members.{member_front, member_behind, member_either}
 
 -- whether r is among n numbers from a on
 abbrev pub is_among : ℕ → (n : ℕ) → ℕ → Bool

@@ -11,7 +11,7 @@ use Rattle.dover_model.specs.Fraction.{Fraction}
 use Rattle.dover_model.specs.Instance.{Rules}
 use Rattle.dover_model.specs.Finishes.{goes_on}
 use Rattle.dover_model.specs.Processor.{is_complete}
-use Rattle.dover_model.proofs.Readiness.{step_decides}
+use Rattle.dover_model.proofs.finishes.Readiness.{step_decides}
 use Rattle.dover_model.specs.declared.events.Role.{Role}
 use Rattle.dover_model.specs.declared.events.Role.TheVariants.{Coming, Fresh, Waiting, Held, Running, Done, Gone}
 use Rattle.dover_model.specs.declared.events.Event.TheVariants.{Take, End}
@@ -20,18 +20,18 @@ use Rattle.dover_model.specs.State.{State, is_privileged, is_over, is_done, priv
 use Rattle.dover_model.specs.Orders.{is_heavy}
 use Rattle.dover_model.specs.Step.{Move, Prints, Ticks, step, after, with_role, displaced, ticked, ending, ◌or_else◌}
 use Rattle.dover_model.specs.Sound.{IsMember, Each, EachTwo, FitsRole, IsNumberedFrom, NoneRuns, IsSound, jobs_of}
-use Rattle.dover_model.proofs.Members.{on_map, map_member, sum_filter, sum_zero, sum_map, sum_same, term_le_sum}
-use Rattle.dover_model.proofs.Roles.{one_number, numbers_above, passes, is_privileged_role, is_over_role}
-use Rattle.dover_model.proofs.Loads.{sum_change, with_roles, Fits, load}
-use Rattle.dover_model.proofs.OneChange.{changed, state_with, EachOther, on_changed, changed_here, changed_there}
-use Rattle.dover_model.proofs.Moves.{says}
-use Rattle.dover_model.proofs.Ticking.{Quiet}
-use Rattle.dover_model.proofs.Deeds.{Deed, Completed, Resumed, Started, Began, Preempted, Stayed, Arrived, Taken}
-use Rattle.dover_model.proofs.Deeds.{Abandoned, Rested}
-use Rattle.dover_model.proofs.Calculus.{heavy_more}
-use Rattle.dover_model.proofs.Kept.{end_same}
-use Rattle.dover_model.proofs.Tests.{never}
-use Rattle.dover_model.proofs.Moves.{displaced_rests}
+use Rattle.dover_model.proofs.lists.Members.{on_map, map_member, sum_filter, sum_zero, sum_map, sum_same, term_le_sum}
+use Rattle.dover_model.proofs.steps.Roles.{one_number, numbers_above, passes, is_privileged_role, is_over_role}
+use Rattle.dover_model.proofs.steps.Loads.{sum_change, with_roles, Fits, load}
+use Rattle.dover_model.proofs.steps.OneChange.{changed, state_with, EachOther, on_changed, changed_here, changed_there}
+use Rattle.dover_model.proofs.steps.Moves.{says}
+use Rattle.dover_model.proofs.steps.Ticking.{Quiet}
+use Rattle.dover_model.proofs.steps.Deeds.{Deed, Completed, Resumed, Started, Began, Preempted, Stayed, Arrived, Taken}
+use Rattle.dover_model.proofs.steps.Deeds.{Abandoned, Rested}
+use Rattle.dover_model.proofs.bound.Calculus.{heavy_more}
+use Rattle.dover_model.proofs.steps.Kept.{end_same}
+use Rattle.dover_model.proofs.lists.Tests.{never}
+use Rattle.dover_model.proofs.steps.Moves.{displaced_rests}
 
 -- where the move completes the job that runs, that has no work left
 abbrev pub DoneAtEnd : State → Move → Type 0

@@ -14,10 +14,10 @@ use Rattle.dover_model.specs.Step.{step}
 use Rattle.dover_model.specs.Run.{run, completed_value}
 use Rattle.dover_model.specs.Processor.{is_complete}
 use Rattle.dover_model.specs.Sound.{IsMember, Each, Keeps}
-use Rattle.dover_model.proofs.Members.{map_member}
-use Rattle.dover_model.proofs.Kept.{opening_keeps}
-use Rattle.dover_model.proofs.Ending.{run_is_whole}
-use Rattle.dover_model.proofs.Runs.{run_states}
+use Rattle.dover_model.proofs.lists.Members.{map_member}
+use Rattle.dover_model.proofs.steps.Kept.{opening_keeps}
+use Rattle.dover_model.proofs.runs.Ending.{run_is_whole}
+use Rattle.dover_model.proofs.runs.Runs.{run_states}
 use Rattle.stated_jobs.specs.bait.BaitingRuns.{baiting, CompletesLastAlone}
 
 -- the one job, twice

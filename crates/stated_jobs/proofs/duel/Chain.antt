@@ -9,7 +9,7 @@ use Rattle.std.proofs.Math.Nat.{mul-div-le, lt-mul-div-succ, min-eq_left, min-eq
 use Rattle.dover_model.specs.Fraction.{Fraction}
 use Rattle.dover_model.specs.JobFacts.{JobFacts}
 use Rattle.dover_model.specs.Bait.{tight_job}
-use Rattle.dover_model.proofs.Calculus.{cancel}
+use Rattle.dover_model.proofs.bound.Calculus.{cancel}
 use Rattle.stated_jobs.specs.duel.Links.{next_link, staying, leaving}
 use Rattle.stated_jobs.specs.duel.Jobs.{smalls, pieces_for, pieces, small_work, is_last, jobs_of_links, first_link}
 use Rattle.stated_jobs.proofs.duel.Phases.{jobs_from, first_of, AreTraps}

@@ -12,7 +12,7 @@ use Rattle.dover_model.specs.Bait.{tight_job}
 use Rattle.stated_jobs.specs.duel.Jobs.{smalls}
 use Rattle.stated_jobs.proofs.duel.Phases.{jobs_from, path, end_of}
 use Rattle.stated_jobs.proofs.duel.Served.{Numbered}
-use Rattle.dover_model.proofs.ValidParts.{ReleasesInOrder}
+use Rattle.dover_model.proofs.valid.ValidParts.{ReleasesInOrder}
 
 -- ---- the first tick off the path
 

@@ -8,7 +8,7 @@ use Rattle.dover_model.specs.Fraction.{Fraction, IsRatio}
 use Rattle.dover_model.specs.JobFacts.{JobFacts, IsJob}
 use Rattle.dover_model.specs.Bait.{tight_job}
 use Rattle.dover_model.specs.Limits.{last_tick}
-use Rattle.dover_model.proofs.JobLimits.{job_limits, ratio_limits}
+use Rattle.dover_model.proofs.valid.JobLimits.{job_limits, ratio_limits}
 use Rattle.stated_jobs.specs.duel.Links.{next_link}
 use Rattle.stated_jobs.specs.duel.Jobs.{smalls, pieces, small_work, is_last, jobs_of_links, first_link}
 use Rattle.stated_jobs.specs.duel.Kept.{GoesOn, IsModest}

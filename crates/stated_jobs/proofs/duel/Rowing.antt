@@ -8,7 +8,7 @@ use Rattle.dover_model.specs.Fraction.{Fraction, IsRatio}
 use Rattle.dover_model.specs.JobFacts.{JobFacts, is_job, IsJob}
 use Rattle.dover_model.specs.Instance.{total_value}
 use Rattle.dover_model.specs.Limits.{most_jobs, most_total}
-use Rattle.dover_model.proofs.Tests.{each}
+use Rattle.dover_model.proofs.lists.Tests.{each}
 use Rattle.stated_jobs.specs.duel.Game.{Scheduler, IsOnline, ArePlain, AreValid, LosesOnFront}
 use Rattle.stated_jobs.specs.duel.Jobs.{jobs_of_links, first_link, duel_jobs}
 use Rattle.stated_jobs.specs.duel.Rows.{k_of}
@@ -16,9 +16,9 @@ use Rattle.stated_jobs.proofs.duel.Phases.{jobs_from}
 use Rattle.stated_jobs.proofs.duel.Plain.{plain_whole}
 use Rattle.stated_jobs.proofs.duel.Chain.{phases_of, last_of, as_phases, traps_of, first_cheap}
 use Rattle.stated_jobs.proofs.duel.Losing.{each_loses}
-use Rattle.dover_model.proofs.ValidParts.{is_within_ratio-agrees, order_parts, valid_from}
-use Rattle.dover_model.proofs.Valid.{all_from}
-use Rattle.dover_model.proofs.JobLimits.{ratio_limits, job_passes}
+use Rattle.dover_model.proofs.valid.ValidParts.{is_within_ratio-agrees, order_parts, valid_from}
+use Rattle.dover_model.proofs.valid.Valid.{all_from}
+use Rattle.dover_model.proofs.valid.JobLimits.{ratio_limits, job_passes}
 
 -- jobs that are few, not worth too much, and each within its limits
 abbrev fits : List JobFacts → Bool

@@ -18,19 +18,19 @@ use Rattle.dover_model.specs.Settled.{waits_for_mark, settled_steps, AllComeFrom
 use Rattle.dover_model.specs.WholeRun.{IsWholeRun, IsSettledRun}
 use Rattle.dover_model.specs.Online.{known_at}
 use Rattle.dover_model.specs.Sound.{Each, Keeps}
-use Rattle.dover_model.proofs.Members.{all_each, member_front}
-use Rattle.dover_model.proofs.Deeds.{over_rests}
-use Rattle.dover_model.proofs.Kept.{open_deed, open_kept, step_deed, opening_keeps}
-use Rattle.dover_model.proofs.Ending.{run_is_whole}
-use Rattle.dover_model.proofs.Settling.{at_barrier, settled_is_run}
-use Rattle.dover_model.proofs.Prefixes.{step_open, behind_step, behind_after, behind_keeps, open_not_end}
-use Rattle.dover_model.proofs.Prefixes.{come_from, opening_later, later_keeps, over_ticked}
-use Rattle.dover_model.proofs.Onlines.{known_part, known_split, split_whole, whole_valid, known_valid}
-use Rattle.dover_model.proofs.Tests.{never}
-use Rattle.dover_model.proofs.Limiting.{jobs_most}
+use Rattle.dover_model.proofs.lists.Members.{all_each, member_front}
+use Rattle.dover_model.proofs.steps.Deeds.{over_rests}
+use Rattle.dover_model.proofs.steps.Kept.{open_deed, open_kept, step_deed, opening_keeps}
+use Rattle.dover_model.proofs.runs.Ending.{run_is_whole}
+use Rattle.dover_model.proofs.settled.Settling.{at_barrier, settled_is_run}
+use Rattle.dover_model.proofs.settled.Prefixes.{step_open, behind_step, behind_after, behind_keeps, open_not_end}
+use Rattle.dover_model.proofs.settled.Prefixes.{come_from, opening_later, later_keeps, over_ticked}
+use Rattle.dover_model.proofs.settled.Onlines.{known_part, known_split, split_whole, whole_valid, known_valid}
+use Rattle.dover_model.proofs.lists.Tests.{never}
+use Rattle.dover_model.proofs.valid.Limiting.{jobs_most}
 use Rattle.stated_jobs.specs.duel.Game.{IsOnline, AreValid}
 use Rattle.stated_jobs.proofs.duel.Duel.{valid_known}
-use Rattle.dover_model.proofs.ValidParts.{valid_parts}
+use Rattle.dover_model.proofs.valid.ValidParts.{valid_parts}
 
 -- the schedule of these steps
 abbrev places : List Step → List ℕ

@@ -21,9 +21,9 @@ use Rattle.dover_model.specs.Schedules.{numbered}
 use Rattle.dover_model.specs.Sound.{IsMember, Each}
 use Rattle.dover_model.specs.State.{is_done}
 use Rattle.dover_model.specs.Switches.{AreOfTask, may_preempt, may_take, most_changes, useful}
-use Rattle.dover_model.proofs.Families.{few_of_task_preempt, few_of_task_take}
-use Rattle.dover_model.proofs.Members.{sum_le, sum_same, sum_zero, sum_plus, filter_member}
-use Rattle.dover_model.proofs.Stretches.{budget_holds, its_job}
+use Rattle.dover_model.proofs.switches.Families.{few_of_task_preempt, few_of_task_take}
+use Rattle.dover_model.proofs.lists.Members.{sum_le, sum_same, sum_zero, sum_plus, filter_member}
+use Rattle.dover_model.proofs.switches.Stretches.{budget_holds, its_job}
 use Rattle.task_words.specs.tasks.Merging.{blank_task}
 use Rattle.task_words.specs.declared.tasks.task.PeriodicTask.{PeriodicTask}
 use Rattle.task_words.specs.budget.Budgets.{most_preempting, most_taking, most_gets, with_budget, budgeted, task_at}

@@ -12,7 +12,7 @@ use Rattle.dover_model.specs.Limits.{most_lines}
 use Rattle.dover_model.specs.Lines.{lines_of, whole_lines, rest_of, is_too_long, fields_of}
 use Rattle.dover_model.specs.Feed as feed
 use Rattle.dover_model.specs.Feed.{Standing, Open, Ended, Faulty, Cause}
-use Rattle.dover_model.proofs.GrowingTexts.{read_append}
+use Rattle.dover_model.proofs.texts.GrowingTexts.{read_append}
 use Rattle.line_text.proofs.Lengths.{AreNotTooLong, text_few}
 use Rattle.task_words.specs.reading.Lines.{task_line, line_of_fields}
 use Rattle.task_words.specs.reading.Account.{TaskAccount, no_lines, cause_of, with_fault, with_line, read_line, is_open}

@@ -9,9 +9,9 @@ use Rattle.dover_model.specs.Instance.{Declaration as Rules}
 use Rattle.dover_model.specs.Session.{IsDeclarable}
 use Rattle.dover_model.specs.Feed as feed
 use Rattle.dover_model.specs.Feed.{Open, Faulty, declared_rules, declared_version, factor_rules, rules_with}
-use Rattle.dover_model.proofs.Accounts.{declared_good}
-use Rattle.dover_model.proofs.Members.{some_same}
-use Rattle.dover_model.proofs.Tests.{none_is_some}
+use Rattle.dover_model.proofs.sessions.Accounts.{declared_good}
+use Rattle.dover_model.proofs.lists.Members.{some_same}
+use Rattle.dover_model.proofs.lists.Tests.{none_is_some}
 use Rattle.admission.specs.Kept as admission
 use Rattle.event_feed.specs.declared.faults.Cause.TheVariants as cause
 use Rattle.task_words.specs.tasks.Limits.{AreTasks, task_rules}

@@ -11,7 +11,7 @@ use Rattle.dover_model.specs.declared.events.Refusal.TheVariants as refusal
 use Rattle.dover_model.specs.declared.events.Version.TheVariants.{Two}
 use Rattle.dover_model.specs.Limits.{most_lines}
 use Rattle.dover_model.specs.Lines.{lines_of, rest_of, is_too_long}
-use Rattle.dover_model.proofs.Members.{all_last}
+use Rattle.dover_model.proofs.lists.Members.{all_last}
 use Rattle.dover_model.specs.Fraction.{Fraction}
 use Rattle.dover_model.specs.JobFacts.{JobFacts, job_of_numbers}
 use Rattle.dover_model.specs.Instance.{Declaration as Rules}
@@ -43,7 +43,7 @@ use Rattle.task_words.specs.declared.reading.intake.Progress.TheVariants as prog
 use Rattle.task_words.specs.declared.reading.lines.TaskLine.{TaskLine}
 use Rattle.task_words.specs.declared.reading.lines.TaskLine.TheVariants.{Task}
 use Rattle.task_words.proofs.reading.Accounts.{counted, next_of, line_as, many_lines, lines_good}
-use Rattle.dover_model.proofs.JobLimits.{ratio_limits}
+use Rattle.dover_model.proofs.valid.JobLimits.{ratio_limits}
 
 -- ---- a task behind others
 

@@ -15,7 +15,7 @@ use Rattle.dover_model.specs.Schedules.{numbered}
 use Rattle.dover_model.specs.Sound.{IsMember}
 use Rattle.dover_model.specs.Sure.{AreOfStreams, IsCompleted, IsOfStream, Stream, is_spread, stream_at, blank_stream}
 use Rattle.dover_model.specs.Sure.{CanStack, worth_of, most_fitting, most_beside, most_crossing, others, best_of}
-use Rattle.dover_model.proofs.Streams.{sure_streams, sure_of_stream, heavy_by_sum, heavy_by_sets}
+use Rattle.dover_model.proofs.sure.Streams.{sure_streams, sure_of_stream, heavy_by_sum, heavy_by_sets}
 use Rattle.root_compare.specs.Least.{least_heavy}
 use Rattle.root_compare.proofs.Least.{heavy_where}
 use Rattle.task_words.proofs.sure.Beside.{but}

@@ -8,8 +8,8 @@ use Rattle.std.proofs.lemmas.Bool.{eq-eqb, ne_eqb, leb-true, le-leb, cases_lt}
 use Rattle.dover_model.specs.Fraction.{Fraction}
 use Rattle.dover_model.specs.Sound.{IsMember}
 use Rattle.dover_model.specs.Sure.{Stream, stream_at, blank_stream}
-use Rattle.dover_model.proofs.Calculus.{cancel}
-use Rattle.dover_model.proofs.Members.{all_each, not_all}
+use Rattle.dover_model.proofs.bound.Calculus.{cancel}
+use Rattle.dover_model.proofs.lists.Members.{all_each, not_all}
 use Rattle.task_words.specs.declared.sure.densities.Sparse.{Sparse}
 use Rattle.task_words.specs.sure.Kept.{AreSmall, IsSparsest, AreSparse}
 use Rattle.task_words.specs.sure.Streams.{stays_within, stream_of, streams_of}

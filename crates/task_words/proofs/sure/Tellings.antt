@@ -7,7 +7,7 @@ use Rattle.dover_model.specs.Limits.{most_value}
 use Rattle.dover_model.specs.Lines.{with_numbers}
 use Rattle.dover_model.specs.Orders.{is_heavy}
 use Rattle.dover_model.specs.Sure.{Stream, stream_at, is_spread}
-use Rattle.dover_model.proofs.Calculus.{heavy_more}
+use Rattle.dover_model.proofs.bound.Calculus.{heavy_more}
 use Rattle.root_compare.specs.Least.{least_heavy}
 use Rattle.task_words.specs.declared.sure.telling.Told.TheVariants as told
 use Rattle.task_words.specs.sure.Kept.{told_line}

@@ -5,8 +5,8 @@ use Rattle.std.proofs.Common.{Option, Some, None, arith}
 use Rattle.std.specs.List.{AllByRecursion, fold}
 use Rattle.dover_model.specs.Orders.{earlier, first}
 use Rattle.dover_model.specs.Sound.{IsMember}
-use Rattle.dover_model.proofs.FirstOfTasks.{first_member}
-use Rattle.dover_model.proofs.Members.{some_same}
+use Rattle.dover_model.proofs.lists.FirstOfTasks.{first_member}
+use Rattle.dover_model.proofs.lists.Members.{some_same}
 use Rattle.place_heap.specs.Items.{ItemFacts, is_before}
 use Rattle.place_heap.specs.Table.{items_of}
 use Rattle.place_heap.proofs.Ranking.{one_way, behind}

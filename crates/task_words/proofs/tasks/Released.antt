@@ -11,14 +11,14 @@ use Rattle.std.proofs.lemmas.Bool.{leb-true, eqb-true, and_parts}
 use Rattle.dover_model.specs.JobFacts.{JobFacts, IsJob}
 use Rattle.dover_model.specs.Fraction.{Fraction, IsRatio}
 use Rattle.dover_model.specs.Instance.{Declaration, IsValid}
-use Rattle.dover_model.proofs.Valid.{all_from}
-use Rattle.dover_model.proofs.Members.{all_append}
-use Rattle.dover_model.proofs.Limiting.{jobs_least, total_least}
+use Rattle.dover_model.proofs.valid.Valid.{all_from}
+use Rattle.dover_model.proofs.lists.Members.{all_append}
+use Rattle.dover_model.proofs.valid.Limiting.{jobs_least, total_least}
 use Rattle.task_words.specs.tasks.Tasks.{releases, job_at, released_at, jobs_before, count_before, tested_job, unrolled}
 use Rattle.task_words.specs.tasks.Limits.{IsTask, AreTasks, AreWithin, Fits}
 use Rattle.task_words.specs.declared.tasks.task.PeriodicTask.{PeriodicTask}
-use Rattle.dover_model.proofs.ValidParts.{IsWithinRatio, ReleasesInOrder, valid_from, is_within_ratio-agrees}
-use Rattle.dover_model.proofs.JobLimits.{job_limits, job_from}
+use Rattle.dover_model.proofs.valid.ValidParts.{IsWithinRatio, ReleasesInOrder, valid_from, is_within_ratio-agrees}
+use Rattle.dover_model.proofs.valid.JobLimits.{job_limits, job_from}
 
 -- ---- what holds of each job
 

@@ -11,7 +11,7 @@ use Rattle.task_words.proofs.tasks.Released.{unrolled_valid}
 use Rattle.event_feed.specs.Feeds.{IsFeedOf, feed_of}
 use Rattle.task_words.specs.unroll.Says.{Says}
 use Rattle.event_feed.proofs.FeedsOfJobs.{feed_is}
-use Rattle.dover_model.proofs.JobSessions.{jobs_never}
+use Rattle.dover_model.proofs.sessions.JobSessions.{jobs_never}
 
 -- the feed of the jobs is said of the tasks
 pub says_feed : (until : ℕ) (rules : Declaration) (tasks : List PeriodicTask)

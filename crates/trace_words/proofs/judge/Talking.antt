@@ -4,10 +4,10 @@ use Rattle.std.proofs.Common.{false, not, inl, inr, Option, Ok, Err}
 use Rattle.dover_model.specs.Session.{Session}
 use Rattle.dover_model.specs.Verdict as model
 use Rattle.dover_model.specs.Verdict.{verdict}
-use Rattle.dover_model.proofs.WrongStays.{wrong_verdict_stays}
+use Rattle.dover_model.proofs.traces.WrongStays.{wrong_verdict_stays}
 use Rattle.dover_port.specs.declared.status.Status.{Status}
 use Rattle.dover_port.specs.declared.status.Status.TheVariants.{Done, No, Refused, ReadFault, WriteFault, Memory, Usage}
-use Rattle.dover_model.proofs.Spending.{few_more}
+use Rattle.dover_model.proofs.runs.Spending.{few_more}
 use Rattle.trace_judge.specs.Judging.{StandsFor, HasPaidFor, Fed, PaysFor, Tells, is_wrong, jobs_named}
 use Rattle.trace_judge.specs.Judging.{keeps, steps_told}
 use Rattle.trace_judge.specs.declared.judge.Closed.{Closed}

@@ -25,7 +25,7 @@ use Rattle.trace_judge.specs.declared.verdict.Verdict.TheVariants.{Accepted, Wro
 use Rattle.trace_words.specs.declared.report.form.Form.{Form}
 use Rattle.trace_words.specs.report.Talk.{IsListed, SaysReport, report_text, told, report_talk}
 use Rattle.trace_words.specs.report.Talking.{Puts}
-use Rattle.dover_model.proofs.SessionParts.{session_jobs}
+use Rattle.dover_model.proofs.sessions.SessionParts.{session_jobs}
 
 -- the run of equal steps
 pub same_run : (k : Fraction) (J : Instance) (es fs : List Event) → es ≡ fs → IsRunOf k fs J → IsRunOf k es J

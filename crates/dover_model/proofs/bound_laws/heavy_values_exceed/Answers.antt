@@ -1,4 +1,4 @@
-use Rattle.dover_model.proofs.Calculus.{heavy_from, heavy_excess, factor_from, factor_over}
+use Rattle.dover_model.proofs.bound.Calculus.{heavy_from, heavy_excess, factor_from, factor_over}
 use Rattle.std.proofs.Common.{◌*◌, ◌<◌, ◌≤◌, ◌⊎◌, inl, inr, arith}
 use Rattle.std.proofs.lemmas.Bool.{cases_lt}
 use Rattle.std.proofs.lemmas.Nat.{mul-le}

@@ -1,5 +1,5 @@
 use Rattle.std.proofs.Common.{◌≤◌, length, get_or, sym, subst, arith}
-use Rattle.dover_model.proofs.Spending.{few_more}
+use Rattle.dover_model.proofs.runs.Spending.{few_more}
 use Rattle.dover_model.specs.Run.{printed}
 use Rattle.dover_model.specs.declared.horizon.Horizon.TheVariants.{End}
 use Rattle.event_feed.specs.Listing.{declared_in, listed_instance}

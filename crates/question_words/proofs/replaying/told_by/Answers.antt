@@ -2,7 +2,7 @@ use Rattle.std.proofs.Common.{◌≤◌, ◌∙◌, List, length, refl, sym, ap,
 use Rattle.std.specs.List.{fold, list_any}
 use Rattle.dover_model.specs.declared.events.Event.{Event}
 use Rattle.dover_model.specs.Run.{value_of_end}
-use Rattle.dover_model.proofs.Ending.{few_printed}
+use Rattle.dover_model.proofs.runs.Ending.{few_printed}
 use Rattle.event_feed.specs.Listing.{listed_instance}
 use Rattle.question_words.specs.Loss.{completes}
 use Rattle.question_words.proofs.Observations.{seen_observed}

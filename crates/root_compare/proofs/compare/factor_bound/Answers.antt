@@ -4,8 +4,8 @@ use Rattle.std.proofs.lemmas.Nat.{mul-le}
 use Rattle.dover_model.specs.Fraction.{is_some_factor}
 use Rattle.dover_model.specs.Greatest.{IsGreatest}
 use Rattle.dover_model.specs.Bound.{is_within_by, scale, share}
-use Rattle.dover_model.proofs.GreatestLaws.{bound_by-is}
-use Rattle.dover_model.proofs.JobLimits.{ratio_limits}
+use Rattle.dover_model.proofs.bound.GreatestLaws.{bound_by-is}
+use Rattle.dover_model.proofs.valid.JobLimits.{ratio_limits}
 use Rattle.root_compare.proofs.Factors.{share_few, quotient_low}
 use Rattle.root_compare.proofs.compare.factor_bound.Goals as goal
 

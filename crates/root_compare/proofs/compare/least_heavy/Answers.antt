@@ -3,7 +3,7 @@ use Rattle.std.proofs.Math.Nat.{div-le_self}
 use Rattle.std.proofs.lemmas.Nat.{mul-le}
 use Rattle.std.proofs.lemmas.Bool.{cases_lt}
 use Rattle.dover_model.specs.Orders.{IsHeavy}
-use Rattle.dover_model.proofs.JobLimits.{ratio_limits, FactorLimits, factor_limits}
+use Rattle.dover_model.proofs.valid.JobLimits.{ratio_limits, FactorLimits, factor_limits}
 use Rattle.std.proofs.Common.{IsTrue}
 use Rattle.dover_model.specs.Fraction.{is_some_factor}
 use Rattle.root_compare.proofs.Least.{least_is, root_heavy, root_least, factor_heavy, factor_least}

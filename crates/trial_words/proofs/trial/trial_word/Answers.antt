@@ -8,7 +8,7 @@ use Rattle.dover_model.specs.Limits.{most_jobs}
 use Rattle.dover_model.specs.Reports.{summary}
 use Rattle.dover_model.specs.Run.{printed}
 use Rattle.dover_model.specs.Spending.{CostsAtMost}
-use Rattle.dover_model.proofs.Limiting.{listable}
+use Rattle.dover_model.proofs.valid.Limiting.{listable}
 use Rattle.dover_port.specs.Moves.Move.{Put}
 use Rattle.dover_port.specs.declared.status.Status.TheVariants.{Done, WriteFault}
 use Rattle.dover_port.proofs.Made.{since_none}

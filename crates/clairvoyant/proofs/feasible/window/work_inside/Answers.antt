@@ -1,6 +1,6 @@
 use Rattle.std.proofs.Common.{◌≡◌}
 use Rattle.std.proofs.lemmas.List.Sums.{sum_by_more}
-use Rattle.dover_model.proofs.JobLimits.{job_limits}
+use Rattle.dover_model.proofs.valid.JobLimits.{job_limits}
 use Rattle.clairvoyant.proofs.feasible.LastStart.{asked_most, asked_due, asked_none, due_all, due_none}
 use Rattle.clairvoyant.proofs.feasible.window.work_inside.Goals.{then-a-release+then-deadline-b, else-a-release}
 use Rattle.clairvoyant.proofs.feasible.window.work_inside.Goals.{else-a-release-via-then-a-release+else-deadline-b}

@@ -7,14 +7,14 @@ use Rattle.dover_model.specs.Feed.{Account, no_lines, account_of_lines, is_open}
 use Rattle.dover_model.specs.Limits.{most_jobs}
 use Rattle.dover_model.specs.Session.{instance_of, is_full}
 use Rattle.dover_model.specs.declared.events.Version.TheVariants.{Two}
-use Rattle.dover_model.proofs.Accounts.{lines_goes}
+use Rattle.dover_model.proofs.sessions.Accounts.{lines_goes}
 use Rattle.event_feed.specs.Answers.{IsFed, AddsJob, counted}
 use Rattle.event_feed.specs.Keeping.{Keeps}
 use Rattle.event_feed.specs.declared.faults.FeedFault.{FeedFault}
 use Rattle.event_feed.specs.Kept as feed
 use Rattle.event_feed.specs.Kept.{fault_of}
 use Rattle.event_feed.specs.Listing.{offered_in}
-use Rattle.dover_model.proofs.Members.{err_any}
+use Rattle.dover_model.proofs.lists.Members.{err_any}
 use Rattle.event_feed.proofs.Accepting.{offer_accepted, offer_room}
 use Rattle.event_feed.proofs.Listing.{finds_room, ok_any}
 use Rattle.event_feed.proofs.Listing.{goes_on, job_listed, job_admitted, refused_listed, tick_listed}

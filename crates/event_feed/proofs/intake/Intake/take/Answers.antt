@@ -3,7 +3,7 @@ use Rattle.std.proofs.Common.{◌≤◌, inr, Ok}
 use Rattle.dover_model.specs.Limits.{most_lines}
 use Rattle.dover_model.specs.declared.events.Version.TheVariants.{Three}
 use Rattle.dover_model.specs.Feed as model
-use Rattle.dover_model.proofs.Members.{some_same}
+use Rattle.dover_model.proofs.lists.Members.{some_same}
 use Rattle.event_feed.specs.declared.fed.Fed.TheVariants as feds
 use Rattle.event_feed.specs.Kept.{Kept, KeepsAccount, IsCounted, cause_of_fault}
 use Rattle.event_feed.specs.Answers.{IsFed, EndsFeed}

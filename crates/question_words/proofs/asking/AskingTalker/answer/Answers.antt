@@ -3,7 +3,7 @@ use Rattle.dialogue.specs.Talk.{IsFinal}
 use Rattle.dover_port.proofs.Through.{passes_nothing}
 use Rattle.event_feed.proofs.Ending.{jobs_valid}
 use Rattle.dover_model.specs.Spending.{CostsAtMost}
-use Rattle.dover_model.proofs.Spending.{none_few}
+use Rattle.dover_model.proofs.runs.Spending.{none_few}
 use Rattle.question_words.specs.Questions.{says}
 use Rattle.question_words.proofs.Answering.{refusal, said, unended, answered}
 use Rattle.question_words.proofs.Counts.{listed_count}

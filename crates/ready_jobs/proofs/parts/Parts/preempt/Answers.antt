@@ -11,7 +11,7 @@ use Rattle.dover_model.specs.Entries.{entry_of}
 use Rattle.dover_model.specs.State.{value_sum}
 use Rattle.dover_model.specs.Step.{with_role}
 use Rattle.dover_model.specs.Sound.{IsMember}
-use Rattle.dover_model.proofs.Members.{on_map, sum_map}
+use Rattle.dover_model.proofs.lists.Members.{on_map, sum_map}
 use Rattle.held_stack.specs.Stack.{IsDueBeforeTop}
 use Rattle.held_stack.specs.Kept.{AreRoomsOf}
 use Rattle.held_stack.proofs.Holding.{before_top}

@@ -8,7 +8,7 @@ use Rattle.held_stack.proofs.Holding.{spare_kept}
 use Rattle.waiting_pool.specs.Pools.{Pooled}
 use Rattle.ready_jobs.specs.Parts.{Parted, AreParts}
 use Rattle.ready_jobs.specs.Kept.{parted_of}
-use Rattle.dover_model.proofs.Members.{err_any}
+use Rattle.dover_model.proofs.lists.Members.{err_any}
 use Rattle.ready_jobs.proofs.Keeping.{held_fit, reserved_kept}
 use Rattle.waiting_pool.proofs.Pooling.{not_ok}
 use Rattle.ready_jobs.proofs.parts.Parts.reserve.Goals as goal

@@ -3,7 +3,7 @@ use Rattle.std.specs.Option.{option_to_list}
 use Rattle.dover_model.specs.Entries.{entry_of, room_of}
 use Rattle.dover_model.specs.State.{privileged, room}
 use Rattle.dover_model.specs.Sound.{IsMember}
-use Rattle.dover_model.proofs.Members.{on_map}
+use Rattle.dover_model.proofs.lists.Members.{on_map}
 use Rattle.held_stack.specs.Stack.{IsDueBeforeTop}
 use Rattle.held_stack.proofs.Holding.{before_top}
 use Rattle.held_stack.proofs.Deadlines.{room_map}

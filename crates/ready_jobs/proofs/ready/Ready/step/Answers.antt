@@ -1,6 +1,6 @@
 use Rattle.std.proofs.Common.{◌+◌, ◌*◌, ◌≤◌, length, sym, subst, arith}
 use Rattle.ready_jobs.specs.Spending.{wait_again}
-use Rattle.dover_model.proofs.Tests.{none_is_some}
+use Rattle.dover_model.proofs.lists.Tests.{none_is_some}
 use Rattle.ready_jobs.proofs.Courses.{kept_on}
 use Rattle.ready_jobs.proofs.Costing.{both_at_most}
 use Rattle.ready_jobs.proofs.ready.Ready.step.Goals as goal

@@ -4,7 +4,7 @@ use Rattle.task_words.specs.tasks.Merging.{merge}
 use Rattle.task_words.proofs.tasks.Merging.{none_given, given_within, room_given, read_next, read_some}
 use Rattle.std.proofs.Common.{get_or, refl}
 use Rattle.std.proofs.lemmas.List.{get_or-set_same}
-use Rattle.dover_model.proofs.JobLimits.{job_limits}
+use Rattle.dover_model.proofs.valid.JobLimits.{job_limits}
 use Rattle.task_words.specs.tasks.Merging.{blank_task}
 use Rattle.task_words.proofs.tasks.Merging.{given_job}
 use Rattle.task_words.proofs.tasks.unrolling.take_job.Goals as goal

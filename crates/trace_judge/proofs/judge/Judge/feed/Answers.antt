@@ -1,6 +1,6 @@
 use Rattle.std.proofs.Common.{◌≡◌, sym, ap, ◌∙◌}
 use Rattle.std.proofs.lemmas.List.{take_rest}
-use Rattle.dover_model.proofs.Tests.{never}
+use Rattle.dover_model.proofs.lists.Tests.{never}
 use Rattle.trace_judge.specs.declared.judge.Found.TheVariants.{Good, NoMemory}
 use Rattle.trace_judge.specs.Judging.{Judged}
 use Rattle.trace_judge.proofs.Judging.{err_of, none_of, wrong_fed, good_not_wrong, stands_good, stands_not}

@@ -1,7 +1,7 @@
 use Rattle.std.proofs.Common.{◌∙◌, sym, ap, refl, arith}
 use Rattle.std.specs.Prelude.{is_some}
 use Rattle.dover_model.specs.Session.{may_finish_early, finish_at, instance_of}
-use Rattle.dover_model.proofs.Tests.{never}
+use Rattle.dover_model.proofs.lists.Tests.{never}
 use Rattle.trace_judge.specs.Reads.{Reading}
 use Rattle.trace_judge.proofs.Readings.{unchanged_on}
 use Rattle.trace_judge.proofs.Completing.{not_early, not_known, not_roomy, not_there, not_right, right_some, right_took}

@@ -9,8 +9,8 @@ use Rattle.dover_model.specs.JobFacts.{JobFacts, job_of_numbers}
 use Rattle.dover_model.specs.Session.{refuses_lines, late_refusal}
 use Rattle.dover_model.specs.declared.events.Refusal.{Refusal}
 use Rattle.dover_model.specs.declared.events.Refusal.TheVariants.{Full}
-use Rattle.dover_model.proofs.Members.{some_same}
-use Rattle.dover_model.proofs.Tests.{never}
+use Rattle.dover_model.proofs.lists.Members.{some_same}
+use Rattle.dover_model.proofs.lists.Tests.{never}
 use Rattle.admission.specs.Kept.{Kept, StandsFor}
 use Rattle.trace_judge.specs.Reads.{Reading, refusal_if_full}
 use Rattle.trace_judge.proofs.reader.TraceReader.may_refuse.Goals as goal

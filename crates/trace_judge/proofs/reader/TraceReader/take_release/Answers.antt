@@ -2,7 +2,7 @@ use Rattle.std.proofs.Common.{◌≤◌, ℕ, List, ◌∙◌, sym, ap, subst, a
 use Rattle.dover_model.specs.Session.{Session, instance_of}
 use Rattle.dover_model.specs.State.{State}
 use Rattle.dover_model.specs.Leading.{WaitsUntil}
-use Rattle.dover_model.proofs.JobLimits.{job_limits}
+use Rattle.dover_model.proofs.valid.JobLimits.{job_limits}
 use Rattle.admission.specs.Kept.{Kept, HasRoom}
 use Rattle.trace_judge.specs.Reads.{Reading, ReadsAhead, Goes, Waited, CanRelease}
 use Rattle.trace_judge.proofs.Judging.{none_of}

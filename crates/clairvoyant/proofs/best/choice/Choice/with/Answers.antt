@@ -7,8 +7,8 @@ use Rattle.clairvoyant.proofs.best.Rising.{rise_length, rise_wider}
 use Rattle.clairvoyant.proofs.best.Values.{get_is, value_few}
 use Rattle.clairvoyant.proofs.best.Lifting.{jobs_few, order_at}
 use Rattle.clairvoyant.proofs.best.Searching.{jobs_grow, rise_all, rise_with, value_with, not_good}
-use Rattle.dover_model.proofs.ValidParts.{order_parts, order_from}
-use Rattle.dover_model.proofs.JobLimits.{job_limits}
+use Rattle.dover_model.proofs.valid.ValidParts.{order_parts, order_from}
+use Rattle.dover_model.proofs.valid.JobLimits.{job_limits}
 use Rattle.clairvoyant.proofs.best.choice.Choice.with.Goals as goal
 
 pub judge_feasible-requires-clause-in_order : goal.judge_feasible-requires-clause-in_order

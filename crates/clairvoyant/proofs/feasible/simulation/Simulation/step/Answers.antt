@@ -8,7 +8,7 @@ use Rattle.clairvoyant.proofs.feasible.Standing.{stands_idle, stands_last, next_
 use Rattle.clairvoyant.proofs.feasible.Running.{next_found}
 use Rattle.clairvoyant.proofs.feasible.simulation.Simulation.step.Goals as goal
 use Rattle.clairvoyant.proofs.feasible.simulation.Simulation.step.Goals.{in-Some+in_ok-run-in-Some, in-None+in-Some-get}
-use Rattle.dover_model.proofs.ValidParts.{order_parts}
+use Rattle.dover_model.proofs.valid.ValidParts.{order_parts}
 
 pub returns-in-None-get-clause-whole : goal.returns-in-None-get-clause-whole
 returns-in-None-get-clause-whole c =

@@ -4,7 +4,7 @@ use Rattle.dover_model.specs.Lines.{lines_of}
 use Rattle.snapshot.specs.Reading.{Refused}
 use Rattle.feed_words.specs.resume.Keeping.{IsReady, IsGiving}
 use Rattle.feed_words.specs.resume.Talk.{resume_talk}
-use Rattle.dover_model.proofs.Tests.{never}
+use Rattle.dover_model.proofs.lists.Tests.{never}
 use Rattle.feed_words.proofs.resume.Talking.{goes_at}
 use Rattle.feed_words.proofs.resume.Stages.{front_costs, line_refused, line_lacks, opened_is}
 use Rattle.feed_words.proofs.resume.Stages.{past_call, past_bytes, past_takes, past_goes, opening_took}
