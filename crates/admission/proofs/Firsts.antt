@@ -4,10 +4,7 @@ use Rattle.std.proofs.Common.{append_assoc, arith, Bool, ◌+◌, Some, length-a
 use Rattle.std.specs.List.{AllByRecursion}
 use Rattle.std.proofs.lemmas.Bool.{cases_lt}
 use Rattle.std.proofs.lemmas.List.Sums.{sum_by-append, sum_by-cons}
-use Rattle.dover_model.specs.JobFacts.{JobFacts, IsJob}
-use Rattle.dover_model.specs.Fraction.{Fraction}
-use Rattle.dover_model.specs.Instance.{total_value}
-use Rattle.dover_model.specs.Admission.{is_within_ratio_both_ways}
+use Rattle.dover_model.specs.Common.{JobFacts, IsJob, Fraction, total_value, is_within_ratio_both_ways}
 use Rattle.dover_model.proofs.lists.Members.{all_append, all_both, all_at}
 use Rattle.dover_model.proofs.valid.Valid.{all_from}
 use Rattle.dover_model.proofs.sessions.Growing.{all_behind}

@@ -2,9 +2,7 @@
 use Rattle.std.proofs.Common.{◌≡◌, ◌≤◌, [], ◌∷◌}
 use Rattle.std.specs.Prelude.{None}
 use Rattle.std.specs.List.{AllByRecursion}
-use Rattle.dover_model.specs.Admission.{refusal_of}
-use Rattle.dover_model.specs.Instance.{Instance, IsValid, declared_by, with_jobs}
-use Rattle.dover_model.specs.JobFacts.{JobFacts}
+use Rattle.dover_model.specs.Common.{refusal_of, Instance, IsValid, declared_by, with_jobs, JobFacts}
 use Rattle.dover_model.proofs.valid.Admitting.{admits}
 use Rattle.dover_model.proofs.sessions.Growing.{instance_with}
 use Rattle.dover_model.proofs.finishes.Meeting.{finishing_valid}

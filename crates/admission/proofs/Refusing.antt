@@ -5,12 +5,10 @@ use Rattle.std.proofs.lemmas.Nat.{mul-le}
 use Rattle.std.specs.Prelude.{nat_le, nat_lt}
 use Rattle.std.specs.List.{list_all}
 use Rattle.std.proofs.lemmas.Bool.{lt-leb, le-leb, lt-ltb, le-ltb, false≢true}
-use Rattle.dover_model.specs.Limits.{most_jobs, most_total}
+use Rattle.dover_model.specs.Common.{most_jobs, most_total, JobFacts, IsJob, is_job, Fraction, Declaration, total_value}
+use Rattle.dover_model.specs.Common.{is_within_ratio_both_ways, refusal_of}
 use Rattle.dover_model.specs.declared.events.Refusal.TheVariants.{BadJob, Count, Total, Ratio}
-use Rattle.dover_model.specs.JobFacts.{JobFacts, IsJob, is_job}
-use Rattle.dover_model.specs.Fraction.{Fraction}
-use Rattle.dover_model.specs.Instance.{Declaration, total_value}
-use Rattle.dover_model.specs.Admission.{is_within_ratio_both_ways, first_cause, refusal_of}
+use Rattle.dover_model.specs.Admission.{first_cause}
 use Rattle.dover_model.proofs.bound.Calculus.{cancel}
 use Rattle.dover_model.proofs.lists.Tests.{both, each}
 use Rattle.dover_model.proofs.lists.Members.{all_both, by_bool}

@@ -9,24 +9,15 @@ use Rattle.dover_model.specs.declared.events.Event.{Event}
 use Rattle.dover_model.specs.declared.events.Event.TheVariants as events
 use Rattle.dover_model.specs.declared.events.Version.{Version}
 use Rattle.dover_model.specs.declared.events.Version.TheVariants.{One, Two, Three}
-use Rattle.dover_model.specs.Fraction.{Fraction, is_ratio, is_some_factor, fraction}
+use Rattle.dover_model.specs.Common.{Fraction, is_ratio, is_some_factor, fraction, JobFacts, observed, most_ready}
+use Rattle.dover_model.specs.Common.{Instance, total_value, printed, completed_value, settled, Each, Prints}
+use Rattle.dover_model.specs.Common.{takes_or_abandons, Meets, worth, IsWithin, is_end_given, MayFollow, no_jobs}
+use Rattle.dover_model.specs.Common.{version_number}
 use Rattle.dover_model.specs.Finishes as early
-use Rattle.dover_model.specs.JobFacts.{JobFacts}
-use Rattle.dover_model.specs.Observed.{observed}
-use Rattle.dover_model.specs.Limits.{most_ready}
-use Rattle.dover_model.specs.Instance.{Instance, total_value}
-use Rattle.dover_model.specs.Run.{printed, completed_value}
-use Rattle.dover_model.specs.Settled.{settled}
-use Rattle.dover_model.specs.Sound.{Each}
-use Rattle.dover_model.specs.Step.{Prints}
-use Rattle.dover_model.specs.Underload.{takes_or_abandons}
-use Rattle.dover_model.specs.Schedules.{Meets, worth}
-use Rattle.dover_model.specs.Bound.{IsWithin}
 use Rattle.dover_model.proofs.lists.Members.{some_same}
 use Rattle.dover_model.proofs.lists.Tests.{never}
 use Rattle.dover_model.specs.declared.horizon.Horizon.{Horizon}
 use Rattle.dover_model.specs.declared.horizon.Horizon.TheVariants as horizon
-use Rattle.dover_model.specs.Horizons.{is_end_given, MayFollow, no_jobs}
 use Rattle.dover_engine.specs.declared.decision.Decision.{Decision}
 use Rattle.dover_engine.specs.declared.decision.Decision.TheVariants.{Release, Run, Preempt, Take, Complete, Abandon}
 use Rattle.dover_engine.specs.declared.decision.Decision.TheVariants.{End}
@@ -41,7 +32,6 @@ use Rattle.dover_c.specs.declared.Admitted.{Admitted}
 use Rattle.dover_c.specs.declared.Decided.{Decided}
 use Rattle.dover_c.specs.declared.slot.Slot.{Slot}
 use Rattle.dover_c.specs.Codes.{made_status, mark_code, numbers_of, IsStepOf, Stands, IsMade, IsFresh}
-use Rattle.dover_model.specs.Text.{version_number}
 use Rattle.dover_c.specs.Codes.{CallsOn, no_number, no_engine}
 use Rattle.dover_c.specs.Codes.{Admits, Ends, Steps, Finishes}
 use Rattle.dover_c.specs.Program.{Act, Admit, Done, Step, Finish, Ask, Drop, Does, DoesAll, IsProgram, told}

@@ -1,12 +1,10 @@
 //! An engine where one could be made, and its calls with answers in numbers.
 ghost use Rattle.std.specs.Prelude.{◌≡◌, ◌<◌};
-ghost use Rattle.dover_model.specs.Fraction.{fraction, with_factor};
-ghost use Rattle.dover_model.specs.JobFacts.{job_of_numbers};
+ghost use Rattle.dover_model.specs.Common.{fraction, with_factor, job_of_numbers, version_number};
 ghost use Rattle.dover_model.specs.declared.horizon.Horizon.TheVariants.{End};
 ghost use Rattle.dover_engine.specs.Calls.{Decides};
 ghost use Rattle.dover_c.specs.Codes.{IsMade, AdmitAnswers, StepAnswers, FinishAnswers, StatusAnswers, DropAnswers};
 ghost use Rattle.dover_c.specs.Codes.{ValueAnswers, HighAnswers, RoomAnswers, NextAnswers, SuccessorAnswers, due_of};
-ghost use Rattle.dover_model.specs.Text.{version_number};
 ghost use Rattle.dover_c.specs.Codes.{named_of, high_word, low_word};
 ghost use Rattle.dover_c.specs.Codes.{DoneSays, done_code};
 ghost use Rattle.dover_c.specs.Codes.{cause_code, other_in, made_code, mark_code, numbers_of, IsStepOf};

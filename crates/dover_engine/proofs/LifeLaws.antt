@@ -7,20 +7,10 @@ use Rattle.std.proofs.lemmas.List.{map-append}
 use Rattle.dover_model.specs.declared.events.Version.{Version}
 use Rattle.dover_model.specs.declared.events.Event.{Event}
 use Rattle.dover_model.specs.declared.events.Event.TheVariants as events
-use Rattle.dover_model.specs.Fraction.{Fraction}
-use Rattle.dover_model.specs.JobFacts.{JobFacts}
-use Rattle.dover_model.specs.Instance.{Rules, Instance, bare, having, with_jobs, with_finishes, total_value}
-use Rattle.dover_model.specs.Step.{Prints}
-use Rattle.dover_model.specs.Run.{printed, completed_value}
-use Rattle.dover_model.specs.Settled.{settled}
-use Rattle.dover_model.specs.Schedules.{Meets, worth}
-use Rattle.dover_model.specs.Bound.{IsWithin}
-use Rattle.dover_model.specs.Sound.{Each}
-use Rattle.dover_model.specs.Rest.{Turn, TurnsEnd, end_tick, one_run, turn_under, turns_jobs}
-use Rattle.dover_model.specs.Finishes.{Finish}
-use Rattle.dover_model.specs.Observed.{observed}
-use Rattle.dover_model.specs.Underload.{takes_or_abandons}
-use Rattle.dover_model.specs.WholeRun.{Begins}
+use Rattle.dover_model.specs.Common.{Fraction, JobFacts, Rules, Instance, bare, having, with_jobs, with_finishes}
+use Rattle.dover_model.specs.Common.{total_value, Prints, printed, completed_value, settled, Meets, worth, IsWithin}
+use Rattle.dover_model.specs.Common.{Each, Turn, TurnsEnd, end_tick, one_run, turn_under, turns_jobs, Finish, observed}
+use Rattle.dover_model.specs.Common.{takes_or_abandons, Begins, no_jobs}
 use Rattle.dover_model.proofs.rest.InTurns.{declared_within, observed_within}
 use Rattle.dover_model.proofs.lists.Members.{member_front}
 use Rattle.dover_model.proofs.rest.RestTick.{rests_from}
@@ -30,7 +20,6 @@ use Rattle.dover_model.proofs.rest.TurnsLosing.{one_run_loses_none, one_run_earn
 use Rattle.dover_model.proofs.runs.Runs.{last_value, value_last}
 use Rattle.dover_model.specs.declared.horizon.Horizon.{Horizon}
 use Rattle.dover_model.specs.declared.horizon.Horizon.TheVariants.{Mark}
-use Rattle.dover_model.specs.Horizons.{no_jobs}
 use Rattle.dover_engine.specs.declared.decision.Decision.{Decision}
 use Rattle.dover_engine.specs.Decisions.{event_in, events_in}
 use Rattle.dover_engine.specs.Life.{Life, done_value, has_ended, IsAtRest}

@@ -2,23 +2,14 @@
 //! nothing.
 ghost use Rattle.std.specs.Prelude.{None, ◌≡◌, ◌≤◌, ◌+◌, ◌-◌, ◌*◌, ℕ, List, length, true, false};
 ghost use Rattle.std.specs.List.{count_by};
-ghost use Rattle.dover_model.specs.Instance.{Instance, IsValid};
-ghost use Rattle.dover_model.specs.JobFacts.{JobFacts};
-ghost use Rattle.dover_model.specs.Schedules.{numbered, ticks_given, worth};
-ghost use Rattle.dover_model.specs.Run.{Step, run, ran, completed_value};
-ghost use Rattle.dover_model.specs.Bound.{IsWithin};
-ghost use Rattle.dover_model.specs.Finishes.{need};
-ghost use Rattle.dover_model.specs.Forward.{AreLoaded, gains_from};
-ghost use Rattle.dover_model.specs.Fraction.{Fraction};
-ghost use Rattle.dover_model.specs.Slower.{AskAtMost, IsWithinSlower, worth_by};
-ghost use Rattle.dover_model.specs.Observed.{end_state, observed};
-ghost use Rattle.dover_model.specs.State.{is_done};
-ghost use Rattle.dover_model.specs.declared.events.Task.{Task};
-ghost use Rattle.dover_model.specs.Sound.{IsMember};
-ghost use Rattle.dover_model.specs.Processor.{is_complete, is_take_of};
-ghost use Rattle.dover_model.specs.Switches.{gets, changes_hands, is_preempted, is_taken_from, is_complete_of, starts};
-ghost use Rattle.dover_model.specs.Switches.{returns, ComesBehind, may_preempt, may_take, most_changes, useful};
-ghost use Rattle.dover_model.specs.Switches.{NeedNoLess, AreOfTask};
+ghost use Rattle.dover_model.specs.Common.{Instance, IsValid, JobFacts, numbered, ticks_given, worth, Step, run, ran};
+ghost use Rattle.dover_model.specs.Common.{completed_value, IsWithin, need, gains_from, Fraction, IsWithinSlower};
+ghost use Rattle.dover_model.specs.Common.{worth_by, end_state, observed, is_done, Task, IsMember, is_complete};
+ghost use Rattle.dover_model.specs.Common.{is_take_of, gets, changes_hands, is_complete_of, starts, returns};
+ghost use Rattle.dover_model.specs.Common.{may_preempt, may_take, most_changes, useful, AreOfTask};
+ghost use Rattle.dover_model.specs.Forward.{AreLoaded};
+ghost use Rattle.dover_model.specs.Slower.{AskAtMost};
+ghost use Rattle.dover_model.specs.Switches.{is_preempted, is_taken_from, ComesBehind, NeedNoLess};
 
 /// A job gets the processor once, and once more for each time that it was preempted or that a take stopped it. Only
 /// jobs that are released no sooner and due before it preempt it, only jobs that are heavy against it take the

@@ -10,9 +10,8 @@ use Rattle.trace_words.specs.declared.report.form.Form.TheVariants.{Text, Table,
 use Rattle.stated_jobs.specs.declared.duel.links.Share.{Share}
 use Rattle.stated_jobs.specs.duel.Kept.{IsShare}
 use Rattle.run_reports.specs.declared.views.window.Window.{Window}
-use Rattle.dover_model.specs.Fraction.{Fraction, IsRatio, fraction, is_some_factor}
+use Rattle.dover_model.specs.Common.{Fraction, IsRatio, fraction, is_some_factor, numeral}
 use Rattle.dover_model.specs.declared.factors.Factor.{Factor}
-use Rattle.dover_model.specs.Numerals.{numeral}
 use Rattle.dover_model.proofs.texts.Numerals.{numeral-decimal}
 use Rattle.dover_top.specs.Requests.{Asks}
 use Rattle.dover_top.specs.Words.{IsFormed, factor_words, form_words, spelled}

@@ -2,16 +2,11 @@
 use Rattle.std.proofs.Common.{◌≡◌, ◌≤◌, ℕ, List, ◌++◌, Bool, true, refl, sym, ap, ◌∙◌, inl, inr, subst, take, drop}
 use Rattle.std.proofs.Common.{Option, Some, None}
 use Rattle.std.proofs.lemmas.List.{take-append-drop}
-use Rattle.dover_model.specs.Instance.{Instance, IsValid, jobs_under}
-use Rattle.dover_model.specs.JobFacts.{JobFacts}
-use Rattle.dover_model.specs.Session.{instance_of, IsDeclarable, takes_factors}
-use Rattle.dover_model.specs.Verdict.{verdict}
-use Rattle.dover_model.specs.Due.{due}
-use Rattle.dover_model.specs.Feed.{account, is_ended, is_open}
-use Rattle.dover_model.specs.Fraction.{Fraction, IsRatio}
+use Rattle.dover_model.specs.Common.{Instance, IsValid, jobs_under, JobFacts, instance_of, IsDeclarable, verdict, due}
+use Rattle.dover_model.specs.Common.{account, is_ended, is_open, Fraction, IsRatio, most_jobs}
+use Rattle.dover_model.specs.Session.{takes_factors}
 use Rattle.dover_model.specs.declared.factors.Factor.{Factor}
 use Rattle.dover_model.specs.declared.events.Version.{Version}
-use Rattle.dover_model.specs.Limits.{most_jobs}
 use Rattle.dover_model.specs.declared.events.Version.TheVariants.{One, Two}
 use Rattle.dover_model.proofs.traces.Accepting.{feed_hands, feed_accepted}
 use Rattle.dover_model.proofs.traces.AcceptedTexts.{accepted_is_trace}

@@ -3,10 +3,8 @@ use Rattle.std.proofs.Common.{◌≡◌, ℕ, List, ◌++◌, [], ◌∷◌, len
 use Rattle.std.proofs.Common.{true, false, cond, inl, inr, Result, Err, take, drop, append_assoc}
 use Rattle.std.proofs.lemmas.List.{append-nil, take-append-drop}
 use Rattle.dover_model.specs.Feed as feeds
-use Rattle.dover_model.specs.Feed.{no_lines, account, account_of_lines, is_open}
-use Rattle.dover_model.specs.Instance.{IsValid}
-use Rattle.dover_model.specs.JobFacts.{JobFacts}
-use Rattle.dover_model.specs.Lines.{lines_of, whole_lines, rest_of}
+use Rattle.dover_model.specs.Common.{no_lines, account, account_of_lines, is_open, IsValid, JobFacts, lines_of}
+use Rattle.dover_model.specs.Common.{whole_lines, rest_of}
 use Rattle.dover_model.proofs.sessions.Accounts.{Closes, HoldsBy, lines_goes}
 use Rattle.event_feed.specs.Answers.{EndAnswers, short_after}
 use Rattle.event_feed.specs.Kept as feed

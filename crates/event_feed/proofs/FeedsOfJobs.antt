@@ -10,17 +10,12 @@ use Rattle.std.proofs.lemmas.List.{append-nil, map-append}
 use Rattle.std.proofs.lemmas.List.Sums.{fold-append}
 use Rattle.dover_model.specs.declared.events.Refusal.{Refusal}
 use Rattle.dover_model.specs.declared.events.Refusal.TheVariants.{Full}
-use Rattle.dover_model.specs.Limits.{most_lines}
-use Rattle.dover_model.specs.JobFacts.{JobFacts, IsJob}
-use Rattle.dover_model.specs.Instance.{Declaration, declared_by, Instance, IsValid}
+use Rattle.dover_model.specs.Common.{most_lines, JobFacts, IsJob, Declaration, declared_by, Instance, IsValid}
+use Rattle.dover_model.specs.Common.{refusal_of, JobItem, instance_of, is_full, refusal_in, Session, session_with}
+use Rattle.dover_model.specs.Common.{IsNeverFull, IsDeclarable, session_of, JobLine, EndLine, feed_line, feed_text}
+use Rattle.dover_model.specs.Common.{Account, Ended, Lines, NotAdmitted, late_cause, with_line, with_fault, next_line}
+use Rattle.dover_model.specs.Common.{account_of_lines, account}
 use Rattle.dover_model.proofs.finishes.Meeting.{finishing_valid}
-use Rattle.dover_model.specs.Admission.{refusal_of}
-use Rattle.dover_model.specs.Session.{JobItem, instance_of, is_full, refusal_in, Session, session_with}
-use Rattle.dover_model.specs.Session.{IsNeverFull, IsDeclarable}
-use Rattle.dover_model.specs.Trace.{session_of}
-use Rattle.dover_model.specs.FeedLine.{JobLine, EndLine, feed_line, feed_text}
-use Rattle.dover_model.specs.Feed.{Account, Ended, Lines, NotAdmitted, late_cause, with_line, with_fault}
-use Rattle.dover_model.specs.Feed.{next_line, account_of_lines, account}
 use Rattle.dover_model.proofs.texts.Cuts.{HasNoFeed}
 use Rattle.dover_model.proofs.texts.FeedLines.{feed_line-feed_text}
 use Rattle.dover_model.proofs.sessions.Growing.{instance_with}

@@ -11,18 +11,13 @@ use Rattle.std.proofs.lemmas.List.{take-append-le, drop-append-le}
 use Rattle.std.proofs.lemmas.List.Sums.{fold-append}
 use Rattle.dover_model.specs.declared.events.Version.{Version}
 use Rattle.dover_model.specs.declared.events.Refusal.{Refusal}
-use Rattle.dover_model.specs.Finishes.{Finish}
-use Rattle.dover_model.specs.JobFacts.{JobFacts}
-use Rattle.dover_model.specs.Fraction.{Fraction}
-use Rattle.dover_model.specs.Instance.{Declaration, Instance, IsValid, under, with_jobs, finishing}
+use Rattle.dover_model.specs.Common.{Finish, JobFacts, Fraction, Declaration, Instance, IsValid, under, with_jobs}
+use Rattle.dover_model.specs.Common.{finishing, Account, Open, is_open, rules_with, Session, JobItem, FinishItem}
+use Rattle.dover_model.specs.Common.{EarlyFinish, RefusedDone, admitted_jobs, with_item, with_named, refused_at}
+use Rattle.dover_model.specs.Common.{refused_done_at, early_at, finish_at, is_right, instance_of, early_finishes}
+use Rattle.dover_model.specs.Common.{may_finish_early, is_full, settled_state, is_running, most_ready, RefusedJob}
 use Rattle.dover_model.specs.Feed as feeds
-use Rattle.dover_model.specs.Feed.{Account, Open, is_open, rules_with}
-use Rattle.dover_model.specs.Session.{Session, JobItem, FinishItem, EarlyFinish, RefusedDone, admitted_jobs, with_item}
-use Rattle.dover_model.specs.Session.{with_named, refused_at, refused_done_at, early_at, finish_at, is_right}
-use Rattle.dover_model.specs.Session.{instance_of, early_finishes, may_finish_early, is_full}
 use Rattle.dover_model.specs.declared.events.Refusal.TheVariants.{Full}
-use Rattle.dover_model.specs.Settled.{settled_state}
-use Rattle.dover_model.specs.State.{is_running}
 use Rattle.dover_model.proofs.sessions.Accounts.{IsKept, Holds, HoldsBy}
 use Rattle.dover_model.proofs.settled.Barriers.{settled_at_barrier}
 use Rattle.dover_model.proofs.sessions.Growing.{job_instance, refused_instance, finish_instance}
@@ -32,8 +27,6 @@ use Rattle.dover_model.proofs.finishes.RightFinishes.{none_other}
 use Rattle.dover_model.proofs.valid.Valid.{all_from}
 use Rattle.event_feed.proofs.Admitting.{job_more, refused_more, admitted_by}
 use Rattle.dover_model.proofs.sessions.Fullness.{few_ready, full_many}
-use Rattle.dover_model.specs.Limits.{most_ready}
-use Rattle.dover_model.specs.Session.{RefusedJob}
 use Rattle.event_feed.proofs.DoneLines.{session_done, done_session, done_jobs, done_mark}
 use Rattle.event_feed.specs.Answers.{AddsJob, AddsRefused, AddsDone, MovesMark, counted}
 use Rattle.event_feed.specs.Answers.{admitted_in}

@@ -5,11 +5,8 @@ use Rattle.std.specs.List.{fold}
 use Rattle.std.specs.Prelude.{nat_lt, IsSome}
 use Rattle.std.proofs.lemmas.Bool.{le-ltb}
 use Rattle.std.proofs.lemmas.List.Sums.{fold-append}
-use Rattle.dover_model.specs.Limits.{most_lines, last_tick}
-use Rattle.dover_model.specs.Session.{Session}
-use Rattle.dover_model.specs.FeedLine.{TickLine, feed_line, feed_text}
-use Rattle.dover_model.specs.Feed.{Account, Open, Order, Lines, with_fault, with_line, next_line, no_lines}
-use Rattle.dover_model.specs.Feed.{account_of_lines}
+use Rattle.dover_model.specs.Common.{most_lines, last_tick, Session, TickLine, feed_line, feed_text, Account, Open}
+use Rattle.dover_model.specs.Common.{Order, Lines, with_fault, with_line, next_line, no_lines, account_of_lines}
 use Rattle.dover_model.proofs.texts.FeedLines.{feed_line-feed_text}
 use Rattle.dover_model.proofs.sessions.Accounts.{HoldsBy, HoldsOpen, Holds, IsKept, lines_goes}
 use Rattle.event_feed.specs.declared.intake.Standing.TheVariants as standings

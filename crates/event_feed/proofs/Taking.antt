@@ -4,13 +4,10 @@ use Rattle.std.proofs.Common.{◌∙◌, subst, cond, true, false, Option, Some,
 use Rattle.std.specs.Prelude.{IsSome}
 use Rattle.std.proofs.lemmas.Bool.{le-ltb}
 use Rattle.std.proofs.lemmas.List.Sums.{fold-append}
-use Rattle.dover_model.specs.Limits.{most_lines}
-use Rattle.dover_model.specs.Session.{Session}
-use Rattle.dover_model.specs.FeedLine.{FeedLine, feed_line}
+use Rattle.dover_model.specs.Common.{most_lines, Session, FeedLine, feed_line, Account, Standing, Open, Ended, cause_of}
+use Rattle.dover_model.specs.Common.{with_line, with_fault, read_line, next_line, no_lines, is_open, account_of_lines}
+use Rattle.dover_model.specs.Common.{most_lines_in}
 use Rattle.dover_model.specs.Feed as model
-use Rattle.dover_model.specs.Feed.{Account, Standing, Open, Ended, cause_of, with_line}
-use Rattle.dover_model.specs.Feed.{with_fault, read_line, next_line, no_lines, is_open, account_of_lines}
-use Rattle.dover_model.specs.Feed.{most_lines_in}
 use Rattle.event_feed.specs.declared.faults.Cause.{Cause}
 use Rattle.event_feed.specs.declared.faults.FeedFault.{FeedFault}
 use Rattle.event_feed.specs.declared.intake.Standing as standings

@@ -1,7 +1,6 @@
 -- What is kept of a feed.
 use Rattle.std.specs.Prelude.{◌≡◌, ◌≢◌, ◌⊎◌, ℕ, ◌≤◌, List, [], ◌∷◌, ◌++◌, length, Some, true, false}
-use Rattle.dover_model.specs.Feed.{account_of_lines}
-use Rattle.dover_model.specs.Lines.{lines_of, rest_of, is_too_long}
+use Rattle.dover_model.specs.Common.{account_of_lines, lines_of, rest_of, is_too_long}
 use Rattle.line_text.specs.Cutting as cutting
 use Rattle.event_feed.specs.Faults.{IsFirstFault}
 use Rattle.event_feed.specs.Kept as feed

@@ -2,17 +2,13 @@
 use Rattle.std.specs.Prelude.{◌≡◌, ℕ, ◌≤◌, List, [], ◌∷◌, ◌++◌, length, take, drop, Bool, true, false, not, ◌&&◌}
 use Rattle.std.specs.Prelude.{nat_lt, Option, Some, None}
 use Rattle.std.specs.List.{fold, count_by, AllByRecursion}
-use Rattle.dover_model.specs.Limits.{last_tick, most_jobs}
+use Rattle.dover_model.specs.Common.{last_tick, most_jobs, Finish, Fraction, JobFacts, Declaration, Instance, under}
+use Rattle.dover_model.specs.Common.{Account, rules_with, is_open, Item, JobItem, RefusedItem, FinishItem, RefusedLine}
+use Rattle.dover_model.specs.Common.{RefusedJob, RefusedDone, EarlyFinish, Session, instance_of, finish_at}
+use Rattle.dover_model.specs.Common.{admitted_jobs, is_same_refusal}
 use Rattle.dover_model.specs.declared.events.Refusal.TheVariants.{Full}
 use Rattle.dover_model.specs.declared.events.Version.{Version}
 use Rattle.dover_model.specs.declared.events.Version.TheVariants.{Two}
-use Rattle.dover_model.specs.Finishes.{Finish}
-use Rattle.dover_model.specs.Fraction.{Fraction}
-use Rattle.dover_model.specs.JobFacts.{JobFacts}
-use Rattle.dover_model.specs.Instance.{Declaration, Instance, under}
-use Rattle.dover_model.specs.Feed.{Account, rules_with, is_open}
-use Rattle.dover_model.specs.Session.{Item, JobItem, RefusedItem, FinishItem, RefusedLine, RefusedJob, RefusedDone}
-use Rattle.dover_model.specs.Session.{EarlyFinish, Session, instance_of, finish_at, admitted_jobs, is_same_refusal}
 use Rattle.event_feed.specs.declared.listed.DoneLine.{DoneLine}
 use Rattle.event_feed.specs.declared.listed.Listed.{Listed}
 

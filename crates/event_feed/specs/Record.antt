@@ -1,8 +1,7 @@
 -- What is known of a feed whose reading has ended.
 use Rattle.std.specs.Prelude.{◌≡◌, ◌⊎◌, ℕ, List, true, false, Some, length}
-use Rattle.dover_model.specs.Feed.{Account, Ended, Faulty, is_open, account}
-use Rattle.dover_model.specs.Lines.{whole_lines}
-use Rattle.dover_model.specs.Session.{Session, IsValidSession, instance_of}
+use Rattle.dover_model.specs.Common.{Account, Ended, Faulty, is_open, account, whole_lines, Session, IsValidSession}
+use Rattle.dover_model.specs.Common.{instance_of}
 use Rattle.event_feed.specs.Answers.{short_after}
 use Rattle.event_feed.specs.Faults.{IsFaultIn}
 use Rattle.event_feed.specs.Kept.{cause_of_fault}

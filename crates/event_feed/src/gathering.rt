@@ -1,10 +1,9 @@
 //! What is kept of a feed between its lines.
 ghost use Rattle.std.specs.Prelude.{◌≡◌, ◌<◌, ◌≤◌, ◌∷◌, ◌++◌, ℕ, List, [], length, true, false, OnOk, OnErr};
-ghost use Rattle.dover_model.specs.Feed.{account_of_lines};
+ghost use Rattle.dover_model.specs.Common.{account_of_lines, most_jobs};
 ghost use Rattle.event_feed.specs.Answers.{admitted_in};
 ghost use Rattle.event_feed.specs.Keeping.{Keeps, KeepsDone};
 ghost use Rattle.event_feed.specs.Kept as feed;
-ghost use Rattle.dover_model.specs.Limits.{most_jobs};
 ghost use Rattle.dover_model.specs.declared.events.Version.TheVariants.{Two};
 
 use crate::fed::Fed;

@@ -5,12 +5,10 @@ use Rattle.std.specs.List.{sum_by}
 use Rattle.std.proofs.lemmas.List.Sums.{sum_by-cons}
 use Rattle.std.specs.Prelude.{unwrap_or}
 use Rattle.dover_model.specs.declared.events.Entry.{Entry}
-use Rattle.dover_model.specs.Sound.{IsMember}
+use Rattle.dover_model.specs.Common.{IsMember, least, left, demand_up_to, room, room_of, entry_of}
 use Rattle.held_stack.specs.Stack.{put_in, by_deadline, room_at}
-use Rattle.dover_model.specs.State.{least, left, demand_up_to, room}
 use Rattle.held_stack.proofs.FirstDue.{least_cons, demand}
 use Rattle.dover_model.proofs.lists.Members.{sum_filter, map_same, sum_map, map_map}
-use Rattle.dover_model.specs.Entries.{room_of, entry_of}
 use Rattle.dover_model.specs.declared.events.Task.{Task}
 
 -- ---- members

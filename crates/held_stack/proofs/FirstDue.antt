@@ -4,9 +4,7 @@ use Rattle.std.proofs.Common.{refl, sym, ap, ◌∙◌, subst, arith, nat_lt, co
 use Rattle.std.specs.List.{filter, sum_by}
 use Rattle.std.proofs.lemmas.List.Sums.{sum_by-cons}
 use Rattle.dover_model.specs.declared.events.Entry.{Entry}
-use Rattle.dover_model.specs.State.{least, demand_by}
-use Rattle.dover_model.specs.Entries.{room_of}
-use Rattle.dover_model.specs.Sound.{IsMember, Each}
+use Rattle.dover_model.specs.Common.{least, demand_by, room_of, IsMember, Each}
 use Rattle.dover_model.proofs.lists.Members.{some_same, sum_filter, sum_zero}
 use Rattle.dover_model.proofs.lists.Tests.{none_is_some}
 use Rattle.held_stack.specs.Stack.{room_at}

@@ -5,8 +5,7 @@ use Rattle.std.specs.List.{AllByRecursion}
 use Rattle.std.proofs.lemmas.List.{reverse-append}
 use Rattle.std.proofs.lemmas.List.Sums.{sum_by-cons}
 use Rattle.dover_model.specs.declared.events.Entry.{Entry}
-use Rattle.dover_model.specs.Entries.{room_of}
-use Rattle.dover_model.specs.Sound.{Each}
+use Rattle.dover_model.specs.Common.{room_of, Each}
 use Rattle.held_stack.specs.Kept.{Lasting, AreRoomsOf, untils_of, first_of}
 use Rattle.held_stack.specs.Stack.{value_of, room_at, IsByDeadline, IsDueBeforeAll, IsDueBeforeTop}
 use Rattle.held_stack.proofs.FirstDue.{room_later}

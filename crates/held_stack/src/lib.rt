@@ -2,8 +2,7 @@
 #![tactic(auto)]
 
 ghost use Rattle.std.specs.Prelude.{◌≡◌, ◌-◌, ◌^◌, ◌<◌, ◌≤◌, [], ◌∷◌, max, IfOk, IsOk, OnOk, OnErr};
-ghost use Rattle.dover_model.specs.Entries.{room_of};
-ghost use Rattle.dover_model.specs.Sound.{Each};
+ghost use Rattle.dover_model.specs.Common.{room_of, Each};
 ghost use Rattle.held_stack.specs.Stack.{Stack, top_of, value_of, IsByDeadline, IsDueBeforeTop};
 ghost use Rattle.held_stack.specs.Stack.{without_top};
 

@@ -6,24 +6,16 @@ use Rattle.std.specs.Prelude.{drop}
 use Rattle.std.proofs.lemmas.List.Sums.{fold-append}
 use Rattle.dover_model.specs.declared.events.Event.{Event}
 use Rattle.dover_model.specs.declared.events.Version.{Version}
-use Rattle.dover_model.specs.Fraction.{Fraction}
-use Rattle.dover_model.specs.Instance.{Declaration, IsValid}
-use Rattle.dover_model.specs.Session.{RefusedItem, Refused, RefusedLine, Session, instance_of, new_session}
-use Rattle.dover_model.specs.Session.{with_item}
-use Rattle.dover_model.specs.Run.{printed}
-use Rattle.dover_model.specs.Settled.{settled}
-use Rattle.dover_model.specs.WholeRun.{Begins}
-use Rattle.dover_model.specs.Text.{header, text_of, refused_text}
-use Rattle.dover_model.specs.Trace.{Printed, text_of_line, texts_among}
-use Rattle.dover_model.specs.Feed.{read_line, Account, Standing, Open, Ended, Faulty, Cause, rules_with, no_lines}
-use Rattle.dover_model.specs.Feed.{next_line, account_of_lines, is_open}
-use Rattle.dover_model.specs.Due.{due_lines, fault_text}
+use Rattle.dover_model.specs.Common.{Fraction, Declaration, IsValid, RefusedItem, Refused, RefusedLine, Session}
+use Rattle.dover_model.specs.Common.{instance_of, new_session, with_item, printed, settled, Begins, header, text_of}
+use Rattle.dover_model.specs.Common.{refused_text, Printed, text_of_line, texts_among, read_line, Account, Standing}
+use Rattle.dover_model.specs.Common.{Open, Ended, Faulty, Cause, rules_with, no_lines, next_line, account_of_lines}
+use Rattle.dover_model.specs.Common.{is_open, due_lines, fault_text, no_jobs, due_by}
 use Rattle.dover_model.proofs.sessions.Accounts.{Holds, HoldsBy, IsKept, lines_goes, account_with}
 use Rattle.dover_model.proofs.sessions.Emitting.{texts_more, texts_refused}
 use Rattle.dover_model.proofs.sessions.Growing.{settled_later, settled_of_run}
 use Rattle.dover_model.proofs.sessions.Growing.{refused_instance}
 use Rattle.dover_model.specs.declared.horizon.Horizon.TheVariants.{Mark, End}
-use Rattle.dover_model.specs.Horizons.{no_jobs, due_by}
 use Rattle.event_feed.specs.Kept.{cause_of_fault}
 use Rattle.event_feed.specs.Answers.{DeclaresRatio, MovesMark, EndsFeed, NewFault, OldFault}
 use Rattle.event_feed.specs.Answers.{counted}

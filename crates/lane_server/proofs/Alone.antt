@@ -13,11 +13,9 @@ use Rattle.std.proofs.lemmas.Grind.{flat_map-append}
 use Rattle.std.proofs.lemmas.List.Splits.{length-slice_split}
 use Rattle.std.proofs.lemmas.Slice.Eq.{bytes_eq-Decides}
 use Rattle.dover_model.specs.declared.events.Version.TheVariants.{Three}
-use Rattle.dover_model.specs.Limits.{most_lines}
-use Rattle.dover_model.specs.Numerals.{numeral}
-use Rattle.dover_model.specs.Lines.{fields_of, line_of, in_lines, whole_lines, lines_of, is_too_long}
-use Rattle.dover_model.specs.Feed.{account_of_lines, account}
-use Rattle.dover_model.specs.Due.{due, due_lines, closed, short_lines}
+use Rattle.dover_model.specs.Common.{most_lines, numeral, fields_of, line_of, in_lines, whole_lines, lines_of}
+use Rattle.dover_model.specs.Common.{is_too_long, account_of_lines, account, due, due_lines, closed, short_lines}
+use Rattle.dover_model.specs.Common.{refused_line}
 use Rattle.dover_model.proofs.lists.Beginnings.{in_lines-append}
 use Rattle.dover_model.proofs.texts.Cuts.{CutText, HasNoFeed, cut_in_lines}
 use Rattle.dover_model.proofs.texts.Fields.{is_space, HasNoSpace, digits_have_no_space, line_of-fields_of}
@@ -31,7 +29,6 @@ use Rattle.lane_server.specs.Lanes.{TooManyLines, BadLane, no_input, next_line, 
 use Rattle.lane_server.specs.Lanes.{input, lane_lines, lane_account}
 use Rattle.lane_server.specs.Lanes.{in_lane, lines_added, newly_due, due_after, feed_short, lane_short, shorts_from}
 use Rattle.lane_server.specs.Lanes.{fault_word}
-use Rattle.dover_model.specs.Text.{refused_line}
 use Rattle.lane_server.specs.Lanes.{closing_lines, lanes_closed}
 use Rattle.lane_server.specs.Alone.{behind_number, text_of_lane, lane_feed, closed_feed, served_alone}
 use Rattle.lane_server.proofs.Feeding.{due_added}

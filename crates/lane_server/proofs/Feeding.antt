@@ -6,16 +6,11 @@ use Rattle.std.proofs.lemmas.List.{append-nil}
 use Rattle.std.specs.Prelude.{OnOk, OnErr, None, length}
 use Rattle.std.specs.Option.{option_map}
 use Rattle.dover_model.specs.declared.Memory.{Memory}
-use Rattle.dover_model.specs.Due.{due_lines}
-use Rattle.dover_model.specs.Feed.{Account, Standing, Open, Ended, Faulty, account, account_of_lines, is_open, is_ended}
-use Rattle.dover_model.specs.Feed.{next_line}
-use Rattle.dover_model.specs.Lines.{lines_of, rest_of, is_too_long}
-use Rattle.dover_model.specs.Session.{Session, instance_of, admitted_jobs}
-use Rattle.dover_model.specs.Settled.{settled}
-use Rattle.dover_model.specs.WholeRun.{Begins}
+use Rattle.dover_model.specs.Common.{due_lines, Account, Standing, Open, Ended, Faulty, account, account_of_lines}
+use Rattle.dover_model.specs.Common.{is_open, is_ended, next_line, lines_of, rest_of, is_too_long, Session, instance_of}
+use Rattle.dover_model.specs.Common.{admitted_jobs, settled, Begins, due_by}
 use Rattle.dover_model.proofs.sessions.Accounts.{lines_goes}
 use Rattle.line_text.specs.Cutting.{Cutting, StandsFor, with_byte}
-use Rattle.dover_model.specs.Horizons.{due_by}
 use Rattle.dover_model.specs.declared.horizon.Horizon.TheVariants.{Mark}
 use Rattle.event_feed.specs.Kept as feed
 use Rattle.event_feed.proofs.GoingOn.{open_short}

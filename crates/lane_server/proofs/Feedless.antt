@@ -5,14 +5,13 @@ use Rattle.std.proofs.Common.{true, false}
 use Rattle.std.proofs.Common.{cond, not, ◌&&◌, decimal, codes}
 use Rattle.std.specs.List.{AllByRecursion, slice_split, onto_first}
 use Rattle.std.proofs.lemmas.Bool.{and_from}
-use Rattle.dover_model.specs.Lines.{whole_and_rest, whole_lines, rest_of, lines_of, is_too_long}
-use Rattle.dover_model.specs.Session.{Session, instance_of}
-use Rattle.dover_model.specs.Run.{printed}
-use Rattle.dover_model.specs.Settled.{settled}
-use Rattle.dover_model.specs.Trace.{texts_among}
-use Rattle.dover_model.specs.Feed.{Account, Standing, Open, Ended, Faulty, Cause, Lines, Line, Declared, Order}
-use Rattle.dover_model.specs.Feed.{NotAdmitted, NotDone, Short, is_ended, is_open}
-use Rattle.dover_model.specs.Due.{due_lines, decided_lines, fault_lines, fault_text, cause_word, short_lines}
+use Rattle.dover_model.specs.Common.{whole_lines, rest_of, lines_of, is_too_long, Session, instance_of, printed}
+use Rattle.dover_model.specs.Common.{settled, texts_among, Account, Standing, Open, Ended, Faulty, Cause, Lines, Line}
+use Rattle.dover_model.specs.Common.{Declared, Order, NotAdmitted, NotDone, is_ended, is_open, due_lines, decided_lines}
+use Rattle.dover_model.specs.Common.{fault_text, short_lines}
+use Rattle.dover_model.specs.Lines.{whole_and_rest}
+use Rattle.dover_model.specs.Feed.{Short}
+use Rattle.dover_model.specs.Due.{fault_lines, cause_word}
 use Rattle.dover_model.proofs.texts.Cuts.{is_feed, HasNoFeed}
 use Rattle.dover_model.proofs.lists.Members.{all_append}
 use Rattle.dover_model.proofs.texts.NoFeeds.{feedless_line, feedless_decimal, feedless_refusal, feedless_texts}

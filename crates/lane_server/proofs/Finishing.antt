@@ -9,17 +9,11 @@ use Rattle.dover_model.specs.declared.events.Event.{Event}
 use Rattle.dover_model.specs.declared.events.Event.TheVariants.{Complete}
 use Rattle.dover_model.specs.declared.horizon.Horizon.{Horizon}
 use Rattle.dover_model.specs.declared.horizon.Horizon.TheVariants.{Mark}
-use Rattle.dover_model.specs.Horizons.{due_by}
-use Rattle.dover_model.specs.Instance.{Instance, IsValid, with_finishes}
-use Rattle.dover_model.specs.Session.{Session, FinishItem, RefusedItem, EarlyFinish, Refused, RefusedDone, instance_of}
-use Rattle.dover_model.specs.Session.{with_item, with_named, refused_done_at, early_at, finish_at, may_finish_early}
-use Rattle.dover_model.specs.Settled.{settled}
-use Rattle.dover_model.specs.Text.{header, text_of, refused_text, step_numbers}
-use Rattle.dover_model.specs.Trace.{text_of_line, texts_among, places_of, put_in}
-use Rattle.dover_model.specs.Numerals.{AreShort}
-use Rattle.dover_model.specs.WholeRun.{Begins}
-use Rattle.dover_model.specs.Feed.{Account, Open}
-use Rattle.dover_model.specs.Due.{due_lines}
+use Rattle.dover_model.specs.Common.{due_by, Instance, IsValid, with_finishes, Session, FinishItem, RefusedItem}
+use Rattle.dover_model.specs.Common.{EarlyFinish, Refused, RefusedDone, instance_of, with_item, with_named}
+use Rattle.dover_model.specs.Common.{refused_done_at, early_at, finish_at, may_finish_early, settled, header, text_of}
+use Rattle.dover_model.specs.Common.{refused_text, step_numbers, text_of_line, texts_among, places_of, put_in, AreShort}
+use Rattle.dover_model.specs.Common.{Begins, Account, Open, due_lines}
 use Rattle.dover_model.proofs.sessions.Accounts.{IsKept}
 use Rattle.dover_model.proofs.lists.Beginnings.{begins_all, begins_onward}
 use Rattle.dover_model.proofs.sessions.Emitting.{texts_more, texts_refused}

@@ -8,10 +8,8 @@ use Rattle.std.proofs.lemmas.Bool.{ne_eqb, eqb-false, lt-ltb}
 use Rattle.std.proofs.lemmas.List.{append-nil, map-append}
 use Rattle.std.proofs.lemmas.List.Elements.{filter-append}
 use Rattle.std.proofs.lemmas.List.Splits.{join_with_byte-slice_split, length-slice_split}
-use Rattle.dover_model.specs.Lines.{fields_of, line_of}
-use Rattle.dover_model.specs.Numerals.{numeral}
+use Rattle.dover_model.specs.Common.{fields_of, line_of, numeral, fault_text}
 use Rattle.dover_model.specs.Feed.{Short}
-use Rattle.dover_model.specs.Due.{fault_text}
 use Rattle.line_text.specs.Reading.{number_of_first}
 use Rattle.lane_server.specs.Lanes.{lane_count, OfLane, numbered_line, of_lane, Handed}
 use Rattle.lane_server.specs.Lanes.{lane_lines, in_lane, feed_short, lane_short, shorts_from}

@@ -8,9 +8,7 @@ use Rattle.std.specs.List.{fold}
 use Rattle.std.proofs.lemmas.Bool.{lt-ltb, ltb-true, ltb-false}
 use Rattle.std.proofs.lemmas.List.Sums.{fold-append}
 use Rattle.dover_model.specs.declared.events.Version.TheVariants.{Three}
-use Rattle.dover_model.specs.Limits.{most_lines}
-use Rattle.dover_model.specs.Lines.{whole_lines, rest_of, lines_of, is_too_long, fields_of}
-use Rattle.dover_model.specs.WholeRun.{Begins}
+use Rattle.dover_model.specs.Common.{most_lines, whole_lines, rest_of, lines_of, is_too_long, fields_of, Begins}
 use Rattle.dover_model.proofs.texts.GrowingTexts.{read_append}
 use Rattle.dover_model.proofs.lists.Beginnings.{begins_in_lines}
 use Rattle.dover_model.proofs.lists.Tests.{never}

@@ -4,23 +4,14 @@ use Rattle.std.proofs.Common.{subst, Some, cond, Bool, true, false, arith, Ok}
 use Rattle.std.proofs.Common.{length-append}
 use Rattle.std.proofs.lemmas.List.{append_assoc, same_from_push}
 use Rattle.std.proofs.lemmas.List.Sums.{sum_by-append, sum_by-cons}
-use Rattle.dover_model.specs.Limits.{last_tick}
+use Rattle.dover_model.specs.Common.{last_tick, due_by, JobFacts, Instance, IsValid, with_jobs, Session, Item, JobItem}
+use Rattle.dover_model.specs.Common.{RefusedItem, Refused, RefusedJob, instance_of, admitted_jobs, with_item}
+use Rattle.dover_model.specs.Common.{refused_at, is_full, settled, text_of, refused_text, step_numbers, texts_among}
+use Rattle.dover_model.specs.Common.{AreShort, Begins, Account, Open, account_of_lines, due_lines}
 use Rattle.dover_model.specs.declared.events.Event.{Event}
 use Rattle.dover_model.specs.declared.events.Refusal.TheVariants.{Full}
 use Rattle.dover_model.specs.declared.horizon.Horizon.{Horizon}
 use Rattle.dover_model.specs.declared.horizon.Horizon.TheVariants.{Mark}
-use Rattle.dover_model.specs.Horizons.{due_by}
-use Rattle.dover_model.specs.JobFacts.{JobFacts}
-use Rattle.dover_model.specs.Instance.{Instance, IsValid, with_jobs}
-use Rattle.dover_model.specs.Session.{Session, Item, JobItem, RefusedItem, Refused, RefusedJob, instance_of}
-use Rattle.dover_model.specs.Session.{admitted_jobs, with_item, refused_at, is_full}
-use Rattle.dover_model.specs.Settled.{settled}
-use Rattle.dover_model.specs.Text.{text_of, refused_text, step_numbers}
-use Rattle.dover_model.specs.Trace.{texts_among}
-use Rattle.dover_model.specs.Numerals.{AreShort}
-use Rattle.dover_model.specs.WholeRun.{Begins}
-use Rattle.dover_model.specs.Feed.{Account, Open, account_of_lines}
-use Rattle.dover_model.specs.Due.{due_lines}
 use Rattle.dover_model.proofs.valid.JobLimits.{job_limits}
 use Rattle.dover_model.proofs.sessions.Accounts.{IsKept}
 use Rattle.dover_model.proofs.valid.Admitting.{not_refused}

@@ -4,15 +4,13 @@ use Rattle.std.proofs.Common.{Option, Some, None, Result, Ok, Err, Bool, true, f
 use Rattle.std.specs.Option.{IsNone}
 use Rattle.dover_model.specs.declared.Memory.{Memory}
 use Rattle.dover_model.specs.declared.events.Version.TheVariants.{Three}
-use Rattle.dover_model.specs.Limits.{most_lines}
-use Rattle.dover_model.specs.Lines.{lines_of, whole_lines}
+use Rattle.dover_model.specs.Common.{most_lines, lines_of, whole_lines, refused_line}
 use Rattle.dover_model.proofs.lists.Tests.{never}
 use Rattle.line_text.specs.Cutting as cuts
 use Rattle.lane_server.specs.Lanes as lanes
 use Rattle.lane_server.specs.Lanes.{OfLane, lane_line, Handed, Input, InputStanding, InputFault, Open, Closed, Faulty}
 use Rattle.lane_server.specs.Lanes.{HasLine, goes_on_at, goes_on, input, input_of_lines, newly_due, due_after}
 use Rattle.lane_server.specs.Lanes.{lane_count, shorts_from, closing_lines, fault_word}
-use Rattle.dover_model.specs.Text.{refused_line}
 use Rattle.lane_server.specs.Kept as keeping
 use Rattle.lane_server.specs.Kept.{Kept, StandsFor, AllStand, Answers, IsReady, is_closed, GivesNext}
 use Rattle.lane_server.specs.LaneInput.{word_of, standing_of, LeavesAt, Holds, Stands, Rests, Hands, Adds}

@@ -8,9 +8,7 @@ use Rattle.std.proofs.lemmas.List.{map-append}
 use Rattle.std.proofs.lemmas.List.Elements.{filter-append}
 use Rattle.std.proofs.lemmas.List.Sums.{sum_by-cons}
 use Rattle.std.proofs.lemmas.Option.{slice_get_read}
-use Rattle.dover_model.specs.Feed.{account, account_of_lines}
-use Rattle.dover_model.specs.Lines.{in_lines}
-use Rattle.dover_model.specs.Spending.{CostsAtMost}
+use Rattle.dover_model.specs.Common.{account, account_of_lines, in_lines, CostsAtMost}
 use Rattle.dover_model.proofs.lists.Beginnings.{in_lines-append}
 use Rattle.dover_model.proofs.runs.Spending.{none_few, few_more}
 use Rattle.event_feed.specs.Answers.{admitted_in}

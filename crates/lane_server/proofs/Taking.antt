@@ -4,18 +4,13 @@ use Rattle.std.proofs.Common.{Bool, true, false, Result, Ok, arith, max, ◌≤�
 use Rattle.std.proofs.lemmas.List.{append-nil}
 use Rattle.dover_model.specs.declared.events.Version.{Version}
 use Rattle.dover_model.specs.declared.events.Refusal.{Refusal}
-use Rattle.dover_model.specs.JobFacts.{JobFacts, job_of_numbers}
-use Rattle.dover_model.specs.Fraction.{Fraction}
-use Rattle.dover_model.specs.Session.{RefusedItem, RefusedLine, RefusedJob, RefusedDone, Session}
-use Rattle.dover_model.specs.Session.{new_session, with_item}
-use Rattle.dover_model.specs.Feed.{Account, Open, Ended, account_of_lines, is_open, rules_with}
-use Rattle.dover_model.specs.Due.{due_lines}
-use Rattle.dover_model.specs.Text.{header, refused_text}
-use Rattle.dover_model.specs.Instance.{Instance}
+use Rattle.dover_model.specs.Common.{JobFacts, job_of_numbers, Fraction, RefusedItem, RefusedLine, RefusedJob}
+use Rattle.dover_model.specs.Common.{RefusedDone, Session, new_session, with_item, Account, Open, Ended}
+use Rattle.dover_model.specs.Common.{account_of_lines, is_open, rules_with, due_lines, header, refused_text, Instance}
+use Rattle.dover_model.specs.Common.{no_jobs}
 use Rattle.dover_model.specs.declared.events.Event.{Event}
 use Rattle.dover_model.specs.declared.horizon.Horizon.{Horizon}
 use Rattle.dover_model.specs.declared.horizon.Horizon.TheVariants.{Mark, End}
-use Rattle.dover_model.specs.Horizons.{no_jobs}
 use Rattle.event_feed.specs.Kept as feed
 use Rattle.event_feed.specs.Answers.{DeclaresRatio, AddsJob, MovesMark, EndsFeed, AddsRefused, AddsDone, NewFault}
 use Rattle.event_feed.specs.Answers.{IsFed, counted, offered_item}

@@ -1,7 +1,6 @@
 //! One feed, byte by byte: its intake and its server.
 ghost use Rattle.std.specs.Prelude.{◌≡◌, ◌<◌, ◌∷◌, ℕ, List, [], Bool, true, length, OnOk};
-ghost use Rattle.dover_model.specs.Feed.{account, is_open};
-ghost use Rattle.dover_model.specs.Lines.{lines_of, rest_of};
+ghost use Rattle.dover_model.specs.Common.{account, is_open, lines_of, rest_of};
 ghost use Rattle.line_text.specs.Cutting.{IsWholeLine, begun_line};
 ghost use Rattle.lane_server.specs.Lane.{IsQuiet};
 ghost use Rattle.lane_server.specs.Feeding.{FeedStands, FeedRests, FeedGives, Hands, Takes};

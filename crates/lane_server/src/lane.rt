@@ -19,16 +19,13 @@ ghost use Rattle.std.specs.Prelude.{
   OnErr,
 };
 ghost use Rattle.std.specs.Option.{option_map};
-ghost use Rattle.dover_model.specs.Feed.{Account, account_of_lines, is_open};
-ghost use Rattle.dover_model.specs.Session.{admitted_jobs};
-ghost use Rattle.dover_model.specs.Spending.{CostsAtMost};
+ghost use Rattle.dover_model.specs.Common.{Account, account_of_lines, is_open, admitted_jobs, CostsAtMost, JobFacts};
 ghost use Rattle.event_feed.specs.Answers.{DeclaresRatio, AddsJob, AddsDone, IsFed, EndAnswers, counted, admitted_in};
 ghost use Rattle.event_feed.specs.Kept.{fault_of};
 ghost use Rattle.dover_model.specs.declared.events.Refusal.TheVariants.{Full};
 ghost use Rattle.event_feed.specs.declared.due_line.DueLine.TheVariants.{Header, Refuse};
 ghost use Rattle.event_feed.specs.declared.faults.FeedFault.{FeedFault};
 ghost use Rattle.lane_server.specs.Lanes.{lines_added, feed_short, is_fine};
-ghost use Rattle.dover_model.specs.JobFacts.{JobFacts};
 ghost use Rattle.lane_server.specs.Lane.{IsDeclared, AsksForMemory, Stands, IsQuiet, Gives, IsOpenAt, Adds, TurnsTo};
 ghost use Rattle.lane_server.specs.Rosters.{KeepsRoster};
 ghost use Rattle.lane_server.specs.Spending.{HasPaid};

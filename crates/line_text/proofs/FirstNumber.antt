@@ -16,8 +16,7 @@ use Rattle.std.proofs.lemmas.Bool.{and_parts, le-leb, lt-leb, not-true, and_righ
 use Rattle.std.proofs.lemmas.List.{take_more, drop_more}
 use Rattle.std.proofs.lemmas.List.Splits.{slice_split-cons_yes, slice_split-cons_no}
 use denote.Ref.{Bor}
-use Rattle.dover_model.specs.Lines.{fields_of}
-use Rattle.dover_model.specs.Numerals.{number_onto, is_plain, numeral, numerals}
+use Rattle.dover_model.specs.Common.{fields_of, number_onto, is_plain, numeral, numerals}
 use Rattle.dover_model.proofs.texts.Fields.{is_space, HasNoSpace, digits_have_no_space}
 use Rattle.line_text.specs.Reading.{fields_left, number_of_first}
 

@@ -7,8 +7,7 @@ use Rattle.std.proofs.Common.{take, subst}
 use Rattle.std.proofs.lemmas.List.{drop-set, drop_more, length-take-le, drop-append-le, drop-drop}
 use Rattle.std.proofs.Math.Seq.{drop-append-add}
 use borrow.Rule.Slice.PartMut.{put_mid, post_of}
-use Rattle.dover_model.specs.Numerals.{AreShort}
-use Rattle.dover_model.specs.Lines.{with_numbers}
+use Rattle.dover_model.specs.Common.{AreShort, with_numbers}
 use Rattle.dover_model.proofs.texts.Fields.{length-with_numbers}
 use Rattle.line_text.specs.Writing.{numbers_behind}
 

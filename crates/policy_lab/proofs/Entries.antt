@@ -7,10 +7,7 @@ use Rattle.std.specs.List.{filter}
 use Rattle.std.proofs.lemmas.List.Sums.{sum_by-cons}
 use Rattle.dover_model.specs.declared.events.Task.{Task}
 use Rattle.dover_model.specs.declared.events.Entry.{Entry}
-use Rattle.dover_model.specs.Entries.{entry_of}
-use Rattle.dover_model.specs.State.{left, latest_start}
-use Rattle.dover_model.specs.Sound.{IsMember, Each, IsNumberedFrom}
-use Rattle.dover_model.specs.Pieces.{given}
+use Rattle.dover_model.specs.Common.{entry_of, left, latest_start, IsMember, Each, IsNumberedFrom, given}
 use Rattle.dover_model.proofs.steps.Roles.{numbers_above}
 use Rattle.policy_lab.specs.Picks.{HaveOwnNumbers, AreReady, number_of}
 use Rattle.policy_lab.specs.PolicyRun.{is_ready}

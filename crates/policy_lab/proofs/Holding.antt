@@ -6,13 +6,9 @@ use Rattle.std.proofs.Common.{Bool, true, false, cond, eqb, arith, add-one, appe
 use Rattle.std.specs.List.{filter}
 use Rattle.std.proofs.lemmas.List.{drop_more, map-append, length_push, append-nil}
 use Rattle.std.proofs.lemmas.List.Elements.{filter-append}
-use Rattle.dover_model.specs.JobFacts.{JobFacts, IsJob}
+use Rattle.dover_model.specs.Common.{JobFacts, IsJob, entry_of, to_come, given, IsMember, Each}
 use Rattle.dover_model.specs.declared.events.Task.{Task}
 use Rattle.dover_model.specs.declared.events.Entry.{Entry}
-use Rattle.dover_model.specs.Entries.{entry_of}
-use Rattle.dover_model.specs.State.{to_come}
-use Rattle.dover_model.specs.Pieces.{given}
-use Rattle.dover_model.specs.Sound.{IsMember, Each}
 use Rattle.dover_model.proofs.lists.Members.{on_map, all_member, member_front, member_behind, each_behind}
 use Rattle.dover_model.proofs.settled.Releasing.{coming_task}
 use Rattle.policy_lab.specs.PolicyRun.{is_ready}

@@ -7,14 +7,8 @@ use Rattle.std.specs.Prelude.{None, unwrap_or}
 use Rattle.std.specs.List.{filter, fold}
 use Rattle.std.proofs.lemmas.List.{map-append, append-nil}
 use Rattle.std.proofs.lemmas.List.Elements.{filter-append}
-use Rattle.dover_model.specs.JobFacts.{JobFacts}
+use Rattle.dover_model.specs.Common.{JobFacts, entry_of, to_come, left, last_deadline, given, known_at, IsMember, Each}
 use Rattle.dover_model.specs.declared.events.Task.{Task}
-use Rattle.dover_model.specs.Entries.{entry_of}
-use Rattle.dover_model.specs.State.{to_come, left}
-use Rattle.dover_model.specs.Run.{last_deadline}
-use Rattle.dover_model.specs.Pieces.{given}
-use Rattle.dover_model.specs.Online.{known_at}
-use Rattle.dover_model.specs.Sound.{IsMember, Each}
 use Rattle.dover_model.proofs.lists.Members.{on_map, member_front}
 use Rattle.dover_model.proofs.settled.Prefixes.{come_append}
 use Rattle.dover_model.proofs.valid.Valid.{Split, split_known}

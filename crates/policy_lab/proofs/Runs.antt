@@ -7,16 +7,10 @@ use Rattle.std.specs.Prelude.{nat_le, Option, Some, None, unwrap_or}
 use Rattle.std.specs.List.{sum_by, filter, enumerate_from}
 use Rattle.std.proofs.lemmas.Bool.{eq-eqb, eqb-true, ne_eqb}
 use Rattle.std.proofs.lemmas.List.{length_push}
-use Rattle.dover_model.specs.JobFacts.{JobFacts}
-use Rattle.dover_model.specs.Instance.{Rules}
+use Rattle.dover_model.specs.Common.{JobFacts, Rules, entry_of, to_come, left, ticks_given, is_served, worth, given}
+use Rattle.dover_model.specs.Common.{last_deadline, IsMember, Each, IsNumberedFrom, jobs_of}
 use Rattle.dover_model.specs.declared.events.Task.{Task}
 use Rattle.dover_model.specs.declared.events.Entry.{Entry}
-use Rattle.dover_model.specs.Entries.{entry_of}
-use Rattle.dover_model.specs.State.{to_come, left}
-use Rattle.dover_model.specs.Schedules.{ticks_given, is_served, worth}
-use Rattle.dover_model.specs.Pieces.{given}
-use Rattle.dover_model.specs.Run.{last_deadline}
-use Rattle.dover_model.specs.Sound.{IsMember, Each, IsNumberedFrom, jobs_of}
 use Rattle.dover_model.proofs.steps.Kept.{come_numbered, come_jobs}
 use Rattle.dover_model.proofs.lists.Members.{on_map, sum_same}
 use Rattle.dover_model.proofs.steps.Roles.{numbered_map, one_number}

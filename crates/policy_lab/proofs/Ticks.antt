@@ -5,15 +5,11 @@ use Rattle.std.proofs.Common.{false, cond}
 use Rattle.std.proofs.Common.{eqb, arith}
 use Rattle.std.specs.Prelude.{Option, None, unwrap_or}
 use Rattle.std.specs.List.{filter, sum_by}
-use Rattle.dover_model.specs.JobFacts.{JobFacts, IsJob}
-use Rattle.dover_model.specs.Instance.{total_value}
+use Rattle.dover_model.specs.Common.{JobFacts, IsJob, total_value, entry_of, to_come, left, given, stretches, IsMember}
+use Rattle.dover_model.specs.Common.{Each}
 use Rattle.dover_model.specs.declared.events.Task.{Task}
 use Rattle.dover_model.specs.declared.events.Entry.{Entry}
 use Rattle.dover_model.specs.declared.pieces.Piece.{Piece}
-use Rattle.dover_model.specs.Entries.{entry_of}
-use Rattle.dover_model.specs.State.{to_come, left}
-use Rattle.dover_model.specs.Pieces.{given, stretches}
-use Rattle.dover_model.specs.Sound.{IsMember, Each}
 use Rattle.dover_model.proofs.lists.Members.{map_member, sum_le, sum_map, sum_zero, cond_le}
 use Rattle.policy_lab.specs.Picks.{Picks, IsPolicy, AreReady, number_of}
 use Rattle.policy_lab.specs.PolicyRun.{is_ready, picked}

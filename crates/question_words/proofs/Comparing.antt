@@ -2,14 +2,9 @@
 use Rattle.std.proofs.Common.{◌≡◌, ◌≤◌, ◌<◌, ◌^◌, ℕ, List, [], sym, ap, ◌∙◌, subst, codes, arith, ◌↔◌, IsTrue}
 use Rattle.std.proofs.Common.{Bool, false}
 use Rattle.dover_model.proofs.lists.Tests.{never}
-use Rattle.dover_model.specs.Bound.{bound}
-use Rattle.dover_model.specs.Instance.{Instance, IsListable, IsValid}
-use Rattle.dover_model.specs.JobFacts.{JobFacts}
+use Rattle.dover_model.specs.Common.{bound, Instance, IsListable, IsValid, JobFacts, most_total, observed}
+use Rattle.dover_model.specs.Common.{completed_value, worth}
 use Rattle.dover_model.specs.declared.events.Version.TheVariants.{Two}
-use Rattle.dover_model.specs.Limits.{most_total}
-use Rattle.dover_model.specs.Observed.{observed}
-use Rattle.dover_model.specs.Run.{completed_value}
-use Rattle.dover_model.specs.Schedules.{worth}
 use Rattle.dover_model.proofs.bound.BoundLaws as laws
 use Rattle.dover_model.proofs.bound.GreatestLaws.{bound-is}
 use Rattle.dover_model.proofs.valid.Limiting.{total_most}

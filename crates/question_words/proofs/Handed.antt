@@ -8,13 +8,8 @@ use Rattle.std.proofs.lemmas.List.{length-drop}
 use Rattle.dover_model.specs.declared.events.Event.{Event}
 use Rattle.dover_model.specs.declared.horizon.Horizon.{Horizon}
 use Rattle.dover_model.specs.declared.horizon.Horizon.TheVariants.{Mark, End}
-use Rattle.dover_model.specs.Finishes.{Finish}
-use Rattle.dover_model.specs.Horizons.{MayFollow}
-use Rattle.dover_model.specs.Instance.{Declaration, Instance, IsValid, under, with_jobs, finishing}
-use Rattle.dover_model.specs.JobFacts.{JobFacts, IsJob}
-use Rattle.dover_model.specs.Session.{EarlyFinish, finish_at}
-use Rattle.dover_model.specs.Spending.{CostsAtMost}
-use Rattle.dover_model.specs.Observed.{observed}
+use Rattle.dover_model.specs.Common.{Finish, MayFollow, Declaration, Instance, IsValid, under, with_jobs, finishing}
+use Rattle.dover_model.specs.Common.{JobFacts, IsJob, EarlyFinish, finish_at, CostsAtMost, observed}
 use Rattle.dover_model.proofs.runs.Honest.{observed_all}
 use Rattle.dover_model.proofs.settled.Horizons.{may_follow}
 use Rattle.dover_model.proofs.finishes.Meeting.{finishing_valid}

@@ -12,18 +12,12 @@ use Rattle.dover_model.specs.declared.events.Event.TheVariants.{Complete, End, P
 use Rattle.dover_model.specs.declared.events.Role.{Role}
 use Rattle.dover_model.specs.declared.events.Role.TheVariants.{Coming, Fresh, Waiting, Held, Running, Done, Gone}
 use Rattle.dover_model.specs.declared.events.Task.{Task}
-use Rattle.dover_model.specs.Finishes.{Finish, need}
-use Rattle.dover_model.specs.Fraction.{Fraction}
-use Rattle.dover_model.specs.Instance.{Instance, IsValid, total_value, IsInOrder}
-use Rattle.dover_model.specs.JobFacts.{JobFacts, IsJob, is_job}
-use Rattle.dover_model.specs.Observed.{observing, observed, end_state, served}
-use Rattle.dover_model.specs.Run.{Step, is_end, run, ran, event_of, printed_of}
-use Rattle.dover_model.specs.Schedules.{ticks_given, is_served, numbered}
-use Rattle.dover_model.specs.Sound.{IsMember, Each, IsNumberedFrom, Keeps, jobs_of}
-use Rattle.dover_model.specs.State.{State, opening, is_over, is_done, value_sum}
-use Rattle.dover_model.specs.Step.{Move, Prints, Waits, Ticks, step, after, ending, ◌or_else◌, with_role, displaced}
-use Rattle.dover_model.specs.Step.{ticked}
-use Rattle.dover_model.specs.WholeRun.{IsWholeRun}
+use Rattle.dover_model.specs.Common.{Finish, need, Fraction, Instance, IsValid, total_value, IsInOrder, JobFacts, IsJob}
+use Rattle.dover_model.specs.Common.{is_job, observing, observed, end_state, served, Step, is_end, run, ran, event_of}
+use Rattle.dover_model.specs.Common.{printed_of, ticks_given, is_served, numbered, IsMember, Each, IsNumberedFrom}
+use Rattle.dover_model.specs.Common.{Keeps, jobs_of, State, opening, is_over, is_done, value_sum, Move, Prints, Waits}
+use Rattle.dover_model.specs.Common.{Ticks, step, after, ending, ◌or_else◌, with_role, displaced, ticked, IsWholeRun}
+use Rattle.dover_model.specs.Common.{Job}
 use Rattle.dover_model.proofs.steps.Deeds.{Deed, Completed, Resumed, Started, Began, Preempted, Stayed, Arrived, Taken}
 use Rattle.dover_model.proofs.steps.Deeds.{Abandoned, Rested}
 use Rattle.dover_model.proofs.runs.Ending.{end_over, run_is_whole}
@@ -35,7 +29,6 @@ use Rattle.dover_model.proofs.rest.Resting.{numbers_below}
 use Rattle.dover_model.proofs.steps.Roles.{passes, one_number, is_over_role, numbers_above}
 use Rattle.dover_model.proofs.lists.Tests.{never}
 use Rattle.dover_model.proofs.steps.Ticking.{Quiet}
-use Rattle.dover_model.specs.Books.{Job}
 use Rattle.question_words.specs.Loss.{completes, is_completed}
 use Rattle.question_words.specs.Replaying.{with_work, job_seen, jobs_seen}
 use Rattle.dover_model.proofs.bound.Booked.{displaced_done}

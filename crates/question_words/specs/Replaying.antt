@@ -2,8 +2,7 @@
 use Rattle.std.specs.Prelude.{◌≡◌, ℕ, List, map, Bool, false, if◌then◌else◌, get_or}
 use Rattle.std.specs.List.{enumerate_from}
 use Rattle.dover_model.specs.declared.events.Event.{Event}
-use Rattle.dover_model.specs.Instance.{Instance, jobs_under}
-use Rattle.dover_model.specs.JobFacts.{JobFacts, is_job}
+use Rattle.dover_model.specs.Common.{Instance, jobs_under, JobFacts, is_job}
 use Rattle.event_feed.specs.declared.listed.Listed.{Listed}
 use Rattle.question_words.specs.declared.replaying.Recorded.{Recorded}
 

@@ -1,9 +1,7 @@
 //! What the reading loop calls: a reader of the feed, which is asked a question on its jobs at the end.
 ghost use Rattle.std.specs.Prelude.{◌≡◌, ◌∷◌, [], IfOk, length};
 ghost use Rattle.dialogue.specs.Talk.{IsFinal};
-ghost use Rattle.dover_model.specs.Spending.{CostsAtMost};
-ghost use Rattle.dover_model.specs.Instance.{IsValid};
-ghost use Rattle.dover_model.specs.Lines.{in_lines};
+ghost use Rattle.dover_model.specs.Common.{CostsAtMost, IsValid, in_lines};
 ghost use Rattle.dover_port.specs.declared.status.Status.TheVariants.{Refused};
 ghost use Rattle.event_feed.specs.Listing.{listed_instance, StandAmong};
 ghost use Rattle.question_words.specs.Questions.{says};

@@ -1,9 +1,8 @@
 //! The word `best`.
 ghost use Rattle.std.specs.Prelude.{IfOk, length};
-ghost use Rattle.dover_model.specs.Instance.{IsValid};
+ghost use Rattle.dover_model.specs.Common.{IsValid, CostsAtMost};
 ghost use Rattle.dialogue.specs.Talk.{IsFinal};
 ghost use Rattle.event_feed.specs.Listing.{listed_instance, StandAmong};
-ghost use Rattle.dover_model.specs.Spending.{CostsAtMost};
 ghost use Rattle.question_words.specs.Best.{SaysBest};
 ghost use Rattle.question_words.specs.Texts.{text_of};
 

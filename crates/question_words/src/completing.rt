@@ -1,9 +1,7 @@
 //! What a run completes.
 ghost use Rattle.std.specs.Prelude.{◌≡◌, ◌≤◌, ◌||◌, ◌==◌, ℕ, [], IfOk, OnOk, length, get_or, false};
-ghost use Rattle.dover_model.specs.Instance.{IsValid};
-ghost use Rattle.dover_model.specs.Run.{completed_value};
+ghost use Rattle.dover_model.specs.Common.{IsValid, completed_value, CostsAtMost};
 ghost use Rattle.question_words.specs.Replaying.{bare_instance};
-ghost use Rattle.dover_model.specs.Spending.{CostsAtMost};
 ghost use Rattle.question_words.specs.Loss.{is_completed};
 
 use dover_model::{Event, Job, Memory};

@@ -1,13 +1,9 @@
 //! The word `loss`.
 ghost use Rattle.std.specs.Prelude.{◌≡◌, ◌≤◌, IfOk, length, map, get_or, false};
-ghost use Rattle.dover_model.specs.Instance.{IsInOrder, IsValid};
-ghost use Rattle.dover_model.specs.JobFacts.{IsJob};
+ghost use Rattle.dover_model.specs.Common.{IsInOrder, IsValid, IsJob, most_jobs, Each, CostsAtMost};
 ghost use Rattle.dover_model.specs.declared.events.Version.TheVariants.{Two};
-ghost use Rattle.dover_model.specs.Limits.{most_jobs};
-ghost use Rattle.dover_model.specs.Sound.{Each};
 ghost use Rattle.dialogue.specs.Talk.{IsFinal};
 ghost use Rattle.event_feed.specs.Listing.{listed_instance, StandAmong};
-ghost use Rattle.dover_model.specs.Spending.{CostsAtMost};
 ghost use Rattle.question_words.specs.Loss.{SaysLoss, row_of};
 ghost use Rattle.question_words.specs.Texts.{text_of};
 

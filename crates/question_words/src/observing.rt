@@ -1,9 +1,6 @@
 //! What the run of a feed completes, and its jobs as it observed them: what a completed one had stands for its work.
 ghost use Rattle.std.specs.Prelude.{◌≡◌, ℕ, IfOk, length, get_or, false};
-ghost use Rattle.dover_model.specs.Instance.{IsListable, IsValid};
-ghost use Rattle.dover_model.specs.Observed.{observed};
-ghost use Rattle.dover_model.specs.Run.{completed_value};
-ghost use Rattle.dover_model.specs.Spending.{CostsAtMost};
+ghost use Rattle.dover_model.specs.Common.{IsListable, IsValid, observed, completed_value, CostsAtMost};
 ghost use Rattle.event_feed.specs.Listing.{listed_instance, StandAmong};
 ghost use Rattle.question_words.specs.Loss.{is_completed};
 

@@ -1,9 +1,8 @@
 //! The questions, each by its word.
 ghost use Rattle.dover_port.specs.Causes.{Causes, StopsWith};
 ghost use Rattle.dover_port.specs.Moves.{Since, ins};
-ghost use Rattle.dover_model.specs.Feed.{account};
+ghost use Rattle.dover_model.specs.Common.{account, CostsAtMost};
 ghost use Rattle.event_feed.specs.Answers.{admitted_in};
-ghost use Rattle.dover_model.specs.Spending.{CostsAtMost};
 ghost use Rattle.dialogue.specs.Talk.{Talks, CanEnd};
 ghost use Rattle.question_words.specs.Questions.{says};
 ghost use Rattle.question_words.specs.Talk.{ask_talk};

@@ -1,10 +1,7 @@
 //! A feed whose jobs may finish early, served again once its end was read.
 ghost use Rattle.std.specs.Prelude.{◌≡◌, ◌≤◌, ℕ, [], IfOk, OnOk, length, get_or, false};
-ghost use Rattle.dover_model.specs.Instance.{Instance, IsListable, IsValid, with_jobs};
-ghost use Rattle.dover_model.specs.Horizons.{no_jobs};
-ghost use Rattle.dover_model.specs.Observed.{observed};
-ghost use Rattle.dover_model.specs.Run.{completed_value, printed};
-ghost use Rattle.dover_model.specs.Spending.{CostsAtMost};
+ghost use Rattle.dover_model.specs.Common.{Instance, IsListable, IsValid, with_jobs, no_jobs, observed};
+ghost use Rattle.dover_model.specs.Common.{completed_value, printed, CostsAtMost};
 ghost use Rattle.dover_model.specs.declared.horizon.Horizon.{Horizon};
 ghost use Rattle.dover_model.specs.declared.horizon.Horizon.TheVariants.{Mark};
 ghost use Rattle.event_feed.specs.Listing.{listed_instance, StandAmong};

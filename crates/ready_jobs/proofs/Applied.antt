@@ -10,14 +10,11 @@ use Rattle.std.proofs.lemmas.List.Sums.{sum_by-cons, sum_by-append, length-filte
 use Rattle.dover_model.specs.declared.events.Event.TheVariants.{Run, Preempt, Take, Complete, Abandon}
 use Rattle.dover_model.specs.declared.events.Role.TheVariants.{Held, Running}
 use Rattle.dover_model.specs.declared.events.Task.{Task}
-use Rattle.dover_model.specs.Orders.{starts_before, first}
-use Rattle.dover_model.specs.State.{waiting, left, latest_start}
-use Rattle.dover_model.specs.Step.{View, view, with_role, is_at_latest_start}
-use Rattle.dover_model.specs.Sound.{Each}
+use Rattle.dover_model.specs.Common.{starts_before, first, waiting, left, latest_start, View, view, with_role}
+use Rattle.dover_model.specs.Common.{is_at_latest_start, Each, is_ready}
 use Rattle.dover_model.proofs.lists.Members.{some_same, sum_map}
 use Rattle.dover_model.proofs.lists.Tests.{none_is_some}
 use Rattle.ready_jobs.specs.Cases.{next_of}
-use Rattle.dover_model.specs.Ready.{is_ready}
 use Rattle.waiting_pool.specs.Reordered.{IsReordered}
 use Rattle.ready_jobs.specs.Parts.{Parted, HaveRoles, AreSound, ready_of, state_of, head_of, tail_of}
 use Rattle.ready_jobs.specs.Changed.{named, AreOnce, Leaves, IsNext, printed, made_wait}

@@ -10,13 +10,10 @@ use Rattle.std.proofs.lemmas.List.Sums.{sum_by-cons}
 use Rattle.dover_model.specs.declared.events.Role.{Role}
 use Rattle.dover_model.specs.declared.events.Role.TheVariants.{Coming, Fresh, Waiting, Held, Running, Done, Gone}
 use Rattle.dover_model.specs.declared.events.Task.{Task}
-use Rattle.dover_model.specs.State.{is_done, value_sum}
-use Rattle.dover_model.specs.Step.{with_role, displaced}
-use Rattle.dover_model.specs.Sound.{IsMember, Each, IsNumberedFrom}
+use Rattle.dover_model.specs.Common.{is_done, value_sum, with_role, displaced, IsMember, Each, IsNumberedFrom, is_ready}
 use Rattle.dover_model.proofs.lists.Members.{sum_filter, sum_zero, sum_le, term_le_sum, map_map, map_same, each_append}
 use Rattle.dover_model.proofs.steps.Roles.{passes, numbers_above}
 use Rattle.dover_model.proofs.lists.Tests.{never}
-use Rattle.dover_model.specs.Ready.{is_ready}
 use Rattle.waiting_pool.specs.Reordered.{IsReordered}
 use Rattle.waiting_pool.specs.Pools.{HaveOwnNumbers}
 use Rattle.ready_jobs.specs.Parts.{Parted, HaveRole, HaveRoles, ready_of}

@@ -13,16 +13,12 @@ use Rattle.dover_model.specs.declared.events.Event.TheVariants.{Run, Take, Aband
 use Rattle.dover_model.specs.declared.events.Role.{Role}
 use Rattle.dover_model.specs.declared.events.Role.TheVariants.{Held, Running, Done, Gone}
 use Rattle.dover_model.specs.declared.events.Task.{Task}
-use Rattle.dover_model.specs.Instance.{Rules, Instance}
-use Rattle.dover_model.specs.Sound.{IsMember, Each}
-use Rattle.dover_model.specs.State.{State, is_waiting, is_over}
-use Rattle.dover_model.specs.Step.{Move, Prints, Waits, Ticks, open_step, with_role, displaced}
-use Rattle.dover_model.specs.WaitingMoves.{waits_then, enters, leaves}
+use Rattle.dover_model.specs.Common.{Rules, Instance, IsMember, Each, State, is_waiting, is_over, Move, Prints, Waits}
+use Rattle.dover_model.specs.Common.{Ticks, open_step, with_role, displaced, waits_then, enters, leaves, cost_of}
+use Rattle.dover_model.specs.Common.{is_ready}
 use Rattle.dover_model.proofs.lists.Members.{term_le_sum, sum_filter, sum_same, member_behind}
 use Rattle.dover_model.proofs.steps.Roles.{passes, is_over_role}
-use Rattle.dover_model.specs.Spending.{cost_of}
 use Rattle.dover_model.proofs.runs.Spending.{one_leaves, run_leaves, abandon_leaves, take_leaves}
-use Rattle.dover_model.specs.Ready.{is_ready}
 use Rattle.dover_model.proofs.steps.ReadyParts.{change, over_stays}
 use Rattle.ready_jobs.specs.Following.{PartOf}
 use Rattle.ready_jobs.specs.Changed.{named, AreOnce}

@@ -7,22 +7,16 @@ use Rattle.std.specs.Option.{option_to_list}
 use Rattle.std.specs.List.{filter, list_all, sum_by}
 use Rattle.std.proofs.lemmas.Bool.{eq-eqb}
 use Rattle.std.proofs.lemmas.List.Sums.{sum_by-cons, sum_by-append, length-filter, count_by-le-length}
-use Rattle.dover_model.specs.Limits.{last_tick}
-use Rattle.dover_model.specs.Fraction.{Fraction, IsRatio}
-use Rattle.dover_model.specs.JobFacts.{JobFacts}
+use Rattle.dover_model.specs.Common.{last_tick, Fraction, IsRatio, JobFacts, Rules, Declaration, under, Instance}
+use Rattle.dover_model.specs.Common.{IsValid, total_value, finishing, with_finishes, Finish, State, state_at, opening}
+use Rattle.dover_model.specs.Common.{is_over, is_done, is_running, running, value_sum, Move, Prints, Waits, Ticks, step}
+use Rattle.dover_model.specs.Common.{open_step, after, view, with_role, event_of, is_end, last_deadline, waits_for_mark}
+use Rattle.dover_model.specs.Common.{AreOverFor, finish_now, IsMember, Each, Keeps, IsBarrier, GoesOn, IsSilent, Idles}
+use Rattle.dover_model.specs.Common.{Settles, WaitsUntil, PrintsNext, is_ready}
 use Rattle.dover_model.specs.declared.events.Role.TheVariants.{Fresh, Running, Done}
 use Rattle.dover_model.specs.declared.events.Event.{Event}
 use Rattle.dover_model.specs.declared.events.Event.TheVariants.{Release, Run, Preempt, Take, Complete, Abandon, End}
 use Rattle.dover_model.specs.declared.events.Task.{Task}
-use Rattle.dover_model.specs.Instance.{Rules, Declaration, under, Instance, IsValid, total_value, finishing}
-use Rattle.dover_model.specs.Instance.{with_finishes}
-use Rattle.dover_model.specs.Finishes.{Finish}
-use Rattle.dover_model.specs.State.{State, state_at, opening, is_over, is_done, is_running, running, value_sum}
-use Rattle.dover_model.specs.Step.{Move, Prints, Waits, Ticks, step, open_step, after, view, with_role}
-use Rattle.dover_model.specs.Run.{event_of, is_end, last_deadline}
-use Rattle.dover_model.specs.Settled.{waits_for_mark, AreOverFor, finish_now}
-use Rattle.dover_model.specs.Sound.{IsMember, Each, Keeps}
-use Rattle.dover_model.specs.WholeRun.{IsBarrier}
 use Rattle.dover_model.proofs.lists.Members.{sum_filter, sum_le, sum_map, member_filter, term_le_sum, member_either}
 use Rattle.dover_model.proofs.lists.Members.{on_map, found, member_front, member_behind, filter_member, some_same}
 use Rattle.dover_model.proofs.steps.Roles.{passes, is_running_role}
@@ -35,12 +29,10 @@ use Rattle.dover_model.proofs.rest.Resting.{tick_keeps, numbers_below}
 use Rattle.dover_model.proofs.settled.Settling.{at_barrier}
 use Rattle.dover_model.proofs.traces.ShortNumbers.{deadline_known, ticks_early}
 use Rattle.dover_model.proofs.lists.Tests.{not_true, never, none_is_some}
-use Rattle.dover_model.specs.Leading.{GoesOn, IsSilent, Idles, Settles, WaitsUntil, PrintsNext}
 use Rattle.dover_model.proofs.finishes.Meeting.{finishing_valid}
 use Rattle.dover_model.proofs.finishes.Further.{over_open}
 use Rattle.dover_model.proofs.finishes.OverFor.{over_after, over_then}
 use Rattle.dover_model.proofs.finishes.OverPaths.{settles_over}
-use Rattle.dover_model.specs.Ready.{is_ready}
 use Rattle.dover_model.proofs.settled.Leading.{late_silent, over_ends}
 use Rattle.dover_model.proofs.steps.ReadyParts.{change}
 use Rattle.dover_model.proofs.settled.Waiting.{some_goes_on, settles_idles, over_waits_until}

@@ -6,11 +6,9 @@ use Rattle.std.specs.Bool.{then_some}
 use Rattle.std.specs.List.{find}
 use Rattle.dover_model.specs.declared.events.Event.TheVariants.{Complete, Preempt}
 use Rattle.dover_model.specs.declared.events.Task.{Task}
-use Rattle.dover_model.specs.Fraction.{Fraction}
-use Rattle.dover_model.specs.Step.{View, Move, Prints, decision, alarm, ◌or_else◌, runs, view, completion, dispatch}
-use Rattle.dover_model.specs.Step.{urgent_or, Waits}
+use Rattle.dover_model.specs.Common.{Fraction, View, Move, Prints, decision, alarm, ◌or_else◌, runs, view, completion}
+use Rattle.dover_model.specs.Common.{dispatch, urgent_or, Waits, State, is_running, is_fresh, left}
 use Rattle.dover_model.specs.declared.events.Version.{Version}
-use Rattle.dover_model.specs.State.{State, is_running, is_fresh, left}
 use Rattle.ready_jobs.specs.Cases.{next_of, next_ready, decision_of, arrival_of}
 
 -- what is done while r runs

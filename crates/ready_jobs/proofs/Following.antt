@@ -6,24 +6,17 @@ use Rattle.std.specs.Option.{option_to_list, option_map}
 use Rattle.std.specs.List.{AllByRecursion, filter}
 use Rattle.std.proofs.lemmas.Bool.{lt-leb, ltb-true, ltb-false}
 use Rattle.std.proofs.lemmas.List.{map-append}
-use Rattle.dover_model.specs.Step.{due_finish, declared_open_step}
+use Rattle.dover_model.specs.Common.{due_finish, declared_open_step, Fraction, IsJob, Rules, Instance, total_value}
+use Rattle.dover_model.specs.Common.{ticked_by, later_by, Step, event_of, waits_for_mark, IsMember, Each, Keeps, State}
+use Rattle.dover_model.specs.Common.{is_coming, is_waiting, is_running, is_privileged, is_done, latest_start, value_sum}
+use Rattle.dover_model.specs.Common.{Move, Prints, Waits, Ticks, view, open_step, after, with_role, role_after}
+use Rattle.dover_model.specs.Common.{displaced, open_at, IsSilent, Settles, is_ready}
 use Rattle.dover_model.proofs.finishes.Finishing.{not_complete}
-use Rattle.dover_model.specs.Fraction.{Fraction}
-use Rattle.dover_model.specs.JobFacts.{IsJob}
 use Rattle.dover_model.specs.declared.events.Event.{Event}
 use Rattle.dover_model.specs.declared.events.Role.{Role}
 use Rattle.dover_model.specs.declared.events.Role.TheVariants.{Coming, Fresh, Waiting, Held, Running, Done, Gone}
 use Rattle.dover_model.specs.declared.events.Event.TheVariants.{Release, Run, Preempt, Take, Complete, Abandon, End}
 use Rattle.dover_model.specs.declared.events.Task.{Task}
-use Rattle.dover_model.specs.Instance.{Rules, Instance, total_value}
-use Rattle.dover_model.specs.Jumps.{ticked_by, later_by}
-use Rattle.dover_model.specs.Run.{Step, event_of}
-use Rattle.dover_model.specs.Settled.{waits_for_mark}
-use Rattle.dover_model.specs.Sound.{IsMember, Each, Keeps}
-use Rattle.dover_model.specs.State.{State, is_coming, is_waiting, is_running, is_privileged, is_done}
-use Rattle.dover_model.specs.State.{latest_start, value_sum}
-use Rattle.dover_model.specs.Step.{Move, Prints, Waits, Ticks, view, open_step, after, with_role, role_after, displaced}
-use Rattle.dover_model.specs.WholeRun.{open_at}
 use Rattle.dover_model.proofs.steps.Jumping.{later_by-zero, after-later_by}
 use Rattle.dover_model.proofs.steps.Deeds.{Deed, tick_quiet}
 use Rattle.dover_model.proofs.steps.Ticking.{Quiet}
@@ -35,8 +28,7 @@ use Rattle.dover_model.proofs.steps.Roles.{passes, is_running_role, is_fresh_rol
 use Rattle.dover_model.proofs.lists.Tests.{never, none_is_some}
 use Rattle.ready_jobs.specs.Dues.{still_ticks}
 use Rattle.ready_jobs.proofs.Jumping.{silent as still_silent, due as still_due, within as still_within}
-use Rattle.dover_model.specs.Leading.{IsSilent, Settles}
-use Rattle.dover_model.specs.Ready.{is_ready, ready_part}
+use Rattle.dover_model.specs.Ready.{ready_part}
 use Rattle.dover_model.proofs.settled.Leading.{settles_append}
 use Rattle.dover_model.proofs.steps.ReadyParts.{change, after_change, step_ready, ready_then, done_then}
 use Rattle.dover_model.proofs.valid.Limiting.{total_most}

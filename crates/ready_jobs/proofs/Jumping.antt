@@ -7,24 +7,20 @@ use Rattle.std.specs.Bool.{then_some}
 use Rattle.std.proofs.lemmas.Bool.{leb-true, leb-false, cases_lt}
 use Rattle.std.specs.Option.{option_map}
 use Rattle.dover_model.specs.declared.events.Task.{Task}
-use Rattle.dover_model.specs.State.{State, is_fresh, is_coming, is_waiting, is_held, left, latest_start, running}
-use Rattle.dover_model.specs.State.{waiting, is_running}
-use Rattle.dover_model.specs.Sound.{Each, IsMember}
+use Rattle.dover_model.specs.Common.{State, is_fresh, is_coming, is_waiting, is_held, left, latest_start, running}
+use Rattle.dover_model.specs.Common.{waiting, is_running, Each, IsMember, View, Prints, Waits, Ticks, Move, ◌or_else◌}
+use Rattle.dover_model.specs.Common.{arrival, alarm, preempts, view, runs, declared_open_step, urgent_or}
+use Rattle.dover_model.specs.Common.{is_at_latest_start, Fraction, Rules, first, earlier, due_first, starts_before}
+use Rattle.dover_model.specs.Common.{ticked_by, later_by}
 use Rattle.ready_jobs.proofs.Deciding.{busy, free, busy_is, free_is}
 use Rattle.dover_model.specs.declared.events.Event.TheVariants.{Preempt, Release}
-use Rattle.dover_model.specs.Step.{View, Prints, Waits, Ticks, Move, ◌or_else◌, arrival, alarm, preempts, view, runs}
-use Rattle.dover_model.specs.Step.{declared_open_step, urgent_or, is_at_latest_start}
-use Rattle.dover_model.specs.Fraction.{Fraction}
 use Rattle.dover_model.proofs.lists.Members.{some_same, by_bool, filter_member, member_filter, reduce_none, filter_none}
 use Rattle.dover_model.proofs.lists.Members.{found, on_map, map_member}
 use Rattle.dover_model.proofs.lists.Tests.{none_is_some, never}
 use Rattle.ready_jobs.specs.Cases.{next_of, next_ready, arrival_of}
-use Rattle.dover_model.specs.Instance.{Rules}
-use Rattle.dover_model.specs.Orders.{first, earlier, due_first, starts_before}
 use Rattle.ready_jobs.specs.Dues.{ticks_until, until_latest, until_done, until_release, still_ticks}
 use Rattle.dover_model.proofs.steps.Roles.{passes, is_waiting_role}
 use Rattle.dover_model.specs.declared.events.Role.TheVariants.{Waiting}
-use Rattle.dover_model.specs.Jumps.{ticked_by, later_by}
 
 -- ---- where a silent tick is next
 

@@ -4,14 +4,10 @@ use Rattle.std.proofs.Common.{refl, sym, ap, ◌∙◌, subst, arith}
 use Rattle.std.specs.Prelude.{Option, Some, None}
 use Rattle.std.specs.Option.{option_to_list, option_map}
 use Rattle.std.proofs.lemmas.List.{length-append, length-map}
-use Rattle.dover_model.specs.JobFacts.{JobFacts}
+use Rattle.dover_model.specs.Common.{JobFacts, entry_of, ticked_by, with_role, IsMember, Each}
 use Rattle.dover_model.specs.declared.events.Role.TheVariants.{Fresh, Waiting, Held, Running}
 use Rattle.dover_model.specs.declared.events.Task.{Task}
 use Rattle.dover_model.specs.declared.events.Version.{Version}
-use Rattle.dover_model.specs.Entries.{entry_of}
-use Rattle.dover_model.specs.Jumps.{ticked_by}
-use Rattle.dover_model.specs.Step.{with_role}
-use Rattle.dover_model.specs.Sound.{IsMember, Each}
 use Rattle.dover_model.proofs.lists.Members.{on_map, member_front, member_behind, each_append}
 use Rattle.held_stack.specs.Kept.{Lasting, AreRoomsOf}
 use Rattle.waiting_pool.specs.Pools.{Pooled}

@@ -12,12 +12,9 @@ use Rattle.dover_model.specs.declared.events.Role.{Role}
 use Rattle.dover_model.specs.declared.events.Role.TheVariants.{Fresh, Waiting, Held, Running}
 use Rattle.dover_model.specs.declared.events.Task.{Task}
 use Rattle.dover_model.specs.declared.events.Entry.{Entry}
-use Rattle.dover_model.specs.Entries.{entry_of, is_due_before}
-use Rattle.dover_model.specs.State.{State, is_coming, is_fresh, is_waiting, is_held, is_running, is_privileged}
-use Rattle.dover_model.specs.State.{latest_start, running}
-use Rattle.dover_model.specs.Orders.{due_first, starts_before, first, earlier}
-use Rattle.dover_model.specs.Step.{with_role, is_at_latest_start}
-use Rattle.dover_model.specs.Sound.{IsMember, Each}
+use Rattle.dover_model.specs.Common.{entry_of, is_due_before, State, is_coming, is_fresh, is_waiting, is_held}
+use Rattle.dover_model.specs.Common.{is_running, is_privileged, latest_start, running, due_first, starts_before, first}
+use Rattle.dover_model.specs.Common.{earlier, with_role, is_at_latest_start, IsMember, Each}
 use Rattle.dover_model.proofs.steps.EntryOrders.{strict_by, key_less}
 use Rattle.dover_model.proofs.lists.Members.{reduce_none, filter_member, member_filter, some_same, find_none, find_head}
 use Rattle.dover_model.proofs.steps.Roles.{passes}

@@ -5,18 +5,12 @@ use Rattle.std.specs.Prelude.{Option, Some, None}
 use Rattle.std.specs.Option.{option_to_list, option_map}
 use Rattle.std.specs.List.{filter}
 use Rattle.std.proofs.lemmas.List.{length-append}
-use Rattle.dover_model.specs.Step.{due_finish}
+use Rattle.dover_model.specs.Common.{due_finish, Fraction, Rules, Each, left, latest_start, is_running, starts_before}
+use Rattle.dover_model.specs.Common.{first, IsSilent, Move, Prints, Waits, Ticks, view, open_step, with_role}
+use Rattle.dover_model.specs.Common.{is_at_latest_start, ticked_by, later_by}
 use Rattle.dover_model.proofs.finishes.Finishing.{not_complete}
-use Rattle.dover_model.specs.Fraction.{Fraction}
-use Rattle.dover_model.specs.Instance.{Rules}
 use Rattle.dover_model.specs.declared.events.Role.TheVariants.{Waiting}
 use Rattle.dover_model.specs.declared.events.Task.{Task}
-use Rattle.dover_model.specs.Sound.{Each}
-use Rattle.dover_model.specs.State.{left, latest_start, is_running}
-use Rattle.dover_model.specs.Orders.{starts_before, first}
-use Rattle.dover_model.specs.Leading.{IsSilent}
-use Rattle.dover_model.specs.Step.{Move, Prints, Waits, Ticks, view, open_step, with_role, is_at_latest_start}
-use Rattle.dover_model.specs.Jumps.{ticked_by, later_by}
 use Rattle.ready_jobs.specs.Dues.{still_ticks}
 use Rattle.dover_model.proofs.steps.ReadyParts.{change}
 use Rattle.waiting_pool.specs.Reordered.{IsReordered}

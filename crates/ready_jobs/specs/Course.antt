@@ -2,23 +2,15 @@
 use Rattle.std.specs.Prelude.{◌≡◌, ◌≤◌, ◌+◌, ℕ, List, [], ◌∷◌, ◌++◌, length, ◌&&◌, nat_le, false, true, Option, Some}
 use Rattle.std.specs.Prelude.{None, option_map}
 use Rattle.std.specs.List.{filter}
-use Rattle.dover_model.specs.Limits.{last_tick}
+use Rattle.dover_model.specs.Common.{last_tick, Fraction, JobFacts, Declaration, under, bare, Instance, IsValid}
+use Rattle.dover_model.specs.Common.{with_finishes, State, is_coming, is_done, running, value_sum, state_at, Move}
+use Rattle.dover_model.specs.Common.{Prints, open_step, after, view, AreOwn, Step, waits_for_mark, AreOverFor}
+use Rattle.dover_model.specs.Common.{finish_now, Each, Keeps, IsBefore, Idles, IsSilent, GoesOn, WaitsUntil, PrintsNext}
+use Rattle.dover_model.specs.Common.{is_ready}
 use Rattle.dover_model.specs.declared.events.Event.{Event}
 use Rattle.dover_model.specs.declared.events.Event.TheVariants as event
 use Rattle.dover_model.specs.declared.events.Role.TheVariants.{Fresh}
 use Rattle.dover_model.specs.declared.events.Task.{Task}
-use Rattle.dover_model.specs.Fraction.{Fraction}
-use Rattle.dover_model.specs.JobFacts.{JobFacts}
-use Rattle.dover_model.specs.Instance.{Declaration, under, bare, Instance, IsValid, with_finishes}
-use Rattle.dover_model.specs.State.{State, is_coming, is_done, running, value_sum, state_at}
-use Rattle.dover_model.specs.Step.{Move, Prints, open_step, after, view}
-use Rattle.dover_model.specs.Rest.{AreOwn}
-use Rattle.dover_model.specs.Run.{Step}
-use Rattle.dover_model.specs.Settled.{waits_for_mark, AreOverFor, finish_now}
-use Rattle.dover_model.specs.Sound.{Each, Keeps}
-use Rattle.dover_model.specs.WholeRun.{IsBefore}
-use Rattle.dover_model.specs.Leading.{Idles, IsSilent, GoesOn, WaitsUntil, PrintsNext}
-use Rattle.dover_model.specs.Ready.{is_ready}
 use Rattle.waiting_pool.specs.Reordered.{IsReordered}
 use Rattle.ready_jobs.specs.Cases.{next_ready}
 use Rattle.ready_jobs.specs.Parts.{Parted, ready_of}

@@ -1,8 +1,7 @@
 //! What the ready jobs do next.
 ghost use Rattle.std.specs.Prelude.{◌≡◌, ◌↔◌, IsTrue};
 ghost use Rattle.dover_model.specs.declared.events.Event.TheVariants.{Run, Preempt, Take, Complete, Abandon};
-ghost use Rattle.dover_model.specs.Step.{Prints};
-ghost use Rattle.dover_model.specs.Run.{event_of};
+ghost use Rattle.dover_model.specs.Common.{Prints, event_of};
 ghost use Rattle.ready_jobs.specs.Deeds.{step_at};
 
 use dover_model::Event;

@@ -2,8 +2,7 @@
 ghost use Rattle.std.specs.Prelude.{◌≡◌, ℕ, ◌+◌, ◌*◌, ◌^◌, ◌<◌, ◌≤◌, length};
 ghost use Rattle.dover_model.specs.declared.events.Event.{Event};
 ghost use Rattle.dover_model.specs.declared.events.Event.TheVariants.{Run, Preempt, Take, Complete, Abandon};
-ghost use Rattle.dover_model.specs.Step.{Prints, view};
-ghost use Rattle.dover_model.specs.Spending.{cost_of};
+ghost use Rattle.dover_model.specs.Common.{Prints, view, cost_of};
 ghost use Rattle.ready_jobs.specs.Parts.{AreSound, ready_of, state_of};
 ghost use Rattle.ready_jobs.specs.Changed.{AreOnce, Leaves, IsNext, printed};
 ghost use Rattle.ready_jobs.specs.Deeds.{Finds, Does};

@@ -4,13 +4,10 @@ ghost use Rattle.std.specs.Prelude.{max, length, true, false, IsTrue, IfOk, IsOk
 ghost use Rattle.std.specs.Prelude.{None, option_map};
 ghost use Rattle.dover_model.specs.declared.events.Event.{Event};
 ghost use Rattle.dover_model.specs.declared.events.Event.TheVariants.{End};
-ghost use Rattle.dover_model.specs.Limits.{last_tick, most_jobs, most_ready, most_total};
+ghost use Rattle.dover_model.specs.Common.{last_tick, most_jobs, most_ready, most_total, Instance, under, State};
+ghost use Rattle.dover_model.specs.Common.{state_at, is_held, Prints, open_step, view, waits_for_mark};
 ghost use Rattle.dover_model.specs.declared.events.Version.TheVariants.{Three};
-ghost use Rattle.dover_model.specs.Instance.{Instance, under};
 ghost use Rattle.std.specs.List.{filter};
-ghost use Rattle.dover_model.specs.State.{State, state_at, is_held};
-ghost use Rattle.dover_model.specs.Step.{Prints, open_step, view};
-ghost use Rattle.dover_model.specs.Settled.{waits_for_mark};
 ghost use Rattle.waiting_pool.specs.Reordered.{IsReordered};
 ghost use Rattle.ready_jobs.specs.Course.{Course, Follows, IsCourse, Reached, Settled, new_course, fresh_job, IsDue};
 ghost use Rattle.ready_jobs.specs.Course.{SettlesAt, StepsBefore, ComesNext, Passes, Takes, with_release};

@@ -1,8 +1,6 @@
 //! The silent steps of the ready jobs: those that print nothing.
 ghost use Rattle.std.specs.Prelude.{[], ◌≡◌, ◌≤◌, ◌<◌, ◌+◌, ◌-◌, ◌*◌, ◌^◌, ℕ, length, Some, None, IfSome, IfNone};
-ghost use Rattle.dover_model.specs.Limits.{last_tick};
-ghost use Rattle.dover_model.specs.Step.{open_step, view, Ticks};
-ghost use Rattle.dover_model.specs.Leading.{IsSilent};
+ghost use Rattle.dover_model.specs.Common.{last_tick, open_step, view, Ticks, IsSilent};
 ghost use Rattle.ready_jobs.specs.Deeds.{step_at, Finds};
 ghost use Rattle.ready_jobs.specs.Parts.{Parted, ready_of, state_of};
 ghost use Rattle.ready_jobs.specs.Following.{IsPart, SettlesFrom};

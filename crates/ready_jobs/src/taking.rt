@@ -1,7 +1,6 @@
 //! All held jobs wait.
 ghost use Rattle.std.specs.Prelude.{◌≡◌, ℕ, ◌+◌, ◌*◌, ◌^◌, ◌<◌, ◌≤◌, [], ◌++◌, length, map, reverse, vec_capacity};
-ghost use Rattle.dover_model.specs.Step.{with_role};
-ghost use Rattle.dover_model.specs.Sound.{Each};
+ghost use Rattle.dover_model.specs.Common.{with_role, Each};
 ghost use Rattle.waiting_pool.specs.Reordered.{IsReordered};
 ghost use Rattle.ready_jobs.specs.Changed.{made_wait};
 ghost use Rattle.waiting_pool.specs.Short.{no_number};

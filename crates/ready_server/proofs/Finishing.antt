@@ -6,20 +6,14 @@ use Rattle.std.proofs.lemmas.Bool.{lt-ltb, ltb-true}
 use Rattle.dover_model.specs.declared.events.Event.TheVariants.{Complete}
 use Rattle.dover_model.specs.declared.events.Role.TheVariants.{Running}
 use Rattle.dover_model.specs.declared.events.Task.{Task}
-use Rattle.dover_model.specs.Instance.{Instance, with_finishes}
-use Rattle.dover_model.specs.State.{State, opening, running, is_running, is_over, state_at}
-use Rattle.dover_model.specs.Step.{Prints, after}
-use Rattle.dover_model.specs.Settled.{settled, settled_steps, settled_state, finish_now, RunsAtMark}
-use Rattle.dover_model.specs.Limits.{most_ready}
-use Rattle.dover_model.specs.Session.{EarlyFinish, finish_at, is_full}
-use Rattle.dover_model.specs.Sound.{IsMember}
-use Rattle.dover_model.specs.Paths.{HasPrinted}
+use Rattle.dover_model.specs.Common.{Instance, with_finishes, State, opening, running, is_running, is_over, state_at}
+use Rattle.dover_model.specs.Common.{Prints, after, settled, settled_steps, settled_state, finish_now, RunsAtMark}
+use Rattle.dover_model.specs.Common.{most_ready, EarlyFinish, finish_at, is_full, IsMember, HasPrinted, runner_of}
 use Rattle.dover_model.specs.declared.horizon.Horizon.TheVariants.{Mark}
 use Rattle.dover_model.proofs.settled.Barriers.{state_after}
 use Rattle.dover_model.proofs.finishes.Further.{printed_at_mark}
 use Rattle.dover_model.proofs.settled.LastSteps.{last_tells}
 use Rattle.dover_model.proofs.lists.Members.{found, all_member}
-use Rattle.dover_model.specs.Processor.{runner_of}
 use Rattle.dover_model.proofs.finishes.Processors.{runner_said, runner_there}
 use Rattle.dover_model.proofs.settled.Paths.{path_settles, one_settled_run}
 use Rattle.dover_model.proofs.rest.Resting.{path_state, numbers_below}

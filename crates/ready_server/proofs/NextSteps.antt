@@ -5,16 +5,10 @@ use Rattle.std.specs.Prelude.{Option, Some, None, IfSome}
 use Rattle.dover_model.specs.declared.events.Event.{Event}
 use Rattle.dover_model.specs.declared.events.Role.TheVariants.{Coming, Fresh, Waiting, Held, Running, Done, Gone}
 use Rattle.dover_model.specs.declared.events.Task.{Task}
-use Rattle.dover_model.specs.Fraction.{Fraction}
-use Rattle.dover_model.specs.Instance.{Instance, IsValid}
-use Rattle.dover_model.specs.Leading.{PrintsNext}
-use Rattle.dover_model.specs.Ready.{is_ready}
-use Rattle.dover_model.specs.Run.{printed, printed_of, last_deadline}
-use Rattle.dover_model.specs.Settled.{settled, settled_steps, waits_for_mark}
-use Rattle.dover_model.specs.Sound.{Each, IsMember, NoneRuns}
-use Rattle.dover_model.specs.State.{State, opening, state_at, is_over, is_coming, is_ready_behind}
-use Rattle.dover_model.specs.Step.{Move, Prints, Ticks, open_step, with_role}
-use Rattle.dover_model.specs.Paths.{HasPrinted}
+use Rattle.dover_model.specs.Common.{Fraction, Instance, IsValid, PrintsNext, is_ready, printed, printed_of}
+use Rattle.dover_model.specs.Common.{last_deadline, settled, settled_steps, waits_for_mark, Each, IsMember, NoneRuns}
+use Rattle.dover_model.specs.Common.{State, opening, state_at, is_over, is_coming, is_ready_behind, Move, Prints, Ticks}
+use Rattle.dover_model.specs.Common.{open_step, with_role, HasPrinted}
 use Rattle.dover_model.specs.declared.horizon.Horizon.TheVariants.{Mark}
 use Rattle.dover_model.proofs.settled.Barriers.{late_none_fresh}
 use Rattle.dover_model.proofs.steps.Deeds.{Deed, Completed, Resumed, Started, Began, Preempted, Stayed, Arrived, Taken}

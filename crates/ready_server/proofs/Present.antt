@@ -4,11 +4,8 @@ use Rattle.std.specs.List.{AllByRecursion, find}
 use Rattle.std.proofs.lemmas.Bool.{eqb-false}
 use Rattle.dover_model.specs.declared.events.Role.TheVariants.{Coming}
 use Rattle.dover_model.specs.declared.events.Task.{Task}
-use Rattle.dover_model.specs.Instance.{Instance, IsValid}
-use Rattle.dover_model.specs.State.{State, is_coming}
-use Rattle.dover_model.specs.Step.{Move, Ticks, View, view, due_finish, declared_open_step, open_step}
-use Rattle.dover_model.specs.Settled.{waits_for_mark, settled_state}
-use Rattle.dover_model.specs.Sound.{IsMember, Each}
+use Rattle.dover_model.specs.Common.{Instance, IsValid, State, is_coming, Move, Ticks, View, view, due_finish}
+use Rattle.dover_model.specs.Common.{declared_open_step, open_step, waits_for_mark, settled_state, IsMember, Each}
 use Rattle.dover_model.proofs.settled.Barriers.{AtBarrier, settled_at_barrier}
 use Rattle.dover_model.proofs.steps.Cases.{Case, Completes, Resumes, Starts, Begins, Preempts, Stays, Arrives, Takes}
 use Rattle.dover_model.proofs.steps.Cases.{Abandons, Rests, NoneArrives, step_case}

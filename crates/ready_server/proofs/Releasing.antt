@@ -7,22 +7,15 @@ use Rattle.dover_model.specs.declared.events.Event.TheVariants.{Release}
 use Rattle.dover_model.specs.declared.events.Role.{Role}
 use Rattle.dover_model.specs.declared.events.Role.TheVariants.{Coming, Fresh, Waiting, Held, Running, Done, Gone}
 use Rattle.dover_model.specs.declared.events.Task.{Task}
-use Rattle.dover_model.specs.JobFacts.{JobFacts, IsJob}
-use Rattle.dover_model.specs.Limits.{last_tick}
-use Rattle.dover_model.specs.Instance.{Instance, IsValid, with_jobs}
-use Rattle.dover_model.specs.State.{State, opening, with_later, is_coming, state_at}
-use Rattle.dover_model.specs.Step.{Prints, open_step}
-use Rattle.dover_model.specs.Settled.{waits_for_mark, settled}
-use Rattle.dover_model.specs.WholeRun.{IsBefore}
-use Rattle.dover_model.specs.Paths.{HasPrinted}
-use Rattle.dover_model.specs.Sound.{IsMember, Each, FitsRole, IsSound, Keeps}
+use Rattle.dover_model.specs.Common.{JobFacts, IsJob, last_tick, Instance, IsValid, with_jobs, State, opening}
+use Rattle.dover_model.specs.Common.{with_later, is_coming, state_at, Prints, open_step, waits_for_mark, settled}
+use Rattle.dover_model.specs.Common.{IsBefore, HasPrinted, IsMember, Each, FitsRole, IsSound, Keeps, with_fresh}
 use Rattle.dover_model.proofs.steps.Kept.{opening_keeps}
 use Rattle.dover_model.proofs.settled.Paths.{path_keeps, printed_behind}
 use Rattle.dover_model.proofs.settled.Releasing.{coming_task, barrier_releases}
 use Rattle.dover_model.proofs.steps.Roles.{passes}
 use Rattle.dover_model.proofs.settled.Settling.{at_barrier}
 use Rattle.dover_model.proofs.lists.Tests.{never}
-use Rattle.dover_model.specs.Ready.{with_fresh}
 use Rattle.dover_model.proofs.runs.Released.{after_release}
 use Rattle.dover_model.specs.declared.horizon.Horizon.TheVariants.{Mark}
 use Rattle.waiting_pool.specs.Reordered.{IsReordered}

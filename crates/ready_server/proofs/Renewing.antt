@@ -3,14 +3,8 @@ use Rattle.std.proofs.Common.{◌≡◌, ℕ, List, [], length, refl, sym, ap, �
 use Rattle.std.specs.Prelude.{nat_le, ◌&&◌}
 use Rattle.std.proofs.lemmas.Bool.{le-leb}
 use Rattle.dover_model.specs.declared.events.Event.{Event}
-use Rattle.dover_model.specs.Instance.{Rules, Instance, IsValid, bare}
-use Rattle.dover_model.specs.State.{State, is_over}
-use Rattle.dover_model.specs.Step.{Ticks, open_step}
-use Rattle.dover_model.specs.Settled.{waits_for_mark, settled, last_of}
-use Rattle.dover_model.specs.WholeRun.{IsBarrier}
-use Rattle.dover_model.specs.Paths.{HasPrinted}
-use Rattle.dover_model.specs.Rest.{instead_with}
-use Rattle.dover_model.specs.Sound.{Each}
+use Rattle.dover_model.specs.Common.{Rules, Instance, IsValid, bare, State, is_over, Ticks, open_step, waits_for_mark}
+use Rattle.dover_model.specs.Common.{settled, last_of, IsBarrier, HasPrinted, instead_with, Each}
 use Rattle.dover_model.proofs.steps.Deeds.{over_rests}
 use Rattle.dover_model.proofs.steps.Kept.{open_deed}
 use Rattle.dover_model.proofs.settled.Paths.{printed_more, printed_settled}

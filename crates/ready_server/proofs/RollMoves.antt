@@ -7,9 +7,7 @@ use Rattle.std.specs.Prelude.{Option, Some, None, ◌==◌}
 use Rattle.dover_model.specs.declared.events.Role.{Role}
 use Rattle.dover_model.specs.declared.events.Role.TheVariants.{Coming, Fresh, Waiting, Held, Running, Done, Gone}
 use Rattle.dover_model.specs.declared.events.Task.{Task}
-use Rattle.dover_model.specs.Sound.{IsMember, IsNumberedFrom, IsSound, NoneRuns}
-use Rattle.dover_model.specs.State.{State, is_held}
-use Rattle.dover_model.specs.Step.{with_role, displaced}
+use Rattle.dover_model.specs.Common.{IsMember, IsNumberedFrom, IsSound, NoneRuns, State, is_held, with_role, displaced}
 use Rattle.dover_model.proofs.lists.Members.{on_map, map_member, some_same}
 use Rattle.dover_model.proofs.steps.Roles.{one_number, by_role}
 use Rattle.dover_model.proofs.steps.RoleChanges.{with_role_at, all_displaced}

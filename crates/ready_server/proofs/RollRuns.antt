@@ -11,13 +11,10 @@ use Rattle.dover_model.specs.declared.events.Event.TheVariants.{Release, Run, Pr
 use Rattle.dover_model.specs.declared.events.Role.{Role}
 use Rattle.dover_model.specs.declared.events.Role.TheVariants.{Coming, Fresh, Waiting, Held, Running, Done, Gone}
 use Rattle.dover_model.specs.declared.events.Task.{Task}
-use Rattle.dover_model.specs.Fraction.{Fraction}
-use Rattle.dover_model.specs.Instance.{Instance, IsValid}
-use Rattle.dover_model.specs.Paths.{IsOpenPath, HasPrinted}
-use Rattle.dover_model.specs.Run.{Step, event_of, printed_of}
-use Rattle.dover_model.specs.Sound.{IsMember, Each, IsNumberedFrom, IsSound, Keeps, NoneRuns}
-use Rattle.dover_model.specs.State.{State, opening, is_running, left}
-use Rattle.dover_model.specs.Step.{Move, Prints, Waits, Ticks, open_step, after, with_role, ticked, displaced}
+use Rattle.dover_model.specs.Common.{Fraction, Instance, IsValid, IsOpenPath, HasPrinted, Step, event_of, printed_of}
+use Rattle.dover_model.specs.Common.{IsMember, Each, IsNumberedFrom, IsSound, Keeps, NoneRuns, State, opening}
+use Rattle.dover_model.specs.Common.{is_running, left, Move, Prints, Waits, Ticks, open_step, after, with_role, ticked}
+use Rattle.dover_model.specs.Common.{displaced}
 use Rattle.dover_model.proofs.steps.Deeds.{Deed, Completed, Resumed, Started, Began, Preempted, Stayed, Arrived, Taken}
 use Rattle.dover_model.proofs.steps.Deeds.{Abandoned, Rested}
 use Rattle.dover_model.proofs.steps.Kept.{open_deed, open_kept, opening_keeps, come_coming}

@@ -12,15 +12,9 @@ use Rattle.dover_model.specs.declared.events.Event.TheVariants.{Release, Run, Pr
 use Rattle.dover_model.specs.declared.events.Role.{Role}
 use Rattle.dover_model.specs.declared.events.Role.TheVariants.{Coming, Fresh, Waiting, Held, Running, Done, Gone}
 use Rattle.dover_model.specs.declared.events.Task.{Task}
-use Rattle.dover_model.specs.JobFacts.{JobFacts}
-use Rattle.dover_model.specs.Instance.{Rules, Instance, IsValid}
-use Rattle.dover_model.specs.Paths.{IsOpenPath, HasPrinted}
-use Rattle.dover_model.specs.Run.{Step}
-use Rattle.dover_model.specs.Settled.{settled, settled_state, settled_steps}
-use Rattle.dover_model.specs.WholeRun.{IsSettledRun, Begins}
-use Rattle.dover_model.specs.Sound.{IsMember, Each, IsNumberedFrom, Keeps}
-use Rattle.dover_model.specs.State.{State, opening, is_coming}
-use Rattle.dover_model.specs.Step.{open_step, after, with_role}
+use Rattle.dover_model.specs.Common.{JobFacts, Rules, Instance, IsValid, IsOpenPath, HasPrinted, Step, settled}
+use Rattle.dover_model.specs.Common.{settled_state, settled_steps, IsSettledRun, Begins, IsMember, Each, IsNumberedFrom}
+use Rattle.dover_model.specs.Common.{Keeps, State, opening, is_coming, open_step, after, with_role, due_by}
 use Rattle.dover_model.proofs.settled.Barriers.{AtBarrier, settled_at_barrier, state_after}
 use Rattle.dover_model.proofs.runs.Honest.{count_jobs}
 use Rattle.dover_model.proofs.lists.Members.{some_same}
@@ -29,7 +23,6 @@ use Rattle.dover_model.proofs.settled.Settling.{settled_is_run}
 use Rattle.dover_model.proofs.lists.Tests.{never}
 use Rattle.dover_model.specs.declared.horizon.Horizon.{Horizon}
 use Rattle.dover_model.specs.declared.horizon.Horizon.TheVariants.{Mark, End}
-use Rattle.dover_model.specs.Horizons.{due_by}
 use Rattle.dover_model.proofs.settled.Horizons.{due_few}
 use Rattle.dover_model.proofs.valid.Limiting.{jobs_most}
 use Rattle.ready_server.specs.Serving as ready

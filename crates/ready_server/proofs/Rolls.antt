@@ -7,9 +7,7 @@ use Rattle.std.specs.List.{slice_get}
 use Rattle.dover_model.specs.declared.events.Role.{Role}
 use Rattle.dover_model.specs.declared.events.Role.TheVariants.{Coming, Fresh, Waiting, Held, Running, Done, Gone}
 use Rattle.dover_model.specs.declared.events.Task.{Task}
-use Rattle.dover_model.specs.Sound.{IsMember, Each}
-use Rattle.dover_model.specs.State.{State}
-use Rattle.dover_model.specs.Step.{with_role}
+use Rattle.dover_model.specs.Common.{IsMember, Each, State, with_role}
 use Rattle.ready_server.specs.Roster.{Roll, ListedJob, had_with, is_turn, is_displaced, job_at}
 
 -- the role of a job in a roll: what is fresh there waits

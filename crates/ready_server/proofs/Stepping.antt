@@ -10,15 +10,11 @@ use Rattle.std.proofs.lemmas.List.Sums.{fold-append}
 use Rattle.dover_model.specs.declared.events.Event.{Event}
 use Rattle.dover_model.specs.declared.events.Event.TheVariants as events
 use Rattle.dover_model.specs.declared.Memory.{Memory}
-use Rattle.dover_model.specs.Limits.{last_tick, most_ready}
-use Rattle.dover_model.specs.Instance.{Rules, Instance, IsValid}
-use Rattle.dover_model.specs.State.{State, opening, state_at}
-use Rattle.dover_model.specs.Step.{Prints, step, open_step, after}
-use Rattle.dover_model.specs.Run.{Step, is_end, event_of, printed, printed_of, last_deadline}
-use Rattle.dover_model.specs.Settled.{settled, AreOverFor, tick_of_event, last_of}
-use Rattle.dover_model.specs.WholeRun.{open_at, IsBefore, IsWholeRun, Begins}
-use Rattle.dover_model.specs.Paths.{IsOpenPath, HasPrinted}
-use Rattle.dover_model.specs.Sound.{Keeps}
+use Rattle.dover_model.specs.Common.{last_tick, most_ready, Rules, Instance, IsValid, State, opening, state_at, Prints}
+use Rattle.dover_model.specs.Common.{step, open_step, after, Step, is_end, event_of, printed, printed_of, last_deadline}
+use Rattle.dover_model.specs.Common.{settled, AreOverFor, tick_of_event, last_of, open_at, IsBefore, IsWholeRun, Begins}
+use Rattle.dover_model.specs.Common.{IsOpenPath, HasPrinted, Keeps, Settles, Idles, GoesOn, WaitsUntil, PrintsNext}
+use Rattle.dover_model.specs.Common.{MayFollow, is_end_given, due_by, Gives}
 use Rattle.dover_model.proofs.finishes.OverFor.{over_ready}
 use Rattle.dover_model.proofs.settled.LastSteps.{open_clock}
 use Rattle.dover_model.proofs.lists.Members.{some_same}
@@ -28,11 +24,9 @@ use Rattle.dover_model.proofs.steps.Kept.{open_kept}
 use Rattle.dover_model.proofs.settled.Paths.{printed_more, printed_settled, printed_then_run, printed_begins, path_low}
 use Rattle.dover_model.proofs.settled.Prefixes.{step_open, open_goes_on}
 use Rattle.dover_model.proofs.traces.ShortNumbers.{step_short, IsShortMove}
-use Rattle.dover_model.specs.Leading.{Settles, Idles, GoesOn, WaitsUntil, PrintsNext}
 use Rattle.dover_model.proofs.settled.Leading.{idles_settles, settles_silent}
 use Rattle.dover_model.specs.declared.horizon.Horizon.{Horizon}
 use Rattle.dover_model.specs.declared.horizon.Horizon.TheVariants.{Mark, End}
-use Rattle.dover_model.specs.Horizons.{MayFollow, is_end_given, due_by, Gives}
 use Rattle.ready_jobs.specs.Course.{Course, Follows, Comes, ComesNext, Settled, StepsBefore}
 use Rattle.ready_server.specs.Serving.{LeavesRest, HasGiven, IsLastOf, Serves, Rests, HasPlace, HasPlaceUnlessFull}
 use Rattle.ready_server.specs.Serving.{HasShortValue}

@@ -9,20 +9,12 @@ use Rattle.dover_model.specs.declared.events.Event.TheVariants.{Run, Complete}
 use Rattle.dover_model.specs.declared.events.Role.TheVariants.{Running, Done}
 use Rattle.dover_model.specs.declared.events.Task.{Task}
 use Rattle.dover_model.specs.declared.events.Version.{Version}
-use Rattle.dover_model.specs.Finishes.{is_finish_of}
-use Rattle.dover_model.specs.Instance.{Instance, IsValid, Rules, with_finishes}
-use Rattle.dover_model.specs.State.{State, running, is_running, is_fresh, is_coming, is_waiting, is_held, is_over}
-use Rattle.dover_model.specs.State.{state_at, room}
-use Rattle.dover_model.specs.Orders.{due_first, first}
-use Rattle.dover_model.specs.Step.{View, Prints, Ticks, view, open_step, declared_open_step, finish_or, after}
-use Rattle.dover_model.specs.Step.{with_role, role_after, arrival}
-use Rattle.dover_model.specs.Run.{event_of}
-use Rattle.dover_model.specs.Settled.{settled, settled_state, finish_now, RunsAtMark, waits_for_mark}
-use Rattle.dover_model.specs.Session.{EarlyFinish, finish_at}
-use Rattle.dover_model.specs.Sound.{IsMember, Each}
-use Rattle.dover_model.specs.Ready.{is_ready}
-use Rattle.dover_model.specs.Paths.{HasPrinted}
-use Rattle.dover_model.specs.WholeRun.{open_at, Begins}
+use Rattle.dover_model.specs.Common.{is_finish_of, Instance, IsValid, Rules, with_finishes, State, running, is_running}
+use Rattle.dover_model.specs.Common.{is_fresh, is_coming, is_waiting, is_held, is_over, state_at, room, due_first}
+use Rattle.dover_model.specs.Common.{first, View, Prints, Ticks, view, open_step, declared_open_step, finish_or, after}
+use Rattle.dover_model.specs.Common.{with_role, role_after, arrival, event_of, settled, settled_state, finish_now}
+use Rattle.dover_model.specs.Common.{RunsAtMark, waits_for_mark, EarlyFinish, finish_at, IsMember, Each, is_ready}
+use Rattle.dover_model.specs.Common.{HasPrinted, open_at, Begins}
 use Rattle.dover_model.specs.declared.horizon.Horizon.TheVariants.{Mark}
 use Rattle.dover_model.proofs.settled.Barriers.{AtBarrier, settled_at_barrier}
 use Rattle.dover_model.proofs.finishes.Finishing.{none_without}

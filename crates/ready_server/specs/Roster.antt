@@ -9,8 +9,7 @@ use Rattle.dover_model.specs.declared.events.Event.TheVariants.{Release, Run, Pr
 use Rattle.dover_model.specs.declared.events.Role.{Role}
 use Rattle.dover_model.specs.declared.events.Role.TheVariants.{Waiting, Held, Running, Done, Gone}
 use Rattle.dover_model.specs.declared.events.Task.{Task}
-use Rattle.dover_model.specs.JobFacts.{JobFacts}
-use Rattle.dover_model.specs.State.{is_held}
+use Rattle.dover_model.specs.Common.{JobFacts, is_held}
 
 -- a job as it was when it last had the processor, and how many takes there were when it stopped
 pub record ListedJob : Type 0 where

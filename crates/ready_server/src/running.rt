@@ -1,12 +1,10 @@
 //! A list of jobs, served to the end.
 ghost use Rattle.std.specs.Prelude.{◌≡◌, ℕ, List, [], ◌∷◌, length, OnOk};
 ghost use Rattle.dover_model.specs.declared.events.Event.{Event};
-ghost use Rattle.dover_model.specs.Instance.{Instance, IsValid, with_jobs, jobs_under};
-ghost use Rattle.dover_model.specs.Run.{printed};
+ghost use Rattle.dover_model.specs.Common.{Instance, IsValid, with_jobs, jobs_under, printed, MayFollow, due_by};
+ghost use Rattle.dover_model.specs.Common.{CostsAtMost};
 ghost use Rattle.dover_model.specs.declared.horizon.Horizon.{Horizon};
 ghost use Rattle.dover_model.specs.declared.horizon.Horizon.TheVariants.{Mark};
-ghost use Rattle.dover_model.specs.Horizons.{MayFollow, due_by};
-ghost use Rattle.dover_model.specs.Spending.{CostsAtMost};
 ghost use Rattle.ready_server.specs.Running.{HasShown, CanFeed, HasFed, finished_at};
 ghost use Rattle.ready_server.specs.Serving.{Serves, Rests, HasPlace, HasPaid};
 

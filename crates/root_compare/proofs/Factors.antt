@@ -4,8 +4,7 @@ use Rattle.std.specs.Prelude.{Some, Option}
 use Rattle.std.proofs.lemmas.Nat.{mul-le}
 use Rattle.std.proofs.Math.Nat.{mul-div-le, max-le}
 use Rattle.dover_model.specs.declared.factors.Factor.{Factor}
-use Rattle.dover_model.specs.Fraction.{Fraction, IsRatio, is_some_factor}
-use Rattle.dover_model.specs.Bound.{scale, share}
+use Rattle.dover_model.specs.Common.{Fraction, IsRatio, is_some_factor, scale, share}
 use Rattle.dover_model.proofs.bound.Calculus.{cancel}
 use Rattle.dover_model.proofs.bound.GreatestLaws.{scale_some}
 use Rattle.dover_model.proofs.valid.JobLimits.{ratio_limits, FactorLimits, factor_limits}

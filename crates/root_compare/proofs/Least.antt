@@ -6,9 +6,7 @@ use Rattle.std.proofs.Math.Nat.{mul-div-le, le-div_iff_mul-le, mul-le-mul_left}
 use Rattle.std.proofs.lemmas.Nat.{mul-le}
 use Rattle.std.proofs.lemmas.Bool.{cases_lt}
 use Rattle.dover_model.specs.declared.factors.Factor.{Factor}
-use Rattle.dover_model.specs.Fraction.{Fraction, IsRatio, is_some_factor}
-use Rattle.dover_model.specs.Greatest.{IsGreatest, greatest}
-use Rattle.dover_model.specs.Orders.{is_heavy, IsHeavy}
+use Rattle.dover_model.specs.Common.{Fraction, IsRatio, is_some_factor, IsGreatest, greatest, is_heavy, IsHeavy}
 use Rattle.dover_model.proofs.bound.GreatestLaws.{IsDownwardClosed, greatest-is}
 use Rattle.dover_model.proofs.lists.Members.{by_bool}
 use Rattle.dover_model.proofs.lists.Tests.{never}

@@ -1,12 +1,9 @@
 //! Values against a threshold: the root of the importance ratio, or a factor.
 ghost use Rattle.std.specs.Prelude.{◌≡◌, ◌≤◌, ◌<◌, ◌*◌, ◌^◌, None, Some, ℕ};
-ghost use Rattle.dover_model.specs.Orders.{is_heavy, IsHeavy};
+ghost use Rattle.dover_model.specs.Common.{is_heavy, IsHeavy, is_within, bound, is_within_root, is_within_by, bound_by};
+ghost use Rattle.dover_model.specs.Common.{IsRatio, IsGreatest, most_total, most_value};
 ghost use Rattle.dover_model.specs.declared.events.Version.TheVariants.{Two};
 ghost use Rattle.root_compare.specs.Least.{least_heavy};
-ghost use Rattle.dover_model.specs.Bound.{is_within, bound, is_within_root, is_within_by, bound_by};
-ghost use Rattle.dover_model.specs.Fraction.{IsRatio};
-ghost use Rattle.dover_model.specs.Greatest.{IsGreatest};
-ghost use Rattle.dover_model.specs.Limits.{most_total, most_value};
 
 use crate::root::{isqrt, scaled_root};
 use dover_model::{Factor, Ratio};

@@ -2,9 +2,8 @@
 use Rattle.std.proofs.Common.{◌≡◌, [], ◌∷◌, ◌++◌, map, refl}
 use Rattle.std.specs.Prelude.{codes, Some, None}
 use Rattle.std.specs.Fmt.{digits}
-use Rattle.dover_model.specs.Instance.{Instance}
+use Rattle.dover_model.specs.Common.{Instance, printed}
 use Rattle.dover_model.proofs.rows.Written.{job, one}
-use Rattle.dover_model.specs.Run.{printed}
 use Rattle.run_reports.proofs.report.WorkedRows.{held_and_early, took_and_early}
 use Rattle.run_reports.specs.views.Moments.{moments}
 use Rattle.run_reports.specs.views.Templates.{filled}

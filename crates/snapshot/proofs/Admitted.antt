@@ -9,15 +9,10 @@ use Rattle.std.proofs.lemmas.Bool.{le-ltb, ltb-false}
 use Rattle.std.proofs.lemmas.List.Sums.{fold-append}
 use Rattle.dover_model.specs.declared.events.Refusal.{Refusal}
 use Rattle.dover_model.specs.declared.events.Task.{Task}
-use Rattle.dover_model.specs.JobFacts.{JobFacts}
+use Rattle.dover_model.specs.Common.{JobFacts, most_ready, under, IsValid, with_jobs, refusal_of, Session}
+use Rattle.dover_model.specs.Common.{admitted_jobs, instance_of, refusal_in, jobs_of, JobLine, Cause, NotAdmitted}
+use Rattle.dover_model.specs.Common.{late_cause, later_line_cause}
 use Rattle.dover_model.specs.declared.events.Refusal.TheVariants.{Full}
-use Rattle.dover_model.specs.Limits.{most_ready}
-use Rattle.dover_model.specs.Instance.{under, IsValid, with_jobs}
-use Rattle.dover_model.specs.Admission.{refusal_of}
-use Rattle.dover_model.specs.Session.{Session, admitted_jobs, instance_of, refusal_in}
-use Rattle.dover_model.specs.Sound.{jobs_of}
-use Rattle.dover_model.specs.FeedLine.{JobLine}
-use Rattle.dover_model.specs.Feed.{Cause, NotAdmitted, late_cause, later_line_cause}
 use Rattle.dover_model.proofs.valid.Admitting.{admits, valid_admitted}
 use Rattle.dover_model.proofs.sessions.Fullness.{few_ready}
 use Rattle.dover_model.proofs.runs.Honest.{count_jobs}

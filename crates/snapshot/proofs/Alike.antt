@@ -9,34 +9,24 @@ use Rattle.std.specs.Option.{option_map, option_or}
 use Rattle.std.proofs.lemmas.Bool.{ltb-false, leb-true}
 use Rattle.std.proofs.lemmas.List.{append-nil}
 use Rattle.std.proofs.lemmas.List.Elements.{filter_map-append}
-use Rattle.dover_model.specs.Limits.{last_tick, most_lines, most_ready}
-use Rattle.dover_model.specs.Ready.{is_ready}
-use Rattle.dover_model.specs.State.{State}
+use Rattle.dover_model.specs.Common.{last_tick, most_lines, most_ready, is_ready, State, Finish, AreDueAlike, JobFacts}
+use Rattle.dover_model.specs.Common.{Declaration, under, Instance, IsValid, with_jobs, finishing, with_finishes}
+use Rattle.dover_model.specs.Common.{refusal_of, Session, JobItem, RefusedItem, FinishItem, Refused, RefusedJob}
+use Rattle.dover_model.specs.Common.{RefusedDone, EarlyFinish, with_item, with_named, instance_of, job_of_item}
+use Rattle.dover_model.specs.Common.{finish_of_item, admitted_jobs, early_finishes, refuses_lines, may_finish_early}
+use Rattle.dover_model.specs.Common.{early_at, finish_at, is_right, is_full, refusal_in, refused_mark, printed}
+use Rattle.dover_model.specs.Common.{printed_of, settled, settled_state, header, text_of, refused_text, texts_among}
+use Rattle.dover_model.specs.Common.{places_of, put_in, text_of_line, FeedLine, RatioLine, FactorLine, JobLine}
+use Rattle.dover_model.specs.Common.{TickLine, DoneLine, EndLine, feed_line, Cause, Lines, Line, Declared, Order}
+use Rattle.dover_model.specs.Common.{NotAdmitted, Standing, Open, Ended, Faulty, Account, NotDone, late_cause}
+use Rattle.dover_model.specs.Common.{later_line_cause, with_fault, with_refused_at, with_line, next_line, due_lines}
+use Rattle.dover_model.specs.Common.{fault_text, Begins, IsMember, HaveTheSame}
 use Rattle.dover_model.specs.declared.events.Event.{Event}
 use Rattle.dover_model.specs.declared.events.Event.TheVariants.{Complete}
 use Rattle.dover_model.specs.declared.events.Refusal.{Refusal}
 use Rattle.dover_model.specs.declared.events.Refusal.TheVariants.{BadJob, Count, Total, Ratio, Late, Full}
 use Rattle.dover_model.specs.declared.events.Version.{Version}
 use Rattle.dover_model.specs.declared.events.Version.TheVariants.{One, Two, Three}
-use Rattle.dover_model.specs.Finishes.{Finish, AreDueAlike}
-use Rattle.dover_model.specs.JobFacts.{JobFacts}
-use Rattle.dover_model.specs.Instance.{Declaration, under, Instance, IsValid, with_jobs, finishing, with_finishes}
-use Rattle.dover_model.specs.Admission.{refusal_of}
-use Rattle.dover_model.specs.Session.{Session, JobItem, RefusedItem, FinishItem, Refused, RefusedJob, RefusedDone}
-use Rattle.dover_model.specs.Session.{EarlyFinish, with_item, with_named, instance_of, job_of_item}
-use Rattle.dover_model.specs.Session.{finish_of_item, admitted_jobs, early_finishes, refuses_lines, may_finish_early}
-use Rattle.dover_model.specs.Session.{early_at, finish_at, is_right, is_full, refusal_in, refused_mark}
-use Rattle.dover_model.specs.Run.{printed, printed_of}
-use Rattle.dover_model.specs.Settled.{settled, settled_state}
-use Rattle.dover_model.specs.Text.{header, text_of, refused_text}
-use Rattle.dover_model.specs.Trace.{texts_among, places_of, put_in, text_of_line}
-use Rattle.dover_model.specs.FeedLine.{FeedLine, RatioLine, FactorLine, JobLine, TickLine, DoneLine, EndLine, feed_line}
-use Rattle.dover_model.specs.Feed.{Cause, Lines, Line, Declared, Order, NotAdmitted, Standing, Open, Ended, Faulty}
-use Rattle.dover_model.specs.Feed.{Account, NotDone, late_cause}
-use Rattle.dover_model.specs.Feed.{later_line_cause, with_fault, with_refused_at, with_line, next_line}
-use Rattle.dover_model.specs.Due.{due_lines, fault_text}
-use Rattle.dover_model.specs.WholeRun.{Begins}
-use Rattle.dover_model.specs.Sound.{IsMember, HaveTheSame}
 use Rattle.dover_model.proofs.sessions.Accounts.{account_with, Holds, IsKept, lines_goes}
 use Rattle.dover_model.proofs.finishes.FinishOrders.{same_alike, settled_alike, state_alike, finish_alike, run_alike}
 use Rattle.dover_model.proofs.sessions.Fullness.{admitted_in}

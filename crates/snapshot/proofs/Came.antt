@@ -4,23 +4,16 @@ use Rattle.std.proofs.Common.{append_assoc, append-nil, refl, sym, ap, ◌∙◌
 use Rattle.std.proofs.lemmas.Bool.{eq-eqb, and_parts, ltb-true, lt-ltb}
 use Rattle.std.proofs.lemmas.List.Elements.{filter_map-append}
 use Rattle.std.specs.Prelude.{nat_lt, ◌==◌, ◌&&◌, not}
-use Rattle.dover_model.specs.JobFacts.{JobFacts}
+use Rattle.dover_model.specs.Common.{JobFacts, Finish, is_due, goes_on, Declaration, Instance, IsValid, with_jobs}
+use Rattle.dover_model.specs.Common.{with_finishes, HasPrinted, is_complete, Item, JobItem, RefusedItem, FinishItem}
+use Rattle.dover_model.specs.Common.{Session, mark_after, admitted_jobs, early_finishes, job_of_item, finish_of_item}
+use Rattle.dover_model.specs.Common.{instance_of, session_with, EarlyFinish, Refused, waits_for_mark, settled}
+use Rattle.dover_model.specs.Common.{settled_state, finish_now, RunsAtMark, IsMember, Each, Keeps, State, is_over, left}
+use Rattle.dover_model.specs.Common.{with_later, to_come, Move, Prints, Ticks, open_step, after, with_role}
 use Rattle.dover_model.specs.declared.events.Event.TheVariants.{Complete}
 use Rattle.dover_model.specs.declared.events.Role.{Role}
 use Rattle.dover_model.specs.declared.events.Role.TheVariants.{Done, Running}
 use Rattle.dover_model.specs.declared.events.Task.{Task}
-use Rattle.dover_model.specs.Finishes.{Finish, is_due, goes_on}
-use Rattle.dover_model.specs.Instance.{Declaration, Instance, IsValid, with_jobs, with_finishes}
-use Rattle.dover_model.specs.Paths.{HasPrinted}
-use Rattle.dover_model.specs.Processor.{is_complete}
-use Rattle.dover_model.specs.Session.{Item, JobItem, RefusedItem, FinishItem, Session, mark_after}
-use Rattle.dover_model.specs.Session.{admitted_jobs, early_finishes, job_of_item, finish_of_item, instance_of}
-use Rattle.dover_model.specs.Session.{session_with}
-use Rattle.dover_model.specs.Session.{EarlyFinish, Refused}
-use Rattle.dover_model.specs.Settled.{waits_for_mark, settled, settled_state, finish_now, RunsAtMark}
-use Rattle.dover_model.specs.Sound.{IsMember, Each, Keeps}
-use Rattle.dover_model.specs.State.{State, is_over, left, with_later, to_come}
-use Rattle.dover_model.specs.Step.{Move, Prints, Ticks, open_step, after, with_role}
 use Rattle.dover_model.proofs.settled.Barriers.{AtBarrier, settled_at_barrier}
 use Rattle.dover_model.proofs.steps.Deeds.{Deed, Completed, Resumed, Started, Began, Preempted, Stayed, Arrived, Taken}
 use Rattle.dover_model.proofs.steps.Deeds.{Abandoned, Rested}

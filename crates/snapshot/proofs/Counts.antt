@@ -3,16 +3,11 @@ use Rattle.std.proofs.Common.{◌≡◌, ◌+◌, ◌*◌, ◌≤◌, List, [], 
 use Rattle.std.proofs.Common.{refl, subst, arith, Bool, true, false, Option, Some, None}
 use Rattle.std.specs.List.{fold}
 use Rattle.std.proofs.lemmas.List.{length-map}
-use Rattle.dover_model.specs.Limits.{most_items}
+use Rattle.dover_model.specs.Common.{most_items, IsValid, printed, Session, JobItem, instance_of, admitted_jobs}
+use Rattle.dover_model.specs.Common.{new_session, with_named, may_finish_early, session_with, settled, TraceLine}
+use Rattle.dover_model.specs.Common.{Printed, Placed, put_in}
 use Rattle.dover_model.specs.declared.events.Version.{Version}
 use Rattle.dover_model.specs.declared.events.Version.TheVariants.{One, Two, Three}
-use Rattle.dover_model.specs.Instance.{IsValid}
-use Rattle.dover_model.specs.Run.{printed}
-use Rattle.dover_model.specs.Session.{Session, JobItem, instance_of, admitted_jobs, new_session}
-use Rattle.dover_model.specs.Session.{with_named}
-use Rattle.dover_model.specs.Session.{may_finish_early, session_with}
-use Rattle.dover_model.specs.Settled.{settled}
-use Rattle.dover_model.specs.Trace.{TraceLine, Printed, Placed, put_in}
 use Rattle.dover_model.proofs.lists.Beginnings.{begins_length}
 use Rattle.dover_model.proofs.runs.Ending.{few_printed}
 use Rattle.dover_model.proofs.sessions.Former.{none_early}

@@ -7,17 +7,11 @@ use Rattle.std.specs.Prelude.{Option, Some, None, nat_lt, ◌==◌, ◌&&◌}
 use Rattle.std.specs.List.{slice_get, filter_map}
 use Rattle.std.proofs.lemmas.Bool.{and_parts, eqb-true}
 use Rattle.dover_model.specs.declared.events.Task.{Task}
-use Rattle.dover_model.specs.Finishes.{Finish}
-use Rattle.dover_model.specs.Instance.{Instance, IsValid, under, finishing}
-use Rattle.dover_model.specs.Paths.{IsOpenPath}
-use Rattle.dover_model.specs.Run.{Step}
-use Rattle.dover_model.specs.Session.{Item, Session, early_finishes, instance_of, session_with}
-use Rattle.dover_model.specs.Session.{may_finish_early, IsDeclarable}
-use Rattle.dover_model.specs.Settled.{settled_steps, settled_state, AreYetToCome}
-use Rattle.dover_model.specs.Sound.{IsMember, Each, HaveTheSame, IsNumberedFrom}
-use Rattle.dover_model.specs.State.{State, opening}
-use Rattle.dover_model.specs.Step.{due_finish, open_step, after}
-use Rattle.dover_model.specs.Trace.{handed_by, session_of_run}
+use Rattle.dover_model.specs.Common.{Finish, Instance, IsValid, under, finishing, IsOpenPath, Step, Item, Session}
+use Rattle.dover_model.specs.Common.{early_finishes, instance_of, session_with, may_finish_early, IsDeclarable}
+use Rattle.dover_model.specs.Common.{settled_steps, settled_state, AreYetToCome, IsMember, Each, HaveTheSame}
+use Rattle.dover_model.specs.Common.{IsNumberedFrom, State, opening, due_finish, open_step, after, handed_by}
+use Rattle.dover_model.specs.Common.{session_of_run}
 use Rattle.dover_model.specs.declared.horizon.Horizon.TheVariants.{Mark}
 use Rattle.dover_model.proofs.settled.Barriers.{AtBarrier, settled_at_barrier, state_after}
 use Rattle.dover_model.proofs.finishes.FinishOrders.{same_alike, state_alike, run_alike}

@@ -4,18 +4,13 @@ use Rattle.std.proofs.Common.{◌≡◌, ℕ, suc, ◌+◌, ◌≤◌, List, [],
 use Rattle.std.proofs.Common.{refl, sym, ap, ◌∙◌, subst, true, false, cond, arith, Option, Some, None, codes}
 use Rattle.std.specs.List.{AllByRecursion, fold}
 use Rattle.std.proofs.lemmas.Grind.{flat_map-append}
-use Rattle.dover_model.specs.Limits.{most_lines, most_jobs}
+use Rattle.dover_model.specs.Common.{most_lines, most_jobs, Declaration, JobFacts, Session, instance_of, admitted_jobs}
+use Rattle.dover_model.specs.Common.{early_finishes, settled_state, HaveTheSame, jobs_of, State, in_lines, lines_of}
+use Rattle.dover_model.specs.Common.{whole_lines, rest_of, Standing, Open, Ended, Faulty, no_lines, next_line, account}
+use Rattle.dover_model.specs.Common.{due_lines, due, short_lines, fault_text}
 use Rattle.dover_model.specs.declared.events.Task.{Task}
 use Rattle.dover_model.specs.declared.events.Version.TheVariants.{Two}
-use Rattle.dover_model.specs.Instance.{Declaration}
-use Rattle.dover_model.specs.JobFacts.{JobFacts}
-use Rattle.dover_model.specs.Session.{Session, instance_of, admitted_jobs, early_finishes}
-use Rattle.dover_model.specs.Settled.{settled_state}
-use Rattle.dover_model.specs.Sound.{HaveTheSame, jobs_of}
-use Rattle.dover_model.specs.State.{State}
-use Rattle.dover_model.specs.Lines.{in_lines, lines_of, whole_lines, rest_of}
-use Rattle.dover_model.specs.Feed.{Standing, Open, Ended, Faulty, Short, no_lines, next_line, account}
-use Rattle.dover_model.specs.Due.{due_lines, due, short_lines, fault_text}
+use Rattle.dover_model.specs.Feed.{Short}
 use Rattle.dover_model.proofs.sessions.Accounts.{Holds, account_kept}
 use Rattle.dover_model.proofs.texts.Cuts.{HasNoFeed}
 use Rattle.event_feed.specs.Listing.{HasFewJobs}

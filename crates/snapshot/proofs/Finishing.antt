@@ -13,18 +13,12 @@ use Rattle.dover_model.proofs.sessions.JobSessions.{jobs_back}
 use Rattle.dover_model.proofs.finishes.Meeting.{finishing_valid}
 use Rattle.dover_model.proofs.sessions.RunSessions.{run_jobs}
 use Rattle.dover_model.proofs.lists.Tests.{none_is_some}
-use Rattle.dover_model.specs.JobFacts.{JobFacts}
-use Rattle.dover_model.specs.Instance.{Instance, IsValid}
-use Rattle.dover_model.specs.Sound.{jobs_of}
-use Rattle.dover_model.specs.State.{State}
+use Rattle.dover_model.specs.Common.{JobFacts, Instance, IsValid, jobs_of, State, last_tick, most_items, Item, JobItem}
+use Rattle.dover_model.specs.Common.{RefusedItem, FinishItem, admitted_jobs, instance_of, session_with, mark_after}
+use Rattle.dover_model.specs.Common.{settled, settled_state, Account, account_of_lines}
 use Rattle.dover_model.specs.declared.events.Task.{Task}
 use Rattle.dover_model.specs.declared.events.Version.{Version}
 use Rattle.dover_model.specs.declared.events.Version.TheVariants.{One, Two, Three}
-use Rattle.dover_model.specs.Limits.{last_tick, most_items}
-use Rattle.dover_model.specs.Session.{Item, JobItem, RefusedItem, FinishItem, admitted_jobs, instance_of, session_with}
-use Rattle.dover_model.specs.Session.{mark_after}
-use Rattle.dover_model.specs.Settled.{settled, settled_state}
-use Rattle.dover_model.specs.Feed.{Account, account_of_lines}
 use Rattle.admission.specs.Kept as admission
 use Rattle.event_feed.specs.Kept as feed
 use Rattle.event_feed.specs.declared.kept_session.KeptSession.{KeptSession}

@@ -7,8 +7,7 @@ use Rattle.std.proofs.lemmas.Bool.{le-ltb}
 use Rattle.std.proofs.lemmas.Slice.Eq.{bytes_eq-Decides}
 use Rattle.dover_model.specs.declared.events.Role.{Role}
 use Rattle.dover_model.specs.declared.events.Role.TheVariants.{Coming, Fresh, Waiting, Held, Running, Done, Gone}
-use Rattle.dover_model.specs.Numerals.{numeral, numerals}
-use Rattle.dover_model.specs.Lines.{fields_of, numbers_after, numbers_of}
+use Rattle.dover_model.specs.Common.{numeral, numerals, fields_of, numbers_after, numbers_of}
 use Rattle.dover_model.proofs.lists.Tests.{never}
 use Rattle.line_text.proofs.Words.{IsNot, uncounted, Lacks, differs}
 use Rattle.snapshot.specs.Reading.{head_from, read_head, role_of_word, task_from, task_of_fields, read_task}

@@ -11,18 +11,12 @@ use Rattle.dover_model.specs.declared.events.Event.TheVariants.{Complete}
 use Rattle.dover_model.specs.declared.events.Role.{Role}
 use Rattle.dover_model.specs.declared.events.Role.TheVariants.{Coming, Fresh, Waiting, Held, Running, Done, Gone}
 use Rattle.dover_model.specs.declared.events.Task.{Task}
-use Rattle.dover_model.specs.Finishes.{Finish, is_due}
-use Rattle.dover_model.specs.Instance.{Instance, IsValid, with_jobs, with_finishes}
-use Rattle.dover_model.specs.JobFacts.{JobFacts}
-use Rattle.dover_model.specs.Session.{Item, JobItem, FinishItem, EarlyFinish, mark_after}
-use Rattle.dover_model.specs.Session.{session_with, instance_of, admitted_jobs, early_finishes, refused_of_item}
-use Rattle.dover_model.specs.Session.{finish_of_item, job_of_item, finish_at, may_finish_early}
-use Rattle.dover_model.specs.Settled.{settled, settled_state, finish_now, RunsAtMark}
-use Rattle.dover_model.specs.Sound.{IsMember, Each, IsNumberedFrom, jobs_of}
-use Rattle.dover_model.specs.State.{State, running, is_running, is_over, with_later, to_come}
-use Rattle.dover_model.specs.Step.{Prints, after}
-use Rattle.dover_model.specs.Paths.{HasPrinted}
-use Rattle.dover_model.specs.Limits.{last_tick, most_ready}
+use Rattle.dover_model.specs.Common.{Finish, is_due, Instance, IsValid, with_jobs, with_finishes, JobFacts, Item}
+use Rattle.dover_model.specs.Common.{JobItem, FinishItem, EarlyFinish, mark_after, session_with, instance_of}
+use Rattle.dover_model.specs.Common.{admitted_jobs, early_finishes, refused_of_item, finish_of_item, job_of_item}
+use Rattle.dover_model.specs.Common.{finish_at, may_finish_early, settled, settled_state, finish_now, RunsAtMark}
+use Rattle.dover_model.specs.Common.{IsMember, Each, IsNumberedFrom, jobs_of, State, running, is_running, is_over}
+use Rattle.dover_model.specs.Common.{with_later, to_come, Prints, after, HasPrinted, last_tick, most_ready}
 use Rattle.dover_model.proofs.sessions.Accounts.{follows_behind, mark_behind}
 use Rattle.dover_model.proofs.settled.Barriers.{AtBarrier, settled_at_barrier}
 use Rattle.dover_model.proofs.sessions.Fullness.{few_ready}

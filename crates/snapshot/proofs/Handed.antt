@@ -7,16 +7,11 @@ use Rattle.std.specs.List.{fold}
 use Rattle.std.proofs.lemmas.List.{map-append}
 use Rattle.std.proofs.lemmas.List.Sums.{fold-append}
 use Rattle.dover_model.specs.declared.events.Task.{Task}
-use Rattle.dover_model.specs.JobFacts.{JobFacts, IsJob, job_numbers, job_of_numbers}
-use Rattle.dover_model.specs.Instance.{IsValid}
-use Rattle.dover_model.specs.Numerals.{AreShort}
-use Rattle.dover_model.specs.Session.{Session, RefusedJob, admitted_jobs, refuses_lines}
-use Rattle.dover_model.specs.Sound.{jobs_of}
-use Rattle.dover_model.specs.FeedLine.{JobLine, feed_text}
+use Rattle.dover_model.specs.Common.{JobFacts, IsJob, job_numbers, job_of_numbers, IsValid, AreShort, Session}
+use Rattle.dover_model.specs.Common.{RefusedJob, admitted_jobs, refuses_lines, jobs_of, JobLine, feed_text, Account}
+use Rattle.dover_model.specs.Common.{Standing, Open, Faulty, NotAdmitted, next_line, no_lines, account_of_lines}
+use Rattle.dover_model.specs.Common.{with_line, with_fault, with_refused_at, refused_mark, is_full, instance_of}
 use Rattle.dover_model.specs.Feed as model
-use Rattle.dover_model.specs.Feed.{Account, Standing, Open, Faulty, NotAdmitted, next_line, no_lines, account_of_lines}
-use Rattle.dover_model.specs.Feed.{with_line, with_fault, with_refused_at}
-use Rattle.dover_model.specs.Session.{refused_mark, is_full, instance_of}
 use Rattle.dover_model.proofs.sessions.Fullness.{few_ready}
 use Rattle.dover_model.proofs.runs.Honest.{count_jobs}
 use Rattle.dover_model.proofs.lists.Members.{some_same, all_last}

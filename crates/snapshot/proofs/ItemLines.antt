@@ -5,21 +5,15 @@ use Rattle.std.specs.Prelude.{Some, None, nat_lt, is_some, ◌&&◌}
 use Rattle.std.specs.List.{fold}
 use Rattle.std.specs.Option.{option_map}
 use Rattle.std.proofs.lemmas.Bool.{le-ltb, le-leb}
-use Rattle.dover_model.specs.Limits.{last_tick, most_lines}
-use Rattle.dover_model.specs.JobFacts.{JobFacts, IsJob}
-use Rattle.dover_model.specs.Finishes.{Finish}
-use Rattle.dover_model.specs.Instance.{Declaration, IsValid, with_jobs}
+use Rattle.dover_model.specs.Common.{last_tick, most_lines, JobFacts, IsJob, Finish, Declaration, IsValid, with_jobs}
+use Rattle.dover_model.specs.Common.{refusal_of, refusal_in, Item, JobItem, RefusedItem, FinishItem, Session}
+use Rattle.dover_model.specs.Common.{mark_after, EarlyFinish, admitted_jobs, instance_of, session_with, with_item}
+use Rattle.dover_model.specs.Common.{with_named, may_finish_early, early_at, finish_at, is_right, FeedLine, JobLine}
+use Rattle.dover_model.specs.Common.{DoneLine, feed_line, feed_text, Account, Lines, Line, Order, NotAdmitted, NotDone}
+use Rattle.dover_model.specs.Common.{late_cause, with_fault, with_line, cause_of, next_line}
 use Rattle.std.specs.Bool.{then_some}
 use Rattle.std.specs.Option.{option_or}
-use Rattle.dover_model.specs.Admission.{refusal_of}
 use Rattle.dover_model.specs.declared.events.Refusal.TheVariants.{Full}
-use Rattle.dover_model.specs.Session.{refusal_in}
-use Rattle.dover_model.specs.Session.{Item, JobItem, RefusedItem, FinishItem, Session, mark_after}
-use Rattle.dover_model.specs.Session.{EarlyFinish, admitted_jobs, instance_of, session_with}
-use Rattle.dover_model.specs.Session.{with_item, with_named, may_finish_early, early_at, finish_at, is_right}
-use Rattle.dover_model.specs.FeedLine.{FeedLine, JobLine, DoneLine, feed_line, feed_text}
-use Rattle.dover_model.specs.Feed.{Account, Lines, Line, Order, NotAdmitted, NotDone, late_cause, with_fault}
-use Rattle.dover_model.specs.Feed.{with_line, cause_of, next_line}
 use Rattle.dover_model.proofs.texts.FeedLines.{feed_line-feed_text}
 use Rattle.dover_model.proofs.valid.Admitting.{valid_admitted}
 use Rattle.dover_model.proofs.settled.Barriers.{settled_at_barrier}

@@ -6,18 +6,10 @@ use Rattle.std.specs.List.{AllByRecursion}
 use Rattle.std.proofs.lemmas.Bool.{le-leb, leb-true, leb-false}
 use Rattle.dover_model.specs.declared.events.Role.TheVariants.{Fresh, Running}
 use Rattle.dover_model.specs.declared.events.Task.{Task}
-use Rattle.dover_model.specs.Finishes.{is_due, goes_on as goes}
-use Rattle.dover_model.specs.Instance.{Instance, IsValid}
-use Rattle.dover_model.specs.JobFacts.{JobFacts}
-use Rattle.dover_model.specs.Jumps.{ticked_by, silent_ticks}
-use Rattle.dover_model.specs.Paths.{IsOpenPath}
-use Rattle.dover_model.specs.Processor.{is_complete}
-use Rattle.dover_model.specs.Run.{Step}
-use Rattle.dover_model.specs.Settled.{waits_for_mark, settled, settled_steps, settled_state}
-use Rattle.dover_model.specs.Sound.{IsMember, Each, Keeps}
-use Rattle.dover_model.specs.State.{State, opening, is_running}
-use Rattle.dover_model.specs.Step.{Move, Ticks, open_step, after, ticked}
-use Rattle.dover_model.specs.WholeRun.{open_at, IsBarrier, IsBefore}
+use Rattle.dover_model.specs.Common.{is_due, goes_on as goes, Instance, IsValid, JobFacts, ticked_by, silent_ticks}
+use Rattle.dover_model.specs.Common.{IsOpenPath, is_complete, Step, waits_for_mark, settled, settled_steps}
+use Rattle.dover_model.specs.Common.{settled_state, IsMember, Each, Keeps, State, opening, is_running, Move, Ticks}
+use Rattle.dover_model.specs.Common.{open_step, after, ticked, open_at, IsBarrier, IsBefore}
 use Rattle.dover_model.proofs.settled.Barriers.{AtBarrier, settled_at_barrier, late_none_fresh}
 use Rattle.dover_model.proofs.steps.Deeds.{Deed, Completed, Resumed, Started, Began, Preempted, Stayed, Arrived, Taken}
 use Rattle.dover_model.proofs.steps.Deeds.{Abandoned, Rested}

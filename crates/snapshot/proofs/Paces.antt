@@ -5,16 +5,10 @@ use Rattle.std.proofs.Common.{Bool, true, false, cond, eqb}
 use Rattle.dover_model.specs.declared.events.Event.{Event}
 use Rattle.dover_model.specs.declared.events.Role.TheVariants.{Waiting}
 use Rattle.dover_model.specs.declared.events.Task.{Task}
-use Rattle.dover_model.specs.Finishes.{Finish}
-use Rattle.dover_model.specs.JobFacts.{JobFacts}
-use Rattle.dover_model.specs.Instance.{Instance, IsValid}
-use Rattle.dover_model.specs.Paths.{IsOpenPath, HasPrinted}
-use Rattle.dover_model.specs.Run.{Step}
-use Rattle.dover_model.specs.Settled.{settled, settled_steps, settled_state, AreOverFor}
-use Rattle.dover_model.specs.Sound.{Each, Keeps}
-use Rattle.dover_model.specs.State.{State, opening, is_running}
-use Rattle.dover_model.specs.Step.{Move, Prints, Waits, Ticks, open_step, after, with_role, role_after, ticked}
-use Rattle.dover_model.specs.WholeRun.{IsBarrier}
+use Rattle.dover_model.specs.Common.{Finish, JobFacts, Instance, IsValid, IsOpenPath, HasPrinted, Step, settled}
+use Rattle.dover_model.specs.Common.{settled_steps, settled_state, AreOverFor, Each, Keeps, State, opening, is_running}
+use Rattle.dover_model.specs.Common.{Move, Prints, Waits, Ticks, open_step, after, with_role, role_after, ticked}
+use Rattle.dover_model.specs.Common.{IsBarrier}
 use Rattle.dover_model.proofs.runs.Ending.{potential}
 use Rattle.dover_model.proofs.steps.Kept.{Moved, move_of, open_kept, opening_keeps}
 use Rattle.dover_model.proofs.lists.Members.{on_map}

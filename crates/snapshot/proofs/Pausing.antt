@@ -6,12 +6,8 @@ use Rattle.std.specs.Option.{option_map}
 use Rattle.std.proofs.lemmas.List.{length-map}
 use Rattle.dover_model.specs.declared.events.Task.{Task}
 use Rattle.dover_model.specs.declared.events.Version.TheVariants.{Three}
-use Rattle.dover_model.specs.Limits.{most_jobs, most_lines, last_tick}
-use Rattle.dover_model.specs.Feed.{account}
-use Rattle.dover_model.specs.Instance.{Rules, Declaration, declared_by, Instance}
-use Rattle.dover_model.specs.Lines.{in_lines}
-use Rattle.dover_model.specs.Session.{instance_of}
-use Rattle.dover_model.specs.Settled.{settled, settled_state}
+use Rattle.dover_model.specs.Common.{most_jobs, most_lines, last_tick, account, Rules, Declaration, declared_by}
+use Rattle.dover_model.specs.Common.{Instance, in_lines, instance_of, settled, settled_state}
 use Rattle.dover_model.proofs.sessions.Accounts.{Holds}
 use Rattle.dover_model.proofs.settled.Barriers.{settled_at_barrier}
 use Rattle.dover_model.proofs.runs.Honest.{count_jobs}

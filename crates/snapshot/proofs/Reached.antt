@@ -1,5 +1,12 @@
 -- The mark of a feed that goes on is that behind its items, or there is a line that is no item; and its lines are few.
-use Rattle.dover_model.specs.Fraction.{fraction, with_factor}
+use Rattle.dover_model.specs.Common.{fraction, with_factor, last_tick, most_lines, JobFacts, Declaration, Item, Session}
+use Rattle.dover_model.specs.Common.{JobItem, RefusedItem, FinishItem, Refused, RefusedJob, RefusedDone, EarlyFinish}
+use Rattle.dover_model.specs.Common.{mark_after, with_item, with_named, new_session, early_at, is_right, refuses_lines}
+use Rattle.dover_model.specs.Common.{may_finish_early, late_refusal, FeedLine, RatioLine, FactorLine, JobLine, TickLine}
+use Rattle.dover_model.specs.Common.{DoneLine, EndLine, feed_line, Lines, Line, Declared, Order, NotAdmitted, NotDone}
+use Rattle.dover_model.specs.Common.{Standing, Open, Ended, Faulty, Account, declared_rules, factor_rules}
+use Rattle.dover_model.specs.Common.{first_line_cause, late_cause, later_line_cause, with_fault, with_refused_at}
+use Rattle.dover_model.specs.Common.{refusal_in, refused_mark, with_line, next_line, most_lines_in, Cause}
 use Rattle.std.proofs.Common.{◌≡◌, ◌⊎◌, inl, inr, ℕ, suc, ◌+◌, ◌≤◌, ◌<◌, List, [], ◌∷◌, ◌++◌, length, length-append}
 use Rattle.std.proofs.Common.{refl, sym, ap, subst}
 use Rattle.std.proofs.Common.{Bool, true, false, cond, ◌||◌, arith, Option, Some, None, is_some}
@@ -7,25 +14,10 @@ use Rattle.std.specs.Prelude.{nat_lt, max}
 use Rattle.std.specs.List.{fold}
 use Rattle.std.specs.Option.{option_map, option_map_or}
 use Rattle.std.proofs.lemmas.Bool.{ltb-false}
-use Rattle.dover_model.specs.Limits.{last_tick, most_lines}
 use Rattle.dover_model.specs.declared.events.Version.{Version}
 use Rattle.dover_model.specs.declared.events.Version.TheVariants.{One, Two, Three}
-use Rattle.dover_model.specs.JobFacts.{JobFacts}
 use Rattle.dover_model.specs.declared.events.Refusal.{Refusal}
-use Rattle.dover_model.specs.Instance.{Declaration}
-use Rattle.dover_model.specs.Session.{Item, Session, JobItem, RefusedItem, FinishItem, Refused, RefusedJob, RefusedDone}
-use Rattle.dover_model.specs.Session.{EarlyFinish, mark_after}
-use Rattle.dover_model.specs.Session.{with_item, with_named, new_session, early_at}
-use Rattle.dover_model.specs.Session.{is_right}
-use Rattle.dover_model.specs.Session.{refuses_lines, may_finish_early, late_refusal}
-use Rattle.dover_model.specs.FeedLine.{FeedLine, RatioLine, FactorLine, JobLine, TickLine, DoneLine, EndLine, feed_line}
-use Rattle.dover_model.specs.Feed.{Lines, Line, Declared, Order, NotAdmitted, NotDone, Standing, Open, Ended, Faulty}
-use Rattle.dover_model.specs.Feed.{Account}
-use Rattle.dover_model.specs.Feed.{declared_rules, factor_rules, first_line_cause, late_cause, later_line_cause}
-use Rattle.dover_model.specs.Feed.{with_fault}
-use Rattle.dover_model.specs.Feed.{with_refused_at}
-use Rattle.dover_model.specs.Session.{refusal_in, refused_mark}
-use Rattle.dover_model.specs.Feed.{with_line, next_line, most_lines_in, Cause, Short}
+use Rattle.dover_model.specs.Feed.{Short}
 use Rattle.dover_model.proofs.sessions.Accounts.{account_with, mark_behind}
 use Rattle.dover_model.proofs.sessions.Growing.{early_says}
 use Rattle.event_feed.proofs.Counting.{after_form}

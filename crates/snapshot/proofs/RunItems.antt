@@ -2,22 +2,14 @@
 use Rattle.std.proofs.Common.{◌≡◌, ◌⊎◌, ℕ, ◌≤◌, max, inl, inr, List, [], ◌∷◌, ◌++◌, length, map, append-nil, refl, sym}
 use Rattle.std.proofs.Common.{ap, ◌∙◌, subst, arith, Bool, true, false, cond}
 use Rattle.std.specs.Prelude.{Some, None}
-use Rattle.dover_model.specs.Finishes.{Finish}
+use Rattle.dover_model.specs.Common.{Finish, Declaration, Instance, IsValid, under, declared_by, most_items, most_ready}
+use Rattle.dover_model.specs.Common.{in_lines, run, printed, Item, JobItem, RefusedItem, FinishItem, Session}
+use Rattle.dover_model.specs.Common.{IsValidSession, IsDeclarable, admitted_jobs, early_finishes, refused_of_item}
+use Rattle.dover_model.specs.Common.{instance_of, session_with, may_finish_early, finish_at, is_full, mark_after}
+use Rattle.dover_model.specs.Common.{IsMember, Each, State, opening, running, Move, Prints, Waits, Ticks, header}
+use Rattle.dover_model.specs.Common.{Placed, Printed, handed_by, session_of, session_of_run, places_after, put_in}
+use Rattle.dover_model.specs.Common.{text_of_line, trace_of_session}
 use Rattle.dover_model.specs.declared.events.Event.TheVariants.{Release, Run, Preempt, Take, Complete, Abandon, End}
-use Rattle.dover_model.specs.Instance.{Declaration, Instance, IsValid, under, declared_by}
-use Rattle.dover_model.specs.Limits.{most_items, most_ready}
-use Rattle.dover_model.specs.Lines.{in_lines}
-use Rattle.dover_model.specs.Run.{run, printed}
-use Rattle.dover_model.specs.Session.{Item, JobItem, RefusedItem, FinishItem, Session, IsValidSession}
-use Rattle.dover_model.specs.Session.{IsDeclarable}
-use Rattle.dover_model.specs.Session.{admitted_jobs, early_finishes, refused_of_item}
-use Rattle.dover_model.specs.Session.{instance_of, session_with, may_finish_early, finish_at, is_full, mark_after}
-use Rattle.dover_model.specs.Sound.{IsMember, Each}
-use Rattle.dover_model.specs.State.{State, opening, running}
-use Rattle.dover_model.specs.Step.{Move, Prints, Waits, Ticks}
-use Rattle.dover_model.specs.Text.{header}
-use Rattle.dover_model.specs.Trace.{Placed, Printed, handed_by, session_of, session_of_run}
-use Rattle.dover_model.specs.Trace.{places_after, put_in, text_of_line, trace_of_session}
 use Rattle.dover_model.proofs.finishes.EarlyEnds.{shown_own}
 use Rattle.dover_model.proofs.runs.Ending.{run_is_whole}
 use Rattle.dover_model.proofs.sessions.Former.{none_early}

@@ -9,13 +9,9 @@ use Rattle.dover_model.specs.declared.events.Role.{Role}
 use Rattle.dover_model.specs.declared.events.Role.TheVariants.{Coming, Fresh, Waiting, Held, Running, Done, Gone}
 use Rattle.dover_model.specs.declared.events.Task.{Task}
 use Rattle.dover_model.specs.declared.events.Version.{Version}
-use Rattle.dover_model.specs.Finishes.{Finish, AreDueAlike}
-use Rattle.dover_model.specs.Instance.{Instance, IsValid, under, finishing}
-use Rattle.dover_model.specs.Session.{Session, instance_of, admitted_jobs, early_finishes, may_finish_early}
-use Rattle.dover_model.specs.Settled.{settled_state, finish_now}
-use Rattle.dover_model.specs.Sound.{IsMember, Each, HaveTheSame, jobs_of}
-use Rattle.dover_model.specs.State.{is_done}
-use Rattle.dover_model.specs.Trace.{handed_by, session_of_run}
+use Rattle.dover_model.specs.Common.{Finish, AreDueAlike, Instance, IsValid, under, finishing, Session, instance_of}
+use Rattle.dover_model.specs.Common.{admitted_jobs, early_finishes, may_finish_early, settled_state, finish_now}
+use Rattle.dover_model.specs.Common.{IsMember, Each, HaveTheSame, jobs_of, is_done, handed_by, session_of_run}
 use Rattle.dover_model.proofs.sessions.Accounts.{Holds}
 use Rattle.dover_model.proofs.settled.Barriers.{AtBarrier, settled_at_barrier}
 use Rattle.dover_model.proofs.finishes.FinishOrders.{same_alike, state_alike, run_alike}

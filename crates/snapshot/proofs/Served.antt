@@ -5,16 +5,9 @@ use Rattle.std.specs.Prelude.{nat_lt, nat_le, ◌==◌, ◌&&◌}
 use Rattle.std.proofs.lemmas.Bool.{eqb-true, eq-eqb, lt-ltb, leb-true, leb-false}
 use Rattle.dover_model.specs.declared.events.Role.TheVariants.{Done, Gone}
 use Rattle.dover_model.specs.declared.events.Task.{Task}
-use Rattle.dover_model.specs.Finishes.{Finish, need}
-use Rattle.dover_model.specs.Instance.{Instance, IsValid}
-use Rattle.dover_model.specs.Paths.{IsOpenPath}
-use Rattle.dover_model.specs.Processor.{is_complete}
-use Rattle.dover_model.specs.Run.{Step}
-use Rattle.dover_model.specs.Settled.{settled_steps, settled_state, finish_now}
-use Rattle.dover_model.specs.Sound.{IsMember, Keeps}
-use Rattle.dover_model.specs.State.{State, opening}
-use Rattle.dover_model.specs.Step.{Ticks, open_step, after}
-use Rattle.dover_model.specs.WholeRun.{IsBarrier}
+use Rattle.dover_model.specs.Common.{Finish, need, Instance, IsValid, IsOpenPath, is_complete, Step, settled_steps}
+use Rattle.dover_model.specs.Common.{settled_state, finish_now, IsMember, Keeps, State, opening, Ticks, open_step}
+use Rattle.dover_model.specs.Common.{after, IsBarrier}
 use Rattle.dover_model.proofs.steps.Kept.{open_deed, open_kept, opening_keeps}
 use Rattle.dover_model.proofs.finishes.Needing.{Served, AllServed, opening_served, ticks_served, deed_served}
 use Rattle.dover_model.proofs.finishes.Readiness.{IsReady, Decides, open_decides, open_ready, opening_ready}

@@ -4,12 +4,9 @@ use Rattle.std.proofs.Common.{◌≡◌, true, false, arith}
 use Rattle.std.specs.Prelude.{Some, Result, Ok, Err, IsErr, OnOk, OnErr}
 use Rattle.dover_model.specs.declared.events.Event.{Event}
 use Rattle.dover_model.specs.declared.events.Task.{Task}
-use Rattle.dover_model.specs.JobFacts.{JobFacts, IsJob}
-use Rattle.dover_model.specs.Instance.{Instance}
-use Rattle.dover_model.specs.Limits.{last_tick}
+use Rattle.dover_model.specs.Common.{JobFacts, IsJob, Instance, last_tick, MayFollow, due_by, Gives}
 use Rattle.dover_model.proofs.lists.Members.{all_last}
 use Rattle.dover_model.specs.declared.horizon.Horizon.TheVariants.{Mark}
-use Rattle.dover_model.specs.Horizons.{MayFollow, due_by, Gives}
 use Rattle.dover_model.proofs.settled.Horizons.{due_few}
 use Rattle.dover_model.proofs.valid.Limiting.{jobs_most}
 use Rattle.ready_server.proofs.Stepping.{serves_begins}

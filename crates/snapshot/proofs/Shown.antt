@@ -3,17 +3,10 @@ use Rattle.std.proofs.Common.{◌≡◌, ℕ, inl, inr, List, [], ◌∷◌, ref
 use Rattle.std.specs.Prelude.{nat_le, ◌&&◌}
 use Rattle.std.specs.Bool.{MatchBool}
 use Rattle.std.specs.List.{list_all}
-use Rattle.dover_model.specs.Finishes.{Finish}
-use Rattle.dover_model.specs.Instance.{Rules, Instance, IsValid, having, finishing}
-use Rattle.dover_model.specs.Paths.{IsOpenPath}
-use Rattle.dover_model.specs.Run.{Step, is_end, run}
-use Rattle.dover_model.specs.Session.{early_finishes}
-use Rattle.dover_model.specs.Settled.{waits_for_mark, settled_steps, settled_state, AreOverFor}
-use Rattle.dover_model.specs.Sound.{IsMember, Each, Keeps}
-use Rattle.dover_model.specs.State.{State, opening, is_over}
-use Rattle.dover_model.specs.Step.{step, open_step, after}
-use Rattle.dover_model.specs.Trace.{session_of_run}
-use Rattle.dover_model.specs.WholeRun.{step_at, IsWholeRun}
+use Rattle.dover_model.specs.Common.{Finish, Rules, Instance, IsValid, having, finishing, IsOpenPath, Step, is_end, run}
+use Rattle.dover_model.specs.Common.{early_finishes, waits_for_mark, settled_steps, settled_state, AreOverFor, IsMember}
+use Rattle.dover_model.specs.Common.{Each, Keeps, State, opening, is_over, step, open_step, after, session_of_run}
+use Rattle.dover_model.specs.Common.{step_at, IsWholeRun}
 use Rattle.dover_model.proofs.settled.Barriers.{state_after}
 use Rattle.dover_model.proofs.finishes.EarlyEnds.{same_here, shown_all}
 use Rattle.dover_model.proofs.runs.Ending.{run_is_whole}

@@ -14,16 +14,12 @@ use Rattle.dover_model.specs.declared.events.Role.{Role}
 use Rattle.dover_model.specs.declared.events.Role.TheVariants.{Coming, Fresh, Waiting, Held, Running, Done, Gone}
 use Rattle.dover_model.specs.declared.events.Task.{Task}
 use Rattle.dover_model.specs.declared.events.Version.{Version}
-use Rattle.dover_model.specs.declared.events.Version.TheVariants.{One, Two}
-use Rattle.dover_model.specs.Fraction.{Fraction, IsRatio, is_ratio, fraction, with_factor, factor_numbers}
+use Rattle.dover_model.specs.declared.events.Version.TheVariants.{One, Two, Three}
+use Rattle.dover_model.specs.Common.{Fraction, IsRatio, is_ratio, fraction, with_factor, factor_numbers, rules_with}
+use Rattle.dover_model.specs.Common.{factor_rules, IsDeclarable, Declaration, job_of_numbers, job_numbers, numerals}
+use Rattle.dover_model.specs.Common.{AreShort, is_too_long, fields_of, line_of, with_numbers, numbers_after, numbers_of}
+use Rattle.dover_model.specs.Common.{version_number, version_of_number}
 use Rattle.dover_model.specs.declared.factors.Factor.{Factor}
-use Rattle.dover_model.specs.Feed.{rules_with, factor_rules}
-use Rattle.dover_model.specs.Session.{IsDeclarable}
-use Rattle.dover_model.specs.Instance.{Declaration}
-use Rattle.dover_model.specs.JobFacts.{job_of_numbers, job_numbers}
-use Rattle.dover_model.specs.Numerals.{numerals, AreShort}
-use Rattle.dover_model.specs.Lines.{is_too_long, fields_of, line_of, with_numbers, numbers_after, numbers_of}
-use Rattle.dover_model.specs.Text.{version_number}
 use Rattle.dover_model.proofs.lists.Tests.{never, none_is_some}
 use Rattle.dover_model.proofs.valid.JobLimits.{ratio_limits}
 use Rattle.dover_model.proofs.lists.Members.{some_same}
@@ -35,8 +31,6 @@ use Rattle.snapshot.specs.Snapshot.{Head, head_numbers, head_line, IsHead, role_
 use Rattle.snapshot.specs.Snapshot.{state_numbers, IsState}
 use Rattle.snapshot.specs.Reading.{rules_from, head_with, head_from, read_head, role_of_word, task_from}
 use Rattle.snapshot.specs.Reading.{task_of_fields, read_task}
-use Rattle.dover_model.specs.declared.events.Version.TheVariants.{Three}
-use Rattle.dover_model.specs.Verdict.{version_of_number}
 use Rattle.dover_model.proofs.texts.TraceLines.{version_back, version_from}
 
 -- ---- a word and numbers

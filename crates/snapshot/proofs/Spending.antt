@@ -5,8 +5,7 @@ use Rattle.std.specs.Prelude.{nat_lt, bytes_eq}
 use Rattle.std.proofs.lemmas.List.Sums.{fold-append}
 use Rattle.dover_model.specs.declared.events.Event.{Event}
 use Rattle.dover_model.specs.declared.events.Task.{Task}
-use Rattle.dover_model.specs.Instance.{Instance}
-use Rattle.dover_model.specs.Settled.{settled}
+use Rattle.dover_model.specs.Common.{Instance, settled, Item, instance_of, session_with}
 use Rattle.snapshot.specs.Snapshot.{Head}
 use Rattle.snapshot.specs.Reading.{Begun, Going, Taken, read_task, with_task, with_last, may_follow, has_reached_mark}
 use Rattle.snapshot.specs.Reading.{is_settled, refused_behind, next_line, reading_of, last_release}
@@ -16,7 +15,6 @@ use Rattle.ready_server.proofs.Rostered.{roster_rests}
 use Rattle.dover_model.specs.declared.horizon.Horizon.TheVariants.{Mark}
 use Rattle.snapshot.specs.Stored.{HasRead}
 use Rattle.ready_server.specs.Rostering.{Serves}
-use Rattle.dover_model.specs.Session.{Item, instance_of, session_with}
 use Rattle.snapshot.specs.Kept.{IsReading, IsHandedIn, HasRun, HasRunTowards}
 use Rattle.ready_server.specs.declared.roster_server.RosterServer.{RosterServer}
 use Rattle.snapshot.specs.Spending.{jobs_read, jobs_kept}

@@ -1,9 +1,8 @@
 -- The run of a snapshot's jobs begins with a server of no jobs.
 use Rattle.std.proofs.Common.{◌≡◌, [], refl, arith, true}
-use Rattle.dover_model.specs.Sound.{Each}
+use Rattle.dover_model.specs.Common.{Each, instance_of, session_with}
 use Rattle.dover_model.specs.declared.events.Version.{Version}
 use Rattle.dover_model.specs.declared.events.Version.TheVariants.{One, Two, Three}
-use Rattle.dover_model.specs.Session.{instance_of, session_with}
 use Rattle.dover_model.specs.declared.horizon.Horizon.TheVariants.{Mark}
 use Rattle.ready_server.specs.Rostering.{Serves, has_roster}
 use Rattle.ready_server.specs.declared.roster_server.RosterServer.{RosterServer}

@@ -7,9 +7,7 @@ use Rattle.std.proofs.lemmas.Bool.{lt-ltb, le-ltb, leb-true, eqb-true, and_parts
 use Rattle.std.proofs.lemmas.List.{map-append}
 use Rattle.std.proofs.lemmas.List.Sums.{fold-append}
 use Rattle.dover_model.specs.declared.events.Task.{Task}
-use Rattle.dover_model.specs.Instance.{Declaration, under, IsValid, is_valid}
-use Rattle.dover_model.specs.Fraction.{IsRatio}
-use Rattle.dover_model.specs.Sound.{IsNumberedFrom}
+use Rattle.dover_model.specs.Common.{Declaration, under, IsValid, is_valid, IsRatio, IsNumberedFrom}
 use Rattle.dover_model.proofs.sessions.Growing.{all_behind, reads_new}
 use Rattle.snapshot.specs.Snapshot.{Head, head_line, state_line}
 use Rattle.snapshot.specs.Reading.{Begun, Going, Taken, Refused, is_within_limits, declared_jobs, may_follow}

@@ -6,19 +6,14 @@ use Rattle.std.specs.Prelude.{nat_le, nat_lt, ◌==◌}
 use Rattle.std.specs.List.{AllByRecursion}
 use Rattle.std.proofs.lemmas.Bool.{le-leb, lt-ltb, eq-eqb, and_from, leb-true, leb-false}
 use Rattle.std.proofs.lemmas.List.{map-append}
-use Rattle.dover_model.specs.Limits.{last_tick, most_jobs, most_lines, most_items}
+use Rattle.dover_model.specs.Common.{last_tick, most_jobs, most_lines, most_items, IsJob, Instance, under, IsValid}
+use Rattle.dover_model.specs.Common.{is_valid, Item, JobItem, RefusedItem, FinishItem, Session, instance_of}
+use Rattle.dover_model.specs.Common.{admitted_jobs, mark_after, session_with, settled_state, IsMember, IsNumberedFrom}
+use Rattle.dover_model.specs.Common.{jobs_of, State, Account, Open}
 use Rattle.dover_model.specs.declared.events.Role.{Role}
 use Rattle.dover_model.specs.declared.events.Role.TheVariants.{Coming, Fresh, Waiting, Held, Running, Done, Gone}
 use Rattle.dover_model.specs.declared.events.Task.{Task}
 use Rattle.dover_model.specs.declared.events.Version.TheVariants.{Two}
-use Rattle.dover_model.specs.JobFacts.{IsJob}
-use Rattle.dover_model.specs.Instance.{Instance, under, IsValid, is_valid}
-use Rattle.dover_model.specs.Session.{Item, JobItem, RefusedItem, FinishItem, Session, instance_of, admitted_jobs}
-use Rattle.dover_model.specs.Session.{mark_after, session_with}
-use Rattle.dover_model.specs.Settled.{settled_state}
-use Rattle.dover_model.specs.Sound.{IsMember, IsNumberedFrom, jobs_of}
-use Rattle.dover_model.specs.State.{State}
-use Rattle.dover_model.specs.Feed.{Account, Open}
 use Rattle.dover_model.proofs.finishes.Meeting.{finishing_valid}
 use Rattle.dover_model.proofs.sessions.Accounts.{Holds, HoldsBy, HoldsOpen, IsKept}
 use Rattle.dover_model.proofs.settled.Barriers.{AtBarrier, settled_at_barrier}

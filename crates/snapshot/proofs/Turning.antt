@@ -7,17 +7,11 @@ use Rattle.std.specs.List.{AllByRecursion, filter_map}
 use Rattle.std.proofs.lemmas.Bool.{leb-true, leb-false}
 use Rattle.dover_model.specs.declared.events.Event.{Event}
 use Rattle.dover_model.specs.declared.events.Task.{Task}
-use Rattle.dover_model.specs.Instance.{Instance, IsValid, with_finishes}
-use Rattle.dover_model.specs.Limits.{last_tick}
-use Rattle.dover_model.specs.Paths.{HasPrinted}
-use Rattle.dover_model.specs.Ready.{is_ready}
-use Rattle.dover_model.specs.Rest.{IsAtRest, before_end}
-use Rattle.dover_model.specs.Run.{printed}
-use Rattle.dover_model.specs.Session.{Item, FinishItem, EarlyFinish, finish_at, instance_of, session_with}
-use Rattle.dover_model.specs.Settled.{settled, settled_steps, settled_state}
-use Rattle.dover_model.specs.Sound.{IsMember, Each, jobs_of}
-use Rattle.dover_model.specs.State.{State, opening, is_over, running, state_at}
-use Rattle.dover_model.specs.Horizons.{MayFollow}
+use Rattle.dover_model.specs.Common.{Instance, IsValid, with_finishes, last_tick, HasPrinted, is_ready, IsAtRest}
+use Rattle.dover_model.specs.Common.{before_end, printed, Item, FinishItem, EarlyFinish, finish_at, instance_of}
+use Rattle.dover_model.specs.Common.{session_with, settled, settled_steps, settled_state, IsMember, Each, jobs_of}
+use Rattle.dover_model.specs.Common.{State, opening, is_over, running, state_at, MayFollow, may_finish_early}
+use Rattle.dover_model.specs.Common.{early_finishes}
 use Rattle.dover_model.specs.declared.horizon.Horizon.TheVariants.{Mark}
 use Rattle.dover_model.proofs.rest.Apart.{settled_at_rest}
 use Rattle.dover_model.proofs.settled.Barriers.{state_after}
@@ -39,7 +33,6 @@ use Rattle.snapshot.specs.Forms.{head_in}
 use Rattle.snapshot.specs.Kept.{IsHandedIn, IsNearing, IsAbout, HasRun, HasRunTowards, ComesNear, stance_of}
 use Rattle.snapshot.specs.Kept.{next_early, IsToCome}
 use Rattle.snapshot.specs.Reading.{early_of}
-use Rattle.dover_model.specs.Session.{may_finish_early, early_finishes}
 use Rattle.snapshot.specs.declared.resuming.Resuming.{Resuming}
 use Rattle.snapshot.proofs.Counts.{good_few}
 use Rattle.snapshot.proofs.Going.{all_near, none_comes, one_comes, Comes, next_later, handed_finish, finish_run}

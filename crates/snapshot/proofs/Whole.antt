@@ -8,16 +8,11 @@ use Rattle.std.specs.List.{AllByRecursion, fold, filter_map}
 use Rattle.std.proofs.lemmas.Bool.{and_parts, ltb-true, leb-true}
 use Rattle.std.proofs.lemmas.List.Sums.{fold-append}
 use Rattle.dover_model.specs.declared.events.Task.{Task}
-use Rattle.dover_model.specs.Limits.{last_tick, most_lines, most_ready}
-use Rattle.dover_model.specs.Instance.{Instance, under, having, IsValid}
-use Rattle.dover_model.specs.Session.{Item, Session, instance_of, admitted_jobs, early_finishes, mark_after}
-use Rattle.dover_model.specs.Session.{may_finish_early, IsValidSession}
-use Rattle.dover_model.specs.Settled.{settled_state}
-use Rattle.dover_model.specs.Sound.{IsMember, Each, HaveTheSame, jobs_of}
-use Rattle.dover_model.specs.State.{State}
-use Rattle.dover_model.specs.Lines.{in_lines}
-use Rattle.dover_model.specs.FeedLine.{TickLine, feed_text}
-use Rattle.dover_model.specs.Feed.{Account, no_lines, next_line, account_of_lines, account, is_open}
+use Rattle.dover_model.specs.Common.{last_tick, most_lines, most_ready, Instance, under, having, IsValid, Item, Session}
+use Rattle.dover_model.specs.Common.{instance_of, admitted_jobs, early_finishes, mark_after, may_finish_early}
+use Rattle.dover_model.specs.Common.{IsValidSession, settled_state, IsMember, Each, HaveTheSame, jobs_of, State}
+use Rattle.dover_model.specs.Common.{in_lines, TickLine, feed_text, Account, no_lines, next_line, account_of_lines}
+use Rattle.dover_model.specs.Common.{account, is_open}
 use Rattle.dover_model.proofs.lists.Members.{all_copies}
 use Rattle.dover_model.proofs.settled.Barriers.{AtBarrier, settled_at_barrier}
 use Rattle.dover_model.proofs.texts.Cuts.{HasNoFeed}

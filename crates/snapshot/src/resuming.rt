@@ -4,11 +4,8 @@ ghost use Rattle.std.specs.Prelude.{◌++◌, length, map, true, Some, IsTrue, I
 ghost use Rattle.std.specs.List.{AllByRecursion};
 ghost use Rattle.dover_model.specs.declared.events.Event.{Event};
 ghost use Rattle.dover_model.specs.declared.events.Task.{Task};
-ghost use Rattle.dover_model.specs.Instance.{Instance};
-ghost use Rattle.dover_model.specs.Limits.{last_tick};
-ghost use Rattle.dover_model.specs.Settled.{settled};
+ghost use Rattle.dover_model.specs.Common.{Instance, last_tick, settled, MayFollow};
 ghost use Rattle.dover_model.specs.declared.horizon.Horizon.TheVariants.{Mark};
-ghost use Rattle.dover_model.specs.Horizons.{MayFollow};
 ghost use Rattle.snapshot.specs.Snapshot as model;
 ghost use Rattle.snapshot.specs.Kept.{stance_of, is_done_role, is_early, early_behind, next_early, IsAbout, HasRun};
 ghost use Rattle.snapshot.specs.Kept.{HasRunTowards, ComesNear, MayAdmit, IsAt, AreAt, IsReading, Begins, Answers};

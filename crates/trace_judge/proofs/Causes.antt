@@ -7,10 +7,8 @@ use Rattle.std.specs.Option.{option_or}
 use Rattle.std.proofs.lemmas.Bool.{ltb-true, eq-eqb, eqb-true}
 use Rattle.dover_model.specs.declared.events.Refusal.{Refusal}
 use Rattle.dover_model.specs.declared.events.Refusal.TheVariants.{BadJob, Count, Total, Ratio, Late, Full}
-use Rattle.dover_model.specs.JobFacts.{JobFacts}
-use Rattle.dover_model.specs.Admission.{refusal_of}
-use Rattle.dover_model.specs.Session.{Session, instance_of, admitted_jobs, is_full, late_refusal, refusal_in}
-use Rattle.dover_model.specs.Session.{refusal_at, refused_mark}
+use Rattle.dover_model.specs.Common.{JobFacts, refusal_of, Session, instance_of, admitted_jobs, is_full, late_refusal}
+use Rattle.dover_model.specs.Common.{refusal_in, refusal_at, refused_mark}
 use Rattle.dover_model.proofs.sessions.Fullness.{full_in, full_at}
 use Rattle.dover_model.proofs.lists.Members.{some_same}
 use Rattle.dover_model.proofs.lists.Tests.{none_is_some}

@@ -9,24 +9,15 @@ use Rattle.std.specs.Option.{option_map}
 use Rattle.std.specs.List.{filter}
 use Rattle.ready_jobs.proofs.Courses.{follows_count}
 use Rattle.waiting_pool.proofs.Reordering.{as_many}
-use Rattle.dover_model.specs.Ready.{is_ready}
-use Rattle.dover_model.specs.Instance.{Instance, with_finishes}
-use Rattle.dover_model.specs.Limits.{last_tick, most_items}
+use Rattle.dover_model.specs.Common.{is_ready, Instance, with_finishes, last_tick, most_items, IsMember, State, running}
+use Rattle.dover_model.specs.Common.{is_running, is_over, Prints, after, printed_of, settled, settled_state, last_of}
+use Rattle.dover_model.specs.Common.{finish_now, FinishItem, EarlyFinish, Session, instance_of, admitted_jobs}
+use Rattle.dover_model.specs.Common.{with_item, job_of_item, finish_at, early_at, may_finish_early, ready_at, text_of}
+use Rattle.dover_model.specs.Common.{named_item, begins_trace, WaitsUntil, IsBarrier}
 use Rattle.dover_model.specs.declared.events.Event.{Event}
 use Rattle.dover_model.specs.declared.events.Event.TheVariants.{Complete}
 use Rattle.dover_model.specs.declared.events.Role.TheVariants.{Running}
 use Rattle.dover_model.specs.declared.events.Task.{Task}
-use Rattle.dover_model.specs.Sound.{IsMember}
-use Rattle.dover_model.specs.State.{State, running, is_running, is_over}
-use Rattle.dover_model.specs.Step.{Prints, after}
-use Rattle.dover_model.specs.Run.{printed_of}
-use Rattle.dover_model.specs.Settled.{settled, settled_state, last_of, finish_now}
-use Rattle.dover_model.specs.Session.{FinishItem, EarlyFinish, Session, instance_of, admitted_jobs, with_item}
-use Rattle.dover_model.specs.Session.{job_of_item, finish_at, early_at, may_finish_early, ready_at}
-use Rattle.dover_model.specs.Text.{text_of}
-use Rattle.dover_model.specs.Verdict.{named_item, begins_trace}
-use Rattle.dover_model.specs.Leading.{WaitsUntil}
-use Rattle.dover_model.specs.WholeRun.{IsBarrier}
 use Rattle.dover_model.proofs.sessions.Growing.{finish_instance}
 use Rattle.dover_model.proofs.settled.LastSteps.{last_tells}
 use Rattle.dover_model.proofs.lists.Members.{found, some_same}

@@ -7,25 +7,20 @@ use Rattle.std.specs.Option.{option_or}
 use Rattle.std.proofs.lemmas.Bool.{lt-leb, ltb-true, ltb-false, false_from_ne_true}
 use Rattle.std.specs.List.{AllByRecursion, fold}
 use Rattle.std.proofs.lemmas.List.Sums.{fold-append}
-use Rattle.dover_model.specs.Instance.{Declaration, Rules, Instance, IsValid, with_jobs, with_finishes}
-use Rattle.dover_model.specs.Text.{header, text_of, refused_text}
-use Rattle.dover_model.specs.Trace.{TraceLine, text_of_line, Printed, Refuses, Placed, places_of, lines_among}
-use Rattle.dover_model.specs.Trace.{texts_among, put_in}
-use Rattle.dover_model.specs.JobFacts.{JobFacts}
+use Rattle.dover_model.specs.Common.{Declaration, Rules, Instance, IsValid, with_jobs, with_finishes, header, text_of}
+use Rattle.dover_model.specs.Common.{refused_text, TraceLine, text_of_line, Printed, Refuses, Placed, places_of}
+use Rattle.dover_model.specs.Common.{lines_among, texts_among, put_in, JobFacts, State, opening, with_later, is_coming}
+use Rattle.dover_model.specs.Common.{is_over, Prints, open_step, after, due_finish, Step, is_end, printed_of, printed}
+use Rattle.dover_model.specs.Common.{waits_for_mark, settled, settled_steps, settled_state, Each, Keeps, open_at}
+use Rattle.dover_model.specs.Common.{IsSettledRun, IsBarrier, JobItem, RefusedItem, Refused, Session, instance_of}
+use Rattle.dover_model.specs.Common.{admitted_jobs, FinishItem, EarlyFinish, IsDeclarable, IsValidSession, with_item}
+use Rattle.dover_model.specs.Common.{with_named, mark_after, new_session, named_session, Finish, IsOpenPath, GoesOn}
+use Rattle.dover_model.specs.Common.{Leads, Passes, Idles, PrintsNext, floor_after, with_fresh, IsRatio, WaitsUntil}
+use Rattle.dover_model.specs.Common.{Item}
 use Rattle.dover_model.specs.declared.events.Event.{Event}
 use Rattle.dover_model.specs.declared.events.Event.TheVariants.{Release, Complete}
 use Rattle.dover_model.specs.declared.events.Role.TheVariants.{Fresh, Running}
 use Rattle.dover_model.specs.declared.events.Task.{Task}
-use Rattle.dover_model.specs.State.{State, opening, with_later, is_coming, is_over}
-use Rattle.dover_model.specs.Step.{Prints, open_step, after, due_finish}
-use Rattle.dover_model.specs.Run.{Step, is_end, printed_of, printed}
-use Rattle.dover_model.specs.Settled.{waits_for_mark, settled, settled_steps, settled_state}
-use Rattle.dover_model.specs.Sound.{Each, Keeps}
-use Rattle.dover_model.specs.WholeRun.{open_at, IsSettledRun, IsBarrier}
-use Rattle.dover_model.specs.Session.{JobItem, RefusedItem, Refused, Session, instance_of, admitted_jobs}
-use Rattle.dover_model.specs.Session.{FinishItem, EarlyFinish, IsDeclarable}
-use Rattle.dover_model.specs.Session.{IsValidSession, with_item, with_named, mark_after, new_session}
-use Rattle.dover_model.specs.Verdict.{named_session}
 use Rattle.dover_model.proofs.steps.Kept.{opening_keeps, each_job}
 use Rattle.dover_model.proofs.runs.Ending.{potential}
 use Rattle.dover_model.proofs.settled.Settling.{Settles as Reaches, settles, settled_is_run, at_barrier}
@@ -49,11 +44,7 @@ use Rattle.dover_model.proofs.finishes.Meeting.{finishing_valid}
 use Rattle.dover_model.proofs.finishes.Further.{none_due_before, same_open, next_at_mark}
 use Rattle.dover_model.proofs.steps.Roles.{passes}
 use Rattle.dover_model.proofs.lists.Tests.{never}
-use Rattle.dover_model.specs.Finishes.{Finish}
-use Rattle.dover_model.specs.Paths.{IsOpenPath}
-use Rattle.dover_model.specs.Leading.{GoesOn, Leads, Passes, Idles, PrintsNext, floor_after}
 use Rattle.trace_judge.specs.Reading.{Sees, HasRoom, MayRelease, MayRefuse, release_text, completion_text}
-use Rattle.dover_model.specs.Ready.{with_fresh}
 use Rattle.trace_judge.proofs.Items.{reads_mark}
 use Rattle.dover_model.proofs.settled.Leading.{leads_later_mark, leads_append, leads_passes, settles_passes}
 use Rattle.dover_model.proofs.settled.Leading.{passes_append, passes_settled, settles_silent, idles_silent, idles_leads}
@@ -62,13 +53,10 @@ use Rattle.dover_model.proofs.settled.Leading.{passes_later, coming_goes_on}
 use Rattle.dover_model.proofs.runs.Released.{NoneComes, none_comes_passes, none_comes_after, printed_names_none}
 use Rattle.dover_model.proofs.runs.Released.{after_release}
 use Rattle.trace_judge.proofs.Seeing.{led_named, sees_keeps, sees_ready, sees_names, sees_next}
-use Rattle.dover_model.specs.Fraction.{IsRatio}
 use Rattle.dover_model.proofs.sessions.SessionParts.{MayFinish, session_parts, session_from, session_jobs}
 use Rattle.dover_model.proofs.sessions.SessionParts.{session_declared}
 use Rattle.trace_judge.proofs.Follows.{refused_parts}
 use Rattle.dover_model.proofs.valid.ValidParts.{valid_from}
-use Rattle.dover_model.specs.Leading.{WaitsUntil}
-use Rattle.dover_model.specs.Session.{Item}
 use Rattle.dover_model.proofs.sessions.SessionParts.{FollowsItems}
 use Rattle.dover_model.proofs.sessions.Walks.{tick_of_item}
 use Rattle.trace_judge.proofs.Items.{mark_next}

@@ -2,18 +2,13 @@
 use Rattle.std.proofs.Common.{◌≡◌, ℕ, ◌≤◌, List, ◌∷◌, ◌++◌, length, sym, ap, ◌∙◌, subst, Bool, true, false, arith}
 use Rattle.std.specs.Bool.{then_some}
 use Rattle.std.specs.List.{AllByRecursion, list_all, filter}
-use Rattle.dover_model.specs.JobFacts.{IsJob}
-use Rattle.dover_model.specs.Fraction.{Fraction}
-use Rattle.dover_model.specs.Numerals.{AreShort}
+use Rattle.dover_model.specs.Common.{IsJob, Fraction, AreShort, Rules, Instance, IsValid, State, is_over, is_done}
+use Rattle.dover_model.specs.Common.{value_sum, Move, Prints, Waits, Ticks, step, ending, ◌or_else◌, printed}
+use Rattle.dover_model.specs.Common.{printed_of, IsMember, Keeps, Session, instance_of, fields_of, step_numbers}
+use Rattle.dover_model.specs.Common.{PrintsNext}
 use Rattle.dover_model.specs.declared.events.Event.{Event}
 use Rattle.dover_model.specs.declared.events.Event.TheVariants.{End}
 use Rattle.dover_model.specs.declared.events.Task.{Task}
-use Rattle.dover_model.specs.Instance.{Rules, Instance, IsValid}
-use Rattle.dover_model.specs.State.{State, is_over, is_done, value_sum}
-use Rattle.dover_model.specs.Step.{Move, Prints, Waits, Ticks, step, ending, ◌or_else◌}
-use Rattle.dover_model.specs.Run.{printed, printed_of}
-use Rattle.dover_model.specs.Sound.{IsMember, Keeps}
-use Rattle.dover_model.specs.Session.{Session, instance_of}
 use Rattle.dover_model.proofs.lists.Members.{some_same, all_at}
 use Rattle.dover_model.proofs.steps.Deeds.{Deed, Completed, Resumed, Started, Began, Preempted, Stayed, Arrived, Taken}
 use Rattle.dover_model.proofs.steps.Deeds.{Abandoned, Rested}
@@ -26,9 +21,6 @@ use Rattle.line_text.specs.declared.traces.lines.TraceLine.TheVariants.{Step}
 use Rattle.line_text.specs.traces.Form.{HasForm, NamesJobs, trace_text}
 use Rattle.line_text.specs.traces.Reading.{line_of_fields}
 use Rattle.line_text.proofs.traces.Spelled.{text_read}
-use Rattle.dover_model.specs.Lines.{fields_of}
-use Rattle.dover_model.specs.Text.{step_numbers}
-use Rattle.dover_model.specs.Leading.{PrintsNext}
 use Rattle.trace_judge.specs.Reading.{Sees}
 use Rattle.dover_model.proofs.settled.Leading.{leads_passes, idles_leads, passes_keeps}
 use Rattle.trace_judge.proofs.Seeing.{sees_keeps, sees_next}

@@ -9,13 +9,10 @@ use Rattle.std.proofs.lemmas.List.{length-map, append_assoc}
 use Rattle.std.proofs.lemmas.List.Elements.{filter-append}
 use Rattle.dover_model.specs.declared.Memory.{Memory}
 use Rattle.dover_model.specs.declared.events.Event.{Event}
-use Rattle.dover_model.specs.Instance.{Declaration}
-use Rattle.dover_model.specs.Lines.{whole_lines, rest_of, is_too_long, cut}
-use Rattle.dover_model.specs.Run.{printed, completed_value}
-use Rattle.dover_model.specs.Session.{Item, JobItem, RefusedItem, FinishItem, Session, instance_of, admitted_jobs}
-use Rattle.dover_model.specs.Session.{IsValidSession}
-use Rattle.dover_model.specs.Trace.{Printed, Refuses, Placed, put_in, places_after, places_of, lines_among}
-use Rattle.dover_model.specs.Trace.{text_of_line, trace_lines}
+use Rattle.dover_model.specs.Common.{Declaration, whole_lines, rest_of, is_too_long, cut, printed, completed_value}
+use Rattle.dover_model.specs.Common.{Item, JobItem, RefusedItem, FinishItem, Session, instance_of, admitted_jobs}
+use Rattle.dover_model.specs.Common.{IsValidSession, Printed, Refuses, Placed, put_in, places_after, places_of}
+use Rattle.dover_model.specs.Common.{lines_among, text_of_line, trace_lines, bound, Fraction}
 use Rattle.dover_model.specs.Verdict as model
 use Rattle.dover_model.proofs.lists.Beginnings.{begins_length}
 use Rattle.dover_model.proofs.texts.Cuts.{onto, cut_append}
@@ -41,8 +38,6 @@ use Rattle.trace_judge.specs.declared.stage.TraceStage.TheVariants.{Opening, Goi
 use Rattle.trace_judge.specs.declared.verdict.Expected.{Expected}
 use Rattle.trace_judge.specs.declared.verdict.Verdict.{Verdict}
 use Rattle.trace_judge.specs.declared.verdict.Verdict.TheVariants.{Accepted, Wrong, Short}
-use Rattle.dover_model.specs.Bound.{bound}
-use Rattle.dover_model.specs.Fraction.{Fraction}
 use Rattle.dover_model.specs.declared.events.Version.{Version}
 use Rattle.trace_judge.specs.declared.judge.Found.{Found}
 use Rattle.trace_judge.specs.declared.judge.Found.TheVariants.{Good, Wrong as Bad, NoMemory}

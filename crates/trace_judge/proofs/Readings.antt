@@ -3,16 +3,14 @@ use Rattle.std.proofs.Common.{◌≡◌, ℕ, ◌+◌, ◌*◌, ◌≤◌, ◌<�
 use Rattle.std.proofs.Common.{arith, cond}
 use Rattle.std.specs.Option.{option_map_or, option_and_then}
 use Rattle.dover_model.specs.declared.events.Event.{Event}
-use Rattle.dover_model.specs.Instance.{Instance, Declaration}
-use Rattle.dover_model.specs.Limits.{most_items, most_ready}
-use Rattle.dover_model.specs.State.{State}
-use Rattle.dover_model.specs.Session.{Session, instance_of}
-use Rattle.dover_model.specs.Trace.{trace_lines}
+use Rattle.dover_model.specs.Common.{Instance, Declaration, most_items, most_ready, State, Session, instance_of}
+use Rattle.dover_model.specs.Common.{trace_lines, PrintsNext, begins_trace, Step, printed_of, printed, IsValid}
+use Rattle.dover_model.specs.Common.{tick_of_event, last_of, Item, with_item, admitted_jobs, job_of_item}
+use Rattle.dover_model.specs.Common.{refused_of_item, JobFacts, Idles}
 use Rattle.dover_model.specs.Verdict as model
 use Rattle.dover_model.specs.declared.events.Version.{Version}
 use Rattle.dover_model.proofs.valid.Limiting.{items_of_lines, lines_most}
 use Rattle.dover_model.proofs.traces.TraceEnds.{trace_ends}
-use Rattle.dover_model.specs.Leading.{PrintsNext}
 use Rattle.dover_model.proofs.settled.Leading.{idles_append}
 use Rattle.trace_judge.specs.Reading.{HasRoom}
 use Rattle.admission.specs.Kept as admission
@@ -23,21 +21,14 @@ use Rattle.ready_jobs.specs.Course.{Course, Follows, GoesOnFrom}
 use Rattle.trace_judge.specs.Reads.{Reading, Opens, Goes, Ends, ReadsAhead, Reads, StaysAhead, HasSpare, IsReader}
 use Rattle.trace_judge.specs.Reads.{IsUnchangedFor}
 use Rattle.ready_jobs.proofs.Courses.{follows_room}
-use Rattle.dover_model.specs.Verdict.{begins_trace}
 use Rattle.trace_judge.specs.Reads.{Took, kept_steps}
-use Rattle.dover_model.specs.Run.{Step, printed_of, printed}
 use Rattle.std.proofs.Common.{Bool, false, refl, length-append}
 use Rattle.std.proofs.lemmas.List.{append-nil}
 use Rattle.std.proofs.lemmas.Bool.{false_from_ne_true}
-use Rattle.dover_model.specs.Instance.{IsValid}
 use Rattle.dover_model.proofs.runs.Ending.{few_printed}
 use Rattle.std.specs.List.{fold}
 use Rattle.std.proofs.lemmas.List.Sums.{fold-append}
-use Rattle.dover_model.specs.Settled.{tick_of_event, last_of}
-use Rattle.dover_model.specs.Session.{Item, with_item, admitted_jobs, job_of_item, refused_of_item}
-use Rattle.dover_model.specs.JobFacts.{JobFacts}
 use Rattle.trace_judge.proofs.Continuing.{SeesWith}
-use Rattle.dover_model.specs.Leading.{Idles}
 use Rattle.std.specs.Prelude.{filter_map}
 use Rattle.std.proofs.lemmas.List.Elements.{filter_map-append}
 

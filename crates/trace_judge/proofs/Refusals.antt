@@ -3,25 +3,18 @@ use Rattle.std.proofs.Common.{◌≡◌, ℕ, ◌+◌, ◌≤◌, ◌<◌, List,
 use Rattle.std.proofs.Common.{subst, true, false, arith, Some, None, cond}
 use Rattle.std.specs.Prelude.{◌&&◌, nat_le, is_some, filter_map}
 use Rattle.admission.specs.Kept as admission
-use Rattle.dover_model.specs.Limits.{last_tick, most_items}
-use Rattle.dover_model.specs.JobFacts.{JobFacts, job_of_numbers}
+use Rattle.dover_model.specs.Common.{last_tick, most_items, JobFacts, job_of_numbers, Instance, State, printed_of}
+use Rattle.dover_model.specs.Common.{RefusedItem, Refused as RefusedAt, Session, instance_of, admitted_jobs, with_item}
+use Rattle.dover_model.specs.Common.{refuses_lines, is_full, refused_mark, may_finish_early, finish_at, refused_of_item}
+use Rattle.dover_model.specs.Common.{refused_text, named_item, begins_trace, Idles, WaitsUntil}
 use Rattle.dover_model.specs.declared.events.Refusal.{Refusal}
 use Rattle.dover_model.specs.declared.events.Refusal.TheVariants.{Full}
-use Rattle.dover_model.specs.Instance.{Instance}
-use Rattle.dover_model.specs.State.{State}
-use Rattle.dover_model.specs.Run.{printed_of}
-use Rattle.dover_model.specs.Session.{RefusedItem, Refused as RefusedAt, Session, instance_of, admitted_jobs, with_item}
-use Rattle.dover_model.specs.Session.{refuses_lines, is_full, refused_mark, may_finish_early, finish_at}
-use Rattle.dover_model.specs.Session.{refused_of_item}
 use Rattle.dover_model.specs.Session as session
 use Rattle.dover_model.proofs.sessions.SessionParts as parts
 use Rattle.dover_model.proofs.sessions.SessionParts.{may_be_refused-agrees}
-use Rattle.dover_model.specs.Text.{refused_text}
-use Rattle.dover_model.specs.Verdict.{named_item, begins_trace}
 use Rattle.dover_model.proofs.sessions.Growing.{refused_instance}
 use Rattle.line_text.specs.declared.traces.lines.TraceLine.TheVariants.{Refused, RefusedDone}
 use Rattle.line_text.specs.traces.Form.{HasForm, refused_job, refused_done}
-use Rattle.dover_model.specs.Leading.{Idles, WaitsUntil}
 use Rattle.trace_judge.specs.Reading.{MayRefuse}
 use Rattle.trace_judge.proofs.Continuing.{sees_refused, sees_idles}
 use Rattle.trace_judge.proofs.Naming.{item_named}

@@ -6,32 +6,26 @@ use Rattle.std.specs.Prelude.{Option, Some, None, is_some, not}
 use Rattle.std.specs.List.{filter}
 use Rattle.std.proofs.lemmas.Bool.{false_from_ne_true}
 use Rattle.trace_judge.proofs.Naming.{header_line, header_text, header_form, pair_in, ratio_back, with_text}
-use Rattle.dover_model.specs.Lines.{with_numbers}
-use Rattle.dover_model.specs.Fraction.{Fraction, IsRatio, ratio_with, factor_numbers}
+use Rattle.dover_model.specs.Common.{with_numbers, Fraction, IsRatio, ratio_with, factor_numbers, Rules, Declaration}
+use Rattle.dover_model.specs.Common.{declared_by, Instance, IsValid, State, opening, is_done, value_sum, Prints, step}
+use Rattle.dover_model.specs.Common.{open_step, after, Step, is_end, printed, printed_of, waits_for_mark, last_of}
+use Rattle.dover_model.specs.Common.{tick_of_event, Keeps, Session, instance_of, new_session, IsDeclarable, rules_with}
+use Rattle.dover_model.specs.Common.{header, text_of, version_number, begins_trace, named_item, version_of_number}
+use Rattle.dover_model.specs.Common.{Idles, GoesOn, WaitsUntil, PrintsNext, floor_after}
 use Rattle.dover_model.specs.declared.events.Event.{Event}
 use Rattle.dover_model.specs.declared.events.Event.TheVariants.{Release, Run, Preempt, Take, Complete, Abandon, End}
 use Rattle.dover_model.specs.declared.events.Version.{Version}
-use Rattle.dover_model.specs.Instance.{Rules, Declaration, declared_by, Instance, IsValid}
-use Rattle.dover_model.specs.State.{State, opening, is_done, value_sum}
-use Rattle.dover_model.specs.Step.{Prints, step, open_step, after}
-use Rattle.dover_model.specs.Run.{Step, is_end, printed, printed_of}
-use Rattle.dover_model.specs.Settled.{waits_for_mark, last_of, tick_of_event}
-use Rattle.dover_model.specs.Sound.{Keeps}
 use Rattle.dover_model.proofs.settled.LastSteps.{prints_clock}
 use Rattle.dover_model.proofs.steps.Kept.{open_deed}
 use Rattle.dover_model.proofs.settled.Prefixes.{step_open}
-use Rattle.dover_model.specs.Session.{Session, instance_of, new_session, is_declarable, IsDeclarable}
-use Rattle.dover_model.specs.Feed.{rules_with}
+use Rattle.dover_model.specs.Session.{is_declarable}
 use Rattle.dover_model.proofs.lists.Members.{some_same}
-use Rattle.dover_model.specs.Text.{header, text_of, version_number}
-use Rattle.dover_model.specs.Verdict.{begins_trace, named_item, version_of_number}
 use Rattle.dover_model.proofs.texts.TraceLines.{version_back, version_from}
 use Rattle.dover_model.proofs.runs.Ending.{end_over}
 use Rattle.dover_model.proofs.lists.Tests.{never}
 use Rattle.line_text.specs.declared.traces.lines.TraceLine.TheVariants.{Header, Step as StepLine}
 use Rattle.line_text.specs.traces.Form.{HasForm, trace_text}
 use Rattle.admission.specs.Kept as admission
-use Rattle.dover_model.specs.Leading.{Idles, GoesOn, WaitsUntil, PrintsNext, floor_after}
 use Rattle.dover_model.proofs.settled.Leading.{idles_settles, settles_append, settles_or_prints, prints_goes_on}
 use Rattle.trace_judge.proofs.Seeing.{sees_next}
 use Rattle.trace_judge.proofs.Continuing.{sees_step, sees_header}

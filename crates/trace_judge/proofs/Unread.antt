@@ -2,22 +2,15 @@
 use Rattle.std.proofs.Common.{Option}
 use Rattle.std.proofs.Common.{◌≡◌, ℕ, ◌+◌, ◌≤◌, ◌<◌, ◌⊎◌, inl, inr, List, [], ◌∷◌, ◌++◌, length, sym, ap, ◌∙◌}
 use Rattle.std.proofs.Common.{subst, true, false, cond, arith}
-use Rattle.dover_model.specs.Fraction.{IsRatio}
+use Rattle.dover_model.specs.Common.{IsRatio, Declaration, State, Session, RefusedLine, RefusedJob, RefusedDone}
+use Rattle.dover_model.specs.Common.{instance_of, admitted_jobs, IsDeclarable, Finish, settled_state, Keeps, header}
+use Rattle.dover_model.specs.Common.{text_of, refused_text, item_of, begins_trace, ends_with_end, PrintsNext}
 use Rattle.dover_model.specs.declared.events.Event.{Event}
 use Rattle.dover_model.specs.declared.events.Event.TheVariants.{Release, Run, Preempt, Take, Complete, Abandon, End}
-use Rattle.dover_model.specs.Instance.{Declaration}
-use Rattle.dover_model.specs.State.{State}
-use Rattle.dover_model.specs.Session.{Session, RefusedLine, RefusedJob, RefusedDone, instance_of, admitted_jobs}
-use Rattle.dover_model.specs.Session.{IsDeclarable}
 use Rattle.dover_model.proofs.sessions.SessionParts as parts
-use Rattle.dover_model.specs.Finishes.{Finish}
-use Rattle.dover_model.specs.Settled.{settled_state}
-use Rattle.dover_model.specs.Sound.{Keeps}
 use Rattle.dover_model.proofs.sessions.Growing.{Finishes, finishing_job}
 use Rattle.dover_model.proofs.settled.Barriers.{settled_at_barrier}
 use Rattle.dover_model.proofs.runs.Honest.{numbers_low, count_jobs}
-use Rattle.dover_model.specs.Text.{header, text_of, refused_text}
-use Rattle.dover_model.specs.Verdict.{item_of, begins_trace, ends_with_end}
 use Rattle.dover_model.proofs.valid.Admitting.{Admitted, not_refused}
 use Rattle.dover_model.proofs.valid.Limiting.{jobs_most}
 use Rattle.dover_model.proofs.traces.TraceEnds.{trace_ends}
@@ -26,7 +19,6 @@ use Rattle.line_text.specs.declared.traces.lines.TraceLine.{TraceLine}
 use Rattle.line_text.specs.declared.traces.lines.TraceLine.TheVariants.{Header, Step, Refused}
 use Rattle.line_text.specs.declared.traces.lines.TraceLine.TheVariants as format
 use Rattle.line_text.specs.traces.Form.{HasForm, item_in, trace_text}
-use Rattle.dover_model.specs.Leading.{PrintsNext}
 use Rattle.trace_judge.specs.Reading.{Sees, IsReleaseNext, IsRefusedNext, IsCompletionNext}
 use Rattle.trace_judge.proofs.Naming.{header_named, header_line, header_text, header_form}
 use Rattle.trace_judge.proofs.Only.{only_headers, only_step, continues_only}

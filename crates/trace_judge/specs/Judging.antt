@@ -5,15 +5,9 @@ use Rattle.std.specs.List.{filter}
 use Rattle.dover_model.specs.declared.Memory.{Memory}
 use Rattle.dover_model.specs.declared.events.Event.{Event}
 use Rattle.std.specs.List.{sum_by}
-use Rattle.dover_model.specs.Bound.{IsWithin, bound}
-use Rattle.dover_model.specs.Fraction.{Fraction}
-use Rattle.dover_model.specs.Schedules.{Meets, worth}
-use Rattle.dover_model.specs.Run.{run, printed, ran, completed_value}
-use Rattle.dover_model.specs.Sound.{Each}
-use Rattle.dover_model.specs.Underload.{takes_or_abandons}
-use Rattle.dover_model.specs.Session.{Session, IsValidSession, instance_of, admitted_jobs, may_finish_early}
-use Rattle.dover_model.specs.Observed.{observed}
-use Rattle.dover_model.specs.Lines.{whole_lines}
+use Rattle.dover_model.specs.Common.{IsWithin, bound, Fraction, Meets, worth, run, printed, ran, completed_value, Each}
+use Rattle.dover_model.specs.Common.{takes_or_abandons, Session, IsValidSession, instance_of, admitted_jobs}
+use Rattle.dover_model.specs.Common.{may_finish_early, observed, whole_lines}
 use Rattle.dover_model.specs.Verdict as model
 use Rattle.line_text.specs.Cutting as cutting
 use Rattle.line_text.specs.Cutting.{Cutting}

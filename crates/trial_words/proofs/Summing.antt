@@ -2,15 +2,9 @@
 use Rattle.std.proofs.Common.{◌≡◌, ◌+◌, ◌-◌, ◌≤◌, ℕ, List, [], ◌∷◌, length, sym, refl, ap, ◌∙◌, subst, Option, arith}
 use Rattle.std.proofs.Common.{◌++◌, append_assoc, codes, decimal}
 use Rattle.dover_model.specs.declared.events.Event.{Event}
-use Rattle.dover_model.specs.Bound.{bound}
-use Rattle.dover_model.specs.Fraction.{Fraction}
-use Rattle.dover_model.specs.Instance.{Instance, IsListable, IsValid, total_value}
+use Rattle.dover_model.specs.Common.{bound, Fraction, Instance, IsListable, IsValid, total_value, most_total, JobFacts}
+use Rattle.dover_model.specs.Common.{with_numbers, in_lines, summary, printed, completed_value}
 use Rattle.dover_model.specs.declared.events.Version.TheVariants.{Two}
-use Rattle.dover_model.specs.Limits.{most_total}
-use Rattle.dover_model.specs.JobFacts.{JobFacts}
-use Rattle.dover_model.specs.Lines.{with_numbers, in_lines}
-use Rattle.dover_model.specs.Reports.{summary}
-use Rattle.dover_model.specs.Run.{printed, completed_value}
 use Rattle.dover_port.specs.Moves.{Move, Since}
 use Rattle.dover_port.specs.declared.status.Status.{Status}
 use Rattle.run_record.specs.intervals.Rows.{IsRunOf}

@@ -2,11 +2,8 @@
 use Rattle.std.specs.Prelude.{◌≡◌, ◌≤◌, ◌*◌, ℕ, List, length}
 use Rattle.std.specs.List.{fold, count_by, sum_by}
 use Rattle.dover_model.specs.declared.events.Event.{Event}
-use Rattle.dover_model.specs.Fraction.{Fraction}
-use Rattle.dover_model.specs.Instance.{Instance, IsListable, IsValid}
-use Rattle.dover_model.specs.Limits.{most_value}
-use Rattle.dover_model.specs.Run.{printed, value_of_end}
-use Rattle.dover_model.specs.Reports.{is_take}
+use Rattle.dover_model.specs.Common.{Fraction, Instance, IsListable, IsValid, most_value, printed, value_of_end}
+use Rattle.dover_model.specs.Common.{is_take}
 use Rattle.run_record.specs.intervals.Totals.{is_completion, is_abandonment, value_released}
 use Rattle.trial_words.specs.declared.tally.RunTally.{RunTally}
 

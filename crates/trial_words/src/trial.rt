@@ -2,13 +2,11 @@
 ghost use Rattle.std.specs.Prelude.{◌≡◌, ◌<◌, ◌≤◌, ◌^◌, None};
 ghost use Rattle.dialogue.specs.Talk.{CanEnd};
 ghost use Rattle.dover_model.specs.declared.events.Version.TheVariants.{Two};
-ghost use Rattle.dover_model.specs.Limits.{most_jobs};
-ghost use Rattle.dover_model.specs.Reports.{summary};
+ghost use Rattle.dover_model.specs.Common.{most_jobs, summary, CostsAtMost};
 ghost use Rattle.dover_port.specs.Causes.{Causes, StopsWith};
 ghost use Rattle.dover_port.specs.Moves.{Since};
 ghost use Rattle.trial_words.specs.Lists.{trial_instance};
 ghost use Rattle.trial_words.specs.Record.{Writes};
-ghost use Rattle.dover_model.specs.Spending.{CostsAtMost};
 
 use crate::drawn::Drawn;
 use crate::tally::RunTally;

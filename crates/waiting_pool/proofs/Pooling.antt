@@ -7,13 +7,11 @@ use Rattle.std.proofs.lemmas.Bool.{cases_eq, eq-eqb, ne_eqb}
 use Rattle.std.proofs.lemmas.List.{append_assoc, length-append, length-replicate}
 use Rattle.std.proofs.lemmas.List.{replicate-append-replicate}
 use Rattle.std.proofs.lemmas.List.Sums.{sum_by-cons, sum_by-append}
-use Rattle.dover_model.specs.Limits.{most_value}
+use Rattle.dover_model.specs.Common.{most_value, IsStrictOrder, entry_of, is_due_before, is_start_before, first}
+use Rattle.dover_model.specs.Common.{due_first, starts_before, earlier, IsMember, Each, EachTwo}
 use Rattle.dover_model.specs.declared.events.Version.{Version}
 use Rattle.dover_model.specs.declared.events.Task.{Task}
 use Rattle.dover_model.specs.declared.events.Entry.{Entry}
-use Rattle.dover_model.specs.Entries.{IsStrictOrder, entry_of, is_due_before, is_start_before}
-use Rattle.dover_model.specs.Orders.{first, due_first, starts_before, earlier}
-use Rattle.dover_model.specs.Sound.{IsMember, Each, EachTwo}
 use Rattle.dover_model.proofs.steps.EntryOrders.{strict_by}
 use Rattle.dover_model.proofs.lists.Members.{some_same, reduce_none}
 use Rattle.dover_model.proofs.lists.Tests.{never, none_is_some}

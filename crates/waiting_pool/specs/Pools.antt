@@ -5,9 +5,7 @@ use Rattle.std.specs.List.{filter_map, sum_by}
 use Rattle.dover_model.specs.declared.events.Version.{Version}
 use Rattle.dover_model.specs.declared.events.Task.{Task}
 use Rattle.dover_model.specs.declared.events.Entry.{Entry}
-use Rattle.dover_model.specs.Entries.{entry_of}
-use Rattle.dover_model.specs.Limits.{most_value}
-use Rattle.dover_model.specs.Sound.{Each, EachTwo}
+use Rattle.dover_model.specs.Common.{entry_of, most_value, Each, EachTwo}
 use Rattle.place_heap.specs.Items.{ItemFacts}
 use Rattle.place_heap.specs.Orders.{due_item, latest_item}
 

@@ -1,5 +1,5 @@
 -- What one step of the search finds, from what its two branches find.
-use Rattle.dover_model.specs.Fraction.{fraction}
+use Rattle.dover_model.specs.Common.{fraction, JobFacts, Rules, total_value, worth, IsMember, Each, edf, spread}
 use Rattle.std.proofs.Common.{◌≡◌, ℕ, suc, ◌+◌, ◌-◌, ◌≤◌, ◌<◌, ◌⊎◌, inl, inr, List, [], ◌∷◌, ◌++◌, length, drop, get_or}
 use Rattle.std.proofs.Common.{map, refl, sym, ap}
 use Rattle.std.proofs.Common.{◌∙◌, subst, arith, add-one, append_assoc, cond, eqb, leb, Bool, true, false}
@@ -7,12 +7,7 @@ use Rattle.std.specs.Prelude.{Some, None, Option, slice_get, MatchOption, Result
 use Rattle.std.proofs.lemmas.Bool.{leb-true, leb-false}
 use Rattle.std.proofs.lemmas.List.{append-nil, drop_all}
 use Rattle.std.proofs.lemmas.List.Sums.{sum_by-cons, sum_by-drop_more}
-use Rattle.dover_model.specs.JobFacts.{JobFacts}
-use Rattle.dover_model.specs.Instance.{Rules, total_value}
-use Rattle.dover_model.specs.Schedules.{worth}
-use Rattle.dover_model.specs.Sound.{IsMember, Each}
 use Rattle.dover_model.specs.declared.events.Version.TheVariants.{One}
-use Rattle.dover_model.specs.Pieces.{edf, spread}
 use Rattle.clairvoyant.specs.feasible.Feasibility.{ServesAll, CannotMeet, CanMeet}
 use Rattle.dover_model.proofs.lists.Members.{member_front, member_behind, member_either}
 use Rattle.clairvoyant.specs.declared.best.choice.Choice.{Choice}

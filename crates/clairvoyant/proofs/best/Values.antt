@@ -7,10 +7,7 @@ use Rattle.std.specs.List.{sum_by, enumerate_from}
 use Rattle.std.specs.Option.{option_map_or}
 use Rattle.std.proofs.lemmas.List.{length-drop}
 use Rattle.std.proofs.lemmas.List.Sums.{sum_by-cons, sum_by-append}
-use Rattle.dover_model.specs.JobFacts.{JobFacts, IsJob}
-use Rattle.dover_model.specs.Instance.{Rules, total_value}
-use Rattle.dover_model.specs.Schedules.{is_served, worth}
-use Rattle.dover_model.specs.Sound.{IsMember, Each}
+use Rattle.dover_model.specs.Common.{JobFacts, IsJob, Rules, total_value, is_served, worth, IsMember, Each}
 use Rattle.clairvoyant.specs.best.BestSet.{RiseWithin, Serves, IsGood, value_at, value_of}
 use Rattle.clairvoyant.proofs.best.Rising.{rise_wider}
 use Rattle.dover_model.proofs.valid.JobLimits.{job_limits}

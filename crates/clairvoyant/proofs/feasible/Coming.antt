@@ -6,12 +6,8 @@ use Rattle.std.specs.Prelude.{nat_le}
 use Rattle.std.specs.List.{sum_by}
 use Rattle.std.proofs.lemmas.Bool.{le-leb, and_from, cases_lt}
 use Rattle.std.proofs.lemmas.List.{length-append, length-replicate}
-use Rattle.dover_model.specs.Limits.{idle}
-use Rattle.dover_model.specs.JobFacts.{JobFacts}
-use Rattle.dover_model.specs.State.{left}
-use Rattle.dover_model.specs.Sound.{IsMember, Each, IsNumberedFrom, jobs_of}
-use Rattle.dover_model.specs.Windows.{is_inside}
-use Rattle.dover_model.specs.Pieces.{edf_from, last_release}
+use Rattle.dover_model.specs.Common.{idle, JobFacts, left, IsMember, Each, IsNumberedFrom, jobs_of, is_inside, edf_from}
+use Rattle.dover_model.specs.Common.{last_release}
 use Rattle.dover_model.specs.declared.events.Task.{Task}
 use Rattle.dover_model.proofs.lists.Members.{on_map, map_map, map_same, sum_map, term_le_sum}
 use Rattle.dover_model.proofs.steps.Roles.{one_number, numbered_map}

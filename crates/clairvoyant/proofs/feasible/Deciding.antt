@@ -7,12 +7,9 @@ use Rattle.std.specs.List.{sum_by, count_by, enumerate_from}
 use Rattle.std.proofs.lemmas.Bool.{le-leb, leb-true, ne_eqb, and_parts, cases_lt}
 use Rattle.std.proofs.lemmas.List.{length-drop, length-take}
 use Rattle.dover_model.specs.declared.events.Version.TheVariants.{Two}
-use Rattle.dover_model.specs.Limits.{idle, most_jobs}
-use Rattle.dover_model.specs.JobFacts.{JobFacts}
-use Rattle.dover_model.specs.Schedules.{is_served, ticks_given}
-use Rattle.dover_model.specs.Sound.{IsMember, Each}
-use Rattle.dover_model.specs.Windows.{IsOverfull, is_inside, work_inside}
-use Rattle.dover_model.specs.Pieces.{AreInOrder, spread, stretches, edf}
+use Rattle.dover_model.specs.Common.{idle, most_jobs, JobFacts, is_served, ticks_given, IsMember, Each, IsOverfull}
+use Rattle.dover_model.specs.Common.{is_inside, work_inside, spread, stretches, edf}
+use Rattle.dover_model.specs.Pieces.{AreInOrder}
 use Rattle.dover_model.specs.declared.pieces.Piece.{Piece}
 use Rattle.dover_model.proofs.lists.Members.{sum_le, each_all}
 use Rattle.dover_model.proofs.runs.Serving.{given_less, one_name_per_tick, sum_numbered}

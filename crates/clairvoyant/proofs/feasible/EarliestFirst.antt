@@ -7,14 +7,11 @@ use Rattle.std.specs.List.{filter, list_all, fold}
 use Rattle.std.specs.Option.{option_map_or}
 use Rattle.std.proofs.lemmas.Bool.{eqb-true, eqb-false, eq-eqb, ne_eqb, lt-ltb, ltb-true, le-leb, leb-true, and_parts}
 use Rattle.std.proofs.lemmas.Bool.{and_from, or_left, or_right}
-use Rattle.dover_model.specs.Limits.{idle}
-use Rattle.dover_model.specs.State.{left}
-use Rattle.dover_model.specs.Orders.{earlier, first, due_first}
-use Rattle.dover_model.specs.Sound.{IsMember, Each, IsNumberedFrom}
-use Rattle.dover_model.specs.Pieces.{given, is_served_fully, earliest_due, edf_from}
+use Rattle.dover_model.specs.Common.{idle, left, earlier, first, due_first, IsMember, Each, IsNumberedFrom, given}
+use Rattle.dover_model.specs.Common.{edf_from, entry_of}
+use Rattle.dover_model.specs.Pieces.{is_served_fully, earliest_due}
 use Rattle.dover_model.specs.declared.events.Task.{Task}
 use Rattle.dover_model.specs.declared.events.Version.TheVariants.{One}
-use Rattle.dover_model.specs.Entries.{entry_of}
 use Rattle.dover_model.proofs.steps.EntryOrders.{strict_by}
 use Rattle.dover_model.proofs.lists.Members.{by_bool, filter_member, member_filter, all_each, on_map, map_member}
 use Rattle.dover_model.proofs.lists.Members.{map_map, map_same, map_self, filter_none}

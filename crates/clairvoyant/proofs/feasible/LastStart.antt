@@ -7,9 +7,7 @@ use Rattle.std.specs.List.{sum_by}
 use Rattle.std.proofs.lemmas.Bool.{le-leb, lt-leb, cases_lt}
 use Rattle.std.proofs.lemmas.List.{drop_more}
 use Rattle.std.proofs.lemmas.List.Sums.{sum_by-cons, sum_by-append}
-use Rattle.dover_model.specs.JobFacts.{JobFacts, IsJob}
-use Rattle.dover_model.specs.Sound.{Each}
-use Rattle.dover_model.specs.Windows.{IsOverfull, is_inside, work_inside}
+use Rattle.dover_model.specs.Common.{JobFacts, IsJob, Each, IsOverfull, is_inside, work_inside}
 use Rattle.dover_model.proofs.lists.Members.{all_member, sum_le, sum_same, sum_zero, member_behind}
 use Rattle.dover_model.proofs.valid.Valid.{order_back}
 use Rattle.clairvoyant.specs.feasible.Feasibility.{IsRelease}

@@ -5,11 +5,7 @@ use Rattle.std.proofs.Common.{true, false, cond, eqb, arith, IsTrue, Option}
 use Rattle.std.specs.Prelude.{nat_le, nat_lt, Some, None}
 use Rattle.std.proofs.lemmas.Bool.{le-leb, leb-true, lt-ltb, le-ltb, and_from, cases_lt}
 use Rattle.std.proofs.lemmas.List.{length-append, length-replicate}
-use Rattle.dover_model.specs.JobFacts.{JobFacts, IsJob}
-use Rattle.dover_model.specs.Schedules.{is_served, ticks_given}
-use Rattle.dover_model.specs.State.{left}
-use Rattle.dover_model.specs.Sound.{IsMember}
-use Rattle.dover_model.specs.Windows.{is_inside, work_inside}
+use Rattle.dover_model.specs.Common.{JobFacts, IsJob, is_served, ticks_given, left, IsMember, is_inside, work_inside}
 use Rattle.dover_model.specs.declared.events.Task.{Task}
 use Rattle.dover_model.proofs.lists.Members.{on_map, map_member}
 use Rattle.dover_model.proofs.steps.Loads.{sum_change}

@@ -6,10 +6,7 @@ use Rattle.std.specs.Prelude.{Some, slice_get, nat_le}
 use Rattle.std.specs.List.{sum_by, fold, enumerate_from}
 use Rattle.std.proofs.lemmas.List.Sums.{sum_by-cons}
 use Rattle.std.proofs.lemmas.Bool.{leb-true, leb-false}
-use Rattle.dover_model.specs.JobFacts.{JobFacts}
-use Rattle.dover_model.specs.State.{to_come, left}
-use Rattle.dover_model.specs.Sound.{IsMember, Each, IsNumberedFrom, jobs_of}
-use Rattle.dover_model.specs.Pieces.{last_release}
+use Rattle.dover_model.specs.Common.{JobFacts, to_come, left, IsMember, Each, IsNumberedFrom, jobs_of, last_release}
 use Rattle.dover_model.specs.declared.events.Role.TheVariants.{Coming}
 use Rattle.dover_model.specs.declared.events.Task.{Task}
 use Rattle.dover_model.proofs.lists.Members.{all_member, map_member, some_same}

@@ -7,11 +7,7 @@ use Rattle.std.proofs.lemmas.Bool.{cases_lt}
 use Rattle.std.proofs.lemmas.List.Sorted.{length_permutation}
 use Rattle.std.proofs.lemmas.Option.{slice_get_read, slice_get_within}
 use Rattle.dover_model.specs.declared.events.Version.TheVariants.{Two}
-use Rattle.dover_model.specs.Limits.{idle, most_jobs}
-use Rattle.dover_model.specs.JobFacts.{JobFacts}
-use Rattle.dover_model.specs.State.{left}
-use Rattle.dover_model.specs.Sound.{IsMember}
-use Rattle.dover_model.specs.Pieces.{stretches}
+use Rattle.dover_model.specs.Common.{idle, most_jobs, JobFacts, left, IsMember, stretches}
 use Rattle.dover_model.specs.declared.events.Task.{Task}
 use Rattle.dover_model.specs.declared.pieces.Piece.{Piece}
 use Rattle.dover_model.proofs.lists.Members.{some_same}

@@ -9,12 +9,8 @@ use Rattle.std.proofs.lemmas.List.Sorted.{IsPermutation-sym, sum_by-IsPermutatio
 use Rattle.std.proofs.lemmas.List.Sums.{sum_by-cons}
 use Rattle.std.proofs.lemmas.Option.{slice_get_within}
 use Rattle.dover_model.specs.declared.events.Version.TheVariants.{Two}
-use Rattle.dover_model.specs.Limits.{idle, most_jobs}
-use Rattle.dover_model.specs.JobFacts.{JobFacts, IsJob}
-use Rattle.dover_model.specs.Schedules.{is_served, ticks_given}
-use Rattle.dover_model.specs.State.{to_come, left}
-use Rattle.dover_model.specs.Sound.{IsMember, Each, jobs_of}
-use Rattle.dover_model.specs.Pieces.{stretches, edf, last_release}
+use Rattle.dover_model.specs.Common.{idle, most_jobs, JobFacts, IsJob, is_served, ticks_given, to_come, left, IsMember}
+use Rattle.dover_model.specs.Common.{Each, jobs_of, stretches, edf, last_release}
 use Rattle.dover_model.specs.declared.events.Task.{Task}
 use Rattle.dover_model.specs.declared.pieces.Piece.{Piece}
 use Rattle.dover_model.proofs.lists.Members.{on_map, map_member, some_same}

@@ -4,10 +4,7 @@ use Rattle.std.proofs.Common.{Bool, true, false, cond, arith}
 use Rattle.std.specs.Prelude.{nat_le, ◌&&◌}
 use Rattle.std.specs.List.{filter, sum_by}
 use Rattle.std.proofs.lemmas.Bool.{cases_lt, le-leb}
-use Rattle.dover_model.specs.JobFacts.{JobFacts, IsJob}
-use Rattle.dover_model.specs.Limits.{last_tick}
-use Rattle.dover_model.specs.Sound.{Each}
-use Rattle.dover_model.specs.Windows.{is_inside, work_inside}
+use Rattle.dover_model.specs.Common.{JobFacts, IsJob, last_tick, Each, is_inside, work_inside}
 use Rattle.dover_model.proofs.valid.JobLimits.{job_limits}
 use Rattle.dover_model.proofs.lists.Members.{filter_none, member_front, member_behind, member_filter}
 use Rattle.dover_model.proofs.lists.Tests.{never}

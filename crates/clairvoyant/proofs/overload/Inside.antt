@@ -6,10 +6,7 @@ use Rattle.std.specs.Prelude.{◌&&◌}
 use Rattle.std.specs.List.{sum_by, enumerate_from}
 use Rattle.std.proofs.lemmas.List.{take_more, length-take, drop-drop}
 use Rattle.std.proofs.lemmas.List.Sums.{sum_by-append, sum_by-cons}
-use Rattle.dover_model.specs.JobFacts.{JobFacts, IsJob}
-use Rattle.dover_model.specs.Books.{Job}
-use Rattle.dover_model.specs.Sound.{IsMember, Each}
-use Rattle.dover_model.specs.Windows.{is_inside}
+use Rattle.dover_model.specs.Common.{JobFacts, IsJob, Job, IsMember, Each, is_inside}
 use Rattle.dover_model.proofs.lists.Members.{sum_same}
 use Rattle.dover_model.proofs.rest.Parting.{enumerate_append}
 use Rattle.clairvoyant.specs.overload.Stretches.{value_inside}

@@ -9,9 +9,7 @@ use Rattle.std.specs.List.{filter, sum_by}
 use Rattle.std.proofs.lemmas.Bool.{lt-leb}
 use Rattle.std.proofs.lemmas.List.{append-nil, drop-drop, drop_more, length-take, length-drop}
 use Rattle.std.proofs.lemmas.List.Elements.{filter-append, filter_more}
-use Rattle.dover_model.specs.JobFacts.{JobFacts, IsJob}
-use Rattle.dover_model.specs.Sound.{IsMember, Each}
-use Rattle.dover_model.specs.Windows.{is_inside, work_inside}
+use Rattle.dover_model.specs.Common.{JobFacts, IsJob, IsMember, Each, is_inside, work_inside}
 use Rattle.dover_model.proofs.lists.Members.{filter_none, member_filter, member_behind, all_member, each_all}
 use Rattle.dover_model.proofs.valid.Valid.{order_back}
 use Rattle.clairvoyant.specs.overload.Stretches.{jobs_inside}

@@ -5,10 +5,7 @@ use Rattle.std.specs.Prelude.{◌||◌, nat_le}
 use Rattle.std.specs.List.{sum_by}
 use Rattle.std.proofs.lemmas.Bool.{leb-true, and_parts}
 use Rattle.std.proofs.lemmas.List.Sums.{sum_by_push}
-use Rattle.dover_model.specs.JobFacts.{JobFacts, IsJob}
-use Rattle.dover_model.specs.Instance.{total_value}
-use Rattle.dover_model.specs.Sound.{Each}
-use Rattle.dover_model.specs.Windows.{is_inside}
+use Rattle.dover_model.specs.Common.{JobFacts, IsJob, total_value, Each, is_inside}
 use Rattle.dover_model.proofs.lists.Members.{sum_plus, sum_filter, sum_same, all_append, each_behind}
 use Rattle.dover_model.proofs.lists.Tests.{never}
 use Rattle.clairvoyant.specs.declared.overload.stretch.Stretch.{Stretch}

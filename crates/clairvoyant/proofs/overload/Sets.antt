@@ -5,9 +5,7 @@ use Rattle.std.specs.List.{filter, sum_by}
 use Rattle.std.proofs.lemmas.Bool.{cases_lt, le-leb, lt-leb}
 use Rattle.std.proofs.lemmas.List.Sums.{sum_by_push, sum_by-cons}
 use Rattle.std.proofs.Math.Nat.{pow-succ'}
-use Rattle.dover_model.specs.JobFacts.{JobFacts, IsJob}
-use Rattle.dover_model.specs.Sound.{Each}
-use Rattle.dover_model.specs.Windows.{is_inside}
+use Rattle.dover_model.specs.Common.{JobFacts, IsJob, Each, is_inside}
 use Rattle.dover_model.proofs.valid.JobLimits.{job_limits}
 use Rattle.dover_model.proofs.lists.Members.{all_member, each_behind, member_filter, sum_same}
 use Rattle.clairvoyant.specs.declared.overload.stretch.Costed.{Costed}

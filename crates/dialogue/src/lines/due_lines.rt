@@ -1,9 +1,7 @@
 //! The lines that are due for feeds, each as it is put.
 ghost use Rattle.std.specs.Prelude.{◌≡◌, ◌≤◌, ◌++◌, ◌∷◌, [], length, map, decimal, codes, IsTrue};
-ghost use Rattle.dover_model.specs.Numerals.{AreShort};
-ghost use Rattle.dover_model.specs.Text.{header, refused_text, refusal_word as refusal_text};
-ghost use Rattle.dover_model.specs.Lines.{line_of, with_numbers};
-ghost use Rattle.dover_model.specs.JobFacts.{job_numbers};
+ghost use Rattle.dover_model.specs.Common.{AreShort, header, refused_text, refusal_word as refusal_text, line_of};
+ghost use Rattle.dover_model.specs.Common.{with_numbers, job_numbers};
 ghost use Rattle.event_feed.specs.DueLines.{out_text, HasNumerals};
 ghost use Rattle.line_text.specs.traces.Form.{refused_job, refused_done};
 

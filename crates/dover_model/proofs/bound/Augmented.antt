@@ -7,14 +7,11 @@ use Rattle.std.specs.List.{sum_by, filter}
 use Rattle.std.proofs.lemmas.Bool.{le-leb, leb-true, lt-ltb, ltb-true, cases_lt}
 use Rattle.std.proofs.lemmas.Nat.{mul-le}
 use Rattle.std.proofs.lemmas.List.Sums.{sum_by-cons, sum_by-append}
-use Rattle.dover_model.specs.Fraction.{Fraction}
-use Rattle.dover_model.specs.declared.factors.Factor.{Factor}
-use Rattle.dover_model.specs.Slower.{IsWithinSlower, is_within_slower_root, is_within_slower_by}
-use Rattle.dover_model.specs.Slower.{is_served_by, earned_by}
-use Rattle.dover_model.specs.Books.{Row, IsRow, GoneIn, TakenIn, IsBusy, IsDense, job_value, completed_in, row_sum, Job}
-use Rattle.dover_model.specs.Books.{IsPaid, IsPaidBy, IsExcess, IsExcessBy}
-use Rattle.dover_model.specs.Sound.{IsMember, Each}
-use Rattle.dover_model.specs.Schedules.{ticks_given}
+use Rattle.dover_model.specs.Common.{Fraction, Factor, IsWithinSlower, Row, IsRow, TakenIn, IsDense, job_value}
+use Rattle.dover_model.specs.Common.{completed_in, row_sum, Job, IsPaid, IsPaidBy, IsExcess, IsExcessBy, IsMember, Each}
+use Rattle.dover_model.specs.Common.{ticks_given}
+use Rattle.dover_model.specs.Slower.{is_within_slower_root, is_within_slower_by, is_served_by, earned_by}
+use Rattle.dover_model.specs.Books.{GoneIn, IsBusy}
 use Rattle.dover_model.proofs.lists.Members.{each_cons, sum_le, sum_plus, sum_filter, term_le_sum, member_filter}
 use Rattle.dover_model.proofs.lists.Members.{cond_le, sum_zero}
 use Rattle.dover_model.proofs.bound.Calculus.{Below, cancel, below_add, below_mono, displaced_below, excess_below}

@@ -5,18 +5,12 @@ use Rattle.std.specs.Prelude.{Option, Some, None}
 use Rattle.std.proofs.lemmas.Bool.{eq-eqb, ne_eqb, eqb-true, cases_lt}
 use Rattle.std.proofs.lemmas.Nat.{mul-le}
 use Rattle.std.proofs.lemmas.List.Sums.{sum_by-cons}
-use Rattle.dover_model.specs.Fraction.{Fraction}
-use Rattle.dover_model.specs.JobFacts.{JobFacts}
-use Rattle.dover_model.specs.Orders.{IsHeavy, is_heavy}
-use Rattle.dover_model.specs.Intervals.{value_of, with_take, with_abandoned, begun}
-use Rattle.dover_model.specs.declared.events.Event.TheVariants.{Take, Preempt}
-use Rattle.dover_model.specs.declared.events.Role.{Role}
-use Rattle.dover_model.specs.declared.events.Role.TheVariants.{Coming, Fresh, Waiting, Held, Running, Done, Gone}
-use Rattle.dover_model.specs.declared.events.Task.{Task}
-use Rattle.dover_model.specs.State.{State, is_privileged, is_running, is_ready_behind, is_done, left, latest_start}
-use Rattle.dover_model.specs.State.{privileged, value_sum}
-use Rattle.dover_model.specs.Step.{Prints, Ticks, after, displaced, with_role, ticked}
-use Rattle.dover_model.specs.Sound.{IsMember, Each, IsSound, NoneRuns}
+use Rattle.dover_model.specs.Common.{Fraction, JobFacts, IsHeavy, is_heavy, value_of, Take, Preempt, Role, Coming}
+use Rattle.dover_model.specs.Common.{Fresh, Waiting, Held, Running, Done, Gone, Task, State, is_privileged, is_running}
+use Rattle.dover_model.specs.Common.{is_ready_behind, is_done, left, latest_start, privileged, value_sum, Prints, Ticks}
+use Rattle.dover_model.specs.Common.{after, displaced, with_role, ticked, IsMember, Each, IsSound, NoneRuns, Row}
+use Rattle.dover_model.specs.Common.{IsDense, job_value, Job, IsPaid}
+use Rattle.dover_model.specs.Intervals.{with_take, with_abandoned, begun}
 use Rattle.dover_model.proofs.lists.Members.{sum_map, sum_same, by_bool, sum_zero, sum_filter, on_map, map_member}
 use Rattle.dover_model.proofs.steps.Roles.{passes, one_number, is_privileged_role, is_running_role}
 use Rattle.dover_model.proofs.steps.Loads.{Fits, load}
@@ -26,7 +20,6 @@ use Rattle.dover_model.proofs.steps.Ticking.{Quiet}
 use Rattle.dover_model.proofs.steps.Preempting.{differs, waits_sound, r_there, held_sound, f_there, none_runs}
 use Rattle.dover_model.proofs.steps.Preempting.{same_tasks}
 use Rattle.dover_model.proofs.bound.Calculus.{take_step, heavy_mono, heavy_more, paid_zero}
-use Rattle.dover_model.specs.Books.{Row, IsDense, job_value, Job, IsPaid}
 use Rattle.dover_model.proofs.bound.Books.{scaled_sum}
 use Rattle.dover_model.proofs.bound.Booking.{sum_one, sum_changed, active_sum, active_value, active_had, is_gone}
 use Rattle.dover_model.proofs.bound.Booking.{is_ready, job_of, sum_where, InBooks, Covered, Taker, OpenGone, UnderWay}

@@ -6,21 +6,14 @@ use Rattle.std.specs.Bool.{MatchBool, then_some}
 use Rattle.std.specs.List.{sum_by, count_by, filter, list_all, fold}
 use Rattle.std.proofs.lemmas.Bool.{eqb-true}
 use Rattle.std.proofs.lemmas.List.Sums.{sum_by-cons}
-use Rattle.dover_model.specs.Fraction.{Fraction}
-use Rattle.dover_model.specs.Books.{is_busy_tick, Row, Job, HadNeeds}
-use Rattle.dover_model.specs.Finishes.{Finish, need}
-use Rattle.dover_model.specs.Processor.{is_complete}
-use Rattle.dover_model.specs.Intervals.{Interval, value_of, with_taken, with_regular, begun, intervals_of}
-use Rattle.dover_model.specs.declared.events.Event.TheVariants.{Run, Complete, End}
-use Rattle.dover_model.specs.declared.events.Role.TheVariants.{Fresh, Waiting, Held, Running, Done, Gone}
-use Rattle.dover_model.specs.declared.events.Task.{Task}
-use Rattle.dover_model.specs.Instance.{Instance, IsValid}
-use Rattle.dover_model.specs.State.{State, running, is_running, is_privileged, is_done, is_held, is_over, held}
-use Rattle.dover_model.specs.State.{value_sum}
-use Rattle.dover_model.specs.Step.{Move, Prints, Ticks, step, after, ending, ◌or_else◌}
-use Rattle.dover_model.specs.Run.{Step, is_end, event_of, printed_of}
-use Rattle.dover_model.specs.WholeRun.{step_at, IsWholeRun}
-use Rattle.dover_model.specs.Sound.{IsMember, Each, IsSound, NoneRuns, Keeps}
+use Rattle.dover_model.specs.Common.{Fraction, is_busy_tick, Row, Job, Finish, need, is_complete, value_of, Run}
+use Rattle.dover_model.specs.Common.{Complete, End, Fresh, Waiting, Held, Running, Done, Gone, Task, Instance, IsValid}
+use Rattle.dover_model.specs.Common.{State, running, is_running, is_privileged, is_done, is_held, is_over, held}
+use Rattle.dover_model.specs.Common.{value_sum, Move, Prints, Ticks, step, after, ending, ◌or_else◌, Step, is_end}
+use Rattle.dover_model.specs.Common.{event_of, printed_of, step_at, IsWholeRun, IsMember, Each, IsSound, NoneRuns}
+use Rattle.dover_model.specs.Common.{Keeps}
+use Rattle.dover_model.specs.Books.{HadNeeds}
+use Rattle.dover_model.specs.Intervals.{Interval, with_taken, with_regular, begun, intervals_of}
 use Rattle.dover_model.proofs.lists.Members.{each_cons, found, not_found, by_bool, filter_member, member_filter}
 use Rattle.dover_model.proofs.steps.Roles.{passes, is_running_role, is_held_role, is_over_role}
 use Rattle.dover_model.proofs.steps.Ticking.{Quiet}

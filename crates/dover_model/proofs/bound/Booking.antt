@@ -5,21 +5,14 @@ use Rattle.std.specs.Prelude.{Option, Some, None}
 use Rattle.std.specs.List.{sum_by}
 use Rattle.std.proofs.lemmas.Bool.{eq-eqb, ne_eqb, eqb-true}
 use Rattle.std.proofs.lemmas.Nat.{mul-le}
-use Rattle.dover_model.specs.Fraction.{Fraction}
-use Rattle.dover_model.specs.JobFacts.{JobFacts}
-use Rattle.dover_model.specs.Orders.{IsHeavy}
-use Rattle.dover_model.specs.declared.events.Role.{Role}
-use Rattle.dover_model.specs.declared.events.Role.TheVariants.{Coming, Fresh, Waiting, Held, Running, Done, Gone}
-use Rattle.dover_model.specs.declared.events.Task.{Task}
-use Rattle.dover_model.specs.State.{State, is_privileged, is_done, left}
-use Rattle.dover_model.specs.Step.{with_role}
-use Rattle.dover_model.specs.Sound.{IsMember, Each, IsNumberedFrom}
+use Rattle.dover_model.specs.Common.{Fraction, JobFacts, IsHeavy, Role, Coming, Fresh, Waiting, Held, Running, Done}
+use Rattle.dover_model.specs.Common.{Gone, Task, State, is_privileged, is_done, left, with_role, IsMember, Each}
+use Rattle.dover_model.specs.Common.{IsNumberedFrom, Row, IsRow, IsDense, IsPaid, job_value, Job, in_rows}
 use Rattle.dover_model.proofs.lists.Members.{sum_map}
 use Rattle.dover_model.proofs.steps.Roles.{one_number}
 use Rattle.dover_model.proofs.steps.Loads.{sum_change, with_roles}
 use Rattle.dover_model.proofs.steps.OneChange.{changed, state_with, on_changed, changed_here, changed_there}
 use Rattle.dover_model.proofs.bound.Calculus.{heavy_mono}
-use Rattle.dover_model.specs.Books.{Row, IsRow, IsDense, IsPaid, job_value, Job, in_rows}
 use Rattle.dover_model.proofs.lists.Tests.{never}
 
 -- ---- sums over the tasks

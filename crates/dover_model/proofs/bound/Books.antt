@@ -7,12 +7,9 @@ use Rattle.std.specs.List.{sum_by, filter}
 use Rattle.std.proofs.lemmas.Bool.{le-leb, leb-true, lt-ltb, cases_lt}
 use Rattle.std.proofs.lemmas.Nat.{mul-le}
 use Rattle.std.proofs.lemmas.List.Sums.{sum_by-cons, sum_by-append}
-use Rattle.dover_model.specs.Fraction.{Fraction}
-use Rattle.dover_model.specs.Bound.{IsWithin}
-use Rattle.dover_model.specs.Books.{Row, IsRow, GoneIn, TakenIn, IsBusy, IsDense, job_value, completed_in, row_sum, Job}
-use Rattle.dover_model.specs.Books.{IsExcess, IsPaid}
-use Rattle.dover_model.specs.Sound.{IsMember, Each}
-use Rattle.dover_model.specs.Schedules.{ticks_given, is_served}
+use Rattle.dover_model.specs.Common.{Fraction, IsWithin, Row, IsRow, TakenIn, IsDense, job_value, completed_in, row_sum}
+use Rattle.dover_model.specs.Common.{Job, IsExcess, IsPaid, IsMember, Each, ticks_given, is_served}
+use Rattle.dover_model.specs.Books.{GoneIn, IsBusy}
 use Rattle.dover_model.proofs.lists.Members.{each_cons, sum_le, sum_plus, sum_filter, term_le_sum, member_filter}
 use Rattle.dover_model.proofs.lists.Members.{cond_le}
 use Rattle.dover_model.proofs.bound.Calculus.{cancel, not_heavy, excess_zero, excess_add, paid_sum, within_parts}

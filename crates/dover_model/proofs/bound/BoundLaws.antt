@@ -7,20 +7,13 @@ use Rattle.std.proofs.lemmas.Bool.{cases_lt, le-leb, leb-true}
 use Rattle.std.proofs.lemmas.Nat.{mul-le}
 use Rattle.std.proofs.lemmas.List.{length-map}
 use Rattle.std.proofs.lemmas.List.Sums.{sum_by-cons}
-use Rattle.dover_model.specs.JobFacts.{JobFacts, IsJob}
-use Rattle.dover_model.specs.Orders.{IsHeavy}
-use Rattle.dover_model.specs.Bound.{IsWithin}
-use Rattle.dover_model.specs.Books.{is_busy_tick, IsLeastDense, HasBooks, IsRow, Row, job_value, completed_in, row_sum}
-use Rattle.dover_model.specs.Books.{Job, TakenIn, HadNeeds, IsPaid, in_rows}
-use Rattle.dover_model.specs.Observed.{observing, observed}
-use Rattle.dover_model.specs.Intervals.{Interval, intervals}
-use Rattle.dover_model.specs.declared.events.Role.TheVariants.{Coming, Done, Gone}
-use Rattle.dover_model.specs.declared.events.Task.{Task}
-use Rattle.dover_model.specs.Instance.{Instance, IsValid}
-use Rattle.dover_model.specs.Schedules.{ticks_given, earned, numbered, worth}
-use Rattle.dover_model.specs.State.{State, opening, to_come, is_privileged, is_done}
-use Rattle.dover_model.specs.Run.{run, completed_value}
-use Rattle.dover_model.specs.Sound.{IsMember, Each, Keeps}
+use Rattle.dover_model.specs.Common.{JobFacts, IsJob, IsHeavy, IsWithin, is_busy_tick, IsLeastDense, IsRow, Row}
+use Rattle.dover_model.specs.Common.{job_value, completed_in, row_sum, Job, TakenIn, IsPaid, in_rows, observing}
+use Rattle.dover_model.specs.Common.{observed, intervals, Coming, Done, Gone, Task, Instance, IsValid, ticks_given}
+use Rattle.dover_model.specs.Common.{earned, numbered, worth, State, opening, to_come, is_privileged, is_done, run}
+use Rattle.dover_model.specs.Common.{completed_value, IsMember, Each, Keeps}
+use Rattle.dover_model.specs.Books.{HasBooks, HadNeeds}
+use Rattle.dover_model.specs.Intervals.{Interval}
 use Rattle.dover_model.proofs.lists.Members.{sum_le, sum_same, sum_zero, sum_plus, sum_filter, sum_map, all_member}
 use Rattle.dover_model.proofs.lists.Members.{map_member, on_map}
 use Rattle.dover_model.proofs.steps.Roles.{passes, is_over_role}

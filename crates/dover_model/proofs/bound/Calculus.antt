@@ -7,12 +7,9 @@ use Rattle.std.proofs.lemmas.Bool.{cases_lt}
 use Rattle.std.proofs.lemmas.Nat.{mul-le}
 use Rattle.std.proofs.Math.Nat.{le-max_left, le-max_right}
 use Rattle.std.proofs.lemmas.List.Sums.{sum_by-cons}
-use Rattle.dover_model.specs.Fraction.{Fraction}
-use Rattle.dover_model.specs.declared.factors.Factor.{Factor}
-use Rattle.dover_model.specs.Orders.{IsHeavy, is_over}
-use Rattle.dover_model.specs.Bound.{IsWithin, is_within_by, is_within_root, scale, share}
-use Rattle.dover_model.specs.Books.{IsPaidBy, IsPaid, IsExcessBy, IsExcess}
-use Rattle.dover_model.specs.Sound.{Each}
+use Rattle.dover_model.specs.Common.{Fraction, Factor, IsHeavy, IsWithin, is_within_by, is_within_root, scale, share}
+use Rattle.dover_model.specs.Common.{IsPaidBy, IsPaid, IsExcessBy, IsExcess, Each}
+use Rattle.dover_model.specs.Orders.{is_over}
 use Rattle.dover_model.proofs.lists.Tests.{both, below, at_most}
 
 -- x is at most the root of m times a

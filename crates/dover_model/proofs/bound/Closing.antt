@@ -6,17 +6,13 @@ use Rattle.std.specs.List.{sum_by}
 use Rattle.std.proofs.lemmas.Bool.{eq-eqb, ne_eqb, le-leb, lt-ltb, or_right}
 use Rattle.std.proofs.lemmas.List.Sums.{sum_by-cons}
 use Rattle.std.proofs.lemmas.Nat.{mul-le}
-use Rattle.dover_model.specs.Fraction.{Fraction}
-use Rattle.dover_model.specs.Orders.{IsHeavy}
-use Rattle.dover_model.specs.Intervals.{value_of, with_regular}
-use Rattle.dover_model.specs.declared.events.Role.TheVariants.{Held, Running, Done}
-use Rattle.dover_model.specs.declared.events.Task.{Task}
-use Rattle.dover_model.specs.State.{State, is_privileged, is_done, left}
-use Rattle.dover_model.specs.Sound.{IsMember, Each, IsNumberedFrom, IsSound}
+use Rattle.dover_model.specs.Common.{Fraction, IsHeavy, value_of, Held, Running, Done, Task, State, is_privileged}
+use Rattle.dover_model.specs.Common.{is_done, left, IsMember, Each, IsNumberedFrom, IsSound, Row, IsRow, TakenIn}
+use Rattle.dover_model.specs.Common.{IsDense, IsPaid, job_value, Job, in_rows}
+use Rattle.dover_model.specs.Intervals.{with_regular}
 use Rattle.dover_model.proofs.lists.Members.{by_bool, sum_zero, sum_filter}
 use Rattle.dover_model.proofs.steps.Roles.{passes, one_number, is_privileged_role}
 use Rattle.dover_model.proofs.steps.OneChange.{state_with, EachOther, on_changed, changed_there}
-use Rattle.dover_model.specs.Books.{Row, IsRow, TakenIn, IsDense, IsPaid, job_value, Job, in_rows}
 use Rattle.dover_model.proofs.bound.Calculus.{paid_zero}
 use Rattle.dover_model.proofs.bound.Booking.{sum_one, sum_changed, active_sum, active_had, is_gone, is_ready, job_of}
 use Rattle.dover_model.proofs.bound.Booking.{sum_where, InBooks, Covered, Taker, UnderWay, Booked}

@@ -6,11 +6,8 @@ use Rattle.std.specs.List.{sum_by}
 use Rattle.std.proofs.lemmas.Bool.{le-leb, leb-true, lt-ltb, ltb-true, and_parts, cases_lt}
 use Rattle.std.proofs.lemmas.Nat.{mul-le}
 use Rattle.std.proofs.lemmas.List.Sums.{sum_by-cons}
-use Rattle.dover_model.specs.JobFacts.{JobFacts}
-use Rattle.dover_model.specs.Sound.{Each}
-use Rattle.dover_model.specs.Schedules.{ticks_given}
+use Rattle.dover_model.specs.Common.{JobFacts, Each, ticks_given, Job}
 use Rattle.dover_model.proofs.runs.Serving.{given, given_nil}
-use Rattle.dover_model.specs.Books.{Job}
 use Rattle.dover_model.proofs.lists.Tests.{never}
 
 -- a test as a number

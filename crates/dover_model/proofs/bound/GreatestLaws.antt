@@ -7,14 +7,12 @@ use Rattle.std.specs.Prelude.{Option, Some, None, nat_le}
 use Rattle.std.proofs.lemmas.Bool.{le-leb, leb-true, lt-leb, cases_lt}
 use Rattle.std.proofs.Math.Nat.{pow-succ', mul-le-mul_left, mul-le-mul_right, mul-div-le, le-div_iff_mul-le}
 use Rattle.std.proofs.lemmas.Nat.{mul-le}
-use Rattle.dover_model.specs.Fraction.{Fraction, IsRatio, is_some_factor}
-use Rattle.dover_model.specs.declared.factors.Factor.{Factor}
-use Rattle.dover_model.specs.Greatest.{IsGreatest, greatest_from, greatest}
-use Rattle.dover_model.specs.Bound.{is_within, is_within_by, is_within_root, bound, bound_by, scale, share}
+use Rattle.dover_model.specs.Common.{Fraction, IsRatio, is_some_factor, Factor, IsGreatest, greatest, is_within}
+use Rattle.dover_model.specs.Common.{is_within_by, is_within_root, bound, bound_by, scale, share, IsPaid, IsPaidBy}
+use Rattle.dover_model.specs.Greatest.{greatest_from}
 use Rattle.dover_model.proofs.bound.Calculus.{square_order, cancel, root_agrees, root_less, none_within_by}
 use Rattle.dover_model.proofs.lists.Tests.{never}
 use Rattle.dover_model.proofs.valid.JobLimits.{ratio_limits, FactorLimits, factor_limits}
-use Rattle.dover_model.specs.Books.{IsPaid, IsPaidBy}
 
 -- what passes is closed downwards
 abbrev pub IsDownwardClosed : (ℕ → Bool) → Type 0

@@ -3,8 +3,7 @@ use Rattle.std.proofs.Common.{◌≡◌, ℕ, ◌+◌, ◌-◌, ◌*◌, ◌≤�
 use Rattle.std.proofs.lemmas.Bool.{cases_lt}
 use Rattle.std.proofs.lemmas.Nat.{mul-le}
 use Rattle.std.proofs.Math.Nat.{le-max_right}
-use Rattle.dover_model.specs.Fraction.{Fraction, fraction, with_factor}
-use Rattle.dover_model.specs.Bound.{IsWithin}
+use Rattle.dover_model.specs.Common.{Fraction, fraction, with_factor, IsWithin}
 use Rattle.dover_model.proofs.bound.Calculus.{square_order, root_agrees, factor_agrees}
 
 -- the square of a sum is at least four times the product

@@ -4,11 +4,7 @@ use Rattle.std.specs.Prelude.{nat_le}
 use Rattle.std.specs.List.{sum_by, enumerate_from}
 use Rattle.std.proofs.lemmas.Bool.{le-leb, leb-true}
 use Rattle.std.proofs.lemmas.List.Sums.{sum_by-cons}
-use Rattle.dover_model.specs.JobFacts.{JobFacts}
-use Rattle.dover_model.specs.Instance.{Instance, IsValid}
-use Rattle.dover_model.specs.Schedules.{ticks_given, earned, worth}
-use Rattle.dover_model.specs.Run.{completed_value}
-use Rattle.dover_model.specs.Bound.{IsWithin}
+use Rattle.dover_model.specs.Common.{JobFacts, Instance, IsValid, ticks_given, earned, worth, completed_value, IsWithin}
 use Rattle.dover_model.specs.Switches.{NeedNoLess}
 use Rattle.dover_model.proofs.runs.Serving.{given_less}
 use Rattle.dover_model.proofs.bound.Calculus.{within_less}

@@ -3,17 +3,10 @@ use Rattle.std.proofs.Common.{◌≡◌, ℕ, ◌+◌, ◌*◌, ◌≤◌, ◌�
 use Rattle.std.proofs.Common.{true, false, cond, arith}
 use Rattle.std.specs.List.{enumerate_from}
 use Rattle.std.proofs.lemmas.Nat.{mul-le}
-use Rattle.dover_model.specs.Fraction.{Fraction}
-use Rattle.dover_model.specs.JobFacts.{JobFacts}
-use Rattle.dover_model.specs.Books.{IsLeastDense, Job}
-use Rattle.dover_model.specs.Slower.{IsWithinSlower, AskAtMost, worth_by}
-use Rattle.dover_model.specs.Observed.{observing, observed}
-use Rattle.dover_model.specs.Schedules.{numbered}
-use Rattle.dover_model.specs.declared.events.Task.{Task}
-use Rattle.dover_model.specs.Instance.{Instance, IsValid}
-use Rattle.dover_model.specs.State.{State, opening, is_done}
-use Rattle.dover_model.specs.Run.{completed_value}
-use Rattle.dover_model.specs.Sound.{IsMember, Each}
+use Rattle.dover_model.specs.Common.{Fraction, JobFacts, IsLeastDense, Job, IsWithinSlower, worth_by, observing}
+use Rattle.dover_model.specs.Common.{observed, numbered, Task, Instance, IsValid, State, opening, is_done}
+use Rattle.dover_model.specs.Common.{completed_value, IsMember, Each, IsJob}
+use Rattle.dover_model.specs.Slower.{AskAtMost}
 use Rattle.dover_model.proofs.lists.Members.{map_member}
 use Rattle.dover_model.proofs.bound.Booked.{IsModest}
 use Rattle.dover_model.proofs.runs.Honest.{whole_outcome}
@@ -21,7 +14,6 @@ use Rattle.dover_model.proofs.bound.Augmented.{IsAsked, slower_bound}
 use Rattle.dover_model.proofs.bound.BoundLaws.{least_modest, seen_books, some_least}
 use Rattle.dover_model.proofs.valid.ValidParts.{valid_parts}
 use Rattle.dover_model.proofs.valid.JobLimits.{job_limits}
-use Rattle.dover_model.specs.JobFacts.{IsJob}
 use Rattle.dover_model.proofs.lists.Members.{all_member}
 
 -- a job that is observed is that of a task at the end

@@ -3,17 +3,10 @@ use Rattle.std.proofs.Common.{◌≡◌, ℕ, ◌+◌, ◌-◌, ◌≤◌, ◌<�
 use Rattle.std.proofs.Common.{false, cond, arith}
 use Rattle.std.specs.Prelude.{◌==◌, if◌then◌else◌}
 use Rattle.std.proofs.lemmas.List.Sums.{fold-append}
-use Rattle.dover_model.specs.declared.events.Role.TheVariants.{Waiting}
-use Rattle.dover_model.specs.declared.events.Task.{Task}
-use Rattle.dover_model.specs.Finishes.{Finish}
-use Rattle.dover_model.specs.Instance.{Rules, Instance, IsValid, having, finishing}
-use Rattle.dover_model.specs.State.{State, opening, is_running}
-use Rattle.dover_model.specs.Step.{Move, Prints, Waits, Ticks, open_step, after, ticked, with_role, role_after}
-use Rattle.dover_model.specs.Run.{Step}
-use Rattle.dover_model.specs.Settled.{waits_for_mark, settled_steps, settled_state, settled}
-use Rattle.dover_model.specs.WholeRun.{IsSettledRun, Begins}
-use Rattle.dover_model.specs.Jumps.{ticked_by, AreAhead, AreAheadOfRunning}
-use Rattle.dover_model.specs.Sound.{IsMember, Each}
+use Rattle.dover_model.specs.Common.{Waiting, Task, Finish, Rules, Instance, IsValid, having, finishing, State, opening}
+use Rattle.dover_model.specs.Common.{is_running, Move, Prints, Waits, Ticks, open_step, after, ticked, with_role}
+use Rattle.dover_model.specs.Common.{role_after, Step, waits_for_mark, settled_steps, settled_state, settled}
+use Rattle.dover_model.specs.Common.{IsSettledRun, Begins, ticked_by, AreAhead, AreAheadOfRunning, IsMember, Each}
 use Rattle.dover_model.proofs.lists.Members.{on_map}
 use Rattle.dover_model.proofs.steps.Roles.{is_running_role}
 use Rattle.dover_model.proofs.finishes.Readiness.{runner}

@@ -5,24 +5,14 @@ use Rattle.std.specs.Prelude.{Option, None, nat_le, ◌&&◌}
 use Rattle.std.specs.List.{AllByRecursion, cons_option}
 use Rattle.std.specs.Option.{option_map}
 use Rattle.std.proofs.lemmas.Bool.{eqb-true, eq-eqb, leb-true}
-use Rattle.dover_model.specs.Fraction.{Fraction}
-use Rattle.dover_model.specs.Instance.{Rules, Instance, IsValid}
-use Rattle.dover_model.specs.Finishes.{Finish, goes_on}
-use Rattle.dover_model.specs.declared.events.Event.{Event}
-use Rattle.dover_model.specs.declared.events.Event.TheVariants.{Release, Run, Preempt, Take, Complete, Abandon, End}
-use Rattle.dover_model.specs.declared.events.Role.{Role}
-use Rattle.dover_model.specs.declared.events.Role.TheVariants.{Coming, Fresh, Waiting, Held, Running, Done, Gone}
-use Rattle.dover_model.specs.declared.events.Task.{Task}
-use Rattle.dover_model.specs.State.{State, opening, is_running, is_ready_behind, is_over, left}
-use Rattle.dover_model.specs.Step.{Move, Prints, Waits, Ticks, open_step, after, with_role, displaced}
-use Rattle.dover_model.specs.Processor.{is_complete}
-use Rattle.dover_model.specs.Run.{Step, event_of, printed_of, printed}
-use Rattle.dover_model.specs.Settled.{waits_for_mark, settled, settled_steps, settled_state, AreOverFor}
-use Rattle.dover_model.specs.WholeRun.{open_at, IsBarrier}
-use Rattle.dover_model.specs.Paths.{IsOpenPath}
-use Rattle.dover_model.specs.Rest.{end_tick, before_end}
-use Rattle.dover_model.specs.Sound.{IsMember, Each, IsSound, Keeps}
-use Rattle.dover_model.specs.Session.{Item, Session, instance_of, FinishItem, early_at, finish_at, may_finish_early}
+use Rattle.dover_model.specs.Common.{Fraction, Rules, Instance, IsValid, Finish, goes_on, Event, Release, Run, Preempt}
+use Rattle.dover_model.specs.Common.{Take, Complete, Abandon, End, Role, Coming, Fresh, Waiting, Held, Running, Done}
+use Rattle.dover_model.specs.Common.{Gone, Task, State, opening, is_running, is_ready_behind, is_over, left, Move}
+use Rattle.dover_model.specs.Common.{Prints, Waits, Ticks, open_step, after, with_role, displaced, is_complete, Step}
+use Rattle.dover_model.specs.Common.{event_of, printed_of, printed, waits_for_mark, settled, settled_steps}
+use Rattle.dover_model.specs.Common.{settled_state, AreOverFor, open_at, IsBarrier, IsOpenPath, end_tick, before_end}
+use Rattle.dover_model.specs.Common.{IsMember, Each, IsSound, Keeps, Item, Session, instance_of, FinishItem, early_at}
+use Rattle.dover_model.specs.Common.{finish_at, may_finish_early}
 use Rattle.dover_model.proofs.lists.Members.{found, on_map}
 use Rattle.dover_model.proofs.steps.Roles.{passes, one_number, is_running_role}
 use Rattle.dover_model.proofs.steps.Moves.{says}

@@ -8,28 +8,17 @@ use Rattle.std.specs.Option.{option_or}
 use Rattle.std.specs.List.{AllByRecursion, filter, find, list_all, cons_option}
 use Rattle.std.proofs.lemmas.Bool.{eq-eqb, and_parts, lt-ltb, ltb-true, ltb-false, leb-true, le-leb}
 use Rattle.std.proofs.lemmas.List.Folds.{find-append}
-use Rattle.dover_model.specs.JobFacts.{JobFacts}
-use Rattle.dover_model.specs.declared.events.Event.TheVariants.{Release, Run, Preempt, Take, Complete, Abandon, End}
-use Rattle.dover_model.specs.declared.events.Role.TheVariants.{Coming, Fresh, Running}
-use Rattle.dover_model.specs.declared.events.Task.{Task}
-use Rattle.dover_model.specs.Finishes.{Finish, is_finish_of, has_come_to, is_due, goes_on}
-use Rattle.dover_model.specs.Instance.{Instance, IsValid, declared_by, having}
-use Rattle.dover_model.specs.State.{State, opening, to_come, with_later, is_coming, is_running, is_over}
-use Rattle.dover_model.specs.State.{running, left}
-use Rattle.dover_model.specs.Step.{Move, Prints, Waits, Ticks, View, view, completion, dispatch, decision}
-use Rattle.dover_model.specs.Step.{arrival, alarm, ◌or_else◌, ending, due_finish, finish_or, declared_step, step}
-use Rattle.dover_model.specs.Step.{open_step, after, ticked}
-use Rattle.dover_model.specs.Run.{Step, is_end}
-use Rattle.dover_model.specs.WholeRun.{step_at, open_at, IsBarrier}
-use Rattle.dover_model.specs.Settled.{waits_for_mark, settled_steps, settled_state, finish_now, AllComeFrom}
-use Rattle.dover_model.specs.Processor.{is_complete}
-use Rattle.dover_model.specs.Paths.{IsPath, IsOpenPath}
-use Rattle.dover_model.specs.Rest.{NoneBefore}
-use Rattle.dover_model.specs.Sound.{IsMember, Each, Keeps}
-use Rattle.dover_model.specs.Session.{Item, JobItem, RefusedItem, FinishItem, EarlyFinish, Session, instance_of}
-use Rattle.dover_model.specs.Session.{session_with, admitted_jobs, early_finishes, finish_of_item}
-use Rattle.dover_model.specs.Session.{may_finish_early, finish_at, early_at}
-use Rattle.dover_model.specs.Trace.{handed_by}
+use Rattle.dover_model.specs.Common.{JobFacts, Release, Run, Preempt, Take, Complete, Abandon, End, Coming, Fresh}
+use Rattle.dover_model.specs.Common.{Running, Task, Finish, is_finish_of, has_come_to, is_due, goes_on, Instance}
+use Rattle.dover_model.specs.Common.{IsValid, declared_by, having, State, opening, to_come, with_later, is_coming}
+use Rattle.dover_model.specs.Common.{is_running, is_over, running, left, Move, Prints, Waits, Ticks, View, view}
+use Rattle.dover_model.specs.Common.{completion, dispatch, decision, arrival, alarm, ◌or_else◌, ending, due_finish}
+use Rattle.dover_model.specs.Common.{finish_or, declared_step, step, open_step, after, ticked, Step, is_end, step_at}
+use Rattle.dover_model.specs.Common.{open_at, IsBarrier, waits_for_mark, settled_steps, settled_state, finish_now}
+use Rattle.dover_model.specs.Common.{AllComeFrom, is_complete, IsPath, IsOpenPath, NoneBefore, IsMember, Each, Keeps}
+use Rattle.dover_model.specs.Common.{Item, JobItem, RefusedItem, FinishItem, EarlyFinish, Session, instance_of}
+use Rattle.dover_model.specs.Common.{session_with, admitted_jobs, early_finishes, finish_of_item, may_finish_early}
+use Rattle.dover_model.specs.Common.{finish_at, early_at, handed_by}
 use Rattle.dover_model.proofs.lists.Members.{found, not_found, some_same, on_map, member_front}
 use Rattle.dover_model.proofs.steps.Roles.{passes, is_running_role}
 use Rattle.dover_model.proofs.steps.Moves.{says}

@@ -5,18 +5,13 @@ use Rattle.std.specs.Prelude.{Option, Some, None, nat_le, nat_lt, ◌&&◌, ◌|
 use Rattle.std.specs.Bool.{MatchBool}
 use Rattle.std.specs.List.{find, list_any, list_all}
 use Rattle.std.specs.Option.{option_and_then}
-use Rattle.dover_model.specs.declared.events.Event.{Event}
-use Rattle.dover_model.specs.declared.events.Task.{Task}
-use Rattle.dover_model.specs.Finishes.{Finish, is_finish_of, has_come_to, is_due, AreDueAlike}
-use Rattle.dover_model.specs.Instance.{Rules, Instance, having, finishing}
-use Rattle.dover_model.specs.State.{State, opening, running}
-use Rattle.dover_model.specs.Step.{Move, due_finish, step, open_step, declared_step, declared_open_step, after}
-use Rattle.dover_model.specs.Run.{Step, is_end, run_from, run, enough, printed_of}
-use Rattle.dover_model.specs.Settled.{waits_for_mark, settled_from, settled_steps, settled, settled_state}
-use Rattle.dover_model.specs.Session.{EarlyFinish, finishing_at, finish_at}
-use Rattle.dover_model.specs.WholeRun.{IsWholeRun}
-use Rattle.dover_model.specs.Paths.{IsOpenPath, HasPrinted}
-use Rattle.dover_model.specs.Sound.{IsMember, HaveTheSame}
+use Rattle.dover_model.specs.Common.{Event, Task, Finish, is_finish_of, has_come_to, is_due, AreDueAlike, Rules}
+use Rattle.dover_model.specs.Common.{Instance, having, finishing, State, opening, running, Move, due_finish, step}
+use Rattle.dover_model.specs.Common.{open_step, declared_step, declared_open_step, after, Step, is_end, run, enough}
+use Rattle.dover_model.specs.Common.{printed_of, waits_for_mark, settled_from, settled_steps, settled, settled_state}
+use Rattle.dover_model.specs.Common.{EarlyFinish, finish_at, IsWholeRun, IsOpenPath, HasPrinted, IsMember, HaveTheSame}
+use Rattle.dover_model.specs.Run.{run_from}
+use Rattle.dover_model.specs.Session.{finishing_at}
 use Rattle.dover_model.proofs.lists.Members.{some_same}
 use Rattle.dover_model.proofs.settled.Barriers.{state_after}
 use Rattle.dover_model.proofs.finishes.Finishing.{IsDue, finish_due, none_comes, some_comes}

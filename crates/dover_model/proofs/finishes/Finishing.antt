@@ -3,16 +3,9 @@ use Rattle.std.proofs.Common.{◌≡◌, ℕ, List, [], ◌∷◌, refl, sym, ap
 use Rattle.std.specs.Prelude.{Option, Some, None, ◌==◌, ◌&&◌, ◌||◌, nat_lt}
 use Rattle.std.specs.List.{find}
 use Rattle.std.proofs.lemmas.Bool.{eqb-true, and_parts}
-use Rattle.dover_model.specs.Fraction.{Fraction}
-use Rattle.dover_model.specs.Finishes.{Finish, is_finish_of, has_come_to, is_due}
-use Rattle.dover_model.specs.declared.events.Role.TheVariants.{Running}
-use Rattle.dover_model.specs.declared.events.Event.TheVariants.{Complete}
-use Rattle.dover_model.specs.declared.events.Task.{Task}
-use Rattle.dover_model.specs.State.{State, is_running, running}
-use Rattle.dover_model.specs.Step.{Move, Prints, due_finish, finish_or}
-use Rattle.dover_model.specs.Settled.{waits_for_mark}
-use Rattle.dover_model.specs.Processor.{is_complete}
-use Rattle.dover_model.specs.Sound.{IsMember}
+use Rattle.dover_model.specs.Common.{Fraction, Finish, is_finish_of, has_come_to, is_due, Running, Complete, Task}
+use Rattle.dover_model.specs.Common.{State, is_running, running, Move, Prints, due_finish, finish_or, waits_for_mark}
+use Rattle.dover_model.specs.Common.{is_complete, IsMember}
 use Rattle.dover_model.proofs.lists.Members.{found}
 use Rattle.dover_model.proofs.steps.Roles.{is_running_role}
 use Rattle.dover_model.proofs.steps.Deeds.{Deed, Completed}

@@ -6,21 +6,13 @@ use Rattle.std.specs.List.{cons_option}
 use Rattle.std.proofs.lemmas.Bool.{eq-eqb, lt-ltb}
 use Rattle.std.proofs.lemmas.List.Folds.{find-append}
 use Rattle.std.specs.Option.{option_or}
-use Rattle.dover_model.specs.declared.events.Event.TheVariants.{Complete}
-use Rattle.dover_model.specs.declared.events.Role.TheVariants.{Coming, Running}
-use Rattle.dover_model.specs.declared.events.Task.{Task}
-use Rattle.dover_model.specs.Finishes.{Finish, is_finish_of, has_come_to}
-use Rattle.dover_model.specs.Instance.{Rules, Instance, IsValid, with_finishes, bare}
-use Rattle.dover_model.specs.State.{State, opening, running, is_running, is_over}
-use Rattle.dover_model.specs.Step.{Move, Prints, Ticks, due_finish, finish_or, step, open_step, declared_step}
-use Rattle.dover_model.specs.Step.{declared_open_step, after, ticked}
-use Rattle.dover_model.specs.Run.{Step, printed, event_of}
-use Rattle.dover_model.specs.Settled.{waits_for_mark, settled_steps, settled_state, settled, finish_now, RunsAtMark}
-use Rattle.dover_model.specs.Settled.{AreOverFor, AreYetToCome}
-use Rattle.dover_model.specs.Jumps.{AreAhead}
-use Rattle.dover_model.specs.WholeRun.{open_at, IsBarrier, Begins}
-use Rattle.dover_model.specs.Paths.{IsOpenPath, HasPrinted}
-use Rattle.dover_model.specs.Sound.{IsMember, Each, Keeps}
+use Rattle.dover_model.specs.Common.{Complete, Coming, Running, Task, Finish, is_finish_of, has_come_to, Rules}
+use Rattle.dover_model.specs.Common.{Instance, IsValid, with_finishes, bare, State, opening, running, is_running}
+use Rattle.dover_model.specs.Common.{is_over, Move, Prints, Ticks, due_finish, finish_or, step, open_step}
+use Rattle.dover_model.specs.Common.{declared_step, declared_open_step, after, ticked, Step, printed, event_of}
+use Rattle.dover_model.specs.Common.{waits_for_mark, settled_steps, settled_state, settled, finish_now, RunsAtMark}
+use Rattle.dover_model.specs.Common.{AreOverFor, AreYetToCome, AreAhead, open_at, IsBarrier, Begins, IsOpenPath}
+use Rattle.dover_model.specs.Common.{HasPrinted, IsMember, Each, Keeps}
 use Rattle.dover_model.proofs.lists.Members.{not_found, map_member, member_behind, some_same, each_cons}
 use Rattle.dover_model.proofs.steps.Roles.{passes, one_number}
 use Rattle.dover_model.proofs.steps.Kept.{Moved, move_of, open_kept, opening_keeps, come_coming}

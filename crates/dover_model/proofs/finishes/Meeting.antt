@@ -4,16 +4,11 @@ use Rattle.std.specs.Prelude.{Option, Some, None, nat_le}
 use Rattle.std.specs.Bool.{MatchBool}
 use Rattle.std.specs.List.{filter_map, cons_option}
 use Rattle.std.proofs.lemmas.Bool.{leb-false}
-use Rattle.dover_model.specs.declared.events.Event.TheVariants.{Complete}
-use Rattle.dover_model.specs.declared.events.Task.{Task}
-use Rattle.dover_model.specs.Finishes.{Finish, is_finish_of}
-use Rattle.dover_model.specs.Instance.{Rules, Instance, IsValid, bare, finishing}
-use Rattle.dover_model.specs.State.{State, opening, running}
-use Rattle.dover_model.specs.Step.{Move, Prints, due_finish, finish_or, step, declared_step, after}
-use Rattle.dover_model.specs.Run.{Step, is_end, run}
-use Rattle.dover_model.specs.WholeRun.{IsWholeRun}
-use Rattle.dover_model.specs.Online.{event_up_to, printed_up_to, known_at, finish_up_to, finishes_up_to}
-use Rattle.dover_model.specs.Sound.{IsMember, Each}
+use Rattle.dover_model.specs.Common.{Complete, Task, Finish, is_finish_of, Rules, Instance, IsValid, bare, finishing}
+use Rattle.dover_model.specs.Common.{State, opening, running, Move, Prints, due_finish, finish_or, step, declared_step}
+use Rattle.dover_model.specs.Common.{after, Step, is_end, run, IsWholeRun, printed_up_to, known_at, finishes_up_to}
+use Rattle.dover_model.specs.Common.{IsMember, Each}
+use Rattle.dover_model.specs.Online.{event_up_to, finish_up_to}
 use Rattle.dover_model.proofs.lists.Members.{found, not_found, some_same}
 use Rattle.dover_model.proofs.runs.Ending.{run_is_whole}
 use Rattle.dover_model.proofs.finishes.Finishing.{IsDue, finish_due}

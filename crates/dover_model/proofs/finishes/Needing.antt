@@ -5,17 +5,10 @@ use Rattle.std.specs.Prelude.{◌==◌, ◌&&◌, ◌||◌, nat_lt, nat_le}
 use Rattle.std.specs.Bool.{then_some}
 use Rattle.std.specs.List.{filter, list_all}
 use Rattle.std.proofs.lemmas.Bool.{eqb-true, eqb-false, eq-eqb, and_parts, lt-ltb, ltb-true, leb-true, leb-false}
-use Rattle.dover_model.specs.JobFacts.{JobFacts}
-use Rattle.dover_model.specs.Fraction.{Fraction}
-use Rattle.dover_model.specs.Instance.{Rules, Instance, IsValid}
-use Rattle.dover_model.specs.Finishes.{Finish, is_due, need, goes_on}
-use Rattle.dover_model.specs.declared.events.Role.{Role}
-use Rattle.dover_model.specs.declared.events.Role.TheVariants.{Coming, Fresh, Waiting, Held, Running, Done, Gone}
-use Rattle.dover_model.specs.declared.events.Event.TheVariants.{End}
-use Rattle.dover_model.specs.declared.events.Task.{Task}
-use Rattle.dover_model.specs.State.{State, opening, is_ready_behind, is_over, is_done, left, value_sum}
-use Rattle.dover_model.specs.Step.{Move, Prints, Ticks, ◌or_else◌, after, with_role, displaced, ticked, step, ending}
-use Rattle.dover_model.specs.Sound.{IsMember, Each, IsSound, Keeps}
+use Rattle.dover_model.specs.Common.{JobFacts, Fraction, Rules, Instance, IsValid, Finish, is_due, need, goes_on, Role}
+use Rattle.dover_model.specs.Common.{Coming, Fresh, Waiting, Held, Running, Done, Gone, End, Task, State, opening}
+use Rattle.dover_model.specs.Common.{is_ready_behind, is_over, is_done, left, value_sum, Move, Prints, Ticks, ◌or_else◌}
+use Rattle.dover_model.specs.Common.{after, with_role, displaced, ticked, step, ending, IsMember, Each, IsSound, Keeps}
 use Rattle.dover_model.proofs.lists.Members.{on_map}
 use Rattle.dover_model.proofs.steps.Roles.{passes}
 use Rattle.dover_model.proofs.steps.Moves.{says}

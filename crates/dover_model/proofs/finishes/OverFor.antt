@@ -2,16 +2,10 @@
 use Rattle.std.proofs.Common.{◌≡◌, ℕ, List, [], ◌∷◌, inl, inr, refl, sym, ◌∙◌, Bool, true, false, cond, eqb}
 use Rattle.std.specs.Prelude.{◌==◌, ◌&&◌, ◌||◌, nat_lt}
 use Rattle.std.proofs.lemmas.Bool.{eqb-true, and_parts}
-use Rattle.dover_model.specs.Fraction.{Fraction}
-use Rattle.dover_model.specs.Instance.{Rules, Instance, IsValid}
-use Rattle.dover_model.specs.Finishes.{Finish, has_come_to, is_due}
-use Rattle.dover_model.specs.declared.events.Role.{Role}
-use Rattle.dover_model.specs.declared.events.Role.TheVariants.{Coming, Fresh, Waiting, Held, Running, Done, Gone}
-use Rattle.dover_model.specs.declared.events.Task.{Task}
-use Rattle.dover_model.specs.State.{State, is_ready_behind, is_over}
-use Rattle.dover_model.specs.Step.{Move, Ticks, after, with_role, displaced, ticked, open_step}
-use Rattle.dover_model.specs.Settled.{AreOverFor}
-use Rattle.dover_model.specs.Sound.{IsMember, Each, IsSound, Keeps}
+use Rattle.dover_model.specs.Common.{Fraction, Rules, Instance, IsValid, Finish, has_come_to, is_due, Role, Coming}
+use Rattle.dover_model.specs.Common.{Fresh, Waiting, Held, Running, Done, Gone, Task, State, is_ready_behind, is_over}
+use Rattle.dover_model.specs.Common.{Move, Ticks, after, with_role, displaced, ticked, open_step, AreOverFor, IsMember}
+use Rattle.dover_model.specs.Common.{Each, IsSound, Keeps}
 use Rattle.dover_model.proofs.lists.Members.{on_map}
 use Rattle.dover_model.proofs.steps.Roles.{passes}
 use Rattle.dover_model.proofs.steps.OneChange.{state_with, on_changed}

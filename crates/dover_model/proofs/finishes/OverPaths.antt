@@ -1,13 +1,8 @@
 -- Where each finish is of a job that is over, silent steps are those without finishes.
 use Rattle.std.proofs.Common.{◌≡◌, ℕ, List, [], ◌∷◌, sym, ap, ◌∙◌, subst}
 use Rattle.std.specs.Prelude.{nat_le, ◌&&◌}
-use Rattle.dover_model.specs.Instance.{Instance, IsValid, bare}
-use Rattle.dover_model.specs.State.{State}
-use Rattle.dover_model.specs.Step.{open_step, after}
-use Rattle.dover_model.specs.Run.{Step, event_of}
-use Rattle.dover_model.specs.Settled.{waits_for_mark, AreOverFor}
-use Rattle.dover_model.specs.Sound.{Keeps}
-use Rattle.dover_model.specs.Leading.{Settles, Idles}
+use Rattle.dover_model.specs.Common.{Instance, IsValid, bare, State, open_step, after, Step, event_of, waits_for_mark}
+use Rattle.dover_model.specs.Common.{AreOverFor, Keeps, Settles, Idles}
 use Rattle.dover_model.proofs.steps.Kept.{open_kept}
 use Rattle.dover_model.proofs.finishes.Further.{over_open}
 use Rattle.dover_model.proofs.finishes.OverFor.{over_after}

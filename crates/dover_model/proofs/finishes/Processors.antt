@@ -6,24 +6,15 @@ use Rattle.std.specs.Option.{option_map}
 use Rattle.std.specs.List.{fold, cons_option}
 use Rattle.std.proofs.lemmas.Bool.{eqb-true, eq-eqb, ltb-true, ltb-false}
 use Rattle.std.proofs.lemmas.List.Sums.{fold-append}
-use Rattle.dover_model.specs.Fraction.{Fraction}
-use Rattle.dover_model.specs.Instance.{Rules, Instance, IsValid}
-use Rattle.dover_model.specs.declared.events.Event.{Event}
-use Rattle.dover_model.specs.declared.events.Event.TheVariants.{Release, Run, Preempt, Take, Complete, Abandon, End}
-use Rattle.dover_model.specs.declared.events.Role.{Role}
-use Rattle.dover_model.specs.declared.events.Role.TheVariants.{Coming, Fresh, Waiting, Held, Running, Done}
-use Rattle.dover_model.specs.declared.events.Role.TheVariants.{Gone}
-use Rattle.dover_model.specs.declared.events.Task.{Task}
-use Rattle.dover_model.specs.State.{State, opening, running, is_running, is_over}
-use Rattle.dover_model.specs.Step.{Move, Prints, Waits, Ticks, open_step, after, with_role, ticked, role_after}
-use Rattle.dover_model.specs.Step.{displaced}
-use Rattle.dover_model.specs.Run.{Step, event_of, printed, printed_of, completed_value}
-use Rattle.dover_model.specs.Settled.{settled, settled_steps, settled_state, last_of, finish_now}
-use Rattle.dover_model.specs.Session.{EarlyFinish, finish_at}
-use Rattle.dover_model.specs.Paths.{IsOpenPath}
-use Rattle.dover_model.specs.Processor.{runner_after, runner_of}
-use Rattle.dover_model.specs.Rest.{Turn, TurnsEnd, IsAtRest, behind, before_end, turn_under, one_run, printed_turns}
-use Rattle.dover_model.specs.Sound.{IsMember, Keeps, IsSound, NoneRuns}
+use Rattle.dover_model.specs.Common.{Fraction, Rules, Instance, IsValid, Event, Release, Run, Preempt, Take, Complete}
+use Rattle.dover_model.specs.Common.{Abandon, End, Role, Coming, Fresh, Waiting, Held, Running, Done, Gone, Task, State}
+use Rattle.dover_model.specs.Common.{opening, running, is_running, is_over, Move, Prints, Waits, Ticks, open_step}
+use Rattle.dover_model.specs.Common.{after, with_role, ticked, role_after, displaced, Step, event_of, printed}
+use Rattle.dover_model.specs.Common.{printed_of, completed_value, settled, settled_steps, settled_state, last_of}
+use Rattle.dover_model.specs.Common.{finish_now, EarlyFinish, finish_at, IsOpenPath, runner_of, Turn, TurnsEnd}
+use Rattle.dover_model.specs.Common.{IsAtRest, behind, before_end, turn_under, one_run, printed_turns, IsMember, Keeps}
+use Rattle.dover_model.specs.Common.{IsSound, NoneRuns}
+use Rattle.dover_model.specs.Processor.{runner_after}
 use Rattle.dover_model.proofs.rest.Apart.{before_append, settled_at_rest}
 use Rattle.dover_model.proofs.settled.Barriers.{settled_at_barrier}
 use Rattle.dover_model.proofs.steps.Deeds.{Deed, Completed, Resumed, Started, Began, Preempted, Stayed, Arrived, Taken}

@@ -5,20 +5,12 @@ use Rattle.std.specs.Prelude.{Option, Some, None, ◌==◌, ◌&&◌, ◌||◌, 
 use Rattle.std.specs.Bool.{then_some}
 use Rattle.std.specs.List.{find, filter, list_all}
 use Rattle.std.proofs.lemmas.Bool.{eqb-true, lt-ltb}
-use Rattle.dover_model.specs.JobFacts.{JobFacts}
-use Rattle.dover_model.specs.Fraction.{Fraction}
-use Rattle.dover_model.specs.Instance.{Rules, Instance, IsValid}
-use Rattle.dover_model.specs.Finishes.{Finish, is_finish_of, is_due, goes_on}
-use Rattle.dover_model.specs.declared.events.Role.{Role}
-use Rattle.dover_model.specs.declared.events.Role.TheVariants.{Coming, Fresh, Waiting, Held, Running, Done, Gone}
-use Rattle.dover_model.specs.declared.events.Event.TheVariants.{End}
-use Rattle.dover_model.specs.declared.events.Task.{Task}
-use Rattle.dover_model.specs.State.{State, opening, is_running, running, is_ready_behind, is_over, is_done, left}
-use Rattle.dover_model.specs.State.{value_sum}
-use Rattle.dover_model.specs.Step.{Move, Prints, Ticks, View, view, ◌or_else◌, due_finish, finish_or, urgent_or, after}
-use Rattle.dover_model.specs.Step.{with_role, displaced, ticked, step, open_step, ending}
-use Rattle.dover_model.specs.Processor.{is_complete}
-use Rattle.dover_model.specs.Sound.{IsMember, Each, IsSound, Keeps}
+use Rattle.dover_model.specs.Common.{JobFacts, Fraction, Rules, Instance, IsValid, Finish, is_finish_of, is_due}
+use Rattle.dover_model.specs.Common.{goes_on, Role, Coming, Fresh, Waiting, Held, Running, Done, Gone, End, Task, State}
+use Rattle.dover_model.specs.Common.{opening, is_running, running, is_ready_behind, is_over, is_done, left, value_sum}
+use Rattle.dover_model.specs.Common.{Move, Prints, Ticks, View, view, ◌or_else◌, due_finish, finish_or, urgent_or}
+use Rattle.dover_model.specs.Common.{after, with_role, displaced, ticked, step, open_step, ending, is_complete}
+use Rattle.dover_model.specs.Common.{IsMember, Each, IsSound, Keeps}
 use Rattle.dover_model.proofs.lists.Members.{found, not_found, on_map, some_same}
 use Rattle.dover_model.proofs.steps.Roles.{is_running_role, passes, one_number}
 use Rattle.dover_model.proofs.steps.Moves.{says}

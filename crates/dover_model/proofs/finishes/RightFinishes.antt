@@ -5,12 +5,9 @@ use Rattle.std.specs.Bool.{then_some}
 use Rattle.std.specs.Option.{option_and_then}
 use Rattle.std.specs.List.{AllByRecursion, list_all}
 use Rattle.std.proofs.lemmas.Bool.{eqb-true, eq-eqb}
-use Rattle.dover_model.specs.Instance.{Instance}
-use Rattle.dover_model.specs.declared.events.Task.{Task}
-use Rattle.dover_model.specs.State.{running, is_running}
-use Rattle.dover_model.specs.Run.{Step}
-use Rattle.dover_model.specs.Settled.{settled_steps, settled_state, finish_now, RunsAtMark}
-use Rattle.dover_model.specs.Session.{EarlyFinish, finishing_at, finish_at}
+use Rattle.dover_model.specs.Common.{Instance, Task, running, is_running, Step, settled_steps, settled_state}
+use Rattle.dover_model.specs.Common.{finish_now, RunsAtMark, EarlyFinish, finish_at}
+use Rattle.dover_model.specs.Session.{finishing_at}
 use Rattle.dover_model.proofs.lists.Members.{some_same, found, all_member}
 use Rattle.dover_model.proofs.steps.Roles.{is_running_role}
 use Rattle.dover_model.proofs.lists.Tests.{none_is_some, each, below}

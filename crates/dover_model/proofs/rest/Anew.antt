@@ -5,21 +5,11 @@ use Rattle.std.proofs.Common.{replicate}
 use Rattle.std.specs.Prelude.{nat_le, ◌==◌}
 use Rattle.std.specs.List.{count_by, sum_by, fold, enumerate_from}
 use Rattle.std.proofs.lemmas.List.Sums.{sum_by-cons}
-use Rattle.dover_model.specs.JobFacts.{JobFacts, IsJob}
-use Rattle.dover_model.specs.declared.events.Event.{Event}
-use Rattle.dover_model.specs.declared.events.Event.TheVariants.{End}
-use Rattle.dover_model.specs.declared.events.Role.TheVariants.{Coming}
-use Rattle.dover_model.specs.Limits.{idle}
-use Rattle.dover_model.specs.Instance.{Rules, Instance, IsValid, having}
-use Rattle.dover_model.specs.Observed.{observed, observing}
-use Rattle.dover_model.specs.State.{State, to_come}
-use Rattle.dover_model.specs.Run.{printed_of, printed, last_deadline, completed_value, ran}
-use Rattle.dover_model.specs.WholeRun.{step_at, IsWholeRun}
-use Rattle.dover_model.specs.Schedules.{worth}
-use Rattle.dover_model.specs.Bound.{IsWithin}
-use Rattle.dover_model.specs.Sound.{Each}
-use Rattle.dover_model.specs.Rest.{behind, before_end, later_job, later_event, Turn, turn_under}
-use Rattle.dover_model.specs.Rest.{AreAnew, anew, printed_anew, completed_anew}
+use Rattle.dover_model.specs.Common.{JobFacts, IsJob, Event, End, Coming, idle, Rules, Instance, IsValid, having}
+use Rattle.dover_model.specs.Common.{observed, observing, State, to_come, printed_of, printed, last_deadline}
+use Rattle.dover_model.specs.Common.{completed_value, ran, step_at, IsWholeRun, worth, IsWithin, Each, behind}
+use Rattle.dover_model.specs.Common.{before_end, later_job, later_event, Turn, turn_under, anew, printed_anew}
+use Rattle.dover_model.specs.Rest.{AreAnew, completed_anew}
 use Rattle.dover_model.proofs.lists.Members.{all_member, on_map, each_append, map_map}
 use Rattle.dover_model.proofs.bound.BoundLaws.{bound as no_more, observed_bound}
 use Rattle.dover_model.proofs.runs.Honest.{observed_honest}

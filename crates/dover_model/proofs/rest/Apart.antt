@@ -3,20 +3,13 @@ use Rattle.std.proofs.Common.{◌≡◌, ℕ, length-append, ◌+◌, ◌-◌, �
 use Rattle.std.proofs.Common.{ap, ◌∙◌, subst, Bool, true, false, cond, arith, not, append-nil, append_assoc}
 use Rattle.std.specs.Prelude.{◌&&◌, nat_le}
 use Rattle.std.specs.List.{filter, cons_option}
-use Rattle.dover_model.specs.JobFacts.{JobFacts}
-use Rattle.dover_model.specs.declared.events.Event.{Event}
-use Rattle.dover_model.specs.declared.events.Event.TheVariants.{Release, Run, Preempt, Take, Complete, Abandon, End}
-use Rattle.dover_model.specs.declared.events.Task.{Task}
-use Rattle.dover_model.specs.Instance.{Rules, Instance, IsValid, having}
-use Rattle.dover_model.specs.State.{State, with_later, opening, to_come, is_done, value_sum}
-use Rattle.dover_model.specs.Step.{Move, Prints, Waits, Ticks, open_step, after, finish_or, declared_open_step}
-use Rattle.dover_model.specs.Run.{Step, is_end, event_of, printed_of, printed, run, completed_value}
-use Rattle.dover_model.specs.Settled.{waits_for_mark, settled, settled_steps, AllComeFrom}
-use Rattle.dover_model.specs.WholeRun.{open_at, step_at, EndsOver, IsSettledRun}
-use Rattle.dover_model.specs.Paths.{IsOpenPath}
-use Rattle.dover_model.specs.Sound.{Keeps}
-use Rattle.dover_model.specs.Rest.{NoneBefore, IsAtRest, behind, names_end, before_end, AreOwn, instead_with}
-use Rattle.dover_model.specs.Rest.{followed_by}
+use Rattle.dover_model.specs.Common.{JobFacts, Event, Release, Run, Preempt, Take, Complete, Abandon, End, Task, Rules}
+use Rattle.dover_model.specs.Common.{Instance, IsValid, having, State, with_later, opening, to_come, is_done, value_sum}
+use Rattle.dover_model.specs.Common.{Move, Prints, Waits, Ticks, open_step, after, finish_or, declared_open_step, Step}
+use Rattle.dover_model.specs.Common.{is_end, event_of, printed_of, printed, run, completed_value, waits_for_mark}
+use Rattle.dover_model.specs.Common.{settled, settled_steps, AllComeFrom, open_at, step_at, EndsOver, IsSettledRun}
+use Rattle.dover_model.specs.Common.{IsOpenPath, Keeps, NoneBefore, IsAtRest, behind, names_end, before_end, AreOwn}
+use Rattle.dover_model.specs.Common.{instead_with, followed_by, Finish}
 use Rattle.dover_model.proofs.steps.Kept.{open_deed, open_kept, opening_keeps}
 use Rattle.dover_model.proofs.runs.Ending.{run_over}
 use Rattle.dover_model.proofs.settled.Settling.{late_early, settled_is_run, enough_settled}
@@ -28,7 +21,6 @@ use Rattle.dover_model.proofs.rest.Shifting.{beside, came_to, settled_beside}
 use Rattle.dover_model.proofs.rest.Resting.{at_tick, Rests, at_rest, settles_from, ticks_path, tick_keeps}
 use Rattle.dover_model.proofs.rest.Resting.{come_shift, numbers_below, numbers_apart, value_there, printed_at_rest}
 use Rattle.dover_model.proofs.rest.Resting.{printed_apart, behind_rules, foreign_due}
-use Rattle.dover_model.specs.Finishes.{Finish}
 use Rattle.dover_model.proofs.lists.Tests.{never}
 
 -- from the tick on, with all these jobs to come, these events are settled at the mark

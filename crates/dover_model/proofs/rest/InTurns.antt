@@ -4,20 +4,11 @@ use Rattle.std.proofs.Common.{ap, ◌∙◌, subst, arith, append-nil, append_as
 use Rattle.std.proofs.lemmas.List.{map-append}
 use Rattle.std.proofs.lemmas.List.Sums.{sum_by-cons}
 use Rattle.dover_model.proofs.runs.Runs.{last_value, value_last}
-use Rattle.dover_model.specs.JobFacts.{JobFacts}
-use Rattle.dover_model.specs.declared.events.Event.{Event}
-use Rattle.dover_model.specs.declared.events.Event.TheVariants.{End}
-use Rattle.dover_model.specs.Instance.{Rules, Instance, IsValid, having}
-use Rattle.dover_model.specs.Run.{printed, completed_value}
-use Rattle.dover_model.specs.Settled.{settled}
-use Rattle.dover_model.specs.Schedules.{worth}
-use Rattle.dover_model.specs.Observed.{observed}
-use Rattle.dover_model.specs.Bound.{IsWithin}
-use Rattle.dover_model.specs.Sound.{Each}
-use Rattle.dover_model.specs.WholeRun.{step_at}
-use Rattle.dover_model.specs.Rest.{NoneBefore, behind, before_end, Turn}
-use Rattle.dover_model.specs.Rest.{turn_under, in_turns, turns_jobs, turns_observed, turns_finishes, one_run}
-use Rattle.dover_model.specs.Rest.{TurnsEnd, printed_turns, completed_turns}
+use Rattle.dover_model.specs.Common.{JobFacts, Event, End, Rules, Instance, IsValid, having, printed, completed_value}
+use Rattle.dover_model.specs.Common.{settled, worth, observed, IsWithin, Each, step_at, NoneBefore, behind, before_end}
+use Rattle.dover_model.specs.Common.{Turn, turn_under, turns_jobs, turns_observed, turns_finishes, one_run, TurnsEnd}
+use Rattle.dover_model.specs.Common.{printed_turns, completed_turns}
+use Rattle.dover_model.specs.Rest.{in_turns}
 use Rattle.dover_model.proofs.rest.Resting.{at_tick, RunsFrom, joined, runs_all, sees_all, due_later}
 use Rattle.dover_model.proofs.rest.Apart.{SettlesFrom, settles_alone, settles_joined, settled_all, settled_at_rest}
 use Rattle.dover_model.proofs.rest.Apart.{before_append, behind_last}

@@ -5,25 +5,15 @@ use Rattle.std.specs.Prelude.{nat_lt, nat_le, ◌&&◌, ◌||◌}
 use Rattle.std.specs.Bool.{MatchBool, then_some}
 use Rattle.std.specs.List.{find, filter, fold, sum_by, list_all, cons_option}
 use Rattle.std.proofs.lemmas.Bool.{ne_eqb, eq-eqb, eqb-true, eqb-false, lt-ltb, ltb-true, ltb-false, le-ltb}
-use Rattle.dover_model.specs.Fraction.{Fraction}
-use Rattle.dover_model.specs.declared.events.Event.{Event}
-use Rattle.dover_model.specs.declared.events.Event.TheVariants.{Release, Run, Preempt, Take, Complete, Abandon, End}
-use Rattle.dover_model.specs.declared.events.Version.{Version}
-use Rattle.dover_model.specs.declared.events.Version.TheVariants.{One, Two, Three}
-use Rattle.dover_model.specs.declared.events.Task.{Task}
-use Rattle.dover_model.specs.Instance.{Rules}
-use Rattle.dover_model.specs.State.{State, is_coming, is_fresh, is_waiting, is_held, is_running, is_privileged, is_done}
-use Rattle.dover_model.specs.State.{is_over, left, latest_start, running, room, demand_by, least, value_sum}
-use Rattle.dover_model.specs.Orders.{is_heavy, first, earlier, due_first, starts_before}
-use Rattle.dover_model.specs.Step.{Move, Prints, Waits, Ticks, View, view, ◌or_else◌, completion, dispatch, decision}
-use Rattle.dover_model.specs.Step.{arrival, alarm, urgent_or, step, ending, after, ticked, runs, preempts}
-use Rattle.dover_model.specs.Step.{is_at_latest_start, declared_step, due_finish, finish_or}
-use Rattle.dover_model.specs.Finishes.{Finish, is_finish_of}
-use Rattle.dover_model.specs.Run.{Step, is_end, event_of, printed_of}
-use Rattle.dover_model.specs.WholeRun.{step_at, IsWholeRun}
-use Rattle.dover_model.specs.Sound.{Each}
-use Rattle.dover_model.specs.JobFacts.{JobFacts}
-use Rattle.dover_model.specs.Rest.{later_job, later_event}
+use Rattle.dover_model.specs.Common.{Fraction, Event, Release, Run, Preempt, Take, Complete, Abandon, End, Version, One}
+use Rattle.dover_model.specs.Common.{Two, Three, Task, Rules, State, is_coming, is_fresh, is_waiting, is_held}
+use Rattle.dover_model.specs.Common.{is_running, is_privileged, is_done, is_over, left, latest_start, running, room}
+use Rattle.dover_model.specs.Common.{demand_by, least, value_sum, is_heavy, first, earlier, due_first, starts_before}
+use Rattle.dover_model.specs.Common.{Move, Prints, Waits, Ticks, View, view, ◌or_else◌, completion, dispatch, decision}
+use Rattle.dover_model.specs.Common.{arrival, alarm, urgent_or, step, ending, after, ticked, runs, preempts}
+use Rattle.dover_model.specs.Common.{is_at_latest_start, declared_step, due_finish, finish_or, Finish, is_finish_of}
+use Rattle.dover_model.specs.Common.{Step, is_end, event_of, printed_of, step_at, IsWholeRun, Each, JobFacts, later_job}
+use Rattle.dover_model.specs.Common.{later_event}
 use Rattle.dover_model.proofs.steps.Kept.{move_of}
 use Rattle.dover_model.proofs.lists.Members.{map_map, map_same, sum_map, member_filter, on_map}
 use Rattle.dover_model.proofs.runs.RunLaws.{tasks_in, tasks_from}

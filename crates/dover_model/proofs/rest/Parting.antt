@@ -6,23 +6,16 @@ use Rattle.std.specs.List.{count_by, sum_by, filter, enumerate_from, AllByRecurs
 use Rattle.std.proofs.lemmas.Bool.{le-leb, leb-true, eqb-true, eq-eqb, ne_eqb}
 use Rattle.std.proofs.lemmas.List.{take-map, drop-map}
 use Rattle.std.proofs.lemmas.List.Sums.{sum_by-cons, sum_by-append}
-use Rattle.dover_model.specs.JobFacts.{JobFacts}
-use Rattle.dover_model.specs.Fraction.{Fraction}
-use Rattle.dover_model.specs.Instance.{Rules, Instance, IsValid, total_value}
-use Rattle.dover_model.specs.Schedules.{ticks_given, is_served, worth, Meets}
-use Rattle.dover_model.specs.Bound.{IsWithin, bound}
-use Rattle.dover_model.specs.Run.{completed_value, run}
-use Rattle.dover_model.specs.Underload.{takes_or_abandons}
-use Rattle.dover_model.specs.Sound.{IsMember, Each}
-use Rattle.dover_model.specs.Rest.{Turn, turn_under, turns_jobs, one_run, completed_turns}
-use Rattle.dover_model.specs.Parts.{part_of, IsParted, part_under, completed_in_parts, bounds_of_parts}
-use Rattle.dover_model.specs.Intervals.{intervals}
+use Rattle.dover_model.specs.Common.{JobFacts, Fraction, Rules, Instance, IsValid, total_value, ticks_given, is_served}
+use Rattle.dover_model.specs.Common.{worth, Meets, IsWithin, bound, completed_value, run, takes_or_abandons, IsMember}
+use Rattle.dover_model.specs.Common.{Each, Turn, turn_under, turns_jobs, one_run, completed_turns, part_of, intervals}
+use Rattle.dover_model.specs.Common.{Job}
+use Rattle.dover_model.specs.Parts.{IsParted, part_under, completed_in_parts, bounds_of_parts}
 use Rattle.dover_model.proofs.lists.Members.{sum_le, sum_plus, term_le_sum, all_member, member_filter, each_cons}
 use Rattle.dover_model.proofs.bound.GreatestLaws.{bound-is}
 use Rattle.dover_model.proofs.runs.Runs.{none_lost, all_value}
 use Rattle.dover_model.proofs.bound.BoundLaws.{bound as no_more, intervals_abandon}
 use Rattle.dover_model.proofs.bound.Calculus.{within_less, within_add, none_within}
-use Rattle.dover_model.specs.Books.{Job}
 use Rattle.dover_model.proofs.valid.Limiting.{total_most}
 use Rattle.dover_model.proofs.valid.ValidParts.{valid_parts}
 

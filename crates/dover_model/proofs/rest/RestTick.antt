@@ -5,20 +5,12 @@ use Rattle.std.specs.Prelude.{◌&&◌, nat_le}
 use Rattle.std.specs.Bool.{MatchBool}
 use Rattle.std.specs.List.{list_all, fold}
 use Rattle.std.proofs.lemmas.Bool.{lt-leb, eq-eqb, ne_eqb}
-use Rattle.dover_model.specs.Fraction.{Fraction}
-use Rattle.dover_model.specs.declared.events.Role.{Role}
-use Rattle.dover_model.specs.declared.events.Role.TheVariants.{Coming, Fresh, Waiting, Held, Running, Gone}
-use Rattle.dover_model.specs.declared.events.Task.{Task}
-use Rattle.dover_model.specs.Instance.{Rules, Instance, IsValid}
-use Rattle.dover_model.specs.State.{State, opening, is_over, is_running, is_ready_behind}
-use Rattle.dover_model.specs.Step.{Move, Ticks, step, open_step, after, with_role, displaced}
-use Rattle.dover_model.specs.Run.{Step, is_end, run}
-use Rattle.dover_model.specs.Settled.{waits_for_mark, settled_steps, settled_state}
-use Rattle.dover_model.specs.WholeRun.{open_at, IsWholeRun, IsBefore, IsSettledRun}
-use Rattle.dover_model.specs.Paths.{IsOpenPath}
-use Rattle.dover_model.specs.Sound.{IsMember, Each, FitsRole, IsSound, Keeps}
-use Rattle.dover_model.specs.Finishes.{Finish, goes_on}
-use Rattle.dover_model.specs.Rest.{IsAtRest, end_tick}
+use Rattle.dover_model.specs.Common.{Fraction, Role, Coming, Fresh, Waiting, Held, Running, Gone, Task, Rules, Instance}
+use Rattle.dover_model.specs.Common.{IsValid, State, opening, is_over, is_running, is_ready_behind, Move, Ticks, step}
+use Rattle.dover_model.specs.Common.{open_step, after, with_role, displaced, Step, is_end, run, waits_for_mark}
+use Rattle.dover_model.specs.Common.{settled_steps, settled_state, open_at, IsWholeRun, IsBefore, IsSettledRun}
+use Rattle.dover_model.specs.Common.{IsOpenPath, IsMember, Each, FitsRole, IsSound, Keeps, Finish, goes_on, IsAtRest}
+use Rattle.dover_model.specs.Common.{end_tick}
 use Rattle.dover_model.proofs.lists.Members.{all_each, map_member}
 use Rattle.dover_model.proofs.steps.Roles.{passes, one_number}
 use Rattle.dover_model.proofs.steps.Deeds.{Deed, Completed, Resumed, Started, Began, Preempted, Stayed, Arrived, Taken}

@@ -5,35 +5,26 @@ use Rattle.std.specs.Prelude.{◌&&◌, nat_le, Option, Some, nat_lt, ◌==◌, 
 use Rattle.std.specs.Bool.{MatchBool, then_some}
 use Rattle.std.specs.List.{list_all, filter, fold, cons_option, find}
 use Rattle.std.proofs.lemmas.Bool.{lt-leb, leb-true, leb-false, and_right, ne_eqb}
-use Rattle.dover_model.specs.JobFacts.{JobFacts, IsJob}
-use Rattle.dover_model.specs.declared.events.Event.{Event}
-use Rattle.dover_model.specs.declared.events.Event.TheVariants.{End}
-use Rattle.dover_model.specs.declared.events.Role.TheVariants.{Coming, Fresh, Waiting, Running}
-use Rattle.dover_model.specs.declared.events.Task.{Task}
-use Rattle.dover_model.specs.Instance.{Rules, Instance, IsValid, having}
-use Rattle.dover_model.specs.State.{State, with_later, opening, to_come, is_over, is_done, is_ready_behind, is_running}
-use Rattle.dover_model.specs.State.{is_fresh, is_waiting, value_sum, running}
-use Rattle.dover_model.specs.Step.{Prints, Ticks, step, open_step, after, ending, ◌or_else◌, ticked, due_finish}
-use Rattle.dover_model.specs.Step.{finish_or, declared_step}
-use Rattle.dover_model.specs.Run.{Step, is_end, event_of, printed_of, printed, run, last_deadline, enough}
-use Rattle.dover_model.specs.Run.{completed_value}
-use Rattle.dover_model.specs.Settled.{waits_for_mark, settled, settled_steps, settled_state, AllComeFrom}
-use Rattle.dover_model.specs.WholeRun.{open_at, step_at, IsWholeRun, IsBarrier, IsBefore, IsSettledRun}
-use Rattle.dover_model.specs.Paths.{IsOpenPath, IsPath, HasPrinted}
-use Rattle.dover_model.specs.Jumps.{ticked_by, later_by, NothingDue}
-use Rattle.dover_model.specs.Sound.{IsMember, Each, Keeps}
-use Rattle.dover_model.specs.Rest.{NoneBefore, IsAtRest, behind, AreOwn, behind_finish, instead_with, followed_by}
+use Rattle.dover_model.specs.Common.{JobFacts, IsJob, Event, End, Coming, Fresh, Waiting, Running, Task, Rules}
+use Rattle.dover_model.specs.Common.{Instance, IsValid, having, State, with_later, opening, to_come, is_over, is_done}
+use Rattle.dover_model.specs.Common.{is_ready_behind, is_running, is_fresh, is_waiting, value_sum, running, Prints}
+use Rattle.dover_model.specs.Common.{Ticks, step, open_step, after, ending, ◌or_else◌, ticked, due_finish, finish_or}
+use Rattle.dover_model.specs.Common.{declared_step, Step, is_end, event_of, printed_of, printed, run, last_deadline}
+use Rattle.dover_model.specs.Common.{enough, completed_value, waits_for_mark, settled, settled_steps, settled_state}
+use Rattle.dover_model.specs.Common.{AllComeFrom, open_at, step_at, IsWholeRun, IsBarrier, IsBefore, IsSettledRun}
+use Rattle.dover_model.specs.Common.{IsOpenPath, IsPath, HasPrinted, ticked_by, later_by, NothingDue, IsMember, Each}
+use Rattle.dover_model.specs.Common.{Keeps, NoneBefore, IsAtRest, behind, AreOwn, behind_finish, instead_with}
+use Rattle.dover_model.specs.Common.{followed_by, weight, weight_in, standing, end_state, observing, observed, Finish}
+use Rattle.dover_model.specs.Common.{is_finish_of}
 use Rattle.dover_model.proofs.lists.Members.{all_member, found, map_map}
 use Rattle.dover_model.proofs.steps.Roles.{passes}
 use Rattle.dover_model.proofs.steps.Deeds.{over_rests}
 use Rattle.dover_model.proofs.steps.Kept.{open_deed, open_kept, step_kept, step_deed, opening_keeps, come_coming}
 use Rattle.dover_model.proofs.steps.Jumping.{later_keeps, later_ticks}
 use Rattle.dover_model.proofs.runs.Potential.{steps_scale, weights}
-use Rattle.dover_model.specs.Weights.{weight, weight_in, standing}
 use Rattle.dover_model.proofs.runs.Ending.{potential, ends, sum_each}
 use Rattle.dover_model.proofs.finishes.Readiness.{opening_ready}
 use Rattle.dover_model.proofs.runs.RunLaws.{enough_fuel, tasks_in, tasks_append, tasks_from}
-use Rattle.dover_model.specs.Observed.{end_state, observing, observed}
 use Rattle.std.proofs.lemmas.List.{map-append}
 use Rattle.dover_model.proofs.settled.Settling.{late_early, settles, settled_is_run}
 use Rattle.dover_model.proofs.settled.Barriers.{AtBarrier, settled_at_barrier, state_after}
@@ -45,7 +36,6 @@ use Rattle.dover_model.proofs.settled.Paths.{path_append, path_settles, one_sett
 use Rattle.dover_model.proofs.settled.Paths.{closed_then_run, tasks_then_run}
 use Rattle.dover_model.proofs.rest.Shifting.{shifted, beside, came_to, whole_beside}
 use Rattle.dover_model.proofs.finishes.Finishing.{none_without}
-use Rattle.dover_model.specs.Finishes.{Finish, is_finish_of}
 use Rattle.std.specs.Option.{option_or}
 use Rattle.std.proofs.lemmas.List.Folds.{find-append}
 use Rattle.dover_model.proofs.lists.Tests.{never}

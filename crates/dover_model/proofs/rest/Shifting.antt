@@ -6,34 +6,22 @@ use Rattle.std.specs.Bool.{MatchBool, then_some}
 use Rattle.std.specs.List.{find, filter, fold, sum_by, list_all, cons_option}
 use Rattle.std.proofs.lemmas.Bool.{ne_eqb, eq-eqb, eqb-true, eqb-false, lt-ltb, ltb-true, ltb-false, le-ltb}
 use Rattle.std.proofs.lemmas.List.Sums.{sum_by-cons}
-use Rattle.dover_model.specs.Fraction.{Fraction}
-use Rattle.dover_model.specs.declared.events.Event.{Event}
-use Rattle.dover_model.specs.declared.events.Event.TheVariants.{Release, Run, Preempt, Take, Complete, Abandon, End}
-use Rattle.dover_model.specs.declared.events.Role.{Role}
-use Rattle.dover_model.specs.declared.events.Role.TheVariants.{Fresh, Waiting, Held, Running, Done, Gone}
-use Rattle.dover_model.specs.declared.events.Version.{Version}
-use Rattle.dover_model.specs.declared.events.Version.TheVariants.{One, Two, Three}
-use Rattle.dover_model.specs.declared.events.Task.{Task}
-use Rattle.dover_model.specs.Instance.{Rules, having}
-use Rattle.dover_model.specs.State.{State, is_coming, is_fresh, is_waiting, is_held, is_running, is_privileged, is_done}
-use Rattle.dover_model.specs.State.{is_over, left, latest_start, room, demand_by, least, value_sum}
-use Rattle.dover_model.specs.Orders.{is_heavy, first, earlier, due_first, starts_before}
-use Rattle.dover_model.specs.Step.{Move, Prints, Waits, Ticks, View, view, with_role, ticked, displaced, ◌or_else◌}
-use Rattle.dover_model.specs.Step.{completion, dispatch, decision, arrival, alarm, urgent_or, step, open_step, ending}
-use Rattle.dover_model.specs.Step.{after, preempts, runs, is_at_latest_start, due_finish, finish_or, declared_step}
-use Rattle.dover_model.specs.Step.{declared_open_step}
-use Rattle.dover_model.specs.Run.{Step, is_end, event_of, printed_of}
-use Rattle.dover_model.specs.Settled.{waits_for_mark}
-use Rattle.dover_model.specs.WholeRun.{step_at, open_at, IsWholeRun, IsSettledRun}
-use Rattle.dover_model.specs.Sound.{Each}
-use Rattle.dover_model.specs.Rest.{behind, behind_finish}
+use Rattle.dover_model.specs.Common.{Fraction, Event, Release, Run, Preempt, Take, Complete, Abandon, End, Role, Fresh}
+use Rattle.dover_model.specs.Common.{Waiting, Held, Running, Done, Gone, Version, One, Two, Three, Task, Rules, having}
+use Rattle.dover_model.specs.Common.{State, is_coming, is_fresh, is_waiting, is_held, is_running, is_privileged}
+use Rattle.dover_model.specs.Common.{is_done, is_over, left, latest_start, room, demand_by, least, value_sum, is_heavy}
+use Rattle.dover_model.specs.Common.{first, earlier, due_first, starts_before, Move, Prints, Waits, Ticks, View, view}
+use Rattle.dover_model.specs.Common.{with_role, ticked, displaced, ◌or_else◌, completion, dispatch, decision, arrival}
+use Rattle.dover_model.specs.Common.{alarm, urgent_or, step, open_step, ending, after, preempts, runs}
+use Rattle.dover_model.specs.Common.{is_at_latest_start, due_finish, finish_or, declared_step, declared_open_step, Step}
+use Rattle.dover_model.specs.Common.{is_end, event_of, printed_of, waits_for_mark, step_at, open_at, IsWholeRun}
+use Rattle.dover_model.specs.Common.{IsSettledRun, Each, behind, behind_finish, Finish, is_finish_of, has_come_to}
 use Rattle.dover_model.proofs.lists.Members.{map_map, map_same, sum_map}
 use Rattle.dover_model.proofs.runs.RunLaws.{tasks_in, tasks_from}
 use Rattle.dover_model.proofs.steps.Roles.{passes, is_over_role}
 use Rattle.dover_model.proofs.finishes.Finishing.{none_without}
 use Rattle.std.specs.Option.{option_or}
 use Rattle.std.proofs.lemmas.List.Folds.{find-append}
-use Rattle.dover_model.specs.Finishes.{Finish, is_finish_of, has_come_to}
 
 -- the task under a number that is greater by n
 abbrev pub shifted : ℕ → Task → Task

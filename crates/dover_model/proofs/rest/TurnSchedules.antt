@@ -7,18 +7,11 @@ use Rattle.std.specs.List.{count_by, sum_by, filter_map, cons_option, enumerate_
 use Rattle.std.proofs.lemmas.Bool.{le-leb, leb-true}
 use Rattle.std.proofs.lemmas.List.{take-map, drop-map, length-replicate}
 use Rattle.std.proofs.lemmas.List.Sums.{sum_by-cons, sum_by-append}
-use Rattle.dover_model.specs.Limits.{idle}
-use Rattle.dover_model.specs.JobFacts.{JobFacts}
-use Rattle.dover_model.specs.Instance.{Rules, Instance, IsValid, having}
-use Rattle.dover_model.specs.State.{State, opening}
-use Rattle.dover_model.specs.Step.{Move, Prints, Waits, Ticks, step, after}
-use Rattle.dover_model.specs.Run.{Step, is_end, run, ran, tick_of, completed_value}
-use Rattle.dover_model.specs.WholeRun.{step_at, IsWholeRun}
-use Rattle.dover_model.specs.Schedules.{ticks_given, is_served, worth}
-use Rattle.dover_model.specs.Observed.{observed}
-use Rattle.dover_model.specs.Rest.{NoneBefore, IsAtRest, end_tick, Turn, TurnsEnd, turn_under, turns_observed}
-use Rattle.dover_model.specs.Rest.{behind_finish, one_run, turns_jobs, turns_finishes, completed_turns}
-use Rattle.dover_model.specs.Finishes.{Finish}
+use Rattle.dover_model.specs.Common.{idle, JobFacts, Rules, Instance, IsValid, having, State, opening, Move, Prints}
+use Rattle.dover_model.specs.Common.{Waits, Ticks, step, after, Step, is_end, run, ran, tick_of, completed_value}
+use Rattle.dover_model.specs.Common.{step_at, IsWholeRun, ticks_given, is_served, worth, observed, NoneBefore, IsAtRest}
+use Rattle.dover_model.specs.Common.{end_tick, Turn, TurnsEnd, turn_under, turns_observed, behind_finish, one_run}
+use Rattle.dover_model.specs.Common.{turns_jobs, turns_finishes, completed_turns, Finish}
 use Rattle.dover_model.proofs.runs.Ending.{run_is_whole}
 use Rattle.dover_model.proofs.runs.Honest.{observed_honest, observed_late, observed_all}
 use Rattle.dover_model.proofs.rest.RestTick.{ended_by, end_clock}

@@ -1,8 +1,7 @@
 -- Events that are numbered behind others, twice and without their End.
 use Rattle.std.proofs.Common.{◌≡◌, ℕ, ◌+◌, List, [], ◌∷◌, map, refl, ap, ◌∙◌, Bool, true, false, cond, not, arith}
-use Rattle.dover_model.specs.declared.events.Event.{Event}
-use Rattle.dover_model.specs.declared.events.Event.TheVariants.{Release, Run, Preempt, Take, Complete, Abandon, End}
-use Rattle.dover_model.specs.Rest.{behind, names_end, before_end}
+use Rattle.dover_model.specs.Common.{Event, Release, Run, Preempt, Take, Complete, Abandon, End, behind, names_end}
+use Rattle.dover_model.specs.Common.{before_end}
 
 -- ---- numbered behind, twice
 

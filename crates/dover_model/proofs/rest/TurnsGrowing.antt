@@ -2,13 +2,9 @@
 use Rattle.std.proofs.Common.{◌≡◌, ℕ, ◌+◌, ◌≤◌, List, [], ◌∷◌, ◌++◌, length, length-append, map, refl, sym, ap, ◌∙◌}
 use Rattle.std.proofs.Common.{arith, append-nil, append_assoc}
 use Rattle.std.proofs.lemmas.List.{map-append}
-use Rattle.dover_model.specs.Finishes.{Finish}
-use Rattle.dover_model.specs.declared.events.Event.{Event}
-use Rattle.dover_model.specs.declared.events.Event.TheVariants.{End}
-use Rattle.dover_model.specs.Instance.{Rules, Instance}
-use Rattle.dover_model.specs.Run.{printed, completed_value}
-use Rattle.dover_model.specs.Rest.{IsAtRest, IsTurn, Turn, TurnsEnd, behind, behind_finish, before_end, completed_turns}
-use Rattle.dover_model.specs.Rest.{end_tick, one_run, printed_turns, turn_under, turns_finishes, turns_jobs}
+use Rattle.dover_model.specs.Common.{Finish, Event, End, Rules, Instance, printed, completed_value, IsAtRest, IsTurn}
+use Rattle.dover_model.specs.Common.{Turn, TurnsEnd, behind, behind_finish, before_end, completed_turns, end_tick}
+use Rattle.dover_model.specs.Common.{one_run, printed_turns, turn_under, turns_finishes, turns_jobs}
 use Rattle.dover_model.proofs.rest.Apart.{before_append, end_at_rest}
 use Rattle.dover_model.proofs.rest.InTurns.{behind_turns, completed_more, one_more, one_run_prints}
 use Rattle.dover_model.proofs.rest.RestTick.{rests_from}

@@ -1,16 +1,11 @@
 -- Turns whose jobs one schedule serves lose none, and together earn the value of all.
 use Rattle.std.proofs.Common.{◌≡◌, ℕ, List, [], ◌∷◌, map, refl, sym, ◌∙◌, subst, false, not, inl, inr}
 use Rattle.std.specs.List.{cons_option}
-use Rattle.dover_model.specs.declared.events.Event.{Event}
+use Rattle.dover_model.specs.Common.{Event, Rules, total_value, Move, Prints, Waits, Ticks, Step, run, printed}
+use Rattle.dover_model.specs.Common.{printed_of, event_of, completed_value, Meets, Each, takes_or_abandons, Turn}
+use Rattle.dover_model.specs.Common.{TurnsEnd, behind, names_end, before_end, one_run, turn_under, turns_jobs}
+use Rattle.dover_model.specs.Common.{printed_turns}
 use Rattle.dover_model.specs.declared.events.Event.TheVariants as events
-use Rattle.dover_model.specs.Instance.{Rules, total_value}
-use Rattle.dover_model.specs.Step.{Move, Prints, Waits, Ticks}
-use Rattle.dover_model.specs.Run.{Step, run, printed, printed_of, event_of, completed_value}
-use Rattle.dover_model.specs.Schedules.{Meets}
-use Rattle.dover_model.specs.Sound.{Each}
-use Rattle.dover_model.specs.Underload.{takes_or_abandons}
-use Rattle.dover_model.specs.Rest.{Turn, TurnsEnd, behind, names_end, before_end, one_run, turn_under, turns_jobs}
-use Rattle.dover_model.specs.Rest.{printed_turns}
 use Rattle.dover_model.proofs.lists.Members.{each_cons, each_append, on_map, member_filter}
 use Rattle.dover_model.proofs.rest.InTurns.{one_run_prints, one_run_completes, turns_valid}
 use Rattle.dover_model.proofs.rest.Parting.{none_lost_in_turn, all_value_in_turn}

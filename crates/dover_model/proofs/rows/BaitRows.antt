@@ -1,11 +1,7 @@
 -- Baiting feeds, by computation.
 use Rattle.std.proofs.Common.{◌≡◌, ℕ, List, [], ◌∷◌, length, refl}
-use Rattle.dover_model.specs.Instance.{Instance}
-use Rattle.dover_model.specs.Fraction.{Fraction, fraction}
-use Rattle.dover_model.specs.Schedules.{worth}
-use Rattle.dover_model.specs.Run.{completed_value}
-use Rattle.dover_model.specs.Bound.{bound}
-use Rattle.dover_model.specs.Bait.{chain, bait_jobs, bait_plan, plan_value}
+use Rattle.dover_model.specs.Common.{Instance, Fraction, fraction, worth, completed_value, bound, chain, bait_jobs}
+use Rattle.dover_model.specs.Common.{bait_plan, plan_value}
 use Rattle.dover_model.proofs.rows.Written.{job, one}
 
 abbrev ratio : ℕ → ℕ → Fraction

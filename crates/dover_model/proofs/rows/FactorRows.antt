@@ -2,14 +2,9 @@
 use Rattle.std.proofs.Common.{◌≡◌, ℕ, List, [], ◌∷◌, refl}
 use Rattle.std.specs.Prelude.{codes, true, false}
 use Rattle.std.specs.Fmt.{digits}
-use Rattle.dover_model.specs.Fraction.{Fraction, fraction, with_factor}
-use Rattle.dover_model.specs.Orders.{is_heavy}
-use Rattle.dover_model.specs.Session.{instance_of}
-use Rattle.dover_model.specs.Run.{completed_value}
-use Rattle.dover_model.specs.Bound.{bound}
+use Rattle.dover_model.specs.Common.{Fraction, fraction, with_factor, is_heavy, instance_of, completed_value, bound}
+use Rattle.dover_model.specs.Common.{verdict, Verdict, Accepted, Wrong, closed}
 use Rattle.dover_model.specs.Slower.{is_within_slower}
-use Rattle.dover_model.specs.Verdict.{verdict, Verdict, Accepted, Wrong}
-use Rattle.dover_model.specs.Due.{closed}
 use Rattle.dover_model.proofs.rows.Written.{bytes}
 
 -- the ratio p with the factor b/c

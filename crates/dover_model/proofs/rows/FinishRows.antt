@@ -1,14 +1,7 @@
 -- Worked rows: jobs that finish early.
 use Rattle.std.proofs.Common.{◌≡◌, ℕ, List, [], ◌∷◌, refl, false}
-use Rattle.dover_model.specs.JobFacts.{JobFacts}
-use Rattle.dover_model.specs.Finishes.{Finish}
-use Rattle.dover_model.specs.Instance.{Instance, finishing}
-use Rattle.dover_model.specs.declared.events.Event.TheVariants.{Release, Run, Take, Complete, Abandon, End}
-use Rattle.dover_model.specs.Run.{printed, ran, completed_value}
-use Rattle.dover_model.specs.Schedules.{worth}
-use Rattle.dover_model.specs.Observed.{observed}
-use Rattle.dover_model.specs.Bound.{is_within}
-use Rattle.dover_model.specs.Online.{finishes_up_to}
+use Rattle.dover_model.specs.Common.{JobFacts, Finish, Instance, finishing, Release, Run, Take, Complete, Abandon, End}
+use Rattle.dover_model.specs.Common.{printed, ran, completed_value, worth, observed, is_within, finishes_up_to}
 use Rattle.dover_model.proofs.rows.Written.{job, one}
 
 -- a finish

@@ -1,7 +1,6 @@
 -- The generator's first jobs and draws, by computation.
 use Rattle.std.proofs.Common.{◌≡◌, [], ◌∷◌, refl}
-use Rattle.dover_model.specs.Fraction.{fraction}
-use Rattle.dover_model.specs.Generator.{next_state, high_bits, generated_jobs}
+use Rattle.dover_model.specs.Common.{fraction, next_state, high_bits, generated_jobs}
 use Rattle.dover_model.proofs.rows.Written.{job}
 
 first_draw : next_state 1 ≡ 1103527590

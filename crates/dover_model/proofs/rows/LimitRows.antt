@@ -2,15 +2,8 @@
 use Rattle.std.proofs.Common.{◌≡◌, ℕ, ◌++◌, [], ◌∷◌, replicate, refl, Some, None}
 use Rattle.std.specs.Prelude.{codes}
 use Rattle.std.specs.Fmt.{digits}
-use Rattle.dover_model.specs.Fraction.{fraction}
-use Rattle.dover_model.specs.declared.events.Version.{Version}
-use Rattle.dover_model.specs.declared.events.Version.TheVariants.{One, Two, Three}
-use Rattle.dover_model.specs.declared.events.Refusal.TheVariants.{BadJob, Total, Ratio}
-use Rattle.dover_model.specs.Instance.{Declaration}
-use Rattle.dover_model.specs.Admission.{refusal_of}
-use Rattle.dover_model.specs.Session.{new_session}
-use Rattle.dover_model.specs.Feed.{Account, Open, Ended, Faulty, Lines, next_line}
-use Rattle.dover_model.specs.Due.{short_lines}
+use Rattle.dover_model.specs.Common.{fraction, Version, One, Two, Three, BadJob, Total, Ratio, Declaration, refusal_of}
+use Rattle.dover_model.specs.Common.{new_session, Account, Open, Ended, Faulty, Lines, next_line, short_lines}
 use Rattle.dover_model.proofs.rows.Written.{job}
 
 abbrev up_to : ℕ → Version → Declaration

@@ -1,10 +1,6 @@
 -- Schedules as pieces, and the schedule by earliest deadline, by computation.
 use Rattle.std.proofs.Common.{◌≡◌, ℕ, [], ◌∷◌, refl}
-use Rattle.dover_model.specs.Limits.{idle}
-use Rattle.dover_model.specs.declared.pieces.Piece.{Piece}
-use Rattle.dover_model.specs.Schedules.{worth}
-use Rattle.dover_model.specs.Pieces.{spread, stretches, edf}
-use Rattle.dover_model.specs.Windows.{work_inside}
+use Rattle.dover_model.specs.Common.{idle, Piece, worth, spread, stretches, edf, work_inside}
 use Rattle.dover_model.proofs.rows.Written.{job, one}
 
 abbrev piece : ℕ → ℕ → ℕ → Piece

@@ -2,9 +2,7 @@
 use Rattle.std.proofs.Common.{◌≡◌, ◌++◌, [], ◌∷◌, refl}
 use Rattle.std.specs.Prelude.{codes}
 use Rattle.std.specs.Fmt.{digits}
-use Rattle.dover_model.specs.Instance.{Instance}
-use Rattle.dover_model.specs.Trace.{trace}
-use Rattle.dover_model.specs.Reports.{report, table}
+use Rattle.dover_model.specs.Common.{Instance, trace, report, table}
 use Rattle.dover_model.proofs.rows.Written.{job, one, bytes}
 
 abbrev minute : Instance

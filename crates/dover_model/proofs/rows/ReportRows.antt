@@ -2,13 +2,8 @@
 use Rattle.std.proofs.Common.{◌≡◌, [], ◌∷◌, true, false, refl}
 use Rattle.std.specs.Prelude.{codes}
 use Rattle.std.specs.Fmt.{digits}
-use Rattle.dover_model.specs.Fraction.{fraction}
-use Rattle.dover_model.specs.Instance.{Instance}
-use Rattle.dover_model.specs.Run.{ran, completed_value}
-use Rattle.dover_model.specs.Schedules.{worth}
-use Rattle.dover_model.specs.Generator.{generated_jobs}
-use Rattle.dover_model.specs.Intervals.{intervals}
-use Rattle.dover_model.specs.Reports.{report, table, summary}
+use Rattle.dover_model.specs.Common.{fraction, Instance, ran, completed_value, worth, generated_jobs, intervals, report}
+use Rattle.dover_model.specs.Common.{table, summary}
 use Rattle.dover_model.proofs.rows.Written.{job, one, bytes}
 
 -- a take over a running and a held job

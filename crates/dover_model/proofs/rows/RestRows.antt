@@ -1,14 +1,9 @@
 -- A run that falls apart at rest, turns, jobs moved in time and jobs in parts, by computation.
 use Rattle.std.proofs.Common.{◌≡◌, ℕ, List, [], ◌∷◌, ◌++◌, map, refl, cond}
 use Rattle.std.specs.Prelude.{◌==◌}
-use Rattle.dover_model.specs.declared.events.Event.{Event}
-use Rattle.dover_model.specs.declared.events.Event.TheVariants.{Release, Run, Preempt, Complete, End}
-use Rattle.dover_model.specs.JobFacts.{JobFacts}
-use Rattle.dover_model.specs.Run.{printed, completed_value}
-use Rattle.dover_model.specs.Settled.{settled}
-use Rattle.dover_model.specs.Rest.{end_tick, behind, before_end, Turn, turns_jobs, turns_finishes, anew}
-use Rattle.dover_model.specs.Rest.{one_run, turns_observed, printed_turns, completed_turns, printed_anew}
-use Rattle.dover_model.specs.Parts.{part_of}
+use Rattle.dover_model.specs.Common.{Event, Release, Run, Preempt, Complete, End, JobFacts, printed, completed_value}
+use Rattle.dover_model.specs.Common.{settled, end_tick, behind, before_end, Turn, turns_jobs, turns_finishes, anew}
+use Rattle.dover_model.specs.Common.{one_run, turns_observed, printed_turns, completed_turns, printed_anew, part_of}
 use Rattle.dover_model.proofs.rows.Written.{job, two}
 
 -- one job, which is over at the tick 2

@@ -1,13 +1,9 @@
 -- Worked rows: a job at the threshold of what crosses its latest start, and what a stream's value has to be heavy
 -- against.
 use Rattle.std.proofs.Common.{◌≡◌, ℕ, List, [], ◌∷◌, refl, true, false}
-use Rattle.dover_model.specs.Instance.{Instance}
-use Rattle.dover_model.specs.Fraction.{fraction, with_factor}
-use Rattle.dover_model.specs.Orders.{is_heavy}
-use Rattle.dover_model.specs.declared.events.Event.TheVariants.{Release, Run, Take, Complete, Abandon, End}
-use Rattle.dover_model.specs.Run.{printed}
-use Rattle.dover_model.specs.Sure.{worth_beside, Stream, stream_at, most_crossing, most_beside, is_spread}
-use Rattle.dover_model.specs.Sure.{most_fitting, IsSure}
+use Rattle.dover_model.specs.Common.{Instance, fraction, with_factor, is_heavy, Release, Run, Take, Complete, Abandon}
+use Rattle.dover_model.specs.Common.{End, printed, worth_beside, Stream, stream_at, most_crossing, most_beside}
+use Rattle.dover_model.specs.Common.{is_spread, most_fitting, IsSure}
 use Rattle.dover_model.proofs.sure.Streams.{sure_of_stream, heavy_by_sum, heavy_by_sets}
 use Rattle.dover_model.proofs.rows.Written.{job, one}
 

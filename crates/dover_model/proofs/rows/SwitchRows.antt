@@ -1,14 +1,9 @@
 -- Worked rows: how often the processor changes hands, and what that costs.
 use Rattle.std.proofs.Common.{◌≡◌, ℕ, [], ◌∷◌, refl, false}
 use Rattle.std.specs.List.{count_by}
-use Rattle.dover_model.specs.Finishes.{Finish}
-use Rattle.dover_model.specs.Instance.{Instance, finishing}
-use Rattle.dover_model.specs.declared.events.Event.TheVariants.{Release, Run, Preempt, Take, Complete, End}
-use Rattle.dover_model.specs.Run.{printed, run, ran, completed_value}
-use Rattle.dover_model.specs.Schedules.{numbered}
-use Rattle.dover_model.specs.Switches.{gets, changes_hands, most_changes, useful}
-use Rattle.dover_model.specs.Forward.{gains_from}
-use Rattle.dover_model.specs.Slower.{worth_by}
+use Rattle.dover_model.specs.Common.{Finish, Instance, finishing, Release, Run, Preempt, Take, Complete, End, printed}
+use Rattle.dover_model.specs.Common.{run, ran, completed_value, numbered, gets, changes_hands, most_changes, useful}
+use Rattle.dover_model.specs.Common.{gains_from, worth_by}
 use Rattle.dover_model.proofs.rows.Written.{job, one}
 
 -- a finish

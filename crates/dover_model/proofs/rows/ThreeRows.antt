@@ -2,12 +2,9 @@
 use Rattle.std.proofs.Common.{◌≡◌, ℕ, List, [], ◌∷◌, ◌++◌, refl}
 use Rattle.std.specs.Prelude.{codes}
 use Rattle.std.specs.Fmt.{digits}
-use Rattle.dover_model.specs.declared.events.Event.TheVariants.{Abandon, Complete, End}
-use Rattle.dover_model.specs.Session.{instance_of}
-use Rattle.dover_model.specs.Run.{completed_value}
-use Rattle.dover_model.specs.Bound.{bound}
-use Rattle.dover_model.specs.Verdict.{verdict, verdict, Verdict, Accepted, Wrong, Step}
-use Rattle.dover_model.specs.Due.{closed, closed, due}
+use Rattle.dover_model.specs.Common.{Abandon, Complete, End, instance_of, completed_value, bound, verdict, Verdict}
+use Rattle.dover_model.specs.Common.{Accepted, Wrong, closed, due}
+use Rattle.dover_model.specs.Verdict.{Step}
 use Rattle.dover_model.proofs.rows.Written.{bytes}
 
 -- the feed is answered by the text

@@ -2,11 +2,9 @@
 use Rattle.std.proofs.Common.{◌≡◌, ◌++◌, ℕ, List, [], ◌∷◌, refl}
 use Rattle.std.specs.Prelude.{codes}
 use Rattle.std.specs.Fmt.{digits}
-use Rattle.dover_model.specs.declared.events.Event.TheVariants.{Run, Complete, Abandon, End}
-use Rattle.dover_model.specs.Session.{instance_of}
-use Rattle.dover_model.specs.Run.{completed_value}
-use Rattle.dover_model.specs.Bound.{bound}
-use Rattle.dover_model.specs.Verdict.{verdict, Verdict, Accepted, Wrong, Short, Header, Nothing, Step}
+use Rattle.dover_model.specs.Common.{Run, Complete, Abandon, End, instance_of, completed_value, bound, verdict, Verdict}
+use Rattle.dover_model.specs.Common.{Accepted, Wrong, Header, Nothing}
+use Rattle.dover_model.specs.Verdict.{Short, Step}
 use Rattle.dover_model.proofs.rows.Written.{bytes}
 
 -- what is said of an accepted text

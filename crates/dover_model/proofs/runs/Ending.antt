@@ -6,19 +6,12 @@ use Rattle.std.specs.Bool.{MatchBool, then_some}
 use Rattle.std.specs.List.{AllByRecursion, list_all, fold, sum_by, filter, cons_option}
 use Rattle.std.proofs.lemmas.Bool.{leb-true, leb-false}
 use Rattle.std.proofs.lemmas.List.Sums.{sum_by-cons}
-use Rattle.dover_model.specs.declared.events.Event.{Event}
-use Rattle.dover_model.specs.declared.events.Event.TheVariants.{End}
-use Rattle.dover_model.specs.declared.events.Role.TheVariants.{Coming, Fresh, Waiting, Held, Running, Done, Gone}
-use Rattle.dover_model.specs.declared.events.Role.{Role}
-use Rattle.dover_model.specs.declared.events.Task.{Task}
-use Rattle.dover_model.specs.JobFacts.{JobFacts, IsJob}
-use Rattle.dover_model.specs.Instance.{Rules, Instance, IsValid}
-use Rattle.dover_model.specs.State.{State, opening, to_come, is_over, is_done, is_ready_behind, is_privileged, left}
-use Rattle.dover_model.specs.State.{value_sum}
-use Rattle.dover_model.specs.Step.{Move, Prints, Waits, Ticks, step, open_step, after, ending, ◌or_else◌}
-use Rattle.dover_model.specs.Run.{Step, is_end, run, enough, last_deadline, event_of, printed_of, printed}
-use Rattle.dover_model.specs.WholeRun.{step_at, IsWholeRun, EndsOver}
-use Rattle.dover_model.specs.Sound.{IsMember, Each, NoneRuns, IsSound, Keeps}
+use Rattle.dover_model.specs.Common.{Event, End, Coming, Fresh, Waiting, Held, Running, Done, Gone, Role, Task}
+use Rattle.dover_model.specs.Common.{JobFacts, IsJob, Rules, Instance, IsValid, State, opening, to_come, is_over}
+use Rattle.dover_model.specs.Common.{is_done, is_ready_behind, is_privileged, left, value_sum, Move, Prints, Waits}
+use Rattle.dover_model.specs.Common.{Ticks, step, open_step, after, ending, ◌or_else◌, Step, is_end, run, enough}
+use Rattle.dover_model.specs.Common.{last_deadline, event_of, printed_of, printed, step_at, IsWholeRun, EndsOver}
+use Rattle.dover_model.specs.Common.{IsMember, Each, NoneRuns, IsSound, Keeps, weight, weight_in, standing, Finish}
 use Rattle.dover_model.proofs.lists.Members.{not_all, all_each}
 use Rattle.dover_model.proofs.steps.Roles.{passes}
 use Rattle.dover_model.proofs.steps.Moves.{active_slack}
@@ -27,9 +20,7 @@ use Rattle.dover_model.proofs.steps.Deeds.{end_rests}
 use Rattle.dover_model.proofs.steps.Kept.{realistic, step_deed, open_deed, step_kept, opening_keeps, come_coming}
 use Rattle.dover_model.proofs.steps.Kept.{each_job}
 use Rattle.dover_model.proofs.runs.Potential.{steps_scale, weights, deed_weighs, tick_weighs}
-use Rattle.dover_model.specs.Weights.{weight, weight_in, standing}
 use Rattle.dover_model.proofs.finishes.Readiness.{IsReady, step_decides, open_decides, step_ready, opening_ready}
-use Rattle.dover_model.specs.Finishes.{Finish}
 use Rattle.dover_model.proofs.runs.RunLaws.{enough_fuel}
 use Rattle.dover_model.proofs.lists.Tests.{never}
 use Rattle.dover_model.proofs.valid.JobLimits.{job_limits}

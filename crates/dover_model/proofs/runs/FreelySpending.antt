@@ -4,17 +4,11 @@ use Rattle.std.proofs.Common.{subst}
 use Rattle.std.proofs.Common.{Bool, true, false, cond, arith, eqb}
 use Rattle.std.proofs.lemmas.Bool.{eqb-true}
 use Rattle.std.proofs.lemmas.Nat.{mul-le}
-use Rattle.dover_model.specs.declared.events.Role.TheVariants.{Fresh, Waiting}
-use Rattle.dover_model.specs.declared.events.Task.{Task}
-use Rattle.dover_model.specs.Instance.{Rules, Instance, IsValid, bare}
-use Rattle.dover_model.specs.State.{State, is_waiting}
-use Rattle.dover_model.specs.Step.{Move, Prints, Waits, Ticks, open_step, after, with_role, ticked}
-use Rattle.dover_model.specs.Run.{Step}
-use Rattle.dover_model.specs.Sound.{IsMember, Keeps}
-use Rattle.dover_model.specs.Leading.{IsSilent, Idles}
-use Rattle.dover_model.specs.Weights.{weight, standing, one_if}
-use Rattle.dover_model.specs.Spending.{exits_scale, waiting_count, exits, exits_freely, waits_among, HasSpentFor}
-use Rattle.dover_model.specs.Spending.{HasSpentFreely}
+use Rattle.dover_model.specs.Common.{Fresh, Waiting, Task, Rules, Instance, IsValid, bare, State, is_waiting, Move}
+use Rattle.dover_model.specs.Common.{Prints, Waits, Ticks, open_step, after, with_role, ticked, Step, IsMember, Keeps}
+use Rattle.dover_model.specs.Common.{IsSilent, Idles, weight, standing, one_if, exits_scale, waiting_count, exits}
+use Rattle.dover_model.specs.Common.{waits_among, HasSpentFor, HasSpentFreely}
+use Rattle.dover_model.specs.Spending.{exits_freely}
 use Rattle.dover_model.proofs.lists.Members.{sum_le, sum_map}
 use Rattle.dover_model.proofs.steps.Roles.{one_number}
 use Rattle.dover_model.proofs.steps.Moves.{active_slack}

@@ -7,26 +7,15 @@ use Rattle.std.specs.List.{sum_by, filter, filter_map, cons_option, enumerate_fr
 use Rattle.std.proofs.lemmas.Bool.{le-leb, leb-true, eq-eqb, ne_eqb}
 use Rattle.std.proofs.lemmas.List.Sums.{sum_by-cons}
 use Rattle.std.proofs.lemmas.List.{length_push, append-nil}
-use Rattle.dover_model.specs.Rest.{NoneBefore}
-use Rattle.dover_model.specs.JobFacts.{JobFacts}
-use Rattle.dover_model.specs.declared.events.Event.{Event}
-use Rattle.dover_model.specs.declared.events.Event.TheVariants.{End}
-use Rattle.dover_model.specs.declared.events.Role.{Role}
-use Rattle.dover_model.specs.declared.events.Role.TheVariants.{Coming, Fresh, Waiting, Held, Running, Done, Gone}
-use Rattle.dover_model.specs.declared.events.Task.{Task}
-use Rattle.dover_model.specs.Instance.{Instance, IsValid}
-use Rattle.dover_model.specs.Schedules.{ticks_given, is_served, worth}
-use Rattle.dover_model.specs.Finishes.{Finish, need}
-use Rattle.dover_model.specs.Observed.{observing, observed}
+use Rattle.dover_model.specs.Common.{NoneBefore, JobFacts, Event, End, Role, Coming, Fresh, Waiting, Held, Running}
+use Rattle.dover_model.specs.Common.{Done, Gone, Task, Instance, IsValid, ticks_given, is_served, worth, Finish, need}
+use Rattle.dover_model.specs.Common.{observing, observed, State, opening, running, is_running, is_privileged, is_over}
+use Rattle.dover_model.specs.Common.{is_done, left, value_sum, Move, Prints, Waits, Ticks, step, after, with_role}
+use Rattle.dover_model.specs.Common.{role_after, ticked, Step, is_end, run, ran, tick_of, number_running, event_of}
+use Rattle.dover_model.specs.Common.{printed_of, value_of_end, completed_value, step_at, IsWholeRun, IsMember, Each}
+use Rattle.dover_model.specs.Common.{IsNumberedFrom, jobs_of, Keeps}
 use Rattle.dover_model.proofs.finishes.Readiness.{IsReady, step_ready, opening_ready}
 use Rattle.dover_model.proofs.finishes.Needing.{Served, AllServed, need_most, step_served, opening_served}
-use Rattle.dover_model.specs.State.{State, opening, running, is_running, is_privileged, is_over, is_done, left}
-use Rattle.dover_model.specs.State.{value_sum}
-use Rattle.dover_model.specs.Step.{Move, Prints, Waits, Ticks, step, after, with_role, role_after, ticked}
-use Rattle.dover_model.specs.Run.{Step, is_end, run, ran, tick_of, number_running, event_of, printed_of, value_of_end}
-use Rattle.dover_model.specs.Run.{completed_value}
-use Rattle.dover_model.specs.WholeRun.{step_at, IsWholeRun}
-use Rattle.dover_model.specs.Sound.{IsMember, Each, IsNumberedFrom, jobs_of, Keeps}
 use Rattle.dover_model.proofs.lists.Members.{on_map, map_same, found, not_found, sum_same, sum_filter, map_member}
 use Rattle.dover_model.proofs.steps.Roles.{passes, is_running_role, is_over_role, one_number}
 use Rattle.dover_model.proofs.steps.Moves.{says, active_slack}

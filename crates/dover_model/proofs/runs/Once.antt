@@ -6,21 +6,13 @@ use Rattle.std.specs.Bool.{MatchBool, then_some}
 use Rattle.std.specs.List.{count_by, list_all, filter}
 use Rattle.std.proofs.lemmas.Bool.{eqb-true, eqb-false, eq-eqb, false_from_ne_true}
 use Rattle.std.proofs.lemmas.List.Sums.{sum_by-cons}
-use Rattle.dover_model.specs.Fraction.{Fraction}
-use Rattle.dover_model.specs.declared.events.Role.{Role}
-use Rattle.dover_model.specs.declared.events.Role.TheVariants.{Coming, Fresh, Waiting, Held, Running, Done, Gone}
-use Rattle.dover_model.specs.declared.events.Event.TheVariants.{Run, Preempt, Take, End}
-use Rattle.dover_model.specs.declared.events.Task.{Task}
-use Rattle.dover_model.specs.Instance.{Rules, Instance, IsValid}
-use Rattle.dover_model.specs.State.{State, opening, is_privileged, is_ready_behind, is_over, is_done, left}
-use Rattle.dover_model.specs.State.{latest_start, value_sum, privileged}
-use Rattle.dover_model.specs.Orders.{is_heavy}
-use Rattle.dover_model.specs.Step.{Move, Prints, Ticks, step, after, ending, ◌or_else◌, with_role, displaced, ticked}
-use Rattle.dover_model.specs.Run.{Step, is_end, run}
-use Rattle.dover_model.specs.WholeRun.{IsWholeRun}
-use Rattle.dover_model.specs.Processor.{is_take_of, is_preempt_of, is_run, is_complete}
-use Rattle.dover_model.specs.Underload.{SomeRuns}
-use Rattle.dover_model.specs.Sound.{IsMember, Each, NoneRuns, IsSound, Keeps}
+use Rattle.dover_model.specs.Common.{Fraction, Role, Coming, Fresh, Waiting, Held, Running, Done, Gone, Run, Preempt}
+use Rattle.dover_model.specs.Common.{Take, End, Task, Rules, Instance, IsValid, State, opening, is_privileged}
+use Rattle.dover_model.specs.Common.{is_ready_behind, is_over, is_done, left, latest_start, value_sum, privileged}
+use Rattle.dover_model.specs.Common.{is_heavy, Move, Prints, Ticks, step, after, ending, ◌or_else◌, with_role}
+use Rattle.dover_model.specs.Common.{displaced, ticked, Step, is_end, run, IsWholeRun, is_take_of, is_preempt_of}
+use Rattle.dover_model.specs.Common.{is_run, is_complete, SomeRuns, IsMember, Each, NoneRuns, IsSound, Keeps, standing}
+use Rattle.dover_model.specs.Common.{stands, one_if, Finish, goes_on}
 use Rattle.dover_model.proofs.lists.Members.{on_map, map_member}
 use Rattle.dover_model.proofs.steps.Roles.{passes, one_number}
 use Rattle.dover_model.proofs.steps.Loads.{Fits, with_roles}
@@ -32,11 +24,9 @@ use Rattle.dover_model.proofs.steps.Deeds.{Abandoned, Rested}
 use Rattle.dover_model.proofs.steps.Kept.{step_deed, step_kept, opening_keeps, come_coming, end_same}
 use Rattle.dover_model.proofs.steps.Preempting.{waits_sound, r_there, held_sound, f_there, same_tasks, one_waits}
 use Rattle.dover_model.proofs.steps.Preempting.{one_held}
-use Rattle.dover_model.specs.Weights.{standing, stands, one_if}
 use Rattle.dover_model.proofs.runs.Potential.{standing_more, stands_of, stands_running, stands_done, stands_held}
 use Rattle.dover_model.proofs.runs.Potential.{stood_not, steps_scale, stood_less, stands_then, stood}
 use Rattle.dover_model.proofs.runs.Ending.{end_over, run_is_whole}
-use Rattle.dover_model.specs.Finishes.{Finish, goes_on}
 use Rattle.dover_model.proofs.finishes.Readiness.{going, IsReady, Decides, step_decides, step_ready, opening_ready}
 use Rattle.dover_model.proofs.lists.Tests.{never}
 

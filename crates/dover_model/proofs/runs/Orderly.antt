@@ -4,12 +4,8 @@ use Rattle.std.proofs.Common.{cond, eqb, arith}
 use Rattle.std.specs.Prelude.{nat_lt, nat_le}
 use Rattle.std.specs.List.{sum_by}
 use Rattle.std.proofs.lemmas.Bool.{ltb-true, le-leb, eqb-true, eq-eqb, ne_eqb, and_from, cases_lt}
-use Rattle.dover_model.specs.declared.events.Role.{Role}
-use Rattle.dover_model.specs.declared.events.Role.TheVariants.{Waiting, Running, Done, Gone}
-use Rattle.dover_model.specs.declared.events.Task.{Task}
-use Rattle.dover_model.specs.State.{State, is_privileged, left, latest_start}
-use Rattle.dover_model.specs.Step.{with_role}
-use Rattle.dover_model.specs.Sound.{IsMember, Each, EachTwo, IsSound}
+use Rattle.dover_model.specs.Common.{Role, Waiting, Running, Done, Gone, Task, State, is_privileged, left, latest_start}
+use Rattle.dover_model.specs.Common.{with_role, IsMember, Each, EachTwo, IsSound, is_inside}
 use Rattle.dover_model.proofs.lists.Members.{sum_le, sum_plus}
 use Rattle.dover_model.proofs.steps.Roles.{one_number, passes}
 use Rattle.dover_model.proofs.steps.Loads.{sum_change, share, load, share_later, share_most}
@@ -17,7 +13,6 @@ use Rattle.dover_model.proofs.steps.Moves.{says, active_slack}
 use Rattle.dover_model.proofs.steps.Deeds.{Crowded}
 use Rattle.dover_model.proofs.runs.Serving.{demand_in, NoneOverfull}
 use Rattle.dover_model.proofs.lists.Tests.{never}
-use Rattle.dover_model.specs.Windows.{is_inside}
 
 -- the ticks that jobs is_inside a window have had
 abbrev pub had_in : ℕ → ℕ → List Task → ℕ

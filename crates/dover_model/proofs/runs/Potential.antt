@@ -4,17 +4,11 @@ use Rattle.std.proofs.Common.{true, false, cond, ◌||◌, arith, eqb}
 use Rattle.std.specs.Prelude.{nat_lt}
 use Rattle.std.specs.List.{sum_by}
 use Rattle.std.proofs.lemmas.Bool.{ltb-true, ltb-false, lt-ltb, eq-eqb, ne_eqb}
-use Rattle.dover_model.specs.Fraction.{Fraction}
-use Rattle.dover_model.specs.declared.events.Role.{Role}
-use Rattle.dover_model.specs.declared.events.Role.TheVariants.{Coming, Fresh, Waiting, Held, Running, Done, Gone}
-use Rattle.dover_model.specs.declared.events.Event.TheVariants.{Take, Preempt}
-use Rattle.dover_model.specs.declared.events.Task.{Task}
-use Rattle.dover_model.specs.State.{State, is_running, is_privileged, is_ready_behind, privileged, left, latest_start}
-use Rattle.dover_model.specs.State.{value_sum}
-use Rattle.dover_model.specs.Orders.{is_heavy}
-use Rattle.dover_model.specs.Finishes.{Finish, goes_on}
-use Rattle.dover_model.specs.Step.{Move, Prints, Ticks, after, with_role, displaced, ticked}
-use Rattle.dover_model.specs.Sound.{IsMember, IsSound, FitsRole}
+use Rattle.dover_model.specs.Common.{Fraction, Role, Coming, Fresh, Waiting, Held, Running, Done, Gone, Take, Preempt}
+use Rattle.dover_model.specs.Common.{Task, State, is_running, is_privileged, is_ready_behind, privileged, left}
+use Rattle.dover_model.specs.Common.{latest_start, value_sum, is_heavy, Finish, goes_on, Move, Prints, Ticks, after}
+use Rattle.dover_model.specs.Common.{with_role, displaced, ticked, IsMember, IsSound, FitsRole, leaves, one_if}
+use Rattle.dover_model.specs.Common.{weight_in, weight, stands, standing}
 use Rattle.dover_model.proofs.lists.Members.{by_bool, cond_le, sum_le, sum_map, sum_zero, sum_plus, sum_filter}
 use Rattle.dover_model.proofs.lists.Members.{term_le_sum}
 use Rattle.dover_model.proofs.finishes.Readiness.{IsReady, Decides, going}
@@ -25,12 +19,11 @@ use Rattle.dover_model.proofs.steps.Moves.{says, active_slack}
 use Rattle.dover_model.proofs.steps.Ticking.{Quiet}
 use Rattle.dover_model.proofs.steps.Deeds.{Deed, Completed, Resumed, Started, Began, Preempted, Stayed, Arrived, Taken}
 use Rattle.dover_model.proofs.steps.Deeds.{Abandoned, Rested}
-use Rattle.dover_model.specs.WaitingMoves.{leaves}
 use Rattle.dover_model.proofs.steps.Leaving.{one_leaves, none_leaves, preempt_leaves, take_leaves}
 use Rattle.dover_model.proofs.steps.Preempting.{waits_sound, r_there, held_sound, f_there, same_tasks}
 use Rattle.dover_model.proofs.lists.Tests.{never}
 use Rattle.dover_model.proofs.bound.Calculus.{heavy_more}
-use Rattle.dover_model.specs.Weights.{Scale, weights_by, one_if, weight_in, weight, stands, standing}
+use Rattle.dover_model.specs.Weights.{Scale, weights_by}
 
 -- each move lowers the weights by n at least
 pub record Lowers (z : Scale) (n : ℕ) : Type 0 where

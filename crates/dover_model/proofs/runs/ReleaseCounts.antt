@@ -5,20 +5,12 @@ use Rattle.std.specs.Prelude.{Option, Some, None}
 use Rattle.std.specs.Bool.{MatchBool, then_some}
 use Rattle.std.specs.List.{AllByRecursion, sum_by, cons_option, list_all, filter}
 use Rattle.std.proofs.lemmas.Bool.{eq-eqb, eqb-true}
-use Rattle.dover_model.specs.JobFacts.{JobFacts}
-use Rattle.dover_model.specs.declared.events.Event.{Event}
-use Rattle.dover_model.specs.declared.events.Event.TheVariants.{Release, Run, Preempt, Take, Complete, Abandon, End}
-use Rattle.dover_model.specs.declared.events.Role.{Role}
-use Rattle.dover_model.specs.declared.events.Role.TheVariants.{Coming, Fresh, Waiting, Held, Running, Done, Gone}
-use Rattle.dover_model.specs.declared.events.Task.{Task}
-use Rattle.dover_model.specs.Instance.{Rules, Instance, IsValid}
-use Rattle.dover_model.specs.State.{State, opening, is_coming, is_over, is_done, value_sum}
-use Rattle.dover_model.specs.Step.{Move, Prints, Waits, Ticks, step, open_step, after, ending, ◌or_else◌, with_role}
-use Rattle.dover_model.specs.Step.{displaced, ticked}
-use Rattle.dover_model.specs.Run.{Step, is_end, event_of, printed_of, printed, run}
-use Rattle.dover_model.specs.Settled.{waits_for_mark, settled, settled_steps}
-use Rattle.dover_model.specs.WholeRun.{IsWholeRun, IsSettledRun}
-use Rattle.dover_model.specs.Sound.{IsMember, Each, IsSound, Keeps}
+use Rattle.dover_model.specs.Common.{JobFacts, Event, Release, Run, Preempt, Take, Complete, Abandon, End, Role, Coming}
+use Rattle.dover_model.specs.Common.{Fresh, Waiting, Held, Running, Done, Gone, Task, Rules, Instance, IsValid, State}
+use Rattle.dover_model.specs.Common.{opening, is_coming, is_over, is_done, value_sum, Move, Prints, Waits, Ticks, step}
+use Rattle.dover_model.specs.Common.{open_step, after, ending, ◌or_else◌, with_role, displaced, ticked, Step, is_end}
+use Rattle.dover_model.specs.Common.{event_of, printed_of, printed, run, waits_for_mark, settled, settled_steps}
+use Rattle.dover_model.specs.Common.{IsWholeRun, IsSettledRun, IsMember, Each, IsSound, Keeps}
 use Rattle.dover_model.proofs.lists.Members.{sum_same, sum_map, sum_zero}
 use Rattle.dover_model.proofs.steps.Roles.{is_over_role, passes}
 use Rattle.dover_model.proofs.steps.Loads.{sum_change}

@@ -4,31 +4,20 @@ use Rattle.std.proofs.Common.{arith, inl, inr, ◌++◌, length}
 use Rattle.std.specs.Prelude.{None}
 use Rattle.std.proofs.lemmas.Bool.{ne_eqb, eq-eqb}
 use Rattle.std.proofs.lemmas.List.{map-append}
-use Rattle.dover_model.specs.declared.events.Task.{Task}
-use Rattle.dover_model.specs.State.{is_coming, State, with_later}
-use Rattle.dover_model.specs.Sound.{Each, Keeps}
-use Rattle.dover_model.specs.declared.events.Role.{Role}
-use Rattle.dover_model.specs.Step.{with_role, displaced, role_after, Move, Prints, Waits, Ticks, after, ticked}
-use Rattle.dover_model.specs.Step.{open_step}
-use Rattle.dover_model.specs.declared.events.Role.TheVariants.{Coming, Fresh, Waiting, Held, Running, Done, Gone}
-use Rattle.dover_model.specs.declared.events.Event.{Event}
-use Rattle.dover_model.specs.declared.events.Event.TheVariants.{Release, Run, Preempt, Take, Complete, Abandon, End}
+use Rattle.dover_model.specs.Common.{Task, is_coming, State, with_later, Each, Keeps, Role, with_role, displaced}
+use Rattle.dover_model.specs.Common.{role_after, Move, Prints, Waits, Ticks, after, ticked, open_step, Coming, Fresh}
+use Rattle.dover_model.specs.Common.{Waiting, Held, Running, Done, Gone, Event, Release, Run, Preempt, Take, Complete}
+use Rattle.dover_model.specs.Common.{Abandon, End, Rules, Instance, IsValid, Step, Passes, Fraction, Printed, JobFacts}
+use Rattle.dover_model.specs.Common.{with_fresh}
 use Rattle.dover_model.proofs.lists.Members.{on_map}
-use Rattle.dover_model.specs.Instance.{Rules, Instance, IsValid}
-use Rattle.dover_model.specs.Run.{Step}
 use Rattle.dover_model.proofs.steps.Roles.{passes}
-use Rattle.dover_model.specs.Leading.{Passes}
-use Rattle.dover_model.specs.Fraction.{Fraction}
 use Rattle.dover_model.proofs.steps.Deeds.{Deed, Completed, Resumed, Started, Began, Preempted, Stayed, Arrived, Taken}
 use Rattle.dover_model.proofs.steps.Deeds.{Abandoned, Rested}
 use Rattle.dover_model.proofs.lists.Tests.{never}
-use Rattle.dover_model.specs.Trace.{Printed}
 use Rattle.dover_model.proofs.texts.TraceLines.{item_of_line}
 use Rattle.dover_model.proofs.steps.Kept.{open_deed}
-use Rattle.dover_model.specs.JobFacts.{JobFacts}
 use Rattle.dover_model.proofs.settled.Releasing.{coming_task}
 use Rattle.dover_model.proofs.runs.Honest.{numbers_low, count_jobs}
-use Rattle.dover_model.specs.Ready.{with_fresh}
 
 -- no job of these is to come
 abbrev pub NoneComes : List Task → Type 0

@@ -4,18 +4,11 @@ use Rattle.std.proofs.Common.{cond, arith}
 use Rattle.std.specs.Prelude.{Option, Some, None}
 use Rattle.std.specs.Bool.{MatchBool, then_some}
 use Rattle.std.specs.List.{list_all, filter, fold, cons_option, sum_by}
-use Rattle.dover_model.specs.declared.events.Event.{Event}
-use Rattle.dover_model.specs.declared.events.Event.TheVariants.{End}
-use Rattle.dover_model.specs.declared.events.Role.TheVariants.{Coming, Fresh, Running, Done, Gone}
-use Rattle.dover_model.specs.declared.events.Task.{Task}
-use Rattle.dover_model.specs.Instance.{Rules, Instance, IsValid}
-use Rattle.dover_model.specs.State.{State, opening, is_over, is_done, is_ready_behind, value_sum}
-use Rattle.dover_model.specs.Step.{Move, Prints, Waits, Ticks, step, after, ending, ◌or_else◌}
-use Rattle.dover_model.specs.Run.{Step, is_end, event_of, printed_of, run, value_of_end, completed_value}
-use Rattle.dover_model.specs.WholeRun.{step_at, IsWholeRun}
-use Rattle.dover_model.specs.Schedules.{Meets}
-use Rattle.dover_model.specs.Sound.{IsMember, Each, NoneRuns, Keeps}
-use Rattle.dover_model.specs.Underload.{takes_or_abandons, SomeRuns}
+use Rattle.dover_model.specs.Common.{Event, End, Coming, Fresh, Running, Done, Gone, Task, Rules, Instance, IsValid}
+use Rattle.dover_model.specs.Common.{State, opening, is_over, is_done, is_ready_behind, value_sum, Move, Prints, Waits}
+use Rattle.dover_model.specs.Common.{Ticks, step, after, ending, ◌or_else◌, Step, is_end, event_of, printed_of, run}
+use Rattle.dover_model.specs.Common.{value_of_end, completed_value, step_at, IsWholeRun, Meets, IsMember, Each}
+use Rattle.dover_model.specs.Common.{NoneRuns, Keeps, takes_or_abandons, SomeRuns}
 use Rattle.dover_model.proofs.lists.Members.{sum_filter, sum_map, sum_same, member_behind}
 use Rattle.dover_model.proofs.steps.Roles.{passes, is_over_role}
 use Rattle.dover_model.proofs.steps.Ticking.{Quiet}

@@ -7,13 +7,9 @@ use Rattle.std.specs.List.{sum_by, count_by, enumerate_from}
 use Rattle.std.proofs.lemmas.Bool.{leb-true, eqb-true, and_parts}
 use Rattle.std.proofs.lemmas.List.{length-drop, length-take}
 use Rattle.std.proofs.lemmas.List.Sums.{sum_by-cons}
-use Rattle.dover_model.specs.JobFacts.{JobFacts}
-use Rattle.dover_model.specs.Instance.{Instance}
-use Rattle.dover_model.specs.Schedules.{ticks_given, is_served, numbered, Meets}
-use Rattle.dover_model.specs.declared.events.Task.{Task}
-use Rattle.dover_model.specs.Sound.{IsMember, jobs_of}
+use Rattle.dover_model.specs.Common.{JobFacts, Instance, ticks_given, is_served, numbered, Meets, Task, IsMember}
+use Rattle.dover_model.specs.Common.{jobs_of, is_inside}
 use Rattle.dover_model.proofs.lists.Members.{sum_le, sum_plus, sum_zero, sum_map, all_member}
-use Rattle.dover_model.specs.Windows.{is_inside}
 
 -- the work is_inside a window
 abbrev pub demand_in : ℕ → ℕ → List Task → ℕ

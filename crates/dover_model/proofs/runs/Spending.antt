@@ -7,22 +7,16 @@ use Rattle.std.proofs.lemmas.List.Sums.{sum_by-cons, sum_by-append}
 use Rattle.std.proofs.lemmas.Nat.{mul-le}
 use Rattle.std.proofs.lemmas.List.{length-map}
 use Rattle.std.proofs.Math.Nat.{mul-le-mul_left}
-use Rattle.dover_model.specs.declared.events.Role.{Role}
-use Rattle.dover_model.specs.declared.events.Role.TheVariants.{Coming, Fresh, Waiting, Held, Running, Done, Gone}
-use Rattle.dover_model.specs.declared.events.Task.{Task}
-use Rattle.dover_model.specs.State.{latest_start, State, is_waiting}
+use Rattle.dover_model.specs.Common.{Role, Coming, Fresh, Waiting, Held, Running, Done, Gone, Task, latest_start, State}
+use Rattle.dover_model.specs.Common.{is_waiting, weight_in, weight, standing, one_if, stands, exits_scale}
+use Rattle.dover_model.specs.Common.{waiting_count, exits, waits_among, HasSpentFor, CostsAtMost, cost_of, with_role}
+use Rattle.dover_model.specs.Common.{after, Move, Prints, Waits, Ticks, open_step, displaced, Rules, Instance, IsValid}
+use Rattle.dover_model.specs.Common.{bare, Keeps, IsMember, enters, leaves, waits_then, Run, Take, Abandon}
 use Rattle.dover_model.proofs.runs.Potential.{one_most, lower_test}
-use Rattle.dover_model.specs.Weights.{weight_in, weight, standing, one_if, stands}
-use Rattle.dover_model.specs.Spending.{exits_scale, waiting_count, exits, waits_so_far, waits_among, HasSpentFor}
-use Rattle.dover_model.specs.Spending.{CostsAtMost, cost_of}
+use Rattle.dover_model.specs.Spending.{waits_so_far}
 use Rattle.dover_model.proofs.runs.WaitingMoves.{counts_balance, open_leaves}
-use Rattle.dover_model.specs.Step.{with_role, after, Move, Prints, Waits, Ticks, open_step, displaced}
 use Rattle.dover_model.proofs.lists.Members.{sum_le, term_le_sum}
-use Rattle.dover_model.specs.Instance.{Rules, Instance, IsValid, bare}
-use Rattle.dover_model.specs.Sound.{Keeps, IsMember}
-use Rattle.dover_model.specs.WaitingMoves.{enters, leaves, waits_then}
 use Rattle.dover_model.proofs.lists.Tests.{never}
-use Rattle.dover_model.specs.declared.events.Event.TheVariants.{Run, Take, Abandon}
 use Rattle.dover_model.proofs.steps.Roles.{passes}
 
 -- ---- what may still come

@@ -4,14 +4,10 @@ use Rattle.std.proofs.Common.{cond, arith}
 use Rattle.std.specs.Prelude.{nat_le}
 use Rattle.std.specs.List.{sum_by}
 use Rattle.std.proofs.lemmas.Bool.{le-leb, and_from, cases_lt}
-use Rattle.dover_model.specs.Fraction.{Fraction}
-use Rattle.dover_model.specs.declared.events.Role.{Role}
-use Rattle.dover_model.specs.declared.events.Role.TheVariants.{Coming, Fresh, Waiting, Held, Running, Done, Gone}
-use Rattle.dover_model.specs.declared.events.Event.TheVariants.{Preempt}
-use Rattle.dover_model.specs.declared.events.Task.{Task}
-use Rattle.dover_model.specs.State.{State, is_privileged, is_running, is_ready_behind, left}
-use Rattle.dover_model.specs.Step.{Move, Prints, Ticks, after, with_role, ticked}
-use Rattle.dover_model.specs.Sound.{IsMember, Each, NoneRuns, IsSound}
+use Rattle.dover_model.specs.Common.{Fraction, Role, Coming, Fresh, Waiting, Held, Running, Done, Gone, Preempt, Task}
+use Rattle.dover_model.specs.Common.{State, is_privileged, is_running, is_ready_behind, left, Move, Prints, Ticks}
+use Rattle.dover_model.specs.Common.{after, with_role, ticked, IsMember, Each, NoneRuns, IsSound, takes_or_abandons}
+use Rattle.dover_model.specs.Common.{is_inside}
 use Rattle.dover_model.proofs.lists.Members.{on_map, sum_map}
 use Rattle.dover_model.proofs.steps.Roles.{one_number, passes, is_privileged_role}
 use Rattle.dover_model.proofs.steps.Loads.{sum_change, with_roles, Fits}
@@ -22,9 +18,7 @@ use Rattle.dover_model.proofs.steps.Deeds.{Stayed, Arrived, Taken, Abandoned, Re
 use Rattle.dover_model.proofs.steps.Preempting.{waits_sound, r_there, held_sound, f_there, none_runs, same_tasks}
 use Rattle.dover_model.proofs.runs.Serving.{NoneOverfull}
 use Rattle.dover_model.proofs.runs.Orderly.{had_in, Window, NoneGone, ByDeadline, not_crowded, no_alarm}
-use Rattle.dover_model.specs.Underload.{takes_or_abandons}
 use Rattle.dover_model.proofs.lists.Tests.{never}
-use Rattle.dover_model.specs.Windows.{is_inside}
 
 -- ---- one job gets a new role
 

@@ -5,29 +5,20 @@ use Rattle.std.specs.Prelude.{◌&&◌}
 use Rattle.std.specs.Bool.{MatchBool, then_some}
 use Rattle.std.specs.List.{sum_by, list_all, filter}
 use Rattle.std.proofs.lemmas.List.Sums.{sum_by-cons}
-use Rattle.dover_model.specs.JobFacts.{JobFacts}
-use Rattle.dover_model.specs.declared.events.Event.TheVariants.{End}
-use Rattle.dover_model.specs.declared.events.Role.TheVariants.{Coming, Done, Gone}
-use Rattle.dover_model.specs.declared.events.Task.{Task}
-use Rattle.dover_model.specs.Instance.{Rules, Instance, IsValid}
-use Rattle.dover_model.specs.State.{State, opening, to_come, is_waiting, is_over, is_done, value_sum}
-use Rattle.dover_model.specs.Step.{Move, Prints, Waits, Ticks, step, open_step, after, ending, ◌or_else◌, with_role}
-use Rattle.dover_model.specs.Step.{ticked}
-use Rattle.dover_model.specs.Run.{Step, is_end, run}
-use Rattle.dover_model.specs.WholeRun.{IsWholeRun}
-use Rattle.dover_model.specs.WaitingMoves.{role_then, waits_then, leaves, enters}
-use Rattle.dover_model.specs.Sound.{Each, Keeps}
+use Rattle.dover_model.specs.Common.{JobFacts, End, Coming, Done, Gone, Task, Rules, Instance, IsValid, State, opening}
+use Rattle.dover_model.specs.Common.{to_come, is_waiting, is_over, is_done, value_sum, Move, Prints, Waits, Ticks, step}
+use Rattle.dover_model.specs.Common.{open_step, after, ending, ◌or_else◌, with_role, ticked, Step, is_end, run}
+use Rattle.dover_model.specs.Common.{IsWholeRun, role_then, waits_then, leaves, enters, Each, Keeps, Finish, one_if}
+use Rattle.dover_model.specs.Common.{weight, weight_in, standing, exits_scale, waiting_count}
 use Rattle.dover_model.proofs.lists.Members.{sum_plus, sum_same, sum_map, sum_zero}
 use Rattle.dover_model.proofs.steps.Roles.{passes, is_over_role}
 use Rattle.dover_model.proofs.steps.Ticking.{Quiet}
 use Rattle.dover_model.proofs.steps.Leaving.{ceases}
-use Rattle.dover_model.specs.Finishes.{Finish}
 use Rattle.dover_model.proofs.finishes.Readiness.{IsReady, step_decides, open_decides, step_ready, opening_ready}
 use Rattle.dover_model.proofs.steps.Kept.{open_deed, step_deed, step_kept, end_same, opening_keeps, come_coming}
-use Rattle.dover_model.specs.Weights.{one_if, weights_by, weight, weight_in, standing}
+use Rattle.dover_model.specs.Weights.{weights_by}
 use Rattle.dover_model.proofs.runs.Potential.{Lowers, Weighs, deed_lowers, tick_weighs}
 use Rattle.dover_model.proofs.runs.Ending.{end_over, run_is_whole, sum_each}
-use Rattle.dover_model.specs.Spending.{exits_scale, waiting_count}
 
 -- each move lowers what may still cease to wait
 pub exits_lower : Lowers exits_scale 0

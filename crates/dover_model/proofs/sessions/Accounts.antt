@@ -8,39 +8,22 @@ use Rattle.std.specs.List.{fold}
 use Rattle.std.specs.Option.{option_map}
 use Rattle.std.proofs.lemmas.Bool.{ltb-false, leb-true, leb-false, and_parts, and_right}
 use Rattle.std.proofs.lemmas.List.{append_assoc, append-nil}
-use Rattle.dover_model.specs.declared.events.Refusal.TheVariants.{BadJob, Count, Total, Ratio, Late, Full}
-use Rattle.dover_model.specs.Limits.{last_tick, most_lines}
-use Rattle.dover_model.specs.declared.events.Version.{Version}
-use Rattle.dover_model.specs.declared.events.Version.TheVariants.{One, Two, Three}
-use Rattle.dover_model.specs.declared.events.Refusal.{Refusal}
-use Rattle.dover_model.specs.JobFacts.{JobFacts, job_numbers}
-use Rattle.dover_model.specs.Fraction.{IsRatio, is_ratio, fraction, with_factor}
-use Rattle.dover_model.specs.Instance.{Declaration, with_jobs}
-use Rattle.dover_model.specs.Numerals.{AreShort}
-use Rattle.dover_model.specs.Admission.{refusal_of}
-use Rattle.dover_model.specs.Session.{Item, JobItem, RefusedItem, FinishItem, refused_at, Session, with_item, Refused}
-use Rattle.dover_model.specs.Session.{RefusedDone, refusal_at, late_refusal, refused_done_at, early_at}
-use Rattle.dover_model.specs.Session.{is_right, with_named, RefusedJob, early_finishes, EarlyFinish, may_finish_early}
-use Rattle.dover_model.specs.Session.{new_session, instance_of, admitted_jobs, refuses_lines}
-use Rattle.dover_model.specs.Session.{IsValidSession, mark_after, refusal_in, refused_mark, is_full}
-use Rattle.dover_model.specs.Session.{IsDeclarable}
+use Rattle.dover_model.specs.Common.{BadJob, Count, Total, Ratio, Late, Full, last_tick, most_lines, Version, One, Two}
+use Rattle.dover_model.specs.Common.{Three, Refusal, JobFacts, job_numbers, IsRatio, is_ratio, fraction, with_factor}
+use Rattle.dover_model.specs.Common.{Declaration, with_jobs, AreShort, refusal_of, Item, JobItem, RefusedItem}
+use Rattle.dover_model.specs.Common.{FinishItem, refused_at, Session, with_item, Refused, RefusedDone, refusal_at}
+use Rattle.dover_model.specs.Common.{late_refusal, refused_done_at, early_at, is_right, with_named, RefusedJob}
+use Rattle.dover_model.specs.Common.{early_finishes, EarlyFinish, may_finish_early, new_session, instance_of}
+use Rattle.dover_model.specs.Common.{admitted_jobs, refuses_lines, IsValidSession, mark_after, refusal_in, refused_mark}
+use Rattle.dover_model.specs.Common.{is_full, IsDeclarable, printed, settled, header, TraceLine, text_of_line}
+use Rattle.dover_model.specs.Common.{texts_among, lines_of, is_too_long, fields_of, FeedLine, RatioLine, FactorLine}
+use Rattle.dover_model.specs.Common.{JobLine, TickLine, EndLine, HasNumerals, line_of_fields, DoneLine, feed_line}
+use Rattle.dover_model.specs.Common.{Cause, Lines, Line, Declared, Order, NotAdmitted, Standing, Open, Ended, Faulty}
+use Rattle.dover_model.specs.Common.{factor_rules, declared_version, declared_rules, first_line_cause, cause_of}
+use Rattle.dover_model.specs.Common.{most_lines_in, with_line, read_line, next_line, account, late_cause, NotDone}
+use Rattle.dover_model.specs.Common.{Account, no_lines, rules_with, later_line_cause, with_fault, is_open}
+use Rattle.dover_model.specs.Common.{with_refused_at, due_lines, fault_text, due, Begins}
 use Rattle.dover_model.proofs.sessions.Fullness.{admitted_in, full_in, full_at, full_here}
-use Rattle.dover_model.specs.Run.{printed}
-use Rattle.dover_model.specs.Settled.{settled}
-use Rattle.dover_model.specs.Text.{header}
-use Rattle.dover_model.specs.Trace.{TraceLine, text_of_line, texts_among}
-use Rattle.dover_model.specs.Lines.{lines_of, is_too_long, fields_of}
-use Rattle.dover_model.specs.FeedLine.{FeedLine, RatioLine, FactorLine, JobLine, TickLine, EndLine, HasNumerals}
-use Rattle.dover_model.specs.FeedLine.{line_of_fields}
-use Rattle.dover_model.specs.FeedLine.{DoneLine, feed_line}
-use Rattle.dover_model.specs.Feed.{Cause, Lines, Line, Declared, Order, NotAdmitted, Standing, Open, Ended, Faulty}
-use Rattle.dover_model.specs.Feed.{factor_rules}
-use Rattle.dover_model.specs.Feed.{declared_version, declared_rules, first_line_cause, cause_of}
-use Rattle.dover_model.specs.Feed.{most_lines_in, with_line, read_line, next_line, account, late_cause, NotDone}
-use Rattle.dover_model.specs.Feed.{Account, no_lines, rules_with, later_line_cause, with_fault, is_open}
-use Rattle.dover_model.specs.Feed.{with_refused_at}
-use Rattle.dover_model.specs.Due.{due_lines, fault_text, due}
-use Rattle.dover_model.specs.WholeRun.{Begins}
 use Rattle.dover_model.proofs.texts.ReadShort.{read_HasNumerals}
 use Rattle.dover_model.proofs.lists.Beginnings.{begins_itself, begins_all, begins_onward, begins_behind, begins_map}
 use Rattle.dover_model.proofs.lists.Beginnings.{begins_in_lines}

@@ -1,12 +1,9 @@
 -- What each line of a feed adds to what is due, as the texts that a server writes for it.
 use Rattle.std.proofs.Common.{◌≡◌, List, [], ◌∷◌, ◌++◌, map, refl, ap, ◌∙◌}
 use Rattle.std.proofs.lemmas.List.{append-nil, map-append}
-use Rattle.dover_model.specs.declared.events.Event.{Event}
-use Rattle.dover_model.specs.JobFacts.{JobFacts}
-use Rattle.dover_model.specs.Settled.{settled}
-use Rattle.dover_model.specs.Session.{JobItem, RefusedItem, Refused, Session, instance_of, with_item}
-use Rattle.dover_model.specs.Text.{header, text_of, refused_text}
-use Rattle.dover_model.specs.Trace.{Printed, lines_among, text_of_line, texts_among, places_of, put_in}
+use Rattle.dover_model.specs.Common.{Event, JobFacts, settled, JobItem, RefusedItem, Refused, Session, instance_of}
+use Rattle.dover_model.specs.Common.{with_item, header, text_of, refused_text, Printed, lines_among, text_of_line}
+use Rattle.dover_model.specs.Common.{texts_among, places_of, put_in}
 use Rattle.dover_model.proofs.sessions.PutIn.{RefusesWithin, put_in-more_steps, places_after-append}
 use Rattle.dover_model.proofs.sessions.Growing.{Reads, lines_refused}
 

@@ -2,16 +2,10 @@
 use Rattle.std.proofs.Common.{◌≡◌, ℕ, ◌≤◌, max, List, [], ◌∷◌, ◌++◌, refl, sym, ap, ◌∙◌, Bool, true, false, cond}
 use Rattle.std.specs.Prelude.{Some, None, nat_lt}
 use Rattle.std.proofs.lemmas.Bool.{ltb-false}
-use Rattle.dover_model.specs.declared.events.Version.{Version}
-use Rattle.dover_model.specs.declared.events.Version.TheVariants.{One, Two, Three}
-use Rattle.dover_model.specs.declared.events.Refusal.{Refusal}
-use Rattle.dover_model.specs.JobFacts.{JobFacts}
-use Rattle.dover_model.specs.Instance.{Declaration}
-use Rattle.dover_model.specs.Admission.{refusal_of}
-use Rattle.dover_model.specs.Session.{Item, JobItem, RefusedItem, FinishItem, Session, instance_of, session_with}
-use Rattle.dover_model.specs.Session.{admitted_jobs, early_finishes, may_finish_early, late_refusal, finish_at}
-use Rattle.dover_model.specs.Session.{early_at, RefusedLine, RefusedJob, RefusedDone, Refused}
-use Rattle.dover_model.specs.Session.{IsValidSession, refusal_in}
+use Rattle.dover_model.specs.Common.{Version, One, Two, Three, Refusal, JobFacts, Declaration, refusal_of, Item}
+use Rattle.dover_model.specs.Common.{JobItem, RefusedItem, FinishItem, Session, instance_of, session_with}
+use Rattle.dover_model.specs.Common.{admitted_jobs, early_finishes, may_finish_early, late_refusal, finish_at, early_at}
+use Rattle.dover_model.specs.Common.{RefusedLine, RefusedJob, RefusedDone, Refused, IsValidSession, refusal_in}
 use Rattle.dover_model.proofs.sessions.Fullness.{refused_alone}
 use Rattle.dover_model.proofs.lists.Tests.{never, none_is_some}
 use Rattle.dover_model.proofs.sessions.SessionParts.{MayRefuse, MayBeRefused, FollowsItems, session_parts}

@@ -6,23 +6,13 @@ use Rattle.std.specs.List.{filter, fold, list_all}
 use Rattle.std.specs.Bool.{then_some}
 use Rattle.std.specs.Option.{option_or}
 use Rattle.std.proofs.lemmas.Bool.{lt-leb, leb-true, le-ltb, ltb-false}
-use Rattle.dover_model.specs.Limits.{most_ready, most_jobs, most_total}
-use Rattle.dover_model.specs.declared.events.Version.{Version}
-use Rattle.dover_model.specs.declared.events.Version.TheVariants.{One, Two, Three}
-use Rattle.dover_model.specs.declared.events.Refusal.{Refusal}
-use Rattle.dover_model.specs.declared.events.Refusal.TheVariants.{BadJob, Count, Total, Ratio, Late, Full}
-use Rattle.dover_model.specs.declared.events.Task.{Task}
-use Rattle.dover_model.specs.JobFacts.{JobFacts, is_job}
-use Rattle.dover_model.specs.Run.{Step}
-use Rattle.dover_model.specs.Step.{after, open_step}
-use Rattle.dover_model.specs.State.{State, opening, to_come}
-use Rattle.dover_model.specs.Instance.{Instance, Rules, total_value}
-use Rattle.dover_model.specs.Admission.{refusal_of, first_cause, is_within_ratio_both_ways}
-use Rattle.dover_model.specs.Ready.{is_ready}
-use Rattle.dover_model.specs.Settled.{settled_from, settled_state, waits_for_mark}
-use Rattle.dover_model.specs.WholeRun.{open_at}
-use Rattle.dover_model.specs.Session.{Session, instance_of, admitted_jobs, ready_at, is_full, refusal_in, refusal_at}
-use Rattle.dover_model.specs.Session.{may_finish_early, late_refusal, refuses_lines, refused_mark}
+use Rattle.dover_model.specs.Common.{most_ready, most_jobs, most_total, Version, One, Two, Three, Refusal, BadJob}
+use Rattle.dover_model.specs.Common.{Count, Total, Ratio, Late, Full, Task, JobFacts, is_job, Step, after, open_step}
+use Rattle.dover_model.specs.Common.{State, opening, to_come, Instance, Rules, total_value, refusal_of}
+use Rattle.dover_model.specs.Common.{is_within_ratio_both_ways, is_ready, settled_from, settled_state, waits_for_mark}
+use Rattle.dover_model.specs.Common.{open_at, Session, instance_of, admitted_jobs, ready_at, is_full, refusal_in}
+use Rattle.dover_model.specs.Common.{refusal_at, may_finish_early, late_refusal, refuses_lines, refused_mark}
+use Rattle.dover_model.specs.Admission.{first_cause}
 use Rattle.dover_model.proofs.valid.Admitting.{not_refused}
 use Rattle.dover_model.proofs.settled.Settling.{unless}
 use Rattle.dover_model.proofs.runs.Spending.{after_count}

@@ -8,19 +8,13 @@ use Rattle.std.proofs.lemmas.List.Sums.{fold-append}
 use Rattle.std.specs.List.{AllByRecursion, fold}
 use Rattle.std.proofs.lemmas.List.{append-nil}
 use Rattle.std.proofs.lemmas.List.Elements.{filter_map-append}
-use Rattle.dover_model.specs.declared.events.Event.{Event}
-use Rattle.dover_model.specs.declared.events.Event.TheVariants.{Release, Run, Preempt, Take, Complete, Abandon, End}
-use Rattle.dover_model.specs.JobFacts.{JobFacts}
-use Rattle.dover_model.specs.Fraction.{IsRatio}
-use Rattle.dover_model.specs.Instance.{Declaration, under, Instance, IsValid, with_jobs, with_finishes}
-use Rattle.dover_model.specs.Run.{printed}
-use Rattle.dover_model.specs.Settled.{settled, finish_now, RunsAtMark}
-use Rattle.dover_model.specs.declared.events.Task.{Task}
-use Rattle.dover_model.specs.Session.{Item, JobItem, RefusedItem, Session, instance_of, admitted_jobs, Refused}
-use Rattle.dover_model.specs.Session.{early_at, finish_at, may_finish_early, with_named, FinishItem, EarlyFinish}
-use Rattle.dover_model.specs.Session.{early_finishes, with_item, new_session, job_of_item, finish_of_item}
-use Rattle.dover_model.specs.Trace.{TraceLine, Printed, Refuses, Placed, put_in, places_of, lines_among}
-use Rattle.dover_model.specs.WholeRun.{Begins}
+use Rattle.dover_model.specs.Common.{Event, Release, Run, Preempt, Take, Complete, Abandon, End, JobFacts, IsRatio}
+use Rattle.dover_model.specs.Common.{Declaration, under, Instance, IsValid, with_jobs, with_finishes, printed, settled}
+use Rattle.dover_model.specs.Common.{finish_now, RunsAtMark, Task, Item, JobItem, RefusedItem, Session, instance_of}
+use Rattle.dover_model.specs.Common.{admitted_jobs, Refused, early_at, finish_at, may_finish_early, with_named}
+use Rattle.dover_model.specs.Common.{FinishItem, EarlyFinish, early_finishes, with_item, new_session, job_of_item}
+use Rattle.dover_model.specs.Common.{finish_of_item, TraceLine, Printed, Refuses, Placed, put_in, places_of}
+use Rattle.dover_model.specs.Common.{lines_among, Begins}
 use Rattle.dover_model.proofs.valid.Valid.{all_from}
 use Rattle.dover_model.proofs.lists.Beginnings.{begins_all, begins_length}
 use Rattle.dover_model.proofs.settled.Prefixes.{settled_prefix, printed_prefix}

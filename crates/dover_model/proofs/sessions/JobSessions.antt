@@ -2,12 +2,9 @@
 use Rattle.std.proofs.Common.{◌≡◌, ℕ, ◌≤◌, max, List, [], ◌∷◌, ◌++◌, length, map, refl, sym, ap, ◌∙◌, subst, arith}
 use Rattle.std.proofs.Common.{append_assoc}
 use Rattle.std.specs.List.{AllByRecursion}
-use Rattle.dover_model.specs.Limits.{most_ready}
-use Rattle.dover_model.specs.JobFacts.{JobFacts}
-use Rattle.dover_model.specs.Instance.{Declaration, under, declared_by, Instance, IsValid}
-use Rattle.dover_model.specs.Session.{Item, JobItem, instance_of, admitted_jobs, early_finishes}
-use Rattle.dover_model.specs.Session.{IsValidSession, IsNeverFull, session_with, IsDeclarable}
-use Rattle.dover_model.specs.Trace.{session_of}
+use Rattle.dover_model.specs.Common.{most_ready, JobFacts, Declaration, under, declared_by, Instance, IsValid, Item}
+use Rattle.dover_model.specs.Common.{JobItem, instance_of, admitted_jobs, early_finishes, IsValidSession, IsNeverFull}
+use Rattle.dover_model.specs.Common.{session_with, IsDeclarable, session_of}
 use Rattle.dover_model.proofs.valid.Valid.{all_from}
 use Rattle.dover_model.proofs.sessions.NeverFull.{few_never}
 use Rattle.dover_model.proofs.valid.Limiting.{items_enough}

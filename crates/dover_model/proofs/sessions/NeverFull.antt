@@ -2,14 +2,9 @@
 use Rattle.std.proofs.Common.{◌≡◌, ℕ, ◌≤◌, List, [], ◌∷◌, ◌++◌, length, sym, ap, ◌∙◌, subst, false, arith}
 use Rattle.std.proofs.Common.{append_assoc, append-nil, length-append}
 use Rattle.std.proofs.lemmas.List.Elements.{filter_map-append}
-use Rattle.dover_model.specs.Limits.{most_ready, most_jobs}
-use Rattle.dover_model.specs.declared.events.Version.{Version}
-use Rattle.dover_model.specs.declared.events.Version.TheVariants.{One, Two, Three}
-use Rattle.dover_model.specs.JobFacts.{JobFacts}
-use Rattle.dover_model.specs.Instance.{Declaration, IsValid}
-use Rattle.dover_model.specs.Session.{Item, JobItem, RefusedItem, FinishItem, Session, session_with, instance_of}
-use Rattle.dover_model.specs.Session.{job_of_item, admitted_jobs, may_finish_early, is_full, IsNeverFull}
-use Rattle.dover_model.specs.Session.{IsValidSession}
+use Rattle.dover_model.specs.Common.{most_ready, most_jobs, Version, One, Two, Three, JobFacts, Declaration, IsValid}
+use Rattle.dover_model.specs.Common.{Item, JobItem, RefusedItem, FinishItem, Session, session_with, instance_of}
+use Rattle.dover_model.specs.Common.{job_of_item, admitted_jobs, may_finish_early, is_full, IsNeverFull, IsValidSession}
 use Rattle.dover_model.proofs.lists.Members.{heads, tails}
 use Rattle.dover_model.proofs.sessions.Fullness.{few_ready}
 use Rattle.dover_model.proofs.lists.Tests.{never}

@@ -6,28 +6,15 @@ use Rattle.std.specs.Bool.{MatchBool}
 use Rattle.std.proofs.lemmas.List.Sums.{sum_by-cons}
 use Rattle.std.specs.List.{count_by, filter, cons_option}
 use Rattle.std.proofs.lemmas.List.Elements.{filter_map-append}
-use Rattle.dover_model.specs.JobFacts.{IsJob}
-use Rattle.dover_model.specs.Limits.{last_tick, most_items}
-use Rattle.dover_model.specs.declared.events.Event.TheVariants.{Release, Run, Preempt, Take, Complete, Abandon, End}
-use Rattle.dover_model.specs.declared.events.Role.TheVariants.{Running}
-use Rattle.dover_model.specs.declared.events.Task.{Task}
-use Rattle.dover_model.specs.Finishes.{Finish}
-use Rattle.dover_model.specs.Instance.{Instance, IsValid, declared_by, having, finishing}
-use Rattle.dover_model.specs.State.{State, opening, is_coming, is_running, is_privileged, is_over}
-use Rattle.dover_model.specs.State.{running, left}
-use Rattle.dover_model.specs.Step.{Move, Prints, Waits, Ticks}
-use Rattle.dover_model.specs.Step.{step}
-use Rattle.dover_model.specs.Step.{open_step, after}
-use Rattle.dover_model.specs.Run.{Step, is_end, run, printed, printed_of, event_of}
-use Rattle.dover_model.specs.WholeRun.{step_at, IsWholeRun}
-use Rattle.dover_model.specs.Processor.{is_complete, is_run}
-use Rattle.dover_model.specs.Paths.{IsPath}
-use Rattle.dover_model.specs.Sound.{IsMember, Each, Keeps}
-use Rattle.dover_model.specs.Session.{Item, JobItem, instance_of}
-use Rattle.dover_model.specs.Session.{admitted_jobs, early_finishes, session_with}
-use Rattle.dover_model.specs.Session.{may_finish_early, IsValidSession, IsNeverFull}
+use Rattle.dover_model.specs.Common.{IsJob, last_tick, most_items, Release, Run, Preempt, Take, Complete, Abandon, End}
+use Rattle.dover_model.specs.Common.{Running, Task, Finish, Instance, IsValid, declared_by, having, finishing, State}
+use Rattle.dover_model.specs.Common.{opening, is_coming, is_running, is_privileged, is_over, running, left, Move}
+use Rattle.dover_model.specs.Common.{Prints, Waits, Ticks, step, open_step, after, Step, is_end, run, printed}
+use Rattle.dover_model.specs.Common.{printed_of, event_of, step_at, IsWholeRun, is_complete, is_run, IsPath, IsMember}
+use Rattle.dover_model.specs.Common.{Each, Keeps, Item, JobItem, instance_of, admitted_jobs, early_finishes}
+use Rattle.dover_model.specs.Common.{session_with, may_finish_early, IsValidSession, IsNeverFull, early_of, handed_by}
+use Rattle.dover_model.specs.Common.{session_of_run}
 use Rattle.dover_model.proofs.sessions.SessionParts.{early_declarable}
-use Rattle.dover_model.specs.Trace.{early_of, handed_by, session_of_run}
 use Rattle.dover_model.proofs.lists.Members.{found, some_same}
 use Rattle.dover_model.proofs.steps.Roles.{passes, is_running_role}
 use Rattle.dover_model.proofs.steps.Moves.{active_slack}

@@ -3,22 +3,15 @@ use Rattle.std.proofs.Common.{◌≡◌, ℕ, ◌^◌, ◌<◌, ◌≤◌, ◌�
 use Rattle.std.proofs.Common.{IsTrue, refl}
 use Rattle.std.proofs.Common.{ap, subst, sym, ◌∙◌, Bool, true, false, not}
 use Rattle.dover_model.proofs.lists.Tests.{never, both, at_most, below, each}
-use Rattle.dover_model.specs.declared.events.Refusal.{Refusal}
-use Rattle.dover_model.specs.declared.events.Refusal.TheVariants.{BadJob, Count, Total, Ratio, Late, Full}
-use Rattle.dover_model.specs.Limits.{last_tick, most_items, most_digits}
-use Rattle.dover_model.specs.JobFacts.{JobFacts, job_numbers}
-use Rattle.dover_model.specs.Numerals.{AreShort}
-use Rattle.dover_model.specs.Instance.{Declaration, IsValid}
-use Rattle.dover_model.specs.Session.{Item, JobItem, RefusedItem, RefusedJob, Session, instance_of, refuses_lines}
-use Rattle.dover_model.specs.Session.{may_refuse, refusal_at, early_at, is_right, Refused, RefusedLine}
-use Rattle.dover_model.specs.Session.{RefusedDone, FinishItem, EarlyFinish, may_finish_early, is_finish}
-use Rattle.dover_model.specs.Session.{session_with, is_same_refusal, is_refusal}
-use Rattle.dover_model.specs.Session.{may_be_admitted, is_full, refused_mark}
-use Rattle.dover_model.specs.Session.{follows_items, IsValidSession, is_valid_session, may_be_refused, may_finish}
-use Rattle.dover_model.specs.Session.{IsDeclarable, takes_factors}
-use Rattle.dover_model.specs.declared.factors.Factor.{Factor}
-use Rattle.dover_model.specs.declared.events.Version.{Version}
-use Rattle.dover_model.specs.declared.events.Version.TheVariants.{One, Two, Three}
+use Rattle.dover_model.specs.Common.{Refusal, BadJob, Count, Total, Ratio, Late, Full, last_tick, most_items, JobFacts}
+use Rattle.dover_model.specs.Common.{job_numbers, AreShort, Declaration, IsValid, Item, JobItem, RefusedItem}
+use Rattle.dover_model.specs.Common.{RefusedJob, Session, instance_of, refuses_lines, refusal_at, early_at, is_right}
+use Rattle.dover_model.specs.Common.{Refused, RefusedLine, RefusedDone, FinishItem, EarlyFinish, may_finish_early}
+use Rattle.dover_model.specs.Common.{session_with, is_same_refusal, is_full, refused_mark, IsValidSession}
+use Rattle.dover_model.specs.Common.{is_valid_session, may_be_refused, IsDeclarable, Factor, Version, One, Two, Three}
+use Rattle.dover_model.specs.Limits.{most_digits}
+use Rattle.dover_model.specs.Session.{may_refuse, is_finish, is_refusal, may_be_admitted, follows_items, may_finish}
+use Rattle.dover_model.specs.Session.{takes_factors}
 use Rattle.dover_model.proofs.lists.Members.{some_same}
 use Rattle.std.proofs.lemmas.Bool.{eqb-true, eq-eqb}
 use Rattle.std.specs.Prelude.{◌==◌, ◌&&◌, nat_lt}

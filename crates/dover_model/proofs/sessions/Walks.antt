@@ -5,13 +5,10 @@ use Rattle.std.specs.List.{fold}
 use Rattle.std.proofs.lemmas.List.Sums.{fold-append}
 use Rattle.std.proofs.lemmas.List.{append_assoc, append-nil}
 use Rattle.std.proofs.lemmas.List.Elements.{filter_map-append}
-use Rattle.dover_model.specs.declared.events.Event.TheVariants.{Release, Complete}
-use Rattle.dover_model.specs.Instance.{Declaration, IsValid, with_jobs}
-use Rattle.dover_model.specs.Session.{Item, JobItem, RefusedItem, Session, instance_of, admitted_jobs, job_of_item}
-use Rattle.dover_model.specs.Session.{with_named, FinishItem, early_finishes, session_with, with_item, new_session}
-use Rattle.dover_model.specs.Session.{IsValidSession}
-use Rattle.dover_model.specs.Trace.{TraceLine, Printed, Refuses}
-use Rattle.dover_model.specs.WholeRun.{Begins}
+use Rattle.dover_model.specs.Common.{Release, Complete, Declaration, IsValid, with_jobs, Item, JobItem, RefusedItem}
+use Rattle.dover_model.specs.Common.{Session, instance_of, admitted_jobs, job_of_item, with_named, FinishItem}
+use Rattle.dover_model.specs.Common.{early_finishes, session_with, with_item, new_session, IsValidSession, TraceLine}
+use Rattle.dover_model.specs.Common.{Printed, Refuses, Begins}
 use Rattle.dover_model.proofs.valid.Valid.{valid_front}
 use Rattle.dover_model.proofs.lists.Beginnings.{begins_itself, begins_onward, begins_all, begins_either}
 use Rattle.dover_model.proofs.sessions.Growing.{Reads, lines_at, all_lines, reads_new, reads_later, lines_later}

@@ -1,15 +1,9 @@
 -- The state in which the settled steps of a mark end: the clock is the mark, and no job is fresh.
 use Rattle.std.proofs.Common.{◌≡◌, ℕ, ◌+◌, ◌≤◌, ◌<◌, ◌⊎◌, inl, inr, List, [], ◌∷◌, sym, ap, subst, true, arith}
 use Rattle.std.specs.List.{fold}
-use Rattle.dover_model.specs.Fraction.{Fraction}
-use Rattle.dover_model.specs.declared.events.Role.TheVariants.{Fresh}
-use Rattle.dover_model.specs.Instance.{Instance, IsValid}
-use Rattle.dover_model.specs.State.{State, opening}
-use Rattle.dover_model.specs.Step.{Move, Ticks, open_step, after}
-use Rattle.dover_model.specs.Run.{Step}
-use Rattle.dover_model.specs.Settled.{waits_for_mark, settled_state}
-use Rattle.dover_model.specs.WholeRun.{IsBarrier, IsBefore, IsSettledRun}
-use Rattle.dover_model.specs.Sound.{Each, Keeps}
+use Rattle.dover_model.specs.Common.{Fraction, Fresh, Instance, IsValid, State, opening, Move, Ticks, open_step, after}
+use Rattle.dover_model.specs.Common.{Step, waits_for_mark, settled_state, IsBarrier, IsBefore, IsSettledRun, Each}
+use Rattle.dover_model.specs.Common.{Keeps}
 use Rattle.dover_model.proofs.steps.Deeds.{Deed, Completed, Resumed, Started, Began, Preempted, Stayed, Arrived, Taken}
 use Rattle.dover_model.proofs.steps.Deeds.{Abandoned, Rested}
 use Rattle.dover_model.proofs.steps.Kept.{open_deed, open_kept, opening_keeps}

@@ -2,17 +2,12 @@
 use Rattle.std.proofs.Common.{◌+◌, ◌*◌, arith, sym, ◌≤◌, length, [], ℕ, List, ◌∷◌}
 use Rattle.std.proofs.lemmas.List.{append-nil}
 use Rattle.std.specs.List.{AllByRecursion}
-use Rattle.dover_model.specs.declared.horizon.Horizon.{Horizon}
-use Rattle.dover_model.specs.declared.horizon.Horizon.TheVariants.{Mark, End}
-use Rattle.dover_model.specs.Horizons.{MayFollow, due_by}
-use Rattle.dover_model.specs.Instance.{Instance, IsValid}
-use Rattle.dover_model.specs.Run.{printed}
-use Rattle.dover_model.specs.WholeRun.{Begins}
+use Rattle.dover_model.specs.Common.{Horizon, Mark, MayFollow, due_by, Instance, IsValid, printed, Begins, JobFacts}
+use Rattle.dover_model.specs.Common.{IsJob, last_tick, most_jobs}
+use Rattle.dover_model.specs.declared.horizon.Horizon.TheVariants.{End}
 use Rattle.dover_model.proofs.sessions.Growing.{settled_of_run}
 use Rattle.dover_model.proofs.lists.Beginnings.{begins_length}
 use Rattle.dover_model.proofs.runs.Ending.{few_printed}
-use Rattle.dover_model.specs.JobFacts.{JobFacts, IsJob}
-use Rattle.dover_model.specs.Limits.{last_tick, most_jobs}
 use Rattle.dover_model.proofs.valid.ValidParts.{valid_parts}
 use Rattle.dover_model.proofs.valid.JobLimits.{job_limits}
 

@@ -4,19 +4,10 @@ use Rattle.std.proofs.Common.{Bool, true, false, arith}
 use Rattle.std.specs.Prelude.{Some, nat_lt, ◌&&◌}
 use Rattle.std.specs.List.{fold, list_all, cons_option}
 use Rattle.std.proofs.lemmas.Bool.{lt-ltb, ltb-true, ltb-false}
-use Rattle.dover_model.specs.Fraction.{Fraction}
-use Rattle.dover_model.specs.Instance.{Rules, Instance, IsValid}
-use Rattle.dover_model.specs.declared.events.Event.{Event}
-use Rattle.dover_model.specs.declared.events.Role.TheVariants.{Coming, Fresh, Running}
-use Rattle.dover_model.specs.declared.events.Task.{Task}
-use Rattle.dover_model.specs.State.{State, opening, to_come, running, is_running}
-use Rattle.dover_model.specs.Step.{Move, Prints, Waits, Ticks, open_step, after, ticked}
-use Rattle.dover_model.specs.Run.{Step, event_of, printed_of}
-use Rattle.dover_model.specs.Settled.{waits_for_mark, settled, settled_steps, settled_state, tick_of_event}
-use Rattle.dover_model.specs.Settled.{last_of}
-use Rattle.dover_model.specs.WholeRun.{IsBefore}
-use Rattle.dover_model.specs.Paths.{IsOpenPath}
-use Rattle.dover_model.specs.Sound.{IsMember, Each, Keeps}
+use Rattle.dover_model.specs.Common.{Fraction, Rules, Instance, IsValid, Event, Coming, Fresh, Running, Task, State}
+use Rattle.dover_model.specs.Common.{opening, to_come, running, is_running, Move, Prints, Waits, Ticks, open_step}
+use Rattle.dover_model.specs.Common.{after, ticked, Step, event_of, printed_of, waits_for_mark, settled, settled_steps}
+use Rattle.dover_model.specs.Common.{settled_state, tick_of_event, last_of, IsBefore, IsOpenPath, IsMember, Each, Keeps}
 use Rattle.dover_model.proofs.lists.Members.{found, on_map}
 use Rattle.dover_model.proofs.steps.Roles.{is_running_role}
 use Rattle.dover_model.proofs.steps.Deeds.{Deed, Completed, Resumed, Started, Began, Preempted, Stayed, Arrived, Taken}

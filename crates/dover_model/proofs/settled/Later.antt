@@ -5,21 +5,11 @@ use Rattle.std.specs.Bool.{then_some}
 use Rattle.std.specs.Prelude.{Option, Some, None}
 use Rattle.std.specs.List.{find, filter}
 use Rattle.std.proofs.lemmas.Bool.{ne_eqb}
-use Rattle.dover_model.specs.declared.events.Role.TheVariants.{Coming}
-use Rattle.dover_model.specs.declared.events.Version.{Version}
-use Rattle.dover_model.specs.declared.events.Event.TheVariants.{Release, Take, Abandon}
-use Rattle.dover_model.specs.Fraction.{Fraction}
-use Rattle.dover_model.specs.Instance.{Rules}
-use Rattle.dover_model.specs.declared.events.Task.{Task}
-use Rattle.dover_model.specs.State.{State, with_later, is_coming, is_fresh, is_waiting, is_held, is_running}
-use Rattle.dover_model.specs.State.{is_privileged}
-use Rattle.dover_model.specs.Orders.{is_heavy}
-use Rattle.dover_model.specs.Step.{Move, Prints, Ticks, View, view, with_role, ◌or_else◌, completion, dispatch}
-use Rattle.dover_model.specs.Step.{decision, arrival, alarm, urgent_or, open_step, declared_open_step, due_finish}
-use Rattle.dover_model.specs.Step.{finish_or}
-use Rattle.dover_model.specs.Finishes.{Finish, is_finish_of}
-use Rattle.dover_model.specs.Settled.{waits_for_mark}
-use Rattle.dover_model.specs.Sound.{Each}
+use Rattle.dover_model.specs.Common.{Coming, Version, Release, Take, Abandon, Fraction, Rules, Task, State, with_later}
+use Rattle.dover_model.specs.Common.{is_coming, is_fresh, is_waiting, is_held, is_running, is_privileged, is_heavy}
+use Rattle.dover_model.specs.Common.{Move, Prints, Ticks, View, view, with_role, ◌or_else◌, completion, dispatch}
+use Rattle.dover_model.specs.Common.{decision, arrival, alarm, urgent_or, open_step, declared_open_step, due_finish}
+use Rattle.dover_model.specs.Common.{finish_or, Finish, is_finish_of, waits_for_mark, Each}
 use Rattle.dover_model.proofs.lists.Members.{found}
 use Rattle.dover_model.proofs.lists.Tests.{never}
 

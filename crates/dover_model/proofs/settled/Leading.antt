@@ -5,28 +5,21 @@ use Rattle.std.specs.Prelude.{Option, None, Some, nat_le, ◌&&◌}
 use Rattle.std.specs.List.{cons_option, list_all, filter}
 use Rattle.std.proofs.lemmas.Bool.{lt-leb, false_from_ne_true}
 use Rattle.std.specs.Bool.{MatchBool, then_some}
-use Rattle.dover_model.specs.declared.events.Event.{Event}
-use Rattle.dover_model.specs.Instance.{Rules, Instance, IsValid}
-use Rattle.dover_model.specs.State.{State, is_over, is_done, value_sum, with_later}
-use Rattle.dover_model.specs.Step.{Prints, step, open_step, after, Move, Waits, Ticks, ending, ◌or_else◌}
-use Rattle.dover_model.specs.Run.{Step, event_of, printed_of, is_end}
-use Rattle.dover_model.specs.Settled.{waits_for_mark, AllComeFrom}
-use Rattle.dover_model.specs.WholeRun.{IsBefore, IsBarrier, IsSettledRun, IsWholeRun, open_at}
+use Rattle.dover_model.specs.Common.{Event, Rules, Instance, IsValid, State, is_over, is_done, value_sum, with_later}
+use Rattle.dover_model.specs.Common.{Prints, step, open_step, after, Move, Waits, Ticks, ending, ◌or_else◌, Step}
+use Rattle.dover_model.specs.Common.{event_of, printed_of, is_end, waits_for_mark, AllComeFrom, IsBefore, IsBarrier}
+use Rattle.dover_model.specs.Common.{IsSettledRun, IsWholeRun, open_at, Passes, Leads, Settles, Idles, IsSilent, GoesOn}
+use Rattle.dover_model.specs.Common.{floor_after, End, Keeps, IsMember, Task, Coming}
 use Rattle.dover_model.proofs.steps.Roles.{passes}
 use Rattle.dover_model.proofs.lists.Tests.{never}
 use Rattle.dover_model.proofs.settled.Paths.{before_later}
-use Rattle.dover_model.specs.Leading.{Passes, Leads, Settles, Idles, IsSilent, GoesOn, floor_after}
 use Rattle.dover_model.proofs.runs.Ending.{later_clock}
 use Rattle.dover_model.proofs.settled.Releasing.{within_mark}
-use Rattle.dover_model.specs.declared.events.Event.TheVariants.{End}
-use Rattle.dover_model.specs.Sound.{Keeps, IsMember}
 use Rattle.dover_model.proofs.lists.Members.{all_each, member_behind}
 use Rattle.dover_model.proofs.steps.Deeds.{over_rests}
 use Rattle.dover_model.proofs.steps.Kept.{open_kept, step_deed}
 use Rattle.dover_model.proofs.settled.Settling.{late_early}
 use Rattle.dover_model.proofs.settled.Prefixes.{step_open, open_not_end, behind_step, behind_after, behind_keeps}
-use Rattle.dover_model.specs.declared.events.Task.{Task}
-use Rattle.dover_model.specs.declared.events.Role.TheVariants.{Coming}
 
 -- what adds nothing
 none_printed : (o : Option Event) (es : List Event) → cons_option o es ≡ [] → (o ≡ None) × (es ≡ [])

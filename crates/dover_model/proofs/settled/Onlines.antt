@@ -5,16 +5,11 @@ use Rattle.std.specs.Prelude.{Option, None, nat_le}
 use Rattle.std.specs.Bool.{MatchBool, then_some}
 use Rattle.std.specs.List.{list_all, filter_map, cons_option, filter}
 use Rattle.std.proofs.lemmas.Bool.{leb-true}
-use Rattle.dover_model.specs.declared.events.Event.{Event}
-use Rattle.dover_model.specs.declared.events.Task.{Task}
-use Rattle.dover_model.specs.Instance.{Rules, Instance, IsValid, with_jobs}
-use Rattle.dover_model.specs.State.{State, with_later, opening, to_come, is_over, is_done, value_sum}
-use Rattle.dover_model.specs.Step.{Move, Ticks, step, open_step, after, ending, ◌or_else◌, Prints}
-use Rattle.dover_model.specs.Run.{Step, is_end, event_of, run}
-use Rattle.dover_model.specs.Settled.{waits_for_mark, settled_steps, AllComeFrom}
-use Rattle.dover_model.specs.WholeRun.{IsWholeRun, IsSettledRun}
-use Rattle.dover_model.specs.Online.{event_up_to, printed_up_to, known_at}
-use Rattle.dover_model.specs.Sound.{Each, Keeps}
+use Rattle.dover_model.specs.Common.{Event, Task, Rules, Instance, IsValid, with_jobs, State, with_later, opening}
+use Rattle.dover_model.specs.Common.{to_come, is_over, is_done, value_sum, Move, Ticks, step, open_step, after, ending}
+use Rattle.dover_model.specs.Common.{◌or_else◌, Prints, Step, is_end, event_of, run, waits_for_mark, settled_steps}
+use Rattle.dover_model.specs.Common.{AllComeFrom, IsWholeRun, IsSettledRun, printed_up_to, known_at, Each, Keeps, End}
+use Rattle.dover_model.specs.Online.{event_up_to}
 use Rattle.dover_model.proofs.lists.Members.{all_each, member_front}
 use Rattle.dover_model.proofs.steps.Deeds.{over_rests}
 use Rattle.dover_model.proofs.steps.Kept.{open_deed, open_kept, step_deed, opening_keeps}
@@ -23,7 +18,6 @@ use Rattle.dover_model.proofs.settled.Settling.{at_barrier, settled_is_run}
 use Rattle.dover_model.proofs.settled.Prefixes.{no_events, step_open, behind_step, behind_after, behind_keeps}
 use Rattle.dover_model.proofs.settled.Prefixes.{open_not_end, come_from, opening_later, later_keeps, over_ticked}
 use Rattle.dover_model.proofs.valid.Valid.{valid_front, Split, split_known}
-use Rattle.dover_model.specs.declared.events.Event.TheVariants.{End}
 use Rattle.dover_model.proofs.lists.Tests.{never}
 use Rattle.dover_model.proofs.valid.ValidParts.{valid_parts}
 

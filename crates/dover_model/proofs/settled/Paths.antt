@@ -5,19 +5,12 @@ use Rattle.std.specs.Prelude.{◌&&◌, nat_le, Option, Some, None}
 use Rattle.std.specs.Bool.{MatchBool, then_some}
 use Rattle.std.specs.List.{list_all, filter, cons_option}
 use Rattle.std.proofs.lemmas.Bool.{leb-true, leb-false}
-use Rattle.dover_model.specs.JobFacts.{JobFacts}
-use Rattle.dover_model.specs.declared.events.Event.{Event}
-use Rattle.dover_model.specs.declared.events.Event.TheVariants.{End}
-use Rattle.dover_model.specs.declared.events.Role.TheVariants.{Done, Gone}
-use Rattle.dover_model.specs.declared.events.Task.{Task}
-use Rattle.dover_model.specs.Instance.{Rules, Instance, IsValid, with_jobs}
-use Rattle.dover_model.specs.State.{State, with_later, opening, to_come, is_over, is_done, is_running, value_sum}
-use Rattle.dover_model.specs.Step.{Prints, Ticks, step, open_step, after, ending, ◌or_else◌, ticked}
-use Rattle.dover_model.specs.Run.{Step, is_end, event_of, printed_of, printed, run, last_deadline}
-use Rattle.dover_model.specs.Settled.{waits_for_mark, settled, settled_steps, AllComeFrom}
-use Rattle.dover_model.specs.WholeRun.{open_at, step_at, IsWholeRun, IsBarrier, IsBefore, IsSettledRun, Begins}
-use Rattle.dover_model.specs.Paths.{IsOpenPath, IsPath, HasPrinted}
-use Rattle.dover_model.specs.Sound.{Each, Keeps}
+use Rattle.dover_model.specs.Common.{JobFacts, Event, End, Done, Gone, Task, Rules, Instance, IsValid, with_jobs, State}
+use Rattle.dover_model.specs.Common.{with_later, opening, to_come, is_over, is_done, is_running, value_sum, Prints}
+use Rattle.dover_model.specs.Common.{Ticks, step, open_step, after, ending, ◌or_else◌, ticked, Step, is_end, event_of}
+use Rattle.dover_model.specs.Common.{printed_of, printed, run, last_deadline, waits_for_mark, settled, settled_steps}
+use Rattle.dover_model.specs.Common.{AllComeFrom, open_at, step_at, IsWholeRun, IsBarrier, IsBefore, IsSettledRun}
+use Rattle.dover_model.specs.Common.{Begins, IsOpenPath, IsPath, HasPrinted, Each, Keeps, end_state}
 use Rattle.dover_model.proofs.lists.Members.{all_each}
 use Rattle.dover_model.proofs.steps.Roles.{passes, is_over_role}
 use Rattle.dover_model.proofs.steps.Deeds.{over_rests}
@@ -25,7 +18,6 @@ use Rattle.dover_model.proofs.steps.Kept.{open_kept, step_kept, opening_keeps, s
 use Rattle.dover_model.proofs.runs.Ending.{potential, ends, run_is_whole}
 use Rattle.dover_model.proofs.finishes.Readiness.{IsReady, open_ready, step_ready, opening_ready}
 use Rattle.dover_model.proofs.runs.RunLaws.{one_run, tasks_in, tasks_from}
-use Rattle.dover_model.specs.Observed.{end_state}
 use Rattle.dover_model.proofs.settled.Barriers.{clock_stays}
 use Rattle.dover_model.proofs.settled.Settling.{settles, settled_is_run}
 use Rattle.dover_model.proofs.valid.Valid.{valid_front}

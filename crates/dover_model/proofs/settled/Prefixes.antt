@@ -5,21 +5,13 @@ use Rattle.std.specs.Prelude.{Option, Some, None}
 use Rattle.std.specs.Bool.{MatchBool, then_some}
 use Rattle.std.specs.List.{list_all, filter, cons_option}
 use Rattle.std.proofs.lemmas.Bool.{ne_eqb}
-use Rattle.dover_model.specs.Fraction.{Fraction}
-use Rattle.dover_model.specs.JobFacts.{JobFacts}
-use Rattle.dover_model.specs.declared.events.Event.{Event}
-use Rattle.dover_model.specs.declared.events.Event.TheVariants.{End}
-use Rattle.dover_model.specs.declared.events.Role.{Role}
-use Rattle.dover_model.specs.declared.events.Role.TheVariants.{Coming, Fresh, Waiting, Held, Running, Done, Gone}
-use Rattle.dover_model.specs.declared.events.Task.{Task}
-use Rattle.dover_model.specs.Instance.{Rules, Instance, IsValid, with_jobs}
-use Rattle.dover_model.specs.State.{State, with_later, opening, to_come, is_over, is_done, value_sum}
-use Rattle.dover_model.specs.Step.{Move, Prints, Ticks, view, step, open_step, after, urgent_or, ◌or_else◌, with_role}
-use Rattle.dover_model.specs.Step.{ticked, displaced, finish_or, due_finish}
-use Rattle.dover_model.specs.Run.{Step, is_end, event_of, printed_of, printed, run}
-use Rattle.dover_model.specs.Settled.{waits_for_mark, settled, settled_steps, AllComeFrom}
-use Rattle.dover_model.specs.WholeRun.{IsWholeRun, IsBefore, IsSettledRun, Begins}
-use Rattle.dover_model.specs.Sound.{IsMember, Each, IsNumberedFrom, Keeps}
+use Rattle.dover_model.specs.Common.{Fraction, JobFacts, Event, End, Role, Coming, Fresh, Waiting, Held, Running, Done}
+use Rattle.dover_model.specs.Common.{Gone, Task, Rules, Instance, IsValid, with_jobs, State, with_later, opening}
+use Rattle.dover_model.specs.Common.{to_come, is_over, is_done, value_sum, Move, Prints, Ticks, view, step, open_step}
+use Rattle.dover_model.specs.Common.{after, urgent_or, ◌or_else◌, with_role, ticked, displaced, finish_or, due_finish}
+use Rattle.dover_model.specs.Common.{Step, is_end, event_of, printed_of, printed, run, waits_for_mark, settled}
+use Rattle.dover_model.specs.Common.{settled_steps, AllComeFrom, IsWholeRun, IsBefore, IsSettledRun, Begins, IsMember}
+use Rattle.dover_model.specs.Common.{Each, IsNumberedFrom, Keeps}
 use Rattle.dover_model.proofs.lists.Members.{all_each, on_map, member_front, member_behind}
 use Rattle.dover_model.proofs.steps.Roles.{numbers_above}
 use Rattle.dover_model.proofs.steps.Deeds.{Deed, Completed, Resumed, Started, Began, Preempted, Stayed, Arrived, Taken}

@@ -7,21 +7,13 @@ use Rattle.std.specs.Option.{option_or}
 use Rattle.std.specs.List.{AllByRecursion, find, cons_option}
 use Rattle.std.proofs.lemmas.Bool.{eq-eqb}
 use Rattle.std.proofs.lemmas.List.Folds.{find-append}
-use Rattle.dover_model.specs.JobFacts.{JobFacts}
-use Rattle.dover_model.specs.declared.events.Event.{Event}
-use Rattle.dover_model.specs.declared.events.Event.TheVariants.{Release, Preempt, Complete}
-use Rattle.dover_model.specs.declared.events.Role.TheVariants.{Coming}
-use Rattle.dover_model.specs.declared.events.Task.{Task}
-use Rattle.dover_model.specs.Instance.{Rules, Instance, IsValid, with_jobs}
-use Rattle.dover_model.specs.State.{State, with_later, opening, is_coming, is_running, left}
-use Rattle.dover_model.specs.Step.{Move, Prints, Waits, Ticks, View, view, open_step, after, urgent_or, ◌or_else◌}
-use Rattle.dover_model.specs.Step.{completion, dispatch, decision, arrival, alarm, preempts, resumed, runs}
-use Rattle.dover_model.specs.Step.{declared_open_step, due_finish, finish_or}
-use Rattle.dover_model.specs.Finishes.{is_finish_of}
-use Rattle.dover_model.specs.Run.{Step, event_of, printed_of}
-use Rattle.dover_model.specs.Settled.{waits_for_mark, settled, settled_steps, AllComeFrom}
-use Rattle.dover_model.specs.WholeRun.{IsBefore, IsSettledRun, Begins}
-use Rattle.dover_model.specs.Sound.{IsMember, Each, Keeps}
+use Rattle.dover_model.specs.Common.{JobFacts, Event, Release, Preempt, Complete, Coming, Task, Rules, Instance}
+use Rattle.dover_model.specs.Common.{IsValid, with_jobs, State, with_later, opening, is_coming, is_running, left, Move}
+use Rattle.dover_model.specs.Common.{Prints, Waits, Ticks, View, view, open_step, after, urgent_or, ◌or_else◌}
+use Rattle.dover_model.specs.Common.{completion, dispatch, decision, arrival, alarm, preempts, resumed, runs}
+use Rattle.dover_model.specs.Common.{declared_open_step, due_finish, finish_or, is_finish_of, Step, event_of}
+use Rattle.dover_model.specs.Common.{printed_of, waits_for_mark, settled, settled_steps, AllComeFrom, IsBefore}
+use Rattle.dover_model.specs.Common.{IsSettledRun, Begins, IsMember, Each, Keeps}
 use Rattle.dover_model.proofs.lists.Members.{found, not_found, some_same}
 use Rattle.dover_model.proofs.steps.Roles.{is_coming_role}
 use Rattle.dover_model.proofs.steps.Moves.{says}

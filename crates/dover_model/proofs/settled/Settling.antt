@@ -3,13 +3,8 @@ use Rattle.std.proofs.Common.{◌≡◌, ℕ, suc, zero, ◌+◌, ◌*◌, ◌�
 use Rattle.std.proofs.Common.{◌∙◌, subst, Bool, true, false, arith}
 use Rattle.std.specs.Prelude.{nat_le, ◌&&◌}
 use Rattle.std.proofs.lemmas.Bool.{leb-true, leb-false}
-use Rattle.dover_model.specs.Instance.{Rules, Instance, IsValid}
-use Rattle.dover_model.specs.State.{State, opening}
-use Rattle.dover_model.specs.Step.{open_step, after}
-use Rattle.dover_model.specs.Run.{Step}
-use Rattle.dover_model.specs.Settled.{waits_for_mark, settled_from, settled_steps}
-use Rattle.dover_model.specs.WholeRun.{open_at, IsBefore, IsSettledRun}
-use Rattle.dover_model.specs.Sound.{Keeps}
+use Rattle.dover_model.specs.Common.{Rules, Instance, IsValid, State, opening, open_step, after, Step, waits_for_mark}
+use Rattle.dover_model.specs.Common.{settled_from, settled_steps, open_at, IsBefore, IsSettledRun, Keeps}
 use Rattle.dover_model.proofs.steps.Kept.{open_kept, opening_keeps}
 use Rattle.dover_model.proofs.runs.Ending.{potential, Brings, open_brings, deed_falls, tick_falls, opening_weighs}
 use Rattle.dover_model.proofs.finishes.Readiness.{IsReady, open_ready, opening_ready}

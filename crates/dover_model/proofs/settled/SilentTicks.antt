@@ -6,18 +6,11 @@ use Rattle.std.specs.List.{find, cons_option}
 use Rattle.std.specs.Option.{option_map}
 use Rattle.std.proofs.lemmas.List.{nil_from_length}
 use Rattle.std.proofs.lemmas.List.Sums.{fold-append}
-use Rattle.dover_model.specs.declared.events.Role.TheVariants.{Fresh}
-use Rattle.dover_model.specs.declared.events.Task.{Task}
-use Rattle.dover_model.specs.Finishes.{Finish}
-use Rattle.dover_model.specs.Instance.{Instance, IsValid}
-use Rattle.dover_model.specs.State.{State, opening, running, is_running}
-use Rattle.dover_model.specs.Step.{Move, Prints, Waits, Ticks, due_finish, open_step, after, ticked}
-use Rattle.dover_model.specs.Run.{Step, event_of, printed_of}
-use Rattle.dover_model.specs.Settled.{waits_for_mark, settled_steps, settled_state, settled, AreYetToCome}
-use Rattle.dover_model.specs.WholeRun.{IsBarrier, IsSettledRun}
-use Rattle.dover_model.specs.Paths.{IsOpenPath}
-use Rattle.dover_model.specs.Jumps.{ticked_by, later_by, silent_ticks, AreAheadOfRunning}
-use Rattle.dover_model.specs.Sound.{IsMember, Each, Keeps}
+use Rattle.dover_model.specs.Common.{Fresh, Task, Finish, Instance, IsValid, State, opening, running, is_running, Move}
+use Rattle.dover_model.specs.Common.{Prints, Waits, Ticks, due_finish, open_step, after, ticked, Step, event_of}
+use Rattle.dover_model.specs.Common.{printed_of, waits_for_mark, settled_steps, settled_state, settled, AreYetToCome}
+use Rattle.dover_model.specs.Common.{IsBarrier, IsSettledRun, IsOpenPath, ticked_by, later_by, silent_ticks}
+use Rattle.dover_model.specs.Common.{AreAheadOfRunning, IsMember, Each, Keeps}
 use Rattle.dover_model.proofs.lists.Members.{some_same, found, on_map, each_append}
 use Rattle.dover_model.proofs.steps.Deeds.{Deed}
 use Rattle.dover_model.proofs.steps.Kept.{open_deed, open_kept, opening_keeps}

@@ -5,19 +5,13 @@ use Rattle.std.proofs.lemmas.Bool.{false_from_ne_true, not-true, lt-leb, le-leb}
 use Rattle.std.specs.Prelude.{nat_le, ◌&&◌}
 use Rattle.std.specs.List.{list_all}
 use Rattle.std.specs.Bool.{MatchBool}
-use Rattle.dover_model.specs.declared.events.Task.{Task}
-use Rattle.dover_model.specs.State.{State, is_over}
-use Rattle.dover_model.specs.Sound.{IsMember, Keeps}
+use Rattle.dover_model.specs.Common.{Task, State, is_over, IsMember, Keeps, GoesOn, IsSilent, Settles, Idles}
+use Rattle.dover_model.specs.Common.{WaitsUntil, PrintsNext, Move, after, open_step, Prints, Waits, Ticks, step, ticked}
+use Rattle.dover_model.specs.Common.{Rules, Instance, IsValid, Step, is_end, event_of, Event, waits_for_mark, open_at}
+use Rattle.dover_model.specs.Common.{IsWholeRun}
 use Rattle.dover_model.proofs.lists.Members.{all_each, not_all, map_member}
 use Rattle.dover_model.proofs.lists.Tests.{never}
-use Rattle.dover_model.specs.Leading.{GoesOn, IsSilent, Settles, Idles, WaitsUntil, PrintsNext}
-use Rattle.dover_model.specs.Step.{Move, after, open_step, Prints, Waits, Ticks, step, ticked}
 use Rattle.dover_model.proofs.steps.ReadyParts.{change, after_change, silent_ready, ticked_over}
-use Rattle.dover_model.specs.Instance.{Rules, Instance, IsValid}
-use Rattle.dover_model.specs.Run.{Step, is_end, event_of}
-use Rattle.dover_model.specs.declared.events.Event.{Event}
-use Rattle.dover_model.specs.Settled.{waits_for_mark}
-use Rattle.dover_model.specs.WholeRun.{open_at, IsWholeRun}
 use Rattle.dover_model.proofs.steps.Deeds.{over_rests}
 use Rattle.dover_model.proofs.steps.Kept.{open_deed, open_kept, step_kept}
 use Rattle.dover_model.proofs.settled.Prefixes.{step_open}

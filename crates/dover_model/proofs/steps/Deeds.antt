@@ -4,23 +4,14 @@ use Rattle.std.proofs.Common.{true, false, cond, arith}
 use Rattle.std.specs.Prelude.{Option, Some, None, nat_lt, nat_le, ◌==◌, ◌&&◌, ◌||◌}
 use Rattle.std.specs.List.{sum_by, filter, find}
 use Rattle.std.proofs.lemmas.Bool.{ltb-true, ltb-false, leb-true, leb-false, eqb-true, eqb-false, and_parts, eq-eqb}
-use Rattle.dover_model.specs.JobFacts.{IsJob}
-use Rattle.dover_model.specs.Fraction.{Fraction}
-use Rattle.dover_model.specs.declared.events.Role.{Role}
-use Rattle.dover_model.specs.declared.events.Role.TheVariants.{Coming, Fresh, Waiting, Held, Running}
-use Rattle.dover_model.specs.declared.events.Event.TheVariants.{Release, Run, Preempt, Take, Complete, Abandon}
-use Rattle.dover_model.specs.declared.events.Version.{Version}
-use Rattle.dover_model.specs.declared.events.Task.{Task}
-use Rattle.dover_model.specs.State.{State, is_coming, is_fresh, is_waiting, is_held, is_running, is_privileged}
-use Rattle.dover_model.specs.State.{is_ready_behind, is_over, waiting, held, privileged, running, left, latest_start}
-use Rattle.dover_model.specs.State.{room, demand_up_to, value_sum}
-use Rattle.dover_model.specs.Run.{is_end}
-use Rattle.dover_model.specs.declared.events.Entry.{Entry}
-use Rattle.dover_model.specs.Entries.{entry_of, wins_tie, comes_first_by}
-use Rattle.dover_model.specs.Orders.{due_first, earlier, first, is_heavy}
-use Rattle.dover_model.specs.Step.{Move, Prints, Waits, Ticks, View, view, is_at_latest_start, runs, resumed, preempts}
-use Rattle.dover_model.specs.Step.{with_role}
-use Rattle.dover_model.specs.Sound.{IsMember, Each, EachTwo, IsNumberedFrom, NoneRuns, IsSound}
+use Rattle.dover_model.specs.Common.{IsJob, Fraction, Role, Coming, Fresh, Waiting, Held, Running, Release, Run}
+use Rattle.dover_model.specs.Common.{Preempt, Take, Complete, Abandon, Version, Task, State, is_coming, is_fresh}
+use Rattle.dover_model.specs.Common.{is_waiting, is_held, is_running, is_privileged, is_ready_behind, is_over, waiting}
+use Rattle.dover_model.specs.Common.{held, privileged, running, left, latest_start, room, demand_up_to, value_sum}
+use Rattle.dover_model.specs.Common.{is_end, Entry, entry_of, wins_tie, due_first, earlier, first, is_heavy, Move}
+use Rattle.dover_model.specs.Common.{Prints, Waits, Ticks, View, view, is_at_latest_start, runs, resumed, preempts}
+use Rattle.dover_model.specs.Common.{with_role, IsMember, Each, EachTwo, IsNumberedFrom, NoneRuns, IsSound}
+use Rattle.dover_model.specs.Entries.{comes_first_by}
 use Rattle.dover_model.proofs.lists.Members.{filter_member, member_filter, found, not_found, reduce_least, reduce_none}
 use Rattle.dover_model.proofs.lists.Members.{sum_le}
 use Rattle.dover_model.proofs.steps.Roles.{passes, fails, is_coming_role, is_fresh_role, is_waiting_role, is_held_role}

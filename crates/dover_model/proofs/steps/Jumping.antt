@@ -1,14 +1,10 @@
 -- Silent ticks taken at once.
 use Rattle.std.proofs.Common.{◌≡◌, ℕ, zero, suc, ◌+◌, ◌-◌, ◌≤◌, ◌<◌, List, [], map, None, refl, sym, ap, ◌∙◌, subst}
 use Rattle.std.proofs.Common.{Bool, true, false, cond, arith, add-zero, add_assoc}
-use Rattle.dover_model.specs.Fraction.{Fraction}
-use Rattle.dover_model.specs.declared.events.Role.TheVariants.{Coming, Fresh, Waiting, Held, Running}
-use Rattle.dover_model.specs.declared.events.Task.{Task}
-use Rattle.dover_model.specs.Instance.{Instance, IsValid, bare}
-use Rattle.dover_model.specs.State.{State, is_ready_behind, is_running, left, latest_start}
-use Rattle.dover_model.specs.Step.{Move, Ticks, after, open_step, ticked, due_finish, finish_or, declared_open_step}
-use Rattle.dover_model.specs.Sound.{Keeps}
-use Rattle.dover_model.specs.Jumps.{ticked_by, later_by, NothingDue}
+use Rattle.dover_model.specs.Common.{Fraction, Coming, Fresh, Waiting, Held, Running, Task, Instance, IsValid, bare}
+use Rattle.dover_model.specs.Common.{State, is_ready_behind, is_running, left, latest_start, Move, Ticks, after}
+use Rattle.dover_model.specs.Common.{open_step, ticked, due_finish, finish_or, declared_open_step, Keeps, ticked_by}
+use Rattle.dover_model.specs.Common.{later_by, NothingDue}
 use Rattle.dover_model.proofs.lists.Members.{on_map, map_map, map_same, map_self, map_member}
 use Rattle.dover_model.proofs.steps.Roles.{passes}
 use Rattle.dover_model.proofs.steps.Deeds.{Deed, Completed, Resumed, Started, Began, Preempted, Stayed, Arrived, Taken}

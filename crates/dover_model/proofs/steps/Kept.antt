@@ -3,18 +3,12 @@ use Rattle.std.proofs.Common.{◌≡◌, ℕ, suc, ◌+◌, ◌≤◌, ◌⊎◌
 use Rattle.std.proofs.Common.{true, false, cond, arith, eqb}
 use Rattle.std.specs.Bool.{then_some}
 use Rattle.std.specs.List.{AllByRecursion, list_all, filter}
-use Rattle.dover_model.specs.JobFacts.{JobFacts, IsJob}
-use Rattle.dover_model.specs.Instance.{Rules, Instance, IsValid}
-use Rattle.dover_model.specs.Fraction.{Fraction}
-use Rattle.dover_model.specs.declared.events.Role.{Role}
-use Rattle.dover_model.specs.declared.events.Role.TheVariants.{Coming, Fresh, Waiting, Held, Running, Done, Gone}
-use Rattle.dover_model.specs.declared.events.Event.TheVariants.{Take, End}
-use Rattle.dover_model.specs.declared.events.Task.{Task}
-use Rattle.dover_model.specs.State.{State, opening, to_come, is_running, is_over, is_done, is_ready_behind}
-use Rattle.dover_model.specs.State.{is_privileged, left, value_sum}
-use Rattle.dover_model.specs.Step.{Move, Prints, Waits, Ticks, view, after, with_role, displaced, role_after, ticked}
-use Rattle.dover_model.specs.Step.{step, open_step, declared_step, declared_open_step, ending, ◌or_else◌}
-use Rattle.dover_model.specs.Sound.{IsMember, Each, EachTwo, IsNumberedFrom, FitsRole, IsSound, jobs_of, Keeps}
+use Rattle.dover_model.specs.Common.{JobFacts, IsJob, Rules, Instance, IsValid, Fraction, Role, Coming, Fresh, Waiting}
+use Rattle.dover_model.specs.Common.{Held, Running, Done, Gone, Take, End, Task, State, opening, to_come, is_running}
+use Rattle.dover_model.specs.Common.{is_over, is_done, is_ready_behind, is_privileged, left, value_sum, Move, Prints}
+use Rattle.dover_model.specs.Common.{Waits, Ticks, view, after, with_role, displaced, role_after, ticked, step}
+use Rattle.dover_model.specs.Common.{open_step, declared_step, declared_open_step, ending, ◌or_else◌, IsMember, Each}
+use Rattle.dover_model.specs.Common.{EachTwo, IsNumberedFrom, FitsRole, IsSound, jobs_of, Keeps}
 use Rattle.dover_model.proofs.lists.Members.{map_member, map_same, map_self, map_map, all_member}
 use Rattle.dover_model.proofs.steps.Roles.{passes, numbers_above, is_privileged_role, one_number}
 use Rattle.dover_model.proofs.steps.Loads.{with_roles, state_in}

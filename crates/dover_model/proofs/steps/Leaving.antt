@@ -2,14 +2,8 @@
 use Rattle.std.proofs.Common.{◌≡◌, ℕ, ◌+◌, ◌≤◌, refl, sym, subst, Bool, true, false, not, cond, eqb, arith}
 use Rattle.std.specs.Prelude.{◌&&◌}
 use Rattle.std.specs.List.{sum_by}
-use Rattle.dover_model.specs.declared.events.Role.{Role}
-use Rattle.dover_model.specs.declared.events.Role.TheVariants.{Coming, Fresh, Waiting, Held, Running, Done, Gone}
-use Rattle.dover_model.specs.declared.events.Event.TheVariants.{Preempt, Take}
-use Rattle.dover_model.specs.declared.events.Task.{Task}
-use Rattle.dover_model.specs.State.{State, is_waiting}
-use Rattle.dover_model.specs.Step.{Prints, with_role, displaced}
-use Rattle.dover_model.specs.Sound.{IsMember, IsSound}
-use Rattle.dover_model.specs.WaitingMoves.{leaves}
+use Rattle.dover_model.specs.Common.{Role, Coming, Fresh, Waiting, Held, Running, Done, Gone, Preempt, Take, Task}
+use Rattle.dover_model.specs.Common.{State, is_waiting, Prints, with_role, displaced, IsMember, IsSound, leaves}
 use Rattle.dover_model.proofs.lists.Members.{sum_le, sum_zero}
 use Rattle.dover_model.proofs.steps.Roles.{passes, one_number}
 use Rattle.dover_model.proofs.steps.Loads.{sum_change}

@@ -4,11 +4,9 @@ use Rattle.std.proofs.Common.{false, cond, arith, ◌<◌}
 use Rattle.std.specs.Prelude.{nat_lt}
 use Rattle.std.specs.List.{sum_by, filter}
 use Rattle.std.proofs.lemmas.List.Sums.{sum_by-cons}
-use Rattle.dover_model.specs.declared.events.Role.{Role}
-use Rattle.dover_model.specs.declared.events.Task.{Task}
-use Rattle.dover_model.specs.State.{State, is_privileged, left, demand_up_to, privileged}
-use Rattle.dover_model.specs.Step.{with_role}
-use Rattle.dover_model.specs.Sound.{IsMember, Each, IsNumberedFrom, HasRoom}
+use Rattle.dover_model.specs.Common.{Role, Task, State, is_privileged, left, demand_up_to, privileged, with_role}
+use Rattle.dover_model.specs.Common.{IsMember, Each, IsNumberedFrom}
+use Rattle.dover_model.specs.Sound.{HasRoom}
 use Rattle.dover_model.proofs.lists.Members.{sum_filter, sum_le, sum_map, on_map, by_bool}
 use Rattle.dover_model.proofs.steps.Roles.{numbers_above}
 use Rattle.std.proofs.lemmas.Bool.{ltb-true}

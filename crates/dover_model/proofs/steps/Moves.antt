@@ -1,13 +1,9 @@
 -- Each change of one job's role that a step makes is allowed.
 use Rattle.std.proofs.Common.{◌≡◌, ℕ, ◌+◌, ◌≤◌, ◌<◌, ◌⊎◌, inl, inr, refl, sym, ap, ◌∙◌, subst, true, arith}
 use Rattle.std.specs.List.{sum_by}
-use Rattle.dover_model.specs.declared.events.Role.{Role}
-use Rattle.dover_model.specs.declared.events.Role.TheVariants.{Coming, Fresh, Waiting, Held, Running, Done, Gone}
-use Rattle.dover_model.specs.declared.events.Task.{Task}
-use Rattle.dover_model.specs.JobFacts.{IsJob}
-use Rattle.dover_model.specs.State.{State, is_privileged, left, latest_start}
-use Rattle.dover_model.specs.Step.{with_role, displaced}
-use Rattle.dover_model.specs.Sound.{IsMember, Each, FitsRole, NoneRuns, IsSound}
+use Rattle.dover_model.specs.Common.{Role, Coming, Fresh, Waiting, Held, Running, Done, Gone, Task, IsJob, State}
+use Rattle.dover_model.specs.Common.{is_privileged, left, latest_start, with_role, displaced, IsMember, Each, FitsRole}
+use Rattle.dover_model.specs.Common.{NoneRuns, IsSound}
 use Rattle.dover_model.proofs.lists.Members.{by_bool, on_map, sum_map, sum_zero}
 use Rattle.dover_model.proofs.steps.Roles.{numbered_map, passes, is_privileged_role}
 use Rattle.dover_model.proofs.steps.Loads.{with_roles, state_in, Fits, fits_of_room, fits_fewer, share, load}

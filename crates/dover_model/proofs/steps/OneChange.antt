@@ -1,12 +1,8 @@
 -- What one job's new role has to meet, so that a sound state stays sound.
 use Rattle.std.proofs.Common.{◌≡◌, ℕ, ◌≤◌, ◌<◌, List, refl, sym, ◌∙◌, subst, Bool, true, false, cond, eqb}
 use Rattle.std.proofs.lemmas.Bool.{eqb-true, eq-eqb, ne_eqb}
-use Rattle.dover_model.specs.declared.events.Role.{Role}
-use Rattle.dover_model.specs.declared.events.Role.TheVariants.{Coming, Fresh, Held, Running}
-use Rattle.dover_model.specs.declared.events.Task.{Task}
-use Rattle.dover_model.specs.State.{State, is_privileged}
-use Rattle.dover_model.specs.Step.{with_role}
-use Rattle.dover_model.specs.Sound.{IsMember, Each, EachTwo, IsNumberedFrom, FitsRole, IsSound}
+use Rattle.dover_model.specs.Common.{Role, Coming, Fresh, Held, Running, Task, State, is_privileged, with_role}
+use Rattle.dover_model.specs.Common.{IsMember, Each, EachTwo, IsNumberedFrom, FitsRole, IsSound}
 use Rattle.dover_model.proofs.lists.Members.{on_map, map_member}
 use Rattle.dover_model.proofs.steps.Roles.{one_number, numbered_map}
 use Rattle.dover_model.proofs.steps.Loads.{with_roles, state_in, Fits, room_of_fits}

@@ -1,13 +1,8 @@
 -- A preemption as three changes of one role each: the fresh job waits, the running job is held, and the waiting job
 -- runs.
 use Rattle.std.proofs.Common.{◌≡◌, ◌≤◌, ◌<◌, List, map, refl, sym, ap, ◌∙◌, subst, Bool, true, false, cond, arith, eqb}
-use Rattle.dover_model.specs.declared.events.Role.{Role}
-use Rattle.dover_model.specs.declared.events.Role.TheVariants.{Fresh, Waiting, Held, Running}
-use Rattle.dover_model.specs.declared.events.Event.TheVariants.{Preempt}
-use Rattle.dover_model.specs.declared.events.Task.{Task}
-use Rattle.dover_model.specs.State.{State, is_privileged, left}
-use Rattle.dover_model.specs.Step.{Prints, after, with_role}
-use Rattle.dover_model.specs.Sound.{IsMember, Each, NoneRuns, FitsRole, IsSound}
+use Rattle.dover_model.specs.Common.{Role, Fresh, Waiting, Held, Running, Preempt, Task, State, is_privileged, left}
+use Rattle.dover_model.specs.Common.{Prints, after, with_role, IsMember, Each, NoneRuns, FitsRole, IsSound}
 use Rattle.dover_model.proofs.lists.Members.{map_same, map_map}
 use Rattle.dover_model.proofs.steps.Loads.{Fits}
 use Rattle.dover_model.proofs.steps.OneChange.{changed, state_with, on_changed, changed_here, changed_there}

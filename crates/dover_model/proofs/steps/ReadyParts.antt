@@ -6,25 +6,18 @@ use Rattle.std.specs.List.{filter, find, sum_by}
 use Rattle.std.proofs.lemmas.Bool.{not-false, ne_eqb}
 use Rattle.std.proofs.lemmas.List.Sums.{sum_by-cons}
 use Rattle.dover_model.proofs.steps.Roles.{passes, is_over_role, one_number, by_role}
-use Rattle.dover_model.specs.declared.events.Role.TheVariants.{Done, Gone, Waiting, Coming, Fresh, Held, Running}
-use Rattle.dover_model.specs.declared.events.Task.{Task}
-use Rattle.dover_model.specs.State.{is_over, State, is_coming, is_fresh, is_waiting, is_held, is_running, is_privileged}
-use Rattle.dover_model.specs.State.{is_done, value_sum}
-use Rattle.dover_model.specs.Step.{with_role, view, Ticks, open_step, urgent_or, Move, Prints, Waits, role_after}
-use Rattle.dover_model.specs.Step.{ticked, after, displaced, due_finish, finish_or, declared_open_step}
-use Rattle.dover_model.specs.Ready.{is_ready, ready_part}
-use Rattle.dover_model.specs.declared.events.Version.{Version}
-use Rattle.dover_model.specs.Instance.{Rules, Instance, IsValid}
-use Rattle.dover_model.specs.declared.events.Role.{Role}
-use Rattle.dover_model.specs.Sound.{IsMember, IsSound, Each, Keeps}
+use Rattle.dover_model.specs.Common.{Done, Gone, Waiting, Coming, Fresh, Held, Running, Task, is_over, State, is_coming}
+use Rattle.dover_model.specs.Common.{is_fresh, is_waiting, is_held, is_running, is_privileged, is_done, value_sum}
+use Rattle.dover_model.specs.Common.{with_role, view, Ticks, open_step, urgent_or, Move, Prints, Waits, role_after}
+use Rattle.dover_model.specs.Common.{ticked, after, displaced, due_finish, finish_or, declared_open_step, is_ready}
+use Rattle.dover_model.specs.Common.{Version, Rules, Instance, IsValid, Role, IsMember, IsSound, Each, Keeps, Fraction}
+use Rattle.dover_model.specs.Common.{IsSilent, is_finish_of}
+use Rattle.dover_model.specs.Ready.{ready_part}
 use Rattle.dover_model.proofs.lists.Tests.{never}
-use Rattle.dover_model.specs.Fraction.{Fraction}
 use Rattle.dover_model.proofs.steps.Deeds.{Deed, Completed, Resumed, Started, Began, Preempted, Stayed, Arrived, Taken}
 use Rattle.dover_model.proofs.steps.Deeds.{Abandoned, Rested}
 use Rattle.dover_model.proofs.lists.Members.{sum_filter}
 use Rattle.dover_model.proofs.steps.Kept.{open_deed}
-use Rattle.dover_model.specs.Leading.{IsSilent}
-use Rattle.dover_model.specs.Finishes.{is_finish_of}
 
 -- ---- what is seen
 

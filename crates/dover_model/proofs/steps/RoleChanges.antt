@@ -3,11 +3,7 @@ use Rattle.std.proofs.Common.{◌≡◌, ℕ, suc, ◌-◌, ◌≤◌, inl, inr,
 use Rattle.std.proofs.Common.{Bool, true, false, cond}
 use Rattle.std.specs.Prelude.{Some, ◌==◌, if◌then◌else◌}
 use Rattle.std.specs.List.{slice_get}
-use Rattle.dover_model.specs.declared.events.Role.{Role}
-use Rattle.dover_model.specs.declared.events.Role.TheVariants.{Waiting}
-use Rattle.dover_model.specs.declared.events.Task.{Task}
-use Rattle.dover_model.specs.Sound.{IsMember, IsNumberedFrom}
-use Rattle.dover_model.specs.Step.{with_role, displaced}
+use Rattle.dover_model.specs.Common.{Role, Waiting, Task, IsMember, IsNumberedFrom, with_role, displaced}
 use Rattle.dover_model.proofs.steps.Roles.{numbers_above, one_number}
 use Rattle.dover_model.proofs.lists.Members.{map_map, map_same}
 

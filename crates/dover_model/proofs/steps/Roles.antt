@@ -1,13 +1,9 @@
 -- The tests of roles, and the job of a number.
 use Rattle.std.proofs.Common.{◌≡◌, ℕ, suc, ◌≤◌, ◌⊎◌, inl, inr, List, [], ◌∷◌, map, refl, sym, ap, ◌∙◌, subst, Bool}
 use Rattle.std.proofs.Common.{true, false, arith}
-use Rattle.dover_model.specs.declared.events.Role.{Role}
-use Rattle.dover_model.specs.declared.events.Role.TheVariants.{Coming, Fresh, Waiting, Held, Running, Done, Gone}
-use Rattle.dover_model.specs.declared.events.Task.{Task}
-use Rattle.dover_model.specs.State.{is_coming, is_fresh, is_waiting, is_held, is_running, is_privileged}
-use Rattle.dover_model.specs.State.{is_ready_behind, is_over}
-use Rattle.dover_model.specs.Step.{with_role}
-use Rattle.dover_model.specs.Sound.{IsMember, Each, IsNumberedFrom}
+use Rattle.dover_model.specs.Common.{Role, Coming, Fresh, Waiting, Held, Running, Done, Gone, Task, is_coming, is_fresh}
+use Rattle.dover_model.specs.Common.{is_waiting, is_held, is_running, is_privileged, is_ready_behind, is_over}
+use Rattle.dover_model.specs.Common.{with_role, IsMember, Each, IsNumberedFrom}
 use Rattle.dover_model.proofs.lists.Tests.{never}
 
 -- a test of a job by its role

@@ -2,9 +2,7 @@
 use Rattle.std.proofs.Common.{ℕ, ◌+◌, ◌-◌, ◌≤◌, List, [], ◌∷◌, map, ◌<◌, inl, inr, refl, arith}
 use Rattle.std.proofs.lemmas.Bool.{cases_lt}
 use Rattle.std.specs.Prelude.{◌⊎◌}
-use Rattle.dover_model.specs.declared.events.Task.{Task}
-use Rattle.dover_model.specs.State.{demand_up_to, least, room}
-use Rattle.dover_model.specs.Sound.{IsMember, Each}
+use Rattle.dover_model.specs.Common.{Task, demand_up_to, least, room, IsMember, Each}
 use Rattle.dover_model.proofs.lists.Members.{map_member}
 
 -- the least is at most each

@@ -5,24 +5,12 @@ use Rattle.std.specs.Prelude.{Option, Some, None, nat_lt, ◌==◌, ◌&&◌}
 use Rattle.std.specs.Bool.{then_some}
 use Rattle.std.specs.List.{filter, filter_map, cons_option}
 use Rattle.std.proofs.lemmas.Bool.{eqb-true, eq-eqb, ne_eqb, and_parts, lt-ltb, ltb-true}
-use Rattle.dover_model.specs.JobFacts.{JobFacts}
-use Rattle.dover_model.specs.Fraction.{Fraction}
-use Rattle.dover_model.specs.declared.events.Event.TheVariants.{Release, Run, Preempt, Take, Complete, Abandon, End}
-use Rattle.dover_model.specs.declared.events.Role.{Role}
-use Rattle.dover_model.specs.declared.events.Role.TheVariants.{Coming, Fresh, Waiting, Held, Running, Done, Gone}
-use Rattle.dover_model.specs.declared.events.Task.{Task}
-use Rattle.dover_model.specs.Finishes.{Finish, has_come_to}
-use Rattle.dover_model.specs.State.{State, is_coming}
-use Rattle.dover_model.specs.State.{running, left}
-use Rattle.dover_model.specs.Step.{Move, Prints, Waits, Ticks}
-use Rattle.dover_model.specs.Step.{after, with_role, displaced, ticked}
-use Rattle.dover_model.specs.Run.{Step}
-use Rattle.dover_model.specs.Settled.{finish_now}
-use Rattle.dover_model.specs.Processor.{is_complete}
-use Rattle.dover_model.specs.Sound.{IsMember, Each, IsNumberedFrom, IsSound}
-use Rattle.dover_model.specs.Session.{Item, JobItem, RefusedItem, FinishItem}
-use Rattle.dover_model.specs.Session.{admitted_jobs}
-use Rattle.dover_model.specs.Trace.{early_of, handed_by}
+use Rattle.dover_model.specs.Common.{JobFacts, Fraction, Release, Run, Preempt, Take, Complete, Abandon, End, Role}
+use Rattle.dover_model.specs.Common.{Coming, Fresh, Waiting, Held, Running, Done, Gone, Task, Finish, has_come_to}
+use Rattle.dover_model.specs.Common.{State, is_coming, running, left, Move, Prints, Waits, Ticks, after, with_role}
+use Rattle.dover_model.specs.Common.{displaced, ticked, Step, finish_now, is_complete, IsMember, Each, IsNumberedFrom}
+use Rattle.dover_model.specs.Common.{IsSound, Item, JobItem, RefusedItem, FinishItem, admitted_jobs, early_of}
+use Rattle.dover_model.specs.Common.{handed_by}
 use Rattle.dover_model.proofs.lists.Members.{some_same}
 use Rattle.dover_model.proofs.steps.Roles.{passes, numbers_above}
 use Rattle.dover_model.proofs.steps.OneChange.{changed}

@@ -3,12 +3,9 @@ use Rattle.std.proofs.Common.{◌≡◌, ℕ, ◌+◌, ◌-◌, ◌≤◌, ◌<�
 use Rattle.std.proofs.Common.{arith}
 use Rattle.std.specs.List.{sum_by}
 use Rattle.std.proofs.lemmas.Bool.{lt-ltb}
-use Rattle.dover_model.specs.declared.events.Role.{Role}
-use Rattle.dover_model.specs.declared.events.Role.TheVariants.{Coming, Fresh, Waiting, Held, Running, Done, Gone}
-use Rattle.dover_model.specs.declared.events.Task.{Task}
-use Rattle.dover_model.specs.State.{State, is_privileged, is_running, is_ready_behind, left, latest_start}
-use Rattle.dover_model.specs.Step.{Ticks, after, with_role, ticked}
-use Rattle.dover_model.specs.Sound.{IsMember, Each, EachTwo, FitsRole, NoneRuns, IsSound}
+use Rattle.dover_model.specs.Common.{Role, Coming, Fresh, Waiting, Held, Running, Done, Gone, Task, State}
+use Rattle.dover_model.specs.Common.{is_privileged, is_running, is_ready_behind, left, latest_start, Ticks, after}
+use Rattle.dover_model.specs.Common.{with_role, ticked, IsMember, Each, EachTwo, FitsRole, NoneRuns, IsSound}
 use Rattle.dover_model.proofs.lists.Members.{on_map, sum_map, sum_le}
 use Rattle.dover_model.proofs.steps.Roles.{one_number, numbered_map, passes, is_running_role, is_privileged_role}
 use Rattle.dover_model.proofs.steps.Loads.{Fits, room_of_fits, fits_of_room, share, load, sum_change}

@@ -6,17 +6,11 @@ use Rattle.std.specs.Prelude.{nat_le, ◌&&◌}
 use Rattle.std.specs.Bool.{then_some}
 use Rattle.std.specs.List.{sum_by, list_all, filter}
 use Rattle.std.proofs.lemmas.Bool.{eqb-true, le-leb, leb-true, lt-ltb, and_parts, and_from}
-use Rattle.dover_model.specs.Fraction.{Fraction}
-use Rattle.dover_model.specs.JobFacts.{JobFacts}
-use Rattle.dover_model.specs.declared.events.Event.TheVariants.{Take, End}
-use Rattle.dover_model.specs.declared.events.Role.{Role}
-use Rattle.dover_model.specs.declared.events.Role.TheVariants.{Coming, Fresh, Waiting, Held, Running, Done, Gone}
-use Rattle.dover_model.specs.declared.events.Task.{Task}
-use Rattle.dover_model.specs.Instance.{Rules, Instance, IsValid}
-use Rattle.dover_model.specs.State.{State, opening, is_privileged, is_running, is_ready_behind, is_over, is_done, left}
-use Rattle.dover_model.specs.State.{latest_start, value_sum}
-use Rattle.dover_model.specs.Step.{Move, Prints, Ticks, step, after, ending, ◌or_else◌, with_role, displaced, ticked}
-use Rattle.dover_model.specs.Sound.{IsMember, Each, EachTwo, IsSound, Keeps, NoneRuns}
+use Rattle.dover_model.specs.Common.{Fraction, JobFacts, Take, End, Role, Coming, Fresh, Waiting, Held, Running, Done}
+use Rattle.dover_model.specs.Common.{Gone, Task, Rules, Instance, IsValid, State, opening, is_privileged, is_running}
+use Rattle.dover_model.specs.Common.{is_ready_behind, is_over, is_done, left, latest_start, value_sum, Move, Prints}
+use Rattle.dover_model.specs.Common.{Ticks, step, after, ending, ◌or_else◌, with_role, displaced, ticked, IsMember}
+use Rattle.dover_model.specs.Common.{Each, EachTwo, IsSound, Keeps, NoneRuns}
 use Rattle.dover_model.proofs.lists.Members.{on_map, by_bool, sum_map, sum_le, sum_zero, sum_plus, sum_same}
 use Rattle.dover_model.proofs.lists.Members.{term_le_sum, cond_le}
 use Rattle.dover_model.proofs.steps.Roles.{passes, one_number, is_privileged_role, is_running_role}

@@ -10,15 +10,11 @@ use Rattle.std.proofs.lemmas.Nat.{mul-le}
 use Rattle.std.proofs.lemmas.Bool.{eqb-true, eq-eqb, ne_eqb, leb-true, leb-false, le-leb, ltb-true, and_parts}
 use Rattle.std.proofs.lemmas.Bool.{and_from, cases_lt}
 use Rattle.std.proofs.lemmas.List.Sums.{sum_by-cons}
-use Rattle.dover_model.specs.Fraction.{Fraction}
-use Rattle.dover_model.specs.JobFacts.{JobFacts, IsJob}
-use Rattle.dover_model.specs.Instance.{Instance, IsValid}
-use Rattle.dover_model.specs.Schedules.{numbered}
-use Rattle.dover_model.specs.Orders.{IsHeavy}
-use Rattle.dover_model.specs.Sound.{IsMember, Each, EachTwo}
-use Rattle.dover_model.specs.Sure.{crosses, chosen_value, chosen_work, CanHold, IsHeavyAt, NoneDisplaces, IsCompleted}
-use Rattle.dover_model.specs.Sure.{Stream, stream_at, blank_stream, AreOfStreams, most_crossing, work_within, CanStack}
-use Rattle.dover_model.specs.Sure.{worth_of, is_spread, IsSure, most_beside, IsOfStream, others, best_of, most_fitting}
+use Rattle.dover_model.specs.Common.{Fraction, JobFacts, IsJob, Instance, IsValid, numbered, IsHeavy, IsMember, Each}
+use Rattle.dover_model.specs.Common.{EachTwo, IsHeavyAt, NoneDisplaces, IsCompleted, Stream, stream_at, blank_stream}
+use Rattle.dover_model.specs.Common.{AreOfStreams, most_crossing, CanStack, worth_of, is_spread, IsSure, most_beside}
+use Rattle.dover_model.specs.Common.{IsOfStream, others, best_of, most_fitting}
+use Rattle.dover_model.specs.Sure.{crosses, chosen_value, chosen_work, CanHold, work_within}
 use Rattle.dover_model.proofs.lists.Members.{sum_le, sum_same, sum_zero, sum_plus, term_le_sum, all_member}
 use Rattle.dover_model.proofs.valid.JobLimits.{JobLimits, job_limits}
 use Rattle.dover_model.proofs.valid.ValidParts.{valid_parts}

@@ -5,25 +5,14 @@ use Rattle.std.specs.Prelude.{Option, Some, None, nat_le, nat_lt, ◌&&◌, not}
 use Rattle.std.specs.Bool.{MatchBool, then_some}
 use Rattle.std.specs.List.{sum_by, list_all, filter, find, cons_option, enumerate_from}
 use Rattle.std.proofs.lemmas.Bool.{eqb-true, eqb-false, eq-eqb, ne_eqb, le-leb, lt-ltb, and_from, cases_lt}
-use Rattle.dover_model.specs.Fraction.{Fraction}
-use Rattle.dover_model.specs.JobFacts.{JobFacts}
-use Rattle.dover_model.specs.declared.events.Event.{Event}
-use Rattle.dover_model.specs.declared.events.Event.TheVariants.{Complete, End}
-use Rattle.dover_model.specs.declared.events.Role.{Role}
-use Rattle.dover_model.specs.declared.events.Role.TheVariants.{Coming, Fresh, Waiting, Held, Running, Done, Gone}
-use Rattle.dover_model.specs.declared.events.Task.{Task}
-use Rattle.dover_model.specs.Instance.{Instance, IsValid}
-use Rattle.dover_model.specs.Schedules.{numbered}
-use Rattle.dover_model.specs.State.{State, opening, is_privileged, is_over, is_done, left, latest_start, privileged}
-use Rattle.dover_model.specs.State.{value_sum}
-use Rattle.dover_model.specs.Orders.{IsHeavy, is_heavy}
-use Rattle.dover_model.specs.Step.{Move, Prints, Ticks, step, after, ending, ◌or_else◌, with_role, displaced, ticked}
-use Rattle.dover_model.specs.Run.{Step, is_end, run, printed, printed_of, event_of}
-use Rattle.dover_model.specs.WholeRun.{IsWholeRun}
-use Rattle.dover_model.specs.Sound.{IsMember, Each, IsNumberedFrom, IsSound, Keeps, jobs_of}
-use Rattle.dover_model.specs.Sure.{crosses, crossing_beside, worth_beside, chosen_value, chosen_work, CanHold}
-use Rattle.dover_model.specs.Sure.{IsHeavyAt}
-use Rattle.dover_model.specs.Sure.{FitWindows, NoneDisplaces, IsCompleted}
+use Rattle.dover_model.specs.Common.{Fraction, JobFacts, Event, Complete, End, Role, Coming, Fresh, Waiting, Held}
+use Rattle.dover_model.specs.Common.{Running, Done, Gone, Task, Instance, IsValid, numbered, State, opening}
+use Rattle.dover_model.specs.Common.{is_privileged, is_over, is_done, left, latest_start, privileged, value_sum}
+use Rattle.dover_model.specs.Common.{IsHeavy, is_heavy, Move, Prints, Ticks, step, after, ending, ◌or_else◌, with_role}
+use Rattle.dover_model.specs.Common.{displaced, ticked, Step, is_end, run, printed, printed_of, event_of, IsWholeRun}
+use Rattle.dover_model.specs.Common.{IsMember, Each, IsNumberedFrom, IsSound, Keeps, jobs_of, worth_beside, IsHeavyAt}
+use Rattle.dover_model.specs.Common.{NoneDisplaces, IsCompleted}
+use Rattle.dover_model.specs.Sure.{crosses, crossing_beside, chosen_value, chosen_work, CanHold, FitWindows}
 use Rattle.dover_model.proofs.lists.Members.{on_map, map_member, filter_member, sum_filter, sum_le, sum_same}
 use Rattle.dover_model.proofs.lists.Members.{sum_zero, term_le_sum, cond_le, found, not_found}
 use Rattle.dover_model.proofs.valid.JobLimits.{JobLimits, job_limits}

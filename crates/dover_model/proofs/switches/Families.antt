@@ -6,12 +6,8 @@ use Rattle.std.specs.List.{count_by}
 use Rattle.std.proofs.lemmas.Bool.{le-leb, leb-true, lt-ltb, ltb-true, and_parts}
 use Rattle.std.proofs.lemmas.Nat.{mul-le}
 use Rattle.std.proofs.lemmas.List.Sums.{sum_by-cons}
-use Rattle.dover_model.specs.Fraction.{Fraction}
-use Rattle.dover_model.specs.JobFacts.{JobFacts}
-use Rattle.dover_model.specs.Orders.{is_heavy}
-use Rattle.dover_model.specs.Sound.{Each}
-use Rattle.dover_model.specs.Switches.{may_preempt, may_take, AreSpaced, AreOfTask}
-use Rattle.dover_model.specs.Weights.{one_if}
+use Rattle.dover_model.specs.Common.{Fraction, JobFacts, is_heavy, Each, may_preempt, may_take, AreOfTask, one_if}
+use Rattle.dover_model.specs.Switches.{AreSpaced}
 use Rattle.dover_model.proofs.lists.Members.{sum_le, sum_map}
 use Rattle.dover_model.proofs.lists.Tests.{never}
 

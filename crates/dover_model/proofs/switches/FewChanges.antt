@@ -6,25 +6,12 @@ use Rattle.std.specs.List.{count_by, sum_by, list_all, filter, enumerate_from}
 use Rattle.std.specs.Prelude.{nat_lt}
 use Rattle.std.proofs.lemmas.Bool.{eqb-true, eqb-false, eq-eqb, ne_eqb, cases_lt, lt-ltb, ltb-true}
 use Rattle.std.proofs.lemmas.List.Sums.{sum_by-cons}
-use Rattle.dover_model.specs.JobFacts.{JobFacts}
-use Rattle.dover_model.specs.Fraction.{Fraction}
-use Rattle.dover_model.specs.Books.{Job}
-use Rattle.dover_model.specs.declared.events.Role.{Role}
-use Rattle.dover_model.specs.declared.events.Role.TheVariants.{Coming, Fresh, Waiting, Held, Running, Done, Gone}
-use Rattle.dover_model.specs.declared.events.Event.TheVariants.{End}
-use Rattle.dover_model.specs.declared.events.Task.{Task}
-use Rattle.dover_model.specs.Instance.{Instance, IsValid}
-use Rattle.dover_model.specs.Schedules.{numbered}
-use Rattle.dover_model.specs.State.{State, opening, is_over, is_done, is_privileged, value_sum, privileged}
-use Rattle.dover_model.specs.Orders.{is_heavy}
-use Rattle.dover_model.specs.Step.{Move, Prints, Waits, Ticks, step, after, ◌or_else◌, displaced}
-use Rattle.dover_model.specs.Run.{Step, is_end, run}
-use Rattle.dover_model.specs.WholeRun.{IsWholeRun, step_at}
-use Rattle.dover_model.specs.WaitingMoves.{role_then}
-use Rattle.dover_model.specs.Processor.{is_take_of, is_preempt_of}
-use Rattle.dover_model.specs.Switches.{changes_hands}
-use Rattle.dover_model.specs.Sound.{IsMember, Each, EachTwo, IsSound, Keeps}
-use Rattle.dover_model.specs.Weights.{one_if}
+use Rattle.dover_model.specs.Common.{JobFacts, Fraction, Job, Role, Coming, Fresh, Waiting, Held, Running, Done, Gone}
+use Rattle.dover_model.specs.Common.{End, Task, Instance, IsValid, numbered, State, opening, is_over, is_done}
+use Rattle.dover_model.specs.Common.{is_privileged, value_sum, privileged, is_heavy, Move, Prints, Waits, Ticks, step}
+use Rattle.dover_model.specs.Common.{after, ◌or_else◌, displaced, Step, is_end, run, IsWholeRun, step_at, role_then}
+use Rattle.dover_model.specs.Common.{is_take_of, is_preempt_of, changes_hands, IsMember, Each, EachTwo, IsSound, Keeps}
+use Rattle.dover_model.specs.Common.{one_if}
 use Rattle.dover_model.proofs.lists.Members.{map_member, on_map, filter_member, sum_le, sum_plus, sum_zero, term_le_sum}
 use Rattle.dover_model.proofs.steps.Roles.{passes, one_number}
 use Rattle.dover_model.proofs.bound.Calculus.{heavy_more}

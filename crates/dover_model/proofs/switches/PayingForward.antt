@@ -6,28 +6,16 @@ use Rattle.std.specs.Bool.{MatchBool, then_some}
 use Rattle.std.specs.List.{count_by, sum_by, list_all, filter, cons_option}
 use Rattle.std.proofs.lemmas.Bool.{eqb-true}
 use Rattle.std.proofs.lemmas.List.Sums.{sum_by-cons}
-use Rattle.dover_model.specs.JobFacts.{JobFacts}
-use Rattle.dover_model.specs.Fraction.{Fraction}
-use Rattle.dover_model.specs.Finishes.{need}
-use Rattle.dover_model.specs.declared.events.Role.{Role}
-use Rattle.dover_model.specs.declared.events.Role.TheVariants.{Coming, Fresh, Waiting, Held, Running, Done, Gone}
-use Rattle.dover_model.specs.declared.events.Event.TheVariants.{Release, Run, Preempt, Take, Complete, Abandon, End}
-use Rattle.dover_model.specs.declared.events.Task.{Task}
-use Rattle.dover_model.specs.Instance.{Instance, IsValid}
-use Rattle.dover_model.specs.Schedules.{numbered, ticks_given}
-use Rattle.dover_model.specs.Observed.{end_state}
-use Rattle.dover_model.specs.State.{State, opening, is_fresh, is_over, is_done, is_running, is_ready_behind, running}
-use Rattle.dover_model.specs.State.{value_sum}
-use Rattle.dover_model.specs.Step.{Move, Prints, Waits, Ticks, step, after, ◌or_else◌, ticked}
-use Rattle.dover_model.specs.Run.{Step, is_end, run, ran, tick_of, number_running}
-use Rattle.dover_model.specs.WholeRun.{IsWholeRun, step_at}
-use Rattle.dover_model.specs.Processor.{is_take_of, is_preempt_of, is_complete}
-use Rattle.dover_model.specs.Books.{is_busy_tick}
-use Rattle.dover_model.specs.Switches.{gets, is_complete_of, is_fresh_in, starts, returns, returns_by}
-use Rattle.dover_model.specs.Forward.{is_tick_of, completes_next, gains_from, must_load}
-use Rattle.dover_model.specs.Forward.{holds_then, AreLoaded}
-use Rattle.dover_model.specs.Sound.{IsMember, Each, NoneRuns, IsSound, Keeps}
-use Rattle.dover_model.specs.Weights.{one_if}
+use Rattle.dover_model.specs.Common.{JobFacts, Fraction, need, Role, Coming, Fresh, Waiting, Held, Running, Done, Gone}
+use Rattle.dover_model.specs.Common.{Release, Run, Preempt, Take, Complete, Abandon, End, Task, Instance, IsValid}
+use Rattle.dover_model.specs.Common.{numbered, ticks_given, end_state, State, opening, is_fresh, is_over, is_done}
+use Rattle.dover_model.specs.Common.{is_running, is_ready_behind, running, value_sum, Move, Prints, Waits, Ticks, step}
+use Rattle.dover_model.specs.Common.{after, ◌or_else◌, ticked, Step, is_end, run, ran, tick_of, number_running}
+use Rattle.dover_model.specs.Common.{IsWholeRun, step_at, is_take_of, is_preempt_of, is_complete, is_busy_tick, gets}
+use Rattle.dover_model.specs.Common.{is_complete_of, starts, returns, gains_from, IsMember, Each, NoneRuns, IsSound}
+use Rattle.dover_model.specs.Common.{Keeps, one_if}
+use Rattle.dover_model.specs.Switches.{is_fresh_in, returns_by}
+use Rattle.dover_model.specs.Forward.{is_tick_of, completes_next, must_load, holds_then, AreLoaded}
 use Rattle.dover_model.proofs.lists.Members.{on_map, found}
 use Rattle.dover_model.proofs.steps.Roles.{passes, is_running_role}
 use Rattle.dover_model.proofs.steps.OneChange.{state_with, on_changed}

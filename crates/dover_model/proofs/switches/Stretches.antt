@@ -8,22 +8,12 @@ use Rattle.std.specs.List.{count_by, cons_option, enumerate_from}
 use Rattle.std.proofs.lemmas.Bool.{eqb-true, eq-eqb, leb-true, leb-false}
 use Rattle.std.proofs.lemmas.Nat.{mul-le}
 use Rattle.std.proofs.lemmas.List.Sums.{sum_by-cons}
-use Rattle.dover_model.specs.JobFacts.{JobFacts}
-use Rattle.dover_model.specs.declared.events.Role.{Role}
-use Rattle.dover_model.specs.declared.events.Role.TheVariants.{Coming, Fresh, Waiting, Held, Running, Done, Gone}
-use Rattle.dover_model.specs.declared.events.Task.{Task}
-use Rattle.dover_model.specs.Finishes.{need}
-use Rattle.dover_model.specs.Instance.{Instance, IsValid}
-use Rattle.dover_model.specs.Schedules.{numbered, ticks_given}
-use Rattle.dover_model.specs.Observed.{end_state}
-use Rattle.dover_model.specs.State.{State, opening, is_running, is_done, is_over, running}
-use Rattle.dover_model.specs.Step.{Move, Prints, Waits, Ticks, step, after}
-use Rattle.dover_model.specs.Run.{Step, is_end, run, ran, tick_of, number_running}
-use Rattle.dover_model.specs.WholeRun.{IsWholeRun, step_at}
-use Rattle.dover_model.specs.WaitingMoves.{role_then}
-use Rattle.dover_model.specs.Switches.{gets, most_changes, useful_from, useful}
-use Rattle.dover_model.specs.Sound.{IsMember, Keeps}
-use Rattle.dover_model.specs.Weights.{one_if}
+use Rattle.dover_model.specs.Common.{JobFacts, Role, Coming, Fresh, Waiting, Held, Running, Done, Gone, Task, need}
+use Rattle.dover_model.specs.Common.{Instance, IsValid, numbered, ticks_given, end_state, State, opening, is_running}
+use Rattle.dover_model.specs.Common.{is_done, is_over, running, Move, Prints, Waits, Ticks, step, after, Step, is_end}
+use Rattle.dover_model.specs.Common.{run, ran, tick_of, number_running, IsWholeRun, step_at, role_then, gets}
+use Rattle.dover_model.specs.Common.{most_changes, useful, IsMember, Keeps, one_if}
+use Rattle.dover_model.specs.Switches.{useful_from}
 use Rattle.dover_model.proofs.lists.Members.{found}
 use Rattle.dover_model.proofs.steps.Roles.{passes, is_running_role, is_over_role, one_number}
 use Rattle.dover_model.proofs.steps.Kept.{step_kept, opening_keeps}

@@ -6,28 +6,16 @@ use Rattle.std.specs.Bool.{MatchBool, then_some}
 use Rattle.std.specs.List.{count_by, sum_by, list_all, list_any, filter, enumerate_from}
 use Rattle.std.proofs.lemmas.Bool.{eqb-true, eqb-false, eq-eqb, ne_eqb, le-leb, lt-ltb}
 use Rattle.std.proofs.lemmas.List.Sums.{sum_by-cons}
-use Rattle.dover_model.specs.JobFacts.{JobFacts}
-use Rattle.dover_model.specs.Fraction.{Fraction}
-use Rattle.dover_model.specs.declared.events.Role.{Role}
-use Rattle.dover_model.specs.declared.events.Role.TheVariants.{Coming, Fresh, Waiting, Held, Running, Done, Gone}
-use Rattle.dover_model.specs.declared.events.Event.TheVariants.{Release, Run, Preempt, Take, Complete, Abandon, End}
-use Rattle.dover_model.specs.declared.events.Task.{Task}
-use Rattle.dover_model.specs.Instance.{Instance, IsValid}
-use Rattle.dover_model.specs.Schedules.{numbered}
-use Rattle.dover_model.specs.State.{State, opening, to_come, is_fresh, is_over, is_done, is_privileged, is_ready_behind}
-use Rattle.dover_model.specs.State.{left, value_sum, privileged}
-use Rattle.dover_model.specs.Orders.{is_heavy}
-use Rattle.dover_model.specs.Step.{Move, Prints, Waits, Ticks, step, after, ending, ◌or_else◌, with_role, displaced}
-use Rattle.dover_model.specs.Step.{ticked}
-use Rattle.dover_model.specs.Step.{role_after}
-use Rattle.dover_model.specs.Run.{Step, is_end, run}
-use Rattle.dover_model.specs.WholeRun.{IsWholeRun, step_at}
-use Rattle.dover_model.specs.WaitingMoves.{role_then}
-use Rattle.dover_model.specs.Processor.{is_take_of, is_preempt_of, is_run, is_complete}
-use Rattle.dover_model.specs.Switches.{gets, changes_hands, is_preempted, is_taken_from, is_complete_of, starts}
-use Rattle.dover_model.specs.Switches.{returns, returns_by, ComesBehind, may_preempt, may_take, most_changes}
-use Rattle.dover_model.specs.Sound.{IsMember, Each, NoneRuns, IsSound, IsNumberedFrom, jobs_of, Keeps}
-use Rattle.dover_model.specs.Weights.{one_if}
+use Rattle.dover_model.specs.Common.{JobFacts, Fraction, Role, Coming, Fresh, Waiting, Held, Running, Done, Gone}
+use Rattle.dover_model.specs.Common.{Release, Run, Preempt, Take, Complete, Abandon, End, Task, Instance, IsValid}
+use Rattle.dover_model.specs.Common.{numbered, State, opening, to_come, is_fresh, is_over, is_done, is_privileged}
+use Rattle.dover_model.specs.Common.{is_ready_behind, left, value_sum, privileged, is_heavy, Move, Prints, Waits, Ticks}
+use Rattle.dover_model.specs.Common.{step, after, ending, ◌or_else◌, with_role, displaced, ticked, role_after, Step}
+use Rattle.dover_model.specs.Common.{is_end, run, IsWholeRun, step_at, role_then, is_take_of, is_preempt_of, is_run}
+use Rattle.dover_model.specs.Common.{is_complete, gets, changes_hands, is_complete_of, starts, returns, may_preempt}
+use Rattle.dover_model.specs.Common.{may_take, most_changes, IsMember, Each, NoneRuns, IsSound, IsNumberedFrom, jobs_of}
+use Rattle.dover_model.specs.Common.{Keeps, one_if}
+use Rattle.dover_model.specs.Switches.{is_preempted, is_taken_from, returns_by, ComesBehind}
 use Rattle.dover_model.proofs.lists.Members.{map_member, on_map, filter_member, sum_le, sum_plus, sum_same, sum_zero}
 use Rattle.dover_model.proofs.lists.Members.{term_le_sum}
 use Rattle.dover_model.proofs.steps.Roles.{passes, one_number, numbers_above}

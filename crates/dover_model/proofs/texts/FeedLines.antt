@@ -5,12 +5,10 @@ use Rattle.std.specs.Prelude.{if◌then◌else◌, bytes_eq}
 use Rattle.std.specs.Option.{option_and_then}
 use Rattle.std.proofs.lemmas.Bool.{le-ltb}
 use Rattle.std.proofs.lemmas.Slice.Eq.{bytes_eq-Decides}
-use Rattle.dover_model.specs.Numerals.{numerals, AreShort}
-use Rattle.dover_model.specs.Lines.{fields_of, line_of, with_numbers, is_too_long}
-use Rattle.dover_model.specs.FeedLine.{FeedLine, RatioLine, FactorLine, JobLine, TickLine, DoneLine, EndLine}
-use Rattle.dover_model.specs.FeedLine.{line_of_word}
-use Rattle.dover_model.specs.FeedLine.{line_of_fields, HasNumerals, feed_text, feed_line, ratio_line, job_line}
-use Rattle.dover_model.specs.FeedLine.{tick_line, done_line, end_line}
+use Rattle.dover_model.specs.Common.{numerals, AreShort, fields_of, line_of, with_numbers, is_too_long, FeedLine}
+use Rattle.dover_model.specs.Common.{RatioLine, FactorLine, JobLine, TickLine, DoneLine, EndLine, line_of_fields}
+use Rattle.dover_model.specs.Common.{HasNumerals, feed_text, feed_line}
+use Rattle.dover_model.specs.FeedLine.{line_of_word, ratio_line, job_line, tick_line, done_line, end_line}
 use Rattle.dover_model.proofs.texts.Fields.{HasNoSpace, fields_of-line_of, line_of-fields_of, decimals-HasNoSpace}
 use Rattle.dover_model.proofs.texts.Fields.{numerals-decimals, decimals-numerals, length-with_numbers}
 use Rattle.dover_model.proofs.lists.Tests.{none_is_some}

@@ -10,8 +10,7 @@ use Rattle.std.specs.Char.{is_ascii_digit}
 use Rattle.std.proofs.lemmas.Bool.{ne_eqb, leb-true, and_parts, not-true}
 use Rattle.std.proofs.lemmas.Fmt.{digits_decimal, length-decimal-le}
 use Rattle.std.proofs.lemmas.List.Splits.{join_with_byte-slice_split}
-use Rattle.dover_model.specs.Numerals.{numeral, numerals, AreShort}
-use Rattle.dover_model.specs.Lines.{fields_of, line_of, with_numbers}
+use Rattle.dover_model.specs.Common.{numeral, numerals, AreShort, fields_of, line_of, with_numbers}
 use Rattle.dover_model.proofs.texts.Numerals.{own, numeral-decimal, decimal-numeral}
 
 -- ---- cutting

@@ -9,20 +9,12 @@ use Rattle.std.specs.Char.{is_ascii_digit}
 use Rattle.std.specs.Fmt.{digits, digits_onto, digit_glyph}
 use Rattle.std.proofs.lemmas.Bool.{ne_eqb, leb-true, le-leb, lt-ltb, and_parts, and_from}
 use Rattle.std.proofs.lemmas.List.Folds.{list_all-append}
-use Rattle.dover_model.specs.Session.{RefusedLine, RefusedJob, RefusedDone}
-use Rattle.dover_model.specs.declared.events.Version.{Version}
-use Rattle.dover_model.specs.declared.events.Version.TheVariants.{One, Two, Three}
-use Rattle.dover_model.specs.declared.events.Refusal.{Refusal}
-use Rattle.dover_model.specs.declared.events.Refusal.TheVariants.{BadJob, Count, Total, Ratio, Late, Full}
-use Rattle.dover_model.specs.declared.events.Event.TheVariants.{Release, Run, Preempt, Take, Complete, Abandon, End}
-use Rattle.dover_model.specs.JobFacts.{job_numbers}
-use Rattle.dover_model.specs.Fraction.{IsRatio, factor_numbers, is_some_factor}
-use Rattle.dover_model.specs.declared.factors.Factor.{Factor}
-use Rattle.dover_model.specs.Instance.{Declaration}
-use Rattle.dover_model.specs.Numerals.{AreShort}
-use Rattle.dover_model.specs.Lines.{line_of, with_numbers}
-use Rattle.dover_model.specs.Text.{header, version_number, refusal_word, refused_word, refused_numbers, header_numbers}
-use Rattle.dover_model.specs.Trace.{TraceLine, Printed, Refuses, text_of_line}
+use Rattle.dover_model.specs.Common.{RefusedLine, RefusedJob, RefusedDone, Version, One, Two, Three, Refusal, BadJob}
+use Rattle.dover_model.specs.Common.{Count, Total, Ratio, Late, Full, Release, Run, Preempt, Take, Complete, Abandon}
+use Rattle.dover_model.specs.Common.{End, job_numbers, IsRatio, factor_numbers, is_some_factor, Factor, Declaration}
+use Rattle.dover_model.specs.Common.{AreShort, line_of, with_numbers, header, version_number, refusal_word}
+use Rattle.dover_model.specs.Common.{refused_word, refused_numbers, header_numbers, TraceLine, Printed, Refuses}
+use Rattle.dover_model.specs.Common.{text_of_line}
 use Rattle.dover_model.proofs.lists.Members.{all_append}
 use Rattle.dover_model.proofs.texts.Cuts.{is_feed, HasNoFeed}
 use Rattle.dover_model.proofs.valid.JobLimits.{ratio_limits, FactorLimits, factor_limits}

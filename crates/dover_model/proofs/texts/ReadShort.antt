@@ -6,12 +6,10 @@ use Rattle.std.specs.Option.{option_and_then, option_map}
 use Rattle.std.specs.Str.{all_ascii_digits}
 use Rattle.std.proofs.lemmas.Bool.{leb-true}
 use Rattle.std.proofs.lemmas.Str.Parse.{digits_value_short}
-use Rattle.dover_model.specs.Numerals.{number_onto, is_plain, numeral, numerals, AreShort}
-use Rattle.dover_model.specs.Lines.{is_too_long, fields_of}
-use Rattle.dover_model.specs.FeedLine.{FeedLine, RatioLine, FactorLine, JobLine, TickLine, DoneLine, EndLine}
-use Rattle.dover_model.specs.FeedLine.{HasNumerals}
+use Rattle.dover_model.specs.Common.{number_onto, is_plain, numeral, numerals, AreShort, is_too_long, fields_of}
+use Rattle.dover_model.specs.Common.{FeedLine, RatioLine, FactorLine, JobLine, TickLine, DoneLine, EndLine, HasNumerals}
+use Rattle.dover_model.specs.Common.{line_of_fields, feed_line}
 use Rattle.dover_model.specs.FeedLine.{ratio_line, job_line, tick_line, done_line, end_line, line_of_word}
-use Rattle.dover_model.specs.FeedLine.{line_of_fields, feed_line}
 use Rattle.dover_model.proofs.lists.Members.{some_same}
 use Rattle.dover_model.proofs.texts.Numerals.{own, then_true}
 use Rattle.dover_model.proofs.lists.Tests.{none_is_some}

@@ -4,23 +4,16 @@ use Rattle.std.proofs.Common.{option_and_then, sym, Bool, true, false, cond, sub
 use Rattle.std.specs.List.{AllByRecursion}
 use Rattle.std.specs.Bool.{then_some}
 use Rattle.std.specs.Prelude.{◌==◌}
-use Rattle.dover_model.specs.declared.events.Refusal.{Refusal}
-use Rattle.dover_model.specs.declared.events.Refusal.TheVariants.{BadJob, Count, Total, Ratio, Late, Full}
-use Rattle.dover_model.specs.declared.events.Event.TheVariants.{Release, Run, Preempt, Take, Complete, Abandon, End}
-use Rattle.dover_model.specs.Numerals.{numerals, AreShort}
-use Rattle.dover_model.specs.JobFacts.{job_numbers}
-use Rattle.dover_model.specs.Lines.{with_numbers, numbers_after}
-use Rattle.dover_model.specs.Session.{Item, JobItem, RefusedItem, RefusedJob, RefusedLine, RefusedDone}
-use Rattle.dover_model.specs.Text.{refused_text, refusal_word, step_numbers, version_number, refused_numbers}
-use Rattle.dover_model.specs.Text.{refused_word}
-use Rattle.dover_model.specs.Trace.{TraceLine, Printed, Refuses, text_of_line}
-use Rattle.dover_model.specs.Verdict.{item_of, job_from, refused_from, refused_with, refusal_of_word, refused_done_with}
-use Rattle.dover_model.specs.Verdict.{version_of_number}
+use Rattle.dover_model.specs.Common.{Refusal, BadJob, Count, Total, Ratio, Late, Full, Release, Run, Preempt, Take}
+use Rattle.dover_model.specs.Common.{Complete, Abandon, End, numerals, AreShort, job_numbers, with_numbers}
+use Rattle.dover_model.specs.Common.{numbers_after, Item, JobItem, RefusedItem, RefusedJob, RefusedLine, RefusedDone}
+use Rattle.dover_model.specs.Common.{refused_text, refusal_word, step_numbers, version_number, refused_numbers}
+use Rattle.dover_model.specs.Common.{refused_word, TraceLine, Printed, Refuses, text_of_line, item_of}
+use Rattle.dover_model.specs.Common.{version_of_number, Version, One, Two, Three}
+use Rattle.dover_model.specs.Verdict.{job_from, refused_from, refused_with, refusal_of_word, refused_done_with}
 use Rattle.std.specs.Option.{option_or}
 use Rattle.std.proofs.lemmas.Bool.{eqb-true}
 use Rattle.dover_model.proofs.texts.Fields.{HasNoSpace, fields_of-line_of, decimals-HasNoSpace, numerals-decimals}
-use Rattle.dover_model.specs.declared.events.Version.{Version}
-use Rattle.dover_model.specs.declared.events.Version.TheVariants.{One, Two, Three}
 use Rattle.dover_model.proofs.lists.Members.{some_same}
 use Rattle.dover_model.proofs.lists.Tests.{none_is_some}
 

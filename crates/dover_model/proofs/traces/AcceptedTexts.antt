@@ -7,13 +7,11 @@ use Rattle.std.specs.Option.{option_map_or}
 use Rattle.std.proofs.lemmas.Bool.{eqb-true, and_parts}
 use Rattle.std.proofs.lemmas.List.{append_assoc}
 use Rattle.std.proofs.lemmas.Slice.Eq.{bytes_eq-Decides, starts_is}
-use Rattle.dover_model.specs.Lines.{in_lines, whole_lines, rest_of, is_too_long}
-use Rattle.dover_model.specs.Session.{Session, IsValidSession, is_valid_session}
-use Rattle.dover_model.specs.Trace.{trace_lines, trace_of_session}
-use Rattle.dover_model.specs.Verdict.{Accepted, Wrong, Short, begins_trace_of, begins_trace, named_session, first_wrong}
-use Rattle.dover_model.specs.Verdict.{expected_after, good_verdict, wrong_verdict, verdict, ends_with_end, is_empty}
-use Rattle.dover_model.specs.Verdict.{text_lines}
-use Rattle.dover_model.specs.WholeRun.{Begins}
+use Rattle.dover_model.specs.Common.{in_lines, whole_lines, rest_of, is_too_long, Session, IsValidSession}
+use Rattle.dover_model.specs.Common.{is_valid_session, trace_lines, trace_of_session, Accepted, Wrong, begins_trace_of}
+use Rattle.dover_model.specs.Common.{begins_trace, named_session, first_wrong, expected_after, good_verdict}
+use Rattle.dover_model.specs.Common.{wrong_verdict, verdict, ends_with_end, is_empty, text_lines, Begins}
+use Rattle.dover_model.specs.Verdict.{Short}
 use Rattle.dover_model.proofs.lists.Tests.{never}
 use Rattle.dover_model.proofs.texts.Cuts.{CutText, is_feed, put_before, cut_feed, cut_other}
 use Rattle.dover_model.proofs.traces.Named.{beginnings_pass}

@@ -4,16 +4,12 @@ use Rattle.std.proofs.Common.{◌&&◌, ◌||◌, Option, Some, None, suc}
 use Rattle.std.specs.Prelude.{nat_lt}
 use Rattle.std.specs.Option.{option_map_or}
 use Rattle.std.proofs.lemmas.List.{append_assoc, append-nil}
-use Rattle.dover_model.specs.Lines.{is_too_long, in_lines}
-use Rattle.dover_model.specs.Session.{Session, instance_of, IsValidSession}
-use Rattle.dover_model.specs.Run.{printed}
-use Rattle.dover_model.specs.Trace.{trace_lines, trace_of_session, texts_among}
-use Rattle.dover_model.specs.Feed.{Standing, Open, Ended, Faulty, Account, is_ended, account}
-use Rattle.dover_model.specs.Due.{due_lines, due}
-use Rattle.dover_model.specs.Verdict.{Verdict, Accepted, Short, ends_with_end, is_empty, begins_trace}
-use Rattle.dover_model.specs.Verdict.{named_session, first_wrong, good_verdict, wrong_verdict}
-use Rattle.dover_model.specs.Verdict.{verdict, text_lines}
-use Rattle.dover_model.specs.WholeRun.{Begins}
+use Rattle.dover_model.specs.Common.{is_too_long, in_lines, Session, instance_of, IsValidSession, printed, trace_lines}
+use Rattle.dover_model.specs.Common.{trace_of_session, texts_among, Standing, Open, Ended, Faulty, Account, is_ended}
+use Rattle.dover_model.specs.Common.{account, due_lines, due, Verdict, Accepted, ends_with_end, is_empty, begins_trace}
+use Rattle.dover_model.specs.Common.{named_session, first_wrong, good_verdict, wrong_verdict, verdict, text_lines}
+use Rattle.dover_model.specs.Common.{Begins}
+use Rattle.dover_model.specs.Verdict.{Short}
 use Rattle.dover_model.proofs.texts.Cuts.{CutText}
 use Rattle.dover_model.proofs.traces.Named.{trace_names_session, trace_cut, beginnings_pass}
 use Rattle.dover_model.proofs.traces.TraceEnds.{trace_ends}

@@ -6,19 +6,14 @@ use Rattle.std.specs.List.{AllByRecursion, fold, starts_with}
 use Rattle.std.specs.Option.{option_or, option_and_then, option_map, option_map_or}
 use Rattle.std.proofs.lemmas.List.Sums.{fold-append}
 use Rattle.std.proofs.lemmas.Slice.Eq.{bytes_eq-Decides, starts_is}
-use Rattle.dover_model.specs.declared.events.Version.{Version}
-use Rattle.dover_model.specs.Fraction.{IsRatio, fraction, with_factor, factor_numbers}
-use Rattle.dover_model.specs.declared.factors.Factor.{Factor}
-use Rattle.dover_model.specs.Instance.{Declaration}
-use Rattle.dover_model.specs.Lines.{cut, whole_lines, numbers_of, numbers_after, with_numbers}
-use Rattle.dover_model.specs.Session.{Item, Session, IsValidSession, session_with, new_session, with_named}
-use Rattle.dover_model.specs.Text.{header, version_number, header_numbers}
-use Rattle.dover_model.specs.Trace.{TraceLine, Printed, Refuses, text_of_line, trace_lines, trace_of_session}
-use Rattle.dover_model.specs.Verdict.{named_item, finish_from, begins_trace_of, rules_from, rules_of}
-use Rattle.dover_model.specs.Verdict.{named_session, named_behind, begins_trace}
-use Rattle.dover_model.specs.declared.events.Event.TheVariants.{Release, Run, Preempt, Take, Complete, Abandon, End}
-use Rattle.dover_model.specs.Numerals.{AreShort}
-use Rattle.dover_model.specs.WholeRun.{Begins}
+use Rattle.dover_model.specs.Common.{Version, IsRatio, fraction, with_factor, factor_numbers, Factor, Declaration, cut}
+use Rattle.dover_model.specs.Common.{whole_lines, numbers_of, numbers_after, with_numbers, Item, Session}
+use Rattle.dover_model.specs.Common.{IsValidSession, session_with, new_session, with_named, header, version_number}
+use Rattle.dover_model.specs.Common.{header_numbers, TraceLine, Printed, Refuses, text_of_line, trace_lines}
+use Rattle.dover_model.specs.Common.{trace_of_session, named_item, begins_trace_of, rules_of, named_session}
+use Rattle.dover_model.specs.Common.{named_behind, begins_trace, Release, Run, Preempt, Take, Complete, Abandon, End}
+use Rattle.dover_model.specs.Common.{AreShort, Begins}
+use Rattle.dover_model.specs.Verdict.{finish_from, rules_from}
 use Rattle.dover_model.proofs.lists.Members.{some_same, heads, tails}
 use Rattle.dover_model.proofs.lists.Beginnings.{begins_behind, begins_map}
 use Rattle.dover_model.proofs.texts.Cuts.{CutText, cut_in_lines, HasNoFeed}

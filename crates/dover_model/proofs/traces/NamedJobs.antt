@@ -3,19 +3,12 @@ use Rattle.std.proofs.Common.{◌≡◌, ℕ, List, [], ◌∷◌, ◌++◌, map
 use Rattle.std.specs.Prelude.{Option}
 use Rattle.std.specs.List.{filter_map, cons_option}
 use Rattle.std.specs.Option.{option_and_then}
-use Rattle.dover_model.specs.JobFacts.{JobFacts}
-use Rattle.dover_model.specs.declared.events.Event.{Event}
-use Rattle.dover_model.specs.declared.events.Event.TheVariants.{Release, Run, Preempt, Take, Complete, Abandon, End}
-use Rattle.dover_model.specs.Instance.{Declaration, Instance, IsValid, declared_by}
-use Rattle.dover_model.specs.Lines.{whole_lines}
-use Rattle.dover_model.specs.Run.{Step, run, printed, printed_of, event_of}
-use Rattle.dover_model.specs.Session.{Item, JobItem, Session, session_with, instance_of, admitted_jobs, job_of_item}
-use Rattle.dover_model.specs.State.{running}
-use Rattle.dover_model.specs.Step.{Move, Prints, Waits, Ticks}
-use Rattle.dover_model.specs.Text.{header}
-use Rattle.dover_model.specs.Trace.{Printed, text_of_line, places_after, put_in, trace_lines, session_of, trace}
-use Rattle.dover_model.specs.Trace.{trace_of_session, handed_by}
-use Rattle.dover_model.specs.Verdict.{item_of, rules_of}
+use Rattle.dover_model.specs.Common.{JobFacts, Event, Release, Run, Preempt, Take, Complete, Abandon, End, Declaration}
+use Rattle.dover_model.specs.Common.{Instance, IsValid, declared_by, whole_lines, Step, run, printed, printed_of}
+use Rattle.dover_model.specs.Common.{event_of, Item, JobItem, Session, session_with, instance_of, admitted_jobs}
+use Rattle.dover_model.specs.Common.{job_of_item, running, Move, Prints, Waits, Ticks, header, Printed, text_of_line}
+use Rattle.dover_model.specs.Common.{places_after, put_in, trace_lines, session_of, trace, trace_of_session, handed_by}
+use Rattle.dover_model.specs.Common.{item_of, rules_of}
 use Rattle.dover_model.proofs.texts.Cuts.{CutText, cut_in_lines}
 use Rattle.dover_model.proofs.sessions.Growing.{all_lines}
 use Rattle.dover_model.proofs.sessions.JobSessions.{instance_back}

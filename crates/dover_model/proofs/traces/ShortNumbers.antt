@@ -5,22 +5,14 @@ use Rattle.std.specs.Prelude.{nat_le}
 use Rattle.std.specs.Bool.{MatchBool, then_some}
 use Rattle.std.specs.List.{AllByRecursion, list_all, fold, filter, cons_option}
 use Rattle.std.proofs.lemmas.List.{append-nil}
-use Rattle.dover_model.specs.Limits.{last_tick}
-use Rattle.dover_model.specs.JobFacts.{JobFacts, IsJob, job_numbers}
-use Rattle.dover_model.specs.Numerals.{AreShort}
-use Rattle.dover_model.specs.declared.events.Event.{Event}
-use Rattle.dover_model.specs.declared.events.Event.TheVariants.{End}
-use Rattle.dover_model.specs.declared.events.Task.{Task}
-use Rattle.dover_model.specs.Fraction.{Fraction}
-use Rattle.dover_model.specs.Instance.{Rules, Declaration, Instance, IsValid, total_value}
-use Rattle.dover_model.specs.State.{State, opening, is_over, is_done, value_sum}
-use Rattle.dover_model.specs.Step.{Move, Prints, Waits, Ticks, step, after, ending, ◌or_else◌}
-use Rattle.dover_model.specs.Run.{Step, is_end, event_of, printed_of, printed, run, last_deadline}
-use Rattle.dover_model.specs.WholeRun.{IsWholeRun}
-use Rattle.dover_model.specs.Session.{Item, JobItem, RefusedItem, FinishItem, Session, instance_of}
-use Rattle.dover_model.specs.Session.{IsValidSession, RefusedLine, RefusedJob, RefusedDone, session_with}
-use Rattle.dover_model.specs.Trace.{TraceLine, Printed, Refuses, Placed, put_in, places_after, places_of}
-use Rattle.dover_model.specs.Sound.{IsMember, Keeps}
+use Rattle.dover_model.specs.Common.{last_tick, JobFacts, IsJob, job_numbers, AreShort, Event, End, Task, Fraction}
+use Rattle.dover_model.specs.Common.{Rules, Declaration, Instance, IsValid, total_value, State, opening, is_over}
+use Rattle.dover_model.specs.Common.{is_done, value_sum, Move, Prints, Waits, Ticks, step, after, ending, ◌or_else◌}
+use Rattle.dover_model.specs.Common.{Step, is_end, event_of, printed_of, printed, run, last_deadline, IsWholeRun, Item}
+use Rattle.dover_model.specs.Common.{JobItem, RefusedItem, FinishItem, Session, instance_of, IsValidSession}
+use Rattle.dover_model.specs.Common.{RefusedLine, RefusedJob, RefusedDone, session_with, TraceLine, Printed, Refuses}
+use Rattle.dover_model.specs.Common.{Placed, put_in, places_after, places_of, IsMember, Keeps, step_numbers}
+use Rattle.dover_model.specs.Common.{refused_numbers}
 use Rattle.dover_model.proofs.lists.Members.{all_each, sum_filter, sum_le, sum_map, cond_le}
 use Rattle.dover_model.proofs.valid.Valid.{all_from}
 use Rattle.dover_model.proofs.steps.Ticking.{Quiet}
@@ -31,7 +23,6 @@ use Rattle.dover_model.proofs.runs.Ending.{clock_after, tick_early, run_is_whole
 use Rattle.dover_model.proofs.sessions.Growing.{all_lines}
 use Rattle.dover_model.proofs.texts.TraceLines.{HasShortNumbers}
 use Rattle.dover_model.proofs.runs.Honest.{numbers_low, count_jobs}
-use Rattle.dover_model.specs.Text.{step_numbers, refused_numbers}
 use Rattle.dover_model.proofs.valid.Limiting.{jobs_most, total_most}
 use Rattle.dover_model.proofs.sessions.SessionParts.{MayRefuse, FollowsItems, session_parts, session_jobs}
 use Rattle.dover_model.proofs.valid.ValidParts.{valid_parts}

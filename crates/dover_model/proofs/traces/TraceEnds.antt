@@ -6,24 +6,15 @@ use Rattle.std.specs.Bool.{MatchBool}
 use Rattle.std.specs.List.{AllByRecursion, cons_option, last_or, filter}
 use Rattle.std.specs.Option.{option_map_or}
 use Rattle.std.proofs.lemmas.List.{append_assoc, append-nil, map-append}
-use Rattle.dover_model.specs.declared.events.Event.{Event}
-use Rattle.dover_model.specs.declared.events.Event.TheVariants.{Release, Run, Preempt, Take, Complete, Abandon, End}
-use Rattle.dover_model.specs.JobFacts.{job_numbers}
-use Rattle.dover_model.specs.Fraction.{IsRatio}
-use Rattle.dover_model.specs.Instance.{Rules, Declaration, Instance, IsValid}
-use Rattle.dover_model.specs.State.{State, opening, is_done, is_over, value_sum}
-use Rattle.dover_model.specs.Step.{Move, Prints, Waits, Ticks, step, open_step, after}
-use Rattle.dover_model.specs.Run.{Step, is_end, event_of, printed_of, printed, run}
-use Rattle.dover_model.specs.Settled.{settled, settled_steps, AllComeFrom}
-use Rattle.dover_model.specs.WholeRun.{IsWholeRun, IsSettledRun, Begins}
-use Rattle.dover_model.specs.Sound.{Each, Keeps}
-use Rattle.dover_model.specs.Numerals.{AreShort}
-use Rattle.dover_model.specs.Lines.{with_numbers, numbers_after}
-use Rattle.dover_model.specs.Session.{Session, instance_of, IsValidSession}
-use Rattle.dover_model.specs.Text.{header, text_of, refused_word, refused_numbers, header_numbers}
-use Rattle.dover_model.specs.Trace.{TraceLine, Printed, Refuses, Placed, put_in, places_of, text_of_line, trace_lines}
-use Rattle.dover_model.specs.Trace.{lines_among}
-use Rattle.dover_model.specs.Verdict.{is_one_number, is_end_text, ends_with_end}
+use Rattle.dover_model.specs.Common.{Event, Release, Run, Preempt, Take, Complete, Abandon, End, job_numbers, IsRatio}
+use Rattle.dover_model.specs.Common.{Rules, Declaration, Instance, IsValid, State, opening, is_done, is_over, value_sum}
+use Rattle.dover_model.specs.Common.{Move, Prints, Waits, Ticks, step, open_step, after, Step, is_end, event_of}
+use Rattle.dover_model.specs.Common.{printed_of, printed, run, settled, settled_steps, AllComeFrom, IsWholeRun}
+use Rattle.dover_model.specs.Common.{IsSettledRun, Begins, Each, Keeps, AreShort, with_numbers, numbers_after, Session}
+use Rattle.dover_model.specs.Common.{instance_of, IsValidSession, header, text_of, refused_word, refused_numbers}
+use Rattle.dover_model.specs.Common.{header_numbers, TraceLine, Printed, Refuses, Placed, put_in, places_of}
+use Rattle.dover_model.specs.Common.{text_of_line, trace_lines, lines_among, ends_with_end}
+use Rattle.dover_model.specs.Verdict.{is_one_number, is_end_text}
 use Rattle.dover_model.proofs.steps.Kept.{step_kept, open_kept, opening_keeps}
 use Rattle.dover_model.proofs.runs.Ending.{end_over, run_is_whole}
 use Rattle.dover_model.proofs.settled.Settling.{settled_is_run}

@@ -9,23 +9,15 @@ use Rattle.std.proofs.lemmas.Bool.{ltb-true, lt-ltb, and_parts, false_from_ne_tr
 use Rattle.std.proofs.lemmas.Fmt.{length-decimal-le}
 use Rattle.std.proofs.lemmas.List.{append_assoc, append-nil, take-append-le}
 use Rattle.std.proofs.lemmas.Slice.Eq.{bytes_eq-Decides, starts_is}
-use Rattle.dover_model.specs.declared.factors.Factor.{Factor}
-use Rattle.dover_model.specs.Fraction.{factor_numbers}
-use Rattle.dover_model.specs.declared.events.Refusal.{Refusal}
-use Rattle.dover_model.specs.declared.events.Refusal.TheVariants.{BadJob, Count, Total, Ratio, Late, Full}
-use Rattle.dover_model.specs.declared.events.Event.TheVariants.{Release, Run, Preempt, Take, Complete, Abandon, End}
-use Rattle.dover_model.specs.JobFacts.{job_numbers}
-use Rattle.dover_model.specs.Numerals.{AreShort}
-use Rattle.dover_model.specs.Lines.{cut, whole_lines, rest_of, is_too_long, line_of}
-use Rattle.dover_model.specs.Session.{Session, IsValidSession, is_valid_session, RefusedLine, RefusedJob, RefusedDone}
-use Rattle.dover_model.specs.Text.{refusal_word, refused_numbers, header_numbers}
-use Rattle.dover_model.specs.Trace.{TraceLine, Printed, Refuses, text_of_line, trace_lines}
-use Rattle.dover_model.specs.Verdict.{Accepted, Wrong, Short, Expected, begins_trace_of, begins_trace}
-use Rattle.dover_model.specs.Verdict.{named_session, first_wrong, expected_after, good_verdict}
-use Rattle.dover_model.specs.Verdict.{wrong_verdict, verdict}
-use Rattle.dover_model.specs.Verdict.{is_end_text, ends_with_end}
-use Rattle.dover_model.specs.Verdict.{is_empty, rest_counts, text_lines}
-use Rattle.dover_model.specs.WholeRun.{Begins}
+use Rattle.dover_model.specs.Common.{Factor, factor_numbers, Refusal, BadJob, Count, Total, Ratio, Late, Full, Release}
+use Rattle.dover_model.specs.Common.{Run, Preempt, Take, Complete, Abandon, End, job_numbers, AreShort, cut}
+use Rattle.dover_model.specs.Common.{whole_lines, rest_of, is_too_long, line_of, Session, IsValidSession}
+use Rattle.dover_model.specs.Common.{is_valid_session, RefusedLine, RefusedJob, RefusedDone, refusal_word}
+use Rattle.dover_model.specs.Common.{refused_numbers, header_numbers, TraceLine, Printed, Refuses, text_of_line}
+use Rattle.dover_model.specs.Common.{trace_lines, Accepted, Wrong, Expected, begins_trace_of, begins_trace}
+use Rattle.dover_model.specs.Common.{named_session, first_wrong, expected_after, good_verdict, wrong_verdict, verdict}
+use Rattle.dover_model.specs.Common.{ends_with_end, is_empty, text_lines, Begins}
+use Rattle.dover_model.specs.Verdict.{Short, is_end_text, rest_counts}
 use Rattle.dover_model.proofs.lists.Members.{some_same, all_at}
 use Rattle.dover_model.proofs.lists.Tests.{never}
 use Rattle.dover_model.proofs.lists.Beginnings.{begins_either, begins_length}

@@ -6,14 +6,9 @@ use Rattle.std.specs.List.{AllByRecursion, list_all}
 use Rattle.std.proofs.Math.Nat.{mul-le-mul_right}
 use Rattle.std.proofs.lemmas.Bool.{leb-false, ltb-false, not-false, lt-leb}
 use Rattle.std.proofs.lemmas.List.Sums.{sum_by-append, sum_by-cons}
-use Rattle.dover_model.specs.Limits.{most_jobs, most_total}
-use Rattle.dover_model.specs.declared.events.Refusal.{Refusal}
-use Rattle.dover_model.specs.declared.events.Refusal.TheVariants.{BadJob, Count, Total, Ratio}
-use Rattle.dover_model.specs.JobFacts.{JobFacts, IsJob, is_job}
-use Rattle.dover_model.specs.Fraction.{Fraction}
-use Rattle.dover_model.specs.Instance.{Declaration, declared_by, IsValid, with_jobs}
-use Rattle.dover_model.specs.Instance.{Instance, total_value}
-use Rattle.dover_model.specs.Admission.{is_within_ratio_both_ways, refusal_of}
+use Rattle.dover_model.specs.Common.{most_jobs, most_total, Refusal, BadJob, Count, Total, Ratio, JobFacts, IsJob}
+use Rattle.dover_model.specs.Common.{is_job, Fraction, Declaration, declared_by, IsValid, with_jobs, Instance}
+use Rattle.dover_model.specs.Common.{total_value, is_within_ratio_both_ways, refusal_of}
 use Rattle.dover_model.proofs.lists.Tests.{both, each}
 use Rattle.dover_model.proofs.sessions.Growing.{all_behind, instance_with}
 use Rattle.dover_model.proofs.lists.Members.{all_both, all_last}

@@ -1,11 +1,7 @@
 -- The limits of each version, beside those of version Three.
 use Rattle.std.proofs.Common.{◌≡◌, ◌+◌, ◌*◌, ◌≤◌, refl, sym, arith, false, Option, Some, None}
-use Rattle.dover_model.specs.Instance.{Instance, IsListable, IsValid}
-use Rattle.dover_model.specs.Limits.{most_items, most_jobs, most_lines, most_total}
-use Rattle.dover_model.specs.declared.events.Version.{Version}
-use Rattle.dover_model.specs.declared.events.Version.TheVariants.{One, Two, Three}
-use Rattle.dover_model.specs.Session.{Session, may_finish_early}
-use Rattle.dover_model.specs.Feed.{most_lines_in}
+use Rattle.dover_model.specs.Common.{Instance, IsListable, IsValid, most_items, most_jobs, most_lines, most_total}
+use Rattle.dover_model.specs.Common.{Version, One, Two, Three, Session, may_finish_early, most_lines_in}
 use Rattle.dover_model.proofs.lists.Tests.{never}
 use Rattle.dover_model.proofs.valid.ValidParts.{valid_parts}
 

@@ -5,10 +5,7 @@ use Rattle.std.specs.Prelude.{nat_le}
 use Rattle.std.specs.List.{AllByRecursion, sum_by}
 use Rattle.std.proofs.lemmas.Bool.{leb-true, leb-false}
 use Rattle.std.proofs.lemmas.List.Sums.{sum_by-cons}
-use Rattle.dover_model.specs.JobFacts.{JobFacts, IsJob}
-use Rattle.dover_model.specs.Instance.{Instance, IsValid, with_jobs}
-use Rattle.dover_model.specs.Online.{known_at}
-use Rattle.dover_model.specs.Sound.{Each}
+use Rattle.dover_model.specs.Common.{JobFacts, IsJob, Instance, IsValid, with_jobs, known_at, Each}
 use Rattle.dover_model.proofs.lists.Members.{all_member}
 use Rattle.dover_model.proofs.valid.ValidParts.{IsWithinRatio, ReleasesInOrder, ValidParts, valid_parts, valid_from}
 

@@ -1,11 +1,9 @@
 -- The parts of valid jobs: what their tests say of each job and of each two, as facts.
 use Rattle.std.proofs.Common.{◌*◌, ◌≤◌, ◌↔◌, List, [], ◌∷◌, length, IsTrue, refl}
 use Rattle.std.specs.List.{AllByRecursion}
-use Rattle.dover_model.specs.Limits.{most_jobs, most_total}
-use Rattle.dover_model.specs.JobFacts.{JobFacts, IsJob}
-use Rattle.dover_model.specs.Fraction.{Fraction, IsRatio}
-use Rattle.dover_model.specs.Instance.{Instance, IsInOrder, is_in_order, IsValid}
-use Rattle.dover_model.specs.Instance.{is_valid, is_within_ratio, total_value}
+use Rattle.dover_model.specs.Common.{most_jobs, most_total, JobFacts, IsJob, Fraction, IsRatio, Instance, IsInOrder}
+use Rattle.dover_model.specs.Common.{IsValid, is_valid, is_within_ratio, total_value}
+use Rattle.dover_model.specs.Instance.{is_in_order}
 use Rattle.dover_model.proofs.lists.Tests.{both, at_most, each}
 use Rattle.dover_model.proofs.valid.JobLimits.{job_passes}
 

@@ -2,10 +2,8 @@
 use Rattle.std.proofs.Common.{◌≡◌, ◌<◌, ℕ, List, ◌++◌, append_assoc, length, sym, ap, ◌∙◌, subst}
 use Rattle.std.proofs.Common.{Bool, true, false, Option, Some, None, inl, inr}
 use Rattle.std.proofs.lemmas.List.{append_cancel_left}
-use Rattle.dover_model.specs.Session.{Session, admitted_jobs}
-use Rattle.dover_model.specs.Feed.{Open, Ended, Faulty, account, is_open, is_ended}
-use Rattle.dover_model.specs.Due.{due, closed}
-use Rattle.dover_model.specs.WholeRun.{Begins}
+use Rattle.dover_model.specs.Common.{Session, admitted_jobs, Open, Ended, Faulty, account, is_open, is_ended, due}
+use Rattle.dover_model.specs.Common.{closed, Begins, most_jobs, lines_of, rest_of, next_line}
 use Rattle.dover_port.specs.Moves.{IsProperPrefix}
 use Rattle.dover_port.specs.declared.status.Status.{Status}
 use Rattle.dover_port.specs.declared.status.Status.TheVariants.{Done, No, Refused, ReadFault, WriteFault, Memory, Usage}
@@ -16,9 +14,6 @@ use Rattle.lane_server.specs.Lane.{IsDeclared, IsFaulty}
 use Rattle.snapshot.specs.Snapshot.{MayPause, snapshot}
 use Rattle.snapshot.specs.Feeds.{GoOnEqually}
 use Rattle.dover_model.specs.declared.events.Version.TheVariants.{Two}
-use Rattle.dover_model.specs.Limits.{most_jobs}
-use Rattle.dover_model.specs.Lines.{lines_of, rest_of}
-use Rattle.dover_model.specs.Feed.{next_line}
 use Rattle.dover_model.proofs.sessions.Accounts.{account_kept}
 use Rattle.std.specs.List.{fold}
 use Rattle.snapshot.proofs.Alike.{Alike, SameRun, GoAlike, lines_alike}

@@ -3,15 +3,12 @@ use Rattle.std.proofs.Common.{◌≡◌, ◌<◌, ◌≤◌, ◌*◌, ◌^◌, �
 use Rattle.std.proofs.Common.{append_assoc, length-append, arith, true, false, inl, inr, codes}
 use Rattle.std.proofs.lemmas.List.{length-map}
 use Rattle.dover_model.specs.declared.events.Task.{Task}
-use Rattle.dover_model.specs.Lines.{in_lines, lines_of}
-use Rattle.dover_model.specs.Feed.{account, is_open}
-use Rattle.dover_model.specs.WholeRun.{Begins}
+use Rattle.dover_model.specs.Common.{in_lines, lines_of, account, is_open, Begins, CostsAtMost}
 use Rattle.dover_model.proofs.lists.Beginnings.{in_lines-append}
 use Rattle.dover_model.proofs.lists.Tests.{never}
 use Rattle.line_text.proofs.Lengths.{AreNotTooLong}
 use Rattle.dover_port.specs.declared.status.Status.{Status}
 use Rattle.dialogue.specs.Talk.{IsSteady}
-use Rattle.dover_model.specs.Spending.{CostsAtMost}
 use Rattle.dover_model.proofs.runs.Spending.{few_more}
 use Rattle.event_feed.specs.Answers.{admitted_in}
 use Rattle.event_feed.proofs.Admitting.{admitted_front}

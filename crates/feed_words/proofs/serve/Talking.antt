@@ -7,9 +7,8 @@ use Rattle.std.proofs.lemmas.List.{length-map}
 use Rattle.std.proofs.lemmas.List.Folds.{flat_map-map}
 use Rattle.dover_model.specs.declared.Memory.{Memory as Lacking}
 use Rattle.dover_model.specs.Feed as feeds
-use Rattle.dover_model.specs.Feed.{is_open, is_ended, account}
-use Rattle.dover_model.specs.Due.{due, closed, due_lines, fault_text}
-use Rattle.dover_model.specs.Lines.{in_lines, lines_of, whole_lines, rest_of}
+use Rattle.dover_model.specs.Common.{is_open, is_ended, account, due, closed, due_lines, fault_text, in_lines, lines_of}
+use Rattle.dover_model.specs.Common.{whole_lines, rest_of, CostsAtMost}
 use Rattle.dover_model.proofs.sessions.Accounts.{due_grows}
 use Rattle.dover_model.proofs.lists.Beginnings.{in_lines-append}
 use Rattle.dover_model.proofs.lists.Tests.{never}
@@ -26,7 +25,6 @@ use Rattle.dialogue.proofs.Behind as beyond
 use Rattle.dialogue.specs.declared.talker.Stop.{Stop}
 use Rattle.dialogue.specs.declared.talker.Stop.TheVariants.{NoMemory, Unwritten}
 use Rattle.dover_port.specs.Moves.{Move}
-use Rattle.dover_model.specs.Spending.{CostsAtMost}
 use Rattle.lane_server.specs.Lane.{IsDeclared, IsFaulty}
 use Rattle.lane_server.specs.Feeding.{FeedStands, Takes}
 use Rattle.lane_server.specs.Rosters.{KeepsRoster}

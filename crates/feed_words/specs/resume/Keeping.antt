@@ -1,8 +1,7 @@
 -- What is kept of a snapshot, and of the feed behind it.
 use Rattle.std.specs.Prelude.{◌≡◌, true, ℕ, List, [], Option}
 use Rattle.dover_model.specs.declared.events.Task.{Task}
-use Rattle.dover_model.specs.Lines.{in_lines, lines_of}
-use Rattle.dover_model.specs.Feed.{account, is_open}
+use Rattle.dover_model.specs.Common.{in_lines, lines_of, account, is_open}
 use Rattle.snapshot.specs.Snapshot.{Head, MayPause, snapshot}
 use Rattle.snapshot.specs.declared.resuming.Resuming.{Resuming}
 use Rattle.snapshot.specs.Reading.{Taken, Refused, reading_of}

@@ -5,8 +5,7 @@ use Rattle.std.specs.Prelude.{bytes_eq}
 use Rattle.std.specs.Option.{option_and_then, option_map}
 use Rattle.dover_model.specs.declared.events.Event.{Event}
 use Rattle.dover_model.specs.declared.events.Event.TheVariants.{Run, Preempt, Take, Complete, Abandon}
-use Rattle.dover_model.specs.Lines.{fields_of}
-use Rattle.dover_model.specs.Numerals.{numerals}
+use Rattle.dover_model.specs.Common.{fields_of, numerals}
 use Rattle.line_text.proofs.Words.{IsNot, uncounted, skip, Lacks, differs}
 use Rattle.line_text.specs.declared.traces.lines.TraceLine.TheVariants.{Step}
 use Rattle.line_text.specs.traces.Reading.{◌>>=◌, release_of, one_job, two_jobs, run_of, complete_of, abandon_of}

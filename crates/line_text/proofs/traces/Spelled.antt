@@ -13,13 +13,9 @@ use Rattle.dover_model.specs.declared.events.Event.{Event}
 use Rattle.dover_model.specs.declared.events.Event.TheVariants.{Release, Run, Preempt, Take, Complete, Abandon, End}
 use Rattle.dover_model.specs.declared.events.Refusal.{Refusal}
 use Rattle.dover_model.specs.declared.events.Refusal.TheVariants.{BadJob, Count, Total, Ratio, Late, Full}
-use Rattle.dover_model.specs.JobFacts.{JobFacts, IsJob, is_job, job_of_numbers, job_numbers}
-use Rattle.dover_model.specs.Numerals.{numeral, numerals, AreShort}
-use Rattle.dover_model.specs.Lines.{fields_of, line_of, with_numbers, numbers_after}
-use Rattle.dover_model.specs.Instance.{Declaration}
-use Rattle.dover_model.specs.Session.{Item}
-use Rattle.dover_model.specs.Text.{text_of, refusal_word, step_numbers}
-use Rattle.dover_model.specs.Trace.{Printed, Refuses}
+use Rattle.dover_model.specs.Common.{JobFacts, IsJob, is_job, job_of_numbers, job_numbers, numeral, numerals, AreShort}
+use Rattle.dover_model.specs.Common.{fields_of, line_of, with_numbers, numbers_after, Declaration, Item, text_of}
+use Rattle.dover_model.specs.Common.{refusal_word, step_numbers, Printed, Refuses}
 use Rattle.dover_model.specs.Verdict as verdict
 use Rattle.dover_model.proofs.lists.Tests.{never, none_is_some}
 use Rattle.dover_model.proofs.lists.Members.{some_same}

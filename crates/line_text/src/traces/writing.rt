@@ -1,8 +1,7 @@
 //! A trace's line as bytes.
 ghost use Rattle.std.specs.Prelude.{◌≡◌, ◌∷◌, ◌++◌, []};
-ghost use Rattle.dover_model.specs.Numerals.{AreShort};
+ghost use Rattle.dover_model.specs.Common.{AreShort, step_numbers};
 ghost use Rattle.dover_model.specs.Text as form;
-ghost use Rattle.dover_model.specs.Text.{step_numbers};
 
 use crate::BackLine;
 use dover_model::{Event, Refusal};

@@ -11,9 +11,8 @@ use Rattle.std.proofs.lemmas.Bool.{cases_lt}
 use Rattle.dover_model.specs.declared.events.Role.{Role}
 use Rattle.dover_model.specs.declared.events.Role.TheVariants.{Coming, Fresh, Waiting, Held, Running}
 use Rattle.dover_model.specs.declared.events.Task.{Task}
-use Rattle.dover_model.specs.State.{State, is_coming, is_privileged, is_over}
-use Rattle.dover_model.specs.Step.{with_role, displaced, ticked}
-use Rattle.dover_model.specs.Sound.{IsMember, Each, IsNumberedFrom}
+use Rattle.dover_model.specs.Common.{State, is_coming, is_privileged, is_over, with_role, displaced, ticked, IsMember}
+use Rattle.dover_model.specs.Common.{Each, IsNumberedFrom}
 use Rattle.dover_model.proofs.lists.Members.{on_map, by_bool, sum_map, sum_zero}
 use Rattle.dover_model.proofs.steps.Moves.{displaced_role}
 use Rattle.dover_model.proofs.steps.Roles.{passes, fails, is_coming_role}

@@ -11,10 +11,8 @@ use Rattle.dover_model.specs.declared.events.Event.TheVariants.{Release, Preempt
 use Rattle.dover_model.specs.declared.events.Role.{Role}
 use Rattle.dover_model.specs.declared.events.Role.TheVariants.{Coming, Fresh, Waiting, Held, Running, Done, Gone}
 use Rattle.dover_model.specs.declared.events.Task.{Task}
-use Rattle.dover_model.specs.State.{State, held, is_held, is_running, is_privileged}
-use Rattle.dover_model.specs.Step.{Prints, Ticks, with_role, after}
-use Rattle.dover_model.specs.Run.{Step}
-use Rattle.dover_model.specs.Sound.{IsMember, Each, IsSound}
+use Rattle.dover_model.specs.Common.{State, held, is_held, is_running, is_privileged, Prints, Ticks, with_role, after}
+use Rattle.dover_model.specs.Common.{Step, IsMember, Each, IsSound}
 use Rattle.dover_model.proofs.lists.Members.{map_map, sum_plus, sum_same, by_bool}
 use Rattle.dover_model.proofs.steps.Roles.{by_role, passes, numbered_map, one_number, is_running_role}
 use Rattle.dover_model.proofs.steps.OneChange.{changed, state_with, changed_there}

@@ -6,18 +6,15 @@ use Rattle.std.proofs.Common.{false, cond, arith, append-nil}
 use Rattle.std.specs.Prelude.{Option, None, ◌==◌}
 use Rattle.std.specs.Bool.{MatchBool, then_some}
 use Rattle.std.specs.List.{sum_by, filter, filter_map, list_all, cons_option}
-use Rattle.dover_model.specs.Fraction.{Fraction}
-use Rattle.dover_model.specs.Instance.{Instance, IsListable, IsValid}
+use Rattle.dover_model.specs.Common.{Fraction, Instance, IsListable, IsValid, State, opening, is_privileged, is_done}
+use Rattle.dover_model.specs.Common.{is_over, value_sum, Move, Prints, Waits, Ticks, step, after, ending, ◌or_else◌}
+use Rattle.dover_model.specs.Common.{Step, is_end, event_of, printed_of, printed, run, completed_value, value_of_end}
+use Rattle.dover_model.specs.Common.{IsWholeRun, IsMember, IsSound, Keeps}
 use Rattle.dover_model.specs.Intervals as model
 use Rattle.dover_model.specs.declared.events.Event.{Event}
 use Rattle.dover_model.specs.declared.events.Event.TheVariants.{Run, Preempt, Complete, End}
 use Rattle.dover_model.specs.declared.events.Role.TheVariants.{Coming}
 use Rattle.dover_model.specs.declared.events.Task.{Task}
-use Rattle.dover_model.specs.State.{State, opening, is_privileged, is_done, is_over, value_sum}
-use Rattle.dover_model.specs.Step.{Move, Prints, Waits, Ticks, step, after, ending, ◌or_else◌}
-use Rattle.dover_model.specs.Run.{Step, is_end, event_of, printed_of, printed, run, completed_value, value_of_end}
-use Rattle.dover_model.specs.WholeRun.{IsWholeRun}
-use Rattle.dover_model.specs.Sound.{IsMember, IsSound, Keeps}
 use Rattle.dover_model.proofs.lists.Members.{by_bool, map_same, sum_map, sum_zero, term_le_sum}
 use Rattle.dover_model.proofs.steps.Roles.{passes}
 use Rattle.dover_model.proofs.bound.Booked.{privileged_value}

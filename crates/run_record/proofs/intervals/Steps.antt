@@ -9,10 +9,8 @@ use Rattle.dover_model.specs.declared.events.Event.TheVariants.{Run}
 use Rattle.dover_model.specs.declared.events.Role.{Role}
 use Rattle.dover_model.specs.declared.events.Role.TheVariants.{Coming, Fresh, Waiting, Held, Running, Done, Gone}
 use Rattle.dover_model.specs.declared.events.Task.{Task}
-use Rattle.dover_model.specs.State.{State, is_privileged, is_over}
-use Rattle.dover_model.specs.Step.{Prints, Waits, with_role, after}
-use Rattle.dover_model.specs.Run.{Step}
-use Rattle.dover_model.specs.Sound.{IsMember, IsSound, IsNumberedFrom}
+use Rattle.dover_model.specs.Common.{State, is_privileged, is_over, Prints, Waits, with_role, after, Step, IsMember}
+use Rattle.dover_model.specs.Common.{IsSound, IsNumberedFrom}
 use Rattle.dover_model.proofs.lists.Members.{term_le_sum}
 use Rattle.dover_model.proofs.steps.Roles.{passes}
 use Rattle.dover_model.proofs.steps.OneChange.{state_with}

@@ -6,9 +6,8 @@ use Rattle.dover_model.specs.Intervals as model
 use Rattle.dover_model.specs.declared.events.Event.TheVariants.{Take}
 use Rattle.dover_model.specs.declared.events.Role.TheVariants.{Waiting, Running}
 use Rattle.dover_model.specs.declared.events.Task.{Task}
-use Rattle.dover_model.specs.State.{State, privileged, value_sum}
-use Rattle.dover_model.specs.Step.{Prints, with_role, displaced, after}
-use Rattle.dover_model.specs.Sound.{IsMember, IsSound}
+use Rattle.dover_model.specs.Common.{State, privileged, value_sum, Prints, with_role, displaced, after, IsMember}
+use Rattle.dover_model.specs.Common.{IsSound}
 use Rattle.dover_model.proofs.lists.Members.{map_map, map_member}
 use Rattle.dover_model.proofs.steps.Roles.{numbered_map}
 use Rattle.dover_model.proofs.steps.Loads.{state_in}

@@ -6,17 +6,14 @@ use Rattle.std.proofs.lemmas.List.Sums.{sum_by-cons}
 use Rattle.std.specs.Prelude.{Option, Some, None, ◌==◌, nat_lt}
 use Rattle.std.specs.Option.{ForSome}
 use Rattle.std.specs.Bool.{then_some}
-use Rattle.dover_model.specs.Fraction.{Fraction}
+use Rattle.dover_model.specs.Common.{Fraction, entry_of, IsMember, Each, IsNumberedFrom, IsSound, NoneRuns, State}
+use Rattle.dover_model.specs.Common.{is_held, is_running, is_privileged, is_ready_behind, privileged, room, value_sum}
+use Rattle.dover_model.specs.Common.{Move, Prints, Waits, Ticks, with_role, displaced, ◌or_else◌}
 use Rattle.dover_model.specs.declared.events.Entry.{Entry}
 use Rattle.dover_model.specs.declared.events.Event.TheVariants.{Release, Run, Preempt, Take, Complete, Abandon, End}
 use Rattle.dover_model.specs.declared.events.Role.{Role}
 use Rattle.dover_model.specs.declared.events.Role.TheVariants.{Coming, Fresh, Waiting, Held, Running, Done, Gone}
 use Rattle.dover_model.specs.declared.events.Task.{Task}
-use Rattle.dover_model.specs.Entries.{entry_of}
-use Rattle.dover_model.specs.Sound.{IsMember, Each, IsNumberedFrom, IsSound, NoneRuns}
-use Rattle.dover_model.specs.State.{State, is_held, is_running, is_privileged, is_ready_behind, privileged, room}
-use Rattle.dover_model.specs.State.{value_sum}
-use Rattle.dover_model.specs.Step.{Move, Prints, Waits, Ticks, with_role, displaced, ◌or_else◌}
 use Rattle.dover_model.proofs.steps.Deeds.{Deed, Completed, Resumed, Started, Began, Preempted, Stayed, Arrived, Taken}
 use Rattle.dover_model.proofs.steps.Deeds.{Abandoned, Rested}
 use Rattle.dover_model.proofs.steps.Kept.{end_same}

@@ -8,10 +8,8 @@ use Rattle.dover_model.specs.declared.events.Entry.{Entry}
 use Rattle.dover_model.specs.declared.events.Role.{Role}
 use Rattle.dover_model.specs.declared.events.Role.TheVariants.{Coming, Fresh, Waiting, Held, Running, Done, Gone}
 use Rattle.dover_model.specs.declared.events.Task.{Task}
-use Rattle.dover_model.specs.Entries.{entry_of}
-use Rattle.dover_model.specs.Sound.{IsMember, Each, IsNumberedFrom}
-use Rattle.dover_model.specs.State.{is_held, is_running}
-use Rattle.dover_model.specs.Step.{with_role, displaced, ticked}
+use Rattle.dover_model.specs.Common.{entry_of, IsMember, Each, IsNumberedFrom, is_held, is_running, with_role}
+use Rattle.dover_model.specs.Common.{displaced, ticked}
 use Rattle.dover_model.proofs.lists.Members.{on_map, member_filter, by_bool}
 use Rattle.dover_model.proofs.steps.Roles.{is_held_role, is_running_role, numbers_above}
 use Rattle.dover_model.proofs.lists.Tests.{never, none_is_some}

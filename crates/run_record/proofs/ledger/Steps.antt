@@ -9,10 +9,8 @@ use Rattle.dover_model.specs.declared.events.Entry.{Entry}
 use Rattle.dover_model.specs.declared.events.Role.{Role}
 use Rattle.dover_model.specs.declared.events.Role.TheVariants.{Coming, Running}
 use Rattle.dover_model.specs.declared.events.Task.{Task}
-use Rattle.dover_model.specs.Entries.{entry_of}
-use Rattle.dover_model.specs.Sound.{IsMember, IsNumberedFrom, IsSound, NoneRuns}
-use Rattle.dover_model.specs.State.{State, is_held, is_running}
-use Rattle.dover_model.specs.Step.{with_role, displaced, ticked, after, Ticks}
+use Rattle.dover_model.specs.Common.{entry_of, IsMember, IsNumberedFrom, IsSound, NoneRuns, State, is_held, is_running}
+use Rattle.dover_model.specs.Common.{with_role, displaced, ticked, after, Ticks}
 use Rattle.dover_model.proofs.lists.Members.{on_map, map_member}
 use Rattle.dover_model.proofs.steps.Roles.{one_number, is_running_role, passes}
 use Rattle.dover_model.proofs.lists.Tests.{never}

@@ -6,21 +6,15 @@ use Rattle.std.proofs.lemmas.List.{drop_all, length-map}
 use Rattle.std.specs.Prelude.{None, slice_index_or}
 use Rattle.std.specs.Bool.{MatchBool}
 use Rattle.std.specs.List.{sum_by, filter, filter_map, list_all, cons_option, fold, enumerate_from}
-use Rattle.dover_model.specs.Fraction.{Fraction}
-use Rattle.dover_model.specs.Instance.{Instance, IsListable, IsValid}
+use Rattle.dover_model.specs.Common.{Fraction, Instance, IsListable, IsValid, entry_of, JobFacts, end_state, served}
+use Rattle.dover_model.specs.Common.{IsMember, Each, IsNumberedFrom, jobs_of, Keeps, State, opening, to_come, is_done}
+use Rattle.dover_model.specs.Common.{is_over, is_held, value_sum, Move, Prints, Waits, Ticks, step, after, ending}
+use Rattle.dover_model.specs.Common.{◌or_else◌, Step, is_end, event_of, printed_of, printed, run, IsWholeRun}
 use Rattle.dover_model.specs.declared.events.Event.{Event}
 use Rattle.dover_model.specs.declared.events.Entry.{Entry}
 use Rattle.dover_model.specs.declared.events.Role.TheVariants.{Coming, Running}
 use Rattle.dover_model.specs.declared.events.Event.TheVariants.{End}
 use Rattle.dover_model.specs.declared.events.Task.{Task}
-use Rattle.dover_model.specs.Entries.{entry_of}
-use Rattle.dover_model.specs.JobFacts.{JobFacts}
-use Rattle.dover_model.specs.Observed.{end_state, served}
-use Rattle.dover_model.specs.Sound.{IsMember, Each, IsNumberedFrom, jobs_of, Keeps}
-use Rattle.dover_model.specs.State.{State, opening, to_come, is_done, is_over, is_held, value_sum}
-use Rattle.dover_model.specs.Step.{Move, Prints, Waits, Ticks, step, after, ending, ◌or_else◌}
-use Rattle.dover_model.specs.Run.{Step, is_end, event_of, printed_of, printed, run}
-use Rattle.dover_model.specs.WholeRun.{IsWholeRun}
 use Rattle.dover_model.proofs.runs.Ending.{run_is_whole, end_over}
 use Rattle.dover_model.proofs.steps.Kept.{step_deed, step_kept, opening_keeps, come_coming, end_same}
 use Rattle.dover_model.proofs.lists.Members.{sum_map}

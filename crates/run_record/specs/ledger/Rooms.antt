@@ -4,9 +4,7 @@ use Rattle.std.specs.List.{filter_map}
 use Rattle.std.specs.Option.{option_map}
 use Rattle.dover_model.specs.declared.events.Event.{Event}
 use Rattle.dover_model.specs.declared.events.Event.TheVariants.{Release, Preempt}
-use Rattle.dover_model.specs.Instance.{Instance}
-use Rattle.dover_model.specs.State.{State, privileged, room}
-use Rattle.dover_model.specs.Run.{Step, event_of, run}
+use Rattle.dover_model.specs.Common.{Instance, State, privileged, room, Step, event_of, run}
 
 -- at a release and at a preemption, the room of the running and the held jobs before it
 abbrev pub room_before : State → Event → ℕ

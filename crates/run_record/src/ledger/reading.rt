@@ -3,13 +3,9 @@ ghost use Rattle.std.specs.Prelude.{◌≡◌, ◌≤◌, IfOk, None, length, ma
 ghost use Rattle.std.specs.List.{enumerate_from};
 ghost use Rattle.run_record.specs.intervals.Rows.{IsRunOf};
 ghost use Rattle.dover_model.specs.declared.events.Role.TheVariants.{Coming};
-ghost use Rattle.dover_model.specs.Entries.{entry_of};
-ghost use Rattle.dover_model.specs.Fraction.{Fraction};
-ghost use Rattle.dover_model.specs.Instance.{Instance};
-ghost use Rattle.dover_model.specs.Limits.{most_jobs};
+ghost use Rattle.dover_model.specs.Common.{entry_of, Fraction, Instance, most_jobs, to_come};
 ghost use Rattle.dover_model.specs.declared.events.Version.TheVariants.{Two};
 ghost use Rattle.dover_model.specs.Observed as observed;
-ghost use Rattle.dover_model.specs.State.{to_come};
 ghost use Rattle.run_record.specs.ledger.Pages.{empty, had_in};
 ghost use Rattle.run_record.specs.ledger.Rooms as tests;
 

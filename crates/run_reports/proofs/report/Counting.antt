@@ -12,23 +12,16 @@ use Rattle.std.proofs.lemmas.List.Elements.{filter_map-append}
 use Rattle.std.proofs.lemmas.List.Concat.{flat_map-append}
 use Rattle.dover_model.specs.declared.events.Event.{Event}
 use Rattle.dover_model.specs.declared.events.Event.TheVariants.{Release, Complete, Abandon}
-use Rattle.dover_model.specs.Fraction.{Fraction}
-use Rattle.dover_model.specs.JobFacts.{JobFacts}
+use Rattle.dover_model.specs.Common.{Fraction, JobFacts, Instance, IsValid, Item, FinishItem, admitted_jobs}
+use Rattle.dover_model.specs.Common.{may_finish_early, finish_now, running, left, Move, Prints, handed_by}
+use Rattle.dover_model.specs.Common.{early_of as shown_early, Step, run, event_of, printed_of, printed, completed_value}
+use Rattle.dover_model.specs.Common.{bound, with_numbers, in_lines, is_take, summary_lines, report}
+use Rattle.dover_model.specs.Common.{served as model_served}
 use Rattle.dover_model.specs.declared.events.Task.{Task}
-use Rattle.dover_model.specs.Instance.{Instance, IsValid}
-use Rattle.dover_model.specs.Session.{Item, FinishItem, admitted_jobs, may_finish_early}
-use Rattle.dover_model.specs.Settled.{finish_now}
-use Rattle.dover_model.specs.State.{running, left}
-use Rattle.dover_model.specs.Step.{Move, Prints}
-use Rattle.dover_model.specs.Trace.{handed_by, early_of as shown_early}
-use Rattle.dover_model.specs.Run.{Step, run, event_of, printed_of, printed, completed_value}
 use Rattle.dover_model.specs.Intervals as model
-use Rattle.dover_model.specs.Bound.{bound}
-use Rattle.dover_model.specs.Lines.{with_numbers, in_lines}
-use Rattle.dover_model.specs.Reports.{fate_of_event, is_completed, abandoned_number, is_take}
-use Rattle.dover_model.specs.Reports.{Completed, Abandoned, lines_with, summary_lines, interval_line, report}
+use Rattle.dover_model.specs.Reports.{fate_of_event, is_completed, abandoned_number, Completed, Abandoned, lines_with}
+use Rattle.dover_model.specs.Reports.{interval_line}
 use Rattle.dover_model.specs.Reports as reports
-use Rattle.dover_model.specs.Observed.{served as model_served}
 use Rattle.dover_model.proofs.runs.Ending.{few_printed}
 use Rattle.dover_model.proofs.bound.BoundLaws.{intervals_abandon}
 use Rattle.dover_model.proofs.runs.ReleaseCounts.{releases}

@@ -10,25 +10,11 @@ use Rattle.dover_model.specs.declared.events.Event.TheVariants as event
 use Rattle.dover_model.specs.declared.events.Role.{Role}
 use Rattle.dover_model.specs.declared.events.Role.TheVariants.{Coming, Fresh, Waiting, Held, Running, Done, Gone}
 use Rattle.dover_model.specs.declared.events.Task.{Task}
-use Rattle.dover_model.specs.JobFacts.{JobFacts}
-use Rattle.dover_model.specs.Instance.{Rules, Instance, IsValid, total_value}
-use Rattle.dover_model.specs.State.{State, opening, to_come, is_done, is_over, value_sum}
-use Rattle.dover_model.specs.Step.{
-  Move,
-  Prints,
-  Waits,
-  Ticks,
-  step,
-  after,
-  ending,
-  ◌or_else◌,
-  with_role,
-  displaced,
-  ticked,
-}
-use Rattle.dover_model.specs.Run.{Step, is_end, event_of, printed_of, printed, value_of_end, completed_value, run}
-use Rattle.dover_model.specs.WholeRun.{IsWholeRun}
-use Rattle.dover_model.specs.Sound.{IsMember, Each, IsNumberedFrom, Keeps, jobs_of}
+use Rattle.dover_model.specs.Common.{JobFacts, Rules, Instance, IsValid, total_value, State, opening, to_come, is_done}
+use Rattle.dover_model.specs.Common.{is_over, value_sum, Move, Prints, Waits, Ticks, step, after, ending, ◌or_else◌}
+use Rattle.dover_model.specs.Common.{with_role, displaced, ticked, Step, is_end, event_of, printed_of, printed}
+use Rattle.dover_model.specs.Common.{value_of_end, completed_value, run, IsWholeRun, IsMember, Each, IsNumberedFrom}
+use Rattle.dover_model.specs.Common.{Keeps, jobs_of}
 use Rattle.dover_model.proofs.bound.Booking.{is_gone, sum_changed}
 use Rattle.dover_model.proofs.bound.Booked.{displaced_gone}
 use Rattle.dover_model.proofs.steps.Deeds.{Deed, Completed, Resumed, Started, Began, Preempted, Stayed, Arrived, Taken}

@@ -12,12 +12,8 @@ use Rattle.std.proofs.lemmas.List.{drop_all}
 use Rattle.std.proofs.Math.Seq.{take-append_seam}
 use Rattle.dover_model.specs.declared.events.Event.{Event}
 use Rattle.dover_model.specs.declared.events.Event.TheVariants.{Release, Complete, Abandon}
-use Rattle.dover_model.specs.Fraction.{Fraction}
-use Rattle.dover_model.specs.JobFacts.{JobFacts, job_numbers}
-use Rattle.dover_model.specs.Instance.{Instance}
-use Rattle.dover_model.specs.Lines.{in_lines}
-use Rattle.dover_model.specs.Observed.{served as model_served}
-use Rattle.dover_model.specs.Session.{may_finish_early}
+use Rattle.dover_model.specs.Common.{Fraction, JobFacts, job_numbers, Instance, in_lines, served as model_served}
+use Rattle.dover_model.specs.Common.{may_finish_early}
 use Rattle.dover_model.specs.Reports as model
 use Rattle.dover_model.proofs.lists.Members.{by_bool}
 use Rattle.run_record.specs.intervals.Rows.{IsRunOf}

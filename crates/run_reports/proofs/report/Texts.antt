@@ -4,8 +4,7 @@ use Rattle.std.proofs.Common.{append-nil, arith}
 use Rattle.std.specs.Prelude.{decimal}
 use Rattle.std.proofs.lemmas.Fmt.{length-decimal-le}
 use Rattle.std.proofs.lemmas.List.Concat.{flat_map-append}
-use Rattle.dover_model.specs.JobFacts.{JobFacts, IsJob}
-use Rattle.dover_model.specs.Lines.{in_lines}
+use Rattle.dover_model.specs.Common.{JobFacts, IsJob, in_lines}
 use Rattle.dover_model.proofs.valid.JobLimits.{JobLimits, job_limits}
 
 -- how many digits the numbers of a job have at most

@@ -4,10 +4,7 @@ use Rattle.std.proofs.Common.{refl, sym, ap, ◌∙◌, arith, append_assoc, app
 use Rattle.std.specs.Prelude.{Option, Some, None, if◌then◌else◌, codes, decimal}
 use Rattle.std.proofs.lemmas.List.{drop_all}
 use Rattle.dover_model.specs.declared.events.Event.{Event}
-use Rattle.dover_model.specs.JobFacts.{JobFacts}
-use Rattle.dover_model.specs.Instance.{Instance}
-use Rattle.dover_model.specs.Fraction.{Fraction}
-use Rattle.dover_model.specs.Reports.{summary_lines}
+use Rattle.dover_model.specs.Common.{JobFacts, Instance, Fraction, summary_lines}
 use Rattle.run_reports.specs.report.Counts.{jobs_released, counts_lines}
 use Rattle.run_reports.specs.declared.report.counts.Counts.{Counts}
 use Rattle.run_reports.specs.report.Rows.{ending_in}

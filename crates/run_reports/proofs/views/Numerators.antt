@@ -6,10 +6,8 @@ use Rattle.std.specs.Prelude.{◌&&◌, nat_le, if◌then◌else◌, Some, None}
 use Rattle.std.proofs.Math.Nat.{mul-le-mul_right, le-div_iff_mul-le}
 use Rattle.std.proofs.lemmas.Nat.{mul-le}
 use Rattle.std.proofs.lemmas.Bool.{cases_lt, lt-leb, le-leb}
-use Rattle.dover_model.specs.Fraction.{IsRatio, fraction}
-use Rattle.dover_model.specs.Greatest.{greatest, greatest_from}
-use Rattle.dover_model.specs.Limits.{most_p}
-use Rattle.dover_model.specs.Orders.{is_heavy, IsHeavy}
+use Rattle.dover_model.specs.Common.{IsRatio, fraction, greatest, most_p, is_heavy, IsHeavy}
+use Rattle.dover_model.specs.Greatest.{greatest_from}
 use Rattle.dover_model.proofs.bound.GreatestLaws.{IsDownwardClosed, greatest-is}
 use Rattle.dover_model.proofs.valid.JobLimits.{ratio_from, ratio_limits}
 use Rattle.dover_model.proofs.lists.Tests.{both, at_most}

@@ -6,11 +6,8 @@ use Rattle.std.specs.Option.{option_map}
 use Rattle.std.proofs.lemmas.List.{drop_all}
 use Rattle.std.proofs.lemmas.Slice.Zip.{length-zip, get_or-zip}
 use Rattle.dover_model.specs.declared.events.Event.{Event}
-use Rattle.dover_model.specs.Instance.{Instance}
-use Rattle.dover_model.specs.Fraction.{Fraction}
-use Rattle.dover_model.specs.State.{privileged, value_sum}
-use Rattle.dover_model.specs.Step.{Move, Prints, Waits, Ticks}
-use Rattle.dover_model.specs.Run.{Step, event_of, printed_of, run}
+use Rattle.dover_model.specs.Common.{Instance, Fraction, privileged, value_sum, Move, Prints, Waits, Ticks, Step}
+use Rattle.dover_model.specs.Common.{event_of, printed_of, run}
 use Rattle.run_record.specs.intervals.Rows.{IsRunOf, weight_of, weights}
 use Rattle.run_record.specs.ledger.Rooms.{room_before, room_of_step, rooms}
 

@@ -4,10 +4,7 @@ use Rattle.std.proofs.Common.{append-nil}
 use Rattle.std.specs.Prelude.{codes}
 use Rattle.std.specs.List.{zip}
 use Rattle.dover_model.specs.declared.events.Event.{Event}
-use Rattle.dover_model.specs.JobFacts.{JobFacts}
-use Rattle.dover_model.specs.Instance.{Instance}
-use Rattle.dover_model.specs.Observed.{served}
-use Rattle.dover_model.specs.Fraction.{Fraction}
+use Rattle.dover_model.specs.Common.{JobFacts, Instance, served, Fraction}
 use Rattle.run_reports.specs.report.Counts.{jobs_released, value_lost}
 use Rattle.run_reports.proofs.report.Counting.{jobs_are}
 use Rattle.run_record.specs.intervals.Rows.{IsRunOf, weights}

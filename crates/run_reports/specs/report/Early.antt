@@ -5,9 +5,7 @@ use Rattle.std.specs.List.{sum_by, count_by}
 use Rattle.std.specs.Option.{option_map_or}
 use Rattle.dover_model.specs.declared.events.Event.{Event}
 use Rattle.dover_model.specs.declared.events.Event.TheVariants.{Complete}
-use Rattle.dover_model.specs.JobFacts.{JobFacts}
-use Rattle.dover_model.specs.Limits.{last_tick}
-use Rattle.dover_model.specs.Lines.{with_numbers}
+use Rattle.dover_model.specs.Common.{JobFacts, last_tick, with_numbers}
 use Rattle.run_reports.specs.declared.report.early.Early.{Early}
 
 -- the work that is left of the job of number n, by the ticks that the jobs had

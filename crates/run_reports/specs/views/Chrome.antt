@@ -2,9 +2,7 @@
 use Rattle.std.specs.Prelude.{ℕ, ◌+◌, List, [], ◌∷◌, ◌++◌, codes, nat_lt, slice_index_or, if◌then◌else◌}
 use Rattle.dover_model.specs.declared.events.Event.{Event}
 use Rattle.dover_model.specs.declared.events.Event.TheVariants.{Release, Run, Preempt, Take, Complete, Abandon, End}
-use Rattle.dover_model.specs.JobFacts.{JobFacts}
-use Rattle.dover_model.specs.Instance.{Instance}
-use Rattle.dover_model.specs.Observed.{served}
+use Rattle.dover_model.specs.Common.{JobFacts, Instance, served}
 use Rattle.run_reports.specs.report.Counts.{value_in, value_lost}
 use Rattle.run_reports.specs.report.Early.{left_in}
 use Rattle.run_reports.specs.views.Moments.{moments}

@@ -4,15 +4,9 @@ use Rattle.std.specs.Prelude.{nat_le, nat_lt, if◌then◌else◌, Option, Some,
 use Rattle.std.specs.Option.{option_map_or}
 use Rattle.dover_model.specs.declared.events.Event.{Event}
 use Rattle.dover_model.specs.declared.events.Event.TheVariants.{Release, Run, Preempt, Take, Complete, Abandon, End}
-use Rattle.dover_model.specs.Fraction.{Fraction, fraction}
+use Rattle.dover_model.specs.Common.{Fraction, fraction, greatest, JobFacts, Instance, most_p, served, is_heavy}
+use Rattle.dover_model.specs.Common.{printed}
 use Rattle.dover_model.specs.declared.factors.Factor.{Factor}
-use Rattle.dover_model.specs.Greatest.{greatest}
-use Rattle.dover_model.specs.JobFacts.{JobFacts}
-use Rattle.dover_model.specs.Instance.{Instance}
-use Rattle.dover_model.specs.Limits.{most_p}
-use Rattle.dover_model.specs.Observed.{served}
-use Rattle.dover_model.specs.Orders.{is_heavy}
-use Rattle.dover_model.specs.Run.{printed}
 use Rattle.root_compare.specs.Least.{least_heavy}
 use Rattle.run_reports.specs.report.Early.{left_at}
 use Rattle.run_record.specs.intervals.Rows.{weights}

@@ -1,9 +1,6 @@
 //! The jobs that completed with work left.
 ghost use Rattle.std.specs.Prelude.{◌≡◌, ◌≤◌, ◌++◌, length, slice_index_or, true, OnOk, IfOk};
-ghost use Rattle.dover_model.specs.Fraction.{Fraction};
-ghost use Rattle.dover_model.specs.Instance.{Instance};
-ghost use Rattle.dover_model.specs.Limits.{last_tick};
-ghost use Rattle.dover_model.specs.Lines.{in_lines};
+ghost use Rattle.dover_model.specs.Common.{Fraction, Instance, last_tick, in_lines};
 ghost use Rattle.dover_model.specs.Observed as observed;
 ghost use Rattle.run_record.specs.intervals.Rows.{IsRunOf};
 ghost use Rattle.run_reports.specs.report.Counts.{jobs_released};

@@ -1,10 +1,6 @@
 //! The table of jobs, row by row.
 ghost use Rattle.std.specs.Prelude.{◌≡◌, ◌≤◌, ◌+◌, ◌++◌, ◌∷◌, [], length, map, IfOk, decimal, slice_index_or};
-ghost use Rattle.dover_model.specs.Instance.{Instance};
-ghost use Rattle.dover_model.specs.JobFacts.{job_numbers};
-ghost use Rattle.dover_model.specs.Lines.{in_lines};
-ghost use Rattle.dover_model.specs.Fraction.{Fraction};
-ghost use Rattle.dover_model.specs.Reports.{table};
+ghost use Rattle.dover_model.specs.Common.{Instance, job_numbers, in_lines, Fraction, table};
 ghost use Rattle.run_record.specs.intervals.Rows.{IsRunOf};
 ghost use Rattle.line_text.specs.Writing.{most_written};
 ghost use Rattle.run_reports.specs.report.Rows.{after_commas, ending_fields, had_fields, names_line, row_text};

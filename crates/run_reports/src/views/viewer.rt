@@ -2,8 +2,7 @@
 ghost use Rattle.std.specs.Prelude.{◌≡◌, ◌≤◌, ◌++◌, ◌∷◌, [], ◌+◌, ◌*◌, length, OnOk, IfOk, codes};
 ghost use Rattle.std.specs.List.{zip};
 ghost use Rattle.run_record.specs.intervals.Rows.{IsRunOf};
-ghost use Rattle.dover_model.specs.Instance.{Instance};
-ghost use Rattle.dover_model.specs.Limits.{most_value};
+ghost use Rattle.dover_model.specs.Common.{Instance, most_value};
 ghost use Rattle.run_reports.specs.report.Counts as counts;
 ghost use Rattle.run_reports.specs.views.Chrome as events;
 ghost use Rattle.run_reports.specs.views.Templates.{filled};

@@ -4,19 +4,12 @@ use Rattle.std.proofs.Common.{◌∙◌, subst, Bool, true, false, cond}
 use Rattle.std.proofs.Common.{arith, eqb}
 use Rattle.std.specs.Prelude.{None}
 use Rattle.std.proofs.lemmas.Bool.{eq-eqb, ne_eqb, eqb-true}
-use Rattle.dover_model.specs.Fraction.{Fraction, IsRatio}
-use Rattle.dover_model.specs.JobFacts.{JobFacts, IsJob}
-use Rattle.dover_model.specs.Instance.{Instance, IsValid}
-use Rattle.dover_model.specs.Orders.{is_heavy}
-use Rattle.dover_model.specs.Bait.{unit_value, most_light, first_link, bait_value, bait_tick, tight_job, chain_jobs}
-use Rattle.dover_model.specs.Bait.{bait_jobs, last_link}
+use Rattle.dover_model.specs.Common.{Fraction, IsRatio, JobFacts, IsJob, Instance, IsValid, is_heavy, unit_value}
+use Rattle.dover_model.specs.Common.{most_light, first_link, bait_value, bait_tick, tight_job, chain_jobs, bait_jobs}
+use Rattle.dover_model.specs.Common.{last_link, opening, step, Step, run, completed_value, step_at, IsMember, Each}
+use Rattle.dover_model.specs.Common.{Keeps}
 use Rattle.dover_model.specs.declared.events.Version.{Version}
 use Rattle.dover_model.specs.declared.events.Role.TheVariants.{Coming, Running}
-use Rattle.dover_model.specs.State.{opening}
-use Rattle.dover_model.specs.Step.{step}
-use Rattle.dover_model.specs.Run.{Step, run, completed_value}
-use Rattle.dover_model.specs.WholeRun.{step_at}
-use Rattle.dover_model.specs.Sound.{IsMember, Each, Keeps}
 use Rattle.dover_model.proofs.lists.Members.{all_member, member_behind, sum_same}
 use Rattle.dover_model.proofs.lists.Tests.{never}
 use Rattle.dover_model.proofs.steps.Kept.{step_deed, opening_keeps, come_coming}

@@ -4,9 +4,7 @@ use Rattle.std.proofs.Common.{arith}
 use Rattle.std.specs.List.{filter, flat_map, range_with_len, AllByRecursion, sum}
 use Rattle.std.proofs.lemmas.Bool.{eq-eqb, ne_eqb}
 use Rattle.std.proofs.lemmas.List.Sums.{sum_by-cons}
-use Rattle.dover_model.specs.Fraction.{Fraction}
-use Rattle.dover_model.specs.JobFacts.{JobFacts}
-use Rattle.dover_model.specs.Bait.{chain_from, tight_job, chain_jobs_from, most_light}
+use Rattle.dover_model.specs.Common.{Fraction, JobFacts, chain_from, tight_job, chain_jobs_from, most_light}
 use Rattle.stated_jobs.specs.bait.Baiting.{jobs_from}
 
 -- the jobs of a list that are released at a tick

@@ -11,17 +11,11 @@ use Rattle.dover_model.specs.declared.events.Role.{Role}
 use Rattle.dover_model.specs.declared.events.Role.TheVariants.{Coming, Fresh, Waiting, Held, Running, Done, Gone}
 use Rattle.dover_model.specs.declared.events.Event.TheVariants.{Complete, End}
 use Rattle.dover_model.specs.declared.events.Task.{Task}
-use Rattle.dover_model.specs.JobFacts.{JobFacts}
-use Rattle.dover_model.specs.Fraction.{Fraction}
-use Rattle.dover_model.specs.Instance.{Instance, IsValid}
-use Rattle.dover_model.specs.Bait.{first_link, bait_jobs, chain_jobs, bait_value}
-use Rattle.dover_model.specs.State.{State, opening, is_done, is_over, left, privileged, value_sum}
-use Rattle.dover_model.specs.Orders.{is_heavy}
-use Rattle.dover_model.specs.Step.{Move, Prints, Ticks, step, after, ending, ◌or_else◌, with_role, displaced, ticked}
-use Rattle.dover_model.specs.Run.{Step, is_end, run}
-use Rattle.dover_model.specs.WholeRun.{IsWholeRun}
-use Rattle.dover_model.specs.Processor.{is_complete}
-use Rattle.dover_model.specs.Sound.{IsMember, Each, IsSound, jobs_of, Keeps}
+use Rattle.dover_model.specs.Common.{JobFacts, Fraction, Instance, IsValid, first_link, bait_jobs, chain_jobs}
+use Rattle.dover_model.specs.Common.{bait_value, State, opening, is_done, is_over, left, privileged, value_sum}
+use Rattle.dover_model.specs.Common.{is_heavy, Move, Prints, Ticks, step, after, ending, ◌or_else◌, with_role}
+use Rattle.dover_model.specs.Common.{displaced, ticked, Step, is_end, run, IsWholeRun, is_complete, IsMember, Each}
+use Rattle.dover_model.specs.Common.{IsSound, jobs_of, Keeps, one_if}
 use Rattle.dover_model.proofs.lists.Members.{on_map, map_member, sum_filter, sum_zero}
 use Rattle.dover_model.proofs.steps.Roles.{one_number, passes, is_over_role}
 use Rattle.dover_model.proofs.steps.OneChange.{state_with, on_changed, changed_here, changed_there}
@@ -30,7 +24,6 @@ use Rattle.dover_model.proofs.steps.Deeds.{Deed, Completed, Resumed, Started, Be
 use Rattle.dover_model.proofs.steps.Deeds.{Abandoned, Rested}
 use Rattle.dover_model.proofs.steps.Kept.{step_deed, step_kept, opening_keeps, come_coming, end_same}
 use Rattle.dover_model.proofs.runs.Ending.{end_over, run_is_whole}
-use Rattle.dover_model.specs.Weights.{one_if}
 use Rattle.stated_jobs.specs.bait.BaitingRuns.{baiting, CompletesLastAlone}
 use Rattle.stated_jobs.proofs.bait.Steady.{IsLast, IsChained, IsSteady, alone, stands_as, differ, completes}
 use Rattle.stated_jobs.proofs.bait.Steady.{no_preemption}

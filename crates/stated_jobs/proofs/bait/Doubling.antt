@@ -5,12 +5,8 @@ use Rattle.std.specs.List.{sum}
 use Rattle.std.proofs.lemmas.List.Sums.{sum_by-cons}
 use Rattle.std.proofs.Math.Nat.{pow-succ', div_self, mul-div_cancel_left}
 use Rattle.dover_model.specs.declared.events.Version.TheVariants.{Two}
-use Rattle.dover_model.specs.Limits.{most_jobs}
-use Rattle.dover_model.specs.Fraction.{Fraction, IsRatio}
-use Rattle.dover_model.specs.Greatest.{greatest}
-use Rattle.dover_model.specs.Orders.{is_heavy}
-use Rattle.dover_model.specs.Bait.{unit_value, most_light, first_link, chain_from, chain, last_link, bait_value}
-use Rattle.dover_model.specs.Bait.{bait_tick, plan_value}
+use Rattle.dover_model.specs.Common.{most_jobs, Fraction, IsRatio, greatest, is_heavy, unit_value, most_light}
+use Rattle.dover_model.specs.Common.{first_link, chain_from, chain, last_link, bait_value, bait_tick, plan_value}
 use Rattle.dover_model.proofs.bound.Calculus.{square_order, heavy_more}
 use Rattle.root_compare.proofs.Roots.{one_greatest}
 use Rattle.stated_jobs.specs.bait.Baiting.{FitsLimits}

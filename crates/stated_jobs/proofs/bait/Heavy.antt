@@ -5,14 +5,11 @@ use Rattle.std.specs.Prelude.{not, Option, Some, None}
 use Rattle.std.proofs.lemmas.Bool.{cases_lt}
 use Rattle.std.proofs.lemmas.Nat.{mul-le}
 use Rattle.std.proofs.Math.Nat.{mul-div-le, le-div_iff_mul-le, div-le_self}
-use Rattle.dover_model.specs.Fraction.{Fraction, IsRatio, is_some_factor}
+use Rattle.dover_model.specs.Common.{Fraction, IsRatio, is_some_factor, IsGreatest, greatest, IsHeavy, is_heavy}
+use Rattle.dover_model.specs.Common.{most_light, IsExcessBy}
 use Rattle.dover_model.specs.declared.factors.Factor.{Factor}
-use Rattle.dover_model.specs.Greatest.{IsGreatest, greatest}
-use Rattle.dover_model.specs.Orders.{IsHeavy, is_heavy}
-use Rattle.dover_model.specs.Bait.{most_light}
 use Rattle.stated_jobs.specs.bait.Links.{IsLeastUnmoved, IsLeastHeavy, IsMostLight}
 use Rattle.dover_model.proofs.lists.Tests.{never}
-use Rattle.dover_model.specs.Books.{IsExcessBy}
 use Rattle.dover_model.proofs.bound.Calculus.{HeavyBy, heavy_mono, heavy_more, heavy_up, not_heavy, square_order}
 use Rattle.dover_model.proofs.bound.Calculus.{heavy_excess, root_from, factor_from, factor_over}
 use Rattle.dover_model.proofs.bound.GreatestLaws.{IsDownwardClosed, greatest-is}

@@ -9,13 +9,10 @@ use Rattle.std.specs.Prelude.{if◌then◌else◌}
 use Rattle.std.proofs.lemmas.List.{drop-take}
 use Rattle.std.proofs.lemmas.List.Sums.{sum_by-cons}
 use Rattle.dover_model.specs.declared.events.Version.{Version}
-use Rattle.dover_model.specs.Fraction.{Fraction}
-use Rattle.dover_model.specs.JobFacts.{JobFacts}
-use Rattle.dover_model.specs.Schedules.{ticks_given, is_served, worth}
-use Rattle.dover_model.specs.Instance.{jobs_under}
-use Rattle.dover_model.specs.Bait.{unit_value, first_link, chain, bait_value, tight_job, chain_jobs_from, chain_jobs}
-use Rattle.dover_model.specs.Bait.{bait_tick}
-use Rattle.dover_model.specs.Bait.{bait_jobs, unit_number, bait_plan, plan_value}
+use Rattle.dover_model.specs.Common.{Fraction, JobFacts, ticks_given, is_served, worth, jobs_under, unit_value}
+use Rattle.dover_model.specs.Common.{first_link, chain, bait_value, tight_job, chain_jobs_from, chain_jobs, bait_tick}
+use Rattle.dover_model.specs.Common.{bait_jobs, bait_plan, plan_value}
+use Rattle.dover_model.specs.Bait.{unit_number}
 use Rattle.stated_jobs.proofs.bait.Coming.{at, of_tick, one_at, not_at, sum_least}
 use Rattle.stated_jobs.proofs.bait.Streaming.{Streams, gives_link, gives_unit, gives_bait, until, until_one}
 use Rattle.stated_jobs.proofs.bait.Streaming.{until_later}

@@ -6,11 +6,9 @@ use Rattle.std.specs.Prelude.{◌==◌}
 use Rattle.std.specs.List.{filter, flat_map, range_with_len, sum_by}
 use Rattle.std.proofs.lemmas.Bool.{eqb-true, eq-eqb, ne_eqb, cases_lt}
 use Rattle.std.proofs.lemmas.List.Sums.{sum_by-cons, sum_by-append}
-use Rattle.dover_model.specs.Fraction.{Fraction}
-use Rattle.dover_model.specs.JobFacts.{JobFacts}
-use Rattle.dover_model.specs.Bait.{unit_value, bait_value, bait_tick, tight_job, chain_jobs, links_at, released_at}
-use Rattle.dover_model.specs.Bait.{bait_jobs}
-use Rattle.dover_model.specs.Sound.{IsMember, Each}
+use Rattle.dover_model.specs.Common.{Fraction, JobFacts, unit_value, bait_value, bait_tick, tight_job, chain_jobs}
+use Rattle.dover_model.specs.Common.{bait_jobs, IsMember, Each}
+use Rattle.dover_model.specs.Bait.{links_at, released_at}
 use Rattle.dover_model.proofs.lists.Members.{filter_member, member_filter, sum_filter, sum_plus, sum_same}
 use Rattle.dover_model.proofs.lists.Members.{member_front, member_behind, member_either}
 

@@ -6,11 +6,8 @@ use Rattle.std.specs.Prelude.{Option, Some, unwrap_or}
 use Rattle.std.specs.List.{sum, sum_by, last_or}
 use Rattle.std.proofs.lemmas.Bool.{eq-eqb, ne_eqb}
 use Rattle.std.proofs.lemmas.List.Sums.{sum_by-cons}
-use Rattle.dover_model.specs.Fraction.{Fraction, IsRatio}
-use Rattle.dover_model.specs.JobFacts.{JobFacts}
-use Rattle.dover_model.specs.Orders.{is_heavy}
-use Rattle.dover_model.specs.Bait.{most_light, chain_from, tight_job, chain_jobs_from}
-use Rattle.dover_model.specs.Sound.{IsMember, Each}
+use Rattle.dover_model.specs.Common.{Fraction, IsRatio, JobFacts, is_heavy, most_light, chain_from, tight_job}
+use Rattle.dover_model.specs.Common.{chain_jobs_from, IsMember, Each}
 use Rattle.stated_jobs.proofs.bait.RunWeights.{heavy_grows, next_heavy, next_more}
 
 -- the last of n + 1 links from w on

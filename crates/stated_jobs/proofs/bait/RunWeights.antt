@@ -3,10 +3,8 @@ use Rattle.std.proofs.Common.{◌≡◌, ℕ, suc, ◌/◌, ◌^◌, ◌≤◌, 
 use Rattle.std.specs.Prelude.{not}
 use Rattle.std.proofs.lemmas.Nat.{le-div}
 use Rattle.std.proofs.Math.Nat.{div-le_self}
-use Rattle.dover_model.specs.Fraction.{Fraction, IsRatio}
-use Rattle.dover_model.specs.Orders.{is_heavy}
-use Rattle.dover_model.specs.Greatest.{IsGreatest, greatest}
-use Rattle.dover_model.specs.Bait.{unit_value, most_light, first_link}
+use Rattle.dover_model.specs.Common.{Fraction, IsRatio, is_heavy, IsGreatest, greatest, unit_value, most_light}
+use Rattle.dover_model.specs.Common.{first_link}
 use Rattle.dover_model.proofs.bound.Calculus.{heavy_more, heavy_mono, heavy_up}
 use Rattle.dover_model.proofs.bound.GreatestLaws.{greatest-is}
 use Rattle.dover_model.proofs.lists.Members.{by_bool}

@@ -6,20 +6,15 @@ use Rattle.std.specs.List.{sum_by, filter, list_all}
 use Rattle.std.specs.Prelude.{nat_lt, ◌&&◌}
 use Rattle.std.specs.Bool.{then_some}
 use Rattle.std.proofs.lemmas.Bool.{eqb-true, eq-eqb, ne_eqb, cases_lt, ltb-false}
-use Rattle.dover_model.specs.JobFacts.{JobFacts}
-use Rattle.dover_model.specs.Fraction.{Fraction}
-use Rattle.dover_model.specs.Instance.{Rules}
-use Rattle.dover_model.specs.Finishes.{goes_on}
-use Rattle.dover_model.specs.Processor.{is_complete}
+use Rattle.dover_model.specs.Common.{JobFacts, Fraction, Rules, goes_on, is_complete, State, is_privileged, is_over}
+use Rattle.dover_model.specs.Common.{is_done, privileged, left, value_sum, is_heavy, Move, Prints, Ticks, step, after}
+use Rattle.dover_model.specs.Common.{with_role, displaced, ticked, ending, ◌or_else◌, IsMember, Each, EachTwo, FitsRole}
+use Rattle.dover_model.specs.Common.{IsNumberedFrom, NoneRuns, IsSound, jobs_of}
 use Rattle.dover_model.proofs.finishes.Readiness.{step_decides}
 use Rattle.dover_model.specs.declared.events.Role.{Role}
 use Rattle.dover_model.specs.declared.events.Role.TheVariants.{Coming, Fresh, Waiting, Held, Running, Done, Gone}
 use Rattle.dover_model.specs.declared.events.Event.TheVariants.{Take, End}
 use Rattle.dover_model.specs.declared.events.Task.{Task}
-use Rattle.dover_model.specs.State.{State, is_privileged, is_over, is_done, privileged, left, value_sum}
-use Rattle.dover_model.specs.Orders.{is_heavy}
-use Rattle.dover_model.specs.Step.{Move, Prints, Ticks, step, after, with_role, displaced, ticked, ending, ◌or_else◌}
-use Rattle.dover_model.specs.Sound.{IsMember, Each, EachTwo, FitsRole, IsNumberedFrom, NoneRuns, IsSound, jobs_of}
 use Rattle.dover_model.proofs.lists.Members.{on_map, map_member, sum_filter, sum_zero, sum_map, sum_same, term_le_sum}
 use Rattle.dover_model.proofs.steps.Roles.{one_number, numbers_above, passes, is_privileged_role, is_over_role}
 use Rattle.dover_model.proofs.steps.Loads.{sum_change, with_roles, Fits, load}

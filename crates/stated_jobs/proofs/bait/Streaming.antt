@@ -7,8 +7,7 @@ use Rattle.std.specs.Prelude.{map}
 use Rattle.std.specs.List.{sum, range_with_len, count_by}
 use Rattle.std.proofs.lemmas.Bool.{cases_lt, le-leb, lt-leb}
 use Rattle.std.proofs.lemmas.List.Sums.{sum_by-cons}
-use Rattle.dover_model.specs.JobFacts.{JobFacts}
-use Rattle.dover_model.specs.Bait.{tight_job, chain_jobs_from}
+use Rattle.dover_model.specs.Common.{JobFacts, tight_job, chain_jobs_from}
 use Rattle.stated_jobs.specs.bait.Baiting.{jobs_from}
 use Rattle.stated_jobs.proofs.bait.Coming.{AreSome, AreAfter, are_after, link_first, unit_next}
 

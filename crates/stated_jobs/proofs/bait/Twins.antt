@@ -5,15 +5,9 @@ use Rattle.std.specs.List.{count_by, filter, flat_map, range_with_len, sum}
 use Rattle.dover_model.specs.declared.events.Version.{Version}
 use Rattle.dover_model.specs.declared.events.Version.TheVariants.{One, Two, Three}
 use Rattle.dover_model.specs.declared.events.Task.{Task}
-use Rattle.dover_model.specs.JobFacts.{JobFacts}
-use Rattle.dover_model.specs.Fraction.{Fraction}
-use Rattle.dover_model.specs.Instance.{IsValid, jobs_under}
-use Rattle.dover_model.specs.Bait.{unit_value, first_link, bait_value, tight_job, chain_jobs_from, bait_jobs}
-use Rattle.dover_model.specs.State.{opening}
-use Rattle.dover_model.specs.Step.{step}
-use Rattle.dover_model.specs.Run.{run, completed_value}
-use Rattle.dover_model.specs.Processor.{is_complete}
-use Rattle.dover_model.specs.Sound.{IsMember, Each, Keeps}
+use Rattle.dover_model.specs.Common.{JobFacts, Fraction, IsValid, jobs_under, unit_value, first_link, bait_value}
+use Rattle.dover_model.specs.Common.{tight_job, chain_jobs_from, bait_jobs, opening, step, run, completed_value}
+use Rattle.dover_model.specs.Common.{is_complete, IsMember, Each, Keeps}
 use Rattle.dover_model.proofs.lists.Members.{map_member}
 use Rattle.dover_model.proofs.steps.Kept.{opening_keeps}
 use Rattle.dover_model.proofs.runs.Ending.{run_is_whole}

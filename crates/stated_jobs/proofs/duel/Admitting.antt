@@ -3,10 +3,7 @@ use Rattle.std.proofs.Common.{◌≡◌, ℕ, ◌≤◌, List, [], ◌∷◌, �
 use Rattle.std.proofs.Common.{append_assoc, None}
 use Rattle.std.specs.List.{AllByRecursion}
 use Rattle.dover_model.specs.declared.events.Version.TheVariants.{One}
-use Rattle.dover_model.specs.Fraction.{Fraction}
-use Rattle.dover_model.specs.JobFacts.{JobFacts, IsJob}
-use Rattle.dover_model.specs.Instance.{Declaration, jobs_under}
-use Rattle.dover_model.specs.Admission.{refusal_of}
+use Rattle.dover_model.specs.Common.{Fraction, JobFacts, IsJob, Declaration, jobs_under, refusal_of}
 use Rattle.dover_model.proofs.valid.Admitting.{admits, valid_admitted}
 use Rattle.dover_model.proofs.valid.Valid.{all_back, valid_front}
 use Rattle.admission.specs.Kept.{Kept, StandsFor}

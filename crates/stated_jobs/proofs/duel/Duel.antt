@@ -4,9 +4,7 @@ use Rattle.std.proofs.Common.{refl, sym, ap, ◌∙◌, subst, length, arith, So
 use Rattle.std.specs.Prelude.{slice_get, Option}
 use Rattle.std.specs.List.{sum, AllByRecursion}
 use Rattle.std.proofs.lemmas.Nat.{mul-le}
-use Rattle.dover_model.specs.JobFacts.{JobFacts}
-use Rattle.dover_model.specs.Fraction.{Fraction}
-use Rattle.dover_model.specs.Online.{known_at}
+use Rattle.dover_model.specs.Common.{JobFacts, Fraction, known_at}
 use Rattle.dover_model.specs.declared.events.Version.{Version}
 use Rattle.dover_model.proofs.bound.Calculus.{cancel}
 use Rattle.dover_model.proofs.valid.Valid.{Split, split_known, valid_front}

@@ -6,9 +6,7 @@ use Rattle.std.specs.Prelude.{slice_get}
 use Rattle.std.specs.List.{sum, AllByRecursion}
 use Rattle.std.proofs.lemmas.Bool.{cases_lt, le-leb, lt-leb}
 use Rattle.std.proofs.lemmas.List.Sums.{sum_by-cons}
-use Rattle.dover_model.specs.JobFacts.{JobFacts}
-use Rattle.dover_model.specs.Online.{known_at}
-use Rattle.dover_model.specs.Bait.{tight_job}
+use Rattle.dover_model.specs.Common.{JobFacts, known_at, tight_job}
 use Rattle.stated_jobs.specs.duel.Jobs.{smalls}
 use Rattle.stated_jobs.proofs.duel.Phases.{jobs_from, path, end_of}
 use Rattle.stated_jobs.proofs.duel.Served.{Numbered}

@@ -4,10 +4,7 @@ use Rattle.std.proofs.Common.{refl, ap, subst, ◌∙◌, arith, Bool, true, fal
 use Rattle.std.specs.Int.{w128}
 use Rattle.std.specs.Prelude.{min}
 use Rattle.std.proofs.lemmas.Nat.{mul-le, div_below}
-use Rattle.dover_model.specs.Fraction.{Fraction, IsRatio}
-use Rattle.dover_model.specs.JobFacts.{JobFacts, IsJob}
-use Rattle.dover_model.specs.Bait.{tight_job}
-use Rattle.dover_model.specs.Limits.{last_tick}
+use Rattle.dover_model.specs.Common.{Fraction, IsRatio, JobFacts, IsJob, tight_job, last_tick}
 use Rattle.dover_model.proofs.valid.JobLimits.{job_limits, ratio_limits}
 use Rattle.stated_jobs.specs.duel.Links.{next_link}
 use Rattle.stated_jobs.specs.duel.Jobs.{smalls, pieces, small_work, is_last, jobs_of_links, first_link}

@@ -2,8 +2,7 @@
 use Rattle.std.proofs.Common.{◌≡◌, ℕ, ◌≤◌, sym, subst, length, arith}
 use Rattle.dover_model.specs.declared.events.Version.{Version}
 use Rattle.dover_model.specs.declared.events.Version.TheVariants.{One}
-use Rattle.dover_model.specs.Fraction.{Fraction}
-use Rattle.dover_model.specs.Limits.{most_jobs}
+use Rattle.dover_model.specs.Common.{Fraction, most_jobs}
 use Rattle.stated_jobs.specs.duel.Game.{Scheduler, IsOnline, AreValid, LosesOnFront}
 use Rattle.stated_jobs.specs.duel.Jobs.{jobs_of_links, first_link, duel_jobs}
 use Rattle.stated_jobs.proofs.duel.Phases.{jobs_from}

@@ -5,17 +5,13 @@ use Rattle.std.specs.Prelude.{nat_le}
 use Rattle.std.specs.List.{sum, AllByRecursion}
 use Rattle.std.proofs.lemmas.Bool.{cases_lt, lt-leb}
 use Rattle.std.proofs.lemmas.Nat.{mul-le}
-use Rattle.dover_model.specs.JobFacts.{JobFacts}
-use Rattle.dover_model.specs.Fraction.{Fraction}
-use Rattle.dover_model.specs.Online.{known_at}
-use Rattle.dover_model.specs.Bait.{tight_job}
+use Rattle.dover_model.specs.Common.{JobFacts, Fraction, known_at, tight_job, is_within_ratio}
 use Rattle.dover_model.proofs.valid.Valid.{all_from}
 use Rattle.stated_jobs.specs.duel.Jobs.{smalls}
 use Rattle.stated_jobs.specs.duel.Game.{ArePlain}
 use Rattle.stated_jobs.proofs.duel.Phases.{jobs_from, AreTraps}
 use Rattle.stated_jobs.proofs.duel.Fronts.{sum_cons, known_one}
 use Rattle.dover_model.proofs.valid.ValidParts.{IsWithinRatio, is_within_ratio-agrees, ReleasesInOrder, order_from}
-use Rattle.dover_model.specs.Instance.{is_within_ratio}
 
 record IsPiece (k : Fraction) (j : JobFacts) : Type 0 where
   some : 1 ≤ j.work

@@ -4,10 +4,7 @@ use Rattle.std.specs.Prelude.{◌&&◌, nat_le}
 use Rattle.std.specs.List.{list_all}
 use Rattle.std.proofs.lemmas.Bool.{leb-true}
 use Rattle.dover_model.specs.declared.events.Version.TheVariants.{One}
-use Rattle.dover_model.specs.Fraction.{Fraction, IsRatio}
-use Rattle.dover_model.specs.JobFacts.{JobFacts, is_job, IsJob}
-use Rattle.dover_model.specs.Instance.{total_value}
-use Rattle.dover_model.specs.Limits.{most_jobs, most_total}
+use Rattle.dover_model.specs.Common.{Fraction, IsRatio, JobFacts, is_job, IsJob, total_value, most_jobs, most_total}
 use Rattle.dover_model.proofs.lists.Tests.{each}
 use Rattle.stated_jobs.specs.duel.Game.{Scheduler, IsOnline, ArePlain, AreValid, LosesOnFront}
 use Rattle.stated_jobs.specs.duel.Jobs.{jobs_of_links, first_link, duel_jobs}

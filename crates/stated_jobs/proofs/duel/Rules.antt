@@ -9,15 +9,11 @@ use Rattle.dover_model.specs.declared.events.Event.TheVariants.{End}
 use Rattle.dover_model.specs.declared.events.Version.{Version}
 use Rattle.dover_model.specs.declared.events.Role.{Role}
 use Rattle.dover_model.specs.declared.events.Role.TheVariants.{Coming, Fresh, Waiting, Held, Running, Done, Gone}
-use Rattle.dover_model.specs.Fraction.{Fraction}
-use Rattle.dover_model.specs.Instance.{Rules, Instance, IsValid, with_jobs, jobs_under}
-use Rattle.dover_model.specs.State.{State, with_later, opening, to_come, is_over, is_done, is_running, value_sum}
-use Rattle.dover_model.specs.Step.{Move, Ticks, Waits, Prints, step, open_step, after, ending, ◌or_else◌}
-use Rattle.dover_model.specs.Run.{Step, is_end, run, ran, tick_of}
-use Rattle.dover_model.specs.Settled.{waits_for_mark, settled_steps, AllComeFrom}
-use Rattle.dover_model.specs.WholeRun.{IsWholeRun, IsSettledRun}
-use Rattle.dover_model.specs.Online.{known_at}
-use Rattle.dover_model.specs.Sound.{Each, Keeps}
+use Rattle.dover_model.specs.Common.{Fraction, Rules, Instance, IsValid, with_jobs, jobs_under, State, with_later}
+use Rattle.dover_model.specs.Common.{opening, to_come, is_over, is_done, is_running, value_sum, Move, Ticks, Waits}
+use Rattle.dover_model.specs.Common.{Prints, step, open_step, after, ending, ◌or_else◌, Step, is_end, run, ran, tick_of}
+use Rattle.dover_model.specs.Common.{waits_for_mark, settled_steps, AllComeFrom, IsWholeRun, IsSettledRun, known_at}
+use Rattle.dover_model.specs.Common.{Each, Keeps}
 use Rattle.dover_model.proofs.lists.Members.{all_each, member_front}
 use Rattle.dover_model.proofs.steps.Deeds.{over_rests}
 use Rattle.dover_model.proofs.steps.Kept.{open_deed, open_kept, step_deed, opening_keeps}

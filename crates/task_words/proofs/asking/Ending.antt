@@ -2,9 +2,7 @@
 use Rattle.std.proofs.Common.{◌≡◌, ℕ, List, [], ◌∷◌, ◌++◌, length, refl, sym, ap, ◌∙◌, subst, Option, Result, Ok, Err}
 use Rattle.std.proofs.Common.{Bool, inl, inr}
 use Rattle.std.proofs.lemmas.List.{append-nil}
-use Rattle.dover_model.specs.Due.{fault_text}
-use Rattle.dover_model.specs.Instance.{Declaration}
-use Rattle.dover_model.specs.Lines.{in_lines, whole_lines}
+use Rattle.dover_model.specs.Common.{fault_text, Declaration, in_lines, whole_lines}
 use Rattle.dover_port.specs.Moves.{Move}
 use Rattle.dover_port.specs.declared.status.Status.{Status}
 use Rattle.dover_port.specs.declared.status.Status.TheVariants.{Done, No, Refused, ReadFault, WriteFault, Memory, Usage}

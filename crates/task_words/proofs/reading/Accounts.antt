@@ -8,10 +8,9 @@ use Rattle.std.proofs.lemmas.Bool.{ltb-false, lt-ltb, le-ltb}
 use Rattle.std.proofs.lemmas.List.{append-nil}
 use Rattle.std.proofs.lemmas.List.Sums.{fold-append}
 use Rattle.dover_model.specs.declared.events.Version.TheVariants.{Two}
-use Rattle.dover_model.specs.Limits.{most_lines}
-use Rattle.dover_model.specs.Lines.{lines_of, whole_lines, rest_of, is_too_long, fields_of}
+use Rattle.dover_model.specs.Common.{most_lines, lines_of, whole_lines, rest_of, is_too_long, fields_of, Standing, Open}
+use Rattle.dover_model.specs.Common.{Ended, Faulty, Cause}
 use Rattle.dover_model.specs.Feed as feed
-use Rattle.dover_model.specs.Feed.{Standing, Open, Ended, Faulty, Cause}
 use Rattle.dover_model.proofs.texts.GrowingTexts.{read_append}
 use Rattle.line_text.proofs.Lengths.{AreNotTooLong, text_few}
 use Rattle.task_words.specs.reading.Lines.{task_line, line_of_fields}

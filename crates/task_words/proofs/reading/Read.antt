@@ -3,8 +3,7 @@ use Rattle.std.proofs.Common.{◌≡◌, ℕ, ◌<◌, List, [], ◌∷◌, leng
 use Rattle.std.proofs.Common.{Some, None, arith, codes}
 use Rattle.std.specs.Prelude.{Result, Ok, Err, IfOk, bytes_eq}
 use Rattle.std.specs.Option.{option_and_then}
-use Rattle.dover_model.specs.Numerals.{numerals, AreShort}
-use Rattle.dover_model.specs.Lines.{fields_of, is_too_long}
+use Rattle.dover_model.specs.Common.{numerals, AreShort, fields_of, is_too_long}
 use Rattle.dover_model.proofs.lists.Members.{some_same}
 use Rattle.dover_model.proofs.texts.ReadShort.{numerals_short}
 use Rattle.dover_model.proofs.lists.Tests.{none_is_some}

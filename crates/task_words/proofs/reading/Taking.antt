@@ -9,15 +9,10 @@ use Rattle.std.proofs.lemmas.List.{map-append}
 use Rattle.dover_model.specs.declared.events.Refusal.{Refusal}
 use Rattle.dover_model.specs.declared.events.Refusal.TheVariants as refusal
 use Rattle.dover_model.specs.declared.events.Version.TheVariants.{Two}
-use Rattle.dover_model.specs.Limits.{most_lines}
-use Rattle.dover_model.specs.Lines.{lines_of, rest_of, is_too_long}
+use Rattle.dover_model.specs.Common.{most_lines, lines_of, rest_of, is_too_long, Fraction, JobFacts, job_of_numbers}
+use Rattle.dover_model.specs.Common.{Declaration as Rules, refusal_of, Open, Faulty, NotAdmitted, rules_with}
 use Rattle.dover_model.proofs.lists.Members.{all_last}
-use Rattle.dover_model.specs.Fraction.{Fraction}
-use Rattle.dover_model.specs.JobFacts.{JobFacts, job_of_numbers}
-use Rattle.dover_model.specs.Instance.{Declaration as Rules}
-use Rattle.dover_model.specs.Admission.{refusal_of}
 use Rattle.dover_model.specs.Feed as feed
-use Rattle.dover_model.specs.Feed.{Open, Faulty, NotAdmitted, rules_with}
 use Rattle.admission.specs.Kept as admission
 use Rattle.admission.specs.Answers as admitting
 use Rattle.admission.specs.Answers.{IsOther, refusal_of_refused}

@@ -3,8 +3,7 @@ use Rattle.std.proofs.Common.{◌≡◌, ℕ, zero, suc, ◌<◌, ◌≤◌, ◌
 use Rattle.std.proofs.Common.{ap, ◌∙◌, subst, Bool, true, false, cond}
 use Rattle.std.proofs.Common.{Option, Some, None, arith}
 use Rattle.std.specs.List.{AllByRecursion, fold}
-use Rattle.dover_model.specs.Orders.{earlier, first}
-use Rattle.dover_model.specs.Sound.{IsMember}
+use Rattle.dover_model.specs.Common.{earlier, first, IsMember}
 use Rattle.dover_model.proofs.lists.FirstOfTasks.{first_member}
 use Rattle.dover_model.proofs.lists.Members.{some_same}
 use Rattle.place_heap.specs.Items.{ItemFacts, is_before}

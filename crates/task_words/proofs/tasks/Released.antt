@@ -8,9 +8,7 @@ use Rattle.std.proofs.Math.Nat.{lt_of_mul-lt-mul_right, mul-le-mul_right}
 use Rattle.std.proofs.lemmas.Grind.{div_ceil_times}
 use Rattle.std.proofs.lemmas.Nat.{div-add-mod'}
 use Rattle.std.proofs.lemmas.Bool.{leb-true, eqb-true, and_parts}
-use Rattle.dover_model.specs.JobFacts.{JobFacts, IsJob}
-use Rattle.dover_model.specs.Fraction.{Fraction, IsRatio}
-use Rattle.dover_model.specs.Instance.{Declaration, IsValid}
+use Rattle.dover_model.specs.Common.{JobFacts, IsJob, Fraction, IsRatio, Declaration, IsValid}
 use Rattle.dover_model.proofs.valid.Valid.{all_from}
 use Rattle.dover_model.proofs.lists.Members.{all_append}
 use Rattle.dover_model.proofs.valid.Limiting.{jobs_least, total_least}

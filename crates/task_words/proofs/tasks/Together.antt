@@ -4,9 +4,7 @@ use Rattle.std.proofs.Common.{None, arith}
 use Rattle.std.specs.List.{AllByRecursion}
 use Rattle.std.proofs.Math.Nat.{mul-le-mul_right}
 use Rattle.std.proofs.lemmas.List.{length-map}
-use Rattle.dover_model.specs.Fraction.{Fraction}
-use Rattle.dover_model.specs.JobFacts.{JobFacts}
-use Rattle.dover_model.specs.Admission.{refusal_of}
+use Rattle.dover_model.specs.Common.{Fraction, JobFacts, refusal_of}
 use Rattle.dover_model.proofs.valid.Admitting.{Admitted, not_refused}
 use Rattle.dover_model.proofs.sessions.Growing.{all_behind}
 use Rattle.dover_model.proofs.valid.Valid.{all_from}

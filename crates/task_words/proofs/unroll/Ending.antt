@@ -1,9 +1,7 @@
 -- What is put of a feed is said of the tasks.
 use Rattle.std.proofs.Common.{◌≡◌, ℕ, List, refl, sym, ◌∙◌, subst, Bool, true, false, ◌↔◌, IsTrue}
 use Rattle.dover_port.specs.declared.status.Status.TheVariants.{Done}
-use Rattle.dover_model.specs.Fraction.{IsRatio}
-use Rattle.dover_model.specs.Instance.{Declaration}
-use Rattle.dover_model.specs.Session.{IsDeclarable}
+use Rattle.dover_model.specs.Common.{IsRatio, Declaration, IsDeclarable}
 use Rattle.task_words.specs.tasks.Limits.{AreTasks, Fits}
 use Rattle.task_words.specs.tasks.Tasks.{unrolled}
 use Rattle.task_words.specs.declared.tasks.task.PeriodicTask.{PeriodicTask}

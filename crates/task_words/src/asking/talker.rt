@@ -1,8 +1,7 @@
 //! What the reading loop calls: a reader of the tasks, of which something is asked at the end.
 ghost use Rattle.std.specs.Prelude.{◌≡◌, [], ◌≤◌};
 ghost use Rattle.dialogue.specs.Turns.{StopCause, StopsOn};
-ghost use Rattle.dover_model.specs.Fraction.{IsRatio};
-ghost use Rattle.dover_model.specs.Session.{IsDeclarable};
+ghost use Rattle.dover_model.specs.Common.{IsRatio, IsDeclarable};
 ghost use Rattle.task_words.specs.tasks.Limits.{AreTasks};
 ghost use Rattle.task_words.specs.reading.Keeping.{IsKnown};
 ghost use Rattle.task_words.specs.reading.Record.{listed_rules};

@@ -1,9 +1,8 @@
 //! What is kept of a task text between its lines.
 ghost use Rattle.std.specs.Prelude.{◌≡◌, ℕ, List, ◌∷◌, ◌++◌, [], Option, Some, IfErr};
-ghost use Rattle.dover_model.specs.Instance.{Declaration as Rules};
+ghost use Rattle.dover_model.specs.Common.{Declaration as Rules, rules_with};
 ghost use Rattle.std.specs.Option.{option_map};
 ghost use Rattle.dover_model.specs.Feed as feed;
-ghost use Rattle.dover_model.specs.Feed.{rules_with};
 ghost use Rattle.task_words.specs.declared.tasks.task.PeriodicTask.{PeriodicTask};
 ghost use Rattle.task_words.specs.reading.Account.{TaskAccount, account_of_lines, cause_of, with_line};
 ghost use Rattle.task_words.specs.reading.Keeping.{Declares, IsKnown, Keeps, KeepsAccount, KeepsDeclared, KeepsRules};

@@ -2,9 +2,8 @@
 ghost use Rattle.std.specs.Prelude.{◌≡◌, ◌≤◌, ◌<◌, ◌^◌, ◌+◌, ◌*◌, ◌∷◌, ◌++◌, ℕ, List, [], None, length, is_some};
 ghost use Rattle.std.specs.Prelude.{slice_index_or, slice_set, IfOk, IfSome, IsNone};
 ghost use Rattle.std.specs.List.{AllByRecursion, count_by};
-ghost use Rattle.dover_model.specs.JobFacts.{JobFacts};
+ghost use Rattle.dover_model.specs.Common.{JobFacts, last_tick, most_jobs};
 ghost use Rattle.dover_model.specs.declared.events.Version.TheVariants.{Two};
-ghost use Rattle.dover_model.specs.Limits.{last_tick, most_jobs};
 ghost use Rattle.task_words.specs.tasks.Limits.{IsTask};
 ghost use Rattle.task_words.specs.tasks.Merging.{StandsBehind, kept_release, merge};
 ghost use Rattle.task_words.specs.tasks.Tasks.{jobs_before};

@@ -1,11 +1,10 @@
 //! The answer to tasks.
 ghost use Rattle.std.specs.Prelude.{◌≡◌, [], true};
 ghost use Rattle.dialogue.specs.Turns.{StopCause, StopsOn};
-ghost use Rattle.dover_model.specs.Fraction.{IsRatio};
+ghost use Rattle.dover_model.specs.Common.{IsRatio, IsDeclarable};
 ghost use Rattle.task_words.specs.tasks.Limits.{AreTasks};
 ghost use Rattle.task_words.specs.reading.Keeping.{IsKnown};
 ghost use Rattle.task_words.specs.reading.Record.{listed_rules};
-ghost use Rattle.dover_model.specs.Session.{IsDeclarable};
 ghost use Rattle.task_words.specs.asking.Putting.{SaysBy};
 ghost use Rattle.task_words.specs.unroll.Says.{Says};
 ghost use Rattle.task_words.specs.unroll.Spending.{UnrollsAtMost};

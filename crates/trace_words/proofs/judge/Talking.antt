@@ -1,9 +1,8 @@
 -- What a word says that judges a text: its laws.
 use Rattle.std.proofs.Common.{◌≡◌, ◌<◌, ◌^◌, ◌-◌, ℕ, List, ◌++◌, [], length, refl, ap, ◌∙◌, arith, Bool, true}
 use Rattle.std.proofs.Common.{false, not, inl, inr, Option, Ok, Err}
-use Rattle.dover_model.specs.Session.{Session}
+use Rattle.dover_model.specs.Common.{Session, verdict}
 use Rattle.dover_model.specs.Verdict as model
-use Rattle.dover_model.specs.Verdict.{verdict}
 use Rattle.dover_model.proofs.traces.WrongStays.{wrong_verdict_stays}
 use Rattle.dover_port.specs.declared.status.Status.{Status}
 use Rattle.dover_port.specs.declared.status.Status.TheVariants.{Done, No, Refused, ReadFault, WriteFault, Memory, Usage}

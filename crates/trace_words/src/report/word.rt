@@ -1,11 +1,8 @@
 //! The word as a whole.
 ghost use Rattle.std.specs.Prelude.{◌≡◌, ◌≢◌, ◌↔◌, ◌++◌, ℕ, List, [], IsTrue, true, IfOk};
 ghost use Rattle.run_record.specs.intervals.Rows.{IsRunOf};
-ghost use Rattle.dover_model.specs.Fraction.{Fraction};
-ghost use Rattle.dover_model.specs.Instance.{Instance, IsListable, IsValid};
-ghost use Rattle.dover_model.specs.Lines.{in_lines};
+ghost use Rattle.dover_model.specs.Common.{Fraction, Instance, IsListable, IsValid, in_lines, printed};
 ghost use Rattle.dover_model.specs.Reports as model;
-ghost use Rattle.dover_model.specs.Run.{printed};
 ghost use Rattle.dover_port.specs.Causes.{Causes, HasCause, StopsAtFailure, StopsWith};
 ghost use Rattle.dover_port.specs.Moves.{PutsThrough, Since};
 ghost use Rattle.dialogue.specs.Sizes.{size_text};

@@ -1,6 +1,5 @@
 use Rattle.std.proofs.Common.{◌<◌, ◌∷◌, ◌∙◌, ap, sym, subst, reverse}
-use Rattle.dover_model.specs.Entries.{room_of}
-use Rattle.dover_model.specs.Sound.{Each}
+use Rattle.dover_model.specs.Common.{room_of, Each}
 use Rattle.held_stack.specs.Stack.{Stack}
 use Rattle.held_stack.proofs.Holding.{before_top}
 use Rattle.held_stack.proofs.HeldStack.room_with.Goals as goal

@@ -1,7 +1,5 @@
 use Rattle.std.proofs.Common.{◌∙◌, ap, length, subst}
-use Rattle.dover_model.specs.Instance.{jobs_under}
-use Rattle.dover_model.specs.Run.{completed_value}
-use Rattle.dover_model.specs.Spending.{CostsAtMost}
+use Rattle.dover_model.specs.Common.{jobs_under, completed_value, CostsAtMost}
 use Rattle.question_words.specs.Loss.{is_completed}
 use Rattle.question_words.proofs.completing.completed_jobs.Goals as goal
 

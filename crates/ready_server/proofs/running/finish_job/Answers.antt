@@ -1,7 +1,6 @@
 use Rattle.std.proofs.Common.{◌++◌, ◌∷◌, [], sym, subst}
-use Rattle.dover_model.specs.Instance.{with_finishes}
+use Rattle.dover_model.specs.Common.{with_finishes, settled}
 use Rattle.dover_model.specs.declared.horizon.Horizon.TheVariants.{Mark}
-use Rattle.dover_model.specs.Settled.{settled}
 use Rattle.ready_server.specs.Running.{HasShown, with_finish}
 use Rattle.ready_server.proofs.Showing.{room_before}
 use Rattle.ready_server.proofs.running.finish_job.Goals as goal

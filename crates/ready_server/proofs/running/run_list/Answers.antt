@@ -1,7 +1,5 @@
 use Rattle.std.proofs.Common.{arith}
-use Rattle.dover_model.specs.Horizons.{no_jobs}
-use Rattle.dover_model.specs.Instance.{jobs_under}
-use Rattle.dover_model.specs.Run.{printed}
+use Rattle.dover_model.specs.Common.{no_jobs, jobs_under, printed}
 use Rattle.dover_model.specs.declared.horizon.Horizon.TheVariants.{Mark, End}
 use Rattle.ready_server.proofs.Feeding.{can_first, first_shown}
 use Rattle.ready_server.proofs.running.run_list.Goals as goal

@@ -1,7 +1,6 @@
 use Rattle.std.proofs.Common.{◌++◌, ◌∷◌, []}
-use Rattle.dover_model.specs.Instance.{with_jobs}
+use Rattle.dover_model.specs.Common.{with_jobs, due_by}
 use Rattle.dover_model.specs.declared.horizon.Horizon.TheVariants.{Mark}
-use Rattle.dover_model.specs.Horizons.{due_by}
 use Rattle.ready_server.proofs.Showing.{room_before}
 use Rattle.ready_server.proofs.running.serve_job.Goals as goal
 

@@ -1,7 +1,6 @@
 use Rattle.std.proofs.Common.{ℕ}
-use Rattle.dover_model.specs.Instance.{Instance}
+use Rattle.dover_model.specs.Common.{Instance, MayFollow}
 use Rattle.dover_model.specs.declared.horizon.Horizon.{Horizon}
-use Rattle.dover_model.specs.Horizons.{MayFollow}
 use Rattle.ready_server.specs.Running.{HasShown}
 use Rattle.ready_server.proofs.Showing.{IsShowing}
 use Rattle.ready_server.specs.Serving.{HasPlace, HasPaid}

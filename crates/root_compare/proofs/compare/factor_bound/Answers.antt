@@ -1,9 +1,7 @@
 use Rattle.std.proofs.Common.{◌≡◌, ◌+◌, ◌-◌, ◌*◌, ◌/◌, ◌≤◌, ◌^◌, IsTrue, arith, subst, sym, max}
 use Rattle.std.specs.Prelude.{Some}
 use Rattle.std.proofs.lemmas.Nat.{mul-le}
-use Rattle.dover_model.specs.Fraction.{is_some_factor}
-use Rattle.dover_model.specs.Greatest.{IsGreatest}
-use Rattle.dover_model.specs.Bound.{is_within_by, scale, share}
+use Rattle.dover_model.specs.Common.{is_some_factor, IsGreatest, is_within_by, scale, share}
 use Rattle.dover_model.proofs.bound.GreatestLaws.{bound_by-is}
 use Rattle.dover_model.proofs.valid.JobLimits.{ratio_limits}
 use Rattle.root_compare.proofs.Factors.{share_few, quotient_low}

@@ -2,10 +2,9 @@ use Rattle.std.proofs.Common.{◌≡◌, ◌+◌, ◌*◌, ◌/◌, ◌≤◌, �
 use Rattle.std.proofs.Math.Nat.{div-le_self}
 use Rattle.std.proofs.lemmas.Nat.{mul-le}
 use Rattle.std.proofs.lemmas.Bool.{cases_lt}
-use Rattle.dover_model.specs.Orders.{IsHeavy}
+use Rattle.dover_model.specs.Common.{IsHeavy, is_some_factor}
 use Rattle.dover_model.proofs.valid.JobLimits.{ratio_limits, FactorLimits, factor_limits}
 use Rattle.std.proofs.Common.{IsTrue}
-use Rattle.dover_model.specs.Fraction.{is_some_factor}
 use Rattle.root_compare.proofs.Least.{least_is, root_heavy, root_least, factor_heavy, factor_least}
 use Rattle.root_compare.proofs.compare.least_heavy.Goals as goal
 

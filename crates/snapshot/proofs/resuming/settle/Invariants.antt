@@ -1,8 +1,7 @@
 use Rattle.std.proofs.Common.{◌≡◌, ℕ, List}
 use Rattle.dover_model.specs.declared.events.Event.{Event}
-use Rattle.dover_model.specs.Instance.{Instance}
+use Rattle.dover_model.specs.Common.{Instance, MayFollow}
 use Rattle.dover_model.specs.declared.horizon.Horizon.TheVariants.{Mark}
-use Rattle.dover_model.specs.Horizons.{MayFollow}
 use Rattle.ready_server.specs.Rostering.{Serves, HasPlace, HasPaid, has_roster}
 use Rattle.snapshot.proofs.Settling.{IsOnTheWay}
 use Rattle.snapshot.proofs.resuming.settle.Given as goal

@@ -1,13 +1,7 @@
 use Rattle.std.proofs.Common.{◌≡◌, ◌≤◌, ◌∷◌, [], ℕ, List, length, refl, sym, ap, ◌∙◌, subst, inl, inr, append-nil}
-use Rattle.dover_model.specs.Fraction.{Fraction, IsRatio}
-use Rattle.dover_model.specs.Generator.{generated_jobs}
-use Rattle.dover_model.specs.Instance.{IsValid, jobs_under}
-use Rattle.dover_model.specs.JobFacts.{JobFacts}
+use Rattle.dover_model.specs.Common.{Fraction, IsRatio, generated_jobs, IsValid, jobs_under, JobFacts, most_jobs}
+use Rattle.dover_model.specs.Common.{summary, printed, CostsAtMost}
 use Rattle.dover_model.specs.declared.events.Version.TheVariants.{One, Two}
-use Rattle.dover_model.specs.Limits.{most_jobs}
-use Rattle.dover_model.specs.Reports.{summary}
-use Rattle.dover_model.specs.Run.{printed}
-use Rattle.dover_model.specs.Spending.{CostsAtMost}
 use Rattle.dover_model.proofs.valid.Limiting.{listable}
 use Rattle.dover_port.specs.Moves.Move.{Put}
 use Rattle.dover_port.specs.declared.status.Status.TheVariants.{Done, WriteFault}

@@ -1,8 +1,7 @@
 use Rattle.std.proofs.Common.{ap, subst}
 use Rattle.std.specs.Prelude.{MatchOption}
 use Rattle.std.proofs.lemmas.List.Sums.{sum_by-drop_more}
-use Rattle.dover_model.specs.JobFacts.{JobFacts}
-use Rattle.dover_model.specs.Instance.{total_value}
+use Rattle.dover_model.specs.Common.{JobFacts, total_value}
 use Rattle.std.proofs.Common.{◌≡◌, drop, get_or}
 use Rattle.clairvoyant.specs.best.Search.{IsChoice}
 use Rattle.std.proofs.Common.{◌+◌, ◌<◌, ◌++◌, ◌∷◌, [], length, refl, arith, rules}

@@ -2,11 +2,8 @@ use Rattle.std.proofs.Common.{◌≡◌, ◌++◌, sym, subst}
 use Rattle.std.specs.Prelude.{option_to_list, Option, Some, None, ◌||◌, false}
 use Rattle.std.specs.Option.{option_map}
 use Rattle.dover_model.specs.declared.events.Event.{Event}
-use Rattle.dover_model.specs.Instance.{Instance}
-use Rattle.dover_model.specs.Step.{Prints}
-use Rattle.dover_model.specs.Rest.{behind, turn_under}
-use Rattle.dover_model.specs.Run.{is_end}
-use Rattle.dover_model.specs.Horizons.{MayFollow, is_ready_after}
+use Rattle.dover_model.specs.Common.{Instance, Prints, behind, turn_under, is_end, MayFollow, is_ready_after}
+use Rattle.dover_model.specs.Common.{is_end_given}
 use Rattle.ready_server.proofs.Stepping.{open_short}
 use Rattle.dover_engine.specs.Kept.{life_of}
 use Rattle.dover_engine.specs.Life.{life_with, Life, HasPaid, has_ended}
@@ -17,7 +14,6 @@ use Rattle.std.proofs.Common.{refl, ap, ◌∙◌, arith}
 use Rattle.std.specs.Prelude.{IfSome}
 use Rattle.dover_model.specs.declared.horizon.Horizon.{Horizon}
 use Rattle.dover_model.specs.declared.horizon.Horizon.TheVariants.{Mark, End}
-use Rattle.dover_model.specs.Horizons.{is_end_given}
 use Rattle.dover_engine.specs.Life.{spare_of, room_of, CostsOnce}
 use Rattle.dover_engine.proofs.engine.Engine.advance.Goals as goal
 

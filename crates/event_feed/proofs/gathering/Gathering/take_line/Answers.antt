@@ -3,9 +3,7 @@ use Rattle.std.proofs.Common.{Bool, true, false, OnOk, length-append}
 use Rattle.std.specs.Prelude.{nat_lt}
 use Rattle.std.proofs.lemmas.Bool.{ltb-true, ltb-false}
 use Rattle.std.proofs.lemmas.Result.{on_ok_weaker, on_err_weaker}
-use Rattle.dover_model.specs.Feed.{Account, no_lines, account_of_lines, is_open}
-use Rattle.dover_model.specs.Limits.{most_jobs}
-use Rattle.dover_model.specs.Session.{instance_of, is_full}
+use Rattle.dover_model.specs.Common.{Account, no_lines, account_of_lines, is_open, most_jobs, instance_of, is_full}
 use Rattle.dover_model.specs.declared.events.Version.TheVariants.{Two}
 use Rattle.dover_model.proofs.sessions.Accounts.{lines_goes}
 use Rattle.event_feed.specs.Answers.{IsFed, AddsJob, counted}

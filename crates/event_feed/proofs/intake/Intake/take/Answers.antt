@@ -1,6 +1,6 @@
 -- A fault is kept and answered.
 use Rattle.std.proofs.Common.{◌≤◌, inr, Ok}
-use Rattle.dover_model.specs.Limits.{most_lines}
+use Rattle.dover_model.specs.Common.{most_lines, Open, account_of_lines, read_line, feed_line}
 use Rattle.dover_model.specs.declared.events.Version.TheVariants.{Three}
 use Rattle.dover_model.specs.Feed as model
 use Rattle.dover_model.proofs.lists.Members.{some_same}
@@ -10,8 +10,6 @@ use Rattle.event_feed.specs.Answers.{IsFed, EndsFeed}
 use Rattle.event_feed.proofs.Taking.{next_account, fault_stays, keeps_over}
 use Rattle.std.proofs.Common.{◌≡◌, ℕ, suc, ◌+◌, List, sym, ap, ◌∙◌, subst, refl, arith, Err, None, Some, rules}
 use Rattle.std.specs.Option.{option_map}
-use Rattle.dover_model.specs.Feed.{Open, account_of_lines, read_line}
-use Rattle.dover_model.specs.FeedLine.{feed_line}
 use Rattle.line_text.specs.feeds.Form.{form_of}
 use Rattle.event_feed.specs.declared.intake.Standing.TheVariants as standings
 use Rattle.event_feed.specs.Kept.{StandsFor, standing_of, has_ended, fault_of}

@@ -1,9 +1,6 @@
 use Rattle.std.proofs.Common.{◌≡◌, ◌++◌, ◌∷◌, [], length, sym, ap, ◌∙◌, subst, true, false, None}
-use Rattle.dover_model.specs.Session.{instance_of, is_full}
-use Rattle.dover_model.specs.Feed.{account_of_lines}
+use Rattle.dover_model.specs.Common.{instance_of, is_full, account_of_lines, MayFollow, settled}
 use Rattle.dover_model.specs.declared.horizon.Horizon.TheVariants.{Mark}
-use Rattle.dover_model.specs.Horizons.{MayFollow}
-use Rattle.dover_model.specs.Settled.{settled}
 use Rattle.event_feed.specs.Kept as feed
 use Rattle.event_feed.specs.DueLines.{out_text}
 use Rattle.lane_server.specs.Lane.{Admitting, Running, Stands}

@@ -1,6 +1,5 @@
 use Rattle.std.proofs.Common.{[], sym, subst, refl}
-use Rattle.dover_model.specs.Session.{instance_of}
-use Rattle.dover_model.specs.Feed.{account_of_lines}
+use Rattle.dover_model.specs.Common.{instance_of, account_of_lines}
 use Rattle.dover_model.specs.declared.horizon.Horizon.TheVariants.{Mark}
 use Rattle.lane_server.specs.Lane.{Finishing}
 use Rattle.lane_server.specs.Spending.{HasPaid}

@@ -1,7 +1,6 @@
 use Rattle.std.proofs.Common.{◌+◌, ◌*◌, ◌≤◌, length, refl, subst}
 use Rattle.dover_model.specs.declared.events.Event.TheVariants.{Run}
-use Rattle.dover_model.specs.Step.{Prints, view}
-use Rattle.dover_model.specs.Spending.{cost_of}
+use Rattle.dover_model.specs.Common.{Prints, view, cost_of}
 use Rattle.ready_jobs.specs.Deeds.{Finds}
 use Rattle.ready_jobs.specs.Parts.{state_of}
 use Rattle.ready_jobs.specs.Spending.{wait_again}

@@ -1,6 +1,5 @@
 use Rattle.std.proofs.Common.{sym, ap, ◌∙◌}
-use Rattle.dover_model.specs.State.{held}
-use Rattle.dover_model.specs.Orders.{due_first, first}
+use Rattle.dover_model.specs.Common.{held, due_first, first}
 use Rattle.ready_jobs.specs.Parts.{Parted, state_of}
 use Rattle.ready_jobs.specs.Kept.{parted_of}
 use Rattle.ready_jobs.proofs.Seeing.{held_list}

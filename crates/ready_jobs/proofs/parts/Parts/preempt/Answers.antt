@@ -7,10 +7,7 @@ use Rattle.std.proofs.lemmas.List.Sums.{sum_by-cons}
 use Rattle.dover_model.specs.declared.events.Task.{Task}
 use Rattle.dover_model.specs.declared.events.Entry.{Entry}
 use Rattle.dover_model.specs.declared.events.Role.TheVariants.{Held, Running}
-use Rattle.dover_model.specs.Entries.{entry_of}
-use Rattle.dover_model.specs.State.{value_sum}
-use Rattle.dover_model.specs.Step.{with_role}
-use Rattle.dover_model.specs.Sound.{IsMember}
+use Rattle.dover_model.specs.Common.{entry_of, value_sum, with_role, IsMember}
 use Rattle.dover_model.proofs.lists.Members.{on_map, sum_map}
 use Rattle.held_stack.specs.Stack.{IsDueBeforeTop}
 use Rattle.held_stack.specs.Kept.{AreRoomsOf}

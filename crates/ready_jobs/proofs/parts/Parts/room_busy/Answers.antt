@@ -1,8 +1,6 @@
 use Rattle.std.proofs.Common.{inl, ◌<◌, ◌∷◌, ◌++◌, refl, sym, ap, ◌∙◌, subst, map}
 use Rattle.std.specs.Option.{option_to_list}
-use Rattle.dover_model.specs.Entries.{entry_of, room_of}
-use Rattle.dover_model.specs.State.{privileged, room}
-use Rattle.dover_model.specs.Sound.{IsMember}
+use Rattle.dover_model.specs.Common.{entry_of, room_of, privileged, room, IsMember}
 use Rattle.dover_model.proofs.lists.Members.{on_map}
 use Rattle.held_stack.specs.Stack.{IsDueBeforeTop}
 use Rattle.held_stack.proofs.Holding.{before_top}

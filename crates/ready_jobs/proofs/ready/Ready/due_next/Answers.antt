@@ -1,6 +1,5 @@
 use Rattle.std.proofs.Common.{sym, ap, ◌∙◌, subst, arith}
-use Rattle.dover_model.specs.Run.{event_of}
-use Rattle.dover_model.specs.Step.{Prints}
+use Rattle.dover_model.specs.Common.{event_of, Prints}
 use Rattle.ready_jobs.specs.Course.{Course, Follows, Reached}
 use Rattle.ready_jobs.specs.Deeds.{step_at}
 use Rattle.ready_jobs.proofs.Courses.{reached_next, reached_last, due_now}

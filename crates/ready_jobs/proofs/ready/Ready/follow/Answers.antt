@@ -1,8 +1,7 @@
 use Rattle.std.proofs.Common.{◌<◌, ◌≤◌, length, refl, sym, ap, ◌∙◌, subst, arith}
 use Rattle.std.proofs.lemmas.Bool.{false≢true}
 use Rattle.dover_model.specs.declared.events.Event.TheVariants.{End}
-use Rattle.dover_model.specs.Run.{event_of}
-use Rattle.dover_model.specs.Step.{Prints}
+use Rattle.dover_model.specs.Common.{event_of, Prints}
 use Rattle.ready_jobs.specs.Course.{Course, Follows, ComesNext, Takes}
 use Rattle.ready_jobs.specs.Deeds.{step_at}
 use Rattle.ready_jobs.proofs.Courses.{over_next, over_takes, reached_comes, some_jobs, due_now, kept_on}

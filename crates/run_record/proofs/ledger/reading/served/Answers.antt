@@ -1,7 +1,6 @@
 use Rattle.std.proofs.Common.{[], map, refl, ◌∙◌, arith}
 use Rattle.std.proofs.lemmas.Result.{IfOk-weaker}
-use Rattle.dover_model.specs.Entries.{entry_of}
-use Rattle.dover_model.specs.State.{to_come}
+use Rattle.dover_model.specs.Common.{entry_of, to_come}
 use Rattle.run_record.proofs.ledger.Walking.{begun, step_read, step_behind, had_at_end}
 use Rattle.run_record.proofs.ledger.reading.served.Goals as goal
 

@@ -1,6 +1,5 @@
 use Rattle.std.proofs.Common.{◌≡◌, drop}
-use Rattle.dover_model.specs.Fraction.{Fraction}
-use Rattle.dover_model.specs.Instance.{Instance}
+use Rattle.dover_model.specs.Common.{Fraction, Instance}
 use Rattle.run_record.specs.intervals.Rows.{IsRunOf}
 use Rattle.run_record.proofs.ledger.Walking.{IsBehind}
 use Rattle.run_record.proofs.ledger.reading.served.Given as goal

@@ -1,8 +1,7 @@
 use Rattle.std.proofs.Common.{◌≡◌, ◌+◌, ◌-◌, ◌<◌, ◌∙◌, ap, subst, refl, arith}
 use Rattle.std.specs.List.{sum}
 use Rattle.dover_model.specs.declared.events.Version.TheVariants.{Two}
-use Rattle.dover_model.specs.Limits.{most_jobs}
-use Rattle.dover_model.specs.Bait.{chain, last_link, most_light}
+use Rattle.dover_model.specs.Common.{most_jobs, chain, last_link, most_light}
 use Rattle.dover_model.proofs.lists.Tests.{never}
 use Rattle.stated_jobs.proofs.bait.Chains.{sum_step, last_step, all_to_come, last_to_come, from_nothing, first_low}
 use Rattle.stated_jobs.proofs.bait.Chains.{nothing_few, no_more, one_fewer}

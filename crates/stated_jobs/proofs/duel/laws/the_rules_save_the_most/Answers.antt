@@ -1,7 +1,5 @@
 use Rattle.std.proofs.Common.{refl, sym, subst}
-use Rattle.dover_model.specs.Bound.{IsWithin}
-use Rattle.dover_model.specs.Instance.{jobs_under}
-use Rattle.dover_model.specs.Schedules.{worth}
+use Rattle.dover_model.specs.Common.{IsWithin, jobs_under, worth}
 use Rattle.dover_model.proofs.bound.BoundLaws.{bound}
 use Rattle.dover_model.proofs.runs.Honest.{plain_honest}
 use Rattle.stated_jobs.proofs.duel.Duel.{every_one_loses}

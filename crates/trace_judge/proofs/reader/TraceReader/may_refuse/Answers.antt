@@ -3,10 +3,7 @@ use Rattle.std.specs.Prelude.{Option, Some, None}
 use Rattle.std.specs.Bool.{then_some}
 use Rattle.std.specs.Option.{option_or}
 use Rattle.std.proofs.lemmas.Bool.{lt-ltb, le-ltb}
-use Rattle.dover_model.specs.Admission.{refusal_of}
-use Rattle.dover_model.specs.Instance.{Declaration}
-use Rattle.dover_model.specs.JobFacts.{JobFacts, job_of_numbers}
-use Rattle.dover_model.specs.Session.{refuses_lines, late_refusal}
+use Rattle.dover_model.specs.Common.{refusal_of, Declaration, JobFacts, job_of_numbers, refuses_lines, late_refusal}
 use Rattle.dover_model.specs.declared.events.Refusal.{Refusal}
 use Rattle.dover_model.specs.declared.events.Refusal.TheVariants.{Full}
 use Rattle.dover_model.proofs.lists.Members.{some_same}

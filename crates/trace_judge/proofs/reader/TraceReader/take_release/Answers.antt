@@ -1,7 +1,5 @@
 use Rattle.std.proofs.Common.{◌≤◌, ℕ, List, ◌∙◌, sym, ap, subst, arith}
-use Rattle.dover_model.specs.Session.{Session, instance_of}
-use Rattle.dover_model.specs.State.{State}
-use Rattle.dover_model.specs.Leading.{WaitsUntil}
+use Rattle.dover_model.specs.Common.{Session, instance_of, State, WaitsUntil}
 use Rattle.dover_model.proofs.valid.JobLimits.{job_limits}
 use Rattle.admission.specs.Kept.{Kept, HasRoom}
 use Rattle.trace_judge.specs.Reads.{Reading, ReadsAhead, Goes, Waited, CanRelease}

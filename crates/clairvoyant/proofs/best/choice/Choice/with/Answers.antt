@@ -1,6 +1,5 @@
 use Rattle.std.proofs.Common.{◌≡◌, ◌+◌, ◌++◌, ◌∷◌, [], length, ap, sym, subst, arith, ◌∙◌}
-use Rattle.dover_model.specs.Instance.{IsInOrder}
-use Rattle.dover_model.specs.Pieces.{edf, stretches}
+use Rattle.dover_model.specs.Common.{IsInOrder, edf, stretches}
 use Rattle.clairvoyant.specs.feasible.Feasibility.{IsAnswer, ServesAll}
 use Rattle.clairvoyant.specs.best.BestSet.{RiseWithin, value_of, jobs_at}
 use Rattle.clairvoyant.proofs.best.Rising.{rise_length, rise_wider}

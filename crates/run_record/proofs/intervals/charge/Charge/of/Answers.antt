@@ -1,7 +1,6 @@
 use Rattle.std.proofs.Common.{◌≡◌, ◌+◌, drop, arith, subst, sym, ap, ◌∙◌}
 use Rattle.std.proofs.lemmas.List.{take_all}
-use Rattle.dover_model.specs.Instance.{Instance}
-use Rattle.dover_model.specs.Run.{completed_value}
+use Rattle.dover_model.specs.Common.{Instance, completed_value}
 use Rattle.run_record.specs.intervals.Pages.{Page, blank}
 use Rattle.run_record.specs.intervals.Rows.{IsRunOf, rows_of}
 use Rattle.run_record.specs.intervals.Totals.{totals_of}

@@ -1,7 +1,5 @@
 use Rattle.std.proofs.Common.{◌++◌, ◌∷◌, [], ap, ◌∙◌, refl, sym}
-use Rattle.dover_model.specs.Lines.{in_lines}
-use Rattle.dover_model.specs.Observed.{served}
-use Rattle.dover_model.specs.Session.{may_finish_early}
+use Rattle.dover_model.specs.Common.{in_lines, served, may_finish_early}
 use Rattle.run_reports.specs.report.Counts.{counts_of, fates_lines, bound_line, jobs_released}
 use Rattle.run_reports.specs.report.Early.{early_of, lines_where}
 use Rattle.run_reports.specs.report.Lines.{ratio_line, row_lines}
