@@ -1,6 +1,5 @@
 -- Valid jobs are valid with one that is admitted, whichever finish early.
-use Rattle.std.proofs.Common.{◌≡◌, ◌≤◌, [], ◌∷◌}
-use Rattle.std.specs.Prelude.{None}
+use Rattle.std.proofs.Common.{◌≡◌, ◌≤◌, [], ◌∷◌, None}
 use Rattle.std.specs.List.{AllByRecursion}
 use Rattle.dover_model.specs.Common.{refusal_of, Instance, IsValid, declared_by, with_jobs, JobFacts}
 use Rattle.dover_model.proofs.valid.Admitting.{admits}

@@ -1,10 +1,9 @@
 -- Testing a job against the least dense and the densest one is testing it against all.
-use Rattle.std.proofs.Common.{◌≡◌, ◌≤◌, List, [], ◌∷◌, Bool, true, false, refl, sym, ◌∙◌, arith}
-use Rattle.std.proofs.Common.{ℕ, ◌+◌, ◌*◌, ◌<◌, ◌⊎◌, inl, inr, length, Some, None, not}
+use Rattle.std.proofs.Common.{◌≡◌, ◌≤◌, List, [], ◌∷◌, Bool, true, false, refl, sym, ◌∙◌, arith, ℕ, ◌+◌, ◌*◌, ◌<◌, ◌⊎◌}
+use Rattle.std.proofs.Common.{inl, inr, length, Some, None, not, nat_le, nat_lt, le-leb, lt-ltb, le-ltb}
 use Rattle.std.proofs.lemmas.Nat.{mul-le}
-use Rattle.std.specs.Prelude.{nat_le, nat_lt}
 use Rattle.std.specs.List.{list_all}
-use Rattle.std.proofs.lemmas.Bool.{lt-leb, le-leb, lt-ltb, le-ltb, false≢true}
+use Rattle.std.proofs.lemmas.Bool.{lt-leb, false≢true}
 use Rattle.dover_model.specs.Common.{most_jobs, most_total, JobFacts, IsJob, is_job, Fraction, Declaration, total_value}
 use Rattle.dover_model.specs.Common.{is_within_ratio_both_ways, refusal_of}
 use Rattle.dover_model.specs.declared.events.Refusal.TheVariants.{BadJob, Count, Total, Ratio}

@@ -1,9 +1,8 @@
 -- What a program in C does, as calls of an engine.
-use Rattle.std.proofs.Common.{◌≡◌, ℕ, ◌≤◌, List, [], ◌∷◌, ◌++◌, map, refl, sym, ap, ◌∙◌, subst, cond, append-nil}
-use Rattle.std.proofs.Common.{Bool, true, false, inl, inr}
-use Rattle.std.specs.Prelude.{Option, Some, None, ◌⊎◌, ◌==◌, ◌||◌, ◌&&◌, not, nat_lt, nat_le, Result, Ok, Err}
-use Rattle.std.specs.List.{filter, enumerate_from}
-use Rattle.std.proofs.lemmas.Bool.{eqb-true, eq-eqb}
+use Rattle.std.proofs.Common.{◌≡◌, ℕ, ◌≤◌, List, [], ◌∷◌, ◌++◌, map, refl, sym, ap, ◌∙◌, subst, cond, append-nil, Bool}
+use Rattle.std.proofs.Common.{true, false, inl, inr, Option, Some, None, ◌⊎◌, ◌==◌, ◌||◌, ◌&&◌, not, nat_lt, nat_le}
+use Rattle.std.proofs.Common.{Result, Ok, Err, filter, eqb-true, eq-eqb}
+use Rattle.std.specs.List.{enumerate_from}
 use Rattle.std.proofs.lemmas.List.{map-append}
 use Rattle.dover_model.specs.declared.events.Event.{Event}
 use Rattle.dover_model.specs.declared.events.Event.TheVariants as events
@@ -31,11 +30,10 @@ use Rattle.dover_engine.proofs.LifeLaws as life
 use Rattle.dover_c.specs.declared.Admitted.{Admitted}
 use Rattle.dover_c.specs.declared.Decided.{Decided}
 use Rattle.dover_c.specs.declared.slot.Slot.{Slot}
-use Rattle.dover_c.specs.Codes.{made_status, mark_code, numbers_of, IsStepOf, Stands, IsMade, IsFresh}
-use Rattle.dover_c.specs.Codes.{CallsOn, no_number, no_engine}
-use Rattle.dover_c.specs.Codes.{Admits, Ends, Steps, Finishes}
-use Rattle.dover_c.specs.Program.{Act, Admit, Done, Step, Finish, Ask, Drop, Does, DoesAll, IsProgram, told}
-use Rattle.dover_c.specs.Program.{jobs_told, finishes_told, all_told, is_decision, answers, given, shown}
+use Rattle.dover_c.specs.Codes.{made_status, mark_code, numbers_of, IsStepOf, Stands, IsMade, IsFresh, CallsOn}
+use Rattle.dover_c.specs.Codes.{no_number, no_engine, Admits, Ends, Steps, Finishes}
+use Rattle.dover_c.specs.Program.{Act, Admit, Done, Step, Finish, Ask, Drop, Does, DoesAll, IsProgram, told, jobs_told}
+use Rattle.dover_c.specs.Program.{finishes_told, all_told, is_decision, answers, given, shown}
 
 -- ---- decisions that lose no job
 

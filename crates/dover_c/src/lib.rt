@@ -15,9 +15,8 @@ ghost use denote.RawPtr.{lies_at, room_at};
 ghost use Rattle.dover_model.specs.Common.{fraction, with_factor, job_of_numbers};
 ghost use Rattle.dover_c.specs.declared.slot.Slot.{Slot};
 ghost use Rattle.dover_c.specs.contracts.slot.Slot.{the_row};
-ghost use Rattle.dover_c.specs.Codes.{IsMade, AdmitAnswers, StepAnswers, FinishAnswers, StatusAnswers};
-ghost use Rattle.dover_c.specs.Codes.{ValueAnswers, HighAnswers, RoomAnswers, NextAnswers, SuccessorAnswers};
-ghost use Rattle.dover_c.specs.Codes.{DropAnswers, DoneSays};
+ghost use Rattle.dover_c.specs.Codes.{IsMade, AdmitAnswers, StepAnswers, FinishAnswers, StatusAnswers, ValueAnswers};
+ghost use Rattle.dover_c.specs.Codes.{HighAnswers, RoomAnswers, NextAnswers, SuccessorAnswers, DropAnswers, DoneSays};
 ghost use Rattle.dover_c.specs.Places.{after_at};
 
 use crate::slot::Slot;

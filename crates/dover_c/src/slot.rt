@@ -5,9 +5,8 @@ ghost use Rattle.dover_model.specs.declared.horizon.Horizon.TheVariants.{End};
 ghost use Rattle.dover_engine.specs.Calls.{Decides};
 ghost use Rattle.dover_c.specs.Codes.{IsMade, AdmitAnswers, StepAnswers, FinishAnswers, StatusAnswers, DropAnswers};
 ghost use Rattle.dover_c.specs.Codes.{ValueAnswers, HighAnswers, RoomAnswers, NextAnswers, SuccessorAnswers, due_of};
-ghost use Rattle.dover_c.specs.Codes.{named_of, high_word, low_word};
-ghost use Rattle.dover_c.specs.Codes.{DoneSays, done_code};
-ghost use Rattle.dover_c.specs.Codes.{cause_code, other_in, made_code, mark_code, numbers_of, IsStepOf};
+ghost use Rattle.dover_c.specs.Codes.{named_of, high_word, low_word, DoneSays, done_code, cause_code, other_in};
+ghost use Rattle.dover_c.specs.Codes.{made_code, mark_code, numbers_of, IsStepOf};
 
 use crate::{Admitted, Decided, Due, Named};
 use dover_engine::{Decision, Engine, NotAdmitted, NotDone, NotMade, NotStepped};

@@ -1,7 +1,6 @@
 -- What an engine gives, call by call.
 use Rattle.std.proofs.Common.{◌≡◌, ℕ, ◌≤◌, List, [], ◌∷◌, ◌++◌, append-nil, refl, sym, ap, ◌∙◌, subst, arith, inl, inr}
-use Rattle.std.proofs.Common.{Bool, true, false}
-use Rattle.std.specs.Prelude.{◌||◌, Option, Some, None, IfSome, IsNone, option_to_list}
+use Rattle.std.proofs.Common.{Bool, true, false, ◌||◌, Option, Some, None, IfSome, IsNone, option_to_list}
 use Rattle.std.specs.List.{AllByRecursion}
 use Rattle.dover_model.specs.declared.events.Event.{Event}
 use Rattle.dover_model.specs.declared.events.Task.{Task}

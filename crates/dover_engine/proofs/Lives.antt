@@ -1,10 +1,9 @@
 -- What an engine gives of all jobs that were ever admitted, call by call.
 use Rattle.std.proofs.Common.{◌≡◌, ℕ, ◌+◌, ◌*◌, ◌≤◌, ◌<◌, ◌^◌, List, [], ◌∷◌, ◌++◌, length, map, refl, sym, ap, ◌∙◌}
 use Rattle.std.proofs.Common.{subst, arith, inl, inr, Bool, true, false, append-nil, append_assoc, length-append}
-use Rattle.std.specs.Prelude.{Option, Some, None, IsNone, IfSome, is_some, option_to_list, drop}
-use Rattle.std.specs.Option.{option_map}
-use Rattle.std.specs.List.{filter, fold}
-use Rattle.std.proofs.lemmas.List.{map-append, drop_at}
+use Rattle.std.proofs.Common.{Option, Some, None, IsNone, IfSome, is_some, option_to_list, drop, option_map, filter}
+use Rattle.std.proofs.Common.{fold, drop_at}
+use Rattle.std.proofs.lemmas.List.{map-append}
 use Rattle.std.proofs.lemmas.Nat.{mul-le}
 use Rattle.dover_model.specs.declared.events.Event.{Event}
 use Rattle.dover_model.specs.declared.events.Event.TheVariants as events
@@ -49,8 +48,8 @@ use Rattle.ready_jobs.specs.Course as course
 use Rattle.dover_model.proofs.lists.Members.{some_same}
 use Rattle.dover_model.proofs.lists.Tests.{never}
 use Rattle.dover_engine.specs.Given.{GaveSince, Gave, IsSince, IsPrompt}
-use Rattle.dover_engine.specs.Calls.{since_rest, HasCause, IsBreaker, IsCause, cause_behind, IsDueAt}
-use Rattle.dover_engine.specs.Calls.{Holds, HasProcessor, HasNoProcessor, MayBeDone, IsDone}
+use Rattle.dover_engine.specs.Calls.{since_rest, HasCause, IsBreaker, IsCause, cause_behind, IsDueAt, Holds}
+use Rattle.dover_engine.specs.Calls.{HasProcessor, HasNoProcessor, MayBeDone, IsDone}
 use Rattle.ready_server.proofs.Finishing.{one_finish}
 use Rattle.dover_engine.proofs.Giving.{fresh_gave, rests_now, finish_gave}
 use Rattle.dover_model.proofs.valid.ValidParts.{valid_parts}

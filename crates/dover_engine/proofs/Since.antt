@@ -1,9 +1,6 @@
 -- What was given since the last moment of rest, and rest.
 use Rattle.std.proofs.Common.{◌≡◌, ℕ, List, [], ◌++◌, refl, sym, ap, ◌∙◌, subst, Bool, true, false, append-nil}
-use Rattle.std.proofs.Common.{append_assoc}
-use Rattle.std.specs.Prelude.{None, Option, Some, IfSome, option_to_list, not}
-use Rattle.std.specs.Bool.{MatchBool}
-use Rattle.std.specs.List.{filter}
+use Rattle.std.proofs.Common.{append_assoc, None, Option, Some, IfSome, option_to_list, not, MatchBool, filter}
 use Rattle.dover_model.specs.declared.events.Event.{Event}
 use Rattle.dover_model.specs.declared.events.Task.{Task}
 use Rattle.dover_model.specs.Common.{Instance, declared_by, having, State, opening, is_over, is_done, value_sum}

@@ -1,7 +1,6 @@
 -- The job that an engine names is the one that gets the processor behind one that is done.
 use Rattle.std.proofs.Common.{◌≡◌, ℕ, List, [], ◌∷◌, ◌++◌, length, refl, sym, ap, ◌∙◌, subst, arith, append_assoc}
-use Rattle.std.proofs.Common.{length-append}
-use Rattle.std.specs.Prelude.{Option, Some, None, IfSome, option_map, option_to_list}
+use Rattle.std.proofs.Common.{length-append, Option, Some, None, IfSome, option_map, option_to_list}
 use Rattle.dover_model.specs.declared.events.Event.{Event}
 use Rattle.dover_model.specs.declared.events.Event.TheVariants.{Run, Complete}
 use Rattle.dover_model.specs.declared.events.Version.{Version}

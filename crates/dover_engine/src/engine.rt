@@ -1,7 +1,6 @@
 //! The engine.
 ghost use Rattle.std.specs.Prelude.{◌≡◌, ◌≤◌, ◌↔◌, ◌++◌, ◌||◌, ℕ, IsTrue, IfOk, IfErr, OnErr, OnOk, IsNone, IfSome};
-ghost use Rattle.std.specs.Prelude.{List, [], Some, option_to_list, ◌+◌};
-ghost use Rattle.std.specs.Option.{option_map};
+ghost use Rattle.std.specs.Prelude.{List, [], Some, option_to_list, ◌+◌, option_map};
 ghost use Rattle.dover_model.specs.Common.{last_tick, behind, job_of_numbers, Instance, MayFollow, is_ready_after};
 ghost use Rattle.dover_model.specs.Common.{is_end_given, no_jobs, due_by, runner_of, settled};
 ghost use Rattle.dover_model.specs.declared.events.Event.{Event};

@@ -1,6 +1,5 @@
 -- The jobs of a run as they were observed: what a completed job had stands for its work.
-use Rattle.std.specs.Prelude.{ℕ, List, map, if◌then◌else◌}
-use Rattle.std.specs.List.{fold}
+use Rattle.std.specs.Prelude.{ℕ, List, map, if◌then◌else◌, fold}
 use Rattle.dover_model.specs.declared.events.Task.{Task}
 use Rattle.dover_model.specs.JobFacts.{JobFacts}
 use Rattle.dover_model.specs.Instance.{Instance}

@@ -1,7 +1,6 @@
 //! Laws of how often the processor changes hands, and of what that costs, each the contract of a function that does
 //! nothing.
-ghost use Rattle.std.specs.Prelude.{None, ◌≡◌, ◌≤◌, ◌+◌, ◌-◌, ◌*◌, ℕ, List, length, true, false};
-ghost use Rattle.std.specs.List.{count_by};
+ghost use Rattle.std.specs.Prelude.{None, ◌≡◌, ◌≤◌, ◌+◌, ◌-◌, ◌*◌, ℕ, List, length, true, false, count_by};
 ghost use Rattle.dover_model.specs.Common.{Instance, IsValid, JobFacts, numbered, ticks_given, worth, Step, run, ran};
 ghost use Rattle.dover_model.specs.Common.{completed_value, IsWithin, need, gains_from, Fraction, IsWithinSlower};
 ghost use Rattle.dover_model.specs.Common.{worth_by, end_state, observed, is_done, Task, IsMember, is_complete};

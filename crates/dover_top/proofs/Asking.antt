@@ -1,9 +1,7 @@
 -- That words ask for one thing at most.
-use Rattle.std.proofs.Common.{◌≡◌, ℕ, ◌+◌, ◌-◌, ◌<◌, ◌^◌, List, [], ◌∷◌, String, get_or, decimal, sym, ap, ◌∙◌}
-use Rattle.std.proofs.Common.{take, length-drop}
-use Rattle.std.proofs.Common.{subst, arith, drop, length, refl, suc, zero, string_bytes, Option, Some, None, IsTrue}
-use Rattle.std.specs.Prelude.{codes, bytes_eq, unwrap_or, if◌then◌else◌}
-use Rattle.std.proofs.lemmas.List.{take_all}
+use Rattle.std.proofs.Common.{◌≡◌, ℕ, ◌+◌, ◌-◌, ◌<◌, ◌^◌, List, [], ◌∷◌, String, get_or, decimal, sym, ap, ◌∙◌, take}
+use Rattle.std.proofs.Common.{length-drop, subst, arith, drop, length, refl, suc, zero, string_bytes, Option, Some}
+use Rattle.std.proofs.Common.{None, IsTrue, codes, bytes_eq, unwrap_or, if◌then◌else◌, take_all}
 use Rattle.std.specs.declared.alloc.Global.{Global}
 use Rattle.trace_words.specs.declared.report.form.Form.{Form}
 use Rattle.trace_words.specs.declared.report.form.Form.TheVariants.{Text, Table, Chrome, Why, Timeline, Svg}

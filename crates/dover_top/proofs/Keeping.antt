@@ -1,7 +1,6 @@
 -- What is promised of what was read and written.
 use Rattle.std.proofs.Common.{◌≡◌, ◌≤◌, ℕ, List, ◌++◌, Bool, true, refl, sym, ap, ◌∙◌, inl, inr, subst, take, drop}
-use Rattle.std.proofs.Common.{Option, Some, None}
-use Rattle.std.proofs.lemmas.List.{take-append-drop}
+use Rattle.std.proofs.Common.{Option, Some, None, take-append-drop}
 use Rattle.dover_model.specs.Common.{Instance, IsValid, jobs_under, JobFacts, instance_of, IsDeclarable, verdict, due}
 use Rattle.dover_model.specs.Common.{account, is_ended, is_open, Fraction, IsRatio, most_jobs}
 use Rattle.dover_model.specs.Session.{takes_factors}

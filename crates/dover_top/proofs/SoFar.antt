@@ -1,8 +1,6 @@
 -- What stands of a feed so far, and of what was written for it.
 use Rattle.std.proofs.Common.{◌≡◌, ◌⊎◌, inl, inr, ℕ, suc, List, [], ◌∷◌, ◌++◌, length, refl, sym, ap, ◌∙◌, subst, arith}
-use Rattle.std.proofs.Common.{Bool, true, false, cond, Option, None, Some}
-use Rattle.std.specs.Prelude.{nat_lt}
-use Rattle.std.specs.List.{fold}
+use Rattle.std.proofs.Common.{Bool, true, false, cond, Option, None, Some, nat_lt, fold}
 use Rattle.dover_model.specs.Common.{Instance, IsValid, due, decided_lines, short_lines, Account, account, no_lines}
 use Rattle.dover_model.specs.Common.{is_ended, next_line, with_line, with_good_line, with_fault, with_refused_at}
 use Rattle.dover_model.specs.Common.{most_lines_in, cause_of, Cause, Lines, Line, Declared, Order, NotAdmitted, NotDone}

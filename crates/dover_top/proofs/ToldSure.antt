@@ -1,6 +1,5 @@
 -- What is promised of tasks that are told sure.
-use Rattle.std.proofs.Common.{◌≡◌, ℕ, List, [], ◌∷◌, Bool, true, ap, ◌∙◌, inl, inr, cond, codes}
-use Rattle.std.specs.Prelude.{nat_lt}
+use Rattle.std.proofs.Common.{◌≡◌, ℕ, List, [], ◌∷◌, Bool, true, ap, ◌∙◌, inl, inr, cond, codes, nat_lt}
 use Rattle.std.proofs.lemmas.Bool.{and_parts}
 use Rattle.dover_model.specs.Common.{Fraction, most_value, with_numbers, is_heavy, Stream, stream_at, is_spread}
 use Rattle.dover_port.specs.Moves.{Move, ins, outs}

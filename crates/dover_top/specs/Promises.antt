@@ -1,7 +1,5 @@
 -- What is promised of what was read and written.
-use Rattle.std.specs.Prelude.{◌≡◌, ◌≢◌, ◌<◌, ◌⊎◌, ℕ, List, [], ◌++◌, true, false, Option, Some}
-use Rattle.std.specs.Prelude.{if◌then◌else◌}
-use Rattle.std.specs.List.{sum_by}
+use Rattle.std.specs.Prelude.{◌≡◌, ◌≢◌, ◌<◌, ◌⊎◌, ℕ, List, [], ◌++◌, true, false, Option, Some, if◌then◌else◌, sum_by}
 use Rattle.dover_model.specs.Common.{Instance, IsValid, bare, Session, IsValidSession, instance_of, bait_plan}
 use Rattle.dover_model.specs.Common.{plan_value, IsWithin, due, decided_lines, Account, account, is_ended, in_lines}
 use Rattle.dover_model.specs.Common.{Fraction, observed, printed_up_to, finishes_up_to, known_at, run, ran, printed}

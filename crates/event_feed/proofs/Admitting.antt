@@ -1,12 +1,8 @@
 -- How many jobs the account of a feed has admitted, and was offered, as it is read.
 use Rattle.std.proofs.Common.{◌≡◌, ◌≤◌, ◌+◌, ℕ, suc, List, ◌∷◌, ◌++◌, [], length, refl, sym, ap, ◌∙◌, subst}
-use Rattle.std.proofs.Common.{append_assoc, length-append}
-use Rattle.std.proofs.Common.{Option, Some, None, Bool, true, false, cond, arith}
-use Rattle.std.specs.Prelude.{nat_lt, max, ◌||◌}
-use Rattle.std.specs.List.{fold, count_by}
-use Rattle.std.specs.Option.{option_map, option_map_or}
-use Rattle.std.proofs.lemmas.Bool.{lt-ltb, ltb-true}
-use Rattle.std.proofs.lemmas.List.{append-nil}
+use Rattle.std.proofs.Common.{append_assoc, length-append, Option, Some, None, Bool, true, false, cond, arith, nat_lt}
+use Rattle.std.proofs.Common.{max, ◌||◌, fold, count_by, option_map, lt-ltb, ltb-true, append-nil}
+use Rattle.std.specs.Option.{option_map_or}
 use Rattle.std.proofs.lemmas.List.Elements.{filter_map-append}
 use Rattle.std.proofs.lemmas.List.Sums.{sum_by-append}
 use Rattle.dover_model.specs.Common.{most_lines, last_tick, JobFacts, Session, Item, JobItem, RefusedItem, FinishItem}

@@ -1,8 +1,6 @@
 -- Each line of an open account is counted.
 use Rattle.std.proofs.Common.{◌≡◌, ℕ, suc, ◌+◌, List, [], ◌∷◌, length, refl, cond, Bool, true, false, Option, Some}
-use Rattle.std.proofs.Common.{None, arith}
-use Rattle.std.specs.List.{fold}
-use Rattle.std.specs.Prelude.{nat_lt}
+use Rattle.std.proofs.Common.{None, arith, fold, nat_lt}
 use Rattle.dover_model.specs.declared.events.Refusal.{Refusal}
 use Rattle.dover_model.specs.Common.{JobFacts, Session, refuses_lines, refused_mark, FeedLine, RatioLine, FactorLine}
 use Rattle.dover_model.specs.Common.{JobLine, TickLine, DoneLine, EndLine, feed_line, Account, Cause, Standing, Open}

@@ -1,9 +1,7 @@
 -- A done line in a session whose jobs may finish early.
 use Rattle.std.proofs.Common.{◌≡◌, ℕ, ◌≤◌, ◌<◌, max, ◌∷◌, [], refl, sym, ap, ◌∙◌, subst, cond, Option, Some, None, Ok}
-use Rattle.std.proofs.Common.{Bool, true, false, arith}
-use Rattle.std.specs.Prelude.{nat_lt, nat_le, is_some, ◌&&◌}
-use Rattle.std.specs.Option.{option_map}
-use Rattle.std.proofs.lemmas.Bool.{le-ltb, lt-leb, leb-true, and_parts}
+use Rattle.std.proofs.Common.{Bool, true, false, arith, nat_lt, nat_le, is_some, ◌&&◌, option_map, le-ltb, leb-true}
+use Rattle.std.proofs.lemmas.Bool.{lt-leb, and_parts}
 use Rattle.dover_model.specs.Common.{last_tick, AreShort, Session, FinishItem, EarlyFinish, RefusedDone}
 use Rattle.dover_model.specs.Common.{may_finish_early, is_right, early_at, with_named, with_item, refused_done_at}
 use Rattle.dover_model.specs.Common.{admitted_jobs, DoneLine, Account, Cause, NotDone, Order, Line, cause_of, with_line}

@@ -1,11 +1,6 @@
 -- A feed that goes on has few lines and few bytes, and the account of one that doesn't stays.
 use Rattle.std.proofs.Common.{◌≡◌, ◌≤◌, ◌<◌, ◌+◌, ℕ, suc, List, ◌∷◌, ◌++◌, [], length, refl, ap, ◌∙◌, subst, Bool, true}
-use Rattle.std.proofs.Common.{false, cond}
-use Rattle.std.proofs.Common.{Option, Some, None, arith}
-use Rattle.std.specs.Prelude.{nat_lt}
-use Rattle.std.specs.List.{fold}
-use Rattle.std.proofs.lemmas.Bool.{ltb-false, ltb-true}
-use Rattle.std.proofs.lemmas.List.{append-nil}
+use Rattle.std.proofs.Common.{false, cond, Option, Some, None, arith, nat_lt, fold, ltb-false, ltb-true, append-nil}
 use Rattle.dover_model.specs.Common.{most_lines, in_lines, lines_of, whole_lines, rest_of, is_too_long, fields_of}
 use Rattle.dover_model.specs.Common.{FeedLine, feed_line, line_of_fields, Session, Account, Standing, Open, Ended}
 use Rattle.dover_model.specs.Common.{Faulty, Lines, Cause, no_lines, is_open, next_line, read_line, with_fault, account}

@@ -1,11 +1,8 @@
 -- A job line in a session that goes on: admitted, refused, or at fault.
-use Rattle.std.proofs.Common.{◌≡◌, ℕ, ◌≤◌, ◌<◌, refl, sym, ap, ◌∙◌, subst, cond, Option, Some}
-use Rattle.std.proofs.Common.{None, Ok}
-use Rattle.std.proofs.Common.{true, false, Bool, ◌⊎◌, inl, inr}
-use Rattle.std.specs.Prelude.{◌≢◌}
+use Rattle.std.proofs.Common.{◌≡◌, ℕ, ◌≤◌, ◌<◌, refl, sym, ap, ◌∙◌, subst, cond, Option, Some, None, Ok, true, false}
+use Rattle.std.proofs.Common.{Bool, ◌⊎◌, inl, inr, ◌≢◌, option_map, le-ltb, lt-ltb}
 use Rattle.std.specs.Bool.{then_some}
-use Rattle.std.specs.Option.{option_map, option_or}
-use Rattle.std.proofs.lemmas.Bool.{le-ltb, lt-ltb}
+use Rattle.std.specs.Option.{option_or}
 use Rattle.dover_model.specs.Common.{AreShort, JobFacts, job_numbers, refusal_of, Session, RefusedJob, refused_at}
 use Rattle.dover_model.specs.Common.{admitted_jobs, refuses_lines, refusal_at, late_refusal, refusal_in, refused_mark}
 use Rattle.dover_model.specs.Common.{is_full, instance_of, with_item, JobItem, JobLine, Account, NotAdmitted}

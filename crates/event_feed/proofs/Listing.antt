@@ -1,12 +1,12 @@
 -- What is listed after a line.
-use Rattle.std.proofs.Common.{◌≡◌, ◌≤◌, ◌<◌, ◌++◌, ◌∷◌, [], ◌⊎◌, inl, inr, ℕ, List, length, refl, sym, ap, ◌∙◌}
-use Rattle.std.proofs.Common.{Option, Some, None, Bool, true, false, arith, cond, max, subst, drop, length-append}
-use Rattle.std.specs.Prelude.{◌≢◌, ◌&&◌, nat_le, nat_lt, is_some}
-use Rattle.std.specs.List.{fold, AllByRecursion}
-use Rattle.std.specs.Option.{option_map}
+use Rattle.std.proofs.Common.{◌≡◌, ◌≤◌, ◌<◌, ◌++◌, ◌∷◌, [], ◌⊎◌, inl, inr, ℕ, List, length, refl, sym, ap, ◌∙◌, Option}
+use Rattle.std.proofs.Common.{Some, None, Bool, true, false, arith, cond, max, subst, drop, length-append, ◌≢◌, ◌&&◌}
+use Rattle.std.proofs.Common.{nat_le, nat_lt, is_some, fold, option_map, le-leb, ltb-true, ltb-false, Result, Ok, Err}
+use Rattle.std.proofs.Common.{OnOk}
+use Rattle.std.specs.List.{AllByRecursion}
 use Rattle.std.proofs.Math.Seq.{take-length, drop-length}
 use Rattle.std.proofs.Math.Bool.{and-false}
-use Rattle.std.proofs.lemmas.Bool.{le-leb, lt-leb, ltb-true, ltb-false}
+use Rattle.std.proofs.lemmas.Bool.{lt-leb}
 use Rattle.std.proofs.lemmas.List.{take-append-le, drop-append-le}
 use Rattle.std.proofs.lemmas.List.Sums.{fold-append}
 use Rattle.dover_model.specs.declared.events.Version.{Version}
@@ -28,9 +28,7 @@ use Rattle.dover_model.proofs.valid.Valid.{all_from}
 use Rattle.event_feed.proofs.Admitting.{job_more, refused_more, admitted_by}
 use Rattle.dover_model.proofs.sessions.Fullness.{few_ready, full_many}
 use Rattle.event_feed.proofs.DoneLines.{session_done, done_session, done_jobs, done_mark}
-use Rattle.event_feed.specs.Answers.{AddsJob, AddsRefused, AddsDone, MovesMark, counted}
-use Rattle.event_feed.specs.Answers.{admitted_in}
-use Rattle.std.specs.Prelude.{Result, Ok, Err, OnOk}
+use Rattle.event_feed.specs.Answers.{AddsJob, AddsRefused, AddsDone, MovesMark, counted, admitted_in}
 use Rattle.event_feed.specs.declared.listed.DoneLine.{DoneLine}
 use Rattle.event_feed.specs.Listing.{ListsIn, StandsAmong, ComesBehind, AreInTurn, handed, with_early, with_right}
 use Rattle.event_feed.specs.Listing.{right_finishes}

@@ -1,11 +1,9 @@
 -- How many jobs are offered behind a line, and what is kept while they aren't too many.
 use Rattle.std.proofs.Common.{◌≡◌, ◌≤◌, ◌<◌, ◌+◌, ℕ, List, ◌∷◌, ◌++◌, [], length, refl, sym, ap, ◌∙◌, cond, max, arith}
-use Rattle.std.proofs.Common.{Option, Some, None, Bool, true, false}
-use Rattle.std.specs.Prelude.{◌≢◌, not, ◌&&◌}
-use Rattle.std.specs.List.{count_by}
-use Rattle.std.specs.Option.{option_map}
+use Rattle.std.proofs.Common.{Option, Some, None, Bool, true, false, ◌≢◌, not, ◌&&◌, count_by, option_map, le-ltb}
+use Rattle.std.proofs.Common.{lt-ltb, ltb-false}
 use Rattle.std.proofs.Math.Bool.{and-true, and-false}
-use Rattle.std.proofs.lemmas.Bool.{and_parts, le-ltb, lt-ltb, ltb-false}
+use Rattle.std.proofs.lemmas.Bool.{and_parts}
 use Rattle.std.proofs.lemmas.List.Sums.{sum_by-append}
 use Rattle.dover_model.specs.Common.{most_jobs, JobFacts, Session, Item, JobItem, FinishItem, EarlyFinish, refused_at}
 use Rattle.dover_model.specs.Common.{refused_done_at, with_item, with_named, early_at, is_right, is_full, instance_of}

@@ -1,9 +1,6 @@
 -- What the lines of ratios and of ticks say to an account that goes on, and that a job's numbers have numerals.
-use Rattle.std.proofs.Common.{◌≡◌, ℕ, suc, ◌+◌, ◌≤◌, ◌<◌, ◌^◌, ap, ◌∙◌, cond, arith, Some, None, is_some, ◌||◌}
-use Rattle.std.proofs.Common.{Option, [], ◌∷◌}
-use Rattle.std.specs.Prelude.{nat_lt}
-use Rattle.std.specs.Option.{option_map}
-use Rattle.std.proofs.lemmas.Bool.{le-ltb}
+use Rattle.std.proofs.Common.{◌≡◌, ℕ, suc, ◌+◌, ◌≤◌, ◌<◌, ◌^◌, ap, ◌∙◌, cond, arith, Some, None, is_some, ◌||◌, Option}
+use Rattle.std.proofs.Common.{[], ◌∷◌, nat_lt, option_map, le-ltb}
 use Rattle.dover_model.specs.declared.events.Version.{Version}
 use Rattle.dover_model.specs.declared.events.Version.TheVariants.{One, Two, Three}
 use Rattle.dover_model.specs.Common.{last_tick, most_lines, JobFacts, IsJob, job_numbers, Fraction, IsRatio, fraction}

@@ -1,7 +1,6 @@
 //! The lines of a feed, taken in one by one.
 ghost use Rattle.std.specs.Prelude.{◌≡◌, ℕ, List, [], ◌∷◌, ◌++◌, ◌↔◌, true, false, Option, IsOk, IfOk, OnOk, IsSome};
-ghost use Rattle.std.specs.Prelude.{IfSome, Some, None, ◌≤◌, ◌+◌, replicate};
-ghost use Rattle.std.specs.Option.{option_map};
+ghost use Rattle.std.specs.Prelude.{IfSome, Some, None, ◌≤◌, ◌+◌, replicate, option_map};
 ghost use Rattle.dover_model.specs.declared.events.Version.TheVariants.{Three};
 ghost use Rattle.dover_model.specs.Common.{most_lines, Session, Account, Open, account_of_lines, read_line, rules_with};
 ghost use Rattle.dover_model.specs.Common.{first_line_cause};

@@ -1,9 +1,7 @@
 -- Entries in the order of their deadlines: the same members, sums and room.
 use Rattle.std.proofs.Common.{◌≡◌, ◌⊎◌, inl, inr, List, ◌∷◌, Bool, true, false, nat_lt, cond, ℕ, ◌+◌, ◌-◌, arith, refl}
-use Rattle.std.proofs.Common.{[], map, min, ap, ◌∙◌, sym}
-use Rattle.std.specs.List.{sum_by}
+use Rattle.std.proofs.Common.{[], map, min, ap, ◌∙◌, sym, sum_by, unwrap_or}
 use Rattle.std.proofs.lemmas.List.Sums.{sum_by-cons}
-use Rattle.std.specs.Prelude.{unwrap_or}
 use Rattle.dover_model.specs.declared.events.Entry.{Entry}
 use Rattle.dover_model.specs.Common.{IsMember, least, left, demand_up_to, room, room_of, entry_of}
 use Rattle.held_stack.specs.Stack.{put_in, by_deadline, room_at}

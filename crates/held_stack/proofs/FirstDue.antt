@@ -1,7 +1,6 @@
 -- The room of held jobs later, and with one more that is due before all of them.
-use Rattle.std.proofs.Common.{◌≡◌, ℕ, ◌+◌, ◌-◌, ◌≤◌, ◌<◌, inl, inr, min, List, [], ◌∷◌, Some, None, map}
-use Rattle.std.proofs.Common.{refl, sym, ap, ◌∙◌, subst, arith, nat_lt, cond}
-use Rattle.std.specs.List.{filter, sum_by}
+use Rattle.std.proofs.Common.{◌≡◌, ℕ, ◌+◌, ◌-◌, ◌≤◌, ◌<◌, inl, inr, min, List, [], ◌∷◌, Some, None, map, refl, sym, ap}
+use Rattle.std.proofs.Common.{◌∙◌, subst, arith, nat_lt, cond, filter, sum_by}
 use Rattle.std.proofs.lemmas.List.Sums.{sum_by-cons}
 use Rattle.dover_model.specs.declared.events.Entry.{Entry}
 use Rattle.dover_model.specs.Common.{least, demand_by, room_of, IsMember, Each}

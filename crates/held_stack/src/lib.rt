@@ -3,8 +3,7 @@
 
 ghost use Rattle.std.specs.Prelude.{◌≡◌, ◌-◌, ◌^◌, ◌<◌, ◌≤◌, [], ◌∷◌, max, IfOk, IsOk, OnOk, OnErr};
 ghost use Rattle.dover_model.specs.Common.{room_of, Each};
-ghost use Rattle.held_stack.specs.Stack.{Stack, top_of, value_of, IsByDeadline, IsDueBeforeTop};
-ghost use Rattle.held_stack.specs.Stack.{without_top};
+ghost use Rattle.held_stack.specs.Stack.{Stack, top_of, value_of, IsByDeadline, IsDueBeforeTop, without_top};
 
 mod rooms;
 

@@ -1,8 +1,6 @@
 -- What each line of a feed adds to what is due, and how the lane comes to owe it.
-use Rattle.std.proofs.Common.{◌≡◌, ℕ, suc, ◌<◌, ◌^◌, List, [], ◌∷◌, ◌++◌, length, map, refl, sym, ap, ◌∙◌}
-use Rattle.std.proofs.Common.{subst, arith, inl, inr, ◌⊎◌, Bool, true, false, Some, None, Option, cond}
-use Rattle.std.proofs.lemmas.List.{append-nil}
-use Rattle.std.specs.Prelude.{drop}
+use Rattle.std.proofs.Common.{◌≡◌, ℕ, suc, ◌<◌, ◌^◌, List, [], ◌∷◌, ◌++◌, length, map, refl, sym, ap, ◌∙◌, subst, arith}
+use Rattle.std.proofs.Common.{inl, inr, ◌⊎◌, Bool, true, false, Some, None, Option, cond, append-nil, drop}
 use Rattle.std.proofs.lemmas.List.Sums.{fold-append}
 use Rattle.dover_model.specs.declared.events.Event.{Event}
 use Rattle.dover_model.specs.declared.events.Version.{Version}
@@ -13,12 +11,10 @@ use Rattle.dover_model.specs.Common.{Open, Ended, Faulty, Cause, rules_with, no_
 use Rattle.dover_model.specs.Common.{is_open, due_lines, fault_text, no_jobs, due_by}
 use Rattle.dover_model.proofs.sessions.Accounts.{Holds, HoldsBy, IsKept, lines_goes, account_with}
 use Rattle.dover_model.proofs.sessions.Emitting.{texts_more, texts_refused}
-use Rattle.dover_model.proofs.sessions.Growing.{settled_later, settled_of_run}
-use Rattle.dover_model.proofs.sessions.Growing.{refused_instance}
+use Rattle.dover_model.proofs.sessions.Growing.{settled_later, settled_of_run, refused_instance}
 use Rattle.dover_model.specs.declared.horizon.Horizon.TheVariants.{Mark, End}
 use Rattle.event_feed.specs.Kept.{cause_of_fault}
-use Rattle.event_feed.specs.Answers.{DeclaresRatio, MovesMark, EndsFeed, NewFault, OldFault}
-use Rattle.event_feed.specs.Answers.{counted}
+use Rattle.event_feed.specs.Answers.{DeclaresRatio, MovesMark, EndsFeed, NewFault, OldFault, counted}
 use Rattle.event_feed.specs.declared.faults.FeedFault.{FeedFault}
 use Rattle.lane_server.specs.Lanes.{lines_added}
 use Rattle.lane_server.specs.Lane.{Fits, Running, reach}

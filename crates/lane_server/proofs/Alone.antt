@@ -1,13 +1,11 @@
 -- What stands on the output for a lane is what its feed alone calls for.
 use Rattle.std.proofs.Common.{◌≡◌, ◌<◌, ◌≤◌, ℕ, zero, suc, ◌+◌, List, [], ◌∷◌, ◌++◌, map, refl, sym, ap, ◌∙◌, subst}
-use Rattle.std.proofs.Common.{Option, Some, None, Bool, true, false}
-use Rattle.std.proofs.Common.{cond, ◌==◌, arith, decimal, codes, length, append_assoc, append-nil, ◌⊎◌, inl, inr}
-use Rattle.std.proofs.Common.{bytes_eq}
-use Rattle.std.proofs.Common.{nat_lt}
-use Rattle.std.specs.List.{AllByRecursion, onto_first, flat_map, range_with_len, fold, filter}
-use Rattle.std.specs.Option.{option_and_then}
+use Rattle.std.proofs.Common.{Option, Some, None, Bool, true, false, cond, ◌==◌, arith, decimal, codes, length}
+use Rattle.std.proofs.Common.{append_assoc, append-nil, ◌⊎◌, inl, inr, bytes_eq, nat_lt, flat_map, fold, filter}
+use Rattle.std.proofs.Common.{option_and_then, ltb-true, ne_eqb, eqb-true, eq-eqb}
+use Rattle.std.specs.List.{AllByRecursion, onto_first, range_with_len}
 use Rattle.std.specs.Str.{all_ascii_digits}
-use Rattle.std.proofs.lemmas.Bool.{ltb-true, ne_eqb, eqb-true, eq-eqb, and_parts, cases_lt}
+use Rattle.std.proofs.lemmas.Bool.{and_parts, cases_lt}
 use Rattle.std.proofs.lemmas.Fmt.{decimal_injective}
 use Rattle.std.proofs.lemmas.Grind.{flat_map-append}
 use Rattle.std.proofs.lemmas.List.Splits.{length-slice_split}
@@ -24,11 +22,9 @@ use Rattle.dover_model.proofs.texts.NoFeeds.{feedless_line, feedless_behind, fee
 use Rattle.dover_model.proofs.traces.ShortNumbers.{all_drop}
 use Rattle.dover_model.proofs.lists.Tests.{never, not_true}
 use Rattle.lane_server.specs.Lanes.{lane_count, LaneLine, OfLane, Close, lane_line, numbered_line, of_lane, Handed}
-use Rattle.lane_server.specs.Lanes.{Input, InputStanding, Open, Closed, Faulty}
-use Rattle.lane_server.specs.Lanes.{TooManyLines, BadLane, no_input, next_line, goes_on}
-use Rattle.lane_server.specs.Lanes.{input, lane_lines, lane_account}
-use Rattle.lane_server.specs.Lanes.{in_lane, lines_added, newly_due, due_after, feed_short, lane_short, shorts_from}
-use Rattle.lane_server.specs.Lanes.{fault_word}
+use Rattle.lane_server.specs.Lanes.{Input, InputStanding, Open, Closed, Faulty, TooManyLines, BadLane, no_input}
+use Rattle.lane_server.specs.Lanes.{next_line, goes_on, input, lane_lines, lane_account, in_lane, lines_added}
+use Rattle.lane_server.specs.Lanes.{newly_due, due_after, feed_short, lane_short, shorts_from, fault_word}
 use Rattle.lane_server.specs.Lanes.{closing_lines, lanes_closed}
 use Rattle.lane_server.specs.Alone.{behind_number, text_of_lane, lane_feed, closed_feed, served_alone}
 use Rattle.lane_server.proofs.Feeding.{due_added}

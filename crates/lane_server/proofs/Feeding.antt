@@ -1,10 +1,6 @@
 -- What bytes of a feed hand to its lane, and what is left to give then.
 use Rattle.std.proofs.Common.{Bool, ◌≡◌, ℕ, List, [], ◌∷◌, ◌++◌, sym, ap, ◌∙◌, subst, refl, true, false, cond, Some}
-use Rattle.std.proofs.Common.{Result}
-use Rattle.std.proofs.Common.{Ok, Err}
-use Rattle.std.proofs.lemmas.List.{append-nil}
-use Rattle.std.specs.Prelude.{OnOk, OnErr, None, length}
-use Rattle.std.specs.Option.{option_map}
+use Rattle.std.proofs.Common.{Result, Ok, Err, append-nil, OnOk, OnErr, None, length, option_map}
 use Rattle.dover_model.specs.declared.Memory.{Memory}
 use Rattle.dover_model.specs.Common.{due_lines, Account, Standing, Open, Ended, Faulty, account, account_of_lines}
 use Rattle.dover_model.specs.Common.{is_open, is_ended, next_line, lines_of, rest_of, is_too_long, Session, instance_of}

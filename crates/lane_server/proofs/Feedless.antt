@@ -1,8 +1,6 @@
 -- No line that is due has a line feed, nor has a line of a text.
-use Rattle.std.proofs.Common.{◌≡◌, ℕ, suc, List, [], ◌∷◌, refl, ap}
-use Rattle.std.proofs.Common.{Option, Some, None, Bool}
-use Rattle.std.proofs.Common.{true, false}
-use Rattle.std.proofs.Common.{cond, not, ◌&&◌, decimal, codes}
+use Rattle.std.proofs.Common.{◌≡◌, ℕ, suc, List, [], ◌∷◌, refl, ap, Option, Some, None, Bool, true, false, cond, not}
+use Rattle.std.proofs.Common.{◌&&◌, decimal, codes}
 use Rattle.std.specs.List.{AllByRecursion, slice_split, onto_first}
 use Rattle.std.proofs.lemmas.Bool.{and_from}
 use Rattle.dover_model.specs.Common.{whole_lines, rest_of, lines_of, is_too_long, Session, instance_of, printed}

@@ -1,10 +1,8 @@
 -- A done line whose tick isn't below the mark: what it adds, and what is left of that after each step of the server.
 use Rattle.std.proofs.Common.{◌≡◌, ◌≤◌, ◌<◌, ◌^◌, max, ℕ, List, [], ◌∷◌, ◌++◌, length, drop, map, refl, sym, ap, ◌∙◌}
-use Rattle.std.proofs.Common.{subst, Option, Some, None, is_some, cond, Bool, true, arith}
-use Rattle.std.specs.Prelude.{◌&&◌}
-use Rattle.std.specs.Option.{option_map, option_map_or}
-use Rattle.std.proofs.lemmas.Bool.{le-leb}
-use Rattle.std.proofs.lemmas.List.{append-nil, append_assoc}
+use Rattle.std.proofs.Common.{subst, Option, Some, None, is_some, cond, Bool, true, arith, ◌&&◌, option_map, le-leb}
+use Rattle.std.proofs.Common.{append-nil, append_assoc}
+use Rattle.std.specs.Option.{option_map_or}
 use Rattle.dover_model.specs.declared.events.Event.{Event}
 use Rattle.dover_model.specs.declared.events.Event.TheVariants.{Complete}
 use Rattle.dover_model.specs.declared.horizon.Horizon.{Horizon}

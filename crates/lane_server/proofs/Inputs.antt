@@ -1,11 +1,7 @@
 -- The input of more lines and of more bytes, and what is due for it.
 use Rattle.std.proofs.Common.{◌≡◌, ◌<◌, ◌≤◌, ◌+◌, ℕ, suc, List, [], ◌∷◌, ◌++◌, length, refl, sym, ap, ◌∙◌, subst}
-use Rattle.std.proofs.Common.{Option, Some, None, Bool, true}
-use Rattle.std.proofs.Common.{false, cond}
-use Rattle.std.proofs.Common.{append_assoc, append-nil, arith, codes, bytes_eq}
-use Rattle.std.specs.Prelude.{nat_lt}
-use Rattle.std.specs.List.{fold}
-use Rattle.std.proofs.lemmas.Bool.{lt-ltb, ltb-true, ltb-false}
+use Rattle.std.proofs.Common.{Option, Some, None, Bool, true, false, cond, append_assoc, append-nil, arith, codes}
+use Rattle.std.proofs.Common.{bytes_eq, nat_lt, fold, lt-ltb, ltb-true, ltb-false}
 use Rattle.std.proofs.lemmas.List.Sums.{fold-append}
 use Rattle.dover_model.specs.declared.events.Version.TheVariants.{Three}
 use Rattle.dover_model.specs.Common.{most_lines, whole_lines, rest_of, lines_of, is_too_long, fields_of, Begins}
@@ -14,10 +10,8 @@ use Rattle.dover_model.proofs.lists.Beginnings.{begins_in_lines}
 use Rattle.dover_model.proofs.lists.Tests.{never}
 use Rattle.line_text.proofs.Lengths.{AreNotTooLong, text_few}
 use Rattle.lane_server.specs.Lanes.{LaneLine, OfLane, Close, lane_line, numbered_line, Handed, Input, InputStanding}
-use Rattle.lane_server.specs.Lanes.{Open, Closed, Faulty}
-use Rattle.lane_server.specs.Lanes.{TooManyLines, BadLane}
-use Rattle.lane_server.specs.Lanes.{no_input, next_line, with_lane_line, goes_on_at, goes_on, input_of_lines, input}
-use Rattle.lane_server.specs.Lanes.{newly_due, due_after, lane_due, HasLine}
+use Rattle.lane_server.specs.Lanes.{Open, Closed, Faulty, TooManyLines, BadLane, no_input, next_line, with_lane_line}
+use Rattle.lane_server.specs.Lanes.{goes_on_at, goes_on, input_of_lines, input, newly_due, due_after, lane_due, HasLine}
 
 -- ---- one line more
 

@@ -1,8 +1,7 @@
 -- The line of a job that may be admitted: what it adds, and what is left of that after each step of the server.
-use Rattle.std.proofs.Common.{◌≡◌, ◌≤◌, ◌<◌, ◌^◌, ℕ, List, [], ◌∷◌, ◌++◌, length, drop, map, refl, sym, ap, ◌∙◌}
-use Rattle.std.proofs.Common.{subst, Some, cond, Bool, true, false, arith, Ok}
-use Rattle.std.proofs.Common.{length-append}
-use Rattle.std.proofs.lemmas.List.{append_assoc, same_from_push}
+use Rattle.std.proofs.Common.{◌≡◌, ◌≤◌, ◌<◌, ◌^◌, ℕ, List, [], ◌∷◌, ◌++◌, length, drop, map, refl, sym, ap, ◌∙◌, subst}
+use Rattle.std.proofs.Common.{Some, cond, Bool, true, false, arith, Ok, length-append, append_assoc}
+use Rattle.std.proofs.lemmas.List.{same_from_push}
 use Rattle.std.proofs.lemmas.List.Sums.{sum_by-append, sum_by-cons}
 use Rattle.dover_model.specs.Common.{last_tick, due_by, JobFacts, Instance, IsValid, with_jobs, Session, Item, JobItem}
 use Rattle.dover_model.specs.Common.{RefusedItem, Refused, RefusedJob, instance_of, admitted_jobs, with_item}

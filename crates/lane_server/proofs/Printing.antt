@@ -1,7 +1,6 @@
 -- What is due of a run up to a horizon.
-use Rattle.std.proofs.Common.{◌≤◌, List, [], ◌∷◌, ◌++◌, sym, ◌∙◌, subst, arith, inl, inr}
+use Rattle.std.proofs.Common.{◌≤◌, List, [], ◌∷◌, ◌++◌, sym, ◌∙◌, subst, arith, inl, inr, append_assoc}
 use Rattle.std.specs.List.{AllByRecursion}
-use Rattle.std.proofs.lemmas.List.{append_assoc}
 use Rattle.dover_model.specs.declared.events.Event.{Event}
 use Rattle.dover_model.specs.Common.{JobFacts, Instance, IsValid, with_jobs, printed, Begins, IsMember, AreShort}
 use Rattle.dover_model.specs.Common.{step_numbers, due_by}

@@ -1,6 +1,5 @@
 //! The lanes of one input.
-ghost use Rattle.std.specs.Prelude.{◌≡◌, ◌<◌, ℕ, List, [], length, IfOk, IfSome, IsNone, OnOk, Some, Ok};
-ghost use Rattle.std.specs.Prelude.{true, false};
+ghost use Rattle.std.specs.Prelude.{◌≡◌, ◌<◌, ℕ, List, [], length, IfOk, IfSome, IsNone, OnOk, Some, Ok, true, false};
 ghost use Rattle.lane_server.specs.Lanes.{lane_count, OfLane, Close, lane_line, Handed, input_of_lines, all_ended};
 ghost use Rattle.lane_server.specs.Kept.{AllQuiet, AllStand};
 ghost use Rattle.lane_server.specs.Spending.{HavePaid};

@@ -1,8 +1,6 @@
 -- What another byte makes of whole lines and the rest.
 use Rattle.std.proofs.Common.{◌≡◌, ℕ, ◌+◌, min, List, [], ◌∷◌, ◌++◌, length, length-append, append-nil, refl, sym, ap}
-use Rattle.std.proofs.Common.{◌∙◌, subst}
-use Rattle.std.proofs.Common.{Bool, true, false, cond, arith}
-use Rattle.std.specs.Prelude.{if◌then◌else◌}
+use Rattle.std.proofs.Common.{◌∙◌, subst, Bool, true, false, cond, arith, if◌then◌else◌}
 use Rattle.dover_model.specs.Lines.{whole_lines, rest_of, lines_of, is_too_long, cut}
 use Rattle.dover_model.proofs.texts.Cuts.{CutText, is_feed, onto, cut_feed, cut_other, cut_append}
 use Rattle.dover_model.proofs.lists.Tests.{never}

@@ -1,6 +1,5 @@
 -- The items of entries come in the model's orders.
-use Rattle.std.proofs.Common.{◌≡◌, ◌≢◌, ℕ, ◌-◌, ◌≤◌, Bool, nat_lt, ap, arith}
-use Rattle.std.specs.Prelude.{◌||◌, ◌&&◌, ◌==◌}
+use Rattle.std.proofs.Common.{◌≡◌, ◌≢◌, ℕ, ◌-◌, ◌≤◌, Bool, nat_lt, ap, arith, ◌||◌, ◌&&◌, ◌==◌}
 use Rattle.dover_model.specs.Common.{most_value, wins_tie}
 use Rattle.dover_model.specs.declared.events.Entry.{Entry}
 use Rattle.dover_model.specs.declared.events.Version.{Version}

@@ -1,8 +1,7 @@
 //! The heap.
-ghost use Rattle.std.specs.Prelude.{◌≡◌, ◌≢◌, ℕ, ◌+◌, ◌-◌, ◌*◌, ◌^◌, ◌<◌, ◌≤◌, [], ◌∷◌, ◌++◌};
-ghost use Rattle.std.specs.Prelude.{length, replicate, is_some, slice_set, slice_index_or, vec_len, vec_capacity};
-ghost use Rattle.std.specs.Prelude.{IfOk, IsOk, OnOk, OnErr};
-ghost use Rattle.std.specs.List.{count_by};
+ghost use Rattle.std.specs.Prelude.{◌≡◌, ◌≢◌, ℕ, ◌+◌, ◌-◌, ◌*◌, ◌^◌, ◌<◌, ◌≤◌, [], ◌∷◌, ◌++◌, length, replicate};
+ghost use Rattle.std.specs.Prelude.{is_some, slice_set, slice_index_or, vec_len, vec_capacity, IfOk, IsOk, OnOk, OnErr};
+ghost use Rattle.std.specs.Prelude.{count_by};
 ghost use Rattle.dover_model.specs.Orders.{first};
 ghost use Rattle.place_heap.specs.Items.{ItemFacts, is_before};
 ghost use Rattle.place_heap.specs.Table.{IsIndexed, table_of, items_of, position, nowhere};

@@ -1,10 +1,8 @@
 -- The ready jobs, as a run keeps them from tick to tick.
 use Rattle.std.proofs.Common.{◌≡◌, ℕ, suc, zero, ◌+◌, ◌-◌, ◌≤◌, ◌<◌, inl, inr, List, [], ◌∷◌, ◌++◌, length, drop}
-use Rattle.std.proofs.Common.{get_or, map, refl, sym}
-use Rattle.std.proofs.Common.{ap, ◌∙◌, subst}
-use Rattle.std.proofs.Common.{Bool, true, false, cond, eqb, arith, add-one, append_assoc}
-use Rattle.std.specs.List.{filter}
-use Rattle.std.proofs.lemmas.List.{drop_more, map-append, length_push, append-nil}
+use Rattle.std.proofs.Common.{get_or, map, refl, sym, ap, ◌∙◌, subst, Bool, true, false, cond, eqb, arith, add-one}
+use Rattle.std.proofs.Common.{append_assoc, filter, append-nil}
+use Rattle.std.proofs.lemmas.List.{drop_more, map-append, length_push}
 use Rattle.std.proofs.lemmas.List.Elements.{filter-append}
 use Rattle.dover_model.specs.Common.{JobFacts, IsJob, entry_of, to_come, given, IsMember, Each}
 use Rattle.dover_model.specs.declared.events.Task.{Task}

@@ -1,11 +1,8 @@
 -- What a policy picks up to a tick depends on the jobs that are released by then alone.
 use Rattle.std.proofs.Common.{◌≡◌, ℕ, suc, zero, ◌+◌, ◌≤◌, ◌<◌, inl, inr, List, [], ◌∷◌, ◌++◌, length, get_or, map}
-use Rattle.std.proofs.Common.{refl, sym, ap, ◌∙◌}
-use Rattle.std.proofs.Common.{subst, Bool, true, false, cond}
-use Rattle.std.proofs.Common.{arith}
-use Rattle.std.specs.Prelude.{None, unwrap_or}
-use Rattle.std.specs.List.{filter, fold}
-use Rattle.std.proofs.lemmas.List.{map-append, append-nil}
+use Rattle.std.proofs.Common.{refl, sym, ap, ◌∙◌, subst, Bool, true, false, cond, arith, None, unwrap_or, filter, fold}
+use Rattle.std.proofs.Common.{append-nil}
+use Rattle.std.proofs.lemmas.List.{map-append}
 use Rattle.std.proofs.lemmas.List.Elements.{filter-append}
 use Rattle.dover_model.specs.Common.{JobFacts, entry_of, to_come, left, last_deadline, given, known_at, IsMember, Each}
 use Rattle.dover_model.specs.declared.events.Task.{Task}

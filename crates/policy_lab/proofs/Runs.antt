@@ -1,11 +1,8 @@
 -- A policy's run, tick by tick: its tasks, its schedule, and what it is worth.
 use Rattle.std.proofs.Common.{◌≡◌, ℕ, suc, zero, ◌+◌, ◌-◌, ◌≤◌, ◌<◌, inl, inr, List, [], ◌∷◌, ◌++◌, length, map, refl}
-use Rattle.std.proofs.Common.{sym, ap, ◌∙◌, Bool}
-use Rattle.std.proofs.Common.{true, false, cond}
-use Rattle.std.proofs.Common.{eqb, arith, add-one, append_assoc, append-nil}
-use Rattle.std.specs.Prelude.{nat_le, Option, Some, None, unwrap_or}
-use Rattle.std.specs.List.{sum_by, filter, enumerate_from}
-use Rattle.std.proofs.lemmas.Bool.{eq-eqb, eqb-true, ne_eqb}
+use Rattle.std.proofs.Common.{sym, ap, ◌∙◌, Bool, true, false, cond, eqb, arith, add-one, append_assoc, append-nil}
+use Rattle.std.proofs.Common.{nat_le, Option, Some, None, unwrap_or, sum_by, filter, eq-eqb, eqb-true, ne_eqb}
+use Rattle.std.specs.List.{enumerate_from}
 use Rattle.std.proofs.lemmas.List.{length_push}
 use Rattle.dover_model.specs.Common.{JobFacts, Rules, entry_of, to_come, left, ticks_given, is_served, worth, given}
 use Rattle.dover_model.specs.Common.{last_deadline, IsMember, Each, IsNumberedFrom, jobs_of}

@@ -1,6 +1,5 @@
 -- One job more of a list that is read.
-use Rattle.std.proofs.Common.{◌≡◌, ℕ, ◌+◌, ◌<◌, List, length, take, get_or, max, cond, sym, ap, ◌∙◌, arith}
-use Rattle.std.specs.Prelude.{nat_le}
+use Rattle.std.proofs.Common.{◌≡◌, ℕ, ◌+◌, ◌<◌, List, length, take, get_or, max, cond, sym, ap, ◌∙◌, arith, nat_le}
 use Rattle.std.proofs.lemmas.List.Sums.{fold_more}
 use Rattle.dover_model.specs.Common.{JobFacts, last_deadline}
 

@@ -1,10 +1,6 @@
 -- One tick of a policy's run, over what the run has come to.
 use Rattle.std.proofs.Common.{◌≡◌, ℕ, suc, ◌+◌, ◌-◌, ◌≤◌, ◌<◌, inl, inr, List, [], ◌∷◌, ◌++◌, length, drop, map, refl}
-use Rattle.std.proofs.Common.{sym, ap, ◌∙◌, subst}
-use Rattle.std.proofs.Common.{false, cond}
-use Rattle.std.proofs.Common.{eqb, arith}
-use Rattle.std.specs.Prelude.{Option, None, unwrap_or}
-use Rattle.std.specs.List.{filter, sum_by}
+use Rattle.std.proofs.Common.{sym, ap, ◌∙◌, subst, false, cond, eqb, arith, Option, None, unwrap_or, filter, sum_by}
 use Rattle.dover_model.specs.Common.{JobFacts, IsJob, total_value, entry_of, to_come, left, given, stretches, IsMember}
 use Rattle.dover_model.specs.Common.{Each}
 use Rattle.dover_model.specs.declared.events.Task.{Task}

@@ -1,7 +1,6 @@
 -- The schedule that a policy makes: in each tick it picks from the jobs that are ready.
 use Rattle.std.specs.Prelude.{◌<◌, ◌⊎◌, ℕ, zero, suc, ◌+◌, List, [], ◌∷◌, length, map, Bool, ◌&&◌, nat_lt, nat_le}
-use Rattle.std.specs.Prelude.{unwrap_or}
-use Rattle.std.specs.List.{filter}
+use Rattle.std.specs.Prelude.{unwrap_or, filter}
 use Rattle.dover_model.specs.Common.{idle, JobFacts, entry_of, to_come, left, last_deadline, given}
 use Rattle.dover_model.specs.declared.events.Task.{Task}
 use Rattle.policy_lab.specs.Picks.{Picks}

@@ -1,6 +1,5 @@
 //! Passes over the jobs, and over the entries of those that are ready.
-ghost use Rattle.std.specs.Prelude.{◌≡◌, ◌≤◌, ◌<◌, ◌+◌, ◌^◌, [], ◌∷◌, map};
-ghost use Rattle.std.specs.List.{filter};
+ghost use Rattle.std.specs.Prelude.{◌≡◌, ◌≤◌, ◌<◌, ◌+◌, ◌^◌, [], ◌∷◌, map, filter};
 ghost use Rattle.dover_model.specs.declared.events.Version.TheVariants.{Two};
 ghost use Rattle.dover_model.specs.Common.{most_total, IsJob, last_deadline, Each};
 ghost use Rattle.policy_lab.specs.Bench.{entry_to_come, given_entry, spent_value, is_in_time};

@@ -1,9 +1,6 @@
 -- What the word `loss` says is what was found.
 use Rattle.std.proofs.Common.{◌≡◌, ◌≤◌, ◌<◌, ◌+◌, ℕ, List, length, map, ap, ◌∙◌, sym, subst, codes, Bool, true, false}
-use Rattle.std.proofs.Common.{refl}
-use Rattle.std.proofs.Common.{cond, arith}
-use Rattle.std.specs.Prelude.{◌&&◌}
-use Rattle.std.specs.List.{sum_by}
+use Rattle.std.proofs.Common.{refl, cond, arith, ◌&&◌, sum_by}
 use Rattle.dover_model.specs.Common.{bound, Instance, IsListable, IsValid, total_value, JobFacts, observed}
 use Rattle.dover_model.specs.Common.{completed_value, ran, Job, Meets, is_served, numbered, is_inside}
 use Rattle.dover_model.proofs.runs.Honest.{observed_honest, observed_all}

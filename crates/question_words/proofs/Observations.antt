@@ -1,12 +1,10 @@
 -- The jobs of a run as they were observed: which are done, and what they had.
-use Rattle.std.proofs.Common.{◌≡◌, ◌<◌, ◌⊎◌, ℕ, zero, suc, ◌+◌, ◌≤◌, inl, inr, List, [], ◌∷◌, length, map, refl}
-use Rattle.std.proofs.Common.{sym, ap, ◌∙◌}
-use Rattle.std.proofs.Common.{subst, Bool, true, false, cond, eqb, get_or, arith}
-use Rattle.std.specs.Prelude.{◌||◌, ◌&&◌, ◌==◌, nat_lt, nat_le}
-use Rattle.std.specs.Bool.{MatchBool, then_some}
-use Rattle.std.specs.List.{AllByRecursion, list_any, list_all, filter, enumerate_from, cons_option, fold}
+use Rattle.std.proofs.Common.{◌≡◌, ◌<◌, ◌⊎◌, ℕ, zero, suc, ◌+◌, ◌≤◌, inl, inr, List, [], ◌∷◌, length, map, refl, sym}
+use Rattle.std.proofs.Common.{ap, ◌∙◌, subst, Bool, true, false, cond, eqb, get_or, arith, ◌||◌, ◌&&◌, ◌==◌, nat_lt}
+use Rattle.std.proofs.Common.{nat_le, MatchBool, filter, fold, le-leb, eqb-true, eq-eqb, ne_eqb, ltb-true}
+use Rattle.std.specs.Bool.{then_some}
+use Rattle.std.specs.List.{AllByRecursion, list_any, list_all, enumerate_from, cons_option}
 use Rattle.std.proofs.Math.Bool.{or-false, or-true, or_assoc}
-use Rattle.std.proofs.lemmas.Bool.{le-leb, eqb-true, eq-eqb, ne_eqb, ltb-true}
 use Rattle.std.proofs.lemmas.List.Sums.{sum_by-cons}
 use Rattle.dover_model.specs.declared.events.Event.TheVariants.{Complete, End, Preempt, Take}
 use Rattle.dover_model.specs.declared.events.Role.{Role}

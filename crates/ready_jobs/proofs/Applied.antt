@@ -1,9 +1,7 @@
 -- What a printed step leaves of the ready jobs, by which jobs it names.
 use Rattle.std.proofs.Common.{◌≡◌, ℕ, ◌≤◌, ◌⊎◌, inl, inr, List, [], ◌∷◌, ◌++◌, length, map, refl, sym, ap, ◌∙◌, subst}
-use Rattle.std.proofs.Common.{Bool, true, false, cond, arith}
-use Rattle.std.specs.Prelude.{Option, Some, None, ◌&&◌, nat_lt, nat_le}
-use Rattle.std.specs.Option.{option_to_list, option_map}
-use Rattle.std.specs.List.{filter, sum_by}
+use Rattle.std.proofs.Common.{Bool, true, false, cond, arith, Option, Some, None, ◌&&◌, nat_lt, nat_le, option_to_list}
+use Rattle.std.proofs.Common.{option_map, filter, sum_by}
 use Rattle.std.proofs.lemmas.List.{length-map}
 use Rattle.std.proofs.lemmas.Bool.{cases_eq}
 use Rattle.std.proofs.lemmas.List.Sums.{sum_by-cons, sum_by-append, length-filter, count_by-le-length}
@@ -19,8 +17,7 @@ use Rattle.waiting_pool.specs.Reordered.{IsReordered}
 use Rattle.ready_jobs.specs.Parts.{Parted, HaveRoles, AreSound, ready_of, state_of, head_of, tail_of}
 use Rattle.ready_jobs.specs.Changed.{named, AreOnce, Leaves, IsNext, printed, made_wait}
 use Rattle.waiting_pool.proofs.Reordering.{as_many}
-use Rattle.ready_jobs.proofs.Seeing.{seen_running, seen_fresh, waiting_list, late_none, late_later}
-use Rattle.ready_jobs.proofs.Seeing.{late_found}
+use Rattle.ready_jobs.proofs.Seeing.{seen_running, seen_fresh, waiting_list, late_none, late_later, late_found}
 use Rattle.ready_jobs.proofs.Changes.{completes, resumes, starts, begins, abandons, preempts, takes}
 use Rattle.ready_jobs.proofs.Naming.{Says, says}
 

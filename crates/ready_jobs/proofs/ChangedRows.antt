@@ -1,8 +1,6 @@
 -- What printed steps leave of worked ready jobs, by computation.
 use Rattle.dover_model.specs.Common.{fraction, is_done, value_sum, Prints, open_step, is_ready}
-use Rattle.std.proofs.Common.{◌≡◌, ℕ, [], ◌∷◌, map, refl}
-use Rattle.std.specs.Prelude.{Some, None}
-use Rattle.std.specs.List.{filter}
+use Rattle.std.proofs.Common.{◌≡◌, ℕ, [], ◌∷◌, map, refl, Some, None, filter}
 use Rattle.dover_model.specs.declared.events.Event.TheVariants.{Preempt, Take, Complete}
 use Rattle.dover_model.specs.declared.events.Role.{Role}
 use Rattle.dover_model.specs.declared.events.Role.TheVariants.{Fresh, Waiting, Held, Running}

@@ -1,12 +1,7 @@
 -- What printed steps cost, by the jobs that begin and cease to wait.
 use Rattle.std.proofs.Common.{◌≡◌, ℕ, ◌+◌, ◌-◌, ◌*◌, ◌≤◌, inl, inr, List, [], ◌∷◌, ◌++◌, length, refl, sym, ap, ◌∙◌}
-use Rattle.std.proofs.Common.{subst}
-use Rattle.std.proofs.Common.{Bool, true, false, cond, not, arith}
-use Rattle.std.specs.Prelude.{Option, Some, None, ◌&&◌}
-use Rattle.std.specs.Option.{option_to_list}
-use Rattle.std.specs.List.{filter, sum_by, count_by}
-use Rattle.std.proofs.lemmas.Bool.{eq-eqb, ne_eqb}
-use Rattle.std.proofs.lemmas.List.{length-append}
+use Rattle.std.proofs.Common.{subst, Bool, true, false, cond, not, arith, Option, Some, None, ◌&&◌, option_to_list}
+use Rattle.std.proofs.Common.{filter, sum_by, count_by, eq-eqb, ne_eqb, length-append}
 use Rattle.std.proofs.lemmas.List.Sums.{sum_by-cons, sum_by-append}
 use Rattle.std.proofs.Math.Nat.{mul-le-mul_left}
 use Rattle.dover_model.specs.declared.events.Event.TheVariants.{Run, Take, Abandon}

@@ -1,11 +1,8 @@
 -- What is kept of a run, step by step.
-use Rattle.std.proofs.Common.{◌≡◌, ℕ, ◌+◌, ◌≤◌, ◌<◌, ◌⊎◌, inl, inr, List, [], ◌∷◌, ◌++◌, length, refl, sym, ap}
-use Rattle.std.proofs.Common.{◌∙◌, subst}
-use Rattle.std.proofs.Common.{Bool, true, false, cond, not, arith, eqb}
-use Rattle.std.specs.Prelude.{Option, nat_le, ◌&&◌, Some, None}
-use Rattle.std.specs.Option.{option_to_list}
-use Rattle.std.specs.List.{filter, list_all, sum_by}
-use Rattle.std.proofs.lemmas.Bool.{eq-eqb}
+use Rattle.std.proofs.Common.{◌≡◌, ℕ, ◌+◌, ◌≤◌, ◌<◌, ◌⊎◌, inl, inr, List, [], ◌∷◌, ◌++◌, length, refl, sym, ap, ◌∙◌}
+use Rattle.std.proofs.Common.{subst, Bool, true, false, cond, not, arith, eqb, Option, nat_le, ◌&&◌, Some, None}
+use Rattle.std.proofs.Common.{option_to_list, filter, sum_by, eq-eqb}
+use Rattle.std.specs.List.{list_all}
 use Rattle.std.proofs.lemmas.List.Sums.{sum_by-cons, sum_by-append, length-filter, count_by-le-length}
 use Rattle.dover_model.specs.Common.{last_tick, Fraction, IsRatio, JobFacts, Rules, Declaration, under, Instance}
 use Rattle.dover_model.specs.Common.{IsValid, total_value, finishing, with_finishes, Finish, State, state_at, opening}

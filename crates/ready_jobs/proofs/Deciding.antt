@@ -1,9 +1,7 @@
 -- The open step of a state, where a job runs and where none does.
-use Rattle.std.proofs.Common.{Bool, ◌≡◌, ◌<◌, ◌≤◌, ◌∙◌, ap, sym, refl}
-use Rattle.std.specs.Prelude.{Option, Some, None, ◌==◌, ◌&&◌, nat_le, if◌then◌else◌}
-use Rattle.std.proofs.lemmas.Bool.{lt-ltb, le-leb}
+use Rattle.std.proofs.Common.{Bool, ◌≡◌, ◌<◌, ◌≤◌, ◌∙◌, ap, sym, refl, Option, Some, None, ◌==◌, ◌&&◌, nat_le}
+use Rattle.std.proofs.Common.{if◌then◌else◌, lt-ltb, le-leb, find}
 use Rattle.std.specs.Bool.{then_some}
-use Rattle.std.specs.List.{find}
 use Rattle.dover_model.specs.declared.events.Event.TheVariants.{Complete, Preempt}
 use Rattle.dover_model.specs.declared.events.Task.{Task}
 use Rattle.dover_model.specs.Common.{Fraction, View, Move, Prints, decision, alarm, ◌or_else◌, runs, view, completion}

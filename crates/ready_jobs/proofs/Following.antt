@@ -1,10 +1,9 @@
 -- The ready jobs of a whole run, step by step.
 use Rattle.std.proofs.Common.{◌≡◌, ℕ, zero, suc, ◌+◌, ◌-◌, ◌^◌, ◌≤◌, ◌<◌, inl, inr, List, [], ◌∷◌, ◌++◌, map, refl, sym}
-use Rattle.std.proofs.Common.{ap, ◌∙◌, subst, Bool, true, false, cond, arith, eqb}
-use Rattle.std.specs.Prelude.{Option, Some, None, ◌&&◌, nat_le, nat_lt}
-use Rattle.std.specs.Option.{option_to_list, option_map}
-use Rattle.std.specs.List.{AllByRecursion, filter}
-use Rattle.std.proofs.lemmas.Bool.{lt-leb, ltb-true, ltb-false}
+use Rattle.std.proofs.Common.{ap, ◌∙◌, subst, Bool, true, false, cond, arith, eqb, Option, Some, None, ◌&&◌, nat_le}
+use Rattle.std.proofs.Common.{nat_lt, option_to_list, option_map, filter, ltb-true, ltb-false}
+use Rattle.std.specs.List.{AllByRecursion}
+use Rattle.std.proofs.lemmas.Bool.{lt-leb}
 use Rattle.std.proofs.lemmas.List.{map-append}
 use Rattle.dover_model.specs.Common.{due_finish, declared_open_step, Fraction, IsJob, Rules, Instance, total_value}
 use Rattle.dover_model.specs.Common.{ticked_by, later_by, Step, event_of, waits_for_mark, IsMember, Each, Keeps, State}
@@ -22,8 +21,8 @@ use Rattle.dover_model.proofs.steps.Deeds.{Deed, tick_quiet}
 use Rattle.dover_model.proofs.steps.Ticking.{Quiet}
 use Rattle.dover_model.proofs.steps.Kept.{open_deed, open_kept, deed_kept, each_job}
 use Rattle.dover_model.proofs.steps.Moves.{early_waits, says}
-use Rattle.dover_model.proofs.lists.Members.{member_filter, on_map, sum_filter, sum_le, sum_map}
-use Rattle.dover_model.proofs.lists.Members.{member_front, member_behind}
+use Rattle.dover_model.proofs.lists.Members.{member_filter, on_map, sum_filter, sum_le, sum_map, member_front}
+use Rattle.dover_model.proofs.lists.Members.{member_behind}
 use Rattle.dover_model.proofs.steps.Roles.{passes, is_running_role, is_fresh_role}
 use Rattle.dover_model.proofs.lists.Tests.{never, none_is_some}
 use Rattle.ready_jobs.specs.Dues.{still_ticks}

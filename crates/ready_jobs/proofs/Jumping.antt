@@ -1,11 +1,9 @@
 -- Where the next step is a silent tick, and for how long it is.
 use Rattle.std.proofs.Common.{◌≡◌, true, false, Bool, cond, refl, subst, sym, ℕ, ◌-◌, ◌∙◌, eq-eqb, ap, ne_eqb, ◌⊎◌, inl}
-use Rattle.std.proofs.Common.{[], inr, ◌+◌, ◌≤◌, ◌<◌, min, arith, List, ◌∷◌, map}
-use Rattle.std.specs.Prelude.{Some, None, Option, ◌==◌, nat_le}
-use Rattle.std.specs.List.{find, filter, fold}
+use Rattle.std.proofs.Common.{[], inr, ◌+◌, ◌≤◌, ◌<◌, min, arith, List, ◌∷◌, map, Some, None, Option, ◌==◌, nat_le}
+use Rattle.std.proofs.Common.{find, filter, fold, leb-true, leb-false, option_map}
 use Rattle.std.specs.Bool.{then_some}
-use Rattle.std.proofs.lemmas.Bool.{leb-true, leb-false, cases_lt}
-use Rattle.std.specs.Option.{option_map}
+use Rattle.std.proofs.lemmas.Bool.{cases_lt}
 use Rattle.dover_model.specs.declared.events.Task.{Task}
 use Rattle.dover_model.specs.Common.{State, is_fresh, is_coming, is_waiting, is_held, left, latest_start, running}
 use Rattle.dover_model.specs.Common.{waiting, is_running, Each, IsMember, View, Prints, Waits, Ticks, Move, ◌or_else◌}

@@ -1,8 +1,6 @@
 -- The ready jobs at any place of a run: what step comes, and a job that is released.
 use Rattle.std.proofs.Common.{◌≡◌, ℕ, ◌≤◌, ◌<◌, [], ◌∷◌, ◌++◌, inl, inr, length, refl, sym, ap, ◌∙◌, subst, true, false}
-use Rattle.std.proofs.Common.{arith}
-use Rattle.std.specs.List.{filter}
-use Rattle.std.proofs.lemmas.List.{append-nil, length-append}
+use Rattle.std.proofs.Common.{arith, filter, append-nil, length-append}
 use Rattle.std.proofs.lemmas.List.Elements.{filter-append}
 use Rattle.dover_model.specs.Common.{last_tick, JobFacts, Finish, Rules, bare, Instance, IsValid, State, is_coming}
 use Rattle.dover_model.specs.Common.{is_done, is_over, value_sum, state_at, IsMember, Each, Keeps, is_ready, with_fresh}

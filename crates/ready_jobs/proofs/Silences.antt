@@ -1,10 +1,7 @@
 -- The silent steps of the ready jobs, as the program takes them.
 use Rattle.std.proofs.Common.{◌≡◌, ℕ, List, [], suc, ◌+◌, ◌-◌, ◌*◌, ◌≤◌, ◌<◌, ◌∷◌, ◌++◌, length, refl, sym, ap, ◌∙◌}
-use Rattle.std.proofs.Common.{subst, arith, Bool, true, false, cond, zero}
-use Rattle.std.specs.Prelude.{Option, Some, None}
-use Rattle.std.specs.Option.{option_to_list, option_map}
-use Rattle.std.specs.List.{filter}
-use Rattle.std.proofs.lemmas.List.{length-append}
+use Rattle.std.proofs.Common.{subst, arith, Bool, true, false, cond, zero, Option, Some, None, option_to_list}
+use Rattle.std.proofs.Common.{option_map, filter, length-append}
 use Rattle.dover_model.specs.Common.{due_finish, Fraction, Rules, Each, left, latest_start, is_running, starts_before}
 use Rattle.dover_model.specs.Common.{first, IsSilent, Move, Prints, Waits, Ticks, view, open_step, with_role}
 use Rattle.dover_model.specs.Common.{is_at_latest_start, ticked_by, later_by}
@@ -29,8 +26,8 @@ use Rattle.ready_jobs.proofs.Jumping.{tick_still}
 use Rattle.ready_jobs.proofs.Naming.{waits_says, ticks_next}
 use Rattle.ready_jobs.proofs.Seeing.{seen_fresh, seen_running, seen_coming, waiting_list, late_none, late_later}
 use Rattle.ready_jobs.proofs.Following.{part_step, part_sound, ready_once, parts_later, jumps, settles_none}
-use Rattle.ready_jobs.proofs.Following.{settles_one, settles_on, jump_low, jump_silent, jump_reaches}
-use Rattle.ready_jobs.proofs.Following.{ticks_early, had_fits, stale_ticks, roles_later}
+use Rattle.ready_jobs.proofs.Following.{settles_one, settles_on, jump_low, jump_silent, jump_reaches, ticks_early}
+use Rattle.ready_jobs.proofs.Following.{had_fits, stale_ticks, roles_later}
 
 -- ---- from one part to another
 

@@ -1,7 +1,5 @@
 -- The view of jobs in another order.
-use Rattle.std.proofs.Common.{◌≡◌, ℕ, ◌+◌, ◌-◌, List, map, sym, ap, ◌∙◌, Bool, true, false}
-use Rattle.std.proofs.Common.{nat_lt}
-use Rattle.std.specs.List.{filter, sum_by}
+use Rattle.std.proofs.Common.{◌≡◌, ℕ, ◌+◌, ◌-◌, List, map, sym, ap, ◌∙◌, Bool, true, false, nat_lt, filter, sum_by}
 use Rattle.dover_model.specs.declared.events.Version.{Version}
 use Rattle.dover_model.specs.declared.events.Entry.{Entry}
 use Rattle.dover_model.specs.declared.events.Task.{Task}

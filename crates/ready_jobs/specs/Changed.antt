@@ -1,6 +1,5 @@
 -- What a step makes of the ready jobs.
-use Rattle.std.specs.Prelude.{[], ◌≡◌, ◌≤◌, ◌==◌, ℕ, List, map, if◌then◌else◌}
-use Rattle.std.specs.List.{filter, sum_by}
+use Rattle.std.specs.Prelude.{[], ◌≡◌, ◌≤◌, ◌==◌, ℕ, List, map, if◌then◌else◌, filter, sum_by}
 use Rattle.dover_model.specs.declared.events.Event.{Event}
 use Rattle.dover_model.specs.declared.events.Role.TheVariants.{Waiting}
 use Rattle.dover_model.specs.declared.events.Task.{Task}

@@ -1,7 +1,6 @@
 -- A run of the jobs that were released so far: what is kept of it, and what that says.
 use Rattle.std.specs.Prelude.{◌≡◌, ◌≤◌, ◌+◌, ℕ, List, [], ◌∷◌, ◌++◌, length, ◌&&◌, nat_le, false, true, Option, Some}
-use Rattle.std.specs.Prelude.{None, option_map}
-use Rattle.std.specs.List.{filter}
+use Rattle.std.specs.Prelude.{None, option_map, filter}
 use Rattle.dover_model.specs.Common.{last_tick, Fraction, JobFacts, Declaration, under, bare, Instance, IsValid}
 use Rattle.dover_model.specs.Common.{with_finishes, State, is_coming, is_done, running, value_sum, state_at, Move}
 use Rattle.dover_model.specs.Common.{Prints, open_step, after, view, AreOwn, Step, waits_for_mark, AreOverFor}

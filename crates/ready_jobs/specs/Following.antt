@@ -1,6 +1,5 @@
 -- The ready jobs of a whole run.
-use Rattle.std.specs.Prelude.{[], ◌≡◌, ℕ, List, false}
-use Rattle.std.specs.List.{filter}
+use Rattle.std.specs.Prelude.{[], ◌≡◌, ℕ, List, false, filter}
 use Rattle.dover_model.specs.Common.{Fraction, Rules, Instance, IsValid, State, is_coming, is_done, value_sum, Step}
 use Rattle.dover_model.specs.Common.{Each, Keeps, Settles, is_ready}
 use Rattle.waiting_pool.specs.Reordered.{IsReordered}

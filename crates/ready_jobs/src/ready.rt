@@ -1,17 +1,16 @@
 //! The run of the jobs that were released so far, over those that are ready.
-ghost use Rattle.std.specs.Prelude.{◌≡◌, ◌≢◌, ◌↔◌, ◌≤◌, ◌<◌, ◌+◌, ◌*◌, ◌^◌, ◌∷◌, [], ◌++◌, ℕ, ◌&&◌, nat_le, min};
-ghost use Rattle.std.specs.Prelude.{max, length, true, false, IsTrue, IfOk, IsOk, OnOk, OnErr, IfSome, IsNone, Some};
-ghost use Rattle.std.specs.Prelude.{None, option_map};
+ghost use Rattle.std.specs.Prelude.{◌≡◌, ◌≢◌, ◌↔◌, ◌≤◌, ◌<◌, ◌+◌, ◌*◌, ◌^◌, ◌∷◌, [], ◌++◌, ℕ, ◌&&◌, nat_le, min, max};
+ghost use Rattle.std.specs.Prelude.{length, true, false, IsTrue, IfOk, IsOk, OnOk, OnErr, IfSome, IsNone, Some, None};
+ghost use Rattle.std.specs.Prelude.{option_map, filter};
 ghost use Rattle.dover_model.specs.declared.events.Event.{Event};
 ghost use Rattle.dover_model.specs.declared.events.Event.TheVariants.{End};
 ghost use Rattle.dover_model.specs.Common.{last_tick, most_jobs, most_ready, most_total, Instance, under, State};
 ghost use Rattle.dover_model.specs.Common.{state_at, is_held, Prints, open_step, view, waits_for_mark};
 ghost use Rattle.dover_model.specs.declared.events.Version.TheVariants.{Three};
-ghost use Rattle.std.specs.List.{filter};
 ghost use Rattle.waiting_pool.specs.Reordered.{IsReordered};
 ghost use Rattle.ready_jobs.specs.Course.{Course, Follows, IsCourse, Reached, Settled, new_course, fresh_job, IsDue};
-ghost use Rattle.ready_jobs.specs.Course.{SettlesAt, StepsBefore, ComesNext, Passes, Takes, with_release};
-ghost use Rattle.ready_jobs.specs.Course.{Finishes, Runs, RunsNowhere, successor_of};
+ghost use Rattle.ready_jobs.specs.Course.{SettlesAt, StepsBefore, ComesNext, Passes, Takes, with_release, Finishes};
+ghost use Rattle.ready_jobs.specs.Course.{Runs, RunsNowhere, successor_of};
 ghost use Rattle.ready_jobs.specs.Deeds.{Finds, step_at};
 ghost use Rattle.ready_jobs.specs.NextTick.{IsUnderWay, PrintsAt};
 ghost use Rattle.ready_jobs.specs.Spending.{HasPaid, HasPaidFreely, CostsOnce, wait_again};

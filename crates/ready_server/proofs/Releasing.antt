@@ -1,7 +1,6 @@
 -- What a server has given with the release of a job.
 use Rattle.std.proofs.Common.{◌≡◌, ℕ, ◌≤◌, List, [], ◌∷◌, ◌++◌, inl, inr, length, refl, sym, ap, ◌∙◌, subst, true}
-use Rattle.std.proofs.Common.{false, arith}
-use Rattle.std.specs.Prelude.{◌+◌, ◌&&◌, nat_le}
+use Rattle.std.proofs.Common.{false, arith, ◌+◌, ◌&&◌, nat_le}
 use Rattle.std.specs.List.{AllByRecursion}
 use Rattle.dover_model.specs.declared.events.Event.TheVariants.{Release}
 use Rattle.dover_model.specs.declared.events.Role.{Role}

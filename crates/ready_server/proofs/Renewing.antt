@@ -1,7 +1,5 @@
 -- A server whose jobs are over serves the run of no jobs.
-use Rattle.std.proofs.Common.{◌≡◌, ℕ, List, [], length, refl, sym, ap, ◌∙◌, subst, true, arith}
-use Rattle.std.specs.Prelude.{nat_le, ◌&&◌}
-use Rattle.std.proofs.lemmas.Bool.{le-leb}
+use Rattle.std.proofs.Common.{◌≡◌, ℕ, List, [], length, refl, sym, ap, ◌∙◌, subst, true, arith, nat_le, ◌&&◌, le-leb}
 use Rattle.dover_model.specs.declared.events.Event.{Event}
 use Rattle.dover_model.specs.Common.{Rules, Instance, IsValid, bare, State, is_over, Ticks, open_step, waits_for_mark}
 use Rattle.dover_model.specs.Common.{settled, last_of, IsBarrier, HasPrinted, instead_with, Each}

@@ -1,10 +1,8 @@
 -- A roll at a mark has all jobs as they stand, and what a server has printed can be read into it.
 use Rattle.std.proofs.Common.{◌≡◌, inl, inr, ℕ, suc, ◌+◌, ◌-◌, ◌≤◌, ◌<◌, ◌^◌, List, [], ◌∷◌, ◌++◌, length}
 use Rattle.std.proofs.Common.{length-append, map, set, refl, sym, ap, ◌∙◌, subst, Option, Some, None, Bool, true, false}
-use Rattle.std.proofs.Common.{arith}
-use Rattle.std.proofs.lemmas.Bool.{ltb-true, ltb-false}
-use Rattle.std.specs.Prelude.{nat_lt}
-use Rattle.std.specs.List.{slice_get, fold, AllByRecursion}
+use Rattle.std.proofs.Common.{arith, ltb-true, ltb-false, nat_lt, slice_get, fold}
+use Rattle.std.specs.List.{AllByRecursion}
 use Rattle.std.proofs.lemmas.List.Sums.{fold-append}
 use Rattle.std.proofs.lemmas.Option.{slice_get_within}
 use Rattle.dover_model.specs.declared.events.Event.{Event}
@@ -28,8 +26,7 @@ use Rattle.dover_model.proofs.valid.Limiting.{jobs_most}
 use Rattle.ready_server.specs.Serving as ready
 use Rattle.ready_server.specs.declared.server.ReadyServer.{ReadyServer}
 use Rattle.ready_server.specs.Roster.{Roll, ListedJob, stopped, released, job_at, with_event, empty_roll, roll_of}
-use Rattle.ready_server.specs.Roster.{with_stop}
-use Rattle.ready_server.specs.Roster.{halted}
+use Rattle.ready_server.specs.Roster.{with_stop, halted}
 use Rattle.ready_server.proofs.Present.{none_to_come}
 use Rattle.ready_server.proofs.Rolls.{calm, calm_role, length_set, Follows}
 use Rattle.ready_server.proofs.RollRuns.{numbered_task, roll_follows}

@@ -1,7 +1,6 @@
 -- What a server that may keep a roster has read after a step.
 use Rattle.std.proofs.Common.{◌≡◌, ◌<◌, ◌-◌, ◌^◌, ℕ, List, [], ◌∷◌, ◌++◌, length, refl, sym, ap, ◌∙◌, subst, arith}
-use Rattle.std.specs.Prelude.{Option, Some, None, is_some}
-use Rattle.std.specs.Option.{option_map}
+use Rattle.std.proofs.Common.{Option, Some, None, is_some, option_map}
 use Rattle.dover_model.specs.declared.events.Event.{Event}
 use Rattle.dover_model.specs.declared.events.Event.TheVariants.{Release, Complete}
 use Rattle.dover_model.specs.Common.{JobFacts, Instance, settled, MayFollow, due_by, Gives}

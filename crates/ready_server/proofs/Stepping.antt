@@ -1,11 +1,8 @@
 -- What a server has given after a step.
 use Rattle.std.proofs.Common.{◌≡◌, ℕ, ◌≤◌, List, [], ◌∷◌, ◌++◌, refl, sym, ap, ◌∙◌, subst, Bool, true, false, arith}
-use Rattle.std.proofs.Common.{append_assoc, ◌+◌, ◌<◌, length, min}
-use Rattle.std.specs.Prelude.{Option, Some, None, Result, Ok, Err, OnOk, IfSome, IsTrue, nat_lt}
-use Rattle.std.specs.Bool.{MatchBool}
+use Rattle.std.proofs.Common.{append_assoc, ◌+◌, ◌<◌, length, min, Option, Some, None, Result, Ok, Err, OnOk, IfSome}
+use Rattle.std.proofs.Common.{IsTrue, nat_lt, MatchBool, ltb-true, ltb-false, append-nil}
 use Rattle.std.specs.List.{cons_option}
-use Rattle.std.proofs.lemmas.Bool.{ltb-true, ltb-false}
-use Rattle.std.proofs.lemmas.List.{append-nil}
 use Rattle.std.proofs.lemmas.List.Sums.{fold-append}
 use Rattle.dover_model.specs.declared.events.Event.{Event}
 use Rattle.dover_model.specs.declared.events.Event.TheVariants as events

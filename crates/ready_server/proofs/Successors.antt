@@ -1,9 +1,8 @@
 -- Who gets the processor where the job that has it is done.
-use Rattle.std.proofs.Common.{◌≡◌, ℕ, ◌⊎◌, inl, inr, List, [], ◌∷◌, ◌++◌, map, refl, sym, ap, ◌∙◌, subst, Bool}
-use Rattle.std.proofs.Common.{true, false, cond, arith, ◌-◌}
-use Rattle.std.specs.Prelude.{Option, Some, None, option_map, nat_le, nat_lt, ◌==◌, ◌&&◌}
-use Rattle.std.specs.List.{filter, find, cons_option}
-use Rattle.std.proofs.lemmas.Bool.{eqb-true, eq-eqb, le-leb}
+use Rattle.std.proofs.Common.{◌≡◌, ℕ, ◌⊎◌, inl, inr, List, [], ◌∷◌, ◌++◌, map, refl, sym, ap, ◌∙◌, subst, Bool, true}
+use Rattle.std.proofs.Common.{false, cond, arith, ◌-◌, Option, Some, None, option_map, nat_le, nat_lt, ◌==◌, ◌&&◌}
+use Rattle.std.proofs.Common.{filter, find, eqb-true, eq-eqb, le-leb}
+use Rattle.std.specs.List.{cons_option}
 use Rattle.dover_model.specs.declared.events.Event.{Event}
 use Rattle.dover_model.specs.declared.events.Event.TheVariants.{Run, Complete}
 use Rattle.dover_model.specs.declared.events.Role.TheVariants.{Running, Done}

@@ -1,7 +1,6 @@
 //! The server of a feed: with a roster of its jobs, where one is asked for.
-ghost use Rattle.std.specs.Prelude.{◌≡◌, ◌≤◌, ◌<◌, ◌+◌, ◌∷◌, [], ◌++◌, ◌↔◌, ℕ, List, length, IfOk, IsOk};
-ghost use Rattle.std.specs.Prelude.{OnOk, IfSome, IsNone, IsTrue, Some, is_some, true};
-ghost use Rattle.std.specs.Option.{option_map};
+ghost use Rattle.std.specs.Prelude.{◌≡◌, ◌≤◌, ◌<◌, ◌+◌, ◌∷◌, [], ◌++◌, ◌↔◌, ℕ, List, length, IfOk, IsOk, OnOk, IfSome};
+ghost use Rattle.std.specs.Prelude.{IsNone, IsTrue, Some, is_some, true, option_map};
 ghost use Rattle.dover_model.specs.declared.events.Event.{Event};
 ghost use Rattle.dover_model.specs.declared.events.Event.TheVariants.{Release};
 ghost use Rattle.dover_model.specs.Common.{JobFacts, Finish, Instance, IsValid, with_jobs, finishing, most_ready};

@@ -1,6 +1,5 @@
 //! Laws of numbers below a root, each the contract of a function that does nothing.
-ghost use Rattle.std.specs.Prelude.{◌≤◌, ◌<◌, ◌+◌, ◌-◌, ◌*◌, ◌↔◌, ℕ, List};
-ghost use Rattle.std.specs.List.{sum_by};
+ghost use Rattle.std.specs.Prelude.{◌≤◌, ◌<◌, ◌+◌, ◌-◌, ◌*◌, ◌↔◌, ℕ, List, sum_by};
 ghost use Rattle.dover_model.specs.Common.{Fraction, IsHeavy, Each, IsExcess};
 ghost use Rattle.root_compare.specs.Roots.{IsBelowRoot};
 

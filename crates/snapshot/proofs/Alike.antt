@@ -2,12 +2,9 @@
 -- alike, line by line.
 use Rattle.std.proofs.Common.{◌≡◌, ℕ, suc, ◌≤◌, max, List, [], ◌∷◌, ◌++◌, map, refl, sym, ap, ◌∙◌, subst, append_assoc}
 use Rattle.std.proofs.Common.{length, Bool, true, false, cond, ◌||◌, ◌&&◌, Option, Some, None, is_some, inl, inr, arith}
-use Rattle.std.specs.Prelude.{nat_lt, nat_le}
+use Rattle.std.proofs.Common.{nat_lt, nat_le, fold, filter, option_map, ltb-false, leb-true, append-nil}
 use Rattle.std.specs.Bool.{then_some}
-use Rattle.std.specs.List.{fold, filter}
-use Rattle.std.specs.Option.{option_map, option_or}
-use Rattle.std.proofs.lemmas.Bool.{ltb-false, leb-true}
-use Rattle.std.proofs.lemmas.List.{append-nil}
+use Rattle.std.specs.Option.{option_or}
 use Rattle.std.proofs.lemmas.List.Elements.{filter_map-append}
 use Rattle.dover_model.specs.Common.{last_tick, most_lines, most_ready, is_ready, State, Finish, AreDueAlike, JobFacts}
 use Rattle.dover_model.specs.Common.{Declaration, under, Instance, IsValid, with_jobs, finishing, with_finishes}

@@ -1,7 +1,6 @@
 -- Snapshots of feeds are whole, no front of one is refused, and one ends by itself.
 use Rattle.std.proofs.Common.{◌≡◌, ℕ, ◌+◌, List, [], ◌∷◌, ◌++◌, length, length-append, map, refl, sym, ap, ◌∙◌, subst}
-use Rattle.std.proofs.Common.{arith, Some, codes}
-use Rattle.std.specs.List.{fold}
+use Rattle.std.proofs.Common.{arith, Some, codes, fold}
 use Rattle.std.proofs.lemmas.List.{length-map}
 use Rattle.std.proofs.lemmas.List.Sums.{fold-append}
 use Rattle.dover_model.specs.declared.events.Task.{Task}

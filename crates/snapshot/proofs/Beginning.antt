@@ -1,10 +1,8 @@
 -- An intake that is handed the line of the ratio, and the tick lines behind all jobs.
 use Rattle.std.proofs.Common.{◌≡◌, ℕ, suc, ◌+◌, ◌-◌, ◌≤◌, ◌<◌, List, [], ◌∷◌, ◌++◌, replicate, length, refl, sym, ap}
-use Rattle.std.proofs.Common.{◌∙◌, length-append}
-use Rattle.std.proofs.Common.{Bool, true, false, ◌&&◌, arith, Some, append_assoc, append-nil, subst}
-use Rattle.std.specs.Prelude.{nat_le, nat_lt}
-use Rattle.std.specs.List.{fold}
-use Rattle.std.proofs.lemmas.Bool.{leb-true, ltb-true, ltb-false, and_parts}
+use Rattle.std.proofs.Common.{◌∙◌, length-append, Bool, true, false, ◌&&◌, arith, Some, append_assoc, append-nil, subst}
+use Rattle.std.proofs.Common.{nat_le, nat_lt, fold, leb-true, ltb-true, ltb-false}
+use Rattle.std.proofs.lemmas.Bool.{and_parts}
 use Rattle.std.proofs.lemmas.List.Sums.{fold-append}
 use Rattle.dover_model.specs.declared.events.Task.{Task}
 use Rattle.dover_model.specs.Common.{IsRatio, last_tick, most_jobs, most_lines, TickLine, feed_text, Account, next_line}

@@ -1,11 +1,8 @@
 -- Two lists that agree at each place, and two lists of jobs that are alike.
 use Rattle.std.proofs.Common.{◌≡◌, ℕ, zero, suc, ◌+◌, ◌≤◌, ◌<◌, List, [], ◌∷◌, length, map, refl, sym, ap, ◌∙◌, subst}
-use Rattle.std.proofs.Common.{true, false, ◌&&◌}
-use Rattle.std.proofs.Common.{arith, Option, Some, inl, inr, ◌⊎◌}
-use Rattle.std.specs.Option.{option_map}
-use Rattle.std.specs.Prelude.{bytes_eq, ◌==◌, if◌then◌else◌}
-use Rattle.std.specs.List.{slice_get}
-use Rattle.std.proofs.lemmas.Bool.{eq-eqb, eqb-true, and_parts}
+use Rattle.std.proofs.Common.{true, false, ◌&&◌, arith, Option, Some, inl, inr, ◌⊎◌, option_map, bytes_eq, ◌==◌}
+use Rattle.std.proofs.Common.{if◌then◌else◌, slice_get, eq-eqb, eqb-true}
+use Rattle.std.proofs.lemmas.Bool.{and_parts}
 use Rattle.std.proofs.lemmas.Option.{slice_get-map}
 use Rattle.std.proofs.lemmas.Slice.Eq.{bytes_eq-Decides}
 use Rattle.dover_model.specs.declared.events.Role.{Role}

@@ -1,7 +1,6 @@
 -- How many items a session has whose lines are not refused.
-use Rattle.std.proofs.Common.{◌≡◌, ◌+◌, ◌*◌, ◌≤◌, List, [], ◌∷◌, length, length-append, map, append-nil, sym, ap}
-use Rattle.std.proofs.Common.{refl, subst, arith, Bool, true, false, Option, Some, None}
-use Rattle.std.specs.List.{fold}
+use Rattle.std.proofs.Common.{◌≡◌, ◌+◌, ◌*◌, ◌≤◌, List, [], ◌∷◌, length, length-append, map, append-nil, sym, ap, refl}
+use Rattle.std.proofs.Common.{subst, arith, Bool, true, false, Option, Some, None, fold}
 use Rattle.std.proofs.lemmas.List.{length-map}
 use Rattle.dover_model.specs.Common.{most_items, IsValid, printed, Session, JobItem, instance_of, admitted_jobs}
 use Rattle.dover_model.specs.Common.{new_session, with_named, may_finish_early, session_with, settled, TraceLine}

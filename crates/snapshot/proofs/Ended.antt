@@ -1,11 +1,9 @@
 -- Where the run of the jobs was taken to a mark, it is that of all that is stored of them, also where some early
 -- finishes are still to come.
 use Rattle.std.proofs.Common.{◌≡◌, ◌⊎◌, ℕ, ◌-◌, ◌≤◌, ◌<◌, inl, inr, List, [], ◌∷◌, ◌++◌, length, map, refl, sym, ap}
-use Rattle.std.proofs.Common.{◌∙◌, subst}
-use Rattle.std.proofs.Common.{arith, Bool, true, false}
-use Rattle.std.specs.Prelude.{Option, Some, None, nat_lt, ◌==◌, ◌&&◌}
-use Rattle.std.specs.List.{slice_get, filter_map}
-use Rattle.std.proofs.lemmas.Bool.{and_parts, eqb-true}
+use Rattle.std.proofs.Common.{◌∙◌, subst, arith, Bool, true, false, Option, Some, None, nat_lt, ◌==◌, ◌&&◌, slice_get}
+use Rattle.std.proofs.Common.{filter_map, eqb-true}
+use Rattle.std.proofs.lemmas.Bool.{and_parts}
 use Rattle.dover_model.specs.declared.events.Task.{Task}
 use Rattle.dover_model.specs.Common.{Finish, Instance, IsValid, under, finishing, IsOpenPath, Step, Item, Session}
 use Rattle.dover_model.specs.Common.{early_finishes, instance_of, session_with, may_finish_early, IsDeclarable}

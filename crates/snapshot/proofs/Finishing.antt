@@ -1,10 +1,9 @@
 -- What a reader keeps at the last line, and when that is refused.
 use Rattle.std.proofs.Common.{◌≡◌, ℕ, ◌+◌, ◌≤◌, ◌<◌, ◌^◌, max, inl, inr, List, [], ◌∷◌, ◌++◌, length, map, refl, sym}
-use Rattle.std.proofs.Common.{ap}
-use Rattle.std.proofs.Common.{◌∙◌, subst, Bool, true, false, not, ◌||◌, ◌&&◌, arith, codes, Option, Some, None}
-use Rattle.std.specs.Prelude.{nat_le, nat_lt, bytes_eq}
-use Rattle.std.specs.List.{AllByRecursion, fold}
-use Rattle.std.proofs.lemmas.Bool.{and_parts, le-leb, leb-true, ltb-true}
+use Rattle.std.proofs.Common.{ap, ◌∙◌, subst, Bool, true, false, not, ◌||◌, ◌&&◌, arith, codes, Option, Some, None}
+use Rattle.std.proofs.Common.{nat_le, nat_lt, bytes_eq, fold, le-leb, leb-true, ltb-true}
+use Rattle.std.specs.List.{AllByRecursion}
+use Rattle.std.proofs.lemmas.Bool.{and_parts}
 use Rattle.std.proofs.lemmas.Slice.Eq.{bytes_eq-Decides}
 use Rattle.std.proofs.lemmas.List.{length-map}
 use Rattle.dover_model.proofs.settled.Barriers.{settled_at_barrier}
@@ -24,8 +23,7 @@ use Rattle.event_feed.specs.Kept as feed
 use Rattle.event_feed.specs.declared.kept_session.KeptSession.{KeptSession}
 use Rattle.snapshot.specs.Snapshot.{Head}
 use Rattle.snapshot.specs.Reading.{Refused, declared_jobs, early_in, stored, stored_session, last_release}
-use Rattle.snapshot.specs.Reading.{has_lines_for}
-use Rattle.snapshot.specs.Reading.{has_reached_mark, is_settled, reading_of}
+use Rattle.snapshot.specs.Reading.{has_lines_for, has_reached_mark, is_settled, reading_of}
 use Rattle.snapshot.specs.Stored.{HasRead, jobs_session}
 use Rattle.snapshot.specs.Forms.{head_in}
 use Rattle.ready_server.specs.Roster.{Roll, job_at, Kept, IsRollOf}

@@ -1,9 +1,6 @@
 -- What the answer to the line of a job says of the job.
 use Rattle.std.proofs.Common.{◌≡◌, ℕ, ◌+◌, List, [], ◌∷◌, ◌++◌, length, length-append, refl, sym, ap, ◌∙◌, subst, inl}
-use Rattle.std.proofs.Common.{inr}
-use Rattle.std.proofs.Common.{Bool, true, false, cond, arith, Option, Some, None}
-use Rattle.std.specs.Prelude.{Ok, Err, IsSome, is_some}
-use Rattle.std.specs.List.{fold}
+use Rattle.std.proofs.Common.{inr, Bool, true, false, cond, arith, Option, Some, None, Ok, Err, IsSome, is_some, fold}
 use Rattle.std.proofs.lemmas.List.{map-append}
 use Rattle.std.proofs.lemmas.List.Sums.{fold-append}
 use Rattle.dover_model.specs.declared.events.Task.{Task}

@@ -1,7 +1,6 @@
 -- What the line of a job says that an intake is handed.
-use Rattle.std.proofs.Common.{◌≡◌, ℕ, suc, ◌+◌, ◌≤◌, List, [], ◌∷◌, ◌++◌, length, length-append, map, sym, ap}
-use Rattle.std.proofs.Common.{◌∙◌, cond, arith, Some, None}
-use Rattle.std.proofs.lemmas.Bool.{le-ltb}
+use Rattle.std.proofs.Common.{◌≡◌, ℕ, suc, ◌+◌, ◌≤◌, List, [], ◌∷◌, ◌++◌, length, length-append, map, sym, ap, ◌∙◌}
+use Rattle.std.proofs.Common.{cond, arith, Some, None, le-ltb}
 use Rattle.std.proofs.lemmas.List.{map-append}
 use Rattle.dover_model.specs.declared.events.Task.{Task}
 use Rattle.dover_model.specs.Common.{most_lines, JobFacts, job_numbers, AreShort, JobItem, jobs_of, JobLine, feed_line}

@@ -1,10 +1,7 @@
 -- What the lines say that hand in a session without refused lines.
-use Rattle.std.proofs.Common.{◌≡◌, ℕ, suc, ◌+◌, ◌≤◌, ◌<◌, max, inl, inr, List, [], ◌∷◌, ◌++◌, length}
-use Rattle.std.proofs.Common.{append_assoc, append-nil, refl, sym, ap, ◌∙◌, subst, Bool, true, false, cond, arith}
-use Rattle.std.specs.Prelude.{Some, None, nat_lt, is_some, ◌&&◌}
-use Rattle.std.specs.List.{fold}
-use Rattle.std.specs.Option.{option_map}
-use Rattle.std.proofs.lemmas.Bool.{le-ltb, le-leb}
+use Rattle.std.proofs.Common.{◌≡◌, ℕ, suc, ◌+◌, ◌≤◌, ◌<◌, max, inl, inr, List, [], ◌∷◌, ◌++◌, length, append_assoc}
+use Rattle.std.proofs.Common.{append-nil, refl, sym, ap, ◌∙◌, subst, Bool, true, false, cond, arith, Some, None, nat_lt}
+use Rattle.std.proofs.Common.{is_some, ◌&&◌, fold, option_map, le-ltb, le-leb}
 use Rattle.dover_model.specs.Common.{last_tick, most_lines, JobFacts, IsJob, Finish, Declaration, IsValid, with_jobs}
 use Rattle.dover_model.specs.Common.{refusal_of, refusal_in, Item, JobItem, RefusedItem, FinishItem, Session}
 use Rattle.dover_model.specs.Common.{mark_after, EarlyFinish, admitted_jobs, instance_of, session_with, with_item}

@@ -1,9 +1,8 @@
 -- A job that comes to so many ticks runs then, and nothing else is settled in that tick.
 use Rattle.std.proofs.Common.{◌≡◌, ◌⊎◌, ℕ, zero, suc, ◌+◌, ◌-◌, ◌≤◌, ◌<◌, inl, inr, List, [], ◌∷◌, ◌++◌, length, refl}
-use Rattle.std.proofs.Common.{sym, ap, ◌∙◌, subst, arith, Bool, true, false, cond}
-use Rattle.std.specs.Prelude.{nat_le, nat_lt, ◌&&◌}
+use Rattle.std.proofs.Common.{sym, ap, ◌∙◌, subst, arith, Bool, true, false, cond, nat_le, nat_lt, ◌&&◌, le-leb}
+use Rattle.std.proofs.Common.{leb-true, leb-false}
 use Rattle.std.specs.List.{AllByRecursion}
-use Rattle.std.proofs.lemmas.Bool.{le-leb, leb-true, leb-false}
 use Rattle.dover_model.specs.declared.events.Role.TheVariants.{Fresh, Running}
 use Rattle.dover_model.specs.declared.events.Task.{Task}
 use Rattle.dover_model.specs.Common.{is_due, goes_on as goes, Instance, IsValid, JobFacts, ticked_by, silent_ticks}

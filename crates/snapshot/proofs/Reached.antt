@@ -8,12 +8,9 @@ use Rattle.dover_model.specs.Common.{Standing, Open, Ended, Faulty, Account, dec
 use Rattle.dover_model.specs.Common.{first_line_cause, late_cause, later_line_cause, with_fault, with_refused_at}
 use Rattle.dover_model.specs.Common.{refusal_in, refused_mark, with_line, next_line, most_lines_in, Cause}
 use Rattle.std.proofs.Common.{◌≡◌, ◌⊎◌, inl, inr, ℕ, suc, ◌+◌, ◌≤◌, ◌<◌, List, [], ◌∷◌, ◌++◌, length, length-append}
-use Rattle.std.proofs.Common.{refl, sym, ap, subst}
-use Rattle.std.proofs.Common.{Bool, true, false, cond, ◌||◌, arith, Option, Some, None, is_some}
-use Rattle.std.specs.Prelude.{nat_lt, max}
-use Rattle.std.specs.List.{fold}
-use Rattle.std.specs.Option.{option_map, option_map_or}
-use Rattle.std.proofs.lemmas.Bool.{ltb-false}
+use Rattle.std.proofs.Common.{refl, sym, ap, subst, Bool, true, false, cond, ◌||◌, arith, Option, Some, None, is_some}
+use Rattle.std.proofs.Common.{nat_lt, max, fold, option_map, ltb-false}
+use Rattle.std.specs.Option.{option_map_or}
 use Rattle.dover_model.specs.declared.events.Version.{Version}
 use Rattle.dover_model.specs.declared.events.Version.TheVariants.{One, Two, Three}
 use Rattle.dover_model.specs.declared.events.Refusal.{Refusal}

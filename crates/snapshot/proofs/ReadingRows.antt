@@ -1,6 +1,5 @@
 -- Snapshots as they are read, by computation.
-use Rattle.std.proofs.Common.{◌≡◌, ℕ, List, refl}
-use Rattle.std.specs.Prelude.{codes, Option, Some, None}
+use Rattle.std.proofs.Common.{◌≡◌, ℕ, List, refl, codes, Option, Some, None}
 use Rattle.std.specs.Fmt.{digits}
 use Rattle.dover_model.specs.Lines.{whole_lines}
 use Rattle.dover_model.proofs.rows.Written.{bytes}

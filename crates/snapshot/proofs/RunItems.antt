@@ -1,7 +1,6 @@
 -- What a run hands in, and that it is what each session of the same run hands in whose lines are not refused.
 use Rattle.std.proofs.Common.{◌≡◌, ◌⊎◌, ℕ, ◌≤◌, max, inl, inr, List, [], ◌∷◌, ◌++◌, length, map, append-nil, refl, sym}
-use Rattle.std.proofs.Common.{ap, ◌∙◌, subst, arith, Bool, true, false, cond}
-use Rattle.std.specs.Prelude.{Some, None}
+use Rattle.std.proofs.Common.{ap, ◌∙◌, subst, arith, Bool, true, false, cond, Some, None}
 use Rattle.dover_model.specs.Common.{Finish, Declaration, Instance, IsValid, under, declared_by, most_items, most_ready}
 use Rattle.dover_model.specs.Common.{in_lines, run, printed, Item, JobItem, RefusedItem, FinishItem, Session}
 use Rattle.dover_model.specs.Common.{IsValidSession, IsDeclarable, admitted_jobs, early_finishes, refused_of_item}

@@ -1,8 +1,6 @@
 -- The job that runs at the barrier of a mark, as a roster has it, and what is stored of it.
 use Rattle.std.proofs.Common.{◌≡◌, ℕ, suc, ◌+◌, ◌-◌, ◌≤◌, inl, inr, List, [], ◌∷◌, map, refl, sym, ap, ◌∙◌, arith}
-use Rattle.std.proofs.Common.{Option, Some, None, true, zero}
-use Rattle.std.specs.List.{slice_get, find}
-use Rattle.std.specs.Option.{option_map, option_and_then}
+use Rattle.std.proofs.Common.{Option, Some, None, true, zero, slice_get, find, option_map, option_and_then}
 use Rattle.dover_model.specs.declared.events.Role.TheVariants.{Coming, Running}
 use Rattle.dover_model.specs.declared.events.Task.{Task}
 use Rattle.dover_model.specs.Common.{Instance, IsValid, settled, settled_state, IsMember, IsNumberedFrom, jobs_of}

@@ -1,8 +1,6 @@
 -- What each job has had at the barrier of a mark: as much as it needs where it is done, and less where it is given up.
-use Rattle.std.proofs.Common.{◌≡◌, ◌⊎◌, ℕ, ◌≤◌, ◌<◌, inl, inr, List, [], ◌∷◌, refl, sym, ap, subst, arith}
-use Rattle.std.proofs.Common.{Bool, true, false, cond}
-use Rattle.std.specs.Prelude.{nat_lt, nat_le, ◌==◌, ◌&&◌}
-use Rattle.std.proofs.lemmas.Bool.{eqb-true, eq-eqb, lt-ltb, leb-true, leb-false}
+use Rattle.std.proofs.Common.{◌≡◌, ◌⊎◌, ℕ, ◌≤◌, ◌<◌, inl, inr, List, [], ◌∷◌, refl, sym, ap, subst, arith, Bool, true}
+use Rattle.std.proofs.Common.{false, cond, nat_lt, nat_le, ◌==◌, ◌&&◌, eqb-true, eq-eqb, lt-ltb, leb-true, leb-false}
 use Rattle.dover_model.specs.declared.events.Role.TheVariants.{Done, Gone}
 use Rattle.dover_model.specs.declared.events.Task.{Task}
 use Rattle.dover_model.specs.Common.{Finish, need, Instance, IsValid, IsOpenPath, is_complete, Step, settled_steps}

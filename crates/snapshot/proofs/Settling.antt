@@ -1,7 +1,6 @@
 -- How a server is taken to a mark, step by step, and a job more is admitted there.
-use Rattle.std.proofs.Common.{◌≤◌, ◌+◌, ℕ, List, [], ◌∷◌, ◌++◌, length, length-append, ap}
-use Rattle.std.proofs.Common.{◌≡◌, true, false, arith}
-use Rattle.std.specs.Prelude.{Some, Result, Ok, Err, IsErr, OnOk, OnErr}
+use Rattle.std.proofs.Common.{◌≤◌, ◌+◌, ℕ, List, [], ◌∷◌, ◌++◌, length, length-append, ap, ◌≡◌, true, false, arith}
+use Rattle.std.proofs.Common.{Some, Result, Ok, Err, IsErr, OnOk, OnErr}
 use Rattle.dover_model.specs.declared.events.Event.{Event}
 use Rattle.dover_model.specs.declared.events.Task.{Task}
 use Rattle.dover_model.specs.Common.{JobFacts, IsJob, Instance, last_tick, MayFollow, due_by, Gives}

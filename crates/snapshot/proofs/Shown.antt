@@ -1,7 +1,6 @@
 -- With the finishes that a run hands in alone, what is settled stays.
-use Rattle.std.proofs.Common.{◌≡◌, ℕ, inl, inr, List, [], ◌∷◌, refl, sym, ap, ◌∙◌, subst, Bool, true, false}
-use Rattle.std.specs.Prelude.{nat_le, ◌&&◌}
-use Rattle.std.specs.Bool.{MatchBool}
+use Rattle.std.proofs.Common.{◌≡◌, ℕ, inl, inr, List, [], ◌∷◌, refl, sym, ap, ◌∙◌, subst, Bool, true, false, nat_le}
+use Rattle.std.proofs.Common.{◌&&◌, MatchBool}
 use Rattle.std.specs.List.{list_all}
 use Rattle.dover_model.specs.Common.{Finish, Rules, Instance, IsValid, having, finishing, IsOpenPath, Step, is_end, run}
 use Rattle.dover_model.specs.Common.{early_finishes, waits_for_mark, settled_steps, settled_state, AreOverFor, IsMember}

@@ -1,13 +1,9 @@
 -- The lines of a snapshot have one spelling: what is written is read as the same, and what is read was written so.
 use Rattle.std.proofs.Common.{◌≡◌, ℕ, ◌+◌, ◌*◌, ◌≤◌, ◌<◌, ◌^◌, List, [], ◌∷◌, ◌++◌, length, length-append, map, refl}
-use Rattle.std.proofs.Common.{sym, ap}
-use Rattle.std.proofs.Common.{◌∙◌, subst}
-use Rattle.std.proofs.Common.{Bool, true, false, cond, arith, decimal, Option, Some, None, codes}
-use Rattle.std.specs.Prelude.{bytes_eq, ◌==◌}
+use Rattle.std.proofs.Common.{sym, ap, ◌∙◌, subst, Bool, true, false, cond, arith, decimal, Option, Some, None, codes}
+use Rattle.std.proofs.Common.{bytes_eq, ◌==◌, option_and_then, le-ltb, eqb-true}
 use Rattle.std.specs.Bool.{then_some}
-use Rattle.std.specs.Option.{option_and_then}
 use Rattle.std.specs.List.{AllByRecursion}
-use Rattle.std.proofs.lemmas.Bool.{le-ltb, eqb-true}
 use Rattle.std.proofs.lemmas.Fmt.{length-decimal-le}
 use Rattle.std.proofs.lemmas.Slice.Eq.{bytes_eq-Decides}
 use Rattle.dover_model.specs.declared.events.Role.{Role}
@@ -25,12 +21,11 @@ use Rattle.dover_model.proofs.valid.JobLimits.{ratio_limits}
 use Rattle.dover_model.proofs.lists.Members.{some_same}
 use Rattle.dover_model.proofs.texts.ReadShort.{numerals_short}
 use Rattle.dover_model.proofs.texts.Fields.{HasNoSpace, fields_of-line_of, line_of-fields_of, decimals-HasNoSpace}
-use Rattle.dover_model.proofs.texts.Fields.{numerals-decimals, decimals-numerals}
-use Rattle.dover_model.proofs.texts.Fields.{length-with_numbers}
+use Rattle.dover_model.proofs.texts.Fields.{numerals-decimals, decimals-numerals, length-with_numbers}
 use Rattle.snapshot.specs.Snapshot.{Head, head_numbers, head_line, IsHead, role_word, state_line, IsStored}
 use Rattle.snapshot.specs.Snapshot.{state_numbers, IsState}
-use Rattle.snapshot.specs.Reading.{rules_from, head_with, head_from, read_head, role_of_word, task_from}
-use Rattle.snapshot.specs.Reading.{task_of_fields, read_task}
+use Rattle.snapshot.specs.Reading.{rules_from, head_with, head_from, read_head, role_of_word, task_from, task_of_fields}
+use Rattle.snapshot.specs.Reading.{read_task}
 use Rattle.dover_model.proofs.texts.TraceLines.{version_back, version_from}
 
 -- ---- a word and numbers

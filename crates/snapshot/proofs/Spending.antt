@@ -1,7 +1,6 @@
 -- The jobs that a reader serves again, and what they have cost.
 use Rattle.std.proofs.Common.{◌≡◌, ℕ, ◌≤◌, List, [], ◌∷◌, ◌++◌, length, length-append, sym, ap, ◌∙◌, subst, Bool, true}
-use Rattle.std.proofs.Common.{false, cond, ◌&&◌, Option, Some, None, codes, arith}
-use Rattle.std.specs.Prelude.{nat_lt, bytes_eq}
+use Rattle.std.proofs.Common.{false, cond, ◌&&◌, Option, Some, None, codes, arith, nat_lt, bytes_eq}
 use Rattle.std.proofs.lemmas.List.Sums.{fold-append}
 use Rattle.dover_model.specs.declared.events.Event.{Event}
 use Rattle.dover_model.specs.declared.events.Task.{Task}

@@ -1,9 +1,8 @@
 -- What is read of a snapshot, line by line.
 use Rattle.std.proofs.Common.{◌≡◌, ℕ, suc, ◌+◌, ◌≤◌, ◌<◌, List, [], ◌∷◌, ◌++◌, length, length-append, refl, sym, ap}
-use Rattle.std.proofs.Common.{◌∙◌}
-use Rattle.std.proofs.Common.{Bool, true, false, cond, ◌&&◌, arith, Some, None, codes}
-use Rattle.std.specs.Prelude.{bytes_eq, ◌==◌}
-use Rattle.std.proofs.lemmas.Bool.{lt-ltb, le-ltb, leb-true, eqb-true, and_parts}
+use Rattle.std.proofs.Common.{◌∙◌, Bool, true, false, cond, ◌&&◌, arith, Some, None, codes, bytes_eq, ◌==◌, lt-ltb}
+use Rattle.std.proofs.Common.{le-ltb, leb-true, eqb-true}
+use Rattle.std.proofs.lemmas.Bool.{and_parts}
 use Rattle.std.proofs.lemmas.List.{map-append}
 use Rattle.std.proofs.lemmas.List.Sums.{fold-append}
 use Rattle.dover_model.specs.declared.events.Task.{Task}
@@ -11,10 +10,8 @@ use Rattle.dover_model.specs.Common.{Declaration, under, IsValid, is_valid, IsRa
 use Rattle.dover_model.proofs.sessions.Growing.{all_behind, reads_new}
 use Rattle.snapshot.specs.Snapshot.{Head, head_line, state_line}
 use Rattle.snapshot.specs.Reading.{Begun, Going, Taken, Refused, is_within_limits, declared_jobs, may_follow}
-use Rattle.snapshot.specs.Reading.{has_reached_mark}
-use Rattle.snapshot.specs.Reading.{is_settled}
-use Rattle.snapshot.specs.Reading.{with_head, refused_behind, with_task, with_last, next_line, reading_of, read_head}
-use Rattle.snapshot.specs.Reading.{read_task}
+use Rattle.snapshot.specs.Reading.{has_reached_mark, is_settled, with_head, refused_behind, with_task, with_last}
+use Rattle.snapshot.specs.Reading.{next_line, reading_of, read_head, read_task}
 use Rattle.snapshot.specs.Stored.{HasRead}
 use Rattle.snapshot.proofs.Spelled.{head_line-read_head, state_line-read_task}
 

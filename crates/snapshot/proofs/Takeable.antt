@@ -1,10 +1,9 @@
 -- A feed that may pause has a snapshot that is read to its end, with its head and its jobs.
 use Rattle.std.proofs.Common.{◌≡◌, ◌⊎◌, inl, inr, ℕ, suc, ◌+◌, ◌≤◌, ◌<◌, List, [], ◌∷◌, ◌++◌, length, length-append}
-use Rattle.std.proofs.Common.{append_assoc, append-nil, map}
-use Rattle.std.proofs.Common.{refl, sym, ap, ◌∙◌, subst, Bool, true, false, ◌&&◌, ◌||◌, arith, Some, codes}
-use Rattle.std.specs.Prelude.{nat_le, nat_lt, ◌==◌}
+use Rattle.std.proofs.Common.{append_assoc, append-nil, map, refl, sym, ap, ◌∙◌, subst, Bool, true, false, ◌&&◌, ◌||◌}
+use Rattle.std.proofs.Common.{arith, Some, codes, nat_le, nat_lt, ◌==◌, le-leb, lt-ltb, eq-eqb, leb-true, leb-false}
 use Rattle.std.specs.List.{AllByRecursion}
-use Rattle.std.proofs.lemmas.Bool.{le-leb, lt-ltb, eq-eqb, and_from, leb-true, leb-false}
+use Rattle.std.proofs.lemmas.Bool.{and_from}
 use Rattle.std.proofs.lemmas.List.{map-append}
 use Rattle.dover_model.specs.Common.{last_tick, most_jobs, most_lines, most_items, IsJob, Instance, under, IsValid}
 use Rattle.dover_model.specs.Common.{is_valid, Item, JobItem, RefusedItem, FinishItem, Session, instance_of}

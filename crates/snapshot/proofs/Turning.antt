@@ -1,10 +1,8 @@
 -- What a reader knows of the marks to which it takes a run, and of the early finishes that come there.
 use Rattle.std.proofs.Common.{◌≡◌, ◌⊎◌, ℕ, ◌+◌, ◌-◌, ◌≤◌, ◌<◌, max, inl, inr, List, [], ◌∷◌, ◌++◌, length, map, refl}
-use Rattle.std.proofs.Common.{sym, ap, cond}
-use Rattle.std.proofs.Common.{◌∙◌, subst, arith, Bool, true, false, not, Option, Some, None}
-use Rattle.std.specs.Prelude.{nat_le, is_some, IfSome}
-use Rattle.std.specs.List.{AllByRecursion, filter_map}
-use Rattle.std.proofs.lemmas.Bool.{leb-true, leb-false}
+use Rattle.std.proofs.Common.{sym, ap, cond, ◌∙◌, subst, arith, Bool, true, false, not, Option, Some, None, nat_le}
+use Rattle.std.proofs.Common.{is_some, IfSome, filter_map, leb-true, leb-false}
+use Rattle.std.specs.List.{AllByRecursion}
 use Rattle.dover_model.specs.declared.events.Event.{Event}
 use Rattle.dover_model.specs.declared.events.Task.{Task}
 use Rattle.dover_model.specs.Common.{Instance, IsValid, with_finishes, last_tick, HasPrinted, is_ready, IsAtRest}
@@ -30,14 +28,13 @@ use Rattle.ready_server.specs.Rostering.{Serves, Rests, Finishes, has_roster}
 use Rattle.ready_server.specs.declared.roster_server.RosterServer.{RosterServer}
 use Rattle.snapshot.specs.Snapshot.{Head}
 use Rattle.snapshot.specs.Forms.{head_in}
-use Rattle.snapshot.specs.Kept.{IsHandedIn, IsNearing, IsAbout, HasRun, HasRunTowards, ComesNear, stance_of}
-use Rattle.snapshot.specs.Kept.{next_early, IsToCome}
+use Rattle.snapshot.specs.Kept.{IsHandedIn, IsNearing, IsAbout, HasRun, HasRunTowards, ComesNear, stance_of, next_early}
+use Rattle.snapshot.specs.Kept.{IsToCome}
 use Rattle.snapshot.specs.Reading.{early_of}
 use Rattle.snapshot.specs.declared.resuming.Resuming.{Resuming}
 use Rattle.snapshot.proofs.Counts.{good_few}
 use Rattle.snapshot.proofs.Going.{all_near, none_comes, one_comes, Comes, next_later, handed_finish, finish_run}
-use Rattle.snapshot.proofs.Going.{finish_mark, handed_follows}
-use Rattle.snapshot.proofs.Going.{finish_count, others_to_come}
+use Rattle.snapshot.proofs.Going.{finish_mark, handed_follows, finish_count, others_to_come}
 use Rattle.snapshot.proofs.Runner.{runner_is}
 use Rattle.dover_model.proofs.valid.ValidParts.{valid_parts}
 

@@ -1,11 +1,9 @@
 -- A snapshot that is taken is that of a feed, and what is given for it stands for each feed of which it is.
-use Rattle.std.proofs.Common.{◌≡◌, ◌⊎◌, ℕ, ◌+◌, ◌-◌, ◌≤◌, ◌<◌, inl, inr, List, [], ◌∷◌, ◌++◌, length, map}
-use Rattle.std.proofs.Common.{replicate, zero, suc, refl, sym, ap, ◌∙◌, subst, arith, Bool, true, false, cond, ◌&&◌}
-use Rattle.std.proofs.Common.{◌||◌}
-use Rattle.std.proofs.Common.{Option, Some, None, codes}
-use Rattle.std.specs.Prelude.{nat_le, nat_lt}
-use Rattle.std.specs.List.{AllByRecursion, fold, filter_map}
-use Rattle.std.proofs.lemmas.Bool.{and_parts, ltb-true, leb-true}
+use Rattle.std.proofs.Common.{◌≡◌, ◌⊎◌, ℕ, ◌+◌, ◌-◌, ◌≤◌, ◌<◌, inl, inr, List, [], ◌∷◌, ◌++◌, length, map, replicate}
+use Rattle.std.proofs.Common.{zero, suc, refl, sym, ap, ◌∙◌, subst, arith, Bool, true, false, cond, ◌&&◌, ◌||◌, Option}
+use Rattle.std.proofs.Common.{Some, None, codes, nat_le, nat_lt, fold, filter_map, ltb-true, leb-true}
+use Rattle.std.specs.List.{AllByRecursion}
+use Rattle.std.proofs.lemmas.Bool.{and_parts}
 use Rattle.std.proofs.lemmas.List.Sums.{fold-append}
 use Rattle.dover_model.specs.declared.events.Task.{Task}
 use Rattle.dover_model.specs.Common.{last_tick, most_lines, most_ready, Instance, under, having, IsValid, Item, Session}

@@ -1,9 +1,8 @@
 -- What a reader keeps of a snapshot, and for which lines it stands.
-use Rattle.std.specs.Prelude.{◌≡◌, ◌⊎◌, ℕ, ◌+◌, ◌-◌, List, [], ◌∷◌, ◌++◌, length, map, replicate, ◌≤◌, ◌<◌, Bool}
-use Rattle.std.specs.Prelude.{true, false, ◌&&◌, nat_lt, nat_le, if◌then◌else◌}
-use Rattle.std.specs.Prelude.{IsTrue, Option, Some, None, Result, Ok, Err, codes}
-use Rattle.std.specs.List.{slice_get, AllByRecursion}
-use Rattle.std.specs.Option.{option_map, option_and_then}
+use Rattle.std.specs.Prelude.{◌≡◌, ◌⊎◌, ℕ, ◌+◌, ◌-◌, List, [], ◌∷◌, ◌++◌, length, map, replicate, ◌≤◌, ◌<◌, Bool, true}
+use Rattle.std.specs.Prelude.{false, ◌&&◌, nat_lt, nat_le, if◌then◌else◌, IsTrue, Option, Some, None, Result, Ok, Err}
+use Rattle.std.specs.Prelude.{codes, slice_get, option_map, option_and_then}
+use Rattle.std.specs.List.{AllByRecursion}
 use Rattle.std.specs.Bool.{then_some}
 use Rattle.dover_model.specs.declared.events.Event.{Event}
 use Rattle.dover_model.specs.declared.events.Role.{Role}

@@ -1,9 +1,7 @@
 -- The lines of a snapshot as they are read, and which of them is the first that is refused.
 use Rattle.std.specs.Prelude.{ℕ, ◌+◌, List, [], ◌∷◌, ◌++◌, length, Bool, true, false, ◌&&◌, ◌||◌, ◌==◌, nat_lt, nat_le}
-use Rattle.std.specs.Prelude.{if◌then◌else◌}
-use Rattle.std.specs.Prelude.{Option, Some, None, codes, bytes_eq}
-use Rattle.std.specs.List.{fold, find, filter_map}
-use Rattle.std.specs.Option.{option_and_then, option_map}
+use Rattle.std.specs.Prelude.{if◌then◌else◌, Option, Some, None, codes, bytes_eq, fold, find, filter_map}
+use Rattle.std.specs.Prelude.{option_and_then, option_map}
 use Rattle.std.specs.Bool.{then_some}
 use Rattle.dover_model.specs.declared.events.Role.{Role}
 use Rattle.dover_model.specs.declared.events.Role.TheVariants.{Waiting, Held, Running, Done, Gone}

@@ -1,10 +1,8 @@
 -- Why a job line is refused, by the jobs before it and by how many jobs are ready.
 use Rattle.std.proofs.Common.{◌≡◌, ℕ, ◌<◌, ◌≤◌, refl, sym, ap, ◌∙◌, subst, Bool, true, false, cond, Option, Some, None}
-use Rattle.std.proofs.Common.{arith}
-use Rattle.std.specs.Prelude.{nat_lt, ◌==◌}
+use Rattle.std.proofs.Common.{arith, nat_lt, ◌==◌, ltb-true, eq-eqb, eqb-true}
 use Rattle.std.specs.Bool.{then_some}
 use Rattle.std.specs.Option.{option_or}
-use Rattle.std.proofs.lemmas.Bool.{ltb-true, eq-eqb, eqb-true}
 use Rattle.dover_model.specs.declared.events.Refusal.{Refusal}
 use Rattle.dover_model.specs.declared.events.Refusal.TheVariants.{BadJob, Count, Total, Ratio, Late, Full}
 use Rattle.dover_model.specs.Common.{JobFacts, refusal_of, Session, instance_of, admitted_jobs, is_full, late_refusal}

@@ -1,12 +1,9 @@
 -- How the judge takes an early completion.
 use Rattle.std.proofs.Common.{◌≡◌, ℕ, ◌+◌, ◌*◌, ◌≤◌, ◌<◌, List, [], ◌∷◌, ◌++◌, length, length-append, refl, sym, ap}
-use Rattle.std.proofs.Common.{◌∙◌}
-use Rattle.std.proofs.Common.{subst, Bool, true, false, cond, arith, Option, Some, None}
-use Rattle.std.specs.Prelude.{is_some, nat_lt, nat_le, ◌&&◌}
-use Rattle.std.proofs.lemmas.Bool.{false_from_ne_true, le-leb, le-ltb, lt-ltb, ltb-true, ltb-false}
+use Rattle.std.proofs.Common.{◌∙◌, subst, Bool, true, false, cond, arith, Option, Some, None, is_some, nat_lt, nat_le}
+use Rattle.std.proofs.Common.{◌&&◌, le-leb, le-ltb, lt-ltb, ltb-true, ltb-false, option_map, filter}
+use Rattle.std.proofs.lemmas.Bool.{false_from_ne_true}
 use Rattle.std.proofs.lemmas.List.Elements.{filter_map-append}
-use Rattle.std.specs.Option.{option_map}
-use Rattle.std.specs.List.{filter}
 use Rattle.ready_jobs.proofs.Courses.{follows_count}
 use Rattle.waiting_pool.proofs.Reordering.{as_many}
 use Rattle.dover_model.specs.Common.{is_ready, Instance, with_finishes, last_tick, most_items, IsMember, State, running}
@@ -31,18 +28,16 @@ use Rattle.line_text.specs.traces.Form.{HasForm}
 use Rattle.ready_jobs.specs.Course.{Course, Follows, Finishes, Runs, RunsNowhere}
 use Rattle.trace_judge.specs.Reading.{completion_text}
 use Rattle.trace_judge.specs.declared.stage.TraceStage.TheVariants.{Going}
-use Rattle.trace_judge.specs.Reads.{Reading, Goes, ReadsAhead, Reads, StaysAhead, IsReader, HasSpare, Took}
-use Rattle.trace_judge.specs.Reads.{Followed, Waited, at_tick, CanComplete, MayNotComplete}
-use Rattle.trace_judge.proofs.Continuing.{sees_completion}
+use Rattle.trace_judge.specs.Reads.{Reading, Goes, ReadsAhead, Reads, StaysAhead, IsReader, HasSpare, Took, Followed}
+use Rattle.trace_judge.specs.Reads.{Waited, at_tick, CanComplete, MayNotComplete}
+use Rattle.trace_judge.proofs.Continuing.{sees_completion, printed_there, state_there, SeesWith}
 use Rattle.trace_judge.proofs.Naming.{step_named}
 use Rattle.trace_judge.proofs.Only.{only_completion}
-use Rattle.trace_judge.proofs.Readings.{goes_of, here_of, reads_of, reads_ahead, room_kept, room_left}
-use Rattle.trace_judge.proofs.Readings.{version_kept}
+use Rattle.trace_judge.proofs.Readings.{goes_of, here_of, reads_of, reads_ahead, room_kept, room_left, version_kept}
+use Rattle.trace_judge.proofs.Readings.{room_for, GoesHere, here_reader, goes_some, item_more, no_job}
 use Rattle.trace_judge.proofs.Seeing.{sees_rest}
 use Rattle.dover_model.proofs.sessions.SessionParts.{MayFinish, session_jobs}
 use Rattle.trace_judge.proofs.Follows.{finish_parts}
-use Rattle.trace_judge.proofs.Continuing.{printed_there, state_there, SeesWith}
-use Rattle.trace_judge.proofs.Readings.{room_for, GoesHere, here_reader, goes_some, item_more, no_job}
 
 -- ---- whether a finish is right
 

@@ -1,11 +1,11 @@
 -- Lines that continue a trace, and what they come to.
 use Rattle.std.proofs.Common.{◌≡◌, ◌+◌, List, ◌∷◌, ◌++◌, map, ap, ℕ, suc, ◌≤◌, max, Bool, true, false, cond, arith, []}
-use Rattle.std.proofs.Common.{refl, ◌<◌, length, length-append, sym, ◌∙◌, subst, inl, inr}
-use Rattle.std.proofs.lemmas.List.{map-append, append-nil}
-use Rattle.std.specs.Prelude.{nat_le, ◌&&◌, nat_lt, Some, None}
+use Rattle.std.proofs.Common.{refl, ◌<◌, length, length-append, sym, ◌∙◌, subst, inl, inr, append-nil, nat_le, ◌&&◌}
+use Rattle.std.proofs.Common.{nat_lt, Some, None, ltb-true, ltb-false, fold}
+use Rattle.std.proofs.lemmas.List.{map-append}
 use Rattle.std.specs.Option.{option_or}
-use Rattle.std.proofs.lemmas.Bool.{lt-leb, ltb-true, ltb-false, false_from_ne_true}
-use Rattle.std.specs.List.{AllByRecursion, fold}
+use Rattle.std.proofs.lemmas.Bool.{lt-leb, false_from_ne_true}
+use Rattle.std.specs.List.{AllByRecursion}
 use Rattle.std.proofs.lemmas.List.Sums.{fold-append}
 use Rattle.dover_model.specs.Common.{Declaration, Rules, Instance, IsValid, with_jobs, with_finishes, header, text_of}
 use Rattle.dover_model.specs.Common.{refused_text, TraceLine, text_of_line, Printed, Refuses, Placed, places_of}
@@ -30,8 +30,8 @@ use Rattle.dover_model.proofs.settled.Releasing.{coming_task, barrier_releases}
 use Rattle.dover_model.proofs.sessions.PutIn.{RefusesWithin, AllPlacedWithin, put_in-more_steps, put_in-more_refused}
 use Rattle.dover_model.proofs.sessions.PutIn.{places_after-append}
 use Rattle.dover_model.proofs.sessions.Growing.{Reads, LinesName, item_in, with_line_named, reads_later, Finishes}
-use Rattle.dover_model.proofs.sessions.Growing.{finishing_job, finish_instance, finish_is_named}
-use Rattle.dover_model.proofs.sessions.Growing.{job_instance, refused_instance, all_behind}
+use Rattle.dover_model.proofs.sessions.Growing.{finishing_job, finish_instance, finish_is_named, job_instance}
+use Rattle.dover_model.proofs.sessions.Growing.{refused_instance, all_behind}
 use Rattle.admission.proofs.Joining.{admitted_valid}
 use Rattle.dover_model.proofs.sessions.Accounts.{follows_behind, mark_behind}
 use Rattle.dover_model.proofs.lists.Members.{each_behind, all_at, all_each}
@@ -45,22 +45,19 @@ use Rattle.dover_model.proofs.finishes.Further.{none_due_before, same_open, next
 use Rattle.dover_model.proofs.steps.Roles.{passes}
 use Rattle.dover_model.proofs.lists.Tests.{never}
 use Rattle.trace_judge.specs.Reading.{Sees, HasRoom, MayRelease, MayRefuse, release_text, completion_text}
-use Rattle.trace_judge.proofs.Items.{reads_mark}
+use Rattle.trace_judge.proofs.Items.{reads_mark, mark_next}
 use Rattle.dover_model.proofs.settled.Leading.{leads_later_mark, leads_append, leads_passes, settles_passes}
 use Rattle.dover_model.proofs.settled.Leading.{passes_append, passes_settled, settles_silent, idles_silent, idles_leads}
 use Rattle.dover_model.proofs.settled.Leading.{settles_clock, passes_keeps, prints_goes_on, stops_before, Later}
-use Rattle.dover_model.proofs.settled.Leading.{passes_later, coming_goes_on}
+use Rattle.dover_model.proofs.settled.Leading.{passes_later, coming_goes_on, idles_settles}
 use Rattle.dover_model.proofs.runs.Released.{NoneComes, none_comes_passes, none_comes_after, printed_names_none}
 use Rattle.dover_model.proofs.runs.Released.{after_release}
 use Rattle.trace_judge.proofs.Seeing.{led_named, sees_keeps, sees_ready, sees_names, sees_next}
 use Rattle.dover_model.proofs.sessions.SessionParts.{MayFinish, session_parts, session_from, session_jobs}
-use Rattle.dover_model.proofs.sessions.SessionParts.{session_declared}
+use Rattle.dover_model.proofs.sessions.SessionParts.{session_declared, FollowsItems}
 use Rattle.trace_judge.proofs.Follows.{refused_parts}
 use Rattle.dover_model.proofs.valid.ValidParts.{valid_from}
-use Rattle.dover_model.proofs.sessions.SessionParts.{FollowsItems}
 use Rattle.dover_model.proofs.sessions.Walks.{tick_of_item}
-use Rattle.trace_judge.proofs.Items.{mark_next}
-use Rattle.dover_model.proofs.settled.Leading.{idles_settles}
 
 -- lines that come to a state, and what was printed up to it
 abbrev pub SeesWith : List (List ℕ) → Session → ℕ → State → List Event → Type 0

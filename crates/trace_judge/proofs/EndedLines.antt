@@ -1,8 +1,7 @@
 -- What is found where a line has ended.
 use Rattle.std.proofs.Common.{◌≡◌, ℕ, ◌+◌, ◌≤◌, ◌<◌, List, [], ◌∷◌, ◌++◌, length, length-append, sym, ap, ◌∙◌, subst}
-use Rattle.std.proofs.Common.{refl, arith, Bool, true, false, take, drop, take-append-drop, append_assoc}
-use Rattle.std.specs.Prelude.{nat_lt, Result, Ok, Err, IsOk, IsErr, IfOk}
-use Rattle.std.proofs.lemmas.Bool.{ltb-true, ltb-false}
+use Rattle.std.proofs.Common.{refl, arith, Bool, true, false, take, drop, take-append-drop, append_assoc, nat_lt}
+use Rattle.std.proofs.Common.{Result, Ok, Err, IsOk, IsErr, IfOk, ltb-true, ltb-false}
 use Rattle.dover_model.specs.declared.Memory.{Memory}
 use Rattle.dover_model.specs.Lines.{whole_lines}
 use Rattle.dover_model.specs.Verdict as model

@@ -1,7 +1,6 @@
 -- The end of a trace.
-use Rattle.std.proofs.Common.{◌≡◌, ℕ, List, ◌∷◌, ap, ◌∙◌, subst, ◌++◌, map, sym, []}
-use Rattle.std.specs.Bool.{MatchBool}
-use Rattle.std.specs.List.{cons_option, fold}
+use Rattle.std.proofs.Common.{◌≡◌, ℕ, List, ◌∷◌, ap, ◌∙◌, subst, ◌++◌, map, sym, [], MatchBool, fold}
+use Rattle.std.specs.List.{cons_option}
 use Rattle.std.proofs.lemmas.List.{map-append}
 use Rattle.std.proofs.lemmas.List.Sums.{fold-append}
 use Rattle.dover_model.specs.declared.events.Event.TheVariants.{End}

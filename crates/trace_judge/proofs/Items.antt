@@ -1,6 +1,5 @@
 -- Items of a session, one after another.
-use Rattle.std.proofs.Common.{ℕ, max, List, ◌∷◌, ◌++◌, sym, subst, ◌≡◌, ◌≤◌, ap, arith, []}
-use Rattle.std.proofs.lemmas.List.{append_assoc, append-nil}
+use Rattle.std.proofs.Common.{ℕ, max, List, ◌∷◌, ◌++◌, sym, subst, ◌≡◌, ◌≤◌, ap, arith, [], append_assoc, append-nil}
 use Rattle.dover_model.specs.Common.{Declaration, IsValid, Item, JobItem, RefusedItem, FinishItem, mark_after}
 use Rattle.dover_model.specs.Common.{instance_of, Session, IsValidSession, session_with}
 use Rattle.dover_model.proofs.sessions.Walks.{tick_of_item, Takes, takes, follows_next, jobs_append}

@@ -1,11 +1,9 @@
 -- What the judge finds of a text, byte by byte.
 use Rattle.std.proofs.Common.{◌≡◌, ℕ, suc, ◌+◌, ◌-◌, ◌*◌, ◌≤◌, ◌<◌, max, min, List, [], ◌∷◌, ◌++◌, length}
 use Rattle.std.proofs.Common.{length-append, map, take, drop, refl, sym, ap, ◌∙◌, subst, Bool, true, false, cond, ◌||◌}
-use Rattle.std.proofs.Common.{◌&&◌, arith, take-append-drop}
-use Rattle.std.specs.Prelude.{nat_lt, ◌==◌, Result, Ok, Err, OnOk, OnErr, IsErr, IfOk}
-use Rattle.std.specs.List.{filter}
-use Rattle.std.proofs.lemmas.Bool.{lt-ltb}
-use Rattle.std.proofs.lemmas.List.{length-map, append_assoc}
+use Rattle.std.proofs.Common.{◌&&◌, arith, take-append-drop, nat_lt, ◌==◌, Result, Ok, Err, OnOk, OnErr, IsErr, IfOk}
+use Rattle.std.proofs.Common.{filter, lt-ltb, append_assoc}
+use Rattle.std.proofs.lemmas.List.{length-map}
 use Rattle.std.proofs.lemmas.List.Elements.{filter-append}
 use Rattle.dover_model.specs.declared.Memory.{Memory}
 use Rattle.dover_model.specs.declared.events.Event.{Event}
@@ -16,7 +14,7 @@ use Rattle.dover_model.specs.Common.{lines_among, text_of_line, trace_lines, bou
 use Rattle.dover_model.specs.Verdict as model
 use Rattle.dover_model.proofs.lists.Beginnings.{begins_length}
 use Rattle.dover_model.proofs.texts.Cuts.{onto, cut_append}
-use Rattle.dover_model.proofs.bound.BoundLaws.{bound as none_worth_more}
+use Rattle.dover_model.proofs.bound.BoundLaws.{bound as none_worth_more, observed_bound}
 use Rattle.dover_model.proofs.runs.Ending.{few_printed}
 use Rattle.dover_model.proofs.runs.Honest.{observed_honest, observed_all}
 use Rattle.dover_model.proofs.valid.Limiting.{items_of_lines, jobs_most, lines_most}
@@ -30,7 +28,6 @@ use Rattle.line_text.specs.Cutting.{Cutting, with_byte, after_byte, goes_on, mos
 use Rattle.line_text.specs.declared.cutting.ByteEffect.{ByteEffect}
 use Rattle.line_text.specs.declared.cutting.ByteEffect.TheVariants.{More, Line, TooLong}
 use Rattle.dover_model.proofs.sessions.Former.{no_finishes}
-use Rattle.dover_model.proofs.bound.BoundLaws.{observed_bound}
 use Rattle.trace_judge.proofs.Texts.{good_text, wrong_rest, accepted_text, short_text}
 use Rattle.trace_judge.proofs.Seeing.{sees_begins, sees_not_ended}
 use Rattle.trace_judge.specs.declared.stage.TraceStage.{TraceStage}

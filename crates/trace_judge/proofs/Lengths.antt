@@ -1,8 +1,6 @@
 -- A text that isn't wrong has at most so many bytes.
 use Rattle.std.proofs.Common.{◌≡◌, ◌≤◌, ◌<◌, ℕ, List, ◌∷◌, ◌++◌, [], length, refl, sym, ap, ◌∙◌, Bool, true, false}
-use Rattle.std.proofs.Common.{arith, append_assoc, ◌||◌}
-use Rattle.std.specs.Prelude.{nat_lt, ◌&&◌}
-use Rattle.std.proofs.lemmas.Bool.{ltb-false}
+use Rattle.std.proofs.Common.{arith, append_assoc, ◌||◌, nat_lt, ◌&&◌, ltb-false}
 use Rattle.dover_model.specs.Common.{whole_lines, rest_of, is_too_long, trace_lines, Wrong, begins_trace, ends_with_end}
 use Rattle.dover_model.specs.Common.{verdict, Begins}
 use Rattle.dover_model.proofs.lists.Beginnings.{begins_onward}

@@ -1,7 +1,6 @@
 -- What the text of a line names behind a session.
-use Rattle.std.proofs.Common.{sym, Option, subst}
-use Rattle.std.proofs.Common.{◌≡◌, ℕ, ◌∷◌, refl, ap, ◌∙◌, Some, None, codes}
-use Rattle.std.specs.Option.{option_or, option_and_then}
+use Rattle.std.proofs.Common.{sym, Option, subst, ◌≡◌, ℕ, ◌∷◌, refl, ap, ◌∙◌, Some, None, codes, option_and_then}
+use Rattle.std.specs.Option.{option_or}
 use Rattle.dover_model.proofs.texts.NoFeeds.{header_short}
 use Rattle.dover_model.specs.Common.{AreShort, header, version_number, Declaration, Fraction, IsRatio, ratio_with}
 use Rattle.dover_model.specs.Common.{factor_numbers, JobFacts, numbers_of, with_numbers, Session, Item, Printed}

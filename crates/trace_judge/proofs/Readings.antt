@@ -1,7 +1,8 @@
 -- What the judge keeps of the lines of a trace, line by line.
 use Rattle.std.proofs.Common.{◌≡◌, ℕ, ◌+◌, ◌*◌, ◌≤◌, ◌<◌, List, [], ◌∷◌, ◌++◌, length, min, sym, ap, ◌∙◌, subst, true}
-use Rattle.std.proofs.Common.{arith, cond}
-use Rattle.std.specs.Option.{option_map_or, option_and_then}
+use Rattle.std.proofs.Common.{arith, cond, option_and_then, Bool, false, refl, length-append, append-nil, fold}
+use Rattle.std.proofs.Common.{filter_map}
+use Rattle.std.specs.Option.{option_map_or}
 use Rattle.dover_model.specs.declared.events.Event.{Event}
 use Rattle.dover_model.specs.Common.{Instance, Declaration, most_items, most_ready, State, Session, instance_of}
 use Rattle.dover_model.specs.Common.{trace_lines, PrintsNext, begins_trace, Step, printed_of, printed, IsValid}
@@ -19,17 +20,12 @@ use Rattle.trace_judge.specs.declared.stage.TraceStage.{TraceStage}
 use Rattle.trace_judge.specs.declared.stage.TraceStage.TheVariants.{Opening, Going, Ended}
 use Rattle.ready_jobs.specs.Course.{Course, Follows, GoesOnFrom}
 use Rattle.trace_judge.specs.Reads.{Reading, Opens, Goes, Ends, ReadsAhead, Reads, StaysAhead, HasSpare, IsReader}
-use Rattle.trace_judge.specs.Reads.{IsUnchangedFor}
+use Rattle.trace_judge.specs.Reads.{IsUnchangedFor, Took, kept_steps}
 use Rattle.ready_jobs.proofs.Courses.{follows_room}
-use Rattle.trace_judge.specs.Reads.{Took, kept_steps}
-use Rattle.std.proofs.Common.{Bool, false, refl, length-append}
-use Rattle.std.proofs.lemmas.List.{append-nil}
 use Rattle.std.proofs.lemmas.Bool.{false_from_ne_true}
 use Rattle.dover_model.proofs.runs.Ending.{few_printed}
-use Rattle.std.specs.List.{fold}
 use Rattle.std.proofs.lemmas.List.Sums.{fold-append}
 use Rattle.trace_judge.proofs.Continuing.{SeesWith}
-use Rattle.std.specs.Prelude.{filter_map}
 use Rattle.std.proofs.lemmas.List.Elements.{filter_map-append}
 
 -- ---- where the run has gone on

@@ -1,8 +1,6 @@
 -- How the judge takes the line of a release.
 use Rattle.std.proofs.Common.{◌≡◌, ℕ, ◌+◌, ◌*◌, ◌≤◌, ◌<◌, List, [], ◌∷◌, ◌++◌, length, length-append, refl, sym, ap}
-use Rattle.std.proofs.Common.{◌∙◌, subst, true, false, cond, arith}
-use Rattle.std.specs.Prelude.{None}
-use Rattle.std.proofs.lemmas.Bool.{leb-false}
+use Rattle.std.proofs.Common.{◌∙◌, subst, true, false, cond, arith, None, leb-false}
 use Rattle.std.proofs.lemmas.List.Elements.{filter_map-append}
 use Rattle.admission.specs.Kept as admission
 use Rattle.dover_model.specs.Common.{Instance, last_tick, most_items, most_ready, JobFacts, refusal_of, Keeps, State}
@@ -16,26 +14,25 @@ use Rattle.dover_model.proofs.sessions.Growing.{job_instance}
 use Rattle.line_text.specs.declared.traces.lines.TraceLine.TheVariants.{Step as StepLine}
 use Rattle.line_text.specs.traces.Form.{HasForm}
 use Rattle.trace_judge.specs.Reading.{MayRelease, release_text}
-use Rattle.trace_judge.proofs.Continuing.{sees_release}
+use Rattle.trace_judge.proofs.Continuing.{sees_release, SeesWith}
 use Rattle.trace_judge.proofs.Seeing.{sees_keeps, sees_rest}
 use Rattle.trace_judge.proofs.Only.{only_release}
 use Rattle.trace_judge.specs.declared.stage.TraceStage.TheVariants.{Going}
 use Rattle.ready_jobs.specs.Course.{Course, Follows, IsCourse, with_release, fresh_job}
 use Rattle.waiting_pool.specs.Reordered.{IsReordered}
 use Rattle.waiting_pool.proofs.Reordering.{as_many}
-use Rattle.trace_judge.specs.Reads.{Reading, Goes, Reads, StaysAhead, HasSpare, IsReader, Took, Waited}
-use Rattle.trace_judge.specs.Reads.{CanRelease, at_tick}
+use Rattle.trace_judge.specs.Reads.{Reading, Goes, Reads, StaysAhead, HasSpare, IsReader, Took, Waited, CanRelease}
+use Rattle.trace_judge.specs.Reads.{at_tick}
 use Rattle.ready_jobs.proofs.Courses.{follows_count, follows_order}
 use Rattle.ready_jobs.proofs.Releasing as course
 use Rattle.trace_judge.proofs.Forms.{one_form}
-use Rattle.trace_judge.proofs.Readings.{reads_of, with_room, room_kept, room_left}
+use Rattle.trace_judge.proofs.Readings.{reads_of, with_room, room_kept, room_left, room_goes, room_for, GoesHere}
+use Rattle.trace_judge.proofs.Readings.{here_reader, goes_none, goes_some, item_more}
 use Rattle.trace_judge.proofs.Naming.{item_named}
 use Rattle.dover_model.proofs.lists.Tests.{never}
 use Rattle.trace_judge.proofs.Completing.{ready_is}
 use Rattle.dover_model.proofs.sessions.SessionParts.{session_jobs}
 use Rattle.dover_model.proofs.valid.JobLimits.{job_limits}
-use Rattle.trace_judge.proofs.Continuing.{SeesWith}
-use Rattle.trace_judge.proofs.Readings.{room_goes, room_for, GoesHere, here_reader, goes_none, goes_some, item_more}
 
 -- ---- the line alone
 

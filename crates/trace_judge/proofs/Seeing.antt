@@ -1,11 +1,10 @@
 -- What follows from what the lines of a trace so far have come to.
 use Rattle.std.proofs.Common.{◌≡◌, ℕ, ◌+◌, ◌-◌, List, ◌++◌, ap, ◌∙◌, subst, arith, ◌∷◌, length, map, refl, sym, Bool}
-use Rattle.std.proofs.Common.{[], true, false, cond}
-use Rattle.std.specs.Prelude.{Some, slice_get}
+use Rattle.std.proofs.Common.{[], true, false, cond, Some, slice_get, option_map, option_and_then, append_assoc}
 use Rattle.std.specs.List.{AllByRecursion}
 use Rattle.std.proofs.lemmas.List.Elements.{filter_map-append}
-use Rattle.std.specs.Option.{option_map, option_map_or, option_and_then}
-use Rattle.std.proofs.lemmas.List.{append_assoc, map-append, length-map}
+use Rattle.std.specs.Option.{option_map_or}
+use Rattle.std.proofs.lemmas.List.{map-append, length-map}
 use Rattle.dover_model.specs.Common.{Instance, IsValid, State, opening, Step, printed_of, printed, run, last_deadline}
 use Rattle.dover_model.specs.Common.{Keeps, IsWholeRun, Begins, Session, instance_of, admitted_jobs, IsValidSession}
 use Rattle.dover_model.specs.Common.{new_session, lines_among, texts_among, Printed, text_of_line, places_of}

@@ -1,6 +1,5 @@
 -- What the judging of a text costs.
-use Rattle.std.proofs.Common.{◌++◌, ℕ, List, subst, arith}
-use Rattle.std.proofs.lemmas.List.{append_assoc}
+use Rattle.std.proofs.Common.{◌++◌, ℕ, List, subst, arith, append_assoc}
 use Rattle.dover_model.specs.Spending.{CostsAtMost}
 use Rattle.dover_model.proofs.runs.Spending.{few_more}
 use Rattle.ready_jobs.proofs.Spending.{paid_jobs}

@@ -1,9 +1,7 @@
 -- How the judge takes the lines of a trace.
-use Rattle.std.proofs.Common.{codes}
-use Rattle.std.proofs.Common.{◌≡◌, ℕ, suc, ◌+◌, ◌*◌, ◌≤◌, ◌<◌, max, List, [], ◌∷◌, ◌++◌, length, length-append}
-use Rattle.std.proofs.Common.{refl, sym, ap, ◌∙◌, subst, Bool, true, false, cond, arith}
-use Rattle.std.specs.Prelude.{Option, Some, None, is_some, not}
-use Rattle.std.specs.List.{filter}
+use Rattle.std.proofs.Common.{codes, ◌≡◌, ℕ, suc, ◌+◌, ◌*◌, ◌≤◌, ◌<◌, max, List, [], ◌∷◌, ◌++◌, length, length-append}
+use Rattle.std.proofs.Common.{refl, sym, ap, ◌∙◌, subst, Bool, true, false, cond, arith, Option, Some, None, is_some}
+use Rattle.std.proofs.Common.{not, filter}
 use Rattle.std.proofs.lemmas.Bool.{false_from_ne_true}
 use Rattle.trace_judge.proofs.Naming.{header_line, header_text, header_form, pair_in, ratio_back, with_text}
 use Rattle.dover_model.specs.Common.{with_numbers, Fraction, IsRatio, ratio_with, factor_numbers, Rules, Declaration}
@@ -28,7 +26,7 @@ use Rattle.line_text.specs.traces.Form.{HasForm, trace_text}
 use Rattle.admission.specs.Kept as admission
 use Rattle.dover_model.proofs.settled.Leading.{idles_settles, settles_append, settles_or_prints, prints_goes_on}
 use Rattle.trace_judge.proofs.Seeing.{sees_next}
-use Rattle.trace_judge.proofs.Continuing.{sees_step, sees_header}
+use Rattle.trace_judge.proofs.Continuing.{sees_step, sees_header, SeesWith}
 use Rattle.trace_judge.proofs.Finishing.{ended_run, ended_trace, ended_value}
 use Rattle.trace_judge.proofs.Only.{only_headers, only_step}
 use Rattle.trace_judge.specs.declared.stage.TraceStage.TheVariants.{Opening, Going, Ended}
@@ -38,11 +36,9 @@ use Rattle.trace_judge.specs.Reads.{kept_steps, Took, Followed, Waited, at_tick}
 use Rattle.ready_jobs.proofs.Courses.{new_follows, follows_count}
 use Rattle.trace_judge.proofs.Forms.{one_form, next_form}
 use Rattle.trace_judge.proofs.Readings.{goes_of, ahead_of, here_of, reads_of, opens_of, reads_ahead, next_goes}
-use Rattle.trace_judge.proofs.Readings.{spare_stays, next_ahead}
+use Rattle.trace_judge.proofs.Readings.{spare_stays, next_ahead, goes_along, took_none, room_for, kept_more, steps_more}
+use Rattle.trace_judge.proofs.Readings.{last_more, Continues, continued_reader}
 use Rattle.dover_model.proofs.sessions.SessionParts.{session_jobs}
-use Rattle.trace_judge.proofs.Readings.{goes_along, took_none, room_for, kept_more, steps_more, last_more, Continues}
-use Rattle.trace_judge.proofs.Readings.{continued_reader}
-use Rattle.trace_judge.proofs.Continuing.{SeesWith}
 
 -- ---- silent steps up to a tick
 

@@ -1,10 +1,9 @@
 -- The verdict of a text whose lines are read one by one.
 use Rattle.std.proofs.Common.{◌≡◌, ℕ, List, ◌∷◌, refl, true, None, ◌-◌, ◌++◌, ap, ◌∙◌, false, cond, suc, length, take}
-use Rattle.std.proofs.Common.{[], arith, Some, sym, Bool}
+use Rattle.std.proofs.Common.{[], arith, Some, sym, Bool, append-nil, nat_lt, ◌&&◌, ◌||◌}
 use Rattle.std.specs.Option.{option_map_or}
-use Rattle.std.proofs.lemmas.List.{append-nil, take-append-le}
+use Rattle.std.proofs.lemmas.List.{take-append-le}
 use Rattle.std.proofs.Math.Seq.{take-length}
-use Rattle.std.specs.Prelude.{nat_lt, ◌&&◌, ◌||◌}
 use Rattle.std.proofs.lemmas.Bool.{and_right}
 use Rattle.dover_model.specs.Common.{trace_lines, begins_trace, first_wrong, text_lines, good_verdict, wrong_verdict}
 use Rattle.dover_model.specs.Common.{verdict, Wrong, expected_after, ends_with_end, Accepted, is_empty, named_session}

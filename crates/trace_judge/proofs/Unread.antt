@@ -1,6 +1,5 @@
 -- Lines that continue no trace, and lines that continue one have a form.
-use Rattle.std.proofs.Common.{Option}
-use Rattle.std.proofs.Common.{◌≡◌, ℕ, ◌+◌, ◌≤◌, ◌<◌, ◌⊎◌, inl, inr, List, [], ◌∷◌, ◌++◌, length, sym, ap, ◌∙◌}
+use Rattle.std.proofs.Common.{Option, ◌≡◌, ℕ, ◌+◌, ◌≤◌, ◌<◌, ◌⊎◌, inl, inr, List, [], ◌∷◌, ◌++◌, length, sym, ap, ◌∙◌}
 use Rattle.std.proofs.Common.{subst, true, false, cond, arith}
 use Rattle.dover_model.specs.Common.{IsRatio, Declaration, State, Session, RefusedLine, RefusedJob, RefusedDone}
 use Rattle.dover_model.specs.Common.{instance_of, admitted_jobs, IsDeclarable, Finish, settled_state, Keeps, header}
@@ -27,12 +26,11 @@ use Rattle.trace_judge.specs.declared.stage.TraceStage.{TraceStage}
 use Rattle.trace_judge.specs.declared.stage.TraceStage.TheVariants.{Opening, Going, Ended}
 use Rattle.trace_judge.specs.Reads.{Reading, Goes, Ends, Reads, Took, jobs_in, job_lines_in, is_job_item}
 use Rattle.trace_judge.proofs.Forms.{one_form, next_form}
-use Rattle.trace_judge.proofs.Readings.{HereBy, ends_of, reads_ahead}
+use Rattle.trace_judge.proofs.Readings.{HereBy, ends_of, reads_ahead, took_none, goes_none}
 use Rattle.dover_model.proofs.sessions.SessionParts.{session_jobs}
 use Rattle.trace_judge.proofs.Follows.{refused_parts, finish_parts}
 use Rattle.dover_model.proofs.valid.ValidParts.{valid_parts}
 use Rattle.dover_model.proofs.valid.JobLimits.{job_limits}
-use Rattle.trace_judge.proofs.Readings.{took_none, goes_none}
 use Rattle.dover_model.proofs.lists.Tests.{never}
 
 -- behind the end no line continues the trace

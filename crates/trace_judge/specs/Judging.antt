@@ -1,10 +1,8 @@
 -- What the judge keeps of a text, and what it says of it.
-use Rattle.std.specs.Prelude.{◌≡◌, ◌≤◌, ◌<◌, ◌+◌, ℕ, List, [], ◌++◌, length, Bool, true, false}
-use Rattle.std.specs.Prelude.{Result, Ok, Err}
-use Rattle.std.specs.List.{filter}
+use Rattle.std.specs.Prelude.{◌≡◌, ◌≤◌, ◌<◌, ◌+◌, ℕ, List, [], ◌++◌, length, Bool, true, false, Result, Ok, Err, filter}
+use Rattle.std.specs.Prelude.{sum_by}
 use Rattle.dover_model.specs.declared.Memory.{Memory}
 use Rattle.dover_model.specs.declared.events.Event.{Event}
-use Rattle.std.specs.List.{sum_by}
 use Rattle.dover_model.specs.Common.{IsWithin, bound, Fraction, Meets, worth, run, printed, ran, completed_value, Each}
 use Rattle.dover_model.specs.Common.{takes_or_abandons, Session, IsValidSession, instance_of, admitted_jobs}
 use Rattle.dover_model.specs.Common.{may_finish_early, observed, whole_lines}

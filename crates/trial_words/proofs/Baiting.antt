@@ -1,6 +1,5 @@
 -- The text of a baiting feed.
-use Rattle.std.proofs.Common.{◌≡◌, ◌≤◌, ◌<◌, ◌++◌, ◌∷◌, [], ℕ, List, ap, ◌∙◌, codes, decimal, length, arith}
-use Rattle.std.specs.List.{sum}
+use Rattle.std.proofs.Common.{◌≡◌, ◌≤◌, ◌<◌, ◌++◌, ◌∷◌, [], ℕ, List, ap, ◌∙◌, codes, decimal, length, arith, sum}
 use Rattle.dover_model.specs.Common.{Fraction, IsRatio, chain, last_link, bait_jobs, bait_plan, bound, most_jobs}
 use Rattle.dover_model.specs.Common.{most_total, with_numbers, in_lines, completed_value, worth, IsValid}
 use Rattle.dover_model.specs.declared.events.Version.TheVariants.{Two}

@@ -1,8 +1,7 @@
 -- The lines of turns, one behind another.
 use Rattle.std.proofs.Common.{◌≡◌, ℕ, List, [], ◌∷◌, ◌++◌, map, sym, ap, ◌∙◌, subst, Option, Result, None, Some}
-use Rattle.std.proofs.Common.{append_assoc}
-use Rattle.std.proofs.lemmas.List.{append-nil, map-append}
-use Rattle.std.specs.List.{flat_map}
+use Rattle.std.proofs.Common.{append_assoc, append-nil, flat_map}
+use Rattle.std.proofs.lemmas.List.{map-append}
 use Rattle.dover_model.specs.Common.{FeedLine, JobLine, DoneLine, EndLine, feed_text, rules_with, Fraction, in_lines}
 use Rattle.dover_model.specs.declared.events.Version.TheVariants.{Three}
 use Rattle.dover_port.specs.Moves.{Move, Passes, CutsShort, PutsThrough}

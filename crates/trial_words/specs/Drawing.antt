@@ -1,6 +1,5 @@
 -- What the word `draw` writes.
-use Rattle.std.specs.Prelude.{ℕ, List, [], ◌∷◌, ◌++◌, map, Some, None}
-use Rattle.std.specs.List.{flat_map}
+use Rattle.std.specs.Prelude.{ℕ, List, [], ◌∷◌, ◌++◌, map, Some, None, flat_map}
 use Rattle.dover_model.specs.Common.{Fraction, rules_with, FeedLine, JobLine, DoneLine, EndLine, feed_text, in_lines}
 use Rattle.dover_model.specs.declared.events.Version.TheVariants.{Three}
 use Rattle.dover_port.specs.Moves.{Move}

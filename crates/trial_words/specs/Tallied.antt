@@ -1,6 +1,5 @@
 -- What is counted of the printed steps of a run.
-use Rattle.std.specs.Prelude.{◌≡◌, ◌≤◌, ◌*◌, ℕ, List, length}
-use Rattle.std.specs.List.{fold, count_by, sum_by}
+use Rattle.std.specs.Prelude.{◌≡◌, ◌≤◌, ◌*◌, ℕ, List, length, fold, count_by, sum_by}
 use Rattle.dover_model.specs.declared.events.Event.{Event}
 use Rattle.dover_model.specs.Common.{Fraction, Instance, IsListable, IsValid, most_value, printed, value_of_end}
 use Rattle.dover_model.specs.Common.{is_take}

@@ -1,8 +1,6 @@
 -- What the order of a list doesn't change.
-use Rattle.std.proofs.Common.{◌≡◌, ℕ, ◌≤◌, ◌⊎◌, inl, inr, List, [], ◌∷◌, ◌++◌, length, map, min, refl, sym, ap}
-use Rattle.std.proofs.Common.{◌∙◌, subst, Bool, true, false, cond, arith}
-use Rattle.std.specs.Prelude.{Option, Some, None}
-use Rattle.std.specs.List.{filter, find, fold, sum_by}
+use Rattle.std.proofs.Common.{◌≡◌, ℕ, ◌≤◌, ◌⊎◌, inl, inr, List, [], ◌∷◌, ◌++◌, length, map, min, refl, sym, ap, ◌∙◌}
+use Rattle.std.proofs.Common.{subst, Bool, true, false, cond, arith, Option, Some, None, filter, find, fold, sum_by}
 use Rattle.std.proofs.lemmas.Bool.{cases_eq, false≢true}
 use Rattle.std.proofs.lemmas.List.Sums.{sum_by-cons, sum_by-append}
 use Rattle.dover_model.specs.Common.{least, earlier, first, IsMember, Each, EachTwo}

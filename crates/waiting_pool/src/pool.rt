@@ -1,16 +1,14 @@
 //! The jobs that wait.
 ghost use Rattle.std.specs.Prelude.{◌≡◌, ℕ, ◌+◌, ◌*◌, ◌^◌, ◌<◌, ◌≤◌, [], ◌∷◌, ◌++◌, slice_set, length, List, Option};
 ghost use Rattle.std.specs.Prelude.{Some, None, max, vec_len, vec_capacity, option_map, IsOk, IsNone, IfSome, OnOk};
-ghost use Rattle.std.specs.Prelude.{OnErr};
-ghost use Rattle.std.specs.List.{slice_get};
+ghost use Rattle.std.specs.Prelude.{OnErr, slice_get};
 ghost use Rattle.dover_model.specs.declared.events.Version.{Version};
 ghost use Rattle.dover_model.specs.declared.events.Task.{Task};
 ghost use Rattle.dover_model.specs.Common.{entry_of, latest_start, due_first, starts_before, first, Each};
 ghost use Rattle.place_heap.specs.Items.{ItemFacts};
 ghost use Rattle.place_heap.specs.Orders.{due_item, latest_item};
 ghost use Rattle.waiting_pool.specs.Reordered.{IsReordered};
-ghost use Rattle.waiting_pool.specs.Pools.{HaveOwnNumbers, AreModest};
-ghost use Rattle.waiting_pool.specs.Pools.{Pooled, IsPool, HasRoom, jobs_at, most_places};
+ghost use Rattle.waiting_pool.specs.Pools.{HaveOwnNumbers, AreModest, Pooled, IsPool, HasRoom, jobs_at, most_places};
 ghost use Rattle.waiting_pool.specs.Short.{no_number};
 ghost use Rattle.waiting_pool.specs.Slots.{seen};
 

@@ -1,8 +1,7 @@
 -- Schedules of the jobs of a set, under their places there and under their numbers among all jobs.
 use Rattle.std.proofs.Common.{◌≡◌, ℕ, suc, zero, ◌+◌, ◌-◌, ◌≤◌, ◌<◌, inl, inr, List, [], ◌∷◌, ◌++◌, length, get_or, map}
-use Rattle.std.proofs.Common.{refl}
-use Rattle.std.proofs.Common.{sym, ap, ◌∙◌, subst, arith, cond, eqb, Bool, true, false, IsTrue, replicate}
-use Rattle.std.specs.Prelude.{Some, None, Option, slice_get, IfSome, ◌&&◌, ◌==◌}
+use Rattle.std.proofs.Common.{refl, sym, ap, ◌∙◌, subst, arith, cond, eqb, Bool, true, false, IsTrue, replicate, Some}
+use Rattle.std.proofs.Common.{None, Option, slice_get, IfSome, ◌&&◌, ◌==◌}
 use Rattle.std.specs.List.{enumerate_from, cons_option, AllByRecursion}
 use Rattle.std.proofs.lemmas.List.{map-append}
 use Rattle.dover_model.specs.Common.{JobFacts, is_served, IsMember, Each, spread, stretches}

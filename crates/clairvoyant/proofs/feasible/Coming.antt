@@ -1,11 +1,9 @@
 -- What the schedule by earliest deadline comes to, over many ticks in which one job runs, or none.
 use Rattle.std.proofs.Common.{◌≡◌, ℕ, ◌+◌, ◌-◌, ◌≤◌, ◌<◌, ◌⊎◌, inl, inr, List, ◌++◌, map, drop, replicate, refl, sym}
-use Rattle.std.proofs.Common.{ap, ◌∙◌, subst, Bool}
-use Rattle.std.proofs.Common.{true, false, cond, arith, append_assoc}
-use Rattle.std.specs.Prelude.{nat_le}
-use Rattle.std.specs.List.{sum_by}
-use Rattle.std.proofs.lemmas.Bool.{le-leb, and_from, cases_lt}
-use Rattle.std.proofs.lemmas.List.{length-append, length-replicate}
+use Rattle.std.proofs.Common.{ap, ◌∙◌, subst, Bool, true, false, cond, arith, append_assoc, nat_le, sum_by, le-leb}
+use Rattle.std.proofs.Common.{length-append}
+use Rattle.std.proofs.lemmas.Bool.{and_from, cases_lt}
+use Rattle.std.proofs.lemmas.List.{length-replicate}
 use Rattle.dover_model.specs.Common.{idle, JobFacts, left, IsMember, Each, IsNumberedFrom, jobs_of, is_inside, edf_from}
 use Rattle.dover_model.specs.Common.{last_release}
 use Rattle.dover_model.specs.declared.events.Task.{Task}

@@ -1,11 +1,9 @@
 -- What the whole schedule by earliest deadline shows of the jobs.
-use Rattle.std.proofs.Common.{◌≡◌, ℕ, ◌+◌, ◌-◌, ◌≤◌, ◌<◌, ◌⊎◌, inl, inr, List, [], ◌∷◌, ◌++◌, length, take}
-use Rattle.std.proofs.Common.{drop, replicate}
-use Rattle.std.proofs.Common.{refl, sym, ap, subst, Bool, true, false, cond, eqb, arith, IsTrue}
-use Rattle.std.specs.Prelude.{nat_le, Some, None}
-use Rattle.std.specs.List.{sum_by, count_by, enumerate_from}
-use Rattle.std.proofs.lemmas.Bool.{le-leb, leb-true, ne_eqb, and_parts, cases_lt}
-use Rattle.std.proofs.lemmas.List.{length-drop, length-take}
+use Rattle.std.proofs.Common.{◌≡◌, ℕ, ◌+◌, ◌-◌, ◌≤◌, ◌<◌, ◌⊎◌, inl, inr, List, [], ◌∷◌, ◌++◌, length, take, drop}
+use Rattle.std.proofs.Common.{replicate, refl, sym, ap, subst, Bool, true, false, cond, eqb, arith, IsTrue, nat_le}
+use Rattle.std.proofs.Common.{Some, None, sum_by, count_by, le-leb, leb-true, ne_eqb, length-drop, length-take}
+use Rattle.std.specs.List.{enumerate_from}
+use Rattle.std.proofs.lemmas.Bool.{and_parts, cases_lt}
 use Rattle.dover_model.specs.declared.events.Version.TheVariants.{Two}
 use Rattle.dover_model.specs.Common.{idle, most_jobs, JobFacts, is_served, ticks_given, IsMember, Each, IsOverfull}
 use Rattle.dover_model.specs.Common.{is_inside, work_inside, spread, stretches, edf}

@@ -1,10 +1,9 @@
 -- What is shown by a job that can't be done in time, and which jobs are served.
 use Rattle.std.proofs.Common.{◌≡◌, ℕ, ◌+◌, ◌≤◌, ◌<◌, ◌⊎◌, inl, inr, List, ◌++◌, map, drop, replicate, min, refl, sym}
-use Rattle.std.proofs.Common.{ap, ◌∙◌, subst, Bool}
-use Rattle.std.proofs.Common.{true, false, cond, eqb, arith, IsTrue, Option}
-use Rattle.std.specs.Prelude.{nat_le, nat_lt, Some, None}
-use Rattle.std.proofs.lemmas.Bool.{le-leb, leb-true, lt-ltb, le-ltb, and_from, cases_lt}
-use Rattle.std.proofs.lemmas.List.{length-append, length-replicate}
+use Rattle.std.proofs.Common.{ap, ◌∙◌, subst, Bool, true, false, cond, eqb, arith, IsTrue, Option, nat_le, nat_lt, Some}
+use Rattle.std.proofs.Common.{None, le-leb, leb-true, lt-ltb, le-ltb, length-append}
+use Rattle.std.proofs.lemmas.Bool.{and_from, cases_lt}
+use Rattle.std.proofs.lemmas.List.{length-replicate}
 use Rattle.dover_model.specs.Common.{JobFacts, IsJob, is_served, ticks_given, left, IsMember, is_inside, work_inside}
 use Rattle.dover_model.specs.declared.events.Task.{Task}
 use Rattle.dover_model.proofs.lists.Members.{on_map, map_member}

@@ -1,11 +1,9 @@
 -- The tasks of a list of jobs, by their numbers.
-use Rattle.std.proofs.Common.{◌≡◌, ℕ, zero, suc, ◌+◌, ◌≤◌, ◌<◌, inl, inr, List, [], ◌∷◌, refl, sym, ap, ◌∙◌}
-use Rattle.std.proofs.Common.{subst, cond, arith}
-use Rattle.std.proofs.Common.{Bool, true, false}
-use Rattle.std.specs.Prelude.{Some, slice_get, nat_le}
-use Rattle.std.specs.List.{sum_by, fold, enumerate_from}
+use Rattle.std.proofs.Common.{◌≡◌, ℕ, zero, suc, ◌+◌, ◌≤◌, ◌<◌, inl, inr, List, [], ◌∷◌, refl, sym, ap, ◌∙◌, subst}
+use Rattle.std.proofs.Common.{cond, arith, Bool, true, false, Some, slice_get, nat_le, sum_by, fold, leb-true}
+use Rattle.std.proofs.Common.{leb-false}
+use Rattle.std.specs.List.{enumerate_from}
 use Rattle.std.proofs.lemmas.List.Sums.{sum_by-cons}
-use Rattle.std.proofs.lemmas.Bool.{leb-true, leb-false}
 use Rattle.dover_model.specs.Common.{JobFacts, to_come, left, IsMember, Each, IsNumberedFrom, jobs_of, last_release}
 use Rattle.dover_model.specs.declared.events.Role.TheVariants.{Coming}
 use Rattle.dover_model.specs.declared.events.Task.{Task}

@@ -1,6 +1,5 @@
 -- An overfull window excludes that some schedule serves every job.
-use Rattle.std.proofs.Common.{◌≡◌, ℕ, ◌+◌, ◌≤◌, List, sym, ap, ◌∙◌, cond, arith}
-use Rattle.std.specs.List.{sum_by}
+use Rattle.std.proofs.Common.{◌≡◌, ℕ, ◌+◌, ◌≤◌, List, sym, ap, ◌∙◌, cond, arith, sum_by}
 use Rattle.dover_model.specs.Common.{JobFacts, Instance, Meets, to_come, jobs_of, IsOverfull, is_inside, work_inside}
 use Rattle.dover_model.specs.declared.events.Task.{Task}
 use Rattle.dover_model.proofs.steps.Kept.{come_jobs}

@@ -1,8 +1,7 @@
 -- How far the job that is due first runs, and what comes of it.
 use Rattle.std.proofs.Common.{◌≡◌, ℕ, zero, suc, ◌+◌, ◌-◌, ◌≤◌, ◌<◌, ◌⊎◌, inl, inr, List, [], ◌∷◌, ◌++◌, length}
-use Rattle.std.proofs.Common.{replicate, min, refl, sym}
-use Rattle.std.proofs.Common.{ap, ◌∙◌, subst, arith, Option}
-use Rattle.std.specs.Prelude.{Some, None, slice_get, slice_index_or}
+use Rattle.std.proofs.Common.{replicate, min, refl, sym, ap, ◌∙◌, subst, arith, Option, Some, None, slice_get}
+use Rattle.std.proofs.Common.{slice_index_or}
 use Rattle.std.proofs.lemmas.Bool.{cases_lt}
 use Rattle.std.proofs.lemmas.List.Sorted.{length_permutation}
 use Rattle.std.proofs.lemmas.Option.{slice_get_read, slice_get_within}

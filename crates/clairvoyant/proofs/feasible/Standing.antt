@@ -1,10 +1,9 @@
 -- Each step of the simulation, from where it stands to where it stands next.
 use Rattle.std.proofs.Common.{◌≡◌, ℕ, ◌+◌, ◌-◌, ◌*◌, ◌≤◌, ◌<◌, ◌⊎◌, inl, inr, List, [], ◌∷◌, ◌++◌, length, map}
-use Rattle.std.proofs.Common.{replicate, append-nil, refl}
-use Rattle.std.proofs.Common.{sym, ap, ◌∙◌, subst, arith, Option, IsTrue}
-use Rattle.std.specs.Prelude.{Some, None, slice_get, IsPermutation}
-use Rattle.std.specs.List.{sum_by, enumerate_from}
-use Rattle.std.proofs.lemmas.Bool.{le-leb, cases_lt, cases_eq}
+use Rattle.std.proofs.Common.{replicate, append-nil, refl, sym, ap, ◌∙◌, subst, arith, Option, IsTrue, Some, None}
+use Rattle.std.proofs.Common.{slice_get, IsPermutation, sum_by, le-leb}
+use Rattle.std.specs.List.{enumerate_from}
+use Rattle.std.proofs.lemmas.Bool.{cases_lt, cases_eq}
 use Rattle.std.proofs.lemmas.List.Sorted.{IsPermutation-sym, sum_by-IsPermutation}
 use Rattle.std.proofs.lemmas.List.Sums.{sum_by-cons}
 use Rattle.std.proofs.lemmas.Option.{slice_get_within}
@@ -17,12 +16,10 @@ use Rattle.dover_model.proofs.lists.Members.{on_map, map_member, some_same}
 use Rattle.dover_model.proofs.steps.Roles.{one_number}
 use Rattle.dover_model.proofs.runs.Honest.{numbers_low, count_jobs}
 use Rattle.clairvoyant.specs.feasible.Progress.{AreReleased, IsLateBy, with_late, IsShown, AreServed, Stands, IsPending}
-use Rattle.clairvoyant.specs.feasible.Progress.{NoneBefore, IsWhole}
-use Rattle.clairvoyant.specs.feasible.Progress.{kept_as}
+use Rattle.clairvoyant.specs.feasible.Progress.{NoneBefore, IsWhole, kept_as}
 use Rattle.clairvoyant.specs.feasible.Queue.{Kept, AreBehind}
 use Rattle.clairvoyant.proofs.feasible.EarliestFirst.{had_more, given_ticks, by_given, given_here, given_other}
-use Rattle.clairvoyant.proofs.feasible.EarliestFirst.{IsBehind}
-use Rattle.clairvoyant.proofs.feasible.EarliestFirst.{Leads, Rests, edf_over}
+use Rattle.clairvoyant.proofs.feasible.EarliestFirst.{IsBehind, Leads, Rests, edf_over}
 use Rattle.clairvoyant.proofs.feasible.Shares.{none_behind}
 use Rattle.clairvoyant.proofs.feasible.Coming.{come_run, come_idle}
 use Rattle.clairvoyant.proofs.feasible.Lateness.{shown_on, late_shows, served_run, served_idle}

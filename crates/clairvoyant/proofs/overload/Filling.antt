@@ -1,9 +1,7 @@
 -- Windows between two ticks with more work than ticks, and that there is none.
 use Rattle.std.proofs.Common.{◌≡◌, ℕ, ◌-◌, ◌≤◌, ◌<◌, List, [], ◌∷◌, ◌++◌, ◌⊎◌, inl, inr, refl, sym, ap, ◌∙◌, subst}
-use Rattle.std.proofs.Common.{Bool, true, false, cond, arith}
-use Rattle.std.specs.Prelude.{nat_le, ◌&&◌}
-use Rattle.std.specs.List.{filter, sum_by}
-use Rattle.std.proofs.lemmas.Bool.{cases_lt, le-leb}
+use Rattle.std.proofs.Common.{Bool, true, false, cond, arith, nat_le, ◌&&◌, filter, sum_by, le-leb}
+use Rattle.std.proofs.lemmas.Bool.{cases_lt}
 use Rattle.dover_model.specs.Common.{JobFacts, IsJob, last_tick, Each, is_inside, work_inside}
 use Rattle.dover_model.proofs.valid.JobLimits.{job_limits}
 use Rattle.dover_model.proofs.lists.Members.{filter_none, member_front, member_behind, member_filter}

@@ -1,12 +1,11 @@
 -- Stretches, and whether all jobs can be served.
 use Rattle.dover_model.specs.Common.{fraction, Rules, JobFacts, IsJob, Each, IsOverfull, is_inside, work_inside}
 use Rattle.dover_model.specs.Common.{total_value, is_served}
-use Rattle.std.proofs.Common.{◌≡◌, ℕ, ◌≤◌, ◌<◌, List, [], ◌∷◌, inl, inr, refl, ap, subst, cond}
-use Rattle.std.proofs.Common.{Bool, true, false, arith}
-use Rattle.std.specs.Prelude.{◌&&◌, ◌+◌, nat_le, IsTrue}
-use Rattle.std.specs.List.{sum_by, enumerate_from, AllByRecursion}
+use Rattle.std.proofs.Common.{◌≡◌, ℕ, ◌≤◌, ◌<◌, List, [], ◌∷◌, inl, inr, refl, ap, subst, cond, Bool, true, false}
+use Rattle.std.proofs.Common.{arith, ◌&&◌, ◌+◌, nat_le, IsTrue, sum_by, leb-true, leb-false}
+use Rattle.std.specs.List.{enumerate_from, AllByRecursion}
 use Rattle.std.proofs.lemmas.List.Sums.{sum_by-cons}
-use Rattle.std.proofs.lemmas.Bool.{leb-true, leb-false, lt-leb}
+use Rattle.std.proofs.lemmas.Bool.{lt-leb}
 use Rattle.dover_model.specs.declared.events.Version.TheVariants.{One}
 use Rattle.dover_model.proofs.lists.Members.{filter_none, cond_le}
 use Rattle.dover_model.proofs.rest.Parting.{worth_to}

@@ -1,8 +1,7 @@
 -- Caps of stretches add up.
-use Rattle.std.proofs.Common.{◌≡◌, ℕ, ◌+◌, ◌≤◌, List, [], ◌∷◌, map, refl, ap}
-use Rattle.std.proofs.Common.{Bool, true, false, cond, arith}
-use Rattle.std.specs.Prelude.{◌||◌}
-use Rattle.std.specs.List.{sum_by, filter, enumerate_from}
+use Rattle.std.proofs.Common.{◌≡◌, ℕ, ◌+◌, ◌≤◌, List, [], ◌∷◌, map, refl, ap, Bool, true, false, cond, arith, ◌||◌}
+use Rattle.std.proofs.Common.{sum_by, filter}
+use Rattle.std.specs.List.{enumerate_from}
 use Rattle.std.proofs.lemmas.List.Sums.{sum_by-cons}
 use Rattle.dover_model.specs.Common.{JobFacts, Rules, is_served, worth, Each, is_inside, Job}
 use Rattle.dover_model.proofs.lists.Members.{sum_le, sum_plus, sum_zero, sum_filter, cond_le}

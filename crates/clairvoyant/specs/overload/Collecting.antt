@@ -1,6 +1,5 @@
 -- How far the stretches of some jobs are known.
-use Rattle.std.specs.Prelude.{◌≡◌, ℕ, ◌≤◌, ◌<◌, ◌+◌, ◌-◌, List, [], length, take, drop}
-use Rattle.std.specs.List.{sum_by}
+use Rattle.std.specs.Prelude.{◌≡◌, ℕ, ◌≤◌, ◌<◌, ◌+◌, ◌-◌, List, [], length, take, drop, sum_by}
 use Rattle.dover_model.specs.Common.{JobFacts, total_value, last_tick, Each, work_inside}
 use Rattle.clairvoyant.specs.overload.Stretches.{AreInOrder, IsStretch, IsReached, MeetsSome, most_sets, sets_in}
 use Rattle.clairvoyant.specs.overload.Stretches.{value_outside}

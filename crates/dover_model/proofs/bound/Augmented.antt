@@ -1,10 +1,9 @@
 -- The bound over any books of a run, where a schedule needs less for a job than the job asks for: the jobs of the books
 -- ask for at most 1 + e times as much.
 use Rattle.std.proofs.Common.{◌≡◌, ℕ, ◌+◌, ◌-◌, ◌*◌, ◌≤◌, ◌<◌, ◌⊎◌, inl, inr, List, [], ◌∷◌, ◌++◌, length, refl, sym}
-use Rattle.std.proofs.Common.{ap, ◌∙◌, subst, Bool, true, false, cond, eqb, arith, IsTrue}
-use Rattle.std.specs.Prelude.{nat_le, nat_lt, ◌&&◌, Option, Some, None}
-use Rattle.std.specs.List.{sum_by, filter}
-use Rattle.std.proofs.lemmas.Bool.{le-leb, leb-true, lt-ltb, ltb-true, cases_lt}
+use Rattle.std.proofs.Common.{ap, ◌∙◌, subst, Bool, true, false, cond, eqb, arith, IsTrue, nat_le, nat_lt, ◌&&◌, Option}
+use Rattle.std.proofs.Common.{Some, None, sum_by, filter, le-leb, leb-true, lt-ltb, ltb-true}
+use Rattle.std.proofs.lemmas.Bool.{cases_lt}
 use Rattle.std.proofs.lemmas.Nat.{mul-le}
 use Rattle.std.proofs.lemmas.List.Sums.{sum_by-cons, sum_by-append}
 use Rattle.dover_model.specs.Common.{Fraction, Factor, IsWithinSlower, Row, IsRow, TakenIn, IsDense, job_value}
@@ -15,10 +14,9 @@ use Rattle.dover_model.specs.Books.{GoneIn, IsBusy}
 use Rattle.dover_model.proofs.lists.Members.{each_cons, sum_le, sum_plus, sum_filter, term_le_sum, member_filter}
 use Rattle.dover_model.proofs.lists.Members.{cond_le, sum_zero}
 use Rattle.dover_model.proofs.bound.Calculus.{Below, cancel, below_add, below_mono, displaced_below, excess_below}
-use Rattle.dover_model.proofs.bound.Calculus.{regular_below}
-use Rattle.dover_model.proofs.bound.Calculus.{not_heavy, excess_zero, excess_add, paid_sum, factor_within}
-use Rattle.dover_model.proofs.bound.Counting.{one, range_count, share_of, given_share, share_le, NamesOnce}
-use Rattle.dover_model.proofs.bound.Counting.{shares_most}
+use Rattle.dover_model.proofs.bound.Calculus.{regular_below, not_heavy, excess_zero, excess_add, paid_sum}
+use Rattle.dover_model.proofs.bound.Calculus.{factor_within}
+use Rattle.dover_model.proofs.bound.Counting.{one, range_count, share_of, given_share, share_le, NamesOnce, shares_most}
 use Rattle.dover_model.proofs.bound.Books.{AreBooks, scaled_sum, Without, without, greatest}
 
 -- a job asks for at most so much more than the schedule needs for it, and is no less dense than the least dense one

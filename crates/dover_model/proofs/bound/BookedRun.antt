@@ -1,10 +1,9 @@
 -- The books over a whole run, and that their rows are its intervals.
 use Rattle.std.proofs.Common.{◌≡◌, ℕ, ◌+◌, ◌-◌, ◌≤◌, ◌⊎◌, inl, inr, List, [], ◌∷◌, length, refl, sym, ap, ◌∙◌, subst}
-use Rattle.std.proofs.Common.{Bool, true, false, cond, arith}
-use Rattle.std.specs.Prelude.{◌==◌, Option, Some, None}
-use Rattle.std.specs.Bool.{MatchBool, then_some}
-use Rattle.std.specs.List.{sum_by, count_by, filter, list_all, fold}
-use Rattle.std.proofs.lemmas.Bool.{eqb-true}
+use Rattle.std.proofs.Common.{Bool, true, false, cond, arith, ◌==◌, Option, Some, None, MatchBool, sum_by, count_by}
+use Rattle.std.proofs.Common.{filter, fold, eqb-true}
+use Rattle.std.specs.Bool.{then_some}
+use Rattle.std.specs.List.{list_all}
 use Rattle.std.proofs.lemmas.List.Sums.{sum_by-cons}
 use Rattle.dover_model.specs.Common.{Fraction, is_busy_tick, Row, Job, Finish, need, is_complete, value_of, Run}
 use Rattle.dover_model.specs.Common.{Complete, End, Fresh, Waiting, Held, Running, Done, Gone, Task, Instance, IsValid}

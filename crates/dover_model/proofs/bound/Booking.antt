@@ -1,9 +1,6 @@
 -- What the books of a run keep in each state, and steps that change no interval.
-use Rattle.std.proofs.Common.{◌≡◌, ℕ, ◌+◌, ◌*◌, ◌≤◌, ◌<◌, ◌⊎◌, inl, inr, List, []}
-use Rattle.std.proofs.Common.{map, refl, sym, ap, ◌∙◌, subst, Bool, true, false, cond, eqb, arith}
-use Rattle.std.specs.Prelude.{Option, Some, None}
-use Rattle.std.specs.List.{sum_by}
-use Rattle.std.proofs.lemmas.Bool.{eq-eqb, ne_eqb, eqb-true}
+use Rattle.std.proofs.Common.{◌≡◌, ℕ, ◌+◌, ◌*◌, ◌≤◌, ◌<◌, ◌⊎◌, inl, inr, List, [], map, refl, sym, ap, ◌∙◌, subst, Bool}
+use Rattle.std.proofs.Common.{true, false, cond, eqb, arith, Option, Some, None, sum_by, eq-eqb, ne_eqb, eqb-true}
 use Rattle.std.proofs.lemmas.Nat.{mul-le}
 use Rattle.dover_model.specs.Common.{Fraction, JobFacts, IsHeavy, Role, Coming, Fresh, Waiting, Held, Running, Done}
 use Rattle.dover_model.specs.Common.{Gone, Task, State, is_privileged, is_done, left, with_role, IsMember, Each}

@@ -1,8 +1,6 @@
 -- Whole numbers that stand below a root times a number, and sums of them.
-use Rattle.std.proofs.Common.{◌≡◌, ℕ, ◌+◌, ◌-◌, ◌*◌, ◌≤◌, ◌<◌, ◌⊎◌, ◌↔◌, inl, inr, List}
-use Rattle.std.proofs.Common.{[], ◌∷◌, refl, sym, ap, subst, arith, IsTrue, max}
-use Rattle.std.specs.Prelude.{Option, Some, None, ◌&&◌, nat_lt}
-use Rattle.std.specs.List.{sum_by}
+use Rattle.std.proofs.Common.{◌≡◌, ℕ, ◌+◌, ◌-◌, ◌*◌, ◌≤◌, ◌<◌, ◌⊎◌, ◌↔◌, inl, inr, List, [], ◌∷◌, refl, sym, ap, subst}
+use Rattle.std.proofs.Common.{arith, IsTrue, max, Option, Some, None, ◌&&◌, nat_lt, sum_by}
 use Rattle.std.proofs.lemmas.Bool.{cases_lt}
 use Rattle.std.proofs.lemmas.Nat.{mul-le}
 use Rattle.std.proofs.Math.Nat.{le-max_left, le-max_right}

@@ -1,10 +1,8 @@
 -- The greatest number that passes is found, where those that pass are all the numbers up to one below 2 ^ 80.
 use Rattle.std.proofs.Common.{◌≡◌, ℕ, zero, suc, ◌+◌, ◌-◌, ◌*◌, ◌/◌, ◌^◌, ◌≤◌, ◌<◌, ◌⊎◌, inl, inr, refl, sym, ◌∙◌}
-use Rattle.std.proofs.Common.{subst}
-use Rattle.std.proofs.Common.{Bool, true, false, IsTrue}
-use Rattle.std.proofs.Common.{arith, if◌then◌else◌}
-use Rattle.std.specs.Prelude.{Option, Some, None, nat_le}
-use Rattle.std.proofs.lemmas.Bool.{le-leb, leb-true, lt-leb, cases_lt}
+use Rattle.std.proofs.Common.{subst, Bool, true, false, IsTrue, arith, if◌then◌else◌, Option, Some, None, nat_le}
+use Rattle.std.proofs.Common.{le-leb, leb-true}
+use Rattle.std.proofs.lemmas.Bool.{lt-leb, cases_lt}
 use Rattle.std.proofs.Math.Nat.{pow-succ', mul-le-mul_left, mul-le-mul_right, mul-div-le, le-div_iff_mul-le}
 use Rattle.std.proofs.lemmas.Nat.{mul-le}
 use Rattle.dover_model.specs.Common.{Fraction, IsRatio, is_some_factor, Factor, IsGreatest, greatest, is_within}

@@ -1,8 +1,7 @@
 -- A schedule of jobs that need no less is worth no more.
 use Rattle.std.proofs.Common.{◌≡◌, ℕ, ◌+◌, ◌≤◌, List, [], ◌∷◌, refl, sym, ◌∙◌, Bool, true, false, cond, arith, eqb}
-use Rattle.std.specs.Prelude.{nat_le}
-use Rattle.std.specs.List.{sum_by, enumerate_from}
-use Rattle.std.proofs.lemmas.Bool.{le-leb, leb-true}
+use Rattle.std.proofs.Common.{nat_le, sum_by, le-leb, leb-true}
+use Rattle.std.specs.List.{enumerate_from}
 use Rattle.std.proofs.lemmas.List.Sums.{sum_by-cons}
 use Rattle.dover_model.specs.Common.{JobFacts, Instance, IsValid, ticks_given, earned, worth, completed_value, IsWithin}
 use Rattle.dover_model.specs.Switches.{NeedNoLess}

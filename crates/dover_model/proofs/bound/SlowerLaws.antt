@@ -7,14 +7,13 @@ use Rattle.dover_model.specs.Common.{Fraction, JobFacts, IsLeastDense, Job, IsWi
 use Rattle.dover_model.specs.Common.{observed, numbered, Task, Instance, IsValid, State, opening, is_done}
 use Rattle.dover_model.specs.Common.{completed_value, IsMember, Each, IsJob}
 use Rattle.dover_model.specs.Slower.{AskAtMost}
-use Rattle.dover_model.proofs.lists.Members.{map_member}
+use Rattle.dover_model.proofs.lists.Members.{map_member, all_member}
 use Rattle.dover_model.proofs.bound.Booked.{IsModest}
 use Rattle.dover_model.proofs.runs.Honest.{whole_outcome}
 use Rattle.dover_model.proofs.bound.Augmented.{IsAsked, slower_bound}
 use Rattle.dover_model.proofs.bound.BoundLaws.{least_modest, seen_books, some_least}
 use Rattle.dover_model.proofs.valid.ValidParts.{valid_parts}
 use Rattle.dover_model.proofs.valid.JobLimits.{job_limits}
-use Rattle.dover_model.proofs.lists.Members.{all_member}
 
 -- a job that is observed is that of a task at the end
 observed_there : (k : ℕ) (tasks : List Task) (n_j : Job) → IsMember n_j (enumerate_from k (map observing tasks))

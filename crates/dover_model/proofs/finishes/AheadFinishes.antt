@@ -1,7 +1,6 @@
 -- Finishes that are ahead of their jobs, at one mark and a later one.
 use Rattle.std.proofs.Common.{◌≡◌, ℕ, ◌+◌, ◌-◌, ◌≤◌, ◌<◌, List, [], ◌∷◌, ◌++◌, refl, sym, ap, ◌∙◌, subst, Bool, true}
-use Rattle.std.proofs.Common.{false, cond, arith}
-use Rattle.std.specs.Prelude.{◌==◌, if◌then◌else◌}
+use Rattle.std.proofs.Common.{false, cond, arith, ◌==◌, if◌then◌else◌}
 use Rattle.std.proofs.lemmas.List.Sums.{fold-append}
 use Rattle.dover_model.specs.Common.{Waiting, Task, Finish, Rules, Instance, IsValid, having, finishing, State, opening}
 use Rattle.dover_model.specs.Common.{is_running, Move, Prints, Waits, Ticks, open_step, after, ticked, with_role}

@@ -1,10 +1,8 @@
 -- A completion is the first step of its clock, so at the barrier of its tick its job is over.
 use Rattle.std.proofs.Common.{◌≡◌, ℕ, ◌+◌, ◌≤◌, ◌<◌, ◌⊎◌, inl, inr, List, [], ◌∷◌, ◌++◌, refl, sym, ap, ◌∙◌, subst}
-use Rattle.std.proofs.Common.{Bool, true, false, cond, arith, eqb, append_assoc}
-use Rattle.std.specs.Prelude.{Option, None, nat_le, ◌&&◌}
+use Rattle.std.proofs.Common.{Bool, true, false, cond, arith, eqb, append_assoc, Option, None, nat_le, ◌&&◌, option_map}
+use Rattle.std.proofs.Common.{eqb-true, eq-eqb, leb-true}
 use Rattle.std.specs.List.{AllByRecursion, cons_option}
-use Rattle.std.specs.Option.{option_map}
-use Rattle.std.proofs.lemmas.Bool.{eqb-true, eq-eqb, leb-true}
 use Rattle.dover_model.specs.Common.{Fraction, Rules, Instance, IsValid, Finish, goes_on, Event, Release, Run, Preempt}
 use Rattle.dover_model.specs.Common.{Take, Complete, Abandon, End, Role, Coming, Fresh, Waiting, Held, Running, Done}
 use Rattle.dover_model.specs.Common.{Gone, Task, State, opening, is_running, is_ready_behind, is_over, left, Move}

@@ -1,10 +1,8 @@
 -- The order of finishes, and how often one stands, is nothing to a run.
 use Rattle.std.proofs.Common.{◌≡◌, ℕ, zero, suc, ◌+◌, ◌*◌, inl, inr, List, [], ◌∷◌, length, refl, sym, ap, ◌∙◌, subst}
-use Rattle.std.proofs.Common.{Bool, true, false, cond}
-use Rattle.std.specs.Prelude.{Option, Some, None, nat_le, nat_lt, ◌&&◌, ◌||◌}
-use Rattle.std.specs.Bool.{MatchBool}
-use Rattle.std.specs.List.{find, list_any, list_all}
-use Rattle.std.specs.Option.{option_and_then}
+use Rattle.std.proofs.Common.{Bool, true, false, cond, Option, Some, None, nat_le, nat_lt, ◌&&◌, ◌||◌, MatchBool, find}
+use Rattle.std.proofs.Common.{option_and_then}
+use Rattle.std.specs.List.{list_any, list_all}
 use Rattle.dover_model.specs.Common.{Event, Task, Finish, is_finish_of, has_come_to, is_due, AreDueAlike, Rules}
 use Rattle.dover_model.specs.Common.{Instance, having, finishing, State, opening, running, Move, due_finish, step}
 use Rattle.dover_model.specs.Common.{open_step, declared_step, declared_open_step, after, Step, is_end, run, enough}

@@ -1,8 +1,7 @@
 -- Early finishes, as facts.
-use Rattle.std.proofs.Common.{◌≡◌, ℕ, List, [], ◌∷◌, refl, sym, ap, ◌∙◌, subst, Bool, true, false, cond}
-use Rattle.std.specs.Prelude.{Option, Some, None, ◌==◌, ◌&&◌, ◌||◌, nat_lt}
-use Rattle.std.specs.List.{find}
-use Rattle.std.proofs.lemmas.Bool.{eqb-true, and_parts}
+use Rattle.std.proofs.Common.{◌≡◌, ℕ, List, [], ◌∷◌, refl, sym, ap, ◌∙◌, subst, Bool, true, false, cond, Option, Some}
+use Rattle.std.proofs.Common.{None, ◌==◌, ◌&&◌, ◌||◌, nat_lt, find, eqb-true}
+use Rattle.std.proofs.lemmas.Bool.{and_parts}
 use Rattle.dover_model.specs.Common.{Fraction, Finish, is_finish_of, has_come_to, is_due, Running, Complete, Task}
 use Rattle.dover_model.specs.Common.{State, is_running, running, Move, Prints, due_finish, finish_or, waits_for_mark}
 use Rattle.dover_model.specs.Common.{is_complete, IsMember}

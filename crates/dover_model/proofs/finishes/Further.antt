@@ -1,9 +1,8 @@
 -- Further finishes, which the running job hasn't come to yet, leave what is settled.
 use Rattle.std.proofs.Common.{◌≡◌, ℕ, ◌+◌, ◌≤◌, ◌<◌, ◌⊎◌, inl, inr, List, [], ◌∷◌, ◌++◌, map, refl, sym, ap, ◌∙◌, subst}
-use Rattle.std.proofs.Common.{Bool, true, false, cond, arith, append_assoc}
-use Rattle.std.specs.Prelude.{Option, Some, None, nat_le, nat_lt, ◌==◌, ◌&&◌}
+use Rattle.std.proofs.Common.{Bool, true, false, cond, arith, append_assoc, Option, Some, None, nat_le, nat_lt, ◌==◌}
+use Rattle.std.proofs.Common.{◌&&◌, eq-eqb, lt-ltb}
 use Rattle.std.specs.List.{cons_option}
-use Rattle.std.proofs.lemmas.Bool.{eq-eqb, lt-ltb}
 use Rattle.std.proofs.lemmas.List.Folds.{find-append}
 use Rattle.std.specs.Option.{option_or}
 use Rattle.dover_model.specs.Common.{Complete, Coming, Running, Task, Finish, is_finish_of, has_come_to, Rules}

@@ -1,9 +1,7 @@
 -- What is printed up to a tick depends on the finishes that the run comes to by then alone.
 use Rattle.std.proofs.Common.{◌≡◌, ℕ, ◌<◌, inl, inr, List, [], ◌∷◌, refl, sym, ap, ◌∙◌, subst, Bool, true, false, cond}
-use Rattle.std.specs.Prelude.{Option, Some, None, nat_le}
-use Rattle.std.specs.Bool.{MatchBool}
-use Rattle.std.specs.List.{filter_map, cons_option}
-use Rattle.std.proofs.lemmas.Bool.{leb-false}
+use Rattle.std.proofs.Common.{Option, Some, None, nat_le, MatchBool, filter_map, leb-false}
+use Rattle.std.specs.List.{cons_option}
 use Rattle.dover_model.specs.Common.{Complete, Task, Finish, is_finish_of, Rules, Instance, IsValid, bare, finishing}
 use Rattle.dover_model.specs.Common.{State, opening, running, Move, Prints, due_finish, finish_or, step, declared_step}
 use Rattle.dover_model.specs.Common.{after, Step, is_end, run, IsWholeRun, printed_up_to, known_at, finishes_up_to}

@@ -1,6 +1,5 @@
 -- Where each finish is of a job that is over, silent steps are those without finishes.
-use Rattle.std.proofs.Common.{◌≡◌, ℕ, List, [], ◌∷◌, sym, ap, ◌∙◌, subst}
-use Rattle.std.specs.Prelude.{nat_le, ◌&&◌}
+use Rattle.std.proofs.Common.{◌≡◌, ℕ, List, [], ◌∷◌, sym, ap, ◌∙◌, subst, nat_le, ◌&&◌}
 use Rattle.dover_model.specs.Common.{Instance, IsValid, bare, State, open_step, after, Step, event_of, waits_for_mark}
 use Rattle.dover_model.specs.Common.{AreOverFor, Keeps, Settles, Idles}
 use Rattle.dover_model.proofs.steps.Kept.{open_kept}

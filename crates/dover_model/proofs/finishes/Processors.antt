@@ -1,10 +1,8 @@
 -- Which job has the processor, by what was printed, and so which finish is right.
-use Rattle.std.proofs.Common.{◌≡◌, ℕ, ◌+◌, ◌≤◌, ◌<◌, List, [], ◌∷◌, ◌++◌, length, map, refl, sym, ap, ◌∙◌, subst}
-use Rattle.std.proofs.Common.{Bool, true, false, cond, arith}
-use Rattle.std.specs.Prelude.{Option, Some, None, is_some, nat_lt, ◌==◌, ◌↔◌}
-use Rattle.std.specs.Option.{option_map}
-use Rattle.std.specs.List.{fold, cons_option}
-use Rattle.std.proofs.lemmas.Bool.{eqb-true, eq-eqb, ltb-true, ltb-false}
+use Rattle.std.proofs.Common.{◌≡◌, ℕ, ◌+◌, ◌≤◌, ◌<◌, List, [], ◌∷◌, ◌++◌, length, map, refl, sym, ap, ◌∙◌, subst, Bool}
+use Rattle.std.proofs.Common.{true, false, cond, arith, Option, Some, None, is_some, nat_lt, ◌==◌, ◌↔◌, option_map}
+use Rattle.std.proofs.Common.{fold, eqb-true, eq-eqb, ltb-true, ltb-false}
+use Rattle.std.specs.List.{cons_option}
 use Rattle.std.proofs.lemmas.List.Sums.{fold-append}
 use Rattle.dover_model.specs.Common.{Fraction, Rules, Instance, IsValid, Event, Release, Run, Preempt, Take, Complete}
 use Rattle.dover_model.specs.Common.{Abandon, End, Role, Coming, Fresh, Waiting, Held, Running, Done, Gone, Task, State}

@@ -1,10 +1,9 @@
 -- Only the running job comes to a finish, and a step says whether it has.
 use Rattle.std.proofs.Common.{◌≡◌, ◌≤◌, ◌⊎◌, List, [], ◌∷◌, inl, inr, refl, sym, ap, ◌∙◌, subst, Bool, true, false}
-use Rattle.std.proofs.Common.{cond, arith, eqb, not}
-use Rattle.std.specs.Prelude.{Option, Some, None, ◌==◌, ◌&&◌, ◌||◌, nat_lt}
+use Rattle.std.proofs.Common.{cond, arith, eqb, not, Option, Some, None, ◌==◌, ◌&&◌, ◌||◌, nat_lt, find, filter}
+use Rattle.std.proofs.Common.{eqb-true, lt-ltb}
 use Rattle.std.specs.Bool.{then_some}
-use Rattle.std.specs.List.{find, filter, list_all}
-use Rattle.std.proofs.lemmas.Bool.{eqb-true, lt-ltb}
+use Rattle.std.specs.List.{list_all}
 use Rattle.dover_model.specs.Common.{JobFacts, Fraction, Rules, Instance, IsValid, Finish, is_finish_of, is_due}
 use Rattle.dover_model.specs.Common.{goes_on, Role, Coming, Fresh, Waiting, Held, Running, Done, Gone, End, Task, State}
 use Rattle.dover_model.specs.Common.{opening, is_running, running, is_ready_behind, is_over, is_done, left, value_sum}

@@ -1,10 +1,8 @@
 -- What a right finish says, and where one is right.
-use Rattle.std.proofs.Common.{◌≡◌, ℕ, ◌<◌, refl, ap, ◌∙◌, Bool, true, false, cond}
-use Rattle.std.specs.Prelude.{Option, Some, None, nat_lt, ◌==◌}
+use Rattle.std.proofs.Common.{◌≡◌, ℕ, ◌<◌, refl, ap, ◌∙◌, Bool, true, false, cond, Option, Some, None, nat_lt, ◌==◌}
+use Rattle.std.proofs.Common.{option_and_then, eqb-true, eq-eqb}
 use Rattle.std.specs.Bool.{then_some}
-use Rattle.std.specs.Option.{option_and_then}
 use Rattle.std.specs.List.{AllByRecursion, list_all}
-use Rattle.std.proofs.lemmas.Bool.{eqb-true, eq-eqb}
 use Rattle.dover_model.specs.Common.{Instance, Task, running, is_running, Step, settled_steps, settled_state}
 use Rattle.dover_model.specs.Common.{finish_now, RunsAtMark, EarlyFinish, finish_at}
 use Rattle.dover_model.specs.Session.{finishing_at}

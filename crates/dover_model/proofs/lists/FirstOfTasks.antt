@@ -1,7 +1,5 @@
 -- The first of a list is one of it.
-use Rattle.std.proofs.Common.{◌≡◌, Bool, true, false, List, [], ◌∷◌, Some, refl, ap, inl, inr}
-use Rattle.std.proofs.Common.{sym, subst}
-use Rattle.std.specs.List.{fold}
+use Rattle.std.proofs.Common.{◌≡◌, Bool, true, false, List, [], ◌∷◌, Some, refl, ap, inl, inr, sym, subst, fold}
 use Rattle.dover_model.specs.Common.{earlier, first, IsMember}
 use Rattle.dover_model.proofs.lists.Members.{some_same}
 use Rattle.dover_model.proofs.lists.Tests.{none_is_some}

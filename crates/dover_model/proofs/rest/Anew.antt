@@ -1,9 +1,8 @@
 -- Runs one after another, each in a time of its own.
-use Rattle.std.proofs.Common.{◌≡◌, ℕ, zero, suc, ◌+◌, ◌-◌, ◌≤◌, inl, inr, List, [], ◌∷◌, ◌++◌, length, drop, take}
-use Rattle.std.proofs.Common.{map, refl, sym, ap, ◌∙◌, subst, arith, cond, Bool, true, false, append_assoc}
-use Rattle.std.proofs.Common.{replicate}
-use Rattle.std.specs.Prelude.{nat_le, ◌==◌}
-use Rattle.std.specs.List.{count_by, sum_by, fold, enumerate_from}
+use Rattle.std.proofs.Common.{◌≡◌, ℕ, zero, suc, ◌+◌, ◌-◌, ◌≤◌, inl, inr, List, [], ◌∷◌, ◌++◌, length, drop, take, map}
+use Rattle.std.proofs.Common.{refl, sym, ap, ◌∙◌, subst, arith, cond, Bool, true, false, append_assoc, replicate}
+use Rattle.std.proofs.Common.{nat_le, ◌==◌, count_by, sum_by, fold}
+use Rattle.std.specs.List.{enumerate_from}
 use Rattle.std.proofs.lemmas.List.Sums.{sum_by-cons}
 use Rattle.dover_model.specs.Common.{JobFacts, IsJob, Event, End, Coming, idle, Rules, Instance, IsValid, having}
 use Rattle.dover_model.specs.Common.{observed, observing, State, to_come, printed_of, printed, last_deadline}
@@ -18,12 +17,11 @@ use Rattle.dover_model.proofs.rest.TurnSchedules.{one_then, over_by, worth_one_t
 use Rattle.dover_model.proofs.runs.RunLaws.{one_run, tasks_in}
 use Rattle.dover_model.proofs.rest.Moving.{moved_task, moved_state, IsFitting, whole_later}
 use Rattle.dover_model.proofs.runs.Runs.{last_value, value_last}
-use Rattle.dover_model.proofs.rest.Resting.{at_tick, RunsFrom, alone, joined, runs_all, sees_all, later_due}
-use Rattle.dover_model.proofs.rest.Resting.{due_least, dues_mono}
+use Rattle.dover_model.proofs.rest.Resting.{at_tick, RunsFrom, alone, joined, runs_all, sees_all, later_due, due_least}
+use Rattle.dover_model.proofs.rest.Resting.{dues_mono}
 use Rattle.dover_model.proofs.rest.Apart.{settled_at_rest, behind_last}
-use Rattle.dover_model.proofs.bound.Calculus.{within_less, none_within}
+use Rattle.dover_model.proofs.bound.Calculus.{within_less, none_within, within_add}
 use Rattle.dover_model.proofs.rest.Parting.{worth_to, worth_append}
-use Rattle.dover_model.proofs.bound.Calculus.{within_add}
 use Rattle.dover_model.proofs.valid.ValidParts.{valid_parts}
 use Rattle.dover_model.proofs.valid.JobLimits.{job_limits}
 

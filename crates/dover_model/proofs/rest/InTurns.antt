@@ -14,9 +14,8 @@ use Rattle.dover_model.proofs.rest.Apart.{SettlesFrom, settles_alone, settles_jo
 use Rattle.dover_model.proofs.rest.Apart.{before_append, behind_last}
 use Rattle.dover_model.proofs.rest.Turns.{behind_twice, behind_none, before_twice, before_behind}
 use Rattle.dover_model.proofs.bound.BoundLaws.{bound, observed_bound}
-use Rattle.dover_model.proofs.bound.Calculus.{within_less, none_within}
+use Rattle.dover_model.proofs.bound.Calculus.{within_less, none_within, within_add}
 use Rattle.dover_model.proofs.rest.Parting.{worth_append}
-use Rattle.dover_model.proofs.bound.Calculus.{within_add}
 use Rattle.dover_model.proofs.lists.Members.{each_append}
 
 module _ (rules : Rules) where

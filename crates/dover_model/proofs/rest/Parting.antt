@@ -1,9 +1,8 @@
 -- What schedules of all jobs give to the jobs of a part, and sums of bounds.
-use Rattle.std.proofs.Common.{◌≡◌, ℕ, suc, ◌+◌, ◌-◌, ◌^◌, ◌≤◌, ◌<◌, inl, inr, List, [], ◌∷◌, ◌++◌}
-use Rattle.std.proofs.Common.{length, drop, take, map}
-use Rattle.std.proofs.Common.{refl, sym, ap, ◌∙◌, subst, arith, cond, eqb, Bool, true, false, IsTrue}
-use Rattle.std.specs.List.{count_by, sum_by, filter, enumerate_from, AllByRecursion}
-use Rattle.std.proofs.lemmas.Bool.{le-leb, leb-true, eqb-true, eq-eqb, ne_eqb}
+use Rattle.std.proofs.Common.{◌≡◌, ℕ, suc, ◌+◌, ◌-◌, ◌^◌, ◌≤◌, ◌<◌, inl, inr, List, [], ◌∷◌, ◌++◌, length, drop, take}
+use Rattle.std.proofs.Common.{map, refl, sym, ap, ◌∙◌, subst, arith, cond, eqb, Bool, true, false, IsTrue, count_by}
+use Rattle.std.proofs.Common.{sum_by, filter, le-leb, leb-true, eqb-true, eq-eqb, ne_eqb}
+use Rattle.std.specs.List.{enumerate_from, AllByRecursion}
 use Rattle.std.proofs.lemmas.List.{take-map, drop-map}
 use Rattle.std.proofs.lemmas.List.Sums.{sum_by-cons, sum_by-append}
 use Rattle.dover_model.specs.Common.{JobFacts, Fraction, Rules, Instance, IsValid, total_value, ticks_given, is_served}

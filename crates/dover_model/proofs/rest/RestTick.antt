@@ -1,10 +1,8 @@
 -- A run is at rest from the tick on at which it ends, and not before.
 use Rattle.std.proofs.Common.{◌≡◌, ℕ, ◌+◌, ◌≤◌, ◌<◌, ◌⊎◌, ◌↔◌, inl, inr, List, [], ◌∷◌, ◌++◌, map, refl, sym, ap, ◌∙◌}
-use Rattle.std.proofs.Common.{subst, Bool, true, false, cond, arith, eqb}
-use Rattle.std.specs.Prelude.{◌&&◌, nat_le}
-use Rattle.std.specs.Bool.{MatchBool}
-use Rattle.std.specs.List.{list_all, fold}
-use Rattle.std.proofs.lemmas.Bool.{lt-leb, eq-eqb, ne_eqb}
+use Rattle.std.proofs.Common.{subst, Bool, true, false, cond, arith, eqb, ◌&&◌, nat_le, MatchBool, fold, eq-eqb, ne_eqb}
+use Rattle.std.specs.List.{list_all}
+use Rattle.std.proofs.lemmas.Bool.{lt-leb}
 use Rattle.dover_model.specs.Common.{Fraction, Role, Coming, Fresh, Waiting, Held, Running, Gone, Task, Rules, Instance}
 use Rattle.dover_model.specs.Common.{IsValid, State, opening, is_over, is_running, is_ready_behind, Move, Ticks, step}
 use Rattle.dover_model.specs.Common.{open_step, after, with_role, displaced, Step, is_end, run, waits_for_mark}

@@ -1,10 +1,8 @@
 -- What turns complete is what one schedule of all their jobs, as they were observed, is worth.
 use Rattle.std.proofs.Common.{◌≡◌, ℕ, zero, suc, ◌+◌, ◌-◌, ◌≤◌, inl, inr, List, [], ◌∷◌, ◌++◌, length, drop, take, map}
 use Rattle.std.proofs.Common.{refl, sym, ap, ◌∙◌, subst, arith, cond, eqb, Bool, true, false, replicate, length-append}
-use Rattle.std.specs.Prelude.{None}
-use Rattle.std.specs.Bool.{MatchBool}
-use Rattle.std.specs.List.{count_by, sum_by, filter_map, cons_option, enumerate_from}
-use Rattle.std.proofs.lemmas.Bool.{le-leb, leb-true}
+use Rattle.std.proofs.Common.{None, MatchBool, count_by, sum_by, filter_map, le-leb, leb-true}
+use Rattle.std.specs.List.{cons_option, enumerate_from}
 use Rattle.std.proofs.lemmas.List.{take-map, drop-map, length-replicate}
 use Rattle.std.proofs.lemmas.List.Sums.{sum_by-cons, sum_by-append}
 use Rattle.dover_model.specs.Common.{idle, JobFacts, Rules, Instance, IsValid, having, State, opening, Move, Prints}

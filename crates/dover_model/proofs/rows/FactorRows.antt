@@ -1,6 +1,5 @@
 -- Feeds and traces with a factor, and its bounds, by computation.
-use Rattle.std.proofs.Common.{◌≡◌, ℕ, List, [], ◌∷◌, refl}
-use Rattle.std.specs.Prelude.{codes, true, false}
+use Rattle.std.proofs.Common.{◌≡◌, ℕ, List, [], ◌∷◌, refl, codes, true, false}
 use Rattle.std.specs.Fmt.{digits}
 use Rattle.dover_model.specs.Common.{Fraction, fraction, with_factor, is_heavy, instance_of, completed_value, bound}
 use Rattle.dover_model.specs.Common.{verdict, Verdict, Accepted, Wrong, closed}

@@ -1,6 +1,5 @@
 -- What is due for a feed, and at the end of its input, by computation.
-use Rattle.std.proofs.Common.{◌≡◌, [], refl}
-use Rattle.std.specs.Prelude.{codes}
+use Rattle.std.proofs.Common.{◌≡◌, [], refl, codes}
 use Rattle.std.specs.Fmt.{digits}
 use Rattle.dover_model.specs.Due.{due, closed}
 use Rattle.dover_model.proofs.rows.Written.{bytes}

@@ -1,6 +1,5 @@
 -- The limits that take long feeds to reach, by computation from an account or a list at the limit.
-use Rattle.std.proofs.Common.{◌≡◌, ℕ, ◌++◌, [], ◌∷◌, replicate, refl, Some, None}
-use Rattle.std.specs.Prelude.{codes}
+use Rattle.std.proofs.Common.{◌≡◌, ℕ, ◌++◌, [], ◌∷◌, replicate, refl, Some, None, codes}
 use Rattle.std.specs.Fmt.{digits}
 use Rattle.dover_model.specs.Common.{fraction, Version, One, Two, Three, BadJob, Total, Ratio, Declaration, refusal_of}
 use Rattle.dover_model.specs.Common.{new_session, Account, Open, Ended, Faulty, Lines, next_line, short_lines}

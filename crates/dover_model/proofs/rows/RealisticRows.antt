@@ -1,6 +1,5 @@
 -- A minute of frames, telemetry and alarms, by computation.
-use Rattle.std.proofs.Common.{◌≡◌, ◌++◌, [], ◌∷◌, refl}
-use Rattle.std.specs.Prelude.{codes}
+use Rattle.std.proofs.Common.{◌≡◌, ◌++◌, [], ◌∷◌, refl, codes}
 use Rattle.std.specs.Fmt.{digits}
 use Rattle.dover_model.specs.Common.{Instance, trace, report, table}
 use Rattle.dover_model.proofs.rows.Written.{job, one, bytes}

@@ -1,6 +1,5 @@
 -- Refused job lines of version Two, by computation.
-use Rattle.std.proofs.Common.{◌≡◌, refl}
-use Rattle.std.specs.Prelude.{codes}
+use Rattle.std.proofs.Common.{◌≡◌, refl, codes}
 use Rattle.std.specs.Fmt.{digits}
 use Rattle.dover_model.specs.Due.{due, closed}
 use Rattle.dover_model.proofs.rows.Written.{bytes}

@@ -1,6 +1,5 @@
 -- Reports and intervals, by computation.
-use Rattle.std.proofs.Common.{◌≡◌, [], ◌∷◌, true, false, refl}
-use Rattle.std.specs.Prelude.{codes}
+use Rattle.std.proofs.Common.{◌≡◌, [], ◌∷◌, true, false, refl, codes}
 use Rattle.std.specs.Fmt.{digits}
 use Rattle.dover_model.specs.Common.{fraction, Instance, ran, completed_value, worth, generated_jobs, intervals, report}
 use Rattle.dover_model.specs.Common.{table, summary}

@@ -1,6 +1,5 @@
 -- A run that falls apart at rest, turns, jobs moved in time and jobs in parts, by computation.
-use Rattle.std.proofs.Common.{◌≡◌, ℕ, List, [], ◌∷◌, ◌++◌, map, refl, cond}
-use Rattle.std.specs.Prelude.{◌==◌}
+use Rattle.std.proofs.Common.{◌≡◌, ℕ, List, [], ◌∷◌, ◌++◌, map, refl, cond, ◌==◌}
 use Rattle.dover_model.specs.Common.{Event, Release, Run, Preempt, Complete, End, JobFacts, printed, completed_value}
 use Rattle.dover_model.specs.Common.{settled, end_tick, behind, before_end, Turn, turns_jobs, turns_finishes, anew}
 use Rattle.dover_model.specs.Common.{one_run, turns_observed, printed_turns, completed_turns, printed_anew, part_of}

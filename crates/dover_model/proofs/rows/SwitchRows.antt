@@ -1,6 +1,5 @@
 -- Worked rows: how often the processor changes hands, and what that costs.
-use Rattle.std.proofs.Common.{◌≡◌, ℕ, [], ◌∷◌, refl, false}
-use Rattle.std.specs.List.{count_by}
+use Rattle.std.proofs.Common.{◌≡◌, ℕ, [], ◌∷◌, refl, false, count_by}
 use Rattle.dover_model.specs.Common.{Finish, Instance, finishing, Release, Run, Preempt, Take, Complete, End, printed}
 use Rattle.dover_model.specs.Common.{run, ran, completed_value, numbered, gets, changes_hands, most_changes, useful}
 use Rattle.dover_model.specs.Common.{gains_from, worth_by}

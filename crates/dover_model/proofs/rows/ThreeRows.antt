@@ -1,6 +1,5 @@
 -- Feeds and traces of version Three, by computation.
-use Rattle.std.proofs.Common.{◌≡◌, ℕ, List, [], ◌∷◌, ◌++◌, refl}
-use Rattle.std.specs.Prelude.{codes}
+use Rattle.std.proofs.Common.{◌≡◌, ℕ, List, [], ◌∷◌, ◌++◌, refl, codes}
 use Rattle.std.specs.Fmt.{digits}
 use Rattle.dover_model.specs.Common.{Abandon, Complete, End, instance_of, completed_value, bound, verdict, Verdict}
 use Rattle.dover_model.specs.Common.{Accepted, Wrong, closed, due}

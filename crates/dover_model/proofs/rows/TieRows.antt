@@ -1,6 +1,5 @@
 -- The same jobs in both versions, by computation: version Two breaks ties by value.
-use Rattle.std.proofs.Common.{◌≡◌, [], ◌∷◌, refl}
-use Rattle.std.specs.Prelude.{codes}
+use Rattle.std.proofs.Common.{◌≡◌, [], ◌∷◌, refl, codes}
 use Rattle.std.specs.Fmt.{digits}
 use Rattle.dover_model.specs.Trace.{trace}
 use Rattle.dover_model.proofs.rows.Written.{job, one, two, bytes}

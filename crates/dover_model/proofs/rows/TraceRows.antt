@@ -1,6 +1,5 @@
 -- Traces of version One, by computation.
-use Rattle.std.proofs.Common.{◌≡◌, ◌++◌, [], ◌∷◌, refl}
-use Rattle.std.specs.Prelude.{codes}
+use Rattle.std.proofs.Common.{◌≡◌, ◌++◌, [], ◌∷◌, refl, codes}
 use Rattle.std.specs.Fmt.{digits}
 use Rattle.dover_model.specs.Trace.{trace}
 use Rattle.dover_model.proofs.rows.Written.{job, one, bytes}

@@ -1,6 +1,5 @@
 -- Verdicts on texts, by computation.
-use Rattle.std.proofs.Common.{◌≡◌, ◌++◌, ℕ, List, [], ◌∷◌, refl}
-use Rattle.std.specs.Prelude.{codes}
+use Rattle.std.proofs.Common.{◌≡◌, ◌++◌, ℕ, List, [], ◌∷◌, refl, codes}
 use Rattle.std.specs.Fmt.{digits}
 use Rattle.dover_model.specs.Common.{Run, Complete, Abandon, End, instance_of, completed_value, bound, verdict, Verdict}
 use Rattle.dover_model.specs.Common.{Accepted, Wrong, Header, Nothing}

@@ -1,10 +1,9 @@
 -- The run of a valid instance ends, within the fuel of `run`, and so many steps are printed at most.
 use Rattle.std.proofs.Common.{◌≡◌, ℕ, suc, zero, ◌+◌, ◌-◌, ◌*◌, ◌≤◌, ◌<◌, ◌⊎◌, inl, inr, List, [], ◌∷◌, length, refl}
-use Rattle.std.proofs.Common.{sym, ap, ◌∙◌, subst, Bool, true, false, arith, cond}
-use Rattle.std.specs.Prelude.{Option, Some, None, nat_le}
-use Rattle.std.specs.Bool.{MatchBool, then_some}
-use Rattle.std.specs.List.{AllByRecursion, list_all, fold, sum_by, filter, cons_option}
-use Rattle.std.proofs.lemmas.Bool.{leb-true, leb-false}
+use Rattle.std.proofs.Common.{sym, ap, ◌∙◌, subst, Bool, true, false, arith, cond, Option, Some, None, nat_le}
+use Rattle.std.proofs.Common.{MatchBool, fold, sum_by, filter, leb-true, leb-false}
+use Rattle.std.specs.Bool.{then_some}
+use Rattle.std.specs.List.{AllByRecursion, list_all, cons_option}
 use Rattle.std.proofs.lemmas.List.Sums.{sum_by-cons}
 use Rattle.dover_model.specs.Common.{Event, End, Coming, Fresh, Waiting, Held, Running, Done, Gone, Role, Task}
 use Rattle.dover_model.specs.Common.{JobFacts, IsJob, Rules, Instance, IsValid, State, opening, to_come, is_over}

@@ -1,8 +1,6 @@
 -- Comparisons are paid for whatever finishes now, where the last step was a silent tick.
 use Rattle.std.proofs.Common.{◌≡◌, ℕ, ◌+◌, ◌-◌, ◌*◌, ◌≤◌, ◌⊎◌, inl, inr, List, [], ◌∷◌, length, refl, sym, ap, ◌∙◌}
-use Rattle.std.proofs.Common.{subst}
-use Rattle.std.proofs.Common.{Bool, true, false, cond, arith, eqb}
-use Rattle.std.proofs.lemmas.Bool.{eqb-true}
+use Rattle.std.proofs.Common.{subst, Bool, true, false, cond, arith, eqb, eqb-true}
 use Rattle.std.proofs.lemmas.Nat.{mul-le}
 use Rattle.dover_model.specs.Common.{Fresh, Waiting, Task, Rules, Instance, IsValid, bare, State, is_waiting, Move}
 use Rattle.dover_model.specs.Common.{Prints, Waits, Ticks, open_step, after, with_role, ticked, Step, IsMember, Keeps}

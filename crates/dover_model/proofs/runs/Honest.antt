@@ -1,12 +1,11 @@
 -- The jobs done at the end of a run are those that its own schedule serves.
 use Rattle.std.proofs.Common.{◌≡◌, ℕ, suc, zero, ◌+◌, ◌≤◌, ◌<◌, ◌⊎◌, inl, inr, List, [], ◌∷◌, ◌++◌, length, map, take}
 use Rattle.std.proofs.Common.{refl, sym, ap, ◌∙◌, subst, Bool, true, false, cond, eqb, arith, add-one, append_assoc}
-use Rattle.std.specs.Prelude.{Option, Some, None, nat_le}
-use Rattle.std.specs.Bool.{MatchBool}
-use Rattle.std.specs.List.{sum_by, filter, filter_map, cons_option, enumerate_from, fold}
-use Rattle.std.proofs.lemmas.Bool.{le-leb, leb-true, eq-eqb, ne_eqb}
+use Rattle.std.proofs.Common.{Option, Some, None, nat_le, MatchBool, sum_by, filter, filter_map, fold, le-leb, leb-true}
+use Rattle.std.proofs.Common.{eq-eqb, ne_eqb, append-nil}
+use Rattle.std.specs.List.{cons_option, enumerate_from}
 use Rattle.std.proofs.lemmas.List.Sums.{sum_by-cons}
-use Rattle.std.proofs.lemmas.List.{length_push, append-nil}
+use Rattle.std.proofs.lemmas.List.{length_push}
 use Rattle.dover_model.specs.Common.{NoneBefore, JobFacts, Event, End, Role, Coming, Fresh, Waiting, Held, Running}
 use Rattle.dover_model.specs.Common.{Done, Gone, Task, Instance, IsValid, ticks_given, is_served, worth, Finish, need}
 use Rattle.dover_model.specs.Common.{observing, observed, State, opening, running, is_running, is_privileged, is_over}

@@ -1,9 +1,7 @@
 -- Where no window is overfull, the run goes by deadlines: no job is refused, and none is lost.
 use Rattle.std.proofs.Common.{◌≡◌, ℕ, ◌+◌, ◌≤◌, ◌<◌, ◌⊎◌, inl, inr, List, refl, sym, ap, ◌∙◌, subst, Bool, true, false}
-use Rattle.std.proofs.Common.{cond, eqb, arith}
-use Rattle.std.specs.Prelude.{nat_lt, nat_le}
-use Rattle.std.specs.List.{sum_by}
-use Rattle.std.proofs.lemmas.Bool.{ltb-true, le-leb, eqb-true, eq-eqb, ne_eqb, and_from, cases_lt}
+use Rattle.std.proofs.Common.{cond, eqb, arith, nat_lt, nat_le, sum_by, ltb-true, le-leb, eqb-true, eq-eqb, ne_eqb}
+use Rattle.std.proofs.lemmas.Bool.{and_from, cases_lt}
 use Rattle.dover_model.specs.Common.{Role, Waiting, Running, Done, Gone, Task, State, is_privileged, left, latest_start}
 use Rattle.dover_model.specs.Common.{with_role, IsMember, Each, EachTwo, IsSound, is_inside}
 use Rattle.dover_model.proofs.lists.Members.{sum_le, sum_plus}

@@ -1,9 +1,7 @@
 -- A number that falls at each step but a silent tick: what each job can still bring about.
 use Rattle.std.proofs.Common.{◌≡◌, ℕ, ◌+◌, ◌-◌, ◌≤◌, ◌<◌, ◌⊎◌, inl, inr, List, map, refl, sym, ap, ◌∙◌, subst, Bool}
-use Rattle.std.proofs.Common.{true, false, cond, ◌||◌, arith, eqb}
-use Rattle.std.specs.Prelude.{nat_lt}
-use Rattle.std.specs.List.{sum_by}
-use Rattle.std.proofs.lemmas.Bool.{ltb-true, ltb-false, lt-ltb, eq-eqb, ne_eqb}
+use Rattle.std.proofs.Common.{true, false, cond, ◌||◌, arith, eqb, nat_lt, sum_by, ltb-true, ltb-false, lt-ltb, eq-eqb}
+use Rattle.std.proofs.Common.{ne_eqb}
 use Rattle.dover_model.specs.Common.{Fraction, Role, Coming, Fresh, Waiting, Held, Running, Done, Gone, Take, Preempt}
 use Rattle.dover_model.specs.Common.{Task, State, is_running, is_privileged, is_ready_behind, privileged, left}
 use Rattle.dover_model.specs.Common.{latest_start, value_sum, is_heavy, Finish, goes_on, Move, Prints, Ticks, after}

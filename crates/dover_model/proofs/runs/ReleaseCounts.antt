@@ -1,10 +1,9 @@
 -- A run releases each of its jobs, and so does what is settled at a mark, where none is released later.
 use Rattle.std.proofs.Common.{◌≡◌, ℕ, ◌+◌, ◌*◌, ◌≤◌, ◌⊎◌, inl, inr, List, [], ◌∷◌, length, map, refl, sym, ap, ◌∙◌}
-use Rattle.std.proofs.Common.{subst, Bool, true, false, cond, arith, eqb, filter_map}
-use Rattle.std.specs.Prelude.{Option, Some, None}
-use Rattle.std.specs.Bool.{MatchBool, then_some}
-use Rattle.std.specs.List.{AllByRecursion, sum_by, cons_option, list_all, filter}
-use Rattle.std.proofs.lemmas.Bool.{eq-eqb, eqb-true}
+use Rattle.std.proofs.Common.{subst, Bool, true, false, cond, arith, eqb, filter_map, Option, Some, None, MatchBool}
+use Rattle.std.proofs.Common.{sum_by, filter, eq-eqb, eqb-true}
+use Rattle.std.specs.Bool.{then_some}
+use Rattle.std.specs.List.{AllByRecursion, cons_option, list_all}
 use Rattle.dover_model.specs.Common.{JobFacts, Event, Release, Run, Preempt, Take, Complete, Abandon, End, Role, Coming}
 use Rattle.dover_model.specs.Common.{Fresh, Waiting, Held, Running, Done, Gone, Task, Rules, Instance, IsValid, State}
 use Rattle.dover_model.specs.Common.{opening, is_coming, is_over, is_done, value_sum, Move, Prints, Waits, Ticks, step}

@@ -1,8 +1,6 @@
 -- Where no job is to come, none comes, and none is released.
 use Rattle.std.proofs.Common.{◌≡◌, List, false, Bool, true, cond, refl, eqb, ℕ, ◌∷◌, subst, sym, ◌∙◌, ap, ◌<◌, map, []}
-use Rattle.std.proofs.Common.{arith, inl, inr, ◌++◌, length}
-use Rattle.std.specs.Prelude.{None}
-use Rattle.std.proofs.lemmas.Bool.{ne_eqb, eq-eqb}
+use Rattle.std.proofs.Common.{arith, inl, inr, ◌++◌, length, None, ne_eqb, eq-eqb}
 use Rattle.std.proofs.lemmas.List.{map-append}
 use Rattle.dover_model.specs.Common.{Task, is_coming, State, with_later, Each, Keeps, Role, with_role, displaced}
 use Rattle.dover_model.specs.Common.{role_after, Move, Prints, Waits, Ticks, after, ticked, open_step, Coming, Fresh}

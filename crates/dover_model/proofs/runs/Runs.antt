@@ -1,9 +1,8 @@
 -- What each step of a run meets: a fact that each step keeps, and a processor that is busy while a job is ready.
 use Rattle.std.proofs.Common.{◌≡◌, ℕ, ◌⊎◌, inl, inr, List, [], ◌∷◌, ◌++◌, refl, sym, ap, ◌∙◌, subst, Bool, true, false}
-use Rattle.std.proofs.Common.{cond, arith}
-use Rattle.std.specs.Prelude.{Option, Some, None}
-use Rattle.std.specs.Bool.{MatchBool, then_some}
-use Rattle.std.specs.List.{list_all, filter, fold, cons_option, sum_by}
+use Rattle.std.proofs.Common.{cond, arith, Option, Some, None, MatchBool, filter, fold, sum_by}
+use Rattle.std.specs.Bool.{then_some}
+use Rattle.std.specs.List.{list_all, cons_option}
 use Rattle.dover_model.specs.Common.{Event, End, Coming, Fresh, Running, Done, Gone, Task, Rules, Instance, IsValid}
 use Rattle.dover_model.specs.Common.{State, opening, is_over, is_done, is_ready_behind, value_sum, Move, Prints, Waits}
 use Rattle.dover_model.specs.Common.{Ticks, step, after, ending, ◌or_else◌, Step, is_end, event_of, printed_of, run}

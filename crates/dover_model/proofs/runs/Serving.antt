@@ -1,11 +1,9 @@
 -- Where some schedule serves every job, no window is overfull: its jobs have no more work than it has ticks.
 use Rattle.std.proofs.Common.{◌≡◌, ℕ, suc, zero, ◌+◌, ◌-◌, ◌≤◌, ◌<◌, List, [], ◌∷◌, length, take, drop, refl, sym, ap}
-use Rattle.std.proofs.Common.{◌∙◌, Bool, true, false, cond}
-use Rattle.std.proofs.Common.{eqb, arith, IsTrue}
-use Rattle.std.specs.Prelude.{nat_le}
-use Rattle.std.specs.List.{sum_by, count_by, enumerate_from}
-use Rattle.std.proofs.lemmas.Bool.{leb-true, eqb-true, and_parts}
-use Rattle.std.proofs.lemmas.List.{length-drop, length-take}
+use Rattle.std.proofs.Common.{◌∙◌, Bool, true, false, cond, eqb, arith, IsTrue, nat_le, sum_by, count_by, leb-true}
+use Rattle.std.proofs.Common.{eqb-true, length-drop, length-take}
+use Rattle.std.specs.List.{enumerate_from}
+use Rattle.std.proofs.lemmas.Bool.{and_parts}
 use Rattle.std.proofs.lemmas.List.Sums.{sum_by-cons}
 use Rattle.dover_model.specs.Common.{JobFacts, Instance, ticks_given, is_served, numbered, Meets, Task, IsMember}
 use Rattle.dover_model.specs.Common.{jobs_of, is_inside}

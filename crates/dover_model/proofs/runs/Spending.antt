@@ -1,8 +1,7 @@
 -- How comparisons are paid for: each step pays for the times that jobs begin and cease to wait by it.
 use Rattle.std.proofs.Common.{ℕ, ◌≤◌, arith, ◌||◌, ◌*◌, ◌-◌, List, ◌∷◌, length, ◌≡◌, ◌+◌, subst, ◌<◌, ◌^◌, ap, ◌⊎◌, inl}
-use Rattle.std.proofs.Common.{[], inr, refl, Bool, true, false, ◌++◌, sym, cond, ◌∙◌, not, eq-eqb}
-use Rattle.std.specs.Prelude.{nat_lt, ◌&&◌}
-use Rattle.std.specs.List.{sum_by, count_by}
+use Rattle.std.proofs.Common.{[], inr, refl, Bool, true, false, ◌++◌, sym, cond, ◌∙◌, not, eq-eqb, nat_lt, ◌&&◌, sum_by}
+use Rattle.std.proofs.Common.{count_by}
 use Rattle.std.proofs.lemmas.List.Sums.{sum_by-cons, sum_by-append}
 use Rattle.std.proofs.lemmas.Nat.{mul-le}
 use Rattle.std.proofs.lemmas.List.{length-map}

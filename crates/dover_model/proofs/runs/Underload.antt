@@ -1,9 +1,7 @@
 -- Where no window is overfull, each step keeps the order by deadlines, and none is a take or an abandonment.
 use Rattle.std.proofs.Common.{◌≡◌, ℕ, ◌+◌, ◌≤◌, ◌<◌, ◌⊎◌, inl, inr, List, map, refl, sym, ◌∙◌, subst, Bool, true, false}
-use Rattle.std.proofs.Common.{cond, arith}
-use Rattle.std.specs.Prelude.{nat_le}
-use Rattle.std.specs.List.{sum_by}
-use Rattle.std.proofs.lemmas.Bool.{le-leb, and_from, cases_lt}
+use Rattle.std.proofs.Common.{cond, arith, nat_le, sum_by, le-leb}
+use Rattle.std.proofs.lemmas.Bool.{and_from, cases_lt}
 use Rattle.dover_model.specs.Common.{Fraction, Role, Coming, Fresh, Waiting, Held, Running, Done, Gone, Preempt, Task}
 use Rattle.dover_model.specs.Common.{State, is_privileged, is_running, is_ready_behind, left, Move, Prints, Ticks}
 use Rattle.dover_model.specs.Common.{after, with_role, ticked, IsMember, Each, NoneRuns, IsSound, takes_or_abandons}

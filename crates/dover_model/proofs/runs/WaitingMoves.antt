@@ -1,9 +1,8 @@
 -- Over a run, jobs begin and cease to wait four times for each job at most.
 use Rattle.std.proofs.Common.{◌≡◌, ℕ, ◌+◌, ◌*◌, ◌≤◌, ◌⊎◌, inl, inr, List, [], ◌∷◌, length, refl, sym, ap, ◌∙◌, subst}
-use Rattle.std.proofs.Common.{Bool, true, false, not, arith}
-use Rattle.std.specs.Prelude.{◌&&◌}
-use Rattle.std.specs.Bool.{MatchBool, then_some}
-use Rattle.std.specs.List.{sum_by, list_all, filter}
+use Rattle.std.proofs.Common.{Bool, true, false, not, arith, ◌&&◌, MatchBool, sum_by, filter}
+use Rattle.std.specs.Bool.{then_some}
+use Rattle.std.specs.List.{list_all}
 use Rattle.std.proofs.lemmas.List.Sums.{sum_by-cons}
 use Rattle.dover_model.specs.Common.{JobFacts, End, Coming, Done, Gone, Task, Rules, Instance, IsValid, State, opening}
 use Rattle.dover_model.specs.Common.{to_come, is_waiting, is_over, is_done, value_sum, Move, Prints, Waits, Ticks, step}

@@ -1,13 +1,10 @@
 -- What is due for a feed only grows, line by line, and the session of a feed that is ended is valid.
 use Rattle.std.proofs.Common.{◌≡◌, ℕ, suc, ◌+◌, ◌≤◌, max, List, [], ◌∷◌, ◌++◌, length, length-append, map, refl, sym}
-use Rattle.std.proofs.Common.{ap, ◌∙◌, subst, Bool, true, false, cond, ◌||◌, arith, Option, Some, None, is_some}
+use Rattle.std.proofs.Common.{ap, ◌∙◌, subst, Bool, true, false, cond, ◌||◌, arith, Option, Some, None, is_some, ◌==◌}
+use Rattle.std.proofs.Common.{nat_lt, nat_le, ◌<◌, ◌&&◌, fold, option_map, ltb-false, leb-true, leb-false, append_assoc}
+use Rattle.std.proofs.Common.{append-nil}
 use Rattle.std.specs.Bool.{then_some}
-use Rattle.std.specs.Prelude.{◌==◌}
-use Rattle.std.specs.Prelude.{nat_lt, nat_le, ◌<◌, ◌&&◌}
-use Rattle.std.specs.List.{fold}
-use Rattle.std.specs.Option.{option_map}
-use Rattle.std.proofs.lemmas.Bool.{ltb-false, leb-true, leb-false, and_parts, and_right}
-use Rattle.std.proofs.lemmas.List.{append_assoc, append-nil}
+use Rattle.std.proofs.lemmas.Bool.{and_parts, and_right}
 use Rattle.dover_model.specs.Common.{BadJob, Count, Total, Ratio, Late, Full, last_tick, most_lines, Version, One, Two}
 use Rattle.dover_model.specs.Common.{Three, Refusal, JobFacts, job_numbers, IsRatio, is_ratio, fraction, with_factor}
 use Rattle.dover_model.specs.Common.{Declaration, with_jobs, AreShort, refusal_of, Item, JobItem, RefusedItem}
@@ -28,11 +25,10 @@ use Rattle.dover_model.proofs.texts.ReadShort.{read_HasNumerals}
 use Rattle.dover_model.proofs.lists.Beginnings.{begins_itself, begins_all, begins_onward, begins_behind, begins_map}
 use Rattle.dover_model.proofs.lists.Beginnings.{begins_in_lines}
 use Rattle.dover_model.proofs.sessions.Growing.{Reads, lines_at, all_lines, reads_new, reads_later, lines_later}
-use Rattle.dover_model.proofs.sessions.Growing.{lines_of_trace}
+use Rattle.dover_model.proofs.sessions.Growing.{lines_of_trace, early_says, right_again, instance_with, reads_job}
+use Rattle.dover_model.proofs.sessions.Growing.{lines_job, Finishes, finishing_job, reads_finish, lines_finish}
+use Rattle.dover_model.proofs.sessions.Growing.{reads_refused, lines_refused}
 use Rattle.dover_model.proofs.finishes.RightFinishes.{FinishSays}
-use Rattle.dover_model.proofs.sessions.Growing.{early_says, right_again, instance_with, reads_job, lines_job}
-use Rattle.dover_model.proofs.sessions.Growing.{Finishes, finishing_job, reads_finish, lines_finish, reads_refused}
-use Rattle.dover_model.proofs.sessions.Growing.{lines_refused}
 use Rattle.dover_model.proofs.lists.Members.{some_same}
 use Rattle.dover_model.proofs.lists.Tests.{none_is_some, never}
 use Rattle.dover_model.proofs.finishes.Meeting.{finishing_valid}

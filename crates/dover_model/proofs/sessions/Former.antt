@@ -1,7 +1,6 @@
 -- Sessions of versions One and Two are what they were before version Three.
-use Rattle.std.proofs.Common.{◌≡◌, ℕ, ◌≤◌, max, List, [], ◌∷◌, ◌++◌, refl, sym, ap, ◌∙◌, Bool, true, false, cond}
-use Rattle.std.specs.Prelude.{Some, None, nat_lt}
-use Rattle.std.proofs.lemmas.Bool.{ltb-false}
+use Rattle.std.proofs.Common.{◌≡◌, ℕ, ◌≤◌, max, List, [], ◌∷◌, ◌++◌, refl, sym, ap, ◌∙◌, Bool, true, false, cond, Some}
+use Rattle.std.proofs.Common.{None, nat_lt, ltb-false}
 use Rattle.dover_model.specs.Common.{Version, One, Two, Three, Refusal, JobFacts, Declaration, refusal_of, Item}
 use Rattle.dover_model.specs.Common.{JobItem, RefusedItem, FinishItem, Session, instance_of, session_with}
 use Rattle.dover_model.specs.Common.{admitted_jobs, early_finishes, may_finish_early, late_refusal, finish_at, early_at}

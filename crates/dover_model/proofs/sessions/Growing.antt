@@ -1,12 +1,10 @@
 -- The lines of a session's trace so far: what a later tick, a job and a refused line add to them, and the items that
 -- they name.
 use Rattle.std.proofs.Common.{◌≡◌, ℕ, ◌+◌, ◌≤◌, List, [], ◌∷◌, ◌++◌, length, length-append, map, refl, sym, ap, ◌∙◌}
-use Rattle.std.proofs.Common.{subst, arith, Bool, true, false, cond}
-use Rattle.std.specs.Prelude.{Option, Some, None}
-use Rattle.std.specs.Option.{option_or, option_map}
+use Rattle.std.proofs.Common.{subst, arith, Bool, true, false, cond, Option, Some, None, option_map, fold, append-nil}
+use Rattle.std.specs.Option.{option_or}
 use Rattle.std.proofs.lemmas.List.Sums.{fold-append}
-use Rattle.std.specs.List.{AllByRecursion, fold}
-use Rattle.std.proofs.lemmas.List.{append-nil}
+use Rattle.std.specs.List.{AllByRecursion}
 use Rattle.std.proofs.lemmas.List.Elements.{filter_map-append}
 use Rattle.dover_model.specs.Common.{Event, Release, Run, Preempt, Take, Complete, Abandon, End, JobFacts, IsRatio}
 use Rattle.dover_model.specs.Common.{Declaration, under, Instance, IsValid, with_jobs, with_finishes, printed, settled}

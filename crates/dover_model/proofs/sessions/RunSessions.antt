@@ -1,10 +1,9 @@
 -- The session of a run is valid, and its run is that run.
-use Rattle.std.proofs.Common.{◌≡◌, ℕ, ◌+◌, ◌≤◌, inl, inr, max, List, [], ◌∷◌, ◌++◌, length, map, append_assoc}
-use Rattle.std.proofs.Common.{refl, sym, ap, ◌∙◌, subst, Bool, true, false, cond, arith, append-nil}
-use Rattle.std.specs.Prelude.{Option, Some, None}
-use Rattle.std.specs.Bool.{MatchBool}
+use Rattle.std.proofs.Common.{◌≡◌, ℕ, ◌+◌, ◌≤◌, inl, inr, max, List, [], ◌∷◌, ◌++◌, length, map, append_assoc, refl}
+use Rattle.std.proofs.Common.{sym, ap, ◌∙◌, subst, Bool, true, false, cond, arith, append-nil, Option, Some, None}
+use Rattle.std.proofs.Common.{MatchBool, count_by, filter}
 use Rattle.std.proofs.lemmas.List.Sums.{sum_by-cons}
-use Rattle.std.specs.List.{count_by, filter, cons_option}
+use Rattle.std.specs.List.{cons_option}
 use Rattle.std.proofs.lemmas.List.Elements.{filter_map-append}
 use Rattle.dover_model.specs.Common.{IsJob, last_tick, most_items, Release, Run, Preempt, Take, Complete, Abandon, End}
 use Rattle.dover_model.specs.Common.{Running, Task, Finish, Instance, IsValid, declared_by, having, finishing, State}
@@ -14,7 +13,7 @@ use Rattle.dover_model.specs.Common.{printed_of, event_of, step_at, IsWholeRun, 
 use Rattle.dover_model.specs.Common.{Each, Keeps, Item, JobItem, instance_of, admitted_jobs, early_finishes}
 use Rattle.dover_model.specs.Common.{session_with, may_finish_early, IsValidSession, IsNeverFull, early_of, handed_by}
 use Rattle.dover_model.specs.Common.{session_of_run}
-use Rattle.dover_model.proofs.sessions.SessionParts.{early_declarable}
+use Rattle.dover_model.proofs.sessions.SessionParts.{early_declarable, FollowsItems, session_from}
 use Rattle.dover_model.proofs.lists.Members.{found, some_same}
 use Rattle.dover_model.proofs.steps.Roles.{passes, is_running_role}
 use Rattle.dover_model.proofs.steps.Moves.{active_slack}
@@ -32,7 +31,6 @@ use Rattle.dover_model.proofs.steps.Shown.{Finishes}
 use Rattle.dover_model.proofs.finishes.EarlyEnds.{as_open, same_here, AreOf, shown_own, shown_all, path_of, opening_in}
 use Rattle.dover_model.proofs.finishes.EarlyEnds.{right_there}
 use Rattle.dover_model.proofs.valid.Limiting.{items_enough}
-use Rattle.dover_model.proofs.sessions.SessionParts.{FollowsItems, session_from}
 use Rattle.dover_model.proofs.valid.ValidParts.{valid_parts}
 use Rattle.dover_model.proofs.valid.JobLimits.{job_limits}
 

@@ -1,7 +1,6 @@
 -- A valid session's parts: what its test says of its items one by one, as facts.
-use Rattle.std.proofs.Common.{◌≡◌, ℕ, ◌^◌, ◌<◌, ◌≤◌, ◌↔◌, List, [], ◌∷◌, ◌++◌, length, max, Option, Some, None}
-use Rattle.std.proofs.Common.{IsTrue, refl}
-use Rattle.std.proofs.Common.{ap, subst, sym, ◌∙◌, Bool, true, false, not}
+use Rattle.std.proofs.Common.{◌≡◌, ℕ, ◌^◌, ◌<◌, ◌≤◌, ◌↔◌, List, [], ◌∷◌, ◌++◌, length, max, Option, Some, None, IsTrue}
+use Rattle.std.proofs.Common.{refl, ap, subst, sym, ◌∙◌, Bool, true, false, not, eqb-true, eq-eqb, ◌==◌, ◌&&◌, nat_lt}
 use Rattle.dover_model.proofs.lists.Tests.{never, both, at_most, below, each}
 use Rattle.dover_model.specs.Common.{Refusal, BadJob, Count, Total, Ratio, Late, Full, last_tick, most_items, JobFacts}
 use Rattle.dover_model.specs.Common.{job_numbers, AreShort, Declaration, IsValid, Item, JobItem, RefusedItem}
@@ -13,8 +12,6 @@ use Rattle.dover_model.specs.Limits.{most_digits}
 use Rattle.dover_model.specs.Session.{may_refuse, is_finish, is_refusal, may_be_admitted, follows_items, may_finish}
 use Rattle.dover_model.specs.Session.{takes_factors}
 use Rattle.dover_model.proofs.lists.Members.{some_same}
-use Rattle.std.proofs.lemmas.Bool.{eqb-true, eq-eqb}
-use Rattle.std.specs.Prelude.{◌==◌, ◌&&◌, nat_lt}
 use Rattle.std.specs.List.{list_all}
 
 -- a job line may be refused behind a session at this mark, which it has raised if it had to

@@ -1,9 +1,7 @@
 -- A valid session, item by item: each prefix of its items is a session whose lines begin its trace.
 use Rattle.std.proofs.Common.{◌≡◌, ℕ, ◌≤◌, ◌⊎◌, inl, inr, max, List, [], ◌∷◌, ◌++◌, length, length-append, refl, sym}
-use Rattle.std.proofs.Common.{ap, ◌∙◌, subst, arith, Option, Some, None}
-use Rattle.std.specs.List.{fold}
+use Rattle.std.proofs.Common.{ap, ◌∙◌, subst, arith, Option, Some, None, fold, append_assoc, append-nil}
 use Rattle.std.proofs.lemmas.List.Sums.{fold-append}
-use Rattle.std.proofs.lemmas.List.{append_assoc, append-nil}
 use Rattle.std.proofs.lemmas.List.Elements.{filter_map-append}
 use Rattle.dover_model.specs.Common.{Release, Complete, Declaration, IsValid, with_jobs, Item, JobItem, RefusedItem}
 use Rattle.dover_model.specs.Common.{Session, instance_of, admitted_jobs, job_of_item, with_named, FinishItem}

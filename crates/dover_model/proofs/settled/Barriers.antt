@@ -1,6 +1,5 @@
 -- The state in which the settled steps of a mark end: the clock is the mark, and no job is fresh.
-use Rattle.std.proofs.Common.{◌≡◌, ℕ, ◌+◌, ◌≤◌, ◌<◌, ◌⊎◌, inl, inr, List, [], ◌∷◌, sym, ap, subst, true, arith}
-use Rattle.std.specs.List.{fold}
+use Rattle.std.proofs.Common.{◌≡◌, ℕ, ◌+◌, ◌≤◌, ◌<◌, ◌⊎◌, inl, inr, List, [], ◌∷◌, sym, ap, subst, true, arith, fold}
 use Rattle.dover_model.specs.Common.{Fraction, Fresh, Instance, IsValid, State, opening, Move, Ticks, open_step, after}
 use Rattle.dover_model.specs.Common.{Step, waits_for_mark, settled_state, IsBarrier, IsBefore, IsSettledRun, Each}
 use Rattle.dover_model.specs.Common.{Keeps}

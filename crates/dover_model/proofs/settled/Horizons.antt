@@ -1,6 +1,5 @@
 -- What is due of a run up to a horizon.
-use Rattle.std.proofs.Common.{◌+◌, ◌*◌, arith, sym, ◌≤◌, length, [], ℕ, List, ◌∷◌}
-use Rattle.std.proofs.lemmas.List.{append-nil}
+use Rattle.std.proofs.Common.{◌+◌, ◌*◌, arith, sym, ◌≤◌, length, [], ℕ, List, ◌∷◌, append-nil}
 use Rattle.std.specs.List.{AllByRecursion}
 use Rattle.dover_model.specs.Common.{Horizon, Mark, MayFollow, due_by, Instance, IsValid, printed, Begins, JobFacts}
 use Rattle.dover_model.specs.Common.{IsJob, last_tick, most_jobs}

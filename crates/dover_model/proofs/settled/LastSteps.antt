@@ -1,9 +1,7 @@
 -- The tick of the last printed step: where a job runs at a barrier, it tells whether all steps came before its tick.
 use Rattle.std.proofs.Common.{◌≡◌, ℕ, zero, suc, ◌+◌, ◌≤◌, ◌<◌, ◌⊎◌, inl, inr, List, [], ◌∷◌, refl, sym, ap, ◌∙◌, subst}
-use Rattle.std.proofs.Common.{Bool, true, false, arith}
-use Rattle.std.specs.Prelude.{Some, nat_lt, ◌&&◌}
-use Rattle.std.specs.List.{fold, list_all, cons_option}
-use Rattle.std.proofs.lemmas.Bool.{lt-ltb, ltb-true, ltb-false}
+use Rattle.std.proofs.Common.{Bool, true, false, arith, Some, nat_lt, ◌&&◌, fold, lt-ltb, ltb-true, ltb-false}
+use Rattle.std.specs.List.{list_all, cons_option}
 use Rattle.dover_model.specs.Common.{Fraction, Rules, Instance, IsValid, Event, Coming, Fresh, Running, Task, State}
 use Rattle.dover_model.specs.Common.{opening, to_come, running, is_running, Move, Prints, Waits, Ticks, open_step}
 use Rattle.dover_model.specs.Common.{after, ticked, Step, event_of, printed_of, waits_for_mark, settled, settled_steps}

@@ -1,10 +1,7 @@
 -- Jobs that come later don't change a settled step.
 use Rattle.std.proofs.Common.{◌≡◌, ℕ, ◌≤◌, ◌<◌, ◌⊎◌, inl, inr, List, [], ◌∷◌, ◌++◌, refl, sym, ap, ◌∙◌, subst, Bool}
-use Rattle.std.proofs.Common.{true, false, cond, arith}
+use Rattle.std.proofs.Common.{true, false, cond, arith, Option, Some, None, find, filter, ne_eqb}
 use Rattle.std.specs.Bool.{then_some}
-use Rattle.std.specs.Prelude.{Option, Some, None}
-use Rattle.std.specs.List.{find, filter}
-use Rattle.std.proofs.lemmas.Bool.{ne_eqb}
 use Rattle.dover_model.specs.Common.{Coming, Version, Release, Take, Abandon, Fraction, Rules, Task, State, with_later}
 use Rattle.dover_model.specs.Common.{is_coming, is_fresh, is_waiting, is_held, is_running, is_privileged, is_heavy}
 use Rattle.dover_model.specs.Common.{Move, Prints, Ticks, View, view, with_role, ◌or_else◌, completion, dispatch}

@@ -1,10 +1,9 @@
 -- Open steps that lead from one state to another.
 use Rattle.std.proofs.Common.{◌≡◌, List, ◌∷◌, refl, ℕ, ◌+◌, ◌≤◌, ◌++◌, sym, ap, ◌∙◌, subst, true, Bool, false, arith}
-use Rattle.std.proofs.Common.{[], suc, ◌<◌, cond}
-use Rattle.std.specs.Prelude.{Option, None, Some, nat_le, ◌&&◌}
-use Rattle.std.specs.List.{cons_option, list_all, filter}
+use Rattle.std.proofs.Common.{[], suc, ◌<◌, cond, Option, None, Some, nat_le, ◌&&◌, filter, MatchBool}
+use Rattle.std.specs.List.{cons_option, list_all}
 use Rattle.std.proofs.lemmas.Bool.{lt-leb, false_from_ne_true}
-use Rattle.std.specs.Bool.{MatchBool, then_some}
+use Rattle.std.specs.Bool.{then_some}
 use Rattle.dover_model.specs.Common.{Event, Rules, Instance, IsValid, State, is_over, is_done, value_sum, with_later}
 use Rattle.dover_model.specs.Common.{Prints, step, open_step, after, Move, Waits, Ticks, ending, ◌or_else◌, Step}
 use Rattle.dover_model.specs.Common.{event_of, printed_of, is_end, waits_for_mark, AllComeFrom, IsBefore, IsBarrier}

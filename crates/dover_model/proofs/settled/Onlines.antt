@@ -1,10 +1,8 @@
 -- What is printed up to a tick depends on the jobs known at that tick alone.
 use Rattle.std.proofs.Common.{◌≡◌, ℕ, ◌+◌, ◌≤◌, ◌<◌, List, [], ◌∷◌, ◌++◌, length, refl, sym, ap, ◌∙◌, subst, Bool, true}
-use Rattle.std.proofs.Common.{false, cond, arith}
-use Rattle.std.specs.Prelude.{Option, None, nat_le}
-use Rattle.std.specs.Bool.{MatchBool, then_some}
-use Rattle.std.specs.List.{list_all, filter_map, cons_option, filter}
-use Rattle.std.proofs.lemmas.Bool.{leb-true}
+use Rattle.std.proofs.Common.{false, cond, arith, Option, None, nat_le, MatchBool, filter_map, filter, leb-true}
+use Rattle.std.specs.Bool.{then_some}
+use Rattle.std.specs.List.{list_all, cons_option}
 use Rattle.dover_model.specs.Common.{Event, Task, Rules, Instance, IsValid, with_jobs, State, with_later, opening}
 use Rattle.dover_model.specs.Common.{to_come, is_over, is_done, value_sum, Move, Ticks, step, open_step, after, ending}
 use Rattle.dover_model.specs.Common.{◌or_else◌, Prints, Step, is_end, event_of, run, waits_for_mark, settled_steps}

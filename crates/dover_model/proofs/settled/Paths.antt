@@ -1,10 +1,9 @@
 -- Paths of open steps: how they go on, what they come to at a barrier, with a job more, and at the end.
 use Rattle.std.proofs.Common.{◌≡◌, ℕ, ◌+◌, ◌≤◌, ◌<◌, ◌⊎◌, inl, inr, List, [], ◌∷◌, ◌++◌, length, map, refl, sym, ap}
-use Rattle.std.proofs.Common.{◌∙◌, subst, append_assoc, Bool, true, false, cond, arith}
-use Rattle.std.specs.Prelude.{◌&&◌, nat_le, Option, Some, None}
-use Rattle.std.specs.Bool.{MatchBool, then_some}
-use Rattle.std.specs.List.{list_all, filter, cons_option}
-use Rattle.std.proofs.lemmas.Bool.{leb-true, leb-false}
+use Rattle.std.proofs.Common.{◌∙◌, subst, append_assoc, Bool, true, false, cond, arith, ◌&&◌, nat_le, Option, Some}
+use Rattle.std.proofs.Common.{None, MatchBool, filter, leb-true, leb-false}
+use Rattle.std.specs.Bool.{then_some}
+use Rattle.std.specs.List.{list_all, cons_option}
 use Rattle.dover_model.specs.Common.{JobFacts, Event, End, Done, Gone, Task, Rules, Instance, IsValid, with_jobs, State}
 use Rattle.dover_model.specs.Common.{with_later, opening, to_come, is_over, is_done, is_running, value_sum, Prints}
 use Rattle.dover_model.specs.Common.{Ticks, step, open_step, after, ending, ◌or_else◌, ticked, Step, is_end, event_of}

@@ -1,10 +1,9 @@
 -- What is settled stays: jobs that are released at the mark or later don't change it.
 use Rattle.std.proofs.Common.{◌≡◌, ℕ, suc, ◌+◌, ◌≤◌, ◌<◌, inl, inr, List, [], ◌∷◌, ◌++◌, length, map, refl, sym, ap}
-use Rattle.std.proofs.Common.{◌∙◌, subst, Bool, true, false, cond, arith, eqb}
-use Rattle.std.specs.Prelude.{Option, Some, None}
-use Rattle.std.specs.Bool.{MatchBool, then_some}
-use Rattle.std.specs.List.{list_all, filter, cons_option}
-use Rattle.std.proofs.lemmas.Bool.{ne_eqb}
+use Rattle.std.proofs.Common.{◌∙◌, subst, Bool, true, false, cond, arith, eqb, Option, Some, None, MatchBool, filter}
+use Rattle.std.proofs.Common.{ne_eqb}
+use Rattle.std.specs.Bool.{then_some}
+use Rattle.std.specs.List.{list_all, cons_option}
 use Rattle.dover_model.specs.Common.{Fraction, JobFacts, Event, End, Role, Coming, Fresh, Waiting, Held, Running, Done}
 use Rattle.dover_model.specs.Common.{Gone, Task, Rules, Instance, IsValid, with_jobs, State, with_later, opening}
 use Rattle.dover_model.specs.Common.{to_come, is_over, is_done, value_sum, Move, Prints, Ticks, view, step, open_step}

@@ -1,11 +1,9 @@
 -- What is settled at a job's release without it, and then its release, begin what is settled there with it.
 use Rattle.std.proofs.Common.{◌≡◌, ℕ, ◌+◌, ◌≤◌, ◌<◌, ◌⊎◌, inl, inr, List, [], ◌∷◌, ◌++◌, length, refl, sym, ap, ◌∙◌}
-use Rattle.std.proofs.Common.{subst, Bool, true, false, cond, arith, eqb}
-use Rattle.std.specs.Prelude.{Option, Some, None}
+use Rattle.std.proofs.Common.{subst, Bool, true, false, cond, arith, eqb, Option, Some, None, find, eq-eqb}
 use Rattle.std.specs.Bool.{then_some}
 use Rattle.std.specs.Option.{option_or}
-use Rattle.std.specs.List.{AllByRecursion, find, cons_option}
-use Rattle.std.proofs.lemmas.Bool.{eq-eqb}
+use Rattle.std.specs.List.{AllByRecursion, cons_option}
 use Rattle.std.proofs.lemmas.List.Folds.{find-append}
 use Rattle.dover_model.specs.Common.{JobFacts, Event, Release, Preempt, Complete, Coming, Task, Rules, Instance}
 use Rattle.dover_model.specs.Common.{IsValid, with_jobs, State, with_later, opening, is_coming, is_running, left, Move}

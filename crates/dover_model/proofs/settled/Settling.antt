@@ -1,8 +1,6 @@
 -- The open steps reach the barrier of a mark, within the fuel of `settled`.
 use Rattle.std.proofs.Common.{◌≡◌, ℕ, suc, zero, ◌+◌, ◌*◌, ◌≤◌, ◌<◌, inl, inr, List, [], ◌∷◌, length, refl, sym, ap}
-use Rattle.std.proofs.Common.{◌∙◌, subst, Bool, true, false, arith}
-use Rattle.std.specs.Prelude.{nat_le, ◌&&◌}
-use Rattle.std.proofs.lemmas.Bool.{leb-true, leb-false}
+use Rattle.std.proofs.Common.{◌∙◌, subst, Bool, true, false, arith, nat_le, ◌&&◌, leb-true, leb-false}
 use Rattle.dover_model.specs.Common.{Rules, Instance, IsValid, State, opening, open_step, after, Step, waits_for_mark}
 use Rattle.dover_model.specs.Common.{settled_from, settled_steps, open_at, IsBefore, IsSettledRun, Keeps}
 use Rattle.dover_model.proofs.steps.Kept.{open_kept, opening_keeps}

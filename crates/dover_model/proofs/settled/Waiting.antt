@@ -1,10 +1,8 @@
 -- Silent steps where some job isn't over, and where all are.
 use Rattle.std.proofs.Common.{◌≡◌, sym, ◌∙◌, false, ◌-◌, ap, subst, not, ℕ, List, ◌∷◌, zero, suc, ◌+◌, ◌≤◌, inl, inr}
-use Rattle.std.proofs.Common.{[], map, refl, Bool, true, arith}
-use Rattle.std.proofs.lemmas.Bool.{false_from_ne_true, not-true, lt-leb, le-leb}
-use Rattle.std.specs.Prelude.{nat_le, ◌&&◌}
+use Rattle.std.proofs.Common.{[], map, refl, Bool, true, arith, le-leb, nat_le, ◌&&◌, MatchBool}
+use Rattle.std.proofs.lemmas.Bool.{false_from_ne_true, not-true, lt-leb}
 use Rattle.std.specs.List.{list_all}
-use Rattle.std.specs.Bool.{MatchBool}
 use Rattle.dover_model.specs.Common.{Task, State, is_over, IsMember, Keeps, GoesOn, IsSilent, Settles, Idles}
 use Rattle.dover_model.specs.Common.{WaitsUntil, PrintsNext, Move, after, open_step, Prints, Waits, Ticks, step, ticked}
 use Rattle.dover_model.specs.Common.{Rules, Instance, IsValid, Step, is_end, event_of, Event, waits_for_mark, open_at}

@@ -1,9 +1,8 @@
 -- What a step finds, said of the members of the list of tasks: what all proofs on steps go by.
 use Rattle.std.proofs.Common.{◌≡◌, ℕ, ◌+◌, ◌≤◌, ◌<◌, ◌⊎◌, inl, inr, List, [], ◌∷◌, refl, sym, ap, ◌∙◌, subst, Bool}
-use Rattle.std.proofs.Common.{true, false, cond, arith}
-use Rattle.std.specs.Prelude.{Option, Some, None, nat_lt, nat_le, ◌==◌, ◌&&◌, ◌||◌}
-use Rattle.std.specs.List.{sum_by, filter, find}
-use Rattle.std.proofs.lemmas.Bool.{ltb-true, ltb-false, leb-true, leb-false, eqb-true, eqb-false, and_parts, eq-eqb}
+use Rattle.std.proofs.Common.{true, false, cond, arith, Option, Some, None, nat_lt, nat_le, ◌==◌, ◌&&◌, ◌||◌, sum_by}
+use Rattle.std.proofs.Common.{filter, find, ltb-true, ltb-false, leb-true, leb-false, eqb-true, eq-eqb}
+use Rattle.std.proofs.lemmas.Bool.{eqb-false, and_parts}
 use Rattle.dover_model.specs.Common.{IsJob, Fraction, Role, Coming, Fresh, Waiting, Held, Running, Release, Run}
 use Rattle.dover_model.specs.Common.{Preempt, Take, Complete, Abandon, Version, Task, State, is_coming, is_fresh}
 use Rattle.dover_model.specs.Common.{is_waiting, is_held, is_running, is_privileged, is_ready_behind, is_over, waiting}

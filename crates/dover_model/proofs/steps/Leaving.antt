@@ -1,14 +1,12 @@
 -- How many jobs a change lets cease to wait, or begin to.
-use Rattle.std.proofs.Common.{◌≡◌, ℕ, ◌+◌, ◌≤◌, refl, sym, subst, Bool, true, false, not, cond, eqb, arith}
-use Rattle.std.specs.Prelude.{◌&&◌}
-use Rattle.std.specs.List.{sum_by}
+use Rattle.std.proofs.Common.{◌≡◌, ℕ, ◌+◌, ◌≤◌, refl, sym, subst, Bool, true, false, not, cond, eqb, arith, ◌&&◌}
+use Rattle.std.proofs.Common.{sum_by, eqb-true, ne_eqb}
 use Rattle.dover_model.specs.Common.{Role, Coming, Fresh, Waiting, Held, Running, Done, Gone, Preempt, Take, Task}
 use Rattle.dover_model.specs.Common.{State, is_waiting, Prints, with_role, displaced, IsMember, IsSound, leaves}
 use Rattle.dover_model.proofs.lists.Members.{sum_le, sum_zero}
 use Rattle.dover_model.proofs.steps.Roles.{passes, one_number}
 use Rattle.dover_model.proofs.steps.Loads.{sum_change}
 use Rattle.dover_model.proofs.steps.OneChange.{changed, on_changed_role}
-use Rattle.std.proofs.lemmas.Bool.{eqb-true, ne_eqb}
 use Rattle.dover_model.proofs.lists.Tests.{never}
 
 -- one where a job waits before and not after

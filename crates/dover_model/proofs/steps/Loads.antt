@@ -1,15 +1,12 @@
 -- The load of the running and the held jobs, as sums over all tasks, and what a change of roles does to it.
 use Rattle.std.proofs.Common.{◌≡◌, ℕ, suc, ◌+◌, ◌≤◌, inl, inr, List, [], ◌∷◌, map, refl, ap, ◌∙◌, subst, Bool, true}
-use Rattle.std.proofs.Common.{false, cond, arith, ◌<◌}
-use Rattle.std.specs.Prelude.{nat_lt}
-use Rattle.std.specs.List.{sum_by, filter}
+use Rattle.std.proofs.Common.{false, cond, arith, ◌<◌, nat_lt, sum_by, filter, ltb-true}
 use Rattle.std.proofs.lemmas.List.Sums.{sum_by-cons}
 use Rattle.dover_model.specs.Common.{Role, Task, State, is_privileged, left, demand_up_to, privileged, with_role}
 use Rattle.dover_model.specs.Common.{IsMember, Each, IsNumberedFrom}
 use Rattle.dover_model.specs.Sound.{HasRoom}
 use Rattle.dover_model.proofs.lists.Members.{sum_filter, sum_le, sum_map, on_map, by_bool}
 use Rattle.dover_model.proofs.steps.Roles.{numbers_above}
-use Rattle.std.proofs.lemmas.Bool.{ltb-true}
 use Rattle.dover_model.proofs.lists.Tests.{never}
 
 -- a sum in which one term rises by b or falls by a at most, and no other rises

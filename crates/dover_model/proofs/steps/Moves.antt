@@ -1,6 +1,5 @@
 -- Each change of one job's role that a step makes is allowed.
-use Rattle.std.proofs.Common.{◌≡◌, ℕ, ◌+◌, ◌≤◌, ◌<◌, ◌⊎◌, inl, inr, refl, sym, ap, ◌∙◌, subst, true, arith}
-use Rattle.std.specs.List.{sum_by}
+use Rattle.std.proofs.Common.{◌≡◌, ℕ, ◌+◌, ◌≤◌, ◌<◌, ◌⊎◌, inl, inr, refl, sym, ap, ◌∙◌, subst, true, arith, sum_by}
 use Rattle.dover_model.specs.Common.{Role, Coming, Fresh, Waiting, Held, Running, Done, Gone, Task, IsJob, State}
 use Rattle.dover_model.specs.Common.{is_privileged, left, latest_start, with_role, displaced, IsMember, Each, FitsRole}
 use Rattle.dover_model.specs.Common.{NoneRuns, IsSound}

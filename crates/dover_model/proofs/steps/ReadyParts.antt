@@ -1,9 +1,7 @@
 -- The steps of a state are those of its jobs that aren't over.
 use Rattle.std.proofs.Common.{◌≡◌, List, ◌∷◌, refl, sym, ap, ◌∙◌, Bool, true, false, cond, ◌⊎◌, inl, inr, eqb, map, []}
-use Rattle.std.proofs.Common.{subst, not, ℕ, ◌+◌, arith}
-use Rattle.std.specs.Prelude.{Some, None}
-use Rattle.std.specs.List.{filter, find, sum_by}
-use Rattle.std.proofs.lemmas.Bool.{not-false, ne_eqb}
+use Rattle.std.proofs.Common.{subst, not, ℕ, ◌+◌, arith, Some, None, filter, find, sum_by, ne_eqb}
+use Rattle.std.proofs.lemmas.Bool.{not-false}
 use Rattle.std.proofs.lemmas.List.Sums.{sum_by-cons}
 use Rattle.dover_model.proofs.steps.Roles.{passes, is_over_role, one_number, by_role}
 use Rattle.dover_model.specs.Common.{Done, Gone, Waiting, Coming, Fresh, Held, Running, Task, is_over, State, is_coming}

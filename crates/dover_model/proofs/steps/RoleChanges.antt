@@ -1,8 +1,6 @@
 -- One job in another role, and all jobs that hold the processor displaced; and the job that stands at a number.
-use Rattle.std.proofs.Common.{◌≡◌, ℕ, suc, ◌-◌, ◌≤◌, inl, inr, List, [], ◌∷◌, map, refl, sym, ap, ◌∙◌, arith}
-use Rattle.std.proofs.Common.{Bool, true, false, cond}
-use Rattle.std.specs.Prelude.{Some, ◌==◌, if◌then◌else◌}
-use Rattle.std.specs.List.{slice_get}
+use Rattle.std.proofs.Common.{◌≡◌, ℕ, suc, ◌-◌, ◌≤◌, inl, inr, List, [], ◌∷◌, map, refl, sym, ap, ◌∙◌, arith, Bool}
+use Rattle.std.proofs.Common.{true, false, cond, Some, ◌==◌, if◌then◌else◌, slice_get}
 use Rattle.dover_model.specs.Common.{Role, Waiting, Task, IsMember, IsNumberedFrom, with_role, displaced}
 use Rattle.dover_model.proofs.steps.Roles.{numbers_above, one_number}
 use Rattle.dover_model.proofs.lists.Members.{map_map, map_same}

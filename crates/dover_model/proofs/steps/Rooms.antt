@@ -1,7 +1,6 @@
 -- An amount that is at most the room of a set fits before each member.
-use Rattle.std.proofs.Common.{ℕ, ◌+◌, ◌-◌, ◌≤◌, List, [], ◌∷◌, map, ◌<◌, inl, inr, refl, arith}
+use Rattle.std.proofs.Common.{ℕ, ◌+◌, ◌-◌, ◌≤◌, List, [], ◌∷◌, map, ◌<◌, inl, inr, refl, arith, ◌⊎◌}
 use Rattle.std.proofs.lemmas.Bool.{cases_lt}
-use Rattle.std.specs.Prelude.{◌⊎◌}
 use Rattle.dover_model.specs.Common.{Task, demand_up_to, least, room, IsMember, Each}
 use Rattle.dover_model.proofs.lists.Members.{map_member}
 

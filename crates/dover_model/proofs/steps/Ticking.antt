@@ -1,8 +1,6 @@
 -- A silent tick keeps a sound state sound.
 use Rattle.std.proofs.Common.{◌≡◌, ℕ, ◌+◌, ◌-◌, ◌≤◌, ◌<◌, ◌⊎◌, inl, inr, map, refl, sym, subst, Bool, true, false, cond}
-use Rattle.std.proofs.Common.{arith}
-use Rattle.std.specs.List.{sum_by}
-use Rattle.std.proofs.lemmas.Bool.{lt-ltb}
+use Rattle.std.proofs.Common.{arith, sum_by, lt-ltb}
 use Rattle.dover_model.specs.Common.{Role, Coming, Fresh, Waiting, Held, Running, Done, Gone, Task, State}
 use Rattle.dover_model.specs.Common.{is_privileged, is_running, is_ready_behind, left, latest_start, Ticks, after}
 use Rattle.dover_model.specs.Common.{with_role, ticked, IsMember, Each, EachTwo, FitsRole, NoneRuns, IsSound}

@@ -1,11 +1,10 @@
 -- The running job and the held ones fit their windows together, with all the work that they declare.
 use Rattle.std.proofs.Common.{◌≡◌, ℕ, zero, suc, ◌+◌, ◌-◌, ◌≤◌, ◌<◌, ◌⊎◌, inl, inr, List, map, refl, sym, ap, ◌∙◌}
-use Rattle.std.proofs.Common.{subst}
-use Rattle.std.proofs.Common.{Bool, true, false, cond, eqb, arith}
-use Rattle.std.specs.Prelude.{nat_le, ◌&&◌}
+use Rattle.std.proofs.Common.{subst, Bool, true, false, cond, eqb, arith, nat_le, ◌&&◌, sum_by, filter, eqb-true}
+use Rattle.std.proofs.Common.{le-leb, leb-true, lt-ltb}
 use Rattle.std.specs.Bool.{then_some}
-use Rattle.std.specs.List.{sum_by, list_all, filter}
-use Rattle.std.proofs.lemmas.Bool.{eqb-true, le-leb, leb-true, lt-ltb, and_parts, and_from}
+use Rattle.std.specs.List.{list_all}
+use Rattle.std.proofs.lemmas.Bool.{and_parts, and_from}
 use Rattle.dover_model.specs.Common.{Fraction, JobFacts, Take, End, Role, Coming, Fresh, Waiting, Held, Running, Done}
 use Rattle.dover_model.specs.Common.{Gone, Task, Rules, Instance, IsValid, State, opening, is_privileged, is_running}
 use Rattle.dover_model.specs.Common.{is_ready_behind, is_over, is_done, left, latest_start, value_sum, Move, Prints}

@@ -1,10 +1,9 @@
 -- A dispatcher that pays forward: no job gets on unloaded, and none loses more than three ticks.
-use Rattle.std.proofs.Common.{◌≡◌, ℕ, zero, suc, ◌+◌, ◌≤◌, List, [], ◌∷◌, refl, sym, ap, ◌∙◌, subst}
-use Rattle.std.proofs.Common.{Bool, true, false, cond, arith, eqb, take, drop}
-use Rattle.std.specs.Prelude.{◌&&◌, not, Option, Some, None}
-use Rattle.std.specs.Bool.{MatchBool, then_some}
-use Rattle.std.specs.List.{count_by, sum_by, list_all, filter, cons_option}
-use Rattle.std.proofs.lemmas.Bool.{eqb-true}
+use Rattle.std.proofs.Common.{◌≡◌, ℕ, zero, suc, ◌+◌, ◌≤◌, List, [], ◌∷◌, refl, sym, ap, ◌∙◌, subst, Bool, true, false}
+use Rattle.std.proofs.Common.{cond, arith, eqb, take, drop, ◌&&◌, not, Option, Some, None, MatchBool, count_by, sum_by}
+use Rattle.std.proofs.Common.{filter, eqb-true}
+use Rattle.std.specs.Bool.{then_some}
+use Rattle.std.specs.List.{list_all, cons_option}
 use Rattle.std.proofs.lemmas.List.Sums.{sum_by-cons}
 use Rattle.dover_model.specs.Common.{JobFacts, Fraction, need, Role, Coming, Fresh, Waiting, Held, Running, Done, Gone}
 use Rattle.dover_model.specs.Common.{Release, Run, Preempt, Take, Complete, Abandon, End, Task, Instance, IsValid}

@@ -1,9 +1,6 @@
 -- A feed's line has one spelling: what is written is read as the same line, and what is read was written so.
 use Rattle.std.proofs.Common.{◌≡◌, ℕ, ◌≤◌, List, [], ◌∷◌, length, map, refl, sym, ap, ◌∙◌, Bool, true, false, arith}
-use Rattle.std.proofs.Common.{decimal, Option, Some, None, codes}
-use Rattle.std.specs.Prelude.{if◌then◌else◌, bytes_eq}
-use Rattle.std.specs.Option.{option_and_then}
-use Rattle.std.proofs.lemmas.Bool.{le-ltb}
+use Rattle.std.proofs.Common.{decimal, Option, Some, None, codes, if◌then◌else◌, bytes_eq, option_and_then, le-ltb}
 use Rattle.std.proofs.lemmas.Slice.Eq.{bytes_eq-Decides}
 use Rattle.dover_model.specs.Common.{numerals, AreShort, fields_of, line_of, with_numbers, is_too_long, FeedLine}
 use Rattle.dover_model.specs.Common.{RatioLine, FactorLine, JobLine, TickLine, DoneLine, EndLine, line_of_fields}

@@ -1,13 +1,11 @@
 -- A line of fields is cut into these fields, and numbers in it are read as they were written.
 use Rattle.std.proofs.Common.{◌≡◌, ℕ, ◌+◌, ◌*◌, ◌≤◌, List, [], ◌∷◌, ◌++◌, length, length-append, map, refl, sym, ap}
-use Rattle.std.proofs.Common.{◌∙◌, subst, Bool, true}
-use Rattle.std.proofs.Common.{cond, not, ◌&&◌, arith, decimal, Option, Some, None}
-use Rattle.std.specs.Prelude.{◌==◌}
+use Rattle.std.proofs.Common.{◌∙◌, subst, Bool, true, cond, not, ◌&&◌, arith, decimal, Option, Some, None, ◌==◌}
+use Rattle.std.proofs.Common.{option_and_then, option_map, ne_eqb, leb-true}
 use Rattle.std.specs.List.{AllByRecursion, list_all, slice_split, onto_first}
-use Rattle.std.specs.Option.{option_and_then, option_map}
 use Rattle.std.specs.Str.{all_ascii_digits}
 use Rattle.std.specs.Char.{is_ascii_digit}
-use Rattle.std.proofs.lemmas.Bool.{ne_eqb, leb-true, and_parts, not-true}
+use Rattle.std.proofs.lemmas.Bool.{and_parts, not-true}
 use Rattle.std.proofs.lemmas.Fmt.{digits_decimal, length-decimal-le}
 use Rattle.std.proofs.lemmas.List.Splits.{join_with_byte-slice_split}
 use Rattle.dover_model.specs.Common.{numeral, numerals, AreShort, fields_of, line_of, with_numbers}

@@ -1,13 +1,12 @@
 -- No line of a trace has a line feed, so a trace is cut into the lines that it was joined from.
 use Rattle.std.proofs.Common.{◌≡◌, ℕ, zero, suc, ◌+◌, ◌/◌, ◌%◌, ◌≤◌, ◌<◌, ◌^◌, List, [], ◌∷◌, ◌++◌, map, refl, sym, ap}
 use Rattle.std.proofs.Common.{◌∙◌, Bool, true, false, cond, not, ◌&&◌, ◌==◌, arith, decimal, codes, nat_le, Option}
-use Rattle.std.proofs.Common.{Some}
-use Rattle.std.proofs.Common.{None, IsTrue}
+use Rattle.std.proofs.Common.{Some, None, IsTrue, ne_eqb, leb-true, le-leb, lt-ltb}
 use Rattle.std.specs.List.{AllByRecursion, list_all}
 use Rattle.std.specs.Str.{all_ascii_digits}
 use Rattle.std.specs.Char.{is_ascii_digit}
 use Rattle.std.specs.Fmt.{digits, digits_onto, digit_glyph}
-use Rattle.std.proofs.lemmas.Bool.{ne_eqb, leb-true, le-leb, lt-ltb, and_parts, and_from}
+use Rattle.std.proofs.lemmas.Bool.{and_parts, and_from}
 use Rattle.std.proofs.lemmas.List.Folds.{list_all-append}
 use Rattle.dover_model.specs.Common.{RefusedLine, RefusedJob, RefusedDone, Version, One, Two, Three, Refusal, BadJob}
 use Rattle.dover_model.specs.Common.{Count, Total, Ratio, Late, Full, Release, Run, Preempt, Take, Complete, Abandon}

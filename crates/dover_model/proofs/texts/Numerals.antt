@@ -1,16 +1,12 @@
 -- Each number below 10 ^ 18 has one numeral, its decimal digits.
 use Rattle.std.proofs.Common.{rules, suc, zero, ◌≡◌, ℕ, ◌<◌, ◌^◌, List, [], ◌∷◌, length, get_or, refl, sym, ap, ◌∙◌}
-use Rattle.std.proofs.Common.{subst, Bool, true, false, ◌&&◌}
-use Rattle.std.proofs.Common.{not, arith}
+use Rattle.std.proofs.Common.{subst, Bool, true, false, ◌&&◌, not, arith, Some, None, nat_le, decimal, eq-eqb, ne_eqb}
+use Rattle.std.proofs.Common.{le-leb, leb-true}
 use Rattle.std.specs.Bool.{then_some}
-use Rattle.std.specs.Prelude.{Some, None, nat_le}
 use Rattle.std.specs.Str.{all_ascii_digits}
-use Rattle.std.specs.Fmt.{decimal}
-use Rattle.std.proofs.lemmas.Bool.{eq-eqb, ne_eqb, le-leb, leb-true}
 use Rattle.std.proofs.lemmas.Str.Parse.{IsNumeralModel, numerals_by_fold, digits_value_short}
 use Rattle.std.proofs.lemmas.Fmt.{digits_decimal, digits_value-decimal, length-decimal-le, decimal-digits_value}
-use Rattle.std.proofs.lemmas.Fmt.{decimal_nonempty, decimal_digit}
-use Rattle.std.proofs.lemmas.Fmt.{first_decimal}
+use Rattle.std.proofs.lemmas.Fmt.{decimal_nonempty, decimal_digit, first_decimal}
 use Rattle.dover_model.specs.Numerals.{number_onto, is_plain, numeral}
 use Rattle.dover_model.proofs.lists.Tests.{never}
 

@@ -1,10 +1,7 @@
 -- The numbers of a line that is read have numerals.
 use Rattle.std.proofs.Common.{◌≡◌, ℕ, ◌<◌, ◌^◌, List, [], ◌∷◌, length, subst, Bool, true, false, cond, Option, Some}
-use Rattle.std.proofs.Common.{None, codes}
-use Rattle.std.specs.Prelude.{bytes_eq, nat_le}
-use Rattle.std.specs.Option.{option_and_then, option_map}
+use Rattle.std.proofs.Common.{None, codes, bytes_eq, nat_le, option_and_then, option_map, leb-true}
 use Rattle.std.specs.Str.{all_ascii_digits}
-use Rattle.std.proofs.lemmas.Bool.{leb-true}
 use Rattle.std.proofs.lemmas.Str.Parse.{digits_value_short}
 use Rattle.dover_model.specs.Common.{number_onto, is_plain, numeral, numerals, AreShort, is_too_long, fields_of}
 use Rattle.dover_model.specs.Common.{FeedLine, RatioLine, FactorLine, JobLine, TickLine, DoneLine, EndLine, HasNumerals}

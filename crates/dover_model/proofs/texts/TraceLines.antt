@@ -1,9 +1,8 @@
 -- A trace's line names what it was written from: a job or a refused line, and nothing else.
 use Rattle.std.proofs.Common.{◌≡◌, ℕ, List, [], ◌∷◌, ◌++◌, map, refl, ap, ◌∙◌, decimal, Option, Some, None, codes}
-use Rattle.std.proofs.Common.{option_and_then, sym, Bool, true, false, cond, subst}
+use Rattle.std.proofs.Common.{option_and_then, sym, Bool, true, false, cond, subst, ◌==◌, eqb-true}
 use Rattle.std.specs.List.{AllByRecursion}
 use Rattle.std.specs.Bool.{then_some}
-use Rattle.std.specs.Prelude.{◌==◌}
 use Rattle.dover_model.specs.Common.{Refusal, BadJob, Count, Total, Ratio, Late, Full, Release, Run, Preempt, Take}
 use Rattle.dover_model.specs.Common.{Complete, Abandon, End, numerals, AreShort, job_numbers, with_numbers}
 use Rattle.dover_model.specs.Common.{numbers_after, Item, JobItem, RefusedItem, RefusedJob, RefusedLine, RefusedDone}
@@ -12,7 +11,6 @@ use Rattle.dover_model.specs.Common.{refused_word, TraceLine, Printed, Refuses, 
 use Rattle.dover_model.specs.Common.{version_of_number, Version, One, Two, Three}
 use Rattle.dover_model.specs.Verdict.{job_from, refused_from, refused_with, refusal_of_word, refused_done_with}
 use Rattle.std.specs.Option.{option_or}
-use Rattle.std.proofs.lemmas.Bool.{eqb-true}
 use Rattle.dover_model.proofs.texts.Fields.{HasNoSpace, fields_of-line_of, decimals-HasNoSpace, numerals-decimals}
 use Rattle.dover_model.proofs.lists.Members.{some_same}
 use Rattle.dover_model.proofs.lists.Tests.{none_is_some}

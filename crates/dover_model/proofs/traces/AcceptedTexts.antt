@@ -1,11 +1,10 @@
 -- A text that is accepted is the trace of the valid session that it is accepted with.
-use Rattle.std.proofs.Common.{◌≡◌, ℕ, List, [], ◌∷◌, ◌++◌, length, append-nil, refl, sym, ap, ◌∙◌, subst, arith}
-use Rattle.std.proofs.Common.{Bool, true, false, cond, ◌&&◌, ◌||◌, Option, Some, None, suc, take, ◌-◌}
-use Rattle.std.specs.Prelude.{nat_lt, bytes_eq}
+use Rattle.std.proofs.Common.{◌≡◌, ℕ, List, [], ◌∷◌, ◌++◌, length, append-nil, refl, sym, ap, ◌∙◌, subst, arith, Bool}
+use Rattle.std.proofs.Common.{true, false, cond, ◌&&◌, ◌||◌, Option, Some, None, suc, take, ◌-◌, nat_lt, bytes_eq}
+use Rattle.std.proofs.Common.{eqb-true, append_assoc}
 use Rattle.std.specs.List.{starts_with}
 use Rattle.std.specs.Option.{option_map_or}
-use Rattle.std.proofs.lemmas.Bool.{eqb-true, and_parts}
-use Rattle.std.proofs.lemmas.List.{append_assoc}
+use Rattle.std.proofs.lemmas.Bool.{and_parts}
 use Rattle.std.proofs.lemmas.Slice.Eq.{bytes_eq-Decides, starts_is}
 use Rattle.dover_model.specs.Common.{in_lines, whole_lines, rest_of, is_too_long, Session, IsValidSession}
 use Rattle.dover_model.specs.Common.{is_valid_session, trace_lines, trace_of_session, Accepted, Wrong, begins_trace_of}

@@ -1,9 +1,7 @@
 -- The trace of a valid session is accepted, and so is what is due for a feed that has ended.
 use Rattle.std.proofs.Common.{◌≡◌, ℕ, List, [], ◌∷◌, ◌++◌, length, refl, sym, ap, ◌∙◌, subst, Bool, true, false, cond}
-use Rattle.std.proofs.Common.{◌&&◌, ◌||◌, Option, Some, None, suc}
-use Rattle.std.specs.Prelude.{nat_lt}
+use Rattle.std.proofs.Common.{◌&&◌, ◌||◌, Option, Some, None, suc, nat_lt, append_assoc, append-nil}
 use Rattle.std.specs.Option.{option_map_or}
-use Rattle.std.proofs.lemmas.List.{append_assoc, append-nil}
 use Rattle.dover_model.specs.Common.{is_too_long, in_lines, Session, instance_of, IsValidSession, printed, trace_lines}
 use Rattle.dover_model.specs.Common.{trace_of_session, texts_among, Standing, Open, Ended, Faulty, Account, is_ended}
 use Rattle.dover_model.specs.Common.{account, due_lines, due, Verdict, Accepted, ends_with_end, is_empty, begins_trace}

@@ -1,9 +1,8 @@
 -- A trace names its session, and its beginnings are beginnings of traces.
 use Rattle.std.proofs.Common.{◌≡◌, ℕ, List, [], ◌∷◌, ◌++◌, map, refl, sym, ap, ◌∙◌, subst, true, false, decimal, codes}
-use Rattle.std.proofs.Common.{Option, Some, None}
-use Rattle.std.specs.Prelude.{bytes_eq}
-use Rattle.std.specs.List.{AllByRecursion, fold, starts_with}
-use Rattle.std.specs.Option.{option_or, option_and_then, option_map, option_map_or}
+use Rattle.std.proofs.Common.{Option, Some, None, bytes_eq, fold, option_and_then, option_map}
+use Rattle.std.specs.List.{AllByRecursion, starts_with}
+use Rattle.std.specs.Option.{option_or, option_map_or}
 use Rattle.std.proofs.lemmas.List.Sums.{fold-append}
 use Rattle.std.proofs.lemmas.Slice.Eq.{bytes_eq-Decides, starts_is}
 use Rattle.dover_model.specs.Common.{Version, IsRatio, fraction, with_factor, factor_numbers, Factor, Declaration, cut}

@@ -1,8 +1,6 @@
 -- A trace of valid jobs names them, however many are ready at once.
-use Rattle.std.proofs.Common.{◌≡◌, ℕ, List, [], ◌∷◌, ◌++◌, map, refl, sym, ap, ◌∙◌}
-use Rattle.std.specs.Prelude.{Option}
-use Rattle.std.specs.List.{filter_map, cons_option}
-use Rattle.std.specs.Option.{option_and_then}
+use Rattle.std.proofs.Common.{◌≡◌, ℕ, List, [], ◌∷◌, ◌++◌, map, refl, sym, ap, ◌∙◌, Option, filter_map, option_and_then}
+use Rattle.std.specs.List.{cons_option}
 use Rattle.dover_model.specs.Common.{JobFacts, Event, Release, Run, Preempt, Take, Complete, Abandon, End, Declaration}
 use Rattle.dover_model.specs.Common.{Instance, IsValid, declared_by, whole_lines, Step, run, printed, printed_of}
 use Rattle.dover_model.specs.Common.{event_of, Item, JobItem, Session, session_with, instance_of, admitted_jobs}

@@ -1,10 +1,9 @@
 -- The numbers of a valid session's trace have numerals.
 use Rattle.std.proofs.Common.{◌≡◌, ℕ, zero, suc, ◌+◌, ◌-◌, ◌^◌, ◌≤◌, ◌<◌, ◌⊎◌, inl, inr, max, List, [], ◌∷◌, ◌++◌}
 use Rattle.std.proofs.Common.{length, map, take, drop, refl, sym, ap, ◌∙◌, subst, Bool, true, false, cond, arith}
-use Rattle.std.specs.Prelude.{nat_le}
-use Rattle.std.specs.Bool.{MatchBool, then_some}
-use Rattle.std.specs.List.{AllByRecursion, list_all, fold, filter, cons_option}
-use Rattle.std.proofs.lemmas.List.{append-nil}
+use Rattle.std.proofs.Common.{nat_le, MatchBool, fold, filter, append-nil}
+use Rattle.std.specs.Bool.{then_some}
+use Rattle.std.specs.List.{AllByRecursion, list_all, cons_option}
 use Rattle.dover_model.specs.Common.{last_tick, JobFacts, IsJob, job_numbers, AreShort, Event, End, Task, Fraction}
 use Rattle.dover_model.specs.Common.{Rules, Declaration, Instance, IsValid, total_value, State, opening, is_over}
 use Rattle.dover_model.specs.Common.{is_done, value_sum, Move, Prints, Waits, Ticks, step, after, ending, ◌or_else◌}

@@ -1,11 +1,10 @@
 -- A trace has one End, in its last line.
 use Rattle.std.proofs.Common.{◌≡◌, ℕ, ◌⊎◌, inl, inr, max, List, [], ◌∷◌, ◌++◌, map, take, drop, refl, sym, ap, ◌∙◌}
-use Rattle.std.proofs.Common.{subst, Bool, true, false, decimal, codes, Option, Some, None}
-use Rattle.std.specs.Prelude.{◌-◌}
-use Rattle.std.specs.Bool.{MatchBool}
-use Rattle.std.specs.List.{AllByRecursion, cons_option, last_or, filter}
+use Rattle.std.proofs.Common.{subst, Bool, true, false, decimal, codes, Option, Some, None, ◌-◌, MatchBool, filter}
+use Rattle.std.proofs.Common.{append_assoc, append-nil}
+use Rattle.std.specs.List.{AllByRecursion, cons_option, last_or}
 use Rattle.std.specs.Option.{option_map_or}
-use Rattle.std.proofs.lemmas.List.{append_assoc, append-nil, map-append}
+use Rattle.std.proofs.lemmas.List.{map-append}
 use Rattle.dover_model.specs.Common.{Event, Release, Run, Preempt, Take, Complete, Abandon, End, job_numbers, IsRatio}
 use Rattle.dover_model.specs.Common.{Rules, Declaration, Instance, IsValid, State, opening, is_done, is_over, value_sum}
 use Rattle.dover_model.specs.Common.{Move, Prints, Waits, Ticks, step, open_step, after, Step, is_end, event_of}

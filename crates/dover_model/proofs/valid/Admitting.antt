@@ -1,10 +1,10 @@
 -- A job that is admitted keeps the jobs valid.
 use Rattle.std.proofs.Common.{◌≡◌, ℕ, ◌+◌, ◌≤◌, ◌<◌, List, [], ◌∷◌, ◌++◌, length, length-append, refl, Bool, true}
-use Rattle.std.proofs.Common.{false, cond, not, arith, Option, Some, None, ap, ◌∙◌, suc}
-use Rattle.std.specs.Prelude.{nat_le, nat_lt}
+use Rattle.std.proofs.Common.{false, cond, not, arith, Option, Some, None, ap, ◌∙◌, suc, nat_le, nat_lt, leb-false}
+use Rattle.std.proofs.Common.{ltb-false}
 use Rattle.std.specs.List.{AllByRecursion, list_all}
 use Rattle.std.proofs.Math.Nat.{mul-le-mul_right}
-use Rattle.std.proofs.lemmas.Bool.{leb-false, ltb-false, not-false, lt-leb}
+use Rattle.std.proofs.lemmas.Bool.{not-false, lt-leb}
 use Rattle.std.proofs.lemmas.List.Sums.{sum_by-append, sum_by-cons}
 use Rattle.dover_model.specs.Common.{most_jobs, most_total, Refusal, BadJob, Count, Total, Ratio, JobFacts, IsJob}
 use Rattle.dover_model.specs.Common.{is_job, Fraction, Declaration, declared_by, IsValid, with_jobs, Instance}
@@ -13,8 +13,7 @@ use Rattle.dover_model.proofs.lists.Tests.{both, each}
 use Rattle.dover_model.proofs.sessions.Growing.{all_behind, instance_with}
 use Rattle.dover_model.proofs.lists.Members.{all_both, all_last}
 use Rattle.dover_model.proofs.valid.Valid.{all_front}
-use Rattle.dover_model.proofs.valid.ValidParts.{valid_from}
-use Rattle.dover_model.proofs.valid.ValidParts.{IsWithinRatio, is_within_ratio-agrees, ReleasesInOrder}
+use Rattle.dover_model.proofs.valid.ValidParts.{valid_from, IsWithinRatio, is_within_ratio-agrees, ReleasesInOrder}
 use Rattle.dover_model.proofs.valid.ValidParts.{ValidParts, valid_parts}
 use Rattle.dover_model.proofs.valid.JobLimits.{ratio_limits}
 

@@ -1,6 +1,5 @@
 -- The limits of a ratio and of a job, one by one, as facts.
-use Rattle.std.proofs.Common.{◌+◌, ◌≤◌, ◌<◌, ◌↔◌, IsTrue}
-use Rattle.std.specs.Prelude.{Some}
+use Rattle.std.proofs.Common.{◌+◌, ◌≤◌, ◌<◌, ◌↔◌, IsTrue, Some}
 use Rattle.dover_model.specs.Common.{most_p, most_q, last_tick, most_value, Fraction, IsRatio, is_ratio, is_some_factor}
 use Rattle.dover_model.specs.Common.{Factor, JobFacts, IsJob, is_job}
 use Rattle.dover_model.specs.Fraction.{is_factor}

@@ -1,6 +1,6 @@
 -- Feeds with the same snapshot are served on with the same text, at the same cost.
-use Rattle.std.proofs.Common.{◌≡◌, ◌<◌, ℕ, List, ◌++◌, append_assoc, length, sym, ap, ◌∙◌, subst}
-use Rattle.std.proofs.Common.{Bool, true, false, Option, Some, None, inl, inr}
+use Rattle.std.proofs.Common.{◌≡◌, ◌<◌, ℕ, List, ◌++◌, append_assoc, length, sym, ap, ◌∙◌, subst, Bool, true, false}
+use Rattle.std.proofs.Common.{Option, Some, None, inl, inr, fold}
 use Rattle.std.proofs.lemmas.List.{append_cancel_left}
 use Rattle.dover_model.specs.Common.{Session, admitted_jobs, Open, Ended, Faulty, account, is_open, is_ended, due}
 use Rattle.dover_model.specs.Common.{closed, Begins, most_jobs, lines_of, rest_of, next_line}
@@ -15,7 +15,6 @@ use Rattle.snapshot.specs.Snapshot.{MayPause, snapshot}
 use Rattle.snapshot.specs.Feeds.{GoOnEqually}
 use Rattle.dover_model.specs.declared.events.Version.TheVariants.{Two}
 use Rattle.dover_model.proofs.sessions.Accounts.{account_kept}
-use Rattle.std.specs.List.{fold}
 use Rattle.snapshot.proofs.Alike.{Alike, SameRun, GoAlike, lines_alike}
 use Rattle.event_feed.proofs.Behind.{account_behind, rest_behind}
 use Rattle.snapshot.proofs.Feeds.{go_on, same_alike, named}

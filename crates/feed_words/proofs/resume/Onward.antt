@@ -1,9 +1,6 @@
 -- What more bytes make of a reading: a line that is refused stays so, and a snapshot that is whole has bytes behind it.
-use Rattle.std.proofs.Common.{◌≡◌, ◌<◌, ℕ, List, [], ◌∷◌, ◌++◌, append_assoc, append-nil, length, drop, refl}
-use Rattle.std.proofs.Common.{sym, ap}
-use Rattle.std.proofs.Common.{◌∙◌, Bool, true, false, cond, arith, length-append}
-use Rattle.std.specs.List.{fold}
-use Rattle.std.proofs.lemmas.Bool.{ltb-true, lt-ltb}
+use Rattle.std.proofs.Common.{◌≡◌, ◌<◌, ℕ, List, [], ◌∷◌, ◌++◌, append_assoc, append-nil, length, drop, refl, sym, ap}
+use Rattle.std.proofs.Common.{◌∙◌, Bool, true, false, cond, arith, length-append, fold, ltb-true, lt-ltb}
 use Rattle.std.proofs.lemmas.List.Sums.{fold-append}
 use Rattle.dover_model.specs.declared.events.Task.{Task}
 use Rattle.dover_model.specs.Lines.{cut, in_lines, lines_of, whole_lines, rest_of, is_too_long}

@@ -1,7 +1,6 @@
 -- What a call comes to that reads a snapshot and serves its feed on, from its talk.
-use Rattle.std.proofs.Common.{◌≡◌, ℕ, suc, List, [], ◌∷◌, ◌++◌, length, refl, sym, ap, ◌∙◌, subst}
-use Rattle.std.proofs.Common.{false}
-use Rattle.std.proofs.Common.{inl, inr, arith, length-append, append-nil}
+use Rattle.std.proofs.Common.{◌≡◌, ℕ, suc, List, [], ◌∷◌, ◌++◌, length, refl, sym, ap, ◌∙◌, subst, false, inl, inr}
+use Rattle.std.proofs.Common.{arith, length-append, append-nil}
 use Rattle.dover_model.specs.declared.events.Task.{Task}
 use Rattle.dover_model.specs.Common.{lines_of, whole_lines, Begins}
 use Rattle.dover_model.proofs.lists.Tests.{never}
@@ -18,8 +17,8 @@ use Rattle.snapshot.proofs.Feeds.{named}
 use Rattle.feed_words.specs.serve.Keeping.{serve_talk}
 use Rattle.event_feed.proofs.Admitting.{declared_front}
 use Rattle.feed_words.specs.resume.Record.{is_part, MayRead, IsRefusedFor, Ends, Resumes}
-use Rattle.feed_words.specs.resume.Talk.{Asked, feed_of, behind_snapshot, IsRefusedAs, IsAnsweredBy, LacksBy}
-use Rattle.feed_words.specs.resume.Talk.{HasBegun, resume_talk}
+use Rattle.feed_words.specs.resume.Talk.{Asked, feed_of, behind_snapshot, IsRefusedAs, IsAnsweredBy, LacksBy, HasBegun}
+use Rattle.feed_words.specs.resume.Talk.{resume_talk}
 use Rattle.feed_words.proofs.resume.Equally.{may_same, ends_same}
 use Rattle.feed_words.proofs.resume.Onward.{feed_may}
 use Rattle.feed_words.proofs.resume.Talking.{goes_at, due_at, past}

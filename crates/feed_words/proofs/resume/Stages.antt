@@ -1,10 +1,7 @@
 -- What is kept of a snapshot, and then of its feed, as more bytes come.
-use Rattle.std.proofs.Common.{◌≡◌, ◌<◌, ◌≤◌, ◌+◌, ℕ, suc, List, [], ◌∷◌, ◌++◌, length, take, drop, refl}
-use Rattle.std.proofs.Common.{sym, ap}
-use Rattle.std.proofs.Common.{◌∙◌, subst, append_assoc, append-nil, arith, Bool, true, false, inl, Option, Some}
-use Rattle.std.proofs.Common.{None}
-use Rattle.std.proofs.Common.{Result, Ok, Err}
-use Rattle.std.proofs.lemmas.List.{take-append-drop}
+use Rattle.std.proofs.Common.{◌≡◌, ◌<◌, ◌≤◌, ◌+◌, ℕ, suc, List, [], ◌∷◌, ◌++◌, length, take, drop, refl, sym, ap, ◌∙◌}
+use Rattle.std.proofs.Common.{subst, append_assoc, append-nil, arith, Bool, true, false, inl, Option, Some, None}
+use Rattle.std.proofs.Common.{Result, Ok, Err, take-append-drop}
 use Rattle.dover_model.specs.declared.Memory.{Memory as Lacking}
 use Rattle.dover_model.specs.declared.events.Task.{Task}
 use Rattle.dover_model.specs.Common.{in_lines, lines_of, whole_lines, account, is_open, Begins}
@@ -34,11 +31,10 @@ use Rattle.feed_words.proofs.serve.Talking.{steady}
 use Rattle.feed_words.specs.resume.Opening.{OpeningStands, IsWholeAt, TakesFront, HasFewOf}
 use Rattle.feed_words.specs.resume.Record.{is_part, IsFrugalFor, refused_text}
 use Rattle.feed_words.specs.resume.Talk.{Asked, feed_of, behind_snapshot, goes_by, due_by, HasBegun, LacksBy}
-use Rattle.feed_words.specs.resume.Keeping.{IsPast}
-use Rattle.feed_words.specs.resume.Keeping.{IsOpen, IsStopped, IsGiving, IsServedOn}
+use Rattle.feed_words.specs.resume.Talk.{IsAnsweredBy, resume_talk}
+use Rattle.feed_words.specs.resume.Keeping.{IsPast, IsOpen, IsStopped, IsGiving, IsServedOn}
 use Rattle.feed_words.specs.declared.resume.resuming.SnapshotStage.{SnapshotStage}
 use Rattle.feed_words.specs.declared.resume.resuming.SnapshotStage.TheVariants as stage
-use Rattle.feed_words.specs.resume.Talk.{IsAnsweredBy, resume_talk}
 use Rattle.feed_words.specs.declared.resume.opening.Opening.{Opening}
 use Rattle.feed_words.proofs.resume.Bounds.{next_number}
 use Rattle.feed_words.proofs.resume.Onward.{taken_on, refused_on, feed_may, behind_on}

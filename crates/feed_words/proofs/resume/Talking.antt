@@ -19,8 +19,7 @@ use Rattle.feed_words.specs.serve.Keeping.{Call, due_behind, serve_talk}
 use Rattle.feed_words.proofs.serve.Talking.{steady}
 use Rattle.feed_words.specs.resume.Record.{Behind, IsFrugalFor}
 use Rattle.feed_words.specs.resume.Talk.{Asked, feed_of, behind_snapshot, goes_by, due_by, IsAnsweredBy, HasBegun}
-use Rattle.feed_words.specs.resume.Talk.{LacksBy}
-use Rattle.feed_words.specs.resume.Talk.{resume_talk}
+use Rattle.feed_words.specs.resume.Talk.{LacksBy, resume_talk}
 use Rattle.feed_words.proofs.resume.Bounds.{short_lines}
 use Rattle.feed_words.proofs.resume.Equally.{admitted_same}
 use Rattle.feed_words.proofs.resume.Onward.{taken_on, refused_on, front, feed_may, feed_text, parts_are, behind_on}

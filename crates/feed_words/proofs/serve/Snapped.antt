@@ -1,7 +1,6 @@
 -- A feed that goes on from its snapshot, one that is paused, and the lines of a snapshot, put one behind another.
 use Rattle.std.proofs.Common.{◌≡◌, ℕ, [], append-nil, sym, ap, ◌∙◌, subst, Some, true, ◌<◌, ◌+◌, ◌-◌, List, ◌∷◌, ◌++◌}
-use Rattle.std.proofs.Common.{length, take, drop, get_or, Option, arith, inl, inr, Err}
-use Rattle.std.specs.Prelude.{IfSome}
+use Rattle.std.proofs.Common.{length, take, drop, get_or, Option, arith, inl, inr, Err, IfSome, take-append-drop}
 use Rattle.dover_model.specs.Common.{instance_of, Session, lines_of, in_lines, account, settled}
 use Rattle.ready_server.specs.Rostering.{Serves, HasPaid as HasSpentBy, has_roster}
 use Rattle.ready_server.specs.declared.roster_server.RosterServer.{RosterServer}
@@ -19,7 +18,7 @@ use Rattle.snapshot.specs.Snapshot.{MayPause}
 use Rattle.snapshot.specs.Feeds.{ResumesFeed}
 use Rattle.snapshot.proofs.Feeds.{opened}
 use Rattle.feed_words.specs.serve.Keeping.{Call, IsReady}
-use Rattle.std.proofs.lemmas.List.{append-nil, take_more, take-append-drop}
+use Rattle.std.proofs.lemmas.List.{take_more}
 use Rattle.dover_model.proofs.lists.Beginnings.{in_lines-append}
 use Rattle.dover_port.specs.Moves.{Move, Passes, CutsShort}
 use Rattle.dover_port.proofs.Through.{passes_then, passes_then_cut, cut_longer}

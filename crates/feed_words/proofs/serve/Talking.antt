@@ -1,8 +1,7 @@
 -- A feed that is served, as a talk.
 use Rattle.std.proofs.Common.{◌≡◌, ◌<◌, ◌^◌, ◌-◌, ℕ, suc, List, [], ◌∷◌, ◌++◌, length, map, take, refl, sym, ap, ◌∙◌}
 use Rattle.std.proofs.Common.{arith, append_assoc, append-nil, length-append, Bool, true, false, cond, inl, inr, Result}
-use Rattle.std.proofs.Common.{Ok, Err, Option, subst}
-use Rattle.std.specs.Prelude.{OnOk}
+use Rattle.std.proofs.Common.{Ok, Err, Option, subst, OnOk}
 use Rattle.std.proofs.lemmas.List.{length-map}
 use Rattle.std.proofs.lemmas.List.Folds.{flat_map-map}
 use Rattle.dover_model.specs.declared.Memory.{Memory as Lacking}

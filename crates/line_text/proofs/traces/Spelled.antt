@@ -1,12 +1,10 @@
 -- A trace's line has one spelling: what is read has a form and the bytes as its text, and the text of what has a form
 -- is read as that.
 use Rattle.std.proofs.Common.{◌≡◌, ℕ, ◌^◌, ◌<◌, ◌≤◌, List, [], ◌∷◌, ◌++◌, map, refl, sym, ap, ◌∙◌, subst, Bool, true}
-use Rattle.std.proofs.Common.{false, Option, Some}
-use Rattle.std.proofs.Common.{None, arith, codes, decimal}
-use Rattle.std.specs.Prelude.{bytes_eq, nat_le, if◌then◌else◌, length, ◌==◌}
+use Rattle.std.proofs.Common.{false, Option, Some, None, arith, codes, decimal, bytes_eq, nat_le, if◌then◌else◌, length}
+use Rattle.std.proofs.Common.{◌==◌, option_and_then, option_map, le-leb, leb-true}
 use Rattle.std.specs.Bool.{then_some}
-use Rattle.std.specs.Option.{option_and_then, option_map, option_or}
-use Rattle.std.proofs.lemmas.Bool.{le-leb, leb-true}
+use Rattle.std.specs.Option.{option_or}
 use Rattle.std.proofs.lemmas.List.Splits.{length-slice_split}
 use Rattle.std.proofs.lemmas.Slice.Eq.{bytes_eq-Decides}
 use Rattle.dover_model.specs.declared.events.Event.{Event}
@@ -29,9 +27,9 @@ use Rattle.line_text.specs.declared.traces.lines.TraceLine.{TraceLine}
 use Rattle.line_text.specs.declared.traces.lines.TraceLine.TheVariants.{Header, Step, Refused, RefusedDone}
 use Rattle.line_text.specs.traces.Form.{last_number, trace_text, NamesJobs, HasForm, item_in, rules_in, pair_of}
 use Rattle.line_text.specs.traces.Form.{refused_job, refused_done}
-use Rattle.line_text.specs.traces.Reading.{◌>>=◌, job_number, new_job, release_of, one_job, two_jobs}
-use Rattle.line_text.specs.traces.Reading.{end_of, step_of_word, header_of, line_of_word, last_word, refused_of}
-use Rattle.line_text.specs.traces.Reading.{line_of_fields, is_done_left, refused_done_of, refusal_of}
+use Rattle.line_text.specs.traces.Reading.{◌>>=◌, job_number, new_job, release_of, one_job, two_jobs, end_of}
+use Rattle.line_text.specs.traces.Reading.{step_of_word, header_of, line_of_word, last_word, refused_of, line_of_fields}
+use Rattle.line_text.specs.traces.Reading.{is_done_left, refused_done_of, refusal_of}
 
 -- ---- steps
 

@@ -1,8 +1,7 @@
 -- What a run costs, said of its rows.
-use Rattle.std.proofs.Common.{◌≡◌, ℕ, ◌+◌, ◌-◌, ◌*◌, ◌≤◌, ◌<◌, List, ◌∷◌, length, drop, get_or, sym, ap, ◌∙◌}
-use Rattle.std.proofs.Common.{subst, arith}
+use Rattle.std.proofs.Common.{◌≡◌, ℕ, ◌+◌, ◌-◌, ◌*◌, ◌≤◌, ◌<◌, List, ◌∷◌, length, drop, get_or, sym, ap, ◌∙◌, subst}
+use Rattle.std.proofs.Common.{arith, sum_by}
 use Rattle.std.proofs.lemmas.List.{drop_all, drop_more}
-use Rattle.std.specs.List.{sum_by}
 use Rattle.dover_model.specs.Books as books
 use Rattle.dover_model.specs.Common.{Fraction, JobFacts, Instance, total_value, completed_value, ran, worth, observed}
 use Rattle.dover_model.specs.Common.{IsWithin, IsLeastDense, IsHeavy, Each}

@@ -1,11 +1,8 @@
 -- What a page knows of the jobs, where their roles change.
 use Rattle.std.proofs.Common.{◌≡◌, ◌≢◌, ℕ, suc, ◌+◌, ◌-◌, ◌≤◌, ◌<◌, ◌⊎◌, inl, inr, List, [], ◌∷◌, ◌++◌, length, map}
-use Rattle.std.proofs.Common.{get_or, refl, sym, ap, ◌∙◌}
-use Rattle.std.proofs.Common.{subst, true, false, cond, arith}
-use Rattle.std.specs.Prelude.{◌==◌}
-use Rattle.std.proofs.lemmas.Bool.{eq-eqb, ne_eqb}
-use Rattle.std.proofs.Common.{length-set, get_or-set_other, length-append}
-use Rattle.std.proofs.lemmas.List.{get_or-set_same, get_or_append_left}
+use Rattle.std.proofs.Common.{get_or, refl, sym, ap, ◌∙◌, subst, true, false, cond, arith, ◌==◌, eq-eqb, ne_eqb}
+use Rattle.std.proofs.Common.{length-set, get_or-set_other, length-append, get_or-set_same}
+use Rattle.std.proofs.lemmas.List.{get_or_append_left}
 use Rattle.std.proofs.Math.Seq.{get_or-append_seam}
 use Rattle.std.proofs.lemmas.Bool.{cases_lt}
 use Rattle.dover_model.specs.declared.events.Role.{Role}

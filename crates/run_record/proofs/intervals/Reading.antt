@@ -1,11 +1,9 @@
 -- The ledger reads a run: its page follows the states of the run, up to the end.
 use Rattle.std.proofs.Common.{◌≡◌, ℕ, ◌+◌, ◌*◌, ◌≤◌, ◌<◌, ◌^◌, ◌⊎◌, inl, inr, List, [], ◌∷◌, ◌++◌, length, map, refl}
-use Rattle.std.proofs.Common.{sym}
-use Rattle.std.proofs.Common.{ap, ◌∙◌, subst, Bool, true}
-use Rattle.std.proofs.Common.{false, cond, arith, append-nil}
-use Rattle.std.specs.Prelude.{Option, None, ◌==◌}
-use Rattle.std.specs.Bool.{MatchBool, then_some}
-use Rattle.std.specs.List.{sum_by, filter, filter_map, list_all, cons_option}
+use Rattle.std.proofs.Common.{sym, ap, ◌∙◌, subst, Bool, true, false, cond, arith, append-nil, Option, None, ◌==◌}
+use Rattle.std.proofs.Common.{MatchBool, sum_by, filter, filter_map}
+use Rattle.std.specs.Bool.{then_some}
+use Rattle.std.specs.List.{list_all, cons_option}
 use Rattle.dover_model.specs.Common.{Fraction, Instance, IsListable, IsValid, State, opening, is_privileged, is_done}
 use Rattle.dover_model.specs.Common.{is_over, value_sum, Move, Prints, Waits, Ticks, step, after, ending, ◌or_else◌}
 use Rattle.dover_model.specs.Common.{Step, is_end, event_of, printed_of, printed, run, completed_value, value_of_end}

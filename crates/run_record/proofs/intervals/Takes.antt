@@ -1,7 +1,6 @@
 -- The page follows a take.
-use Rattle.std.proofs.Common.{◌≡◌, ℕ, ◌+◌, ◌<◌, ◌^◌, List, refl, sym, ap, ◌∙◌, subst, true}
-use Rattle.std.proofs.Common.{zero-add}
-use Rattle.std.specs.Prelude.{Option, Some, None}
+use Rattle.std.proofs.Common.{◌≡◌, ℕ, ◌+◌, ◌<◌, ◌^◌, List, refl, sym, ap, ◌∙◌, subst, true, zero-add, Option, Some}
+use Rattle.std.proofs.Common.{None}
 use Rattle.dover_model.specs.Intervals as model
 use Rattle.dover_model.specs.declared.events.Event.TheVariants.{Take}
 use Rattle.dover_model.specs.declared.events.Role.TheVariants.{Waiting, Running}

@@ -1,7 +1,6 @@
 -- What the active jobs are worth before each step of a run, read with the ledger.
 use Rattle.std.proofs.Common.{◌≡◌, ℕ, ◌+◌, ◌≤◌, ◌<◌, List, [], ◌∷◌, ◌++◌, length, drop, get_or, sym, ap, ◌∙◌, subst}
-use Rattle.std.proofs.Common.{append_assoc, append-nil}
-use Rattle.std.specs.List.{filter_map}
+use Rattle.std.proofs.Common.{append_assoc, append-nil, filter_map}
 use Rattle.std.proofs.lemmas.List.{drop_all}
 use Rattle.dover_model.specs.Common.{Fraction, Instance}
 use Rattle.dover_model.specs.declared.events.Event.{Event}

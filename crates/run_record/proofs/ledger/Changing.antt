@@ -1,8 +1,7 @@
 -- What a change of one job's role says of the tasks and of the held jobs.
-use Rattle.std.proofs.Common.{◌≡◌, ℕ, suc, inl, inr, List, ◌∷◌, sym, ap, ◌∙◌, arith, map, refl, ◌+◌, ◌<◌, []}
-use Rattle.std.proofs.Common.{◌++◌, length, zero, set, get_or, subst, Bool, true, false, cond}
-use Rattle.std.specs.Prelude.{Some, ◌==◌, nat_lt}
-use Rattle.std.specs.List.{slice_get, filter}
+use Rattle.std.proofs.Common.{◌≡◌, ℕ, suc, inl, inr, List, ◌∷◌, sym, ap, ◌∙◌, arith, map, refl, ◌+◌, ◌<◌, [], ◌++◌}
+use Rattle.std.proofs.Common.{length, zero, set, get_or, subst, Bool, true, false, cond, Some, ◌==◌, nat_lt, slice_get}
+use Rattle.std.proofs.Common.{filter}
 use Rattle.dover_model.specs.declared.events.Task.{Task}
 use Rattle.dover_model.specs.Common.{IsMember, IsNumberedFrom, Each, entry_of, with_role, is_held}
 use Rattle.dover_model.proofs.steps.Roles.{numbers_above}

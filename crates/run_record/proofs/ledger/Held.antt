@@ -1,8 +1,6 @@
 -- What the entries of the held jobs say of their room and value.
 use Rattle.std.proofs.Common.{◌≡◌, sym, ◌∙◌, true, List, map, ap, ◌∷◌, refl, Bool, false, cond, ℕ, ◌<◌, inl, inr, subst}
-use Rattle.std.proofs.Common.{[], arith, ◌+◌, ◌≤◌}
-use Rattle.std.specs.List.{filter, sum_by}
-use Rattle.std.specs.Prelude.{◌||◌, nat_lt, Some}
+use Rattle.std.proofs.Common.{[], arith, ◌+◌, ◌≤◌, filter, sum_by, ◌||◌, nat_lt, Some}
 use Rattle.std.proofs.lemmas.List.Sums.{sum_by-cons}
 use Rattle.dover_model.specs.declared.events.Role.TheVariants.{Running, Held}
 use Rattle.dover_model.specs.declared.events.Task.{Task}

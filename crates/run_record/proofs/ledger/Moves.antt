@@ -1,9 +1,7 @@
 -- The page follows each step of the machine.
 use Rattle.std.proofs.Common.{◌≡◌, ℕ, ◌+◌, ◌≤◌, ◌<◌, ◌⊎◌, inl, inr, List, ◌∷◌, length, refl, sym, ap, ◌∙◌, subst, Bool}
-use Rattle.std.proofs.Common.{true, false, cond, arith}
-use Rattle.std.proofs.lemmas.Bool.{eq-eqb, ne_eqb}
+use Rattle.std.proofs.Common.{true, false, cond, arith, eq-eqb, ne_eqb, Option, Some, None, ◌==◌, nat_lt}
 use Rattle.std.proofs.lemmas.List.Sums.{sum_by-cons}
-use Rattle.std.specs.Prelude.{Option, Some, None, ◌==◌, nat_lt}
 use Rattle.std.specs.Option.{ForSome}
 use Rattle.std.specs.Bool.{then_some}
 use Rattle.dover_model.specs.Common.{Fraction, entry_of, IsMember, Each, IsNumberedFrom, IsSound, NoneRuns, State}
@@ -27,8 +25,7 @@ use Rattle.dover_model.proofs.steps.RoleChanges.{with_role_at, all_displaced, di
 use Rattle.run_record.proofs.ledger.Changing.{entries_later}
 use Rattle.run_record.proofs.ledger.Held.{busy_room, held_value, value_room}
 use Rattle.run_record.specs.ledger.Pages.{Page, empty, turn_at, stopped, started, with_hold, without, room_with}
-use Rattle.run_record.specs.ledger.Pages.{CanHold}
-use Rattle.run_record.specs.ledger.Pages.{CanStop}
+use Rattle.run_record.specs.ledger.Pages.{CanHold, CanStop}
 use Rattle.run_record.proofs.ledger.Follows.{IsTurn, Follows, Next}
 use Rattle.run_record.proofs.ledger.Roles.{held_same, held_more, held_less, none_pass, top_held, one_runner, each_all}
 use Rattle.run_record.proofs.ledger.Steps.{at_clock, within, the_turn, turned, halted, passed, starts, displaces}

@@ -1,8 +1,7 @@
 -- Jobs whose roles change: which stand in the held stack, and which runs.
 use Rattle.std.proofs.Common.{◌≡◌, ℕ, suc, ◌+◌, ◌-◌, ◌<◌, inl, inr, List, [], ◌∷◌, map, refl, sym, ap, ◌∙◌, subst, Bool}
-use Rattle.std.proofs.Common.{true, false, cond, arith}
-use Rattle.std.specs.Prelude.{Some}
-use Rattle.std.specs.List.{filter, AllByRecursion}
+use Rattle.std.proofs.Common.{true, false, cond, arith, Some, filter}
+use Rattle.std.specs.List.{AllByRecursion}
 use Rattle.std.proofs.lemmas.Option.{slice_get_within}
 use Rattle.dover_model.specs.declared.events.Entry.{Entry}
 use Rattle.dover_model.specs.declared.events.Role.{Role}

@@ -1,11 +1,9 @@
 -- The steps of a run are read: the page follows its states, up to the end.
 use Rattle.std.proofs.Common.{◌≡◌, ℕ, suc, ◌+◌, ◌-◌, ◌≤◌, ◌<◌, ◌⊎◌, inl, inr, List, [], ◌∷◌, ◌++◌, length, map, drop}
 use Rattle.std.proofs.Common.{get_or, refl, sym, ap, ◌∙◌, subst, Bool, true, false, arith, append_assoc, append-nil}
-use Rattle.std.proofs.Common.{add-one}
+use Rattle.std.proofs.Common.{add-one, None, slice_index_or, MatchBool, sum_by, filter, filter_map, fold}
 use Rattle.std.proofs.lemmas.List.{drop_all, length-map}
-use Rattle.std.specs.Prelude.{None, slice_index_or}
-use Rattle.std.specs.Bool.{MatchBool}
-use Rattle.std.specs.List.{sum_by, filter, filter_map, list_all, cons_option, fold, enumerate_from}
+use Rattle.std.specs.List.{list_all, cons_option, enumerate_from}
 use Rattle.dover_model.specs.Common.{Fraction, Instance, IsListable, IsValid, entry_of, JobFacts, end_state, served}
 use Rattle.dover_model.specs.Common.{IsMember, Each, IsNumberedFrom, jobs_of, Keeps, State, opening, to_come, is_done}
 use Rattle.dover_model.specs.Common.{is_over, is_held, value_sum, Move, Prints, Waits, Ticks, step, after, ending}

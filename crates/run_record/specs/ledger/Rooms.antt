@@ -1,7 +1,5 @@
 -- What a fresh job's work is tested against, step by step.
-use Rattle.std.specs.Prelude.{ℕ, List, Option}
-use Rattle.std.specs.List.{filter_map}
-use Rattle.std.specs.Option.{option_map}
+use Rattle.std.specs.Prelude.{ℕ, List, Option, filter_map, option_map}
 use Rattle.dover_model.specs.declared.events.Event.{Event}
 use Rattle.dover_model.specs.declared.events.Event.TheVariants.{Release, Preempt}
 use Rattle.dover_model.specs.Common.{Instance, State, privileged, room, Step, event_of, run}

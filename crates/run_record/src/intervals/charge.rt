@@ -1,6 +1,5 @@
 //! What a run completes, displaces and abandons, interval by interval.
-ghost use Rattle.std.specs.Prelude.{◌≡◌, ◌≤◌, ◌+◌, ◌-◌, ◌*◌, ℕ, List, map, IfOk};
-ghost use Rattle.std.specs.List.{sum_by};
+ghost use Rattle.std.specs.Prelude.{◌≡◌, ◌≤◌, ◌+◌, ◌-◌, ◌*◌, ℕ, List, map, IfOk, sum_by};
 ghost use Rattle.dover_model.specs.Common.{Instance, total_value, ran, completed_value, worth, observed, IsWithin};
 ghost use Rattle.dover_model.specs.Common.{IsLeastDense, IsPaid, intervals, JobFacts, IsHeavy, Each};
 ghost use Rattle.run_record.specs.intervals.Rows.{IsRunOf, numbers_of, rows_of};

@@ -1,11 +1,9 @@
 -- Counts among the printed steps of a run are those of its report.
-use Rattle.std.proofs.Common.{◌≡◌, ℕ, ◌+◌, ◌*◌, ◌≤◌, ◌<◌, List, [], ◌∷◌, ◌++◌, length, map, take, get_or, refl}
-use Rattle.std.proofs.Common.{sym, ap, ◌∙◌}
-use Rattle.std.proofs.Common.{cond, arith}
-use Rattle.std.proofs.lemmas.List.{length-take, length-take-le}
-use Rattle.std.specs.Prelude.{Option, Some, None, option_to_list, codes, Bool, true, false, nat_lt}
+use Rattle.std.proofs.Common.{◌≡◌, ℕ, ◌+◌, ◌*◌, ◌≤◌, ◌<◌, List, [], ◌∷◌, ◌++◌, length, map, take, get_or, refl, sym, ap}
+use Rattle.std.proofs.Common.{◌∙◌, cond, arith, length-take, length-take-le, Option, Some, None, option_to_list, codes}
+use Rattle.std.proofs.Common.{Bool, true, false, nat_lt, filter_map, sum_by, count_by}
 use Rattle.std.specs.Bool.{then_some}
-use Rattle.std.specs.List.{filter_map, sum_by, count_by, cons_option, enumerate_from}
+use Rattle.std.specs.List.{cons_option, enumerate_from}
 use Rattle.std.proofs.lemmas.List.{take_more}
 use Rattle.std.proofs.lemmas.List.Sums.{sum_by-cons, count_by-le-length}
 use Rattle.std.proofs.lemmas.List.Elements.{filter_map-append}
@@ -31,8 +29,8 @@ use Rattle.run_record.specs.intervals.Totals.{is_release, is_completion, is_aban
 use Rattle.run_record.specs.declared.intervals.interval.Interval.{Interval}
 use Rattle.run_record.specs.declared.intervals.totals.JobTotals.{JobTotals}
 use Rattle.run_record.proofs.intervals.Counted.{sum_more}
-use Rattle.run_reports.specs.report.Counts.{job_released, jobs_released, value_in, value_lost, all_lost}
-use Rattle.run_reports.specs.report.Counts.{counts_of, fates_lines, bound_line, counts_lines}
+use Rattle.run_reports.specs.report.Counts.{job_released, jobs_released, value_in, value_lost, all_lost, counts_of}
+use Rattle.run_reports.specs.report.Counts.{fates_lines, bound_line, counts_lines}
 use Rattle.run_reports.specs.report.Early.{left_in, left_at, early_of, with_left, HasRoom, early_line, lines_where}
 use Rattle.run_reports.specs.report.Early.{early_lines}
 use Rattle.run_reports.specs.declared.report.early.Early.{Early}

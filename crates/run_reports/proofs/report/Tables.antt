@@ -1,14 +1,11 @@
 -- The table of a run, put together row by row.
 use Rattle.std.proofs.Common.{◌≡◌, ℕ, zero, suc, ◌+◌, ◌-◌, ◌≤◌, ◌<◌, List, [], ◌∷◌, ◌++◌, length, map, take, drop, set}
-use Rattle.std.proofs.Common.{refl, sym, ap, ◌∙◌, Bool, true, false, cond, arith, get_or, replicate}
-use Rattle.std.proofs.Common.{append-nil, length-set}
-use Rattle.std.specs.Prelude.{Option, Some, None, ◌==◌, nat_lt, codes, decimal, slice_index_or}
-use Rattle.std.specs.List.{filter_map, find, enumerate_from, join_with_byte}
-use Rattle.std.specs.Option.{option_map}
-use Rattle.std.proofs.lemmas.Bool.{eqb-true, eqb-false, lt-ltb}
-use Rattle.std.proofs.lemmas.List.{get_or-set_same, get_or-set_other, length-replicate}
-use Rattle.std.proofs.lemmas.List.{get_or-replicate}
-use Rattle.std.proofs.lemmas.List.{drop_all}
+use Rattle.std.proofs.Common.{refl, sym, ap, ◌∙◌, Bool, true, false, cond, arith, get_or, replicate, append-nil}
+use Rattle.std.proofs.Common.{length-set, Option, Some, None, ◌==◌, nat_lt, codes, decimal, slice_index_or, filter_map}
+use Rattle.std.proofs.Common.{find, option_map, eqb-true, lt-ltb, get_or-set_same, get_or-set_other}
+use Rattle.std.specs.List.{enumerate_from, join_with_byte}
+use Rattle.std.proofs.lemmas.Bool.{eqb-false}
+use Rattle.std.proofs.lemmas.List.{length-replicate, get_or-replicate, drop_all}
 use Rattle.std.proofs.Math.Seq.{take-append_seam}
 use Rattle.dover_model.specs.declared.events.Event.{Event}
 use Rattle.dover_model.specs.declared.events.Event.TheVariants.{Release, Complete, Abandon}
@@ -22,9 +19,8 @@ use Rattle.run_reports.specs.declared.report.endings.Ending.{Ending}
 use Rattle.run_reports.specs.declared.report.endings.Ending.TheVariants.{Completed, Abandoned}
 use Rattle.run_reports.specs.report.Counts.{jobs_released}
 use Rattle.run_reports.specs.report.Rows.{ending_of, ending_in, ending_by, ending_at, ending_fields, after_commas}
-use Rattle.run_reports.specs.report.Rows.{row_text}
-use Rattle.run_reports.specs.report.Rows.{with_place, with_step, had_fields, names_line}
-use Rattle.run_reports.specs.report.Rows.{rows_of_steps, rows_left, FindsNext}
+use Rattle.run_reports.specs.report.Rows.{row_text, with_place, with_step, had_fields, names_line, rows_of_steps}
+use Rattle.run_reports.specs.report.Rows.{rows_left, FindsNext}
 use Rattle.run_reports.specs.report.Early.{had_at}
 use Rattle.run_reports.proofs.report.Counting.{jobs_are}
 

@@ -1,7 +1,6 @@
 -- Reports on runs in which jobs finish early, by computation.
 use Rattle.dover_model.specs.Common.{fraction, with_factor, Finish, Instance, JobFacts, report, table, summary}
-use Rattle.std.proofs.Common.{◌≡◌, ℕ, List, [], ◌∷◌, ◌++◌, refl}
-use Rattle.std.specs.Prelude.{codes}
+use Rattle.std.proofs.Common.{◌≡◌, ℕ, List, [], ◌∷◌, ◌++◌, refl, codes}
 use Rattle.std.specs.Fmt.{digits}
 use Rattle.dover_model.specs.declared.events.Version.TheVariants.{Three}
 use Rattle.dover_model.proofs.rows.Written.{job, bytes}

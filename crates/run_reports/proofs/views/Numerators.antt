@@ -1,11 +1,10 @@
 -- Of the ratios with one denominator, the greatest for which a value is heavy.
 use Rattle.std.proofs.Common.{◌≡◌, ℕ, zero, suc, ◌+◌, ◌-◌, ◌*◌, ◌/◌, ◌^◌, ◌≤◌, ◌<◌, ◌⊎◌, ◌↔◌, inl, inr, refl, sym, ap}
-use Rattle.std.proofs.Common.{◌∙◌}
-use Rattle.std.proofs.Common.{Bool, true, false, IsTrue, arith, subst}
-use Rattle.std.specs.Prelude.{◌&&◌, nat_le, if◌then◌else◌, Some, None}
+use Rattle.std.proofs.Common.{◌∙◌, Bool, true, false, IsTrue, arith, subst, ◌&&◌, nat_le, if◌then◌else◌, Some, None}
+use Rattle.std.proofs.Common.{le-leb}
 use Rattle.std.proofs.Math.Nat.{mul-le-mul_right, le-div_iff_mul-le}
 use Rattle.std.proofs.lemmas.Nat.{mul-le}
-use Rattle.std.proofs.lemmas.Bool.{cases_lt, lt-leb, le-leb}
+use Rattle.std.proofs.lemmas.Bool.{cases_lt, lt-leb}
 use Rattle.dover_model.specs.Common.{IsRatio, fraction, greatest, most_p, is_heavy, IsHeavy}
 use Rattle.dover_model.specs.Greatest.{greatest_from}
 use Rattle.dover_model.proofs.bound.GreatestLaws.{IsDownwardClosed, greatest-is}

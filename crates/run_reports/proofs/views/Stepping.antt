@@ -1,8 +1,7 @@
 -- The printed steps of a run beside what is weighed before each, one after another.
 use Rattle.std.proofs.Common.{◌≡◌, ℕ, suc, ◌+◌, ◌≤◌, ◌<◌, List, [], ◌∷◌, length, drop, get_or, refl, sym, ap, ◌∙◌}
-use Rattle.std.proofs.Common.{arith, add-one, drop-cons}
-use Rattle.std.specs.List.{zip, filter_map, cons_option}
-use Rattle.std.specs.Option.{option_map}
+use Rattle.std.proofs.Common.{arith, add-one, drop-cons, zip, filter_map, option_map}
+use Rattle.std.specs.List.{cons_option}
 use Rattle.std.proofs.lemmas.List.{drop_all}
 use Rattle.std.proofs.lemmas.Slice.Zip.{length-zip, get_or-zip}
 use Rattle.dover_model.specs.declared.events.Event.{Event}

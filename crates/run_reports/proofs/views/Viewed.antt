@@ -1,8 +1,6 @@
 -- The events for a viewer, step by step.
 use Rattle.std.proofs.Common.{◌≡◌, ℕ, ◌+◌, ◌≤◌, ◌<◌, List, ◌++◌, length, drop, get_or, sym, ap, ◌∙◌, append_assoc}
-use Rattle.std.proofs.Common.{append-nil}
-use Rattle.std.specs.Prelude.{codes}
-use Rattle.std.specs.List.{zip}
+use Rattle.std.proofs.Common.{append-nil, codes, zip}
 use Rattle.dover_model.specs.declared.events.Event.{Event}
 use Rattle.dover_model.specs.Common.{JobFacts, Instance, served, Fraction}
 use Rattle.run_reports.specs.report.Counts.{jobs_released, value_lost}

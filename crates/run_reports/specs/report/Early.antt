@@ -1,7 +1,6 @@
 -- The jobs that completed with work left, counted step by step.
-use Rattle.std.specs.Prelude.{ℕ, ◌+◌, ◌-◌, ◌<◌, ◌^◌, List, [], ◌∷◌, codes, Bool, nat_lt, if◌then◌else◌, Option}
-use Rattle.std.specs.Prelude.{Some, None, slice_get, slice_index_or}
-use Rattle.std.specs.List.{sum_by, count_by}
+use Rattle.std.specs.Prelude.{ℕ, ◌+◌, ◌-◌, ◌<◌, ◌^◌, List, [], ◌∷◌, codes, Bool, nat_lt, if◌then◌else◌, Option, Some}
+use Rattle.std.specs.Prelude.{None, slice_get, slice_index_or, sum_by, count_by}
 use Rattle.std.specs.Option.{option_map_or}
 use Rattle.dover_model.specs.declared.events.Event.{Event}
 use Rattle.dover_model.specs.declared.events.Event.TheVariants.{Complete}

@@ -1,10 +1,8 @@
 -- The rows of a table: a job, and how it ended.
-use Rattle.std.specs.Prelude.{◌≡◌, ℕ, ◌+◌, ◌<◌, ◌≤◌, List, [], ◌∷◌, ◌++◌, length, map, drop, set, ◌==◌, nat_lt}
-use Rattle.std.specs.Prelude.{Bool, true, false}
-use Rattle.std.specs.Prelude.{if◌then◌else◌, slice_get, slice_index_or, Option, Some, None}
-use Rattle.std.specs.Prelude.{codes, decimal}
-use Rattle.std.specs.List.{filter_map, find, flat_map}
-use Rattle.std.specs.Option.{option_map, option_map_or}
+use Rattle.std.specs.Prelude.{◌≡◌, ℕ, ◌+◌, ◌<◌, ◌≤◌, List, [], ◌∷◌, ◌++◌, length, map, drop, set, ◌==◌, nat_lt, Bool}
+use Rattle.std.specs.Prelude.{true, false, if◌then◌else◌, slice_get, slice_index_or, Option, Some, None, codes, decimal}
+use Rattle.std.specs.Prelude.{filter_map, find, flat_map, option_map}
+use Rattle.std.specs.Option.{option_map_or}
 use Rattle.dover_model.specs.declared.events.Event.{Event}
 use Rattle.dover_model.specs.declared.events.Event.TheVariants.{Release, Run, Preempt, Take, Complete, Abandon, End}
 use Rattle.dover_model.specs.JobFacts.{JobFacts, job_numbers}

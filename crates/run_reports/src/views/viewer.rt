@@ -1,6 +1,5 @@
 //! A run as events for a viewer of traces.
-ghost use Rattle.std.specs.Prelude.{◌≡◌, ◌≤◌, ◌++◌, ◌∷◌, [], ◌+◌, ◌*◌, length, OnOk, IfOk, codes};
-ghost use Rattle.std.specs.List.{zip};
+ghost use Rattle.std.specs.Prelude.{◌≡◌, ◌≤◌, ◌++◌, ◌∷◌, [], ◌+◌, ◌*◌, length, OnOk, IfOk, codes, zip};
 ghost use Rattle.run_record.specs.intervals.Rows.{IsRunOf};
 ghost use Rattle.dover_model.specs.Common.{Instance, most_value};
 ghost use Rattle.run_reports.specs.report.Counts as counts;

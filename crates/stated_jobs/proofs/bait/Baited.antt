@@ -1,9 +1,6 @@
 -- The run of a baiting feed is worth the last link.
 use Rattle.std.proofs.Common.{◌≡◌, ℕ, zero, suc, ◌+◌, ◌-◌, ◌*◌, ◌≤◌, ◌<◌, ◌⊎◌, inl, inr, List, [], ◌∷◌, refl, sym, ap}
-use Rattle.std.proofs.Common.{◌∙◌, subst, Bool, true, false, cond}
-use Rattle.std.proofs.Common.{arith, eqb}
-use Rattle.std.specs.Prelude.{None}
-use Rattle.std.proofs.lemmas.Bool.{eq-eqb, ne_eqb, eqb-true}
+use Rattle.std.proofs.Common.{◌∙◌, subst, Bool, true, false, cond, arith, eqb, None, eq-eqb, ne_eqb, eqb-true}
 use Rattle.dover_model.specs.Common.{Fraction, IsRatio, JobFacts, IsJob, Instance, IsValid, is_heavy, unit_value}
 use Rattle.dover_model.specs.Common.{most_light, first_link, bait_value, bait_tick, tight_job, chain_jobs, bait_jobs}
 use Rattle.dover_model.specs.Common.{last_link, opening, step, Step, run, completed_value, step_at, IsMember, Each}
@@ -19,11 +16,8 @@ use Rattle.stated_jobs.specs.bait.BaitingRuns.{baiting}
 use Rattle.stated_jobs.proofs.bait.Heavy.{light_least}
 use Rattle.stated_jobs.proofs.bait.RunWeights.{most_light_light, unit_light}
 use Rattle.stated_jobs.proofs.bait.RunLinks.{last_from, end_from, links, last_is, end_is, IsTight, links_tight}
-use Rattle.stated_jobs.proofs.bait.RunLinks.{links_due}
-use Rattle.stated_jobs.proofs.bait.RunLinks.{AreSmall, links_above, last_above}
-use Rattle.stated_jobs.proofs.bait.RunLinks.{last_small, last_more, links_most, links_heavier, HasNext, links_next}
-use Rattle.stated_jobs.proofs.bait.RunLinks.{links_last}
-use Rattle.stated_jobs.proofs.bait.RunLinks.{links_one}
+use Rattle.stated_jobs.proofs.bait.RunLinks.{links_due, AreSmall, links_above, last_above, last_small, last_more}
+use Rattle.stated_jobs.proofs.bait.RunLinks.{links_most, links_heavier, HasNext, links_next, links_last, links_one}
 use Rattle.stated_jobs.proofs.bait.RunFeeds.{unit_at, IsUnit, bait, feed_is, link_in_feed, feed_begins, feed_sum}
 use Rattle.stated_jobs.proofs.bait.Steady.{IsLast, IsChained, Stands, IsSteady, done_at_end, step_steady}
 use Rattle.stated_jobs.proofs.bait.Steady.{value_of_steady}

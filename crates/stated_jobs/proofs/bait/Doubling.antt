@@ -1,7 +1,6 @@
 -- At ratio one each link is twice the one before it and one, and the schedule is worth almost four times the last.
 use Rattle.std.proofs.Common.{◌≡◌, ℕ, zero, suc, ◌+◌, ◌-◌, ◌*◌, ◌/◌, ◌^◌, ◌≤◌, ◌<◌, [], ◌∷◌, sym, ap, ◌∙◌, subst, arith}
-use Rattle.std.specs.Prelude.{None}
-use Rattle.std.specs.List.{sum}
+use Rattle.std.proofs.Common.{None, sum}
 use Rattle.std.proofs.lemmas.List.Sums.{sum_by-cons}
 use Rattle.std.proofs.Math.Nat.{pow-succ', div_self, mul-div_cancel_left}
 use Rattle.dover_model.specs.declared.events.Version.TheVariants.{Two}

@@ -1,9 +1,6 @@
 -- What the fields of a Bait say, and what they become when a job is given.
 use Rattle.std.proofs.Common.{◌≡◌, ℕ, zero, suc, ◌+◌, ◌-◌, ◌*◌, ◌≤◌, ◌<◌, ◌⊎◌, inl, inr, List, [], ◌∷◌, Bool, true}
-use Rattle.std.proofs.Common.{false, cond, length, sym, ap}
-use Rattle.std.proofs.Common.{◌∙◌, subst}
-use Rattle.std.proofs.Common.{arith, Fits, w32, w64}
-use Rattle.std.specs.List.{sum}
+use Rattle.std.proofs.Common.{false, cond, length, sym, ap, ◌∙◌, subst, arith, Fits, w32, w64, sum}
 use Rattle.std.proofs.lemmas.Nat.{mul-le}
 use Rattle.std.proofs.lemmas.Bool.{cases_lt}
 use Rattle.std.proofs.lemmas.List.Sums.{sum_by-cons}

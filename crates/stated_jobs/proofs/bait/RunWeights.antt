@@ -1,6 +1,5 @@
 -- What is heavy, the greatest value that isn't, and the first link.
-use Rattle.std.proofs.Common.{◌≡◌, ℕ, suc, ◌/◌, ◌^◌, ◌≤◌, ◌<◌, refl, true, false, arith}
-use Rattle.std.specs.Prelude.{not}
+use Rattle.std.proofs.Common.{◌≡◌, ℕ, suc, ◌/◌, ◌^◌, ◌≤◌, ◌<◌, refl, true, false, arith, not}
 use Rattle.std.proofs.lemmas.Nat.{le-div}
 use Rattle.std.proofs.Math.Nat.{div-le_self}
 use Rattle.dover_model.specs.Common.{Fraction, IsRatio, is_heavy, IsGreatest, greatest, unit_value, most_light}

@@ -1,11 +1,10 @@
 -- A run of a chain of links, each taking from the one before it: what every state keeps, and what is done at the end.
 use Rattle.std.proofs.Common.{◌≡◌, ℕ, ◌+◌, ◌≤◌, ◌<◌, ◌⊎◌, inl, inr, List, [], ◌∷◌, map, refl, sym, ap, ◌∙◌, subst, Bool}
-use Rattle.std.proofs.Common.{true, false, cond}
-use Rattle.std.proofs.Common.{arith, eqb}
-use Rattle.std.specs.List.{sum_by, filter, list_all}
-use Rattle.std.specs.Prelude.{nat_lt, ◌&&◌}
+use Rattle.std.proofs.Common.{true, false, cond, arith, eqb, sum_by, filter, nat_lt, ◌&&◌, eqb-true, eq-eqb, ne_eqb}
+use Rattle.std.proofs.Common.{ltb-false}
+use Rattle.std.specs.List.{list_all}
 use Rattle.std.specs.Bool.{then_some}
-use Rattle.std.proofs.lemmas.Bool.{eqb-true, eq-eqb, ne_eqb, cases_lt, ltb-false}
+use Rattle.std.proofs.lemmas.Bool.{cases_lt}
 use Rattle.dover_model.specs.Common.{JobFacts, Fraction, Rules, goes_on, is_complete, State, is_privileged, is_over}
 use Rattle.dover_model.specs.Common.{is_done, privileged, left, value_sum, is_heavy, Move, Prints, Ticks, step, after}
 use Rattle.dover_model.specs.Common.{with_role, displaced, ticked, ending, ◌or_else◌, IsMember, Each, EachTwo, FitsRole}
@@ -19,14 +18,13 @@ use Rattle.dover_model.proofs.lists.Members.{on_map, map_member, sum_filter, sum
 use Rattle.dover_model.proofs.steps.Roles.{one_number, numbers_above, passes, is_privileged_role, is_over_role}
 use Rattle.dover_model.proofs.steps.Loads.{sum_change, with_roles, Fits, load}
 use Rattle.dover_model.proofs.steps.OneChange.{changed, state_with, EachOther, on_changed, changed_here, changed_there}
-use Rattle.dover_model.proofs.steps.Moves.{says}
+use Rattle.dover_model.proofs.steps.Moves.{says, displaced_rests}
 use Rattle.dover_model.proofs.steps.Ticking.{Quiet}
 use Rattle.dover_model.proofs.steps.Deeds.{Deed, Completed, Resumed, Started, Began, Preempted, Stayed, Arrived, Taken}
 use Rattle.dover_model.proofs.steps.Deeds.{Abandoned, Rested}
 use Rattle.dover_model.proofs.bound.Calculus.{heavy_more}
 use Rattle.dover_model.proofs.steps.Kept.{end_same}
 use Rattle.dover_model.proofs.lists.Tests.{never}
-use Rattle.dover_model.proofs.steps.Moves.{displaced_rests}
 
 -- where the move completes the job that runs, that has no work left
 abbrev pub DoneAtEnd : State → Move → Type 0

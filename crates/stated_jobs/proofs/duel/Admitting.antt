@@ -1,6 +1,5 @@
 -- The jobs of a duel are admitted one by one, where they are valid.
-use Rattle.std.proofs.Common.{◌≡◌, ℕ, ◌≤◌, List, [], ◌∷◌, ◌++◌, sym, ap, ◌∙◌, subst}
-use Rattle.std.proofs.Common.{append_assoc, None}
+use Rattle.std.proofs.Common.{◌≡◌, ℕ, ◌≤◌, List, [], ◌∷◌, ◌++◌, sym, ap, ◌∙◌, subst, append_assoc, None}
 use Rattle.std.specs.List.{AllByRecursion}
 use Rattle.dover_model.specs.declared.events.Version.TheVariants.{One}
 use Rattle.dover_model.specs.Common.{Fraction, JobFacts, IsJob, Declaration, jobs_under, refusal_of}

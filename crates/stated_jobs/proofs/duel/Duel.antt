@@ -1,8 +1,7 @@
 -- Every on-line scheduler loses on a front of these jobs.
-use Rattle.std.proofs.Common.{◌≡◌, ℕ, zero, suc, ◌+◌, ◌-◌, ◌*◌, ◌≤◌, ◌<◌, List, [], ◌∷◌}
-use Rattle.std.proofs.Common.{refl, sym, ap, ◌∙◌, subst, length, arith, Some, None, replicate}
-use Rattle.std.specs.Prelude.{slice_get, Option}
-use Rattle.std.specs.List.{sum, AllByRecursion}
+use Rattle.std.proofs.Common.{◌≡◌, ℕ, zero, suc, ◌+◌, ◌-◌, ◌*◌, ◌≤◌, ◌<◌, List, [], ◌∷◌, refl, sym, ap, ◌∙◌, subst}
+use Rattle.std.proofs.Common.{length, arith, Some, None, replicate, slice_get, Option, sum}
+use Rattle.std.specs.List.{AllByRecursion}
 use Rattle.std.proofs.lemmas.Nat.{mul-le}
 use Rattle.dover_model.specs.Common.{JobFacts, Fraction, known_at}
 use Rattle.dover_model.specs.declared.events.Version.{Version}

@@ -1,8 +1,7 @@
 -- Duels within the limits, by computation.
-use Rattle.std.proofs.Common.{◌≡◌, ℕ, ◌≤◌, List, refl, sym, subst, length, arith, Bool, true, false}
-use Rattle.std.specs.Prelude.{◌&&◌, nat_le}
+use Rattle.std.proofs.Common.{◌≡◌, ℕ, ◌≤◌, List, refl, sym, subst, length, arith, Bool, true, false, ◌&&◌, nat_le}
+use Rattle.std.proofs.Common.{leb-true}
 use Rattle.std.specs.List.{list_all}
-use Rattle.std.proofs.lemmas.Bool.{leb-true}
 use Rattle.dover_model.specs.declared.events.Version.TheVariants.{One}
 use Rattle.dover_model.specs.Common.{Fraction, IsRatio, JobFacts, is_job, IsJob, total_value, most_jobs, most_total}
 use Rattle.dover_model.proofs.lists.Tests.{each}

@@ -1,7 +1,6 @@
 -- What a line of a ratio makes of what is kept.
 use Rattle.std.proofs.Common.{◌≡◌, ℕ, [], refl, sym, ap, ◌∙◌, subst, Bool, true, false, cond, Option, Some, None}
-use Rattle.std.proofs.Common.{is_some, arith}
-use Rattle.std.specs.Prelude.{◌==◌}
+use Rattle.std.proofs.Common.{is_some, arith, ◌==◌}
 use Rattle.std.specs.Bool.{then_some}
 use Rattle.dover_model.specs.declared.events.Version.TheVariants.{Three}
 use Rattle.dover_model.specs.Common.{fraction, with_factor, is_ratio, IsRatio, Declaration as Rules, IsDeclarable, Open}

@@ -1,8 +1,6 @@
 -- What is read of a task text's line.
 use Rattle.std.proofs.Common.{◌≡◌, ℕ, ◌<◌, List, [], ◌∷◌, length, refl, ap, ◌∙◌, subst, Bool, true, false, cond, Option}
-use Rattle.std.proofs.Common.{Some, None, arith, codes}
-use Rattle.std.specs.Prelude.{Result, Ok, Err, IfOk, bytes_eq}
-use Rattle.std.specs.Option.{option_and_then}
+use Rattle.std.proofs.Common.{Some, None, arith, codes, Result, Ok, Err, IfOk, bytes_eq, option_and_then}
 use Rattle.dover_model.specs.Common.{numerals, AreShort, fields_of, is_too_long}
 use Rattle.dover_model.proofs.lists.Members.{some_same}
 use Rattle.dover_model.proofs.texts.ReadShort.{numerals_short}

@@ -1,10 +1,6 @@
 -- What a line makes of what is kept.
-use Rattle.std.proofs.Common.{◌≡◌, ◌≤◌, ◌<◌, ◌+◌, ◌-◌, ◌*◌, ℕ, List, ◌∷◌, ◌++◌, [], length, map, refl, sym, ap}
-use Rattle.std.proofs.Common.{◌∙◌, subst}
-use Rattle.std.proofs.Common.{Bool, true, false, cond}
-use Rattle.std.proofs.Common.{Option, Some, None, is_some, arith}
-use Rattle.std.specs.Option.{option_map}
-use Rattle.std.proofs.lemmas.Bool.{ne_eqb}
+use Rattle.std.proofs.Common.{◌≡◌, ◌≤◌, ◌<◌, ◌+◌, ◌-◌, ◌*◌, ℕ, List, ◌∷◌, ◌++◌, [], length, map, refl, sym, ap, ◌∙◌}
+use Rattle.std.proofs.Common.{subst, Bool, true, false, cond, Option, Some, None, is_some, arith, option_map, ne_eqb}
 use Rattle.std.proofs.lemmas.List.{map-append}
 use Rattle.dover_model.specs.declared.events.Refusal.{Refusal}
 use Rattle.dover_model.specs.declared.events.Refusal.TheVariants as refusal
@@ -24,8 +20,8 @@ use Rattle.task_words.specs.tasks.Tasks.{tested_job, count_before}
 use Rattle.task_words.specs.tasks.Limits.{task_refusal, task_rules}
 use Rattle.task_words.specs.declared.tasks.task.PeriodicTask.{PeriodicTask}
 use Rattle.task_words.proofs.tasks.Together.{tasks_more}
-use Rattle.task_words.specs.reading.Account.{TaskAccount, with_line, cause_of, cause_under, account_of_lines}
-use Rattle.task_words.specs.reading.Account.{account, no_lines}
+use Rattle.task_words.specs.reading.Account.{TaskAccount, with_line, cause_of, cause_under, account_of_lines, account}
+use Rattle.task_words.specs.reading.Account.{no_lines}
 use Rattle.task_words.specs.reading.Faults.{NamesOther, NamesAt, NamesIn}
 use Rattle.task_words.specs.reading.Lines.{task_line}
 use Rattle.task_words.specs.reading.Keeping.{Keeps, KeepsDeclared, KeepsRules, KeepsAccount, StandsAt, TextStands}

@@ -1,10 +1,9 @@
 -- What is promised of a task that is told sure.
-use Rattle.std.proofs.Common.{◌≡◌, ℕ, zero, suc, ◌+◌, ◌*◌, ◌≤◌, ◌<◌, ◌↔◌, List, [], ◌∷◌, ◌++◌, length, set}
-use Rattle.std.proofs.Common.{refl, sym, ap, ◌∙◌, Bool, true, false, cond, eqb, arith, replicate}
-use Rattle.std.specs.Prelude.{nat_le, ◌&&◌}
-use Rattle.std.specs.List.{sum_by, enumerate_from}
-use Rattle.std.proofs.lemmas.Bool.{and_parts, eq-eqb}
-use Rattle.std.proofs.lemmas.List.{get_or-set_same}
+use Rattle.std.proofs.Common.{◌≡◌, ℕ, zero, suc, ◌+◌, ◌*◌, ◌≤◌, ◌<◌, ◌↔◌, List, [], ◌∷◌, ◌++◌, length, set, refl, sym}
+use Rattle.std.proofs.Common.{ap, ◌∙◌, Bool, true, false, cond, eqb, arith, replicate, nat_le, ◌&&◌, sum_by, eq-eqb}
+use Rattle.std.proofs.Common.{get_or-set_same}
+use Rattle.std.specs.List.{enumerate_from}
+use Rattle.std.proofs.lemmas.Bool.{and_parts}
 use Rattle.std.proofs.lemmas.List.Sums.{sum_by-cons}
 use Rattle.dover_model.specs.Common.{Fraction, IsRatio, Instance, IsValid, JobFacts, most_value, IsHeavy, is_heavy}
 use Rattle.dover_model.specs.Common.{numbered, IsMember, AreOfStreams, IsCompleted, IsOfStream, Stream, is_spread}

@@ -1,7 +1,6 @@
 -- What is told of a task is its line.
 use Rattle.std.proofs.Common.{◌≡◌, ℕ, ◌≤◌, ◌<◌, List, [], ◌∷◌, refl, sym, ap, ◌∙◌, Bool, true, false, cond, arith}
-use Rattle.std.specs.Prelude.{nat_lt, codes}
-use Rattle.std.proofs.lemmas.Bool.{lt-ltb, le-ltb}
+use Rattle.std.proofs.Common.{nat_lt, codes, lt-ltb, le-ltb}
 use Rattle.dover_model.specs.Common.{Fraction, most_value, with_numbers, is_heavy, Stream, stream_at, is_spread}
 use Rattle.dover_model.proofs.bound.Calculus.{heavy_more}
 use Rattle.root_compare.specs.Least.{least_heavy}

@@ -1,8 +1,6 @@
 -- What a task text says, line by line.
 use Rattle.std.specs.Prelude.{ℕ, suc, List, [], ◌∷◌, ◌++◌, Bool, true, false, nat_lt, if◌then◌else◌, Option, Some, None}
-use Rattle.std.specs.Prelude.{is_some}
-use Rattle.std.specs.List.{fold}
-use Rattle.std.specs.Option.{option_map}
+use Rattle.std.specs.Prelude.{is_some, fold, option_map}
 use Rattle.dover_model.specs.declared.events.Version.TheVariants.{Two}
 use Rattle.dover_model.specs.Common.{most_lines, fraction, with_factor, Declaration as Rules, lines_of, Cause, Standing}
 use Rattle.dover_model.specs.Common.{Open, Ended, Faulty, NotAdmitted, declared_rules, factor_rules}

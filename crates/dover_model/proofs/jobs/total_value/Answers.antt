@@ -1,5 +1,4 @@
-use Rattle.std.proofs.Common.{arith, subst}
-use Rattle.std.proofs.lemmas.List.{take_all}
+use Rattle.std.proofs.Common.{arith, subst, take_all}
 use Rattle.std.proofs.lemmas.Grind.{common_steps}
 use Rattle.dover_model.specs.Common.{IsJob, Each}
 use Rattle.dover_model.proofs.lists.Taking.{each_more}

@@ -1,5 +1,4 @@
-use Rattle.std.proofs.Common.{arith, rules, subst, ◌∙◌}
-use Rattle.std.proofs.lemmas.List.{take_all}
+use Rattle.std.proofs.Common.{arith, rules, subst, ◌∙◌, take_all}
 use Rattle.dover_model.specs.Common.{IsJob, Each}
 use Rattle.dover_model.proofs.lists.Taking.{each_more}
 use Rattle.policy_lab.proofs.Taking.{deadline_more}

@@ -1,6 +1,5 @@
-use Rattle.std.proofs.Common.{◌+◌, ◌*◌, ◌<◌, ◌∷◌, ◌++◌, length, refl, sym, ap, ◌∙◌, subst}
-use Rattle.std.proofs.Common.{map, reverse, arith}
-use Rattle.std.specs.Option.{option_to_list}
+use Rattle.std.proofs.Common.{◌+◌, ◌*◌, ◌<◌, ◌∷◌, ◌++◌, length, refl, sym, ap, ◌∙◌, subst, map, reverse, arith}
+use Rattle.std.proofs.Common.{option_to_list}
 use Rattle.dover_model.specs.declared.events.Task.{Task}
 use Rattle.ready_jobs.specs.Changed.{made_wait}
 use Rattle.waiting_pool.specs.Reordered.{IsReordered}

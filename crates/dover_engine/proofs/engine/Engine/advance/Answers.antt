@@ -1,20 +1,16 @@
-use Rattle.std.proofs.Common.{◌≡◌, ◌++◌, sym, subst}
-use Rattle.std.specs.Prelude.{option_to_list, Option, Some, None, ◌||◌, false}
-use Rattle.std.specs.Option.{option_map}
+use Rattle.std.proofs.Common.{◌≡◌, ◌++◌, sym, subst, option_to_list, Option, Some, None, ◌||◌, false, option_map, refl}
+use Rattle.std.proofs.Common.{ap, ◌∙◌, arith, IfSome}
 use Rattle.dover_model.specs.declared.events.Event.{Event}
 use Rattle.dover_model.specs.Common.{Instance, Prints, behind, turn_under, is_end, MayFollow, is_ready_after}
 use Rattle.dover_model.specs.Common.{is_end_given}
 use Rattle.ready_server.proofs.Stepping.{open_short}
 use Rattle.dover_engine.specs.Kept.{life_of}
-use Rattle.dover_engine.specs.Life.{life_with, Life, HasPaid, has_ended}
+use Rattle.dover_engine.specs.Life.{life_with, Life, HasPaid, has_ended, spare_of, room_of, CostsOnce}
 use Rattle.dover_engine.specs.Given.{Gave}
 use Rattle.dover_engine.proofs.Giving.{came_gave, came_open, came_last, served, step_gave, all_given}
 use Rattle.dover_engine.proofs.Lives.{decide_gave, due_given}
-use Rattle.std.proofs.Common.{refl, ap, ◌∙◌, arith}
-use Rattle.std.specs.Prelude.{IfSome}
 use Rattle.dover_model.specs.declared.horizon.Horizon.{Horizon}
 use Rattle.dover_model.specs.declared.horizon.Horizon.TheVariants.{Mark, End}
-use Rattle.dover_engine.specs.Life.{spare_of, room_of, CostsOnce}
 use Rattle.dover_engine.proofs.engine.Engine.advance.Goals as goal
 
 pub returns-in-Some-clause-gave : goal.returns-in-Some-clause-gave

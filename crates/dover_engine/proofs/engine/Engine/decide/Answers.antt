@@ -1,6 +1,4 @@
-use Rattle.std.proofs.Common.{◌++◌, sym, ◌∙◌, ap, subst, arith}
-use Rattle.std.specs.Prelude.{option_to_list, ◌||◌}
-use Rattle.std.specs.Option.{option_map}
+use Rattle.std.proofs.Common.{◌++◌, sym, ◌∙◌, ap, subst, arith, option_to_list, ◌||◌, option_map}
 use Rattle.dover_model.specs.Common.{behind, is_ready_after, is_end_given}
 use Rattle.dover_engine.specs.Decisions.{events_in, event_in}
 use Rattle.dover_engine.specs.Life.{has_ended}

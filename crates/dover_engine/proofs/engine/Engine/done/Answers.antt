@@ -1,5 +1,4 @@
-use Rattle.std.proofs.Common.{◌≡◌, ℕ, ◌+◌, [], ◌∷◌, sym, ◌∙◌, ap, subst}
-use Rattle.std.specs.Prelude.{None, Some, false, is_some}
+use Rattle.std.proofs.Common.{◌≡◌, ℕ, ◌+◌, [], ◌∷◌, sym, ◌∙◌, ap, subst, None, Some, false, is_some}
 use Rattle.std.proofs.lemmas.Bool.{false≢true}
 use Rattle.dover_model.specs.Common.{Instance, with_finishes, runner_of, turn_under, may_finish_early, settled}
 use Rattle.dover_model.specs.declared.horizon.Horizon.TheVariants.{Mark}

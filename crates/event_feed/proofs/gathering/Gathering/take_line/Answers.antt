@@ -1,7 +1,5 @@
 use Rattle.std.proofs.Common.{◌≡◌, ◌≤◌, ◌<◌, ◌++◌, ◌∷◌, [], ◌∙◌, Some, None, Ok, length, refl, sym, ap, subst, arith}
-use Rattle.std.proofs.Common.{Bool, true, false, OnOk, length-append}
-use Rattle.std.specs.Prelude.{nat_lt}
-use Rattle.std.proofs.lemmas.Bool.{ltb-true, ltb-false}
+use Rattle.std.proofs.Common.{Bool, true, false, OnOk, length-append, nat_lt, ltb-true, ltb-false}
 use Rattle.std.proofs.lemmas.Result.{on_ok_weaker, on_err_weaker}
 use Rattle.dover_model.specs.Common.{Account, no_lines, account_of_lines, is_open, most_jobs, instance_of, is_full}
 use Rattle.dover_model.specs.declared.events.Version.TheVariants.{Two}
@@ -14,12 +12,11 @@ use Rattle.event_feed.specs.Kept.{fault_of}
 use Rattle.event_feed.specs.Listing.{offered_in}
 use Rattle.dover_model.proofs.lists.Members.{err_any}
 use Rattle.event_feed.proofs.Accepting.{offer_accepted, offer_room}
-use Rattle.event_feed.proofs.Listing.{finds_room, ok_any}
-use Rattle.event_feed.proofs.Listing.{goes_on, job_listed, job_admitted, refused_listed, tick_listed}
-use Rattle.event_feed.proofs.Listing.{kept_listed, done_admitted}
+use Rattle.event_feed.proofs.Listing.{finds_room, ok_any, goes_on, job_listed, job_admitted, refused_listed}
+use Rattle.event_feed.proofs.Listing.{tick_listed, kept_listed, done_admitted}
 use Rattle.event_feed.proofs.DoneLines.{done_standing}
-use Rattle.event_feed.proofs.Offering.{IsGathering, is_gathering, keeps_few, keeps_many, offered_job}
-use Rattle.event_feed.proofs.Offering.{offered_refused, offered_done}
+use Rattle.event_feed.proofs.Offering.{IsGathering, is_gathering, keeps_few, keeps_many, offered_job, offered_refused}
+use Rattle.event_feed.proofs.Offering.{offered_done}
 use Rattle.event_feed.proofs.gathering.Gathering.take_line.Goals as goal
 
 pub returns-in-Job-clause-memory : goal.returns-in-Job-clause-memory

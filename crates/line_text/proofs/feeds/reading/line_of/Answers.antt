@@ -1,5 +1,4 @@
-use Rattle.std.proofs.Common.{◌≡◌, true, false, sym, ap, ◌∙◌, codes}
-use Rattle.std.specs.Prelude.{bytes_eq}
+use Rattle.std.proofs.Common.{◌≡◌, true, false, sym, ap, ◌∙◌, codes, bytes_eq}
 use Rattle.std.proofs.lemmas.Slice.Eq.{bytes_eq-Decides}
 use Rattle.dover_model.specs.Common.{line_of_fields, fields_of}
 use Rattle.dover_model.proofs.lists.Tests.{never}

@@ -1,6 +1,4 @@
-use Rattle.std.proofs.Common.{◌≡◌, ◌+◌, ◌-◌, ◌++◌, ◌∷◌, [], map, replicate, ap, sym, subst, arith, ◌∙◌}
-use Rattle.std.specs.Prelude.{ℕ}
-use Rattle.std.specs.List.{filter}
+use Rattle.std.proofs.Common.{◌≡◌, ◌+◌, ◌-◌, ◌++◌, ◌∷◌, [], map, replicate, ap, sym, subst, arith, ◌∙◌, ℕ, filter}
 use Rattle.std.proofs.lemmas.Result.{on_ok_weaker}
 use Rattle.dover_model.specs.Common.{stretches, IsMember}
 use Rattle.policy_lab.specs.Picks.{AreReady, number_of}

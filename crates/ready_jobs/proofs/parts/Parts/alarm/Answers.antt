@@ -1,5 +1,4 @@
-use Rattle.std.proofs.Common.{Bool, sym, ap, ◌∙◌}
-use Rattle.std.specs.Prelude.{if◌then◌else◌}
+use Rattle.std.proofs.Common.{Bool, sym, ap, ◌∙◌, if◌then◌else◌}
 use Rattle.dover_model.specs.declared.events.Event.{Event}
 use Rattle.dover_model.specs.declared.events.Event.TheVariants.{Take, Abandon}
 use Rattle.dover_model.specs.Common.{is_heavy, privileged, value_sum, Prints}

@@ -1,7 +1,5 @@
-use Rattle.std.proofs.Common.{inl, ◌^◌, ◌<◌, ◌∷◌, [], ◌++◌, reverse, Some, None, refl, ◌+◌, map}
-use Rattle.std.proofs.Common.{sym, ap, ◌∙◌, subst, arith}
-use Rattle.std.specs.Prelude.{vec_capacity}
-use Rattle.std.specs.Option.{option_to_list}
+use Rattle.std.proofs.Common.{inl, ◌^◌, ◌<◌, ◌∷◌, [], ◌++◌, reverse, Some, None, refl, ◌+◌, map, sym, ap, ◌∙◌, subst}
+use Rattle.std.proofs.Common.{arith, vec_capacity, option_to_list}
 use Rattle.std.proofs.lemmas.List.{reverse-append, length-reverse}
 use Rattle.std.proofs.lemmas.List.Sums.{sum_by-cons}
 use Rattle.dover_model.specs.declared.events.Task.{Task}

@@ -1,5 +1,4 @@
-use Rattle.std.proofs.Common.{reverse, sym, ap, ◌∙◌, subst, arith, map}
-use Rattle.std.specs.Prelude.{vec_capacity}
+use Rattle.std.proofs.Common.{reverse, sym, ap, ◌∙◌, subst, arith, map, vec_capacity}
 use Rattle.std.proofs.lemmas.List.{length-reverse}
 use Rattle.std.proofs.Math.Nat.{max-eq_right}
 use Rattle.dover_model.specs.Entries.{entry_of}

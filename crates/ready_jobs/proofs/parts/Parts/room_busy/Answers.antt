@@ -1,5 +1,4 @@
-use Rattle.std.proofs.Common.{inl, ◌<◌, ◌∷◌, ◌++◌, refl, sym, ap, ◌∙◌, subst, map}
-use Rattle.std.specs.Option.{option_to_list}
+use Rattle.std.proofs.Common.{inl, ◌<◌, ◌∷◌, ◌++◌, refl, sym, ap, ◌∙◌, subst, map, option_to_list}
 use Rattle.dover_model.specs.Common.{entry_of, room_of, privileged, room, IsMember}
 use Rattle.dover_model.proofs.lists.Members.{on_map}
 use Rattle.held_stack.specs.Stack.{IsDueBeforeTop}

@@ -1,5 +1,4 @@
-use Rattle.std.proofs.Common.{sym, ap, ◌∙◌, map}
-use Rattle.std.specs.Prelude.{unwrap_or}
+use Rattle.std.proofs.Common.{sym, ap, ◌∙◌, map, unwrap_or}
 use Rattle.dover_model.specs.Common.{entry_of, held, room}
 use Rattle.held_stack.proofs.Deadlines.{room_map, room_or_none}
 use Rattle.ready_jobs.specs.Parts.{Parted, state_of}

@@ -1,5 +1,4 @@
-use Rattle.std.proofs.Common.{inl, refl, arith, sym, ap, ◌∙◌, subst}
-use Rattle.std.specs.Option.{option_map}
+use Rattle.std.proofs.Common.{inl, refl, arith, sym, ap, ◌∙◌, subst, option_map}
 use Rattle.dover_model.specs.declared.events.Event.TheVariants.{Run}
 use Rattle.dover_model.specs.declared.events.Role.TheVariants.{Running}
 use Rattle.dover_model.specs.Common.{due_first, first, with_role}

@@ -1,5 +1,4 @@
-use Rattle.std.proofs.Common.{◌+◌, ◌++◌, sym, ap, ◌∙◌}
-use Rattle.std.specs.Option.{option_to_list}
+use Rattle.std.proofs.Common.{◌+◌, ◌++◌, sym, ap, ◌∙◌, option_to_list}
 use Rattle.dover_model.specs.declared.events.Task.{Task}
 use Rattle.dover_model.specs.Common.{entry_of, privileged, value_sum}
 use Rattle.dover_model.proofs.lists.Members.{sum_map}

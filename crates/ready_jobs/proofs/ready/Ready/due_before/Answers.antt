@@ -1,5 +1,4 @@
-use Rattle.std.proofs.Common.{◌<◌, length, sym, ap, ◌∙◌, subst, refl}
-use Rattle.std.specs.Prelude.{option_map, IfSome}
+use Rattle.std.proofs.Common.{◌<◌, length, sym, ap, ◌∙◌, subst, refl, option_map, IfSome}
 use Rattle.dover_model.specs.Run.{event_of}
 use Rattle.ready_jobs.specs.declared.actions.DueStep.{DueStep}
 use Rattle.ready_jobs.specs.Course.{Course, IsDue, Settled}

@@ -1,5 +1,4 @@
-use Rattle.std.proofs.Common.{◌≡◌, ◌++◌}
-use Rattle.std.specs.Prelude.{false}
+use Rattle.std.proofs.Common.{◌≡◌, ◌++◌, false}
 use Rattle.run_reports.specs.views.Why.{story_from}
 use Rattle.run_reports.proofs.views.Telling.{rest}
 use Rattle.run_reports.proofs.views.story.put_story.Given as goal

@@ -1,5 +1,4 @@
-use Rattle.std.proofs.Common.{◌<◌, ◌++◌, length, get_or, ap, ◌∙◌, arith}
-use Rattle.std.specs.Prelude.{codes}
+use Rattle.std.proofs.Common.{◌<◌, ◌++◌, length, get_or, ap, ◌∙◌, arith, codes}
 use Rattle.std.proofs.lemmas.List.{get_or_default}
 use Rattle.run_reports.proofs.views.Viewed.{viewed_more, viewed_all}
 use Rattle.run_reports.proofs.views.viewer.put_events.Goals as goal

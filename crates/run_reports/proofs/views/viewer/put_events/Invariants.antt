@@ -1,5 +1,4 @@
-use Rattle.std.proofs.Common.{◌≡◌, ◌≤◌, ◌*◌, ◌++◌, drop}
-use Rattle.std.specs.List.{zip}
+use Rattle.std.proofs.Common.{◌≡◌, ◌≤◌, ◌*◌, ◌++◌, drop, zip}
 use Rattle.run_reports.specs.views.Chrome.{events_from}
 use Rattle.run_reports.proofs.views.viewer.put_events.Given as goal
 

@@ -1,7 +1,6 @@
 use Rattle.std.proofs.Common.{ap, sym, ◌∙◌, subst}
-use Rattle.trace_judge.specs.Reads.{IsPaid}
+use Rattle.trace_judge.specs.Reads.{IsPaid, Reading, ReadsAhead}
 use Rattle.trace_judge.specs.declared.judge.Found.TheVariants.{Wrong}
-use Rattle.trace_judge.specs.Reads.{Reading, ReadsAhead}
 use Rattle.trace_judge.specs.Judging.{Judged}
 use Rattle.trace_judge.proofs.judge.Judge.miss.Goals as goal
 

@@ -1,5 +1,4 @@
-use Rattle.std.proofs.Common.{ap, sym, ◌∙◌, subst, refl}
-use Rattle.std.specs.Prelude.{Ok, IsOk, IsErr}
+use Rattle.std.proofs.Common.{ap, sym, ◌∙◌, subst, refl, Ok, IsOk, IsErr}
 use Rattle.trace_judge.specs.declared.judge.Found.TheVariants.{NoMemory}
 use Rattle.trace_judge.specs.Reads.{IsPaid}
 use Rattle.trace_judge.specs.Judging.{Judged, Notes, Misses}

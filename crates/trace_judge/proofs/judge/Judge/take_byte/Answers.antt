@@ -1,8 +1,7 @@
 use Rattle.std.proofs.Common.{◌<◌, ◌++◌, ◌∷◌, [], ℕ, List, length, sym, ap, ◌∙◌, subst, arith}
 use Rattle.line_text.specs.declared.cutting.ByteEffect.TheVariants.{More, Line, TooLong}
 use Rattle.line_text.specs.Cutting.{Cutting}
-use Rattle.trace_judge.specs.Reads.{IsPaid}
-use Rattle.trace_judge.specs.Reads.{Reading, job_lines_in}
+use Rattle.trace_judge.specs.Reads.{IsPaid, Reading, job_lines_in}
 use Rattle.trace_judge.specs.Judging.{Judged, StandsFor, IsGood, IsCut, Fed, IsOverfed, HasPaidFor}
 use Rattle.trace_judge.proofs.Judging.{stands_good, ok_onto, err_onto, some_line, is_cut, named_ended, named_more}
 use Rattle.trace_judge.proofs.judge.Judge.take_byte.Goals as goal

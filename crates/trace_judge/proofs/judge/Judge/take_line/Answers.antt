@@ -1,7 +1,6 @@
 use Rattle.std.proofs.Common.{arith, ap, sym, ◌∙◌, subst}
 use Rattle.line_text.specs.declared.cutting.ByteEffect.TheVariants.{Line}
-use Rattle.trace_judge.specs.Reads.{IsPaid}
-use Rattle.trace_judge.specs.Reads.{job_lines_in}
+use Rattle.trace_judge.specs.Reads.{IsPaid, job_lines_in}
 use Rattle.trace_judge.specs.Judging.{Judged, IsCut}
 use Rattle.trace_judge.proofs.Judging.{ok_onto, err_onto}
 use Rattle.trace_judge.proofs.EndedLines.{noted_stands, unroomed}

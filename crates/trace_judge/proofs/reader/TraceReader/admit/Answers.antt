@@ -1,6 +1,5 @@
 use Rattle.std.proofs.Common.{refl, sym, ap, subst, arith}
-use Rattle.trace_judge.specs.Reads.{IsPaid}
-use Rattle.trace_judge.specs.Reads.{Reading, CanRelease}
+use Rattle.trace_judge.specs.Reads.{IsPaid, Reading, CanRelease}
 use Rattle.ready_jobs.specs.Course.{Course}
 use Rattle.trace_judge.proofs.Paying.{paid_late}
 use Rattle.trace_judge.proofs.Releases.{release_course, release_room, one_more_ready, taken_reads, taken_reader}

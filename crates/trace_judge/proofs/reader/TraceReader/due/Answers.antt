@@ -1,7 +1,6 @@
 use Rattle.std.proofs.Common.{sym, subst, ap, ◌∙◌, refl}
 use Rattle.dover_model.specs.Verdict.{expected_after}
-use Rattle.trace_judge.specs.Reads.{IsPaid}
-use Rattle.trace_judge.specs.Reads.{Reading, ReadsAhead}
+use Rattle.trace_judge.specs.Reads.{IsPaid, Reading, ReadsAhead}
 use Rattle.trace_judge.proofs.Paying.{paid_on}
 use Rattle.trace_judge.proofs.Readings.{opens_of, ends_of, ended_due, named_ahead, named_due, next_reader, kept_on}
 use Rattle.trace_judge.proofs.reader.TraceReader.due.Goals as goal

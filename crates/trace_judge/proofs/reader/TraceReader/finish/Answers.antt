@@ -1,7 +1,6 @@
 use Rattle.std.proofs.Common.{◌≡◌, sym, ap, subst, arith, true, false}
 use Rattle.ready_jobs.specs.Course.{Course, Finishes, RunsNowhere}
-use Rattle.trace_judge.specs.Reads.{IsPaid}
-use Rattle.trace_judge.specs.Reads.{Reading, CanComplete}
+use Rattle.trace_judge.specs.Reads.{IsPaid, Reading, CanComplete}
 use Rattle.trace_judge.proofs.Paying.{paid_late}
 use Rattle.trace_judge.proofs.Completing.{done_room, done_low, done_clock, named_reads, named_reader}
 use Rattle.trace_judge.proofs.reader.TraceReader.finish.Goals as goal

@@ -1,5 +1,4 @@
-use Rattle.std.proofs.Common.{◌∙◌, sym, ap, refl, arith}
-use Rattle.std.specs.Prelude.{is_some}
+use Rattle.std.proofs.Common.{◌∙◌, sym, ap, refl, arith, is_some}
 use Rattle.dover_model.specs.Session.{may_finish_early, finish_at, instance_of}
 use Rattle.dover_model.proofs.lists.Tests.{never}
 use Rattle.trace_judge.specs.Reads.{Reading}

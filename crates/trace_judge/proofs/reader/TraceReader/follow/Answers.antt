@@ -1,7 +1,6 @@
 use Rattle.std.proofs.Common.{◌∙◌, sym, ap, subst, arith, max, refl}
 use Rattle.ready_jobs.proofs.Courses.{ends_next}
-use Rattle.trace_judge.specs.Reads.{IsPaid}
-use Rattle.trace_judge.specs.Reads.{Reading}
+use Rattle.trace_judge.specs.Reads.{IsPaid, Reading}
 use Rattle.trace_judge.proofs.Paying.{paid_on, paid_late}
 use Rattle.trace_judge.proofs.Readings.{next_reader, followed_on}
 use Rattle.trace_judge.proofs.Taking.{step_room, not_due, ended_took, ended_reader, stepped_took, stepped_reader}

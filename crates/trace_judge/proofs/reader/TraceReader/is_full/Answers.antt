@@ -1,5 +1,4 @@
-use Rattle.std.proofs.Common.{◌∙◌, sym, ap, subst}
-use Rattle.std.specs.Prelude.{nat_le}
+use Rattle.std.proofs.Common.{◌∙◌, sym, ap, subst, nat_le}
 use Rattle.dover_model.specs.Limits.{most_ready}
 use Rattle.trace_judge.specs.Reads.{Reading, Waited}
 use Rattle.trace_judge.proofs.Completing.{ready_is}

@@ -1,5 +1,4 @@
-use Rattle.std.proofs.Common.{◌≡◌, true, false, None, Result, Ok, Err, sym, ap, ◌∙◌, subst, arith}
-use Rattle.std.specs.Prelude.{is_ok}
+use Rattle.std.proofs.Common.{◌≡◌, true, false, None, Result, Ok, Err, sym, ap, ◌∙◌, subst, arith, is_ok}
 use Rattle.dover_model.specs.Common.{JobFacts, job_of_numbers, refusal_of}
 use Rattle.dover_model.proofs.lists.Tests.{never}
 use Rattle.admission.specs.Kept.{Kept, StandsFor}

@@ -1,6 +1,5 @@
 use Rattle.std.proofs.Common.{sym, subst, arith, ap, ◌∙◌, refl}
-use Rattle.trace_judge.specs.Reads.{IsPaid}
-use Rattle.trace_judge.specs.Reads.{Reading}
+use Rattle.trace_judge.specs.Reads.{IsPaid, Reading}
 use Rattle.trace_judge.proofs.Readings.{few_items, unchanged_on}
 use Rattle.trace_judge.proofs.Refusals.{not_waited, refused_few, refused_took, refused_reader, job_line, job_named}
 use Rattle.trace_judge.proofs.Refusals.{job_not, job_may, job_roomy}

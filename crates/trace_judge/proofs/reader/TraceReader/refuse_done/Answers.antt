@@ -1,10 +1,8 @@
 use Rattle.std.proofs.Common.{sym, subst, arith, ap, ◌∙◌, refl}
-use Rattle.trace_judge.specs.Reads.{IsPaid}
-use Rattle.trace_judge.specs.Reads.{Reading}
+use Rattle.trace_judge.specs.Reads.{IsPaid, Reading}
 use Rattle.trace_judge.proofs.Readings.{few_items, unchanged_on}
 use Rattle.trace_judge.proofs.Refusals.{not_waited, refused_few, refused_took, refused_reader, done_line, done_named}
-use Rattle.trace_judge.proofs.Refusals.{done_not}
-use Rattle.trace_judge.proofs.Refusals.{done_may, done_right}
+use Rattle.trace_judge.proofs.Refusals.{done_not, done_may, done_right}
 use Rattle.trace_judge.proofs.reader.TraceReader.refuse_done.Goals as goal
 
 pub returns-then-not-may_refuse_done-clause-took : goal.returns-then-not-may_refuse_done-clause-took

@@ -1,5 +1,4 @@
-use Rattle.std.proofs.Common.{subst, arith}
-use Rattle.std.specs.Prelude.{IfOk}
+use Rattle.std.proofs.Common.{subst, arith, IfOk}
 use Rattle.trace_judge.specs.Reads.{Took}
 use Rattle.trace_judge.proofs.Unread.{unread_took, jobs_counted}
 use Rattle.trace_judge.proofs.reader.TraceReader.take.Goals as goal

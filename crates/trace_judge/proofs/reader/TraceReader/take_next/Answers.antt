@@ -1,5 +1,4 @@
-use Rattle.std.proofs.Common.{◌≤◌, ◌+◌, sym, subst, false, arith}
-use Rattle.std.specs.Prelude.{IfOk}
+use Rattle.std.proofs.Common.{◌≤◌, ◌+◌, sym, subst, false, arith, IfOk}
 use Rattle.line_text.specs.traces.Form.{HasForm, trace_text}
 use Rattle.trace_judge.specs.Reads.{Took, jobs_in}
 use Rattle.trace_judge.proofs.Unread.{header_took_none}

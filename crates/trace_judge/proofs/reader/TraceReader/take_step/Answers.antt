@@ -1,5 +1,4 @@
-use Rattle.std.proofs.Common.{◌≤◌, ◌+◌, sym, subst, arith}
-use Rattle.std.specs.Prelude.{IfOk}
+use Rattle.std.proofs.Common.{◌≤◌, ◌+◌, sym, subst, arith, IfOk}
 use Rattle.dover_model.specs.Text.{text_of}
 use Rattle.line_text.specs.traces.Form.{HasForm}
 use Rattle.line_text.specs.declared.traces.lines.TraceLine.TheVariants.{Step}

@@ -1,7 +1,6 @@
 use Rattle.std.proofs.Common.{◌∙◌, sym, ap, subst, arith}
 use Rattle.dover_model.proofs.lists.Tests.{never}
-use Rattle.trace_judge.specs.Reads.{IsPaid}
-use Rattle.trace_judge.specs.Reads.{Reading}
+use Rattle.trace_judge.specs.Reads.{IsPaid, Reading}
 use Rattle.trace_judge.proofs.Paying.{paid_on}
 use Rattle.trace_judge.proofs.Readings.{kept_on}
 use Rattle.trace_judge.proofs.Taking.{settled_ahead, settled_yes, settled_no, settled_reader, is_nothing, is_something}

@@ -1,5 +1,4 @@
-use Rattle.std.proofs.Common.{◌+◌, ◌∷◌, inl, inr, sym, subst, arith}
-use Rattle.std.specs.Prelude.{IsPermutation}
+use Rattle.std.proofs.Common.{◌+◌, ◌∷◌, inl, inr, sym, subst, arith, IsPermutation}
 use Rattle.std.proofs.lemmas.List.Sorted.{length_permutation}
 use Rattle.clairvoyant.specs.feasible.Progress.{Stands}
 use Rattle.clairvoyant.proofs.feasible.Standing.{stands_until, stands_moved, stands_release, moved_to_next}

@@ -1,8 +1,6 @@
-use Rattle.std.proofs.Common.{ℕ, ◌*◌, ◌≤◌, ◌⊎◌, inl, inr, length}
-use Rattle.clairvoyant.specs.feasible.Progress.{IsPending}
-use Rattle.std.proofs.Common.{◌≡◌, ◌+◌, ◌<◌, List, [], sym, subst, ap, ◌∙◌, arith}
+use Rattle.std.proofs.Common.{ℕ, ◌*◌, ◌≤◌, ◌⊎◌, inl, inr, length, ◌≡◌, ◌+◌, ◌<◌, List, [], sym, subst, ap, ◌∙◌, arith}
+use Rattle.clairvoyant.specs.feasible.Progress.{IsPending, Stands, StandsAt}
 use Rattle.clairvoyant.specs.declared.feasible.simulation.Simulation.{Simulation}
-use Rattle.clairvoyant.specs.feasible.Progress.{Stands, StandsAt}
 use Rattle.clairvoyant.specs.feasible.Queue.{Kept}
 use Rattle.clairvoyant.proofs.feasible.Standing.{stands_idle, stands_last, next_later}
 use Rattle.clairvoyant.proofs.feasible.Running.{next_found}

@@ -1,5 +1,4 @@
-use Rattle.std.proofs.Common.{◌≤◌, ◌<◌, ◌-◌, ◌+◌, ◌++◌, ◌∷◌, ◌∙◌, [], ℕ, sym, ap, subst, arith}
-use Rattle.std.specs.List.{sum_by}
+use Rattle.std.proofs.Common.{◌≤◌, ◌<◌, ◌-◌, ◌+◌, ◌++◌, ◌∷◌, ◌∙◌, [], ℕ, sym, ap, subst, arith, sum_by}
 use Rattle.dover_model.specs.Common.{Each, work_inside}
 use Rattle.dover_model.proofs.lists.Members.{each_behind}
 use Rattle.clairvoyant.specs.declared.overload.stretch.Stretch.{Stretch}

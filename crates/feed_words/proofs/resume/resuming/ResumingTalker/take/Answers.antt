@@ -6,9 +6,8 @@ use Rattle.feed_words.specs.resume.Keeping.{IsReady, IsGiving}
 use Rattle.feed_words.specs.resume.Talk.{resume_talk}
 use Rattle.dover_model.proofs.lists.Tests.{never}
 use Rattle.feed_words.proofs.resume.Talking.{goes_at}
-use Rattle.feed_words.proofs.resume.Stages.{front_costs, line_refused, line_lacks, opened_is}
-use Rattle.feed_words.proofs.resume.Stages.{past_call, past_bytes, past_takes, past_goes, opening_took}
-use Rattle.feed_words.proofs.resume.Stages.{refused_took, whole_took}
+use Rattle.feed_words.proofs.resume.Stages.{front_costs, line_refused, line_lacks, opened_is, past_call, past_bytes}
+use Rattle.feed_words.proofs.resume.Stages.{past_takes, past_goes, opening_took, refused_took, whole_took}
 use Rattle.feed_words.proofs.resume.resuming.ResumingTalker.take.Goals as goal
 
 pub take-requires-clause-stands : goal.take-requires-clause-stands

@@ -1,6 +1,4 @@
-use Rattle.std.proofs.Common.{◌≡◌, length, ap, ◌∙◌, sym, subst, arith}
-use Rattle.std.specs.Prelude.{slice_index_or}
-use Rattle.std.specs.List.{count_by}
+use Rattle.std.proofs.Common.{◌≡◌, length, ap, ◌∙◌, sym, subst, arith, slice_index_or, count_by}
 use Rattle.dover_model.specs.Session.{may_finish_early}
 use Rattle.run_record.specs.intervals.Rows.{IsRunOf}
 use Rattle.run_record.specs.intervals.Totals.{is_release}

@@ -2,8 +2,7 @@ use Rattle.std.proofs.Common.{◌∙◌, sym}
 use Rattle.dover_model.specs.Session.{instance_of}
 use Rattle.dover_model.proofs.lists.Tests.{never}
 use Rattle.trace_words.proofs.report.Answering.{prints, run_of, reported, unreported, refused_size, unrefused_size}
-use Rattle.trace_words.proofs.report.Answering.{refused}
-use Rattle.trace_words.proofs.report.Answering.{unrefused}
+use Rattle.trace_words.proofs.report.Answering.{refused, unrefused}
 use Rattle.dover_model.proofs.sessions.SessionParts.{session_jobs}
 use Rattle.trace_words.proofs.report.word.ReportingTeller.tell.Goals as goal
 
