@@ -9,13 +9,13 @@ ghost use Rattle.dover_c.specs.Codes.{named_of, high_word, low_word, DoneSays, d
 ghost use Rattle.dover_c.specs.Codes.{made_code, mark_code, numbers_of, IsStepOf};
 
 use crate::{Admitted, Decided, Due, Named};
+use comparison_count::Comparisons;
 use dover_engine::{Decision, Engine, NotAdmitted, NotDone, NotMade, NotStepped};
 use dover_model::{Ratio, Version};
 use std::alloc::Global;
 use std::marker::Brand;
 use std::rt::Memory;
 use std::sync::ledger::{Blank, Ledger};
-use comparison_count::Comparisons;
 
 // 2^64, which is one more than the greatest number of 64 bits.
 const WORD: u128 = 1 << 64;

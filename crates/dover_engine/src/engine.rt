@@ -17,6 +17,7 @@ use crate::causes::{NotAdmitted, NotDone, NotMade, NotStepped, cause_behind};
 use crate::decision::{Decision, decision_in};
 use crate::earned::Earned;
 use admission::Admission;
+use comparison_count::Comparisons;
 use dover_model::jobs::LAST_TICK;
 use dover_model::{Event, Horizon, Ratio, Version};
 use ready_jobs::MOST_READY;
@@ -24,7 +25,6 @@ use ready_server::ReadyServer;
 use std::alloc::Global;
 use std::marker::Model;
 use std::sync::ledger::Ledger;
-use comparison_count::Comparisons;
 
 // How many jobs may be admitted in all.
 const MOST_NUMBERED: u64 = 10_000_000_000_000_000_000;
@@ -283,7 +283,11 @@ impl Engine {
     }
 
     // The next decision before the horizon.
-    fn decide<L: Ledger>(&mut self, to: Horizon, comparisons: &mut Comparisons<L>) -> Option<Decision>
+    fn decide<L: Ledger>(
+        &mut self,
+        to: Horizon,
+        comparisons: &mut Comparisons<L>,
+    ) -> Option<Decision>
         requires { MayFollow self.old.last to }
         ensures decides { Decides to self.old self.new result }
         ensures paid { (start : ℕ) → HasPaid self.old start comparisons.old → HasPaid self.new start comparisons.new }

@@ -6,6 +6,7 @@ ghost use Rattle.dover_top.specs.Carrying.{CarriesOut};
 ghost use Rattle.dover_top.specs.Requests.{Asks};
 
 use crate::request::Request;
+use comparison_count::Comparisons;
 use dover_port::{Port, Status};
 use feed_words::resume::resume_word;
 use feed_words::serve::{pause_word, serve_word};
@@ -13,7 +14,6 @@ use lanes_word::lanes_word;
 use question_words::question_word;
 use std::alloc::Global;
 use std::sync::ledger::Ledger;
-use comparison_count::Comparisons;
 use task_words::asking::{TaskQuestion, tasks_word};
 use trace_words::judge::judge_word;
 use trace_words::report::report_word;
@@ -42,9 +42,19 @@ pub(crate) fn carry_out<P: Port, L: Ledger>(
         Request::Lanes => lanes_word(alloc, port, comparisons),
         Request::Pause => pause_word(alloc, port, comparisons),
         Request::Resume(at_end) => resume_word(alloc, port, at_end, comparisons),
-        Request::Unroll { until } => tasks_word(alloc, port, TaskQuestion::Unroll { until }, comparisons),
+        Request::Unroll { until } => tasks_word(
+            alloc,
+            port,
+            TaskQuestion::Unroll { until },
+            comparisons,
+        ),
         Request::Sure => tasks_word(alloc, port, TaskQuestion::Sure, comparisons),
-        Request::Budget { cost } => tasks_word(alloc, port, TaskQuestion::Budget { cost }, comparisons),
+        Request::Budget { cost } => tasks_word(
+            alloc,
+            port,
+            TaskQuestion::Budget { cost },
+            comparisons,
+        ),
         Request::Duel { k, share, front } => duel_word(port, k, share, front),
         Request::Draw { seed, count, k } => draw_word(port, seed, count, k),
     }

@@ -11,10 +11,10 @@ ghost use Rattle.dover_top.specs.Spending.{IsFrugal, IsFrugalAsAsked};
 
 use crate::carrying::carry_out;
 use crate::request::asked;
+use comparison_count::Comparisons;
 use dover_port::{Port, Status};
 use std::alloc::Global;
 use std::sync::ledger::Ledger;
-use comparison_count::Comparisons;
 
 /// Does what the words ask for. The rows of words:
 ///

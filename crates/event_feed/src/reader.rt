@@ -12,7 +12,7 @@ use crate::gathering::Gathering;
 use crate::intake::Intake;
 use crate::listed::{DoneLine, Listed, NotListed};
 use dover_model::{Job, Memory, Ratio, Version};
-use line_text::{Lines, ByteEffect};
+use line_text::{ByteEffect, Lines};
 use std::alloc::Global;
 
 /// What is kept of a feed that comes in pieces: the line that has begun, and what the lines before it said. Refused job

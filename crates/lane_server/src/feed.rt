@@ -8,12 +8,12 @@ ghost use Rattle.lane_server.specs.Rosters.{KeepsRoster};
 ghost use Rattle.lane_server.specs.Spending.{HasPaid};
 
 use crate::lane::Lane;
+use comparison_count::Comparisons;
 use dover_model::Memory;
 use event_feed::DueLine;
-use line_text::{Lines, ByteEffect};
+use line_text::{ByteEffect, Lines};
 use std::alloc::Global;
 use std::sync::ledger::Ledger;
-use comparison_count::Comparisons;
 
 /// A feed of bytes with its server: pieces of the feed go in, cut anywhere, and each line that is due comes out as soon
 /// as it is settled. There is no port in it: its owner reads, and does with the lines what it wants.

@@ -15,13 +15,13 @@ ghost use Rattle.ready_server.specs.Rostering.{has_roster};
 ghost use Rattle.lane_server.specs.Shorts.{short_texts};
 ghost use Rattle.lane_server.specs.declared.lane.Work.TheVariants.{Nothing, Give, Run, Admit, Finish};
 
+use comparison_count::Comparisons;
 use dover_model::{Horizon, Job, Memory, Ratio, Refusal, Version};
 use event_feed::{DueLine, Fed, FeedFault, Intake};
 use line_text::Spelled;
 use ready_server::RosterServer;
 use std::alloc::Global;
 use std::sync::ledger::Ledger;
-use comparison_count::Comparisons;
 
 /// What is under way in a lane.
 #[derive(Clone, Copy)]
@@ -315,7 +315,12 @@ impl Lane {
     }
 
     #[inline(never)]
-    fn finish<L: Ledger>(&mut self, at: u64, number: u64, comparisons: &mut Comparisons<L>) -> Option<DueLine>
+    fn finish<L: Ledger>(
+        &mut self,
+        at: u64,
+        number: u64,
+        comparisons: &mut Comparisons<L>,
+    ) -> Option<DueLine>
         requires work { self.old.work ≡ Finish at number }
         requires stands { (ls : List (List ℕ)) × (rest : List (List ℕ)) × Stands self.old ls rest }
         ensures gives { (ls rest : List (List ℕ)) → Stands self.old ls rest

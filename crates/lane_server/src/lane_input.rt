@@ -10,12 +10,12 @@ ghost use Rattle.lane_server.specs.declared.lane_input.LaneInput.{LaneInput};
 use crate::lane::Lane;
 use crate::lanes::{LaneFault, LaneStep, Lanes};
 use crate::refusal::InputRefusal;
+use comparison_count::Comparisons;
 use dover_model::Memory;
 use event_feed::DueLine;
-use line_text::{Lines, ByteEffect};
+use line_text::{ByteEffect, Lines};
 use std::alloc::Global;
 use std::sync::ledger::Ledger;
-use comparison_count::Comparisons;
 
 /// The line at which an input is refused, and why.
 #[derive(Clone, Copy)]

@@ -8,12 +8,12 @@ ghost use Rattle.lane_server.specs.declared.lanes.Phase.TheVariants.{Giving, Clo
 
 use crate::lane::Lane;
 use crate::reading::{LANES, LaneLine, lane_line};
+use comparison_count::Comparisons;
 use dover_model::{Memory, Version};
 use event_feed::{Cause, DueLine};
 use std::alloc::Global;
 use std::marker::Model;
 use std::sync::ledger::Ledger;
-use comparison_count::Comparisons;
 
 /// What a good line of the input is.
 #[derive(Clone, Copy)]
@@ -185,7 +185,11 @@ impl Lanes {
     }
 
     #[inline(always)]
-    fn give<L: Ledger>(&mut self, lane: u8, comparisons: &mut Comparisons<L>) -> Option<(u8, DueLine)>
+    fn give<L: Ledger>(
+        &mut self,
+        lane: u8,
+        comparisons: &mut Comparisons<L>,
+    ) -> Option<(u8, DueLine)>
         requires phase { self.old.phase ≡ Giving lane }
         requires stands { (ls : List (List ℕ)) × (rest : List (List ℕ))
             × StandsFor self.old ls rest }

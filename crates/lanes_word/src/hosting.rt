@@ -8,6 +8,7 @@ ghost use Rattle.lanes_word.specs.Talk.{lanes_talk};
 ghost use Rattle.lanes_word.specs.Keeping.{parts_of, IsGiving, IsReady, Costs};
 
 use crate::lines::write_in_lane;
+use comparison_count::Comparisons;
 use dialogue::lines::put_refused;
 use dialogue::{Stop, Talker};
 use dover_model::Memory;
@@ -16,7 +17,6 @@ use lane_server::{LaneInput, Lanes};
 use line_text::BackLine;
 use std::marker::PhantomData;
 use std::sync::ledger::Ledger;
-use comparison_count::Comparisons;
 
 /// Lanes that are served.
 #[derive(Drop)]

@@ -10,11 +10,11 @@ ghost use Rattle.place_heap.specs.HeapOrder.{IsHeap};
 
 use crate::item::Item;
 use crate::sift::{NOWHERE, put_last, put_last_at, settle, sift_up, take_last};
+use comparison_count::Comparisons;
 use dover_model::Memory;
 use std::alloc::Global;
 use std::marker::Model;
 use std::sync::ledger::Ledger;
-use comparison_count::Comparisons;
 
 /// A set of items at places of their own, from which the first and that of a place are taken in logarithmic time.
 #[derive(Drop)]
@@ -109,7 +109,12 @@ impl Heap {
     {
         let at = position_of(&self.positions, place);
         if at != NOWHERE {
-            take_at(&mut self.items, &mut self.positions, at as usize, comparisons);
+            take_at(
+                &mut self.items,
+                &mut self.positions,
+                at as usize,
+                comparisons,
+            );
         }
     }
 }
@@ -126,7 +131,12 @@ fn position_of(positions: &[u32], place: u32) -> u32
 }
 
 // Puts an item in.
-fn put<L: Ledger>(items: &mut Vec<Item>, positions: &mut [u32], item: Item, comparisons: &mut Comparisons<L>)
+fn put<L: Ledger>(
+    items: &mut Vec<Item>,
+    positions: &mut [u32],
+    item: Item,
+    comparisons: &mut Comparisons<L>,
+)
     requires room { vec_len items.old < vec_capacity items.old }
     requires few { length items.old.items + 1 < 2 ^ 32 }
     requires ready { item.place < length positions.old }
@@ -147,7 +157,12 @@ fn put<L: Ledger>(items: &mut Vec<Item>, positions: &mut [u32], item: Item, comp
 }
 
 // Takes the item at a position out.
-fn take_at<L: Ledger>(items: &mut Vec<Item>, positions: &mut [u32], at: usize, comparisons: &mut Comparisons<L>)
+fn take_at<L: Ledger>(
+    items: &mut Vec<Item>,
+    positions: &mut [u32],
+    at: usize,
+    comparisons: &mut Comparisons<L>,
+)
     requires indexed { IsIndexed items.old.items positions.old }
     requires few { length items.old.items < 2 ^ 32 }
     requires at { at < length items.old.items }

@@ -2,10 +2,10 @@
 ghost use Rattle.std.specs.Prelude.{◌≡◌, ◌+◌, ◌<◌, ◌^◌};
 ghost use Rattle.place_heap.specs.Items.{ItemFacts, is_before};
 
+use comparison_count::Comparisons;
 use std::marker::Model;
 use std::mem::size_of;
 use std::sync::ledger::Ledger;
-use comparison_count::Comparisons;
 
 // What one of the number, of the tie and of the key counts for in a rank.
 const NUMBER: u128 = 1 << 20;
@@ -66,7 +66,11 @@ impl Item {
 
     /// Whether it comes before the other, as one step.
     #[inline(always)]
-    pub(crate) fn is_before<L: Ledger>(&self, other: &Item, comparisons: &mut Comparisons<L>) -> bool
+    pub(crate) fn is_before<L: Ledger>(
+        &self,
+        other: &Item,
+        comparisons: &mut Comparisons<L>,
+    ) -> bool
         ensures answer { result ≡ is_before self.now other.now }
         ensures count { comparisons.new ≡ comparisons.old + 1 }
     {

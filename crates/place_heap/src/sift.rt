@@ -7,8 +7,8 @@ ghost use Rattle.place_heap.specs.Table.{IsIndexed, table_of};
 ghost use Rattle.place_heap.specs.HeapOrder.{IsAhead, IsHeap, IsHeapUp, IsHeapSave};
 
 use crate::item::Item;
-use std::sync::ledger::Ledger;
 use comparison_count::Comparisons;
+use std::sync::ledger::Ledger;
 
 /// The position of a place that has no item.
 pub(crate) const NOWHERE: u32 = u32::MAX;
@@ -60,7 +60,12 @@ pub(crate) fn sift_up<L: Ledger>(
 
 // Of two positions the one whose item comes first.
 #[inline(always)]
-fn earlier<L: Ledger>(items: &[Item], left: usize, right: usize, comparisons: &mut Comparisons<L>) -> usize
+fn earlier<L: Ledger>(
+    items: &[Item],
+    left: usize,
+    right: usize,
+    comparisons: &mut Comparisons<L>,
+) -> usize
     requires order { left ≤ right }
     requires inside { right < length items.now }
     ensures low { left ≤ result }

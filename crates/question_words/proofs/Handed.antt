@@ -132,7 +132,7 @@ module _ (rules : Declaration) (jobs : List JobFacts) (valid : IsValid (record {
       pub at_first : (s : ReadyServer) (w : W)
           → HasShown seen s w (record { rules = under rules []; jobs = [] }) (Mark 0)
           → (done_lines : List DoneLine) → AllByRecursion (StandsAmong jobs) done_lines
-              → IsAt seen s w rules jobs [] done_lines 0
+          → IsAt seen s w rules jobs [] done_lines 0
       at_first s w shown done_lines each = record {
         to = Mark 0;
         shown = shown;
@@ -153,8 +153,10 @@ module _ (rules : Declaration) (jobs : List JobFacts) (valid : IsValid (record {
         -- may be fed
         pub can_part : CanFeed (run_of rules jobs count done_lines) at.to (part count d.behind)
         can_part = record {
-          valid = subst (λ js. IsValid (record { rules = under rules (right_finishes rules jobs done_lines); jobs = js
-              }))
+          valid = subst (λ js. IsValid (record {
+            rules = under rules (right_finishes rules jobs done_lines);
+            jobs = js;
+          }))
               (sym joined) (front_valid d.behind (right_finishes rules jobs done_lines));
           follow = all_front (λ j. MayFollow at.to (Mark j.release)) (part count d.behind)
               (drop (d.behind - count) (drop count jobs))

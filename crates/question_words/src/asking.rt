@@ -11,6 +11,7 @@ ghost use Rattle.question_words.specs.Texts.{text_of, refusal_line};
 
 use crate::answer::Answer;
 use crate::{Question, best, compare, feasible, loss};
+use comparison_count::Comparisons;
 use dialogue::lines::fault_line;
 use dialogue::{Stop, Talker};
 use dover_model::Memory;
@@ -20,7 +21,6 @@ use line_text::BackLine;
 use std::alloc::Global;
 use std::marker::PhantomData;
 use std::sync::ledger::Ledger;
-use comparison_count::Comparisons;
 
 /// A question on the jobs of the feed that is read. Nothing is due before the answer.
 #[derive(Drop)]

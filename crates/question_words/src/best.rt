@@ -10,13 +10,13 @@ use crate::answer::{Answer, Rows};
 use crate::bounding::put_bound;
 use crate::observing::observe;
 use clairvoyant::best::best;
+use comparison_count::Comparisons;
 use dover_model::Memory;
 use dover_port::Status;
 use event_feed::Listed;
 use line_text::BackLine;
 use std::alloc::Global;
 use std::sync::ledger::Ledger;
-use comparison_count::Comparisons;
 
 /// The most jobs of which the best set is sought.
 const MOST_JOBS: usize = 20;

@@ -9,6 +9,7 @@ ghost use Rattle.question_words.specs.Texts.{text_of};
 use crate::answer::{Answer, Rows};
 use crate::bounding::put_bound;
 use crate::observing::observe;
+use comparison_count::Comparisons;
 use dover_model::Memory;
 use dover_port::Status;
 use event_feed::Listed;
@@ -16,7 +17,6 @@ use line_text::BackLine;
 use policy_lab::{Dense, Edf, are_too_large, run_policy};
 use std::alloc::Global;
 use std::sync::ledger::Ledger;
-use comparison_count::Comparisons;
 
 /// Compares the rules with the policies over the jobs, which these know as the run observed them, and says what came of
 /// it: the value that the run completes, what the schedules by earliest deadline and by greatest density are worth, and

@@ -4,12 +4,12 @@ ghost use Rattle.dover_model.specs.Common.{IsValid, completed_value, CostsAtMost
 ghost use Rattle.question_words.specs.Replaying.{bare_instance};
 ghost use Rattle.question_words.specs.Loss.{is_completed};
 
+use comparison_count::Comparisons;
 use dover_model::{Event, Job, Memory};
 use event_feed::Listed;
 use ready_server::{Watcher, run_list};
 use std::alloc::Global;
 use std::sync::ledger::Ledger;
-use comparison_count::Comparisons;
 
 /// The value that the End of a run names, 0 before it.
 #[derive(Clone, Copy)]

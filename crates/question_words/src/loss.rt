@@ -12,13 +12,13 @@ use crate::bounding::put_bound;
 use crate::limits::is_listable;
 use crate::observing::observe_each;
 use clairvoyant::overload::{Stretch, cost_of, value_inside};
+use comparison_count::Comparisons;
 use dover_model::{Job, Memory};
 use dover_port::Status;
 use event_feed::Listed;
 use line_text::BackLine;
 use std::alloc::Global;
 use std::sync::ledger::Ledger;
-use comparison_count::Comparisons;
 
 /// The stretches, with what is done of the jobs inside.
 fn rows(

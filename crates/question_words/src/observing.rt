@@ -6,11 +6,11 @@ ghost use Rattle.question_words.specs.Loss.{is_completed};
 
 use crate::completing::{Completion, completed, completed_jobs};
 use crate::replaying::replayed;
+use comparison_count::Comparisons;
 use dover_model::{Job, Memory};
 use event_feed::Listed;
 use std::alloc::Global;
 use std::sync::ledger::Ledger;
-use comparison_count::Comparisons;
 
 /// The value that the run completes, and the jobs as it observed them. Where no job can have finished early these are
 /// the listed ones.

@@ -8,13 +8,13 @@ ghost use Rattle.question_words.specs.Questions.{says};
 ghost use Rattle.question_words.specs.Talk.{ask_talk};
 
 use crate::asking::Asking;
+use comparison_count::Comparisons;
 use dialogue::converse;
 use dover_port::{Port, Status};
 use event_feed::FeedReader;
 use std::alloc::Global;
 use std::marker::PhantomData;
 use std::sync::ledger::Ledger;
-use comparison_count::Comparisons;
 
 /// What is asked about the jobs of a feed.
 #[derive(Clone, Copy)]

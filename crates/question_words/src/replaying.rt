@@ -12,13 +12,13 @@ ghost use Rattle.question_words.specs.Replaying.{HasRecorded, with_work, job_see
 ghost use Rattle.question_words.specs.Watching.{HasSeen};
 
 use crate::completing::Completion;
+use comparison_count::Comparisons;
 use dover_model::{Event, Horizon, Job, Memory, PackedEvent};
 use event_feed::Listed;
 use ready_server::{ReadyServer, Watcher, finish_job, serve_jobs, show_to};
 use run_record::ledger::served;
 use std::alloc::Global;
 use std::sync::ledger::Ledger;
-use comparison_count::Comparisons;
 
 /// The printed steps of a run, and whether one was lost for want of memory.
 #[derive(Drop)]

@@ -279,7 +279,7 @@ dues s most = record {
       comes.within in omega arith;
   release = λ c first ahead. let at : s.clock + after_release ≤ c.job.release = comes.before c first ahead in
       let low : n ≤ after_done = waits.within in let mid : after_done
-          ≤ after_release = done_lines.within in omega arith;
+      ≤ after_release = done_lines.within in omega arith;
   done = λ r runs. let at : after_done ≤ left r = done_lines.before r runs in let low : n ≤ after_done = waits.within in
       omega arith;
   before = waits.before;

@@ -11,8 +11,8 @@ ghost use Rattle.ready_jobs.specs.declared.actions.Action.TheVariants.{Resume, S
 
 use crate::actions::Action;
 use crate::parts::Parts;
-use std::sync::ledger::Ledger;
 use comparison_count::Comparisons;
+use std::sync::ledger::Ledger;
 
 impl Parts {
     // The running job is done. Answers its value.

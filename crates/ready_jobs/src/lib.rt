@@ -1,8 +1,8 @@
 //! The machine over the jobs that are released and not over.
 #![tactic(auto)]
 
-mod applying;
 mod actions;
+mod applying;
 mod held;
 mod parts;
 mod ready;

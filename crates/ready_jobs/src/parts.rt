@@ -21,13 +21,13 @@ ghost use Rattle.ready_jobs.specs.Parts.{Parted, AreSound, HaveRoles, ready_of, 
 use crate::actions::Action;
 use crate::held::{peek, pop, push};
 use crate::taking::{displace, in_role};
+use comparison_count::Comparisons;
 use dover_model::{Entry, Job, Memory, Ratio, Role, Task, Version};
 use held_stack::Rooms;
 use root_compare::heavy;
 use std::alloc::Global;
 use std::marker::Model;
 use std::sync::ledger::Ledger;
-use comparison_count::Comparisons;
 use waiting_pool::{Pool, ShortTask, left};
 
 /// The ready jobs by their roles. Those that wait are in a pool, the held ones on a stack with their rooms.

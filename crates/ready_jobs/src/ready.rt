@@ -17,12 +17,12 @@ ghost use Rattle.ready_jobs.specs.Spending.{HasPaid, HasPaidFreely, CostsOnce, w
 
 use crate::actions::{Action, DueStep, event_at, prints};
 use crate::parts::Parts;
+use comparison_count::Comparisons;
 use dover_model::jobs::LAST_TICK;
 use dover_model::{Event, Job, Memory, Ratio, Version};
 use std::alloc::Global;
 use std::marker::Model;
 use std::sync::ledger::Ledger;
-use comparison_count::Comparisons;
 
 /// For how many ready jobs there may be room.
 pub const MOST_READY: u32 = 1_000_000;
@@ -216,7 +216,11 @@ impl Ready {
 
     // Takes the silent steps up to the next printed one, which it gives, or up to the barrier of the mark.
     #[inline(always)]
-    fn due_before<L: Ledger>(&mut self, mark: u64, comparisons: &mut Comparisons<L>) -> Option<DueStep>
+    fn due_before<L: Ledger>(
+        &mut self,
+        mark: u64,
+        comparisons: &mut Comparisons<L>,
+    ) -> Option<DueStep>
         requires low { self.old.clock ≤ mark }
         requires known { mark ≤ last_tick }
         ensures settled { SettlesAt self.old mark self.new (option_map (λ due. due.event) result) }
@@ -289,7 +293,11 @@ impl Ready {
 
     /// Takes the silent steps up to the next printed one, which it gives, or up to the barrier of the mark.
     #[inline(always)]
-    pub fn settle<L: Ledger>(&mut self, mark: u64, comparisons: &mut Comparisons<L>) -> Option<Event>
+    pub fn settle<L: Ledger>(
+        &mut self,
+        mark: u64,
+        comparisons: &mut Comparisons<L>,
+    ) -> Option<Event>
         requires low { self.old.clock ≤ mark }
         requires known { mark ≤ last_tick }
         ensures settled { (J : Instance) (z : State) → Follows self.old J z → Settled self.new J z mark result }

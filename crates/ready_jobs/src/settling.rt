@@ -7,9 +7,9 @@ ghost use Rattle.ready_jobs.specs.Following.{IsPart, SettlesFrom};
 
 use crate::actions::Action;
 use crate::parts::Parts;
+use comparison_count::Comparisons;
 use dover_model::Ratio;
 use std::sync::ledger::Ledger;
-use comparison_count::Comparisons;
 
 impl Parts {
     // The fresh job, if there is one, gives a printed step, or it waits: no job is fresh any more.
@@ -99,7 +99,12 @@ impl Parts {
 
     /// Takes the silent steps up to the next printed one, which it gives, or up to the barrier of the mark.
     #[inline(always)]
-    pub fn settle<L: Ledger>(&mut self, k: &Ratio, mark: u64, comparisons: &mut Comparisons<L>) -> Action
+    pub fn settle<L: Ledger>(
+        &mut self,
+        k: &Ratio,
+        mark: u64,
+        comparisons: &mut Comparisons<L>,
+    ) -> Action
         requires part { IsPart (record { ratio = k.now; version = self.old.version; finishes = [] }) self.old }
         requires low { self.old.clock ≤ mark }
         requires known { mark ≤ last_tick }

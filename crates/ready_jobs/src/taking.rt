@@ -6,9 +6,9 @@ ghost use Rattle.ready_jobs.specs.Changed.{made_wait};
 ghost use Rattle.waiting_pool.specs.Short.{no_number};
 
 use crate::held::pop;
+use comparison_count::Comparisons;
 use dover_model::{Role, Task};
 use std::sync::ledger::Ledger;
-use comparison_count::Comparisons;
 use waiting_pool::{Pool, ShortTask};
 
 // The job in another role.
@@ -25,7 +25,11 @@ pub(crate) fn in_role(t: &Task, role: Role) -> Task
 }
 
 // The held jobs wait in the pool.
-pub(crate) fn displace<L: Ledger>(held: &mut Vec<ShortTask>, pool: &mut Pool, comparisons: &mut Comparisons<L>)
+pub(crate) fn displace<L: Ledger>(
+    held: &mut Vec<ShortTask>,
+    pool: &mut Pool,
+    comparisons: &mut Comparisons<L>,
+)
     requires room { length held.old.items + length pool.old.tasks ≤ pool.old.room }
     requires numbers { Each (λ t. t.number < no_number) (reverse held.old.items) }
     ensures none { held.new.items ≡ [] }

@@ -15,10 +15,10 @@ ghost use Rattle.ready_server.specs.Rostering.{has_roster};
 
 use crate::roster::Roster;
 use crate::server::ReadyServer;
+use comparison_count::Comparisons;
 use dover_model::{Event, Horizon, Job, Memory, Ratio, Version};
 use std::alloc::Global;
 use std::sync::ledger::Ledger;
-use comparison_count::Comparisons;
 
 /// A server that forgets each job as it is over, and keeps a roster of all jobs for a snapshot where one is asked for.
 /// The roster is kept up to the last mark, and not on the way to the end.
@@ -160,7 +160,11 @@ impl RosterServer {
     ///
     /// A mark is a tick, at most 1,000,000,000,000. Marks never fall, and none comes behind `Horizon::End`.
     #[inline(always)]
-    pub fn step<L: Ledger>(&mut self, to: Horizon, comparisons: &mut Comparisons<L>) -> Option<Event>
+    pub fn step<L: Ledger>(
+        &mut self,
+        to: Horizon,
+        comparisons: &mut Comparisons<L>,
+    ) -> Option<Event>
         requires { (J : Instance) × (from : Horizon) × (events : List Event) × Serves self.old J from events
             × MayFollow from to }
         ensures gives { (J : Instance) (from : Horizon) (events : List Event) → Serves self.old J from events

@@ -11,10 +11,10 @@ ghost use Rattle.ready_server.specs.Serving.{Serves, Rests, HasPlace, HasPaid};
 use crate::server::ReadyServer;
 use crate::source::JobSource;
 use crate::watcher::Watcher;
+use comparison_count::Comparisons;
 use dover_model::{Horizon, Job, Memory, Ratio, Version};
 use std::alloc::Global;
 use std::sync::ledger::Ledger;
-use comparison_count::Comparisons;
 
 /// Takes the run to a horizon, and shows each step that is printed on the way.
 pub fn show_to<W: Watcher, L: Ledger>(

@@ -15,11 +15,11 @@ ghost use Rattle.ready_server.specs.Serving.{Finishes, GoesOnWith, HasPlaceUnles
 ghost use Rattle.ready_jobs.specs.Course.{successor_of};
 ghost use Rattle.ready_server.specs.NextStep.{ComesAt};
 
+use comparison_count::Comparisons;
 use dover_model::{Event, Horizon, Job, Memory, Ratio, Version};
 use ready_jobs::{MOST_READY, Ready};
 use std::alloc::Global;
 use std::sync::ledger::Ledger;
-use comparison_count::Comparisons;
 
 /// A server that keeps the jobs that are released and not over, and forgets each as it is over. However many come, it
 /// makes room for at most twice as many as are ready at once.
@@ -302,7 +302,11 @@ impl ReadyServer {
     ///
     /// A mark is a tick, at most 1,000,000,000,000. Marks never fall, and none comes behind `Horizon::End`.
     #[inline(always)]
-    pub fn step<L: Ledger>(&mut self, to: Horizon, comparisons: &mut Comparisons<L>) -> Option<Event>
+    pub fn step<L: Ledger>(
+        &mut self,
+        to: Horizon,
+        comparisons: &mut Comparisons<L>,
+    ) -> Option<Event>
         requires { (J : Instance) × (from : Horizon) × (events : List Event) × Serves self.old J from events
             × MayFollow from to }
         ensures gives { (J : Instance) (from : Horizon) (events : List Event) → Serves self.old J from events

@@ -1,12 +1,12 @@
 //! A heap of items beside a list of them by their places, and the order of two items.
 ghost use Rattle.std.specs.Prelude.{◌≡◌, ◌<◌, ◌^◌, length, IfSome};
 
+use comparison_count::Comparisons;
 use dover_model::Version;
 use dover_model::jobs::MOST_VALUE;
 use place_heap::{Heap, Item, tie_of};
 use std::marker::Brand;
 use std::sync::ledger::{Blank, Ledger};
-use comparison_count::Comparisons;
 
 // A key, a tie, a number and a place, compared in this order.
 type Row = (u64, u32, u32, u32);
@@ -51,7 +51,11 @@ fn is_as_listed(heap: &Heap, rows: &[Row]) -> bool {
 }
 
 // Whether the heap, which begins empty, answers as the list of its items does, round by round.
-fn goes_as_listed<L: Ledger>(heap: &mut Heap, rows: &mut [Row], comparisons: &mut Comparisons<L>) -> bool
+fn goes_as_listed<L: Ledger>(
+    heap: &mut Heap,
+    rows: &mut [Row],
+    comparisons: &mut Comparisons<L>,
+) -> bool
     requires heap { length heap.old ≡ 200 }
     requires rows { length rows.old ≡ 200 }
 {

@@ -10,4 +10,4 @@ mod resuming;
 mod writing;
 
 pub use paused::Paused;
-pub use reader::{Got, SnapshotReader, SnapFault};
+pub use reader::{Got, SnapFault, SnapshotReader};

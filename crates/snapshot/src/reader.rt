@@ -7,12 +7,12 @@ ghost use Rattle.snapshot.specs.Reading.{reading_of};
 ghost use Rattle.snapshot.specs.Spending.{jobs_read, jobs_kept, HasSpentOn};
 
 use crate::resuming::Resuming;
+use comparison_count::Comparisons;
 use event_feed::Intake;
 use ready_server::RosterServer;
 use std::alloc::Global;
 use std::marker::Model;
 use std::sync::ledger::Ledger;
-use comparison_count::Comparisons;
 use thiserror::Error;
 
 /// Whether a snapshot was read to its last line.
@@ -86,7 +86,11 @@ impl SnapshotReader {
     ///
     /// `BadSnapshot` at the first line that doesn't stand where it is, and `Memory` where there was none for the run or
     /// for the line's job, and the line stands where it is.
-    pub fn line<L: Ledger>(&mut self, line: &[u8], comparisons: &mut Comparisons<L>) -> Result<Got, SnapFault>
+    pub fn line<L: Ledger>(
+        &mut self,
+        line: &[u8],
+        comparisons: &mut Comparisons<L>,
+    ) -> Result<Got, SnapFault>
         requires { (ls : List (List ℕ)) × IsReading self.old ls }
         ensures answers { (ls : List (List ℕ)) → IsReading self.old ls → Answers result self.new (ls ++ line.now ∷ []) }
         ensures jobs { (ls : List (List ℕ)) → IsReading self.old ls →

@@ -17,12 +17,12 @@ ghost use Rattle.ready_server.specs.Rostering.{Serves, Rests, HasPlace, HasPaid,
 use crate::feeding::{begin, hand_job, hand_ticks};
 use crate::forms::{Head, is_within_limits, read_head, read_state};
 use crate::reader::{Got, SnapFault};
+use comparison_count::Comparisons;
 use dover_model::{Horizon, Job, Memory, Role, Task};
 use event_feed::Intake;
 use ready_server::{Roster, RosterServer};
 use std::alloc::Global;
 use std::sync::ledger::Ledger;
-use comparison_count::Comparisons;
 
 /// What a job is where the feed paused, and how many ticks it has had.
 #[derive(Clone, Copy)]
@@ -317,7 +317,11 @@ impl Resuming {
     }
 
     /// Takes the line of the next job.
-    fn job<L: Ledger>(&mut self, line: &[u8], comparisons: &mut Comparisons<L>) -> Result<Got, SnapFault>
+    fn job<L: Ledger>(
+        &mut self,
+        line: &[u8],
+        comparisons: &mut Comparisons<L>,
+    ) -> Result<Got, SnapFault>
         requires reading { (ls : List (List ℕ)) × IsReading (Some self.old) ls }
         requires more { length self.old.stances.items < self.old.head.jobs }
         ensures answers { (ls : List (List ℕ)) → IsReading (Some self.old) ls →
@@ -368,7 +372,11 @@ impl Resuming {
 
     /// Takes the last line.
     #[inline(never)]
-    fn finish<L: Ledger>(&mut self, line: &[u8], comparisons: &mut Comparisons<L>) -> Result<Got, SnapFault>
+    fn finish<L: Ledger>(
+        &mut self,
+        line: &[u8],
+        comparisons: &mut Comparisons<L>,
+    ) -> Result<Got, SnapFault>
         requires reading { (ls : List (List ℕ)) × IsReading (Some self.old) ls }
         requires all { self.old.head.jobs ≤ length self.old.stances.items }
         ensures answers { (ls : List (List ℕ)) → IsReading (Some self.old) ls →
@@ -400,7 +408,11 @@ impl Resuming {
     }
 
     /// Takes the next line behind the first.
-    pub fn line<L: Ledger>(&mut self, line: &[u8], comparisons: &mut Comparisons<L>) -> Result<Got, SnapFault>
+    pub fn line<L: Ledger>(
+        &mut self,
+        line: &[u8],
+        comparisons: &mut Comparisons<L>,
+    ) -> Result<Got, SnapFault>
         requires { (ls : List (List ℕ)) × IsReading (Some self.old) ls }
         ensures answers { (ls : List (List ℕ)) → IsReading (Some self.old) ls →
             Answers result (Some self.new) (ls ++ line.now ∷ []) }

@@ -2,11 +2,11 @@
 ghost use Rattle.std.specs.Prelude.{◌≡◌, ◌<◌, [], ◌∷◌};
 ghost use Rattle.dover_model.specs.declared.events.Event.TheVariants.{End};
 
+use comparison_count::Comparisons;
 use dover_model::{Event, PackedEvent, Ratio};
 use run_reports::report::summary;
 use std::marker::Brand;
 use std::sync::ledger::{Blank, Ledger};
-use comparison_count::Comparisons;
 use trace_judge::{Judge, Verdict};
 
 /// The trace of a job.

@@ -1,12 +1,12 @@
 //! Calls of `dover` over ports in memory.
 ghost use Rattle.std.specs.Prelude.{◌≡◌, ◌<◌};
 
+use comparison_count::Comparisons;
 use dover_port::{MemoryPort, Status};
 use dover_top::dover;
 use std::alloc::{AllocError, Global};
 use std::marker::Brand;
 use std::sync::ledger::{Blank, Ledger};
-use comparison_count::Comparisons;
 
 /// One call over a port, with a ledger of its own.
 fn answer_in<L: Ledger>(

@@ -12,12 +12,12 @@ ghost use Rattle.trace_judge.specs.Judging.{Misses, Notes, HasPaidFor, PaysFor};
 use crate::reader::TraceReader;
 use crate::stage::TraceStage;
 use crate::verdict::{Expected, Verdict};
+use comparison_count::Comparisons;
 use dover_model::{Memory, PackedEvent};
-use line_text::{Lines, ByteEffect};
+use line_text::{ByteEffect, Lines};
 use std::alloc::Global;
 use std::marker::Model;
 use std::sync::ledger::Ledger;
-use comparison_count::Comparisons;
 
 /// What was found of the text so far.
 #[derive(Clone, Copy)]
@@ -201,7 +201,11 @@ impl Judge {
 
     // The next bytes are a whole line, where no line has begun and none is wrong so far. It is read where it stands.
     #[inline(always)]
-    fn take_whole<L: Ledger>(&mut self, bytes: &[u8], comparisons: &mut Comparisons<L>) -> Result<(), Memory>
+    fn take_whole<L: Ledger>(
+        &mut self,
+        bytes: &[u8],
+        comparisons: &mut Comparisons<L>,
+    ) -> Result<(), Memory>
         requires good { self.old.found ≡ Good }
         requires whole { IsWholeLine self.old.lines bytes.now }
         ensures fed { OnOk result (Fed self.old self.new bytes.now) }
@@ -216,7 +220,11 @@ impl Judge {
 
     // The next byte, where no line is wrong so far.
     #[inline(never)]
-    fn take_byte<L: Ledger>(&mut self, byte: u8, comparisons: &mut Comparisons<L>) -> Result<(), Memory>
+    fn take_byte<L: Ledger>(
+        &mut self,
+        byte: u8,
+        comparisons: &mut Comparisons<L>,
+    ) -> Result<(), Memory>
         requires good { self.old.found ≡ Good }
         ensures fed { OnOk result (Fed self.old self.new (byte ∷ [])) }
         ensures room { OnErr result (IsOverfed self.old (byte ∷ [])) }
@@ -233,7 +241,11 @@ impl Judge {
 
     // The first of the bytes, where no line is wrong so far: a whole line, or one byte. Answers how many.
     #[inline(always)]
-    fn take_front<L: Ledger>(&mut self, bytes: &[u8], comparisons: &mut Comparisons<L>) -> Result<usize, Memory>
+    fn take_front<L: Ledger>(
+        &mut self,
+        bytes: &[u8],
+        comparisons: &mut Comparisons<L>,
+    ) -> Result<usize, Memory>
         requires some { 0 < length bytes.now }
         requires good { self.old.found ≡ Good }
         ensures fed { IfOk result (λ count. Fed self.old self.new (take count bytes.now)) }
@@ -256,7 +268,11 @@ impl Judge {
 
     // The first of the bytes. Behind a wrong line all are disregarded. Answers how many.
     #[inline(always)]
-    fn take<L: Ledger>(&mut self, bytes: &[u8], comparisons: &mut Comparisons<L>) -> Result<usize, Memory>
+    fn take<L: Ledger>(
+        &mut self,
+        bytes: &[u8],
+        comparisons: &mut Comparisons<L>,
+    ) -> Result<usize, Memory>
         requires some { 0 < length bytes.now }
         ensures fed { IfOk result (λ count. Fed self.old self.new (take count bytes.now)) }
         ensures some { IfOk result (λ count. 1 ≤ count) }
@@ -279,7 +295,11 @@ impl Judge {
     /// # Errors
     ///
     /// `Memory` where there is none for a job that the piece names, or `feed` answered it before.
-    pub fn feed<L: Ledger>(&mut self, piece: &[u8], comparisons: &mut Comparisons<L>) -> Result<(), Memory>
+    pub fn feed<L: Ledger>(
+        &mut self,
+        piece: &[u8],
+        comparisons: &mut Comparisons<L>,
+    ) -> Result<(), Memory>
         ensures fed { OnOk result (Fed self.old self.new piece.now) }
         ensures room { OnErr result (IsOverfed self.old piece.now) }
         ensures failed { OnErr result (self.new.found ≡ NoMemory) }

@@ -3,10 +3,10 @@ ghost use Rattle.std.specs.Prelude.{◌≡◌, ◌≤◌, ◌+◌, ℕ, IfOk, Is
 
 use crate::reader::TraceReader;
 use crate::stage::TraceStage;
+use comparison_count::Comparisons;
 use dover_model::{Event, Memory};
 use line_text::traces::{TraceLine, read_trace_line};
 use std::sync::ledger::Ledger;
-use comparison_count::Comparisons;
 
 impl TraceReader {
     ghost use Rattle.dover_model.specs.Text.{text_of};
@@ -38,7 +38,11 @@ impl TraceReader {
 
     // A line of a step.
     #[inline(always)]
-    fn take_step<L: Ledger>(&mut self, event: &Event, comparisons: &mut Comparisons<L>) -> Result<bool, Memory>
+    fn take_step<L: Ledger>(
+        &mut self,
+        event: &Event,
+        comparisons: &mut Comparisons<L>,
+    ) -> Result<bool, Memory>
         requires going { self.old.stage ≡ Going }
         requires form { HasForm (Step event.now) }
         ensures took { IfOk result (Took self.old self.new (text_of event.now)) }
@@ -117,7 +121,11 @@ impl TraceReader {
     /// # Errors
     ///
     /// `Memory` where there is none for the line's job or step.
-    pub fn take<L: Ledger>(&mut self, line: &[u8], comparisons: &mut Comparisons<L>) -> Result<bool, Memory>
+    pub fn take<L: Ledger>(
+        &mut self,
+        line: &[u8],
+        comparisons: &mut Comparisons<L>,
+    ) -> Result<bool, Memory>
         ensures took { IfOk result (Took self.old self.new line.now) }
         ensures room { job_lines_in line.now ≤ self.old.spare → IsOk result }
         ensures spare { self.old.spare ≤ self.new.spare + job_lines_in line.now }

@@ -8,6 +8,7 @@ use crate::says::{floor_after, is_end, is_full_cause, is_late_cause, is_same_cau
 use crate::stage::TraceStage;
 use crate::verdict::{Expected, Verdict};
 use admission::Admission;
+use comparison_count::Comparisons;
 use dover_model::jobs::LAST_TICK;
 use dover_model::{Event, Job, Memory, PackedEvent, Ratio, Refusal, Version};
 use ready_jobs::{MOST_READY, Ready};
@@ -15,7 +16,6 @@ use root_compare::long_bound;
 use std::alloc::Global;
 use std::marker::Model;
 use std::sync::ledger::Ledger;
-use comparison_count::Comparisons;
 
 /// For how many jobs room is asked for at once.
 const JOBS_AT_ONCE: u32 = 64;
@@ -244,7 +244,11 @@ impl TraceReader {
 
     /// The next line is that of the printed step that is due, up to which the run may have gone on.
     #[inline(always)]
-    pub(crate) fn follow<L: Ledger>(&mut self, event: &Event, comparisons: &mut Comparisons<L>) -> bool
+    pub(crate) fn follow<L: Ledger>(
+        &mut self,
+        event: &Event,
+        comparisons: &mut Comparisons<L>,
+    ) -> bool
         requires going { self.old.stage ≡ Going }
         requires form { HasForm (Step event.now) }
         requires none { item_in (Step event.now) ≡ None }
@@ -449,7 +453,12 @@ impl TraceReader {
 
     // The next line is that of a completion, by which a job finishes early.
     #[inline(never)]
-    fn finish_early<L: Ledger>(&mut self, at: u64, number: u32, comparisons: &mut Comparisons<L>) -> bool
+    fn finish_early<L: Ledger>(
+        &mut self,
+        at: u64,
+        number: u32,
+        comparisons: &mut Comparisons<L>,
+    ) -> bool
         requires going { self.old.stage ≡ Going }
         ensures yes { result ≡ true → Took self.old self.new (text_of (Complete at number)) true }
         ensures no { result ≡ false → MayNotComplete self.old at number }
@@ -482,7 +491,12 @@ impl TraceReader {
 
     /// The next line is that of a completion, early or not.
     #[inline(always)]
-    pub(crate) fn complete<L: Ledger>(&mut self, at: u64, number: u32, comparisons: &mut Comparisons<L>) -> bool
+    pub(crate) fn complete<L: Ledger>(
+        &mut self,
+        at: u64,
+        number: u32,
+        comparisons: &mut Comparisons<L>,
+    ) -> bool
         requires going { self.old.stage ≡ Going }
         requires form { HasForm (Step (Complete at number)) }
         ensures took { Took self.old self.new (text_of (Complete at number)) result }

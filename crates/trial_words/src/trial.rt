@@ -10,13 +10,13 @@ ghost use Rattle.trial_words.specs.Record.{Writes};
 
 use crate::drawn::Drawn;
 use crate::tally::RunTally;
+use comparison_count::Comparisons;
 use dover_model::{Ratio, Version};
 use dover_port::{Port, Status, put_all};
 use ready_server::run_list;
 use stated_jobs::trial::Gen;
 use std::alloc::Global;
 use std::sync::ledger::Ledger;
-use comparison_count::Comparisons;
 
 /// Serves the stated jobs of a seed, and writes the summary of their run: the jobs, those that were completed and
 /// abandoned with their values, the takes, and the bound on the value of every schedule. Nothing is read. The seed is
@@ -45,8 +45,14 @@ pub fn trial_word<P: Port, L: Ledger>(
     let _ = k.p();
     let mut jobs = Drawn(Gen::new(seed, count, k));
     let mut tally = RunTally::new();
-    let Ok(()) = run_list::<Drawn, RunTally, L>(alloc, Version::One, k, &mut jobs, &mut tally, comparisons)
-    else {
+    let Ok(()) = run_list::<Drawn, RunTally, L>(
+        alloc,
+        Version::One,
+        k,
+        &mut jobs,
+        &mut tally,
+        comparisons,
+    ) else {
         return Status::Memory;
     };
     let Ok(text) = tally.summary(alloc, count, k) else {

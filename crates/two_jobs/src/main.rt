@@ -3,15 +3,20 @@
 
 ghost use Rattle.std.specs.Prelude.{◌≡◌, ◌<◌};
 
+use comparison_count::Comparisons;
 use dover_engine::Engine;
 use dover_model::{Ratio, Version};
 use std::marker::Brand;
 use std::rt::Memory;
 use std::sync::ledger::{Blank, Ledger};
-use comparison_count::Comparisons;
 
 // Acts on all that is decided by the mark.
-fn settle<R: Print, L: Ledger>(rt: &R, engine: &mut Engine, mark: u64, comparisons: &mut Comparisons<L>) {
+fn settle<R: Print, L: Ledger>(
+    rt: &R,
+    engine: &mut Engine,
+    mark: u64,
+    comparisons: &mut Comparisons<L>,
+) {
     for _ in 0..u64::MAX {
         match engine.step(mark, comparisons) {
             Ok(Some(decision)) => {

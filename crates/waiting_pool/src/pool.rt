@@ -14,12 +14,12 @@ ghost use Rattle.waiting_pool.specs.Slots.{seen};
 
 use crate::short::{ShortTask, left};
 use crate::slot::WaitingSlot;
+use comparison_count::Comparisons;
 use dover_model::{Memory, Task, Version};
 use place_heap::{Heap, Item, tie_of};
 use std::alloc::Global;
 use std::marker::Model;
 use std::sync::ledger::Ledger;
-use comparison_count::Comparisons;
 
 /// A set of jobs that wait, with the first by deadline and the first by latest start at hand. Each has a place, which
 /// another takes once it is gone. A place is opened where none is free, so room that no job needs isn't touched.

@@ -6,11 +6,11 @@ ghost use Rattle.snapshot.specs.Reading.{reading_of};
 ghost use Rattle.snapshot.specs.Spending.{jobs_read, jobs_kept, HasSpentOn};
 ghost use Rattle.feed_words.specs.resume.Opening.{OpeningStands, Takes, TakesFront, HasFewOf};
 
-use line_text::{Lines, ByteEffect};
-use snapshot::{Got, SnapshotReader, SnapFault};
+use comparison_count::Comparisons;
+use line_text::{ByteEffect, Lines};
+use snapshot::{Got, SnapFault, SnapshotReader};
 use std::alloc::Global;
 use std::sync::ledger::Ledger;
-use comparison_count::Comparisons;
 
 /// What is kept of a snapshot: the line that has begun, and what the lines before it said.
 #[derive(Drop)]
@@ -32,7 +32,11 @@ impl Opening {
     }
 
     /// Takes a byte.
-    fn open_byte<L: Ledger>(&mut self, byte: u8, comparisons: &mut Comparisons<L>) -> Result<Got, SnapFault>
+    fn open_byte<L: Ledger>(
+        &mut self,
+        byte: u8,
+        comparisons: &mut Comparisons<L>,
+    ) -> Result<Got, SnapFault>
         requires { (x : List ℕ) × OpeningStands self.old x }
         ensures takes { (x : List ℕ) → OpeningStands self.old x → Takes result self.new (x ++ byte ∷ []) }
         ensures jobs { (x : List ℕ) → OpeningStands self.old x →

@@ -7,11 +7,11 @@ ghost use Rattle.feed_words.specs.resume.Record.{Resumes, IsFrugal};
 use crate::resume::opening::Opening;
 use crate::resume::resuming::{Resuming, SnapshotStage};
 use crate::serve::AtEnd;
+use comparison_count::Comparisons;
 use dialogue::converse;
 use dover_port::{Port, Status};
 use std::alloc::Global;
 use std::sync::ledger::Ledger;
-use comparison_count::Comparisons;
 
 /// Reads a snapshot and what follows it, and writes what `serve` writes for the whole feed beyond what was due where
 /// the feed was paused. Nothing is put before the snapshot is whole. `Refused` at its first line that no snapshot has

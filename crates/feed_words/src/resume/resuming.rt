@@ -11,16 +11,16 @@ ghost use Rattle.snapshot.specs.Kept.{IsReady as IsWholeFor};
 
 use crate::resume::opening::Opening;
 use crate::serve::{AtEnd, Pausing, Serving};
+use comparison_count::Comparisons;
 use dialogue::lines::put_refused;
 use dialogue::{Stop, Talker};
 use dover_model::Memory;
 use dover_port::{Output, Port, Status};
 use line_text::BackLine;
-use snapshot::{Got, SnapshotReader, SnapFault};
+use snapshot::{Got, SnapFault, SnapshotReader};
 use std::alloc::Global;
 use std::mem::replace;
 use std::sync::ledger::Ledger;
-use comparison_count::Comparisons;
 
 /// How far a snapshot was read.
 #[derive(Drop)]

@@ -6,13 +6,13 @@ ghost use Rattle.feed_words.specs.declared.serve.at_end.AtEnd.TheVariants.{Pause
 use crate::serve::pause::{is_paused, is_too_large, pause, put_lines};
 use crate::serve::serving::Serving;
 use crate::serve::told::answer_with;
+use comparison_count::Comparisons;
 use dialogue::{Stop, Talker};
 use dover_model::Memory;
 use dover_port::{Output, Port, Status};
 use lane_server::Lane;
 use line_text::BackLine;
 use std::sync::ledger::Ledger;
-use comparison_count::Comparisons;
 
 /// A feed that is served, and is paused where its input ends, if its ratio was declared and no line has begun.
 #[derive(Drop)]

@@ -10,6 +10,7 @@ ghost use Rattle.snapshot.specs.Feeds.{ResumesFeed};
 ghost use Rattle.feed_words.specs.serve.Keeping.{Call, whole_call, serve_talk, IsGiving, IsReady, Costs};
 ghost use Rattle.feed_words.specs.declared.serve.at_end.AtEnd.TheVariants.{Refuse};
 
+use comparison_count::Comparisons;
 use dialogue::lines::{put_fault, write_next};
 use dialogue::{Stop, Talker};
 use dover_model::Memory;
@@ -21,7 +22,6 @@ use ready_server::RosterServer;
 use std::alloc::Global;
 use std::marker::PhantomData;
 use std::sync::ledger::Ledger;
-use comparison_count::Comparisons;
 
 /// A feed that is served, and is refused as short where its input ends.
 #[derive(Drop)]

@@ -180,7 +180,7 @@ module _ (links : List StayLink) (place : ℕ) (own whole more : List Stay) (lin
     by_rest [] none = absurd (omega (arith, some, none))
     by_rest (stay ∷ rest) (next, it, after) =
         let e : link.next ≡ next = ap (λ (l : StayLink). l.next) (same stay next it) in omega
-            (arith, e, it.at, it.below)
+        (arith, e, it.at, it.below)
 
   -- one stay more is read
   pub on : more ≡ own ++ link.stay ∷ [] → Goes links place own whole → Goes links link.next more whole

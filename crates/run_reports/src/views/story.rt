@@ -18,7 +18,7 @@ use crate::views::threshold::greatest_ratio;
 use dover_model::{Event, Factor, Job, Memory, PackedEvent, Ratio};
 use root_compare::least_heavy;
 use run_record::intervals::weights;
-use run_record::ledger::{served, rooms};
+use run_record::ledger::{rooms, served};
 use std::alloc::Global;
 
 /// The job that is asked about.

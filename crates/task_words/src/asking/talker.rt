@@ -14,6 +14,7 @@ ghost use Rattle.task_words.specs.asking.Spending.{Costs};
 use crate::asking::question::TaskQuestion;
 use crate::reading::{ListedTasks, TaskReader};
 use crate::{budget, sure, unroll};
+use comparison_count::Comparisons;
 use dialogue::lines::put_fault;
 use dialogue::{Stop, Talker};
 use dover_model::Memory;
@@ -22,7 +23,6 @@ use line_text::BackLine;
 use std::alloc::Global;
 use std::marker::PhantomData;
 use std::sync::ledger::Ledger;
-use comparison_count::Comparisons;
 
 /// The answer to the question on these tasks.
 fn answer<P: Port, L: Ledger>(
@@ -46,7 +46,14 @@ fn answer<P: Port, L: Ledger>(
     ensures stops { StopsOn result (P.calls port.old) (P.calls port.new) }
 {
     match question {
-        TaskQuestion::Unroll { until } => unroll::answer(alloc, port, out, listed, until, comparisons),
+        TaskQuestion::Unroll { until } => unroll::answer(
+            alloc,
+            port,
+            out,
+            listed,
+            until,
+            comparisons,
+        ),
         TaskQuestion::Sure => sure::answer(port, out, &listed),
         TaskQuestion::Budget { cost } => budget::answer(alloc, port, out, &listed, cost),
     }

@@ -10,12 +10,12 @@ ghost use Rattle.task_words.specs.asking.Talk.{tasks_talk};
 use crate::asking::question::{TaskQuestion, until_of};
 use crate::asking::talker::AskingTasks;
 use crate::reading::TaskReader;
+use comparison_count::Comparisons;
 use dialogue::converse;
 use dover_port::{Port, Status};
 use std::alloc::Global;
 use std::marker::PhantomData;
 use std::sync::ledger::Ledger;
-use comparison_count::Comparisons;
 
 /// Reads a task text to its end, and then answers a question on its tasks. A text with a fault, or that ends too early,
 /// is refused. Memory is taken for each task alone, and none once the first byte is written.

@@ -7,7 +7,7 @@ ghost use Rattle.task_words.specs.reading.Keeping.{IsKnown, StandsAt, TextStands
 ghost use Rattle.task_words.specs.declared.reading.intake.Progress.TheVariants.{Open};
 
 use crate::reading::intake::{Progress, TaskIntake};
-use line_text::{Lines, ByteEffect};
+use line_text::{ByteEffect, Lines};
 use std::alloc::Global;
 
 /// What is kept of a task text: the line that has begun, and what the lines before it said.

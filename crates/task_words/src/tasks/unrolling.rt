@@ -9,12 +9,12 @@ ghost use Rattle.task_words.specs.tasks.Merging.{StandsBehind, kept_release, mer
 ghost use Rattle.task_words.specs.tasks.Tasks.{jobs_before};
 
 use crate::tasks::task::PeriodicTask;
+use comparison_count::Comparisons;
 use dover_model::{Job, Memory};
 use place_heap::{Heap, Item};
 use std::alloc::Global;
 use std::marker::Model;
 use std::sync::ledger::Ledger;
-use comparison_count::Comparisons;
 
 /// Gives the jobs that tasks release before a tick, one by one in order of release, and those of one tick in the order
 /// of the tasks. It keeps the next release of each task, and takes memory when it is made alone.

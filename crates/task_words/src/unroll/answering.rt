@@ -12,11 +12,11 @@ ghost use Rattle.task_words.specs.unroll.Spending.{UnrollsAtMost};
 use crate::reading::ListedTasks;
 use crate::tasks::{Unrolling, fits};
 use crate::unroll::feeds::put_feed;
+use comparison_count::Comparisons;
 use dialogue::Stop;
 use dover_port::{Output, Port, Status};
 use std::alloc::Global;
 use std::sync::ledger::Ledger;
-use comparison_count::Comparisons;
 
 /// Puts the feed of the jobs that the tasks release before a tick, or that it would be too large.
 pub(crate) fn answer<P: Port, L: Ledger>(

@@ -11,12 +11,12 @@ ghost use Rattle.task_words.specs.tasks.Tasks.{jobs_before, unrolled};
 ghost use Rattle.event_feed.specs.Feeds.{feed_of, job_text};
 
 use crate::tasks::Unrolling;
+use comparison_count::Comparisons;
 use dialogue::lines::{put_feed_line, put_job, put_rules};
 use dover_model::{Ratio, Version};
 use dover_port::{Failed, Output, Port};
 use line_text::feeds::FeedLine;
 use std::sync::ledger::Ledger;
-use comparison_count::Comparisons;
 
 /// More jobs than a feed has.
 const MORE_JOBS: u32 = 1_000_001;

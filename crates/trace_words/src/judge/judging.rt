@@ -4,13 +4,13 @@ ghost use Rattle.trace_words.specs.judge.Talk.{judging_talk};
 ghost use Rattle.trace_words.specs.judge.Talking.{Call, IsReady, Costs};
 
 use crate::judge::Teller;
+use comparison_count::Comparisons;
 use dialogue::{Stop, Talker};
 use dover_model::Memory;
 use dover_port::{Output, Port, Status};
 use line_text::BackLine;
 use std::marker::PhantomData;
 use std::sync::ledger::Ledger;
-use comparison_count::Comparisons;
 use trace_judge::Judge;
 
 /// A judge of the text, and what tells its last word. Nothing is due before the answer.

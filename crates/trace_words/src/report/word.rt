@@ -16,6 +16,7 @@ ghost use Rattle.trace_words.specs.declared.report.form.Form.TheVariants.{Text, 
 
 use crate::judge::{Teller, judge_and_tell, put_verdict, status_of};
 use crate::report::Form;
+use comparison_count::Comparisons;
 use dialogue::Stop;
 use dover_model::{Memory, PackedEvent, Ratio, Version};
 use dover_port::{Failed, Output, Port, Status, put_all};
@@ -25,7 +26,6 @@ use run_reports::report::{Findings, TableRows, is_listable};
 use run_reports::views::{chrome, timeline, why};
 use std::alloc::Global;
 use std::sync::ledger::Ledger;
-use comparison_count::Comparisons;
 use trace_judge::{Closed, Verdict};
 
 /// The report as a text on the run of this version that prints these steps, which are let go before it is written.

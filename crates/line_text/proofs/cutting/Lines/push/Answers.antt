@@ -12,6 +12,6 @@ returns-clause-stands c =
 pub returns-clause-cut : goal.returns-clause-cut
 returns-clause-cut c = λ bytes stands short.
     subst (λ (s : ByteEffect). HasCut s c.keep.new.self.line bytes (bytes ++ c.args.byte ∷ []))
-        (sym c.keep.ensures.last)
+    (sym c.keep.ensures.last)
     (subst (λ (k : Cutting). HasCut k.last k.line bytes (bytes ++ c.args.byte ∷ [])) (sym c.keep.ensures.is)
     (after_byte-Goes c.args.self.now bytes c.args.byte stands short).cut)
