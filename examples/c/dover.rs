@@ -120,7 +120,7 @@ impl Dover {
         unsafe { u128::from(dover_value_high(self.0)) << 64 | u128::from(dover_value(self.0)) }
     }
 
-    pub fn room(&mut self) -> u32 {
+    pub fn spare(&mut self) -> u32 {
         unsafe { dover_spare(self.0) }
     }
 }
