@@ -1,5 +1,5 @@
 -- What is promised of tasks that are written with budgets.
-use Rattle.std.specs.Prelude.{◌≡◌, ◌≤◌, ◌<◌, ℕ, List, true, Some, length}
+use Rattle.std.specs.Prelude.{◌≡◌, ◌≤◌, ℕ, List, true, Some}
 use Rattle.dover_model.specs.declared.events.Task.{Task}
 use Rattle.dover_model.specs.Common.{need, Declaration, Instance, IsValid, end_state, ran, IsMember, is_done, useful}
 use Rattle.dover_port.specs.Moves.{Move, ins, outs}
