@@ -56,12 +56,7 @@ module _ (finishes : List Finish) (s : State) (sound : IsSound s) (ready : IsRea
   -- a displaced job doesn't run
   displaced_stands : (role : Role) → displaced role ≡ Running → ⊥
   displaced_stands Coming e = cc
-  displaced_stands Fresh e = cc
-  displaced_stands Waiting e = cc
-  displaced_stands Held e = cc
-  displaced_stands Running e = cc
-  displaced_stands Done e = cc
-  displaced_stands Gone e = cc
+  displaced_stands _ e = cc
 
   -- after each deed but a tick
   deed_goes : (k : Fraction) (m : Move) → Deed k s Ticks m → Decides finishes s m → (m ≡ Ticks → ⊥)
@@ -128,15 +123,8 @@ completed_now : (k : Fraction) (s : State) (at n : ℕ) (m : Move) → Deed k s 
 completed_now k s at n m (Completed r member runs) e =
     let same : Prints (Complete s.clock r.number) ≡ Prints (Complete at n) = e in
     record { job = r; member = member; runs = runs; clock = cc; number = cc }
-completed_now k s at n m (Resumed p member held none least why) e = absurd (cc)
-completed_now k s at n m (Started o member waiting none first fits next) e = absurd (cc)
-completed_now k s at n m (Began f member fresh none free) e = absurd (cc)
-completed_now k s at n m (Preempted r f member runs some f_member fresh before fits) e = absurd (cc)
-completed_now k s at n m (Stayed r f member runs some f_member fresh why) e = absurd (cc)
-completed_now k s at n m (Arrived c member comes now first stale busy free) e = absurd (cc)
-completed_now k s at n m (Taken r x member runs some x_member waiting now stale heavy) e = absurd (cc)
-completed_now k s at n m (Abandoned r x member runs some x_member waiting now stale light) e = absurd (cc)
 completed_now k s at n m (Rested quiet) e = absurd (let f : Ticks ≡ Prints (Complete at n) = e in cc)
+completed_now k s at n m _ e = absurd (cc)
 
 -- ---- the first step of its clock
 
@@ -342,20 +330,14 @@ settled_names_none S mark valid = from [] (settled_steps (instance_of S) mark) r
   of_event : (front : List Step) (x : Step) (back : List Step)
       → settled_steps (instance_of S) mark ≡ front ++ (x ∷ back) → (e : Event) → x.move ≡ Prints e
       → finish_in S e ≡ None
-  of_event front x back whole (Release n j) is = refl
-  of_event front x back whole (Run at n) is = refl
-  of_event front x back whole (Preempt at stops starts) is = refl
-  of_event front x back whole (Take at stops starts) is = refl
   of_event front x back whole (Complete at n) is = over_names_none S at n
       (over_then (instance_of S) valid mark at n front back x whole is)
-  of_event front x back whole (Abandon at n) is = refl
-  of_event front x back whole (End value) is = refl
+  of_event front x back whole _ is = refl
 
   cons_named : (m : Move) (es : List Event) → ((e : Event) → m ≡ Prints e → finish_in S e ≡ None) → NameNone S es
       → NameNone S (cons_option (event_of m) es)
   cons_named (Prints e) es here rest = (here e refl, rest)
-  cons_named (Waits n) es here rest = rest
-  cons_named Ticks es here rest = rest
+  cons_named _ es here rest = rest
 
   from : (front back : List Step) → settled_steps (instance_of S) mark ≡ front ++ back → NameNone S (printed_of back)
   from front [] whole = tt

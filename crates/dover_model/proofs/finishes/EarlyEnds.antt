@@ -8,15 +8,15 @@ use Rattle.std.specs.Option.{option_or}
 use Rattle.std.specs.List.{AllByRecursion, filter, find, list_all, cons_option}
 use Rattle.std.proofs.lemmas.Bool.{eq-eqb, and_parts, lt-ltb, ltb-true, ltb-false, leb-true, le-leb}
 use Rattle.std.proofs.lemmas.List.Folds.{find-append}
-use Rattle.dover_model.specs.Common.{JobFacts, Release, Run, Preempt, Take, Complete, Abandon, End, Coming, Fresh}
+use Rattle.dover_model.specs.Common.{JobFacts, Release, Complete, Coming, Fresh}
 use Rattle.dover_model.specs.Common.{Running, Task, Finish, is_finish_of, has_come_to, is_due, goes_on, Instance}
 use Rattle.dover_model.specs.Common.{IsValid, declared_by, having, State, opening, to_come, with_later, is_coming}
-use Rattle.dover_model.specs.Common.{is_running, is_over, running, left, Move, Prints, Waits, Ticks, View, view}
+use Rattle.dover_model.specs.Common.{is_running, is_over, running, left, Move, Prints, Ticks, View, view}
 use Rattle.dover_model.specs.Common.{completion, dispatch, decision, arrival, alarm, ◌or_else◌, ending, due_finish}
 use Rattle.dover_model.specs.Common.{finish_or, declared_step, step, open_step, after, ticked, Step, is_end, step_at}
 use Rattle.dover_model.specs.Common.{open_at, IsBarrier, waits_for_mark, settled_steps, settled_state, finish_now}
 use Rattle.dover_model.specs.Common.{AllComeFrom, is_complete, IsPath, IsOpenPath, NoneBefore, IsMember, Each, Keeps}
-use Rattle.dover_model.specs.Common.{Item, JobItem, RefusedItem, FinishItem, EarlyFinish, Session, instance_of}
+use Rattle.dover_model.specs.Common.{Item, JobItem, FinishItem, EarlyFinish, Session, instance_of}
 use Rattle.dover_model.specs.Common.{session_with, admitted_jobs, early_finishes, finish_of_item, may_finish_early}
 use Rattle.dover_model.specs.Common.{finish_at, early_at, handed_by}
 use Rattle.dover_model.proofs.lists.Members.{found, not_found, some_same, on_map, member_front}
@@ -155,22 +155,15 @@ module _ (J : Instance) (valid : IsValid J) where
               → finish_now r ≡ g.finish
           finish_of r g e = some_same (finish_now r) g.finish (ap finish_of_item e)
     by_move s keeps g (Prints (Release n j)) is e = absurd (let h : Some (JobItem j) ≡ Some (FinishItem g) = e in cc)
-    by_move s keeps g (Prints (Run at n)) is e = none_is_some e
-    by_move s keeps g (Prints (Preempt at stops starts)) is e = none_is_some e
-    by_move s keeps g (Prints (Take at stops starts)) is e = none_is_some e
-    by_move s keeps g (Prints (Abandon at n)) is e = none_is_some e
-    by_move s keeps g (Prints (End value)) is e = none_is_some e
-    by_move s keeps g (Waits n) is e = none_is_some e
-    by_move s keeps g Ticks is e = none_is_some e
+    by_move s keeps g _ is e = none_is_some e
 
     by_item : (i : Item) → IsMember i (items_of xs) → finish_of_item i ≡ Some f → IsMember f J.rules.finishes
-    by_item (JobItem j) there e = none_is_some e
-    by_item (RefusedItem r) there e = none_is_some e
     by_item (FinishItem g) there e =
         let x = given_by handed_by xs (FinishItem g) there in
         subst (λ h. IsMember h J.rules.finishes) (some_same g.finish f e)
         (by_move x.0.before (are x.0 x.1).0 g (step J.rules x.0.before) refl
         (ap handed_by (sym (are x.0 x.1).1) ∙ x.2))
+    by_item _ there e = none_is_some e
 
   -- and each early completion among the steps shows its own
   pub shown_all : (xs : List Step) (s : State) → IsMember (step_at J.rules s) xs → (r : Task) → running s ≡ Some r
@@ -412,20 +405,13 @@ module _ (J : Instance) (valid : IsValid J) where
           by_shown x there g same (early_says x.before.clock (running x.before) (FinishItem g) shown)
       by_move x there g same (Prints (Release n j)) e shown =
           absurd (let h : Some (JobItem j) ≡ Some (FinishItem g) = shown in cc)
-      by_move x there g same (Prints (Run at n)) e shown = none_is_some shown
-      by_move x there g same (Prints (Preempt at stops starts)) e shown = none_is_some shown
-      by_move x there g same (Prints (Take at stops starts)) e shown = none_is_some shown
-      by_move x there g same (Prints (Abandon at n)) e shown = none_is_some shown
-      by_move x there g same (Prints (End value)) e shown = none_is_some shown
-      by_move x there g same (Waits n) e shown = none_is_some shown
-      by_move x there g same Ticks e shown = none_is_some shown
+      by_move x there g same _ e shown = none_is_some shown
 
       by_item : (i : Item) → IsMember i items → finish_of_item i ≡ Some (finish_now r) → ⊥
-      by_item (JobItem j) there e = none_is_some e
-      by_item (RefusedItem q) there e = none_is_some e
       by_item (FinishItem g) there e =
           let x = given_by handed_by front (FinishItem g) there in
           by_move x.0 x.1 g (some_same g.finish (finish_now r) e) x.0.move refl x.2
+      by_item _ there e = none_is_some e
 
     -- the job runs there too
     running_here : running alone_here.here ≡ Some r
@@ -461,15 +447,7 @@ module _ (J : Instance) (valid : IsValid J) where
 
       by_ticks : (m : Move) → Deed J.rules.ratio v Ticks m → m ≡ Ticks → Each (λ u. u.role ≡ Fresh → ⊥) v.tasks
       by_ticks m (Rested quiet) e = quiet.stale
-      by_ticks m (Completed r member runs) e = absurd (cc)
-      by_ticks m (Resumed p member held none least why) e = absurd (cc)
-      by_ticks m (Started o member waiting none first fits next) e = absurd (cc)
-      by_ticks m (Began f member fresh none free) e = absurd (cc)
-      by_ticks m (Preempted r f member runs some f_member fresh before fits) e = absurd (cc)
-      by_ticks m (Stayed r f member runs some f_member fresh why) e = absurd (cc)
-      by_ticks m (Arrived c member comes now first stale busy free) e = absurd (cc)
-      by_ticks m (Taken r x member runs some x_member waiting now stale heavy) e = absurd (cc)
-      by_ticks m (Abandoned r x member runs some x_member waiting now stale light) e = absurd (cc)
+      by_ticks m _ e = absurd (cc)
 
       by_clock : ((after v (step J.rules v)).clock ≡ v.clock)
           ⊎ ((step J.rules v ≡ Ticks) × ((after v (step J.rules v)).clock ≡ v.clock + 1))

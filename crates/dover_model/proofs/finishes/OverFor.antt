@@ -40,13 +40,9 @@ module _ (finishes : List Finish) (s : State) (over : AreOverFor finishes s) whe
   pub over_ready : IsReady finishes s
   over_ready t member behind = over_not_due t member (out t.role behind) where
     out : (role : Role) → is_ready_behind (with_role t role) ≡ true → is_over (with_role t role) ≡ false
-    out Coming e = refl
-    out Fresh e = refl
-    out Waiting e = refl
-    out Held e = refl
-    out Running e = refl
     out Done e = never e
     out Gone e = never e
+    out _ e = refl
 
 -- ---- they stay over
 
@@ -69,13 +65,9 @@ module _ (n : ℕ) (s : State) (sound : IsSound s) (over : Each (λ t. t.number 
   -- after a displacement
   displaced_over : (t : Task) (role : Role) → is_over (with_role t role) ≡ true
       → is_over (with_role t (displaced role)) ≡ true
-  displaced_over t Coming e = e
-  displaced_over t Fresh e = e
-  displaced_over t Waiting e = e
   displaced_over t Held e = never e
   displaced_over t Running e = never e
-  displaced_over t Done e = e
-  displaced_over t Gone e = e
+  displaced_over t _ e = e
 
   -- after each deed
   deed_over : (k : Fraction) (m : Move) → Deed k s Ticks m → Each Over (after s m).tasks

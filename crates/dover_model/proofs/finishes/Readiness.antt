@@ -15,8 +15,8 @@ use Rattle.dover_model.proofs.steps.Roles.{is_running_role, passes, one_number}
 use Rattle.dover_model.proofs.steps.Moves.{says}
 use Rattle.dover_model.proofs.steps.Ticking.{Quiet}
 use Rattle.dover_model.proofs.steps.OneChange.{state_with, on_changed}
-use Rattle.dover_model.proofs.steps.Cases.{Case, Completes, Resumes, Starts, Begins, Preempts, Stays, Arrives, Takes}
-use Rattle.dover_model.proofs.steps.Cases.{Abandons, Rests, step_case}
+use Rattle.dover_model.proofs.steps.Cases.{Case, Completes}
+use Rattle.dover_model.proofs.steps.Cases.{Rests, step_case}
 use Rattle.dover_model.proofs.steps.Deeds.{Deed, Completed, Resumed, Started, Began, Preempted, Stayed, Arrived, Taken}
 use Rattle.dover_model.proofs.steps.Deeds.{Abandoned, Rested}
 use Rattle.dover_model.proofs.finishes.Finishing.{none_comes, some_comes}
@@ -96,15 +96,8 @@ module _ (s : State) (sound : IsSound s) where
   declared_ends k v other seen rests m (Completes r some done) e t member runs =
       let same : Some r ≡ Some t = sym some ∙ seen ∙ runner t member runs in
       subst (λ (x : Task). (left x == 0) ≡ true) (some_same r t same) done
-  declared_ends k v other seen rests m (Resumes p none held) e t member runs = never e
-  declared_ends k v other seen rests m (Starts o none no_held waits) e t member runs = never e
-  declared_ends k v other seen rests m (Begins f settles fresh) e t member runs = never e
-  declared_ends k v other seen rests m (Preempts r f settles fresh fits) e t member runs = never e
-  declared_ends k v other seen rests m (Stays r f settles fresh tight) e t member runs = never e
-  declared_ends k v other seen rests m (Arrives ro c settles stale some now) e t member runs = never e
-  declared_ends k v other seen rests m (Takes r x settles stale none late heavy) e t member runs = never e
-  declared_ends k v other seen rests m (Abandons r x settles stale none late light) e t member runs = never e
   declared_ends k v other seen rests m (Rests ro settles stale none quiet) e t member runs = never (sym rests ∙ e)
+  declared_ends k v other seen rests m _ e t member runs = never e
 
   -- what a step decides
   decided : (rules : Rules) (other : Move) → is_complete other ≡ false
@@ -141,24 +134,16 @@ module _ (s : State) (sound : IsSound s) where
 -- a job that is behind after a displacement was behind, or ran
 displaced_behind : (t : Task) (role : Role) → is_ready_behind (with_role t (displaced role)) ≡ true
     → (is_ready_behind (with_role t role) ≡ true) ⊎ (role ≡ Running)
-displaced_behind t Coming e = inl e
-displaced_behind t Fresh e = inl e
-displaced_behind t Waiting e = inl e
 displaced_behind t Held e = inl refl
 displaced_behind t Running e = inr refl
-displaced_behind t Done e = inl e
-displaced_behind t Gone e = inl e
+displaced_behind t _ e = inl e
 
 -- a job behind has no tick more
 ticked_behind : (t : Task) (role : Role) → is_ready_behind (with_role t role) ≡ true
     → ticked (with_role t role) ≡ with_role t role
-ticked_behind t Coming e = never e
-ticked_behind t Fresh e = never e
 ticked_behind t Waiting e = refl
 ticked_behind t Held e = refl
-ticked_behind t Running e = never e
-ticked_behind t Done e = never e
-ticked_behind t Gone e = never e
+ticked_behind t _ e = never e
 
 module _ (finishes : List Finish) (s : State) (sound : IsSound s) (ready : IsReady finishes s) where
   -- what is asked of each job
