@@ -5,6 +5,7 @@ use Rattle.std.proofs.Common.{ap, ◌∙◌, subst, Bool, true, false, cond, eqb
 use Rattle.std.proofs.Common.{Some, None, sum_by, filter, le-leb, leb-true, lt-ltb, ltb-true}
 use Rattle.std.proofs.lemmas.Bool.{cases_lt}
 use Rattle.std.proofs.lemmas.Nat.{mul-le}
+use Rattle.std.proofs.Math.Nat.{mul-sub}
 use Rattle.std.proofs.lemmas.List.Sums.{sum_by-cons, sum_by-append}
 use Rattle.dover_model.specs.Common.{Fraction, Factor, IsWithinSlower, Row, IsRow, TakenIn, IsDense, job_value}
 use Rattle.dover_model.specs.Common.{completed_in, row_sum, Job, IsPaid, IsPaidBy, IsExcess, IsExcessBy, IsMember, Each}
@@ -17,7 +18,7 @@ use Rattle.dover_model.proofs.bound.Calculus.{Below, cancel, below_add, below_mo
 use Rattle.dover_model.proofs.bound.Calculus.{regular_below, not_heavy, excess_zero, excess_add, paid_sum}
 use Rattle.dover_model.proofs.bound.Calculus.{factor_within}
 use Rattle.dover_model.proofs.bound.Counting.{one, range_count, share_of, given_share, share_le, NamesOnce, shares_most}
-use Rattle.dover_model.proofs.bound.Books.{AreBooks, scaled_sum, Without, without, greatest}
+use Rattle.dover_model.proofs.bound.Books.{AreBooks, scaled_sum, Without, without, greatest, ticks_worth}
 
 -- a job asks for at most so much more than the schedule needs for it, and is no less dense than the least dense one
 pub record IsAsked (e : Fraction) (works : ℕ → ℕ) (v w : ℕ) (n_j : Job) : Type 0 where
@@ -259,19 +260,13 @@ module _ (k e : Fraction) (works : ℕ → ℕ) (v w : ℕ) (busy : ℕ → Bool
       first_paid : Each (λ n_j. n_j.1.deadline ≤ z.1.deadline) served → PaidWith z.1.value (early z)
       first_paid first = record { above = 0; most = most; below = excess_zero k (completed_in row) } where
         rest : v * (z.1.deadline - row.interval.until) + v * row.had ≤ w * row.interval.taken
-        rest = by_order (cases_lt row.interval.until z.1.deadline) where
-          by_order : (row.interval.until < z.1.deadline) ⊎ (z.1.deadline ≤ row.interval.until)
-              → v * (z.1.deadline - row.interval.until) + v * row.had ≤ w * row.interval.taken
-          by_order (inl less) =
-              let whole : row.interval.until + (z.1.deadline - row.interval.until) ≡ z.1.deadline = omega arith in
-              let times : v * row.interval.until + v * (z.1.deadline - row.interval.until) ≡ v * z.1.deadline =
-              omega (arith, ap (λ n. v * n) whole) in
-              let reach : v * z.1.deadline + v * row.had ≤ v * row.interval.until + w * z.1.value = z_taken.reach in
-              omega (arith, ap (λ n. w * n) z_value)
-          by_order (inr none) =
-              let zero_rest : z.1.deadline - row.interval.until ≡ 0 = omega arith in
-              let nothing : v * (z.1.deadline - row.interval.until) ≡ v * 0 = ap (λ n. v * n) zero_rest in
-              let paid : v * row.had ≤ w * row.interval.taken = facts.had_paid in omega arith
+        rest = omega (
+          arith,
+          mul-sub v z.1.deadline row.interval.until,
+          z_taken.reach,
+          facts.had_paid,
+          ap (λ n. w * n) z_value,
+        )
 
         most : of_value * (z.1.value + sum_by job_value served) + of_tick * row.had ≤ of_tick
             * (early z + sum_by early served) + of_taken * row.interval.taken + of_value * 0 + of_own
@@ -401,11 +396,11 @@ module _ (k e : Fraction) (works : ℕ → ℕ) (v w : ℕ) (busy : ℕ → Bool
     pub row_paid : Paid (row_sum served_value row) row.had (row_sum early row) row.interval.taken
         row.interval.regular (completed_in row)
     row_paid = record {
-      above = it.above;
+      above = overs_paid.above;
       most =
           let over : of_value * (sum_by served_value row.taken + sum_by served_value row.gone) + of_tick * row.had
           ≤ of_tick * (sum_by early row.taken + sum_by early row.gone) + of_taken * row.interval.taken + of_value * 0
-          + of_own * (completed_in row + it.above) = it.most in
+          + of_own * (completed_in row + overs_paid.above) = overs_paid.most in
           let regular : sum_by served_value row.regular ≤ row.interval.regular =
           omega (
             arith,
@@ -419,30 +414,14 @@ module _ (k e : Fraction) (works : ℕ → ℕ) (v w : ℕ) (busy : ℕ → Bool
           mul-le of_tick (sum_by early row.taken + sum_by early row.gone) of_tick (row_sum early row) (omega arith)
           (omega arith) in
           omega arith;
-      below = it.below;
-    } where
-      it : Paid (sum_by served_value row.taken + sum_by served_value row.gone) row.had
-          (sum_by early row.taken + sum_by early row.gone) row.interval.taken 0 (completed_in row)
-      it = overs_paid
+      below = overs_paid.below;
+    }
 
   -- nothing is paid by nothing
   none_are_paid : Paid 0 0 0 0 0 0
   none_are_paid = record { above = 0; most = omega arith; below = excess_zero k 0 }
 
   module _ (some_q : 1 ≤ k.q) (ratio : k.q ≤ k.p) where
-    -- two values that are paid are paid together
-    both_paid : (x x' h h' t t' z z' r r' c c' : ℕ) → Paid x h t z r c → Paid x' h' t' z' r' c'
-        → Paid (x + x') (h + h') (t + t') (z + z') (r + r') (c + c')
-    both_paid x x' h h' t t' z z' r r' c c' a b = record {
-      above = a.above + b.above;
-      most = let one : of_value * x + of_tick * h ≤ of_tick * t + of_taken * z + of_value * r + of_own * (c + a.above) =
-          a.most in
-          let other : of_value * x' + of_tick * h' ≤ of_tick * t' + of_taken * z' + of_value * r' + of_own
-          * (c' + b.above) = b.most in
-          omega arith;
-      below = excess_add k some_q ratio a.above b.above c c' a.below b.below;
-    }
-
     -- all rows are paid
     pub rows_paid : (rows : List Row) → Each (IsRow k v w busy) rows
         → Each (λ row. Each (λ n_j. row.had ≤ n_j.1.work) row.taken) rows
@@ -453,34 +432,25 @@ module _ (k e : Fraction) (works : ℕ → ℕ) (v w : ℕ) (busy : ℕ → Bool
         (sum_by completed_in rows)
     rows_paid [] facts exact once is_asked = none_are_paid
     rows_paid (row ∷ rows) facts exact once is_asked =
-        cons_paid (both_paid _ _ _ _ _ _ _ _ _ _ _ _
-        (row_paid some_q ratio row (facts row (inl refl)) (exact row (inl refl)) (once row (inl refl))
-        (is_asked row (inl refl)).0 (is_asked row (inl refl)).1)
-        (rows_paid rows (λ x member. facts x (inr member)) (λ x member. exact x (inr member))
-        (λ x member. once x (inr member)) (λ x member. is_asked x (inr member)))) where
-          same : (a a' b b' c c' d d' f f' h h' : ℕ) → a ≡ a' → b ≡ b' → c ≡ c' → d ≡ d' → f ≡ f' → h ≡ h'
-              → Paid a b c d f h → Paid a' b' c' d' f' h'
-          same a a' b b' c c' d d' f f' h h' ea eb ec ed ef eh it =
-              subst (λ n. Paid n b' c' d' f' h') ea (subst (λ n. Paid a n c' d' f' h') eb
-              (subst (λ n. Paid a b n d' f' h') ec (subst (λ n. Paid a b c n f' h') ed
-              (subst (λ n. Paid a b c d n h') ef (subst (λ n. Paid a b c d f n) eh it)))))
-
-          cons_paid : Paid (row_sum served_value row + sum_by (row_sum served_value) rows)
-              (row.had + sum_by (λ x. x.had) rows)
-              (row_sum early row + sum_by (row_sum early) rows)
-              (row.interval.taken + sum_by (λ x. x.interval.taken) rows)
-              (row.interval.regular + sum_by (λ x. x.interval.regular) rows)
-              (completed_in row + sum_by completed_in rows)
-              → Paid (sum_by (row_sum served_value) (row ∷ rows)) (sum_by (λ x. x.had) (row ∷ rows))
-              (sum_by (row_sum early) (row ∷ rows)) (sum_by (λ x. x.interval.taken) (row ∷ rows))
-              (sum_by (λ x. x.interval.regular) (row ∷ rows)) (sum_by completed_in (row ∷ rows))
-          cons_paid it = same _ _ _ _ _ _ _ _ _ _ _ _
-              (sym (sum_by-cons (row_sum served_value) row rows))
-              (sym (sum_by-cons (λ (x : Row). x.had) row rows))
-              (sym (sum_by-cons (row_sum early) row rows))
-              (sym (sum_by-cons (λ (x : Row). x.interval.taken) row rows))
-              (sym (sum_by-cons (λ (x : Row). x.interval.regular) row rows))
-              (sym (sum_by-cons completed_in row rows)) it
+        let here = row_paid some_q ratio row (facts row (inl refl)) (exact row (inl refl)) (once row (inl refl))
+        (is_asked row (inl refl)).0 (is_asked row (inl refl)).1 in
+        let rest = rows_paid rows (λ x member. facts x (inr member)) (λ x member. exact x (inr member))
+        (λ x member. once x (inr member)) (λ x member. is_asked x (inr member)) in record {
+          above = here.above + rest.above;
+          most = omega (
+            arith,
+            here.most,
+            rest.most,
+            ap (λ n. of_value * n) (sum_by-cons (row_sum served_value) row rows),
+            ap (λ n. of_tick * n) (sum_by-cons (λ (x : Row). x.had) row rows),
+            ap (λ n. of_tick * n) (sum_by-cons (row_sum early) row rows),
+            ap (λ n. of_taken * n) (sum_by-cons (λ (x : Row). x.interval.taken) row rows),
+            ap (λ n. of_value * n) (sum_by-cons (λ (x : Row). x.interval.regular) row rows),
+            ap (λ n. of_own * n) (sum_by-cons completed_in row rows),
+          );
+          below = subst (IsExcess k (here.above + rest.above)) (sym (sum_by-cons completed_in row rows))
+              (excess_add k some_q ratio here.above rest.above _ _ here.below rest.below);
+        }
 
 -- ---- what stands above the part without a root
 
@@ -648,42 +618,6 @@ module _ (k e : Fraction) (works : ℕ → ℕ) (v w : ℕ) (jobs : List Job) (r
     books.busy_most s,
   )
 
-  -- the ticks of some rows are paid by what is done as usual and displaced, and by what jobs completed after a take had
-  spans_paid : (some : List Row) → Each (IsRow k v w busy) some
-      → v * sum_by (λ row. row.interval.until - row.interval.from) some ≤ w
-      * (sum_by (λ row. row.interval.regular) some + sum_by (λ row. row.interval.displaced) some) + v
-      * sum_by (λ row. row.had) some
-  spans_paid [] facts = omega arith
-  spans_paid (row ∷ some) facts = omega (
-    arith,
-    ap (λ n. v * n) (sum_by-cons (λ (x : Row). x.interval.until - x.interval.from) row some),
-    ap (λ n. w * n) (sum_by-cons (λ (x : Row). x.interval.regular) row some),
-    ap (λ n. w * n) (sum_by-cons (λ (x : Row). x.interval.displaced) row some),
-    ap (λ n. v * n) (sum_by-cons (λ (x : Row). x.had) row some),
-    span (facts row (inl refl)).span,
-    spans_paid some (λ x member. facts x (inr member)),
-  ) where
-    span : v * row.interval.until ≤ v * row.interval.from + w * (row.interval.regular + row.interval.displaced) + v
-        * row.had
-        → v * (row.interval.until - row.interval.from) ≤ w * (row.interval.regular + row.interval.displaced) + v
-        * row.had
-    span most = by_order (cases_lt row.interval.from row.interval.until) where
-      by_order : (row.interval.from < row.interval.until) ⊎ (row.interval.until ≤ row.interval.from)
-          → v * (row.interval.until - row.interval.from) ≤ w * (row.interval.regular + row.interval.displaced) + v
-          * row.had
-      by_order (inl less) = let whole : row.interval.from + (row.interval.until - row.interval.from)
-          ≡ row.interval.until = omega arith in
-          let times : v * row.interval.from + v * (row.interval.until - row.interval.from) ≡ v * row.interval.until =
-          omega (arith, ap (λ n. v * n) whole) in omega arith
-      by_order (inr none) = let zero_span : row.interval.until - row.interval.from ≡ 0 = omega arith in
-          let nothing : v * (row.interval.until - row.interval.from) ≡ v * 0 = ap (λ n. v * n) zero_span in
-          omega arith
-
-  -- so are the ticks of all
-  ticks_worth : v * sum_by (λ row. row.interval.until - row.interval.from) rows ≤ w * (regular_all + displaced_all) + v
-      * had_all
-  ticks_worth = spans_paid rows books.rows_are
-
   -- all that a schedule serves is worth no more than the wider bound of what is completed
   pub slower_bound : IsWithinSlower k e (sum_by (earned_by works s) jobs) (sum_by completed_in rows)
   slower_bound = from_paid (rows_paid k e works v w busy s books.some_q books.ratio rows books.rows_are books.exact
@@ -718,7 +652,8 @@ module _ (k e : Fraction) (works : ℕ → ℕ) (v w : ℕ) (jobs : List Job) (r
                   let worth : (e.q + e.p) * k.p * (v * sum_by (λ row. row.interval.until - row.interval.from) rows)
                   ≤ (e.q + e.p) * k.p * (w * (regular_all + displaced_all) + v * had_all) =
                   mul-le ((e.q + e.p) * k.p) (v * sum_by (λ row. row.interval.until - row.interval.from) rows)
-                  ((e.q + e.p) * k.p) (w * (regular_all + displaced_all) + v * had_all) (omega arith) ticks_worth in
+                  ((e.q + e.p) * k.p) (w * (regular_all + displaced_all) + v * had_all) (omega arith)
+                  (ticks_worth k v w jobs rows busy books s) in
                   omega (arith, ap (λ n. e.q * (k.q * w) * n) value_is)
 
               most : k.q * e.q * sum_by (earned_by works s) jobs
