@@ -1,7 +1,7 @@
 -- The bound over any books of a run, where a schedule needs less for a job than the job asks for: the jobs of the books
 -- ask for at most 1 + e times as much.
 use Rattle.std.proofs.Common.{◌≡◌, ℕ, ◌+◌, ◌-◌, ◌*◌, ◌≤◌, ◌<◌, ◌⊎◌, inl, inr, List, [], ◌∷◌, ◌++◌, length, refl, sym}
-use Rattle.std.proofs.Common.{ap, ◌∙◌, subst, Bool, true, false, cond, eqb, arith, IsTrue, nat_le, nat_lt, ◌&&◌, Option}
+use Rattle.std.proofs.Common.{ap, ◌∙◌, subst, Bool, true, false, cond, eqb, arith, IsTrue, nat_le, nat_lt, Option}
 use Rattle.std.proofs.Common.{Some, None, sum_by, filter, le-leb, leb-true, lt-ltb, ltb-true}
 use Rattle.std.proofs.lemmas.Bool.{cases_lt}
 use Rattle.std.proofs.lemmas.Nat.{mul-le}
@@ -11,14 +11,15 @@ use Rattle.dover_model.specs.Common.{Fraction, Factor, IsWithinSlower, Row, IsRo
 use Rattle.dover_model.specs.Common.{completed_in, row_sum, Job, IsPaid, IsPaidBy, IsExcess, IsExcessBy, IsMember, Each}
 use Rattle.dover_model.specs.Common.{ticks_given}
 use Rattle.dover_model.specs.Slower.{is_within_slower_root, is_within_slower_by, is_served_by, earned_by}
-use Rattle.dover_model.specs.Books.{GoneIn, IsBusy}
+use Rattle.dover_model.specs.Books.{GoneIn}
 use Rattle.dover_model.proofs.lists.Members.{each_cons, sum_le, sum_plus, sum_filter, term_le_sum, member_filter}
 use Rattle.dover_model.proofs.lists.Members.{cond_le, sum_zero}
 use Rattle.dover_model.proofs.bound.Calculus.{Below, cancel, below_add, below_mono, displaced_below, excess_below}
 use Rattle.dover_model.proofs.bound.Calculus.{regular_below, not_heavy, excess_zero, excess_add, paid_sum}
 use Rattle.dover_model.proofs.bound.Calculus.{factor_within}
-use Rattle.dover_model.proofs.bound.Counting.{one, range_count, share_of, given_share, share_le, NamesOnce, shares_most}
+use Rattle.dover_model.proofs.bound.Counting.{one, share_of, given_share, NamesOnce, shares_most}
 use Rattle.dover_model.proofs.bound.Books.{AreBooks, scaled_sum, Without, without, greatest, ticks_worth}
+use Rattle.dover_model.proofs.bound.Books.{two_parts, late_share, row_names, completed_parts}
 
 -- a job asks for at most so much more than the schedule needs for it, and is no less dense than the least dense one
 pub record IsAsked (e : Fraction) (works : ℕ → ℕ) (v w : ℕ) (n_j : Job) : Type 0 where
@@ -48,30 +49,6 @@ module _ (k e : Fraction) (works : ℕ → ℕ) (v w : ℕ) (busy : ℕ → Bool
   served_work : (n_j : Job) → is_served_by works s n_j ≡ true → asked n_j ≤ share_of (λ τ. 1) s n_j
   served_work n_j served = let low : works n_j.0 ≤ ticks_given s n_j.0 n_j.1 = leb-true _ _ served in
       omega (arith, given_share s n_j.0 n_j.1)
-
-  -- what a schedule gives to a job is busy, or comes later, where its window is busy so long
-  two_parts : (u : ℕ) (n_j : Job) → IsBusy busy n_j.1.release u → share_of (λ τ. 1) s n_j ≤ early n_j + late u n_j
-  two_parts u n_j covered =
-      share_le (λ τ. 1) (λ τ. one (busy τ)) (λ τ. one (nat_le u τ)) s n_j
-      (λ τ low high. by_order τ low (cases_lt τ u)) where
-        by_order : (τ : ℕ) → n_j.1.release ≤ τ → (τ < u) ⊎ (u ≤ τ) → 1 ≤ one (busy τ) + one (nat_le u τ)
-        by_order τ low (inl before) = omega (arith, ap one (covered τ low before))
-        by_order τ low (inr after) = omega (arith, ap one (le-leb u τ after))
-
-  -- jobs that are due by d are given no more from u on
-  late_share : (u d : ℕ) (jobs : List Job) → NamesOnce jobs → Each (λ n_j. n_j.1.deadline ≤ d) jobs
-      → sum_by (late u) jobs ≤ d - u
-  late_share u d jobs once due = omega (
-    arith,
-    shares_most jobs once (λ τ. one (nat_le u τ)) (λ τ. one (nat_le u τ && nat_lt τ d)) s
-        (λ n_j member τ low high. in_range τ (let last : n_j.1.deadline ≤ d = due n_j member in omega arith)),
-    range_count u d 0 s,
-  ) where
-    in_range : (τ : ℕ) → τ < d → one (nat_le u τ) ≤ one (nat_le u τ && nat_lt τ d)
-    in_range τ less = rw (lt-ltb τ d less) (same (nat_le u τ)) where
-      same : (b : Bool) → one b ≤ one (b && true)
-      same true = omega arith
-      same false = omega arith
 
   -- what a value, a tick, a taken value and a value above are counted with
   abbrev of_value : ℕ
@@ -136,7 +113,7 @@ module _ (k e : Fraction) (works : ℕ → ℕ) (v w : ℕ) (busy : ℕ → Bool
       arith,
       sum_le asked (λ n_j. early n_j + late row.interval.until n_j) served
           (λ n_j mem. let low : asked n_j ≤ share_of (λ τ. 1) s n_j = served_work n_j (each_served n_j mem).0 in
-          omega (arith, two_parts row.interval.until n_j (each_served n_j mem).1.covered)),
+          omega (arith, two_parts k v w busy s row.interval.until n_j (each_served n_j mem).1.covered)),
       sum_plus early (late row.interval.until) served,
     )
 
@@ -225,7 +202,11 @@ module _ (k e : Fraction) (works : ℕ → ℕ) (v w : ℕ) (busy : ℕ → Bool
       } where
         fits : sum_by asked served + 0 ≤ it.0.1.work + sum_by early served + 0
         fits = let reach : it.0.1.deadline ≤ row.interval.until + it.0.1.work = (each_served it.0 it.1).1.reach in
-            omega (arith, works_given, late_share row.interval.until it.0.1.deadline served served_once it.2)
+            omega (
+              arith,
+              works_given,
+              late_share k v w busy s row.interval.until it.0.1.deadline served served_once it.2,
+            )
 
     -- where a job completed after a take is served
     module _ (z : Job) (is : row.taken ≡ z ∷ []) (z_served : is_served_by works s z ≡ true) where
@@ -276,7 +257,11 @@ module _ (k e : Fraction) (works : ℕ → ℕ) (v w : ℕ) (busy : ℕ → Bool
             scaled_sum of_value of_tick job_value asked served
             (λ n_j mem. one_dense n_j (each_served n_j mem).2 (each_served n_j mem).3) in
             let given : sum_by asked served ≤ sum_by early served + (z.1.deadline - row.interval.until) =
-            omega (arith, works_given, late_share row.interval.until z.1.deadline served served_once first) in
+            omega (
+              arith,
+              works_given,
+              late_share k v w busy s row.interval.until z.1.deadline served served_once first,
+            ) in
             let ticks : of_tick * sum_by asked served ≤ of_tick
             * (sum_by early served + (z.1.deadline - row.interval.until)) =
             mul-le of_tick (sum_by asked served) of_tick
@@ -318,8 +303,8 @@ module _ (k e : Fraction) (works : ℕ → ℕ) (v w : ℕ) (busy : ℕ → Bool
             omega (
               arith,
               works_given,
-              two_parts row.interval.until z z_taken.covered,
-              late_share row.interval.until m.1.deadline (z ∷ served) z_once all,
+              two_parts k v w busy s row.interval.until z z_taken.covered,
+              late_share k v w busy s row.interval.until m.1.deadline (z ∷ served) z_once all,
               sum_by-cons (late row.interval.until) z served,
             )
 
@@ -534,18 +519,6 @@ module _ (k e : Fraction) (some_q : 1 ≤ k.q) (ratio : k.q ≤ k.p) where
 module _ (k e : Fraction) (works : ℕ → ℕ) (v w : ℕ) (jobs : List Job) (rows : List Row) (busy : ℕ → Bool)
     (books : AreBooks k v w jobs rows busy) (some_e : 1 ≤ e.q) (all_asked : Each (IsAsked e works v w) jobs)
     (s : List ℕ) where
-  -- no number names two jobs of a row
-  row_names : Each (λ row. NamesOnce (row.taken ++ row.gone)) rows
-  row_names row member m =
-      let term : row_sum (λ n_j. one (eqb m n_j.0)) row ≤ sum_by (row_sum (λ n_j. one (eqb m n_j.0))) rows =
-      term_le_sum (row_sum (λ n_j. one (eqb m n_j.0))) rows row member in
-      omega (
-        arith,
-        sum_by-append (λ n_j. one (eqb m n_j.0)) row.taken row.gone,
-        books.each_once (λ n_j. one (eqb m n_j.0)),
-        books.names m,
-      )
-
   -- the jobs that fail a test
   abbrev fails_most : Job → ℕ
   fails_most n_j = one (nat_lt ((e.q + e.p) * works n_j.0) (e.q * n_j.1.work))
@@ -604,10 +577,6 @@ module _ (k e : Fraction) (works : ℕ → ℕ) (v w : ℕ) (jobs : List Job) (r
   abbrev had_all : ℕ
   had_all = sum_by (λ row. row.had) rows
 
-  -- what is completed is regular or taken
-  completed_parts : sum_by completed_in rows ≡ regular_all + taken_all
-  completed_parts = sum_plus (λ row. row.interval.regular) (λ row. row.interval.taken) rows
-
   -- the schedule gives no more busy ticks than the rows have
   early_most : sum_by (row_sum (early k e works v w busy s)) rows
       ≤ sum_by (λ row. row.interval.until - row.interval.from) rows
@@ -621,9 +590,12 @@ module _ (k e : Fraction) (works : ℕ → ℕ) (v w : ℕ) (jobs : List Job) (r
   -- all that a schedule serves is worth no more than the wider bound of what is completed
   pub slower_bound : IsWithinSlower k e (sum_by (earned_by works s) jobs) (sum_by completed_in rows)
   slower_bound = from_paid (rows_paid k e works v w busy s books.some_q books.ratio rows books.rows_are books.exact
-      row_names rows_asked) where
+      (row_names k v w jobs rows busy books s) rows_asked) where
         value_is : sum_by (earned_by works s) jobs ≡ sum_by (row_sum (served_value k e works v w busy s)) rows
         value_is = books.each_once (served_value k e works v w busy s)
+
+        parts_are : sum_by completed_in rows ≡ regular_all + taken_all
+        parts_are = completed_parts k v w jobs rows busy books s
 
         displaced_low : IsPaid k displaced_all taken_all
         displaced_low = paid_sum k books.some_q books.ratio (λ row. row.interval.displaced)
@@ -632,9 +604,9 @@ module _ (k e : Fraction) (works : ℕ → ℕ) (v w : ℕ) (jobs : List Job) (r
         from_paid : Paid k e works v w busy s (sum_by (row_sum (served_value k e works v w busy s)) rows) had_all
             (sum_by (row_sum (early k e works v w busy s)) rows) taken_all regular_all (sum_by completed_in rows)
             → IsWithinSlower k e (sum_by (earned_by works s) jobs) (sum_by completed_in rows)
-        from_paid it = subst (IsWithinSlower k e (sum_by (earned_by works s) jobs)) (sym completed_parts)
+        from_paid it = subst (IsWithinSlower k e (sum_by (earned_by works s) jobs)) (sym parts_are)
             (slower_parts k e books.some_q books.ratio (sum_by (earned_by works s) jobs) regular_all taken_all
-            displaced_all it.above most displaced_low (subst (IsExcess k it.above) completed_parts it.below)) where
+            displaced_all it.above most displaced_low (subst (IsExcess k it.above) parts_are it.below)) where
               scaled : w * (k.q * e.q * sum_by (earned_by works s) jobs) ≤ w
                   * ((e.q + e.p) * k.p * (regular_all + displaced_all + taken_all) + k.q * e.q * regular_all
                   + (k.q * e.q + k.p * e.p) * (sum_by completed_in rows + it.above))
@@ -669,5 +641,5 @@ module _ (k e : Fraction) (works : ℕ → ℕ) (v w : ℕ) (jobs : List Job) (r
                   + (k.q * e.q + k.p * e.p) * (sum_by completed_in rows + it.above)) books.some_work scaled in
                   let parts : (k.q * e.q + k.p * e.p) * sum_by completed_in rows
                   ≡ (k.q * e.q + k.p * e.p) * (regular_all + taken_all) =
-                  ap (λ n. (k.q * e.q + k.p * e.p) * n) completed_parts in
+                  ap (λ n. (k.q * e.q + k.p * e.p) * n) parts_are in
                   omega arith

@@ -102,7 +102,7 @@ module _ (k : Fraction) (v w : ℕ) (busy : ℕ → Bool) (s : List ℕ) where
       omega (arith, given_share s n_j.0 n_j.1)
 
   -- what a schedule gives to a job is busy, or comes later, where its window is busy so long
-  two_parts : (u : ℕ) (n_j : Job) → IsBusy busy n_j.1.release u → share_of (λ τ. 1) s n_j ≤ early n_j + late u n_j
+  pub two_parts : (u : ℕ) (n_j : Job) → IsBusy busy n_j.1.release u → share_of (λ τ. 1) s n_j ≤ early n_j + late u n_j
   two_parts u n_j covered =
       share_le (λ τ. 1) (λ τ. one (busy τ)) (λ τ. one (nat_le u τ)) s n_j
       (λ τ low high. by_order τ low (cases_lt τ u)) where
@@ -111,7 +111,7 @@ module _ (k : Fraction) (v w : ℕ) (busy : ℕ → Bool) (s : List ℕ) where
         by_order τ low (inr after) = omega (arith, ap one (le-leb u τ after))
 
   -- jobs that are due by d are given no more from u on
-  late_share : (u d : ℕ) (jobs : List Job) → NamesOnce jobs → Each (λ n_j. n_j.1.deadline ≤ d) jobs
+  pub late_share : (u d : ℕ) (jobs : List Job) → NamesOnce jobs → Each (λ n_j. n_j.1.deadline ≤ d) jobs
       → sum_by (late u) jobs ≤ d - u
   late_share u d jobs once due = omega (
     arith,
@@ -471,7 +471,7 @@ pub record AreBooks (k : Fraction) (v w : ℕ) (jobs : List Job) (rows : List Ro
 module _ (k : Fraction) (v w : ℕ) (jobs : List Job) (rows : List Row) (busy : ℕ → Bool)
     (books : AreBooks k v w jobs rows busy) (s : List ℕ) where
   -- no number names two jobs of a row
-  row_names : Each (λ row. NamesOnce (row.taken ++ row.gone)) rows
+  pub row_names : Each (λ row. NamesOnce (row.taken ++ row.gone)) rows
   row_names row member m =
       let term : row_sum (λ n_j. one (eqb m n_j.0)) row ≤ sum_by (row_sum (λ n_j. one (eqb m n_j.0))) rows =
       term_le_sum (row_sum (λ n_j. one (eqb m n_j.0))) rows row member in
@@ -495,7 +495,7 @@ module _ (k : Fraction) (v w : ℕ) (jobs : List Job) (rows : List Row) (busy : 
   displaced_all = sum_by (λ row. row.interval.displaced) rows
 
   -- what is completed is regular or taken
-  completed_parts : sum_by completed_in rows ≡ regular_all + taken_all
+  pub completed_parts : sum_by completed_in rows ≡ regular_all + taken_all
   completed_parts = sum_plus (λ row. row.interval.regular) (λ row. row.interval.taken) rows
 
   -- the schedule gives no more busy ticks than the rows have
