@@ -1,8 +1,8 @@
 -- A completion: it ends the interval under way, or adds to it.
 use Rattle.std.proofs.Common.{◌≡◌, ℕ, ◌+◌, ◌*◌, ◌≤◌, ◌<◌, ◌⊎◌, inl, inr, List, [], ◌∷◌, length, refl, sym, ap, ◌∙◌}
-use Rattle.std.proofs.Common.{subst, Bool, true, false, cond, eqb, arith, nat_le, nat_lt, ◌&&◌, ◌||◌, Some, None}
+use Rattle.std.proofs.Common.{subst, Bool, true, false, cond, eqb, arith, nat_le, nat_lt, ◌&&◌, Some, None}
 use Rattle.std.proofs.Common.{sum_by, eq-eqb, ne_eqb, le-leb, lt-ltb}
-use Rattle.std.proofs.lemmas.Bool.{or_right}
+use Rattle.std.proofs.lemmas.Bool.{and_from, or_left, or_right}
 use Rattle.std.proofs.lemmas.List.Sums.{sum_by-cons}
 use Rattle.std.proofs.lemmas.Nat.{mul-le}
 use Rattle.dover_model.specs.Common.{Fraction, IsHeavy, value_of, Held, Running, Done, Task, State, is_privileged}
@@ -47,13 +47,9 @@ pub closed_tick : (closed : List Row) (row new : Row) (t τ : ℕ) → new.inter
 closed_tick closed row new t τ from until before (inl old) =
     or_right (nat_le new.interval.from τ && nat_lt τ new.interval.until) (in_rows closed τ) old
 closed_tick closed row new t τ from until before (inr after) =
-    both (nat_le new.interval.from τ) (nat_lt τ new.interval.until) (in_rows closed τ)
-    (le-leb _ _ (omega (arith, from)))
-    (lt-ltb _ _ (omega (arith, until))) where
-      both : (a b c : Bool) → a ≡ true → b ≡ true → ((a && b) || c) ≡ true
-      both true true c e f = refl
-      both true false c e f = never f
-      both false b c e f = never e
+    or_left (nat_le new.interval.from τ && nat_lt τ new.interval.until) (in_rows closed τ)
+    (and_from (nat_le new.interval.from τ) (nat_lt τ new.interval.until) (le-leb _ _ (omega (arith, from)))
+    (lt-ltb _ _ (omega (arith, until))))
 
 -- a row stays what it is, where no fewer ticks are busy
 pub row_kept : (k : Fraction) (v w : ℕ) (busy more : ℕ → Bool) → ((τ : ℕ) → busy τ ≡ true → more τ ≡ true) → (row : Row)

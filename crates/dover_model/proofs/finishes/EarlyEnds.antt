@@ -6,7 +6,8 @@ use Rattle.std.specs.Prelude.{Option, Some, None, nat_lt, nat_le, ◌==◌, ◌&
 use Rattle.std.specs.Bool.{then_some}
 use Rattle.std.specs.Option.{option_or}
 use Rattle.std.specs.List.{AllByRecursion, filter, find, list_all, cons_option}
-use Rattle.std.proofs.lemmas.Bool.{eq-eqb, and_parts, lt-ltb, ltb-true, ltb-false, leb-true, le-leb}
+use Rattle.std.proofs.lemmas.Bool.{eq-eqb, and_parts, and_right, lt-ltb, ltb-true, ltb-false, le-leb, lt-leb}
+use Rattle.std.proofs.lemmas.Bool.{false_from_ne_true}
 use Rattle.std.proofs.lemmas.List.Folds.{find-append}
 use Rattle.dover_model.specs.Common.{JobFacts, Release, Complete, Coming, Fresh}
 use Rattle.dover_model.specs.Common.{Running, Task, Finish, is_finish_of, has_come_to, is_due, goes_on, Instance}
@@ -202,14 +203,10 @@ module _ (J : Instance) (valid : IsValid J) where
       let same : step J.rules s ≡ open_step J.rules s = as_open s keeps path.1 in
       let early : s.clock < mark = (let up : s.clock ≤ t.clock = path_clock (x ∷ xs) s t path in omega arith) in (
         path.0 ∙ ap (λ m. let y : Step = record { before = s; move = m } in y) same,
-        before_mark (waits_for_mark (open_step J.rules s)) (nat_le mark s.clock) early refl,
+        and_right (waits_for_mark (open_step J.rules s)) (nat_le mark s.clock) (lt-leb mark s.clock early),
         subst (λ m. IsOpenPath J.rules mark (after s m) xs t) same
             (path_open mark xs (after s (step J.rules s)) t (step_kept J valid s keeps J.rules) path.2 low),
-      ) where
-        before_mark : (a b : Bool) → s.clock < mark → nat_le mark s.clock ≡ b → (a && b) ≡ false
-        before_mark false b less e = refl
-        before_mark true false less e = refl
-        before_mark true true less e = absurd (let high : mark ≤ s.clock = leb-true _ _ e in omega (arith, less, high))
+      )
 
   -- the jobs that its steps show, and those to come behind it, are those to come before it
   pub path_in : (xs : List Step) (s t : State) → Keeps J s → IsPath J.rules s xs t
@@ -324,12 +321,6 @@ module _ (J : Instance) (valid : IsValid J) where
           clock_low : v.clock < s.clock
           clock_low = subst (λ (x : Step). x.before.clock < s.clock) path_y.0 (low y (inl refl))
 
-          before_mark : (a b : Bool) → nat_le s.clock v.clock ≡ b → (a && b) ≡ false
-          before_mark false b e = refl
-          before_mark true false e = refl
-          before_mark true true e =
-              absurd (let high : s.clock ≤ v.clock = leb-true _ _ e in omega (arith, clock_low, high))
-
           same_finishes : step K.rules w ≡ step J.rules w
           same_finishes = same_here fs own w (λ q q_is q_complete q_some. shown_all front w
               (subst (λ (x : Step). IsMember x front) path_y.0 (members y (inl refl))) q q_is q_complete q_some)
@@ -359,8 +350,8 @@ module _ (J : Instance) (valid : IsValid J) where
                 steps = open_at K.rules v ∷ more.steps;
                 alone = (
                   refl,
-                  before_mark (waits_for_mark (open_step K.rules v))
-                      (nat_le s.clock v.clock) refl,
+                  and_right (waits_for_mark (open_step K.rules v)) (nat_le s.clock v.clock)
+                      (lt-leb s.clock v.clock clock_low),
                   more.alone,
                 );
                 low = (clock_low, more.low);
@@ -526,11 +517,8 @@ module _ (J : Instance) (valid : IsValid J) where
           runs = is_running_role r r_there.1
 
           not_due : is_due fs r ≡ false
-          not_due = by_due (is_due fs r) refl where
-            by_due : (b : Bool) → is_due fs r ≡ b → b ≡ false
-            by_due false e = refl
-            by_due true e = let f = due_member fs r e in
-                absurd (shown_before (subst (λ g. IsMember g fs) (come_to_now r f.0 f.2) f.1))
+          not_due = false_from_ne_true (is_due fs r) (λ due. let f = due_member fs r due in
+              shown_before (subst (λ g. IsMember g fs) (come_to_now r f.0 f.2) f.1))
 
           by_deed : (m : Move) → Deed K.rules.ratio h Ticks m → open_step K.rules h ≡ m → waits_for_mark m ≡ true
           by_deed m (Completed q member q_runs) e = never (sym ((open_decides h alone_here.kept.sound K.rules).ends
