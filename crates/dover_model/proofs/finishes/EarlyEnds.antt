@@ -6,7 +6,7 @@ use Rattle.std.specs.Prelude.{Option, Some, None, nat_lt, nat_le, ◌==◌, ◌&
 use Rattle.std.specs.Bool.{then_some}
 use Rattle.std.specs.Option.{option_or}
 use Rattle.std.specs.List.{AllByRecursion, filter, find, list_all, cons_option}
-use Rattle.std.proofs.lemmas.Bool.{eq-eqb, and_parts, and_right, lt-ltb, ltb-true, ltb-false, le-leb, lt-leb}
+use Rattle.std.proofs.lemmas.Bool.{eq-eqb, and_right, lt-ltb, ltb-true, ltb-false, le-leb, lt-leb}
 use Rattle.std.proofs.lemmas.Bool.{false_from_ne_true}
 use Rattle.std.proofs.lemmas.List.Folds.{find-append}
 use Rattle.dover_model.specs.Common.{JobFacts, Release, Complete, Coming, Fresh}
@@ -20,7 +20,7 @@ use Rattle.dover_model.specs.Common.{AllComeFrom, is_complete, IsPath, IsOpenPat
 use Rattle.dover_model.specs.Common.{Item, JobItem, FinishItem, EarlyFinish, Session, instance_of}
 use Rattle.dover_model.specs.Common.{session_with, admitted_jobs, early_finishes, finish_of_item, may_finish_early}
 use Rattle.dover_model.specs.Common.{finish_at, early_at, handed_by}
-use Rattle.dover_model.proofs.lists.Members.{found, not_found, some_same, on_map, member_front}
+use Rattle.dover_model.proofs.lists.Members.{all_each, found, not_found, some_same, on_map, member_front}
 use Rattle.dover_model.proofs.steps.Roles.{passes, is_running_role}
 use Rattle.dover_model.proofs.steps.Moves.{says}
 use Rattle.dover_model.proofs.steps.Kept.{open_deed, step_kept, open_kept, opening_keeps, come_coming}
@@ -50,16 +50,8 @@ module _ (J : Instance) (valid : IsValid J) where
 
   -- before a step that isn't End some job isn't over
   pub not_all_over : (s : State) → Keeps J s → is_end (step J.rules s) ≡ false → list_all is_over s.tasks ≡ false
-  not_all_over s keeps on = by_test (list_all is_over s.tasks) refl where
-    each_over : (tasks : List Task) → list_all is_over tasks ≡ true → Each (λ t. is_over t ≡ true) tasks
-    each_over [] all t member = absurd member
-    each_over (x ∷ tasks) all t (inl same) = ap is_over same ∙ (and_parts (is_over x) (list_all is_over tasks) all).0
-    each_over (x ∷ tasks) all t (inr member) =
-        each_over tasks (and_parts (is_over x) (list_all is_over tasks) all).1 t member
-
-    by_test : (b : Bool) → list_all is_over s.tasks ≡ b → b ≡ false
-    by_test false e = refl
-    by_test true e = never (sym on ∙ ap is_end (end_step J valid s keeps (each_over s.tasks e)))
+  not_all_over s keeps on = false_from_ne_true (list_all is_over s.tasks)
+      (λ all. never (sym on ∙ ap is_end (end_step J valid s keeps (all_each is_over s.tasks all))))
 
   -- so it is an open one
   pub as_open : (s : State) → Keeps J s → is_end (step J.rules s) ≡ false → step J.rules s ≡ open_step J.rules s
