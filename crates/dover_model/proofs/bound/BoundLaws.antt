@@ -16,7 +16,7 @@ use Rattle.dover_model.specs.Common.{completed_value, IsMember, Each, Keeps}
 use Rattle.dover_model.specs.Books.{HasBooks, HadNeeds}
 use Rattle.dover_model.specs.Intervals.{Interval}
 use Rattle.dover_model.proofs.lists.Members.{sum_le, sum_same, sum_zero, sum_plus, sum_filter, sum_map, all_member}
-use Rattle.dover_model.proofs.lists.Members.{map_member, on_map}
+use Rattle.dover_model.proofs.lists.Members.{each_cons, map_member, on_map}
 use Rattle.dover_model.proofs.steps.Roles.{passes, is_over_role}
 use Rattle.dover_model.proofs.steps.Kept.{opening_keeps, come_coming}
 use Rattle.dover_model.proofs.finishes.Readiness.{opening_ready}
@@ -92,10 +92,8 @@ intervals_in_order (row ∷ rows) later = intervals_in_order rows (row ∷ later
 each_in_order : (P : Row → Type 0) (rows later : List Row) → Each P rows → Each P later → Each P (in_order rows later)
 each_in_order P [] later all rest = rest
 each_in_order P (row ∷ rows) later all rest =
-    each_in_order P rows (row ∷ later) (λ x member. all x (inr member)) each where
-      each : Each P (row ∷ later)
-      each x (inl e) = subst P (sym e) (all row (inl refl))
-      each x (inr member) = rest x member
+    each_in_order P rows (row ∷ later) (λ x member. all x (inr member))
+    (each_cons P row later (all row (inl refl)) rest)
 
 -- a sum over them
 sum_in_order : (f : Row → ℕ) (rows later : List Row) → sum_by f (in_order rows later) ≡ sum_by f rows + sum_by f later

@@ -9,7 +9,7 @@ use Rattle.dover_model.specs.Common.{Fraction, IsHeavy, value_of, Held, Running,
 use Rattle.dover_model.specs.Common.{is_done, left, IsMember, Each, IsNumberedFrom, IsSound, Row, IsRow, TakenIn}
 use Rattle.dover_model.specs.Common.{IsDense, IsPaid, job_value, Job, in_rows}
 use Rattle.dover_model.specs.Intervals.{with_regular}
-use Rattle.dover_model.proofs.lists.Members.{by_bool, sum_zero, sum_filter}
+use Rattle.dover_model.proofs.lists.Members.{by_bool, each_cons, sum_zero, sum_filter}
 use Rattle.dover_model.proofs.steps.Roles.{passes, one_number, is_privileged_role}
 use Rattle.dover_model.proofs.steps.OneChange.{state_with, EachOther, on_changed, changed_there}
 use Rattle.dover_model.proofs.bound.Calculus.{paid_zero}
@@ -328,7 +328,8 @@ module _ (k : Fraction) (v w : ℕ) (s : State) (sound : IsSound s) (closed : Li
         (subst (λ (t : Task). IsPaid k row.interval.displaced t.job.value) same taker.worth))
         (λ f. omega (arith, sum_by-cons f (job_of r) []))
         (omega arith)
-        (λ n_j m. by_member n_j m) where
+        (each_cons (λ n_j. TakenIn v w (in_rows (new ∷ closed)) new n_j.1) (job_of r) [] taken
+        (λ n_j m. absurd m)) where
           value : value_of s r.number ≡ r.job.value
           value = value_of_number s sound.numbered r member
 
@@ -358,7 +359,3 @@ module _ (k : Fraction) (v w : ℕ) (s : State) (sound : IsSound s) (closed : Li
                 omega (arith, ap (λ n. v * n) whole) in
                 omega (arith, light);
           }
-
-          by_member : (n_j : Job) → (n_j ≡ job_of r) ⊎ ⊥ → TakenIn v w (in_rows (new ∷ closed)) new n_j.1
-          by_member n_j (inr none) = absurd none
-          by_member n_j (inl e) = subst (λ (x : Job). TakenIn v w (in_rows (new ∷ closed)) new x.1) (sym e) taken

@@ -20,7 +20,7 @@ use Rattle.dover_model.specs.Common.{AllComeFrom, is_complete, IsPath, IsOpenPat
 use Rattle.dover_model.specs.Common.{Item, JobItem, FinishItem, EarlyFinish, Session, instance_of}
 use Rattle.dover_model.specs.Common.{session_with, admitted_jobs, early_finishes, finish_of_item, may_finish_early}
 use Rattle.dover_model.specs.Common.{finish_at, early_at, handed_by}
-use Rattle.dover_model.proofs.lists.Members.{all_each, found, not_found, some_same, on_map, member_front}
+use Rattle.dover_model.proofs.lists.Members.{all_each, each_cons, found, not_found, some_same, on_map, member_front}
 use Rattle.dover_model.proofs.steps.Roles.{passes, is_running_role}
 use Rattle.dover_model.proofs.steps.Moves.{says}
 use Rattle.dover_model.proofs.steps.Kept.{open_deed, step_kept, open_kept, opening_keeps, come_coming}
@@ -173,12 +173,9 @@ module _ (J : Instance) (valid : IsValid J) where
   path_of [] s t keeps here = ((λ x member. absurd member), subst (Keeps J) (sym here) keeps)
   path_of (x ∷ xs) s t keeps path =
       let rest = path_of xs (after s (step J.rules s)) t (step_kept J valid s keeps J.rules) path.2 in
-      (by_member rest.0, rest.1) where
-        by_member : AreOf xs → AreOf (x ∷ xs)
-        by_member rest y (inr member) = rest y member
-        by_member rest y (inl e) = subst (λ (z : Step). Keeps J z.before × (z ≡ step_at J.rules z.before)) (sym (e
-            ∙ path.0))
-            (keeps, refl)
+      let here : Keeps J x.before × (x ≡ step_at J.rules x.before) =
+      subst (λ (z : Step). Keeps J z.before × (z ≡ step_at J.rules z.before)) (sym path.0) (keeps, refl) in
+      (each_cons (λ (z : Step). Keeps J z.before × (z ≡ step_at J.rules z.before)) x xs here rest.0, rest.1)
 
   -- clocks don't fall on it
   pub path_clock : (xs : List Step) (s t : State) → IsPath J.rules s xs t → s.clock ≤ t.clock
