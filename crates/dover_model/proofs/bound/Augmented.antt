@@ -1,23 +1,25 @@
 -- The bound over any books of a run, where a schedule needs less for a job than the job asks for: the jobs of the books
 -- ask for at most 1 + e times as much.
 use Rattle.std.proofs.Common.{◌≡◌, ℕ, ◌+◌, ◌-◌, ◌*◌, ◌≤◌, ◌<◌, ◌⊎◌, inl, inr, List, [], ◌∷◌, ◌++◌, length, refl, sym}
-use Rattle.std.proofs.Common.{ap, ◌∙◌, subst, Bool, true, false, cond, eqb, arith, IsTrue, nat_le, nat_lt, ◌&&◌, Option}
+use Rattle.std.proofs.Common.{ap, ◌∙◌, subst, Bool, true, false, cond, eqb, arith, IsTrue, nat_le, nat_lt, Option}
 use Rattle.std.proofs.Common.{Some, None, sum_by, filter, le-leb, leb-true, lt-ltb, ltb-true}
 use Rattle.std.proofs.lemmas.Bool.{cases_lt}
 use Rattle.std.proofs.lemmas.Nat.{mul-le}
+use Rattle.std.proofs.Math.Nat.{mul-sub}
 use Rattle.std.proofs.lemmas.List.Sums.{sum_by-cons, sum_by-append}
 use Rattle.dover_model.specs.Common.{Fraction, Factor, IsWithinSlower, Row, IsRow, TakenIn, IsDense, job_value}
 use Rattle.dover_model.specs.Common.{completed_in, row_sum, Job, IsPaid, IsPaidBy, IsExcess, IsExcessBy, IsMember, Each}
 use Rattle.dover_model.specs.Common.{ticks_given}
 use Rattle.dover_model.specs.Slower.{is_within_slower_root, is_within_slower_by, is_served_by, earned_by}
-use Rattle.dover_model.specs.Books.{GoneIn, IsBusy}
+use Rattle.dover_model.specs.Books.{GoneIn}
 use Rattle.dover_model.proofs.lists.Members.{each_cons, sum_le, sum_plus, sum_filter, term_le_sum, member_filter}
 use Rattle.dover_model.proofs.lists.Members.{cond_le, sum_zero}
 use Rattle.dover_model.proofs.bound.Calculus.{Below, cancel, below_add, below_mono, displaced_below, excess_below}
 use Rattle.dover_model.proofs.bound.Calculus.{regular_below, not_heavy, excess_zero, excess_add, paid_sum}
 use Rattle.dover_model.proofs.bound.Calculus.{factor_within}
-use Rattle.dover_model.proofs.bound.Counting.{one, range_count, share_of, given_share, share_le, NamesOnce, shares_most}
-use Rattle.dover_model.proofs.bound.Books.{AreBooks, scaled_sum, Without, without, greatest}
+use Rattle.dover_model.proofs.bound.Counting.{one, share_of, given_share, NamesOnce, shares_most}
+use Rattle.dover_model.proofs.bound.Books.{AreBooks, scaled_sum, Without, without, greatest, ticks_worth}
+use Rattle.dover_model.proofs.bound.Books.{two_parts, late_share, row_names, completed_parts}
 
 -- a job asks for at most so much more than the schedule needs for it, and is no less dense than the least dense one
 pub record IsAsked (e : Fraction) (works : ℕ → ℕ) (v w : ℕ) (n_j : Job) : Type 0 where
@@ -47,30 +49,6 @@ module _ (k e : Fraction) (works : ℕ → ℕ) (v w : ℕ) (busy : ℕ → Bool
   served_work : (n_j : Job) → is_served_by works s n_j ≡ true → asked n_j ≤ share_of (λ τ. 1) s n_j
   served_work n_j served = let low : works n_j.0 ≤ ticks_given s n_j.0 n_j.1 = leb-true _ _ served in
       omega (arith, given_share s n_j.0 n_j.1)
-
-  -- what a schedule gives to a job is busy, or comes later, where its window is busy so long
-  two_parts : (u : ℕ) (n_j : Job) → IsBusy busy n_j.1.release u → share_of (λ τ. 1) s n_j ≤ early n_j + late u n_j
-  two_parts u n_j covered =
-      share_le (λ τ. 1) (λ τ. one (busy τ)) (λ τ. one (nat_le u τ)) s n_j
-      (λ τ low high. by_order τ low (cases_lt τ u)) where
-        by_order : (τ : ℕ) → n_j.1.release ≤ τ → (τ < u) ⊎ (u ≤ τ) → 1 ≤ one (busy τ) + one (nat_le u τ)
-        by_order τ low (inl before) = omega (arith, ap one (covered τ low before))
-        by_order τ low (inr after) = omega (arith, ap one (le-leb u τ after))
-
-  -- jobs that are due by d are given no more from u on
-  late_share : (u d : ℕ) (jobs : List Job) → NamesOnce jobs → Each (λ n_j. n_j.1.deadline ≤ d) jobs
-      → sum_by (late u) jobs ≤ d - u
-  late_share u d jobs once due = omega (
-    arith,
-    shares_most jobs once (λ τ. one (nat_le u τ)) (λ τ. one (nat_le u τ && nat_lt τ d)) s
-        (λ n_j member τ low high. in_range τ (let last : n_j.1.deadline ≤ d = due n_j member in omega arith)),
-    range_count u d 0 s,
-  ) where
-    in_range : (τ : ℕ) → τ < d → one (nat_le u τ) ≤ one (nat_le u τ && nat_lt τ d)
-    in_range τ less = rw (lt-ltb τ d less) (same (nat_le u τ)) where
-      same : (b : Bool) → one b ≤ one (b && true)
-      same true = omega arith
-      same false = omega arith
 
   -- what a value, a tick, a taken value and a value above are counted with
   abbrev of_value : ℕ
@@ -135,7 +113,7 @@ module _ (k e : Fraction) (works : ℕ → ℕ) (v w : ℕ) (busy : ℕ → Bool
       arith,
       sum_le asked (λ n_j. early n_j + late row.interval.until n_j) served
           (λ n_j mem. let low : asked n_j ≤ share_of (λ τ. 1) s n_j = served_work n_j (each_served n_j mem).0 in
-          omega (arith, two_parts row.interval.until n_j (each_served n_j mem).1.covered)),
+          omega (arith, two_parts k v w busy s row.interval.until n_j (each_served n_j mem).1.covered)),
       sum_plus early (late row.interval.until) served,
     )
 
@@ -224,7 +202,11 @@ module _ (k e : Fraction) (works : ℕ → ℕ) (v w : ℕ) (busy : ℕ → Bool
       } where
         fits : sum_by asked served + 0 ≤ it.0.1.work + sum_by early served + 0
         fits = let reach : it.0.1.deadline ≤ row.interval.until + it.0.1.work = (each_served it.0 it.1).1.reach in
-            omega (arith, works_given, late_share row.interval.until it.0.1.deadline served served_once it.2)
+            omega (
+              arith,
+              works_given,
+              late_share k v w busy s row.interval.until it.0.1.deadline served served_once it.2,
+            )
 
     -- where a job completed after a take is served
     module _ (z : Job) (is : row.taken ≡ z ∷ []) (z_served : is_served_by works s z ≡ true) where
@@ -259,19 +241,13 @@ module _ (k e : Fraction) (works : ℕ → ℕ) (v w : ℕ) (busy : ℕ → Bool
       first_paid : Each (λ n_j. n_j.1.deadline ≤ z.1.deadline) served → PaidWith z.1.value (early z)
       first_paid first = record { above = 0; most = most; below = excess_zero k (completed_in row) } where
         rest : v * (z.1.deadline - row.interval.until) + v * row.had ≤ w * row.interval.taken
-        rest = by_order (cases_lt row.interval.until z.1.deadline) where
-          by_order : (row.interval.until < z.1.deadline) ⊎ (z.1.deadline ≤ row.interval.until)
-              → v * (z.1.deadline - row.interval.until) + v * row.had ≤ w * row.interval.taken
-          by_order (inl less) =
-              let whole : row.interval.until + (z.1.deadline - row.interval.until) ≡ z.1.deadline = omega arith in
-              let times : v * row.interval.until + v * (z.1.deadline - row.interval.until) ≡ v * z.1.deadline =
-              omega (arith, ap (λ n. v * n) whole) in
-              let reach : v * z.1.deadline + v * row.had ≤ v * row.interval.until + w * z.1.value = z_taken.reach in
-              omega (arith, ap (λ n. w * n) z_value)
-          by_order (inr none) =
-              let zero_rest : z.1.deadline - row.interval.until ≡ 0 = omega arith in
-              let nothing : v * (z.1.deadline - row.interval.until) ≡ v * 0 = ap (λ n. v * n) zero_rest in
-              let paid : v * row.had ≤ w * row.interval.taken = facts.had_paid in omega arith
+        rest = omega (
+          arith,
+          mul-sub v z.1.deadline row.interval.until,
+          z_taken.reach,
+          facts.had_paid,
+          ap (λ n. w * n) z_value,
+        )
 
         most : of_value * (z.1.value + sum_by job_value served) + of_tick * row.had ≤ of_tick
             * (early z + sum_by early served) + of_taken * row.interval.taken + of_value * 0 + of_own
@@ -281,7 +257,11 @@ module _ (k e : Fraction) (works : ℕ → ℕ) (v w : ℕ) (busy : ℕ → Bool
             scaled_sum of_value of_tick job_value asked served
             (λ n_j mem. one_dense n_j (each_served n_j mem).2 (each_served n_j mem).3) in
             let given : sum_by asked served ≤ sum_by early served + (z.1.deadline - row.interval.until) =
-            omega (arith, works_given, late_share row.interval.until z.1.deadline served served_once first) in
+            omega (
+              arith,
+              works_given,
+              late_share k v w busy s row.interval.until z.1.deadline served served_once first,
+            ) in
             let ticks : of_tick * sum_by asked served ≤ of_tick
             * (sum_by early served + (z.1.deadline - row.interval.until)) =
             mul-le of_tick (sum_by asked served) of_tick
@@ -323,8 +303,8 @@ module _ (k e : Fraction) (works : ℕ → ℕ) (v w : ℕ) (busy : ℕ → Bool
             omega (
               arith,
               works_given,
-              two_parts row.interval.until z z_taken.covered,
-              late_share row.interval.until m.1.deadline (z ∷ served) z_once all,
+              two_parts k v w busy s row.interval.until z z_taken.covered,
+              late_share k v w busy s row.interval.until m.1.deadline (z ∷ served) z_once all,
               sum_by-cons (late row.interval.until) z served,
             )
 
@@ -401,11 +381,11 @@ module _ (k e : Fraction) (works : ℕ → ℕ) (v w : ℕ) (busy : ℕ → Bool
     pub row_paid : Paid (row_sum served_value row) row.had (row_sum early row) row.interval.taken
         row.interval.regular (completed_in row)
     row_paid = record {
-      above = it.above;
+      above = overs_paid.above;
       most =
           let over : of_value * (sum_by served_value row.taken + sum_by served_value row.gone) + of_tick * row.had
           ≤ of_tick * (sum_by early row.taken + sum_by early row.gone) + of_taken * row.interval.taken + of_value * 0
-          + of_own * (completed_in row + it.above) = it.most in
+          + of_own * (completed_in row + overs_paid.above) = overs_paid.most in
           let regular : sum_by served_value row.regular ≤ row.interval.regular =
           omega (
             arith,
@@ -419,30 +399,14 @@ module _ (k e : Fraction) (works : ℕ → ℕ) (v w : ℕ) (busy : ℕ → Bool
           mul-le of_tick (sum_by early row.taken + sum_by early row.gone) of_tick (row_sum early row) (omega arith)
           (omega arith) in
           omega arith;
-      below = it.below;
-    } where
-      it : Paid (sum_by served_value row.taken + sum_by served_value row.gone) row.had
-          (sum_by early row.taken + sum_by early row.gone) row.interval.taken 0 (completed_in row)
-      it = overs_paid
+      below = overs_paid.below;
+    }
 
   -- nothing is paid by nothing
   none_are_paid : Paid 0 0 0 0 0 0
   none_are_paid = record { above = 0; most = omega arith; below = excess_zero k 0 }
 
   module _ (some_q : 1 ≤ k.q) (ratio : k.q ≤ k.p) where
-    -- two values that are paid are paid together
-    both_paid : (x x' h h' t t' z z' r r' c c' : ℕ) → Paid x h t z r c → Paid x' h' t' z' r' c'
-        → Paid (x + x') (h + h') (t + t') (z + z') (r + r') (c + c')
-    both_paid x x' h h' t t' z z' r r' c c' a b = record {
-      above = a.above + b.above;
-      most = let one : of_value * x + of_tick * h ≤ of_tick * t + of_taken * z + of_value * r + of_own * (c + a.above) =
-          a.most in
-          let other : of_value * x' + of_tick * h' ≤ of_tick * t' + of_taken * z' + of_value * r' + of_own
-          * (c' + b.above) = b.most in
-          omega arith;
-      below = excess_add k some_q ratio a.above b.above c c' a.below b.below;
-    }
-
     -- all rows are paid
     pub rows_paid : (rows : List Row) → Each (IsRow k v w busy) rows
         → Each (λ row. Each (λ n_j. row.had ≤ n_j.1.work) row.taken) rows
@@ -453,34 +417,25 @@ module _ (k e : Fraction) (works : ℕ → ℕ) (v w : ℕ) (busy : ℕ → Bool
         (sum_by completed_in rows)
     rows_paid [] facts exact once is_asked = none_are_paid
     rows_paid (row ∷ rows) facts exact once is_asked =
-        cons_paid (both_paid _ _ _ _ _ _ _ _ _ _ _ _
-        (row_paid some_q ratio row (facts row (inl refl)) (exact row (inl refl)) (once row (inl refl))
-        (is_asked row (inl refl)).0 (is_asked row (inl refl)).1)
-        (rows_paid rows (λ x member. facts x (inr member)) (λ x member. exact x (inr member))
-        (λ x member. once x (inr member)) (λ x member. is_asked x (inr member)))) where
-          same : (a a' b b' c c' d d' f f' h h' : ℕ) → a ≡ a' → b ≡ b' → c ≡ c' → d ≡ d' → f ≡ f' → h ≡ h'
-              → Paid a b c d f h → Paid a' b' c' d' f' h'
-          same a a' b b' c c' d d' f f' h h' ea eb ec ed ef eh it =
-              subst (λ n. Paid n b' c' d' f' h') ea (subst (λ n. Paid a n c' d' f' h') eb
-              (subst (λ n. Paid a b n d' f' h') ec (subst (λ n. Paid a b c n f' h') ed
-              (subst (λ n. Paid a b c d n h') ef (subst (λ n. Paid a b c d f n) eh it)))))
-
-          cons_paid : Paid (row_sum served_value row + sum_by (row_sum served_value) rows)
-              (row.had + sum_by (λ x. x.had) rows)
-              (row_sum early row + sum_by (row_sum early) rows)
-              (row.interval.taken + sum_by (λ x. x.interval.taken) rows)
-              (row.interval.regular + sum_by (λ x. x.interval.regular) rows)
-              (completed_in row + sum_by completed_in rows)
-              → Paid (sum_by (row_sum served_value) (row ∷ rows)) (sum_by (λ x. x.had) (row ∷ rows))
-              (sum_by (row_sum early) (row ∷ rows)) (sum_by (λ x. x.interval.taken) (row ∷ rows))
-              (sum_by (λ x. x.interval.regular) (row ∷ rows)) (sum_by completed_in (row ∷ rows))
-          cons_paid it = same _ _ _ _ _ _ _ _ _ _ _ _
-              (sym (sum_by-cons (row_sum served_value) row rows))
-              (sym (sum_by-cons (λ (x : Row). x.had) row rows))
-              (sym (sum_by-cons (row_sum early) row rows))
-              (sym (sum_by-cons (λ (x : Row). x.interval.taken) row rows))
-              (sym (sum_by-cons (λ (x : Row). x.interval.regular) row rows))
-              (sym (sum_by-cons completed_in row rows)) it
+        let here = row_paid some_q ratio row (facts row (inl refl)) (exact row (inl refl)) (once row (inl refl))
+        (is_asked row (inl refl)).0 (is_asked row (inl refl)).1 in
+        let rest = rows_paid rows (λ x member. facts x (inr member)) (λ x member. exact x (inr member))
+        (λ x member. once x (inr member)) (λ x member. is_asked x (inr member)) in record {
+          above = here.above + rest.above;
+          most = omega (
+            arith,
+            here.most,
+            rest.most,
+            ap (λ n. of_value * n) (sum_by-cons (row_sum served_value) row rows),
+            ap (λ n. of_tick * n) (sum_by-cons (λ (x : Row). x.had) row rows),
+            ap (λ n. of_tick * n) (sum_by-cons (row_sum early) row rows),
+            ap (λ n. of_taken * n) (sum_by-cons (λ (x : Row). x.interval.taken) row rows),
+            ap (λ n. of_value * n) (sum_by-cons (λ (x : Row). x.interval.regular) row rows),
+            ap (λ n. of_own * n) (sum_by-cons completed_in row rows),
+          );
+          below = subst (IsExcess k (here.above + rest.above)) (sym (sum_by-cons completed_in row rows))
+              (excess_add k some_q ratio here.above rest.above _ _ here.below rest.below);
+        }
 
 -- ---- what stands above the part without a root
 
@@ -564,18 +519,6 @@ module _ (k e : Fraction) (some_q : 1 ≤ k.q) (ratio : k.q ≤ k.p) where
 module _ (k e : Fraction) (works : ℕ → ℕ) (v w : ℕ) (jobs : List Job) (rows : List Row) (busy : ℕ → Bool)
     (books : AreBooks k v w jobs rows busy) (some_e : 1 ≤ e.q) (all_asked : Each (IsAsked e works v w) jobs)
     (s : List ℕ) where
-  -- no number names two jobs of a row
-  row_names : Each (λ row. NamesOnce (row.taken ++ row.gone)) rows
-  row_names row member m =
-      let term : row_sum (λ n_j. one (eqb m n_j.0)) row ≤ sum_by (row_sum (λ n_j. one (eqb m n_j.0))) rows =
-      term_le_sum (row_sum (λ n_j. one (eqb m n_j.0))) rows row member in
-      omega (
-        arith,
-        sum_by-append (λ n_j. one (eqb m n_j.0)) row.taken row.gone,
-        books.each_once (λ n_j. one (eqb m n_j.0)),
-        books.names m,
-      )
-
   -- the jobs that fail a test
   abbrev fails_most : Job → ℕ
   fails_most n_j = one (nat_lt ((e.q + e.p) * works n_j.0) (e.q * n_j.1.work))
@@ -634,10 +577,6 @@ module _ (k e : Fraction) (works : ℕ → ℕ) (v w : ℕ) (jobs : List Job) (r
   abbrev had_all : ℕ
   had_all = sum_by (λ row. row.had) rows
 
-  -- what is completed is regular or taken
-  completed_parts : sum_by completed_in rows ≡ regular_all + taken_all
-  completed_parts = sum_plus (λ row. row.interval.regular) (λ row. row.interval.taken) rows
-
   -- the schedule gives no more busy ticks than the rows have
   early_most : sum_by (row_sum (early k e works v w busy s)) rows
       ≤ sum_by (λ row. row.interval.until - row.interval.from) rows
@@ -648,48 +587,15 @@ module _ (k e : Fraction) (works : ℕ → ℕ) (v w : ℕ) (jobs : List Job) (r
     books.busy_most s,
   )
 
-  -- the ticks of some rows are paid by what is done as usual and displaced, and by what jobs completed after a take had
-  spans_paid : (some : List Row) → Each (IsRow k v w busy) some
-      → v * sum_by (λ row. row.interval.until - row.interval.from) some ≤ w
-      * (sum_by (λ row. row.interval.regular) some + sum_by (λ row. row.interval.displaced) some) + v
-      * sum_by (λ row. row.had) some
-  spans_paid [] facts = omega arith
-  spans_paid (row ∷ some) facts = omega (
-    arith,
-    ap (λ n. v * n) (sum_by-cons (λ (x : Row). x.interval.until - x.interval.from) row some),
-    ap (λ n. w * n) (sum_by-cons (λ (x : Row). x.interval.regular) row some),
-    ap (λ n. w * n) (sum_by-cons (λ (x : Row). x.interval.displaced) row some),
-    ap (λ n. v * n) (sum_by-cons (λ (x : Row). x.had) row some),
-    span (facts row (inl refl)).span,
-    spans_paid some (λ x member. facts x (inr member)),
-  ) where
-    span : v * row.interval.until ≤ v * row.interval.from + w * (row.interval.regular + row.interval.displaced) + v
-        * row.had
-        → v * (row.interval.until - row.interval.from) ≤ w * (row.interval.regular + row.interval.displaced) + v
-        * row.had
-    span most = by_order (cases_lt row.interval.from row.interval.until) where
-      by_order : (row.interval.from < row.interval.until) ⊎ (row.interval.until ≤ row.interval.from)
-          → v * (row.interval.until - row.interval.from) ≤ w * (row.interval.regular + row.interval.displaced) + v
-          * row.had
-      by_order (inl less) = let whole : row.interval.from + (row.interval.until - row.interval.from)
-          ≡ row.interval.until = omega arith in
-          let times : v * row.interval.from + v * (row.interval.until - row.interval.from) ≡ v * row.interval.until =
-          omega (arith, ap (λ n. v * n) whole) in omega arith
-      by_order (inr none) = let zero_span : row.interval.until - row.interval.from ≡ 0 = omega arith in
-          let nothing : v * (row.interval.until - row.interval.from) ≡ v * 0 = ap (λ n. v * n) zero_span in
-          omega arith
-
-  -- so are the ticks of all
-  ticks_worth : v * sum_by (λ row. row.interval.until - row.interval.from) rows ≤ w * (regular_all + displaced_all) + v
-      * had_all
-  ticks_worth = spans_paid rows books.rows_are
-
   -- all that a schedule serves is worth no more than the wider bound of what is completed
   pub slower_bound : IsWithinSlower k e (sum_by (earned_by works s) jobs) (sum_by completed_in rows)
   slower_bound = from_paid (rows_paid k e works v w busy s books.some_q books.ratio rows books.rows_are books.exact
-      row_names rows_asked) where
+      (row_names k v w jobs rows busy books s) rows_asked) where
         value_is : sum_by (earned_by works s) jobs ≡ sum_by (row_sum (served_value k e works v w busy s)) rows
         value_is = books.each_once (served_value k e works v w busy s)
+
+        parts_are : sum_by completed_in rows ≡ regular_all + taken_all
+        parts_are = completed_parts k v w jobs rows busy books s
 
         displaced_low : IsPaid k displaced_all taken_all
         displaced_low = paid_sum k books.some_q books.ratio (λ row. row.interval.displaced)
@@ -698,9 +604,9 @@ module _ (k e : Fraction) (works : ℕ → ℕ) (v w : ℕ) (jobs : List Job) (r
         from_paid : Paid k e works v w busy s (sum_by (row_sum (served_value k e works v w busy s)) rows) had_all
             (sum_by (row_sum (early k e works v w busy s)) rows) taken_all regular_all (sum_by completed_in rows)
             → IsWithinSlower k e (sum_by (earned_by works s) jobs) (sum_by completed_in rows)
-        from_paid it = subst (IsWithinSlower k e (sum_by (earned_by works s) jobs)) (sym completed_parts)
+        from_paid it = subst (IsWithinSlower k e (sum_by (earned_by works s) jobs)) (sym parts_are)
             (slower_parts k e books.some_q books.ratio (sum_by (earned_by works s) jobs) regular_all taken_all
-            displaced_all it.above most displaced_low (subst (IsExcess k it.above) completed_parts it.below)) where
+            displaced_all it.above most displaced_low (subst (IsExcess k it.above) parts_are it.below)) where
               scaled : w * (k.q * e.q * sum_by (earned_by works s) jobs) ≤ w
                   * ((e.q + e.p) * k.p * (regular_all + displaced_all + taken_all) + k.q * e.q * regular_all
                   + (k.q * e.q + k.p * e.p) * (sum_by completed_in rows + it.above))
@@ -718,7 +624,8 @@ module _ (k e : Fraction) (works : ℕ → ℕ) (v w : ℕ) (jobs : List Job) (r
                   let worth : (e.q + e.p) * k.p * (v * sum_by (λ row. row.interval.until - row.interval.from) rows)
                   ≤ (e.q + e.p) * k.p * (w * (regular_all + displaced_all) + v * had_all) =
                   mul-le ((e.q + e.p) * k.p) (v * sum_by (λ row. row.interval.until - row.interval.from) rows)
-                  ((e.q + e.p) * k.p) (w * (regular_all + displaced_all) + v * had_all) (omega arith) ticks_worth in
+                  ((e.q + e.p) * k.p) (w * (regular_all + displaced_all) + v * had_all) (omega arith)
+                  (ticks_worth k v w jobs rows busy books s) in
                   omega (arith, ap (λ n. e.q * (k.q * w) * n) value_is)
 
               most : k.q * e.q * sum_by (earned_by works s) jobs
@@ -734,5 +641,5 @@ module _ (k e : Fraction) (works : ℕ → ℕ) (v w : ℕ) (jobs : List Job) (r
                   + (k.q * e.q + k.p * e.p) * (sum_by completed_in rows + it.above)) books.some_work scaled in
                   let parts : (k.q * e.q + k.p * e.p) * sum_by completed_in rows
                   ≡ (k.q * e.q + k.p * e.p) * (regular_all + taken_all) =
-                  ap (λ n. (k.q * e.q + k.p * e.p) * n) completed_parts in
+                  ap (λ n. (k.q * e.q + k.p * e.p) * n) parts_are in
                   omega arith

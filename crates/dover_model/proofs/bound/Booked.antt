@@ -47,13 +47,9 @@ module _ (k : Fraction) (v w : ℕ) (s : State) (sound : IsSound s) (closed : Li
   -- of a ready job: it is neither done nor gone
   not_over : (role : Role) → is_ready (with_role r role) ≡ true → (is_done (with_role r role) ≡ false)
       × (is_gone (with_role r role) ≡ false)
-  not_over Coming e = (refl, refl)
-  not_over Fresh e = (refl, refl)
-  not_over Waiting e = (refl, refl)
-  not_over Held e = (refl, refl)
-  not_over Running e = (refl, refl)
   not_over Done e = never e
   not_over Gone e = never e
+  not_over _ e = (refl, refl)
 
   -- a job that runs while an interval is under way
   pub runs_on : (row : Row) → Booked k v w s closed (Some row) → Booked k v w (state_with s r Running) closed (Some row)
@@ -302,42 +298,22 @@ module _ (k : Fraction) (v w : ℕ) (s : State) (sound : IsSound s) (closed : Li
 -- a displaced job is not active
 pub displaced_idle : (t : Task) (role : Role) → is_privileged (with_role t (displaced role)) ≡ false
 displaced_idle t Coming = refl
-displaced_idle t Fresh = refl
-displaced_idle t Waiting = refl
-displaced_idle t Held = refl
-displaced_idle t Running = refl
-displaced_idle t Done = refl
-displaced_idle t Gone = refl
+displaced_idle t _ = refl
 
 -- a displaced job is ready where it was
 displaced_ready : (t : Task) (role : Role) → is_ready (with_role t (displaced role)) ≡ is_ready (with_role t role)
 displaced_ready t Coming = refl
-displaced_ready t Fresh = refl
-displaced_ready t Waiting = refl
-displaced_ready t Held = refl
-displaced_ready t Running = refl
-displaced_ready t Done = refl
-displaced_ready t Gone = refl
+displaced_ready t _ = refl
 
 -- done where it was
 pub displaced_done : (t : Task) (role : Role) → is_done (with_role t (displaced role)) ≡ is_done (with_role t role)
 displaced_done t Coming = refl
-displaced_done t Fresh = refl
-displaced_done t Waiting = refl
-displaced_done t Held = refl
-displaced_done t Running = refl
-displaced_done t Done = refl
-displaced_done t Gone = refl
+displaced_done t _ = refl
 
 -- gone where it was
 pub displaced_gone : (t : Task) (role : Role) → is_gone (with_role t (displaced role)) ≡ is_gone (with_role t role)
 displaced_gone t Coming = refl
-displaced_gone t Fresh = refl
-displaced_gone t Waiting = refl
-displaced_gone t Held = refl
-displaced_gone t Running = refl
-displaced_gone t Done = refl
-displaced_gone t Gone = refl
+displaced_gone t _ = refl
 
 module _ (k : Fraction) (some_q : 1 ≤ k.q) (ratio : k.q ≤ k.p) (v w : ℕ) (s : State) (sound : IsSound s)
     (closed : List Row) (row : Row)
@@ -513,13 +489,11 @@ module _ (k : Fraction) (v w : ℕ) (s : State) (sound : IsSound s) (quiet : Qui
   pub none_behind : NoneRuns s.tasks → Each (λ t. is_ready t ≡ true → ⊥) s.tasks
   none_behind none t m = by_role t.role refl where
     by_role : (role : Role) → t.role ≡ role → is_ready (with_role t role) ≡ true → ⊥
-    by_role Coming e h = never h
     by_role Fresh e h = quiet.stale t m e
     by_role Waiting e h = quiet.free none t m (passes is_ready_behind t Waiting true e refl)
     by_role Held e h = quiet.free none t m (passes is_ready_behind t Held true e refl)
     by_role Running e h = none t m e
-    by_role Done e h = never h
-    by_role Gone e h = never h
+    by_role _ e h = never h
 
   -- an active job is ready
   pub active_ready : (t : Task) → is_privileged t ≡ true → is_ready t ≡ true

@@ -81,6 +81,21 @@ some_of_some (y ∷ xs) some = (y, inl refl)
 
 module _ (k : Fraction) (some_q : 1 ≤ k.q) (ratio : k.q ≤ k.p) (v w : ℕ) (s : State) (sound : IsSound s)
     (modest : Each (λ t. IsModest k v w t.job) s.tasks) (needs : Job → ℕ) (closed : List Row) where
+  -- a move that closes no row
+  closes_none : (m : Move) (current under_way : Option Row) → Booked k v w (after s m) closed under_way
+      → ((xs : List Step) → rev_onto closed (intervals_of (interval_of under_way) xs) ≡ rev_onto closed
+      (intervals_of (interval_of current) (record { before = s; move = m } ∷ xs)))
+      → length_so_far (after s m).clock under_way ≡ length_so_far s.clock current + busy_ticks s m
+      → Next k v w needs s m closed current
+  closes_none m current under_way booked same lasts = record {
+    rows = closed;
+    exact = λ h. h;
+    under_way = under_way;
+    booked = booked;
+    same = same;
+    lasts = omega (arith, lasts);
+  }
+
   -- a completion
   completes_next : (row : Row) → Booked k v w s closed (Some row) → (r : Task) → IsMember r s.tasks → r.role ≡ Running
       → r.had ≡ needs (r.number, r.job) → Next k v w needs s (Prints (Complete s.clock r.number)) closed (Some row)
@@ -177,40 +192,21 @@ module _ (k : Fraction) (some_q : 1 ≤ k.q) (ratio : k.q ≤ k.p) (v w : ℕ) (
         let plain : row.interval.took ≡ false =
         by_bool _ row.interval.took (λ took. absurd ((books.under.taker took).alone h.0 it.0 (is_held_role h.0 it.1)))
         (λ took. took) in
-        record {
-          rows = closed;
-          exact = λ h. h;
-          under_way = Some (longer k v w s sound closed row books r member runs (modest r member).0
-              (modest r member).1);
-          booked = goes_on k v w s sound closed row books r member runs (modest r member).0
-              (modest r member).1 h.0 it.0
-              (is_held_role h.0 it.1);
-          same = ends false false e plain;
-          lasts = omega arith;
-        }
+        closes_none (Prints (Complete s.clock r.number)) (Some row)
+        (Some (longer k v w s sound closed row books r member runs (modest r member).0 (modest r member).1))
+        (goes_on k v w s sound closed row books r member runs (modest r member).0 (modest r member).1 h.0 it.0
+        (is_held_role h.0 it.1))
+        (ends false false e plain) (omega arith)
 
   -- a job that runs where none does
   starts_next : (current : Option Row) → Booked k v w s closed current → (r : Task) → IsMember r s.tasks
       → NoneRuns s.tasks → is_ready r ≡ true
       → Next k v w needs s (Prints (Run s.clock r.number)) closed current
-  starts_next None books r member none ready = record {
-    rows = closed;
-    exact = λ h. h;
-    under_way = Some (record { interval = begun s.clock; regular = []; taken = []; gone = []; had = 0 });
-    booked = runs_first k v w s sound closed r member none ready books;
-    same = λ xs. refl;
-    lasts = omega arith;
-  }
-  starts_next (Some row) books r member none ready =
-      record {
-        rows = closed;
-        exact = λ h. h;
-        under_way = Some row;
-        booked = runs_on k v w s sound closed r member none ready row books;
-        same = λ xs. refl;
-        lasts =
-            omega arith;
-      }
+  starts_next None books r member none ready = closes_none (Prints (Run s.clock r.number)) None
+      (Some (record { interval = begun s.clock; regular = []; taken = []; gone = []; had = 0 }))
+      (runs_first k v w s sound closed r member none ready books) (λ xs. refl) (omega arith)
+  starts_next (Some row) books r member none ready = closes_none (Prints (Run s.clock r.number)) (Some row) (Some row)
+      (runs_on k v w s sound closed r member none ready row books) (λ xs. refl) (omega arith)
 
   -- a tick in which none runs
   idle_tick : NoneRuns s.tasks → busy_ticks s Ticks ≡ 0
@@ -237,23 +233,12 @@ module _ (k : Fraction) (some_q : 1 ≤ k.q) (ratio : k.q ≤ k.p) (v w : ℕ) (
         → Next k v w needs s Ticks closed o
     by_runner None books (inl it) = absurd (books.under it.0 it.1 (passes is_privileged it.0 Running true it.2 refl))
     by_runner None books (inr none) =
-        record {
-          rows = closed;
-          exact = λ h. h;
-          under_way = None;
-          booked = idle_booked k v w s sound quiet closed none books;
-          same = λ xs. refl;
-          lasts =
-              omega (arith, idle_tick none);
-        }
-    by_runner (Some row) books (inl it) = record {
-      rows = closed;
-      exact = λ h. h;
-      under_way = Some row;
-      booked = tick_booked k v w s sound quiet closed row books it.0 it.1 it.2;
-      same = λ xs. refl;
-      lasts = let begun : row.interval.from ≤ s.clock = books.under.begun in omega (arith, busy_tick it.0 it.1 it.2);
-    }
+        closes_none Ticks None None (idle_booked k v w s sound quiet closed none books) (λ xs. refl)
+        (omega (arith, idle_tick none))
+    by_runner (Some row) books (inl it) =
+        closes_none Ticks (Some row) (Some row) (tick_booked k v w s sound quiet closed row books it.0 it.1 it.2)
+        (λ xs. refl)
+        (let begun : row.interval.from ≤ s.clock = books.under.begun in omega (arith, busy_tick it.0 it.1 it.2))
     by_runner (Some row) books (inr none) =
         let some : SomeActive s.tasks = books.under.active in
         absurd (none_behind k v w s sound quiet closed none some.0 some.1
@@ -278,105 +263,43 @@ module _ (k : Fraction) (some_q : 1 ≤ k.q) (ratio : k.q ≤ k.p) (v w : ℕ) (
   deed_next other None books rested m (Preempted r f member runs some f_member fresh before fits) exact =
       absurd (books.under r member (passes is_privileged r Running true runs refl))
   deed_next other (Some row) books rested m (Preempted r f member runs some f_member fresh before fits) exact =
-      record {
-        rows = closed;
-        exact = λ h. h;
-        under_way = Some row;
-        booked =
-            preempts_booked k v w s sound closed row books r f member runs some f_member fresh before fits;
-        same = λ xs. refl;
-        lasts = omega arith;
-      }
-  deed_next other None books rested m (Stayed r f member runs some f_member fresh why) exact =
-      record {
-        rows = closed;
-        exact = λ h. h;
-        under_way = None;
-        booked = waits_booked k v w s sound closed None books f f_member fresh;
-        same = λ xs. refl;
-        lasts =
-            omega arith;
-      }
-  deed_next other (Some row) books rested m (Stayed r f member runs some f_member fresh why) exact =
-      record {
-        rows = closed;
-        exact = λ h. h;
-        under_way = Some row;
-        booked = waits_booked k v w s sound closed (Some row) books f f_member fresh;
-        same =
-            λ xs. refl;
-        lasts = omega arith;
-      }
+      closes_none m (Some row) (Some row)
+      (preempts_booked k v w s sound closed row books r f member runs some f_member fresh before fits)
+      (λ xs. refl) (omega arith)
+  deed_next other current books rested m (Stayed r f member runs some f_member fresh why) exact =
+      closes_none m current current (waits_booked k v w s sound closed current books f f_member fresh)
+      (λ xs. refl) (omega arith)
   deed_next other None books rested m (Arrived c member comes now first stale busy free) exact =
-      record {
-        rows = closed;
-        exact = λ h. h;
-        under_way = None;
-        booked = arrives_booked k v w s sound closed None books c member comes now;
-        same =
-            λ xs. refl;
-        lasts = omega arith;
-      }
+      closes_none m None None (arrives_booked k v w s sound closed None books c member comes now)
+      (λ xs. refl) (omega arith)
   deed_next other (Some row) books rested m (Arrived c member comes now first stale busy free) exact =
-      record {
-        rows = closed;
-        exact = λ h. h;
-        under_way = Some row;
-        booked = arrives_booked k v w s sound closed (Some row) books c member comes now;
-        same =
-            λ xs. refl;
-        lasts = omega arith;
-      }
+      closes_none m (Some row) (Some row) (arrives_booked k v w s sound closed (Some row) books c member comes now)
+      (λ xs. refl) (omega arith)
   deed_next other None books rested m (Taken r x member runs some x_member waiting now stale heavy) exact =
       absurd (books.under r member (passes is_privileged r Running true runs refl))
-  deed_next other (Some row) books rested m
-      (Taken r x member runs some x_member waiting now stale heavy) exact = record {
-        rows = closed;
-        exact = λ h. h;
-        under_way =
-            Some (with_displaced k some_q ratio v w s sound closed row books modest r x x_member waiting now heavy);
-        booked = takes_booked k some_q ratio v w s sound closed row books modest r x x_member waiting now heavy;
-        same = λ xs. refl;
-        lasts = omega arith;
-      }
+  deed_next other (Some row) books rested m (Taken r x member runs some x_member waiting now stale heavy) exact =
+      closes_none m (Some row)
+      (Some (with_displaced k some_q ratio v w s sound closed row books modest r x x_member waiting now heavy))
+      (takes_booked k some_q ratio v w s sound closed row books modest r x x_member waiting now heavy)
+      (λ xs. refl) (omega arith)
   deed_next other None books rested m (Abandoned r x member runs some x_member waiting now stale light) exact =
       absurd (books.under r member (passes is_privileged r Running true runs refl))
-  deed_next other (Some row) books rested m
-      (Abandoned r x member runs some x_member waiting now stale light) exact = record {
-        rows = closed;
-        exact = λ h. h;
-        under_way = Some (with_gone k v w s sound closed row books x x_member waiting (modest x x_member).0 now light);
-        booked = abandons_booked k v w s sound closed row books x x_member waiting (modest x x_member).0 now light;
-        same = λ xs. refl;
-        lasts = omega arith;
-      }
+  deed_next other (Some row) books rested m (Abandoned r x member runs some x_member waiting now stale light) exact =
+      closes_none m (Some row)
+      (Some (with_gone k v w s sound closed row books x x_member waiting (modest x x_member).0 now light))
+      (abandons_booked k v w s sound closed row books x x_member waiting (modest x x_member).0 now light)
+      (λ xs. refl) (omega arith)
   deed_next other current books rested m (Rested quiet) exact = rested quiet
 
   -- End
   pub end_next : (value : ℕ) (current : Option Row) → Booked k v w s closed current
       → Next k v w needs s (Prints (End value)) closed current
-  end_next value None books = record {
-    rows = closed;
-    exact = λ h. h;
-    under_way = None;
-    booked =
-        subst (λ (tasks : List Task). Booked k v w (record { clock = s.clock; tasks = tasks }) closed None)
-        (sym (end_same s value)) books;
-    same =
-        λ xs. refl;
-    lasts = omega arith;
-  }
-  end_next value (Some row) books =
-      record {
-        rows = closed;
-        exact = λ h. h;
-        under_way = Some row;
-        booked =
-            subst (λ (tasks : List Task). Booked k v w (record { clock = s.clock; tasks = tasks }) closed (Some row))
-            (sym (end_same s value)) books;
-        same = λ xs. refl;
-        lasts = omega arith;
-      }
+  end_next value None books = closes_none (Prints (End value)) None None
+      (subst (λ (tasks : List Task). Booked k v w (record { clock = s.clock; tasks = tasks }) closed None)
+      (sym (end_same s value)) books) (λ xs. refl) (omega arith)
+  end_next value (Some row) books = closes_none (Prints (End value)) (Some row) (Some row)
+      (subst (λ (tasks : List Task). Booked k v w (record { clock = s.clock; tasks = tasks }) closed (Some row))
+      (sym (end_same s value)) books) (λ xs. refl) (omega arith)
 
 -- what a job needs
 abbrev pub needs_by : List Finish → Job → ℕ

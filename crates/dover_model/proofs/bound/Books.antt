@@ -5,6 +5,7 @@ use Rattle.std.proofs.Common.{ap, ◌∙◌, subst, Bool, true, false, cond, eqb
 use Rattle.std.proofs.Common.{le-leb, leb-true, lt-ltb}
 use Rattle.std.proofs.lemmas.Bool.{cases_lt}
 use Rattle.std.proofs.lemmas.Nat.{mul-le}
+use Rattle.std.proofs.Math.Nat.{mul-sub}
 use Rattle.std.proofs.lemmas.List.Sums.{sum_by-cons, sum_by-append}
 use Rattle.dover_model.specs.Common.{Fraction, IsWithin, Row, IsRow, TakenIn, IsDense, job_value, completed_in, row_sum}
 use Rattle.dover_model.specs.Common.{Job, IsExcess, IsPaid, IsMember, Each, ticks_given, is_served}
@@ -101,7 +102,7 @@ module _ (k : Fraction) (v w : ℕ) (busy : ℕ → Bool) (s : List ℕ) where
       omega (arith, given_share s n_j.0 n_j.1)
 
   -- what a schedule gives to a job is busy, or comes later, where its window is busy so long
-  two_parts : (u : ℕ) (n_j : Job) → IsBusy busy n_j.1.release u → share_of (λ τ. 1) s n_j ≤ early n_j + late u n_j
+  pub two_parts : (u : ℕ) (n_j : Job) → IsBusy busy n_j.1.release u → share_of (λ τ. 1) s n_j ≤ early n_j + late u n_j
   two_parts u n_j covered =
       share_le (λ τ. 1) (λ τ. one (busy τ)) (λ τ. one (nat_le u τ)) s n_j
       (λ τ low high. by_order τ low (cases_lt τ u)) where
@@ -110,7 +111,7 @@ module _ (k : Fraction) (v w : ℕ) (busy : ℕ → Bool) (s : List ℕ) where
         by_order τ low (inr after) = omega (arith, ap one (le-leb u τ after))
 
   -- jobs that are due by d are given no more from u on
-  late_share : (u d : ℕ) (jobs : List Job) → NamesOnce jobs → Each (λ n_j. n_j.1.deadline ≤ d) jobs
+  pub late_share : (u d : ℕ) (jobs : List Job) → NamesOnce jobs → Each (λ n_j. n_j.1.deadline ≤ d) jobs
       → sum_by (late u) jobs ≤ d - u
   late_share u d jobs once due = omega (
     arith,
@@ -273,19 +274,13 @@ module _ (k : Fraction) (v w : ℕ) (busy : ℕ → Bool) (s : List ℕ) where
       first_paid : Each (λ n_j. n_j.1.deadline ≤ z.1.deadline) served → PaidWith z.1.value (early z)
       first_paid first = record { above = 0; most = most; below = excess_zero k (completed_in row) } where
         rest : v * (z.1.deadline - row.interval.until) + v * row.had ≤ w * row.interval.taken
-        rest = by_order (cases_lt row.interval.until z.1.deadline) where
-          by_order : (row.interval.until < z.1.deadline) ⊎ (z.1.deadline ≤ row.interval.until)
-              → v * (z.1.deadline - row.interval.until) + v * row.had ≤ w * row.interval.taken
-          by_order (inl less) =
-              let whole : row.interval.until + (z.1.deadline - row.interval.until) ≡ z.1.deadline = omega arith in
-              let times : v * row.interval.until + v * (z.1.deadline - row.interval.until) ≡ v * z.1.deadline =
-              omega (arith, ap (λ n. v * n) whole) in
-              let reach : v * z.1.deadline + v * row.had ≤ v * row.interval.until + w * z.1.value = z_taken.reach in
-              omega (arith, ap (λ n. w * n) z_value)
-          by_order (inr none) =
-              let zero_rest : z.1.deadline - row.interval.until ≡ 0 = omega arith in
-              let nothing : v * (z.1.deadline - row.interval.until) ≡ v * 0 = ap (λ n. v * n) zero_rest in
-              let paid : v * row.had ≤ w * row.interval.taken = facts.had_paid in omega arith
+        rest = omega (
+          arith,
+          mul-sub v z.1.deadline row.interval.until,
+          z_taken.reach,
+          facts.had_paid,
+          ap (λ n. w * n) z_value,
+        )
 
         most : k.q * w * (z.1.value + sum_by job_value served) + k.p * v * row.had ≤ k.p * v
             * (early z + sum_by early served) + k.p * w * row.interval.taken + k.q * w * (completed_in row + 0)
@@ -409,11 +404,11 @@ module _ (k : Fraction) (v w : ℕ) (busy : ℕ → Bool) (s : List ℕ) where
     pub row_paid : Paid (row_sum served_value row) row.had (row_sum early row) row.interval.taken
         (row.interval.regular + completed_in row) (completed_in row)
     row_paid = record {
-      above = it.above;
+      above = overs_paid.above;
       most =
           let over : k.q * w * (sum_by served_value row.taken + sum_by served_value row.gone) + k.p * v * row.had
           ≤ k.p * v * (sum_by early row.taken + sum_by early row.gone) + k.p * w * row.interval.taken + k.q * w
-          * (completed_in row + it.above) = it.most in
+          * (completed_in row + overs_paid.above) = overs_paid.most in
           let regular : sum_by served_value row.regular ≤ row.interval.regular =
           omega (
             arith,
@@ -423,28 +418,14 @@ module _ (k : Fraction) (v w : ℕ) (busy : ℕ → Bool) (s : List ℕ) where
           let own : k.q * w * sum_by served_value row.regular ≤ k.q * w * row.interval.regular =
           mul-le (k.q * w) (sum_by served_value row.regular) (k.q * w) row.interval.regular (omega arith) regular in
           omega arith;
-      below = it.below;
-    } where
-      it : Paid (sum_by served_value row.taken + sum_by served_value row.gone) row.had
-          (sum_by early row.taken + sum_by early row.gone) row.interval.taken (completed_in row) (completed_in row)
-      it = overs_paid
+      below = overs_paid.below;
+    }
 
   -- nothing is paid by nothing
   none_are_paid : Paid 0 0 0 0 0 0
   none_are_paid = record { above = 0; most = omega arith; below = excess_zero k 0 }
 
   module _ (some_q : 1 ≤ k.q) (ratio : k.q ≤ k.p) where
-    -- two values that are paid are paid together
-    both_paid : (x x' h h' t t' z z' o o' e e' : ℕ) → Paid x h t z o e → Paid x' h' t' z' o' e'
-        → Paid (x + x') (h + h') (t + t') (z + z') (o + o') (e + e')
-    both_paid x x' h h' t t' z z' o o' e e' a b = record {
-      above = a.above + b.above;
-      most = let one : k.q * w * x + k.p * v * h ≤ k.p * v * t + k.p * w * z + k.q * w * (o + a.above) = a.most in
-          let other : k.q * w * x' + k.p * v * h' ≤ k.p * v * t' + k.p * w * z' + k.q * w * (o' + b.above) = b.most in
-          omega arith;
-      below = excess_add k some_q ratio a.above b.above e e' a.below b.below;
-    }
-
     -- all rows are paid
     pub rows_paid : (rows : List Row) → Each (IsRow k v w busy) rows
         → Each (λ row. Each (λ n_j. row.had ≤ n_j.1.work) row.taken) rows
@@ -454,33 +435,23 @@ module _ (k : Fraction) (v w : ℕ) (busy : ℕ → Bool) (s : List ℕ) where
         (sum_by completed_in rows)
     rows_paid [] facts exact once = none_are_paid
     rows_paid (row ∷ rows) facts exact once =
-        cons_paid (both_paid _ _ _ _ _ _ _ _ _ _ _ _
-        (row_paid some_q ratio row (facts row (inl refl)) (exact row (inl refl)) (once row (inl refl)))
-        (rows_paid rows (λ x member. facts x (inr member)) (λ x member. exact x (inr member))
-        (λ x member. once x (inr member)))) where
-          same : (a a' b b' c c' d d' e e' f f' : ℕ) → a ≡ a' → b ≡ b' → c ≡ c' → d ≡ d' → e ≡ e' → f ≡ f'
-              → Paid a b c d e f → Paid a' b' c' d' e' f'
-          same a a' b b' c c' d d' e e' f f' ea eb ec ed ee ef it =
-              subst (λ n. Paid n b' c' d' e' f') ea (subst (λ n. Paid a n c' d' e' f') eb
-              (subst (λ n. Paid a b n d' e' f') ec (subst (λ n. Paid a b c n e' f') ed
-              (subst (λ n. Paid a b c d n f') ee (subst (λ n. Paid a b c d e n) ef it)))))
-
-          cons_paid : Paid (row_sum served_value row + sum_by (row_sum served_value) rows)
-              (row.had + sum_by (λ x. x.had) rows)
-              (row_sum early row + sum_by (row_sum early) rows)
-              (row.interval.taken + sum_by (λ x. x.interval.taken) rows)
-              (row.interval.regular + completed_in row + sum_by (λ x. x.interval.regular + completed_in x) rows)
-              (completed_in row + sum_by completed_in rows)
-              → Paid (sum_by (row_sum served_value) (row ∷ rows)) (sum_by (λ x. x.had) (row ∷ rows))
-              (sum_by (row_sum early) (row ∷ rows)) (sum_by (λ x. x.interval.taken) (row ∷ rows))
-              (sum_by (λ x. x.interval.regular + completed_in x) (row ∷ rows)) (sum_by completed_in (row ∷ rows))
-          cons_paid it = same _ _ _ _ _ _ _ _ _ _ _ _
-              (sym (sum_by-cons (row_sum served_value) row rows))
-              (sym (sum_by-cons (λ (x : Row). x.had) row rows))
-              (sym (sum_by-cons (row_sum early) row rows))
-              (sym (sum_by-cons (λ (x : Row). x.interval.taken) row rows))
-              (sym (sum_by-cons (λ x. x.interval.regular + completed_in x) row rows))
-              (sym (sum_by-cons completed_in row rows)) it
+        let here = row_paid some_q ratio row (facts row (inl refl)) (exact row (inl refl)) (once row (inl refl)) in
+        let rest = rows_paid rows (λ x member. facts x (inr member)) (λ x member. exact x (inr member))
+        (λ x member. once x (inr member)) in record {
+          above = here.above + rest.above;
+          most = omega (
+            arith,
+            here.most,
+            rest.most,
+            ap (λ n. k.q * w * n) (sum_by-cons (row_sum served_value) row rows),
+            ap (λ n. k.p * v * n) (sum_by-cons (λ (x : Row). x.had) row rows),
+            ap (λ n. k.p * v * n) (sum_by-cons (row_sum early) row rows),
+            ap (λ n. k.p * w * n) (sum_by-cons (λ (x : Row). x.interval.taken) row rows),
+            ap (λ n. k.q * w * n) (sum_by-cons (λ x. x.interval.regular + completed_in x) row rows),
+          );
+          below = subst (IsExcess k (here.above + rest.above)) (sym (sum_by-cons completed_in row rows))
+              (excess_add k some_q ratio here.above rest.above _ _ here.below rest.below);
+        }
 
 -- ---- all rows, against one schedule
 
@@ -500,7 +471,7 @@ pub record AreBooks (k : Fraction) (v w : ℕ) (jobs : List Job) (rows : List Ro
 module _ (k : Fraction) (v w : ℕ) (jobs : List Job) (rows : List Row) (busy : ℕ → Bool)
     (books : AreBooks k v w jobs rows busy) (s : List ℕ) where
   -- no number names two jobs of a row
-  row_names : Each (λ row. NamesOnce (row.taken ++ row.gone)) rows
+  pub row_names : Each (λ row. NamesOnce (row.taken ++ row.gone)) rows
   row_names row member m =
       let term : row_sum (λ n_j. one (eqb m n_j.0)) row ≤ sum_by (row_sum (λ n_j. one (eqb m n_j.0))) rows =
       term_le_sum (row_sum (λ n_j. one (eqb m n_j.0))) rows row member in
@@ -524,7 +495,7 @@ module _ (k : Fraction) (v w : ℕ) (jobs : List Job) (rows : List Row) (busy : 
   displaced_all = sum_by (λ row. row.interval.displaced) rows
 
   -- what is completed is regular or taken
-  completed_parts : sum_by completed_in rows ≡ regular_all + taken_all
+  pub completed_parts : sum_by completed_in rows ≡ regular_all + taken_all
   completed_parts = sum_plus (λ row. row.interval.regular) (λ row. row.interval.taken) rows
 
   -- the schedule gives no more busy ticks than the rows have
@@ -552,28 +523,14 @@ module _ (k : Fraction) (v w : ℕ) (jobs : List Job) (rows : List Row) (busy : 
     ap (λ n. w * n) (sum_by-cons (λ (x : Row). x.interval.regular) row some),
     ap (λ n. w * n) (sum_by-cons (λ (x : Row). x.interval.displaced) row some),
     ap (λ n. v * n) (sum_by-cons (λ (x : Row). x.had) row some),
-    span (facts row (inl refl)).span,
+    mul-sub v row.interval.until row.interval.from,
+    (facts row (inl refl)).span,
     spans_paid some (λ x member. facts x (inr member)),
-  ) where
-    span : v * row.interval.until ≤ v * row.interval.from + w * (row.interval.regular + row.interval.displaced) + v
-        * row.had
-        → v * (row.interval.until - row.interval.from) ≤ w * (row.interval.regular + row.interval.displaced) + v
-        * row.had
-    span most = by_order (cases_lt row.interval.from row.interval.until) where
-      by_order : (row.interval.from < row.interval.until) ⊎ (row.interval.until ≤ row.interval.from)
-          → v * (row.interval.until - row.interval.from) ≤ w * (row.interval.regular + row.interval.displaced) + v
-          * row.had
-      by_order (inl less) = let whole : row.interval.from + (row.interval.until - row.interval.from)
-          ≡ row.interval.until = omega arith in
-          let times : v * row.interval.from + v * (row.interval.until - row.interval.from) ≡ v * row.interval.until =
-          omega (arith, ap (λ n. v * n) whole) in omega arith
-      by_order (inr none) = let zero_span : row.interval.until - row.interval.from ≡ 0 = omega arith in
-          let nothing : v * (row.interval.until - row.interval.from) ≡ v * 0 = ap (λ n. v * n) zero_span in
-          omega arith
+  )
 
   -- so are the ticks of all
-  ticks_worth : v * sum_by (λ row. row.interval.until - row.interval.from) rows ≤ w * (regular_all + displaced_all) + v
-      * had_all
+  pub ticks_worth : v * sum_by (λ row. row.interval.until - row.interval.from) rows
+      ≤ w * (regular_all + displaced_all) + v * had_all
   ticks_worth = spans_paid rows books.rows_are
 
   -- all that a schedule serves is worth no more than the bound of what is completed

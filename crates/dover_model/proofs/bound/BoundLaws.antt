@@ -5,6 +5,7 @@ use Rattle.std.specs.Prelude.{None, nat_le, nat_lt, ◌&&◌, ◌||◌}
 use Rattle.std.specs.List.{sum_by, count_by, enumerate_from, AllByRecursion}
 use Rattle.std.proofs.lemmas.Bool.{cases_lt, le-leb, leb-true}
 use Rattle.std.proofs.lemmas.Nat.{mul-le}
+use Rattle.std.proofs.Math.Nat.{mul-sub}
 use Rattle.std.proofs.lemmas.List.{length-map}
 use Rattle.std.proofs.lemmas.List.Sums.{sum_by-cons}
 use Rattle.dover_model.specs.Common.{JobFacts, IsJob, IsHeavy, IsWithin, is_busy_tick, IsLeastDense, IsRow, Row}
@@ -15,13 +16,13 @@ use Rattle.dover_model.specs.Common.{completed_value, IsMember, Each, Keeps}
 use Rattle.dover_model.specs.Books.{HasBooks, HadNeeds}
 use Rattle.dover_model.specs.Intervals.{Interval}
 use Rattle.dover_model.proofs.lists.Members.{sum_le, sum_same, sum_zero, sum_plus, sum_filter, sum_map, all_member}
-use Rattle.dover_model.proofs.lists.Members.{map_member, on_map}
+use Rattle.dover_model.proofs.lists.Members.{each_cons, map_member, on_map}
 use Rattle.dover_model.proofs.steps.Roles.{passes, is_over_role}
 use Rattle.dover_model.proofs.steps.Kept.{opening_keeps, come_coming}
 use Rattle.dover_model.proofs.finishes.Readiness.{opening_ready}
 use Rattle.dover_model.proofs.finishes.Needing.{opening_served, needing}
 use Rattle.dover_model.proofs.runs.Ending.{run_is_whole}
-use Rattle.dover_model.proofs.bound.Calculus.{within_less}
+use Rattle.dover_model.proofs.bound.Calculus.{cancel, within_less}
 use Rattle.dover_model.proofs.runs.Serving.{named_once, sum_numbered}
 use Rattle.dover_model.proofs.runs.Honest.{sum_tasks, sum_observing}
 use Rattle.dover_model.proofs.bound.Counting.{one, total, total_le, total_plus, range_count, total_zero}
@@ -39,18 +40,11 @@ use Rattle.dover_model.proofs.valid.JobLimits.{ratio_limits, job_limits}
 -- what is no denser than what is no denser
 no_denser : (i j l : JobFacts) → 1 ≤ j.work → i.value * j.work ≤ j.value * i.work → j.value * l.work ≤ l.value * j.work
     → i.value * l.work ≤ l.value * i.work
-no_denser i j l some one other = by_order (cases_lt (l.value * i.work) (i.value * l.work)) where
-  by_order : (l.value * i.work < i.value * l.work) ⊎ (i.value * l.work ≤ l.value * i.work)
-      → i.value * l.work ≤ l.value * i.work
-  by_order (inr low) = low
-  by_order (inl less) = absurd (
-      let first : i.value * j.work * l.work ≤ j.value * i.work * l.work =
-      mul-le (i.value * j.work) l.work (j.value * i.work) l.work one (omega arith) in
-      let second : j.value * l.work * i.work ≤ l.value * j.work * i.work =
-      mul-le (j.value * l.work) i.work (l.value * j.work) i.work other (omega arith) in
-      let more : j.work * (l.value * i.work + 1) ≤ j.work * (i.value * l.work) =
-      mul-le j.work (l.value * i.work + 1) j.work (i.value * l.work) (omega arith) (omega arith) in
-      omega arith)
+no_denser i j l some one other = cancel j.work (i.value * l.work) (l.value * i.work) some (omega (
+  arith,
+  mul-le (i.value * j.work) l.work (j.value * i.work) l.work one (omega arith),
+  mul-le (j.value * l.work) i.work (l.value * j.work) i.work other (omega arith),
+))
 
 -- some job has the least density, or there is none
 least_dense : (jobs : List JobFacts) → Each (λ j. 1 ≤ j.work) jobs
@@ -98,10 +92,8 @@ intervals_in_order (row ∷ rows) later = intervals_in_order rows (row ∷ later
 each_in_order : (P : Row → Type 0) (rows later : List Row) → Each P rows → Each P later → Each P (in_order rows later)
 each_in_order P [] later all rest = rest
 each_in_order P (row ∷ rows) later all rest =
-    each_in_order P rows (row ∷ later) (λ x member. all x (inr member)) each where
-      each : Each P (row ∷ later)
-      each x (inl e) = subst P (sym e) (all row (inl refl))
-      each x (inr member) = rest x member
+    each_in_order P rows (row ∷ later) (λ x member. all x (inr member))
+    (each_cons P row later (all row (inl refl)) rest)
 
 -- a sum over them
 sum_in_order : (f : Row → ℕ) (rows later : List Row) → sum_by f (in_order rows later) ≡ sum_by f rows + sum_by f later
@@ -153,10 +145,7 @@ busy_most (row ∷ rows) s =
 -- a length that is paid for
 length_paid : (v w from until worth : ℕ) → from ≤ until → v * until ≤ v * from + w * worth
     → v * (until - from) ≤ w * worth
-length_paid v w from until worth ordered paid =
-    let whole : from + (until - from) ≡ until = omega arith in
-    let times : v * from + v * (until - from) ≡ v * until = omega (arith, ap (λ n. v * n) whole) in
-    omega arith
+length_paid v w from until worth ordered paid = omega (arith, mul-sub v until from, paid)
 
 -- ---- jobs with other works
 

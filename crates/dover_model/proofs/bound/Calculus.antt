@@ -3,7 +3,7 @@ use Rattle.std.proofs.Common.{◌≡◌, ℕ, ◌+◌, ◌-◌, ◌*◌, ◌≤�
 use Rattle.std.proofs.Common.{arith, IsTrue, max, Option, Some, None, ◌&&◌, nat_lt, sum_by}
 use Rattle.std.proofs.lemmas.Bool.{cases_lt}
 use Rattle.std.proofs.lemmas.Nat.{mul-le}
-use Rattle.std.proofs.Math.Nat.{le-max_left, le-max_right}
+use Rattle.std.proofs.Math.Nat.{le-max_left, le-max_right, mul-sub}
 use Rattle.std.proofs.lemmas.List.Sums.{sum_by-cons}
 use Rattle.dover_model.specs.Common.{Fraction, Factor, IsHeavy, IsWithin, is_within_by, is_within_root, scale, share}
 use Rattle.dover_model.specs.Common.{IsPaidBy, IsPaid, IsExcessBy, IsExcess, Each}
@@ -160,16 +160,10 @@ module _ (k : Fraction) (some_q : 1 ≤ k.q) (ratio : k.q ≤ k.p) where
   -- a take displaces no more than it is worth
   pub root_take : (d w v : ℕ) → k.p * d * d ≤ k.q * w * w → HeavyBy k None v w
       → k.p * (d + w) * (d + w) ≤ k.q * v * v
-  root_take d w v row heavy = by_order (cases_lt w v) where
-    by_order : (w < v) ⊎ (v ≤ w) → k.p * (d + w) * (d + w) ≤ k.q * v * v
-    by_order (inl less) =
-        let whole : w + (v - w) ≡ v = omega arith in
-        let one : k.p * w * w ≤ k.q * (v - w) * (v - w) = omega (arith, root_excess k v w heavy) in
-        subst (λ n. k.p * (d + w) * (d + w) ≤ k.q * n * n) whole (rows_add d w w (v - w) row one)
-    by_order (inr low) = absurd
-        (let none : v - w ≡ 0 = omega arith in let less : k.p * w * w < k.q * (v - w) * (v - w) =
-        root_excess k v w heavy in
-        let zeros : k.p * w * w < k.q * 0 * 0 = subst (λ n. k.p * w * w < k.q * n * n) none less in omega arith)
+  root_take d w v row heavy =
+      let whole : w + (v - w) ≡ v = omega (arith, more_by k None v w heavy) in
+      let one : k.p * w * w ≤ k.q * (v - w) * (v - w) = omega (arith, root_excess k v w heavy) in
+      subst (λ n. k.p * (d + w) * (d + w) ≤ k.q * n * n) whole (rows_add d w w (v - w) row one)
 
   -- what is so far above stands within
   pub within_from : (c a m : ℕ) → k.q * c ≤ (k.p + k.q) * a + m → Below (k.p * k.q) m (2 * a)
@@ -241,15 +235,13 @@ linear_add e c x y u v one other = omega (arith, one, other)
 -- a take displaces no more than it is worth
 factor_take : (k : Fraction) (f : Factor) (d w v : ℕ) → (f.b - f.c) * d ≤ f.c * w → HeavyBy k (Some f) v w
     → (f.b - f.c) * (d + w) ≤ f.c * v
-factor_take k f d w v row heavy = by_order (cases_lt f.b f.c) (f.b - f.c) refl row where
-  over : f.b * w < f.c * v
-  over = factor_over k f v w heavy
-
-  by_order : (f.b < f.c) ⊎ (f.c ≤ f.b) → (e : ℕ) → f.b - f.c ≡ e → e * d ≤ f.c * w → e * (d + w) ≤ f.c * v
-  by_order (inl less) e is row = let none : e ≡ 0 = omega (arith, less, is) in
-      let nothing : e * (d + w) ≡ 0 * (d + w) = ap (λ n. n * (d + w)) none in omega (arith, nothing)
-  by_order (inr low) e is row = let whole : f.c + e ≡ f.b = omega (arith, low, is) in
-      let times : (f.c + e) * w ≡ f.b * w = ap (λ n. n * w) whole in omega (arith, row, over, times)
+factor_take k f d w v row heavy = omega (
+  arith,
+  row,
+  factor_over k f v w heavy,
+  mul-sub w f.b f.c,
+  mul-le f.c w f.c v (omega arith) (omega (arith, more_by k (Some f) v w heavy)),
+)
 
 -- what is heavy against more is heavy against less
 factor_mono : (k : Fraction) (f : Factor) (v w w' : ℕ) → w ≤ w' → HeavyBy k (Some f) v w' → HeavyBy k (Some f) v w
@@ -262,29 +254,19 @@ factor_mono k f v w w' less heavy =
 -- what is not heavy exceeds by little
 factor_light : (k : Fraction) (f : Factor) (v w : ℕ) → (HeavyBy k (Some f) v w → ⊥)
     → f.c * (v - w) ≤ (f.b - f.c) * w
-factor_light k f v w light = by_order (cases_lt w v) (v - w) refl where
+factor_light k f v w light = by_order (cases_lt w v) where
   by_over : (w < v) → (f.b * w < f.c * v) ⊎ (f.c * v ≤ f.b * w) → f.c * v ≤ f.b * w
   by_over more (inl over) = absurd (light (factor_from k f v w more over))
   by_over more (inr low) = low
 
-  by_factor : (x e : ℕ) → w < v → v - w ≡ x → f.b - f.c ≡ e → f.c * v ≤ f.b * w → (f.b < f.c) ⊎ (f.c ≤ f.b)
-      → f.c * x ≤ e * w
-  by_factor x e more is is_e low (inl less) = absurd (
-      let one : f.c * (w + 1) ≤ f.c * v = mul-le f.c (w + 1) f.c v (omega arith) (omega (arith, more)) in
-      let other : f.b * w ≤ f.c * w = mul-le f.b w f.c w (omega (arith, less)) (omega arith) in
-      omega (arith, one, other, low, less))
-  by_factor x e more is is_e low (inr least) =
-      let value : w + x ≡ v = omega (arith, more, is) in
-      let whole : f.c + e ≡ f.b = omega (arith, least, is_e) in
-      let one : f.c * (w + x) ≡ f.c * v = ap (λ n. f.c * n) value in
-      let other : (f.c + e) * w ≡ f.b * w = ap (λ n. n * w) whole in
-      omega (arith, one, other, low)
-
-  by_order : (w < v) ⊎ (v ≤ w) → (x : ℕ) → v - w ≡ x → f.c * x ≤ (f.b - f.c) * w
-  by_order (inl more) x is = by_factor x (f.b - f.c) more is refl (by_over more (cases_lt (f.b * w) (f.c * v)))
-      (cases_lt f.b f.c)
-  by_order (inr low) x is = let none : x ≡ 0 = omega (arith, low, is) in
-      let nothing : f.c * x ≡ f.c * 0 = ap (λ n. f.c * n) none in omega (arith, nothing)
+  by_order : (w < v) ⊎ (v ≤ w) → f.c * (v - w) ≤ (f.b - f.c) * w
+  by_order (inl more) = omega (
+    arith,
+    mul-sub f.c v w,
+    mul-sub w f.b f.c,
+    by_over more (cases_lt (f.b * w) (f.c * v)),
+  )
+  by_order (inr low) = omega (arith, mul-sub f.c v w, mul-le f.c v f.c w (omega arith) low)
 
 -- the sum of an interval's parts, where what is displaced counts t times, what is above u times and what is done as
 -- usual h times, with c for the factor's denominator and e for what its numerator is more
@@ -400,24 +382,6 @@ module _ (k : Fraction) (some_q : 1 ≤ k.q) (ratio : k.q ≤ k.p) where
   pub within_parts : (c r z d y : ℕ) → k.q * c ≤ (k.p + k.q) * (r + z) + (k.q * r + k.p * d + k.q * y) → IsPaid k d z
       → IsExcess k y (r + z) → IsWithin k c (r + z)
   within_parts = parts_by k.factor
-
--- a value that is heavy pays for what it is heavy against, by what it is more
-pays_by : (k : Fraction) (o : Option Factor) (v w : ℕ) → HeavyBy k o v w → IsPaidBy k o w (v - w)
-pays_by k None v w heavy = omega (arith, root_excess k v w heavy)
-pays_by k (Some f) v w heavy = by_order (cases_lt f.b f.c) (f.b - f.c) (v - w) refl refl where
-  by_order : (f.b < f.c) ⊎ (f.c ≤ f.b) → (e x : ℕ) → f.b - f.c ≡ e → v - w ≡ x → e * w ≤ f.c * x
-  by_order (inl less) e x is more = let none : e ≡ 0 = omega (arith, less, is) in
-      let nothing : e * w ≡ 0 * w = ap (λ n. n * w) none in omega (arith, nothing)
-  by_order (inr low) e x is more =
-      let whole : f.c + e ≡ f.b = omega (arith, low, is) in
-      let value : w + x ≡ v = omega (arith, more_by k (Some f) v w heavy, more) in
-      let one : (f.c + e) * w ≡ f.b * w = ap (λ n. n * w) whole in
-      let other : f.c * (w + x) ≡ f.c * v = ap (λ n. f.c * n) value in
-      omega (arith, one, other, factor_over k f v w heavy)
-
--- by what the ratio says
-pub heavy_pays : (k : Fraction) (v w : ℕ) → IsHeavy k v w → IsPaid k w (v - w)
-heavy_pays k = pays_by k k.factor
 
 paid_more_by : (k : Fraction) (o : Option Factor) (d z more : ℕ) → z ≤ more → IsPaidBy k o d z → IsPaidBy k o d more
 paid_more_by k None d z more less paid = omega (arith, paid, square_le k.q z more less)

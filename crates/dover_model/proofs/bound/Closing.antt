@@ -1,15 +1,15 @@
 -- A completion: it ends the interval under way, or adds to it.
 use Rattle.std.proofs.Common.{◌≡◌, ℕ, ◌+◌, ◌*◌, ◌≤◌, ◌<◌, ◌⊎◌, inl, inr, List, [], ◌∷◌, length, refl, sym, ap, ◌∙◌}
-use Rattle.std.proofs.Common.{subst, Bool, true, false, cond, eqb, arith, nat_le, nat_lt, ◌&&◌, ◌||◌, Some, None}
+use Rattle.std.proofs.Common.{subst, Bool, true, false, cond, eqb, arith, nat_le, nat_lt, ◌&&◌, Some, None}
 use Rattle.std.proofs.Common.{sum_by, eq-eqb, ne_eqb, le-leb, lt-ltb}
-use Rattle.std.proofs.lemmas.Bool.{or_right}
+use Rattle.std.proofs.lemmas.Bool.{and_from, or_left, or_right}
 use Rattle.std.proofs.lemmas.List.Sums.{sum_by-cons}
 use Rattle.std.proofs.lemmas.Nat.{mul-le}
 use Rattle.dover_model.specs.Common.{Fraction, IsHeavy, value_of, Held, Running, Done, Task, State, is_privileged}
 use Rattle.dover_model.specs.Common.{is_done, left, IsMember, Each, IsNumberedFrom, IsSound, Row, IsRow, TakenIn}
 use Rattle.dover_model.specs.Common.{IsDense, IsPaid, job_value, Job, in_rows}
 use Rattle.dover_model.specs.Intervals.{with_regular}
-use Rattle.dover_model.proofs.lists.Members.{by_bool, sum_zero, sum_filter}
+use Rattle.dover_model.proofs.lists.Members.{by_bool, each_cons, sum_zero, sum_filter}
 use Rattle.dover_model.proofs.steps.Roles.{passes, one_number, is_privileged_role}
 use Rattle.dover_model.proofs.steps.OneChange.{state_with, EachOther, on_changed, changed_there}
 use Rattle.dover_model.proofs.bound.Calculus.{paid_zero}
@@ -47,13 +47,9 @@ pub closed_tick : (closed : List Row) (row new : Row) (t τ : ℕ) → new.inter
 closed_tick closed row new t τ from until before (inl old) =
     or_right (nat_le new.interval.from τ && nat_lt τ new.interval.until) (in_rows closed τ) old
 closed_tick closed row new t τ from until before (inr after) =
-    both (nat_le new.interval.from τ) (nat_lt τ new.interval.until) (in_rows closed τ)
-    (le-leb _ _ (omega (arith, from)))
-    (lt-ltb _ _ (omega (arith, until))) where
-      both : (a b c : Bool) → a ≡ true → b ≡ true → ((a && b) || c) ≡ true
-      both true true c e f = refl
-      both true false c e f = never f
-      both false b c e f = never e
+    or_left (nat_le new.interval.from τ && nat_lt τ new.interval.until) (in_rows closed τ)
+    (and_from (nat_le new.interval.from τ) (nat_lt τ new.interval.until) (le-leb _ _ (omega (arith, from)))
+    (lt-ltb _ _ (omega (arith, until))))
 
 -- a row stays what it is, where no fewer ticks are busy
 pub row_kept : (k : Fraction) (v w : ℕ) (busy more : ℕ → Bool) → ((τ : ℕ) → busy τ ≡ true → more τ ≡ true) → (row : Row)
@@ -332,7 +328,8 @@ module _ (k : Fraction) (v w : ℕ) (s : State) (sound : IsSound s) (closed : Li
         (subst (λ (t : Task). IsPaid k row.interval.displaced t.job.value) same taker.worth))
         (λ f. omega (arith, sum_by-cons f (job_of r) []))
         (omega arith)
-        (λ n_j m. by_member n_j m) where
+        (each_cons (λ n_j. TakenIn v w (in_rows (new ∷ closed)) new n_j.1) (job_of r) [] taken
+        (λ n_j m. absurd m)) where
           value : value_of s r.number ≡ r.job.value
           value = value_of_number s sound.numbered r member
 
@@ -362,7 +359,3 @@ module _ (k : Fraction) (v w : ℕ) (s : State) (sound : IsSound s) (closed : Li
                 omega (arith, ap (λ n. v * n) whole) in
                 omega (arith, light);
           }
-
-          by_member : (n_j : Job) → (n_j ≡ job_of r) ⊎ ⊥ → TakenIn v w (in_rows (new ∷ closed)) new n_j.1
-          by_member n_j (inr none) = absurd none
-          by_member n_j (inl e) = subst (λ (x : Job). TakenIn v w (in_rows (new ∷ closed)) new x.1) (sym e) taken

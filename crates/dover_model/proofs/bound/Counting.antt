@@ -2,7 +2,7 @@
 use Rattle.std.proofs.Common.{◌≡◌, ℕ, suc, zero, ◌+◌, ◌-◌, ◌*◌, ◌≤◌, ◌<◌, ◌⊎◌, inl, inr, List, [], ◌∷◌, take, refl, sym}
 use Rattle.std.proofs.Common.{ap, Bool, true, false, cond, eqb, arith, nat_le, nat_lt, ◌&&◌, sum_by, le-leb, leb-true}
 use Rattle.std.proofs.Common.{lt-ltb, ltb-true}
-use Rattle.std.proofs.lemmas.Bool.{and_parts, cases_lt}
+use Rattle.std.proofs.lemmas.Bool.{and_left, and_parts, cases_lt, lt-leb}
 use Rattle.std.proofs.lemmas.Nat.{mul-le}
 use Rattle.std.proofs.lemmas.List.Sums.{sum_by-cons}
 use Rattle.dover_model.specs.Common.{JobFacts, Each, ticks_given, Job}
@@ -68,11 +68,7 @@ range_count a b t [] = omega arith
 range_count a b t (m ∷ s) = by_order (cases_lt t a) (range_count a b (suc t) s) where
   by_order : (t < a) ⊎ (a ≤ t) → total (λ τ m. one (nat_le a τ && nat_lt τ b)) (suc t) s ≤ b - a
       → one (nat_le a t && nat_lt t b) + total (λ τ m. one (nat_le a τ && nat_lt τ b)) (suc t) s ≤ b - a
-  by_order (inl before) ih = by_start (nat_le a t) refl where
-    by_start : (c : Bool) → nat_le a t ≡ c
-        → one (c && nat_lt t b) + total (λ τ m. one (nat_le a τ && nat_lt τ b)) (suc t) s ≤ b - a
-    by_start false e = omega arith
-    by_start true e = absurd (let low : a ≤ t = leb-true _ _ e in omega arith)
+  by_order (inl before) ih = omega (arith, ih, ap one (and_left (nat_le a t) (nat_lt t b) (lt-leb a t before)))
   by_order (inr low) ih = let all : one (nat_le a t && nat_lt t b) + total (λ τ m. one (nat_le a τ && nat_lt τ b))
       (suc t) s ≤ b - t =
       range_from a b t (m ∷ s) in omega arith

@@ -1,7 +1,8 @@
 -- A completion is the first step of its clock, so at the barrier of its tick its job is over.
 use Rattle.std.proofs.Common.{◌≡◌, ℕ, ◌+◌, ◌≤◌, ◌<◌, ◌⊎◌, inl, inr, List, [], ◌∷◌, ◌++◌, refl, sym, ap, ◌∙◌, subst}
 use Rattle.std.proofs.Common.{Bool, true, false, cond, arith, eqb, append_assoc, Option, None, nat_le, ◌&&◌, option_map}
-use Rattle.std.proofs.Common.{eqb-true, eq-eqb, leb-true}
+use Rattle.std.proofs.Common.{eqb-true, eq-eqb}
+use Rattle.std.proofs.lemmas.Bool.{and_right, lt-leb}
 use Rattle.std.specs.List.{AllByRecursion, cons_option}
 use Rattle.dover_model.specs.Common.{Fraction, Rules, Instance, IsValid, Finish, goes_on, Event, Release, Run, Preempt}
 use Rattle.dover_model.specs.Common.{Take, Complete, Abandon, End, Role, Coming, Fresh, Waiting, Held, Running, Done}
@@ -11,7 +12,7 @@ use Rattle.dover_model.specs.Common.{event_of, printed_of, printed, waits_for_ma
 use Rattle.dover_model.specs.Common.{settled_state, AreOverFor, open_at, IsBarrier, IsOpenPath, end_tick, before_end}
 use Rattle.dover_model.specs.Common.{IsMember, Each, IsSound, Keeps, Item, Session, instance_of, FinishItem, early_at}
 use Rattle.dover_model.specs.Common.{finish_at, may_finish_early}
-use Rattle.dover_model.proofs.lists.Members.{found, on_map}
+use Rattle.dover_model.proofs.lists.Members.{all_append, found, on_map}
 use Rattle.dover_model.proofs.steps.Roles.{passes, one_number, is_running_role}
 use Rattle.dover_model.proofs.steps.Moves.{says}
 use Rattle.dover_model.proofs.steps.OneChange.{on_changed}
@@ -56,12 +57,7 @@ module _ (finishes : List Finish) (s : State) (sound : IsSound s) (ready : IsRea
   -- a displaced job doesn't run
   displaced_stands : (role : Role) → displaced role ≡ Running → ⊥
   displaced_stands Coming e = cc
-  displaced_stands Fresh e = cc
-  displaced_stands Waiting e = cc
-  displaced_stands Held e = cc
-  displaced_stands Running e = cc
-  displaced_stands Done e = cc
-  displaced_stands Gone e = cc
+  displaced_stands _ e = cc
 
   -- after each deed but a tick
   deed_goes : (k : Fraction) (m : Move) → Deed k s Ticks m → Decides finishes s m → (m ≡ Ticks → ⊥)
@@ -128,15 +124,8 @@ completed_now : (k : Fraction) (s : State) (at n : ℕ) (m : Move) → Deed k s 
 completed_now k s at n m (Completed r member runs) e =
     let same : Prints (Complete s.clock r.number) ≡ Prints (Complete at n) = e in
     record { job = r; member = member; runs = runs; clock = cc; number = cc }
-completed_now k s at n m (Resumed p member held none least why) e = absurd (cc)
-completed_now k s at n m (Started o member waiting none first fits next) e = absurd (cc)
-completed_now k s at n m (Began f member fresh none free) e = absurd (cc)
-completed_now k s at n m (Preempted r f member runs some f_member fresh before fits) e = absurd (cc)
-completed_now k s at n m (Stayed r f member runs some f_member fresh why) e = absurd (cc)
-completed_now k s at n m (Arrived c member comes now first stale busy free) e = absurd (cc)
-completed_now k s at n m (Taken r x member runs some x_member waiting now stale heavy) e = absurd (cc)
-completed_now k s at n m (Abandoned r x member runs some x_member waiting now stale light) e = absurd (cc)
 completed_now k s at n m (Rested quiet) e = absurd (let f : Ticks ≡ Prints (Complete at n) = e in cc)
+completed_now k s at n m _ e = absurd (cc)
 
 -- ---- the first step of its clock
 
@@ -154,16 +143,11 @@ early_path : (rules : Rules) (mark at : ℕ) (xs : List Step) (s t : State) → 
 early_path rules mark at [] s t here early = here
 early_path rules mark at (x ∷ xs) s t path early = (
   path.0,
-  before_clock (waits_for_mark (open_step rules s)) (nat_le at s.clock) refl,
+  and_right (waits_for_mark (open_step rules s)) (nat_le at s.clock) (lt-leb at s.clock low),
   early_path rules mark at xs (after s (open_step rules s)) t path.2 (λ y m. early y (inr m)),
 ) where
   low : s.clock < at
   low = subst (λ (y : Step). y.before.clock < at) path.0 (early x (inl refl))
-
-  before_clock : (a b : Bool) → nat_le at s.clock ≡ b → (a && b) ≡ false
-  before_clock false b e = refl
-  before_clock true false e = refl
-  before_clock true true e = absurd (let high : at ≤ s.clock = leb-true _ _ e in omega (arith, low))
 
 module _ (J : Instance) (valid : IsValid J) (mark : ℕ) where
   -- on a path to a completion all steps are taken at earlier clocks
@@ -342,37 +326,25 @@ settled_names_none S mark valid = from [] (settled_steps (instance_of S) mark) r
   of_event : (front : List Step) (x : Step) (back : List Step)
       → settled_steps (instance_of S) mark ≡ front ++ (x ∷ back) → (e : Event) → x.move ≡ Prints e
       → finish_in S e ≡ None
-  of_event front x back whole (Release n j) is = refl
-  of_event front x back whole (Run at n) is = refl
-  of_event front x back whole (Preempt at stops starts) is = refl
-  of_event front x back whole (Take at stops starts) is = refl
   of_event front x back whole (Complete at n) is = over_names_none S at n
       (over_then (instance_of S) valid mark at n front back x whole is)
-  of_event front x back whole (Abandon at n) is = refl
-  of_event front x back whole (End value) is = refl
+  of_event front x back whole _ is = refl
 
   cons_named : (m : Move) (es : List Event) → ((e : Event) → m ≡ Prints e → finish_in S e ≡ None) → NameNone S es
       → NameNone S (cons_option (event_of m) es)
   cons_named (Prints e) es here rest = (here e refl, rest)
-  cons_named (Waits n) es here rest = rest
-  cons_named Ticks es here rest = rest
+  cons_named _ es here rest = rest
 
   from : (front back : List Step) → settled_steps (instance_of S) mark ≡ front ++ back → NameNone S (printed_of back)
   from front [] whole = tt
   from front (x ∷ back) whole = cons_named x.move (printed_of back) (of_event front x back whole)
       (from (front ++ (x ∷ [])) back (whole ∙ sym (append_assoc front (x ∷ []) back)))
 
--- two parts
-pub all_parts : {X : Type 0} (P : X → Type 0) (xs ys : List X) → AllByRecursion P xs → AllByRecursion P ys
-    → AllByRecursion P (xs ++ ys)
-all_parts P [] ys one other = other
-all_parts P (x ∷ xs) ys one other = (one.0, all_parts P xs ys one.1 other)
-
 -- of the run
 pub run_names_none : (S : Session) → IsValid (instance_of S) → NameNone S (printed (instance_of S))
 run_names_none S valid =
     let rest = (rests_where_ended (instance_of S) (end_tick (instance_of S)) valid).1 (omega arith) in
     subst (NameNone S) (sym (end_at_rest (instance_of S) (end_tick (instance_of S)) valid rest))
-    (all_parts (λ e. finish_in S e ≡ None) (before_end (printed (instance_of S))) _
+    (all_append (λ e. finish_in S e ≡ None) (before_end (printed (instance_of S))) _
     (subst (NameNone S) (settled_at_rest (instance_of S) (end_tick (instance_of S)) valid rest)
     (settled_names_none S (end_tick (instance_of S)) valid)) (refl, tt))

@@ -6,20 +6,21 @@ use Rattle.std.specs.Prelude.{Option, Some, None, nat_lt, nat_le, ◌==◌, ◌&
 use Rattle.std.specs.Bool.{then_some}
 use Rattle.std.specs.Option.{option_or}
 use Rattle.std.specs.List.{AllByRecursion, filter, find, list_all, cons_option}
-use Rattle.std.proofs.lemmas.Bool.{eq-eqb, and_parts, lt-ltb, ltb-true, ltb-false, leb-true, le-leb}
+use Rattle.std.proofs.lemmas.Bool.{eq-eqb, and_right, lt-ltb, ltb-true, ltb-false, le-leb, lt-leb}
+use Rattle.std.proofs.lemmas.Bool.{false_from_ne_true}
 use Rattle.std.proofs.lemmas.List.Folds.{find-append}
-use Rattle.dover_model.specs.Common.{JobFacts, Release, Run, Preempt, Take, Complete, Abandon, End, Coming, Fresh}
+use Rattle.dover_model.specs.Common.{JobFacts, Release, Complete, Coming, Fresh}
 use Rattle.dover_model.specs.Common.{Running, Task, Finish, is_finish_of, has_come_to, is_due, goes_on, Instance}
 use Rattle.dover_model.specs.Common.{IsValid, declared_by, having, State, opening, to_come, with_later, is_coming}
-use Rattle.dover_model.specs.Common.{is_running, is_over, running, left, Move, Prints, Waits, Ticks, View, view}
+use Rattle.dover_model.specs.Common.{is_running, is_over, running, left, Move, Prints, Ticks, View, view}
 use Rattle.dover_model.specs.Common.{completion, dispatch, decision, arrival, alarm, ◌or_else◌, ending, due_finish}
 use Rattle.dover_model.specs.Common.{finish_or, declared_step, step, open_step, after, ticked, Step, is_end, step_at}
 use Rattle.dover_model.specs.Common.{open_at, IsBarrier, waits_for_mark, settled_steps, settled_state, finish_now}
 use Rattle.dover_model.specs.Common.{AllComeFrom, is_complete, IsPath, IsOpenPath, NoneBefore, IsMember, Each, Keeps}
-use Rattle.dover_model.specs.Common.{Item, JobItem, RefusedItem, FinishItem, EarlyFinish, Session, instance_of}
+use Rattle.dover_model.specs.Common.{Item, JobItem, FinishItem, EarlyFinish, Session, instance_of}
 use Rattle.dover_model.specs.Common.{session_with, admitted_jobs, early_finishes, finish_of_item, may_finish_early}
 use Rattle.dover_model.specs.Common.{finish_at, early_at, handed_by}
-use Rattle.dover_model.proofs.lists.Members.{found, not_found, some_same, on_map, member_front}
+use Rattle.dover_model.proofs.lists.Members.{all_each, each_cons, found, not_found, some_same, on_map, member_front}
 use Rattle.dover_model.proofs.steps.Roles.{passes, is_running_role}
 use Rattle.dover_model.proofs.steps.Moves.{says}
 use Rattle.dover_model.proofs.steps.Kept.{open_deed, step_kept, open_kept, opening_keeps, come_coming}
@@ -49,16 +50,8 @@ module _ (J : Instance) (valid : IsValid J) where
 
   -- before a step that isn't End some job isn't over
   pub not_all_over : (s : State) → Keeps J s → is_end (step J.rules s) ≡ false → list_all is_over s.tasks ≡ false
-  not_all_over s keeps on = by_test (list_all is_over s.tasks) refl where
-    each_over : (tasks : List Task) → list_all is_over tasks ≡ true → Each (λ t. is_over t ≡ true) tasks
-    each_over [] all t member = absurd member
-    each_over (x ∷ tasks) all t (inl same) = ap is_over same ∙ (and_parts (is_over x) (list_all is_over tasks) all).0
-    each_over (x ∷ tasks) all t (inr member) =
-        each_over tasks (and_parts (is_over x) (list_all is_over tasks) all).1 t member
-
-    by_test : (b : Bool) → list_all is_over s.tasks ≡ b → b ≡ false
-    by_test false e = refl
-    by_test true e = never (sym on ∙ ap is_end (end_step J valid s keeps (each_over s.tasks e)))
+  not_all_over s keeps on = false_from_ne_true (list_all is_over s.tasks)
+      (λ all. never (sym on ∙ ap is_end (end_step J valid s keeps (all_each is_over s.tasks all))))
 
   -- so it is an open one
   pub as_open : (s : State) → Keeps J s → is_end (step J.rules s) ≡ false → step J.rules s ≡ open_step J.rules s
@@ -155,22 +148,15 @@ module _ (J : Instance) (valid : IsValid J) where
               → finish_now r ≡ g.finish
           finish_of r g e = some_same (finish_now r) g.finish (ap finish_of_item e)
     by_move s keeps g (Prints (Release n j)) is e = absurd (let h : Some (JobItem j) ≡ Some (FinishItem g) = e in cc)
-    by_move s keeps g (Prints (Run at n)) is e = none_is_some e
-    by_move s keeps g (Prints (Preempt at stops starts)) is e = none_is_some e
-    by_move s keeps g (Prints (Take at stops starts)) is e = none_is_some e
-    by_move s keeps g (Prints (Abandon at n)) is e = none_is_some e
-    by_move s keeps g (Prints (End value)) is e = none_is_some e
-    by_move s keeps g (Waits n) is e = none_is_some e
-    by_move s keeps g Ticks is e = none_is_some e
+    by_move s keeps g _ is e = none_is_some e
 
     by_item : (i : Item) → IsMember i (items_of xs) → finish_of_item i ≡ Some f → IsMember f J.rules.finishes
-    by_item (JobItem j) there e = none_is_some e
-    by_item (RefusedItem r) there e = none_is_some e
     by_item (FinishItem g) there e =
         let x = given_by handed_by xs (FinishItem g) there in
         subst (λ h. IsMember h J.rules.finishes) (some_same g.finish f e)
         (by_move x.0.before (are x.0 x.1).0 g (step J.rules x.0.before) refl
         (ap handed_by (sym (are x.0 x.1).1) ∙ x.2))
+    by_item _ there e = none_is_some e
 
   -- and each early completion among the steps shows its own
   pub shown_all : (xs : List Step) (s : State) → IsMember (step_at J.rules s) xs → (r : Task) → running s ≡ Some r
@@ -187,12 +173,9 @@ module _ (J : Instance) (valid : IsValid J) where
   path_of [] s t keeps here = ((λ x member. absurd member), subst (Keeps J) (sym here) keeps)
   path_of (x ∷ xs) s t keeps path =
       let rest = path_of xs (after s (step J.rules s)) t (step_kept J valid s keeps J.rules) path.2 in
-      (by_member rest.0, rest.1) where
-        by_member : AreOf xs → AreOf (x ∷ xs)
-        by_member rest y (inr member) = rest y member
-        by_member rest y (inl e) = subst (λ (z : Step). Keeps J z.before × (z ≡ step_at J.rules z.before)) (sym (e
-            ∙ path.0))
-            (keeps, refl)
+      let here : Keeps J x.before × (x ≡ step_at J.rules x.before) =
+      subst (λ (z : Step). Keeps J z.before × (z ≡ step_at J.rules z.before)) (sym path.0) (keeps, refl) in
+      (each_cons (λ (z : Step). Keeps J z.before × (z ≡ step_at J.rules z.before)) x xs here rest.0, rest.1)
 
   -- clocks don't fall on it
   pub path_clock : (xs : List Step) (s t : State) → IsPath J.rules s xs t → s.clock ≤ t.clock
@@ -209,14 +192,10 @@ module _ (J : Instance) (valid : IsValid J) where
       let same : step J.rules s ≡ open_step J.rules s = as_open s keeps path.1 in
       let early : s.clock < mark = (let up : s.clock ≤ t.clock = path_clock (x ∷ xs) s t path in omega arith) in (
         path.0 ∙ ap (λ m. let y : Step = record { before = s; move = m } in y) same,
-        before_mark (waits_for_mark (open_step J.rules s)) (nat_le mark s.clock) early refl,
+        and_right (waits_for_mark (open_step J.rules s)) (nat_le mark s.clock) (lt-leb mark s.clock early),
         subst (λ m. IsOpenPath J.rules mark (after s m) xs t) same
             (path_open mark xs (after s (step J.rules s)) t (step_kept J valid s keeps J.rules) path.2 low),
-      ) where
-        before_mark : (a b : Bool) → s.clock < mark → nat_le mark s.clock ≡ b → (a && b) ≡ false
-        before_mark false b less e = refl
-        before_mark true false less e = refl
-        before_mark true true less e = absurd (let high : mark ≤ s.clock = leb-true _ _ e in omega (arith, less, high))
+      )
 
   -- the jobs that its steps show, and those to come behind it, are those to come before it
   pub path_in : (xs : List Step) (s t : State) → Keeps J s → IsPath J.rules s xs t
@@ -331,12 +310,6 @@ module _ (J : Instance) (valid : IsValid J) where
           clock_low : v.clock < s.clock
           clock_low = subst (λ (x : Step). x.before.clock < s.clock) path_y.0 (low y (inl refl))
 
-          before_mark : (a b : Bool) → nat_le s.clock v.clock ≡ b → (a && b) ≡ false
-          before_mark false b e = refl
-          before_mark true false e = refl
-          before_mark true true e =
-              absurd (let high : s.clock ≤ v.clock = leb-true _ _ e in omega (arith, clock_low, high))
-
           same_finishes : step K.rules w ≡ step J.rules w
           same_finishes = same_here fs own w (λ q q_is q_complete q_some. shown_all front w
               (subst (λ (x : Step). IsMember x front) path_y.0 (members y (inl refl))) q q_is q_complete q_some)
@@ -366,8 +339,8 @@ module _ (J : Instance) (valid : IsValid J) where
                 steps = open_at K.rules v ∷ more.steps;
                 alone = (
                   refl,
-                  before_mark (waits_for_mark (open_step K.rules v))
-                      (nat_le s.clock v.clock) refl,
+                  and_right (waits_for_mark (open_step K.rules v)) (nat_le s.clock v.clock)
+                      (lt-leb s.clock v.clock clock_low),
                   more.alone,
                 );
                 low = (clock_low, more.low);
@@ -412,20 +385,13 @@ module _ (J : Instance) (valid : IsValid J) where
           by_shown x there g same (early_says x.before.clock (running x.before) (FinishItem g) shown)
       by_move x there g same (Prints (Release n j)) e shown =
           absurd (let h : Some (JobItem j) ≡ Some (FinishItem g) = shown in cc)
-      by_move x there g same (Prints (Run at n)) e shown = none_is_some shown
-      by_move x there g same (Prints (Preempt at stops starts)) e shown = none_is_some shown
-      by_move x there g same (Prints (Take at stops starts)) e shown = none_is_some shown
-      by_move x there g same (Prints (Abandon at n)) e shown = none_is_some shown
-      by_move x there g same (Prints (End value)) e shown = none_is_some shown
-      by_move x there g same (Waits n) e shown = none_is_some shown
-      by_move x there g same Ticks e shown = none_is_some shown
+      by_move x there g same _ e shown = none_is_some shown
 
       by_item : (i : Item) → IsMember i items → finish_of_item i ≡ Some (finish_now r) → ⊥
-      by_item (JobItem j) there e = none_is_some e
-      by_item (RefusedItem q) there e = none_is_some e
       by_item (FinishItem g) there e =
           let x = given_by handed_by front (FinishItem g) there in
           by_move x.0 x.1 g (some_same g.finish (finish_now r) e) x.0.move refl x.2
+      by_item _ there e = none_is_some e
 
     -- the job runs there too
     running_here : running alone_here.here ≡ Some r
@@ -461,15 +427,7 @@ module _ (J : Instance) (valid : IsValid J) where
 
       by_ticks : (m : Move) → Deed J.rules.ratio v Ticks m → m ≡ Ticks → Each (λ u. u.role ≡ Fresh → ⊥) v.tasks
       by_ticks m (Rested quiet) e = quiet.stale
-      by_ticks m (Completed r member runs) e = absurd (cc)
-      by_ticks m (Resumed p member held none least why) e = absurd (cc)
-      by_ticks m (Started o member waiting none first fits next) e = absurd (cc)
-      by_ticks m (Began f member fresh none free) e = absurd (cc)
-      by_ticks m (Preempted r f member runs some f_member fresh before fits) e = absurd (cc)
-      by_ticks m (Stayed r f member runs some f_member fresh why) e = absurd (cc)
-      by_ticks m (Arrived c member comes now first stale busy free) e = absurd (cc)
-      by_ticks m (Taken r x member runs some x_member waiting now stale heavy) e = absurd (cc)
-      by_ticks m (Abandoned r x member runs some x_member waiting now stale light) e = absurd (cc)
+      by_ticks m _ e = absurd (cc)
 
       by_clock : ((after v (step J.rules v)).clock ≡ v.clock)
           ⊎ ((step J.rules v ≡ Ticks) × ((after v (step J.rules v)).clock ≡ v.clock + 1))
@@ -548,11 +506,8 @@ module _ (J : Instance) (valid : IsValid J) where
           runs = is_running_role r r_there.1
 
           not_due : is_due fs r ≡ false
-          not_due = by_due (is_due fs r) refl where
-            by_due : (b : Bool) → is_due fs r ≡ b → b ≡ false
-            by_due false e = refl
-            by_due true e = let f = due_member fs r e in
-                absurd (shown_before (subst (λ g. IsMember g fs) (come_to_now r f.0 f.2) f.1))
+          not_due = false_from_ne_true (is_due fs r) (λ due. let f = due_member fs r due in
+              shown_before (subst (λ g. IsMember g fs) (come_to_now r f.0 f.2) f.1))
 
           by_deed : (m : Move) → Deed K.rules.ratio h Ticks m → open_step K.rules h ≡ m → waits_for_mark m ≡ true
           by_deed m (Completed q member q_runs) e = never (sym ((open_decides h alone_here.kept.sound K.rules).ends

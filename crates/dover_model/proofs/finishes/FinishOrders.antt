@@ -3,6 +3,7 @@ use Rattle.std.proofs.Common.{◌≡◌, ℕ, zero, suc, ◌+◌, ◌*◌, inl, 
 use Rattle.std.proofs.Common.{Bool, true, false, cond, Option, Some, None, nat_le, nat_lt, ◌&&◌, ◌||◌, MatchBool, find}
 use Rattle.std.proofs.Common.{option_and_then}
 use Rattle.std.specs.List.{list_any, list_all}
+use Rattle.std.proofs.lemmas.Bool.{or_left, or_right}
 use Rattle.dover_model.specs.Common.{Event, Task, Finish, is_finish_of, has_come_to, is_due, AreDueAlike, Rules}
 use Rattle.dover_model.specs.Common.{Instance, having, finishing, State, opening, running, Move, due_finish, step}
 use Rattle.dover_model.specs.Common.{open_step, declared_step, declared_open_step, after, Step, is_end, run, enough}
@@ -32,11 +33,8 @@ module _ {X : Type 0} (p : X → Bool) where
   -- where one passes, some do
   any_at : (xs : List X) (x : X) → IsMember x xs → p x ≡ true → list_any p xs ≡ true
   any_at [] x member passes = absurd member
-  any_at (y ∷ xs) x (inl e) passes = ap (λ z. p z || list_any p xs) (sym e) ∙ ap (λ b. b || list_any p xs) passes
-  any_at (y ∷ xs) x (inr member) passes = by_test (p y) (any_at xs x member passes) where
-    by_test : (b : Bool) → list_any p xs ≡ true → (b || list_any p xs) ≡ true
-    by_test true some = refl
-    by_test false some = some
+  any_at (y ∷ xs) x (inl e) passes = or_left (p y) (list_any p xs) (subst (λ z. p z ≡ true) e passes)
+  any_at (y ∷ xs) x (inr member) passes = or_right (p y) (list_any p xs) (any_at xs x member passes)
 
   -- so they pass alike
   any_alike : (xs ys : List X) → HaveTheSame xs ys → list_any p xs ≡ list_any p ys

@@ -1,7 +1,8 @@
 -- Further finishes, which the running job hasn't come to yet, leave what is settled.
 use Rattle.std.proofs.Common.{◌≡◌, ℕ, ◌+◌, ◌≤◌, ◌<◌, ◌⊎◌, inl, inr, List, [], ◌∷◌, ◌++◌, map, refl, sym, ap, ◌∙◌, subst}
-use Rattle.std.proofs.Common.{Bool, true, false, cond, arith, append_assoc, Option, Some, None, nat_le, nat_lt, ◌==◌}
+use Rattle.std.proofs.Common.{true, false, cond, arith, append_assoc, Option, Some, None, nat_le, nat_lt, ◌==◌}
 use Rattle.std.proofs.Common.{◌&&◌, eq-eqb, lt-ltb}
+use Rattle.std.proofs.lemmas.Bool.{and_from}
 use Rattle.std.specs.List.{cons_option}
 use Rattle.std.proofs.lemmas.List.Folds.{find-append}
 use Rattle.std.specs.Option.{option_or}
@@ -305,13 +306,9 @@ module _ (J : Instance) (valid : IsValid J) (mark : ℕ) (r : Task) (at : RunsAt
         (member_behind J.rules.finishes (finish_now r ∷ []) (finish_now r) (inl refl)))
         ∙ ap (λ o. is_finish_of o (finish_now r)) running_r ∙ comes) where
           comes : has_come_to r (finish_now r) ≡ true
-          comes = all_three (r.number == r.number) (r.had == r.had) (nat_lt 0 r.had) (eq-eqb r.number r.number refl)
-              (eq-eqb r.had r.had refl) (lt-ltb 0 r.had (omega (arith, had_some))) where
-                all_three : (a b c : Bool) → a ≡ true → b ≡ true → c ≡ true → ((a && b) && c) ≡ true
-                all_three true true true ea eb ec = refl
-                all_three false b c ea eb ec = never ea
-                all_three true false c ea eb ec = never eb
-                all_three true true false ea eb ec = never ec
+          comes = and_from ((r.number == r.number) && (r.had == r.had)) (nat_lt 0 r.had)
+              (and_from (r.number == r.number) (r.had == r.had) (eq-eqb r.number r.number refl)
+              (eq-eqb r.had r.had refl)) (lt-ltb 0 r.had (omega (arith, had_some)))
 
   -- so with the finish the completion is printed right behind what is settled
   pub printed_at_mark : HasPrinted (with_finishes J (finish_now r ∷ [])) mark

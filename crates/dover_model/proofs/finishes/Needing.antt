@@ -27,17 +27,17 @@ needing finishes (n, j) =
 
 -- ---- needs
 
+-- a number that is taken only where it is lower makes no more
+no_more : (a b : Bool) (m n most : ℕ) → nat_le m n ≡ b → n ≤ most → cond (a && b) m n ≤ most
+no_more true true m n most e low = let less : m ≤ n = leb-true _ _ e in omega arith
+no_more true false m n most e low = low
+no_more false b m n most e low = low
+
 -- a job needs no more than its work
 pub need_most : (finishes : List Finish) (n work : ℕ) → need finishes n work ≤ work
 need_most [] n work = omega arith
 need_most (f ∷ finishes) n work =
-    by_test ((f.number == n) && nat_lt 0 f.had) (nat_le f.had (need finishes n work)) refl
-    (need_most finishes n work) where
-      by_test : (a b : Bool) → nat_le f.had (need finishes n work) ≡ b → need finishes n work ≤ work
-          → cond (a && b) f.had (need finishes n work) ≤ work
-      by_test true true e low = let less : f.had ≤ need finishes n work = leb-true _ _ e in omega arith
-      by_test true false e low = low
-      by_test false b e low = low
+    no_more ((f.number == n) && nat_lt 0 f.had) _ _ _ _ refl (need_most finishes n work)
 
 -- a job that has come to a finish needs no more than it had
 pub need_had : (finishes : List Finish) (t : Task) (work : ℕ) → is_due finishes t ≡ true
@@ -57,20 +57,8 @@ need_had (f ∷ finishes) t work due =
       by_tests true true true false e eb ec ed ee h more =
           let same : f.had ≡ t.had = eqb-true _ _ eb in
           never (sym (sym ec ∙ ap (nat_lt 0) (sym same) ∙ ed))
-      by_tests true true false d e eb ec ed ee h more = least true d e ee (more h) where
-        least : (a d e : Bool) → nat_le f.had (need finishes t.number work) ≡ e → need finishes t.number work ≤ t.had
-            → cond ((a && d) && e) f.had (need finishes t.number work) ≤ t.had
-        least true true true ee low = let less : f.had ≤ need finishes t.number work = leb-true _ _ ee in omega arith
-        least true true false ee low = low
-        least true false e ee low = low
-        least false d e ee low = low
-      by_tests true false c d e eb ec ed ee h more = least true d e ee (more h) where
-        least : (a d e : Bool) → nat_le f.had (need finishes t.number work) ≡ e → need finishes t.number work ≤ t.had
-            → cond ((a && d) && e) f.had (need finishes t.number work) ≤ t.had
-        least true true true ee low = let less : f.had ≤ need finishes t.number work = leb-true _ _ ee in omega arith
-        least true true false ee low = low
-        least true false e ee low = low
-        least false d e ee low = low
+      by_tests true true false d e eb ec ed ee h more = no_more d e _ _ _ ee (more h)
+      by_tests true false c d e eb ec ed ee h more = no_more d e _ _ _ ee (more h)
       by_tests false b c d e eb ec ed ee h more = more h
 
 -- one that has come to none, and has had no more than it needs and less than its work, needs more
@@ -121,28 +109,19 @@ module _ (finishes : List Finish) (t : Task) where
 
   -- where it is displaced
   displaced_served : (role : Role) → Served finishes (with_role t role) → Served finishes (with_role t (displaced role))
-  displaced_served Coming it = it
-  displaced_served Fresh it = it
-  displaced_served Waiting it = it
   displaced_served Held it = record { low = it.low; done = λ e. absurd (cc); gone = λ e. absurd (cc) }
   displaced_served Running it = record { low = it.low; done = λ e. absurd (cc); gone = λ e. absurd (cc) }
-  displaced_served Done it = it
-  displaced_served Gone it = it
+  displaced_served _ it = it
 
   -- after a silent tick
   tick_served : (role : Role) → (role ≡ Running → t.had < need finishes t.number t.job.work)
       → Served finishes (with_role t role) → Served finishes (ticked (with_role t role))
-  tick_served Coming more it = it
-  tick_served Fresh more it = it
-  tick_served Waiting more it = it
-  tick_served Held more it = it
   tick_served Running more it = record {
     low = let less : t.had < need finishes t.number t.job.work = more refl in omega arith;
     done = λ e. absurd (cc);
     gone = λ e. absurd (cc);
   }
-  tick_served Done more it = it
-  tick_served Gone more it = it
+  tick_served _ more it = it
 
 module _ (finishes : List Finish) (s : State) (sound : IsSound s) (ready : IsReady finishes s)
     (served : AllServed finishes s) where

@@ -1,7 +1,7 @@
 -- Where each finish is of a job that is over, none is due, and the weights are those without finishes.
 use Rattle.std.proofs.Common.{◌≡◌, ℕ, List, [], ◌∷◌, inl, inr, refl, sym, ◌∙◌, Bool, true, false, cond, eqb}
 use Rattle.std.specs.Prelude.{◌==◌, ◌&&◌, ◌||◌, nat_lt}
-use Rattle.std.proofs.lemmas.Bool.{eqb-true, and_parts}
+use Rattle.std.proofs.lemmas.Bool.{eqb-true, and_parts, false_from_ne_true}
 use Rattle.dover_model.specs.Common.{Fraction, Rules, Instance, IsValid, Finish, has_come_to, is_due, Role, Coming}
 use Rattle.dover_model.specs.Common.{Fresh, Waiting, Held, Running, Done, Gone, Task, State, is_ready_behind, is_over}
 use Rattle.dover_model.specs.Common.{Move, Ticks, after, with_role, displaced, ticked, open_step, AreOverFor, IsMember}
@@ -29,24 +29,17 @@ due_member (f ∷ finishes) t due = by_test (has_come_to t f) refl due (due_memb
 module _ (finishes : List Finish) (s : State) (over : AreOverFor finishes s) where
   -- a job that isn't over has come to none
   pub over_not_due : (t : Task) → IsMember t s.tasks → is_over t ≡ false → is_due finishes t ≡ false
-  over_not_due t member out = by_test (is_due finishes t) refl where
-    by_test : (b : Bool) → is_due finishes t ≡ b → b ≡ false
-    by_test false e = refl
-    by_test true e = let it = due_member finishes t e in
-        never (sym out ∙ over it.0 it.1 t member (sym (eqb-true _ _ (and_parts (it.0.number == t.number)
-        (it.0.had == t.had) (and_parts ((it.0.number == t.number) && (it.0.had == t.had)) (nat_lt 0 t.had) it.2).0).0)))
+  over_not_due t member out = false_from_ne_true (is_due finishes t) (λ due. let it = due_member finishes t due in
+      never (sym out ∙ over it.0 it.1 t member (sym (eqb-true _ _ (and_parts (it.0.number == t.number)
+      (it.0.had == t.had) (and_parts ((it.0.number == t.number) && (it.0.had == t.had)) (nat_lt 0 t.had) it.2).0).0))))
 
   -- so none behind has
   pub over_ready : IsReady finishes s
   over_ready t member behind = over_not_due t member (out t.role behind) where
     out : (role : Role) → is_ready_behind (with_role t role) ≡ true → is_over (with_role t role) ≡ false
-    out Coming e = refl
-    out Fresh e = refl
-    out Waiting e = refl
-    out Held e = refl
-    out Running e = refl
     out Done e = never e
     out Gone e = never e
+    out _ e = refl
 
 -- ---- they stay over
 
@@ -69,13 +62,9 @@ module _ (n : ℕ) (s : State) (sound : IsSound s) (over : Each (λ t. t.number 
   -- after a displacement
   displaced_over : (t : Task) (role : Role) → is_over (with_role t role) ≡ true
       → is_over (with_role t (displaced role)) ≡ true
-  displaced_over t Coming e = e
-  displaced_over t Fresh e = e
-  displaced_over t Waiting e = e
   displaced_over t Held e = never e
   displaced_over t Running e = never e
-  displaced_over t Done e = e
-  displaced_over t Gone e = e
+  displaced_over t _ e = e
 
   -- after each deed
   deed_over : (k : Fraction) (m : Move) → Deed k s Ticks m → Each Over (after s m).tasks

@@ -6,7 +6,7 @@ use Rattle.std.specs.List.{cons_option}
 use Rattle.std.proofs.lemmas.List.Sums.{fold-append}
 use Rattle.dover_model.specs.Common.{Fraction, Rules, Instance, IsValid, Event, Release, Run, Preempt, Take, Complete}
 use Rattle.dover_model.specs.Common.{Abandon, End, Role, Coming, Fresh, Waiting, Held, Running, Done, Gone, Task, State}
-use Rattle.dover_model.specs.Common.{opening, running, is_running, is_over, Move, Prints, Waits, Ticks, open_step}
+use Rattle.dover_model.specs.Common.{opening, running, is_running, is_over, Move, Prints, Ticks, open_step}
 use Rattle.dover_model.specs.Common.{after, with_role, ticked, role_after, displaced, Step, event_of, printed}
 use Rattle.dover_model.specs.Common.{printed_of, completed_value, settled, settled_steps, settled_state, last_of}
 use Rattle.dover_model.specs.Common.{finish_now, EarlyFinish, finish_at, IsOpenPath, runner_of, Turn, TurnsEnd}
@@ -119,8 +119,7 @@ module _ (k : Fraction) (s : State) (sound : IsSound s) where
 runner_on : (o : Option ℕ) (m : Move) (events : List Event)
     → fold runner_after o (cons_option (event_of m) events) ≡ fold runner_after (runner_moved o m) events
 runner_on o (Prints e) events = refl
-runner_on o (Waits n) events = refl
-runner_on o Ticks events = refl
+runner_on o _ events = refl
 
 module _ (J : Instance) (valid : IsValid J) (mark : ℕ) where
   -- along a path

@@ -1,8 +1,10 @@
 -- Only the running job comes to a finish, and a step says whether it has.
 use Rattle.std.proofs.Common.{◌≡◌, ◌≤◌, ◌⊎◌, List, [], ◌∷◌, inl, inr, refl, sym, ap, ◌∙◌, subst, Bool, true, false}
-use Rattle.std.proofs.Common.{cond, arith, eqb, not, Option, Some, None, ◌==◌, ◌&&◌, ◌||◌, nat_lt, find, filter}
+use Rattle.std.proofs.Common.{cond, arith, eqb, not, Option, Some, None, ◌==◌, ◌&&◌, nat_lt, find, filter}
 use Rattle.std.proofs.Common.{eqb-true, lt-ltb}
 use Rattle.std.specs.Bool.{then_some}
+use Rattle.dover_model.specs.Common.{has_come_to}
+use Rattle.std.proofs.lemmas.Bool.{and_right, or_from, not_from_true}
 use Rattle.std.specs.List.{list_all}
 use Rattle.dover_model.specs.Common.{JobFacts, Fraction, Rules, Instance, IsValid, Finish, is_finish_of, is_due}
 use Rattle.dover_model.specs.Common.{goes_on, Role, Coming, Fresh, Waiting, Held, Running, Done, Gone, End, Task, State}
@@ -15,8 +17,7 @@ use Rattle.dover_model.proofs.steps.Roles.{is_running_role, passes, one_number}
 use Rattle.dover_model.proofs.steps.Moves.{says}
 use Rattle.dover_model.proofs.steps.Ticking.{Quiet}
 use Rattle.dover_model.proofs.steps.OneChange.{state_with, on_changed}
-use Rattle.dover_model.proofs.steps.Cases.{Case, Completes, Resumes, Starts, Begins, Preempts, Stays, Arrives, Takes}
-use Rattle.dover_model.proofs.steps.Cases.{Abandons, Rests, step_case}
+use Rattle.dover_model.proofs.steps.Cases.{Case, Completes, Rests, step_case}
 use Rattle.dover_model.proofs.steps.Deeds.{Deed, Completed, Resumed, Started, Began, Preempted, Stayed, Arrived, Taken}
 use Rattle.dover_model.proofs.steps.Deeds.{Abandoned, Rested}
 use Rattle.dover_model.proofs.finishes.Finishing.{none_comes, some_comes}
@@ -37,14 +38,9 @@ pub record Decides (finishes : List Finish) (s : State) (m : Move) : Type 0 wher
 -- it has come to no finish
 pub none_due : (finishes : List Finish) (t : Task) → t.had ≡ 0 → is_due finishes t ≡ false
 none_due [] t none = refl
-none_due (f ∷ finishes) t none = by_tests (f.number == t.number) (f.had == t.had) (nat_lt 0 t.had)
-    (ap (nat_lt 0) none) (none_due finishes t none) where
-      by_tests : (a b c : Bool) → c ≡ false → is_due finishes t ≡ false → (((a && b) && c) || is_due finishes t) ≡ false
-      by_tests true true false e rest = rest
-      by_tests true false false e rest = rest
-      by_tests false b c e rest = rest
-      by_tests true true true e rest = never (sym e)
-      by_tests true false true e rest = never (sym e)
+none_due (f ∷ finishes) t none = or_from (has_come_to t f) (is_due finishes t)
+    (and_right ((f.number == t.number) && (f.had == t.had)) (nat_lt 0 t.had) (ap (nat_lt 0) none))
+    (none_due finishes t none)
 
 -- nothing goes on without work, or with a finish
 ended_by_work : (finishes : List Finish) (t : Task) → (left t == 0) ≡ true → goes_on finishes t ≡ false
@@ -52,11 +48,8 @@ ended_by_work finishes t none = let zero : left t ≡ 0 = eqb-true _ _ none in
     ap (λ n. nat_lt 0 n && not (is_due finishes t)) zero
 
 ended_by_finish : (finishes : List Finish) (t : Task) → is_due finishes t ≡ true → goes_on finishes t ≡ false
-ended_by_finish finishes t due = by_test (nat_lt 0 (left t)) (is_due finishes t) due where
-  by_test : (a b : Bool) → b ≡ true → (a && not b) ≡ false
-  by_test true true e = refl
-  by_test false b e = refl
-  by_test true false e = never e
+ended_by_finish finishes t due =
+    and_right (nat_lt 0 (left t)) (not (is_due finishes t)) (not_from_true (is_due finishes t) due)
 
 -- with work and no finish it goes on
 pub going : (finishes : List Finish) (t : Task) → 1 ≤ left t → is_due finishes t ≡ false → goes_on finishes t ≡ true
@@ -96,15 +89,8 @@ module _ (s : State) (sound : IsSound s) where
   declared_ends k v other seen rests m (Completes r some done) e t member runs =
       let same : Some r ≡ Some t = sym some ∙ seen ∙ runner t member runs in
       subst (λ (x : Task). (left x == 0) ≡ true) (some_same r t same) done
-  declared_ends k v other seen rests m (Resumes p none held) e t member runs = never e
-  declared_ends k v other seen rests m (Starts o none no_held waits) e t member runs = never e
-  declared_ends k v other seen rests m (Begins f settles fresh) e t member runs = never e
-  declared_ends k v other seen rests m (Preempts r f settles fresh fits) e t member runs = never e
-  declared_ends k v other seen rests m (Stays r f settles fresh tight) e t member runs = never e
-  declared_ends k v other seen rests m (Arrives ro c settles stale some now) e t member runs = never e
-  declared_ends k v other seen rests m (Takes r x settles stale none late heavy) e t member runs = never e
-  declared_ends k v other seen rests m (Abandons r x settles stale none late light) e t member runs = never e
   declared_ends k v other seen rests m (Rests ro settles stale none quiet) e t member runs = never (sym rests ∙ e)
+  declared_ends k v other seen rests m _ e t member runs = never e
 
   -- what a step decides
   decided : (rules : Rules) (other : Move) → is_complete other ≡ false
@@ -141,24 +127,16 @@ module _ (s : State) (sound : IsSound s) where
 -- a job that is behind after a displacement was behind, or ran
 displaced_behind : (t : Task) (role : Role) → is_ready_behind (with_role t (displaced role)) ≡ true
     → (is_ready_behind (with_role t role) ≡ true) ⊎ (role ≡ Running)
-displaced_behind t Coming e = inl e
-displaced_behind t Fresh e = inl e
-displaced_behind t Waiting e = inl e
 displaced_behind t Held e = inl refl
 displaced_behind t Running e = inr refl
-displaced_behind t Done e = inl e
-displaced_behind t Gone e = inl e
+displaced_behind t _ e = inl e
 
 -- a job behind has no tick more
 ticked_behind : (t : Task) (role : Role) → is_ready_behind (with_role t role) ≡ true
     → ticked (with_role t role) ≡ with_role t role
-ticked_behind t Coming e = never e
-ticked_behind t Fresh e = never e
 ticked_behind t Waiting e = refl
 ticked_behind t Held e = refl
-ticked_behind t Running e = never e
-ticked_behind t Done e = never e
-ticked_behind t Gone e = never e
+ticked_behind t _ e = never e
 
 module _ (finishes : List Finish) (s : State) (sound : IsSound s) (ready : IsReady finishes s) where
   -- what is asked of each job

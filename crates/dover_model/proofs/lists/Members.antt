@@ -3,6 +3,7 @@ use Rattle.std.proofs.Common.{◌≡◌, ℕ, zero, suc, ◌+◌, ◌≤◌, ◌
 use Rattle.std.proofs.Common.{subst, Bool, true, false, cond, arith}
 use Rattle.std.specs.Prelude.{Some, None, Result, Ok, Err, OnErr, ◌&&◌, replicate}
 use Rattle.std.specs.List.{sum_by, filter, find, fold, reduce, list_all, AllByRecursion}
+use Rattle.std.proofs.lemmas.Bool.{and_parts}
 use Rattle.std.proofs.lemmas.List.Sums.{sum_by-cons}
 use Rattle.dover_model.specs.Sound.{IsMember, Each}
 use Rattle.dover_model.proofs.lists.Tests.{never}
@@ -149,13 +150,9 @@ module _ {X : Type 0} where
 
   -- where all pass, each does
   pub all_each : (p : X → Bool) (xs : List X) → list_all p xs ≡ true → Each (λ x. p x ≡ true) xs
-  all_each p [] all y member = absurd member
-  all_each p (x ∷ xs) all y member = by_test (p x) refl all (all_each p xs) y member where
-    by_test : (b : Bool) → p x ≡ b → (b && list_all p xs) ≡ true → (list_all p xs ≡ true → Each (λ y. p y ≡ true) xs)
-        → Each (λ y. p y ≡ true) (x ∷ xs)
-    by_test true passes rest more y (inl e) = subst (λ z. p z ≡ true) (sym e) passes
-    by_test true passes rest more y (inr member) = more rest y member
-    by_test false fails rest more y member = never rest
+  all_each p [] all = λ y member. absurd member
+  all_each p (x ∷ xs) all = let it = and_parts (p x) (list_all p xs) all in
+      each_cons (λ y. p y ≡ true) x xs it.0 (all_each p xs it.1)
 
   -- where not all pass, one fails
   pub not_all : (p : X → Bool) (xs : List X) → list_all p xs ≡ false → (x : X) × IsMember x xs × (p x ≡ false)
@@ -315,21 +312,15 @@ find_none p [] none = refl
 find_none p (x ∷ xs) none = by_test (p x) none (find_none p xs) where
   by_test : (b : Bool) → cond b (x ∷ filter p xs) (filter p xs) ≡ [] → (filter p xs ≡ [] → find p xs ≡ None)
       → cond b (Some x) (find p xs) ≡ None
-  by_test true none rest = absurd (cons_none none) where
-    cons_none : x ∷ filter p xs ≡ [] → ⊥
-    cons_none e = cc
+  by_test true none rest = absurd (let e : x ∷ filter p xs ≡ [] = none in cc)
   by_test false none rest = rest none
 
 -- the first that passes is found
 pub find_head : {X : Type 0} (p : X → Bool) (xs : List X) (y : X) (ys : List X) → filter p xs ≡ y ∷ ys
     → find p xs ≡ Some y
-find_head p [] y ys is = absurd (none_cons is) where
-  none_cons : [] ≡ y ∷ ys → ⊥
-  none_cons e = cc
+find_head p [] y ys is = absurd (let e : [] ≡ y ∷ ys = is in cc)
 find_head p (x ∷ xs) y ys is = by_test (p x) is (find_head p xs y ys) where
   by_test : (b : Bool) → cond b (x ∷ filter p xs) (filter p xs) ≡ y ∷ ys → (filter p xs ≡ y ∷ ys → find p xs ≡ Some y)
       → cond b (Some x) (find p xs) ≡ Some y
-  by_test true is rest = ap Some (same_head is) where
-    same_head : x ∷ filter p xs ≡ y ∷ ys → x ≡ y
-    same_head e = cc
+  by_test true is rest = ap Some (heads x y (filter p xs) ys is)
   by_test false is rest = rest is
