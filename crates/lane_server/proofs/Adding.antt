@@ -41,8 +41,7 @@ pub open_stands : (a : Account) → is_open a ≡ true → a.standing ≡ Open
 open_stands a opened = by_standing a.standing opened where
   by_standing : (s : Standing) → elim s [ Open ↦ true | Ended ↦ false | Faulty line cause ↦ false ] ≡ true → s ≡ Open
   by_standing Open e = refl
-  by_standing Ended e = absurd (let f : false ≡ true = e in cc)
-  by_standing (Faulty line cause) e = absurd (let f : false ≡ true = e in cc)
+  by_standing _ e = absurd (let f : false ≡ true = e in cc)
 
 -- whether it goes on, by how it stands
 pub opens_by : (a : Account) (s : Standing) → a.standing ≡ s

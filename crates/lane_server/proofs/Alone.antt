@@ -57,25 +57,20 @@ line_plain bytes none = by_tests (is_too_long bytes) (bytes_eq bytes (codes "clo
   by_number rest (Some number) feedless = by_lane rest number (nat_lt number lane_count) refl feedless
 
   by_fields : (fields : List (List ℕ)) → line_of fields ≡ bytes → IsPlainLine (numbered_line fields)
-  by_fields [] joined = tt
-  by_fields (first ∷ []) joined = tt
   by_fields (first ∷ field ∷ fields) joined = by_number (line_of (field ∷ fields)) (numeral first)
       (feedless_behind first (32 ∷ line_of (field ∷ fields)) (subst HasNoFeed (sym joined) none))
+  by_fields _ joined = tt
 
   by_tests : (b c : Bool) → IsPlainLine (cond b None (cond c (Some Close) (numbered_line (fields_of bytes))))
-  by_tests true c = tt
-  by_tests false true = tt
   by_tests false false = by_fields (fields_of bytes) (line_of-fields_of bytes)
+  by_tests _ _ = tt
 
 -- one line more
 next_plain : (a : Input) (on many : Bool) (o : Option LaneLine) → AllByRecursion IsPlain a.handed → IsPlainLine o
     → AllByRecursion IsPlain (read_after a on many o).handed
-next_plain a false many o all plain = all
-next_plain a true true o all plain = all
-next_plain a true false None all plain = all
-next_plain a true false (Some Close) all plain = all
 next_plain a true false (Some (OfLane lane line)) all plain =
     all_append IsPlain a.handed (record { lane = lane; line = line } ∷ []) all (plain, tt)
+next_plain a _ _ _ all plain = all
 
 -- all lines
 lines_plain : (ls : List (List ℕ)) (a : Input) → AllByRecursion IsPlain a.handed → AllByRecursion HasNoFeed ls

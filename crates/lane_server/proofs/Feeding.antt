@@ -28,8 +28,7 @@ ended_over a ended = by a.standing ended where
   by : (s : Standing) → elim s [ Open ↦ false | Ended ↦ true | Faulty line cause ↦ false ] ≡ true
       → elim s [ Open ↦ true | Ended ↦ false | Faulty line cause ↦ false ] ≡ false
   by Open is = absurd (let e : false ≡ true = is in cc)
-  by Ended is = refl
-  by (Faulty line cause) is = refl
+  by _ is = refl
 
 -- a line adds to what was due
 pub due_added : (ls : List (List ℕ)) (l : List ℕ)

@@ -84,14 +84,12 @@ pub owes_few : (work : Work) (server : Option RosterServer) (a : Account)
     (rest : List (List ℕ)) → Owes work server a rest → length rest ≤ 20_000_000_002
 owes_few Nothing server a rest owes = omega (arith, ap length owes.0)
 owes_few (Give out) server a rest owes = omega (arith, ap length owes.0)
-owes_few (Run to) None a rest owes = absurd owes
 owes_few (Run to) (Some v) a rest owes = omega (
   arith,
   ap length owes.texts,
   length-map owes.left text_of,
   left_few (instance_of owes.session) to owes.events owes.left owes.valid owes.due,
 )
-owes_few (Admit job) None a rest owes = absurd owes
 owes_few (Admit job) (Some v) a rest owes = omega (
   arith,
   ap length owes.texts,
@@ -99,7 +97,6 @@ owes_few (Admit job) (Some v) a rest owes = omega (
   length-map owes.left text_of,
   job_few owes.session job owes.events owes.left owes.valid owes.due,
 )
-owes_few (Finish at number) None a rest owes = absurd owes
 owes_few (Finish at number) (Some v) a rest owes = omega (
   arith,
   ap length owes.texts,
@@ -107,6 +104,7 @@ owes_few (Finish at number) (Some v) a rest owes = omega (
   length-map owes.left text_of,
   done_few owes.session at number owes.events owes.left owes.valid owes.due,
 )
+owes_few _ None a rest owes = absurd owes
 
 -- a feed is short once at most
 short_few : (ls : List (List ℕ)) → length (feed_short ls) ≤ 1

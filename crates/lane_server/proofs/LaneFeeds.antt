@@ -56,15 +56,13 @@ closed_ended (b ∷ F) ended =
           → elim s [ feeds.Open ↦ false | feeds.Ended ↦ true | feeds.Faulty line cause ↦ false ] ≡ true
           → cond (elim s [ feeds.Open ↦ true | feeds.Ended ↦ false | feeds.Faulty line cause ↦ false ])
           (fault_text (suc whole) Short ∷ []) [] ≡ []
-      no_short whole feeds.Open ended = never ended
       no_short whole feeds.Ended ended = refl
-      no_short whole (feeds.Faulty line cause) ended = never ended
+      no_short whole _ ended = never ended
 
 -- what stands on the output for a lane whose feed has ended is due for that feed
 pub served_ended : (a : Input) (lane : ℕ) → is_ended (account (lane_feed a lane)) ≡ true
     → served_alone a lane ≡ due (lane_feed a lane)
 served_ended a lane ended = by_standing a.standing where
   by_standing : (s : InputStanding) → served_alone (record a { standing = s }) lane ≡ due (lane_feed a lane)
-  by_standing Open = refl
   by_standing Closed = closed_ended (lane_feed a lane) ended
-  by_standing (Faulty line fault) = refl
+  by_standing _ = refl

@@ -29,7 +29,7 @@ use Rattle.event_feed.specs.declared.fed.Fed.{Fed}
 use Rattle.event_feed.specs.declared.fed.Fed.TheVariants as fed
 use Rattle.lane_server.specs.Lane.{Fits, Running, Admitting, IntakeStands, TurnsTo, job_lines}
 use Rattle.lane_server.specs.declared.lane.Work.{Work}
-use Rattle.lane_server.specs.declared.lane.Work.TheVariants.{Nothing, Give, Run, Admit, Finish}
+use Rattle.lane_server.specs.declared.lane.Work.TheVariants.{Admit}
 use Rattle.lane_server.proofs.Adding.{holds_of, due_open, reach_open, open_serves, drop_front}
 use Rattle.lane_server.proofs.Owing.{first_left, none_left, fits_at}
 use Rattle.lane_server.proofs.Printing.{due_before, event_short}
@@ -275,11 +275,8 @@ job_room S j i mark valid keeps =
 -- with no job under way, it stands for the lines
 no_job : (w : Work) (i : feed.Kept) (ls : List (List ℕ)) → ((job : JobFacts) → w ≡ Admit job → ⊥)
     → feed.StandsFor i ls → IntakeStands w i ls
-no_job Nothing i ls none stands = stands
-no_job (Give out) i ls none stands = stands
-no_job (Run to) i ls none stands = stands
 no_job (Admit job) i ls none stands = absurd (none job refl)
-no_job (Finish at number) i ls none stands = stands
+no_job _ i ls none stands = stands
 
 -- the intake stands as the work wants
 pub intake_turns : (said : Fed) (w : Work) (i : feed.Kept) (ls : List (List ℕ)) (line : List ℕ)
@@ -291,13 +288,5 @@ intake_turns (fed.Job n j) w i ls line it turns stands =
     (sym (ap (λ (x : Account). x.session) it.after_is) ∙ there) in
     subst (λ o. feed.KeepsAccount i (record (account_of_lines (ls ++ line ∷ [])) { session = o }))
     (it.before_is ∙ ap (λ T. Some T) same) stands)
-intake_turns (fed.Ratio k version) w i ls line it turns stands =
-    no_job w i (ls ++ line ∷ []) turns (record { by_account = stands })
-intake_turns (fed.Tick tick) w i ls line it turns stands =
-    no_job w i (ls ++ line ∷ []) turns (record { by_account = stands })
-intake_turns fed.Over w i ls line it turns stands =
-    no_job w i (ls ++ line ∷ []) turns (record { by_account = stands })
-intake_turns (fed.Refused release work deadline value cause) w i ls line it turns stands =
-    no_job w i (ls ++ line ∷ []) turns (record { by_account = stands })
-intake_turns (fed.Done tick number) w i ls line it turns stands =
+intake_turns _ w i ls line it turns stands =
     no_job w i (ls ++ line ∷ []) turns (record { by_account = stands })

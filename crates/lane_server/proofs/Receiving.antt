@@ -71,9 +71,8 @@ module _ (r : Option InputRefusal) (kept : Kept) (ls left : List (List ℕ))
     unclosed = by kept.phase holds_open.left where
       by : (p : Phase) → keeping.Leaves p kept.lanes (input_of_lines ls) left
           → elim p [ Ready ↦ false | Giving lane ↦ false | Closing next ↦ true ] ≡ false
-      by Ready at = refl
-      by (Giving lane) at = refl
       by (Closing next) at = never (sym (ap goes_on_at at.0) ∙ on)
+      by _ at = refl
 
   -- once it doesn't, nothing is left
   holds_over : goes_on (input_of_lines ls) ≡ false → (left ≡ []) × Holds r kept ls []

@@ -21,9 +21,9 @@ use Rattle.dover_model.specs.Common.{fault_text, Begins, IsMember, HaveTheSame}
 use Rattle.dover_model.specs.declared.events.Event.{Event}
 use Rattle.dover_model.specs.declared.events.Event.TheVariants.{Complete}
 use Rattle.dover_model.specs.declared.events.Refusal.{Refusal}
-use Rattle.dover_model.specs.declared.events.Refusal.TheVariants.{BadJob, Count, Total, Ratio, Late, Full}
+use Rattle.dover_model.specs.declared.events.Refusal.TheVariants.{Late, Full}
 use Rattle.dover_model.specs.declared.events.Version.{Version}
-use Rattle.dover_model.specs.declared.events.Version.TheVariants.{One, Two, Three}
+use Rattle.dover_model.specs.declared.events.Version.TheVariants.{Three}
 use Rattle.dover_model.proofs.sessions.Accounts.{account_with, Holds, IsKept, lines_goes}
 use Rattle.dover_model.proofs.finishes.FinishOrders.{same_alike, settled_alike, state_alike, finish_alike, run_alike}
 use Rattle.dover_model.proofs.sessions.Fullness.{admitted_in}
@@ -388,12 +388,8 @@ module _ (S T : Session) (mark lines : ℕ) (holds : Holds S mark lines) (holds_
 
     -- no mark falls, where the release is no earlier
     raises : (refusal : Refusal) → mark ≤ j.release → mark ≤ refused_mark mark j refusal
-    raises BadJob ordered = omega arith
-    raises Count ordered = omega arith
-    raises Total ordered = omega arith
-    raises Ratio ordered = omega arith
-    raises Late ordered = omega arith
     raises Full ordered = ordered
+    raises _ ordered = omega arith
 
     by_refusal : (o : Option Refusal) → mark ≤ j.release → refusal_in S j ≡ o
         → GoAlike a b (with_line counted_a (JobLine j) (option_map NotAdmitted o))
@@ -403,9 +399,8 @@ module _ (S T : Session) (mark lines : ℕ) (holds : Holds S mark lines) (holds_
 
     by_late : (v : Version) → GoAlike a b (with_line counted_a (JobLine j) (Some (late_cause v)))
         (with_line counted_b (JobLine j) (Some (late_cause v)))
-    by_late One = faults_alike Order
-    by_late Two = faults_alike Order
     by_late Three = refusal_alike Late (omega arith)
+    by_late _ = faults_alike Order
 
     by_order : (c : Bool) → nat_lt j.release mark ≡ c
         → GoAlike a b
@@ -461,8 +456,7 @@ module _ (S T : Session) (mark lines : ℕ) (holds : Holds S mark lines) (holds_
             subst (λ x. GoAlike a b (with_line counted_a (DoneLine t n) None) x)
             (sym (good_b (early_at S t n) (early_same t n)))
             (good (early_at S t n) refl (leb-true _ _ ordered) some)
-        by_right true false ordered none = refused_alike (record { at = max mark t; line = RefusedDone t n }) raised
-        by_right false d ordered some = refused_alike (record { at = max mark t; line = RefusedDone t n }) raised
+        by_right _ _ _ _ = refused_alike (record { at = max mark t; line = RefusedDone t n }) raised
 
         by_tick : (c : Bool)
             → GoAlike a b (with_line counted_a (DoneLine t n) (cond c (Some Order)
@@ -490,9 +484,8 @@ module _ (S T : Session) (mark lines : ℕ) (holds : Holds S mark lines) (holds_
     by_tests : (c d : Bool) → nat_lt t mark ≡ c
         → GoAlike a b (with_line counted_a (TickLine t) (cond (c || d) (Some Order) None))
         (with_line counted_b (TickLine t) (cond (c || d) (Some Order) None))
-    by_tests true d falls = faults_alike Order
-    by_tests false true ordered = faults_alike Order
     by_tests false false ordered = ticks_alike t (ltb-false _ _ ordered)
+    by_tests _ _ _ = faults_alike Order
   formed_alike (DoneLine t n) = done_lines_alike t n
   formed_alike EndLine = ends_alike
 
@@ -522,10 +515,9 @@ step_alike : (lines mark : ℕ) (standing : Standing) (s t : Option Session) →
     → GoAlike (account_with lines s mark standing) (account_with lines t mark standing)
     (next_line (account_with lines s mark standing) bytes)
     (next_line (account_with lines t mark standing) bytes)
-step_alike lines mark Open None t same kept other bytes = absurd same
-step_alike lines mark Open (Some S) None same kept other bytes = absurd same
 step_alike lines mark Open (Some S) (Some T) same kept other bytes =
     open_alike S T mark lines kept other same bytes
+step_alike lines mark Open _ _ same kept other bytes = absurd same
 step_alike lines mark Ended s t same kept other bytes =
     stay_alike (account_with lines s mark Ended) (account_with lines t mark Ended) (refl, refl, refl, same)
 step_alike lines mark (Faulty line cause) s t same kept other bytes =

@@ -15,7 +15,7 @@ use Rattle.dover_model.specs.declared.events.Role.{Role}
 use Rattle.dover_model.specs.declared.events.Role.TheVariants.{Done, Running}
 use Rattle.dover_model.specs.declared.events.Task.{Task}
 use Rattle.dover_model.proofs.settled.Barriers.{AtBarrier, settled_at_barrier}
-use Rattle.dover_model.proofs.steps.Deeds.{Deed, Completed, Resumed, Started, Began, Preempted, Stayed, Arrived, Taken}
+use Rattle.dover_model.proofs.steps.Deeds.{Deed, Taken}
 use Rattle.dover_model.proofs.steps.Deeds.{Abandoned, Rested}
 use Rattle.dover_model.proofs.finishes.Further.{next_at_mark, printed_at_mark}
 use Rattle.dover_model.proofs.sessions.Growing.{job_instance, refused_instance, finish_instance, Finishes}
@@ -54,16 +54,10 @@ runner_left J valid mark r member runs =
           (bar.keeps.sound.one_runs q r there member ran runs)) some
 
       by_deed : (m : Move) → Deed J.rules.ratio s Ticks m → waits_for_mark m ≡ true → 1 ≤ left r
-      by_deed m (Completed q there ran) late = never late
-      by_deed m (Resumed p there held none least why) late = never late
-      by_deed m (Started o there waiting none first fits next) late = never late
-      by_deed m (Began f there fresh none free) late = never late
-      by_deed m (Preempted q f there ran some f_there fresh before fits) late = never late
-      by_deed m (Stayed q f there ran some f_there fresh why) late = never late
-      by_deed m (Arrived c there comes now first stale busy free) late = never late
       by_deed m (Taken q x there ran some x_there waiting now stale heavy) late = as_other q there ran some
       by_deed m (Abandoned q x there ran some x_there waiting now stale light) late = as_other q there ran some
       by_deed m (Rested quiet) late = quiet.busy r member runs
+      by_deed m _ late = never late
 
 -- where it may finish, it has had some ticks
 had_some : (J : Instance) → IsValid J → (mark : ℕ) (r : Task) → RunsAtMark J mark r → 0 < r.had

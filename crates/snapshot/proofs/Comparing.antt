@@ -81,12 +81,7 @@ first_letter (b ∷ bs) = b
 -- a role is that of its word's first letter
 role_again : (role : Role) → letter_role (first_letter (role_word role)) ≡ role
 role_again Coming = refl
-role_again Fresh = refl
-role_again Waiting = refl
-role_again Held = refl
-role_again Running = refl
-role_again Done = refl
-role_again Gone = refl
+role_again _ = refl
 
 -- one word, one role
 one_role : (a b : Role) → role_word a ≡ role_word b → a ≡ b
@@ -122,12 +117,11 @@ all_alike (t ∷ tasks) (u ∷ others) same =
 
 pub alike_all : (tasks others : List Task) → are_alike tasks others ≡ true → map stance_of tasks ≡ map stance_of others
 alike_all [] [] alike = refl
-alike_all [] (u ∷ others) alike = absurd (let clash : false ≡ true = alike in cc)
-alike_all (t ∷ tasks) [] alike = absurd (let clash : false ≡ true = alike in cc)
 alike_all (t ∷ tasks) (u ∷ others) alike =
     let both = and_parts (is_alike t u) (are_alike tasks others) alike in
     let first : stance_of t ≡ stance_of u = alike_same t u both.0 in
     let rest : map stance_of tasks ≡ map stance_of others = alike_all tasks others both.1 in cc
+alike_all _ _ alike = absurd (let clash : false ≡ true = alike in cc)
 
 -- numbered jobs with the same states and the same jobs are the same
 pub same_tasks : (n : ℕ) (tasks others : List Task) → IsNumberedFrom n tasks → IsNumberedFrom n others

@@ -6,7 +6,7 @@ use Rattle.dover_model.specs.Common.{most_items, IsValid, printed, Session, JobI
 use Rattle.dover_model.specs.Common.{new_session, with_named, may_finish_early, session_with, settled, TraceLine}
 use Rattle.dover_model.specs.Common.{Printed, Placed, put_in}
 use Rattle.dover_model.specs.declared.events.Version.{Version}
-use Rattle.dover_model.specs.declared.events.Version.TheVariants.{One, Two, Three}
+use Rattle.dover_model.specs.declared.events.Version.TheVariants.{One, Three}
 use Rattle.dover_model.proofs.lists.Beginnings.{begins_length}
 use Rattle.dover_model.proofs.runs.Ending.{few_printed}
 use Rattle.dover_model.proofs.sessions.Former.{none_early}
@@ -58,13 +58,11 @@ module _ (S : Session) (valid : IsValid (instance_of S)) (follows : FollowsItems
   good_count listed = by_version (may_finish_early S.rules.version) refl where
     jobs_most : (v : Version) → 1_000_000 ≤ most_items v
     jobs_most One = omega arith
-    jobs_most Two = omega arith
-    jobs_most Three = omega arith
+    jobs_most _ = omega arith
 
     steps_most : (v : Version) → may_finish_early v ≡ true → 5_000_001 ≤ most_items v
-    steps_most One e = never e
-    steps_most Two e = never e
     steps_most Three e = omega arith
+    steps_most _ e = never e
 
     by_version : (b : Bool) → may_finish_early S.rules.version ≡ b → length S.items ≤ most_items S.rules.version
     by_version true three = omega (arith, good_few, listed, steps_most S.rules.version three)

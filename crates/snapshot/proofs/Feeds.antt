@@ -34,8 +34,7 @@ module _ (F : List ℕ) (may : MayPause F) where
   opened = by (account F).standing may.going_on where
     by : (s : Standing) → elim s [ Open ↦ true | Ended ↦ false | Faulty line cause ↦ false ] ≡ true → s ≡ Open
     by Open e = refl
-    by Ended e = absurd (let clash : false ≡ true = e in cc)
-    by (Faulty line cause) e = absurd (let clash : false ≡ true = e in cc)
+    by _ e = absurd (let clash : false ≡ true = e in cc)
 
   -- its session
   pub named : (S : Session) × ((account F).session ≡ Some S)
@@ -161,9 +160,8 @@ short_from n s = cond (elim s [ Open ↦ true | Ended ↦ false | Faulty line ca
 -- sessions that both are there
 pub both_there : (s t : Option Session) → SameRun s t → (S : Session) × (T : Session) × (s ≡ Some S) × (t ≡ Some T)
     × SameSession S T
-both_there None t same = absurd same
-both_there (Some S) None same = absurd same
 both_there (Some S) (Some T) same = (S, T, refl, refl, same)
+both_there _ _ same = absurd same
 
 module _ (F G : List ℕ) (alike : Alike (account F) (account G)) (whole : rest_of F ≡ rest_of G) where
   -- the other may pause too

@@ -17,7 +17,7 @@ use Rattle.dover_model.specs.Common.{RefusedItem, FinishItem, admitted_jobs, ins
 use Rattle.dover_model.specs.Common.{settled, settled_state, Account, account_of_lines}
 use Rattle.dover_model.specs.declared.events.Task.{Task}
 use Rattle.dover_model.specs.declared.events.Version.{Version}
-use Rattle.dover_model.specs.declared.events.Version.TheVariants.{One, Two, Three}
+use Rattle.dover_model.specs.declared.events.Version.TheVariants.{One}
 use Rattle.admission.specs.Kept as admission
 use Rattle.event_feed.specs.Kept as feed
 use Rattle.event_feed.specs.declared.kept_session.KeptSession.{KeptSession}
@@ -189,8 +189,7 @@ module _ (h : Head) (tasks : List Task) (ls : List (List ℕ)) (read : HasRead h
         ) where
           items_low : (v : Version) → most_items v ≤ 15_999_999_998
           items_low One = omega arith
-          items_low Two = omega arith
-          items_low Three = omega arith
+          items_low _ = omega arith
 
         -- what is tested of the lines
         pub lines_are : n.head ≡ r.head
@@ -206,9 +205,8 @@ module _ (h : Head) (tasks : List Task) (ls : List (List ℕ)) (read : HasRead h
             (nat_le (mark_after 0 run.items) h.mark) (le-leb _ _ served.no_later)
             ∙ ap (has_lines_for h) (sym items_are) where
               by : (a b c : Bool) → c ≡ true → a && b ≡ (a && c) && b
-              by true b true e = refl
-              by false b true e = refl
-              by a b false e = absurd (let clash : false ≡ true = e in cc)
+              by true b c e = ap (λ x. x && b) (sym e)
+              by false b c e = refl
 
         -- where they don't do, the line is refused
         pub mark_refused : (m : ℕ) → m ≡ length r.stances.items → n.head ≡ r.head

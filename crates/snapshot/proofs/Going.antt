@@ -9,7 +9,7 @@ use Rattle.std.proofs.lemmas.Bool.{and_parts, and_from, lt-ltb, le-leb, ltb-true
 use Rattle.std.proofs.lemmas.List.Elements.{filter_map-append}
 use Rattle.dover_model.specs.declared.events.Event.TheVariants.{Complete}
 use Rattle.dover_model.specs.declared.events.Role.{Role}
-use Rattle.dover_model.specs.declared.events.Role.TheVariants.{Coming, Fresh, Waiting, Held, Running, Done, Gone}
+use Rattle.dover_model.specs.declared.events.Role.TheVariants.{Running, Done}
 use Rattle.dover_model.specs.declared.events.Task.{Task}
 use Rattle.dover_model.specs.Common.{Finish, is_due, Instance, IsValid, with_jobs, with_finishes, JobFacts, Item}
 use Rattle.dover_model.specs.Common.{JobItem, FinishItem, EarlyFinish, mark_after, session_with, instance_of}
@@ -29,6 +29,7 @@ use Rattle.dover_model.proofs.settled.Paths.{printed_behind}
 use Rattle.dover_model.proofs.rest.Resting.{numbers_below}
 use Rattle.dover_model.proofs.valid.Valid.{valid_front}
 use Rattle.dover_model.proofs.lists.Members.{some_same, found, member_front, member_behind, member_either, each_append}
+use Rattle.dover_model.proofs.lists.Members.{each_behind}
 use Rattle.dover_model.proofs.finishes.OverFor.{due_member}
 use Rattle.dover_model.proofs.finishes.Readiness.{runner}
 use Rattle.dover_model.proofs.finishes.RightFinishes.{right_finish, finish_says, finish_runs, FinishSays}
@@ -55,13 +56,8 @@ handed_follows {h} {tasks} {items} handed = (follows_items-agrees h.rules [] 0 i
 
 -- a role that is tested to be that of a job that is done
 done_role : (role : Role) → is_done_role role ≡ true → role ≡ Done
-done_role Coming e = never e
-done_role Fresh e = never e
-done_role Waiting e = never e
-done_role Held e = never e
-done_role Running e = never e
 done_role Done e = refl
-done_role Gone e = never e
+done_role _ e = never e
 
 -- what is stored of a job that is done early is so
 early_stance : (t : Task) (f : Finish) (work : ℕ) → IsEarly t f → work ≡ t.job.work → is_early work (stance_of t) ≡ true
@@ -88,11 +84,6 @@ due_by : (fs : List Finish) (r t : Task) → r.number ≡ t.number → r.had ≡
 due_by fs r t number had = ap (λ n. due n r.had) number ∙ ap (due t.number) had where
   due : ℕ → ℕ → Bool
   due n h = list_any (λ (f : Finish). (f.number == n) && (f.had == h) && nat_lt 0 h) fs
-
--- the mark behind one item more
-mark_more : (items : List Item) (item : Item) → mark_after 0 (items ++ item ∷ []) ≡ mark_after (mark_after 0 items)
-    (item ∷ [])
-mark_more items item = mark_behind 0 items item
 
 module _ (h : Head) (tasks : List Task) (items : List Item) (numbered : IsNumberedFrom 0 tasks) (at : ℕ)
     (handed : IsHandedIn h tasks items) where
@@ -389,21 +380,13 @@ module _ (h : Head) (tasks : List Task) (items : List Item) (at : ℕ) (handed :
             },
             tt,
           ));
-      none_refused = each_append (λ i. refused_of_item i ≡ None) items (FinishItem item ∷ []) handed.none_refused one;
+      none_refused = each_behind (λ i. refused_of_item i ≡ None) items (FinishItem item) handed.none_refused refl;
       jobs = filter_map-append job_of_item items (FinishItem item ∷ []) ∙ append-nil (admitted_jobs items)
           ∙ handed.jobs;
       own = subst (Each (λ g. IsMember g (early_in h.rules.version tasks)))
           (sym (filter_map-append finish_of_item items (FinishItem item ∷ [])))
-          (each_append (λ g. IsMember g (early_in h.rules.version tasks)) (early_finishes items)
-          (f ∷ []) handed.own own);
-    } where
-      one : (i : Item) → IsMember i (FinishItem item ∷ []) → refused_of_item i ≡ None
-      one i (inl e) = ap refused_of_item e
-      one i (inr none) = absurd none
-
-      own : (g : Finish) → IsMember g (f ∷ []) → IsMember g (early_in h.rules.version tasks)
-      own g (inl e) = subst (λ x. IsMember x (early_in h.rules.version tasks)) (sym e) stored
-      own g (inr none) = absurd none
+          (each_behind (λ g. IsMember g (early_in h.rules.version tasks)) (early_finishes items) f handed.own stored);
+    }
 
     -- the run with it
     pub finish_run : instance_of (session_with h.rules more) ≡ with_finishes K (f ∷ [])
@@ -411,7 +394,7 @@ module _ (h : Head) (tasks : List Task) (items : List Item) (at : ℕ) (handed :
 
     -- the mark behind it
     pub finish_mark : mark_after 0 more ≡ at
-    finish_mark = omega (arith, mark_more items (FinishItem item), low)
+    finish_mark = omega (arith, mark_behind 0 items (FinishItem item), low)
 
     pub finish_count : length more ≡ length items + 1
     finish_count = length-append items (FinishItem item ∷ [])
@@ -505,7 +488,7 @@ module _ (h : Head) (tasks : List Task) (items : List Item) (at : ℕ) (handed :
     job_run = job_instance (session_with h.rules items) t.job
 
     pub job_mark : mark_after 0 with_job ≡ t.job.release
-    job_mark = omega (arith, mark_more items (JobItem t.job), low, release)
+    job_mark = omega (arith, mark_behind 0 items (JobItem t.job), low, release)
 
     pub job_count : length with_job ≡ length items + 1
     job_count = length-append items (JobItem t.job ∷ [])
@@ -536,16 +519,13 @@ module _ (h : Head) (tasks : List Task) (items : List Item) (at : ℕ) (handed :
             },
             tt,
           ));
-      none_refused = each_append (λ i. refused_of_item i ≡ None) items (JobItem t.job ∷ []) handed.none_refused one;
+      none_refused = each_behind (λ i. refused_of_item i ≡ None) items (JobItem t.job) handed.none_refused refl;
       jobs = filter_map-append job_of_item items (JobItem t.job ∷ []) ∙ ap (λ js. js ++ t.job ∷ []) handed.jobs
           ∙ sym (jobs_more tasks t);
       own = subst (Each (λ g. IsMember g (early_in h.rules.version all))) (sym finishes_are)
           (λ g m. subst (IsMember g) (sym early_are)
           (member_front (early_in h.rules.version tasks) (early_in h.rules.version (t ∷ [])) g (handed.own g m)));
-    } where
-      one : (i : Item) → IsMember i (JobItem t.job ∷ []) → refused_of_item i ≡ None
-      one i (inl e) = ap refused_of_item e
-      one i (inr none) = absurd none
+    }
 
     abbrev J3 : Instance
     J3 = with_jobs K (t.job ∷ [])

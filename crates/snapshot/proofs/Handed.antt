@@ -113,12 +113,7 @@ cause_adds_none a j (NotAdmitted refusal) = by_session a.session where
       → count (with_line (account_in a o) (JobLine j) (Some (NotAdmitted refusal))) ≡ count (account_in a o)
   by_session None = refl
   by_session (Some S) = by_version S (refuses_lines S.rules.version)
-cause_adds_none a j model.Lines = refl
-cause_adds_none a j model.Line = refl
-cause_adds_none a j model.Declared = refl
-cause_adds_none a j model.Order = refl
-cause_adds_none a j model.NotDone = refl
-cause_adds_none a j model.Short = refl
+cause_adds_none a j _ = refl
 
 -- ---- the line of a job
 
@@ -259,12 +254,8 @@ module _ (h : Head) (tasks : List Task) (t : Task) (i : feed.Kept) (it : IsFed i
   -- so says any answer that offers a job
   pub offered : (answer : Fed) (offers : feed.Kept) → is_some (job_in answer) ≡ true
       → feed.StandsBehind {E = FeedFault} (Ok answer) offers (job_lines h tasks) line → Says answer → Offers offers
-  offered (fed.Ratio k version) offers some stands said = never some
   offered (fed.Job n job) offers some stands said = job_offered n job said offers stands
-  offered (fed.Tick tick) offers some stands said = never some
-  offered fed.Over offers some stands said = never some
-  offered (fed.Refused r c d v refusal) offers some stands said = never some
-  offered (fed.Done t n) offers some stands said = never some
+  offered _ offers some stands said = never some
 
   -- an answer that offers none says that it isn't valid
   pub none_offered : (answer : Fed) → is_some (job_in answer) ≡ false → Says answer

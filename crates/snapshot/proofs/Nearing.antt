@@ -10,8 +10,7 @@ use Rattle.dover_model.specs.Common.{IsOpenPath, is_complete, Step, waits_for_ma
 use Rattle.dover_model.specs.Common.{settled_state, IsMember, Each, Keeps, State, opening, is_running, Move, Ticks}
 use Rattle.dover_model.specs.Common.{open_step, after, ticked, open_at, IsBarrier, IsBefore}
 use Rattle.dover_model.proofs.settled.Barriers.{AtBarrier, settled_at_barrier, late_none_fresh}
-use Rattle.dover_model.proofs.steps.Deeds.{Deed, Completed, Resumed, Started, Began, Preempted, Stayed, Arrived, Taken}
-use Rattle.dover_model.proofs.steps.Deeds.{Abandoned, Rested}
+use Rattle.dover_model.proofs.steps.Deeds.{Deed, Completed, Resumed, Started, Began, Preempted, Stayed, Arrived}
 use Rattle.dover_model.proofs.runs.Ending.{clock_after, later_clock}
 use Rattle.dover_model.proofs.runs.Honest.{count_jobs, numbers_low}
 use Rattle.dover_model.proofs.steps.Kept.{open_deed, open_kept, each_job}
@@ -265,9 +264,7 @@ module _ (J : Instance) (valid : IsValid J) (at : ℕ) where
               let low : c.job.release ≤ at = each_job (λ j. j.release ≤ at) y2.tasks
               (subst (AllByRecursion (λ j. j.release ≤ at)) (sym keeps_y2.jobs) known) c there in
               absurd (omega (arith, now, clock_y))
-          by_deed k e (Taken q x there ran some x_there waiting now stale heavy) = refl
-          by_deed k e (Abandoned q x there ran some x_there waiting now stale light) = refl
-          by_deed k e (Rested quiet) = refl
+          by_deed k e _ = refl
 
         barrier : IsBarrier J.rules m y2
         barrier = ap (λ b. b && nat_le m y2.clock) late ∙ le-leb m y2.clock (omega (arith, clock_y))

@@ -5,10 +5,10 @@ use Rattle.dover_model.specs.Common.{Finish, Declaration, Instance, IsValid, und
 use Rattle.dover_model.specs.Common.{in_lines, run, printed, Item, JobItem, RefusedItem, FinishItem, Session}
 use Rattle.dover_model.specs.Common.{IsValidSession, IsDeclarable, admitted_jobs, early_finishes, refused_of_item}
 use Rattle.dover_model.specs.Common.{instance_of, session_with, may_finish_early, finish_at, is_full, mark_after}
-use Rattle.dover_model.specs.Common.{IsMember, Each, State, opening, running, Move, Prints, Waits, Ticks, header}
+use Rattle.dover_model.specs.Common.{IsMember, Each, State, opening, running, Move, Prints, header}
 use Rattle.dover_model.specs.Common.{Placed, Printed, handed_by, session_of, session_of_run, places_after, put_in}
 use Rattle.dover_model.specs.Common.{text_of_line, trace_of_session}
-use Rattle.dover_model.specs.declared.events.Event.TheVariants.{Release, Run, Preempt, Take, Complete, Abandon, End}
+use Rattle.dover_model.specs.declared.events.Event.TheVariants.{Release, Complete}
 use Rattle.dover_model.proofs.finishes.EarlyEnds.{shown_own}
 use Rattle.dover_model.proofs.runs.Ending.{run_is_whole}
 use Rattle.dover_model.proofs.sessions.Former.{none_early}
@@ -33,21 +33,13 @@ step_good : (s : State) (m : Move) (i : Item) → handed_by (record { before = s
     → refused_of_item i ≡ None
 step_good s (Prints (Release n j)) i e = by i e where
   by : (i : Item) → Some (JobItem j) ≡ Some i → refused_of_item i ≡ None
-  by (JobItem k) e = refl
   by (RefusedItem r) e = absurd (cc)
-  by (FinishItem f) e = refl
+  by _ e = refl
 step_good s (Prints (Complete at n)) i e = by i (early_says s.clock (running s) i e) where
   by : (i : Item) → Shows s.clock (running s) i → refused_of_item i ≡ None
-  by (JobItem k) says = refl
   by (RefusedItem r) says = absurd (let clash = says.shown in cc)
-  by (FinishItem f) says = refl
-step_good s (Prints (Run at n)) i e = none_is_some e
-step_good s (Prints (Preempt at stops starts)) i e = none_is_some e
-step_good s (Prints (Take at stops starts)) i e = none_is_some e
-step_good s (Prints (Abandon at n)) i e = none_is_some e
-step_good s (Prints (End value)) i e = none_is_some e
-step_good s (Waits n) i e = none_is_some e
-step_good s Ticks i e = none_is_some e
+  by _ says = refl
+step_good s _ i e = none_is_some e
 
 -- so none is among what a run hands in
 pub run_good : (J : Instance) → NoneRefused (session_of_run J).items
@@ -110,28 +102,23 @@ kept_append (FinishItem f ∷ items) more = ap (λ is. FinishItem f ∷ is) (kep
 pub kept_jobs : (items : List Item) → admitted_jobs (kept items) ≡ admitted_jobs items
 kept_jobs [] = refl
 kept_jobs (JobItem j ∷ items) = ap (λ js. j ∷ js) (kept_jobs items)
-kept_jobs (RefusedItem r ∷ items) = kept_jobs items
-kept_jobs (FinishItem f ∷ items) = kept_jobs items
+kept_jobs (_ ∷ items) = kept_jobs items
 
 pub kept_early : (items : List Item) → early_finishes (kept items) ≡ early_finishes items
 kept_early [] = refl
-kept_early (JobItem j ∷ items) = kept_early items
-kept_early (RefusedItem r ∷ items) = kept_early items
 kept_early (FinishItem f ∷ items) = ap (λ fs. f.finish ∷ fs) (kept_early items)
+kept_early (_ ∷ items) = kept_early items
 
 pub kept_good : (items : List Item) → NoneRefused (kept items)
 kept_good [] i none = absurd none
-kept_good (JobItem j ∷ items) i (inl e) = ap refused_of_item e
-kept_good (JobItem j ∷ items) i (inr m) = kept_good items i m
 kept_good (RefusedItem r ∷ items) i m = kept_good items i m
-kept_good (FinishItem f ∷ items) i (inl e) = ap refused_of_item e
-kept_good (FinishItem f ∷ items) i (inr m) = kept_good items i m
+kept_good (_ ∷ items) i (inl e) = ap refused_of_item e
+kept_good (_ ∷ items) i (inr m) = kept_good items i m
 
 pub kept_few : (items : List Item) → length (kept items) ≤ length items
 kept_few [] = omega arith
 kept_few (JobItem j ∷ items) = omega (arith, kept_few items)
-kept_few (RefusedItem r ∷ items) = omega (arith, kept_few items)
-kept_few (FinishItem f ∷ items) = omega (arith, kept_few items)
+kept_few (_ ∷ items) = omega (arith, kept_few items)
 
 -- where none is left out, all are kept
 pub kept_all : (items : List Item) → length items ≤ length (kept items) → kept items ≡ items

@@ -6,11 +6,11 @@ use Rattle.std.specs.List.{AllByRecursion}
 use Rattle.std.proofs.lemmas.Bool.{and_from}
 use Rattle.std.proofs.lemmas.List.{map-append}
 use Rattle.dover_model.specs.Common.{last_tick, most_jobs, most_lines, most_items, IsJob, Instance, under, IsValid}
-use Rattle.dover_model.specs.Common.{is_valid, Item, JobItem, RefusedItem, FinishItem, Session, instance_of}
+use Rattle.dover_model.specs.Common.{is_valid, Item, JobItem, Session, instance_of}
 use Rattle.dover_model.specs.Common.{admitted_jobs, mark_after, session_with, settled_state, IsMember, IsNumberedFrom}
 use Rattle.dover_model.specs.Common.{jobs_of, State, Account, Open}
 use Rattle.dover_model.specs.declared.events.Role.{Role}
-use Rattle.dover_model.specs.declared.events.Role.TheVariants.{Coming, Fresh, Waiting, Held, Running, Done, Gone}
+use Rattle.dover_model.specs.declared.events.Role.TheVariants.{Coming, Fresh}
 use Rattle.dover_model.specs.declared.events.Task.{Task}
 use Rattle.dover_model.specs.declared.events.Version.TheVariants.{Two}
 use Rattle.dover_model.proofs.finishes.Meeting.{finishing_valid}
@@ -42,8 +42,7 @@ use Rattle.dover_model.proofs.valid.JobLimits.{job_limits}
 pub jobs_least : (items : List Item) → length (admitted_jobs items) ≤ length items
 jobs_least [] = omega arith
 jobs_least (JobItem j ∷ items) = omega (arith, jobs_least items)
-jobs_least (RefusedItem r ∷ items) = omega (arith, jobs_least items)
-jobs_least (FinishItem f ∷ items) = omega (arith, jobs_least items)
+jobs_least (_ ∷ items) = omega (arith, jobs_least items)
 
 -- the number of a job is how many stand before it
 numbered_at : (n : ℕ) (front : List Task) (t : Task) (back : List Task) → IsNumberedFrom n (front ++ t ∷ back)
@@ -109,11 +108,7 @@ module _ (S : Session) (mark lines : ℕ) (holds : Holds S mark lines) (few : li
         by : (role : Role) → t.role ≡ role → IsStored role
         by Coming e = none_to_come J holds.reads.valid mark holds.reads.known t m e
         by Fresh e = bar.none_fresh t m e
-        by Waiting e = tt
-        by Held e = tt
-        by Running e = tt
-        by Done e = tt
-        by Gone e = tt
+        by _ e = tt
 
       pub is_state : IsState t
       is_state =

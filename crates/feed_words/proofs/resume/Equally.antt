@@ -37,9 +37,8 @@ abbrev jobs_in : Option Session → ℕ
 jobs_in s = elim s [ None ↦ 0 | Some S ↦ length (admitted_jobs S.items) ]
 
 same_admitted : (s t : Option Session) → SameRun s t → jobs_in s ≡ jobs_in t
-same_admitted None t same = absurd same
-same_admitted (Some S) None same = absurd same
 same_admitted (Some S) (Some T) same = sym (ap length same.jobs)
+same_admitted _ _ same = absurd same
 
 -- ---- two feeds with the same snapshot
 
@@ -158,11 +157,7 @@ module _ (G F H : List ℕ) (may : MayPause G) (may_other : MayPause F) (same : 
             (said_behind (due (G ++ H)) (due G) size_text go.first)
             (said_behind (due (F ++ H)) (due F) size_text go.other) large.2,
       )
-      answer_same No text it = it
-      answer_same ReadFault text it = it
-      answer_same WriteFault text it = it
-      answer_same Memory text it = it
-      answer_same Usage text it = it
+      answer_same _ text it = it
 
       answered_same : (status : Status) → talk.IsAnswered (serve_talk at_end G) H put ended status
           → talk.IsAnswered (serve_talk at_end F) H put ended status

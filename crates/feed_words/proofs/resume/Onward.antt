@@ -48,8 +48,7 @@ module _ (x : List ℕ) where
     by_reading : (r : Reading) → long_reading r ≡ Taken h ts → r ≡ Taken h ts
     by_reading Begun e = absurd (let clash : Refused 1 ≡ Taken h ts = e in cc)
     by_reading (Going g us) e = absurd (let clash : refused_behind us ≡ Taken h ts = e in cc)
-    by_reading (Taken g us) e = e
-    by_reading (Refused at) e = e
+    by_reading _ e = e
 
     by : (b : Bool) → is_too_long (rest_of x) ≡ b → reading_of (whole_lines x) ≡ Taken h ts
     by false short = ap reading_of (sym (only_whole short)) ∙ is

@@ -52,8 +52,7 @@ long_next (Going h tasks) l long = by (nat_lt (length tasks) h.jobs) where
   by true = ap (λ c. with_task h tasks (cond c None (task_of_fields (fields_of l)))) long
   by false = ap (λ c. cond (c && has_reached_mark h tasks && is_settled h tasks) (Taken h tasks) (refused_behind tasks))
       (not_last l long)
-long_next (Taken h tasks) l long = refl
-long_next (Refused at) l long = refl
+long_next _ l long = refl
 
 -- it is refused, where no line was before or the snapshot goes on
 pub long_refused : (r : Reading) (l : List ℕ) → is_too_long l ≡ true

@@ -45,31 +45,25 @@ use Rattle.feed_words.proofs.resume.Talking.{goes_at, due_at, call_of, past_cost
 -- ---- a part of a snapshot
 
 pub part_due : (r : Reading) → is_part r ≡ true → (x : List ℕ) → due_by r x ≡ []
-part_due Begun part x = refl
-part_due (Going h ts) part x = refl
 part_due (Taken h ts) part x = never part
-part_due (Refused at) part x = refl
+part_due _ part x = refl
 
 part_goes : (r : Reading) → is_part r ≡ true → (x : List ℕ) → goes_by r x ≡ true
 part_goes Begun part x = refl
 part_goes (Going h ts) part x = refl
-part_goes (Taken h ts) part x = never part
-part_goes (Refused at) part x = never part
+part_goes _ part x = never part
 
 part_answer : (at_end : AtEnd) (r : Reading) → is_part r ≡ true → (x : List ℕ) (at : ℕ)
     → at ≡ suc (length (whole_lines x))
     → (ended : Bool) → ended ≡ true → IsAnsweredBy at_end r x ended status.Refused (refused_text at)
 part_answer at_end Begun part x at is ended e = (e, ap refused_text is)
 part_answer at_end (Going h ts) part x at is ended e = (e, ap refused_text is)
-part_answer at_end (Taken h ts) part x at is ended e = never part
-part_answer at_end (Refused at') part x at is ended e = never part
+part_answer at_end _ part x at is ended e = never part
 
 -- where a front has begun a snapshot, memory may be lacking
 lacks_from : (r : Reading) (x : List ℕ) → HasBegun x → LacksBy r x
-lacks_from Begun x it = it
-lacks_from (Going h ts) x it = it
 lacks_from (Taken h ts) x it = tt
-lacks_from (Refused at) x it = it
+lacks_from _ x it = it
 
 -- a front of a piece is one of all bytes
 front_of : (x piece : List ℕ) (n : ℕ) → Begins (x ++ take n piece) (x ++ piece)

@@ -89,9 +89,7 @@ module _ (h : Head) (tasks : List Task) where
                     settled = settled;
                   }));
             })
-        by_last most true true false last reached settled is = never_taken (length ts + 2) h tasks rest is
-        by_last most true false c last reached settled is = never_taken (length ts + 2) h tasks rest is
-        by_last most false b c last reached settled is = never_taken (length ts + 2) h tasks rest is
+        by_last most _ _ _ last reached settled is = never_taken (length ts + 2) h tasks rest is
 
         by : (b : Bool) → nat_lt (length ts) g.jobs ≡ b → fold next_line
             (cond b (with_task g ts (read_task line)) (with_last g ts (bytes_eq line (codes "resume"))))

@@ -114,20 +114,14 @@ module _ (a : Asked) (x y : List ℕ) where
   -- where the snapshot isn't whole
   begun_on : (r : Reading) → reading_of (lines_of x) ≡ r → LacksBy r x
       → ((h : Head) (ts : List Task) → reading_of (lines_of (x ++ y)) ≡ Taken h ts → ⊥) → HasBegun (x ++ y)
-  begun_on Begun is it untaken = begun_more x y it
-  begun_on (Going h ts) is it untaken = begun_more x y it
   begun_on (Taken h ts) is it untaken = absurd (untaken h ts (taken_on x y h ts is))
-  begun_on (Refused at) is it untaken = begun_more x y it
+  begun_on _ is it untaken = begun_more x y it
 
   lacks_on : LacksBy (reading_of (lines_of x)) x → (r : Reading) → reading_of (lines_of (x ++ y)) ≡ r
       → LacksBy r (x ++ y)
-  lacks_on it Begun is = begun_on (reading_of (lines_of x)) refl it
-      (λ h ts taken. absurd (let clash : Begun ≡ Taken h ts = sym is ∙ taken in cc))
-  lacks_on it (Going g us) is = begun_on (reading_of (lines_of x)) refl it
-      (λ h ts taken. absurd (let clash : Going g us ≡ Taken h ts = sym is ∙ taken in cc))
   lacks_on it (Taken h ts) is = tt
-  lacks_on it (Refused at) is = begun_on (reading_of (lines_of x)) refl it
-      (λ h ts taken. absurd (let clash : Refused at ≡ Taken h ts = sym is ∙ taken in cc))
+  lacks_on it r is = begun_on (reading_of (lines_of x)) refl it
+      (λ h ts taken. absurd (let clash : r ≡ Taken h ts = sym is ∙ taken in cc))
 
 pub resume_steady : (a : Asked) → IsSteady (resume_talk a)
 resume_steady a = record {

@@ -12,7 +12,7 @@ use Rattle.dover_model.proofs.sessions.Accounts.{due_grows}
 use Rattle.dover_model.proofs.lists.Beginnings.{in_lines-append}
 use Rattle.dover_model.proofs.lists.Tests.{never}
 use Rattle.dover_port.specs.declared.status.Status.{Status}
-use Rattle.dover_port.specs.declared.status.Status.TheVariants.{Done, No, Refused, ReadFault, WriteFault, Memory, Usage}
+use Rattle.dover_port.specs.declared.status.Status.TheVariants.{Done, Refused}
 use Rattle.event_feed.specs.Answers.{EndAnswers, admitted_in}
 use Rattle.event_feed.specs.Kept.{cause_of_fault}
 use Rattle.event_feed.specs.declared.FeedFault.{FeedFault}
@@ -46,11 +46,7 @@ answers_as : (at other : AtEnd) (x y : List ℕ) (ended : Bool)
     → (status : Status) (text : List ℕ) → IsServedAs at x ended status text → IsServedAs other y ended status text
 answers_as at other x y ended done refused Done text it = done text it
 answers_as at other x y ended done refused Refused text it = refused text it
-answers_as at other x y ended done refused No text it = absurd it
-answers_as at other x y ended done refused ReadFault text it = absurd it
-answers_as at other x y ended done refused WriteFault text it = absurd it
-answers_as at other x y ended done refused Memory text it = absurd it
-answers_as at other x y ended done refused Usage text it = absurd it
+answers_as at other x y ended done refused _ text it = absurd it
 
 -- ---- bytes behind the end of a feed
 
