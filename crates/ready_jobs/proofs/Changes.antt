@@ -150,13 +150,8 @@ none_done xs ready = ap value_sum (filter_none is_done xs (λ t m. not_done t (r
   not_done : (t : Task) → is_ready t ≡ true → is_done t ≡ false
   not_done t = by_role t.role where
     by_role : (role : Role) → is_ready (with_role t role) ≡ true → is_done (with_role t role) ≡ false
-    by_role Coming h = refl
-    by_role Fresh h = refl
-    by_role Waiting h = refl
-    by_role Held h = refl
-    by_role Running h = refl
     by_role Done h = never h
-    by_role Gone h = refl
+    by_role _ h = refl
 
 -- ---- one job changes its role
 

@@ -196,8 +196,7 @@ over_not_waiting t over = elim (is_over_role t over) [
 -- that it waits then is that it waits as changed
 waits_changed : (m : Move) (t : Task) → waits_then m t ≡ is_waiting (change m t)
 waits_changed (Prints e) t = refl
-waits_changed (Waits n) t = refl
-waits_changed Ticks t = refl
+waits_changed _ t = refl
 
 module _ (p : Parted) (J : Instance) (z : State) (part : PartOf p J z) (rules : Rules) where
   over_waits_not : Each (λ t. is_over t ≡ true → waits_then (open_step rules z) t ≡ false) z.tasks

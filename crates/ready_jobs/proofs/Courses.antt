@@ -482,8 +482,7 @@ reached_comes c d m reaches some = by_move m refl where
         let it : Reached d J z last_tick (Prints e) = subst (Reached d J z last_tick) is (reaches J z follows) in
         (it.state, it.follows, reached_next d J z last_tick e it),
   )
-  by_move (Waits n) is = absurd (silent (ap event_of is))
-  by_move Ticks is = absurd (silent (ap event_of is))
+  by_move _ is = absurd (silent (ap event_of is))
 
 -- a printed step was reached, and whether it is a barrier was tested
 module _ (c : Course) (J : Instance) (z : State) (mark : ℕ) (m : Move) (e : Event) (clock : ℕ) (b : Bool)
@@ -666,12 +665,7 @@ pub ends_next : (c d : Course) (e : Event) → Takes c e d → is_end (Prints e)
 ends_next c d (End value) it last = λ J z follows.
     let next : (y : State) × Follows it.there J y × PrintsNext J.rules z (End value) y = it.comes J z follows in
     (next.0, subst (Follows d J) (end_stays next.0 value) (it.passes J next.0 next.1), next.2)
-ends_next c d (Release n j) it last = never last
-ends_next c d (Run at n) it last = never last
-ends_next c d (Preempt at stops starts) it last = never last
-ends_next c d (Take at stops starts) it last = never last
-ends_next c d (Complete at n) it last = never last
-ends_next c d (Abandon at n) it last = never last
+ends_next c d _ it last = never last
 
 -- where no job is ready, the end is taken
 pub over_takes : (c : Course) → c.ready ≡ [] → Takes c (End c.done) c

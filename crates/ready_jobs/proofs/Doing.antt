@@ -27,5 +27,4 @@ module _ (p : Parted) (deed other : Action) (is : deed ≡ other) (m e : Event) 
 -- a step that prints this event
 pub prints_event : (m : Move) (e : Event) → event_of m ≡ Some e → m ≡ Prints e
 prints_event (Prints f) e is = ap Prints (some_same f e is)
-prints_event (Waits n) e is = none_is_some is
-prints_event Ticks e is = none_is_some is
+prints_event _ e is = none_is_some is

@@ -55,12 +55,7 @@ not_coming (Prints e) t h = by_event e where
   still_displaced : (role : Role) → is_coming (with_role t role) ≡ false
       → is_coming (with_role t (displaced role)) ≡ false
   still_displaced Coming g = never (sym g)
-  still_displaced Fresh g = refl
-  still_displaced Waiting g = refl
-  still_displaced Held g = refl
-  still_displaced Running g = refl
-  still_displaced Done g = refl
-  still_displaced Gone g = refl
+  still_displaced _ g = refl
 
   two : (b c : Bool) → is_coming (with_role t (cond b Running (cond c Held t.role))) ≡ false
   two true c = refl

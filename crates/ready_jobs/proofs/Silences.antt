@@ -88,13 +88,7 @@ fresh_prints k p roles f is (Wait n) comes other silent = other n refl
 fresh_prints k p roles f is Tick comes other silent =
     let rules : Rules = record { ratio = k; version = p.version; finishes = [] } in
     none_is_some (sym (tick_still rules (state_of p) (sym comes)).stale ∙ seen_fresh p roles ∙ is)
-fresh_prints k p roles f is (Resume n) comes other silent = none_is_some (sym silent)
-fresh_prints k p roles f is (Start n) comes other silent = none_is_some (sym silent)
-fresh_prints k p roles f is (Begin n) comes other silent = none_is_some (sym silent)
-fresh_prints k p roles f is (Preempt m n) comes other silent = none_is_some (sym silent)
-fresh_prints k p roles f is (Take m n) comes other silent = none_is_some (sym silent)
-fresh_prints k p roles f is (Complete n) comes other silent = none_is_some (sym silent)
-fresh_prints k p roles f is (Abandon n) comes other silent = none_is_some (sym silent)
+fresh_prints k p roles f is _ comes other silent = none_is_some (sym silent)
 
 -- ---- the fresh job waits
 
@@ -212,11 +206,9 @@ module _ (k : Fraction) (mark n : ℕ) (p : Parted) (roles : HaveRoles p) where
         absurd (other (busy_ticks p roles sound n (omega (arith, is)) ahead k r runs stale (busy r runs)))
 
     by_step : (m : Move) → open_step rules_here (state_of p) ≡ m → Jump
-    by_step (Prints e) is = let other : open_step rules_here (state_of p) ≡ Ticks → ⊥ = λ ticks. cc in
-        NoTick other (no_ticks n refl p.running refl other)
-    by_step (Waits w) is = let other : open_step rules_here (state_of p) ≡ Ticks → ⊥ = λ ticks. cc in
-        NoTick other (no_ticks n refl p.running refl other)
     by_step Ticks is = Many is (still (known_early k p roles old is))
+    by_step _ is = let other : open_step rules_here (state_of p) ≡ Ticks → ⊥ = λ ticks. cc in
+        NoTick other (no_ticks n refl p.running refl other)
 
     pub jump : Jump
     jump = by_step (open_step rules_here (state_of p)) refl

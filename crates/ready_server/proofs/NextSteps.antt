@@ -44,26 +44,19 @@ ready_behind t ready fresh runs comes =
           → (role ≡ Coming → ⊥) → is_ready_behind (with_role t role) ≡ true
       by_each Coming ready fresh runs comes = absurd (comes refl)
       by_each Fresh ready fresh runs comes = absurd (fresh refl)
-      by_each Waiting ready fresh runs comes = refl
-      by_each Held ready fresh runs comes = refl
       by_each Running ready fresh runs comes = absurd (runs refl)
       by_each Done ready fresh runs comes = never ready
       by_each Gone ready fresh runs comes = never ready
+      by_each _ ready fresh runs comes = refl
 
 -- where a late step is taken and no job runs, none waits or is held
 pub late_free : (k : Fraction) (s : State) (m : Move) → Deed k s Ticks m → waits_for_mark m ≡ true → NoneRuns s.tasks
     → Each (λ t. is_ready_behind t ≡ true → ⊥) s.tasks
-late_free k s m (Completed r member runs) late none = never late
-late_free k s m (Resumed p member held free least why) late none = never late
-late_free k s m (Started o member waiting free first fits next) late none = never late
-late_free k s m (Began f member fresh free behind) late none = never late
-late_free k s m (Preempted r f member runs some f_member fresh before fits) late none = never late
-late_free k s m (Stayed r f member runs some f_member fresh why) late none = never late
-late_free k s m (Arrived c member comes now first stale busy free) late none = never late
 late_free k s m (Taken r x member runs some x_member waiting now stale heavy) late none = absurd (none r member runs)
 late_free k s m (Abandoned r x member runs some x_member waiting now stale light) late none =
     absurd (none r member runs)
 late_free k s m (Rested quiet) late none = quiet.free none
+late_free k s m _ late none = never late
 
 -- a list with no members
 no_members : (ts : List Task) → ((t : Task) → IsMember t ts → ⊥) → ts ≡ []

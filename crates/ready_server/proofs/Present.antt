@@ -50,16 +50,10 @@ module _ (J : Instance) (valid : IsValid J) (mark : ℕ) (known : AllByRecursion
 
   -- none arrives at a late step
   late_none : (m : Move) → Case J.rules.ratio v Ticks m → waits_for_mark m ≡ true → NoneArrives v v.coming
-  late_none m (Completes r some done) late = never late
-  late_none m (Resumes p none some) late = never late
-  late_none m (Starts o none held some) late = never late
-  late_none m (Begins f settles some) late = never late
-  late_none m (Preempts r f settles some fits) late = never late
-  late_none m (Stays r f settles some tight) late = never late
-  late_none m (Arrives ro c settles stale some now) late = never late
   late_none m (Takes r x settles stale ahead some heavy) late = ahead
   late_none m (Abandons r x settles stale ahead some light) late = ahead
   late_none m (Rests ro settles stale ahead none) late = ahead
+  late_none m _ late = never late
 
   -- at the barrier none is to come
   pub none_to_come : Each (λ t. t.role ≡ Coming → ⊥) s.tasks

@@ -34,11 +34,9 @@ not_ahead s sound t member came = by_role t.role refl (sound.roles t member) whe
   by_role : (r : Role) → t.role ≡ r → FitsRole s.clock r t → t.job.release ≤ s.clock
   by_role Coming is fits = never (sym came ∙ passes is_coming t Coming true is refl)
   by_role Fresh is fits = fits.2
-  by_role Waiting is fits = fits.1
-  by_role Held is fits = fits.1
   by_role Running is fits = fits
   by_role Done is fits = fits
-  by_role Gone is fits = fits.1
+  by_role _ is fits = fits.1
 
 -- what holds of each job holds of the last
 of_last : (P : JobFacts → Type 0) (jobs : List JobFacts) (j : JobFacts) → AllByRecursion P (jobs ++ j ∷ []) → P j

@@ -72,13 +72,8 @@ settled_path rules mark (x ∷ xs) s run = (
 calm_is : (t : Task) → (t.role ≡ Fresh → ⊥) → calm t ≡ t
 calm_is t stale = ap (with_role t) (by t.role refl) where
   by : (role : Role) → t.role ≡ role → calm_role role ≡ role
-  by Coming e = refl
   by Fresh e = absurd (stale e)
-  by Waiting e = refl
-  by Held e = refl
-  by Running e = refl
-  by Done e = refl
-  by Gone e = refl
+  by _ e = refl
 
 module _ (J : Instance) (valid : IsValid J) (mark : ℕ) (known : AllByRecursion (λ j. j.release ≤ mark) J.jobs) where
   abbrev s : State
@@ -136,13 +131,11 @@ halt_takes p at role = by p.turn where
 
 -- each step is at most one
 one_take : (p : Roll) (e : Event) → (with_event p e).takes ≤ suc p.takes
-one_take p (Release n job) = omega arith
-one_take p (Run at n) = omega arith
 one_take p (Preempt at stops starts) = omega (arith, halt_takes p at Held)
 one_take p (Take at stops starts) = omega (arith, halt_takes p at Waiting)
 one_take p (Complete at n) = omega (arith, halt_takes p at Done)
 one_take p (Abandon at n) = omega (arith, stop_takes p n 0 Gone)
-one_take p (End value) = omega arith
+one_take p _ = omega arith
 
 takes_from : (events : List Event) (p : Roll) → (fold with_event p events).takes ≤ p.takes + length events
 takes_from [] p = omega arith
@@ -169,12 +162,11 @@ halt_count p at role = by p.turn where
 pub same_count : (p : Roll) (e : Event) → ((n : ℕ) (job : JobFacts) → e ≡ Release n job → ⊥)
     → length (with_event p e).jobs ≡ length p.jobs
 same_count p (Release n job) other = absurd (other n job refl)
-same_count p (Run at n) other = refl
 same_count p (Preempt at stops starts) other = halt_count p at Held
 same_count p (Take at stops starts) other = halt_count p at Waiting
 same_count p (Complete at n) other = halt_count p at Done
 same_count p (Abandon at n) other = stop_count p n 0 Gone
-same_count p (End value) other = refl
+same_count p _ other = refl
 
 -- there are few takes
 pub takes_low : (J : Instance) (to : Horizon) (events : List Event) → IsValid J → Begins events (due_by J to)

@@ -64,9 +64,8 @@ marked End t o events may read = absurd may
 read_later : (from to : Horizon) (o : Option Kept) (events : List Event) → MayFollow from to → HasRead from o events
     → HasRead to o events
 read_later (Mark m) (Mark t) o events may read = read
-read_later (Mark m) End o events may read = tt
 read_later End (Mark t) o events may read = absurd may
-read_later End End o events may read = tt
+read_later _ End o events may read = tt
 
 -- ---- a server
 

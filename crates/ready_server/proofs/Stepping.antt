@@ -76,12 +76,7 @@ pub mark_low : (s : ReadyServer) (J : Instance) (from : Horizon) (mark : ℕ) (e
     → Serves s J from events → MayFollow from (Mark mark) → s.ready.clock ≤ mark
 mark_low s J from mark events serves follows =
     let way = before_mark s J from mark events serves follows in
-    omega (
-      arith,
-      printed_low J serves.follows.valid way.1 serves.state events way.2,
-      way.3,
-      serves.follows.clock,
-    )
+    omega (arith, printed_low J serves.follows.valid way.1 serves.state events way.2, way.3, serves.follows.clock)
 
 module _ (s : ReadyServer) (d : Course) (mark : ℕ) (o : Option Event)
     (settled_at : (J : Instance) (z : State) → Follows s.ready J z → Settled d J z mark o) (low : d.clock ≤ mark)
@@ -295,23 +290,13 @@ next_short c d J z follows e next = by_event e (subst IsShortMove here.2.prints
       here = next J z follows
 
       by_event : (f : Event) → IsShortMove (Prints f) → HasShortValue f
-      by_event (events.Release n job) short = tt
-      by_event (events.Run at n) short = tt
-      by_event (events.Preempt at stops starts) short = tt
-      by_event (events.Take at stops starts) short = tt
-      by_event (events.Complete at n) short = tt
-      by_event (events.Abandon at n) short = tt
       by_event (events.End value) short = short.0
+      by_event _ short = tt
 
 -- an event that isn't the End names no value
 pub open_short : (e : Event) → is_end (Prints e) ≡ false → HasShortValue e
-open_short (events.Release n job) none = tt
-open_short (events.Run at n) none = tt
-open_short (events.Preempt at stops starts) none = tt
-open_short (events.Take at stops starts) none = tt
-open_short (events.Complete at n) none = tt
-open_short (events.Abandon at n) none = tt
 open_short (events.End value) none = absurd (let f : true ≡ false = none in cc)
+open_short _ none = tt
 
 -- nor does an answer that isn't
 pub open_shorts : (o : Option Event) → is_end_given o ≡ false → IfSome o HasShortValue

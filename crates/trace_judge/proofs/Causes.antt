@@ -4,7 +4,7 @@ use Rattle.std.proofs.Common.{arith, nat_lt, ◌==◌, ltb-true, eq-eqb, eqb-tru
 use Rattle.std.specs.Bool.{then_some}
 use Rattle.std.specs.Option.{option_or}
 use Rattle.dover_model.specs.declared.events.Refusal.{Refusal}
-use Rattle.dover_model.specs.declared.events.Refusal.TheVariants.{BadJob, Count, Total, Ratio, Late, Full}
+use Rattle.dover_model.specs.declared.events.Refusal.TheVariants.{Full}
 use Rattle.dover_model.specs.Common.{JobFacts, refusal_of, Session, instance_of, admitted_jobs, is_full, late_refusal}
 use Rattle.dover_model.specs.Common.{refusal_in, refusal_at, refused_mark}
 use Rattle.dover_model.proofs.sessions.Fullness.{full_in, full_at}
@@ -14,12 +14,8 @@ use Rattle.trace_judge.specs.Reads.{refusal_if_full}
 
 -- but for that cause the mark stays
 same_mark : (at : ℕ) (j : JobFacts) (cause : Refusal) → (cause ≡ Full → ⊥) → refused_mark at j cause ≡ at
-same_mark at j BadJob other = refl
-same_mark at j Count other = refl
-same_mark at j Total other = refl
-same_mark at j Ratio other = refl
-same_mark at j Late other = refl
 same_mark at j Full other = absurd (other refl)
+same_mark at j _ other = refl
 
 module _ (S : Session) (at : ℕ) (j : JobFacts) where
   -- why the jobs before it refuse it

@@ -102,9 +102,8 @@ is_ended Ended = true
 
 -- it hasn't
 pub not_ended : (s : TraceStage) → (s ≡ Ended → ⊥) → is_ended s ≡ false
-not_ended Opening other = refl
-not_ended Going other = refl
 not_ended Ended other = absurd (other refl)
+not_ended _ other = refl
 
 module _ (r : Reading) (ls : List (List ℕ)) (reads : Reads r ls) where
   -- lines that are read begin a trace
@@ -387,11 +386,10 @@ same_verdict S k v value most jobs ratio version worth within count =
 pub good_not_wrong : (j : Judged) (text : List ℕ) → IsGood j text → is_wrong (model.verdict text) ≡ false
 good_not_wrong j text good = by_stage j.reader.stage refl where
   by_stage : (s : TraceStage) → j.reader.stage ≡ s → is_wrong (model.verdict text) ≡ false
-  by_stage Opening is = ap is_wrong (reads_short j.reader text good.reads (ap is_ended is) good.counts)
-  by_stage Going is = ap is_wrong (reads_short j.reader text good.reads (ap is_ended is) good.counts)
   by_stage Ended is =
       let end = ends_of j.reader (whole_lines text) is (reads_ahead j.reader (whole_lines text) good.reads) in
       ap is_wrong (reads_accepted j.reader text good.reads (ap is_ended is) good.counts end.0 end.1)
+  by_stage _ is = ap is_wrong (reads_short j.reader text good.reads (ap is_ended is) good.counts)
 
 -- nor of one that the judge stands for, where it found no wrong line
 pub stands_not_wrong : (j : Judged) (text : List ℕ) → StandsFor j text
@@ -408,16 +406,14 @@ pub ends_accepted : (j : Judged) (text : List ℕ) → StandsFor j text → (S :
     → model.verdict text ≡ model.Accepted S → Ends j.reader (whole_lines text) S
 ends_accepted j text stands S told = by_found j.found refl stands where
   by_stage : IsGood j text → (s : TraceStage) → j.reader.stage ≡ s → Ends j.reader (whole_lines text) S
-  by_stage good Opening is = absurd (let clash : model.Short (length (whole_lines text)) ≡ model.Accepted S =
-      sym (reads_short j.reader text good.reads (ap is_ended is) good.counts) ∙ told in cc)
-  by_stage good Going is = absurd (let clash : model.Short (length (whole_lines text)) ≡ model.Accepted S =
-      sym (reads_short j.reader text good.reads (ap is_ended is) good.counts) ∙ told in cc)
   by_stage good Ended is =
       let end = ends_of j.reader (whole_lines text) is (reads_ahead j.reader (whole_lines text) good.reads) in
       let same : model.Accepted end.0 ≡ model.Accepted S =
       sym (reads_accepted j.reader text good.reads (ap is_ended is) good.counts end.0 end.1) ∙ told in
       let one : end.0 ≡ S = cc in
       subst (Ends j.reader (whole_lines text)) one end.1
+  by_stage good _ is = absurd (let clash : model.Short (length (whole_lines text)) ≡ model.Accepted S =
+      sym (reads_short j.reader text good.reads (ap is_ended is) good.counts) ∙ told in cc)
 
   by_found : (f : Found) → j.found ≡ f → StandsBy f j text → Ends j.reader (whole_lines text) S
   by_found Good is good = by_stage good j.reader.stage refl

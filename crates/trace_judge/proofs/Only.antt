@@ -59,12 +59,7 @@ module _ (S : Session) (x : Item) where
         ∙ ap (fold with_line_named (new_session S.rules)) (sym it.1) ∙ names_xs in
         let more = lines_append (with_item S x) it.0 in
         let same : S.items ≡ (S.items ++ x ∷ []) ++ more.0 = ap (λ (T : Session). T.items) (sym all ∙ more.1) in
-        omega (
-          arith,
-          ap length same,
-          length-append (S.items ++ x ∷ []) more.0,
-          length-append S.items (x ∷ []),
-        ))
+        omega (arith, ap length same, length-append (S.items ++ x ∷ []) more.0, length-append S.items (x ∷ [])))
 
 -- lists that begin each other are the same
 begin_both : {X : Type 0} (xs ys : List X) → Begins xs ys → Begins ys xs → xs ≡ ys

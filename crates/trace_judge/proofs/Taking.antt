@@ -11,7 +11,7 @@ use Rattle.dover_model.specs.Common.{tick_of_event, Keeps, Session, instance_of,
 use Rattle.dover_model.specs.Common.{header, text_of, version_number, begins_trace, named_item, version_of_number}
 use Rattle.dover_model.specs.Common.{Idles, GoesOn, WaitsUntil, PrintsNext, floor_after}
 use Rattle.dover_model.specs.declared.events.Event.{Event}
-use Rattle.dover_model.specs.declared.events.Event.TheVariants.{Release, Run, Preempt, Take, Complete, Abandon, End}
+use Rattle.dover_model.specs.declared.events.Event.TheVariants.{End}
 use Rattle.dover_model.specs.declared.events.Version.{Version}
 use Rattle.dover_model.proofs.settled.LastSteps.{prints_clock}
 use Rattle.dover_model.proofs.steps.Kept.{open_deed}
@@ -274,12 +274,7 @@ module _ (r : Reading) (opening_stage : r.stage ≡ Opening) (v p q : ℕ) (fact
 -- an event that is the last
 end_is : (e : Event) → is_end (Prints e) ≡ true → (v : ℕ) × (e ≡ End v)
 end_is (End v) is = (v, refl)
-end_is (Release n j) is = never is
-end_is (Run at n) is = never is
-end_is (Preempt at stops starts) is = never is
-end_is (Take at stops starts) is = never is
-end_is (Complete at n) is = never is
-end_is (Abandon at n) is = never is
+end_is _ is = never is
 
 -- the floor after an event, as it is computed
 floor_is : (z : State) (e : Event) (clock : ℕ) → clock ≡ z.clock

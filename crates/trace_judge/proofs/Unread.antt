@@ -5,7 +5,7 @@ use Rattle.dover_model.specs.Common.{IsRatio, Declaration, State, Session, Refus
 use Rattle.dover_model.specs.Common.{instance_of, admitted_jobs, IsDeclarable, Finish, settled_state, Keeps, header}
 use Rattle.dover_model.specs.Common.{text_of, refused_text, item_of, begins_trace, ends_with_end, PrintsNext}
 use Rattle.dover_model.specs.declared.events.Event.{Event}
-use Rattle.dover_model.specs.declared.events.Event.TheVariants.{Release, Run, Preempt, Take, Complete, Abandon, End}
+use Rattle.dover_model.specs.declared.events.Event.TheVariants.{Release, Complete}
 use Rattle.dover_model.proofs.sessions.SessionParts as parts
 use Rattle.dover_model.proofs.sessions.Growing.{Finishes, finishing_job}
 use Rattle.dover_model.proofs.settled.Barriers.{settled_at_barrier}
@@ -150,13 +150,5 @@ unread_took w l none = took_none w w l (λ ls reads. reads) (unread_fails w l no
 
 -- a line that was read as a release names a job
 pub jobs_counted : (x : TraceLine) (l : List ℕ) → item_of l ≡ item_in x → jobs_in x ≤ job_lines_in l
-jobs_counted (Header v p q factor) l is = omega arith
 jobs_counted (Step (Release n j)) l is = subst (λ o. 1 ≤ cond (is_job_item o) 1 0) (sym is) (omega arith)
-jobs_counted (Step (Run at n)) l is = omega arith
-jobs_counted (Step (Preempt at stops starts)) l is = omega arith
-jobs_counted (Step (Take at stops starts)) l is = omega arith
-jobs_counted (Step (Complete at n)) l is = omega arith
-jobs_counted (Step (Abandon at n)) l is = omega arith
-jobs_counted (Step (End value)) l is = omega arith
-jobs_counted (Refused at r c d v cause) l is = omega arith
-jobs_counted (format.RefusedDone at tick number) l is = omega arith
+jobs_counted _ l is = omega arith

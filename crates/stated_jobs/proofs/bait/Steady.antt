@@ -112,10 +112,7 @@ released_now : (clock : ℕ) (role : Role) (t : Task) → FitsRole clock role t 
 released_now clock Coming t fits follows = fits.1
 released_now clock Fresh t fits follows = omega (arith, follows)
 released_now clock Waiting t fits follows = omega (arith, follows)
-released_now clock Held t fits follows = absurd follows
-released_now clock Running t fits follows = absurd follows
-released_now clock Done t fits follows = absurd follows
-released_now clock Gone t fits follows = absurd follows
+released_now clock _ t fits follows = absurd follows
 
 -- the first task has the first job
 first_task : (tasks : List Task) (j : JobFacts) (rest : List JobFacts) → IsNumberedFrom 0 tasks
@@ -140,13 +137,9 @@ not_over t role out e over = never (sym (passes is_over t role false e out) ∙ 
 -- a displaced follower is one
 displaced_follows : (clock : ℕ) (role : Role) (t : Task) → Follows clock role t
     → Follows clock (displaced role) (with_role t (displaced role))
-displaced_follows clock Coming t follows = follows
-displaced_follows clock Fresh t follows = follows
-displaced_follows clock Waiting t follows = follows
 displaced_follows clock Held t follows = absurd follows
 displaced_follows clock Running t follows = absurd follows
-displaced_follows clock Done t follows = follows
-displaced_follows clock Gone t follows = follows
+displaced_follows clock _ t follows = follows
 
 -- a follower is one after a tick
 tick_follows : (clock : ℕ) (role : Role) (t : Task) → Follows clock role (with_role t role) → (role ≡ Fresh → ⊥)
@@ -155,22 +148,15 @@ tick_follows : (clock : ℕ) (role : Role) (t : Task) → Follows clock role (wi
 tick_follows clock Coming t follows stale quiet = tt
 tick_follows clock Fresh t follows stale quiet = absurd (stale refl)
 tick_follows clock Waiting t follows stale quiet = absurd (quiet refl)
-tick_follows clock Held t follows stale quiet = follows
-tick_follows clock Running t follows stale quiet = follows
-tick_follows clock Done t follows stale quiet = follows
-tick_follows clock Gone t follows stale quiet = follows
+tick_follows clock _ t follows stale quiet = follows
 
 module _ (most : ℕ) (Link Light : JobFacts → Type 0) where
   -- a displaced link waits
   displaced_stands : (clock : ℕ) (role : Role) (t : Task) → Stands most Link Light clock role t
       → Stands most Link Light clock (displaced role) (with_role t (displaced role))
-  displaced_stands clock Coming t stands = stands
-  displaced_stands clock Fresh t stands = stands
-  displaced_stands clock Waiting t stands = stands
   displaced_stands clock Held t stands = absurd stands
   displaced_stands clock Running t stands = (stands.0, inl stands.1)
-  displaced_stands clock Done t stands = stands
-  displaced_stands clock Gone t stands = stands
+  displaced_stands clock _ t stands = stands
 
   -- what a role says one tick later
   tick_stands : (clock : ℕ) (role : Role) (t : Task) → Stands most Link Light clock role (with_role t role)
@@ -185,8 +171,7 @@ module _ (most : ℕ) (Link Light : JobFacts → Type 0) where
     let whole : clock + left t ≡ t.job.deadline = stands.0 in let some : 1 ≤ left t = busy refl in omega arith,
     stands.1,
   )
-  tick_stands clock Done t stands stale quiet busy = stands
-  tick_stands clock Gone t stands stale quiet busy = stands
+  tick_stands clock _ t stands stale quiet busy = stands
 
 module _ (k : Fraction) (jobs : List JobFacts) (most : ℕ) (Link Light : JobFacts → Type 0)
     (chained : IsChained k jobs most Link Light) where
@@ -209,8 +194,7 @@ module _ (k : Fraction) (jobs : List JobFacts) (most : ℕ) (Link Light : JobFac
     by_kind (inr light) = let here : t.job.release ≡ clock = light.1 in omega arith
   over_by clock due Held t fits stands now came late apart = absurd stands
   over_by clock due Running t fits stands now came late apart = absurd (apart refl)
-  over_by clock due Done t fits stands now came late apart = refl
-  over_by clock due Gone t fits stands now came late apart = refl
+  over_by clock due _ t fits stands now came late apart = refl
 
   module _ (s : State) (sound : IsSound s) (are : jobs_of s.tasks ≡ jobs) where
     -- what holds of each job holds of that of each task

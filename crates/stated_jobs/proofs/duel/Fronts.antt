@@ -35,25 +35,14 @@ pub leaves_from : (s : List ℕ) (way : ℕ → ℕ) (until fuel tick : ℕ) →
     → ((u : ℕ) → u < tick → slice_get s u ≡ Some (way u)) → (at : ℕ) × Leaves s way until at
 leaves_from s way until zero tick count before = (
   tick,
-  record {
-    early = omega (arith, count);
-    before = before;
-    off = λ less named. omega (arith, less, count);
-  },
+  record { early = omega (arith, count); before = before; off = λ less named. omega (arith, less, count) },
 )
 leaves_from s way until (suc fuel) tick count before = by_test (names_or_not (slice_get s tick) (way tick))
     (λ further. leaves_from s way until fuel (suc tick) (omega (arith, count)) further) where
       by_test : (slice_get s tick ≡ Some (way tick)) ⊎ (slice_get s tick ≡ Some (way tick) → ⊥)
           → (((u : ℕ) → u < suc tick → slice_get s u ≡ Some (way u)) → (at : ℕ) × Leaves s way until at)
           → (at : ℕ) × Leaves s way until at
-      by_test (inr off) goes = (
-        tick,
-        record {
-          early = omega (arith, count);
-          before = before;
-          off = λ less. off;
-        },
-      )
+      by_test (inr off) goes = (tick, record { early = omega (arith, count); before = before; off = λ less. off })
       by_test (inl on) goes = goes (λ u less. by_order u less (cases_lt u tick)) where
         by_order : (u : ℕ) → u < suc tick → (u < tick) ⊎ (tick ≤ u) → slice_get s u ≡ Some (way u)
         by_order u less (inl low) = before u low

@@ -8,7 +8,7 @@ use Rattle.dover_model.specs.declared.events.Task.{Task}
 use Rattle.dover_model.specs.declared.events.Event.TheVariants.{End}
 use Rattle.dover_model.specs.declared.events.Version.{Version}
 use Rattle.dover_model.specs.declared.events.Role.{Role}
-use Rattle.dover_model.specs.declared.events.Role.TheVariants.{Coming, Fresh, Waiting, Held, Running, Done, Gone}
+use Rattle.dover_model.specs.declared.events.Role.TheVariants.{Coming, Running, Done, Gone}
 use Rattle.dover_model.specs.Common.{Fraction, Rules, Instance, IsValid, with_jobs, jobs_under, State, with_later}
 use Rattle.dover_model.specs.Common.{opening, to_come, is_over, is_done, is_running, value_sum, Move, Ticks, Waits}
 use Rattle.dover_model.specs.Common.{Prints, step, open_step, after, ending, ◌or_else◌, Step, is_end, run, ran, tick_of}
@@ -43,12 +43,11 @@ added m r = elim m [ Prints e ↦ None | Waits n ↦ None | Ticks ↦ Some r ]
 
 grow : (t : ℕ) (s : State) (m : Move) (r : ℕ) (ys xs : List ℕ) → SameUpTo t (after s m).clock ys xs
     → SameUpTo t s.clock (cons_option (added m r) ys) (cons_option (added m r) xs)
-grow t s (Prints e) r ys xs rest = rest
-grow t s (Waits n) r ys xs rest = rest
 grow t s Ticks r ys xs rest = ticked where
   ticked : SameUpTo t s.clock (r ∷ ys) (r ∷ xs)
   ticked zero n early other = (λ named. named, λ named. named)
   ticked (suc i) n early other = rest i n (omega (arith, early)) other
+grow t s _ r ys xs rest = rest
 
 find_front : (xs more : List Task) → Each (λ u. is_running u ≡ false) more
     → find is_running (xs ++ more) ≡ find is_running xs
@@ -65,13 +64,8 @@ not_running : (u : Task) → is_over u ≡ true → is_running u ≡ false
 not_running u over = by_role u.role over where
   by_role : (r : Role) → elim r [ Done ↦ true | Gone ↦ true | _ ↦ false ] ≡ true
       → elim r [ Running ↦ true | _ ↦ false ] ≡ false
-  by_role Coming is = refl
-  by_role Fresh is = refl
-  by_role Waiting is = refl
-  by_role Held is = refl
   by_role Running is = never is
-  by_role Done is = refl
-  by_role Gone is = refl
+  by_role _ is = refl
 
 coming_rests : (more : List Task) → Each (λ u. u.role ≡ Coming) more → Each (λ u. is_running u ≡ false) more
 coming_rests more come u member = ap (λ r. elim r [ Running ↦ true | _ ↦ false ]) (come u member)

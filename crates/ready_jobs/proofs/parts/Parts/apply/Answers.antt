@@ -12,52 +12,31 @@ use Rattle.ready_jobs.proofs.parts.Parts.apply.Goals as goal
 
 pub resume_next-requires-clause-next : goal.resume_next-requires-clause-next
 resume_next-requires-clause-next g c =
-    let p = c.args.self.now in (
-      p.clock,
-      does_next _ _ _ c.in-Resume.is _ _ refl c.requires.does.1,
-    )
+    let p = c.args.self.now in (p.clock, does_next _ _ _ c.in-Resume.is _ _ refl c.requires.does.1)
 
 pub start_next-requires-clause-next : goal.start_next-requires-clause-next
 start_next-requires-clause-next g c =
-    let p = c.args.self.now in (
-      p.clock,
-      does_next _ _ _ c.in-Start.is _ _ refl c.requires.does.1,
-    )
+    let p = c.args.self.now in (p.clock, does_next _ _ _ c.in-Start.is _ _ refl c.requires.does.1)
 
 pub begin_next-requires-clause-next : goal.begin_next-requires-clause-next
 begin_next-requires-clause-next g c =
-    let p = c.args.self.now in (
-      p.clock,
-      does_next _ _ _ c.in-Begin.is _ _ refl c.requires.does.1,
-    )
+    let p = c.args.self.now in (p.clock, does_next _ _ _ c.in-Begin.is _ _ refl c.requires.does.1)
 
 pub preempt_next-requires-clause-next : goal.preempt_next-requires-clause-next
 preempt_next-requires-clause-next g c =
-    let p = c.args.self.now in (
-      p.clock,
-      does_next _ _ _ c.in-Preempt.is _ _ refl c.requires.does.1,
-    )
+    let p = c.args.self.now in (p.clock, does_next _ _ _ c.in-Preempt.is _ _ refl c.requires.does.1)
 
 pub take_next-requires-clause-next : goal.take_next-requires-clause-next
 take_next-requires-clause-next g c =
-    let p = c.args.self.now in (
-      p.clock,
-      does_next _ _ _ c.in-Take.is _ _ refl c.requires.does.1,
-    )
+    let p = c.args.self.now in (p.clock, does_next _ _ _ c.in-Take.is _ _ refl c.requires.does.1)
 
 pub complete_next-requires-clause-next : goal.complete_next-requires-clause-next
 complete_next-requires-clause-next g c =
-    let p = c.args.self.now in (
-      p.clock,
-      does_next _ _ _ c.in-Complete.is _ _ refl c.requires.does.1,
-    )
+    let p = c.args.self.now in (p.clock, does_next _ _ _ c.in-Complete.is _ _ refl c.requires.does.1)
 
 pub abandon_next-requires-clause-next : goal.abandon_next-requires-clause-next
 abandon_next-requires-clause-next g c =
-    let p = c.args.self.now in (
-      p.clock,
-      does_next _ _ _ c.in-Abandon.is _ _ refl c.requires.does.1,
-    )
+    let p = c.args.self.now in (p.clock, does_next _ _ _ c.in-Abandon.is _ _ refl c.requires.does.1)
 
 pub returns-in-Resume-clause-fewer : goal.returns-in-Resume-clause-fewer
 returns-in-Resume-clause-fewer g c = leaves_fewer _ _ _ _ (c.resume_next.ensures.leaves 0)

@@ -44,16 +44,8 @@ returns-clause-paid c start now paid =
 
 pub overflow_add-self : goal.overflow_add-self
 overflow_add-self c =
-    omega (
-      arith,
-      course_few _ c.requires.course,
-      ap (λ (d : Course). d.jobs) c.self.view_is,
-    )
+    omega (arith, course_few _ c.requires.course, ap (λ (d : Course). d.jobs) c.self.view_is)
 
 pub come-requires-clause-number : goal.come-requires-clause-number
 come-requires-clause-number c =
-    omega (
-      arith,
-      course_few _ c.requires.course,
-      ap (λ (d : Course). d.jobs) c.self.view_is,
-    )
+    omega (arith, course_few _ c.requires.course, ap (λ (d : Course). d.jobs) c.self.view_is)

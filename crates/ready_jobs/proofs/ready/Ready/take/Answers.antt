@@ -40,10 +40,7 @@ overflow_add-self g c =
     (c.apply-worth.ensures.leaves c.args.due.now.event
     (due_does i.ratio i.parts i.jobs i.done c.args.due.now.action c.args.due.now.event due))
     c.self.invariant in
-    omega (
-      arith,
-      follows_modest _ _ _ new.2,
-    )
+    omega (arith, follows_modest _ _ _ new.2)
 
 pub invariant_of-self : goal.invariant_of-self
 invariant_of-self g c =

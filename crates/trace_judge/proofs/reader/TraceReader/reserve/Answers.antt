@@ -92,11 +92,7 @@ SameBut spare now i = record {
   room = vec_capacity i.steps;
   refused = i.refused;
   last = i.last;
-} ≡ record now {
-  course = record now.course { room = i.course.room };
-  spare = spare;
-  room = vec_capacity i.steps;
-}
+} ≡ record now { course = record now.course { room = i.course.room }; spare = spare; room = vec_capacity i.steps }
 
 -- so it is with a course that differs in its room alone, and with the same steps
 same_but : (r now : Reading) (d : Course) (steps : List Event) (spare room : ℕ) → r ≡ now
@@ -105,12 +101,7 @@ same_but : (r now : Reading) (d : Course) (steps : List Event) (spare room : ℕ
     ≡ record now { course = record now.course { room = d.room }; spare = spare; room = room }
 same_but r now d steps spare room viewed same items =
     ap (λ (c : Course). record r { course = c; steps = steps; spare = spare; room = room }) same
-    ∙ ap (λ l. record r {
-      course = record r.course { room = d.room };
-      steps = l;
-      spare = spare;
-      room = room;
-    }) items
+    ∙ ap (λ l. record r { course = record r.course { room = d.room }; steps = l; spare = spare; room = room }) items
     ∙ ap (λ (v : Reading). record v { course = record v.course { room = d.room }; spare = spare; room = room }) viewed
 
 pub returns-clause-same : goal.returns-clause-same
