@@ -7,7 +7,7 @@ use Rattle.std.specs.List.{find, filter, fold, sum_by, list_all, cons_option}
 use Rattle.std.proofs.lemmas.Bool.{ne_eqb, eq-eqb, eqb-true, eqb-false, lt-ltb, ltb-true, ltb-false, le-ltb}
 use Rattle.std.proofs.lemmas.List.Sums.{sum_by-cons}
 use Rattle.dover_model.specs.Common.{Fraction, Event, Release, Run, Preempt, Take, Complete, Abandon, End, Role, Fresh}
-use Rattle.dover_model.specs.Common.{Waiting, Held, Running, Done, Gone, Version, One, Two, Three, Task, Rules, having}
+use Rattle.dover_model.specs.Common.{Waiting, Held, Running, Done, Gone, Version, One, Task, Rules, having}
 use Rattle.dover_model.specs.Common.{State, is_coming, is_fresh, is_waiting, is_held, is_running, is_privileged}
 use Rattle.dover_model.specs.Common.{is_done, is_over, left, latest_start, room, demand_by, least, value_sum, is_heavy}
 use Rattle.dover_model.specs.Common.{first, earlier, due_first, starts_before, Move, Prints, Waits, Ticks, View, view}
@@ -151,9 +151,7 @@ module _ (n : ℕ) where
   due_shift : (v : Version) (a b : Task) → due_first v (shifted n a) (shifted n b) ≡ due_first v a b
   due_shift One a b = ap (λ less. nat_lt a.job.deadline b.job.deadline || (eqb a.job.deadline b.job.deadline && less))
       (lt_shift n a.number b.number)
-  due_shift Two a b = ap (λ less. nat_lt a.job.deadline b.job.deadline || (eqb a.job.deadline b.job.deadline
-      && (nat_lt b.job.value a.job.value || (eqb a.job.value b.job.value && less)))) (lt_shift n a.number b.number)
-  due_shift Three a b = ap (λ less. nat_lt a.job.deadline b.job.deadline || (eqb a.job.deadline b.job.deadline
+  due_shift _ a b = ap (λ less. nat_lt a.job.deadline b.job.deadline || (eqb a.job.deadline b.job.deadline
       && (nat_lt b.job.value a.job.value || (eqb a.job.value b.job.value && less)))) (lt_shift n a.number b.number)
 
   -- the order by latest start
@@ -161,10 +159,7 @@ module _ (n : ℕ) where
   latest_shift One a b =
       ap (λ less. nat_lt (latest_start a) (latest_start b) || (eqb (latest_start a) (latest_start b) && less))
       (lt_shift n a.number b.number)
-  latest_shift Two a b = ap (λ less. nat_lt (latest_start a) (latest_start b) || (eqb (latest_start a) (latest_start b)
-      && (nat_lt b.job.value a.job.value || (eqb a.job.value b.job.value && less)))) (lt_shift n a.number b.number)
-  latest_shift Three a b = ap (λ less. nat_lt (latest_start a) (latest_start b) || (eqb (latest_start a)
-      (latest_start b)
+  latest_shift _ a b = ap (λ less. nat_lt (latest_start a) (latest_start b) || (eqb (latest_start a) (latest_start b)
       && (nat_lt b.job.value a.job.value || (eqb a.job.value b.job.value && less)))) (lt_shift n a.number b.number)
 
   -- the demand up to a task
@@ -280,26 +275,12 @@ moved_option n value (Some m) = Some (moved n value m)
 -- End stays End
 moved_end : (n value : ℕ) (m : Move) → is_end (moved n value m) ≡ is_end m
 moved_end n value (Prints (Release m job)) = refl
-moved_end n value (Prints (Run at m)) = refl
-moved_end n value (Prints (Preempt at stops starts)) = refl
-moved_end n value (Prints (Take at stops starts)) = refl
-moved_end n value (Prints (Complete at m)) = refl
-moved_end n value (Prints (Abandon at m)) = refl
-moved_end n value (Prints (End more)) = refl
-moved_end n value (Waits m) = refl
-moved_end n value Ticks = refl
+moved_end n value _ = refl
 
 -- a late step stays late
 moved_late : (n value : ℕ) (m : Move) → waits_for_mark (moved n value m) ≡ waits_for_mark m
 moved_late n value (Prints (Release m job)) = refl
-moved_late n value (Prints (Run at m)) = refl
-moved_late n value (Prints (Preempt at stops starts)) = refl
-moved_late n value (Prints (Take at stops starts)) = refl
-moved_late n value (Prints (Complete at m)) = refl
-moved_late n value (Prints (Abandon at m)) = refl
-moved_late n value (Prints (End more)) = refl
-moved_late n value (Waits m) = refl
-moved_late n value Ticks = refl
+moved_late n value _ = refl
 
 module _ (n value : ℕ) where
   -- a completion
@@ -625,8 +606,7 @@ module _ (rules : Rules) (n : ℕ) (first : List Finish) (own : Each (λ f. f.nu
     event_moved : (m : Move)
         → event_of (moved n came_to m) ≡ elim (event_of m) [ None ↦ None | Some e ↦ Some (behind n came_to e) ]
     event_moved (Prints e) = refl
-    event_moved (Waits m) = refl
-    event_moved Ticks = refl
+    event_moved _ = refl
 
     -- one more event
     cons_moved : (e : Option Event) (es fs : List Event) → fs ≡ map (behind n came_to) es

@@ -4,9 +4,9 @@ use Rattle.std.proofs.Common.{subst, Bool, true, false, cond, arith, eqb, filter
 use Rattle.std.proofs.Common.{sum_by, filter, eq-eqb, eqb-true}
 use Rattle.std.specs.Bool.{then_some}
 use Rattle.std.specs.List.{AllByRecursion, cons_option, list_all}
-use Rattle.dover_model.specs.Common.{JobFacts, Event, Release, Run, Preempt, Take, Complete, Abandon, End, Role, Coming}
+use Rattle.dover_model.specs.Common.{JobFacts, Event, Release, End, Role, Coming}
 use Rattle.dover_model.specs.Common.{Fresh, Waiting, Held, Running, Done, Gone, Task, Rules, Instance, IsValid, State}
-use Rattle.dover_model.specs.Common.{opening, is_coming, is_over, is_done, value_sum, Move, Prints, Waits, Ticks, step}
+use Rattle.dover_model.specs.Common.{opening, is_coming, is_over, is_done, value_sum, Move, Prints, Ticks, step}
 use Rattle.dover_model.specs.Common.{open_step, after, ending, ◌or_else◌, with_role, displaced, ticked, Step, is_end}
 use Rattle.dover_model.specs.Common.{event_of, printed_of, printed, run, waits_for_mark, settled, settled_steps}
 use Rattle.dover_model.specs.Common.{IsWholeRun, IsSettledRun, IsMember, Each, IsSound, Keeps}
@@ -54,12 +54,7 @@ pub displaced_coming : (t : Task) → is_coming (with_role t (displaced t.role))
 displaced_coming t = by_role t.role where
   by_role : (role : Role) → is_coming (with_role t (displaced role)) ≡ is_coming (with_role t role)
   by_role Coming = refl
-  by_role Fresh = refl
-  by_role Waiting = refl
-  by_role Held = refl
-  by_role Running = refl
-  by_role Done = refl
-  by_role Gone = refl
+  by_role _ = refl
 
 module _ (s : State) (sound : IsSound s) where
   -- one job that isn't to come has another role
@@ -147,14 +142,7 @@ module _ (s : State) (sound : IsSound s) where
 one_more : (m : Move) (es : List Event)
     → length (releases (cons_option (event_of m) es)) ≡ released_by m + length (releases es)
 one_more (Prints (Release n j)) es = omega arith
-one_more (Prints (Run at n)) es = omega arith
-one_more (Prints (Preempt at stops starts)) es = omega arith
-one_more (Prints (Take at stops starts)) es = omega arith
-one_more (Prints (Complete at n)) es = omega arith
-one_more (Prints (Abandon at n)) es = omega arith
-one_more (Prints (End value)) es = omega arith
-one_more (Waits n) es = omega arith
-one_more Ticks es = omega arith
+one_more _ es = omega arith
 
 -- none of these jobs is to come
 none_comes : (tasks : List Task) → Each (λ t. is_coming t ≡ false) tasks → sum_by comes tasks ≡ 0

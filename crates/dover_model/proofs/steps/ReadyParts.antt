@@ -77,8 +77,7 @@ change Ticks t = ticked t
 -- the state after a move, by that change
 pub after_change : (s : State) (m : Move) → (after s m).tasks ≡ map (change m) s.tasks
 after_change s (Prints e) = refl
-after_change s (Waits n) = refl
-after_change s Ticks = refl
+after_change s _ = refl
 
 -- a job that is over has another number than one that isn't
 apart : (s : State) → IsSound s → (t r : Task) (role : Role) → IsMember t s.tasks → IsMember r s.tasks
@@ -150,13 +149,8 @@ done_value t = cond (is_done t) t.job.value 0
 ready_not_done : (t : Task) → is_over t ≡ false → is_done t ≡ false
 ready_not_done t = by_role (λ u role. is_over u ≡ false → is_done u ≡ false) t each where
   each : (role : Role) → is_over (with_role t role) ≡ false → is_done (with_role t role) ≡ false
-  each Coming h = refl
-  each Fresh h = refl
-  each Waiting h = refl
-  each Held h = refl
-  each Running h = refl
   each Done h = never (sym h)
-  each Gone h = refl
+  each _ h = refl
 
 -- what a change makes of the value of the jobs done, where it leaves those that are over
 done_map : (f : Task → Task) (xs : List Task) → Each (λ t. is_over t ≡ true → f t ≡ t) xs

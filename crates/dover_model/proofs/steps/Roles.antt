@@ -15,96 +15,59 @@ pub is_coming_role : (t : Task) → is_coming t ≡ true → t.role ≡ Coming
 is_coming_role t = by_role (λ u role. is_coming u ≡ true → role ≡ Coming) t each where
   each : (role : Role) → is_coming (with_role t role) ≡ true → role ≡ Coming
   each Coming h = refl
-  each Fresh h = never h
-  each Waiting h = never h
-  each Held h = never h
-  each Running h = never h
-  each Done h = never h
-  each Gone h = never h
+  each _ h = never h
 
 -- the role that the test finds
 pub is_fresh_role : (t : Task) → is_fresh t ≡ true → t.role ≡ Fresh
 is_fresh_role t = by_role (λ u role. is_fresh u ≡ true → role ≡ Fresh) t each where
   each : (role : Role) → is_fresh (with_role t role) ≡ true → role ≡ Fresh
-  each Coming h = never h
   each Fresh h = refl
-  each Waiting h = never h
-  each Held h = never h
-  each Running h = never h
-  each Done h = never h
-  each Gone h = never h
+  each _ h = never h
 
 -- the role that the test finds
 pub is_waiting_role : (t : Task) → is_waiting t ≡ true → t.role ≡ Waiting
 is_waiting_role t = by_role (λ u role. is_waiting u ≡ true → role ≡ Waiting) t each where
   each : (role : Role) → is_waiting (with_role t role) ≡ true → role ≡ Waiting
-  each Coming h = never h
-  each Fresh h = never h
   each Waiting h = refl
-  each Held h = never h
-  each Running h = never h
-  each Done h = never h
-  each Gone h = never h
+  each _ h = never h
 
 -- the role that the test finds
 pub is_held_role : (t : Task) → is_held t ≡ true → t.role ≡ Held
 is_held_role t = by_role (λ u role. is_held u ≡ true → role ≡ Held) t each where
   each : (role : Role) → is_held (with_role t role) ≡ true → role ≡ Held
-  each Coming h = never h
-  each Fresh h = never h
-  each Waiting h = never h
   each Held h = refl
-  each Running h = never h
-  each Done h = never h
-  each Gone h = never h
+  each _ h = never h
 
 -- the role that the test finds
 pub is_running_role : (t : Task) → is_running t ≡ true → t.role ≡ Running
 is_running_role t = by_role (λ u role. is_running u ≡ true → role ≡ Running) t each where
   each : (role : Role) → is_running (with_role t role) ≡ true → role ≡ Running
-  each Coming h = never h
-  each Fresh h = never h
-  each Waiting h = never h
-  each Held h = never h
   each Running h = refl
-  each Done h = never h
-  each Gone h = never h
+  each _ h = never h
 
 -- the roles that the test finds
 pub is_privileged_role : (t : Task) → is_privileged t ≡ true → (t.role ≡ Running) ⊎ (t.role ≡ Held)
 is_privileged_role t = by_role (λ u role. is_privileged u ≡ true → (role ≡ Running) ⊎ (role ≡ Held)) t each where
   each : (role : Role) → is_privileged (with_role t role) ≡ true → (role ≡ Running) ⊎ (role ≡ Held)
-  each Coming h = never h
-  each Fresh h = never h
-  each Waiting h = never h
   each Held h = inr refl
   each Running h = inl refl
-  each Done h = never h
-  each Gone h = never h
+  each _ h = never h
 
 -- the roles that the test finds
 pub is_behind_role : (t : Task) → is_ready_behind t ≡ true → (t.role ≡ Waiting) ⊎ (t.role ≡ Held)
 is_behind_role t = by_role (λ u role. is_ready_behind u ≡ true → (role ≡ Waiting) ⊎ (role ≡ Held)) t each where
   each : (role : Role) → is_ready_behind (with_role t role) ≡ true → (role ≡ Waiting) ⊎ (role ≡ Held)
-  each Coming h = never h
-  each Fresh h = never h
   each Waiting h = inl refl
   each Held h = inr refl
-  each Running h = never h
-  each Done h = never h
-  each Gone h = never h
+  each _ h = never h
 
 -- the roles that the test finds
 pub is_over_role : (t : Task) → is_over t ≡ true → (t.role ≡ Done) ⊎ (t.role ≡ Gone)
 is_over_role t = by_role (λ u role. is_over u ≡ true → (role ≡ Done) ⊎ (role ≡ Gone)) t each where
   each : (role : Role) → is_over (with_role t role) ≡ true → (role ≡ Done) ⊎ (role ≡ Gone)
-  each Coming h = never h
-  each Fresh h = never h
-  each Waiting h = never h
-  each Held h = never h
-  each Running h = never h
   each Done h = inl refl
   each Gone h = inr refl
+  each _ h = never h
 
 -- a test of a job of a known role
 pub passes : (p : Task → Bool) (t : Task) (role : Role) (b : Bool) → t.role ≡ role → p (with_role t role) ≡ b → p t ≡ b

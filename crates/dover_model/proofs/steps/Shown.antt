@@ -5,12 +5,11 @@ use Rattle.std.specs.Prelude.{Option, Some, None, nat_lt, ◌==◌, ◌&&◌}
 use Rattle.std.specs.Bool.{then_some}
 use Rattle.std.specs.List.{filter, filter_map, cons_option}
 use Rattle.std.proofs.lemmas.Bool.{eqb-true, eq-eqb, ne_eqb, and_parts, lt-ltb, ltb-true}
-use Rattle.dover_model.specs.Common.{JobFacts, Fraction, Release, Run, Preempt, Take, Complete, Abandon, End, Role}
-use Rattle.dover_model.specs.Common.{Coming, Fresh, Waiting, Held, Running, Done, Gone, Task, Finish, has_come_to}
-use Rattle.dover_model.specs.Common.{State, is_coming, running, left, Move, Prints, Waits, Ticks, after, with_role}
-use Rattle.dover_model.specs.Common.{displaced, ticked, Step, finish_now, is_complete, IsMember, Each, IsNumberedFrom}
-use Rattle.dover_model.specs.Common.{IsSound, Item, JobItem, RefusedItem, FinishItem, admitted_jobs, early_of}
-use Rattle.dover_model.specs.Common.{handed_by}
+use Rattle.dover_model.specs.Common.{JobFacts, Fraction, Complete, Role, Coming, Fresh, Waiting, Held, Running, Done}
+use Rattle.dover_model.specs.Common.{Gone, Task, Finish, has_come_to, State, is_coming, running, left, Move, Prints}
+use Rattle.dover_model.specs.Common.{Ticks, after, with_role, displaced, ticked, Step, finish_now, is_complete}
+use Rattle.dover_model.specs.Common.{IsMember, Each, IsNumberedFrom, IsSound, Item, JobItem, FinishItem, admitted_jobs}
+use Rattle.dover_model.specs.Common.{early_of, handed_by}
 use Rattle.dover_model.proofs.lists.Members.{some_same}
 use Rattle.dover_model.proofs.steps.Roles.{passes, numbers_above}
 use Rattle.dover_model.proofs.steps.OneChange.{changed}
@@ -24,14 +23,7 @@ use Rattle.dover_model.proofs.lists.Tests.{never, none_is_some}
 -- a completion, as an event
 pub complete_event : (m : Move) → is_complete m ≡ true → (at : ℕ) × (n : ℕ) × (m ≡ Prints (Complete at n))
 complete_event (Prints (Complete at n)) e = (at, n, refl)
-complete_event (Prints (Release n j)) e = never e
-complete_event (Prints (Run at n)) e = never e
-complete_event (Prints (Preempt at stops starts)) e = never e
-complete_event (Prints (Take at stops starts)) e = never e
-complete_event (Prints (Abandon at n)) e = never e
-complete_event (Prints (End value)) e = never e
-complete_event (Waits n) e = never e
-complete_event Ticks e = never e
+complete_event _ e = never e
 
 -- it shows the finish of the running job
 pub complete_shows : (s : State) (m : Move) → is_complete m ≡ true
@@ -222,7 +214,5 @@ pub items_cons : (x : Step) (xs : List Step)
 items_cons x xs = by_item (handed_by x) where
   by_item : (o : Option Item) → admitted_jobs (cons_option o (items_of xs))
       ≡ admitted_jobs (cons_option o []) ++ admitted_jobs (items_of xs)
-  by_item None = refl
   by_item (Some (JobItem j)) = refl
-  by_item (Some (RefusedItem r)) = refl
-  by_item (Some (FinishItem f)) = refl
+  by_item _ = refl

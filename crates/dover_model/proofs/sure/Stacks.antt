@@ -168,12 +168,7 @@ module _ (s : State) (sound : IsSound s) (stacked : IsStacked s) (r : Task) (mem
 -- what is displaced neither runs nor is held
 displaced_out : (t : Task) (role : Role) → is_privileged (with_role t (displaced role)) ≡ true → ⊥
 displaced_out t Coming e = never e
-displaced_out t Fresh e = never e
-displaced_out t Waiting e = never e
-displaced_out t Held e = never e
-displaced_out t Running e = never e
-displaced_out t Done e = never e
-displaced_out t Gone e = never e
+displaced_out t _ e = never e
 
 module _ (s : State) (sound : IsSound s) (stacked : IsStacked s) (r x : Task) (x_member : IsMember x s.tasks)
     (waiting : x.role ≡ Waiting) (now : latest_start x ≡ s.clock) where

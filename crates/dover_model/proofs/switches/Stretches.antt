@@ -142,13 +142,8 @@ module _ (J : Instance) (valid : IsValid J) (n : ℕ) (some : n < 4_000_000_000)
         ∙ eq-eqb t.number n is_n)
 
     by_role : (role : Role) → t.role ≡ role → on t.role ≡ 0
-    by_role Coming e = ap on e
-    by_role Fresh e = ap on e
-    by_role Waiting e = ap on e
-    by_role Held e = ap on e
     by_role Running e = stands e
-    by_role Done e = ap on e
-    by_role Gone e = ap on e
+    by_role _ e = ap on e
 
   -- a job begins to run no more often than it gets the processor
   begins_gets : (xs : List Step) (s : State) → Keeps J s → (t : Task) → IsMember t s.tasks → t.number ≡ n

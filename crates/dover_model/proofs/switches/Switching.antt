@@ -7,7 +7,7 @@ use Rattle.std.specs.List.{count_by, sum_by, list_all, list_any, filter, enumera
 use Rattle.std.proofs.lemmas.Bool.{eqb-true, eqb-false, eq-eqb, ne_eqb, le-leb, lt-ltb}
 use Rattle.std.proofs.lemmas.List.Sums.{sum_by-cons}
 use Rattle.dover_model.specs.Common.{JobFacts, Fraction, Role, Coming, Fresh, Waiting, Held, Running, Done, Gone}
-use Rattle.dover_model.specs.Common.{Release, Run, Preempt, Take, Complete, Abandon, End, Task, Instance, IsValid}
+use Rattle.dover_model.specs.Common.{Release, Preempt, Take, End, Task, Instance, IsValid}
 use Rattle.dover_model.specs.Common.{numbered, State, opening, to_come, is_fresh, is_over, is_done, is_privileged}
 use Rattle.dover_model.specs.Common.{is_ready_behind, left, value_sum, privileged, is_heavy, Move, Prints, Waits, Ticks}
 use Rattle.dover_model.specs.Common.{step, after, ending, ◌or_else◌, with_role, displaced, ticked, role_after, Step}
@@ -241,14 +241,12 @@ next_there s Ticks t member = map_member ticked s.tasks t member
 -- with its number
 pub next_number : (m : Move) (t : Task) → (next m t).number ≡ t.number
 next_number (Prints e) t = refl
-next_number (Waits m) t = refl
-next_number Ticks t = refl
+next_number _ t = refl
 
 -- and its role
 pub next_role : (m : Move) (t : Task) → (next m t).role ≡ role_then m t
 next_role (Prints e) t = refl
-next_role (Waits m) t = refl
-next_role Ticks t = refl
+next_role _ t = refl
 
 -- a job of this number is fresh just where the one that has it is
 pub fresh_any : (n k : ℕ) (tasks : List Task) → IsNumberedFrom k tasks → (t : Task) → IsMember t tasks → t.number ≡ n
@@ -514,13 +512,9 @@ module _ (s : State) (sound : IsSound s) (prompt : IsPrompt s) where
 
   -- a displaced job isn't fresh where it wasn't
   displaced_fresh : (role : Role) → displaced role ≡ Fresh → role ≡ Fresh
-  displaced_fresh Coming e = e
-  displaced_fresh Fresh e = e
-  displaced_fresh Waiting e = e
   displaced_fresh Held e = let c : Waiting ≡ Fresh = e in cc
   displaced_fresh Running e = let c : Waiting ≡ Fresh = e in cc
-  displaced_fresh Done e = e
-  displaced_fresh Gone e = e
+  displaced_fresh _ e = e
 
   -- each deed keeps it so
   deed_prompt : (k : Fraction) (other : Move) → (Quiet s → IsPrompt (after s other)) → (m : Move) → Deed k s other m
@@ -619,10 +613,6 @@ module _ (J : Instance) (valid : IsValid J) where
         → Deed k s other m → is_preempted n_j.0 m ≡ true
         → (m_i : ℕ × JobFacts) × IsMember m_i (numbered J) × (may_preempt n_j.1 m_i ≡ true)
         × (is_preempt_of m_i.0 m ≡ true)
-    deed_preempted prompt k other rests m (Completed r r_member runs) e = never e
-    deed_preempted prompt k other rests m (Resumed p p_member held none least why) e = never e
-    deed_preempted prompt k other rests m (Started o o_member waiting none ahead fits next) e = never e
-    deed_preempted prompt k other rests m (Began f f_member fresh none free) e = never e
     deed_preempted prompt k other rests m (Preempted r f r_member runs some f_member fresh before fits) e = (
       (f.number, f.job),
       numbered_there s keeps f f_member,
@@ -633,25 +623,14 @@ module _ (J : Instance) (valid : IsValid J) where
           (lt-ltb _ _ before)),
       eq-eqb f.number f.number refl,
     )
-    deed_preempted prompt k other rests m (Stayed r f r_member runs some f_member fresh why) e = never e
-    deed_preempted prompt k other rests m (Arrived c c_member comes now least stale busy free) e = never e
-    deed_preempted prompt k other rests m (Taken r x r_member runs some x_member waiting now stale heavy) e = never e
-    deed_preempted prompt k other rests m (Abandoned r x r_member runs some x_member waiting now stale light) e = never
-        e
     deed_preempted prompt k other rests m (Rested quiet) e = never (sym rests ∙ e)
+    deed_preempted prompt k other rests m _ e = never e
 
     -- who takes the processor from it may do so
     deed_taken : (k : Fraction) (other : Move) → is_taken_from n_j.0 other ≡ false → (m : Move)
         → Deed k s other m → is_taken_from n_j.0 m ≡ true
         → (m_i : ℕ × JobFacts) × IsMember m_i (numbered J) × (may_take k n_j.1 m_i ≡ true)
         × (is_take_of m_i.0 m ≡ true)
-    deed_taken k other rests m (Completed r r_member runs) e = never e
-    deed_taken k other rests m (Resumed p p_member held none least why) e = never e
-    deed_taken k other rests m (Started o o_member waiting none ahead fits next) e = never e
-    deed_taken k other rests m (Began f f_member fresh none free) e = never e
-    deed_taken k other rests m (Preempted r f r_member runs some f_member fresh before fits) e = never e
-    deed_taken k other rests m (Stayed r f r_member runs some f_member fresh why) e = never e
-    deed_taken k other rests m (Arrived c c_member comes now least stale busy free) e = never e
     deed_taken k other rests m (Taken r x r_member runs some x_member waiting now stale heavy) e = (
       (x.number, x.job),
       numbered_there s keeps x x_member,
@@ -672,8 +651,8 @@ module _ (J : Instance) (valid : IsValid J) where
     ) where
       active : is_privileged r ≡ true
       active = passes is_privileged r Running true runs refl
-    deed_taken k other rests m (Abandoned r x r_member runs some x_member waiting now stale light) e = never e
     deed_taken k other rests m (Rested quiet) e = never (sym rests ∙ e)
+    deed_taken k other rests m _ e = never e
 
   -- some job completes, preempts or takes, and it is one of the jobs
   module _ (s : State) (keeps : Keeps J s) where
@@ -682,45 +661,24 @@ module _ (J : Instance) (valid : IsValid J) where
         → (m_i : ℕ × JobFacts) × IsMember m_i (numbered J) × (true ≡ true) × (is_complete_of m_i.0 m ≡ true)
     deed_completes k other rests m (Completed r member runs) e =
         ((r.number, r.job), numbered_there s keeps r member, refl, eq-eqb r.number r.number refl)
-    deed_completes k other rests m (Resumed p member held none least why) e = never e
-    deed_completes k other rests m (Started o member waiting none ahead fits next) e = never e
-    deed_completes k other rests m (Began f member fresh none free) e = never e
-    deed_completes k other rests m (Preempted r f member runs some f_member fresh before fits) e = never e
-    deed_completes k other rests m (Stayed r f member runs some f_member fresh why) e = never e
-    deed_completes k other rests m (Arrived c member comes now least stale busy free) e = never e
-    deed_completes k other rests m (Taken r x member runs some x_member waiting now stale heavy) e = never e
-    deed_completes k other rests m (Abandoned r x member runs some x_member waiting now stale light) e = never e
     deed_completes k other rests m (Rested quiet) e = never (sym rests ∙ e)
+    deed_completes k other rests m _ e = never e
 
     pub deed_preempts : (k : Fraction) (other : Move) → preempts_some other ≡ false → (m : Move) → Deed k s other m
         → preempts_some m ≡ true
         → (m_i : ℕ × JobFacts) × IsMember m_i (numbered J) × (true ≡ true) × (is_preempt_of m_i.0 m ≡ true)
-    deed_preempts k other rests m (Completed r member runs) e = never e
-    deed_preempts k other rests m (Resumed p member held none least why) e = never e
-    deed_preempts k other rests m (Started o member waiting none ahead fits next) e = never e
-    deed_preempts k other rests m (Began f member fresh none free) e = never e
     deed_preempts k other rests m (Preempted r f member runs some f_member fresh before fits) e =
         ((f.number, f.job), numbered_there s keeps f f_member, refl, eq-eqb f.number f.number refl)
-    deed_preempts k other rests m (Stayed r f member runs some f_member fresh why) e = never e
-    deed_preempts k other rests m (Arrived c member comes now least stale busy free) e = never e
-    deed_preempts k other rests m (Taken r x member runs some x_member waiting now stale heavy) e = never e
-    deed_preempts k other rests m (Abandoned r x member runs some x_member waiting now stale light) e = never e
     deed_preempts k other rests m (Rested quiet) e = never (sym rests ∙ e)
+    deed_preempts k other rests m _ e = never e
 
     pub deed_takes : (k : Fraction) (other : Move) → takes_some other ≡ false → (m : Move) → Deed k s other m
         → takes_some m ≡ true
         → (m_i : ℕ × JobFacts) × IsMember m_i (numbered J) × (true ≡ true) × (is_take_of m_i.0 m ≡ true)
-    deed_takes k other rests m (Completed r member runs) e = never e
-    deed_takes k other rests m (Resumed p member held none least why) e = never e
-    deed_takes k other rests m (Started o member waiting none ahead fits next) e = never e
-    deed_takes k other rests m (Began f member fresh none free) e = never e
-    deed_takes k other rests m (Preempted r f member runs some f_member fresh before fits) e = never e
-    deed_takes k other rests m (Stayed r f member runs some f_member fresh why) e = never e
-    deed_takes k other rests m (Arrived c member comes now least stale busy free) e = never e
     deed_takes k other rests m (Taken r x member runs some x_member waiting now stale heavy) e =
         ((x.number, x.job), numbered_there s keeps x x_member, refl, eq-eqb x.number x.number refl)
-    deed_takes k other rests m (Abandoned r x member runs some x_member waiting now stale light) e = never e
     deed_takes k other rests m (Rested quiet) e = never (sym rests ∙ e)
+    deed_takes k other rests m _ e = never e
 
   -- neither End nor a silent tick passes
   pub rest_fails : (test : Move → Bool) → ((value : ℕ) → test (Prints (End value)) ≡ false) → test Ticks ≡ false
@@ -816,14 +774,7 @@ module _ (J : Instance) (valid : IsValid J) where
     by_move : (m : Move)
         → one_if (changes_hands m) ≡ one_if (is_run m) + one_if (preempts_some m) + one_if (takes_some m)
     by_move (Prints (Release n job)) = refl
-    by_move (Prints (Run at n)) = refl
-    by_move (Prints (Preempt at stops starting)) = refl
-    by_move (Prints (Take at stops starting)) = refl
-    by_move (Prints (Complete at n)) = refl
-    by_move (Prints (Abandon at n)) = refl
-    by_move (Prints (End value)) = refl
-    by_move (Waits n) = refl
-    by_move Ticks = refl
+    by_move _ = refl
 
   -- that is three times for each job at most
   pub changes_few : count_by (λ x. changes_hands x.move) (run J) ≤ 3 * length J.jobs
@@ -882,7 +833,6 @@ module _ (s : State) (sound : IsSound s) where
   -- a job that gets the processor back finds it free, and waited or was held
   pub deed_returns : IsTaken s → (k : Fraction) (other : Move) → returns_by s other ≡ false → (m : Move)
       → Deed k s other m → returns_by s m ≡ true → ⊥
-  deed_returns taken k other rests m (Completed r member runs) e = never e
   deed_returns taken k other rests m (Resumed p member held none least why) e =
       taken none p member (passes is_ready_behind p Held true held refl)
   deed_returns taken k other rests m (Started o member waiting none ahead fits next) e =
@@ -890,12 +840,8 @@ module _ (s : State) (sound : IsSound s) where
   deed_returns taken k other rests m (Began f member fresh none free) e =
       never (sym (ap not (fresh_any f.number 0 s.tasks sound.numbered f member refl
       ∙ passes is_fresh f Fresh true fresh refl)) ∙ e)
-  deed_returns taken k other rests m (Preempted r f member runs some f_member fresh before fits) e = never e
-  deed_returns taken k other rests m (Stayed r f member runs some f_member fresh why) e = never e
-  deed_returns taken k other rests m (Arrived c member comes now least stale busy free) e = never e
-  deed_returns taken k other rests m (Taken r x member runs some x_member waiting now stale heavy) e = never e
-  deed_returns taken k other rests m (Abandoned r x member runs some x_member waiting now stale light) e = never e
   deed_returns taken k other rests m (Rested quiet) e = never (sym rests ∙ e)
+  deed_returns taken k other rests m _ e = never e
 
 -- behind a silent tick or End
 pub rest_taken : (s : State) → Quiet s → IsTaken (after s (rest_of s))
