@@ -1,5 +1,5 @@
 -- The steps of tasks that stand behind tasks that are over, under greater numbers.
-use Rattle.std.proofs.Common.{◌≡◌, ℕ, ◌+◌, ◌-◌, ◌≤◌, ◌<◌, ◌⊎◌, inl, inr, List, [], ◌∷◌, ◌++◌, length, map, refl, sym}
+use Rattle.std.proofs.Common.{◌≡◌, ℕ, ◌+◌, ◌-◌, ◌≤◌, ◌<◌, inl, inr, List, [], ◌∷◌, ◌++◌, length, map, refl, sym}
 use Rattle.std.proofs.Common.{ap, ◌∙◌, subst, Bool, true, false, cond, arith, eqb, Option, Some, None}
 use Rattle.std.specs.Prelude.{nat_lt, nat_le, ◌&&◌, ◌||◌, ◌==◌}
 use Rattle.std.specs.Bool.{MatchBool, then_some}
@@ -18,7 +18,7 @@ use Rattle.dover_model.specs.Common.{is_end, event_of, printed_of, waits_for_mar
 use Rattle.dover_model.specs.Common.{IsSettledRun, Each, behind, behind_finish, Finish, is_finish_of, has_come_to}
 use Rattle.dover_model.proofs.lists.Members.{map_map, map_same, sum_map}
 use Rattle.dover_model.proofs.runs.RunLaws.{tasks_in, tasks_from}
-use Rattle.dover_model.proofs.steps.Roles.{passes, is_over_role}
+use Rattle.dover_model.proofs.steps.Roles.{of_over, over_ticked}
 use Rattle.dover_model.proofs.finishes.Finishing.{none_without}
 use Rattle.std.specs.Option.{option_or}
 use Rattle.std.proofs.lemmas.List.Folds.{find-append}
@@ -204,10 +204,7 @@ module _ (n : ℕ) where
     over_fails : (p : Task → Bool) → ((t : Task) → p (with_role t Done) ≡ false)
         → ((t : Task) → p (with_role t Gone) ≡ false)
         → Each (λ t. p t ≡ false) overs
-    over_fails p done gone t member = by_end (is_over_role t (over t member)) where
-      by_end : (t.role ≡ Done) ⊎ (t.role ≡ Gone) → p t ≡ false
-      by_end (inl e) = passes p t Done false e (done t)
-      by_end (inr e) = passes p t Gone false e (gone t)
+    over_fails p done gone t member = of_over (λ role. p (with_role t role) ≡ false) (done t) (gone t) t (over t member)
 
     -- what is found is found behind
     find_there : (p : Task → Bool) → ((t : Task) → p (with_role t Done) ≡ false)
@@ -552,20 +549,7 @@ module _ (rules : Rules) (n : ℕ) (first : List Finish) (own : Each (λ f. f.nu
 
     -- what is over isn't displaced
     over_displaced : (u : Task) → is_over u ≡ true → with_role u (displaced u.role) ≡ u
-    over_displaced u over_u = by_end (is_over_role u over_u) where
-      by_end : (u.role ≡ Done) ⊎ (u.role ≡ Gone) → with_role u (displaced u.role) ≡ u
-      by_end (inl e) = subst (λ role. with_role u (displaced role) ≡ with_role u role) (sym e) refl
-      by_end (inr e) = subst (λ role. with_role u (displaced role) ≡ with_role u role) (sym e) refl
-
-    -- nor does it have a tick
-    over_still : (u : Task) → is_over u ≡ true → ticked u ≡ u
-    over_still u over_u = by_end (is_over_role u over_u) where
-      still : Bool → Task
-      still b = record { number = u.number; job = u.job; role = u.role; had = cond b (u.had + 1) u.had }
-
-      by_end : (u.role ≡ Done) ⊎ (u.role ≡ Gone) → ticked u ≡ u
-      by_end (inl e) = ap still (passes is_running u Done false e refl)
-      by_end (inr e) = ap still (passes is_running u Gone false e refl)
+    over_displaced u over_u = of_over (λ role. with_role u (displaced role) ≡ with_role u role) refl refl u over_u
 
     -- a state
     abbrev state_of : ℕ → List Task → State
@@ -600,7 +584,7 @@ module _ (rules : Rules) (n : ℕ) (first : List Finish) (own : Each (λ f. f.nu
         ap (state_of s.clock) (change_beside s.clock (λ t. with_role t t.role) (λ t. with_role t t.role)
         (λ u member. refl) (λ t. refl) s.tasks)
     after_beside s Ticks = ap (state_of (s.clock + 1)) (change_beside s.clock ticked ticked
-        (λ u member. over_still u (over u member)) (λ t. refl) s.tasks)
+        (λ u member. over_ticked u (over u member)) (λ t. refl) s.tasks)
 
     -- what a step prints
     event_moved : (m : Move)

@@ -352,11 +352,11 @@ module _ (J : Instance) (valid : IsValid J) (rules : Rules) (test : Move → Boo
         by_test false failed all more none = omega (arith, all, more)
 
 -- what is done where none of the first six cases applies
-abbrev rest_of : State → Move
+abbrev pub rest_of : State → Move
 rest_of s = ending s or_else Ticks
 
 -- neither End nor a silent tick passes
-rest_fails : (test : Move → Bool) → ((value : ℕ) → test (Prints (End value)) ≡ false) → test Ticks ≡ false → (s : State)
+pub rest_fails : (test : Move → Bool) → ((value : ℕ) → test (Prints (End value)) ≡ false) → test Ticks ≡ false → (s : State)
     → test (rest_of s) ≡ false
 rest_fails test ends ticks s = by_end (list_all is_over s.tasks) where
   by_end : (b : Bool) → test (then_some b (Prints (End (value_sum (filter is_done s.tasks)))) or_else Ticks) ≡ false

@@ -1,5 +1,5 @@
 -- A run releases each of its jobs, and so does what is settled at a mark, where none is released later.
-use Rattle.std.proofs.Common.{◌≡◌, ℕ, ◌+◌, ◌*◌, ◌≤◌, ◌⊎◌, inl, inr, List, [], ◌∷◌, length, map, refl, sym, ap, ◌∙◌}
+use Rattle.std.proofs.Common.{◌≡◌, ℕ, ◌+◌, ◌*◌, ◌≤◌, List, [], ◌∷◌, length, map, refl, sym, ap, ◌∙◌}
 use Rattle.std.proofs.Common.{subst, Bool, true, false, cond, arith, eqb, filter_map, Option, Some, None, MatchBool}
 use Rattle.std.proofs.Common.{sum_by, filter, eq-eqb, eqb-true}
 use Rattle.std.specs.Bool.{then_some}
@@ -11,7 +11,7 @@ use Rattle.dover_model.specs.Common.{open_step, after, ending, ◌or_else◌, wi
 use Rattle.dover_model.specs.Common.{event_of, printed_of, printed, run, waits_for_mark, settled, settled_steps}
 use Rattle.dover_model.specs.Common.{IsWholeRun, IsSettledRun, IsMember, Each, IsSound, Keeps}
 use Rattle.dover_model.proofs.lists.Members.{sum_same, sum_map, sum_zero}
-use Rattle.dover_model.proofs.steps.Roles.{is_over_role, passes}
+use Rattle.dover_model.proofs.steps.Roles.{of_over, passes}
 use Rattle.dover_model.proofs.steps.Loads.{sum_change}
 use Rattle.dover_model.proofs.steps.OneChange.{changed, on_changed_role}
 use Rattle.dover_model.proofs.steps.Deeds.{Deed, Completed, Resumed, Started, Began, Preempted, Stayed, Arrived, Taken}
@@ -193,10 +193,7 @@ settled_releases J mark valid known =
 
 -- a job that is over isn't to come
 pub over_not_coming : (t : Task) → is_over t ≡ true → is_coming t ≡ false
-over_not_coming t over = by_role (is_over_role t over) where
-  by_role : (t.role ≡ Done) ⊎ (t.role ≡ Gone) → is_coming t ≡ false
-  by_role (inl done) = passes is_coming t Done false done refl
-  by_role (inr gone) = passes is_coming t Gone false gone refl
+over_not_coming t over = of_over (λ role. is_coming (with_role t role) ≡ false) refl refl t over
 
 module _ (J : Instance) (valid : IsValid J) (rules : Rules) where
   -- what is done where no case applies releases none

@@ -5,7 +5,7 @@ use Rattle.std.proofs.Common.{nat_lt, nat_le, ◌<◌, ◌&&◌, fold, option_ma
 use Rattle.std.proofs.Common.{append-nil}
 use Rattle.std.specs.Bool.{then_some}
 use Rattle.std.proofs.lemmas.Bool.{and_parts, and_right}
-use Rattle.dover_model.specs.Common.{BadJob, Count, Total, Ratio, Late, Full, last_tick, most_lines, Version, One}
+use Rattle.dover_model.specs.Common.{Late, Full, last_tick, most_lines, Version, One}
 use Rattle.dover_model.specs.Common.{Three, Refusal, JobFacts, job_numbers, IsRatio, is_ratio, fraction, with_factor}
 use Rattle.dover_model.specs.Common.{Declaration, with_jobs, AreShort, refusal_of, Item, JobItem, RefusedItem}
 use Rattle.dover_model.specs.Common.{FinishItem, refused_at, Session, with_item, Refused, RefusedDone, refusal_at}
@@ -349,12 +349,8 @@ module _ (S : Session) (mark lines : ℕ) (holds : Holds S mark lines) where
   refused_goes : (j : JobFacts) (refusal : Refusal) → refuses_lines S.rules.version ≡ true → AreShort (job_numbers j)
       → refusal_at S mark j ≡ Some refusal
       → GoesOn so_far (refused_account (refused_mark mark j refusal) j refusal)
-  refused_goes j BadJob two short cause = refused_here j BadJob two short cause refl
-  refused_goes j Count two short cause = refused_here j Count two short cause refl
-  refused_goes j Total two short cause = refused_here j Total two short cause refl
-  refused_goes j Ratio two short cause = refused_here j Ratio two short cause refl
-  refused_goes j Late two short cause = refused_here j Late two short cause refl
   refused_goes j Full two short cause = full_goes j two short cause
+  refused_goes j refusal two short cause = refused_here j refusal two short cause refl
 
   -- the end
   end_goes : suc lines ≤ most_lines S.rules.version → GoesOn so_far (account_with (suc lines) (Some S) mark Ended)

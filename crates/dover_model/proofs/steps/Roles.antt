@@ -2,8 +2,8 @@
 use Rattle.std.proofs.Common.{◌≡◌, ℕ, suc, ◌≤◌, ◌⊎◌, inl, inr, List, [], ◌∷◌, map, refl, sym, ap, ◌∙◌, subst, Bool}
 use Rattle.std.proofs.Common.{true, false, arith}
 use Rattle.dover_model.specs.Common.{Role, Coming, Fresh, Waiting, Held, Running, Done, Gone, Task, is_coming, is_fresh}
-use Rattle.dover_model.specs.Common.{is_waiting, is_held, is_running, is_privileged, is_ready_behind, is_over}
-use Rattle.dover_model.specs.Common.{with_role, IsMember, Each, IsNumberedFrom}
+use Rattle.dover_model.specs.Common.{is_waiting, is_held, is_running, is_privileged, is_ready_behind, is_over, is_done}
+use Rattle.dover_model.specs.Common.{with_role, ticked, IsMember, Each, IsNumberedFrom}
 use Rattle.dover_model.proofs.lists.Tests.{never}
 
 -- a test of a job by its role
@@ -67,6 +67,24 @@ is_over_role t = by_role (λ u role. is_over u ≡ true → (role ≡ Done) ⊎ 
   each : (role : Role) → is_over (with_role t role) ≡ true → (role ≡ Done) ⊎ (role ≡ Gone)
   each Done h = inl refl
   each Gone h = inr refl
+  each _ h = never h
+
+-- what holds of the roles Done and Gone holds of the role of a job that is over
+pub of_over : (P : Role → Type 0) → P Done → P Gone → (t : Task) → is_over t ≡ true → P t.role
+of_over P done gone t over = by_end (is_over_role t over) where
+  by_end : (t.role ≡ Done) ⊎ (t.role ≡ Gone) → P t.role
+  by_end (inl e) = subst P (sym e) done
+  by_end (inr e) = subst P (sym e) gone
+
+-- it gains nothing by a tick
+pub over_ticked : (t : Task) → is_over t ≡ true → ticked t ≡ t
+over_ticked t over = of_over (λ role. ticked (with_role t role) ≡ with_role t role) refl refl t over
+
+-- the role that the test finds
+pub is_done_role : (t : Task) → is_done t ≡ true → t.role ≡ Done
+is_done_role t = by_role (λ u role. is_done u ≡ true → role ≡ Done) t each where
+  each : (role : Role) → is_done (with_role t role) ≡ true → role ≡ Done
+  each Done h = refl
   each _ h = never h
 
 -- a test of a job of a known role

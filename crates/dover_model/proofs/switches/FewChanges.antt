@@ -8,7 +8,7 @@ use Rattle.std.proofs.lemmas.Bool.{eqb-true, eqb-false, eq-eqb, ne_eqb, cases_lt
 use Rattle.std.proofs.lemmas.List.Sums.{sum_by-cons}
 use Rattle.dover_model.specs.Common.{JobFacts, Fraction, Job, Role, Coming, Fresh, Waiting, Held, Running, Done, Gone}
 use Rattle.dover_model.specs.Common.{End, Task, Instance, IsValid, numbered, State, opening, is_over, is_done}
-use Rattle.dover_model.specs.Common.{is_privileged, value_sum, privileged, is_heavy, Move, Prints, Waits, Ticks, step}
+use Rattle.dover_model.specs.Common.{is_privileged, value_sum, privileged, is_heavy, Move, Prints, Ticks, step}
 use Rattle.dover_model.specs.Common.{after, ◌or_else◌, displaced, Step, is_end, run, IsWholeRun, step_at, role_then}
 use Rattle.dover_model.specs.Common.{is_take_of, is_preempt_of, changes_hands, IsMember, Each, EachTwo, IsSound, Keeps}
 use Rattle.dover_model.specs.Common.{one_if}
@@ -24,9 +24,10 @@ use Rattle.dover_model.proofs.steps.Kept.{step_deed, step_kept, opening_keeps, c
 use Rattle.dover_model.proofs.runs.Ending.{run_is_whole}
 use Rattle.dover_model.proofs.runs.Once.{takes_once, preempts_once, runs_complete}
 use Rattle.dover_model.proofs.runs.Runs.{run_states}
-use Rattle.dover_model.proofs.switches.Switching.{young, next, next_there, next_number, next_role, step_turned, rest_of}
+use Rattle.dover_model.proofs.runs.Once.{rest_of, rest_fails}
+use Rattle.dover_model.proofs.switches.Switching.{young, next, next_there, next_number, next_role, step_turned}
 use Rattle.dover_model.proofs.switches.Switching.{opens, opens_coming, hits_named, preempts_some, takes_some}
-use Rattle.dover_model.proofs.switches.Switching.{each_finds, deed_preempts, deed_takes, rest_fails, completes_few}
+use Rattle.dover_model.proofs.switches.Switching.{each_finds, deed_preempts, deed_takes, completes_few}
 use Rattle.dover_model.proofs.switches.Switching.{count_all, length_enumerate, job_is, changes_parts}
 
 -- ---- the first job is alone when it is released
@@ -108,9 +109,8 @@ young_most _ = omega arith
 
 -- of each task behind a move
 on_next : (s : State) (m : Move) (P : Task → Type 0) → Each (λ t. P (next m t)) s.tasks → Each P (after s m).tasks
-on_next s (Prints e) P all = on_map (next (Prints e)) P s.tasks all
-on_next s (Waits n) P all = on_map (next (Waits n)) P s.tasks all
 on_next s Ticks P all = on_map (next Ticks) P s.tasks all
+on_next s m P all = on_map (next m) P s.tasks all
 
 module _ (J : Instance) (valid : IsValid J) where
   -- each step keeps the first job alone
@@ -178,7 +178,7 @@ module _ (J : Instance) (valid : IsValid J) where
       each_alone x member in
       ap (λ m. one_if (is_preempt_of 0 m)) it.0
       ∙ ap one_if (deed_first x.before it.1.sound it.2 J.rules.ratio (rest_of x.before)
-      (rest_fails J valid (is_preempt_of 0) (λ value. refl) refl x.before) (step J.rules x.before)
+      (rest_fails (is_preempt_of 0) (λ value. refl) refl x.before) (step J.rules x.before)
       (step_deed J valid x.before it.1 J.rules)))
 
 -- ---- jobs of greatest and of least value
@@ -466,7 +466,7 @@ module _ (J : Instance) (valid : IsValid J) (n_j : Job) (member : IsMember n_j (
       each_alone J valid x x_member in
       ap (λ m. one_if (is_take_of n_j.0 m)) it.0
       ∙ ap one_if (deed_least least x.before it.1 J.rules.ratio (rest_of x.before)
-      (rest_fails J valid (is_take_of n_j.0) (λ value. refl) refl x.before) (step J.rules x.before)
+      (rest_fails (is_take_of n_j.0) (λ value. refl) refl x.before) (step J.rules x.before)
       (step_deed J valid x.before it.1 J.rules))) in omega arith
 
 -- ---- all together
@@ -543,14 +543,14 @@ module _ (J : Instance) (valid : IsValid J) where
       (run J)
       (each_finds J valid preempts_some is_preempt_of (λ m_i. true)
       (λ s keeps prompt. deed_preempts J valid s keeps J.rules.ratio (rest_of s)
-      (rest_fails J valid preempts_some (λ value. refl) refl s)))
+      (rest_fails preempts_some (λ value. refl) refl s)))
 
   all_takes : count_by (λ x. takes_some x.move) (run J)
       ≤ sum_by (λ n_j. count_by (λ x. is_take_of n_j.0 x.move) (run J)) (numbered J)
   all_takes = hits_named (numbered J) (λ x. takes_some x.move) (λ n x. is_take_of n x.move) (λ n_j. true) (run J)
       (each_finds J valid takes_some is_take_of (λ m_i. true)
       (λ s keeps prompt. deed_takes J valid s keeps J.rules.ratio (rest_of s)
-      (rest_fails J valid takes_some (λ value. refl) refl s)))
+      (rest_fails takes_some (λ value. refl) refl s)))
 
   module _ (f m l : Job) (f_member : IsMember f (numbered J)) (m_member : IsMember m (numbered J))
       (l_member : IsMember l (numbered J)) (first : f.0 ≡ 0)

@@ -15,7 +15,7 @@ use Rattle.dover_model.specs.Common.{gains_from, IsMember, Each, NoneRuns, IsSou
 use Rattle.dover_model.specs.Switches.{is_fresh_in, returns_by}
 use Rattle.dover_model.specs.Forward.{is_tick_of, completes_next, must_load, holds_then, AreLoaded}
 use Rattle.dover_model.proofs.lists.Members.{on_map, found}
-use Rattle.dover_model.proofs.steps.Roles.{passes, is_running_role}
+use Rattle.dover_model.proofs.steps.Roles.{passes, is_running_role, is_done_role}
 use Rattle.dover_model.proofs.steps.OneChange.{state_with, on_changed}
 use Rattle.dover_model.proofs.steps.Ticking.{Quiet}
 use Rattle.dover_model.proofs.steps.Deeds.{Deed, Completed, Resumed, Started, Began, Preempted, Stayed, Arrived}
@@ -25,9 +25,9 @@ use Rattle.dover_model.proofs.finishes.Readiness.{runner}
 use Rattle.dover_model.proofs.runs.Ending.{run_is_whole}
 use Rattle.dover_model.proofs.runs.Honest.{whole_outcome, all_ticks}
 use Rattle.dover_model.proofs.runs.Once.{takes_once}
-use Rattle.dover_model.proofs.switches.Switching.{young, rest_of, fresh_any, step_turned, over_run, completes_once}
+use Rattle.dover_model.proofs.runs.Once.{rest_of, rest_fails}
+use Rattle.dover_model.proofs.switches.Switching.{young, fresh_any, step_turned, over_run, completes_once}
 use Rattle.dover_model.proofs.switches.Switching.{fresh_same, IsTaken, deed_taken_then, deed_returns, rest_taken}
-use Rattle.dover_model.proofs.switches.Switching.{rest_fails}
 use Rattle.dover_model.proofs.switches.Stretches.{its_job, at_end}
 use Rattle.dover_model.proofs.lists.Tests.{never}
 
@@ -199,7 +199,7 @@ module _ (J : Instance) (valid : IsValid J) (n_j : ℕ × JobFacts) (member : Is
               (fresh_any n_j.0 0 s.tasks keeps.sound.numbered t m same ∙ fresh_same t),
           loads_are n_j.0 s keeps.sound (step J.rules s)
               (deed_fresh n_j.0 s keeps.sound J.rules.ratio (rest_of s)
-              (rest_fails J valid (is_preempt_of n_j.0) (λ value. refl) refl s) (step J.rules s)
+              (rest_fails (is_preempt_of n_j.0) (λ value. refl) refl s) (step J.rules s)
               (step_deed J valid s keeps J.rules)),
         )),
     takes_once J n_j.0 valid,
@@ -233,17 +233,7 @@ module _ (J : Instance) (valid : IsValid J) (t : Task) (member : IsMember t (end
   three_are_enough real done enough =
       let had : t.had ≡ need J.rules.finishes t.number t.job.work =
       ((whole_outcome J valid).served t (at_end J valid 0 t member)).done (is_done_role t done) in
-      omega (arith, forward_had, had, enough) where
-        is_done_role : (t : Task) → is_done t ≡ true → t.role ≡ Done
-        is_done_role t e = by_role t.role refl where
-          by_role : (role : Role) → t.role ≡ role → t.role ≡ Done
-          by_role Coming f = never (sym (passes is_done t Coming false f refl) ∙ e)
-          by_role Fresh f = never (sym (passes is_done t Fresh false f refl) ∙ e)
-          by_role Waiting f = never (sym (passes is_done t Waiting false f refl) ∙ e)
-          by_role Held f = never (sym (passes is_done t Held false f refl) ∙ e)
-          by_role Running f = never (sym (passes is_done t Running false f refl) ∙ e)
-          by_role Done f = f
-          by_role Gone f = never (sym (passes is_done t Gone false f refl) ∙ e)
+      omega (arith, forward_had, had, enough)
 
 -- ---- no job gets on unloaded
 
@@ -383,7 +373,7 @@ module _ (J : Instance) (valid : IsValid J) where
             (is_complete (step J.rules s)) (must_load loads (step_at J.rules s))
             (holds_then behind holds (step_at J.rules s))
             (deed_held s keeps.sound behind loads holds is_held taken J.rules.ratio (rest_of s)
-            (rest_fails J valid (returns_by s) (λ value. refl) refl s)
+            (rest_fails (returns_by s) (λ value. refl) refl s)
             (λ quiet. rest_held s keeps.sound behind loads holds is_held taken) (step J.rules s)
             (step_deed J valid s keeps J.rules))
             (deed_taken_then s keeps.sound J.rules.ratio (rest_of s) (rest_taken s) (step J.rules s)

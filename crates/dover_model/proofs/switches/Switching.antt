@@ -4,13 +4,13 @@ use Rattle.std.proofs.Common.{◌∙◌, subst, Bool, true, false, cond, arith, 
 use Rattle.std.specs.Prelude.{◌==◌, ◌&&◌, ◌||◌, not, nat_le, nat_lt}
 use Rattle.std.specs.Bool.{MatchBool, then_some}
 use Rattle.std.specs.List.{count_by, sum_by, list_all, list_any, filter, enumerate_from}
-use Rattle.std.proofs.lemmas.Bool.{eqb-true, eqb-false, eq-eqb, ne_eqb, le-leb, lt-ltb}
+use Rattle.std.proofs.lemmas.Bool.{eqb-true, eqb-false, eq-eqb, ne_eqb, le-leb, lt-ltb, and_from}
 use Rattle.std.proofs.lemmas.List.Sums.{sum_by-cons}
 use Rattle.dover_model.specs.Common.{JobFacts, Fraction, Role, Coming, Fresh, Waiting, Held, Running, Done, Gone}
 use Rattle.dover_model.specs.Common.{Release, Preempt, Take, End, Task, Instance, IsValid}
 use Rattle.dover_model.specs.Common.{numbered, State, opening, to_come, is_fresh, is_over, is_done, is_privileged}
 use Rattle.dover_model.specs.Common.{is_ready_behind, left, value_sum, privileged, is_heavy, Move, Prints, Waits, Ticks}
-use Rattle.dover_model.specs.Common.{step, after, ending, ◌or_else◌, with_role, displaced, ticked, role_after, Step}
+use Rattle.dover_model.specs.Common.{step, after, ◌or_else◌, with_role, displaced, ticked, role_after, Step}
 use Rattle.dover_model.specs.Common.{is_end, run, IsWholeRun, step_at, role_then, is_take_of, is_preempt_of, is_run}
 use Rattle.dover_model.specs.Common.{is_complete, gets, changes_hands, is_complete_of, starts, returns, may_preempt}
 use Rattle.dover_model.specs.Common.{may_take, most_changes, IsMember, Each, NoneRuns, IsSound, IsNumberedFrom, jobs_of}
@@ -27,7 +27,7 @@ use Rattle.dover_model.proofs.steps.Deeds.{Deed, Completed, Resumed, Started, Be
 use Rattle.dover_model.proofs.steps.Deeds.{Abandoned, Rested}
 use Rattle.dover_model.proofs.steps.Kept.{step_deed, step_kept, opening_keeps, come_coming, end_same}
 use Rattle.dover_model.proofs.runs.Ending.{run_is_whole}
-use Rattle.dover_model.proofs.runs.Once.{takes_once, preempts_once, runs_complete}
+use Rattle.dover_model.proofs.runs.Once.{takes_once, preempts_once, runs_complete, rest_of, rest_fails}
 use Rattle.dover_model.proofs.runs.Runs.{run_states}
 use Rattle.dover_model.proofs.lists.Tests.{never}
 
@@ -185,16 +185,12 @@ module _ (s : State) (sound : IsSound s) (n : ℕ) (t : Task) (member : IsMember
   deed_turned k other rests m (Taken r x r_member runs some x_member waiting now stale heavy) =
       by_number (eqb x.number n) refl where
         by_role : (role : Role) → t.role ≡ role → Turned role (displaced role) false false (eqb r.number n) false
-        by_role Coming e = still Coming false (eqb r.number n)
-        by_role Fresh e = still Fresh false (eqb r.number n)
-        by_role Waiting e = still Waiting false (eqb r.number n)
         by_role Held e = record { off = omega arith; alive = omega arith; young = omega arith; on = omega arith }
         by_role Running e =
             subst (λ b. Turned Running Waiting false false b false)
             (sym (eq-eqb r.number n (sym (sound.one_runs t r member r_member e runs) ∙ is_n)))
             (record { off = omega arith; alive = omega arith; young = omega arith; on = omega arith })
-        by_role Done e = still Done false (eqb r.number n)
-        by_role Gone e = still Gone false (eqb r.number n)
+        by_role role e = still role false (eqb r.number n)
 
         by_number : (a : Bool) → eqb x.number n ≡ a
             → Turned t.role (cond (eqb t.number x.number) Running (displaced t.role)) a false (eqb r.number n) false
@@ -208,10 +204,6 @@ module _ (s : State) (sound : IsSound s) (n : ℕ) (t : Task) (member : IsMember
             subst (λ c. Turned t.role (cond c Running (displaced t.role)) false false (eqb r.number n) false)
             (sym (ne_eqb t.number x.number (λ same. eqb-false _ _ e (sym same ∙ is_n))))
             (by_role t.role refl)
-
--- what is done where none of the first six cases applies
-abbrev pub rest_of : State → Move
-rest_of s = ending s or_else Ticks
 
 -- it changes no role
 rest_turned : (s : State) (n : ℕ) (t : Task)
@@ -288,13 +280,8 @@ fresh_any n k (x ∷ tasks) all t (inr member) is_n =
 pub fresh_same : (t : Task) → is_fresh t ≡ fresh_role t.role
 fresh_same t = by_role t.role refl where
   by_role : (role : Role) → t.role ≡ role → is_fresh t ≡ fresh_role t.role
-  by_role Coming e = passes is_fresh t Coming false e refl ∙ sym (ap fresh_role e)
   by_role Fresh e = passes is_fresh t Fresh true e refl ∙ sym (ap fresh_role e)
-  by_role Waiting e = passes is_fresh t Waiting false e refl ∙ sym (ap fresh_role e)
-  by_role Held e = passes is_fresh t Held false e refl ∙ sym (ap fresh_role e)
-  by_role Running e = passes is_fresh t Running false e refl ∙ sym (ap fresh_role e)
-  by_role Done e = passes is_fresh t Done false e refl ∙ sym (ap fresh_role e)
-  by_role Gone e = passes is_fresh t Gone false e refl ∙ sym (ap fresh_role e)
+  by_role role e = passes is_fresh t role false e refl ∙ sym (ap fresh_role e)
 
 -- ---- along a run
 
@@ -561,15 +548,7 @@ rest_prompt s prompt quiet = by_end (list_all is_over s.tasks) where
 
 -- three tests that hold
 all_three : (a b c : Bool) → a ≡ true → b ≡ true → c ≡ true → (a && b && c) ≡ true
-all_three true true true ea eb ec = refl
-all_three false b c ea eb ec = never ea
-all_three true false c ea eb ec = never eb
-all_three true true false ea eb ec = never ec
-
-all_two : (a b : Bool) → a ≡ true → b ≡ true → (a && b) ≡ true
-all_two true true ea eb = refl
-all_two false b ea eb = never ea
-all_two true false ea eb = never eb
+all_three a b c ea eb ec = and_from (a && b) c (and_from a b ea eb) ec
 
 -- some job preempts, some job takes
 abbrev pub preempts_some : Move → Bool
@@ -618,7 +597,7 @@ module _ (J : Instance) (valid : IsValid J) where
       numbered_there s keeps f f_member,
       subst (λ j. may_preempt j (f.number, f.job) ≡ true)
           (job_is n_j member s keeps r r_member (eqb-true _ _ e))
-          (all_two (nat_le r.job.release f.job.release) (nat_lt f.job.deadline r.job.deadline)
+          (and_from (nat_le r.job.release f.job.release) (nat_lt f.job.deadline r.job.deadline)
           (le-leb _ _ (omega (arith, says s keeps.sound r r_member Running runs, prompt f f_member fresh)))
           (lt-ltb _ _ before)),
       eq-eqb f.number f.number refl,
@@ -679,14 +658,6 @@ module _ (J : Instance) (valid : IsValid J) where
         ((x.number, x.job), numbered_there s keeps x x_member, refl, eq-eqb x.number x.number refl)
     deed_takes k other rests m (Rested quiet) e = never (sym rests ∙ e)
     deed_takes k other rests m _ e = never e
-
-  -- neither End nor a silent tick passes
-  pub rest_fails : (test : Move → Bool) → ((value : ℕ) → test (Prints (End value)) ≡ false) → test Ticks ≡ false
-      → (s : State) → test (rest_of s) ≡ false
-  rest_fails test ends ticks s = by_end (list_all is_over s.tasks) where
-    by_end : (b : Bool) → test (then_some b (Prints (End (value_sum (filter is_done s.tasks)))) or_else Ticks) ≡ false
-    by_end true = ends (value_sum (filter is_done s.tasks))
-    by_end false = ticks
 
   -- what a deed finds, every step of the run finds
   pub each_finds : (hit : Move → Bool) (named : ℕ → Move → Bool) (test : ℕ × JobFacts → Bool)
@@ -870,7 +841,7 @@ module _ (J : Instance) (valid : IsValid J) where
     by_behind : (b : Bool) → (b ≡ false → IsTaken s) → returns x ≡ true → b ≡ true
     by_behind true free e = refl
     by_behind false free e = absurd (deed_returns s keeps.sound (free refl) J.rules.ratio (rest_of s)
-        (rest_fails J valid (returns_by s) (λ value. refl) refl s) (step J.rules s)
+        (rest_fails (returns_by s) (λ value. refl) refl s) (step J.rules s)
         (step_deed J valid s keeps J.rules)
         (ap (λ (y : Step). returns y) (sym whole.0) ∙ e))
 
