@@ -268,8 +268,6 @@ module _ (c : ℕ) where
   dispatch_later : (v : View) (r p o : Option Task)
       → dispatch (moved_view v) (moved_option c r) (moved_option c p) (moved_option c o) ≡ moved_choice
       (dispatch v r p o)
-  dispatch_later v (Some r) p o = refl
-  dispatch_later v None (Some p) None = refl
   dispatch_later v None (Some p) (Some o) =
       ap (λ b. Some (runs (moved_view v) (cond (b && nat_le (left o) v.held_room) (moved_task c o) (moved_task c p))))
       (lt_later c o.job.deadline p.job.deadline)
@@ -279,14 +277,11 @@ module _ (c : ℕ) where
         by_test true = refl
         by_test false = refl
   dispatch_later v None None (Some o) = refl
-  dispatch_later v None None None = refl
+  dispatch_later v _ _ _ = refl
 
   -- a decision on a fresh job
   decision_later : (v : View) (r f : Option Task)
       → decision (moved_view v) (moved_option c r) (moved_option c f) ≡ moved_choice (decision v r f)
-  decision_later v None None = refl
-  decision_later v (Some r) None = refl
-  decision_later v None (Some f) = refl
   decision_later v (Some r) (Some f) =
       ap (λ b. Some (cond (b && nat_le f.job.work v.privileged_room) (Prints (Preempt (v.clock + c) r.number f.number))
       (Waits f.number)))
@@ -295,6 +290,8 @@ module _ (c : ℕ) where
             ≡ moved_choice (Some (cond b (Prints (Preempt v.clock r.number f.number)) (Waits f.number)))
         by_test true = refl
         by_test false = refl
+  decision_later v None (Some f) = refl
+  decision_later v _ _ = refl
 
   -- an arrival
   arrival_later : (v : View) (o : Option Task) → arrival (moved_view v) (moved_option c o) ≡ moved_choice (arrival v o)
@@ -310,27 +307,22 @@ module _ (c : ℕ) where
   -- a decision at a latest start
   alarm_later : (k : Fraction) (v : View) (r x : Option Task)
       → alarm k (moved_view v) (moved_option c r) (moved_option c x) ≡ moved_choice (alarm k v r x)
-  alarm_later k v None None = refl
-  alarm_later k v (Some r) None = refl
-  alarm_later k v None (Some x) = refl
   alarm_later k v (Some r) (Some x) = by_test (is_heavy k x.job.value v.privileged_value) where
     by_test : (b : Bool) → Some
         (Prints (cond b (Take (v.clock + c) r.number x.number) (Abandon (v.clock + c) x.number)))
         ≡ moved_choice (Some (Prints (cond b (Take v.clock r.number x.number) (Abandon v.clock x.number))))
     by_test true = refl
     by_test false = refl
+  alarm_later k v None (Some x) = refl
+  alarm_later k v _ _ = refl
 
   -- the first that there is
   first_moved : (x y z u w : Option Move) (m : Move)
       → (moved_choice x or_else moved_choice y or_else moved_choice z or_else moved_choice u or_else moved_choice w
       or_else moved_move m)
       ≡ moved_move (x or_else y or_else z or_else u or_else w or_else m)
-  first_moved (Some x) y z u w m = refl
-  first_moved None (Some y) z u w m = refl
-  first_moved None None (Some z) u w m = refl
-  first_moved None None None (Some u) w m = refl
   first_moved None None None None (Some w) m = refl
-  first_moved None None None None None m = refl
+  first_moved _ _ _ _ _ m = refl
 
   -- the first of the cases that applies
   urgent_later : (k : Fraction) (v : View) (m : Move)

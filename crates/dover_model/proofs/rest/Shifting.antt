@@ -294,8 +294,6 @@ module _ (n value : ℕ) where
   dispatch_shift : (v : View) (r p o : Option Task)
       → dispatch (shifted_view n v) (shift_option n r) (shift_option n p) (shift_option n o) ≡ moved_option n value
       (dispatch v r p o)
-  dispatch_shift v (Some r) p o = refl
-  dispatch_shift v None (Some p) None = refl
   dispatch_shift v None (Some p) (Some o) =
       by_test (nat_lt o.job.deadline p.job.deadline && nat_le (left o) v.held_room) where
         by_test : (b : Bool) → Some (runs (shifted_view n v) (cond b (shifted n o) (shifted n p)))
@@ -304,19 +302,18 @@ module _ (n value : ℕ) where
         by_test true = refl
         by_test false = refl
   dispatch_shift v None None (Some o) = refl
-  dispatch_shift v None None None = refl
+  dispatch_shift v _ _ _ = refl
 
   -- a decision on a fresh job
   decision_shift : (v : View) (r f : Option Task)
       → decision (shifted_view n v) (shift_option n r) (shift_option n f) ≡ moved_option n value (decision v r f)
-  decision_shift v None None = refl
-  decision_shift v (Some r) None = refl
-  decision_shift v None (Some f) = refl
   decision_shift v (Some r) (Some f) = by_test (preempts v f r) where
     by_test : (b : Bool) → Some (cond b (Prints (Preempt v.clock (n + r.number) (n + f.number))) (Waits (n + f.number)))
         ≡ moved_option n value (Some (cond b (Prints (Preempt v.clock r.number f.number)) (Waits f.number)))
     by_test true = refl
     by_test false = refl
+  decision_shift v None (Some f) = refl
+  decision_shift v _ _ = refl
 
   -- an arrival
   arrival_shift : (v : View) (c : Option Task)
@@ -331,15 +328,14 @@ module _ (n value : ℕ) where
   -- a decision at a latest start
   alarm_shift : (k : Fraction) (v : View) (r x : Option Task)
       → alarm k (shifted_view n v) (shift_option n r) (shift_option n x) ≡ moved_option n value (alarm k v r x)
-  alarm_shift k v None None = refl
-  alarm_shift k v (Some r) None = refl
-  alarm_shift k v None (Some x) = refl
   alarm_shift k v (Some r) (Some x) = by_test (is_heavy k x.job.value v.privileged_value) where
     by_test : (b : Bool) → Some
         (Prints (cond b (Take v.clock (n + r.number) (n + x.number)) (Abandon v.clock (n + x.number))))
         ≡ moved_option n value (Some (Prints (cond b (Take v.clock r.number x.number) (Abandon v.clock x.number))))
     by_test true = refl
     by_test false = refl
+  alarm_shift k v None (Some x) = refl
+  alarm_shift k v _ _ = refl
 
   -- the first that there is
   first_moved : (a b c d e : Option Move) (m : Move)
@@ -347,12 +343,8 @@ module _ (n value : ℕ) where
       value d
       or_else moved_option n value e or_else moved n value m) ≡ moved n value
       (a or_else b or_else c or_else d or_else e or_else m)
-  first_moved (Some x) b c d e m = refl
-  first_moved None (Some x) c d e m = refl
-  first_moved None None (Some x) d e m = refl
-  first_moved None None None (Some x) e m = refl
   first_moved None None None None (Some x) m = refl
-  first_moved None None None None None m = refl
+  first_moved _ _ _ _ _ m = refl
 
   -- the first of the cases that applies
   urgent_shift : (k : Fraction) (v : View) (m : Move)

@@ -61,9 +61,8 @@ given_front : (n r d : ℕ) (a more : List ℕ) → given n r d a ≤ given n r 
 given_front n r d [] more = by_nil r d where
   by_nil : (r d : ℕ) → given n r d [] ≤ given n r d more
   by_nil zero zero = omega arith
-  by_nil zero (suc d) = omega arith
   by_nil (suc r) zero = omega arith
-  by_nil (suc r) (suc d) = omega arith
+  by_nil _ _ = omega arith
 given_front n r zero (x ∷ a) more = by_nil r where
   by_nil : (r : ℕ) → given n r 0 (x ∷ a) ≤ given n r 0 ((x ∷ a) ++ more)
   by_nil zero = omega arith
@@ -87,8 +86,7 @@ given_behind n k r zero (x ∷ front) b low = by_nil r b where
       → given k r 0 b ≤ given (n + k) r 0 ((x ∷ front) ++ map (λ m. n + m) (drop (length (x ∷ front)) b))
   by_nil zero [] = omega arith
   by_nil (suc r) [] = omega arith
-  by_nil zero (y ∷ b) = omega arith
-  by_nil (suc r) (y ∷ b) = omega arith
+  by_nil _ _ = omega arith
 given_behind n k zero (suc d) (x ∷ front) b low = absurd (omega arith)
 given_behind n k (suc r) (suc d) (x ∷ front) [] low = omega arith
 given_behind n k (suc r) (suc d) (x ∷ front) (y ∷ b) low = given_behind n k r d front b (omega arith)

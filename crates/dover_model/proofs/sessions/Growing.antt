@@ -72,13 +72,9 @@ nothing_named : (S : Session) (more : List Event) → length (releases more) ≡
     → fold with_line_named S (map Printed more) ≡ S
 nothing_named S [] none quiet = refl
 nothing_named S (Release n j ∷ more) none quiet = absurd (omega arith)
-nothing_named S (Run at n ∷ more) none quiet = nothing_named S more none quiet.1
-nothing_named S (Preempt at stops starts ∷ more) none quiet = nothing_named S more none quiet.1
-nothing_named S (Take at stops starts ∷ more) none quiet = nothing_named S more none quiet.1
 nothing_named S (Complete at n ∷ more) none quiet =
     ap (λ o. fold with_line_named (with_named S o) (map Printed more)) quiet.0 ∙ nothing_named S more none quiet.1
-nothing_named S (Abandon at n ∷ more) none quiet = nothing_named S more none quiet.1
-nothing_named S (End value ∷ more) none quiet = nothing_named S more none quiet.1
+nothing_named S (_ ∷ more) none quiet = nothing_named S more none quiet.1
 
 -- nor do they behind lines
 pub none_named : (lines : List TraceLine) (S : Session) (more : List Event) → LinesName lines S

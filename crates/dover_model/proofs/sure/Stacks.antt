@@ -247,9 +247,8 @@ module _ (s : State) (sound : IsSound s) (stacked : IsStacked s) (r x : Task) (x
 -- a tick more for the running job
 had_ticked : (b c : Bool) (n : ℕ) → cond b (cond c (n + 1) n) 0 ≤ cond b n 0 + cond c 1 0
 had_ticked true true n = omega arith
-had_ticked true false n = omega arith
 had_ticked false true n = omega arith
-had_ticked false false n = omega arith
+had_ticked _ _ n = omega arith
 
 -- it takes one at most
 left_ticked : (b : Bool) (had work : ℕ) → work - had ≤ work - cond b (had + 1) had + 1

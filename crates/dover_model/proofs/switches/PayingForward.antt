@@ -24,8 +24,7 @@ use Rattle.dover_model.proofs.steps.Kept.{step_deed, step_kept, opening_keeps, c
 use Rattle.dover_model.proofs.finishes.Readiness.{runner}
 use Rattle.dover_model.proofs.runs.Ending.{run_is_whole}
 use Rattle.dover_model.proofs.runs.Honest.{whole_outcome, all_ticks}
-use Rattle.dover_model.proofs.runs.Once.{takes_once}
-use Rattle.dover_model.proofs.runs.Once.{rest_of, rest_fails}
+use Rattle.dover_model.proofs.runs.Once.{takes_once, rest_of, rest_fails}
 use Rattle.dover_model.proofs.switches.Switching.{young, fresh_any, step_turned, over_run, completes_once}
 use Rattle.dover_model.proofs.switches.Switching.{fresh_same, IsTaken, deed_taken_then, deed_returns, rest_taken}
 use Rattle.dover_model.proofs.switches.Stretches.{its_job, at_end}
@@ -93,15 +92,11 @@ ticks_split n loads (x ∷ xs) =
           ≤ one_if (tick && (not loads && not last)) + gains_from n (cond got (not back) (cond tick false loads)) xs
           + one_if loads + sum_by (loads_by n) (x ∷ xs) + (one_if (tick && last) + handed n xs)
       by_tests true true back loads last apart ticks more here there = never (sym (apart refl))
-      by_tests true false back true last apart ticks more here there = omega (arith, ticks, more, there)
       by_tests true false back false true apart ticks more here there = omega (arith, ticks, more, there)
-      by_tests true false back false false apart ticks more here there = omega (arith, ticks, more, there)
-      by_tests false true true true last apart ticks more here there = omega (arith, ticks, more, there)
-      by_tests false true true false last apart ticks more here there = omega (arith, ticks, more, there)
       by_tests false true false true last apart ticks more here there = omega (arith, ticks, more, here)
       by_tests false true false false last apart ticks more here there = omega (arith, ticks, more, here)
       by_tests false false back true last apart ticks more here there = omega (arith, ticks, more, here)
-      by_tests false false back false last apart ticks more here there = omega (arith, ticks, more, there)
+      by_tests _ _ _ _ _ apart ticks more here there = omega (arith, ticks, more, there)
 
 -- the ticks of a run's schedule are its silent ticks
 ticks_counted : (n : ℕ) (xs : List Step) → count_by (λ m. eqb m n) (all_ticks xs) ≡ count_by (is_tick_of n) xs

@@ -5,11 +5,10 @@ use Rattle.std.proofs.Common.{Option, Some, None, MatchBool, count_by, eqb-true,
 use Rattle.std.specs.List.{cons_option, enumerate_from}
 use Rattle.std.proofs.lemmas.Nat.{mul-le}
 use Rattle.std.proofs.lemmas.List.Sums.{sum_by-cons}
-use Rattle.dover_model.specs.Common.{JobFacts, Role, Running, Task, need}
-use Rattle.dover_model.specs.Common.{Instance, IsValid, numbered, ticks_given, end_state, State, opening, is_running}
-use Rattle.dover_model.specs.Common.{is_done, running, Move, Ticks, step, after, Step, is_end}
-use Rattle.dover_model.specs.Common.{run, ran, tick_of, number_running, IsWholeRun, step_at, role_then, gets}
-use Rattle.dover_model.specs.Common.{most_changes, useful, IsMember, Keeps, one_if}
+use Rattle.dover_model.specs.Common.{JobFacts, Role, Running, Task, need, Instance, IsValid, numbered, ticks_given}
+use Rattle.dover_model.specs.Common.{end_state, State, opening, is_running, is_done, running, Move, Ticks, step, after}
+use Rattle.dover_model.specs.Common.{Step, is_end, run, ran, tick_of, number_running, IsWholeRun, step_at, role_then}
+use Rattle.dover_model.specs.Common.{gets, most_changes, useful, IsMember, Keeps, one_if}
 use Rattle.dover_model.specs.Switches.{useful_from}
 use Rattle.dover_model.proofs.lists.Members.{found}
 use Rattle.dover_model.proofs.steps.Roles.{is_running_role, is_done_role, one_number}

@@ -370,9 +370,8 @@ module _ (T more : List ℕ) (n : ℕ) (wrong : first_wrong [] (text_lines T) �
 -- a good verdict isn't a wrong one
 good_not_wrong : (a b : Bool) (o : Option Session) (k line : ℕ) (e : Expected)
     → cond a (option_map_or Accepted o (Short k)) (Short k) ≡ Wrong line e → ⊥
-good_not_wrong true b None k line e h = absurd (let f : Short k ≡ Wrong line e = h in cc)
 good_not_wrong true b (Some S) k line e h = absurd (let f : Accepted S ≡ Wrong line e = h in cc)
-good_not_wrong false b o k line e h = absurd (let f : Short k ≡ Wrong line e = h in cc)
+good_not_wrong _ _ _ k line e h = absurd (let f : Short k ≡ Wrong line e = h in cc)
 
 -- a wrong verdict stays the same, whatever follows
 pub wrong_verdict_stays : (T more : List ℕ) (line : ℕ) (e : Expected) → verdict T ≡ Wrong line e
