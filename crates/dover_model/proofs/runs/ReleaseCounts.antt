@@ -66,6 +66,18 @@ module _ (s : State) (sound : IsSound s) where
       on_changed_role 0 s.tasks sound.numbered r member new (λ t role. is_coming (with_role t role) ≡ is_coming t)
       (there ∙ sym (passes is_coming r role false is here)) (λ t m differs. refl)
 
+  -- nor does it matter that one that isn't to come runs, where the others' roles leave the jobs to come as they are
+  pub taker_still : (r : Task) → IsMember r s.tasks → (role : Role) → r.role ≡ role
+      → is_coming (with_role r role) ≡ false
+      → (others : Task → Role) → Each (λ t. is_coming (with_role t (others t)) ≡ is_coming t) s.tasks
+      → Each (λ t. is_coming (with_role t (cond (eqb t.number r.number) Running (others t))) ≡ is_coming t) s.tasks
+  taker_still r member role is here others still t mt =
+      by_number (eqb t.number r.number) (one_still r member role Running is here refl t mt) where
+        by_number : (b : Bool) → is_coming (with_role t (cond b Running t.role)) ≡ is_coming t
+            → is_coming (with_role t (cond b Running (others t))) ≡ is_coming t
+        by_number true it = it
+        by_number false it = still t mt
+
   -- so many are to come after a deed
   deed_count : (k : _) (other m : Move) → (coming_count (after s other) + released_by other ≡ coming_count s)
       → Deed k s other m
@@ -79,14 +91,12 @@ module _ (s : State) (sound : IsSound s) where
   deed_count k other m rests (Began f member fresh none free) =
       omega (arith, still_coming s (changed f Running) (one_still f member Fresh Running fresh refl refl))
   deed_count k other m rests (Preempted r f member runs some f_member fresh before fits) =
-      omega (arith, still_coming s (λ t. cond (eqb t.number f.number) Running (changed r Held t)) both) where
-        both : Each (λ t. is_coming (with_role t (cond (eqb t.number f.number) Running (changed r Held t)))
-            ≡ is_coming t) s.tasks
-        both t mt = by_number (eqb t.number f.number) (one_still f f_member Fresh Running fresh refl refl t mt) where
-          by_number : (b : Bool) → is_coming (with_role t (cond b Running t.role)) ≡ is_coming t
-              → is_coming (with_role t (cond b Running (changed r Held t))) ≡ is_coming t
-          by_number true it = it
-          by_number false it = one_still r member Running Held runs refl refl t mt
+      omega (
+        arith,
+        still_coming s (λ t. cond (eqb t.number f.number) Running (changed r Held t))
+            (taker_still f f_member Fresh fresh refl (changed r Held)
+            (one_still r member Running Held runs refl refl)),
+      )
   deed_count k other m rests (Stayed r f member runs some f_member fresh why) =
       omega (arith, still_coming s (changed f Waiting) (one_still f f_member Fresh Waiting fresh refl refl))
   deed_count k other m rests (Arrived c member coming now first stale busy free) =
@@ -114,15 +124,11 @@ module _ (s : State) (sound : IsSound s) where
             (omega (arith, here, was))
             (λ t mt differs. omega (arith, other_same t mt differs))
   deed_count k other m rests (Taken r x member runs some x_member waiting now stale heavy) =
-      omega (arith, still_coming s (λ t. cond (eqb t.number x.number) Running (displaced t.role)) both) where
-        both : Each (λ t. is_coming (with_role t (cond (eqb t.number x.number) Running (displaced t.role)))
-            ≡ is_coming t) s.tasks
-        both t mt = by_number (eqb t.number x.number)
-            (one_still x x_member Waiting Running waiting refl refl t mt) where
-              by_number : (b : Bool) → is_coming (with_role t (cond b Running t.role)) ≡ is_coming t
-                  → is_coming (with_role t (cond b Running (displaced t.role))) ≡ is_coming t
-              by_number true it = it
-              by_number false it = displaced_coming t
+      omega (
+        arith,
+        still_coming s (λ t. cond (eqb t.number x.number) Running (displaced t.role))
+            (taker_still x x_member Waiting waiting refl (λ t. displaced t.role) (λ t mt. displaced_coming t)),
+      )
   deed_count k other m rests (Abandoned r x member runs some x_member waiting now stale light) =
       omega (arith, still_coming s (changed x Gone) (one_still x x_member Waiting Gone waiting refl refl))
   deed_count k other m rests (Rested quiet) = rests

@@ -6,7 +6,7 @@ use Rattle.std.specs.Option.{option_or}
 use Rattle.std.proofs.lemmas.List.Sums.{fold-append}
 use Rattle.std.specs.List.{AllByRecursion}
 use Rattle.std.proofs.lemmas.List.Elements.{filter_map-append}
-use Rattle.dover_model.specs.Common.{Event, Release, Run, Preempt, Take, Complete, Abandon, End, JobFacts, IsRatio}
+use Rattle.dover_model.specs.Common.{Event, Release, Complete, JobFacts, IsRatio}
 use Rattle.dover_model.specs.Common.{Declaration, under, Instance, IsValid, with_jobs, with_finishes, printed, settled}
 use Rattle.dover_model.specs.Common.{finish_now, RunsAtMark, Task, Item, JobItem, RefusedItem, Session, instance_of}
 use Rattle.dover_model.specs.Common.{admitted_jobs, Refused, early_at, finish_at, may_finish_early, with_named}
