@@ -18,7 +18,7 @@ use Rattle.dover_model.specs.Common.{is_end, event_of, printed_of, waits_for_mar
 use Rattle.dover_model.specs.Common.{IsSettledRun, Each, behind, behind_finish, Finish, is_finish_of, has_come_to}
 use Rattle.dover_model.proofs.lists.Members.{map_map, map_same, sum_map}
 use Rattle.dover_model.proofs.runs.RunLaws.{tasks_in, tasks_from}
-use Rattle.dover_model.proofs.steps.Roles.{of_over, over_ticked}
+use Rattle.dover_model.proofs.steps.Roles.{of_over, ticked_over}
 use Rattle.dover_model.proofs.finishes.Finishing.{none_without}
 use Rattle.std.specs.Option.{option_or}
 use Rattle.std.proofs.lemmas.List.Folds.{find-append}
@@ -576,7 +576,7 @@ module _ (rules : Rules) (n : ℕ) (first : List Finish) (own : Each (λ f. f.nu
         ap (state_of s.clock) (change_beside s.clock (λ t. with_role t t.role) (λ t. with_role t t.role)
         (λ u member. refl) (λ t. refl) s.tasks)
     after_beside s Ticks = ap (state_of (s.clock + 1)) (change_beside s.clock ticked ticked
-        (λ u member. over_ticked u (over u member)) (λ t. refl) s.tasks)
+        (λ u member. ticked_over u (over u member)) (λ t. refl) s.tasks)
 
     -- what a step prints
     event_moved : (m : Move)

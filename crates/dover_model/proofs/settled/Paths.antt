@@ -11,7 +11,7 @@ use Rattle.dover_model.specs.Common.{printed_of, printed, run, last_deadline, wa
 use Rattle.dover_model.specs.Common.{AllComeFrom, open_at, step_at, IsWholeRun, IsBarrier, IsBefore, IsSettledRun}
 use Rattle.dover_model.specs.Common.{Begins, IsOpenPath, IsPath, HasPrinted, Each, Keeps, end_state}
 use Rattle.dover_model.proofs.lists.Members.{all_each}
-use Rattle.dover_model.proofs.steps.Roles.{over_ticked}
+use Rattle.dover_model.proofs.steps.Roles.{ticked_over}
 use Rattle.dover_model.proofs.steps.Deeds.{over_rests}
 use Rattle.dover_model.proofs.steps.Kept.{open_kept, step_kept, opening_keeps, step_deed, open_deed}
 use Rattle.dover_model.proofs.runs.Ending.{potential, ends, run_is_whole}
@@ -175,7 +175,7 @@ module _ (J : Instance) (valid : IsValid J) (mark : ℕ) where
       ) where
         all_same : (tasks : List Task) → Each (λ u. is_over u ≡ true) tasks → map ticked tasks ≡ tasks
         all_same [] over = refl
-        all_same (u ∷ tasks) over = let here : ticked u ≡ u = over_ticked u (over u (inl refl)) in
+        all_same (u ∷ tasks) over = let here : ticked u ≡ u = ticked_over u (over u (inl refl)) in
             let rest : map ticked tasks ≡ tasks = all_same tasks (λ v m. over v (inr m)) in cc
 
   -- where all jobs are over, the step is End

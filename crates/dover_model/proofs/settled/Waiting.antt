@@ -9,7 +9,7 @@ use Rattle.dover_model.specs.Common.{Rules, Instance, IsValid, Step, is_end, eve
 use Rattle.dover_model.specs.Common.{IsWholeRun}
 use Rattle.dover_model.proofs.lists.Members.{all_each, not_all, map_member}
 use Rattle.dover_model.proofs.lists.Tests.{never}
-use Rattle.dover_model.proofs.steps.Roles.{over_ticked}
+use Rattle.dover_model.proofs.steps.Roles.{ticked_over}
 use Rattle.dover_model.proofs.steps.ReadyParts.{change, after_change, silent_ready}
 use Rattle.dover_model.proofs.steps.Deeds.{over_rests}
 use Rattle.dover_model.proofs.steps.Kept.{open_deed, open_kept, step_kept}
@@ -53,7 +53,7 @@ module _ (J : Instance) (valid : IsValid J) (rules : Rules) where
     map_each : (ts : List Task) → ((t : Task) → IsMember t ts → IsMember t s.tasks) → map ticked ts ≡ ts
     map_each [] among = refl
     map_each (t ∷ ts) among =
-        let here : ticked t ≡ t = over_ticked t (all_each is_over s.tasks over t (among t (inl refl))) in
+        let here : ticked t ≡ t = ticked_over t (all_each is_over s.tasks over t (among t (inl refl))) in
         ap (λ u. u ∷ map ticked ts) here ∙ ap (λ us. t ∷ us) (map_each ts (λ u m. among u (inr m)))
 
   -- so the clock goes on to any mark

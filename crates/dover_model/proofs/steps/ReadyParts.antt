@@ -3,7 +3,7 @@ use Rattle.std.proofs.Common.{◌≡◌, List, ◌∷◌, refl, sym, ap, ◌∙�
 use Rattle.std.proofs.Common.{subst, not, ℕ, ◌+◌, arith, Some, None, filter, find, sum_by, ne_eqb}
 use Rattle.std.proofs.lemmas.Bool.{not-false}
 use Rattle.std.proofs.lemmas.List.Sums.{sum_by-cons}
-use Rattle.dover_model.proofs.steps.Roles.{passes, of_over, over_ticked, one_number, by_role}
+use Rattle.dover_model.proofs.steps.Roles.{passes, of_over, ticked_over, one_number, by_role}
 use Rattle.dover_model.specs.Common.{Done, Gone, Waiting, Coming, Fresh, Held, Running, Task, is_over, State, is_coming}
 use Rattle.dover_model.specs.Common.{is_fresh, is_waiting, is_held, is_running, is_privileged, is_done, value_sum}
 use Rattle.dover_model.specs.Common.{with_role, view, Ticks, open_step, urgent_or, Move, Prints, Waits, role_after}
@@ -115,7 +115,7 @@ module _ (k : Fraction) (s : State) (sound : IsSound s) (t : Task) (mt : IsMembe
       ∙ ap (with_role t) displaced_over
   deed_over m (Abandoned r x member runs some x_member waiting now stale light) =
       unnamed x Waiting Gone x_member waiting refl
-  deed_over m (Rested quiet) = over_ticked t over
+  deed_over m (Rested quiet) = ticked_over t over
 
 -- a change that leaves the jobs that are over: those that aren't over afterwards are among those that weren't before
 ready_map : (f : Task → Task) (xs : List Task) → Each (λ t. is_over t ≡ true → f t ≡ t) xs

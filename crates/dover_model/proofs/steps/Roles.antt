@@ -77,8 +77,8 @@ of_over P done gone t over = by_end (is_over_role t over) where
   by_end (inr e) = subst P (sym e) gone
 
 -- it gains nothing by a tick
-pub over_ticked : (t : Task) → is_over t ≡ true → ticked t ≡ t
-over_ticked t over = of_over (λ role. ticked (with_role t role) ≡ with_role t role) refl refl t over
+pub ticked_over : (t : Task) → is_over t ≡ true → ticked t ≡ t
+ticked_over t over = of_over (λ role. ticked (with_role t role) ≡ with_role t role) refl refl t over
 
 -- the role that the test finds
 pub is_done_role : (t : Task) → is_done t ≡ true → t.role ≡ Done
