@@ -356,8 +356,8 @@ abbrev pub rest_of : State → Move
 rest_of s = ending s or_else Ticks
 
 -- neither End nor a silent tick passes
-pub rest_fails : (test : Move → Bool) → ((value : ℕ) → test (Prints (End value)) ≡ false) → test Ticks ≡ false → (s : State)
-    → test (rest_of s) ≡ false
+pub rest_fails : (test : Move → Bool) → ((value : ℕ) → test (Prints (End value)) ≡ false) → test Ticks ≡ false
+    → (s : State) → test (rest_of s) ≡ false
 rest_fails test ends ticks s = by_end (list_all is_over s.tasks) where
   by_end : (b : Bool) → test (then_some b (Prints (End (value_sum (filter is_done s.tasks)))) or_else Ticks) ≡ false
   by_end true = ends (value_sum (filter is_done s.tasks))

@@ -48,10 +48,8 @@ one_most false = omega arith
 
 -- a weaker test weighs more
 or_less : (a b c : Bool) → (b ≡ true → c ≡ true) → one_if (a || b) ≤ one_if (a || c)
-or_less true b c h = omega arith
-or_less false true true h = omega arith
 or_less false true false h = never (h refl)
-or_less false false c h = omega arith
+or_less _ _ _ h = omega arith
 
 -- of two tests, one weighs less than either
 or_more : (a b : Bool) → one_if a ≤ one_if (a || b)

@@ -107,22 +107,6 @@ ticks_counted n (x ∷ xs) = by_move x.move refl (ticks_counted n xs)
           → count_by (λ i. eqb i n) (all_ticks xs) ≡ count_by (is_tick_of n) xs
           → count_by (is_tick_of n) (x ∷ xs) ≡ one_if (is_tick_of n x) + count_by (is_tick_of n) xs
           → count_by (λ i. eqb i n) (cons_option (tick_of x) (all_ticks xs)) ≡ count_by (is_tick_of n) (x ∷ xs)
-      by_move (Prints e) is same counts = omega (
-        arith,
-        same,
-        counts,
-        ap (λ (m : Move). one_if (is_tick_of n (record { before = x.before; move = m }))) is,
-        ap (λ (m : Move). count_by (λ i. eqb i n) (cons_option (tick_of (record { before = x.before; move = m }))
-            (all_ticks xs))) is,
-      )
-      by_move (Waits w) is same counts = omega (
-        arith,
-        same,
-        counts,
-        ap (λ (m : Move). one_if (is_tick_of n (record { before = x.before; move = m }))) is,
-        ap (λ (m : Move). count_by (λ i. eqb i n) (cons_option (tick_of (record { before = x.before; move = m }))
-            (all_ticks xs))) is,
-      )
       by_move Ticks is same counts = omega (
         arith,
         same,
@@ -131,6 +115,14 @@ ticks_counted n (x ∷ xs) = by_move x.move refl (ticks_counted n xs)
         ap (λ (m : Move). count_by (λ i. eqb i n) (cons_option (tick_of (record { before = x.before; move = m }))
             (all_ticks xs))) is,
         sum_by-cons (λ i. one_if (eqb i n)) (number_running x.before) (all_ticks xs),
+      )
+      by_move _ is same counts = omega (
+        arith,
+        same,
+        counts,
+        ap (λ (m : Move). one_if (is_tick_of n (record { before = x.before; move = m }))) is,
+        ap (λ (m : Move). count_by (λ i. eqb i n) (cons_option (tick_of (record { before = x.before; move = m }))
+            (all_ticks xs))) is,
       )
 
 -- a part of a schedule gives no more than all of it
