@@ -21,7 +21,7 @@ use Rattle.dover_model.specs.Common.{Item, JobItem, FinishItem, EarlyFinish, Ses
 use Rattle.dover_model.specs.Common.{session_with, admitted_jobs, early_finishes, finish_of_item, may_finish_early}
 use Rattle.dover_model.specs.Common.{finish_at, early_at, handed_by}
 use Rattle.dover_model.proofs.lists.Members.{all_each, each_cons, found, not_found, some_same, on_map, member_front}
-use Rattle.dover_model.proofs.steps.Roles.{passes, is_running_role}
+use Rattle.dover_model.proofs.steps.Roles.{passes, is_running_role, is_coming_role}
 use Rattle.dover_model.proofs.steps.Moves.{says}
 use Rattle.dover_model.proofs.steps.Kept.{open_deed, step_kept, open_kept, opening_keeps, come_coming}
 use Rattle.dover_model.proofs.finishes.Readiness.{going, step_decides, open_decides, opening_ready}
@@ -43,7 +43,7 @@ use Rattle.dover_model.proofs.finishes.Early.{first_of_clock}
 use Rattle.dover_model.proofs.finishes.Further.{less_all}
 use Rattle.dover_model.proofs.lists.Tests.{never, none_is_some, each, below}
 use Rattle.dover_model.proofs.steps.Shown.{complete_event, complete_shows, early_shown, Shows, early_says, come_to_now}
-use Rattle.dover_model.proofs.steps.Shown.{coming_in, is_coming_role, deed_in, items_of, items_cons}
+use Rattle.dover_model.proofs.steps.Shown.{coming_in, deed_in, items_of, items_cons}
 
 module _ (J : Instance) (valid : IsValid J) where
   -- ---- steps of the run
@@ -258,7 +258,7 @@ module _ (J : Instance) (valid : IsValid J) where
       by_job : NoneBefore s.clock (coming_in tasks) → is_coming t ≡ true → NoneBefore s.clock (t.job ∷ coming_in tasks)
       by_job more e j (inr member) = more j member
       by_job more e j (inl same) = subst (λ (i : JobFacts). s.clock ≤ i.release) (sym same)
-          (all t (inl refl) (is_coming_role t t.role refl e))
+          (all t (inl refl) (is_coming_role t e))
 
       by_test : (b : Bool) → is_coming t ≡ b → NoneBefore s.clock (coming_in tasks)
           → NoneBefore s.clock (map (λ (u : Task). u.job)

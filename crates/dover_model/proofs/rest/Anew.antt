@@ -212,9 +212,8 @@ module _ (rules : Rules) where
   -- nothing has no part
   none_left : (x y : ℕ) → drop x (take y no_ticks) ≡ no_ticks
   none_left zero zero = refl
-  none_left zero (suc y) = refl
   none_left (suc x) zero = refl
-  none_left (suc x) (suc y) = refl
+  none_left _ _ = refl
 
   -- ticks of a later window
   drop_window : (c r d : ℕ) (s : List ℕ) → drop (r + c) (take (d + c) s) ≡ drop r (take d (drop c s))

@@ -5,7 +5,7 @@ use Rattle.std.specs.Prelude.{◌&&◌, nat_le}
 use Rattle.std.specs.List.{filter, cons_option}
 use Rattle.dover_model.specs.Common.{JobFacts, Event, Release, Run, Preempt, Take, Complete, Abandon, End, Task, Rules}
 use Rattle.dover_model.specs.Common.{Instance, IsValid, having, State, with_later, opening, to_come, is_done, value_sum}
-use Rattle.dover_model.specs.Common.{Move, Prints, Waits, Ticks, open_step, after, finish_or, declared_open_step, Step}
+use Rattle.dover_model.specs.Common.{Move, Prints, open_step, after, finish_or, declared_open_step, Step}
 use Rattle.dover_model.specs.Common.{is_end, event_of, printed_of, printed, run, completed_value, waits_for_mark}
 use Rattle.dover_model.specs.Common.{settled, settled_steps, AllComeFrom, open_at, step_at, EndsOver, IsSettledRun}
 use Rattle.dover_model.specs.Common.{IsOpenPath, Keeps, NoneBefore, IsAtRest, behind, names_end, before_end, AreOwn}
@@ -191,8 +191,7 @@ settled_without J valid mark (x ∷ xs) s keeps run =
       by_move (Prints (Complete at n)) on same = ap (λ es. Complete at n ∷ es) same
       by_move (Prints (Abandon at n)) on same = ap (λ es. Abandon at n ∷ es) same
       by_move (Prints (End value)) on same = never (sym on)
-      by_move (Waits n) on same = same
-      by_move Ticks on same = same
+      by_move _ on same = same
 
 -- a filter of two lists
 pub before_append : (es fs : List Event) → before_end (es ++ fs) ≡ before_end es ++ before_end fs

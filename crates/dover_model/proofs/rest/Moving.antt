@@ -5,15 +5,14 @@ use Rattle.std.specs.Prelude.{nat_lt, nat_le, ◌&&◌, ◌||◌}
 use Rattle.std.specs.Bool.{MatchBool, then_some}
 use Rattle.std.specs.List.{find, filter, fold, sum_by, list_all, cons_option}
 use Rattle.std.proofs.lemmas.Bool.{ne_eqb, eq-eqb, eqb-true, eqb-false, lt-ltb, ltb-true, ltb-false, le-ltb}
-use Rattle.dover_model.specs.Common.{Fraction, Event, Release, Run, Preempt, Take, Complete, Abandon, End, Version, One}
-use Rattle.dover_model.specs.Common.{Two, Three, Task, Rules, State, is_coming, is_fresh, is_waiting, is_held}
-use Rattle.dover_model.specs.Common.{is_running, is_privileged, is_done, is_over, left, latest_start, running, room}
-use Rattle.dover_model.specs.Common.{demand_by, least, value_sum, is_heavy, first, earlier, due_first, starts_before}
-use Rattle.dover_model.specs.Common.{Move, Prints, Waits, Ticks, View, view, ◌or_else◌, completion, dispatch, decision}
-use Rattle.dover_model.specs.Common.{arrival, alarm, urgent_or, step, ending, after, ticked, runs, preempts}
-use Rattle.dover_model.specs.Common.{is_at_latest_start, declared_step, due_finish, finish_or, Finish, is_finish_of}
-use Rattle.dover_model.specs.Common.{Step, is_end, event_of, printed_of, step_at, IsWholeRun, Each, JobFacts, later_job}
-use Rattle.dover_model.specs.Common.{later_event}
+use Rattle.dover_model.specs.Common.{Fraction, Event, Release, Preempt, Take, Complete, Abandon, End, Version, One}
+use Rattle.dover_model.specs.Common.{Task, Rules, State, is_coming, is_fresh, is_waiting, is_held, is_running}
+use Rattle.dover_model.specs.Common.{is_privileged, is_done, is_over, left, latest_start, running, room, demand_by}
+use Rattle.dover_model.specs.Common.{least, value_sum, is_heavy, first, earlier, due_first, starts_before, Move, Prints}
+use Rattle.dover_model.specs.Common.{Waits, Ticks, View, view, ◌or_else◌, completion, dispatch, decision, arrival}
+use Rattle.dover_model.specs.Common.{alarm, urgent_or, step, ending, after, ticked, runs, preempts, is_at_latest_start}
+use Rattle.dover_model.specs.Common.{declared_step, due_finish, finish_or, Finish, is_finish_of, Step, is_end, event_of}
+use Rattle.dover_model.specs.Common.{printed_of, step_at, IsWholeRun, Each, JobFacts, later_job, later_event}
 use Rattle.dover_model.proofs.steps.Kept.{move_of}
 use Rattle.dover_model.proofs.lists.Members.{map_map, map_same, sum_map, member_filter, on_map}
 use Rattle.dover_model.proofs.runs.RunLaws.{tasks_in, tasks_from}
@@ -131,13 +130,7 @@ module _ (c : ℕ) where
       (lt_later c a.job.deadline b.job.deadline)
       ∙ ap (λ same. nat_lt a.job.deadline b.job.deadline || (same && nat_lt a.number b.number))
       (eq_later c a.job.deadline b.job.deadline)
-  due_later Two a b fit fit2 = ap (λ less. less || (eqb (a.job.deadline + c) (b.job.deadline + c)
-      && (nat_lt b.job.value a.job.value || (eqb a.job.value b.job.value && nat_lt a.number b.number))))
-      (lt_later c a.job.deadline b.job.deadline)
-      ∙ ap (λ same. nat_lt a.job.deadline b.job.deadline || (same
-      && (nat_lt b.job.value a.job.value || (eqb a.job.value b.job.value && nat_lt a.number b.number))))
-      (eq_later c a.job.deadline b.job.deadline)
-  due_later Three a b fit fit2 = ap (λ less. less || (eqb (a.job.deadline + c) (b.job.deadline + c)
+  due_later _ a b fit fit2 = ap (λ less. less || (eqb (a.job.deadline + c) (b.job.deadline + c)
       && (nat_lt b.job.value a.job.value || (eqb a.job.value b.job.value && nat_lt a.number b.number))))
       (lt_later c a.job.deadline b.job.deadline)
       ∙ ap (λ same. nat_lt a.job.deadline b.job.deadline || (same
@@ -158,11 +151,7 @@ module _ (c : ℕ) where
   start_later One a b fit fit2 =
       keys_later (latest_start (moved_task c a)) (latest_start (moved_task c b)) (latest_start a) (latest_start b)
       (nat_lt a.number b.number) (latest_later c a fit) (latest_later c b fit2)
-  start_later Two a b fit fit2 =
-      keys_later (latest_start (moved_task c a)) (latest_start (moved_task c b)) (latest_start a) (latest_start b)
-      (nat_lt b.job.value a.job.value || (eqb a.job.value b.job.value && nat_lt a.number b.number))
-      (latest_later c a fit) (latest_later c b fit2)
-  start_later Three a b fit fit2 =
+  start_later _ a b fit fit2 =
       keys_later (latest_start (moved_task c a)) (latest_start (moved_task c b)) (latest_start a) (latest_start b)
       (nat_lt b.job.value a.job.value || (eqb a.job.value b.job.value && nat_lt a.number b.number))
       (latest_later c a fit) (latest_later c b fit2)
@@ -263,14 +252,7 @@ module _ (c : ℕ) where
   -- End stays End
   moved_end : (m : Move) → is_end (moved_move m) ≡ is_end m
   moved_end (Prints (Release m job)) = refl
-  moved_end (Prints (Run at m)) = refl
-  moved_end (Prints (Preempt at stops starts)) = refl
-  moved_end (Prints (Take at stops starts)) = refl
-  moved_end (Prints (Complete at m)) = refl
-  moved_end (Prints (Abandon at m)) = refl
-  moved_end (Prints (End more)) = refl
-  moved_end (Waits m) = refl
-  moved_end Ticks = refl
+  moved_end _ = refl
 
   -- a completion
   completion_later : (v : View) (r : Option Task)
@@ -286,8 +268,6 @@ module _ (c : ℕ) where
   dispatch_later : (v : View) (r p o : Option Task)
       → dispatch (moved_view v) (moved_option c r) (moved_option c p) (moved_option c o) ≡ moved_choice
       (dispatch v r p o)
-  dispatch_later v (Some r) p o = refl
-  dispatch_later v None (Some p) None = refl
   dispatch_later v None (Some p) (Some o) =
       ap (λ b. Some (runs (moved_view v) (cond (b && nat_le (left o) v.held_room) (moved_task c o) (moved_task c p))))
       (lt_later c o.job.deadline p.job.deadline)
@@ -297,14 +277,11 @@ module _ (c : ℕ) where
         by_test true = refl
         by_test false = refl
   dispatch_later v None None (Some o) = refl
-  dispatch_later v None None None = refl
+  dispatch_later v _ _ _ = refl
 
   -- a decision on a fresh job
   decision_later : (v : View) (r f : Option Task)
       → decision (moved_view v) (moved_option c r) (moved_option c f) ≡ moved_choice (decision v r f)
-  decision_later v None None = refl
-  decision_later v (Some r) None = refl
-  decision_later v None (Some f) = refl
   decision_later v (Some r) (Some f) =
       ap (λ b. Some (cond (b && nat_le f.job.work v.privileged_room) (Prints (Preempt (v.clock + c) r.number f.number))
       (Waits f.number)))
@@ -313,6 +290,8 @@ module _ (c : ℕ) where
             ≡ moved_choice (Some (cond b (Prints (Preempt v.clock r.number f.number)) (Waits f.number)))
         by_test true = refl
         by_test false = refl
+  decision_later v None (Some f) = refl
+  decision_later v _ _ = refl
 
   -- an arrival
   arrival_later : (v : View) (o : Option Task) → arrival (moved_view v) (moved_option c o) ≡ moved_choice (arrival v o)
@@ -328,27 +307,22 @@ module _ (c : ℕ) where
   -- a decision at a latest start
   alarm_later : (k : Fraction) (v : View) (r x : Option Task)
       → alarm k (moved_view v) (moved_option c r) (moved_option c x) ≡ moved_choice (alarm k v r x)
-  alarm_later k v None None = refl
-  alarm_later k v (Some r) None = refl
-  alarm_later k v None (Some x) = refl
   alarm_later k v (Some r) (Some x) = by_test (is_heavy k x.job.value v.privileged_value) where
     by_test : (b : Bool) → Some
         (Prints (cond b (Take (v.clock + c) r.number x.number) (Abandon (v.clock + c) x.number)))
         ≡ moved_choice (Some (Prints (cond b (Take v.clock r.number x.number) (Abandon v.clock x.number))))
     by_test true = refl
     by_test false = refl
+  alarm_later k v None (Some x) = refl
+  alarm_later k v _ _ = refl
 
   -- the first that there is
   first_moved : (x y z u w : Option Move) (m : Move)
       → (moved_choice x or_else moved_choice y or_else moved_choice z or_else moved_choice u or_else moved_choice w
       or_else moved_move m)
       ≡ moved_move (x or_else y or_else z or_else u or_else w or_else m)
-  first_moved (Some x) y z u w m = refl
-  first_moved None (Some y) z u w m = refl
-  first_moved None None (Some z) u w m = refl
-  first_moved None None None (Some u) w m = refl
   first_moved None None None None (Some w) m = refl
-  first_moved None None None None None m = refl
+  first_moved _ _ _ _ _ m = refl
 
   -- the first of the cases that applies
   urgent_later : (k : Fraction) (v : View) (m : Move)
@@ -439,16 +413,10 @@ module _ (c : ℕ) where
 
     -- the state after the step
     pub after_later : (s : State) (m : Move) → after (moved_state c s) (moved_move m) ≡ moved_state c (after s m)
-    after_later s (Prints (Release m job)) = ap (state_of (s.clock + c)) (change_later _ (λ _. refl) s.tasks)
-    after_later s (Prints (Run at m)) = ap (state_of (s.clock + c)) (change_later _ (λ _. refl) s.tasks)
-    after_later s (Prints (Complete at m)) = ap (state_of (s.clock + c)) (change_later _ (λ _. refl) s.tasks)
-    after_later s (Prints (Abandon at m)) = ap (state_of (s.clock + c)) (change_later _ (λ _. refl) s.tasks)
-    after_later s (Prints (Preempt at stops starts)) = ap (state_of (s.clock + c)) (change_later _ (λ _. refl) s.tasks)
-    after_later s (Prints (Take at stops starts)) = ap (state_of (s.clock + c)) (change_later _ (λ _. refl) s.tasks)
-    after_later s (Prints (End value)) = ap (state_of (s.clock + c)) (change_later _ (λ _. refl) s.tasks)
-    after_later s (Waits m) = ap (state_of (s.clock + c)) (change_later _ (λ _. refl) s.tasks)
     after_later s Ticks = ap (λ clock. state_of clock (map (ticked) (map (moved_task c) s.tasks))) (omega arith)
         ∙ ap (state_of (s.clock + 1 + c)) (change_later ticked (λ _. refl) s.tasks)
+    after_later s (Prints (Release n j)) = ap (state_of (s.clock + c)) (change_later _ (λ _. refl) s.tasks)
+    after_later s _ = ap (state_of (s.clock + c)) (change_later _ (λ _. refl) s.tasks)
 
     -- the jobs fit after a step as before it
     fits_after : (s : State) (m : Move) → Each IsFitting s.tasks → Each IsFitting (after s m).tasks
@@ -469,8 +437,7 @@ module _ (c : ℕ) where
           event_moved : (m : Move)
               → event_of (moved_move m) ≡ elim (event_of m) [ None ↦ None | Some e ↦ Some (later_event c e) ]
           event_moved (Prints e) = refl
-          event_moved (Waits m) = refl
-          event_moved Ticks = refl
+          event_moved _ = refl
 
           cons_moved : (e : Option Event) (es fs : List Event) → fs ≡ map (later_event c) es
               → cons_option (elim e [ None ↦ None | Some e ↦ Some (later_event c e) ]) fs ≡ map (later_event c)

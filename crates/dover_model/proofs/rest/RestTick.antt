@@ -112,19 +112,13 @@ module _ (finishes : List Finish) (k : Fraction) (s : State) (sound : IsSound s)
   -- a late step is a silent tick, or a job runs on after it
   late_goes : (m : Move) → Deed k s Ticks m → Decides finishes s m → waits_for_mark m ≡ true
       → (m ≡ Ticks) ⊎ RunsOn finishes (after s m)
-  late_goes m (Completed r member runs) told late = never late
-  late_goes m (Resumed p member held none least why) told late = never late
-  late_goes m (Started o member waiting none first fits next) told late = never late
-  late_goes m (Began f member fresh none free) told late = never late
-  late_goes m (Preempted r f member runs some f_member fresh before fits) told late = never late
-  late_goes m (Stayed r f member runs some f_member fresh why) told late = never late
-  late_goes m (Arrived c member comes now first stale busy free) told late = never late
   late_goes m (Taken r x member runs some x_member waiting now stale heavy) told late =
       inr (taker x (λ t. displaced t.role) x_member (waiting_goes x x_member waiting))
   late_goes m (Abandoned r x member runs some x_member waiting now stale light) told late =
       inr (still x Gone x_member (passes is_running x Waiting false waiting refl)
       (r, member, runs, going finishes r some (told.goes refl r member runs)))
   late_goes m (Rested quiet) told late = inl refl
+  late_goes m _ told late = never late
 
 module _ (J : Instance) (valid : IsValid J) where
   -- a step that isn't End is an open step

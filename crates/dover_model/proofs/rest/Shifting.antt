@@ -1,5 +1,5 @@
 -- The steps of tasks that stand behind tasks that are over, under greater numbers.
-use Rattle.std.proofs.Common.{◌≡◌, ℕ, ◌+◌, ◌-◌, ◌≤◌, ◌<◌, ◌⊎◌, inl, inr, List, [], ◌∷◌, ◌++◌, length, map, refl, sym}
+use Rattle.std.proofs.Common.{◌≡◌, ℕ, ◌+◌, ◌-◌, ◌≤◌, ◌<◌, inl, inr, List, [], ◌∷◌, ◌++◌, length, map, refl, sym}
 use Rattle.std.proofs.Common.{ap, ◌∙◌, subst, Bool, true, false, cond, arith, eqb, Option, Some, None}
 use Rattle.std.specs.Prelude.{nat_lt, nat_le, ◌&&◌, ◌||◌, ◌==◌}
 use Rattle.std.specs.Bool.{MatchBool, then_some}
@@ -7,7 +7,7 @@ use Rattle.std.specs.List.{find, filter, fold, sum_by, list_all, cons_option}
 use Rattle.std.proofs.lemmas.Bool.{ne_eqb, eq-eqb, eqb-true, eqb-false, lt-ltb, ltb-true, ltb-false, le-ltb}
 use Rattle.std.proofs.lemmas.List.Sums.{sum_by-cons}
 use Rattle.dover_model.specs.Common.{Fraction, Event, Release, Run, Preempt, Take, Complete, Abandon, End, Role, Fresh}
-use Rattle.dover_model.specs.Common.{Waiting, Held, Running, Done, Gone, Version, One, Two, Three, Task, Rules, having}
+use Rattle.dover_model.specs.Common.{Waiting, Held, Running, Done, Gone, Version, One, Task, Rules, having}
 use Rattle.dover_model.specs.Common.{State, is_coming, is_fresh, is_waiting, is_held, is_running, is_privileged}
 use Rattle.dover_model.specs.Common.{is_done, is_over, left, latest_start, room, demand_by, least, value_sum, is_heavy}
 use Rattle.dover_model.specs.Common.{first, earlier, due_first, starts_before, Move, Prints, Waits, Ticks, View, view}
@@ -18,7 +18,7 @@ use Rattle.dover_model.specs.Common.{is_end, event_of, printed_of, waits_for_mar
 use Rattle.dover_model.specs.Common.{IsSettledRun, Each, behind, behind_finish, Finish, is_finish_of, has_come_to}
 use Rattle.dover_model.proofs.lists.Members.{map_map, map_same, sum_map}
 use Rattle.dover_model.proofs.runs.RunLaws.{tasks_in, tasks_from}
-use Rattle.dover_model.proofs.steps.Roles.{passes, is_over_role}
+use Rattle.dover_model.proofs.steps.Roles.{of_over, ticked_over}
 use Rattle.dover_model.proofs.finishes.Finishing.{none_without}
 use Rattle.std.specs.Option.{option_or}
 use Rattle.std.proofs.lemmas.List.Folds.{find-append}
@@ -151,9 +151,7 @@ module _ (n : ℕ) where
   due_shift : (v : Version) (a b : Task) → due_first v (shifted n a) (shifted n b) ≡ due_first v a b
   due_shift One a b = ap (λ less. nat_lt a.job.deadline b.job.deadline || (eqb a.job.deadline b.job.deadline && less))
       (lt_shift n a.number b.number)
-  due_shift Two a b = ap (λ less. nat_lt a.job.deadline b.job.deadline || (eqb a.job.deadline b.job.deadline
-      && (nat_lt b.job.value a.job.value || (eqb a.job.value b.job.value && less)))) (lt_shift n a.number b.number)
-  due_shift Three a b = ap (λ less. nat_lt a.job.deadline b.job.deadline || (eqb a.job.deadline b.job.deadline
+  due_shift _ a b = ap (λ less. nat_lt a.job.deadline b.job.deadline || (eqb a.job.deadline b.job.deadline
       && (nat_lt b.job.value a.job.value || (eqb a.job.value b.job.value && less)))) (lt_shift n a.number b.number)
 
   -- the order by latest start
@@ -161,10 +159,7 @@ module _ (n : ℕ) where
   latest_shift One a b =
       ap (λ less. nat_lt (latest_start a) (latest_start b) || (eqb (latest_start a) (latest_start b) && less))
       (lt_shift n a.number b.number)
-  latest_shift Two a b = ap (λ less. nat_lt (latest_start a) (latest_start b) || (eqb (latest_start a) (latest_start b)
-      && (nat_lt b.job.value a.job.value || (eqb a.job.value b.job.value && less)))) (lt_shift n a.number b.number)
-  latest_shift Three a b = ap (λ less. nat_lt (latest_start a) (latest_start b) || (eqb (latest_start a)
-      (latest_start b)
+  latest_shift _ a b = ap (λ less. nat_lt (latest_start a) (latest_start b) || (eqb (latest_start a) (latest_start b)
       && (nat_lt b.job.value a.job.value || (eqb a.job.value b.job.value && less)))) (lt_shift n a.number b.number)
 
   -- the demand up to a task
@@ -209,10 +204,7 @@ module _ (n : ℕ) where
     over_fails : (p : Task → Bool) → ((t : Task) → p (with_role t Done) ≡ false)
         → ((t : Task) → p (with_role t Gone) ≡ false)
         → Each (λ t. p t ≡ false) overs
-    over_fails p done gone t member = by_end (is_over_role t (over t member)) where
-      by_end : (t.role ≡ Done) ⊎ (t.role ≡ Gone) → p t ≡ false
-      by_end (inl e) = passes p t Done false e (done t)
-      by_end (inr e) = passes p t Gone false e (gone t)
+    over_fails p done gone t member = of_over (λ role. p (with_role t role) ≡ false) (done t) (gone t) t (over t member)
 
     -- what is found is found behind
     find_there : (p : Task → Bool) → ((t : Task) → p (with_role t Done) ≡ false)
@@ -280,26 +272,12 @@ moved_option n value (Some m) = Some (moved n value m)
 -- End stays End
 moved_end : (n value : ℕ) (m : Move) → is_end (moved n value m) ≡ is_end m
 moved_end n value (Prints (Release m job)) = refl
-moved_end n value (Prints (Run at m)) = refl
-moved_end n value (Prints (Preempt at stops starts)) = refl
-moved_end n value (Prints (Take at stops starts)) = refl
-moved_end n value (Prints (Complete at m)) = refl
-moved_end n value (Prints (Abandon at m)) = refl
-moved_end n value (Prints (End more)) = refl
-moved_end n value (Waits m) = refl
-moved_end n value Ticks = refl
+moved_end n value _ = refl
 
 -- a late step stays late
 moved_late : (n value : ℕ) (m : Move) → waits_for_mark (moved n value m) ≡ waits_for_mark m
 moved_late n value (Prints (Release m job)) = refl
-moved_late n value (Prints (Run at m)) = refl
-moved_late n value (Prints (Preempt at stops starts)) = refl
-moved_late n value (Prints (Take at stops starts)) = refl
-moved_late n value (Prints (Complete at m)) = refl
-moved_late n value (Prints (Abandon at m)) = refl
-moved_late n value (Prints (End more)) = refl
-moved_late n value (Waits m) = refl
-moved_late n value Ticks = refl
+moved_late n value _ = refl
 
 module _ (n value : ℕ) where
   -- a completion
@@ -316,8 +294,6 @@ module _ (n value : ℕ) where
   dispatch_shift : (v : View) (r p o : Option Task)
       → dispatch (shifted_view n v) (shift_option n r) (shift_option n p) (shift_option n o) ≡ moved_option n value
       (dispatch v r p o)
-  dispatch_shift v (Some r) p o = refl
-  dispatch_shift v None (Some p) None = refl
   dispatch_shift v None (Some p) (Some o) =
       by_test (nat_lt o.job.deadline p.job.deadline && nat_le (left o) v.held_room) where
         by_test : (b : Bool) → Some (runs (shifted_view n v) (cond b (shifted n o) (shifted n p)))
@@ -326,19 +302,18 @@ module _ (n value : ℕ) where
         by_test true = refl
         by_test false = refl
   dispatch_shift v None None (Some o) = refl
-  dispatch_shift v None None None = refl
+  dispatch_shift v _ _ _ = refl
 
   -- a decision on a fresh job
   decision_shift : (v : View) (r f : Option Task)
       → decision (shifted_view n v) (shift_option n r) (shift_option n f) ≡ moved_option n value (decision v r f)
-  decision_shift v None None = refl
-  decision_shift v (Some r) None = refl
-  decision_shift v None (Some f) = refl
   decision_shift v (Some r) (Some f) = by_test (preempts v f r) where
     by_test : (b : Bool) → Some (cond b (Prints (Preempt v.clock (n + r.number) (n + f.number))) (Waits (n + f.number)))
         ≡ moved_option n value (Some (cond b (Prints (Preempt v.clock r.number f.number)) (Waits f.number)))
     by_test true = refl
     by_test false = refl
+  decision_shift v None (Some f) = refl
+  decision_shift v _ _ = refl
 
   -- an arrival
   arrival_shift : (v : View) (c : Option Task)
@@ -353,15 +328,14 @@ module _ (n value : ℕ) where
   -- a decision at a latest start
   alarm_shift : (k : Fraction) (v : View) (r x : Option Task)
       → alarm k (shifted_view n v) (shift_option n r) (shift_option n x) ≡ moved_option n value (alarm k v r x)
-  alarm_shift k v None None = refl
-  alarm_shift k v (Some r) None = refl
-  alarm_shift k v None (Some x) = refl
   alarm_shift k v (Some r) (Some x) = by_test (is_heavy k x.job.value v.privileged_value) where
     by_test : (b : Bool) → Some
         (Prints (cond b (Take v.clock (n + r.number) (n + x.number)) (Abandon v.clock (n + x.number))))
         ≡ moved_option n value (Some (Prints (cond b (Take v.clock r.number x.number) (Abandon v.clock x.number))))
     by_test true = refl
     by_test false = refl
+  alarm_shift k v None (Some x) = refl
+  alarm_shift k v _ _ = refl
 
   -- the first that there is
   first_moved : (a b c d e : Option Move) (m : Move)
@@ -369,12 +343,8 @@ module _ (n value : ℕ) where
       value d
       or_else moved_option n value e or_else moved n value m) ≡ moved n value
       (a or_else b or_else c or_else d or_else e or_else m)
-  first_moved (Some x) b c d e m = refl
-  first_moved None (Some x) c d e m = refl
-  first_moved None None (Some x) d e m = refl
-  first_moved None None None (Some x) e m = refl
   first_moved None None None None (Some x) m = refl
-  first_moved None None None None None m = refl
+  first_moved _ _ _ _ _ m = refl
 
   -- the first of the cases that applies
   urgent_shift : (k : Fraction) (v : View) (m : Move)
@@ -571,20 +541,7 @@ module _ (rules : Rules) (n : ℕ) (first : List Finish) (own : Each (λ f. f.nu
 
     -- what is over isn't displaced
     over_displaced : (u : Task) → is_over u ≡ true → with_role u (displaced u.role) ≡ u
-    over_displaced u over_u = by_end (is_over_role u over_u) where
-      by_end : (u.role ≡ Done) ⊎ (u.role ≡ Gone) → with_role u (displaced u.role) ≡ u
-      by_end (inl e) = subst (λ role. with_role u (displaced role) ≡ with_role u role) (sym e) refl
-      by_end (inr e) = subst (λ role. with_role u (displaced role) ≡ with_role u role) (sym e) refl
-
-    -- nor does it have a tick
-    over_still : (u : Task) → is_over u ≡ true → ticked u ≡ u
-    over_still u over_u = by_end (is_over_role u over_u) where
-      still : Bool → Task
-      still b = record { number = u.number; job = u.job; role = u.role; had = cond b (u.had + 1) u.had }
-
-      by_end : (u.role ≡ Done) ⊎ (u.role ≡ Gone) → ticked u ≡ u
-      by_end (inl e) = ap still (passes is_running u Done false e refl)
-      by_end (inr e) = ap still (passes is_running u Gone false e refl)
+    over_displaced u over_u = of_over (λ role. with_role u (displaced role) ≡ with_role u role) refl refl u over_u
 
     -- a state
     abbrev state_of : ℕ → List Task → State
@@ -619,14 +576,13 @@ module _ (rules : Rules) (n : ℕ) (first : List Finish) (own : Each (λ f. f.nu
         ap (state_of s.clock) (change_beside s.clock (λ t. with_role t t.role) (λ t. with_role t t.role)
         (λ u member. refl) (λ t. refl) s.tasks)
     after_beside s Ticks = ap (state_of (s.clock + 1)) (change_beside s.clock ticked ticked
-        (λ u member. over_still u (over u member)) (λ t. refl) s.tasks)
+        (λ u member. ticked_over u (over u member)) (λ t. refl) s.tasks)
 
     -- what a step prints
     event_moved : (m : Move)
         → event_of (moved n came_to m) ≡ elim (event_of m) [ None ↦ None | Some e ↦ Some (behind n came_to e) ]
     event_moved (Prints e) = refl
-    event_moved (Waits m) = refl
-    event_moved Ticks = refl
+    event_moved _ = refl
 
     -- one more event
     cons_moved : (e : Option Event) (es fs : List Event) → fs ≡ map (behind n came_to) es

@@ -5,8 +5,8 @@ use Rattle.std.proofs.Common.{None, MatchBool, count_by, sum_by, filter_map, le-
 use Rattle.std.specs.List.{cons_option, enumerate_from}
 use Rattle.std.proofs.lemmas.List.{take-map, drop-map, length-replicate}
 use Rattle.std.proofs.lemmas.List.Sums.{sum_by-cons, sum_by-append}
-use Rattle.dover_model.specs.Common.{idle, JobFacts, Rules, Instance, IsValid, having, State, opening, Move, Prints}
-use Rattle.dover_model.specs.Common.{Waits, Ticks, step, after, Step, is_end, run, ran, tick_of, completed_value}
+use Rattle.dover_model.specs.Common.{idle, JobFacts, Rules, Instance, IsValid, having, State, opening, Move}
+use Rattle.dover_model.specs.Common.{Ticks, step, after, Step, is_end, run, ran, tick_of, completed_value}
 use Rattle.dover_model.specs.Common.{step_at, IsWholeRun, ticks_given, is_served, worth, observed, NoneBefore, IsAtRest}
 use Rattle.dover_model.specs.Common.{end_tick, Turn, TurnsEnd, turn_under, turns_observed, behind_finish, one_run}
 use Rattle.dover_model.specs.Common.{turns_jobs, turns_finishes, completed_turns, Finish}
@@ -23,9 +23,8 @@ use Rattle.dover_model.proofs.lists.Members.{each_append}
 tick_or_not : (s : State) (m : Move) → (is_end m ≡ true → tick_of (record { before = s; move = m }) ≡ None)
     × ((more : List ℕ) → length (cons_option (tick_of (record { before = s; move = m })) more) + s.clock ≤ length more
     + (after s m).clock)
-tick_or_not s (Prints e) = (λ last. refl, λ more. omega arith)
-tick_or_not s (Waits n) = (λ last. refl, λ more. omega arith)
 tick_or_not s Ticks = (λ last. absurd (let e : false ≡ true = last in cc), λ more. omega arith)
+tick_or_not s _ = (λ last. refl, λ more. omega arith)
 
 -- a run has as many ticks as it takes, at most
 ticks_most : (rules : Rules) (zs : List Step) (s : State) (from : ℕ) → IsWholeRun rules s zs
@@ -62,9 +61,8 @@ given_front : (n r d : ℕ) (a more : List ℕ) → given n r d a ≤ given n r 
 given_front n r d [] more = by_nil r d where
   by_nil : (r d : ℕ) → given n r d [] ≤ given n r d more
   by_nil zero zero = omega arith
-  by_nil zero (suc d) = omega arith
   by_nil (suc r) zero = omega arith
-  by_nil (suc r) (suc d) = omega arith
+  by_nil _ _ = omega arith
 given_front n r zero (x ∷ a) more = by_nil r where
   by_nil : (r : ℕ) → given n r 0 (x ∷ a) ≤ given n r 0 ((x ∷ a) ++ more)
   by_nil zero = omega arith
@@ -88,8 +86,7 @@ given_behind n k r zero (x ∷ front) b low = by_nil r b where
       → given k r 0 b ≤ given (n + k) r 0 ((x ∷ front) ++ map (λ m. n + m) (drop (length (x ∷ front)) b))
   by_nil zero [] = omega arith
   by_nil (suc r) [] = omega arith
-  by_nil zero (y ∷ b) = omega arith
-  by_nil (suc r) (y ∷ b) = omega arith
+  by_nil _ _ = omega arith
 given_behind n k zero (suc d) (x ∷ front) b low = absurd (omega arith)
 given_behind n k (suc r) (suc d) (x ∷ front) [] low = omega arith
 given_behind n k (suc r) (suc d) (x ∷ front) (y ∷ b) low = given_behind n k r d front b (omega arith)

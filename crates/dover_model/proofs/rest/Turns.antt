@@ -62,12 +62,7 @@ before_behind n a (e ∷ es) =
     ∙ by_test (not (names_end e)) (before_behind n a es) where
       end_stays : (e : Event) → not (names_end (behind n a e)) ≡ not (names_end e)
       end_stays (Release k job) = refl
-      end_stays (Run at k) = refl
-      end_stays (Preempt at stops starts) = refl
-      end_stays (Take at stops starts) = refl
-      end_stays (Complete at k) = refl
-      end_stays (Abandon at k) = refl
-      end_stays (End value) = refl
+      end_stays _ = refl
 
       by_test : (b : Bool) → before_end (map (behind n a) es) ≡ map (behind n a) (before_end es)
           → cond b (behind n a e ∷ before_end (map (behind n a) es)) (before_end (map (behind n a) es))

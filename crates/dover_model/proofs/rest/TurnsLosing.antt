@@ -1,10 +1,9 @@
 -- Turns whose jobs one schedule serves lose none, and together earn the value of all.
 use Rattle.std.proofs.Common.{◌≡◌, ℕ, List, [], ◌∷◌, map, refl, sym, ◌∙◌, subst, false, not, inl, inr}
 use Rattle.std.specs.List.{cons_option}
-use Rattle.dover_model.specs.Common.{Event, Rules, total_value, Move, Prints, Waits, Ticks, Step, run, printed}
-use Rattle.dover_model.specs.Common.{printed_of, event_of, completed_value, Meets, Each, takes_or_abandons, Turn}
-use Rattle.dover_model.specs.Common.{TurnsEnd, behind, names_end, before_end, one_run, turn_under, turns_jobs}
-use Rattle.dover_model.specs.Common.{printed_turns}
+use Rattle.dover_model.specs.Common.{Event, Rules, total_value, Move, Prints, Step, run, printed, printed_of, event_of}
+use Rattle.dover_model.specs.Common.{completed_value, Meets, Each, takes_or_abandons, Turn, TurnsEnd, behind, names_end}
+use Rattle.dover_model.specs.Common.{before_end, one_run, turn_under, turns_jobs, printed_turns}
 use Rattle.dover_model.specs.declared.events.Event.TheVariants as events
 use Rattle.dover_model.proofs.lists.Members.{each_cons, each_append, on_map, member_filter}
 use Rattle.dover_model.proofs.rest.InTurns.{one_run_prints, one_run_completes, turns_valid}
@@ -19,13 +18,9 @@ none_behind : (n value : ℕ) (es : List Event) → LoseNone es → LoseNone (ma
 none_behind n value es all = on_map (behind n value) (λ e. takes_or_abandons (Prints e) ≡ false) es
     (λ e member. one e (all e member)) where
       one : (e : Event) → takes_or_abandons (Prints e) ≡ false → takes_or_abandons (Prints (behind n value e)) ≡ false
-      one (events.Release m job) none = refl
-      one (events.Run at m) none = refl
-      one (events.Preempt at stops starts) none = refl
       one (events.Take at stops starts) none = none
-      one (events.Complete at m) none = refl
       one (events.Abandon at m) none = none
-      one (events.End more) none = refl
+      one _ none = refl
 
 -- and of what steps print where no step is one
 none_printed : (xs : List Step) → Each (λ x. takes_or_abandons x.move ≡ false) xs → LoseNone (printed_of xs)
@@ -35,8 +30,7 @@ none_printed (x ∷ xs) each =
       by : (m : Move) → takes_or_abandons m ≡ false → LoseNone (printed_of xs)
           → LoseNone (cons_option (event_of m) (printed_of xs))
       by (Prints e) none rest = each_cons (λ f. takes_or_abandons (Prints f) ≡ false) e (printed_of xs) none rest
-      by (Waits n) none rest = rest
-      by Ticks none rest = rest
+      by _ none rest = rest
 
 module _ (rules : Rules) where
   -- what turns print, none of which loses anything

@@ -5,9 +5,9 @@ use Rattle.std.proofs.Common.{MatchBool, fold, sum_by, filter, leb-true, leb-fal
 use Rattle.std.specs.Bool.{then_some}
 use Rattle.std.specs.List.{AllByRecursion, list_all, cons_option}
 use Rattle.std.proofs.lemmas.List.Sums.{sum_by-cons}
-use Rattle.dover_model.specs.Common.{Event, End, Coming, Fresh, Waiting, Held, Running, Done, Gone, Role, Task}
+use Rattle.dover_model.specs.Common.{Event, End, Coming, Fresh, Waiting, Held, Running, Role, Task}
 use Rattle.dover_model.specs.Common.{JobFacts, IsJob, Rules, Instance, IsValid, State, opening, to_come, is_over}
-use Rattle.dover_model.specs.Common.{is_done, is_ready_behind, is_privileged, left, value_sum, Move, Prints, Waits}
+use Rattle.dover_model.specs.Common.{is_done, is_ready_behind, is_privileged, left, value_sum, Move, Prints}
 use Rattle.dover_model.specs.Common.{Ticks, step, open_step, after, ending, ◌or_else◌, Step, is_end, run, enough}
 use Rattle.dover_model.specs.Common.{last_deadline, event_of, printed_of, printed, step_at, IsWholeRun, EndsOver}
 use Rattle.dover_model.specs.Common.{IsMember, Each, NoneRuns, IsSound, Keeps, weight, weight_in, standing, Finish}
@@ -33,9 +33,8 @@ potential finishes due s = (due - s.clock) + weights finishes s
 -- the clock stays, or goes on by a silent tick
 pub clock_after : (s : State) (m : Move) → ((after s m).clock ≡ s.clock)
     ⊎ ((m ≡ Ticks) × ((after s m).clock ≡ s.clock + 1))
-clock_after s (Prints e) = inl refl
-clock_after s (Waits n) = inl refl
 clock_after s Ticks = inr (refl, refl)
+clock_after s _ = inl refl
 
 -- the clock never goes back
 pub later_clock : (s : State) (m : Move) → s.clock ≤ (after s m).clock
@@ -154,8 +153,7 @@ module _ (J : Instance) (valid : IsValid J) (s : State) (keeps : Keeps J s) wher
     by_role Waiting e = behind_early quiet it.0 it.1 (passes is_ready_behind it.0 Waiting true e refl)
     by_role Held e = behind_early quiet it.0 it.1 (passes is_ready_behind it.0 Held true e refl)
     by_role Running e = running_early quiet it.0 it.1 e
-    by_role Done e = never (sym it.2 ∙ passes is_over it.0 Done true e refl)
-    by_role Gone e = never (sym it.2 ∙ passes is_over it.0 Gone true e refl)
+    by_role over e = never (sym it.2 ∙ passes is_over it.0 over true e refl)
 
   -- each step but End lowers the potential
   pub step_falls : (rules : Rules) → IsReady rules.finishes s → is_end (step rules s) ≡ false

@@ -11,8 +11,7 @@ use Rattle.dover_model.proofs.lists.Members.{sum_le, sum_map}
 use Rattle.dover_model.proofs.steps.Roles.{one_number}
 use Rattle.dover_model.proofs.steps.Moves.{active_slack}
 use Rattle.dover_model.proofs.steps.Ticking.{Quiet}
-use Rattle.dover_model.proofs.steps.Deeds.{Deed, Completed, Resumed, Started, Began, Preempted, Stayed, Arrived, Taken}
-use Rattle.dover_model.proofs.steps.Deeds.{Abandoned, Rested}
+use Rattle.dover_model.proofs.steps.Deeds.{Deed, Stayed, Rested}
 use Rattle.dover_model.proofs.steps.Kept.{open_deed, open_kept}
 use Rattle.dover_model.proofs.runs.Potential.{one_most, weight_less, weight_of, tick_weight}
 use Rattle.dover_model.proofs.runs.WaitingMoves.{open_leaves}
@@ -96,17 +95,10 @@ module _ (J : Instance) (valid : IsValid J) (rules : Rules) where
     by_deed : (m : Move) → Deed rules.ratio s Ticks m → IsSilent m
         → (exits_freely (after s m) ≤ exits s)
         ⊎ (((after s m).clock ≡ s.clock) × (exits_freely (after s m) ≤ exits_freely s))
-    by_deed m (Completed r member runs) silent = none_is_some (sym silent)
-    by_deed m (Resumed p member held none least why) silent = none_is_some (sym silent)
-    by_deed m (Started o member waiting none first fits next) silent = none_is_some (sym silent)
-    by_deed m (Began f member fresh none free) silent = none_is_some (sym silent)
-    by_deed m (Preempted r f member runs some f_member fresh before fits) silent = none_is_some (sym silent)
     by_deed m (Stayed r f member runs some f_member fresh why) silent =
         inr (refl, wait_frees s J keeps f f_member fresh)
-    by_deed m (Arrived c member comes now first stale busy free) silent = none_is_some (sym silent)
-    by_deed m (Taken r x member runs some x_member waiting now stale heavy) silent = none_is_some (sym silent)
-    by_deed m (Abandoned r x member runs some x_member waiting now stale light) silent = none_is_some (sym silent)
     by_deed m (Rested quiet) silent = inl (tick_frees s quiet J keeps)
+    by_deed m _ silent = none_is_some (sym silent)
 
   -- after silent steps no more may cease to wait, whatever finishes then
   pub idles_free : (xs : List Step) (s u : State) → Keeps J s → Idles (bare rules) s xs u

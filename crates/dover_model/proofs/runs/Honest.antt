@@ -6,7 +6,7 @@ use Rattle.std.proofs.Common.{eq-eqb, ne_eqb, append-nil}
 use Rattle.std.specs.List.{cons_option, enumerate_from}
 use Rattle.std.proofs.lemmas.List.Sums.{sum_by-cons}
 use Rattle.std.proofs.lemmas.List.{length_push}
-use Rattle.dover_model.specs.Common.{NoneBefore, JobFacts, Event, End, Role, Coming, Fresh, Waiting, Held, Running}
+use Rattle.dover_model.specs.Common.{NoneBefore, JobFacts, Event, End, Waiting, Running}
 use Rattle.dover_model.specs.Common.{Done, Gone, Task, Instance, IsValid, ticks_given, is_served, worth, Finish, need}
 use Rattle.dover_model.specs.Common.{observing, observed, State, opening, running, is_running, is_privileged, is_over}
 use Rattle.dover_model.specs.Common.{is_done, left, value_sum, Move, Prints, Waits, Ticks, step, after, with_role}
@@ -16,7 +16,7 @@ use Rattle.dover_model.specs.Common.{IsNumberedFrom, jobs_of, Keeps}
 use Rattle.dover_model.proofs.finishes.Readiness.{IsReady, step_ready, opening_ready}
 use Rattle.dover_model.proofs.finishes.Needing.{Served, AllServed, need_most, step_served, opening_served}
 use Rattle.dover_model.proofs.lists.Members.{on_map, map_same, found, not_found, sum_same, sum_filter, map_member}
-use Rattle.dover_model.proofs.steps.Roles.{passes, is_running_role, is_over_role, one_number}
+use Rattle.dover_model.proofs.steps.Roles.{passes, is_running_role, is_over_role, is_done_role, one_number}
 use Rattle.dover_model.proofs.steps.Moves.{says, active_slack}
 use Rattle.dover_model.proofs.steps.Ticking.{Quiet}
 use Rattle.dover_model.proofs.steps.Deeds.{tick_quiet}
@@ -33,14 +33,10 @@ use Rattle.dover_model.proofs.valid.ValidParts.{valid_parts}
 -- a tick that goes to another number
 pub given_miss : (p : ℕ → Bool) (m : ℕ) → p m ≡ false → (s : List ℕ) (r d : ℕ)
     → given p r d (s ++ (m ∷ [])) ≡ given p r d s
-given_miss p m out [] zero zero = refl
-given_miss p m out [] (suc r) zero = refl
 given_miss p m out [] zero (suc d) = sum_by-cons (λ n. cond (p n) 1 0) m (take d [])
     ∙ ap (λ b. cond b 1 0 + given p 0 d []) out
     ∙ omega (arith, given_nil p 0 d)
 given_miss p m out [] (suc r) (suc d) = given_nil p r d
-given_miss p m out (x ∷ s) zero zero = refl
-given_miss p m out (x ∷ s) (suc r) zero = refl
 given_miss p m out (x ∷ s) zero (suc d) =
     omega (
       arith,
@@ -49,16 +45,14 @@ given_miss p m out (x ∷ s) zero (suc d) =
       given_miss p m out s 0 d,
     )
 given_miss p m out (x ∷ s) (suc r) (suc d) = given_miss p m out s r d
+given_miss p m out _ _ _ = refl
 
 -- a tick that goes to the number, within the window
 pub given_hit : (p : ℕ → Bool) (m : ℕ) → p m ≡ true → (s : List ℕ) (r d : ℕ) → r ≤ length s → length s < d
     → given p r d (s ++ (m ∷ [])) ≡ given p r d s + 1
-given_hit p m is_in [] zero zero low high = absurd (omega arith)
-given_hit p m is_in [] (suc r) d low high = absurd (omega arith)
 given_hit p m is_in [] zero (suc d) low high = sum_by-cons (λ n. cond (p n) 1 0) m (take d [])
     ∙ ap (λ b. cond b 1 0 + given p 0 d []) is_in
     ∙ omega (arith, given_nil p 0 d)
-given_hit p m is_in (x ∷ s) r zero low high = absurd (omega arith)
 given_hit p m is_in (x ∷ s) zero (suc d) low high =
     omega (
       arith,
@@ -67,6 +61,7 @@ given_hit p m is_in (x ∷ s) zero (suc d) low high =
       given_hit p m is_in s 0 d (omega arith) (omega arith),
     )
 given_hit p m is_in (x ∷ s) (suc r) (suc d) low high = given_hit p m is_in s r d (omega arith) (omega arith)
+given_hit p m is_in _ _ _ low high = absurd (omega arith)
 
 -- ---- the ticks so far are those that the jobs had
 
@@ -189,15 +184,9 @@ module _ (J : Instance) (valid : IsValid J) where
           append_assoc past (number_running s ∷ []) more
               ∙ ap (λ m. past ++ cons_option (tick_of (record { before = s; move = m })) more) (sym e),
         )
-    by_move (Prints event) e = (
+    by_move move e = (
       past,
-      move_gave past s (step J.rules s) (λ ticks. let c : Prints event ≡ Ticks = sym e ∙ ticks in cc) gave,
-      ap
-          (λ m. past ++ cons_option (tick_of (record { before = s; move = m })) more) (sym e),
-    )
-    by_move (Waits n) e = (
-      past,
-      move_gave past s (step J.rules s) (λ ticks. let c : Waits n ≡ Ticks = sym e ∙ ticks in cc) gave,
+      move_gave past s (step J.rules s) (λ ticks. let c : move ≡ Ticks = sym e ∙ ticks in cc) gave,
       ap
           (λ m. past ++ cons_option (tick_of (record { before = s; move = m })) more) (sym e),
     )
@@ -353,18 +342,9 @@ module _ (J : Instance) (valid : IsValid J) where
         of_work : JobFacts → ℕ → JobFacts
         of_work j n = record { release = j.release; work = n; deadline = j.deadline; value = j.value }
 
-        is_done_role : (t : Task) (role : Role) → t.role ≡ role → is_done t ≡ true → t.role ≡ Done
-        is_done_role t Coming e h = never (sym (passes is_done t Coming false e refl) ∙ h)
-        is_done_role t Fresh e h = never (sym (passes is_done t Fresh false e refl) ∙ h)
-        is_done_role t Waiting e h = never (sym (passes is_done t Waiting false e refl) ∙ h)
-        is_done_role t Held e h = never (sym (passes is_done t Held false e refl) ∙ h)
-        is_done_role t Running e h = never (sym (passes is_done t Running false e refl) ∙ h)
-        is_done_role t Done e h = e
-        is_done_role t Gone e h = never (sym (passes is_done t Gone false e refl) ∙ h)
-
         by_role : (t : Task) → Served J.rules.finishes t → (b : Bool) → is_done t ≡ b → observing t ≡ t.job
         by_role t it true e = ap (of_work t.job)
-            (ap (λ b. cond b t.had t.job.work) e ∙ it.done (is_done_role t t.role refl e)
+            (ap (λ b. cond b t.had t.job.work) e ∙ it.done (is_done_role t e)
             ∙ ap (λ fs. need fs t.number t.job.work) plain)
         by_role t it false e = ap (of_work t.job) (ap (λ b. cond b t.had t.job.work) e)
 

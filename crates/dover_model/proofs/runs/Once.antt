@@ -51,14 +51,9 @@ module _ (finishes : List Finish) where
   -- where more stands against a take, it stays so
   spent_more : (late : Bool) (role : Role) (clock w w' : ℕ) (t : Task) → w ≤ w' → Spent late role clock w t
       → Spent late role clock w' t
-  spent_more late Coming clock w w' t more spent = spent
-  spent_more late Fresh clock w w' t more spent = spent
   spent_more late Waiting clock w w' t more spent = λ e. let low : t.job.value ≤ w = (spent e).1 in
       ((spent e).0, omega arith)
-  spent_more late Held clock w w' t more spent = spent
-  spent_more late Running clock w w' t more spent = spent
-  spent_more late Done clock w w' t more spent = spent
-  spent_more late Gone clock w w' t more spent = spent
+  spent_more late _ clock w w' t more spent = spent
 
   -- a job of a known role
   spent_as : (late : Bool) (clock w : ℕ) (t : Task) (role : Role) → t.role ≡ role → Spent late t.role clock w t
@@ -93,13 +88,10 @@ module _ (finishes : List Finish) where
   displaced_spent : (late : Bool) (role : Role) (clock w w' : ℕ) (t : Task) → w ≤ w'
       → (is_privileged (with_role t role) ≡ true → t.job.value ≤ w')
       → Spent late role clock w t → Spent late (displaced role) clock w' (with_role t (displaced role))
-  displaced_spent late Coming clock w w' t more stood spent = spent
-  displaced_spent late Fresh clock w w' t more stood spent = spent
   displaced_spent late Waiting clock w w' t more stood spent = spent_more late Waiting clock w w' t more spent
   displaced_spent late Held clock w w' t more stood spent = λ e. (spent e, stood refl)
   displaced_spent late Running clock w w' t more stood spent = λ e. (spent e, stood refl)
-  displaced_spent late Done clock w w' t more stood spent = spent
-  displaced_spent late Gone clock w w' t more stood spent = spent
+  displaced_spent late _ clock w w' t more stood spent = spent
 
   module _ (late : Bool) (n : ℕ) (k : Fraction) (s : State) (sound : IsSound s) (r x : Task)
       (member : IsMember r s.tasks)
@@ -201,8 +193,6 @@ module _ (finishes : List Finish) where
         → (role ≡ Waiting → latest_start t ≡ s.clock → ⊥) → (role ≡ Running → 1 ≤ left t)
         → (is_privileged (with_role t role) ≡ true → s.clock + left t ≤ t.job.deadline)
         → Spent late role s.clock w t → Spent late role (s.clock + 1) w' (ticked (with_role t role))
-    tick_role w w' t Coming waits early some slack spent = spent
-    tick_role w w' t Fresh waits early some slack spent = spent
     tick_role w w' t Waiting waits early some slack spent = λ e.
         let in_time : s.clock + left t ≤ t.job.deadline = waits refl in
         let not_now : latest_start t ≡ s.clock → ⊥ = early refl in
@@ -213,8 +203,7 @@ module _ (finishes : List Finish) where
         let past : latest_start t ≤ s.clock = spent e in
         let some_left : 1 ≤ left t = some refl in
         let in_time : s.clock + left t ≤ t.job.deadline = slack refl in omega arith
-    tick_role w w' t Done waits early some slack spent = spent
-    tick_role w w' t Gone waits early some slack spent = spent
+    tick_role w w' t _ waits early some slack spent = spent
 
     -- of a job that waits
     waits_slack : (t : Task) → IsMember t s.tasks → t.role ≡ Waiting → s.clock + left t ≤ t.job.deadline
@@ -285,13 +274,6 @@ module _ (finishes : List Finish) where
     deed_takes : is_take_of n other ≡ false → (m : Move) → Deed k s other m → Decides finishes s m
         → is_take_of n m ≡ true
         → (IsSpent true n s → ⊥) × IsSpent true n (after s m)
-    deed_takes rests m (Completed r member runs) it e = never e
-    deed_takes rests m (Resumed p member held none least why) it e = never e
-    deed_takes rests m (Started o member waiting none ahead fits next) it e = never e
-    deed_takes rests m (Began f member fresh none free) it e = never e
-    deed_takes rests m (Preempted r f member runs some f_member fresh before fits) it e = never e
-    deed_takes rests m (Stayed r f member runs some f_member fresh why) it e = never e
-    deed_takes rests m (Arrived c member comes now least stale busy free) it e = never e
     deed_takes rests m (Taken r x member runs some x_member waiting now stale heavy) it e = (
       λ spent. takes_not true n k s sound r x member runs (going finishes r some
           (it.goes refl r member runs)) x_member waiting
@@ -299,25 +281,18 @@ module _ (finishes : List Finish) where
       take_spent true n k s sound r x member runs (going finishes r some (it.goes refl r member runs)) x_member waiting
           (waiting_goes x x_member waiting) now heavy (inl (eqb-true _ _ e)),
     )
-    deed_takes rests m (Abandoned r x member runs some x_member waiting now stale light) it e = never e
     deed_takes rests m (Rested quiet) it e = never (sym rests ∙ e)
+    deed_takes rests m _ it e = never e
 
     -- a job that preempts wasn't decided on, and then is
     deed_preempts : is_preempt_of n other ≡ false → (m : Move) → Deed k s other m → is_preempt_of n m ≡ true
         → (IsSpent false n s → ⊥) × IsSpent false n (after s m)
-    deed_preempts rests m (Completed r member runs) e = never e
-    deed_preempts rests m (Resumed p member held none least why) e = never e
-    deed_preempts rests m (Started o member waiting none ahead fits next) e = never e
-    deed_preempts rests m (Began f member fresh none free) e = never e
     deed_preempts rests m (Preempted r f member runs some f_member fresh before fits) e = (
       λ spent. spent_as false s.clock (standing finishes s.tasks) f Fresh fresh (spent f f_member (eqb-true _ _ e)),
       preempt_decides n s sound r f member runs some f_member fresh before fits (eqb-true _ _ e),
     )
-    deed_preempts rests m (Stayed r f member runs some f_member fresh why) e = never e
-    deed_preempts rests m (Arrived c member comes now least stale busy free) e = never e
-    deed_preempts rests m (Taken r x member runs some x_member waiting now stale heavy) e = never e
-    deed_preempts rests m (Abandoned r x member runs some x_member waiting now stale light) e = never e
     deed_preempts rests m (Rested quiet) e = never (sym rests ∙ e)
+    deed_preempts rests m _ e = never e
 
 -- ---- what is tested is true once
 
@@ -377,12 +352,12 @@ module _ (J : Instance) (valid : IsValid J) (rules : Rules) (test : Move → Boo
         by_test false failed all more none = omega (arith, all, more)
 
 -- what is done where none of the first six cases applies
-abbrev rest_of : State → Move
+abbrev pub rest_of : State → Move
 rest_of s = ending s or_else Ticks
 
 -- neither End nor a silent tick passes
-rest_fails : (test : Move → Bool) → ((value : ℕ) → test (Prints (End value)) ≡ false) → test Ticks ≡ false → (s : State)
-    → test (rest_of s) ≡ false
+pub rest_fails : (test : Move → Bool) → ((value : ℕ) → test (Prints (End value)) ≡ false) → test Ticks ≡ false
+    → (s : State) → test (rest_of s) ≡ false
 rest_fails test ends ticks s = by_end (list_all is_over s.tasks) where
   by_end : (b : Bool) → test (then_some b (Prints (End (value_sum (filter is_done s.tasks)))) or_else Ticks) ≡ false
   by_end true = ends (value_sum (filter is_done s.tasks))

@@ -48,10 +48,8 @@ one_most false = omega arith
 
 -- a weaker test weighs more
 or_less : (a b c : Bool) → (b ≡ true → c ≡ true) → one_if (a || b) ≤ one_if (a || c)
-or_less true b c h = omega arith
-or_less false true true h = omega arith
 or_less false true false h = never (h refl)
-or_less false false c h = omega arith
+or_less _ _ _ h = omega arith
 
 -- of two tests, one weighs less than either
 or_more : (a b : Bool) → one_if a ≤ one_if (a || b)
@@ -87,18 +85,13 @@ test_less a b c d h = by_test (nat_lt a b) (nat_lt c d) refl refl where
 -- where more stands against a take, no job can bring about more
 pub weight_less : (z : Scale) (role : Role) (clock w w' : ℕ) (t : Task) → w ≤ w'
     → weight_in z role clock w' t ≤ weight_in z role clock w t
-weight_less z Coming clock w w' t more = omega arith
-weight_less z Fresh clock w w' t more = omega arith
 weight_less z Waiting clock w w' t more =
     omega (
       arith,
       or_less (nat_lt clock (latest_start t)) (nat_lt w' t.job.value) (nat_lt w t.job.value)
           (lower_test w w' t.job.value more),
     )
-weight_less z Held clock w w' t more = omega arith
-weight_less z Running clock w w' t more = omega arith
-weight_less z Done clock w w' t more = omega arith
-weight_less z Gone clock w w' t more = omega arith
+weight_less z _ clock w w' t more = omega arith
 
 -- the weight of a job of a known role
 pub weight_of : (z : Scale) (clock w : ℕ) (t : Task) (role : Role) → t.role ≡ role
@@ -172,8 +165,6 @@ module _ (finishes : List Finish) where
       → (is_privileged (with_role t role) ≡ true → t.job.value ≤ w')
       → weight_in z (displaced role) clock w' (with_role t (displaced role)) ≤ weight_in z role clock w t + one_if
       (is_running (with_role t role))
-  displaced_weight z Coming clock w w' t more stood = omega arith
-  displaced_weight z Fresh clock w w' t more stood = omega arith
   displaced_weight z Waiting clock w w' t more stood = omega (arith, weight_less z Waiting clock w w' t more)
   displaced_weight z Held clock w w' t more stood =
       omega (
@@ -187,23 +178,17 @@ module _ (finishes : List Finish) where
         or_none (nat_lt clock (latest_start t)) (nat_lt w' t.job.value)
             (not_less w' t.job.value (stood refl)),
       )
-  displaced_weight z Done clock w w' t more stood = omega arith
-  displaced_weight z Gone clock w w' t more stood = omega arith
+  displaced_weight z _ clock w w' t more stood = omega arith
 
   -- only running and held jobs add
   stands_most : (t : Task) → stands finishes t ≤ cond (is_privileged t) t.job.value 0
   stands_most t = by_role t.role where
     by_role : (role : Role) → stands finishes (with_role t role) ≤ cond (is_privileged (with_role t role)) t.job.value 0
-    by_role Coming = omega arith
-    by_role Fresh = omega arith
-    by_role Waiting = omega arith
-    by_role Held = omega arith
     by_role Running = by_left (goes_on finishes t) where
       by_left : (b : Bool) → cond b t.job.value 0 ≤ t.job.value
       by_left true = omega arith
       by_left false = omega arith
-    by_role Done = omega arith
-    by_role Gone = omega arith
+    by_role _ = omega arith
 
   module _ (z : Scale) (k : Fraction) (s : State) (sound : IsSound s) (r x : Task) (member : IsMember r s.tasks)
       (runs : r.role ≡ Running)
@@ -309,8 +294,6 @@ module _ (finishes : List Finish) where
         → (role ≡ Running → 1 ≤ left t) → (is_privileged (with_role t role) ≡ true → s.clock + left t ≤ t.job.deadline)
         → t.had ≤ t.job.work → weight_in z role (s.clock + 1) w' (ticked (with_role t role))
         ≤ weight_in z role s.clock w t
-    tick_weight w w' t Coming fits early some slack most = omega arith
-    tick_weight w w' t Fresh fits early some slack most = omega arith
     tick_weight w w' t Waiting fits early some slack most =
         let in_time : s.clock + left t ≤ t.job.deadline = fits.2 in
         let not_now : latest_start t ≡ s.clock → ⊥ = early refl in
@@ -331,8 +314,7 @@ module _ (finishes : List Finish) where
           test_less (s.clock + 1) (t.job.deadline - (t.job.work - (t.had + 1))) s.clock (latest_start t)
               (λ h. omega arith),
         )
-    tick_weight w w' t Done fits early some slack most = omega arith
-    tick_weight w w' t Gone fits early some slack most = omega arith
+    tick_weight w w' t _ fits early some slack most = omega arith
 
     -- a silent tick does not raise the weights
     pub tick_weighs : weights_by finishes z (after s Ticks) ≤ weights_by finishes z s

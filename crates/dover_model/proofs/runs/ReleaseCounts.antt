@@ -1,17 +1,17 @@
 -- A run releases each of its jobs, and so does what is settled at a mark, where none is released later.
-use Rattle.std.proofs.Common.{◌≡◌, ℕ, ◌+◌, ◌*◌, ◌≤◌, ◌⊎◌, inl, inr, List, [], ◌∷◌, length, map, refl, sym, ap, ◌∙◌}
+use Rattle.std.proofs.Common.{◌≡◌, ℕ, ◌+◌, ◌*◌, ◌≤◌, List, [], ◌∷◌, length, map, refl, sym, ap, ◌∙◌}
 use Rattle.std.proofs.Common.{subst, Bool, true, false, cond, arith, eqb, filter_map, Option, Some, None, MatchBool}
 use Rattle.std.proofs.Common.{sum_by, filter, eq-eqb, eqb-true}
 use Rattle.std.specs.Bool.{then_some}
 use Rattle.std.specs.List.{AllByRecursion, cons_option, list_all}
-use Rattle.dover_model.specs.Common.{JobFacts, Event, Release, Run, Preempt, Take, Complete, Abandon, End, Role, Coming}
+use Rattle.dover_model.specs.Common.{JobFacts, Event, Release, End, Role, Coming}
 use Rattle.dover_model.specs.Common.{Fresh, Waiting, Held, Running, Done, Gone, Task, Rules, Instance, IsValid, State}
-use Rattle.dover_model.specs.Common.{opening, is_coming, is_over, is_done, value_sum, Move, Prints, Waits, Ticks, step}
+use Rattle.dover_model.specs.Common.{opening, is_coming, is_over, is_done, value_sum, Move, Prints, Ticks, step}
 use Rattle.dover_model.specs.Common.{open_step, after, ending, ◌or_else◌, with_role, displaced, ticked, Step, is_end}
 use Rattle.dover_model.specs.Common.{event_of, printed_of, printed, run, waits_for_mark, settled, settled_steps}
 use Rattle.dover_model.specs.Common.{IsWholeRun, IsSettledRun, IsMember, Each, IsSound, Keeps}
 use Rattle.dover_model.proofs.lists.Members.{sum_same, sum_map, sum_zero}
-use Rattle.dover_model.proofs.steps.Roles.{is_over_role, passes}
+use Rattle.dover_model.proofs.steps.Roles.{of_over, passes}
 use Rattle.dover_model.proofs.steps.Loads.{sum_change}
 use Rattle.dover_model.proofs.steps.OneChange.{changed, on_changed_role}
 use Rattle.dover_model.proofs.steps.Deeds.{Deed, Completed, Resumed, Started, Began, Preempted, Stayed, Arrived, Taken}
@@ -54,12 +54,7 @@ pub displaced_coming : (t : Task) → is_coming (with_role t (displaced t.role))
 displaced_coming t = by_role t.role where
   by_role : (role : Role) → is_coming (with_role t (displaced role)) ≡ is_coming (with_role t role)
   by_role Coming = refl
-  by_role Fresh = refl
-  by_role Waiting = refl
-  by_role Held = refl
-  by_role Running = refl
-  by_role Done = refl
-  by_role Gone = refl
+  by_role _ = refl
 
 module _ (s : State) (sound : IsSound s) where
   -- one job that isn't to come has another role
@@ -70,6 +65,18 @@ module _ (s : State) (sound : IsSound s) where
   one_still r member role new is here there =
       on_changed_role 0 s.tasks sound.numbered r member new (λ t role. is_coming (with_role t role) ≡ is_coming t)
       (there ∙ sym (passes is_coming r role false is here)) (λ t m differs. refl)
+
+  -- nor does it matter that one that isn't to come runs, where the others' roles leave the jobs to come as they are
+  pub taker_still : (r : Task) → IsMember r s.tasks → (role : Role) → r.role ≡ role
+      → is_coming (with_role r role) ≡ false
+      → (others : Task → Role) → Each (λ t. is_coming (with_role t (others t)) ≡ is_coming t) s.tasks
+      → Each (λ t. is_coming (with_role t (cond (eqb t.number r.number) Running (others t))) ≡ is_coming t) s.tasks
+  taker_still r member role is here others still t mt =
+      by_number (eqb t.number r.number) (one_still r member role Running is here refl t mt) where
+        by_number : (b : Bool) → is_coming (with_role t (cond b Running t.role)) ≡ is_coming t
+            → is_coming (with_role t (cond b Running (others t))) ≡ is_coming t
+        by_number true it = it
+        by_number false it = still t mt
 
   -- so many are to come after a deed
   deed_count : (k : _) (other m : Move) → (coming_count (after s other) + released_by other ≡ coming_count s)
@@ -84,14 +91,12 @@ module _ (s : State) (sound : IsSound s) where
   deed_count k other m rests (Began f member fresh none free) =
       omega (arith, still_coming s (changed f Running) (one_still f member Fresh Running fresh refl refl))
   deed_count k other m rests (Preempted r f member runs some f_member fresh before fits) =
-      omega (arith, still_coming s (λ t. cond (eqb t.number f.number) Running (changed r Held t)) both) where
-        both : Each (λ t. is_coming (with_role t (cond (eqb t.number f.number) Running (changed r Held t)))
-            ≡ is_coming t) s.tasks
-        both t mt = by_number (eqb t.number f.number) (one_still f f_member Fresh Running fresh refl refl t mt) where
-          by_number : (b : Bool) → is_coming (with_role t (cond b Running t.role)) ≡ is_coming t
-              → is_coming (with_role t (cond b Running (changed r Held t))) ≡ is_coming t
-          by_number true it = it
-          by_number false it = one_still r member Running Held runs refl refl t mt
+      omega (
+        arith,
+        still_coming s (λ t. cond (eqb t.number f.number) Running (changed r Held t))
+            (taker_still f f_member Fresh fresh refl (changed r Held)
+            (one_still r member Running Held runs refl refl)),
+      )
   deed_count k other m rests (Stayed r f member runs some f_member fresh why) =
       omega (arith, still_coming s (changed f Waiting) (one_still f f_member Fresh Waiting fresh refl refl))
   deed_count k other m rests (Arrived c member coming now first stale busy free) =
@@ -119,15 +124,11 @@ module _ (s : State) (sound : IsSound s) where
             (omega (arith, here, was))
             (λ t mt differs. omega (arith, other_same t mt differs))
   deed_count k other m rests (Taken r x member runs some x_member waiting now stale heavy) =
-      omega (arith, still_coming s (λ t. cond (eqb t.number x.number) Running (displaced t.role)) both) where
-        both : Each (λ t. is_coming (with_role t (cond (eqb t.number x.number) Running (displaced t.role)))
-            ≡ is_coming t) s.tasks
-        both t mt = by_number (eqb t.number x.number)
-            (one_still x x_member Waiting Running waiting refl refl t mt) where
-              by_number : (b : Bool) → is_coming (with_role t (cond b Running t.role)) ≡ is_coming t
-                  → is_coming (with_role t (cond b Running (displaced t.role))) ≡ is_coming t
-              by_number true it = it
-              by_number false it = displaced_coming t
+      omega (
+        arith,
+        still_coming s (λ t. cond (eqb t.number x.number) Running (displaced t.role))
+            (taker_still x x_member Waiting waiting refl (λ t. displaced t.role) (λ t mt. displaced_coming t)),
+      )
   deed_count k other m rests (Abandoned r x member runs some x_member waiting now stale light) =
       omega (arith, still_coming s (changed x Gone) (one_still x x_member Waiting Gone waiting refl refl))
   deed_count k other m rests (Rested quiet) = rests
@@ -147,14 +148,7 @@ module _ (s : State) (sound : IsSound s) where
 one_more : (m : Move) (es : List Event)
     → length (releases (cons_option (event_of m) es)) ≡ released_by m + length (releases es)
 one_more (Prints (Release n j)) es = omega arith
-one_more (Prints (Run at n)) es = omega arith
-one_more (Prints (Preempt at stops starts)) es = omega arith
-one_more (Prints (Take at stops starts)) es = omega arith
-one_more (Prints (Complete at n)) es = omega arith
-one_more (Prints (Abandon at n)) es = omega arith
-one_more (Prints (End value)) es = omega arith
-one_more (Waits n) es = omega arith
-one_more Ticks es = omega arith
+one_more _ es = omega arith
 
 -- none of these jobs is to come
 none_comes : (tasks : List Task) → Each (λ t. is_coming t ≡ false) tasks → sum_by comes tasks ≡ 0
@@ -205,10 +199,7 @@ settled_releases J mark valid known =
 
 -- a job that is over isn't to come
 pub over_not_coming : (t : Task) → is_over t ≡ true → is_coming t ≡ false
-over_not_coming t over = by_role (is_over_role t over) where
-  by_role : (t.role ≡ Done) ⊎ (t.role ≡ Gone) → is_coming t ≡ false
-  by_role (inl done) = passes is_coming t Done false done refl
-  by_role (inr gone) = passes is_coming t Gone false gone refl
+over_not_coming t over = of_over (λ role. is_coming (with_role t role) ≡ false) refl refl t over
 
 module _ (J : Instance) (valid : IsValid J) (rules : Rules) where
   -- what is done where no case applies releases none

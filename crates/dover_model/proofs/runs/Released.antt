@@ -9,8 +9,7 @@ use Rattle.dover_model.specs.Common.{Abandon, End, Rules, Instance, IsValid, Ste
 use Rattle.dover_model.specs.Common.{with_fresh}
 use Rattle.dover_model.proofs.lists.Members.{on_map}
 use Rattle.dover_model.proofs.steps.Roles.{passes}
-use Rattle.dover_model.proofs.steps.Deeds.{Deed, Completed, Resumed, Started, Began, Preempted, Stayed, Arrived, Taken}
-use Rattle.dover_model.proofs.steps.Deeds.{Abandoned, Rested}
+use Rattle.dover_model.proofs.steps.Deeds.{Deed, Arrived}
 use Rattle.dover_model.proofs.lists.Tests.{never}
 use Rattle.dover_model.proofs.texts.TraceLines.{item_of_line}
 use Rattle.dover_model.proofs.steps.Kept.{open_deed}
@@ -32,12 +31,7 @@ choice t false one other first second = second
 still_displaced : (t : Task) (role : Role) → is_coming (with_role t role) ≡ false
     → is_coming (with_role t (displaced role)) ≡ false
 still_displaced t Coming none = none
-still_displaced t Fresh none = refl
-still_displaced t Waiting none = refl
-still_displaced t Held none = refl
-still_displaced t Running none = refl
-still_displaced t Done none = refl
-still_displaced t Gone none = refl
+still_displaced t _ none = refl
 
 -- after an event it isn't to come either
 still_after : (e : Event) (t : Task) → is_coming t ≡ false
@@ -80,27 +74,14 @@ is_release _ = false
 
 -- no deed releases a job, where none is to come
 deed_no_release : (k : Fraction) (s : State) (m : Move) → NoneComes s.tasks → Deed k s Ticks m → is_release m ≡ false
-deed_no_release k s m none (Completed r member runs) = refl
-deed_no_release k s m none (Resumed p member held free least why) = refl
-deed_no_release k s m none (Started o member waiting free first fits next) = refl
-deed_no_release k s m none (Began f member fresh free behind) = refl
-deed_no_release k s m none (Preempted r f member runs some f_member fresh before fits) = refl
-deed_no_release k s m none (Stayed r f member runs some f_member fresh why) = refl
 deed_no_release k s m none (Arrived c member comes now first stale busy free) =
     never (sym (none c member) ∙ passes is_coming c Coming true comes refl)
-deed_no_release k s m none (Taken r x member runs some x_member waiting now stale heavy) = refl
-deed_no_release k s m none (Abandoned r x member runs some x_member waiting now stale light) = refl
-deed_no_release k s m none (Rested quiet) = refl
+deed_no_release k s m none _ = refl
 
 -- an event that is no release names no item
 names_none : (e : Event) → is_release (Prints e) ≡ false → item_of_line (Printed e) ≡ None
 names_none (Release n j) none = never (sym none)
-names_none (Run at n) none = refl
-names_none (Preempt at stops starts) none = refl
-names_none (Take at stops starts) none = refl
-names_none (Complete at n) none = refl
-names_none (Abandon at n) none = refl
-names_none (End value) none = refl
+names_none _ none = refl
 
 -- what is printed where no job is to come names no item
 pub printed_names_none : (J : Instance) → IsValid J → (s : State) → Keeps J s → (rules : Rules) → NoneComes s.tasks

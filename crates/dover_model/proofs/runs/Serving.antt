@@ -26,9 +26,8 @@ given p r d s = count_by p (drop r (take d s))
 -- an empty schedule gives nothing
 pub given_nil : (p : ℕ → Bool) (r d : ℕ) → given p r d [] ≡ 0
 given_nil p zero zero = refl
-given_nil p zero (suc d) = refl
 given_nil p (suc r) zero = refl
-given_nil p (suc r) (suc d) = refl
+given_nil p _ _ = refl
 
 -- an empty window gives nothing
 pub given_zero : (p : ℕ → Bool) (r : ℕ) (s : List ℕ) → given p r 0 s ≡ 0

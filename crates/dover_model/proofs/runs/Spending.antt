@@ -6,10 +6,10 @@ use Rattle.std.proofs.lemmas.List.Sums.{sum_by-cons, sum_by-append}
 use Rattle.std.proofs.lemmas.Nat.{mul-le}
 use Rattle.std.proofs.lemmas.List.{length-map}
 use Rattle.std.proofs.Math.Nat.{mul-le-mul_left}
-use Rattle.dover_model.specs.Common.{Role, Coming, Fresh, Waiting, Held, Running, Done, Gone, Task, latest_start, State}
+use Rattle.dover_model.specs.Common.{Role, Coming, Fresh, Waiting, Held, Running, Gone, Task, latest_start, State}
 use Rattle.dover_model.specs.Common.{is_waiting, weight_in, weight, standing, one_if, stands, exits_scale}
 use Rattle.dover_model.specs.Common.{waiting_count, exits, waits_among, HasSpentFor, CostsAtMost, cost_of, with_role}
-use Rattle.dover_model.specs.Common.{after, Move, Prints, Waits, Ticks, open_step, displaced, Rules, Instance, IsValid}
+use Rattle.dover_model.specs.Common.{after, Move, Prints, open_step, displaced, Rules, Instance, IsValid}
 use Rattle.dover_model.specs.Common.{bare, Keeps, IsMember, enters, leaves, waits_then, Run, Take, Abandon}
 use Rattle.dover_model.proofs.runs.Potential.{one_most, lower_test}
 use Rattle.dover_model.specs.Spending.{waits_so_far}
@@ -22,13 +22,10 @@ use Rattle.dover_model.proofs.steps.Roles.{passes}
 
 -- a job ceases to wait twice at most
 pub exits_each : (clock w : ℕ) (t : Task) (role : Role) → weight_in exits_scale role clock w t ≤ 2
-exits_each clock w t Coming = omega arith
-exits_each clock w t Fresh = omega arith
 exits_each clock w t Waiting = omega (arith, one_most (nat_lt clock (latest_start t) || nat_lt w t.job.value))
 exits_each clock w t Held = omega (arith, one_most (nat_lt clock (latest_start t)))
 exits_each clock w t Running = omega (arith, one_most (nat_lt clock (latest_start t)))
-exits_each clock w t Done = omega arith
-exits_each clock w t Gone = omega arith
+exits_each clock w t _ = omega arith
 
 -- two each
 pub sum_twice : (f : Task → ℕ) → ((t : Task) → f t ≤ 2) → (ts : List Task) → sum_by f ts ≤ 2 * length ts
@@ -43,12 +40,7 @@ exits_most s = sum_twice (weight exits_scale s.clock (standing [] s.tasks))
 waits_least : (clock w : ℕ) (t : Task) (role : Role)
     → one_if (is_waiting (with_role t role)) ≤ weight_in exits_scale role clock w t
 waits_least clock w t Coming = omega arith
-waits_least clock w t Fresh = omega arith
-waits_least clock w t Waiting = omega arith
-waits_least clock w t Held = omega arith
-waits_least clock w t Running = omega arith
-waits_least clock w t Done = omega arith
-waits_least clock w t Gone = omega arith
+waits_least clock w t _ = omega arith
 
 waiting_least : (s : State) → waiting_count s ≤ exits s
 waiting_least s = sum_le (λ t. one_if (is_waiting t)) (weight exits_scale s.clock (standing [] s.tasks)) s.tasks
@@ -124,8 +116,7 @@ paid_so_far c n ev eu wv wu mv mu before after v u paid =
 -- a move leaves as many tasks
 pub after_count : (s : State) (m : Move) → length (after s m).tasks ≡ length s.tasks
 after_count s (Prints e) = length-map s.tasks _
-after_count s (Waits n) = length-map s.tasks _
-after_count s Ticks = length-map s.tasks _
+after_count s _ = length-map s.tasks _
 
 module _ (J : Instance) (valid : IsValid J) (rules : Rules) (s : State) (keeps : Keeps J s) where
   -- the step, and the state that it leaves
@@ -182,8 +173,6 @@ or_still true false c h = never (h refl)
 -- at a later clock a job may cease to wait no more often
 weight_later : (clock later w : ℕ) (t : Task) (role : Role) → clock ≤ later
     → weight_in exits_scale role later w t ≤ weight_in exits_scale role clock w t
-weight_later clock later w t Coming less = omega arith
-weight_later clock later w t Fresh less = omega arith
 weight_later clock later w t Waiting less = omega (
   arith,
   or_still (nat_lt later (latest_start t)) (nat_lt clock (latest_start t)) (nat_lt w t.job.value)
@@ -191,8 +180,7 @@ weight_later clock later w t Waiting less = omega (
 )
 weight_later clock later w t Held less = omega (arith, later_less clock later (latest_start t) less)
 weight_later clock later w t Running less = omega (arith, later_less clock later (latest_start t) less)
-weight_later clock later w t Done less = omega arith
-weight_later clock later w t Gone less = omega arith
+weight_later clock later w t _ less = omega arith
 
 module _ (n : ℕ) (s : State) (clock : ℕ) (t : Task) (later : s.clock ≤ clock)
     (new : (t.role ≡ Coming) ⊎ (t.role ≡ Fresh)) where

@@ -4,13 +4,13 @@ use Rattle.std.proofs.Common.{Bool, true, false, not, arith, ◌&&◌, MatchBool
 use Rattle.std.specs.Bool.{then_some}
 use Rattle.std.specs.List.{list_all}
 use Rattle.std.proofs.lemmas.List.Sums.{sum_by-cons}
-use Rattle.dover_model.specs.Common.{JobFacts, End, Coming, Done, Gone, Task, Rules, Instance, IsValid, State, opening}
-use Rattle.dover_model.specs.Common.{to_come, is_waiting, is_over, is_done, value_sum, Move, Prints, Waits, Ticks, step}
+use Rattle.dover_model.specs.Common.{JobFacts, End, Coming, Task, Rules, Instance, IsValid, State, opening}
+use Rattle.dover_model.specs.Common.{to_come, is_waiting, is_over, is_done, value_sum, Move, Prints, Ticks, step}
 use Rattle.dover_model.specs.Common.{open_step, after, ending, ◌or_else◌, with_role, ticked, Step, is_end, run}
 use Rattle.dover_model.specs.Common.{IsWholeRun, role_then, waits_then, leaves, enters, Each, Keeps, Finish, one_if}
 use Rattle.dover_model.specs.Common.{weight, weight_in, standing, exits_scale, waiting_count}
 use Rattle.dover_model.proofs.lists.Members.{sum_plus, sum_same, sum_map, sum_zero}
-use Rattle.dover_model.proofs.steps.Roles.{passes, is_over_role}
+use Rattle.dover_model.proofs.steps.Roles.{passes, of_over}
 use Rattle.dover_model.proofs.steps.Ticking.{Quiet}
 use Rattle.dover_model.proofs.steps.Leaving.{ceases}
 use Rattle.dover_model.proofs.finishes.Readiness.{IsReady, step_decides, open_decides, step_ready, opening_ready}
@@ -32,9 +32,8 @@ balance false false = refl
 
 -- how many wait after a move
 count_after : (s : State) (m : Move) → waiting_count (after s m) ≡ sum_by (λ t. one_if (waits_then m t)) s.tasks
-count_after s (Prints e) = sum_map (λ t. with_role t (role_then (Prints e) t)) (λ t. one_if (is_waiting t)) s.tasks
-count_after s (Waits n) = sum_map (λ t. with_role t (role_then (Waits n) t)) (λ t. one_if (is_waiting t)) s.tasks
 count_after s Ticks = sum_map ticked (λ t. one_if (is_waiting t)) s.tasks
+count_after s m = sum_map (λ t. with_role t (role_then m t)) (λ t. one_if (is_waiting t)) s.tasks
 
 -- as many wait after a move as before it, but for those that begin and those that cease to
 pub counts_balance : (s : State) (m : Move) → waiting_count s + enters s m ≡ leaves s m + waiting_count (after s m)
@@ -73,10 +72,8 @@ end_enters s value = sum_zero (λ t. ceases (is_waiting t) (is_waiting t)) s.tas
 -- where all are over, none waits
 over_waits_none : (s : State) → Each (λ t. is_over t ≡ true) s.tasks → waiting_count s ≡ 0
 over_waits_none s over =
-    sum_zero (λ t. one_if (is_waiting t)) s.tasks (λ t m. by_role t (is_over_role t (over t m))) where
-      by_role : (t : Task) → (t.role ≡ Done) ⊎ (t.role ≡ Gone) → one_if (is_waiting t) ≡ 0
-      by_role t (inl e) = ap (λ b. one_if b) (passes is_waiting t Done false e refl)
-      by_role t (inr e) = ap (λ b. one_if b) (passes is_waiting t Gone false e refl)
+    sum_zero (λ t. one_if (is_waiting t)) s.tasks
+    (λ t m. of_over (λ role. one_if (is_waiting (with_role t role)) ≡ 0) refl refl t (over t m))
 
 -- how many cease to wait in these steps
 abbrev all_leaves : List Step → ℕ

@@ -5,7 +5,7 @@ use Rattle.std.proofs.Common.{nat_lt, nat_le, ◌<◌, ◌&&◌, fold, option_ma
 use Rattle.std.proofs.Common.{append-nil}
 use Rattle.std.specs.Bool.{then_some}
 use Rattle.std.proofs.lemmas.Bool.{and_parts, and_right}
-use Rattle.dover_model.specs.Common.{BadJob, Count, Total, Ratio, Late, Full, last_tick, most_lines, Version, One, Two}
+use Rattle.dover_model.specs.Common.{Late, Full, last_tick, most_lines, Version, One}
 use Rattle.dover_model.specs.Common.{Three, Refusal, JobFacts, job_numbers, IsRatio, is_ratio, fraction, with_factor}
 use Rattle.dover_model.specs.Common.{Declaration, with_jobs, AreShort, refusal_of, Item, JobItem, RefusedItem}
 use Rattle.dover_model.specs.Common.{FinishItem, refused_at, Session, with_item, Refused, RefusedDone, refusal_at}
@@ -205,10 +205,8 @@ module _ (lines mark lines2 : ℕ) (zero_mark : mark ≡ 0) where
         (sym e)
         (from_none (account_with lines2 (Some (new_session rules)) mark Open)
         (holds_new rules (factor_good p q b c version rules e) some))
-  first_goes some (JobLine j) = from_none (with_fault (account_with lines2 None mark Open) Declared) tt
-  first_goes some (TickLine t) = from_none (with_fault (account_with lines2 None mark Open) Declared) tt
   first_goes some (DoneLine t n) = from_none (with_fault (account_with lines2 None mark Open) Line) tt
-  first_goes some EndLine = from_none (with_fault (account_with lines2 None mark Open) Declared) tt
+  first_goes some _ = from_none (with_fault (account_with lines2 None mark Open) Declared) tt
 
 -- ---- later lines
 
@@ -351,12 +349,8 @@ module _ (S : Session) (mark lines : ℕ) (holds : Holds S mark lines) where
   refused_goes : (j : JobFacts) (refusal : Refusal) → refuses_lines S.rules.version ≡ true → AreShort (job_numbers j)
       → refusal_at S mark j ≡ Some refusal
       → GoesOn so_far (refused_account (refused_mark mark j refusal) j refusal)
-  refused_goes j BadJob two short cause = refused_here j BadJob two short cause refl
-  refused_goes j Count two short cause = refused_here j Count two short cause refl
-  refused_goes j Total two short cause = refused_here j Total two short cause refl
-  refused_goes j Ratio two short cause = refused_here j Ratio two short cause refl
-  refused_goes j Late two short cause = refused_here j Late two short cause refl
   refused_goes j Full two short cause = full_goes j two short cause
+  refused_goes j refusal two short cause = refused_here j refusal two short cause refl
 
   -- the end
   end_goes : suc lines ≤ most_lines S.rules.version → GoesOn so_far (account_with (suc lines) (Some S) mark Ended)
@@ -394,8 +388,7 @@ module _ (S : Session) (mark lines : ℕ) (holds : Holds S mark lines) where
         (with_refused_at counted (refused_mark mark j refusal) j refusal)
         (with_fault counted (NotAdmitted refusal)))
     by_version refusal cause One is = fault_goes (NotAdmitted refusal)
-    by_version refusal cause Two is = refused_goes j refusal (ap refuses_lines is) short cause
-    by_version refusal cause Three is = refused_goes j refusal (ap refuses_lines is) short cause
+    by_version refusal cause _ is = refused_goes j refusal (ap refuses_lines is) short cause
 
     by_refusal : (o : Option Refusal) → nat_lt j.release mark ≡ false → refusal_in S j ≡ o
         → GoesOn so_far (with_line counted (JobLine j) (option_map NotAdmitted o))
@@ -405,13 +398,12 @@ module _ (S : Session) (mark lines : ℕ) (holds : Holds S mark lines) where
 
     by_late : (v : Version) → S.rules.version ≡ v → nat_lt j.release mark ≡ true
         → GoesOn so_far (with_line counted (JobLine j) (Some (late_cause v)))
-    by_late One is late = fault_goes Order
-    by_late Two is late = fault_goes Order
     by_late Three is late = subst (λ v. GoesOn so_far (cond (refuses_lines v)
         (with_refused_at counted mark j Late) (with_fault counted (NotAdmitted Late)))) (sym is)
         (refused_goes j Late (ap refuses_lines is) short
         (ap (λ b. cond b (late_refusal S.rules.version) (refusal_in S j)) late
         ∙ ap late_refusal is))
+    by_late _ is late = fault_goes Order
 
     by_order : (b : Bool) → nat_lt j.release mark ≡ b
         → GoesOn so_far (with_line counted (JobLine j)
@@ -512,12 +504,11 @@ module _ (S : Session) (mark lines : ℕ) (holds : Holds S mark lines) where
   -- a later line that has a form
   later_goes : suc lines ≤ most_lines S.rules.version → (line : FeedLine) → HasNumerals line
       → GoesOn so_far (with_line counted line (later_line_cause S mark line))
-  later_goes low (RatioLine p q version) short = fault_goes Declared
-  later_goes low (FactorLine p q version b c) short = fault_goes Declared
   later_goes low (JobLine j) short = job_line_goes j short
   later_goes low (TickLine t) short = tick_line_goes t
   later_goes low (DoneLine t n) short = done_line_goes t n short
   later_goes low EndLine short = end_goes low
+  later_goes low _ short = fault_goes Declared
 
 -- ---- each line
 

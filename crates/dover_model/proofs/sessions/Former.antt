@@ -1,7 +1,7 @@
 -- Sessions of versions One and Two are what they were before version Three.
 use Rattle.std.proofs.Common.{◌≡◌, ℕ, ◌≤◌, max, List, [], ◌∷◌, ◌++◌, refl, sym, ap, ◌∙◌, Bool, true, false, cond, Some}
 use Rattle.std.proofs.Common.{None, nat_lt, ltb-false}
-use Rattle.dover_model.specs.Common.{Version, One, Two, Three, Refusal, JobFacts, Declaration, refusal_of, Item}
+use Rattle.dover_model.specs.Common.{Version, Three, Refusal, JobFacts, Declaration, refusal_of, Item}
 use Rattle.dover_model.specs.Common.{JobItem, RefusedItem, FinishItem, Session, instance_of, session_with}
 use Rattle.dover_model.specs.Common.{admitted_jobs, early_finishes, may_finish_early, late_refusal, finish_at, early_at}
 use Rattle.dover_model.specs.Common.{RefusedLine, RefusedJob, RefusedDone, Refused, IsValidSession, refusal_in}
@@ -30,9 +30,8 @@ no_finishes S former valid = none_early S.rules [] 0 S.items former (session_par
 
 -- no late job line is refused alone
 pub late_none : (v : Version) → may_finish_early v ≡ false → late_refusal v ≡ None
-late_none One former = refl
-late_none Two former = refl
 late_none Three former = never (sym former)
+late_none _ former = refl
 
 -- a refused line is a job line that isn't late, with the cause for which it isn't admitted
 pub job_refused : (S : Session) (mark : ℕ) (r : Refused) → may_finish_early S.rules.version ≡ false

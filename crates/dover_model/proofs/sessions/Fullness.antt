@@ -70,9 +70,8 @@ full_many J mark full = omega (arith, leb-true most_ready (ready_at J mark) full
 
 -- in versions One and Two few jobs are admitted
 pub few_former : (v : Version) (n : ℕ) → may_finish_early v ≡ false → n < most_jobs v → n < most_ready
-few_former One n former few = few
-few_former Two n former few = few
 few_former Three n former few = never (sym former)
+few_former _ n former few = few
 
 module _ (S : Session) (j : JobFacts) where
   -- why the job isn't admitted by itself and the jobs before it
@@ -150,15 +149,10 @@ full_refuses S j none full = by_version S.rules.version (λ former. few_ready (i
       by_version : (v : Version) → (may_finish_early v ≡ false → is_full (instance_of S) j.release ≡ false)
           → refuses_lines v ≡ true
       by_version One room = never (sym (room refl) ∙ full)
-      by_version Two room = refl
-      by_version Three room = refl
+      by_version _ room = refl
 
 -- a job that is refused by itself, or for the jobs before it, leaves the mark
 pub mark_stays : (S : Session) (mark : ℕ) (j : JobFacts) (refusal : Refusal)
     → refusal_of S.rules (admitted_jobs S.items) j ≡ Some refusal → refused_mark mark j refusal ≡ mark
-mark_stays S mark j BadJob is = refl
-mark_stays S mark j Count is = refl
-mark_stays S mark j Total is = refl
-mark_stays S mark j Ratio is = refl
-mark_stays S mark j Late is = refl
 mark_stays S mark j Full is = absurd (never_alone S j is)
+mark_stays S mark j _ is = refl

@@ -6,14 +6,14 @@ use Rattle.std.specs.Option.{option_or}
 use Rattle.std.proofs.lemmas.List.Sums.{fold-append}
 use Rattle.std.specs.List.{AllByRecursion}
 use Rattle.std.proofs.lemmas.List.Elements.{filter_map-append}
-use Rattle.dover_model.specs.Common.{Event, Release, Run, Preempt, Take, Complete, Abandon, End, JobFacts, IsRatio}
+use Rattle.dover_model.specs.Common.{Event, Release, Complete, JobFacts, IsRatio}
 use Rattle.dover_model.specs.Common.{Declaration, under, Instance, IsValid, with_jobs, with_finishes, printed, settled}
 use Rattle.dover_model.specs.Common.{finish_now, RunsAtMark, Task, Item, JobItem, RefusedItem, Session, instance_of}
 use Rattle.dover_model.specs.Common.{admitted_jobs, Refused, early_at, finish_at, may_finish_early, with_named}
 use Rattle.dover_model.specs.Common.{FinishItem, EarlyFinish, early_finishes, with_item, new_session, job_of_item}
 use Rattle.dover_model.specs.Common.{finish_of_item, TraceLine, Printed, Refuses, Placed, put_in, places_of}
 use Rattle.dover_model.specs.Common.{lines_among, Begins}
-use Rattle.dover_model.proofs.valid.Valid.{all_from}
+use Rattle.dover_model.proofs.valid.Valid.{all_from, all_back}
 use Rattle.dover_model.proofs.lists.Beginnings.{begins_all, begins_length}
 use Rattle.dover_model.proofs.settled.Prefixes.{settled_prefix, printed_prefix}
 use Rattle.dover_model.proofs.settled.Releasing.{settled_then_released}
@@ -72,13 +72,9 @@ nothing_named : (S : Session) (more : List Event) → length (releases more) ≡
     → fold with_line_named S (map Printed more) ≡ S
 nothing_named S [] none quiet = refl
 nothing_named S (Release n j ∷ more) none quiet = absurd (omega arith)
-nothing_named S (Run at n ∷ more) none quiet = nothing_named S more none quiet.1
-nothing_named S (Preempt at stops starts ∷ more) none quiet = nothing_named S more none quiet.1
-nothing_named S (Take at stops starts ∷ more) none quiet = nothing_named S more none quiet.1
 nothing_named S (Complete at n ∷ more) none quiet =
     ap (λ o. fold with_line_named (with_named S o) (map Printed more)) quiet.0 ∙ nothing_named S more none quiet.1
-nothing_named S (Abandon at n ∷ more) none quiet = nothing_named S more none quiet.1
-nothing_named S (End value ∷ more) none quiet = nothing_named S more none quiet.1
+nothing_named S (_ ∷ more) none quiet = nothing_named S more none quiet.1
 
 -- nor do they behind lines
 pub none_named : (lines : List TraceLine) (S : Session) (more : List Event) → LinesName lines S
@@ -93,11 +89,6 @@ pub one_named : (lines : List TraceLine) (S : Session) (line : TraceLine) (item 
     → LinesName (lines ++ line ∷ []) (with_item S item)
 one_named lines S line item names is = fold-append with_line_named (new_session S.rules) lines (line ∷ [])
     ∙ ap (λ T. with_named T (item_in T line)) names ∙ ap (with_named S) is
-
--- the last ones
-pub all_last_part : {X : Type 0} (P : X → Type 0) (xs ys : List X) → AllByRecursion P (xs ++ ys) → AllByRecursion P ys
-all_last_part P [] ys all = all
-all_last_part P (x ∷ xs) ys all = all_last_part P xs ys all.1
 
 module _ (S : Session) (steps later : List Event) (within : RefusesWithin S steps) (begins : Begins steps later) where
   -- refused lines within steps are within more
@@ -123,7 +114,7 @@ module _ (S : Session) (steps later : List Event) (within : RefusesWithin S step
       ap (λ es. length (releases es)) begins.1
       ∙ ap length (filter_map-append _ steps begins.0) ∙ length-append (releases steps) (releases begins.0) in
       omega arith)
-      (all_last_part (λ e. finish_in S e ≡ None) steps begins.0 (subst (NameNone S) begins.1 quiet)))
+      (all_back (λ e. finish_in S e ≡ None) steps begins.0 (subst (NameNone S) begins.1 quiet)))
 
 -- ---- sessions
 
@@ -283,7 +274,7 @@ module _ (S : Session) (j : JobFacts) (reads : Reads S j.release)
 
   -- the rest names no finish
   rest_quiet : NameNone with_job releases_next.0
-  rest_quiet = all_last_part (λ e. finish_in with_job e ≡ None)
+  rest_quiet = all_back (λ e. finish_in with_job e ≡ None)
       (before ++ Release (length (admitted_jobs S.items)) j ∷ []) releases_next.0
       (subst (NameNone with_job) releases_next.1 (settled_names_none with_job j.release valid_all))
 
@@ -472,7 +463,7 @@ module _ (S : Session) (f : EarlyFinish) (reads : Reads S f.at) (it : Finishes S
 
   -- nor is another finish named
   finish_quiet : NameNone with_finish completes_next.0
-  finish_quiet = all_last_part (λ e. finish_in with_finish e ≡ None) (unfinished ++ done_now ∷ []) completes_next.0
+  finish_quiet = all_back (λ e. finish_in with_finish e ≡ None) (unfinished ++ done_now ∷ []) completes_next.0
       (subst (NameNone with_finish) completes_next.1 (settled_names_none with_finish f.at valid_finish))
 
   -- the completion names the finish

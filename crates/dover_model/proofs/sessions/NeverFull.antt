@@ -2,8 +2,8 @@
 use Rattle.std.proofs.Common.{◌≡◌, ℕ, ◌≤◌, List, [], ◌∷◌, ◌++◌, length, sym, ap, ◌∙◌, subst, false, arith}
 use Rattle.std.proofs.Common.{append_assoc, append-nil, length-append}
 use Rattle.std.proofs.lemmas.List.Elements.{filter_map-append}
-use Rattle.dover_model.specs.Common.{most_ready, most_jobs, Version, One, Two, Three, JobFacts, Declaration, IsValid}
-use Rattle.dover_model.specs.Common.{Item, JobItem, RefusedItem, FinishItem, Session, session_with, instance_of}
+use Rattle.dover_model.specs.Common.{most_ready, most_jobs, Version, Three, JobFacts, Declaration, IsValid}
+use Rattle.dover_model.specs.Common.{Item, JobItem, Session, session_with, instance_of}
 use Rattle.dover_model.specs.Common.{job_of_item, admitted_jobs, may_finish_early, is_full, IsNeverFull, IsValidSession}
 use Rattle.dover_model.proofs.lists.Members.{heads, tails}
 use Rattle.dover_model.proofs.sessions.Fullness.{few_ready}
@@ -17,8 +17,7 @@ module _ (rules : Declaration) where
       → FollowsItems rules before mark (i ∷ items)
       → (m : ℕ) × FollowsItems rules (before ++ i ∷ []) m items
   tail_follows before mark (JobItem j) items follows = (_, follows.1)
-  tail_follows before mark (RefusedItem r) items follows = (_, follows.1)
-  tail_follows before mark (FinishItem f) items follows = (_, follows.1)
+  tail_follows before mark _ items follows = (_, follows.1)
 
   -- no job among items that follow each other finds it full
   follow_never : (items before : List Item) (mark : ℕ) → FollowsItems rules before mark items
@@ -56,6 +55,5 @@ pub former_never : (S : Session) → may_finish_early S.rules.version ≡ false 
 former_never S former valid = few_never S (by_version S.rules.version former (valid_parts valid).count) where
   by_version : (v : Version) → may_finish_early v ≡ false → length (admitted_jobs S.items) ≤ most_jobs v
       → length (admitted_jobs S.items) ≤ most_ready
-  by_version One former few = few
-  by_version Two former few = few
   by_version Three former few = never (sym former)
+  by_version _ former few = few

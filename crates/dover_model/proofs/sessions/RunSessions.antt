@@ -5,21 +5,19 @@ use Rattle.std.proofs.Common.{MatchBool, count_by, filter}
 use Rattle.std.proofs.lemmas.List.Sums.{sum_by-cons}
 use Rattle.std.specs.List.{cons_option}
 use Rattle.std.proofs.lemmas.List.Elements.{filter_map-append}
-use Rattle.dover_model.specs.Common.{IsJob, last_tick, most_items, Release, Run, Preempt, Take, Complete, Abandon, End}
-use Rattle.dover_model.specs.Common.{Running, Task, Finish, Instance, IsValid, declared_by, having, finishing, State}
-use Rattle.dover_model.specs.Common.{opening, is_coming, is_running, is_privileged, is_over, running, left, Move}
-use Rattle.dover_model.specs.Common.{Prints, Waits, Ticks, step, open_step, after, Step, is_end, run, printed}
-use Rattle.dover_model.specs.Common.{printed_of, event_of, step_at, IsWholeRun, is_complete, is_run, IsPath, IsMember}
-use Rattle.dover_model.specs.Common.{Each, Keeps, Item, JobItem, instance_of, admitted_jobs, early_finishes}
-use Rattle.dover_model.specs.Common.{session_with, may_finish_early, IsValidSession, IsNeverFull, early_of, handed_by}
-use Rattle.dover_model.specs.Common.{session_of_run}
+use Rattle.dover_model.specs.Common.{IsJob, last_tick, most_items, Complete, End, Running, Task, Finish, Instance}
+use Rattle.dover_model.specs.Common.{IsValid, declared_by, having, finishing, State, opening, is_coming, is_running}
+use Rattle.dover_model.specs.Common.{is_privileged, is_over, running, left, Move, Prints, Ticks, step, open_step, after}
+use Rattle.dover_model.specs.Common.{Step, is_end, run, printed, printed_of, event_of, step_at, IsWholeRun, is_complete}
+use Rattle.dover_model.specs.Common.{is_run, IsPath, IsMember, Each, Keeps, Item, JobItem, instance_of, admitted_jobs}
+use Rattle.dover_model.specs.Common.{early_finishes, session_with, may_finish_early, IsValidSession, IsNeverFull}
+use Rattle.dover_model.specs.Common.{early_of, handed_by, session_of_run}
 use Rattle.dover_model.proofs.sessions.SessionParts.{early_declarable, FollowsItems, session_from}
 use Rattle.dover_model.proofs.lists.Members.{found, some_same}
 use Rattle.dover_model.proofs.steps.Roles.{passes, is_running_role}
 use Rattle.dover_model.proofs.steps.Moves.{active_slack}
 use Rattle.dover_model.proofs.steps.Kept.{open_deed, step_kept, opening_keeps, realistic}
-use Rattle.dover_model.proofs.steps.Deeds.{Deed, Completed, Resumed, Started, Began, Preempted, Stayed, Arrived, Taken}
-use Rattle.dover_model.proofs.steps.Deeds.{Abandoned, Rested}
+use Rattle.dover_model.proofs.steps.Deeds.{Deed, Completed, Arrived}
 use Rattle.dover_model.proofs.finishes.Meeting.{finishing_valid}
 use Rattle.dover_model.proofs.runs.Ending.{later_clock, end_over, run_is_whole, few_printed}
 use Rattle.dover_model.proofs.runs.ReleaseCounts.{over_not_coming, releases, run_releases}
@@ -50,14 +48,7 @@ module _ (J : Instance) (valid : IsValid J) where
   deed_hands s item m (Completed r member runs) e = Finishes refl (early_says s.clock (running s) item e)
   deed_hands s item m (Arrived c member comes now first stale busy free) e =
       Comes c.job now (sym (some_same (JobItem c.job) item e))
-  deed_hands s item m (Resumed p member held none least why) e = none_is_some e
-  deed_hands s item m (Started o member waiting none first fits next) e = none_is_some e
-  deed_hands s item m (Began f member fresh none free) e = none_is_some e
-  deed_hands s item m (Preempted r f member runs some f_member fresh before fits) e = none_is_some e
-  deed_hands s item m (Stayed r f member runs some f_member fresh why) e = none_is_some e
-  deed_hands s item m (Taken r x member runs some x_member waiting now stale heavy) e = none_is_some e
-  deed_hands s item m (Abandoned r x member runs some x_member waiting now stale light) e = none_is_some e
-  deed_hands s item m (Rested quiet) e = none_is_some e
+  deed_hands s item m _ e = none_is_some e
 
   -- the clock of a finish is within the limits
   known_here : (s : State) → Keeps J s → (r : Task) → running s ≡ Some r → s.clock ≤ last_tick
@@ -71,14 +62,7 @@ module _ (J : Instance) (valid : IsValid J) where
   -- End shows nothing
   end_shows : (s : State) (m : Move) → is_end m ≡ true → handed_by (record { before = s; move = m }) ≡ None
   end_shows s (Prints (End value)) e = refl
-  end_shows s (Prints (Complete at n)) e = never e
-  end_shows s (Prints (Release n j)) e = never e
-  end_shows s (Prints (Run at n)) e = never e
-  end_shows s (Prints (Preempt at stops starts)) e = never e
-  end_shows s (Prints (Take at stops starts)) e = never e
-  end_shows s (Prints (Abandon at n)) e = never e
-  end_shows s (Waits n) e = never e
-  end_shows s Ticks e = never e
+  end_shows s _ e = never e
 
   -- items up to one, and those behind it
   all_parted : (o : Option Item) (items more : List Item)
@@ -278,14 +262,7 @@ module _ (J : Instance) (valid : IsValid J) where
         + length (printed_of xs)
         ≤ length (items_of xs) + length (cons_option (event_of m) (printed_of xs))
     by_move (Prints (Complete at n)) o = omega (arith, early_one x.before.clock (running x.before))
-    by_move (Prints (Release n j)) o = omega arith
-    by_move (Prints (Run at n)) o = omega arith
-    by_move (Prints (Preempt at stops starts)) o = omega arith
-    by_move (Prints (Take at stops starts)) o = omega arith
-    by_move (Prints (Abandon at n)) o = omega arith
-    by_move (Prints (End value)) o = omega arith
-    by_move (Waits n) o = omega arith
-    by_move Ticks o = omega arith
+    by_move _ o = omega arith
 
   shown_most : (xs : List Step)
       → length (items_of xs) ≤ length (releases (printed_of xs)) + count_by (λ x. is_complete x.move) xs
@@ -305,14 +282,7 @@ module _ (J : Instance) (valid : IsValid J) where
         + length (releases (printed_of xs))
         ≤ length (items_of xs) + length (releases (cons_option (event_of m) (printed_of xs))) + cond (is_complete m) 1 0
     by_move (Prints (Complete at n)) = omega (arith, one (early_of x.before.clock (running x.before)))
-    by_move (Prints (Release n j)) = omega arith
-    by_move (Prints (Run at n)) = omega arith
-    by_move (Prints (Preempt at stops starts)) = omega arith
-    by_move (Prints (Take at stops starts)) = omega arith
-    by_move (Prints (Abandon at n)) = omega arith
-    by_move (Prints (End value)) = omega arith
-    by_move (Waits n) = omega arith
-    by_move Ticks = omega arith
+    by_move _ = omega arith
 
   -- the session of a run is valid, where no job finds it full
   pub run_session_valid : may_finish_early J.rules.version ≡ true → IsNeverFull (session_of_run J)

@@ -7,7 +7,7 @@ use Rattle.dover_model.specs.Common.{job_numbers, AreShort, Declaration, IsValid
 use Rattle.dover_model.specs.Common.{RefusedJob, Session, instance_of, refuses_lines, refusal_at, early_at, is_right}
 use Rattle.dover_model.specs.Common.{Refused, RefusedLine, RefusedDone, FinishItem, EarlyFinish, may_finish_early}
 use Rattle.dover_model.specs.Common.{session_with, is_same_refusal, is_full, refused_mark, IsValidSession}
-use Rattle.dover_model.specs.Common.{is_valid_session, may_be_refused, IsDeclarable, Factor, Version, One, Two, Three}
+use Rattle.dover_model.specs.Common.{is_valid_session, may_be_refused, IsDeclarable, Factor, Version, Three}
 use Rattle.dover_model.specs.Limits.{most_digits}
 use Rattle.dover_model.specs.Session.{may_refuse, is_finish, is_refusal, may_be_admitted, follows_items, may_finish}
 use Rattle.dover_model.specs.Session.{takes_factors}
@@ -87,45 +87,12 @@ same_refusal Total Total h = refl
 same_refusal Ratio Ratio h = refl
 same_refusal Late Late h = refl
 same_refusal Full Full h = refl
-same_refusal BadJob Count h = never h
-same_refusal BadJob Total h = never h
-same_refusal BadJob Ratio h = never h
-same_refusal BadJob Late h = never h
-same_refusal Count BadJob h = never h
-same_refusal Count Total h = never h
-same_refusal Count Ratio h = never h
-same_refusal Count Late h = never h
-same_refusal Total BadJob h = never h
-same_refusal Total Count h = never h
-same_refusal Total Ratio h = never h
-same_refusal Total Late h = never h
-same_refusal Ratio BadJob h = never h
-same_refusal Ratio Count h = never h
-same_refusal Ratio Total h = never h
-same_refusal Ratio Late h = never h
-same_refusal Late BadJob h = never h
-same_refusal Late Count h = never h
-same_refusal Late Total h = never h
-same_refusal Late Ratio h = never h
-same_refusal BadJob Full h = never h
-same_refusal Count Full h = never h
-same_refusal Total Full h = never h
-same_refusal Ratio Full h = never h
-same_refusal Late Full h = never h
-same_refusal Full BadJob h = never h
-same_refusal Full Count h = never h
-same_refusal Full Total h = never h
-same_refusal Full Ratio h = never h
-same_refusal Full Late h = never h
+same_refusal _ _ h = never h
 
 -- each passes with itself
 refusal_itself : (refusal : Refusal) → IsTrue (is_same_refusal refusal refusal)
 refusal_itself BadJob = refl
-refusal_itself Count = refl
-refusal_itself Total = refl
-refusal_itself Ratio = refl
-refusal_itself Late = refl
-refusal_itself Full = refl
+refusal_itself _ = refl
 
 -- the cause of a refusal
 is_refusal-agrees : (cause : Option Refusal) (refusal : Refusal)
@@ -241,9 +208,8 @@ early_declarable declared three = by declared.ratio.factor declared.version thre
   by : (o : Option Factor) (v : Version) → may_finish_early v ≡ true
       → elim o [ None ↦ true | Some f ↦ takes_factors v ] ≡ true
   by None v three = refl
-  by (Some f) One three = three
-  by (Some f) Two three = three
   by (Some f) Three three = refl
+  by (Some f) _ three = three
 
 -- whether a session is valid, by its parts
 session_agrees : (S : Session) → IsTrue (is_valid_session S) ↔ SessionParts S

@@ -102,8 +102,7 @@ tick_later : (rules : Declaration) (before : List Item) (mark : ℕ) (x : Item) 
     → FollowsItems rules before mark (x ∷ more)
     → mark ≤ tick_of_item x
 tick_later rules before mark (JobItem j) more follows = follows.0.no_fall
-tick_later rules before mark (RefusedItem r) more follows = follows.0.no_fall
-tick_later rules before mark (FinishItem f) more follows = follows.0.no_fall
+tick_later rules before mark _ more follows = follows.0.no_fall
 
 -- the jobs of items and of further items
 pub jobs_append : (rules : Declaration) (items more : List Item)

@@ -3,8 +3,7 @@ use Rattle.std.proofs.Common.{◌≡◌, ℕ, ◌+◌, ◌≤◌, ◌<◌, ◌�
 use Rattle.dover_model.specs.Common.{Fraction, Fresh, Instance, IsValid, State, opening, Move, Ticks, open_step, after}
 use Rattle.dover_model.specs.Common.{Step, waits_for_mark, settled_state, IsBarrier, IsBefore, IsSettledRun, Each}
 use Rattle.dover_model.specs.Common.{Keeps}
-use Rattle.dover_model.proofs.steps.Deeds.{Deed, Completed, Resumed, Started, Began, Preempted, Stayed, Arrived, Taken}
-use Rattle.dover_model.proofs.steps.Deeds.{Abandoned, Rested}
+use Rattle.dover_model.proofs.steps.Deeds.{Deed, Taken, Abandoned, Rested}
 use Rattle.dover_model.proofs.steps.Kept.{open_deed, open_kept, opening_keeps}
 use Rattle.dover_model.proofs.runs.Ending.{clock_after}
 use Rattle.dover_model.proofs.settled.Settling.{late_early, at_barrier, settled_is_run}
@@ -13,16 +12,10 @@ use Rattle.dover_model.proofs.lists.Tests.{never}
 -- no job is fresh where a late step is taken
 pub late_none_fresh : (k : Fraction) (s : State) (m : Move) → Deed k s Ticks m → waits_for_mark m ≡ true
     → Each (λ t. t.role ≡ Fresh → ⊥) s.tasks
-late_none_fresh k s m (Completed r member runs) late = never late
-late_none_fresh k s m (Resumed p member held none least why) late = never late
-late_none_fresh k s m (Started o member waiting none first fits next) late = never late
-late_none_fresh k s m (Began f member fresh none free) late = never late
-late_none_fresh k s m (Preempted r f member runs some f_member fresh before fits) late = never late
-late_none_fresh k s m (Stayed r f member runs some f_member fresh why) late = never late
-late_none_fresh k s m (Arrived c member comes now first stale busy free) late = never late
 late_none_fresh k s m (Taken r x member runs some x_member waiting now stale heavy) late = stale
 late_none_fresh k s m (Abandoned r x member runs some x_member waiting now stale light) late = stale
 late_none_fresh k s m (Rested quiet) late = quiet.stale
+late_none_fresh k s m _ late = never late
 
 -- the state after these steps
 abbrev pub state_after : State → List Step → State

@@ -8,8 +8,7 @@ use Rattle.dover_model.specs.Common.{after, ticked, Step, event_of, printed_of, 
 use Rattle.dover_model.specs.Common.{settled_state, tick_of_event, last_of, IsBefore, IsOpenPath, IsMember, Each, Keeps}
 use Rattle.dover_model.proofs.lists.Members.{found, on_map}
 use Rattle.dover_model.proofs.steps.Roles.{is_running_role}
-use Rattle.dover_model.proofs.steps.Deeds.{Deed, Completed, Resumed, Started, Began, Preempted, Stayed, Arrived, Taken}
-use Rattle.dover_model.proofs.steps.Deeds.{Abandoned, Rested}
+use Rattle.dover_model.proofs.steps.Deeds.{Deed, Stayed, Arrived}
 use Rattle.dover_model.proofs.steps.Kept.{open_deed, open_kept, opening_keeps, come_coming}
 use Rattle.dover_model.proofs.runs.Ending.{later_clock}
 use Rattle.dover_model.proofs.settled.Barriers.{late_none_fresh, state_after}
@@ -29,8 +28,7 @@ last_after last m = last_from last (cons_option (event_of m) [])
 last_on : (last : ℕ) (m : Move) (events : List Event)
     → last_from last (cons_option (event_of m) events) ≡ last_from (last_after last m) events
 last_on last (Prints e) events = refl
-last_on last (Waits n) events = refl
-last_on last Ticks events = refl
+last_on last _ events = refl
 
 -- a printed step names the clock
 pub prints_clock : (k : Fraction) (s : State) (m : Move) → Deed k s Ticks m → (e : Event) → m ≡ Prints e
@@ -47,16 +45,8 @@ prints_clock k s m deed e is = ap at_move (sym is) ∙ by_deed m deed (ap prints
   prints Ticks = false
 
   by_deed : (m : Move) → Deed k s Ticks m → prints m ≡ true → at_move m ≡ s.clock
-  by_deed m (Completed r member runs) is = refl
-  by_deed m (Resumed p member held none least why) is = refl
-  by_deed m (Started o member waiting none first fits next) is = refl
-  by_deed m (Began f member fresh none free) is = refl
-  by_deed m (Preempted r f member runs some f_member fresh before fits) is = refl
-  by_deed m (Stayed r f member runs some f_member fresh why) is = refl
   by_deed m (Arrived c member comes now first stale busy free) is = now
-  by_deed m (Taken r x member runs some x_member waiting now stale heavy) is = refl
-  by_deed m (Abandoned r x member runs some x_member waiting now stale light) is = refl
-  by_deed m (Rested quiet) is = refl
+  by_deed m _ is = refl
 
 -- so an open step does
 pub open_clock : (J : Instance) → IsValid J → (rules : Rules) (s : State) → Keeps J s → (e : Event)
@@ -77,16 +67,8 @@ waits_fresh k s m deed n is = by_deed m deed (ap waits is) where
   waits Ticks = false
 
   by_deed : (m : Move) → Deed k s Ticks m → waits m ≡ true → (t : Task) × IsMember t s.tasks × (t.role ≡ Fresh)
-  by_deed m (Completed r member runs) is = never is
-  by_deed m (Resumed p member held none least why) is = never is
-  by_deed m (Started o member waiting none first fits next) is = never is
-  by_deed m (Began f member fresh none free) is = never is
-  by_deed m (Preempted r f member runs some f_member fresh before fits) is = never is
   by_deed m (Stayed r f member runs some f_member fresh why) is = (f, f_member, fresh)
-  by_deed m (Arrived c member comes now first stale busy free) is = never is
-  by_deed m (Taken r x member runs some x_member waiting now stale heavy) is = never is
-  by_deed m (Abandoned r x member runs some x_member waiting now stale light) is = never is
-  by_deed m (Rested quiet) is = never is
+  by_deed m _ is = never is
 
 module _ (J : Instance) (valid : IsValid J) (mark : ℕ) where
   -- the deed of a step
@@ -112,8 +94,7 @@ module _ (J : Instance) (valid : IsValid J) (mark : ℕ) where
     by_move : (m : Move) → Deed J.rules.ratio s Ticks m → last_after last m < mark
     by_move (Prints e) it =
         let here : tick_of_event e ≡ s.clock = prints_clock J.rules.ratio s (Prints e) it e refl in omega (arith, here)
-    by_move (Waits n) it = low
-    by_move Ticks it = low
+    by_move _ it = low
 
   -- a step at the mark that comes before the barrier leaves the last one at the mark
   high_after : (last : ℕ) (s : State) → Keeps J s → IsBefore J.rules mark s → FreshIsLast last s ⊎ (mark ≤ last)

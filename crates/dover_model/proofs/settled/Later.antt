@@ -72,10 +72,8 @@ view_later version s more coming =
 before_late : (a b d c : Option Move) (rest : Move) → waits_for_mark rest ≡ true
     → waits_for_mark (a or_else b or_else d or_else rest) ≡ false
     → (a or_else b or_else d or_else c or_else rest) ≡ (a or_else b or_else d or_else rest)
-before_late (Some m) b d c rest late early = refl
-before_late None (Some m) d c rest late early = refl
-before_late None None (Some m) c rest late early = refl
 before_late None None None c rest late early = never (sym early ∙ late)
+before_late _ _ _ c rest late early = refl
 
 -- case 6 and the silent tick are late
 alarm_late : (k : Fraction) (v : View) (ro x : Option Task) → waits_for_mark (alarm k v ro x or_else Ticks) ≡ true

@@ -18,7 +18,7 @@ use Rattle.dover_model.proofs.lists.Members.{all_each, member_behind}
 use Rattle.dover_model.proofs.steps.Deeds.{over_rests}
 use Rattle.dover_model.proofs.steps.Kept.{open_kept, step_deed}
 use Rattle.dover_model.proofs.settled.Settling.{late_early}
-use Rattle.dover_model.proofs.settled.Prefixes.{step_open, open_not_end, behind_step, behind_after, behind_keeps}
+use Rattle.dover_model.proofs.settled.Prefixes.{step_open, open_goes_on, behind_step, behind_after, behind_keeps}
 
 -- what adds nothing
 none_printed : (o : Option Event) (es : List Event) → cons_option o es ≡ [] → (o ≡ None) × (es ≡ [])
@@ -195,9 +195,7 @@ module _ (J : Instance) (valid : IsValid J) (rules : Rules) where
 
   -- an open step isn't End
   pub not_end : (s : State) → Keeps J s → is_end (open_step rules s) ≡ false
-  not_end s keeps = open_not_end J valid J valid rules 0 [] none s keeps where
-    none : AllComeFrom 0 []
-    none = (λ t m. absurd m, λ t m. absurd m)
+  not_end s keeps = open_goes_on J valid rules s keeps
 
   -- where all jobs are over, the run ends
   pub over_ends : (s : State) → Keeps J s → list_all is_over s.tasks ≡ true

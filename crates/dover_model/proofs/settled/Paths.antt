@@ -1,17 +1,17 @@
 -- Paths of open steps: how they go on, what they come to at a barrier, with a job more, and at the end.
-use Rattle.std.proofs.Common.{◌≡◌, ℕ, ◌+◌, ◌≤◌, ◌<◌, ◌⊎◌, inl, inr, List, [], ◌∷◌, ◌++◌, length, map, refl, sym, ap}
-use Rattle.std.proofs.Common.{◌∙◌, subst, append_assoc, Bool, true, false, cond, arith, ◌&&◌, nat_le, Option, Some}
+use Rattle.std.proofs.Common.{◌≡◌, ℕ, ◌≤◌, ◌<◌, inl, inr, List, [], ◌∷◌, ◌++◌, length, map, refl, sym, ap}
+use Rattle.std.proofs.Common.{◌∙◌, subst, append_assoc, Bool, true, false, arith, ◌&&◌, nat_le, Option, Some}
 use Rattle.std.proofs.Common.{None, MatchBool, filter, leb-true, leb-false}
 use Rattle.std.specs.Bool.{then_some}
 use Rattle.std.specs.List.{list_all, cons_option}
-use Rattle.dover_model.specs.Common.{JobFacts, Event, End, Done, Gone, Task, Rules, Instance, IsValid, with_jobs, State}
-use Rattle.dover_model.specs.Common.{with_later, opening, to_come, is_over, is_done, is_running, value_sum, Prints}
+use Rattle.dover_model.specs.Common.{JobFacts, Event, End, Task, Rules, Instance, IsValid, with_jobs, State}
+use Rattle.dover_model.specs.Common.{with_later, opening, to_come, is_over, is_done, value_sum, Prints}
 use Rattle.dover_model.specs.Common.{Ticks, step, open_step, after, ending, ◌or_else◌, ticked, Step, is_end, event_of}
 use Rattle.dover_model.specs.Common.{printed_of, printed, run, last_deadline, waits_for_mark, settled, settled_steps}
 use Rattle.dover_model.specs.Common.{AllComeFrom, open_at, step_at, IsWholeRun, IsBarrier, IsBefore, IsSettledRun}
 use Rattle.dover_model.specs.Common.{Begins, IsOpenPath, IsPath, HasPrinted, Each, Keeps, end_state}
 use Rattle.dover_model.proofs.lists.Members.{all_each}
-use Rattle.dover_model.proofs.steps.Roles.{passes, is_over_role}
+use Rattle.dover_model.proofs.steps.Roles.{ticked_over}
 use Rattle.dover_model.proofs.steps.Deeds.{over_rests}
 use Rattle.dover_model.proofs.steps.Kept.{open_kept, step_kept, opening_keeps, step_deed, open_deed}
 use Rattle.dover_model.proofs.runs.Ending.{potential, ends, run_is_whole}
@@ -155,16 +155,6 @@ printed_behind J more mark s events valid_more late it =
 abbrev no_steps : List Step
 no_steps = []
 
--- a job that is over gains nothing by a tick
-over_same : (t : Task) → is_over t ≡ true → ticked t ≡ t
-over_same t over = by_role (is_over_role t over) where
-  still : Bool → Task
-  still b = record { number = t.number; job = t.job; role = t.role; had = cond b (t.had + 1) t.had }
-
-  by_role : (t.role ≡ Done) ⊎ (t.role ≡ Gone) → ticked t ≡ t
-  by_role (inl e) = ap still (passes is_running t Done false e refl)
-  by_role (inr e) = ap still (passes is_running t Gone false e refl)
-
 module _ (J : Instance) (valid : IsValid J) (mark : ℕ) where
   -- where all jobs are over, open steps print nothing and leave the jobs as they are
   path_over : (xs : List Step) (s t : State) → Keeps J s → Each (λ u. is_over u ≡ true) s.tasks
@@ -185,7 +175,7 @@ module _ (J : Instance) (valid : IsValid J) (mark : ℕ) where
       ) where
         all_same : (tasks : List Task) → Each (λ u. is_over u ≡ true) tasks → map ticked tasks ≡ tasks
         all_same [] over = refl
-        all_same (u ∷ tasks) over = let here : ticked u ≡ u = over_same u (over u (inl refl)) in
+        all_same (u ∷ tasks) over = let here : ticked u ≡ u = ticked_over u (over u (inl refl)) in
             let rest : map ticked tasks ≡ tasks = all_same tasks (λ v m. over v (inr m)) in cc
 
   -- where all jobs are over, the step is End

@@ -4,12 +4,13 @@ use Rattle.std.proofs.Common.{[], map, refl, Bool, true, arith, le-leb, nat_le, 
 use Rattle.std.proofs.lemmas.Bool.{false_from_ne_true, not-true, lt-leb}
 use Rattle.std.specs.List.{list_all}
 use Rattle.dover_model.specs.Common.{Task, State, is_over, IsMember, Keeps, GoesOn, IsSilent, Settles, Idles}
-use Rattle.dover_model.specs.Common.{WaitsUntil, PrintsNext, Move, after, open_step, Prints, Waits, Ticks, step, ticked}
+use Rattle.dover_model.specs.Common.{WaitsUntil, PrintsNext, Move, after, open_step, Prints, Ticks, step, ticked}
 use Rattle.dover_model.specs.Common.{Rules, Instance, IsValid, Step, is_end, event_of, Event, waits_for_mark, open_at}
 use Rattle.dover_model.specs.Common.{IsWholeRun}
 use Rattle.dover_model.proofs.lists.Members.{all_each, not_all, map_member}
 use Rattle.dover_model.proofs.lists.Tests.{never}
-use Rattle.dover_model.proofs.steps.ReadyParts.{change, after_change, silent_ready, ticked_over}
+use Rattle.dover_model.proofs.steps.Roles.{ticked_over}
+use Rattle.dover_model.proofs.steps.ReadyParts.{change, after_change, silent_ready}
 use Rattle.dover_model.proofs.steps.Deeds.{over_rests}
 use Rattle.dover_model.proofs.steps.Kept.{open_deed, open_kept, step_kept}
 use Rattle.dover_model.proofs.settled.Prefixes.{step_open}
@@ -52,9 +53,7 @@ module _ (J : Instance) (valid : IsValid J) (rules : Rules) where
     map_each : (ts : List Task) → ((t : Task) → IsMember t ts → IsMember t s.tasks) → map ticked ts ≡ ts
     map_each [] among = refl
     map_each (t ∷ ts) among =
-        let here : ticked t ≡ t =
-        ticked_over rules.ratio s keeps.sound t (among t (inl refl))
-        (all_each is_over s.tasks over t (among t (inl refl))) in
+        let here : ticked t ≡ t = ticked_over t (all_each is_over s.tasks over t (among t (inl refl))) in
         ap (λ u. u ∷ map ticked ts) here ∙ ap (λ us. t ∷ us) (map_each ts (λ u m. among u (inr m)))
 
   -- so the clock goes on to any mark
@@ -131,5 +130,4 @@ module _ (J : Instance) (valid : IsValid J) (rules : Rules) where
             × PrintsNext rules (after s (step rules s)) e z)
             → (e : Event) × (z : State) × PrintsNext rules s e z
         by_event (Prints e) is rest = (e, s, record { steps = []; idles = refl; prints = is })
-        by_event (Waits n) is rest = onward (Waits n) is refl refl rest
-        by_event Ticks is rest = onward Ticks is refl refl rest
+        by_event m is rest = onward m is refl refl rest

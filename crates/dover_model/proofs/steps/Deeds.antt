@@ -425,29 +425,13 @@ module _ (k : Fraction) (version : Version) (s : State) (other : Move) (sound : 
 module _ (k : Fraction) (s : State) (other : Move) where
   -- only a rest can be the end
   pub end_rests : (m : Move) → Deed k s other m → is_end m ≡ true → m ≡ other
-  end_rests m (Completed r member runs) e = never e
-  end_rests m (Resumed p member held none least why) e = never e
-  end_rests m (Started o member waiting none first fits next) e = never e
-  end_rests m (Began f member fresh none free) e = never e
-  end_rests m (Preempted r f member runs some f_member fresh before fits) e = never e
-  end_rests m (Stayed r f member runs some f_member fresh why) e = never e
-  end_rests m (Arrived c member comes now first stale busy free) e = never e
-  end_rests m (Taken r x member runs some x_member waiting now stale heavy) e = never e
-  end_rests m (Abandoned r x member runs some x_member waiting now stale light) e = never e
   end_rests m (Rested quiet) e = refl
+  end_rests m _ e = never e
 
   -- a silent tick is taken in a quiet state
   pub tick_quiet : (m : Move) → Deed k s other m → m ≡ Ticks → Quiet s
-  tick_quiet m (Completed r member runs) e = absurd (cc)
-  tick_quiet m (Resumed p member held none least why) e = absurd (cc)
-  tick_quiet m (Started o member waiting none first fits next) e = absurd (cc)
-  tick_quiet m (Began f member fresh none free) e = absurd (cc)
-  tick_quiet m (Preempted r f member runs some f_member fresh before fits) e = absurd (cc)
-  tick_quiet m (Stayed r f member runs some f_member fresh why) e = absurd (cc)
-  tick_quiet m (Arrived c member comes now first stale busy free) e = absurd (cc)
-  tick_quiet m (Taken r x member runs some x_member waiting now stale heavy) e = absurd (cc)
-  tick_quiet m (Abandoned r x member runs some x_member waiting now stale light) e = absurd (cc)
   tick_quiet m (Rested quiet) e = quiet
+  tick_quiet m _ e = absurd (cc)
 
   -- where all jobs are over, nothing is done but a rest
   module _ (over : Each (λ t. is_over t ≡ true) s.tasks) where

@@ -1,7 +1,7 @@
 -- How many jobs a change lets cease to wait, or begin to.
 use Rattle.std.proofs.Common.{◌≡◌, ℕ, ◌+◌, ◌≤◌, refl, sym, subst, Bool, true, false, not, cond, eqb, arith, ◌&&◌}
 use Rattle.std.proofs.Common.{sum_by, eqb-true, ne_eqb}
-use Rattle.dover_model.specs.Common.{Role, Coming, Fresh, Waiting, Held, Running, Done, Gone, Preempt, Take, Task}
+use Rattle.dover_model.specs.Common.{Role, Coming, Fresh, Held, Running, Preempt, Take, Task}
 use Rattle.dover_model.specs.Common.{State, is_waiting, Prints, with_role, displaced, IsMember, IsSound, leaves}
 use Rattle.dover_model.proofs.lists.Members.{sum_le, sum_zero}
 use Rattle.dover_model.proofs.steps.Roles.{passes, one_number}
@@ -90,12 +90,7 @@ displaced_stay : (t : Task) → ceases (is_waiting t) (is_waiting (with_role t (
 displaced_stay t = by_role t.role where
   by_role : (role : Role) → ceases (is_waiting (with_role t role)) (is_waiting (with_role t (displaced role))) ≤ 0
   by_role Coming = omega arith
-  by_role Fresh = omega arith
-  by_role Waiting = omega arith
-  by_role Held = omega arith
-  by_role Running = omega arith
-  by_role Done = omega arith
-  by_role Gone = omega arith
+  by_role _ = omega arith
 
 -- a take lets one job at most cease to wait
 pub take_leaves : (s : State) → IsSound s → (r x : Task) → IsMember x s.tasks

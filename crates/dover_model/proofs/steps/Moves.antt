@@ -203,35 +203,21 @@ module _ (s : State) (sound : IsSound s) (r : Task) (member : IsMember r s.tasks
 -- what is displaced doesn't run
 pub displaced_rests : (role : Role) → displaced role ≡ Running → ⊥
 displaced_rests Coming e = cc
-displaced_rests Fresh e = cc
-displaced_rests Waiting e = cc
-displaced_rests Held e = cc
-displaced_rests Running e = cc
-displaced_rests Done e = cc
-displaced_rests Gone e = cc
+displaced_rests _ e = cc
 
 -- no displaced job runs or is held
 displaced_active : (t : Task) → is_privileged (with_role t (displaced t.role)) ≡ true → ⊥
 displaced_active t = each t.role where
   each : (role : Role) → is_privileged (with_role t (displaced role)) ≡ true → ⊥
   each Coming h = never h
-  each Fresh h = never h
-  each Waiting h = never h
-  each Held h = never h
-  each Running h = never h
-  each Done h = never h
-  each Gone h = never h
+  each _ h = never h
 
 -- the role before, by the role after
 pub displaced_role : (role new : Role) → displaced role ≡ new → (role ≡ new)
     ⊎ ((new ≡ Waiting) × ((role ≡ Running) ⊎ (role ≡ Held)))
-displaced_role Coming new e = inl e
-displaced_role Fresh new e = inl e
-displaced_role Waiting new e = inl e
 displaced_role Held new e = inr (sym e, inr refl)
 displaced_role Running new e = inr (sym e, inl refl)
-displaced_role Done new e = inl e
-displaced_role Gone new e = inl e
+displaced_role _ new e = inl e
 
 -- a role but Waiting is not by displacement
 displaced_only : (role new : Role) → (new ≡ Waiting → ⊥) → displaced role ≡ new → role ≡ new
@@ -244,13 +230,9 @@ displaced_only role new other e = by_case (displaced_role role new e) where
 displaced_fits : (clock : ℕ) (t : Task) (role : Role) → FitsRole clock role t → (role ≡ Running → 1 ≤ left t)
     → (is_privileged (with_role t role) ≡ true → clock + left t ≤ t.job.deadline)
     → FitsRole clock (displaced role) (with_role t (displaced role))
-displaced_fits clock t Coming fits busy slack = fits
-displaced_fits clock t Fresh fits busy slack = fits
-displaced_fits clock t Waiting fits busy slack = fits
 displaced_fits clock t Held fits busy slack = (fits.0, fits.1, slack refl)
 displaced_fits clock t Running fits busy slack = (busy refl, fits, slack refl)
-displaced_fits clock t Done fits busy slack = fits
-displaced_fits clock t Gone fits busy slack = fits
+displaced_fits clock t _ fits busy slack = fits
 
 -- a running or held job is in time
 pub active_slack : (s : State) → IsSound s

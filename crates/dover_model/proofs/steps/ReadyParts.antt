@@ -1,9 +1,9 @@
 -- The steps of a state are those of its jobs that aren't over.
-use Rattle.std.proofs.Common.{◌≡◌, List, ◌∷◌, refl, sym, ap, ◌∙◌, Bool, true, false, cond, ◌⊎◌, inl, inr, eqb, map, []}
+use Rattle.std.proofs.Common.{◌≡◌, List, ◌∷◌, refl, sym, ap, ◌∙◌, Bool, true, false, cond, inl, inr, eqb, map, []}
 use Rattle.std.proofs.Common.{subst, not, ℕ, ◌+◌, arith, Some, None, filter, find, sum_by, ne_eqb}
 use Rattle.std.proofs.lemmas.Bool.{not-false}
 use Rattle.std.proofs.lemmas.List.Sums.{sum_by-cons}
-use Rattle.dover_model.proofs.steps.Roles.{passes, is_over_role, one_number, by_role}
+use Rattle.dover_model.proofs.steps.Roles.{passes, of_over, ticked_over, one_number, by_role}
 use Rattle.dover_model.specs.Common.{Done, Gone, Waiting, Coming, Fresh, Held, Running, Task, is_over, State, is_coming}
 use Rattle.dover_model.specs.Common.{is_fresh, is_waiting, is_held, is_running, is_privileged, is_done, value_sum}
 use Rattle.dover_model.specs.Common.{with_role, view, Ticks, open_step, urgent_or, Move, Prints, Waits, role_after}
@@ -42,10 +42,8 @@ module _ {X : Type 0} (p q : X → Bool) (onward : (x : X) → q x ≡ false →
 over_fails : (p : Task → Bool) → ((t : Task) → p (with_role t Done) ≡ false)
     → ((t : Task) → p (with_role t Gone) ≡ false)
     → (t : Task) → is_ready t ≡ false → p t ≡ false
-over_fails p done gone t over = by_roles (is_over_role t (not-false (is_over t) over)) where
-  by_roles : (t.role ≡ Done) ⊎ (t.role ≡ Gone) → p t ≡ false
-  by_roles (inl e) = passes p t Done false e (done t)
-  by_roles (inr e) = passes p t Gone false e (gone t)
+over_fails p done gone t over =
+    of_over (λ role. p (with_role t role) ≡ false) (done t) (gone t) t (not-false (is_over t) over)
 
 -- the view is that of the jobs that aren't over
 pub view_ready : (version : Version) (s : State) → view version (ready_part s) ≡ view version s
@@ -77,8 +75,7 @@ change Ticks t = ticked t
 -- the state after a move, by that change
 pub after_change : (s : State) (m : Move) → (after s m).tasks ≡ map (change m) s.tasks
 after_change s (Prints e) = refl
-after_change s (Waits n) = refl
-after_change s Ticks = refl
+after_change s _ = refl
 
 -- a job that is over has another number than one that isn't
 apart : (s : State) → IsSound s → (t r : Task) (role : Role) → IsMember t s.tasks → IsMember r s.tasks
@@ -98,17 +95,7 @@ module _ (k : Fraction) (s : State) (sound : IsSound s) (t : Task) (mt : IsMembe
 
   -- a displacement leaves it
   displaced_over : displaced t.role ≡ t.role
-  displaced_over = by_roles (is_over_role t over) where
-    by_roles : (t.role ≡ Done) ⊎ (t.role ≡ Gone) → displaced t.role ≡ t.role
-    by_roles (inl e) = ap displaced e ∙ sym e
-    by_roles (inr e) = ap displaced e ∙ sym e
-
-  -- so does a silent tick
-  pub ticked_over : ticked t ≡ t
-  ticked_over = by_roles (is_over_role t over) where
-    by_roles : (t.role ≡ Done) ⊎ (t.role ≡ Gone) → ticked t ≡ t
-    by_roles (inl e) = subst (λ role. ticked (with_role t role) ≡ with_role t role) (sym e) refl
-    by_roles (inr e) = subst (λ role. ticked (with_role t role) ≡ with_role t role) (sym e) refl
+  displaced_over = of_over (λ role. displaced role ≡ role) refl refl t over
 
   -- no deed changes it
   deed_over : (m : Move) → Deed k s Ticks m → change m t ≡ t
@@ -128,7 +115,7 @@ module _ (k : Fraction) (s : State) (sound : IsSound s) (t : Task) (mt : IsMembe
       ∙ ap (with_role t) displaced_over
   deed_over m (Abandoned r x member runs some x_member waiting now stale light) =
       unnamed x Waiting Gone x_member waiting refl
-  deed_over m (Rested quiet) = ticked_over
+  deed_over m (Rested quiet) = ticked_over t over
 
 -- a change that leaves the jobs that are over: those that aren't over afterwards are among those that weren't before
 ready_map : (f : Task → Task) (xs : List Task) → Each (λ t. is_over t ≡ true → f t ≡ t) xs
@@ -150,13 +137,8 @@ done_value t = cond (is_done t) t.job.value 0
 ready_not_done : (t : Task) → is_over t ≡ false → is_done t ≡ false
 ready_not_done t = by_role (λ u role. is_over u ≡ false → is_done u ≡ false) t each where
   each : (role : Role) → is_over (with_role t role) ≡ false → is_done (with_role t role) ≡ false
-  each Coming h = refl
-  each Fresh h = refl
-  each Waiting h = refl
-  each Held h = refl
-  each Running h = refl
   each Done h = never (sym h)
-  each Gone h = refl
+  each _ h = refl
 
 -- what a change makes of the value of the jobs done, where it leaves those that are over
 done_map : (f : Task → Task) (xs : List Task) → Each (λ t. is_over t ≡ true → f t ≡ t) xs

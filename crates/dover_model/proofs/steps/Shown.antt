@@ -5,18 +5,17 @@ use Rattle.std.specs.Prelude.{Option, Some, None, nat_lt, ◌==◌, ◌&&◌}
 use Rattle.std.specs.Bool.{then_some}
 use Rattle.std.specs.List.{filter, filter_map, cons_option}
 use Rattle.std.proofs.lemmas.Bool.{eqb-true, eq-eqb, ne_eqb, and_parts, lt-ltb, ltb-true}
-use Rattle.dover_model.specs.Common.{JobFacts, Fraction, Release, Run, Preempt, Take, Complete, Abandon, End, Role}
-use Rattle.dover_model.specs.Common.{Coming, Fresh, Waiting, Held, Running, Done, Gone, Task, Finish, has_come_to}
-use Rattle.dover_model.specs.Common.{State, is_coming, running, left, Move, Prints, Waits, Ticks, after, with_role}
-use Rattle.dover_model.specs.Common.{displaced, ticked, Step, finish_now, is_complete, IsMember, Each, IsNumberedFrom}
-use Rattle.dover_model.specs.Common.{IsSound, Item, JobItem, RefusedItem, FinishItem, admitted_jobs, early_of}
-use Rattle.dover_model.specs.Common.{handed_by}
+use Rattle.dover_model.specs.Common.{JobFacts, Fraction, Complete, Role, Coming, Fresh, Waiting, Held, Running, Done}
+use Rattle.dover_model.specs.Common.{Gone, Task, Finish, has_come_to, State, is_coming, running, left, Move, Prints}
+use Rattle.dover_model.specs.Common.{Ticks, after, with_role, displaced, ticked, Step, finish_now, is_complete}
+use Rattle.dover_model.specs.Common.{IsMember, Each, IsNumberedFrom, IsSound, Item, JobItem, FinishItem, admitted_jobs}
+use Rattle.dover_model.specs.Common.{early_of, handed_by}
 use Rattle.dover_model.proofs.lists.Members.{some_same}
-use Rattle.dover_model.proofs.steps.Roles.{passes, numbers_above}
+use Rattle.dover_model.proofs.steps.Roles.{passes, is_coming_role, numbers_above}
 use Rattle.dover_model.proofs.steps.OneChange.{changed}
 use Rattle.dover_model.proofs.steps.Deeds.{Deed, Completed, Resumed, Started, Began, Preempted, Stayed, Arrived, Taken}
 use Rattle.dover_model.proofs.steps.Deeds.{Abandoned, Rested}
-use Rattle.dover_model.proofs.runs.ReleaseCounts.{one_still, displaced_coming}
+use Rattle.dover_model.proofs.runs.ReleaseCounts.{one_still, taker_still, displaced_coming}
 use Rattle.dover_model.proofs.lists.Tests.{never, none_is_some}
 
 -- ---- steps that complete
@@ -24,14 +23,7 @@ use Rattle.dover_model.proofs.lists.Tests.{never, none_is_some}
 -- a completion, as an event
 pub complete_event : (m : Move) → is_complete m ≡ true → (at : ℕ) × (n : ℕ) × (m ≡ Prints (Complete at n))
 complete_event (Prints (Complete at n)) e = (at, n, refl)
-complete_event (Prints (Release n j)) e = never e
-complete_event (Prints (Run at n)) e = never e
-complete_event (Prints (Preempt at stops starts)) e = never e
-complete_event (Prints (Take at stops starts)) e = never e
-complete_event (Prints (Abandon at n)) e = never e
-complete_event (Prints (End value)) e = never e
-complete_event (Waits n) e = never e
-complete_event Ticks e = never e
+complete_event _ e = never e
 
 -- it shows the finish of the running job
 pub complete_shows : (s : State) (m : Move) → is_complete m ≡ true
@@ -94,16 +86,6 @@ pub data Handed (s : State) (m : Move) (item : Item) : Type 0 where
 abbrev pub coming_in : List Task → List JobFacts
 coming_in tasks = map (λ t. t.job) (filter is_coming tasks)
 
--- a job that is to come by the test has that role
-pub is_coming_role : (t : Task) (role : Role) → t.role ≡ role → is_coming t ≡ true → t.role ≡ Coming
-is_coming_role t Coming e h = e
-is_coming_role t Fresh e h = never (sym (passes is_coming t Fresh false e refl) ∙ h)
-is_coming_role t Waiting e h = never (sym (passes is_coming t Waiting false e refl) ∙ h)
-is_coming_role t Held e h = never (sym (passes is_coming t Held false e refl) ∙ h)
-is_coming_role t Running e h = never (sym (passes is_coming t Running false e refl) ∙ h)
-is_coming_role t Done e h = never (sym (passes is_coming t Done false e refl) ∙ h)
-is_coming_role t Gone e h = never (sym (passes is_coming t Gone false e refl) ∙ h)
-
 -- a change of roles that brings and takes none
 pub still_in : (role : Task → Role) (tasks : List Task)
     → Each (λ t. is_coming (with_role t (role t)) ≡ is_coming t) tasks
@@ -159,7 +141,7 @@ arrive_in n (x ∷ tasks) numbered c (inr member) comes first = by_x (is_coming 
       by_x : (b : Bool) → is_coming x ≡ b
           → c.job ∷ coming_in (map (λ t. with_role t (changed c Fresh t)) tasks) ≡ coming_in tasks
           → c.job ∷ coming_in (map (λ t. with_role t (changed c Fresh t)) (x ∷ tasks)) ≡ coming_in (x ∷ tasks)
-      by_x true e rest = absurd (let low : c.number ≤ x.number = first x (inl refl) (is_coming_role x x.role refl e) in
+      by_x true e rest = absurd (let low : c.number ≤ x.number = first x (inl refl) (is_coming_role x e) in
           omega (arith, behind, low))
       by_x false e rest =
           ap (λ js. c.job ∷ js) (ap (λ b. map (λ (u : Task). u.job) (cond b
@@ -184,30 +166,16 @@ deed_in k s sound m (Started o member waiting none first fits next) =
 deed_in k s sound m (Began f member fresh none free) =
     still_in (changed f Running) s.tasks (one_still s sound f member Fresh Running fresh refl refl)
 deed_in k s sound m (Preempted r f member runs some f_member fresh before fits) =
-    still_in (λ t. cond (eqb t.number f.number) Running (changed r Held t)) s.tasks both where
-      both : Each (λ t. is_coming (with_role t (cond (eqb t.number f.number) Running (changed r Held t)))
-          ≡ is_coming t) s.tasks
-      both t mt = by_number (eqb t.number f.number)
-          (one_still s sound f f_member Fresh Running fresh refl refl t mt) where
-            by_number : (b : Bool) → is_coming (with_role t (cond b Running t.role)) ≡ is_coming t
-                → is_coming (with_role t (cond b Running (changed r Held t))) ≡ is_coming t
-            by_number true it = it
-            by_number false it = one_still s sound r member Running Held runs refl refl t mt
+    still_in (λ t. cond (eqb t.number f.number) Running (changed r Held t)) s.tasks
+    (taker_still s sound f f_member Fresh fresh refl (changed r Held)
+    (one_still s sound r member Running Held runs refl refl))
 deed_in k s sound m (Stayed r f member runs some f_member fresh why) =
     still_in (changed f Waiting) s.tasks (one_still s sound f f_member Fresh Waiting fresh refl refl)
 deed_in k s sound m (Arrived c member comes now first stale busy free) =
     arrive_in 0 s.tasks sound.numbered c member comes first
 deed_in k s sound m (Taken r x member runs some x_member waiting now stale heavy) =
-    still_in (λ t. cond (eqb t.number x.number) Running (displaced t.role)) s.tasks both where
-      both : Each (λ t. is_coming (with_role t (cond (eqb t.number x.number) Running (displaced t.role)))
-          ≡ is_coming t) s.tasks
-      both t mt = by_number (eqb t.number x.number)
-          (one_still s sound x x_member Waiting Running waiting refl refl t mt)
-        where
-          by_number : (b : Bool) → is_coming (with_role t (cond b Running t.role)) ≡ is_coming t
-              → is_coming (with_role t (cond b Running (displaced t.role))) ≡ is_coming t
-          by_number true it = it
-          by_number false it = displaced_coming t
+    still_in (λ t. cond (eqb t.number x.number) Running (displaced t.role)) s.tasks
+    (taker_still s sound x x_member Waiting waiting refl (λ t. displaced t.role) (λ t mt. displaced_coming t))
 deed_in k s sound m (Abandoned r x member runs some x_member waiting now stale light) =
     still_in (changed x Gone) s.tasks (one_still s sound x x_member Waiting Gone waiting refl refl)
 deed_in k s sound m (Rested quiet) = tick_in s.tasks
@@ -222,7 +190,5 @@ pub items_cons : (x : Step) (xs : List Step)
 items_cons x xs = by_item (handed_by x) where
   by_item : (o : Option Item) → admitted_jobs (cons_option o (items_of xs))
       ≡ admitted_jobs (cons_option o []) ++ admitted_jobs (items_of xs)
-  by_item None = refl
   by_item (Some (JobItem j)) = refl
-  by_item (Some (RefusedItem r)) = refl
-  by_item (Some (FinishItem f)) = refl
+  by_item _ = refl

@@ -1,7 +1,7 @@
 -- A silent tick keeps a sound state sound.
 use Rattle.std.proofs.Common.{◌≡◌, ℕ, ◌+◌, ◌-◌, ◌≤◌, ◌<◌, ◌⊎◌, inl, inr, map, refl, sym, subst, Bool, true, false, cond}
 use Rattle.std.proofs.Common.{arith, sum_by, lt-ltb}
-use Rattle.dover_model.specs.Common.{Role, Coming, Fresh, Waiting, Held, Running, Done, Gone, Task, State}
+use Rattle.dover_model.specs.Common.{Role, Coming, Fresh, Waiting, Held, Running, Done, Task, State}
 use Rattle.dover_model.specs.Common.{is_privileged, is_running, is_ready_behind, left, latest_start, Ticks, after}
 use Rattle.dover_model.specs.Common.{with_role, ticked, IsMember, Each, EachTwo, FitsRole, NoneRuns, IsSound}
 use Rattle.dover_model.proofs.lists.Members.{on_map, sum_map, sum_le}
@@ -60,10 +60,9 @@ tick_fits clock t Waiting fits stale early ahead =
     let in_time : clock + left t ≤ t.job.deadline = fits.2 in
     let not_now : latest_start t ≡ clock → ⊥ = early refl in
     (some_left, omega arith, omega arith)
-tick_fits clock t Held fits stale early ahead = let released : t.job.release ≤ clock = fits.1 in (fits.0, omega arith)
 tick_fits clock t Running fits stale early ahead = omega (arith, fits)
 tick_fits clock t Done fits stale early ahead = omega (arith, fits)
-tick_fits clock t Gone fits stale early ahead = let released : t.job.release ≤ clock = fits.1 in (fits.0, omega arith)
+tick_fits clock t _ fits stale early ahead = let released : t.job.release ≤ clock = fits.1 in (fits.0, omega arith)
 
 -- where a silent tick is taken: none is fresh or at its latest start or due to be released, and the processor isn't
 -- free while a job is held

@@ -168,12 +168,7 @@ module _ (s : State) (sound : IsSound s) (stacked : IsStacked s) (r : Task) (mem
 -- what is displaced neither runs nor is held
 displaced_out : (t : Task) (role : Role) → is_privileged (with_role t (displaced role)) ≡ true → ⊥
 displaced_out t Coming e = never e
-displaced_out t Fresh e = never e
-displaced_out t Waiting e = never e
-displaced_out t Held e = never e
-displaced_out t Running e = never e
-displaced_out t Done e = never e
-displaced_out t Gone e = never e
+displaced_out t _ e = never e
 
 module _ (s : State) (sound : IsSound s) (stacked : IsStacked s) (r x : Task) (x_member : IsMember x s.tasks)
     (waiting : x.role ≡ Waiting) (now : latest_start x ≡ s.clock) where
@@ -252,9 +247,8 @@ module _ (s : State) (sound : IsSound s) (stacked : IsStacked s) (r x : Task) (x
 -- a tick more for the running job
 had_ticked : (b c : Bool) (n : ℕ) → cond b (cond c (n + 1) n) 0 ≤ cond b n 0 + cond c 1 0
 had_ticked true true n = omega arith
-had_ticked true false n = omega arith
 had_ticked false true n = omega arith
-had_ticked false false n = omega arith
+had_ticked _ _ n = omega arith
 
 -- it takes one at most
 left_ticked : (b : Bool) (had work : ℕ) → work - had ≤ work - cond b (had + 1) had + 1

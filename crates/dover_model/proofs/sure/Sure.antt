@@ -59,24 +59,15 @@ record Ends (n : ℕ) (s : State) (m : Move) : Type 0 where
 displaced_unlost : (steady : Bool) (t : Task) (role : Role)
     → (is_privileged (with_role t role) ≡ true → steady ≡ true → ⊥) → Unlost steady role t.had
     → Unlost steady (displaced role) t.had
-displaced_unlost steady t Coming apart unlost = unlost
-displaced_unlost steady t Fresh apart unlost = unlost
-displaced_unlost steady t Waiting apart unlost = unlost
 displaced_unlost steady t Held apart unlost = λ e. absurd (apart refl e)
 displaced_unlost steady t Running apart unlost = λ e. absurd (apart refl e)
-displaced_unlost steady t Done apart unlost = unlost
-displaced_unlost steady t Gone apart unlost = unlost
+displaced_unlost steady t _ apart unlost = unlost
 
 -- a tick later
 ticked_unlost : (steady : Bool) (t : Task) (role : Role) → Unlost steady role t.had
     → Unlost steady role (ticked (with_role t role)).had
 ticked_unlost steady t Coming unlost = unlost
-ticked_unlost steady t Fresh unlost = unlost
-ticked_unlost steady t Waiting unlost = unlost
-ticked_unlost steady t Held unlost = unlost
-ticked_unlost steady t Running unlost = unlost
-ticked_unlost steady t Done unlost = unlost
-ticked_unlost steady t Gone unlost = unlost
+ticked_unlost steady t _ unlost = unlost
 
 module _ (steady : Bool) (n : ℕ) (k : Fraction) (s : State) (other : Move) (sound : IsSound s)
     (kept : (r x : Task) → IsMember r s.tasks → r.role ≡ Running → 1 ≤ left r → IsMember x s.tasks → x.role ≡ Waiting

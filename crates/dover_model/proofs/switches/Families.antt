@@ -1,7 +1,7 @@
 -- How many jobs of one task can stop a job: as many as are released in a part of its window.
 use Rattle.std.proofs.Common.{◌≡◌, ℕ, zero, suc, ◌+◌, ◌-◌, ◌*◌, ◌≤◌, ◌<◌, List, [], ◌∷◌, map, refl, ap, ◌∙◌, Bool, true}
 use Rattle.std.proofs.Common.{false, arith, ◌&&◌, nat_le, nat_lt, count_by, le-leb, leb-true, lt-ltb, ltb-true}
-use Rattle.std.proofs.lemmas.Bool.{and_parts}
+use Rattle.std.proofs.lemmas.Bool.{and_parts, and_from}
 use Rattle.std.proofs.lemmas.Nat.{mul-le}
 use Rattle.std.proofs.lemmas.List.Sums.{sum_by-cons}
 use Rattle.dover_model.specs.Common.{Fraction, JobFacts, is_heavy, Each, may_preempt, may_take, AreOfTask, one_if}
@@ -21,11 +21,7 @@ implied true false then = never (then refl)
 
 -- both hold
 both_hold : (a b r : ℕ) → a ≤ r → r < b → within a b r ≡ true
-both_hold a b r low high = by_tests (nat_le a r) (nat_lt r b) (le-leb _ _ low) (lt-ltb _ _ high) where
-  by_tests : (x y : Bool) → x ≡ true → y ≡ true → (x && y) ≡ true
-  by_tests true true e f = refl
-  by_tests false y e f = never e
-  by_tests true false e f = never f
+both_hold a b r low high = and_from (nat_le a r) (nat_lt r b) (le-leb _ _ low) (lt-ltb _ _ high)
 
 -- ticks that are spaced: few of them lie in a stretch
 pub few_come : (distance a b : ℕ) (rs : List ℕ) → 1 ≤ distance → AreSpaced distance rs

@@ -8,7 +8,7 @@ use Rattle.std.proofs.lemmas.Bool.{eqb-true, eqb-false, eq-eqb, ne_eqb, cases_lt
 use Rattle.std.proofs.lemmas.List.Sums.{sum_by-cons}
 use Rattle.dover_model.specs.Common.{JobFacts, Fraction, Job, Role, Coming, Fresh, Waiting, Held, Running, Done, Gone}
 use Rattle.dover_model.specs.Common.{End, Task, Instance, IsValid, numbered, State, opening, is_over, is_done}
-use Rattle.dover_model.specs.Common.{is_privileged, value_sum, privileged, is_heavy, Move, Prints, Waits, Ticks, step}
+use Rattle.dover_model.specs.Common.{is_privileged, value_sum, privileged, is_heavy, Move, Prints, Ticks, step}
 use Rattle.dover_model.specs.Common.{after, ◌or_else◌, displaced, Step, is_end, run, IsWholeRun, step_at, role_then}
 use Rattle.dover_model.specs.Common.{is_take_of, is_preempt_of, changes_hands, IsMember, Each, EachTwo, IsSound, Keeps}
 use Rattle.dover_model.specs.Common.{one_if}
@@ -24,9 +24,10 @@ use Rattle.dover_model.proofs.steps.Kept.{step_deed, step_kept, opening_keeps, c
 use Rattle.dover_model.proofs.runs.Ending.{run_is_whole}
 use Rattle.dover_model.proofs.runs.Once.{takes_once, preempts_once, runs_complete}
 use Rattle.dover_model.proofs.runs.Runs.{run_states}
-use Rattle.dover_model.proofs.switches.Switching.{young, next, next_there, next_number, next_role, step_turned, rest_of}
+use Rattle.dover_model.proofs.runs.Once.{rest_of, rest_fails}
+use Rattle.dover_model.proofs.switches.Switching.{young, next, next_there, next_number, next_role, step_turned}
 use Rattle.dover_model.proofs.switches.Switching.{opens, opens_coming, hits_named, preempts_some, takes_some}
-use Rattle.dover_model.proofs.switches.Switching.{each_finds, deed_preempts, deed_takes, rest_fails, completes_few}
+use Rattle.dover_model.proofs.switches.Switching.{each_finds, deed_preempts, deed_takes, completes_few}
 use Rattle.dover_model.proofs.switches.Switching.{count_all, length_enumerate, job_is, changes_parts}
 
 -- ---- the first job is alone when it is released
@@ -100,26 +101,16 @@ rest_comes s u comes = by_end (list_all is_over s.tasks) where
 young_role : (role : Role) → young role ≡ 1 → (role ≡ Coming) ⊎ (role ≡ Fresh)
 young_role Coming e = inl refl
 young_role Fresh e = inr refl
-young_role Waiting e = absurd (let c : 0 ≡ 1 = e in omega arith)
-young_role Held e = absurd (let c : 0 ≡ 1 = e in omega arith)
-young_role Running e = absurd (let c : 0 ≡ 1 = e in omega arith)
-young_role Done e = absurd (let c : 0 ≡ 1 = e in omega arith)
-young_role Gone e = absurd (let c : 0 ≡ 1 = e in omega arith)
+young_role _ e = absurd (let c : 0 ≡ 1 = e in omega arith)
 
 young_most : (role : Role) → young role ≤ 1
 young_most Coming = omega arith
-young_most Fresh = omega arith
-young_most Waiting = omega arith
-young_most Held = omega arith
-young_most Running = omega arith
-young_most Done = omega arith
-young_most Gone = omega arith
+young_most _ = omega arith
 
 -- of each task behind a move
 on_next : (s : State) (m : Move) (P : Task → Type 0) → Each (λ t. P (next m t)) s.tasks → Each P (after s m).tasks
-on_next s (Prints e) P all = on_map (next (Prints e)) P s.tasks all
-on_next s (Waits n) P all = on_map (next (Waits n)) P s.tasks all
 on_next s Ticks P all = on_map (next Ticks) P s.tasks all
+on_next s m P all = on_map (next m) P s.tasks all
 
 module _ (J : Instance) (valid : IsValid J) where
   -- each step keeps the first job alone
@@ -171,10 +162,6 @@ module _ (J : Instance) (valid : IsValid J) where
   -- it doesn't preempt
   deed_first : (s : State) → IsSound s → IsAlone s → (k : Fraction) (other : Move) → is_preempt_of 0 other ≡ false
       → (m : Move) → Deed k s other m → is_preempt_of 0 m ≡ false
-  deed_first s sound alone k other rests m (Completed r member runs) = refl
-  deed_first s sound alone k other rests m (Resumed p member held none least why) = refl
-  deed_first s sound alone k other rests m (Started o member waiting none ahead fits later) = refl
-  deed_first s sound alone k other rests m (Began f member fresh none free) = refl
   deed_first s sound alone k other rests m (Preempted r f member runs some f_member fresh before fits) =
       ne_eqb f.number 0 (λ first. by_other first (alone f r f_member member first (ap young fresh))) where
         by_other : f.number ≡ 0 → (r.number ≡ 0) ⊎ (r.role ≡ Coming) → ⊥
@@ -182,11 +169,8 @@ module _ (J : Instance) (valid : IsValid J) where
             let e : Fresh ≡ Running = sym fresh ∙ ap (λ (x : Task). x.role)
             (one_number 0 s.tasks sound.numbered f r f_member member (first ∙ sym same)) ∙ runs in cc
         by_other first (inr comes) = let e : Running ≡ Coming = sym runs ∙ comes in cc
-  deed_first s sound alone k other rests m (Stayed r f member runs some f_member fresh why) = refl
-  deed_first s sound alone k other rests m (Arrived c member comes now least stale busy free) = refl
-  deed_first s sound alone k other rests m (Taken r x member runs some x_member waiting now stale heavy) = refl
-  deed_first s sound alone k other rests m (Abandoned r x member runs some x_member waiting now stale light) = refl
   deed_first s sound alone k other rests m (Rested quiet) = rests
+  deed_first s sound alone k other rests m _ = refl
 
   first_never_preempts : count_by (λ x. is_preempt_of 0 x.move) (run J) ≡ 0
   first_never_preempts = sum_zero (λ x. one_if (is_preempt_of 0 x.move)) (run J)
@@ -194,7 +178,7 @@ module _ (J : Instance) (valid : IsValid J) where
       each_alone x member in
       ap (λ m. one_if (is_preempt_of 0 m)) it.0
       ∙ ap one_if (deed_first x.before it.1.sound it.2 J.rules.ratio (rest_of x.before)
-      (rest_fails J valid (is_preempt_of 0) (λ value. refl) refl x.before) (step J.rules x.before)
+      (rest_fails (is_preempt_of 0) (λ value. refl) refl x.before) (step J.rules x.before)
       (step_deed J valid x.before it.1 J.rules)))
 
 -- ---- jobs of greatest and of least value
@@ -254,13 +238,9 @@ module _ (s : State) (sound : IsSound s) (n : ℕ) (t : Task) (member : IsMember
       → pot (cond (eqb t.number x.number) Running (displaced t.role)) + one_if (eqb x.number n) ≤ pot t.role
   take_less pot falls k r x x_member waiting heavy = by_number (eqb x.number n) refl where
     by_role : (role : Role) → t.role ≡ role → pot (displaced role) ≤ pot role
-    by_role Coming e = omega arith
-    by_role Fresh e = omega arith
-    by_role Waiting e = omega arith
     by_role Held e = absurd (not_displaced k x x_member heavy (passes is_privileged t Held true e refl))
     by_role Running e = absurd (not_displaced k x x_member heavy (passes is_privileged t Running true e refl))
-    by_role Done e = omega arith
-    by_role Gone e = omega arith
+    by_role _ e = omega arith
 
     by_number : (b : Bool) → eqb x.number n ≡ b
         → pot (cond (eqb t.number x.number) Running (displaced t.role)) + one_if b ≤ pot t.role
@@ -466,13 +446,6 @@ module _ (J : Instance) (valid : IsValid J) (n_j : Job) (member : IsMember n_j (
   -- a job of least value doesn't take
   deed_least : Each (λ i. n_j.1.value ≤ i.value) J.jobs → (s : State) → Keeps J s → (k : Fraction) (other : Move)
       → is_take_of n_j.0 other ≡ false → (m : Move) → Deed k s other m → is_take_of n_j.0 m ≡ false
-  deed_least least s keeps k other rests m (Completed r r_member runs) = refl
-  deed_least least s keeps k other rests m (Resumed p p_member held none first why) = refl
-  deed_least least s keeps k other rests m (Started o o_member waiting none ahead fits later) = refl
-  deed_least least s keeps k other rests m (Began f f_member fresh none free) = refl
-  deed_least least s keeps k other rests m (Preempted r f r_member runs some f_member fresh before fits) = refl
-  deed_least least s keeps k other rests m (Stayed r f r_member runs some f_member fresh why) = refl
-  deed_least least s keeps k other rests m (Arrived c c_member comes now first stale busy free) = refl
   deed_least least s keeps k other rests m (Taken r x r_member runs some x_member waiting now stale heavy) =
       ne_eqb x.number n_j.0 (λ same.
       let more : value_sum (privileged s) < x.job.value = heavy_more k x.job.value (value_sum (privileged s)) heavy in
@@ -482,8 +455,8 @@ module _ (J : Instance) (valid : IsValid J) (n_j : Job) (member : IsMember n_j (
       let low : n_j.1.value ≤ r.job.value = least r.job
       (subst (IsMember r.job) keeps.jobs (map_member (λ (y : Task). y.job) s.tasks r r_member)) in
       omega (arith, ap (λ (j : JobFacts). j.value) (job_is J valid n_j member s keeps x x_member same)))
-  deed_least least s keeps k other rests m (Abandoned r x r_member runs some x_member waiting now stale light) = refl
   deed_least least s keeps k other rests m (Rested quiet) = rests
+  deed_least least s keeps k other rests m _ = refl
 
   least_never : Each (λ i. n_j.1.value ≤ i.value) J.jobs → takes_of ≤ 0
   least_never least =
@@ -493,7 +466,7 @@ module _ (J : Instance) (valid : IsValid J) (n_j : Job) (member : IsMember n_j (
       each_alone J valid x x_member in
       ap (λ m. one_if (is_take_of n_j.0 m)) it.0
       ∙ ap one_if (deed_least least x.before it.1 J.rules.ratio (rest_of x.before)
-      (rest_fails J valid (is_take_of n_j.0) (λ value. refl) refl x.before) (step J.rules x.before)
+      (rest_fails (is_take_of n_j.0) (λ value. refl) refl x.before) (step J.rules x.before)
       (step_deed J valid x.before it.1 J.rules))) in omega arith
 
 -- ---- all together
@@ -570,14 +543,14 @@ module _ (J : Instance) (valid : IsValid J) where
       (run J)
       (each_finds J valid preempts_some is_preempt_of (λ m_i. true)
       (λ s keeps prompt. deed_preempts J valid s keeps J.rules.ratio (rest_of s)
-      (rest_fails J valid preempts_some (λ value. refl) refl s)))
+      (rest_fails preempts_some (λ value. refl) refl s)))
 
   all_takes : count_by (λ x. takes_some x.move) (run J)
       ≤ sum_by (λ n_j. count_by (λ x. is_take_of n_j.0 x.move) (run J)) (numbered J)
   all_takes = hits_named (numbered J) (λ x. takes_some x.move) (λ n x. is_take_of n x.move) (λ n_j. true) (run J)
       (each_finds J valid takes_some is_take_of (λ m_i. true)
       (λ s keeps prompt. deed_takes J valid s keeps J.rules.ratio (rest_of s)
-      (rest_fails J valid takes_some (λ value. refl) refl s)))
+      (rest_fails takes_some (λ value. refl) refl s)))
 
   module _ (f m l : Job) (f_member : IsMember f (numbered J)) (m_member : IsMember m (numbered J))
       (l_member : IsMember l (numbered J)) (first : f.0 ≡ 0)

@@ -6,29 +6,27 @@ use Rattle.std.specs.Bool.{then_some}
 use Rattle.std.specs.List.{list_all, cons_option}
 use Rattle.std.proofs.lemmas.List.Sums.{sum_by-cons}
 use Rattle.dover_model.specs.Common.{JobFacts, Fraction, need, Role, Coming, Fresh, Waiting, Held, Running, Done, Gone}
-use Rattle.dover_model.specs.Common.{Release, Run, Preempt, Take, Complete, Abandon, End, Task, Instance, IsValid}
-use Rattle.dover_model.specs.Common.{numbered, ticks_given, end_state, State, opening, is_fresh, is_over, is_done}
-use Rattle.dover_model.specs.Common.{is_running, is_ready_behind, running, value_sum, Move, Prints, Waits, Ticks, step}
-use Rattle.dover_model.specs.Common.{after, ◌or_else◌, ticked, Step, is_end, run, ran, tick_of, number_running}
-use Rattle.dover_model.specs.Common.{IsWholeRun, step_at, is_take_of, is_preempt_of, is_complete, is_busy_tick, gets}
-use Rattle.dover_model.specs.Common.{is_complete_of, starts, returns, gains_from, IsMember, Each, NoneRuns, IsSound}
-use Rattle.dover_model.specs.Common.{Keeps, one_if}
+use Rattle.dover_model.specs.Common.{Run, Preempt, Take, End, Task, Instance, IsValid, numbered, ticks_given, end_state}
+use Rattle.dover_model.specs.Common.{State, opening, is_fresh, is_over, is_done, is_running, is_ready_behind, running}
+use Rattle.dover_model.specs.Common.{value_sum, Move, Prints, Waits, Ticks, step, after, ◌or_else◌, ticked, Step}
+use Rattle.dover_model.specs.Common.{is_end, run, ran, tick_of, number_running, IsWholeRun, step_at, is_take_of}
+use Rattle.dover_model.specs.Common.{is_preempt_of, is_complete, is_busy_tick, gets, is_complete_of, starts, returns}
+use Rattle.dover_model.specs.Common.{gains_from, IsMember, Each, NoneRuns, IsSound, Keeps, one_if}
 use Rattle.dover_model.specs.Switches.{is_fresh_in, returns_by}
 use Rattle.dover_model.specs.Forward.{is_tick_of, completes_next, must_load, holds_then, AreLoaded}
 use Rattle.dover_model.proofs.lists.Members.{on_map, found}
-use Rattle.dover_model.proofs.steps.Roles.{passes, is_running_role}
+use Rattle.dover_model.proofs.steps.Roles.{passes, is_running_role, is_done_role}
 use Rattle.dover_model.proofs.steps.OneChange.{state_with, on_changed}
 use Rattle.dover_model.proofs.steps.Ticking.{Quiet}
-use Rattle.dover_model.proofs.steps.Deeds.{Deed, Completed, Resumed, Started, Began, Preempted, Stayed, Arrived, Taken}
+use Rattle.dover_model.proofs.steps.Deeds.{Deed, Completed, Resumed, Started, Began, Preempted, Stayed, Arrived}
 use Rattle.dover_model.proofs.steps.Deeds.{Abandoned, Rested}
 use Rattle.dover_model.proofs.steps.Kept.{step_deed, step_kept, opening_keeps, come_coming, end_same}
 use Rattle.dover_model.proofs.finishes.Readiness.{runner}
 use Rattle.dover_model.proofs.runs.Ending.{run_is_whole}
 use Rattle.dover_model.proofs.runs.Honest.{whole_outcome, all_ticks}
-use Rattle.dover_model.proofs.runs.Once.{takes_once}
-use Rattle.dover_model.proofs.switches.Switching.{young, rest_of, fresh_any, step_turned, over_run, completes_once}
+use Rattle.dover_model.proofs.runs.Once.{takes_once, rest_of, rest_fails}
+use Rattle.dover_model.proofs.switches.Switching.{young, fresh_any, step_turned, over_run, completes_once}
 use Rattle.dover_model.proofs.switches.Switching.{fresh_same, IsTaken, deed_taken_then, deed_returns, rest_taken}
-use Rattle.dover_model.proofs.switches.Switching.{rest_fails}
 use Rattle.dover_model.proofs.switches.Stretches.{its_job, at_end}
 use Rattle.dover_model.proofs.lists.Tests.{never}
 
@@ -94,15 +92,11 @@ ticks_split n loads (x ∷ xs) =
           ≤ one_if (tick && (not loads && not last)) + gains_from n (cond got (not back) (cond tick false loads)) xs
           + one_if loads + sum_by (loads_by n) (x ∷ xs) + (one_if (tick && last) + handed n xs)
       by_tests true true back loads last apart ticks more here there = never (sym (apart refl))
-      by_tests true false back true last apart ticks more here there = omega (arith, ticks, more, there)
       by_tests true false back false true apart ticks more here there = omega (arith, ticks, more, there)
-      by_tests true false back false false apart ticks more here there = omega (arith, ticks, more, there)
-      by_tests false true true true last apart ticks more here there = omega (arith, ticks, more, there)
-      by_tests false true true false last apart ticks more here there = omega (arith, ticks, more, there)
       by_tests false true false true last apart ticks more here there = omega (arith, ticks, more, here)
       by_tests false true false false last apart ticks more here there = omega (arith, ticks, more, here)
       by_tests false false back true last apart ticks more here there = omega (arith, ticks, more, here)
-      by_tests false false back false last apart ticks more here there = omega (arith, ticks, more, there)
+      by_tests _ _ _ _ _ apart ticks more here there = omega (arith, ticks, more, there)
 
 -- the ticks of a run's schedule are its silent ticks
 ticks_counted : (n : ℕ) (xs : List Step) → count_by (λ m. eqb m n) (all_ticks xs) ≡ count_by (is_tick_of n) xs
@@ -113,22 +107,6 @@ ticks_counted n (x ∷ xs) = by_move x.move refl (ticks_counted n xs)
           → count_by (λ i. eqb i n) (all_ticks xs) ≡ count_by (is_tick_of n) xs
           → count_by (is_tick_of n) (x ∷ xs) ≡ one_if (is_tick_of n x) + count_by (is_tick_of n) xs
           → count_by (λ i. eqb i n) (cons_option (tick_of x) (all_ticks xs)) ≡ count_by (is_tick_of n) (x ∷ xs)
-      by_move (Prints e) is same counts = omega (
-        arith,
-        same,
-        counts,
-        ap (λ (m : Move). one_if (is_tick_of n (record { before = x.before; move = m }))) is,
-        ap (λ (m : Move). count_by (λ i. eqb i n) (cons_option (tick_of (record { before = x.before; move = m }))
-            (all_ticks xs))) is,
-      )
-      by_move (Waits w) is same counts = omega (
-        arith,
-        same,
-        counts,
-        ap (λ (m : Move). one_if (is_tick_of n (record { before = x.before; move = m }))) is,
-        ap (λ (m : Move). count_by (λ i. eqb i n) (cons_option (tick_of (record { before = x.before; move = m }))
-            (all_ticks xs))) is,
-      )
       by_move Ticks is same counts = omega (
         arith,
         same,
@@ -137,6 +115,14 @@ ticks_counted n (x ∷ xs) = by_move x.move refl (ticks_counted n xs)
         ap (λ (m : Move). count_by (λ i. eqb i n) (cons_option (tick_of (record { before = x.before; move = m }))
             (all_ticks xs))) is,
         sum_by-cons (λ i. one_if (eqb i n)) (number_running x.before) (all_ticks xs),
+      )
+      by_move _ is same counts = omega (
+        arith,
+        same,
+        counts,
+        ap (λ (m : Move). one_if (is_tick_of n (record { before = x.before; move = m }))) is,
+        ap (λ (m : Move). count_by (λ i. eqb i n) (cons_option (tick_of (record { before = x.before; move = m }))
+            (all_ticks xs))) is,
       )
 
 -- a part of a schedule gives no more than all of it
@@ -159,17 +145,10 @@ module _ (n : ℕ) (s : State) (sound : IsSound s) where
   -- a job that preempts is fresh
   deed_fresh : (k : Fraction) (other : Move) → is_preempt_of n other ≡ false → (m : Move) → Deed k s other m
       → is_preempt_of n m ≡ true → is_fresh_in s n ≡ true
-  deed_fresh k other rests m (Completed r member runs) e = never e
-  deed_fresh k other rests m (Resumed p member held none least why) e = never e
-  deed_fresh k other rests m (Started o member waiting none ahead fits later) e = never e
-  deed_fresh k other rests m (Began f member fresh none free) e = never e
   deed_fresh k other rests m (Preempted r f member runs some f_member fresh before fits) e =
       fresh_any n 0 s.tasks sound.numbered f f_member (eqb-true _ _ e) ∙ passes is_fresh f Fresh true fresh refl
-  deed_fresh k other rests m (Stayed r f member runs some f_member fresh why) e = never e
-  deed_fresh k other rests m (Arrived c member comes now least stale busy free) e = never e
-  deed_fresh k other rests m (Taken r x member runs some x_member waiting now stale heavy) e = never e
-  deed_fresh k other rests m (Abandoned r x member runs some x_member waiting now stale light) e = never e
   deed_fresh k other rests m (Rested quiet) e = never (sym rests ∙ e)
+  deed_fresh k other rests m _ e = never e
 
   -- a job that gets the processor and doesn't return starts or takes
   loads_are : (m : Move) → (is_preempt_of n m ≡ true → is_fresh_in s n ≡ true)
@@ -192,12 +171,7 @@ module _ (n : ℕ) (s : State) (sound : IsSound s) where
     by_number : (b : Bool) → one_if (b && true) ≤ one_if (b && is_fresh_in s n) + one_if b
     by_number false = omega arith
     by_number true = omega arith
-  loads_are (Prints (Release m job)) fresh = omega arith
-  loads_are (Prints (Complete at m)) fresh = omega arith
-  loads_are (Prints (Abandon at m)) fresh = omega arith
-  loads_are (Prints (End value)) fresh = omega arith
-  loads_are (Waits m) fresh = omega arith
-  loads_are Ticks fresh = omega arith
+  loads_are _ fresh = omega arith
 
 module _ (J : Instance) (valid : IsValid J) (n_j : ℕ × JobFacts) (member : IsMember n_j (numbered J)) where
   -- a job loads itself twice at most
@@ -212,7 +186,7 @@ module _ (J : Instance) (valid : IsValid J) (n_j : ℕ × JobFacts) (member : Is
               (fresh_any n_j.0 0 s.tasks keeps.sound.numbered t m same ∙ fresh_same t),
           loads_are n_j.0 s keeps.sound (step J.rules s)
               (deed_fresh n_j.0 s keeps.sound J.rules.ratio (rest_of s)
-              (rest_fails J valid (is_preempt_of n_j.0) (λ value. refl) refl s) (step J.rules s)
+              (rest_fails (is_preempt_of n_j.0) (λ value. refl) refl s) (step J.rules s)
               (step_deed J valid s keeps J.rules)),
         )),
     takes_once J n_j.0 valid,
@@ -246,17 +220,7 @@ module _ (J : Instance) (valid : IsValid J) (t : Task) (member : IsMember t (end
   three_are_enough real done enough =
       let had : t.had ≡ need J.rules.finishes t.number t.job.work =
       ((whole_outcome J valid).served t (at_end J valid 0 t member)).done (is_done_role t done) in
-      omega (arith, forward_had, had, enough) where
-        is_done_role : (t : Task) → is_done t ≡ true → t.role ≡ Done
-        is_done_role t e = by_role t.role refl where
-          by_role : (role : Role) → t.role ≡ role → t.role ≡ Done
-          by_role Coming f = never (sym (passes is_done t Coming false f refl) ∙ e)
-          by_role Fresh f = never (sym (passes is_done t Fresh false f refl) ∙ e)
-          by_role Waiting f = never (sym (passes is_done t Waiting false f refl) ∙ e)
-          by_role Held f = never (sym (passes is_done t Held false f refl) ∙ e)
-          by_role Running f = never (sym (passes is_done t Running false f refl) ∙ e)
-          by_role Done f = f
-          by_role Gone f = never (sym (passes is_done t Gone false f refl) ∙ e)
+      omega (arith, forward_had, had, enough)
 
 -- ---- no job gets on unloaded
 
@@ -348,15 +312,14 @@ module _ (s : State) (sound : IsSound s) (behind loads : Bool) (holds : Option �
   deed_held k other back rests m (Began f member fresh none free) = λ e. never (sym e
       ∙ ap (λ b. not (not b)) (fresh_any f.number 0 s.tasks sound.numbered f member refl
       ∙ passes is_fresh f Fresh true fresh refl))
-  deed_held k other back rests m (Preempted r f member runs some f_member fresh before fits) = λ e. never (sym e)
   deed_held k other back rests m (Stayed r f member runs some f_member fresh why) =
       one_held f f_member Waiting (λ e. let c : Waiting ≡ Running = e in cc)
   deed_held k other back rests m (Arrived c member comes now least stale busy free) =
       one_held c member Fresh (λ e. let d : Fresh ≡ Running = e in cc)
-  deed_held k other back rests m (Taken r x member runs some x_member waiting now stale heavy) = λ e. never (sym e)
   deed_held k other back rests m (Abandoned r x member runs some x_member waiting now stale light) =
       one_held x x_member Gone (λ e. let c : Gone ≡ Running = e in cc)
   deed_held k other back rests m (Rested quiet) = rests quiet
+  deed_held k other back rests m _ = λ e. never (sym e)
 
   -- a silent tick holds the job that it goes to
   tick_held : IsHeld (must_load loads (at Ticks)) (holds_then behind holds (at Ticks)) (after s Ticks)
@@ -378,11 +341,10 @@ module _ (s : State) (sound : IsSound s) (behind loads : Bool) (holds : Option �
 
   -- a job that gets on is held
   works_held : (m : Move) → is_busy_tick (at m) ≡ true → loads ≡ false → holds ≡ Some (number_running s)
-  works_held (Prints e) busy no_load = never busy
-  works_held (Waits n) busy no_load = never busy
   works_held Ticks busy no_load =
       let it : (r : Task) × IsMember r s.tasks × (r.role ≡ Running) = busy_runs s busy in
       is_held no_load it.0 it.1 it.2 ∙ ap Some (sym (named s sound it.0 it.1 it.2))
+  works_held _ busy no_load = never busy
 
 module _ (J : Instance) (valid : IsValid J) where
   -- in each tick of a run that a job gets on in, the processor holds it
@@ -398,7 +360,7 @@ module _ (J : Instance) (valid : IsValid J) where
             (is_complete (step J.rules s)) (must_load loads (step_at J.rules s))
             (holds_then behind holds (step_at J.rules s))
             (deed_held s keeps.sound behind loads holds is_held taken J.rules.ratio (rest_of s)
-            (rest_fails J valid (returns_by s) (λ value. refl) refl s)
+            (rest_fails (returns_by s) (λ value. refl) refl s)
             (λ quiet. rest_held s keeps.sound behind loads holds is_held taken) (step J.rules s)
             (step_deed J valid s keeps J.rules))
             (deed_taken_then s keeps.sound J.rules.ratio (rest_of s) (rest_taken s) (step J.rules s)

@@ -1,18 +1,17 @@
 -- What a job gets done in a schedule where each change of hands costs ticks.
-use Rattle.std.proofs.Common.{◌≡◌, ℕ, zero, suc, ◌+◌, ◌-◌, ◌*◌, ◌≤◌, ◌<◌, ◌⊎◌, inl, inr, List, [], ◌∷◌, length, refl}
+use Rattle.std.proofs.Common.{◌≡◌, ℕ, zero, suc, ◌+◌, ◌-◌, ◌*◌, ◌≤◌, ◌<◌, inl, inr, List, [], ◌∷◌, length, refl}
 use Rattle.std.proofs.Common.{sym, ap, ◌∙◌, subst, Bool, true, false, cond, arith, eqb, take, drop, add-one, nat_le}
 use Rattle.std.proofs.Common.{Option, Some, None, MatchBool, count_by, eqb-true, eq-eqb, leb-true, leb-false}
 use Rattle.std.specs.List.{cons_option, enumerate_from}
 use Rattle.std.proofs.lemmas.Nat.{mul-le}
 use Rattle.std.proofs.lemmas.List.Sums.{sum_by-cons}
-use Rattle.dover_model.specs.Common.{JobFacts, Role, Coming, Fresh, Waiting, Held, Running, Done, Gone, Task, need}
-use Rattle.dover_model.specs.Common.{Instance, IsValid, numbered, ticks_given, end_state, State, opening, is_running}
-use Rattle.dover_model.specs.Common.{is_done, is_over, running, Move, Prints, Waits, Ticks, step, after, Step, is_end}
-use Rattle.dover_model.specs.Common.{run, ran, tick_of, number_running, IsWholeRun, step_at, role_then, gets}
-use Rattle.dover_model.specs.Common.{most_changes, useful, IsMember, Keeps, one_if}
+use Rattle.dover_model.specs.Common.{JobFacts, Role, Running, Task, need, Instance, IsValid, numbered, ticks_given}
+use Rattle.dover_model.specs.Common.{end_state, State, opening, is_running, is_done, running, Move, Ticks, step, after}
+use Rattle.dover_model.specs.Common.{Step, is_end, run, ran, tick_of, number_running, IsWholeRun, step_at, role_then}
+use Rattle.dover_model.specs.Common.{gets, most_changes, useful, IsMember, Keeps, one_if}
 use Rattle.dover_model.specs.Switches.{useful_from}
 use Rattle.dover_model.proofs.lists.Members.{found}
-use Rattle.dover_model.proofs.steps.Roles.{passes, is_running_role, is_over_role, one_number}
+use Rattle.dover_model.proofs.steps.Roles.{is_running_role, is_done_role, one_number}
 use Rattle.dover_model.proofs.steps.Kept.{step_kept, opening_keeps}
 use Rattle.dover_model.proofs.runs.Ending.{run_is_whole}
 use Rattle.dover_model.proofs.finishes.Readiness.{runner}
@@ -110,9 +109,7 @@ module _ (n : ℕ) where
         → begins n false (drop r s)
         ≤ one_if c + cond b (one_if (cond c false true) + begins n true s) (begins n false s)
     by_name true true here there = omega arith
-    by_name true false here there = omega arith
-    by_name false true here there = omega arith
-    by_name false false here there = omega arith
+    by_name _ _ here there = omega arith
 
 -- ---- stretches of a run
 
@@ -142,13 +139,8 @@ module _ (J : Instance) (valid : IsValid J) (n : ℕ) (some : n < 4_000_000_000)
         ∙ eq-eqb t.number n is_n)
 
     by_role : (role : Role) → t.role ≡ role → on t.role ≡ 0
-    by_role Coming e = ap on e
-    by_role Fresh e = ap on e
-    by_role Waiting e = ap on e
-    by_role Held e = ap on e
     by_role Running e = stands e
-    by_role Done e = ap on e
-    by_role Gone e = ap on e
+    by_role _ e = ap on e
 
   -- a job begins to run no more often than it gets the processor
   begins_gets : (xs : List Step) (s : State) → Keeps J s → (t : Task) → IsMember t s.tasks → t.number ≡ n
@@ -185,20 +177,6 @@ module _ (J : Instance) (valid : IsValid J) (n : ℕ) (some : n < 4_000_000_000)
             + count_by (λ y. gets n y.move) xs)
             → begins n before (cons_option (tick_of (record { before = s; move = m })) (all_ticks xs)) ≤ cond before 0
             (on t.role) + count_by (λ z. gets n z.move) (record { before = s; move = m } ∷ xs)
-        by_move (Prints e) counts turns more = by_before before (more before) where
-          by_before : (b : Bool) → begins n b (all_ticks xs) ≤ cond b 0 (on (role_then (Prints e) t))
-              + count_by (λ y. gets n y.move) xs
-              → begins n b (all_ticks xs) ≤ cond b 0 (on t.role)
-              + count_by (λ z. gets n z.move) (record { before = s; move = Prints e } ∷ xs)
-          by_before true rest = omega (arith, counts, rest)
-          by_before false rest = omega (arith, counts, rest, turns)
-        by_move (Waits w) counts turns more = by_before before (more before) where
-          by_before : (b : Bool) → begins n b (all_ticks xs) ≤ cond b 0 (on (role_then (Waits w) t))
-              + count_by (λ y. gets n y.move) xs
-              → begins n b (all_ticks xs) ≤ cond b 0 (on t.role)
-              + count_by (λ z. gets n z.move) (record { before = s; move = Waits w } ∷ xs)
-          by_before true rest = omega (arith, counts, rest)
-          by_before false rest = omega (arith, counts, rest, turns)
         by_move Ticks counts turns more =
             by_name (eqb (number_running s) n) before
             (tick_on s keeps t member is_n (eqb (number_running s) n) refl) (more true) (more false) where
@@ -212,6 +190,13 @@ module _ (J : Instance) (valid : IsValid J) (n : ℕ) (some : n < 4_000_000_000)
               by_name true false runs here there = omega (arith, counts, here, runs)
               by_name false true runs here there = omega (arith, counts, there, runs)
               by_name false false runs here there = omega (arith, counts, there, runs)
+        by_move m counts turns more = by_before before (more before) where
+          by_before : (b : Bool) → begins n b (all_ticks xs) ≤ cond b 0 (on (role_then m t))
+              + count_by (λ y. gets n y.move) xs
+              → begins n b (all_ticks xs) ≤ cond b 0 (on t.role)
+              + count_by (λ z. gets n z.move) (record { before = s; move = m } ∷ xs)
+          by_before true rest = omega (arith, counts, rest)
+          by_before false rest = omega (arith, counts, rest, turns)
 
 module _ (J : Instance) (valid : IsValid J) (cost : ℕ) (n_j : ℕ × JobFacts) (member : IsMember n_j (numbered J)) where
   -- a job loses no more ticks to changes than it gets the processor times what one costs
@@ -265,25 +250,9 @@ module _ (J : Instance) (valid : IsValid J) (cost : ℕ) (t : Task) (member : Is
       → real ≤ useful cost (ran J) (t.number, t.job)
   budget_holds real done enough =
       let had : t.had ≡ need J.rules.finishes t.number t.job.work =
-      ((whole_outcome J valid).served t at_end).done (done_role t done) in
+      ((whole_outcome J valid).served t at_end).done (is_done_role t done) in
       let times : cost * count_by (λ x. gets t.number x.move) (run J)
       ≤ cost * most_changes J.rules.ratio (numbered J) t.job =
       mul-le cost (count_by (λ x. gets t.number x.move) (run J)) cost
       (most_changes J.rules.ratio (numbered J) t.job) (omega arith) (gets_few J valid (t.number, t.job) its_job) in
-      omega (arith, had_useful, had, times, enough) where
-        done_role : (t : Task) → is_done t ≡ true → t.role ≡ Done
-        done_role t e = by_over (is_over_role t (over t e)) where
-          over : (t : Task) → is_done t ≡ true → is_over t ≡ true
-          over t e = by_role t.role refl where
-            by_role : (role : Role) → t.role ≡ role → is_over t ≡ true
-            by_role Coming f = never (sym (passes is_done t Coming false f refl) ∙ e)
-            by_role Fresh f = never (sym (passes is_done t Fresh false f refl) ∙ e)
-            by_role Waiting f = never (sym (passes is_done t Waiting false f refl) ∙ e)
-            by_role Held f = never (sym (passes is_done t Held false f refl) ∙ e)
-            by_role Running f = never (sym (passes is_done t Running false f refl) ∙ e)
-            by_role Done f = passes is_over t Done true f refl
-            by_role Gone f = passes is_over t Gone true f refl
-
-          by_over : (t.role ≡ Done) ⊎ (t.role ≡ Gone) → t.role ≡ Done
-          by_over (inl f) = f
-          by_over (inr f) = never (sym (passes is_done t Gone false f refl) ∙ e)
+      omega (arith, had_useful, had, times, enough)

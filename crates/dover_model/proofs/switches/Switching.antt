@@ -4,13 +4,13 @@ use Rattle.std.proofs.Common.{◌∙◌, subst, Bool, true, false, cond, arith, 
 use Rattle.std.specs.Prelude.{◌==◌, ◌&&◌, ◌||◌, not, nat_le, nat_lt}
 use Rattle.std.specs.Bool.{MatchBool, then_some}
 use Rattle.std.specs.List.{count_by, sum_by, list_all, list_any, filter, enumerate_from}
-use Rattle.std.proofs.lemmas.Bool.{eqb-true, eqb-false, eq-eqb, ne_eqb, le-leb, lt-ltb}
+use Rattle.std.proofs.lemmas.Bool.{eqb-true, eqb-false, eq-eqb, ne_eqb, le-leb, lt-ltb, and_from}
 use Rattle.std.proofs.lemmas.List.Sums.{sum_by-cons}
 use Rattle.dover_model.specs.Common.{JobFacts, Fraction, Role, Coming, Fresh, Waiting, Held, Running, Done, Gone}
-use Rattle.dover_model.specs.Common.{Release, Run, Preempt, Take, Complete, Abandon, End, Task, Instance, IsValid}
+use Rattle.dover_model.specs.Common.{Release, Preempt, Take, End, Task, Instance, IsValid}
 use Rattle.dover_model.specs.Common.{numbered, State, opening, to_come, is_fresh, is_over, is_done, is_privileged}
 use Rattle.dover_model.specs.Common.{is_ready_behind, left, value_sum, privileged, is_heavy, Move, Prints, Waits, Ticks}
-use Rattle.dover_model.specs.Common.{step, after, ending, ◌or_else◌, with_role, displaced, ticked, role_after, Step}
+use Rattle.dover_model.specs.Common.{step, after, ◌or_else◌, with_role, displaced, ticked, role_after, Step}
 use Rattle.dover_model.specs.Common.{is_end, run, IsWholeRun, step_at, role_then, is_take_of, is_preempt_of, is_run}
 use Rattle.dover_model.specs.Common.{is_complete, gets, changes_hands, is_complete_of, starts, returns, may_preempt}
 use Rattle.dover_model.specs.Common.{may_take, most_changes, IsMember, Each, NoneRuns, IsSound, IsNumberedFrom, jobs_of}
@@ -27,7 +27,7 @@ use Rattle.dover_model.proofs.steps.Deeds.{Deed, Completed, Resumed, Started, Be
 use Rattle.dover_model.proofs.steps.Deeds.{Abandoned, Rested}
 use Rattle.dover_model.proofs.steps.Kept.{step_deed, step_kept, opening_keeps, come_coming, end_same}
 use Rattle.dover_model.proofs.runs.Ending.{run_is_whole}
-use Rattle.dover_model.proofs.runs.Once.{takes_once, preempts_once, runs_complete}
+use Rattle.dover_model.proofs.runs.Once.{takes_once, preempts_once, runs_complete, rest_of, rest_fails}
 use Rattle.dover_model.proofs.runs.Runs.{run_states}
 use Rattle.dover_model.proofs.lists.Tests.{never}
 
@@ -185,16 +185,12 @@ module _ (s : State) (sound : IsSound s) (n : ℕ) (t : Task) (member : IsMember
   deed_turned k other rests m (Taken r x r_member runs some x_member waiting now stale heavy) =
       by_number (eqb x.number n) refl where
         by_role : (role : Role) → t.role ≡ role → Turned role (displaced role) false false (eqb r.number n) false
-        by_role Coming e = still Coming false (eqb r.number n)
-        by_role Fresh e = still Fresh false (eqb r.number n)
-        by_role Waiting e = still Waiting false (eqb r.number n)
         by_role Held e = record { off = omega arith; alive = omega arith; young = omega arith; on = omega arith }
         by_role Running e =
             subst (λ b. Turned Running Waiting false false b false)
             (sym (eq-eqb r.number n (sym (sound.one_runs t r member r_member e runs) ∙ is_n)))
             (record { off = omega arith; alive = omega arith; young = omega arith; on = omega arith })
-        by_role Done e = still Done false (eqb r.number n)
-        by_role Gone e = still Gone false (eqb r.number n)
+        by_role role e = still role false (eqb r.number n)
 
         by_number : (a : Bool) → eqb x.number n ≡ a
             → Turned t.role (cond (eqb t.number x.number) Running (displaced t.role)) a false (eqb r.number n) false
@@ -208,10 +204,6 @@ module _ (s : State) (sound : IsSound s) (n : ℕ) (t : Task) (member : IsMember
             subst (λ c. Turned t.role (cond c Running (displaced t.role)) false false (eqb r.number n) false)
             (sym (ne_eqb t.number x.number (λ same. eqb-false _ _ e (sym same ∙ is_n))))
             (by_role t.role refl)
-
--- what is done where none of the first six cases applies
-abbrev pub rest_of : State → Move
-rest_of s = ending s or_else Ticks
 
 -- it changes no role
 rest_turned : (s : State) (n : ℕ) (t : Task)
@@ -241,14 +233,12 @@ next_there s Ticks t member = map_member ticked s.tasks t member
 -- with its number
 pub next_number : (m : Move) (t : Task) → (next m t).number ≡ t.number
 next_number (Prints e) t = refl
-next_number (Waits m) t = refl
-next_number Ticks t = refl
+next_number _ t = refl
 
 -- and its role
 pub next_role : (m : Move) (t : Task) → (next m t).role ≡ role_then m t
 next_role (Prints e) t = refl
-next_role (Waits m) t = refl
-next_role Ticks t = refl
+next_role _ t = refl
 
 -- a job of this number is fresh just where the one that has it is
 pub fresh_any : (n k : ℕ) (tasks : List Task) → IsNumberedFrom k tasks → (t : Task) → IsMember t tasks → t.number ≡ n
@@ -290,13 +280,8 @@ fresh_any n k (x ∷ tasks) all t (inr member) is_n =
 pub fresh_same : (t : Task) → is_fresh t ≡ fresh_role t.role
 fresh_same t = by_role t.role refl where
   by_role : (role : Role) → t.role ≡ role → is_fresh t ≡ fresh_role t.role
-  by_role Coming e = passes is_fresh t Coming false e refl ∙ sym (ap fresh_role e)
   by_role Fresh e = passes is_fresh t Fresh true e refl ∙ sym (ap fresh_role e)
-  by_role Waiting e = passes is_fresh t Waiting false e refl ∙ sym (ap fresh_role e)
-  by_role Held e = passes is_fresh t Held false e refl ∙ sym (ap fresh_role e)
-  by_role Running e = passes is_fresh t Running false e refl ∙ sym (ap fresh_role e)
-  by_role Done e = passes is_fresh t Done false e refl ∙ sym (ap fresh_role e)
-  by_role Gone e = passes is_fresh t Gone false e refl ∙ sym (ap fresh_role e)
+  by_role role e = passes is_fresh t role false e refl ∙ sym (ap fresh_role e)
 
 -- ---- along a run
 
@@ -514,13 +499,9 @@ module _ (s : State) (sound : IsSound s) (prompt : IsPrompt s) where
 
   -- a displaced job isn't fresh where it wasn't
   displaced_fresh : (role : Role) → displaced role ≡ Fresh → role ≡ Fresh
-  displaced_fresh Coming e = e
-  displaced_fresh Fresh e = e
-  displaced_fresh Waiting e = e
   displaced_fresh Held e = let c : Waiting ≡ Fresh = e in cc
   displaced_fresh Running e = let c : Waiting ≡ Fresh = e in cc
-  displaced_fresh Done e = e
-  displaced_fresh Gone e = e
+  displaced_fresh _ e = e
 
   -- each deed keeps it so
   deed_prompt : (k : Fraction) (other : Move) → (Quiet s → IsPrompt (after s other)) → (m : Move) → Deed k s other m
@@ -567,15 +548,7 @@ rest_prompt s prompt quiet = by_end (list_all is_over s.tasks) where
 
 -- three tests that hold
 all_three : (a b c : Bool) → a ≡ true → b ≡ true → c ≡ true → (a && b && c) ≡ true
-all_three true true true ea eb ec = refl
-all_three false b c ea eb ec = never ea
-all_three true false c ea eb ec = never eb
-all_three true true false ea eb ec = never ec
-
-all_two : (a b : Bool) → a ≡ true → b ≡ true → (a && b) ≡ true
-all_two true true ea eb = refl
-all_two false b ea eb = never ea
-all_two true false ea eb = never eb
+all_three a b c ea eb ec = and_from (a && b) c (and_from a b ea eb) ec
 
 -- some job preempts, some job takes
 abbrev pub preempts_some : Move → Bool
@@ -619,39 +592,24 @@ module _ (J : Instance) (valid : IsValid J) where
         → Deed k s other m → is_preempted n_j.0 m ≡ true
         → (m_i : ℕ × JobFacts) × IsMember m_i (numbered J) × (may_preempt n_j.1 m_i ≡ true)
         × (is_preempt_of m_i.0 m ≡ true)
-    deed_preempted prompt k other rests m (Completed r r_member runs) e = never e
-    deed_preempted prompt k other rests m (Resumed p p_member held none least why) e = never e
-    deed_preempted prompt k other rests m (Started o o_member waiting none ahead fits next) e = never e
-    deed_preempted prompt k other rests m (Began f f_member fresh none free) e = never e
     deed_preempted prompt k other rests m (Preempted r f r_member runs some f_member fresh before fits) e = (
       (f.number, f.job),
       numbered_there s keeps f f_member,
       subst (λ j. may_preempt j (f.number, f.job) ≡ true)
           (job_is n_j member s keeps r r_member (eqb-true _ _ e))
-          (all_two (nat_le r.job.release f.job.release) (nat_lt f.job.deadline r.job.deadline)
+          (and_from (nat_le r.job.release f.job.release) (nat_lt f.job.deadline r.job.deadline)
           (le-leb _ _ (omega (arith, says s keeps.sound r r_member Running runs, prompt f f_member fresh)))
           (lt-ltb _ _ before)),
       eq-eqb f.number f.number refl,
     )
-    deed_preempted prompt k other rests m (Stayed r f r_member runs some f_member fresh why) e = never e
-    deed_preempted prompt k other rests m (Arrived c c_member comes now least stale busy free) e = never e
-    deed_preempted prompt k other rests m (Taken r x r_member runs some x_member waiting now stale heavy) e = never e
-    deed_preempted prompt k other rests m (Abandoned r x r_member runs some x_member waiting now stale light) e = never
-        e
     deed_preempted prompt k other rests m (Rested quiet) e = never (sym rests ∙ e)
+    deed_preempted prompt k other rests m _ e = never e
 
     -- who takes the processor from it may do so
     deed_taken : (k : Fraction) (other : Move) → is_taken_from n_j.0 other ≡ false → (m : Move)
         → Deed k s other m → is_taken_from n_j.0 m ≡ true
         → (m_i : ℕ × JobFacts) × IsMember m_i (numbered J) × (may_take k n_j.1 m_i ≡ true)
         × (is_take_of m_i.0 m ≡ true)
-    deed_taken k other rests m (Completed r r_member runs) e = never e
-    deed_taken k other rests m (Resumed p p_member held none least why) e = never e
-    deed_taken k other rests m (Started o o_member waiting none ahead fits next) e = never e
-    deed_taken k other rests m (Began f f_member fresh none free) e = never e
-    deed_taken k other rests m (Preempted r f r_member runs some f_member fresh before fits) e = never e
-    deed_taken k other rests m (Stayed r f r_member runs some f_member fresh why) e = never e
-    deed_taken k other rests m (Arrived c c_member comes now least stale busy free) e = never e
     deed_taken k other rests m (Taken r x r_member runs some x_member waiting now stale heavy) e = (
       (x.number, x.job),
       numbered_there s keeps x x_member,
@@ -672,8 +630,8 @@ module _ (J : Instance) (valid : IsValid J) where
     ) where
       active : is_privileged r ≡ true
       active = passes is_privileged r Running true runs refl
-    deed_taken k other rests m (Abandoned r x r_member runs some x_member waiting now stale light) e = never e
     deed_taken k other rests m (Rested quiet) e = never (sym rests ∙ e)
+    deed_taken k other rests m _ e = never e
 
   -- some job completes, preempts or takes, and it is one of the jobs
   module _ (s : State) (keeps : Keeps J s) where
@@ -682,53 +640,24 @@ module _ (J : Instance) (valid : IsValid J) where
         → (m_i : ℕ × JobFacts) × IsMember m_i (numbered J) × (true ≡ true) × (is_complete_of m_i.0 m ≡ true)
     deed_completes k other rests m (Completed r member runs) e =
         ((r.number, r.job), numbered_there s keeps r member, refl, eq-eqb r.number r.number refl)
-    deed_completes k other rests m (Resumed p member held none least why) e = never e
-    deed_completes k other rests m (Started o member waiting none ahead fits next) e = never e
-    deed_completes k other rests m (Began f member fresh none free) e = never e
-    deed_completes k other rests m (Preempted r f member runs some f_member fresh before fits) e = never e
-    deed_completes k other rests m (Stayed r f member runs some f_member fresh why) e = never e
-    deed_completes k other rests m (Arrived c member comes now least stale busy free) e = never e
-    deed_completes k other rests m (Taken r x member runs some x_member waiting now stale heavy) e = never e
-    deed_completes k other rests m (Abandoned r x member runs some x_member waiting now stale light) e = never e
     deed_completes k other rests m (Rested quiet) e = never (sym rests ∙ e)
+    deed_completes k other rests m _ e = never e
 
     pub deed_preempts : (k : Fraction) (other : Move) → preempts_some other ≡ false → (m : Move) → Deed k s other m
         → preempts_some m ≡ true
         → (m_i : ℕ × JobFacts) × IsMember m_i (numbered J) × (true ≡ true) × (is_preempt_of m_i.0 m ≡ true)
-    deed_preempts k other rests m (Completed r member runs) e = never e
-    deed_preempts k other rests m (Resumed p member held none least why) e = never e
-    deed_preempts k other rests m (Started o member waiting none ahead fits next) e = never e
-    deed_preempts k other rests m (Began f member fresh none free) e = never e
     deed_preempts k other rests m (Preempted r f member runs some f_member fresh before fits) e =
         ((f.number, f.job), numbered_there s keeps f f_member, refl, eq-eqb f.number f.number refl)
-    deed_preempts k other rests m (Stayed r f member runs some f_member fresh why) e = never e
-    deed_preempts k other rests m (Arrived c member comes now least stale busy free) e = never e
-    deed_preempts k other rests m (Taken r x member runs some x_member waiting now stale heavy) e = never e
-    deed_preempts k other rests m (Abandoned r x member runs some x_member waiting now stale light) e = never e
     deed_preempts k other rests m (Rested quiet) e = never (sym rests ∙ e)
+    deed_preempts k other rests m _ e = never e
 
     pub deed_takes : (k : Fraction) (other : Move) → takes_some other ≡ false → (m : Move) → Deed k s other m
         → takes_some m ≡ true
         → (m_i : ℕ × JobFacts) × IsMember m_i (numbered J) × (true ≡ true) × (is_take_of m_i.0 m ≡ true)
-    deed_takes k other rests m (Completed r member runs) e = never e
-    deed_takes k other rests m (Resumed p member held none least why) e = never e
-    deed_takes k other rests m (Started o member waiting none ahead fits next) e = never e
-    deed_takes k other rests m (Began f member fresh none free) e = never e
-    deed_takes k other rests m (Preempted r f member runs some f_member fresh before fits) e = never e
-    deed_takes k other rests m (Stayed r f member runs some f_member fresh why) e = never e
-    deed_takes k other rests m (Arrived c member comes now least stale busy free) e = never e
     deed_takes k other rests m (Taken r x member runs some x_member waiting now stale heavy) e =
         ((x.number, x.job), numbered_there s keeps x x_member, refl, eq-eqb x.number x.number refl)
-    deed_takes k other rests m (Abandoned r x member runs some x_member waiting now stale light) e = never e
     deed_takes k other rests m (Rested quiet) e = never (sym rests ∙ e)
-
-  -- neither End nor a silent tick passes
-  pub rest_fails : (test : Move → Bool) → ((value : ℕ) → test (Prints (End value)) ≡ false) → test Ticks ≡ false
-      → (s : State) → test (rest_of s) ≡ false
-  rest_fails test ends ticks s = by_end (list_all is_over s.tasks) where
-    by_end : (b : Bool) → test (then_some b (Prints (End (value_sum (filter is_done s.tasks)))) or_else Ticks) ≡ false
-    by_end true = ends (value_sum (filter is_done s.tasks))
-    by_end false = ticks
+    deed_takes k other rests m _ e = never e
 
   -- what a deed finds, every step of the run finds
   pub each_finds : (hit : Move → Bool) (named : ℕ → Move → Bool) (test : ℕ × JobFacts → Bool)
@@ -816,14 +745,7 @@ module _ (J : Instance) (valid : IsValid J) where
     by_move : (m : Move)
         → one_if (changes_hands m) ≡ one_if (is_run m) + one_if (preempts_some m) + one_if (takes_some m)
     by_move (Prints (Release n job)) = refl
-    by_move (Prints (Run at n)) = refl
-    by_move (Prints (Preempt at stops starting)) = refl
-    by_move (Prints (Take at stops starting)) = refl
-    by_move (Prints (Complete at n)) = refl
-    by_move (Prints (Abandon at n)) = refl
-    by_move (Prints (End value)) = refl
-    by_move (Waits n) = refl
-    by_move Ticks = refl
+    by_move _ = refl
 
   -- that is three times for each job at most
   pub changes_few : count_by (λ x. changes_hands x.move) (run J) ≤ 3 * length J.jobs
@@ -882,7 +804,6 @@ module _ (s : State) (sound : IsSound s) where
   -- a job that gets the processor back finds it free, and waited or was held
   pub deed_returns : IsTaken s → (k : Fraction) (other : Move) → returns_by s other ≡ false → (m : Move)
       → Deed k s other m → returns_by s m ≡ true → ⊥
-  deed_returns taken k other rests m (Completed r member runs) e = never e
   deed_returns taken k other rests m (Resumed p member held none least why) e =
       taken none p member (passes is_ready_behind p Held true held refl)
   deed_returns taken k other rests m (Started o member waiting none ahead fits next) e =
@@ -890,12 +811,8 @@ module _ (s : State) (sound : IsSound s) where
   deed_returns taken k other rests m (Began f member fresh none free) e =
       never (sym (ap not (fresh_any f.number 0 s.tasks sound.numbered f member refl
       ∙ passes is_fresh f Fresh true fresh refl)) ∙ e)
-  deed_returns taken k other rests m (Preempted r f member runs some f_member fresh before fits) e = never e
-  deed_returns taken k other rests m (Stayed r f member runs some f_member fresh why) e = never e
-  deed_returns taken k other rests m (Arrived c member comes now least stale busy free) e = never e
-  deed_returns taken k other rests m (Taken r x member runs some x_member waiting now stale heavy) e = never e
-  deed_returns taken k other rests m (Abandoned r x member runs some x_member waiting now stale light) e = never e
   deed_returns taken k other rests m (Rested quiet) e = never (sym rests ∙ e)
+  deed_returns taken k other rests m _ e = never e
 
 -- behind a silent tick or End
 pub rest_taken : (s : State) → Quiet s → IsTaken (after s (rest_of s))
@@ -924,7 +841,7 @@ module _ (J : Instance) (valid : IsValid J) where
     by_behind : (b : Bool) → (b ≡ false → IsTaken s) → returns x ≡ true → b ≡ true
     by_behind true free e = refl
     by_behind false free e = absurd (deed_returns s keeps.sound (free refl) J.rules.ratio (rest_of s)
-        (rest_fails J valid (returns_by s) (λ value. refl) refl s) (step J.rules s)
+        (rest_fails (returns_by s) (λ value. refl) refl s) (step J.rules s)
         (step_deed J valid s keeps J.rules)
         (ap (λ (y : Step). returns y) (sym whole.0) ∙ e))
 

@@ -42,36 +42,26 @@ feed_line-feed_text EndLine short = refl
 
 -- a ratio and perhaps a version
 from_ratio : (ns : List ℕ) (line : FeedLine) → ratio_line ns ≡ Some line → feed_text line ≡ with_numbers (codes "k") ns
-from_ratio [] line read = none_is_some read
-from_ratio (p ∷ []) line read = none_is_some read
 from_ratio (p ∷ q ∷ []) line read = ap feed_text (sym (some_same _ _ read))
 from_ratio (p ∷ q ∷ v ∷ []) line read = ap feed_text (sym (some_same _ _ read))
-from_ratio (p ∷ q ∷ v ∷ b ∷ []) line read = none_is_some read
 from_ratio (p ∷ q ∷ v ∷ b ∷ c ∷ []) line read = ap feed_text (sym (some_same _ _ read))
-from_ratio (p ∷ q ∷ v ∷ b ∷ c ∷ n ∷ ns) line read = none_is_some read
+from_ratio _ line read = none_is_some read
 
 -- the numbers of a job
 from_job : (ns : List ℕ) (line : FeedLine) → job_line ns ≡ Some line → feed_text line ≡ with_numbers (codes "job") ns
-from_job [] line read = none_is_some read
-from_job (r ∷ []) line read = none_is_some read
-from_job (r ∷ c ∷ []) line read = none_is_some read
-from_job (r ∷ c ∷ d ∷ []) line read = none_is_some read
 from_job (r ∷ c ∷ d ∷ v ∷ []) line read = ap feed_text (sym (some_same _ _ read))
-from_job (r ∷ c ∷ d ∷ v ∷ n ∷ ns) line read = none_is_some read
+from_job _ line read = none_is_some read
 
 -- a tick
 from_tick : (ns : List ℕ) (line : FeedLine) → tick_line ns ≡ Some line → feed_text line ≡ with_numbers (codes "tick") ns
-from_tick [] line read = none_is_some read
 from_tick (t ∷ []) line read = ap feed_text (sym (some_same _ _ read))
-from_tick (t ∷ n ∷ ns) line read = none_is_some read
+from_tick _ line read = none_is_some read
 
 -- a done line
 from_done : (ns : List ℕ) (line : FeedLine) → done_line ns ≡ Some line
     → feed_text line ≡ with_numbers (codes "done") ns
-from_done [] line read = none_is_some read
-from_done (t ∷ []) line read = none_is_some read
 from_done (t ∷ n ∷ []) line read = ap feed_text (sym (some_same _ _ read))
-from_done (t ∷ n ∷ m ∷ ns) line read = none_is_some read
+from_done _ line read = none_is_some read
 
 -- no numbers
 from_end : (ns : List ℕ) (line : FeedLine) → end_line ns ≡ Some line → feed_text line ≡ with_numbers (codes "end") ns

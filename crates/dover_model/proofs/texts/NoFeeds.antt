@@ -8,12 +8,11 @@ use Rattle.std.specs.Char.{is_ascii_digit}
 use Rattle.std.specs.Fmt.{digits, digits_onto, digit_glyph}
 use Rattle.std.proofs.lemmas.Bool.{and_parts, and_from}
 use Rattle.std.proofs.lemmas.List.Folds.{list_all-append}
-use Rattle.dover_model.specs.Common.{RefusedLine, RefusedJob, RefusedDone, Version, One, Two, Three, Refusal, BadJob}
-use Rattle.dover_model.specs.Common.{Count, Total, Ratio, Late, Full, Release, Run, Preempt, Take, Complete, Abandon}
-use Rattle.dover_model.specs.Common.{End, job_numbers, IsRatio, factor_numbers, is_some_factor, Factor, Declaration}
-use Rattle.dover_model.specs.Common.{AreShort, line_of, with_numbers, header, version_number, refusal_word}
-use Rattle.dover_model.specs.Common.{refused_word, refused_numbers, header_numbers, TraceLine, Printed, Refuses}
-use Rattle.dover_model.specs.Common.{text_of_line}
+use Rattle.dover_model.specs.Common.{RefusedLine, RefusedJob, RefusedDone, Version, One, Refusal, BadJob, Release, Run}
+use Rattle.dover_model.specs.Common.{Preempt, Take, Complete, Abandon, End, job_numbers, IsRatio, factor_numbers}
+use Rattle.dover_model.specs.Common.{is_some_factor, Factor, Declaration, AreShort, line_of, with_numbers, header}
+use Rattle.dover_model.specs.Common.{version_number, refusal_word, refused_word, refused_numbers, header_numbers}
+use Rattle.dover_model.specs.Common.{TraceLine, Printed, Refuses, text_of_line}
 use Rattle.dover_model.proofs.lists.Members.{all_append}
 use Rattle.dover_model.proofs.texts.Cuts.{is_feed, HasNoFeed}
 use Rattle.dover_model.proofs.valid.JobLimits.{ratio_limits, FactorLimits, factor_limits}
@@ -90,11 +89,7 @@ feedless_numbers word ns none = feedless_line word (map decimal ns) none (feedle
 -- the word of a refusal
 pub feedless_refusal : (refusal : Refusal) → HasNoFeed (refusal_word refusal)
 feedless_refusal BadJob = refl
-feedless_refusal Count = refl
-feedless_refusal Total = refl
-feedless_refusal Ratio = refl
-feedless_refusal Late = refl
-feedless_refusal Full = refl
+feedless_refusal _ = refl
 
 -- the word of a refused line
 feedless_refused : (line : RefusedLine) → HasNoFeed (refused_word line)
@@ -138,8 +133,7 @@ header_short rules ratio =
 
       by_version : (v : Version) → version_number v < 10 ^ 18
       by_version One = omega arith
-      by_version Two = omega arith
-      by_version Three = omega arith
+      by_version _ = omega arith
 
 -- the header
 pub feedless_header : (rules : Declaration) → HasNoFeed (header rules)

@@ -1,8 +1,9 @@
 -- Each number below 10 ^ 18 has one numeral, its decimal digits.
 use Rattle.std.proofs.Common.{rules, suc, zero, ◌≡◌, ℕ, ◌<◌, ◌^◌, List, [], ◌∷◌, length, get_or, refl, sym, ap, ◌∙◌}
-use Rattle.std.proofs.Common.{subst, Bool, true, false, ◌&&◌, not, arith, Some, None, nat_le, decimal, eq-eqb, ne_eqb}
+use Rattle.std.proofs.Common.{subst, Bool, true, ◌&&◌, not, arith, Some, None, nat_le, decimal, eq-eqb, ne_eqb}
 use Rattle.std.proofs.Common.{le-leb, leb-true}
 use Rattle.std.specs.Bool.{then_some}
+use Rattle.std.proofs.lemmas.Bool.{and_from}
 use Rattle.std.specs.Str.{all_ascii_digits}
 use Rattle.std.proofs.lemmas.Str.Parse.{IsNumeralModel, numerals_by_fold, digits_value_short}
 use Rattle.std.proofs.lemmas.Fmt.{digits_decimal, digits_value-decimal, length-decimal-le, decimal-digits_value}
@@ -16,18 +17,13 @@ own = numerals_by_fold _ (search rules) number_onto (search rules)
 
 -- three tests that pass
 and_true : (a b c : Bool) → a ≡ true → b ≡ true → c ≡ true → (a && b && c) ≡ true
-and_true true true true _ _ _ = refl
-and_true true true false p q r = never r
-and_true true false c p q r = never q
-and_true false b c p q r = never p
+and_true a b c p q r = and_from (a && b) c (and_from a b p q) r
 
 -- what three tests and a value say
 pub then_true : (a b c : Bool) (x n : ℕ) → then_some (a && b && c) x ≡ Some n → (a ≡ true) × (b ≡ true) × (c ≡ true)
     × (x ≡ n)
 then_true true true true x n h = (refl, refl, refl, cc)
-then_true true true false x n h = absurd (let e : None ≡ Some n = h in cc)
-then_true true false c x n h = absurd (let e : None ≡ Some n = h in cc)
-then_true false b c x n h = absurd (let e : None ≡ Some n = h in cc)
+then_true _ _ _ x n h = absurd (let e : None ≡ Some n = h in cc)
 
 -- digits that have no leading zero are plain
 plain : (ds : List ℕ) → 0 < length ds → (get_or ds 0 0 ≡ 48 → length ds ≡ 1) → is_plain ds ≡ true

@@ -37,37 +37,27 @@ numerals_short (field ∷ fields) ns read =
 
 -- of the ratio
 ratio_short : (ns : List ℕ) (line : FeedLine) → AreShort ns → ratio_line ns ≡ Some line → HasNumerals line
-ratio_short [] line short read = none_is_some read
-ratio_short (p ∷ []) line short read = none_is_some read
 ratio_short (p ∷ q ∷ []) line short read = subst HasNumerals (some_same (RatioLine p q None) line read) short
 ratio_short (p ∷ q ∷ v ∷ []) line short read = subst HasNumerals (some_same (RatioLine p q (Some v)) line read) short
-ratio_short (p ∷ q ∷ v ∷ b ∷ []) line short read = none_is_some read
 ratio_short (p ∷ q ∷ v ∷ b ∷ c ∷ []) line short read =
     subst HasNumerals (some_same (FactorLine p q v b c) line read) short
-ratio_short (p ∷ q ∷ v ∷ b ∷ c ∷ n ∷ ns) line short read = none_is_some read
+ratio_short _ line short read = none_is_some read
 
 -- of a job
 job_short : (ns : List ℕ) (line : FeedLine) → AreShort ns → job_line ns ≡ Some line → HasNumerals line
-job_short [] line short read = none_is_some read
-job_short (r ∷ []) line short read = none_is_some read
-job_short (r ∷ c ∷ []) line short read = none_is_some read
-job_short (r ∷ c ∷ d ∷ []) line short read = none_is_some read
 job_short (r ∷ c ∷ d ∷ v ∷ []) line short read =
     subst HasNumerals (some_same (JobLine (record { release = r; work = c; deadline = d; value = v })) line read) short
-job_short (r ∷ c ∷ d ∷ v ∷ n ∷ ns) line short read = none_is_some read
+job_short _ line short read = none_is_some read
 
 -- of a tick
 tick_short : (ns : List ℕ) (line : FeedLine) → AreShort ns → tick_line ns ≡ Some line → HasNumerals line
-tick_short [] line short read = none_is_some read
 tick_short (t ∷ []) line short read = subst HasNumerals (some_same (TickLine t) line read) short
-tick_short (t ∷ n ∷ ns) line short read = none_is_some read
+tick_short _ line short read = none_is_some read
 
 -- of a done line
 done_short : (ns : List ℕ) (line : FeedLine) → AreShort ns → done_line ns ≡ Some line → HasNumerals line
-done_short [] line short read = none_is_some read
-done_short (t ∷ []) line short read = none_is_some read
 done_short (t ∷ n ∷ []) line short read = subst HasNumerals (some_same (DoneLine t n) line read) short
-done_short (t ∷ n ∷ m ∷ ns) line short read = none_is_some read
+done_short _ line short read = none_is_some read
 
 -- of the end
 end_short : (ns : List ℕ) (line : FeedLine) → end_line ns ≡ Some line → HasNumerals line

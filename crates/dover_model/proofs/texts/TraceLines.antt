@@ -3,12 +3,11 @@ use Rattle.std.proofs.Common.{◌≡◌, ℕ, List, [], ◌∷◌, ◌++◌, map
 use Rattle.std.proofs.Common.{option_and_then, sym, Bool, true, false, cond, subst, ◌==◌, eqb-true}
 use Rattle.std.specs.List.{AllByRecursion}
 use Rattle.std.specs.Bool.{then_some}
-use Rattle.dover_model.specs.Common.{Refusal, BadJob, Count, Total, Ratio, Late, Full, Release, Run, Preempt, Take}
-use Rattle.dover_model.specs.Common.{Complete, Abandon, End, numerals, AreShort, job_numbers, with_numbers}
-use Rattle.dover_model.specs.Common.{numbers_after, Item, JobItem, RefusedItem, RefusedJob, RefusedLine, RefusedDone}
-use Rattle.dover_model.specs.Common.{refused_text, refusal_word, step_numbers, version_number, refused_numbers}
-use Rattle.dover_model.specs.Common.{refused_word, TraceLine, Printed, Refuses, text_of_line, item_of}
-use Rattle.dover_model.specs.Common.{version_of_number, Version, One, Two, Three}
+use Rattle.dover_model.specs.Common.{Refusal, BadJob, Release, Run, Preempt, Take, Complete, Abandon, End, numerals}
+use Rattle.dover_model.specs.Common.{AreShort, job_numbers, with_numbers, numbers_after, Item, JobItem, RefusedItem}
+use Rattle.dover_model.specs.Common.{RefusedJob, RefusedLine, RefusedDone, refused_text, refusal_word, step_numbers}
+use Rattle.dover_model.specs.Common.{version_number, refused_numbers, refused_word, TraceLine, Printed, Refuses}
+use Rattle.dover_model.specs.Common.{text_of_line, item_of, version_of_number, Version, One, Two, Three}
 use Rattle.dover_model.specs.Verdict.{job_from, refused_from, refused_with, refusal_of_word, refused_done_with}
 use Rattle.std.specs.Option.{option_or}
 use Rattle.dover_model.proofs.texts.Fields.{HasNoSpace, fields_of-line_of, decimals-HasNoSpace, numerals-decimals}
@@ -51,11 +50,7 @@ job_named n r c d v short = cut (codes "job") (n ∷ r ∷ c ∷ d ∷ v ∷ [])
 -- the word of a refusal has no space
 pub word_HasNoSpace : (refusal : Refusal) → HasNoSpace (refusal_word refusal)
 word_HasNoSpace BadJob = refl
-word_HasNoSpace Count = refl
-word_HasNoSpace Total = refl
-word_HasNoSpace Ratio = refl
-word_HasNoSpace Late = refl
-word_HasNoSpace Full = refl
+word_HasNoSpace _ = refl
 
 -- nor has that of a refused line
 pub refused_HasNoSpace : (line : RefusedLine) → HasNoSpace (refused_word line)
@@ -65,11 +60,7 @@ refused_HasNoSpace (RefusedDone tick number) = refl
 -- it stands for the refusal
 word_named : (refusal : Refusal) → refusal_of_word (refusal_word refusal) ≡ Some refusal
 word_named BadJob = refl
-word_named Count = refl
-word_named Total = refl
-word_named Ratio = refl
-word_named Late = refl
-word_named Full = refl
+word_named _ = refl
 
 -- nor have numbers and a word behind them
 pub then_word : (word : List ℕ) (ns : List ℕ) → HasNoSpace word → AreShort ns
@@ -108,8 +99,7 @@ item_of-text_of_line (Refuses r) short = refused_named r.at r.line short
 -- a version is read from its number
 pub version_back : (v : Version) → version_of_number (version_number v) ≡ Some v
 version_back One = refl
-version_back Two = refl
-version_back Three = refl
+version_back _ = refl
 
 -- and its number from it
 pub version_from : (n : ℕ) (v : Version) → version_of_number n ≡ Some v → version_number v ≡ n

@@ -116,11 +116,7 @@ accepted_is_trace T S is = by_first (first_wrong [] (text_lines T)) refl is wher
       let passes : begins_trace (whole_lines T) ≡ true =
       none_begins [] (whole_lines T) (ap (first_wrong []) (sym lines) ∙ none) refl in
       trace_of_lines T S ended nothing (named ∙ ap Some same) passes
-  by_good true true None ended empty named none h =
-      absurd (let e : Short (length (whole_lines T)) ≡ Accepted S = h in cc)
-  by_good true false o ended empty named none h =
-      absurd (let e : Short (length (whole_lines T)) ≡ Accepted S = h in cc)
-  by_good false b o ended empty named none h =
+  by_good _ _ _ ended empty named none h =
       absurd (let e : Short (length (whole_lines T)) ≡ Accepted S = h in cc)
 
   by_first : (o : Option ℕ) → first_wrong [] (text_lines T) ≡ o

@@ -8,10 +8,9 @@ use Rattle.std.proofs.lemmas.Slice.Eq.{bytes_eq-Decides, starts_is}
 use Rattle.dover_model.specs.Common.{Version, IsRatio, fraction, with_factor, factor_numbers, Factor, Declaration, cut}
 use Rattle.dover_model.specs.Common.{whole_lines, numbers_of, numbers_after, with_numbers, Item, Session}
 use Rattle.dover_model.specs.Common.{IsValidSession, session_with, new_session, with_named, header, version_number}
-use Rattle.dover_model.specs.Common.{header_numbers, TraceLine, Printed, Refuses, text_of_line, trace_lines}
-use Rattle.dover_model.specs.Common.{trace_of_session, named_item, begins_trace_of, rules_of, named_session}
-use Rattle.dover_model.specs.Common.{named_behind, begins_trace, Release, Run, Preempt, Take, Complete, Abandon, End}
-use Rattle.dover_model.specs.Common.{AreShort, Begins}
+use Rattle.dover_model.specs.Common.{header_numbers, TraceLine, Printed, text_of_line, trace_lines, trace_of_session}
+use Rattle.dover_model.specs.Common.{named_item, begins_trace_of, rules_of, named_session, named_behind, begins_trace}
+use Rattle.dover_model.specs.Common.{Run, Preempt, Take, Complete, Abandon, End, AreShort, Begins}
 use Rattle.dover_model.specs.Verdict.{finish_from, rules_from}
 use Rattle.dover_model.proofs.lists.Members.{some_same, heads, tails}
 use Rattle.dover_model.proofs.lists.Beginnings.{begins_behind, begins_map}
@@ -65,7 +64,6 @@ named_text S line short = ap (λ o. option_or o (finish_named line)) (item_of-te
     finish_named l = option_and_then (finish_from S) (numbers_of (codes "complete") (text_of_line l))
 
     by_line : (l : TraceLine) → HasShortNumbers l → option_or (item_of_line l) (finish_named l) ≡ item_in S l
-    by_line (Printed (Release n j)) short = refl
     by_line (Printed (Run at n)) short =
         ap (option_and_then (finish_from S)) (first_word (codes "run") (at ∷ n ∷ []) refl short)
     by_line (Printed (Preempt at stops starts)) short =
@@ -79,7 +77,7 @@ named_text S line short = ap (λ o. option_or o (finish_named line)) (item_of-te
         ap (option_and_then (finish_from S)) (first_word (codes "abandon") (at ∷ n ∷ []) refl short)
     by_line (Printed (End value)) short =
         ap (option_and_then (finish_from S)) (first_word (codes "end") (value ∷ []) refl short)
-    by_line (Refuses r) short = refl
+    by_line _ short = refl
 
 -- texts name what their lines name
 pub texts_name : (S : Session) (lines : List TraceLine) → AllByRecursion HasShortNumbers lines

@@ -1,12 +1,11 @@
 -- A trace of valid jobs names them, however many are ready at once.
 use Rattle.std.proofs.Common.{◌≡◌, ℕ, List, [], ◌∷◌, ◌++◌, map, refl, sym, ap, ◌∙◌, Option, filter_map, option_and_then}
 use Rattle.std.specs.List.{cons_option}
-use Rattle.dover_model.specs.Common.{JobFacts, Event, Release, Run, Preempt, Take, Complete, Abandon, End, Declaration}
-use Rattle.dover_model.specs.Common.{Instance, IsValid, declared_by, whole_lines, Step, run, printed, printed_of}
-use Rattle.dover_model.specs.Common.{event_of, Item, JobItem, Session, session_with, instance_of, admitted_jobs}
-use Rattle.dover_model.specs.Common.{job_of_item, running, Move, Prints, Waits, Ticks, header, Printed, text_of_line}
-use Rattle.dover_model.specs.Common.{places_after, put_in, trace_lines, session_of, trace, trace_of_session, handed_by}
-use Rattle.dover_model.specs.Common.{item_of, rules_of}
+use Rattle.dover_model.specs.Common.{JobFacts, Event, Release, Complete, Declaration, Instance, IsValid, declared_by}
+use Rattle.dover_model.specs.Common.{whole_lines, Step, run, printed, printed_of, event_of, Item, JobItem, Session}
+use Rattle.dover_model.specs.Common.{session_with, instance_of, admitted_jobs, job_of_item, running, Move, Prints}
+use Rattle.dover_model.specs.Common.{header, Printed, text_of_line, places_after, put_in, trace_lines, session_of}
+use Rattle.dover_model.specs.Common.{trace, trace_of_session, handed_by, item_of, rules_of}
 use Rattle.dover_model.proofs.texts.Cuts.{CutText, cut_in_lines}
 use Rattle.dover_model.proofs.sessions.Growing.{all_lines}
 use Rattle.dover_model.proofs.sessions.JobSessions.{instance_back}
@@ -51,12 +50,7 @@ named_back (e ∷ es) short =
     by_event : (e : Event) (js : List JobFacts)
         → cons_option (option_and_then job_of_item (item_of_line (Printed e))) js ≡ cons_option (released e) js
     by_event (Release n j) js = refl
-    by_event (Run at n) js = refl
-    by_event (Preempt at stops starts) js = refl
-    by_event (Take at stops starts) js = refl
-    by_event (Complete at n) js = refl
-    by_event (Abandon at n) js = refl
-    by_event (End value) js = refl
+    by_event _ js = refl
 
 -- the jobs that steps release are those that they show
 shown_released : (xs : List Step) → releases (printed_of xs) ≡ admitted_jobs (items_of xs)
@@ -67,15 +61,9 @@ shown_released (x ∷ xs) = by_move x.move (shown_released xs) ∙ sym (items_co
       ≡ admitted_jobs (cons_option (handed_by (record { before = x.before; move = m })) [])
       ++ admitted_jobs (items_of xs)
   by_move (Prints (Release n j)) rest = ap (λ js. j ∷ js) rest
-  by_move (Prints (Run at n)) rest = rest
-  by_move (Prints (Preempt at stops starts)) rest = rest
-  by_move (Prints (Take at stops starts)) rest = rest
   by_move (Prints (Complete at n)) rest =
       rest ∙ ap (λ js. js ++ admitted_jobs (items_of xs)) (sym (no_job_shown x.before.clock (running x.before)))
-  by_move (Prints (Abandon at n)) rest = rest
-  by_move (Prints (End value)) rest = rest
-  by_move (Waits n) rest = rest
-  by_move Ticks rest = rest
+  by_move _ rest = rest
 
 -- the texts of a run's printed steps name its jobs
 run_named : (J : Instance) → IsValid J → filter_map job_named (map text_of_line (map Printed (printed J))) ≡ J.jobs

@@ -156,8 +156,7 @@ AreAllShort es = AllByRecursion (λ e. AreShort (step_numbers e)) es
 -- with one step more
 short_more : (m : Move) (es : List Event) → IsShortMove m → AreAllShort es → AreAllShort (cons_option (event_of m) es)
 short_more (Prints e) es short all = (short, all)
-short_more (Waits n) es short all = all
-short_more Ticks es short all = all
+short_more _ es short all = all
 
 module _ (J : Instance) (valid : IsValid J) (rules : Rules) where
   -- the steps of a whole run are short

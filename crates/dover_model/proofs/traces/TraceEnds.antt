@@ -7,7 +7,7 @@ use Rattle.std.specs.Option.{option_map_or}
 use Rattle.std.proofs.lemmas.List.{map-append}
 use Rattle.dover_model.specs.Common.{Event, Release, Run, Preempt, Take, Complete, Abandon, End, job_numbers, IsRatio}
 use Rattle.dover_model.specs.Common.{Rules, Declaration, Instance, IsValid, State, opening, is_done, is_over, value_sum}
-use Rattle.dover_model.specs.Common.{Move, Prints, Waits, Ticks, step, open_step, after, Step, is_end, event_of}
+use Rattle.dover_model.specs.Common.{Move, Prints, step, open_step, after, Step, is_end, event_of}
 use Rattle.dover_model.specs.Common.{printed_of, printed, run, settled, settled_steps, AllComeFrom, IsWholeRun}
 use Rattle.dover_model.specs.Common.{IsSettledRun, Begins, Each, Keeps, AreShort, with_numbers, numbers_after, Session}
 use Rattle.dover_model.specs.Common.{instance_of, IsValidSession, header, text_of, refused_word, refused_numbers}
@@ -49,8 +49,7 @@ pub record EndsOnce (es : List Event) : Type 0 where
 -- with one step more, which isn't End
 no_end_more : (m : Move) (es : List Event) → is_end m ≡ false → HasNoEnd es → HasNoEnd (cons_option (event_of m) es)
 no_end_more (Prints e) es on all = (on, all)
-no_end_more (Waits n) es on all = all
-no_end_more Ticks es on all = all
+no_end_more _ es on all = all
 
 module _ (J : Instance) (valid : IsValid J) (rules : Rules) where
   -- a whole run prints End once

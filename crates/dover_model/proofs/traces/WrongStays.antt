@@ -9,14 +9,13 @@ use Rattle.std.proofs.lemmas.Bool.{ltb-true, lt-ltb, and_parts, false_from_ne_tr
 use Rattle.std.proofs.lemmas.Fmt.{length-decimal-le}
 use Rattle.std.proofs.lemmas.List.{append_assoc, append-nil, take-append-le}
 use Rattle.std.proofs.lemmas.Slice.Eq.{bytes_eq-Decides, starts_is}
-use Rattle.dover_model.specs.Common.{Factor, factor_numbers, Refusal, BadJob, Count, Total, Ratio, Late, Full, Release}
-use Rattle.dover_model.specs.Common.{Run, Preempt, Take, Complete, Abandon, End, job_numbers, AreShort, cut}
-use Rattle.dover_model.specs.Common.{whole_lines, rest_of, is_too_long, line_of, Session, IsValidSession}
-use Rattle.dover_model.specs.Common.{is_valid_session, RefusedLine, RefusedJob, RefusedDone, refusal_word}
-use Rattle.dover_model.specs.Common.{refused_numbers, header_numbers, TraceLine, Printed, Refuses, text_of_line}
-use Rattle.dover_model.specs.Common.{trace_lines, Accepted, Wrong, Expected, begins_trace_of, begins_trace}
-use Rattle.dover_model.specs.Common.{named_session, first_wrong, expected_after, good_verdict, wrong_verdict, verdict}
-use Rattle.dover_model.specs.Common.{ends_with_end, is_empty, text_lines, Begins}
+use Rattle.dover_model.specs.Common.{Factor, factor_numbers, Refusal, BadJob, Release, Run, Preempt, Take, Complete}
+use Rattle.dover_model.specs.Common.{Abandon, End, job_numbers, AreShort, cut, whole_lines, rest_of, is_too_long}
+use Rattle.dover_model.specs.Common.{line_of, Session, IsValidSession, is_valid_session, RefusedLine, RefusedJob}
+use Rattle.dover_model.specs.Common.{RefusedDone, refusal_word, refused_numbers, header_numbers, TraceLine, Printed}
+use Rattle.dover_model.specs.Common.{Refuses, text_of_line, trace_lines, Accepted, Wrong, Expected, begins_trace_of}
+use Rattle.dover_model.specs.Common.{begins_trace, named_session, first_wrong, expected_after, good_verdict}
+use Rattle.dover_model.specs.Common.{wrong_verdict, verdict, ends_with_end, is_empty, text_lines, Begins}
 use Rattle.dover_model.specs.Verdict.{Short, is_end_text, rest_counts}
 use Rattle.dover_model.proofs.lists.Members.{some_same, all_at}
 use Rattle.dover_model.proofs.lists.Tests.{never}
@@ -48,11 +47,7 @@ length_then_word front (n ∷ ns) word short =
 -- the word of a refusal is short
 pub refusal_brief : (refusal : Refusal) → length (refusal_word refusal) ≤ 5
 refusal_brief BadJob = omega arith
-refusal_brief Count = omega arith
-refusal_brief Total = omega arith
-refusal_brief Ratio = omega arith
-refusal_brief Late = omega arith
-refusal_brief Full = omega arith
+refusal_brief _ = omega arith
 
 -- no longer than a line may be
 abbrev IsLine : List ℕ → Type 0
@@ -375,9 +370,8 @@ module _ (T more : List ℕ) (n : ℕ) (wrong : first_wrong [] (text_lines T) �
 -- a good verdict isn't a wrong one
 good_not_wrong : (a b : Bool) (o : Option Session) (k line : ℕ) (e : Expected)
     → cond a (option_map_or Accepted o (Short k)) (Short k) ≡ Wrong line e → ⊥
-good_not_wrong true b None k line e h = absurd (let f : Short k ≡ Wrong line e = h in cc)
 good_not_wrong true b (Some S) k line e h = absurd (let f : Accepted S ≡ Wrong line e = h in cc)
-good_not_wrong false b o k line e h = absurd (let f : Short k ≡ Wrong line e = h in cc)
+good_not_wrong _ _ _ k line e h = absurd (let f : Short k ≡ Wrong line e = h in cc)
 
 -- a wrong verdict stays the same, whatever follows
 pub wrong_verdict_stays : (T more : List ℕ) (line : ℕ) (e : Expected) → verdict T ≡ Wrong line e

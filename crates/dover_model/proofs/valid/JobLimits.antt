@@ -14,18 +14,18 @@ pub record FactorLimits (f : Factor) : Type 0 where
   pub small_c : f.c ≤ most_q
   pub small_b : f.b ≤ most_p
 
+-- as the test says
+factor_parts : (f : Factor) → IsTrue (is_factor f) ↔ ((((1 ≤ f.c) × (f.c < f.b)) × (f.c ≤ most_q)) × (f.b ≤ most_p))
+factor_parts f = both _ _ (both _ _ (both _ _ (at_most _ _) (below _ _)) (at_most _ _)) (at_most _ _)
+
 -- a factor is within its limits
 pub factor_limits : (f : Factor) → IsTrue (is_some_factor (Some f)) → FactorLimits f
 factor_limits f h =
-    let x = parts.0 h in record { least = x.0.0.0; more = x.0.0.1; small_c = x.0.1; small_b = x.1 } where
-      parts : IsTrue (is_factor f) ↔ ((((1 ≤ f.c) × (f.c < f.b)) × (f.c ≤ most_q)) × (f.b ≤ most_p))
-      parts = both _ _ (both _ _ (both _ _ (at_most _ _) (below _ _)) (at_most _ _)) (at_most _ _)
+    let x = (factor_parts f).0 h in record { least = x.0.0.0; more = x.0.0.1; small_c = x.0.1; small_b = x.1 }
 
 -- what is within them is a factor
 pub factor_from : (f : Factor) → FactorLimits f → IsTrue (is_some_factor (Some f))
-factor_from f limits = parts.1 (((limits.least, limits.more), limits.small_c), limits.small_b) where
-  parts : IsTrue (is_factor f) ↔ ((((1 ≤ f.c) × (f.c < f.b)) × (f.c ≤ most_q)) × (f.b ≤ most_p))
-  parts = both _ _ (both _ _ (both _ _ (at_most _ _) (below _ _)) (at_most _ _)) (at_most _ _)
+factor_from f limits = (factor_parts f).1 (((limits.least, limits.more), limits.small_c), limits.small_b)
 
 -- ---- a ratio
 

@@ -1,27 +1,24 @@
 -- The limits of each version, beside those of version Three.
 use Rattle.std.proofs.Common.{◌≡◌, ◌+◌, ◌*◌, ◌≤◌, refl, sym, arith, false, Option, Some, None}
 use Rattle.dover_model.specs.Common.{Instance, IsListable, IsValid, most_items, most_jobs, most_lines, most_total}
-use Rattle.dover_model.specs.Common.{Version, One, Two, Three, Session, may_finish_early, most_lines_in}
+use Rattle.dover_model.specs.Common.{Version, One, Three, Session, may_finish_early, most_lines_in}
 use Rattle.dover_model.proofs.lists.Tests.{never}
 use Rattle.dover_model.proofs.valid.ValidParts.{valid_parts}
 
 -- no version has more jobs than Three
 pub jobs_most : (v : Version) → most_jobs v ≤ 4_000_000_000
 jobs_most One = omega arith
-jobs_most Two = omega arith
-jobs_most Three = omega arith
+jobs_most _ = omega arith
 
 -- nor a greater sum
 pub total_most : (v : Version) → most_total v ≤ 999_999_999_999_999_999
 total_most One = omega arith
-total_most Two = omega arith
-total_most Three = omega arith
+total_most _ = omega arith
 
 -- nor more lines
 pub lines_most : (v : Version) → most_lines v ≤ 16_000_000_000
 lines_most One = omega arith
-lines_most Two = omega arith
-lines_most Three = omega arith
+lines_most _ = omega arith
 
 -- also where none is declared yet
 pub lines_most_in : (o : Option Session) → most_lines_in o ≤ 16_000_000_000
@@ -30,38 +27,32 @@ lines_most_in (Some S) = lines_most S.rules.version
 
 -- the versions in which no job finishes early have the limits of Two
 few_jobs : (v : Version) → may_finish_early v ≡ false → most_jobs v ≤ 1_000_000
-few_jobs One former = omega arith
-few_jobs Two former = omega arith
 few_jobs Three former = never (sym former)
+few_jobs _ former = omega arith
 
 small_total : (v : Version) → may_finish_early v ≡ false → most_total v ≤ 10_000_000_000_000
-small_total One former = omega arith
-small_total Two former = omega arith
 small_total Three former = never (sym former)
+small_total _ former = omega arith
 
 -- no version has fewer jobs than One
 pub jobs_least : (v : Version) → most_jobs One ≤ most_jobs v
 jobs_least One = omega arith
-jobs_least Two = omega arith
-jobs_least Three = omega arith
+jobs_least _ = omega arith
 
 -- nor a smaller sum
 pub total_least : (v : Version) → most_total One ≤ most_total v
 total_least One = omega arith
-total_least Two = omega arith
-total_least Three = omega arith
+total_least _ = omega arith
 
 -- the lines that are no items are the first and the last
 pub items_of_lines : (v : Version) → most_lines v ≡ most_items v + 2
 items_of_lines One = refl
-items_of_lines Two = refl
-items_of_lines Three = refl
+items_of_lines _ = refl
 
 -- there may be three items for each job
 pub items_enough : (v : Version) → 3 * most_jobs v ≤ most_items v
 items_enough One = omega arith
-items_enough Two = omega arith
-items_enough Three = omega arith
+items_enough _ = omega arith
 
 -- the valid jobs of a version in which none finishes early are listable
 pub listable : (J : Instance) → IsValid J → may_finish_early J.rules.version ≡ false → IsListable J
