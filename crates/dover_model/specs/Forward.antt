@@ -30,7 +30,8 @@ is_to_load n loads x =
 abbrev pub gains_from : ℕ → Bool → List Step → ℕ
 gains_from n loads [] = 0
 gains_from n loads (x ∷ xs) =
-    (if is_tick_of n x && (not loads && not (completes_next n xs)) then 1 else 0) + gains_from n (is_to_load n loads x) xs
+    (if is_tick_of n x && (not loads && not (completes_next n xs)) then 1 else 0)
+    + gains_from n (is_to_load n loads x) xs
 
 -- ---- which job the processor holds
 

@@ -36,8 +36,8 @@ pub fn few_jobs_of_a_task_stop_a_job()
         → distance * count_by (may_take k i) jobs ≤ (i.deadline + due - (i.release + 1)) + (distance - 1) }
 {}
 
-/// Over a run the processor changes hands as often as jobs complete, preempt and take: three times for each job at most,
-/// and three times less where there are two jobs or more.
+/// Over a run the processor changes hands as often as jobs complete, preempt and take: three times for each job at
+/// most, and three times less where there are two jobs or more.
 pub fn the_processor_changes_hands_few_times()
     ensures most { (J : Instance) → IsValid J → count_by (λ x. changes_hands x.move) (run J) ≤ 3 * length J.jobs }
     ensures fewer { (J : Instance) → IsValid J → 2 ≤ length J.jobs
@@ -68,9 +68,9 @@ pub fn budgets_pay_for_changes()
         → real ≤ useful cost (ran J) (t.number, t.job) }
 {}
 
-/// Three ticks a job are enough where each job that starts or takes loads itself in its first tick, and each that is done
-/// has loaded the one behind it in its last: no job gets on that the processor doesn't hold, and a job that is done got
-/// on with all its work, if its budget is three ticks more.
+/// Three ticks a job are enough where each job that starts or takes loads itself in its first tick, and each that is
+/// done has loaded the one behind it in its last: no job gets on that the processor doesn't hold, and a job that is
+/// done got on with all its work, if its budget is three ticks more.
 pub fn three_ticks_pay_for_changes()
     ensures loaded { (J : Instance) → IsValid J → AreLoaded false false None (run J) }
     ensures had { (J : Instance) (t : Task) → IsValid J → IsMember t (end_state J).tasks

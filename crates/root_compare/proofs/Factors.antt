@@ -14,7 +14,8 @@ few : (p q b c e : ℕ) → p ≤ 1_000_000 → q ≤ 1_000 → b ≤ 1_000_000 
     → q * b * e + p * c * e + c * max (q * e) (p * c) ≤ 3 * 10 ^ 15
 few p q b c e small_p small_q small_b small_c small_e =
     let one : q * b ≤ 1_000 * 1_000_000 = mul-le q b 1_000 1_000_000 small_q small_b in
-    let two : (q * b) * e ≤ (1_000 * 1_000_000) * 1_000_000 = mul-le (q * b) e (1_000 * 1_000_000) 1_000_000 one small_e in
+    let two : (q * b) * e ≤ (1_000 * 1_000_000) * 1_000_000 =
+    mul-le (q * b) e (1_000 * 1_000_000) 1_000_000 one small_e in
     let three : p * c ≤ 1_000_000 * 1_000 = mul-le p c 1_000_000 1_000 small_p small_c in
     let four : (p * c) * e ≤ (1_000_000 * 1_000) * 1_000_000 =
     mul-le (p * c) e (1_000_000 * 1_000) 1_000_000 three small_e in

@@ -8,8 +8,8 @@ ghost use Rattle.root_compare.specs.Least.{least_heavy};
 use crate::root::{isqrt, scaled_root};
 use dover_model::{Factor, Ratio};
 
-/// Whether the value `v` is more than so many times the value `w`: by the factor of the ratio, or by `1 + √(p/q)`. `v` is
-/// at most 10^9.
+/// Whether the value `v` is more than so many times the value `w`: by the factor of the ratio, or by `1 + √(p/q)`. `v`
+/// is at most 10^9.
 pub fn heavy(v: u64, w: u64, k: Ratio) -> bool
     requires value { v ≤ most_value }
     ensures { result ≡ is_heavy k v w }
@@ -70,8 +70,8 @@ pub fn long_bound(a: u64, k: Ratio) -> u128
     }
 }
 
-/// The greatest value within `(1 + √(p/q))²` times the value `a`, which is below 10^18, whatever factor the ratio has. It
-/// may have 25 digits.
+/// The greatest value within `(1 + √(p/q))²` times the value `a`, which is below 10^18, whatever factor the ratio has.
+/// It may have 25 digits.
 fn root_bound(a: u64, k: Ratio) -> u128
     requires completed { a < 10 ^ 18 }
     ensures is { result ≡ bound_by k None a }

@@ -104,7 +104,8 @@ unfolding digits filled texts_style labels_style bars_style lines_style legend_b
     under under_load middle_of over lanes_to by_lanes load by_load drawn
 all_of_it = refl
 
--- its ticks from 1 on and before 11: the completion at tick 12 isn't among them, and the interval that lost value goes on
+-- its ticks from 1 on and before 11: the completion at tick 12 isn't among them, and the interval that lost value goes
+-- on
 some_of_it : picture (Some (record { from = 1; until = 11 })) 0 take_over ≡
     codes "<svg xmlns='http://www.w3.org/2000/svg' width='1400' height='326' viewBox='0 0 1400 326'>\n"
     ++ codes "<style>text{font:12px sans-serif;fill:#222}.s{font-size:10px}.r{text-anchor:end}\n"

@@ -1,4 +1,5 @@
--- Of all bounds that a factor gives, that of the root is the least, and the factor that is one more than the root has it.
+-- Of all bounds that a factor gives, that of the root is the least, and the factor that is one more than the root has
+-- it.
 use Rattle.std.proofs.Common.{◌≡◌, ℕ, ◌+◌, ◌-◌, ◌*◌, ◌≤◌, ◌<◌, ◌⊎◌, inl, inr, subst, arith, max}
 use Rattle.std.proofs.lemmas.Bool.{cases_lt}
 use Rattle.std.proofs.lemmas.Nat.{mul-le}
@@ -17,7 +18,8 @@ four_times u v = by_order (cases_lt u v) where
       subst (λ n. 4 * u * n ≤ (u + n) * (u + n)) is (apart u (v - u))
   by_order (inr low) = let is : v + (u - v) ≡ u = omega (arith, low) in
       subst (λ n. 4 * n * v ≤ (n + v) * (n + v)) is
-      (let it : 4 * v * (v + (u - v)) ≤ (v + (v + (u - v))) * (v + (v + (u - v))) = apart v (u - v) in omega (arith, it))
+      (let it : 4 * v * (v + (u - v)) ≤ (v + (v + (u - v))) * (v + (v + (u - v))) =
+      apart v (u - v) in omega (arith, it))
 
 -- what a value exceeds by, by the root, is no more by a factor
 excess_least : (p q c e a x : ℕ) → x * x ≤ 4 * p * q * a * a → c * e * x ≤ (q * e * e + p * c * c) * a

@@ -76,8 +76,8 @@ mark_behind mark (FinishItem f ∷ items) item = mark_behind (max mark f.at) ite
 
 -- ---- what an account keeps
 
--- an open account with a session: its rules may be declared, it is read up to the mark, its items follow each other, and
--- there are fewer than lines
+-- an open account with a session: its rules may be declared, it is read up to the mark, its items follow each other,
+-- and there are fewer than lines
 pub record Holds (S : Session) (mark lines : ℕ) : Type 0 where
   pub declared : IsDeclarable S.rules
   pub reads : Reads S mark
@@ -193,18 +193,19 @@ module _ (lines mark lines2 : ℕ) (zero_mark : mark ≡ 0) where
             (from_none (account_with lines2 (Some (new_session rules)) mark Open)
             (holds_new rules
             (declared_good p q version rules e) some))
-  first_goes some (FactorLine p q version b c) = by_rules (factor_rules (with_factor (fraction p q) b c) version) refl where
-    by_rules : (o : Option Declaration) → factor_rules (with_factor (fraction p q) b c) version ≡ o
-        → GoesOn (account_with lines None mark Open)
-        (with_line (account_with lines2 None mark Open) (FactorLine p q version b c) (cond (is_some o) None
-        (Some Declared)))
-    by_rules None e = from_none (with_fault (account_with lines2 None mark Open) Declared) tt
-    by_rules (Some rules) e =
-        subst (λ o. GoesOn (account_with lines None mark Open)
-        (account_with lines2 (option_map new_session o) mark Open))
-        (sym e)
-        (from_none (account_with lines2 (Some (new_session rules)) mark Open)
-        (holds_new rules (factor_good p q b c version rules e) some))
+  first_goes some (FactorLine p q version b c) = by_rules (factor_rules (with_factor (fraction p q) b c) version)
+      refl where
+        by_rules : (o : Option Declaration) → factor_rules (with_factor (fraction p q) b c) version ≡ o
+            → GoesOn (account_with lines None mark Open)
+            (with_line (account_with lines2 None mark Open) (FactorLine p q version b c) (cond (is_some o) None
+            (Some Declared)))
+        by_rules None e = from_none (with_fault (account_with lines2 None mark Open) Declared) tt
+        by_rules (Some rules) e =
+            subst (λ o. GoesOn (account_with lines None mark Open)
+            (account_with lines2 (option_map new_session o) mark Open))
+            (sym e)
+            (from_none (account_with lines2 (Some (new_session rules)) mark Open)
+            (holds_new rules (factor_good p q b c version rules e) some))
   first_goes some (DoneLine t n) = from_none (with_fault (account_with lines2 None mark Open) Line) tt
   first_goes some _ = from_none (with_fault (account_with lines2 None mark Open) Declared) tt
 

@@ -61,7 +61,8 @@ module _ {X : Type 0} where
       ∙ is_at (k + 1) xs d n_x member
 
 -- a number has a member, counted from 0 on
-member_at : {X : Type 0} (xs : List X) (d : X) (i : ℕ) → i < length xs → IsMember (i, get_or xs i d) (enumerate_from 0 xs)
+member_at : {X : Type 0} (xs : List X) (d : X) (i : ℕ) → i < length xs
+    → IsMember (i, get_or xs i d) (enumerate_from 0 xs)
 member_at xs d i less = subst (λ m. IsMember (m, get_or xs i d) (enumerate_from 0 xs))
     (let e : 0 + i ≡ i = omega arith in e) (at_number 0 xs d i less)
 

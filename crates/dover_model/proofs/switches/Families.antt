@@ -62,7 +62,8 @@ few_come distance a b (r ∷ rs) some spaced =
                 → distance * count_by (within a b) (r ∷ rs) ≤ (b - a) + (distance - 1)
             by_count zero later times whole low high = omega arith
             by_count (suc n) later times whole low high =
-                let once : distance * 1 ≤ distance * suc n = mul-le distance 1 distance (suc n) (omega arith) (omega arith)
+                let once : distance * 1 ≤ distance * suc n =
+                mul-le distance 1 distance (suc n) (omega arith) (omega arith)
                 in omega arith
 
 module _ (i : JobFacts) (distance due : ℕ) (jobs : List (ℕ × JobFacts)) (some : 1 ≤ distance)

@@ -669,4 +669,5 @@ module _ (J : Instance) (valid : IsValid J) where
 
   -- the processor changes hands three times for each job at most, less three
   pub changes_fewer : 2 ≤ length J.jobs → count_by (λ x. changes_hands x.move) (run J) + 3 ≤ 3 * length J.jobs
-  changes_fewer many = omega (arith, two_or_more many, changes_parts J valid, runs_complete J valid, completes_few J valid)
+  changes_fewer many =
+      omega (arith, two_or_more many, changes_parts J valid, runs_complete J valid, completes_few J valid)

@@ -121,8 +121,16 @@ pub header_short : (rules : Declaration) → IsRatio rules.ratio
     → AreShort (header_numbers rules)
 header_short rules ratio =
     let small_p : rules.ratio.p ≤ 1_000_000 = (ratio_limits ratio).small_p in
-    let small_q : rules.ratio.q ≤ 1_000 = (ratio_limits ratio).small_q in
-    (by_version rules.version, (omega arith, (omega arith, by_factor rules.ratio.factor (ratio_limits ratio).factor))) where
+    let small_q : rules.ratio.q ≤ 1_000 = (ratio_limits ratio).small_q in (
+      by_version rules.version,
+      (
+        omega arith,
+        (
+          omega arith,
+          by_factor rules.ratio.factor (ratio_limits ratio).factor,
+        ),
+      ),
+    ) where
       by_factor : (o : Option Factor) → IsTrue (is_some_factor o) → AreShort (factor_numbers o)
       by_factor None within = tt
       by_factor (Some f) within =

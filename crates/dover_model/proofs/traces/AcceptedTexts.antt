@@ -40,7 +40,8 @@ text_joined (b ∷ bytes) = by (is_feed b) refl (text_joined bytes) where
 -- no byte
 empty_is : (bytes : List ℕ) → is_empty bytes ≡ true → bytes ≡ []
 empty_is [] empty = refl
-empty_is (b ∷ bytes) empty = absurd (let e : length (b ∷ bytes) ≡ 0 = eqb-true (length (b ∷ bytes)) 0 empty in omega arith)
+empty_is (b ∷ bytes) empty = absurd (let e : length (b ∷ bytes) ≡ 0 = eqb-true (length (b ∷ bytes)) 0 empty in
+    omega arith)
 
 -- ---- lines of which none is wrong
 
@@ -100,7 +101,8 @@ trace_of_lines T S ended empty named passes =
     )
 
 -- an accepted text is the trace of the valid session that it is accepted with
-pub accepted_is_trace : (T : List ℕ) (S : Session) → verdict T ≡ Accepted S → IsValidSession S × (T ≡ trace_of_session S)
+pub accepted_is_trace : (T : List ℕ) (S : Session) → verdict T ≡ Accepted S
+    → IsValidSession S × (T ≡ trace_of_session S)
 accepted_is_trace T S is = by_first (first_wrong [] (text_lines T)) refl is where
   by_good : (a b : Bool) (o : Option Session) → ends_with_end (whole_lines T) ≡ a → is_empty (rest_of T) ≡ b
       → named_session (whole_lines T) ≡ o → first_wrong [] (text_lines T) ≡ None

@@ -115,7 +115,8 @@ module _ (q v w : ℕ) (some : 1 ≤ q) where
     nothing = (parts 0).1 (
       omega arith,
       heavy_from (fraction 0 q) refl v w
-          (let square : 1 * 1 ≤ (v - w) * (v - w) = mul-le 1 1 (v - w) (v - w) (omega (arith, high)) (omega (arith, high)) in
+          (let square : 1 * 1 ≤ (v - w) * (v - w) =
+          mul-le 1 1 (v - w) (v - w) (omega (arith, high)) (omega (arith, high)) in
           let times : 1 * 1 ≤ q * ((v - w) * (v - w)) = mul-le 1 1 q ((v - w) * (v - w)) some (omega (arith, square)) in
           omega (arith, times)),
     )

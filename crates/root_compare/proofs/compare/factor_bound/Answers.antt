@@ -35,9 +35,11 @@ share_there : (c : goal.After-from) → share c.args.k c.args.factor ≡ c.from-
 share_there c = cc
 
 -- it is no great number
-few_there : (c : goal.After-from) → c.from-q.result * c.from-b.result * (c.from-b.result - c.from-c.result) + c.from-p.result
+few_there : (c : goal.After-from) → c.from-q.result * c.from-b.result
+    * (c.from-b.result - c.from-c.result) + c.from-p.result
     * c.from-c.result * (c.from-b.result - c.from-c.result) + c.from-c.result * c.max.result ≤ 3 * 10 ^ 15
-few_there c = subst (λ n. n ≤ 3 * 10 ^ 15) (share_there c) (share_few c.args.k c.args.factor c.q.ensures.ratio (within_there c))
+few_there c = subst (λ n. n ≤ 3 * 10 ^ 15) (share_there c)
+    (share_few c.args.k c.args.factor c.q.ensures.ratio (within_there c))
 
 pub overflow_mul-result : goal.overflow_mul-result
 overflow_mul-result c =
@@ -55,7 +57,8 @@ result_is : (c : goal.After-from) → share c.args.k c.args.factor * c.args.a / 
 result_is c = cc
 
 pub returns-clause-greatest : goal.returns-clause-greatest
-returns-clause-greatest c = subst (IsGreatest (λ n. is_within_by c.args.k (Some c.args.factor) n c.args.a)) (result_is c)
+returns-clause-greatest c = subst (IsGreatest (λ n. is_within_by c.args.k (Some c.args.factor) n c.args.a))
+    (result_is c)
     (bound_by-is c.args.k (Some c.args.factor) c.args.a c.q.ensures.ratio (within_there c) c.requires.completed)
 
 pub returns-clause-small : goal.returns-clause-small

@@ -81,5 +81,6 @@ small_part b w d small_b small_w =
 pub returns-in-Some-clause-is : goal.returns-in-Some-clause-is
 returns-in-Some-clause-is c = least_is c.args.k c.args.w (c.from.result * c.args.w / c.from-in-Some.result + 1)
     (small_part c.from.result c.args.w c.from-in-Some.result
-    (let small : c.in-Some.factor.b ≤ 1_000_000 = (limits c).small_b in omega (arith, small, c.from.ensures)) c.requires)
+    (let small : c.in-Some.factor.b ≤ 1_000_000 = (limits c).small_b in
+    omega (arith, small, c.from.ensures)) c.requires)
     (returns-in-Some-clause-heavy c) (returns-in-Some-clause-least c)

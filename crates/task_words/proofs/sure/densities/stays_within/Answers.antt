@@ -54,7 +54,8 @@ pub overflow_mul-result-2 : goal.overflow_mul-result-2
 overflow_mul-result-2 c =
     let q : c.args.ratio.q ≤ 1_000 = (ratio_limits c.q.ensures.ratio).small_q in
     let value : c.args.value ≤ 1_000_000_000 = c.requires.value in
-    let there : c.rival-rival.result < length c.args.tasks.now = below c.args.tasks.now c.args.number c.rival-rival.result
+    let there : c.rival-rival.result < length c.args.tasks.now =
+    below c.args.tasks.now c.args.number c.rival-rival.result
     (c.rival-rival.ensures (streams_of c.args.tasks.now) c.requires.sparse
     (omega (arith, c.requires.number, length-map c.args.tasks.now stream_of))) c.if-rival-tasks.false in
     let work : (get_or c.args.tasks.now c.rival-rival.result blank_task).work ≤ 1_000_000_000_000 =
@@ -69,7 +70,8 @@ overflow_mul-result-2 c =
 pub overflow_mul-result-3 : goal.overflow_mul-result-3
 overflow_mul-result-3 c =
     let p : c.args.ratio.p ≤ 1_000_000 = (ratio_limits c.p.ensures.ratio).small_p in
-    let there : c.rival-rival.result < length c.args.tasks.now = below c.args.tasks.now c.args.number c.rival-rival.result
+    let there : c.rival-rival.result < length c.args.tasks.now =
+    below c.args.tasks.now c.args.number c.rival-rival.result
     (c.rival-rival.ensures (streams_of c.args.tasks.now) c.requires.sparse
     (omega (arith, c.requires.number, length-map c.args.tasks.now stream_of))) c.if-rival-tasks.false in
     let value : (get_or c.args.tasks.now c.rival-rival.result blank_task).value ≤ 1_000_000_000 =
@@ -83,7 +85,8 @@ overflow_mul-result-3 c =
 pub overflow_mul-result-4 : goal.overflow_mul-result-4
 overflow_mul-result-4 c =
     let p : c.args.ratio.p ≤ 1_000_000 = (ratio_limits c.p.ensures.ratio).small_p in
-    let there : c.rival-rival.result < length c.args.tasks.now = below c.args.tasks.now c.args.number c.rival-rival.result
+    let there : c.rival-rival.result < length c.args.tasks.now =
+    below c.args.tasks.now c.args.number c.rival-rival.result
     (c.rival-rival.ensures (streams_of c.args.tasks.now) c.requires.sparse
     (omega (arith, c.requires.number, length-map c.args.tasks.now stream_of))) c.if-rival-tasks.false in
     let value : (get_or c.args.tasks.now c.rival-rival.result blank_task).value ≤ 1_000_000_000 =
@@ -114,7 +117,8 @@ returns c =
     ∙ sym (ap (λ (s : Stream). s.work) (stream_there c.args.tasks.now c.args.number c.requires.number)) in
     let q : c.from-q.result ≡ c.args.ratio.q = c.from-q.ensures ∙ c.q.ensures.is in
     let p : c.from-p.result ≡ c.args.ratio.p = c.from-p.ensures ∙ c.p.ensures.is in
-    as_rival c.args.ratio (streams_of c.args.tasks.now) c.requires.small c.args.number known c.args.value c.rival-rival.result
+    as_rival c.args.ratio (streams_of c.args.tasks.now) c.requires.small c.args.number known c.args.value
+    c.rival-rival.result
     rival (λ e. c.if-rival-tasks.false (omega (arith, e, length-map c.args.tasks.now stream_of)))
     (nat_le (c.from-q.result * c.from.result * c.from-2.result) (c.from-p.result * c.from-3.result * c.from-4.result))
     (ap (λ x. nat_le (x * c.from.result * c.from-2.result) (c.from-p.result * c.from-3.result * c.from-4.result)) q
@@ -122,9 +126,12 @@ returns c =
     c.from.ensures
     ∙ ap (λ x. nat_le (c.args.ratio.q * c.args.value * x) (c.from-p.result * c.from-3.result * c.from-4.result))
     its_work
-    ∙ ap (λ x. nat_le (c.args.ratio.q * c.args.value * (stream_at (streams_of c.args.tasks.now) c.rival-rival.result).work)
+    ∙ ap (λ x. nat_le (c.args.ratio.q * c.args.value *
+    (stream_at (streams_of c.args.tasks.now) c.rival-rival.result).work)
     (x * c.from-3.result * c.from-4.result)) p
-    ∙ ap (λ x. nat_le (c.args.ratio.q * c.args.value * (stream_at (streams_of c.args.tasks.now) c.rival-rival.result).work)
+    ∙ ap (λ x. nat_le (c.args.ratio.q * c.args.value *
+    (stream_at (streams_of c.args.tasks.now) c.rival-rival.result).work)
     (c.args.ratio.p * x * c.from-4.result)) its_value
-    ∙ ap (λ x. nat_le (c.args.ratio.q * c.args.value * (stream_at (streams_of c.args.tasks.now) c.rival-rival.result).work)
+    ∙ ap (λ x. nat_le (c.args.ratio.q * c.args.value *
+    (stream_at (streams_of c.args.tasks.now) c.rival-rival.result).work)
     (c.args.ratio.p * (stream_at (streams_of c.args.tasks.now) c.rival-rival.result).value * x)) own_work)

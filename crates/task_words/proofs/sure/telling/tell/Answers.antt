@@ -19,7 +19,8 @@ returns-then-against-from c =
     ∙ sym c.is_spread.ensures ∙ c.if-not-is_spread.false) _
     (told_beyond c.args.together.now.ratio (streams_of c.args.tasks.now) c.args.number
     (most_against (streams_of c.args.tasks.now) c.args.number)
-    (c.requires.small.each c.args.number (omega (arith, c.requires.number, length-map c.args.tasks.now stream_of))).value
+    (c.requires.small.each c.args.number
+    (omega (arith, c.requires.number, length-map c.args.tasks.now stream_of))).value
     (omega (arith, c.if-against-from.true, c.from.ensures, c.most_against-against.ensures)))
 
 pub heavy-requires : goal.heavy-requires
