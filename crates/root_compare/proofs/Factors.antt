@@ -1,6 +1,6 @@
 -- The numbers of the bound by a factor are small.
-use Rattle.std.proofs.Common.{◌≡◌, ℕ, ◌+◌, ◌-◌, ◌*◌, ◌/◌, ◌≤◌, ◌<◌, ◌^◌, IsTrue, arith, max, sym, subst, ap}
-use Rattle.std.specs.Prelude.{Some, Option}
+use Rattle.std.proofs.Common.{ℕ, ◌+◌, ◌-◌, ◌*◌, ◌/◌, ◌≤◌, ◌^◌, IsTrue, arith, max}
+use Rattle.std.specs.Prelude.{Some}
 use Rattle.std.proofs.lemmas.Nat.{mul-le}
 use Rattle.std.proofs.Math.Nat.{mul-div-le, max-le}
 use Rattle.dover_model.specs.declared.factors.Factor.{Factor}

@@ -2,6 +2,7 @@
 ghost use Rattle.std.specs.Prelude.{◌≡◌, ◌≤◌, ◌<◌, ◌*◌, ◌^◌, None, Some, ℕ};
 ghost use Rattle.dover_model.specs.Common.{is_heavy, IsHeavy, is_within, bound, is_within_root, is_within_by, bound_by};
 ghost use Rattle.dover_model.specs.Common.{IsRatio, IsGreatest, most_total, most_value};
+ghost use Rattle.dover_model.specs.Orders.{is_over};
 ghost use Rattle.dover_model.specs.declared.events.Version.TheVariants.{Two};
 ghost use Rattle.root_compare.specs.Least.{least_heavy};
 
@@ -10,6 +11,7 @@ use dover_model::{Factor, Ratio};
 
 /// Whether the value `v` is more than so many times the value `w`: by the factor of the ratio, or by `1 + √(p/q)`. `v`
 /// is at most 10^9.
+#[inline(always)]
 pub fn heavy(v: u64, w: u64, k: Ratio) -> bool
     requires value { v ≤ most_value }
     ensures { result ≡ is_heavy k v w }
@@ -17,6 +19,16 @@ pub fn heavy(v: u64, w: u64, k: Ratio) -> bool
     if v <= w {
         return false;
     }
+    is_over(v, w, k)
+}
+
+// The same of values of which the first is the greater one. Few comparisons come this far.
+#[inline(never)]
+fn is_over(v: u64, w: u64, k: Ratio) -> bool
+    requires value { v ≤ most_value }
+    requires greater { w < v }
+    ensures { result ≡ is_over k k.factor v w }
+{
     match k.factor() {
         None => {
             let (p, q) = (u128::from(k.p()), u128::from(k.q()));

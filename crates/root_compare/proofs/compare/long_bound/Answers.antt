@@ -1,4 +1,4 @@
-use Rattle.std.proofs.Common.{◌≡◌, sym, subst, None, Option}
+use Rattle.std.proofs.Common.{◌≡◌, sym, subst, None}
 use Rattle.dover_model.specs.Common.{is_within_by, IsGreatest}
 use Rattle.root_compare.proofs.compare.long_bound.Goals as goal
 
