@@ -8,8 +8,8 @@ use Rattle.dover_model.specs.declared.events.Event.TheVariants.{Run, Take, Aband
 use Rattle.dover_model.specs.declared.events.Role.{Role}
 use Rattle.dover_model.specs.declared.events.Role.TheVariants.{Held, Running, Done, Gone}
 use Rattle.dover_model.specs.declared.events.Task.{Task}
-use Rattle.dover_model.specs.Common.{Rules, Instance, IsMember, Each, State, is_waiting, is_over, Move, Prints, Waits}
-use Rattle.dover_model.specs.Common.{Ticks, open_step, with_role, displaced, waits_then, enters, leaves, cost_of}
+use Rattle.dover_model.specs.Common.{Rules, Instance, IsMember, Each, State, is_waiting, is_over, Move, Prints}
+use Rattle.dover_model.specs.Common.{open_step, with_role, displaced, waits_then, enters, leaves, cost_of}
 use Rattle.dover_model.specs.Common.{is_ready}
 use Rattle.dover_model.proofs.lists.Members.{term_le_sum, sum_filter, sum_same, member_behind}
 use Rattle.dover_model.proofs.steps.Roles.{passes, is_over_role}

@@ -6,13 +6,13 @@ use Rattle.std.specs.List.{list_all}
 use Rattle.std.proofs.lemmas.List.Sums.{sum_by-cons, sum_by-append, length-filter, count_by-le-length}
 use Rattle.dover_model.specs.Common.{last_tick, Fraction, IsRatio, JobFacts, Rules, Declaration, under, Instance}
 use Rattle.dover_model.specs.Common.{IsValid, total_value, finishing, with_finishes, Finish, State, state_at, opening}
-use Rattle.dover_model.specs.Common.{is_over, is_done, is_running, running, value_sum, Move, Prints, Waits, Ticks, step}
+use Rattle.dover_model.specs.Common.{is_over, is_done, is_running, running, value_sum, Move, Prints, Ticks, step}
 use Rattle.dover_model.specs.Common.{open_step, after, view, with_role, event_of, is_end, last_deadline, waits_for_mark}
 use Rattle.dover_model.specs.Common.{AreOverFor, finish_now, IsMember, Each, Keeps, IsBarrier, GoesOn, IsSilent, Idles}
 use Rattle.dover_model.specs.Common.{Settles, WaitsUntil, PrintsNext, is_ready}
 use Rattle.dover_model.specs.declared.events.Role.TheVariants.{Fresh, Running, Done}
 use Rattle.dover_model.specs.declared.events.Event.{Event}
-use Rattle.dover_model.specs.declared.events.Event.TheVariants.{Release, Run, Preempt, Take, Complete, Abandon, End}
+use Rattle.dover_model.specs.declared.events.Event.TheVariants.{Complete, End}
 use Rattle.dover_model.specs.declared.events.Task.{Task}
 use Rattle.dover_model.proofs.lists.Members.{sum_filter, sum_le, sum_map, member_filter, term_le_sum, member_either}
 use Rattle.dover_model.proofs.lists.Members.{on_map, found, member_front, member_behind, filter_member, some_same}

@@ -2,7 +2,7 @@
 use Rattle.std.proofs.Common.{◌≡◌, ℕ, suc, ◌≤◌, ◌<◌, inl, List, [], ◌∷◌, ◌++◌, refl, sym, ap, ◌∙◌, arith, append-nil}
 use Rattle.std.proofs.Common.{Bool, true, false, cond, not, Option, Some, None, IfSome}
 use Rattle.dover_model.specs.declared.events.Event.{Event}
-use Rattle.dover_model.specs.declared.events.Role.TheVariants.{Coming, Fresh, Waiting, Held, Running, Done, Gone}
+use Rattle.dover_model.specs.declared.events.Role.TheVariants.{Coming, Fresh, Running, Done, Gone}
 use Rattle.dover_model.specs.declared.events.Task.{Task}
 use Rattle.dover_model.specs.Common.{Fraction, Instance, IsValid, PrintsNext, is_ready, printed, printed_of}
 use Rattle.dover_model.specs.Common.{last_deadline, settled, settled_steps, waits_for_mark, Each, IsMember, NoneRuns}
@@ -10,7 +10,7 @@ use Rattle.dover_model.specs.Common.{State, opening, state_at, is_over, is_comin
 use Rattle.dover_model.specs.Common.{open_step, with_role, HasPrinted}
 use Rattle.dover_model.specs.declared.horizon.Horizon.TheVariants.{Mark}
 use Rattle.dover_model.proofs.settled.Barriers.{late_none_fresh}
-use Rattle.dover_model.proofs.steps.Deeds.{Deed, Completed, Resumed, Started, Began, Preempted, Stayed, Arrived, Taken}
+use Rattle.dover_model.proofs.steps.Deeds.{Deed, Taken}
 use Rattle.dover_model.proofs.steps.Deeds.{Abandoned, Rested}
 use Rattle.dover_model.proofs.runs.Ending.{potential, ends}
 use Rattle.dover_model.proofs.steps.Kept.{open_deed, opening_keeps}

@@ -7,7 +7,7 @@ use Rattle.dover_model.specs.declared.events.Task.{Task}
 use Rattle.dover_model.specs.Common.{Instance, IsValid, State, is_coming, Move, Ticks, View, view, due_finish}
 use Rattle.dover_model.specs.Common.{declared_open_step, open_step, waits_for_mark, settled_state, IsMember, Each}
 use Rattle.dover_model.proofs.settled.Barriers.{AtBarrier, settled_at_barrier}
-use Rattle.dover_model.proofs.steps.Cases.{Case, Completes, Resumes, Starts, Begins, Preempts, Stays, Arrives, Takes}
+use Rattle.dover_model.proofs.steps.Cases.{Case, Takes}
 use Rattle.dover_model.proofs.steps.Cases.{Abandons, Rests, NoneArrives, step_case}
 use Rattle.dover_model.proofs.finishes.Finishing.{late_unfinished}
 use Rattle.dover_model.proofs.steps.Kept.{each_job}

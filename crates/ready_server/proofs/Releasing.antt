@@ -4,7 +4,7 @@ use Rattle.std.proofs.Common.{false, arith, ◌+◌, ◌&&◌, nat_le}
 use Rattle.std.specs.List.{AllByRecursion}
 use Rattle.dover_model.specs.declared.events.Event.TheVariants.{Release}
 use Rattle.dover_model.specs.declared.events.Role.{Role}
-use Rattle.dover_model.specs.declared.events.Role.TheVariants.{Coming, Fresh, Waiting, Held, Running, Done, Gone}
+use Rattle.dover_model.specs.declared.events.Role.TheVariants.{Coming, Fresh, Running, Done}
 use Rattle.dover_model.specs.declared.events.Task.{Task}
 use Rattle.dover_model.specs.Common.{JobFacts, IsJob, last_tick, Instance, IsValid, with_jobs, State, opening}
 use Rattle.dover_model.specs.Common.{with_later, is_coming, state_at, Prints, open_step, waits_for_mark, settled}

@@ -10,7 +10,7 @@ use Rattle.dover_model.specs.Common.{IsMember, IsNumberedFrom, IsSound, NoneRuns
 use Rattle.dover_model.proofs.lists.Members.{on_map, map_member, some_same}
 use Rattle.dover_model.proofs.steps.Roles.{one_number, by_role}
 use Rattle.dover_model.proofs.steps.RoleChanges.{with_role_at, all_displaced}
-use Rattle.ready_server.specs.Roster.{Roll, ListedJob, had_with, stopped, is_turn, is_displaced, with_stop, halted}
+use Rattle.ready_server.specs.Roster.{Roll, ListedJob, stopped, is_turn, is_displaced, with_stop, halted}
 use Rattle.ready_server.specs.Roster.{started}
 use Rattle.ready_server.proofs.Rolls.{calm_role, Lists, Follows, set_here, set_there, length_set, at_clock, number_is}
 use Rattle.ready_server.proofs.Rolls.{job_is, had_ran, had_is, role_is, lists_other, lists_same, had_none, not_turn}

@@ -23,7 +23,7 @@ use Rattle.dover_model.proofs.steps.Moves.{says}
 use Rattle.dover_model.proofs.steps.Roles.{one_number, numbered_map, passes, is_running_role}
 use Rattle.dover_model.proofs.lists.Tests.{never}
 use Rattle.dover_model.proofs.steps.RoleChanges.{with_role_at, all_displaced, displaced_same, task_at}
-use Rattle.ready_server.specs.Roster.{Roll, ListedJob, had_with, stopped, released, is_displaced, job_at, with_stop}
+use Rattle.ready_server.specs.Roster.{Roll, ListedJob, had_with, stopped, released, job_at, with_stop}
 use Rattle.ready_server.specs.Roster.{is_turn, halted, started, with_event, empty_roll, roll_of}
 use Rattle.ready_server.proofs.Rolls.{calm_role, Lists, Follows, set_here, set_there, length_set, get_front, get_last}
 use Rattle.ready_server.proofs.Rolls.{at_clock, number_is, job_is, had_ran, had_is, lists_as, lists_other, lists_same}

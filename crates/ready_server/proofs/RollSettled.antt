@@ -6,9 +6,9 @@ use Rattle.std.specs.List.{AllByRecursion}
 use Rattle.std.proofs.lemmas.List.Sums.{fold-append}
 use Rattle.std.proofs.lemmas.Option.{slice_get_within}
 use Rattle.dover_model.specs.declared.events.Event.{Event}
-use Rattle.dover_model.specs.declared.events.Event.TheVariants.{Release, Run, Preempt, Take, Complete, Abandon, End}
+use Rattle.dover_model.specs.declared.events.Event.TheVariants.{Release, Preempt, Take, Complete, Abandon}
 use Rattle.dover_model.specs.declared.events.Role.{Role}
-use Rattle.dover_model.specs.declared.events.Role.TheVariants.{Coming, Fresh, Waiting, Held, Running, Done, Gone}
+use Rattle.dover_model.specs.declared.events.Role.TheVariants.{Coming, Fresh, Waiting, Held, Done, Gone}
 use Rattle.dover_model.specs.declared.events.Task.{Task}
 use Rattle.dover_model.specs.Common.{JobFacts, Rules, Instance, IsValid, IsOpenPath, HasPrinted, Step, settled}
 use Rattle.dover_model.specs.Common.{settled_state, settled_steps, IsSettledRun, Begins, IsMember, Each, IsNumberedFrom}
@@ -20,7 +20,7 @@ use Rattle.dover_model.proofs.steps.Roles.{passes, numbers_above}
 use Rattle.dover_model.proofs.settled.Settling.{settled_is_run}
 use Rattle.dover_model.proofs.lists.Tests.{never}
 use Rattle.dover_model.specs.declared.horizon.Horizon.{Horizon}
-use Rattle.dover_model.specs.declared.horizon.Horizon.TheVariants.{Mark, End}
+use Rattle.dover_model.specs.declared.horizon.Horizon.TheVariants.{Mark}
 use Rattle.dover_model.proofs.settled.Horizons.{due_few}
 use Rattle.dover_model.proofs.valid.Limiting.{jobs_most}
 use Rattle.ready_server.specs.Serving as ready
