@@ -11,7 +11,7 @@
            deadline at the latest, so as many are enough as can come within the longest time from a release to its
            deadline. Since the last moment of rest: 1,000,000 jobs, and 10,000,000,000,000 in value; in version 3
            4,000,000,000 jobs, and 999,999,999,999,999,999 in value. Rest is where dover_step answers DOVER_NONE and no
-           job is open: dover_room is then the room that there was at first. From there on these two limits and that of
+           job is open: dover_spare is then the room that there was at first. From there on these two limits and that of
            densities start anew, each time; the clock and the numbers go on. An engine that never rests answers
            DOVER_COUNT or DOVER_TOTAL from such a limit on till the open jobs are over. No rest lifts two: the last
            tick, and 10,000,000,000,000,000,000 jobs in all, which are 10,000,000 for each tick that there is.
@@ -158,7 +158,7 @@ uint64_t dover_value(dover *);
 uint64_t dover_value_high(dover *);
 
 /* For how many open jobs more there is room. 0 where there is no engine. */
-uint32_t dover_room(dover *);
+uint32_t dover_spare(dover *);
 
 /* Gives back the memory. There is no engine then: each call says so, another dover_drop does nothing, and dover_init
    may make one anew. */

@@ -177,7 +177,7 @@ static void lasting(uint64_t jobs) {
     for (uint64_t i = 0; i < jobs; i++) {
         t += random() % 16;
         plain_settle(t);
-        least = std::min(least, dover_room(&engine));
+        least = std::min(least, dover_spare(&engine));
         uint64_t work = 1 + random() % 29, deadline = t + work + 20 + random() % 12000;
         uint32_t status = dover_admit(&engine, t, work, deadline, work * (1 + random() % 16)).status;
         if (status != DOVER_ADMITTED && status != DOVER_COUNT) fail("status", status);
@@ -207,7 +207,7 @@ static void all_calls() {
         plain_settle(t);
         dover_admit(&engine, t, 1000000, t + 1000000, 1000000000);
         plain_settle(t = due + 1);
-        if (dover_value(&engine) == 0 || dover_room(&engine) != 1000) fail("some job is open", 0);
+        if (dover_value(&engine) == 0 || dover_spare(&engine) != 1000) fail("some job is open", 0);
     }
     while (dover_finish(&engine).kind != DOVER_NONE) {}
 }

@@ -85,7 +85,7 @@ static void making(void) {
     dover_init(&b, 0, 0, 1, 10); /* no engine */
     ROW(admit(&b, 0, 1, 1, 1) == DOVER_NOT_MADE && dover_step(&b, 0).kind == DOVER_NO_ENGINE &&
         dover_finish(&b).kind == DOVER_NO_ENGINE);
-    ROW(dover_value(&b) == 0 && dover_room(&b) == 0 && is_idle(&b, DOVER_NOT_MADE) &&
+    ROW(dover_value(&b) == 0 && dover_spare(&b) == 0 && is_idle(&b, DOVER_NOT_MADE) &&
         dover_step(&b, big).kind == DOVER_NO_ENGINE);
     dover_drop(&b);
 }
@@ -98,7 +98,7 @@ static int is_none(dover *d) {
     return dover_status(d) == DOVER_EMPTY && x.status == DOVER_NOT_MADE && x.number == 0 &&
            e.kind == DOVER_NO_ENGINE && f.kind == DOVER_NO_ENGINE && g.kind == DOVER_NO_ENGINE &&
            e.tick + e.job + e.other == 0 && f.tick + f.job + f.other == 0 && g.tick + g.job + g.other == 0 &&
-           dover_value(d) == 0 && dover_value_high(d) == 0 && dover_room(d) == 0 && is_idle(d, DOVER_NOT_MADE) &&
+           dover_value(d) == 0 && dover_value_high(d) == 0 && dover_spare(d) == 0 && is_idle(d, DOVER_NOT_MADE) &&
            is_named(d, DOVER_NOT_MADE, 0);
 }
 
@@ -116,7 +116,7 @@ static void without_one(void) {
     dover_drop(&a);
     ROW(given_back == before && is_none(&a));
     dover_init(&a, 1, 1, 2, 10);
-    ROW(dover_status(&a) == DOVER_MADE && dover_room(&a) == 10 && dover_finish(&a).kind == DOVER_END);
+    ROW(dover_status(&a) == DOVER_MADE && dover_spare(&a) == 10 && dover_finish(&a).kind == DOVER_END);
     dover_drop(&a);
     ROW(is_none(&a));
     dover_init(&a, 1, 2, 2, 10);
@@ -130,7 +130,7 @@ static void one_by_one(void) {
     dover_init(&a, 2, 1, 1, 3);
     dover_init(&b, 2, 1, 1, 0);
     unsigned long before = taken;
-    ROW(dover_room(&a) == 3 && dover_room(&b) == 0);
+    ROW(dover_spare(&a) == 3 && dover_spare(&b) == 0);
     ROW(admit(&a, 0, 2, 2, 2) == DOVER_UNSETTLED);
     ROW(settle(&a, 0) == DOVER_NONE && settle(&b, 0) == DOVER_NONE);
     ROW(admit(&b, 0, 2, 2, 2) == DOVER_FULL);
@@ -144,10 +144,10 @@ static void one_by_one(void) {
     ROW(admit(&a, 0, 2, 9, 2) == DOVER_UNSETTLED);
     ROW(settle(&a, 0) == DOVER_NONE && admit(&a, 0, 2, 9, 5) == DOVER_DENSITY &&
         admit(&a, 0, 2, 9, 4) == DOVER_ADMITTED && dover_admit(&a, 0, 2, 9, 4).number == 0);
-    ROW(settle(&a, 1) == DOVER_NONE && dover_value(&a) == 0 && dover_room(&a) == 1);
+    ROW(settle(&a, 1) == DOVER_NONE && dover_value(&a) == 0 && dover_spare(&a) == 1);
     ROW(dover_step(&a, 0).kind == DOVER_FALLS && dover_step(&a, last + 1).kind == DOVER_LATE &&
         dover_step(&a, big).kind == DOVER_LATE);
-    ROW(settle(&a, 4) == DOVER_NONE && dover_value(&a) == 6 && dover_room(&a) == 3);
+    ROW(settle(&a, 4) == DOVER_NONE && dover_value(&a) == 6 && dover_spare(&a) == 3);
     ROW(dover_step(&a, 3).kind == DOVER_FALLS);
     dover_admitted third = dover_admit(&a, 4, 1, 5, 1000); /* no earlier job binds its density */
     ROW(third.status == DOVER_ADMITTED && third.number == 2);
@@ -213,9 +213,9 @@ static void early(void) {
         dover_done(&a, big, 0) == DOVER_UNSETTLED);
     ROW(dover_done(&a, 2, 1) == DOVER_NOT_RUNNING && dover_done(&a, 2, 2) == DOVER_NOT_RUNNING &&
         dover_done(&a, 2, big) == DOVER_NOT_RUNNING); /* it waits; there is none */
-    ROW(is_due(&a, 4) && dover_room(&a) == 8 && dover_value(&a) == 0); /* all as before */
+    ROW(is_due(&a, 4) && dover_spare(&a) == 8 && dover_value(&a) == 0); /* all as before */
     ROW(dover_done(&a, 2, 0) == DOVER_DONE && dover_done(&a, 2, 0) == DOVER_UNSETTLED && is_due(&a, 2));
-    ROW(admit(&a, 2, 1, 9, 1) == DOVER_UNSETTLED && dover_value(&a) == 4 && dover_room(&a) == 9);
+    ROW(admit(&a, 2, 1, 9, 1) == DOVER_UNSETTLED && dover_value(&a) == 4 && dover_spare(&a) == 9);
     ROW(is_next(&a, 2, DOVER_COMPLETE, 2, 0) && is_next(&a, 2, DOVER_RUN, 2, 1) && settle(&a, 2) == DOVER_NONE);
     ROW(dover_done(&a, 2, 1) == DOVER_BEHIND && dover_done(&a, 2, 0) == DOVER_NOT_RUNNING); /* it is over */
     ROW(settle(&a, 3) == DOVER_NONE && admit(&a, 3, 1, 19, 1) == DOVER_ADMITTED && settle(&a, 3) == DOVER_NONE);
@@ -232,7 +232,7 @@ static void early(void) {
         settle(&a, 10 * i);
         ROW(dover_admit(&a, 10 * i, 5, 10 * i + 9, i + 1).number == i && settle(&a, 10 * i + 2) == DOVER_NONE);
         ROW(dover_done(&a, 10 * i + 2, i) == DOVER_DONE && is_next(&a, 10 * i + 2, DOVER_COMPLETE, 10 * i + 2, i));
-        ROW(settle(&a, 10 * i + 2) == DOVER_NONE && dover_room(&a) == 3 &&
+        ROW(settle(&a, 10 * i + 2) == DOVER_NONE && dover_spare(&a) == 3 &&
             dover_done(&a, 10 * i + 2, i) == DOVER_NOT_RUNNING);
     }
     ROW(dover_value(&a) == 15);
@@ -294,7 +294,7 @@ static void for_long(void) {
     unsigned long before = taken;
     uint64_t t = 0, wrong = 0, number = 0;
     for (int i = 0; i < 100000; i++) {
-        if (settle(&a, t) != DOVER_NONE || dover_room(&a) != 4) wrong++;
+        if (settle(&a, t) != DOVER_NONE || dover_spare(&a) != 4) wrong++;
         for (uint64_t j = 0; j < 4; j++) {
             dover_admitted x = dover_admit(&a, t, 2, t + 4 + j, 5 + j);
             if (x.status != DOVER_ADMITTED || x.number != number++) wrong++;
@@ -333,9 +333,9 @@ static void limits(void) {
         if (admit(&a, t, 1, t + 1, 1) != DOVER_ADMITTED) ROW(0);
     }
     settle(&a, t);
-    ROW(dover_room(&a) == 2 && admit(&a, t, 1, t + 1, 1) == DOVER_COUNT);
+    ROW(dover_spare(&a) == 2 && admit(&a, t, 1, t + 1, 1) == DOVER_COUNT);
     settle(&a, t = 2000000);
-    ROW(dover_room(&a) == 3 && dover_admit(&a, t, 1, t + 1, 1).number == 1000000);
+    ROW(dover_spare(&a) == 3 && dover_admit(&a, t, 1, t + 1, 1).number == 1000000);
     ROW(taken == before);
     dover_drop(&a);
 }

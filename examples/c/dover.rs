@@ -61,7 +61,7 @@ unsafe extern "C" {
     fn dover_successor(place: *mut Place) -> Named;
     fn dover_value(place: *mut Place) -> u64;
     fn dover_value_high(place: *mut Place) -> u64;
-    fn dover_room(place: *mut Place) -> u32;
+    fn dover_spare(place: *mut Place) -> u32;
     fn dover_drop(place: *mut Place);
 }
 
@@ -120,8 +120,8 @@ impl Dover {
         unsafe { u128::from(dover_value_high(self.0)) << 64 | u128::from(dover_value(self.0)) }
     }
 
-    pub fn room(&mut self) -> u32 {
-        unsafe { dover_room(self.0) }
+    pub fn spare(&mut self) -> u32 {
+        unsafe { dover_spare(self.0) }
     }
 }
 

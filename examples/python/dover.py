@@ -36,7 +36,7 @@ class _Named(ctypes.Structure):
 CALLS = {"size": (ctypes.c_size_t,), "init": (None, U32, U32, U32, U32), "status": (U32,), "drop": (None,),
          "init_factor": (None, U32, U32, U32, U32, U32, U32), "admit": (_Admitted, U64, U64, U64, U64),
          "done": (U32, U64, U64), "step": (_Decision, U64), "finish": (_Decision,), "next": (_Due,),
-         "successor": (_Named,), "value": (U64,), "value_high": (U64,), "room": (U32,)}
+         "successor": (_Named,), "value": (U64,), "value_high": (U64,), "spare": (U32,)}
 MADE, MOST_KINDS = 5, 8
 KINDS = [None, "job", "run", "preempt", "take", "complete", "abandon", "end"]
 NOT_MADE = {0: "empty", 1: "ratio", 2: "capacity", 3: "memory", 4: "version", 6: "factor"}
@@ -159,12 +159,12 @@ class Engine:
         return _LIBRARY.dover_value_high(self._place) << 64 | _LIBRARY.dover_value(self._place)
 
     @property
-    def room(self):
+    def spare(self):
         """For how many open jobs more there is room."""
-        return _LIBRARY.dover_room(self._place)
+        return _LIBRARY.dover_spare(self._place)
 
     def close(self):
-        """Gives the memory back. There is no engine then: next() and successor() are None, value and room are 0, and
+        """Gives the memory back. There is no engine then: next() and successor() are None, value and spare are 0, and
         all other calls are refused as closed."""
         _LIBRARY.dover_drop(self._place)
 

@@ -3,7 +3,7 @@ use Rattle.std.proofs.Common.{ℕ, ◌+◌, ◌*◌, ◌≤◌, ◌<◌, ◌⊎�
 use Rattle.std.proofs.lemmas.Bool.{cases_lt}
 use Rattle.std.proofs.lemmas.Nat.{mul-le}
 use Rattle.dover_model.specs.JobFacts.{JobFacts}
-use Rattle.dover_model.proofs.Calculus.{cancel}
+use Rattle.dover_model.proofs.bound.Calculus.{cancel}
 use Rattle.admission.specs.Kept.{IsLessDense}
 
 -- of two, one isn't less dense

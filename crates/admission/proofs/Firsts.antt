@@ -4,18 +4,15 @@ use Rattle.std.proofs.Common.{append_assoc, arith, Bool, ◌+◌, Some, length-a
 use Rattle.std.specs.List.{AllByRecursion}
 use Rattle.std.proofs.lemmas.Bool.{cases_lt}
 use Rattle.std.proofs.lemmas.List.Sums.{sum_by-append, sum_by-cons}
-use Rattle.dover_model.specs.JobFacts.{JobFacts, IsJob}
-use Rattle.dover_model.specs.Fraction.{Fraction}
-use Rattle.dover_model.specs.Instance.{total_value}
-use Rattle.dover_model.specs.Admission.{is_within_ratio_both_ways}
-use Rattle.dover_model.proofs.Members.{all_append, all_both, all_at}
-use Rattle.dover_model.proofs.Valid.{all_from}
-use Rattle.dover_model.proofs.Growing.{all_behind}
+use Rattle.dover_model.specs.Common.{JobFacts, IsJob, Fraction, total_value, is_within_ratio_both_ways}
+use Rattle.dover_model.proofs.lists.Members.{all_append, all_both, all_at}
+use Rattle.dover_model.proofs.valid.Valid.{all_from}
+use Rattle.dover_model.proofs.sessions.Growing.{all_behind}
 use Rattle.admission.specs.declared.extremes.Numbered.{Numbered}
 use Rattle.admission.specs.declared.extremes.Extremes.{Extremes}
 use Rattle.admission.specs.Kept.{IsLessDense, IsFirstBy, IsLeastDense, IsDensest, AreExtremes, Kept, StandsFor}
 use Rattle.admission.proofs.Comparing.{not_both, no_less, chained}
-use Rattle.dover_model.proofs.JobLimits.{job_limits}
+use Rattle.dover_model.proofs.valid.JobLimits.{job_limits}
 
 -- ---- lists
 

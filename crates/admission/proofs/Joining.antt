@@ -1,13 +1,10 @@
 -- Valid jobs are valid with one that is admitted, whichever finish early.
-use Rattle.std.proofs.Common.{◌≡◌, ◌≤◌, [], ◌∷◌}
-use Rattle.std.specs.Prelude.{None}
+use Rattle.std.proofs.Common.{◌≡◌, ◌≤◌, [], ◌∷◌, None}
 use Rattle.std.specs.List.{AllByRecursion}
-use Rattle.dover_model.specs.Admission.{refusal_of}
-use Rattle.dover_model.specs.Instance.{Instance, IsValid, declared_by, with_jobs}
-use Rattle.dover_model.specs.JobFacts.{JobFacts}
-use Rattle.dover_model.proofs.Admitting.{admits}
-use Rattle.dover_model.proofs.Growing.{instance_with}
-use Rattle.dover_model.proofs.Meeting.{finishing_valid}
+use Rattle.dover_model.specs.Common.{refusal_of, Instance, IsValid, declared_by, with_jobs, JobFacts}
+use Rattle.dover_model.proofs.valid.Admitting.{admits}
+use Rattle.dover_model.proofs.sessions.Growing.{instance_with}
+use Rattle.dover_model.proofs.finishes.Meeting.{finishing_valid}
 
 pub admitted_valid : (J : Instance) (j : JobFacts) → IsValid J → AllByRecursion (λ i. i.release ≤ j.release) J.jobs
     → refusal_of (declared_by J.rules) J.jobs j ≡ None → IsValid (with_jobs J (j ∷ []))

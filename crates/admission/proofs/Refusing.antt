@@ -1,26 +1,23 @@
 -- Testing a job against the least dense and the densest one is testing it against all.
-use Rattle.std.proofs.Common.{◌≡◌, ◌≤◌, List, [], ◌∷◌, Bool, true, false, refl, sym, ◌∙◌, arith}
-use Rattle.std.proofs.Common.{ℕ, ◌+◌, ◌*◌, ◌<◌, ◌⊎◌, inl, inr, length, Some, None, not}
+use Rattle.std.proofs.Common.{◌≡◌, ◌≤◌, List, [], ◌∷◌, Bool, true, false, refl, sym, ◌∙◌, arith, ℕ, ◌+◌, ◌*◌, ◌<◌, ◌⊎◌}
+use Rattle.std.proofs.Common.{inl, inr, length, Some, None, not, nat_le, nat_lt, le-leb, lt-ltb, le-ltb}
 use Rattle.std.proofs.lemmas.Nat.{mul-le}
-use Rattle.std.specs.Prelude.{nat_le, nat_lt}
 use Rattle.std.specs.List.{list_all}
-use Rattle.std.proofs.lemmas.Bool.{lt-leb, le-leb, lt-ltb, le-ltb, false≢true}
-use Rattle.dover_model.specs.Limits.{most_jobs, most_total}
+use Rattle.std.proofs.lemmas.Bool.{lt-leb, false≢true}
+use Rattle.dover_model.specs.Common.{most_jobs, most_total, JobFacts, IsJob, is_job, Fraction, Declaration, total_value}
+use Rattle.dover_model.specs.Common.{is_within_ratio_both_ways, refusal_of}
 use Rattle.dover_model.specs.declared.events.Refusal.TheVariants.{BadJob, Count, Total, Ratio}
-use Rattle.dover_model.specs.JobFacts.{JobFacts, IsJob, is_job}
-use Rattle.dover_model.specs.Fraction.{Fraction}
-use Rattle.dover_model.specs.Instance.{Declaration, total_value}
-use Rattle.dover_model.specs.Admission.{is_within_ratio_both_ways, first_cause, refusal_of}
-use Rattle.dover_model.proofs.Calculus.{cancel}
-use Rattle.dover_model.proofs.Tests.{both, each}
-use Rattle.dover_model.proofs.Members.{all_both, by_bool}
+use Rattle.dover_model.specs.Admission.{first_cause}
+use Rattle.dover_model.proofs.bound.Calculus.{cancel}
+use Rattle.dover_model.proofs.lists.Tests.{both, each}
+use Rattle.dover_model.proofs.lists.Members.{all_both, by_bool}
 use Rattle.admission.specs.declared.extremes.Extremes.{Extremes}
 use Rattle.admission.specs.Kept.{IsLessDense, IsLeastDense, IsDensest, IsBetween, AreExtremes}
 use Rattle.admission.specs.Answers.{AllKeepRatio, LeastDenseKeeps, IsOther, numbered}
 use Rattle.admission.proofs.Comparing.{not_both, no_less, within_least, within_densest}
 use Rattle.admission.proofs.Firsts.{none_under, first_is, IsDenser, not_both_denser}
-use Rattle.dover_model.proofs.ValidParts.{IsWithinRatio, is_within_ratio-agrees}
-use Rattle.dover_model.proofs.JobLimits.{job_limits}
+use Rattle.dover_model.proofs.valid.ValidParts.{IsWithinRatio, is_within_ratio-agrees}
+use Rattle.dover_model.proofs.valid.JobLimits.{job_limits}
 
 -- the test says so of both ways
 both_ways : (k : Fraction) (i j : JobFacts) → (IsWithinRatio k i j × IsWithinRatio k j i)

@@ -1,12 +1,9 @@
 -- Why a job isn't admitted, and which other job is named.
-use Rattle.std.specs.Prelude.{◌≡◌, ℕ, ◌⊎◌, List, true, false, Option, Some, None}
-use Rattle.std.specs.Prelude.{Result, Ok, Err}
+use Rattle.std.specs.Prelude.{◌≡◌, ℕ, ◌⊎◌, List, true, false, Option, Some, None, Result, Ok, Err}
 use Rattle.std.specs.List.{AllByRecursion}
 use Rattle.dover_model.specs.declared.events.Refusal.{Refusal}
 use Rattle.dover_model.specs.declared.events.Refusal.TheVariants as plain
-use Rattle.dover_model.specs.JobFacts.{JobFacts}
-use Rattle.dover_model.specs.Fraction.{Fraction}
-use Rattle.dover_model.specs.Admission.{is_within_ratio_both_ways}
+use Rattle.dover_model.specs.Common.{JobFacts, Fraction, is_within_ratio_both_ways}
 use Rattle.admission.specs.declared.extremes.Numbered.{Numbered}
 use Rattle.admission.specs.declared.refused.Refused.{Refused}
 use Rattle.admission.specs.declared.refused.Refused.TheVariants.{BadJob, Count, Total, Ratio}

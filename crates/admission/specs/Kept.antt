@@ -1,12 +1,9 @@
 -- What is kept of the jobs that are admitted, and for which jobs it stands.
 use Rattle.std.specs.Prelude.{◌≡◌, ℕ, ◌+◌, ◌*◌, ◌≤◌, ◌<◌, List, [], ◌∷◌, ◌++◌, length, Option, Some, None}
 use Rattle.std.specs.List.{AllByRecursion}
-use Rattle.dover_model.specs.Limits.{most_jobs, most_total}
-use Rattle.dover_model.specs.JobFacts.{JobFacts, IsJob}
-use Rattle.dover_model.specs.Fraction.{Fraction}
+use Rattle.dover_model.specs.Common.{most_jobs, most_total, JobFacts, IsJob, Fraction, Declaration, total_value}
+use Rattle.dover_model.specs.Common.{is_within_ratio_both_ways}
 use Rattle.dover_model.specs.declared.events.Version.{Version}
-use Rattle.dover_model.specs.Instance.{Declaration, total_value}
-use Rattle.dover_model.specs.Admission.{is_within_ratio_both_ways}
 use Rattle.admission.specs.declared.extremes.Numbered.{Numbered}
 use Rattle.admission.specs.declared.extremes.Extremes.{Extremes}
 

@@ -1,7 +1,6 @@
 //! Comparisons of densities, by products that fit in 128 bits.
 ghost use Rattle.std.specs.Prelude.{◌≡◌, ◌↔◌, IsTrue};
-ghost use Rattle.dover_model.specs.Instance.{is_within_ratio};
-ghost use Rattle.dover_model.specs.Admission.{is_within_ratio_both_ways};
+ghost use Rattle.dover_model.specs.Common.{is_within_ratio, is_within_ratio_both_ways};
 ghost use Rattle.admission.specs.Kept.{IsLessDense};
 
 use dover_model::{Job, Ratio};

@@ -1,7 +1,6 @@
 -- The answer, behind the last read.
-use Rattle.std.proofs.Common.{◌≡◌, ℕ, List, ◌∷◌, ◌++◌, [], refl, sym, ap, ◌∙◌, subst, Option}
-use Rattle.std.proofs.Common.{Bool, true, false, inr, ◌||◌, append_assoc}
-use Rattle.std.proofs.lemmas.List.{append-nil}
+use Rattle.std.proofs.Common.{◌≡◌, ℕ, List, ◌∷◌, ◌++◌, [], refl, sym, ap, ◌∙◌, subst, Option, Bool, true, false, inr}
+use Rattle.std.proofs.Common.{◌||◌, append_assoc, append-nil}
 use Rattle.dover_model.specs.WholeRun.{Begins}
 use Rattle.dover_port.specs.Moves.{Move, Since, ArePuts, ins, outs, has_ended, EachRead, EachReadFrom, Passes}
 use Rattle.dover_port.specs.Moves.{CutsShort, IsProperPrefix}

@@ -1,7 +1,6 @@
 -- A talk behind bytes for which all that is due was put before.
-use Rattle.std.proofs.Common.{◌≡◌, ℕ, List, [], ◌∷◌, ◌++◌, length, drop, refl, sym, ap, ◌∙◌, subst, append_assoc}
-use Rattle.std.proofs.Common.{true, false}
-use Rattle.std.proofs.lemmas.List.{append-nil}
+use Rattle.std.proofs.Common.{◌≡◌, ℕ, List, [], ◌∷◌, ◌++◌, length, drop, refl, sym, ap, ◌∙◌, subst, append_assoc, true}
+use Rattle.std.proofs.Common.{false, append-nil}
 use Rattle.dialogue.specs.Talk.{Talk, IsSteady, talk_behind}
 
 -- what comes behind a list, without that list

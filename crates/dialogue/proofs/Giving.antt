@@ -1,8 +1,6 @@
 -- What is left to give, part by part.
 use Rattle.std.proofs.Common.{◌≡◌, ◌<◌, ◌+◌, ◌^◌, ◌-◌, ℕ, List, [], ◌∷◌, ◌++◌, length, refl, sym, ap, ◌∙◌, subst}
-use Rattle.std.proofs.Common.{Option, Ok, Err, true, false}
-use Rattle.std.proofs.Common.{arith, append_assoc, length-append}
-use Rattle.std.proofs.lemmas.List.{append-nil}
+use Rattle.std.proofs.Common.{Option, Ok, Err, true, false, arith, append_assoc, length-append, append-nil}
 use Rattle.std.proofs.lemmas.List.Concat.{flat_map-append}
 use Rattle.dover_port.specs.Moves.{Move, Passes, CutsShort, PutsThrough}
 use Rattle.dover_port.specs.declared.port.Failed.{Failed}

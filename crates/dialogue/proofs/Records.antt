@@ -1,15 +1,13 @@
 -- How the record of a reading grows, read by read, and how it ends.
 use Rattle.std.proofs.Common.{◌≡◌, ◌<◌, ◌≤◌, ◌+◌, ℕ, List, ◌∷◌, ◌++◌, [], length, take, refl, sym, ap, ◌∙◌, subst}
-use Rattle.std.proofs.Common.{Option, arith}
-use Rattle.std.proofs.Common.{Bool, true, false, inl, append_assoc, length-append}
-use Rattle.std.proofs.lemmas.List.{append-nil, length-take}
+use Rattle.std.proofs.Common.{Option, arith, Bool, true, false, inl, append_assoc, length-append, append-nil}
+use Rattle.std.proofs.Common.{length-take}
 use Rattle.dover_port.specs.Moves.{Move, Since, ArePuts, ins, outs, has_ended, EachRead, Adds, read_move, Passes}
 use Rattle.dover_port.specs.Moves.{CutsShort, IsProperPrefix}
 use Rattle.dover_port.specs.Moves.Move.{Got, Ended}
 use Rattle.dover_port.specs.declared.status.Status.TheVariants.{ReadFault, WriteFault, Memory}
 use Rattle.dover_port.proofs.Made.{since_then, since_then_at, since_weaker, ins-append, outs-append, ins-puts}
-use Rattle.dover_port.proofs.Made.{has_ended-append, has_ended-puts}
-use Rattle.dover_port.proofs.Made.{EachReadFrom-append, EachReadFrom-puts}
+use Rattle.dover_port.proofs.Made.{has_ended-append, has_ended-puts, EachReadFrom-append, EachReadFrom-puts}
 use Rattle.dover_port.proofs.Through.{passes_then, passes_then_cut}
 use Rattle.dialogue.specs.Talk.{Talk, IsSteady, MayRead, Talks}
 use Rattle.dialogue.specs.Turns.{Ready, Costs, Hears, HasHeard, IsFrontOfDue, HasRead, GoesOn, IsRead}

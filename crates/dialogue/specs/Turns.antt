@@ -1,7 +1,6 @@
 -- What the calls of a talker come to, and those of the reading loop.
-use Rattle.std.specs.Prelude.{◌≡◌, ◌<◌, ◌≤◌, ℕ, List, [], ◌∷◌, ◌++◌, length, take, Bool, true, false, Option}
-use Rattle.std.specs.Prelude.{Result, Ok, Err}
-use Rattle.std.specs.List.{flat_map}
+use Rattle.std.specs.Prelude.{◌≡◌, ◌<◌, ◌≤◌, ℕ, List, [], ◌∷◌, ◌++◌, length, take, Bool, true, false, Option, Result}
+use Rattle.std.specs.Prelude.{Ok, Err, flat_map}
 use Rattle.dover_model.specs.WholeRun.{Begins}
 use Rattle.dover_port.specs.Causes.{Rose, StaysWell, FailsLast, Causes, StopsWith}
 use Rattle.dover_port.specs.declared.calls.Calls.{Calls}

@@ -1,32 +1,22 @@
 -- What a program in C does, as calls of an engine.
-use Rattle.std.proofs.Common.{◌≡◌, ℕ, ◌≤◌, List, [], ◌∷◌, ◌++◌, map, refl, sym, ap, ◌∙◌, subst, cond, append-nil}
-use Rattle.std.proofs.Common.{Bool, true, false, inl, inr}
-use Rattle.std.specs.Prelude.{Option, Some, None, ◌⊎◌, ◌==◌, ◌||◌, ◌&&◌, not, nat_lt, nat_le, Result, Ok, Err}
-use Rattle.std.specs.List.{filter, enumerate_from}
-use Rattle.std.proofs.lemmas.Bool.{eqb-true, eq-eqb}
+use Rattle.std.proofs.Common.{◌≡◌, ℕ, ◌≤◌, List, [], ◌∷◌, ◌++◌, map, refl, sym, ap, ◌∙◌, subst, cond, append-nil, Bool}
+use Rattle.std.proofs.Common.{true, false, inl, inr, Option, Some, None, ◌⊎◌, ◌==◌, ◌||◌, ◌&&◌, not, nat_lt, nat_le}
+use Rattle.std.proofs.Common.{Result, Ok, Err, filter, eqb-true, eq-eqb}
+use Rattle.std.specs.List.{enumerate_from}
 use Rattle.std.proofs.lemmas.List.{map-append}
 use Rattle.dover_model.specs.declared.events.Event.{Event}
 use Rattle.dover_model.specs.declared.events.Event.TheVariants as events
 use Rattle.dover_model.specs.declared.events.Version.{Version}
 use Rattle.dover_model.specs.declared.events.Version.TheVariants.{One, Two, Three}
-use Rattle.dover_model.specs.Fraction.{Fraction, is_ratio, is_some_factor, fraction}
+use Rattle.dover_model.specs.Common.{Fraction, is_ratio, is_some_factor, fraction, JobFacts, observed, most_ready}
+use Rattle.dover_model.specs.Common.{Instance, total_value, printed, completed_value, settled, Each, Prints}
+use Rattle.dover_model.specs.Common.{takes_or_abandons, Meets, worth, IsWithin, is_end_given, MayFollow, no_jobs}
+use Rattle.dover_model.specs.Common.{version_number}
 use Rattle.dover_model.specs.Finishes as early
-use Rattle.dover_model.specs.JobFacts.{JobFacts}
-use Rattle.dover_model.specs.Observed.{observed}
-use Rattle.dover_model.specs.Limits.{most_ready}
-use Rattle.dover_model.specs.Instance.{Instance, total_value}
-use Rattle.dover_model.specs.Run.{printed, completed_value}
-use Rattle.dover_model.specs.Settled.{settled}
-use Rattle.dover_model.specs.Sound.{Each}
-use Rattle.dover_model.specs.Step.{Prints}
-use Rattle.dover_model.specs.Underload.{takes_or_abandons}
-use Rattle.dover_model.specs.Schedules.{Meets, worth}
-use Rattle.dover_model.specs.Bound.{IsWithin}
-use Rattle.dover_model.proofs.Members.{some_same}
-use Rattle.dover_model.proofs.Tests.{never}
+use Rattle.dover_model.proofs.lists.Members.{some_same}
+use Rattle.dover_model.proofs.lists.Tests.{never}
 use Rattle.dover_model.specs.declared.horizon.Horizon.{Horizon}
 use Rattle.dover_model.specs.declared.horizon.Horizon.TheVariants as horizon
-use Rattle.dover_model.specs.Horizons.{is_end_given, MayFollow, no_jobs}
 use Rattle.dover_engine.specs.declared.decision.Decision.{Decision}
 use Rattle.dover_engine.specs.declared.decision.Decision.TheVariants.{Release, Run, Preempt, Take, Complete, Abandon}
 use Rattle.dover_engine.specs.declared.decision.Decision.TheVariants.{End}
@@ -40,12 +30,10 @@ use Rattle.dover_engine.proofs.LifeLaws as life
 use Rattle.dover_c.specs.declared.Admitted.{Admitted}
 use Rattle.dover_c.specs.declared.Decided.{Decided}
 use Rattle.dover_c.specs.declared.slot.Slot.{Slot}
-use Rattle.dover_c.specs.Codes.{made_status, mark_code, numbers_of, IsStepOf, Stands, IsMade, IsFresh}
-use Rattle.dover_model.specs.Text.{version_number}
-use Rattle.dover_c.specs.Codes.{CallsOn, no_number, no_engine}
-use Rattle.dover_c.specs.Codes.{Admits, Ends, Steps, Finishes}
-use Rattle.dover_c.specs.Program.{Act, Admit, Done, Step, Finish, Ask, Drop, Does, DoesAll, IsProgram, told}
-use Rattle.dover_c.specs.Program.{jobs_told, finishes_told, all_told, is_decision, answers, given, shown}
+use Rattle.dover_c.specs.Codes.{made_status, mark_code, numbers_of, IsStepOf, Stands, IsMade, IsFresh, CallsOn}
+use Rattle.dover_c.specs.Codes.{no_number, no_engine, Admits, Ends, Steps, Finishes}
+use Rattle.dover_c.specs.Program.{Act, Admit, Done, Step, Finish, Ask, Drop, Does, DoesAll, IsProgram, told, jobs_told}
+use Rattle.dover_c.specs.Program.{finishes_told, all_told, is_decision, answers, given, shown}
 
 -- ---- decisions that lose no job
 

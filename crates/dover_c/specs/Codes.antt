@@ -1,14 +1,10 @@
 -- What the numbers say that go to a caller in C.
 use Rattle.std.specs.Prelude.{◌≡◌, ℕ, [], Option, Some, None, not, ◌||◌, ◌==◌, nat_lt, if◌then◌else◌, Result, Ok}
 use Rattle.std.specs.Prelude.{Err, ◌/◌, ◌%◌, ◌^◌}
-use Rattle.dover_model.specs.Limits.{most_ready}
-use Rattle.dover_model.specs.Fraction.{Fraction, is_ratio, is_some_factor, IsRatio, fraction}
+use Rattle.dover_model.specs.Common.{most_ready, Fraction, is_ratio, is_some_factor, IsRatio, fraction, version_number}
+use Rattle.dover_model.specs.Common.{Finish, JobFacts, MayFollow, no_jobs}
 use Rattle.dover_model.specs.declared.events.Version.{Version}
-use Rattle.dover_model.specs.Text.{version_number}
-use Rattle.dover_model.specs.Finishes.{Finish}
-use Rattle.dover_model.specs.JobFacts.{JobFacts}
 use Rattle.dover_model.specs.declared.horizon.Horizon.TheVariants as horizon
-use Rattle.dover_model.specs.Horizons.{MayFollow, no_jobs}
 use Rattle.dover_engine.specs.declared.causes.NotAdmitted.{NotAdmitted}
 use Rattle.dover_engine.specs.declared.causes.NotAdmitted.TheVariants.{Unsettled, BadJob, Count, Total, Ratio, Full}
 use Rattle.dover_engine.specs.declared.causes.NotAdmitted.TheVariants.{Numbers}

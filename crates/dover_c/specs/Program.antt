@@ -1,19 +1,15 @@
 -- What a program in C does with an engine, and what it is given.
-use Rattle.dover_model.specs.Fraction.{Fraction}
-use Rattle.std.specs.Prelude.{◌≡◌, ℕ, List, [], ◌∷◌, map, Bool, ◌&&◌, ◌==◌, nat_le, if◌then◌else◌}
-use Rattle.std.specs.List.{filter}
+use Rattle.dover_model.specs.Common.{Fraction, JobFacts, Instance, jobs_under, with_finishes, version_number}
+use Rattle.std.specs.Prelude.{◌≡◌, ℕ, List, [], ◌∷◌, map, Bool, ◌&&◌, ◌==◌, nat_le, if◌then◌else◌, filter}
 use Rattle.dover_model.specs.declared.events.Event.{Event}
 use Rattle.dover_model.specs.declared.events.Event.TheVariants.{Release, Run, Preempt, Take, Complete, Abandon, End}
 use Rattle.dover_model.specs.declared.events.Version.{Version}
 use Rattle.dover_model.specs.Finishes as early
-use Rattle.dover_model.specs.JobFacts.{JobFacts}
-use Rattle.dover_model.specs.Instance.{Instance, jobs_under, with_finishes}
 use Rattle.dover_c.specs.declared.Admitted.{Admitted}
 use Rattle.dover_c.specs.declared.Decided.{Decided}
 use Rattle.dover_c.specs.declared.slot.Slot.{Slot}
-use Rattle.dover_c.specs.Codes.{made_status, IsMade, AdmitAnswers, StepAnswers, FinishAnswers}
-use Rattle.dover_model.specs.Text.{version_number}
-use Rattle.dover_c.specs.Codes.{DropAnswers, DoneAnswers, high_word, low_word}
+use Rattle.dover_c.specs.Codes.{made_status, IsMade, AdmitAnswers, StepAnswers, FinishAnswers, DropAnswers, DoneAnswers}
+use Rattle.dover_c.specs.Codes.{high_word, low_word}
 
 -- a call behind dover_init, with its answer
 pub data Act : Type 0 where

@@ -1,19 +1,13 @@
 //! What a program in C is given, whatever calls it makes and in whatever order, from `dover_init` on: the contract of a
 //! function that does nothing. The contracts of the calls are its premises, so it rests on the program's keeping what
 //! they require.
-ghost use Rattle.dover_model.specs.Fraction.{Fraction};
+ghost use Rattle.dover_model.specs.Common.{Fraction, total_value, observed, printed, completed_value, settled, Each};
+ghost use Rattle.dover_model.specs.Common.{Meets, worth, IsWithin};
 ghost use Rattle.std.specs.Prelude.{◌≡◌, ◌≤◌, ◌++◌, ℕ, List, [], ◌∷◌, map, true};
 ghost use Rattle.std.specs.List.{enumerate_from};
 ghost use Rattle.dover_model.specs.declared.events.Version.{Version};
 ghost use Rattle.dover_model.specs.declared.events.Event.TheVariants.{Complete};
 ghost use Rattle.dover_model.specs.Finishes as early;
-ghost use Rattle.dover_model.specs.Instance.{total_value};
-ghost use Rattle.dover_model.specs.Observed.{observed};
-ghost use Rattle.dover_model.specs.Run.{printed, completed_value};
-ghost use Rattle.dover_model.specs.Settled.{settled};
-ghost use Rattle.dover_model.specs.Sound.{Each};
-ghost use Rattle.dover_model.specs.Schedules.{Meets, worth};
-ghost use Rattle.dover_model.specs.Bound.{IsWithin};
 ghost use Rattle.dover_c.specs.declared.slot.Slot.{Slot};
 ghost use Rattle.dover_c.specs.declared.Decided.{Decided};
 ghost use Rattle.dover_c.specs.Program.{Act, Done, Step, Finish, IsProgram, told, jobs_told, finishes_told};

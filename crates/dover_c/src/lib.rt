@@ -12,13 +12,11 @@ ghost use denote.Param.{layout};
 ghost use types.Logic.{sem};
 ghost use base.Fraction.{full_share};
 ghost use denote.RawPtr.{lies_at, room_at};
-ghost use Rattle.dover_model.specs.Fraction.{fraction, with_factor};
-ghost use Rattle.dover_model.specs.JobFacts.{job_of_numbers};
+ghost use Rattle.dover_model.specs.Common.{fraction, with_factor, job_of_numbers};
 ghost use Rattle.dover_c.specs.declared.slot.Slot.{Slot};
 ghost use Rattle.dover_c.specs.contracts.slot.Slot.{the_row};
-ghost use Rattle.dover_c.specs.Codes.{IsMade, AdmitAnswers, StepAnswers, FinishAnswers, StatusAnswers};
-ghost use Rattle.dover_c.specs.Codes.{ValueAnswers, HighAnswers, RoomAnswers, NextAnswers, SuccessorAnswers};
-ghost use Rattle.dover_c.specs.Codes.{DropAnswers, DoneSays};
+ghost use Rattle.dover_c.specs.Codes.{IsMade, AdmitAnswers, StepAnswers, FinishAnswers, StatusAnswers, ValueAnswers};
+ghost use Rattle.dover_c.specs.Codes.{HighAnswers, RoomAnswers, NextAnswers, SuccessorAnswers, DropAnswers, DoneSays};
 ghost use Rattle.dover_c.specs.Places.{after_at};
 
 use crate::slot::Slot;
@@ -216,7 +214,7 @@ pub unsafe extern "C" fn dover_value_high(place: *mut Place) -> u64
 
 /// For how many open jobs more there is room.
 #[unsafe(no_mangle)]
-pub unsafe extern "C" fn dover_room(place: *mut Place) -> u32
+pub unsafe extern "C" fn dover_spare(place: *mut Place) -> u32
     ghost v: { Slot }
     requires* { sem 𝓛 (lies_at the_row full_share place v) }
     ensures* { sem 𝓛 (after_at place (λ w. RoomAnswers v w result)) }

@@ -1,24 +1,21 @@
 //! An engine where one could be made, and its calls with answers in numbers.
 ghost use Rattle.std.specs.Prelude.{◌≡◌, ◌<◌};
-ghost use Rattle.dover_model.specs.Fraction.{fraction, with_factor};
-ghost use Rattle.dover_model.specs.JobFacts.{job_of_numbers};
+ghost use Rattle.dover_model.specs.Common.{fraction, with_factor, job_of_numbers, version_number};
 ghost use Rattle.dover_model.specs.declared.horizon.Horizon.TheVariants.{End};
 ghost use Rattle.dover_engine.specs.Calls.{Decides};
 ghost use Rattle.dover_c.specs.Codes.{IsMade, AdmitAnswers, StepAnswers, FinishAnswers, StatusAnswers, DropAnswers};
 ghost use Rattle.dover_c.specs.Codes.{ValueAnswers, HighAnswers, RoomAnswers, NextAnswers, SuccessorAnswers, due_of};
-ghost use Rattle.dover_model.specs.Text.{version_number};
-ghost use Rattle.dover_c.specs.Codes.{named_of, high_word, low_word};
-ghost use Rattle.dover_c.specs.Codes.{DoneSays, done_code};
-ghost use Rattle.dover_c.specs.Codes.{cause_code, other_in, made_code, mark_code, numbers_of, IsStepOf};
+ghost use Rattle.dover_c.specs.Codes.{named_of, high_word, low_word, DoneSays, done_code, cause_code, other_in};
+ghost use Rattle.dover_c.specs.Codes.{made_code, mark_code, numbers_of, IsStepOf};
 
 use crate::{Admitted, Decided, Due, Named};
+use comparison_count::Comparisons;
 use dover_engine::{Decision, Engine, NotAdmitted, NotDone, NotMade, NotStepped};
 use dover_model::{Ratio, Version};
 use std::alloc::Global;
 use std::marker::Brand;
 use std::rt::Memory;
 use std::sync::ledger::{Blank, Ledger};
-use step_count::Steps;
 
 // 2^64, which is one more than the greatest number of 64 bits.
 const WORD: u128 = 1 << 64;
@@ -240,8 +237,8 @@ fn step_to<L: Ledger>(
     requires some { 0 < blank.parts }
     ensures { IsStepOf mark engine.old engine.new result }
 {
-    let mut steps = Steps::<L>::new(memory, blank);
-    engine.step(mark, &mut steps)
+    let mut comparisons = Comparisons::<L>::new(memory, blank);
+    engine.step(mark, &mut comparisons)
 }
 
 pub(crate) fn step(slot: &mut Slot, mark: u64, memory: Memory) -> Decided
@@ -263,8 +260,8 @@ fn step_to_end<L: Ledger>(engine: &mut Engine, memory: Memory, blank: Blank) -> 
     requires some { 0 < blank.parts }
     ensures { Decides End engine.old engine.new result }
 {
-    let mut steps = Steps::<L>::new(memory, blank);
-    engine.finish(&mut steps)
+    let mut comparisons = Comparisons::<L>::new(memory, blank);
+    engine.finish(&mut comparisons)
 }
 
 pub(crate) fn finish(slot: &mut Slot, memory: Memory) -> Decided

@@ -1,25 +1,17 @@
 -- What an engine gives, call by call.
 use Rattle.std.proofs.Common.{◌≡◌, ℕ, ◌≤◌, List, [], ◌∷◌, ◌++◌, append-nil, refl, sym, ap, ◌∙◌, subst, arith, inl, inr}
-use Rattle.std.proofs.Common.{Bool, true, false}
-use Rattle.std.specs.Prelude.{◌||◌, Option, Some, None, IfSome, IsNone, option_to_list}
+use Rattle.std.proofs.Common.{Bool, true, false, ◌||◌, Option, Some, None, IfSome, IsNone, option_to_list}
 use Rattle.std.specs.List.{AllByRecursion}
 use Rattle.dover_model.specs.declared.events.Event.{Event}
 use Rattle.dover_model.specs.declared.events.Task.{Task}
 use Rattle.dover_model.specs.declared.events.Version.{Version}
-use Rattle.dover_model.specs.Fraction.{Fraction}
-use Rattle.dover_model.specs.JobFacts.{JobFacts}
-use Rattle.dover_model.specs.Instance.{Instance, IsValid, with_jobs, with_finishes}
-use Rattle.dover_model.specs.Finishes.{Finish}
-use Rattle.dover_model.specs.Admission.{refusal_of}
-use Rattle.dover_model.specs.Step.{Prints}
-use Rattle.dover_model.specs.Run.{is_end}
-use Rattle.dover_model.specs.Settled.{settled}
-use Rattle.dover_model.specs.Sound.{Each, jobs_of}
+use Rattle.dover_model.specs.Common.{Fraction, JobFacts, Instance, IsValid, with_jobs, with_finishes, Finish}
+use Rattle.dover_model.specs.Common.{refusal_of, Prints, is_end, settled, Each, jobs_of, MayFollow, is_ready_after}
+use Rattle.dover_model.specs.Common.{no_jobs, due_by, Gives}
 use Rattle.admission.proofs.Joining.{admitted_valid}
 use Rattle.admission.specs.Kept.{Kept, StandsFor}
 use Rattle.dover_model.specs.declared.horizon.Horizon.{Horizon}
 use Rattle.dover_model.specs.declared.horizon.Horizon.TheVariants.{Mark, End}
-use Rattle.dover_model.specs.Horizons.{MayFollow, is_ready_after, no_jobs, due_by, Gives}
 use Rattle.ready_server.specs.Serving.{Serves, Rests}
 use Rattle.ready_server.specs.declared.server.ReadyServer.{ReadyServer}
 use Rattle.ready_server.proofs.Stepping.{serves_later, rests_serves, printed_low}

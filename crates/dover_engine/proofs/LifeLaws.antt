@@ -1,36 +1,24 @@
 -- Over all calls of an engine's life, what it gave is the run of all jobs that were ever admitted.
 use Rattle.std.proofs.Common.{◌≡◌, ℕ, ◌+◌, ◌≤◌, List, [], ◌∷◌, ◌++◌, length, map, refl, sym, ap, ◌∙◌, subst, arith}
-use Rattle.std.proofs.Common.{true, false, append-nil, append_assoc, length-append}
-use Rattle.std.specs.Prelude.{Option, None, Some, IfSome}
+use Rattle.std.proofs.Common.{true, false, append-nil, append_assoc, length-append, Option, None, Some, IfSome}
 use Rattle.std.specs.List.{enumerate_from}
 use Rattle.std.proofs.lemmas.List.{map-append}
 use Rattle.dover_model.specs.declared.events.Version.{Version}
 use Rattle.dover_model.specs.declared.events.Event.{Event}
 use Rattle.dover_model.specs.declared.events.Event.TheVariants as events
-use Rattle.dover_model.specs.Fraction.{Fraction}
-use Rattle.dover_model.specs.JobFacts.{JobFacts}
-use Rattle.dover_model.specs.Instance.{Rules, Instance, bare, having, with_jobs, with_finishes, total_value}
-use Rattle.dover_model.specs.Step.{Prints}
-use Rattle.dover_model.specs.Run.{printed, completed_value}
-use Rattle.dover_model.specs.Settled.{settled}
-use Rattle.dover_model.specs.Schedules.{Meets, worth}
-use Rattle.dover_model.specs.Bound.{IsWithin}
-use Rattle.dover_model.specs.Sound.{Each}
-use Rattle.dover_model.specs.Rest.{Turn, TurnsEnd, end_tick, one_run, turn_under, turns_jobs}
-use Rattle.dover_model.specs.Finishes.{Finish}
-use Rattle.dover_model.specs.Observed.{observed}
-use Rattle.dover_model.specs.Underload.{takes_or_abandons}
-use Rattle.dover_model.specs.WholeRun.{Begins}
-use Rattle.dover_model.proofs.InTurns.{declared_within, observed_within}
-use Rattle.dover_model.proofs.Members.{member_front}
-use Rattle.dover_model.proofs.RestTick.{rests_from}
-use Rattle.dover_model.proofs.TurnSchedules.{one_run_honest, one_run_plain}
-use Rattle.dover_model.proofs.TurnsGrowing.{ends_behind}
-use Rattle.dover_model.proofs.TurnsLosing.{one_run_loses_none, one_run_earns_all}
-use Rattle.dover_model.proofs.Runs.{last_value, value_last}
+use Rattle.dover_model.specs.Common.{Fraction, JobFacts, Rules, Instance, bare, having, with_jobs, with_finishes}
+use Rattle.dover_model.specs.Common.{total_value, Prints, printed, completed_value, settled, Meets, worth, IsWithin}
+use Rattle.dover_model.specs.Common.{Each, Turn, TurnsEnd, end_tick, one_run, turn_under, turns_jobs, Finish, observed}
+use Rattle.dover_model.specs.Common.{takes_or_abandons, Begins, no_jobs}
+use Rattle.dover_model.proofs.rest.InTurns.{declared_within, observed_within}
+use Rattle.dover_model.proofs.lists.Members.{member_front}
+use Rattle.dover_model.proofs.rest.RestTick.{rests_from}
+use Rattle.dover_model.proofs.rest.TurnSchedules.{one_run_honest, one_run_plain}
+use Rattle.dover_model.proofs.rest.TurnsGrowing.{ends_behind}
+use Rattle.dover_model.proofs.rest.TurnsLosing.{one_run_loses_none, one_run_earns_all}
+use Rattle.dover_model.proofs.runs.Runs.{last_value, value_last}
 use Rattle.dover_model.specs.declared.horizon.Horizon.{Horizon}
 use Rattle.dover_model.specs.declared.horizon.Horizon.TheVariants.{Mark}
-use Rattle.dover_model.specs.Horizons.{no_jobs}
 use Rattle.dover_engine.specs.declared.decision.Decision.{Decision}
 use Rattle.dover_engine.specs.Decisions.{event_in, events_in}
 use Rattle.dover_engine.specs.Life.{Life, done_value, has_ended, IsAtRest}

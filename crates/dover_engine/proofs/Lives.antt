@@ -1,50 +1,38 @@
 -- What an engine gives of all jobs that were ever admitted, call by call.
 use Rattle.std.proofs.Common.{◌≡◌, ℕ, ◌+◌, ◌*◌, ◌≤◌, ◌<◌, ◌^◌, List, [], ◌∷◌, ◌++◌, length, map, refl, sym, ap, ◌∙◌}
 use Rattle.std.proofs.Common.{subst, arith, inl, inr, Bool, true, false, append-nil, append_assoc, length-append}
-use Rattle.std.specs.Prelude.{Option, Some, None, IsNone, IfSome, is_some, option_to_list, drop}
-use Rattle.std.specs.Option.{option_map}
-use Rattle.std.specs.List.{filter, fold}
-use Rattle.std.proofs.lemmas.List.{map-append, drop_at}
+use Rattle.std.proofs.Common.{Option, Some, None, IsNone, IfSome, is_some, option_to_list, drop, option_map, filter}
+use Rattle.std.proofs.Common.{fold, drop_at}
+use Rattle.std.proofs.lemmas.List.{map-append}
 use Rattle.std.proofs.lemmas.Nat.{mul-le}
 use Rattle.dover_model.specs.declared.events.Event.{Event}
 use Rattle.dover_model.specs.declared.events.Event.TheVariants as events
 use Rattle.dover_model.specs.declared.events.Task.{Task}
-use Rattle.dover_model.specs.State.{is_held, state_at}
+use Rattle.dover_model.specs.Common.{is_held, state_at, Fraction, JobFacts, most_jobs, Rules, Declaration, Instance}
+use Rattle.dover_model.specs.Common.{IsValid, declared_by, bare, having, with_jobs, with_finishes, is_end, printed}
+use Rattle.dover_model.specs.Common.{settled, tick_of_event, last_of, EarlyFinish, finish_at, may_finish_early, Finish}
+use Rattle.dover_model.specs.Common.{runner_of, Prints, Begins, IsTurn, NoneBefore, Turn, behind, behind_finish}
+use Rattle.dover_model.specs.Common.{before_end, completed_turns, instead_with, one_run, turn_under, turns_finishes}
+use Rattle.dover_model.specs.Common.{turns_jobs, refusal_of, MayFollow, is_ready_after, is_end_given, no_jobs, due_by}
+use Rattle.dover_model.specs.Common.{waits_among}
 use Rattle.dover_model.specs.declared.events.Refusal.{Refusal}
 use Rattle.dover_model.specs.declared.events.Refusal.TheVariants as plain
 use Rattle.dover_model.specs.declared.events.Version.{Version}
-use Rattle.dover_model.specs.Fraction.{Fraction}
-use Rattle.dover_model.specs.JobFacts.{JobFacts}
-use Rattle.dover_model.specs.Limits.{most_jobs}
-use Rattle.dover_model.specs.Instance.{Rules, Declaration, Instance, IsValid, declared_by, bare, having}
-use Rattle.dover_model.specs.Instance.{with_jobs, with_finishes}
-use Rattle.dover_model.specs.Run.{is_end, printed}
-use Rattle.dover_model.specs.Settled.{settled, tick_of_event, last_of}
-use Rattle.dover_model.specs.Session.{EarlyFinish, finish_at, may_finish_early}
-use Rattle.dover_model.specs.Finishes.{Finish}
-use Rattle.dover_model.specs.Processor.{runner_of, runner_after}
-use Rattle.dover_model.proofs.LastSteps.{last_from}
-use Rattle.dover_model.proofs.Processors.{finish_prints, late_prints, runner_behind, runner_behind_turns}
-use Rattle.dover_model.proofs.RightFinishes.{finish_says}
+use Rattle.dover_model.specs.Processor.{runner_after}
+use Rattle.dover_model.proofs.settled.LastSteps.{last_from}
+use Rattle.dover_model.proofs.finishes.Processors.{finish_prints, late_prints, runner_behind, runner_behind_turns}
+use Rattle.dover_model.proofs.finishes.RightFinishes.{finish_says}
 use Rattle.std.proofs.lemmas.List.Sums.{fold-append}
-use Rattle.dover_model.specs.Step.{Prints}
-use Rattle.dover_model.specs.WholeRun.{Begins}
-use Rattle.dover_model.specs.Rest.{IsTurn, NoneBefore, Turn, behind, behind_finish, before_end, completed_turns}
-use Rattle.dover_model.specs.Rest.{instead_with}
-use Rattle.dover_model.specs.Rest.{one_run, turn_under, turns_finishes, turns_jobs}
-use Rattle.dover_model.proofs.Apart.{behind_last, end_at_rest}
-use Rattle.dover_model.proofs.InTurns.{one_run_prints, settled_of_last}
-use Rattle.dover_model.proofs.TurnsGrowing.{before_end_of_last, completed_behind, ends_behind, finishes_behind}
-use Rattle.dover_model.proofs.TurnsGrowing.{jobs_behind, printed_of_last}
-use Rattle.dover_model.specs.Admission.{refusal_of}
+use Rattle.dover_model.proofs.rest.Apart.{behind_last, end_at_rest}
+use Rattle.dover_model.proofs.rest.InTurns.{one_run_prints, settled_of_last}
+use Rattle.dover_model.proofs.rest.TurnsGrowing.{before_end_of_last, completed_behind, ends_behind, finishes_behind}
+use Rattle.dover_model.proofs.rest.TurnsGrowing.{jobs_behind, printed_of_last}
 use Rattle.admission.specs.declared.refused.Refused.{Refused}
 use Rattle.admission.specs.declared.refused.Refused.TheVariants as refused
 use Rattle.admission.specs.Answers.{refusal_of_refused, NamesOther, IsOther}
 use Rattle.admission.specs.Kept.{Kept, StandsFor}
 use Rattle.dover_model.specs.declared.horizon.Horizon.{Horizon}
 use Rattle.dover_model.specs.declared.horizon.Horizon.TheVariants.{Mark, End}
-use Rattle.dover_model.specs.Horizons.{MayFollow, is_ready_after, is_end_given, no_jobs, due_by}
-use Rattle.dover_model.specs.Spending.{waits_among}
 use Rattle.ready_jobs.specs.Spending.{wait_again_by}
 use Rattle.ready_jobs.proofs.Courses.{follows_count}
 use Rattle.ready_server.specs.NextStep.{ComesAt}
@@ -57,14 +45,14 @@ use Rattle.dover_engine.specs.Decisions.{event_in}
 use Rattle.dover_engine.specs.Life.{life_with, Life, IsReadyFor, IsAtRest, HasPaid, CostsOnce, done_value, has_ended}
 use Rattle.dover_engine.specs.Life.{clock_of, spare_of, successor_of}
 use Rattle.ready_jobs.specs.Course as course
-use Rattle.dover_model.proofs.Members.{some_same}
-use Rattle.dover_model.proofs.Tests.{never}
+use Rattle.dover_model.proofs.lists.Members.{some_same}
+use Rattle.dover_model.proofs.lists.Tests.{never}
 use Rattle.dover_engine.specs.Given.{GaveSince, Gave, IsSince, IsPrompt}
-use Rattle.dover_engine.specs.Calls.{since_rest, HasCause, IsBreaker, IsCause, cause_behind, IsDueAt}
-use Rattle.dover_engine.specs.Calls.{Holds, HasProcessor, HasNoProcessor, MayBeDone, IsDone}
+use Rattle.dover_engine.specs.Calls.{since_rest, HasCause, IsBreaker, IsCause, cause_behind, IsDueAt, Holds}
+use Rattle.dover_engine.specs.Calls.{HasProcessor, HasNoProcessor, MayBeDone, IsDone}
 use Rattle.ready_server.proofs.Finishing.{one_finish}
 use Rattle.dover_engine.proofs.Giving.{fresh_gave, rests_now, finish_gave}
-use Rattle.dover_model.proofs.ValidParts.{valid_parts}
+use Rattle.dover_model.proofs.valid.ValidParts.{valid_parts}
 use Rattle.dover_engine.proofs.Since as since
 
 -- ---- the beginning

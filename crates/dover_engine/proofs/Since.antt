@@ -1,31 +1,22 @@
 -- What was given since the last moment of rest, and rest.
 use Rattle.std.proofs.Common.{◌≡◌, ℕ, List, [], ◌++◌, refl, sym, ap, ◌∙◌, subst, Bool, true, false, append-nil}
-use Rattle.std.proofs.Common.{append_assoc}
-use Rattle.std.specs.Prelude.{None, Option, Some, IfSome, option_to_list, not}
-use Rattle.std.specs.Bool.{MatchBool}
-use Rattle.std.specs.List.{filter}
+use Rattle.std.proofs.Common.{append_assoc, None, Option, Some, IfSome, option_to_list, not, MatchBool, filter}
 use Rattle.dover_model.specs.declared.events.Event.{Event}
 use Rattle.dover_model.specs.declared.events.Task.{Task}
-use Rattle.dover_model.specs.Instance.{Instance, declared_by, having}
-use Rattle.dover_model.specs.State.{State, opening, is_over, is_done, value_sum, state_at}
-use Rattle.dover_model.specs.Step.{Prints}
-use Rattle.dover_model.specs.Run.{is_end, printed, completed_value}
-use Rattle.dover_model.specs.Settled.{settled_steps, settled_state}
-use Rattle.dover_model.specs.Sound.{Each, IsMember}
+use Rattle.dover_model.specs.Common.{Instance, declared_by, having, State, opening, is_over, is_done, value_sum}
+use Rattle.dover_model.specs.Common.{state_at, Prints, is_end, printed, completed_value, settled_steps, settled_state}
+use Rattle.dover_model.specs.Common.{Each, IsMember, Begins, is_ready, due_by, MayFollow}
 use Rattle.dover_model.specs.Rest as rest
-use Rattle.dover_model.specs.WholeRun.{Begins}
-use Rattle.dover_model.proofs.Apart.{settled_at_rest}
-use Rattle.dover_model.proofs.Barriers.{state_after}
-use Rattle.dover_model.proofs.Growing.{settled_of_run}
-use Rattle.dover_model.proofs.Members.{filter_member}
-use Rattle.dover_model.proofs.Paths.{path_settles, one_settled_run}
-use Rattle.dover_model.proofs.Resting.{path_state, value_there}
-use Rattle.dover_model.proofs.Settling.{settled_is_run}
-use Rattle.dover_model.proofs.Tests.{never}
-use Rattle.dover_model.specs.Ready.{is_ready}
+use Rattle.dover_model.proofs.rest.Apart.{settled_at_rest}
+use Rattle.dover_model.proofs.settled.Barriers.{state_after}
+use Rattle.dover_model.proofs.sessions.Growing.{settled_of_run}
+use Rattle.dover_model.proofs.lists.Members.{filter_member}
+use Rattle.dover_model.proofs.settled.Paths.{path_settles, one_settled_run}
+use Rattle.dover_model.proofs.rest.Resting.{path_state, value_there}
+use Rattle.dover_model.proofs.settled.Settling.{settled_is_run}
+use Rattle.dover_model.proofs.lists.Tests.{never}
 use Rattle.dover_model.specs.declared.horizon.Horizon.{Horizon}
 use Rattle.dover_model.specs.declared.horizon.Horizon.TheVariants.{Mark, End}
-use Rattle.dover_model.specs.Horizons.{due_by, MayFollow}
 use Rattle.ready_server.specs.Serving.{Serves, Rests, HasGiven, LeavesRest}
 use Rattle.ready_server.proofs.Stepping.{serves_begins, rests_serves}
 use Rattle.ready_server.proofs.Renewing.{none_settled}

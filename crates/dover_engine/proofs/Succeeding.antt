@@ -1,15 +1,10 @@
 -- The job that an engine names is the one that gets the processor behind one that is done.
 use Rattle.std.proofs.Common.{◌≡◌, ℕ, List, [], ◌∷◌, ◌++◌, length, refl, sym, ap, ◌∙◌, subst, arith, append_assoc}
-use Rattle.std.proofs.Common.{length-append}
-use Rattle.std.specs.Prelude.{Option, Some, None, IfSome, option_map, option_to_list}
+use Rattle.std.proofs.Common.{length-append, Option, Some, None, IfSome, option_map, option_to_list}
 use Rattle.dover_model.specs.declared.events.Event.{Event}
 use Rattle.dover_model.specs.declared.events.Event.TheVariants.{Run, Complete}
 use Rattle.dover_model.specs.declared.events.Version.{Version}
-use Rattle.dover_model.specs.Finishes.{Finish}
-use Rattle.dover_model.specs.Fraction.{Fraction}
-use Rattle.dover_model.specs.Instance.{Instance, with_finishes}
-use Rattle.dover_model.specs.Settled.{settled}
-use Rattle.dover_model.specs.WholeRun.{Begins}
+use Rattle.dover_model.specs.Common.{Finish, Fraction, Instance, with_finishes, settled, Begins}
 use Rattle.dover_model.specs.declared.horizon.Horizon.TheVariants.{Mark}
 use Rattle.ready_server.specs.Serving.{GoesOnWith}
 use Rattle.dover_engine.specs.declared.decision.Decision.{Decision}

@@ -5,22 +5,14 @@ use Rattle.dover_model.specs.declared.events.Version.{Version}
 use Rattle.dover_model.specs.declared.events.Event.{Event}
 use Rattle.dover_model.specs.declared.events.Refusal.{Refusal}
 use Rattle.dover_model.specs.declared.events.Refusal.TheVariants as plain
-use Rattle.dover_model.specs.JobFacts.{JobFacts}
-use Rattle.dover_model.specs.Fraction.{Fraction}
-use Rattle.dover_model.specs.Limits.{most_ready, last_tick}
-use Rattle.dover_model.specs.Instance.{Instance, declared_by, with_jobs, jobs_under, with_finishes}
-use Rattle.dover_model.specs.Admission.{refusal_of}
-use Rattle.dover_model.specs.Finishes.{Finish}
-use Rattle.dover_model.specs.Processor.{runner_of}
-use Rattle.dover_model.specs.Session.{may_finish_early}
-use Rattle.dover_model.specs.Settled.{last_of}
+use Rattle.dover_model.specs.Common.{JobFacts, Fraction, most_ready, last_tick, Instance, declared_by, with_jobs}
+use Rattle.dover_model.specs.Common.{jobs_under, with_finishes, refusal_of, Finish, runner_of, may_finish_early}
+use Rattle.dover_model.specs.Common.{last_of, printed, MayFollow, is_ready_after, is_end_given, no_jobs}
 use Rattle.dover_model.specs.declared.events.Event.TheVariants.{Complete}
-use Rattle.dover_model.specs.Run.{printed}
 use Rattle.admission.specs.Kept.{StandsFor}
 use Rattle.admission.specs.Answers.{IsOther}
 use Rattle.dover_model.specs.declared.horizon.Horizon.{Horizon}
 use Rattle.dover_model.specs.declared.horizon.Horizon.TheVariants.{Mark, End}
-use Rattle.dover_model.specs.Horizons.{MayFollow, is_ready_after, is_end_given, no_jobs}
 use Rattle.admission.specs.declared.refused.Refused.{Refused}
 use Rattle.admission.specs.declared.refused.Refused.TheVariants as refused
 use Rattle.ready_server.specs.NextStep.{ComesAt}

@@ -1,6 +1,5 @@
 -- Decisions as events.
-use Rattle.std.specs.Prelude.{List, Option, option_to_list}
-use Rattle.std.specs.Option.{option_map}
+use Rattle.std.specs.Prelude.{List, Option, option_to_list, option_map}
 use Rattle.dover_model.specs.declared.events.Event.{Event}
 use Rattle.dover_model.specs.declared.events.Event.TheVariants as events
 use Rattle.dover_engine.specs.declared.decision.Decision.{Decision}

@@ -2,15 +2,12 @@
 use Rattle.std.specs.Prelude.{[], ◌∷◌, ◌≡◌, ◌≤◌, ℕ, List, ◌++◌, length, map, true, false, Option, Some, None, IfSome}
 use Rattle.std.specs.Prelude.{option_to_list}
 use Rattle.dover_model.specs.declared.events.Event.{Event}
-use Rattle.dover_model.specs.Instance.{Instance, bare, declared_by}
-use Rattle.dover_model.specs.Step.{Prints}
-use Rattle.dover_model.specs.Run.{is_end, printed}
-use Rattle.dover_model.specs.Rest.{NoneBefore, TurnsEnd, Turn, behind, before_end, one_run, turn_under, turns_jobs}
-use Rattle.dover_model.specs.Rest.{completed_turns}
+use Rattle.dover_model.specs.Common.{Instance, bare, declared_by, Prints, is_end, printed, NoneBefore, TurnsEnd, Turn}
+use Rattle.dover_model.specs.Common.{behind, before_end, one_run, turn_under, turns_jobs, completed_turns, MayFollow}
+use Rattle.dover_model.specs.Common.{due_by}
 use Rattle.admission.specs.Kept.{StandsFor}
 use Rattle.dover_model.specs.declared.horizon.Horizon.{Horizon}
 use Rattle.dover_model.specs.declared.horizon.Horizon.TheVariants.{Mark, End}
-use Rattle.dover_model.specs.Horizons.{MayFollow, due_by}
 use Rattle.ready_server.specs.Serving.{Serves, Rests}
 use Rattle.dover_engine.specs.declared.decision.Decision.{Decision}
 use Rattle.dover_engine.specs.Life.{Life, has_ended}

@@ -1,8 +1,6 @@
 -- What an engine stands for.
-use Rattle.std.specs.Prelude.{◌≡◌, ℕ, ◌+◌, ◌*◌, ◌^◌, ◌≤◌, ◌<◌, [], Bool, true, Option, if◌then◌else◌}
-use Rattle.std.specs.Option.{option_map}
-use Rattle.dover_model.specs.Limits.{most_jobs}
-use Rattle.dover_model.specs.Rest.{behind}
+use Rattle.std.specs.Prelude.{◌≡◌, ℕ, ◌+◌, ◌*◌, ◌^◌, ◌≤◌, ◌<◌, [], Bool, true, Option, if◌then◌else◌, option_map}
+use Rattle.dover_model.specs.Common.{most_jobs, behind}
 use Rattle.dover_model.specs.declared.events.Event.{Event}
 use Rattle.admission.specs.Kept.{Kept}
 use Rattle.dover_model.specs.declared.horizon.Horizon.{Horizon}

@@ -1,6 +1,5 @@
 //! Decisions.
-ghost use Rattle.std.specs.Prelude.{◌≡◌, ◌≤◌, ◌+◌, IfSome};
-ghost use Rattle.std.specs.Option.{option_map};
+ghost use Rattle.std.specs.Prelude.{◌≡◌, ◌≤◌, ◌+◌, IfSome, option_map};
 ghost use Rattle.dover_model.specs.Rest.{behind};
 ghost use Rattle.ready_server.specs.Serving.{HasShortValue};
 ghost use Rattle.dover_engine.specs.Decisions.{event_of, event_in};

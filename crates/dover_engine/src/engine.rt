@@ -1,19 +1,13 @@
 //! The engine.
 ghost use Rattle.std.specs.Prelude.{◌≡◌, ◌≤◌, ◌↔◌, ◌++◌, ◌||◌, ℕ, IsTrue, IfOk, IfErr, OnErr, OnOk, IsNone, IfSome};
-ghost use Rattle.std.specs.Prelude.{List, [], Some, option_to_list, ◌+◌};
-ghost use Rattle.std.specs.Option.{option_map};
-ghost use Rattle.dover_model.specs.Limits.{last_tick};
-ghost use Rattle.dover_model.specs.Rest.{behind};
-ghost use Rattle.dover_model.specs.JobFacts.{job_of_numbers};
-ghost use Rattle.dover_model.specs.Instance.{Instance};
+ghost use Rattle.std.specs.Prelude.{List, [], Some, option_to_list, ◌+◌, option_map};
+ghost use Rattle.dover_model.specs.Common.{last_tick, behind, job_of_numbers, Instance, MayFollow, is_ready_after};
+ghost use Rattle.dover_model.specs.Common.{is_end_given, no_jobs, due_by, runner_of, settled};
 ghost use Rattle.dover_model.specs.declared.events.Event.{Event};
 ghost use Rattle.dover_model.specs.declared.horizon.Horizon.TheVariants.{Mark, End};
-ghost use Rattle.dover_model.specs.Horizons.{MayFollow, is_ready_after, is_end_given, no_jobs, due_by};
 ghost use Rattle.dover_engine.specs.Life.{spare_of, done_value, clock_of, has_ended, HasPaid, IsReadyFor, room_of};
 ghost use Rattle.dover_engine.specs.Life.{CostsOnce, successor_of};
 ghost use Rattle.ready_server.specs.Serving.{HasShortValue, Rests};
-ghost use Rattle.dover_model.specs.Processor.{runner_of};
-ghost use Rattle.dover_model.specs.Settled.{settled};
 ghost use Rattle.dover_engine.specs.Decisions.{event_in};
 ghost use Rattle.dover_engine.specs.Given.{Gave};
 ghost use Rattle.dover_engine.specs.Calls.{not_made, mark_refusal, IsAdmitted, IsCause, BeginsAnew, Decides, IsNext};
@@ -23,6 +17,7 @@ use crate::causes::{NotAdmitted, NotDone, NotMade, NotStepped, cause_behind};
 use crate::decision::{Decision, decision_in};
 use crate::earned::Earned;
 use admission::Admission;
+use comparison_count::Comparisons;
 use dover_model::jobs::LAST_TICK;
 use dover_model::{Event, Horizon, Ratio, Version};
 use ready_jobs::MOST_READY;
@@ -30,7 +25,6 @@ use ready_server::ReadyServer;
 use std::alloc::Global;
 use std::marker::Model;
 use std::sync::ledger::Ledger;
-use step_count::Steps;
 
 // How many jobs may be admitted in all.
 const MOST_NUMBERED: u64 = 10_000_000_000_000_000_000;
@@ -220,7 +214,7 @@ impl Engine {
     }
 
     // The next event before the horizon, of the jobs since the last moment of rest.
-    fn advance<L: Ledger>(&mut self, to: Horizon, steps: &mut Steps<L>) -> Option<Event>
+    fn advance<L: Ledger>(&mut self, to: Horizon, comparisons: &mut Comparisons<L>) -> Option<Event>
         requires { MayFollow self.old.last to }
         ensures gave { (J : Instance) (events : List Event) → Gave self.old J events →
             Gave self.new J (events ++ option_to_list (option_map (behind self.old.forgotten self.old.earned) result)) }
@@ -235,8 +229,8 @@ impl Engine {
         ensures short { IfSome result HasShortValue }
         ensures spare { spare_of self.old ≤ spare_of self.new }
         ensures room { room_of self.new ≡ room_of self.old }
-        ensures paid { (start : ℕ) → HasPaid self.old start steps.old → HasPaid self.new start steps.new }
-        ensures once { CostsOnce self.old result steps.old steps.new }
+        ensures paid { (start : ℕ) → HasPaid self.old start comparisons.old → HasPaid self.new start comparisons.new }
+        ensures once { CostsOnce self.old result comparisons.old comparisons.new }
     {
         self.last = to;
         match self.coming {
@@ -246,7 +240,7 @@ impl Engine {
                 Some(event)
             }
             None => {
-                let event = self.server.step(to, steps);
+                let event = self.server.step(to, comparisons);
                 self.settled = is_ready_after(to, &event);
                 event
             }
@@ -289,13 +283,17 @@ impl Engine {
     }
 
     // The next decision before the horizon.
-    fn decide<L: Ledger>(&mut self, to: Horizon, steps: &mut Steps<L>) -> Option<Decision>
+    fn decide<L: Ledger>(
+        &mut self,
+        to: Horizon,
+        comparisons: &mut Comparisons<L>,
+    ) -> Option<Decision>
         requires { MayFollow self.old.last to }
         ensures decides { Decides to self.old self.new result }
-        ensures paid { (start : ℕ) → HasPaid self.old start steps.old → HasPaid self.new start steps.new }
-        ensures once { CostsOnce self.old (event_in result) steps.old steps.new }
+        ensures paid { (start : ℕ) → HasPaid self.old start comparisons.old → HasPaid self.new start comparisons.new }
+        ensures once { CostsOnce self.old (event_in result) comparisons.old comparisons.new }
     {
-        let event = self.advance(to, steps);
+        let event = self.advance(to, comparisons);
         let decision = self.shown(&event);
         self.renew();
         decision
@@ -310,30 +308,30 @@ impl Engine {
     pub fn step<L: Ledger>(
         &mut self,
         mark: u64,
-        steps: &mut Steps<L>,
+        comparisons: &mut Comparisons<L>,
     ) -> Result<Option<Decision>, NotStepped>
         ensures refusal { IfErr result (λ cause. mark_refusal self.old.last mark ≡ Some cause) }
         ensures kept { OnErr result (self.new ≡ self.old) }
-        ensures free { OnErr result (steps.new ≡ steps.old) }
+        ensures free { OnErr result (comparisons.new ≡ comparisons.old) }
         ensures may { OnOk result (MayFollow self.old.last (Mark mark)) }
         ensures decides { IfOk result (λ answer. Decides (Mark mark) self.old self.new answer) }
-        ensures paid { (start : ℕ) → HasPaid self.old start steps.old → HasPaid self.new start steps.new }
-        ensures once { IfOk result (λ answer. CostsOnce self.old (event_in answer) steps.old steps.new) }
+        ensures paid { (start : ℕ) → HasPaid self.old start comparisons.old → HasPaid self.new start comparisons.new }
+        ensures once { IfOk result (λ answer. CostsOnce self.old (event_in answer) comparisons.old comparisons.new) }
     {
         if let Some(cause) = mark_refusal(self.last, mark) {
             return Err(cause);
         }
-        Ok(self.decide(Horizon::Mark(mark), steps))
+        Ok(self.decide(Horizon::Mark(mark), comparisons))
     }
 
     /// The next decision, where no further job can come. None after the End. From the first of these calls on no job is
     /// admitted and no step is taken to a mark. No memory is taken.
-    pub fn finish<L: Ledger>(&mut self, steps: &mut Steps<L>) -> Option<Decision>
+    pub fn finish<L: Ledger>(&mut self, comparisons: &mut Comparisons<L>) -> Option<Decision>
         ensures decides { Decides End self.old self.new result }
-        ensures paid { (start : ℕ) → HasPaid self.old start steps.old → HasPaid self.new start steps.new }
-        ensures once { CostsOnce self.old (event_in result) steps.old steps.new }
+        ensures paid { (start : ℕ) → HasPaid self.old start comparisons.old → HasPaid self.new start comparisons.new }
+        ensures once { CostsOnce self.old (event_in result) comparisons.old comparisons.new }
     {
-        self.decide(Horizon::End, steps)
+        self.decide(Horizon::End, comparisons)
     }
 
     /// The tick for which to call next. Where `step` to a mark answered None and no job was admitted or done since, it

@@ -1,23 +1,12 @@
 //! What an engine gives over its whole life, whatever calls are made of it: each law is the contract of a function that
 //! does nothing.
-ghost use Rattle.std.specs.Prelude.{◌≡◌, ◌≤◌, ◌++◌, ℕ, List, [], ◌∷◌, true, false, Option, Some, None};
-ghost use Rattle.std.specs.Option.{option_map};
+ghost use Rattle.std.specs.Prelude.{◌≡◌, ◌≤◌, ◌++◌, ℕ, List, [], ◌∷◌, true, false, Option, Some, None, option_map};
 ghost use Rattle.std.specs.List.{enumerate_from};
 ghost use Rattle.dover_model.specs.declared.events.Version.{Version};
 ghost use Rattle.dover_model.specs.declared.events.Event.{Event};
 ghost use Rattle.dover_model.specs.declared.events.Event.TheVariants as events;
-ghost use Rattle.dover_model.specs.Finishes.{Finish};
-ghost use Rattle.dover_model.specs.Fraction.{Fraction};
-ghost use Rattle.dover_model.specs.Observed.{observed};
-ghost use Rattle.dover_model.specs.Instance.{total_value};
-ghost use Rattle.dover_model.specs.Run.{printed, completed_value};
-ghost use Rattle.dover_model.specs.Step.{Prints};
-ghost use Rattle.dover_model.specs.Sound.{Each};
-ghost use Rattle.dover_model.specs.Underload.{takes_or_abandons};
-ghost use Rattle.dover_model.specs.Settled.{settled};
-ghost use Rattle.dover_model.specs.Schedules.{Meets, worth};
-ghost use Rattle.dover_model.specs.Bound.{IsWithin};
-ghost use Rattle.dover_model.specs.WholeRun.{Begins};
+ghost use Rattle.dover_model.specs.Common.{Finish, Fraction, observed, total_value, printed, completed_value, Prints};
+ghost use Rattle.dover_model.specs.Common.{Each, takes_or_abandons, settled, Meets, worth, IsWithin, Begins};
 ghost use Rattle.dover_model.specs.declared.horizon.Horizon.{Horizon};
 ghost use Rattle.dover_model.specs.declared.horizon.Horizon.TheVariants.{Mark};
 ghost use Rattle.dover_engine.specs.declared.decision.Decision.{Decision};

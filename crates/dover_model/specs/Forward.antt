@@ -1,6 +1,7 @@
 -- Paying forward: a job that starts or takes loads itself in its first tick, and in its last tick before it is done it
 -- loads the job that gets the processor back behind it.
-use Rattle.std.specs.Prelude.{◌≡◌, ℕ, ◌+◌, List, [], ◌∷◌, Bool, true, false, not, ◌==◌, ◌&&◌, if◌then◌else◌, Option, Some}
+use Rattle.std.specs.Prelude.{◌≡◌, ℕ, ◌+◌, List, [], ◌∷◌, Bool, true, false, not, ◌==◌, ◌&&◌, if◌then◌else◌, Option}
+use Rattle.std.specs.Prelude.{Some}
 use Rattle.dover_model.specs.declared.events.Event.{Event}
 use Rattle.dover_model.specs.declared.events.Event.TheVariants.{Run}
 use Rattle.dover_model.specs.Step.{Prints, Waits, Ticks}
@@ -29,7 +30,8 @@ is_to_load n loads x =
 abbrev pub gains_from : ℕ → Bool → List Step → ℕ
 gains_from n loads [] = 0
 gains_from n loads (x ∷ xs) =
-    (if is_tick_of n x && (not loads && not (completes_next n xs)) then 1 else 0) + gains_from n (is_to_load n loads x) xs
+    (if is_tick_of n x && (not loads && not (completes_next n xs)) then 1 else 0)
+    + gains_from n (is_to_load n loads x) xs
 
 -- ---- which job the processor holds
 

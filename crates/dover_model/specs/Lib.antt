@@ -50,3 +50,4 @@ pub mod Pieces
 pub mod Windows
 pub mod Generator
 pub mod Bait
+pub mod Common

@@ -1,6 +1,5 @@
 -- The jobs of a run as they were observed: what a completed job had stands for its work.
-use Rattle.std.specs.Prelude.{ℕ, List, map, if◌then◌else◌}
-use Rattle.std.specs.List.{fold}
+use Rattle.std.specs.Prelude.{ℕ, List, map, if◌then◌else◌, fold}
 use Rattle.dover_model.specs.declared.events.Task.{Task}
 use Rattle.dover_model.specs.JobFacts.{JobFacts}
 use Rattle.dover_model.specs.Instance.{Instance}
@@ -12,8 +11,8 @@ abbrev pub end_state : Instance → State
 end_state J = fold (λ s x. x.before) (opening J.jobs) (run J)
 
 -- the ticks that each job has had by then, by number
-abbrev pub hads : Instance → List ℕ
-hads J = map (λ t. t.had) (end_state J).tasks
+abbrev pub served : Instance → List ℕ
+served J = map (λ t. t.had) (end_state J).tasks
 
 -- the job that asks for what it had, where it is done, and for all its work otherwise
 abbrev pub observing : Task → JobFacts

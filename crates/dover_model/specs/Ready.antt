@@ -1,6 +1,5 @@
 -- The jobs of a state that aren't over: all that the next steps depend on.
-use Rattle.std.specs.Prelude.{Bool, not, ℕ, ◌∷◌, ◌++◌, []}
-use Rattle.std.specs.List.{filter}
+use Rattle.std.specs.Prelude.{Bool, not, ℕ, ◌∷◌, ◌++◌, [], filter}
 use Rattle.dover_model.specs.declared.events.Task.{Task}
 use Rattle.dover_model.specs.State.{is_over, State}
 use Rattle.dover_model.specs.declared.events.Role.TheVariants.{Fresh}

@@ -1,6 +1,5 @@
 -- What comparisons are for: the times that jobs begin and cease to wait.
-use Rattle.std.specs.Prelude.{ℕ, [], ◌+◌, ◌-◌, ◌*◌, length, ◌^◌, ◌≤◌, ◌<◌}
-use Rattle.std.specs.List.{sum_by}
+use Rattle.std.specs.Prelude.{ℕ, [], ◌+◌, ◌-◌, ◌*◌, length, ◌^◌, ◌≤◌, ◌<◌, sum_by}
 use Rattle.dover_model.specs.State.{State, is_waiting}
 use Rattle.dover_model.specs.Weights.{weights_by, weight, Scale, one_if}
 use Rattle.dover_model.specs.Step.{Move}

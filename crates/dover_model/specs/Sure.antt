@@ -73,8 +73,8 @@ pub record IsCompleted (J : Instance) (n : ℕ) (j : JobFacts) : Type 0 where
 
 -- ---- all jobs of a stream
 
--- Jobs that come again and again: two releases are so many ticks apart or more, and each job declares this work or more,
--- and is due so many ticks behind its release, and worth so much, at most.
+-- Jobs that come again and again: two releases are so many ticks apart or more, and each job declares this work or
+-- more, and is due so many ticks behind its release, and worth so much, at most.
 pub record Stream : Type 0 where
   pub apart : ℕ
   pub work : ℕ
@@ -117,8 +117,8 @@ most_crossing s = div_ceil s.span s.apart
 abbrev pub work_within : (ℕ → ℕ) → ℕ → ℕ × Stream → ℕ
 work_within counts span (y, s) = if nat_le s.span span then counts y * s.work else 0
 
--- So many jobs of each stream can hold the processor together, while one of stream x waits: of each stream as many as can
--- cross one tick, and where there is one, its work and that of all with no greater span is at most its span.
+-- So many jobs of each stream can hold the processor together, while one of stream x waits: of each stream as many as
+-- can cross one tick, and where there is one, its work and that of all with no greater span is at most its span.
 pub record CanStack (streams : List Stream) (x : ℕ) (counts : ℕ → ℕ) : Type 0 where
   pub waits : counts x ≡ 0
   pub few : (y : ℕ) → y < length streams → counts y ≤ most_crossing (stream_at streams y)
@@ -129,8 +129,8 @@ pub record CanStack (streams : List Stream) (x : ℕ) (counts : ℕ → ℕ) : T
 abbrev pub worth_of : (ℕ → ℕ) → List Stream → ℕ
 worth_of counts streams = sum_by (λ y_s. counts y_s.0 * y_s.1.value) (enumerate_from 0 streams)
 
--- Job j of stream x is never lost: no other job of its own stream crosses its latest start, nor is one heavy against it,
--- and its value is heavy against any jobs of the other streams that can hold the processor together.
+-- Job j of stream x is never lost: no other job of its own stream crosses its latest start, nor is one heavy against
+-- it, and its value is heavy against any jobs of the other streams that can hold the processor together.
 pub record IsSure (k : Fraction) (streams : List Stream) (x : ℕ) (j : JobFacts) : Type 0 where
   pub before_later : j.deadline < j.release + j.work + (stream_at streams x).apart
   pub behind_earlier : j.release + (stream_at streams x).span + j.work ≤ j.deadline + (stream_at streams x).apart

@@ -1,7 +1,7 @@
 -- How often the processor changes hands, who causes it, and what a job gets done where each change costs ticks.
-use Rattle.std.specs.Prelude.{◌≡◌, ℕ, ◌+◌, ◌≤◌, List, [], ◌∷◌, take, drop, map, Bool, true, false, not, ◌==◌, ◌&&◌, nat_lt}
-use Rattle.std.specs.Prelude.{nat_le, if◌then◌else◌}
-use Rattle.std.specs.List.{count_by, list_any}
+use Rattle.std.specs.Prelude.{◌≡◌, ℕ, ◌+◌, ◌≤◌, List, [], ◌∷◌, take, drop, map, Bool, true, false, not, ◌==◌, ◌&&◌}
+use Rattle.std.specs.Prelude.{nat_lt, nat_le, if◌then◌else◌, count_by}
+use Rattle.std.specs.List.{list_any}
 use Rattle.dover_model.specs.declared.events.Event.TheVariants.{Run, Preempt, Take, Complete}
 use Rattle.dover_model.specs.Fraction.{Fraction}
 use Rattle.dover_model.specs.JobFacts.{JobFacts}

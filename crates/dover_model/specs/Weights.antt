@@ -1,6 +1,5 @@
 -- What each job can still bring about, as a number.
-use Rattle.std.specs.Prelude.{ℕ, ◌+◌, List, Bool, ◌||◌, ◌&&◌, nat_lt, if◌then◌else◌}
-use Rattle.std.specs.List.{sum_by}
+use Rattle.std.specs.Prelude.{ℕ, ◌+◌, List, Bool, ◌||◌, ◌&&◌, nat_lt, if◌then◌else◌, sum_by}
 use Rattle.dover_model.specs.declared.events.Task.{Task}
 use Rattle.dover_model.specs.Finishes.{Finish, goes_on}
 use Rattle.dover_model.specs.State.{is_running, is_held, latest_start, State}

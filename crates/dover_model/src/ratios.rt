@@ -56,8 +56,8 @@ impl Ratio {
         }
     }
 
-    /// The ratio of numbers that were read, of any size, with a factor or without. None exactly where they are out of the
-    /// limits.
+    /// The ratio of numbers that were read, of any size, with a factor or without. None exactly where they are out of
+    /// the limits.
     pub fn of_numbers(p: u64, q: u64, factor: Option<(u64, u64)>) -> Option<Ratio>
         ensures is { result ≡ then_some (is_ratio (ratio_with p q factor)) (ratio_with p q factor) }
         ensures some { IfSome result (λ k. (k ≡ ratio_with p q factor) × IsRatio k) }
@@ -70,7 +70,8 @@ impl Ratio {
         }
     }
 
-    /// The same ratio with the factor of numbers that were read, of any size. None exactly where they are out of the limits.
+    /// The same ratio with the factor of numbers that were read, of any size. None exactly where they are out of the
+    /// limits.
     fn with_factor_of(self, b: u64, c: u64) -> Option<Ratio>
         ensures is { result ≡ then_some (is_ratio (with_factor self b c)) (with_factor self b c) }
     {
@@ -80,8 +81,8 @@ impl Ratio {
         }
     }
 
-    /// The same ratio with the factor `b/c`, in the place of any that it has. None exactly where the factor is out of the
-    /// limits: it is more than one.
+    /// The same ratio with the factor `b/c`, in the place of any that it has. None exactly where the factor is out of
+    /// the limits: it is more than one.
     pub fn with_factor(self, b: u32, c: u32) -> Option<Ratio>
         ensures allowed { IsSome result ↔ IsRatio (with_factor self b c) }
         ensures facts { IfSome result (λ k. k ≡ with_factor self b c) }

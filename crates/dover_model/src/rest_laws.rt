@@ -1,22 +1,14 @@
 //! Laws of runs that come to rest, and of jobs in parts, each the contract of a function that does nothing.
 ghost use Rattle.std.specs.Prelude.{◌≡◌, ◌≤◌, ◌+◌, ◌++◌, ◌↔◌, ℕ, List, [], ◌∷◌, map, length, false};
-ghost use Rattle.dover_model.specs.Finishes.{Finish};
-ghost use Rattle.dover_model.specs.JobFacts.{JobFacts};
-ghost use Rattle.dover_model.specs.declared.events.Event.TheVariants.{End};
-ghost use Rattle.dover_model.specs.Instance.{Rules, Instance, IsValid, with_jobs, total_value};
-ghost use Rattle.dover_model.specs.Run.{run, printed, completed_value};
-ghost use Rattle.dover_model.specs.Observed.{observed};
-ghost use Rattle.dover_model.specs.Settled.{settled};
-ghost use Rattle.dover_model.specs.Step.{Prints};
-ghost use Rattle.dover_model.specs.Schedules.{Meets, worth};
-ghost use Rattle.dover_model.specs.Bound.{IsWithin};
-ghost use Rattle.dover_model.specs.Underload.{takes_or_abandons};
-ghost use Rattle.dover_model.specs.Sound.{Each};
-ghost use Rattle.dover_model.specs.Rest.{AreOwn, instead_with, followed_by, NoneBefore, IsAtRest, end_tick, behind};
-ghost use Rattle.dover_model.specs.Rest.{before_end, Turn, turn_under, turns_jobs, turns_finishes, turns_observed};
-ghost use Rattle.dover_model.specs.Rest.{one_run, TurnsEnd, printed_turns, completed_turns, later_job, later_event};
-ghost use Rattle.dover_model.specs.Rest.{AreAnew, anew, printed_anew, completed_anew, IsTurn};
-ghost use Rattle.dover_model.specs.Parts.{part_of, IsParted, part_under, completed_in_parts, bounds_of_parts};
+ghost use Rattle.dover_model.specs.Common.{Finish, JobFacts, End, Rules, Instance, IsValid, with_jobs, total_value};
+ghost use Rattle.dover_model.specs.Common.{run, printed, completed_value, observed, settled, Prints, Meets, worth};
+ghost use Rattle.dover_model.specs.Common.{IsWithin, takes_or_abandons, Each, AreOwn, instead_with, followed_by};
+ghost use Rattle.dover_model.specs.Common.{NoneBefore, IsAtRest, end_tick, behind, before_end, Turn, turn_under};
+ghost use Rattle.dover_model.specs.Common.{turns_jobs, turns_finishes, turns_observed, one_run, TurnsEnd};
+ghost use Rattle.dover_model.specs.Common.{printed_turns, completed_turns, later_job, later_event, anew, printed_anew};
+ghost use Rattle.dover_model.specs.Common.{IsTurn, part_of};
+ghost use Rattle.dover_model.specs.Rest.{AreAnew, completed_anew};
+ghost use Rattle.dover_model.specs.Parts.{IsParted, part_under, completed_in_parts, bounds_of_parts};
 
 /// From the tick of its End on a run is at rest, and then all that it prints is settled but its End.
 pub fn all_is_settled_at_rest()

@@ -1,23 +1,14 @@
 //! Laws of how often the processor changes hands, and of what that costs, each the contract of a function that does
 //! nothing.
-ghost use Rattle.std.specs.Prelude.{None, ◌≡◌, ◌≤◌, ◌+◌, ◌-◌, ◌*◌, ℕ, List, length, true, false};
-ghost use Rattle.std.specs.List.{count_by};
-ghost use Rattle.dover_model.specs.Instance.{Instance, IsValid};
-ghost use Rattle.dover_model.specs.JobFacts.{JobFacts};
-ghost use Rattle.dover_model.specs.Schedules.{numbered, ticks_given, worth};
-ghost use Rattle.dover_model.specs.Run.{Step, run, ran, completed_value};
-ghost use Rattle.dover_model.specs.Bound.{IsWithin};
-ghost use Rattle.dover_model.specs.Finishes.{need};
-ghost use Rattle.dover_model.specs.Forward.{AreLoaded, gains_from};
-ghost use Rattle.dover_model.specs.Fraction.{Fraction};
-ghost use Rattle.dover_model.specs.Slower.{AskAtMost, IsWithinSlower, worth_by};
-ghost use Rattle.dover_model.specs.Observed.{end_state, observed};
-ghost use Rattle.dover_model.specs.State.{is_done};
-ghost use Rattle.dover_model.specs.declared.events.Task.{Task};
-ghost use Rattle.dover_model.specs.Sound.{IsMember};
-ghost use Rattle.dover_model.specs.Processor.{is_complete, is_take_of};
-ghost use Rattle.dover_model.specs.Switches.{gets, changes_hands, is_preempted, is_taken_from, is_complete_of, starts};
-ghost use Rattle.dover_model.specs.Switches.{returns, ComesBehind, may_preempt, may_take, most_changes, useful, NeedNoLess, AreOfTask};
+ghost use Rattle.std.specs.Prelude.{None, ◌≡◌, ◌≤◌, ◌+◌, ◌-◌, ◌*◌, ℕ, List, length, true, false, count_by};
+ghost use Rattle.dover_model.specs.Common.{Instance, IsValid, JobFacts, numbered, ticks_given, worth, Step, run, ran};
+ghost use Rattle.dover_model.specs.Common.{completed_value, IsWithin, need, gains_from, Fraction, IsWithinSlower};
+ghost use Rattle.dover_model.specs.Common.{worth_by, end_state, observed, is_done, Task, IsMember, is_complete};
+ghost use Rattle.dover_model.specs.Common.{is_take_of, gets, changes_hands, is_complete_of, starts, returns};
+ghost use Rattle.dover_model.specs.Common.{may_preempt, may_take, most_changes, useful, AreOfTask};
+ghost use Rattle.dover_model.specs.Forward.{AreLoaded};
+ghost use Rattle.dover_model.specs.Slower.{AskAtMost};
+ghost use Rattle.dover_model.specs.Switches.{is_preempted, is_taken_from, ComesBehind, NeedNoLess};
 
 /// A job gets the processor once, and once more for each time that it was preempted or that a take stopped it. Only
 /// jobs that are released no sooner and due before it preempt it, only jobs that are heavy against it take the
@@ -45,8 +36,8 @@ pub fn few_jobs_of_a_task_stop_a_job()
         → distance * count_by (may_take k i) jobs ≤ (i.deadline + due - (i.release + 1)) + (distance - 1) }
 {}
 
-/// Over a run the processor changes hands as often as jobs complete, preempt and take: three times for each job at most,
-/// and three times less where there are two jobs or more.
+/// Over a run the processor changes hands as often as jobs complete, preempt and take: three times for each job at
+/// most, and three times less where there are two jobs or more.
 pub fn the_processor_changes_hands_few_times()
     ensures most { (J : Instance) → IsValid J → count_by (λ x. changes_hands x.move) (run J) ≤ 3 * length J.jobs }
     ensures fewer { (J : Instance) → IsValid J → 2 ≤ length J.jobs
@@ -77,9 +68,9 @@ pub fn budgets_pay_for_changes()
         → real ≤ useful cost (ran J) (t.number, t.job) }
 {}
 
-/// Three ticks a job are enough where each job that starts or takes loads itself in its first tick, and each that is done
-/// has loaded the one behind it in its last: no job gets on that the processor doesn't hold, and a job that is done got
-/// on with all its work, if its budget is three ticks more.
+/// Three ticks a job are enough where each job that starts or takes loads itself in its first tick, and each that is
+/// done has loaded the one behind it in its last: no job gets on that the processor doesn't hold, and a job that is
+/// done got on with all its work, if its budget is three ticks more.
 pub fn three_ticks_pay_for_changes()
     ensures loaded { (J : Instance) → IsValid J → AreLoaded false false None (run J) }
     ensures had { (J : Instance) (t : Task) → IsValid J → IsMember t (end_state J).tasks

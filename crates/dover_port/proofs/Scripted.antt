@@ -1,6 +1,5 @@
 -- What the script of a port in memory gives, and where it lets a call fail.
-use Rattle.std.proofs.Common.{◌≡◌, ℕ, ◌-◌, ◌≤◌, ◌<◌, min, List, [], length, drop, ap, subst, ◌∙◌, arith}
-use Rattle.std.proofs.Common.{length-drop}
+use Rattle.std.proofs.Common.{◌≡◌, ℕ, ◌-◌, ◌≤◌, ◌<◌, min, List, [], length, drop, ap, subst, ◌∙◌, arith, length-drop}
 use Rattle.std.proofs.lemmas.List.{drop_all}
 use Rattle.dover_port.specs.MustFail.{MustFail, end_of}
 

@@ -1,9 +1,8 @@
 -- What the calls of streams leave of the moves that a port over them tells.
-use Rattle.std.specs.Prelude.{◌≡◌, ℕ, ◌<◌, ◌≤◌, List, [], ◌∷◌, ◌++◌, length, take, Option, None, Some, IfSome, IsSome}
-use Rattle.std.specs.Prelude.{◌+◌, ◌↔◌, false, true}
+use Rattle.std.proofs.Common.{◌≡◌, ℕ, ◌<◌, ◌≤◌, List, [], ◌∷◌, ◌++◌, length, take, Option, None, Some, IfSome, IsSome}
+use Rattle.std.proofs.Common.{◌+◌, ◌↔◌, false, true, refl, sym, ap, ◌∙◌, subst, append-nil, length-append, arith}
+use Rattle.std.proofs.Common.{length-take}
 use Rattle.std.specs.Io.KnownBytes.{Keeps, Appends, Consumes, IsAtEnd}
-use Rattle.std.proofs.Common.{refl, sym, ap, ◌∙◌, subst, append-nil, length-append, arith}
-use Rattle.std.proofs.lemmas.List.{length-take}
 use Rattle.dover_port.specs.Moves.{Move, Adds, outs, read_move}
 use Rattle.dover_port.specs.Moves.Move.{Put}
 use Rattle.dover_port.specs.Told.{begun, grown, left_of}

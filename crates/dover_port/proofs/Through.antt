@@ -1,7 +1,6 @@
 -- Texts that pass through a buffer, one behind another.
-use Rattle.std.proofs.Common.{◌≡◌, ℕ, List, [], ◌++◌, Option, length-append, arith, sym, ap, ◌∙◌}
-use Rattle.std.proofs.Common.{append_assoc}
-use Rattle.std.proofs.lemmas.List.{append-nil}
+use Rattle.std.proofs.Common.{◌≡◌, ℕ, List, [], ◌++◌, Option, length-append, arith, sym, ap, ◌∙◌, append_assoc}
+use Rattle.std.proofs.Common.{append-nil}
 use Rattle.dover_port.specs.Moves.{IsProperPrefix, Passes, CutsShort, Move, ArePuts, outs}
 use Rattle.dover_port.proofs.Made.{since_none, since_then, since_weaker, ArePuts-append, outs-append}
 

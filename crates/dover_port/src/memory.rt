@@ -1,7 +1,5 @@
 ghost use Rattle.std.specs.Prelude.{◌≡◌, ◌≢◌, ◌+◌, ◌-◌, ◌<◌, ◌≤◌, ◌↔◌, [], ◌∷◌, ◌++◌, length, take, drop, map, Some};
-ghost use Rattle.std.specs.Prelude.{IfOk, OnErr, IsErr, IsTrue, vec_len};
-ghost use Rattle.std.specs.Prelude.{vec_capacity};
-ghost use Rattle.std.specs.List.{flat_map};
+ghost use Rattle.std.specs.Prelude.{IfOk, OnErr, IsErr, IsTrue, vec_len, vec_capacity, flat_map};
 ghost use Rattle.dover_port.specs.Causes.{HasCause, StopsAtFailure};
 ghost use Rattle.dover_port.specs.Moves.{Adds, read_move, ins, outs};
 ghost use Rattle.dover_port.specs.Moves.Move.{Put};

@@ -1,19 +1,16 @@
 -- That words ask for one thing at most.
-use Rattle.std.proofs.Common.{◌≡◌, ℕ, ◌+◌, ◌-◌, ◌<◌, ◌^◌, List, [], ◌∷◌, String, get_or, decimal, sym, ap, ◌∙◌}
-use Rattle.std.proofs.Common.{take, length-drop}
-use Rattle.std.proofs.Common.{subst, arith, drop, length, refl, suc, zero, string_bytes, Option, Some, None, IsTrue}
-use Rattle.std.specs.Prelude.{codes, bytes_eq, unwrap_or, if◌then◌else◌}
-use Rattle.std.proofs.lemmas.List.{take_all}
+use Rattle.std.proofs.Common.{◌≡◌, ℕ, ◌+◌, ◌-◌, ◌<◌, ◌^◌, List, [], ◌∷◌, String, get_or, decimal, sym, ap, ◌∙◌, take}
+use Rattle.std.proofs.Common.{length-drop, subst, arith, drop, length, refl, suc, zero, string_bytes, Option, Some}
+use Rattle.std.proofs.Common.{None, IsTrue, codes, bytes_eq, unwrap_or, if◌then◌else◌, take_all}
 use Rattle.std.specs.declared.alloc.Global.{Global}
 use Rattle.trace_words.specs.declared.report.form.Form.{Form}
 use Rattle.trace_words.specs.declared.report.form.Form.TheVariants.{Text, Table, Chrome, Why, Timeline, Svg}
 use Rattle.stated_jobs.specs.declared.duel.links.Share.{Share}
 use Rattle.stated_jobs.specs.duel.Kept.{IsShare}
 use Rattle.run_reports.specs.declared.views.window.Window.{Window}
-use Rattle.dover_model.specs.Fraction.{Fraction, IsRatio, fraction, is_some_factor}
+use Rattle.dover_model.specs.Common.{Fraction, IsRatio, fraction, is_some_factor, numeral}
 use Rattle.dover_model.specs.declared.factors.Factor.{Factor}
-use Rattle.dover_model.specs.Numerals.{numeral}
-use Rattle.dover_model.proofs.Numerals.{numeral-decimal}
+use Rattle.dover_model.proofs.texts.Numerals.{numeral-decimal}
 use Rattle.dover_top.specs.Requests.{Asks}
 use Rattle.dover_top.specs.Words.{IsFormed, factor_words, form_words, spelled}
 use Rattle.dover_top.specs.declared.request.Request.{Request}
@@ -22,7 +19,7 @@ use Rattle.dover_top.specs.declared.request.Request.TheVariants.{Resume, Unroll,
 use Rattle.feed_words.specs.declared.serve.at_end.AtEnd.{AtEnd}
 use Rattle.feed_words.specs.declared.serve.at_end.AtEnd.TheVariants as ends
 use Rattle.question_words.specs.declared.question.Question.TheVariants.{Feasible, Best, Compare, Loss}
-use Rattle.dover_model.proofs.JobLimits.{ratio_limits, factor_limits}
+use Rattle.dover_model.proofs.valid.JobLimits.{ratio_limits, factor_limits}
 
 -- ---- words read as what they ask for, if they ask for something
 

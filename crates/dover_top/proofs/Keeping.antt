@@ -1,26 +1,20 @@
 -- What is promised of what was read and written.
 use Rattle.std.proofs.Common.{◌≡◌, ◌≤◌, ℕ, List, ◌++◌, Bool, true, refl, sym, ap, ◌∙◌, inl, inr, subst, take, drop}
-use Rattle.std.proofs.Common.{Option, Some, None}
-use Rattle.std.proofs.lemmas.List.{take-append-drop}
-use Rattle.dover_model.specs.Instance.{Instance, IsValid, jobs_under}
-use Rattle.dover_model.specs.JobFacts.{JobFacts}
-use Rattle.dover_model.specs.Session.{instance_of, IsDeclarable, takes_factors}
-use Rattle.dover_model.specs.Verdict.{verdict}
-use Rattle.dover_model.specs.Due.{due}
-use Rattle.dover_model.specs.Feed.{account, is_ended, is_open}
-use Rattle.dover_model.specs.Fraction.{Fraction, IsRatio}
+use Rattle.std.proofs.Common.{Option, Some, None, take-append-drop}
+use Rattle.dover_model.specs.Common.{Instance, IsValid, jobs_under, JobFacts, instance_of, IsDeclarable, verdict, due}
+use Rattle.dover_model.specs.Common.{account, is_ended, is_open, Fraction, IsRatio, most_jobs}
+use Rattle.dover_model.specs.Session.{takes_factors}
 use Rattle.dover_model.specs.declared.factors.Factor.{Factor}
 use Rattle.dover_model.specs.declared.events.Version.{Version}
-use Rattle.dover_model.specs.Limits.{most_jobs}
 use Rattle.dover_model.specs.declared.events.Version.TheVariants.{One, Two}
-use Rattle.dover_model.proofs.Accepting.{feed_hands, feed_accepted}
-use Rattle.dover_model.proofs.AcceptedTexts.{accepted_is_trace}
-use Rattle.dover_model.proofs.BoundLaws.{bound, observed_bound}
-use Rattle.dover_model.proofs.Honest.{observed_honest, observed_all}
-use Rattle.dover_model.proofs.Meeting.{on_line_finishes}
-use Rattle.dover_model.proofs.Runs.{none_lost, all_value}
-use Rattle.dover_model.proofs.Tests.{never}
-use Rattle.dover_model.proofs.Valid.{valid_front}
+use Rattle.dover_model.proofs.traces.Accepting.{feed_hands, feed_accepted}
+use Rattle.dover_model.proofs.traces.AcceptedTexts.{accepted_is_trace}
+use Rattle.dover_model.proofs.bound.BoundLaws.{bound, observed_bound}
+use Rattle.dover_model.proofs.runs.Honest.{observed_honest, observed_all}
+use Rattle.dover_model.proofs.finishes.Meeting.{on_line_finishes}
+use Rattle.dover_model.proofs.runs.Runs.{none_lost, all_value}
+use Rattle.dover_model.proofs.lists.Tests.{never}
+use Rattle.dover_model.proofs.valid.Valid.{valid_front}
 use Rattle.dover_port.specs.Moves.{Move, ins, outs, has_ended}
 use Rattle.dover_port.specs.declared.status.Status.TheVariants.{Done, Refused}
 use Rattle.feed_words.specs.serve.Talk.{PausesAt, IsServedAs}
@@ -43,13 +37,13 @@ use Rattle.stated_jobs.specs.duel.Game.{AreValid}
 use Rattle.stated_jobs.proofs.duel.Losing.{each_loses}
 use Rattle.event_feed.specs.Feeds.{IsFeedOf, feed_of}
 use Rattle.event_feed.proofs.FeedsOfJobs.{feed_is}
-use Rattle.dover_model.proofs.JobSessions.{jobs_never}
+use Rattle.dover_model.proofs.sessions.JobSessions.{jobs_never}
 use Rattle.trial_words.specs.Dueled.{duel_front}
 use Rattle.trial_words.specs.Lists.{trial_instance}
 use Rattle.trial_words.specs.Baited.{bait_instance}
 use Rattle.dover_top.specs.Promises.{KeepsPromises, IsTraceOf, IsResumed, IsAccepted, KeepsBaits, IsRun, KeepsDuel}
-use Rattle.dover_model.proofs.SessionParts.{session_jobs}
-use Rattle.dover_model.proofs.ValidParts.{valid_parts}
+use Rattle.dover_model.proofs.sessions.SessionParts.{session_jobs}
+use Rattle.dover_model.proofs.valid.ValidParts.{valid_parts}
 
 -- the run of a valid list keeps the promises
 pub promises_of : (J : Instance) → IsValid J → KeepsPromises J

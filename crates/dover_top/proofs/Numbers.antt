@@ -1,7 +1,7 @@
 -- Numbers among the words.
 use Rattle.std.proofs.Common.{◌≡◌, ℕ, ◌<◌, ◌^◌, List, Some, None, decimal, sym, ap, ◌∙◌}
 use Rattle.dover_model.specs.Numerals.{numeral}
-use Rattle.dover_model.proofs.Numerals.{numeral-decimal}
+use Rattle.dover_model.proofs.texts.Numerals.{numeral-decimal}
 
 -- a word that spells a number is read as it
 read_so : (bs : List ℕ) (n : ℕ) → n < 10 ^ 18 → bs ≡ decimal n → numeral bs ≡ Some n

@@ -1,32 +1,24 @@
 -- What stands of a feed so far, and of what was written for it.
 use Rattle.std.proofs.Common.{◌≡◌, ◌⊎◌, inl, inr, ℕ, suc, List, [], ◌∷◌, ◌++◌, length, refl, sym, ap, ◌∙◌, subst, arith}
-use Rattle.std.proofs.Common.{Bool, true, false, cond, Option, None, Some}
-use Rattle.std.specs.Prelude.{nat_lt}
-use Rattle.std.specs.List.{fold}
-use Rattle.dover_model.specs.Instance.{Instance, IsValid}
+use Rattle.std.proofs.Common.{Bool, true, false, cond, Option, None, Some, nat_lt, fold}
+use Rattle.dover_model.specs.Common.{Instance, IsValid, due, decided_lines, short_lines, Account, account, no_lines}
+use Rattle.dover_model.specs.Common.{is_ended, next_line, with_line, with_good_line, with_fault, with_refused_at}
+use Rattle.dover_model.specs.Common.{most_lines_in, cause_of, Cause, Lines, Line, Declared, Order, NotAdmitted, NotDone}
+use Rattle.dover_model.specs.Common.{Standing, Open, Ended, Faulty, FeedLine, RatioLine, FactorLine, JobLine, TickLine}
+use Rattle.dover_model.specs.Common.{DoneLine, EndLine, feed_line, JobFacts, in_lines, lines_of, whole_lines, run}
+use Rattle.dover_model.specs.Common.{printed, event_of, Session, instance_of, refuses_lines, refused_mark, settled}
+use Rattle.dover_model.specs.Common.{Each, IsMember, Move as Step, Prints, Waits, Ticks, takes_or_abandons, Begins}
 use Rattle.dover_model.specs.declared.events.Refusal.{Refusal}
-use Rattle.dover_model.specs.Due.{due, decided_lines, fault_lines, short_lines}
-use Rattle.dover_model.specs.Feed.{Account, account, no_lines, is_ended, next_line, with_line, with_good_line}
-use Rattle.dover_model.specs.Feed.{with_fault, with_refused_job, with_refused_at, most_lines_in, cause_of}
-use Rattle.dover_model.specs.Feed.{Cause, Lines, Line, Declared, Order, NotAdmitted, NotDone, Short}
-use Rattle.dover_model.specs.Feed.{Standing, Open, Ended, Faulty}
-use Rattle.dover_model.specs.FeedLine.{FeedLine, RatioLine, FactorLine, JobLine, TickLine, DoneLine, EndLine, feed_line}
-use Rattle.dover_model.specs.JobFacts.{JobFacts}
-use Rattle.dover_model.specs.Lines.{in_lines, lines_of, whole_lines}
-use Rattle.dover_model.specs.Run.{run, printed, event_of}
-use Rattle.dover_model.specs.Session.{Session, instance_of, refuses_lines, refused_mark}
-use Rattle.dover_model.specs.Settled.{settled}
-use Rattle.dover_model.specs.Sound.{Each, IsMember}
-use Rattle.dover_model.specs.Step.{Move as Step, Prints, Waits, Ticks}
-use Rattle.dover_model.specs.Underload.{takes_or_abandons}
-use Rattle.dover_model.specs.WholeRun.{Begins}
-use Rattle.dover_model.proofs.Accounts.{IsKept as KeepsAccount, lines_goes, HoldsBy}
-use Rattle.dover_model.proofs.Beginnings.{begins_itself, begins_all, begins_onward, begins_behind, in_lines-append}
-use Rattle.dover_model.proofs.Growing.{settled_of_run}
-use Rattle.dover_model.proofs.Meeting.{given_by}
-use Rattle.dover_model.proofs.Members.{some_same, member_front, heads, tails}
-use Rattle.dover_model.proofs.Runs.{none_lost}
-use Rattle.dover_model.proofs.Tests.{none_is_some}
+use Rattle.dover_model.specs.Due.{fault_lines}
+use Rattle.dover_model.specs.Feed.{with_refused_job, Short}
+use Rattle.dover_model.proofs.sessions.Accounts.{IsKept as KeepsAccount, lines_goes, HoldsBy}
+use Rattle.dover_model.proofs.lists.Beginnings.{begins_itself, begins_all, begins_onward, begins_behind}
+use Rattle.dover_model.proofs.lists.Beginnings.{in_lines-append}
+use Rattle.dover_model.proofs.sessions.Growing.{settled_of_run}
+use Rattle.dover_model.proofs.finishes.Meeting.{given_by}
+use Rattle.dover_model.proofs.lists.Members.{some_same, member_front, heads, tails}
+use Rattle.dover_model.proofs.runs.Runs.{none_lost}
+use Rattle.dover_model.proofs.lists.Tests.{none_is_some}
 use Rattle.dover_port.specs.Moves.{Move, outs, has_ended}
 use Rattle.dover_port.specs.declared.status.Status.{Status}
 use Rattle.dover_port.specs.declared.status.Status.TheVariants.{Done, No, Refused, ReadFault, WriteFault, Memory, Usage}

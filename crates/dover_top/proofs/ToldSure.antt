@@ -1,12 +1,7 @@
 -- What is promised of tasks that are told sure.
-use Rattle.std.proofs.Common.{◌≡◌, ℕ, List, [], ◌∷◌, Bool, true, ap, ◌∙◌, inl, inr, cond, codes}
-use Rattle.std.specs.Prelude.{nat_lt}
+use Rattle.std.proofs.Common.{◌≡◌, ℕ, List, [], ◌∷◌, Bool, true, ap, ◌∙◌, inl, inr, cond, codes, nat_lt}
 use Rattle.std.proofs.lemmas.Bool.{and_parts}
-use Rattle.dover_model.specs.Fraction.{Fraction}
-use Rattle.dover_model.specs.Limits.{most_value}
-use Rattle.dover_model.specs.Lines.{with_numbers}
-use Rattle.dover_model.specs.Orders.{is_heavy}
-use Rattle.dover_model.specs.Sure.{Stream, stream_at, is_spread}
+use Rattle.dover_model.specs.Common.{Fraction, most_value, with_numbers, is_heavy, Stream, stream_at, is_spread}
 use Rattle.dover_port.specs.Moves.{Move, ins, outs}
 use Rattle.dover_port.specs.declared.status.Status.TheVariants.{Done, Refused}
 use Rattle.root_compare.specs.Least.{least_heavy}

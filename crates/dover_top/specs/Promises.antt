@@ -1,28 +1,12 @@
 -- What is promised of what was read and written.
-use Rattle.std.specs.Prelude.{◌≡◌, ◌≢◌, ◌<◌, ◌⊎◌, ℕ, List, [], ◌++◌, true, false, Option, Some}
-use Rattle.std.specs.Prelude.{if◌then◌else◌}
-use Rattle.std.specs.List.{sum_by}
-use Rattle.dover_model.specs.Instance.{Instance, IsValid, bare}
-use Rattle.dover_model.specs.Session.{Session, IsValidSession, instance_of}
-use Rattle.dover_model.specs.Bait.{bait_plan, plan_value}
-use Rattle.dover_model.specs.Bound.{IsWithin}
-use Rattle.dover_model.specs.Due.{due, decided_lines}
-use Rattle.dover_model.specs.Feed.{Account, account, is_ended}
-use Rattle.dover_model.specs.Lines.{in_lines}
+use Rattle.std.specs.Prelude.{◌≡◌, ◌≢◌, ◌<◌, ◌⊎◌, ℕ, List, [], ◌++◌, true, false, Option, Some, if◌then◌else◌, sum_by}
+use Rattle.dover_model.specs.Common.{Instance, IsValid, bare, Session, IsValidSession, instance_of, bait_plan}
+use Rattle.dover_model.specs.Common.{plan_value, IsWithin, due, decided_lines, Account, account, is_ended, in_lines}
+use Rattle.dover_model.specs.Common.{Fraction, observed, printed_up_to, finishes_up_to, known_at, run, ran, printed}
+use Rattle.dover_model.specs.Common.{completed_value, worth, Meets, settled, Each, Prints, trace_of_session}
+use Rattle.dover_model.specs.Common.{takes_or_abandons, Accepted, verdict, Begins}
 use Rattle.dover_model.specs.declared.events.Event.{Event}
 use Rattle.dover_model.specs.declared.events.Version.TheVariants.{One}
-use Rattle.dover_model.specs.Fraction.{Fraction}
-use Rattle.dover_model.specs.Observed.{observed}
-use Rattle.dover_model.specs.Online.{printed_up_to, finishes_up_to, known_at}
-use Rattle.dover_model.specs.Run.{run, ran, printed, completed_value}
-use Rattle.dover_model.specs.Schedules.{worth, Meets}
-use Rattle.dover_model.specs.Settled.{settled}
-use Rattle.dover_model.specs.Sound.{Each}
-use Rattle.dover_model.specs.Step.{Prints}
-use Rattle.dover_model.specs.Trace.{trace_of_session}
-use Rattle.dover_model.specs.Underload.{takes_or_abandons}
-use Rattle.dover_model.specs.Verdict.{Accepted, verdict}
-use Rattle.dover_model.specs.WholeRun.{Begins}
 use Rattle.dover_port.specs.Moves.{Move, ins, outs}
 use Rattle.stated_jobs.specs.bait.BaitingRuns.{CompletesLastAlone}
 use Rattle.stated_jobs.specs.declared.duel.links.Share.{Share}

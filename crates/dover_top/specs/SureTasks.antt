@@ -1,11 +1,7 @@
 -- What is promised of tasks that are told sure.
 use Rattle.std.specs.Prelude.{◌≡◌, ℕ, List, [], ◌∷◌, true, Some, codes}
-use Rattle.dover_model.specs.Instance.{Declaration, Instance, IsValid}
-use Rattle.dover_model.specs.JobFacts.{JobFacts}
-use Rattle.dover_model.specs.Lines.{in_lines, with_numbers}
-use Rattle.dover_model.specs.Schedules.{numbered}
-use Rattle.dover_model.specs.Sound.{IsMember}
-use Rattle.dover_model.specs.Sure.{AreOfStreams, IsCompleted, IsOfStream, stream_at}
+use Rattle.dover_model.specs.Common.{Declaration, Instance, IsValid, JobFacts, in_lines, with_numbers, numbered}
+use Rattle.dover_model.specs.Common.{IsMember, AreOfStreams, IsCompleted, IsOfStream, stream_at}
 use Rattle.dover_port.specs.Moves.{Move, ins, outs}
 use Rattle.task_words.specs.reading.Account.{account}
 use Rattle.task_words.specs.sure.Lines.{sure_line, sure_lines}

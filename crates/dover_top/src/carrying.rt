@@ -6,6 +6,7 @@ ghost use Rattle.dover_top.specs.Carrying.{CarriesOut};
 ghost use Rattle.dover_top.specs.Requests.{Asks};
 
 use crate::request::Request;
+use comparison_count::Comparisons;
 use dover_port::{Port, Status};
 use feed_words::resume::resume_word;
 use feed_words::serve::{pause_word, serve_word};
@@ -13,7 +14,6 @@ use lanes_word::lanes_word;
 use question_words::question_word;
 use std::alloc::Global;
 use std::sync::ledger::Ledger;
-use step_count::Steps;
 use task_words::asking::{TaskQuestion, tasks_word};
 use trace_words::judge::judge_word;
 use trace_words::report::report_word;
@@ -24,27 +24,37 @@ pub(crate) fn carry_out<P: Port, L: Ledger>(
     alloc: Global,
     request: Request,
     port: &mut P,
-    steps: &mut Steps<L>,
+    comparisons: &mut Comparisons<L>,
 ) -> Status
     requires { (words : List (String Global)) × Asks words request }
-    ensures carries { CarriesOut request result (P.moves port.old) (P.moves port.new) steps.old steps.new }
+    ensures carries { CarriesOut request result (P.moves port.old) (P.moves port.new) comparisons.old comparisons.new }
     ensures causes { Causes result (P.read_faults port.old) (P.read_faults port.new) (P.write_faults port.old)
         (P.write_faults port.new) }
     ensures stops { StopsWith result (P.calls port.old) (P.calls port.new) }
 {
     match request {
-        Request::Serve => serve_word(alloc, port, steps),
-        Request::Judge => judge_word(alloc, port, steps),
-        Request::Report(form) => report_word(alloc, port, form, steps),
-        Request::Trial { seed, count, k } => trial_word(alloc, port, seed, count, k, steps),
+        Request::Serve => serve_word(alloc, port, comparisons),
+        Request::Judge => judge_word(alloc, port, comparisons),
+        Request::Report(form) => report_word(alloc, port, form, comparisons),
+        Request::Trial { seed, count, k } => trial_word(alloc, port, seed, count, k, comparisons),
         Request::Bait { k, rounds } => bait_word(port, k, rounds),
-        Request::Ask(question) => question_word(alloc, port, question, steps),
-        Request::Lanes => lanes_word(alloc, port, steps),
-        Request::Pause => pause_word(alloc, port, steps),
-        Request::Resume(at_end) => resume_word(alloc, port, at_end, steps),
-        Request::Unroll { until } => tasks_word(alloc, port, TaskQuestion::Unroll { until }, steps),
-        Request::Sure => tasks_word(alloc, port, TaskQuestion::Sure, steps),
-        Request::Budget { cost } => tasks_word(alloc, port, TaskQuestion::Budget { cost }, steps),
+        Request::Ask(question) => question_word(alloc, port, question, comparisons),
+        Request::Lanes => lanes_word(alloc, port, comparisons),
+        Request::Pause => pause_word(alloc, port, comparisons),
+        Request::Resume(at_end) => resume_word(alloc, port, at_end, comparisons),
+        Request::Unroll { until } => tasks_word(
+            alloc,
+            port,
+            TaskQuestion::Unroll { until },
+            comparisons,
+        ),
+        Request::Sure => tasks_word(alloc, port, TaskQuestion::Sure, comparisons),
+        Request::Budget { cost } => tasks_word(
+            alloc,
+            port,
+            TaskQuestion::Budget { cost },
+            comparisons,
+        ),
         Request::Duel { k, share, front } => duel_word(port, k, share, front),
         Request::Draw { seed, count, k } => draw_word(port, seed, count, k),
     }

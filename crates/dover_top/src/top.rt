@@ -11,10 +11,10 @@ ghost use Rattle.dover_top.specs.Spending.{IsFrugal, IsFrugalAsAsked};
 
 use crate::carrying::carry_out;
 use crate::request::asked;
+use comparison_count::Comparisons;
 use dover_port::{Port, Status};
 use std::alloc::Global;
 use std::sync::ledger::Ledger;
-use step_count::Steps;
 
 /// Does what the words ask for. The rows of words:
 ///
@@ -70,7 +70,7 @@ pub fn dover<P: Port, L: Ledger>(
     alloc: Global,
     words: &[String],
     port: &mut P,
-    steps: &mut Steps<L>,
+    comparisons: &mut Comparisons<L>,
 ) -> Status
     // What was got and put before each read, and in all, by the status.
     ensures talks { (request : Request) → Asks words.now request →
@@ -88,10 +88,10 @@ pub fn dover<P: Port, L: Ledger>(
     // lane as serving its feed alone may. unroll makes at most d * (t + 4 * n) for t tasks that release n jobs, where
     // t + 1 has at most d binary digits. sure and budget make none.
     ensures comparisons { (request : Request) → Asks words.now request →
-        Since (P.moves port.old) (P.moves port.new) (IsFrugal request steps.old steps.new) }
+        Since (P.moves port.old) (P.moves port.new) (IsFrugal request comparisons.old comparisons.new) }
     // trial at Done, where the words alone tell how many jobs there are; bait, duel and draw make none.
     ensures stated { (request : Request) → Asks words.now request →
-        IsFrugalAsAsked request steps.old steps.new }
+        IsFrugalAsAsked request comparisons.old comparisons.new }
 
     // A fault comes only where its count rose in this call, and each count rises for its own fault alone. So where none
     // rose, what was read has its answer, or there was no memory.
@@ -105,7 +105,7 @@ pub fn dover<P: Port, L: Ledger>(
     ensures idle { result ≡ Status.Usage → port.new ≡ port.old }
 {
     match asked(words) {
-        Some(request) => carry_out(alloc, request, port, steps),
+        Some(request) => carry_out(alloc, request, port, comparisons),
         None => Status::Usage,
     }
 }

@@ -1,15 +1,11 @@
 -- What is kept behind a job line: once its job is accepted, and where that finds no room.
 use Rattle.std.proofs.Common.{◌≡◌, ◌<◌, ◌≤◌, ◌+◌, ℕ, length, sym, ap, ◌∙◌, subst, arith, cond, true, false, IfSome}
 use Rattle.std.proofs.Common.{Option, Some, None, Ok}
-use Rattle.dover_model.specs.Limits.{most_jobs, most_total}
+use Rattle.dover_model.specs.Common.{most_jobs, most_total, JobFacts, total_value, Session, JobItem, RefusedJob}
+use Rattle.dover_model.specs.Common.{Refused, refused_at, admitted_jobs, with_item, instance_of, is_full, Account}
 use Rattle.dover_model.specs.declared.events.Refusal.TheVariants.{Full}
-use Rattle.dover_model.specs.JobFacts.{JobFacts}
-use Rattle.dover_model.specs.Instance.{total_value}
-use Rattle.dover_model.specs.Session.{Session, JobItem, RefusedJob, Refused, refused_at, admitted_jobs, with_item}
-use Rattle.dover_model.specs.Session.{instance_of, is_full}
-use Rattle.dover_model.specs.Feed.{Account}
-use Rattle.dover_model.proofs.Admitting.{Admitted, not_refused}
-use Rattle.dover_model.proofs.Growing.{refused_instance}
+use Rattle.dover_model.proofs.valid.Admitting.{Admitted, not_refused}
+use Rattle.dover_model.proofs.sessions.Growing.{refused_instance}
 use Rattle.admission.specs.Kept as admission
 use Rattle.event_feed.specs.declared.faults.FeedFault.{FeedFault}
 use Rattle.event_feed.specs.declared.fed.Fed.TheVariants as fed

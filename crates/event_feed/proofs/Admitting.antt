@@ -1,27 +1,19 @@
 -- How many jobs the account of a feed has admitted, and was offered, as it is read.
 use Rattle.std.proofs.Common.{◌≡◌, ◌≤◌, ◌+◌, ℕ, suc, List, ◌∷◌, ◌++◌, [], length, refl, sym, ap, ◌∙◌, subst}
-use Rattle.std.proofs.Common.{append_assoc, length-append}
-use Rattle.std.proofs.Common.{Option, Some, None, Bool, true, false, cond, arith}
-use Rattle.std.specs.Prelude.{nat_lt, max, ◌||◌}
-use Rattle.std.specs.List.{fold, count_by}
-use Rattle.std.specs.Option.{option_map, option_map_or}
-use Rattle.std.proofs.lemmas.Bool.{lt-ltb, ltb-true}
-use Rattle.std.proofs.lemmas.List.{append-nil}
+use Rattle.std.proofs.Common.{append_assoc, length-append, Option, Some, None, Bool, true, false, cond, arith, nat_lt}
+use Rattle.std.proofs.Common.{max, ◌||◌, fold, count_by, option_map, lt-ltb, ltb-true, append-nil}
+use Rattle.std.specs.Option.{option_map_or}
 use Rattle.std.proofs.lemmas.List.Elements.{filter_map-append}
 use Rattle.std.proofs.lemmas.List.Sums.{sum_by-append}
-use Rattle.dover_model.specs.Limits.{most_lines, last_tick}
-use Rattle.dover_model.specs.JobFacts.{JobFacts}
+use Rattle.dover_model.specs.Common.{most_lines, last_tick, JobFacts, Session, Item, JobItem, RefusedItem, FinishItem}
+use Rattle.dover_model.specs.Common.{Refused, EarlyFinish, refused_at, refused_done_at, with_item, with_named, early_at}
+use Rattle.dover_model.specs.Common.{is_right, refusal_in, refused_mark, late_refusal, may_finish_early, admitted_jobs}
+use Rattle.dover_model.specs.Common.{job_of_item, refuses_lines, FeedLine, RatioLine, FactorLine, JobLine, TickLine}
+use Rattle.dover_model.specs.Common.{DoneLine, EndLine, feed_line, Account, Standing, Lines, Line, is_open, next_line}
+use Rattle.dover_model.specs.Common.{read_line, with_line, with_fault, with_refused_at, later_line_cause, late_cause}
+use Rattle.dover_model.specs.Common.{Order, NotAdmitted, NotDone, account}
 use Rattle.dover_model.specs.declared.events.Refusal.{Refusal}
-use Rattle.dover_model.specs.Session.{Session, Item, JobItem, RefusedItem, FinishItem, Refused, EarlyFinish}
-use Rattle.dover_model.specs.Session.{refused_at, refused_done_at, with_item, with_named, early_at}
-use Rattle.dover_model.specs.Session.{is_right, refusal_in, refused_mark}
-use Rattle.dover_model.specs.Session.{late_refusal, may_finish_early}
-use Rattle.dover_model.specs.Session.{admitted_jobs, job_of_item}
-use Rattle.dover_model.specs.Session.{refuses_lines}
-use Rattle.dover_model.specs.FeedLine.{FeedLine, RatioLine, FactorLine, JobLine, TickLine, DoneLine, EndLine, feed_line}
-use Rattle.dover_model.specs.Feed.{Account, Standing, Lines, Line, is_open, next_line, read_line, with_line, with_fault}
-use Rattle.dover_model.specs.Feed.{with_refused_at, later_line_cause, late_cause, Order, NotAdmitted, NotDone, account}
-use Rattle.dover_model.proofs.Accounts.{account_append}
+use Rattle.dover_model.proofs.sessions.Accounts.{account_append}
 use Rattle.event_feed.specs.Answers.{admitted_in}
 use Rattle.event_feed.specs.Listing.{is_offered, offered_in, has_too_many}
 

@@ -3,12 +3,11 @@ use Rattle.std.proofs.Common.{◌≡◌, ℕ, List, [], ◌∷◌, ◌++◌, app
 use Rattle.std.proofs.Common.{cond, codes, Some, None}
 use Rattle.std.specs.List.{AllByRecursion, fold}
 use Rattle.std.proofs.lemmas.List.Sums.{fold-append}
-use Rattle.dover_model.specs.JobFacts.{job_numbers}
-use Rattle.dover_model.specs.Lines.{in_lines, lines_of, whole_lines, rest_of, cut, is_too_long}
-use Rattle.dover_model.specs.FeedLine.{FeedLine, RatioLine, FactorLine, JobLine, TickLine, DoneLine, EndLine, feed_text}
-use Rattle.dover_model.specs.Feed.{next_line, no_lines, account}
-use Rattle.dover_model.proofs.NoFeeds.{feedless_numbers}
-use Rattle.dover_model.proofs.Cuts.{CutText, HasNoFeed, onto, cut_append, cut_in_lines}
+use Rattle.dover_model.specs.Common.{job_numbers, in_lines, lines_of, whole_lines, rest_of, cut, is_too_long, FeedLine}
+use Rattle.dover_model.specs.Common.{RatioLine, FactorLine, JobLine, TickLine, DoneLine, EndLine, feed_text, next_line}
+use Rattle.dover_model.specs.Common.{no_lines, account}
+use Rattle.dover_model.proofs.texts.NoFeeds.{feedless_numbers}
+use Rattle.dover_model.proofs.texts.Cuts.{CutText, HasNoFeed, onto, cut_append, cut_in_lines}
 
 -- a line of a feed
 pub feedless_feed : (line : FeedLine) → HasNoFeed (feed_text line)

@@ -1,17 +1,13 @@
 -- Each line of an open account is counted.
 use Rattle.std.proofs.Common.{◌≡◌, ℕ, suc, ◌+◌, List, [], ◌∷◌, length, refl, cond, Bool, true, false, Option, Some}
-use Rattle.std.proofs.Common.{None, arith}
-use Rattle.std.specs.List.{fold}
-use Rattle.std.specs.Prelude.{nat_lt}
+use Rattle.std.proofs.Common.{None, arith, fold, nat_lt}
 use Rattle.dover_model.specs.declared.events.Refusal.{Refusal}
-use Rattle.dover_model.specs.JobFacts.{JobFacts}
-use Rattle.dover_model.specs.Session.{Session, refuses_lines, refused_mark}
-use Rattle.dover_model.specs.FeedLine.{FeedLine, RatioLine, FactorLine, JobLine, TickLine, DoneLine, EndLine, feed_line}
+use Rattle.dover_model.specs.Common.{JobFacts, Session, refuses_lines, refused_mark, FeedLine, RatioLine, FactorLine}
+use Rattle.dover_model.specs.Common.{JobLine, TickLine, DoneLine, EndLine, feed_line, Account, Cause, Standing, Open}
+use Rattle.dover_model.specs.Common.{Ended, Faulty, cause_of, with_line, with_fault, with_refused_at, read_line}
+use Rattle.dover_model.specs.Common.{next_line, no_lines, account_of_lines, NotAdmitted, most_lines_in}
 use Rattle.dover_model.specs.Feed as model
-use Rattle.dover_model.specs.Feed.{Account, Cause, Standing, Open, Ended, Faulty}
-use Rattle.dover_model.specs.Feed.{cause_of, with_line, with_fault, with_refused_at, with_refused_job, read_line}
-use Rattle.dover_model.specs.Feed.{next_line, no_lines, account_of_lines, NotAdmitted}
-use Rattle.dover_model.specs.Feed.{most_lines_in}
+use Rattle.dover_model.specs.Feed.{with_refused_job}
 
 -- the account after a refused job
 abbrev after_refusal : Account → JobFacts → Refusal → Option Session → Account

@@ -1,18 +1,13 @@
 -- A done line in a session whose jobs may finish early.
 use Rattle.std.proofs.Common.{◌≡◌, ℕ, ◌≤◌, ◌<◌, max, ◌∷◌, [], refl, sym, ap, ◌∙◌, subst, cond, Option, Some, None, Ok}
-use Rattle.std.proofs.Common.{Bool, true, false, arith}
-use Rattle.std.specs.Prelude.{nat_lt, nat_le, is_some, ◌&&◌}
-use Rattle.std.specs.Option.{option_map}
-use Rattle.std.proofs.lemmas.Bool.{le-ltb, lt-leb, leb-true, and_parts}
-use Rattle.dover_model.specs.Limits.{last_tick}
-use Rattle.dover_model.specs.Numerals.{AreShort}
-use Rattle.dover_model.specs.Session.{Session, FinishItem, EarlyFinish, RefusedDone, may_finish_early, is_right}
-use Rattle.dover_model.specs.Session.{early_at}
-use Rattle.dover_model.specs.Session.{with_named, with_item, refused_done_at, admitted_jobs}
-use Rattle.dover_model.specs.FeedLine.{DoneLine}
-use Rattle.dover_model.specs.Feed.{Account, Cause, NotDone, Order, Line, cause_of, with_line}
-use Rattle.dover_model.specs.Feed.{with_good_line, with_refused_done}
-use Rattle.dover_model.proofs.Growing.{finish_instance, refused_instance}
+use Rattle.std.proofs.Common.{Bool, true, false, arith, nat_lt, nat_le, is_some, ◌&&◌, option_map, le-ltb, leb-true}
+use Rattle.std.proofs.lemmas.Bool.{lt-leb, and_parts}
+use Rattle.dover_model.specs.Common.{last_tick, AreShort, Session, FinishItem, EarlyFinish, RefusedDone}
+use Rattle.dover_model.specs.Common.{may_finish_early, is_right, early_at, with_named, with_item, refused_done_at}
+use Rattle.dover_model.specs.Common.{admitted_jobs, DoneLine, Account, Cause, NotDone, Order, Line, cause_of, with_line}
+use Rattle.dover_model.specs.Common.{with_good_line}
+use Rattle.dover_model.specs.Feed.{with_refused_done}
+use Rattle.dover_model.proofs.sessions.Growing.{finish_instance, refused_instance}
 use Rattle.admission.specs.Kept as admission
 use Rattle.event_feed.specs.declared.fed.Fed.TheVariants as fed
 use Rattle.event_feed.specs.declared.kept_session.KeptSession.{KeptSession}

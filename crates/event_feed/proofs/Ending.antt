@@ -3,11 +3,9 @@ use Rattle.std.proofs.Common.{◌≡◌, ℕ, List, ◌++◌, [], ◌∷◌, len
 use Rattle.std.proofs.Common.{true, false, cond, inl, inr, Result, Err, take, drop, append_assoc}
 use Rattle.std.proofs.lemmas.List.{append-nil, take-append-drop}
 use Rattle.dover_model.specs.Feed as feeds
-use Rattle.dover_model.specs.Feed.{no_lines, account, account_of_lines, is_open}
-use Rattle.dover_model.specs.Instance.{IsValid}
-use Rattle.dover_model.specs.JobFacts.{JobFacts}
-use Rattle.dover_model.specs.Lines.{lines_of, whole_lines, rest_of}
-use Rattle.dover_model.proofs.Accounts.{Closes, HoldsBy, lines_goes}
+use Rattle.dover_model.specs.Common.{no_lines, account, account_of_lines, is_open, IsValid, JobFacts, lines_of}
+use Rattle.dover_model.specs.Common.{whole_lines, rest_of}
+use Rattle.dover_model.proofs.sessions.Accounts.{Closes, HoldsBy, lines_goes}
 use Rattle.event_feed.specs.Answers.{EndAnswers, short_after}
 use Rattle.event_feed.specs.Kept as feed
 use Rattle.event_feed.specs.Kept.{Kept, standing_of, fault_of, cause_of_fault}
@@ -24,7 +22,7 @@ use Rattle.event_feed.specs.declared.listed.DoneLine.{DoneLine}
 use Rattle.event_feed.specs.declared.listed.Listed.{Listed}
 use Rattle.event_feed.specs.declared.reader.FeedReader.{FeedReader}
 use Rattle.event_feed.proofs.Listing.{goes_on}
-use Rattle.dover_model.proofs.SessionParts.{session_jobs}
+use Rattle.dover_model.proofs.sessions.SessionParts.{session_jobs}
 
 -- ---- the end line
 
@@ -36,14 +34,15 @@ module _ (ls : List (List ℕ)) (ended : (account_of_lines ls).standing ≡ feed
       (account_of_lines ls).lines) ended (lines_goes ls no_lines refl).0
 
   -- a feed that is ended has a session
-  pub none_ended : (jobs : List JobFacts) (dones : List DoneLine) → ListsIn None jobs dones (account_of_lines ls) → ⊥
-  none_ended jobs dones it = subst (λ s. HoldsBy feeds.Ended s (account_of_lines ls).mark
+  pub none_ended : (jobs : List JobFacts) (done_lines : List DoneLine)
+      → ListsIn None jobs done_lines (account_of_lines ls) → ⊥
+  none_ended jobs done_lines it = subst (λ s. HoldsBy feeds.Ended s (account_of_lines ls).mark
       (account_of_lines ls).lines) it.2
       ended_keeps
 
   -- its jobs are those listed
   pub ended_jobs : (listed : Listed) → has_too_many (account_of_lines ls) ≡ false
-      → ListsIn (Some (listed.ratio, listed.version)) listed.jobs.items listed.dones.items (account_of_lines ls)
+      → ListsIn (Some (listed.ratio, listed.version)) listed.jobs.items listed.done_lines.items (account_of_lines ls)
       → IsEnded listed (account_of_lines ls)
   ended_jobs listed few it =
       let closes : Closes it.named =

@@ -1,39 +1,33 @@
 -- The feed of valid jobs is read as these jobs.
-use Rattle.std.proofs.Common.{◌≡◌, ℕ, suc, ◌+◌, ◌≤◌, List, [], ◌∷◌, ◌++◌, length, map, refl, sym}
-use Rattle.std.proofs.Common.{ap, ◌∙◌, subst, append_assoc, cond}
-use Rattle.std.proofs.Common.{Option, Some, None, arith, false}
-use Rattle.std.specs.List.{AllByRecursion, fold}
+use Rattle.std.proofs.Common.{◌≡◌, ℕ, suc, ◌+◌, ◌≤◌, List, [], ◌∷◌, ◌++◌, length, map, refl, sym, ap, ◌∙◌, subst}
+use Rattle.std.proofs.Common.{append_assoc, cond, Option, Some, None, arith, false, fold, option_map, le-ltb}
+use Rattle.std.proofs.Common.{append-nil}
+use Rattle.std.specs.List.{AllByRecursion}
 use Rattle.std.specs.Bool.{then_some}
-use Rattle.std.specs.Option.{option_map, option_or}
-use Rattle.std.proofs.lemmas.Bool.{le-ltb}
-use Rattle.std.proofs.lemmas.List.{append-nil, map-append}
+use Rattle.std.specs.Option.{option_or}
+use Rattle.std.proofs.lemmas.List.{map-append}
 use Rattle.std.proofs.lemmas.List.Sums.{fold-append}
 use Rattle.dover_model.specs.declared.events.Refusal.{Refusal}
 use Rattle.dover_model.specs.declared.events.Refusal.TheVariants.{Full}
-use Rattle.dover_model.specs.Limits.{most_lines}
-use Rattle.dover_model.specs.JobFacts.{JobFacts, IsJob}
-use Rattle.dover_model.specs.Instance.{Declaration, declared_by, Instance, IsValid}
-use Rattle.dover_model.proofs.Meeting.{finishing_valid}
-use Rattle.dover_model.specs.Admission.{refusal_of}
-use Rattle.dover_model.specs.Session.{JobItem, instance_of, is_full, refusal_in, Session, session_with}
-use Rattle.dover_model.specs.Session.{IsNeverFull, IsDeclarable}
-use Rattle.dover_model.specs.Trace.{session_of}
-use Rattle.dover_model.specs.FeedLine.{JobLine, EndLine, feed_line, feed_text}
-use Rattle.dover_model.specs.Feed.{Account, Ended, Lines, NotAdmitted, late_cause, with_line, with_fault}
-use Rattle.dover_model.specs.Feed.{next_line, account_of_lines, account}
-use Rattle.dover_model.proofs.Cuts.{HasNoFeed}
-use Rattle.dover_model.proofs.FeedLines.{feed_line-feed_text}
-use Rattle.dover_model.proofs.Growing.{instance_with}
-use Rattle.dover_model.proofs.JobSessions.{from_zero, jobs_back, session_of_valid}
-use Rattle.dover_model.proofs.Limiting.{items_enough, items_of_lines}
-use Rattle.dover_model.proofs.Valid.{valid_front}
-use Rattle.dover_model.proofs.Admitting.{valid_admitted}
+use Rattle.dover_model.specs.Common.{most_lines, JobFacts, IsJob, Declaration, declared_by, Instance, IsValid}
+use Rattle.dover_model.specs.Common.{refusal_of, JobItem, instance_of, is_full, refusal_in, Session, session_with}
+use Rattle.dover_model.specs.Common.{IsNeverFull, IsDeclarable, session_of, JobLine, EndLine, feed_line, feed_text}
+use Rattle.dover_model.specs.Common.{Account, Ended, Lines, NotAdmitted, late_cause, with_line, with_fault, next_line}
+use Rattle.dover_model.specs.Common.{account_of_lines, account}
+use Rattle.dover_model.proofs.finishes.Meeting.{finishing_valid}
+use Rattle.dover_model.proofs.texts.Cuts.{HasNoFeed}
+use Rattle.dover_model.proofs.texts.FeedLines.{feed_line-feed_text}
+use Rattle.dover_model.proofs.sessions.Growing.{instance_with}
+use Rattle.dover_model.proofs.sessions.JobSessions.{from_zero, jobs_back, session_of_valid}
+use Rattle.dover_model.proofs.valid.Limiting.{items_enough, items_of_lines}
+use Rattle.dover_model.proofs.valid.Valid.{valid_front}
+use Rattle.dover_model.proofs.valid.Admitting.{valid_admitted}
 use Rattle.event_feed.specs.Reading.{open_account, rules_line}
 use Rattle.event_feed.proofs.Counting.{after_form}
 use Rattle.event_feed.proofs.Behind.{feedless_feed, lines_joined}
 use Rattle.event_feed.proofs.Saying.{rules_account, job_numerals}
 use Rattle.event_feed.specs.Feeds.{IsFeedOf, feed_of, feed_lines, job_text}
-use Rattle.dover_model.proofs.ValidParts.{ReleasesInOrder, valid_parts}
+use Rattle.dover_model.proofs.valid.ValidParts.{ReleasesInOrder, valid_parts}
 
 -- ---- line by line
 

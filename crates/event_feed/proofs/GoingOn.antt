@@ -1,21 +1,14 @@
 -- A feed that goes on has few lines and few bytes, and the account of one that doesn't stays.
 use Rattle.std.proofs.Common.{◌≡◌, ◌≤◌, ◌<◌, ◌+◌, ℕ, suc, List, ◌∷◌, ◌++◌, [], length, refl, ap, ◌∙◌, subst, Bool, true}
-use Rattle.std.proofs.Common.{false, cond}
-use Rattle.std.proofs.Common.{Option, Some, None, arith}
-use Rattle.std.specs.Prelude.{nat_lt}
-use Rattle.std.specs.List.{fold}
-use Rattle.std.proofs.lemmas.Bool.{ltb-false, ltb-true}
-use Rattle.std.proofs.lemmas.List.{append-nil}
-use Rattle.dover_model.specs.Limits.{most_lines}
+use Rattle.std.proofs.Common.{false, cond, Option, Some, None, arith, nat_lt, fold, ltb-false, ltb-true, append-nil}
+use Rattle.dover_model.specs.Common.{most_lines, in_lines, lines_of, whole_lines, rest_of, is_too_long, fields_of}
+use Rattle.dover_model.specs.Common.{FeedLine, feed_line, line_of_fields, Session, Account, Standing, Open, Ended}
+use Rattle.dover_model.specs.Common.{Faulty, Lines, Cause, no_lines, is_open, next_line, read_line, with_fault, account}
+use Rattle.dover_model.specs.Common.{most_lines_in, due, closed, fault_text}
 use Rattle.dover_model.specs.declared.events.Version.TheVariants.{Three}
-use Rattle.dover_model.specs.Lines.{in_lines, lines_of, whole_lines, rest_of, is_too_long, fields_of}
-use Rattle.dover_model.specs.FeedLine.{FeedLine, feed_line, line_of_fields}
-use Rattle.dover_model.specs.Session.{Session}
-use Rattle.dover_model.specs.Feed.{Account, Standing, Open, Ended, Faulty, Lines, Short, Cause, no_lines, is_open}
-use Rattle.dover_model.specs.Feed.{next_line, read_line, with_fault, account, most_lines_in}
-use Rattle.dover_model.specs.Due.{due, closed, fault_text}
-use Rattle.dover_model.proofs.Accounts.{account_append}
-use Rattle.dover_model.proofs.Limiting.{lines_most_in}
+use Rattle.dover_model.specs.Feed.{Short}
+use Rattle.dover_model.proofs.sessions.Accounts.{account_append}
+use Rattle.dover_model.proofs.valid.Limiting.{lines_most_in}
 use Rattle.line_text.proofs.Lengths.{AreNotTooLong, text_few}
 use Rattle.event_feed.proofs.Counting.{after_form, next_counted, all_counted}
 

@@ -1,26 +1,18 @@
 -- A job line in a session that goes on: admitted, refused, or at fault.
-use Rattle.std.proofs.Common.{◌≡◌, ℕ, ◌≤◌, ◌<◌, refl, sym, ap, ◌∙◌, subst, cond, Option, Some}
-use Rattle.std.proofs.Common.{None, Ok}
-use Rattle.std.proofs.Common.{true, false, Bool, ◌⊎◌, inl, inr}
-use Rattle.std.specs.Prelude.{◌≢◌}
+use Rattle.std.proofs.Common.{◌≡◌, ℕ, ◌≤◌, ◌<◌, refl, sym, ap, ◌∙◌, subst, cond, Option, Some, None, Ok, true, false}
+use Rattle.std.proofs.Common.{Bool, ◌⊎◌, inl, inr, ◌≢◌, option_map, le-ltb, lt-ltb}
 use Rattle.std.specs.Bool.{then_some}
-use Rattle.std.specs.Option.{option_map, option_or}
-use Rattle.std.proofs.lemmas.Bool.{le-ltb, lt-ltb}
-use Rattle.dover_model.specs.Numerals.{AreShort}
+use Rattle.std.specs.Option.{option_or}
+use Rattle.dover_model.specs.Common.{AreShort, JobFacts, job_numbers, refusal_of, Session, RefusedJob, refused_at}
+use Rattle.dover_model.specs.Common.{admitted_jobs, refuses_lines, refusal_at, late_refusal, refusal_in, refused_mark}
+use Rattle.dover_model.specs.Common.{is_full, instance_of, with_item, JobItem, JobLine, Account, NotAdmitted}
+use Rattle.dover_model.specs.Common.{late_cause, cause_of, with_fault, with_line, with_refused_at}
 use Rattle.dover_model.specs.declared.events.Version.{Version}
 use Rattle.dover_model.specs.declared.events.Version.TheVariants.{Two, Three}
 use Rattle.dover_model.specs.declared.events.Refusal.{Refusal}
 use Rattle.dover_model.specs.declared.events.Refusal.TheVariants.{Late, Full}
-use Rattle.dover_model.specs.JobFacts.{JobFacts, job_numbers}
-use Rattle.dover_model.specs.Admission.{refusal_of}
-use Rattle.dover_model.specs.Session.{Session, RefusedJob, refused_at, admitted_jobs, refuses_lines, refusal_at}
-use Rattle.dover_model.specs.Session.{late_refusal, refusal_in, refused_mark, is_full, instance_of, with_item}
-use Rattle.dover_model.specs.Session.{JobItem}
-use Rattle.dover_model.proofs.Fullness.{full_refuses, mark_stays, never_alone}
-use Rattle.dover_model.specs.FeedLine.{JobLine}
-use Rattle.dover_model.specs.Feed.{Account, NotAdmitted, late_cause, cause_of, with_fault, with_line}
-use Rattle.dover_model.specs.Feed.{with_refused_at}
-use Rattle.dover_model.proofs.Growing.{refused_instance}
+use Rattle.dover_model.proofs.sessions.Fullness.{full_refuses, mark_stays, never_alone}
+use Rattle.dover_model.proofs.sessions.Growing.{refused_instance}
 use Rattle.admission.specs.Kept as admission
 use Rattle.event_feed.specs.declared.fed.Fed.TheVariants as fed
 use Rattle.event_feed.specs.declared.kept_session.KeptSession.{KeptSession}

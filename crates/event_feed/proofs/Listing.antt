@@ -1,43 +1,34 @@
 -- What is listed after a line.
-use Rattle.std.proofs.Common.{◌≡◌, ◌≤◌, ◌<◌, ◌++◌, ◌∷◌, [], ◌⊎◌, inl, inr, ℕ, List, length, refl, sym, ap, ◌∙◌}
-use Rattle.std.proofs.Common.{Option, Some, None, Bool, true, false, arith, cond, max, subst, drop, length-append}
-use Rattle.std.specs.Prelude.{◌≢◌, ◌&&◌, nat_le, nat_lt, is_some}
-use Rattle.std.specs.List.{fold, AllByRecursion}
-use Rattle.std.specs.Option.{option_map}
+use Rattle.std.proofs.Common.{◌≡◌, ◌≤◌, ◌<◌, ◌++◌, ◌∷◌, [], ◌⊎◌, inl, inr, ℕ, List, length, refl, sym, ap, ◌∙◌, Option}
+use Rattle.std.proofs.Common.{Some, None, Bool, true, false, arith, cond, max, subst, drop, length-append, ◌≢◌, ◌&&◌}
+use Rattle.std.proofs.Common.{nat_le, nat_lt, is_some, fold, option_map, le-leb, ltb-true, ltb-false, Result, Ok, Err}
+use Rattle.std.proofs.Common.{OnOk}
+use Rattle.std.specs.List.{AllByRecursion}
 use Rattle.std.proofs.Math.Seq.{take-length, drop-length}
 use Rattle.std.proofs.Math.Bool.{and-false}
-use Rattle.std.proofs.lemmas.Bool.{le-leb, lt-leb, ltb-true, ltb-false}
+use Rattle.std.proofs.lemmas.Bool.{lt-leb}
 use Rattle.std.proofs.lemmas.List.{take-append-le, drop-append-le}
 use Rattle.std.proofs.lemmas.List.Sums.{fold-append}
 use Rattle.dover_model.specs.declared.events.Version.{Version}
 use Rattle.dover_model.specs.declared.events.Refusal.{Refusal}
-use Rattle.dover_model.specs.Finishes.{Finish}
-use Rattle.dover_model.specs.JobFacts.{JobFacts}
-use Rattle.dover_model.specs.Fraction.{Fraction}
-use Rattle.dover_model.specs.Instance.{Declaration, Instance, IsValid, under, with_jobs, finishing}
+use Rattle.dover_model.specs.Common.{Finish, JobFacts, Fraction, Declaration, Instance, IsValid, under, with_jobs}
+use Rattle.dover_model.specs.Common.{finishing, Account, Open, is_open, rules_with, Session, JobItem, FinishItem}
+use Rattle.dover_model.specs.Common.{EarlyFinish, RefusedDone, admitted_jobs, with_item, with_named, refused_at}
+use Rattle.dover_model.specs.Common.{refused_done_at, early_at, finish_at, is_right, instance_of, early_finishes}
+use Rattle.dover_model.specs.Common.{may_finish_early, is_full, settled_state, is_running, most_ready, RefusedJob}
 use Rattle.dover_model.specs.Feed as feeds
-use Rattle.dover_model.specs.Feed.{Account, Open, is_open, rules_with}
-use Rattle.dover_model.specs.Session.{Session, JobItem, FinishItem, EarlyFinish, RefusedDone, admitted_jobs, with_item}
-use Rattle.dover_model.specs.Session.{with_named, refused_at, refused_done_at, early_at, finish_at, is_right}
-use Rattle.dover_model.specs.Session.{instance_of, early_finishes, may_finish_early, is_full}
 use Rattle.dover_model.specs.declared.events.Refusal.TheVariants.{Full}
-use Rattle.dover_model.specs.Settled.{settled_state}
-use Rattle.dover_model.specs.State.{is_running}
-use Rattle.dover_model.proofs.Accounts.{IsKept, Holds, HoldsBy}
-use Rattle.dover_model.proofs.Barriers.{settled_at_barrier}
-use Rattle.dover_model.proofs.Growing.{job_instance, refused_instance, finish_instance}
-use Rattle.dover_model.proofs.Members.{found, some_same, all_append}
-use Rattle.dover_model.proofs.Resting.{numbers_below}
-use Rattle.dover_model.proofs.RightFinishes.{none_other}
-use Rattle.dover_model.proofs.Valid.{all_from}
+use Rattle.dover_model.proofs.sessions.Accounts.{IsKept, Holds, HoldsBy}
+use Rattle.dover_model.proofs.settled.Barriers.{settled_at_barrier}
+use Rattle.dover_model.proofs.sessions.Growing.{job_instance, refused_instance, finish_instance}
+use Rattle.dover_model.proofs.lists.Members.{found, some_same, all_append}
+use Rattle.dover_model.proofs.rest.Resting.{numbers_below}
+use Rattle.dover_model.proofs.finishes.RightFinishes.{none_other}
+use Rattle.dover_model.proofs.valid.Valid.{all_from}
 use Rattle.event_feed.proofs.Admitting.{job_more, refused_more, admitted_by}
-use Rattle.dover_model.proofs.Fullness.{few_ready, full_many}
-use Rattle.dover_model.specs.Limits.{most_ready}
-use Rattle.dover_model.specs.Session.{RefusedJob}
+use Rattle.dover_model.proofs.sessions.Fullness.{few_ready, full_many}
 use Rattle.event_feed.proofs.DoneLines.{session_done, done_session, done_jobs, done_mark}
-use Rattle.event_feed.specs.Answers.{AddsJob, AddsRefused, AddsDone, MovesMark, counted}
-use Rattle.event_feed.specs.Answers.{admitted_in}
-use Rattle.std.specs.Prelude.{Result, Ok, Err, OnOk}
+use Rattle.event_feed.specs.Answers.{AddsJob, AddsRefused, AddsDone, MovesMark, counted, admitted_in}
 use Rattle.event_feed.specs.declared.listed.DoneLine.{DoneLine}
 use Rattle.event_feed.specs.Listing.{ListsIn, StandsAmong, ComesBehind, AreInTurn, handed, with_early, with_right}
 use Rattle.event_feed.specs.Listing.{right_finishes}
@@ -63,33 +54,35 @@ no_session : (a : Account) (S : Session) {X : Type 0} → a.session ≡ None →
 no_session a S none some = absurd (let e : None ≡ Some S = sym none ∙ some in cc)
 
 -- jobs behind change no finish of a done line
-right_more : (rules : Declaration) (jobs more : List JobFacts) (dones : List DoneLine) (finishes : List Finish)
-    → AllByRecursion (StandsAmong jobs) dones
-    → fold (with_right rules (jobs ++ more)) finishes dones ≡ fold (with_right rules jobs) finishes dones
+right_more : (rules : Declaration) (jobs more : List JobFacts) (done_lines : List DoneLine) (finishes : List Finish)
+    → AllByRecursion (StandsAmong jobs) done_lines
+    → fold (with_right rules (jobs ++ more)) finishes done_lines ≡ fold (with_right rules jobs) finishes done_lines
 right_more rules jobs more [] finishes all = refl
-right_more rules jobs more (d ∷ dones) finishes all =
+right_more rules jobs more (d ∷ done_lines) finishes all =
     ap (λ js. fold (with_right rules (jobs ++ more)) (with_early finishes
-    (finish_at (record { rules = under rules finishes; jobs = js }) d.at d.number)) dones)
+    (finish_at (record { rules = under rules finishes; jobs = js }) d.at d.number)) done_lines)
     (take-append-le d.behind jobs more all.0.behind)
-    ∙ right_more rules jobs more dones (with_right rules jobs finishes d) all.1
+    ∙ right_more rules jobs more done_lines (with_right rules jobs finishes d) all.1
 
 -- one done line more
-pub right_then : (rules : Declaration) (jobs : List JobFacts) (dones : List DoneLine) (d : DoneLine)
-    → right_finishes rules jobs (dones ++ d ∷ []) ≡ with_right rules jobs (right_finishes rules jobs dones) d
-right_then rules jobs dones d = fold-append (with_right rules jobs) [] dones (d ∷ [])
+pub right_then : (rules : Declaration) (jobs : List JobFacts) (done_lines : List DoneLine) (d : DoneLine)
+    → right_finishes rules jobs (done_lines ++ d ∷ []) ≡ with_right rules jobs (right_finishes rules jobs done_lines) d
+right_then rules jobs done_lines d = fold-append (with_right rules jobs) [] done_lines (d ∷ [])
 
 -- done lines at a mark are so at a later one
-marked_later : (mark later : ℕ) → mark ≤ later → (dones : List DoneLine) → AllByRecursion (λ d. d.at ≤ mark) dones
-    → AllByRecursion (λ d. d.at ≤ later) dones
-marked_later mark later up dones marked =
-    all_from (λ d. d.at ≤ mark) (λ d. d.at ≤ later) dones (λ d low. omega arith) marked
+marked_later : (mark later : ℕ) → mark ≤ later → (done_lines : List DoneLine)
+    → AllByRecursion (λ d. d.at ≤ mark) done_lines
+    → AllByRecursion (λ d. d.at ≤ later) done_lines
+marked_later mark later up done_lines marked =
+    all_from (λ d. d.at ≤ mark) (λ d. d.at ≤ later) done_lines (λ d low. omega arith) marked
 
 module _ (jobs : List JobFacts) (mark : ℕ) where
   -- each stands among the jobs with one more
-  each_more : (j : JobFacts) → mark ≤ j.release → (dones : List DoneLine) → AllByRecursion (StandsAmong jobs) dones
-      → AllByRecursion (λ d. d.at ≤ mark) dones → AllByRecursion (StandsAmong (jobs ++ j ∷ [])) dones
+  each_more : (j : JobFacts) → mark ≤ j.release → (done_lines : List DoneLine)
+      → AllByRecursion (StandsAmong jobs) done_lines
+      → AllByRecursion (λ d. d.at ≤ mark) done_lines → AllByRecursion (StandsAmong (jobs ++ j ∷ [])) done_lines
   each_more j up [] all marked = tt
-  each_more j up (d ∷ dones) all marked = (
+  each_more j up (d ∷ done_lines) all marked = (
     record {
       behind = omega (arith, all.0.behind, length-append jobs (j ∷ []));
       known = all.0.known;
@@ -99,26 +92,28 @@ module _ (jobs : List JobFacts) (mark : ℕ) where
           all.0.behind)) (all_append (λ k. d.at ≤ k.release) (drop d.behind jobs) (j ∷ []) all.0.later
           (omega (arith, marked.0, up), tt));
     },
-    each_more j up dones all.1 marked.1,
+    each_more j up done_lines all.1 marked.1,
   )
 
   -- a done line at a later mark comes behind all
-  comes_behind : (at number : ℕ) → mark ≤ at → (dones : List DoneLine) → AllByRecursion (StandsAmong jobs) dones
-      → AllByRecursion (λ d. d.at ≤ mark) dones
-      → AllByRecursion (λ d. ComesBehind d (record { at = at; number = number; behind = length jobs })) dones
+  comes_behind : (at number : ℕ) → mark ≤ at → (done_lines : List DoneLine)
+      → AllByRecursion (StandsAmong jobs) done_lines
+      → AllByRecursion (λ d. d.at ≤ mark) done_lines
+      → AllByRecursion (λ d. ComesBehind d (record { at = at; number = number; behind = length jobs })) done_lines
   comes_behind at number up [] all marked = tt
-  comes_behind at number up (d ∷ dones) all marked = (
+  comes_behind at number up (d ∷ done_lines) all marked = (
     record { jobs = all.0.behind; ticks = omega (arith, marked.0, up) },
-    comes_behind at number up dones all.1 marked.1,
+    comes_behind at number up done_lines all.1 marked.1,
   )
 
 -- done lines in turn, with one more behind all
-turn_more : (d : DoneLine) (dones : List DoneLine) → AreInTurn dones → AllByRecursion (λ e. ComesBehind e d) dones
-    → AreInTurn (dones ++ d ∷ [])
+turn_more : (d : DoneLine) (done_lines : List DoneLine) → AreInTurn done_lines
+    → AllByRecursion (λ e. ComesBehind e d) done_lines
+    → AreInTurn (done_lines ++ d ∷ [])
 turn_more d [] turn behind = (tt, tt)
-turn_more d (e ∷ dones) turn behind = (
-  all_append (ComesBehind e) dones (d ∷ []) turn.0 (behind.0, tt),
-  turn_more d dones turn.1 behind.1,
+turn_more d (e ∷ done_lines) turn behind = (
+  all_append (ComesBehind e) done_lines (d ∷ []) turn.0 (behind.0, tt),
+  turn_more d done_lines turn.1 behind.1,
 )
 
 -- ---- a done line
@@ -181,13 +176,13 @@ job_after a b number job it room = it.after_is
       mark = job.release;
     } in after) room
 
-module _ (a b : Account) (declared : Option (Fraction × Version)) (jobs : List JobFacts) (dones : List DoneLine)
-    (lists : ListsIn declared jobs dones a) where
+module _ (a b : Account) (declared : Option (Fraction × Version)) (jobs : List JobFacts) (done_lines : List DoneLine)
+    (lists : ListsIn declared jobs done_lines a) where
   -- where few are listed, a job finds room
   pub finds_room : (number : ℕ) (job : JobFacts) (it : AddsJob number job (counted a) b) → length jobs < most_ready
       → is_full (instance_of it.session) job.release ≡ false
   finds_room number job it few = by_rules declared lists where
-    by_rules : (o : Option (Fraction × Version)) → ListsIn o jobs dones a
+    by_rules : (o : Option (Fraction × Version)) → ListsIn o jobs done_lines a
         → is_full (instance_of it.session) job.release ≡ false
     by_rules None none = no_session a it.session none.2 it.before_is
     by_rules (Some rules) some =
@@ -198,51 +193,52 @@ module _ (a b : Account) (declared : Option (Fraction × Version)) (jobs : List 
 
   -- a job line
   pub job_listed : (number : ℕ) (job : JobFacts) (it : AddsJob number job (counted a) b)
-      → is_full (instance_of it.session) job.release ≡ false → ListsIn declared (jobs ++ job ∷ []) dones b
+      → is_full (instance_of it.session) job.release ≡ false → ListsIn declared (jobs ++ job ∷ []) done_lines b
   job_listed number job it room = by_rules declared lists where
-    by_rules : (o : Option (Fraction × Version)) → ListsIn o jobs dones a → ListsIn o (jobs ++ job ∷ []) dones b
+    by_rules : (o : Option (Fraction × Version)) → ListsIn o jobs done_lines a
+        → ListsIn o (jobs ++ job ∷ []) done_lines b
     by_rules None none = no_session a it.session none.2 it.before_is
     by_rules (Some rules) some =
         let same : some.named ≡ it.session =
         some_same some.named it.session (sym some.there ∙ it.before_is) in
-        subst (λ (x : Account). ListsIn (Some rules) (jobs ++ job ∷ []) dones x)
+        subst (λ (x : Account). ListsIn (Some rules) (jobs ++ job ∷ []) done_lines x)
         (sym (job_after (counted a) b number job it room)) (record {
           named = with_item it.session (JobItem job);
           there = refl;
           run = ap (λ fs. record { rules = under (rules_with rules.0 rules.1) fs; jobs = jobs ++ job ∷ [] })
-              (right_more (rules_with rules.0 rules.1) jobs (job ∷ []) dones [] some.among.each)
+              (right_more (rules_with rules.0 rules.1) jobs (job ∷ []) done_lines [] some.among.each)
               ∙ ap (λ (J : Instance). with_jobs J (job ∷ [])) (some.run ∙ ap instance_of same)
               ∙ sym (job_instance it.session job);
           among = record {
-            each = each_more jobs a.mark job it.no_fall dones some.among.each some.marked;
+            each = each_more jobs a.mark job it.no_fall done_lines some.among.each some.marked;
             in_turn = some.among.in_turn;
           };
-          marked = marked_later a.mark job.release it.no_fall dones some.marked;
+          marked = marked_later a.mark job.release it.no_fall done_lines some.marked;
         })
 
   -- what changes neither the run nor takes the mark back
   same_listed : (S T : Session) → a.session ≡ Some S → b.session ≡ Some T → instance_of T ≡ instance_of S
-      → a.mark ≤ b.mark → ListsIn declared jobs dones b
+      → a.mark ≤ b.mark → ListsIn declared jobs done_lines b
   same_listed S T before after same up = by_rules declared lists where
-    by_rules : (o : Option (Fraction × Version)) → ListsIn o jobs dones a → ListsIn o jobs dones b
+    by_rules : (o : Option (Fraction × Version)) → ListsIn o jobs done_lines a → ListsIn o jobs done_lines b
     by_rules None none = no_session a S none.2 before
     by_rules (Some rules) some = record {
       named = T;
       there = after;
       run = some.run ∙ ap instance_of (some_same some.named S (sym some.there ∙ before)) ∙ sym same;
       among = some.among;
-      marked = marked_later a.mark b.mark up dones some.marked;
+      marked = marked_later a.mark b.mark up done_lines some.marked;
     }
 
   -- a tick line
-  pub tick_listed : (tick : ℕ) → MovesMark tick (counted a) b → ListsIn declared jobs dones b
+  pub tick_listed : (tick : ℕ) → MovesMark tick (counted a) b → ListsIn declared jobs done_lines b
   tick_listed tick it = same_listed it.session it.session it.before_is
       (ap (λ (x : Account). x.session) it.after_is ∙ it.before_is) refl
       (omega (arith, it.no_fall, ap (λ (x : Account). x.mark) it.after_is))
 
   -- a refused line
   pub refused_listed : (job : JobFacts) (refusal : Refusal) → AddsRefused job refusal (counted a) b
-      → ListsIn declared jobs dones b
+      → ListsIn declared jobs done_lines b
   refused_listed job refusal it =
       same_listed it.session (with_item it.session (refused_at a.mark job refusal)) it.before_is
       (ap (λ (x : Account). x.session) it.after_is) (refused_instance it.session _)
@@ -259,14 +255,14 @@ module _ (a b : Account) (declared : Option (Fraction × Version)) (jobs : List 
     mark_is = ap (λ (x : Account). x.mark) it.after_is ∙ done_mark it.session tick number (counted a)
 
     -- a done line below the mark
-    pub late_listed : tick < a.mark → ListsIn declared jobs dones b
+    pub late_listed : tick < a.mark → ListsIn declared jobs done_lines b
     late_listed late = same_listed it.session (session_done it.session a.mark tick number) it.before_is session_is
         (late_run it.session a.mark tick number late) (omega (arith, mark_is))
 
     -- it admits as many jobs as before
     pub done_admitted : 0 < length jobs → 0 < admitted_in b
     done_admitted some = by_rules declared lists where
-      by_rules : (o : Option (Fraction × Version)) → ListsIn o jobs dones a → 0 < admitted_in b
+      by_rules : (o : Option (Fraction × Version)) → ListsIn o jobs done_lines a → 0 < admitted_in b
       by_rules None none = no_session a it.session none.2 it.before_is
       by_rules (Some rules) listed = omega (
         arith,
@@ -284,9 +280,9 @@ module _ (a b : Account) (declared : Option (Fraction × Version)) (jobs : List 
           (subst (λ s. HoldsBy s a.session a.mark a.lines) on kept)
 
       -- one of no job
-      pub none_listed : length jobs ≤ number → ListsIn declared jobs dones b
+      pub none_listed : length jobs ≤ number → ListsIn declared jobs done_lines b
       none_listed above = by_rules declared lists where
-        by_rules : (o : Option (Fraction × Version)) → ListsIn o jobs dones a → ListsIn declared jobs dones b
+        by_rules : (o : Option (Fraction × Version)) → ListsIn o jobs done_lines a → ListsIn declared jobs done_lines b
         by_rules None none = no_session a it.session none.2 it.before_is
         by_rules (Some rules) some =
             let same : some.named ≡ it.session =
@@ -298,35 +294,36 @@ module _ (a b : Account) (declared : Option (Fraction × Version)) (jobs : List 
 
       -- another
       pub done_listed : a.mark ≤ tick
-          → ListsIn declared jobs (dones ++ record { at = tick; number = number; behind = length jobs } ∷ []) b
+          → ListsIn declared jobs (done_lines ++ record { at = tick; number = number; behind = length jobs } ∷ []) b
       done_listed up = by_rules declared lists where
         d : DoneLine
         d = record { at = tick; number = number; behind = length jobs }
 
-        by_rules : (o : Option (Fraction × Version)) → ListsIn o jobs dones a → ListsIn o jobs (dones ++ d ∷ []) b
+        by_rules : (o : Option (Fraction × Version)) → ListsIn o jobs done_lines a
+            → ListsIn o jobs (done_lines ++ d ∷ []) b
         by_rules None none = no_session a it.session none.2 it.before_is
         by_rules (Some rules) some = record {
           named = session_done it.session a.mark tick number;
           there = session_is;
-          run = ap (λ fs. record { rules = under declares fs; jobs = jobs }) (right_then declares jobs dones d
+          run = ap (λ fs. record { rules = under declares fs; jobs = jobs }) (right_then declares jobs done_lines d
               ∙ ap (λ js. with_early earlier
               (finish_at (record { rules = under declares earlier; jobs = js }) tick number)) (take-length jobs))
               ∙ ap (finished tick number) same ∙ sym (done_run it.session a.mark tick number it.version up);
           among = record {
-            each = all_append (StandsAmong jobs) dones (d ∷ []) some.among.each (stands, tt);
-            in_turn = turn_more d dones some.among.in_turn
-                (comes_behind jobs a.mark tick number up dones some.among.each some.marked);
+            each = all_append (StandsAmong jobs) done_lines (d ∷ []) some.among.each (stands, tt);
+            in_turn = turn_more d done_lines some.among.in_turn
+                (comes_behind jobs a.mark tick number up done_lines some.among.each some.marked);
           };
-          marked = all_append (λ e. e.at ≤ b.mark) dones (d ∷ [])
-              (marked_later a.mark b.mark (omega (arith, mark_is)) dones some.marked) (omega (arith, mark_is), tt);
+          marked = all_append (λ e. e.at ≤ b.mark) done_lines (d ∷ [])
+              (marked_later a.mark b.mark (omega (arith, mark_is)) done_lines some.marked) (omega (arith, mark_is), tt);
         } where
           declares : Declaration
           declares = rules_with rules.0 rules.1
 
           earlier : List Finish
-          earlier = right_finishes declares jobs dones
+          earlier = right_finishes declares jobs done_lines
 
-          same : handed declares jobs dones ≡ instance_of it.session
+          same : handed declares jobs done_lines ≡ instance_of it.session
           same = some.run ∙ ap instance_of (some_same some.named it.session (sym some.there ∙ it.before_is))
 
           stands : StandsAmong jobs d
@@ -341,19 +338,19 @@ module _ (a b : Account) (declared : Option (Fraction × Version)) (jobs : List 
 
       -- with the done lines that are kept
       pub kept_listed : (after : List DoneLine)
-          → (((b.mark ≢ tick) ⊎ (length jobs ≤ number)) × (after ≡ dones))
+          → (((b.mark ≢ tick) ⊎ (length jobs ≤ number)) × (after ≡ done_lines))
           ⊎ ((b.mark ≡ tick)
-          × (after ≡ dones ++ record { at = tick; number = number; behind = length jobs } ∷ []))
+          × (after ≡ done_lines ++ record { at = tick; number = number; behind = length jobs } ∷ []))
           → ListsIn declared jobs after b
       kept_listed after (inr it) = subst (λ ds. ListsIn declared jobs ds b) (sym it.1)
           (done_listed (omega (arith, it.0, mark_is)))
       kept_listed after (inl it) = subst (λ ds. ListsIn declared jobs ds b) (sym it.1) (by_why it.0) where
-        by_less : (b.mark ≢ tick) → (less : Bool) → nat_lt tick a.mark ≡ less → ListsIn declared jobs dones b
+        by_less : (b.mark ≢ tick) → (less : Bool) → nat_lt tick a.mark ≡ less → ListsIn declared jobs done_lines b
         by_less other true low = late_listed (ltb-true tick a.mark low)
         by_less other false high =
             let up : a.mark ≤ tick = ltb-false tick a.mark high in absurd (other (omega (arith, up, mark_is)))
 
-        by_why : (b.mark ≢ tick) ⊎ (length jobs ≤ number) → ListsIn declared jobs dones b
+        by_why : (b.mark ≢ tick) ⊎ (length jobs ≤ number) → ListsIn declared jobs done_lines b
         by_why (inl other) = by_less other (nat_lt tick a.mark) refl
         by_why (inr above) = none_listed above
 

@@ -1,22 +1,17 @@
 -- How many jobs are offered behind a line, and what is kept while they aren't too many.
 use Rattle.std.proofs.Common.{◌≡◌, ◌≤◌, ◌<◌, ◌+◌, ℕ, List, ◌∷◌, ◌++◌, [], length, refl, sym, ap, ◌∙◌, cond, max, arith}
-use Rattle.std.proofs.Common.{Option, Some, None, Bool, true, false}
-use Rattle.std.specs.Prelude.{◌≢◌, not, ◌&&◌}
-use Rattle.std.specs.List.{count_by}
-use Rattle.std.specs.Option.{option_map}
+use Rattle.std.proofs.Common.{Option, Some, None, Bool, true, false, ◌≢◌, not, ◌&&◌, count_by, option_map, le-ltb}
+use Rattle.std.proofs.Common.{lt-ltb, ltb-false}
 use Rattle.std.proofs.Math.Bool.{and-true, and-false}
-use Rattle.std.proofs.lemmas.Bool.{and_parts, le-ltb, lt-ltb, ltb-false}
+use Rattle.std.proofs.lemmas.Bool.{and_parts}
 use Rattle.std.proofs.lemmas.List.Sums.{sum_by-append}
-use Rattle.dover_model.specs.Limits.{most_jobs}
+use Rattle.dover_model.specs.Common.{most_jobs, JobFacts, Session, Item, JobItem, FinishItem, EarlyFinish, refused_at}
+use Rattle.dover_model.specs.Common.{refused_done_at, with_item, with_named, early_at, is_right, is_full, instance_of}
+use Rattle.dover_model.specs.Common.{is_same_refusal, Account, account, account_of_lines, is_open, rest_of, is_too_long}
 use Rattle.dover_model.specs.declared.events.Refusal.{Refusal}
 use Rattle.dover_model.specs.declared.events.Refusal.TheVariants.{BadJob, Count, Total, Ratio, Late, Full}
 use Rattle.dover_model.specs.declared.events.Version.TheVariants.{Two}
-use Rattle.dover_model.specs.JobFacts.{JobFacts}
-use Rattle.dover_model.specs.Session.{Session, Item, JobItem, FinishItem, EarlyFinish, refused_at, refused_done_at}
-use Rattle.dover_model.specs.Session.{with_item, with_named, early_at, is_right, is_full, instance_of, is_same_refusal}
-use Rattle.dover_model.specs.Feed.{Account, account, account_of_lines, is_open}
-use Rattle.dover_model.specs.Lines.{rest_of, is_too_long}
-use Rattle.dover_model.proofs.Tests.{not_true}
+use Rattle.dover_model.proofs.lists.Tests.{not_true}
 use Rattle.event_feed.specs.Answers.{AddsJob, AddsRefused, AddsDone, counted}
 use Rattle.event_feed.specs.Keeping.{Keeps, KeepsAll}
 use Rattle.event_feed.specs.Listing.{is_offered, offered_in, has_too_many, wants_more}

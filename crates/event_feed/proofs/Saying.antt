@@ -1,26 +1,18 @@
 -- What the lines of ratios and of ticks say to an account that goes on, and that a job's numbers have numerals.
-use Rattle.std.proofs.Common.{◌≡◌, ℕ, suc, ◌+◌, ◌≤◌, ◌<◌, ◌^◌, ap, ◌∙◌, cond, arith, Some, None, is_some, ◌||◌}
-use Rattle.std.proofs.Common.{Option, [], ◌∷◌}
-use Rattle.std.specs.Prelude.{nat_lt}
-use Rattle.std.specs.Option.{option_map}
-use Rattle.std.proofs.lemmas.Bool.{le-ltb}
+use Rattle.std.proofs.Common.{◌≡◌, ℕ, suc, ◌+◌, ◌≤◌, ◌<◌, ◌^◌, ap, ◌∙◌, cond, arith, Some, None, is_some, ◌||◌, Option}
+use Rattle.std.proofs.Common.{[], ◌∷◌, nat_lt, option_map, le-ltb}
 use Rattle.dover_model.specs.declared.events.Version.{Version}
 use Rattle.dover_model.specs.declared.events.Version.TheVariants.{One, Two, Three}
-use Rattle.dover_model.specs.Limits.{last_tick, most_lines}
-use Rattle.dover_model.specs.JobFacts.{JobFacts, IsJob, job_numbers}
-use Rattle.dover_model.specs.Fraction.{Fraction, IsRatio, fraction, with_factor}
+use Rattle.dover_model.specs.Common.{last_tick, most_lines, JobFacts, IsJob, job_numbers, Fraction, IsRatio, fraction}
+use Rattle.dover_model.specs.Common.{with_factor, Declaration, version_number, AreShort, Session, new_session}
+use Rattle.dover_model.specs.Common.{IsDeclarable, FeedLine, RatioLine, FactorLine, TickLine, HasNumerals, feed_line}
+use Rattle.dover_model.specs.Common.{feed_text, Account, Lines, Declared, Order, rules_with, declared_rules}
+use Rattle.dover_model.specs.Common.{factor_rules, with_line, with_fault, next_line, no_lines}
 use Rattle.dover_model.specs.declared.factors.Factor.{Factor}
-use Rattle.dover_model.specs.Instance.{Declaration}
-use Rattle.dover_model.specs.Text.{version_number}
-use Rattle.dover_model.specs.Numerals.{AreShort}
-use Rattle.dover_model.specs.Session.{Session, new_session, IsDeclarable}
-use Rattle.dover_model.specs.FeedLine.{FeedLine, RatioLine, FactorLine, TickLine, HasNumerals, feed_line, feed_text}
-use Rattle.dover_model.specs.Feed.{Account, Lines, Declared, Order, rules_with, declared_rules, factor_rules, with_line}
-use Rattle.dover_model.specs.Feed.{with_fault, next_line, no_lines}
-use Rattle.dover_model.proofs.FeedLines.{feed_line-feed_text}
-use Rattle.dover_model.proofs.JobLimits.{ratio_limits, job_limits}
-use Rattle.dover_model.proofs.NoFeeds.{header_short}
-use Rattle.dover_model.proofs.Tests.{never}
+use Rattle.dover_model.proofs.texts.FeedLines.{feed_line-feed_text}
+use Rattle.dover_model.proofs.valid.JobLimits.{ratio_limits, job_limits}
+use Rattle.dover_model.proofs.texts.NoFeeds.{header_short}
+use Rattle.dover_model.proofs.lists.Tests.{never}
 use Rattle.event_feed.specs.Reading.{declared_number, rules_line, open_account}
 use Rattle.event_feed.proofs.Counting.{after_form}
 

@@ -1,21 +1,15 @@
 -- Tick lines at the mark change nothing but the number of lines.
-use Rattle.std.proofs.Common.{◌≡◌, ℕ, zero, suc, ◌+◌, ◌≤◌, List, ◌++◌, replicate, refl, sym}
-use Rattle.std.proofs.Common.{ap, ◌∙◌, subst, cond, true, false, Option, Some, None, arith, add-zero, ◌||◌}
-use Rattle.std.specs.List.{fold}
-use Rattle.std.specs.Prelude.{nat_lt, IsSome}
-use Rattle.std.proofs.lemmas.Bool.{le-ltb}
+use Rattle.std.proofs.Common.{◌≡◌, ℕ, zero, suc, ◌+◌, ◌≤◌, List, ◌++◌, replicate, refl, sym, ap, ◌∙◌, subst, cond, true}
+use Rattle.std.proofs.Common.{false, Option, Some, None, arith, add-zero, ◌||◌, fold, nat_lt, IsSome, le-ltb}
 use Rattle.std.proofs.lemmas.List.Sums.{fold-append}
-use Rattle.dover_model.specs.Limits.{most_lines, last_tick}
-use Rattle.dover_model.specs.Session.{Session}
-use Rattle.dover_model.specs.FeedLine.{TickLine, feed_line, feed_text}
-use Rattle.dover_model.specs.Feed.{Account, Open, Order, Lines, with_fault, with_line, next_line, no_lines}
-use Rattle.dover_model.specs.Feed.{account_of_lines}
-use Rattle.dover_model.proofs.FeedLines.{feed_line-feed_text}
-use Rattle.dover_model.proofs.Accounts.{HoldsBy, HoldsOpen, Holds, IsKept, lines_goes}
+use Rattle.dover_model.specs.Common.{most_lines, last_tick, Session, TickLine, feed_line, feed_text, Account, Open}
+use Rattle.dover_model.specs.Common.{Order, Lines, with_fault, with_line, next_line, no_lines, account_of_lines}
+use Rattle.dover_model.proofs.texts.FeedLines.{feed_line-feed_text}
+use Rattle.dover_model.proofs.sessions.Accounts.{HoldsBy, HoldsOpen, Holds, IsKept, lines_goes}
 use Rattle.event_feed.specs.declared.intake.Standing.TheVariants as standings
 use Rattle.event_feed.specs.declared.kept_session.KeptSession.{KeptSession}
-use Rattle.event_feed.specs.Kept.{Kept, KeepsSession, KeepsAccount, StandsFor, IsGoing, HasLines, standing_of}
-use Rattle.event_feed.specs.Kept.{fault_of, most_lines_of}
+use Rattle.event_feed.specs.Kept.{Kept, KeepsSession, KeepsAccount, StandsFor, IsGoing, HasLines, standing_of, fault_of}
+use Rattle.event_feed.specs.Kept.{most_lines_of}
 use Rattle.event_feed.specs.Reading.{open_account}
 use Rattle.event_feed.proofs.Counting.{after_form}
 use Rattle.event_feed.proofs.Taking.{goes_on, kept_most}

@@ -1,8 +1,6 @@
 -- The text of the numbers of a job line.
 use Rattle.std.proofs.Common.{◌≡◌, ◌≤◌, ℕ, List, drop, length, codes, ap, sym, ◌∙◌, arith}
-use Rattle.dover_model.specs.JobFacts.{JobFacts, job_numbers}
-use Rattle.dover_model.specs.FeedLine.{feed_text, JobLine}
-use Rattle.dover_model.specs.Numerals.{AreShort}
+use Rattle.dover_model.specs.Common.{JobFacts, job_numbers, feed_text, JobLine, AreShort}
 use Rattle.line_text.specs.Writing.{numbers_behind}
 use Rattle.line_text.proofs.Written.{with_numbers-behind, length-numbers_behind}
 

@@ -1,16 +1,11 @@
 -- A line that is taken in, from the account in which it is counted to that of all lines.
-use Rattle.std.proofs.Common.{◌≡◌, ℕ, suc, ◌≤◌, List, [], ◌∷◌, ◌++◌, refl, sym, ap}
-use Rattle.std.proofs.Common.{◌∙◌, subst, cond, true, false, Option, Some, None, Ok, Err, inl, Result}
-use Rattle.std.specs.Prelude.{IsSome}
-use Rattle.std.proofs.lemmas.Bool.{le-ltb}
+use Rattle.std.proofs.Common.{◌≡◌, ℕ, suc, ◌≤◌, List, [], ◌∷◌, ◌++◌, refl, sym, ap, ◌∙◌, subst, cond, true, false}
+use Rattle.std.proofs.Common.{Option, Some, None, Ok, Err, inl, Result, IsSome, le-ltb}
 use Rattle.std.proofs.lemmas.List.Sums.{fold-append}
-use Rattle.dover_model.specs.Limits.{most_lines}
-use Rattle.dover_model.specs.Session.{Session}
-use Rattle.dover_model.specs.FeedLine.{FeedLine, feed_line}
+use Rattle.dover_model.specs.Common.{most_lines, Session, FeedLine, feed_line, Account, Standing, Open, Ended, cause_of}
+use Rattle.dover_model.specs.Common.{with_line, with_fault, read_line, next_line, no_lines, is_open, account_of_lines}
+use Rattle.dover_model.specs.Common.{most_lines_in}
 use Rattle.dover_model.specs.Feed as model
-use Rattle.dover_model.specs.Feed.{Account, Standing, Open, Ended, cause_of, with_line}
-use Rattle.dover_model.specs.Feed.{with_fault, read_line, next_line, no_lines, is_open, account_of_lines}
-use Rattle.dover_model.specs.Feed.{most_lines_in}
 use Rattle.event_feed.specs.declared.faults.Cause.{Cause}
 use Rattle.event_feed.specs.declared.faults.FeedFault.{FeedFault}
 use Rattle.event_feed.specs.declared.intake.Standing as standings
@@ -18,8 +13,8 @@ use Rattle.event_feed.specs.declared.intake.Standing.TheVariants as kept
 use Rattle.event_feed.specs.declared.kept_session.KeptSession.{KeptSession}
 use Rattle.event_feed.specs.declared.fed.Fed.{Fed}
 use Rattle.event_feed.specs.declared.fed.Fed.TheVariants as feds
-use Rattle.event_feed.specs.Kept.{KeepsSession, StandsBehind, most_lines_of, session_by}
-use Rattle.event_feed.specs.Kept.{KeepsAccount, IsGoing, cause_of_fault, fault_of, has_ended, standing_of}
+use Rattle.event_feed.specs.Kept.{KeepsSession, StandsBehind, most_lines_of, session_by, KeepsAccount, IsGoing}
+use Rattle.event_feed.specs.Kept.{cause_of_fault, fault_of, has_ended, standing_of}
 use Rattle.event_feed.specs.Answers.{counted, Answers, IsFed}
 use Rattle.event_feed.proofs.DoneLines.{done_standing, done_lines}
 use Rattle.event_feed.specs.Reading.{open_account, IsTaken, TakesIn}

@@ -1,11 +1,7 @@
 -- The text of a line that is due for a feed.
 use Rattle.std.specs.Prelude.{ℕ, List, [], ◌∷◌}
-use Rattle.dover_model.specs.JobFacts.{job_of_numbers}
-use Rattle.dover_model.specs.Session.{RefusedJob, RefusedDone}
-use Rattle.dover_model.specs.Text.{header, text_of, refused_text, step_numbers}
-use Rattle.dover_model.specs.Feed.{rules_with}
-use Rattle.dover_model.specs.Due.{fault_text}
-use Rattle.dover_model.specs.Numerals.{AreShort}
+use Rattle.dover_model.specs.Common.{job_of_numbers, RefusedJob, RefusedDone, header, text_of, refused_text}
+use Rattle.dover_model.specs.Common.{step_numbers, rules_with, fault_text, AreShort}
 use Rattle.event_feed.specs.Kept.{cause_of_fault}
 use Rattle.event_feed.specs.declared.due_line.DueLine.{DueLine}
 use Rattle.event_feed.specs.declared.due_line.DueLine.TheVariants.{Header, Step, Refuse, RefuseDone, Refused}

@@ -1,7 +1,6 @@
 -- Which line of a feed is at fault, and with which job its ratio is broken.
 use Rattle.std.specs.Prelude.{◌≡◌, ℕ, List, [], ◌∷◌, ◌++◌}
-use Rattle.dover_model.specs.Lines.{lines_of}
-use Rattle.dover_model.specs.Feed.{account_of_lines}
+use Rattle.dover_model.specs.Common.{lines_of, account_of_lines}
 use Rattle.event_feed.specs.Answers.{NewFault}
 use Rattle.event_feed.specs.declared.faults.FeedFault.{FeedFault}
 

@@ -1,13 +1,8 @@
 -- The feed of some jobs.
 use Rattle.std.specs.Prelude.{◌≡◌, ℕ, List, [], ◌∷◌, ◌++◌, map, Some}
-use Rattle.dover_model.specs.JobFacts.{JobFacts}
-use Rattle.dover_model.specs.Instance.{Declaration, declared_by, Instance, IsValid}
-use Rattle.dover_model.specs.FeedLine.{JobLine, EndLine, feed_text}
+use Rattle.dover_model.specs.Common.{JobFacts, Declaration, declared_by, Instance, IsValid, JobLine, EndLine, feed_text}
+use Rattle.dover_model.specs.Common.{account, in_lines, IsValidSession, session_of}
 use Rattle.dover_model.specs.Feed as feed
-use Rattle.dover_model.specs.Feed.{account}
-use Rattle.dover_model.specs.Lines.{in_lines}
-use Rattle.dover_model.specs.Session.{IsValidSession}
-use Rattle.dover_model.specs.Trace.{session_of}
 use Rattle.event_feed.specs.Reading.{rules_line}
 
 -- the text of the line that declares the rules

@@ -1,7 +1,6 @@
 -- What is kept of a feed.
 use Rattle.std.specs.Prelude.{◌≡◌, ◌≢◌, ◌⊎◌, ℕ, ◌≤◌, List, [], ◌∷◌, ◌++◌, length, Some, true, false}
-use Rattle.dover_model.specs.Feed.{account_of_lines}
-use Rattle.dover_model.specs.Lines.{lines_of, rest_of, is_too_long}
+use Rattle.dover_model.specs.Common.{account_of_lines, lines_of, rest_of, is_too_long}
 use Rattle.line_text.specs.Cutting as cutting
 use Rattle.event_feed.specs.Faults.{IsFirstFault}
 use Rattle.event_feed.specs.Kept as feed
@@ -13,15 +12,15 @@ use Rattle.event_feed.specs.declared.reader.FeedReader.{FeedReader}
 
 -- the done lines behind one at this mark: without it, where it came below the mark or names no job, and else with it
 abbrev pub KeepsDone : Gathering → (mark at number : ℕ) → List DoneLine → Type 0
-KeepsDone g mark at number dones =
-    (((mark ≢ at) ⊎ (length g.jobs.items ≤ number)) × (dones ≡ g.dones.items))
+KeepsDone g mark at number done_lines =
+    (((mark ≢ at) ⊎ (length g.jobs.items ≤ number)) × (done_lines ≡ g.done_lines.items))
     ⊎ ((mark ≡ at)
-    × (dones ≡ g.dones.items ++ record { at = at; number = number; behind = length g.jobs.items } ∷ []))
+    × (done_lines ≡ g.done_lines.items ++ record { at = at; number = number; behind = length g.jobs.items } ∷ []))
 
 -- this is kept of these lines: what they said, the rules, each job that was offered, and the done lines
 pub record KeepsAll (gathering : Gathering) (ls : List (List ℕ)) : Type 0 where
   pub intake : feed.StandsFor gathering.intake ls
-  pub lists : ListsIn gathering.declared gathering.jobs.items gathering.dones.items (account_of_lines ls)
+  pub lists : ListsIn gathering.declared gathering.jobs.items gathering.done_lines.items (account_of_lines ls)
   pub offered : offered_in (account_of_lines ls) ≡ length gathering.jobs.items
   pub names : (fault : FeedFault) → feed.fault_of gathering.intake ≡ Some fault → IsFirstFault fault ls
 

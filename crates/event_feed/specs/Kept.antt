@@ -1,13 +1,11 @@
 -- What is kept of the lines of a feed, and for which lines it stands.
 use Rattle.std.specs.Prelude.{◌≡◌, ℕ, ◌+◌, ◌≤◌, List, [], ◌∷◌, ◌++◌, Bool, true, false, Option, Some, None, IsSome}
 use Rattle.std.specs.Prelude.{IfSome, Result, Ok, Err}
-use Rattle.dover_model.specs.Limits.{most_lines}
+use Rattle.dover_model.specs.Common.{most_lines, JobFacts, Session, JobItem, admitted_jobs, with_item, Account}
+use Rattle.dover_model.specs.Common.{account_of_lines}
 use Rattle.dover_model.specs.declared.events.Version.TheVariants.{Three}
 use Rattle.dover_model.specs.declared.events.Refusal.TheVariants as refusal
-use Rattle.dover_model.specs.JobFacts.{JobFacts}
-use Rattle.dover_model.specs.Session.{Session, JobItem, admitted_jobs, with_item}
 use Rattle.dover_model.specs.Feed as model
-use Rattle.dover_model.specs.Feed.{Account, account_of_lines}
 use Rattle.admission.specs.Kept as admission
 use Rattle.admission.specs.declared.refused.Refused.{Refused}
 use Rattle.admission.specs.declared.refused.Refused.TheVariants as refused

@@ -2,17 +2,13 @@
 use Rattle.std.specs.Prelude.{◌≡◌, ℕ, ◌≤◌, List, [], ◌∷◌, ◌++◌, length, take, drop, Bool, true, false, not, ◌&&◌}
 use Rattle.std.specs.Prelude.{nat_lt, Option, Some, None}
 use Rattle.std.specs.List.{fold, count_by, AllByRecursion}
-use Rattle.dover_model.specs.Limits.{last_tick, most_jobs}
+use Rattle.dover_model.specs.Common.{last_tick, most_jobs, Finish, Fraction, JobFacts, Declaration, Instance, under}
+use Rattle.dover_model.specs.Common.{Account, rules_with, is_open, Item, JobItem, RefusedItem, FinishItem, RefusedLine}
+use Rattle.dover_model.specs.Common.{RefusedJob, RefusedDone, EarlyFinish, Session, instance_of, finish_at}
+use Rattle.dover_model.specs.Common.{admitted_jobs, is_same_refusal}
 use Rattle.dover_model.specs.declared.events.Refusal.TheVariants.{Full}
 use Rattle.dover_model.specs.declared.events.Version.{Version}
 use Rattle.dover_model.specs.declared.events.Version.TheVariants.{Two}
-use Rattle.dover_model.specs.Finishes.{Finish}
-use Rattle.dover_model.specs.Fraction.{Fraction}
-use Rattle.dover_model.specs.JobFacts.{JobFacts}
-use Rattle.dover_model.specs.Instance.{Declaration, Instance, under}
-use Rattle.dover_model.specs.Feed.{Account, rules_with, is_open}
-use Rattle.dover_model.specs.Session.{Item, JobItem, RefusedItem, FinishItem, RefusedLine, RefusedJob, RefusedDone}
-use Rattle.dover_model.specs.Session.{EarlyFinish, Session, instance_of, finish_at, admitted_jobs, is_same_refusal}
 use Rattle.event_feed.specs.declared.listed.DoneLine.{DoneLine}
 use Rattle.event_feed.specs.declared.listed.Listed.{Listed}
 
@@ -59,11 +55,11 @@ with_right rules jobs finishes d =
 
 -- the finishes of the done lines that are right
 abbrev pub right_finishes : Declaration → List JobFacts → List DoneLine → List Finish
-right_finishes rules jobs dones = fold (with_right rules jobs) [] dones
+right_finishes rules jobs done_lines = fold (with_right rules jobs) [] done_lines
 
 -- the jobs, and these finishes
 abbrev pub handed : Declaration → List JobFacts → List DoneLine → Instance
-handed rules jobs dones = record { rules = under rules (right_finishes rules jobs dones); jobs = jobs }
+handed rules jobs done_lines = record { rules = under rules (right_finishes rules jobs done_lines); jobs = jobs }
 
 -- what is declared
 abbrev pub declared_in : Listed → Declaration
@@ -71,7 +67,7 @@ declared_in listed = rules_with listed.ratio listed.version
 
 -- the jobs, under the rules that were declared and with the finishes
 abbrev pub listed_instance : Listed → Instance
-listed_instance listed = handed (declared_in listed) listed.jobs.items listed.dones.items
+listed_instance listed = handed (declared_in listed) listed.jobs.items listed.done_lines.items
 
 -- ---- how done lines stand among jobs
 
@@ -90,12 +86,12 @@ pub record ComesBehind (d e : DoneLine) : Type 0 where
 -- each comes behind those before it
 abbrev pub AreInTurn : List DoneLine → Type 0
 AreInTurn [] = Unit {0}
-AreInTurn (d ∷ dones) = AllByRecursion (ComesBehind d) dones × AreInTurn dones
+AreInTurn (d ∷ done_lines) = AllByRecursion (ComesBehind d) done_lines × AreInTurn done_lines
 
 -- the done lines stand among these jobs, in turn
-pub record StandAmong (jobs : List JobFacts) (dones : List DoneLine) : Type 0 where
-  pub each : AllByRecursion (StandsAmong jobs) dones
-  pub in_turn : AreInTurn dones
+pub record StandAmong (jobs : List JobFacts) (done_lines : List DoneLine) : Type 0 where
+  pub each : AllByRecursion (StandsAmong jobs) done_lines
+  pub in_turn : AreInTurn done_lines
 
 -- ---- what is listed of a session
 
@@ -105,19 +101,19 @@ HasFewJobs None = ⊥
 HasFewJobs (Some S) = length (admitted_jobs S.items) ≤ most_jobs Two
 
 -- the session at this mark declares these rules, and its run is that of these jobs and done lines
-pub record ListsOf (declared : Fraction × Version) (jobs : List JobFacts) (dones : List DoneLine)
+pub record ListsOf (declared : Fraction × Version) (jobs : List JobFacts) (done_lines : List DoneLine)
     (session : Option Session) (mark : ℕ) : Type 0 where
   pub named : Session
   pub there : session ≡ Some named
-  pub run : handed (rules_with declared.0 declared.1) jobs dones ≡ instance_of named
-  pub among : StandAmong jobs dones
-  pub marked : AllByRecursion (λ d. d.at ≤ mark) dones
+  pub run : handed (rules_with declared.0 declared.1) jobs done_lines ≡ instance_of named
+  pub among : StandAmong jobs done_lines
+  pub marked : AllByRecursion (λ d. d.at ≤ mark) done_lines
 
 -- so it is, or nothing is declared
 abbrev pub Lists : Option (Fraction × Version) → List JobFacts → List DoneLine → Option Session → (mark : ℕ) → Type 0
-Lists None jobs dones session mark = (jobs ≡ []) × (dones ≡ []) × (session ≡ None)
-Lists (Some declared) jobs dones session mark = ListsOf declared jobs dones session mark
+Lists None jobs done_lines session mark = (jobs ≡ []) × (done_lines ≡ []) × (session ≡ None)
+Lists (Some declared) jobs done_lines session mark = ListsOf declared jobs done_lines session mark
 
 -- the same of an account
 abbrev pub ListsIn : Option (Fraction × Version) → List JobFacts → List DoneLine → Account → Type 0
-ListsIn declared jobs dones a = Lists declared jobs dones a.session a.mark
+ListsIn declared jobs done_lines a = Lists declared jobs done_lines a.session a.mark

@@ -1,16 +1,11 @@
 -- What a line makes of what is kept, and its answer, step by step.
-use Rattle.dover_model.specs.Fraction.{fraction, with_factor}
+use Rattle.dover_model.specs.Common.{fraction, with_factor, AreShort, version_number, JobFacts, job_numbers}
+use Rattle.dover_model.specs.Common.{Declaration, refusal_of, Session, admitted_jobs, FeedLine, RatioLine, FactorLine}
+use Rattle.dover_model.specs.Common.{JobLine, TickLine, DoneLine, EndLine, Account, Open, declared_rules, factor_rules}
+use Rattle.dover_model.specs.Common.{cause_of, with_fault, with_line}
 use Rattle.std.specs.Prelude.{◌≡◌, ℕ, ◌≤◌, Option, Some, None, Result, Ok, Err}
 use Rattle.dover_model.specs.declared.events.Version.{Version}
 use Rattle.dover_model.specs.declared.events.Version.TheVariants.{One, Two, Three}
-use Rattle.dover_model.specs.Numerals.{AreShort}
-use Rattle.dover_model.specs.Text.{version_number}
-use Rattle.dover_model.specs.JobFacts.{JobFacts, job_numbers}
-use Rattle.dover_model.specs.Instance.{Declaration}
-use Rattle.dover_model.specs.Admission.{refusal_of}
-use Rattle.dover_model.specs.Session.{Session, admitted_jobs}
-use Rattle.dover_model.specs.FeedLine.{FeedLine, RatioLine, FactorLine, JobLine, TickLine, DoneLine, EndLine}
-use Rattle.dover_model.specs.Feed.{Account, Open, declared_rules, factor_rules, cause_of, with_fault, with_line}
 use Rattle.admission.specs.Answers as admission
 use Rattle.admission.specs.Answers.{refusal_of_refused}
 use Rattle.admission.specs.declared.refused.Refused.{Refused}

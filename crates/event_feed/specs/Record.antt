@@ -1,8 +1,7 @@
 -- What is known of a feed whose reading has ended.
 use Rattle.std.specs.Prelude.{◌≡◌, ◌⊎◌, ℕ, List, true, false, Some, length}
-use Rattle.dover_model.specs.Feed.{Account, Ended, Faulty, is_open, account}
-use Rattle.dover_model.specs.Lines.{whole_lines}
-use Rattle.dover_model.specs.Session.{Session, IsValidSession, instance_of}
+use Rattle.dover_model.specs.Common.{Account, Ended, Faulty, is_open, account, whole_lines, Session, IsValidSession}
+use Rattle.dover_model.specs.Common.{instance_of}
 use Rattle.event_feed.specs.Answers.{short_after}
 use Rattle.event_feed.specs.Faults.{IsFaultIn}
 use Rattle.event_feed.specs.Kept.{cause_of_fault}
@@ -21,7 +20,7 @@ pub record IsEnded (listed : Listed) (a : Account) : Type 0 where
   pub session_is : a.session ≡ Some session
   pub valid : IsValidSession session
   pub run : listed_instance listed ≡ instance_of session
-  pub among : StandAmong listed.jobs.items listed.dones.items
+  pub among : StandAmong listed.jobs.items listed.done_lines.items
 
 -- this is the fault of the feed, with the other job named where the ratio is broken, or the feed goes on and this says
 -- that it is short

@@ -1,10 +1,9 @@
 //! What is kept of a feed between its lines.
 ghost use Rattle.std.specs.Prelude.{◌≡◌, ◌<◌, ◌≤◌, ◌∷◌, ◌++◌, ℕ, List, [], length, true, false, OnOk, OnErr};
-ghost use Rattle.dover_model.specs.Feed.{account_of_lines};
+ghost use Rattle.dover_model.specs.Common.{account_of_lines, most_jobs};
 ghost use Rattle.event_feed.specs.Answers.{admitted_in};
 ghost use Rattle.event_feed.specs.Keeping.{Keeps, KeepsDone};
 ghost use Rattle.event_feed.specs.Kept as feed;
-ghost use Rattle.dover_model.specs.Limits.{most_jobs};
 ghost use Rattle.dover_model.specs.declared.events.Version.TheVariants.{Two};
 
 use crate::fed::Fed;
@@ -19,7 +18,7 @@ pub(crate) struct Gathering {
     pub(crate) intake: Intake,
     pub(crate) declared: Option<(Ratio, Version)>,
     pub(crate) jobs: Vec<Job>,
-    pub(crate) dones: Vec<DoneLine>,
+    pub(crate) done_lines: Vec<DoneLine>,
     pub(crate) going: bool,
     pub(crate) too_many: bool,
 }
@@ -33,8 +32,8 @@ impl Gathering {
         ensures jobs { self.new.jobs ≡ self.old.jobs }
         ensures going { self.new.going ≡ self.old.going }
         ensures too_many { self.new.too_many ≡ self.old.too_many }
-        ensures dones { (ls : List (List ℕ)) → feed.StandsFor self.old.intake ls →
-            OnOk result (KeepsDone self.old (account_of_lines ls).mark at number self.new.dones.items) }
+        ensures done_lines { (ls : List (List ℕ)) → feed.StandsFor self.old.intake ls →
+            OnOk result (KeepsDone self.old (account_of_lines ls).mark at number self.new.done_lines.items) }
         ensures memory { OnErr result (0 < length self.old.jobs.items) }
     {
         if self.intake.mark() != at {
@@ -44,7 +43,7 @@ impl Gathering {
             return Ok(());
         }
         let behind = self.jobs.len();
-        match self.dones.push(DoneLine { at, number, behind }) {
+        match self.done_lines.push(DoneLine { at, number, behind }) {
             Ok(()) => Ok(()),
             Err(_) => Err(Memory),
         }
@@ -54,7 +53,7 @@ impl Gathering {
     fn job(&mut self, job: Job) -> Result<(), Memory>
         requires { feed.HasRoom self.old.intake job }
         ensures declared { self.new.declared ≡ self.old.declared }
-        ensures dones { self.new.dones ≡ self.old.dones }
+        ensures done_lines { self.new.done_lines ≡ self.old.done_lines }
         ensures few { length self.old.jobs.items < most_jobs Two → (self.new.going ≡ self.old.going)
             × (self.new.too_many ≡ self.old.too_many)
             × feed.Accepts job self.old.intake self.new.intake

@@ -1,12 +1,10 @@
 //! The lines of a feed, taken in one by one.
 ghost use Rattle.std.specs.Prelude.{◌≡◌, ℕ, List, [], ◌∷◌, ◌++◌, ◌↔◌, true, false, Option, IsOk, IfOk, OnOk, IsSome};
-ghost use Rattle.std.specs.Prelude.{IfSome, Some, None, ◌≤◌, ◌+◌, replicate};
-ghost use Rattle.std.specs.Option.{option_map};
+ghost use Rattle.std.specs.Prelude.{IfSome, Some, None, ◌≤◌, ◌+◌, replicate, option_map};
 ghost use Rattle.dover_model.specs.declared.events.Version.TheVariants.{Three};
-ghost use Rattle.dover_model.specs.Limits.{most_lines};
-ghost use Rattle.dover_model.specs.Session.{Session};
+ghost use Rattle.dover_model.specs.Common.{most_lines, Session, Account, Open, account_of_lines, read_line, rules_with};
+ghost use Rattle.dover_model.specs.Common.{first_line_cause};
 ghost use Rattle.dover_model.specs.FeedLine as form;
-ghost use Rattle.dover_model.specs.Feed.{Account, Open, account_of_lines, read_line, rules_with, first_line_cause};
 ghost use Rattle.line_text.specs.feeds.Form.{form_of};
 ghost use Rattle.event_feed.specs.Kept.{KeepsSession, cause_of_fault, most_lines_of};
 ghost use Rattle.event_feed.specs.Answers.{NamesOther};

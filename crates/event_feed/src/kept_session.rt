@@ -1,11 +1,9 @@
 //! What is kept of a feed once its ratio is declared.
 ghost use Rattle.std.specs.Prelude.{◌≡◌, ◌<◌, ℕ, [], ◌∷◌, true};
-ghost use Rattle.dover_model.specs.Numerals.{AreShort};
-ghost use Rattle.dover_model.specs.JobFacts.{job_of_numbers, job_numbers};
-ghost use Rattle.dover_model.specs.Session.{Session, JobItem, new_session, with_item, may_finish_early};
+ghost use Rattle.dover_model.specs.Common.{AreShort, job_of_numbers, job_numbers, Session, JobItem, new_session};
+ghost use Rattle.dover_model.specs.Common.{with_item, may_finish_early, rules_with, JobLine, TickLine, DoneLine};
+ghost use Rattle.dover_model.specs.Common.{HasNumerals};
 ghost use Rattle.admission.specs.Kept.{HasRoom};
-ghost use Rattle.dover_model.specs.Feed.{rules_with};
-ghost use Rattle.dover_model.specs.FeedLine.{JobLine, TickLine, DoneLine, HasNumerals};
 ghost use Rattle.line_text.specs.feeds.Form.{form_of};
 ghost use Rattle.event_feed.specs.Kept.{IsKeptOf};
 ghost use Rattle.event_feed.specs.Reading.{Refuses, Takes};

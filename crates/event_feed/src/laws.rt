@@ -1,8 +1,6 @@
 //! What the feed of some jobs says.
 ghost use Rattle.std.specs.Prelude.{◌≡◌, []};
-ghost use Rattle.dover_model.specs.Instance.{Instance, IsValid, declared_by};
-ghost use Rattle.dover_model.specs.Session.{IsDeclarable, IsNeverFull};
-ghost use Rattle.dover_model.specs.Trace.{session_of};
+ghost use Rattle.dover_model.specs.Common.{Instance, IsValid, declared_by, IsDeclarable, IsNeverFull, session_of};
 ghost use Rattle.event_feed.specs.Feeds.{IsFeedOf, feed_of};
 
 /// The feed of valid jobs, whose rules may be declared, and of which none finishes early, and none finds it full at its

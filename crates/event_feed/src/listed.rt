@@ -26,7 +26,7 @@ pub struct Listed {
     /// The admitted jobs, by number.
     pub jobs: Vec<Job>,
     /// The done lines, in order.
-    pub dones: Vec<DoneLine>,
+    pub done_lines: Vec<DoneLine>,
 }
 
 /// Why the jobs of a feed aren't listed.

@@ -12,7 +12,7 @@ use crate::gathering::Gathering;
 use crate::intake::Intake;
 use crate::listed::{DoneLine, Listed, NotListed};
 use dover_model::{Job, Memory, Ratio, Version};
-use line_text::{Lines, Step};
+use line_text::{ByteEffect, Lines};
 use std::alloc::Global;
 
 /// What is kept of a feed that comes in pieces: the line that has begun, and what the lines before it said. Refused job
@@ -24,19 +24,19 @@ pub struct FeedReader {
 }
 
 /// The jobs of a feed whose `end` line was read, and its done lines.
-fn listed(declared: Option<(Ratio, Version)>, jobs: Vec<Job>, dones: Vec<DoneLine>) -> Listed
+fn listed(declared: Option<(Ratio, Version)>, jobs: Vec<Job>, done_lines: Vec<DoneLine>) -> Listed
     requires { (ls : List (List ℕ)) × ((account_of_lines ls).standing ≡ feeds.Ended)
-        × ListsIn declared jobs.items dones.items (account_of_lines ls) }
+        × ListsIn declared jobs.items done_lines.items (account_of_lines ls) }
     ensures { (ls : List (List ℕ)) → has_too_many (account_of_lines ls) ≡ false
         → (account_of_lines ls).standing ≡ feeds.Ended
-        → ListsIn declared jobs.items dones.items (account_of_lines ls) → IsEnded result (account_of_lines ls) }
+        → ListsIn declared jobs.items done_lines.items (account_of_lines ls) → IsEnded result (account_of_lines ls) }
 {
     match declared {
         Some(rules) => Listed {
             ratio: rules.0,
             version: rules.1,
             jobs,
-            dones,
+            done_lines,
         },
         None => unreachable!(),
     }
@@ -53,7 +53,7 @@ impl FeedReader {
                 intake: Intake::new(),
                 declared: None,
                 jobs: Vec::new(alloc),
-                dones: Vec::new(alloc),
+                done_lines: Vec::new(alloc),
                 going: true,
                 too_many: false,
             },
@@ -71,9 +71,9 @@ impl FeedReader {
             OnErr result (0 < admitted_in (account (x ++ byte ∷ []))) }
     {
         match self.lines.push(byte) {
-            Step::More => Ok(()),
-            Step::Line => self.gathering.take_line(self.lines.line()),
-            Step::TooLong => self.gathering.take_line(self.lines.line()),
+            ByteEffect::More => Ok(()),
+            ByteEffect::Line => self.gathering.take_line(self.lines.line()),
+            ByteEffect::TooLong => self.gathering.take_line(self.lines.line()),
         }
     }
 
@@ -148,10 +148,10 @@ impl FeedReader {
                 let Gathering {
                     declared,
                     jobs,
-                    dones,
+                    done_lines,
                     ..
                 } = self.gathering;
-                Ok(listed(declared, jobs, dones))
+                Ok(listed(declared, jobs, done_lines))
             }
             Err(fault) => Err(NotListed::Fault(fault)),
         }

@@ -1,32 +1,20 @@
 -- What each line of a feed adds to what is due, and how the lane comes to owe it.
-use Rattle.std.proofs.Common.{◌≡◌, ℕ, suc, ◌<◌, ◌^◌, List, [], ◌∷◌, ◌++◌, length, map, refl, sym, ap, ◌∙◌}
-use Rattle.std.proofs.Common.{subst, arith, inl, inr, ◌⊎◌, Bool, true, false, Some, None, Option, cond}
-use Rattle.std.proofs.lemmas.List.{append-nil}
-use Rattle.std.specs.Prelude.{drop}
+use Rattle.std.proofs.Common.{◌≡◌, ℕ, suc, ◌<◌, ◌^◌, List, [], ◌∷◌, ◌++◌, length, map, refl, sym, ap, ◌∙◌, subst, arith}
+use Rattle.std.proofs.Common.{inl, inr, ◌⊎◌, Bool, true, false, Some, None, Option, cond, append-nil, drop}
 use Rattle.std.proofs.lemmas.List.Sums.{fold-append}
 use Rattle.dover_model.specs.declared.events.Event.{Event}
 use Rattle.dover_model.specs.declared.events.Version.{Version}
-use Rattle.dover_model.specs.Fraction.{Fraction}
-use Rattle.dover_model.specs.Instance.{Declaration, IsValid}
-use Rattle.dover_model.specs.Session.{RefusedItem, Refused, RefusedLine, Session, instance_of, new_session}
-use Rattle.dover_model.specs.Session.{with_item}
-use Rattle.dover_model.specs.Run.{printed}
-use Rattle.dover_model.specs.Settled.{settled}
-use Rattle.dover_model.specs.WholeRun.{Begins}
-use Rattle.dover_model.specs.Text.{header, text_of, refused_text}
-use Rattle.dover_model.specs.Trace.{Printed, text_of_line, texts_among}
-use Rattle.dover_model.specs.Feed.{read_line, Account, Standing, Open, Ended, Faulty, Cause, rules_with, no_lines}
-use Rattle.dover_model.specs.Feed.{next_line, account_of_lines, is_open}
-use Rattle.dover_model.specs.Due.{due_lines, fault_text}
-use Rattle.dover_model.proofs.Accounts.{Holds, HoldsBy, IsKept, lines_goes, account_with}
-use Rattle.dover_model.proofs.Emitting.{texts_more, texts_refused}
-use Rattle.dover_model.proofs.Growing.{settled_later, settled_of_run}
-use Rattle.dover_model.proofs.Growing.{refused_instance}
+use Rattle.dover_model.specs.Common.{Fraction, Declaration, IsValid, RefusedItem, Refused, RefusedLine, Session}
+use Rattle.dover_model.specs.Common.{instance_of, new_session, with_item, printed, settled, Begins, header, text_of}
+use Rattle.dover_model.specs.Common.{refused_text, Printed, text_of_line, texts_among, read_line, Account, Standing}
+use Rattle.dover_model.specs.Common.{Open, Ended, Faulty, Cause, rules_with, no_lines, next_line, account_of_lines}
+use Rattle.dover_model.specs.Common.{is_open, due_lines, fault_text, no_jobs, due_by}
+use Rattle.dover_model.proofs.sessions.Accounts.{Holds, HoldsBy, IsKept, lines_goes, account_with}
+use Rattle.dover_model.proofs.sessions.Emitting.{texts_more, texts_refused}
+use Rattle.dover_model.proofs.sessions.Growing.{settled_later, settled_of_run, refused_instance}
 use Rattle.dover_model.specs.declared.horizon.Horizon.TheVariants.{Mark, End}
-use Rattle.dover_model.specs.Horizons.{no_jobs, due_by}
 use Rattle.event_feed.specs.Kept.{cause_of_fault}
-use Rattle.event_feed.specs.Answers.{DeclaresRatio, MovesMark, EndsFeed, NewFault, OldFault}
-use Rattle.event_feed.specs.Answers.{counted}
+use Rattle.event_feed.specs.Answers.{DeclaresRatio, MovesMark, EndsFeed, NewFault, OldFault, counted}
 use Rattle.event_feed.specs.declared.faults.FeedFault.{FeedFault}
 use Rattle.lane_server.specs.Lanes.{lines_added}
 use Rattle.lane_server.specs.Lane.{Fits, Running, reach}
@@ -53,8 +41,7 @@ pub open_stands : (a : Account) → is_open a ≡ true → a.standing ≡ Open
 open_stands a opened = by_standing a.standing opened where
   by_standing : (s : Standing) → elim s [ Open ↦ true | Ended ↦ false | Faulty line cause ↦ false ] ≡ true → s ≡ Open
   by_standing Open e = refl
-  by_standing Ended e = absurd (let f : false ≡ true = e in cc)
-  by_standing (Faulty line cause) e = absurd (let f : false ≡ true = e in cc)
+  by_standing _ e = absurd (let f : false ≡ true = e in cc)
 
 -- whether it goes on, by how it stands
 pub opens_by : (a : Account) (s : Standing) → a.standing ≡ s

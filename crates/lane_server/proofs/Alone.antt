@@ -1,37 +1,30 @@
 -- What stands on the output for a lane is what its feed alone calls for.
 use Rattle.std.proofs.Common.{◌≡◌, ◌<◌, ◌≤◌, ℕ, zero, suc, ◌+◌, List, [], ◌∷◌, ◌++◌, map, refl, sym, ap, ◌∙◌, subst}
-use Rattle.std.proofs.Common.{Option, Some, None, Bool, true, false}
-use Rattle.std.proofs.Common.{cond, ◌==◌, arith, decimal, codes, length, append_assoc, append-nil, ◌⊎◌, inl, inr}
-use Rattle.std.proofs.Common.{bytes_eq}
-use Rattle.std.proofs.Common.{nat_lt}
-use Rattle.std.specs.List.{AllByRecursion, onto_first, flat_map, range_with_len, fold, filter}
-use Rattle.std.specs.Option.{option_and_then}
+use Rattle.std.proofs.Common.{Option, Some, None, Bool, true, false, cond, ◌==◌, arith, decimal, codes, length}
+use Rattle.std.proofs.Common.{append_assoc, append-nil, ◌⊎◌, inl, inr, bytes_eq, nat_lt, flat_map, fold, filter}
+use Rattle.std.proofs.Common.{option_and_then, ltb-true, ne_eqb, eqb-true, eq-eqb}
+use Rattle.std.specs.List.{AllByRecursion, onto_first, range_with_len}
 use Rattle.std.specs.Str.{all_ascii_digits}
-use Rattle.std.proofs.lemmas.Bool.{ltb-true, ne_eqb, eqb-true, eq-eqb, and_parts, cases_lt}
+use Rattle.std.proofs.lemmas.Bool.{and_parts, cases_lt}
 use Rattle.std.proofs.lemmas.Fmt.{decimal_injective}
 use Rattle.std.proofs.lemmas.Grind.{flat_map-append}
 use Rattle.std.proofs.lemmas.List.Splits.{length-slice_split}
 use Rattle.std.proofs.lemmas.Slice.Eq.{bytes_eq-Decides}
 use Rattle.dover_model.specs.declared.events.Version.TheVariants.{Three}
-use Rattle.dover_model.specs.Limits.{most_lines}
-use Rattle.dover_model.specs.Numerals.{numeral}
-use Rattle.dover_model.specs.Lines.{fields_of, line_of, in_lines, whole_lines, lines_of, is_too_long}
-use Rattle.dover_model.specs.Feed.{account_of_lines, account}
-use Rattle.dover_model.specs.Due.{due, due_lines, closed, short_lines}
-use Rattle.dover_model.proofs.Beginnings.{in_lines-append}
-use Rattle.dover_model.proofs.Cuts.{CutText, HasNoFeed, cut_in_lines}
-use Rattle.dover_model.proofs.Fields.{is_space, HasNoSpace, digits_have_no_space, line_of-fields_of}
-use Rattle.dover_model.proofs.Members.{all_append}
-use Rattle.dover_model.proofs.NoFeeds.{feedless_line, feedless_behind, feedless_decimal, decimal_digits}
-use Rattle.dover_model.proofs.ShortNumbers.{all_drop}
-use Rattle.dover_model.proofs.Tests.{never, not_true}
+use Rattle.dover_model.specs.Common.{most_lines, numeral, fields_of, line_of, in_lines, whole_lines, lines_of}
+use Rattle.dover_model.specs.Common.{is_too_long, account_of_lines, account, due, due_lines, closed, short_lines}
+use Rattle.dover_model.specs.Common.{refused_line}
+use Rattle.dover_model.proofs.lists.Beginnings.{in_lines-append}
+use Rattle.dover_model.proofs.texts.Cuts.{CutText, HasNoFeed, cut_in_lines}
+use Rattle.dover_model.proofs.texts.Fields.{is_space, HasNoSpace, digits_have_no_space, line_of-fields_of}
+use Rattle.dover_model.proofs.lists.Members.{all_append}
+use Rattle.dover_model.proofs.texts.NoFeeds.{feedless_line, feedless_behind, feedless_decimal, decimal_digits}
+use Rattle.dover_model.proofs.traces.ShortNumbers.{all_drop}
+use Rattle.dover_model.proofs.lists.Tests.{never, not_true}
 use Rattle.lane_server.specs.Lanes.{lane_count, LaneLine, OfLane, Close, lane_line, numbered_line, of_lane, Handed}
-use Rattle.lane_server.specs.Lanes.{Input, InputStanding, Open, Closed, Faulty}
-use Rattle.lane_server.specs.Lanes.{TooManyLines, BadLane, no_input, next_line, goes_on}
-use Rattle.lane_server.specs.Lanes.{input, lane_lines, lane_account}
-use Rattle.lane_server.specs.Lanes.{in_lane, lines_added, newly_due, due_after, feed_short, lane_short, shorts_from}
-use Rattle.lane_server.specs.Lanes.{fault_word}
-use Rattle.dover_model.specs.Text.{refused_line}
+use Rattle.lane_server.specs.Lanes.{Input, InputStanding, Open, Closed, Faulty, TooManyLines, BadLane, no_input}
+use Rattle.lane_server.specs.Lanes.{next_line, goes_on, input, lane_lines, lane_account, in_lane, lines_added}
+use Rattle.lane_server.specs.Lanes.{newly_due, due_after, feed_short, lane_short, shorts_from, fault_word}
 use Rattle.lane_server.specs.Lanes.{closing_lines, lanes_closed}
 use Rattle.lane_server.specs.Alone.{behind_number, text_of_lane, lane_feed, closed_feed, served_alone}
 use Rattle.lane_server.proofs.Feeding.{due_added}
@@ -64,25 +57,20 @@ line_plain bytes none = by_tests (is_too_long bytes) (bytes_eq bytes (codes "clo
   by_number rest (Some number) feedless = by_lane rest number (nat_lt number lane_count) refl feedless
 
   by_fields : (fields : List (List ℕ)) → line_of fields ≡ bytes → IsPlainLine (numbered_line fields)
-  by_fields [] joined = tt
-  by_fields (first ∷ []) joined = tt
   by_fields (first ∷ field ∷ fields) joined = by_number (line_of (field ∷ fields)) (numeral first)
       (feedless_behind first (32 ∷ line_of (field ∷ fields)) (subst HasNoFeed (sym joined) none))
+  by_fields _ joined = tt
 
   by_tests : (b c : Bool) → IsPlainLine (cond b None (cond c (Some Close) (numbered_line (fields_of bytes))))
-  by_tests true c = tt
-  by_tests false true = tt
   by_tests false false = by_fields (fields_of bytes) (line_of-fields_of bytes)
+  by_tests _ _ = tt
 
 -- one line more
 next_plain : (a : Input) (on many : Bool) (o : Option LaneLine) → AllByRecursion IsPlain a.handed → IsPlainLine o
     → AllByRecursion IsPlain (read_after a on many o).handed
-next_plain a false many o all plain = all
-next_plain a true true o all plain = all
-next_plain a true false None all plain = all
-next_plain a true false (Some Close) all plain = all
 next_plain a true false (Some (OfLane lane line)) all plain =
     all_append IsPlain a.handed (record { lane = lane; line = line } ∷ []) all (plain, tt)
+next_plain a _ _ _ all plain = all
 
 -- all lines
 lines_plain : (ls : List (List ℕ)) (a : Input) → AllByRecursion IsPlain a.handed → AllByRecursion HasNoFeed ls

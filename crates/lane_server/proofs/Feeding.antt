@@ -1,21 +1,12 @@
 -- What bytes of a feed hand to its lane, and what is left to give then.
 use Rattle.std.proofs.Common.{Bool, ◌≡◌, ℕ, List, [], ◌∷◌, ◌++◌, sym, ap, ◌∙◌, subst, refl, true, false, cond, Some}
-use Rattle.std.proofs.Common.{Result}
-use Rattle.std.proofs.Common.{Ok, Err}
-use Rattle.std.proofs.lemmas.List.{append-nil}
-use Rattle.std.specs.Prelude.{OnOk, OnErr, None, length}
-use Rattle.std.specs.Option.{option_map}
+use Rattle.std.proofs.Common.{Result, Ok, Err, append-nil, OnOk, OnErr, None, length, option_map}
 use Rattle.dover_model.specs.declared.Memory.{Memory}
-use Rattle.dover_model.specs.Due.{due_lines}
-use Rattle.dover_model.specs.Feed.{Account, Standing, Open, Ended, Faulty, account, account_of_lines, is_open, is_ended}
-use Rattle.dover_model.specs.Feed.{next_line}
-use Rattle.dover_model.specs.Lines.{lines_of, rest_of, is_too_long}
-use Rattle.dover_model.specs.Session.{Session, instance_of, admitted_jobs}
-use Rattle.dover_model.specs.Settled.{settled}
-use Rattle.dover_model.specs.WholeRun.{Begins}
-use Rattle.dover_model.proofs.Accounts.{lines_goes}
+use Rattle.dover_model.specs.Common.{due_lines, Account, Standing, Open, Ended, Faulty, account, account_of_lines}
+use Rattle.dover_model.specs.Common.{is_open, is_ended, next_line, lines_of, rest_of, is_too_long, Session, instance_of}
+use Rattle.dover_model.specs.Common.{admitted_jobs, settled, Begins, due_by}
+use Rattle.dover_model.proofs.sessions.Accounts.{lines_goes}
 use Rattle.line_text.specs.Cutting.{Cutting, StandsFor, with_byte}
-use Rattle.dover_model.specs.Horizons.{due_by}
 use Rattle.dover_model.specs.declared.horizon.Horizon.TheVariants.{Mark}
 use Rattle.event_feed.specs.Kept as feed
 use Rattle.event_feed.proofs.GoingOn.{open_short}
@@ -37,8 +28,7 @@ ended_over a ended = by a.standing ended where
   by : (s : Standing) → elim s [ Open ↦ false | Ended ↦ true | Faulty line cause ↦ false ] ≡ true
       → elim s [ Open ↦ true | Ended ↦ false | Faulty line cause ↦ false ] ≡ false
   by Open is = absurd (let e : false ≡ true = is in cc)
-  by Ended is = refl
-  by (Faulty line cause) is = refl
+  by _ is = refl
 
 -- a line adds to what was due
 pub due_added : (ls : List (List ℕ)) (l : List ℕ)

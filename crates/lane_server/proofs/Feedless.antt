@@ -1,34 +1,26 @@
 -- No line that is due has a line feed, nor has a line of a text.
-use Rattle.std.proofs.Common.{◌≡◌, ℕ, suc, List, [], ◌∷◌, refl, ap}
-use Rattle.std.proofs.Common.{Option, Some, None, Bool}
-use Rattle.std.proofs.Common.{true, false}
-use Rattle.std.proofs.Common.{cond, not, ◌&&◌, decimal, codes}
+use Rattle.std.proofs.Common.{◌≡◌, ℕ, suc, List, [], ◌∷◌, refl, ap, Option, Some, None, Bool, true, false, cond, not}
+use Rattle.std.proofs.Common.{◌&&◌, decimal, codes}
 use Rattle.std.specs.List.{AllByRecursion, slice_split, onto_first}
 use Rattle.std.proofs.lemmas.Bool.{and_from}
-use Rattle.dover_model.specs.Lines.{whole_and_rest, whole_lines, rest_of, lines_of, is_too_long}
-use Rattle.dover_model.specs.Session.{Session, instance_of}
-use Rattle.dover_model.specs.Run.{printed}
-use Rattle.dover_model.specs.Settled.{settled}
-use Rattle.dover_model.specs.Trace.{texts_among}
-use Rattle.dover_model.specs.Feed.{Account, Standing, Open, Ended, Faulty, Cause, Lines, Line, Declared, Order}
-use Rattle.dover_model.specs.Feed.{NotAdmitted, NotDone, Short, is_ended, is_open}
-use Rattle.dover_model.specs.Due.{due_lines, decided_lines, fault_lines, fault_text, cause_word, short_lines}
-use Rattle.dover_model.proofs.Cuts.{is_feed, HasNoFeed}
-use Rattle.dover_model.proofs.Members.{all_append}
-use Rattle.dover_model.proofs.NoFeeds.{feedless_line, feedless_decimal, feedless_refusal, feedless_texts}
-use Rattle.dover_model.proofs.NoFeeds.{feedless_header}
+use Rattle.dover_model.specs.Common.{whole_lines, rest_of, lines_of, is_too_long, Session, instance_of, printed}
+use Rattle.dover_model.specs.Common.{settled, texts_among, Account, Standing, Faulty, Cause}
+use Rattle.dover_model.specs.Common.{NotAdmitted, is_ended, is_open, due_lines, decided_lines}
+use Rattle.dover_model.specs.Common.{fault_text, short_lines}
+use Rattle.dover_model.specs.Lines.{whole_and_rest}
+use Rattle.dover_model.specs.Feed.{Short}
+use Rattle.dover_model.specs.Due.{fault_lines, cause_word}
+use Rattle.dover_model.proofs.texts.Cuts.{is_feed, HasNoFeed}
+use Rattle.dover_model.proofs.lists.Members.{all_append}
+use Rattle.dover_model.proofs.texts.NoFeeds.{feedless_line, feedless_decimal, feedless_refusal, feedless_texts}
+use Rattle.dover_model.proofs.texts.NoFeeds.{feedless_header}
 
 -- ---- lines that are due
 
 -- the word of a cause
 feedless_cause : (cause : Cause) → HasNoFeed (cause_word cause)
-feedless_cause Lines = refl
-feedless_cause Line = refl
-feedless_cause Declared = refl
-feedless_cause Order = refl
 feedless_cause (NotAdmitted refusal) = feedless_refusal refusal
-feedless_cause NotDone = refl
-feedless_cause Short = refl
+feedless_cause _ = refl
 
 -- the line of a fault
 pub feedless_fault : (line : ℕ) (cause : Cause) → HasNoFeed (fault_text line cause)
@@ -51,9 +43,8 @@ feedless_due a = all_append HasNoFeed (decided_lines a) (fault_lines a.standing)
       )
 
       at_fault : (s : Standing) → AllByRecursion HasNoFeed (fault_lines s)
-      at_fault Open = tt
-      at_fault Ended = tt
       at_fault (Faulty line cause) = (feedless_fault line cause, tt)
+      at_fault _ = tt
 
 -- and the line of one that is short
 pub feedless_short : (whole : ℕ) (a : Account) → AllByRecursion HasNoFeed (short_lines whole a)

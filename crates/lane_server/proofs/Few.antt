@@ -5,21 +5,16 @@ use Rattle.std.proofs.Common.{false, Option, Some, None, cond, arith, length-app
 use Rattle.std.specs.List.{flat_map, range_with_len, slice_get}
 use Rattle.std.proofs.lemmas.List.{length-map}
 use Rattle.dover_model.specs.declared.events.Event.{Event}
-use Rattle.dover_model.specs.Instance.{Instance, IsValid, with_jobs, with_finishes}
-use Rattle.dover_model.specs.Session.{Session, EarlyFinish, instance_of, finish_at}
-use Rattle.dover_model.specs.Text.{text_of}
-use Rattle.dover_model.specs.Feed.{Account, Short, account_of_lines, is_open}
-use Rattle.dover_model.specs.Due.{fault_text}
+use Rattle.dover_model.specs.Common.{Instance, IsValid, with_jobs, with_finishes, Session, EarlyFinish, instance_of}
+use Rattle.dover_model.specs.Common.{finish_at, text_of, Account, account_of_lines, is_open, fault_text, due_by}
+use Rattle.dover_model.specs.Common.{settled, is_full, JobFacts}
+use Rattle.dover_model.specs.Feed.{Short}
 use Rattle.dover_model.specs.declared.horizon.Horizon.{Horizon}
 use Rattle.dover_model.specs.declared.horizon.Horizon.TheVariants.{Mark}
-use Rattle.dover_model.specs.Horizons.{due_by}
-use Rattle.dover_model.proofs.Horizons.{due_few}
-use Rattle.dover_model.proofs.Meeting.{finishing_valid}
-use Rattle.dover_model.proofs.Limiting.{jobs_most}
-use Rattle.dover_model.specs.Settled.{settled}
-use Rattle.dover_model.proofs.Valid.{valid_front}
-use Rattle.dover_model.specs.Session.{is_full}
-use Rattle.dover_model.specs.JobFacts.{JobFacts}
+use Rattle.dover_model.proofs.settled.Horizons.{due_few}
+use Rattle.dover_model.proofs.finishes.Meeting.{finishing_valid}
+use Rattle.dover_model.proofs.valid.Limiting.{jobs_most}
+use Rattle.dover_model.proofs.valid.Valid.{valid_front}
 use Rattle.lane_server.proofs.Finishing.{lines_by}
 use Rattle.lane_server.proofs.Offering as offer
 use Rattle.lane_server.specs.Lanes.{lane_count, Handed, input_of_lines, lane_lines, in_lane, feed_short, lane_short}
@@ -89,14 +84,12 @@ pub owes_few : (work : Work) (server : Option RosterServer) (a : Account)
     (rest : List (List ℕ)) → Owes work server a rest → length rest ≤ 20_000_000_002
 owes_few Nothing server a rest owes = omega (arith, ap length owes.0)
 owes_few (Give out) server a rest owes = omega (arith, ap length owes.0)
-owes_few (Run to) None a rest owes = absurd owes
 owes_few (Run to) (Some v) a rest owes = omega (
   arith,
   ap length owes.texts,
   length-map owes.left text_of,
   left_few (instance_of owes.session) to owes.events owes.left owes.valid owes.due,
 )
-owes_few (Admit job) None a rest owes = absurd owes
 owes_few (Admit job) (Some v) a rest owes = omega (
   arith,
   ap length owes.texts,
@@ -104,7 +97,6 @@ owes_few (Admit job) (Some v) a rest owes = omega (
   length-map owes.left text_of,
   job_few owes.session job owes.events owes.left owes.valid owes.due,
 )
-owes_few (Finish at number) None a rest owes = absurd owes
 owes_few (Finish at number) (Some v) a rest owes = omega (
   arith,
   ap length owes.texts,
@@ -112,6 +104,7 @@ owes_few (Finish at number) (Some v) a rest owes = omega (
   length-map owes.left text_of,
   done_few owes.session at number owes.events owes.left owes.valid owes.due,
 )
+owes_few _ None a rest owes = absurd owes
 
 -- a feed is short once at most
 short_few : (ls : List (List ℕ)) → length (feed_short ls) ≤ 1

@@ -1,12 +1,9 @@
 -- Lanes that have no line, or are ended without a fault.
 use Rattle.std.proofs.Common.{◌≡◌, ◌<◌, ◌-◌, ◌+◌, ◌⊎◌, inl, inr, ℕ, suc, List, [], ◌∷◌, length, refl, sym, ap, ◌∙◌}
-use Rattle.std.proofs.Common.{subst}
-use Rattle.std.proofs.Common.{Bool, true, false, ◌&&◌}
-use Rattle.std.proofs.Common.{arith, Some, get_or}
-use Rattle.std.specs.List.{slice_get, list_all, range_with_len}
+use Rattle.std.proofs.Common.{subst, Bool, true, false, ◌&&◌, arith, Some, get_or, slice_get, nat_eq}
+use Rattle.std.specs.List.{list_all, range_with_len}
 use Rattle.std.proofs.lemmas.Option.{slice_get_read}
 use Rattle.std.proofs.lemmas.Bool.{cases_eq}
-use Rattle.std.specs.Prelude.{nat_eq}
 use Rattle.dover_model.specs.Feed.{Open, Faulty, account_of_lines, is_open, is_ended}
 use Rattle.event_feed.specs.Answers.{short_after}
 use Rattle.event_feed.specs.Kept.{cause_of_fault}

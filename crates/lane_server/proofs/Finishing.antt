@@ -1,34 +1,26 @@
 -- A done line whose tick isn't below the mark: what it adds, and what is left of that after each step of the server.
 use Rattle.std.proofs.Common.{◌≡◌, ◌≤◌, ◌<◌, ◌^◌, max, ℕ, List, [], ◌∷◌, ◌++◌, length, drop, map, refl, sym, ap, ◌∙◌}
-use Rattle.std.proofs.Common.{subst, Option, Some, None, is_some, cond, Bool, true, arith}
-use Rattle.std.specs.Prelude.{◌&&◌}
-use Rattle.std.specs.Option.{option_map, option_map_or}
-use Rattle.std.proofs.lemmas.Bool.{le-leb}
-use Rattle.std.proofs.lemmas.List.{append-nil, append_assoc}
+use Rattle.std.proofs.Common.{subst, Option, Some, None, is_some, cond, Bool, true, arith, ◌&&◌, option_map, le-leb}
+use Rattle.std.proofs.Common.{append-nil, append_assoc}
+use Rattle.std.specs.Option.{option_map_or}
 use Rattle.dover_model.specs.declared.events.Event.{Event}
 use Rattle.dover_model.specs.declared.events.Event.TheVariants.{Complete}
 use Rattle.dover_model.specs.declared.horizon.Horizon.{Horizon}
 use Rattle.dover_model.specs.declared.horizon.Horizon.TheVariants.{Mark}
-use Rattle.dover_model.specs.Horizons.{due_by}
-use Rattle.dover_model.specs.Instance.{Instance, IsValid, with_finishes}
-use Rattle.dover_model.specs.Session.{Session, FinishItem, RefusedItem, EarlyFinish, Refused, RefusedDone, instance_of}
-use Rattle.dover_model.specs.Session.{with_item, with_named, refused_done_at, early_at, finish_at, may_finish_early}
-use Rattle.dover_model.specs.Settled.{settled}
-use Rattle.dover_model.specs.Text.{header, text_of, refused_text, step_numbers}
-use Rattle.dover_model.specs.Trace.{text_of_line, texts_among, places_of, put_in}
-use Rattle.dover_model.specs.Numerals.{AreShort}
-use Rattle.dover_model.specs.WholeRun.{Begins}
-use Rattle.dover_model.specs.Feed.{Account, Open}
-use Rattle.dover_model.specs.Due.{due_lines}
-use Rattle.dover_model.proofs.Accounts.{IsKept}
-use Rattle.dover_model.proofs.Beginnings.{begins_all, begins_onward}
-use Rattle.dover_model.proofs.Emitting.{texts_more, texts_refused}
-use Rattle.dover_model.proofs.Further.{completes_at_mark}
-use Rattle.dover_model.proofs.Growing.{Reads, reads_later, settled_later, finish_instance, refused_instance}
-use Rattle.dover_model.proofs.Horizons.{follows_on}
-use Rattle.dover_model.proofs.Meeting.{finishing_valid}
-use Rattle.dover_model.proofs.PutIn.{places_after-append}
-use Rattle.dover_model.proofs.RightFinishes.{FinishSays, finish_says, finish_runs}
+use Rattle.dover_model.specs.Common.{due_by, Instance, IsValid, with_finishes, Session, FinishItem, RefusedItem}
+use Rattle.dover_model.specs.Common.{EarlyFinish, Refused, RefusedDone, instance_of, with_item, with_named}
+use Rattle.dover_model.specs.Common.{refused_done_at, early_at, finish_at, may_finish_early, settled, header, text_of}
+use Rattle.dover_model.specs.Common.{refused_text, step_numbers, text_of_line, texts_among, places_of, put_in, AreShort}
+use Rattle.dover_model.specs.Common.{Begins, Account, Open, due_lines}
+use Rattle.dover_model.proofs.sessions.Accounts.{IsKept}
+use Rattle.dover_model.proofs.lists.Beginnings.{begins_all, begins_onward}
+use Rattle.dover_model.proofs.sessions.Emitting.{texts_more, texts_refused}
+use Rattle.dover_model.proofs.finishes.Further.{completes_at_mark}
+use Rattle.dover_model.proofs.sessions.Growing.{Reads, reads_later, settled_later, finish_instance, refused_instance}
+use Rattle.dover_model.proofs.settled.Horizons.{follows_on}
+use Rattle.dover_model.proofs.finishes.Meeting.{finishing_valid}
+use Rattle.dover_model.proofs.sessions.PutIn.{places_after-append}
+use Rattle.dover_model.proofs.finishes.RightFinishes.{FinishSays, finish_says, finish_runs}
 use Rattle.event_feed.specs.Answers.{AddsDone, counted}
 use Rattle.event_feed.proofs.DoneLines.{session_done, done_session, done_standing, done_mark}
 use Rattle.lane_server.specs.Lane.{Fits, Running, Finishing, done_item, done_lines}

@@ -1,20 +1,17 @@
 -- What a line of the input hands to its lane.
-use Rattle.std.proofs.Common.{◌≡◌, ◌<◌, ◌+◌, ◌-◌, ℕ, suc, List, [], ◌∷◌, ◌++◌, length, map, refl, sym, ap, ◌∙◌}
-use Rattle.std.proofs.Common.{arith, Bool, true, false, cond, ◌==◌, Option, Some, None}
-use Rattle.std.specs.Prelude.{option_map}
-use Rattle.std.specs.Option.{option_and_then}
-use Rattle.std.specs.List.{filter, flat_map, range_with_len}
-use Rattle.std.proofs.lemmas.Bool.{ne_eqb, eqb-false, lt-ltb}
-use Rattle.std.proofs.lemmas.List.{append-nil, map-append}
+use Rattle.std.proofs.Common.{◌≡◌, ◌<◌, ◌+◌, ◌-◌, ℕ, suc, List, [], ◌∷◌, ◌++◌, length, map, refl, sym, ap, ◌∙◌, arith}
+use Rattle.std.proofs.Common.{Bool, true, false, cond, ◌==◌, Option, Some, None, option_map, option_and_then, filter}
+use Rattle.std.proofs.Common.{flat_map, ne_eqb, lt-ltb, append-nil}
+use Rattle.std.specs.List.{range_with_len}
+use Rattle.std.proofs.lemmas.Bool.{eqb-false}
+use Rattle.std.proofs.lemmas.List.{map-append}
 use Rattle.std.proofs.lemmas.List.Elements.{filter-append}
 use Rattle.std.proofs.lemmas.List.Splits.{join_with_byte-slice_split, length-slice_split}
-use Rattle.dover_model.specs.Lines.{fields_of, line_of}
-use Rattle.dover_model.specs.Numerals.{numeral}
+use Rattle.dover_model.specs.Common.{fields_of, line_of, numeral, fault_text}
 use Rattle.dover_model.specs.Feed.{Short}
-use Rattle.dover_model.specs.Due.{fault_text}
 use Rattle.line_text.specs.Reading.{number_of_first}
-use Rattle.lane_server.specs.Lanes.{lane_count, OfLane, numbered_line, of_lane, Handed}
-use Rattle.lane_server.specs.Lanes.{lane_lines, in_lane, feed_short, lane_short, shorts_from}
+use Rattle.lane_server.specs.Lanes.{lane_count, OfLane, numbered_line, of_lane, Handed, lane_lines, in_lane, feed_short}
+use Rattle.lane_server.specs.Lanes.{lane_short, shorts_from}
 use Rattle.lane_server.specs.Shorts.{short_texts}
 
 -- ---- reading

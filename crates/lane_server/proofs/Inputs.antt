@@ -1,25 +1,17 @@
 -- The input of more lines and of more bytes, and what is due for it.
 use Rattle.std.proofs.Common.{◌≡◌, ◌<◌, ◌≤◌, ◌+◌, ℕ, suc, List, [], ◌∷◌, ◌++◌, length, refl, sym, ap, ◌∙◌, subst}
-use Rattle.std.proofs.Common.{Option, Some, None, Bool, true}
-use Rattle.std.proofs.Common.{false, cond}
-use Rattle.std.proofs.Common.{append_assoc, append-nil, arith, codes, bytes_eq}
-use Rattle.std.specs.Prelude.{nat_lt}
-use Rattle.std.specs.List.{fold}
-use Rattle.std.proofs.lemmas.Bool.{lt-ltb, ltb-true, ltb-false}
+use Rattle.std.proofs.Common.{Option, Some, None, Bool, true, false, cond, append_assoc, append-nil, arith, codes}
+use Rattle.std.proofs.Common.{bytes_eq, nat_lt, fold, lt-ltb, ltb-true, ltb-false}
 use Rattle.std.proofs.lemmas.List.Sums.{fold-append}
 use Rattle.dover_model.specs.declared.events.Version.TheVariants.{Three}
-use Rattle.dover_model.specs.Limits.{most_lines}
-use Rattle.dover_model.specs.Lines.{whole_lines, rest_of, lines_of, is_too_long, fields_of}
-use Rattle.dover_model.specs.WholeRun.{Begins}
-use Rattle.dover_model.proofs.GrowingTexts.{read_append}
-use Rattle.dover_model.proofs.Beginnings.{begins_in_lines}
-use Rattle.dover_model.proofs.Tests.{never}
+use Rattle.dover_model.specs.Common.{most_lines, whole_lines, rest_of, lines_of, is_too_long, fields_of, Begins}
+use Rattle.dover_model.proofs.texts.GrowingTexts.{read_append}
+use Rattle.dover_model.proofs.lists.Beginnings.{begins_in_lines}
+use Rattle.dover_model.proofs.lists.Tests.{never}
 use Rattle.line_text.proofs.Lengths.{AreNotTooLong, text_few}
 use Rattle.lane_server.specs.Lanes.{LaneLine, OfLane, Close, lane_line, numbered_line, Handed, Input, InputStanding}
-use Rattle.lane_server.specs.Lanes.{Open, Closed, Faulty}
-use Rattle.lane_server.specs.Lanes.{TooManyLines, BadLane}
-use Rattle.lane_server.specs.Lanes.{no_input, next_line, with_lane_line, goes_on_at, goes_on, input_of_lines, input}
-use Rattle.lane_server.specs.Lanes.{newly_due, due_after, lane_due, HasLine}
+use Rattle.lane_server.specs.Lanes.{Open, Closed, Faulty, TooManyLines, BadLane, no_input, next_line, with_lane_line}
+use Rattle.lane_server.specs.Lanes.{goes_on_at, goes_on, input_of_lines, input, newly_due, due_after, lane_due, HasLine}
 
 -- ---- one line more
 
@@ -28,8 +20,7 @@ pub is_open : (a : Input) → goes_on a ≡ true → a.standing ≡ Open
 is_open a on = by_standing a.standing on where
   by_standing : (s : InputStanding) → goes_on_at s ≡ true → s ≡ Open
   by_standing Open on = refl
-  by_standing Closed on = never on
-  by_standing (Faulty line fault) on = never on
+  by_standing _ on = never on
 
 -- one that goes on, with a line more: whether it is one too many, and what it is
 abbrev read_on : Input → Bool → Option LaneLine → Input
@@ -110,11 +101,8 @@ Grows a b = (more : List Handed) × (b.handed ≡ a.handed ++ more)
 
 -- a line
 line_grows : (a : Input) (on many : Bool) (o : Option LaneLine) → Grows a (read_after a on many o)
-line_grows a false many o = ([], sym (append-nil a.handed))
-line_grows a true true o = ([], sym (append-nil a.handed))
-line_grows a true false None = ([], sym (append-nil a.handed))
-line_grows a true false (Some Close) = ([], sym (append-nil a.handed))
 line_grows a true false (Some (OfLane lane line)) = (record { lane = lane; line = line } ∷ [], refl)
+line_grows a _ _ _ = ([], sym (append-nil a.handed))
 
 -- many lines
 lines_grow : (ls : List (List ℕ)) (a : Input) → Grows a (fold next_line a ls)
@@ -182,9 +170,8 @@ next_good a l on =
       line_by long = cond long None (cond (bytes_eq l (codes "close")) (Some Close) (numbered_line (fields_of l)))
 
       counted : (o : Option LaneLine) → (read_on a false o).lines ≡ suc a.lines
-      counted None = refl
       counted (Some Close) = refl
-      counted (Some (OfLane lane line)) = refl
+      counted _ = refl
 
       by_tests : (goes many long : Bool) → goes_on a ≡ goes → nat_lt (most_lines Three) (suc a.lines) ≡ many
           → is_too_long l ≡ long
@@ -192,14 +179,13 @@ next_good a l on =
           → (goes_on a ≡ true) × (suc a.lines ≤ most_lines Three) × (length l ≤ 128)
           × ((read_after a goes many (line_by long)).lines ≡ suc a.lines)
       by_tests false many long was few fits on = never (sym was ∙ on)
-      by_tests true true long was few fits on = never on
-      by_tests true false true was few fits on = never on
       by_tests true false false was few fits on = (
         was,
         ltb-false (most_lines Three) (suc a.lines) few,
         ltb-false 128 (length l) fits,
         counted (line_by false),
       )
+      by_tests _ _ _ was few fits on = never on
 
 -- lines before which the input goes on behind them
 went_on : (ls : List (List ℕ)) (a : Input) → goes_on (fold next_line a ls) ≡ true → goes_on a ≡ true

@@ -1,18 +1,15 @@
 -- What the lanes keep of the input, line by line and step by step.
 use Rattle.std.proofs.Common.{◌≡◌, ◌<◌, ◌+◌, ◌-◌, ◌⊎◌, inl, inr, ℕ, zero, suc, List, [], ◌∷◌, ◌++◌, length, map, refl}
-use Rattle.std.proofs.Common.{sym, ap, ◌∙◌, subst, arith, true, false}
-use Rattle.std.proofs.Common.{Some, None, get_or}
+use Rattle.std.proofs.Common.{sym, ap, ◌∙◌, subst, arith, true, false, Some, None, get_or, slice_get, get_or-set_other}
+use Rattle.std.proofs.Common.{get_or-set_same, length-set}
 use Rattle.std.proofs.Math.ListN.{set}
-use Rattle.std.specs.List.{slice_get}
-use Rattle.std.proofs.lemmas.List.{get_or-set_other, get_or-set_same, length-set}
 use Rattle.std.proofs.lemmas.Option.{slice_get_within, get_or_from_slice_get, slice_get_read}
 use Rattle.std.proofs.lemmas.Bool.{cases_eq}
 use Rattle.dover_model.specs.declared.events.Version.TheVariants.{Three}
 use Rattle.dover_model.specs.Limits.{most_lines}
 use Rattle.event_feed.specs.declared.faults.Cause.TheVariants as cause
 use Rattle.lane_server.specs.Lanes.{lane_count, OfLane, Close, lane_line, Handed, Input, input_of_lines, lane_lines}
-use Rattle.lane_server.specs.Lanes.{in_lane}
-use Rattle.lane_server.specs.Lanes.{lines_added, shorts_from}
+use Rattle.lane_server.specs.Lanes.{in_lane, lines_added, shorts_from}
 use Rattle.lane_server.specs.Lane.{Stands, IsQuiet, Gives}
 use Rattle.lane_server.specs.Kept.{Kept, AllQuiet, Leaves, StandsFor, IsFed, IsClosed, HasRoom, GivesNext, is_closed}
 use Rattle.lane_server.specs.Shorts.{IsFirstShort}

@@ -1,18 +1,15 @@
 -- The feeds of lanes that ended.
 use Rattle.std.proofs.Common.{◌≡◌, ◌≤◌, ◌<◌, ◌+◌, ◌⊎◌, inl, inr, ℕ, zero, suc, List, [], ◌∷◌, ◌++◌, length, refl, ap}
-use Rattle.std.proofs.Common.{◌∙◌, subst, arith}
-use Rattle.std.proofs.Common.{Bool, true, false, cond}
-use Rattle.std.specs.Prelude.{◌≢◌}
+use Rattle.std.proofs.Common.{◌∙◌, subst, arith, Bool, true, false, cond, ◌≢◌, append-nil}
 use Rattle.std.specs.List.{list_all, range_with_len}
 use Rattle.std.proofs.lemmas.Bool.{and_parts, cases_lt}
-use Rattle.std.proofs.lemmas.List.{append-nil}
 use Rattle.dover_model.specs.Lines.{whole_lines, in_lines}
 use Rattle.dover_model.specs.Feed as feeds
 use Rattle.dover_model.specs.Feed.{Standing, Short, account, account_of_lines, is_ended}
 use Rattle.dover_model.specs.Due.{due, fault_text}
-use Rattle.dover_model.proofs.Tests.{never}
-use Rattle.lane_server.specs.Lanes.{lane_count, Handed, Input, InputStanding, Open, Closed, Faulty}
-use Rattle.lane_server.specs.Lanes.{input, lane_lines, is_fine, all_ended}
+use Rattle.dover_model.proofs.lists.Tests.{never}
+use Rattle.lane_server.specs.Lanes.{lane_count, Handed, Input, InputStanding, Open, Closed, Faulty, input, lane_lines}
+use Rattle.lane_server.specs.Lanes.{is_fine, all_ended}
 use Rattle.lane_server.specs.Alone.{lane_feed, closed_feed, served_alone}
 use Rattle.lane_server.proofs.Alone.{lane_feed_account}
 
@@ -59,15 +56,13 @@ closed_ended (b ∷ F) ended =
           → elim s [ feeds.Open ↦ false | feeds.Ended ↦ true | feeds.Faulty line cause ↦ false ] ≡ true
           → cond (elim s [ feeds.Open ↦ true | feeds.Ended ↦ false | feeds.Faulty line cause ↦ false ])
           (fault_text (suc whole) Short ∷ []) [] ≡ []
-      no_short whole feeds.Open ended = never ended
       no_short whole feeds.Ended ended = refl
-      no_short whole (feeds.Faulty line cause) ended = never ended
+      no_short whole _ ended = never ended
 
 -- what stands on the output for a lane whose feed has ended is due for that feed
 pub served_ended : (a : Input) (lane : ℕ) → is_ended (account (lane_feed a lane)) ≡ true
     → served_alone a lane ≡ due (lane_feed a lane)
 served_ended a lane ended = by_standing a.standing where
   by_standing : (s : InputStanding) → served_alone (record a { standing = s }) lane ≡ due (lane_feed a lane)
-  by_standing Open = refl
   by_standing Closed = closed_ended (lane_feed a lane) ended
-  by_standing (Faulty line fault) = refl
+  by_standing _ = refl

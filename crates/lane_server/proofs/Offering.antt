@@ -1,36 +1,26 @@
 -- The line of a job that may be admitted: what it adds, and what is left of that after each step of the server.
-use Rattle.std.proofs.Common.{◌≡◌, ◌≤◌, ◌<◌, ◌^◌, ℕ, List, [], ◌∷◌, ◌++◌, length, drop, map, refl, sym, ap, ◌∙◌}
-use Rattle.std.proofs.Common.{subst, Some, cond, Bool, true, false, arith, Ok}
-use Rattle.std.proofs.Common.{length-append}
-use Rattle.std.proofs.lemmas.List.{append_assoc, same_from_push}
+use Rattle.std.proofs.Common.{◌≡◌, ◌≤◌, ◌<◌, ◌^◌, ℕ, List, [], ◌∷◌, ◌++◌, length, drop, map, refl, sym, ap, ◌∙◌, subst}
+use Rattle.std.proofs.Common.{Some, cond, Bool, true, false, arith, Ok, length-append, append_assoc}
+use Rattle.std.proofs.lemmas.List.{same_from_push}
 use Rattle.std.proofs.lemmas.List.Sums.{sum_by-append, sum_by-cons}
-use Rattle.dover_model.specs.Limits.{last_tick}
+use Rattle.dover_model.specs.Common.{last_tick, due_by, JobFacts, Instance, IsValid, with_jobs, Session, Item, JobItem}
+use Rattle.dover_model.specs.Common.{RefusedItem, Refused, RefusedJob, instance_of, admitted_jobs, with_item}
+use Rattle.dover_model.specs.Common.{refused_at, is_full, settled, text_of, refused_text, step_numbers, texts_among}
+use Rattle.dover_model.specs.Common.{AreShort, Begins, Account, Open, account_of_lines, due_lines}
 use Rattle.dover_model.specs.declared.events.Event.{Event}
 use Rattle.dover_model.specs.declared.events.Refusal.TheVariants.{Full}
 use Rattle.dover_model.specs.declared.horizon.Horizon.{Horizon}
 use Rattle.dover_model.specs.declared.horizon.Horizon.TheVariants.{Mark}
-use Rattle.dover_model.specs.Horizons.{due_by}
-use Rattle.dover_model.specs.JobFacts.{JobFacts}
-use Rattle.dover_model.specs.Instance.{Instance, IsValid, with_jobs}
-use Rattle.dover_model.specs.Session.{Session, Item, JobItem, RefusedItem, Refused, RefusedJob, instance_of}
-use Rattle.dover_model.specs.Session.{admitted_jobs, with_item, refused_at, is_full}
-use Rattle.dover_model.specs.Settled.{settled}
-use Rattle.dover_model.specs.Text.{text_of, refused_text, step_numbers}
-use Rattle.dover_model.specs.Trace.{texts_among}
-use Rattle.dover_model.specs.Numerals.{AreShort}
-use Rattle.dover_model.specs.WholeRun.{Begins}
-use Rattle.dover_model.specs.Feed.{Account, Open, account_of_lines}
-use Rattle.dover_model.specs.Due.{due_lines}
-use Rattle.dover_model.proofs.JobLimits.{job_limits}
-use Rattle.dover_model.proofs.Accounts.{IsKept}
-use Rattle.dover_model.proofs.Admitting.{not_refused}
+use Rattle.dover_model.proofs.valid.JobLimits.{job_limits}
+use Rattle.dover_model.proofs.sessions.Accounts.{IsKept}
+use Rattle.dover_model.proofs.valid.Admitting.{not_refused}
 use Rattle.admission.proofs.Joining.{admitted_valid}
-use Rattle.dover_model.proofs.Beginnings.{begins_onward}
-use Rattle.dover_model.proofs.Emitting.{texts_more, texts_job, texts_refused}
-use Rattle.dover_model.proofs.Growing.{Reads, reads_later, settled_later, job_instance, refused_instance}
-use Rattle.dover_model.proofs.Horizons.{follows_on}
-use Rattle.dover_model.proofs.Members.{some_same}
-use Rattle.dover_model.proofs.ValidParts.{ValidParts, valid_parts}
+use Rattle.dover_model.proofs.lists.Beginnings.{begins_onward}
+use Rattle.dover_model.proofs.sessions.Emitting.{texts_more, texts_job, texts_refused}
+use Rattle.dover_model.proofs.sessions.Growing.{Reads, reads_later, settled_later, job_instance, refused_instance}
+use Rattle.dover_model.proofs.settled.Horizons.{follows_on}
+use Rattle.dover_model.proofs.lists.Members.{some_same}
+use Rattle.dover_model.proofs.valid.ValidParts.{ValidParts, valid_parts}
 use Rattle.event_feed.specs.Answers.{AddsJob, IsFed, counted, offered_item}
 use Rattle.event_feed.specs.Kept as feed
 use Rattle.event_feed.specs.declared.faults.FeedFault.{FeedFault}
@@ -39,7 +29,7 @@ use Rattle.event_feed.specs.declared.fed.Fed.{Fed}
 use Rattle.event_feed.specs.declared.fed.Fed.TheVariants as fed
 use Rattle.lane_server.specs.Lane.{Fits, Running, Admitting, IntakeStands, TurnsTo, job_lines}
 use Rattle.lane_server.specs.declared.lane.Work.{Work}
-use Rattle.lane_server.specs.declared.lane.Work.TheVariants.{Nothing, Give, Run, Admit, Finish}
+use Rattle.lane_server.specs.declared.lane.Work.TheVariants.{Admit}
 use Rattle.lane_server.proofs.Adding.{holds_of, due_open, reach_open, open_serves, drop_front}
 use Rattle.lane_server.proofs.Owing.{first_left, none_left, fits_at}
 use Rattle.lane_server.proofs.Printing.{due_before, event_short}
@@ -285,11 +275,8 @@ job_room S j i mark valid keeps =
 -- with no job under way, it stands for the lines
 no_job : (w : Work) (i : feed.Kept) (ls : List (List ℕ)) → ((job : JobFacts) → w ≡ Admit job → ⊥)
     → feed.StandsFor i ls → IntakeStands w i ls
-no_job Nothing i ls none stands = stands
-no_job (Give out) i ls none stands = stands
-no_job (Run to) i ls none stands = stands
 no_job (Admit job) i ls none stands = absurd (none job refl)
-no_job (Finish at number) i ls none stands = stands
+no_job _ i ls none stands = stands
 
 -- the intake stands as the work wants
 pub intake_turns : (said : Fed) (w : Work) (i : feed.Kept) (ls : List (List ℕ)) (line : List ℕ)
@@ -301,13 +288,5 @@ intake_turns (fed.Job n j) w i ls line it turns stands =
     (sym (ap (λ (x : Account). x.session) it.after_is) ∙ there) in
     subst (λ o. feed.KeepsAccount i (record (account_of_lines (ls ++ line ∷ [])) { session = o }))
     (it.before_is ∙ ap (λ T. Some T) same) stands)
-intake_turns (fed.Ratio k version) w i ls line it turns stands =
-    no_job w i (ls ++ line ∷ []) turns (record { by_account = stands })
-intake_turns (fed.Tick tick) w i ls line it turns stands =
-    no_job w i (ls ++ line ∷ []) turns (record { by_account = stands })
-intake_turns fed.Over w i ls line it turns stands =
-    no_job w i (ls ++ line ∷ []) turns (record { by_account = stands })
-intake_turns (fed.Refused release work deadline value cause) w i ls line it turns stands =
-    no_job w i (ls ++ line ∷ []) turns (record { by_account = stands })
-intake_turns (fed.Done tick number) w i ls line it turns stands =
+intake_turns _ w i ls line it turns stands =
     no_job w i (ls ++ line ∷ []) turns (record { by_account = stands })

@@ -2,17 +2,11 @@
 use Rattle.std.proofs.Common.{◌≡◌, List, [], ◌∷◌, ◌++◌, ℕ, map, refl, sym, ap, ◌∙◌, subst, Some}
 use Rattle.std.proofs.lemmas.List.{append-nil, append_assoc, append_cancel_left}
 use Rattle.dover_model.specs.declared.events.Event.{Event}
-use Rattle.dover_model.specs.JobFacts.{JobFacts}
-use Rattle.dover_model.specs.Instance.{Instance}
-use Rattle.dover_model.specs.Session.{Session, instance_of}
-use Rattle.dover_model.specs.Numerals.{AreShort}
-use Rattle.dover_model.specs.WholeRun.{Begins}
-use Rattle.dover_model.specs.Text.{text_of, step_numbers}
-use Rattle.dover_model.specs.Feed.{Account, account_of_lines}
+use Rattle.dover_model.specs.Common.{JobFacts, Instance, Session, instance_of, AreShort, Begins, text_of, step_numbers}
+use Rattle.dover_model.specs.Common.{Account, account_of_lines, MayFollow, due_by}
 use Rattle.dover_model.specs.declared.horizon.Horizon.{Horizon}
 use Rattle.dover_model.specs.declared.horizon.Horizon.TheVariants.{Mark}
-use Rattle.dover_model.specs.Horizons.{MayFollow, due_by}
-use Rattle.dover_model.proofs.Horizons.{follows_on}
+use Rattle.dover_model.proofs.settled.Horizons.{follows_on}
 use Rattle.event_feed.specs.Kept as feed
 use Rattle.lane_server.specs.Lane.{Fits, Running, Admitting, Owes, GivesFault, Stands, IsQuiet, Gives, IntakeStands}
 use Rattle.lane_server.specs.Lane.{reach}

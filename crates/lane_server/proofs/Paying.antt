@@ -1,19 +1,15 @@
 -- What a lane's comparisons are paid with.
-use Rattle.std.proofs.Common.{◌≡◌, ℕ, ◌≤◌, List, length, sym, ap, ◌∙◌, subst, arith, Option, Some, None}
-use Rattle.std.proofs.Common.{Bool, true, false, cond}
+use Rattle.std.proofs.Common.{◌≡◌, ℕ, ◌≤◌, List, length, sym, ap, ◌∙◌, subst, arith, Option, Some, None, Bool, true}
+use Rattle.std.proofs.Common.{false, cond}
 use Rattle.dover_model.specs.declared.events.Event.{Event}
-use Rattle.dover_model.specs.Feed.{Account}
-use Rattle.dover_model.specs.Instance.{Instance}
-use Rattle.dover_model.specs.Session.{Session, EarlyFinish, FinishItem, RefusedDone, instance_of, with_item, finish_at}
-use Rattle.dover_model.specs.Session.{admitted_jobs, refused_done_at, is_full, refused_at, JobItem, RefusedJob}
-use Rattle.dover_model.specs.JobFacts.{JobFacts}
+use Rattle.dover_model.specs.Common.{Account, Instance, Session, EarlyFinish, FinishItem, RefusedDone, instance_of}
+use Rattle.dover_model.specs.Common.{with_item, finish_at, admitted_jobs, refused_done_at, is_full, refused_at, JobItem}
+use Rattle.dover_model.specs.Common.{RefusedJob, JobFacts, CostsAtMost}
 use Rattle.dover_model.specs.declared.events.Refusal.TheVariants.{Full}
-use Rattle.event_feed.specs.Answers.{offered_item}
+use Rattle.event_feed.specs.Answers.{offered_item, admitted_in}
 use Rattle.std.specs.Option.{option_map_or}
 use Rattle.dover_model.specs.declared.horizon.Horizon.{Horizon}
-use Rattle.dover_model.specs.Spending.{CostsAtMost}
-use Rattle.dover_model.proofs.Spending.{few_more}
-use Rattle.event_feed.specs.Answers.{admitted_in}
+use Rattle.dover_model.proofs.runs.Spending.{few_more}
 use Rattle.event_feed.proofs.Admitting.{job_more, refused_more, finish_more, admitted_by}
 use Rattle.lane_server.specs.Lane.{Fits, Owes, done_item}
 use Rattle.lane_server.specs.Spending.{HasPaid}

@@ -1,23 +1,16 @@
 -- What is due of a run up to a horizon.
-use Rattle.std.proofs.Common.{◌≤◌, List, [], ◌∷◌, ◌++◌, sym, ◌∙◌, subst, arith, inl, inr}
+use Rattle.std.proofs.Common.{◌≤◌, List, [], ◌∷◌, ◌++◌, sym, ◌∙◌, subst, arith, inl, inr, append_assoc}
 use Rattle.std.specs.List.{AllByRecursion}
-use Rattle.std.proofs.lemmas.List.{append_assoc}
 use Rattle.dover_model.specs.declared.events.Event.{Event}
-use Rattle.dover_model.specs.JobFacts.{JobFacts}
-use Rattle.dover_model.specs.Instance.{Instance, IsValid, with_jobs}
-use Rattle.dover_model.specs.Run.{printed}
-use Rattle.dover_model.specs.WholeRun.{Begins}
-use Rattle.dover_model.specs.Sound.{IsMember}
-use Rattle.dover_model.specs.Numerals.{AreShort}
-use Rattle.dover_model.proofs.Beginnings.{begins_onward}
-use Rattle.dover_model.proofs.Prefixes.{settled_prefix}
-use Rattle.dover_model.proofs.ShortNumbers.{printed_short}
-use Rattle.dover_model.specs.Text.{step_numbers}
-use Rattle.dover_model.proofs.Members.{all_at}
+use Rattle.dover_model.specs.Common.{JobFacts, Instance, IsValid, with_jobs, printed, Begins, IsMember, AreShort}
+use Rattle.dover_model.specs.Common.{step_numbers, due_by}
+use Rattle.dover_model.proofs.lists.Beginnings.{begins_onward}
+use Rattle.dover_model.proofs.settled.Prefixes.{settled_prefix}
+use Rattle.dover_model.proofs.traces.ShortNumbers.{printed_short}
+use Rattle.dover_model.proofs.lists.Members.{all_at}
 use Rattle.dover_model.specs.declared.horizon.Horizon.{Horizon}
 use Rattle.dover_model.specs.declared.horizon.Horizon.TheVariants.{Mark}
-use Rattle.dover_model.specs.Horizons.{due_by}
-use Rattle.dover_model.proofs.Horizons.{due_begins}
+use Rattle.dover_model.proofs.settled.Horizons.{due_begins}
 
 -- what is due at a job's release without the job begins what is due with it
 pub due_before : (J : Instance) (job : JobFacts) → IsValid (with_jobs J (job ∷ []))

@@ -1,22 +1,19 @@
 -- What an input of lanes holds of its lines and bytes.
-use Rattle.std.proofs.Common.{◌≡◌, ◌≤◌, ◌+◌, ℕ, suc, List, [], ◌∷◌, ◌++◌, length, refl, sym, ap, ◌∙◌, subst}
-use Rattle.std.proofs.Common.{Option, Some, None, Result, Ok, Err, Bool, true, false, cond, append-nil, arith}
-use Rattle.std.specs.Option.{IsNone}
+use Rattle.std.proofs.Common.{◌≡◌, ◌≤◌, ◌+◌, ℕ, suc, List, [], ◌∷◌, ◌++◌, length, refl, sym, ap, ◌∙◌, subst, Option}
+use Rattle.std.proofs.Common.{Some, None, Result, Ok, Err, Bool, true, false, cond, append-nil, arith, IsNone}
 use Rattle.dover_model.specs.declared.Memory.{Memory}
 use Rattle.dover_model.specs.declared.events.Version.TheVariants.{Three}
-use Rattle.dover_model.specs.Limits.{most_lines}
-use Rattle.dover_model.specs.Lines.{lines_of, whole_lines}
-use Rattle.dover_model.proofs.Tests.{never}
+use Rattle.dover_model.specs.Common.{most_lines, lines_of, whole_lines, refused_line}
+use Rattle.dover_model.proofs.lists.Tests.{never}
 use Rattle.line_text.specs.Cutting as cuts
 use Rattle.lane_server.specs.Lanes as lanes
 use Rattle.lane_server.specs.Lanes.{OfLane, lane_line, Handed, Input, InputStanding, InputFault, Open, Closed, Faulty}
 use Rattle.lane_server.specs.Lanes.{HasLine, goes_on_at, goes_on, input, input_of_lines, newly_due, due_after}
 use Rattle.lane_server.specs.Lanes.{lane_count, shorts_from, closing_lines, fault_word}
-use Rattle.dover_model.specs.Text.{refused_line}
 use Rattle.lane_server.specs.Kept as keeping
 use Rattle.lane_server.specs.Kept.{Kept, StandsFor, AllStand, Answers, IsReady, is_closed, GivesNext}
-use Rattle.lane_server.specs.LaneInput.{word_of, standing_of, LeavesAt, Holds, Stands, Rests, Hands, Adds}
-use Rattle.lane_server.specs.LaneInput.{GivesDue, Ends}
+use Rattle.lane_server.specs.LaneInput.{word_of, standing_of, LeavesAt, Holds, Stands, Rests, Hands, Adds, GivesDue}
+use Rattle.lane_server.specs.LaneInput.{Ends}
 use Rattle.lane_server.specs.declared.lanes.Phase.{Phase}
 use Rattle.lane_server.specs.declared.lanes.Phase.TheVariants.{Ready, Giving, Closing}
 use Rattle.event_feed.specs.declared.due_line.DueLine.{DueLine}
@@ -25,8 +22,7 @@ use Rattle.lane_server.specs.declared.refusal.InputRefusal.TheVariants.{Short, T
 use Rattle.lane_server.specs.declared.lane_input.LaneInput.{LaneInput}
 use Rattle.lane_server.proofs.Few.{few_left}
 use Rattle.lane_server.proofs.Fine.{all_stand}
-use Rattle.lane_server.proofs.Inputs.{is_open, due_fed, input_fed, input_closed, few_lines}
-use Rattle.lane_server.proofs.Inputs.{short_rest, whole_counted}
+use Rattle.lane_server.proofs.Inputs.{is_open, due_fed, input_fed, input_closed, few_lines, short_rest, whole_counted}
 
 -- lanes that are as they were
 module _ (old new : Kept) (ls : List (List ℕ)) (stands : StandsFor old ls []) (same : new ≡ old) where
@@ -75,9 +71,8 @@ module _ (r : Option InputRefusal) (kept : Kept) (ls left : List (List ℕ))
     unclosed = by kept.phase holds_open.left where
       by : (p : Phase) → keeping.Leaves p kept.lanes (input_of_lines ls) left
           → elim p [ Ready ↦ false | Giving lane ↦ false | Closing next ↦ true ] ≡ false
-      by Ready at = refl
-      by (Giving lane) at = refl
       by (Closing next) at = never (sym (ap goes_on_at at.0) ∙ on)
+      by _ at = refl
 
   -- once it doesn't, nothing is left
   holds_over : goes_on (input_of_lines ls) ≡ false → (left ≡ []) × Holds r kept ls []

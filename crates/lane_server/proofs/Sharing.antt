@@ -8,11 +8,9 @@ use Rattle.std.proofs.lemmas.List.{map-append}
 use Rattle.std.proofs.lemmas.List.Elements.{filter-append}
 use Rattle.std.proofs.lemmas.List.Sums.{sum_by-cons}
 use Rattle.std.proofs.lemmas.Option.{slice_get_read}
-use Rattle.dover_model.specs.Feed.{account, account_of_lines}
-use Rattle.dover_model.specs.Lines.{in_lines}
-use Rattle.dover_model.specs.Spending.{CostsAtMost}
-use Rattle.dover_model.proofs.Beginnings.{in_lines-append}
-use Rattle.dover_model.proofs.Spending.{none_few, few_more}
+use Rattle.dover_model.specs.Common.{account, account_of_lines, in_lines, CostsAtMost}
+use Rattle.dover_model.proofs.lists.Beginnings.{in_lines-append}
+use Rattle.dover_model.proofs.runs.Spending.{none_few, few_more}
 use Rattle.event_feed.specs.Answers.{admitted_in}
 use Rattle.event_feed.proofs.Admitting.{admitted_front}
 use Rattle.lane_server.specs.Lanes.{lane_count, Handed, input, input_of_lines, lane_lines, lane_account}

@@ -1,21 +1,15 @@
 -- How a lane comes to owe what a line of its feed adds.
 use Rattle.std.proofs.Common.{◌≡◌, ◌<◌, ◌^◌, ℕ, List, [], ◌∷◌, ◌++◌, refl, sym, ap, ◌∙◌, subst, Option, Some, None}
-use Rattle.std.proofs.Common.{Bool, true, false, Result, Ok, arith, max, ◌≤◌}
-use Rattle.std.proofs.lemmas.List.{append-nil}
+use Rattle.std.proofs.Common.{Bool, true, false, Result, Ok, arith, max, ◌≤◌, append-nil}
 use Rattle.dover_model.specs.declared.events.Version.{Version}
 use Rattle.dover_model.specs.declared.events.Refusal.{Refusal}
-use Rattle.dover_model.specs.JobFacts.{JobFacts, job_of_numbers}
-use Rattle.dover_model.specs.Fraction.{Fraction}
-use Rattle.dover_model.specs.Session.{RefusedItem, RefusedLine, RefusedJob, RefusedDone, Session}
-use Rattle.dover_model.specs.Session.{new_session, with_item}
-use Rattle.dover_model.specs.Feed.{Account, Open, Ended, account_of_lines, is_open, rules_with}
-use Rattle.dover_model.specs.Due.{due_lines}
-use Rattle.dover_model.specs.Text.{header, refused_text}
-use Rattle.dover_model.specs.Instance.{Instance}
+use Rattle.dover_model.specs.Common.{JobFacts, job_of_numbers, Fraction, RefusedItem, RefusedLine, RefusedJob}
+use Rattle.dover_model.specs.Common.{RefusedDone, Session, new_session, with_item, Account, Open, Ended}
+use Rattle.dover_model.specs.Common.{account_of_lines, is_open, rules_with, due_lines, header, refused_text, Instance}
+use Rattle.dover_model.specs.Common.{no_jobs}
 use Rattle.dover_model.specs.declared.events.Event.{Event}
 use Rattle.dover_model.specs.declared.horizon.Horizon.{Horizon}
 use Rattle.dover_model.specs.declared.horizon.Horizon.TheVariants.{Mark, End}
-use Rattle.dover_model.specs.Horizons.{no_jobs}
 use Rattle.event_feed.specs.Kept as feed
 use Rattle.event_feed.specs.Answers.{DeclaresRatio, AddsJob, MovesMark, EndsFeed, AddsRefused, AddsDone, NewFault}
 use Rattle.event_feed.specs.Answers.{IsFed, counted, offered_item}
@@ -25,19 +19,18 @@ use Rattle.event_feed.specs.declared.faults.FeedFault.{FeedFault}
 use Rattle.event_feed.specs.declared.fed.Fed.{Fed}
 use Rattle.event_feed.specs.declared.fed.Fed.TheVariants.{Over}
 use Rattle.lane_server.specs.Lanes.{lines_added}
-use Rattle.lane_server.specs.Lane.{IsDeclared, Fits, IsOpenAt, Owes, GivesFault, Adds, Stands, IsQuiet}
-use Rattle.lane_server.specs.Lane.{NamesFault, IntakeStands}
+use Rattle.lane_server.specs.Lane.{IsDeclared, Fits, IsOpenAt, Owes, GivesFault, Adds, Stands, IsQuiet, NamesFault}
+use Rattle.lane_server.specs.Lane.{IntakeStands}
 use Rattle.lane_server.specs.declared.lane.Lane.{Lane}
 use Rattle.lane_server.specs.declared.lane.Work.TheVariants.{Nothing, Give, Run, Admit, Finish}
 use Rattle.event_feed.specs.declared.due_line.DueLine.{DueLine}
 use Rattle.event_feed.specs.declared.due_line.DueLine.TheVariants.{Header, Refuse, RefuseDone, Refused}
 use Rattle.lane_server.proofs.Offering.{job_stands, job_mark, job_rest, job_due, job_owes}
 use Rattle.lane_server.proofs.Adding.{header_stands, header_mark, header_due, header_fits, tick_stands, tick_mark}
-use Rattle.lane_server.proofs.Adding.{tick_rest, tick_due}
-use Rattle.lane_server.proofs.Adding.{tick_owes, end_stands, end_mark, end_rest, end_due, end_owes, mark_short}
-use Rattle.lane_server.proofs.Adding.{refused_due, refused_fits, new_fault_due}
+use Rattle.lane_server.proofs.Adding.{tick_rest, tick_due, tick_owes, end_stands, end_mark, end_rest, end_due, end_owes}
+use Rattle.lane_server.proofs.Adding.{mark_short, refused_due, refused_fits, new_fault_due, new_fault_fits, opens_by}
+use Rattle.lane_server.proofs.Adding.{open_stands, lines_kept, added_is, account_over}
 use Rattle.lane_server.proofs.Finishing.{done_rest, done_due, done_at, done_owes}
-use Rattle.lane_server.proofs.Adding.{new_fault_fits, opens_by, open_stands, lines_kept, added_is, account_over}
 use Rattle.ready_server.specs.Rostering.{Serves, HasPlaceUnlessFull}
 use Rattle.ready_server.specs.declared.roster_server.RosterServer.{RosterServer}
 

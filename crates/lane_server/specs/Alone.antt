@@ -1,8 +1,6 @@
 -- What stands on the output for one lane, and what its feed alone calls for.
-use Rattle.std.specs.Prelude.{ℕ, List, [], ◌∷◌, bytes_eq, decimal, if◌then◌else◌}
-use Rattle.std.specs.List.{flat_map}
-use Rattle.dover_model.specs.Due.{due, closed}
-use Rattle.dover_model.specs.Lines.{whole_lines, fields_of, in_lines, line_of}
+use Rattle.std.specs.Prelude.{ℕ, List, [], ◌∷◌, bytes_eq, decimal, if◌then◌else◌, flat_map}
+use Rattle.dover_model.specs.Common.{due, closed, whole_lines, fields_of, in_lines, line_of}
 use Rattle.lane_server.specs.Lanes.{Input, Open, Closed, Faulty, lane_lines}
 
 -- what stands behind the lane's number, if the line has it in front

@@ -1,9 +1,7 @@
 -- What is kept of the bytes of a feed.
 use Rattle.std.specs.Prelude.{◌≡◌, ◌<◌, ◌≤◌, ℕ, List, [], ◌∷◌, ◌++◌, length, take, Option, Some, None, Result, Ok, Err}
 use Rattle.dover_model.specs.declared.Memory.{Memory}
-use Rattle.dover_model.specs.Due.{due_lines}
-use Rattle.dover_model.specs.Feed.{account}
-use Rattle.dover_model.specs.Lines.{lines_of}
+use Rattle.dover_model.specs.Common.{due_lines, account, lines_of}
 use Rattle.line_text.specs.Cutting as cutting
 use Rattle.event_feed.specs.DueLines.{out_text, HasNumerals}
 use Rattle.lane_server.specs.Lane.{IsDeclared, Stands, IsQuiet, NamesFault}

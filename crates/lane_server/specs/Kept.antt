@@ -1,13 +1,11 @@
 -- What is kept of the lines of the input, and for which lines it stands.
 use Rattle.std.specs.Prelude.{◌≡◌, ◌≤◌, ◌<◌, ◌-◌, ◌⊎◌, ℕ, suc, List, [], ◌∷◌, ◌++◌, length, map, Bool, true, false}
-use Rattle.std.specs.Prelude.{Option, Some, None, Result, Ok, Err}
-use Rattle.std.specs.List.{slice_get}
+use Rattle.std.specs.Prelude.{Option, Some, None, Result, Ok, Err, slice_get}
 use Rattle.dover_model.specs.declared.events.Version.TheVariants.{Three}
 use Rattle.dover_model.specs.Limits.{most_lines}
 use Rattle.event_feed.specs.DueLines.{out_text, HasNumerals}
 use Rattle.lane_server.specs.Lanes.{lane_count, OfLane, Close, lane_line, Handed, Input, Open, Closed, input_of_lines}
-use Rattle.lane_server.specs.Lanes.{lane_lines, in_lane}
-use Rattle.lane_server.specs.Lanes.{newly_due, shorts_from}
+use Rattle.lane_server.specs.Lanes.{lane_lines, in_lane, newly_due, shorts_from}
 use Rattle.event_feed.specs.declared.faults.Cause.TheVariants.{Short}
 use Rattle.lane_server.specs.Lane.{Stands, IsQuiet, NamesFault}
 use Rattle.event_feed.specs.declared.due_line.DueLine.{DueLine}

@@ -4,21 +4,15 @@ use Rattle.std.specs.Prelude.{Option, Some, None}
 use Rattle.std.specs.Option.{option_map_or}
 use Rattle.dover_model.specs.declared.events.Event.{Event}
 use Rattle.dover_model.specs.declared.events.Refusal.TheVariants.{Full}
-use Rattle.dover_model.specs.JobFacts.{JobFacts, job_numbers}
-use Rattle.dover_model.specs.Instance.{IsValid, with_jobs, with_finishes}
-use Rattle.dover_model.specs.Session.{Item, FinishItem, is_full, RefusedJob, RefusedDone, Session}
-use Rattle.dover_model.specs.Session.{instance_of, with_item, finish_at, refused_done_at}
-use Rattle.dover_model.specs.Settled.{settled}
-use Rattle.dover_model.specs.Text.{text_of, refused_text}
-use Rattle.dover_model.specs.Feed.{Account, Cause, Open, Faulty, account_of_lines, is_open, is_ended}
-use Rattle.dover_model.specs.Due.{due_lines}
-use Rattle.dover_model.specs.Numerals.{AreShort}
-use Rattle.dover_model.proofs.Accounts.{IsKept}
+use Rattle.dover_model.specs.Common.{JobFacts, job_numbers, IsValid, with_jobs, with_finishes, Item, FinishItem}
+use Rattle.dover_model.specs.Common.{is_full, RefusedJob, RefusedDone, Session, instance_of, with_item, finish_at}
+use Rattle.dover_model.specs.Common.{refused_done_at, settled, text_of, refused_text, Account, Cause, Open, Faulty}
+use Rattle.dover_model.specs.Common.{account_of_lines, is_open, is_ended, due_lines, AreShort, MayFollow, due_by}
+use Rattle.dover_model.specs.Common.{Fraction}
+use Rattle.dover_model.proofs.sessions.Accounts.{IsKept}
 use Rattle.dover_model.specs.declared.horizon.Horizon.{Horizon}
 use Rattle.dover_model.specs.declared.horizon.Horizon.TheVariants.{Mark, End}
-use Rattle.dover_model.specs.Horizons.{MayFollow, due_by}
 use Rattle.dover_model.specs.declared.events.Version.{Version}
-use Rattle.dover_model.specs.Fraction.{Fraction}
 use Rattle.event_feed.specs.Answers.{DeclaresRatio, AddsJob, counted, offered_item}
 use Rattle.event_feed.specs.Kept as feed
 use Rattle.event_feed.specs.DueLines.{out_text, HasNumerals}

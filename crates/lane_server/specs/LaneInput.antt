@@ -3,15 +3,13 @@ use Rattle.std.specs.Prelude.{◌≡◌, ◌≤◌, ◌<◌, ◌⊎◌, ℕ, suc
 use Rattle.std.specs.Prelude.{Result, Ok, Err, codes}
 use Rattle.dover_model.specs.declared.Memory.{Memory}
 use Rattle.dover_model.specs.declared.events.Version.TheVariants.{Three}
-use Rattle.dover_model.specs.Limits.{most_lines}
-use Rattle.dover_model.specs.Lines.{whole_lines, lines_of}
+use Rattle.dover_model.specs.Common.{most_lines, whole_lines, lines_of, refused_line}
 use Rattle.line_text.specs.Cutting as cuts
 use Rattle.event_feed.specs.DueLines.{out_text, HasNumerals}
 use Rattle.lane_server.specs.Lanes as lanes
 use Rattle.lane_server.specs.Lanes.{lane_count, Handed, InputStanding, Open, Closed, Faulty, HasLine, goes_on, input}
 use Rattle.lane_server.specs.Lanes.{input_of_lines, lane_lines, in_lane, due_after, shorts_from, fault_word}
 use Rattle.lane_server.specs.Lanes.{closing_lines}
-use Rattle.dover_model.specs.Text.{refused_line}
 use Rattle.lane_server.specs.Lane.{NamesFault}
 use Rattle.lane_server.specs.Kept.{Kept, StandsFor, AllStand, IsReady, SaysShort}
 use Rattle.event_feed.specs.declared.due_line.DueLine.{DueLine}

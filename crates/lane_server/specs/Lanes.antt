@@ -1,16 +1,11 @@
 -- Many feeds in one input: what each lane is handed, and what is due for all of them.
 use Rattle.std.specs.Prelude.{ℕ, suc, List, [], ◌∷◌, ◌++◌, length, map, drop, Bool, true, false, ◌==◌, nat_lt}
-use Rattle.std.specs.Prelude.{if◌then◌else◌, Option}
-use Rattle.std.specs.Prelude.{Some, None, codes, decimal, bytes_eq}
-use Rattle.std.specs.List.{fold, filter, flat_map, list_all, range_with_len}
-use Rattle.std.specs.Option.{option_and_then}
-use Rattle.dover_model.specs.Text.{refused_line}
+use Rattle.std.specs.Prelude.{if◌then◌else◌, Option, Some, None, codes, decimal, bytes_eq, fold, filter, flat_map}
+use Rattle.std.specs.Prelude.{option_and_then}
+use Rattle.std.specs.List.{list_all, range_with_len}
+use Rattle.dover_model.specs.Common.{refused_line, most_lines, numeral, lines_of, whole_lines, is_too_long, fields_of}
+use Rattle.dover_model.specs.Common.{in_lines, line_of, Account, account_of_lines, is_ended, due_lines, short_lines}
 use Rattle.dover_model.specs.declared.events.Version.TheVariants.{Three}
-use Rattle.dover_model.specs.Limits.{most_lines}
-use Rattle.dover_model.specs.Numerals.{numeral}
-use Rattle.dover_model.specs.Lines.{lines_of, whole_lines, is_too_long, fields_of, in_lines, line_of}
-use Rattle.dover_model.specs.Feed.{Account, account_of_lines, is_ended}
-use Rattle.dover_model.specs.Due.{due_lines, short_lines}
 
 -- how many lanes there are
 abbrev pub lane_count : ℕ

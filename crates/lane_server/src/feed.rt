@@ -1,7 +1,6 @@
 //! One feed, byte by byte: its intake and its server.
 ghost use Rattle.std.specs.Prelude.{◌≡◌, ◌<◌, ◌∷◌, ℕ, List, [], Bool, true, length, OnOk};
-ghost use Rattle.dover_model.specs.Feed.{account, is_open};
-ghost use Rattle.dover_model.specs.Lines.{lines_of, rest_of};
+ghost use Rattle.dover_model.specs.Common.{account, is_open, lines_of, rest_of};
 ghost use Rattle.line_text.specs.Cutting.{IsWholeLine, begun_line};
 ghost use Rattle.lane_server.specs.Lane.{IsQuiet};
 ghost use Rattle.lane_server.specs.Feeding.{FeedStands, FeedRests, FeedGives, Hands, Takes};
@@ -9,12 +8,12 @@ ghost use Rattle.lane_server.specs.Rosters.{KeepsRoster};
 ghost use Rattle.lane_server.specs.Spending.{HasPaid};
 
 use crate::lane::Lane;
+use comparison_count::Comparisons;
 use dover_model::Memory;
 use event_feed::DueLine;
-use line_text::{Lines, Step};
+use line_text::{ByteEffect, Lines};
 use std::alloc::Global;
 use std::sync::ledger::Ledger;
-use step_count::Steps;
 
 /// A feed of bytes with its server: pieces of the feed go in, cut anywhere, and each line that is due comes out as soon
 /// as it is settled. There is no port in it: its owner reads, and does with the lines what it wants.
@@ -80,9 +79,9 @@ impl Feed {
         ensures roster { (listed : Bool) → KeepsRoster self.old.lane listed → KeepsRoster self.new.lane listed }
     {
         match self.lines.push(byte) {
-            Step::More => Ok(()),
-            Step::Line => self.lane.line(self.alloc, self.lines.line()),
-            Step::TooLong => self.lane.line(self.alloc, self.lines.line()),
+            ByteEffect::More => Ok(()),
+            ByteEffect::Line => self.lane.line(self.alloc, self.lines.line()),
+            ByteEffect::TooLong => self.lane.line(self.alloc, self.lines.line()),
         }
     }
 
@@ -130,15 +129,15 @@ impl Feed {
 
     /// The next line due. None exactly where all that is due was given.
     #[inline(always)]
-    pub fn next_out<L: Ledger>(&mut self, steps: &mut Steps<L>) -> Option<DueLine>
+    pub fn next_out<L: Ledger>(&mut self, comparisons: &mut Comparisons<L>) -> Option<DueLine>
         requires { (x : List ℕ) × (left : List (List ℕ)) × FeedStands self.old x left }
         ensures gives { (x : List ℕ) (left : List (List ℕ)) → FeedStands self.old x left →
             FeedGives result self.new x left }
-        ensures paid { (start : ℕ) → HasPaid self.old.lane.server start steps.old →
-            HasPaid self.new.lane.server start steps.new }
+        ensures paid { (start : ℕ) → HasPaid self.old.lane.server start comparisons.old →
+            HasPaid self.new.lane.server start comparisons.new }
         ensures roster { (listed : Bool) → KeepsRoster self.old.lane listed → KeepsRoster self.new.lane listed }
     {
-        self.lane.next_out(steps)
+        self.lane.next_out(comparisons)
     }
 
     /// How many bytes came since the last line feed, 129 at most.

@@ -1,34 +1,13 @@
 //! One lane: a feed, the server that it feeds, and the lines that are due and not yet given.
-ghost use Rattle.std.specs.Prelude.{
-  ◌≡◌,
-  ◌↔◌,
-  ◌≤◌,
-  ◌<◌,
-  ℕ,
-  List,
-  [],
-  ◌∷◌,
-  ◌++◌,
-  Bool,
-  length,
-  Some,
-  Err,
-  true,
-  IsSome,
-  OnOk,
-  OnErr,
-};
-ghost use Rattle.std.specs.Option.{option_map};
-ghost use Rattle.dover_model.specs.Feed.{Account, account_of_lines, is_open};
-ghost use Rattle.dover_model.specs.Session.{admitted_jobs};
-ghost use Rattle.dover_model.specs.Spending.{CostsAtMost};
+ghost use Rattle.std.specs.Prelude.{◌≡◌, ◌↔◌, ◌≤◌, ◌<◌, ℕ, List, [], ◌∷◌, ◌++◌, Bool, length, Some, Err, true, IsSome};
+ghost use Rattle.std.specs.Prelude.{OnOk, OnErr, option_map};
+ghost use Rattle.dover_model.specs.Common.{Account, account_of_lines, is_open, admitted_jobs, CostsAtMost, JobFacts};
 ghost use Rattle.event_feed.specs.Answers.{DeclaresRatio, AddsJob, AddsDone, IsFed, EndAnswers, counted, admitted_in};
 ghost use Rattle.event_feed.specs.Kept.{fault_of};
 ghost use Rattle.dover_model.specs.declared.events.Refusal.TheVariants.{Full};
 ghost use Rattle.event_feed.specs.declared.due_line.DueLine.TheVariants.{Header, Refuse};
 ghost use Rattle.event_feed.specs.declared.faults.FeedFault.{FeedFault};
 ghost use Rattle.lane_server.specs.Lanes.{lines_added, feed_short, is_fine};
-ghost use Rattle.dover_model.specs.JobFacts.{JobFacts};
 ghost use Rattle.lane_server.specs.Lane.{IsDeclared, AsksForMemory, Stands, IsQuiet, Gives, IsOpenAt, Adds, TurnsTo};
 ghost use Rattle.lane_server.specs.Rosters.{KeepsRoster};
 ghost use Rattle.lane_server.specs.Spending.{HasPaid};
@@ -36,13 +15,13 @@ ghost use Rattle.ready_server.specs.Rostering.{has_roster};
 ghost use Rattle.lane_server.specs.Shorts.{short_texts};
 ghost use Rattle.lane_server.specs.declared.lane.Work.TheVariants.{Nothing, Give, Run, Admit, Finish};
 
+use comparison_count::Comparisons;
 use dover_model::{Horizon, Job, Memory, Ratio, Refusal, Version};
 use event_feed::{DueLine, Fed, FeedFault, Intake};
 use line_text::Spelled;
 use ready_server::RosterServer;
 use std::alloc::Global;
 use std::sync::ledger::Ledger;
-use step_count::Steps;
 
 /// What is under way in a lane.
 #[derive(Clone, Copy)]
@@ -269,20 +248,20 @@ impl Lane {
     }
 
     #[inline(always)]
-    fn run<L: Ledger>(&mut self, to: Horizon, steps: &mut Steps<L>) -> Option<DueLine>
+    fn run<L: Ledger>(&mut self, to: Horizon, comparisons: &mut Comparisons<L>) -> Option<DueLine>
         requires work { self.old.work ≡ Run to }
         requires stands { (ls : List (List ℕ)) × (rest : List (List ℕ)) × Stands self.old ls rest }
         ensures gives { (ls rest : List (List ℕ)) → Stands self.old ls rest
             → Gives result self.new ls rest }
-        ensures paid { (start : ℕ) → HasPaid self.old.server start steps.old
-            → HasPaid self.new.server start steps.new }
+        ensures paid { (start : ℕ) → HasPaid self.old.server start comparisons.old
+            → HasPaid self.new.server start comparisons.new }
         ensures roster { (listed : Bool) → KeepsRoster self.old listed → KeepsRoster self.new listed }
     {
         RosterServer::laws();
         let Some(server) = &mut self.server else {
             unreachable!();
         };
-        match server.step(to, steps) {
+        match server.step(to, comparisons) {
             Some(event) => Some(DueLine::Step(event)),
             None => {
                 self.work = Work::Nothing;
@@ -309,13 +288,13 @@ impl Lane {
     }
 
     #[inline(always)]
-    fn admit<L: Ledger>(&mut self, job: Job, steps: &mut Steps<L>) -> Option<DueLine>
+    fn admit<L: Ledger>(&mut self, job: Job, comparisons: &mut Comparisons<L>) -> Option<DueLine>
         requires work { self.old.work ≡ Admit job }
         requires stands { (ls : List (List ℕ)) × (rest : List (List ℕ)) × Stands self.old ls rest }
         ensures gives { (ls rest : List (List ℕ)) → Stands self.old ls rest
             → Gives result self.new ls rest }
-        ensures paid { (start : ℕ) → HasPaid self.old.server start steps.old
-            → HasPaid self.new.server start steps.new }
+        ensures paid { (start : ℕ) → HasPaid self.old.server start comparisons.old
+            → HasPaid self.new.server start comparisons.new }
         ensures roster { (listed : Bool) → KeepsRoster self.old listed → KeepsRoster self.new listed }
     {
         RosterServer::laws();
@@ -323,7 +302,7 @@ impl Lane {
             unreachable!();
         };
         let release = Horizon::Mark(job.release());
-        if let Some(event) = server.step(release, steps) {
+        if let Some(event) = server.step(release, comparisons) {
             return Some(DueLine::Step(event));
         }
         if server.is_full() {
@@ -336,20 +315,25 @@ impl Lane {
     }
 
     #[inline(never)]
-    fn finish<L: Ledger>(&mut self, at: u64, number: u64, steps: &mut Steps<L>) -> Option<DueLine>
+    fn finish<L: Ledger>(
+        &mut self,
+        at: u64,
+        number: u64,
+        comparisons: &mut Comparisons<L>,
+    ) -> Option<DueLine>
         requires work { self.old.work ≡ Finish at number }
         requires stands { (ls : List (List ℕ)) × (rest : List (List ℕ)) × Stands self.old ls rest }
         ensures gives { (ls rest : List (List ℕ)) → Stands self.old ls rest
             → Gives result self.new ls rest }
-        ensures paid { (start : ℕ) → HasPaid self.old.server start steps.old
-            → HasPaid self.new.server start steps.new }
+        ensures paid { (start : ℕ) → HasPaid self.old.server start comparisons.old
+            → HasPaid self.new.server start comparisons.new }
         ensures roster { (listed : Bool) → KeepsRoster self.old listed → KeepsRoster self.new listed }
     {
         RosterServer::laws();
         let Some(server) = &mut self.server else {
             unreachable!();
         };
-        if let Some(event) = server.step(Horizon::Mark(at), steps) {
+        if let Some(event) = server.step(Horizon::Mark(at), comparisons) {
             return Some(DueLine::Step(event));
         }
         match server.finish(at, number) {
@@ -370,12 +354,12 @@ impl Lane {
 
     /// The next line due. None exactly where all that is due was given.
     #[inline(always)]
-    pub fn next_out<L: Ledger>(&mut self, steps: &mut Steps<L>) -> Option<DueLine>
+    pub fn next_out<L: Ledger>(&mut self, comparisons: &mut Comparisons<L>) -> Option<DueLine>
         requires { (ls : List (List ℕ)) × (rest : List (List ℕ)) × Stands self.old ls rest }
         ensures gives { (ls rest : List (List ℕ)) → Stands self.old ls rest
             → Gives result self.new ls rest }
-        ensures paid { (start : ℕ) → HasPaid self.old.server start steps.old
-            → HasPaid self.new.server start steps.new }
+        ensures paid { (start : ℕ) → HasPaid self.old.server start comparisons.old
+            → HasPaid self.new.server start comparisons.new }
         ensures roster { (listed : Bool) → KeepsRoster self.old listed → KeepsRoster self.new listed }
     {
         match &self.work {
@@ -387,16 +371,16 @@ impl Lane {
             }
             Work::Run(to) => {
                 let to = *to;
-                self.run(to, steps)
+                self.run(to, comparisons)
             }
             Work::Admit(job) => {
                 let job = *job;
-                self.admit(job, steps)
+                self.admit(job, comparisons)
             }
             Work::Finish { at, number } => {
                 let at = *at;
                 let number = *number;
-                self.finish(at, number, steps)
+                self.finish(at, number, comparisons)
             }
         }
     }

@@ -10,12 +10,12 @@ ghost use Rattle.lane_server.specs.declared.lane_input.LaneInput.{LaneInput};
 use crate::lane::Lane;
 use crate::lanes::{LaneFault, LaneStep, Lanes};
 use crate::refusal::InputRefusal;
+use comparison_count::Comparisons;
 use dover_model::Memory;
 use event_feed::DueLine;
-use line_text::{Lines, Step};
+use line_text::{ByteEffect, Lines};
 use std::alloc::Global;
 use std::sync::ledger::Ledger;
-use step_count::Steps;
 
 /// The line at which an input is refused, and why.
 #[derive(Clone, Copy)]
@@ -98,9 +98,9 @@ impl LaneInput {
             → OnOk result (HavePaid self.new.lanes.lanes start now) }
     {
         match self.lines.push(byte) {
-            Step::More => Ok(Some(InputRefusal::Short)),
-            Step::Line => hand(&mut self.lanes, self.lines.line()),
-            Step::TooLong => hand(&mut self.lanes, self.lines.line()),
+            ByteEffect::More => Ok(Some(InputRefusal::Short)),
+            ByteEffect::Line => hand(&mut self.lanes, self.lines.line()),
+            ByteEffect::TooLong => hand(&mut self.lanes, self.lines.line()),
         }
     }
 
@@ -149,17 +149,17 @@ impl LaneInput {
     /// The next line due, and the lane that it is of. None where all that is due was given. The short lines that
     /// `close` adds aren't among them: the lanes give those at the end.
     #[inline(always)]
-    pub fn next_out<L: Ledger>(&mut self, steps: &mut Steps<L>) -> Option<(u8, DueLine)>
+    pub fn next_out<L: Ledger>(&mut self, comparisons: &mut Comparisons<L>) -> Option<(u8, DueLine)>
         requires { (x : List ℕ) × (left : List (List ℕ)) × Stands self.old x left }
         ensures gives { (x : List ℕ) (left : List (List ℕ)) → Stands self.old x left
             → GivesDue result self.new x left }
-        ensures paid { (start : ℕ) → HavePaid self.old.lanes.lanes start steps.old
-            → HavePaid self.new.lanes.lanes start steps.new }
+        ensures paid { (start : ℕ) → HavePaid self.old.lanes.lanes start comparisons.old
+            → HavePaid self.new.lanes.lanes start comparisons.new }
     {
         if !is_short(self.refusal) {
             return None;
         }
-        self.lanes.next_out(steps)
+        self.lanes.next_out(comparisons)
     }
 
     /// Whether neither `close` nor a fault of the whole input came.

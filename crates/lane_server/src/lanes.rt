@@ -1,6 +1,5 @@
 //! The lanes of one input.
-ghost use Rattle.std.specs.Prelude.{◌≡◌, ◌<◌, ℕ, List, [], length, IfOk, IfSome, IsNone, OnOk, Some, Ok};
-ghost use Rattle.std.specs.Prelude.{true, false};
+ghost use Rattle.std.specs.Prelude.{◌≡◌, ◌<◌, ℕ, List, [], length, IfOk, IfSome, IsNone, OnOk, Some, Ok, true, false};
 ghost use Rattle.lane_server.specs.Lanes.{lane_count, OfLane, Close, lane_line, Handed, input_of_lines, all_ended};
 ghost use Rattle.lane_server.specs.Kept.{AllQuiet, AllStand};
 ghost use Rattle.lane_server.specs.Spending.{HavePaid};
@@ -9,12 +8,12 @@ ghost use Rattle.lane_server.specs.declared.lanes.Phase.TheVariants.{Giving, Clo
 
 use crate::lane::Lane;
 use crate::reading::{LANES, LaneLine, lane_line};
+use comparison_count::Comparisons;
 use dover_model::{Memory, Version};
 use event_feed::{Cause, DueLine};
 use std::alloc::Global;
 use std::marker::Model;
 use std::sync::ledger::Ledger;
-use step_count::Steps;
 
 /// What a good line of the input is.
 #[derive(Clone, Copy)]
@@ -186,7 +185,11 @@ impl Lanes {
     }
 
     #[inline(always)]
-    fn give<L: Ledger>(&mut self, lane: u8, steps: &mut Steps<L>) -> Option<(u8, DueLine)>
+    fn give<L: Ledger>(
+        &mut self,
+        lane: u8,
+        comparisons: &mut Comparisons<L>,
+    ) -> Option<(u8, DueLine)>
         requires phase { self.old.phase ≡ Giving lane }
         requires stands { (ls : List (List ℕ)) × (rest : List (List ℕ))
             × StandsFor self.old ls rest }
@@ -194,10 +197,10 @@ impl Lanes {
             → GivesNext result self.new ls rest }
         ensures ready { IsNone result → is_closed self.old ≡ false → IsReady self.new }
         ensures closed { is_closed self.new ≡ is_closed self.old }
-        ensures paid { (start : ℕ) → HavePaid self.old.lanes start steps.old
-            → HavePaid self.new.lanes start steps.new }
+        ensures paid { (start : ℕ) → HavePaid self.old.lanes start comparisons.old
+            → HavePaid self.new.lanes start comparisons.new }
     {
-        match self.lanes[usize::from(lane)].next_out(steps) {
+        match self.lanes[usize::from(lane)].next_out(comparisons) {
             Some(out) => Some((lane, out)),
             None => {
                 self.phase = Phase::Ready;
@@ -232,20 +235,20 @@ impl Lanes {
 
     /// The next line due, and the lane that it is of. Behind `close` no jobs are compared.
     #[inline(always)]
-    pub fn next_out<L: Ledger>(&mut self, steps: &mut Steps<L>) -> Option<(u8, DueLine)>
+    pub fn next_out<L: Ledger>(&mut self, comparisons: &mut Comparisons<L>) -> Option<(u8, DueLine)>
         requires stands { (ls : List (List ℕ)) × (rest : List (List ℕ))
             × StandsFor self.old ls rest }
         ensures gives { (ls rest : List (List ℕ)) → StandsFor self.old ls rest
             → GivesNext result self.new ls rest }
         ensures ready { IsNone result → is_closed self.old ≡ false → IsReady self.new }
         ensures closed { is_closed self.new ≡ is_closed self.old }
-        ensures paid { (start : ℕ) → HavePaid self.old.lanes start steps.old
-            → HavePaid self.new.lanes start steps.new }
-        ensures idle { is_closed self.old ≡ true → steps.new ≡ steps.old }
+        ensures paid { (start : ℕ) → HavePaid self.old.lanes start comparisons.old
+            → HavePaid self.new.lanes start comparisons.new }
+        ensures idle { is_closed self.old ≡ true → comparisons.new ≡ comparisons.old }
     {
         match self.phase {
             Phase::Ready => None,
-            Phase::Giving(lane) => self.give(lane, steps),
+            Phase::Giving(lane) => self.give(lane, comparisons),
             Phase::Closing(lane) => self.give_short(lane),
         }
     }

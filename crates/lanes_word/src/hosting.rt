@@ -8,6 +8,7 @@ ghost use Rattle.lanes_word.specs.Talk.{lanes_talk};
 ghost use Rattle.lanes_word.specs.Keeping.{parts_of, IsGiving, IsReady, Costs};
 
 use crate::lines::write_in_lane;
+use comparison_count::Comparisons;
 use dialogue::lines::put_refused;
 use dialogue::{Stop, Talker};
 use dover_model::Memory;
@@ -16,7 +17,6 @@ use lane_server::{LaneInput, Lanes};
 use line_text::BackLine;
 use std::marker::PhantomData;
 use std::sync::ledger::Ledger;
-use step_count::Steps;
 
 /// Lanes that are served.
 #[derive(Drop)]
@@ -30,20 +30,20 @@ fn put_left<P: Port, L: Ledger>(
     port: &mut P,
     out: &mut Output,
     lanes: &mut Lanes,
-    steps: &mut Steps<L>,
+    comparisons: &mut Comparisons<L>,
 ) -> Result<(), Failed>
     requires stands { (ls left : List (List ℕ)) × StandsFor lanes.old ls left }
     requires closed { is_closed lanes.old ≡ true }
     ensures text { (ls left : List (List ℕ)) → StandsFor lanes.old ls left →
         PutsThrough (P.moves port.old) (P.moves port.new) result out.old out.new (joined (parts_of left)) }
-    ensures idle { steps.new ≡ steps.old }
+    ensures idle { comparisons.new ≡ comparisons.old }
     ensures cause { HasCause (P.write_faults port.old) (P.write_faults port.new) (P.read_faults port.old)
         (P.read_faults port.new) result }
     ensures stops { StopsAtFailure (P.calls port.old) (P.calls port.new) result }
 {
     let mut part = BackLine::new();
     for _ in 0..u64::MAX {
-        let Some((lane, given)) = lanes.next_out(steps) else {
+        let Some((lane, given)) = lanes.next_out(comparisons) else {
             return Ok(());
         };
         write_in_lane(lane, given, &mut part);
@@ -67,7 +67,7 @@ fn closed_status(all_ended: bool) -> Status
 }
 
 impl<L: Ledger> Talker for Hosting<L> {
-    type Meter = Steps<L>;
+    type Meter = Comparisons<L>;
 
     ghost about = { ℕ };
 
@@ -84,13 +84,13 @@ impl<L: Ledger> Talker for Hosting<L> {
     }
 
     #[inline(always)]
-    fn take(&mut self, _meter: &mut Steps<L>, piece: &[u8]) -> Result<usize, Memory> {
+    fn take(&mut self, _meter: &mut Comparisons<L>, piece: &[u8]) -> Result<usize, Memory> {
         LaneInput::laws();
         self.input.take(piece)
     }
 
     #[inline(always)]
-    fn next_part(&mut self, meter: &mut Steps<L>, part: &mut BackLine) -> bool {
+    fn next_part(&mut self, meter: &mut Comparisons<L>, part: &mut BackLine) -> bool {
         match self.input.next_out(meter) {
             Some((lane, out)) => {
                 write_in_lane(lane, out, part);
@@ -100,13 +100,13 @@ impl<L: Ledger> Talker for Hosting<L> {
         }
     }
 
-    fn goes_on(&self, _meter: &Steps<L>) -> bool {
+    fn goes_on(&self, _meter: &Comparisons<L>) -> bool {
         self.input.goes_on()
     }
 
     fn answer<P: Port>(
         self,
-        meter: &mut Steps<L>,
+        meter: &mut Comparisons<L>,
         port: &mut P,
         out: &mut Output,
         _ended: bool,

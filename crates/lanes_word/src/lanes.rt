@@ -6,20 +6,24 @@ ghost use Rattle.lanes_word.specs.Record.{Serves};
 ghost use Rattle.lanes_word.specs.Spending.{IsFrugal};
 
 use crate::hosting::Hosting;
+use comparison_count::Comparisons;
 use dialogue::converse;
 use dover_port::{Port, Status};
 use lane_server::LaneInput;
 use std::alloc::Global;
 use std::marker::PhantomData;
 use std::sync::ledger::Ledger;
-use step_count::Steps;
 
 /// Serves up to 64 feeds that come in one input: reads it to its `close` line, its first fault as a whole or its end,
 /// and writes each line that is due for a lane, with the lane's number in front, before the next read. Memory is taken
 /// at the start and at lines of lanes alone.
-pub fn lanes_word<P: Port, L: Ledger>(alloc: Global, port: &mut P, steps: &mut Steps<L>) -> Status
+pub fn lanes_word<P: Port, L: Ledger>(
+    alloc: Global,
+    port: &mut P,
+    comparisons: &mut Comparisons<L>,
+) -> Status
     ensures serves { Since (P.moves port.old) (P.moves port.new) (Serves result) }
-    ensures count { Since (P.moves port.old) (P.moves port.new) (IsFrugal steps.old steps.new) }
+    ensures count { Since (P.moves port.old) (P.moves port.new) (IsFrugal comparisons.old comparisons.new) }
     ensures ends { CanEnd Serves result }
     ensures causes { Causes result (P.read_faults port.old) (P.read_faults port.new) (P.write_faults port.old)
         (P.write_faults port.new) }
@@ -31,7 +35,7 @@ pub fn lanes_word<P: Port, L: Ledger>(alloc: Global, port: &mut P, steps: &mut S
                 input,
                 counts: PhantomData,
             };
-            converse(port, hosting, steps)
+            converse(port, hosting, comparisons)
         }
         Err(_) => Status::Memory,
     }

@@ -1,13 +1,11 @@
 -- What another byte makes of whole lines and the rest.
 use Rattle.std.proofs.Common.{◌≡◌, ℕ, ◌+◌, min, List, [], ◌∷◌, ◌++◌, length, length-append, append-nil, refl, sym, ap}
-use Rattle.std.proofs.Common.{◌∙◌, subst}
-use Rattle.std.proofs.Common.{Bool, true, false, cond, arith}
-use Rattle.std.specs.Prelude.{if◌then◌else◌}
+use Rattle.std.proofs.Common.{◌∙◌, subst, Bool, true, false, cond, arith, if◌then◌else◌}
 use Rattle.dover_model.specs.Lines.{whole_lines, rest_of, lines_of, is_too_long, cut}
-use Rattle.dover_model.proofs.Cuts.{CutText, is_feed, onto, cut_feed, cut_other, cut_append}
-use Rattle.dover_model.proofs.Tests.{never}
-use Rattle.line_text.specs.declared.cutting.Step.{Step}
-use Rattle.line_text.specs.declared.cutting.Step.TheVariants.{More, Line, TooLong}
+use Rattle.dover_model.proofs.texts.Cuts.{CutText, is_feed, onto, cut_feed, cut_other, cut_append}
+use Rattle.dover_model.proofs.lists.Tests.{never}
+use Rattle.line_text.specs.declared.cutting.ByteEffect.{ByteEffect}
+use Rattle.line_text.specs.declared.cutting.ByteEffect.TheVariants.{More, Line, TooLong}
 use Rattle.line_text.specs.Cutting.{Cutting, most_count, is_over, StandsFor, with_byte, HasCut, goes_on, after_byte}
 
 -- bytes before an ended line are its bytes
@@ -155,7 +153,7 @@ from_line line count bytes byte counted same short =
     subst (λ l. Goes (goes_on count l byte) bytes byte) (sym same) (goes count bytes byte counted short)
 
 -- what is kept after another byte, by what was kept before
-kept : (last : Step) (line : List ℕ) (count : ℕ) (bytes : List ℕ) (byte : ℕ)
+kept : (last : ByteEffect) (line : List ℕ) (count : ℕ) (bytes : List ℕ) (byte : ℕ)
     → StandsFor (record { line = line; count = count; last = last }) bytes
     → is_too_long (rest_of bytes) ≡ false
     → Goes (after_byte (record { line = line; count = count; last = last }) byte) bytes byte
@@ -170,7 +168,7 @@ pub after_byte-Goes : (c : Cutting) (bytes : List ℕ) (byte : ℕ) → StandsFo
 after_byte-Goes c bytes byte stands short = kept c.last c.line c.count bytes byte stands short
 
 -- behind a line that is too long nothing changes
-stays : (last : Step) (line : List ℕ) (count : ℕ) (byte : ℕ) → is_over last ≡ true
+stays : (last : ByteEffect) (line : List ℕ) (count : ℕ) (byte : ℕ) → is_over last ≡ true
     → after_byte (record { line = line; count = count; last = last }) byte ≡ record
     { line = line; count = count; last = last }
 stays More line count byte over = never over

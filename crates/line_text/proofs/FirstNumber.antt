@@ -1,24 +1,20 @@
 -- The number that a line begins with, found by its digits.
 use Rattle.std.proofs.Common.{◌≡◌, ℕ, ◌+◌, ◌-◌, ◌*◌, ◌^◌, ◌<◌, ◌≤◌, List, [], ◌∷◌, ◌++◌, length, length-append}
-use Rattle.std.proofs.Common.{append-nil, get_or, take, drop}
-use Rattle.std.proofs.Common.{take-append-drop, length-take-le, refl, sym, ap, ◌∙◌, Bool, true, false, not, ◌&&◌}
-use Rattle.std.proofs.Common.{Option, Some, None, arith, leb}
-use Rattle.std.proofs.Common.{leb-true, lt_of_lt_of_le}
+use Rattle.std.proofs.Common.{append-nil, get_or, take, drop, take-append-drop, length-take-le, refl, sym, ap, ◌∙◌}
+use Rattle.std.proofs.Common.{Bool, true, false, not, ◌&&◌, Option, Some, None, arith, leb, leb-true, lt_of_lt_of_le}
+use Rattle.std.proofs.Common.{nat_le, option_map, option_and_then, le-leb}
 use Rattle.std.proofs.Math.Nat.{pow-le-pow_right}
 use Rattle.std.proofs.lemmas.Grind.{pow_more}
-use Rattle.std.specs.Prelude.{nat_le}
 use Rattle.std.specs.Bool.{then_some}
 use Rattle.std.specs.Char.{is_ascii_digit}
 use Rattle.std.specs.Str.{all_ascii_digits}
 use Rattle.std.specs.List.{list_all, onto_first}
-use Rattle.std.specs.Option.{option_map, option_and_then}
-use Rattle.std.proofs.lemmas.Bool.{and_parts, le-leb, lt-leb, not-true, and_right}
+use Rattle.std.proofs.lemmas.Bool.{and_parts, lt-leb, not-true, and_right}
 use Rattle.std.proofs.lemmas.List.{take_more, drop_more}
 use Rattle.std.proofs.lemmas.List.Splits.{slice_split-cons_yes, slice_split-cons_no}
 use denote.Ref.{Bor}
-use Rattle.dover_model.specs.Lines.{fields_of}
-use Rattle.dover_model.specs.Numerals.{number_onto, is_plain, numeral, numerals}
-use Rattle.dover_model.proofs.Fields.{is_space, HasNoSpace, digits_have_no_space}
+use Rattle.dover_model.specs.Common.{fields_of, number_onto, is_plain, numeral, numerals}
+use Rattle.dover_model.proofs.texts.Fields.{is_space, HasNoSpace, digits_have_no_space}
 use Rattle.line_text.specs.Reading.{fields_left, number_of_first}
 
 -- ---- digits

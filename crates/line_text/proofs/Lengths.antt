@@ -2,7 +2,7 @@
 use Rattle.std.proofs.Common.{◌≡◌, ◌≤◌, ◌+◌, ◌*◌, ℕ, suc, List, ◌∷◌, [], length, refl, ap, ◌∙◌, Bool, true, false}
 use Rattle.std.proofs.Common.{arith}
 use Rattle.dover_model.specs.Lines.{whole_lines, rest_of}
-use Rattle.dover_model.proofs.Cuts.{CutText, is_feed, put_before, cut_feed, cut_other}
+use Rattle.dover_model.proofs.texts.Cuts.{CutText, is_feed, put_before, cut_feed, cut_other}
 
 -- the bytes of lines, each with its line feed
 abbrev pub bytes_of : List (List ℕ) → ℕ

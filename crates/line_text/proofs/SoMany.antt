@@ -1,14 +1,11 @@
 -- The numbers of a line, one after the other.
-use Rattle.std.proofs.Common.{◌≡◌, ℕ, suc, ◌<◌, List, [], ◌∷◌, ◌++◌, length, length-append}
-use Rattle.std.proofs.Common.{refl, sym, ap, ◌∙◌, true, false, Option, Some, None, option_map, arith}
-use Rattle.std.specs.Prelude.{◌==◌}
-use Rattle.std.specs.Option.{option_and_then, is_some}
-use Rattle.std.proofs.lemmas.List.{append_assoc, append-nil}
+use Rattle.std.proofs.Common.{◌≡◌, ℕ, suc, ◌<◌, List, [], ◌∷◌, ◌++◌, length, length-append, refl, sym, ap, ◌∙◌, true}
+use Rattle.std.proofs.Common.{false, Option, Some, None, option_map, arith, ◌==◌, option_and_then, is_some}
+use Rattle.std.proofs.Common.{append_assoc, append-nil}
 use Rattle.std.proofs.lemmas.List.Splits.{length-slice_split}
-use Rattle.dover_model.specs.Lines.{fields_of}
-use Rattle.dover_model.specs.Numerals.{numeral, numerals}
-use Rattle.dover_model.proofs.Members.{some_same}
-use Rattle.dover_model.proofs.Tests.{never, none_is_some}
+use Rattle.dover_model.specs.Common.{fields_of, numeral, numerals}
+use Rattle.dover_model.proofs.lists.Members.{some_same}
+use Rattle.dover_model.proofs.lists.Tests.{never, none_is_some}
 use Rattle.line_text.specs.Reading.{fields_left}
 use denote.Ref.{Bor}
 

@@ -1,15 +1,14 @@
 -- What a whole line adds, where no line has begun.
 use Rattle.std.proofs.Common.{◌≡◌, ℕ, ◌<◌, ◌≤◌, ◌+◌, ◌-◌, List, [], ◌∷◌, ◌++◌, length, take, get_or, refl, sym, ap, ◌∙◌}
-use Rattle.std.proofs.Common.{suc, zero, arith, min, subst}
-use Rattle.std.proofs.Common.{Bool, true, false, cond, not, length-append}
-use Rattle.std.specs.Prelude.{◌==◌}
+use Rattle.std.proofs.Common.{suc, zero, arith, min, subst, Bool, true, false, cond, not, length-append, ◌==◌}
+use Rattle.std.proofs.Common.{append-nil, take_at, length-take, eqb-true}
 use Rattle.std.specs.List.{list_all}
-use Rattle.std.proofs.lemmas.List.{append-nil, take_at, take_more, length-take}
+use Rattle.std.proofs.lemmas.List.{take_more}
 use Rattle.std.proofs.lemmas.List.Concat.{flat_map-cons}
-use Rattle.std.proofs.lemmas.Bool.{and_from, eqb-true}
+use Rattle.std.proofs.lemmas.Bool.{and_from}
 use Rattle.dover_model.specs.Lines.{cut, whole_lines, rest_of, lines_of, is_too_long}
-use Rattle.dover_model.proofs.Cuts.{CutText, HasNoFeed, onto, cut_append, cut_in_lines}
-use Rattle.line_text.specs.declared.cutting.Step.TheVariants.{Line}
+use Rattle.dover_model.proofs.texts.Cuts.{CutText, HasNoFeed, onto, cut_append, cut_in_lines}
+use Rattle.line_text.specs.declared.cutting.ByteEffect.TheVariants.{Line}
 use Rattle.line_text.specs.Cutting.{Cutting, StandsFor, HasCut, IsWholeLine, begun_line, most_count}
 
 -- where no line has begun, the lines are the whole ones

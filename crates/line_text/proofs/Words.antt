@@ -1,11 +1,9 @@
 -- Lines that have other words, or another count of numbers behind them.
-use Rattle.std.proofs.Common.{◌≡◌, ◌≢◌, ℕ, List, ◌∷◌, ◌++◌, length, refl, sym, ap, ◌∙◌, Bool, true, false}
-use Rattle.std.proofs.Common.{Option, Some, None}
-use Rattle.std.specs.Prelude.{bytes_eq, if◌then◌else◌}
-use Rattle.std.specs.Option.{option_and_then}
+use Rattle.std.proofs.Common.{◌≡◌, ◌≢◌, ℕ, List, ◌∷◌, ◌++◌, length, refl, sym, ap, ◌∙◌, Bool, true, false, Option, Some}
+use Rattle.std.proofs.Common.{None, bytes_eq, if◌then◌else◌, option_and_then}
 use Rattle.std.proofs.lemmas.Slice.Eq.{bytes_eq-Decides}
 use Rattle.dover_model.specs.Lines.{fields_of, line_of}
-use Rattle.dover_model.proofs.Fields.{line_of-fields_of}
+use Rattle.dover_model.proofs.texts.Fields.{line_of-fields_of}
 
 -- the numbers aren't so many
 abbrev pub IsNot : ℕ → Option (List ℕ) → Type 0

@@ -1,15 +1,13 @@
 -- A line that is written number by number.
 use Rattle.std.proofs.Common.{◌≡◌, ℕ, zero, suc, ◌+◌, ◌-◌, ◌*◌, ◌^◌, ◌<◌, ◌≤◌, List, [], ◌∷◌, ◌++◌, length}
-use Rattle.std.proofs.Common.{length-append, append_assoc, append-nil, ap}
-use Rattle.std.proofs.Common.{◌∙◌, sym, arith, decimal, drop, set, get_or}
+use Rattle.std.proofs.Common.{length-append, append_assoc, append-nil, ap, ◌∙◌, sym, arith, decimal, drop, set, get_or}
+use Rattle.std.proofs.Common.{take, subst, length-take-le, drop-drop}
 use Rattle.std.proofs.lemmas.Fmt.{length-decimal-le}
-use Rattle.std.proofs.Common.{take, subst}
-use Rattle.std.proofs.lemmas.List.{drop-set, drop_more, length-take-le, drop-append-le, drop-drop}
+use Rattle.std.proofs.lemmas.List.{drop-set, drop_more, drop-append-le}
 use Rattle.std.proofs.Math.Seq.{drop-append-add}
 use borrow.Rule.Slice.PartMut.{put_mid, post_of}
-use Rattle.dover_model.specs.Numerals.{AreShort}
-use Rattle.dover_model.specs.Lines.{with_numbers}
-use Rattle.dover_model.proofs.Fields.{length-with_numbers}
+use Rattle.dover_model.specs.Common.{AreShort, with_numbers}
+use Rattle.dover_model.proofs.texts.Fields.{length-with_numbers}
 use Rattle.line_text.specs.Writing.{numbers_behind}
 
 -- a word and numbers are the word with the numbers behind it

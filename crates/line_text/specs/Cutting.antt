@@ -2,8 +2,8 @@
 use Rattle.std.specs.Prelude.{◌≡◌, ℕ, ◌+◌, ◌≤◌, min, List, [], ◌∷◌, ◌++◌, length, Bool, true, false, ◌==◌}
 use Rattle.std.specs.Prelude.{if◌then◌else◌, not}
 use Rattle.std.specs.List.{list_all}
-use Rattle.line_text.specs.declared.cutting.Step.{Step}
-use Rattle.line_text.specs.declared.cutting.Step.TheVariants.{More, Line, TooLong}
+use Rattle.line_text.specs.declared.cutting.ByteEffect.{ByteEffect}
+use Rattle.line_text.specs.declared.cutting.ByteEffect.TheVariants.{More, Line, TooLong}
 use Rattle.dover_model.specs.Lines.{whole_lines, rest_of, lines_of, is_too_long}
 
 -- what is kept of the bytes: the line that goes on or has just ended, how many lines are whole, and what the last byte
@@ -11,14 +11,14 @@ use Rattle.dover_model.specs.Lines.{whole_lines, rest_of, lines_of, is_too_long}
 pub record Cutting : Type 0 where
   pub line : List ℕ
   pub count : ℕ
-  pub last : Step
+  pub last : ByteEffect
 
 -- the greatest count, at which it stops
 abbrev pub most_count : ℕ
 most_count = 18_446_744_073_709_551_615
 
 -- so many bytes may be kept of a line
-abbrev pub HasRoom : Step → ℕ → Type 0
+abbrev pub HasRoom : ByteEffect → ℕ → Type 0
 HasRoom More used = used ≤ 128
 HasRoom Line used = used ≤ 128
 HasRoom TooLong used = used ≡ 129
@@ -28,7 +28,7 @@ abbrev pub begun_line : Cutting → List ℕ
 begun_line c = elim c.last [ More ↦ c.line | Line ↦ [] | TooLong ↦ c.line ]
 
 -- whether the line was found to be too long
-abbrev pub is_over : Step → Bool
+abbrev pub is_over : ByteEffect → Bool
 is_over More = false
 is_over Line = false
 is_over TooLong = true
@@ -40,7 +40,7 @@ pub record StandsFor (c : Cutting) (bytes : List ℕ) : Type 0 where
   pub over : is_over c.last ≡ is_too_long (rest_of bytes)
 
 -- what a byte makes of a line of which these bytes came
-abbrev pub step_of : List ℕ → ℕ → Step
+abbrev pub step_of : List ℕ → ℕ → ByteEffect
 step_of rest byte =
     if is_too_long rest then TooLong else
     (if byte == 10 then Line else
@@ -51,7 +51,7 @@ abbrev pub with_byte : List ℕ → ℕ → List ℕ
 with_byte bytes byte = if is_too_long (rest_of bytes) then bytes else bytes ++ byte ∷ []
 
 -- how the whole lines, the rest and the lines of the bytes before and after another byte differ, with this line kept
-abbrev pub HasCut : Step → List ℕ → List ℕ → List ℕ → Type 0
+abbrev pub HasCut : ByteEffect → List ℕ → List ℕ → List ℕ → Type 0
 HasCut More line before after = (whole_lines after ≡ whole_lines before) × (rest_of after ≡ line)
     × (lines_of after ≡ lines_of before)
 HasCut Line line before after =

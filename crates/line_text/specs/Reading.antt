@@ -1,8 +1,7 @@
 -- Fields and the numbers in them.
 use Rattle.std.specs.Prelude.{ℕ, List, [], ◌∷◌, Option, Some, None, option_map}
 use denote.Ref.{Bor}
-use Rattle.dover_model.specs.Lines.{fields_of}
-use Rattle.dover_model.specs.Numerals.{numeral}
+use Rattle.dover_model.specs.Common.{fields_of, numeral}
 
 -- the fields of what is left of a line, if anything is
 abbrev pub fields_left : Option (Bor (List ℕ)) → List (List ℕ)

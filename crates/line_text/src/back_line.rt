@@ -126,7 +126,7 @@ impl BackLine {
         requires fits { length word.now + 19 * length numbers.now + length self.old ≤ most_written }
         ensures { self.new ≡ with_numbers word.now numbers.now ++ self.old }
     {
-        self.put_numbers(numbers);
+        self.start = put_before(&mut self.bytes, self.start, numbers);
         self.put_word(word);
     }
 

@@ -5,7 +5,7 @@ use std::marker::Model;
 
 /// What a byte made of the line.
 #[derive(Clone, Copy)]
-pub enum Step {
+pub enum ByteEffect {
     /// The line goes on.
     More,
     /// The byte was the line feed that ends the line.
@@ -20,7 +20,7 @@ pub struct Lines {
     bytes: [u8; LINE_BYTES],
     used: usize,
     count: u64,
-    last: Step,
+    last: ByteEffect,
 }
 
 impl Model for Lines {
@@ -37,7 +37,7 @@ impl Model for Lines {
 impl Lines {
     ghost use Rattle.std.specs.Prelude.{◌≡◌, ◌≤◌, ◌<◌, ◌++◌, ◌∷◌, [], ℕ, List, length, take, false, ◌≢◌};
     ghost use Rattle.dover_model.specs.Lines.{whole_lines, rest_of, is_too_long};
-    ghost use Rattle.line_text.specs.declared.cutting.Step.TheVariants.{More, Line};
+    ghost use Rattle.line_text.specs.declared.cutting.ByteEffect.TheVariants.{More, Line};
     ghost use Rattle.line_text.specs.Cutting.{StandsFor, HasCut, step_of, with_byte, after_byte, begun_line};
     ghost use Rattle.line_text.specs.Cutting.{IsWholeLine};
 
@@ -50,7 +50,7 @@ impl Lines {
             bytes: [0; LINE_BYTES],
             used: 0,
             count: 0,
-            last: Step::More,
+            last: ByteEffect::More,
         }
     }
 
@@ -63,37 +63,37 @@ impl Lines {
             bytes: [0; LINE_BYTES],
             used: 0,
             count,
-            last: Step::More,
+            last: ByteEffect::More,
         }
     }
 
     /// Keeps the next byte, unless the line was too long before.
-    fn keep(&mut self, byte: u8) -> Step
+    fn keep(&mut self, byte: u8) -> ByteEffect
         ensures is { self.new ≡ after_byte self.old byte }
         ensures last { result ≡ self.new.last }
     {
         match self.last {
-            Step::TooLong => return Step::TooLong,
-            Step::Line => self.used = 0,
-            Step::More => {}
+            ByteEffect::TooLong => return ByteEffect::TooLong,
+            ByteEffect::Line => self.used = 0,
+            ByteEffect::More => {}
         }
         if byte == b'\n' {
             self.count = self.count.saturating_add(1);
-            self.last = Step::Line;
-            return Step::Line;
+            self.last = ByteEffect::Line;
+            return ByteEffect::Line;
         }
         self.bytes[self.used] = byte;
         self.used += 1;
         if self.used == LINE_BYTES {
-            self.last = Step::TooLong;
-            return Step::TooLong;
+            self.last = ByteEffect::TooLong;
+            return ByteEffect::TooLong;
         }
-        self.last = Step::More;
-        Step::More
+        self.last = ByteEffect::More;
+        ByteEffect::More
     }
 
     /// Takes the next byte. Once a line was too long, every later byte is disregarded and answered by `TooLong`.
-    pub fn push(&mut self, byte: u8) -> Step
+    pub fn push(&mut self, byte: u8) -> ByteEffect
         ensures stands { (bytes : List ℕ) → StandsFor self.old bytes → StandsFor self.new (with_byte bytes byte) }
         ensures step { (bytes : List ℕ) → StandsFor self.old bytes → result ≡ step_of (rest_of bytes) byte }
         ensures cut { (bytes : List ℕ) → StandsFor self.old bytes → is_too_long (rest_of bytes) ≡ false →
@@ -156,7 +156,7 @@ impl Lines {
     pub fn rest(&self) -> usize
         ensures { result ≡ length (begun_line self.now) }
     {
-        if self.last == Step::Line {
+        if self.last == ByteEffect::Line {
             0
         } else {
             self.used

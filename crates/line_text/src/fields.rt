@@ -1,7 +1,6 @@
 //! The fields of a line, and the numbers in them.
 ghost use Rattle.std.specs.Prelude.{◌≡◌, ◌≢◌, ◌∷◌, ◌++◌, ◌<◌, ℕ, List, length, Some, IfSome, IfNone};
-ghost use Rattle.dover_model.specs.Lines.{fields_of};
-ghost use Rattle.dover_model.specs.Numerals.{numerals};
+ghost use Rattle.dover_model.specs.Common.{fields_of, numerals};
 ghost use Rattle.line_text.specs.Reading.{fields_left};
 
 use crate::numerals::first_number;

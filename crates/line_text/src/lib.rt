@@ -10,7 +10,7 @@ mod spelled;
 pub mod traces;
 
 pub use back_line::{BackLine, put_before};
-pub use cutting::{Lines, Step};
+pub use cutting::{ByteEffect, Lines};
 pub use fields::{Numbers, behind_word, cut_field, numbers_in, read_numbers};
 pub use numerals::{first_number, numeral};
 pub use spelled::Spelled;

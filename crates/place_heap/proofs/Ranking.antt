@@ -1,6 +1,6 @@
 -- The order of items, as one by which they can be sorted.
 use Rattle.std.proofs.Common.{◌≡◌, ◌≢◌, ℕ, Bool, true, false, nat_lt, arith}
-use Rattle.dover_model.proofs.EntryOrders.{less_one_way, less_onward, less_total}
+use Rattle.dover_model.proofs.steps.EntryOrders.{less_one_way, less_onward, less_total}
 use Rattle.place_heap.specs.Items.{ItemFacts, less_or, is_before}
 
 -- ---- by one number, and where two are equal by something else

@@ -1,11 +1,9 @@
 -- The items of entries come in the model's orders.
-use Rattle.std.proofs.Common.{◌≡◌, ◌≢◌, ℕ, ◌-◌, ◌≤◌, Bool, nat_lt, ap, arith}
-use Rattle.std.specs.Prelude.{◌||◌, ◌&&◌, ◌==◌}
-use Rattle.dover_model.specs.Limits.{most_value}
+use Rattle.std.proofs.Common.{◌≡◌, ◌≢◌, ℕ, ◌-◌, ◌≤◌, Bool, nat_lt, ap, arith, ◌||◌, ◌&&◌, ◌==◌}
+use Rattle.dover_model.specs.Common.{most_value, wins_tie}
 use Rattle.dover_model.specs.declared.events.Entry.{Entry}
 use Rattle.dover_model.specs.declared.events.Version.{Version}
 use Rattle.dover_model.specs.declared.events.Version.TheVariants.{One, Two, Three}
-use Rattle.dover_model.specs.Entries.{wins_tie}
 use Rattle.place_heap.specs.Items.{less_or}
 use Rattle.place_heap.specs.Orders.{tie_of, AreOrderedAs}
 

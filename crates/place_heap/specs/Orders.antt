@@ -1,10 +1,9 @@
 -- The items of entries, in the two orders of the model.
 use Rattle.std.specs.Prelude.{◌≡◌, ℕ, ◌-◌}
-use Rattle.dover_model.specs.Limits.{most_value}
+use Rattle.dover_model.specs.Common.{most_value, is_due_before, is_start_before}
 use Rattle.dover_model.specs.declared.events.Version.{Version}
 use Rattle.dover_model.specs.declared.events.Version.TheVariants.{One, Two, Three}
 use Rattle.dover_model.specs.declared.events.Entry.{Entry}
-use Rattle.dover_model.specs.Entries.{is_due_before, is_start_before}
 use Rattle.place_heap.specs.Items.{ItemFacts, is_before}
 
 -- what settles equal keys before the number does: nothing, in version Two the greater value

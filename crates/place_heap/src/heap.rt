@@ -1,8 +1,7 @@
 //! The heap.
-ghost use Rattle.std.specs.Prelude.{◌≡◌, ◌≢◌, ℕ, ◌+◌, ◌-◌, ◌*◌, ◌^◌, ◌<◌, ◌≤◌, [], ◌∷◌, ◌++◌};
-ghost use Rattle.std.specs.Prelude.{length, replicate, is_some, slice_set, slice_index_or, vec_len, vec_capacity};
-ghost use Rattle.std.specs.Prelude.{IfOk, IsOk, OnOk, OnErr};
-ghost use Rattle.std.specs.List.{count_by};
+ghost use Rattle.std.specs.Prelude.{◌≡◌, ◌≢◌, ℕ, ◌+◌, ◌-◌, ◌*◌, ◌^◌, ◌<◌, ◌≤◌, [], ◌∷◌, ◌++◌, length, replicate};
+ghost use Rattle.std.specs.Prelude.{is_some, slice_set, slice_index_or, vec_len, vec_capacity, IfOk, IsOk, OnOk, OnErr};
+ghost use Rattle.std.specs.Prelude.{count_by};
 ghost use Rattle.dover_model.specs.Orders.{first};
 ghost use Rattle.place_heap.specs.Items.{ItemFacts, is_before};
 ghost use Rattle.place_heap.specs.Table.{IsIndexed, table_of, items_of, position, nowhere};
@@ -11,11 +10,11 @@ ghost use Rattle.place_heap.specs.HeapOrder.{IsHeap};
 
 use crate::item::Item;
 use crate::sift::{NOWHERE, put_last, put_last_at, settle, sift_up, take_last};
+use comparison_count::Comparisons;
 use dover_model::Memory;
 use std::alloc::Global;
 use std::marker::Model;
 use std::sync::ledger::Ledger;
-use step_count::Steps;
 
 /// A set of items at places of their own, from which the first and that of a place are taken in logarithmic time.
 #[derive(Drop)]
@@ -93,24 +92,29 @@ impl Heap {
     }
 
     /// Puts an item in at its place, by at most as many comparisons as the length plus one has binary digits.
-    pub fn insert<L: Ledger>(&mut self, item: Item, steps: &mut Steps<L>)
+    pub fn insert<L: Ledger>(&mut self, item: Item, comparisons: &mut Comparisons<L>)
         requires ready { item.place < length self.old }
         requires free { slice_index_or self.old item.place None ≡ None }
         ensures in_it { self.new ≡ slice_set self.old item.place (Some item) }
-        ensures count { (d : ℕ) → count_by is_some self.old + 1 < 2 ^ d → steps.new ≤ steps.old + d }
+        ensures count { (d : ℕ) → count_by is_some self.old + 1 < 2 ^ d → comparisons.new ≤ comparisons.old + d }
     {
-        put(&mut self.items, &mut self.positions, item, steps);
+        put(&mut self.items, &mut self.positions, item, comparisons);
     }
 
     /// Takes the item at the place out, if there is one, by at most three comparisons for each binary digit of the
     /// length plus one.
-    pub fn remove<L: Ledger>(&mut self, place: u32, steps: &mut Steps<L>)
+    pub fn remove<L: Ledger>(&mut self, place: u32, comparisons: &mut Comparisons<L>)
         ensures out { self.new ≡ slice_set self.old place None }
-        ensures count { (d : ℕ) → count_by is_some self.old + 1 < 2 ^ d → steps.new ≤ steps.old + 3 * d }
+        ensures count { (d : ℕ) → count_by is_some self.old + 1 < 2 ^ d → comparisons.new ≤ comparisons.old + 3 * d }
     {
         let at = position_of(&self.positions, place);
         if at != NOWHERE {
-            take_at(&mut self.items, &mut self.positions, at as usize, steps);
+            take_at(
+                &mut self.items,
+                &mut self.positions,
+                at as usize,
+                comparisons,
+            );
         }
     }
 }
@@ -127,7 +131,12 @@ fn position_of(positions: &[u32], place: u32) -> u32
 }
 
 // Puts an item in.
-fn put<L: Ledger>(items: &mut Vec<Item>, positions: &mut [u32], item: Item, steps: &mut Steps<L>)
+fn put<L: Ledger>(
+    items: &mut Vec<Item>,
+    positions: &mut [u32],
+    item: Item,
+    comparisons: &mut Comparisons<L>,
+)
     requires room { vec_len items.old < vec_capacity items.old }
     requires few { length items.old.items + 1 < 2 ^ 32 }
     requires ready { item.place < length positions.old }
@@ -140,15 +149,20 @@ fn put<L: Ledger>(items: &mut Vec<Item>, positions: &mut [u32], item: Item, step
     ensures table { table_of items.new.items positions.new
         ≡ slice_set (table_of items.old.items positions.old) item.place (Some item) }
     ensures heap { IsHeap items.new.items }
-    ensures count { (d : ℕ) → length items.old.items + 1 < 2 ^ d → steps.new ≤ steps.old + d }
+    ensures count { (d : ℕ) → length items.old.items + 1 < 2 ^ d → comparisons.new ≤ comparisons.old + d }
 {
     let at = items.len();
     put_last(items, positions, item);
-    sift_up(items, positions, at, steps);
+    sift_up(items, positions, at, comparisons);
 }
 
 // Takes the item at a position out.
-fn take_at<L: Ledger>(items: &mut Vec<Item>, positions: &mut [u32], at: usize, steps: &mut Steps<L>)
+fn take_at<L: Ledger>(
+    items: &mut Vec<Item>,
+    positions: &mut [u32],
+    at: usize,
+    comparisons: &mut Comparisons<L>,
+)
     requires indexed { IsIndexed items.old.items positions.old }
     requires few { length items.old.items < 2 ^ 32 }
     requires at { at < length items.old.items }
@@ -159,12 +173,12 @@ fn take_at<L: Ledger>(items: &mut Vec<Item>, positions: &mut [u32], at: usize, s
     ensures table { (d : ItemFacts) → table_of items.new.items positions.new
         ≡ slice_set (table_of items.old.items positions.old) (slice_index_or items.old.items at d).place None }
     ensures heap { IsHeap items.new.items }
-    ensures count { (d : ℕ) → length items.old.items + 1 < 2 ^ d → steps.new ≤ steps.old + 3 * d }
+    ensures count { (d : ℕ) → length items.old.items + 1 < 2 ^ d → comparisons.new ≤ comparisons.old + 3 * d }
 {
     if at + 1 == items.len() {
         take_last(items, positions);
         return;
     }
     put_last_at(items, positions, at);
-    settle(items, positions, at, steps);
+    settle(items, positions, at, comparisons);
 }

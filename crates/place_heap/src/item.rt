@@ -2,10 +2,10 @@
 ghost use Rattle.std.specs.Prelude.{◌≡◌, ◌+◌, ◌<◌, ◌^◌};
 ghost use Rattle.place_heap.specs.Items.{ItemFacts, is_before};
 
+use comparison_count::Comparisons;
 use std::marker::Model;
 use std::mem::size_of;
 use std::sync::ledger::Ledger;
-use step_count::Steps;
 
 // What one of the number, of the tie and of the key counts for in a rank.
 const NUMBER: u128 = 1 << 20;
@@ -66,11 +66,15 @@ impl Item {
 
     /// Whether it comes before the other, as one step.
     #[inline(always)]
-    pub(crate) fn is_before<L: Ledger>(&self, other: &Item, steps: &mut Steps<L>) -> bool
+    pub(crate) fn is_before<L: Ledger>(
+        &self,
+        other: &Item,
+        comparisons: &mut Comparisons<L>,
+    ) -> bool
         ensures answer { result ≡ is_before self.now other.now }
-        ensures count { steps.new ≡ steps.old + 1 }
+        ensures count { comparisons.new ≡ comparisons.old + 1 }
     {
-        steps.tick();
+        comparisons.tick();
         self.rank < other.rank
     }
 }

@@ -7,8 +7,8 @@ ghost use Rattle.place_heap.specs.Table.{IsIndexed, table_of};
 ghost use Rattle.place_heap.specs.HeapOrder.{IsAhead, IsHeap, IsHeapUp, IsHeapSave};
 
 use crate::item::Item;
+use comparison_count::Comparisons;
 use std::sync::ledger::Ledger;
-use step_count::Steps;
 
 /// The position of a place that has no item.
 pub(crate) const NOWHERE: u32 = u32::MAX;
@@ -32,7 +32,7 @@ pub(crate) fn sift_up<L: Ledger>(
     items: &mut [Item],
     positions: &mut [u32],
     from: usize,
-    steps: &mut Steps<L>,
+    comparisons: &mut Comparisons<L>,
 )
     requires indexed { IsIndexed items.old positions.old }
     requires few { length items.old < 2 ^ 32 }
@@ -41,14 +41,14 @@ pub(crate) fn sift_up<L: Ledger>(
     ensures indexed { IsIndexed items.new positions.new }
     ensures table { table_of items.new positions.new ≡ table_of items.old positions.old }
     ensures heap { IsHeap items.new }
-    ensures count { (d : ℕ) → length items.old < 2 ^ d → 2 * steps.new ≤ 2 * steps.old + d + 1 }
+    ensures count { (d : ℕ) → length items.old < 2 ^ d → 2 * comparisons.new ≤ 2 * comparisons.old + d + 1 }
 {
     let item = items[from];
     let mut at = from;
     while at > 0 {
         let parent = (at - 1) / 4;
         let above = items[parent];
-        if !item.is_before(&above, steps) {
+        if !item.is_before(&above, comparisons) {
             set_at(items, positions, at, item);
             return;
         }
@@ -60,16 +60,21 @@ pub(crate) fn sift_up<L: Ledger>(
 
 // Of two positions the one whose item comes first.
 #[inline(always)]
-fn earlier<L: Ledger>(items: &[Item], left: usize, right: usize, steps: &mut Steps<L>) -> usize
+fn earlier<L: Ledger>(
+    items: &[Item],
+    left: usize,
+    right: usize,
+    comparisons: &mut Comparisons<L>,
+) -> usize
     requires order { left ≤ right }
     requires inside { right < length items.now }
     ensures low { left ≤ result }
     ensures high { result ≤ right }
     ensures left { IsAhead items.now result left }
     ensures right { IsAhead items.now result right }
-    ensures count { steps.new ≡ steps.old + 1 }
+    ensures count { comparisons.new ≡ comparisons.old + 1 }
 {
-    if items[right].is_before(&items[left], steps) {
+    if items[right].is_before(&items[left], comparisons) {
         right
     } else {
         left
@@ -79,55 +84,55 @@ fn earlier<L: Ledger>(items: &[Item], left: usize, right: usize, steps: &mut Ste
 // Of four positions, from this one on, the one whose item comes first. Two pairs are compared, then their first ones,
 // since that has no unpredictable branch.
 #[inline(always)]
-fn first_of_four<L: Ledger>(items: &[Item], low: usize, steps: &mut Steps<L>) -> usize
+fn first_of_four<L: Ledger>(items: &[Item], low: usize, comparisons: &mut Comparisons<L>) -> usize
     requires { low + 4 ≤ length items.now }
     ensures low { low ≤ result }
     ensures high { result < low + 4 }
     ensures first { (k : ℕ) → low ≤ k → k < low + 4 → IsAhead items.now result k }
-    ensures count { steps.new ≡ steps.old + 3 }
+    ensures count { comparisons.new ≡ comparisons.old + 3 }
 {
     let four = &items[low..low + 4];
-    let left = earlier(four, 0, 1, steps);
-    let right = earlier(four, 2, 3, steps);
-    low + earlier(four, left, right, steps)
+    let left = earlier(four, 0, 1, comparisons);
+    let right = earlier(four, 2, 3, comparisons);
+    low + earlier(four, left, right, comparisons)
 }
 
 // Of the positions from this one on, of which there are fewer than four, the one whose item comes first.
 #[inline(always)]
-fn first_of_few<L: Ledger>(items: &[Item], low: usize, steps: &mut Steps<L>) -> usize
+fn first_of_few<L: Ledger>(items: &[Item], low: usize, comparisons: &mut Comparisons<L>) -> usize
     requires some { low < length items.now }
     requires few { length items.now < low + 4 }
     ensures low { low ≤ result }
     ensures inside { result < length items.now }
     ensures first { (k : ℕ) → low ≤ k → k < length items.now → IsAhead items.now result k }
-    ensures count { steps.new ≤ steps.old + 3 }
+    ensures count { comparisons.new ≤ comparisons.old + 3 }
 {
     match items.len() - low {
         1 => low,
-        2 => earlier(items, low, low + 1, steps),
+        2 => earlier(items, low, low + 1, comparisons),
         _ => {
-            let left = earlier(items, low, low + 1, steps);
-            earlier(items, left, low + 2, steps)
+            let left = earlier(items, low, low + 1, comparisons);
+            earlier(items, left, low + 2, comparisons)
         }
     }
 }
 
 // The child that comes first.
 #[inline(always)]
-fn first_child<L: Ledger>(items: &[Item], at: usize, steps: &mut Steps<L>) -> usize
+fn first_child<L: Ledger>(items: &[Item], at: usize, comparisons: &mut Comparisons<L>) -> usize
     requires child { at * 4 + 1 < length items.now }
     requires few { length items.now < 2 ^ 32 }
     ensures low { at * 4 + 1 ≤ result }
     ensures high { result ≤ at * 4 + 4 }
     ensures inside { result < length items.now }
     ensures first { (k : ℕ) → at * 4 + 1 ≤ k → k ≤ at * 4 + 4 → k < length items.now → IsAhead items.now result k }
-    ensures count { steps.new ≤ steps.old + 3 }
+    ensures count { comparisons.new ≤ comparisons.old + 3 }
 {
     let low = at * 4 + 1;
     if low + 4 <= items.len() {
-        return first_of_four(items, low, steps);
+        return first_of_four(items, low, comparisons);
     }
-    first_of_few(items, low, steps)
+    first_of_few(items, low, comparisons)
 }
 
 // Takes the item at a position out of the order, down to where it has no children: each time the child that comes
@@ -138,7 +143,7 @@ fn sink<L: Ledger>(
     items: &mut [Item],
     positions: &mut [u32],
     from: usize,
-    steps: &mut Steps<L>,
+    comparisons: &mut Comparisons<L>,
 ) -> usize
     requires indexed { IsIndexed items.old positions.old }
     requires few { length items.old < 2 ^ 32 }
@@ -149,12 +154,12 @@ fn sink<L: Ledger>(
     ensures len { length items.new ≡ length items.old }
     ensures inside { result < length items.new }
     ensures heap { IsHeapUp items.new result }
-    ensures count { (d : ℕ) → length items.old + 2 < 2 ^ d → 2 * steps.new ≤ 2 * steps.old + 3 * d + 3 }
+    ensures count { (d : ℕ) → length items.old + 2 < 2 ^ d → 2 * comparisons.new ≤ 2 * comparisons.old + 3 * d + 3 }
 {
     let item = items[from];
     let mut at = from;
     while at * 4 + 1 < items.len() {
-        let child = first_child(items, at, steps);
+        let child = first_child(items, at, comparisons);
         let below = items[child];
         set_at(items, positions, at, below);
         at = child;
@@ -168,7 +173,7 @@ pub(crate) fn settle<L: Ledger>(
     items: &mut [Item],
     positions: &mut [u32],
     at: usize,
-    steps: &mut Steps<L>,
+    comparisons: &mut Comparisons<L>,
 )
     requires indexed { IsIndexed items.old positions.old }
     requires few { length items.old < 2 ^ 32 }
@@ -177,10 +182,10 @@ pub(crate) fn settle<L: Ledger>(
     ensures indexed { IsIndexed items.new positions.new }
     ensures table { table_of items.new positions.new ≡ table_of items.old positions.old }
     ensures heap { IsHeap items.new }
-    ensures count { (d : ℕ) → length items.old + 2 < 2 ^ d → steps.new ≤ steps.old + 3 * d }
+    ensures count { (d : ℕ) → length items.old + 2 < 2 ^ d → comparisons.new ≤ comparisons.old + 3 * d }
 {
-    let leaf = sink(items, positions, at, steps);
-    sift_up(items, positions, leaf, steps);
+    let leaf = sink(items, positions, at, comparisons);
+    sift_up(items, positions, leaf, comparisons);
 }
 
 /// Puts an item last.

@@ -1,17 +1,11 @@
 -- Lists of entries of tasks: their numbers differ, and what a tick does to them.
 use Rattle.std.proofs.Common.{◌≡◌, ℕ, suc, ◌+◌, ◌-◌, ◌≤◌, ◌<◌, inl, inr, List, [], ◌∷◌, map, refl, sym, ap, ◌∙◌, subst}
-use Rattle.std.proofs.Common.{Bool, true, false, cond}
-use Rattle.std.proofs.Common.{eqb, arith}
-use Rattle.std.specs.Prelude.{nat_le, nat_lt, ◌&&◌}
-use Rattle.std.specs.List.{filter}
+use Rattle.std.proofs.Common.{Bool, true, false, cond, eqb, arith, nat_le, nat_lt, ◌&&◌, filter}
 use Rattle.std.proofs.lemmas.List.Sums.{sum_by-cons}
 use Rattle.dover_model.specs.declared.events.Task.{Task}
 use Rattle.dover_model.specs.declared.events.Entry.{Entry}
-use Rattle.dover_model.specs.Entries.{entry_of}
-use Rattle.dover_model.specs.State.{left, latest_start}
-use Rattle.dover_model.specs.Sound.{IsMember, Each, IsNumberedFrom}
-use Rattle.dover_model.specs.Pieces.{given}
-use Rattle.dover_model.proofs.Roles.{numbers_above}
+use Rattle.dover_model.specs.Common.{entry_of, left, latest_start, IsMember, Each, IsNumberedFrom, given}
+use Rattle.dover_model.proofs.steps.Roles.{numbers_above}
 use Rattle.policy_lab.specs.Picks.{HaveOwnNumbers, AreReady, number_of}
 use Rattle.policy_lab.specs.PolicyRun.{is_ready}
 use Rattle.policy_lab.specs.Bench.{given_entry, is_in_time, served_value, spent_value}

@@ -1,9 +1,6 @@
 -- The entry that comes first, as a loop over the others finds it.
-use Rattle.std.proofs.Common.{◌≡◌, ◌≤◌, ℕ, List, ◌∷◌, length, take, ap, sym, ◌∙◌}
-use Rattle.std.specs.Prelude.{Bool, Some}
-use Rattle.std.specs.List.{fold}
-use Rattle.std.specs.Option.{option_map}
-use Rattle.std.proofs.lemmas.List.{take_all}
+use Rattle.std.proofs.Common.{◌≡◌, ◌≤◌, ℕ, List, ◌∷◌, length, take, ap, sym, ◌∙◌, Bool, Some, fold, option_map}
+use Rattle.std.proofs.Common.{take_all}
 use Rattle.dover_model.specs.declared.events.Entry.{Entry}
 use Rattle.dover_model.specs.Orders.{first, earlier}
 use Rattle.policy_lab.specs.Picks.{number_of}

@@ -1,11 +1,8 @@
 -- What one tick of a policy's run does to the tasks.
-use Rattle.std.proofs.Common.{◌≡◌, ℕ, ◌+◌, ◌≤◌, ◌<◌, List, refl, ap, Bool, true, false, cond}
-use Rattle.std.proofs.Common.{eqb, arith}
-use Rattle.std.specs.Prelude.{nat_le, nat_lt, ◌&&◌}
+use Rattle.std.proofs.Common.{◌≡◌, ℕ, ◌+◌, ◌≤◌, ◌<◌, List, refl, ap, Bool, true, false, cond, eqb, arith, nat_le}
+use Rattle.std.proofs.Common.{nat_lt, ◌&&◌}
 use Rattle.dover_model.specs.declared.events.Task.{Task}
-use Rattle.dover_model.specs.State.{left}
-use Rattle.dover_model.specs.Sound.{Each}
-use Rattle.dover_model.specs.Pieces.{given}
+use Rattle.dover_model.specs.Common.{left, Each, given}
 use Rattle.policy_lab.specs.PolicyRun.{is_ready}
 
 -- the three tests, on numbers

@@ -4,7 +4,7 @@ use Rattle.std.proofs.Common.{◌∙◌, cond, eqb, arith}
 use Rattle.std.proofs.lemmas.List.{length-map}
 use Rattle.std.proofs.lemmas.List.Sums.{sum_by_more, sum_by_more_le}
 use Rattle.dover_model.specs.declared.events.Entry.{Entry}
-use Rattle.dover_model.proofs.InPlace.{map_front}
+use Rattle.dover_model.proofs.lists.InPlace.{map_front}
 use Rattle.policy_lab.specs.Bench.{spent_value}
 
 -- what an entry adds

@@ -1,26 +1,20 @@
 -- The ready jobs, as a run keeps them from tick to tick.
 use Rattle.std.proofs.Common.{◌≡◌, ℕ, suc, zero, ◌+◌, ◌-◌, ◌≤◌, ◌<◌, inl, inr, List, [], ◌∷◌, ◌++◌, length, drop}
-use Rattle.std.proofs.Common.{get_or, map, refl, sym}
-use Rattle.std.proofs.Common.{ap, ◌∙◌, subst}
-use Rattle.std.proofs.Common.{Bool, true, false, cond, eqb, arith, add-one, append_assoc}
-use Rattle.std.specs.List.{filter}
-use Rattle.std.proofs.lemmas.List.{drop_more, map-append, length_push, append-nil}
+use Rattle.std.proofs.Common.{get_or, map, refl, sym, ap, ◌∙◌, subst, Bool, true, false, cond, eqb, arith, add-one}
+use Rattle.std.proofs.Common.{append_assoc, filter, append-nil}
+use Rattle.std.proofs.lemmas.List.{drop_more, map-append, length_push}
 use Rattle.std.proofs.lemmas.List.Elements.{filter-append}
-use Rattle.dover_model.specs.JobFacts.{JobFacts, IsJob}
+use Rattle.dover_model.specs.Common.{JobFacts, IsJob, entry_of, to_come, given, IsMember, Each}
 use Rattle.dover_model.specs.declared.events.Task.{Task}
 use Rattle.dover_model.specs.declared.events.Entry.{Entry}
-use Rattle.dover_model.specs.Entries.{entry_of}
-use Rattle.dover_model.specs.State.{to_come}
-use Rattle.dover_model.specs.Pieces.{given}
-use Rattle.dover_model.specs.Sound.{IsMember, Each}
-use Rattle.dover_model.proofs.Members.{on_map, all_member, member_front, member_behind, each_behind}
-use Rattle.dover_model.proofs.Releasing.{coming_task}
+use Rattle.dover_model.proofs.lists.Members.{on_map, all_member, member_front, member_behind, each_behind}
+use Rattle.dover_model.proofs.settled.Releasing.{coming_task}
 use Rattle.policy_lab.specs.PolicyRun.{is_ready}
 use Rattle.policy_lab.specs.Bench.{HasReady, given_entry, is_in_time, entry_to_come}
 use Rattle.policy_lab.proofs.Given.{ready_says, says_ready, given_other, given_job, Fits}
 use Rattle.policy_lab.proofs.Entries.{entries_after}
-use Rattle.dover_model.proofs.ValidParts.{ReleasesInOrder}
-use Rattle.dover_model.proofs.JobLimits.{job_limits}
+use Rattle.dover_model.proofs.valid.ValidParts.{ReleasesInOrder}
+use Rattle.dover_model.proofs.valid.JobLimits.{job_limits}
 
 -- ---- jobs in order
 

@@ -1,28 +1,19 @@
 -- What a policy picks up to a tick depends on the jobs that are released by then alone.
 use Rattle.std.proofs.Common.{◌≡◌, ℕ, suc, zero, ◌+◌, ◌≤◌, ◌<◌, inl, inr, List, [], ◌∷◌, ◌++◌, length, get_or, map}
-use Rattle.std.proofs.Common.{refl, sym, ap, ◌∙◌}
-use Rattle.std.proofs.Common.{subst, Bool, true, false, cond}
-use Rattle.std.proofs.Common.{arith}
-use Rattle.std.specs.Prelude.{None, unwrap_or}
-use Rattle.std.specs.List.{filter, fold}
-use Rattle.std.proofs.lemmas.List.{map-append, append-nil}
+use Rattle.std.proofs.Common.{refl, sym, ap, ◌∙◌, subst, Bool, true, false, cond, arith, None, unwrap_or, filter, fold}
+use Rattle.std.proofs.Common.{append-nil}
+use Rattle.std.proofs.lemmas.List.{map-append}
 use Rattle.std.proofs.lemmas.List.Elements.{filter-append}
-use Rattle.dover_model.specs.JobFacts.{JobFacts}
+use Rattle.dover_model.specs.Common.{JobFacts, entry_of, to_come, left, last_deadline, given, known_at, IsMember, Each}
 use Rattle.dover_model.specs.declared.events.Task.{Task}
-use Rattle.dover_model.specs.Entries.{entry_of}
-use Rattle.dover_model.specs.State.{to_come, left}
-use Rattle.dover_model.specs.Run.{last_deadline}
-use Rattle.dover_model.specs.Pieces.{given}
-use Rattle.dover_model.specs.Online.{known_at}
-use Rattle.dover_model.specs.Sound.{IsMember, Each}
-use Rattle.dover_model.proofs.Members.{on_map, member_front}
-use Rattle.dover_model.proofs.Prefixes.{come_append}
-use Rattle.dover_model.proofs.Valid.{Split, split_known}
-use Rattle.dover_model.proofs.Resting.{later_due, due_least}
+use Rattle.dover_model.proofs.lists.Members.{on_map, member_front}
+use Rattle.dover_model.proofs.settled.Prefixes.{come_append}
+use Rattle.dover_model.proofs.valid.Valid.{Split, split_known}
+use Rattle.dover_model.proofs.rest.Resting.{later_due, due_least}
 use Rattle.policy_lab.specs.Picks.{Picks}
 use Rattle.policy_lab.specs.PolicyRun.{is_ready, picked, policy_run_from, policy_run}
 use Rattle.policy_lab.proofs.Given.{ready_says, given_job}
-use Rattle.dover_model.proofs.ValidParts.{ReleasesInOrder}
+use Rattle.dover_model.proofs.valid.ValidParts.{ReleasesInOrder}
 
 -- of tasks that can't be ready none is
 none_ready : (t : ℕ) (tasks : List Task) → Each (λ task. is_ready t task ≡ true → ⊥) tasks

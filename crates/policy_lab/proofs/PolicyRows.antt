@@ -1,9 +1,7 @@
 -- What the two policies make of some lists, beside the machine, by computation.
 use Rattle.std.proofs.Common.{◌≡◌, ℕ, List, [], ◌∷◌, refl}
-use Rattle.dover_model.specs.Instance.{Instance}
-use Rattle.dover_model.specs.Run.{completed_value}
-use Rattle.dover_model.specs.Schedules.{worth}
-use Rattle.dover_model.proofs.Written.{job, one}
+use Rattle.dover_model.specs.Common.{Instance, completed_value, worth}
+use Rattle.dover_model.proofs.rows.Written.{job, one}
 use Rattle.policy_lab.specs.PolicyRun.{policy_run}
 use Rattle.policy_lab.specs.Standard.{earliest_deadline, greatest_density}
 

@@ -1,27 +1,18 @@
 -- A policy's run, tick by tick: its tasks, its schedule, and what it is worth.
 use Rattle.std.proofs.Common.{◌≡◌, ℕ, suc, zero, ◌+◌, ◌-◌, ◌≤◌, ◌<◌, inl, inr, List, [], ◌∷◌, ◌++◌, length, map, refl}
-use Rattle.std.proofs.Common.{sym, ap, ◌∙◌, Bool}
-use Rattle.std.proofs.Common.{true, false, cond}
-use Rattle.std.proofs.Common.{eqb, arith, add-one, append_assoc, append-nil}
-use Rattle.std.specs.Prelude.{nat_le, Option, Some, None, unwrap_or}
-use Rattle.std.specs.List.{sum_by, filter, enumerate_from}
-use Rattle.std.proofs.lemmas.Bool.{eq-eqb, eqb-true, ne_eqb}
+use Rattle.std.proofs.Common.{sym, ap, ◌∙◌, Bool, true, false, cond, eqb, arith, add-one, append_assoc, append-nil}
+use Rattle.std.proofs.Common.{nat_le, Option, Some, None, unwrap_or, sum_by, filter, eq-eqb, eqb-true, ne_eqb}
+use Rattle.std.specs.List.{enumerate_from}
 use Rattle.std.proofs.lemmas.List.{length_push}
-use Rattle.dover_model.specs.JobFacts.{JobFacts}
-use Rattle.dover_model.specs.Instance.{Rules}
+use Rattle.dover_model.specs.Common.{JobFacts, Rules, entry_of, to_come, left, ticks_given, is_served, worth, given}
+use Rattle.dover_model.specs.Common.{last_deadline, IsMember, Each, IsNumberedFrom, jobs_of}
 use Rattle.dover_model.specs.declared.events.Task.{Task}
 use Rattle.dover_model.specs.declared.events.Entry.{Entry}
-use Rattle.dover_model.specs.Entries.{entry_of}
-use Rattle.dover_model.specs.State.{to_come, left}
-use Rattle.dover_model.specs.Schedules.{ticks_given, is_served, worth}
-use Rattle.dover_model.specs.Pieces.{given}
-use Rattle.dover_model.specs.Run.{last_deadline}
-use Rattle.dover_model.specs.Sound.{IsMember, Each, IsNumberedFrom, jobs_of}
-use Rattle.dover_model.proofs.Kept.{come_numbered, come_jobs}
-use Rattle.dover_model.proofs.Members.{on_map, sum_same}
-use Rattle.dover_model.proofs.Roles.{numbered_map, one_number}
-use Rattle.dover_model.proofs.Serving.{given_nil}
-use Rattle.dover_model.proofs.Honest.{numbers_low, count_jobs, sum_tasks, given_miss, given_hit}
+use Rattle.dover_model.proofs.steps.Kept.{come_numbered, come_jobs}
+use Rattle.dover_model.proofs.lists.Members.{on_map, sum_same}
+use Rattle.dover_model.proofs.steps.Roles.{numbered_map, one_number}
+use Rattle.dover_model.proofs.runs.Serving.{given_nil}
+use Rattle.dover_model.proofs.runs.Honest.{numbers_low, count_jobs, sum_tasks, given_miss, given_hit}
 use Rattle.policy_lab.specs.Picks.{Picks, IsPick, IsPolicy}
 use Rattle.policy_lab.specs.PolicyRun.{is_ready, picked, policy_run_from, policy_run}
 use Rattle.policy_lab.specs.Bench.{tasks_at, schedule_before, served_value}

@@ -1,10 +1,8 @@
 -- Jobs that a policy is run over.
 use Rattle.std.proofs.Common.{◌≡◌, ◌≤◌, ◌<◌, ◌↔◌, ℕ, List, length, inl, inr, refl, sym, ◌∙◌, Bool, true, false, IsTrue}
-use Rattle.std.specs.Prelude.{nat_lt}
-use Rattle.std.proofs.lemmas.Bool.{ltb-true, ltb-false}
-use Rattle.dover_model.specs.JobFacts.{JobFacts}
-use Rattle.dover_model.specs.Run.{last_deadline}
-use Rattle.dover_model.proofs.Tests.{never}
+use Rattle.std.proofs.Common.{nat_lt, ltb-true, ltb-false}
+use Rattle.dover_model.specs.Common.{JobFacts, last_deadline}
+use Rattle.dover_model.proofs.lists.Tests.{never}
 use Rattle.policy_lab.specs.PolicyRun.{AreTooLarge}
 
 -- what isn't above is at most as great

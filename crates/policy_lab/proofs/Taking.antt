@@ -1,9 +1,7 @@
 -- One job more of a list that is read.
-use Rattle.std.proofs.Common.{◌≡◌, ℕ, ◌+◌, ◌<◌, List, length, take, get_or, max, cond, sym, ap, ◌∙◌, arith}
-use Rattle.std.specs.Prelude.{nat_le}
+use Rattle.std.proofs.Common.{◌≡◌, ℕ, ◌+◌, ◌<◌, List, length, take, get_or, max, cond, sym, ap, ◌∙◌, arith, nat_le}
 use Rattle.std.proofs.lemmas.List.Sums.{fold_more}
-use Rattle.dover_model.specs.JobFacts.{JobFacts}
-use Rattle.dover_model.specs.Run.{last_deadline}
+use Rattle.dover_model.specs.Common.{JobFacts, last_deadline}
 
 -- the greatest deadline of one job more
 pub deadline_more : (jobs : List JobFacts) (i last : ℕ) (j : JobFacts) → i < length jobs → j ≡ get_or jobs i j

@@ -1,20 +1,12 @@
 -- One tick of a policy's run, over what the run has come to.
 use Rattle.std.proofs.Common.{◌≡◌, ℕ, suc, ◌+◌, ◌-◌, ◌≤◌, ◌<◌, inl, inr, List, [], ◌∷◌, ◌++◌, length, drop, map, refl}
-use Rattle.std.proofs.Common.{sym, ap, ◌∙◌, subst}
-use Rattle.std.proofs.Common.{false, cond}
-use Rattle.std.proofs.Common.{eqb, arith}
-use Rattle.std.specs.Prelude.{Option, None, unwrap_or}
-use Rattle.std.specs.List.{filter, sum_by}
-use Rattle.dover_model.specs.JobFacts.{JobFacts, IsJob}
-use Rattle.dover_model.specs.Instance.{total_value}
+use Rattle.std.proofs.Common.{sym, ap, ◌∙◌, subst, false, cond, eqb, arith, Option, None, unwrap_or, filter, sum_by}
+use Rattle.dover_model.specs.Common.{JobFacts, IsJob, total_value, entry_of, to_come, left, given, stretches, IsMember}
+use Rattle.dover_model.specs.Common.{Each}
 use Rattle.dover_model.specs.declared.events.Task.{Task}
 use Rattle.dover_model.specs.declared.events.Entry.{Entry}
 use Rattle.dover_model.specs.declared.pieces.Piece.{Piece}
-use Rattle.dover_model.specs.Entries.{entry_of}
-use Rattle.dover_model.specs.State.{to_come, left}
-use Rattle.dover_model.specs.Pieces.{given, stretches}
-use Rattle.dover_model.specs.Sound.{IsMember, Each}
-use Rattle.dover_model.proofs.Members.{map_member, sum_le, sum_map, sum_zero, cond_le}
+use Rattle.dover_model.proofs.lists.Members.{map_member, sum_le, sum_map, sum_zero, cond_le}
 use Rattle.policy_lab.specs.Picks.{Picks, IsPolicy, AreReady, number_of}
 use Rattle.policy_lab.specs.PolicyRun.{is_ready, picked}
 use Rattle.policy_lab.specs.Bench.{HasReady, HasRun, tasks_at, schedule_before, served_value, spent_value, given_entry}
@@ -24,7 +16,7 @@ use Rattle.policy_lab.proofs.Entries.{each_entry, are_ready, number_ready, value
 use Rattle.policy_lab.proofs.Holding.{all_ready, ready_after}
 use Rattle.policy_lab.proofs.Runs.{numbered_at, jobs_at, tasks_next, schedule_next, low_numbers, fits_at}
 use Rattle.clairvoyant.proofs.feasible.Stretches.{stretches_idle}
-use Rattle.dover_model.proofs.JobLimits.{job_limits}
+use Rattle.dover_model.proofs.valid.JobLimits.{job_limits}
 
 module _ (picks : Picks) (policy : IsPolicy picks) (jobs : List JobFacts) (good : Each IsJob jobs)
     (count : length jobs ≤ 10_000) where

@@ -1,12 +1,8 @@
 -- The first entry in an order is one of them, which is the law of both policies.
-use Rattle.std.specs.Prelude.{refl, List, [], ◌∷◌, Bool, true, false, cond}
-use Rattle.std.specs.Option.{option_map}
-use Rattle.std.proofs.Common.{inl, inr}
-use Rattle.std.specs.List.{fold}
+use Rattle.std.proofs.Common.{refl, List, [], ◌∷◌, Bool, true, false, cond, option_map, inl, inr, fold}
 use Rattle.dover_model.specs.declared.events.Entry.{Entry}
-use Rattle.dover_model.specs.Sound.{IsMember}
-use Rattle.dover_model.specs.Orders.{first, earlier}
-use Rattle.dover_model.proofs.Members.{map_member}
+use Rattle.dover_model.specs.Common.{IsMember, first, earlier}
+use Rattle.dover_model.proofs.lists.Members.{map_member}
 use Rattle.policy_lab.specs.Picks.{IsPolicy, number_of}
 use Rattle.policy_lab.specs.Standard.{is_due_first, is_denser, earliest_deadline, greatest_density}
 

@@ -1,14 +1,8 @@
 -- The schedule that a policy makes: in each tick it picks from the jobs that are ready.
 use Rattle.std.specs.Prelude.{◌<◌, ◌⊎◌, ℕ, zero, suc, ◌+◌, List, [], ◌∷◌, length, map, Bool, ◌&&◌, nat_lt, nat_le}
-use Rattle.std.specs.Prelude.{unwrap_or}
-use Rattle.std.specs.List.{filter}
-use Rattle.dover_model.specs.Limits.{idle}
+use Rattle.std.specs.Prelude.{unwrap_or, filter}
+use Rattle.dover_model.specs.Common.{idle, JobFacts, entry_of, to_come, left, last_deadline, given}
 use Rattle.dover_model.specs.declared.events.Task.{Task}
-use Rattle.dover_model.specs.JobFacts.{JobFacts}
-use Rattle.dover_model.specs.Entries.{entry_of}
-use Rattle.dover_model.specs.State.{to_come, left}
-use Rattle.dover_model.specs.Run.{last_deadline}
-use Rattle.dover_model.specs.Pieces.{given}
 use Rattle.policy_lab.specs.Picks.{Picks}
 
 -- released by tick t, not served fully, and still in time

@@ -1,6 +1,5 @@
 -- Two policies: earliest deadline first, and greatest density first.
-use Rattle.std.specs.Prelude.{◌*◌, Bool, ◌||◌, ◌&&◌, ◌==◌, nat_lt}
-use Rattle.std.specs.Option.{option_map}
+use Rattle.std.specs.Prelude.{◌*◌, Bool, ◌||◌, ◌&&◌, ◌==◌, nat_lt, option_map}
 use Rattle.dover_model.specs.declared.events.Entry.{Entry}
 use Rattle.dover_model.specs.Orders.{first}
 use Rattle.policy_lab.specs.Picks.{Picks, number_of}

@@ -1,12 +1,8 @@
 //! A policy's run under way.
 ghost use Rattle.std.specs.Prelude.{◌≡◌, ◌≤◌, ◌<◌, ◌+◌, List, [], length, drop, IfOk, OnOk};
 ghost use Rattle.dover_model.specs.declared.events.Version.TheVariants.{Two};
-ghost use Rattle.dover_model.specs.Limits.{most_total};
-ghost use Rattle.dover_model.specs.JobFacts.{IsJob};
-ghost use Rattle.dover_model.specs.Instance.{IsInOrder, total_value};
+ghost use Rattle.dover_model.specs.Common.{most_total, IsJob, IsInOrder, total_value, stretches, Each};
 ghost use Rattle.dover_model.specs.declared.events.Task.{Task};
-ghost use Rattle.dover_model.specs.Pieces.{stretches};
-ghost use Rattle.dover_model.specs.Sound.{Each};
 ghost use Rattle.policy_lab.specs.Bench.{HasReady, HasRun, tasks_at, schedule_before, served_value};
 
 use crate::policy::Policy;

@@ -1,10 +1,7 @@
 //! A policy's run over a list of jobs.
 ghost use Rattle.std.specs.Prelude.{◌≡◌, ◌≤◌, ◌↔◌, IfOk, IsTrue};
 ghost use Rattle.dover_model.specs.declared.events.Version.TheVariants.{Two};
-ghost use Rattle.dover_model.specs.Limits.{most_total};
-ghost use Rattle.dover_model.specs.Instance.{Rules, IsInOrder, total_value};
-ghost use Rattle.dover_model.specs.Schedules.{worth};
-ghost use Rattle.dover_model.specs.Pieces.{stretches};
+ghost use Rattle.dover_model.specs.Common.{most_total, Rules, IsInOrder, total_value, worth, stretches};
 ghost use Rattle.policy_lab.specs.PolicyRun.{policy_run, AreTooLarge};
 
 use crate::bench::run_ticks;

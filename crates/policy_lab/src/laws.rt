@@ -1,9 +1,6 @@
 //! That policies are on-line, as the contract of a function that does nothing.
 ghost use Rattle.std.specs.Prelude.{◌≡◌, ◌≤◌, ℕ, List, [], None, slice_index_or};
-ghost use Rattle.dover_model.specs.Limits.{idle};
-ghost use Rattle.dover_model.specs.JobFacts.{JobFacts};
-ghost use Rattle.dover_model.specs.Instance.{IsInOrder};
-ghost use Rattle.dover_model.specs.Online.{known_at};
+ghost use Rattle.dover_model.specs.Common.{idle, JobFacts, IsInOrder, known_at};
 ghost use Rattle.policy_lab.specs.Picks.{Picks};
 ghost use Rattle.policy_lab.specs.PolicyRun.{policy_run};
 

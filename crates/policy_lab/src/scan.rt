@@ -1,11 +1,7 @@
 //! Passes over the jobs, and over the entries of those that are ready.
-ghost use Rattle.std.specs.Prelude.{◌≡◌, ◌≤◌, ◌<◌, ◌+◌, ◌^◌, [], ◌∷◌, map};
-ghost use Rattle.std.specs.List.{filter};
+ghost use Rattle.std.specs.Prelude.{◌≡◌, ◌≤◌, ◌<◌, ◌+◌, ◌^◌, [], ◌∷◌, map, filter};
 ghost use Rattle.dover_model.specs.declared.events.Version.TheVariants.{Two};
-ghost use Rattle.dover_model.specs.Limits.{most_total};
-ghost use Rattle.dover_model.specs.JobFacts.{IsJob};
-ghost use Rattle.dover_model.specs.Run.{last_deadline};
-ghost use Rattle.dover_model.specs.Sound.{Each};
+ghost use Rattle.dover_model.specs.Common.{most_total, IsJob, last_deadline, Each};
 ghost use Rattle.policy_lab.specs.Bench.{entry_to_come, given_entry, spent_value, is_in_time};
 
 use dover_model::{Entry, Job};

@@ -1,11 +1,8 @@
 -- What is put at the end of a feed is an answer.
 use Rattle.std.proofs.Common.{◌≡◌, ℕ, List, ◌∷◌, [], sym, ap, ◌∙◌, subst, Bool, true, false, inl, inr, Option}
 use Rattle.std.proofs.Common.{Result, Ok, Err}
-use Rattle.dover_model.specs.Due.{fault_text}
+use Rattle.dover_model.specs.Common.{fault_text, account, Instance, in_lines}
 use Rattle.dover_model.specs.Feed as feeds
-use Rattle.dover_model.specs.Feed.{account}
-use Rattle.dover_model.specs.Instance.{Instance}
-use Rattle.dover_model.specs.Lines.{in_lines}
 use Rattle.dover_port.specs.declared.status.Status.{Status}
 use Rattle.dover_port.specs.Moves.{Move}
 use Rattle.dialogue.specs.Talk.{IsFinal, IsOver}

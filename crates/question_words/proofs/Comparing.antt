@@ -1,24 +1,19 @@
 -- What the word `compare` says is what was computed.
 use Rattle.std.proofs.Common.{◌≡◌, ◌≤◌, ◌<◌, ◌^◌, ℕ, List, [], sym, ap, ◌∙◌, subst, codes, arith, ◌↔◌, IsTrue}
 use Rattle.std.proofs.Common.{Bool, false}
-use Rattle.dover_model.proofs.Tests.{never}
-use Rattle.dover_model.specs.Bound.{bound}
-use Rattle.dover_model.specs.Instance.{Instance, IsListable, IsValid}
-use Rattle.dover_model.specs.JobFacts.{JobFacts}
+use Rattle.dover_model.proofs.lists.Tests.{never}
+use Rattle.dover_model.specs.Common.{bound, Instance, IsListable, IsValid, JobFacts, most_total, observed}
+use Rattle.dover_model.specs.Common.{completed_value, worth}
 use Rattle.dover_model.specs.declared.events.Version.TheVariants.{Two}
-use Rattle.dover_model.specs.Limits.{most_total}
-use Rattle.dover_model.specs.Observed.{observed}
-use Rattle.dover_model.specs.Run.{completed_value}
-use Rattle.dover_model.specs.Schedules.{worth}
-use Rattle.dover_model.proofs.BoundLaws as laws
-use Rattle.dover_model.proofs.GreatestLaws.{bound-is}
-use Rattle.dover_model.proofs.Limiting.{total_most}
+use Rattle.dover_model.proofs.bound.BoundLaws as laws
+use Rattle.dover_model.proofs.bound.GreatestLaws.{bound-is}
+use Rattle.dover_model.proofs.valid.Limiting.{total_most}
 use Rattle.dover_port.specs.declared.status.Status.TheVariants.{Done}
 use Rattle.policy_lab.specs.PolicyRun.{policy_run, AreTooLarge}
 use Rattle.policy_lab.specs.Standard.{earliest_deadline, greatest_density}
 use Rattle.question_words.specs.Compare.{SaysCompare, AreWithin, worth_of}
 use Rattle.question_words.proofs.Lines.{four, four_same}
-use Rattle.dover_model.proofs.ValidParts.{valid_parts}
+use Rattle.dover_model.proofs.valid.ValidParts.{valid_parts}
 
 -- jobs that aren't too large
 pub not_large : (jobs others : List JobFacts) → jobs ≡ others → (large : Bool) → (IsTrue large ↔ AreTooLarge jobs)

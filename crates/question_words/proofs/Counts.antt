@@ -1,7 +1,6 @@
 -- Comparisons that are few.
 use Rattle.std.proofs.Common.{◌≡◌, ℕ, List, length, sym, ap, ◌∙◌}
-use Rattle.dover_model.specs.Feed.{account}
-use Rattle.dover_model.specs.Instance.{Instance}
+use Rattle.dover_model.specs.Common.{account, Instance}
 use Rattle.event_feed.specs.Answers.{admitted_in}
 use Rattle.event_feed.proofs.Admitting.{admitted_by}
 use Rattle.event_feed.specs.Record.{IsEnded}

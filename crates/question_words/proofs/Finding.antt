@@ -1,15 +1,10 @@
 -- What the word `best` says is what was found.
 use Rattle.std.proofs.Common.{◌≡◌, ◌≤◌, ◌<◌, ℕ, List, length, sym, ap, ◌∙◌, subst, codes}
 use Rattle.clairvoyant.specs.best.BestSet.{IsBestSet, value_of, pieces_of}
-use Rattle.dover_model.specs.Bound.{bound}
-use Rattle.dover_model.specs.Instance.{Rules, Instance, IsValid}
-use Rattle.dover_model.specs.JobFacts.{JobFacts}
-use Rattle.dover_model.specs.Observed.{observed}
-use Rattle.dover_model.specs.Pieces.{spread}
-use Rattle.dover_model.specs.Run.{completed_value, ran}
-use Rattle.dover_model.specs.Schedules.{worth}
+use Rattle.dover_model.specs.Common.{bound, Rules, Instance, IsValid, JobFacts, observed, spread, completed_value, ran}
+use Rattle.dover_model.specs.Common.{worth}
 use Rattle.dover_model.specs.declared.pieces.Piece.{Piece}
-use Rattle.dover_model.proofs.Honest.{observed_honest}
+use Rattle.dover_model.proofs.runs.Honest.{observed_honest}
 use Rattle.dover_port.specs.declared.status.Status.TheVariants.{Done}
 use Rattle.question_words.specs.Best.{SaysBest, IsOptimum}
 use Rattle.question_words.specs.Texts.{piece_lines}

@@ -1,14 +1,12 @@
 -- Jobs within the limits of version Two.
-use Rattle.std.proofs.Common.{◌≡◌, ◌≤◌, ◌*◌, List, [], ◌∷◌, length, refl, arith, Bool, true, false, inl}
-use Rattle.std.specs.Prelude.{nat_lt}
+use Rattle.std.proofs.Common.{◌≡◌, ◌≤◌, ◌*◌, List, [], ◌∷◌, length, refl, arith, Bool, true, false, inl, nat_lt}
+use Rattle.std.proofs.Common.{ltb-true, ltb-false}
 use Rattle.std.specs.List.{AllByRecursion}
-use Rattle.std.proofs.lemmas.Bool.{ltb-true, ltb-false}
 use Rattle.std.proofs.lemmas.List.Sums.{sum_by-cons}
-use Rattle.dover_model.specs.Instance.{Instance, IsListable, IsValid, total_value}
-use Rattle.dover_model.specs.JobFacts.{JobFacts, IsJob}
+use Rattle.dover_model.specs.Common.{Instance, IsListable, IsValid, total_value, JobFacts, IsJob}
 use Rattle.policy_lab.specs.PolicyRun.{AreTooLarge}
-use Rattle.dover_model.proofs.ValidParts.{valid_parts}
-use Rattle.dover_model.proofs.JobLimits.{job_limits}
+use Rattle.dover_model.proofs.valid.ValidParts.{valid_parts}
+use Rattle.dover_model.proofs.valid.JobLimits.{job_limits}
 
 -- no job is worth more than 10^9
 total_low : (jobs : List JobFacts) → AllByRecursion IsJob jobs → total_value jobs ≤ 1_000_000_000 * length jobs

@@ -1,21 +1,12 @@
 -- What the word `loss` says is what was found.
 use Rattle.std.proofs.Common.{◌≡◌, ◌≤◌, ◌<◌, ◌+◌, ℕ, List, length, map, ap, ◌∙◌, sym, subst, codes, Bool, true, false}
-use Rattle.std.proofs.Common.{refl}
-use Rattle.std.proofs.Common.{cond, arith}
-use Rattle.std.specs.Prelude.{◌&&◌}
-use Rattle.std.specs.List.{sum_by}
-use Rattle.dover_model.specs.Bound.{bound}
-use Rattle.dover_model.specs.Instance.{Instance, IsListable, IsValid, total_value}
-use Rattle.dover_model.specs.JobFacts.{JobFacts}
-use Rattle.dover_model.specs.Observed.{observed}
-use Rattle.dover_model.specs.Run.{completed_value, ran}
-use Rattle.dover_model.proofs.Honest.{observed_honest, observed_all}
-use Rattle.dover_model.proofs.Members.{map_same, sum_le, sum_filter}
-use Rattle.dover_model.proofs.Parting.{worth_to}
-use Rattle.dover_model.proofs.Runs.{all_value}
-use Rattle.dover_model.specs.Books.{Job}
-use Rattle.dover_model.specs.Schedules.{Meets, is_served, numbered}
-use Rattle.dover_model.specs.Windows.{is_inside}
+use Rattle.std.proofs.Common.{refl, cond, arith, ◌&&◌, sum_by}
+use Rattle.dover_model.specs.Common.{bound, Instance, IsListable, IsValid, total_value, JobFacts, observed}
+use Rattle.dover_model.specs.Common.{completed_value, ran, Job, Meets, is_served, numbered, is_inside}
+use Rattle.dover_model.proofs.runs.Honest.{observed_honest, observed_all}
+use Rattle.dover_model.proofs.lists.Members.{map_same, sum_le, sum_filter}
+use Rattle.dover_model.proofs.rest.Parting.{worth_to}
+use Rattle.dover_model.proofs.runs.Runs.{all_value}
 use Rattle.dover_port.specs.declared.status.Status.TheVariants.{Done}
 use Rattle.clairvoyant.specs.overload.Stretches.{IsCosted, IsCapped, value_inside, value_outside}
 use Rattle.clairvoyant.specs.declared.overload.stretch.Costed.{Costed}

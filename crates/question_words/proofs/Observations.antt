@@ -1,46 +1,37 @@
 -- The jobs of a run as they were observed: which are done, and what they had.
-use Rattle.std.proofs.Common.{◌≡◌, ◌<◌, ◌⊎◌, ℕ, zero, suc, ◌+◌, ◌≤◌, inl, inr, List, [], ◌∷◌, length, map, refl}
-use Rattle.std.proofs.Common.{sym, ap, ◌∙◌}
-use Rattle.std.proofs.Common.{subst, Bool, true, false, cond, eqb, get_or, arith}
-use Rattle.std.specs.Prelude.{◌||◌, ◌&&◌, ◌==◌, nat_lt, nat_le}
-use Rattle.std.specs.Bool.{MatchBool, then_some}
-use Rattle.std.specs.List.{AllByRecursion, list_any, list_all, filter, enumerate_from, cons_option, fold}
+use Rattle.std.proofs.Common.{◌≡◌, ◌<◌, ◌⊎◌, ℕ, zero, suc, ◌+◌, ◌≤◌, inl, inr, List, [], ◌∷◌, length, map, refl, sym}
+use Rattle.std.proofs.Common.{ap, ◌∙◌, subst, Bool, true, false, cond, eqb, get_or, arith, ◌||◌, ◌&&◌, ◌==◌, nat_lt}
+use Rattle.std.proofs.Common.{nat_le, MatchBool, filter, fold, le-leb, eqb-true, eq-eqb, ne_eqb, ltb-true}
+use Rattle.std.specs.Bool.{then_some}
+use Rattle.std.specs.List.{AllByRecursion, list_any, list_all, enumerate_from, cons_option}
 use Rattle.std.proofs.Math.Bool.{or-false, or-true, or_assoc}
-use Rattle.std.proofs.lemmas.Bool.{le-leb, eqb-true, eq-eqb, ne_eqb, ltb-true}
 use Rattle.std.proofs.lemmas.List.Sums.{sum_by-cons}
 use Rattle.dover_model.specs.declared.events.Event.TheVariants.{Complete, End, Preempt, Take}
 use Rattle.dover_model.specs.declared.events.Role.{Role}
 use Rattle.dover_model.specs.declared.events.Role.TheVariants.{Coming, Fresh, Waiting, Held, Running, Done, Gone}
 use Rattle.dover_model.specs.declared.events.Task.{Task}
-use Rattle.dover_model.specs.Finishes.{Finish, need}
-use Rattle.dover_model.specs.Fraction.{Fraction}
-use Rattle.dover_model.specs.Instance.{Instance, IsValid, total_value, IsInOrder}
-use Rattle.dover_model.specs.JobFacts.{JobFacts, IsJob, is_job}
-use Rattle.dover_model.specs.Observed.{observing, observed, end_state, hads}
-use Rattle.dover_model.specs.Run.{Step, is_end, run, ran, event_of, printed_of}
-use Rattle.dover_model.specs.Schedules.{ticks_given, is_served, numbered}
-use Rattle.dover_model.specs.Sound.{IsMember, Each, IsNumberedFrom, Keeps, jobs_of}
-use Rattle.dover_model.specs.State.{State, opening, is_over, is_done, value_sum}
-use Rattle.dover_model.specs.Step.{Move, Prints, Waits, Ticks, step, after, ending, ◌or_else◌, with_role, displaced}
-use Rattle.dover_model.specs.Step.{ticked}
-use Rattle.dover_model.specs.WholeRun.{IsWholeRun}
-use Rattle.dover_model.proofs.Deeds.{Deed, Completed, Resumed, Started, Began, Preempted, Stayed, Arrived, Taken}
-use Rattle.dover_model.proofs.Deeds.{Abandoned, Rested}
-use Rattle.dover_model.proofs.Ending.{end_over, run_is_whole}
-use Rattle.dover_model.proofs.Honest.{Outcome, whole_outcome}
-use Rattle.dover_model.proofs.Kept.{step_deed, step_kept, opening_keeps, come_coming, end_same}
-use Rattle.dover_model.proofs.Members.{on_map, all_member, map_member}
-use Rattle.dover_model.proofs.OneChange.{state_with, on_changed}
-use Rattle.dover_model.proofs.Resting.{numbers_below}
-use Rattle.dover_model.proofs.Roles.{passes, one_number, is_over_role, numbers_above}
-use Rattle.dover_model.proofs.Tests.{never}
-use Rattle.dover_model.proofs.Ticking.{Quiet}
-use Rattle.dover_model.specs.Books.{Job}
+use Rattle.dover_model.specs.Common.{Finish, need, Fraction, Instance, IsValid, total_value, IsInOrder, JobFacts, IsJob}
+use Rattle.dover_model.specs.Common.{is_job, observing, observed, end_state, served, Step, is_end, run, ran, event_of}
+use Rattle.dover_model.specs.Common.{printed_of, ticks_given, is_served, numbered, IsMember, Each, IsNumberedFrom}
+use Rattle.dover_model.specs.Common.{Keeps, jobs_of, State, opening, is_over, is_done, value_sum, Move, Prints, Waits}
+use Rattle.dover_model.specs.Common.{Ticks, step, after, ending, ◌or_else◌, with_role, displaced, ticked, IsWholeRun}
+use Rattle.dover_model.specs.Common.{Job}
+use Rattle.dover_model.proofs.steps.Deeds.{Deed, Completed, Resumed, Started, Began, Preempted, Stayed, Arrived, Taken}
+use Rattle.dover_model.proofs.steps.Deeds.{Abandoned, Rested}
+use Rattle.dover_model.proofs.runs.Ending.{end_over, run_is_whole}
+use Rattle.dover_model.proofs.runs.Honest.{Outcome, whole_outcome}
+use Rattle.dover_model.proofs.steps.Kept.{step_deed, step_kept, opening_keeps, come_coming, end_same}
+use Rattle.dover_model.proofs.lists.Members.{on_map, all_member, map_member}
+use Rattle.dover_model.proofs.steps.OneChange.{state_with, on_changed}
+use Rattle.dover_model.proofs.rest.Resting.{numbers_below}
+use Rattle.dover_model.proofs.steps.Roles.{passes, one_number, is_over_role, numbers_above}
+use Rattle.dover_model.proofs.lists.Tests.{never}
+use Rattle.dover_model.proofs.steps.Ticking.{Quiet}
 use Rattle.question_words.specs.Loss.{completes, is_completed}
 use Rattle.question_words.specs.Replaying.{with_work, job_seen, jobs_seen}
-use Rattle.dover_model.proofs.Booked.{displaced_done}
-use Rattle.dover_model.proofs.ValidParts.{ReleasesInOrder, order_from, valid_parts}
-use Rattle.dover_model.proofs.JobLimits.{job_limits, job_from}
+use Rattle.dover_model.proofs.bound.Booked.{displaced_done}
+use Rattle.dover_model.proofs.valid.ValidParts.{ReleasesInOrder, order_from, valid_parts}
+use Rattle.dover_model.proofs.valid.JobLimits.{job_limits, job_from}
 
 -- ---- which jobs are done
 
@@ -356,7 +347,7 @@ module _ (J : Instance) (valid : IsValid J) where
       ))))
 
   module _ (done : List Bool) (flags : (n : ℕ) → n < length J.jobs → get_or done n false ≡ is_completed J n)
-      (hs : List ℕ) (are : hs ≡ hads J) (jobs : List JobFacts) (same : jobs ≡ J.jobs) where
+      (hs : List ℕ) (are : hs ≡ served J) (jobs : List JobFacts) (same : jobs ≡ J.jobs) where
     -- what each had
     had_here : (t : Task) → IsMember t last.tasks → get_or hs t.number 0 ≡ t.had
     had_here t member = ap (λ ns. get_or ns t.number 0)

@@ -2,7 +2,7 @@
 use Rattle.std.proofs.Common.{◌≡◌, ◌∙◌, ◌<◌, ◌+◌, ◌++◌, ◌∷◌, [], ℕ, List, length, map, take, drop, get_or, sym, ap}
 use Rattle.std.proofs.lemmas.List.{append-nil, map-append, take_more, drop_more, take-append-drop}
 use Rattle.dover_model.specs.Lines.{in_lines}
-use Rattle.dover_model.proofs.Beginnings.{in_lines-append}
+use Rattle.dover_model.proofs.lists.Beginnings.{in_lines-append}
 
 module _ {X : Type 0} (line : X → List ℕ) where
   -- the text of rows

@@ -1,13 +1,7 @@
 -- What the word `best` says of the jobs of a feed.
 use Rattle.std.specs.Prelude.{◌≡◌, ◌<◌, ◌≤◌, ℕ, List, [], ◌∷◌, length, codes}
 use Rattle.clairvoyant.specs.best.BestSet.{IsBestSet, value_of, pieces_of}
-use Rattle.dover_model.specs.Bound.{bound}
-use Rattle.dover_model.specs.Instance.{Instance}
-use Rattle.dover_model.specs.Lines.{with_numbers, in_lines}
-use Rattle.dover_model.specs.Observed.{observed}
-use Rattle.dover_model.specs.Pieces.{spread}
-use Rattle.dover_model.specs.Run.{completed_value}
-use Rattle.dover_model.specs.Schedules.{worth}
+use Rattle.dover_model.specs.Common.{bound, Instance, with_numbers, in_lines, observed, spread, completed_value, worth}
 use Rattle.dover_port.specs.declared.status.Status.{Status}
 use Rattle.dover_port.specs.declared.status.Status.TheVariants.{Done, Refused}
 use Rattle.dialogue.specs.Sizes.{size_text}

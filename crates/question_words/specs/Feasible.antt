@@ -1,8 +1,6 @@
 -- What the word `feasible` says of the jobs of a feed.
 use Rattle.std.specs.Prelude.{◌≡◌, ℕ, List, [], ◌∷◌, length, codes}
-use Rattle.dover_model.specs.Instance.{Instance, IsListable}
-use Rattle.dover_model.specs.Lines.{with_numbers, in_lines}
-use Rattle.dover_model.specs.Schedules.{Meets}
+use Rattle.dover_model.specs.Common.{Instance, IsListable, with_numbers, in_lines, Meets}
 use Rattle.dover_model.specs.declared.pieces.Piece.{Piece}
 use Rattle.dover_port.specs.declared.status.Status.{Status}
 use Rattle.dover_port.specs.declared.status.Status.TheVariants.{Done, No, Refused}

@@ -1,7 +1,6 @@
 -- What is kept of a feed on whose jobs a question is asked.
 use Rattle.std.specs.Prelude.{◌≡◌, ℕ, List, []}
-use Rattle.dover_model.specs.Spending.{CostsAtMost}
-use Rattle.dover_model.specs.Feed.{account}
+use Rattle.dover_model.specs.Common.{CostsAtMost, account}
 use Rattle.event_feed.specs.Answers.{admitted_in}
 use Rattle.event_feed.specs.Keeping as feed
 use Rattle.event_feed.specs.declared.reader.FeedReader.{FeedReader}

@@ -1,13 +1,8 @@
 -- What the word `loss` says of the jobs of a feed.
 use Rattle.std.specs.Prelude.{◌≡◌, ◌≤◌, ℕ, List, [], ◌∷◌, length, map, codes, Bool, false, ◌==◌}
 use Rattle.std.specs.List.{list_any}
-use Rattle.dover_model.specs.Bound.{bound}
-use Rattle.dover_model.specs.Instance.{Instance, IsListable, total_value}
-use Rattle.dover_model.specs.JobFacts.{JobFacts}
-use Rattle.dover_model.specs.Lines.{with_numbers, in_lines}
-use Rattle.dover_model.specs.Observed.{observed}
-use Rattle.dover_model.specs.Run.{completed_value, printed}
-use Rattle.dover_model.specs.Sound.{Each}
+use Rattle.dover_model.specs.Common.{bound, Instance, IsListable, total_value, JobFacts, with_numbers, in_lines}
+use Rattle.dover_model.specs.Common.{observed, completed_value, printed, Each}
 use Rattle.dover_model.specs.declared.events.Event.{Event}
 use Rattle.dover_model.specs.declared.events.Event.TheVariants.{Complete}
 use Rattle.dover_port.specs.declared.status.Status.{Status}

@@ -2,8 +2,7 @@
 use Rattle.std.specs.Prelude.{◌≡◌, ℕ, List, map, Bool, false, if◌then◌else◌, get_or}
 use Rattle.std.specs.List.{enumerate_from}
 use Rattle.dover_model.specs.declared.events.Event.{Event}
-use Rattle.dover_model.specs.Instance.{Instance, jobs_under}
-use Rattle.dover_model.specs.JobFacts.{JobFacts, is_job}
+use Rattle.dover_model.specs.Common.{Instance, jobs_under, JobFacts, is_job}
 use Rattle.event_feed.specs.declared.listed.Listed.{Listed}
 use Rattle.question_words.specs.declared.replaying.Recorded.{Recorded}
 
@@ -23,8 +22,8 @@ with_work work j =
 
 -- the job of a number, with what it had if it is done
 abbrev pub job_seen : List Bool → List ℕ → ℕ × JobFacts → JobFacts
-job_seen done hads (n, j) = if get_or done n false then with_work (get_or hads n 0) j else j
+job_seen done served (n, j) = if get_or done n false then with_work (get_or served n 0) j else j
 
 -- the jobs so
 abbrev pub jobs_seen : List Bool → List ℕ → List JobFacts → List JobFacts
-jobs_seen done hads jobs = map (job_seen done hads) (enumerate_from 0 jobs)
+jobs_seen done served jobs = map (job_seen done served) (enumerate_from 0 jobs)

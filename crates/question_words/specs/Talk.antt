@@ -1,10 +1,8 @@
 -- What a word says that answers on the jobs of a feed, by the bytes got so far.
 use Rattle.std.specs.Prelude.{◌≡◌, ◌⊎◌, ℕ, suc, List, [], ◌∷◌, length, Bool, true, false, Some}
-use Rattle.dover_model.specs.Due.{fault_text}
-use Rattle.dover_model.specs.Feed.{is_open, is_ended, account, Cause, Faulty, Short}
-use Rattle.dover_model.specs.Instance.{Instance}
-use Rattle.dover_model.specs.Lines.{in_lines, whole_lines}
-use Rattle.dover_model.specs.Session.{Session, IsValidSession, instance_of}
+use Rattle.dover_model.specs.Common.{fault_text, is_open, is_ended, account, Cause, Faulty, Instance, in_lines}
+use Rattle.dover_model.specs.Common.{whole_lines, Session, IsValidSession, instance_of}
+use Rattle.dover_model.specs.Feed.{Short}
 use Rattle.dover_port.specs.declared.status.Status.{Status}
 use Rattle.dover_port.specs.declared.status.Status.TheVariants.{Refused}
 use Rattle.dialogue.specs.Sizes.{size_text}

@@ -1,9 +1,7 @@
 //! What the reading loop calls: a reader of the feed, which is asked a question on its jobs at the end.
 ghost use Rattle.std.specs.Prelude.{◌≡◌, ◌∷◌, [], IfOk, length};
 ghost use Rattle.dialogue.specs.Talk.{IsFinal};
-ghost use Rattle.dover_model.specs.Spending.{CostsAtMost};
-ghost use Rattle.dover_model.specs.Instance.{IsValid};
-ghost use Rattle.dover_model.specs.Lines.{in_lines};
+ghost use Rattle.dover_model.specs.Common.{CostsAtMost, IsValid, in_lines};
 ghost use Rattle.dover_port.specs.declared.status.Status.TheVariants.{Refused};
 ghost use Rattle.event_feed.specs.Listing.{listed_instance, StandAmong};
 ghost use Rattle.question_words.specs.Questions.{says};
@@ -13,6 +11,7 @@ ghost use Rattle.question_words.specs.Texts.{text_of, refusal_line};
 
 use crate::answer::Answer;
 use crate::{Question, best, compare, feasible, loss};
+use comparison_count::Comparisons;
 use dialogue::lines::fault_line;
 use dialogue::{Stop, Talker};
 use dover_model::Memory;
@@ -22,7 +21,6 @@ use line_text::BackLine;
 use std::alloc::Global;
 use std::marker::PhantomData;
 use std::sync::ledger::Ledger;
-use step_count::Steps;
 
 /// A question on the jobs of the feed that is read. Nothing is due before the answer.
 #[derive(Drop)]
@@ -38,20 +36,20 @@ fn answer<L: Ledger>(
     alloc: Global,
     question: Question,
     listed: Listed,
-    steps: &mut Steps<L>,
+    comparisons: &mut Comparisons<L>,
 ) -> Result<Answer, Memory>
     requires valid { IsValid (listed_instance listed) }
-    requires among { StandAmong listed.jobs.items listed.dones.items }
+    requires among { StandAmong listed.jobs.items listed.done_lines.items }
     ensures says { IfOk result
         (λ answer. says question (listed_instance listed) answer.status (text_of answer)) }
     ensures ends { IfOk result (λ answer. IsFinal answer.status) }
-    ensures count { CostsAtMost (length listed.jobs.items) steps.old steps.new }
+    ensures count { CostsAtMost (length listed.jobs.items) comparisons.old comparisons.new }
 {
     match question {
         Question::Feasible => feasible::answer(alloc, &listed),
-        Question::Best => best::answer(alloc, listed, steps),
-        Question::Compare => compare::answer(alloc, listed, steps),
-        Question::Loss => loss::answer(alloc, listed, steps),
+        Question::Best => best::answer(alloc, listed, comparisons),
+        Question::Compare => compare::answer(alloc, listed, comparisons),
+        Question::Loss => loss::answer(alloc, listed, comparisons),
     }
 }
 
@@ -67,7 +65,7 @@ fn refused(alloc: Global, why: NotListed) -> Answer
 }
 
 impl<L: Ledger> Talker for Asking<L> {
-    type Meter = Steps<L>;
+    type Meter = Comparisons<L>;
 
     ghost about = { Asked };
 
@@ -81,24 +79,24 @@ impl<L: Ledger> Talker for Asking<L> {
 
     fn laws() {}
 
-    fn take(&mut self, _meter: &mut Steps<L>, piece: &[u8]) -> Result<usize, Memory> {
+    fn take(&mut self, _meter: &mut Comparisons<L>, piece: &[u8]) -> Result<usize, Memory> {
         match self.reader.take(piece) {
             Ok(()) => Ok(piece.len()),
             Err(error) => Err(error),
         }
     }
 
-    fn next_part(&mut self, _meter: &mut Steps<L>, _part: &mut BackLine) -> bool {
+    fn next_part(&mut self, _meter: &mut Comparisons<L>, _part: &mut BackLine) -> bool {
         false
     }
 
-    fn goes_on(&self, _meter: &Steps<L>) -> bool {
+    fn goes_on(&self, _meter: &Comparisons<L>) -> bool {
         self.reader.goes_on()
     }
 
     fn answer<P: Port>(
         self,
-        meter: &mut Steps<L>,
+        meter: &mut Comparisons<L>,
         port: &mut P,
         out: &mut Output,
         _ended: bool,

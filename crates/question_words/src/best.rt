@@ -1,9 +1,8 @@
 //! The word `best`.
 ghost use Rattle.std.specs.Prelude.{IfOk, length};
-ghost use Rattle.dover_model.specs.Instance.{IsValid};
+ghost use Rattle.dover_model.specs.Common.{IsValid, CostsAtMost};
 ghost use Rattle.dialogue.specs.Talk.{IsFinal};
 ghost use Rattle.event_feed.specs.Listing.{listed_instance, StandAmong};
-ghost use Rattle.dover_model.specs.Spending.{CostsAtMost};
 ghost use Rattle.question_words.specs.Best.{SaysBest};
 ghost use Rattle.question_words.specs.Texts.{text_of};
 
@@ -11,13 +10,13 @@ use crate::answer::{Answer, Rows};
 use crate::bounding::put_bound;
 use crate::observing::observe;
 use clairvoyant::best::best;
+use comparison_count::Comparisons;
 use dover_model::Memory;
 use dover_port::Status;
 use event_feed::Listed;
 use line_text::BackLine;
 use std::alloc::Global;
 use std::sync::ledger::Ledger;
-use step_count::Steps;
 
 /// The most jobs of which the best set is sought.
 const MOST_JOBS: usize = 20;
@@ -29,19 +28,19 @@ const MOST_JOBS: usize = 20;
 pub(crate) fn answer<L: Ledger>(
     alloc: Global,
     listed: Listed,
-    steps: &mut Steps<L>,
+    comparisons: &mut Comparisons<L>,
 ) -> Result<Answer, Memory>
     requires valid { IsValid (listed_instance listed) }
-    requires among { StandAmong listed.jobs.items listed.dones.items }
+    requires among { StandAmong listed.jobs.items listed.done_lines.items }
     ensures says { IfOk result (λ answer. SaysBest (listed_instance listed) answer.status (text_of answer)) }
     ensures ends { IfOk result (λ answer. IsFinal answer.status) }
-    ensures count { CostsAtMost (length listed.jobs.items) steps.old steps.new }
+    ensures count { CostsAtMost (length listed.jobs.items) comparisons.old comparisons.new }
 {
     if MOST_JOBS < listed.jobs.len() {
         return Ok(Answer::too_many(alloc));
     }
     let ratio = listed.ratio;
-    let (value, jobs) = observe(alloc, listed, steps)?;
+    let (value, jobs) = observe(alloc, listed, comparisons)?;
     // There are as many jobs as before.
     let Ok(best) = best(alloc, &jobs) else {
         return Err(Memory);

@@ -1,7 +1,6 @@
 //! The line of the bound.
 ghost use Rattle.std.specs.Prelude.{◌≡◌, ◌≤◌, ◌<◌, ◌+◌, ◌++◌, ◌∷◌, ◌^◌, [], codes, length};
-ghost use Rattle.dover_model.specs.Bound.{bound};
-ghost use Rattle.dover_model.specs.Lines.{with_numbers};
+ghost use Rattle.dover_model.specs.Common.{bound, with_numbers};
 ghost use Rattle.line_text.specs.Writing.{most_written};
 
 use dover_model::Ratio;

@@ -1,15 +1,15 @@
 //! The word `compare`.
 ghost use Rattle.std.specs.Prelude.{IfOk, length};
-ghost use Rattle.dover_model.specs.Instance.{IsValid};
+ghost use Rattle.dover_model.specs.Common.{IsValid, CostsAtMost};
 ghost use Rattle.dialogue.specs.Talk.{IsFinal};
 ghost use Rattle.event_feed.specs.Listing.{listed_instance, StandAmong};
-ghost use Rattle.dover_model.specs.Spending.{CostsAtMost};
 ghost use Rattle.question_words.specs.Compare.{SaysCompare};
 ghost use Rattle.question_words.specs.Texts.{text_of};
 
 use crate::answer::{Answer, Rows};
 use crate::bounding::put_bound;
 use crate::observing::observe;
+use comparison_count::Comparisons;
 use dover_model::Memory;
 use dover_port::Status;
 use event_feed::Listed;
@@ -17,7 +17,6 @@ use line_text::BackLine;
 use policy_lab::{Dense, Edf, are_too_large, run_policy};
 use std::alloc::Global;
 use std::sync::ledger::Ledger;
-use step_count::Steps;
 
 /// Compares the rules with the policies over the jobs, which these know as the run observed them, and says what came of
 /// it: the value that the run completes, what the schedules by earliest deadline and by greatest density are worth, and
@@ -26,19 +25,19 @@ use step_count::Steps;
 pub(crate) fn answer<L: Ledger>(
     alloc: Global,
     listed: Listed,
-    steps: &mut Steps<L>,
+    comparisons: &mut Comparisons<L>,
 ) -> Result<Answer, Memory>
     requires valid { IsValid (listed_instance listed) }
-    requires among { StandAmong listed.jobs.items listed.dones.items }
+    requires among { StandAmong listed.jobs.items listed.done_lines.items }
     ensures says { IfOk result (λ answer. SaysCompare (listed_instance listed) answer.status (text_of answer)) }
     ensures ends { IfOk result (λ answer. IsFinal answer.status) }
-    ensures count { CostsAtMost (length listed.jobs.items) steps.old steps.new }
+    ensures count { CostsAtMost (length listed.jobs.items) comparisons.old comparisons.new }
 {
     if are_too_large(&listed.jobs) {
         return Ok(Answer::too_many(alloc));
     }
     let ratio = listed.ratio;
-    let (dover, jobs) = observe(alloc, listed, steps)?;
+    let (dover, jobs) = observe(alloc, listed, comparisons)?;
     // There are as many jobs as before, and they are due as before.
     let Ok(edf) = run_policy(alloc, &Edf, &jobs) else {
         return Err(Memory);

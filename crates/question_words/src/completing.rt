@@ -1,17 +1,15 @@
 //! What a run completes.
 ghost use Rattle.std.specs.Prelude.{◌≡◌, ◌≤◌, ◌||◌, ◌==◌, ℕ, [], IfOk, OnOk, length, get_or, false};
-ghost use Rattle.dover_model.specs.Instance.{IsValid};
-ghost use Rattle.dover_model.specs.Run.{completed_value};
+ghost use Rattle.dover_model.specs.Common.{IsValid, completed_value, CostsAtMost};
 ghost use Rattle.question_words.specs.Replaying.{bare_instance};
-ghost use Rattle.dover_model.specs.Spending.{CostsAtMost};
 ghost use Rattle.question_words.specs.Loss.{is_completed};
 
+use comparison_count::Comparisons;
 use dover_model::{Event, Job, Memory};
 use event_feed::Listed;
 use ready_server::{Watcher, run_list};
 use std::alloc::Global;
 use std::sync::ledger::Ledger;
-use step_count::Steps;
 
 /// The value that the End of a run names, 0 before it.
 #[derive(Clone, Copy)]
@@ -41,11 +39,11 @@ impl Watcher for EndValue {
 pub(crate) fn completed<L: Ledger>(
     alloc: Global,
     listed: &Listed,
-    steps: &mut Steps<L>,
+    comparisons: &mut Comparisons<L>,
 ) -> Result<u64, Memory>
     requires { IsValid (bare_instance listed.now) }
     ensures value { IfOk result (λ value. value ≡ completed_value (bare_instance listed.now)) }
-    ensures count { CostsAtMost (length listed.now.jobs.items) steps.old steps.new }
+    ensures count { CostsAtMost (length listed.now.jobs.items) comparisons.old comparisons.new }
 {
     let mut jobs = listed.jobs.as_slice();
     let mut end = EndValue { value: 0 };
@@ -55,7 +53,7 @@ pub(crate) fn completed<L: Ledger>(
         listed.ratio,
         &mut jobs,
         &mut end,
-        steps,
+        comparisons,
     )?;
     Ok(end.value)
 }
@@ -132,13 +130,13 @@ impl Watcher for Completion {
 pub(crate) fn completed_jobs<L: Ledger>(
     alloc: Global,
     listed: &Listed,
-    steps: &mut Steps<L>,
+    comparisons: &mut Comparisons<L>,
 ) -> Result<Completion, Memory>
     requires { IsValid (bare_instance listed.now) }
     ensures value { IfOk result (λ it. it.value ≡ completed_value (bare_instance listed.now)) }
     ensures done { IfOk result (λ it. (n : ℕ) →
         get_or it.done.items n false ≡ is_completed (bare_instance listed.now) n) }
-    ensures count { CostsAtMost (length listed.now.jobs.items) steps.old steps.new }
+    ensures count { CostsAtMost (length listed.now.jobs.items) comparisons.old comparisons.new }
 {
     let mut jobs = listed.jobs.as_slice();
     let mut completion = Completion::none(alloc, jobs.len())?;
@@ -148,7 +146,7 @@ pub(crate) fn completed_jobs<L: Ledger>(
         listed.ratio,
         &mut jobs,
         &mut completion,
-        steps,
+        comparisons,
     )?;
     if completion.lost {
         return Err(Memory);

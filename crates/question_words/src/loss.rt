@@ -1,13 +1,9 @@
 //! The word `loss`.
 ghost use Rattle.std.specs.Prelude.{◌≡◌, ◌≤◌, IfOk, length, map, get_or, false};
-ghost use Rattle.dover_model.specs.Instance.{IsInOrder, IsValid};
-ghost use Rattle.dover_model.specs.JobFacts.{IsJob};
+ghost use Rattle.dover_model.specs.Common.{IsInOrder, IsValid, IsJob, most_jobs, Each, CostsAtMost};
 ghost use Rattle.dover_model.specs.declared.events.Version.TheVariants.{Two};
-ghost use Rattle.dover_model.specs.Limits.{most_jobs};
-ghost use Rattle.dover_model.specs.Sound.{Each};
 ghost use Rattle.dialogue.specs.Talk.{IsFinal};
 ghost use Rattle.event_feed.specs.Listing.{listed_instance, StandAmong};
-ghost use Rattle.dover_model.specs.Spending.{CostsAtMost};
 ghost use Rattle.question_words.specs.Loss.{SaysLoss, row_of};
 ghost use Rattle.question_words.specs.Texts.{text_of};
 
@@ -16,13 +12,13 @@ use crate::bounding::put_bound;
 use crate::limits::is_listable;
 use crate::observing::observe_each;
 use clairvoyant::overload::{Stretch, cost_of, value_inside};
+use comparison_count::Comparisons;
 use dover_model::{Job, Memory};
 use dover_port::Status;
 use event_feed::Listed;
 use line_text::BackLine;
 use std::alloc::Global;
 use std::sync::ledger::Ledger;
-use step_count::Steps;
 
 /// The stretches, with what is done of the jobs inside.
 fn rows(
@@ -58,19 +54,19 @@ fn rows(
 pub(crate) fn answer<L: Ledger>(
     alloc: Global,
     listed: Listed,
-    steps: &mut Steps<L>,
+    comparisons: &mut Comparisons<L>,
 ) -> Result<Answer, Memory>
     requires valid { IsValid (listed_instance listed) }
-    requires among { StandAmong listed.jobs.items listed.dones.items }
+    requires among { StandAmong listed.jobs.items listed.done_lines.items }
     ensures says { IfOk result (λ answer. SaysLoss (listed_instance listed) answer.status (text_of answer)) }
     ensures ends { IfOk result (λ answer. IsFinal answer.status) }
-    ensures count { CostsAtMost (length listed.jobs.items) steps.old steps.new }
+    ensures count { CostsAtMost (length listed.jobs.items) comparisons.old comparisons.new }
 {
     if !is_listable(&listed) {
         return Ok(Answer::too_many(alloc));
     }
     let ratio = listed.ratio;
-    let (completed, jobs) = observe_each(alloc, listed, steps)?;
+    let (completed, jobs) = observe_each(alloc, listed, comparisons)?;
     let costed = cost_of(alloc, &jobs, completed.value)?;
     let rows = rows(alloc, &jobs, &costed.stretches, &completed.done)?;
     let mut head = BackLine::new();

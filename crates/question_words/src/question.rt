@@ -1,21 +1,20 @@
 //! The questions, each by its word.
 ghost use Rattle.dover_port.specs.Causes.{Causes, StopsWith};
 ghost use Rattle.dover_port.specs.Moves.{Since, ins};
-ghost use Rattle.dover_model.specs.Feed.{account};
+ghost use Rattle.dover_model.specs.Common.{account, CostsAtMost};
 ghost use Rattle.event_feed.specs.Answers.{admitted_in};
-ghost use Rattle.dover_model.specs.Spending.{CostsAtMost};
 ghost use Rattle.dialogue.specs.Talk.{Talks, CanEnd};
 ghost use Rattle.question_words.specs.Questions.{says};
 ghost use Rattle.question_words.specs.Talk.{ask_talk};
 
 use crate::asking::Asking;
+use comparison_count::Comparisons;
 use dialogue::converse;
 use dover_port::{Port, Status};
 use event_feed::FeedReader;
 use std::alloc::Global;
 use std::marker::PhantomData;
 use std::sync::ledger::Ledger;
-use step_count::Steps;
 
 /// What is asked about the jobs of a feed.
 #[derive(Clone, Copy)]
@@ -41,12 +40,12 @@ pub fn question_word<P: Port, L: Ledger>(
     alloc: Global,
     port: &mut P,
     question: Question,
-    steps: &mut Steps<L>,
+    comparisons: &mut Comparisons<L>,
 ) -> Status
     ensures talks { Since (P.moves port.old) (P.moves port.new) (Talks (ask_talk (says question)) result) }
     ensures ends { CanEnd (Talks (ask_talk (says question))) result }
     ensures count { Since (P.moves port.old) (P.moves port.new)
-        (λ moves. CostsAtMost (admitted_in (account (ins moves))) steps.old steps.new) }
+        (λ moves. CostsAtMost (admitted_in (account (ins moves))) comparisons.old comparisons.new) }
     ensures causes { Causes result
         (P.read_faults port.old) (P.read_faults port.new) (P.write_faults port.old) (P.write_faults port.new) }
     ensures stops { StopsWith result (P.calls port.old) (P.calls port.new) }
@@ -57,5 +56,5 @@ pub fn question_word<P: Port, L: Ledger>(
         reader: FeedReader::new(alloc),
         counts: PhantomData,
     };
-    converse(port, asking, steps)
+    converse(port, asking, comparisons)
 }

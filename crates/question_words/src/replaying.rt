@@ -1,10 +1,7 @@
 //! A feed whose jobs may finish early, served again once its end was read.
 ghost use Rattle.std.specs.Prelude.{◌≡◌, ◌≤◌, ℕ, [], IfOk, OnOk, length, get_or, false};
-ghost use Rattle.dover_model.specs.Instance.{Instance, IsListable, IsValid, with_jobs};
-ghost use Rattle.dover_model.specs.Horizons.{no_jobs};
-ghost use Rattle.dover_model.specs.Observed.{observed};
-ghost use Rattle.dover_model.specs.Run.{completed_value, printed};
-ghost use Rattle.dover_model.specs.Spending.{CostsAtMost};
+ghost use Rattle.dover_model.specs.Common.{Instance, IsListable, IsValid, with_jobs, no_jobs, observed};
+ghost use Rattle.dover_model.specs.Common.{completed_value, printed, CostsAtMost};
 ghost use Rattle.dover_model.specs.declared.horizon.Horizon.{Horizon};
 ghost use Rattle.dover_model.specs.declared.horizon.Horizon.TheVariants.{Mark};
 ghost use Rattle.event_feed.specs.Listing.{listed_instance, StandAmong};
@@ -15,13 +12,13 @@ ghost use Rattle.question_words.specs.Replaying.{HasRecorded, with_work, job_see
 ghost use Rattle.question_words.specs.Watching.{HasSeen};
 
 use crate::completing::Completion;
+use comparison_count::Comparisons;
 use dover_model::{Event, Horizon, Job, Memory, PackedEvent};
 use event_feed::Listed;
 use ready_server::{ReadyServer, Watcher, finish_job, serve_jobs, show_to};
-use run_record::ledger::hads;
+use run_record::ledger::served;
 use std::alloc::Global;
 use std::sync::ledger::Ledger;
-use step_count::Steps;
 
 /// The printed steps of a run, and whether one was lost for want of memory.
 #[derive(Drop)]
@@ -46,19 +43,19 @@ fn serve_part<L: Ledger>(
     server: &mut ReadyServer,
     part: &[Job],
     run: &mut Recorded,
-    steps: &mut Steps<L>,
+    comparisons: &mut Comparisons<L>,
 ) -> Result<(), Memory>
     requires { (J : Instance) × (from : Horizon) × HasShown HasRecorded server.old run.old J from
         × CanFeed J from part.now }
     ensures fed { (J : Instance) (from : Horizon) → HasShown HasRecorded server.old run.old J from
         → CanFeed J from part.now → OnOk result (HasFed HasRecorded server.new run.new J from part.now) }
-    ensures paid { (start : ℕ) → HasPaid server.old start steps.old → HasPaid server.new start steps.new }
+    ensures paid { (start : ℕ) → HasPaid server.old start comparisons.old → HasPaid server.new start comparisons.new }
     ensures count { (J : Instance) (from : Horizon) (start : ℕ) → HasShown HasRecorded server.old run.old J from
-        → CanFeed J from part.now → HasPaid server.old start steps.old
-        → CostsAtMost (length (with_jobs J part.now).jobs) start steps.new }
+        → CanFeed J from part.now → HasPaid server.old start comparisons.old
+        → CostsAtMost (length (with_jobs J part.now).jobs) start comparisons.new }
 {
     let mut jobs = part;
-    serve_jobs::<&[Job], Recorded, L>(server, &mut jobs, run, steps)
+    serve_jobs::<&[Job], Recorded, L>(server, &mut jobs, run, comparisons)
 }
 
 /// Serves the listed jobs, with their finishes, to the end of their run. No job was served before.
@@ -66,24 +63,24 @@ fn serve_listed<L: Ledger>(
     server: &mut ReadyServer,
     listed: &Listed,
     run: &mut Recorded,
-    steps: &mut Steps<L>,
+    comparisons: &mut Comparisons<L>,
 ) -> Result<(), Memory>
     requires valid { IsValid (listed_instance listed.now) }
-    requires among { StandAmong listed.now.jobs.items listed.now.dones.items }
+    requires among { StandAmong listed.now.jobs.items listed.now.done_lines.items }
     requires begins { HasShown HasRecorded server.old run.old (no_jobs listed.now.version listed.now.ratio) (Mark 0) }
-    requires paid { HasPaid server.old steps.old steps.old }
+    requires paid { HasPaid server.old comparisons.old comparisons.old }
     ensures run { OnOk result (HasRecorded run.new (printed (listed_instance listed.now))) }
-    ensures count { CostsAtMost (length listed.now.jobs.items) steps.old steps.new }
+    ensures count { CostsAtMost (length listed.now.jobs.items) comparisons.old comparisons.new }
 {
     ReadyServer::laws();
     let mut count = 0;
-    for done in &listed.dones {
-        serve_part(server, &listed.jobs[count..done.behind], run, steps)?;
-        finish_job(server, done.at, done.number, run, steps);
+    for done in &listed.done_lines {
+        serve_part(server, &listed.jobs[count..done.behind], run, comparisons)?;
+        finish_job(server, done.at, done.number, run, comparisons);
         count = done.behind;
     }
-    serve_part(server, &listed.jobs[count..], run, steps)?;
-    show_to(server, Horizon::End, run, steps);
+    serve_part(server, &listed.jobs[count..], run, comparisons)?;
+    show_to(server, Horizon::End, run, comparisons);
     Ok(())
 }
 
@@ -92,16 +89,16 @@ fn serve_alone<L: Ledger>(
     alloc: Global,
     listed: &Listed,
     run: &mut Recorded,
-    steps: &mut Steps<L>,
+    comparisons: &mut Comparisons<L>,
 ) -> Result<(), Memory>
     requires valid { IsValid (listed_instance listed.now) }
-    requires among { StandAmong listed.now.jobs.items listed.now.dones.items }
+    requires among { StandAmong listed.now.jobs.items listed.now.done_lines.items }
     requires begins { HasRecorded run.old [] }
     ensures run { OnOk result (HasRecorded run.new (printed (listed_instance listed.now))) }
-    ensures count { CostsAtMost (length listed.now.jobs.items) steps.old steps.new }
+    ensures count { CostsAtMost (length listed.now.jobs.items) comparisons.old comparisons.new }
 {
     let mut server = ReadyServer::new(alloc, listed.version, listed.ratio)?;
-    serve_listed(&mut server, listed, run, steps)
+    serve_listed(&mut server, listed, run, comparisons)
 }
 
 /// The printed steps of the run of the listed jobs, with their finishes. Memory is taken for the steps, and for the
@@ -113,18 +110,18 @@ fn serve_alone<L: Ledger>(
 fn record<L: Ledger>(
     alloc: Global,
     listed: &Listed,
-    steps: &mut Steps<L>,
+    comparisons: &mut Comparisons<L>,
 ) -> Result<Vec<PackedEvent>, Memory>
     requires valid { IsValid (listed_instance listed.now) }
-    requires among { StandAmong listed.now.jobs.items listed.now.dones.items }
+    requires among { StandAmong listed.now.jobs.items listed.now.done_lines.items }
     ensures run { IfOk result (λ events. events.items ≡ printed (listed_instance listed.now)) }
-    ensures count { CostsAtMost (length listed.now.jobs.items) steps.old steps.new }
+    ensures count { CostsAtMost (length listed.now.jobs.items) comparisons.old comparisons.new }
 {
     let mut run = Recorded {
         events: Vec::new(alloc),
         lost: false,
     };
-    serve_alone(alloc, listed, &mut run, steps)?;
+    serve_alone(alloc, listed, &mut run, comparisons)?;
     if run.lost {
         return Err(Memory);
     }
@@ -158,22 +155,22 @@ fn with_work(job: &Job, work: u64) -> Job
 }
 
 /// The job of a number, with what it had if it is done.
-fn job_seen(done: &[bool], hads: &[u64], number: usize, job: &Job) -> Job
-    ensures { result ≡ job_seen done.now hads.now (number, job.now) }
+fn job_seen(done: &[bool], served: &[u64], number: usize, job: &Job) -> Job
+    ensures { result ≡ job_seen done.now served.now (number, job.now) }
 {
     if done.get(number).copied().unwrap_or(false) {
-        return with_work(job, hads.get(number).copied().unwrap_or(0));
+        return with_work(job, served.get(number).copied().unwrap_or(0));
     }
     *job
 }
 
 /// The jobs, each with what it had if it is done.
-fn jobs_seen(alloc: Global, done: &[bool], hads: &[u64], jobs: &[Job]) -> Result<Vec<Job>, Memory>
-    ensures { IfOk result (λ seen. seen.items ≡ jobs_seen done.now hads.now jobs.now) }
+fn jobs_seen(alloc: Global, done: &[bool], served: &[u64], jobs: &[Job]) -> Result<Vec<Job>, Memory>
+    ensures { IfOk result (λ seen. seen.items ≡ jobs_seen done.now served.now jobs.now) }
 {
     let mut seen = Vec::new(alloc);
     for (number, job) in jobs.iter().enumerate() {
-        seen.push(job_seen(done, hads, number, job))?;
+        seen.push(job_seen(done, served, number, job))?;
     }
     Ok(seen)
 }
@@ -194,8 +191,8 @@ fn told_by(
     ensures jobs { IfOk result (λ it. it.1.items ≡ (observed (listed_instance listed.now)).jobs) }
 {
     let completion = completed_by(alloc, run, listed.jobs.len())?;
-    let hads = hads(alloc, &listed.jobs, run)?;
-    let seen = jobs_seen(alloc, &completion.done, &hads, &listed.jobs)?;
+    let served = served(alloc, &listed.jobs, run)?;
+    let seen = jobs_seen(alloc, &completion.done, &served, &listed.jobs)?;
     Ok((completion, seen))
 }
 
@@ -208,17 +205,17 @@ fn told_by(
 pub(crate) fn replayed<L: Ledger>(
     alloc: Global,
     listed: &Listed,
-    steps: &mut Steps<L>,
+    comparisons: &mut Comparisons<L>,
 ) -> Result<(Completion, Vec<Job>), Memory>
     requires valid { IsValid (listed_instance listed.now) }
     requires listable { IsListable (listed_instance listed.now) }
-    requires among { StandAmong listed.now.jobs.items listed.now.dones.items }
+    requires among { StandAmong listed.now.jobs.items listed.now.done_lines.items }
     ensures value { IfOk result (λ it. it.0.value ≡ completed_value (listed_instance listed.now)) }
     ensures done { IfOk result (λ it. (n : ℕ) →
         get_or it.0.done.items n false ≡ is_completed (listed_instance listed.now) n) }
     ensures jobs { IfOk result (λ it. it.1.items ≡ (observed (listed_instance listed.now)).jobs) }
-    ensures count { CostsAtMost (length listed.now.jobs.items) steps.old steps.new }
+    ensures count { CostsAtMost (length listed.now.jobs.items) comparisons.old comparisons.new }
 {
-    let run = record(alloc, listed, steps)?;
+    let run = record(alloc, listed, comparisons)?;
     told_by(alloc, listed, &run)
 }

@@ -1,29 +1,23 @@
 -- What a printed step leaves of the ready jobs, by which jobs it names.
 use Rattle.std.proofs.Common.{◌≡◌, ℕ, ◌≤◌, ◌⊎◌, inl, inr, List, [], ◌∷◌, ◌++◌, length, map, refl, sym, ap, ◌∙◌, subst}
-use Rattle.std.proofs.Common.{Bool, true, false, cond, arith}
-use Rattle.std.specs.Prelude.{Option, Some, None, ◌&&◌, nat_lt, nat_le}
-use Rattle.std.specs.Option.{option_to_list, option_map}
-use Rattle.std.specs.List.{filter, sum_by}
+use Rattle.std.proofs.Common.{Bool, true, false, cond, arith, Option, Some, None, ◌&&◌, nat_lt, nat_le, option_to_list}
+use Rattle.std.proofs.Common.{option_map, filter, sum_by}
 use Rattle.std.proofs.lemmas.List.{length-map}
 use Rattle.std.proofs.lemmas.Bool.{cases_eq}
 use Rattle.std.proofs.lemmas.List.Sums.{sum_by-cons, sum_by-append, length-filter, count_by-le-length}
 use Rattle.dover_model.specs.declared.events.Event.TheVariants.{Run, Preempt, Take, Complete, Abandon}
 use Rattle.dover_model.specs.declared.events.Role.TheVariants.{Held, Running}
 use Rattle.dover_model.specs.declared.events.Task.{Task}
-use Rattle.dover_model.specs.Orders.{starts_before, first}
-use Rattle.dover_model.specs.State.{waiting, left, latest_start}
-use Rattle.dover_model.specs.Step.{View, view, with_role, is_at_latest_start}
-use Rattle.dover_model.specs.Sound.{Each}
-use Rattle.dover_model.proofs.Members.{some_same, sum_map}
-use Rattle.dover_model.proofs.Tests.{none_is_some}
+use Rattle.dover_model.specs.Common.{starts_before, first, waiting, left, latest_start, View, view, with_role}
+use Rattle.dover_model.specs.Common.{is_at_latest_start, Each, is_ready}
+use Rattle.dover_model.proofs.lists.Members.{some_same, sum_map}
+use Rattle.dover_model.proofs.lists.Tests.{none_is_some}
 use Rattle.ready_jobs.specs.Cases.{next_of}
-use Rattle.dover_model.specs.Ready.{is_ready}
 use Rattle.waiting_pool.specs.Reordered.{IsReordered}
 use Rattle.ready_jobs.specs.Parts.{Parted, HaveRoles, AreSound, ready_of, state_of, head_of, tail_of}
 use Rattle.ready_jobs.specs.Changed.{named, AreOnce, Leaves, IsNext, printed, made_wait}
 use Rattle.waiting_pool.proofs.Reordering.{as_many}
-use Rattle.ready_jobs.proofs.Seeing.{seen_running, seen_fresh, waiting_list, late_none, late_later}
-use Rattle.ready_jobs.proofs.Seeing.{late_found}
+use Rattle.ready_jobs.proofs.Seeing.{seen_running, seen_fresh, waiting_list, late_none, late_later, late_found}
 use Rattle.ready_jobs.proofs.Changes.{completes, resumes, starts, begins, abandons, preempts, takes}
 use Rattle.ready_jobs.proofs.Naming.{Says, says}
 

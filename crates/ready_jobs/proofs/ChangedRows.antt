@@ -1,16 +1,11 @@
 -- What printed steps leave of worked ready jobs, by computation.
-use Rattle.dover_model.specs.Fraction.{fraction}
-use Rattle.std.proofs.Common.{◌≡◌, ℕ, [], ◌∷◌, map, refl}
-use Rattle.std.specs.Prelude.{Some, None}
-use Rattle.std.specs.List.{filter}
+use Rattle.dover_model.specs.Common.{fraction, is_done, value_sum, Prints, open_step, is_ready}
+use Rattle.std.proofs.Common.{◌≡◌, ℕ, [], ◌∷◌, map, refl, Some, None, filter}
 use Rattle.dover_model.specs.declared.events.Event.TheVariants.{Preempt, Take, Complete}
 use Rattle.dover_model.specs.declared.events.Role.{Role}
 use Rattle.dover_model.specs.declared.events.Role.TheVariants.{Fresh, Waiting, Held, Running}
 use Rattle.dover_model.specs.declared.events.Task.{Task}
 use Rattle.dover_model.specs.declared.events.Version.TheVariants.{One}
-use Rattle.dover_model.specs.State.{is_done, value_sum}
-use Rattle.dover_model.specs.Step.{Prints, open_step}
-use Rattle.dover_model.specs.Ready.{is_ready}
 use Rattle.ready_jobs.specs.Parts.{Parted, ready_of, state_of}
 use Rattle.ready_jobs.specs.Changed.{printed}
 

@@ -1,22 +1,16 @@
 -- What a step does to the ready jobs, by their roles.
 use Rattle.std.proofs.Common.{◌≡◌, ℕ, suc, ◌≤◌, inl, inr, List, [], ◌∷◌, ◌++◌, map, refl, sym, ap, ◌∙◌, subst, Bool}
-use Rattle.std.proofs.Common.{true, false, cond, arith}
-use Rattle.std.specs.Prelude.{Some, None, ◌==◌}
-use Rattle.std.specs.Option.{option_to_list}
-use Rattle.std.specs.List.{filter, sum_by}
-use Rattle.std.proofs.lemmas.Bool.{eq-eqb, ne_eqb}
+use Rattle.std.proofs.Common.{true, false, cond, arith, Some, None, ◌==◌, option_to_list, filter, sum_by, eq-eqb}
+use Rattle.std.proofs.Common.{ne_eqb}
 use Rattle.std.proofs.lemmas.List.{map-append}
 use Rattle.std.proofs.lemmas.List.Sums.{sum_by-cons}
 use Rattle.dover_model.specs.declared.events.Role.{Role}
-use Rattle.dover_model.specs.declared.events.Role.TheVariants.{Coming, Fresh, Waiting, Held, Running, Done, Gone}
+use Rattle.dover_model.specs.declared.events.Role.TheVariants.{Fresh, Waiting, Held, Running, Done, Gone}
 use Rattle.dover_model.specs.declared.events.Task.{Task}
-use Rattle.dover_model.specs.State.{is_done, value_sum}
-use Rattle.dover_model.specs.Step.{with_role, displaced}
-use Rattle.dover_model.specs.Sound.{IsMember, Each, IsNumberedFrom}
-use Rattle.dover_model.proofs.Members.{sum_filter, sum_zero, sum_le, term_le_sum, map_map, map_same, each_append}
-use Rattle.dover_model.proofs.Roles.{passes, numbers_above}
-use Rattle.dover_model.proofs.Tests.{never}
-use Rattle.dover_model.specs.Ready.{is_ready}
+use Rattle.dover_model.specs.Common.{is_done, value_sum, with_role, displaced, IsMember, Each, IsNumberedFrom, is_ready}
+use Rattle.dover_model.proofs.lists.Members.{sum_filter, sum_zero, sum_le, term_le_sum, map_map, map_same, each_append}
+use Rattle.dover_model.proofs.steps.Roles.{passes, numbers_above}
+use Rattle.dover_model.proofs.lists.Tests.{never}
 use Rattle.waiting_pool.specs.Reordered.{IsReordered}
 use Rattle.waiting_pool.specs.Pools.{HaveOwnNumbers}
 use Rattle.ready_jobs.specs.Parts.{Parted, HaveRole, HaveRoles, ready_of}
@@ -156,13 +150,8 @@ none_done xs ready = ap value_sum (filter_none is_done xs (λ t m. not_done t (r
   not_done : (t : Task) → is_ready t ≡ true → is_done t ≡ false
   not_done t = by_role t.role where
     by_role : (role : Role) → is_ready (with_role t role) ≡ true → is_done (with_role t role) ≡ false
-    by_role Coming h = refl
-    by_role Fresh h = refl
-    by_role Waiting h = refl
-    by_role Held h = refl
-    by_role Running h = refl
     by_role Done h = never h
-    by_role Gone h = refl
+    by_role _ h = refl
 
 -- ---- one job changes its role
 

@@ -1,29 +1,20 @@
 -- What printed steps cost, by the jobs that begin and cease to wait.
 use Rattle.std.proofs.Common.{◌≡◌, ℕ, ◌+◌, ◌-◌, ◌*◌, ◌≤◌, inl, inr, List, [], ◌∷◌, ◌++◌, length, refl, sym, ap, ◌∙◌}
-use Rattle.std.proofs.Common.{subst}
-use Rattle.std.proofs.Common.{Bool, true, false, cond, not, arith}
-use Rattle.std.specs.Prelude.{Option, Some, None, ◌&&◌}
-use Rattle.std.specs.Option.{option_to_list}
-use Rattle.std.specs.List.{filter, sum_by, count_by}
-use Rattle.std.proofs.lemmas.Bool.{eq-eqb, ne_eqb}
-use Rattle.std.proofs.lemmas.List.{length-append}
+use Rattle.std.proofs.Common.{subst, Bool, true, false, cond, not, arith, Option, Some, None, ◌&&◌, option_to_list}
+use Rattle.std.proofs.Common.{filter, sum_by, count_by, eq-eqb, ne_eqb, length-append}
 use Rattle.std.proofs.lemmas.List.Sums.{sum_by-cons, sum_by-append}
 use Rattle.std.proofs.Math.Nat.{mul-le-mul_left}
 use Rattle.dover_model.specs.declared.events.Event.TheVariants.{Run, Take, Abandon}
 use Rattle.dover_model.specs.declared.events.Role.{Role}
 use Rattle.dover_model.specs.declared.events.Role.TheVariants.{Held, Running, Done, Gone}
 use Rattle.dover_model.specs.declared.events.Task.{Task}
-use Rattle.dover_model.specs.Instance.{Rules, Instance}
-use Rattle.dover_model.specs.Sound.{IsMember, Each}
-use Rattle.dover_model.specs.State.{State, is_waiting, is_over}
-use Rattle.dover_model.specs.Step.{Move, Prints, Waits, Ticks, open_step, with_role, displaced}
-use Rattle.dover_model.specs.WaitingMoves.{waits_then, enters, leaves}
-use Rattle.dover_model.proofs.Members.{term_le_sum, sum_filter, sum_same, member_behind}
-use Rattle.dover_model.proofs.Roles.{passes, is_over_role}
-use Rattle.dover_model.specs.Spending.{cost_of}
-use Rattle.dover_model.proofs.Spending.{one_leaves, run_leaves, abandon_leaves, take_leaves}
-use Rattle.dover_model.specs.Ready.{is_ready}
-use Rattle.dover_model.proofs.ReadyParts.{change, over_stays}
+use Rattle.dover_model.specs.Common.{Rules, Instance, IsMember, Each, State, is_waiting, is_over, Move, Prints}
+use Rattle.dover_model.specs.Common.{open_step, with_role, displaced, waits_then, enters, leaves, cost_of}
+use Rattle.dover_model.specs.Common.{is_ready}
+use Rattle.dover_model.proofs.lists.Members.{term_le_sum, sum_filter, sum_same, member_behind}
+use Rattle.dover_model.proofs.steps.Roles.{passes, is_over_role}
+use Rattle.dover_model.proofs.runs.Spending.{one_leaves, run_leaves, abandon_leaves, take_leaves}
+use Rattle.dover_model.proofs.steps.ReadyParts.{change, over_stays}
 use Rattle.ready_jobs.specs.Following.{PartOf}
 use Rattle.ready_jobs.specs.Changed.{named, AreOnce}
 use Rattle.ready_jobs.specs.Parts.{Parted, HaveRoles, ready_of, state_of}
@@ -205,8 +196,7 @@ over_not_waiting t over = elim (is_over_role t over) [
 -- that it waits then is that it waits as changed
 waits_changed : (m : Move) (t : Task) → waits_then m t ≡ is_waiting (change m t)
 waits_changed (Prints e) t = refl
-waits_changed (Waits n) t = refl
-waits_changed Ticks t = refl
+waits_changed _ t = refl
 
 module _ (p : Parted) (J : Instance) (z : State) (part : PartOf p J z) (rules : Rules) where
   over_waits_not : Each (λ t. is_over t ≡ true → waits_then (open_step rules z) t ≡ false) z.tasks

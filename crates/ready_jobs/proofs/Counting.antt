@@ -1,13 +1,6 @@
 -- As many jobs are ready where their run is settled as are kept.
-use Rattle.std.proofs.Common.{◌≡◌, ℕ, length, sym, ap, ◌∙◌}
-use Rattle.std.specs.Prelude.{nat_le}
-use Rattle.std.specs.List.{filter}
-use Rattle.dover_model.specs.Instance.{Instance}
-use Rattle.dover_model.specs.Limits.{most_ready}
-use Rattle.dover_model.specs.Ready.{is_ready}
-use Rattle.dover_model.specs.Session.{ready_at, is_full}
-use Rattle.dover_model.specs.Settled.{settled_state}
-use Rattle.dover_model.specs.State.{State, state_at}
+use Rattle.std.proofs.Common.{◌≡◌, ℕ, length, sym, ap, ◌∙◌, nat_le, filter}
+use Rattle.dover_model.specs.Common.{Instance, most_ready, is_ready, ready_at, is_full, settled_state, State, state_at}
 use Rattle.ready_jobs.specs.Course.{Course, Follows}
 use Rattle.waiting_pool.proofs.Reordering.{as_many}
 

@@ -1,58 +1,46 @@
 -- What is kept of a run, step by step.
-use Rattle.std.proofs.Common.{◌≡◌, ℕ, ◌+◌, ◌≤◌, ◌<◌, ◌⊎◌, inl, inr, List, [], ◌∷◌, ◌++◌, length, refl, sym, ap}
-use Rattle.std.proofs.Common.{◌∙◌, subst}
-use Rattle.std.proofs.Common.{Bool, true, false, cond, not, arith, eqb}
-use Rattle.std.specs.Prelude.{Option, nat_le, ◌&&◌, Some, None}
-use Rattle.std.specs.Option.{option_to_list}
-use Rattle.std.specs.List.{filter, list_all, sum_by}
-use Rattle.std.proofs.lemmas.Bool.{eq-eqb}
+use Rattle.std.proofs.Common.{◌≡◌, ℕ, ◌+◌, ◌≤◌, ◌<◌, ◌⊎◌, inl, inr, List, [], ◌∷◌, ◌++◌, length, refl, sym, ap, ◌∙◌}
+use Rattle.std.proofs.Common.{subst, Bool, true, false, cond, not, arith, eqb, Option, nat_le, ◌&&◌, Some, None}
+use Rattle.std.proofs.Common.{option_to_list, filter, sum_by, eq-eqb}
+use Rattle.std.specs.List.{list_all}
 use Rattle.std.proofs.lemmas.List.Sums.{sum_by-cons, sum_by-append, length-filter, count_by-le-length}
-use Rattle.dover_model.specs.Limits.{last_tick}
-use Rattle.dover_model.specs.Fraction.{Fraction, IsRatio}
-use Rattle.dover_model.specs.JobFacts.{JobFacts}
+use Rattle.dover_model.specs.Common.{last_tick, Fraction, IsRatio, JobFacts, Rules, Declaration, under, Instance}
+use Rattle.dover_model.specs.Common.{IsValid, total_value, finishing, with_finishes, Finish, State, state_at, opening}
+use Rattle.dover_model.specs.Common.{is_over, is_done, is_running, running, value_sum, Move, Prints, Ticks, step}
+use Rattle.dover_model.specs.Common.{open_step, after, view, with_role, event_of, is_end, last_deadline, waits_for_mark}
+use Rattle.dover_model.specs.Common.{AreOverFor, finish_now, IsMember, Each, Keeps, IsBarrier, GoesOn, IsSilent, Idles}
+use Rattle.dover_model.specs.Common.{Settles, WaitsUntil, PrintsNext, is_ready}
 use Rattle.dover_model.specs.declared.events.Role.TheVariants.{Fresh, Running, Done}
 use Rattle.dover_model.specs.declared.events.Event.{Event}
-use Rattle.dover_model.specs.declared.events.Event.TheVariants.{Release, Run, Preempt, Take, Complete, Abandon, End}
+use Rattle.dover_model.specs.declared.events.Event.TheVariants.{Complete, End}
 use Rattle.dover_model.specs.declared.events.Task.{Task}
-use Rattle.dover_model.specs.Instance.{Rules, Declaration, under, Instance, IsValid, total_value, finishing}
-use Rattle.dover_model.specs.Instance.{with_finishes}
-use Rattle.dover_model.specs.Finishes.{Finish}
-use Rattle.dover_model.specs.State.{State, state_at, opening, is_over, is_done, is_running, running, value_sum}
-use Rattle.dover_model.specs.Step.{Move, Prints, Waits, Ticks, step, open_step, after, view, with_role}
-use Rattle.dover_model.specs.Run.{event_of, is_end, last_deadline}
-use Rattle.dover_model.specs.Settled.{waits_for_mark, AreOverFor, finish_now}
-use Rattle.dover_model.specs.Sound.{IsMember, Each, Keeps}
-use Rattle.dover_model.specs.WholeRun.{IsBarrier}
-use Rattle.dover_model.proofs.Members.{sum_filter, sum_le, sum_map, member_filter, term_le_sum, member_either, on_map}
-use Rattle.dover_model.proofs.Members.{found, member_front, member_behind}
-use Rattle.dover_model.proofs.Members.{filter_member, some_same}
-use Rattle.dover_model.proofs.Roles.{passes, is_running_role}
-use Rattle.dover_model.proofs.Readiness.{runner}
-use Rattle.dover_model.proofs.Deeds.{Deed as RunDeed, Completed}
-use Rattle.dover_model.proofs.Kept.{opening_keeps}
-use Rattle.dover_model.proofs.Honest.{count_jobs}
-use Rattle.dover_model.proofs.Prefixes.{step_open}
-use Rattle.dover_model.proofs.Resting.{tick_keeps, numbers_below}
-use Rattle.dover_model.proofs.Settling.{at_barrier}
-use Rattle.dover_model.proofs.ShortNumbers.{deadline_known, ticks_early}
-use Rattle.dover_model.proofs.Tests.{not_true, never, none_is_some}
-use Rattle.dover_model.specs.Leading.{GoesOn, IsSilent, Idles, Settles, WaitsUntil, PrintsNext}
-use Rattle.dover_model.proofs.Meeting.{finishing_valid}
-use Rattle.dover_model.proofs.Further.{over_open}
-use Rattle.dover_model.proofs.OverFor.{over_after, over_then}
-use Rattle.dover_model.proofs.OverPaths.{settles_over}
-use Rattle.dover_model.specs.Ready.{is_ready}
-use Rattle.dover_model.proofs.Leading.{late_silent, over_ends}
-use Rattle.dover_model.proofs.ReadyParts.{change}
-use Rattle.dover_model.proofs.Waiting.{some_goes_on, settles_idles, over_waits_until}
-use Rattle.dover_model.proofs.Limiting.{jobs_most, total_most}
+use Rattle.dover_model.proofs.lists.Members.{sum_filter, sum_le, sum_map, member_filter, term_le_sum, member_either}
+use Rattle.dover_model.proofs.lists.Members.{on_map, found, member_front, member_behind, filter_member, some_same}
+use Rattle.dover_model.proofs.steps.Roles.{passes, is_running_role}
+use Rattle.dover_model.proofs.finishes.Readiness.{runner}
+use Rattle.dover_model.proofs.steps.Deeds.{Deed as RunDeed, Completed}
+use Rattle.dover_model.proofs.steps.Kept.{opening_keeps}
+use Rattle.dover_model.proofs.runs.Honest.{count_jobs}
+use Rattle.dover_model.proofs.settled.Prefixes.{step_open}
+use Rattle.dover_model.proofs.rest.Resting.{tick_keeps, numbers_below}
+use Rattle.dover_model.proofs.settled.Settling.{at_barrier}
+use Rattle.dover_model.proofs.traces.ShortNumbers.{deadline_known, ticks_early}
+use Rattle.dover_model.proofs.lists.Tests.{not_true, never, none_is_some}
+use Rattle.dover_model.proofs.finishes.Meeting.{finishing_valid}
+use Rattle.dover_model.proofs.finishes.Further.{over_open}
+use Rattle.dover_model.proofs.finishes.OverFor.{over_after, over_then}
+use Rattle.dover_model.proofs.finishes.OverPaths.{settles_over}
+use Rattle.dover_model.proofs.settled.Leading.{late_silent, over_ends}
+use Rattle.dover_model.proofs.steps.ReadyParts.{change}
+use Rattle.dover_model.proofs.settled.Waiting.{some_goes_on, settles_idles, over_waits_until}
+use Rattle.dover_model.proofs.valid.Limiting.{jobs_most, total_most}
 use Rattle.waiting_pool.specs.Reordered.{IsReordered}
 use Rattle.ready_jobs.specs.Parts.{Parted, HaveRoles, ready_of, state_of}
 use Rattle.ready_jobs.specs.Following.{PartOf, IsPart, SettlesTo}
 use Rattle.ready_jobs.specs.Course.{Course, Follows, IsCourse, new_course, course_of, fresh_job, with_release, Reached}
 use Rattle.ready_jobs.specs.Course.{Settled, ComesNext, Takes, IsDue, Finishes, RunsNowhere}
 use Rattle.ready_jobs.specs.Deeds.{Does, Finds, step_at}
-use Rattle.ready_jobs.specs.declared.deeds.Deed.{Deed}
+use Rattle.ready_jobs.specs.declared.actions.Action.{Action}
 use Rattle.waiting_pool.proofs.Reordering.{same_order, further, exchanged, as_many}
 use Rattle.waiting_pool.proofs.Pooling.{between}
 use Rattle.ready_jobs.specs.Changed.{Leaves, AreOnce, named}
@@ -60,7 +48,7 @@ use Rattle.ready_jobs.proofs.Changes.{once_numbered, once_some, once_still, map_
 use Rattle.ready_jobs.proofs.Seeing.{running_list}
 use Rattle.ready_jobs.proofs.Doing.{prints_event}
 use Rattle.ready_jobs.proofs.Following.{part_step, part_moves, part_does, there, ready_once}
-use Rattle.dover_model.proofs.ValidParts.{valid_parts, valid_from}
+use Rattle.dover_model.proofs.valid.ValidParts.{valid_parts, valid_from}
 
 -- ---- what is kept
 
@@ -75,7 +63,7 @@ some_jobs [] none other is = never (sym other ∙ is refl)
 some_jobs (t ∷ ts) none other is = omega arith
 
 -- the deed that comes now, at whose step the event is printed
-pub due_now : (c : Course) (at : ℕ) (deed : Deed) (e : Event) → at ≡ c.clock
+pub due_now : (c : Course) (at : ℕ) (deed : Action) (e : Event) → at ≡ c.clock
     → step_at c.clock deed ≡ open_step (under c.rules []) (state_at c.clock c.ready)
     → Finds (view c.rules.version (state_at c.clock c.ready)) deed → event_of (step_at at deed) ≡ Some e
     → IsDue c deed e
@@ -494,8 +482,7 @@ reached_comes c d m reaches some = by_move m refl where
         let it : Reached d J z last_tick (Prints e) = subst (Reached d J z last_tick) is (reaches J z follows) in
         (it.state, it.follows, reached_next d J z last_tick e it),
   )
-  by_move (Waits n) is = absurd (silent (ap event_of is))
-  by_move Ticks is = absurd (silent (ap event_of is))
+  by_move _ is = absurd (silent (ap event_of is))
 
 -- a printed step was reached, and whether it is a barrier was tested
 module _ (c : Course) (J : Instance) (z : State) (mark : ℕ) (m : Move) (e : Event) (clock : ℕ) (b : Bool)
@@ -678,12 +665,7 @@ pub ends_next : (c d : Course) (e : Event) → Takes c e d → is_end (Prints e)
 ends_next c d (End value) it last = λ J z follows.
     let next : (y : State) × Follows it.there J y × PrintsNext J.rules z (End value) y = it.comes J z follows in
     (next.0, subst (Follows d J) (end_stays next.0 value) (it.passes J next.0 next.1), next.2)
-ends_next c d (Release n j) it last = never last
-ends_next c d (Run at n) it last = never last
-ends_next c d (Preempt at stops starts) it last = never last
-ends_next c d (Take at stops starts) it last = never last
-ends_next c d (Complete at n) it last = never last
-ends_next c d (Abandon at n) it last = never last
+ends_next c d _ it last = never last
 
 -- where no job is ready, the end is taken
 pub over_takes : (c : Course) → c.ready ≡ [] → Takes c (End c.done) c
@@ -695,7 +677,7 @@ over_takes c none = record {
 }
 
 -- the deed that is due of the course is that of its jobs
-pub due_does : (k : Fraction) (p : Parted) (jobs done : ℕ) (deed : Deed) (e : Event)
+pub due_does : (k : Fraction) (p : Parted) (jobs done : ℕ) (deed : Action) (e : Event)
     → IsDue (course_of k p jobs done) deed e → Does p deed e
 due_does k p jobs done deed e due = record { prints = due.prints; next = (k, due.opens); finds = due.finds }
 

@@ -1,16 +1,12 @@
 -- The open step of a state, where a job runs and where none does.
-use Rattle.std.proofs.Common.{Bool, ◌≡◌, ◌<◌, ◌≤◌, ◌∙◌, ap, sym, refl}
-use Rattle.std.specs.Prelude.{Option, Some, None, ◌==◌, ◌&&◌, nat_le, if◌then◌else◌}
-use Rattle.std.proofs.lemmas.Bool.{lt-ltb, le-leb}
+use Rattle.std.proofs.Common.{Bool, ◌≡◌, ◌<◌, ◌≤◌, ◌∙◌, ap, sym, refl, Option, Some, None, ◌==◌, ◌&&◌, nat_le}
+use Rattle.std.proofs.Common.{if◌then◌else◌, lt-ltb, le-leb, find}
 use Rattle.std.specs.Bool.{then_some}
-use Rattle.std.specs.List.{find}
 use Rattle.dover_model.specs.declared.events.Event.TheVariants.{Complete, Preempt}
 use Rattle.dover_model.specs.declared.events.Task.{Task}
-use Rattle.dover_model.specs.Fraction.{Fraction}
-use Rattle.dover_model.specs.Step.{View, Move, Prints, decision, alarm, ◌or_else◌, runs, view, completion, dispatch}
-use Rattle.dover_model.specs.Step.{urgent_or, Waits}
+use Rattle.dover_model.specs.Common.{Fraction, View, Move, Prints, decision, alarm, ◌or_else◌, runs, view, completion}
+use Rattle.dover_model.specs.Common.{dispatch, urgent_or, Waits, State, is_running, is_fresh, left}
 use Rattle.dover_model.specs.declared.events.Version.{Version}
-use Rattle.dover_model.specs.State.{State, is_running, is_fresh, left}
 use Rattle.ready_jobs.specs.Cases.{next_of, next_ready, decision_of, arrival_of}
 
 -- what is done while r runs

@@ -1,45 +1,36 @@
 -- The ready jobs of a whole run, step by step.
 use Rattle.std.proofs.Common.{◌≡◌, ℕ, zero, suc, ◌+◌, ◌-◌, ◌^◌, ◌≤◌, ◌<◌, inl, inr, List, [], ◌∷◌, ◌++◌, map, refl, sym}
-use Rattle.std.proofs.Common.{ap, ◌∙◌, subst, Bool, true, false, cond, arith, eqb}
-use Rattle.std.specs.Prelude.{Option, Some, None, ◌&&◌, nat_le, nat_lt}
-use Rattle.std.specs.Option.{option_to_list, option_map}
-use Rattle.std.specs.List.{AllByRecursion, filter}
-use Rattle.std.proofs.lemmas.Bool.{lt-leb, ltb-true, ltb-false}
+use Rattle.std.proofs.Common.{ap, ◌∙◌, subst, Bool, true, false, cond, arith, eqb, Option, Some, None, ◌&&◌, nat_le}
+use Rattle.std.proofs.Common.{nat_lt, option_to_list, option_map, filter, ltb-true, ltb-false}
+use Rattle.std.specs.List.{AllByRecursion}
+use Rattle.std.proofs.lemmas.Bool.{lt-leb}
 use Rattle.std.proofs.lemmas.List.{map-append}
-use Rattle.dover_model.specs.Step.{due_finish, declared_open_step}
-use Rattle.dover_model.proofs.Finishing.{not_complete}
-use Rattle.dover_model.specs.Fraction.{Fraction}
-use Rattle.dover_model.specs.JobFacts.{IsJob}
+use Rattle.dover_model.specs.Common.{due_finish, declared_open_step, Fraction, IsJob, Rules, Instance, total_value}
+use Rattle.dover_model.specs.Common.{ticked_by, later_by, Step, event_of, waits_for_mark, IsMember, Each, Keeps, State}
+use Rattle.dover_model.specs.Common.{is_coming, is_waiting, is_running, is_privileged, is_done, latest_start, value_sum}
+use Rattle.dover_model.specs.Common.{Move, Prints, Waits, Ticks, view, open_step, after, with_role, role_after}
+use Rattle.dover_model.specs.Common.{displaced, open_at, IsSilent, Settles, is_ready}
+use Rattle.dover_model.proofs.finishes.Finishing.{not_complete}
 use Rattle.dover_model.specs.declared.events.Event.{Event}
 use Rattle.dover_model.specs.declared.events.Role.{Role}
 use Rattle.dover_model.specs.declared.events.Role.TheVariants.{Coming, Fresh, Waiting, Held, Running, Done, Gone}
 use Rattle.dover_model.specs.declared.events.Event.TheVariants.{Release, Run, Preempt, Take, Complete, Abandon, End}
 use Rattle.dover_model.specs.declared.events.Task.{Task}
-use Rattle.dover_model.specs.Instance.{Rules, Instance, total_value}
-use Rattle.dover_model.specs.Jumps.{ticked_by, later_by}
-use Rattle.dover_model.specs.Run.{Step, event_of}
-use Rattle.dover_model.specs.Settled.{waits_for_mark}
-use Rattle.dover_model.specs.Sound.{IsMember, Each, Keeps}
-use Rattle.dover_model.specs.State.{State, is_coming, is_waiting, is_running, is_privileged, is_done}
-use Rattle.dover_model.specs.State.{latest_start, value_sum}
-use Rattle.dover_model.specs.Step.{Move, Prints, Waits, Ticks, view, open_step, after, with_role, role_after, displaced}
-use Rattle.dover_model.specs.WholeRun.{open_at}
-use Rattle.dover_model.proofs.Jumping.{later_by-zero, after-later_by}
-use Rattle.dover_model.proofs.Deeds.{Deed, tick_quiet}
-use Rattle.dover_model.proofs.Ticking.{Quiet}
-use Rattle.dover_model.proofs.Kept.{open_deed, open_kept, deed_kept, each_job}
-use Rattle.dover_model.proofs.Moves.{early_waits, says}
-use Rattle.dover_model.proofs.Members.{member_filter, on_map, sum_filter, sum_le, sum_map}
-use Rattle.dover_model.proofs.Members.{member_front, member_behind}
-use Rattle.dover_model.proofs.Roles.{passes, is_running_role, is_fresh_role}
-use Rattle.dover_model.proofs.Tests.{never, none_is_some}
+use Rattle.dover_model.proofs.steps.Jumping.{later_by-zero, after-later_by}
+use Rattle.dover_model.proofs.steps.Deeds.{Deed, tick_quiet}
+use Rattle.dover_model.proofs.steps.Ticking.{Quiet}
+use Rattle.dover_model.proofs.steps.Kept.{open_deed, open_kept, deed_kept, each_job}
+use Rattle.dover_model.proofs.steps.Moves.{early_waits, says}
+use Rattle.dover_model.proofs.lists.Members.{member_filter, on_map, sum_filter, sum_le, sum_map, member_front}
+use Rattle.dover_model.proofs.lists.Members.{member_behind}
+use Rattle.dover_model.proofs.steps.Roles.{passes, is_running_role, is_fresh_role}
+use Rattle.dover_model.proofs.lists.Tests.{never, none_is_some}
 use Rattle.ready_jobs.specs.Dues.{still_ticks}
 use Rattle.ready_jobs.proofs.Jumping.{silent as still_silent, due as still_due, within as still_within}
-use Rattle.dover_model.specs.Leading.{IsSilent, Settles}
-use Rattle.dover_model.specs.Ready.{is_ready, ready_part}
-use Rattle.dover_model.proofs.Leading.{settles_append}
-use Rattle.dover_model.proofs.ReadyParts.{change, after_change, step_ready, ready_then, done_then}
-use Rattle.dover_model.proofs.Limiting.{total_most}
+use Rattle.dover_model.specs.Ready.{ready_part}
+use Rattle.dover_model.proofs.settled.Leading.{settles_append}
+use Rattle.dover_model.proofs.steps.ReadyParts.{change, after_change, step_ready, ready_then, done_then}
+use Rattle.dover_model.proofs.valid.Limiting.{total_most}
 use Rattle.waiting_pool.specs.Reordered.{IsReordered}
 use Rattle.ready_jobs.specs.Parts.{Parted, HaveRole, HaveRoles, AreSound, ready_of, state_of}
 use Rattle.ready_jobs.specs.Following.{PartOf, SettlesTo}
@@ -49,8 +40,8 @@ use Rattle.ready_jobs.proofs.Views.{AreApart, step_still}
 use Rattle.ready_jobs.proofs.Naming.{waits_says}
 use Rattle.ready_jobs.proofs.Seeing.{seen_fresh, waiting_list, privileged_list}
 use Rattle.ready_jobs.proofs.Changes.{once_numbered, once_some, once_still, once_own, map_each}
-use Rattle.dover_model.proofs.ValidParts.{valid_parts}
-use Rattle.dover_model.proofs.JobLimits.{job_limits}
+use Rattle.dover_model.proofs.valid.ValidParts.{valid_parts}
+use Rattle.dover_model.proofs.valid.JobLimits.{job_limits}
 
 -- ---- a job that isn't to come stays so
 
@@ -64,12 +55,7 @@ not_coming (Prints e) t h = by_event e where
   still_displaced : (role : Role) → is_coming (with_role t role) ≡ false
       → is_coming (with_role t (displaced role)) ≡ false
   still_displaced Coming g = never (sym g)
-  still_displaced Fresh g = refl
-  still_displaced Waiting g = refl
-  still_displaced Held g = refl
-  still_displaced Running g = refl
-  still_displaced Done g = refl
-  still_displaced Gone g = refl
+  still_displaced _ g = refl
 
   two : (b c : Bool) → is_coming (with_role t (cond b Running (cond c Held t.role))) ≡ false
   two true c = refl

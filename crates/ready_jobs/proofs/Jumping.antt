@@ -1,30 +1,24 @@
 -- Where the next step is a silent tick, and for how long it is.
 use Rattle.std.proofs.Common.{◌≡◌, true, false, Bool, cond, refl, subst, sym, ℕ, ◌-◌, ◌∙◌, eq-eqb, ap, ne_eqb, ◌⊎◌, inl}
-use Rattle.std.proofs.Common.{[], inr, ◌+◌, ◌≤◌, ◌<◌, min, arith, List, ◌∷◌, map}
-use Rattle.std.specs.Prelude.{Some, None, Option, ◌==◌, nat_le}
-use Rattle.std.specs.List.{find, filter, fold}
+use Rattle.std.proofs.Common.{[], inr, ◌+◌, ◌≤◌, ◌<◌, min, arith, List, ◌∷◌, map, Some, None, Option, ◌==◌, nat_le}
+use Rattle.std.proofs.Common.{find, filter, fold, leb-true, leb-false, option_map}
 use Rattle.std.specs.Bool.{then_some}
-use Rattle.std.proofs.lemmas.Bool.{leb-true, leb-false, cases_lt}
-use Rattle.std.specs.Option.{option_map}
+use Rattle.std.proofs.lemmas.Bool.{cases_lt}
 use Rattle.dover_model.specs.declared.events.Task.{Task}
-use Rattle.dover_model.specs.State.{State, is_fresh, is_coming, is_waiting, is_held, left, latest_start, running}
-use Rattle.dover_model.specs.State.{waiting, is_running}
-use Rattle.dover_model.specs.Sound.{Each, IsMember}
+use Rattle.dover_model.specs.Common.{State, is_fresh, is_coming, is_waiting, is_held, left, latest_start, running}
+use Rattle.dover_model.specs.Common.{waiting, is_running, Each, IsMember, View, Prints, Waits, Ticks, Move, ◌or_else◌}
+use Rattle.dover_model.specs.Common.{arrival, alarm, preempts, view, runs, declared_open_step, urgent_or}
+use Rattle.dover_model.specs.Common.{is_at_latest_start, Fraction, Rules, first, earlier, due_first, starts_before}
+use Rattle.dover_model.specs.Common.{ticked_by, later_by}
 use Rattle.ready_jobs.proofs.Deciding.{busy, free, busy_is, free_is}
 use Rattle.dover_model.specs.declared.events.Event.TheVariants.{Preempt, Release}
-use Rattle.dover_model.specs.Step.{View, Prints, Waits, Ticks, Move, ◌or_else◌, arrival, alarm, preempts, view, runs}
-use Rattle.dover_model.specs.Step.{declared_open_step, urgent_or, is_at_latest_start}
-use Rattle.dover_model.specs.Fraction.{Fraction}
-use Rattle.dover_model.proofs.Members.{some_same, by_bool, filter_member, member_filter, reduce_none, filter_none}
-use Rattle.dover_model.proofs.Members.{found, on_map, map_member}
-use Rattle.dover_model.proofs.Tests.{none_is_some, never}
+use Rattle.dover_model.proofs.lists.Members.{some_same, by_bool, filter_member, member_filter, reduce_none, filter_none}
+use Rattle.dover_model.proofs.lists.Members.{found, on_map, map_member}
+use Rattle.dover_model.proofs.lists.Tests.{none_is_some, never}
 use Rattle.ready_jobs.specs.Cases.{next_of, next_ready, arrival_of}
-use Rattle.dover_model.specs.Instance.{Rules}
-use Rattle.dover_model.specs.Orders.{first, earlier, due_first, starts_before}
 use Rattle.ready_jobs.specs.Dues.{ticks_until, until_latest, until_done, until_release, still_ticks}
-use Rattle.dover_model.proofs.Roles.{passes, is_waiting_role}
+use Rattle.dover_model.proofs.steps.Roles.{passes, is_waiting_role}
 use Rattle.dover_model.specs.declared.events.Role.TheVariants.{Waiting}
-use Rattle.dover_model.specs.Jumps.{ticked_by, later_by}
 
 -- ---- where a silent tick is next
 
@@ -280,12 +274,13 @@ record Dues (s : State) (most n : ℕ) : Type 0 where
 
 dues : (s : State) (most : ℕ) → Dues s most (still_ticks most s)
 dues s most = record {
-  within = let low : n ≤ after_done = waits.within in let mid : after_done ≤ after_release = dones.within in
+  within = let low : n ≤ after_done = waits.within in let mid : after_done ≤ after_release = done_lines.within in
       let high : after_release ≤ most =
       comes.within in omega arith;
   release = λ c first ahead. let at : s.clock + after_release ≤ c.job.release = comes.before c first ahead in
-      let low : n ≤ after_done = waits.within in let mid : after_done ≤ after_release = dones.within in omega arith;
-  done = λ r runs. let at : after_done ≤ left r = dones.before r runs in let low : n ≤ after_done = waits.within in
+      let low : n ≤ after_done = waits.within in let mid : after_done
+      ≤ after_release = done_lines.within in omega arith;
+  done = λ r runs. let at : after_done ≤ left r = done_lines.before r runs in let low : n ≤ after_done = waits.within in
       omega arith;
   before = waits.before;
   reached = by_waits waits.reached;
@@ -302,8 +297,8 @@ dues s most = record {
   waits : UntilLatest s.clock after_done n (waiting s)
   waits = latest s.clock (waiting s) after_done
 
-  dones : UntilDone (running s) after_release after_done
-  dones = done_by (running s) after_release
+  done_lines : UntilDone (running s) after_release after_done
+  done_lines = done_by (running s) after_release
 
   comes : UntilRelease s.clock (find is_coming s.tasks) most after_release
   comes = release_by s.clock (find is_coming s.tasks) most
@@ -326,7 +321,7 @@ dues s most = record {
   by_waits : (n ≡ after_done) ⊎ Reaches s.clock n (waiting s) → n < most
       → ((c : Task) × (find is_coming s.tasks ≡ Some c) × (s.clock + n ≡ c.job.release))
       ⊎ (((r : Task) × (running s ≡ Some r) × (n ≡ left r)) ⊎ Reaches s.clock n (waiting s))
-  by_waits (inl same) less = by_dones same dones.reached less
+  by_waits (inl same) less = by_dones same done_lines.reached less
   by_waits (inr it) less = inr (inr it)
 
 -- ---- so many ticks on

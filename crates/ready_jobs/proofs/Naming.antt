@@ -1,16 +1,12 @@
 -- What a printed step says of the jobs that are seen.
-use Rattle.std.proofs.Common.{◌≡◌, ℕ, ◌<◌, ◌⊎◌, inl, inr, refl, ap, ◌∙◌, subst, Bool, true, false, cond, arith}
-use Rattle.std.specs.Prelude.{Option, Some, None, ◌==◌}
+use Rattle.std.proofs.Common.{◌≡◌, ℕ, ◌<◌, ◌⊎◌, inl, inr, refl, ap, ◌∙◌, subst, Bool, true, false, cond, arith, Option}
+use Rattle.std.proofs.Common.{Some, None, ◌==◌, ne_eqb}
 use Rattle.std.specs.Bool.{then_some}
-use Rattle.std.proofs.lemmas.Bool.{ne_eqb}
 use Rattle.dover_model.specs.declared.events.Event.{Event}
 use Rattle.dover_model.specs.declared.events.Event.TheVariants.{Release, Run, Preempt, Take, Complete, Abandon, End}
 use Rattle.dover_model.specs.declared.events.Task.{Task}
-use Rattle.dover_model.specs.Fraction.{Fraction}
-use Rattle.dover_model.specs.Orders.{is_heavy}
-use Rattle.dover_model.specs.State.{left}
-use Rattle.dover_model.specs.Step.{View, Move, Prints, Waits, Ticks, completion, dispatch, decision, arrival, alarm}
-use Rattle.dover_model.specs.Step.{◌or_else◌, resumed, preempts, urgent_or}
+use Rattle.dover_model.specs.Common.{Fraction, is_heavy, left, View, Move, Prints, Waits, Ticks, completion, dispatch}
+use Rattle.dover_model.specs.Common.{decision, arrival, alarm, ◌or_else◌, resumed, preempts, urgent_or}
 use Rattle.ready_jobs.specs.Cases.{next_of}
 
 -- the jobs that the step names, as they are seen

@@ -1,20 +1,14 @@
 -- How long it is till the run prints its next step.
 use Rattle.std.proofs.Common.{◌≡◌, ℕ, [], ◌∷◌, ◌-◌, ◌+◌, ◌≤◌, ◌<◌, List, length, refl, sym, ap, ◌∙◌, arith}
 use Rattle.std.specs.Prelude.{Option, Some, None}
-use Rattle.dover_model.specs.Limits.{last_tick}
-use Rattle.dover_model.specs.Fraction.{Fraction}
+use Rattle.dover_model.specs.Common.{last_tick, Fraction, Instance, starts_before, first, State, is_fresh, is_running}
+use Rattle.dover_model.specs.Common.{left, latest_start, Move, Prints, open_step, is_end, Each}
 use Rattle.dover_model.specs.declared.events.Event.{Event}
 use Rattle.dover_model.specs.declared.events.Role.TheVariants.{Running}
 use Rattle.dover_model.specs.declared.events.Task.{Task}
-use Rattle.dover_model.specs.Instance.{Instance}
-use Rattle.dover_model.specs.Orders.{starts_before, first}
-use Rattle.dover_model.specs.State.{State, is_fresh, is_running, left, latest_start}
-use Rattle.dover_model.specs.Step.{Move, Prints, open_step}
-use Rattle.dover_model.specs.Run.{is_end}
-use Rattle.dover_model.specs.Sound.{Each}
-use Rattle.dover_model.proofs.Members.{found, not_found}
-use Rattle.dover_model.proofs.Prefixes.{open_goes_on}
-use Rattle.dover_model.proofs.Roles.{fails, is_fresh_role}
+use Rattle.dover_model.proofs.lists.Members.{found, not_found}
+use Rattle.dover_model.proofs.settled.Prefixes.{open_goes_on}
+use Rattle.dover_model.proofs.steps.Roles.{fails, is_fresh_role}
 use Rattle.ready_jobs.specs.Course.{Course, Follows, IsCourse, Reached, ComesNext, course_of}
 use Rattle.ready_jobs.specs.Dues.{still_ticks}
 use Rattle.ready_jobs.specs.NextTick.{IsUnderWay, PrintsAt}

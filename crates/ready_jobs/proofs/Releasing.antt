@@ -1,19 +1,12 @@
 -- The ready jobs at any place of a run: what step comes, and a job that is released.
 use Rattle.std.proofs.Common.{◌≡◌, ℕ, ◌≤◌, ◌<◌, [], ◌∷◌, ◌++◌, inl, inr, length, refl, sym, ap, ◌∙◌, subst, true, false}
-use Rattle.std.proofs.Common.{arith}
-use Rattle.std.specs.List.{filter}
-use Rattle.std.proofs.lemmas.List.{append-nil, length-append}
+use Rattle.std.proofs.Common.{arith, filter, append-nil, length-append}
 use Rattle.std.proofs.lemmas.List.Elements.{filter-append}
-use Rattle.dover_model.specs.Limits.{last_tick}
-use Rattle.dover_model.specs.JobFacts.{JobFacts}
-use Rattle.dover_model.specs.Finishes.{Finish}
+use Rattle.dover_model.specs.Common.{last_tick, JobFacts, Finish, Rules, bare, Instance, IsValid, State, is_coming}
+use Rattle.dover_model.specs.Common.{is_done, is_over, value_sum, state_at, IsMember, Each, Keeps, is_ready, with_fresh}
 use Rattle.dover_model.specs.declared.events.Task.{Task}
-use Rattle.dover_model.specs.Instance.{Rules, bare, Instance, IsValid}
-use Rattle.dover_model.specs.State.{State, is_coming, is_done, is_over, value_sum, state_at}
-use Rattle.dover_model.specs.Sound.{IsMember, Each, Keeps}
-use Rattle.dover_model.proofs.Members.{each_append}
-use Rattle.dover_model.proofs.Honest.{count_jobs}
-use Rattle.dover_model.specs.Ready.{is_ready, with_fresh}
+use Rattle.dover_model.proofs.lists.Members.{each_append}
+use Rattle.dover_model.proofs.runs.Honest.{count_jobs}
 use Rattle.waiting_pool.specs.Reordered.{IsReordered}
 use Rattle.ready_jobs.specs.Course.{Course, Follows, fresh_job, with_release}
 use Rattle.waiting_pool.proofs.Reordering.{same_order, both_parts}

@@ -2,14 +2,11 @@
 use Rattle.std.proofs.Common.{◌≡◌, ℕ, refl, sym, ap, ◌∙◌, true, Some, None}
 use Rattle.dover_model.specs.declared.events.Role.TheVariants.{Running}
 use Rattle.dover_model.specs.declared.events.Task.{Task}
-use Rattle.dover_model.specs.Instance.{Instance}
-use Rattle.dover_model.specs.Ready.{is_ready}
-use Rattle.dover_model.specs.Sound.{IsMember}
-use Rattle.dover_model.specs.State.{State, running, is_running, state_at}
-use Rattle.dover_model.proofs.Members.{found, not_found, filter_member, member_filter, some_same}
-use Rattle.dover_model.proofs.Readiness.{runner}
-use Rattle.dover_model.proofs.Roles.{passes, is_running_role}
-use Rattle.dover_model.proofs.Tests.{never}
+use Rattle.dover_model.specs.Common.{Instance, is_ready, IsMember, State, running, is_running, state_at}
+use Rattle.dover_model.proofs.lists.Members.{found, not_found, filter_member, member_filter, some_same}
+use Rattle.dover_model.proofs.finishes.Readiness.{runner}
+use Rattle.dover_model.proofs.steps.Roles.{passes, is_running_role}
+use Rattle.dover_model.proofs.lists.Tests.{never}
 use Rattle.ready_jobs.specs.Course.{Course, Follows, Runs, RunsNowhere}
 
 module _ (c : Course) where

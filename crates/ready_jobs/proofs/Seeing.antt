@@ -1,29 +1,23 @@
 -- What is seen of the ready jobs by their roles.
 use Rattle.std.proofs.Common.{◌≡◌, ℕ, ◌-◌, ◌≤◌, ◌<◌, inl, inr, List, [], ◌∷◌, ◌++◌, map, min, refl, sym, ap, ◌∙◌, subst}
-use Rattle.std.proofs.Common.{Bool, true, false, cond, arith, nat_le}
-use Rattle.std.specs.Prelude.{Option, Some, None, option_map}
-use Rattle.std.specs.Option.{option_to_list}
-use Rattle.std.specs.List.{filter, find, fold}
-use Rattle.std.proofs.lemmas.Bool.{cases_lt, eq-eqb, ne_eqb}
-use Rattle.std.proofs.lemmas.List.{append-nil}
+use Rattle.std.proofs.Common.{Bool, true, false, cond, arith, nat_le, Option, Some, None, option_map, option_to_list}
+use Rattle.std.proofs.Common.{filter, find, fold, eq-eqb, ne_eqb, append-nil}
+use Rattle.std.proofs.lemmas.Bool.{cases_lt}
 use Rattle.std.proofs.lemmas.List.Elements.{filter-append}
 use Rattle.dover_model.specs.declared.events.Version.{Version}
 use Rattle.dover_model.specs.declared.events.Role.{Role}
 use Rattle.dover_model.specs.declared.events.Role.TheVariants.{Fresh, Waiting, Held, Running}
 use Rattle.dover_model.specs.declared.events.Task.{Task}
 use Rattle.dover_model.specs.declared.events.Entry.{Entry}
-use Rattle.dover_model.specs.Entries.{entry_of, is_due_before}
-use Rattle.dover_model.specs.State.{State, is_coming, is_fresh, is_waiting, is_held, is_running, is_privileged}
-use Rattle.dover_model.specs.State.{latest_start, running}
-use Rattle.dover_model.specs.Orders.{due_first, starts_before, first, earlier}
-use Rattle.dover_model.specs.Step.{with_role, is_at_latest_start}
-use Rattle.dover_model.specs.Sound.{IsMember, Each}
-use Rattle.dover_model.proofs.EntryOrders.{strict_by, key_less}
-use Rattle.dover_model.proofs.Members.{reduce_none, filter_member, member_filter, some_same, find_none, find_head}
-use Rattle.dover_model.proofs.Roles.{passes}
-use Rattle.dover_model.proofs.Tests.{none_is_some}
+use Rattle.dover_model.specs.Common.{entry_of, is_due_before, State, is_coming, is_fresh, is_waiting, is_held}
+use Rattle.dover_model.specs.Common.{is_running, is_privileged, latest_start, running, due_first, starts_before, first}
+use Rattle.dover_model.specs.Common.{earlier, with_role, is_at_latest_start, IsMember, Each}
+use Rattle.dover_model.proofs.steps.EntryOrders.{strict_by, key_less}
+use Rattle.dover_model.proofs.lists.Members.{reduce_none, filter_member, member_filter, some_same, find_none, find_head}
+use Rattle.dover_model.proofs.steps.Roles.{passes}
+use Rattle.dover_model.proofs.lists.Tests.{none_is_some}
 use Rattle.ready_jobs.specs.Dues.{until_latest, until_done, still_ticks}
-use Rattle.held_queue.specs.Stack.{IsByDeadline, IsDueBeforeAll}
+use Rattle.held_stack.specs.Stack.{IsByDeadline, IsDueBeforeAll}
 use Rattle.waiting_pool.specs.Pools.{HaveOwnNumbers}
 use Rattle.ready_jobs.specs.Parts.{Parted, HaveRole, HaveRoles, ready_of, state_of, head_of}
 use Rattle.waiting_pool.proofs.Reordering.{first_is, first_only}

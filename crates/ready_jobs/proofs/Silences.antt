@@ -1,42 +1,33 @@
 -- The silent steps of the ready jobs, as the program takes them.
 use Rattle.std.proofs.Common.{◌≡◌, ℕ, List, [], suc, ◌+◌, ◌-◌, ◌*◌, ◌≤◌, ◌<◌, ◌∷◌, ◌++◌, length, refl, sym, ap, ◌∙◌}
-use Rattle.std.proofs.Common.{subst, arith, Bool, true, false, cond, zero}
-use Rattle.std.specs.Prelude.{Option, Some, None}
-use Rattle.std.specs.Option.{option_to_list, option_map}
-use Rattle.std.specs.List.{filter}
-use Rattle.std.proofs.lemmas.List.{length-append}
-use Rattle.dover_model.specs.Step.{due_finish}
-use Rattle.dover_model.proofs.Finishing.{not_complete}
-use Rattle.dover_model.specs.Fraction.{Fraction}
-use Rattle.dover_model.specs.Instance.{Rules}
+use Rattle.std.proofs.Common.{subst, arith, Bool, true, false, cond, zero, Option, Some, None, option_to_list}
+use Rattle.std.proofs.Common.{option_map, filter, length-append}
+use Rattle.dover_model.specs.Common.{due_finish, Fraction, Rules, Each, left, latest_start, is_running, starts_before}
+use Rattle.dover_model.specs.Common.{first, IsSilent, Move, Prints, Waits, Ticks, view, open_step, with_role}
+use Rattle.dover_model.specs.Common.{is_at_latest_start, ticked_by, later_by}
+use Rattle.dover_model.proofs.finishes.Finishing.{not_complete}
 use Rattle.dover_model.specs.declared.events.Role.TheVariants.{Waiting}
 use Rattle.dover_model.specs.declared.events.Task.{Task}
-use Rattle.dover_model.specs.Sound.{Each}
-use Rattle.dover_model.specs.State.{left, latest_start, is_running}
-use Rattle.dover_model.specs.Orders.{starts_before, first}
-use Rattle.dover_model.specs.Leading.{IsSilent}
-use Rattle.dover_model.specs.Step.{Move, Prints, Waits, Ticks, view, open_step, with_role, is_at_latest_start}
-use Rattle.dover_model.specs.Jumps.{ticked_by, later_by}
 use Rattle.ready_jobs.specs.Dues.{still_ticks}
-use Rattle.dover_model.proofs.ReadyParts.{change}
+use Rattle.dover_model.proofs.steps.ReadyParts.{change}
 use Rattle.waiting_pool.specs.Reordered.{IsReordered}
 use Rattle.ready_jobs.specs.Parts.{Parted, HaveRoles, AreSound, ready_of, state_of}
 use Rattle.ready_jobs.specs.Following.{IsPart, SettlesTo, SettlesFrom}
 use Rattle.waiting_pool.proofs.Reordering.{as_many}
 use Rattle.ready_jobs.specs.Changed.{AreOnce, Leaves}
 use Rattle.ready_jobs.proofs.Changes.{stays}
-use Rattle.dover_model.proofs.Tests.{none_is_some}
+use Rattle.dover_model.proofs.lists.Tests.{none_is_some}
 use Rattle.dover_model.specs.declared.events.Event.TheVariants as event
 use Rattle.ready_jobs.specs.Deeds.{step_at}
-use Rattle.ready_jobs.specs.declared.deeds.Deed.{Deed}
-use Rattle.ready_jobs.specs.declared.deeds.Deed.TheVariants.{Resume, Start, Begin, Preempt, Take, Complete, Abandon}
-use Rattle.ready_jobs.specs.declared.deeds.Deed.TheVariants.{Wait, Tick}
+use Rattle.ready_jobs.specs.declared.actions.Action.{Action}
+use Rattle.ready_jobs.specs.declared.actions.Action.TheVariants.{Resume, Start, Begin, Preempt, Take, Complete, Abandon}
+use Rattle.ready_jobs.specs.declared.actions.Action.TheVariants.{Wait, Tick}
 use Rattle.ready_jobs.proofs.Jumping.{tick_still}
 use Rattle.ready_jobs.proofs.Naming.{waits_says, ticks_next}
 use Rattle.ready_jobs.proofs.Seeing.{seen_fresh, seen_running, seen_coming, waiting_list, late_none, late_later}
 use Rattle.ready_jobs.proofs.Following.{part_step, part_sound, ready_once, parts_later, jumps, settles_none}
-use Rattle.ready_jobs.proofs.Following.{settles_one, settles_on, jump_low, jump_silent, jump_reaches}
-use Rattle.ready_jobs.proofs.Following.{ticks_early, had_fits, stale_ticks, roles_later}
+use Rattle.ready_jobs.proofs.Following.{settles_one, settles_on, jump_low, jump_silent, jump_reaches, ticks_early}
+use Rattle.ready_jobs.proofs.Following.{had_fits, stale_ticks, roles_later}
 
 -- ---- from one part to another
 
@@ -70,7 +61,7 @@ from_on k mark p q r version one next J z rules part =
 -- ---- the deed of a step
 
 -- that of a tick
-tick_only : (at : ℕ) (deed : Deed) → step_at at deed ≡ Ticks → deed ≡ Tick
+tick_only : (at : ℕ) (deed : Action) → step_at at deed ≡ Ticks → deed ≡ Tick
 tick_only at Tick is = refl
 tick_only at (Wait n) is = absurd (let clash : Waits n ≡ Ticks = is in cc)
 tick_only at (Resume n) is = absurd (let clash : Prints (event.Run at n) ≡ Ticks = is in cc)
@@ -82,7 +73,7 @@ tick_only at (Complete n) is = absurd (let clash : Prints (event.Complete at n) 
 tick_only at (Abandon n) is = absurd (let clash : Prints (event.Abandon at n) ≡ Ticks = is in cc)
 
 -- a silent one is a tick where no job is fresh
-pub stale_tick : (k : Fraction) (p : Parted) → HaveRoles p → p.fresh ≡ None → (deed : Deed)
+pub stale_tick : (k : Fraction) (p : Parted) → HaveRoles p → p.fresh ≡ None → (deed : Action)
     → step_at p.clock deed ≡ open_step (record { ratio = k; version = p.version; finishes = [] }) (state_of p)
     → IsSilent (step_at p.clock deed) → deed ≡ Tick
 stale_tick k p roles stale deed comes silent =
@@ -90,20 +81,14 @@ stale_tick k p roles stale deed comes silent =
     (step_at p.clock deed) (sym comes) silent)
 
 -- and where one is, all are printed but that it waits
-pub fresh_prints : (k : Fraction) (p : Parted) → HaveRoles p → (f : Task) → p.fresh ≡ Some f → (deed : Deed)
+pub fresh_prints : (k : Fraction) (p : Parted) → HaveRoles p → (f : Task) → p.fresh ≡ Some f → (deed : Action)
     → step_at p.clock deed ≡ open_step (record { ratio = k; version = p.version; finishes = [] }) (state_of p)
     → ((n : ℕ) → deed ≡ Wait n → ⊥) → IsSilent (step_at p.clock deed) → ⊥
 fresh_prints k p roles f is (Wait n) comes other silent = other n refl
 fresh_prints k p roles f is Tick comes other silent =
     let rules : Rules = record { ratio = k; version = p.version; finishes = [] } in
     none_is_some (sym (tick_still rules (state_of p) (sym comes)).stale ∙ seen_fresh p roles ∙ is)
-fresh_prints k p roles f is (Resume n) comes other silent = none_is_some (sym silent)
-fresh_prints k p roles f is (Start n) comes other silent = none_is_some (sym silent)
-fresh_prints k p roles f is (Begin n) comes other silent = none_is_some (sym silent)
-fresh_prints k p roles f is (Preempt m n) comes other silent = none_is_some (sym silent)
-fresh_prints k p roles f is (Take m n) comes other silent = none_is_some (sym silent)
-fresh_prints k p roles f is (Complete n) comes other silent = none_is_some (sym silent)
-fresh_prints k p roles f is (Abandon n) comes other silent = none_is_some (sym silent)
+fresh_prints k p roles f is _ comes other silent = none_is_some (sym silent)
 
 -- ---- the fresh job waits
 
@@ -221,11 +206,9 @@ module _ (k : Fraction) (mark n : ℕ) (p : Parted) (roles : HaveRoles p) where
         absurd (other (busy_ticks p roles sound n (omega (arith, is)) ahead k r runs stale (busy r runs)))
 
     by_step : (m : Move) → open_step rules_here (state_of p) ≡ m → Jump
-    by_step (Prints e) is = let other : open_step rules_here (state_of p) ≡ Ticks → ⊥ = λ ticks. cc in
-        NoTick other (no_ticks n refl p.running refl other)
-    by_step (Waits w) is = let other : open_step rules_here (state_of p) ≡ Ticks → ⊥ = λ ticks. cc in
-        NoTick other (no_ticks n refl p.running refl other)
     by_step Ticks is = Many is (still (known_early k p roles old is))
+    by_step _ is = let other : open_step rules_here (state_of p) ≡ Ticks → ⊥ = λ ticks. cc in
+        NoTick other (no_ticks n refl p.running refl other)
 
     pub jump : Jump
     jump = by_step (open_step rules_here (state_of p)) refl

@@ -1,37 +1,26 @@
 -- What a course has cost: as much as the run that it is kept of.
 use Rattle.std.proofs.Common.{◌≡◌, ℕ, ◌+◌, ◌-◌, ◌*◌, ◌≤◌, ◌<◌, ◌^◌, inl, inr, List, [], ◌∷◌, ◌++◌, length, sym, ap}
-use Rattle.std.proofs.Common.{refl, ◌∙◌, subst, Bool, true, false, arith}
-use Rattle.std.specs.List.{sum_by}
-use Rattle.std.specs.Prelude.{◌==◌, None}
-use Rattle.std.specs.Option.{option_to_list}
-use Rattle.std.proofs.lemmas.Bool.{eqb-true, eq-eqb}
+use Rattle.std.proofs.Common.{refl, ◌∙◌, subst, Bool, true, false, arith, sum_by, ◌==◌, None, option_to_list, eqb-true}
+use Rattle.std.proofs.Common.{eq-eqb}
 use Rattle.std.proofs.lemmas.List.Sums.{length-filter, sum_by-append}
 use Rattle.std.proofs.lemmas.Nat.{mul-le}
-use Rattle.dover_model.specs.Instance.{bare}
-use Rattle.dover_model.proofs.Further.{over_open}
-use Rattle.dover_model.proofs.OverPaths.{idles_over}
-use Rattle.dover_model.proofs.FreelySpending.{exits_least, freely_so_far, freely_spent, idles_free, idles_wait}
-use Rattle.dover_model.proofs.Members.{sum_zero}
-use Rattle.dover_model.proofs.Tests.{never}
+use Rattle.dover_model.specs.Common.{bare, Fraction, JobFacts, Instance, IsValid, finishing, Keeps, State, is_waiting}
+use Rattle.dover_model.specs.Common.{is_over, state_at, Move, Prints, open_step, after, with_role, Step, one_if, weight}
+use Rattle.dover_model.specs.Common.{weight_in, standing, stands, exits_scale, waiting_count, cost_of, exits}
+use Rattle.dover_model.specs.Common.{waits_among, HasSpentFor, HasSpentFreely, CostsAtMost, Idles}
+use Rattle.dover_model.proofs.finishes.Further.{over_open}
+use Rattle.dover_model.proofs.finishes.OverPaths.{idles_over}
+use Rattle.dover_model.proofs.runs.FreelySpending.{exits_least, freely_so_far, freely_spent, idles_free, idles_wait}
+use Rattle.dover_model.proofs.lists.Members.{sum_zero}
+use Rattle.dover_model.proofs.lists.Tests.{never}
 use Rattle.dover_model.specs.declared.events.Event.{Event}
 use Rattle.dover_model.specs.declared.events.Task.{Task}
-use Rattle.dover_model.specs.Fraction.{Fraction}
-use Rattle.dover_model.specs.JobFacts.{JobFacts}
 use Rattle.dover_model.specs.declared.events.Role.TheVariants.{Running}
-use Rattle.dover_model.specs.Instance.{Instance, IsValid, finishing}
-use Rattle.dover_model.specs.Sound.{Keeps}
-use Rattle.dover_model.specs.State.{State, is_waiting, is_over, state_at}
-use Rattle.dover_model.specs.Step.{Move, Prints, open_step, after, with_role}
-use Rattle.dover_model.specs.Run.{Step}
-use Rattle.dover_model.proofs.Kept.{open_kept}
-use Rattle.dover_model.specs.Weights.{one_if, weight, weight_in, standing, stands}
-use Rattle.dover_model.proofs.Roles.{is_over_role, passes}
-use Rattle.dover_model.specs.Spending.{exits_scale, waiting_count, cost_of, exits, waits_among, HasSpentFor}
-use Rattle.dover_model.specs.Spending.{exits_freely, HasSpentFreely}
-use Rattle.dover_model.specs.Spending.{CostsAtMost}
-use Rattle.dover_model.proofs.WaitingMoves.{open_leaves}
-use Rattle.dover_model.proofs.Spending.{so_far_for, spent_few, spent_on, spent_more, open_falls, open_pays}
-use Rattle.dover_model.specs.Leading.{Idles}
+use Rattle.dover_model.proofs.steps.Kept.{open_kept}
+use Rattle.dover_model.proofs.steps.Roles.{is_over_role, passes}
+use Rattle.dover_model.specs.Spending.{exits_freely}
+use Rattle.dover_model.proofs.runs.WaitingMoves.{open_leaves}
+use Rattle.dover_model.proofs.runs.Spending.{so_far_for, spent_few, spent_on, spent_more, open_falls, open_pays}
 use Rattle.waiting_pool.specs.Reordered.{IsReordered}
 use Rattle.ready_jobs.specs.Parts.{Parted, HaveRoles, ready_of, state_of}
 use Rattle.ready_jobs.specs.Changed.{Leaves}
@@ -40,7 +29,7 @@ use Rattle.ready_jobs.specs.Spending.{HasPaid, HasPaidFreely}
 use Rattle.ready_jobs.proofs.Costing.{sum_ready, over_not_waiting, fewer_wait, cost_whole}
 use Rattle.ready_jobs.proofs.Courses.{follows_count, follows_fewer, follows_part, follows_step, course_takes}
 use Rattle.ready_jobs.proofs.Seeing.{waiting_list}
-use Rattle.dover_model.proofs.ReadyParts.{change}
+use Rattle.dover_model.proofs.steps.ReadyParts.{change}
 
 -- ---- in all
 

@@ -1,20 +1,14 @@
 -- The view of jobs in another order.
-use Rattle.std.proofs.Common.{◌≡◌, ℕ, ◌+◌, ◌-◌, List, map, sym, ap, ◌∙◌, Bool, true, false}
-use Rattle.std.proofs.Common.{nat_lt}
-use Rattle.std.specs.List.{filter, sum_by}
+use Rattle.std.proofs.Common.{◌≡◌, ℕ, ◌+◌, ◌-◌, List, map, sym, ap, ◌∙◌, Bool, true, false, nat_lt, filter, sum_by}
 use Rattle.dover_model.specs.declared.events.Version.{Version}
 use Rattle.dover_model.specs.declared.events.Entry.{Entry}
 use Rattle.dover_model.specs.declared.events.Task.{Task}
-use Rattle.dover_model.specs.Entries.{IsStrictOrder, entry_of, is_due_before, is_start_before}
-use Rattle.dover_model.specs.Instance.{Rules}
-use Rattle.dover_model.specs.State.{State, is_coming, is_fresh, is_waiting, is_held, is_running, is_privileged, left}
-use Rattle.dover_model.specs.State.{least, demand_up_to, room}
-use Rattle.dover_model.specs.Orders.{first}
-use Rattle.dover_model.specs.Step.{view, open_step, is_at_latest_start}
-use Rattle.dover_model.specs.Sound.{Each, EachTwo}
-use Rattle.dover_model.proofs.EntryOrders.{strict_by}
-use Rattle.dover_model.proofs.Members.{map_same, member_filter}
-use Rattle.dover_model.proofs.Tests.{never}
+use Rattle.dover_model.specs.Common.{IsStrictOrder, entry_of, is_due_before, is_start_before, Rules, State, is_coming}
+use Rattle.dover_model.specs.Common.{is_fresh, is_waiting, is_held, is_running, is_privileged, left, least}
+use Rattle.dover_model.specs.Common.{demand_up_to, room, first, view, open_step, is_at_latest_start, Each, EachTwo}
+use Rattle.dover_model.proofs.steps.EntryOrders.{strict_by}
+use Rattle.dover_model.proofs.lists.Members.{map_same, member_filter}
+use Rattle.dover_model.proofs.lists.Tests.{never}
 use Rattle.waiting_pool.specs.Reordered.{IsReordered}
 use Rattle.waiting_pool.specs.Pools.{HaveOwnNumbers}
 use Rattle.waiting_pool.proofs.Pooling.{apart_or_one}

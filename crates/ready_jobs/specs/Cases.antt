@@ -1,12 +1,10 @@
 -- The cases of a step, of a view.
 use Rattle.std.specs.Prelude.{Option, Some, None, if◌then◌else◌}
 use Rattle.dover_model.specs.declared.events.Task.{Task}
-use Rattle.dover_model.specs.Step.{View, resumed, view, Move, Prints, Waits, preempts, arrival}
+use Rattle.dover_model.specs.Common.{View, resumed, view, Move, Prints, Waits, preempts, arrival, State, Fraction}
+use Rattle.dover_model.specs.Common.{is_heavy}
 use Rattle.dover_model.specs.declared.events.Version.{Version}
-use Rattle.dover_model.specs.State.{State}
 use Rattle.dover_model.specs.declared.events.Event.TheVariants.{Preempt, Take, Abandon}
-use Rattle.dover_model.specs.Fraction.{Fraction}
-use Rattle.dover_model.specs.Orders.{is_heavy}
 
 -- of the first held and the first waiting job, the one that gets the processor
 abbrev pub next_of : View → Option Task → Option Task → Option Task

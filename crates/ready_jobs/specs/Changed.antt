@@ -1,13 +1,9 @@
 -- What a step makes of the ready jobs.
-use Rattle.std.specs.Prelude.{[], ◌≡◌, ◌≤◌, ◌==◌, ℕ, List, map, if◌then◌else◌}
-use Rattle.std.specs.List.{filter, sum_by}
+use Rattle.std.specs.Prelude.{[], ◌≡◌, ◌≤◌, ◌==◌, ℕ, List, map, if◌then◌else◌, filter, sum_by}
 use Rattle.dover_model.specs.declared.events.Event.{Event}
 use Rattle.dover_model.specs.declared.events.Role.TheVariants.{Waiting}
 use Rattle.dover_model.specs.declared.events.Task.{Task}
-use Rattle.dover_model.specs.Fraction.{Fraction}
-use Rattle.dover_model.specs.State.{is_done, value_sum}
-use Rattle.dover_model.specs.Step.{Prints, open_step, with_role, role_after}
-use Rattle.dover_model.specs.Ready.{is_ready}
+use Rattle.dover_model.specs.Common.{Fraction, is_done, value_sum, Prints, open_step, with_role, role_after, is_ready}
 use Rattle.waiting_pool.specs.Reordered.{IsReordered}
 use Rattle.ready_jobs.specs.Parts.{Parted, state_of}
 

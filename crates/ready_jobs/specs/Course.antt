@@ -1,29 +1,20 @@
 -- A run of the jobs that were released so far: what is kept of it, and what that says.
 use Rattle.std.specs.Prelude.{◌≡◌, ◌≤◌, ◌+◌, ℕ, List, [], ◌∷◌, ◌++◌, length, ◌&&◌, nat_le, false, true, Option, Some}
-use Rattle.std.specs.Prelude.{None, option_map}
-use Rattle.std.specs.List.{filter}
-use Rattle.dover_model.specs.Limits.{last_tick}
+use Rattle.std.specs.Prelude.{None, option_map, filter}
+use Rattle.dover_model.specs.Common.{last_tick, Fraction, JobFacts, Declaration, under, bare, Instance, IsValid}
+use Rattle.dover_model.specs.Common.{with_finishes, State, is_coming, is_done, running, value_sum, state_at, Move}
+use Rattle.dover_model.specs.Common.{Prints, open_step, after, view, AreOwn, Step, waits_for_mark, AreOverFor}
+use Rattle.dover_model.specs.Common.{finish_now, Each, Keeps, IsBefore, Idles, IsSilent, GoesOn, WaitsUntil, PrintsNext}
+use Rattle.dover_model.specs.Common.{is_ready}
 use Rattle.dover_model.specs.declared.events.Event.{Event}
 use Rattle.dover_model.specs.declared.events.Event.TheVariants as event
 use Rattle.dover_model.specs.declared.events.Role.TheVariants.{Fresh}
 use Rattle.dover_model.specs.declared.events.Task.{Task}
-use Rattle.dover_model.specs.Fraction.{Fraction}
-use Rattle.dover_model.specs.JobFacts.{JobFacts}
-use Rattle.dover_model.specs.Instance.{Declaration, under, bare, Instance, IsValid, with_finishes}
-use Rattle.dover_model.specs.State.{State, is_coming, is_done, running, value_sum, state_at}
-use Rattle.dover_model.specs.Step.{Move, Prints, open_step, after, view}
-use Rattle.dover_model.specs.Rest.{AreOwn}
-use Rattle.dover_model.specs.Run.{Step}
-use Rattle.dover_model.specs.Settled.{waits_for_mark, AreOverFor, finish_now}
-use Rattle.dover_model.specs.Sound.{Each, Keeps}
-use Rattle.dover_model.specs.WholeRun.{IsBefore}
-use Rattle.dover_model.specs.Leading.{Idles, IsSilent, GoesOn, WaitsUntil, PrintsNext}
-use Rattle.dover_model.specs.Ready.{is_ready}
 use Rattle.waiting_pool.specs.Reordered.{IsReordered}
 use Rattle.ready_jobs.specs.Cases.{next_ready}
 use Rattle.ready_jobs.specs.Parts.{Parted, ready_of}
 use Rattle.ready_jobs.specs.Deeds.{Finds, step_at}
-use Rattle.ready_jobs.specs.declared.deeds.Deed.{Deed}
+use Rattle.ready_jobs.specs.declared.actions.Action.{Action}
 
 -- what is kept of a run: the clock, the jobs that aren't over, in no told order, how many there are in all, what those
 -- done are worth, and how many ready jobs there is room for
@@ -153,7 +144,7 @@ abbrev pub Runs : Course → (number : ℕ) → Type 0
 Runs c number = (J : Instance) (z : State) → Follows c J z → (r : Task) × (running z ≡ Some r) × (r.number ≡ number)
 
 -- the deed is the open step of the ready jobs, which prints e
-pub record IsDue (c : Course) (deed : Deed) (e : Event) : Type 0 where
+pub record IsDue (c : Course) (deed : Action) (e : Event) : Type 0 where
   pub prints : step_at c.clock deed ≡ Prints e
   pub opens : open_step (under c.rules []) (state_at c.clock c.ready) ≡ Prints e
   pub finds : Finds (view c.rules.version (state_at c.clock c.ready)) deed

@@ -1,6 +1,5 @@
 -- How many silent ticks come before something is due.
-use Rattle.std.specs.Prelude.{ℕ, ◌-◌, min, nat_le, if◌then◌else◌, Option, Some, None}
-use Rattle.std.specs.List.{fold, find}
+use Rattle.std.specs.Prelude.{ℕ, ◌-◌, min, nat_le, if◌then◌else◌, Option, Some, None, fold, find}
 use Rattle.dover_model.specs.declared.events.Task.{Task}
 use Rattle.dover_model.specs.State.{left, latest_start, State, is_coming, running, waiting}
 

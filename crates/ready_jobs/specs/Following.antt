@@ -1,13 +1,7 @@
 -- The ready jobs of a whole run.
-use Rattle.std.specs.Prelude.{[], ◌≡◌, ℕ, List, false}
-use Rattle.std.specs.List.{filter}
-use Rattle.dover_model.specs.Fraction.{Fraction}
-use Rattle.dover_model.specs.Instance.{Rules, Instance, IsValid}
-use Rattle.dover_model.specs.State.{State, is_coming, is_done, value_sum}
-use Rattle.dover_model.specs.Run.{Step}
-use Rattle.dover_model.specs.Sound.{Each, Keeps}
-use Rattle.dover_model.specs.Leading.{Settles}
-use Rattle.dover_model.specs.Ready.{is_ready}
+use Rattle.std.specs.Prelude.{[], ◌≡◌, ℕ, List, false, filter}
+use Rattle.dover_model.specs.Common.{Fraction, Rules, Instance, IsValid, State, is_coming, is_done, value_sum, Step}
+use Rattle.dover_model.specs.Common.{Each, Keeps, Settles, is_ready}
 use Rattle.waiting_pool.specs.Reordered.{IsReordered}
 use Rattle.ready_jobs.specs.Parts.{Parted, ready_of}
 

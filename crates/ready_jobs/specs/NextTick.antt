@@ -2,9 +2,7 @@
 use Rattle.std.specs.Prelude.{◌≡◌, ℕ, [], false}
 use Rattle.dover_model.specs.declared.events.Event.{Event}
 use Rattle.dover_model.specs.declared.events.Role.TheVariants.{Fresh}
-use Rattle.dover_model.specs.Step.{Prints}
-use Rattle.dover_model.specs.Run.{is_end}
-use Rattle.dover_model.specs.Sound.{Each, NoneRuns}
+use Rattle.dover_model.specs.Common.{Prints, is_end, Each, NoneRuns}
 use Rattle.ready_jobs.specs.Course.{Course, ComesNext}
 
 -- no ready job is fresh, and one runs where any is ready

@@ -5,11 +5,8 @@ use Rattle.dover_model.specs.declared.events.Version.{Version}
 use Rattle.dover_model.specs.declared.events.Task.{Task}
 use Rattle.dover_model.specs.declared.events.Role.{Role}
 use Rattle.dover_model.specs.declared.events.Role.TheVariants.{Fresh, Waiting, Held, Running}
-use Rattle.dover_model.specs.Limits.{most_ready}
-use Rattle.dover_model.specs.Entries.{entry_of}
-use Rattle.dover_model.specs.State.{State, latest_start, value_sum}
-use Rattle.dover_model.specs.Sound.{Each}
-use Rattle.held_queue.specs.Kept.{Lasting, AreRoomsOf}
+use Rattle.dover_model.specs.Common.{most_ready, entry_of, State, latest_start, value_sum, Each}
+use Rattle.held_stack.specs.Kept.{Lasting, AreRoomsOf}
 use Rattle.waiting_pool.specs.Pools.{Pooled, HaveOwnNumbers, AreModest}
 use Rattle.waiting_pool.specs.Short.{no_number}
 

@@ -1,8 +1,6 @@
 -- What the comparisons of a course are for.
-use Rattle.std.specs.Prelude.{ℕ, ◌≤◌, ◌<◌, ◌+◌, ◌*◌, ◌^◌, List, length, Option, Some, None}
-use Rattle.dover_model.specs.State.{state_at, is_held}
-use Rattle.dover_model.specs.Spending.{HasSpentFor, HasSpentFreely}
-use Rattle.std.specs.List.{filter}
+use Rattle.std.specs.Prelude.{ℕ, ◌≤◌, ◌<◌, ◌+◌, ◌*◌, ◌^◌, List, length, Option, Some, None, filter}
+use Rattle.dover_model.specs.Common.{state_at, is_held, HasSpentFor, HasSpentFreely}
 use Rattle.dover_model.specs.declared.events.Event.{Event}
 use Rattle.dover_model.specs.declared.events.Event.TheVariants.{Take}
 use Rattle.dover_model.specs.declared.events.Task.{Task}

@@ -2,18 +2,17 @@
 ghost use Rattle.std.specs.Prelude.{◌≡◌, ℕ, ◌+◌, ◌*◌, ◌^◌, ◌<◌, ◌≤◌, length};
 ghost use Rattle.dover_model.specs.declared.events.Event.{Event};
 ghost use Rattle.dover_model.specs.declared.events.Event.TheVariants.{Run, Preempt, Take, Complete, Abandon};
-ghost use Rattle.dover_model.specs.Step.{Prints, view};
-ghost use Rattle.dover_model.specs.Spending.{cost_of};
+ghost use Rattle.dover_model.specs.Common.{Prints, view, cost_of};
 ghost use Rattle.ready_jobs.specs.Parts.{AreSound, ready_of, state_of};
 ghost use Rattle.ready_jobs.specs.Changed.{AreOnce, Leaves, IsNext, printed};
 ghost use Rattle.ready_jobs.specs.Deeds.{Finds, Does};
 ghost use Rattle.ready_jobs.specs.Spending.{wait_again};
-ghost use Rattle.ready_jobs.specs.declared.deeds.Deed.TheVariants.{Resume, Start, Begin};
+ghost use Rattle.ready_jobs.specs.declared.actions.Action.TheVariants.{Resume, Start, Begin};
 
-use crate::deeds::Deed;
+use crate::actions::Action;
 use crate::parts::Parts;
+use comparison_count::Comparisons;
 use std::sync::ledger::Ledger;
-use step_count::Steps;
 
 impl Parts {
     // The running job is done. Answers its value.
@@ -53,7 +52,7 @@ impl Parts {
 
     // The first waiting job by deadline runs.
     #[inline(always)]
-    fn start_next<L: Ledger>(&mut self, number: u32, steps: &mut Steps<L>)
+    fn start_next<L: Ledger>(&mut self, number: u32, comparisons: &mut Comparisons<L>)
         requires sound { AreSound self.old }
         requires once { AreOnce (ready_of self.old) }
         requires next { (at : ℕ) × IsNext self.old (Run at number) }
@@ -61,11 +60,11 @@ impl Parts {
         ensures leaves { (at : ℕ) → Leaves (printed (Run at number)) (ready_of self.old) (ready_of self.new) 0 }
         ensures kept { self.new ≡ record self.old { running = self.new.running; waiting = self.new.waiting } }
         ensures cost { (at d : ℕ) → length (ready_of self.old) + 1 < 2 ^ d →
-            steps.new ≤ steps.old + cost_of d (state_of self.old) (Prints (Run at number)) }
-        ensures once { (d : ℕ) → length (ready_of self.old) + 1 < 2 ^ d → steps.new ≤ steps.old + 6 * d }
+            comparisons.new ≤ comparisons.old + cost_of d (state_of self.old) (Prints (Run at number)) }
+        ensures once { (d : ℕ) → length (ready_of self.old) + 1 < 2 ^ d → comparisons.new ≤ comparisons.old + 6 * d }
     {
         self.laws();
-        self.start(steps);
+        self.start(comparisons);
     }
 
     // The fresh job runs.
@@ -104,7 +103,7 @@ impl Parts {
     }
 
     // A waiting job takes the processor from the running one.
-    fn take_next<L: Ledger>(&mut self, stops: u32, starts: u32, steps: &mut Steps<L>)
+    fn take_next<L: Ledger>(&mut self, stops: u32, starts: u32, comparisons: &mut Comparisons<L>)
         requires sound { AreSound self.old }
         requires once { AreOnce (ready_of self.old) }
         requires next { (at : ℕ) × IsNext self.old (Take at stops starts) }
@@ -115,43 +114,43 @@ impl Parts {
           waiting = self.new.waiting;
         } }
         ensures cost { (at d : ℕ) → length (ready_of self.old) + 1 < 2 ^ d →
-            steps.new ≤ steps.old + cost_of d (state_of self.old) (Prints (Take at stops starts)) }
+            comparisons.new ≤ comparisons.old + cost_of d (state_of self.old) (Prints (Take at stops starts)) }
         ensures once { (d : ℕ) → length (ready_of self.old) + 1 < 2 ^ d →
-            steps.new ≤ steps.old + 6 * d + 2 * d * (length self.old.held + 1) }
+            comparisons.new ≤ comparisons.old + 6 * d + 2 * d * (length self.old.held + 1) }
     {
         self.laws();
         if let Some(r) = self.running() {
             if let Some(x) = self.first_late() {
                 let x = x.task();
-                self.take(&r, &x, steps);
+                self.take(&r, &x, comparisons);
             }
         }
     }
 
     // A waiting job is gone.
     #[inline(always)]
-    fn abandon_next<L: Ledger>(&mut self, number: u32, steps: &mut Steps<L>)
+    fn abandon_next<L: Ledger>(&mut self, number: u32, comparisons: &mut Comparisons<L>)
         requires sound { AreSound self.old }
         requires once { AreOnce (ready_of self.old) }
         requires next { (at : ℕ) × IsNext self.old (Abandon at number) }
         ensures leaves { (at : ℕ) → Leaves (printed (Abandon at number)) (ready_of self.old) (ready_of self.new) 0 }
         ensures kept { self.new ≡ record self.old { waiting = self.new.waiting } }
         ensures cost { (at d : ℕ) → length (ready_of self.old) + 1 < 2 ^ d →
-            steps.new ≤ steps.old + cost_of d (state_of self.old) (Prints (Abandon at number)) }
-        ensures once { (d : ℕ) → length (ready_of self.old) + 1 < 2 ^ d → steps.new ≤ steps.old + 6 * d }
+            comparisons.new ≤ comparisons.old + cost_of d (state_of self.old) (Prints (Abandon at number)) }
+        ensures once { (d : ℕ) → length (ready_of self.old) + 1 < 2 ^ d → comparisons.new ≤ comparisons.old + 6 * d }
     {
         self.laws();
-        self.abandon(steps);
+        self.abandon(comparisons);
     }
 
     /// Takes the deed that comes now, which is printed, and answers the value of the job that it completes, 0 where
     /// none is.
     #[inline(always)]
-    pub fn apply<L: Ledger>(&mut self, deed: Deed, steps: &mut Steps<L>) -> u64
+    pub fn apply<L: Ledger>(&mut self, action: Action, comparisons: &mut Comparisons<L>) -> u64
         requires sound { AreSound self.old }
         requires once { AreOnce (ready_of self.old) }
-        requires does { (e : Event) × Does self.old deed e }
-        ensures leaves { (e : Event) → Does self.old deed e →
+        requires does { (e : Event) × Does self.old action e }
+        ensures leaves { (e : Event) → Does self.old action e →
             Leaves (printed e) (ready_of self.old) (ready_of self.new) result }
         ensures kept { self.new ≡ record self.old {
           running = self.new.running;
@@ -160,20 +159,20 @@ impl Parts {
           waiting = self.new.waiting;
         } }
         ensures fewer { length (ready_of self.new) ≤ length (ready_of self.old) }
-        ensures cost { (e : Event) (d : ℕ) → Does self.old deed e → length (ready_of self.old) + 1 < 2 ^ d →
-            steps.new ≤ steps.old + cost_of d (state_of self.old) (Prints e) }
-        ensures once { (e : Event) (d : ℕ) → Does self.old deed e → length (ready_of self.old) + 1 < 2 ^ d →
-            steps.new ≤ steps.old + 2 * d * (4 + wait_again e self.old.held) }
+        ensures cost { (e : Event) (d : ℕ) → Does self.old action e → length (ready_of self.old) + 1 < 2 ^ d →
+            comparisons.new ≤ comparisons.old + cost_of d (state_of self.old) (Prints e) }
+        ensures once { (e : Event) (d : ℕ) → Does self.old action e → length (ready_of self.old) + 1 < 2 ^ d →
+            comparisons.new ≤ comparisons.old + 2 * d * (4 + wait_again e self.old.held) }
     {
-        match deed {
-            Deed::Resume { number } => self.resume_next(number),
-            Deed::Start { number } => self.start_next(number, steps),
-            Deed::Begin { number } => self.begin_next(number),
-            Deed::Preempt { stops, starts } => self.preempt_next(stops, starts),
-            Deed::Take { stops, starts } => self.take_next(stops, starts, steps),
-            Deed::Complete { number } => return self.complete_next(number),
-            Deed::Abandon { number } => self.abandon_next(number, steps),
-            Deed::Wait { .. } | Deed::Tick => unreachable!(),
+        match action {
+            Action::Resume { number } => self.resume_next(number),
+            Action::Start { number } => self.start_next(number, comparisons),
+            Action::Begin { number } => self.begin_next(number),
+            Action::Preempt { stops, starts } => self.preempt_next(stops, starts),
+            Action::Take { stops, starts } => self.take_next(stops, starts, comparisons),
+            Action::Complete { number } => return self.complete_next(number),
+            Action::Abandon { number } => self.abandon_next(number, comparisons),
+            Action::Wait { .. } | Action::Tick => unreachable!(),
         }
         0
     }

@@ -1,7 +1,6 @@
 //! The held jobs: a stack whose top is its last one.
-ghost use Rattle.std.specs.Prelude.{◌≡◌, ◌↔◌, ◌<◌, ◌+◌, [], ◌∷◌, ◌++◌, length, reverse, vec_len, vec_capacity};
-ghost use Rattle.std.specs.Prelude.{IsSome, MatchOption};
-ghost use Rattle.std.specs.Option.{option_to_list};
+ghost use Rattle.std.specs.Prelude.{◌≡◌, ◌↔◌, ◌<◌, ◌+◌, [], ◌∷◌, ◌++◌, length, reverse, vec_len, vec_capacity, IsSome};
+ghost use Rattle.std.specs.Prelude.{MatchOption, option_to_list};
 ghost use Rattle.ready_jobs.specs.Parts.{head_of};
 ghost use Rattle.waiting_pool.specs.Slots.{seen};
 

@@ -5,15 +5,10 @@ ghost use Rattle.std.specs.List.{filter, find};
 ghost use Rattle.std.specs.Option.{option_to_list, ForSome};
 ghost use Rattle.dover_model.specs.declared.events.Role.TheVariants.{Fresh, Waiting, Held, Running};
 ghost use Rattle.dover_model.specs.declared.events.Task.{Task};
-ghost use Rattle.dover_model.specs.Limits.{most_ready, last_tick};
-ghost use Rattle.dover_model.specs.Entries.{entry_of};
-ghost use Rattle.dover_model.specs.Fraction.{IsRatio};
-ghost use Rattle.dover_model.specs.State.{is_fresh, is_coming, is_waiting, running, held, waiting, privileged, room};
-ghost use Rattle.dover_model.specs.State.{left, latest_start, value_sum};
-ghost use Rattle.dover_model.specs.Orders.{due_first, starts_before, first};
-ghost use Rattle.dover_model.specs.Step.{open_step, view, with_role, is_at_latest_start, resumed, runs, displaced};
-ghost use Rattle.dover_model.specs.Jumps.{ticked_by};
-ghost use Rattle.dover_model.specs.Sound.{Each};
+ghost use Rattle.dover_model.specs.Common.{most_ready, last_tick, entry_of, IsRatio, is_fresh, is_coming, is_waiting};
+ghost use Rattle.dover_model.specs.Common.{running, held, waiting, privileged, room, left, latest_start, value_sum};
+ghost use Rattle.dover_model.specs.Common.{due_first, starts_before, first, open_step, view, with_role};
+ghost use Rattle.dover_model.specs.Common.{is_at_latest_start, resumed, runs, displaced, ticked_by, Each};
 ghost use Rattle.ready_jobs.specs.Cases.{decision_of, alarm_of, next_ready};
 ghost use Rattle.ready_jobs.specs.Dues.{still_ticks, until_done};
 ghost use Rattle.ready_jobs.specs.Changed.{made_wait};
@@ -23,16 +18,16 @@ ghost use Rattle.waiting_pool.specs.Short.{no_number};
 ghost use Rattle.waiting_pool.specs.Slots.{seen};
 ghost use Rattle.ready_jobs.specs.Parts.{Parted, AreSound, HaveRoles, ready_of, state_of, head_of, tail_of};
 
-use crate::deeds::Deed;
+use crate::actions::Action;
 use crate::held::{peek, pop, push};
 use crate::taking::{displace, in_role};
+use comparison_count::Comparisons;
 use dover_model::{Entry, Job, Memory, Ratio, Role, Task, Version};
-use held_queue::Rooms;
+use held_stack::Rooms;
 use root_compare::heavy;
 use std::alloc::Global;
 use std::marker::Model;
 use std::sync::ledger::Ledger;
-use step_count::Steps;
 use waiting_pool::{Pool, ShortTask, left};
 
 /// The ready jobs by their roles. Those that wait are in a pool, the held ones on a stack with their rooms.
@@ -258,7 +253,7 @@ impl Parts {
 
     // The fresh job f preempts the running job r, or waits.
     #[inline(always)]
-    fn decision(&self, r: &Task, f: &Task) -> Deed
+    fn decision(&self, r: &Task, f: &Task) -> Action
         requires sound { AreSound self.now }
         requires running { self.now.running ≡ Some r.now }
         ensures is { step_at self.now.clock result
@@ -266,18 +261,18 @@ impl Parts {
         ensures finds { Finds (view self.now.version (state_of self.now)) result }
     {
         if f.job.deadline() < r.job.deadline() && f.job.work() <= self.room_busy(r) {
-            Deed::Preempt {
+            Action::Preempt {
                 stops: r.number,
                 starts: f.number,
             }
         } else {
-            Deed::Wait { number: f.number }
+            Action::Wait { number: f.number }
         }
     }
 
     // The job x takes the processor from the running job r, or is abandoned.
     #[inline(always)]
-    fn alarm(&self, k: &Ratio, r: &Task, x: &ShortTask) -> Deed
+    fn alarm(&self, k: &Ratio, r: &Task, x: &ShortTask) -> Action
         requires sound { AreSound self.now }
         requires running { self.now.running ≡ Some r.now }
         ensures is { step_at self.now.clock result
@@ -285,18 +280,18 @@ impl Parts {
         ensures finds { Finds (view self.now.version (state_of self.now)) result }
     {
         if heavy(x.value(), self.value_busy(r), *k) {
-            Deed::Take {
+            Action::Take {
                 stops: r.number,
                 starts: x.number(),
             }
         } else {
-            Deed::Abandon { number: x.number() }
+            Action::Abandon { number: x.number() }
         }
     }
 
     // The next step while r runs.
     #[inline(always)]
-    fn busy_step(&self, k: &Ratio, r: &Task) -> Deed
+    fn busy_step(&self, k: &Ratio, r: &Task) -> Action
         requires sound { AreSound self.now }
         requires running { self.now.running ≡ Some r.now }
         requires runs { running (state_of self.now) ≡ Some r.now }
@@ -305,7 +300,7 @@ impl Parts {
         ensures finds { Finds (view self.now.version (state_of self.now)) result }
     {
         if left(r) == 0 {
-            return Deed::Complete { number: r.number };
+            return Action::Complete { number: r.number };
         }
         if let Some(f) = self.fresh() {
             return self.decision(r, &f);
@@ -314,13 +309,13 @@ impl Parts {
         self.laws();
         match self.first_late() {
             Some(x) => self.alarm(k, r, x),
-            None => Deed::Tick,
+            None => Action::Tick,
         }
     }
 
     // While p is held: the first waiting job runs, if it is due before p and fits the room of the held jobs, else p.
     #[inline(always)]
-    fn resumed(&self, p: &ShortTask) -> Deed
+    fn resumed(&self, p: &ShortTask) -> Action
         requires sound { AreSound self.now }
         requires held { (view self.now.version (state_of self.now)).first_held ≡ Some p.now }
         ensures is { let v = view self.now.version (state_of self.now) in
@@ -329,9 +324,9 @@ impl Parts {
     {
         match self.first_waiting() {
             Some(o) if o.deadline() < p.deadline() && o.left() <= self.room_held() => {
-                Deed::Start { number: o.number() }
+                Action::Start { number: o.number() }
             }
-            _ => Deed::Resume { number: p.number() },
+            _ => Action::Resume { number: p.number() },
         }
     }
 
@@ -374,7 +369,7 @@ impl Parts {
 
     // The next step while no job runs.
     #[inline(always)]
-    fn free_step(&self, k: &Ratio) -> Deed
+    fn free_step(&self, k: &Ratio) -> Action
         requires sound { AreSound self.now }
         requires free { running (state_of self.now) ≡ None }
         ensures is { step_at self.now.clock result
@@ -387,19 +382,19 @@ impl Parts {
             return self.resumed(p);
         }
         if let Some(o) = self.first_waiting() {
-            return Deed::Start { number: o.number() };
+            return Action::Start { number: o.number() };
         }
         if let Some(f) = self.fresh() {
-            return Deed::Begin { number: f.number };
+            return Action::Begin { number: f.number };
         }
         // That no job is to come is known by the laws.
         self.laws();
-        Deed::Tick
+        Action::Tick
     }
 
     /// The next step where further jobs may come.
     #[inline(always)]
-    pub fn open_step(&self, k: &Ratio) -> Deed
+    pub fn open_step(&self, k: &Ratio) -> Action
         requires { AreSound self.now }
         ensures is { step_at self.now.clock result
             ≡ open_step (record { ratio = k.now; version = self.now.version; finishes = [] }) (state_of self.now) }
@@ -495,7 +490,7 @@ impl Parts {
     }
 
     /// The first waiting job by deadline runs.
-    pub fn start<L: Ledger>(&mut self, steps: &mut Steps<L>)
+    pub fn start<L: Ledger>(&mut self, comparisons: &mut Comparisons<L>)
         requires sound { AreSound self.old }
         requires free { self.old.running ≡ None }
         ensures runs { self.new.running
@@ -503,9 +498,9 @@ impl Parts {
         ensures rest { (o : Task) → first (due_first self.old.version) self.old.waiting ≡ Some o →
             IsReordered self.old.waiting (o ∷ self.new.waiting) }
         ensures kept { self.new ≡ record self.old { running = self.new.running; waiting = self.new.waiting } }
-        ensures count { (d : ℕ) → length self.old.waiting + 1 < 2 ^ d → steps.new ≤ steps.old + 6 * d }
+        ensures count { (d : ℕ) → length self.old.waiting + 1 < 2 ^ d → comparisons.new ≤ comparisons.old + 6 * d }
     {
-        if let Some(o) = self.pool.take_deadline(steps) {
+        if let Some(o) = self.pool.take_deadline(comparisons) {
             self.running = Some(in_role(&o, Role::Running));
         }
     }
@@ -526,25 +521,25 @@ impl Parts {
     }
 
     /// The fresh job f waits.
-    pub fn stay<L: Ledger>(&mut self, f: &Task, steps: &mut Steps<L>)
+    pub fn stay<L: Ledger>(&mut self, f: &Task, comparisons: &mut Comparisons<L>)
         requires fresh { self.old.fresh ≡ Some f.now }
         ensures waits { IsReordered (with_role f.now Waiting ∷ self.old.waiting) self.new.waiting }
         ensures kept { self.new ≡ record self.old { fresh = None; waiting = self.new.waiting } }
-        ensures count { (d : ℕ) → length self.old.waiting + 1 < 2 ^ d → steps.new ≤ steps.old + 2 * d }
+        ensures count { (d : ℕ) → length self.old.waiting + 1 < 2 ^ d → comparisons.new ≤ comparisons.old + 2 * d }
     {
         self.fresh = None;
-        self.pool.add(in_role(f, Role::Waiting), steps);
+        self.pool.add(in_role(f, Role::Waiting), comparisons);
     }
 
     /// The first waiting job by latest start is taken out, and gone.
-    pub fn abandon<L: Ledger>(&mut self, steps: &mut Steps<L>)
+    pub fn abandon<L: Ledger>(&mut self, comparisons: &mut Comparisons<L>)
         requires sound { AreSound self.old }
         ensures rest { (x : Task) → first (starts_before self.old.version) self.old.waiting ≡ Some x →
             IsReordered self.old.waiting (x ∷ self.new.waiting) }
         ensures kept { self.new ≡ record self.old { waiting = self.new.waiting } }
-        ensures count { (d : ℕ) → length self.old.waiting + 1 < 2 ^ d → steps.new ≤ steps.old + 6 * d }
+        ensures count { (d : ℕ) → length self.old.waiting + 1 < 2 ^ d → comparisons.new ≤ comparisons.old + 6 * d }
     {
-        self.pool.take_latest(steps);
+        self.pool.take_latest(comparisons);
     }
 
     /// A job comes, and is fresh.
@@ -586,7 +581,7 @@ impl Parts {
     }
 
     /// The job x, of those that wait the first by latest start, runs. The running job r and all held ones wait.
-    pub fn take<L: Ledger>(&mut self, r: &Task, x: &Task, steps: &mut Steps<L>)
+    pub fn take<L: Ledger>(&mut self, r: &Task, x: &Task, comparisons: &mut Comparisons<L>)
         requires sound { AreSound self.old }
         requires running { self.old.running ≡ Some r.now }
         requires late { first (starts_before self.old.version) self.old.waiting ≡ Some x.now }
@@ -598,11 +593,11 @@ impl Parts {
           waiting = self.new.waiting;
         } }
         ensures count { (d : ℕ) → length (ready_of self.old) + 1 < 2 ^ d →
-            steps.new ≤ steps.old + 6 * d + 2 * d * (length self.old.held + 1) }
+            comparisons.new ≤ comparisons.old + 6 * d + 2 * d * (length self.old.held + 1) }
     {
-        self.pool.take_latest(steps);
-        self.pool.add(in_role(r, Role::Waiting), steps);
-        displace(&mut self.held, &mut self.pool, steps);
+        self.pool.take_latest(comparisons);
+        self.pool.add(in_role(r, Role::Waiting), comparisons);
+        displace(&mut self.held, &mut self.pool, comparisons);
         self.rooms.clear();
         self.running = Some(in_role(x, Role::Running));
     }

@@ -1,32 +1,28 @@
 //! The run of the jobs that were released so far, over those that are ready.
-ghost use Rattle.std.specs.Prelude.{◌≡◌, ◌≢◌, ◌↔◌, ◌≤◌, ◌<◌, ◌+◌, ◌*◌, ◌^◌, ◌∷◌, [], ◌++◌, ℕ, ◌&&◌, nat_le, min};
-ghost use Rattle.std.specs.Prelude.{max, length, true, false, IsTrue, IfOk, IsOk, OnOk, OnErr, IfSome, IsNone, Some};
-ghost use Rattle.std.specs.Prelude.{None, option_map};
+ghost use Rattle.std.specs.Prelude.{◌≡◌, ◌≢◌, ◌↔◌, ◌≤◌, ◌<◌, ◌+◌, ◌*◌, ◌^◌, ◌∷◌, [], ◌++◌, ℕ, ◌&&◌, nat_le, min, max};
+ghost use Rattle.std.specs.Prelude.{length, true, false, IsTrue, IfOk, IsOk, OnOk, OnErr, IfSome, IsNone, Some, None};
+ghost use Rattle.std.specs.Prelude.{option_map, filter};
 ghost use Rattle.dover_model.specs.declared.events.Event.{Event};
 ghost use Rattle.dover_model.specs.declared.events.Event.TheVariants.{End};
-ghost use Rattle.dover_model.specs.Limits.{last_tick, most_jobs, most_ready, most_total};
+ghost use Rattle.dover_model.specs.Common.{last_tick, most_jobs, most_ready, most_total, Instance, under, State};
+ghost use Rattle.dover_model.specs.Common.{state_at, is_held, Prints, open_step, view, waits_for_mark};
 ghost use Rattle.dover_model.specs.declared.events.Version.TheVariants.{Three};
-ghost use Rattle.dover_model.specs.Instance.{Instance, under};
-ghost use Rattle.std.specs.List.{filter};
-ghost use Rattle.dover_model.specs.State.{State, state_at, is_held};
-ghost use Rattle.dover_model.specs.Step.{Prints, open_step, view};
-ghost use Rattle.dover_model.specs.Settled.{waits_for_mark};
 ghost use Rattle.waiting_pool.specs.Reordered.{IsReordered};
 ghost use Rattle.ready_jobs.specs.Course.{Course, Follows, IsCourse, Reached, Settled, new_course, fresh_job, IsDue};
-ghost use Rattle.ready_jobs.specs.Course.{SettlesAt, StepsBefore, ComesNext, Passes, Takes, with_release};
-ghost use Rattle.ready_jobs.specs.Course.{Finishes, Runs, RunsNowhere, successor_of};
+ghost use Rattle.ready_jobs.specs.Course.{SettlesAt, StepsBefore, ComesNext, Passes, Takes, with_release, Finishes};
+ghost use Rattle.ready_jobs.specs.Course.{Runs, RunsNowhere, successor_of};
 ghost use Rattle.ready_jobs.specs.Deeds.{Finds, step_at};
 ghost use Rattle.ready_jobs.specs.NextTick.{IsUnderWay, PrintsAt};
 ghost use Rattle.ready_jobs.specs.Spending.{HasPaid, HasPaidFreely, CostsOnce, wait_again};
 
-use crate::deeds::{Deed, Due, event_at, prints};
+use crate::actions::{Action, DueStep, event_at, prints};
 use crate::parts::Parts;
+use comparison_count::Comparisons;
 use dover_model::jobs::LAST_TICK;
 use dover_model::{Event, Job, Memory, Ratio, Version};
 use std::alloc::Global;
 use std::marker::Model;
 use std::sync::ledger::Ledger;
-use step_count::Steps;
 
 /// For how many ready jobs there may be room.
 pub const MOST_READY: u32 = 1_000_000;
@@ -193,7 +189,7 @@ impl Ready {
 
     // Takes the silent steps up to the next printed one, or up to the barrier of the mark, and gives what comes there.
     #[inline(always)]
-    fn go_on<L: Ledger>(&mut self, mark: u64, steps: &mut Steps<L>) -> Deed
+    fn go_on<L: Ledger>(&mut self, mark: u64, comparisons: &mut Comparisons<L>) -> Action
         requires some { 0 < length self.old.ready }
         requires low { self.old.clock ≤ mark }
         requires known { mark ≤ last_tick }
@@ -205,47 +201,51 @@ impl Ready {
         ensures kept { self.new ≡ record self.old { clock = self.new.clock; ready = self.new.ready } }
         ensures fewer { length self.new.ready ≡ length self.old.ready }
         ensures low { self.new.clock ≤ mark }
-        ensures paid { (start : ℕ) → HasPaid self.old start steps.old → HasPaid self.new start steps.new }
-        ensures freely { (start : ℕ) → HasPaid self.old start steps.old
-            → (self.new.clock ≡ self.old.clock → HasPaidFreely self.old start steps.old)
-            → HasPaidFreely self.new start steps.new }
-        ensures once { (d : ℕ) → length self.old.ready + 1 < 2 ^ d → steps.new ≤ steps.old + 4 * d }
+        ensures paid { (start : ℕ) → HasPaid self.old start comparisons.old → HasPaid self.new start comparisons.new }
+        ensures freely { (start : ℕ) → HasPaid self.old start comparisons.old
+            → (self.new.clock ≡ self.old.clock → HasPaidFreely self.old start comparisons.old)
+            → HasPaidFreely self.new start comparisons.new }
+        ensures once { (d : ℕ) → length self.old.ready + 1 < 2 ^ d → comparisons.new ≤ comparisons.old + 4 * d }
         ensures held { filter is_held self.new.ready ≡ filter is_held self.old.ready }
     {
         self.parts.laws();
-        let deed = self.parts.settle(&self.ratio, mark, steps);
+        let action = self.parts.settle(&self.ratio, mark, comparisons);
         self.parts.laws();
-        deed
+        action
     }
 
     // Takes the silent steps up to the next printed one, which it gives, or up to the barrier of the mark.
     #[inline(always)]
-    fn due_before<L: Ledger>(&mut self, mark: u64, steps: &mut Steps<L>) -> Option<Due>
+    fn due_before<L: Ledger>(
+        &mut self,
+        mark: u64,
+        comparisons: &mut Comparisons<L>,
+    ) -> Option<DueStep>
         requires low { self.old.clock ≤ mark }
         requires known { mark ≤ last_tick }
         ensures settled { SettlesAt self.old mark self.new (option_map (λ due. due.event) result) }
-        ensures due { IfSome result (λ due. IsDue self.new due.deed due.event) }
+        ensures due { IfSome result (λ due. IsDue self.new due.action due.event) }
         ensures kept { self.new ≡ record self.old { clock = self.new.clock; ready = self.new.ready } }
         ensures fewer { length self.new.ready ≡ length self.old.ready }
         ensures low { self.new.clock ≤ mark }
-        ensures paid { (start : ℕ) → HasPaid self.old start steps.old → HasPaid self.new start steps.new }
-        ensures freely { (start : ℕ) → HasPaid self.old start steps.old
-            → (self.new.clock ≡ self.old.clock → HasPaidFreely self.old start steps.old)
-            → HasPaidFreely self.new start steps.new }
-        ensures once { (d : ℕ) → length self.old.ready + 1 < 2 ^ d → steps.new ≤ steps.old + 4 * d }
+        ensures paid { (start : ℕ) → HasPaid self.old start comparisons.old → HasPaid self.new start comparisons.new }
+        ensures freely { (start : ℕ) → HasPaid self.old start comparisons.old
+            → (self.new.clock ≡ self.old.clock → HasPaidFreely self.old start comparisons.old)
+            → HasPaidFreely self.new start comparisons.new }
+        ensures once { (d : ℕ) → length self.old.ready + 1 < 2 ^ d → comparisons.new ≤ comparisons.old + 4 * d }
         ensures held { filter is_held self.new.ready ≡ filter is_held self.old.ready }
     {
         if self.parts.is_empty() {
             return None;
         }
-        let deed = self.go_on(mark, steps);
+        let action = self.go_on(mark, comparisons);
         let clock = self.parts.clock();
-        match event_at(clock, deed) {
+        match event_at(clock, action) {
             Some(event) => {
                 if is_late_at(&event, mark, clock) {
                     None
                 } else {
-                    Some(Due { deed, event })
+                    Some(DueStep { action, event })
                 }
             }
             None => None,
@@ -254,58 +254,62 @@ impl Ready {
 
     // Takes the silent steps up to the next printed one, where some job is ready and no further one comes.
     #[inline(always)]
-    fn due_next<L: Ledger>(&mut self, steps: &mut Steps<L>) -> Due
+    fn due_next<L: Ledger>(&mut self, comparisons: &mut Comparisons<L>) -> DueStep
         requires some { 0 < length self.old.ready }
         ensures comes { ComesNext self.old self.new result.event }
-        ensures due { IsDue self.new result.deed result.event }
+        ensures due { IsDue self.new result.action result.event }
         ensures kept { self.new ≡ record self.old { clock = self.new.clock; ready = self.new.ready } }
         ensures fewer { length self.new.ready ≡ length self.old.ready }
-        ensures paid { (start : ℕ) → HasPaid self.old start steps.old → HasPaid self.new start steps.new }
-        ensures freely { (start : ℕ) → HasPaid self.old start steps.old
-            → (self.new.clock ≡ self.old.clock → HasPaidFreely self.old start steps.old)
-            → HasPaidFreely self.new start steps.new }
-        ensures once { (d : ℕ) → length self.old.ready + 1 < 2 ^ d → steps.new ≤ steps.old + 4 * d }
+        ensures paid { (start : ℕ) → HasPaid self.old start comparisons.old → HasPaid self.new start comparisons.new }
+        ensures freely { (start : ℕ) → HasPaid self.old start comparisons.old
+            → (self.new.clock ≡ self.old.clock → HasPaidFreely self.old start comparisons.old)
+            → HasPaidFreely self.new start comparisons.new }
+        ensures once { (d : ℕ) → length self.old.ready + 1 < 2 ^ d → comparisons.new ≤ comparisons.old + 4 * d }
         ensures held { filter is_held self.new.ready ≡ filter is_held self.old.ready }
     {
         self.parts.laws();
-        let deed = self.go_on(LAST_TICK, steps);
-        match event_at(self.parts.clock(), deed) {
-            Some(event) => Due { deed, event },
+        let action = self.go_on(LAST_TICK, comparisons);
+        match event_at(self.parts.clock(), action) {
+            Some(event) => DueStep { action, event },
             None => unreachable!(),
         }
     }
 
     // Takes the printed step that comes now.
     #[inline(always)]
-    fn take<L: Ledger>(&mut self, due: &Due, steps: &mut Steps<L>)
-        requires { IsDue self.old due.now.deed due.now.event }
+    fn take<L: Ledger>(&mut self, due: &DueStep, comparisons: &mut Comparisons<L>)
+        requires { IsDue self.old due.now.action due.now.event }
         ensures after { Passes self.old due.now.event self.new }
         ensures kept { self.new ≡ record self.old { ready = self.new.ready; done = self.new.done } }
         ensures fewer { length self.new.ready ≤ length self.old.ready }
-        ensures paid { (start : ℕ) → HasPaid self.old start steps.old → HasPaid self.new start steps.new }
+        ensures paid { (start : ℕ) → HasPaid self.old start comparisons.old → HasPaid self.new start comparisons.new }
         ensures once { (d : ℕ) → length self.old.ready + 1 < 2 ^ d →
-            steps.new ≤ steps.old + 2 * d * (4 + wait_again due.now.event (filter is_held self.old.ready)) }
+            comparisons.new ≤ comparisons.old + 2 * d * (4 + wait_again due.now.event (filter is_held self.old.ready)) }
     {
         self.parts.laws();
-        let worth = self.parts.apply(due.deed, steps);
+        let worth = self.parts.apply(due.action, comparisons);
         self.done += worth;
     }
 
     /// Takes the silent steps up to the next printed one, which it gives, or up to the barrier of the mark.
     #[inline(always)]
-    pub fn settle<L: Ledger>(&mut self, mark: u64, steps: &mut Steps<L>) -> Option<Event>
+    pub fn settle<L: Ledger>(
+        &mut self,
+        mark: u64,
+        comparisons: &mut Comparisons<L>,
+    ) -> Option<Event>
         requires low { self.old.clock ≤ mark }
         requires known { mark ≤ last_tick }
         ensures settled { (J : Instance) (z : State) → Follows self.old J z → Settled self.new J z mark result }
         ensures kept { self.new ≡ record self.old { clock = self.new.clock; ready = self.new.ready } }
         ensures fewer { length self.new.ready ≡ length self.old.ready }
         ensures low { self.new.clock ≤ mark }
-        ensures paid { (start : ℕ) → HasPaid self.old start steps.old → HasPaid self.new start steps.new }
-        ensures freely { (start : ℕ) → HasPaid self.old start steps.old
-            → (self.new.clock ≡ self.old.clock → HasPaidFreely self.old start steps.old)
-            → HasPaidFreely self.new start steps.new }
+        ensures paid { (start : ℕ) → HasPaid self.old start comparisons.old → HasPaid self.new start comparisons.new }
+        ensures freely { (start : ℕ) → HasPaid self.old start comparisons.old
+            → (self.new.clock ≡ self.old.clock → HasPaidFreely self.old start comparisons.old)
+            → HasPaidFreely self.new start comparisons.new }
     {
-        match self.due_before(mark, steps) {
+        match self.due_before(mark, comparisons) {
             Some(due) => Some(due.event),
             None => None,
         }
@@ -313,7 +317,7 @@ impl Ready {
 
     /// Takes the steps up to the next printed one, and that too, which it gives, or up to the barrier of the mark.
     #[inline(always)]
-    pub fn step<L: Ledger>(&mut self, mark: u64, steps: &mut Steps<L>) -> Option<Event>
+    pub fn step<L: Ledger>(&mut self, mark: u64, comparisons: &mut Comparisons<L>) -> Option<Event>
         requires low { self.old.clock ≤ mark }
         requires known { mark ≤ last_tick }
         ensures stepped { StepsBefore self.old mark self.new result }
@@ -323,15 +327,15 @@ impl Ready {
           done = self.new.done;
         } }
         ensures fewer { length self.new.ready ≤ length self.old.ready }
-        ensures paid { (start : ℕ) → HasPaid self.old start steps.old → HasPaid self.new start steps.new }
-        ensures freely { result ≡ None → (start : ℕ) → HasPaid self.old start steps.old
-            → (self.new.clock ≡ self.old.clock → HasPaidFreely self.old start steps.old)
-            → HasPaidFreely self.new start steps.new }
-        ensures once { CostsOnce self.old result steps.old steps.new }
+        ensures paid { (start : ℕ) → HasPaid self.old start comparisons.old → HasPaid self.new start comparisons.new }
+        ensures freely { result ≡ None → (start : ℕ) → HasPaid self.old start comparisons.old
+            → (self.new.clock ≡ self.old.clock → HasPaidFreely self.old start comparisons.old)
+            → HasPaidFreely self.new start comparisons.new }
+        ensures once { CostsOnce self.old result comparisons.old comparisons.new }
     {
-        match self.due_before(mark, steps) {
+        match self.due_before(mark, comparisons) {
             Some(due) => {
-                self.take(&due, steps);
+                self.take(&due, comparisons);
                 Some(due.event)
             }
             None => None,
@@ -340,24 +344,24 @@ impl Ready {
 
     /// The step that the run prints next, where no further job comes. The silent steps before it are taken.
     #[inline(always)]
-    pub fn upcoming<L: Ledger>(&mut self, steps: &mut Steps<L>) -> Event
+    pub fn upcoming<L: Ledger>(&mut self, comparisons: &mut Comparisons<L>) -> Event
         ensures next { ComesNext self.old self.new result }
         ensures kept { self.new ≡ record self.old { clock = self.new.clock; ready = self.new.ready } }
         ensures fewer { length self.new.ready ≡ length self.old.ready }
-        ensures paid { (start : ℕ) → HasPaid self.old start steps.old → HasPaid self.new start steps.new }
-        ensures freely { (start : ℕ) → HasPaid self.old start steps.old
-            → (self.new.clock ≡ self.old.clock → HasPaidFreely self.old start steps.old)
-            → HasPaidFreely self.new start steps.new }
+        ensures paid { (start : ℕ) → HasPaid self.old start comparisons.old → HasPaid self.new start comparisons.new }
+        ensures freely { (start : ℕ) → HasPaid self.old start comparisons.old
+            → (self.new.clock ≡ self.old.clock → HasPaidFreely self.old start comparisons.old)
+            → HasPaidFreely self.new start comparisons.new }
     {
         if self.parts.is_empty() {
             return Event::End { value: self.done };
         }
-        self.due_next(steps).event
+        self.due_next(comparisons).event
     }
 
     /// Takes the step that the run prints next, where no further job comes, and gives it.
     #[inline(always)]
-    pub fn step_on<L: Ledger>(&mut self, steps: &mut Steps<L>) -> Event
+    pub fn step_on<L: Ledger>(&mut self, comparisons: &mut Comparisons<L>) -> Event
         ensures taken { Takes self.old result self.new }
         ensures kept { self.new ≡ record self.old {
           clock = self.new.clock;
@@ -365,21 +369,21 @@ impl Ready {
           done = self.new.done;
         } }
         ensures fewer { length self.new.ready ≤ length self.old.ready }
-        ensures paid { (start : ℕ) → HasPaid self.old start steps.old → HasPaid self.new start steps.new }
-        ensures once { CostsOnce self.old (Some result) steps.old steps.new }
+        ensures paid { (start : ℕ) → HasPaid self.old start comparisons.old → HasPaid self.new start comparisons.new }
+        ensures once { CostsOnce self.old (Some result) comparisons.old comparisons.new }
     {
         if self.parts.is_empty() {
             return Event::End { value: self.done };
         }
-        let due = self.due_next(steps);
-        self.take(&due, steps);
+        let due = self.due_next(comparisons);
+        self.take(&due, comparisons);
         due.event
     }
 
     /// Takes the step that the run prints next, where no further job comes, if it is this one. If it is another, only
     /// the silent steps before it are taken.
     #[inline(always)]
-    pub fn follow<L: Ledger>(&mut self, event: &Event, steps: &mut Steps<L>) -> bool
+    pub fn follow<L: Ledger>(&mut self, event: &Event, comparisons: &mut Comparisons<L>) -> bool
         ensures yes { result ≡ true → Takes self.old event.now self.new }
         ensures no { result ≡ false → (e : Event) × ComesNext self.old self.new e × (e ≢ event.now) }
         ensures kept { self.new ≡ record self.old {
@@ -388,20 +392,20 @@ impl Ready {
           done = self.new.done;
         } }
         ensures fewer { length self.new.ready ≤ length self.old.ready }
-        ensures paid { (start : ℕ) → HasPaid self.old start steps.old → HasPaid self.new start steps.new }
-        ensures freely { result ≡ false → (start : ℕ) → HasPaid self.old start steps.old
-            → (self.new.clock ≡ self.old.clock → HasPaidFreely self.old start steps.old)
-            → HasPaidFreely self.new start steps.new }
+        ensures paid { (start : ℕ) → HasPaid self.old start comparisons.old → HasPaid self.new start comparisons.new }
+        ensures freely { result ≡ false → (start : ℕ) → HasPaid self.old start comparisons.old
+            → (self.new.clock ≡ self.old.clock → HasPaidFreely self.old start comparisons.old)
+            → HasPaidFreely self.new start comparisons.new }
     {
         if self.parts.is_empty() {
             return is_end_with(event, self.done);
         }
-        let deed = self.go_on(LAST_TICK, steps);
-        if !prints(self.parts.clock(), deed, event) {
+        let action = self.go_on(LAST_TICK, comparisons);
+        if !prints(self.parts.clock(), action, event) {
             return false;
         }
         let event = *event;
-        self.take(&Due { deed, event }, steps);
+        self.take(&DueStep { action, event }, comparisons);
         true
     }
 

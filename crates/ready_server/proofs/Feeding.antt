@@ -4,22 +4,18 @@ use Rattle.std.proofs.lemmas.List.{append_assoc, append-nil, length-append}
 use Rattle.std.specs.List.{AllByRecursion}
 use Rattle.dover_model.specs.declared.events.Event.{Event}
 use Rattle.dover_model.specs.declared.events.Version.{Version}
-use Rattle.dover_model.specs.Fraction.{Fraction}
-use Rattle.dover_model.specs.JobFacts.{JobFacts, IsJob}
-use Rattle.dover_model.specs.Limits.{last_tick}
-use Rattle.dover_model.specs.Instance.{Instance, IsValid, with_jobs, jobs_under}
-use Rattle.dover_model.proofs.Valid.{valid_front, all_back, order_back}
+use Rattle.dover_model.specs.Common.{Fraction, JobFacts, IsJob, last_tick, Instance, IsValid, with_jobs, jobs_under}
+use Rattle.dover_model.specs.Common.{MayFollow, no_jobs, CostsAtMost}
+use Rattle.dover_model.proofs.valid.Valid.{valid_front, all_back, order_back}
 use Rattle.dover_model.specs.declared.horizon.Horizon.{Horizon}
 use Rattle.dover_model.specs.declared.horizon.Horizon.TheVariants.{Mark, End}
-use Rattle.dover_model.specs.Horizons.{MayFollow, no_jobs}
-use Rattle.dover_model.proofs.Horizons.{may_follow}
-use Rattle.dover_model.specs.Spending.{CostsAtMost}
-use Rattle.dover_model.proofs.Spending.{few_more}
+use Rattle.dover_model.proofs.settled.Horizons.{may_follow}
+use Rattle.dover_model.proofs.runs.Spending.{few_more}
 use Rattle.ready_server.specs.Running.{HasShown, CanFeed, MayReach, HasFed}
 use Rattle.ready_server.specs.Serving.{Serves}
 use Rattle.ready_server.specs.declared.server.ReadyServer.{ReadyServer}
-use Rattle.dover_model.proofs.ValidParts.{valid_parts}
-use Rattle.dover_model.proofs.JobLimits.{job_limits}
+use Rattle.dover_model.proofs.valid.ValidParts.{valid_parts}
+use Rattle.dover_model.proofs.valid.JobLimits.{job_limits}
 
 -- each release may follow the tick 0
 follow_first : (jobs : List JobFacts) → AllByRecursion IsJob jobs

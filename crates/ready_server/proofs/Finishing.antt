@@ -1,33 +1,25 @@
 -- What a server has given with the finish of a job.
-use Rattle.std.proofs.Common.{◌≡◌, ℕ, ◌≤◌, ◌<◌, ◌^◌, [], ◌∷◌, ◌++◌, refl, sym, ap, ◌∙◌, subst, Bool}
-use Rattle.std.proofs.Common.{true, false, arith}
-use Rattle.std.specs.Prelude.{Option, Some, None, nat_le, nat_lt, length}
-use Rattle.std.proofs.lemmas.Bool.{lt-ltb, ltb-true}
+use Rattle.std.proofs.Common.{◌≡◌, ℕ, ◌≤◌, ◌<◌, ◌^◌, [], ◌∷◌, ◌++◌, refl, sym, ap, ◌∙◌, subst, Bool, true, false, arith}
+use Rattle.std.proofs.Common.{Option, Some, None, nat_le, nat_lt, length, lt-ltb, ltb-true}
 use Rattle.dover_model.specs.declared.events.Event.TheVariants.{Complete}
 use Rattle.dover_model.specs.declared.events.Role.TheVariants.{Running}
 use Rattle.dover_model.specs.declared.events.Task.{Task}
-use Rattle.dover_model.specs.Instance.{Instance, with_finishes}
-use Rattle.dover_model.specs.State.{State, opening, running, is_running, is_over, state_at}
-use Rattle.dover_model.specs.Step.{Prints, after}
-use Rattle.dover_model.specs.Settled.{settled, settled_steps, settled_state, finish_now, RunsAtMark}
-use Rattle.dover_model.specs.Limits.{most_ready}
-use Rattle.dover_model.specs.Session.{EarlyFinish, finish_at, is_full}
-use Rattle.dover_model.specs.Sound.{IsMember}
-use Rattle.dover_model.specs.Paths.{HasPrinted}
+use Rattle.dover_model.specs.Common.{Instance, with_finishes, State, opening, running, is_running, is_over, state_at}
+use Rattle.dover_model.specs.Common.{Prints, after, settled, settled_steps, settled_state, finish_now, RunsAtMark}
+use Rattle.dover_model.specs.Common.{most_ready, EarlyFinish, finish_at, is_full, IsMember, HasPrinted, runner_of}
 use Rattle.dover_model.specs.declared.horizon.Horizon.TheVariants.{Mark}
-use Rattle.dover_model.proofs.Barriers.{state_after}
-use Rattle.dover_model.proofs.Further.{printed_at_mark}
-use Rattle.dover_model.proofs.LastSteps.{last_tells}
-use Rattle.dover_model.proofs.Members.{found, all_member}
-use Rattle.dover_model.specs.Processor.{runner_of}
-use Rattle.dover_model.proofs.Processors.{runner_said, runner_there}
-use Rattle.dover_model.proofs.Paths.{path_settles, one_settled_run}
-use Rattle.dover_model.proofs.Resting.{path_state, numbers_below}
-use Rattle.dover_model.proofs.RightFinishes.{all_before, finish_says, right_finish, none_late, none_other}
-use Rattle.dover_model.proofs.Roles.{passes, is_running_role}
-use Rattle.dover_model.proofs.Settling.{settled_is_run}
-use Rattle.dover_model.proofs.Waiting.{some_goes_on}
-use Rattle.dover_model.proofs.Limiting.{jobs_most}
+use Rattle.dover_model.proofs.settled.Barriers.{state_after}
+use Rattle.dover_model.proofs.finishes.Further.{printed_at_mark}
+use Rattle.dover_model.proofs.settled.LastSteps.{last_tells}
+use Rattle.dover_model.proofs.lists.Members.{found, all_member}
+use Rattle.dover_model.proofs.finishes.Processors.{runner_said, runner_there}
+use Rattle.dover_model.proofs.settled.Paths.{path_settles, one_settled_run}
+use Rattle.dover_model.proofs.rest.Resting.{path_state, numbers_below}
+use Rattle.dover_model.proofs.finishes.RightFinishes.{all_before, finish_says, right_finish, none_late, none_other}
+use Rattle.dover_model.proofs.steps.Roles.{passes, is_running_role}
+use Rattle.dover_model.proofs.settled.Settling.{settled_is_run}
+use Rattle.dover_model.proofs.settled.Waiting.{some_goes_on}
+use Rattle.dover_model.proofs.valid.Limiting.{jobs_most}
 use Rattle.ready_jobs.proofs.Counting.{full_kept}
 use Rattle.ready_jobs.proofs.Runners.{one_runs}
 use Rattle.ready_jobs.specs.Course.{Course}
@@ -35,7 +27,7 @@ use Rattle.ready_jobs.specs.Course as course
 use Rattle.ready_server.specs.Serving.{Rests, Finishes}
 use Rattle.ready_server.specs.declared.server.ReadyServer.{ReadyServer}
 use Rattle.ready_server.proofs.Stepping.{last_more}
-use Rattle.dover_model.proofs.ValidParts.{valid_parts}
+use Rattle.dover_model.proofs.valid.ValidParts.{valid_parts}
 
 module _ (s : ReadyServer) (J : Instance) (at : ℕ) (rests : Rests s J (Mark at)) where
   -- where it has come

@@ -1,37 +1,30 @@
 -- When a server that has given all up to a mark is to be called again.
-use Rattle.std.proofs.Common.{◌≡◌, ℕ, suc, ◌≤◌, ◌<◌, inl, List, [], ◌∷◌, ◌++◌, refl, sym, ap, ◌∙◌}
-use Rattle.std.proofs.Common.{arith, append-nil, Bool, true, false, cond, not}
-use Rattle.std.specs.Prelude.{Option, Some, None, IfSome}
+use Rattle.std.proofs.Common.{◌≡◌, ℕ, suc, ◌≤◌, ◌<◌, inl, List, [], ◌∷◌, ◌++◌, refl, sym, ap, ◌∙◌, arith, append-nil}
+use Rattle.std.proofs.Common.{Bool, true, false, cond, not, Option, Some, None, IfSome}
 use Rattle.dover_model.specs.declared.events.Event.{Event}
-use Rattle.dover_model.specs.declared.events.Role.TheVariants.{Coming, Fresh, Waiting, Held, Running, Done, Gone}
+use Rattle.dover_model.specs.declared.events.Role.TheVariants.{Coming, Fresh, Running, Done, Gone}
 use Rattle.dover_model.specs.declared.events.Task.{Task}
-use Rattle.dover_model.specs.Fraction.{Fraction}
-use Rattle.dover_model.specs.Instance.{Instance, IsValid}
-use Rattle.dover_model.specs.Leading.{PrintsNext}
-use Rattle.dover_model.specs.Ready.{is_ready}
-use Rattle.dover_model.specs.Run.{printed, printed_of, last_deadline}
-use Rattle.dover_model.specs.Settled.{settled, settled_steps, waits_for_mark}
-use Rattle.dover_model.specs.Sound.{Each, IsMember, NoneRuns}
-use Rattle.dover_model.specs.State.{State, opening, state_at, is_over, is_coming, is_ready_behind}
-use Rattle.dover_model.specs.Step.{Move, Prints, Ticks, open_step, with_role}
-use Rattle.dover_model.specs.Paths.{HasPrinted}
+use Rattle.dover_model.specs.Common.{Fraction, Instance, IsValid, PrintsNext, is_ready, printed, printed_of}
+use Rattle.dover_model.specs.Common.{last_deadline, settled, settled_steps, waits_for_mark, Each, IsMember, NoneRuns}
+use Rattle.dover_model.specs.Common.{State, opening, state_at, is_over, is_coming, is_ready_behind, Move, Prints, Ticks}
+use Rattle.dover_model.specs.Common.{open_step, with_role, HasPrinted}
 use Rattle.dover_model.specs.declared.horizon.Horizon.TheVariants.{Mark}
-use Rattle.dover_model.proofs.Barriers.{late_none_fresh}
-use Rattle.dover_model.proofs.Deeds.{Deed, Completed, Resumed, Started, Began, Preempted, Stayed, Arrived, Taken}
-use Rattle.dover_model.proofs.Deeds.{Abandoned, Rested}
-use Rattle.dover_model.proofs.Ending.{potential, ends}
-use Rattle.dover_model.proofs.Kept.{open_deed, opening_keeps}
-use Rattle.dover_model.proofs.LastSteps.{prints_clock}
-use Rattle.dover_model.proofs.Leading.{prints_first, prints_goes_on, stops_before}
-use Rattle.dover_model.proofs.Members.{filter_member, member_filter}
-use Rattle.dover_model.proofs.Paths.{one_settled_run, path_keeps, path_later, path_ready, path_then_settled}
-use Rattle.dover_model.proofs.Paths.{printed_then_run}
-use Rattle.dover_model.proofs.Prefixes.{step_open}
-use Rattle.dover_model.proofs.Readiness.{IsReady, opening_ready}
-use Rattle.dover_model.proofs.Roles.{passes, by_role}
-use Rattle.dover_model.proofs.Runs.{printed_append}
-use Rattle.dover_model.proofs.Settling.{at_barrier, settles, settled_is_run}
-use Rattle.dover_model.proofs.Tests.{never}
+use Rattle.dover_model.proofs.settled.Barriers.{late_none_fresh}
+use Rattle.dover_model.proofs.steps.Deeds.{Deed, Taken}
+use Rattle.dover_model.proofs.steps.Deeds.{Abandoned, Rested}
+use Rattle.dover_model.proofs.runs.Ending.{potential, ends}
+use Rattle.dover_model.proofs.steps.Kept.{open_deed, opening_keeps}
+use Rattle.dover_model.proofs.settled.LastSteps.{prints_clock}
+use Rattle.dover_model.proofs.settled.Leading.{prints_first, prints_goes_on, stops_before}
+use Rattle.dover_model.proofs.lists.Members.{filter_member, member_filter}
+use Rattle.dover_model.proofs.settled.Paths.{one_settled_run, path_keeps, path_later, path_ready, path_then_settled}
+use Rattle.dover_model.proofs.settled.Paths.{printed_then_run}
+use Rattle.dover_model.proofs.settled.Prefixes.{step_open}
+use Rattle.dover_model.proofs.finishes.Readiness.{IsReady, opening_ready}
+use Rattle.dover_model.proofs.steps.Roles.{passes, by_role}
+use Rattle.dover_model.proofs.runs.Runs.{printed_append}
+use Rattle.dover_model.proofs.settled.Settling.{at_barrier, settles, settled_is_run}
+use Rattle.dover_model.proofs.lists.Tests.{never}
 use Rattle.ready_jobs.specs.Course.{Follows}
 use Rattle.ready_jobs.specs.NextTick.{IsUnderWay, PrintsAt}
 use Rattle.ready_server.specs.NextStep.{ComesAt}
@@ -51,26 +44,19 @@ ready_behind t ready fresh runs comes =
           → (role ≡ Coming → ⊥) → is_ready_behind (with_role t role) ≡ true
       by_each Coming ready fresh runs comes = absurd (comes refl)
       by_each Fresh ready fresh runs comes = absurd (fresh refl)
-      by_each Waiting ready fresh runs comes = refl
-      by_each Held ready fresh runs comes = refl
       by_each Running ready fresh runs comes = absurd (runs refl)
       by_each Done ready fresh runs comes = never ready
       by_each Gone ready fresh runs comes = never ready
+      by_each _ ready fresh runs comes = refl
 
 -- where a late step is taken and no job runs, none waits or is held
 pub late_free : (k : Fraction) (s : State) (m : Move) → Deed k s Ticks m → waits_for_mark m ≡ true → NoneRuns s.tasks
     → Each (λ t. is_ready_behind t ≡ true → ⊥) s.tasks
-late_free k s m (Completed r member runs) late none = never late
-late_free k s m (Resumed p member held free least why) late none = never late
-late_free k s m (Started o member waiting free first fits next) late none = never late
-late_free k s m (Began f member fresh free behind) late none = never late
-late_free k s m (Preempted r f member runs some f_member fresh before fits) late none = never late
-late_free k s m (Stayed r f member runs some f_member fresh why) late none = never late
-late_free k s m (Arrived c member comes now first stale busy free) late none = never late
 late_free k s m (Taken r x member runs some x_member waiting now stale heavy) late none = absurd (none r member runs)
 late_free k s m (Abandoned r x member runs some x_member waiting now stale light) late none =
     absurd (none r member runs)
 late_free k s m (Rested quiet) late none = quiet.free none
+late_free k s m _ late none = never late
 
 -- a list with no members
 no_members : (ts : List Task) → ((t : Task) → IsMember t ts → ⊥) → ts ≡ []

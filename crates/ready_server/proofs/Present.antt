@@ -4,21 +4,18 @@ use Rattle.std.specs.List.{AllByRecursion, find}
 use Rattle.std.proofs.lemmas.Bool.{eqb-false}
 use Rattle.dover_model.specs.declared.events.Role.TheVariants.{Coming}
 use Rattle.dover_model.specs.declared.events.Task.{Task}
-use Rattle.dover_model.specs.Instance.{Instance, IsValid}
-use Rattle.dover_model.specs.State.{State, is_coming}
-use Rattle.dover_model.specs.Step.{Move, Ticks, View, view, due_finish, declared_open_step, open_step}
-use Rattle.dover_model.specs.Settled.{waits_for_mark, settled_state}
-use Rattle.dover_model.specs.Sound.{IsMember, Each}
-use Rattle.dover_model.proofs.Barriers.{AtBarrier, settled_at_barrier}
-use Rattle.dover_model.proofs.Cases.{Case, Completes, Resumes, Starts, Begins, Preempts, Stays, Arrives, Takes}
-use Rattle.dover_model.proofs.Cases.{Abandons, Rests, NoneArrives, step_case}
-use Rattle.dover_model.proofs.Finishing.{late_unfinished}
-use Rattle.dover_model.proofs.Kept.{each_job}
-use Rattle.dover_model.proofs.Members.{found, not_found}
-use Rattle.dover_model.proofs.Moves.{says}
-use Rattle.dover_model.proofs.Roles.{fails, is_coming_role}
-use Rattle.dover_model.proofs.Settling.{at_barrier}
-use Rattle.dover_model.proofs.Tests.{never}
+use Rattle.dover_model.specs.Common.{Instance, IsValid, State, is_coming, Move, Ticks, View, view, due_finish}
+use Rattle.dover_model.specs.Common.{declared_open_step, open_step, waits_for_mark, settled_state, IsMember, Each}
+use Rattle.dover_model.proofs.settled.Barriers.{AtBarrier, settled_at_barrier}
+use Rattle.dover_model.proofs.steps.Cases.{Case, Takes}
+use Rattle.dover_model.proofs.steps.Cases.{Abandons, Rests, NoneArrives, step_case}
+use Rattle.dover_model.proofs.finishes.Finishing.{late_unfinished}
+use Rattle.dover_model.proofs.steps.Kept.{each_job}
+use Rattle.dover_model.proofs.lists.Members.{found, not_found}
+use Rattle.dover_model.proofs.steps.Moves.{says}
+use Rattle.dover_model.proofs.steps.Roles.{fails, is_coming_role}
+use Rattle.dover_model.proofs.settled.Settling.{at_barrier}
+use Rattle.dover_model.proofs.lists.Tests.{never}
 
 module _ (J : Instance) (valid : IsValid J) (mark : ℕ) (known : AllByRecursion (λ j. j.release ≤ mark) J.jobs) where
   -- the state at the barrier
@@ -53,16 +50,10 @@ module _ (J : Instance) (valid : IsValid J) (mark : ℕ) (known : AllByRecursion
 
   -- none arrives at a late step
   late_none : (m : Move) → Case J.rules.ratio v Ticks m → waits_for_mark m ≡ true → NoneArrives v v.coming
-  late_none m (Completes r some done) late = never late
-  late_none m (Resumes p none some) late = never late
-  late_none m (Starts o none held some) late = never late
-  late_none m (Begins f settles some) late = never late
-  late_none m (Preempts r f settles some fits) late = never late
-  late_none m (Stays r f settles some tight) late = never late
-  late_none m (Arrives ro c settles stale some now) late = never late
   late_none m (Takes r x settles stale ahead some heavy) late = ahead
   late_none m (Abandons r x settles stale ahead some light) late = ahead
   late_none m (Rests ro settles stale ahead none) late = ahead
+  late_none m _ late = never late
 
   -- at the barrier none is to come
   pub none_to_come : Each (λ t. t.role ≡ Coming → ⊥) s.tasks

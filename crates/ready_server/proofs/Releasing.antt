@@ -1,29 +1,21 @@
 -- What a server has given with the release of a job.
 use Rattle.std.proofs.Common.{◌≡◌, ℕ, ◌≤◌, List, [], ◌∷◌, ◌++◌, inl, inr, length, refl, sym, ap, ◌∙◌, subst, true}
-use Rattle.std.proofs.Common.{false, arith}
-use Rattle.std.specs.Prelude.{◌+◌, ◌&&◌, nat_le}
+use Rattle.std.proofs.Common.{false, arith, ◌+◌, ◌&&◌, nat_le}
 use Rattle.std.specs.List.{AllByRecursion}
 use Rattle.dover_model.specs.declared.events.Event.TheVariants.{Release}
 use Rattle.dover_model.specs.declared.events.Role.{Role}
-use Rattle.dover_model.specs.declared.events.Role.TheVariants.{Coming, Fresh, Waiting, Held, Running, Done, Gone}
+use Rattle.dover_model.specs.declared.events.Role.TheVariants.{Coming, Fresh, Running, Done}
 use Rattle.dover_model.specs.declared.events.Task.{Task}
-use Rattle.dover_model.specs.JobFacts.{JobFacts, IsJob}
-use Rattle.dover_model.specs.Limits.{last_tick}
-use Rattle.dover_model.specs.Instance.{Instance, IsValid, with_jobs}
-use Rattle.dover_model.specs.State.{State, opening, with_later, is_coming, state_at}
-use Rattle.dover_model.specs.Step.{Prints, open_step}
-use Rattle.dover_model.specs.Settled.{waits_for_mark, settled}
-use Rattle.dover_model.specs.WholeRun.{IsBefore}
-use Rattle.dover_model.specs.Paths.{HasPrinted}
-use Rattle.dover_model.specs.Sound.{IsMember, Each, FitsRole, IsSound, Keeps}
-use Rattle.dover_model.proofs.Kept.{opening_keeps}
-use Rattle.dover_model.proofs.Paths.{path_keeps, printed_behind}
-use Rattle.dover_model.proofs.Releasing.{coming_task, barrier_releases}
-use Rattle.dover_model.proofs.Roles.{passes}
-use Rattle.dover_model.proofs.Settling.{at_barrier}
-use Rattle.dover_model.proofs.Tests.{never}
-use Rattle.dover_model.specs.Ready.{with_fresh}
-use Rattle.dover_model.proofs.Released.{after_release}
+use Rattle.dover_model.specs.Common.{JobFacts, IsJob, last_tick, Instance, IsValid, with_jobs, State, opening}
+use Rattle.dover_model.specs.Common.{with_later, is_coming, state_at, Prints, open_step, waits_for_mark, settled}
+use Rattle.dover_model.specs.Common.{IsBefore, HasPrinted, IsMember, Each, FitsRole, IsSound, Keeps, with_fresh}
+use Rattle.dover_model.proofs.steps.Kept.{opening_keeps}
+use Rattle.dover_model.proofs.settled.Paths.{path_keeps, printed_behind}
+use Rattle.dover_model.proofs.settled.Releasing.{coming_task, barrier_releases}
+use Rattle.dover_model.proofs.steps.Roles.{passes}
+use Rattle.dover_model.proofs.settled.Settling.{at_barrier}
+use Rattle.dover_model.proofs.lists.Tests.{never}
+use Rattle.dover_model.proofs.runs.Released.{after_release}
 use Rattle.dover_model.specs.declared.horizon.Horizon.TheVariants.{Mark}
 use Rattle.waiting_pool.specs.Reordered.{IsReordered}
 use Rattle.ready_jobs.specs.Course.{Course, Follows, IsCourse, fresh_job, with_release}
@@ -32,8 +24,8 @@ use Rattle.ready_jobs.proofs.Releasing.{release_follows}
 use Rattle.ready_server.specs.Serving.{Serves, Rests}
 use Rattle.ready_server.specs.declared.server.ReadyServer.{ReadyServer}
 use Rattle.ready_server.proofs.Stepping.{printed_event, printed_low, last_more}
-use Rattle.dover_model.proofs.ValidParts.{valid_parts}
-use Rattle.dover_model.proofs.JobLimits.{job_limits}
+use Rattle.dover_model.proofs.valid.ValidParts.{valid_parts}
+use Rattle.dover_model.proofs.valid.JobLimits.{job_limits}
 
 -- a job that isn't to come was released
 pub not_ahead : (s : State) → IsSound s → (t : Task) → IsMember t s.tasks → is_coming t ≡ false
@@ -42,11 +34,9 @@ not_ahead s sound t member came = by_role t.role refl (sound.roles t member) whe
   by_role : (r : Role) → t.role ≡ r → FitsRole s.clock r t → t.job.release ≤ s.clock
   by_role Coming is fits = never (sym came ∙ passes is_coming t Coming true is refl)
   by_role Fresh is fits = fits.2
-  by_role Waiting is fits = fits.1
-  by_role Held is fits = fits.1
   by_role Running is fits = fits
   by_role Done is fits = fits
-  by_role Gone is fits = fits.1
+  by_role _ is fits = fits.1
 
 -- what holds of each job holds of the last
 of_last : (P : JobFacts → Type 0) (jobs : List JobFacts) (j : JobFacts) → AllByRecursion P (jobs ++ j ∷ []) → P j

@@ -1,27 +1,19 @@
 -- A server whose jobs are over serves the run of no jobs.
-use Rattle.std.proofs.Common.{◌≡◌, ℕ, List, [], length, refl, sym, ap, ◌∙◌, subst, true, arith}
-use Rattle.std.specs.Prelude.{nat_le, ◌&&◌}
-use Rattle.std.proofs.lemmas.Bool.{le-leb}
+use Rattle.std.proofs.Common.{◌≡◌, ℕ, List, [], length, refl, sym, ap, ◌∙◌, subst, true, arith, nat_le, ◌&&◌, le-leb}
 use Rattle.dover_model.specs.declared.events.Event.{Event}
-use Rattle.dover_model.specs.Instance.{Rules, Instance, IsValid, bare}
-use Rattle.dover_model.specs.State.{State, is_over}
-use Rattle.dover_model.specs.Step.{Ticks, open_step}
-use Rattle.dover_model.specs.Settled.{waits_for_mark, settled, last_of}
-use Rattle.dover_model.specs.WholeRun.{IsBarrier}
-use Rattle.dover_model.specs.Paths.{HasPrinted}
-use Rattle.dover_model.specs.Rest.{instead_with}
-use Rattle.dover_model.specs.Sound.{Each}
-use Rattle.dover_model.proofs.Deeds.{over_rests}
-use Rattle.dover_model.proofs.Kept.{open_deed}
-use Rattle.dover_model.proofs.Paths.{printed_more, printed_settled}
-use Rattle.dover_model.proofs.Resting.{printed_none}
+use Rattle.dover_model.specs.Common.{Rules, Instance, IsValid, bare, State, is_over, Ticks, open_step, waits_for_mark}
+use Rattle.dover_model.specs.Common.{settled, last_of, IsBarrier, HasPrinted, instead_with, Each}
+use Rattle.dover_model.proofs.steps.Deeds.{over_rests}
+use Rattle.dover_model.proofs.steps.Kept.{open_deed}
+use Rattle.dover_model.proofs.settled.Paths.{printed_more, printed_settled}
+use Rattle.dover_model.proofs.rest.Resting.{printed_none}
 use Rattle.dover_model.specs.declared.horizon.Horizon.TheVariants.{Mark}
 use Rattle.ready_jobs.specs.Course.{Course, Follows}
 use Rattle.ready_jobs.proofs.Courses.{none_keeps, renewed_follows}
 use Rattle.ready_server.specs.Serving.{Rests}
 use Rattle.ready_server.specs.declared.server.ReadyServer.{ReadyServer}
 use Rattle.ready_server.proofs.Stepping.{printed_low}
-use Rattle.dover_model.proofs.Tests.{never}
+use Rattle.dover_model.proofs.lists.Tests.{never}
 
 -- no events
 abbrev none : List Event

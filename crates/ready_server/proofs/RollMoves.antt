@@ -1,23 +1,20 @@
 -- A roll follows each change of roles.
-use Rattle.std.proofs.Common.{◌≡◌, ℕ, suc, ◌-◌, ◌≤◌, length}
-use Rattle.std.proofs.Common.{set, refl, sym, ap, ◌∙◌, subst, Bool, true, false, cond, arith, not, ◌&&◌}
-use Rattle.std.proofs.lemmas.Bool.{eq-eqb, ne_eqb, eqb-true, eqb-false}
+use Rattle.std.proofs.Common.{◌≡◌, ℕ, suc, ◌-◌, ◌≤◌, length, set, refl, sym, ap, ◌∙◌, subst, Bool, true, false, cond}
+use Rattle.std.proofs.Common.{arith, not, ◌&&◌, eq-eqb, ne_eqb, eqb-true, Option, Some, None, ◌==◌}
+use Rattle.std.proofs.lemmas.Bool.{eqb-false}
 use Rattle.std.proofs.lemmas.List.{length-map}
-use Rattle.std.specs.Prelude.{Option, Some, None, ◌==◌}
 use Rattle.dover_model.specs.declared.events.Role.{Role}
 use Rattle.dover_model.specs.declared.events.Role.TheVariants.{Coming, Fresh, Waiting, Held, Running, Done, Gone}
 use Rattle.dover_model.specs.declared.events.Task.{Task}
-use Rattle.dover_model.specs.Sound.{IsMember, IsNumberedFrom, IsSound, NoneRuns}
-use Rattle.dover_model.specs.State.{State, is_held}
-use Rattle.dover_model.specs.Step.{with_role, displaced}
-use Rattle.dover_model.proofs.Members.{on_map, map_member, some_same}
-use Rattle.dover_model.proofs.Roles.{one_number, by_role}
-use Rattle.dover_model.proofs.RoleChanges.{with_role_at, all_displaced}
-use Rattle.ready_server.specs.Roster.{Roll, ListedJob, had_with, stopped, is_turn, is_displaced, with_stop, halted}
+use Rattle.dover_model.specs.Common.{IsMember, IsNumberedFrom, IsSound, NoneRuns, State, is_held, with_role, displaced}
+use Rattle.dover_model.proofs.lists.Members.{on_map, map_member, some_same}
+use Rattle.dover_model.proofs.steps.Roles.{one_number, by_role}
+use Rattle.dover_model.proofs.steps.RoleChanges.{with_role_at, all_displaced}
+use Rattle.ready_server.specs.Roster.{Roll, ListedJob, stopped, is_turn, is_displaced, with_stop, halted}
 use Rattle.ready_server.specs.Roster.{started}
 use Rattle.ready_server.proofs.Rolls.{calm_role, Lists, Follows, set_here, set_there, length_set, at_clock, number_is}
 use Rattle.ready_server.proofs.Rolls.{job_is, had_ran, had_is, role_is, lists_other, lists_same, had_none, not_turn}
-use Rattle.ready_server.proofs.Rolls.{none_turn}
+use Rattle.ready_server.proofs.Rolls.{none_turn, lists_as}
 
 -- a held job that stopped just now isn't displaced
 fresh_held : (role : Role) (takes : ℕ) (t : Task) → t.role ≡ role
@@ -44,43 +41,27 @@ says_is : (b : Bool) (t : Task) → cond (is_held t && not b) Waiting t.role ≡
 says_is b t = by_role (λ u r. cond (is_held u && not b) Waiting r ≡ says b r) t each where
   each : (r : Role) → cond (is_held (with_role t r) && not b) Waiting r ≡ says b r
   each Coming = refl
-  each Fresh = refl
-  each Waiting = refl
-  each Held = refl
-  each Running = refl
-  each Done = refl
-  each Gone = refl
+  each _ = refl
 
 -- what was held waits
 was_held : (b : Bool) (role : Role) → says b role ≡ Held → says false role ≡ Waiting
 was_held b Held is = refl
-was_held b Coming is = cc
-was_held b Fresh is = cc
-was_held b Waiting is = cc
-was_held b Running is = cc
-was_held b Done is = cc
-was_held b Gone is = cc
+was_held b _ is = cc
 
 -- what was in another role stays in it
 was_other : (b : Bool) (role other : Role) → (other ≡ Held → ⊥) → says b role ≡ other → says false role ≡ other
 was_other true Held other out is = absurd (out (sym is))
 was_other false Held other out is = is
-was_other b Coming other out is = is
-was_other b Fresh other out is = is
-was_other b Waiting other out is = is
-was_other b Running other out is = is
-was_other b Done other out is = is
-was_other b Gone other out is = is
+was_other b _ other out is = is
 
 displaces_role : (b : Bool) (role now : Role) → (now ≡ Running → ⊥) → says b role ≡ calm_role now
     → says false role ≡ calm_role (displaced now)
 displaces_role b role Held idle is = was_held b role is
 displaces_role b role Running idle is = absurd (idle refl)
 displaces_role b role Coming idle is = was_other b role Coming (λ e. cc) is
-displaces_role b role Fresh idle is = was_other b role Waiting (λ e. cc) is
-displaces_role b role Waiting idle is = was_other b role Waiting (λ e. cc) is
 displaces_role b role Done idle is = was_other b role Done (λ e. cc) is
 displaces_role b role Gone idle is = was_other b role Gone (λ e. cc) is
+displaces_role b role _ idle is = was_other b role Waiting (λ e. cc) is
 
 module _ (s : State) (sound : IsSound s) (p : Roll) (follows : Follows s p) where
   -- the number of another job
@@ -138,35 +119,10 @@ module _ (s : State) (sound : IsSound s) (p : Roll) (follows : Follows s p) wher
         ]) { turn = None }) of_r.there
 
     lists_r : Lists q s.clock (with_role r new)
-    lists_r = record {
-      listed = e_new;
-      there = set_here p.jobs r.number e_new of_r.listed of_r.there;
-      is = ap (λ role. let u : Task = record {
-        number = of_r.listed.task.number;
-        job = of_r.listed.task.job;
-        role = role;
-        had = had_with (s.clock - p.since) of_r.listed.task;
-      } in u) (fresh_held new p.takes e_new.task refl)
-          ∙ ap (λ n. let u : Task = record {
-            number = n;
-            job = of_r.listed.task.job;
-            role = new;
-            had = had_with
-                (s.clock - p.since) of_r.listed.task;
-          } in u) (number_is p s.clock r of_r)
-          ∙ ap (λ j. let u : Task = record {
-            number = r.number;
-            job = j;
-            role = new;
-            had = had_with (s.clock - p.since)
-                of_r.listed.task;
-          } in u) (job_is p s.clock r of_r)
-          ∙ ap (λ h. let u : Task = record { number = r.number; job = r.job; role = new; had = h } in u)
-          (had_ran p s.clock r of_r (follows.runs r member runs))
-          ∙ ap (λ role. let u : Task = record { number = r.number; job = r.job; role = role; had = r.had } in u)
-          (sym calm_now);
-      before = omega arith;
-    }
+    lists_r = lists_as q s.clock (with_role r new) e_new false (set_here p.jobs r.number e_new of_r.listed of_r.there)
+        (number_is p s.clock r of_r) (job_is p s.clock r of_r) refl
+        (fresh_held new p.takes e_new.task refl ∙ sym calm_now) (had_ran p s.clock r of_r (follows.runs r member runs))
+        (omega arith)
 
     pub halts : Follows (at_clock s (with_role_at r.number new s.tasks)) (halted p s.clock new)
     halts = subst (Follows (at_clock s (with_role_at r.number new s.tasks))) (sym halted_is) (record {
@@ -218,40 +174,14 @@ module _ (s : State) (numbered : IsNumberedFrom 0 s.tasks) (p : Roll) (follows :
     go = started p s.clock g.number
 
     lists_g : Lists go s.clock (with_role g Running)
-    lists_g = record {
-      listed = of_g.listed;
-      there = of_g.there;
-      is = ap (λ b. let u : Task = record {
-        number = of_g.listed.task.number;
-        job = of_g.listed.task.job;
-        role = cond b Running (cond (is_displaced p.takes of_g.listed) Waiting of_g.listed.task.role);
-        had = cond b (had_with (s.clock - s.clock) of_g.listed.task) of_g.listed.task.had;
-      } in u) (eq-eqb g.number of_g.listed.task.number (sym (number_is p s.clock g of_g)))
-          ∙ ap (λ h. let u : Task = record {
-            number = of_g.listed.task.number;
-            job = of_g.listed.task.job;
-            role
-                = Running;
-            had = h;
-          } in u)
-          (had_none of_g.listed.task s.clock most)
-          ∙ ap (λ n. let u : Task = record {
-            number = n;
-            job = of_g.listed.task.job;
-            role = Running;
-            had
-                = of_g.listed.task.had;
-          } in u) (number_is p s.clock g of_g)
-          ∙ ap (λ j. let u : Task = record { number = g.number; job = j; role = Running; had = of_g.listed.task.had }
-          in u) (job_is p s.clock g of_g)
-          ∙ ap (λ h. let u : Task = record { number = g.number; job = g.job; role = Running; had = h } in u) had_same;
-      before = of_g.before;
-    } where
-      had_same : of_g.listed.task.had ≡ g.had
-      had_same = had_is p s.clock g of_g (none_turn p.turn g.number free)
+    lists_g = lists_as go s.clock (with_role g Running) of_g.listed true of_g.there (number_is p s.clock g of_g)
+        (job_is p s.clock g of_g) (eq-eqb g.number g.number refl) refl
+        (had_none of_g.listed.task s.clock most ∙ had_same) of_g.before where
+          had_same : of_g.listed.task.had ≡ g.had
+          had_same = had_is p s.clock g of_g (none_turn p.turn g.number free)
 
-      most : of_g.listed.task.had ≤ of_g.listed.task.job.work
-      most = omega (arith, had_same, ap (λ j. j.work) (job_is p s.clock g of_g), within)
+          most : of_g.listed.task.had ≤ of_g.listed.task.job.work
+          most = omega (arith, had_same, ap (λ j. j.work) (job_is p s.clock g of_g), within)
 
     pub starts : Follows (at_clock s (with_role_at g.number Running s.tasks)) go
     starts = record {
@@ -315,24 +245,14 @@ module _ (s : State) (numbered : IsNumberedFrom 0 s.tasks) (p : Roll) (follows :
 
       never_runs : (role : Role) → displaced role ≡ Running → ⊥
       never_runs Coming e = cc
-      never_runs Fresh e = cc
-      never_runs Waiting e = cc
-      never_runs Held e = cc
-      never_runs Running e = cc
-      never_runs Done e = cc
-      never_runs Gone e = cc
+      never_runs _ e = cc
 
       comes : (role : Role) → role ≡ Coming → displaced role ≡ Coming
       comes role e = ap displaced e
 
       came : (role : Role) → displaced role ≡ Coming → role ≡ Coming
       came Coming e = refl
-      came Fresh e = cc
-      came Waiting e = cc
-      came Held e = cc
-      came Running e = cc
-      came Done e = cc
-      came Gone e = cc
+      came _ e = cc
 
       here_now : (t : Task) → IsMember t s.tasks → Lists p s.clock t → Lists more s.clock (change t)
       here_now t m it = lists_other p s.clock t it (none_turn p.turn t.number free) more (displaced t.role) it.listed

@@ -1,36 +1,32 @@
 -- A roll follows each step of a run, and at a mark it has all jobs as they stand.
-use Rattle.std.proofs.Common.{◌≡◌, inl, inr, ℕ, suc, ◌+◌, ◌-◌, ◌≤◌, ◌<◌, List, [], ◌∷◌, ◌++◌, length}
-use Rattle.std.proofs.Common.{length-append, map, set, refl, sym, ap, ◌∙◌, subst, Bool, true, false, cond, arith}
-use Rattle.std.proofs.lemmas.Bool.{ne_eqb, eqb-true, eqb-false}
+use Rattle.std.proofs.Common.{◌≡◌, inl, inr, ℕ, suc, ◌+◌, ◌-◌, ◌≤◌, ◌<◌, List, [], ◌∷◌, ◌++◌, length, length-append}
+use Rattle.std.proofs.Common.{map, set, refl, sym, ap, ◌∙◌, subst, Bool, true, false, cond, arith, ne_eqb, eqb-true}
+use Rattle.std.proofs.Common.{eq-eqb, Option, Some, None, ◌==◌, slice_get, fold}
+use Rattle.std.proofs.lemmas.Bool.{eqb-false}
 use Rattle.std.proofs.lemmas.List.{length-map}
 use Rattle.std.proofs.lemmas.Option.{slice_get_within}
-use Rattle.std.specs.Prelude.{Option, Some, None, ◌==◌}
-use Rattle.std.specs.List.{slice_get, fold, cons_option}
+use Rattle.std.specs.List.{cons_option}
 use Rattle.dover_model.specs.declared.events.Event.{Event}
 use Rattle.dover_model.specs.declared.events.Event.TheVariants.{Release, Run, Preempt, Take, Complete, Abandon}
 use Rattle.dover_model.specs.declared.events.Role.{Role}
 use Rattle.dover_model.specs.declared.events.Role.TheVariants.{Coming, Fresh, Waiting, Held, Running, Done, Gone}
 use Rattle.dover_model.specs.declared.events.Task.{Task}
-use Rattle.dover_model.specs.Fraction.{Fraction}
-use Rattle.dover_model.specs.Instance.{Instance, IsValid}
-use Rattle.dover_model.specs.Paths.{IsOpenPath, HasPrinted}
-use Rattle.dover_model.specs.Run.{Step, event_of, printed_of}
-use Rattle.dover_model.specs.Sound.{IsMember, Each, IsNumberedFrom, IsSound, Keeps, NoneRuns}
-use Rattle.dover_model.specs.State.{State, opening, is_running, left}
-use Rattle.dover_model.specs.Step.{Move, Prints, Waits, Ticks, open_step, after, with_role, ticked, displaced}
-use Rattle.dover_model.proofs.Deeds.{Deed, Completed, Resumed, Started, Began, Preempted, Stayed, Arrived, Taken}
-use Rattle.dover_model.proofs.Deeds.{Abandoned, Rested}
-use Rattle.dover_model.proofs.Kept.{open_deed, open_kept, opening_keeps, come_coming}
-use Rattle.dover_model.proofs.Members.{on_map, map_member, map_map}
-use Rattle.dover_model.proofs.Moves.{says}
-use Rattle.dover_model.proofs.Roles.{one_number, numbered_map, passes, is_running_role}
-use Rattle.dover_model.proofs.Tests.{never}
-use Rattle.dover_model.proofs.RoleChanges.{with_role_at, all_displaced, displaced_same, task_at}
-use Rattle.ready_server.specs.Roster.{Roll, ListedJob, had_with, stopped, released, is_displaced, job_at, with_stop}
-use Rattle.ready_server.specs.Roster.{halted, started, with_event, empty_roll, roll_of}
+use Rattle.dover_model.specs.Common.{Fraction, Instance, IsValid, IsOpenPath, HasPrinted, Step, event_of, printed_of}
+use Rattle.dover_model.specs.Common.{IsMember, Each, IsNumberedFrom, IsSound, Keeps, NoneRuns, State, opening}
+use Rattle.dover_model.specs.Common.{is_running, left, Move, Prints, Waits, Ticks, open_step, after, with_role, ticked}
+use Rattle.dover_model.specs.Common.{displaced}
+use Rattle.dover_model.proofs.steps.Deeds.{Deed, Completed, Resumed, Started, Began, Preempted, Stayed, Arrived, Taken}
+use Rattle.dover_model.proofs.steps.Deeds.{Abandoned, Rested}
+use Rattle.dover_model.proofs.steps.Kept.{open_deed, open_kept, opening_keeps, come_coming}
+use Rattle.dover_model.proofs.lists.Members.{on_map, map_member, map_map}
+use Rattle.dover_model.proofs.steps.Moves.{says}
+use Rattle.dover_model.proofs.steps.Roles.{one_number, numbered_map, passes, is_running_role}
+use Rattle.dover_model.proofs.lists.Tests.{never}
+use Rattle.dover_model.proofs.steps.RoleChanges.{with_role_at, all_displaced, displaced_same, task_at}
+use Rattle.ready_server.specs.Roster.{Roll, ListedJob, had_with, stopped, released, job_at, with_stop}
+use Rattle.ready_server.specs.Roster.{is_turn, halted, started, with_event, empty_roll, roll_of}
 use Rattle.ready_server.proofs.Rolls.{calm_role, Lists, Follows, set_here, set_there, length_set, get_front, get_last}
-use Rattle.ready_server.proofs.Rolls.{at_clock, number_is, job_is, had_ran, had_is, lists_other, lists_same}
-use Rattle.ready_server.proofs.Rolls.{turn_here}
+use Rattle.ready_server.proofs.Rolls.{at_clock, number_is, job_is, had_ran, had_is, lists_as, lists_other, lists_same}
 use Rattle.ready_server.proofs.RollMoves.{no_turn, idle_turn, halts, starts, displaces}
 
 -- the roll after a step
@@ -210,19 +206,9 @@ module _ (s : State) (sound : IsSound s) (p : Roll) (follows : Follows s p) wher
         had_none_yet = (says s sound c member Coming comes).0
 
         lists_c : Lists q s.clock (with_role c Fresh)
-        lists_c = record {
-          listed = e_new;
-          there = subst (λ n. slice_get (p.jobs ++ e_new ∷ []) n ≡ Some e_new) next (get_last p.jobs e_new);
-          is = ap (λ b. let u : Task = record {
-            number = c.number;
-            job = c.job;
-            role = cond b Running Waiting;
-            had = cond b (had_with (s.clock - p.since) e_new.task) 0;
-          } in u) (idle_turn s sound p follows c member idle)
-              ∙ ap (λ h. let u : Task = record { number = c.number; job = c.job; role = Waiting; had = h } in u)
-              (sym had_none_yet);
-          before = omega arith;
-        }
+        lists_c = lists_as q s.clock (with_role c Fresh) e_new false
+            (subst (λ n. slice_get (p.jobs ++ e_new ∷ []) n ≡ Some e_new) next (get_last p.jobs e_new)) refl refl
+            (idle_turn s sound p follows c member idle) refl (sym had_none_yet) (omega arith)
 
   -- a tick
   passes_tick : Each (λ t. t.role ≡ Running → 1 ≤ left t) s.tasks → Follows (after s Ticks) p
@@ -241,53 +227,15 @@ module _ (s : State) (sound : IsSound s) (p : Roll) (follows : Follows s p) wher
         let idle = idle_turn s sound p follows t m (λ runs. never (sym e ∙ passes is_running t Running true runs refl))
         in
         subst (λ (u : Task). Lists p (s.clock + 1) u)
-        (ap (λ b. let u : Task = record {
-          number = t.number;
-          job = t.job;
-          role = t.role;
-          had = cond b (t.had + 1) t.had;
-        } in u) (sym e))
+        (ap (λ b. record t { had = cond b (t.had + 1) t.had }) (sym e))
         (lists_same p s.clock t it idle p t.role refl refl idle refl (s.clock + 1))
     here_now t m it true e =
         let runs : t.role ≡ Running = is_running_role t e in
         let turns = follows.runs t m runs in
-        record {
-          listed = it.listed;
-          there = it.there;
-          is = ap (λ b. let u : Task = record {
-            number = it.listed.task.number;
-            job = it.listed.task.job;
-            role = cond b Running (cond (is_displaced p.takes it.listed) Waiting it.listed.task.role);
-            had = cond b (had_with (s.clock + 1 - p.since) it.listed.task) it.listed.task.had;
-          } in u) (turn_here p s.clock t it turns)
-              ∙ ap (λ n. let u : Task = record {
-                number = n;
-                job = it.listed.task.job;
-                role = Running;
-                had = had_with
-                    (s.clock + 1 - p.since) it.listed.task;
-              } in u) (number_is p s.clock t it)
-              ∙ ap (λ j. let u : Task = record {
-                number = t.number;
-                job = j;
-                role = Running;
-                had = had_with
-                    (s.clock + 1 - p.since) it.listed.task;
-              } in u) (job_is p s.clock t it)
-              ∙ ap (λ h. let u : Task = record { number = t.number; job = t.job; role = Running; had = h } in u)
-              (one_more it.listed.task (had_ran p s.clock t it turns) (ap (λ j. j.work) (job_is p s.clock t it))
-              (some t m runs)
-              ∙ ap (λ b. cond b (t.had + 1) t.had) (sym e))
-              ∙ ap (λ r. let u : Task = record {
-                number = t.number;
-                job = t.job;
-                role = r;
-                had = cond (is_running t)
-                    (t.had + 1) t.had;
-              } in u)
-              (sym (ap calm_role runs));
-          before = it.before;
-        } where
+        lists_as p (s.clock + 1) (ticked t) it.listed true it.there (number_is p s.clock t it) (job_is p s.clock t it)
+        (ap (λ o. is_turn o t.number) turns ∙ eq-eqb t.number t.number refl) (sym (ap calm_role runs))
+        (one_more it.listed.task (had_ran p s.clock t it turns) (ap (λ j. j.work) (job_is p s.clock t it))
+        (some t m runs) ∙ ap (λ b. cond b (t.had + 1) t.had) (sym e)) it.before where
           one_more : (u : Task) → had_with (s.clock - p.since) u ≡ t.had → u.job.work ≡ t.job.work → 1 ≤ left t
               → had_with (s.clock + 1 - p.since) u ≡ t.had + 1
           one_more u had work more = omega (arith, had, work, more, follows.since)

@@ -1,42 +1,32 @@
 -- A roll at a mark has all jobs as they stand, and what a server has printed can be read into it.
 use Rattle.std.proofs.Common.{◌≡◌, inl, inr, ℕ, suc, ◌+◌, ◌-◌, ◌≤◌, ◌<◌, ◌^◌, List, [], ◌∷◌, ◌++◌, length}
 use Rattle.std.proofs.Common.{length-append, map, set, refl, sym, ap, ◌∙◌, subst, Option, Some, None, Bool, true, false}
-use Rattle.std.proofs.Common.{arith}
-use Rattle.std.proofs.lemmas.Bool.{ltb-true, ltb-false}
-use Rattle.std.specs.Prelude.{nat_lt}
-use Rattle.std.specs.List.{slice_get, fold, AllByRecursion}
+use Rattle.std.proofs.Common.{arith, ltb-true, ltb-false, nat_lt, slice_get, fold}
+use Rattle.std.specs.List.{AllByRecursion}
 use Rattle.std.proofs.lemmas.List.Sums.{fold-append}
 use Rattle.std.proofs.lemmas.Option.{slice_get_within}
 use Rattle.dover_model.specs.declared.events.Event.{Event}
-use Rattle.dover_model.specs.declared.events.Event.TheVariants.{Release, Run, Preempt, Take, Complete, Abandon, End}
+use Rattle.dover_model.specs.declared.events.Event.TheVariants.{Release, Preempt, Take, Complete, Abandon}
 use Rattle.dover_model.specs.declared.events.Role.{Role}
-use Rattle.dover_model.specs.declared.events.Role.TheVariants.{Coming, Fresh, Waiting, Held, Running, Done, Gone}
+use Rattle.dover_model.specs.declared.events.Role.TheVariants.{Coming, Fresh, Waiting, Held, Done, Gone}
 use Rattle.dover_model.specs.declared.events.Task.{Task}
-use Rattle.dover_model.specs.JobFacts.{JobFacts}
-use Rattle.dover_model.specs.Instance.{Rules, Instance, IsValid}
-use Rattle.dover_model.specs.Paths.{IsOpenPath, HasPrinted}
-use Rattle.dover_model.specs.Run.{Step}
-use Rattle.dover_model.specs.Settled.{settled, settled_state, settled_steps}
-use Rattle.dover_model.specs.WholeRun.{IsSettledRun, Begins}
-use Rattle.dover_model.specs.Sound.{IsMember, Each, IsNumberedFrom, Keeps}
-use Rattle.dover_model.specs.State.{State, opening, is_coming}
-use Rattle.dover_model.specs.Step.{open_step, after, with_role}
-use Rattle.dover_model.proofs.Barriers.{AtBarrier, settled_at_barrier, state_after}
-use Rattle.dover_model.proofs.Honest.{count_jobs}
-use Rattle.dover_model.proofs.Members.{some_same}
-use Rattle.dover_model.proofs.Roles.{passes, numbers_above}
-use Rattle.dover_model.proofs.Settling.{settled_is_run}
-use Rattle.dover_model.proofs.Tests.{never}
+use Rattle.dover_model.specs.Common.{JobFacts, Rules, Instance, IsValid, IsOpenPath, HasPrinted, Step, settled}
+use Rattle.dover_model.specs.Common.{settled_state, settled_steps, IsSettledRun, Begins, IsMember, Each, IsNumberedFrom}
+use Rattle.dover_model.specs.Common.{Keeps, State, opening, is_coming, open_step, after, with_role, due_by}
+use Rattle.dover_model.proofs.settled.Barriers.{AtBarrier, settled_at_barrier, state_after}
+use Rattle.dover_model.proofs.runs.Honest.{count_jobs}
+use Rattle.dover_model.proofs.lists.Members.{some_same}
+use Rattle.dover_model.proofs.steps.Roles.{passes, numbers_above}
+use Rattle.dover_model.proofs.settled.Settling.{settled_is_run}
+use Rattle.dover_model.proofs.lists.Tests.{never}
 use Rattle.dover_model.specs.declared.horizon.Horizon.{Horizon}
-use Rattle.dover_model.specs.declared.horizon.Horizon.TheVariants.{Mark, End}
-use Rattle.dover_model.specs.Horizons.{due_by}
-use Rattle.dover_model.proofs.Horizons.{due_few}
-use Rattle.dover_model.proofs.Limiting.{jobs_most}
+use Rattle.dover_model.specs.declared.horizon.Horizon.TheVariants.{Mark}
+use Rattle.dover_model.proofs.settled.Horizons.{due_few}
+use Rattle.dover_model.proofs.valid.Limiting.{jobs_most}
 use Rattle.ready_server.specs.Serving as ready
 use Rattle.ready_server.specs.declared.server.ReadyServer.{ReadyServer}
 use Rattle.ready_server.specs.Roster.{Roll, ListedJob, stopped, released, job_at, with_event, empty_roll, roll_of}
-use Rattle.ready_server.specs.Roster.{with_stop}
-use Rattle.ready_server.specs.Roster.{halted}
+use Rattle.ready_server.specs.Roster.{with_stop, halted}
 use Rattle.ready_server.proofs.Present.{none_to_come}
 use Rattle.ready_server.proofs.Rolls.{calm, calm_role, length_set, Follows}
 use Rattle.ready_server.proofs.RollRuns.{numbered_task, roll_follows}
@@ -82,13 +72,8 @@ settled_path rules mark (x ∷ xs) s run = (
 calm_is : (t : Task) → (t.role ≡ Fresh → ⊥) → calm t ≡ t
 calm_is t stale = ap (with_role t) (by t.role refl) where
   by : (role : Role) → t.role ≡ role → calm_role role ≡ role
-  by Coming e = refl
   by Fresh e = absurd (stale e)
-  by Waiting e = refl
-  by Held e = refl
-  by Running e = refl
-  by Done e = refl
-  by Gone e = refl
+  by _ e = refl
 
 module _ (J : Instance) (valid : IsValid J) (mark : ℕ) (known : AllByRecursion (λ j. j.release ≤ mark) J.jobs) where
   abbrev s : State
@@ -146,13 +131,11 @@ halt_takes p at role = by p.turn where
 
 -- each step is at most one
 one_take : (p : Roll) (e : Event) → (with_event p e).takes ≤ suc p.takes
-one_take p (Release n job) = omega arith
-one_take p (Run at n) = omega arith
 one_take p (Preempt at stops starts) = omega (arith, halt_takes p at Held)
 one_take p (Take at stops starts) = omega (arith, halt_takes p at Waiting)
 one_take p (Complete at n) = omega (arith, halt_takes p at Done)
 one_take p (Abandon at n) = omega (arith, stop_takes p n 0 Gone)
-one_take p (End value) = omega arith
+one_take p _ = omega arith
 
 takes_from : (events : List Event) (p : Roll) → (fold with_event p events).takes ≤ p.takes + length events
 takes_from [] p = omega arith
@@ -179,12 +162,11 @@ halt_count p at role = by p.turn where
 pub same_count : (p : Roll) (e : Event) → ((n : ℕ) (job : JobFacts) → e ≡ Release n job → ⊥)
     → length (with_event p e).jobs ≡ length p.jobs
 same_count p (Release n job) other = absurd (other n job refl)
-same_count p (Run at n) other = refl
 same_count p (Preempt at stops starts) other = halt_count p at Held
 same_count p (Take at stops starts) other = halt_count p at Waiting
 same_count p (Complete at n) other = halt_count p at Done
 same_count p (Abandon at n) other = stop_count p n 0 Gone
-same_count p (End value) other = refl
+same_count p _ other = refl
 
 -- there are few takes
 pub takes_low : (J : Instance) (to : Horizon) (events : List Event) → IsValid J → Begins events (due_by J to)

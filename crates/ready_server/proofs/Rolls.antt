@@ -1,15 +1,10 @@
 -- A roll follows the states of a run.
-use Rattle.std.proofs.Common.{◌≡◌, ℕ, zero, suc, ◌-◌, ◌≤◌, List, [], ◌∷◌, ◌++◌, length, set, refl, sym}
-use Rattle.std.proofs.Common.{ap, ◌∙◌, subst, true, false, cond, arith}
-use Rattle.std.proofs.lemmas.Bool.{eq-eqb, ne_eqb}
-use Rattle.std.specs.Prelude.{Option, Some, None}
-use Rattle.std.specs.List.{slice_get}
+use Rattle.std.proofs.Common.{◌≡◌, ℕ, zero, suc, ◌-◌, ◌≤◌, List, [], ◌∷◌, ◌++◌, length, set, refl, sym, ap, ◌∙◌, subst}
+use Rattle.std.proofs.Common.{Bool, true, false, cond, arith, eq-eqb, ne_eqb, Option, Some, None, slice_get}
 use Rattle.dover_model.specs.declared.events.Role.{Role}
 use Rattle.dover_model.specs.declared.events.Role.TheVariants.{Coming, Fresh, Waiting, Held, Running, Done, Gone}
 use Rattle.dover_model.specs.declared.events.Task.{Task}
-use Rattle.dover_model.specs.Sound.{IsMember, Each}
-use Rattle.dover_model.specs.State.{State}
-use Rattle.dover_model.specs.Step.{with_role}
+use Rattle.dover_model.specs.Common.{JobFacts, IsMember, Each, State, with_role}
 use Rattle.ready_server.specs.Roster.{Roll, ListedJob, had_with, is_turn, is_displaced, job_at}
 
 -- the role of a job in a roll: what is fresh there waits
@@ -77,6 +72,32 @@ at_clock s tasks = record { clock = s.clock; tasks = tasks }
 
 -- ---- one job
 
+-- a task of these parts
+abbrev task_of : ℕ → JobFacts → Role → ℕ → Task
+task_of n job role had = record { number = n; job = job; role = role; had = had }
+
+-- tasks of the same parts are the same
+same_parts : (a b : Task) → a.number ≡ b.number → a.job ≡ b.job → a.role ≡ b.role → a.had ≡ b.had → a ≡ b
+same_parts a b number job role had =
+    ap (λ n. task_of n a.job a.role a.had) number ∙ ap (λ j. task_of b.number j a.role a.had) job
+    ∙ ap (λ r. task_of b.number b.job r a.had) role ∙ ap (task_of b.number b.job b.role) had
+
+-- a job of the roll is the task that has its parts
+pub lists_as : (p : Roll) (clock : ℕ) (t : Task) (e : ListedJob) (b : Bool) → slice_get p.jobs t.number ≡ Some e
+    → e.task.number ≡ t.number → e.task.job ≡ t.job → is_turn p.turn t.number ≡ b
+    → cond b Running (cond (is_displaced p.takes e) Waiting e.task.role) ≡ calm_role t.role
+    → cond b (had_with (clock - p.since) e.task) e.task.had ≡ t.had → e.takes ≤ p.takes → Lists p clock t
+lists_as p clock t e b there number job turn role had low = record {
+  listed = e;
+  there = there;
+  is = same_parts (job_at p clock e) (calm t) number job
+      (ap (λ c. cond c Running (cond (is_displaced p.takes e) Waiting e.task.role)) turn_e ∙ role)
+      (ap (λ c. cond c (had_with (clock - p.since) e.task) e.task.had) turn_e ∙ had);
+  before = low;
+} where
+  turn_e : is_turn p.turn e.task.number ≡ b
+  turn_e = ap (is_turn p.turn) number ∙ turn
+
 -- a job that isn't the one that runs
 module _ (p : Roll) (clock : ℕ) (t : Task) (it : Lists p clock t) where
   pub number_is : it.listed.task.number ≡ t.number
@@ -112,39 +133,8 @@ module _ (p : Roll) (clock : ℕ) (t : Task) (it : Lists p clock t) where
         → e.task.number ≡ t.number → e.task.job ≡ t.job → e.task.had ≡ t.had → is_turn q.turn t.number ≡ false
         → cond (is_displaced q.takes e) Waiting e.task.role ≡ calm_role role → e.takes ≤ q.takes
         → (clock2 : ℕ) → Lists q clock2 (with_role t role)
-    lists_other q role e there number job had idle_too same low clock2 = record {
-      listed = e;
-      there = there;
-      is = ap (λ b. record {
-        number = e.task.number;
-        job = e.task.job;
-        role = cond b Running (cond (is_displaced q.takes e) Waiting e.task.role);
-        had = cond b (had_with (clock2 - q.since) e.task) e.task.had;
-      }) (ap (is_turn q.turn) number ∙ idle_too)
-          ∙ ap (λ n. let u : Task = record {
-            number = n;
-            job = e.task.job;
-            role = cond (is_displaced q.takes e) Waiting
-                e.task.role;
-            had = e.task.had;
-          } in u) number
-          ∙ ap (λ j. let u : Task = record {
-            number = t.number;
-            job = j;
-            role = cond (is_displaced q.takes e) Waiting
-                e.task.role;
-            had = e.task.had;
-          } in u) job
-          ∙ ap (λ h. let u : Task = record {
-            number = t.number;
-            job = t.job;
-            role = cond (is_displaced q.takes e)
-                Waiting e.task.role;
-            had = h;
-          } in u) had
-          ∙ ap (λ r. let u : Task = record { number = t.number; job = t.job; role = r; had = t.had } in u) same;
-      before = low;
-    }
+    lists_other q role e there number job had idle_too same low clock2 =
+        lists_as q clock2 (with_role t role) e false there number job idle_too same had low
 
     -- with the same list, takes and role it is as before
     pub lists_same : (q : Roll) (role : Role) → slice_get q.jobs t.number ≡ slice_get p.jobs t.number

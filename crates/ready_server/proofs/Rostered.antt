@@ -1,17 +1,13 @@
 -- What a server that may keep a roster has read after a step.
 use Rattle.std.proofs.Common.{◌≡◌, ◌<◌, ◌-◌, ◌^◌, ℕ, List, [], ◌∷◌, ◌++◌, length, refl, sym, ap, ◌∙◌, subst, arith}
-use Rattle.std.specs.Prelude.{Option, Some, None, is_some}
-use Rattle.std.specs.Option.{option_map}
+use Rattle.std.proofs.Common.{Option, Some, None, is_some, option_map}
 use Rattle.dover_model.specs.declared.events.Event.{Event}
 use Rattle.dover_model.specs.declared.events.Event.TheVariants.{Release, Complete}
-use Rattle.dover_model.specs.JobFacts.{JobFacts}
-use Rattle.dover_model.specs.Instance.{Instance}
-use Rattle.dover_model.specs.Settled.{settled}
+use Rattle.dover_model.specs.Common.{JobFacts, Instance, settled, MayFollow, due_by, Gives}
 use Rattle.dover_model.specs.declared.horizon.Horizon.{Horizon}
 use Rattle.dover_model.specs.declared.horizon.Horizon.TheVariants.{Mark, End}
-use Rattle.dover_model.specs.Horizons.{MayFollow, due_by, Gives}
-use Rattle.dover_model.proofs.Members.{some_same}
-use Rattle.dover_model.proofs.Tests.{none_is_some}
+use Rattle.dover_model.proofs.lists.Members.{some_same}
+use Rattle.dover_model.proofs.lists.Tests.{none_is_some}
 use Rattle.ready_jobs.proofs.Courses.{follows_count}
 use Rattle.ready_server.specs.Serving as ready
 use Rattle.ready_server.specs.declared.server.ReadyServer.{ReadyServer}
@@ -68,9 +64,8 @@ marked End t o events may read = absurd may
 read_later : (from to : Horizon) (o : Option Kept) (events : List Event) → MayFollow from to → HasRead from o events
     → HasRead to o events
 read_later (Mark m) (Mark t) o events may read = read
-read_later (Mark m) End o events may read = tt
 read_later End (Mark t) o events may read = absurd may
-read_later End End o events may read = tt
+read_later _ End o events may read = tt
 
 -- ---- a server
 

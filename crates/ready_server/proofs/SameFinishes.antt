@@ -1,20 +1,13 @@
 -- A server serves the same jobs with the same finishes, in whatever order these stand.
-use Rattle.std.proofs.Common.{◌≡◌, ℕ, List, sym, ap, ◌∙◌, subst, Bool, true, false}
-use Rattle.std.specs.Prelude.{Option, nat_le, ◌&&◌}
+use Rattle.std.proofs.Common.{◌≡◌, ℕ, List, sym, ap, ◌∙◌, subst, Bool, true, false, Option, nat_le, ◌&&◌}
 use Rattle.dover_model.specs.declared.events.Event.{Event}
 use Rattle.dover_model.specs.declared.horizon.Horizon.{Horizon}
 use Rattle.dover_model.specs.declared.horizon.Horizon.TheVariants.{Mark, End}
-use Rattle.dover_model.specs.Finishes.{Finish, AreDueAlike}
-use Rattle.dover_model.specs.Instance.{Instance, finishing}
-use Rattle.dover_model.specs.State.{State, state_at}
-use Rattle.dover_model.specs.Run.{printed, printed_of}
-use Rattle.dover_model.specs.Settled.{waits_for_mark, last_of}
-use Rattle.dover_model.specs.Horizons.{due_by}
-use Rattle.dover_model.specs.Paths.{HasPrinted}
-use Rattle.dover_model.specs.Sound.{HaveTheSame}
-use Rattle.dover_model.proofs.FinishOrders.{same_alike, same_open, settled_alike, run_alike, has_printed_alike}
-use Rattle.dover_model.proofs.FinishOrders.{whole_alike}
-use Rattle.dover_model.proofs.Meeting.{finishing_valid}
+use Rattle.dover_model.specs.Common.{Finish, AreDueAlike, Instance, finishing, State, state_at, printed, printed_of}
+use Rattle.dover_model.specs.Common.{waits_for_mark, last_of, due_by, HasPrinted, HaveTheSame}
+use Rattle.dover_model.proofs.finishes.FinishOrders.{same_alike, same_open, settled_alike, run_alike, has_printed_alike}
+use Rattle.dover_model.proofs.finishes.FinishOrders.{whole_alike}
+use Rattle.dover_model.proofs.finishes.Meeting.{finishing_valid}
 use Rattle.ready_jobs.specs.Course.{Course, Follows}
 use Rattle.ready_server.specs.Roster.{Kept, IsRollOf}
 use Rattle.ready_server.specs.Rostering.{HasRead}

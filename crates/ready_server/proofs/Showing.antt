@@ -1,13 +1,11 @@
 -- The steps on the way to a horizon, as they are shown.
 use Rattle.std.proofs.Common.{◌≤◌, ◌+◌, ℕ, List, [], ◌∷◌, ◌++◌, length, arith, length-append}
 use Rattle.dover_model.specs.declared.events.Event.{Event}
-use Rattle.dover_model.specs.Instance.{Instance, IsValid}
-use Rattle.dover_model.specs.WholeRun.{Begins}
-use Rattle.dover_model.proofs.Beginnings.{begins_length}
+use Rattle.dover_model.specs.Common.{Instance, IsValid, Begins, MayFollow, due_by}
+use Rattle.dover_model.proofs.lists.Beginnings.{begins_length}
 use Rattle.dover_model.specs.declared.horizon.Horizon.{Horizon}
-use Rattle.dover_model.specs.Horizons.{MayFollow, due_by}
-use Rattle.dover_model.proofs.Horizons.{follows_on, due_few}
-use Rattle.dover_model.proofs.Limiting.{jobs_most}
+use Rattle.dover_model.proofs.settled.Horizons.{follows_on, due_few}
+use Rattle.dover_model.proofs.valid.Limiting.{jobs_most}
 use Rattle.ready_server.specs.Running.{HasShown}
 use Rattle.ready_server.specs.Serving.{Serves}
 use Rattle.ready_server.specs.declared.server.ReadyServer.{ReadyServer}

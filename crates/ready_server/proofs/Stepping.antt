@@ -1,38 +1,29 @@
 -- What a server has given after a step.
 use Rattle.std.proofs.Common.{◌≡◌, ℕ, ◌≤◌, List, [], ◌∷◌, ◌++◌, refl, sym, ap, ◌∙◌, subst, Bool, true, false, arith}
-use Rattle.std.proofs.Common.{append_assoc, ◌+◌, ◌<◌, length, min}
-use Rattle.std.specs.Prelude.{Option, Some, None, Result, Ok, Err, OnOk, IfSome, IsTrue, nat_lt}
-use Rattle.std.specs.Bool.{MatchBool}
+use Rattle.std.proofs.Common.{append_assoc, ◌+◌, ◌<◌, length, min, Option, Some, None, Result, Ok, Err, OnOk, IfSome}
+use Rattle.std.proofs.Common.{IsTrue, nat_lt, MatchBool, ltb-true, ltb-false, append-nil}
 use Rattle.std.specs.List.{cons_option}
-use Rattle.std.proofs.lemmas.Bool.{ltb-true, ltb-false}
-use Rattle.std.proofs.lemmas.List.{append-nil}
 use Rattle.std.proofs.lemmas.List.Sums.{fold-append}
 use Rattle.dover_model.specs.declared.events.Event.{Event}
 use Rattle.dover_model.specs.declared.events.Event.TheVariants as events
 use Rattle.dover_model.specs.declared.Memory.{Memory}
-use Rattle.dover_model.specs.Limits.{last_tick, most_ready}
-use Rattle.dover_model.specs.Instance.{Rules, Instance, IsValid}
-use Rattle.dover_model.specs.State.{State, opening, state_at}
-use Rattle.dover_model.specs.Step.{Prints, step, open_step, after}
-use Rattle.dover_model.specs.Run.{Step, is_end, event_of, printed, printed_of, last_deadline}
-use Rattle.dover_model.specs.Settled.{settled, AreOverFor, tick_of_event, last_of}
-use Rattle.dover_model.specs.WholeRun.{open_at, IsBefore, IsWholeRun, Begins}
-use Rattle.dover_model.specs.Paths.{IsOpenPath, HasPrinted}
-use Rattle.dover_model.specs.Sound.{Keeps}
-use Rattle.dover_model.proofs.OverFor.{over_ready}
-use Rattle.dover_model.proofs.LastSteps.{open_clock}
-use Rattle.dover_model.proofs.Members.{some_same}
-use Rattle.dover_model.proofs.Tests.{none_is_some, never}
-use Rattle.dover_model.proofs.Ending.{potential, ends}
-use Rattle.dover_model.proofs.Kept.{open_kept}
-use Rattle.dover_model.proofs.Paths.{printed_more, printed_settled, printed_then_run, printed_begins, path_low}
-use Rattle.dover_model.proofs.Prefixes.{step_open, open_goes_on}
-use Rattle.dover_model.proofs.ShortNumbers.{step_short, IsShortMove}
-use Rattle.dover_model.specs.Leading.{Settles, Idles, GoesOn, WaitsUntil, PrintsNext}
-use Rattle.dover_model.proofs.Leading.{idles_settles, settles_silent}
+use Rattle.dover_model.specs.Common.{last_tick, most_ready, Rules, Instance, IsValid, State, opening, state_at, Prints}
+use Rattle.dover_model.specs.Common.{step, open_step, after, Step, is_end, event_of, printed, printed_of, last_deadline}
+use Rattle.dover_model.specs.Common.{settled, AreOverFor, tick_of_event, last_of, open_at, IsBefore, IsWholeRun, Begins}
+use Rattle.dover_model.specs.Common.{IsOpenPath, HasPrinted, Keeps, Settles, Idles, GoesOn, WaitsUntil, PrintsNext}
+use Rattle.dover_model.specs.Common.{MayFollow, is_end_given, due_by, Gives}
+use Rattle.dover_model.proofs.finishes.OverFor.{over_ready}
+use Rattle.dover_model.proofs.settled.LastSteps.{open_clock}
+use Rattle.dover_model.proofs.lists.Members.{some_same}
+use Rattle.dover_model.proofs.lists.Tests.{none_is_some, never}
+use Rattle.dover_model.proofs.runs.Ending.{potential, ends}
+use Rattle.dover_model.proofs.steps.Kept.{open_kept}
+use Rattle.dover_model.proofs.settled.Paths.{printed_more, printed_settled, printed_then_run, printed_begins, path_low}
+use Rattle.dover_model.proofs.settled.Prefixes.{step_open, open_goes_on}
+use Rattle.dover_model.proofs.traces.ShortNumbers.{step_short, IsShortMove}
+use Rattle.dover_model.proofs.settled.Leading.{idles_settles, settles_silent}
 use Rattle.dover_model.specs.declared.horizon.Horizon.{Horizon}
 use Rattle.dover_model.specs.declared.horizon.Horizon.TheVariants.{Mark, End}
-use Rattle.dover_model.specs.Horizons.{MayFollow, is_end_given, due_by, Gives}
 use Rattle.ready_jobs.specs.Course.{Course, Follows, Comes, ComesNext, Settled, StepsBefore}
 use Rattle.ready_server.specs.Serving.{LeavesRest, HasGiven, IsLastOf, Serves, Rests, HasPlace, HasPlaceUnlessFull}
 use Rattle.ready_server.specs.Serving.{HasShortValue}
@@ -85,12 +76,7 @@ pub mark_low : (s : ReadyServer) (J : Instance) (from : Horizon) (mark : ℕ) (e
     → Serves s J from events → MayFollow from (Mark mark) → s.ready.clock ≤ mark
 mark_low s J from mark events serves follows =
     let way = before_mark s J from mark events serves follows in
-    omega (
-      arith,
-      printed_low J serves.follows.valid way.1 serves.state events way.2,
-      way.3,
-      serves.follows.clock,
-    )
+    omega (arith, printed_low J serves.follows.valid way.1 serves.state events way.2, way.3, serves.follows.clock)
 
 module _ (s : ReadyServer) (d : Course) (mark : ℕ) (o : Option Event)
     (settled_at : (J : Instance) (z : State) → Follows s.ready J z → Settled d J z mark o) (low : d.clock ≤ mark)
@@ -304,23 +290,13 @@ next_short c d J z follows e next = by_event e (subst IsShortMove here.2.prints
       here = next J z follows
 
       by_event : (f : Event) → IsShortMove (Prints f) → HasShortValue f
-      by_event (events.Release n job) short = tt
-      by_event (events.Run at n) short = tt
-      by_event (events.Preempt at stops starts) short = tt
-      by_event (events.Take at stops starts) short = tt
-      by_event (events.Complete at n) short = tt
-      by_event (events.Abandon at n) short = tt
       by_event (events.End value) short = short.0
+      by_event _ short = tt
 
 -- an event that isn't the End names no value
 pub open_short : (e : Event) → is_end (Prints e) ≡ false → HasShortValue e
-open_short (events.Release n job) none = tt
-open_short (events.Run at n) none = tt
-open_short (events.Preempt at stops starts) none = tt
-open_short (events.Take at stops starts) none = tt
-open_short (events.Complete at n) none = tt
-open_short (events.Abandon at n) none = tt
 open_short (events.End value) none = absurd (let f : true ≡ false = none in cc)
+open_short _ none = tt
 
 -- nor does an answer that isn't
 pub open_shorts : (o : Option Event) → is_end_given o ≡ false → IfSome o HasShortValue

@@ -1,39 +1,30 @@
 -- Who gets the processor where the job that has it is done.
-use Rattle.std.proofs.Common.{◌≡◌, ℕ, ◌⊎◌, inl, inr, List, [], ◌∷◌, ◌++◌, map, refl, sym, ap, ◌∙◌, subst, Bool}
-use Rattle.std.proofs.Common.{true, false, cond, arith, ◌-◌}
-use Rattle.std.specs.Prelude.{Option, Some, None, option_map, nat_le, nat_lt, ◌==◌, ◌&&◌}
-use Rattle.std.specs.List.{filter, find, cons_option}
-use Rattle.std.proofs.lemmas.Bool.{eqb-true, eq-eqb, le-leb}
+use Rattle.std.proofs.Common.{◌≡◌, ℕ, ◌⊎◌, inl, inr, List, [], ◌∷◌, ◌++◌, map, refl, sym, ap, ◌∙◌, subst, Bool, true}
+use Rattle.std.proofs.Common.{false, cond, arith, ◌-◌, Option, Some, None, option_map, nat_le, nat_lt, ◌==◌, ◌&&◌}
+use Rattle.std.proofs.Common.{filter, find, eqb-true, eq-eqb, le-leb}
+use Rattle.std.specs.List.{cons_option}
 use Rattle.dover_model.specs.declared.events.Event.{Event}
 use Rattle.dover_model.specs.declared.events.Event.TheVariants.{Run, Complete}
 use Rattle.dover_model.specs.declared.events.Role.TheVariants.{Running, Done}
 use Rattle.dover_model.specs.declared.events.Task.{Task}
 use Rattle.dover_model.specs.declared.events.Version.{Version}
-use Rattle.dover_model.specs.Finishes.{is_finish_of}
-use Rattle.dover_model.specs.Instance.{Instance, IsValid, Rules, with_finishes}
-use Rattle.dover_model.specs.State.{State, running, is_running, is_fresh, is_coming, is_waiting, is_held, is_over}
-use Rattle.dover_model.specs.State.{state_at, room}
-use Rattle.dover_model.specs.Orders.{due_first, first}
-use Rattle.dover_model.specs.Step.{View, Prints, Ticks, view, open_step, declared_open_step, finish_or, after}
-use Rattle.dover_model.specs.Step.{with_role, role_after, arrival}
-use Rattle.dover_model.specs.Run.{event_of}
-use Rattle.dover_model.specs.Settled.{settled, settled_state, finish_now, RunsAtMark, waits_for_mark}
-use Rattle.dover_model.specs.Session.{EarlyFinish, finish_at}
-use Rattle.dover_model.specs.Sound.{IsMember, Each}
-use Rattle.dover_model.specs.Ready.{is_ready}
-use Rattle.dover_model.specs.Paths.{HasPrinted}
-use Rattle.dover_model.specs.WholeRun.{open_at, Begins}
+use Rattle.dover_model.specs.Common.{is_finish_of, Instance, IsValid, Rules, with_finishes, State, running, is_running}
+use Rattle.dover_model.specs.Common.{is_fresh, is_coming, is_waiting, is_held, is_over, state_at, room, due_first}
+use Rattle.dover_model.specs.Common.{first, View, Prints, Ticks, view, open_step, declared_open_step, finish_or, after}
+use Rattle.dover_model.specs.Common.{with_role, role_after, arrival, event_of, settled, settled_state, finish_now}
+use Rattle.dover_model.specs.Common.{RunsAtMark, waits_for_mark, EarlyFinish, finish_at, IsMember, Each, is_ready}
+use Rattle.dover_model.specs.Common.{HasPrinted, open_at, Begins}
 use Rattle.dover_model.specs.declared.horizon.Horizon.TheVariants.{Mark}
-use Rattle.dover_model.proofs.Barriers.{AtBarrier, settled_at_barrier}
-use Rattle.dover_model.proofs.Finishing.{none_without}
-use Rattle.dover_model.proofs.Further.{printed_at_mark}
-use Rattle.dover_model.proofs.Meeting.{finishing_valid}
-use Rattle.dover_model.proofs.Members.{find_none, found, member_filter, on_map}
-use Rattle.dover_model.proofs.Paths.{printed_more, printed_settled, printed_begins}
-use Rattle.dover_model.proofs.ReadyParts.{view_ready}
-use Rattle.dover_model.proofs.RightFinishes.{FinishSays, finish_says, finish_runs}
-use Rattle.dover_model.proofs.Roles.{passes, one_number, is_running_role, is_fresh_role}
-use Rattle.dover_model.proofs.Waiting.{some_goes_on}
+use Rattle.dover_model.proofs.settled.Barriers.{AtBarrier, settled_at_barrier}
+use Rattle.dover_model.proofs.finishes.Finishing.{none_without}
+use Rattle.dover_model.proofs.finishes.Further.{printed_at_mark}
+use Rattle.dover_model.proofs.finishes.Meeting.{finishing_valid}
+use Rattle.dover_model.proofs.lists.Members.{find_none, found, member_filter, on_map}
+use Rattle.dover_model.proofs.settled.Paths.{printed_more, printed_settled, printed_begins}
+use Rattle.dover_model.proofs.steps.ReadyParts.{view_ready}
+use Rattle.dover_model.proofs.finishes.RightFinishes.{FinishSays, finish_says, finish_runs}
+use Rattle.dover_model.proofs.steps.Roles.{passes, one_number, is_running_role, is_fresh_role}
+use Rattle.dover_model.proofs.settled.Waiting.{some_goes_on}
 use Rattle.ready_jobs.specs.Cases.{next_of, next_ready}
 use Rattle.ready_jobs.specs.Changed.{AreOnce}
 use Rattle.ready_jobs.specs.Course.{Course, Follows, successor_of}

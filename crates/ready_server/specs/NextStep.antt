@@ -1,10 +1,7 @@
 -- When a run prints its next step.
 use Rattle.std.specs.Prelude.{◌≡◌, ◌≤◌, ◌<◌, ℕ, List, ◌∷◌, ◌++◌, false}
 use Rattle.dover_model.specs.declared.events.Event.{Event}
-use Rattle.dover_model.specs.Instance.{Instance}
-use Rattle.dover_model.specs.Run.{is_end, printed}
-use Rattle.dover_model.specs.Settled.{settled, tick_of_event}
-use Rattle.dover_model.specs.Step.{Prints}
+use Rattle.dover_model.specs.Common.{Instance, is_end, printed, settled, tick_of_event, Prints}
 
 -- These events are settled at the mark, and nothing more is at any later one before the tick. What the run of these
 -- jobs prints next is of the tick, and isn't the End.

@@ -2,12 +2,9 @@
 use Rattle.std.specs.Prelude.{◌≡◌, ℕ, List, [], ◌∷◌, ◌++◌, Bool, is_some, Option, Some, None}
 use Rattle.dover_model.specs.declared.events.Event.{Event}
 use Rattle.dover_model.specs.declared.events.Event.TheVariants.{Complete}
-use Rattle.dover_model.specs.Session.{EarlyFinish, finish_at}
-use Rattle.dover_model.specs.Settled.{settled}
-use Rattle.dover_model.specs.Instance.{Instance, with_finishes}
+use Rattle.dover_model.specs.Common.{EarlyFinish, finish_at, settled, Instance, with_finishes, due_by}
 use Rattle.dover_model.specs.declared.horizon.Horizon.{Horizon}
 use Rattle.dover_model.specs.declared.horizon.Horizon.TheVariants.{Mark, End}
-use Rattle.dover_model.specs.Horizons.{due_by}
 use Rattle.ready_server.specs.Serving as ready
 use Rattle.ready_server.specs.Roster.{Kept, HasLine, IsRollOf}
 use Rattle.ready_server.specs.declared.roster_server.RosterServer.{RosterServer}

@@ -2,12 +2,10 @@
 use Rattle.std.specs.Prelude.{ℕ, ◌≤◌, List, [], ◌∷◌, Option, Some, None}
 use Rattle.std.specs.List.{AllByRecursion}
 use Rattle.dover_model.specs.declared.events.Event.{Event}
-use Rattle.dover_model.specs.Instance.{Instance, IsValid, with_jobs, with_finishes}
-use Rattle.dover_model.specs.JobFacts.{JobFacts}
-use Rattle.dover_model.specs.Session.{EarlyFinish, finish_at}
+use Rattle.dover_model.specs.Common.{Instance, IsValid, with_jobs, with_finishes, JobFacts, EarlyFinish, finish_at}
+use Rattle.dover_model.specs.Common.{MayFollow}
 use Rattle.dover_model.specs.declared.horizon.Horizon.{Horizon}
 use Rattle.dover_model.specs.declared.horizon.Horizon.TheVariants.{Mark, End}
-use Rattle.dover_model.specs.Horizons.{MayFollow}
 use Rattle.ready_server.specs.Serving.{Serves}
 use Rattle.ready_server.specs.declared.server.ReadyServer.{ReadyServer}
 

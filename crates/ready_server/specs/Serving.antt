@@ -1,21 +1,13 @@
 -- How far a server has come.
 use Rattle.std.specs.Prelude.{◌≡◌, ◌≤◌, ◌<◌, ◌+◌, ◌-◌, ◌^◌, ℕ, min, List, [], ◌∷◌, ◌++◌, length, Bool, true, false}
-use Rattle.std.specs.Prelude.{Option, Some, None}
-use Rattle.dover_model.specs.Session.{EarlyFinish, finish_at}
-use Rattle.std.specs.Bool.{MatchBool}
+use Rattle.std.specs.Prelude.{Option, Some, None, MatchBool}
+use Rattle.dover_model.specs.Common.{EarlyFinish, finish_at, Instance, with_finishes, most_ready, State, state_at, Step}
+use Rattle.dover_model.specs.Common.{printed, printed_of, settled, last_of, GoesOn, IsWholeRun, IsBarrier, Begins}
+use Rattle.dover_model.specs.Common.{HasPrinted, due_by}
 use Rattle.dover_model.specs.declared.events.Event.{Event}
 use Rattle.dover_model.specs.declared.events.Event.TheVariants as events
-use Rattle.dover_model.specs.Instance.{Instance, with_finishes}
-use Rattle.dover_model.specs.Limits.{most_ready}
-use Rattle.dover_model.specs.State.{State, state_at}
-use Rattle.dover_model.specs.Run.{Step, printed, printed_of}
-use Rattle.dover_model.specs.Settled.{settled, last_of}
-use Rattle.dover_model.specs.Leading.{GoesOn}
-use Rattle.dover_model.specs.WholeRun.{IsWholeRun, IsBarrier, Begins}
-use Rattle.dover_model.specs.Paths.{HasPrinted}
 use Rattle.dover_model.specs.declared.horizon.Horizon.{Horizon}
 use Rattle.dover_model.specs.declared.horizon.Horizon.TheVariants.{Mark, End}
-use Rattle.dover_model.specs.Horizons.{due_by}
 use Rattle.ready_jobs.specs.Course.{Follows}
 use Rattle.ready_jobs.specs.Spending as spending
 use Rattle.ready_server.specs.declared.server.ReadyServer.{ReadyServer}

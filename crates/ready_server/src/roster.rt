@@ -1,7 +1,6 @@
 //! The jobs of a run by number, kept from its printed steps alone.
-ghost use Rattle.std.specs.Prelude.{◌≡◌, ◌≤◌, ◌<◌, ◌-◌, ◌^◌, ℕ, length, OnOk, IsOk, IfSome, None};
-ghost use Rattle.std.specs.List.{slice_get};
-ghost use Rattle.std.specs.Option.{option_map};
+ghost use Rattle.std.specs.Prelude.{◌≡◌, ◌≤◌, ◌<◌, ◌-◌, ◌^◌, ℕ, length, OnOk, IsOk, IfSome, None, slice_get};
+ghost use Rattle.std.specs.Prelude.{option_map};
 ghost use Rattle.dover_model.specs.declared.events.Event.TheVariants.{Release};
 ghost use Rattle.dover_model.specs.JobFacts.{JobFacts};
 ghost use Rattle.ready_server.specs.Roster as model;

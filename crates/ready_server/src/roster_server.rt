@@ -1,21 +1,13 @@
 //! The server of a feed: with a roster of its jobs, where one is asked for.
-ghost use Rattle.std.specs.Prelude.{◌≡◌, ◌≤◌, ◌<◌, ◌+◌, ◌∷◌, [], ◌++◌, ◌↔◌, ℕ, List, length, IfOk, IsOk};
-ghost use Rattle.std.specs.Prelude.{OnOk, IfSome, IsNone, IsTrue, Some, is_some, true};
-ghost use Rattle.std.specs.Option.{option_map};
+ghost use Rattle.std.specs.Prelude.{◌≡◌, ◌≤◌, ◌<◌, ◌+◌, ◌∷◌, [], ◌++◌, ◌↔◌, ℕ, List, length, IfOk, IsOk, OnOk, IfSome};
+ghost use Rattle.std.specs.Prelude.{IsNone, IsTrue, Some, is_some, true, option_map};
 ghost use Rattle.dover_model.specs.declared.events.Event.{Event};
 ghost use Rattle.dover_model.specs.declared.events.Event.TheVariants.{Release};
-ghost use Rattle.dover_model.specs.JobFacts.{JobFacts};
-ghost use Rattle.dover_model.specs.Finishes.{Finish};
-ghost use Rattle.dover_model.specs.Instance.{Instance, IsValid, with_jobs, finishing};
-ghost use Rattle.dover_model.specs.Limits.{most_ready};
-ghost use Rattle.dover_model.specs.Session.{is_full};
-ghost use Rattle.dover_model.specs.Settled.{settled};
-ghost use Rattle.dover_model.specs.Sound.{HaveTheSame};
-ghost use Rattle.dover_model.specs.Spending.{CostsAtMost};
-ghost use Rattle.dover_model.specs.WholeRun.{Begins};
+ghost use Rattle.dover_model.specs.Common.{JobFacts, Finish, Instance, IsValid, with_jobs, finishing, most_ready};
+ghost use Rattle.dover_model.specs.Common.{is_full, settled, HaveTheSame, CostsAtMost, Begins, MayFollow, no_jobs};
+ghost use Rattle.dover_model.specs.Common.{due_by, Gives};
 ghost use Rattle.dover_model.specs.declared.horizon.Horizon.{Horizon};
 ghost use Rattle.dover_model.specs.declared.horizon.Horizon.TheVariants.{Mark};
-ghost use Rattle.dover_model.specs.Horizons.{MayFollow, no_jobs, due_by, Gives};
 ghost use Rattle.ready_server.specs.NextStep.{ComesAt};
 ghost use Rattle.ready_server.specs.Roster.{empty_roll, with_step, HasLine, HasFewTakes};
 ghost use Rattle.ready_server.specs.Rostering.{Serves, Rests, HasPlace, HasPlaceUnlessFull, HasPaid, Finishes};
@@ -23,10 +15,10 @@ ghost use Rattle.ready_server.specs.Rostering.{has_roster};
 
 use crate::roster::Roster;
 use crate::server::ReadyServer;
+use comparison_count::Comparisons;
 use dover_model::{Event, Horizon, Job, Memory, Ratio, Version};
 use std::alloc::Global;
 use std::sync::ledger::Ledger;
-use step_count::Steps;
 
 /// A server that forgets each job as it is over, and keeps a roster of all jobs for a snapshot where one is asked for.
 /// The roster is kept up to the last mark, and not on the way to the end.
@@ -164,11 +156,15 @@ impl RosterServer {
 
     /// The next printed step of the run of the admitted jobs. At a mark it is None where none comes before the first
     /// decision at a latest start, or silent tick, at the mark or after it. At the end it is None where End was given
-    /// before. No memory is taken. Comparisons of jobs are counted in `steps`.
+    /// before. No memory is taken. Comparisons of jobs are counted in `comparisons`.
     ///
     /// A mark is a tick, at most 1,000,000,000,000. Marks never fall, and none comes behind `Horizon::End`.
     #[inline(always)]
-    pub fn step<L: Ledger>(&mut self, to: Horizon, steps: &mut Steps<L>) -> Option<Event>
+    pub fn step<L: Ledger>(
+        &mut self,
+        to: Horizon,
+        comparisons: &mut Comparisons<L>,
+    ) -> Option<Event>
         requires { (J : Instance) × (from : Horizon) × (events : List Event) × Serves self.old J from events
             × MayFollow from to }
         ensures gives { (J : Instance) (from : Horizon) (events : List Event) → Serves self.old J from events
@@ -176,10 +172,10 @@ impl RosterServer {
             → Gives (Serves self.new J to) (Rests self.new J to) (due_by J to) events result }
         ensures room { HasPlace self.old → HasPlace self.new }
         ensures place { HasPlaceUnlessFull self.old → HasPlaceUnlessFull self.new }
-        ensures paid { (start : ℕ) → HasPaid self.old start steps.old → HasPaid self.new start steps.new }
+        ensures paid { (start : ℕ) → HasPaid self.old start comparisons.old → HasPaid self.new start comparisons.new }
         ensures roster { has_roster self.new ≡ has_roster self.old }
     {
-        let Some(event) = self.server.step(to, steps) else {
+        let Some(event) = self.server.step(to, comparisons) else {
             return None;
         };
         match to {

@@ -1,40 +1,38 @@
 //! A list of jobs, served to the end.
 ghost use Rattle.std.specs.Prelude.{◌≡◌, ℕ, List, [], ◌∷◌, length, OnOk};
 ghost use Rattle.dover_model.specs.declared.events.Event.{Event};
-ghost use Rattle.dover_model.specs.Instance.{Instance, IsValid, with_jobs, jobs_under};
-ghost use Rattle.dover_model.specs.Run.{printed};
+ghost use Rattle.dover_model.specs.Common.{Instance, IsValid, with_jobs, jobs_under, printed, MayFollow, due_by};
+ghost use Rattle.dover_model.specs.Common.{CostsAtMost};
 ghost use Rattle.dover_model.specs.declared.horizon.Horizon.{Horizon};
 ghost use Rattle.dover_model.specs.declared.horizon.Horizon.TheVariants.{Mark};
-ghost use Rattle.dover_model.specs.Horizons.{MayFollow, due_by};
-ghost use Rattle.dover_model.specs.Spending.{CostsAtMost};
 ghost use Rattle.ready_server.specs.Running.{HasShown, CanFeed, HasFed, finished_at};
 ghost use Rattle.ready_server.specs.Serving.{Serves, Rests, HasPlace, HasPaid};
 
 use crate::server::ReadyServer;
 use crate::source::JobSource;
 use crate::watcher::Watcher;
+use comparison_count::Comparisons;
 use dover_model::{Horizon, Job, Memory, Ratio, Version};
 use std::alloc::Global;
 use std::sync::ledger::Ledger;
-use step_count::Steps;
 
 /// Takes the run to a horizon, and shows each step that is printed on the way.
 pub fn show_to<W: Watcher, L: Ledger>(
     server: &mut ReadyServer,
     to: Horizon,
     watcher: &mut W,
-    steps: &mut Steps<L>,
+    comparisons: &mut Comparisons<L>,
 )
     requires { (J : Instance) × (from : Horizon) × HasShown W.seen server.old watcher.old J from
         × MayFollow from to }
     ensures shown { (J : Instance) (from : Horizon) → HasShown W.seen server.old watcher.old J from
         → MayFollow from to → Rests server.new J to × W.seen watcher.new (due_by J to) }
     ensures room { HasPlace server.old → HasPlace server.new }
-    ensures paid { (start : ℕ) → HasPaid server.old start steps.old → HasPaid server.new start steps.new }
+    ensures paid { (start : ℕ) → HasPaid server.old start comparisons.old → HasPaid server.new start comparisons.new }
 {
     ReadyServer::laws();
     for _ in 0..u64::MAX {
-        match server.step(to, steps) {
+        match server.step(to, comparisons) {
             Some(event) => watcher.see(&event),
             None => return,
         }
@@ -47,7 +45,7 @@ fn serve_job<W: Watcher, L: Ledger>(
     server: &mut ReadyServer,
     job: Job,
     watcher: &mut W,
-    steps: &mut Steps<L>,
+    comparisons: &mut Comparisons<L>,
 )
     requires room { HasPlace server.old }
     requires shown { (J : Instance) × (from : Horizon) × HasShown W.seen server.old watcher.old J from
@@ -55,10 +53,10 @@ fn serve_job<W: Watcher, L: Ledger>(
     ensures shown { (J : Instance) (from : Horizon) → HasShown W.seen server.old watcher.old J from
         → MayFollow from (Mark job.release) → IsValid (with_jobs J (job ∷ []))
         → HasShown W.seen server.new watcher.new (with_jobs J (job ∷ [])) (Mark job.release) }
-    ensures paid { (start : ℕ) → HasPaid server.old start steps.old → HasPaid server.new start steps.new }
+    ensures paid { (start : ℕ) → HasPaid server.old start comparisons.old → HasPaid server.new start comparisons.new }
 {
     ReadyServer::laws();
-    show_to(server, Horizon::Mark(job.release()), watcher, steps);
+    show_to(server, Horizon::Mark(job.release()), watcher, comparisons);
     watcher.see(&server.admit(job));
 }
 
@@ -72,22 +70,22 @@ pub fn serve_jobs<S: JobSource, W: Watcher, L: Ledger>(
     server: &mut ReadyServer,
     jobs: &mut S,
     watcher: &mut W,
-    steps: &mut Steps<L>,
+    comparisons: &mut Comparisons<L>,
 ) -> Result<(), Memory>
     requires { (J : Instance) × (from : Horizon) × HasShown W.seen server.old watcher.old J from
         × CanFeed J from (S.jobs jobs.old) }
     ensures fed { (J : Instance) (from : Horizon) → HasShown W.seen server.old watcher.old J from
         → CanFeed J from (S.jobs jobs.old)
         → OnOk result (HasFed W.seen server.new watcher.new J from (S.jobs jobs.old)) }
-    ensures paid { (start : ℕ) → HasPaid server.old start steps.old → HasPaid server.new start steps.new }
+    ensures paid { (start : ℕ) → HasPaid server.old start comparisons.old → HasPaid server.new start comparisons.new }
     ensures count { (J : Instance) (from : Horizon) (start : ℕ) → HasShown W.seen server.old watcher.old J from
-        → CanFeed J from (S.jobs jobs.old) → HasPaid server.old start steps.old
-        → CostsAtMost (length (with_jobs J (S.jobs jobs.old)).jobs) start steps.new }
+        → CanFeed J from (S.jobs jobs.old) → HasPaid server.old start comparisons.old
+        → CostsAtMost (length (with_jobs J (S.jobs jobs.old)).jobs) start comparisons.new }
 {
     ReadyServer::laws();
     while let Some(job) = jobs.next_job() {
         server.make_room()?;
-        serve_job(server, job, watcher, steps);
+        serve_job(server, job, watcher, comparisons);
     }
     Ok(())
 }
@@ -98,16 +96,16 @@ pub fn finish_job<W: Watcher, L: Ledger>(
     at: u64,
     number: u64,
     watcher: &mut W,
-    steps: &mut Steps<L>,
+    comparisons: &mut Comparisons<L>,
 )
     requires { (J : Instance) × (from : Horizon) × HasShown W.seen server.old watcher.old J from
         × MayFollow from (Mark at) }
     ensures shown { (J : Instance) (from : Horizon) → HasShown W.seen server.old watcher.old J from
         → MayFollow from (Mark at) → HasShown W.seen server.new watcher.new (finished_at J at number) (Mark at) }
-    ensures paid { (start : ℕ) → HasPaid server.old start steps.old → HasPaid server.new start steps.new }
+    ensures paid { (start : ℕ) → HasPaid server.old start comparisons.old → HasPaid server.new start comparisons.new }
 {
     ReadyServer::laws();
-    show_to(server, Horizon::Mark(at), watcher, steps);
+    show_to(server, Horizon::Mark(at), watcher, comparisons);
     if let Some(event) = server.finish(at, number) {
         watcher.see(&event);
     }
@@ -125,16 +123,16 @@ pub fn run_list<S: JobSource, W: Watcher, L: Ledger>(
     k: Ratio,
     jobs: &mut S,
     watcher: &mut W,
-    steps: &mut Steps<L>,
+    comparisons: &mut Comparisons<L>,
 ) -> Result<(), Memory>
     requires valid { IsValid (jobs_under version k (S.jobs jobs.old)) }
     requires unseen { W.seen watcher.old [] }
     ensures seen { OnOk result (W.seen watcher.new (printed (jobs_under version k (S.jobs jobs.old)))) }
-    ensures count { CostsAtMost (length (S.jobs jobs.old)) steps.old steps.new }
+    ensures count { CostsAtMost (length (S.jobs jobs.old)) comparisons.old comparisons.new }
 {
     ReadyServer::laws();
     let mut server = ReadyServer::new(alloc, version, k)?;
-    serve_jobs(&mut server, jobs, watcher, steps)?;
-    show_to(&mut server, Horizon::End, watcher, steps);
+    serve_jobs(&mut server, jobs, watcher, comparisons)?;
+    show_to(&mut server, Horizon::End, watcher, comparisons);
     Ok(())
 }

@@ -3,32 +3,23 @@ ghost use Rattle.std.specs.Prelude.{◌≡◌, ◌≤◌, ◌<◌, ◌+◌, ◌�
 ghost use Rattle.std.specs.Prelude.{IsOk, OnOk, IfSome, IsNone, IsTrue, false, Some};
 ghost use Rattle.dover_model.specs.declared.events.Event.{Event};
 ghost use Rattle.dover_model.specs.declared.events.Event.TheVariants.{Complete};
-ghost use Rattle.dover_model.specs.Finishes.{Finish};
-ghost use Rattle.dover_model.specs.Instance.{Instance, IsValid, with_jobs, with_finishes, finishing};
-ghost use Rattle.dover_model.specs.Limits.{most_ready, most_total, last_tick};
+ghost use Rattle.dover_model.specs.Common.{Finish, Instance, IsValid, with_jobs, with_finishes, finishing, most_ready};
+ghost use Rattle.dover_model.specs.Common.{most_total, last_tick, instead_with, runner_of, EarlyFinish, finish_at};
+ghost use Rattle.dover_model.specs.Common.{is_full, settled, is_end, CostsAtMost, HaveTheSame, Prints, Begins};
+ghost use Rattle.dover_model.specs.Common.{MayFollow, is_end_given, no_jobs, due_by, Gives};
 ghost use Rattle.dover_model.specs.declared.events.Version.TheVariants.{Three};
-ghost use Rattle.dover_model.specs.Rest.{instead_with};
-ghost use Rattle.dover_model.specs.Processor.{runner_of};
-ghost use Rattle.dover_model.specs.Session.{EarlyFinish, finish_at, is_full};
-ghost use Rattle.dover_model.specs.Settled.{settled};
-ghost use Rattle.dover_model.specs.Run.{is_end};
-ghost use Rattle.dover_model.specs.Spending.{CostsAtMost};
-ghost use Rattle.dover_model.specs.Sound.{HaveTheSame};
-ghost use Rattle.dover_model.specs.Step.{Prints};
-ghost use Rattle.dover_model.specs.WholeRun.{Begins};
 ghost use Rattle.dover_model.specs.declared.horizon.Horizon.{Horizon};
 ghost use Rattle.dover_model.specs.declared.horizon.Horizon.TheVariants.{Mark, End};
-ghost use Rattle.dover_model.specs.Horizons.{MayFollow, is_end_given, no_jobs, due_by, Gives};
 ghost use Rattle.ready_server.specs.Serving.{Serves, Rests, HasPlace, HasPaid, spare_of, HasShortValue, CostsOnce};
 ghost use Rattle.ready_server.specs.Serving.{Finishes, GoesOnWith, HasPlaceUnlessFull};
 ghost use Rattle.ready_jobs.specs.Course.{successor_of};
 ghost use Rattle.ready_server.specs.NextStep.{ComesAt};
 
+use comparison_count::Comparisons;
 use dover_model::{Event, Horizon, Job, Memory, Ratio, Version};
 use ready_jobs::{MOST_READY, Ready};
 use std::alloc::Global;
 use std::sync::ledger::Ledger;
-use step_count::Steps;
 
 /// A server that keeps the jobs that are released and not over, and forgets each as it is over. However many come, it
 /// makes room for at most twice as many as are ready at once.
@@ -255,7 +246,7 @@ impl ReadyServer {
 
     // The next printed step before the barrier of the mark.
     #[inline(always)]
-    fn step_to<L: Ledger>(&mut self, mark: u64, steps: &mut Steps<L>) -> Option<Event>
+    fn step_to<L: Ledger>(&mut self, mark: u64, comparisons: &mut Comparisons<L>) -> Option<Event>
         requires { (J : Instance) × (from : Horizon) × (events : List Event) × Serves self.old J from events
             × MayFollow from (Mark mark) }
         ensures gives { (J : Instance) (from : Horizon) (events : List Event) → Serves self.old J from events
@@ -268,10 +259,10 @@ impl ReadyServer {
         ensures room { HasPlace self.old → HasPlace self.new }
         ensures place { HasPlaceUnlessFull self.old → HasPlaceUnlessFull self.new }
         ensures room_stays { self.new.ready.room ≡ self.old.ready.room }
-        ensures paid { (start : ℕ) → HasPaid self.old start steps.old → HasPaid self.new start steps.new }
-        ensures once { CostsOnce self.old result steps.old steps.new }
+        ensures paid { (start : ℕ) → HasPaid self.old start comparisons.old → HasPaid self.new start comparisons.new }
+        ensures once { CostsOnce self.old result comparisons.old comparisons.new }
     {
-        let Some(event) = self.ready.step(mark, steps) else {
+        let Some(event) = self.ready.step(mark, comparisons) else {
             return None;
         };
         self.last = self.ready.clock();
@@ -280,7 +271,7 @@ impl ReadyServer {
 
     // The next printed step of the run, where no further job comes.
     #[inline(never)]
-    fn step_on<L: Ledger>(&mut self, steps: &mut Steps<L>) -> Option<Event>
+    fn step_on<L: Ledger>(&mut self, comparisons: &mut Comparisons<L>) -> Option<Event>
         requires { (J : Instance) × (from : Horizon) × (events : List Event) × Serves self.old J from events }
         ensures gives { (J : Instance) (from : Horizon) (events : List Event) → Serves self.old J from events
             → Gives (Serves self.new J End) (Rests self.new J End) (due_by J End) events result }
@@ -290,13 +281,13 @@ impl ReadyServer {
         ensures room { HasPlace self.old → HasPlace self.new }
         ensures place { HasPlaceUnlessFull self.old → HasPlaceUnlessFull self.new }
         ensures room_stays { self.new.ready.room ≡ self.old.ready.room }
-        ensures paid { (start : ℕ) → HasPaid self.old start steps.old → HasPaid self.new start steps.new }
-        ensures once { CostsOnce self.old result steps.old steps.new }
+        ensures paid { (start : ℕ) → HasPaid self.old start comparisons.old → HasPaid self.new start comparisons.new }
+        ensures once { CostsOnce self.old result comparisons.old comparisons.new }
     {
         if self.ended {
             return None;
         }
-        let event = self.ready.step_on(steps);
+        let event = self.ready.step_on(comparisons);
         self.last = self.ready.clock();
         if is_end(&event) {
             self.ended = true;
@@ -307,11 +298,15 @@ impl ReadyServer {
 
     /// The next printed step of the run of the admitted jobs. At a mark it is None where none comes before the first
     /// decision at a latest start, or silent tick, at the mark or after it. At the end it is None where End was given
-    /// before. No memory is taken. Comparisons of jobs are counted in `steps`.
+    /// before. No memory is taken. Comparisons of jobs are counted in `comparisons`.
     ///
     /// A mark is a tick, at most 1,000,000,000,000. Marks never fall, and none comes behind `Horizon::End`.
     #[inline(always)]
-    pub fn step<L: Ledger>(&mut self, to: Horizon, steps: &mut Steps<L>) -> Option<Event>
+    pub fn step<L: Ledger>(
+        &mut self,
+        to: Horizon,
+        comparisons: &mut Comparisons<L>,
+    ) -> Option<Event>
         requires { (J : Instance) × (from : Horizon) × (events : List Event) × Serves self.old J from events
             × MayFollow from to }
         ensures gives { (J : Instance) (from : Horizon) (events : List Event) → Serves self.old J from events
@@ -323,12 +318,12 @@ impl ReadyServer {
         ensures room { HasPlace self.old → HasPlace self.new }
         ensures place { HasPlaceUnlessFull self.old → HasPlaceUnlessFull self.new }
         ensures room_stays { self.new.ready.room ≡ self.old.ready.room }
-        ensures paid { (start : ℕ) → HasPaid self.old start steps.old → HasPaid self.new start steps.new }
-        ensures once { CostsOnce self.old result steps.old steps.new }
+        ensures paid { (start : ℕ) → HasPaid self.old start comparisons.old → HasPaid self.new start comparisons.new }
+        ensures once { CostsOnce self.old result comparisons.old comparisons.new }
     {
         match to {
-            Horizon::Mark(mark) => self.step_to(mark, steps),
-            Horizon::End => self.step_on(steps),
+            Horizon::Mark(mark) => self.step_to(mark, comparisons),
+            Horizon::End => self.step_on(comparisons),
         }
     }
 

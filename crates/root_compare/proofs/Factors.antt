@@ -1,21 +1,21 @@
 -- The numbers of the bound by a factor are small.
-use Rattle.std.proofs.Common.{◌≡◌, ℕ, ◌+◌, ◌-◌, ◌*◌, ◌/◌, ◌≤◌, ◌<◌, ◌^◌, IsTrue, arith, max, sym, subst, ap}
-use Rattle.std.specs.Prelude.{Some, Option}
+use Rattle.std.proofs.Common.{ℕ, ◌+◌, ◌-◌, ◌*◌, ◌/◌, ◌≤◌, ◌^◌, IsTrue, arith, max}
+use Rattle.std.specs.Prelude.{Some}
 use Rattle.std.proofs.lemmas.Nat.{mul-le}
 use Rattle.std.proofs.Math.Nat.{mul-div-le, max-le}
 use Rattle.dover_model.specs.declared.factors.Factor.{Factor}
-use Rattle.dover_model.specs.Fraction.{Fraction, IsRatio, is_some_factor}
-use Rattle.dover_model.specs.Bound.{scale, share}
-use Rattle.dover_model.proofs.Calculus.{cancel}
-use Rattle.dover_model.proofs.GreatestLaws.{scale_some}
-use Rattle.dover_model.proofs.JobLimits.{ratio_limits, FactorLimits, factor_limits}
+use Rattle.dover_model.specs.Common.{Fraction, IsRatio, is_some_factor, scale, share}
+use Rattle.dover_model.proofs.bound.Calculus.{cancel}
+use Rattle.dover_model.proofs.bound.GreatestLaws.{scale_some}
+use Rattle.dover_model.proofs.valid.JobLimits.{ratio_limits, FactorLimits, factor_limits}
 
 -- so many times the ratio and the factor is no great number
 few : (p q b c e : ℕ) → p ≤ 1_000_000 → q ≤ 1_000 → b ≤ 1_000_000 → c ≤ 1_000 → e ≤ 1_000_000
     → q * b * e + p * c * e + c * max (q * e) (p * c) ≤ 3 * 10 ^ 15
 few p q b c e small_p small_q small_b small_c small_e =
     let one : q * b ≤ 1_000 * 1_000_000 = mul-le q b 1_000 1_000_000 small_q small_b in
-    let two : (q * b) * e ≤ (1_000 * 1_000_000) * 1_000_000 = mul-le (q * b) e (1_000 * 1_000_000) 1_000_000 one small_e in
+    let two : (q * b) * e ≤ (1_000 * 1_000_000) * 1_000_000 =
+    mul-le (q * b) e (1_000 * 1_000_000) 1_000_000 one small_e in
     let three : p * c ≤ 1_000_000 * 1_000 = mul-le p c 1_000_000 1_000 small_p small_c in
     let four : (p * c) * e ≤ (1_000_000 * 1_000) * 1_000_000 =
     mul-le (p * c) e (1_000_000 * 1_000) 1_000_000 three small_e in

@@ -1,20 +1,17 @@
 -- The least value that is heavy.
-use Rattle.std.proofs.Common.{◌≡◌, ℕ, ◌+◌, ◌-◌, ◌*◌, ◌/◌, ◌^◌, ◌≤◌, ◌<◌, ◌⊎◌, inl, inr, refl, sym, ap, ◌∙◌, subst}
-use Rattle.std.proofs.Common.{Bool, true, false, not, IsTrue, arith}
-use Rattle.std.specs.Prelude.{Option, Some, None, ◌↔◌}
+use Rattle.std.proofs.Common.{◌≡◌, ℕ, ◌+◌, ◌-◌, ◌*◌, ◌/◌, ◌^◌, ◌≤◌, ◌<◌, ◌⊎◌, inl, inr, refl, sym, ap, ◌∙◌, subst, Bool}
+use Rattle.std.proofs.Common.{true, false, not, IsTrue, arith, Option, Some, None, ◌↔◌}
 use Rattle.std.proofs.Math.Nat.{mul-div-le, le-div_iff_mul-le, mul-le-mul_left}
 use Rattle.std.proofs.lemmas.Nat.{mul-le}
 use Rattle.std.proofs.lemmas.Bool.{cases_lt}
 use Rattle.dover_model.specs.declared.factors.Factor.{Factor}
-use Rattle.dover_model.specs.Fraction.{Fraction, IsRatio, is_some_factor}
-use Rattle.dover_model.specs.Greatest.{IsGreatest, greatest}
-use Rattle.dover_model.specs.Orders.{is_heavy, IsHeavy}
-use Rattle.dover_model.proofs.GreatestLaws.{IsDownwardClosed, greatest-is}
-use Rattle.dover_model.proofs.Members.{by_bool}
-use Rattle.dover_model.proofs.Tests.{never}
-use Rattle.dover_model.proofs.Calculus.{HeavyBy, heavy_from, heavy_excess, heavy_more, heavy_up, factor_from}
-use Rattle.dover_model.proofs.Calculus.{factor_over, root_from}
-use Rattle.dover_model.proofs.JobLimits.{ratio_limits, FactorLimits, factor_limits}
+use Rattle.dover_model.specs.Common.{Fraction, IsRatio, is_some_factor, IsGreatest, greatest, is_heavy, IsHeavy}
+use Rattle.dover_model.proofs.bound.GreatestLaws.{IsDownwardClosed, greatest-is}
+use Rattle.dover_model.proofs.lists.Members.{by_bool}
+use Rattle.dover_model.proofs.lists.Tests.{never}
+use Rattle.dover_model.proofs.bound.Calculus.{HeavyBy, heavy_from, heavy_excess, heavy_more, heavy_up, factor_from}
+use Rattle.dover_model.proofs.bound.Calculus.{factor_over, root_from}
+use Rattle.dover_model.proofs.valid.JobLimits.{ratio_limits, FactorLimits, factor_limits}
 use Rattle.root_compare.specs.Least.{least_heavy}
 use Rattle.root_compare.proofs.Roots.{beyond_root}
 

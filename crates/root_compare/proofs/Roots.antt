@@ -4,10 +4,8 @@ use Rattle.std.proofs.Common.{sym, subst, ap}
 use Rattle.std.proofs.lemmas.Nat.{mul-le}
 use Rattle.std.proofs.lemmas.Bool.{le-leb, leb-true, cases_lt}
 use Rattle.std.proofs.Math.Nat.{mul-div-le, le-div_iff_mul-le, mul-le-mul_left, mul-le-mul_right}
-use Rattle.dover_model.specs.Fraction.{Fraction}
-use Rattle.dover_model.specs.Greatest.{IsGreatest}
-use Rattle.dover_model.specs.Bound.{is_within_root}
-use Rattle.dover_model.proofs.Calculus.{square_order}
+use Rattle.dover_model.specs.Common.{Fraction, IsGreatest, is_within_root}
+use Rattle.dover_model.proofs.bound.Calculus.{square_order}
 
 -- ---- the root of m times a, as its whole root times a and a rest
 

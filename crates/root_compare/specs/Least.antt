@@ -1,8 +1,6 @@
 -- The least value that is heavy.
 use Rattle.std.specs.Prelude.{ℕ, ◌+◌, not}
-use Rattle.dover_model.specs.Fraction.{Fraction}
-use Rattle.dover_model.specs.Greatest.{greatest}
-use Rattle.dover_model.specs.Orders.{is_heavy}
+use Rattle.dover_model.specs.Common.{Fraction, greatest, is_heavy}
 
 -- the least value that is heavy against w: one more than the greatest that isn't
 abbrev pub least_heavy : Fraction → ℕ → ℕ

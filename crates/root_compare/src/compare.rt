@@ -1,18 +1,17 @@
 //! Values against a threshold: the root of the importance ratio, or a factor.
 ghost use Rattle.std.specs.Prelude.{◌≡◌, ◌≤◌, ◌<◌, ◌*◌, ◌^◌, None, Some, ℕ};
-ghost use Rattle.dover_model.specs.Orders.{is_heavy, IsHeavy};
+ghost use Rattle.dover_model.specs.Common.{is_heavy, IsHeavy, is_within, bound, is_within_root, is_within_by, bound_by};
+ghost use Rattle.dover_model.specs.Common.{IsRatio, IsGreatest, most_total, most_value};
+ghost use Rattle.dover_model.specs.Orders.{is_over};
 ghost use Rattle.dover_model.specs.declared.events.Version.TheVariants.{Two};
 ghost use Rattle.root_compare.specs.Least.{least_heavy};
-ghost use Rattle.dover_model.specs.Bound.{is_within, bound, is_within_root, is_within_by, bound_by};
-ghost use Rattle.dover_model.specs.Fraction.{IsRatio};
-ghost use Rattle.dover_model.specs.Greatest.{IsGreatest};
-ghost use Rattle.dover_model.specs.Limits.{most_total, most_value};
 
 use crate::root::{isqrt, scaled_root};
 use dover_model::{Factor, Ratio};
 
-/// Whether the value `v` is more than so many times the value `w`: by the factor of the ratio, or by `1 + √(p/q)`. `v` is
-/// at most 10^9.
+/// Whether the value `v` is more than so many times the value `w`: by the factor of the ratio, or by `1 + √(p/q)`. `v`
+/// is at most 10^9.
+#[inline(always)]
 pub fn heavy(v: u64, w: u64, k: Ratio) -> bool
     requires value { v ≤ most_value }
     ensures { result ≡ is_heavy k v w }
@@ -20,6 +19,16 @@ pub fn heavy(v: u64, w: u64, k: Ratio) -> bool
     if v <= w {
         return false;
     }
+    is_over(v, w, k)
+}
+
+// The same of values of which the first is the greater one. Few comparisons come this far.
+#[inline(never)]
+fn is_over(v: u64, w: u64, k: Ratio) -> bool
+    requires value { v ≤ most_value }
+    requires greater { w < v }
+    ensures { result ≡ is_over k k.factor v w }
+{
     match k.factor() {
         None => {
             let (p, q) = (u128::from(k.p()), u128::from(k.q()));
@@ -73,8 +82,8 @@ pub fn long_bound(a: u64, k: Ratio) -> u128
     }
 }
 
-/// The greatest value within `(1 + √(p/q))²` times the value `a`, which is below 10^18, whatever factor the ratio has. It
-/// may have 25 digits.
+/// The greatest value within `(1 + √(p/q))²` times the value `a`, which is below 10^18, whatever factor the ratio has.
+/// It may have 25 digits.
 fn root_bound(a: u64, k: Ratio) -> u128
     requires completed { a < 10 ^ 18 }
     ensures is { result ≡ bound_by k None a }

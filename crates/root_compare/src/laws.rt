@@ -1,10 +1,6 @@
 //! Laws of numbers below a root, each the contract of a function that does nothing.
-ghost use Rattle.std.specs.Prelude.{◌≤◌, ◌<◌, ◌+◌, ◌-◌, ◌*◌, ◌↔◌, ℕ, List};
-ghost use Rattle.std.specs.List.{sum_by};
-ghost use Rattle.dover_model.specs.Fraction.{Fraction};
-ghost use Rattle.dover_model.specs.Orders.{IsHeavy};
-ghost use Rattle.dover_model.specs.Sound.{Each};
-ghost use Rattle.dover_model.specs.Books.{IsExcess};
+ghost use Rattle.std.specs.Prelude.{◌≤◌, ◌<◌, ◌+◌, ◌-◌, ◌*◌, ◌↔◌, ℕ, List, sum_by};
+ghost use Rattle.dover_model.specs.Common.{Fraction, IsHeavy, Each, IsExcess};
 ghost use Rattle.root_compare.specs.Roots.{IsBelowRoot};
 
 /// Numbers below a root times a number multiply and add up, and less stays below more.

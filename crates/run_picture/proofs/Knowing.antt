@@ -1,6 +1,5 @@
 -- What is told of the jobs, step by step.
-use Rattle.std.proofs.Common.{◌≡◌, ℕ, ◌+◌, ◌≤◌, ◌<◌, List, length, drop, get_or, sym, ap, ◌∙◌}
-use Rattle.std.specs.List.{zip}
+use Rattle.std.proofs.Common.{◌≡◌, ℕ, ◌+◌, ◌≤◌, ◌<◌, List, length, drop, get_or, sym, ap, ◌∙◌, zip}
 use Rattle.dover_model.specs.declared.events.Event.{Event}
 use Rattle.run_reports.proofs.views.Stepping.{zip_next, zip_end}
 use Rattle.run_picture.specs.Seen.{with_step, told_by}

@@ -1,8 +1,7 @@
 -- The lanes of the jobs, one by one.
-use Rattle.std.proofs.Common.{◌≡◌, ℕ, ◌+◌, ◌≤◌, ◌<◌, List, [], ◌∷◌, ◌++◌, length, set, drop, get_or}
-use Rattle.std.proofs.Common.{refl, sym, ap, ◌∙◌, arith, append-nil, length-append}
-use Rattle.std.proofs.lemmas.List.{drop_all, get_or_default, length-set}
-use Rattle.std.specs.Prelude.{Bool, true, false, nat_lt, if◌then◌else◌}
+use Rattle.std.proofs.Common.{◌≡◌, ℕ, ◌+◌, ◌≤◌, ◌<◌, List, [], ◌∷◌, ◌++◌, length, set, drop, get_or, refl, sym, ap, ◌∙◌}
+use Rattle.std.proofs.Common.{arith, append-nil, length-append, length-set, Bool, true, false, nat_lt, if◌then◌else◌}
+use Rattle.std.proofs.lemmas.List.{drop_all, get_or_default}
 use Rattle.run_picture.specs.Lanes.{shows, free_row, with_due, lanes_from}
 use Rattle.run_picture.specs.declared.seen.Seen.{Seen}
 use Rattle.run_reports.specs.declared.views.window.Window.{Window}

@@ -1,27 +1,22 @@
 -- Pictures, by computation.
-use Rattle.std.proofs.Common.{◌≡◌, [], ◌∷◌, ◌++◌, map, refl}
-use Rattle.std.specs.Prelude.{codes, Some, None}
+use Rattle.std.proofs.Common.{◌≡◌, [], ◌∷◌, ◌++◌, map, refl, codes, Some, None}
 use Rattle.std.specs.Fmt.{digits}
-use Rattle.dover_model.specs.Instance.{Instance}
-use Rattle.dover_model.proofs.Written.{job, one}
-use Rattle.dover_model.specs.Run.{printed}
+use Rattle.dover_model.specs.Common.{Instance, printed}
+use Rattle.dover_model.proofs.rows.Written.{job, one}
 use Rattle.run_reports.proofs.report.WorkedRows.{held_and_early, took_and_early}
 use Rattle.run_reports.specs.views.Moments.{moments}
 use Rattle.run_reports.specs.views.Templates.{filled}
 use Rattle.run_picture.specs.Processor.{pieces_from}
 use Rattle.run_picture.specs.Seen.{told_by, end_tick}
 use Rattle.run_picture.specs.Legends.{texts_style, labels_style, bars_style, lines_style, texts_styles, paths_styles}
-use Rattle.run_picture.specs.Legends.{styles}
-use Rattle.run_picture.specs.Legends.{legend_bars, legend_words, legend, load_legend, lanes_colors, lanes_words}
-use Rattle.run_picture.specs.Legends.{losses_words}
-use Rattle.run_picture.specs.Legends.{lanes_legend}
+use Rattle.run_picture.specs.Legends.{styles, legend_bars, legend_words, legend, load_legend, lanes_colors, lanes_words}
+use Rattle.run_picture.specs.Legends.{losses_words, lanes_legend}
 use Rattle.run_picture.specs.Frame.{title_end, blank, page, tens, marks_from, axis_by, axis, bands}
 use Rattle.run_picture.specs.Panels.{area, values_by, values, ready_area, ready_by, ready, towers_area, columns_by}
 use Rattle.run_picture.specs.Panels.{columns}
 use Rattle.run_picture.specs.Pictures.{bars_of, all_bars, strip, windows, holds_bars, lanes_bars, arrows_lines}
 use Rattle.run_picture.specs.Pictures.{crosses_lines, lanes_lines, lanes_of, ground_of, all_bands, under, under_load}
-use Rattle.run_picture.specs.Pictures.{middle_of}
-use Rattle.run_picture.specs.Pictures.{over, lanes_to, by_lanes, load, by_load, drawn, picture_by, picture}
+use Rattle.run_picture.specs.Pictures.{middle_of, over, lanes_to, by_lanes, load, by_load, drawn, picture_by, picture}
 
 -- a take over a running and a held job
 abbrev take_over : Instance
@@ -109,7 +104,8 @@ unfolding digits filled texts_style labels_style bars_style lines_style legend_b
     under under_load middle_of over lanes_to by_lanes load by_load drawn
 all_of_it = refl
 
--- its ticks from 1 on and before 11: the completion at tick 12 isn't among them, and the interval that lost value goes on
+-- its ticks from 1 on and before 11: the completion at tick 12 isn't among them, and the interval that lost value goes
+-- on
 some_of_it : picture (Some (record { from = 1; until = 11 })) 0 take_over ≡
     codes "<svg xmlns='http://www.w3.org/2000/svg' width='1400' height='326' viewBox='0 0 1400 326'>\n"
     ++ codes "<style>text{font:12px sans-serif;fill:#222}.s{font-size:10px}.r{text-anchor:end}\n"

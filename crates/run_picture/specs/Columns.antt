@@ -1,9 +1,8 @@
 -- What is decided in each column, of which there are 200, as a tower on a base.
 use Rattle.std.specs.Prelude.{ℕ, min, max, List, [], ◌∷◌, ◌++◌, ◌==◌, if◌then◌else◌, codes}
 use Rattle.dover_model.specs.declared.events.Event.{Event}
-use Rattle.dover_model.specs.JobFacts.{JobFacts}
+use Rattle.dover_model.specs.Common.{JobFacts, tick_of_event}
 use Rattle.run_reports.specs.views.Templates.{Text, filled}
-use Rattle.dover_model.specs.Settled.{tick_of_event}
 use Rattle.run_picture.specs.Plot.{column_at}
 use Rattle.run_picture.specs.Outlines.{after, rise}
 use Rattle.run_reports.specs.declared.views.window.Window.{Window}

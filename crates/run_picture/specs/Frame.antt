@@ -1,7 +1,6 @@
 -- What stands around a picture: the page, its title, the axis of ticks, the bands of intervals that lost value.
 use Rattle.std.specs.Prelude.{ℕ, zero, suc, ◌+◌, ◌-◌, ◌*◌, ◌/◌, List, [], ◌∷◌, ◌++◌, Bool, not, ◌&&◌, ◌||◌, ◌==◌}
-use Rattle.std.specs.Prelude.{nat_le, nat_lt, if◌then◌else◌, codes, decimal}
-use Rattle.std.specs.List.{flat_map}
+use Rattle.std.specs.Prelude.{nat_le, nat_lt, if◌then◌else◌, codes, decimal, flat_map}
 use Rattle.run_reports.specs.declared.report.counts.Counts.{Counts}
 use Rattle.run_record.specs.declared.intervals.interval.Interval.{Interval}
 use Rattle.run_reports.specs.views.Templates.{Text, filled}

@@ -1,6 +1,5 @@
 -- What is written in the lanes: the jobs' numbers, and what their losses weighed, where there is room.
-use Rattle.std.specs.Prelude.{ℕ, ◌+◌, ◌*◌, List, [], ◌∷◌, ◌++◌, Bool, ◌&&◌, nat_le, if◌then◌else◌, codes}
-use Rattle.std.specs.List.{flat_map}
+use Rattle.std.specs.Prelude.{ℕ, ◌+◌, ◌*◌, List, [], ◌∷◌, ◌++◌, Bool, ◌&&◌, nat_le, if◌then◌else◌, codes, flat_map}
 use Rattle.run_reports.specs.views.Templates.{Text, filled}
 use Rattle.run_picture.specs.Sizes.{digits_of, room}
 use Rattle.run_picture.specs.Plot.{x_at, has, pixels}

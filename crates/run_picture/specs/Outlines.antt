@@ -2,8 +2,7 @@
 use Rattle.std.specs.Prelude.{ℕ, ◌+◌, ◌-◌, max, List, [], ◌∷◌, ◌++◌, ◌==◌, if◌then◌else◌, codes}
 use Rattle.dover_model.specs.declared.events.Event.{Event}
 use Rattle.dover_model.specs.declared.events.Event.TheVariants.{Complete, Abandon}
-use Rattle.dover_model.specs.JobFacts.{JobFacts}
-use Rattle.dover_model.specs.Settled.{tick_of_event}
+use Rattle.dover_model.specs.Common.{JobFacts, tick_of_event}
 use Rattle.run_reports.specs.report.Counts.{value_in}
 use Rattle.run_reports.specs.views.Templates.{Text, filled}
 use Rattle.run_picture.specs.Plot.{scaled, x_at, column_at, has}

@@ -1,14 +1,9 @@
 -- The picture of a run, as SVG in whole pixels: what a window of ticks shows of the processor, the jobs and the values.
-use Rattle.std.specs.Prelude.{ℕ, ◌+◌, ◌-◌, ◌*◌, ◌/◌, min, List, [], ◌∷◌, ◌++◌, length, Bool, true, false, nat_le}
-use Rattle.std.specs.Prelude.{codes}
-use Rattle.std.specs.Prelude.{if◌then◌else◌}
-use Rattle.std.specs.Prelude.{Option, Some, None}
+use Rattle.std.specs.Prelude.{ℕ, ◌+◌, ◌-◌, ◌*◌, ◌/◌, min, List, [], ◌∷◌, ◌++◌, length, Bool, true, false, nat_le, codes}
+use Rattle.std.specs.Prelude.{if◌then◌else◌, Option, Some, None}
 use Rattle.dover_model.specs.declared.events.Event.{Event}
 use Rattle.dover_model.specs.declared.pieces.Piece.{Piece}
-use Rattle.dover_model.specs.JobFacts.{JobFacts}
-use Rattle.dover_model.specs.Instance.{Instance}
-use Rattle.dover_model.specs.Limits.{last_tick}
-use Rattle.dover_model.specs.Run.{printed, completed_value, last_deadline}
+use Rattle.dover_model.specs.Common.{JobFacts, Instance, last_tick, printed, completed_value, last_deadline}
 use Rattle.run_record.specs.intervals.Rows.{rows_of}
 use Rattle.run_record.specs.declared.intervals.interval.Interval.{Interval}
 use Rattle.run_reports.specs.report.Counts.{counts_of}

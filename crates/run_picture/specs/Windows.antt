@@ -1,6 +1,5 @@
 -- The jobs' windows in their lanes: a bar from release to deadline, whose tooltip has the job's numbers and its end.
-use Rattle.std.specs.Prelude.{ℕ, List, [], ◌∷◌, ◌++◌, Bool, if◌then◌else◌, Option, Some, None, codes}
-use Rattle.std.specs.List.{flat_map}
+use Rattle.std.specs.Prelude.{ℕ, List, [], ◌∷◌, ◌++◌, Bool, if◌then◌else◌, Option, Some, None, codes, flat_map}
 use Rattle.run_reports.specs.views.Templates.{Text, filled}
 use Rattle.run_picture.specs.Plot.{bar}
 use Rattle.run_picture.specs.Seen.{is_gone}

@@ -1,8 +1,7 @@
 //! The picture as a whole.
 ghost use Rattle.std.specs.Prelude.{◌≡◌, ◌≤◌, ◌+◌, ◌++◌, ◌^◌, length, OnOk, IfOk, Option};
 ghost use Rattle.run_record.specs.intervals.Rows.{IsRunOf};
-ghost use Rattle.dover_model.specs.Instance.{Instance};
-ghost use Rattle.dover_model.specs.Limits.{last_tick};
+ghost use Rattle.dover_model.specs.Common.{Instance, last_tick};
 ghost use Rattle.run_picture.specs.Pictures as pictures;
 
 use crate::frame::{Totals, put_axis, put_band_words, put_bands, put_page};

@@ -1,6 +1,5 @@
 //! The lanes of the jobs that the window shows.
-ghost use Rattle.std.specs.Prelude.{◌≡◌, ◌≤◌, ◌<◌, ◌++◌, ◌^◌, length, OnOk, IfOk, []};
-ghost use Rattle.std.specs.Prelude.{if◌then◌else◌};
+ghost use Rattle.std.specs.Prelude.{◌≡◌, ◌≤◌, ◌<◌, ◌++◌, ◌^◌, length, OnOk, IfOk, [], if◌then◌else◌};
 ghost use Rattle.run_picture.specs.Lanes as places;
 
 use crate::plot::{Window, meets};

@@ -1,7 +1,6 @@
 //! Outlines of the values so far.
 ghost use Rattle.std.specs.Prelude.{◌≡◌, ◌≤◌, ◌+◌, ◌++◌, [], ◌∷◌, length, OnOk};
-ghost use Rattle.dover_model.specs.Limits.{most_value};
-ghost use Rattle.dover_model.specs.Settled.{tick_of_event};
+ghost use Rattle.dover_model.specs.Common.{most_value, tick_of_event};
 ghost use Rattle.run_reports.specs.views.Templates.{filled};
 ghost use Rattle.run_picture.specs.Frame.{bars_end};
 ghost use Rattle.run_picture.specs.Outlines as outlines;

@@ -1,6 +1,5 @@
 //! What the steps of a run tell of each job.
-ghost use Rattle.std.specs.Prelude.{◌≡◌, ◌≤◌, ◌++◌, length, OnOk, IfOk, []};
-ghost use Rattle.std.specs.List.{zip};
+ghost use Rattle.std.specs.Prelude.{◌≡◌, ◌≤◌, ◌++◌, length, OnOk, IfOk, [], zip};
 ghost use Rattle.run_picture.specs.Seen as tell;
 
 use dover_model::{Event, Job, Memory, PackedEvent};

@@ -2,4 +2,4 @@
 mod reading;
 mod under_way;
 
-pub use reading::{hads, rooms};
+pub use reading::{rooms, served};

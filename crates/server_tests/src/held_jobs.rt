@@ -2,7 +2,7 @@
 ghost use Rattle.std.specs.Prelude.{◌≡◌, []};
 
 use dover_model::Entry;
-use held_queue::Privileged;
+use held_stack::HeldStack;
 
 /// A job, and one that is held before it.
 const LATER: Entry = Entry {
@@ -21,12 +21,12 @@ const SOONER: Entry = Entry {
     value: 2,
 };
 
-fn is_empty(stack: &mut Privileged) -> bool {
+fn is_empty(stack: &mut HeldStack) -> bool {
     stack.top().is_none() && stack.release_one().is_none()
 }
 
 // Whether of two jobs the one that is due first is on top, until each is released.
-fn is_due_first(stack: &mut Privileged) -> bool
+fn is_due_first(stack: &mut HeldStack) -> bool
     requires { stack.old.held ≡ [] }
 {
     if stack.reserve(2).is_err() {
@@ -41,6 +41,6 @@ fn is_due_first(stack: &mut Privileged) -> bool
 
 #[test]
 fn the_one_due_first_is_on_top(rt: HostRuntime) {
-    let mut stack = Privileged::new(rt.alloc()).expect(&rt, "memory");
+    let mut stack = HeldStack::new(rt.alloc()).expect(&rt, "memory");
     assert!(rt; is_due_first(&mut stack));
 }

@@ -1,12 +1,12 @@
 //! A heap of items beside a list of them by their places, and the order of two items.
 ghost use Rattle.std.specs.Prelude.{◌≡◌, ◌<◌, ◌^◌, length, IfSome};
 
+use comparison_count::Comparisons;
 use dover_model::Version;
 use dover_model::jobs::MOST_VALUE;
 use place_heap::{Heap, Item, tie_of};
 use std::marker::Brand;
 use std::sync::ledger::{Blank, Ledger};
-use step_count::Steps;
 
 // A key, a tie, a number and a place, compared in this order.
 type Row = (u64, u32, u32, u32);
@@ -51,18 +51,22 @@ fn is_as_listed(heap: &Heap, rows: &[Row]) -> bool {
 }
 
 // Whether the heap, which begins empty, answers as the list of its items does, round by round.
-fn goes_as_listed<L: Ledger>(heap: &mut Heap, rows: &mut [Row], steps: &mut Steps<L>) -> bool
+fn goes_as_listed<L: Ledger>(
+    heap: &mut Heap,
+    rows: &mut [Row],
+    comparisons: &mut Comparisons<L>,
+) -> bool
     requires heap { length heap.old ≡ 200 }
     requires rows { length rows.old ≡ 200 }
 {
     let mut state = 1;
     for _ in 0..3000 {
         let place = (draw(&mut state) % 200) as u32;
-        heap.remove(place, steps);
+        heap.remove(place, comparisons);
         rows[place as usize] = FREE;
         if draw(&mut state) % 8 != 0 {
             let row = drawn(&mut state, place);
-            heap.insert(Item::new(row.0, row.1, row.2, row.3), steps);
+            heap.insert(Item::new(row.0, row.1, row.2, row.3), comparisons);
             rows[place as usize] = row;
         }
         if !is_as_listed(heap, rows) {
@@ -114,7 +118,7 @@ fn item(version: Version, job: Due, place: u32) -> Option<Item>
 fn come_so<L: Ledger>(
     heap: &mut Heap,
     rows: &[(Version, Due, Due, u32)],
-    steps: &mut Steps<L>,
+    comparisons: &mut Comparisons<L>,
 ) -> bool
     requires { length heap.old ≡ 200 }
     ensures { length heap.new ≡ 200 }
@@ -123,17 +127,17 @@ fn come_so<L: Ledger>(
         let (Some(one), Some(other)) = (item(*version, *one, 0), item(*version, *other, 1)) else {
             return false;
         };
-        heap.remove(0, steps);
-        heap.remove(1, steps);
-        heap.insert(one, steps);
-        heap.insert(other, steps);
+        heap.remove(0, comparisons);
+        heap.remove(1, comparisons);
+        heap.insert(one, comparisons);
+        heap.insert(other, comparisons);
         match heap.first() {
             Some(first) if first.place() == *place => {}
             _ => return false,
         }
     }
-    heap.remove(0, steps);
-    heap.remove(1, steps);
+    heap.remove(0, comparisons);
+    heap.remove(1, comparisons);
     true
 }
 
@@ -143,11 +147,11 @@ fn orders<L: Ledger>(rt: &HostRuntime, blank: Blank) -> bool
     requires parts { blank.parts ≡ L.parts }
     requires some { 0 < blank.parts }
 {
-    let mut steps: Steps<L> = Steps::new(rt.memory(), blank);
+    let mut comparisons: Comparisons<L> = Comparisons::new(rt.memory(), blank);
     let mut heap = Heap::new(rt.alloc());
     heap.reserve(200).is_ok()
-        && come_so(&mut heap, &TIES, &mut steps)
-        && goes_as_listed(&mut heap, &mut [FREE; 200], &mut steps)
+        && come_so(&mut heap, &TIES, &mut comparisons)
+        && goes_as_listed(&mut heap, &mut [FREE; 200], &mut comparisons)
 }
 
 #[test]

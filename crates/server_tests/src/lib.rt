@@ -1,4 +1,4 @@
-//! Tests of what the server stands on: `root_compare`, `held_queue` and `place_heap`, and of a port over streams.
+//! Tests of what the server stands on: `root_compare`, `held_stack` and `place_heap`, and of a port over streams.
 #![tactic(auto)]
 
 #[cfg(test)]

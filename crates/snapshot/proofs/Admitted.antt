@@ -1,33 +1,26 @@
 -- A job may follow valid ones where they are valid with it, and exactly then its line has no cause.
-use Rattle.std.proofs.Common.{◌≡◌, ℕ, ◌≤◌, ◌<◌, List, [], ◌∷◌, ◌++◌, length, refl, sym, ap, ◌∙◌, subst}
-use Rattle.std.proofs.Common.{Bool, true, false, cond, arith, Option, Some, None}
-use Rattle.std.specs.Prelude.{nat_lt}
-use Rattle.std.specs.List.{AllByRecursion, fold}
-use Rattle.std.specs.Option.{option_map, option_or}
+use Rattle.std.proofs.Common.{◌≡◌, ℕ, ◌≤◌, ◌<◌, List, [], ◌∷◌, ◌++◌, length, refl, sym, ap, ◌∙◌, subst, Bool, true}
+use Rattle.std.proofs.Common.{false, cond, arith, Option, Some, None, nat_lt, fold, option_map, le-ltb, ltb-false}
+use Rattle.std.specs.List.{AllByRecursion}
+use Rattle.std.specs.Option.{option_or}
 use Rattle.std.specs.Bool.{then_some}
-use Rattle.std.proofs.lemmas.Bool.{le-ltb, ltb-false}
 use Rattle.std.proofs.lemmas.List.Sums.{fold-append}
 use Rattle.dover_model.specs.declared.events.Refusal.{Refusal}
 use Rattle.dover_model.specs.declared.events.Task.{Task}
-use Rattle.dover_model.specs.JobFacts.{JobFacts}
+use Rattle.dover_model.specs.Common.{JobFacts, most_ready, under, IsValid, with_jobs, refusal_of, Session}
+use Rattle.dover_model.specs.Common.{admitted_jobs, instance_of, refusal_in, jobs_of, JobLine, Cause, NotAdmitted}
+use Rattle.dover_model.specs.Common.{late_cause, later_line_cause}
 use Rattle.dover_model.specs.declared.events.Refusal.TheVariants.{Full}
-use Rattle.dover_model.specs.Limits.{most_ready}
-use Rattle.dover_model.specs.Instance.{under, IsValid, with_jobs}
-use Rattle.dover_model.specs.Admission.{refusal_of}
-use Rattle.dover_model.specs.Session.{Session, admitted_jobs, instance_of, refusal_in}
-use Rattle.dover_model.specs.Sound.{jobs_of}
-use Rattle.dover_model.specs.FeedLine.{JobLine}
-use Rattle.dover_model.specs.Feed.{Cause, NotAdmitted, late_cause, later_line_cause}
-use Rattle.dover_model.proofs.Admitting.{admits, valid_admitted}
-use Rattle.dover_model.proofs.Fullness.{few_ready}
-use Rattle.dover_model.proofs.Honest.{count_jobs}
-use Rattle.dover_model.proofs.JobSessions.{from_zero, jobs_back}
-use Rattle.dover_model.proofs.Members.{all_last}
-use Rattle.dover_model.proofs.Valid.{all_from}
+use Rattle.dover_model.proofs.valid.Admitting.{admits, valid_admitted}
+use Rattle.dover_model.proofs.sessions.Fullness.{few_ready}
+use Rattle.dover_model.proofs.runs.Honest.{count_jobs}
+use Rattle.dover_model.proofs.sessions.JobSessions.{from_zero, jobs_back}
+use Rattle.dover_model.proofs.lists.Members.{all_last}
+use Rattle.dover_model.proofs.valid.Valid.{all_from}
 use Rattle.snapshot.specs.Snapshot.{Head}
 use Rattle.snapshot.specs.Reading.{declared_jobs, last_release}
 use Rattle.snapshot.specs.Stored.{jobs_session}
-use Rattle.dover_model.proofs.ValidParts.{ReleasesInOrder, valid_parts}
+use Rattle.dover_model.proofs.valid.ValidParts.{ReleasesInOrder, valid_parts}
 
 -- ---- among few
 

@@ -1,7 +1,7 @@
 -- A text with no rest is its lines, each with its line feed.
 use Rattle.std.proofs.Common.{◌≡◌, ℕ, List, [], ◌++◌, append-nil, sym, ap, ◌∙◌}
 use Rattle.dover_model.specs.Lines.{in_lines, lines_of, whole_lines, rest_of}
-use Rattle.dover_model.proofs.AcceptedTexts.{text_joined}
+use Rattle.dover_model.proofs.traces.AcceptedTexts.{text_joined}
 use Rattle.event_feed.proofs.Behind.{lines_whole}
 
 -- whole lines are what their lines are joined to

@@ -2,52 +2,39 @@
 -- alike, line by line.
 use Rattle.std.proofs.Common.{◌≡◌, ℕ, suc, ◌≤◌, max, List, [], ◌∷◌, ◌++◌, map, refl, sym, ap, ◌∙◌, subst, append_assoc}
 use Rattle.std.proofs.Common.{length, Bool, true, false, cond, ◌||◌, ◌&&◌, Option, Some, None, is_some, inl, inr, arith}
-use Rattle.std.specs.Prelude.{nat_lt, nat_le}
+use Rattle.std.proofs.Common.{nat_lt, nat_le, fold, filter, option_map, ltb-false, leb-true, append-nil}
 use Rattle.std.specs.Bool.{then_some}
-use Rattle.std.specs.List.{fold, filter}
-use Rattle.std.specs.Option.{option_map, option_or}
-use Rattle.std.proofs.lemmas.Bool.{ltb-false, leb-true}
-use Rattle.std.proofs.lemmas.List.{append-nil}
+use Rattle.std.specs.Option.{option_or}
 use Rattle.std.proofs.lemmas.List.Elements.{filter_map-append}
-use Rattle.dover_model.specs.Limits.{last_tick, most_lines, most_ready}
-use Rattle.dover_model.specs.Ready.{is_ready}
-use Rattle.dover_model.specs.State.{State}
+use Rattle.dover_model.specs.Common.{last_tick, most_lines, most_ready, is_ready, State, Finish, AreDueAlike, JobFacts}
+use Rattle.dover_model.specs.Common.{Declaration, under, Instance, IsValid, with_jobs, finishing, with_finishes}
+use Rattle.dover_model.specs.Common.{refusal_of, Session, JobItem, RefusedItem, FinishItem, Refused, RefusedJob}
+use Rattle.dover_model.specs.Common.{RefusedDone, EarlyFinish, with_item, with_named, instance_of, job_of_item}
+use Rattle.dover_model.specs.Common.{finish_of_item, admitted_jobs, early_finishes, refuses_lines, may_finish_early}
+use Rattle.dover_model.specs.Common.{early_at, finish_at, is_right, is_full, refusal_in, refused_mark, printed}
+use Rattle.dover_model.specs.Common.{printed_of, settled, settled_state, header, text_of, refused_text, texts_among}
+use Rattle.dover_model.specs.Common.{places_of, put_in, text_of_line, FeedLine, RatioLine, FactorLine, JobLine}
+use Rattle.dover_model.specs.Common.{TickLine, DoneLine, EndLine, feed_line, Cause, Lines, Line, Declared, Order}
+use Rattle.dover_model.specs.Common.{NotAdmitted, Standing, Open, Ended, Faulty, Account, NotDone, late_cause}
+use Rattle.dover_model.specs.Common.{later_line_cause, with_fault, with_refused_at, with_line, next_line, due_lines}
+use Rattle.dover_model.specs.Common.{fault_text, Begins, IsMember, HaveTheSame}
 use Rattle.dover_model.specs.declared.events.Event.{Event}
 use Rattle.dover_model.specs.declared.events.Event.TheVariants.{Complete}
 use Rattle.dover_model.specs.declared.events.Refusal.{Refusal}
-use Rattle.dover_model.specs.declared.events.Refusal.TheVariants.{BadJob, Count, Total, Ratio, Late, Full}
+use Rattle.dover_model.specs.declared.events.Refusal.TheVariants.{Late, Full}
 use Rattle.dover_model.specs.declared.events.Version.{Version}
-use Rattle.dover_model.specs.declared.events.Version.TheVariants.{One, Two, Three}
-use Rattle.dover_model.specs.Finishes.{Finish, AreDueAlike}
-use Rattle.dover_model.specs.JobFacts.{JobFacts}
-use Rattle.dover_model.specs.Instance.{Declaration, under, Instance, IsValid, with_jobs, finishing, with_finishes}
-use Rattle.dover_model.specs.Admission.{refusal_of}
-use Rattle.dover_model.specs.Session.{Session, JobItem, RefusedItem, FinishItem, Refused, RefusedJob, RefusedDone}
-use Rattle.dover_model.specs.Session.{EarlyFinish, with_item, with_named, instance_of, job_of_item}
-use Rattle.dover_model.specs.Session.{finish_of_item, admitted_jobs, early_finishes, refuses_lines, may_finish_early}
-use Rattle.dover_model.specs.Session.{early_at, finish_at, is_right, is_full, refusal_in, refused_mark}
-use Rattle.dover_model.specs.Run.{printed, printed_of}
-use Rattle.dover_model.specs.Settled.{settled, settled_state}
-use Rattle.dover_model.specs.Text.{header, text_of, refused_text}
-use Rattle.dover_model.specs.Trace.{texts_among, places_of, put_in, text_of_line}
-use Rattle.dover_model.specs.FeedLine.{FeedLine, RatioLine, FactorLine, JobLine, TickLine, DoneLine, EndLine, feed_line}
-use Rattle.dover_model.specs.Feed.{Cause, Lines, Line, Declared, Order, NotAdmitted, Standing, Open, Ended, Faulty}
-use Rattle.dover_model.specs.Feed.{Account, NotDone, late_cause}
-use Rattle.dover_model.specs.Feed.{later_line_cause, with_fault, with_refused_at, with_line, next_line}
-use Rattle.dover_model.specs.Due.{due_lines, fault_text}
-use Rattle.dover_model.specs.WholeRun.{Begins}
-use Rattle.dover_model.specs.Sound.{IsMember, HaveTheSame}
-use Rattle.dover_model.proofs.Accounts.{account_with, Holds, IsKept, lines_goes}
-use Rattle.dover_model.proofs.FinishOrders.{same_alike, settled_alike, state_alike, finish_alike, run_alike}
-use Rattle.dover_model.proofs.Fullness.{admitted_in}
-use Rattle.dover_model.proofs.Further.{completes_at_mark}
-use Rattle.dover_model.proofs.Members.{each_append, member_front, member_behind}
+use Rattle.dover_model.specs.declared.events.Version.TheVariants.{Three}
+use Rattle.dover_model.proofs.sessions.Accounts.{account_with, Holds, IsKept, lines_goes}
+use Rattle.dover_model.proofs.finishes.FinishOrders.{same_alike, settled_alike, state_alike, finish_alike, run_alike}
+use Rattle.dover_model.proofs.sessions.Fullness.{admitted_in}
+use Rattle.dover_model.proofs.finishes.Further.{completes_at_mark}
+use Rattle.dover_model.proofs.lists.Members.{each_append, member_front, member_behind}
 use Rattle.admission.proofs.Joining.{admitted_valid}
-use Rattle.dover_model.proofs.Emitting.{texts_more, texts_job, texts_refused}
-use Rattle.dover_model.proofs.Growing.{Reads, reads_later, job_instance, finish_instance}
-use Rattle.dover_model.proofs.Growing.{settled_later, settled_of_run, Finishes, finishing_job, right_again, early_says}
-use Rattle.dover_model.proofs.Prefixes.{settled_prefix}
-use Rattle.dover_model.proofs.PutIn.{places_after-append}
+use Rattle.dover_model.proofs.sessions.Emitting.{texts_more, texts_job, texts_refused}
+use Rattle.dover_model.proofs.sessions.Growing.{Reads, reads_later, job_instance, finish_instance, settled_later}
+use Rattle.dover_model.proofs.sessions.Growing.{settled_of_run, Finishes, finishing_job, right_again, early_says}
+use Rattle.dover_model.proofs.settled.Prefixes.{settled_prefix}
+use Rattle.dover_model.proofs.sessions.PutIn.{places_after-append}
 use Rattle.event_feed.proofs.Counting.{after_form}
 
 -- both are declared, with the same jobs under the same rules, and the same early finishes in whatever order
@@ -401,12 +388,8 @@ module _ (S T : Session) (mark lines : ℕ) (holds : Holds S mark lines) (holds_
 
     -- no mark falls, where the release is no earlier
     raises : (refusal : Refusal) → mark ≤ j.release → mark ≤ refused_mark mark j refusal
-    raises BadJob ordered = omega arith
-    raises Count ordered = omega arith
-    raises Total ordered = omega arith
-    raises Ratio ordered = omega arith
-    raises Late ordered = omega arith
     raises Full ordered = ordered
+    raises _ ordered = omega arith
 
     by_refusal : (o : Option Refusal) → mark ≤ j.release → refusal_in S j ≡ o
         → GoAlike a b (with_line counted_a (JobLine j) (option_map NotAdmitted o))
@@ -416,9 +399,8 @@ module _ (S T : Session) (mark lines : ℕ) (holds : Holds S mark lines) (holds_
 
     by_late : (v : Version) → GoAlike a b (with_line counted_a (JobLine j) (Some (late_cause v)))
         (with_line counted_b (JobLine j) (Some (late_cause v)))
-    by_late One = faults_alike Order
-    by_late Two = faults_alike Order
     by_late Three = refusal_alike Late (omega arith)
+    by_late _ = faults_alike Order
 
     by_order : (c : Bool) → nat_lt j.release mark ≡ c
         → GoAlike a b
@@ -474,8 +456,7 @@ module _ (S T : Session) (mark lines : ℕ) (holds : Holds S mark lines) (holds_
             subst (λ x. GoAlike a b (with_line counted_a (DoneLine t n) None) x)
             (sym (good_b (early_at S t n) (early_same t n)))
             (good (early_at S t n) refl (leb-true _ _ ordered) some)
-        by_right true false ordered none = refused_alike (record { at = max mark t; line = RefusedDone t n }) raised
-        by_right false d ordered some = refused_alike (record { at = max mark t; line = RefusedDone t n }) raised
+        by_right _ _ _ _ = refused_alike (record { at = max mark t; line = RefusedDone t n }) raised
 
         by_tick : (c : Bool)
             → GoAlike a b (with_line counted_a (DoneLine t n) (cond c (Some Order)
@@ -503,9 +484,8 @@ module _ (S T : Session) (mark lines : ℕ) (holds : Holds S mark lines) (holds_
     by_tests : (c d : Bool) → nat_lt t mark ≡ c
         → GoAlike a b (with_line counted_a (TickLine t) (cond (c || d) (Some Order) None))
         (with_line counted_b (TickLine t) (cond (c || d) (Some Order) None))
-    by_tests true d falls = faults_alike Order
-    by_tests false true ordered = faults_alike Order
     by_tests false false ordered = ticks_alike t (ltb-false _ _ ordered)
+    by_tests _ _ _ = faults_alike Order
   formed_alike (DoneLine t n) = done_lines_alike t n
   formed_alike EndLine = ends_alike
 
@@ -535,10 +515,9 @@ step_alike : (lines mark : ℕ) (standing : Standing) (s t : Option Session) →
     → GoAlike (account_with lines s mark standing) (account_with lines t mark standing)
     (next_line (account_with lines s mark standing) bytes)
     (next_line (account_with lines t mark standing) bytes)
-step_alike lines mark Open None t same kept other bytes = absurd same
-step_alike lines mark Open (Some S) None same kept other bytes = absurd same
 step_alike lines mark Open (Some S) (Some T) same kept other bytes =
     open_alike S T mark lines kept other same bytes
+step_alike lines mark Open _ _ same kept other bytes = absurd same
 step_alike lines mark Ended s t same kept other bytes =
     stay_alike (account_with lines s mark Ended) (account_with lines t mark Ended) (refl, refl, refl, same)
 step_alike lines mark (Faulty line cause) s t same kept other bytes =

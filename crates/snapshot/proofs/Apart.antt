@@ -1,14 +1,10 @@
 -- Snapshots of feeds are whole, no front of one is refused, and one ends by itself.
 use Rattle.std.proofs.Common.{◌≡◌, ℕ, ◌+◌, List, [], ◌∷◌, ◌++◌, length, length-append, map, refl, sym, ap, ◌∙◌, subst}
-use Rattle.std.proofs.Common.{arith, Some, codes}
-use Rattle.std.specs.List.{fold}
+use Rattle.std.proofs.Common.{arith, Some, codes, fold}
 use Rattle.std.proofs.lemmas.List.{length-map}
 use Rattle.std.proofs.lemmas.List.Sums.{fold-append}
 use Rattle.dover_model.specs.declared.events.Task.{Task}
-use Rattle.dover_model.specs.Session.{Session}
-use Rattle.dover_model.specs.Lines.{in_lines, whole_lines, rest_of}
-use Rattle.dover_model.specs.Feed.{account}
-use Rattle.dover_model.specs.WholeRun.{Begins}
+use Rattle.dover_model.specs.Common.{Session, in_lines, whole_lines, rest_of, account, Begins}
 use Rattle.snapshot.specs.Snapshot.{MayPause, Head, head_line, state_line, head_of_feed, snapshot_lines, snapshot}
 use Rattle.snapshot.specs.Reading.{Begun, Taken, Refused, next_line, reading_of, read_head}
 use Rattle.snapshot.specs.Kept.{IsWhole}

@@ -1,23 +1,17 @@
 -- An intake that is handed the line of the ratio, and the tick lines behind all jobs.
 use Rattle.std.proofs.Common.{◌≡◌, ℕ, suc, ◌+◌, ◌-◌, ◌≤◌, ◌<◌, List, [], ◌∷◌, ◌++◌, replicate, length, refl, sym, ap}
-use Rattle.std.proofs.Common.{◌∙◌, length-append}
-use Rattle.std.proofs.Common.{Bool, true, false, ◌&&◌, arith, Some, append_assoc, append-nil, subst}
-use Rattle.std.specs.Prelude.{nat_le, nat_lt}
-use Rattle.std.specs.List.{fold}
-use Rattle.std.proofs.lemmas.Bool.{leb-true, ltb-true, ltb-false, and_parts}
+use Rattle.std.proofs.Common.{◌∙◌, length-append, Bool, true, false, ◌&&◌, arith, Some, append_assoc, append-nil, subst}
+use Rattle.std.proofs.Common.{nat_le, nat_lt, fold, leb-true, ltb-true, ltb-false}
+use Rattle.std.proofs.lemmas.Bool.{and_parts}
 use Rattle.std.proofs.lemmas.List.Sums.{fold-append}
 use Rattle.dover_model.specs.declared.events.Task.{Task}
-use Rattle.dover_model.specs.Fraction.{IsRatio}
+use Rattle.dover_model.specs.Common.{IsRatio, last_tick, most_jobs, most_lines, TickLine, feed_text, Account, next_line}
+use Rattle.dover_model.specs.Common.{no_lines, account_of_lines, JobFacts, Session, with_item, IsDeclarable}
 use Rattle.dover_model.specs.declared.events.Version.TheVariants.{Two}
-use Rattle.dover_model.specs.Limits.{last_tick, most_jobs, most_lines}
-use Rattle.dover_model.specs.FeedLine.{TickLine, feed_text}
-use Rattle.dover_model.specs.Feed.{Account, next_line, no_lines, account_of_lines}
 use Rattle.event_feed.specs.Answers.{AddsJob, counted, offered_item}
 use Rattle.event_feed.specs.Kept as feed
-use Rattle.dover_model.specs.JobFacts.{JobFacts}
-use Rattle.dover_model.specs.Session.{Session, with_item, IsDeclarable}
-use Rattle.dover_model.proofs.Members.{some_same}
-use Rattle.dover_model.proofs.Tests.{none_is_some}
+use Rattle.dover_model.proofs.lists.Members.{some_same}
+use Rattle.dover_model.proofs.lists.Tests.{none_is_some}
 use Rattle.event_feed.specs.Reading.{open_account}
 use Rattle.event_feed.proofs.Skipping.{ticks}
 use Rattle.event_feed.proofs.Taking.{kept_most}

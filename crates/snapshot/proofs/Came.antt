@@ -4,40 +4,34 @@ use Rattle.std.proofs.Common.{append_assoc, append-nil, refl, sym, ap, ◌∙◌
 use Rattle.std.proofs.lemmas.Bool.{eq-eqb, and_parts, ltb-true, lt-ltb}
 use Rattle.std.proofs.lemmas.List.Elements.{filter_map-append}
 use Rattle.std.specs.Prelude.{nat_lt, ◌==◌, ◌&&◌, not}
-use Rattle.dover_model.specs.JobFacts.{JobFacts}
+use Rattle.dover_model.specs.Common.{JobFacts, Finish, is_due, goes_on, Declaration, Instance, IsValid, with_jobs}
+use Rattle.dover_model.specs.Common.{with_finishes, HasPrinted, is_complete, Item, JobItem, RefusedItem, FinishItem}
+use Rattle.dover_model.specs.Common.{Session, mark_after, admitted_jobs, early_finishes, job_of_item, finish_of_item}
+use Rattle.dover_model.specs.Common.{instance_of, session_with, EarlyFinish, Refused, waits_for_mark, settled}
+use Rattle.dover_model.specs.Common.{settled_state, finish_now, RunsAtMark, IsMember, Each, Keeps, State, is_over, left}
+use Rattle.dover_model.specs.Common.{with_later, to_come, Move, Prints, Ticks, open_step, after, with_role}
 use Rattle.dover_model.specs.declared.events.Event.TheVariants.{Complete}
 use Rattle.dover_model.specs.declared.events.Role.{Role}
 use Rattle.dover_model.specs.declared.events.Role.TheVariants.{Done, Running}
 use Rattle.dover_model.specs.declared.events.Task.{Task}
-use Rattle.dover_model.specs.Finishes.{Finish, is_due, goes_on}
-use Rattle.dover_model.specs.Instance.{Declaration, Instance, IsValid, with_jobs, with_finishes}
-use Rattle.dover_model.specs.Paths.{HasPrinted}
-use Rattle.dover_model.specs.Processor.{is_complete}
-use Rattle.dover_model.specs.Session.{Item, JobItem, RefusedItem, FinishItem, Session, mark_after}
-use Rattle.dover_model.specs.Session.{admitted_jobs, early_finishes, job_of_item, finish_of_item, instance_of}
-use Rattle.dover_model.specs.Session.{session_with}
-use Rattle.dover_model.specs.Session.{EarlyFinish, Refused}
-use Rattle.dover_model.specs.Settled.{waits_for_mark, settled, settled_state, finish_now, RunsAtMark}
-use Rattle.dover_model.specs.Sound.{IsMember, Each, Keeps}
-use Rattle.dover_model.specs.State.{State, is_over, left, with_later, to_come}
-use Rattle.dover_model.specs.Step.{Move, Prints, Ticks, open_step, after, with_role}
-use Rattle.dover_model.proofs.Barriers.{AtBarrier, settled_at_barrier}
-use Rattle.dover_model.proofs.Deeds.{Deed, Completed, Resumed, Started, Began, Preempted, Stayed, Arrived, Taken}
-use Rattle.dover_model.proofs.Deeds.{Abandoned, Rested}
-use Rattle.dover_model.proofs.Further.{next_at_mark, printed_at_mark}
-use Rattle.dover_model.proofs.Growing.{job_instance, refused_instance, finish_instance, Finishes, finishing_job}
-use Rattle.dover_model.proofs.Kept.{open_deed}
-use Rattle.dover_model.proofs.Meeting.{finishing_valid}
-use Rattle.dover_model.proofs.Members.{on_map, member_either, each_append}
-use Rattle.dover_model.proofs.OverFor.{due_member}
-use Rattle.dover_model.proofs.Paths.{printed_behind}
-use Rattle.dover_model.proofs.Readiness.{open_decides}
-use Rattle.dover_model.proofs.Resting.{come_above, numbers_below}
-use Rattle.dover_model.proofs.Roles.{one_number}
-use Rattle.dover_model.proofs.Settling.{at_barrier}
-use Rattle.dover_model.proofs.Tests.{never}
-use Rattle.dover_model.proofs.SessionParts.{FollowsItems}
-use Rattle.dover_model.proofs.Valid.{valid_front}
+use Rattle.dover_model.proofs.settled.Barriers.{AtBarrier, settled_at_barrier}
+use Rattle.dover_model.proofs.steps.Deeds.{Deed, Taken}
+use Rattle.dover_model.proofs.steps.Deeds.{Abandoned, Rested}
+use Rattle.dover_model.proofs.finishes.Further.{next_at_mark, printed_at_mark}
+use Rattle.dover_model.proofs.sessions.Growing.{job_instance, refused_instance, finish_instance, Finishes}
+use Rattle.dover_model.proofs.sessions.Growing.{finishing_job}
+use Rattle.dover_model.proofs.steps.Kept.{open_deed}
+use Rattle.dover_model.proofs.finishes.Meeting.{finishing_valid}
+use Rattle.dover_model.proofs.lists.Members.{on_map, member_either, each_append}
+use Rattle.dover_model.proofs.finishes.OverFor.{due_member}
+use Rattle.dover_model.proofs.settled.Paths.{printed_behind}
+use Rattle.dover_model.proofs.finishes.Readiness.{open_decides}
+use Rattle.dover_model.proofs.rest.Resting.{come_above, numbers_below}
+use Rattle.dover_model.proofs.steps.Roles.{one_number}
+use Rattle.dover_model.proofs.settled.Settling.{at_barrier}
+use Rattle.dover_model.proofs.lists.Tests.{never}
+use Rattle.dover_model.proofs.sessions.SessionParts.{FollowsItems}
+use Rattle.dover_model.proofs.valid.Valid.{valid_front}
 use Rattle.snapshot.proofs.Paces.{HasCome, comes, printed_later}
 
 -- ---- the job that runs at a barrier
@@ -60,16 +54,10 @@ runner_left J valid mark r member runs =
           (bar.keeps.sound.one_runs q r there member ran runs)) some
 
       by_deed : (m : Move) → Deed J.rules.ratio s Ticks m → waits_for_mark m ≡ true → 1 ≤ left r
-      by_deed m (Completed q there ran) late = never late
-      by_deed m (Resumed p there held none least why) late = never late
-      by_deed m (Started o there waiting none first fits next) late = never late
-      by_deed m (Began f there fresh none free) late = never late
-      by_deed m (Preempted q f there ran some f_there fresh before fits) late = never late
-      by_deed m (Stayed q f there ran some f_there fresh why) late = never late
-      by_deed m (Arrived c there comes now first stale busy free) late = never late
       by_deed m (Taken q x there ran some x_there waiting now stale heavy) late = as_other q there ran some
       by_deed m (Abandoned q x there ran some x_there waiting now stale light) late = as_other q there ran some
       by_deed m (Rested quiet) late = quiet.busy r member runs
+      by_deed m _ late = never late
 
 -- where it may finish, it has had some ticks
 had_some : (J : Instance) → IsValid J → (mark : ℕ) (r : Task) → RunsAtMark J mark r → 0 < r.had

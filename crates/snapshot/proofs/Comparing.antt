@@ -1,18 +1,15 @@
 -- Two lists that agree at each place, and two lists of jobs that are alike.
 use Rattle.std.proofs.Common.{◌≡◌, ℕ, zero, suc, ◌+◌, ◌≤◌, ◌<◌, List, [], ◌∷◌, length, map, refl, sym, ap, ◌∙◌, subst}
-use Rattle.std.proofs.Common.{true, false, ◌&&◌}
-use Rattle.std.proofs.Common.{arith, Option, Some, inl, inr, ◌⊎◌}
-use Rattle.std.specs.Option.{option_map}
-use Rattle.std.specs.Prelude.{bytes_eq, ◌==◌, if◌then◌else◌}
-use Rattle.std.specs.List.{slice_get}
-use Rattle.std.proofs.lemmas.Bool.{eq-eqb, eqb-true, and_parts}
+use Rattle.std.proofs.Common.{true, false, ◌&&◌, arith, Option, Some, inl, inr, ◌⊎◌, option_map, bytes_eq, ◌==◌}
+use Rattle.std.proofs.Common.{if◌then◌else◌, slice_get, eq-eqb, eqb-true}
+use Rattle.std.proofs.lemmas.Bool.{and_parts}
 use Rattle.std.proofs.lemmas.Option.{slice_get-map}
 use Rattle.std.proofs.lemmas.Slice.Eq.{bytes_eq-Decides}
 use Rattle.dover_model.specs.declared.events.Role.{Role}
 use Rattle.dover_model.specs.declared.events.Role.TheVariants.{Coming, Fresh, Waiting, Held, Running, Done, Gone}
 use Rattle.dover_model.specs.declared.events.Task.{Task}
 use Rattle.dover_model.specs.Sound.{IsNumberedFrom, jobs_of}
-use Rattle.dover_model.proofs.Members.{some_same}
+use Rattle.dover_model.proofs.lists.Members.{some_same}
 use Rattle.snapshot.specs.Snapshot.{role_word}
 use Rattle.snapshot.specs.Reading.{is_alike, are_alike}
 use Rattle.snapshot.specs.Kept.{stance_of, IsAt, AreAt}
@@ -84,12 +81,7 @@ first_letter (b ∷ bs) = b
 -- a role is that of its word's first letter
 role_again : (role : Role) → letter_role (first_letter (role_word role)) ≡ role
 role_again Coming = refl
-role_again Fresh = refl
-role_again Waiting = refl
-role_again Held = refl
-role_again Running = refl
-role_again Done = refl
-role_again Gone = refl
+role_again _ = refl
 
 -- one word, one role
 one_role : (a b : Role) → role_word a ≡ role_word b → a ≡ b
@@ -125,12 +117,11 @@ all_alike (t ∷ tasks) (u ∷ others) same =
 
 pub alike_all : (tasks others : List Task) → are_alike tasks others ≡ true → map stance_of tasks ≡ map stance_of others
 alike_all [] [] alike = refl
-alike_all [] (u ∷ others) alike = absurd (let clash : false ≡ true = alike in cc)
-alike_all (t ∷ tasks) [] alike = absurd (let clash : false ≡ true = alike in cc)
 alike_all (t ∷ tasks) (u ∷ others) alike =
     let both = and_parts (is_alike t u) (are_alike tasks others) alike in
     let first : stance_of t ≡ stance_of u = alike_same t u both.0 in
     let rest : map stance_of tasks ≡ map stance_of others = alike_all tasks others both.1 in cc
+alike_all _ _ alike = absurd (let clash : false ≡ true = alike in cc)
 
 -- numbered jobs with the same states and the same jobs are the same
 pub same_tasks : (n : ℕ) (tasks others : List Task) → IsNumberedFrom n tasks → IsNumberedFrom n others

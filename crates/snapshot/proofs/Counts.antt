@@ -1,27 +1,21 @@
 -- How many items a session has whose lines are not refused.
-use Rattle.std.proofs.Common.{◌≡◌, ◌+◌, ◌*◌, ◌≤◌, List, [], ◌∷◌, length, length-append, map, append-nil, sym, ap}
-use Rattle.std.proofs.Common.{refl, subst, arith, Bool, true, false, Option, Some, None}
-use Rattle.std.specs.List.{fold}
+use Rattle.std.proofs.Common.{◌≡◌, ◌+◌, ◌*◌, ◌≤◌, List, [], ◌∷◌, length, length-append, map, append-nil, sym, ap, refl}
+use Rattle.std.proofs.Common.{subst, arith, Bool, true, false, Option, Some, None, fold}
 use Rattle.std.proofs.lemmas.List.{length-map}
-use Rattle.dover_model.specs.Limits.{most_items}
+use Rattle.dover_model.specs.Common.{most_items, IsValid, printed, Session, JobItem, instance_of, admitted_jobs}
+use Rattle.dover_model.specs.Common.{new_session, with_named, may_finish_early, session_with, settled, TraceLine}
+use Rattle.dover_model.specs.Common.{Printed, Placed, put_in}
 use Rattle.dover_model.specs.declared.events.Version.{Version}
-use Rattle.dover_model.specs.declared.events.Version.TheVariants.{One, Two, Three}
-use Rattle.dover_model.specs.Instance.{IsValid}
-use Rattle.dover_model.specs.Run.{printed}
-use Rattle.dover_model.specs.Session.{Session, JobItem, instance_of, admitted_jobs, new_session}
-use Rattle.dover_model.specs.Session.{with_named}
-use Rattle.dover_model.specs.Session.{may_finish_early, session_with}
-use Rattle.dover_model.specs.Settled.{settled}
-use Rattle.dover_model.specs.Trace.{TraceLine, Printed, Placed, put_in}
-use Rattle.dover_model.proofs.Beginnings.{begins_length}
-use Rattle.dover_model.proofs.Ending.{few_printed}
-use Rattle.dover_model.proofs.Former.{none_early}
-use Rattle.dover_model.proofs.Growing.{item_in, with_line_named, lines_at, settled_of_run, reads_new}
-use Rattle.dover_model.proofs.Tests.{never}
-use Rattle.dover_model.proofs.Walks.{WalksTo, walks}
+use Rattle.dover_model.specs.declared.events.Version.TheVariants.{One, Three}
+use Rattle.dover_model.proofs.lists.Beginnings.{begins_length}
+use Rattle.dover_model.proofs.runs.Ending.{few_printed}
+use Rattle.dover_model.proofs.sessions.Former.{none_early}
+use Rattle.dover_model.proofs.sessions.Growing.{item_in, with_line_named, lines_at, settled_of_run, reads_new}
+use Rattle.dover_model.proofs.lists.Tests.{never}
+use Rattle.dover_model.proofs.sessions.Walks.{WalksTo, walks}
 use Rattle.snapshot.proofs.RunItems.{NoneRefused, jobs_only, no_places}
-use Rattle.dover_model.proofs.SessionParts.{FollowsItems}
-use Rattle.dover_model.proofs.ValidParts.{valid_parts}
+use Rattle.dover_model.proofs.sessions.SessionParts.{FollowsItems}
+use Rattle.dover_model.proofs.valid.ValidParts.{valid_parts}
 
 -- each line names an item at most
 names_few : (lines : List TraceLine) (S T : Session) → fold with_line_named S lines ≡ T
@@ -64,13 +58,11 @@ module _ (S : Session) (valid : IsValid (instance_of S)) (follows : FollowsItems
   good_count listed = by_version (may_finish_early S.rules.version) refl where
     jobs_most : (v : Version) → 1_000_000 ≤ most_items v
     jobs_most One = omega arith
-    jobs_most Two = omega arith
-    jobs_most Three = omega arith
+    jobs_most _ = omega arith
 
     steps_most : (v : Version) → may_finish_early v ≡ true → 5_000_001 ≤ most_items v
-    steps_most One e = never e
-    steps_most Two e = never e
     steps_most Three e = omega arith
+    steps_most _ e = never e
 
     by_version : (b : Bool) → may_finish_early S.rules.version ≡ b → length S.items ≤ most_items S.rules.version
     by_version true three = omega (arith, good_few, listed, steps_most S.rules.version three)

@@ -1,34 +1,26 @@
 -- Where the run of the jobs was taken to a mark, it is that of all that is stored of them, also where some early
 -- finishes are still to come.
 use Rattle.std.proofs.Common.{◌≡◌, ◌⊎◌, ℕ, ◌-◌, ◌≤◌, ◌<◌, inl, inr, List, [], ◌∷◌, ◌++◌, length, map, refl, sym, ap}
-use Rattle.std.proofs.Common.{◌∙◌, subst}
-use Rattle.std.proofs.Common.{arith, Bool, true, false}
-use Rattle.std.specs.Prelude.{Option, Some, None, nat_lt, ◌==◌, ◌&&◌}
-use Rattle.std.specs.List.{slice_get, filter_map}
-use Rattle.std.proofs.lemmas.Bool.{and_parts, eqb-true}
+use Rattle.std.proofs.Common.{◌∙◌, subst, arith, Bool, true, false, Option, Some, None, nat_lt, ◌==◌, ◌&&◌, slice_get}
+use Rattle.std.proofs.Common.{filter_map, eqb-true}
+use Rattle.std.proofs.lemmas.Bool.{and_parts}
 use Rattle.dover_model.specs.declared.events.Task.{Task}
-use Rattle.dover_model.specs.Finishes.{Finish}
-use Rattle.dover_model.specs.Instance.{Instance, IsValid, under, finishing}
-use Rattle.dover_model.specs.Paths.{IsOpenPath}
-use Rattle.dover_model.specs.Run.{Step}
-use Rattle.dover_model.specs.Session.{Item, Session, early_finishes, instance_of, session_with}
-use Rattle.dover_model.specs.Session.{may_finish_early, IsDeclarable}
-use Rattle.dover_model.specs.Settled.{settled_steps, settled_state, AreYetToCome}
-use Rattle.dover_model.specs.Sound.{IsMember, Each, HaveTheSame, IsNumberedFrom}
-use Rattle.dover_model.specs.State.{State, opening}
-use Rattle.dover_model.specs.Step.{due_finish, open_step, after}
-use Rattle.dover_model.specs.Trace.{handed_by, session_of_run}
+use Rattle.dover_model.specs.Common.{Finish, Instance, IsValid, under, finishing, IsOpenPath, Step, Item, Session}
+use Rattle.dover_model.specs.Common.{early_finishes, instance_of, session_with, may_finish_early, IsDeclarable}
+use Rattle.dover_model.specs.Common.{settled_steps, settled_state, AreYetToCome, IsMember, Each, HaveTheSame}
+use Rattle.dover_model.specs.Common.{IsNumberedFrom, State, opening, due_finish, open_step, after, handed_by}
+use Rattle.dover_model.specs.Common.{session_of_run}
 use Rattle.dover_model.specs.declared.horizon.Horizon.TheVariants.{Mark}
-use Rattle.dover_model.proofs.Barriers.{AtBarrier, settled_at_barrier, state_after}
-use Rattle.dover_model.proofs.FinishOrders.{same_alike, state_alike, run_alike}
-use Rattle.dover_model.proofs.Finishing.{IsDue, finish_due}
-use Rattle.dover_model.proofs.Former.{none_early}
-use Rattle.dover_model.proofs.Further.{settled_same}
-use Rattle.dover_model.proofs.Honest.{numbers_low, count_jobs}
-use Rattle.dover_model.proofs.Kept.{Moved, move_of}
-use Rattle.dover_model.proofs.Members.{map_member, member_front, member_behind, member_either}
-use Rattle.dover_model.proofs.Resting.{settled_path, path_state}
-use Rattle.dover_model.proofs.Settling.{settled_is_run}
+use Rattle.dover_model.proofs.settled.Barriers.{AtBarrier, settled_at_barrier, state_after}
+use Rattle.dover_model.proofs.finishes.FinishOrders.{same_alike, state_alike, run_alike}
+use Rattle.dover_model.proofs.finishes.Finishing.{IsDue, finish_due}
+use Rattle.dover_model.proofs.sessions.Former.{none_early}
+use Rattle.dover_model.proofs.finishes.Further.{settled_same}
+use Rattle.dover_model.proofs.runs.Honest.{numbers_low, count_jobs}
+use Rattle.dover_model.proofs.steps.Kept.{Moved, move_of}
+use Rattle.dover_model.proofs.lists.Members.{map_member, member_front, member_behind, member_either}
+use Rattle.dover_model.proofs.rest.Resting.{settled_path, path_state}
+use Rattle.dover_model.proofs.settled.Settling.{settled_is_run}
 use Rattle.ready_server.specs.Rostering.{Rests}
 use Rattle.ready_server.specs.declared.roster_server.RosterServer.{RosterServer}
 use Rattle.ready_server.proofs.RollRuns.{numbered_task}
@@ -41,7 +33,7 @@ use Rattle.snapshot.proofs.Counts.{good_count}
 use Rattle.snapshot.proofs.RunItems.{good_is_run}
 use Rattle.snapshot.proofs.Runner.{at_number}
 use Rattle.snapshot.proofs.Same.{stored_of}
-use Rattle.dover_model.proofs.SessionParts.{session_from}
+use Rattle.dover_model.proofs.sessions.SessionParts.{session_from}
 use Rattle.snapshot.proofs.Going.{handed_follows}
 
 -- ---- finishes that are still to come

@@ -2,22 +2,17 @@
 use Rattle.std.proofs.Common.{List, [], ◌∷◌, ◌++◌, map, refl, decimal, codes}
 use Rattle.std.specs.List.{AllByRecursion}
 use Rattle.dover_model.specs.declared.events.Role.{Role}
-use Rattle.dover_model.specs.declared.events.Role.TheVariants.{Coming, Fresh, Waiting, Held, Running, Done, Gone}
+use Rattle.dover_model.specs.declared.events.Role.TheVariants.{Coming}
 use Rattle.dover_model.specs.declared.events.Task.{Task}
 use Rattle.dover_model.specs.JobFacts.{job_numbers}
-use Rattle.dover_model.proofs.NoFeeds.{feedless_line, feedless_decimals, feedless_numbers}
-use Rattle.dover_model.proofs.Cuts.{HasNoFeed}
+use Rattle.dover_model.proofs.texts.NoFeeds.{feedless_line, feedless_decimals, feedless_numbers}
+use Rattle.dover_model.proofs.texts.Cuts.{HasNoFeed}
 use Rattle.snapshot.specs.Snapshot.{Head, head_line, head_numbers, role_word, state_line}
 
 -- the word of a role
 feedless_role : (role : Role) → HasNoFeed (role_word role)
 feedless_role Coming = refl
-feedless_role Fresh = refl
-feedless_role Waiting = refl
-feedless_role Held = refl
-feedless_role Running = refl
-feedless_role Done = refl
-feedless_role Gone = refl
+feedless_role _ = refl
 
 -- the first line of a snapshot
 pub feedless_head : (h : Head) → HasNoFeed (head_line h)

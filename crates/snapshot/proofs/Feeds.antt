@@ -4,20 +4,15 @@ use Rattle.std.proofs.Common.{◌≡◌, ℕ, suc, ◌+◌, ◌≤◌, List, [],
 use Rattle.std.proofs.Common.{refl, sym, ap, ◌∙◌, subst, true, false, cond, arith, Option, Some, None, codes}
 use Rattle.std.specs.List.{AllByRecursion, fold}
 use Rattle.std.proofs.lemmas.Grind.{flat_map-append}
-use Rattle.dover_model.specs.Limits.{most_lines, most_jobs}
+use Rattle.dover_model.specs.Common.{most_lines, most_jobs, Declaration, JobFacts, Session, instance_of, admitted_jobs}
+use Rattle.dover_model.specs.Common.{early_finishes, settled_state, HaveTheSame, jobs_of, State, in_lines, lines_of}
+use Rattle.dover_model.specs.Common.{whole_lines, rest_of, Standing, Open, Ended, Faulty, no_lines, next_line, account}
+use Rattle.dover_model.specs.Common.{due_lines, due, short_lines, fault_text}
 use Rattle.dover_model.specs.declared.events.Task.{Task}
 use Rattle.dover_model.specs.declared.events.Version.TheVariants.{Two}
-use Rattle.dover_model.specs.Instance.{Declaration}
-use Rattle.dover_model.specs.JobFacts.{JobFacts}
-use Rattle.dover_model.specs.Session.{Session, instance_of, admitted_jobs, early_finishes}
-use Rattle.dover_model.specs.Settled.{settled_state}
-use Rattle.dover_model.specs.Sound.{HaveTheSame, jobs_of}
-use Rattle.dover_model.specs.State.{State}
-use Rattle.dover_model.specs.Lines.{in_lines, lines_of, whole_lines, rest_of}
-use Rattle.dover_model.specs.Feed.{Standing, Open, Ended, Faulty, Short, no_lines, next_line, account}
-use Rattle.dover_model.specs.Due.{due_lines, due, short_lines, fault_text}
-use Rattle.dover_model.proofs.Accounts.{Holds, account_kept}
-use Rattle.dover_model.proofs.Cuts.{HasNoFeed}
+use Rattle.dover_model.specs.Feed.{Short}
+use Rattle.dover_model.proofs.sessions.Accounts.{Holds, account_kept}
+use Rattle.dover_model.proofs.texts.Cuts.{HasNoFeed}
 use Rattle.event_feed.specs.Listing.{HasFewJobs}
 use Rattle.event_feed.proofs.Counting.{lines_counted}
 use Rattle.snapshot.specs.Snapshot.{MayPause, Head, IsHead, head_line, state_line, head_of_feed, snapshot_lines}
@@ -39,8 +34,7 @@ module _ (F : List ℕ) (may : MayPause F) where
   opened = by (account F).standing may.going_on where
     by : (s : Standing) → elim s [ Open ↦ true | Ended ↦ false | Faulty line cause ↦ false ] ≡ true → s ≡ Open
     by Open e = refl
-    by Ended e = absurd (let clash : false ≡ true = e in cc)
-    by (Faulty line cause) e = absurd (let clash : false ≡ true = e in cc)
+    by _ e = absurd (let clash : false ≡ true = e in cc)
 
   -- its session
   pub named : (S : Session) × ((account F).session ≡ Some S)
@@ -166,9 +160,8 @@ short_from n s = cond (elim s [ Open ↦ true | Ended ↦ false | Faulty line ca
 -- sessions that both are there
 pub both_there : (s t : Option Session) → SameRun s t → (S : Session) × (T : Session) × (s ≡ Some S) × (t ≡ Some T)
     × SameSession S T
-both_there None t same = absurd same
-both_there (Some S) None same = absurd same
 both_there (Some S) (Some T) same = (S, T, refl, refl, same)
+both_there _ _ same = absurd same
 
 module _ (F G : List ℕ) (alike : Alike (account F) (account G)) (whole : rest_of F ≡ rest_of G) where
   -- the other may pause too

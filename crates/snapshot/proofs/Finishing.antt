@@ -1,37 +1,29 @@
 -- What a reader keeps at the last line, and when that is refused.
 use Rattle.std.proofs.Common.{◌≡◌, ℕ, ◌+◌, ◌≤◌, ◌<◌, ◌^◌, max, inl, inr, List, [], ◌∷◌, ◌++◌, length, map, refl, sym}
-use Rattle.std.proofs.Common.{ap}
-use Rattle.std.proofs.Common.{◌∙◌, subst, Bool, true, false, not, ◌||◌, ◌&&◌, arith, codes, Option, Some, None}
-use Rattle.std.specs.Prelude.{nat_le, nat_lt, bytes_eq}
-use Rattle.std.specs.List.{AllByRecursion, fold}
-use Rattle.std.proofs.lemmas.Bool.{and_parts, le-leb, leb-true, ltb-true}
+use Rattle.std.proofs.Common.{ap, ◌∙◌, subst, Bool, true, false, not, ◌||◌, ◌&&◌, arith, codes, Option, Some, None}
+use Rattle.std.proofs.Common.{nat_le, nat_lt, bytes_eq, fold, le-leb, leb-true, ltb-true}
+use Rattle.std.specs.List.{AllByRecursion}
+use Rattle.std.proofs.lemmas.Bool.{and_parts}
 use Rattle.std.proofs.lemmas.Slice.Eq.{bytes_eq-Decides}
 use Rattle.std.proofs.lemmas.List.{length-map}
-use Rattle.dover_model.proofs.Barriers.{settled_at_barrier}
-use Rattle.dover_model.proofs.Honest.{count_jobs}
-use Rattle.dover_model.proofs.JobSessions.{jobs_back}
-use Rattle.dover_model.proofs.Meeting.{finishing_valid}
-use Rattle.dover_model.proofs.RunSessions.{run_jobs}
-use Rattle.dover_model.proofs.Tests.{none_is_some}
-use Rattle.dover_model.specs.JobFacts.{JobFacts}
-use Rattle.dover_model.specs.Instance.{Instance, IsValid}
-use Rattle.dover_model.specs.Sound.{jobs_of}
-use Rattle.dover_model.specs.State.{State}
+use Rattle.dover_model.proofs.settled.Barriers.{settled_at_barrier}
+use Rattle.dover_model.proofs.runs.Honest.{count_jobs}
+use Rattle.dover_model.proofs.sessions.JobSessions.{jobs_back}
+use Rattle.dover_model.proofs.finishes.Meeting.{finishing_valid}
+use Rattle.dover_model.proofs.sessions.RunSessions.{run_jobs}
+use Rattle.dover_model.proofs.lists.Tests.{none_is_some}
+use Rattle.dover_model.specs.Common.{JobFacts, Instance, IsValid, jobs_of, State, last_tick, most_items, Item, JobItem}
+use Rattle.dover_model.specs.Common.{RefusedItem, FinishItem, admitted_jobs, instance_of, session_with, mark_after}
+use Rattle.dover_model.specs.Common.{settled, settled_state, Account, account_of_lines}
 use Rattle.dover_model.specs.declared.events.Task.{Task}
 use Rattle.dover_model.specs.declared.events.Version.{Version}
-use Rattle.dover_model.specs.declared.events.Version.TheVariants.{One, Two, Three}
-use Rattle.dover_model.specs.Limits.{last_tick, most_items}
-use Rattle.dover_model.specs.Session.{Item, JobItem, RefusedItem, FinishItem, admitted_jobs, instance_of, session_with}
-use Rattle.dover_model.specs.Session.{mark_after}
-use Rattle.dover_model.specs.Settled.{settled, settled_state}
-use Rattle.dover_model.specs.Feed.{Account, account_of_lines}
+use Rattle.dover_model.specs.declared.events.Version.TheVariants.{One}
 use Rattle.admission.specs.Kept as admission
 use Rattle.event_feed.specs.Kept as feed
 use Rattle.event_feed.specs.declared.kept_session.KeptSession.{KeptSession}
 use Rattle.snapshot.specs.Snapshot.{Head}
 use Rattle.snapshot.specs.Reading.{Refused, declared_jobs, early_in, stored, stored_session, last_release}
-use Rattle.snapshot.specs.Reading.{has_lines_for}
-use Rattle.snapshot.specs.Reading.{has_reached_mark, is_settled, reading_of}
+use Rattle.snapshot.specs.Reading.{has_lines_for, has_reached_mark, is_settled, reading_of}
 use Rattle.snapshot.specs.Stored.{HasRead, jobs_session}
 use Rattle.snapshot.specs.Forms.{head_in}
 use Rattle.ready_server.specs.Roster.{Roll, job_at, Kept, IsRollOf}
@@ -53,7 +45,7 @@ use Rattle.snapshot.proofs.Whole.{all_lines_account}
 use Rattle.ready_server.proofs.RollSettled.{settled_jobs}
 use Rattle.snapshot.proofs.Stepping.{served_count, refused_here}
 use Rattle.snapshot.proofs.Storing.{no_last, mark_beyond, other_state, last_stands}
-use Rattle.dover_model.proofs.ValidParts.{ReleasesInOrder, valid_parts}
+use Rattle.dover_model.proofs.valid.ValidParts.{ReleasesInOrder, valid_parts}
 
 -- where they are no more, they are the jobs
 jobs_are : (items : List Item) → NoneRefused items → length items ≤ length (admitted_jobs items)
@@ -197,8 +189,7 @@ module _ (h : Head) (tasks : List Task) (ls : List (List ℕ)) (read : HasRead h
         ) where
           items_low : (v : Version) → most_items v ≤ 15_999_999_998
           items_low One = omega arith
-          items_low Two = omega arith
-          items_low Three = omega arith
+          items_low _ = omega arith
 
         -- what is tested of the lines
         pub lines_are : n.head ≡ r.head
@@ -214,9 +205,8 @@ module _ (h : Head) (tasks : List Task) (ls : List (List ℕ)) (read : HasRead h
             (nat_le (mark_after 0 run.items) h.mark) (le-leb _ _ served.no_later)
             ∙ ap (has_lines_for h) (sym items_are) where
               by : (a b c : Bool) → c ≡ true → a && b ≡ (a && c) && b
-              by true b true e = refl
-              by false b true e = refl
-              by a b false e = absurd (let clash : false ≡ true = e in cc)
+              by true b c e = ap (λ x. x && b) (sym e)
+              by false b c e = refl
 
         -- where they don't do, the line is refused
         pub mark_refused : (m : ℕ) → m ≡ length r.stances.items → n.head ≡ r.head

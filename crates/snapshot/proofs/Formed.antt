@@ -1,15 +1,11 @@
 -- What is read field by field is what the line spells.
 use Rattle.std.proofs.Common.{◌≡◌, ◌≢◌, ℕ, ◌≤◌, List, [], ◌∷◌, ◌++◌, length, refl, sym, ap, ◌∙◌, Bool, true, false}
-use Rattle.std.proofs.Common.{cond, not, Option, Some, None, codes}
-use Rattle.std.specs.Prelude.{bytes_eq}
-use Rattle.std.specs.Option.{option_and_then, option_map}
-use Rattle.std.proofs.lemmas.Bool.{le-ltb}
+use Rattle.std.proofs.Common.{cond, not, Option, Some, None, codes, bytes_eq, option_and_then, option_map, le-ltb}
 use Rattle.std.proofs.lemmas.Slice.Eq.{bytes_eq-Decides}
 use Rattle.dover_model.specs.declared.events.Role.{Role}
-use Rattle.dover_model.specs.declared.events.Role.TheVariants.{Coming, Fresh, Waiting, Held, Running, Done, Gone}
-use Rattle.dover_model.specs.Numerals.{numeral, numerals}
-use Rattle.dover_model.specs.Lines.{fields_of, numbers_after, numbers_of}
-use Rattle.dover_model.proofs.Tests.{never}
+use Rattle.dover_model.specs.declared.events.Role.TheVariants.{Coming}
+use Rattle.dover_model.specs.Common.{numeral, numerals, fields_of, numbers_after, numbers_of}
+use Rattle.dover_model.proofs.lists.Tests.{never}
 use Rattle.line_text.proofs.Words.{IsNot, uncounted, Lacks, differs}
 use Rattle.snapshot.specs.Reading.{head_from, read_head, role_of_word, task_from, task_of_fields, read_task}
 use Rattle.snapshot.specs.Forms.{behind_number, behind_word}
@@ -20,16 +16,9 @@ use Rattle.snapshot.proofs.Spelled.{role_back, role_from}
 
 -- it has six numbers, or eight
 not_six_or_eight : (ns : List ℕ) → length ns ≢ 6 → length ns ≢ 8 → head_from ns ≡ None
-not_six_or_eight [] other more = refl
-not_six_or_eight (a ∷ []) other more = refl
-not_six_or_eight (a ∷ b ∷ []) other more = refl
-not_six_or_eight (a ∷ b ∷ c ∷ []) other more = refl
-not_six_or_eight (a ∷ b ∷ c ∷ d ∷ []) other more = refl
-not_six_or_eight (a ∷ b ∷ c ∷ d ∷ e ∷ []) other more = refl
 not_six_or_eight (a ∷ b ∷ c ∷ d ∷ e ∷ f ∷ []) other more = absurd (other refl)
-not_six_or_eight (a ∷ b ∷ c ∷ d ∷ e ∷ f ∷ g ∷ []) other more = refl
 not_six_or_eight (a ∷ b ∷ c ∷ d ∷ e ∷ f ∷ g ∷ i ∷ []) other more = absurd (more refl)
-not_six_or_eight (a ∷ b ∷ c ∷ d ∷ e ∷ f ∷ g ∷ i ∷ j ∷ ns) other more = refl
+not_six_or_eight _ other more = refl
 
 -- so fields with no numbers, or others than so many, are none
 pub no_head_of : (o : Option (List ℕ)) → IsNot 6 o → IsNot 8 o → None ≡ option_and_then head_from o
@@ -67,13 +56,8 @@ no_head_in line fits lacks =
 
 -- it has six numbers
 not_five : (r : Role) (n : ℕ) (ns : List ℕ) → length ns ≢ 5 → task_from r (n ∷ ns) ≡ None
-not_five r n [] other = refl
-not_five r n (a ∷ []) other = refl
-not_five r n (a ∷ b ∷ []) other = refl
-not_five r n (a ∷ b ∷ c ∷ []) other = refl
-not_five r n (a ∷ b ∷ c ∷ d ∷ []) other = refl
 not_five r n (a ∷ b ∷ c ∷ d ∷ e ∷ []) other = absurd (other refl)
-not_five r n (a ∷ b ∷ c ∷ d ∷ e ∷ f ∷ ns) other = refl
+not_five r n _ other = refl
 
 -- so fields with no numbers, or others than five, are none
 pub no_numbers : (r : Role) (n : ℕ) (o : Option (List ℕ)) → IsNot 5 o
@@ -83,12 +67,7 @@ no_numbers r n = uncounted (λ ns. task_from r (n ∷ ns)) 5 (not_five r n)
 -- the word of a role is the first field
 word_in_front : (r : Role) (rest : List ℕ) → fields_of (role_word r ++ 32 ∷ rest) ≡ role_word r ∷ fields_of rest
 word_in_front Coming rest = refl
-word_in_front Fresh rest = refl
-word_in_front Waiting rest = refl
-word_in_front Held rest = refl
-word_in_front Running rest = refl
-word_in_front Done rest = refl
-word_in_front Gone rest = refl
+word_in_front _ rest = refl
 
 -- behind it are the numbers
 pub behind_role : (n : ℕ) (line rest : List ℕ) (r : Role) → line ≡ role_word r ++ 32 ∷ rest
@@ -143,11 +122,9 @@ by_fields word (number ∷ role ∷ fields) is =
           → option_and_then (λ q. option_and_then (task_from q)
           (option_and_then (λ n. option_map (λ ns. n ∷ ns) rest) o)) r
           ≡ option_and_then (λ n. option_and_then (λ q. option_and_then (λ ns. task_from q (n ∷ ns)) rest) r) o
-      by None None rest = refl
-      by None (Some q) rest = refl
-      by (Some n) None rest = refl
-      by (Some n) (Some q) None = refl
       by (Some n) (Some q) (Some ns) = refl
+      by None (Some q) rest = refl
+      by _ _ _ = refl
 
 -- so is a line
 pub task_behind : (line rest : List ℕ) → length line ≤ 128 → line ≡ codes "state" ++ 32 ∷ rest
@@ -162,15 +139,13 @@ no_task_in line fits lacks =
     ap (λ b. cond b None (task_of_fields (fields_of line))) (le-ltb 128 (length line) fits)
     ∙ by (fields_of line) refl where
       by : (fields : List (List ℕ)) → fields_of line ≡ fields → task_of_fields fields ≡ None
-      by [] cut = refl
-      by (word ∷ []) cut = refl
-      by (word ∷ number ∷ []) cut = refl
       by (word ∷ number ∷ role ∷ fields) cut = other (bytes_eq word (codes "state")) refl where
         other : (b : Bool) → bytes_eq word (codes "state") ≡ b
             → cond b (option_and_then (λ r. option_and_then (task_from r) (numerals (number ∷ fields)))
             (role_of_word role)) None ≡ None
         other true same = absurd (differs line word number (role ∷ fields) cut (codes "state") lacks same)
         other false apart = refl
+      by _ cut = refl
 
 -- a test whose denial fails
 pub denied : (b : Bool) → not b ≡ false → b ≡ true

@@ -9,38 +9,33 @@ use Rattle.std.proofs.lemmas.Bool.{and_parts, and_from, lt-ltb, le-leb, ltb-true
 use Rattle.std.proofs.lemmas.List.Elements.{filter_map-append}
 use Rattle.dover_model.specs.declared.events.Event.TheVariants.{Complete}
 use Rattle.dover_model.specs.declared.events.Role.{Role}
-use Rattle.dover_model.specs.declared.events.Role.TheVariants.{Coming, Fresh, Waiting, Held, Running, Done, Gone}
+use Rattle.dover_model.specs.declared.events.Role.TheVariants.{Running, Done}
 use Rattle.dover_model.specs.declared.events.Task.{Task}
-use Rattle.dover_model.specs.Finishes.{Finish, is_due}
-use Rattle.dover_model.specs.Instance.{Instance, IsValid, with_jobs, with_finishes}
-use Rattle.dover_model.specs.JobFacts.{JobFacts}
-use Rattle.dover_model.specs.Session.{Item, JobItem, FinishItem, EarlyFinish, mark_after}
-use Rattle.dover_model.specs.Session.{session_with, instance_of, admitted_jobs, early_finishes, refused_of_item}
-use Rattle.dover_model.specs.Session.{finish_of_item, job_of_item, finish_at, may_finish_early}
-use Rattle.dover_model.specs.Settled.{settled, settled_state, finish_now, RunsAtMark}
-use Rattle.dover_model.specs.Sound.{IsMember, Each, IsNumberedFrom, jobs_of}
-use Rattle.dover_model.specs.State.{State, running, is_running, is_over, with_later, to_come}
-use Rattle.dover_model.specs.Step.{Prints, after}
-use Rattle.dover_model.specs.Paths.{HasPrinted}
-use Rattle.dover_model.specs.Limits.{last_tick, most_ready}
-use Rattle.dover_model.proofs.Accounts.{follows_behind, mark_behind}
-use Rattle.dover_model.proofs.Barriers.{AtBarrier, settled_at_barrier}
-use Rattle.dover_model.proofs.Fullness.{few_ready}
-use Rattle.dover_model.proofs.Further.{printed_at_mark}
-use Rattle.dover_model.proofs.Growing.{finish_instance, job_instance}
-use Rattle.dover_model.proofs.Honest.{count_jobs}
-use Rattle.dover_model.proofs.Kept.{come_coming}
-use Rattle.dover_model.proofs.Meeting.{finishing_valid}
-use Rattle.dover_model.proofs.Paths.{printed_behind}
-use Rattle.dover_model.proofs.Resting.{numbers_below}
-use Rattle.dover_model.proofs.Valid.{valid_front}
-use Rattle.dover_model.proofs.Members.{some_same, found, member_front, member_behind, member_either, each_append}
-use Rattle.dover_model.proofs.OverFor.{due_member}
-use Rattle.dover_model.proofs.Readiness.{runner}
-use Rattle.dover_model.proofs.RightFinishes.{right_finish, finish_says, finish_runs, FinishSays}
-use Rattle.dover_model.proofs.Roles.{passes, is_running_role, one_number}
-use Rattle.dover_model.proofs.Shown.{come_to_now}
-use Rattle.dover_model.proofs.Tests.{never, none_is_some}
+use Rattle.dover_model.specs.Common.{Finish, is_due, Instance, IsValid, with_jobs, with_finishes, JobFacts, Item}
+use Rattle.dover_model.specs.Common.{JobItem, FinishItem, EarlyFinish, mark_after, session_with, instance_of}
+use Rattle.dover_model.specs.Common.{admitted_jobs, early_finishes, refused_of_item, finish_of_item, job_of_item}
+use Rattle.dover_model.specs.Common.{finish_at, may_finish_early, settled, settled_state, finish_now, RunsAtMark}
+use Rattle.dover_model.specs.Common.{IsMember, Each, IsNumberedFrom, jobs_of, State, running, is_running, is_over}
+use Rattle.dover_model.specs.Common.{with_later, to_come, Prints, after, HasPrinted, last_tick, most_ready}
+use Rattle.dover_model.proofs.sessions.Accounts.{follows_behind, mark_behind}
+use Rattle.dover_model.proofs.settled.Barriers.{AtBarrier, settled_at_barrier}
+use Rattle.dover_model.proofs.sessions.Fullness.{few_ready}
+use Rattle.dover_model.proofs.finishes.Further.{printed_at_mark}
+use Rattle.dover_model.proofs.sessions.Growing.{finish_instance, job_instance}
+use Rattle.dover_model.proofs.runs.Honest.{count_jobs}
+use Rattle.dover_model.proofs.steps.Kept.{come_coming}
+use Rattle.dover_model.proofs.finishes.Meeting.{finishing_valid}
+use Rattle.dover_model.proofs.settled.Paths.{printed_behind}
+use Rattle.dover_model.proofs.rest.Resting.{numbers_below}
+use Rattle.dover_model.proofs.valid.Valid.{valid_front}
+use Rattle.dover_model.proofs.lists.Members.{some_same, found, member_front, member_behind, member_either, each_append}
+use Rattle.dover_model.proofs.lists.Members.{each_behind}
+use Rattle.dover_model.proofs.finishes.OverFor.{due_member}
+use Rattle.dover_model.proofs.finishes.Readiness.{runner}
+use Rattle.dover_model.proofs.finishes.RightFinishes.{right_finish, finish_says, finish_runs, FinishSays}
+use Rattle.dover_model.proofs.steps.Roles.{passes, is_running_role, one_number}
+use Rattle.dover_model.proofs.steps.Shown.{come_to_now}
+use Rattle.dover_model.proofs.lists.Tests.{never, none_is_some}
 use Rattle.snapshot.specs.Snapshot.{Head}
 use Rattle.snapshot.specs.Reading.{early_of, early_in}
 use Rattle.snapshot.specs.Kept.{IsHandedIn, IsToCome, IsNear, stance_of, is_early}
@@ -52,7 +47,7 @@ use Rattle.snapshot.proofs.Admitted.{jobs_more}
 use Rattle.snapshot.proofs.Paces.{HasLess, less_after, stays_less, printed_later}
 use Rattle.snapshot.proofs.Runner.{at_number, of_number, same_number}
 use Rattle.snapshot.proofs.Same.{IsEarly, stored_of, in_stored}
-use Rattle.dover_model.proofs.SessionParts.{FollowsItems, follows_items-agrees}
+use Rattle.dover_model.proofs.sessions.SessionParts.{FollowsItems, follows_items-agrees}
 
 -- what was handed in may stand where it stands
 pub handed_follows : {h : Head} {tasks : List Task} {items : List Item} → IsHandedIn h tasks items
@@ -61,13 +56,8 @@ handed_follows {h} {tasks} {items} handed = (follows_items-agrees h.rules [] 0 i
 
 -- a role that is tested to be that of a job that is done
 done_role : (role : Role) → is_done_role role ≡ true → role ≡ Done
-done_role Coming e = never e
-done_role Fresh e = never e
-done_role Waiting e = never e
-done_role Held e = never e
-done_role Running e = never e
 done_role Done e = refl
-done_role Gone e = never e
+done_role _ e = never e
 
 -- what is stored of a job that is done early is so
 early_stance : (t : Task) (f : Finish) (work : ℕ) → IsEarly t f → work ≡ t.job.work → is_early work (stance_of t) ≡ true
@@ -94,11 +84,6 @@ due_by : (fs : List Finish) (r t : Task) → r.number ≡ t.number → r.had ≡
 due_by fs r t number had = ap (λ n. due n r.had) number ∙ ap (due t.number) had where
   due : ℕ → ℕ → Bool
   due n h = list_any (λ (f : Finish). (f.number == n) && (f.had == h) && nat_lt 0 h) fs
-
--- the mark behind one item more
-mark_more : (items : List Item) (item : Item) → mark_after 0 (items ++ item ∷ []) ≡ mark_after (mark_after 0 items)
-    (item ∷ [])
-mark_more items item = mark_behind 0 items item
 
 module _ (h : Head) (tasks : List Task) (items : List Item) (numbered : IsNumberedFrom 0 tasks) (at : ℕ)
     (handed : IsHandedIn h tasks items) where
@@ -395,21 +380,13 @@ module _ (h : Head) (tasks : List Task) (items : List Item) (at : ℕ) (handed :
             },
             tt,
           ));
-      none_refused = each_append (λ i. refused_of_item i ≡ None) items (FinishItem item ∷ []) handed.none_refused one;
+      none_refused = each_behind (λ i. refused_of_item i ≡ None) items (FinishItem item) handed.none_refused refl;
       jobs = filter_map-append job_of_item items (FinishItem item ∷ []) ∙ append-nil (admitted_jobs items)
           ∙ handed.jobs;
       own = subst (Each (λ g. IsMember g (early_in h.rules.version tasks)))
           (sym (filter_map-append finish_of_item items (FinishItem item ∷ [])))
-          (each_append (λ g. IsMember g (early_in h.rules.version tasks)) (early_finishes items)
-          (f ∷ []) handed.own own);
-    } where
-      one : (i : Item) → IsMember i (FinishItem item ∷ []) → refused_of_item i ≡ None
-      one i (inl e) = ap refused_of_item e
-      one i (inr none) = absurd none
-
-      own : (g : Finish) → IsMember g (f ∷ []) → IsMember g (early_in h.rules.version tasks)
-      own g (inl e) = subst (λ x. IsMember x (early_in h.rules.version tasks)) (sym e) stored
-      own g (inr none) = absurd none
+          (each_behind (λ g. IsMember g (early_in h.rules.version tasks)) (early_finishes items) f handed.own stored);
+    }
 
     -- the run with it
     pub finish_run : instance_of (session_with h.rules more) ≡ with_finishes K (f ∷ [])
@@ -417,7 +394,7 @@ module _ (h : Head) (tasks : List Task) (items : List Item) (at : ℕ) (handed :
 
     -- the mark behind it
     pub finish_mark : mark_after 0 more ≡ at
-    finish_mark = omega (arith, mark_more items (FinishItem item), low)
+    finish_mark = omega (arith, mark_behind 0 items (FinishItem item), low)
 
     pub finish_count : length more ≡ length items + 1
     finish_count = length-append items (FinishItem item ∷ [])
@@ -511,7 +488,7 @@ module _ (h : Head) (tasks : List Task) (items : List Item) (at : ℕ) (handed :
     job_run = job_instance (session_with h.rules items) t.job
 
     pub job_mark : mark_after 0 with_job ≡ t.job.release
-    job_mark = omega (arith, mark_more items (JobItem t.job), low, release)
+    job_mark = omega (arith, mark_behind 0 items (JobItem t.job), low, release)
 
     pub job_count : length with_job ≡ length items + 1
     job_count = length-append items (JobItem t.job ∷ [])
@@ -542,16 +519,13 @@ module _ (h : Head) (tasks : List Task) (items : List Item) (at : ℕ) (handed :
             },
             tt,
           ));
-      none_refused = each_append (λ i. refused_of_item i ≡ None) items (JobItem t.job ∷ []) handed.none_refused one;
+      none_refused = each_behind (λ i. refused_of_item i ≡ None) items (JobItem t.job) handed.none_refused refl;
       jobs = filter_map-append job_of_item items (JobItem t.job ∷ []) ∙ ap (λ js. js ++ t.job ∷ []) handed.jobs
           ∙ sym (jobs_more tasks t);
       own = subst (Each (λ g. IsMember g (early_in h.rules.version all))) (sym finishes_are)
           (λ g m. subst (IsMember g) (sym early_are)
           (member_front (early_in h.rules.version tasks) (early_in h.rules.version (t ∷ [])) g (handed.own g m)));
-    } where
-      one : (i : Item) → IsMember i (JobItem t.job ∷ []) → refused_of_item i ≡ None
-      one i (inl e) = ap refused_of_item e
-      one i (inr none) = absurd none
+    }
 
     abbrev J3 : Instance
     J3 = with_jobs K (t.job ∷ [])

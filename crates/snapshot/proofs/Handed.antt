@@ -1,31 +1,23 @@
 -- What the answer to the line of a job says of the job.
 use Rattle.std.proofs.Common.{◌≡◌, ℕ, ◌+◌, List, [], ◌∷◌, ◌++◌, length, length-append, refl, sym, ap, ◌∙◌, subst, inl}
-use Rattle.std.proofs.Common.{inr}
-use Rattle.std.proofs.Common.{Bool, true, false, cond, arith, Option, Some, None}
-use Rattle.std.specs.Prelude.{Ok, Err, IsSome, is_some}
-use Rattle.std.specs.List.{fold}
+use Rattle.std.proofs.Common.{inr, Bool, true, false, cond, arith, Option, Some, None, Ok, Err, IsSome, is_some, fold}
 use Rattle.std.proofs.lemmas.List.{map-append}
 use Rattle.std.proofs.lemmas.List.Sums.{fold-append}
 use Rattle.dover_model.specs.declared.events.Task.{Task}
-use Rattle.dover_model.specs.JobFacts.{JobFacts, IsJob, job_numbers, job_of_numbers}
-use Rattle.dover_model.specs.Instance.{IsValid}
-use Rattle.dover_model.specs.Numerals.{AreShort}
-use Rattle.dover_model.specs.Session.{Session, RefusedJob, admitted_jobs, refuses_lines}
-use Rattle.dover_model.specs.Sound.{jobs_of}
-use Rattle.dover_model.specs.FeedLine.{JobLine, feed_text}
+use Rattle.dover_model.specs.Common.{JobFacts, IsJob, job_numbers, job_of_numbers, IsValid, AreShort, Session}
+use Rattle.dover_model.specs.Common.{RefusedJob, admitted_jobs, refuses_lines, jobs_of, JobLine, feed_text, Account}
+use Rattle.dover_model.specs.Common.{Standing, Open, Faulty, NotAdmitted, next_line, no_lines, account_of_lines}
+use Rattle.dover_model.specs.Common.{with_line, with_fault, with_refused_at, refused_mark, is_full, instance_of}
 use Rattle.dover_model.specs.Feed as model
-use Rattle.dover_model.specs.Feed.{Account, Standing, Open, Faulty, NotAdmitted, next_line, no_lines, account_of_lines}
-use Rattle.dover_model.specs.Feed.{with_line, with_fault, with_refused_at}
-use Rattle.dover_model.specs.Session.{refused_mark, is_full, instance_of}
-use Rattle.dover_model.proofs.Fullness.{few_ready}
-use Rattle.dover_model.proofs.Honest.{count_jobs}
-use Rattle.dover_model.proofs.Members.{some_same, all_last}
-use Rattle.dover_model.proofs.Tests.{never}
-use Rattle.dover_model.proofs.ValidParts.{valid_parts}
+use Rattle.dover_model.proofs.sessions.Fullness.{few_ready}
+use Rattle.dover_model.proofs.runs.Honest.{count_jobs}
+use Rattle.dover_model.proofs.lists.Members.{some_same, all_last}
+use Rattle.dover_model.proofs.lists.Tests.{never}
+use Rattle.dover_model.proofs.valid.ValidParts.{valid_parts}
 use Rattle.event_feed.proofs.Accepting.{offer_room, offer_accepted}
 use Rattle.event_feed.proofs.Listing.{job_after}
-use Rattle.dover_model.proofs.Growing.{job_instance, refused_instance}
-use Rattle.dover_model.proofs.JobSessions.{jobs_back}
+use Rattle.dover_model.proofs.sessions.Growing.{job_instance, refused_instance}
+use Rattle.dover_model.proofs.sessions.JobSessions.{jobs_back}
 use Rattle.event_feed.specs.declared.fed.Fed.{Fed}
 use Rattle.event_feed.specs.declared.fed.Fed.TheVariants as fed
 use Rattle.event_feed.specs.declared.faults.FeedFault.{FeedFault}
@@ -121,12 +113,7 @@ cause_adds_none a j (NotAdmitted refusal) = by_session a.session where
       → count (with_line (account_in a o) (JobLine j) (Some (NotAdmitted refusal))) ≡ count (account_in a o)
   by_session None = refl
   by_session (Some S) = by_version S (refuses_lines S.rules.version)
-cause_adds_none a j model.Lines = refl
-cause_adds_none a j model.Line = refl
-cause_adds_none a j model.Declared = refl
-cause_adds_none a j model.Order = refl
-cause_adds_none a j model.NotDone = refl
-cause_adds_none a j model.Short = refl
+cause_adds_none a j _ = refl
 
 -- ---- the line of a job
 
@@ -267,12 +254,8 @@ module _ (h : Head) (tasks : List Task) (t : Task) (i : feed.Kept) (it : IsFed i
   -- so says any answer that offers a job
   pub offered : (answer : Fed) (offers : feed.Kept) → is_some (job_in answer) ≡ true
       → feed.StandsBehind {E = FeedFault} (Ok answer) offers (job_lines h tasks) line → Says answer → Offers offers
-  offered (fed.Ratio k version) offers some stands said = never some
   offered (fed.Job n job) offers some stands said = job_offered n job said offers stands
-  offered (fed.Tick tick) offers some stands said = never some
-  offered fed.Over offers some stands said = never some
-  offered (fed.Refused r c d v refusal) offers some stands said = never some
-  offered (fed.Done t n) offers some stands said = never some
+  offered _ offers some stands said = never some
 
   -- an answer that offers none says that it isn't valid
   pub none_offered : (answer : Fed) → is_some (job_in answer) ≡ false → Says answer

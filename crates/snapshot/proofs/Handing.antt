@@ -1,17 +1,11 @@
 -- What the line of a job says that an intake is handed.
-use Rattle.std.proofs.Common.{◌≡◌, ℕ, suc, ◌+◌, ◌≤◌, List, [], ◌∷◌, ◌++◌, length, length-append, map, sym, ap}
-use Rattle.std.proofs.Common.{◌∙◌, cond, arith, Some, None}
-use Rattle.std.proofs.lemmas.Bool.{le-ltb}
+use Rattle.std.proofs.Common.{◌≡◌, ℕ, suc, ◌+◌, ◌≤◌, List, [], ◌∷◌, ◌++◌, length, length-append, map, sym, ap, ◌∙◌}
+use Rattle.std.proofs.Common.{cond, arith, Some, None, le-ltb}
 use Rattle.std.proofs.lemmas.List.{map-append}
 use Rattle.dover_model.specs.declared.events.Task.{Task}
-use Rattle.dover_model.specs.Limits.{most_lines}
-use Rattle.dover_model.specs.JobFacts.{JobFacts, job_numbers}
-use Rattle.dover_model.specs.Numerals.{AreShort}
-use Rattle.dover_model.specs.Session.{JobItem}
-use Rattle.dover_model.specs.Sound.{jobs_of}
-use Rattle.dover_model.specs.FeedLine.{JobLine, feed_line, feed_text}
-use Rattle.dover_model.specs.Feed.{Account, Lines, cause_of, with_line, with_fault, next_line}
-use Rattle.dover_model.proofs.FeedLines.{feed_line-feed_text}
+use Rattle.dover_model.specs.Common.{most_lines, JobFacts, job_numbers, AreShort, JobItem, jobs_of, JobLine, feed_line}
+use Rattle.dover_model.specs.Common.{feed_text, Account, Lines, cause_of, with_line, with_fault, next_line}
+use Rattle.dover_model.proofs.texts.FeedLines.{feed_line-feed_text}
 use Rattle.event_feed.specs.Reading.{open_account}
 use Rattle.event_feed.proofs.Counting.{after_form}
 use Rattle.snapshot.specs.Snapshot.{Head}

@@ -1,41 +1,32 @@
 -- What the lines say that hand in a session without refused lines.
-use Rattle.std.proofs.Common.{◌≡◌, ℕ, suc, ◌+◌, ◌≤◌, ◌<◌, max, inl, inr, List, [], ◌∷◌, ◌++◌, length}
-use Rattle.std.proofs.Common.{append_assoc, append-nil, refl, sym, ap, ◌∙◌, subst, Bool, true, false, cond, arith}
-use Rattle.std.specs.Prelude.{Some, None, nat_lt, is_some, ◌&&◌}
-use Rattle.std.specs.List.{fold}
-use Rattle.std.specs.Option.{option_map}
-use Rattle.std.proofs.lemmas.Bool.{le-ltb, le-leb}
-use Rattle.dover_model.specs.Limits.{last_tick, most_lines}
-use Rattle.dover_model.specs.JobFacts.{JobFacts, IsJob}
-use Rattle.dover_model.specs.Finishes.{Finish}
-use Rattle.dover_model.specs.Instance.{Declaration, IsValid, with_jobs}
+use Rattle.std.proofs.Common.{◌≡◌, ℕ, suc, ◌+◌, ◌≤◌, ◌<◌, max, inl, inr, List, [], ◌∷◌, ◌++◌, length, append_assoc}
+use Rattle.std.proofs.Common.{append-nil, refl, sym, ap, ◌∙◌, subst, Bool, true, false, cond, arith, Some, None, nat_lt}
+use Rattle.std.proofs.Common.{is_some, ◌&&◌, fold, option_map, le-ltb, le-leb}
+use Rattle.dover_model.specs.Common.{last_tick, most_lines, JobFacts, IsJob, Finish, Declaration, IsValid, with_jobs}
+use Rattle.dover_model.specs.Common.{refusal_of, refusal_in, Item, JobItem, RefusedItem, FinishItem, Session}
+use Rattle.dover_model.specs.Common.{mark_after, EarlyFinish, admitted_jobs, instance_of, session_with, with_item}
+use Rattle.dover_model.specs.Common.{with_named, may_finish_early, early_at, finish_at, is_right, FeedLine, JobLine}
+use Rattle.dover_model.specs.Common.{DoneLine, feed_line, feed_text, Account, Lines, Line, Order, NotAdmitted, NotDone}
+use Rattle.dover_model.specs.Common.{late_cause, with_fault, with_line, cause_of, next_line}
 use Rattle.std.specs.Bool.{then_some}
 use Rattle.std.specs.Option.{option_or}
-use Rattle.dover_model.specs.Admission.{refusal_of}
 use Rattle.dover_model.specs.declared.events.Refusal.TheVariants.{Full}
-use Rattle.dover_model.specs.Session.{refusal_in}
-use Rattle.dover_model.specs.Session.{Item, JobItem, RefusedItem, FinishItem, Session, mark_after}
-use Rattle.dover_model.specs.Session.{EarlyFinish, admitted_jobs, instance_of, session_with}
-use Rattle.dover_model.specs.Session.{with_item, with_named, may_finish_early, early_at, finish_at, is_right}
-use Rattle.dover_model.specs.FeedLine.{FeedLine, JobLine, DoneLine, feed_line, feed_text}
-use Rattle.dover_model.specs.Feed.{Account, Lines, Line, Order, NotAdmitted, NotDone, late_cause, with_fault}
-use Rattle.dover_model.specs.Feed.{with_line, cause_of, next_line}
-use Rattle.dover_model.proofs.FeedLines.{feed_line-feed_text}
-use Rattle.dover_model.proofs.Admitting.{valid_admitted}
-use Rattle.dover_model.proofs.Barriers.{settled_at_barrier}
-use Rattle.dover_model.proofs.Growing.{job_instance, Finishes, finishing_job}
-use Rattle.dover_model.proofs.Limiting.{jobs_most}
-use Rattle.dover_model.proofs.Members.{all_last}
-use Rattle.dover_model.proofs.Resting.{numbers_below}
-use Rattle.dover_model.proofs.Tests.{none_is_some}
+use Rattle.dover_model.proofs.texts.FeedLines.{feed_line-feed_text}
+use Rattle.dover_model.proofs.valid.Admitting.{valid_admitted}
+use Rattle.dover_model.proofs.settled.Barriers.{settled_at_barrier}
+use Rattle.dover_model.proofs.sessions.Growing.{job_instance, Finishes, finishing_job}
+use Rattle.dover_model.proofs.valid.Limiting.{jobs_most}
+use Rattle.dover_model.proofs.lists.Members.{all_last}
+use Rattle.dover_model.proofs.rest.Resting.{numbers_below}
+use Rattle.dover_model.proofs.lists.Tests.{none_is_some}
 use Rattle.event_feed.specs.Reading.{open_account}
 use Rattle.event_feed.proofs.Counting.{after_form}
 use Rattle.snapshot.specs.Kept.{item_lines}
 use Rattle.snapshot.proofs.Came.{front_valid}
 use Rattle.event_feed.proofs.Saying.{job_numerals}
 use Rattle.snapshot.proofs.RunItems.{NoneRefused}
-use Rattle.dover_model.proofs.SessionParts.{MayBeAdmitted, FollowsItems}
-use Rattle.dover_model.proofs.ValidParts.{valid_parts}
+use Rattle.dover_model.proofs.sessions.SessionParts.{MayBeAdmitted, FollowsItems}
+use Rattle.dover_model.proofs.valid.ValidParts.{valid_parts}
 
 module _ (S : Session) (lines mark : ℕ) (few : suc lines ≤ most_lines S.rules.version) where
   -- the account in which a line is counted

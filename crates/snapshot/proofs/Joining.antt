@@ -3,15 +3,11 @@ use Rattle.std.proofs.Common.{◌≡◌, ℕ, ◌+◌, ◌≤◌, List, [], ◌�
 use Rattle.std.specs.List.{AllByRecursion}
 use Rattle.dover_model.specs.declared.events.Event.{Event}
 use Rattle.dover_model.specs.declared.events.Task.{Task}
-use Rattle.dover_model.specs.JobFacts.{JobFacts}
-use Rattle.dover_model.specs.Instance.{Instance, IsValid, with_jobs}
-use Rattle.dover_model.specs.Limits.{last_tick}
-use Rattle.dover_model.specs.Session.{JobItem, early_finishes, instance_of, session_with}
-use Rattle.dover_model.specs.Settled.{settled}
-use Rattle.dover_model.specs.Sound.{jobs_of}
+use Rattle.dover_model.specs.Common.{JobFacts, Instance, IsValid, with_jobs, last_tick, JobItem, early_finishes}
+use Rattle.dover_model.specs.Common.{instance_of, session_with, settled, jobs_of}
 use Rattle.dover_model.specs.declared.horizon.Horizon.TheVariants.{Mark}
-use Rattle.dover_model.proofs.Growing.{all_behind}
-use Rattle.dover_model.proofs.Meeting.{finishing_valid}
+use Rattle.dover_model.proofs.sessions.Growing.{all_behind}
+use Rattle.dover_model.proofs.finishes.Meeting.{finishing_valid}
 use Rattle.ready_server.specs.Rostering.{Serves, Rests, has_roster}
 use Rattle.ready_server.specs.declared.roster_server.RosterServer.{RosterServer}
 use Rattle.snapshot.specs.Snapshot.{Head}

@@ -1,38 +1,28 @@
 -- A job that comes to so many ticks runs then, and nothing else is settled in that tick.
 use Rattle.std.proofs.Common.{◌≡◌, ◌⊎◌, ℕ, zero, suc, ◌+◌, ◌-◌, ◌≤◌, ◌<◌, inl, inr, List, [], ◌∷◌, ◌++◌, length, refl}
-use Rattle.std.proofs.Common.{sym, ap, ◌∙◌, subst, arith, Bool, true, false, cond}
-use Rattle.std.specs.Prelude.{nat_le, nat_lt, ◌&&◌}
+use Rattle.std.proofs.Common.{sym, ap, ◌∙◌, subst, arith, Bool, true, false, cond, nat_le, nat_lt, ◌&&◌, le-leb}
+use Rattle.std.proofs.Common.{leb-true, leb-false}
 use Rattle.std.specs.List.{AllByRecursion}
-use Rattle.std.proofs.lemmas.Bool.{le-leb, leb-true, leb-false}
 use Rattle.dover_model.specs.declared.events.Role.TheVariants.{Fresh, Running}
 use Rattle.dover_model.specs.declared.events.Task.{Task}
-use Rattle.dover_model.specs.Finishes.{is_due, goes_on as goes}
-use Rattle.dover_model.specs.Instance.{Instance, IsValid}
-use Rattle.dover_model.specs.JobFacts.{JobFacts}
-use Rattle.dover_model.specs.Jumps.{ticked_by, silent_ticks}
-use Rattle.dover_model.specs.Paths.{IsOpenPath}
-use Rattle.dover_model.specs.Processor.{is_complete}
-use Rattle.dover_model.specs.Run.{Step}
-use Rattle.dover_model.specs.Settled.{waits_for_mark, settled, settled_steps, settled_state}
-use Rattle.dover_model.specs.Sound.{IsMember, Each, Keeps}
-use Rattle.dover_model.specs.State.{State, opening, is_running}
-use Rattle.dover_model.specs.Step.{Move, Ticks, open_step, after, ticked}
-use Rattle.dover_model.specs.WholeRun.{open_at, IsBarrier, IsBefore}
-use Rattle.dover_model.proofs.Barriers.{AtBarrier, settled_at_barrier, late_none_fresh}
-use Rattle.dover_model.proofs.Deeds.{Deed, Completed, Resumed, Started, Began, Preempted, Stayed, Arrived, Taken}
-use Rattle.dover_model.proofs.Deeds.{Abandoned, Rested}
-use Rattle.dover_model.proofs.Ending.{clock_after, later_clock}
-use Rattle.dover_model.proofs.Honest.{count_jobs, numbers_low}
-use Rattle.dover_model.proofs.Kept.{open_deed, open_kept, each_job}
-use Rattle.dover_model.proofs.Members.{on_map, map_member, each_append, each_all}
-use Rattle.dover_model.proofs.Paths.{path_append, path_keeps, path_later, path_settles, one_settled_run}
-use Rattle.dover_model.proofs.Readiness.{going, open_decides}
-use Rattle.dover_model.proofs.Resting.{settled_path, path_state}
-use Rattle.dover_model.proofs.RightFinishes.{all_before}
-use Rattle.dover_model.proofs.Roles.{one_number, is_running_role}
-use Rattle.dover_model.proofs.Settling.{settled_is_run}
-use Rattle.dover_model.proofs.SilentTicks.{steps_between, state_between}
-use Rattle.dover_model.proofs.Tests.{never, each, below}
+use Rattle.dover_model.specs.Common.{is_due, goes_on as goes, Instance, IsValid, JobFacts, ticked_by, silent_ticks}
+use Rattle.dover_model.specs.Common.{IsOpenPath, is_complete, Step, waits_for_mark, settled, settled_steps}
+use Rattle.dover_model.specs.Common.{settled_state, IsMember, Each, Keeps, State, opening, is_running, Move, Ticks}
+use Rattle.dover_model.specs.Common.{open_step, after, ticked, open_at, IsBarrier, IsBefore}
+use Rattle.dover_model.proofs.settled.Barriers.{AtBarrier, settled_at_barrier, late_none_fresh}
+use Rattle.dover_model.proofs.steps.Deeds.{Deed, Completed, Resumed, Started, Began, Preempted, Stayed, Arrived}
+use Rattle.dover_model.proofs.runs.Ending.{clock_after, later_clock}
+use Rattle.dover_model.proofs.runs.Honest.{count_jobs, numbers_low}
+use Rattle.dover_model.proofs.steps.Kept.{open_deed, open_kept, each_job}
+use Rattle.dover_model.proofs.lists.Members.{on_map, map_member, each_append, each_all}
+use Rattle.dover_model.proofs.settled.Paths.{path_append, path_keeps, path_later, path_settles, one_settled_run}
+use Rattle.dover_model.proofs.finishes.Readiness.{going, open_decides}
+use Rattle.dover_model.proofs.rest.Resting.{settled_path, path_state}
+use Rattle.dover_model.proofs.finishes.RightFinishes.{all_before}
+use Rattle.dover_model.proofs.steps.Roles.{one_number, is_running_role}
+use Rattle.dover_model.proofs.settled.Settling.{settled_is_run}
+use Rattle.dover_model.proofs.settled.SilentTicks.{steps_between, state_between}
+use Rattle.dover_model.proofs.lists.Tests.{never, each, below}
 use Rattle.ready_server.proofs.RollRuns.{numbered_task}
 use Rattle.snapshot.proofs.Runner.{same_number}
 use Rattle.snapshot.proofs.Paces.{HasLess, less_on, GoesOn, goes_on, printed_later}
@@ -274,9 +264,7 @@ module _ (J : Instance) (valid : IsValid J) (at : ℕ) where
               let low : c.job.release ≤ at = each_job (λ j. j.release ≤ at) y2.tasks
               (subst (AllByRecursion (λ j. j.release ≤ at)) (sym keeps_y2.jobs) known) c there in
               absurd (omega (arith, now, clock_y))
-          by_deed k e (Taken q x there ran some x_there waiting now stale heavy) = refl
-          by_deed k e (Abandoned q x there ran some x_there waiting now stale light) = refl
-          by_deed k e (Rested quiet) = refl
+          by_deed k e _ = refl
 
         barrier : IsBarrier J.rules m y2
         barrier = ap (λ b. b && nat_le m y2.clock) late ∙ le-leb m y2.clock (omega (arith, clock_y))

@@ -5,25 +5,19 @@ use Rattle.std.proofs.Common.{Bool, true, false, cond, eqb}
 use Rattle.dover_model.specs.declared.events.Event.{Event}
 use Rattle.dover_model.specs.declared.events.Role.TheVariants.{Waiting}
 use Rattle.dover_model.specs.declared.events.Task.{Task}
-use Rattle.dover_model.specs.Finishes.{Finish}
-use Rattle.dover_model.specs.JobFacts.{JobFacts}
-use Rattle.dover_model.specs.Instance.{Instance, IsValid}
-use Rattle.dover_model.specs.Paths.{IsOpenPath, HasPrinted}
-use Rattle.dover_model.specs.Run.{Step}
-use Rattle.dover_model.specs.Settled.{settled, settled_steps, settled_state, AreOverFor}
-use Rattle.dover_model.specs.Sound.{Each, Keeps}
-use Rattle.dover_model.specs.State.{State, opening, is_running}
-use Rattle.dover_model.specs.Step.{Move, Prints, Waits, Ticks, open_step, after, with_role, role_after, ticked}
-use Rattle.dover_model.specs.WholeRun.{IsBarrier}
-use Rattle.dover_model.proofs.Ending.{potential}
-use Rattle.dover_model.proofs.Kept.{Moved, move_of, open_kept, opening_keeps}
-use Rattle.dover_model.proofs.Members.{on_map}
-use Rattle.dover_model.proofs.OverFor.{over_after}
-use Rattle.dover_model.proofs.Paths.{path_append, path_keeps, path_later, path_ready, path_then_settled}
-use Rattle.dover_model.proofs.Paths.{one_settled_run}
-use Rattle.dover_model.proofs.Readiness.{IsReady, opening_ready}
-use Rattle.dover_model.proofs.Resting.{path_state, settled_path}
-use Rattle.dover_model.proofs.Settling.{Settles, settles, settled_is_run}
+use Rattle.dover_model.specs.Common.{Finish, JobFacts, Instance, IsValid, IsOpenPath, HasPrinted, Step, settled}
+use Rattle.dover_model.specs.Common.{settled_steps, settled_state, AreOverFor, Each, Keeps, State, opening, is_running}
+use Rattle.dover_model.specs.Common.{Move, Prints, Waits, Ticks, open_step, after, with_role, role_after, ticked}
+use Rattle.dover_model.specs.Common.{IsBarrier}
+use Rattle.dover_model.proofs.runs.Ending.{potential}
+use Rattle.dover_model.proofs.steps.Kept.{Moved, move_of, open_kept, opening_keeps}
+use Rattle.dover_model.proofs.lists.Members.{on_map}
+use Rattle.dover_model.proofs.finishes.OverFor.{over_after}
+use Rattle.dover_model.proofs.settled.Paths.{path_append, path_keeps, path_later, path_ready, path_then_settled}
+use Rattle.dover_model.proofs.settled.Paths.{one_settled_run}
+use Rattle.dover_model.proofs.finishes.Readiness.{IsReady, opening_ready}
+use Rattle.dover_model.proofs.rest.Resting.{path_state, settled_path}
+use Rattle.dover_model.proofs.settled.Settling.{Settles, settles, settled_is_run}
 
 -- ---- the way to the barrier
 

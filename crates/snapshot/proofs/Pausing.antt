@@ -1,29 +1,23 @@
 -- The lines of a paused feed are those of its snapshot.
-use Rattle.std.proofs.Common.{◌≡◌, ◌≤◌, ℕ, zero, suc, List, [], ◌∷◌, ◌++◌, length, map, get_or, refl, sym}
-use Rattle.std.proofs.Common.{ap, ◌∙◌, subst, Some, None, arith, codes, ◌<◌, ◌-◌, length-append}
-use Rattle.std.specs.List.{slice_get}
-use Rattle.std.specs.Option.{option_map}
+use Rattle.std.proofs.Common.{◌≡◌, ◌≤◌, ℕ, zero, suc, List, [], ◌∷◌, ◌++◌, length, map, get_or, refl, sym, ap, ◌∙◌}
+use Rattle.std.proofs.Common.{subst, Some, None, arith, codes, ◌<◌, ◌-◌, length-append, slice_get, option_map}
 use Rattle.std.proofs.lemmas.List.{length-map}
 use Rattle.dover_model.specs.declared.events.Task.{Task}
 use Rattle.dover_model.specs.declared.events.Version.TheVariants.{Three}
-use Rattle.dover_model.specs.Limits.{most_jobs, most_lines, last_tick}
-use Rattle.dover_model.specs.Feed.{account}
-use Rattle.dover_model.specs.Instance.{Rules, Declaration, declared_by, Instance}
-use Rattle.dover_model.specs.Lines.{in_lines}
-use Rattle.dover_model.specs.Session.{instance_of}
-use Rattle.dover_model.specs.Settled.{settled, settled_state}
-use Rattle.dover_model.proofs.Accounts.{Holds}
-use Rattle.dover_model.proofs.Barriers.{settled_at_barrier}
-use Rattle.dover_model.proofs.Honest.{count_jobs}
-use Rattle.dover_model.proofs.Limiting.{jobs_most, lines_most}
-use Rattle.dover_model.proofs.Members.{some_same}
+use Rattle.dover_model.specs.Common.{most_jobs, most_lines, last_tick, account, Rules, Declaration, declared_by}
+use Rattle.dover_model.specs.Common.{Instance, in_lines, instance_of, settled, settled_state}
+use Rattle.dover_model.proofs.sessions.Accounts.{Holds}
+use Rattle.dover_model.proofs.settled.Barriers.{settled_at_barrier}
+use Rattle.dover_model.proofs.runs.Honest.{count_jobs}
+use Rattle.dover_model.proofs.valid.Limiting.{jobs_most, lines_most}
+use Rattle.dover_model.proofs.lists.Members.{some_same}
 use Rattle.ready_server.specs.Roster.{Roll, ListedJob, job_at, roll_of, Kept, IsRollOf}
 use Rattle.snapshot.specs.Snapshot.{head_line, state_line, snapshot}
 use Rattle.snapshot.specs.Pausing.{IsTakenTo, lines_in}
 use Rattle.ready_server.specs.declared.roster_server.RosterServer.{RosterServer}
 use Rattle.snapshot.proofs.Feeds.{holds, few, snapshot_is}
 use Rattle.ready_server.proofs.RollSettled.{settled_jobs}
-use Rattle.dover_model.proofs.ValidParts.{valid_parts}
+use Rattle.dover_model.proofs.valid.ValidParts.{valid_parts}
 
 module _ (v : RosterServer) (lines mark : ℕ) (F : List ℕ) (it : IsTakenTo v lines mark F) (k : Kept)
     (there : v.roster ≡ Some k) where

@@ -1,33 +1,21 @@
 -- The mark of a feed that goes on is that behind its items, or there is a line that is no item; and its lines are few.
-use Rattle.dover_model.specs.Fraction.{fraction, with_factor}
+use Rattle.dover_model.specs.Common.{fraction, with_factor, last_tick, most_lines, JobFacts, Declaration, Item, Session}
+use Rattle.dover_model.specs.Common.{JobItem, RefusedItem, FinishItem, Refused, RefusedJob, RefusedDone, EarlyFinish}
+use Rattle.dover_model.specs.Common.{mark_after, with_item, with_named, new_session, early_at, is_right, refuses_lines}
+use Rattle.dover_model.specs.Common.{may_finish_early, late_refusal, FeedLine, RatioLine, FactorLine, JobLine, TickLine}
+use Rattle.dover_model.specs.Common.{DoneLine, feed_line, Lines, Line, Declared, Order, NotAdmitted, NotDone}
+use Rattle.dover_model.specs.Common.{Standing, Open, Ended, Faulty, Account, declared_rules, factor_rules}
+use Rattle.dover_model.specs.Common.{first_line_cause, late_cause, later_line_cause, with_fault, with_refused_at}
+use Rattle.dover_model.specs.Common.{refusal_in, refused_mark, with_line, next_line, most_lines_in, Cause}
 use Rattle.std.proofs.Common.{◌≡◌, ◌⊎◌, inl, inr, ℕ, suc, ◌+◌, ◌≤◌, ◌<◌, List, [], ◌∷◌, ◌++◌, length, length-append}
-use Rattle.std.proofs.Common.{refl, sym, ap, subst}
-use Rattle.std.proofs.Common.{Bool, true, false, cond, ◌||◌, arith, Option, Some, None, is_some}
-use Rattle.std.specs.Prelude.{nat_lt, max}
-use Rattle.std.specs.List.{fold}
-use Rattle.std.specs.Option.{option_map, option_map_or}
-use Rattle.std.proofs.lemmas.Bool.{ltb-false}
-use Rattle.dover_model.specs.Limits.{last_tick, most_lines}
+use Rattle.std.proofs.Common.{refl, sym, ap, subst, Bool, true, false, cond, ◌||◌, arith, Option, Some, None, is_some}
+use Rattle.std.proofs.Common.{nat_lt, max, fold, option_map, ltb-false}
+use Rattle.std.specs.Option.{option_map_or}
 use Rattle.dover_model.specs.declared.events.Version.{Version}
-use Rattle.dover_model.specs.declared.events.Version.TheVariants.{One, Two, Three}
-use Rattle.dover_model.specs.JobFacts.{JobFacts}
+use Rattle.dover_model.specs.declared.events.Version.TheVariants.{One}
 use Rattle.dover_model.specs.declared.events.Refusal.{Refusal}
-use Rattle.dover_model.specs.Instance.{Declaration}
-use Rattle.dover_model.specs.Session.{Item, Session, JobItem, RefusedItem, FinishItem, Refused, RefusedJob, RefusedDone}
-use Rattle.dover_model.specs.Session.{EarlyFinish, mark_after}
-use Rattle.dover_model.specs.Session.{with_item, with_named, new_session, early_at}
-use Rattle.dover_model.specs.Session.{is_right}
-use Rattle.dover_model.specs.Session.{refuses_lines, may_finish_early, late_refusal}
-use Rattle.dover_model.specs.FeedLine.{FeedLine, RatioLine, FactorLine, JobLine, TickLine, DoneLine, EndLine, feed_line}
-use Rattle.dover_model.specs.Feed.{Lines, Line, Declared, Order, NotAdmitted, NotDone, Standing, Open, Ended, Faulty}
-use Rattle.dover_model.specs.Feed.{Account}
-use Rattle.dover_model.specs.Feed.{declared_rules, factor_rules, first_line_cause, late_cause, later_line_cause}
-use Rattle.dover_model.specs.Feed.{with_fault}
-use Rattle.dover_model.specs.Feed.{with_refused_at}
-use Rattle.dover_model.specs.Session.{refusal_in, refused_mark}
-use Rattle.dover_model.specs.Feed.{with_line, next_line, most_lines_in, Cause, Short}
-use Rattle.dover_model.proofs.Accounts.{account_with, mark_behind}
-use Rattle.dover_model.proofs.Growing.{early_says}
+use Rattle.dover_model.proofs.sessions.Accounts.{account_with, mark_behind}
+use Rattle.dover_model.proofs.sessions.Growing.{early_says}
 use Rattle.event_feed.proofs.Counting.{after_form}
 
 -- there are lines for the ratio and the items, and the mark is that behind them, or there is a line more
@@ -67,10 +55,7 @@ first_reaches lines mark zero_mark (FactorLine p q version b c) =
       by_rules (Some rules) e =
           subst (λ o. Reaches (account_with (suc lines) (option_map new_session o) mark Open)) (sym e)
           (record { enough = omega arith; by = inl (omega (arith, zero_mark)) })
-first_reaches lines mark zero_mark (JobLine j) = tt
-first_reaches lines mark zero_mark (TickLine t) = tt
-first_reaches lines mark zero_mark (DoneLine t n) = tt
-first_reaches lines mark zero_mark EndLine = tt
+first_reaches lines mark zero_mark _ = tt
 
 -- ---- later lines
 
@@ -152,15 +137,13 @@ module _ (S : Session) (mark lines : ℕ) (it : Reached S.items mark lines) wher
 
   -- a line of any form
   later_reaches : (line : FeedLine) → Reaches (with_line counted line (later_line_cause S mark line))
-  later_reaches (RatioLine p q version) = tt
-  later_reaches (FactorLine p q version b c) = tt
   later_reaches (JobLine j) = job_line_reaches j
   later_reaches (TickLine t) = by_tests (nat_lt t mark || nat_lt last_tick t) where
     by_tests : (b : Bool) → Reaches (with_line counted (TickLine t) (cond b (Some Order) None))
     by_tests true = tt
     by_tests false = tick_reaches t
   later_reaches (DoneLine t n) = done_reaches t n
-  later_reaches EndLine = tt
+  later_reaches _ = tt
 
 -- ---- each line
 
@@ -186,8 +169,7 @@ line_reaches : (lines : ℕ) (session : Option Session) (mark : ℕ) (standing :
     → ReachesBy standing session mark lines → (bytes : List ℕ)
     → Reaches (next_line (account_with lines session mark standing) bytes)
 line_reaches lines session mark Open it bytes = open_reaches lines session mark it bytes
-line_reaches lines session mark Ended it bytes = tt
-line_reaches lines session mark (Faulty line cause) it bytes = tt
+line_reaches lines session mark _ it bytes = tt
 
 pub lines_reach : (ls : List (List ℕ)) (a : Account) → Reaches a → Reaches (fold next_line a ls)
 lines_reach [] a it = it
@@ -207,8 +189,7 @@ HasFew a = FewBy a.standing a.session a.lines
 -- there may be one line under each version
 one_line : (v : Version) → 1 ≤ most_lines v
 one_line One = omega arith
-one_line Two = omega arith
-one_line Three = omega arith
+one_line _ = omega arith
 
 -- with the first line
 few_first : (lines mark : ℕ) → lines ≤ 1 → (line : FeedLine)
@@ -229,10 +210,7 @@ few_first lines mark few (FactorLine p q version b c) =
       by_rules None e = tt
       by_rules (Some rules) e = subst (λ o. HasFew (account_with lines (option_map new_session o) mark Open)) (sym e)
           (let it : lines ≤ most_lines rules.version = omega (arith, few, one_line rules.version) in it)
-few_first lines mark few (JobLine j) = tt
-few_first lines mark few (TickLine t) = tt
-few_first lines mark few (DoneLine t n) = tt
-few_first lines mark few EndLine = tt
+few_first lines mark few _ = tt
 
 module _ (S : Session) (mark lines : ℕ) (few : lines ≤ most_lines S.rules.version) where
   -- the account of so many lines
@@ -248,12 +226,7 @@ module _ (S : Session) (mark lines : ℕ) (few : lines ≤ most_lines S.rules.ve
         (with_fault so_many (NotAdmitted refusal)))
     by_version true = few
     by_version false = tt
-  few_job j (Some Lines) = tt
-  few_job j (Some Line) = tt
-  few_job j (Some Declared) = tt
-  few_job j (Some Order) = tt
-  few_job j (Some NotDone) = tt
-  few_job j (Some Short) = tt
+  few_job j _ = tt
 
   -- with a done line
   few_done : (t n : ℕ) (o : Option Cause) → HasFew (with_line so_many (DoneLine t n) o)
@@ -263,24 +236,17 @@ module _ (S : Session) (mark lines : ℕ) (few : lines ≤ most_lines S.rules.ve
     by_finish None = few
     by_finish (Some f) = few
   few_done t n (Some NotDone) = few
-  few_done t n (Some (NotAdmitted refusal)) = tt
-  few_done t n (Some Lines) = tt
-  few_done t n (Some Line) = tt
-  few_done t n (Some Declared) = tt
-  few_done t n (Some Order) = tt
-  few_done t n (Some Short) = tt
+  few_done t n _ = tt
 
   -- with a later line
   few_later : (line : FeedLine) → HasFew (with_line so_many line (later_line_cause S mark line))
-  few_later (RatioLine p q version) = tt
-  few_later (FactorLine p q version b c) = tt
   few_later (JobLine j) = few_job j (later_line_cause S mark (JobLine j))
   few_later (TickLine t) = by_tests (nat_lt t mark || nat_lt last_tick t) where
     by_tests : (b : Bool) → HasFew (with_line so_many (TickLine t) (cond b (Some Order) None))
     by_tests true = tt
     by_tests false = few
   few_later (DoneLine t n) = few_done t n (later_line_cause S mark (DoneLine t n))
-  few_later EndLine = tt
+  few_later _ = tt
 
 -- with the next line
 few_next : (lines : ℕ) (session : Option Session) (mark : ℕ) (standing : Standing) (bytes : List ℕ)

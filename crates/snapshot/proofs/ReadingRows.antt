@@ -1,9 +1,8 @@
 -- Snapshots as they are read, by computation.
-use Rattle.std.proofs.Common.{◌≡◌, ℕ, List, refl}
-use Rattle.std.specs.Prelude.{codes, Option, Some, None}
+use Rattle.std.proofs.Common.{◌≡◌, ℕ, List, refl, codes, Option, Some, None}
 use Rattle.std.specs.Fmt.{digits}
 use Rattle.dover_model.specs.Lines.{whole_lines}
-use Rattle.dover_model.proofs.Written.{bytes}
+use Rattle.dover_model.proofs.rows.Written.{bytes}
 use Rattle.snapshot.specs.Snapshot.{snapshot}
 use Rattle.snapshot.specs.Reading.{Reading, Begun, Going, Taken, Refused, reading_of}
 

@@ -1,35 +1,26 @@
 -- What a run hands in, and that it is what each session of the same run hands in whose lines are not refused.
 use Rattle.std.proofs.Common.{◌≡◌, ◌⊎◌, ℕ, ◌≤◌, max, inl, inr, List, [], ◌∷◌, ◌++◌, length, map, append-nil, refl, sym}
-use Rattle.std.proofs.Common.{ap, ◌∙◌, subst, arith, Bool, true, false, cond}
-use Rattle.std.specs.Prelude.{Some, None}
-use Rattle.dover_model.specs.Finishes.{Finish}
-use Rattle.dover_model.specs.declared.events.Event.TheVariants.{Release, Run, Preempt, Take, Complete, Abandon, End}
-use Rattle.dover_model.specs.Instance.{Declaration, Instance, IsValid, under, declared_by}
-use Rattle.dover_model.specs.Limits.{most_items, most_ready}
-use Rattle.dover_model.specs.Lines.{in_lines}
-use Rattle.dover_model.specs.Run.{run, printed}
-use Rattle.dover_model.specs.Session.{Item, JobItem, RefusedItem, FinishItem, Session, IsValidSession}
-use Rattle.dover_model.specs.Session.{IsDeclarable}
-use Rattle.dover_model.specs.Session.{admitted_jobs, early_finishes, refused_of_item}
-use Rattle.dover_model.specs.Session.{instance_of, session_with, may_finish_early, finish_at, is_full, mark_after}
-use Rattle.dover_model.specs.Sound.{IsMember, Each}
-use Rattle.dover_model.specs.State.{State, opening, running}
-use Rattle.dover_model.specs.Step.{Move, Prints, Waits, Ticks}
-use Rattle.dover_model.specs.Text.{header}
-use Rattle.dover_model.specs.Trace.{Placed, Printed, handed_by, session_of, session_of_run}
-use Rattle.dover_model.specs.Trace.{places_after, put_in, text_of_line, trace_of_session}
-use Rattle.dover_model.proofs.EarlyEnds.{shown_own}
-use Rattle.dover_model.proofs.Ending.{run_is_whole}
-use Rattle.dover_model.proofs.Former.{none_early}
-use Rattle.dover_model.proofs.JobSessions.{session_of_valid, jobs_never}
-use Rattle.dover_model.proofs.Kept.{opening_keeps}
-use Rattle.dover_model.proofs.Meeting.{given_by}
-use Rattle.dover_model.proofs.Named.{same_trace}
-use Rattle.dover_model.proofs.NeverFull.{few_never}
-use Rattle.dover_model.proofs.RunSessions.{run_jobs, run_session_valid, same_printed, whole_of}
-use Rattle.dover_model.proofs.Shown.{Shows, early_says}
-use Rattle.dover_model.proofs.Tests.{none_is_some}
-use Rattle.dover_model.proofs.SessionParts.{FollowsItems, session_from, session_declared, session_jobs}
+use Rattle.std.proofs.Common.{ap, ◌∙◌, subst, arith, Bool, true, false, cond, Some, None}
+use Rattle.dover_model.specs.Common.{Finish, Declaration, Instance, IsValid, under, declared_by, most_items, most_ready}
+use Rattle.dover_model.specs.Common.{in_lines, run, printed, Item, JobItem, RefusedItem, FinishItem, Session}
+use Rattle.dover_model.specs.Common.{IsValidSession, IsDeclarable, admitted_jobs, early_finishes, refused_of_item}
+use Rattle.dover_model.specs.Common.{instance_of, session_with, may_finish_early, finish_at, is_full, mark_after}
+use Rattle.dover_model.specs.Common.{IsMember, Each, State, opening, running, Move, Prints, header}
+use Rattle.dover_model.specs.Common.{Placed, Printed, handed_by, session_of, session_of_run, places_after, put_in}
+use Rattle.dover_model.specs.Common.{text_of_line, trace_of_session}
+use Rattle.dover_model.specs.declared.events.Event.TheVariants.{Release, Complete}
+use Rattle.dover_model.proofs.finishes.EarlyEnds.{shown_own}
+use Rattle.dover_model.proofs.runs.Ending.{run_is_whole}
+use Rattle.dover_model.proofs.sessions.Former.{none_early}
+use Rattle.dover_model.proofs.sessions.JobSessions.{session_of_valid, jobs_never}
+use Rattle.dover_model.proofs.steps.Kept.{opening_keeps}
+use Rattle.dover_model.proofs.finishes.Meeting.{given_by}
+use Rattle.dover_model.proofs.traces.Named.{same_trace}
+use Rattle.dover_model.proofs.sessions.NeverFull.{few_never}
+use Rattle.dover_model.proofs.sessions.RunSessions.{run_jobs, run_session_valid, same_printed, whole_of}
+use Rattle.dover_model.proofs.steps.Shown.{Shows, early_says}
+use Rattle.dover_model.proofs.lists.Tests.{none_is_some}
+use Rattle.dover_model.proofs.sessions.SessionParts.{FollowsItems, session_from, session_declared, session_jobs}
 
 -- no refused line stands among the items
 abbrev pub NoneRefused : List Item → Type 0
@@ -42,21 +33,13 @@ step_good : (s : State) (m : Move) (i : Item) → handed_by (record { before = s
     → refused_of_item i ≡ None
 step_good s (Prints (Release n j)) i e = by i e where
   by : (i : Item) → Some (JobItem j) ≡ Some i → refused_of_item i ≡ None
-  by (JobItem k) e = refl
   by (RefusedItem r) e = absurd (cc)
-  by (FinishItem f) e = refl
+  by _ e = refl
 step_good s (Prints (Complete at n)) i e = by i (early_says s.clock (running s) i e) where
   by : (i : Item) → Shows s.clock (running s) i → refused_of_item i ≡ None
-  by (JobItem k) says = refl
   by (RefusedItem r) says = absurd (let clash = says.shown in cc)
-  by (FinishItem f) says = refl
-step_good s (Prints (Run at n)) i e = none_is_some e
-step_good s (Prints (Preempt at stops starts)) i e = none_is_some e
-step_good s (Prints (Take at stops starts)) i e = none_is_some e
-step_good s (Prints (Abandon at n)) i e = none_is_some e
-step_good s (Prints (End value)) i e = none_is_some e
-step_good s (Waits n) i e = none_is_some e
-step_good s Ticks i e = none_is_some e
+  by _ says = refl
+step_good s _ i e = none_is_some e
 
 -- so none is among what a run hands in
 pub run_good : (J : Instance) → NoneRefused (session_of_run J).items
@@ -119,28 +102,23 @@ kept_append (FinishItem f ∷ items) more = ap (λ is. FinishItem f ∷ is) (kep
 pub kept_jobs : (items : List Item) → admitted_jobs (kept items) ≡ admitted_jobs items
 kept_jobs [] = refl
 kept_jobs (JobItem j ∷ items) = ap (λ js. j ∷ js) (kept_jobs items)
-kept_jobs (RefusedItem r ∷ items) = kept_jobs items
-kept_jobs (FinishItem f ∷ items) = kept_jobs items
+kept_jobs (_ ∷ items) = kept_jobs items
 
 pub kept_early : (items : List Item) → early_finishes (kept items) ≡ early_finishes items
 kept_early [] = refl
-kept_early (JobItem j ∷ items) = kept_early items
-kept_early (RefusedItem r ∷ items) = kept_early items
 kept_early (FinishItem f ∷ items) = ap (λ fs. f.finish ∷ fs) (kept_early items)
+kept_early (_ ∷ items) = kept_early items
 
 pub kept_good : (items : List Item) → NoneRefused (kept items)
 kept_good [] i none = absurd none
-kept_good (JobItem j ∷ items) i (inl e) = ap refused_of_item e
-kept_good (JobItem j ∷ items) i (inr m) = kept_good items i m
 kept_good (RefusedItem r ∷ items) i m = kept_good items i m
-kept_good (FinishItem f ∷ items) i (inl e) = ap refused_of_item e
-kept_good (FinishItem f ∷ items) i (inr m) = kept_good items i m
+kept_good (_ ∷ items) i (inl e) = ap refused_of_item e
+kept_good (_ ∷ items) i (inr m) = kept_good items i m
 
 pub kept_few : (items : List Item) → length (kept items) ≤ length items
 kept_few [] = omega arith
 kept_few (JobItem j ∷ items) = omega (arith, kept_few items)
-kept_few (RefusedItem r ∷ items) = omega (arith, kept_few items)
-kept_few (FinishItem f ∷ items) = omega (arith, kept_few items)
+kept_few (_ ∷ items) = omega (arith, kept_few items)
 
 -- where none is left out, all are kept
 pub kept_all : (items : List Item) → length items ≤ length (kept items) → kept items ≡ items

@@ -1,19 +1,14 @@
 -- The job that runs at the barrier of a mark, as a roster has it, and what is stored of it.
 use Rattle.std.proofs.Common.{◌≡◌, ℕ, suc, ◌+◌, ◌-◌, ◌≤◌, inl, inr, List, [], ◌∷◌, map, refl, sym, ap, ◌∙◌, arith}
-use Rattle.std.proofs.Common.{Option, Some, None, true, zero}
-use Rattle.std.specs.List.{slice_get, find}
-use Rattle.std.specs.Option.{option_map, option_and_then}
+use Rattle.std.proofs.Common.{Option, Some, None, true, zero, slice_get, find, option_map, option_and_then}
 use Rattle.dover_model.specs.declared.events.Role.TheVariants.{Coming, Running}
 use Rattle.dover_model.specs.declared.events.Task.{Task}
-use Rattle.dover_model.specs.Instance.{Instance, IsValid}
-use Rattle.dover_model.specs.Settled.{settled, settled_state}
-use Rattle.dover_model.specs.Sound.{IsMember, IsNumberedFrom, jobs_of}
-use Rattle.dover_model.specs.State.{State, running, is_running}
-use Rattle.dover_model.specs.Step.{with_role}
-use Rattle.dover_model.proofs.Barriers.{AtBarrier, settled_at_barrier}
-use Rattle.dover_model.proofs.Members.{found, not_found}
-use Rattle.dover_model.proofs.Roles.{passes, is_running_role, numbers_above}
-use Rattle.dover_model.proofs.Tests.{never}
+use Rattle.dover_model.specs.Common.{Instance, IsValid, settled, settled_state, IsMember, IsNumberedFrom, jobs_of}
+use Rattle.dover_model.specs.Common.{State, running, is_running, with_role}
+use Rattle.dover_model.proofs.settled.Barriers.{AtBarrier, settled_at_barrier}
+use Rattle.dover_model.proofs.lists.Members.{found, not_found}
+use Rattle.dover_model.proofs.steps.Roles.{passes, is_running_role, numbers_above}
+use Rattle.dover_model.proofs.lists.Tests.{never}
 use Rattle.ready_server.specs.Roster.{Roll, job_at, roll_of, runner_at}
 use Rattle.ready_server.proofs.RollRuns.{roll_follows}
 use Rattle.ready_server.proofs.Rolls.{calm, calm_role, Lists, Follows}

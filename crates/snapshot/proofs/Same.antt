@@ -1,30 +1,24 @@
 -- The early finishes that are stored of jobs at a mark are those of the session that led there, and make the same run.
-use Rattle.std.proofs.Common.{◌≡◌, ℕ, ◌<◌, List, [], length, refl, sym, ap, ◌∙◌, subst, arith}
-use Rattle.std.proofs.Common.{Bool, true, false, cond}
-use Rattle.std.specs.Prelude.{Some, nat_lt, ◌&&◌}
+use Rattle.std.proofs.Common.{◌≡◌, ℕ, ◌<◌, List, [], length, refl, sym, ap, ◌∙◌, subst, arith, Bool, true, false, cond}
+use Rattle.std.proofs.Common.{Some, nat_lt, ◌&&◌, filter_map, ltb-true, lt-ltb}
 use Rattle.std.specs.Bool.{then_some}
-use Rattle.std.specs.List.{filter_map}
-use Rattle.std.proofs.lemmas.Bool.{and_parts, and_from, ltb-true, lt-ltb}
+use Rattle.std.proofs.lemmas.Bool.{and_parts, and_from}
 use Rattle.dover_model.specs.declared.events.Role.{Role}
 use Rattle.dover_model.specs.declared.events.Role.TheVariants.{Coming, Fresh, Waiting, Held, Running, Done, Gone}
 use Rattle.dover_model.specs.declared.events.Task.{Task}
 use Rattle.dover_model.specs.declared.events.Version.{Version}
-use Rattle.dover_model.specs.Finishes.{Finish, AreDueAlike}
-use Rattle.dover_model.specs.Instance.{Instance, IsValid, under, finishing}
-use Rattle.dover_model.specs.Session.{Session, instance_of, admitted_jobs, early_finishes, may_finish_early}
-use Rattle.dover_model.specs.Settled.{settled_state, finish_now}
-use Rattle.dover_model.specs.Sound.{IsMember, Each, HaveTheSame, jobs_of}
-use Rattle.dover_model.specs.State.{is_done}
-use Rattle.dover_model.specs.Trace.{handed_by, session_of_run}
-use Rattle.dover_model.proofs.Accounts.{Holds}
-use Rattle.dover_model.proofs.Barriers.{AtBarrier, settled_at_barrier}
-use Rattle.dover_model.proofs.FinishOrders.{same_alike, state_alike, run_alike}
-use Rattle.dover_model.proofs.Former.{none_early}
-use Rattle.dover_model.proofs.Honest.{count_jobs}
-use Rattle.dover_model.proofs.Meeting.{given_in, given_by}
-use Rattle.dover_model.proofs.Members.{some_same}
-use Rattle.dover_model.proofs.Roles.{passes}
-use Rattle.dover_model.proofs.Tests.{never, none_is_some}
+use Rattle.dover_model.specs.Common.{Finish, AreDueAlike, Instance, IsValid, under, finishing, Session, instance_of}
+use Rattle.dover_model.specs.Common.{admitted_jobs, early_finishes, may_finish_early, settled_state, finish_now}
+use Rattle.dover_model.specs.Common.{IsMember, Each, HaveTheSame, jobs_of, is_done, handed_by, session_of_run}
+use Rattle.dover_model.proofs.sessions.Accounts.{Holds}
+use Rattle.dover_model.proofs.settled.Barriers.{AtBarrier, settled_at_barrier}
+use Rattle.dover_model.proofs.finishes.FinishOrders.{same_alike, state_alike, run_alike}
+use Rattle.dover_model.proofs.sessions.Former.{none_early}
+use Rattle.dover_model.proofs.runs.Honest.{count_jobs}
+use Rattle.dover_model.proofs.finishes.Meeting.{given_in, given_by}
+use Rattle.dover_model.proofs.lists.Members.{some_same}
+use Rattle.dover_model.proofs.steps.Roles.{passes}
+use Rattle.dover_model.proofs.lists.Tests.{never, none_is_some}
 use Rattle.ready_server.proofs.RollRuns.{numbered_task}
 use Rattle.snapshot.specs.Snapshot.{Head}
 use Rattle.snapshot.specs.Reading.{early_of, early_in, stored, stored_session}

@@ -1,27 +1,18 @@
 -- What each job has had at the barrier of a mark: as much as it needs where it is done, and less where it is given up.
-use Rattle.std.proofs.Common.{◌≡◌, ◌⊎◌, ℕ, ◌≤◌, ◌<◌, inl, inr, List, [], ◌∷◌, refl, sym, ap, subst, arith}
-use Rattle.std.proofs.Common.{Bool, true, false, cond}
-use Rattle.std.specs.Prelude.{nat_lt, nat_le, ◌==◌, ◌&&◌}
-use Rattle.std.proofs.lemmas.Bool.{eqb-true, eq-eqb, lt-ltb, leb-true, leb-false}
+use Rattle.std.proofs.Common.{◌≡◌, ◌⊎◌, ℕ, ◌≤◌, ◌<◌, inl, inr, List, [], ◌∷◌, refl, sym, ap, subst, arith, Bool, true}
+use Rattle.std.proofs.Common.{false, cond, nat_lt, nat_le, ◌==◌, ◌&&◌, eqb-true, eq-eqb, lt-ltb, leb-true, leb-false}
+use Rattle.std.proofs.lemmas.Bool.{and_from, and_parts, and_right}
 use Rattle.dover_model.specs.declared.events.Role.TheVariants.{Done, Gone}
 use Rattle.dover_model.specs.declared.events.Task.{Task}
-use Rattle.dover_model.specs.Finishes.{Finish, need}
-use Rattle.dover_model.specs.Instance.{Instance, IsValid}
-use Rattle.dover_model.specs.Paths.{IsOpenPath}
-use Rattle.dover_model.specs.Processor.{is_complete}
-use Rattle.dover_model.specs.Run.{Step}
-use Rattle.dover_model.specs.Settled.{settled_steps, settled_state, finish_now}
-use Rattle.dover_model.specs.Sound.{IsMember, Keeps}
-use Rattle.dover_model.specs.State.{State, opening}
-use Rattle.dover_model.specs.Step.{Ticks, open_step, after}
-use Rattle.dover_model.specs.WholeRun.{IsBarrier}
-use Rattle.dover_model.proofs.Kept.{open_deed, open_kept, opening_keeps}
-use Rattle.dover_model.proofs.Needing.{Served, AllServed, opening_served, ticks_served, deed_served}
-use Rattle.dover_model.proofs.Readiness.{IsReady, Decides, open_decides, open_ready, opening_ready}
-use Rattle.dover_model.proofs.Resting.{path_state, settled_path}
-use Rattle.dover_model.proofs.Roles.{is_over_role}
-use Rattle.dover_model.proofs.Settling.{settled_is_run}
-use Rattle.dover_model.proofs.Tests.{never}
+use Rattle.dover_model.specs.Common.{Finish, need, Instance, IsValid, IsOpenPath, is_complete, Step, settled_steps}
+use Rattle.dover_model.specs.Common.{settled_state, finish_now, IsMember, Keeps, State, opening, Ticks, open_step}
+use Rattle.dover_model.specs.Common.{after, IsBarrier}
+use Rattle.dover_model.proofs.steps.Kept.{open_deed, open_kept, opening_keeps}
+use Rattle.dover_model.proofs.finishes.Needing.{Served, AllServed, opening_served, ticks_served, deed_served}
+use Rattle.dover_model.proofs.finishes.Readiness.{IsReady, Decides, open_decides, open_ready, opening_ready}
+use Rattle.dover_model.proofs.rest.Resting.{path_state, settled_path}
+use Rattle.dover_model.proofs.steps.Roles.{is_over_role}
+use Rattle.dover_model.proofs.settled.Settling.{settled_is_run}
 use Rattle.snapshot.proofs.Paces.{HasCome}
 
 -- ---- along the settled steps
@@ -98,35 +89,22 @@ needs_most (g ∷ fs) f work (inl e) some low = by_tests (nat_le g.had (need fs 
 
   by_tests : (b : Bool) → nat_le g.had (need fs f.number work) ≡ b → need (g ∷ fs) f.number work ≤ f.had
   by_tests true e2 = subst (λ b. cond b g.had (need fs f.number work) ≤ f.had)
-      (sym (all (g.number == f.number) (nat_lt 0 g.had) (nat_le g.had (need fs f.number work)) number above e2))
-      (omega (arith, had)) where
-        all : (a b c : Bool) → a ≡ true → b ≡ true → c ≡ true → (a && b && c) ≡ true
-        all true true true p q r = refl
-        all true true false p q r = r
-        all true false c p q r = q
-        all false b c p q r = p
+      (sym (and_from _ _ (and_from _ _ number above) e2))
+      (omega (arith, had))
   by_tests false e2 = subst (λ b. cond b g.had (need fs f.number work) ≤ f.had)
-      (sym (none (g.number == f.number) (nat_lt 0 g.had) (nat_le g.had (need fs f.number work)) e2))
+      (sym (and_right ((g.number == f.number) && nat_lt 0 g.had) _ e2))
       (let less : need fs f.number work < g.had = leb-false g.had (need fs f.number work) e2 in
-      let it : need fs f.number work ≤ f.had = omega (arith, had) in it) where
-        none : (a b c : Bool) → c ≡ false → (a && b && c) ≡ false
-        none true true c e = e
-        none true false c e = refl
-        none false b c e = refl
+      let it : need fs f.number work ≤ f.had = omega (arith, had) in it)
 needs_most (g ∷ fs) f work (inr member) some low = by_test test refl (needs_most fs f work member some low) where
   test : Bool
   test = (g.number == f.number) && nat_lt 0 g.had && nat_le g.had (need fs f.number work)
-
-  last : (a b c : Bool) → (a && b && c) ≡ true → c ≡ true
-  last true true c e = e
-  last true false c e = never e
-  last false b c e = never e
 
   by_test : (b : Bool) → test ≡ b → need fs f.number work ≤ f.had
       → cond b g.had (need fs f.number work) ≤ f.had
   by_test true e rest =
       let below : g.had ≤ need fs f.number work = leb-true g.had (need fs f.number work)
-      (last (g.number == f.number) (nat_lt 0 g.had) (nat_le g.had (need fs f.number work)) e) in omega (arith, rest)
+      (and_parts ((g.number == f.number) && nat_lt 0 g.had) (nat_le g.had (need fs f.number work)) e).1 in
+      omega (arith, rest)
   by_test false e rest = rest
 
 -- ---- jobs that are done with work left

@@ -1,25 +1,21 @@
 -- How a server is taken to a mark, step by step, and a job more is admitted there.
-use Rattle.std.proofs.Common.{◌≤◌, ◌+◌, ℕ, List, [], ◌∷◌, ◌++◌, length, length-append, ap}
-use Rattle.std.proofs.Common.{◌≡◌, true, false, arith}
-use Rattle.std.specs.Prelude.{Some, Result, Ok, Err, IsErr, OnOk, OnErr}
+use Rattle.std.proofs.Common.{◌≤◌, ◌+◌, ℕ, List, [], ◌∷◌, ◌++◌, length, length-append, ap, ◌≡◌, true, false, arith}
+use Rattle.std.proofs.Common.{Some, Result, Ok, Err, IsErr, OnOk, OnErr}
 use Rattle.dover_model.specs.declared.events.Event.{Event}
 use Rattle.dover_model.specs.declared.events.Task.{Task}
-use Rattle.dover_model.specs.JobFacts.{JobFacts, IsJob}
-use Rattle.dover_model.specs.Instance.{Instance}
-use Rattle.dover_model.specs.Limits.{last_tick}
-use Rattle.dover_model.proofs.Members.{all_last}
+use Rattle.dover_model.specs.Common.{JobFacts, IsJob, Instance, last_tick, MayFollow, due_by, Gives}
+use Rattle.dover_model.proofs.lists.Members.{all_last}
 use Rattle.dover_model.specs.declared.horizon.Horizon.TheVariants.{Mark}
-use Rattle.dover_model.specs.Horizons.{MayFollow, due_by, Gives}
-use Rattle.dover_model.proofs.Horizons.{due_few}
-use Rattle.dover_model.proofs.Limiting.{jobs_most}
+use Rattle.dover_model.proofs.settled.Horizons.{due_few}
+use Rattle.dover_model.proofs.valid.Limiting.{jobs_most}
 use Rattle.ready_server.proofs.Stepping.{serves_begins}
 use Rattle.snapshot.specs.Snapshot.{Head}
 use Rattle.snapshot.specs.Reading.{declared_jobs}
 use Rattle.snapshot.specs.Kept.{MayAdmit}
 use Rattle.ready_server.specs.Rostering.{Serves, Rests}
 use Rattle.ready_server.specs.declared.roster_server.RosterServer.{RosterServer}
-use Rattle.dover_model.proofs.ValidParts.{valid_parts}
-use Rattle.dover_model.proofs.JobLimits.{job_limits}
+use Rattle.dover_model.proofs.valid.ValidParts.{valid_parts}
+use Rattle.dover_model.proofs.valid.JobLimits.{job_limits}
 
 -- so many steps at least were printed on the way to a mark
 pub record IsOnTheWay (v : RosterServer) (J : Instance) (mark steps : ℕ) : Type 0 where

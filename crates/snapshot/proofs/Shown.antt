@@ -1,31 +1,23 @@
 -- With the finishes that a run hands in alone, what is settled stays.
-use Rattle.std.proofs.Common.{◌≡◌, ℕ, inl, inr, List, [], ◌∷◌, refl, sym, ap, ◌∙◌, subst, Bool, true, false}
-use Rattle.std.specs.Prelude.{nat_le, ◌&&◌}
-use Rattle.std.specs.Bool.{MatchBool}
+use Rattle.std.proofs.Common.{◌≡◌, ℕ, inl, inr, List, [], ◌∷◌, refl, sym, ap, ◌∙◌, subst, Bool, true, false, nat_le}
+use Rattle.std.proofs.Common.{◌&&◌, MatchBool}
 use Rattle.std.specs.List.{list_all}
-use Rattle.dover_model.specs.Finishes.{Finish}
-use Rattle.dover_model.specs.Instance.{Rules, Instance, IsValid, having, finishing}
-use Rattle.dover_model.specs.Paths.{IsOpenPath}
-use Rattle.dover_model.specs.Run.{Step, is_end, run}
-use Rattle.dover_model.specs.Session.{early_finishes}
-use Rattle.dover_model.specs.Settled.{waits_for_mark, settled_steps, settled_state, AreOverFor}
-use Rattle.dover_model.specs.Sound.{IsMember, Each, Keeps}
-use Rattle.dover_model.specs.State.{State, opening, is_over}
-use Rattle.dover_model.specs.Step.{step, open_step, after}
-use Rattle.dover_model.specs.Trace.{session_of_run}
-use Rattle.dover_model.specs.WholeRun.{step_at, IsWholeRun}
-use Rattle.dover_model.proofs.Barriers.{state_after}
-use Rattle.dover_model.proofs.EarlyEnds.{same_here, shown_all}
-use Rattle.dover_model.proofs.Ending.{run_is_whole}
-use Rattle.dover_model.proofs.Further.{over_open}
-use Rattle.dover_model.proofs.Kept.{open_kept, opening_keeps}
-use Rattle.dover_model.proofs.Meeting.{finishing_valid}
-use Rattle.dover_model.proofs.Members.{all_each}
-use Rattle.dover_model.proofs.OverFor.{over_after}
-use Rattle.dover_model.proofs.Paths.{one_settled_run, path_settles}
-use Rattle.dover_model.proofs.Prefixes.{step_open, open_goes_on}
-use Rattle.dover_model.proofs.Resting.{settled_path}
-use Rattle.dover_model.proofs.Settling.{settled_is_run}
+use Rattle.dover_model.specs.Common.{Finish, Rules, Instance, IsValid, having, finishing, IsOpenPath, Step, is_end, run}
+use Rattle.dover_model.specs.Common.{early_finishes, waits_for_mark, settled_steps, settled_state, AreOverFor, IsMember}
+use Rattle.dover_model.specs.Common.{Each, Keeps, State, opening, is_over, step, open_step, after, session_of_run}
+use Rattle.dover_model.specs.Common.{step_at, IsWholeRun}
+use Rattle.dover_model.proofs.settled.Barriers.{state_after}
+use Rattle.dover_model.proofs.finishes.EarlyEnds.{same_here, shown_all}
+use Rattle.dover_model.proofs.runs.Ending.{run_is_whole}
+use Rattle.dover_model.proofs.finishes.Further.{over_open}
+use Rattle.dover_model.proofs.steps.Kept.{open_kept, opening_keeps}
+use Rattle.dover_model.proofs.finishes.Meeting.{finishing_valid}
+use Rattle.dover_model.proofs.lists.Members.{all_each}
+use Rattle.dover_model.proofs.finishes.OverFor.{over_after}
+use Rattle.dover_model.proofs.settled.Paths.{one_settled_run, path_settles}
+use Rattle.dover_model.proofs.settled.Prefixes.{step_open, open_goes_on}
+use Rattle.dover_model.proofs.rest.Resting.{settled_path}
+use Rattle.dover_model.proofs.settled.Settling.{settled_is_run}
 use Rattle.snapshot.proofs.RunItems.{run_own}
 
 module _ (J : Instance) (valid : IsValid J) (mark : ℕ) where

@@ -1,42 +1,32 @@
 -- The lines of a snapshot have one spelling: what is written is read as the same, and what is read was written so.
-use Rattle.std.proofs.Common.{◌≡◌, ℕ, ◌+◌, ◌*◌, ◌≤◌, ◌<◌, ◌^◌, List, [], ◌∷◌, ◌++◌, length, length-append, map, refl, sym, ap}
-use Rattle.std.proofs.Common.{◌∙◌, subst}
-use Rattle.std.proofs.Common.{Bool, true, false, cond, arith, decimal, Option, Some, None, codes}
-use Rattle.std.specs.Prelude.{bytes_eq, ◌==◌}
+use Rattle.std.proofs.Common.{◌≡◌, ℕ, ◌+◌, ◌*◌, ◌≤◌, ◌<◌, ◌^◌, List, [], ◌∷◌, ◌++◌, length, length-append, map, refl}
+use Rattle.std.proofs.Common.{sym, ap, ◌∙◌, subst, Bool, true, false, cond, arith, decimal, Option, Some, None, codes}
+use Rattle.std.proofs.Common.{bytes_eq, ◌==◌, option_and_then, le-ltb, eqb-true}
 use Rattle.std.specs.Bool.{then_some}
-use Rattle.std.specs.Option.{option_and_then}
 use Rattle.std.specs.List.{AllByRecursion}
-use Rattle.std.proofs.lemmas.Bool.{le-ltb, eqb-true}
 use Rattle.std.proofs.lemmas.Fmt.{length-decimal-le}
 use Rattle.std.proofs.lemmas.Slice.Eq.{bytes_eq-Decides}
 use Rattle.dover_model.specs.declared.events.Role.{Role}
 use Rattle.dover_model.specs.declared.events.Role.TheVariants.{Coming, Fresh, Waiting, Held, Running, Done, Gone}
 use Rattle.dover_model.specs.declared.events.Task.{Task}
 use Rattle.dover_model.specs.declared.events.Version.{Version}
-use Rattle.dover_model.specs.declared.events.Version.TheVariants.{One, Two}
-use Rattle.dover_model.specs.Fraction.{Fraction, IsRatio, is_ratio, fraction, with_factor, factor_numbers}
+use Rattle.dover_model.specs.declared.events.Version.TheVariants.{One, Three}
+use Rattle.dover_model.specs.Common.{Fraction, IsRatio, is_ratio, fraction, with_factor, factor_numbers, rules_with}
+use Rattle.dover_model.specs.Common.{factor_rules, IsDeclarable, Declaration, job_of_numbers, job_numbers, numerals}
+use Rattle.dover_model.specs.Common.{AreShort, is_too_long, fields_of, line_of, with_numbers, numbers_after, numbers_of}
+use Rattle.dover_model.specs.Common.{version_number, version_of_number}
 use Rattle.dover_model.specs.declared.factors.Factor.{Factor}
-use Rattle.dover_model.specs.Feed.{rules_with, factor_rules}
-use Rattle.dover_model.specs.Session.{IsDeclarable}
-use Rattle.dover_model.specs.Instance.{Declaration}
-use Rattle.dover_model.specs.JobFacts.{job_of_numbers, job_numbers}
-use Rattle.dover_model.specs.Numerals.{numerals, AreShort}
-use Rattle.dover_model.specs.Lines.{is_too_long, fields_of, line_of, with_numbers, numbers_after, numbers_of}
-use Rattle.dover_model.specs.Text.{version_number}
-use Rattle.dover_model.proofs.Tests.{never, none_is_some}
-use Rattle.dover_model.proofs.JobLimits.{ratio_limits}
-use Rattle.dover_model.proofs.Members.{some_same}
-use Rattle.dover_model.proofs.ReadShort.{numerals_short}
-use Rattle.dover_model.proofs.Fields.{HasNoSpace, fields_of-line_of, line_of-fields_of, decimals-HasNoSpace}
-use Rattle.dover_model.proofs.Fields.{numerals-decimals, decimals-numerals}
-use Rattle.dover_model.proofs.Fields.{length-with_numbers}
+use Rattle.dover_model.proofs.lists.Tests.{never, none_is_some}
+use Rattle.dover_model.proofs.valid.JobLimits.{ratio_limits}
+use Rattle.dover_model.proofs.lists.Members.{some_same}
+use Rattle.dover_model.proofs.texts.ReadShort.{numerals_short}
+use Rattle.dover_model.proofs.texts.Fields.{HasNoSpace, fields_of-line_of, line_of-fields_of, decimals-HasNoSpace}
+use Rattle.dover_model.proofs.texts.Fields.{numerals-decimals, decimals-numerals, length-with_numbers}
 use Rattle.snapshot.specs.Snapshot.{Head, head_numbers, head_line, IsHead, role_word, state_line, IsStored}
 use Rattle.snapshot.specs.Snapshot.{state_numbers, IsState}
-use Rattle.snapshot.specs.Reading.{rules_from, head_with, head_from, read_head, role_of_word, task_from}
-use Rattle.snapshot.specs.Reading.{task_of_fields, read_task}
-use Rattle.dover_model.specs.declared.events.Version.TheVariants.{Three}
-use Rattle.dover_model.specs.Verdict.{version_of_number}
-use Rattle.dover_model.proofs.TraceLines.{version_back, version_from}
+use Rattle.snapshot.specs.Reading.{rules_from, head_with, head_from, read_head, role_of_word, task_from, task_of_fields}
+use Rattle.snapshot.specs.Reading.{read_task}
+use Rattle.dover_model.proofs.texts.TraceLines.{version_back, version_from}
 
 -- ---- a word and numbers
 
@@ -93,8 +83,7 @@ numbers_head h = by h.rules.ratio.p h.rules.ratio.q h.rules.ratio.factor h.rules
       ∙ ap (λ b. head_with h.lines h.mark h.jobs (then_some b (rules_by p q None v))) ratio.passes
   by p q (Some f) Three ratio declared =
       ap (λ b. head_with h.lines h.mark h.jobs (cond b (Some (rules_by p q (Some f) Three)) None)) ratio.passes
-  by p q (Some f) One ratio declared = never declared
-  by p q (Some f) Two ratio declared = never declared
+  by p q (Some f) _ ratio declared = never declared
 
 -- a word and numbers, the first of at most so many digits
 first_fits : (word : List ℕ) (n most : ℕ) (ns : List ℕ) → 1 ≤ most → n < 10 ^ most → n < 2 ^ 64
@@ -128,8 +117,7 @@ head_fits h ratio short =
     omega (arith, first) where
       one : (v : Version) → version_number v < 10
       one One = omega arith
-      one Two = omega arith
-      one Three = omega arith
+      one _ = omega arith
 
       few : (o : Option Factor) → length (factor_numbers o) ≤ 2
       few None = omega arith
@@ -204,14 +192,7 @@ head_read (n ∷ p ∷ q ∷ lines ∷ mark ∷ jobs ∷ []) h =
 head_read (n ∷ p ∷ q ∷ lines ∷ mark ∷ jobs ∷ b ∷ c ∷ []) h =
     with_rules n p q lines mark jobs (b ∷ c ∷ []) (factor_rules (with_factor (fraction p q) b c) n) h
     (factor_read n p q b c)
-head_read [] h = λ read. none_is_some read
-head_read (a ∷ []) h = λ read. none_is_some read
-head_read (a ∷ b ∷ []) h = λ read. none_is_some read
-head_read (a ∷ b ∷ c ∷ []) h = λ read. none_is_some read
-head_read (a ∷ b ∷ c ∷ d ∷ []) h = λ read. none_is_some read
-head_read (a ∷ b ∷ c ∷ d ∷ e ∷ []) h = λ read. none_is_some read
-head_read (a ∷ b ∷ c ∷ d ∷ e ∷ f ∷ g ∷ []) h = λ read. none_is_some read
-head_read (a ∷ b ∷ c ∷ d ∷ e ∷ f ∷ g ∷ i ∷ j ∷ ns) h = λ read. none_is_some read
+head_read _ h = λ read. none_is_some read
 
 -- it was written as it is read
 pub head_line-read_head : (line : List ℕ) (h : Head) → read_head line ≡ Some h → (head_line h ≡ line) × IsHead h
@@ -233,32 +214,18 @@ head_line-read_head line h = by (is_too_long line) (numbers_of (codes "snapshot"
 -- no word for a role has a space
 pub role_HasNoSpace : (role : Role) → HasNoSpace (role_word role)
 role_HasNoSpace Coming = refl
-role_HasNoSpace Fresh = refl
-role_HasNoSpace Waiting = refl
-role_HasNoSpace Held = refl
-role_HasNoSpace Running = refl
-role_HasNoSpace Done = refl
-role_HasNoSpace Gone = refl
+role_HasNoSpace _ = refl
 
 -- each word is short
 pub role_fits : (role : Role) → length (role_word role) ≤ 7
 role_fits Coming = omega arith
-role_fits Fresh = omega arith
-role_fits Waiting = omega arith
-role_fits Held = omega arith
-role_fits Running = omega arith
-role_fits Done = omega arith
-role_fits Gone = omega arith
+role_fits _ = omega arith
 
 -- a role is read from its word
 pub role_back : (role : Role) → IsStored role → role_of_word (role_word role) ≡ Some role
 role_back Coming it = absurd it
 role_back Fresh it = absurd it
-role_back Waiting it = refl
-role_back Held it = refl
-role_back Running it = refl
-role_back Done it = refl
-role_back Gone it = refl
+role_back _ it = refl
 
 -- and its word from it
 pub role_from : (word : List ℕ) (role : Role) → role_of_word word ≡ Some role → (role_word role ≡ word) × IsStored role
@@ -310,13 +277,7 @@ task_read : (role : Role) (ns : List ℕ) (t : Task) → task_from role ns ≡ S
 task_read role (n ∷ had ∷ r ∷ c ∷ d ∷ v ∷ []) t read =
     subst (λ (u : Task). (state_numbers u ≡ n ∷ had ∷ r ∷ c ∷ d ∷ v ∷ []) × (u.role ≡ role))
     (some_same (record { number = n; job = job_of_numbers r c d v; role = role; had = had }) t read) (refl, refl)
-task_read role [] t read = none_is_some read
-task_read role (a ∷ []) t read = none_is_some read
-task_read role (a ∷ b ∷ []) t read = none_is_some read
-task_read role (a ∷ b ∷ c ∷ []) t read = none_is_some read
-task_read role (a ∷ b ∷ c ∷ d ∷ []) t read = none_is_some read
-task_read role (a ∷ b ∷ c ∷ d ∷ e ∷ []) t read = none_is_some read
-task_read role (a ∷ b ∷ c ∷ d ∷ e ∷ f ∷ g ∷ ns) t read = none_is_some read
+task_read role _ t read = none_is_some read
 
 -- the line of a job, of its fields without the role, and its role
 abbrev weave : List (List ℕ) → List ℕ → List ℕ
@@ -334,9 +295,6 @@ fields_read word number role fields t =
           → numerals (number ∷ fields) ≡ ns
           → cond b (option_and_then (λ r. option_and_then (task_from r) ns) o) None ≡ Some t
           → (state_line t ≡ line_of (word ∷ number ∷ role ∷ fields)) × IsState t
-      by false o ns is said count read = none_is_some read
-      by true None ns is said count read = none_is_some read
-      by true (Some r) None is said count read = none_is_some read
       by true (Some r) (Some ns) is said count read =
           let it = task_read r ns t read in
           let named = role_from role r said in (
@@ -349,6 +307,7 @@ fields_read word number role fields t =
               short = subst AreShort (sym it.0) (numerals_short (number ∷ fields) ns count);
             },
           )
+      by _ _ _ is said count read = none_is_some read
 
 -- it was written as it is read
 pub state_line-read_task : (line : List ℕ) (t : Task) → read_task line ≡ Some t → (state_line t ≡ line) × IsState t
@@ -356,10 +315,7 @@ state_line-read_task line t = by (is_too_long line) (fields_of line) refl where
   by : (long : Bool) (fields : List (List ℕ)) → fields_of line ≡ fields
       → cond long None (task_of_fields fields) ≡ Some t
       → (state_line t ≡ line) × IsState t
-  by true fields cut read = none_is_some read
-  by false [] cut read = none_is_some read
-  by false (word ∷ []) cut read = none_is_some read
-  by false (word ∷ number ∷ []) cut read = none_is_some read
   by false (word ∷ number ∷ role ∷ fields) cut read =
       let it = fields_read word number role fields t read in
       (it.0 ∙ ap line_of (sym cut) ∙ line_of-fields_of line, it.1)
+  by _ _ cut read = none_is_some read

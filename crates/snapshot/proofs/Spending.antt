@@ -1,22 +1,19 @@
 -- The jobs that a reader serves again, and what they have cost.
 use Rattle.std.proofs.Common.{◌≡◌, ℕ, ◌≤◌, List, [], ◌∷◌, ◌++◌, length, length-append, sym, ap, ◌∙◌, subst, Bool, true}
-use Rattle.std.proofs.Common.{false, cond, ◌&&◌, Option, Some, None, codes, arith}
-use Rattle.std.specs.Prelude.{nat_lt, bytes_eq}
+use Rattle.std.proofs.Common.{false, cond, ◌&&◌, Option, Some, None, codes, arith, nat_lt, bytes_eq}
 use Rattle.std.proofs.lemmas.List.Sums.{fold-append}
 use Rattle.dover_model.specs.declared.events.Event.{Event}
 use Rattle.dover_model.specs.declared.events.Task.{Task}
-use Rattle.dover_model.specs.Instance.{Instance}
-use Rattle.dover_model.specs.Settled.{settled}
+use Rattle.dover_model.specs.Common.{Instance, settled, Item, instance_of, session_with}
 use Rattle.snapshot.specs.Snapshot.{Head}
 use Rattle.snapshot.specs.Reading.{Begun, Going, Taken, read_task, with_task, with_last, may_follow, has_reached_mark}
 use Rattle.snapshot.specs.Reading.{is_settled, refused_behind, next_line, reading_of, last_release}
-use Rattle.dover_model.proofs.Honest.{count_jobs}
+use Rattle.dover_model.proofs.runs.Honest.{count_jobs}
 use Rattle.ready_jobs.proofs.Courses.{follows_count}
 use Rattle.ready_server.proofs.Rostered.{roster_rests}
 use Rattle.dover_model.specs.declared.horizon.Horizon.TheVariants.{Mark}
 use Rattle.snapshot.specs.Stored.{HasRead}
 use Rattle.ready_server.specs.Rostering.{Serves}
-use Rattle.dover_model.specs.Session.{Item, instance_of, session_with}
 use Rattle.snapshot.specs.Kept.{IsReading, IsHandedIn, HasRun, HasRunTowards}
 use Rattle.ready_server.specs.declared.roster_server.RosterServer.{RosterServer}
 use Rattle.snapshot.specs.Spending.{jobs_read, jobs_kept}

@@ -1,14 +1,10 @@
 -- What a reader keeps with one line more, and when the line is refused.
 use Rattle.std.proofs.Common.{◌≡◌, ℕ, ◌+◌, ◌≤◌, ◌<◌, List, [], ◌∷◌, ◌++◌, length, refl, sym, ap, ◌∙◌, subst, Bool, true}
-use Rattle.std.proofs.Common.{false, ◌&&◌, arith}
-use Rattle.std.proofs.Common.{Some, None}
-use Rattle.std.specs.Prelude.{nat_le, ◌==◌}
-use Rattle.std.proofs.lemmas.Bool.{eq-eqb, eqb-true, le-leb, leb-true, and_parts}
+use Rattle.std.proofs.Common.{false, ◌&&◌, arith, Some, None, ◌==◌, eq-eqb, eqb-true, le-leb, leb-true}
+use Rattle.std.proofs.lemmas.Bool.{and_parts, and_from}
 use Rattle.std.proofs.lemmas.List.{map-append, length-map}
 use Rattle.dover_model.specs.declared.events.Task.{Task}
-use Rattle.dover_model.specs.JobFacts.{JobFacts, job_numbers}
-use Rattle.dover_model.specs.Instance.{IsValid, is_valid}
-use Rattle.dover_model.specs.Numerals.{AreShort}
+use Rattle.dover_model.specs.Common.{JobFacts, job_numbers, IsValid, is_valid, AreShort}
 use Rattle.snapshot.specs.Snapshot.{Head}
 use Rattle.snapshot.specs.Reading.{Refused, declared_jobs, may_follow, refused_behind, read_task, reading_of}
 use Rattle.snapshot.specs.Stored.{HasRead}
@@ -26,9 +22,9 @@ module _ (h : Head) (tasks : List Task) (ls : List (List ℕ)) (read : HasRead h
   pub served_count : length r.stances.items ≡ length tasks
   served_count = omega (arith, ap length it.about.stances, length-map tasks stance_of)
 
-  -- how many there are to be
-  pub jobs_count : r.head.jobs ≡ h.jobs
-  jobs_count = ap (λ (g : Head). g.jobs) it.about.head
+  -- a job is due where fewer are kept than there are to be
+  pub job_due : length r.stances.items < r.head.jobs → length tasks < h.jobs
+  job_due more = omega (arith, more, served_count, ap (λ (g : Head). g.jobs) it.about.head)
 
   -- the number of a refused line
   pub refused_here : (l : List (List ℕ)) (n : ℕ) → n ≡ length r.stances.items → reading_of l ≡ refused_behind tasks
@@ -86,15 +82,9 @@ module _ (h : Head) (tasks : List Task) (ls : List (List ℕ)) (read : HasRead h
 
         -- the lines with it
         pub read_more : t.number ≡ length tasks → t.job.release ≤ h.mark → HasRead h (tasks ++ t ∷ []) (ls ++ line ∷ [])
-        read_more number low = task_stands h tasks ls read line more t spelled (by (t.number == length tasks)
-            (is_valid (declared_jobs h (tasks ++ t ∷ []))) (nat_le t.job.release h.mark)
-            (eq-eqb t.number (length tasks) number)
-            valid.passes (le-leb t.job.release h.mark low)) where
-              by : (a b c : Bool) → a ≡ true → b ≡ true → c ≡ true → (a && b && c) ≡ true
-              by true true true p q s = refl
-              by true true false p q s = absurd (let clash : false ≡ true = s in cc)
-              by true false c p q s = absurd (let clash : false ≡ true = q in cc)
-              by false b c p q s = absurd (let clash : false ≡ true = p in cc)
+        read_more number low = task_stands h tasks ls read line more t spelled
+            (and_from _ _ (and_from _ _ (eq-eqb t.number (length tasks) number) valid.passes)
+            (le-leb t.job.release h.mark low))
 
         -- what is kept with it
         pub holds_more : (new : Resuming) → HasRead h (tasks ++ t ∷ []) (ls ++ line ∷ []) → new.head ≡ r.head

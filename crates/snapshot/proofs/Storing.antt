@@ -1,22 +1,17 @@
 -- What is read of a snapshot, line by line.
-use Rattle.std.proofs.Common.{◌≡◌, ℕ, suc, ◌+◌, ◌≤◌, ◌<◌, List, [], ◌∷◌, ◌++◌, length, length-append, refl, sym, ap}
-use Rattle.std.proofs.Common.{◌∙◌}
-use Rattle.std.proofs.Common.{Bool, true, false, cond, ◌&&◌, arith, Some, None, codes}
-use Rattle.std.specs.Prelude.{bytes_eq, ◌==◌}
-use Rattle.std.proofs.lemmas.Bool.{lt-ltb, le-ltb, leb-true, eqb-true, and_parts}
+use Rattle.std.proofs.Common.{◌≡◌, ℕ, suc, ◌+◌, ◌≤◌, ◌<◌, List, [], ◌∷◌, ◌++◌, length, length-append, sym, ap}
+use Rattle.std.proofs.Common.{◌∙◌, true, false, cond, ◌&&◌, arith, Some, None, codes, bytes_eq, ◌==◌, lt-ltb}
+use Rattle.std.proofs.Common.{le-ltb, leb-true, eqb-true}
+use Rattle.std.proofs.lemmas.Bool.{and_parts, and_from, and_left, and_right}
 use Rattle.std.proofs.lemmas.List.{map-append}
 use Rattle.std.proofs.lemmas.List.Sums.{fold-append}
 use Rattle.dover_model.specs.declared.events.Task.{Task}
-use Rattle.dover_model.specs.Instance.{Declaration, under, IsValid, is_valid}
-use Rattle.dover_model.specs.Fraction.{IsRatio}
-use Rattle.dover_model.specs.Sound.{IsNumberedFrom}
-use Rattle.dover_model.proofs.Growing.{all_behind, reads_new}
+use Rattle.dover_model.specs.Common.{Declaration, under, IsValid, is_valid, IsRatio, IsNumberedFrom}
+use Rattle.dover_model.proofs.sessions.Growing.{all_behind, reads_new}
 use Rattle.snapshot.specs.Snapshot.{Head, head_line, state_line}
 use Rattle.snapshot.specs.Reading.{Begun, Going, Taken, Refused, is_within_limits, declared_jobs, may_follow}
-use Rattle.snapshot.specs.Reading.{has_reached_mark}
-use Rattle.snapshot.specs.Reading.{is_settled}
-use Rattle.snapshot.specs.Reading.{with_head, refused_behind, with_task, with_last, next_line, reading_of, read_head}
-use Rattle.snapshot.specs.Reading.{read_task}
+use Rattle.snapshot.specs.Reading.{has_reached_mark, is_settled, with_head, refused_behind, with_task, with_last}
+use Rattle.snapshot.specs.Reading.{next_line, reading_of, read_head, read_task}
 use Rattle.snapshot.specs.Stored.{HasRead}
 use Rattle.snapshot.proofs.Spelled.{head_line-read_head, state_line-read_task}
 
@@ -106,35 +101,20 @@ module _ (h : Head) (tasks : List Task) (ls : List (List ℕ)) (it : HasRead h t
   pub mark_beyond : h.jobs ≤ length tasks → has_reached_mark h tasks ≡ false
       → reading_of (ls ++ line ∷ []) ≡ refused_behind tasks
   mark_beyond most beyond = next_last most
-      ∙ fails (bytes_eq line (codes "resume")) (has_reached_mark h tasks) beyond where
-        fails : (a b : Bool) → b ≡ false
-            → cond (a && b && is_settled h tasks) (Taken h tasks) (refused_behind tasks) ≡ refused_behind tasks
-        fails true true e = absurd (let clash : true ≡ false = e in cc)
-        fails true false e = refl
-        fails false b e = refl
+      ∙ ap (λ b. cond b (Taken h tasks) (refused_behind tasks))
+      (and_left _ (is_settled h tasks) (and_right (bytes_eq line (codes "resume")) _ beyond))
 
   -- some job is in another state
   pub other_state : h.jobs ≤ length tasks → is_settled h tasks ≡ false
       → reading_of (ls ++ line ∷ []) ≡ refused_behind tasks
   other_state most other = next_last most
-      ∙ fails (bytes_eq line (codes "resume")) (has_reached_mark h tasks) (is_settled h tasks) other where
-        fails : (a b c : Bool) → c ≡ false
-            → cond (a && b && c) (Taken h tasks) (refused_behind tasks) ≡ refused_behind tasks
-        fails true true true e = absurd (let clash : true ≡ false = e in cc)
-        fails true true false e = refl
-        fails true false c e = refl
-        fails false b c e = refl
+      ∙ ap (λ b. cond b (Taken h tasks) (refused_behind tasks))
+      (and_right (bytes_eq line (codes "resume") && has_reached_mark h tasks) _ other)
 
   -- all is as it has to be
   pub last_stands : h.jobs ≤ length tasks → bytes_eq line (codes "resume") ≡ true → has_reached_mark h tasks ≡ true
       → is_settled h tasks ≡ true
       → reading_of (ls ++ line ∷ []) ≡ Taken h tasks
   last_stands most last reached settled = next_last most
-      ∙ all (bytes_eq line (codes "resume")) (has_reached_mark h tasks) (is_settled h tasks)
-      last reached settled where
-        all : (a b c : Bool) → a ≡ true → b ≡ true → c ≡ true
-            → cond (a && b && c) (Taken h tasks) (refused_behind tasks) ≡ Taken h tasks
-        all true true true p q r = refl
-        all true true false p q r = absurd (let clash : false ≡ true = r in cc)
-        all true false c p q r = absurd (let clash : false ≡ true = q in cc)
-        all false b c p q r = absurd (let clash : false ≡ true = p in cc)
+      ∙ ap (λ b. cond b (Taken h tasks) (refused_behind tasks))
+      (and_from _ _ (and_from _ _ last reached) settled)

@@ -1,32 +1,26 @@
 -- A feed that may pause has a snapshot that is read to its end, with its head and its jobs.
 use Rattle.std.proofs.Common.{◌≡◌, ◌⊎◌, inl, inr, ℕ, suc, ◌+◌, ◌≤◌, ◌<◌, List, [], ◌∷◌, ◌++◌, length, length-append}
-use Rattle.std.proofs.Common.{append_assoc, append-nil, map}
-use Rattle.std.proofs.Common.{refl, sym, ap, ◌∙◌, subst, Bool, true, false, ◌&&◌, ◌||◌, arith, Some, codes}
-use Rattle.std.specs.Prelude.{nat_le, nat_lt, ◌==◌}
+use Rattle.std.proofs.Common.{append_assoc, append-nil, map, refl, sym, ap, ◌∙◌, subst, Bool, true, false, ◌&&◌, ◌||◌}
+use Rattle.std.proofs.Common.{arith, Some, codes, nat_le, nat_lt, ◌==◌, le-leb, lt-ltb, eq-eqb, leb-true, leb-false}
 use Rattle.std.specs.List.{AllByRecursion}
-use Rattle.std.proofs.lemmas.Bool.{le-leb, lt-ltb, eq-eqb, and_from, leb-true, leb-false}
+use Rattle.std.proofs.lemmas.Bool.{and_from}
 use Rattle.std.proofs.lemmas.List.{map-append}
-use Rattle.dover_model.specs.Limits.{last_tick, most_jobs, most_lines, most_items}
+use Rattle.dover_model.specs.Common.{last_tick, most_jobs, most_lines, most_items, IsJob, Instance, under, IsValid}
+use Rattle.dover_model.specs.Common.{is_valid, Item, JobItem, Session, instance_of}
+use Rattle.dover_model.specs.Common.{admitted_jobs, mark_after, session_with, settled_state, IsMember, IsNumberedFrom}
+use Rattle.dover_model.specs.Common.{jobs_of, State, Account, Open}
 use Rattle.dover_model.specs.declared.events.Role.{Role}
-use Rattle.dover_model.specs.declared.events.Role.TheVariants.{Coming, Fresh, Waiting, Held, Running, Done, Gone}
+use Rattle.dover_model.specs.declared.events.Role.TheVariants.{Coming, Fresh}
 use Rattle.dover_model.specs.declared.events.Task.{Task}
 use Rattle.dover_model.specs.declared.events.Version.TheVariants.{Two}
-use Rattle.dover_model.specs.JobFacts.{IsJob}
-use Rattle.dover_model.specs.Instance.{Instance, under, IsValid, is_valid}
-use Rattle.dover_model.specs.Session.{Item, JobItem, RefusedItem, FinishItem, Session, instance_of, admitted_jobs}
-use Rattle.dover_model.specs.Session.{mark_after, session_with}
-use Rattle.dover_model.specs.Settled.{settled_state}
-use Rattle.dover_model.specs.Sound.{IsMember, IsNumberedFrom, jobs_of}
-use Rattle.dover_model.specs.State.{State}
-use Rattle.dover_model.specs.Feed.{Account, Open}
-use Rattle.dover_model.proofs.Meeting.{finishing_valid}
-use Rattle.dover_model.proofs.Accounts.{Holds, HoldsBy, HoldsOpen, IsKept}
-use Rattle.dover_model.proofs.Barriers.{AtBarrier, settled_at_barrier}
-use Rattle.dover_model.proofs.Honest.{numbers_low, count_jobs}
-use Rattle.dover_model.proofs.Kept.{each_job}
-use Rattle.dover_model.proofs.Limiting.{lines_most}
-use Rattle.dover_model.proofs.NoFeeds.{header_short}
-use Rattle.dover_model.proofs.Valid.{valid_front}
+use Rattle.dover_model.proofs.finishes.Meeting.{finishing_valid}
+use Rattle.dover_model.proofs.sessions.Accounts.{Holds, HoldsBy, HoldsOpen, IsKept}
+use Rattle.dover_model.proofs.settled.Barriers.{AtBarrier, settled_at_barrier}
+use Rattle.dover_model.proofs.runs.Honest.{numbers_low, count_jobs}
+use Rattle.dover_model.proofs.steps.Kept.{each_job}
+use Rattle.dover_model.proofs.valid.Limiting.{lines_most}
+use Rattle.dover_model.proofs.texts.NoFeeds.{header_short}
+use Rattle.dover_model.proofs.valid.Valid.{valid_front}
 use Rattle.snapshot.specs.Snapshot.{Head, IsHead, IsStored, IsState, head_line, state_line}
 use Rattle.snapshot.specs.Reading.{Taken, is_within_limits, declared_jobs, stored, stored_session, may_follow}
 use Rattle.snapshot.specs.Reading.{has_lines_for, has_reached_mark, is_settled, reading_of}
@@ -41,15 +35,14 @@ use Rattle.snapshot.proofs.RunItems.{kept_instance, kept_follows}
 use Rattle.snapshot.proofs.Same.{stored_run, stored_state}
 use Rattle.snapshot.proofs.Spelled.{read_head-head_line, read_task-state_line}
 use Rattle.snapshot.proofs.Storing.{head_stands, task_stands, last_stands}
-use Rattle.dover_model.proofs.ValidParts.{valid_parts}
-use Rattle.dover_model.proofs.JobLimits.{job_limits}
+use Rattle.dover_model.proofs.valid.ValidParts.{valid_parts}
+use Rattle.dover_model.proofs.valid.JobLimits.{job_limits}
 
 -- as many items as jobs at least
 pub jobs_least : (items : List Item) → length (admitted_jobs items) ≤ length items
 jobs_least [] = omega arith
 jobs_least (JobItem j ∷ items) = omega (arith, jobs_least items)
-jobs_least (RefusedItem r ∷ items) = omega (arith, jobs_least items)
-jobs_least (FinishItem f ∷ items) = omega (arith, jobs_least items)
+jobs_least (_ ∷ items) = omega (arith, jobs_least items)
 
 -- the number of a job is how many stand before it
 numbered_at : (n : ℕ) (front : List Task) (t : Task) (back : List Task) → IsNumberedFrom n (front ++ t ∷ back)
@@ -115,11 +108,7 @@ module _ (S : Session) (mark lines : ℕ) (holds : Holds S mark lines) (few : li
         by : (role : Role) → t.role ≡ role → IsStored role
         by Coming e = none_to_come J holds.reads.valid mark holds.reads.known t m e
         by Fresh e = bar.none_fresh t m e
-        by Waiting e = tt
-        by Held e = tt
-        by Running e = tt
-        by Done e = tt
-        by Gone e = tt
+        by _ e = tt
 
       pub is_state : IsState t
       is_state =

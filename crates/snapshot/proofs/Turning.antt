@@ -1,34 +1,26 @@
 -- What a reader knows of the marks to which it takes a run, and of the early finishes that come there.
 use Rattle.std.proofs.Common.{◌≡◌, ◌⊎◌, ℕ, ◌+◌, ◌-◌, ◌≤◌, ◌<◌, max, inl, inr, List, [], ◌∷◌, ◌++◌, length, map, refl}
-use Rattle.std.proofs.Common.{sym, ap, cond}
-use Rattle.std.proofs.Common.{◌∙◌, subst, arith, Bool, true, false, not, Option, Some, None}
-use Rattle.std.specs.Prelude.{nat_le, is_some, IfSome}
-use Rattle.std.specs.List.{AllByRecursion, filter_map}
-use Rattle.std.proofs.lemmas.Bool.{leb-true, leb-false}
+use Rattle.std.proofs.Common.{sym, ap, cond, ◌∙◌, subst, arith, Bool, true, false, not, Option, Some, None, nat_le}
+use Rattle.std.proofs.Common.{is_some, IfSome, filter_map, leb-true, leb-false}
+use Rattle.std.specs.List.{AllByRecursion}
 use Rattle.dover_model.specs.declared.events.Event.{Event}
 use Rattle.dover_model.specs.declared.events.Task.{Task}
-use Rattle.dover_model.specs.Instance.{Instance, IsValid, with_finishes}
-use Rattle.dover_model.specs.Limits.{last_tick}
-use Rattle.dover_model.specs.Paths.{HasPrinted}
-use Rattle.dover_model.specs.Ready.{is_ready}
-use Rattle.dover_model.specs.Rest.{IsAtRest, before_end}
-use Rattle.dover_model.specs.Run.{printed}
-use Rattle.dover_model.specs.Session.{Item, FinishItem, EarlyFinish, finish_at, instance_of, session_with}
-use Rattle.dover_model.specs.Settled.{settled, settled_steps, settled_state}
-use Rattle.dover_model.specs.Sound.{IsMember, Each, jobs_of}
-use Rattle.dover_model.specs.State.{State, opening, is_over, running, state_at}
-use Rattle.dover_model.specs.Horizons.{MayFollow}
+use Rattle.dover_model.specs.Common.{Instance, IsValid, with_finishes, last_tick, HasPrinted, is_ready, IsAtRest}
+use Rattle.dover_model.specs.Common.{before_end, printed, Item, FinishItem, EarlyFinish, finish_at, instance_of}
+use Rattle.dover_model.specs.Common.{session_with, settled, settled_steps, settled_state, IsMember, Each, jobs_of}
+use Rattle.dover_model.specs.Common.{State, opening, is_over, running, state_at, MayFollow, may_finish_early}
+use Rattle.dover_model.specs.Common.{early_finishes}
 use Rattle.dover_model.specs.declared.horizon.Horizon.TheVariants.{Mark}
-use Rattle.dover_model.proofs.Apart.{settled_at_rest}
-use Rattle.dover_model.proofs.Barriers.{state_after}
-use Rattle.dover_model.proofs.Limiting.{jobs_most}
-use Rattle.dover_model.proofs.Members.{filter_member, some_same}
-use Rattle.dover_model.proofs.Paths.{path_settles, one_settled_run}
-use Rattle.dover_model.proofs.Resting.{path_state}
-use Rattle.dover_model.proofs.RestTick.{rests_where_ended}
-use Rattle.dover_model.proofs.Settling.{settled_is_run}
-use Rattle.dover_model.proofs.Tests.{never, none_is_some}
-use Rattle.dover_model.proofs.Valid.{all_from}
+use Rattle.dover_model.proofs.rest.Apart.{settled_at_rest}
+use Rattle.dover_model.proofs.settled.Barriers.{state_after}
+use Rattle.dover_model.proofs.valid.Limiting.{jobs_most}
+use Rattle.dover_model.proofs.lists.Members.{filter_member, some_same}
+use Rattle.dover_model.proofs.settled.Paths.{path_settles, one_settled_run}
+use Rattle.dover_model.proofs.rest.Resting.{path_state}
+use Rattle.dover_model.proofs.rest.RestTick.{rests_where_ended}
+use Rattle.dover_model.proofs.settled.Settling.{settled_is_run}
+use Rattle.dover_model.proofs.lists.Tests.{never, none_is_some}
+use Rattle.dover_model.proofs.valid.Valid.{all_from}
 use Rattle.ready_server.proofs.Rostered.{roster_rests}
 use Rattle.ready_server.specs.NextStep.{ComesAt}
 use Rattle.ready_server.specs.Roster.{Kept, Roll, IsRollOf, runner_at}
@@ -36,17 +28,15 @@ use Rattle.ready_server.specs.Rostering.{Serves, Rests, Finishes, has_roster}
 use Rattle.ready_server.specs.declared.roster_server.RosterServer.{RosterServer}
 use Rattle.snapshot.specs.Snapshot.{Head}
 use Rattle.snapshot.specs.Forms.{head_in}
-use Rattle.snapshot.specs.Kept.{IsHandedIn, IsNearing, IsAbout, HasRun, HasRunTowards, ComesNear, stance_of}
-use Rattle.snapshot.specs.Kept.{next_early, IsToCome}
+use Rattle.snapshot.specs.Kept.{IsHandedIn, IsNearing, IsAbout, HasRun, HasRunTowards, ComesNear, stance_of, next_early}
+use Rattle.snapshot.specs.Kept.{IsToCome}
 use Rattle.snapshot.specs.Reading.{early_of}
-use Rattle.dover_model.specs.Session.{may_finish_early, early_finishes}
 use Rattle.snapshot.specs.declared.resuming.Resuming.{Resuming}
 use Rattle.snapshot.proofs.Counts.{good_few}
 use Rattle.snapshot.proofs.Going.{all_near, none_comes, one_comes, Comes, next_later, handed_finish, finish_run}
-use Rattle.snapshot.proofs.Going.{finish_mark, handed_follows}
-use Rattle.snapshot.proofs.Going.{finish_count, others_to_come}
+use Rattle.snapshot.proofs.Going.{finish_mark, handed_follows, finish_count, others_to_come}
 use Rattle.snapshot.proofs.Runner.{runner_is}
-use Rattle.dover_model.proofs.ValidParts.{valid_parts}
+use Rattle.dover_model.proofs.valid.ValidParts.{valid_parts}
 
 -- ---- where a server rests
 

@@ -1,29 +1,22 @@
 -- A snapshot that is taken is that of a feed, and what is given for it stands for each feed of which it is.
-use Rattle.std.proofs.Common.{◌≡◌, ◌⊎◌, ℕ, ◌+◌, ◌-◌, ◌≤◌, ◌<◌, inl, inr, List, [], ◌∷◌, ◌++◌, length, map}
-use Rattle.std.proofs.Common.{replicate, zero, suc, refl, sym, ap, ◌∙◌, subst, arith, Bool, true, false, cond, ◌&&◌}
-use Rattle.std.proofs.Common.{◌||◌}
-use Rattle.std.proofs.Common.{Option, Some, None, codes}
-use Rattle.std.specs.Prelude.{nat_le, nat_lt}
-use Rattle.std.specs.List.{AllByRecursion, fold, filter_map}
-use Rattle.std.proofs.lemmas.Bool.{and_parts, ltb-true, leb-true}
+use Rattle.std.proofs.Common.{◌≡◌, ◌⊎◌, ℕ, ◌+◌, ◌-◌, ◌≤◌, ◌<◌, inl, inr, List, [], ◌∷◌, ◌++◌, length, map, replicate}
+use Rattle.std.proofs.Common.{zero, suc, refl, sym, ap, ◌∙◌, subst, arith, Bool, true, false, cond, ◌&&◌, ◌||◌, Option}
+use Rattle.std.proofs.Common.{Some, None, codes, nat_le, nat_lt, fold, filter_map, ltb-true, leb-true}
+use Rattle.std.specs.List.{AllByRecursion}
+use Rattle.std.proofs.lemmas.Bool.{and_parts}
 use Rattle.std.proofs.lemmas.List.Sums.{fold-append}
 use Rattle.dover_model.specs.declared.events.Task.{Task}
-use Rattle.dover_model.specs.Limits.{last_tick, most_lines, most_ready}
-use Rattle.dover_model.specs.Instance.{Instance, under, having, IsValid}
-use Rattle.dover_model.specs.Session.{Item, Session, instance_of, admitted_jobs, early_finishes, mark_after}
-use Rattle.dover_model.specs.Session.{may_finish_early, IsValidSession}
-use Rattle.dover_model.specs.Settled.{settled_state}
-use Rattle.dover_model.specs.Sound.{IsMember, Each, HaveTheSame, jobs_of}
-use Rattle.dover_model.specs.State.{State}
-use Rattle.dover_model.specs.Lines.{in_lines}
-use Rattle.dover_model.specs.FeedLine.{TickLine, feed_text}
-use Rattle.dover_model.specs.Feed.{Account, no_lines, next_line, account_of_lines, account, is_open}
-use Rattle.dover_model.proofs.Members.{all_copies}
-use Rattle.dover_model.proofs.Barriers.{AtBarrier, settled_at_barrier}
-use Rattle.dover_model.proofs.Cuts.{HasNoFeed}
-use Rattle.dover_model.proofs.Honest.{count_jobs}
-use Rattle.dover_model.proofs.Meeting.{finishing_valid}
-use Rattle.dover_model.proofs.RunSessions.{run_jobs}
+use Rattle.dover_model.specs.Common.{last_tick, most_lines, most_ready, Instance, under, having, IsValid, Item, Session}
+use Rattle.dover_model.specs.Common.{instance_of, admitted_jobs, early_finishes, mark_after, may_finish_early}
+use Rattle.dover_model.specs.Common.{IsValidSession, settled_state, IsMember, Each, HaveTheSame, jobs_of, State}
+use Rattle.dover_model.specs.Common.{in_lines, TickLine, feed_text, Account, no_lines, next_line, account_of_lines}
+use Rattle.dover_model.specs.Common.{account, is_open}
+use Rattle.dover_model.proofs.lists.Members.{all_copies}
+use Rattle.dover_model.proofs.settled.Barriers.{AtBarrier, settled_at_barrier}
+use Rattle.dover_model.proofs.texts.Cuts.{HasNoFeed}
+use Rattle.dover_model.proofs.runs.Honest.{count_jobs}
+use Rattle.dover_model.proofs.finishes.Meeting.{finishing_valid}
+use Rattle.dover_model.proofs.sessions.RunSessions.{run_jobs}
 use Rattle.dover_model.specs.declared.horizon.Horizon.TheVariants.{Mark}
 use Rattle.ready_server.specs.Rostering.{Rests}
 use Rattle.ready_server.specs.declared.roster_server.RosterServer.{RosterServer}
@@ -48,8 +41,8 @@ use Rattle.snapshot.proofs.ItemLines.{items_account}
 use Rattle.snapshot.proofs.RunItems.{run_good, run_own, run_valid}
 use Rattle.snapshot.proofs.Same.{stored_own}
 use Rattle.snapshot.proofs.Shown.{shown, same_state}
-use Rattle.dover_model.proofs.SessionParts.{session_parts, session_jobs}
-use Rattle.dover_model.proofs.ValidParts.{valid_parts}
+use Rattle.dover_model.proofs.sessions.SessionParts.{session_parts, session_jobs}
+use Rattle.dover_model.proofs.valid.ValidParts.{valid_parts}
 
 -- what holds of all of two lists
 all_both : {X : Type 0} (P : X → Type 0) (xs ys : List X) → AllByRecursion P xs → AllByRecursion P ys

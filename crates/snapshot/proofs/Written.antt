@@ -4,11 +4,8 @@ use Rattle.dover_model.specs.declared.events.Task.{Task}
 use Rattle.std.proofs.Common.{◌≤◌, length, length-append, arith}
 use Rattle.std.proofs.lemmas.Fmt.{length-decimal-le}
 use Rattle.dover_model.specs.declared.events.Version.TheVariants.{Three}
-use Rattle.dover_model.specs.Fraction.{factor_numbers}
-use Rattle.dover_model.specs.Limits.{last_tick, most_jobs, most_lines, most_p, most_q}
-use Rattle.dover_model.specs.Text.{version_number}
-use Rattle.dover_model.specs.JobFacts.{job_numbers}
-use Rattle.dover_model.specs.Lines.{line_of, with_numbers}
+use Rattle.dover_model.specs.Common.{factor_numbers, last_tick, most_jobs, most_lines, most_p, most_q, version_number}
+use Rattle.dover_model.specs.Common.{job_numbers, line_of, with_numbers}
 use Rattle.line_text.specs.Writing.{numbers_behind}
 use Rattle.snapshot.specs.Snapshot.{Head, head_line, role_word, state_line}
 

@@ -1,9 +1,6 @@
 -- The feeds of which a snapshot may be, and how they go on.
 use Rattle.std.specs.Prelude.{true, ◌≡◌, ℕ, List, ◌++◌, Some}
-use Rattle.dover_model.specs.Lines.{in_lines, lines_of}
-use Rattle.dover_model.specs.Session.{Session, instance_of}
-use Rattle.dover_model.specs.Feed.{account}
-use Rattle.dover_model.specs.Due.{due, closed}
+use Rattle.dover_model.specs.Common.{in_lines, lines_of, Session, instance_of, account, due, closed}
 use Rattle.dover_model.specs.declared.horizon.Horizon.TheVariants.{Mark}
 use Rattle.event_feed.specs.Kept as feed
 use Rattle.snapshot.specs.Snapshot.{MayPause, snapshot}

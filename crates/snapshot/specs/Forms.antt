@@ -1,10 +1,7 @@
 -- The lines of a snapshot, read field by field.
-use Rattle.std.specs.Prelude.{ℕ, List, [], ◌∷◌, Option, None}
-use Rattle.std.specs.Option.{option_and_then}
+use Rattle.std.specs.Prelude.{ℕ, List, [], ◌∷◌, Option, None, option_and_then}
 use Rattle.dover_model.specs.declared.events.Task.{Task}
-use Rattle.dover_model.specs.JobFacts.{job_of_numbers}
-use Rattle.dover_model.specs.Feed.{rules_with}
-use Rattle.dover_model.specs.Numerals.{numerals}
+use Rattle.dover_model.specs.Common.{job_of_numbers, rules_with, numerals}
 use Rattle.line_text.specs.Reading.{number_of_first}
 use Rattle.snapshot.specs.Snapshot as model
 use Rattle.snapshot.specs.Reading.{role_of_word, task_from}

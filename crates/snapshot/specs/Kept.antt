@@ -1,26 +1,21 @@
 -- What a reader keeps of a snapshot, and for which lines it stands.
-use Rattle.std.specs.Prelude.{◌≡◌, ◌⊎◌, ℕ, ◌+◌, ◌-◌, List, [], ◌∷◌, ◌++◌, length, map, replicate, ◌≤◌, ◌<◌, Bool}
-use Rattle.std.specs.Prelude.{true, false, ◌&&◌, nat_lt, nat_le, if◌then◌else◌}
-use Rattle.std.specs.Prelude.{IsTrue, Option, Some, None, Result, Ok, Err, codes}
-use Rattle.std.specs.List.{slice_get, AllByRecursion}
-use Rattle.std.specs.Option.{option_map, option_and_then}
+use Rattle.std.specs.Prelude.{◌≡◌, ◌⊎◌, ℕ, ◌+◌, ◌-◌, List, [], ◌∷◌, ◌++◌, length, map, replicate, ◌≤◌, ◌<◌, Bool, true}
+use Rattle.std.specs.Prelude.{false, ◌&&◌, nat_lt, nat_le, if◌then◌else◌, IsTrue, Option, Some, None, Result, Ok, Err}
+use Rattle.std.specs.Prelude.{codes, slice_get, option_map, option_and_then}
+use Rattle.std.specs.List.{AllByRecursion}
 use Rattle.std.specs.Bool.{then_some}
 use Rattle.dover_model.specs.declared.events.Event.{Event}
 use Rattle.dover_model.specs.declared.events.Role.{Role}
 use Rattle.dover_model.specs.declared.events.Role.TheVariants.{Running, Done}
 use Rattle.dover_model.specs.declared.events.Task.{Task}
 use Rattle.dover_model.specs.declared.events.Version.{Version}
-use Rattle.dover_model.specs.Finishes.{Finish}
-use Rattle.dover_model.specs.JobFacts.{JobFacts}
-use Rattle.dover_model.specs.Limits.{most_lines, most_ready}
-use Rattle.dover_model.specs.Instance.{Instance, IsValid, with_jobs}
-use Rattle.dover_model.specs.Session.{Item, JobItem, RefusedItem, FinishItem, RefusedLine, RefusedJob, RefusedDone}
-use Rattle.dover_model.specs.Session.{follows_items, mark_after, refused_of_item, admitted_jobs, early_finishes}
-use Rattle.dover_model.specs.Session.{session_with, instance_of, finish_at, may_finish_early}
-use Rattle.dover_model.specs.Settled.{settled_state}
-use Rattle.dover_model.specs.Sound.{Each, IsMember, IsNumberedFrom, jobs_of}
-use Rattle.dover_model.specs.FeedLine.{FeedLine, JobLine, TickLine, DoneLine, feed_text}
-use Rattle.dover_model.specs.Feed.{Account, Open, account_of_lines}
+use Rattle.dover_model.specs.Common.{Finish, JobFacts, most_lines, most_ready, Instance, IsValid, with_jobs, Item}
+use Rattle.dover_model.specs.Common.{JobItem, RefusedItem, FinishItem, RefusedLine, RefusedJob, RefusedDone, mark_after}
+use Rattle.dover_model.specs.Common.{refused_of_item, admitted_jobs, early_finishes, session_with, instance_of}
+use Rattle.dover_model.specs.Common.{finish_at, may_finish_early, settled_state, Each, IsMember, IsNumberedFrom}
+use Rattle.dover_model.specs.Common.{jobs_of, FeedLine, JobLine, TickLine, DoneLine, feed_text, Account, Open}
+use Rattle.dover_model.specs.Common.{account_of_lines}
+use Rattle.dover_model.specs.Session.{follows_items}
 use Rattle.dover_model.specs.declared.horizon.Horizon.TheVariants.{Mark}
 use Rattle.event_feed.specs.Answers.{AddsJob, counted}
 use Rattle.event_feed.specs.declared.fed.Fed.{Fed}

@@ -1,9 +1,6 @@
 -- A feed that is paused, and the lines of its snapshot.
 use Rattle.std.specs.Prelude.{true, ◌≡◌, ℕ, List, [], ◌∷◌, ◌++◌, length, map, Some, codes}
-use Rattle.dover_model.specs.Feed.{account}
-use Rattle.dover_model.specs.Instance.{Declaration}
-use Rattle.dover_model.specs.Session.{Session, instance_of}
-use Rattle.dover_model.specs.Settled.{settled}
+use Rattle.dover_model.specs.Common.{account, Declaration, Session, instance_of, settled}
 use Rattle.dover_model.specs.declared.horizon.Horizon.TheVariants.{Mark}
 use Rattle.snapshot.specs.Snapshot.{MayPause, head_line, state_line}
 use Rattle.ready_server.specs.Roster.{Roll, job_at}

@@ -1,27 +1,16 @@
 -- The lines of a snapshot as they are read, and which of them is the first that is refused.
 use Rattle.std.specs.Prelude.{ℕ, ◌+◌, List, [], ◌∷◌, ◌++◌, length, Bool, true, false, ◌&&◌, ◌||◌, ◌==◌, nat_lt, nat_le}
-use Rattle.std.specs.Prelude.{if◌then◌else◌}
-use Rattle.std.specs.Prelude.{Option, Some, None, codes, bytes_eq}
-use Rattle.std.specs.List.{fold, find, filter_map}
-use Rattle.std.specs.Option.{option_and_then, option_map}
+use Rattle.std.specs.Prelude.{if◌then◌else◌, Option, Some, None, codes, bytes_eq, fold, find, filter_map}
+use Rattle.std.specs.Prelude.{option_and_then, option_map}
 use Rattle.std.specs.Bool.{then_some}
 use Rattle.dover_model.specs.declared.events.Role.{Role}
 use Rattle.dover_model.specs.declared.events.Role.TheVariants.{Waiting, Held, Running, Done, Gone}
 use Rattle.dover_model.specs.declared.events.Task.{Task}
-use Rattle.dover_model.specs.Limits.{last_tick, most_jobs, most_lines}
-use Rattle.dover_model.specs.JobFacts.{job_of_numbers}
-use Rattle.dover_model.specs.Fraction.{is_ratio, fraction, with_factor}
-use Rattle.dover_model.specs.Finishes.{Finish}
-use Rattle.dover_model.specs.Instance.{Instance, Declaration, under, finishing, is_valid}
-use Rattle.dover_model.specs.Session.{Item, Session, may_finish_early, mark_after}
-use Rattle.dover_model.specs.State.{is_done}
-use Rattle.dover_model.specs.Trace.{session_of_run}
-use Rattle.dover_model.specs.Feed.{factor_rules}
-use Rattle.dover_model.specs.Numerals.{numerals}
-use Rattle.dover_model.specs.Lines.{is_too_long, fields_of, numbers_of}
-use Rattle.dover_model.specs.Verdict.{version_of_number}
-use Rattle.dover_model.specs.Settled.{settled_state, finish_now}
-use Rattle.dover_model.specs.Sound.{jobs_of}
+use Rattle.dover_model.specs.Common.{last_tick, most_jobs, most_lines, job_of_numbers, is_ratio, fraction, with_factor}
+use Rattle.dover_model.specs.Common.{Finish, Instance, Declaration, under, finishing, is_valid, Item, Session}
+use Rattle.dover_model.specs.Common.{may_finish_early, mark_after, is_done, session_of_run, factor_rules, numerals}
+use Rattle.dover_model.specs.Common.{is_too_long, fields_of, numbers_of, version_of_number, settled_state, finish_now}
+use Rattle.dover_model.specs.Common.{jobs_of}
 use Rattle.snapshot.specs.Snapshot.{Head, role_word}
 use Rattle.dover_model.specs.declared.events.Version.{Version}
 use Rattle.dover_model.specs.declared.events.Version.TheVariants.{Two}

@@ -1,18 +1,11 @@
 -- The state of a feed that is paused, as a text.
-use Rattle.std.specs.Prelude.{◌≡◌, ℕ, List, [], ◌∷◌, ◌++◌, length, map, IsTrue, codes, decimal, None}
-use Rattle.std.specs.Prelude.{Some}
+use Rattle.std.specs.Prelude.{◌≡◌, ℕ, List, [], ◌∷◌, ◌++◌, length, map, IsTrue, codes, decimal, None, Some}
 use Rattle.dover_model.specs.declared.events.Role.{Role}
 use Rattle.dover_model.specs.declared.events.Role.TheVariants.{Coming, Fresh, Waiting, Held, Running, Done, Gone}
 use Rattle.dover_model.specs.declared.events.Task.{Task}
-use Rattle.dover_model.specs.Fraction.{IsRatio, factor_numbers}
-use Rattle.dover_model.specs.Instance.{Declaration}
-use Rattle.dover_model.specs.Numerals.{AreShort}
-use Rattle.dover_model.specs.Session.{Session, instance_of, IsDeclarable}
-use Rattle.dover_model.specs.Settled.{settled_state}
-use Rattle.dover_model.specs.Lines.{rest_of, in_lines, line_of, with_numbers}
-use Rattle.dover_model.specs.JobFacts.{job_numbers}
-use Rattle.dover_model.specs.Text.{version_number}
-use Rattle.dover_model.specs.Feed.{Account, account, is_open}
+use Rattle.dover_model.specs.Common.{IsRatio, factor_numbers, Declaration, AreShort, Session, instance_of, IsDeclarable}
+use Rattle.dover_model.specs.Common.{settled_state, rest_of, in_lines, line_of, with_numbers, job_numbers}
+use Rattle.dover_model.specs.Common.{version_number, Account, account, is_open}
 use Rattle.event_feed.specs.Listing.{HasFewJobs}
 
 -- the feed has declared its ratio, and has at most as many jobs as a snapshot lists; it is neither ended nor faulty,

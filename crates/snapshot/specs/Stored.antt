@@ -2,11 +2,8 @@
 use Rattle.std.specs.Prelude.{◌≡◌, ℕ, ◌+◌, ◌≤◌, List, ◌∷◌, length, map, true, Some}
 use Rattle.std.specs.List.{AllByRecursion}
 use Rattle.dover_model.specs.declared.events.Task.{Task}
-use Rattle.dover_model.specs.Instance.{IsValid}
-use Rattle.dover_model.specs.Session.{Session, JobItem, IsDeclarable}
-use Rattle.dover_model.specs.Sound.{IsNumberedFrom, jobs_of}
-use Rattle.dover_model.specs.FeedLine.{JobLine, feed_text}
-use Rattle.dover_model.specs.Feed.{Account, Open}
+use Rattle.dover_model.specs.Common.{IsValid, Session, JobItem, IsDeclarable, IsNumberedFrom, jobs_of, JobLine}
+use Rattle.dover_model.specs.Common.{feed_text, Account, Open}
 use Rattle.event_feed.specs.Reading.{rules_line}
 use Rattle.snapshot.specs.Snapshot.{Head, head_line, state_line}
 use Rattle.snapshot.specs.Reading.{Going, is_within_limits, declared_jobs, last_release, reading_of}

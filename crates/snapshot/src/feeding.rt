@@ -1,16 +1,12 @@
 //! The lines of a feed, handed in again.
 ghost use Rattle.std.specs.Prelude.{◌≡◌, ℕ, List, [], ◌∷◌, ◌++◌, true, false, IfSome, IsNone, is_some};
 ghost use Rattle.dover_model.specs.declared.events.Task.{Task};
-ghost use Rattle.dover_model.specs.Instance.{IsValid};
-ghost use Rattle.dover_model.specs.JobFacts.{job_numbers};
-ghost use Rattle.dover_model.specs.Numerals.{AreShort};
-ghost use Rattle.dover_model.specs.FeedLine.{HasNumerals, feed_text};
+ghost use Rattle.dover_model.specs.Common.{IsValid, job_numbers, AreShort, HasNumerals, feed_text, IsDeclarable};
 ghost use Rattle.line_text.specs.feeds.Form.{form_of};
 ghost use Rattle.event_feed.specs.Kept.{StandsFor, IsGoing, has_ended};
 ghost use Rattle.snapshot.specs.Snapshot as model;
 ghost use Rattle.snapshot.specs.Reading.{declared_jobs};
 ghost use Rattle.snapshot.specs.Forms.{head_in, task_in};
-ghost use Rattle.dover_model.specs.Session.{IsDeclarable};
 ghost use Rattle.snapshot.specs.Kept.{IsFed, handed_lines, HasRoom, IsGoodNext, CanPause, job_in};
 
 use crate::forms::{Head, StateLine};

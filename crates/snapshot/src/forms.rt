@@ -2,9 +2,7 @@
 ghost use Rattle.std.specs.Prelude.{◌≡◌, ◌∷◌, ◌++◌, ◌<◌, ◌^◌, ℕ, List, Some, IfSome, IfNone, option_map};
 ghost use Rattle.std.specs.Option.{option_and_then};
 ghost use Rattle.dover_model.specs.declared.events.Role.{Role};
-ghost use Rattle.dover_model.specs.Feed.{rules_with};
-ghost use Rattle.dover_model.specs.Lines.{fields_of};
-ghost use Rattle.dover_model.specs.Numerals.{numerals};
+ghost use Rattle.dover_model.specs.Common.{rules_with, fields_of, numerals};
 ghost use Rattle.snapshot.specs.Reading as model;
 ghost use Rattle.snapshot.specs.Snapshot.{role_word};
 ghost use Rattle.snapshot.specs.Forms.{head_in, task_in, behind_number, behind_word};

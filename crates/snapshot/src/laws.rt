@@ -1,8 +1,7 @@
 //! Laws of snapshots, each the contract of a function that does nothing.
 ghost use Rattle.std.specs.Prelude.{◌≡◌, ◌++◌, ℕ, List, Some};
 ghost use Rattle.dover_model.specs.declared.events.Task.{Task};
-ghost use Rattle.dover_model.specs.Lines.{whole_lines};
-ghost use Rattle.dover_model.specs.WholeRun.{Begins};
+ghost use Rattle.dover_model.specs.Common.{whole_lines, Begins};
 ghost use Rattle.snapshot.specs.Snapshot.{MayPause, snapshot, Head, head_line, IsHead, state_line, IsState};
 ghost use Rattle.snapshot.specs.Reading.{Refused, reading_of, read_head, read_task};
 ghost use Rattle.snapshot.specs.Kept.{IsWhole};

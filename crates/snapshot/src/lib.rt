@@ -10,4 +10,4 @@ mod resuming;
 mod writing;
 
 pub use paused::Paused;
-pub use reader::{Got, Reader, SnapFault};
+pub use reader::{Got, SnapFault, SnapshotReader};

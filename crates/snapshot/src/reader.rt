@@ -7,12 +7,12 @@ ghost use Rattle.snapshot.specs.Reading.{reading_of};
 ghost use Rattle.snapshot.specs.Spending.{jobs_read, jobs_kept, HasSpentOn};
 
 use crate::resuming::Resuming;
+use comparison_count::Comparisons;
 use event_feed::Intake;
 use ready_server::RosterServer;
 use std::alloc::Global;
 use std::marker::Model;
 use std::sync::ledger::Ledger;
-use step_count::Steps;
 use thiserror::Error;
 
 /// Whether a snapshot was read to its last line.
@@ -37,12 +37,12 @@ pub enum SnapFault {
 
 /// Reads a snapshot, and runs its jobs again.
 #[derive(Drop)]
-pub struct Reader {
+pub struct SnapshotReader {
     alloc: Global,
     resuming: Option<Resuming>,
 }
 
-impl Model for Reader {
+impl Model for SnapshotReader {
     ghost use Rattle.std.specs.Prelude.{Option};
     ghost use Rattle.snapshot.specs.declared.resuming.Resuming.{Resuming};
 
@@ -51,13 +51,13 @@ impl Model for Reader {
     ghost view = { λ r. r.resuming };
 }
 
-impl Reader {
+impl SnapshotReader {
     /// No line came yet. Takes no memory.
-    pub fn new(alloc: Global) -> Reader
+    pub fn new(alloc: Global) -> SnapshotReader
         ensures reading { IsReading result [] }
         ensures count { (start : ℕ) → HasSpentOn result start start }
     {
-        Reader {
+        SnapshotReader {
             alloc,
             resuming: None,
         }
@@ -86,15 +86,20 @@ impl Reader {
     ///
     /// `BadSnapshot` at the first line that doesn't stand where it is, and `Memory` where there was none for the run or
     /// for the line's job, and the line stands where it is.
-    pub fn line<L: Ledger>(&mut self, line: &[u8], steps: &mut Steps<L>) -> Result<Got, SnapFault>
+    pub fn line<L: Ledger>(
+        &mut self,
+        line: &[u8],
+        comparisons: &mut Comparisons<L>,
+    ) -> Result<Got, SnapFault>
         requires { (ls : List (List ℕ)) × IsReading self.old ls }
         ensures answers { (ls : List (List ℕ)) → IsReading self.old ls → Answers result self.new (ls ++ line.now ∷ []) }
         ensures jobs { (ls : List (List ℕ)) → IsReading self.old ls →
             jobs_kept self.new ≤ jobs_read (reading_of (ls ++ line.now ∷ [])) }
-        ensures count { (start : ℕ) → HasSpentOn self.old start steps.old → HasSpentOn self.new start steps.new }
+        ensures count { (start : ℕ) → HasSpentOn self.old start comparisons.old
+            → HasSpentOn self.new start comparisons.new }
     {
         if let Some(resuming) = &mut self.resuming {
-            return resuming.line(line, steps);
+            return resuming.line(line, comparisons);
         }
         self.begin(line)
     }

@@ -4,11 +4,8 @@ ghost use Rattle.std.specs.Prelude.{◌++◌, length, map, true, Some, IsTrue, I
 ghost use Rattle.std.specs.List.{AllByRecursion};
 ghost use Rattle.dover_model.specs.declared.events.Event.{Event};
 ghost use Rattle.dover_model.specs.declared.events.Task.{Task};
-ghost use Rattle.dover_model.specs.Instance.{Instance};
-ghost use Rattle.dover_model.specs.Limits.{last_tick};
-ghost use Rattle.dover_model.specs.Settled.{settled};
+ghost use Rattle.dover_model.specs.Common.{Instance, last_tick, settled, MayFollow};
 ghost use Rattle.dover_model.specs.declared.horizon.Horizon.TheVariants.{Mark};
-ghost use Rattle.dover_model.specs.Horizons.{MayFollow};
 ghost use Rattle.snapshot.specs.Snapshot as model;
 ghost use Rattle.snapshot.specs.Kept.{stance_of, is_done_role, is_early, early_behind, next_early, IsAbout, HasRun};
 ghost use Rattle.snapshot.specs.Kept.{HasRunTowards, ComesNear, MayAdmit, IsAt, AreAt, IsReading, Begins, Answers};
@@ -20,12 +17,12 @@ ghost use Rattle.ready_server.specs.Rostering.{Serves, Rests, HasPlace, HasPaid,
 use crate::feeding::{begin, hand_job, hand_ticks};
 use crate::forms::{Head, is_within_limits, read_head, read_state};
 use crate::reader::{Got, SnapFault};
+use comparison_count::Comparisons;
 use dover_model::{Horizon, Job, Memory, Role, Task};
 use event_feed::Intake;
 use ready_server::{Roster, RosterServer};
 use std::alloc::Global;
 use std::sync::ledger::Ledger;
-use step_count::Steps;
 
 /// What a job is where the feed paused, and how many ticks it has had.
 #[derive(Clone, Copy)]
@@ -38,17 +35,17 @@ pub(crate) struct Stance {
 const MOST_STEPS: u64 = 20_000_000_002;
 
 /// Takes the run to a mark.
-fn settle<L: Ledger>(server: &mut RosterServer, mark: u64, steps: &mut Steps<L>)
+fn settle<L: Ledger>(server: &mut RosterServer, mark: u64, comparisons: &mut Comparisons<L>)
     requires serves { (J : Instance) × (m : ℕ) × (events : List Event) × Serves server.old J (Mark m) events
         × MayFollow (Mark m) (Mark mark) }
     ensures rests { (J : Instance) (m : ℕ) (events : List Event) → Serves server.old J (Mark m) events
         → MayFollow (Mark m) (Mark mark) → Rests server.new J (Mark mark) }
     ensures room { HasPlace server.old → HasPlace server.new }
-    ensures paid { (start : ℕ) → HasPaid server.old start steps.old → HasPaid server.new start steps.new }
+    ensures paid { (start : ℕ) → HasPaid server.old start comparisons.old → HasPaid server.new start comparisons.new }
     ensures roster { has_roster server.new ≡ has_roster server.old }
 {
     for _step in 0..MOST_STEPS {
-        match server.step(Horizon::Mark(mark), steps) {
+        match server.step(Horizon::Mark(mark), comparisons) {
             Some(_) => {}
             None => return,
         }
@@ -220,7 +217,7 @@ impl Resuming {
     }
 
     /// Finishes the job that runs where it has had as much as is stored of it.
-    fn finish_due<L: Ledger>(&mut self, at: u64, steps: &mut Steps<L>)
+    fn finish_due<L: Ledger>(&mut self, at: u64, comparisons: &mut Comparisons<L>)
         requires near { (h : model.Head) × (tasks : List Task) × IsAbout self.old h tasks
             × ComesNear self.old h tasks at }
         requires known { at ≤ last_tick }
@@ -229,8 +226,8 @@ impl Resuming {
         ensures same { self.new ≡ record self.old
             { server = self.new.server; handed = self.new.handed; last = self.new.last } }
         ensures room { HasPlace self.old.server → HasPlace self.new.server }
-        ensures paid { (start : ℕ) → HasPaid self.old.server start steps.old
-            → HasPaid self.new.server start steps.new }
+        ensures paid { (start : ℕ) → HasPaid self.old.server start comparisons.old
+            → HasPaid self.new.server start comparisons.new }
     {
         let Some((number, tick)) = self.next_finish(at) else {
             return;
@@ -244,13 +241,13 @@ impl Resuming {
         }
         self.handed += 1;
         self.last = at;
-        settle(&mut self.server, at, steps);
+        settle(&mut self.server, at, comparisons);
     }
 
     /// Takes the run from a mark to another, turn by turn, and finishes on the way each job that is stored as done
     /// early.
     #[inline(never)]
-    fn turn_to<L: Ledger>(&mut self, from: u64, mark: u64, steps: &mut Steps<L>)
+    fn turn_to<L: Ledger>(&mut self, from: u64, mark: u64, comparisons: &mut Comparisons<L>)
         requires run { (h : model.Head) × (tasks : List Task) × IsAbout self.old h tasks
             × HasRun self.old h tasks from }
         requires low { from ≤ mark }
@@ -260,21 +257,21 @@ impl Resuming {
         ensures same { self.new ≡ record self.old
             { server = self.new.server; handed = self.new.handed; last = self.new.last } }
         ensures room { HasPlace self.old.server → HasPlace self.new.server }
-        ensures paid { (start : ℕ) → HasPaid self.old.server start steps.old
-            → HasPaid self.new.server start steps.new }
+        ensures paid { (start : ℕ) → HasPaid self.old.server start comparisons.old
+            → HasPaid self.new.server start comparisons.new }
     {
         let mut at = from;
         while at < mark {
             at = self.next_mark(at, mark);
-            settle(&mut self.server, at, steps);
-            self.finish_due(at, steps);
+            settle(&mut self.server, at, comparisons);
+            self.finish_due(at, comparisons);
         }
     }
 
     /// Takes the run from a mark, where more may be due, to another, with the early finishes on the way, if jobs may
     /// finish early.
     #[inline(always)]
-    fn run_to<L: Ledger>(&mut self, from: u64, mark: u64, steps: &mut Steps<L>)
+    fn run_to<L: Ledger>(&mut self, from: u64, mark: u64, comparisons: &mut Comparisons<L>)
         requires run { (h : model.Head) × (tasks : List Task) × IsAbout self.old h tasks
             × HasRunTowards self.old h tasks from }
         requires low { from ≤ mark }
@@ -284,19 +281,19 @@ impl Resuming {
         ensures same { self.new ≡ record self.old
             { server = self.new.server; handed = self.new.handed; last = self.new.last } }
         ensures room { HasPlace self.old.server → HasPlace self.new.server }
-        ensures paid { (start : ℕ) → HasPaid self.old.server start steps.old
-            → HasPaid self.new.server start steps.new }
+        ensures paid { (start : ℕ) → HasPaid self.old.server start comparisons.old
+            → HasPaid self.new.server start comparisons.new }
     {
         if self.head.version.may_finish_early() {
-            settle(&mut self.server, from, steps);
-            self.turn_to(from, mark, steps);
+            settle(&mut self.server, from, comparisons);
+            self.turn_to(from, mark, comparisons);
         } else {
-            settle(&mut self.server, mark, steps);
+            settle(&mut self.server, mark, comparisons);
         }
     }
 
     /// Admits a job at its release, as a feed would. What is due there then is given with what comes next.
-    fn admit<L: Ledger>(&mut self, job: Job, steps: &mut Steps<L>) -> Result<(), Memory>
+    fn admit<L: Ledger>(&mut self, job: Job, comparisons: &mut Comparisons<L>) -> Result<(), Memory>
         requires { (h : model.Head) × (tasks : List Task) × IsAbout self.old h tasks
             × HasRunTowards self.old h tasks self.old.last × MayAdmit self.old.last h tasks job }
         ensures run { (h : model.Head) (tasks : List Task) (t : Task) → IsAbout self.old h tasks
@@ -308,11 +305,11 @@ impl Resuming {
             { server = self.new.server; handed = self.new.handed; last = self.new.last }) }
         ensures err { (h : model.Head) (tasks : List Task) → HasRunTowards self.old h tasks self.old.last →
             OnErr result (self.new.server.server.ready.jobs ≡ length tasks) }
-        ensures count { (start : ℕ) → HasPaid self.old.server start steps.old
-            → HasPaid self.new.server start steps.new }
+        ensures count { (start : ℕ) → HasPaid self.old.server start comparisons.old
+            → HasPaid self.new.server start comparisons.new }
     {
         self.server.make_room()?;
-        self.run_to(self.last, job.release(), steps);
+        self.run_to(self.last, job.release(), comparisons);
         self.handed += 1;
         self.last = job.release();
         let _release = self.server.admit(job);
@@ -320,15 +317,19 @@ impl Resuming {
     }
 
     /// Takes the line of the next job.
-    fn job<L: Ledger>(&mut self, line: &[u8], steps: &mut Steps<L>) -> Result<Got, SnapFault>
+    fn job<L: Ledger>(
+        &mut self,
+        line: &[u8],
+        comparisons: &mut Comparisons<L>,
+    ) -> Result<Got, SnapFault>
         requires reading { (ls : List (List ℕ)) × IsReading (Some self.old) ls }
         requires more { length self.old.stances.items < self.old.head.jobs }
         ensures answers { (ls : List (List ℕ)) → IsReading (Some self.old) ls →
             Answers result (Some self.new) (ls ++ line.now ∷ []) }
         ensures jobs { (ls : List (List ℕ)) → IsReading (Some self.old) ls →
             jobs_kept (Some self.new) ≤ jobs_read (reading_of (ls ++ line.now ∷ [])) }
-        ensures count { (start : ℕ) → HasSpentOn (Some self.old) start steps.old →
-            HasSpentOn (Some self.new) start steps.new }
+        ensures count { (start : ℕ) → HasSpentOn (Some self.old) start comparisons.old →
+            HasSpentOn (Some self.new) start comparisons.new }
     {
         let number = self.count();
         let bad = SnapFault::BadSnapshot { line: number + 2 };
@@ -348,7 +349,7 @@ impl Resuming {
             role: state.role,
             had: state.had,
         };
-        match self.admit(job, steps) {
+        match self.admit(job, comparisons) {
             Ok(()) => {}
             Err(_) => return Err(SnapFault::Memory),
         }
@@ -371,15 +372,19 @@ impl Resuming {
 
     /// Takes the last line.
     #[inline(never)]
-    fn finish<L: Ledger>(&mut self, line: &[u8], steps: &mut Steps<L>) -> Result<Got, SnapFault>
+    fn finish<L: Ledger>(
+        &mut self,
+        line: &[u8],
+        comparisons: &mut Comparisons<L>,
+    ) -> Result<Got, SnapFault>
         requires reading { (ls : List (List ℕ)) × IsReading (Some self.old) ls }
         requires all { self.old.head.jobs ≤ length self.old.stances.items }
         ensures answers { (ls : List (List ℕ)) → IsReading (Some self.old) ls →
             Answers result (Some self.new) (ls ++ line.now ∷ []) }
         ensures jobs { (ls : List (List ℕ)) → IsReading (Some self.old) ls →
             jobs_kept (Some self.new) ≤ jobs_read (reading_of (ls ++ line.now ∷ [])) }
-        ensures count { (start : ℕ) → HasSpentOn (Some self.old) start steps.old →
-            HasSpentOn (Some self.new) start steps.new }
+        ensures count { (start : ℕ) → HasSpentOn (Some self.old) start comparisons.old →
+            HasSpentOn (Some self.new) start comparisons.new }
     {
         let bad = SnapFault::BadSnapshot {
             line: self.count() + 2,
@@ -387,7 +392,7 @@ impl Resuming {
         if line != b"resume".as_slice() {
             return Err(bad);
         }
-        self.run_to(self.last, self.head.mark, steps);
+        self.run_to(self.last, self.head.mark, comparisons);
         if !are_at(
             self.server.roster(),
             self.head.mark,
@@ -403,19 +408,23 @@ impl Resuming {
     }
 
     /// Takes the next line behind the first.
-    pub fn line<L: Ledger>(&mut self, line: &[u8], steps: &mut Steps<L>) -> Result<Got, SnapFault>
+    pub fn line<L: Ledger>(
+        &mut self,
+        line: &[u8],
+        comparisons: &mut Comparisons<L>,
+    ) -> Result<Got, SnapFault>
         requires { (ls : List (List ℕ)) × IsReading (Some self.old) ls }
         ensures answers { (ls : List (List ℕ)) → IsReading (Some self.old) ls →
             Answers result (Some self.new) (ls ++ line.now ∷ []) }
         ensures jobs { (ls : List (List ℕ)) → IsReading (Some self.old) ls →
             jobs_kept (Some self.new) ≤ jobs_read (reading_of (ls ++ line.now ∷ [])) }
-        ensures count { (start : ℕ) → HasSpentOn (Some self.old) start steps.old →
-            HasSpentOn (Some self.new) start steps.new }
+        ensures count { (start : ℕ) → HasSpentOn (Some self.old) start comparisons.old →
+            HasSpentOn (Some self.new) start comparisons.new }
     {
         if self.count() < self.head.jobs {
-            self.job(line, steps)
+            self.job(line, comparisons)
         } else {
-            self.finish(line, steps)
+            self.finish(line, comparisons)
         }
     }
 

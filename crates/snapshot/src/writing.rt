@@ -1,10 +1,7 @@
 //! The lines of a snapshot, as they are written.
 ghost use Rattle.std.specs.Prelude.{◌≡◌, ◌≤◌, ◌++◌, ◌∷◌, [], length, codes};
-ghost use Rattle.dover_model.specs.Lines.{with_numbers};
+ghost use Rattle.dover_model.specs.Common.{with_numbers, last_tick, most_jobs, most_lines, rules_with, factor_numbers};
 ghost use Rattle.dover_model.specs.declared.events.Version.TheVariants.{Three};
-ghost use Rattle.dover_model.specs.Limits.{last_tick, most_jobs, most_lines};
-ghost use Rattle.dover_model.specs.Feed.{rules_with};
-ghost use Rattle.dover_model.specs.Fraction.{factor_numbers};
 ghost use Rattle.line_text.specs.Writing.{numbers_behind};
 ghost use Rattle.snapshot.specs.Snapshot as model;
 

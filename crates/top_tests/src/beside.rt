@@ -2,11 +2,11 @@
 ghost use Rattle.std.specs.Prelude.{◌≡◌, ◌<◌, [], ◌∷◌};
 ghost use Rattle.dover_model.specs.declared.events.Event.TheVariants.{End};
 
+use comparison_count::Comparisons;
 use dover_model::{Event, PackedEvent, Ratio};
 use run_reports::report::summary;
 use std::marker::Brand;
 use std::sync::ledger::{Blank, Ledger};
-use step_count::Steps;
 use trace_judge::{Judge, Verdict};
 
 /// The trace of a job.
@@ -16,9 +16,9 @@ const SHORTEST: &[u8] = b"dover 1 1 1\njob 0 0 2 2 2\nrun 0 0\ncomplete 2 0\nend
 const SUMMARY: &[u8] = b"jobs 0\ncompleted 0 0\nabandoned 0 0\ntaken 0\nbound 0\n";
 
 /// Whether the judge makes room for a job, and has used it once it has read a trace of one.
-fn is_read<L: Ledger>(judge: &mut Judge, steps: &mut Steps<L>) -> bool {
+fn is_read<L: Ledger>(judge: &mut Judge, comparisons: &mut Comparisons<L>) -> bool {
     let has_room = judge.reserve(1).is_ok() && judge.spare() == 1;
-    let is_fed = judge.feed(SHORTEST, steps).is_ok();
+    let is_fed = judge.feed(SHORTEST, comparisons).is_ok();
     has_room && is_fed && judge.spare() == 0
 }
 
@@ -28,11 +28,11 @@ fn is_accepted<L: Ledger>(rt: &HostRuntime, blank: Blank) -> bool
     requires parts { blank.parts ≡ L.parts }
     requires some { 0 < blank.parts }
 {
-    let mut steps = Steps::<L>::new(rt.memory(), blank);
+    let mut comparisons = Comparisons::<L>::new(rt.memory(), blank);
     let Ok(mut judge) = Judge::new(rt.alloc(), true) else {
         return false;
     };
-    let is_read = is_read(&mut judge, &mut steps);
+    let is_read = is_read(&mut judge, &mut comparisons);
     match judge.close() {
         Ok(closed) => {
             is_read && closed.steps.len() == 4 && matches!(closed.verdict, Verdict::Accepted { .. })

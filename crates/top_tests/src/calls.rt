@@ -1,12 +1,12 @@
 //! Calls of `dover` over ports in memory.
 ghost use Rattle.std.specs.Prelude.{◌≡◌, ◌<◌};
 
+use comparison_count::Comparisons;
 use dover_port::{MemoryPort, Status};
 use dover_top::dover;
 use std::alloc::{AllocError, Global};
 use std::marker::Brand;
 use std::sync::ledger::{Blank, Ledger};
-use step_count::Steps;
 
 /// One call over a port, with a ledger of its own.
 fn answer_in<L: Ledger>(
@@ -19,8 +19,8 @@ fn answer_in<L: Ledger>(
     requires parts { blank.parts ≡ L.parts }
     requires some { 0 < blank.parts }
 {
-    let mut steps = Steps::<L>::new(rt.memory(), blank);
-    dover(rt.alloc(), words, port, &mut steps)
+    let mut comparisons = Comparisons::<L>::new(rt.memory(), blank);
+    dover(rt.alloc(), words, port, &mut comparisons)
 }
 
 /// One call over a port.

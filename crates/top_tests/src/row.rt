@@ -6,20 +6,20 @@ use std::alloc::{AllocError, Global};
 
 /// How many rows were tried, how many of them went otherwise, and the number of the first of those, from 1 on.
 #[derive(Clone, Copy)]
-pub(crate) struct Tally {
+pub(crate) struct RowTally {
     pub(crate) rows: u64,
     pub(crate) wrong: u64,
     pub(crate) first: u64,
 }
 
-impl Tally {
+impl RowTally {
     /// After one more row.
-    pub(crate) fn and(self, holds: bool) -> Tally {
+    pub(crate) fn and(self, holds: bool) -> RowTally {
         let rows = self.rows.saturating_add(1);
         if holds {
-            return Tally { rows, ..self };
+            return RowTally { rows, ..self };
         }
-        Tally {
+        RowTally {
             rows,
             wrong: self.wrong.saturating_add(1),
             first: if self.wrong == 0 { rows } else { self.first },
@@ -34,7 +34,7 @@ pub(crate) struct Row {
     input: Vec<u8>,
     output: Vec<u8>,
     cut: Option<Cut>,
-    tally: Tally,
+    tally: RowTally,
 }
 
 /// Appends what stands behind a line's mark: a blank before it, or a point if no line feed follows it.
@@ -115,7 +115,7 @@ impl Row {
             input: Vec::new(alloc),
             output: Vec::new(alloc),
             cut: None,
-            tally: Tally {
+            tally: RowTally {
                 rows: 0,
                 wrong: 0,
                 first: 0,
@@ -124,7 +124,7 @@ impl Row {
     }
 
     /// What came of the rows so far.
-    pub(crate) fn tally(&self) -> Tally {
+    pub(crate) fn tally(&self) -> RowTally {
         self.tally
     }
 

@@ -1,29 +1,21 @@
 -- Why a job line is refused, by the jobs before it and by how many jobs are ready.
 use Rattle.std.proofs.Common.{◌≡◌, ℕ, ◌<◌, ◌≤◌, refl, sym, ap, ◌∙◌, subst, Bool, true, false, cond, Option, Some, None}
-use Rattle.std.proofs.Common.{arith}
-use Rattle.std.specs.Prelude.{nat_lt, ◌==◌}
+use Rattle.std.proofs.Common.{arith, nat_lt, ◌==◌, ltb-true, eq-eqb, eqb-true}
 use Rattle.std.specs.Bool.{then_some}
 use Rattle.std.specs.Option.{option_or}
-use Rattle.std.proofs.lemmas.Bool.{ltb-true, eq-eqb, eqb-true}
 use Rattle.dover_model.specs.declared.events.Refusal.{Refusal}
-use Rattle.dover_model.specs.declared.events.Refusal.TheVariants.{BadJob, Count, Total, Ratio, Late, Full}
-use Rattle.dover_model.specs.JobFacts.{JobFacts}
-use Rattle.dover_model.specs.Admission.{refusal_of}
-use Rattle.dover_model.specs.Session.{Session, instance_of, admitted_jobs, is_full, late_refusal, refusal_in}
-use Rattle.dover_model.specs.Session.{refusal_at, refused_mark}
-use Rattle.dover_model.proofs.Fullness.{full_in, full_at}
-use Rattle.dover_model.proofs.Members.{some_same}
-use Rattle.dover_model.proofs.Tests.{none_is_some}
+use Rattle.dover_model.specs.declared.events.Refusal.TheVariants.{Full}
+use Rattle.dover_model.specs.Common.{JobFacts, refusal_of, Session, instance_of, admitted_jobs, is_full, late_refusal}
+use Rattle.dover_model.specs.Common.{refusal_in, refusal_at, refused_mark}
+use Rattle.dover_model.proofs.sessions.Fullness.{full_in, full_at}
+use Rattle.dover_model.proofs.lists.Members.{some_same}
+use Rattle.dover_model.proofs.lists.Tests.{none_is_some}
 use Rattle.trace_judge.specs.Reads.{refusal_if_full}
 
 -- but for that cause the mark stays
 same_mark : (at : ℕ) (j : JobFacts) (cause : Refusal) → (cause ≡ Full → ⊥) → refused_mark at j cause ≡ at
-same_mark at j BadJob other = refl
-same_mark at j Count other = refl
-same_mark at j Total other = refl
-same_mark at j Ratio other = refl
-same_mark at j Late other = refl
 same_mark at j Full other = absurd (other refl)
+same_mark at j _ other = refl
 
 module _ (S : Session) (at : ℕ) (j : JobFacts) where
   -- why the jobs before it refuse it

@@ -1,56 +1,43 @@
 -- How the judge takes an early completion.
 use Rattle.std.proofs.Common.{◌≡◌, ℕ, ◌+◌, ◌*◌, ◌≤◌, ◌<◌, List, [], ◌∷◌, ◌++◌, length, length-append, refl, sym, ap}
-use Rattle.std.proofs.Common.{◌∙◌}
-use Rattle.std.proofs.Common.{subst, Bool, true, false, cond, arith, Option, Some, None}
-use Rattle.std.specs.Prelude.{is_some, nat_lt, nat_le, ◌&&◌}
-use Rattle.std.proofs.lemmas.Bool.{false_from_ne_true, le-leb, le-ltb, lt-ltb, ltb-true, ltb-false}
+use Rattle.std.proofs.Common.{◌∙◌, subst, Bool, true, false, cond, arith, Option, Some, None, is_some, nat_lt, nat_le}
+use Rattle.std.proofs.Common.{◌&&◌, le-leb, le-ltb, lt-ltb, ltb-true, ltb-false, option_map, filter}
+use Rattle.std.proofs.lemmas.Bool.{false_from_ne_true}
 use Rattle.std.proofs.lemmas.List.Elements.{filter_map-append}
-use Rattle.std.specs.Option.{option_map}
-use Rattle.std.specs.List.{filter}
 use Rattle.ready_jobs.proofs.Courses.{follows_count}
 use Rattle.waiting_pool.proofs.Reordering.{as_many}
-use Rattle.dover_model.specs.Ready.{is_ready}
-use Rattle.dover_model.specs.Instance.{Instance, with_finishes}
-use Rattle.dover_model.specs.Limits.{last_tick, most_items}
+use Rattle.dover_model.specs.Common.{is_ready, Instance, with_finishes, last_tick, most_items, IsMember, State, running}
+use Rattle.dover_model.specs.Common.{is_running, is_over, Prints, after, printed_of, settled, settled_state, last_of}
+use Rattle.dover_model.specs.Common.{finish_now, FinishItem, EarlyFinish, Session, instance_of, admitted_jobs}
+use Rattle.dover_model.specs.Common.{with_item, job_of_item, finish_at, early_at, may_finish_early, ready_at, text_of}
+use Rattle.dover_model.specs.Common.{named_item, begins_trace, WaitsUntil, IsBarrier}
 use Rattle.dover_model.specs.declared.events.Event.{Event}
 use Rattle.dover_model.specs.declared.events.Event.TheVariants.{Complete}
 use Rattle.dover_model.specs.declared.events.Role.TheVariants.{Running}
 use Rattle.dover_model.specs.declared.events.Task.{Task}
-use Rattle.dover_model.specs.Sound.{IsMember}
-use Rattle.dover_model.specs.State.{State, running, is_running, is_over}
-use Rattle.dover_model.specs.Step.{Prints, after}
-use Rattle.dover_model.specs.Run.{printed_of}
-use Rattle.dover_model.specs.Settled.{settled, settled_state, last_of, finish_now}
-use Rattle.dover_model.specs.Session.{FinishItem, EarlyFinish, Session, instance_of, admitted_jobs, with_item}
-use Rattle.dover_model.specs.Session.{job_of_item, finish_at, early_at, may_finish_early, ready_at}
-use Rattle.dover_model.specs.Text.{text_of}
-use Rattle.dover_model.specs.Verdict.{named_item, begins_trace}
-use Rattle.dover_model.specs.Leading.{WaitsUntil}
-use Rattle.dover_model.specs.WholeRun.{IsBarrier}
-use Rattle.dover_model.proofs.Growing.{finish_instance}
-use Rattle.dover_model.proofs.LastSteps.{last_tells}
-use Rattle.dover_model.proofs.Members.{found, some_same}
-use Rattle.dover_model.proofs.RightFinishes.{all_before, FinishSays, finish_says, right_finish, none_late, none_other}
-use Rattle.dover_model.proofs.Roles.{passes, is_running_role}
-use Rattle.dover_model.proofs.Tests.{never}
-use Rattle.dover_model.proofs.Waiting.{some_goes_on}
+use Rattle.dover_model.proofs.sessions.Growing.{finish_instance}
+use Rattle.dover_model.proofs.settled.LastSteps.{last_tells}
+use Rattle.dover_model.proofs.lists.Members.{found, some_same}
+use Rattle.dover_model.proofs.finishes.RightFinishes.{all_before, FinishSays, finish_says, right_finish, none_late}
+use Rattle.dover_model.proofs.finishes.RightFinishes.{none_other}
+use Rattle.dover_model.proofs.steps.Roles.{passes, is_running_role}
+use Rattle.dover_model.proofs.lists.Tests.{never}
+use Rattle.dover_model.proofs.settled.Waiting.{some_goes_on}
 use Rattle.line_text.specs.declared.traces.lines.TraceLine.TheVariants.{Step as StepLine}
 use Rattle.line_text.specs.traces.Form.{HasForm}
 use Rattle.ready_jobs.specs.Course.{Course, Follows, Finishes, Runs, RunsNowhere}
 use Rattle.trace_judge.specs.Reading.{completion_text}
-use Rattle.trace_judge.specs.declared.stage.Stage.TheVariants.{Going}
-use Rattle.trace_judge.specs.Reads.{Reading, Goes, ReadsAhead, Reads, StaysAhead, IsReader, HasSpare, Took}
-use Rattle.trace_judge.specs.Reads.{Followed, Waited, at_tick, CanComplete, MayNotComplete}
-use Rattle.trace_judge.proofs.Continuing.{sees_completion}
+use Rattle.trace_judge.specs.declared.stage.TraceStage.TheVariants.{Going}
+use Rattle.trace_judge.specs.Reads.{Reading, Goes, ReadsAhead, Reads, StaysAhead, IsReader, HasSpare, Took, Followed}
+use Rattle.trace_judge.specs.Reads.{Waited, at_tick, CanComplete, MayNotComplete}
+use Rattle.trace_judge.proofs.Continuing.{sees_completion, printed_there, state_there, SeesWith}
 use Rattle.trace_judge.proofs.Naming.{step_named}
 use Rattle.trace_judge.proofs.Only.{only_completion}
-use Rattle.trace_judge.proofs.Readings.{goes_of, here_of, reads_of, reads_ahead, room_kept, room_left}
-use Rattle.trace_judge.proofs.Readings.{version_kept}
-use Rattle.trace_judge.proofs.Seeing.{sees_rest}
-use Rattle.dover_model.proofs.SessionParts.{MayFinish, session_jobs}
-use Rattle.trace_judge.proofs.Follows.{finish_parts}
-use Rattle.trace_judge.proofs.Continuing.{printed_there, state_there, SeesWith}
+use Rattle.trace_judge.proofs.Readings.{goes_of, here_of, reads_of, reads_ahead, room_kept, room_left, version_kept}
 use Rattle.trace_judge.proofs.Readings.{room_for, GoesHere, here_reader, goes_some, item_more, no_job}
+use Rattle.trace_judge.proofs.Seeing.{sees_rest}
+use Rattle.dover_model.proofs.sessions.SessionParts.{MayFinish, session_jobs}
+use Rattle.trace_judge.proofs.Follows.{finish_parts}
 
 -- ---- whether a finish is right
 

@@ -1,76 +1,63 @@
 -- Lines that continue a trace, and what they come to.
 use Rattle.std.proofs.Common.{◌≡◌, ◌+◌, List, ◌∷◌, ◌++◌, map, ap, ℕ, suc, ◌≤◌, max, Bool, true, false, cond, arith, []}
-use Rattle.std.proofs.Common.{refl, ◌<◌, length, length-append, sym, ◌∙◌, subst, inl, inr}
-use Rattle.std.proofs.lemmas.List.{map-append, append-nil}
-use Rattle.std.specs.Prelude.{nat_le, ◌&&◌, nat_lt, Some, None}
+use Rattle.std.proofs.Common.{refl, ◌<◌, length, length-append, sym, ◌∙◌, subst, inl, inr, append-nil, nat_le, ◌&&◌}
+use Rattle.std.proofs.Common.{nat_lt, Some, None, ltb-true, ltb-false, fold}
+use Rattle.std.proofs.lemmas.List.{map-append}
 use Rattle.std.specs.Option.{option_or}
-use Rattle.std.proofs.lemmas.Bool.{lt-leb, ltb-true, ltb-false, false_from_ne_true}
-use Rattle.std.specs.List.{AllByRecursion, fold}
+use Rattle.std.proofs.lemmas.Bool.{lt-leb, false_from_ne_true}
+use Rattle.std.specs.List.{AllByRecursion}
 use Rattle.std.proofs.lemmas.List.Sums.{fold-append}
-use Rattle.dover_model.specs.Instance.{Declaration, Rules, Instance, IsValid, with_jobs, with_finishes}
-use Rattle.dover_model.specs.Text.{header, text_of, refused_text}
-use Rattle.dover_model.specs.Trace.{TraceLine, text_of_line, Printed, Refuses, Placed, places_of, lines_among}
-use Rattle.dover_model.specs.Trace.{texts_among, put_in}
-use Rattle.dover_model.specs.JobFacts.{JobFacts}
+use Rattle.dover_model.specs.Common.{Declaration, Rules, Instance, IsValid, with_jobs, with_finishes, header, text_of}
+use Rattle.dover_model.specs.Common.{refused_text, TraceLine, text_of_line, Printed, Refuses, Placed, places_of}
+use Rattle.dover_model.specs.Common.{lines_among, texts_among, put_in, JobFacts, State, opening, with_later, is_coming}
+use Rattle.dover_model.specs.Common.{is_over, Prints, open_step, after, due_finish, Step, is_end, printed_of, printed}
+use Rattle.dover_model.specs.Common.{waits_for_mark, settled, settled_steps, settled_state, Each, Keeps, open_at}
+use Rattle.dover_model.specs.Common.{IsSettledRun, IsBarrier, JobItem, RefusedItem, Refused, Session, instance_of}
+use Rattle.dover_model.specs.Common.{admitted_jobs, FinishItem, EarlyFinish, IsDeclarable, IsValidSession, with_item}
+use Rattle.dover_model.specs.Common.{with_named, mark_after, new_session, named_session, Finish, IsOpenPath, GoesOn}
+use Rattle.dover_model.specs.Common.{Leads, Passes, Idles, PrintsNext, floor_after, with_fresh, IsRatio, WaitsUntil}
+use Rattle.dover_model.specs.Common.{Item}
 use Rattle.dover_model.specs.declared.events.Event.{Event}
 use Rattle.dover_model.specs.declared.events.Event.TheVariants.{Release, Complete}
 use Rattle.dover_model.specs.declared.events.Role.TheVariants.{Fresh, Running}
 use Rattle.dover_model.specs.declared.events.Task.{Task}
-use Rattle.dover_model.specs.State.{State, opening, with_later, is_coming, is_over}
-use Rattle.dover_model.specs.Step.{Prints, open_step, after, due_finish}
-use Rattle.dover_model.specs.Run.{Step, is_end, printed_of, printed}
-use Rattle.dover_model.specs.Settled.{waits_for_mark, settled, settled_steps, settled_state}
-use Rattle.dover_model.specs.Sound.{Each, Keeps}
-use Rattle.dover_model.specs.WholeRun.{open_at, IsSettledRun, IsBarrier}
-use Rattle.dover_model.specs.Session.{JobItem, RefusedItem, Refused, Session, instance_of, admitted_jobs}
-use Rattle.dover_model.specs.Session.{FinishItem, EarlyFinish, IsDeclarable}
-use Rattle.dover_model.specs.Session.{IsValidSession, with_item, with_named, mark_after, new_session}
-use Rattle.dover_model.specs.Verdict.{named_session}
-use Rattle.dover_model.proofs.Kept.{opening_keeps, each_job}
-use Rattle.dover_model.proofs.Ending.{potential}
-use Rattle.dover_model.proofs.Settling.{Settles as Reaches, settles, settled_is_run, at_barrier}
-use Rattle.dover_model.proofs.Valid.{all_from}
-use Rattle.dover_model.proofs.Prefixes.{step_open, come_from, opening_later, later_keeps}
-use Rattle.dover_model.proofs.Releasing.{coming_task, barrier_releases}
-use Rattle.dover_model.proofs.PutIn.{RefusesWithin, AllPlacedWithin, put_in-more_steps, put_in-more_refused}
-use Rattle.dover_model.proofs.PutIn.{places_after-append}
-use Rattle.dover_model.proofs.Growing.{Reads, LinesName, item_in, with_line_named, reads_later, Finishes}
-use Rattle.dover_model.proofs.Growing.{finishing_job, finish_instance, finish_is_named}
-use Rattle.dover_model.proofs.Growing.{job_instance, refused_instance, all_behind}
+use Rattle.dover_model.proofs.steps.Kept.{opening_keeps, each_job}
+use Rattle.dover_model.proofs.runs.Ending.{potential}
+use Rattle.dover_model.proofs.settled.Settling.{Settles as Reaches, settles, settled_is_run, at_barrier}
+use Rattle.dover_model.proofs.valid.Valid.{all_from}
+use Rattle.dover_model.proofs.settled.Prefixes.{step_open, come_from, opening_later, later_keeps}
+use Rattle.dover_model.proofs.settled.Releasing.{coming_task, barrier_releases}
+use Rattle.dover_model.proofs.sessions.PutIn.{RefusesWithin, AllPlacedWithin, put_in-more_steps, put_in-more_refused}
+use Rattle.dover_model.proofs.sessions.PutIn.{places_after-append}
+use Rattle.dover_model.proofs.sessions.Growing.{Reads, LinesName, item_in, with_line_named, reads_later, Finishes}
+use Rattle.dover_model.proofs.sessions.Growing.{finishing_job, finish_instance, finish_is_named, job_instance}
+use Rattle.dover_model.proofs.sessions.Growing.{refused_instance, all_behind}
 use Rattle.admission.proofs.Joining.{admitted_valid}
-use Rattle.dover_model.proofs.Accounts.{follows_behind, mark_behind}
-use Rattle.dover_model.proofs.Members.{each_behind, all_at, all_each}
-use Rattle.dover_model.proofs.Early.{finish_in, NameNone, run_names_none}
-use Rattle.dover_model.proofs.TraceLines.{item_of_line}
-use Rattle.dover_model.proofs.Runs.{printed_append}
-use Rattle.dover_model.proofs.Paths.{one_settled_run}
-use Rattle.dover_model.proofs.Resting.{path_state}
-use Rattle.dover_model.proofs.Meeting.{finishing_valid}
-use Rattle.dover_model.proofs.Further.{none_due_before, same_open, next_at_mark}
-use Rattle.dover_model.proofs.Roles.{passes}
-use Rattle.dover_model.proofs.Tests.{never}
-use Rattle.dover_model.specs.Finishes.{Finish}
-use Rattle.dover_model.specs.Paths.{IsOpenPath}
-use Rattle.dover_model.specs.Leading.{GoesOn, Leads, Passes, Idles, PrintsNext, floor_after}
+use Rattle.dover_model.proofs.sessions.Accounts.{follows_behind, mark_behind}
+use Rattle.dover_model.proofs.lists.Members.{each_behind, all_at, all_each}
+use Rattle.dover_model.proofs.finishes.Early.{finish_in, NameNone, run_names_none}
+use Rattle.dover_model.proofs.texts.TraceLines.{item_of_line}
+use Rattle.dover_model.proofs.runs.Runs.{printed_append}
+use Rattle.dover_model.proofs.settled.Paths.{one_settled_run}
+use Rattle.dover_model.proofs.rest.Resting.{path_state}
+use Rattle.dover_model.proofs.finishes.Meeting.{finishing_valid}
+use Rattle.dover_model.proofs.finishes.Further.{none_due_before, same_open, next_at_mark}
+use Rattle.dover_model.proofs.steps.Roles.{passes}
+use Rattle.dover_model.proofs.lists.Tests.{never}
 use Rattle.trace_judge.specs.Reading.{Sees, HasRoom, MayRelease, MayRefuse, release_text, completion_text}
-use Rattle.dover_model.specs.Ready.{with_fresh}
-use Rattle.trace_judge.proofs.Items.{reads_mark}
-use Rattle.dover_model.proofs.Leading.{leads_later_mark, leads_append, leads_passes, settles_passes, passes_append}
-use Rattle.dover_model.proofs.Leading.{passes_settled, settles_silent, idles_silent, idles_leads, settles_clock}
-use Rattle.dover_model.proofs.Leading.{passes_keeps, prints_goes_on, stops_before, Later, passes_later, coming_goes_on}
-use Rattle.dover_model.proofs.Released.{NoneComes, none_comes_passes, none_comes_after, printed_names_none}
-use Rattle.dover_model.proofs.Released.{after_release}
+use Rattle.trace_judge.proofs.Items.{reads_mark, mark_next}
+use Rattle.dover_model.proofs.settled.Leading.{leads_later_mark, leads_append, leads_passes, settles_passes}
+use Rattle.dover_model.proofs.settled.Leading.{passes_append, passes_settled, settles_silent, idles_silent, idles_leads}
+use Rattle.dover_model.proofs.settled.Leading.{settles_clock, passes_keeps, prints_goes_on, stops_before, Later}
+use Rattle.dover_model.proofs.settled.Leading.{passes_later, coming_goes_on, idles_settles}
+use Rattle.dover_model.proofs.runs.Released.{NoneComes, none_comes_passes, none_comes_after, printed_names_none}
+use Rattle.dover_model.proofs.runs.Released.{after_release}
 use Rattle.trace_judge.proofs.Seeing.{led_named, sees_keeps, sees_ready, sees_names, sees_next}
-use Rattle.dover_model.specs.Fraction.{IsRatio}
-use Rattle.dover_model.proofs.SessionParts.{MayFinish, session_parts, session_from, session_jobs, session_declared}
+use Rattle.dover_model.proofs.sessions.SessionParts.{MayFinish, session_parts, session_from, session_jobs}
+use Rattle.dover_model.proofs.sessions.SessionParts.{session_declared, FollowsItems}
 use Rattle.trace_judge.proofs.Follows.{refused_parts}
-use Rattle.dover_model.proofs.ValidParts.{valid_from}
-use Rattle.dover_model.specs.Leading.{WaitsUntil}
-use Rattle.dover_model.specs.Session.{Item}
-use Rattle.dover_model.proofs.SessionParts.{FollowsItems}
-use Rattle.dover_model.proofs.Walks.{tick_of_item}
-use Rattle.trace_judge.proofs.Items.{mark_next}
-use Rattle.dover_model.proofs.Leading.{idles_settles}
+use Rattle.dover_model.proofs.valid.ValidParts.{valid_from}
+use Rattle.dover_model.proofs.sessions.Walks.{tick_of_item}
 
 -- lines that come to a state, and what was printed up to it
 abbrev pub SeesWith : List (List ℕ) → Session → ℕ → State → List Event → Type 0

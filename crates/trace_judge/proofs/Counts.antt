@@ -1,14 +1,11 @@
 -- How many lines a trace has, and which of them are refused lines.
 use Rattle.std.proofs.Common.{◌≡◌, ℕ, ◌+◌, ◌-◌, max, List, ◌∷◌, length, length-append, map, take, drop, arith, suc, []}
-use Rattle.std.proofs.Common.{◌++◌, refl, ap, ◌∙◌}
-use Rattle.std.proofs.lemmas.List.{length-map, length-take, length-drop}
-use Rattle.std.specs.Prelude.{filter_map, slice_get, Some}
+use Rattle.std.proofs.Common.{◌++◌, refl, ap, ◌∙◌, length-take, length-drop, filter_map, slice_get, Some}
+use Rattle.std.proofs.lemmas.List.{length-map}
 use Rattle.dover_model.specs.declared.events.Event.{Event}
-use Rattle.dover_model.specs.Trace.{Printed, Refuses, Placed, put_in, places_after, places_of, lines_among}
-use Rattle.dover_model.specs.Instance.{Declaration}
-use Rattle.dover_model.specs.Session.{Item, JobItem, RefusedItem, FinishItem}
-use Rattle.dover_model.specs.Session.{refused_of_item, Session}
-use Rattle.dover_model.specs.Verdict.{refused_count}
+use Rattle.dover_model.specs.Common.{Printed, Refuses, Placed, put_in, places_after, places_of, lines_among}
+use Rattle.dover_model.specs.Common.{Declaration, Item, JobItem, RefusedItem, FinishItem, refused_of_item, Session}
+use Rattle.dover_model.specs.Common.{refused_count}
 
 -- with refused lines put in, there are so many lines more
 length-put_in : (ps : List Placed) (before : ℕ) (steps : List Event)

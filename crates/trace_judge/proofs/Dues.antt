@@ -7,19 +7,15 @@ use Rattle.std.proofs.lemmas.List.{take-append-le}
 use Rattle.std.proofs.lemmas.Bool.{and_parts}
 use Rattle.std.proofs.Math.Seq.{take-length}
 use Rattle.dover_model.specs.declared.events.Event.{Event}
-use Rattle.dover_model.specs.Lines.{whole_lines, rest_of}
-use Rattle.dover_model.specs.Run.{printed}
-use Rattle.dover_model.specs.Session.{Session, instance_of, is_valid_session}
-use Rattle.dover_model.specs.Numerals.{AreShort}
-use Rattle.dover_model.specs.Text.{step_numbers}
-use Rattle.dover_model.specs.Verdict.{Expected, Header, Step, Nothing, Verdict, Accepted, Wrong, Short, named_session}
-use Rattle.dover_model.specs.Verdict.{begins_trace, begins_trace_of}
-use Rattle.dover_model.specs.Verdict.{ends_with_end, is_empty, text_lines, first_wrong, step_after, expected_after}
-use Rattle.dover_model.specs.Verdict.{good_verdict, wrong_verdict, verdict}
-use Rattle.dover_model.proofs.Members.{some_same}
-use Rattle.dover_model.proofs.ShortNumbers.{printed_short, AreAllShort}
-use Rattle.dover_model.proofs.WrongStays.{next_wrong}
-use Rattle.dover_model.proofs.SessionParts.{session_jobs}
+use Rattle.dover_model.specs.Common.{whole_lines, rest_of, printed, Session, instance_of, is_valid_session, AreShort}
+use Rattle.dover_model.specs.Common.{step_numbers, Expected, Header, Nothing, Verdict, Accepted, Wrong, named_session}
+use Rattle.dover_model.specs.Common.{begins_trace, begins_trace_of, ends_with_end, is_empty, text_lines, first_wrong}
+use Rattle.dover_model.specs.Common.{expected_after, good_verdict, wrong_verdict, verdict}
+use Rattle.dover_model.specs.Verdict.{Step, Short, step_after}
+use Rattle.dover_model.proofs.lists.Members.{some_same}
+use Rattle.dover_model.proofs.traces.ShortNumbers.{printed_short, AreAllShort}
+use Rattle.dover_model.proofs.traces.WrongStays.{next_wrong}
+use Rattle.dover_model.proofs.sessions.SessionParts.{session_jobs}
 
 -- the numbers of what is due have numerals
 abbrev IsShortDue : Expected → Type 0

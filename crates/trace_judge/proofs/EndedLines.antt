@@ -1,15 +1,14 @@
 -- What is found where a line has ended.
 use Rattle.std.proofs.Common.{◌≡◌, ℕ, ◌+◌, ◌≤◌, ◌<◌, List, [], ◌∷◌, ◌++◌, length, length-append, sym, ap, ◌∙◌, subst}
-use Rattle.std.proofs.Common.{refl, arith, Bool, true, false, take, drop, take-append-drop, append_assoc}
-use Rattle.std.specs.Prelude.{nat_lt, Result, Ok, Err, IsOk, IsErr, IfOk}
-use Rattle.std.proofs.lemmas.Bool.{ltb-true, ltb-false}
+use Rattle.std.proofs.Common.{refl, arith, Bool, true, false, take, drop, take-append-drop, append_assoc, nat_lt}
+use Rattle.std.proofs.Common.{Result, Ok, Err, IsOk, IsErr, IfOk, ltb-true, ltb-false}
 use Rattle.dover_model.specs.declared.Memory.{Memory}
 use Rattle.dover_model.specs.Lines.{whole_lines}
 use Rattle.dover_model.specs.Verdict as model
-use Rattle.dover_model.proofs.Tests.{never}
+use Rattle.dover_model.proofs.lists.Tests.{never}
 use Rattle.line_text.specs.Cutting as cutting
 use Rattle.line_text.specs.Cutting.{HasCut}
-use Rattle.line_text.specs.declared.cutting.Step.TheVariants.{Line}
+use Rattle.line_text.specs.declared.cutting.ByteEffect.TheVariants.{Line}
 use Rattle.trace_judge.proofs.Texts.{wrong_line}
 use Rattle.trace_judge.specs.declared.judge.Found.TheVariants.{Good}
 use Rattle.trace_judge.specs.Reads.{Reading, Reads, Took, IsUnchangedFor, job_lines_in}

@@ -1,27 +1,20 @@
 -- The end of a trace.
-use Rattle.std.proofs.Common.{◌≡◌, ℕ, List, ◌∷◌, ap, ◌∙◌, subst, ◌++◌, map, sym, []}
-use Rattle.std.specs.Bool.{MatchBool}
-use Rattle.std.specs.List.{cons_option, fold}
+use Rattle.std.proofs.Common.{◌≡◌, ℕ, List, ◌∷◌, ap, ◌∙◌, subst, ◌++◌, map, sym, [], MatchBool, fold}
+use Rattle.std.specs.List.{cons_option}
 use Rattle.std.proofs.lemmas.List.{map-append}
 use Rattle.std.proofs.lemmas.List.Sums.{fold-append}
 use Rattle.dover_model.specs.declared.events.Event.TheVariants.{End}
-use Rattle.dover_model.specs.Instance.{Rules, Instance, IsValid}
-use Rattle.dover_model.specs.State.{State}
-use Rattle.dover_model.specs.Step.{Prints, step, open_step, after}
-use Rattle.dover_model.specs.Run.{Step, is_end, event_of, printed_of, printed, value_of_end, completed_value}
-use Rattle.dover_model.specs.Sound.{Keeps}
-use Rattle.dover_model.specs.WholeRun.{IsWholeRun}
-use Rattle.dover_model.proofs.Kept.{open_kept}
-use Rattle.dover_model.proofs.Prefixes.{step_open}
-use Rattle.dover_model.specs.Leading.{Idles, PrintsNext}
-use Rattle.dover_model.proofs.Leading.{not_end}
-use Rattle.dover_model.specs.Session.{Session, instance_of}
-use Rattle.dover_model.specs.Text.{header, text_of}
-use Rattle.dover_model.specs.Trace.{Printed, text_of_line, places_of, lines_among, texts_among, trace_lines}
-use Rattle.dover_model.proofs.PutIn.{put_in-more_steps}
+use Rattle.dover_model.specs.Common.{Rules, Instance, IsValid, State, Prints, step, open_step, after, Step, is_end}
+use Rattle.dover_model.specs.Common.{event_of, printed_of, printed, value_of_end, completed_value, Keeps, IsWholeRun}
+use Rattle.dover_model.specs.Common.{Idles, PrintsNext, Session, instance_of, header, text_of, Printed, text_of_line}
+use Rattle.dover_model.specs.Common.{places_of, lines_among, texts_among, trace_lines}
+use Rattle.dover_model.proofs.steps.Kept.{open_kept}
+use Rattle.dover_model.proofs.settled.Prefixes.{step_open}
+use Rattle.dover_model.proofs.settled.Leading.{not_end}
+use Rattle.dover_model.proofs.sessions.PutIn.{put_in-more_steps}
 use Rattle.trace_judge.specs.Reading.{Sees}
 use Rattle.trace_judge.proofs.Seeing.{sees_rest, sees_keeps}
-use Rattle.dover_model.proofs.SessionParts.{session_jobs}
+use Rattle.dover_model.proofs.sessions.SessionParts.{session_jobs}
 
 module _ (J : Instance) (valid : IsValid J) (rules : Rules) (value : ℕ) where
   -- where End is printed next, nothing else is

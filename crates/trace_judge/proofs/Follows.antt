@@ -1,7 +1,6 @@
 -- What may come next, by its parts: a refused line, and an early completion.
-use Rattle.dover_model.specs.State.{State}
-use Rattle.dover_model.specs.Session.{Session, Refused, EarlyFinish}
-use Rattle.dover_model.proofs.SessionParts.{MayBeRefused, MayFinish, may_be_refused-agrees, may_finish-agrees}
+use Rattle.dover_model.specs.Common.{State, Session, Refused, EarlyFinish}
+use Rattle.dover_model.proofs.sessions.SessionParts.{MayBeRefused, MayFinish, may_be_refused-agrees, may_finish-agrees}
 use Rattle.std.proofs.Common.{ℕ}
 use Rattle.trace_judge.specs.Reading.{MayRefuse, MayComplete}
 

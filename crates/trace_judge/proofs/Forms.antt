@@ -2,38 +2,30 @@
 use Rattle.std.proofs.Common.{◌≡◌, ℕ, ◌≤◌, List, ◌∷◌, ◌++◌, length, sym, ap, ◌∙◌, subst, Bool, true, false, arith}
 use Rattle.std.specs.Bool.{then_some}
 use Rattle.std.specs.List.{AllByRecursion, list_all, filter}
-use Rattle.dover_model.specs.JobFacts.{IsJob}
-use Rattle.dover_model.specs.Fraction.{Fraction}
-use Rattle.dover_model.specs.Numerals.{AreShort}
+use Rattle.dover_model.specs.Common.{IsJob, Fraction, AreShort, Rules, Instance, IsValid, State, is_over, is_done}
+use Rattle.dover_model.specs.Common.{value_sum, Move, Prints, Waits, Ticks, step, ending, ◌or_else◌, printed}
+use Rattle.dover_model.specs.Common.{printed_of, IsMember, Keeps, Session, instance_of, fields_of, step_numbers}
+use Rattle.dover_model.specs.Common.{PrintsNext}
 use Rattle.dover_model.specs.declared.events.Event.{Event}
 use Rattle.dover_model.specs.declared.events.Event.TheVariants.{End}
 use Rattle.dover_model.specs.declared.events.Task.{Task}
-use Rattle.dover_model.specs.Instance.{Rules, Instance, IsValid}
-use Rattle.dover_model.specs.State.{State, is_over, is_done, value_sum}
-use Rattle.dover_model.specs.Step.{Move, Prints, Waits, Ticks, step, ending, ◌or_else◌}
-use Rattle.dover_model.specs.Run.{printed, printed_of}
-use Rattle.dover_model.specs.Sound.{IsMember, Keeps}
-use Rattle.dover_model.specs.Session.{Session, instance_of}
-use Rattle.dover_model.proofs.Members.{some_same, all_at}
-use Rattle.dover_model.proofs.Deeds.{Deed, Completed, Resumed, Started, Began, Preempted, Stayed, Arrived, Taken}
-use Rattle.dover_model.proofs.Deeds.{Abandoned, Rested}
-use Rattle.dover_model.proofs.Kept.{step_deed, each_job}
-use Rattle.dover_model.proofs.Honest.{numbers_low, count_jobs}
-use Rattle.dover_model.proofs.Limiting.{jobs_most}
-use Rattle.dover_model.proofs.ShortNumbers.{printed_short}
+use Rattle.dover_model.proofs.lists.Members.{some_same, all_at}
+use Rattle.dover_model.proofs.steps.Deeds.{Deed, Completed, Resumed, Started, Began, Preempted, Stayed, Arrived, Taken}
+use Rattle.dover_model.proofs.steps.Deeds.{Abandoned, Rested}
+use Rattle.dover_model.proofs.steps.Kept.{step_deed, each_job}
+use Rattle.dover_model.proofs.runs.Honest.{numbers_low, count_jobs}
+use Rattle.dover_model.proofs.valid.Limiting.{jobs_most}
+use Rattle.dover_model.proofs.traces.ShortNumbers.{printed_short}
 use Rattle.line_text.specs.declared.traces.lines.TraceLine.{TraceLine}
 use Rattle.line_text.specs.declared.traces.lines.TraceLine.TheVariants.{Step}
 use Rattle.line_text.specs.traces.Form.{HasForm, NamesJobs, trace_text}
 use Rattle.line_text.specs.traces.Reading.{line_of_fields}
 use Rattle.line_text.proofs.traces.Spelled.{text_read}
-use Rattle.dover_model.specs.Lines.{fields_of}
-use Rattle.dover_model.specs.Text.{step_numbers}
-use Rattle.dover_model.specs.Leading.{PrintsNext}
 use Rattle.trace_judge.specs.Reading.{Sees}
-use Rattle.dover_model.proofs.Leading.{leads_passes, idles_leads, passes_keeps}
+use Rattle.dover_model.proofs.settled.Leading.{leads_passes, idles_leads, passes_keeps}
 use Rattle.trace_judge.proofs.Seeing.{sees_keeps, sees_next}
-use Rattle.dover_model.proofs.SessionParts.{session_jobs}
-use Rattle.dover_model.proofs.ValidParts.{valid_parts}
+use Rattle.dover_model.proofs.sessions.SessionParts.{session_jobs}
+use Rattle.dover_model.proofs.valid.ValidParts.{valid_parts}
 
 -- a line has one form
 pub one_form : (x y : TraceLine) → HasForm x → HasForm y → trace_text x ≡ trace_text y → x ≡ y

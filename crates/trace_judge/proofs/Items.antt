@@ -1,13 +1,11 @@
 -- Items of a session, one after another.
-use Rattle.std.proofs.Common.{ℕ, max, List, ◌∷◌, ◌++◌, sym, subst, ◌≡◌, ◌≤◌, ap, arith, []}
-use Rattle.std.proofs.lemmas.List.{append_assoc, append-nil}
-use Rattle.dover_model.specs.Instance.{Declaration, IsValid}
-use Rattle.dover_model.specs.Session.{Item, JobItem, RefusedItem, FinishItem, mark_after, instance_of}
-use Rattle.dover_model.specs.Session.{Session, IsValidSession, session_with}
-use Rattle.dover_model.proofs.Walks.{tick_of_item, Takes, takes, follows_next, jobs_append}
-use Rattle.dover_model.proofs.Growing.{Reads, reads_new}
-use Rattle.dover_model.proofs.SessionParts.{FollowsItems, session_parts, session_jobs}
-use Rattle.dover_model.proofs.ValidParts.{valid_parts}
+use Rattle.std.proofs.Common.{ℕ, max, List, ◌∷◌, ◌++◌, sym, subst, ◌≡◌, ◌≤◌, ap, arith, [], append_assoc, append-nil}
+use Rattle.dover_model.specs.Common.{Declaration, IsValid, Item, JobItem, RefusedItem, FinishItem, mark_after}
+use Rattle.dover_model.specs.Common.{instance_of, Session, IsValidSession, session_with}
+use Rattle.dover_model.proofs.sessions.Walks.{tick_of_item, Takes, takes, follows_next, jobs_append}
+use Rattle.dover_model.proofs.sessions.Growing.{Reads, reads_new}
+use Rattle.dover_model.proofs.sessions.SessionParts.{FollowsItems, session_parts, session_jobs}
+use Rattle.dover_model.proofs.valid.ValidParts.{valid_parts}
 
 -- and the other way round
 pub behind_follows : (rules : Declaration) (before : List Item) (mark : ℕ) (items more : List Item)

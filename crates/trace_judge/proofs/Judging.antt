@@ -1,48 +1,40 @@
 -- What the judge finds of a text, byte by byte.
 use Rattle.std.proofs.Common.{◌≡◌, ℕ, suc, ◌+◌, ◌-◌, ◌*◌, ◌≤◌, ◌<◌, max, min, List, [], ◌∷◌, ◌++◌, length}
 use Rattle.std.proofs.Common.{length-append, map, take, drop, refl, sym, ap, ◌∙◌, subst, Bool, true, false, cond, ◌||◌}
-use Rattle.std.proofs.Common.{◌&&◌, arith, take-append-drop}
-use Rattle.std.specs.Prelude.{nat_lt, ◌==◌, Result, Ok, Err, OnOk, OnErr, IsErr, IfOk}
-use Rattle.std.specs.List.{filter}
-use Rattle.std.proofs.lemmas.Bool.{lt-ltb}
-use Rattle.std.proofs.lemmas.List.{length-map, append_assoc}
+use Rattle.std.proofs.Common.{◌&&◌, arith, take-append-drop, nat_lt, ◌==◌, Result, Ok, Err, OnOk, OnErr, IsErr, IfOk}
+use Rattle.std.proofs.Common.{filter, lt-ltb, append_assoc}
+use Rattle.std.proofs.lemmas.List.{length-map}
 use Rattle.std.proofs.lemmas.List.Elements.{filter-append}
 use Rattle.dover_model.specs.declared.Memory.{Memory}
 use Rattle.dover_model.specs.declared.events.Event.{Event}
-use Rattle.dover_model.specs.Instance.{Declaration}
-use Rattle.dover_model.specs.Lines.{whole_lines, rest_of, is_too_long, cut}
-use Rattle.dover_model.specs.Run.{printed, completed_value}
-use Rattle.dover_model.specs.Session.{Item, JobItem, RefusedItem, FinishItem, Session, instance_of, admitted_jobs}
-use Rattle.dover_model.specs.Session.{IsValidSession}
-use Rattle.dover_model.specs.Trace.{Printed, Refuses, Placed, put_in, places_after, places_of, lines_among}
-use Rattle.dover_model.specs.Trace.{text_of_line, trace_lines}
+use Rattle.dover_model.specs.Common.{Declaration, whole_lines, rest_of, is_too_long, cut, printed, completed_value}
+use Rattle.dover_model.specs.Common.{Item, JobItem, RefusedItem, FinishItem, Session, instance_of, admitted_jobs}
+use Rattle.dover_model.specs.Common.{IsValidSession, Printed, Refuses, Placed, put_in, places_after, places_of}
+use Rattle.dover_model.specs.Common.{lines_among, text_of_line, trace_lines, bound, Fraction}
 use Rattle.dover_model.specs.Verdict as model
-use Rattle.dover_model.proofs.Beginnings.{begins_length}
-use Rattle.dover_model.proofs.Cuts.{onto, cut_append}
-use Rattle.dover_model.proofs.BoundLaws.{bound as none_worth_more}
-use Rattle.dover_model.proofs.Ending.{few_printed}
-use Rattle.dover_model.proofs.Honest.{observed_honest, observed_all}
-use Rattle.dover_model.proofs.Limiting.{items_of_lines, jobs_most, lines_most}
-use Rattle.dover_model.proofs.Named.{beginnings_pass}
-use Rattle.dover_model.proofs.Runs.{none_lost, all_value}
-use Rattle.dover_model.proofs.Tests.{never}
-use Rattle.dover_model.proofs.TraceEnds.{trace_ends}
-use Rattle.dover_model.proofs.WrongStays.{begun, Starts, wrong_verdict_stays}
+use Rattle.dover_model.proofs.lists.Beginnings.{begins_length}
+use Rattle.dover_model.proofs.texts.Cuts.{onto, cut_append}
+use Rattle.dover_model.proofs.bound.BoundLaws.{bound as none_worth_more, observed_bound}
+use Rattle.dover_model.proofs.runs.Ending.{few_printed}
+use Rattle.dover_model.proofs.runs.Honest.{observed_honest, observed_all}
+use Rattle.dover_model.proofs.valid.Limiting.{items_of_lines, jobs_most, lines_most}
+use Rattle.dover_model.proofs.traces.Named.{beginnings_pass}
+use Rattle.dover_model.proofs.runs.Runs.{none_lost, all_value}
+use Rattle.dover_model.proofs.lists.Tests.{never}
+use Rattle.dover_model.proofs.traces.TraceEnds.{trace_ends}
+use Rattle.dover_model.proofs.traces.WrongStays.{begun, Starts, wrong_verdict_stays}
 use Rattle.line_text.specs.Cutting as cutting
 use Rattle.line_text.specs.Cutting.{Cutting, with_byte, after_byte, goes_on, most_count, HasCut}
-use Rattle.line_text.specs.declared.cutting.Step.{Step}
-use Rattle.line_text.specs.declared.cutting.Step.TheVariants.{More, Line, TooLong}
-use Rattle.dover_model.proofs.Former.{no_finishes}
-use Rattle.dover_model.proofs.BoundLaws.{observed_bound}
+use Rattle.line_text.specs.declared.cutting.ByteEffect.{ByteEffect}
+use Rattle.line_text.specs.declared.cutting.ByteEffect.TheVariants.{More, Line, TooLong}
+use Rattle.dover_model.proofs.sessions.Former.{no_finishes}
 use Rattle.trace_judge.proofs.Texts.{good_text, wrong_rest, accepted_text, short_text}
 use Rattle.trace_judge.proofs.Seeing.{sees_begins, sees_not_ended}
-use Rattle.trace_judge.specs.declared.stage.Stage.{Stage}
-use Rattle.trace_judge.specs.declared.stage.Stage.TheVariants.{Opening, Going, Ended}
+use Rattle.trace_judge.specs.declared.stage.TraceStage.{TraceStage}
+use Rattle.trace_judge.specs.declared.stage.TraceStage.TheVariants.{Opening, Going, Ended}
 use Rattle.trace_judge.specs.declared.verdict.Expected.{Expected}
 use Rattle.trace_judge.specs.declared.verdict.Verdict.{Verdict}
 use Rattle.trace_judge.specs.declared.verdict.Verdict.TheVariants.{Accepted, Wrong, Short}
-use Rattle.dover_model.specs.Bound.{bound}
-use Rattle.dover_model.specs.Fraction.{Fraction}
 use Rattle.dover_model.specs.declared.events.Version.{Version}
 use Rattle.trace_judge.specs.declared.judge.Found.{Found}
 use Rattle.trace_judge.specs.declared.judge.Found.TheVariants.{Good, Wrong as Bad, NoMemory}
@@ -50,8 +42,8 @@ use Rattle.trace_judge.specs.Reads.{Reading, expected_of, Ends, Reads, is_job_li
 use Rattle.trace_judge.specs.Judging.{jobs_named, steps_told, IsGood, IsCut, StandsFor, Fed, IsOverfed, Tells, IsEarned}
 use Rattle.trace_judge.specs.Judging.{Judged, is_wrong}
 use Rattle.trace_judge.proofs.Readings.{HereBy, ends_of, reads_ahead, with_room, room_opens, room_goes, room_ends}
-use Rattle.dover_model.proofs.SessionParts.{session_parts, session_jobs}
-use Rattle.dover_model.proofs.ValidParts.{valid_parts}
+use Rattle.dover_model.proofs.sessions.SessionParts.{session_parts, session_jobs}
+use Rattle.dover_model.proofs.valid.ValidParts.{valid_parts}
 
 -- ---- a trace has few lines
 
@@ -103,22 +95,21 @@ few_lines (l ∷ ls) passes =
 -- ---- by the stage
 
 -- the trace has ended
-abbrev pub is_ended : Stage → Bool
+abbrev pub is_ended : TraceStage → Bool
 is_ended Opening = false
 is_ended Going = false
 is_ended Ended = true
 
 -- it hasn't
-pub not_ended : (s : Stage) → (s ≡ Ended → ⊥) → is_ended s ≡ false
-not_ended Opening other = refl
-not_ended Going other = refl
+pub not_ended : (s : TraceStage) → (s ≡ Ended → ⊥) → is_ended s ≡ false
 not_ended Ended other = absurd (other refl)
+not_ended _ other = refl
 
 module _ (r : Reading) (ls : List (List ℕ)) (reads : Reads r ls) where
   -- lines that are read begin a trace
   pub reads_begins : model.begins_trace ls ≡ true
   reads_begins = by_stage r.stage reads where
-    by_stage : (s : Stage) → HereBy s r ls → model.begins_trace ls ≡ true
+    by_stage : (s : TraceStage) → HereBy s r ls → model.begins_trace ls ≡ true
     by_stage Opening it = ap model.begins_trace it.lines
     by_stage Going it = sees_begins ls it.0 r.floor it.1 it.2.sees
     by_stage Ended it = beginnings_pass it.0 ls it.1.valid (
@@ -133,7 +124,7 @@ module _ (r : Reading) (ls : List (List ℕ)) (reads : Reads r ls) where
   -- and end where the stage says so
   pub reads_ends : model.ends_with_end ls ≡ is_ended r.stage
   reads_ends = by_stage r.stage reads where
-    by_stage : (s : Stage) → HereBy s r ls → model.ends_with_end ls ≡ is_ended s
+    by_stage : (s : TraceStage) → HereBy s r ls → model.ends_with_end ls ≡ is_ended s
     by_stage Opening it = ap model.ends_with_end it.lines
     by_stage Going it = sees_not_ended ls it.0 r.floor it.1 it.2.sees
     by_stage Ended it = ap model.ends_with_end it.1.lines ∙ trace_ends it.0 it.1.valid
@@ -265,7 +256,7 @@ left_false false b none = refl
 left_false true b none = never (sym none)
 
 -- the byte is cut from a text of which no line is wrong
-pub is_cut : (j : Judged) (l : Cutting) (s : Step) (byte : ℕ) (text : List ℕ) → IsGood j text
+pub is_cut : (j : Judged) (l : Cutting) (s : ByteEffect) (byte : ℕ) (text : List ℕ) → IsGood j text
     → ((bytes : List ℕ) → cutting.StandsFor j.lines bytes → cutting.StandsFor l (with_byte bytes byte)) → s ≡ l.last
     → ((bytes : List ℕ) → cutting.StandsFor j.lines bytes → is_too_long (rest_of bytes) ≡ false
     → HasCut s l.line bytes (bytes ++ byte ∷ []))
@@ -292,7 +283,7 @@ byte_keeps byte count line b = cond b (record { line = line; count = min (count 
     (record { line = line ++ byte ∷ []; count = count; last = cond (is_too_long (line ++ byte ∷ [])) TooLong More })
 
 -- and by what the last byte made of the line
-abbrev keeps_by : Cutting → ℕ → Step → Cutting
+abbrev keeps_by : Cutting → ℕ → ByteEffect → Cutting
 keeps_by c byte last = elim last [ More ↦ goes_on c.count c.line byte | Line ↦ goes_on c.count [] byte | TooLong ↦ c ]
 
 -- the byte goes on with the line
@@ -303,7 +294,7 @@ some_line c byte more = by_last c.last refl more where
   by_byte count line true ended = absurd (let clash : More ≡ Line = ended in cc)
   by_byte count line false on = omega (arith, length-append line (byte ∷ []))
 
-  by_last : (s : Step) → c.last ≡ s → More ≡ (keeps_by c byte s).last → 0 < length (keeps_by c byte s).line
+  by_last : (s : ByteEffect) → c.last ≡ s → More ≡ (keeps_by c byte s).last → 0 < length (keeps_by c byte s).line
   by_last More is on = by_byte c.count c.line (byte == 10) on
   by_last Line is on = by_byte c.count [] (byte == 10) on
   by_last TooLong is on = absurd (let clash : More ≡ TooLong = on ∙ is in cc)
@@ -394,12 +385,11 @@ same_verdict S k v value most jobs ratio version worth within count =
 -- no line of a text that is good is wrong
 pub good_not_wrong : (j : Judged) (text : List ℕ) → IsGood j text → is_wrong (model.verdict text) ≡ false
 good_not_wrong j text good = by_stage j.reader.stage refl where
-  by_stage : (s : Stage) → j.reader.stage ≡ s → is_wrong (model.verdict text) ≡ false
-  by_stage Opening is = ap is_wrong (reads_short j.reader text good.reads (ap is_ended is) good.counts)
-  by_stage Going is = ap is_wrong (reads_short j.reader text good.reads (ap is_ended is) good.counts)
+  by_stage : (s : TraceStage) → j.reader.stage ≡ s → is_wrong (model.verdict text) ≡ false
   by_stage Ended is =
       let end = ends_of j.reader (whole_lines text) is (reads_ahead j.reader (whole_lines text) good.reads) in
       ap is_wrong (reads_accepted j.reader text good.reads (ap is_ended is) good.counts end.0 end.1)
+  by_stage _ is = ap is_wrong (reads_short j.reader text good.reads (ap is_ended is) good.counts)
 
 -- nor of one that the judge stands for, where it found no wrong line
 pub stands_not_wrong : (j : Judged) (text : List ℕ) → StandsFor j text
@@ -415,17 +405,15 @@ stands_not_wrong j text stands none = by_found j.found refl stands where
 pub ends_accepted : (j : Judged) (text : List ℕ) → StandsFor j text → (S : Session)
     → model.verdict text ≡ model.Accepted S → Ends j.reader (whole_lines text) S
 ends_accepted j text stands S told = by_found j.found refl stands where
-  by_stage : IsGood j text → (s : Stage) → j.reader.stage ≡ s → Ends j.reader (whole_lines text) S
-  by_stage good Opening is = absurd (let clash : model.Short (length (whole_lines text)) ≡ model.Accepted S =
-      sym (reads_short j.reader text good.reads (ap is_ended is) good.counts) ∙ told in cc)
-  by_stage good Going is = absurd (let clash : model.Short (length (whole_lines text)) ≡ model.Accepted S =
-      sym (reads_short j.reader text good.reads (ap is_ended is) good.counts) ∙ told in cc)
+  by_stage : IsGood j text → (s : TraceStage) → j.reader.stage ≡ s → Ends j.reader (whole_lines text) S
   by_stage good Ended is =
       let end = ends_of j.reader (whole_lines text) is (reads_ahead j.reader (whole_lines text) good.reads) in
       let same : model.Accepted end.0 ≡ model.Accepted S =
       sym (reads_accepted j.reader text good.reads (ap is_ended is) good.counts end.0 end.1) ∙ told in
       let one : end.0 ≡ S = cc in
       subst (Ends j.reader (whole_lines text)) one end.1
+  by_stage good _ is = absurd (let clash : model.Short (length (whole_lines text)) ≡ model.Accepted S =
+      sym (reads_short j.reader text good.reads (ap is_ended is) good.counts) ∙ told in cc)
 
   by_found : (f : Found) → j.found ≡ f → StandsBy f j text → Ends j.reader (whole_lines text) S
   by_found Good is good = by_stage good j.reader.stage refl
@@ -452,7 +440,7 @@ steps_left j text stands (Short lines) tells other = ap (steps_told j.reader.kee
 pub room_stands : (j : Judged) (ready spare room : ℕ) (text : List ℕ) → StandsFor j text
     → StandsFor (record j { reader = with_room j.reader ready spare room }) text
 room_stands j ready spare room text stands = by_found j.found stands where
-  by_stage : (s : Stage) → HereBy s j.reader (whole_lines text)
+  by_stage : (s : TraceStage) → HereBy s j.reader (whole_lines text)
       → HereBy s (with_room j.reader ready spare room) (whole_lines text)
   by_stage Opening it = room_opens j.reader ready spare room (whole_lines text) it
   by_stage Going it = (it.0, it.1, room_goes j.reader ready spare room (whole_lines text) it.0 it.1 it.1 it.2)

@@ -1,16 +1,12 @@
 -- A text that isn't wrong has at most so many bytes.
 use Rattle.std.proofs.Common.{◌≡◌, ◌≤◌, ◌<◌, ℕ, List, ◌∷◌, ◌++◌, [], length, refl, sym, ap, ◌∙◌, Bool, true, false}
-use Rattle.std.proofs.Common.{arith, append_assoc, ◌||◌}
-use Rattle.std.specs.Prelude.{nat_lt, ◌&&◌}
-use Rattle.std.proofs.lemmas.Bool.{ltb-false}
-use Rattle.dover_model.specs.Lines.{whole_lines, rest_of, is_too_long}
-use Rattle.dover_model.specs.Trace.{trace_lines}
-use Rattle.dover_model.specs.Verdict.{Wrong, begins_trace, ends_with_end, verdict}
-use Rattle.dover_model.specs.WholeRun.{Begins}
-use Rattle.dover_model.proofs.Beginnings.{begins_onward}
-use Rattle.dover_model.proofs.Named.{beginnings_pass}
-use Rattle.dover_model.proofs.Tests.{never}
-use Rattle.dover_model.proofs.WrongStays.{begun, Starts, too_long_fails}
+use Rattle.std.proofs.Common.{arith, append_assoc, ◌||◌, nat_lt, ◌&&◌, ltb-false}
+use Rattle.dover_model.specs.Common.{whole_lines, rest_of, is_too_long, trace_lines, Wrong, begins_trace, ends_with_end}
+use Rattle.dover_model.specs.Common.{verdict, Begins}
+use Rattle.dover_model.proofs.lists.Beginnings.{begins_onward}
+use Rattle.dover_model.proofs.traces.Named.{beginnings_pass}
+use Rattle.dover_model.proofs.lists.Tests.{never}
+use Rattle.dover_model.proofs.traces.WrongStays.{begun, Starts, too_long_fails}
 use Rattle.line_text.proofs.Lengths.{AreNotTooLong, text_few}
 use Rattle.trace_judge.specs.Judging.{Judged, IsGood, StandsFor, is_wrong}
 use Rattle.trace_judge.specs.declared.judge.Found.{Found}

@@ -1,22 +1,16 @@
 -- What the text of a line names behind a session.
-use Rattle.std.proofs.Common.{sym, Option, subst}
-use Rattle.std.proofs.Common.{◌≡◌, ℕ, ◌∷◌, refl, ap, ◌∙◌, Some, None, codes}
-use Rattle.std.specs.Option.{option_or, option_and_then}
-use Rattle.dover_model.proofs.NoFeeds.{header_short}
-use Rattle.dover_model.specs.Numerals.{AreShort}
-use Rattle.dover_model.specs.Text.{header, version_number}
-use Rattle.dover_model.specs.Instance.{Declaration}
+use Rattle.std.proofs.Common.{sym, Option, subst, ◌≡◌, ℕ, ◌∷◌, refl, ap, ◌∙◌, Some, None, codes, option_and_then}
+use Rattle.std.specs.Option.{option_or}
+use Rattle.dover_model.proofs.texts.NoFeeds.{header_short}
+use Rattle.dover_model.specs.Common.{AreShort, header, version_number, Declaration, Fraction, IsRatio, ratio_with}
+use Rattle.dover_model.specs.Common.{factor_numbers, JobFacts, numbers_of, with_numbers, Session, Item, Printed}
+use Rattle.dover_model.specs.Common.{named_item, item_of}
 use Rattle.dover_model.specs.declared.factors.Factor.{Factor}
-use Rattle.dover_model.specs.Fraction.{Fraction, IsRatio, ratio_with, factor_numbers}
 use Rattle.dover_model.specs.declared.events.Event.{Event}
 use Rattle.dover_model.specs.declared.events.Event.TheVariants.{Release, Run, Preempt, Take, Complete, Abandon, End}
-use Rattle.dover_model.specs.JobFacts.{JobFacts}
-use Rattle.dover_model.specs.Lines.{numbers_of, with_numbers}
-use Rattle.dover_model.specs.Session.{Session, Item}
-use Rattle.dover_model.specs.Trace.{Printed}
-use Rattle.dover_model.specs.Verdict.{named_item, item_of, finish_from}
-use Rattle.dover_model.proofs.Early.{finish_in}
-use Rattle.dover_model.proofs.Named.{named_text, first_word}
+use Rattle.dover_model.specs.Verdict.{finish_from}
+use Rattle.dover_model.proofs.finishes.Early.{finish_in}
+use Rattle.dover_model.proofs.traces.Named.{named_text, first_word}
 use Rattle.line_text.specs.declared.traces.lines.TraceLine.{TraceLine}
 use Rattle.line_text.specs.declared.traces.lines.TraceLine.TheVariants.{Header, Step}
 use Rattle.line_text.specs.traces.Form.{HasForm, item_in, trace_text, pair_of}

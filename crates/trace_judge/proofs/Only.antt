@@ -9,47 +9,38 @@ use Rattle.std.specs.Prelude.{bytes_eq, nat_lt}
 use Rattle.std.specs.Option.{option_map_or, option_map}
 use Rattle.std.proofs.lemmas.Bool.{and_parts, ltb-true, ltb-false}
 use Rattle.std.proofs.lemmas.Slice.Eq.{bytes_eq-Decides, starts_is}
-use Rattle.dover_model.specs.WholeRun.{Begins, IsBarrier, IsSettledRun}
-use Rattle.dover_model.proofs.Beginnings.{begins_either, begins_onward}
-use Rattle.dover_model.proofs.Members.{tails, heads, some_same, all_last}
-use Rattle.dover_model.specs.Session.{Session, IsValidSession, is_valid_session, Item, JobItem, RefusedItem, FinishItem}
-use Rattle.dover_model.specs.Session.{Refused, EarlyFinish, new_session, with_named}
-use Rattle.dover_model.specs.Session.{instance_of, admitted_jobs, with_item, mark_after, IsDeclarable}
-use Rattle.dover_model.specs.Trace.{trace_lines, text_of_line, TraceLine, Printed, Refuses, lines_among}
-use Rattle.dover_model.specs.Verdict.{named_session, named_behind, named_item, begins_trace, begins_trace_of}
-use Rattle.dover_model.specs.Verdict.{rules_of}
-use Rattle.dover_model.proofs.Tests.{never}
-use Rattle.dover_model.specs.Fraction.{IsRatio}
-use Rattle.dover_model.specs.Text.{header, text_of, refused_text}
-use Rattle.dover_model.proofs.Named.{header_names, first_texts, texts_name, named_text}
-use Rattle.dover_model.proofs.Walks.{lines_append}
-use Rattle.dover_model.specs.Instance.{Declaration, IsValid, with_jobs}
-use Rattle.dover_model.proofs.Growing.{all_lines, Reads, lines_at, job_instance, reads_later, reads_job, lines_job}
-use Rattle.dover_model.proofs.Growing.{reads_refused, lines_refused, lines_of_trace, LinesName, item_in}
-use Rattle.dover_model.proofs.Growing.{with_line_named}
-use Rattle.dover_model.proofs.Growing.{one_named, Finishes, finishing_job, reads_finish, lines_finish, finish_is_named}
-use Rattle.dover_model.specs.Finishes.{Finish}
-use Rattle.dover_model.specs.JobFacts.{JobFacts}
+use Rattle.dover_model.specs.Common.{Begins, IsBarrier, IsSettledRun, Session, IsValidSession, is_valid_session, Item}
+use Rattle.dover_model.specs.Common.{JobItem, RefusedItem, FinishItem, Refused, EarlyFinish, new_session, with_named}
+use Rattle.dover_model.specs.Common.{instance_of, admitted_jobs, with_item, mark_after, IsDeclarable, trace_lines}
+use Rattle.dover_model.specs.Common.{text_of_line, TraceLine, Printed, Refuses, lines_among, named_session}
+use Rattle.dover_model.specs.Common.{named_behind, named_item, begins_trace, begins_trace_of, rules_of, IsRatio, header}
+use Rattle.dover_model.specs.Common.{text_of, refused_text, Declaration, IsValid, with_jobs, Finish, JobFacts, State}
+use Rattle.dover_model.specs.Common.{Step, printed_of, settled, settled_steps, Settles, WaitsUntil, PrintsNext}
+use Rattle.dover_model.proofs.lists.Beginnings.{begins_either, begins_onward}
+use Rattle.dover_model.proofs.lists.Members.{tails, heads, some_same, all_last}
+use Rattle.dover_model.proofs.lists.Tests.{never}
+use Rattle.dover_model.proofs.traces.Named.{header_names, first_texts, texts_name, named_text}
+use Rattle.dover_model.proofs.sessions.Walks.{lines_append}
+use Rattle.dover_model.proofs.sessions.Growing.{all_lines, Reads, lines_at, job_instance, reads_later, reads_job}
+use Rattle.dover_model.proofs.sessions.Growing.{lines_job, reads_refused, lines_refused, lines_of_trace, LinesName}
+use Rattle.dover_model.proofs.sessions.Growing.{item_in, with_line_named, one_named, Finishes, finishing_job}
+use Rattle.dover_model.proofs.sessions.Growing.{reads_finish, lines_finish, finish_is_named}
 use Rattle.dover_model.specs.declared.events.Event.{Event}
 use Rattle.dover_model.specs.declared.events.Event.TheVariants.{Release, Complete}
-use Rattle.dover_model.specs.State.{State}
-use Rattle.dover_model.specs.Run.{Step, printed_of}
-use Rattle.dover_model.specs.Settled.{settled, settled_steps}
-use Rattle.dover_model.proofs.Valid.{all_front}
-use Rattle.dover_model.proofs.TraceLines.{HasShortNumbers}
-use Rattle.dover_model.proofs.ShortNumbers.{lines_short}
-use Rattle.dover_model.proofs.Admitting.{valid_admitted}
-use Rattle.dover_model.specs.Leading.{Settles, WaitsUntil, PrintsNext}
+use Rattle.dover_model.proofs.valid.Valid.{all_front}
+use Rattle.dover_model.proofs.texts.TraceLines.{HasShortNumbers}
+use Rattle.dover_model.proofs.traces.ShortNumbers.{lines_short}
+use Rattle.dover_model.proofs.valid.Admitting.{valid_admitted}
 use Rattle.trace_judge.specs.Reading.{Sees, HasRoom, MayRelease, MayRefuse, MayComplete, release_text, completion_text}
 use Rattle.trace_judge.specs.Reading.{IsReleaseNext, IsRefusedNext, IsCompletionNext}
 use Rattle.trace_judge.proofs.Items.{behind_follows, reads_mark}
 use Rattle.trace_judge.proofs.Seeing.{sees_next_text, sees_names, sees_short}
-use Rattle.dover_model.proofs.Leading.{settled_settles}
+use Rattle.dover_model.proofs.settled.Leading.{settled_settles}
 use Rattle.trace_judge.proofs.Continuing.{settled_from_floor}
 use Rattle.trace_judge.proofs.Counts.{length-lines}
-use Rattle.dover_model.proofs.SessionParts.{session_jobs, session_declared}
-use Rattle.dover_model.proofs.SessionParts.{FollowsItems, session_parts, may_be_refused-agrees, may_finish-agrees}
-use Rattle.dover_model.proofs.ValidParts.{valid_parts}
+use Rattle.dover_model.proofs.sessions.SessionParts.{session_jobs, session_declared, FollowsItems, session_parts}
+use Rattle.dover_model.proofs.sessions.SessionParts.{may_be_refused-agrees, may_finish-agrees}
+use Rattle.dover_model.proofs.valid.ValidParts.{valid_parts}
 
 -- ---- lists
 
@@ -68,12 +59,7 @@ module _ (S : Session) (x : Item) where
         ∙ ap (fold with_line_named (new_session S.rules)) (sym it.1) ∙ names_xs in
         let more = lines_append (with_item S x) it.0 in
         let same : S.items ≡ (S.items ++ x ∷ []) ++ more.0 = ap (λ (T : Session). T.items) (sym all ∙ more.1) in
-        omega (
-          arith,
-          ap length same,
-          length-append (S.items ++ x ∷ []) more.0,
-          length-append S.items (x ∷ []),
-        ))
+        omega (arith, ap length same, length-append (S.items ++ x ∷ []) more.0, length-append S.items (x ∷ [])))
 
 -- lists that begin each other are the same
 begin_both : {X : Type 0} (xs ys : List X) → Begins xs ys → Begins ys xs → xs ≡ ys

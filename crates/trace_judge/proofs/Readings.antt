@@ -1,44 +1,31 @@
 -- What the judge keeps of the lines of a trace, line by line.
 use Rattle.std.proofs.Common.{◌≡◌, ℕ, ◌+◌, ◌*◌, ◌≤◌, ◌<◌, List, [], ◌∷◌, ◌++◌, length, min, sym, ap, ◌∙◌, subst, true}
-use Rattle.std.proofs.Common.{arith, cond}
-use Rattle.std.specs.Option.{option_map_or, option_and_then}
+use Rattle.std.proofs.Common.{arith, cond, option_and_then, Bool, false, refl, length-append, append-nil, fold}
+use Rattle.std.proofs.Common.{filter_map}
+use Rattle.std.specs.Option.{option_map_or}
 use Rattle.dover_model.specs.declared.events.Event.{Event}
-use Rattle.dover_model.specs.Instance.{Instance, Declaration}
-use Rattle.dover_model.specs.Limits.{most_items, most_ready}
-use Rattle.dover_model.specs.State.{State}
-use Rattle.dover_model.specs.Session.{Session, instance_of}
-use Rattle.dover_model.specs.Trace.{trace_lines}
+use Rattle.dover_model.specs.Common.{Instance, Declaration, most_items, most_ready, State, Session, instance_of}
+use Rattle.dover_model.specs.Common.{trace_lines, PrintsNext, begins_trace, Step, printed_of, printed, IsValid}
+use Rattle.dover_model.specs.Common.{tick_of_event, last_of, Item, with_item, admitted_jobs, job_of_item}
+use Rattle.dover_model.specs.Common.{refused_of_item, JobFacts, Idles}
 use Rattle.dover_model.specs.Verdict as model
 use Rattle.dover_model.specs.declared.events.Version.{Version}
-use Rattle.dover_model.proofs.Limiting.{items_of_lines, lines_most}
-use Rattle.dover_model.proofs.TraceEnds.{trace_ends}
-use Rattle.dover_model.specs.Leading.{PrintsNext}
-use Rattle.dover_model.proofs.Leading.{idles_append}
+use Rattle.dover_model.proofs.valid.Limiting.{items_of_lines, lines_most}
+use Rattle.dover_model.proofs.traces.TraceEnds.{trace_ends}
+use Rattle.dover_model.proofs.settled.Leading.{idles_append}
 use Rattle.trace_judge.specs.Reading.{HasRoom}
 use Rattle.admission.specs.Kept as admission
 use Rattle.trace_judge.proofs.Seeing.{sees_expects}
-use Rattle.trace_judge.specs.declared.stage.Stage.{Stage}
-use Rattle.trace_judge.specs.declared.stage.Stage.TheVariants.{Opening, Going, Ended}
+use Rattle.trace_judge.specs.declared.stage.TraceStage.{TraceStage}
+use Rattle.trace_judge.specs.declared.stage.TraceStage.TheVariants.{Opening, Going, Ended}
 use Rattle.ready_jobs.specs.Course.{Course, Follows, GoesOnFrom}
 use Rattle.trace_judge.specs.Reads.{Reading, Opens, Goes, Ends, ReadsAhead, Reads, StaysAhead, HasSpare, IsReader}
-use Rattle.trace_judge.specs.Reads.{IsUnchangedFor}
+use Rattle.trace_judge.specs.Reads.{IsUnchangedFor, Took, kept_steps}
 use Rattle.ready_jobs.proofs.Courses.{follows_room}
-use Rattle.dover_model.specs.Verdict.{begins_trace}
-use Rattle.trace_judge.specs.Reads.{Took, kept_steps}
-use Rattle.dover_model.specs.Run.{Step, printed_of, printed}
-use Rattle.std.proofs.Common.{Bool, false, refl, length-append}
-use Rattle.std.proofs.lemmas.List.{append-nil}
 use Rattle.std.proofs.lemmas.Bool.{false_from_ne_true}
-use Rattle.dover_model.specs.Instance.{IsValid}
-use Rattle.dover_model.proofs.Ending.{few_printed}
-use Rattle.std.specs.List.{fold}
+use Rattle.dover_model.proofs.runs.Ending.{few_printed}
 use Rattle.std.proofs.lemmas.List.Sums.{fold-append}
-use Rattle.dover_model.specs.Settled.{tick_of_event, last_of}
-use Rattle.dover_model.specs.Session.{Item, with_item, admitted_jobs, job_of_item, refused_of_item}
-use Rattle.dover_model.specs.JobFacts.{JobFacts}
 use Rattle.trace_judge.proofs.Continuing.{SeesWith}
-use Rattle.dover_model.specs.Leading.{Idles}
-use Rattle.std.specs.Prelude.{filter_map}
 use Rattle.std.proofs.lemmas.List.Elements.{filter_map-append}
 
 -- ---- where the run has gone on
@@ -52,7 +39,7 @@ unchanged_on old new same jobs =
 -- ---- by the stage
 
 -- what is read by a stage
-abbrev pub AheadBy : Stage → Reading → List (List ℕ) → Type 0
+abbrev pub AheadBy : TraceStage → Reading → List (List ℕ) → Type 0
 AheadBy stage r ls = elim stage [
   | Opening ↦ Opens r ls
   | Going ↦ (S : Session) × (z : State) × (y : State) × Goes r ls S z y
@@ -60,7 +47,7 @@ AheadBy stage r ls = elim stage [
 ]
 
 -- the same, where the run hasn't gone on
-abbrev pub HereBy : Stage → Reading → List (List ℕ) → Type 0
+abbrev pub HereBy : TraceStage → Reading → List (List ℕ) → Type 0
 HereBy stage r ls = elim stage [
   | Opening ↦ Opens r ls
   | Going ↦ (S : Session) × (z : State) × Goes r ls S z z
@@ -92,7 +79,7 @@ module _ (r : Reading) (ls : List (List ℕ)) where
   -- what is kept of lines is kept as well of a run that may have gone on
   pub reads_ahead : Reads r ls → ReadsAhead r ls
   reads_ahead reads = by_stage r.stage reads where
-    by_stage : (s : Stage) → HereBy s r ls → AheadBy s r ls
+    by_stage : (s : TraceStage) → HereBy s r ls → AheadBy s r ls
     by_stage Opening opens = opens
     by_stage Going it = (it.0, it.1, it.1, it.2)
     by_stage Ended it = it
@@ -299,7 +286,7 @@ module _ (r : Reading) (ready spare room : ℕ) (ls : List (List ℕ)) where
 
   pub room_ahead : ReadsAhead r ls → ReadsAhead (with_room r ready spare room) ls
   room_ahead reads = by_stage r.stage reads where
-    by_stage : (s : Stage) → AheadBy s r ls → AheadBy s (with_room r ready spare room) ls
+    by_stage : (s : TraceStage) → AheadBy s r ls → AheadBy s (with_room r ready spare room) ls
     by_stage Opening it = room_opens it
     by_stage Going it = (it.0, it.1, it.2, room_goes it.0 it.1 it.2 it.3)
     by_stage Ended it = (it.0, room_ends it.0 it.1)

@@ -1,43 +1,31 @@
 -- How the judge takes a refused line: of a job, or a done line.
-use Rattle.std.proofs.Common.{◌≡◌, ℕ, ◌+◌, ◌≤◌, ◌<◌, List, [], ◌∷◌, ◌++◌, length, refl, sym, ap, ◌∙◌}
-use Rattle.std.proofs.Common.{subst, true, false, arith, Some, None, cond}
-use Rattle.std.specs.Prelude.{◌&&◌, nat_le, is_some, filter_map}
+use Rattle.std.proofs.Common.{◌≡◌, ℕ, ◌+◌, ◌≤◌, ◌<◌, List, [], ◌∷◌, ◌++◌, length, refl, sym, ap, ◌∙◌, subst, true}
+use Rattle.std.proofs.Common.{false, arith, Some, None, cond, ◌&&◌, nat_le, is_some, filter_map, append-nil}
 use Rattle.admission.specs.Kept as admission
-use Rattle.dover_model.specs.Limits.{last_tick, most_items}
-use Rattle.dover_model.specs.JobFacts.{JobFacts, job_of_numbers}
+use Rattle.dover_model.specs.Common.{last_tick, most_items, JobFacts, job_of_numbers, Instance, State, printed_of}
+use Rattle.dover_model.specs.Common.{RefusedItem, Refused as RefusedAt, Session, instance_of, admitted_jobs, with_item}
+use Rattle.dover_model.specs.Common.{refuses_lines, is_full, refused_mark, may_finish_early, finish_at, refused_of_item}
+use Rattle.dover_model.specs.Common.{refused_text, named_item, begins_trace, Idles, WaitsUntil}
 use Rattle.dover_model.specs.declared.events.Refusal.{Refusal}
 use Rattle.dover_model.specs.declared.events.Refusal.TheVariants.{Full}
-use Rattle.dover_model.specs.Instance.{Instance}
-use Rattle.dover_model.specs.State.{State}
-use Rattle.dover_model.specs.Run.{printed_of}
-use Rattle.dover_model.specs.Session.{RefusedItem, Refused as RefusedAt, Session, instance_of, admitted_jobs, with_item}
-use Rattle.dover_model.specs.Session.{refuses_lines, is_full, refused_mark, may_finish_early, finish_at}
-use Rattle.dover_model.specs.Session.{refused_of_item}
 use Rattle.dover_model.specs.Session as session
-use Rattle.dover_model.proofs.SessionParts as parts
-use Rattle.dover_model.proofs.SessionParts.{may_be_refused-agrees}
-use Rattle.dover_model.specs.Text.{refused_text}
-use Rattle.dover_model.specs.Verdict.{named_item, begins_trace}
-use Rattle.dover_model.proofs.Growing.{refused_instance}
+use Rattle.dover_model.proofs.sessions.SessionParts as parts
+use Rattle.dover_model.proofs.sessions.SessionParts.{may_be_refused-agrees}
+use Rattle.dover_model.proofs.sessions.Growing.{refused_instance}
 use Rattle.line_text.specs.declared.traces.lines.TraceLine.TheVariants.{Refused, RefusedDone}
 use Rattle.line_text.specs.traces.Form.{HasForm, refused_job, refused_done}
-use Rattle.dover_model.specs.Leading.{Idles, WaitsUntil}
 use Rattle.trace_judge.specs.Reading.{MayRefuse}
-use Rattle.trace_judge.proofs.Continuing.{sees_refused, sees_idles}
+use Rattle.trace_judge.proofs.Continuing.{sees_refused, sees_idles, SeesWith}
 use Rattle.trace_judge.proofs.Naming.{item_named}
 use Rattle.trace_judge.proofs.Only.{only_refused}
-use Rattle.trace_judge.specs.declared.stage.Stage.TheVariants.{Going}
+use Rattle.trace_judge.specs.declared.stage.TraceStage.TheVariants.{Going}
 use Rattle.ready_jobs.specs.Course.{Follows}
-use Rattle.trace_judge.specs.Reads.{Reading, Goes, StaysAhead, IsReader, Took, Waited, at_tick}
-use Rattle.trace_judge.specs.Reads.{refusal_if_full}
+use Rattle.trace_judge.specs.Reads.{Reading, Goes, StaysAhead, IsReader, Took, Waited, at_tick, refusal_if_full}
 use Rattle.trace_judge.proofs.Causes.{full_there, refused_if_full, refused_there}
-use Rattle.trace_judge.proofs.Readings.{goes_of, reads_of, version_kept, room_kept}
-use Rattle.trace_judge.proofs.Readings.{room_left}
-use Rattle.dover_model.proofs.Tests.{never}
+use Rattle.trace_judge.proofs.Readings.{goes_of, reads_of, version_kept, room_kept, room_left, goes_none, goes_some}
+use Rattle.trace_judge.proofs.Readings.{Continues, continued_reader, item_more, no_job, kept_none}
+use Rattle.dover_model.proofs.lists.Tests.{never}
 use Rattle.trace_judge.proofs.Follows.{refused_parts}
-use Rattle.trace_judge.proofs.Continuing.{SeesWith}
-use Rattle.trace_judge.proofs.Readings.{goes_none, goes_some, Continues, continued_reader, item_more, no_job, kept_none}
-use Rattle.std.proofs.lemmas.List.{append-nil}
 
 -- no more lines are refused than there are items
 few_refused : (items : List session.Item) → length (filter_map refused_of_item items) ≤ length items

@@ -1,51 +1,38 @@
 -- How the judge takes the line of a release.
 use Rattle.std.proofs.Common.{◌≡◌, ℕ, ◌+◌, ◌*◌, ◌≤◌, ◌<◌, List, [], ◌∷◌, ◌++◌, length, length-append, refl, sym, ap}
-use Rattle.std.proofs.Common.{◌∙◌, subst, true, false, cond, arith}
-use Rattle.std.specs.Prelude.{None}
-use Rattle.std.proofs.lemmas.Bool.{leb-false}
+use Rattle.std.proofs.Common.{◌∙◌, subst, true, false, cond, arith, None, leb-false}
 use Rattle.std.proofs.lemmas.List.Elements.{filter_map-append}
 use Rattle.admission.specs.Kept as admission
-use Rattle.dover_model.specs.Instance.{Instance}
-use Rattle.dover_model.specs.Limits.{last_tick, most_items, most_ready}
-use Rattle.dover_model.specs.JobFacts.{JobFacts}
-use Rattle.dover_model.specs.Admission.{refusal_of}
+use Rattle.dover_model.specs.Common.{Instance, last_tick, most_items, most_ready, JobFacts, refusal_of, Keeps, State}
+use Rattle.dover_model.specs.Common.{printed_of, JobItem, Session, instance_of, admitted_jobs, with_item, job_of_item}
+use Rattle.dover_model.specs.Common.{text_of, begins_trace, WaitsUntil, with_fresh, is_full, ready_at}
 use Rattle.dover_model.specs.declared.events.Event.{Event}
 use Rattle.dover_model.specs.declared.events.Event.TheVariants.{Release}
-use Rattle.dover_model.specs.Sound.{Keeps}
-use Rattle.dover_model.specs.State.{State}
-use Rattle.dover_model.specs.Run.{printed_of}
-use Rattle.dover_model.specs.Session.{JobItem, Session, instance_of, admitted_jobs, with_item, job_of_item}
-use Rattle.dover_model.specs.Text.{text_of}
-use Rattle.dover_model.specs.Verdict.{begins_trace}
-use Rattle.dover_model.proofs.Admitting.{Admitted, not_refused}
-use Rattle.dover_model.proofs.Limiting.{jobs_most}
-use Rattle.dover_model.proofs.Growing.{job_instance}
+use Rattle.dover_model.proofs.valid.Admitting.{Admitted, not_refused}
+use Rattle.dover_model.proofs.valid.Limiting.{jobs_most}
+use Rattle.dover_model.proofs.sessions.Growing.{job_instance}
 use Rattle.line_text.specs.declared.traces.lines.TraceLine.TheVariants.{Step as StepLine}
 use Rattle.line_text.specs.traces.Form.{HasForm}
-use Rattle.dover_model.specs.Leading.{WaitsUntil}
 use Rattle.trace_judge.specs.Reading.{MayRelease, release_text}
-use Rattle.dover_model.specs.Ready.{with_fresh}
-use Rattle.trace_judge.proofs.Continuing.{sees_release}
+use Rattle.trace_judge.proofs.Continuing.{sees_release, SeesWith}
 use Rattle.trace_judge.proofs.Seeing.{sees_keeps, sees_rest}
 use Rattle.trace_judge.proofs.Only.{only_release}
-use Rattle.trace_judge.specs.declared.stage.Stage.TheVariants.{Going}
+use Rattle.trace_judge.specs.declared.stage.TraceStage.TheVariants.{Going}
 use Rattle.ready_jobs.specs.Course.{Course, Follows, IsCourse, with_release, fresh_job}
 use Rattle.waiting_pool.specs.Reordered.{IsReordered}
 use Rattle.waiting_pool.proofs.Reordering.{as_many}
-use Rattle.trace_judge.specs.Reads.{Reading, Goes, Reads, StaysAhead, HasSpare, IsReader, Took, Waited}
-use Rattle.trace_judge.specs.Reads.{CanRelease, at_tick}
+use Rattle.trace_judge.specs.Reads.{Reading, Goes, Reads, StaysAhead, HasSpare, IsReader, Took, Waited, CanRelease}
+use Rattle.trace_judge.specs.Reads.{at_tick}
 use Rattle.ready_jobs.proofs.Courses.{follows_count, follows_order}
 use Rattle.ready_jobs.proofs.Releasing as course
 use Rattle.trace_judge.proofs.Forms.{one_form}
-use Rattle.trace_judge.proofs.Readings.{reads_of, with_room, room_kept, room_left}
+use Rattle.trace_judge.proofs.Readings.{reads_of, with_room, room_kept, room_left, room_goes, room_for, GoesHere}
+use Rattle.trace_judge.proofs.Readings.{here_reader, goes_none, goes_some, item_more}
 use Rattle.trace_judge.proofs.Naming.{item_named}
-use Rattle.dover_model.specs.Session.{is_full, ready_at}
-use Rattle.dover_model.proofs.Tests.{never}
+use Rattle.dover_model.proofs.lists.Tests.{never}
 use Rattle.trace_judge.proofs.Completing.{ready_is}
-use Rattle.dover_model.proofs.SessionParts.{session_jobs}
-use Rattle.dover_model.proofs.JobLimits.{job_limits}
-use Rattle.trace_judge.proofs.Continuing.{SeesWith}
-use Rattle.trace_judge.proofs.Readings.{room_goes, room_for, GoesHere, here_reader, goes_none, goes_some, item_more}
+use Rattle.dover_model.proofs.sessions.SessionParts.{session_jobs}
+use Rattle.dover_model.proofs.valid.JobLimits.{job_limits}
 
 -- ---- the line alone
 

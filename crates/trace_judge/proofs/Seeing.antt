@@ -1,44 +1,38 @@
 -- What follows from what the lines of a trace so far have come to.
 use Rattle.std.proofs.Common.{◌≡◌, ℕ, ◌+◌, ◌-◌, List, ◌++◌, ap, ◌∙◌, subst, arith, ◌∷◌, length, map, refl, sym, Bool}
-use Rattle.std.proofs.Common.{[], true, false, cond}
-use Rattle.std.specs.Prelude.{Some, slice_get}
+use Rattle.std.proofs.Common.{[], true, false, cond, Some, slice_get, option_map, option_and_then, append_assoc}
 use Rattle.std.specs.List.{AllByRecursion}
 use Rattle.std.proofs.lemmas.List.Elements.{filter_map-append}
-use Rattle.std.specs.Option.{option_map, option_map_or, option_and_then}
-use Rattle.std.proofs.lemmas.List.{append_assoc, map-append, length-map}
-use Rattle.dover_model.specs.Instance.{Instance, IsValid}
-use Rattle.dover_model.specs.State.{State, opening}
-use Rattle.dover_model.specs.Run.{Step, printed_of, printed, run, last_deadline}
-use Rattle.dover_model.specs.Sound.{Keeps}
-use Rattle.dover_model.specs.WholeRun.{IsWholeRun, Begins}
-use Rattle.dover_model.specs.Session.{Session, instance_of, admitted_jobs, IsValidSession, new_session}
-use Rattle.dover_model.specs.Trace.{lines_among, texts_among, Printed, text_of_line, places_of, trace_lines}
-use Rattle.dover_model.specs.Verdict.{named_session, named_behind, Step as Due, Nothing, begins_trace, ends_with_end}
-use Rattle.dover_model.specs.Verdict.{refused_count, step_after, expected_after}
-use Rattle.dover_model.proofs.Kept.{opening_keeps, open_kept}
-use Rattle.dover_model.proofs.Ending.{potential, Ends, ends, run_is_whole}
-use Rattle.dover_model.proofs.RunLaws.{one_run}
-use Rattle.dover_model.proofs.Valid.{all_front}
-use Rattle.dover_model.proofs.PutIn.{RefusesWithin, put_in-more_steps}
-use Rattle.dover_model.proofs.Growing.{all_lines, LinesName, begins_more}
-use Rattle.dover_model.proofs.TraceLines.{HasShortNumbers}
-use Rattle.dover_model.proofs.ShortNumbers.{lines_short}
-use Rattle.dover_model.proofs.Named.{lines_name, header_names, texts_name, beginnings_pass}
-use Rattle.dover_model.specs.Leading.{Leads, Passes, PrintsNext}
-use Rattle.dover_model.specs.Step.{open_step, after}
-use Rattle.dover_model.proofs.Leading.{leads_passes, passes_keeps, leads_whole, prints_first}
+use Rattle.std.specs.Option.{option_map_or}
+use Rattle.std.proofs.lemmas.List.{map-append, length-map}
+use Rattle.dover_model.specs.Common.{Instance, IsValid, State, opening, Step, printed_of, printed, run, last_deadline}
+use Rattle.dover_model.specs.Common.{Keeps, IsWholeRun, Begins, Session, instance_of, admitted_jobs, IsValidSession}
+use Rattle.dover_model.specs.Common.{new_session, lines_among, texts_among, Printed, text_of_line, places_of}
+use Rattle.dover_model.specs.Common.{trace_lines, named_session, named_behind, Nothing, begins_trace, ends_with_end}
+use Rattle.dover_model.specs.Common.{refused_count, expected_after, Leads, Passes, PrintsNext, open_step, after, header}
+use Rattle.dover_model.specs.Common.{text_of}
+use Rattle.dover_model.specs.Verdict.{Step as Due, step_after}
+use Rattle.dover_model.proofs.steps.Kept.{opening_keeps, open_kept}
+use Rattle.dover_model.proofs.runs.Ending.{potential, Ends, ends, run_is_whole}
+use Rattle.dover_model.proofs.runs.RunLaws.{one_run}
+use Rattle.dover_model.proofs.valid.Valid.{all_front}
+use Rattle.dover_model.proofs.sessions.PutIn.{RefusesWithin, put_in-more_steps}
+use Rattle.dover_model.proofs.sessions.Growing.{all_lines, LinesName, begins_more}
+use Rattle.dover_model.proofs.texts.TraceLines.{HasShortNumbers}
+use Rattle.dover_model.proofs.traces.ShortNumbers.{lines_short}
+use Rattle.dover_model.proofs.traces.Named.{lines_name, header_names, texts_name, beginnings_pass}
+use Rattle.dover_model.proofs.settled.Leading.{leads_passes, passes_keeps, leads_whole, prints_first}
 use Rattle.dover_model.specs.declared.events.Event.{Event}
-use Rattle.dover_model.specs.Text.{header, text_of}
-use Rattle.dover_model.proofs.Members.{some_same}
-use Rattle.dover_model.proofs.Beginnings.{begins_behind, begins_map}
-use Rattle.dover_model.proofs.Readiness.{IsReady, opening_ready, open_ready}
-use Rattle.dover_model.proofs.WrongStays.{after_end_fails}
-use Rattle.dover_model.proofs.Tests.{never}
+use Rattle.dover_model.proofs.lists.Members.{some_same}
+use Rattle.dover_model.proofs.lists.Beginnings.{begins_behind, begins_map}
+use Rattle.dover_model.proofs.finishes.Readiness.{IsReady, opening_ready, open_ready}
+use Rattle.dover_model.proofs.traces.WrongStays.{after_end_fails}
+use Rattle.dover_model.proofs.lists.Tests.{never}
 use Rattle.trace_judge.specs.Reading.{Sees}
 use Rattle.trace_judge.proofs.Counts.{length-lines, get_behind}
-use Rattle.dover_model.proofs.Waiting.{next_exists}
-use Rattle.dover_model.proofs.SessionParts.{session_jobs}
-use Rattle.dover_model.proofs.ValidParts.{valid_parts}
+use Rattle.dover_model.proofs.settled.Waiting.{next_exists}
+use Rattle.dover_model.proofs.sessions.SessionParts.{session_jobs}
+use Rattle.dover_model.proofs.valid.ValidParts.{valid_parts}
 
 -- steps that pass leave no job that waits or is held at a finish
 pub passes_ready : (J : Instance) → IsValid J → (mark : ℕ) (xs : List Step) (s z : State) → Keeps J s

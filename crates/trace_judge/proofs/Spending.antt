@@ -1,8 +1,7 @@
 -- What the judging of a text costs.
-use Rattle.std.proofs.Common.{◌++◌, ℕ, List, subst, arith}
-use Rattle.std.proofs.lemmas.List.{append_assoc}
+use Rattle.std.proofs.Common.{◌++◌, ℕ, List, subst, arith, append_assoc}
 use Rattle.dover_model.specs.Spending.{CostsAtMost}
-use Rattle.dover_model.proofs.Spending.{few_more}
+use Rattle.dover_model.proofs.runs.Spending.{few_more}
 use Rattle.ready_jobs.proofs.Spending.{paid_jobs}
 use Rattle.trace_judge.specs.Judging.{Judged, Fed, HasPaidFor, PaysFor, jobs_named}
 use Rattle.trace_judge.proofs.Judging.{named_more}

@@ -1,54 +1,44 @@
 -- How the judge takes the lines of a trace.
-use Rattle.std.proofs.Common.{codes}
-use Rattle.std.proofs.Common.{◌≡◌, ℕ, suc, ◌+◌, ◌*◌, ◌≤◌, ◌<◌, max, List, [], ◌∷◌, ◌++◌, length, length-append}
-use Rattle.std.proofs.Common.{refl, sym, ap, ◌∙◌, subst, Bool, true, false, cond, arith}
-use Rattle.std.specs.Prelude.{Option, Some, None, is_some, not}
-use Rattle.std.specs.List.{filter}
+use Rattle.std.proofs.Common.{codes, ◌≡◌, ℕ, suc, ◌+◌, ◌*◌, ◌≤◌, ◌<◌, max, List, [], ◌∷◌, ◌++◌, length, length-append}
+use Rattle.std.proofs.Common.{refl, sym, ap, ◌∙◌, subst, Bool, true, false, cond, arith, Option, Some, None, is_some}
+use Rattle.std.proofs.Common.{not, filter}
 use Rattle.std.proofs.lemmas.Bool.{false_from_ne_true}
 use Rattle.trace_judge.proofs.Naming.{header_line, header_text, header_form, pair_in, ratio_back, with_text}
-use Rattle.dover_model.specs.Lines.{with_numbers}
-use Rattle.dover_model.specs.Fraction.{Fraction, IsRatio, ratio_with, factor_numbers}
+use Rattle.dover_model.specs.Common.{with_numbers, Fraction, IsRatio, ratio_with, factor_numbers, Rules, Declaration}
+use Rattle.dover_model.specs.Common.{declared_by, Instance, IsValid, State, opening, is_done, value_sum, Prints, step}
+use Rattle.dover_model.specs.Common.{open_step, after, Step, is_end, printed, printed_of, waits_for_mark, last_of}
+use Rattle.dover_model.specs.Common.{tick_of_event, Keeps, Session, instance_of, new_session, IsDeclarable, rules_with}
+use Rattle.dover_model.specs.Common.{header, text_of, version_number, begins_trace, named_item, version_of_number}
+use Rattle.dover_model.specs.Common.{Idles, GoesOn, WaitsUntil, PrintsNext, floor_after}
 use Rattle.dover_model.specs.declared.events.Event.{Event}
-use Rattle.dover_model.specs.declared.events.Event.TheVariants.{Release, Run, Preempt, Take, Complete, Abandon, End}
+use Rattle.dover_model.specs.declared.events.Event.TheVariants.{End}
 use Rattle.dover_model.specs.declared.events.Version.{Version}
-use Rattle.dover_model.specs.Instance.{Rules, Declaration, declared_by, Instance, IsValid}
-use Rattle.dover_model.specs.State.{State, opening, is_done, value_sum}
-use Rattle.dover_model.specs.Step.{Prints, step, open_step, after}
-use Rattle.dover_model.specs.Run.{Step, is_end, printed, printed_of}
-use Rattle.dover_model.specs.Settled.{waits_for_mark, last_of, tick_of_event}
-use Rattle.dover_model.specs.Sound.{Keeps}
-use Rattle.dover_model.proofs.LastSteps.{prints_clock}
-use Rattle.dover_model.proofs.Kept.{open_deed}
-use Rattle.dover_model.proofs.Prefixes.{step_open}
-use Rattle.dover_model.specs.Session.{Session, instance_of, new_session, is_declarable, IsDeclarable}
-use Rattle.dover_model.specs.Feed.{rules_with}
-use Rattle.dover_model.proofs.Members.{some_same}
-use Rattle.dover_model.specs.Text.{header, text_of, version_number}
-use Rattle.dover_model.specs.Verdict.{begins_trace, named_item, version_of_number}
-use Rattle.dover_model.proofs.TraceLines.{version_back, version_from}
-use Rattle.dover_model.proofs.Ending.{end_over}
-use Rattle.dover_model.proofs.Tests.{never}
+use Rattle.dover_model.proofs.settled.LastSteps.{prints_clock}
+use Rattle.dover_model.proofs.steps.Kept.{open_deed}
+use Rattle.dover_model.proofs.settled.Prefixes.{step_open}
+use Rattle.dover_model.specs.Session.{is_declarable}
+use Rattle.dover_model.proofs.lists.Members.{some_same}
+use Rattle.dover_model.proofs.texts.TraceLines.{version_back, version_from}
+use Rattle.dover_model.proofs.runs.Ending.{end_over}
+use Rattle.dover_model.proofs.lists.Tests.{never}
 use Rattle.line_text.specs.declared.traces.lines.TraceLine.TheVariants.{Header, Step as StepLine}
 use Rattle.line_text.specs.traces.Form.{HasForm, trace_text}
 use Rattle.admission.specs.Kept as admission
-use Rattle.dover_model.specs.Leading.{Idles, GoesOn, WaitsUntil, PrintsNext, floor_after}
-use Rattle.dover_model.proofs.Leading.{idles_settles, settles_append, settles_or_prints, prints_goes_on}
+use Rattle.dover_model.proofs.settled.Leading.{idles_settles, settles_append, settles_or_prints, prints_goes_on}
 use Rattle.trace_judge.proofs.Seeing.{sees_next}
-use Rattle.trace_judge.proofs.Continuing.{sees_step, sees_header}
+use Rattle.trace_judge.proofs.Continuing.{sees_step, sees_header, SeesWith}
 use Rattle.trace_judge.proofs.Finishing.{ended_run, ended_trace, ended_value}
 use Rattle.trace_judge.proofs.Only.{only_headers, only_step}
-use Rattle.trace_judge.specs.declared.stage.Stage.TheVariants.{Opening, Going, Ended}
+use Rattle.trace_judge.specs.declared.stage.TraceStage.TheVariants.{Opening, Going, Ended}
 use Rattle.ready_jobs.specs.Course.{Course, Follows, Settled, GoesOnFrom}
 use Rattle.trace_judge.specs.Reads.{Reading, Opens, Goes, Ends, ReadsAhead, Reads, StaysAhead, HasSpare, IsReader}
 use Rattle.trace_judge.specs.Reads.{kept_steps, Took, Followed, Waited, at_tick}
 use Rattle.ready_jobs.proofs.Courses.{new_follows, follows_count}
 use Rattle.trace_judge.proofs.Forms.{one_form, next_form}
 use Rattle.trace_judge.proofs.Readings.{goes_of, ahead_of, here_of, reads_of, opens_of, reads_ahead, next_goes}
-use Rattle.trace_judge.proofs.Readings.{spare_stays, next_ahead}
-use Rattle.dover_model.proofs.SessionParts.{session_jobs}
-use Rattle.trace_judge.proofs.Readings.{goes_along, took_none, room_for, kept_more, steps_more, last_more, Continues}
-use Rattle.trace_judge.proofs.Readings.{continued_reader}
-use Rattle.trace_judge.proofs.Continuing.{SeesWith}
+use Rattle.trace_judge.proofs.Readings.{spare_stays, next_ahead, goes_along, took_none, room_for, kept_more, steps_more}
+use Rattle.trace_judge.proofs.Readings.{last_more, Continues, continued_reader}
+use Rattle.dover_model.proofs.sessions.SessionParts.{session_jobs}
 
 -- ---- silent steps up to a tick
 
@@ -284,12 +274,7 @@ module _ (r : Reading) (opening_stage : r.stage ≡ Opening) (v p q : ℕ) (fact
 -- an event that is the last
 end_is : (e : Event) → is_end (Prints e) ≡ true → (v : ℕ) × (e ≡ End v)
 end_is (End v) is = (v, refl)
-end_is (Release n j) is = never is
-end_is (Run at n) is = never is
-end_is (Preempt at stops starts) is = never is
-end_is (Take at stops starts) is = never is
-end_is (Complete at n) is = never is
-end_is (Abandon at n) is = never is
+end_is _ is = never is
 
 -- the floor after an event, as it is computed
 floor_is : (z : State) (e : Event) (clock : ℕ) → clock ≡ z.clock

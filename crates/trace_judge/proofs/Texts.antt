@@ -1,23 +1,20 @@
 -- The verdict of a text whose lines are read one by one.
 use Rattle.std.proofs.Common.{◌≡◌, ℕ, List, ◌∷◌, refl, true, None, ◌-◌, ◌++◌, ap, ◌∙◌, false, cond, suc, length, take}
-use Rattle.std.proofs.Common.{[], arith, Some, sym, Bool}
+use Rattle.std.proofs.Common.{[], arith, Some, sym, Bool, append-nil, nat_lt, ◌&&◌, ◌||◌}
 use Rattle.std.specs.Option.{option_map_or}
-use Rattle.std.proofs.lemmas.List.{append-nil, take-append-le}
+use Rattle.std.proofs.lemmas.List.{take-append-le}
 use Rattle.std.proofs.Math.Seq.{take-length}
-use Rattle.std.specs.Prelude.{nat_lt, ◌&&◌, ◌||◌}
 use Rattle.std.proofs.lemmas.Bool.{and_right}
-use Rattle.dover_model.specs.Trace.{trace_lines}
-use Rattle.dover_model.specs.Verdict.{begins_trace, first_wrong, rest_counts, text_lines, good_verdict, wrong_verdict}
-use Rattle.dover_model.specs.Verdict.{verdict, Wrong, expected_after, ends_with_end, Accepted, Short, is_empty}
-use Rattle.dover_model.specs.Verdict.{named_session}
-use Rattle.dover_model.proofs.Beginnings.{begins_onward}
-use Rattle.dover_model.proofs.Named.{beginnings_pass, trace_names_session}
-use Rattle.dover_model.proofs.Accepting.{none_wrong}
-use Rattle.dover_model.proofs.WrongStays.{begun, Starts, next_wrong, wrong_next, too_long_fails, after_end_fails}
-use Rattle.dover_model.specs.Lines.{whole_lines, rest_of, is_too_long}
-use Rattle.dover_model.proofs.Tests.{never}
-use Rattle.dover_model.specs.Session.{Session, IsValidSession}
-use Rattle.dover_model.proofs.TraceEnds.{trace_ends}
+use Rattle.dover_model.specs.Common.{trace_lines, begins_trace, first_wrong, text_lines, good_verdict, wrong_verdict}
+use Rattle.dover_model.specs.Common.{verdict, Wrong, expected_after, ends_with_end, Accepted, is_empty, named_session}
+use Rattle.dover_model.specs.Common.{whole_lines, rest_of, is_too_long, Session, IsValidSession}
+use Rattle.dover_model.specs.Verdict.{rest_counts, Short}
+use Rattle.dover_model.proofs.lists.Beginnings.{begins_onward}
+use Rattle.dover_model.proofs.traces.Named.{beginnings_pass, trace_names_session}
+use Rattle.dover_model.proofs.traces.Accepting.{none_wrong}
+use Rattle.dover_model.proofs.traces.WrongStays.{begun, Starts, next_wrong, wrong_next, too_long_fails, after_end_fails}
+use Rattle.dover_model.proofs.lists.Tests.{never}
+use Rattle.dover_model.proofs.traces.TraceEnds.{trace_ends}
 
 -- of lines that begin a trace none is wrong
 pub begun_not_wrong : (ls : List (List ℕ)) → begins_trace ls ≡ true → first_wrong [] ls ≡ None

@@ -1,47 +1,37 @@
 -- Lines that continue no trace, and lines that continue one have a form.
-use Rattle.std.proofs.Common.{Option}
-use Rattle.std.proofs.Common.{◌≡◌, ℕ, ◌+◌, ◌≤◌, ◌<◌, ◌⊎◌, inl, inr, List, [], ◌∷◌, ◌++◌, length, sym, ap, ◌∙◌}
+use Rattle.std.proofs.Common.{Option, ◌≡◌, ℕ, ◌+◌, ◌≤◌, ◌<◌, ◌⊎◌, inl, inr, List, [], ◌∷◌, ◌++◌, length, sym, ap, ◌∙◌}
 use Rattle.std.proofs.Common.{subst, true, false, cond, arith}
-use Rattle.dover_model.specs.Fraction.{IsRatio}
+use Rattle.dover_model.specs.Common.{IsRatio, Declaration, State, Session, RefusedLine, RefusedJob, RefusedDone}
+use Rattle.dover_model.specs.Common.{instance_of, admitted_jobs, IsDeclarable, Finish, settled_state, Keeps, header}
+use Rattle.dover_model.specs.Common.{text_of, refused_text, item_of, begins_trace, ends_with_end, PrintsNext}
 use Rattle.dover_model.specs.declared.events.Event.{Event}
-use Rattle.dover_model.specs.declared.events.Event.TheVariants.{Release, Run, Preempt, Take, Complete, Abandon, End}
-use Rattle.dover_model.specs.Instance.{Declaration}
-use Rattle.dover_model.specs.State.{State}
-use Rattle.dover_model.specs.Session.{Session, RefusedLine, RefusedJob, RefusedDone, instance_of, admitted_jobs}
-use Rattle.dover_model.specs.Session.{IsDeclarable}
-use Rattle.dover_model.proofs.SessionParts as parts
-use Rattle.dover_model.specs.Finishes.{Finish}
-use Rattle.dover_model.specs.Settled.{settled_state}
-use Rattle.dover_model.specs.Sound.{Keeps}
-use Rattle.dover_model.proofs.Growing.{Finishes, finishing_job}
-use Rattle.dover_model.proofs.Barriers.{settled_at_barrier}
-use Rattle.dover_model.proofs.Honest.{numbers_low, count_jobs}
-use Rattle.dover_model.specs.Text.{header, text_of, refused_text}
-use Rattle.dover_model.specs.Verdict.{item_of, begins_trace, ends_with_end}
-use Rattle.dover_model.proofs.Admitting.{Admitted, not_refused}
-use Rattle.dover_model.proofs.Limiting.{jobs_most}
-use Rattle.dover_model.proofs.TraceEnds.{trace_ends}
-use Rattle.dover_model.proofs.WrongStays.{after_end_fails}
+use Rattle.dover_model.specs.declared.events.Event.TheVariants.{Release, Complete}
+use Rattle.dover_model.proofs.sessions.SessionParts as parts
+use Rattle.dover_model.proofs.sessions.Growing.{Finishes, finishing_job}
+use Rattle.dover_model.proofs.settled.Barriers.{settled_at_barrier}
+use Rattle.dover_model.proofs.runs.Honest.{numbers_low, count_jobs}
+use Rattle.dover_model.proofs.valid.Admitting.{Admitted, not_refused}
+use Rattle.dover_model.proofs.valid.Limiting.{jobs_most}
+use Rattle.dover_model.proofs.traces.TraceEnds.{trace_ends}
+use Rattle.dover_model.proofs.traces.WrongStays.{after_end_fails}
 use Rattle.line_text.specs.declared.traces.lines.TraceLine.{TraceLine}
 use Rattle.line_text.specs.declared.traces.lines.TraceLine.TheVariants.{Header, Step, Refused}
 use Rattle.line_text.specs.declared.traces.lines.TraceLine.TheVariants as format
 use Rattle.line_text.specs.traces.Form.{HasForm, item_in, trace_text}
-use Rattle.dover_model.specs.Leading.{PrintsNext}
 use Rattle.trace_judge.specs.Reading.{Sees, IsReleaseNext, IsRefusedNext, IsCompletionNext}
 use Rattle.trace_judge.proofs.Naming.{header_named, header_line, header_text, header_form}
 use Rattle.trace_judge.proofs.Only.{only_headers, only_step, continues_only}
 use Rattle.trace_judge.proofs.Seeing.{sees_some_next}
-use Rattle.trace_judge.specs.declared.stage.Stage.{Stage}
-use Rattle.trace_judge.specs.declared.stage.Stage.TheVariants.{Opening, Going, Ended}
+use Rattle.trace_judge.specs.declared.stage.TraceStage.{TraceStage}
+use Rattle.trace_judge.specs.declared.stage.TraceStage.TheVariants.{Opening, Going, Ended}
 use Rattle.trace_judge.specs.Reads.{Reading, Goes, Ends, Reads, Took, jobs_in, job_lines_in, is_job_item}
 use Rattle.trace_judge.proofs.Forms.{one_form, next_form}
-use Rattle.trace_judge.proofs.Readings.{HereBy, ends_of, reads_ahead}
-use Rattle.dover_model.proofs.SessionParts.{session_jobs}
+use Rattle.trace_judge.proofs.Readings.{HereBy, ends_of, reads_ahead, took_none, goes_none}
+use Rattle.dover_model.proofs.sessions.SessionParts.{session_jobs}
 use Rattle.trace_judge.proofs.Follows.{refused_parts, finish_parts}
-use Rattle.dover_model.proofs.ValidParts.{valid_parts}
-use Rattle.dover_model.proofs.JobLimits.{job_limits}
-use Rattle.trace_judge.proofs.Readings.{took_none, goes_none}
-use Rattle.dover_model.proofs.Tests.{never}
+use Rattle.dover_model.proofs.valid.ValidParts.{valid_parts}
+use Rattle.dover_model.proofs.valid.JobLimits.{job_limits}
+use Rattle.dover_model.proofs.lists.Tests.{never}
 
 -- behind the end no line continues the trace
 ended_fails : (r : Reading) (ls : List (List ℕ)) (S : Session) → Ends r ls S → (l : List ℕ)
@@ -141,7 +131,7 @@ unread_fails w l none ls reads = by_stage w.stage reads where
   by_line S z goes e y next (inr (inr (inr it))) =
       let form = completion_form ls S w.floor z l goes.sees it in none form.0 form.1 form.2
 
-  by_stage : (s : Stage) → HereBy s w ls → begins_trace (ls ++ l ∷ []) ≡ true → ⊥
+  by_stage : (s : TraceStage) → HereBy s w ls → begins_trace (ls ++ l ∷ []) ≡ true → ⊥
   by_stage Opening opens passes =
       let it : (rules : Declaration) × IsRatio rules.ratio × IsDeclarable rules × (l ≡ header rules) =
       only_headers l (subst (λ xs. begins_trace (xs ++ l ∷ []) ≡ true) opens.lines passes) in
@@ -160,13 +150,5 @@ unread_took w l none = took_none w w l (λ ls reads. reads) (unread_fails w l no
 
 -- a line that was read as a release names a job
 pub jobs_counted : (x : TraceLine) (l : List ℕ) → item_of l ≡ item_in x → jobs_in x ≤ job_lines_in l
-jobs_counted (Header v p q factor) l is = omega arith
 jobs_counted (Step (Release n j)) l is = subst (λ o. 1 ≤ cond (is_job_item o) 1 0) (sym is) (omega arith)
-jobs_counted (Step (Run at n)) l is = omega arith
-jobs_counted (Step (Preempt at stops starts)) l is = omega arith
-jobs_counted (Step (Take at stops starts)) l is = omega arith
-jobs_counted (Step (Complete at n)) l is = omega arith
-jobs_counted (Step (Abandon at n)) l is = omega arith
-jobs_counted (Step (End value)) l is = omega arith
-jobs_counted (Refused at r c d v cause) l is = omega arith
-jobs_counted (format.RefusedDone at tick number) l is = omega arith
+jobs_counted _ l is = omega arith

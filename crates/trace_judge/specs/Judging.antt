@@ -1,23 +1,15 @@
 -- What the judge keeps of a text, and what it says of it.
-use Rattle.std.specs.Prelude.{◌≡◌, ◌≤◌, ◌<◌, ◌+◌, ℕ, List, [], ◌++◌, length, Bool, true, false}
-use Rattle.std.specs.Prelude.{Result, Ok, Err}
-use Rattle.std.specs.List.{filter}
+use Rattle.std.specs.Prelude.{◌≡◌, ◌≤◌, ◌<◌, ◌+◌, ℕ, List, [], ◌++◌, length, Bool, true, false, Result, Ok, Err, filter}
+use Rattle.std.specs.Prelude.{sum_by}
 use Rattle.dover_model.specs.declared.Memory.{Memory}
 use Rattle.dover_model.specs.declared.events.Event.{Event}
-use Rattle.std.specs.List.{sum_by}
-use Rattle.dover_model.specs.Bound.{IsWithin, bound}
-use Rattle.dover_model.specs.Fraction.{Fraction}
-use Rattle.dover_model.specs.Schedules.{Meets, worth}
-use Rattle.dover_model.specs.Run.{run, printed, ran, completed_value}
-use Rattle.dover_model.specs.Sound.{Each}
-use Rattle.dover_model.specs.Underload.{takes_or_abandons}
-use Rattle.dover_model.specs.Session.{Session, IsValidSession, instance_of, admitted_jobs, may_finish_early}
-use Rattle.dover_model.specs.Observed.{observed}
-use Rattle.dover_model.specs.Lines.{whole_lines}
+use Rattle.dover_model.specs.Common.{IsWithin, bound, Fraction, Meets, worth, run, printed, ran, completed_value, Each}
+use Rattle.dover_model.specs.Common.{takes_or_abandons, Session, IsValidSession, instance_of, admitted_jobs}
+use Rattle.dover_model.specs.Common.{may_finish_early, observed, whole_lines}
 use Rattle.dover_model.specs.Verdict as model
 use Rattle.line_text.specs.Cutting as cutting
 use Rattle.line_text.specs.Cutting.{Cutting}
-use Rattle.line_text.specs.declared.cutting.Step.{Step}
+use Rattle.line_text.specs.declared.cutting.ByteEffect.{ByteEffect}
 use Rattle.trace_judge.specs.declared.verdict.Verdict.{Verdict}
 use Rattle.trace_judge.specs.declared.verdict.Verdict.TheVariants.{Accepted, Wrong, Short}
 use Rattle.trace_judge.specs.declared.judge.Found.{Found}
@@ -89,7 +81,7 @@ Notes old new (Ok false) = Misses old new old.lines.count
 Notes old new (Err e) = new ≡ record old { found = NoMemory }
 
 -- no line before the last byte was wrong, and this is kept of the bytes before it and cut with it
-pub record IsCut (j : Judged) (step : Step) (before text : List ℕ) : Type 0 where
+pub record IsCut (j : Judged) (step : ByteEffect) (before text : List ℕ) : Type 0 where
   pub cut : cutting.StandsFor j.lines text
   pub last : j.lines.last ≡ step
   pub parts : cutting.HasCut step j.lines.line before text

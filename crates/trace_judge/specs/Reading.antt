@@ -1,20 +1,12 @@
 -- What the lines of a trace so far have come to, and which line may come next.
 use Rattle.std.specs.Prelude.{◌≡◌, ◌≤◌, ◌<◌, ◌+◌, ℕ, List, length, false, Some, None, IsTrue}
 use Rattle.std.specs.List.{AllByRecursion}
-use Rattle.dover_model.specs.State.{State, opening, is_coming}
-use Rattle.dover_model.specs.Run.{Step, printed_of}
-use Rattle.dover_model.specs.Sound.{Each}
-use Rattle.dover_model.specs.Settled.{settled}
-use Rattle.dover_model.specs.Session.{Session, instance_of, admitted_jobs, IsValidSession, mark_after, Refused}
-use Rattle.dover_model.specs.Session.{may_be_refused, may_finish, EarlyFinish, is_full}
-use Rattle.dover_model.specs.Trace.{places_of, texts_among}
-use Rattle.dover_model.specs.Verdict.{named_session}
-use Rattle.dover_model.specs.Leading.{Leads, WaitsUntil}
-use Rattle.dover_model.specs.Limits.{most_items}
-use Rattle.dover_model.specs.JobFacts.{JobFacts}
-use Rattle.dover_model.specs.Admission.{refusal_of}
+use Rattle.dover_model.specs.Common.{State, opening, is_coming, Step, printed_of, Each, settled, Session, instance_of}
+use Rattle.dover_model.specs.Common.{admitted_jobs, IsValidSession, mark_after, Refused, may_be_refused, EarlyFinish}
+use Rattle.dover_model.specs.Common.{is_full, places_of, texts_among, named_session, Leads, WaitsUntil, most_items}
+use Rattle.dover_model.specs.Common.{JobFacts, refusal_of, text_of, refused_text}
+use Rattle.dover_model.specs.Session.{may_finish}
 use Rattle.dover_model.specs.declared.events.Event.TheVariants.{Release, Complete}
-use Rattle.dover_model.specs.Text.{text_of, refused_text}
 
 -- The lines begin the trace of the valid session that they name. The steps printed among them lead to the state z, in
 -- which no job is to come.

@@ -1,33 +1,24 @@
 -- What the judge keeps of the lines of a trace.
-use Rattle.std.specs.Prelude.{◌≡◌, ◌≤◌, ◌+◌, ◌*◌, ℕ, List, [], ◌∷◌, ◌++◌, length, min, Bool, true, false}
-use Rattle.std.specs.Prelude.{if◌then◌else◌}
+use Rattle.std.specs.Prelude.{◌≡◌, ◌≤◌, ◌+◌, ◌*◌, ℕ, List, [], ◌∷◌, ◌++◌, length, min, Bool, true, false, if◌then◌else◌}
 use Rattle.std.specs.Prelude.{Option, Some, None, nat_lt, ◌==◌}
 use Rattle.std.specs.Bool.{then_some}
 use Rattle.std.specs.Option.{option_or}
 use Rattle.admission.specs.Kept as admission
-use Rattle.dover_model.specs.Limits.{most_ready, last_tick}
-use Rattle.dover_model.specs.JobFacts.{JobFacts}
+use Rattle.dover_model.specs.Common.{most_ready, last_tick, JobFacts, State, Step, printed, printed_of, completed_value}
+use Rattle.dover_model.specs.Common.{Item, JobItem, Session, instance_of, admitted_jobs, IsValidSession, EarlyFinish}
+use Rattle.dover_model.specs.Common.{finish_at, may_finish_early, late_refusal, refusal_of, Declaration, text_of}
+use Rattle.dover_model.specs.Common.{last_of, trace_lines, Idles, GoesOn, WaitsUntil}
 use Rattle.dover_model.specs.declared.events.Event.{Event}
-use Rattle.dover_model.specs.State.{State}
-use Rattle.dover_model.specs.Run.{Step, printed, printed_of, completed_value}
-use Rattle.dover_model.specs.Session.{Item, JobItem, Session, instance_of, admitted_jobs, IsValidSession}
-use Rattle.dover_model.specs.Session.{EarlyFinish, finish_at, may_finish_early, late_refusal}
-use Rattle.dover_model.specs.Admission.{refusal_of}
-use Rattle.dover_model.specs.Instance.{Declaration}
 use Rattle.dover_model.specs.declared.events.Refusal.{Refusal}
 use Rattle.dover_model.specs.declared.events.Refusal.TheVariants.{Full}
-use Rattle.dover_model.specs.Text.{text_of}
-use Rattle.dover_model.specs.Settled.{last_of}
-use Rattle.dover_model.specs.Trace.{trace_lines}
 use Rattle.dover_model.specs.Verdict as model
 use Rattle.dover_model.specs.declared.events.Task.{Task}
 use Rattle.dover_model.specs.declared.events.Event.TheVariants.{Release}
 use Rattle.line_text.specs.declared.traces.lines.TraceLine.{TraceLine}
 use Rattle.line_text.specs.declared.traces.lines.TraceLine.TheVariants as format
-use Rattle.dover_model.specs.Leading.{Idles, GoesOn, WaitsUntil}
 use Rattle.trace_judge.specs.Reading.{Sees, HasRoom, MayRelease, MayComplete}
-use Rattle.trace_judge.specs.declared.stage.Stage.{Stage}
-use Rattle.trace_judge.specs.declared.stage.Stage.TheVariants.{Opening, Going, Ended}
+use Rattle.trace_judge.specs.declared.stage.TraceStage.{TraceStage}
+use Rattle.trace_judge.specs.declared.stage.TraceStage.TheVariants.{Opening, Going, Ended}
 use Rattle.trace_judge.specs.declared.verdict.Expected.{Expected}
 use Rattle.trace_judge.specs.declared.verdict.Expected.TheVariants.{Header, Step as Due, Nothing}
 use Rattle.ready_jobs.specs.Course.{Course, Follows, new_course}
@@ -37,7 +28,7 @@ use Rattle.ready_jobs.specs.Spending.{HasPaidSince}
 -- floor, the steps where they are asked for, for how many jobs more there is room, and for how many steps in all, how
 -- many lines were refused, and the tick of the last printed step
 pub record Reading : Type 0 where
-  pub stage : Stage
+  pub stage : TraceStage
   pub course : Course
   pub kept : admission.Kept
   pub items : ℕ

@@ -2,22 +2,22 @@
 ghost use Rattle.std.specs.Prelude.{◌≡◌, ◌≤◌, ◌<◌, ◌+◌, ◌∷◌, [], ℕ, List, false, true, Bool, IfOk, OnOk, OnErr, IsOk};
 ghost use Rattle.std.specs.Prelude.{◌≢◌, ◌↔◌, IsTrue, length, take, IsErr};
 ghost use Rattle.dover_model.specs.Verdict as model;
-ghost use Rattle.line_text.specs.declared.cutting.Step.TheVariants.{More, Line, TooLong};
+ghost use Rattle.line_text.specs.declared.cutting.ByteEffect.TheVariants.{More, Line, TooLong};
 ghost use Rattle.line_text.specs.Cutting.{IsWholeLine};
 ghost use Rattle.trace_judge.specs.declared.judge.Found.TheVariants.{Good, NoMemory};
 ghost use Rattle.trace_judge.specs.Reads.{job_lines_in, IsUnchangedFor, IsPaid};
 ghost use Rattle.trace_judge.specs.Judging.{StandsFor, Fed, IsOverfed, IsCut, Tells, keeps, steps_told, is_wrong};
 ghost use Rattle.trace_judge.specs.Judging.{Misses, Notes, HasPaidFor, PaysFor};
 
-use crate::reader::Reader;
-use crate::stage::Stage;
+use crate::reader::TraceReader;
+use crate::stage::TraceStage;
 use crate::verdict::{Expected, Verdict};
+use comparison_count::Comparisons;
 use dover_model::{Memory, PackedEvent};
-use line_text::{Lines, Step};
+use line_text::{ByteEffect, Lines};
 use std::alloc::Global;
 use std::marker::Model;
 use std::sync::ledger::Ledger;
-use step_count::Steps;
 
 /// What was found of the text so far.
 #[derive(Clone, Copy)]
@@ -35,7 +35,7 @@ pub enum Found {
 #[derive(Drop)]
 pub struct Judge {
     lines: Lines,
-    reader: Reader,
+    reader: TraceReader,
     found: Found,
 }
 
@@ -72,7 +72,7 @@ impl Judge {
     {
         Ok(Judge {
             lines: Lines::new(),
-            reader: Reader::new(alloc, keep)?,
+            reader: TraceReader::new(alloc, keep)?,
             found: Found::Good,
         })
     }
@@ -121,7 +121,7 @@ impl Judge {
         ensures stands { (before text : List ℕ) → IsCut self.old More before text → StandsFor self.new text }
         ensures reader { self.new.reader ≡ self.old.reader }
     {
-        if matches!(self.reader.stage(), Stage::Ended) {
+        if matches!(self.reader.stage(), TraceStage::Ended) {
             self.found = Found::Wrong {
                 line: self.lines.count().saturating_add(1),
                 expected: Expected::Nothing,
@@ -131,26 +131,26 @@ impl Judge {
 
     // The line of this number is wrong.
     #[inline(never)]
-    fn miss<L: Ledger>(&mut self, line: u64, steps: &mut Steps<L>)
+    fn miss<L: Ledger>(&mut self, line: u64, comparisons: &mut Comparisons<L>)
         ensures missed { Misses self.old self.new line }
         ensures kept { IsUnchangedFor self.old.reader self.new.reader }
-        ensures paid { (start : ℕ) → IsPaid self.old.reader start steps.old →
-            IsPaid self.new.reader start steps.new }
+        ensures paid { (start : ℕ) → IsPaid self.old.reader start comparisons.old →
+            IsPaid self.new.reader start comparisons.new }
     {
-        let expected = self.reader.due(steps);
+        let expected = self.reader.due(comparisons);
         self.found = Found::Wrong { line, expected };
     }
 
     // The line is too long.
-    fn overrun<L: Ledger>(&mut self, steps: &mut Steps<L>)
+    fn overrun<L: Ledger>(&mut self, comparisons: &mut Comparisons<L>)
         requires good { self.old.found ≡ Good }
         ensures stands { (before text : List ℕ) → IsCut self.old TooLong before text → StandsFor self.new text }
         ensures kept { IsUnchangedFor self.old.reader self.new.reader }
-        ensures paid { (start : ℕ) → IsPaid self.old.reader start steps.old →
-            IsPaid self.new.reader start steps.new }
+        ensures paid { (start : ℕ) → IsPaid self.old.reader start comparisons.old →
+            IsPaid self.new.reader start comparisons.new }
     {
         let line = self.lines.count().saturating_add(1);
-        self.miss(line, steps);
+        self.miss(line, comparisons);
     }
 
     // A line has ended and was counted, and this was told of it.
@@ -158,15 +158,15 @@ impl Judge {
     fn note<L: Ledger>(
         &mut self,
         taken: Result<bool, Memory>,
-        steps: &mut Steps<L>,
+        comparisons: &mut Comparisons<L>,
     ) -> Result<(), Memory>
         ensures notes { Notes self.old self.new taken }
         ensures kept { IsUnchangedFor self.old.reader self.new.reader }
         ensures ok { OnOk result (IsOk taken) }
         ensures err { OnErr result (IsErr taken) }
         ensures failed { OnErr result (self.new.found ≡ NoMemory) }
-        ensures paid { (start : ℕ) → IsPaid self.old.reader start steps.old →
-            IsPaid self.new.reader start steps.new }
+        ensures paid { (start : ℕ) → IsPaid self.old.reader start comparisons.old →
+            IsPaid self.new.reader start comparisons.new }
     {
         let Ok(good) = taken else {
             self.found = Found::NoMemory;
@@ -176,12 +176,12 @@ impl Judge {
             return Ok(());
         }
         let line = self.lines.count();
-        self.miss(line, steps);
+        self.miss(line, comparisons);
         Ok(())
     }
 
     // The line that is kept has ended.
-    fn take_line<L: Ledger>(&mut self, steps: &mut Steps<L>) -> Result<(), Memory>
+    fn take_line<L: Ledger>(&mut self, comparisons: &mut Comparisons<L>) -> Result<(), Memory>
         requires good { self.old.found ≡ Good }
         requires line { self.old.lines.last ≢ More }
         ensures stands { OnOk result
@@ -192,48 +192,60 @@ impl Judge {
         ensures failed { OnErr result (self.new.found ≡ NoMemory) }
         ensures jobs { self.new.reader.course.jobs
             ≤ self.old.reader.course.jobs + job_lines_in self.old.lines.line }
-        ensures paid { (start : ℕ) → IsPaid self.old.reader start steps.old →
-            IsPaid self.new.reader start steps.new }
+        ensures paid { (start : ℕ) → IsPaid self.old.reader start comparisons.old →
+            IsPaid self.new.reader start comparisons.new }
     {
-        let taken = self.reader.take(self.lines.line(), steps);
-        self.note(taken, steps)
+        let taken = self.reader.take(self.lines.line(), comparisons);
+        self.note(taken, comparisons)
     }
 
     // The next bytes are a whole line, where no line has begun and none is wrong so far. It is read where it stands.
     #[inline(always)]
-    fn take_whole<L: Ledger>(&mut self, bytes: &[u8], steps: &mut Steps<L>) -> Result<(), Memory>
+    fn take_whole<L: Ledger>(
+        &mut self,
+        bytes: &[u8],
+        comparisons: &mut Comparisons<L>,
+    ) -> Result<(), Memory>
         requires good { self.old.found ≡ Good }
         requires whole { IsWholeLine self.old.lines bytes.now }
         ensures fed { OnOk result (Fed self.old self.new bytes.now) }
         ensures room { OnErr result (IsOverfed self.old bytes.now) }
         ensures failed { OnErr result (self.new.found ≡ NoMemory) }
-        ensures paid { PaysFor self.old self.new bytes.now steps.old steps.new }
+        ensures paid { PaysFor self.old self.new bytes.now comparisons.old comparisons.new }
     {
         let line = self.lines.pass(bytes);
-        let taken = self.reader.take(line, steps);
-        self.note(taken, steps)
+        let taken = self.reader.take(line, comparisons);
+        self.note(taken, comparisons)
     }
 
     // The next byte, where no line is wrong so far.
     #[inline(never)]
-    fn take_byte<L: Ledger>(&mut self, byte: u8, steps: &mut Steps<L>) -> Result<(), Memory>
+    fn take_byte<L: Ledger>(
+        &mut self,
+        byte: u8,
+        comparisons: &mut Comparisons<L>,
+    ) -> Result<(), Memory>
         requires good { self.old.found ≡ Good }
         ensures fed { OnOk result (Fed self.old self.new (byte ∷ [])) }
         ensures room { OnErr result (IsOverfed self.old (byte ∷ [])) }
         ensures failed { OnErr result (self.new.found ≡ NoMemory) }
-        ensures paid { PaysFor self.old self.new (byte ∷ []) steps.old steps.new }
+        ensures paid { PaysFor self.old self.new (byte ∷ []) comparisons.old comparisons.new }
     {
         match self.lines.push(byte) {
-            Step::Line => return self.take_line(steps),
-            Step::More => self.go_on(),
-            Step::TooLong => self.overrun(steps),
+            ByteEffect::Line => return self.take_line(comparisons),
+            ByteEffect::More => self.go_on(),
+            ByteEffect::TooLong => self.overrun(comparisons),
         }
         Ok(())
     }
 
     // The first of the bytes, where no line is wrong so far: a whole line, or one byte. Answers how many.
     #[inline(always)]
-    fn take_front<L: Ledger>(&mut self, bytes: &[u8], steps: &mut Steps<L>) -> Result<usize, Memory>
+    fn take_front<L: Ledger>(
+        &mut self,
+        bytes: &[u8],
+        comparisons: &mut Comparisons<L>,
+    ) -> Result<usize, Memory>
         requires some { 0 < length bytes.now }
         requires good { self.old.found ≡ Good }
         ensures fed { IfOk result (λ count. Fed self.old self.new (take count bytes.now)) }
@@ -241,32 +253,38 @@ impl Judge {
         ensures within { IfOk result (λ count. count ≤ length bytes.now) }
         ensures room { OnErr result (IsOverfed self.old bytes.now) }
         ensures failed { OnErr result (self.new.found ≡ NoMemory) }
-        ensures paid { IfOk result (λ count. PaysFor self.old self.new (take count bytes.now) steps.old steps.new) }
-        ensures spent { OnErr result (PaysFor self.old self.new bytes.now steps.old steps.new) }
+        ensures paid { IfOk result (λ count. PaysFor self.old self.new (take count bytes.now) comparisons.old
+            comparisons.new) }
+        ensures spent { OnErr result (PaysFor self.old self.new bytes.now comparisons.old comparisons.new) }
     {
         let count = self.lines.front(bytes);
         if count > 1 {
-            self.take_whole(&bytes[..count], steps)?;
+            self.take_whole(&bytes[..count], comparisons)?;
             return Ok(count);
         }
-        self.take_byte(bytes[0], steps)?;
+        self.take_byte(bytes[0], comparisons)?;
         Ok(1)
     }
 
     // The first of the bytes. Behind a wrong line all are disregarded. Answers how many.
     #[inline(always)]
-    fn take<L: Ledger>(&mut self, bytes: &[u8], steps: &mut Steps<L>) -> Result<usize, Memory>
+    fn take<L: Ledger>(
+        &mut self,
+        bytes: &[u8],
+        comparisons: &mut Comparisons<L>,
+    ) -> Result<usize, Memory>
         requires some { 0 < length bytes.now }
         ensures fed { IfOk result (λ count. Fed self.old self.new (take count bytes.now)) }
         ensures some { IfOk result (λ count. 1 ≤ count) }
         ensures within { IfOk result (λ count. count ≤ length bytes.now) }
         ensures room { OnErr result (IsOverfed self.old bytes.now) }
         ensures failed { OnErr result (self.new.found ≡ NoMemory) }
-        ensures paid { IfOk result (λ count. PaysFor self.old self.new (take count bytes.now) steps.old steps.new) }
-        ensures spent { OnErr result (PaysFor self.old self.new bytes.now steps.old steps.new) }
+        ensures paid { IfOk result (λ count. PaysFor self.old self.new (take count bytes.now) comparisons.old
+            comparisons.new) }
+        ensures spent { OnErr result (PaysFor self.old self.new bytes.now comparisons.old comparisons.new) }
     {
         match self.found {
-            Found::Good => self.take_front(bytes, steps),
+            Found::Good => self.take_front(bytes, comparisons),
             Found::Wrong { .. } => Ok(bytes.len()),
             Found::NoMemory => Err(Memory),
         }
@@ -277,12 +295,16 @@ impl Judge {
     /// # Errors
     ///
     /// `Memory` where there is none for a job that the piece names, or `feed` answered it before.
-    pub fn feed<L: Ledger>(&mut self, piece: &[u8], steps: &mut Steps<L>) -> Result<(), Memory>
+    pub fn feed<L: Ledger>(
+        &mut self,
+        piece: &[u8],
+        comparisons: &mut Comparisons<L>,
+    ) -> Result<(), Memory>
         ensures fed { OnOk result (Fed self.old self.new piece.now) }
         ensures room { OnErr result (IsOverfed self.old piece.now) }
         ensures failed { OnErr result (self.new.found ≡ NoMemory) }
         ensures stays { OnOk result (self.old.found ≢ NoMemory) }
-        ensures paid { PaysFor self.old self.new piece.now steps.old steps.new }
+        ensures paid { PaysFor self.old self.new piece.now comparisons.old comparisons.new }
         ensures decided { (text : List ℕ) → StandsFor self.old text → is_wrong (model.verdict text) ≡ true
             → IsOk result }
     {
@@ -293,7 +315,7 @@ impl Judge {
         }
         let mut rest = piece;
         while !rest.is_empty() {
-            let count = self.take(rest, steps)?;
+            let count = self.take(rest, comparisons)?;
             rest = &rest[count..];
         }
         Ok(())
@@ -325,11 +347,11 @@ impl Judge {
         ensures { (text : List ℕ) → StandsFor self.now text → Tells result text }
     {
         match self.reader.stage() {
-            Stage::Ended => self.reader.accepted(),
-            Stage::Opening => Verdict::Short {
+            TraceStage::Ended => self.reader.accepted(),
+            TraceStage::Opening => Verdict::Short {
                 lines: self.lines.count(),
             },
-            Stage::Going => Verdict::Short {
+            TraceStage::Going => Verdict::Short {
                 lines: self.lines.count(),
             },
         }

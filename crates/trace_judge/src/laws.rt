@@ -2,11 +2,7 @@
 //! function that does nothing.
 ghost use Rattle.std.specs.Prelude.{◌≡◌, ◌⊎◌, ◌∷◌, ◌++◌, [], ℕ, List, true};
 ghost use Rattle.dover_model.specs.declared.events.Event.{Event};
-ghost use Rattle.dover_model.specs.Session.{Session, instance_of};
-ghost use Rattle.dover_model.specs.State.{State};
-ghost use Rattle.dover_model.specs.Text.{text_of};
-ghost use Rattle.dover_model.specs.Verdict.{begins_trace};
-ghost use Rattle.dover_model.specs.Leading.{PrintsNext};
+ghost use Rattle.dover_model.specs.Common.{Session, instance_of, State, text_of, begins_trace, PrintsNext};
 ghost use Rattle.trace_judge.specs.Reading.{Sees, IsReleaseNext, IsRefusedNext, IsCompletionNext};
 
 /// Lines that are seen begin a trace, and some step is printed next.

@@ -1,18 +1,18 @@
 //! The lines of a trace, by their forms.
 ghost use Rattle.std.specs.Prelude.{◌≡◌, ◌≤◌, ◌+◌, ℕ, IfOk, IsOk};
 
-use crate::reader::Reader;
-use crate::stage::Stage;
+use crate::reader::TraceReader;
+use crate::stage::TraceStage;
+use comparison_count::Comparisons;
 use dover_model::{Event, Memory};
 use line_text::traces::{TraceLine, read_trace_line};
 use std::sync::ledger::Ledger;
-use step_count::Steps;
 
-impl Reader {
+impl TraceReader {
     ghost use Rattle.dover_model.specs.Text.{text_of};
     ghost use Rattle.line_text.specs.declared.traces.lines.TraceLine.TheVariants.{Step};
     ghost use Rattle.line_text.specs.traces.Form.{HasForm, trace_text};
-    ghost use Rattle.trace_judge.specs.declared.stage.Stage.TheVariants.{Opening, Going};
+    ghost use Rattle.trace_judge.specs.declared.stage.TraceStage.TheVariants.{Opening, Going};
     ghost use Rattle.trace_judge.specs.Reads.{Took, IsUnchangedFor, IsPaid, releases_in, jobs_in, job_lines_in};
 
     // The first line: a header.
@@ -38,7 +38,11 @@ impl Reader {
 
     // A line of a step.
     #[inline(always)]
-    fn take_step<L: Ledger>(&mut self, event: &Event, steps: &mut Steps<L>) -> Result<bool, Memory>
+    fn take_step<L: Ledger>(
+        &mut self,
+        event: &Event,
+        comparisons: &mut Comparisons<L>,
+    ) -> Result<bool, Memory>
         requires going { self.old.stage ≡ Going }
         requires form { HasForm (Step event.now) }
         ensures took { IfOk result (Took self.old self.new (text_of event.now)) }
@@ -46,13 +50,13 @@ impl Reader {
         ensures spare { self.old.spare ≤ self.new.spare + releases_in event.now }
         ensures keep { self.new.keep ≡ self.old.keep }
         ensures jobs { self.new.course.jobs ≤ self.old.course.jobs + releases_in event.now }
-        ensures paid { (start : ℕ) → IsPaid self.old start steps.old →
-            IsPaid self.new start steps.new }
+        ensures paid { (start : ℕ) → IsPaid self.old start comparisons.old →
+            IsPaid self.new start comparisons.new }
     {
         match event {
-            Event::Release { number, job } => self.take_release(*number, *job, steps),
-            Event::Complete { at, number } => Ok(self.complete(*at, *number, steps)),
-            _ => Ok(self.follow(event, steps)),
+            Event::Release { number, job } => self.take_release(*number, *job, comparisons),
+            Event::Complete { at, number } => Ok(self.complete(*at, *number, comparisons)),
+            _ => Ok(self.follow(event, comparisons)),
         }
     }
 
@@ -60,7 +64,7 @@ impl Reader {
     fn take_next<L: Ledger>(
         &mut self,
         read: &TraceLine,
-        steps: &mut Steps<L>,
+        comparisons: &mut Comparisons<L>,
     ) -> Result<bool, Memory>
         requires going { self.old.stage ≡ Going }
         requires form { HasForm read.now }
@@ -69,12 +73,12 @@ impl Reader {
         ensures spare { self.old.spare ≤ self.new.spare + jobs_in read.now }
         ensures keep { self.new.keep ≡ self.old.keep }
         ensures jobs { self.new.course.jobs ≤ self.old.course.jobs + jobs_in read.now }
-        ensures paid { (start : ℕ) → IsPaid self.old start steps.old →
-            IsPaid self.new start steps.new }
+        ensures paid { (start : ℕ) → IsPaid self.old start comparisons.old →
+            IsPaid self.new start comparisons.new }
     {
         match read {
             TraceLine::Header { .. } => Ok(false),
-            TraceLine::Step(event) => self.take_step(event, steps),
+            TraceLine::Step(event) => self.take_step(event, comparisons),
             TraceLine::Refused {
                 at,
                 release,
@@ -82,9 +86,9 @@ impl Reader {
                 deadline,
                 value,
                 cause,
-            } => { Ok(self.refuse(*at, *release, *work, *deadline, *value, *cause, steps)) }
+            } => { Ok(self.refuse(*at, *release, *work, *deadline, *value, *cause, comparisons)) }
             TraceLine::RefusedDone { at, tick, number } => {
-                Ok(self.refuse_done(*at, *tick, *number, steps))
+                Ok(self.refuse_done(*at, *tick, *number, comparisons))
             }
         }
     }
@@ -93,7 +97,7 @@ impl Reader {
     fn take_read<L: Ledger>(
         &mut self,
         read: &TraceLine,
-        steps: &mut Steps<L>,
+        comparisons: &mut Comparisons<L>,
     ) -> Result<bool, Memory>
         requires { HasForm read.now }
         ensures took { IfOk result (Took self.old self.new (trace_text read.now)) }
@@ -101,13 +105,13 @@ impl Reader {
         ensures spare { self.old.spare ≤ self.new.spare + jobs_in read.now }
         ensures keep { self.new.keep ≡ self.old.keep }
         ensures jobs { self.new.course.jobs ≤ self.old.course.jobs + jobs_in read.now }
-        ensures paid { (start : ℕ) → IsPaid self.old start steps.old →
-            IsPaid self.new start steps.new }
+        ensures paid { (start : ℕ) → IsPaid self.old start comparisons.old →
+            IsPaid self.new start comparisons.new }
     {
         match self.stage() {
-            Stage::Opening => Ok(self.take_first(read)),
-            Stage::Going => self.take_next(read, steps),
-            Stage::Ended => Ok(false),
+            TraceStage::Opening => Ok(self.take_first(read)),
+            TraceStage::Going => self.take_next(read, comparisons),
+            TraceStage::Ended => Ok(false),
         }
     }
 
@@ -117,17 +121,21 @@ impl Reader {
     /// # Errors
     ///
     /// `Memory` where there is none for the line's job or step.
-    pub fn take<L: Ledger>(&mut self, line: &[u8], steps: &mut Steps<L>) -> Result<bool, Memory>
+    pub fn take<L: Ledger>(
+        &mut self,
+        line: &[u8],
+        comparisons: &mut Comparisons<L>,
+    ) -> Result<bool, Memory>
         ensures took { IfOk result (Took self.old self.new line.now) }
         ensures room { job_lines_in line.now ≤ self.old.spare → IsOk result }
         ensures spare { self.old.spare ≤ self.new.spare + job_lines_in line.now }
         ensures keep { self.new.keep ≡ self.old.keep }
         ensures jobs { self.new.course.jobs ≤ self.old.course.jobs + job_lines_in line.now }
-        ensures paid { (start : ℕ) → IsPaid self.old start steps.old →
-            IsPaid self.new start steps.new }
+        ensures paid { (start : ℕ) → IsPaid self.old start comparisons.old →
+            IsPaid self.new start comparisons.new }
     {
         match read_trace_line(line) {
-            Ok(read) => self.take_read(&read, steps),
+            Ok(read) => self.take_read(&read, comparisons),
             Err(_) => Ok(false),
         }
     }

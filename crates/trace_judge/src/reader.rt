@@ -1,14 +1,14 @@
 //! What the judge keeps of the lines of a trace: the course of its session, and what may come next in it.
 ghost use Rattle.std.specs.Prelude.{◌≡◌, ◌≤◌, ◌<◌, ◌+◌, ◌∷◌, ◌++◌, ℕ, List, [], Bool, true, false, IsTrue, IfOk};
 ghost use Rattle.std.specs.Prelude.{OnOk, OnErr, IsOk, Some, None, vec_len, vec_capacity, length, if◌then◌else◌};
-ghost use Rattle.dover_model.specs.Limits.{last_tick, most_items};
-ghost use Rattle.dover_model.specs.Session.{may_finish_early, refuses_lines};
+ghost use Rattle.dover_model.specs.Common.{last_tick, most_items, may_finish_early, refuses_lines};
 ghost use Rattle.std.specs.Prelude.{◌&&◌, nat_le, is_some};
 
 use crate::says::{floor_after, is_end, is_full_cause, is_late_cause, is_same_cause, may_declare};
-use crate::stage::Stage;
+use crate::stage::TraceStage;
 use crate::verdict::{Expected, Verdict};
 use admission::Admission;
+use comparison_count::Comparisons;
 use dover_model::jobs::LAST_TICK;
 use dover_model::{Event, Job, Memory, PackedEvent, Ratio, Refusal, Version};
 use ready_jobs::{MOST_READY, Ready};
@@ -16,15 +16,14 @@ use root_compare::long_bound;
 use std::alloc::Global;
 use std::marker::Model;
 use std::sync::ledger::Ledger;
-use step_count::Steps;
 
 /// For how many jobs room is asked for at once.
 const JOBS_AT_ONCE: u32 = 64;
 
 /// The lines of a trace so far, and the run that they are read against.
 #[derive(Drop)]
-pub struct Reader {
-    stage: Stage,
+pub struct TraceReader {
+    stage: TraceStage,
     course: Ready,
     admission: Admission,
     items: u64,
@@ -36,7 +35,7 @@ pub struct Reader {
     last: u64,
 }
 
-impl Model for Reader {
+impl Model for TraceReader {
     ghost use Rattle.std.specs.Prelude.{vec_capacity};
     ghost use Rattle.trace_judge.specs.Reads as reads;
 
@@ -71,11 +70,11 @@ impl Model for Reader {
     }) };
 }
 
-impl Reader {
+impl TraceReader {
     ghost use Rattle.dover_model.specs.State.{State};
     ghost use Rattle.dover_model.specs.Session.{Session, instance_of, admitted_jobs};
     ghost use Rattle.dover_model.specs.Verdict.{expected_after, refused_count};
-    ghost use Rattle.trace_judge.specs.declared.stage.Stage.TheVariants.{Opening, Going, Ended};
+    ghost use Rattle.trace_judge.specs.declared.stage.TraceStage.TheVariants.{Opening, Going, Ended};
     ghost use Rattle.line_text.specs.traces.Form.{HasForm, item_in, trace_text};
     ghost use Rattle.line_text.specs.declared.traces.lines.TraceLine.TheVariants.{Header, Step, Refused};
     ghost use Rattle.line_text.specs.declared.traces.lines.TraceLine.TheVariants.{RefusedDone};
@@ -100,7 +99,7 @@ impl Reader {
     /// # Errors
     ///
     /// `Memory` where there is none.
-    pub fn new(alloc: Global, keep: bool) -> Result<Reader, Memory>
+    pub fn new(alloc: Global, keep: bool) -> Result<TraceReader, Memory>
         ensures stage { IfOk result (λ reader. reader.stage ≡ Opening) }
         ensures reads { IfOk result (λ reader. Reads reader []) }
         ensures keep { IfOk result (λ reader. reader.keep ≡ keep) }
@@ -110,8 +109,8 @@ impl Reader {
         // The header declares the version and the ratio.
         let one = Ratio::new(1, 1).unwrap();
         let steps = Vec::with_capacity(alloc, usize::from(keep))?;
-        Ok(Reader {
-            stage: Stage::Opening,
+        Ok(TraceReader {
+            stage: TraceStage::Opening,
             course: Ready::new(alloc, Version::Three, one)?,
             admission: Admission::new(Version::Three, one),
             items: 0,
@@ -161,25 +160,25 @@ impl Reader {
     }
 
     /// How far the trace has come.
-    pub fn stage(&self) -> Stage
+    pub fn stage(&self) -> TraceStage
         ensures { result ≡ self.now.stage }
     {
         self.stage
     }
 
     /// What is due after the lines.
-    pub fn due<L: Ledger>(&mut self, steps: &mut Steps<L>) -> Expected
+    pub fn due<L: Ledger>(&mut self, comparisons: &mut Comparisons<L>) -> Expected
         ensures due { (ls : List (List ℕ)) → ReadsAhead self.old ls → expected_after ls ≡ expected_of result }
         ensures ahead { StaysAhead self.old self.new }
         ensures kept { self.new ≡ record self.old { course = self.new.course } }
         ensures jobs { self.new.course.jobs ≡ self.old.course.jobs }
-        ensures paid { (start : ℕ) → IsPaid self.old start steps.old →
-            IsPaid self.new start steps.new }
+        ensures paid { (start : ℕ) → IsPaid self.old start comparisons.old →
+            IsPaid self.new start comparisons.new }
     {
         match self.stage {
-            Stage::Opening => Expected::Header,
-            Stage::Going => Expected::Step(self.course.upcoming(steps)),
-            Stage::Ended => Expected::Nothing,
+            TraceStage::Opening => Expected::Header,
+            TraceStage::Going => Expected::Step(self.course.upcoming(comparisons)),
+            TraceStage::Ended => Expected::Nothing,
         }
     }
 
@@ -239,28 +238,32 @@ impl Reader {
         }
         self.course.declare(version, ratio);
         self.admission = Admission::new(version, ratio);
-        self.stage = Stage::Going;
+        self.stage = TraceStage::Going;
         true
     }
 
     /// The next line is that of the printed step that is due, up to which the run may have gone on.
     #[inline(always)]
-    pub(crate) fn follow<L: Ledger>(&mut self, event: &Event, steps: &mut Steps<L>) -> bool
+    pub(crate) fn follow<L: Ledger>(
+        &mut self,
+        event: &Event,
+        comparisons: &mut Comparisons<L>,
+    ) -> bool
         requires going { self.old.stage ≡ Going }
         requires form { HasForm (Step event.now) }
         requires none { item_in (Step event.now) ≡ None }
         ensures followed { Followed self.old self.new event.now result }
         ensures kept { IsUnchangedFor self.old self.new }
-        ensures paid { (start : ℕ) → IsPaid self.old start steps.old →
-            IsPaid self.new start steps.new }
+        ensures paid { (start : ℕ) → IsPaid self.old start comparisons.old →
+            IsPaid self.new start comparisons.new }
     {
-        if !self.course.follow(event, steps) {
+        if !self.course.follow(event, comparisons) {
             return false;
         }
         keep_step(self.keep, &mut self.steps, event);
         self.last = self.course.clock();
         if is_end(event) {
-            self.stage = Stage::Ended;
+            self.stage = TraceStage::Ended;
             return true;
         }
         let floor = floor_after(event, self.last);
@@ -269,7 +272,7 @@ impl Reader {
     }
 
     // Nothing is printed before the barrier of the tick, up to which the run goes on.
-    fn waits_until<L: Ledger>(&mut self, tick: u64, steps: &mut Steps<L>) -> bool
+    fn waits_until<L: Ledger>(&mut self, tick: u64, comparisons: &mut Comparisons<L>) -> bool
         requires going { self.old.stage ≡ Going }
         requires known { tick ≤ last_tick }
         ensures yes { result ≡ true → (ls : List (List ℕ)) (S : Session) (z y : State) → Goes self.old ls S z y →
@@ -280,8 +283,8 @@ impl Reader {
         ensures ahead { StaysAhead self.old self.new }
         ensures kept { self.new ≡ record self.old { course = self.new.course } }
         ensures course { GoesOnFrom self.old.course self.new.course }
-        ensures paid { (start : ℕ) → IsPaid self.old start steps.old →
-            IsPaid self.new start steps.new }
+        ensures paid { (start : ℕ) → IsPaid self.old start comparisons.old →
+            IsPaid self.new start comparisons.new }
     {
         if self.floor > tick {
             return false;
@@ -289,7 +292,7 @@ impl Reader {
         if self.course.clock() > tick {
             return false;
         }
-        self.course.settle(tick, steps).is_none()
+        self.course.settle(tick, comparisons).is_none()
     }
 
     // The finish of the job of this number is right at this tick, up to whose barrier the run has gone on.
@@ -391,7 +394,7 @@ impl Reader {
         &mut self,
         number: u32,
         job: Job,
-        steps: &mut Steps<L>,
+        comparisons: &mut Comparisons<L>,
     ) -> Result<bool, Memory>
         requires going { self.old.stage ≡ Going }
         requires form { HasForm (Step (Release number job)) }
@@ -400,15 +403,15 @@ impl Reader {
         ensures spare { self.old.spare ≤ self.new.spare + 1 }
         ensures keep { self.new.keep ≡ self.old.keep }
         ensures jobs { self.new.course.jobs ≤ self.old.course.jobs + 1 }
-        ensures paid { (start : ℕ) → IsPaid self.old start steps.old →
-            IsPaid self.new start steps.new }
+        ensures paid { (start : ℕ) → IsPaid self.old start comparisons.old →
+            IsPaid self.new start comparisons.new }
     {
         // What is kept of the lines is known where a field is read.
         let _ = &self.stage;
         if !self.may_admit(number, &job) {
             return Ok(false);
         }
-        if !self.waits_until(job.release(), steps) {
+        if !self.waits_until(job.release(), comparisons) {
             return Ok(false);
         }
         if self.is_full() {
@@ -450,15 +453,20 @@ impl Reader {
 
     // The next line is that of a completion, by which a job finishes early.
     #[inline(never)]
-    fn finish_early<L: Ledger>(&mut self, at: u64, number: u32, steps: &mut Steps<L>) -> bool
+    fn finish_early<L: Ledger>(
+        &mut self,
+        at: u64,
+        number: u32,
+        comparisons: &mut Comparisons<L>,
+    ) -> bool
         requires going { self.old.stage ≡ Going }
         ensures yes { result ≡ true → Took self.old self.new (text_of (Complete at number)) true }
         ensures no { result ≡ false → MayNotComplete self.old at number }
         ensures ahead { result ≡ false → StaysAhead self.old self.new }
         ensures stage { result ≡ false → self.new.stage ≡ Going }
         ensures kept { IsUnchangedFor self.old self.new }
-        ensures paid { (start : ℕ) → IsPaid self.old start steps.old →
-            IsPaid self.new start steps.new }
+        ensures paid { (start : ℕ) → IsPaid self.old start comparisons.old →
+            IsPaid self.new start comparisons.new }
     {
         // What is kept of the lines is known where a field is read.
         let _ = &self.stage;
@@ -471,7 +479,7 @@ impl Reader {
         if !self.has_room() {
             return false;
         }
-        if !self.waits_until(at, steps) {
+        if !self.waits_until(at, comparisons) {
             return false;
         }
         if !self.is_right(at, u64::from(number)) {
@@ -483,18 +491,23 @@ impl Reader {
 
     /// The next line is that of a completion, early or not.
     #[inline(always)]
-    pub(crate) fn complete<L: Ledger>(&mut self, at: u64, number: u32, steps: &mut Steps<L>) -> bool
+    pub(crate) fn complete<L: Ledger>(
+        &mut self,
+        at: u64,
+        number: u32,
+        comparisons: &mut Comparisons<L>,
+    ) -> bool
         requires going { self.old.stage ≡ Going }
         requires form { HasForm (Step (Complete at number)) }
         ensures took { Took self.old self.new (text_of (Complete at number)) result }
         ensures kept { IsUnchangedFor self.old self.new }
-        ensures paid { (start : ℕ) → IsPaid self.old start steps.old →
-            IsPaid self.new start steps.new }
+        ensures paid { (start : ℕ) → IsPaid self.old start comparisons.old →
+            IsPaid self.new start comparisons.new }
     {
-        if self.finish_early(at, number, steps) {
+        if self.finish_early(at, number, comparisons) {
             return true;
         }
-        self.follow(&Event::Complete { at, number }, steps)
+        self.follow(&Event::Complete { at, number }, comparisons)
     }
 
     // The refused line may come next, as far as the jobs before it go, if as many jobs as may be are ready at its tick.
@@ -559,21 +572,21 @@ impl Reader {
         deadline: u64,
         value: u64,
         cause: Refusal,
-        steps: &mut Steps<L>,
+        comparisons: &mut Comparisons<L>,
     ) -> bool
         requires going { self.old.stage ≡ Going }
         requires form { HasForm (Refused at release work deadline value cause) }
         ensures took { Took self.old self.new (trace_text (Refused at release work deadline value cause)) result }
         ensures kept { IsUnchangedFor self.old self.new }
-        ensures paid { (start : ℕ) → IsPaid self.old start steps.old →
-            IsPaid self.new start steps.new }
+        ensures paid { (start : ℕ) → IsPaid self.old start comparisons.old →
+            IsPaid self.new start comparisons.new }
     {
         // What is kept of the lines is known where a field is read.
         let _ = &self.stage;
         if !self.may_refuse(at, release, work, deadline, value, cause) {
             return false;
         }
-        if !self.waits_until(at, steps) {
+        if !self.waits_until(at, comparisons) {
             return false;
         }
         if !self.bears_out(cause) {
@@ -610,21 +623,21 @@ impl Reader {
         at: u64,
         tick: u64,
         number: u64,
-        steps: &mut Steps<L>,
+        comparisons: &mut Comparisons<L>,
     ) -> bool
         requires going { self.old.stage ≡ Going }
         requires form { HasForm (RefusedDone at tick number) }
         ensures took { Took self.old self.new (trace_text (RefusedDone at tick number)) result }
         ensures kept { IsUnchangedFor self.old self.new }
-        ensures paid { (start : ℕ) → IsPaid self.old start steps.old →
-            IsPaid self.new start steps.new }
+        ensures paid { (start : ℕ) → IsPaid self.old start comparisons.old →
+            IsPaid self.new start comparisons.new }
     {
         // What is kept of the lines is known where a field is read.
         let _ = &self.stage;
         if !self.may_refuse_done(at, tick) {
             return false;
         }
-        if !self.waits_until(at, steps) {
+        if !self.waits_until(at, comparisons) {
             return false;
         }
         if self.is_right_done(at, tick, number) {

@@ -1,12 +1,8 @@
 //! What a line of a trace says: what it declares, the cause of a refusal, or a step.
 ghost use Rattle.std.specs.Prelude.{◌≡◌, ◌≤◌, ◌+◌, ◌↔◌, IsTrue, Some, ◌==◌, if◌then◌else◌};
 ghost use Rattle.std.specs.Bool.{then_some};
-ghost use Rattle.dover_model.specs.Limits.{last_tick};
-ghost use Rattle.dover_model.specs.Step.{Prints};
-ghost use Rattle.dover_model.specs.Run.{is_end};
-ghost use Rattle.dover_model.specs.Settled.{waits_for_mark};
-ghost use Rattle.dover_model.specs.Feed.{rules_with};
-ghost use Rattle.dover_model.specs.Session.{is_declarable, late_refusal};
+ghost use Rattle.dover_model.specs.Common.{last_tick, Prints, is_end, waits_for_mark, rules_with, late_refusal};
+ghost use Rattle.dover_model.specs.Session.{is_declarable};
 ghost use Rattle.dover_model.specs.declared.events.Refusal.TheVariants.{Full};
 
 use dover_model::{Event, Ratio, Refusal, Version};

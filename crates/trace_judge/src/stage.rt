@@ -2,7 +2,7 @@
 
 /// How far a trace has come.
 #[derive(Clone, Copy)]
-pub enum Stage {
+pub enum TraceStage {
     /// No line came yet.
     Opening,
     /// The header came, and not the line of the end.

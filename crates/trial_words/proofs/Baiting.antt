@@ -1,15 +1,8 @@
 -- The text of a baiting feed.
-use Rattle.std.proofs.Common.{◌≡◌, ◌≤◌, ◌<◌, ◌++◌, ◌∷◌, [], ℕ, List, ap, ◌∙◌, codes, decimal, length, arith}
-use Rattle.std.specs.List.{sum}
-use Rattle.dover_model.specs.Fraction.{Fraction, IsRatio}
+use Rattle.std.proofs.Common.{◌≡◌, ◌≤◌, ◌<◌, ◌++◌, ◌∷◌, [], ℕ, List, ap, ◌∙◌, codes, decimal, length, arith, sum}
+use Rattle.dover_model.specs.Common.{Fraction, IsRatio, chain, last_link, bait_jobs, bait_plan, bound, most_jobs}
+use Rattle.dover_model.specs.Common.{most_total, with_numbers, in_lines, completed_value, worth, IsValid}
 use Rattle.dover_model.specs.declared.events.Version.TheVariants.{Two}
-use Rattle.dover_model.specs.Bait.{chain, last_link, bait_jobs, bait_plan}
-use Rattle.dover_model.specs.Bound.{bound}
-use Rattle.dover_model.specs.Limits.{most_jobs, most_total}
-use Rattle.dover_model.specs.Lines.{with_numbers, in_lines}
-use Rattle.dover_model.specs.Run.{completed_value}
-use Rattle.dover_model.specs.Schedules.{worth}
-use Rattle.dover_model.specs.Instance.{IsValid}
 use Rattle.stated_jobs.specs.bait.Baiting.{FitsLimits}
 use Rattle.stated_jobs.specs.bait.BaitingRuns.{version_for}
 use Rattle.stated_jobs.proofs.bait.Completions.{completes_last_alone}

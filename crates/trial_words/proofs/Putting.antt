@@ -3,9 +3,9 @@ use Rattle.std.proofs.Common.{◌≡◌, ℕ, zero, suc, ◌+◌, ◌≤◌, ◌
 use Rattle.std.proofs.Common.{append_assoc, refl, sym, ap, ◌∙◌, subst, take, Option, Some, None, Result, Ok, Err, arith}
 use Rattle.std.specs.List.{AllByRecursion}
 use Rattle.std.proofs.lemmas.List.{append-nil}
-use Rattle.dover_model.specs.JobFacts.{JobFacts, IsJob}
-use Rattle.dover_model.specs.Lines.{in_lines}
-use Rattle.dover_model.proofs.Valid.{all_back}
+use Rattle.dover_model.specs.Common.{JobFacts, IsJob, in_lines, EndLine, feed_text, Fraction, Instance, declared_by}
+use Rattle.dover_model.specs.Common.{jobs_under}
+use Rattle.dover_model.proofs.valid.Valid.{all_back}
 use Rattle.dover_port.specs.Causes.{HasCause, StaysWell, StopsAtFailure}
 use Rattle.dover_port.specs.declared.calls.Calls.{Calls}
 use Rattle.dover_port.specs.Moves.{Move, Passes, CutsShort, PutsThrough, IsProperPrefix}
@@ -14,10 +14,7 @@ use Rattle.stated_jobs.specs.declared.duel.coming.Next.{Next}
 use Rattle.stated_jobs.specs.declared.duel.coming.Next.TheVariants as next
 use Rattle.stated_jobs.specs.duel.Kept.{Gives}
 use Rattle.stated_jobs.specs.duel.Answers.{front_of}
-use Rattle.dover_model.specs.FeedLine.{EndLine, feed_text}
 use Rattle.dover_model.specs.declared.events.Version.TheVariants.{One}
-use Rattle.dover_model.specs.Fraction.{Fraction}
-use Rattle.dover_model.specs.Instance.{Instance, declared_by, jobs_under}
 use Rattle.event_feed.specs.Feeds.{job_text, rules_text, feed_of}
 use Rattle.dialogue.proofs.lines.FeedTexts.{texts, texts_behind, text_more, feed_through}
 

@@ -2,15 +2,9 @@
 use Rattle.std.proofs.Common.{◌≡◌, ◌+◌, ◌-◌, ◌≤◌, ℕ, List, [], ◌∷◌, length, sym, refl, ap, ◌∙◌, subst, Option, arith}
 use Rattle.std.proofs.Common.{◌++◌, append_assoc, codes, decimal}
 use Rattle.dover_model.specs.declared.events.Event.{Event}
-use Rattle.dover_model.specs.Bound.{bound}
-use Rattle.dover_model.specs.Fraction.{Fraction}
-use Rattle.dover_model.specs.Instance.{Instance, IsListable, IsValid, total_value}
+use Rattle.dover_model.specs.Common.{bound, Fraction, Instance, IsListable, IsValid, total_value, most_total, JobFacts}
+use Rattle.dover_model.specs.Common.{with_numbers, in_lines, summary, printed, completed_value}
 use Rattle.dover_model.specs.declared.events.Version.TheVariants.{Two}
-use Rattle.dover_model.specs.Limits.{most_total}
-use Rattle.dover_model.specs.JobFacts.{JobFacts}
-use Rattle.dover_model.specs.Lines.{with_numbers, in_lines}
-use Rattle.dover_model.specs.Reports.{summary}
-use Rattle.dover_model.specs.Run.{printed, completed_value}
 use Rattle.dover_port.specs.Moves.{Move, Since}
 use Rattle.dover_port.specs.declared.status.Status.{Status}
 use Rattle.run_record.specs.intervals.Rows.{IsRunOf}
@@ -22,10 +16,10 @@ use Rattle.run_reports.proofs.report.Sizing.{released_total}
 use Rattle.run_reports.specs.views.Templates.{filled}
 use Rattle.trial_words.specs.Record.{Writes}
 use Rattle.trial_words.specs.Tallied.{tally_of, CountsRun}
-use Rattle.trial_words.specs.declared.tally.Tally.{Tally}
+use Rattle.trial_words.specs.declared.tally.RunTally.{RunTally}
 
 -- the counts of a tally
-abbrev pub counts_by : ℕ → Tally → (lost most : ℕ) → Counts
+abbrev pub counts_by : ℕ → RunTally → (lost most : ℕ) → Counts
 counts_by jobs t lost most = record {
   jobs = jobs;
   completed = t.completed;
@@ -37,15 +31,15 @@ counts_by jobs t lost most = record {
 }
 
 -- they are those of the steps
-counts_are : (k : Fraction) (jobs lost : ℕ) (t : Tally) (most : ℕ) (all : List JobFacts) (events : List Event)
+counts_are : (k : Fraction) (jobs lost : ℕ) (t : RunTally) (most : ℕ) (all : List JobFacts) (events : List Event)
     → most ≡ bound k t.value → jobs ≡ length all → t ≡ tally_of events → lost ≡ all_lost all events
     → counts_by jobs t lost most ≡ counts_of k events all (tally_of events).value
 counts_are k jobs lost t most all events bounds count is rest =
-    ap (λ (u : Tally). counts_by jobs u lost most) is
+    ap (λ (u : RunTally). counts_by jobs u lost most) is
     ∙ ap (λ n. counts_by n (tally_of events) lost most) count
     ∙ ap (λ n. counts_by (length all) (tally_of events) n most) rest
     ∙ ap (counts_by (length all) (tally_of events) (all_lost all events))
-    (bounds ∙ ap (λ (u : Tally). bound k u.value) is)
+    (bounds ∙ ap (λ (u : RunTally). bound k u.value) is)
 
 -- a valid run by its own steps
 pub own_run : (J : Instance) (k : Fraction) → IsValid J → IsListable J → J.rules.ratio ≡ k → IsRunOf k (printed J) J
@@ -78,10 +72,10 @@ in_template c =
     (sym (append_assoc (decimal c.abandoned) (32 ∷ decimal c.lost) (10 ∷ taken)))
     ∙ fed_lines (counts_lines c)
 
-module _ (J : Instance) (k : Fraction) (jobs : ℕ) (tally : Tally) (it : CountsRun J k jobs tally) where
+module _ (J : Instance) (k : Fraction) (jobs : ℕ) (tally : RunTally) (it : CountsRun J k jobs tally) where
   -- the value that was completed is that of a valid list
   pub within : tally.value ≤ most_total Two
-  within = subst (λ (t : Tally). t.value ≤ most_total Two) (sym it.counted.counts)
+  within = subst (λ (t : RunTally). t.value ≤ most_total Two) (sym it.counted.counts)
       (value_small k (printed J) J (own_run J k it.valid it.listable it.ratio))
 
   -- with what is lost it is all that was released
@@ -91,8 +85,8 @@ module _ (J : Instance) (k : Fraction) (jobs : ℕ) (tally : Tally) (it : Counts
     lost_rest J it.valid,
     ap total_value (jobs_are k (printed J) J (own_run J k it.valid it.listable it.ratio)),
     released_total (printed J),
-    ap (λ (t : Tally). t.value) it.counted.counts,
-    ap (λ (t : Tally). t.released) it.counted.counts,
+    ap (λ (t : RunTally). t.value) it.counted.counts,
+    ap (λ (t : RunTally). t.released) it.counted.counts,
   )
 
   -- which is within the limits
@@ -102,7 +96,7 @@ module _ (J : Instance) (k : Fraction) (jobs : ℕ) (tally : Tally) (it : Counts
     it.listable.total,
     ap total_value (jobs_are k (printed J) J (own_run J k it.valid it.listable it.ratio)),
     released_total (printed J),
-    ap (λ (t : Tally). t.released) it.counted.counts,
+    ap (λ (t : RunTally). t.released) it.counted.counts,
   )
 
   -- so the lines of the counts are the summary

@@ -1,20 +1,16 @@
 -- The lines of turns, one behind another.
 use Rattle.std.proofs.Common.{◌≡◌, ℕ, List, [], ◌∷◌, ◌++◌, map, sym, ap, ◌∙◌, subst, Option, Result, None, Some}
-use Rattle.std.proofs.Common.{append_assoc}
-use Rattle.std.proofs.lemmas.List.{append-nil, map-append}
-use Rattle.std.specs.List.{flat_map}
-use Rattle.dover_model.specs.FeedLine.{FeedLine, JobLine, DoneLine, EndLine, feed_text}
+use Rattle.std.proofs.Common.{append_assoc, append-nil, flat_map}
+use Rattle.std.proofs.lemmas.List.{map-append}
+use Rattle.dover_model.specs.Common.{FeedLine, JobLine, DoneLine, EndLine, feed_text, rules_with, Fraction, in_lines}
 use Rattle.dover_model.specs.declared.events.Version.TheVariants.{Three}
-use Rattle.dover_model.specs.Feed.{rules_with}
-use Rattle.dover_model.specs.Fraction.{Fraction}
-use Rattle.dover_model.specs.Lines.{in_lines}
 use Rattle.dover_port.specs.Moves.{Move, Passes, CutsShort, PutsThrough}
 use Rattle.dover_port.proofs.Through.{passes_then, passes_then_cut, cut_longer}
 use Rattle.stated_jobs.specs.declared.trial.turns.Done.{Done}
 use Rattle.stated_jobs.specs.declared.trial.turns.Turn.{Turn}
 use Rattle.trial_words.specs.Drawing.{turn_lines, text_of_lines, feed_of_turns}
 use Rattle.event_feed.specs.Feeds.{rules_text}
-use Rattle.dover_model.proofs.Beginnings.{in_lines-append}
+use Rattle.dover_model.proofs.lists.Beginnings.{in_lines-append}
 
 -- lines behind lines
 text_behind : (xs ys : List FeedLine) → text_of_lines (xs ++ ys) ≡ text_of_lines xs ++ text_of_lines ys

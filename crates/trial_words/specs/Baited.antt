@@ -1,12 +1,7 @@
 -- What the word `bait` writes.
 use Rattle.std.specs.Prelude.{ℕ, List, [], ◌∷◌, length, codes, ◌⊎◌}
-use Rattle.dover_model.specs.Fraction.{Fraction}
-use Rattle.dover_model.specs.Instance.{Instance}
-use Rattle.dover_model.specs.Run.{completed_value}
-use Rattle.dover_model.specs.Bound.{bound}
-use Rattle.dover_model.specs.Bait.{bait_jobs, bait_plan}
-use Rattle.dover_model.specs.Schedules.{worth}
-use Rattle.dover_model.specs.Lines.{with_numbers, in_lines}
+use Rattle.dover_model.specs.Common.{Fraction, Instance, completed_value, bound, bait_jobs, bait_plan, worth}
+use Rattle.dover_model.specs.Common.{with_numbers, in_lines}
 use Rattle.dover_port.specs.Moves.{Move}
 use Rattle.dover_port.specs.declared.status.Status.{Status}
 use Rattle.dialogue.specs.Sizes.{size_text}

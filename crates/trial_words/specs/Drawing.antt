@@ -1,11 +1,7 @@
 -- What the word `draw` writes.
-use Rattle.std.specs.Prelude.{ℕ, List, [], ◌∷◌, ◌++◌, map, Some, None}
-use Rattle.std.specs.List.{flat_map}
-use Rattle.dover_model.specs.Fraction.{Fraction}
+use Rattle.std.specs.Prelude.{ℕ, List, [], ◌∷◌, ◌++◌, map, Some, None, flat_map}
+use Rattle.dover_model.specs.Common.{Fraction, rules_with, FeedLine, JobLine, DoneLine, EndLine, feed_text, in_lines}
 use Rattle.dover_model.specs.declared.events.Version.TheVariants.{Three}
-use Rattle.dover_model.specs.Feed.{rules_with}
-use Rattle.dover_model.specs.FeedLine.{FeedLine, JobLine, DoneLine, EndLine, feed_text}
-use Rattle.dover_model.specs.Lines.{in_lines}
 use Rattle.dover_port.specs.Moves.{Move}
 use Rattle.dover_port.specs.declared.status.Status.{Status}
 use Rattle.stated_jobs.specs.trial.Turns.{drawn_turns}

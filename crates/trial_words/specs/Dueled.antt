@@ -1,9 +1,7 @@
 -- What the word `duel` writes.
 use Rattle.std.specs.Prelude.{ℕ, List, [], ◌∷◌, codes, ◌⊎◌, Option}
 use Rattle.dover_model.specs.declared.events.Version.TheVariants.{One}
-use Rattle.dover_model.specs.Fraction.{Fraction}
-use Rattle.dover_model.specs.Instance.{Instance, jobs_under}
-use Rattle.dover_model.specs.Lines.{in_lines}
+use Rattle.dover_model.specs.Common.{Fraction, Instance, jobs_under, in_lines}
 use Rattle.dialogue.specs.Sizes.{size_text}
 use Rattle.dover_port.specs.Moves.{Move}
 use Rattle.dover_port.specs.declared.status.Status.{Status}

@@ -3,9 +3,7 @@ ghost use Rattle.std.specs.Prelude.{◌≡◌, ◌≤◌, ◌++◌, ◌∷◌, [
 ghost use Rattle.std.specs.List.{AllByRecursion};
 ghost use Rattle.dialogue.specs.Talk.{CanEnd};
 ghost use Rattle.dover_model.specs.declared.events.Version.TheVariants.{One};
-ghost use Rattle.dover_model.specs.Instance.{jobs_under};
-ghost use Rattle.dover_model.specs.JobFacts.{IsJob};
-ghost use Rattle.dover_model.specs.Lines.{in_lines};
+ghost use Rattle.dover_model.specs.Common.{jobs_under, IsJob, in_lines};
 ghost use Rattle.dover_port.specs.Causes.{Causes, HasCause, StopsAtFailure, StopsWith};
 ghost use Rattle.dover_port.specs.Moves.{PutsThrough, Since};
 ghost use Rattle.stated_jobs.specs.duel.Answers.{Answers, jobs_for};

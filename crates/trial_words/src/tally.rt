@@ -10,7 +10,7 @@ use std::alloc::Global;
 /// What was counted of the printed steps so far: the value of the released jobs, how many are done and the value that
 /// End names, how many are gone, takes.
 #[derive(Clone, Copy)]
-pub(crate) struct Tally {
+pub(crate) struct RunTally {
     pub(crate) released: u128,
     pub(crate) completed: u64,
     pub(crate) value: u64,
@@ -18,7 +18,7 @@ pub(crate) struct Tally {
     pub(crate) taken: u64,
 }
 
-impl Tally {
+impl RunTally {
     ghost use Rattle.std.specs.Prelude.{ℕ, ◌-◌, [], IfOk, None};
     ghost use Rattle.dover_model.specs.Fraction.{Fraction};
     ghost use Rattle.dover_model.specs.Instance.{Instance};
@@ -26,10 +26,10 @@ impl Tally {
     ghost use Rattle.trial_words.specs.Tallied.{tally_of, CountsRun};
 
     /// Nothing was printed yet.
-    pub(crate) fn new() -> Tally
+    pub(crate) fn new() -> RunTally
         ensures { result ≡ tally_of [] }
     {
-        Tally {
+        RunTally {
             released: 0,
             completed: 0,
             value: 0,
@@ -71,7 +71,7 @@ impl Tally {
     }
 }
 
-impl Watcher for Tally {
+impl Watcher for RunTally {
     ghost use Rattle.trial_words.specs.Tallied.{HasCounted};
 
     ghost seen = { HasCounted };

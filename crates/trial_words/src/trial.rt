@@ -2,23 +2,21 @@
 ghost use Rattle.std.specs.Prelude.{◌≡◌, ◌<◌, ◌≤◌, ◌^◌, None};
 ghost use Rattle.dialogue.specs.Talk.{CanEnd};
 ghost use Rattle.dover_model.specs.declared.events.Version.TheVariants.{Two};
-ghost use Rattle.dover_model.specs.Limits.{most_jobs};
-ghost use Rattle.dover_model.specs.Reports.{summary};
+ghost use Rattle.dover_model.specs.Common.{most_jobs, summary, CostsAtMost};
 ghost use Rattle.dover_port.specs.Causes.{Causes, StopsWith};
 ghost use Rattle.dover_port.specs.Moves.{Since};
 ghost use Rattle.trial_words.specs.Lists.{trial_instance};
 ghost use Rattle.trial_words.specs.Record.{Writes};
-ghost use Rattle.dover_model.specs.Spending.{CostsAtMost};
 
 use crate::drawn::Drawn;
-use crate::tally::Tally;
+use crate::tally::RunTally;
+use comparison_count::Comparisons;
 use dover_model::{Ratio, Version};
 use dover_port::{Port, Status, put_all};
 use ready_server::run_list;
 use stated_jobs::trial::Gen;
 use std::alloc::Global;
 use std::sync::ledger::Ledger;
-use step_count::Steps;
 
 /// Serves the stated jobs of a seed, and writes the summary of their run: the jobs, those that were completed and
 /// abandoned with their values, the takes, and the bound on the value of every schedule. Nothing is read. The seed is
@@ -30,7 +28,7 @@ pub fn trial_word<P: Port, L: Ledger>(
     seed: u32,
     count: u32,
     k: Ratio,
-    steps: &mut Steps<L>,
+    comparisons: &mut Comparisons<L>,
 ) -> Status
     requires seed { seed < 2 ^ 31 }
     requires count { count ≤ most_jobs Two }
@@ -41,14 +39,20 @@ pub fn trial_word<P: Port, L: Ledger>(
     ensures causes { Causes result (P.read_faults port.old) (P.read_faults port.new) (P.write_faults port.old)
         (P.write_faults port.new) }
     ensures stops { StopsWith result (P.calls port.old) (P.calls port.new) }
-    ensures count { CostsAtMost count steps.old steps.new }
+    ensures count { CostsAtMost count comparisons.old comparisons.new }
 {
     // That the numbers of a ratio are within its limits is what reading one of them tells.
     let _ = k.p();
     let mut jobs = Drawn(Gen::new(seed, count, k));
-    let mut tally = Tally::new();
-    let Ok(()) = run_list::<Drawn, Tally, L>(alloc, Version::One, k, &mut jobs, &mut tally, steps)
-    else {
+    let mut tally = RunTally::new();
+    let Ok(()) = run_list::<Drawn, RunTally, L>(
+        alloc,
+        Version::One,
+        k,
+        &mut jobs,
+        &mut tally,
+        comparisons,
+    ) else {
         return Status::Memory;
     };
     let Ok(text) = tally.summary(alloc, count, k) else {

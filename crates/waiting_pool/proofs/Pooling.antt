@@ -1,30 +1,27 @@
 -- Jobs at places, and the heaps over them.
-use Rattle.std.proofs.Common.{◌≡◌, ℕ, zero, suc, ◌+◌, ◌-◌, ◌≤◌, ◌<◌, ◌⊎◌, inl, inr, List, [], ◌∷◌, ◌++◌, length}
-use Rattle.std.proofs.Common.{set, get_or, replicate, refl, sym, ap, ◌∙◌, subst, Bool, true, false, cond, arith}
-use Rattle.std.specs.Prelude.{Option, Some, None, option_map, ◌==◌, is_some, Result, Ok, Err, OnOk, IsErr}
-use Rattle.std.specs.List.{slice_get, sum_by, count_by}
-use Rattle.std.proofs.lemmas.Bool.{cases_eq, eq-eqb, ne_eqb}
-use Rattle.std.proofs.lemmas.List.{append_assoc, length-append, length-replicate}
-use Rattle.std.proofs.lemmas.List.{replicate-append-replicate}
+use Rattle.std.proofs.Common.{◌≡◌, ℕ, zero, suc, ◌+◌, ◌-◌, ◌≤◌, ◌<◌, ◌⊎◌, inl, inr, List, [], ◌∷◌, ◌++◌, length, set}
+use Rattle.std.proofs.Common.{get_or, replicate, refl, sym, ap, ◌∙◌, subst, Bool, true, false, cond, arith, Option}
+use Rattle.std.proofs.Common.{Some, None, option_map, ◌==◌, is_some, Result, Ok, Err, OnOk, IsErr, slice_get, sum_by}
+use Rattle.std.proofs.Common.{count_by, eq-eqb, ne_eqb, append_assoc, length-append}
+use Rattle.std.proofs.lemmas.Bool.{cases_eq}
+use Rattle.std.proofs.lemmas.List.{length-replicate, replicate-append-replicate}
 use Rattle.std.proofs.lemmas.List.Sums.{sum_by-cons, sum_by-append}
-use Rattle.dover_model.specs.Limits.{most_value}
+use Rattle.dover_model.specs.Common.{most_value, IsStrictOrder, entry_of, is_due_before, is_start_before, first}
+use Rattle.dover_model.specs.Common.{due_first, starts_before, earlier, IsMember, Each, EachTwo}
 use Rattle.dover_model.specs.declared.events.Version.{Version}
 use Rattle.dover_model.specs.declared.events.Task.{Task}
 use Rattle.dover_model.specs.declared.events.Entry.{Entry}
-use Rattle.dover_model.specs.Entries.{IsStrictOrder, entry_of, is_due_before, is_start_before}
-use Rattle.dover_model.specs.Orders.{first, due_first, starts_before, earlier}
-use Rattle.dover_model.specs.Sound.{IsMember, Each, EachTwo}
-use Rattle.dover_model.proofs.EntryOrders.{strict_by}
-use Rattle.dover_model.proofs.Members.{some_same, reduce_none}
-use Rattle.dover_model.proofs.Tests.{never, none_is_some}
+use Rattle.dover_model.proofs.steps.EntryOrders.{strict_by}
+use Rattle.dover_model.proofs.lists.Members.{some_same, reduce_none}
+use Rattle.dover_model.proofs.lists.Tests.{never, none_is_some}
 use Rattle.place_heap.specs.Items.{ItemFacts, is_before}
 use Rattle.place_heap.specs.Orders.{due_item, latest_item}
 use Rattle.place_heap.specs.Table.{items_of}
 use Rattle.place_heap.proofs.Ranking.{one_way, onward}
 use Rattle.place_heap.proofs.Tying.{ordered_as}
 use Rattle.waiting_pool.specs.Reordered.{IsReordered}
-use Rattle.waiting_pool.specs.Pools.{HaveOwnNumbers, AreModest}
-use Rattle.waiting_pool.specs.Pools.{jobs_at, items_from, times, is_free, AreFree, HasItems, IsPool, HasRoom}
+use Rattle.waiting_pool.specs.Pools.{HaveOwnNumbers, AreModest, jobs_at, items_from, times, is_free, AreFree, HasItems}
+use Rattle.waiting_pool.specs.Pools.{IsPool, HasRoom}
 use Rattle.waiting_pool.proofs.Reordering.{same_order, exchanged, both_parts, turned, as_many, first_is, first_only}
 
 -- what is said of a success says nothing of an error

@@ -1,17 +1,13 @@
 -- What the order of a list doesn't change.
-use Rattle.std.proofs.Common.{◌≡◌, ℕ, ◌≤◌, ◌⊎◌, inl, inr, List, [], ◌∷◌, ◌++◌, length, map, min, refl, sym, ap}
-use Rattle.std.proofs.Common.{◌∙◌, subst, Bool, true, false, cond, arith}
-use Rattle.std.specs.Prelude.{Option, Some, None}
-use Rattle.std.specs.List.{filter, find, fold, sum_by}
+use Rattle.std.proofs.Common.{◌≡◌, ℕ, ◌≤◌, ◌⊎◌, inl, inr, List, [], ◌∷◌, ◌++◌, length, map, min, refl, sym, ap, ◌∙◌}
+use Rattle.std.proofs.Common.{subst, Bool, true, false, cond, arith, Option, Some, None, filter, find, fold, sum_by}
 use Rattle.std.proofs.lemmas.Bool.{cases_eq, false≢true}
 use Rattle.std.proofs.lemmas.List.Sums.{sum_by-cons, sum_by-append}
-use Rattle.dover_model.specs.State.{least}
-use Rattle.dover_model.specs.Orders.{earlier, first}
-use Rattle.dover_model.specs.Sound.{IsMember, Each, EachTwo}
-use Rattle.dover_model.proofs.Members.{some_same, filter_member, member_filter, found, not_found, reduce_none, on_map}
-use Rattle.dover_model.proofs.Members.{map_member, sum_filter, sum_map, member_front, member_behind, each_cons}
-use Rattle.dover_model.proofs.Members.{each_append}
-use Rattle.dover_model.proofs.Tests.{never, none_is_some}
+use Rattle.dover_model.specs.Common.{least, earlier, first, IsMember, Each, EachTwo}
+use Rattle.dover_model.proofs.lists.Members.{some_same, filter_member, member_filter, found, not_found, reduce_none}
+use Rattle.dover_model.proofs.lists.Members.{on_map, map_member, sum_filter, sum_map, member_front, member_behind}
+use Rattle.dover_model.proofs.lists.Members.{each_cons, each_append}
+use Rattle.dover_model.proofs.lists.Tests.{never, none_is_some}
 use Rattle.waiting_pool.specs.Reordered.{IsReordered}
 
 -- ---- a list in two parts

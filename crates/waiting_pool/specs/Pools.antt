@@ -1,13 +1,10 @@
 -- The jobs that wait, at places.
 use Rattle.std.specs.Prelude.{◌≡◌, ◌≤◌, ◌+◌, ◌^◌, ◌==◌, ℕ, zero, suc, List, [], ◌∷◌, ◌++◌, length, replicate}
-use Rattle.std.specs.Prelude.{if◌then◌else◌, Option, Some, None, option_map}
-use Rattle.std.specs.List.{filter_map, sum_by}
+use Rattle.std.specs.Prelude.{if◌then◌else◌, Option, Some, None, option_map, filter_map, sum_by}
 use Rattle.dover_model.specs.declared.events.Version.{Version}
 use Rattle.dover_model.specs.declared.events.Task.{Task}
 use Rattle.dover_model.specs.declared.events.Entry.{Entry}
-use Rattle.dover_model.specs.Entries.{entry_of}
-use Rattle.dover_model.specs.Limits.{most_value}
-use Rattle.dover_model.specs.Sound.{Each, EachTwo}
+use Rattle.dover_model.specs.Common.{entry_of, most_value, Each, EachTwo}
 use Rattle.place_heap.specs.Items.{ItemFacts}
 use Rattle.place_heap.specs.Orders.{due_item, latest_item}
 

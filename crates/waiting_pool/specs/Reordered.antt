@@ -1,6 +1,5 @@
 -- Lists with the same members, in some order.
-use Rattle.std.specs.Prelude.{◌≡◌, ℕ, List}
-use Rattle.std.specs.List.{sum_by}
+use Rattle.std.specs.Prelude.{◌≡◌, ℕ, List, sum_by}
 use Rattle.dover_model.specs.Sound.{IsMember, Each}
 
 -- the members of either list are those of the other, and however they are weighed, both weigh the same: none is there

@@ -1,37 +1,32 @@
 //! The jobs that wait.
 ghost use Rattle.std.specs.Prelude.{◌≡◌, ℕ, ◌+◌, ◌*◌, ◌^◌, ◌<◌, ◌≤◌, [], ◌∷◌, ◌++◌, slice_set, length, List, Option};
 ghost use Rattle.std.specs.Prelude.{Some, None, max, vec_len, vec_capacity, option_map, IsOk, IsNone, IfSome, OnOk};
-ghost use Rattle.std.specs.Prelude.{OnErr};
-ghost use Rattle.std.specs.List.{slice_get};
+ghost use Rattle.std.specs.Prelude.{OnErr, slice_get};
 ghost use Rattle.dover_model.specs.declared.events.Version.{Version};
 ghost use Rattle.dover_model.specs.declared.events.Task.{Task};
-ghost use Rattle.dover_model.specs.Entries.{entry_of};
-ghost use Rattle.dover_model.specs.State.{latest_start};
-ghost use Rattle.dover_model.specs.Orders.{due_first, starts_before, first};
-ghost use Rattle.dover_model.specs.Sound.{Each};
+ghost use Rattle.dover_model.specs.Common.{entry_of, latest_start, due_first, starts_before, first, Each};
 ghost use Rattle.place_heap.specs.Items.{ItemFacts};
 ghost use Rattle.place_heap.specs.Orders.{due_item, latest_item};
 ghost use Rattle.waiting_pool.specs.Reordered.{IsReordered};
-ghost use Rattle.waiting_pool.specs.Pools.{HaveOwnNumbers, AreModest};
-ghost use Rattle.waiting_pool.specs.Pools.{Pooled, IsPool, HasRoom, jobs_at, most_places};
+ghost use Rattle.waiting_pool.specs.Pools.{HaveOwnNumbers, AreModest, Pooled, IsPool, HasRoom, jobs_at, most_places};
 ghost use Rattle.waiting_pool.specs.Short.{no_number};
 ghost use Rattle.waiting_pool.specs.Slots.{seen};
 
 use crate::short::{ShortTask, left};
-use crate::slot::Slot;
+use crate::slot::WaitingSlot;
+use comparison_count::Comparisons;
 use dover_model::{Memory, Task, Version};
 use place_heap::{Heap, Item, tie_of};
 use std::alloc::Global;
 use std::marker::Model;
 use std::sync::ledger::Ledger;
-use step_count::Steps;
 
 /// A set of jobs that wait, with the first by deadline and the first by latest start at hand. Each has a place, which
 /// another takes once it is gone. A place is opened where none is free, so room that no job needs isn't touched.
 #[derive(Drop)]
 pub struct Pool {
     version: Version,
-    slots: Vec<Slot>,
+    slots: Vec<WaitingSlot>,
     free: Vec<u32>,
     by_deadline: Heap,
     by_latest: Heap,
@@ -81,7 +76,7 @@ fn latest_item(version: Version, place: u32, t: &Task) -> Item
 
 // What is at a place.
 #[inline(always)]
-fn job_at(slots: &Vec<Slot>, place: u32) -> Option<&ShortTask>
+fn job_at(slots: &Vec<WaitingSlot>, place: u32) -> Option<&ShortTask>
     requires { place < length slots.now.items }
     ensures { slice_get slots.now.items place ≡ Some (seen result) }
 {
@@ -90,7 +85,7 @@ fn job_at(slots: &Vec<Slot>, place: u32) -> Option<&ShortTask>
 
 // What is at a place, taken over.
 #[inline(always)]
-fn task_at(slots: &Vec<Slot>, place: u32) -> Option<Task>
+fn task_at(slots: &Vec<WaitingSlot>, place: u32) -> Option<Task>
     requires { place < length slots.now.items }
     ensures { slice_get slots.now.items place ≡ Some result }
 {
@@ -102,40 +97,40 @@ fn task_at(slots: &Vec<Slot>, place: u32) -> Option<Task>
 
 // Puts a job at a place.
 #[inline(always)]
-fn put_at(slots: &mut Vec<Slot>, place: u32, t: &Task)
+fn put_at(slots: &mut Vec<WaitingSlot>, place: u32, t: &Task)
     requires inside { place < length slots.old.items }
     requires number { t.now.number < no_number }
     ensures items { slots.new.items ≡ slice_set slots.old.items place (Some t.now) }
     ensures len { vec_len slots.new ≡ vec_len slots.old }
     ensures capacity { vec_capacity slots.new ≡ vec_capacity slots.old }
 {
-    slots[place as usize] = Slot::of(t);
+    slots[place as usize] = WaitingSlot::of(t);
 }
 
 // Leaves no job at a place.
 #[inline(always)]
-fn clear_at(slots: &mut Vec<Slot>, place: u32)
+fn clear_at(slots: &mut Vec<WaitingSlot>, place: u32)
     requires { place < length slots.old.items }
     ensures items { slots.new.items ≡ slice_set slots.old.items place None }
     ensures len { vec_len slots.new ≡ vec_len slots.old }
     ensures capacity { vec_capacity slots.new ≡ vec_capacity slots.old }
 {
-    slots[place as usize] = Slot::empty();
+    slots[place as usize] = WaitingSlot::empty();
 }
 
 // Opens the next place, where no job is.
 #[inline(always)]
-fn open_place(slots: &mut Vec<Slot>)
+fn open_place(slots: &mut Vec<WaitingSlot>)
     requires { length slots.old.items < vec_capacity slots.old }
     ensures items { slots.new.items ≡ slots.old.items ++ None ∷ [] }
     ensures capacity { vec_capacity slots.new ≡ vec_capacity slots.old }
 {
-    slots.push_reserved(Slot::empty());
+    slots.push_reserved(WaitingSlot::empty());
 }
 
 // The last free place, which is free no more. Where none is, the next one is opened.
 #[inline(always)]
-fn next_place(slots: &mut Vec<Slot>, free: &mut Vec<u32>) -> u32
+fn next_place(slots: &mut Vec<WaitingSlot>, free: &mut Vec<u32>) -> u32
     requires room { length (jobs_at slots.old.items) < vec_capacity slots.old }
     requires count { length free.old.items + length (jobs_at slots.old.items) ≡ length slots.old.items }
     requires few { length slots.old.items < 2 ^ 32 }
@@ -161,12 +156,12 @@ fn next_place(slots: &mut Vec<Slot>, free: &mut Vec<u32>) -> u32
 // Takes the job at a place out, which is then free.
 #[inline(always)]
 fn take_at<L: Ledger>(
-    slots: &mut Vec<Slot>,
+    slots: &mut Vec<WaitingSlot>,
     free: &mut Vec<u32>,
     by_deadline: &mut Heap,
     by_latest: &mut Heap,
     place: u32,
-    steps: &mut Steps<L>,
+    comparisons: &mut Comparisons<L>,
 )
     requires some { (t : Task) × (slice_get slots.old.items place ≡ Some (Some t)) }
     requires pool { (version : Version) × IsPool version slots.old.items free.old.items by_deadline.old by_latest.old }
@@ -180,17 +175,17 @@ fn take_at<L: Ledger>(
     ensures slots { vec_capacity slots.new ≡ vec_capacity slots.old }
     ensures due { length by_deadline.new ≡ length by_deadline.old }
     ensures latest { length by_latest.new ≡ length by_latest.old }
-    ensures count { (d : ℕ) → length (jobs_at slots.old.items) + 1 < 2 ^ d → steps.new ≤ steps.old + 6 * d }
+    ensures count { (d : ℕ) → length (jobs_at slots.old.items) + 1 < 2 ^ d → comparisons.new ≤ comparisons.old + 6 * d }
 {
     clear_at(slots, place);
     free.push_reserved(place);
-    by_deadline.remove(place, steps);
-    by_latest.remove(place, steps);
+    by_deadline.remove(place, comparisons);
+    by_latest.remove(place, comparisons);
 }
 
 // Memory for so many places, which all may be free, and for as many in both heaps. Want of it leaves what is there.
 fn reserve_places(
-    slots: &mut Vec<Slot>,
+    slots: &mut Vec<WaitingSlot>,
     free: &mut Vec<u32>,
     by_deadline: &mut Heap,
     by_latest: &mut Heap,
@@ -281,19 +276,19 @@ impl Pool {
 
     /// A job begins to wait, for which there is room.
     #[inline(always)]
-    pub fn add<L: Ledger>(&mut self, t: Task, steps: &mut Steps<L>)
+    pub fn add<L: Ledger>(&mut self, t: Task, comparisons: &mut Comparisons<L>)
         requires room { length self.old.tasks < self.old.room }
         requires number { t.number < no_number }
         ensures kept { self.new ≡ record self.old { tasks = self.new.tasks } }
         ensures more { IsReordered (t ∷ self.old.tasks) self.new.tasks }
-        ensures count { (d : ℕ) → length self.old.tasks + 1 < 2 ^ d → steps.new ≤ steps.old + 2 * d }
+        ensures count { (d : ℕ) → length self.old.tasks + 1 < 2 ^ d → comparisons.new ≤ comparisons.old + 2 * d }
     {
         let place = next_place(&mut self.slots, &mut self.free);
         let due = due_item(self.version, place, &t);
         let latest = latest_item(self.version, place, &t);
         put_at(&mut self.slots, place, &t);
-        self.by_deadline.insert(due, steps);
-        self.by_latest.insert(latest, steps);
+        self.by_deadline.insert(due, comparisons);
+        self.by_latest.insert(latest, comparisons);
     }
 
     /// The first by deadline, if one waits. Ties go by the version.
@@ -331,14 +326,14 @@ impl Pool {
 
     /// Takes the first by deadline out, if one waits.
     #[inline(always)]
-    pub fn take_deadline<L: Ledger>(&mut self, steps: &mut Steps<L>) -> Option<Task>
+    pub fn take_deadline<L: Ledger>(&mut self, comparisons: &mut Comparisons<L>) -> Option<Task>
         requires own { HaveOwnNumbers self.old.tasks }
         requires modest { AreModest self.old.tasks }
         ensures was { result ≡ first (due_first self.old.version) self.old.tasks }
         ensures rest { (t : Task) → result ≡ Some t → IsReordered self.old.tasks (t ∷ self.new.tasks) }
         ensures none { result ≡ None → self.new.tasks ≡ self.old.tasks }
         ensures kept { self.new ≡ record self.old { tasks = self.new.tasks } }
-        ensures count { (d : ℕ) → length self.old.tasks + 1 < 2 ^ d → steps.new ≤ steps.old + 6 * d }
+        ensures count { (d : ℕ) → length self.old.tasks + 1 < 2 ^ d → comparisons.new ≤ comparisons.old + 6 * d }
     {
         let item = self.by_deadline.first()?;
         let place = item.place();
@@ -349,21 +344,21 @@ impl Pool {
             &mut self.by_deadline,
             &mut self.by_latest,
             place,
-            steps,
+            comparisons,
         );
         task
     }
 
     /// Takes the first by latest start out, if one waits.
     #[inline(always)]
-    pub fn take_latest<L: Ledger>(&mut self, steps: &mut Steps<L>)
+    pub fn take_latest<L: Ledger>(&mut self, comparisons: &mut Comparisons<L>)
         requires own { HaveOwnNumbers self.old.tasks }
         requires modest { AreModest self.old.tasks }
         ensures rest { (t : Task) → first (starts_before self.old.version) self.old.tasks ≡ Some t
             → IsReordered self.old.tasks (t ∷ self.new.tasks) }
         ensures none { first (starts_before self.old.version) self.old.tasks ≡ None → self.new.tasks ≡ self.old.tasks }
         ensures kept { self.new ≡ record self.old { tasks = self.new.tasks } }
-        ensures count { (d : ℕ) → length self.old.tasks + 1 < 2 ^ d → steps.new ≤ steps.old + 6 * d }
+        ensures count { (d : ℕ) → length self.old.tasks + 1 < 2 ^ d → comparisons.new ≤ comparisons.old + 6 * d }
     {
         if let Some(item) = self.by_latest.first() {
             take_at(
@@ -372,7 +367,7 @@ impl Pool {
                 &mut self.by_deadline,
                 &mut self.by_latest,
                 item.place(),
-                steps,
+                comparisons,
             );
         }
     }

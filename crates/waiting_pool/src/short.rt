@@ -1,7 +1,6 @@
 //! A job at a moment, in little room.
 ghost use Rattle.std.specs.Prelude.{◌≡◌, ◌≤◌};
-ghost use Rattle.dover_model.specs.Limits.{most_value};
-ghost use Rattle.dover_model.specs.State.{left};
+ghost use Rattle.dover_model.specs.Common.{most_value, left};
 ghost use Rattle.dover_model.specs.declared.events.Task.{Task};
 ghost use Rattle.waiting_pool.specs.Short.{no_number, task_in, IsShort};
 

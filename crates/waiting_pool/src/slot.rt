@@ -9,11 +9,11 @@ use std::marker::Model;
 
 /// The job that waits at a place, or none.
 #[derive(Drop)]
-pub(crate) struct Slot {
+pub(crate) struct WaitingSlot {
     task: ShortTask,
 }
 
-impl Model for Slot {
+impl Model for WaitingSlot {
     ghost use Rattle.std.specs.Prelude.{Option};
     ghost use Rattle.dover_model.specs.declared.events.Task.{Task};
     ghost use Rattle.waiting_pool.specs.Slots.{job_or_none};
@@ -23,24 +23,24 @@ impl Model for Slot {
     ghost view = { λ s. job_or_none s.task };
 }
 
-impl Slot {
+impl WaitingSlot {
     /// No job waits there.
     #[inline(always)]
-    pub(crate) fn empty() -> Slot
+    pub(crate) fn empty() -> WaitingSlot
         ensures { result ≡ None }
     {
-        Slot {
+        WaitingSlot {
             task: ShortTask::blank(),
         }
     }
 
     /// This job waits there.
     #[inline(always)]
-    pub(crate) fn of(t: &Task) -> Slot
+    pub(crate) fn of(t: &Task) -> WaitingSlot
         requires { t.now.number < no_number }
         ensures { result ≡ Some t.now }
     {
-        Slot {
+        WaitingSlot {
             task: ShortTask::of(t),
         }
     }

@@ -1,7 +1,7 @@
 -- The pieces and the value of a set, by computation.
 use Rattle.std.proofs.Common.{◌≡◌, ℕ, [], ◌∷◌, refl}
 use Rattle.dover_model.specs.declared.pieces.Piece.{Piece}
-use Rattle.dover_model.proofs.Written.{job}
+use Rattle.dover_model.proofs.rows.Written.{job}
 use Rattle.clairvoyant.specs.best.BestSet.{value_of, pieces_of}
 
 -- the ticks from one on and before another

@@ -1,19 +1,16 @@
 -- Schedules of the jobs of a set, under their places there and under their numbers among all jobs.
 use Rattle.std.proofs.Common.{◌≡◌, ℕ, suc, zero, ◌+◌, ◌-◌, ◌≤◌, ◌<◌, inl, inr, List, [], ◌∷◌, ◌++◌, length, get_or, map}
-use Rattle.std.proofs.Common.{refl}
-use Rattle.std.proofs.Common.{sym, ap, ◌∙◌, subst, arith, cond, eqb, Bool, true, false, IsTrue, replicate}
-use Rattle.std.specs.Prelude.{Some, None, Option, slice_get, IfSome, ◌&&◌, ◌==◌}
+use Rattle.std.proofs.Common.{refl, sym, ap, ◌∙◌, subst, arith, cond, eqb, Bool, true, false, IsTrue, replicate, Some}
+use Rattle.std.proofs.Common.{None, Option, slice_get, IfSome, ◌&&◌, ◌==◌}
 use Rattle.std.specs.List.{enumerate_from, cons_option, AllByRecursion}
 use Rattle.std.proofs.lemmas.List.{map-append}
-use Rattle.dover_model.specs.JobFacts.{JobFacts}
-use Rattle.dover_model.specs.Schedules.{is_served}
-use Rattle.dover_model.specs.Sound.{IsMember, Each}
-use Rattle.dover_model.proofs.Parting.{served_map}
+use Rattle.dover_model.specs.Common.{JobFacts, is_served, IsMember, Each, spread, stretches}
+use Rattle.dover_model.proofs.rest.Parting.{served_map}
 use Rattle.dover_model.specs.declared.pieces.Piece.{Piece}
-use Rattle.dover_model.specs.Pieces.{spread, spread_from, stretches, stretches_from, with_tick}
+use Rattle.dover_model.specs.Pieces.{spread_from, stretches_from, with_tick}
 use Rattle.clairvoyant.specs.best.BestSet.{RiseWithin, Serves, jobs_at, renumbered}
 use Rattle.clairvoyant.proofs.best.Values.{Has, has}
-use Rattle.dover_model.proofs.ValidParts.{ReleasesInOrder}
+use Rattle.dover_model.proofs.valid.ValidParts.{ReleasesInOrder}
 
 -- the jobs of a set, one by one
 pub jobs_cons : (jobs : List JobFacts) (n : ℕ) (j : JobFacts) (chosen : List ℕ) → slice_get jobs n ≡ Some j

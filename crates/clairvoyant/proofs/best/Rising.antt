@@ -1,7 +1,6 @@
 -- Lists of rising numbers.
 use Rattle.std.proofs.Common.{◌≡◌, ℕ, suc, zero, ◌+◌, ◌≤◌, ◌<◌, ◌⊎◌, inl, inr, List, [], ◌∷◌, ◌++◌, length, get_or}
-use Rattle.std.proofs.Common.{refl, sym, ap, ◌∙◌, eqb}
-use Rattle.std.proofs.Common.{subst, arith, cond, Bool, true, false}
+use Rattle.std.proofs.Common.{refl, sym, ap, ◌∙◌, eqb, subst, arith, cond, Bool, true, false}
 use Rattle.dover_model.specs.Sound.{IsMember, Each}
 use Rattle.clairvoyant.specs.best.BestSet.{RiseWithin}
 

@@ -1,24 +1,17 @@
 -- What one step of the search finds, from what its two branches find.
-use Rattle.dover_model.specs.Fraction.{fraction}
+use Rattle.dover_model.specs.Common.{fraction, JobFacts, Rules, total_value, worth, IsMember, Each, edf, spread}
 use Rattle.std.proofs.Common.{◌≡◌, ℕ, suc, ◌+◌, ◌-◌, ◌≤◌, ◌<◌, ◌⊎◌, inl, inr, List, [], ◌∷◌, ◌++◌, length, drop, get_or}
-use Rattle.std.proofs.Common.{map, refl, sym, ap}
-use Rattle.std.proofs.Common.{◌∙◌, subst, arith, add-one, append_assoc, cond, eqb, leb, Bool, true, false}
-use Rattle.std.specs.Prelude.{Some, None, Option, slice_get, MatchOption, Result, Ok, Err, IfOk}
-use Rattle.std.proofs.lemmas.Bool.{leb-true, leb-false}
-use Rattle.std.proofs.lemmas.List.{append-nil, drop_all}
+use Rattle.std.proofs.Common.{map, refl, sym, ap, ◌∙◌, subst, arith, add-one, append_assoc, cond, eqb, leb, Bool, true}
+use Rattle.std.proofs.Common.{false, Some, None, Option, slice_get, MatchOption, Result, Ok, Err, IfOk, leb-true}
+use Rattle.std.proofs.Common.{leb-false, append-nil}
+use Rattle.std.proofs.lemmas.List.{drop_all}
 use Rattle.std.proofs.lemmas.List.Sums.{sum_by-cons, sum_by-drop_more}
-use Rattle.dover_model.specs.JobFacts.{JobFacts}
-use Rattle.dover_model.specs.Instance.{Rules, total_value}
-use Rattle.dover_model.specs.Schedules.{worth}
-use Rattle.dover_model.specs.Sound.{IsMember, Each}
 use Rattle.dover_model.specs.declared.events.Version.TheVariants.{One}
-use Rattle.dover_model.specs.Pieces.{edf, spread}
 use Rattle.clairvoyant.specs.feasible.Feasibility.{ServesAll, CannotMeet, CanMeet}
-use Rattle.dover_model.proofs.Members.{member_front, member_behind, member_either}
+use Rattle.dover_model.proofs.lists.Members.{member_front, member_behind, member_either}
 use Rattle.clairvoyant.specs.declared.best.choice.Choice.{Choice}
 use Rattle.clairvoyant.specs.best.BestSet.{RiseWithin, Serves, IsGood, IsEarlier, IsBestSet, value_at, value_of}
-use Rattle.clairvoyant.specs.best.BestSet.{jobs_at}
-use Rattle.clairvoyant.specs.best.BestSet.{renumbered}
+use Rattle.clairvoyant.specs.best.BestSet.{jobs_at, renumbered}
 use Rattle.clairvoyant.specs.best.Search.{IsChoice, Extends, NoneFound, IsFound, IsSearched}
 use Rattle.clairvoyant.proofs.best.Rising.{rise_wider, rise_each, rise_append, rise_length, rise_split, place, place_at}
 use Rattle.clairvoyant.proofs.best.Values.{get_is, value_is, most_more, value_append, served_good, worth_served}

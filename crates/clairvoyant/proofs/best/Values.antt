@@ -1,19 +1,14 @@
 -- The values of sets of jobs, and what schedules are worth.
 use Rattle.std.proofs.Common.{◌≡◌, ℕ, suc, zero, ◌+◌, ◌*◌, ◌≤◌, ◌<◌, inl, inr, List, [], ◌∷◌, ◌++◌, length, drop}
-use Rattle.std.proofs.Common.{get_or, refl, sym, ap}
-use Rattle.std.proofs.Common.{◌∙◌, subst, arith, add-one, cond, eqb, Bool, true, false, IsTrue}
-use Rattle.std.specs.Prelude.{Some, slice_get, IfSome}
-use Rattle.std.specs.List.{sum_by, enumerate_from}
+use Rattle.std.proofs.Common.{get_or, refl, sym, ap, ◌∙◌, subst, arith, add-one, cond, eqb, Bool, true, false, IsTrue}
+use Rattle.std.proofs.Common.{Some, slice_get, IfSome, sum_by, length-drop}
+use Rattle.std.specs.List.{enumerate_from}
 use Rattle.std.specs.Option.{option_map_or}
-use Rattle.std.proofs.lemmas.List.{length-drop}
 use Rattle.std.proofs.lemmas.List.Sums.{sum_by-cons, sum_by-append}
-use Rattle.dover_model.specs.JobFacts.{JobFacts, IsJob}
-use Rattle.dover_model.specs.Instance.{Rules, total_value}
-use Rattle.dover_model.specs.Schedules.{is_served, worth}
-use Rattle.dover_model.specs.Sound.{IsMember, Each}
+use Rattle.dover_model.specs.Common.{JobFacts, IsJob, Rules, total_value, is_served, worth, IsMember, Each}
 use Rattle.clairvoyant.specs.best.BestSet.{RiseWithin, Serves, IsGood, value_at, value_of}
 use Rattle.clairvoyant.proofs.best.Rising.{rise_wider}
-use Rattle.dover_model.proofs.JobLimits.{job_limits}
+use Rattle.dover_model.proofs.valid.JobLimits.{job_limits}
 
 -- the job of a number
 pub record Has (jobs : List JobFacts) (n : ℕ) : Type 0 where

@@ -1,21 +1,15 @@
 -- What the schedule by earliest deadline comes to, over many ticks in which one job runs, or none.
 use Rattle.std.proofs.Common.{◌≡◌, ℕ, ◌+◌, ◌-◌, ◌≤◌, ◌<◌, ◌⊎◌, inl, inr, List, ◌++◌, map, drop, replicate, refl, sym}
-use Rattle.std.proofs.Common.{ap, ◌∙◌, subst, Bool}
-use Rattle.std.proofs.Common.{true, false, cond, arith, append_assoc}
-use Rattle.std.specs.Prelude.{nat_le}
-use Rattle.std.specs.List.{sum_by}
-use Rattle.std.proofs.lemmas.Bool.{le-leb, and_from, cases_lt}
-use Rattle.std.proofs.lemmas.List.{length-append, length-replicate}
-use Rattle.dover_model.specs.Limits.{idle}
-use Rattle.dover_model.specs.JobFacts.{JobFacts}
-use Rattle.dover_model.specs.State.{left}
-use Rattle.dover_model.specs.Sound.{IsMember, Each, IsNumberedFrom, jobs_of}
-use Rattle.dover_model.specs.Windows.{is_inside}
-use Rattle.dover_model.specs.Pieces.{edf_from, last_release}
+use Rattle.std.proofs.Common.{ap, ◌∙◌, subst, Bool, true, false, cond, arith, append_assoc, nat_le, sum_by, le-leb}
+use Rattle.std.proofs.Common.{length-append}
+use Rattle.std.proofs.lemmas.Bool.{and_from, cases_lt}
+use Rattle.std.proofs.lemmas.List.{length-replicate}
+use Rattle.dover_model.specs.Common.{idle, JobFacts, left, IsMember, Each, IsNumberedFrom, jobs_of, is_inside, edf_from}
+use Rattle.dover_model.specs.Common.{last_release}
 use Rattle.dover_model.specs.declared.events.Task.{Task}
-use Rattle.dover_model.proofs.Members.{on_map, map_map, map_same, sum_map, term_le_sum}
-use Rattle.dover_model.proofs.Roles.{one_number, numbered_map}
-use Rattle.dover_model.proofs.Loads.{sum_change}
+use Rattle.dover_model.proofs.lists.Members.{on_map, map_map, map_same, sum_map, term_le_sum}
+use Rattle.dover_model.proofs.steps.Roles.{one_number, numbered_map}
+use Rattle.dover_model.proofs.steps.Loads.{sum_change}
 use Rattle.clairvoyant.specs.feasible.Progress.{had_inside, IsBusy, HasCome}
 use Rattle.clairvoyant.proofs.feasible.EarliestFirst.{given_ticks, by_given, IsBehind, Leads, Rests, edf_run, edf_idle}
 use Rattle.clairvoyant.proofs.feasible.Shares.{named, run_adds, other_adds_none}

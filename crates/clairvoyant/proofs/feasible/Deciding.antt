@@ -1,21 +1,16 @@
 -- What the whole schedule by earliest deadline shows of the jobs.
-use Rattle.std.proofs.Common.{◌≡◌, ℕ, ◌+◌, ◌-◌, ◌≤◌, ◌<◌, ◌⊎◌, inl, inr, List, [], ◌∷◌, ◌++◌, length, take}
-use Rattle.std.proofs.Common.{drop, replicate}
-use Rattle.std.proofs.Common.{refl, sym, ap, subst, Bool, true, false, cond, eqb, arith, IsTrue}
-use Rattle.std.specs.Prelude.{nat_le, Some, None}
-use Rattle.std.specs.List.{sum_by, count_by, enumerate_from}
-use Rattle.std.proofs.lemmas.Bool.{le-leb, leb-true, ne_eqb, and_parts, cases_lt}
-use Rattle.std.proofs.lemmas.List.{length-drop, length-take}
+use Rattle.std.proofs.Common.{◌≡◌, ℕ, ◌+◌, ◌-◌, ◌≤◌, ◌<◌, ◌⊎◌, inl, inr, List, [], ◌∷◌, ◌++◌, length, take, drop}
+use Rattle.std.proofs.Common.{replicate, refl, sym, ap, subst, Bool, true, false, cond, eqb, arith, IsTrue, nat_le}
+use Rattle.std.proofs.Common.{Some, None, sum_by, count_by, le-leb, leb-true, ne_eqb, length-drop, length-take}
+use Rattle.std.specs.List.{enumerate_from}
+use Rattle.std.proofs.lemmas.Bool.{and_parts, cases_lt}
 use Rattle.dover_model.specs.declared.events.Version.TheVariants.{Two}
-use Rattle.dover_model.specs.Limits.{idle, most_jobs}
-use Rattle.dover_model.specs.JobFacts.{JobFacts}
-use Rattle.dover_model.specs.Schedules.{is_served, ticks_given}
-use Rattle.dover_model.specs.Sound.{IsMember, Each}
-use Rattle.dover_model.specs.Windows.{IsOverfull, is_inside, work_inside}
-use Rattle.dover_model.specs.Pieces.{AreInOrder, spread, stretches, edf}
+use Rattle.dover_model.specs.Common.{idle, most_jobs, JobFacts, is_served, ticks_given, IsMember, Each, IsOverfull}
+use Rattle.dover_model.specs.Common.{is_inside, work_inside, spread, stretches, edf}
+use Rattle.dover_model.specs.Pieces.{AreInOrder}
 use Rattle.dover_model.specs.declared.pieces.Piece.{Piece}
-use Rattle.dover_model.proofs.Members.{sum_le, each_all}
-use Rattle.dover_model.proofs.Serving.{given_less, one_name_per_tick, sum_numbered}
+use Rattle.dover_model.proofs.lists.Members.{sum_le, each_all}
+use Rattle.dover_model.proofs.runs.Serving.{given_less, one_name_per_tick, sum_numbered}
 use Rattle.clairvoyant.specs.feasible.Feasibility.{IsRelease, ServesAll, ShowsAll, ShowsWindow}
 use Rattle.clairvoyant.specs.feasible.Progress.{IsLateBy, IsWhole}
 use Rattle.clairvoyant.proofs.feasible.Overfull.{work_is, overfull_excludes}

@@ -1,24 +1,20 @@
 -- The schedule by earliest deadline over many ticks in which one job runs, or none.
 use Rattle.std.proofs.Common.{◌≡◌, ℕ, zero, suc, ◌+◌, ◌≤◌, ◌<◌, ◌⊎◌, inl, inr, List, [], ◌∷◌, ◌++◌, map, replicate}
-use Rattle.std.proofs.Common.{refl, sym, ap, ◌∙◌}
-use Rattle.std.proofs.Common.{subst, Bool, true, false, cond, eqb, arith}
-use Rattle.std.specs.Prelude.{Some, ◌&&◌, nat_le, nat_lt, Option}
-use Rattle.std.specs.List.{filter, list_all, fold}
+use Rattle.std.proofs.Common.{refl, sym, ap, ◌∙◌, subst, Bool, true, false, cond, eqb, arith, Some, ◌&&◌, nat_le}
+use Rattle.std.proofs.Common.{nat_lt, Option, filter, fold, eqb-true, eq-eqb, ne_eqb, lt-ltb, ltb-true, le-leb}
+use Rattle.std.proofs.Common.{leb-true}
+use Rattle.std.specs.List.{list_all}
 use Rattle.std.specs.Option.{option_map_or}
-use Rattle.std.proofs.lemmas.Bool.{eqb-true, eqb-false, eq-eqb, ne_eqb, lt-ltb, ltb-true, le-leb, leb-true, and_parts}
-use Rattle.std.proofs.lemmas.Bool.{and_from, or_left, or_right}
-use Rattle.dover_model.specs.Limits.{idle}
-use Rattle.dover_model.specs.State.{left}
-use Rattle.dover_model.specs.Orders.{earlier, first, due_first}
-use Rattle.dover_model.specs.Sound.{IsMember, Each, IsNumberedFrom}
-use Rattle.dover_model.specs.Pieces.{given, is_served_fully, earliest_due, edf_from}
+use Rattle.std.proofs.lemmas.Bool.{eqb-false, and_parts, and_from, or_left, or_right}
+use Rattle.dover_model.specs.Common.{idle, left, earlier, first, due_first, IsMember, Each, IsNumberedFrom, given}
+use Rattle.dover_model.specs.Common.{edf_from, entry_of}
+use Rattle.dover_model.specs.Pieces.{is_served_fully, earliest_due}
 use Rattle.dover_model.specs.declared.events.Task.{Task}
 use Rattle.dover_model.specs.declared.events.Version.TheVariants.{One}
-use Rattle.dover_model.specs.Entries.{entry_of}
-use Rattle.dover_model.proofs.EntryOrders.{strict_by}
-use Rattle.dover_model.proofs.Members.{by_bool, filter_member, member_filter, all_each, on_map, map_member, map_map}
-use Rattle.dover_model.proofs.Members.{map_same, map_self, filter_none}
-use Rattle.dover_model.proofs.Roles.{one_number, numbered_map}
+use Rattle.dover_model.proofs.steps.EntryOrders.{strict_by}
+use Rattle.dover_model.proofs.lists.Members.{by_bool, filter_member, member_filter, all_each, on_map, map_member}
+use Rattle.dover_model.proofs.lists.Members.{map_map, map_same, map_self, filter_none}
+use Rattle.dover_model.proofs.steps.Roles.{one_number, numbered_map}
 
 -- ---- ticks given to one job
 

@@ -1,23 +1,21 @@
 -- The jobs that are released and not done, as their heap changes.
 use Rattle.std.proofs.Common.{◌≡◌, ℕ, ◌+◌, ◌*◌, ◌/◌, ◌%◌, ◌^◌, ◌≤◌, ◌<◌, ◌⊎◌, inl, inr, List, [], ◌∷◌, ◌++◌, length}
-use Rattle.std.proofs.Common.{refl, sym, ap, ◌∙◌, subst, arith, true, false, cond, Option}
-use Rattle.std.specs.Prelude.{Some, None, IsSome, IfSome, slice_index_or, slice_set, IsPermutation, ◌==◌}
+use Rattle.std.proofs.Common.{refl, sym, ap, ◌∙◌, subst, arith, true, false, cond, Option, Some, None, IsSome, IfSome}
+use Rattle.std.proofs.Common.{slice_index_or, slice_set, IsPermutation, ◌==◌, sum_by, nat_cmp, is_lt, eq-eqb, ne_eqb}
+use Rattle.std.proofs.Common.{get_or-set_same, get_or-set_other, length-set, length-append}
 use Rattle.std.specs.declared.cmp.Ordering.{Ordering}
 use Rattle.std.specs.declared.cmp.Ordering.TheVariants.{Less, Equal, Greater}
 use Rattle.std.specs.BinaryHeap.{IsHeap, IsUpperBound, PopsGreatest}
-use Rattle.std.specs.List.{sum_by}
-use Rattle.std.specs.Ordering.{nat_cmp, is_lt}
-use Rattle.std.proofs.lemmas.Bool.{cases_eq, eq-eqb, ne_eqb}
+use Rattle.std.proofs.lemmas.Bool.{cases_eq}
 use Rattle.std.proofs.lemmas.Cmp.{ranked}
 use Rattle.std.proofs.lemmas.Nat.{div-mul-add, mod-mul-add}
 use Rattle.std.proofs.Math.Nat.{div-add-mod, mod-lt}
-use Rattle.std.proofs.lemmas.List.{get_or-set_same, get_or-set_other, get_or_append_left, get_or_push, length-set}
-use Rattle.std.proofs.lemmas.List.{length-append}
+use Rattle.std.proofs.lemmas.List.{get_or_append_left, get_or_push}
 use Rattle.std.proofs.lemmas.List.Elements.{All-from_recursion, recursion_from_All}
 use Rattle.std.proofs.lemmas.List.Sorted.{All-permutation, IsPermutation-map, sum_by_pushed, sum_by_popped}
 use Rattle.std.proofs.lemmas.List.Sums.{sum_by-cons}
 use Rattle.dover_model.specs.Sound.{IsMember, Each}
-use Rattle.dover_model.proofs.Members.{all_member, on_map, map_same, sum_zero, term_le_sum, each_all}
+use Rattle.dover_model.proofs.lists.Members.{all_member, on_map, map_same, sum_zero, term_le_sum, each_all}
 use Rattle.clairvoyant.specs.feasible.Queue.{Kept, Turn, key_of, turn_cmp, kept_of, is_of, IsInTurn, AreBehind, IsFirst}
 use Rattle.clairvoyant.specs.feasible.Queue.{IsTakenOut}
 

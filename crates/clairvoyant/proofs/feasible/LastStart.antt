@@ -1,21 +1,17 @@
 -- The greatest start of an overfull window, found from the last job on.
 use Rattle.std.proofs.Common.{◌≡◌, ℕ, ◌+◌, ◌-◌, ◌≤◌, ◌<◌, ◌⊎◌, inl, inr, List, [], ◌∷◌, ◌++◌, length, take, drop}
-use Rattle.std.proofs.Common.{get_or, take-append-drop}
-use Rattle.std.proofs.Common.{refl, sym, ap, ◌∙◌, subst, Bool, true, false, cond, arith}
-use Rattle.std.specs.Prelude.{nat_le, ◌&&◌}
-use Rattle.std.specs.List.{sum_by}
-use Rattle.std.proofs.lemmas.Bool.{le-leb, lt-leb, cases_lt}
+use Rattle.std.proofs.Common.{get_or, take-append-drop, refl, sym, ap, ◌∙◌, subst, Bool, true, false, cond, arith}
+use Rattle.std.proofs.Common.{nat_le, ◌&&◌, sum_by, le-leb}
+use Rattle.std.proofs.lemmas.Bool.{lt-leb, cases_lt}
 use Rattle.std.proofs.lemmas.List.{drop_more}
 use Rattle.std.proofs.lemmas.List.Sums.{sum_by-cons, sum_by-append}
-use Rattle.dover_model.specs.JobFacts.{JobFacts, IsJob}
-use Rattle.dover_model.specs.Sound.{Each}
-use Rattle.dover_model.specs.Windows.{IsOverfull, is_inside, work_inside}
-use Rattle.dover_model.proofs.Members.{all_member, sum_le, sum_same, sum_zero, member_behind}
-use Rattle.dover_model.proofs.Valid.{order_back}
+use Rattle.dover_model.specs.Common.{JobFacts, IsJob, Each, IsOverfull, is_inside, work_inside}
+use Rattle.dover_model.proofs.lists.Members.{all_member, sum_le, sum_same, sum_zero, member_behind}
+use Rattle.dover_model.proofs.valid.Valid.{order_back}
 use Rattle.clairvoyant.specs.feasible.Feasibility.{IsRelease}
 use Rattle.clairvoyant.proofs.feasible.Overfull.{work_is}
-use Rattle.dover_model.proofs.ValidParts.{ReleasesInOrder}
-use Rattle.dover_model.proofs.JobLimits.{job_limits}
+use Rattle.dover_model.proofs.valid.ValidParts.{ReleasesInOrder}
+use Rattle.dover_model.proofs.valid.JobLimits.{job_limits}
 
 -- what a job asks of the window
 abbrev pub asked : ℕ → ℕ → JobFacts → ℕ

@@ -1,25 +1,20 @@
 -- What is shown by a job that can't be done in time, and which jobs are served.
 use Rattle.std.proofs.Common.{◌≡◌, ℕ, ◌+◌, ◌≤◌, ◌<◌, ◌⊎◌, inl, inr, List, ◌++◌, map, drop, replicate, min, refl, sym}
-use Rattle.std.proofs.Common.{ap, ◌∙◌, subst, Bool}
-use Rattle.std.proofs.Common.{true, false, cond, eqb, arith, IsTrue, Option}
-use Rattle.std.specs.Prelude.{nat_le, nat_lt, Some, None}
-use Rattle.std.proofs.lemmas.Bool.{le-leb, leb-true, lt-ltb, le-ltb, and_from, cases_lt}
-use Rattle.std.proofs.lemmas.List.{length-append, length-replicate}
-use Rattle.dover_model.specs.JobFacts.{JobFacts, IsJob}
-use Rattle.dover_model.specs.Schedules.{is_served, ticks_given}
-use Rattle.dover_model.specs.State.{left}
-use Rattle.dover_model.specs.Sound.{IsMember}
-use Rattle.dover_model.specs.Windows.{is_inside, work_inside}
+use Rattle.std.proofs.Common.{ap, ◌∙◌, subst, Bool, true, false, cond, eqb, arith, IsTrue, Option, nat_le, nat_lt, Some}
+use Rattle.std.proofs.Common.{None, le-leb, leb-true, lt-ltb, le-ltb, length-append}
+use Rattle.std.proofs.lemmas.Bool.{and_from, cases_lt}
+use Rattle.std.proofs.lemmas.List.{length-replicate}
+use Rattle.dover_model.specs.Common.{JobFacts, IsJob, is_served, ticks_given, left, IsMember, is_inside, work_inside}
 use Rattle.dover_model.specs.declared.events.Task.{Task}
-use Rattle.dover_model.proofs.Members.{on_map, map_member}
-use Rattle.dover_model.proofs.Loads.{sum_change}
-use Rattle.dover_model.proofs.Serving.{demand_in}
+use Rattle.dover_model.proofs.lists.Members.{on_map, map_member}
+use Rattle.dover_model.proofs.steps.Loads.{sum_change}
+use Rattle.dover_model.proofs.runs.Serving.{demand_in}
 use Rattle.clairvoyant.specs.feasible.Progress.{had_inside, IsBusy, HasCome, IsLateBy, with_late, IsShown, AreServed}
 use Rattle.clairvoyant.proofs.feasible.EarliestFirst.{had_more, given_ticks, by_given, Leads}
 use Rattle.clairvoyant.proofs.feasible.Shares.{named, run_adds, whole_window, given_grows}
 use Rattle.clairvoyant.proofs.feasible.Coming.{leader}
 use Rattle.clairvoyant.proofs.feasible.Overfull.{work_of_tasks}
-use Rattle.dover_model.proofs.JobLimits.{job_limits}
+use Rattle.dover_model.proofs.valid.JobLimits.{job_limits}
 
 -- ---- the late deadline
 

@@ -1,21 +1,16 @@
 -- The tasks of a list of jobs, by their numbers.
-use Rattle.std.proofs.Common.{◌≡◌, ℕ, zero, suc, ◌+◌, ◌≤◌, ◌<◌, inl, inr, List, [], ◌∷◌, refl, sym, ap, ◌∙◌}
-use Rattle.std.proofs.Common.{subst, cond, arith}
-use Rattle.std.proofs.Common.{Bool, true, false}
-use Rattle.std.specs.Prelude.{Some, slice_get, nat_le}
-use Rattle.std.specs.List.{sum_by, fold, enumerate_from}
+use Rattle.std.proofs.Common.{◌≡◌, ℕ, zero, suc, ◌+◌, ◌≤◌, ◌<◌, inl, inr, List, [], ◌∷◌, refl, sym, ap, ◌∙◌, subst}
+use Rattle.std.proofs.Common.{cond, arith, Bool, true, false, Some, slice_get, nat_le, sum_by, fold, leb-true}
+use Rattle.std.proofs.Common.{leb-false}
+use Rattle.std.specs.List.{enumerate_from}
 use Rattle.std.proofs.lemmas.List.Sums.{sum_by-cons}
-use Rattle.std.proofs.lemmas.Bool.{leb-true, leb-false}
-use Rattle.dover_model.specs.JobFacts.{JobFacts}
-use Rattle.dover_model.specs.State.{to_come, left}
-use Rattle.dover_model.specs.Sound.{IsMember, Each, IsNumberedFrom, jobs_of}
-use Rattle.dover_model.specs.Pieces.{last_release}
+use Rattle.dover_model.specs.Common.{JobFacts, to_come, left, IsMember, Each, IsNumberedFrom, jobs_of, last_release}
 use Rattle.dover_model.specs.declared.events.Role.TheVariants.{Coming}
 use Rattle.dover_model.specs.declared.events.Task.{Task}
-use Rattle.dover_model.proofs.Members.{all_member, map_member, some_same}
-use Rattle.dover_model.proofs.Roles.{numbers_above}
-use Rattle.dover_model.proofs.Tests.{none_is_some}
-use Rattle.dover_model.proofs.ValidParts.{ReleasesInOrder}
+use Rattle.dover_model.proofs.lists.Members.{all_member, map_member, some_same}
+use Rattle.dover_model.proofs.steps.Roles.{numbers_above}
+use Rattle.dover_model.proofs.lists.Tests.{none_is_some}
+use Rattle.dover_model.proofs.valid.ValidParts.{ReleasesInOrder}
 
 -- ---- to come
 

@@ -1,16 +1,10 @@
 -- An overfull window excludes that some schedule serves every job.
-use Rattle.std.proofs.Common.{◌≡◌, ℕ, ◌+◌, ◌≤◌, List, sym, ap, ◌∙◌, cond, arith}
-use Rattle.std.specs.List.{sum_by}
-use Rattle.dover_model.specs.JobFacts.{JobFacts}
-use Rattle.dover_model.specs.Instance.{Instance}
-use Rattle.dover_model.specs.Schedules.{Meets}
-use Rattle.dover_model.specs.State.{to_come}
-use Rattle.dover_model.specs.Sound.{jobs_of}
-use Rattle.dover_model.specs.Windows.{IsOverfull, is_inside, work_inside}
+use Rattle.std.proofs.Common.{◌≡◌, ℕ, ◌+◌, ◌≤◌, List, sym, ap, ◌∙◌, cond, arith, sum_by}
+use Rattle.dover_model.specs.Common.{JobFacts, Instance, Meets, to_come, jobs_of, IsOverfull, is_inside, work_inside}
 use Rattle.dover_model.specs.declared.events.Task.{Task}
-use Rattle.dover_model.proofs.Kept.{come_jobs}
-use Rattle.dover_model.proofs.Members.{sum_filter, sum_map}
-use Rattle.dover_model.proofs.Serving.{none_overfull, demand_in}
+use Rattle.dover_model.proofs.steps.Kept.{come_jobs}
+use Rattle.dover_model.proofs.lists.Members.{sum_filter, sum_map}
+use Rattle.dover_model.proofs.runs.Serving.{none_overfull, demand_in}
 
 -- the work inside a window, as a sum over all jobs
 pub work_is : (jobs : List JobFacts) (a b : ℕ)

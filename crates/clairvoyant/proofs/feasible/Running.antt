@@ -1,26 +1,21 @@
 -- How far the job that is due first runs, and what comes of it.
 use Rattle.std.proofs.Common.{◌≡◌, ℕ, zero, suc, ◌+◌, ◌-◌, ◌≤◌, ◌<◌, ◌⊎◌, inl, inr, List, [], ◌∷◌, ◌++◌, length}
-use Rattle.std.proofs.Common.{replicate, min, refl, sym}
-use Rattle.std.proofs.Common.{ap, ◌∙◌, subst, arith, Option}
-use Rattle.std.specs.Prelude.{Some, None, slice_get, slice_index_or}
+use Rattle.std.proofs.Common.{replicate, min, refl, sym, ap, ◌∙◌, subst, arith, Option, Some, None, slice_get}
+use Rattle.std.proofs.Common.{slice_index_or}
 use Rattle.std.proofs.lemmas.Bool.{cases_lt}
 use Rattle.std.proofs.lemmas.List.Sorted.{length_permutation}
 use Rattle.std.proofs.lemmas.Option.{slice_get_read, slice_get_within}
 use Rattle.dover_model.specs.declared.events.Version.TheVariants.{Two}
-use Rattle.dover_model.specs.Limits.{idle, most_jobs}
-use Rattle.dover_model.specs.JobFacts.{JobFacts}
-use Rattle.dover_model.specs.State.{left}
-use Rattle.dover_model.specs.Sound.{IsMember}
-use Rattle.dover_model.specs.Pieces.{stretches}
+use Rattle.dover_model.specs.Common.{idle, most_jobs, JobFacts, left, IsMember, stretches}
 use Rattle.dover_model.specs.declared.events.Task.{Task}
 use Rattle.dover_model.specs.declared.pieces.Piece.{Piece}
-use Rattle.dover_model.proofs.Members.{some_same}
-use Rattle.dover_model.proofs.Tests.{none_is_some}
+use Rattle.dover_model.proofs.lists.Members.{some_same}
+use Rattle.dover_model.proofs.lists.Tests.{none_is_some}
 use Rattle.clairvoyant.specs.feasible.Progress.{with_late, Stands, IsPending, NoneBefore, RunsUntil, kept_as}
 use Rattle.clairvoyant.specs.feasible.Queue.{Kept, IsFirst, IsTakenOut}
 use Rattle.clairvoyant.proofs.feasible.Standing.{next_later, number_low, stands_until, stands_moved, stands_run}
 use Rattle.clairvoyant.proofs.feasible.Standing.{stands_done}
-use Rattle.dover_model.proofs.ValidParts.{ReleasesInOrder}
+use Rattle.dover_model.proofs.valid.ValidParts.{ReleasesInOrder}
 
 -- past the end there is no job
 place_past : (jobs : List JobFacts) (i : ℕ) → slice_get jobs i ≡ None → length jobs ≤ i

@@ -1,13 +1,10 @@
 -- How many ticks of a schedule that grows a number gets.
 use Rattle.std.proofs.Common.{◌≡◌, ℕ, zero, suc, ◌+◌, ◌*◌, ◌-◌, ◌≤◌, List, [], ◌∷◌, ◌++◌, length, take, drop, replicate}
-use Rattle.std.proofs.Common.{refl, ap, ◌∙◌}
-use Rattle.std.proofs.Common.{Bool, false, cond, eqb, arith}
-use Rattle.std.specs.List.{count_by}
-use Rattle.std.proofs.lemmas.Bool.{eq-eqb, ne_eqb}
-use Rattle.std.proofs.lemmas.List.{drop-append-le, drop-replicate, take_all, drop_all}
+use Rattle.std.proofs.Common.{refl, ap, ◌∙◌, Bool, false, cond, eqb, arith, count_by, eq-eqb, ne_eqb, take_all}
+use Rattle.std.proofs.lemmas.List.{drop-append-le, drop-replicate, drop_all}
 use Rattle.std.proofs.lemmas.List.Sums.{sum_by-cons, sum_by-append}
 use Rattle.std.proofs.lemmas.List.Folds.{sum_by-replicate}
-use Rattle.dover_model.proofs.Serving.{given, given_nil, given_zero}
+use Rattle.dover_model.proofs.runs.Serving.{given, given_nil, given_zero}
 
 -- how often a list names the number
 abbrev pub named : ℕ → List ℕ → ℕ

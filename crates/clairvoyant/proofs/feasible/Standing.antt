@@ -1,42 +1,35 @@
 -- Each step of the simulation, from where it stands to where it stands next.
 use Rattle.std.proofs.Common.{◌≡◌, ℕ, ◌+◌, ◌-◌, ◌*◌, ◌≤◌, ◌<◌, ◌⊎◌, inl, inr, List, [], ◌∷◌, ◌++◌, length, map}
-use Rattle.std.proofs.Common.{replicate, append-nil, refl}
-use Rattle.std.proofs.Common.{sym, ap, ◌∙◌, subst, arith, Option, IsTrue}
-use Rattle.std.specs.Prelude.{Some, None, slice_get, IsPermutation}
-use Rattle.std.specs.List.{sum_by, enumerate_from}
-use Rattle.std.proofs.lemmas.Bool.{le-leb, cases_lt, cases_eq}
+use Rattle.std.proofs.Common.{replicate, append-nil, refl, sym, ap, ◌∙◌, subst, arith, Option, IsTrue, Some, None}
+use Rattle.std.proofs.Common.{slice_get, IsPermutation, sum_by, le-leb}
+use Rattle.std.specs.List.{enumerate_from}
+use Rattle.std.proofs.lemmas.Bool.{cases_lt, cases_eq}
 use Rattle.std.proofs.lemmas.List.Sorted.{IsPermutation-sym, sum_by-IsPermutation}
 use Rattle.std.proofs.lemmas.List.Sums.{sum_by-cons}
 use Rattle.std.proofs.lemmas.Option.{slice_get_within}
 use Rattle.dover_model.specs.declared.events.Version.TheVariants.{Two}
-use Rattle.dover_model.specs.Limits.{idle, most_jobs}
-use Rattle.dover_model.specs.JobFacts.{JobFacts, IsJob}
-use Rattle.dover_model.specs.Schedules.{is_served, ticks_given}
-use Rattle.dover_model.specs.State.{to_come, left}
-use Rattle.dover_model.specs.Sound.{IsMember, Each, jobs_of}
-use Rattle.dover_model.specs.Pieces.{stretches, edf, last_release}
+use Rattle.dover_model.specs.Common.{idle, most_jobs, JobFacts, IsJob, is_served, ticks_given, to_come, left, IsMember}
+use Rattle.dover_model.specs.Common.{Each, jobs_of, stretches, edf, last_release}
 use Rattle.dover_model.specs.declared.events.Task.{Task}
 use Rattle.dover_model.specs.declared.pieces.Piece.{Piece}
-use Rattle.dover_model.proofs.Members.{on_map, map_member, some_same}
-use Rattle.dover_model.proofs.Roles.{one_number}
-use Rattle.dover_model.proofs.Honest.{numbers_low, count_jobs}
+use Rattle.dover_model.proofs.lists.Members.{on_map, map_member, some_same}
+use Rattle.dover_model.proofs.steps.Roles.{one_number}
+use Rattle.dover_model.proofs.runs.Honest.{numbers_low, count_jobs}
 use Rattle.clairvoyant.specs.feasible.Progress.{AreReleased, IsLateBy, with_late, IsShown, AreServed, Stands, IsPending}
-use Rattle.clairvoyant.specs.feasible.Progress.{NoneBefore, IsWhole}
-use Rattle.clairvoyant.specs.feasible.Progress.{kept_as}
+use Rattle.clairvoyant.specs.feasible.Progress.{NoneBefore, IsWhole, kept_as}
 use Rattle.clairvoyant.specs.feasible.Queue.{Kept, AreBehind}
 use Rattle.clairvoyant.proofs.feasible.EarliestFirst.{had_more, given_ticks, by_given, given_here, given_other}
-use Rattle.clairvoyant.proofs.feasible.EarliestFirst.{IsBehind}
-use Rattle.clairvoyant.proofs.feasible.EarliestFirst.{Leads, Rests, edf_over}
+use Rattle.clairvoyant.proofs.feasible.EarliestFirst.{IsBehind, Leads, Rests, edf_over}
 use Rattle.clairvoyant.proofs.feasible.Shares.{none_behind}
 use Rattle.clairvoyant.proofs.feasible.Coming.{come_run, come_idle}
 use Rattle.clairvoyant.proofs.feasible.Lateness.{shown_on, late_shows, served_run, served_idle}
 use Rattle.clairvoyant.proofs.feasible.Keeping.{member_moved}
-use Rattle.dover_model.proofs.Kept.{come_numbered, come_jobs}
+use Rattle.dover_model.proofs.steps.Kept.{come_numbered, come_jobs}
 use Rattle.clairvoyant.proofs.feasible.Numbered.{come_had, come_left, task_at, releases_rise, each_numbered}
 use Rattle.clairvoyant.proofs.feasible.Numbered.{release_before_last}
 use Rattle.clairvoyant.proofs.feasible.Stretches.{stretches_idle}
-use Rattle.dover_model.proofs.ValidParts.{ReleasesInOrder}
-use Rattle.dover_model.proofs.JobLimits.{job_limits}
+use Rattle.dover_model.proofs.valid.ValidParts.{ReleasesInOrder}
+use Rattle.dover_model.proofs.valid.JobLimits.{job_limits}
 
 -- ---- at the beginning
 

@@ -7,8 +7,8 @@ use Rattle.std.proofs.lemmas.Bool.{eqb-true, eq-eqb, ne_eqb, and_parts}
 use Rattle.dover_model.specs.Limits.{idle}
 use Rattle.dover_model.specs.Pieces.{InOrderFrom, spread_from, with_tick, stretches_from, stretches}
 use Rattle.dover_model.specs.declared.pieces.Piece.{Piece}
-use Rattle.dover_model.proofs.Members.{by_bool}
-use Rattle.dover_model.proofs.Tests.{never}
+use Rattle.dover_model.proofs.lists.Members.{by_bool}
+use Rattle.dover_model.proofs.lists.Tests.{never}
 use Rattle.clairvoyant.specs.feasible.Progress.{goes_on}
 
 -- the piece of these ticks

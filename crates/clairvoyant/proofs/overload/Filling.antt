@@ -1,16 +1,11 @@
 -- Windows between two ticks with more work than ticks, and that there is none.
 use Rattle.std.proofs.Common.{◌≡◌, ℕ, ◌-◌, ◌≤◌, ◌<◌, List, [], ◌∷◌, ◌++◌, ◌⊎◌, inl, inr, refl, sym, ap, ◌∙◌, subst}
-use Rattle.std.proofs.Common.{Bool, true, false, cond, arith}
-use Rattle.std.specs.Prelude.{nat_le, ◌&&◌}
-use Rattle.std.specs.List.{filter, sum_by}
-use Rattle.std.proofs.lemmas.Bool.{cases_lt, le-leb}
-use Rattle.dover_model.specs.JobFacts.{JobFacts, IsJob}
-use Rattle.dover_model.specs.Limits.{last_tick}
-use Rattle.dover_model.specs.Sound.{Each}
-use Rattle.dover_model.specs.Windows.{is_inside, work_inside}
-use Rattle.dover_model.proofs.JobLimits.{job_limits}
-use Rattle.dover_model.proofs.Members.{filter_none, member_front, member_behind, member_filter}
-use Rattle.dover_model.proofs.Tests.{never}
+use Rattle.std.proofs.Common.{Bool, true, false, cond, arith, nat_le, ◌&&◌, filter, sum_by, le-leb}
+use Rattle.std.proofs.lemmas.Bool.{cases_lt}
+use Rattle.dover_model.specs.Common.{JobFacts, IsJob, last_tick, Each, is_inside, work_inside}
+use Rattle.dover_model.proofs.valid.JobLimits.{job_limits}
+use Rattle.dover_model.proofs.lists.Members.{filter_none, member_front, member_behind, member_filter}
+use Rattle.dover_model.proofs.lists.Tests.{never}
 use Rattle.clairvoyant.specs.feasible.Feasibility.{CanMeet, ShowsWindow}
 use Rattle.clairvoyant.proofs.feasible.Overfull.{overfull_excludes}
 use Rattle.clairvoyant.specs.declared.overload.stretch.Stretch.{Stretch}

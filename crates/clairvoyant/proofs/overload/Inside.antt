@@ -1,17 +1,13 @@
 -- The value of the jobs inside a window that are done, job by job.
-use Rattle.std.proofs.Common.{◌≡◌, ℕ, ◌+◌, ◌-◌, ◌≤◌, ◌<◌, List, [], ◌∷◌, ◌++◌, length, take, drop, inl, inr}
-use Rattle.std.proofs.Common.{refl, sym, ap, ◌∙◌, subst, take-append-drop, get_or}
-use Rattle.std.proofs.Common.{Bool, false, cond, arith}
-use Rattle.std.specs.Prelude.{◌&&◌}
-use Rattle.std.specs.List.{sum_by, enumerate_from}
-use Rattle.std.proofs.lemmas.List.{take_more, length-take, drop-drop}
+use Rattle.std.proofs.Common.{◌≡◌, ℕ, ◌+◌, ◌-◌, ◌≤◌, ◌<◌, List, [], ◌∷◌, ◌++◌, length, take, drop, inl, inr, refl, sym}
+use Rattle.std.proofs.Common.{ap, ◌∙◌, subst, take-append-drop, get_or, Bool, false, cond, arith, ◌&&◌, sum_by}
+use Rattle.std.proofs.Common.{length-take, drop-drop}
+use Rattle.std.specs.List.{enumerate_from}
+use Rattle.std.proofs.lemmas.List.{take_more}
 use Rattle.std.proofs.lemmas.List.Sums.{sum_by-append, sum_by-cons}
-use Rattle.dover_model.specs.JobFacts.{JobFacts, IsJob}
-use Rattle.dover_model.specs.Books.{Job}
-use Rattle.dover_model.specs.Sound.{IsMember, Each}
-use Rattle.dover_model.specs.Windows.{is_inside}
-use Rattle.dover_model.proofs.Members.{sum_same}
-use Rattle.dover_model.proofs.Parting.{enumerate_append}
+use Rattle.dover_model.specs.Common.{JobFacts, IsJob, Job, IsMember, Each, is_inside}
+use Rattle.dover_model.proofs.lists.Members.{sum_same}
+use Rattle.dover_model.proofs.rest.Parting.{enumerate_append}
 use Rattle.clairvoyant.specs.overload.Stretches.{value_inside}
 use Rattle.clairvoyant.specs.overload.Collecting.{IsCut}
 use Rattle.clairvoyant.proofs.overload.Near.{early_out, late_out, in_rest}

@@ -1,23 +1,17 @@
 -- The jobs inside a window, among those that are released in it.
-use Rattle.std.proofs.Common.{◌≡◌, ℕ, zero, suc, ◌+◌, ◌-◌, ◌/◌, ◌≤◌, ◌<◌, List, [], ◌∷◌, ◌++◌, length, take, drop}
-use Rattle.std.proofs.Common.{inl, inr}
-use Rattle.std.proofs.Common.{refl, sym, ap}
-use Rattle.std.proofs.Common.{◌∙◌, subst, take-append-drop, get_or}
-use Rattle.std.proofs.Common.{Bool, true, false, cond, arith}
-use Rattle.std.specs.Prelude.{◌&&◌, nat_le}
-use Rattle.std.specs.List.{filter, sum_by}
+use Rattle.std.proofs.Common.{◌≡◌, ℕ, zero, suc, ◌+◌, ◌-◌, ◌/◌, ◌≤◌, ◌<◌, List, [], ◌∷◌, ◌++◌, length, take, drop, inl}
+use Rattle.std.proofs.Common.{inr, refl, sym, ap, ◌∙◌, subst, take-append-drop, get_or, Bool, true, false, cond, arith}
+use Rattle.std.proofs.Common.{◌&&◌, nat_le, filter, sum_by, append-nil, drop-drop, length-take, length-drop}
 use Rattle.std.proofs.lemmas.Bool.{lt-leb}
-use Rattle.std.proofs.lemmas.List.{append-nil, drop-drop, drop_more, length-take, length-drop}
+use Rattle.std.proofs.lemmas.List.{drop_more}
 use Rattle.std.proofs.lemmas.List.Elements.{filter-append, filter_more}
-use Rattle.dover_model.specs.JobFacts.{JobFacts, IsJob}
-use Rattle.dover_model.specs.Sound.{IsMember, Each}
-use Rattle.dover_model.specs.Windows.{is_inside, work_inside}
-use Rattle.dover_model.proofs.Members.{filter_none, member_filter, member_behind, all_member, each_all}
-use Rattle.dover_model.proofs.Valid.{order_back}
+use Rattle.dover_model.specs.Common.{JobFacts, IsJob, IsMember, Each, is_inside, work_inside}
+use Rattle.dover_model.proofs.lists.Members.{filter_none, member_filter, member_behind, all_member, each_all}
+use Rattle.dover_model.proofs.valid.Valid.{order_back}
 use Rattle.clairvoyant.specs.overload.Stretches.{jobs_inside}
 use Rattle.clairvoyant.specs.overload.Collecting.{IsCut, IsNear}
-use Rattle.dover_model.proofs.ValidParts.{ReleasesInOrder}
-use Rattle.dover_model.proofs.JobLimits.{job_limits}
+use Rattle.dover_model.proofs.valid.ValidParts.{ReleasesInOrder}
+use Rattle.dover_model.proofs.valid.JobLimits.{job_limits}
 
 -- those of jobs in order that pass a test are in order
 pub filter_in_order : (p : JobFacts → Bool) (jobs : List JobFacts) → ReleasesInOrder jobs

@@ -1,27 +1,21 @@
 -- Stretches, and whether all jobs can be served.
-use Rattle.dover_model.specs.Fraction.{fraction}
-use Rattle.std.proofs.Common.{◌≡◌, ℕ, ◌≤◌, ◌<◌, List, [], ◌∷◌, inl, inr, refl, ap, subst, cond}
-use Rattle.std.proofs.Common.{Bool, true, false, arith}
-use Rattle.std.specs.Prelude.{◌&&◌, ◌+◌, nat_le, IsTrue}
-use Rattle.std.specs.List.{sum_by, enumerate_from, AllByRecursion}
+use Rattle.dover_model.specs.Common.{fraction, Rules, JobFacts, IsJob, Each, IsOverfull, is_inside, work_inside}
+use Rattle.dover_model.specs.Common.{total_value, is_served}
+use Rattle.std.proofs.Common.{◌≡◌, ℕ, ◌≤◌, ◌<◌, List, [], ◌∷◌, inl, inr, refl, ap, subst, cond, Bool, true, false}
+use Rattle.std.proofs.Common.{arith, ◌&&◌, ◌+◌, nat_le, IsTrue, sum_by, leb-true, leb-false}
+use Rattle.std.specs.List.{enumerate_from, AllByRecursion}
 use Rattle.std.proofs.lemmas.List.Sums.{sum_by-cons}
-use Rattle.std.proofs.lemmas.Bool.{leb-true, leb-false, lt-leb}
-use Rattle.dover_model.specs.Instance.{Rules}
-use Rattle.dover_model.specs.JobFacts.{JobFacts, IsJob}
-use Rattle.dover_model.specs.Sound.{Each}
-use Rattle.dover_model.specs.Windows.{IsOverfull, is_inside, work_inside}
+use Rattle.std.proofs.lemmas.Bool.{lt-leb}
 use Rattle.dover_model.specs.declared.events.Version.TheVariants.{One}
-use Rattle.dover_model.specs.Instance.{total_value}
-use Rattle.dover_model.specs.Schedules.{is_served}
-use Rattle.dover_model.proofs.Members.{filter_none, cond_le}
-use Rattle.dover_model.proofs.Parting.{worth_to}
+use Rattle.dover_model.proofs.lists.Members.{filter_none, cond_le}
+use Rattle.dover_model.proofs.rest.Parting.{worth_to}
 use Rattle.clairvoyant.specs.declared.feasible.answer.Feasible.{Feasible}
 use Rattle.clairvoyant.specs.declared.feasible.answer.Feasible.TheVariants.{Window}
 use Rattle.clairvoyant.specs.feasible.Feasibility.{CanMeet, IsAnswer, ShowsWindow}
 use Rattle.clairvoyant.proofs.feasible.Overfull.{overfull_excludes}
 use Rattle.clairvoyant.specs.declared.overload.stretch.Stretch.{Stretch}
 use Rattle.clairvoyant.specs.overload.Stretches.{IsStretch, IsWorth}
-use Rattle.dover_model.proofs.JobLimits.{job_limits}
+use Rattle.dover_model.proofs.valid.JobLimits.{job_limits}
 
 -- no job is inside a window without ticks
 pub empty_out : (a b : ℕ) (j : JobFacts) → IsJob j → b ≤ a → is_inside a b j ≡ false

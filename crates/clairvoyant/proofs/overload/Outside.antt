@@ -1,19 +1,14 @@
 -- One stretch more, behind those so far.
-use Rattle.std.proofs.Common.{◌≡◌, ℕ, ◌+◌, ◌-◌, ◌≤◌, ◌<◌, List, [], ◌∷◌, ◌++◌, inl, inr, refl, sym, ◌∙◌, subst}
-use Rattle.std.proofs.Common.{Bool, true, false, cond, arith}
-use Rattle.std.specs.Prelude.{◌||◌, nat_le}
-use Rattle.std.specs.List.{sum_by}
-use Rattle.std.proofs.lemmas.Bool.{leb-true, and_parts}
+use Rattle.std.proofs.Common.{◌≡◌, ℕ, ◌+◌, ◌-◌, ◌≤◌, ◌<◌, List, [], ◌∷◌, ◌++◌, inl, inr, refl, sym, ◌∙◌, subst, Bool}
+use Rattle.std.proofs.Common.{true, false, cond, arith, ◌||◌, nat_le, sum_by, leb-true}
+use Rattle.std.proofs.lemmas.Bool.{and_parts}
 use Rattle.std.proofs.lemmas.List.Sums.{sum_by_push}
-use Rattle.dover_model.specs.JobFacts.{JobFacts, IsJob}
-use Rattle.dover_model.specs.Instance.{total_value}
-use Rattle.dover_model.specs.Sound.{Each}
-use Rattle.dover_model.specs.Windows.{is_inside}
-use Rattle.dover_model.proofs.Members.{sum_plus, sum_filter, sum_same, all_append, each_behind}
-use Rattle.dover_model.proofs.Tests.{never}
+use Rattle.dover_model.specs.Common.{JobFacts, IsJob, total_value, Each, is_inside}
+use Rattle.dover_model.proofs.lists.Members.{sum_plus, sum_filter, sum_same, all_append, each_behind}
+use Rattle.dover_model.proofs.lists.Tests.{never}
 use Rattle.clairvoyant.specs.declared.overload.stretch.Stretch.{Stretch}
 use Rattle.clairvoyant.specs.overload.Stretches.{AreInOrder, IsStretch, is_inside_some, jobs_inside, value_outside}
-use Rattle.dover_model.proofs.JobLimits.{job_limits}
+use Rattle.dover_model.proofs.valid.JobLimits.{job_limits}
 
 -- with one behind them there is some
 pub never_empty : {Z : Type 0} (xs : List Stretch) (y : Stretch) → xs ++ y ∷ [] ≡ [] → Z

@@ -3,15 +3,11 @@ use Rattle.std.proofs.Common.{◌≡◌, ℕ, suc, ◌+◌, ◌-◌, ◌*◌, �
 use Rattle.std.proofs.Common.{ap, ◌∙◌, subst, Bool, true, false, cond, arith}
 use Rattle.std.specs.List.{sum_by, enumerate_from}
 use Rattle.std.proofs.lemmas.Nat.{mul-le}
-use Rattle.dover_model.specs.JobFacts.{JobFacts}
-use Rattle.dover_model.specs.Instance.{Rules, total_value}
-use Rattle.dover_model.specs.Schedules.{is_served, worth, numbered}
-use Rattle.dover_model.specs.Sound.{IsMember, Each}
-use Rattle.dover_model.specs.Windows.{is_inside}
-use Rattle.dover_model.specs.Books.{Job}
-use Rattle.dover_model.proofs.Members.{sum_le, sum_plus, sum_zero, cond_le}
-use Rattle.dover_model.proofs.Parting.{worth_to}
-use Rattle.dover_model.proofs.Serving.{sum_numbered}
+use Rattle.dover_model.specs.Common.{JobFacts, Rules, total_value, is_served, worth, numbered, IsMember, Each}
+use Rattle.dover_model.specs.Common.{is_inside, Job}
+use Rattle.dover_model.proofs.lists.Members.{sum_le, sum_plus, sum_zero, cond_le}
+use Rattle.dover_model.proofs.rest.Parting.{worth_to}
+use Rattle.dover_model.proofs.runs.Serving.{sum_numbered}
 use Rattle.clairvoyant.specs.overload.Pricing.{paid, PaysAtMost, IsRaised}
 use Rattle.clairvoyant.specs.overload.Stretches.{Caps}
 use Rattle.clairvoyant.proofs.overload.Prices.{work_served, fit_inside, sum_times}

@@ -1,17 +1,12 @@
 -- What a schedule gives to the jobs inside a window.
-use Rattle.std.proofs.Common.{◌≡◌, ℕ, ◌-◌, ◌*◌, ◌≤◌, List, [], ◌∷◌, drop, take, refl, Bool, true, false}
-use Rattle.std.proofs.Common.{cond, eqb, arith, IsTrue, ap}
-use Rattle.std.specs.Prelude.{nat_le}
-use Rattle.std.specs.List.{sum_by, count_by, enumerate_from}
-use Rattle.std.proofs.lemmas.Bool.{leb-true, and_parts}
-use Rattle.std.proofs.lemmas.List.{length-drop, length-take}
+use Rattle.std.proofs.Common.{◌≡◌, ℕ, ◌-◌, ◌*◌, ◌≤◌, List, [], ◌∷◌, drop, take, refl, Bool, true, false, cond, eqb}
+use Rattle.std.proofs.Common.{arith, IsTrue, ap, nat_le, sum_by, count_by, leb-true, length-drop, length-take}
+use Rattle.std.specs.List.{enumerate_from}
+use Rattle.std.proofs.lemmas.Bool.{and_parts}
 use Rattle.std.proofs.lemmas.List.Sums.{sum_by-cons}
-use Rattle.dover_model.specs.JobFacts.{JobFacts}
-use Rattle.dover_model.specs.Schedules.{ticks_given, is_served}
-use Rattle.dover_model.specs.Windows.{is_inside}
-use Rattle.dover_model.proofs.Members.{sum_le}
-use Rattle.dover_model.proofs.Serving.{given_less, one_name_per_tick}
-use Rattle.dover_model.specs.Books.{Job}
+use Rattle.dover_model.specs.Common.{JobFacts, ticks_given, is_served, is_inside, Job}
+use Rattle.dover_model.proofs.lists.Members.{sum_le}
+use Rattle.dover_model.proofs.runs.Serving.{given_less, one_name_per_tick}
 
 -- the work of a job that the schedule serves
 abbrev pub work_served : List ℕ → Job → ℕ

@@ -1,15 +1,12 @@
 -- How many sets of jobs are looked at.
-use Rattle.std.proofs.Common.{◌≡◌, ℕ, ◌+◌, ◌-◌, ◌*◌, ◌^◌, ◌≤◌, ◌<◌, List, [], ◌∷◌, ◌++◌, ◌⊎◌, inl, inr, refl}
-use Rattle.std.proofs.Common.{sym, ap, subst, zero, suc, length, Bool, true, false, cond, arith}
-use Rattle.std.specs.List.{filter, sum_by}
-use Rattle.std.proofs.lemmas.Bool.{cases_lt, le-leb, lt-leb}
+use Rattle.std.proofs.Common.{◌≡◌, ℕ, ◌+◌, ◌-◌, ◌*◌, ◌^◌, ◌≤◌, ◌<◌, List, [], ◌∷◌, ◌++◌, ◌⊎◌, inl, inr, refl, sym, ap}
+use Rattle.std.proofs.Common.{subst, zero, suc, length, Bool, true, false, cond, arith, filter, sum_by, le-leb}
+use Rattle.std.proofs.lemmas.Bool.{cases_lt, lt-leb}
 use Rattle.std.proofs.lemmas.List.Sums.{sum_by_push, sum_by-cons}
 use Rattle.std.proofs.Math.Nat.{pow-succ'}
-use Rattle.dover_model.specs.JobFacts.{JobFacts, IsJob}
-use Rattle.dover_model.specs.Sound.{Each}
-use Rattle.dover_model.specs.Windows.{is_inside}
-use Rattle.dover_model.proofs.JobLimits.{job_limits}
-use Rattle.dover_model.proofs.Members.{all_member, each_behind, member_filter, sum_same}
+use Rattle.dover_model.specs.Common.{JobFacts, IsJob, Each, is_inside}
+use Rattle.dover_model.proofs.valid.JobLimits.{job_limits}
+use Rattle.dover_model.proofs.lists.Members.{all_member, each_behind, member_filter, sum_same}
 use Rattle.clairvoyant.specs.declared.overload.stretch.Costed.{Costed}
 use Rattle.clairvoyant.specs.declared.overload.stretch.Stretch.{Stretch}
 use Rattle.clairvoyant.specs.overload.Stretches.{AreInOrder, IsCosted, IsReached, IsStretch, jobs_inside, most_sets}

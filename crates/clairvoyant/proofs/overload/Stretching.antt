@@ -1,18 +1,12 @@
 -- Caps of stretches add up.
-use Rattle.std.proofs.Common.{◌≡◌, ℕ, ◌+◌, ◌≤◌, List, [], ◌∷◌, map, refl, ap}
-use Rattle.std.proofs.Common.{Bool, true, false, cond, arith}
-use Rattle.std.specs.Prelude.{◌||◌}
-use Rattle.std.specs.List.{sum_by, filter, enumerate_from}
+use Rattle.std.proofs.Common.{◌≡◌, ℕ, ◌+◌, ◌≤◌, List, [], ◌∷◌, map, refl, ap, Bool, true, false, cond, arith, ◌||◌}
+use Rattle.std.proofs.Common.{sum_by, filter}
+use Rattle.std.specs.List.{enumerate_from}
 use Rattle.std.proofs.lemmas.List.Sums.{sum_by-cons}
-use Rattle.dover_model.specs.JobFacts.{JobFacts}
-use Rattle.dover_model.specs.Instance.{Rules}
-use Rattle.dover_model.specs.Schedules.{is_served, worth}
-use Rattle.dover_model.specs.Sound.{Each}
-use Rattle.dover_model.specs.Windows.{is_inside}
-use Rattle.dover_model.specs.Books.{Job}
-use Rattle.dover_model.proofs.Members.{sum_le, sum_plus, sum_zero, sum_filter, cond_le}
-use Rattle.dover_model.proofs.Serving.{sum_numbered}
-use Rattle.dover_model.proofs.Parting.{worth_to, worth_placed, place, places, filter_rises, numbers_rise}
+use Rattle.dover_model.specs.Common.{JobFacts, Rules, is_served, worth, Each, is_inside, Job}
+use Rattle.dover_model.proofs.lists.Members.{sum_le, sum_plus, sum_zero, sum_filter, cond_le}
+use Rattle.dover_model.proofs.runs.Serving.{sum_numbered}
+use Rattle.dover_model.proofs.rest.Parting.{worth_to, worth_placed, place, places, filter_rises, numbers_rise}
 use Rattle.clairvoyant.specs.declared.overload.stretch.Stretch.{Stretch}
 use Rattle.clairvoyant.specs.overload.Stretches.{jobs_inside, Caps, is_inside_some, value_outside, IsCapped}
 

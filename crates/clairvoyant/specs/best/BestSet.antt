@@ -1,13 +1,9 @@
 -- The best set of jobs that one schedule can serve.
 use Rattle.std.specs.Prelude.{◌≡◌, ◌<◌, ◌≤◌, ◌↔◌, ℕ, suc, List, [], ◌∷◌, length, map, IfSome, IsTrue, slice_get}
-use Rattle.std.specs.Prelude.{slice_index}
-use Rattle.std.specs.List.{sum_by, filter_map}
+use Rattle.std.specs.Prelude.{slice_index, sum_by, filter_map}
 use Rattle.std.specs.Option.{option_map_or}
-use Rattle.dover_model.specs.JobFacts.{JobFacts}
-use Rattle.dover_model.specs.Schedules.{is_served}
-use Rattle.dover_model.specs.Sound.{IsMember, Each}
+use Rattle.dover_model.specs.Common.{JobFacts, is_served, IsMember, Each, edf, stretches}
 use Rattle.dover_model.specs.declared.pieces.Piece.{Piece}
-use Rattle.dover_model.specs.Pieces.{edf, stretches}
 
 -- the numbers rise, from `low` on and below `end`
 abbrev pub RiseWithin : (low end : ℕ) → List ℕ → Type 0

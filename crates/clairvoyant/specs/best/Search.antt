@@ -1,7 +1,6 @@
 -- What a search over sets of jobs finds.
 use Rattle.std.specs.Prelude.{◌≡◌, ◌<◌, ◌≤◌, ℕ, List, ◌++◌, length, Option, Some, None}
-use Rattle.dover_model.specs.JobFacts.{JobFacts}
-use Rattle.dover_model.specs.Pieces.{edf, stretches}
+use Rattle.dover_model.specs.Common.{JobFacts, edf, stretches}
 use Rattle.clairvoyant.specs.feasible.Feasibility.{ServesAll}
 use Rattle.clairvoyant.specs.declared.best.choice.Choice.{Choice}
 use Rattle.clairvoyant.specs.best.BestSet.{RiseWithin, IsGood, IsEarlier, value_of, jobs_at}

@@ -1,12 +1,8 @@
 -- What shows that jobs can all be served, or that they can't.
 use Rattle.std.specs.Prelude.{◌≡◌, ℕ, ◌*◌, ◌≤◌, List, length, IsTrue}
 use Rattle.std.specs.List.{AllByRecursion, enumerate_from}
-use Rattle.dover_model.specs.JobFacts.{JobFacts}
-use Rattle.dover_model.specs.Instance.{Rules}
-use Rattle.dover_model.specs.Schedules.{is_served, Meets}
-use Rattle.dover_model.specs.Sound.{IsMember}
-use Rattle.dover_model.specs.Windows.{IsOverfull}
-use Rattle.dover_model.specs.Pieces.{AreInOrder, spread, stretches, edf}
+use Rattle.dover_model.specs.Common.{JobFacts, Rules, is_served, Meets, IsMember, IsOverfull, spread, stretches, edf}
+use Rattle.dover_model.specs.Pieces.{AreInOrder}
 use Rattle.dover_model.specs.declared.pieces.Piece.{Piece}
 use Rattle.clairvoyant.specs.declared.feasible.answer.Feasible.{Feasible}
 use Rattle.clairvoyant.specs.declared.feasible.answer.Feasible.TheVariants.{All, Window}

@@ -1,15 +1,10 @@
 -- Where the schedule by earliest deadline stands at a tick.
 use Rattle.std.specs.Prelude.{◌≡◌, ℕ, ◌+◌, ◌-◌, ◌*◌, ◌≤◌, ◌<◌, ◌⊎◌, List, ◌++◌, length, drop, ◌==◌, ◌&&◌, cond, IsTrue}
-use Rattle.std.specs.Prelude.{Bool, Option, None, Some}
-use Rattle.std.specs.Prelude.{slice_get, nat_lt, min, if◌then◌else◌}
-use Rattle.std.specs.List.{sum_by, count_by, enumerate_from}
-use Rattle.dover_model.specs.Limits.{last_tick}
-use Rattle.dover_model.specs.JobFacts.{JobFacts, IsJob}
-use Rattle.dover_model.specs.Schedules.{is_served}
-use Rattle.dover_model.specs.State.{left}
-use Rattle.dover_model.specs.Sound.{IsMember, Each, IsNumberedFrom, jobs_of}
-use Rattle.dover_model.specs.Windows.{IsOverfull, is_inside, work_inside}
-use Rattle.dover_model.specs.Pieces.{stretches, edf, edf_from, last_release}
+use Rattle.std.specs.Prelude.{Bool, Option, None, Some, slice_get, nat_lt, min, if◌then◌else◌, sum_by, count_by}
+use Rattle.std.specs.List.{enumerate_from}
+use Rattle.dover_model.specs.Common.{last_tick, JobFacts, IsJob, is_served, left, IsMember, Each, IsNumberedFrom}
+use Rattle.dover_model.specs.Common.{jobs_of, IsOverfull, is_inside, work_inside, stretches, edf, edf_from}
+use Rattle.dover_model.specs.Common.{last_release}
 use Rattle.dover_model.specs.declared.events.Task.{Task}
 use Rattle.dover_model.specs.declared.pieces.Piece.{Piece}
 use Rattle.clairvoyant.specs.declared.feasible.simulation.Simulation.{Simulation}

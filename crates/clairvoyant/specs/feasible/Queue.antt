@@ -1,7 +1,6 @@
 -- The jobs that are released and not done.
-use Rattle.std.specs.Prelude.{◌≡◌, ℕ, ◌/◌, ◌%◌, ◌^◌, ◌≤◌, ◌<◌, ◌⊎◌, ◌==◌, cond, List, ◌∷◌, length, map}
-use Rattle.std.specs.Prelude.{slice_index_or, IsPermutation}
-use Rattle.std.specs.List.{sum_by}
+use Rattle.std.specs.Prelude.{◌≡◌, ℕ, ◌/◌, ◌%◌, ◌^◌, ◌≤◌, ◌<◌, ◌⊎◌, ◌==◌, cond, List, ◌∷◌, length, map, slice_index_or}
+use Rattle.std.specs.Prelude.{IsPermutation, sum_by}
 use Rattle.std.specs.Ordering.{nat_cmp}
 use Rattle.std.specs.declared.cmp.Ordering.{Ordering}
 use Rattle.std.specs.declared.cmp.Reverse.{Reverse}

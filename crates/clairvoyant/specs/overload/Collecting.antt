@@ -1,11 +1,6 @@
 -- How far the stretches of some jobs are known.
-use Rattle.std.specs.Prelude.{◌≡◌, ℕ, ◌≤◌, ◌<◌, ◌+◌, ◌-◌, List, [], length, take, drop}
-use Rattle.std.specs.List.{sum_by}
-use Rattle.dover_model.specs.JobFacts.{JobFacts}
-use Rattle.dover_model.specs.Instance.{total_value}
-use Rattle.dover_model.specs.Limits.{last_tick}
-use Rattle.dover_model.specs.Sound.{Each}
-use Rattle.dover_model.specs.Windows.{work_inside}
+use Rattle.std.specs.Prelude.{◌≡◌, ℕ, ◌≤◌, ◌<◌, ◌+◌, ◌-◌, List, [], length, take, drop, sum_by}
+use Rattle.dover_model.specs.Common.{JobFacts, total_value, last_tick, Each, work_inside}
 use Rattle.clairvoyant.specs.overload.Stretches.{AreInOrder, IsStretch, IsReached, MeetsSome, most_sets, sets_in}
 use Rattle.clairvoyant.specs.overload.Stretches.{value_outside}
 use Rattle.clairvoyant.specs.declared.overload.costing.Costing.{Costing}

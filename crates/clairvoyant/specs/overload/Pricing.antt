@@ -1,9 +1,7 @@
 -- Prices for the ticks of jobs, and what schedules pay.
 use Rattle.std.specs.Prelude.{◌≡◌, ℕ, ◌≤◌, ◌<◌, ◌+◌, ◌*◌, List, length, get_or, cond}
 use Rattle.std.specs.List.{sum_by, enumerate_from}
-use Rattle.dover_model.specs.JobFacts.{JobFacts}
-use Rattle.dover_model.specs.Schedules.{is_served}
-use Rattle.dover_model.specs.Windows.{is_inside}
+use Rattle.dover_model.specs.Common.{JobFacts, is_served, is_inside}
 use Rattle.clairvoyant.specs.declared.overload.layers.Priced.{Priced}
 
 -- what a schedule pays for a job, at the price that stands at its number: for the job's work, if it serves it

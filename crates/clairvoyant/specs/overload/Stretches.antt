@@ -2,11 +2,7 @@
 use Rattle.std.specs.Prelude.{◌≡◌, ◌↔◌, ℕ, ◌≤◌, ◌<◌, ◌+◌, ◌-◌, ◌^◌, List, [], ◌∷◌, Bool, false, ◌||◌, ◌&&◌, cond}
 use Rattle.std.specs.Prelude.{length, nat_le}
 use Rattle.std.specs.List.{filter, sum_by, enumerate_from, AllByRecursion}
-use Rattle.dover_model.specs.JobFacts.{JobFacts}
-use Rattle.dover_model.specs.Instance.{Rules, total_value}
-use Rattle.dover_model.specs.Schedules.{worth}
-use Rattle.dover_model.specs.Sound.{Each, IsMember}
-use Rattle.dover_model.specs.Windows.{is_inside, work_inside}
+use Rattle.dover_model.specs.Common.{JobFacts, Rules, total_value, worth, Each, IsMember, is_inside, work_inside}
 use Rattle.clairvoyant.specs.feasible.Feasibility.{CanMeet}
 use Rattle.clairvoyant.specs.declared.overload.stretch.Costed.{Costed}
 use Rattle.clairvoyant.specs.declared.overload.stretch.Stretch.{Stretch}

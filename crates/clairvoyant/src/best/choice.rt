@@ -1,9 +1,7 @@
 //! Sets of jobs that one schedule serves.
 ghost use Rattle.std.specs.Prelude.{◌≡◌, ◌<◌, ◌≤◌, ◌+◌, ◌*◌, ◌++◌, ◌∷◌, [], List, ℕ, length, slice_get, Some, IfOk};
 ghost use Rattle.std.specs.Prelude.{MatchOption};
-ghost use Rattle.dover_model.specs.Instance.{IsInOrder};
-ghost use Rattle.dover_model.specs.JobFacts.{IsJob};
-ghost use Rattle.dover_model.specs.Sound.{Each};
+ghost use Rattle.dover_model.specs.Common.{IsInOrder, IsJob, Each};
 ghost use Rattle.clairvoyant.specs.best.BestSet.{IsGood};
 ghost use Rattle.clairvoyant.specs.best.Search.{IsChoice};
 

@@ -1,10 +1,6 @@
 //! The best set of a few jobs.
 ghost use Rattle.std.specs.Prelude.{◌≡◌, ◌≤◌, ◌↔◌, ◌<◌, ℕ, List, length, map, IfOk};
-ghost use Rattle.dover_model.specs.Instance.{Rules, IsInOrder, total_value};
-ghost use Rattle.dover_model.specs.JobFacts.{IsJob};
-ghost use Rattle.dover_model.specs.Sound.{Each};
-ghost use Rattle.dover_model.specs.Schedules.{worth};
-ghost use Rattle.dover_model.specs.Pieces.{spread};
+ghost use Rattle.dover_model.specs.Common.{Rules, IsInOrder, total_value, IsJob, Each, worth, spread};
 ghost use Rattle.clairvoyant.specs.best.BestSet.{IsBestSet, value_of, pieces_of, renumbered};
 
 use crate::best::choice::Choice;

@@ -1,8 +1,6 @@
 //! The search over sets of jobs.
 ghost use Rattle.std.specs.Prelude.{◌≡◌, ◌≤◌, length, drop, IfOk};
-ghost use Rattle.dover_model.specs.Instance.{IsInOrder, total_value};
-ghost use Rattle.dover_model.specs.JobFacts.{IsJob};
-ghost use Rattle.dover_model.specs.Sound.{Each};
+ghost use Rattle.dover_model.specs.Common.{IsInOrder, total_value, IsJob, Each};
 ghost use Rattle.clairvoyant.specs.best.Search.{IsChoice, IsSearched};
 
 use crate::best::choice::Choice;

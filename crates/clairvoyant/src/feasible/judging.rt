@@ -1,8 +1,7 @@
 //! The judge of feasibility.
 ghost use Rattle.std.specs.Prelude.{◌≤◌, length, IfOk};
-ghost use Rattle.dover_model.specs.Instance.{IsInOrder};
+ghost use Rattle.dover_model.specs.Common.{IsInOrder, most_jobs};
 ghost use Rattle.dover_model.specs.declared.events.Version.TheVariants.{Two};
-ghost use Rattle.dover_model.specs.Limits.{most_jobs};
 ghost use Rattle.clairvoyant.specs.feasible.Feasibility.{IsAnswer};
 
 use crate::feasible::answer::Feasible;

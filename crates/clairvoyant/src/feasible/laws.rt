@@ -1,8 +1,6 @@
 //! That an overfull window is a certificate, as the contract of a function that does nothing.
 ghost use Rattle.std.specs.Prelude.{ℕ};
-ghost use Rattle.dover_model.specs.Instance.{Instance};
-ghost use Rattle.dover_model.specs.Schedules.{Meets};
-ghost use Rattle.dover_model.specs.Windows.{IsOverfull};
+ghost use Rattle.dover_model.specs.Common.{Instance, Meets, IsOverfull};
 
 /// Where the jobs of a window have more work than it has ticks, no schedule serves every job.
 pub fn an_overfull_window_excludes_meeting()

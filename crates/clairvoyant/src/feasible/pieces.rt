@@ -1,8 +1,7 @@
 //! Stretches of a schedule that grows.
 ghost use Rattle.std.specs.Prelude.{◌≡◌, ℕ, ◌+◌, ◌-◌, ◌<◌, ◌≤◌, List, ◌++◌, length, replicate, false, slice_get, OnOk};
 ghost use Rattle.std.specs.Option.{option_map_or};
-ghost use Rattle.dover_model.specs.Limits.{idle};
-ghost use Rattle.dover_model.specs.Pieces.{stretches};
+ghost use Rattle.dover_model.specs.Common.{idle, stretches};
 ghost use Rattle.clairvoyant.specs.feasible.Progress.{goes_on};
 
 use dover_model::{Memory, Piece};

@@ -1,9 +1,8 @@
 //! Earliest deadline first, from one release or completion to the next.
 ghost use Rattle.std.specs.Prelude.{◌≡◌, ◌+◌, ◌^◌, ◌<◌, ◌≤◌, ◌⊎◌, length, IfOk, OnOk};
 ghost use Rattle.std.specs.Bool.{OnTrue, OnFalse};
-ghost use Rattle.dover_model.specs.Instance.{IsInOrder};
+ghost use Rattle.dover_model.specs.Common.{IsInOrder, most_jobs};
 ghost use Rattle.dover_model.specs.declared.events.Version.TheVariants.{Two};
-ghost use Rattle.dover_model.specs.Limits.{most_jobs};
 ghost use Rattle.clairvoyant.specs.feasible.Progress.{StandsAt, HasFew, IsPending, NoneBefore, RunsUntil, IsWhole};
 ghost use Rattle.clairvoyant.specs.feasible.Progress.{with_late};
 ghost use Rattle.clairvoyant.specs.feasible.Queue.{IsFirst};

@@ -1,9 +1,7 @@
 //! The window that shows why jobs can't all be served.
 ghost use Rattle.std.specs.Prelude.{◌≡◌, ℕ, ◌≤◌, length};
-ghost use Rattle.dover_model.specs.Instance.{IsInOrder};
+ghost use Rattle.dover_model.specs.Common.{IsInOrder, most_jobs, IsOverfull, work_inside};
 ghost use Rattle.dover_model.specs.declared.events.Version.TheVariants.{Two};
-ghost use Rattle.dover_model.specs.Limits.{most_jobs};
-ghost use Rattle.dover_model.specs.Windows.{IsOverfull, work_inside};
 ghost use Rattle.clairvoyant.specs.feasible.Feasibility.{IsRelease};
 
 use dover_model::Job;

@@ -1,8 +1,7 @@
 //! Caps on what jobs are worth.
 ghost use Rattle.std.specs.Prelude.{◌≡◌, ◌≤◌, ◌+◌, ◌^◌, ◌↔◌, cond, length, IsTrue, IfOk};
-ghost use Rattle.dover_model.specs.Instance.{IsInOrder, total_value};
+ghost use Rattle.dover_model.specs.Common.{IsInOrder, total_value, most_jobs};
 ghost use Rattle.dover_model.specs.declared.events.Version.TheVariants.{Two};
-ghost use Rattle.dover_model.specs.Limits.{most_jobs};
 ghost use Rattle.clairvoyant.specs.overload.Stretches.{Caps, IsWorth, most_sought, sets_of};
 
 use crate::best::best;

@@ -1,12 +1,9 @@
 //! What an overload costs at most, stretch by stretch.
 ghost use Rattle.std.specs.Prelude.{◌≡◌, ◌≤◌, ◌<◌, ◌+◌, ◌-◌, ◌&&◌, [], cond, false, get_or, length, OnOk, IfOk};
 ghost use Rattle.std.specs.Prelude.{MatchOption};
-ghost use Rattle.dover_model.specs.Instance.{IsInOrder, total_value};
-ghost use Rattle.dover_model.specs.JobFacts.{IsJob};
+ghost use Rattle.dover_model.specs.Common.{IsInOrder, total_value, IsJob, last_tick, most_jobs, most_value, Each};
+ghost use Rattle.dover_model.specs.Common.{is_inside, work_inside};
 ghost use Rattle.dover_model.specs.declared.events.Version.TheVariants.{Two};
-ghost use Rattle.dover_model.specs.Limits.{last_tick, most_jobs, most_value};
-ghost use Rattle.dover_model.specs.Sound.{Each};
-ghost use Rattle.dover_model.specs.Windows.{is_inside, work_inside};
 ghost use Rattle.clairvoyant.specs.feasible.Feasibility.{CanMeet};
 ghost use Rattle.clairvoyant.specs.overload.Stretches.{IsStretch, IsReached, IsCosted, IsWorth, jobs_inside, sets_of};
 ghost use Rattle.clairvoyant.specs.overload.Stretches.{value_inside};

@@ -1,10 +1,7 @@
 //! That prices are a certificate, and caps of few jobs are reached, each the contract of a function that does nothing.
 ghost use Rattle.std.specs.Prelude.{◌*◌, ◌+◌, ◌-◌, ◌≤◌, ℕ, List, get_or, length};
 ghost use Rattle.std.specs.List.{sum_by, enumerate_from};
-ghost use Rattle.dover_model.specs.Instance.{Rules};
-ghost use Rattle.dover_model.specs.Schedules.{worth};
-ghost use Rattle.dover_model.specs.Sound.{Each};
-ghost use Rattle.dover_model.specs.JobFacts.{JobFacts, IsJob};
+ghost use Rattle.dover_model.specs.Common.{Rules, worth, Each, JobFacts, IsJob};
 ghost use Rattle.clairvoyant.specs.declared.overload.stretch.Costed.{Costed};
 ghost use Rattle.clairvoyant.specs.declared.overload.stretch.Stretch.{Stretch};
 ghost use Rattle.clairvoyant.specs.overload.Pricing.{PaysAtMost, IsRaised};

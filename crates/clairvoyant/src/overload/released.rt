@@ -1,7 +1,6 @@
 //! Which jobs are inside some ticks, and where in a list of jobs those begin that are released at a tick or later.
 ghost use Rattle.std.specs.Prelude.{◌≡◌};
-ghost use Rattle.dover_model.specs.Instance.{IsInOrder};
-ghost use Rattle.dover_model.specs.Windows.{is_inside};
+ghost use Rattle.dover_model.specs.Common.{IsInOrder, is_inside};
 ghost use Rattle.clairvoyant.specs.overload.Collecting.{IsCut};
 
 use dover_model::Job;

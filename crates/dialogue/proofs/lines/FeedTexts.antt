@@ -1,11 +1,8 @@
 -- The text of a feed of jobs, in the parts in which it is put.
 use Rattle.std.proofs.Common.{◌≡◌, ℕ, List, [], ◌∷◌, ◌++◌, map, sym, ap, ◌∙◌, subst, Option, Result}
 use Rattle.std.proofs.lemmas.List.{append-nil, map-append}
-use Rattle.dover_model.specs.FeedLine.{EndLine, feed_text}
-use Rattle.dover_model.specs.Instance.{Instance, declared_by}
-use Rattle.dover_model.specs.JobFacts.{JobFacts}
-use Rattle.dover_model.specs.Lines.{in_lines}
-use Rattle.dover_model.proofs.Beginnings.{in_lines-append}
+use Rattle.dover_model.specs.Common.{EndLine, feed_text, Instance, declared_by, JobFacts, in_lines}
+use Rattle.dover_model.proofs.lists.Beginnings.{in_lines-append}
 use Rattle.dover_port.specs.Moves.{Move, PutsThrough}
 use Rattle.event_feed.specs.Feeds.{job_text, rules_text, feed_of}
 

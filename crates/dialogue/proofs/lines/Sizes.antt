@@ -6,11 +6,8 @@ use Rattle.dover_model.specs.declared.events.Event.{Event}
 use Rattle.dover_model.specs.declared.events.Event.TheVariants as event
 use Rattle.dover_model.specs.declared.events.Refusal.{Refusal}
 use Rattle.dover_model.specs.declared.events.Refusal.TheVariants.{BadJob, Count, Total, Ratio, Late, Full}
-use Rattle.dover_model.specs.JobFacts.{job_numbers}
-use Rattle.dover_model.specs.Lines.{line_of}
-use Rattle.dover_model.specs.Numerals.{AreShort}
-use Rattle.dover_model.specs.Text.{text_of, refused_text, refusal_word, step_numbers}
-use Rattle.dover_model.proofs.Fields.{length-with_numbers}
+use Rattle.dover_model.specs.Common.{job_numbers, line_of, AreShort, text_of, refused_text, refusal_word, step_numbers}
+use Rattle.dover_model.proofs.texts.Fields.{length-with_numbers}
 use Rattle.line_text.specs.traces.Form.{refused_job, refused_done}
 
 -- a word, numbers and a word

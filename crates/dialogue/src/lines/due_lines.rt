@@ -1,13 +1,11 @@
 //! The lines that are due for feeds, each as it is put.
 ghost use Rattle.std.specs.Prelude.{◌≡◌, ◌≤◌, ◌++◌, ◌∷◌, [], length, map, decimal, codes, IsTrue};
-ghost use Rattle.dover_model.specs.Numerals.{AreShort};
-ghost use Rattle.dover_model.specs.Text.{header, refused_text, refusal_word as refusal_text};
-ghost use Rattle.dover_model.specs.Lines.{line_of, with_numbers};
-ghost use Rattle.dover_model.specs.JobFacts.{job_numbers};
+ghost use Rattle.dover_model.specs.Common.{AreShort, header, refused_text, refusal_word as refusal_text, line_of};
+ghost use Rattle.dover_model.specs.Common.{with_numbers, job_numbers};
 ghost use Rattle.event_feed.specs.DueLines.{out_text, HasNumerals};
 ghost use Rattle.line_text.specs.traces.Form.{refused_job, refused_done};
 
-use crate::lines::faults::{cause_word, write_refused};
+use crate::lines::faults::write_fault;
 use dover_model::{Event, Factor, Job, Ratio, Refusal, Version};
 use event_feed::DueLine;
 use line_text::traces::{refusal_word, write_event};
@@ -143,7 +141,7 @@ pub fn write_out(out: &DueLine, line: &mut BackLine)
         DueLine::Refused {
             line: number,
             cause,
-        } => write_refused(*number, cause_word(*cause), line),
+        } => write_fault(*number, *cause, line),
     }
 }
 

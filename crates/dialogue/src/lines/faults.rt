@@ -11,7 +11,7 @@ use event_feed::{Cause, FeedFault};
 use line_text::BackLine;
 
 /// The word for a cause.
-pub(crate) fn cause_word(cause: Cause) -> &'static [u8]
+fn cause_word(cause: Cause) -> &'static [u8]
     ensures is { result.now ≡ due.cause_word (cause_of_fault cause) }
     ensures short { length result.now ≤ 8 }
 {
@@ -62,12 +62,22 @@ pub fn put_refused<P: Port>(
     out.put(port, line.bytes())
 }
 
+/// Writes the line that refuses a feed before its line feed.
+#[inline(never)]
+pub(crate) fn write_fault(number: u64, cause: Cause, line: &mut BackLine)
+    requires { line.old ≡ 10 ∷ [] }
+    ensures text { line.new ≡ due.fault_text number (cause_of_fault cause) ++ 10 ∷ [] }
+    ensures fits { length line.new ≤ 50 }
+{
+    write_refused(number, cause_word(cause), line);
+}
+
 /// The line that refuses a feed.
 pub fn fault_line(fault: FeedFault) -> BackLine
     ensures { result ≡ due.fault_text fault.line (cause_of_fault fault.cause) ++ 10 ∷ [] }
 {
     let mut line = BackLine::new();
-    write_refused(fault.line, cause_word(fault.cause), &mut line);
+    write_fault(fault.line, fault.cause, &mut line);
     line
 }
 

@@ -1,7 +1,6 @@
 //! The lines of a feed, on their way out.
 ghost use Rattle.std.specs.Prelude.{◌++◌, ◌∷◌, []};
-ghost use Rattle.dover_model.specs.Feed.{rules_with};
-ghost use Rattle.dover_model.specs.FeedLine.{feed_text};
+ghost use Rattle.dover_model.specs.Common.{rules_with, feed_text};
 ghost use Rattle.dover_port.specs.Causes.{HasCause, StopsAtFailure};
 ghost use Rattle.dover_port.specs.Moves.{PutsThrough};
 ghost use Rattle.event_feed.specs.Feeds.{job_text, rules_text};

@@ -1,15 +1,13 @@
 -- `dover_done` lends the slot at the address for one call of `done`.
 use Rattle.dover_c.proofs.Steps.{ℕ, List, [], ◌∷◌, ◌++◌, refl, w32, w64, proved, full_share, id⊢, ftrue, flft, flent}
-use Rattle.dover_c.proofs.Steps.{fsep}
-use Rattle.dover_c.proofs.Steps.{fex, named, vptr, WpFn, fact, tables, Body, ‵, raw, ◌⊛◌, some, later, prop, ◌$◌, ◌∵◌}
-use Rattle.dover_c.proofs.Steps.{ !, qed, done, move, keep, drop, use1, use3, split, join, fsplit, fjoin, fpack, pick}
-use Rattle.dover_c.proofs.Steps.{await, regoal, suffices, group, lft_new, lft_end, enter, of_opd, addr, stop, no_more}
-use Rattle.dover_c.proofs.Steps.{and_then, returns, alloc_all, pass_all, free_all, look_at, get, through, sets}
+use Rattle.dover_c.proofs.Steps.{fsep, fex, named, vptr, WpFn, fact, tables, Body, ‵, raw, ◌⊛◌, some, later, prop, ◌$◌}
+use Rattle.dover_c.proofs.Steps.{◌∵◌, !, qed, done, move, keep, drop, use1, use3, split, join, fsplit, fjoin, fpack}
+use Rattle.dover_c.proofs.Steps.{pick, await, regoal, suffices, group, lft_new, lft_end, enter, of_opd, addr, stop}
+use Rattle.dover_c.proofs.Steps.{no_more, and_then, returns, alloc_all, pass_all, free_all, look_at, get, through, sets}
 use Rattle.dover_c.proofs.Steps.{lands_as, u32, u64, uint_Lawful, yes, Is, shows, lends_ref, ref_back, mem, uint_Makes}
-use Rattle.dover_c.proofs.Steps.{uint_vals}
-use Rattle.dover_c.proofs.Steps.{uint_Tells, Ptr, RawPtr, block_ptr, lies_at, in_a_block, rawptr_vals, rawptr_Tells}
-use Rattle.dover_c.proofs.Steps.{MutRef, plain, nothing, owned, heard, peeks, calls_at, lasts, on_entry, triple_of}
-use Rattle.dover_c.proofs.Steps.{Stays, walk_of, stay_dropped, Goes-dropped, ends_at, framed}
+use Rattle.dover_c.proofs.Steps.{uint_vals, uint_Tells, Ptr, RawPtr, block_ptr, lies_at, in_a_block, rawptr_vals}
+use Rattle.dover_c.proofs.Steps.{rawptr_Tells, MutRef, plain, nothing, owned, heard, peeks, calls_at, lasts, on_entry}
+use Rattle.dover_c.proofs.Steps.{triple_of, Stays, walk_of, stay_dropped, Goes-dropped, ends_at, framed}
 use Rattle.dover_c.specs.declared.slot.Slot.{Slot}
 use Rattle.dover_c.specs.contracts.slot.Slot.{the_row}
 use Rattle.dover_c.specs.Codes.{DoneSays}

@@ -1,13 +1,12 @@
 -- `dover_next` lends the slot at the address for one call of `next`.
-use Rattle.dover_c.proofs.Steps.{ℕ, List, [], ◌∷◌, refl, proved, full_share, id⊢, ftrue, flft, flent, fsep, fex}
-use Rattle.dover_c.proofs.Steps.{named, vptr, WpFn, fact, tables, Body, ‵, raw, ◌⊛◌, some, later, prop, ◌$◌, ◌∵◌, ! }
-use Rattle.dover_c.proofs.Steps.{qed, done, move, keep, drop, use1, use3, split, join, fsplit, fjoin, fpack, pick}
-use Rattle.dover_c.proofs.Steps.{await, regoal, suffices, group, lft_new, lft_end, enter, of_opd, addr, stop, no_more}
-use Rattle.dover_c.proofs.Steps.{and_then, returns, alloc_all, pass_all, free_all, look_at, get, through, sets}
-use Rattle.dover_c.proofs.Steps.{lands_as, yes, Is, shows, lends_ref, ref_back, mem, Ptr, RawPtr}
-use Rattle.dover_c.proofs.Steps.{block_ptr, lies_at, in_a_block, rawptr_vals, rawptr_Tells, MutRef, plain, nothing}
-use Rattle.dover_c.proofs.Steps.{heard, peeks, calls_at, lasts, on_entry, triple_of, Stays, walk_of, stay_dropped}
-use Rattle.dover_c.proofs.Steps.{Goes-dropped, ends_at, framed}
+use Rattle.dover_c.proofs.Steps.{ℕ, List, [], ◌∷◌, refl, proved, full_share, id⊢, ftrue, flft, flent, fsep, fex, named}
+use Rattle.dover_c.proofs.Steps.{vptr, WpFn, fact, tables, Body, ‵, raw, ◌⊛◌, some, later, prop, ◌$◌, ◌∵◌, !, qed, done}
+use Rattle.dover_c.proofs.Steps.{move, keep, drop, use1, use3, split, join, fsplit, fjoin, fpack, pick, await, regoal}
+use Rattle.dover_c.proofs.Steps.{suffices, group, lft_new, lft_end, enter, of_opd, addr, stop, no_more, and_then}
+use Rattle.dover_c.proofs.Steps.{returns, alloc_all, pass_all, free_all, look_at, get, through, sets, lands_as, yes, Is}
+use Rattle.dover_c.proofs.Steps.{shows, lends_ref, ref_back, mem, Ptr, RawPtr, block_ptr, lies_at, in_a_block}
+use Rattle.dover_c.proofs.Steps.{rawptr_vals, rawptr_Tells, MutRef, plain, nothing, heard, peeks, calls_at, lasts}
+use Rattle.dover_c.proofs.Steps.{on_entry, triple_of, Stays, walk_of, stay_dropped, Goes-dropped, ends_at, framed}
 use Rattle.dover_c.specs.declared.slot.Slot.{Slot}
 use Rattle.dover_c.specs.contracts.slot.Slot.{the_row}
 use Rattle.dover_c.specs.Codes.{NextAnswers}

@@ -1,11 +1,9 @@
 -- Feeds with the same snapshot are served on with the same text, at the same cost.
-use Rattle.std.proofs.Common.{◌≡◌, ◌<◌, ℕ, List, ◌++◌, append_assoc, length, sym, ap, ◌∙◌, subst}
-use Rattle.std.proofs.Common.{Bool, true, false, Option, Some, None, inl, inr}
+use Rattle.std.proofs.Common.{◌≡◌, ◌<◌, ℕ, List, ◌++◌, append_assoc, length, sym, ap, ◌∙◌, subst, Bool, true, false}
+use Rattle.std.proofs.Common.{Option, Some, None, inl, inr, fold}
 use Rattle.std.proofs.lemmas.List.{append_cancel_left}
-use Rattle.dover_model.specs.Session.{Session, admitted_jobs}
-use Rattle.dover_model.specs.Feed.{Open, Ended, Faulty, account, is_open, is_ended}
-use Rattle.dover_model.specs.Due.{due, closed}
-use Rattle.dover_model.specs.WholeRun.{Begins}
+use Rattle.dover_model.specs.Common.{Session, admitted_jobs, Open, Ended, Faulty, account, is_open, is_ended, due}
+use Rattle.dover_model.specs.Common.{closed, Begins, most_jobs, lines_of, rest_of, next_line}
 use Rattle.dover_port.specs.Moves.{IsProperPrefix}
 use Rattle.dover_port.specs.declared.status.Status.{Status}
 use Rattle.dover_port.specs.declared.status.Status.TheVariants.{Done, No, Refused, ReadFault, WriteFault, Memory, Usage}
@@ -16,11 +14,7 @@ use Rattle.lane_server.specs.Lane.{IsDeclared, IsFaulty}
 use Rattle.snapshot.specs.Snapshot.{MayPause, snapshot}
 use Rattle.snapshot.specs.Feeds.{GoOnEqually}
 use Rattle.dover_model.specs.declared.events.Version.TheVariants.{Two}
-use Rattle.dover_model.specs.Limits.{most_jobs}
-use Rattle.dover_model.specs.Lines.{lines_of, rest_of}
-use Rattle.dover_model.specs.Feed.{next_line}
-use Rattle.dover_model.proofs.Accounts.{account_kept}
-use Rattle.std.specs.List.{fold}
+use Rattle.dover_model.proofs.sessions.Accounts.{account_kept}
 use Rattle.snapshot.proofs.Alike.{Alike, SameRun, GoAlike, lines_alike}
 use Rattle.event_feed.proofs.Behind.{account_behind, rest_behind}
 use Rattle.snapshot.proofs.Feeds.{go_on, same_alike, named}
@@ -43,9 +37,8 @@ abbrev jobs_in : Option Session → ℕ
 jobs_in s = elim s [ None ↦ 0 | Some S ↦ length (admitted_jobs S.items) ]
 
 same_admitted : (s t : Option Session) → SameRun s t → jobs_in s ≡ jobs_in t
-same_admitted None t same = absurd same
-same_admitted (Some S) None same = absurd same
 same_admitted (Some S) (Some T) same = sym (ap length same.jobs)
+same_admitted _ _ same = absurd same
 
 -- ---- two feeds with the same snapshot
 
@@ -164,11 +157,7 @@ module _ (G F H : List ℕ) (may : MayPause G) (may_other : MayPause F) (same : 
             (said_behind (due (G ++ H)) (due G) size_text go.first)
             (said_behind (due (F ++ H)) (due F) size_text go.other) large.2,
       )
-      answer_same No text it = it
-      answer_same ReadFault text it = it
-      answer_same WriteFault text it = it
-      answer_same Memory text it = it
-      answer_same Usage text it = it
+      answer_same _ text it = it
 
       answered_same : (status : Status) → talk.IsAnswered (serve_talk at_end G) H put ended status
           → talk.IsAnswered (serve_talk at_end F) H put ended status

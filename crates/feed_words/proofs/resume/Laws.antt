@@ -1,7 +1,7 @@
 -- What holds of what is kept, whatever is read.
 use Rattle.std.proofs.Common.{◌≡◌, ◌<◌, ◌^◌, ◌-◌, ℕ, List, ◌++◌, length, ap, sym, subst, ◌∙◌, true, arith}
 use Rattle.dover_model.specs.Feed.{account}
-use Rattle.dover_model.proofs.Tests.{never}
+use Rattle.dover_model.proofs.lists.Tests.{never}
 use Rattle.event_feed.proofs.GoingOn.{open_bytes, open_short}
 use Rattle.lane_server.proofs.Adding.{open_stands}
 use Rattle.feed_words.specs.serve.Keeping as serve
@@ -12,8 +12,8 @@ use Rattle.snapshot.specs.Reading.{Refused}
 use Rattle.feed_words.specs.resume.Record.{IsFrugalFor}
 use Rattle.feed_words.specs.resume.Talk.{Asked, resume_talk, feed_of, behind_snapshot}
 use Rattle.feed_words.specs.resume.Keeping.{IsReady, IsGiving, IsPast}
-use Rattle.feed_words.specs.declared.resume.resuming.Stage.{Stage}
-use Rattle.feed_words.specs.declared.resume.resuming.Stage.TheVariants as stage
+use Rattle.feed_words.specs.declared.resume.resuming.SnapshotStage.{SnapshotStage}
+use Rattle.feed_words.specs.declared.resume.resuming.SnapshotStage.TheVariants as stage
 use Rattle.feed_words.proofs.resume.Bounds.{reading_bytes}
 use Rattle.feed_words.proofs.resume.Talking as talking
 use Rattle.feed_words.proofs.resume.Talking.{goes_at}
@@ -21,7 +21,7 @@ use Rattle.feed_words.proofs.resume.Stages.{opening_costs, past_goes, past_call,
 
 module _ {L : Type 0} (a : Asked) (now : ℕ) (x : List ℕ) where
   -- a talk that goes on has few bytes
-  pub few : (s : Stage L) → IsReady a s now x → (resume_talk a).goes_on x ≡ true → length x < 2 ^ 64 - 1
+  pub few : (s : SnapshotStage L) → IsReady a s now x → (resume_talk a).goes_on x ≡ true → length x < 2 ^ 64 - 1
   few (stage.Opening o) at goes = omega (arith, reading_bytes o.reader x at.0.reads at.0.short)
   few (stage.Refused line) at goes = never (sym (goes_at a x (Refused line) at.0) ∙ goes)
   few (stage.Serving s) at goes =
@@ -33,14 +33,14 @@ module _ {L : Type 0} (a : Asked) (now : ℕ) (x : List ℕ) where
 
   module _ (rest : List (List ℕ)) where
     -- few parts are left
-    pub few_parts : (s : Stage L) → IsGiving a s now x rest → length rest < 2 ^ 64 - 1
+    pub few_parts : (s : SnapshotStage L) → IsGiving a s now x rest → length rest < 2 ^ 64 - 1
     few_parts (stage.Opening o) at = omega (arith, ap (λ (l : List (List ℕ)). length l) at.0)
     few_parts (stage.Refused line) at = omega (arith, ap (λ (l : List (List ℕ)). length l) at.0)
     few_parts (stage.Serving s) at = serving.few_parts (past_call a x _ at) s.feed now
         (past_bytes a x _ at) rest at.holds
 
     -- the comparisons so far
-    pub spent : (s : Stage L) → ((t : Serving L) (c : Call) (H : List ℕ) (parts : List (List ℕ))
+    pub spent : (s : SnapshotStage L) → ((t : Serving L) (c : Call) (H : List ℕ) (parts : List (List ℕ))
         → serve.IsGiving c t.feed now H parts → Costs c now H)
         → IsGiving a s now x rest → IsFrugalFor a.start now x
     spent (stage.Opening o) law at = opening_costs a o x at.1.0 now at.1.1
@@ -48,7 +48,7 @@ module _ {L : Type 0} (a : Asked) (now : ℕ) (x : List ℕ) where
     spent (stage.Serving s) law at =
         past_spent a x _ at now (law s (past_call a x _ at) (past_bytes a x _ at) rest at.holds)
 
-  pub rested : (s : Stage L) → ((t : Serving L) (c : Call) (H : List ℕ)
+  pub rested : (s : SnapshotStage L) → ((t : Serving L) (c : Call) (H : List ℕ)
       → serve.IsReady c t.feed now H → Costs c now H)
       → IsReady a s now x → IsFrugalFor a.start now x
   rested (stage.Opening o) law at = opening_costs a o x at.0 now at.1
@@ -56,7 +56,7 @@ module _ {L : Type 0} (a : Asked) (now : ℕ) (x : List ℕ) where
   rested (stage.Serving s) law at = past_spent a x _ at now (law s (past_call a x _ at) (past_bytes a x _ at) at.holds)
 
 -- what is kept of a feed that goes on
-pub at_serving : {L : Type 0} (a : Asked) (s : Stage L) (t : Serving L) (now : ℕ) (x : List ℕ)
+pub at_serving : {L : Type 0} (a : Asked) (s : SnapshotStage L) (t : Serving L) (now : ℕ) (x : List ℕ)
     → s ≡ stage.Serving t → IsReady a s now x
     → IsPast a.start x (λ c H. serve.IsReady c t.feed now H)
 at_serving a s t now x is at = subst (λ s. IsReady a s now x) is at

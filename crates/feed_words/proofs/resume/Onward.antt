@@ -1,17 +1,14 @@
 -- What more bytes make of a reading: a line that is refused stays so, and a snapshot that is whole has bytes behind it.
-use Rattle.std.proofs.Common.{◌≡◌, ◌<◌, ℕ, List, [], ◌∷◌, ◌++◌, append_assoc, append-nil, length, drop, refl}
-use Rattle.std.proofs.Common.{sym, ap}
-use Rattle.std.proofs.Common.{◌∙◌, Bool, true, false, cond, arith, length-append}
-use Rattle.std.specs.List.{fold}
-use Rattle.std.proofs.lemmas.Bool.{ltb-true, lt-ltb}
+use Rattle.std.proofs.Common.{◌≡◌, ◌<◌, ℕ, List, [], ◌∷◌, ◌++◌, append_assoc, append-nil, length, drop, refl, sym, ap}
+use Rattle.std.proofs.Common.{◌∙◌, Bool, true, false, cond, arith, length-append, fold, ltb-true, lt-ltb}
 use Rattle.std.proofs.lemmas.List.Sums.{fold-append}
 use Rattle.dover_model.specs.declared.events.Task.{Task}
 use Rattle.dover_model.specs.Lines.{cut, in_lines, lines_of, whole_lines, rest_of, is_too_long}
-use Rattle.dover_model.proofs.Cuts.{CutText, onto, put_before, cut_append}
-use Rattle.dover_model.proofs.Beginnings.{in_lines-append}
+use Rattle.dover_model.proofs.texts.Cuts.{CutText, onto, put_before, cut_append}
+use Rattle.dover_model.proofs.lists.Beginnings.{in_lines-append}
 use Rattle.snapshot.specs.Snapshot.{MayPause, Head, snapshot}
 use Rattle.snapshot.specs.Reading.{Reading, Begun, Going, Taken, Refused, refused_behind, next_line, reading_of}
-use Rattle.dover_model.proofs.AcceptedTexts.{text_joined}
+use Rattle.dover_model.proofs.traces.AcceptedTexts.{text_joined}
 use Rattle.feed_words.proofs.resume.Taking.{IsWholeFront, taken_whole, refused_stays, taken_stays}
 use Rattle.snapshot.proofs.Whole.{shortest_may, shortest_text}
 use Rattle.feed_words.specs.resume.Talk.{feed_of, behind_snapshot}
@@ -51,8 +48,7 @@ module _ (x : List ℕ) where
     by_reading : (r : Reading) → long_reading r ≡ Taken h ts → r ≡ Taken h ts
     by_reading Begun e = absurd (let clash : Refused 1 ≡ Taken h ts = e in cc)
     by_reading (Going g us) e = absurd (let clash : refused_behind us ≡ Taken h ts = e in cc)
-    by_reading (Taken g us) e = e
-    by_reading (Refused at) e = e
+    by_reading _ e = e
 
     by : (b : Bool) → is_too_long (rest_of x) ≡ b → reading_of (whole_lines x) ≡ Taken h ts
     by false short = ap reading_of (sym (only_whole short)) ∙ is

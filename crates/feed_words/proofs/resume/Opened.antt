@@ -1,18 +1,15 @@
 -- A snapshot as it is read, byte by byte.
-use Rattle.std.proofs.Common.{◌≡◌, ◌<◌, ◌≤◌, ◌+◌, ℕ, List, [], ◌∷◌, ◌++◌, length, refl, sym, ap, ◌∙◌}
-use Rattle.std.proofs.Common.{subst, Bool, true, false, cond, ◌&&◌, arith}
-use Rattle.std.proofs.Common.{Option, Some, None, Result, Ok, Err, codes}
-use Rattle.std.specs.Prelude.{nat_lt, bytes_eq}
-use Rattle.std.specs.Option.{option_and_then}
-use Rattle.std.proofs.lemmas.Bool.{ltb-true}
+use Rattle.std.proofs.Common.{◌≡◌, ◌<◌, ◌≤◌, ◌+◌, ℕ, List, [], ◌∷◌, ◌++◌, length, refl, sym, ap, ◌∙◌, subst, Bool, true}
+use Rattle.std.proofs.Common.{false, cond, ◌&&◌, arith, Option, Some, None, Result, Ok, Err, codes, nat_lt, bytes_eq}
+use Rattle.std.proofs.Common.{option_and_then, ltb-true}
 use Rattle.std.proofs.lemmas.List.Sums.{fold-append}
 use Rattle.std.proofs.lemmas.Slice.Eq.{bytes_eq-Decides}
 use Rattle.dover_model.specs.declared.events.Task.{Task}
 use Rattle.dover_model.specs.Lines.{lines_of, rest_of, is_too_long, fields_of, numbers_of}
 use Rattle.snapshot.specs.Snapshot.{Head}
 use Rattle.snapshot.specs.Reading.{Reading, Begun, Going, Taken, Refused, head_from, task_of_fields, read_task}
-use Rattle.snapshot.specs.Reading.{with_head, with_task, with_last}
-use Rattle.snapshot.specs.Reading.{has_reached_mark, is_settled, refused_behind, next_line, reading_of}
+use Rattle.snapshot.specs.Reading.{with_head, with_task, with_last, has_reached_mark, is_settled, refused_behind}
+use Rattle.snapshot.specs.Reading.{next_line, reading_of}
 use Rattle.snapshot.specs.Kept.{IsReading, IsReady, IsGoing, Answers}
 use Rattle.snapshot.specs.Spending.{jobs_read, jobs_kept}
 use Rattle.snapshot.proofs.Spending.{jobs_reading}
@@ -55,8 +52,7 @@ long_next (Going h tasks) l long = by (nat_lt (length tasks) h.jobs) where
   by true = ap (λ c. with_task h tasks (cond c None (task_of_fields (fields_of l)))) long
   by false = ap (λ c. cond (c && has_reached_mark h tasks && is_settled h tasks) (Taken h tasks) (refused_behind tasks))
       (not_last l long)
-long_next (Taken h tasks) l long = refl
-long_next (Refused at) l long = refl
+long_next _ l long = refl
 
 -- it is refused, where no line was before or the snapshot goes on
 pub long_refused : (r : Reading) (l : List ℕ) → is_too_long l ≡ true

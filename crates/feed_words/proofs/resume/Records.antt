@@ -1,11 +1,9 @@
 -- What a call comes to that reads a snapshot and serves its feed on, from its talk.
-use Rattle.std.proofs.Common.{◌≡◌, ℕ, suc, List, [], ◌∷◌, ◌++◌, length, refl, sym, ap, ◌∙◌, subst}
-use Rattle.std.proofs.Common.{false}
-use Rattle.std.proofs.Common.{inl, inr, arith, length-append, append-nil}
+use Rattle.std.proofs.Common.{◌≡◌, ℕ, suc, List, [], ◌∷◌, ◌++◌, length, refl, sym, ap, ◌∙◌, subst, false, inl, inr}
+use Rattle.std.proofs.Common.{arith, length-append, append-nil}
 use Rattle.dover_model.specs.declared.events.Task.{Task}
-use Rattle.dover_model.specs.Lines.{lines_of, whole_lines}
-use Rattle.dover_model.specs.WholeRun.{Begins}
-use Rattle.dover_model.proofs.Tests.{never}
+use Rattle.dover_model.specs.Common.{lines_of, whole_lines, Begins}
+use Rattle.dover_model.proofs.lists.Tests.{never}
 use Rattle.dover_port.specs.Moves.{Move, ins, outs, has_ended, IsProperPrefix}
 use Rattle.dover_port.specs.declared.status.Status.{Status}
 use Rattle.dover_port.specs.declared.status.Status.TheVariants.{Done, No, Refused, ReadFault, WriteFault, Memory, Usage}
@@ -19,8 +17,8 @@ use Rattle.snapshot.proofs.Feeds.{named}
 use Rattle.feed_words.specs.serve.Keeping.{serve_talk}
 use Rattle.event_feed.proofs.Admitting.{declared_front}
 use Rattle.feed_words.specs.resume.Record.{is_part, MayRead, IsRefusedFor, Ends, Resumes}
-use Rattle.feed_words.specs.resume.Talk.{Asked, feed_of, behind_snapshot, IsRefusedAs, IsAnsweredBy, LacksBy}
-use Rattle.feed_words.specs.resume.Talk.{HasBegun, resume_talk}
+use Rattle.feed_words.specs.resume.Talk.{Asked, feed_of, behind_snapshot, IsRefusedAs, IsAnsweredBy, LacksBy, HasBegun}
+use Rattle.feed_words.specs.resume.Talk.{resume_talk}
 use Rattle.feed_words.proofs.resume.Equally.{may_same, ends_same}
 use Rattle.feed_words.proofs.resume.Onward.{feed_may}
 use Rattle.feed_words.proofs.resume.Talking.{goes_at, due_at, past}
@@ -70,24 +68,16 @@ module _ (a : Asked) where
         → IsAnsweredBy a.at_end r x (has_ended moves) status text
         → (is_taken : (h : Head) (ts : List Task) → r ≡ Taken h ts → ⊥)
         → (at : ℕ) × IsRefusedFor at moves × IsRefusedAs at status text
-    refused_for Begun is status text it not =
-        (suc (length (whole_lines x)), inr (it.0, ap is_part is, refl), it.1)
-    refused_for (Going h ts) is status text it not =
-        (suc (length (whole_lines x)), inr (it.0, ap is_part is, refl), it.1)
     refused_for (Taken h ts) is status text it not = absurd (not h ts refl)
     refused_for (reading.Refused at) is status text it not =
         (at, inl (x, ([], sym (append-nil x)), is), it)
+    refused_for _ is status text it not = (suc (length (whole_lines x)), inr (it.0, ap is_part is, refl), it.1)
 
     -- an answer
     refused_before : (status : Status) → (at : ℕ) × IsRefusedFor at moves × IsRefusedAs at status (outs moves)
         → Ends a.at_end status moves
     refused_before Refused it = inl (record { at = it.0; cause = it.1; text = it.2 })
-    refused_before Done it = absurd it.2
-    refused_before No it = absurd it.2
-    refused_before ReadFault it = absurd it.2
-    refused_before WriteFault it = absurd it.2
-    refused_before Memory it = absurd it.2
-    refused_before Usage it = absurd it.2
+    refused_before _ it = absurd it.2
 
     served_ends : (h : Head) (ts : List Task) → says ≡ Taken h ts → (status : Status)
         → talk.IsAnswered (serve_talk a.at_end (feed_of h ts)) (behind_snapshot h ts x) (outs moves) (has_ended moves)
@@ -96,60 +86,41 @@ module _ (a : Asked) where
     served_ends h ts is Done it = past_ends h ts is Done it
     served_ends h ts is Refused it = past_ends h ts is Refused it
     served_ends h ts is No it = past_ends h ts is No it
-    served_ends h ts is ReadFault it = absurd it.answer
-    served_ends h ts is WriteFault it = absurd it.answer
-    served_ends h ts is Memory it = absurd it.answer
-    served_ends h ts is Usage it = absurd it.answer
+    served_ends h ts is _ it = absurd it.answer
 
     answer_ends : (status : Status) → talk.IsAnswered (resume_talk a) x (outs moves) (has_ended moves) status
         → Ends a.at_end status moves
     answer_ends status it = by says refl it.answer where
       by : (r : Reading) → says ≡ r → IsAnsweredBy a.at_end r x (has_ended moves) status (outs moves)
           → Ends a.at_end status moves
-      by Begun is answer = refused_before status (refused_for Begun is status (outs moves) answer
-          (λ h ts e. absurd (let clash : Begun ≡ Taken h ts = e in cc)))
-      by (Going g us) is answer = refused_before status (refused_for (Going g us) is status (outs moves) answer
-          (λ h ts e. absurd (let clash : Going g us ≡ Taken h ts = e in cc)))
       by (Taken h ts) is answer = served_ends h ts is status
           (record { over = sym (goes_at a x (Taken h ts) is) ∙ it.over; answer = answer })
-      by (reading.Refused at) is answer = refused_before status
-          (refused_for (reading.Refused at) is status (outs moves) answer
-          (λ h ts e. absurd (let clash : reading.Refused at ≡ Taken h ts = e in cc)))
+      by r is answer = refused_before status (refused_for r is status (outs moves) answer
+          (λ h ts e. absurd (let clash : r ≡ Taken h ts = e in cc)))
 
     -- a read failed
     unread_ends : talk.IsUnread (resume_talk a) x (outs moves) (has_ended moves) → Ends a.at_end ReadFault moves
     unread_ends it = by says refl where
       by : (r : Reading) → says ≡ r → Ends a.at_end ReadFault moves
-      by Begun is = inl (record { unended = it.unended; part = ap is_part is; text = it.text ∙ due_at a x Begun is })
-      by (Going h ts) is =
-          inl (record { unended = it.unended; part = ap is_part is; text = it.text ∙ due_at a x (Going h ts) is })
       by (Taken h ts) is = past_ends h ts is ReadFault (record {
         unended = it.unended;
         open_still = sym (goes_at a x (Taken h ts) is) ∙ it.open_still;
         text = it.text ∙ due_at a x (Taken h ts) is;
       })
       by (reading.Refused at) is = never (sym (goes_at a x (reading.Refused at) is) ∙ it.open_still)
+      by r is = inl (record { unended = it.unended; part = ap is_part is; text = it.text ∙ due_at a x r is })
 
     -- a write failed
     cut_before : (status : Status) (text : List ℕ) → (at : ℕ) × IsRefusedFor at moves × IsRefusedAs at status text
         → IsProperPrefix (outs moves) text → Ends a.at_end WriteFault moves
     cut_before Refused text it part =
         inl (record { at = it.0; cause = it.1; part = subst (IsProperPrefix (outs moves)) it.2 part })
-    cut_before Done text it part = absurd it.2
-    cut_before No text it part = absurd it.2
-    cut_before ReadFault text it part = absurd it.2
-    cut_before WriteFault text it part = absurd it.2
-    cut_before Memory text it part = absurd it.2
-    cut_before Usage text it part = absurd it.2
+    cut_before _ text it part = absurd it.2
 
     cut_ends : IsCutAnswer (resume_talk a) x (outs moves) (has_ended moves) → Ends a.at_end WriteFault moves
     cut_ends it = by says refl it.answer where
       by : (r : Reading) → says ≡ r → IsAnsweredBy a.at_end r x (has_ended moves) it.status it.text
           → Ends a.at_end WriteFault moves
-      by Begun is answer = cut_before it.status it.text (refused_for Begun is it.status it.text answer
-          (λ h ts e. absurd (let clash : Begun ≡ Taken h ts = e in cc))) it.front
-      by (Going g us) is answer = cut_before it.status it.text (refused_for (Going g us) is it.status it.text answer
-          (λ h ts e. absurd (let clash : Going g us ≡ Taken h ts = e in cc))) it.front
       by (Taken h ts) is answer = past_ends h ts is WriteFault (inr (record {
         over = sym (goes_at a x (Taken h ts) is) ∙ it.over;
         status = it.status;
@@ -157,9 +128,8 @@ module _ (a : Asked) where
         answer = answer;
         front = it.front;
       }))
-      by (reading.Refused at) is answer = cut_before it.status it.text
-          (refused_for (reading.Refused at) is it.status it.text answer
-          (λ h ts e. absurd (let clash : reading.Refused at ≡ Taken h ts = e in cc))) it.front
+      by r is answer = cut_before it.status it.text (refused_for r is it.status it.text answer
+          (λ h ts e. absurd (let clash : r ≡ Taken h ts = e in cc))) it.front
 
     due_ends : has_ended moves ≡ false → IsProperPrefix (outs moves) ((resume_talk a).due x)
         → Ends a.at_end WriteFault moves
@@ -168,11 +138,9 @@ module _ (a : Asked) where
       none nothing = none_shorter (outs moves) (subst (IsProperPrefix (outs moves)) nothing part)
 
       by : (r : Reading) → says ≡ r → Ends a.at_end WriteFault moves
-      by Begun is = none (due_at a x Begun is)
-      by (Going h ts) is = none (due_at a x (Going h ts) is)
       by (Taken h ts) is = past_ends h ts is WriteFault
           (inl (unended, subst (IsProperPrefix (outs moves)) (due_at a x (Taken h ts) is) part))
-      by (reading.Refused at) is = none (due_at a x (reading.Refused at) is)
+      by r is = none (due_at a x r is)
 
     -- there was no memory
     lacking_ends : talk.IsOutOfMemory (resume_talk a) x (outs moves) (has_ended moves) → Ends a.at_end Memory moves
@@ -187,8 +155,6 @@ module _ (a : Asked) where
       })
 
       by : (r : Reading) → says ≡ r → LacksBy r x → Ends a.at_end Memory moves
-      by Begun is begun = before begun (due_at a x Begun is)
-      by (Going h ts) is begun = before begun (due_at a x (Going h ts) is)
       by (Taken h ts) is begun = past_ends h ts is Memory (record {
         lacking = (
           it.lacking.0,
@@ -196,7 +162,7 @@ module _ (a : Asked) where
         );
         text = subst (Begins (outs moves)) (due_at a x (Taken h ts) is) it.text;
       })
-      by (reading.Refused at) is begun = before begun (due_at a x (reading.Refused at) is)
+      by r is begun = before begun (due_at a x r is)
 
   ends : (status : Status) (moves : List Move)
       → talk.Ends (resume_talk a) status (ins moves) (outs moves) (has_ended moves) → Ends a.at_end status moves

@@ -1,7 +1,7 @@
 -- The comparisons of a snapshot that is read, by its jobs.
 use Rattle.std.proofs.Common.{ℕ, ◌≤◌, arith, Option, Some, None}
 use Rattle.dover_model.specs.Spending.{CostsAtMost}
-use Rattle.dover_model.proofs.Spending.{few_more}
+use Rattle.dover_model.proofs.runs.Spending.{few_more}
 use Rattle.ready_jobs.proofs.Spending.{paid_jobs}
 use Rattle.snapshot.specs.Spending.{jobs_kept, HasSpentOn}
 use Rattle.snapshot.specs.declared.resuming.Resuming.{Resuming}

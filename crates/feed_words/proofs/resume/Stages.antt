@@ -1,16 +1,11 @@
 -- What is kept of a snapshot, and then of its feed, as more bytes come.
-use Rattle.std.proofs.Common.{◌≡◌, ◌<◌, ◌≤◌, ◌+◌, ℕ, suc, List, [], ◌∷◌, ◌++◌, length, take, drop, refl}
-use Rattle.std.proofs.Common.{sym, ap}
-use Rattle.std.proofs.Common.{◌∙◌, subst, append_assoc, append-nil, arith, Bool, true, false, inl, Option, Some}
-use Rattle.std.proofs.Common.{None}
-use Rattle.std.proofs.Common.{Result, Ok, Err}
-use Rattle.std.proofs.lemmas.List.{take-append-drop}
+use Rattle.std.proofs.Common.{◌≡◌, ◌<◌, ◌≤◌, ◌+◌, ℕ, suc, List, [], ◌∷◌, ◌++◌, length, take, drop, refl, sym, ap, ◌∙◌}
+use Rattle.std.proofs.Common.{subst, append_assoc, append-nil, arith, Bool, true, false, inl, Option, Some, None}
+use Rattle.std.proofs.Common.{Result, Ok, Err, take-append-drop}
 use Rattle.dover_model.specs.declared.Memory.{Memory as Lacking}
 use Rattle.dover_model.specs.declared.events.Task.{Task}
-use Rattle.dover_model.specs.Lines.{in_lines, lines_of, whole_lines}
-use Rattle.dover_model.specs.Feed.{account, is_open}
-use Rattle.dover_model.specs.WholeRun.{Begins}
-use Rattle.dover_model.proofs.Tests.{never}
+use Rattle.dover_model.specs.Common.{in_lines, lines_of, whole_lines, account, is_open, Begins}
+use Rattle.dover_model.proofs.lists.Tests.{never}
 use Rattle.dover_port.specs.Moves.{Move}
 use Rattle.dover_port.specs.declared.status.Status.{Status}
 use Rattle.dover_port.specs.declared.status.Status.TheVariants as status
@@ -36,11 +31,10 @@ use Rattle.feed_words.proofs.serve.Talking.{steady}
 use Rattle.feed_words.specs.resume.Opening.{OpeningStands, IsWholeAt, TakesFront, HasFewOf}
 use Rattle.feed_words.specs.resume.Record.{is_part, IsFrugalFor, refused_text}
 use Rattle.feed_words.specs.resume.Talk.{Asked, feed_of, behind_snapshot, goes_by, due_by, HasBegun, LacksBy}
-use Rattle.feed_words.specs.resume.Keeping.{IsPast}
-use Rattle.feed_words.specs.resume.Keeping.{IsOpen, IsStopped, IsGiving, IsServedOn}
-use Rattle.feed_words.specs.declared.resume.resuming.Stage.{Stage}
-use Rattle.feed_words.specs.declared.resume.resuming.Stage.TheVariants as stage
 use Rattle.feed_words.specs.resume.Talk.{IsAnsweredBy, resume_talk}
+use Rattle.feed_words.specs.resume.Keeping.{IsPast, IsOpen, IsStopped, IsGiving, IsServedOn}
+use Rattle.feed_words.specs.declared.resume.resuming.SnapshotStage.{SnapshotStage}
+use Rattle.feed_words.specs.declared.resume.resuming.SnapshotStage.TheVariants as stage
 use Rattle.feed_words.specs.declared.resume.opening.Opening.{Opening}
 use Rattle.feed_words.proofs.resume.Bounds.{next_number}
 use Rattle.feed_words.proofs.resume.Onward.{taken_on, refused_on, feed_may, behind_on}
@@ -51,31 +45,25 @@ use Rattle.feed_words.proofs.resume.Talking.{goes_at, due_at, call_of, past_cost
 -- ---- a part of a snapshot
 
 pub part_due : (r : Reading) → is_part r ≡ true → (x : List ℕ) → due_by r x ≡ []
-part_due Begun part x = refl
-part_due (Going h ts) part x = refl
 part_due (Taken h ts) part x = never part
-part_due (Refused at) part x = refl
+part_due _ part x = refl
 
 part_goes : (r : Reading) → is_part r ≡ true → (x : List ℕ) → goes_by r x ≡ true
 part_goes Begun part x = refl
 part_goes (Going h ts) part x = refl
-part_goes (Taken h ts) part x = never part
-part_goes (Refused at) part x = never part
+part_goes _ part x = never part
 
 part_answer : (at_end : AtEnd) (r : Reading) → is_part r ≡ true → (x : List ℕ) (at : ℕ)
     → at ≡ suc (length (whole_lines x))
     → (ended : Bool) → ended ≡ true → IsAnsweredBy at_end r x ended status.Refused (refused_text at)
 part_answer at_end Begun part x at is ended e = (e, ap refused_text is)
 part_answer at_end (Going h ts) part x at is ended e = (e, ap refused_text is)
-part_answer at_end (Taken h ts) part x at is ended e = never part
-part_answer at_end (Refused at') part x at is ended e = never part
+part_answer at_end _ part x at is ended e = never part
 
 -- where a front has begun a snapshot, memory may be lacking
 lacks_from : (r : Reading) (x : List ℕ) → HasBegun x → LacksBy r x
-lacks_from Begun x it = it
-lacks_from (Going h ts) x it = it
 lacks_from (Taken h ts) x it = tt
-lacks_from (Refused at) x it = it
+lacks_from _ x it = it
 
 -- a front of a piece is one of all bytes
 front_of : (x piece : List ℕ) (n : ℕ) → Begins (x ++ take n piece) (x ++ piece)
@@ -230,7 +218,7 @@ module _ (a : Asked) (y : List ℕ) (it : IsOpened y) where
   -- it was read, and its feed goes on
   pub whole_took : {L : Type 0} (o : Opening) (x : List ℕ) → OpeningStands o x → (E : Type 0) → E
       → (piece : List ℕ) (n : ℕ) → 0 < n → n ≤ length piece → y ≡ x ++ take n piece
-      → (s : Stage L) (reader : Option Resuming) (now : ℕ) → IsServedOn s reader (lines_of y)
+      → (s : SnapshotStage L) (reader : Option Resuming) (now : ℕ) → IsServedOn s reader (lines_of y)
       → HasSpentOn reader a.start now → Takes (resume_talk a) (λ z parts. E × IsGiving a s now z parts) x piece n
   whole_took o x was E e piece n some fits is (stage.Opening p) reader now gone spent = absurd gone
   whole_took o x was E e piece n some fits is (stage.Refused at) reader now gone spent = absurd gone

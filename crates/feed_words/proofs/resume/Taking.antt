@@ -1,15 +1,11 @@
 -- A reading that is taken is that of a whole snapshot, and of the lines behind it.
-use Rattle.std.proofs.Common.{◌≡◌, ◌<◌, ◌≤◌, ℕ, List, [], ◌∷◌, ◌++◌, append_assoc, length, refl, sym, ap}
-use Rattle.std.proofs.Common.{◌∙◌}
-use Rattle.std.proofs.Common.{◌+◌, arith, Bool, true, false, cond, ◌&&◌, Option, Some, None, codes, subst}
-use Rattle.std.specs.Prelude.{nat_lt, bytes_eq}
-use Rattle.std.specs.List.{fold}
-use Rattle.std.proofs.lemmas.Bool.{ltb-true, ltb-false}
+use Rattle.std.proofs.Common.{◌≡◌, ◌<◌, ◌≤◌, ℕ, List, [], ◌∷◌, ◌++◌, append_assoc, length, refl, sym, ap, ◌∙◌, ◌+◌}
+use Rattle.std.proofs.Common.{arith, Bool, true, false, cond, ◌&&◌, Option, Some, None, codes, subst, nat_lt, bytes_eq}
+use Rattle.std.proofs.Common.{fold, ltb-true, ltb-false}
 use Rattle.std.proofs.lemmas.Slice.Eq.{bytes_eq-Decides}
 use Rattle.dover_model.specs.declared.events.Task.{Task}
 use Rattle.snapshot.specs.Snapshot.{Head}
-use Rattle.snapshot.specs.Reading.{Begun, Going, Taken, Refused, is_within_limits, may_follow}
-use Rattle.snapshot.specs.Reading.{has_reached_mark}
+use Rattle.snapshot.specs.Reading.{Begun, Going, Taken, Refused, is_within_limits, may_follow, has_reached_mark}
 use Rattle.snapshot.specs.Reading.{is_settled, with_head, refused_behind, with_task, with_last, next_line, reading_of}
 use Rattle.snapshot.specs.Reading.{read_head, read_task}
 use Rattle.snapshot.specs.Stored.{HasRead}
@@ -93,9 +89,7 @@ module _ (h : Head) (tasks : List Task) where
                     settled = settled;
                   }));
             })
-        by_last most true true false last reached settled is = never_taken (length ts + 2) h tasks rest is
-        by_last most true false c last reached settled is = never_taken (length ts + 2) h tasks rest is
-        by_last most false b c last reached settled is = never_taken (length ts + 2) h tasks rest is
+        by_last most _ _ _ last reached settled is = never_taken (length ts + 2) h tasks rest is
 
         by : (b : Bool) → nat_lt (length ts) g.jobs ≡ b → fold next_line
             (cond b (with_task g ts (read_task line)) (with_last g ts (bytes_eq line (codes "resume"))))

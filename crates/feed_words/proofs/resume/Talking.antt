@@ -3,16 +3,13 @@ use Rattle.std.proofs.Common.{◌≡◌, ◌<◌, ◌≤◌, ◌*◌, ◌^◌, �
 use Rattle.std.proofs.Common.{append_assoc, length-append, arith, true, false, inl, inr, codes}
 use Rattle.std.proofs.lemmas.List.{length-map}
 use Rattle.dover_model.specs.declared.events.Task.{Task}
-use Rattle.dover_model.specs.Lines.{in_lines, lines_of}
-use Rattle.dover_model.specs.Feed.{account, is_open}
-use Rattle.dover_model.specs.WholeRun.{Begins}
-use Rattle.dover_model.proofs.Beginnings.{in_lines-append}
-use Rattle.dover_model.proofs.Tests.{never}
+use Rattle.dover_model.specs.Common.{in_lines, lines_of, account, is_open, Begins, CostsAtMost}
+use Rattle.dover_model.proofs.lists.Beginnings.{in_lines-append}
+use Rattle.dover_model.proofs.lists.Tests.{never}
 use Rattle.line_text.proofs.Lengths.{AreNotTooLong}
 use Rattle.dover_port.specs.declared.status.Status.{Status}
 use Rattle.dialogue.specs.Talk.{IsSteady}
-use Rattle.dover_model.specs.Spending.{CostsAtMost}
-use Rattle.dover_model.proofs.Spending.{few_more}
+use Rattle.dover_model.proofs.runs.Spending.{few_more}
 use Rattle.event_feed.specs.Answers.{admitted_in}
 use Rattle.event_feed.proofs.Admitting.{admitted_front}
 use Rattle.snapshot.specs.Snapshot.{MayPause, Head, state_line, snapshot}
@@ -22,8 +19,7 @@ use Rattle.feed_words.specs.serve.Keeping.{Call, due_behind, serve_talk}
 use Rattle.feed_words.proofs.serve.Talking.{steady}
 use Rattle.feed_words.specs.resume.Record.{Behind, IsFrugalFor}
 use Rattle.feed_words.specs.resume.Talk.{Asked, feed_of, behind_snapshot, goes_by, due_by, IsAnsweredBy, HasBegun}
-use Rattle.feed_words.specs.resume.Talk.{LacksBy}
-use Rattle.feed_words.specs.resume.Talk.{resume_talk}
+use Rattle.feed_words.specs.resume.Talk.{LacksBy, resume_talk}
 use Rattle.feed_words.proofs.resume.Bounds.{short_lines}
 use Rattle.feed_words.proofs.resume.Equally.{admitted_same}
 use Rattle.feed_words.proofs.resume.Onward.{taken_on, refused_on, front, feed_may, feed_text, parts_are, behind_on}
@@ -118,20 +114,14 @@ module _ (a : Asked) (x y : List ℕ) where
   -- where the snapshot isn't whole
   begun_on : (r : Reading) → reading_of (lines_of x) ≡ r → LacksBy r x
       → ((h : Head) (ts : List Task) → reading_of (lines_of (x ++ y)) ≡ Taken h ts → ⊥) → HasBegun (x ++ y)
-  begun_on Begun is it untaken = begun_more x y it
-  begun_on (Going h ts) is it untaken = begun_more x y it
   begun_on (Taken h ts) is it untaken = absurd (untaken h ts (taken_on x y h ts is))
-  begun_on (Refused at) is it untaken = begun_more x y it
+  begun_on _ is it untaken = begun_more x y it
 
   lacks_on : LacksBy (reading_of (lines_of x)) x → (r : Reading) → reading_of (lines_of (x ++ y)) ≡ r
       → LacksBy r (x ++ y)
-  lacks_on it Begun is = begun_on (reading_of (lines_of x)) refl it
-      (λ h ts taken. absurd (let clash : Begun ≡ Taken h ts = sym is ∙ taken in cc))
-  lacks_on it (Going g us) is = begun_on (reading_of (lines_of x)) refl it
-      (λ h ts taken. absurd (let clash : Going g us ≡ Taken h ts = sym is ∙ taken in cc))
   lacks_on it (Taken h ts) is = tt
-  lacks_on it (Refused at) is = begun_on (reading_of (lines_of x)) refl it
-      (λ h ts taken. absurd (let clash : Refused at ≡ Taken h ts = sym is ∙ taken in cc))
+  lacks_on it r is = begun_on (reading_of (lines_of x)) refl it
+      (λ h ts taken. absurd (let clash : r ≡ Taken h ts = sym is ∙ taken in cc))
 
 pub resume_steady : (a : Asked) → IsSteady (resume_talk a)
 resume_steady a = record {

@@ -1,6 +1,5 @@
 -- The answer of what was put.
-use Rattle.std.proofs.Common.{◌≡◌, [], ◌++◌, ℕ, List, Bool, Option, Result, Ok, Err, sym, subst}
-use Rattle.std.specs.Prelude.{OnOk, OnErr}
+use Rattle.std.proofs.Common.{◌≡◌, [], ◌++◌, ℕ, List, Bool, Option, Result, Ok, Err, sym, subst, OnOk, OnErr}
 use Rattle.dialogue.specs.Talk.{Talk, IsFinal}
 use Rattle.dialogue.specs.Turns.{AnswersBy}
 use Rattle.dialogue.specs.declared.talker.Stop.{Stop}

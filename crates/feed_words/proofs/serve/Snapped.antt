@@ -1,10 +1,7 @@
 -- A feed that goes on from its snapshot, one that is paused, and the lines of a snapshot, put one behind another.
 use Rattle.std.proofs.Common.{◌≡◌, ℕ, [], append-nil, sym, ap, ◌∙◌, subst, Some, true, ◌<◌, ◌+◌, ◌-◌, List, ◌∷◌, ◌++◌}
-use Rattle.std.proofs.Common.{length, take, drop, get_or, Option, arith, inl, inr, Err}
-use Rattle.std.specs.Prelude.{IfSome}
-use Rattle.dover_model.specs.Session.{instance_of, Session}
-use Rattle.dover_model.specs.Lines.{lines_of, in_lines}
-use Rattle.dover_model.specs.Feed.{account}
+use Rattle.std.proofs.Common.{length, take, drop, get_or, Option, arith, inl, inr, Err, IfSome, take-append-drop}
+use Rattle.dover_model.specs.Common.{instance_of, Session, lines_of, in_lines, account, settled}
 use Rattle.ready_server.specs.Rostering.{Serves, HasPaid as HasSpentBy, has_roster}
 use Rattle.ready_server.specs.declared.roster_server.RosterServer.{RosterServer}
 use Rattle.ready_server.proofs.Rostered.{roster_rests}
@@ -21,9 +18,8 @@ use Rattle.snapshot.specs.Snapshot.{MayPause}
 use Rattle.snapshot.specs.Feeds.{ResumesFeed}
 use Rattle.snapshot.proofs.Feeds.{opened}
 use Rattle.feed_words.specs.serve.Keeping.{Call, IsReady}
-use Rattle.std.proofs.lemmas.List.{append-nil, take_more, take-append-drop}
-use Rattle.dover_model.specs.Settled.{settled}
-use Rattle.dover_model.proofs.Beginnings.{in_lines-append}
+use Rattle.std.proofs.lemmas.List.{take_more}
+use Rattle.dover_model.proofs.lists.Beginnings.{in_lines-append}
 use Rattle.dover_port.specs.Moves.{Move, Passes, CutsShort}
 use Rattle.dover_port.proofs.Through.{passes_then, passes_then_cut, cut_longer}
 use Rattle.dover_model.specs.declared.horizon.Horizon.TheVariants.{Mark}

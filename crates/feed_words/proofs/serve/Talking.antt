@@ -1,20 +1,18 @@
 -- A feed that is served, as a talk.
 use Rattle.std.proofs.Common.{◌≡◌, ◌<◌, ◌^◌, ◌-◌, ℕ, suc, List, [], ◌∷◌, ◌++◌, length, map, take, refl, sym, ap, ◌∙◌}
 use Rattle.std.proofs.Common.{arith, append_assoc, append-nil, length-append, Bool, true, false, cond, inl, inr, Result}
-use Rattle.std.proofs.Common.{Ok, Err, Option, subst}
-use Rattle.std.specs.Prelude.{OnOk}
+use Rattle.std.proofs.Common.{Ok, Err, Option, subst, OnOk}
 use Rattle.std.proofs.lemmas.List.{length-map}
 use Rattle.std.proofs.lemmas.List.Folds.{flat_map-map}
 use Rattle.dover_model.specs.declared.Memory.{Memory as Lacking}
 use Rattle.dover_model.specs.Feed as feeds
-use Rattle.dover_model.specs.Feed.{is_open, is_ended, account}
-use Rattle.dover_model.specs.Due.{due, closed, due_lines, fault_text}
-use Rattle.dover_model.specs.Lines.{in_lines, lines_of, whole_lines, rest_of}
-use Rattle.dover_model.proofs.Accounts.{due_grows}
-use Rattle.dover_model.proofs.Beginnings.{in_lines-append}
-use Rattle.dover_model.proofs.Tests.{never}
+use Rattle.dover_model.specs.Common.{is_open, is_ended, account, due, closed, due_lines, fault_text, in_lines, lines_of}
+use Rattle.dover_model.specs.Common.{whole_lines, rest_of, CostsAtMost}
+use Rattle.dover_model.proofs.sessions.Accounts.{due_grows}
+use Rattle.dover_model.proofs.lists.Beginnings.{in_lines-append}
+use Rattle.dover_model.proofs.lists.Tests.{never}
 use Rattle.dover_port.specs.declared.status.Status.{Status}
-use Rattle.dover_port.specs.declared.status.Status.TheVariants.{Done, No, Refused, ReadFault, WriteFault, Memory, Usage}
+use Rattle.dover_port.specs.declared.status.Status.TheVariants.{Done, Refused}
 use Rattle.event_feed.specs.Answers.{EndAnswers, admitted_in}
 use Rattle.event_feed.specs.Kept.{cause_of_fault}
 use Rattle.event_feed.specs.declared.FeedFault.{FeedFault}
@@ -26,7 +24,6 @@ use Rattle.dialogue.proofs.Behind as beyond
 use Rattle.dialogue.specs.declared.talker.Stop.{Stop}
 use Rattle.dialogue.specs.declared.talker.Stop.TheVariants.{NoMemory, Unwritten}
 use Rattle.dover_port.specs.Moves.{Move}
-use Rattle.dover_model.specs.Spending.{CostsAtMost}
 use Rattle.lane_server.specs.Lane.{IsDeclared, IsFaulty}
 use Rattle.lane_server.specs.Feeding.{FeedStands, Takes}
 use Rattle.lane_server.specs.Rosters.{KeepsRoster}
@@ -34,7 +31,7 @@ use Rattle.lane_server.specs.Spending.{HasPaid}
 use Rattle.lane_server.specs.declared.feed.Feed.{Feed}
 use Rattle.lane_server.proofs.Adding.{open_stands, opens_by}
 use Rattle.lane_server.proofs.Few.{owes_few}
-use Rattle.dover_model.proofs.Spending.{few_more}
+use Rattle.dover_model.proofs.runs.Spending.{few_more}
 use Rattle.feed_words.specs.serve.Keeping.{Call, due_behind, serve_talk, Costs, IsGiving}
 use Rattle.feed_words.specs.serve.Talk.{PausesAt, IsTooLarge, IsTooLargeAt, IsServedAs, feed_talk}
 use Rattle.dialogue.specs.Sizes.{size_text}
@@ -49,11 +46,7 @@ answers_as : (at other : AtEnd) (x y : List ℕ) (ended : Bool)
     → (status : Status) (text : List ℕ) → IsServedAs at x ended status text → IsServedAs other y ended status text
 answers_as at other x y ended done refused Done text it = done text it
 answers_as at other x y ended done refused Refused text it = refused text it
-answers_as at other x y ended done refused No text it = absurd it
-answers_as at other x y ended done refused ReadFault text it = absurd it
-answers_as at other x y ended done refused WriteFault text it = absurd it
-answers_as at other x y ended done refused Memory text it = absurd it
-answers_as at other x y ended done refused Usage text it = absurd it
+answers_as at other x y ended done refused _ text it = absurd it
 
 -- ---- bytes behind the end of a feed
 

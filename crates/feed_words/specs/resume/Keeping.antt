@@ -1,8 +1,7 @@
 -- What is kept of a snapshot, and of the feed behind it.
 use Rattle.std.specs.Prelude.{◌≡◌, true, ℕ, List, [], Option}
 use Rattle.dover_model.specs.declared.events.Task.{Task}
-use Rattle.dover_model.specs.Lines.{in_lines, lines_of}
-use Rattle.dover_model.specs.Feed.{account, is_open}
+use Rattle.dover_model.specs.Common.{in_lines, lines_of, account, is_open}
 use Rattle.snapshot.specs.Snapshot.{Head, MayPause, snapshot}
 use Rattle.snapshot.specs.declared.resuming.Resuming.{Resuming}
 use Rattle.snapshot.specs.Reading.{Taken, Refused, reading_of}
@@ -13,8 +12,8 @@ use Rattle.feed_words.specs.resume.Opening.{OpeningStands}
 use Rattle.feed_words.specs.resume.Record.{IsFrugalFor}
 use Rattle.feed_words.specs.resume.Talk.{Asked, feed_of, behind_snapshot}
 use Rattle.feed_words.specs.declared.resume.opening.Opening.{Opening}
-use Rattle.feed_words.specs.declared.resume.resuming.Stage.{Stage}
-use Rattle.feed_words.specs.declared.resume.resuming.Stage.TheVariants as stage
+use Rattle.feed_words.specs.declared.resume.resuming.SnapshotStage.{SnapshotStage}
+use Rattle.feed_words.specs.declared.resume.resuming.SnapshotStage.TheVariants as stage
 
 -- the bytes are a snapshot and bytes behind it, and of the one feed with it and these T holds
 pub record IsPast (start : ℕ) (x : List ℕ) (T : Call → List ℕ → Type 0) : Type 0 where
@@ -34,20 +33,20 @@ abbrev pub IsStopped : Asked → ℕ → ℕ → List ℕ → Type 0
 IsStopped a at now x = (reading_of (lines_of x) ≡ Refused at) × IsFrugalFor a.start now x
 
 -- the feed of the snapshot of these lines goes on, for each feed that they are of
-abbrev pub IsServedOn : {L : Type 0} → Stage L → Option Resuming → List (List ℕ) → Type 0
+abbrev pub IsServedOn : {L : Type 0} → SnapshotStage L → Option Resuming → List (List ℕ) → Type 0
 IsServedOn (stage.Opening o) reader ls = ⊥
 IsServedOn (stage.Refused at) reader ls = ⊥
 IsServedOn (stage.Serving s) reader ls = (c : Call) (now : ℕ) → MayPause c.feed → snapshot c.feed ≡ in_lines ls
     → HasSpentOn reader c.start now → c.listed ≡ true → serve.IsReady c s.feed now []
 
 -- all that is due for these bytes was given
-abbrev pub IsReady : {L : Type 0} → Asked → Stage L → ℕ → List ℕ → Type 0
+abbrev pub IsReady : {L : Type 0} → Asked → SnapshotStage L → ℕ → List ℕ → Type 0
 IsReady a (stage.Opening o) now x = IsOpen a o now x
 IsReady a (stage.Refused at) now x = IsStopped a at now x
 IsReady a (stage.Serving s) now x = IsPast a.start x (λ c H. serve.IsReady c s.feed now H)
 
 -- these parts are left to give
-abbrev pub IsGiving : {L : Type 0} → Asked → Stage L → ℕ → List ℕ → List (List ℕ) → Type 0
+abbrev pub IsGiving : {L : Type 0} → Asked → SnapshotStage L → ℕ → List ℕ → List (List ℕ) → Type 0
 IsGiving a (stage.Opening o) now x parts = (parts ≡ []) × IsOpen a o now x
 IsGiving a (stage.Refused at) now x parts = (parts ≡ []) × IsStopped a at now x
 IsGiving a (stage.Serving s) now x parts =

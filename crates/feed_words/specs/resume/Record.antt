@@ -1,15 +1,11 @@
 -- What the moves of a call come to that reads a snapshot, and serves the feed of which it is on.
 use Rattle.std.specs.Prelude.{◌≡◌, Bool, ℕ, suc, List, [], ◌∷◌, ◌++◌, length, true, false, ◌⊎◌, codes}
-use Rattle.dover_model.specs.Lines.{in_lines, lines_of, whole_lines}
-use Rattle.dover_model.specs.WholeRun.{Begins}
-use Rattle.dover_model.specs.Feed.{account}
-use Rattle.dover_model.specs.Spending.{CostsAtMost}
+use Rattle.dover_model.specs.Common.{in_lines, lines_of, whole_lines, Begins, account, CostsAtMost, refused_line}
 use Rattle.event_feed.specs.Answers.{admitted_in}
 use Rattle.dover_port.specs.Moves.{Move, ins, outs, has_ended, EachRead, IsProperPrefix}
 use Rattle.dover_port.specs.declared.status.Status.{Status}
 use Rattle.dover_port.specs.declared.status.Status.TheVariants.{Refused, ReadFault, WriteFault, Memory}
 use Rattle.dialogue.specs.Talk as talk
-use Rattle.dover_model.specs.Text.{refused_line}
 use Rattle.snapshot.specs.Snapshot.{MayPause, snapshot}
 use Rattle.snapshot.specs.Reading as reading
 use Rattle.snapshot.specs.Reading.{Reading, Begun, Going, Taken, reading_of}

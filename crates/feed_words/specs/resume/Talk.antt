@@ -1,9 +1,7 @@
 -- What `resume` says, by the bytes got.
 use Rattle.std.specs.Prelude.{◌≡◌, Bool, true, false, ℕ, suc, List, [], ◌++◌, length, drop}
 use Rattle.dover_model.specs.declared.events.Task.{Task}
-use Rattle.dover_model.specs.Lines.{in_lines, lines_of, whole_lines}
-use Rattle.dover_model.specs.Feed.{account, is_open}
-use Rattle.dover_model.specs.WholeRun.{Begins}
+use Rattle.dover_model.specs.Common.{in_lines, lines_of, whole_lines, account, is_open, Begins}
 use Rattle.dover_port.specs.declared.status.Status.{Status}
 use Rattle.dover_port.specs.declared.status.Status.TheVariants as status
 use Rattle.dialogue.specs.Talk.{Talk}

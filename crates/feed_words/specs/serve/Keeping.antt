@@ -1,8 +1,6 @@
 -- What is kept of a feed that is served on behind bytes that were read before.
 use Rattle.std.specs.Prelude.{◌≡◌, ℕ, List, ◌∷◌, ◌++◌, [], length, drop, map, Bool, true, refl}
-use Rattle.dover_model.specs.Due.{due}
-use Rattle.dover_model.specs.Feed.{account, is_open}
-use Rattle.dover_model.specs.Spending.{CostsAtMost}
+use Rattle.dover_model.specs.Common.{due, account, is_open, CostsAtMost}
 use Rattle.event_feed.specs.Answers.{admitted_in}
 use Rattle.dialogue.specs.Talk.{Talk, talk_behind}
 use Rattle.lane_server.specs.Rosters.{KeepsRoster}

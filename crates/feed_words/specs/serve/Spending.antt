@@ -1,7 +1,6 @@
 -- How many comparisons a call makes.
 use Rattle.std.specs.Prelude.{ℕ, List}
-use Rattle.dover_model.specs.Feed.{account}
-use Rattle.dover_model.specs.Spending.{CostsAtMost}
+use Rattle.dover_model.specs.Common.{account, CostsAtMost}
 use Rattle.event_feed.specs.Answers.{admitted_in}
 use Rattle.dover_port.specs.Moves.{Move, ins}
 

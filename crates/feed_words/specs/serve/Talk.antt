@@ -1,10 +1,7 @@
 -- What a word says that serves a feed, by the bytes got so far.
 use Rattle.std.specs.Prelude.{◌≡◌, ◌⊎◌, ◌<◌, ℕ, List, [], ◌++◌, Bool, true, false, IsTrue}
 use Rattle.dover_model.specs.declared.events.Version.TheVariants.{Two}
-use Rattle.dover_model.specs.Limits.{most_jobs}
-use Rattle.dover_model.specs.Lines.{rest_of}
-use Rattle.dover_model.specs.Due.{due, closed}
-use Rattle.dover_model.specs.Feed.{account, is_open, is_ended}
+use Rattle.dover_model.specs.Common.{most_jobs, rest_of, due, closed, account, is_open, is_ended}
 use Rattle.dover_port.specs.declared.status.Status.{Status}
 use Rattle.dover_port.specs.declared.status.Status.TheVariants.{Done, Refused}
 use Rattle.dialogue.specs.Talk.{Talk}

@@ -6,25 +6,25 @@ ghost use Rattle.feed_words.specs.resume.Record.{refused_text, IsFrugalFor};
 ghost use Rattle.feed_words.specs.resume.Talk.{Asked, resume_talk};
 ghost use Rattle.feed_words.specs.resume.Keeping.{IsReady, IsGiving, IsServedOn};
 ghost use Rattle.feed_words.specs.declared.resume.opening.Opening.{Opening};
-ghost use Rattle.feed_words.specs.declared.resume.resuming.Stage.TheVariants as stage;
+ghost use Rattle.feed_words.specs.declared.resume.resuming.SnapshotStage.TheVariants as stage;
 ghost use Rattle.snapshot.specs.Kept.{IsReady as IsWholeFor};
 
 use crate::resume::opening::Opening;
 use crate::serve::{AtEnd, Pausing, Serving};
+use comparison_count::Comparisons;
 use dialogue::lines::put_refused;
 use dialogue::{Stop, Talker};
 use dover_model::Memory;
 use dover_port::{Output, Port, Status};
 use line_text::BackLine;
-use snapshot::{Got, Reader, SnapFault};
+use snapshot::{Got, SnapFault, SnapshotReader};
 use std::alloc::Global;
 use std::mem::replace;
 use std::sync::ledger::Ledger;
-use step_count::Steps;
 
 /// How far a snapshot was read.
 #[derive(Drop)]
-pub(crate) enum Stage<L: Ledger> {
+pub(crate) enum SnapshotStage<L: Ledger> {
     /// Its last line is still to come.
     Opening(Opening),
     /// This line of it is refused.
@@ -33,13 +33,13 @@ pub(crate) enum Stage<L: Ledger> {
     Serving(Serving<L>),
 }
 
-impl<L: Ledger> Stage<L> {
+impl<L: Ledger> SnapshotStage<L> {
     /// Turns to a snapshot that is refused at this line.
     #[inline(never)]
     fn refuse(&mut self, line: u64)
         ensures { self.new ≡ stage.Refused line }
     {
-        drop(replace(self, Stage::Refused(line)));
+        drop(replace(self, SnapshotStage::Refused(line)));
     }
 }
 
@@ -48,7 +48,7 @@ impl<L: Ledger> Stage<L> {
 pub(crate) struct Resuming<L: Ledger> {
     pub(crate) alloc: Global,
     pub(crate) at_end: AtEnd,
-    pub(crate) stage: Stage<L>,
+    pub(crate) stage: SnapshotStage<L>,
 }
 
 /// Refuses a snapshot at this line.
@@ -77,18 +77,18 @@ impl<L: Ledger> Resuming<L> {
             → IsServedOn self.new.stage o.reader ls }
         ensures same { self.new.at_end ≡ self.old.at_end }
     {
-        let Stage::Opening(opening) = &mut self.stage else {
+        let SnapshotStage::Opening(opening) = &mut self.stage else {
             unreachable!();
         };
-        let reader = replace(&mut opening.reader, Reader::new(self.alloc));
+        let reader = replace(&mut opening.reader, SnapshotReader::new(self.alloc));
         let (server, intake, mark) = reader.take();
         let serving = Serving::resumed(self.alloc, server, intake, mark);
-        drop(replace(&mut self.stage, Stage::Serving(serving)));
+        drop(replace(&mut self.stage, SnapshotStage::Serving(serving)));
     }
 }
 
 impl<L: Ledger> Talker for Resuming<L> {
-    type Meter = Steps<L>;
+    type Meter = Comparisons<L>;
 
     ghost about = { Asked };
 
@@ -104,10 +104,10 @@ impl<L: Ledger> Talker for Resuming<L> {
         Serving::<L>::laws();
     }
 
-    fn take(&mut self, meter: &mut Steps<L>, piece: &[u8]) -> Result<usize, Memory> {
+    fn take(&mut self, meter: &mut Comparisons<L>, piece: &[u8]) -> Result<usize, Memory> {
         Serving::<L>::laws();
         match &mut self.stage {
-            Stage::Opening(opening) => match opening.take(piece, meter) {
+            SnapshotStage::Opening(opening) => match opening.take(piece, meter) {
                 Ok((used, Got::More)) => Ok(used),
                 Ok((used, Got::Ready)) => {
                     self.go_on();
@@ -119,43 +119,43 @@ impl<L: Ledger> Talker for Resuming<L> {
                 }
                 Err(SnapFault::Memory) => Err(Memory),
             },
-            Stage::Refused(_) => unreachable!(),
-            Stage::Serving(serving) => serving.take(meter, piece),
+            SnapshotStage::Refused(_) => unreachable!(),
+            SnapshotStage::Serving(serving) => serving.take(meter, piece),
         }
     }
 
-    fn next_part(&mut self, meter: &mut Steps<L>, part: &mut BackLine) -> bool {
+    fn next_part(&mut self, meter: &mut Comparisons<L>, part: &mut BackLine) -> bool {
         match &mut self.stage {
-            Stage::Opening(_) => false,
-            Stage::Refused(_) => false,
-            Stage::Serving(serving) => serving.next_part(meter, part),
+            SnapshotStage::Opening(_) => false,
+            SnapshotStage::Refused(_) => false,
+            SnapshotStage::Serving(serving) => serving.next_part(meter, part),
         }
     }
 
-    fn goes_on(&self, meter: &Steps<L>) -> bool {
+    fn goes_on(&self, meter: &Comparisons<L>) -> bool {
         match &self.stage {
-            Stage::Opening(_) => true,
-            Stage::Refused(_) => false,
-            Stage::Serving(serving) => serving.goes_on(meter),
+            SnapshotStage::Opening(_) => true,
+            SnapshotStage::Refused(_) => false,
+            SnapshotStage::Serving(serving) => serving.goes_on(meter),
         }
     }
 
     fn answer<P: Port>(
         self,
-        meter: &mut Steps<L>,
+        meter: &mut Comparisons<L>,
         port: &mut P,
         out: &mut Output,
         ended: bool,
     ) -> Result<Status, Stop> {
         let at_end = self.at_end;
         match self.stage {
-            Stage::Opening(opening) => {
+            SnapshotStage::Opening(opening) => {
                 let line = opening.lines.count() + 1;
                 drop(opening);
                 refuse_snapshot(port, out, line)
             }
-            Stage::Refused(line) => refuse_snapshot(port, out, line),
-            Stage::Serving(serving) => match at_end {
+            SnapshotStage::Refused(line) => refuse_snapshot(port, out, line),
+            SnapshotStage::Serving(serving) => match at_end {
                 AtEnd::Refuse => serving.answer(meter, port, out, ended),
                 AtEnd::Pause => Pausing::new(serving).answer(meter, port, out, ended),
             },

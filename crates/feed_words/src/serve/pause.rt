@@ -1,8 +1,6 @@
 //! The snapshot of a feed that is paused where its input ends.
 ghost use Rattle.std.specs.Prelude.{◌≡◌, ◌↔◌, ℕ, List, IsTrue, true};
-ghost use Rattle.dover_model.specs.Feed.{account};
-ghost use Rattle.dover_model.specs.Lines.{in_lines};
-ghost use Rattle.dover_model.specs.Spending.{CostsAtMost};
+ghost use Rattle.dover_model.specs.Common.{account, in_lines, CostsAtMost};
 ghost use Rattle.event_feed.specs.Answers.{admitted_in};
 ghost use Rattle.dover_port.specs.Causes.{HasCause, StopsAtFailure};
 ghost use Rattle.dover_port.specs.Moves.{PutsThrough};

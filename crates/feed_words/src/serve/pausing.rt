@@ -6,13 +6,13 @@ ghost use Rattle.feed_words.specs.declared.serve.at_end.AtEnd.TheVariants.{Pause
 use crate::serve::pause::{is_paused, is_too_large, pause, put_lines};
 use crate::serve::serving::Serving;
 use crate::serve::told::answer_with;
+use comparison_count::Comparisons;
 use dialogue::{Stop, Talker};
 use dover_model::Memory;
 use dover_port::{Output, Port, Status};
 use lane_server::Lane;
 use line_text::BackLine;
 use std::sync::ledger::Ledger;
-use step_count::Steps;
 
 /// A feed that is served, and is paused where its input ends, if its ratio was declared and no line has begun.
 #[derive(Drop)]
@@ -30,7 +30,7 @@ impl<L: Ledger> Pausing<L> {
 }
 
 impl<L: Ledger> Talker for Pausing<L> {
-    type Meter = Steps<L>;
+    type Meter = Comparisons<L>;
 
     ghost about = { Call };
 
@@ -46,21 +46,21 @@ impl<L: Ledger> Talker for Pausing<L> {
         Serving::<L>::laws();
     }
 
-    fn take(&mut self, meter: &mut Steps<L>, piece: &[u8]) -> Result<usize, Memory> {
+    fn take(&mut self, meter: &mut Comparisons<L>, piece: &[u8]) -> Result<usize, Memory> {
         self.serving.take(meter, piece)
     }
 
-    fn next_part(&mut self, meter: &mut Steps<L>, part: &mut BackLine) -> bool {
+    fn next_part(&mut self, meter: &mut Comparisons<L>, part: &mut BackLine) -> bool {
         self.serving.next_part(meter, part)
     }
 
-    fn goes_on(&self, meter: &Steps<L>) -> bool {
+    fn goes_on(&self, meter: &Comparisons<L>) -> bool {
         self.serving.goes_on(meter)
     }
 
     fn answer<P: Port>(
         self,
-        meter: &mut Steps<L>,
+        meter: &mut Comparisons<L>,
         port: &mut P,
         out: &mut Output,
         ended: bool,

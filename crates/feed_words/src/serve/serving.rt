@@ -10,6 +10,7 @@ ghost use Rattle.snapshot.specs.Feeds.{ResumesFeed};
 ghost use Rattle.feed_words.specs.serve.Keeping.{Call, whole_call, serve_talk, IsGiving, IsReady, Costs};
 ghost use Rattle.feed_words.specs.declared.serve.at_end.AtEnd.TheVariants.{Refuse};
 
+use comparison_count::Comparisons;
 use dialogue::lines::{put_fault, write_next};
 use dialogue::{Stop, Talker};
 use dover_model::Memory;
@@ -21,7 +22,6 @@ use ready_server::RosterServer;
 use std::alloc::Global;
 use std::marker::PhantomData;
 use std::sync::ledger::Ledger;
-use step_count::Steps;
 
 /// A feed that is served, and is refused as short where its input ends.
 #[derive(Drop)]
@@ -77,7 +77,7 @@ fn tell_end<P: Port>(lane: &Lane, port: &mut P, out: &mut Output) -> Result<Stat
 }
 
 impl<L: Ledger> Talker for Serving<L> {
-    type Meter = Steps<L>;
+    type Meter = Comparisons<L>;
 
     ghost about = { Call };
 
@@ -93,18 +93,18 @@ impl<L: Ledger> Talker for Serving<L> {
         Lane::laws();
     }
 
-    fn goes_on(&self, _meter: &Steps<L>) -> bool {
+    fn goes_on(&self, _meter: &Comparisons<L>) -> bool {
         self.feed.lane().goes_on()
     }
 
     #[inline(always)]
-    fn take(&mut self, _meter: &mut Steps<L>, piece: &[u8]) -> Result<usize, Memory> {
+    fn take(&mut self, _meter: &mut Comparisons<L>, piece: &[u8]) -> Result<usize, Memory> {
         Lane::laws();
         self.feed.take(piece)
     }
 
     #[inline(always)]
-    fn next_part(&mut self, meter: &mut Steps<L>, part: &mut BackLine) -> bool {
+    fn next_part(&mut self, meter: &mut Comparisons<L>, part: &mut BackLine) -> bool {
         match self.feed.next_out(meter) {
             Some(out) => {
                 write_next(&out, self.feed.lane().spelled(), part);
@@ -116,7 +116,7 @@ impl<L: Ledger> Talker for Serving<L> {
 
     fn answer<P: Port>(
         self,
-        _meter: &mut Steps<L>,
+        _meter: &mut Comparisons<L>,
         port: &mut P,
         out: &mut Output,
         _ended: bool,

@@ -1,20 +1,15 @@
 -- What is read of a feed's line.
-use Rattle.std.proofs.Common.{◌≡◌, ◌≢◌, ℕ, List, [], ◌∷◌, length, refl, sym, ap, ◌∙◌, true, Option, Some}
-use Rattle.std.proofs.Common.{None, codes, option_map}
+use Rattle.std.proofs.Common.{◌≡◌, ◌≢◌, ℕ, List, [], ◌∷◌, length, refl, sym, ap, ◌∙◌, true, Option, Some, None, codes}
+use Rattle.std.proofs.Common.{option_map, Result, Ok, Err, IfOk, bytes_eq, option_and_then}
 use Rattle.std.proofs.lemmas.Slice.Eq.{bytes_eq-Decides}
-use Rattle.dover_model.specs.Numerals.{numeral}
-use Rattle.dover_model.specs.Lines.{line_of}
-use Rattle.dover_model.proofs.Fields.{line_of-fields_of}
-use Rattle.dover_model.proofs.Members.{some_same}
-use Rattle.dover_model.proofs.Tests.{none_is_some}
+use Rattle.dover_model.specs.Common.{numeral, line_of, numerals, fields_of}
+use Rattle.dover_model.proofs.texts.Fields.{line_of-fields_of}
+use Rattle.dover_model.proofs.lists.Members.{some_same}
+use Rattle.dover_model.proofs.lists.Tests.{none_is_some}
 use Rattle.line_text.proofs.Words.{IsNot, uncounted, skip, Lacks, differs}
-use Rattle.std.specs.Prelude.{Result, Ok, Err, IfOk, bytes_eq}
-use Rattle.std.specs.Option.{option_and_then}
-use Rattle.dover_model.specs.Numerals.{numerals}
-use Rattle.dover_model.specs.Lines.{fields_of}
 use Rattle.dover_model.specs.FeedLine as model
-use Rattle.dover_model.proofs.FeedLines.{feed_text-feed_line}
-use Rattle.dover_model.proofs.ReadShort.{read_HasNumerals}
+use Rattle.dover_model.proofs.texts.FeedLines.{feed_text-feed_line}
+use Rattle.dover_model.proofs.texts.ReadShort.{read_HasNumerals}
 use Rattle.line_text.specs.declared.BadLine.{BadLine}
 use Rattle.line_text.specs.declared.feeds.lines.FeedLine.{FeedLine}
 use Rattle.line_text.specs.feeds.Form.{form_of}

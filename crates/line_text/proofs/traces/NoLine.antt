@@ -1,18 +1,14 @@
 -- What is no line of a trace: a word with too few or too many numbers, or another word.
-use Rattle.std.proofs.Common.{◌≡◌, ◌≢◌, ℕ, List, [], ◌∷◌, length, refl, sym, ap, true, codes}
-use Rattle.std.proofs.Common.{Option, Some, None}
-use Rattle.std.specs.Prelude.{bytes_eq}
-use Rattle.std.specs.Option.{option_and_then, option_map}
+use Rattle.std.proofs.Common.{◌≡◌, ◌≢◌, ℕ, List, [], ◌∷◌, length, refl, sym, ap, true, codes, Option, Some, None}
+use Rattle.std.proofs.Common.{bytes_eq, option_and_then, option_map}
 use Rattle.dover_model.specs.declared.events.Event.{Event}
 use Rattle.dover_model.specs.declared.events.Event.TheVariants.{Run, Preempt, Take, Complete, Abandon}
-use Rattle.dover_model.specs.Lines.{fields_of}
-use Rattle.dover_model.specs.Numerals.{numerals}
+use Rattle.dover_model.specs.Common.{fields_of, numerals}
 use Rattle.line_text.proofs.Words.{IsNot, uncounted, skip, Lacks, differs}
 use Rattle.line_text.specs.declared.traces.lines.TraceLine.TheVariants.{Step}
 use Rattle.line_text.specs.traces.Reading.{◌>>=◌, release_of, one_job, two_jobs, run_of, complete_of, abandon_of}
 use Rattle.line_text.specs.traces.Reading.{preempt_of, take_of, end_of, header_of, line_of_word, refused_of}
-use Rattle.line_text.specs.traces.Reading.{refused_done_of}
-use Rattle.line_text.specs.traces.Reading.{line_of_fields}
+use Rattle.line_text.specs.traces.Reading.{refused_done_of, line_of_fields}
 
 -- ---- another count of numbers
 

@@ -1,41 +1,35 @@
 -- A trace's line has one spelling: what is read has a form and the bytes as its text, and the text of what has a form
 -- is read as that.
 use Rattle.std.proofs.Common.{◌≡◌, ℕ, ◌^◌, ◌<◌, ◌≤◌, List, [], ◌∷◌, ◌++◌, map, refl, sym, ap, ◌∙◌, subst, Bool, true}
-use Rattle.std.proofs.Common.{false, Option, Some}
-use Rattle.std.proofs.Common.{None, arith, codes, decimal}
-use Rattle.std.specs.Prelude.{bytes_eq, nat_le, if◌then◌else◌, length, ◌==◌}
+use Rattle.std.proofs.Common.{false, Option, Some, None, arith, codes, decimal, bytes_eq, nat_le, if◌then◌else◌, length}
+use Rattle.std.proofs.Common.{◌==◌, option_and_then, option_map, le-leb, leb-true}
 use Rattle.std.specs.Bool.{then_some}
-use Rattle.std.specs.Option.{option_and_then, option_map, option_or}
-use Rattle.std.proofs.lemmas.Bool.{le-leb, leb-true}
+use Rattle.std.specs.Option.{option_or}
 use Rattle.std.proofs.lemmas.List.Splits.{length-slice_split}
 use Rattle.std.proofs.lemmas.Slice.Eq.{bytes_eq-Decides}
 use Rattle.dover_model.specs.declared.events.Event.{Event}
 use Rattle.dover_model.specs.declared.events.Event.TheVariants.{Release, Run, Preempt, Take, Complete, Abandon, End}
 use Rattle.dover_model.specs.declared.events.Refusal.{Refusal}
 use Rattle.dover_model.specs.declared.events.Refusal.TheVariants.{BadJob, Count, Total, Ratio, Late, Full}
-use Rattle.dover_model.specs.JobFacts.{JobFacts, IsJob, is_job, job_of_numbers, job_numbers}
-use Rattle.dover_model.specs.Numerals.{numeral, numerals, AreShort}
-use Rattle.dover_model.specs.Lines.{fields_of, line_of, with_numbers, numbers_after}
-use Rattle.dover_model.specs.Instance.{Declaration}
-use Rattle.dover_model.specs.Session.{Item}
-use Rattle.dover_model.specs.Text.{text_of, refusal_word, step_numbers}
-use Rattle.dover_model.specs.Trace.{Printed, Refuses}
+use Rattle.dover_model.specs.Common.{JobFacts, IsJob, is_job, job_of_numbers, job_numbers, numeral, numerals, AreShort}
+use Rattle.dover_model.specs.Common.{fields_of, line_of, with_numbers, numbers_after, Declaration, Item, text_of}
+use Rattle.dover_model.specs.Common.{refusal_word, step_numbers, Printed, Refuses}
 use Rattle.dover_model.specs.Verdict as verdict
-use Rattle.dover_model.proofs.Tests.{never, none_is_some}
-use Rattle.dover_model.proofs.Members.{some_same}
-use Rattle.dover_model.proofs.Numerals.{numeral-decimal, decimal-numeral}
-use Rattle.dover_model.proofs.Fields.{HasNoSpace, fields_of-line_of, line_of-fields_of, decimals-HasNoSpace}
-use Rattle.dover_model.proofs.Fields.{numerals-decimals, decimals-numerals}
-use Rattle.dover_model.proofs.ReadShort.{numerals_short}
-use Rattle.dover_model.proofs.TraceLines.{word_HasNoSpace, then_word, item_of-text_of_line}
+use Rattle.dover_model.proofs.lists.Tests.{never, none_is_some}
+use Rattle.dover_model.proofs.lists.Members.{some_same}
+use Rattle.dover_model.proofs.texts.Numerals.{numeral-decimal, decimal-numeral}
+use Rattle.dover_model.proofs.texts.Fields.{HasNoSpace, fields_of-line_of, line_of-fields_of, decimals-HasNoSpace}
+use Rattle.dover_model.proofs.texts.Fields.{numerals-decimals, decimals-numerals}
+use Rattle.dover_model.proofs.texts.ReadShort.{numerals_short}
+use Rattle.dover_model.proofs.texts.TraceLines.{word_HasNoSpace, then_word, item_of-text_of_line}
 use Rattle.line_text.specs.Reading.{number_of_first}
 use Rattle.line_text.specs.declared.traces.lines.TraceLine.{TraceLine}
 use Rattle.line_text.specs.declared.traces.lines.TraceLine.TheVariants.{Header, Step, Refused, RefusedDone}
 use Rattle.line_text.specs.traces.Form.{last_number, trace_text, NamesJobs, HasForm, item_in, rules_in, pair_of}
 use Rattle.line_text.specs.traces.Form.{refused_job, refused_done}
-use Rattle.line_text.specs.traces.Reading.{◌>>=◌, job_number, new_job, release_of, one_job, two_jobs}
-use Rattle.line_text.specs.traces.Reading.{end_of, step_of_word, header_of, line_of_word, last_word, refused_of}
-use Rattle.line_text.specs.traces.Reading.{line_of_fields, is_done_left, refused_done_of, refusal_of}
+use Rattle.line_text.specs.traces.Reading.{◌>>=◌, job_number, new_job, release_of, one_job, two_jobs, end_of}
+use Rattle.line_text.specs.traces.Reading.{step_of_word, header_of, line_of_word, last_word, refused_of, line_of_fields}
+use Rattle.line_text.specs.traces.Reading.{is_done_left, refused_done_of, refusal_of}
 
 -- ---- steps
 

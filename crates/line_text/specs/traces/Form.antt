@@ -3,14 +3,9 @@ use Rattle.std.specs.Prelude.{ℕ, ◌≤◌, List, [], ◌∷◌, Option, Some,
 use Rattle.dover_model.specs.declared.events.Event.{Event}
 use Rattle.dover_model.specs.declared.events.Event.TheVariants.{Release, Run, Preempt, Take, Complete, Abandon, End}
 use Rattle.dover_model.specs.declared.events.Refusal.{Refusal}
-use Rattle.dover_model.specs.JobFacts.{IsJob, job_of_numbers}
-use Rattle.dover_model.specs.Numerals.{AreShort}
-use Rattle.dover_model.specs.Lines.{with_numbers}
-use Rattle.dover_model.specs.Instance.{Declaration}
-use Rattle.dover_model.specs.Session.{Item, JobItem, RefusedItem, RefusedJob}
-use Rattle.dover_model.specs.Session.{refused_done_at}
+use Rattle.dover_model.specs.Common.{IsJob, job_of_numbers, AreShort, with_numbers, Declaration, Item, JobItem}
+use Rattle.dover_model.specs.Common.{RefusedItem, RefusedJob, refused_done_at, text_of, refused_text, step_numbers}
 use Rattle.dover_model.specs.Session as session
-use Rattle.dover_model.specs.Text.{text_of, refused_text, step_numbers}
 use Rattle.dover_model.specs.Verdict.{rules_from}
 use Rattle.line_text.specs.declared.traces.lines.TraceLine.{TraceLine}
 use Rattle.line_text.specs.declared.traces.lines.TraceLine.TheVariants.{Header, Step, Refused, RefusedDone}

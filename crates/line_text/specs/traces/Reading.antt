@@ -5,8 +5,7 @@ use Rattle.std.specs.Option.{option_and_then, option_map, option_or}
 use Rattle.dover_model.specs.declared.events.Event.{Event}
 use Rattle.dover_model.specs.declared.events.Event.TheVariants.{Release, Run, Preempt, Take, Complete, Abandon, End}
 use Rattle.dover_model.specs.declared.events.Refusal.{Refusal}
-use Rattle.dover_model.specs.JobFacts.{JobFacts, is_job, job_of_numbers}
-use Rattle.dover_model.specs.Numerals.{numerals}
+use Rattle.dover_model.specs.Common.{JobFacts, is_job, job_of_numbers, numerals}
 use Rattle.dover_model.specs.Verdict.{refusal_of_word}
 use Rattle.line_text.specs.Reading.{number_of_first}
 use Rattle.line_text.specs.declared.traces.lines.TraceLine.{TraceLine}

@@ -1,7 +1,6 @@
 //! A feed's line from its bytes.
 ghost use Rattle.std.specs.Prelude.{◌≡◌, Some, None, IfOk, OnErr, option_map, option_and_then};
-ghost use Rattle.dover_model.specs.Lines.{fields_of};
-ghost use Rattle.dover_model.specs.Numerals.{numerals};
+ghost use Rattle.dover_model.specs.Common.{fields_of, numerals};
 ghost use Rattle.dover_model.specs.FeedLine as model;
 ghost use Rattle.line_text.specs.feeds.Form.{form_of};
 

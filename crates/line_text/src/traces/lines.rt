@@ -4,8 +4,8 @@ use dover_model::{Event, Refusal};
 /// A line of a trace.
 #[derive(Clone, Copy)]
 pub enum TraceLine {
-    /// `dover N P Q` or `dover N P Q B C`: the version and the ratio, and perhaps the factor. They are any numerals, and
-    /// may be out of the limits.
+    /// `dover N P Q` or `dover N P Q B C`: the version and the ratio, and perhaps the factor. They are any numerals,
+    /// and may be out of the limits.
     Header {
         version: u64,
         p: u64,

@@ -1,8 +1,7 @@
 //! A trace's line from its bytes.
 ghost use Rattle.std.specs.Prelude.{◌≡◌, Ok, IfOk, option_map, option_and_then};
-ghost use Rattle.dover_model.specs.Numerals.{numerals};
+ghost use Rattle.dover_model.specs.Common.{numerals, fields_of};
 ghost use Rattle.dover_model.specs.Verdict as verdict;
-ghost use Rattle.dover_model.specs.Lines.{fields_of};
 ghost use Rattle.line_text.specs.Reading.{fields_left, number_of_first};
 ghost use Rattle.line_text.specs.declared.traces.lines.TraceLine.{TraceLine};
 ghost use Rattle.line_text.specs.declared.traces.lines.TraceLine.TheVariants.{Step};

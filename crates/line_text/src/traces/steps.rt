@@ -1,7 +1,6 @@
 //! A printed step from a word and numbers.
 ghost use Rattle.std.specs.Prelude.{◌≡◌, option_and_then};
-ghost use Rattle.dover_model.specs.Lines.{fields_of};
-ghost use Rattle.dover_model.specs.Numerals.{numerals};
+ghost use Rattle.dover_model.specs.Common.{fields_of, numerals};
 ghost use Rattle.line_text.specs.traces.Reading as model;
 
 use crate::numbers_in;

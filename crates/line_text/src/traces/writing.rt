@@ -1,11 +1,23 @@
 //! A trace's line as bytes.
-ghost use Rattle.std.specs.Prelude.{◌≡◌, ◌∷◌, ◌++◌, []};
-ghost use Rattle.dover_model.specs.Numerals.{AreShort};
+ghost use Rattle.std.specs.Prelude.{◌≡◌, ◌∷◌, ◌++◌, [], codes};
+ghost use Rattle.dover_model.specs.Common.{AreShort, job_numbers, step_numbers, with_numbers};
 ghost use Rattle.dover_model.specs.Text as form;
-ghost use Rattle.dover_model.specs.Text.{step_numbers};
 
 use crate::BackLine;
-use dover_model::{Event, Refusal};
+use dover_model::{Event, Job, Refusal};
+
+/// Writes the line of a release before its line feed. Where a feed is served, its job's text is taken in its place, so it
+/// doesn't stand among the other steps.
+#[inline(never)]
+fn write_release(number: u32, job: &Job, to: &mut BackLine)
+    requires numbers { AreShort (number ∷ job_numbers job.now) }
+    requires empty { to.old ≡ 10 ∷ [] }
+    ensures { to.new ≡ with_numbers (codes "job") (number ∷ job_numbers job.now) ++ 10 ∷ [] }
+{
+    // In two parts, since the compiler unrolls a loop over three numbers, and none over five.
+    to.put_numbers(&[job.work(), job.deadline(), job.value()]);
+    to.put_with_numbers(b"job", &[u64::from(number), job.release()]);
+}
 
 /// Writes the line of a printed step before its line feed.
 #[inline(always)]
@@ -15,11 +27,7 @@ pub fn write_event(e: &Event, to: &mut BackLine)
     ensures { to.new ≡ form.text_of e.now ++ 10 ∷ [] }
 {
     match e {
-        Event::Release { number, job } => {
-            // In two parts, since the compiler unrolls a loop over three numbers, and none over five.
-            to.put_numbers(&[job.work(), job.deadline(), job.value()]);
-            to.put_with_numbers(b"job", &[u64::from(*number), job.release()]);
-        }
+        Event::Release { number, job } => write_release(*number, job, to),
         Event::Run { at, number } => to.put_with_numbers(b"run", &[*at, u64::from(*number)]),
         Event::Preempt { at, stops, starts } => {
             to.put_with_numbers(b"preempt", &[*at, u64::from(*stops), u64::from(*starts)])

@@ -1,26 +1,16 @@
 -- What a run costs, said of its rows.
-use Rattle.std.proofs.Common.{◌≡◌, ℕ, ◌+◌, ◌-◌, ◌*◌, ◌≤◌, ◌<◌, List, ◌∷◌, length, drop, get_or, sym, ap, ◌∙◌}
-use Rattle.std.proofs.Common.{subst, arith}
+use Rattle.std.proofs.Common.{◌≡◌, ℕ, ◌+◌, ◌-◌, ◌*◌, ◌≤◌, ◌<◌, List, ◌∷◌, length, drop, get_or, sym, ap, ◌∙◌, subst}
+use Rattle.std.proofs.Common.{arith, sum_by}
 use Rattle.std.proofs.lemmas.List.{drop_all, drop_more}
-use Rattle.std.specs.List.{sum_by}
 use Rattle.dover_model.specs.Books as books
-use Rattle.dover_model.specs.Fraction.{Fraction}
-use Rattle.dover_model.specs.JobFacts.{JobFacts}
+use Rattle.dover_model.specs.Common.{Fraction, JobFacts, Instance, total_value, completed_value, ran, worth, observed}
+use Rattle.dover_model.specs.Common.{IsWithin, IsLeastDense, IsHeavy, Each}
 use Rattle.dover_model.specs.declared.events.Event.{Event}
-use Rattle.dover_model.specs.Instance.{Instance, total_value}
-use Rattle.dover_model.specs.Run.{completed_value, ran}
-use Rattle.dover_model.specs.Schedules.{worth}
-use Rattle.dover_model.specs.Observed.{observed}
-use Rattle.dover_model.specs.Bound.{IsWithin}
-use Rattle.dover_model.specs.Books.{IsLeastDense}
-use Rattle.dover_model.specs.Orders.{IsHeavy}
 use Rattle.dover_model.specs.Intervals as model
-use Rattle.dover_model.specs.Sound.{Each}
-use Rattle.dover_model.proofs.Members.{on_map, sum_map}
-use Rattle.dover_model.proofs.BoundLaws.{bound, observed_bound, interval_ordered, interval_displaced, interval_paid}
-use Rattle.dover_model.proofs.BoundLaws.{interval_light, intervals_complete}
-use Rattle.dover_model.proofs.BoundLaws.{intervals_abandon}
-use Rattle.dover_model.proofs.Honest.{observed_honest}
+use Rattle.dover_model.proofs.lists.Members.{on_map, sum_map}
+use Rattle.dover_model.proofs.bound.BoundLaws.{bound, observed_bound, interval_ordered, interval_displaced}
+use Rattle.dover_model.proofs.bound.BoundLaws.{interval_paid, interval_light, intervals_complete, intervals_abandon}
+use Rattle.dover_model.proofs.runs.Honest.{observed_honest}
 use Rattle.run_record.specs.declared.intervals.interval.Interval.{Interval}
 use Rattle.run_record.specs.intervals.Pages.{Page}
 use Rattle.run_record.specs.intervals.Rows.{IsRunOf, numbers_of, rows_of}

@@ -1,12 +1,11 @@
 -- What steps tell of the jobs of a run, with one step more.
 use Rattle.std.proofs.Common.{◌≡◌, ℕ, ◌+◌, ◌*◌, ◌^◌, ◌≤◌, ◌<◌, List, length, take, get_or, sym, ap, ◌∙◌, cond, arith}
-use Rattle.std.proofs.lemmas.List.{length-take}
-use Rattle.std.specs.List.{sum_by}
+use Rattle.std.proofs.Common.{length-take, sum_by}
 use Rattle.std.proofs.lemmas.List.Sums.{sum_by_more, count_by-le-length}
 use Rattle.dover_model.specs.declared.events.Event.{Event}
 use Rattle.dover_model.specs.Reports.{is_take}
-use Rattle.run_record.specs.intervals.Totals.{is_release, is_completion, is_abandonment, value_released}
-use Rattle.run_record.specs.intervals.Totals.{totals_of, with_step, HasSpace}
+use Rattle.run_record.specs.intervals.Totals.{is_release, is_completion, is_abandonment, value_released, totals_of}
+use Rattle.run_record.specs.intervals.Totals.{with_step, HasSpace}
 use Rattle.run_record.specs.declared.intervals.totals.JobTotals.{JobTotals}
 
 -- a sum with one step more

@@ -1,14 +1,10 @@
 -- The page of a ledger follows a state of the run.
-use Rattle.std.proofs.Common.{◌≡◌, ℕ, ◌≤◌, ◌<◌, List, ◌∷◌, ◌++◌, length, map, get_or, false}
-use Rattle.std.specs.Prelude.{Option, Some, None, ◌==◌}
+use Rattle.std.proofs.Common.{◌≡◌, ℕ, ◌≤◌, ◌<◌, List, ◌∷◌, ◌++◌, length, map, get_or, false, Option, Some, None, ◌==◌}
 use Rattle.dover_model.specs.Intervals as model
 use Rattle.dover_model.specs.declared.events.Role.TheVariants.{Coming}
 use Rattle.dover_model.specs.declared.events.Task.{Task}
-use Rattle.dover_model.specs.State.{State, is_privileged, is_over}
-use Rattle.dover_model.specs.Step.{Move, Prints, Waits, Ticks, after}
-use Rattle.dover_model.specs.Run.{Step}
-use Rattle.dover_model.specs.Sound.{Each}
-use Rattle.dover_model.proofs.Booking.{active_sum}
+use Rattle.dover_model.specs.Common.{State, is_privileged, is_over, Move, Prints, Waits, Ticks, after, Step, Each}
+use Rattle.dover_model.proofs.bound.Booking.{active_sum}
 use Rattle.run_record.specs.declared.intervals.interval.Interval.{Interval}
 use Rattle.run_record.specs.declared.intervals.interval.UnderWay.{UnderWay}
 use Rattle.run_record.specs.declared.intervals.ledger.Known.{Known}

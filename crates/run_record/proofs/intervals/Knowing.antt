@@ -1,26 +1,22 @@
 -- What a page knows of the jobs, where their roles change.
 use Rattle.std.proofs.Common.{◌≡◌, ◌≢◌, ℕ, suc, ◌+◌, ◌-◌, ◌≤◌, ◌<◌, ◌⊎◌, inl, inr, List, [], ◌∷◌, ◌++◌, length, map}
-use Rattle.std.proofs.Common.{get_or, refl, sym, ap, ◌∙◌}
-use Rattle.std.proofs.Common.{subst, true, false, cond, arith}
-use Rattle.std.specs.Prelude.{◌==◌}
-use Rattle.std.proofs.lemmas.Bool.{eq-eqb, ne_eqb}
-use Rattle.std.proofs.Common.{length-set, get_or-set_other, length-append}
-use Rattle.std.proofs.lemmas.List.{get_or-set_same, get_or_append_left}
+use Rattle.std.proofs.Common.{get_or, refl, sym, ap, ◌∙◌, subst, true, false, cond, arith, ◌==◌, eq-eqb, ne_eqb}
+use Rattle.std.proofs.Common.{length-set, get_or-set_other, length-append, get_or-set_same}
+use Rattle.std.proofs.lemmas.List.{get_or_append_left}
 use Rattle.std.proofs.Math.Seq.{get_or-append_seam}
 use Rattle.std.proofs.lemmas.Bool.{cases_lt}
 use Rattle.dover_model.specs.declared.events.Role.{Role}
 use Rattle.dover_model.specs.declared.events.Role.TheVariants.{Coming, Fresh, Waiting, Held, Running}
 use Rattle.dover_model.specs.declared.events.Task.{Task}
-use Rattle.dover_model.specs.State.{State, is_coming, is_privileged, is_over}
-use Rattle.dover_model.specs.Step.{with_role, displaced, ticked}
-use Rattle.dover_model.specs.Sound.{IsMember, Each, IsNumberedFrom}
-use Rattle.dover_model.proofs.Members.{on_map, by_bool, sum_map, sum_zero}
-use Rattle.dover_model.proofs.Moves.{displaced_role}
-use Rattle.dover_model.proofs.Roles.{passes, fails, is_coming_role}
-use Rattle.dover_model.proofs.Loads.{with_roles, state_in}
-use Rattle.dover_model.proofs.OneChange.{changed, on_changed, state_with}
-use Rattle.dover_model.proofs.Booking.{active_sum}
-use Rattle.dover_model.proofs.Booked.{displaced_idle}
+use Rattle.dover_model.specs.Common.{State, is_coming, is_privileged, is_over, with_role, displaced, ticked, IsMember}
+use Rattle.dover_model.specs.Common.{Each, IsNumberedFrom}
+use Rattle.dover_model.proofs.lists.Members.{on_map, by_bool, sum_map, sum_zero}
+use Rattle.dover_model.proofs.steps.Moves.{displaced_role}
+use Rattle.dover_model.proofs.steps.Roles.{passes, fails, is_coming_role}
+use Rattle.dover_model.proofs.steps.Loads.{with_roles, state_in}
+use Rattle.dover_model.proofs.steps.OneChange.{changed, on_changed, state_with}
+use Rattle.dover_model.proofs.bound.Booking.{active_sum}
+use Rattle.dover_model.proofs.bound.Booked.{displaced_idle}
 use Rattle.run_record.specs.declared.intervals.ledger.Known.{Known}
 use Rattle.run_record.specs.intervals.Pages.{Page, unknown, value_at, entered, with_one_more}
 use Rattle.run_record.proofs.intervals.Follows.{IsKnown, AllKnown, AllAhead, Tracks}

@@ -1,36 +1,28 @@
 -- The page follows a preemption, a release, an abandonment, a completion, a silent tick and the end.
-use Rattle.std.proofs.Common.{◌≡◌, ℕ, zero, suc, ◌+◌, ◌-◌, ◌≤◌, ◌<◌, List, [], ◌∷◌, ◌++◌, length, map, refl}
-use Rattle.std.proofs.Common.{sym, ap, ◌∙◌, subst, Bool}
-use Rattle.std.proofs.Common.{true, false, cond, arith, append_assoc}
-use Rattle.std.specs.Prelude.{Option, Some, None, ◌==◌}
-use Rattle.std.specs.List.{sum_by, filter}
-use Rattle.std.proofs.lemmas.Bool.{eq-eqb, ne_eqb}
+use Rattle.std.proofs.Common.{◌≡◌, ℕ, zero, suc, ◌+◌, ◌-◌, ◌≤◌, ◌<◌, List, [], ◌∷◌, ◌++◌, length, map, refl, sym, ap}
+use Rattle.std.proofs.Common.{◌∙◌, subst, Bool, true, false, cond, arith, append_assoc, Option, Some, None, ◌==◌}
+use Rattle.std.proofs.Common.{sum_by, filter, eq-eqb, ne_eqb}
 use Rattle.std.proofs.lemmas.List.Sums.{sum_by-cons}
 use Rattle.dover_model.specs.Intervals as model
 use Rattle.dover_model.specs.declared.events.Event.TheVariants.{Release, Preempt, Complete, Abandon, End}
 use Rattle.dover_model.specs.declared.events.Role.{Role}
 use Rattle.dover_model.specs.declared.events.Role.TheVariants.{Coming, Fresh, Waiting, Held, Running, Done, Gone}
 use Rattle.dover_model.specs.declared.events.Task.{Task}
-use Rattle.dover_model.specs.State.{State, held, is_held, is_running, is_privileged}
-use Rattle.dover_model.specs.Step.{Prints, Ticks, with_role, after}
-use Rattle.dover_model.specs.Run.{Step}
-use Rattle.dover_model.specs.Sound.{IsMember, Each, IsSound}
-use Rattle.dover_model.proofs.Members.{map_map, sum_plus, sum_same, by_bool}
-use Rattle.dover_model.proofs.Roles.{by_role, passes, numbered_map, one_number, is_running_role}
-use Rattle.dover_model.proofs.OneChange.{changed, state_with, changed_there}
-use Rattle.dover_model.proofs.Booking.{active_sum}
-use Rattle.dover_model.proofs.Closing.{single_sum, value_of_number}
-use Rattle.dover_model.proofs.Kept.{end_same}
-use Rattle.run_record.specs.intervals.Pages.{Page, value_at, capped, with_one_more, in_one, with_row}
-use Rattle.run_record.specs.intervals.Pages.{with_abandonment}
+use Rattle.dover_model.specs.Common.{State, held, is_held, is_running, is_privileged, Prints, Ticks, with_role, after}
+use Rattle.dover_model.specs.Common.{Step, IsMember, Each, IsSound}
+use Rattle.dover_model.proofs.lists.Members.{map_map, sum_plus, sum_same, by_bool}
+use Rattle.dover_model.proofs.steps.Roles.{by_role, passes, numbered_map, one_number, is_running_role}
+use Rattle.dover_model.proofs.steps.OneChange.{changed, state_with, changed_there}
+use Rattle.dover_model.proofs.bound.Booking.{active_sum}
+use Rattle.dover_model.proofs.bound.Closing.{single_sum, value_of_number}
+use Rattle.dover_model.proofs.steps.Kept.{end_same}
+use Rattle.run_record.specs.intervals.Pages.{Page, value_at, capped, with_one_more, in_one, with_row, with_abandonment}
 use Rattle.run_record.specs.intervals.Pages.{with_completion, ended, page_completed}
 use Rattle.run_record.proofs.intervals.Follows.{capped_of, under_of, Tracks, Follows, Next}
 use Rattle.run_record.proofs.intervals.Sums.{capped_more}
 use Rattle.run_record.proofs.intervals.Knowing.{leaves_tracks, ends_tracks, releases_tracks, tick_tracks}
-use Rattle.run_record.proofs.intervals.Steps.{same_tracks, enters, turns, can_join, joins, fresh_idle}
-use Rattle.run_record.proofs.intervals.Steps.{waiting_idle}
-use Rattle.run_record.proofs.intervals.Steps.{running_comes, held_comes}
-use Rattle.run_record.proofs.intervals.Steps.{gone_comes, done_comes}
+use Rattle.run_record.proofs.intervals.Steps.{same_tracks, enters, turns, can_join, joins, fresh_idle, waiting_idle}
+use Rattle.run_record.proofs.intervals.Steps.{running_comes, held_comes, gone_comes, done_comes}
 
 -- ---- completions
 

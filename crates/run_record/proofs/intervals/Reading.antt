@@ -1,32 +1,28 @@
 -- The ledger reads a run: its page follows the states of the run, up to the end.
-use Rattle.std.proofs.Common.{◌≡◌, ℕ, ◌+◌, ◌*◌, ◌≤◌, ◌<◌, ◌^◌, ◌⊎◌, inl, inr, List, [], ◌∷◌, ◌++◌, length, map, refl, sym}
-use Rattle.std.proofs.Common.{ap, ◌∙◌, subst, Bool, true}
-use Rattle.std.proofs.Common.{false, cond, arith, append-nil}
-use Rattle.std.specs.Prelude.{Option, None, ◌==◌}
-use Rattle.std.specs.Bool.{MatchBool, then_some}
-use Rattle.std.specs.List.{sum_by, filter, filter_map, list_all, cons_option}
-use Rattle.dover_model.specs.Fraction.{Fraction}
-use Rattle.dover_model.specs.Instance.{Instance, IsListable, IsValid}
+use Rattle.std.proofs.Common.{◌≡◌, ℕ, ◌+◌, ◌*◌, ◌≤◌, ◌<◌, ◌^◌, ◌⊎◌, inl, inr, List, [], ◌∷◌, ◌++◌, length, map, refl}
+use Rattle.std.proofs.Common.{sym, ap, ◌∙◌, subst, Bool, true, false, cond, arith, append-nil, Option, None, ◌==◌}
+use Rattle.std.proofs.Common.{MatchBool, sum_by, filter, filter_map}
+use Rattle.std.specs.Bool.{then_some}
+use Rattle.std.specs.List.{list_all, cons_option}
+use Rattle.dover_model.specs.Common.{Fraction, Instance, IsListable, IsValid, State, opening, is_privileged, is_done}
+use Rattle.dover_model.specs.Common.{is_over, value_sum, Move, Prints, Waits, Ticks, step, after, ending, ◌or_else◌}
+use Rattle.dover_model.specs.Common.{Step, is_end, event_of, printed_of, printed, run, completed_value, value_of_end}
+use Rattle.dover_model.specs.Common.{IsWholeRun, IsMember, IsSound, Keeps}
 use Rattle.dover_model.specs.Intervals as model
 use Rattle.dover_model.specs.declared.events.Event.{Event}
 use Rattle.dover_model.specs.declared.events.Event.TheVariants.{Run, Preempt, Complete, End}
 use Rattle.dover_model.specs.declared.events.Role.TheVariants.{Coming}
 use Rattle.dover_model.specs.declared.events.Task.{Task}
-use Rattle.dover_model.specs.State.{State, opening, is_privileged, is_done, is_over, value_sum}
-use Rattle.dover_model.specs.Step.{Move, Prints, Waits, Ticks, step, after, ending, ◌or_else◌}
-use Rattle.dover_model.specs.Run.{Step, is_end, event_of, printed_of, printed, run, completed_value, value_of_end}
-use Rattle.dover_model.specs.WholeRun.{IsWholeRun}
-use Rattle.dover_model.specs.Sound.{IsMember, IsSound, Keeps}
-use Rattle.dover_model.proofs.Members.{by_bool, map_same, sum_map, sum_zero, term_le_sum}
-use Rattle.dover_model.proofs.Roles.{passes}
-use Rattle.dover_model.proofs.Booked.{privileged_value}
-use Rattle.dover_model.proofs.Ticking.{Quiet}
-use Rattle.dover_model.proofs.Deeds.{Deed, Completed, Resumed, Started, Began, Preempted, Stayed, Arrived, Taken}
-use Rattle.dover_model.proofs.Deeds.{Abandoned, Rested}
-use Rattle.dover_model.proofs.Kept.{step_deed, step_kept, opening_keeps, come_coming}
-use Rattle.dover_model.proofs.Ending.{run_is_whole, few_printed}
-use Rattle.dover_model.proofs.Honest.{count_jobs}
-use Rattle.dover_model.proofs.Runs.{last_value, some_printed}
+use Rattle.dover_model.proofs.lists.Members.{by_bool, map_same, sum_map, sum_zero, term_le_sum}
+use Rattle.dover_model.proofs.steps.Roles.{passes}
+use Rattle.dover_model.proofs.bound.Booked.{privileged_value}
+use Rattle.dover_model.proofs.steps.Ticking.{Quiet}
+use Rattle.dover_model.proofs.steps.Deeds.{Deed, Completed, Resumed, Started, Began, Preempted, Stayed, Arrived, Taken}
+use Rattle.dover_model.proofs.steps.Deeds.{Abandoned, Rested}
+use Rattle.dover_model.proofs.steps.Kept.{step_deed, step_kept, opening_keeps, come_coming}
+use Rattle.dover_model.proofs.runs.Ending.{run_is_whole, few_printed}
+use Rattle.dover_model.proofs.runs.Honest.{count_jobs}
+use Rattle.dover_model.proofs.runs.Runs.{last_value, some_printed}
 use Rattle.run_record.specs.declared.intervals.interval.Interval.{Interval}
 use Rattle.run_record.specs.intervals.Pages.{Page, blank, with_event, known_at, with_one_more, page_completed, ended}
 use Rattle.run_record.specs.intervals.Pages.{IsReadable}
@@ -37,9 +33,9 @@ use Rattle.run_record.proofs.intervals.Steps.{waiting_idle, fresh_idle, enters_n
 use Rattle.run_record.proofs.intervals.Overs.{preempts_next, releases_next, abandons_next, completes_next, ticks_next}
 use Rattle.run_record.proofs.intervals.Overs.{ends_next}
 use Rattle.run_record.proofs.intervals.Takes.{takes_next}
-use Rattle.dover_model.proofs.ValidParts.{valid_parts}
-use Rattle.dover_model.proofs.BoundLaws.{interval_displaced, intervals_complete, intervals_abandon}
-use Rattle.dover_model.proofs.GreatestLaws.{paid_small}
+use Rattle.dover_model.proofs.valid.ValidParts.{valid_parts}
+use Rattle.dover_model.proofs.bound.BoundLaws.{interval_displaced, intervals_complete, intervals_abandon}
+use Rattle.dover_model.proofs.bound.GreatestLaws.{paid_small}
 
 -- ---- one step
 

@@ -1,21 +1,16 @@
 -- The page follows each step of the machine.
-use Rattle.std.proofs.Common.{◌≡◌, ℕ, ◌≤◌, List, ◌∷◌, ◌++◌, length, map, refl, sym, ap, ◌∙◌, subst}
-use Rattle.std.proofs.Common.{true, false, cond}
-use Rattle.std.proofs.Common.{arith}
-use Rattle.std.specs.Prelude.{Option, Some, None}
-use Rattle.std.specs.List.{sum_by}
+use Rattle.std.proofs.Common.{◌≡◌, ℕ, ◌≤◌, List, ◌∷◌, ◌++◌, length, map, refl, sym, ap, ◌∙◌, subst, true, false, cond}
+use Rattle.std.proofs.Common.{arith, Option, Some, None, sum_by}
 use Rattle.dover_model.specs.Intervals as model
 use Rattle.dover_model.specs.declared.events.Event.TheVariants.{Run}
 use Rattle.dover_model.specs.declared.events.Role.{Role}
 use Rattle.dover_model.specs.declared.events.Role.TheVariants.{Coming, Fresh, Waiting, Held, Running, Done, Gone}
 use Rattle.dover_model.specs.declared.events.Task.{Task}
-use Rattle.dover_model.specs.State.{State, is_privileged, is_over}
-use Rattle.dover_model.specs.Step.{Prints, Waits, with_role, after}
-use Rattle.dover_model.specs.Run.{Step}
-use Rattle.dover_model.specs.Sound.{IsMember, IsSound, IsNumberedFrom}
-use Rattle.dover_model.proofs.Members.{term_le_sum}
-use Rattle.dover_model.proofs.Roles.{passes}
-use Rattle.dover_model.proofs.OneChange.{state_with}
+use Rattle.dover_model.specs.Common.{State, is_privileged, is_over, Prints, Waits, with_role, after, Step, IsMember}
+use Rattle.dover_model.specs.Common.{IsSound, IsNumberedFrom}
+use Rattle.dover_model.proofs.lists.Members.{term_le_sum}
+use Rattle.dover_model.proofs.steps.Roles.{passes}
+use Rattle.dover_model.proofs.steps.OneChange.{state_with}
 use Rattle.run_record.specs.declared.intervals.interval.Interval.{Interval}
 use Rattle.run_record.specs.declared.intervals.interval.UnderWay.{UnderWay}
 use Rattle.run_record.specs.intervals.Pages.{Page, joined, with_one_more, begun_or, CanJoin}

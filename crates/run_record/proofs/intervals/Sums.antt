@@ -2,16 +2,13 @@
 use Rattle.std.proofs.Common.{◌≡◌, ℕ, ◌+◌, ◌≤◌, ◌<◌, ◌^◌, List, length, [], ◌∷◌, ap, Bool, true, false, cond, arith}
 use Rattle.std.specs.List.{sum_by}
 use Rattle.std.proofs.lemmas.List.Sums.{sum_by-cons}
-use Rattle.dover_model.specs.JobFacts.{JobFacts}
+use Rattle.dover_model.specs.Common.{JobFacts, is_privileged, with_role, IsMember, IsNumberedFrom}
 use Rattle.dover_model.specs.declared.events.Role.{Role}
 use Rattle.dover_model.specs.declared.events.Task.{Task}
-use Rattle.dover_model.specs.State.{is_privileged}
-use Rattle.dover_model.specs.Step.{with_role}
-use Rattle.dover_model.specs.Sound.{IsMember, IsNumberedFrom}
-use Rattle.dover_model.proofs.Members.{sum_le}
-use Rattle.dover_model.proofs.Loads.{with_roles}
-use Rattle.dover_model.proofs.OneChange.{changed}
-use Rattle.dover_model.proofs.Booking.{sum_changed, active_sum}
+use Rattle.dover_model.proofs.lists.Members.{sum_le}
+use Rattle.dover_model.proofs.steps.Loads.{with_roles}
+use Rattle.dover_model.proofs.steps.OneChange.{changed}
+use Rattle.dover_model.proofs.bound.Booking.{sum_changed, active_sum}
 use Rattle.run_record.specs.intervals.Pages.{capped}
 
 -- a sum of two parts, of which one is as far as a word takes it

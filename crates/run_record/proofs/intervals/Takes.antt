@@ -1,19 +1,17 @@
 -- The page follows a take.
-use Rattle.std.proofs.Common.{◌≡◌, ℕ, ◌+◌, ◌<◌, ◌^◌, List, refl, sym, ap, ◌∙◌, subst, true}
-use Rattle.std.proofs.Common.{zero-add}
-use Rattle.std.specs.Prelude.{Option, Some, None}
+use Rattle.std.proofs.Common.{◌≡◌, ℕ, ◌+◌, ◌<◌, ◌^◌, List, refl, sym, ap, ◌∙◌, subst, true, zero-add, Option, Some}
+use Rattle.std.proofs.Common.{None}
 use Rattle.dover_model.specs.Intervals as model
 use Rattle.dover_model.specs.declared.events.Event.TheVariants.{Take}
 use Rattle.dover_model.specs.declared.events.Role.TheVariants.{Waiting, Running}
 use Rattle.dover_model.specs.declared.events.Task.{Task}
-use Rattle.dover_model.specs.State.{State, privileged, value_sum}
-use Rattle.dover_model.specs.Step.{Prints, with_role, displaced, after}
-use Rattle.dover_model.specs.Sound.{IsMember, IsSound}
-use Rattle.dover_model.proofs.Members.{map_map, map_member}
-use Rattle.dover_model.proofs.Roles.{numbered_map}
-use Rattle.dover_model.proofs.Loads.{state_in}
-use Rattle.dover_model.proofs.OneChange.{changed}
-use Rattle.dover_model.proofs.Booked.{displaced_idle, privileged_value}
+use Rattle.dover_model.specs.Common.{State, privileged, value_sum, Prints, with_role, displaced, after, IsMember}
+use Rattle.dover_model.specs.Common.{IsSound}
+use Rattle.dover_model.proofs.lists.Members.{map_map, map_member}
+use Rattle.dover_model.proofs.steps.Roles.{numbered_map}
+use Rattle.dover_model.proofs.steps.Loads.{state_in}
+use Rattle.dover_model.proofs.steps.OneChange.{changed}
+use Rattle.dover_model.proofs.bound.Booked.{displaced_idle, privileged_value}
 use Rattle.run_record.specs.intervals.Pages.{Page, value_at, entered, CanTake, in_one, with_take, page_taken}
 use Rattle.run_record.proofs.intervals.Follows.{capped_of, under_of, Tracks, Follows, Next}
 use Rattle.run_record.proofs.intervals.Sums.{capped_more}

@@ -1,10 +1,8 @@
 -- What the active jobs are worth before each step of a run, read with the ledger.
 use Rattle.std.proofs.Common.{◌≡◌, ℕ, ◌+◌, ◌≤◌, ◌<◌, List, [], ◌∷◌, ◌++◌, length, drop, get_or, sym, ap, ◌∙◌, subst}
-use Rattle.std.proofs.Common.{append_assoc, append-nil}
-use Rattle.std.specs.List.{filter_map}
+use Rattle.std.proofs.Common.{append_assoc, append-nil, filter_map}
 use Rattle.std.proofs.lemmas.List.{drop_all}
-use Rattle.dover_model.specs.Fraction.{Fraction}
-use Rattle.dover_model.specs.Instance.{Instance}
+use Rattle.dover_model.specs.Common.{Fraction, Instance}
 use Rattle.dover_model.specs.declared.events.Event.{Event}
 use Rattle.run_record.specs.intervals.Pages.{Page, blank, with_event, IsReadable}
 use Rattle.run_record.specs.intervals.Rows.{IsRunOf, weight_of, weights}

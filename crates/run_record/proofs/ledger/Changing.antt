@@ -1,21 +1,17 @@
 -- What a change of one job's role says of the tasks and of the held jobs.
-use Rattle.std.proofs.Common.{◌≡◌, ℕ, suc, inl, inr, List, ◌∷◌, sym, ap, ◌∙◌, arith, map, refl, ◌+◌, ◌<◌, []}
-use Rattle.std.proofs.Common.{◌++◌, length, zero, set, get_or, subst, Bool, true, false, cond}
-use Rattle.std.specs.Prelude.{Some, ◌==◌, nat_lt}
-use Rattle.std.specs.List.{slice_get, filter}
+use Rattle.std.proofs.Common.{◌≡◌, ℕ, suc, inl, inr, List, ◌∷◌, sym, ap, ◌∙◌, arith, map, refl, ◌+◌, ◌<◌, [], ◌++◌}
+use Rattle.std.proofs.Common.{length, zero, set, get_or, subst, Bool, true, false, cond, Some, ◌==◌, nat_lt, slice_get}
+use Rattle.std.proofs.Common.{filter}
 use Rattle.dover_model.specs.declared.events.Task.{Task}
-use Rattle.dover_model.specs.Sound.{IsMember, IsNumberedFrom, Each}
-use Rattle.dover_model.proofs.Roles.{numbers_above}
+use Rattle.dover_model.specs.Common.{IsMember, IsNumberedFrom, Each, entry_of, with_role, is_held}
+use Rattle.dover_model.proofs.steps.Roles.{numbers_above}
 use Rattle.dover_model.specs.declared.events.Entry.{Entry}
-use Rattle.dover_model.specs.Entries.{entry_of}
 use Rattle.dover_model.specs.declared.events.Role.{Role}
-use Rattle.dover_model.specs.Step.{with_role}
-use Rattle.dover_model.proofs.RoleChanges.{with_role_at}
-use Rattle.dover_model.proofs.Tests.{never}
-use Rattle.dover_model.proofs.Members.{some_same, member_filter}
-use Rattle.held_queue.specs.Stack.{put_in, held_entries, by_deadline}
-use Rattle.dover_model.specs.State.{is_held}
-use Rattle.held_queue.proofs.Deadlines.{member_sorted}
+use Rattle.dover_model.proofs.steps.RoleChanges.{with_role_at}
+use Rattle.dover_model.proofs.lists.Tests.{never}
+use Rattle.dover_model.proofs.lists.Members.{some_same, member_filter}
+use Rattle.held_stack.specs.Stack.{put_in, held_entries, by_deadline}
+use Rattle.held_stack.proofs.Deadlines.{member_sorted}
 
 -- t is the one of number n in tasks, and has another role in changed
 pub record Changes (n : ℕ) (role : Role) (tasks changed : List Task) : Type 0 where

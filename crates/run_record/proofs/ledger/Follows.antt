@@ -1,14 +1,10 @@
 -- What is kept follows a state of the run.
-use Rattle.std.proofs.Common.{◌≡◌, ◌≤◌, List, length}
-use Rattle.std.specs.Prelude.{Option, Some, None, slice_index_or}
+use Rattle.std.proofs.Common.{◌≡◌, ◌≤◌, List, length, Option, Some, None, slice_index_or}
 use Rattle.dover_model.specs.declared.events.Entry.{Entry}
 use Rattle.dover_model.specs.declared.events.Role.TheVariants.{Running}
 use Rattle.dover_model.specs.declared.events.Task.{Task}
-use Rattle.dover_model.specs.Entries.{entry_of}
-use Rattle.dover_model.specs.Sound.{IsMember, Each, NoneRuns}
-use Rattle.dover_model.specs.State.{State}
-use Rattle.dover_model.specs.Step.{Move, Prints, Waits, Ticks, after}
-use Rattle.held_queue.specs.Stack.{IsByDeadline, held_entries}
+use Rattle.dover_model.specs.Common.{entry_of, IsMember, Each, NoneRuns, State, Move, Prints, Waits, Ticks, after}
+use Rattle.held_stack.specs.Stack.{IsByDeadline, held_entries}
 use Rattle.run_record.specs.ledger.Pages.{Page, nobody, turn_at, with_event, room_on, IsReadable}
 use Rattle.run_record.specs.ledger.Rooms.{room_before}
 

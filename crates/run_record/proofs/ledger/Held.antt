@@ -1,21 +1,18 @@
 -- What the entries of the held jobs say of their room and value.
 use Rattle.std.proofs.Common.{◌≡◌, sym, ◌∙◌, true, List, map, ap, ◌∷◌, refl, Bool, false, cond, ℕ, ◌<◌, inl, inr, subst}
-use Rattle.std.proofs.Common.{[], arith, ◌+◌, ◌≤◌}
-use Rattle.std.specs.List.{filter, sum_by}
-use Rattle.std.specs.Prelude.{◌||◌, nat_lt, Some}
+use Rattle.std.proofs.Common.{[], arith, ◌+◌, ◌≤◌, filter, sum_by, ◌||◌, nat_lt, Some}
 use Rattle.std.proofs.lemmas.List.Sums.{sum_by-cons}
 use Rattle.dover_model.specs.declared.events.Role.TheVariants.{Running, Held}
 use Rattle.dover_model.specs.declared.events.Task.{Task}
-use Rattle.dover_model.specs.State.{is_running, is_held, value_sum, is_privileged, room}
-use Rattle.dover_model.proofs.Roles.{is_running_role, is_held_role}
+use Rattle.dover_model.specs.Common.{is_running, is_held, value_sum, is_privileged, room, entry_of, room_of, Each}
+use Rattle.dover_model.specs.Common.{IsMember}
+use Rattle.dover_model.proofs.steps.Roles.{is_running_role, is_held_role}
 use Rattle.dover_model.specs.declared.events.Entry.{Entry}
-use Rattle.dover_model.specs.Entries.{entry_of, room_of}
-use Rattle.dover_model.proofs.Members.{sum_map, sum_filter, sum_le, some_same}
-use Rattle.held_queue.specs.Stack.{value_of, held_entries, put_in, by_deadline, top_of}
-use Rattle.held_queue.proofs.Deadlines.{sum_sorted, room_sorted, room_map}
-use Rattle.dover_model.specs.Sound.{Each, IsMember}
+use Rattle.dover_model.proofs.lists.Members.{sum_map, sum_filter, sum_le, some_same}
+use Rattle.held_stack.specs.Stack.{value_of, held_entries, put_in, by_deadline, top_of}
+use Rattle.held_stack.proofs.Deadlines.{sum_sorted, room_sorted, room_map}
 use Rattle.run_record.proofs.ledger.Changing.{put_first, entries_later}
-use Rattle.dover_model.proofs.Tests.{none_is_some}
+use Rattle.dover_model.proofs.lists.Tests.{none_is_some}
 
 -- the running and the held jobs are apart
 apart : (t : Task) → is_running t ≡ true → is_held t ≡ true → ⊥

@@ -1,37 +1,31 @@
 -- The page follows each step of the machine.
 use Rattle.std.proofs.Common.{◌≡◌, ℕ, ◌+◌, ◌≤◌, ◌<◌, ◌⊎◌, inl, inr, List, ◌∷◌, length, refl, sym, ap, ◌∙◌, subst, Bool}
-use Rattle.std.proofs.Common.{true, false, cond, arith}
-use Rattle.std.proofs.lemmas.Bool.{eq-eqb, ne_eqb}
+use Rattle.std.proofs.Common.{true, false, cond, arith, eq-eqb, ne_eqb, Option, Some, None, ◌==◌, nat_lt}
 use Rattle.std.proofs.lemmas.List.Sums.{sum_by-cons}
-use Rattle.std.specs.Prelude.{Option, Some, None, ◌==◌, nat_lt}
 use Rattle.std.specs.Option.{ForSome}
 use Rattle.std.specs.Bool.{then_some}
-use Rattle.dover_model.specs.Fraction.{Fraction}
+use Rattle.dover_model.specs.Common.{Fraction, entry_of, IsMember, Each, IsNumberedFrom, IsSound, NoneRuns, State}
+use Rattle.dover_model.specs.Common.{is_held, is_running, is_privileged, is_ready_behind, privileged, room, value_sum}
+use Rattle.dover_model.specs.Common.{Move, Prints, Waits, Ticks, with_role, displaced, ◌or_else◌}
 use Rattle.dover_model.specs.declared.events.Entry.{Entry}
 use Rattle.dover_model.specs.declared.events.Event.TheVariants.{Release, Run, Preempt, Take, Complete, Abandon, End}
 use Rattle.dover_model.specs.declared.events.Role.{Role}
 use Rattle.dover_model.specs.declared.events.Role.TheVariants.{Coming, Fresh, Waiting, Held, Running, Done, Gone}
 use Rattle.dover_model.specs.declared.events.Task.{Task}
-use Rattle.dover_model.specs.Entries.{entry_of}
-use Rattle.dover_model.specs.Sound.{IsMember, Each, IsNumberedFrom, IsSound, NoneRuns}
-use Rattle.dover_model.specs.State.{State, is_held, is_running, is_privileged, is_ready_behind, privileged, room}
-use Rattle.dover_model.specs.State.{value_sum}
-use Rattle.dover_model.specs.Step.{Move, Prints, Waits, Ticks, with_role, displaced, ◌or_else◌}
-use Rattle.dover_model.proofs.Deeds.{Deed, Completed, Resumed, Started, Began, Preempted, Stayed, Arrived, Taken}
-use Rattle.dover_model.proofs.Deeds.{Abandoned, Rested}
-use Rattle.dover_model.proofs.Kept.{end_same}
-use Rattle.dover_model.proofs.Members.{on_map, map_map, map_member, some_same, by_bool}
-use Rattle.dover_model.proofs.Roles.{one_number, passes, is_held_role, is_running_role, is_privileged_role}
-use Rattle.dover_model.proofs.Roles.{numbered_map}
-use Rattle.dover_model.proofs.Tests.{never}
-use Rattle.dover_model.proofs.Ticking.{Quiet}
-use Rattle.held_queue.specs.Stack.{Stack, top_of, popped, IsByDeadline, held_entries}
-use Rattle.dover_model.proofs.RoleChanges.{with_role_at, all_displaced, displaced_same}
+use Rattle.dover_model.proofs.steps.Deeds.{Deed, Completed, Resumed, Started, Began, Preempted, Stayed, Arrived, Taken}
+use Rattle.dover_model.proofs.steps.Deeds.{Abandoned, Rested}
+use Rattle.dover_model.proofs.steps.Kept.{end_same}
+use Rattle.dover_model.proofs.lists.Members.{on_map, map_map, map_member, some_same, by_bool}
+use Rattle.dover_model.proofs.steps.Roles.{one_number, passes, is_held_role, is_running_role, is_privileged_role}
+use Rattle.dover_model.proofs.steps.Roles.{numbered_map}
+use Rattle.dover_model.proofs.lists.Tests.{never}
+use Rattle.dover_model.proofs.steps.Ticking.{Quiet}
+use Rattle.held_stack.specs.Stack.{Stack, top_of, popped, IsByDeadline, held_entries}
+use Rattle.dover_model.proofs.steps.RoleChanges.{with_role_at, all_displaced, displaced_same}
 use Rattle.run_record.proofs.ledger.Changing.{entries_later}
 use Rattle.run_record.proofs.ledger.Held.{busy_room, held_value, value_room}
 use Rattle.run_record.specs.ledger.Pages.{Page, empty, turn_at, stopped, started, with_hold, without, room_with}
-use Rattle.run_record.specs.ledger.Pages.{CanHold}
-use Rattle.run_record.specs.ledger.Pages.{CanStop}
+use Rattle.run_record.specs.ledger.Pages.{CanHold, CanStop}
 use Rattle.run_record.proofs.ledger.Follows.{IsTurn, Follows, Next}
 use Rattle.run_record.proofs.ledger.Roles.{held_same, held_more, held_less, none_pass, top_held, one_runner, each_all}
 use Rattle.run_record.proofs.ledger.Steps.{at_clock, within, the_turn, turned, halted, passed, starts, displaces}

@@ -1,24 +1,22 @@
 -- Jobs whose roles change: which stand in the held stack, and which runs.
 use Rattle.std.proofs.Common.{◌≡◌, ℕ, suc, ◌+◌, ◌-◌, ◌<◌, inl, inr, List, [], ◌∷◌, map, refl, sym, ap, ◌∙◌, subst, Bool}
-use Rattle.std.proofs.Common.{true, false, cond, arith}
-use Rattle.std.specs.Prelude.{Some}
-use Rattle.std.specs.List.{filter, AllByRecursion}
+use Rattle.std.proofs.Common.{true, false, cond, arith, Some, filter}
+use Rattle.std.specs.List.{AllByRecursion}
 use Rattle.std.proofs.lemmas.Option.{slice_get_within}
 use Rattle.dover_model.specs.declared.events.Entry.{Entry}
 use Rattle.dover_model.specs.declared.events.Role.{Role}
 use Rattle.dover_model.specs.declared.events.Role.TheVariants.{Coming, Fresh, Waiting, Held, Running, Done, Gone}
 use Rattle.dover_model.specs.declared.events.Task.{Task}
-use Rattle.dover_model.specs.Entries.{entry_of}
-use Rattle.dover_model.specs.Sound.{IsMember, Each, IsNumberedFrom}
-use Rattle.dover_model.specs.State.{is_held, is_running}
-use Rattle.dover_model.specs.Step.{with_role, displaced, ticked}
-use Rattle.dover_model.proofs.Members.{on_map, member_filter, by_bool}
-use Rattle.dover_model.proofs.Roles.{is_held_role, is_running_role, numbers_above}
-use Rattle.dover_model.proofs.Tests.{never, none_is_some}
-use Rattle.held_queue.specs.Stack.{top_of, by_deadline, held_entries}
-use Rattle.dover_model.proofs.RoleChanges.{with_role_at, all_displaced, task_at}
-use Rattle.run_record.proofs.ledger.Changing.{Changes, Splits, changes_at, is_map, splits, of_entry, filter_same, held_in}
-use Rattle.held_queue.proofs.Deadlines.{member_sorted}
+use Rattle.dover_model.specs.Common.{entry_of, IsMember, Each, IsNumberedFrom, is_held, is_running, with_role}
+use Rattle.dover_model.specs.Common.{displaced, ticked}
+use Rattle.dover_model.proofs.lists.Members.{on_map, member_filter, by_bool}
+use Rattle.dover_model.proofs.steps.Roles.{is_held_role, is_running_role, numbers_above}
+use Rattle.dover_model.proofs.lists.Tests.{never, none_is_some}
+use Rattle.held_stack.specs.Stack.{top_of, by_deadline, held_entries}
+use Rattle.dover_model.proofs.steps.RoleChanges.{with_role_at, all_displaced, task_at}
+use Rattle.run_record.proofs.ledger.Changing.{Changes, Splits, changes_at, is_map, splits, of_entry, filter_same}
+use Rattle.run_record.proofs.ledger.Changing.{held_in}
+use Rattle.held_stack.proofs.Deadlines.{member_sorted}
 
 -- the tasks around one whose role changes
 pub split_of : (tasks : List Task) → IsNumberedFrom 0 tasks → (t : Task) → IsMember t tasks → (new : Role)

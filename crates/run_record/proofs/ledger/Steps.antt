@@ -1,23 +1,20 @@
 -- The page follows each change of roles.
 use Rattle.std.proofs.Common.{◌≡◌, ℕ, ◌+◌, ◌-◌, ◌<◌, List, length, map, set, refl, sym, ap, ◌∙◌, subst, Bool, true}
-use Rattle.std.proofs.Common.{false, cond, arith, length-set, get_or-set_other}
-use Rattle.std.proofs.lemmas.Bool.{eqb-true, eq-eqb, ne_eqb}
-use Rattle.std.proofs.lemmas.List.{get_or-set_same, length-map}
+use Rattle.std.proofs.Common.{false, cond, arith, length-set, get_or-set_other, eqb-true, eq-eqb, ne_eqb}
+use Rattle.std.proofs.Common.{get_or-set_same, Option, Some, None, ◌==◌, option_map, slice_index_or}
+use Rattle.std.proofs.lemmas.List.{length-map}
 use Rattle.std.proofs.lemmas.Option.{slice_get_within}
-use Rattle.std.specs.Prelude.{Option, Some, None, ◌==◌, option_map, slice_index_or}
 use Rattle.dover_model.specs.declared.events.Entry.{Entry}
 use Rattle.dover_model.specs.declared.events.Role.{Role}
 use Rattle.dover_model.specs.declared.events.Role.TheVariants.{Coming, Running}
 use Rattle.dover_model.specs.declared.events.Task.{Task}
-use Rattle.dover_model.specs.Entries.{entry_of}
-use Rattle.dover_model.specs.Sound.{IsMember, IsNumberedFrom, IsSound, NoneRuns}
-use Rattle.dover_model.specs.State.{State, is_held, is_running}
-use Rattle.dover_model.specs.Step.{with_role, displaced, ticked, after, Ticks}
-use Rattle.dover_model.proofs.Members.{on_map, map_member}
-use Rattle.dover_model.proofs.Roles.{one_number, is_running_role, passes}
-use Rattle.dover_model.proofs.Tests.{never}
-use Rattle.held_queue.specs.Stack.{Stack, IsByDeadline, held_entries}
-use Rattle.dover_model.proofs.RoleChanges.{with_role_at, all_displaced, task_at}
+use Rattle.dover_model.specs.Common.{entry_of, IsMember, IsNumberedFrom, IsSound, NoneRuns, State, is_held, is_running}
+use Rattle.dover_model.specs.Common.{with_role, displaced, ticked, after, Ticks}
+use Rattle.dover_model.proofs.lists.Members.{on_map, map_member}
+use Rattle.dover_model.proofs.steps.Roles.{one_number, is_running_role, passes}
+use Rattle.dover_model.proofs.lists.Tests.{never}
+use Rattle.held_stack.specs.Stack.{Stack, IsByDeadline, held_entries}
+use Rattle.dover_model.proofs.steps.RoleChanges.{with_role_at, all_displaced, task_at}
 use Rattle.run_record.specs.ledger.Pages.{Page, nobody, empty, ran, turn_at, stored, stopped, started}
 use Rattle.run_record.proofs.ledger.Follows.{IsTurn, AreStored, Follows}
 use Rattle.run_record.proofs.ledger.Roles.{held_same, held_ticked, none_held}

@@ -1,36 +1,28 @@
 -- The steps of a run are read: the page follows its states, up to the end.
 use Rattle.std.proofs.Common.{◌≡◌, ℕ, suc, ◌+◌, ◌-◌, ◌≤◌, ◌<◌, ◌⊎◌, inl, inr, List, [], ◌∷◌, ◌++◌, length, map, drop}
 use Rattle.std.proofs.Common.{get_or, refl, sym, ap, ◌∙◌, subst, Bool, true, false, arith, append_assoc, append-nil}
-use Rattle.std.proofs.Common.{add-one}
+use Rattle.std.proofs.Common.{add-one, None, slice_index_or, MatchBool, sum_by, filter, filter_map, fold}
 use Rattle.std.proofs.lemmas.List.{drop_all, length-map}
-use Rattle.std.specs.Prelude.{None, slice_index_or}
-use Rattle.std.specs.Bool.{MatchBool}
-use Rattle.std.specs.List.{sum_by, filter, filter_map, list_all, cons_option, fold, enumerate_from}
-use Rattle.dover_model.specs.Fraction.{Fraction}
-use Rattle.dover_model.specs.Instance.{Instance, IsListable, IsValid}
+use Rattle.std.specs.List.{list_all, cons_option, enumerate_from}
+use Rattle.dover_model.specs.Common.{Fraction, Instance, IsListable, IsValid, entry_of, JobFacts, end_state, served}
+use Rattle.dover_model.specs.Common.{IsMember, Each, IsNumberedFrom, jobs_of, Keeps, State, opening, to_come, is_done}
+use Rattle.dover_model.specs.Common.{is_over, is_held, value_sum, Move, Prints, Waits, Ticks, step, after, ending}
+use Rattle.dover_model.specs.Common.{◌or_else◌, Step, is_end, event_of, printed_of, printed, run, IsWholeRun}
 use Rattle.dover_model.specs.declared.events.Event.{Event}
 use Rattle.dover_model.specs.declared.events.Entry.{Entry}
 use Rattle.dover_model.specs.declared.events.Role.TheVariants.{Coming, Running}
 use Rattle.dover_model.specs.declared.events.Event.TheVariants.{End}
 use Rattle.dover_model.specs.declared.events.Task.{Task}
-use Rattle.dover_model.specs.Entries.{entry_of}
-use Rattle.dover_model.specs.JobFacts.{JobFacts}
-use Rattle.dover_model.specs.Observed.{end_state, hads}
-use Rattle.dover_model.specs.Sound.{IsMember, Each, IsNumberedFrom, jobs_of, Keeps}
-use Rattle.dover_model.specs.State.{State, opening, to_come, is_done, is_over, is_held, value_sum}
-use Rattle.dover_model.specs.Step.{Move, Prints, Waits, Ticks, step, after, ending, ◌or_else◌}
-use Rattle.dover_model.specs.Run.{Step, is_end, event_of, printed_of, printed, run}
-use Rattle.dover_model.specs.WholeRun.{IsWholeRun}
-use Rattle.dover_model.proofs.Ending.{run_is_whole, end_over}
-use Rattle.dover_model.proofs.Kept.{step_deed, step_kept, opening_keeps, come_coming, end_same}
-use Rattle.dover_model.proofs.Members.{sum_map}
-use Rattle.dover_model.proofs.Roles.{passes}
-use Rattle.dover_model.proofs.Tests.{never}
+use Rattle.dover_model.proofs.runs.Ending.{run_is_whole, end_over}
+use Rattle.dover_model.proofs.steps.Kept.{step_deed, step_kept, opening_keeps, come_coming, end_same}
+use Rattle.dover_model.proofs.lists.Members.{sum_map}
+use Rattle.dover_model.proofs.steps.Roles.{passes}
+use Rattle.dover_model.proofs.lists.Tests.{never}
 use Rattle.run_record.specs.intervals.Rows.{IsRunOf}
 use Rattle.run_record.proofs.intervals.Charges.{item_next}
 use Rattle.run_record.proofs.intervals.Reading.{one_of_two}
-use Rattle.held_queue.specs.Stack.{by_deadline}
-use Rattle.dover_model.proofs.Runs.{some_printed}
+use Rattle.held_stack.specs.Stack.{by_deadline}
+use Rattle.dover_model.proofs.runs.Runs.{some_printed}
 use Rattle.run_record.specs.ledger.Pages.{Page, nobody, empty, with_event, room_on, IsReadable, had_in}
 use Rattle.run_record.specs.ledger.Rooms.{room_of_step}
 use Rattle.run_record.specs.ledger.Rooms as tests
@@ -310,7 +302,7 @@ module _ (k : Fraction) (steps : List Event) (J : Instance) (of : IsRunOf k step
 
   -- where all is read, the jobs had what they have at the end
   pub had_at_end : (p : Page) (jobs : List JobFacts) (i : ℕ) → length steps ≤ i → jobs ≡ J.jobs
-      → IsBehind J p (drop i steps) → map (had_in p.entries) (enumerate_from 0 jobs) ≡ hads J
+      → IsBehind J p (drop i steps) → map (had_in p.entries) (enumerate_from 0 jobs) ≡ served J
   had_at_end p jobs i past same behind =
       let it = end_stored J of.valid of.listable p behind.0
       (subst (λ es. Reads J p es behind.0) (drop_all i steps past) behind.1) in

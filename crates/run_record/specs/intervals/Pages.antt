@@ -1,7 +1,6 @@
 -- What the ledger keeps of a run, and what each printed step does to it.
 use Rattle.std.specs.Prelude.{ℕ, ◌+◌, ◌-◌, min, ◌<◌, ◌^◌, List, [], ◌∷◌, ◌++◌, length, set, true, false, ◌==◌}
-use Rattle.std.specs.Prelude.{if◌then◌else◌, Option, Some, None}
-use Rattle.std.specs.Prelude.{slice_index_or}
+use Rattle.std.specs.Prelude.{if◌then◌else◌, Option, Some, None, slice_index_or}
 use Rattle.dover_model.specs.declared.events.Event.{Event}
 use Rattle.dover_model.specs.declared.events.Event.TheVariants.{Release, Run, Preempt, Take, Complete, Abandon, End}
 use Rattle.run_record.specs.declared.intervals.interval.Interval.{Interval}

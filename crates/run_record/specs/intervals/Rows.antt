@@ -1,12 +1,8 @@
 -- The intervals of a run as rows of six numbers.
-use Rattle.std.specs.Prelude.{◌≡◌, ℕ, List, map, Option}
-use Rattle.std.specs.List.{filter_map}
-use Rattle.std.specs.Option.{option_map}
+use Rattle.std.specs.Prelude.{◌≡◌, ℕ, List, map, Option, filter_map, option_map}
 use Rattle.dover_model.specs.declared.events.Event.{Event}
-use Rattle.dover_model.specs.Fraction.{Fraction}
-use Rattle.dover_model.specs.Instance.{Instance, IsListable, IsValid}
-use Rattle.dover_model.specs.Run.{Step, event_of, printed, run}
-use Rattle.dover_model.specs.State.{privileged, value_sum}
+use Rattle.dover_model.specs.Common.{Fraction, Instance, IsListable, IsValid, Step, event_of, printed, run, privileged}
+use Rattle.dover_model.specs.Common.{value_sum}
 use Rattle.dover_model.specs.Intervals as model
 use Rattle.run_record.specs.declared.intervals.interval.Interval.{Interval}
 use Rattle.run_record.specs.declared.intervals.totals.JobTotals.{JobTotals}

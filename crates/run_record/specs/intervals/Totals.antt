@@ -1,10 +1,8 @@
 -- What the steps of a run tell of its jobs, counted step by step.
-use Rattle.std.specs.Prelude.{ℕ, ◌+◌, ◌<◌, ◌^◌, List, Bool, true, false, if◌then◌else◌}
-use Rattle.std.specs.List.{count_by, sum_by}
+use Rattle.std.specs.Prelude.{ℕ, ◌+◌, ◌<◌, ◌^◌, List, Bool, true, false, if◌then◌else◌, count_by, sum_by}
 use Rattle.dover_model.specs.declared.events.Event.{Event}
 use Rattle.dover_model.specs.declared.events.Event.TheVariants.{Release, Complete, Abandon}
-use Rattle.dover_model.specs.Limits.{most_value}
-use Rattle.dover_model.specs.Reports.{is_take}
+use Rattle.dover_model.specs.Common.{most_value, is_take}
 use Rattle.run_record.specs.declared.intervals.totals.JobTotals.{JobTotals}
 
 -- a job is released

@@ -5,10 +5,8 @@ use Rattle.std.specs.Option.{option_map, ForSome}
 use Rattle.dover_model.specs.declared.events.Entry.{Entry}
 use Rattle.dover_model.specs.declared.events.Event.{Event}
 use Rattle.dover_model.specs.declared.events.Event.TheVariants.{Release, Run, Preempt, Take, Complete, Abandon, End}
-use Rattle.dover_model.specs.Entries.{room_of}
-use Rattle.dover_model.specs.JobFacts.{JobFacts}
-use Rattle.dover_model.specs.Sound.{Each}
-use Rattle.held_queue.specs.Stack.{Stack, top_of, value_of, popped}
+use Rattle.dover_model.specs.Common.{room_of, JobFacts, Each}
+use Rattle.held_stack.specs.Stack.{Stack, top_of, value_of, popped}
 
 -- the jobs by number, as they were when they last had the processor; the one that runs, as it was at a tick; and the
 -- held ones

@@ -1,12 +1,8 @@
 -- What a fresh job's work is tested against, step by step.
-use Rattle.std.specs.Prelude.{ℕ, List, Option}
-use Rattle.std.specs.List.{filter_map}
-use Rattle.std.specs.Option.{option_map}
+use Rattle.std.specs.Prelude.{ℕ, List, Option, filter_map, option_map}
 use Rattle.dover_model.specs.declared.events.Event.{Event}
 use Rattle.dover_model.specs.declared.events.Event.TheVariants.{Release, Preempt}
-use Rattle.dover_model.specs.Instance.{Instance}
-use Rattle.dover_model.specs.State.{State, privileged, room}
-use Rattle.dover_model.specs.Run.{Step, event_of, run}
+use Rattle.dover_model.specs.Common.{Instance, State, privileged, room, Step, event_of, run}
 
 -- at a release and at a preemption, the room of the running and the held jobs before it
 abbrev pub room_before : State → Event → ℕ

@@ -1,16 +1,7 @@
 //! What a run completes, displaces and abandons, interval by interval.
-ghost use Rattle.std.specs.Prelude.{◌≡◌, ◌≤◌, ◌+◌, ◌-◌, ◌*◌, ℕ, List, map, IfOk};
-ghost use Rattle.std.specs.List.{sum_by};
-ghost use Rattle.dover_model.specs.Instance.{Instance, total_value};
-ghost use Rattle.dover_model.specs.Run.{ran, completed_value};
-ghost use Rattle.dover_model.specs.Schedules.{worth};
-ghost use Rattle.dover_model.specs.Observed.{observed};
-ghost use Rattle.dover_model.specs.Bound.{IsWithin};
-ghost use Rattle.dover_model.specs.Books.{IsLeastDense, IsPaid};
-ghost use Rattle.dover_model.specs.Intervals.{intervals};
-ghost use Rattle.dover_model.specs.JobFacts.{JobFacts};
-ghost use Rattle.dover_model.specs.Orders.{IsHeavy};
-ghost use Rattle.dover_model.specs.Sound.{Each};
+ghost use Rattle.std.specs.Prelude.{◌≡◌, ◌≤◌, ◌+◌, ◌-◌, ◌*◌, ℕ, List, map, IfOk, sum_by};
+ghost use Rattle.dover_model.specs.Common.{Instance, total_value, ran, completed_value, worth, observed, IsWithin};
+ghost use Rattle.dover_model.specs.Common.{IsLeastDense, IsPaid, intervals, JobFacts, IsHeavy, Each};
 ghost use Rattle.run_record.specs.intervals.Rows.{IsRunOf, numbers_of, rows_of};
 ghost use Rattle.run_record.specs.intervals.Totals.{totals_of};
 

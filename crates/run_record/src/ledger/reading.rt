@@ -3,17 +3,13 @@ ghost use Rattle.std.specs.Prelude.{◌≡◌, ◌≤◌, IfOk, None, length, ma
 ghost use Rattle.std.specs.List.{enumerate_from};
 ghost use Rattle.run_record.specs.intervals.Rows.{IsRunOf};
 ghost use Rattle.dover_model.specs.declared.events.Role.TheVariants.{Coming};
-ghost use Rattle.dover_model.specs.Entries.{entry_of};
-ghost use Rattle.dover_model.specs.Fraction.{Fraction};
-ghost use Rattle.dover_model.specs.Instance.{Instance};
-ghost use Rattle.dover_model.specs.Limits.{most_jobs};
+ghost use Rattle.dover_model.specs.Common.{entry_of, Fraction, Instance, most_jobs, to_come};
 ghost use Rattle.dover_model.specs.declared.events.Version.TheVariants.{Two};
 ghost use Rattle.dover_model.specs.Observed as observed;
-ghost use Rattle.dover_model.specs.State.{to_come};
 ghost use Rattle.run_record.specs.ledger.Pages.{empty, had_in};
 ghost use Rattle.run_record.specs.ledger.Rooms as tests;
 
-use crate::ledger::under_way::UnderWay;
+use crate::ledger::under_way::JobsUnderWay;
 use dover_model::{Entry, Job, Memory, PackedEvent, Ratio};
 use std::alloc::Global;
 
@@ -36,10 +32,10 @@ pub fn rooms(alloc: Global, k: Ratio, jobs: &[Job], run: &[PackedEvent]) -> Resu
 
 /// How many ticks each job has had by the end of a run, by number, in one pass over its printed steps. The jobs of the
 /// run are these, valid for some ratio, and within the limits of version Two. Want of memory is the only error.
-pub fn hads(alloc: Global, jobs: &[Job], run: &[PackedEvent]) -> Result<Vec<u64>, Memory>
+pub fn served(alloc: Global, jobs: &[Job], run: &[PackedEvent]) -> Result<Vec<u64>, Memory>
     requires { (k : Fraction) × ((J : Instance) × IsRunOf k run.now J × (jobs.now ≡ J.jobs)) }
     ensures { (k : Fraction) (J : Instance) → IsRunOf k run.now J → jobs.now ≡ J.jobs
-        → IfOk result (λ hads. hads.items ≡ observed.hads J) }
+        → IfOk result (λ served. served.items ≡ observed.served J) }
 {
     let mut under_way = before_run(alloc, jobs)?;
     for event in run {
@@ -49,24 +45,24 @@ pub fn hads(alloc: Global, jobs: &[Job], run: &[PackedEvent]) -> Result<Vec<u64>
 }
 
 /// The jobs by number, before the first step.
-fn before_run(alloc: Global, jobs: &[Job]) -> Result<UnderWay, Memory>
+fn before_run(alloc: Global, jobs: &[Job]) -> Result<JobsUnderWay, Memory>
     requires { length jobs.now ≤ most_jobs Two }
     ensures { IfOk result (λ under_way. under_way ≡ record
         { entries = map entry_of (to_come 0 jobs.now); since = 0; turn = None; held = empty }) }
 {
     let entries = entries(alloc, jobs)?;
-    UnderWay::new(alloc, entries)
+    JobsUnderWay::new(alloc, entries)
 }
 
 /// How many ticks each job has had, where none runs.
-fn had_by(alloc: Global, jobs: &[Job], under_way: &UnderWay) -> Result<Vec<u64>, Memory>
-    ensures { IfOk result (λ hads. hads.items ≡ map (had_in under_way.now.entries) (enumerate_from 0 jobs.now)) }
+fn had_by(alloc: Global, jobs: &[Job], under_way: &JobsUnderWay) -> Result<Vec<u64>, Memory>
+    ensures { IfOk result (λ served. served.items ≡ map (had_in under_way.now.entries) (enumerate_from 0 jobs.now)) }
 {
-    let mut hads = Vec::new(alloc);
+    let mut served = Vec::new(alloc);
     for (number, job) in jobs.iter().enumerate() {
-        hads.push(under_way.had(number, job))?;
+        served.push(under_way.had(number, job))?;
     }
-    Ok(hads)
+    Ok(served)
 }
 
 /// The jobs by number, before any of them ran.

@@ -1,29 +1,29 @@
 //! The running and the held jobs, kept from the printed steps alone.
 ghost use Rattle.std.specs.Prelude.{◌≡◌, ◌<◌, OnOk, IfOk, None, slice_index_or};
-ghost use Rattle.held_queue.specs.Stack.{top_of};
+ghost use Rattle.held_stack.specs.Stack.{top_of};
 ghost use Rattle.run_record.specs.ledger.Pages.{Page, nobody, ran, turn_at, stopped, started, with_hold, without};
 ghost use Rattle.run_record.specs.ledger.Pages.{with_event};
 ghost use Rattle.run_record.specs.ledger.Pages.{empty, had_in, room_on, CanStop, CanPreempt, CanWeigh, IsReadable};
 ghost use Rattle.run_record.specs.ledger.Pages as pages;
 
 use dover_model::{Entry, Event, Job, Memory, PackedEvent};
-use held_queue::Privileged;
+use held_stack::HeldStack;
 use std::alloc::Global;
 use std::marker::Model;
 
 /// The running and the held jobs, and what the others have left.
 #[derive(Drop)]
-pub struct UnderWay {
+pub struct JobsUnderWay {
     /// The jobs by number, as they were when they last had the processor.
     entries: Vec<Entry>,
     /// The tick at which the running job was as it stands here.
     since: u64,
     /// The job that runs, if one does.
     turn: Option<Entry>,
-    held: Privileged,
+    held: HeldStack,
 }
 
-impl Model for UnderWay {
+impl Model for JobsUnderWay {
     ghost Value = { Page };
 
     ghost view = { λ u. record { entries = u.entries.items; since = u.since; turn = u.turn; held = u.held } };
@@ -43,16 +43,16 @@ fn ran(ticks: u64, entry: &Entry) -> Entry
     }
 }
 
-impl UnderWay {
+impl JobsUnderWay {
     /// None runs and none is held; the jobs by number are these.
-    pub fn new(alloc: Global, entries: Vec<Entry>) -> Result<UnderWay, Memory>
+    pub fn new(alloc: Global, entries: Vec<Entry>) -> Result<JobsUnderWay, Memory>
         ensures { IfOk result (λ u. u ≡ record { entries = entries.items; since = 0; turn = None; held = empty }) }
     {
-        Ok(UnderWay {
+        Ok(JobsUnderWay {
             entries,
             since: 0,
             turn: None,
-            held: Privileged::new(alloc)?,
+            held: HeldStack::new(alloc)?,
         })
     }
 
@@ -184,7 +184,7 @@ impl UnderWay {
         requires { CanStop self.old at }
         ensures { OnOk result (self.new ≡ started (record (stopped self.old at) { held = empty }) at number) }
     {
-        self.held = Privileged::new(alloc)?;
+        self.held = HeldStack::new(alloc)?;
         self.stop(at);
         self.start(at, number);
         Ok(())

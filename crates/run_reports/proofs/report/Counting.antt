@@ -1,45 +1,36 @@
 -- Counts among the printed steps of a run are those of its report.
-use Rattle.std.proofs.Common.{◌≡◌, ℕ, ◌+◌, ◌*◌, ◌≤◌, ◌<◌, List, [], ◌∷◌, ◌++◌, length, map, take, get_or, refl}
-use Rattle.std.proofs.Common.{sym, ap, ◌∙◌}
-use Rattle.std.proofs.Common.{cond, arith}
-use Rattle.std.proofs.lemmas.List.{length-take, length-take-le}
-use Rattle.std.specs.Prelude.{Option, Some, None, option_to_list, codes, Bool, true, false, nat_lt}
+use Rattle.std.proofs.Common.{◌≡◌, ℕ, ◌+◌, ◌*◌, ◌≤◌, ◌<◌, List, [], ◌∷◌, ◌++◌, length, map, take, get_or, refl, sym, ap}
+use Rattle.std.proofs.Common.{◌∙◌, cond, arith, length-take, length-take-le, Option, Some, None, option_to_list, codes}
+use Rattle.std.proofs.Common.{Bool, true, false, nat_lt, filter_map, sum_by, count_by}
 use Rattle.std.specs.Bool.{then_some}
-use Rattle.std.specs.List.{filter_map, sum_by, count_by, cons_option, enumerate_from}
+use Rattle.std.specs.List.{cons_option, enumerate_from}
 use Rattle.std.proofs.lemmas.List.{take_more}
 use Rattle.std.proofs.lemmas.List.Sums.{sum_by-cons, count_by-le-length}
 use Rattle.std.proofs.lemmas.List.Elements.{filter_map-append}
 use Rattle.std.proofs.lemmas.List.Concat.{flat_map-append}
 use Rattle.dover_model.specs.declared.events.Event.{Event}
 use Rattle.dover_model.specs.declared.events.Event.TheVariants.{Release, Complete, Abandon}
-use Rattle.dover_model.specs.Fraction.{Fraction}
-use Rattle.dover_model.specs.JobFacts.{JobFacts}
+use Rattle.dover_model.specs.Common.{Fraction, JobFacts, Instance, IsValid, Item, FinishItem, admitted_jobs}
+use Rattle.dover_model.specs.Common.{may_finish_early, finish_now, running, left, Move, Prints, handed_by}
+use Rattle.dover_model.specs.Common.{early_of as shown_early, Step, run, event_of, printed_of, printed, completed_value}
+use Rattle.dover_model.specs.Common.{bound, with_numbers, in_lines, is_take, summary_lines, report}
+use Rattle.dover_model.specs.Common.{served as model_served}
 use Rattle.dover_model.specs.declared.events.Task.{Task}
-use Rattle.dover_model.specs.Instance.{Instance, IsValid}
-use Rattle.dover_model.specs.Session.{Item, FinishItem, admitted_jobs, may_finish_early}
-use Rattle.dover_model.specs.Settled.{finish_now}
-use Rattle.dover_model.specs.State.{running, left}
-use Rattle.dover_model.specs.Step.{Move, Prints}
-use Rattle.dover_model.specs.Trace.{handed_by, early_of as shown_early}
-use Rattle.dover_model.specs.Run.{Step, run, event_of, printed_of, printed, completed_value}
 use Rattle.dover_model.specs.Intervals as model
-use Rattle.dover_model.specs.Bound.{bound}
-use Rattle.dover_model.specs.Lines.{with_numbers, in_lines}
-use Rattle.dover_model.specs.Reports.{fate_of_event, is_completed, abandoned_number, is_take}
-use Rattle.dover_model.specs.Reports.{Completed, Abandoned, lines_with, summary_lines, interval_line, report}
+use Rattle.dover_model.specs.Reports.{fate_of_event, is_completed, abandoned_number, Completed, Abandoned, lines_with}
+use Rattle.dover_model.specs.Reports.{interval_line}
 use Rattle.dover_model.specs.Reports as reports
-use Rattle.dover_model.specs.Observed.{hads as model_hads}
-use Rattle.dover_model.proofs.Ending.{few_printed}
-use Rattle.dover_model.proofs.BoundLaws.{intervals_abandon}
-use Rattle.dover_model.proofs.ReleaseCounts.{releases}
-use Rattle.dover_model.proofs.RunSessions.{run_jobs}
+use Rattle.dover_model.proofs.runs.Ending.{few_printed}
+use Rattle.dover_model.proofs.bound.BoundLaws.{intervals_abandon}
+use Rattle.dover_model.proofs.runs.ReleaseCounts.{releases}
+use Rattle.dover_model.proofs.sessions.RunSessions.{run_jobs}
 use Rattle.run_record.specs.intervals.Rows.{IsRunOf, numbers_of, rows_of}
 use Rattle.run_record.specs.intervals.Totals.{is_release, is_completion, is_abandonment, totals_of}
 use Rattle.run_record.specs.declared.intervals.interval.Interval.{Interval}
 use Rattle.run_record.specs.declared.intervals.totals.JobTotals.{JobTotals}
 use Rattle.run_record.proofs.intervals.Counted.{sum_more}
-use Rattle.run_reports.specs.report.Counts.{job_released, jobs_released, value_in, value_lost, all_lost}
-use Rattle.run_reports.specs.report.Counts.{counts_of, fates_lines, bound_line, counts_lines}
+use Rattle.run_reports.specs.report.Counts.{job_released, jobs_released, value_in, value_lost, all_lost, counts_of}
+use Rattle.run_reports.specs.report.Counts.{fates_lines, bound_line, counts_lines}
 use Rattle.run_reports.specs.report.Early.{left_in, left_at, early_of, with_left, HasRoom, early_line, lines_where}
 use Rattle.run_reports.specs.report.Early.{early_lines}
 use Rattle.run_reports.specs.declared.report.early.Early.{Early}
@@ -181,37 +172,38 @@ releases_count (e ∷ run) = omega (arith, sum_by-cons (λ e. cond (is_release e
 abbrev done : List Event → List ℕ
 done run = filter_map reports.completed_number (filter_map fate_of_event run)
 
-module _ (jobs : List JobFacts) (hads : List ℕ) where
+module _ (jobs : List JobFacts) (served : List ℕ) where
   -- how much is left of them
-  early_left : (run : List Event) → sum_by (left_in jobs hads) (done run) ≡ sum_by (left_at jobs hads) run
+  early_left : (run : List Event) → sum_by (left_in jobs served) (done run) ≡ sum_by (left_at jobs served) run
   early_left [] = refl
   early_left (Complete at n ∷ run) = omega (
     arith,
-    sum_by-cons (left_at jobs hads) (Complete at n) run,
-    sum_by-cons (left_in jobs hads) n (done run),
+    sum_by-cons (left_at jobs served) (Complete at n) run,
+    sum_by-cons (left_in jobs served) n (done run),
     early_left run,
   )
-  early_left (e ∷ run) = omega (arith, sum_by-cons (left_at jobs hads) e run, early_left run)
+  early_left (e ∷ run) = omega (arith, sum_by-cons (left_at jobs served) e run, early_left run)
 
   -- how many there are
   early_count : (run : List Event)
-      → count_by (λ n. nat_lt 0 (left_in jobs hads n)) (done run) ≡ count_by (λ e. nat_lt 0 (left_at jobs hads e)) run
+      → count_by (λ n. nat_lt 0 (left_in jobs served n)) (done run)
+      ≡ count_by (λ e. nat_lt 0 (left_at jobs served e)) run
   early_count [] = refl
   early_count (Complete at n ∷ run) = omega (
     arith,
-    sum_by-cons (λ e. cond (nat_lt 0 (left_at jobs hads e)) 1 0) (Complete at n) run,
-    sum_by-cons (λ n. cond (nat_lt 0 (left_in jobs hads n)) 1 0) n (done run),
+    sum_by-cons (λ e. cond (nat_lt 0 (left_at jobs served e)) 1 0) (Complete at n) run,
+    sum_by-cons (λ n. cond (nat_lt 0 (left_in jobs served n)) 1 0) n (done run),
     early_count run,
   )
   early_count (e ∷ run) =
-      omega (arith, sum_by-cons (λ e. cond (nat_lt 0 (left_at jobs hads e)) 1 0) e run, early_count run)
+      omega (arith, sum_by-cons (λ e. cond (nat_lt 0 (left_at jobs served e)) 1 0) e run, early_count run)
 
 -- what one step more makes of them
-pub early_more : (jobs : List JobFacts) (hads : List ℕ) (run : List Event) (i : ℕ) (e : Event) → e ≡ get_or run i e
+pub early_more : (jobs : List JobFacts) (served : List ℕ) (run : List Event) (i : ℕ) (e : Event) → e ≡ get_or run i e
     → i < length run
-    → with_left (early_of jobs hads (take i run)) (left_at jobs hads e) ≡ early_of jobs hads (take (i + 1) run)
-early_more jobs hads run i e is there =
-    same_early (more (λ x. cond (nat_lt 0 (left_at jobs hads x)) 1 0)) (more (left_at jobs hads)) where
+    → with_left (early_of jobs served (take i run)) (left_at jobs served e) ≡ early_of jobs served (take (i + 1) run)
+early_more jobs served run i e is there =
+    same_early (more (λ x. cond (nat_lt 0 (left_at jobs served x)) 1 0)) (more (left_at jobs served)) where
       whole : (a b : ℕ) → Early
       whole a b = record { jobs = a; left = b }
 
@@ -222,15 +214,15 @@ early_more jobs hads run i e is there =
       more f = sum_more f run i e is there
 
 -- there is room for one step more
-pub early_fits : (jobs : List JobFacts) (hads : List ℕ) (run : List Event) (i : ℕ) (early : Early)
-    → early ≡ early_of jobs hads (take i run)
+pub early_fits : (jobs : List JobFacts) (served : List ℕ) (run : List Event) (i : ℕ) (early : Early)
+    → early ≡ early_of jobs served (take i run)
     → early.left ≤ 1_000_000_000_000 * i → i < length run → length run ≤ 5_000_001 → HasRoom early
-early_fits jobs hads run i early is low there few = record {
+early_fits jobs served run i early is low there few = record {
   jobs = omega (
     arith,
     ap (λ (x : Early). x.jobs) is,
     length-take-le i run (omega arith),
-    count_by-le-length (λ e. nat_lt 0 (left_at jobs hads e)) (take i run),
+    count_by-le-length (λ e. nat_lt 0 (left_at jobs served e)) (take i run),
   );
   left = omega arith;
 }
@@ -309,10 +301,10 @@ module _ (k : Fraction) (run : List Event) (J : Instance) (of : IsRunOf k run J)
   summary_is = lines_are []
 
   -- the line of those that completed early
-  early_is : (early : Bool) (jobs : List JobFacts) (hads : List ℕ) → early ≡ may_finish_early J.rules.version
-      → (early ≡ true → hads ≡ model_hads J) → jobs ≡ jobs_released run
-      → early_lines early jobs hads run ≡ reports.early_lines J
-  early_is early jobs hads is same released = by_early early is same where
+  early_is : (early : Bool) (jobs : List JobFacts) (served : List ℕ) → early ≡ may_finish_early J.rules.version
+      → (early ≡ true → served ≡ model_served J) → jobs ≡ jobs_released run
+      → early_lines early jobs served run ≡ reports.early_lines J
+  early_is early jobs served is same released = by_early early is same where
     left : ℕ → ℕ
     left = reports.left_of_job J
 
@@ -320,17 +312,17 @@ module _ (k : Fraction) (run : List Event) (J : Instance) (of : IsRunOf k run J)
     of_numbers ns = with_numbers (codes "early") (count_by (λ n. nat_lt 0 (left n)) ns ∷ sum_by left ns ∷ []) ∷ []
 
     counted : (es : List Event)
-        → early_line (early_of J.jobs (model_hads J) es) ∷ []
+        → early_line (early_of J.jobs (model_served J) es) ∷ []
         ≡ of_numbers (filter_map reports.completed_number (filter_map fate_of_event es))
     counted es = ap (λ (n : ℕ). with_numbers (codes "early")
-        (n ∷ sum_by (left_at J.jobs (model_hads J)) es ∷ []) ∷ []) (sym (early_count J.jobs (model_hads J) es))
+        (n ∷ sum_by (left_at J.jobs (model_served J)) es ∷ []) ∷ []) (sym (early_count J.jobs (model_served J) es))
         ∙ ap (λ (n : ℕ). with_numbers (codes "early")
-        (count_by (λ n. nat_lt 0 (left n)) (done es) ∷ n ∷ []) ∷ []) (sym (early_left J.jobs (model_hads J) es))
+        (count_by (λ n. nat_lt 0 (left n)) (done es) ∷ n ∷ []) ∷ []) (sym (early_left J.jobs (model_served J) es))
 
-    by_early : (b : Bool) → b ≡ may_finish_early J.rules.version → (b ≡ true → hads ≡ model_hads J)
-        → early_lines b jobs hads run ≡ reports.early_lines J
+    by_early : (b : Bool) → b ≡ may_finish_early J.rules.version → (b ≡ true → served ≡ model_served J)
+        → early_lines b jobs served run ≡ reports.early_lines J
     by_early true three are =
-        ap (λ js. early_line (early_of js hads run) ∷ []) (released ∙ jobs_are)
+        ap (λ js. early_line (early_of js served run) ∷ []) (released ∙ jobs_are)
         ∙ ap (λ hs. early_line (early_of J.jobs hs run) ∷ []) (are refl)
         ∙ counted run
         ∙ ap (λ es. of_numbers (done es)) (sym of.prints)
@@ -338,19 +330,19 @@ module _ (k : Fraction) (run : List Event) (J : Instance) (of : IsRunOf k run J)
     by_early false three are = ap (λ (c : Bool). cond c (of_numbers (done (printed J))) []) three
 
   -- the report, put together
-  pub report_is : (early : Bool) (jobs : List JobFacts) (hads : List ℕ) (value : ℕ) (rows : List Interval)
-      → early ≡ may_finish_early J.rules.version → (early ≡ true → hads ≡ model_hads J)
+  pub report_is : (early : Bool) (jobs : List JobFacts) (served : List ℕ) (value : ℕ) (rows : List Interval)
+      → early ≡ may_finish_early J.rules.version → (early ≡ true → served ≡ model_served J)
       → jobs ≡ jobs_released run → value ≡ completed_value J → rows ≡ rows_of J
       → (((in_lines (ratio_line k ∷ []) ++ in_lines (fates_lines (counts_of k run jobs value)))
-      ++ in_lines (early_lines early jobs hads run))
+      ++ in_lines (early_lines early jobs served run))
       ++ in_lines (bound_line (counts_of k run jobs value) ∷ [])) ++ in_lines (row_lines rows)
       ≡ report J
-  report_is early jobs hads value rows is are same worth all =
+  report_is early jobs served value rows is are same worth all =
       five_parts (ratio_line k ∷ []) (fates_lines (counts_of k run jobs value))
-      (early_lines early jobs hads run) (bound_line (counts_of k run jobs value) ∷ []) (row_lines rows)
+      (early_lines early jobs served run) (bound_line (counts_of k run jobs value) ∷ []) (row_lines rows)
       ∙ ap (λ ls. in_lines (ratio_line k ∷ ls ++ row_lines rows))
-      (lines_are (early_lines early jobs hads run) jobs value same worth
-      ∙ ap (lines_with J) (early_is early jobs hads is are same))
+      (lines_are (early_lines early jobs served run) jobs value same worth
+      ∙ ap (lines_with J) (early_is early jobs served is are same))
       ∙ ap (λ ls. in_lines (ratio_line k ∷ lines_with J (reports.early_lines J) ++ ls))
       (ap row_lines all ∙ rows_lines 1 (model.intervals J))
       ∙ ap (λ (r : Fraction). in_lines

@@ -1,45 +1,30 @@
 -- What a run doesn't complete it abandons.
-use Rattle.std.proofs.Common.{◌≡◌, ◌+◌, ◌≤◌, ◌⊎◌, inl, inr, ℕ, zero, suc, List, [], ◌∷◌, map, refl, sym, ap, ◌∙◌}
-use Rattle.std.proofs.Common.{Bool, true, false, cond, eqb, arith}
-use Rattle.std.specs.Bool.{MatchBool, then_some}
-use Rattle.std.specs.List.{sum_by, fold, list_all, filter, cons_option}
-use Rattle.std.proofs.lemmas.Bool.{eqb-true}
+use Rattle.std.proofs.Common.{◌≡◌, ◌+◌, ◌≤◌, ◌⊎◌, inl, inr, ℕ, zero, suc, List, [], ◌∷◌, map, refl, sym, ap, ◌∙◌, Bool}
+use Rattle.std.proofs.Common.{true, false, cond, eqb, arith, MatchBool, sum_by, fold, filter, eqb-true}
+use Rattle.std.specs.Bool.{then_some}
+use Rattle.std.specs.List.{list_all, cons_option}
 use Rattle.std.proofs.lemmas.List.Sums.{sum_by-cons}
 use Rattle.dover_model.specs.declared.events.Event.{Event}
 use Rattle.dover_model.specs.declared.events.Event.TheVariants as event
 use Rattle.dover_model.specs.declared.events.Role.{Role}
 use Rattle.dover_model.specs.declared.events.Role.TheVariants.{Coming, Fresh, Waiting, Held, Running, Done, Gone}
 use Rattle.dover_model.specs.declared.events.Task.{Task}
-use Rattle.dover_model.specs.JobFacts.{JobFacts}
-use Rattle.dover_model.specs.Instance.{Rules, Instance, IsValid, total_value}
-use Rattle.dover_model.specs.State.{State, opening, to_come, is_done, is_over, value_sum}
-use Rattle.dover_model.specs.Step.{
-  Move,
-  Prints,
-  Waits,
-  Ticks,
-  step,
-  after,
-  ending,
-  ◌or_else◌,
-  with_role,
-  displaced,
-  ticked,
-}
-use Rattle.dover_model.specs.Run.{Step, is_end, event_of, printed_of, printed, value_of_end, completed_value, run}
-use Rattle.dover_model.specs.WholeRun.{IsWholeRun}
-use Rattle.dover_model.specs.Sound.{IsMember, Each, IsNumberedFrom, Keeps, jobs_of}
-use Rattle.dover_model.proofs.Booking.{is_gone, sum_changed}
-use Rattle.dover_model.proofs.Booked.{displaced_gone}
-use Rattle.dover_model.proofs.Deeds.{Deed, Completed, Resumed, Started, Began, Preempted, Stayed, Arrived, Taken}
-use Rattle.dover_model.proofs.Deeds.{Abandoned, Rested}
-use Rattle.dover_model.proofs.Ending.{end_over, run_is_whole}
-use Rattle.dover_model.proofs.Kept.{step_deed, step_kept, end_same, opening_keeps}
-use Rattle.dover_model.proofs.Loads.{with_roles}
-use Rattle.dover_model.proofs.Members.{sum_map, sum_same, sum_filter}
-use Rattle.dover_model.proofs.OneChange.{changed}
-use Rattle.dover_model.proofs.Roles.{passes, one_number, numbers_above, is_over_role}
-use Rattle.dover_model.proofs.Tests.{never}
+use Rattle.dover_model.specs.Common.{JobFacts, Rules, Instance, IsValid, total_value, State, opening, to_come, is_done}
+use Rattle.dover_model.specs.Common.{is_over, value_sum, Move, Prints, Waits, Ticks, step, after, ending, ◌or_else◌}
+use Rattle.dover_model.specs.Common.{with_role, displaced, ticked, Step, is_end, event_of, printed_of, printed}
+use Rattle.dover_model.specs.Common.{value_of_end, completed_value, run, IsWholeRun, IsMember, Each, IsNumberedFrom}
+use Rattle.dover_model.specs.Common.{Keeps, jobs_of}
+use Rattle.dover_model.proofs.bound.Booking.{is_gone, sum_changed}
+use Rattle.dover_model.proofs.bound.Booked.{displaced_gone}
+use Rattle.dover_model.proofs.steps.Deeds.{Deed, Completed, Resumed, Started, Began, Preempted, Stayed, Arrived, Taken}
+use Rattle.dover_model.proofs.steps.Deeds.{Abandoned, Rested}
+use Rattle.dover_model.proofs.runs.Ending.{end_over, run_is_whole}
+use Rattle.dover_model.proofs.steps.Kept.{step_deed, step_kept, end_same, opening_keeps}
+use Rattle.dover_model.proofs.steps.Loads.{with_roles}
+use Rattle.dover_model.proofs.lists.Members.{sum_map, sum_same, sum_filter}
+use Rattle.dover_model.proofs.steps.OneChange.{changed}
+use Rattle.dover_model.proofs.steps.Roles.{passes, one_number, numbers_above, is_over_role}
+use Rattle.dover_model.proofs.lists.Tests.{never}
 use Rattle.run_reports.specs.report.Counts.{value_in, value_lost, all_lost}
 
 -- ---- what is not gone

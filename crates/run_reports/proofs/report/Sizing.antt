@@ -5,10 +5,8 @@ use Rattle.std.proofs.lemmas.List.Sums.{sum_by-cons}
 use Rattle.dover_model.specs.declared.events.Event.{Event}
 use Rattle.dover_model.specs.declared.events.Event.TheVariants.{Release}
 use Rattle.dover_model.specs.declared.events.Version.TheVariants.{Two}
-use Rattle.dover_model.specs.Instance.{Instance, IsListable, IsValid, total_value}
-use Rattle.dover_model.specs.Limits.{most_jobs, most_total}
-use Rattle.dover_model.specs.JobFacts.{JobFacts}
-use Rattle.dover_model.specs.Run.{printed, completed_value}
+use Rattle.dover_model.specs.Common.{Instance, IsListable, IsValid, total_value, most_jobs, most_total, JobFacts}
+use Rattle.dover_model.specs.Common.{printed, completed_value}
 use Rattle.run_record.specs.intervals.Totals.{value_released, totals_of}
 use Rattle.run_record.specs.declared.intervals.totals.JobTotals.{JobTotals}
 use Rattle.run_reports.specs.report.Counts.{job_released, jobs_released, all_lost}

@@ -1,34 +1,26 @@
 -- The table of a run, put together row by row.
 use Rattle.std.proofs.Common.{◌≡◌, ℕ, zero, suc, ◌+◌, ◌-◌, ◌≤◌, ◌<◌, List, [], ◌∷◌, ◌++◌, length, map, take, drop, set}
-use Rattle.std.proofs.Common.{refl, sym, ap, ◌∙◌, Bool, true, false, cond, arith, get_or, replicate}
-use Rattle.std.proofs.Common.{append-nil, length-set}
-use Rattle.std.specs.Prelude.{Option, Some, None, ◌==◌, nat_lt, codes, decimal, slice_index_or}
-use Rattle.std.specs.List.{filter_map, find, enumerate_from, join_with_byte}
-use Rattle.std.specs.Option.{option_map}
-use Rattle.std.proofs.lemmas.Bool.{eqb-true, eqb-false, lt-ltb}
-use Rattle.std.proofs.lemmas.List.{get_or-set_same, get_or-set_other, length-replicate}
-use Rattle.std.proofs.lemmas.List.{get_or-replicate}
-use Rattle.std.proofs.lemmas.List.{drop_all}
+use Rattle.std.proofs.Common.{refl, sym, ap, ◌∙◌, Bool, true, false, cond, arith, get_or, replicate, append-nil}
+use Rattle.std.proofs.Common.{length-set, Option, Some, None, ◌==◌, nat_lt, codes, decimal, slice_index_or, filter_map}
+use Rattle.std.proofs.Common.{find, option_map, eqb-true, lt-ltb, get_or-set_same, get_or-set_other}
+use Rattle.std.specs.List.{enumerate_from, join_with_byte}
+use Rattle.std.proofs.lemmas.Bool.{eqb-false}
+use Rattle.std.proofs.lemmas.List.{length-replicate, get_or-replicate, drop_all}
 use Rattle.std.proofs.Math.Seq.{take-append_seam}
 use Rattle.dover_model.specs.declared.events.Event.{Event}
 use Rattle.dover_model.specs.declared.events.Event.TheVariants.{Release, Complete, Abandon}
-use Rattle.dover_model.specs.Fraction.{Fraction}
-use Rattle.dover_model.specs.JobFacts.{JobFacts, job_numbers}
-use Rattle.dover_model.specs.Instance.{Instance}
-use Rattle.dover_model.specs.Lines.{in_lines}
-use Rattle.dover_model.specs.Observed.{hads as model_hads}
-use Rattle.dover_model.specs.Session.{may_finish_early}
+use Rattle.dover_model.specs.Common.{Fraction, JobFacts, job_numbers, Instance, in_lines, served as model_served}
+use Rattle.dover_model.specs.Common.{may_finish_early}
 use Rattle.dover_model.specs.Reports as model
-use Rattle.dover_model.proofs.Members.{by_bool}
+use Rattle.dover_model.proofs.lists.Members.{by_bool}
 use Rattle.run_record.specs.intervals.Rows.{IsRunOf}
 use Rattle.run_record.proofs.intervals.Charges.{item_next}
 use Rattle.run_reports.specs.declared.report.endings.Ending.{Ending}
 use Rattle.run_reports.specs.declared.report.endings.Ending.TheVariants.{Completed, Abandoned}
 use Rattle.run_reports.specs.report.Counts.{jobs_released}
 use Rattle.run_reports.specs.report.Rows.{ending_of, ending_in, ending_by, ending_at, ending_fields, after_commas}
-use Rattle.run_reports.specs.report.Rows.{row_text}
-use Rattle.run_reports.specs.report.Rows.{with_place, with_step, had_fields, names_line}
-use Rattle.run_reports.specs.report.Rows.{rows_of_steps, rows_left, FindsNext}
+use Rattle.run_reports.specs.report.Rows.{row_text, with_place, with_step, had_fields, names_line, rows_of_steps}
+use Rattle.run_reports.specs.report.Rows.{rows_left, FindsNext}
 use Rattle.run_reports.specs.report.Early.{had_at}
 use Rattle.run_reports.proofs.report.Counting.{jobs_are}
 
@@ -49,23 +41,23 @@ same_fields None = refl
 same_fields (Some (model.Completed n at)) = refl
 same_fields (Some (model.Abandoned n at)) = refl
 
-module _ (k : Fraction) (run : List Event) (J : Instance) (of : IsRunOf k run J) (early : Bool) (hads : List ℕ)
-    (is_early : early ≡ may_finish_early J.rules.version) (are : early ≡ true → hads ≡ model_hads J) where
+module _ (k : Fraction) (run : List Event) (J : Instance) (of : IsRunOf k run J) (early : Bool) (served : List ℕ)
+    (is_early : early ≡ may_finish_early J.rules.version) (are : early ≡ true → served ≡ model_served J) where
   -- what a job had is told as the table tells it
-  had_is : (n : ℕ) → had_fields (had_at early hads n) ≡ model.had_fields J n
+  had_is : (n : ℕ) → had_fields (had_at early served n) ≡ model.had_fields J n
   had_is n = by_early early is_early are where
-    by_early : (b : Bool) → b ≡ may_finish_early J.rules.version → (b ≡ true → hads ≡ model_hads J)
-        → had_fields (had_at b hads n) ≡ model.had_fields J n
+    by_early : (b : Bool) → b ≡ may_finish_early J.rules.version → (b ≡ true → served ≡ model_served J)
+        → had_fields (had_at b served n) ≡ model.had_fields J n
     by_early true is same = ap (λ hs. decimal (slice_index_or hs n 0) ∷ []) (same refl)
-        ∙ ap (λ (c : Bool). cond c (decimal (slice_index_or (model_hads J) n 0) ∷ []) []) is
-    by_early false is same = ap (λ (c : Bool). cond c (decimal (slice_index_or (model_hads J) n 0) ∷ []) []) is
+        ∙ ap (λ (c : Bool). cond c (decimal (slice_index_or (model_served J) n 0) ∷ []) []) is
+    by_early false is same = ap (λ (c : Bool). cond c (decimal (slice_index_or (model_served J) n 0) ∷ []) []) is
 
   -- the row of a job
-  row_is : (n : ℕ) (j : JobFacts) → row_text n j (ending_in run n) (had_at early hads n) ≡ model.table_row J (n, j)
+  row_is : (n : ℕ) (j : JobFacts) → row_text n j (ending_in run n) (had_at early served n) ≡ model.table_row J (n, j)
   row_is n j = sym (joined_fields (decimal n) (map decimal (job_numbers j)
-      ++ (ending_fields (ending_in run n) ++ had_fields (had_at early hads n))))
+      ++ (ending_fields (ending_in run n) ++ had_fields (had_at early served n))))
       ∙ ap (λ fields. join_with_byte 44 (map decimal (n ∷ job_numbers j)
-      ++ (fields ++ had_fields (had_at early hads n))))
+      ++ (fields ++ had_fields (had_at early served n))))
       (same_fields (find (λ fate. model.number_of fate == n) (filter_map model.fate_of_event run))
       ∙ ap (λ es. model.fate_fields (find (λ fate. model.number_of fate == n) (filter_map model.fate_of_event es)))
       (sym of.prints))
@@ -74,9 +66,9 @@ module _ (k : Fraction) (run : List Event) (J : Instance) (of : IsRunOf k run J)
 
   -- all rows
   rows_are : (n : ℕ) (jobs : List JobFacts)
-      → rows_from run (had_at early hads) n jobs ≡ map (model.table_row J) (enumerate_from n jobs)
+      → rows_from run (had_at early served) n jobs ≡ map (model.table_row J) (enumerate_from n jobs)
   rows_are n [] = refl
-  rows_are n (j ∷ jobs) = ap (λ r. r ∷ rows_from run (had_at early hads) (n + 1) jobs) (row_is n j)
+  rows_are n (j ∷ jobs) = ap (λ r. r ∷ rows_from run (had_at early served) (n + 1) jobs) (row_is n j)
       ∙ ap (λ rs. model.table_row J (n, j) ∷ rs) (rows_are (n + 1) jobs)
 
   -- the names of the fields
@@ -92,8 +84,8 @@ module _ (k : Fraction) (run : List Event) (J : Instance) (of : IsRunOf k run J)
 
   -- the table
   pub table_is : (jobs : List JobFacts) → jobs ≡ jobs_released run
-      → names_line early ++ in_lines (rows_from run (had_at early hads) 0 jobs) ≡ model.table J
-  table_is jobs same = ap (λ js. names_line early ++ in_lines (rows_from run (had_at early hads) 0 js))
+      → names_line early ++ in_lines (rows_from run (had_at early served) 0 jobs) ≡ model.table J
+  table_is jobs same = ap (λ js. names_line early ++ in_lines (rows_from run (had_at early served) 0 js))
       (same ∙ jobs_are k run J of)
       ∙ ap (λ rs. names_line early ++ in_lines rs) (rows_are 0 J.jobs)
       ∙ names_are (map (model.table_row J) (enumerate_from 0 J.jobs))
@@ -111,14 +103,15 @@ same_rows run ending had n (_ ∷ es) each = same_rows run ending had n es each
 
 -- all rows behind the names are the table
 pub whole_table : (k : Fraction) (run : List Event) (J : Instance) (of : IsRunOf k run J) (early : Bool)
-    (hads places : List ℕ) → early ≡ may_finish_early J.rules.version → (early ≡ true → hads ≡ model_hads J)
+    (served places : List ℕ) → early ≡ may_finish_early J.rules.version → (early ≡ true → served ≡ model_served J)
     → ((n : ℕ) → n < length (jobs_released run) → ending_at run (slice_index_or places n 0) ≡ ending_in run n)
-    → (rows_left run early hads places 0 0).names ++ in_lines (rows_left run early hads places 0 0).rows ≡ model.table J
-whole_table k run J of early hads places is_early are each =
+    → (rows_left run early served places 0 0).names ++ in_lines (rows_left run early served places 0 0).rows
+    ≡ model.table J
+whole_table k run J of early served places is_early are each =
     ap (λ rs. names_line early ++ in_lines rs)
-    (same_rows run (λ n. ending_at run (slice_index_or places n 0)) (had_at early hads) 0 run
+    (same_rows run (λ n. ending_at run (slice_index_or places n 0)) (had_at early served) 0 run
     (λ n low. each n (omega (arith, low))))
-    ∙ table_is k run J of early hads is_early are (jobs_released run) refl
+    ∙ table_is k run J of early served is_early are (jobs_released run) refl
 
 -- ---- the next release
 

@@ -1,12 +1,10 @@
 -- Lines of words and numbers, put together piece by piece.
-use Rattle.std.proofs.Common.{◌≡◌, ◌≤◌, ℕ, List, [], ◌∷◌, ◌++◌, length, sym, ap, ◌∙◌, append_assoc}
-use Rattle.std.proofs.Common.{append-nil, arith}
-use Rattle.std.specs.Prelude.{decimal}
+use Rattle.std.proofs.Common.{◌≡◌, ◌≤◌, ℕ, List, [], ◌∷◌, ◌++◌, length, sym, ap, ◌∙◌, append_assoc, append-nil, arith}
+use Rattle.std.proofs.Common.{decimal}
 use Rattle.std.proofs.lemmas.Fmt.{length-decimal-le}
 use Rattle.std.proofs.lemmas.List.Concat.{flat_map-append}
-use Rattle.dover_model.specs.JobFacts.{JobFacts, IsJob}
-use Rattle.dover_model.specs.Lines.{in_lines}
-use Rattle.dover_model.proofs.JobLimits.{JobLimits, job_limits}
+use Rattle.dover_model.specs.Common.{JobFacts, IsJob, in_lines}
+use Rattle.dover_model.proofs.valid.JobLimits.{JobLimits, job_limits}
 
 -- how many digits the numbers of a job have at most
 pub record DigitsOf (j : JobFacts) : Type 0 where

@@ -1,14 +1,9 @@
 -- Reports on runs in which jobs finish early, by computation.
-use Rattle.dover_model.specs.Fraction.{fraction, with_factor}
-use Rattle.std.proofs.Common.{◌≡◌, ℕ, List, [], ◌∷◌, ◌++◌, refl}
-use Rattle.std.specs.Prelude.{codes}
+use Rattle.dover_model.specs.Common.{fraction, with_factor, Finish, Instance, JobFacts, report, table, summary}
+use Rattle.std.proofs.Common.{◌≡◌, ℕ, List, [], ◌∷◌, ◌++◌, refl, codes}
 use Rattle.std.specs.Fmt.{digits}
 use Rattle.dover_model.specs.declared.events.Version.TheVariants.{Three}
-use Rattle.dover_model.specs.Finishes.{Finish}
-use Rattle.dover_model.specs.Instance.{Instance}
-use Rattle.dover_model.specs.JobFacts.{JobFacts}
-use Rattle.dover_model.specs.Reports.{report, table, summary}
-use Rattle.dover_model.proofs.Written.{job, bytes}
+use Rattle.dover_model.proofs.rows.Written.{job, bytes}
 
 -- jobs of version Three under the ratio 1, with their early finishes
 abbrev pub finishing : List Finish → List JobFacts → Instance

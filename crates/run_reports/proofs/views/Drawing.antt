@@ -1,13 +1,10 @@
 -- A picture for a terminal, piece by piece.
-use Rattle.std.proofs.Common.{◌≡◌, ℕ, suc, ◌+◌, ◌-◌, ◌*◌, ◌≤◌, ◌<◌, List, [], ◌∷◌, ◌++◌, length, drop, get_or}
-use Rattle.std.proofs.Common.{refl, sym, ap, ◌∙◌, arith, append_assoc, append-nil, add-one, drop-cons}
-use Rattle.std.specs.Prelude.{Option, Some, None, if◌then◌else◌, codes, decimal}
+use Rattle.std.proofs.Common.{◌≡◌, ℕ, suc, ◌+◌, ◌-◌, ◌*◌, ◌≤◌, ◌<◌, List, [], ◌∷◌, ◌++◌, length, drop, get_or, refl}
+use Rattle.std.proofs.Common.{sym, ap, ◌∙◌, arith, append_assoc, append-nil, add-one, drop-cons, Option, Some, None}
+use Rattle.std.proofs.Common.{if◌then◌else◌, codes, decimal}
 use Rattle.std.proofs.lemmas.List.{drop_all}
 use Rattle.dover_model.specs.declared.events.Event.{Event}
-use Rattle.dover_model.specs.JobFacts.{JobFacts}
-use Rattle.dover_model.specs.Instance.{Instance}
-use Rattle.dover_model.specs.Fraction.{Fraction}
-use Rattle.dover_model.specs.Reports.{summary_lines}
+use Rattle.dover_model.specs.Common.{JobFacts, Instance, Fraction, summary_lines}
 use Rattle.run_reports.specs.report.Counts.{jobs_released, counts_lines}
 use Rattle.run_reports.specs.declared.report.counts.Counts.{Counts}
 use Rattle.run_reports.specs.report.Rows.{ending_in}
@@ -19,8 +16,7 @@ use Rattle.run_reports.specs.views.Templates.{filled}
 use Rattle.run_reports.specs.views.Stays.{stays_of}
 use Rattle.run_reports.proofs.views.Joining.{whole}
 use Rattle.run_reports.specs.views.Timeline.{window_or, first_tick, end_tick, padded, labels_from, frame, meets, sign}
-use Rattle.run_reports.specs.views.Timeline.{signs_from}
-use Rattle.run_reports.specs.views.Timeline.{summed_up, loss_sign, job_line, job_lines, timeline}
+use Rattle.run_reports.specs.views.Timeline.{signs_from, summed_up, loss_sign, job_line, job_lines, timeline}
 use Rattle.run_reports.specs.declared.views.stays.Stay.{Stay}
 use Rattle.run_reports.specs.declared.views.window.Window.{Window}
 

@@ -1,8 +1,7 @@
 -- Templates, byte by byte.
-use Rattle.std.proofs.Common.{◌≡◌, ℕ, zero, suc, ◌+◌, ◌≤◌, ◌<◌, List, [], ◌∷◌, ◌++◌, length, drop, get_or, arith}
-use Rattle.std.proofs.Common.{refl, sym, ap, ◌∙◌}
-use Rattle.std.proofs.Common.{add-one, drop-cons, append_assoc, append-nil}
-use Rattle.std.specs.Prelude.{Bool, true, false, ◌==◌, if◌then◌else◌, decimal}
+use Rattle.std.proofs.Common.{◌≡◌, ℕ, zero, suc, ◌+◌, ◌≤◌, ◌<◌, List, [], ◌∷◌, ◌++◌, length, drop, get_or, arith, refl}
+use Rattle.std.proofs.Common.{sym, ap, ◌∙◌, add-one, drop-cons, append_assoc, append-nil, Bool, true, false, ◌==◌}
+use Rattle.std.proofs.Common.{if◌then◌else◌, decimal}
 use Rattle.std.proofs.lemmas.List.{drop_all}
 use Rattle.run_reports.specs.views.Templates.{Text, filled, part, left_behind, first_numeral, others}
 

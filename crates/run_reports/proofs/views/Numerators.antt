@@ -1,18 +1,16 @@
 -- Of the ratios with one denominator, the greatest for which a value is heavy.
-use Rattle.std.proofs.Common.{◌≡◌, ℕ, zero, suc, ◌+◌, ◌-◌, ◌*◌, ◌/◌, ◌^◌, ◌≤◌, ◌<◌, ◌⊎◌, ◌↔◌, inl, inr, refl, sym, ap, ◌∙◌}
-use Rattle.std.proofs.Common.{Bool, true, false, IsTrue, arith, subst}
-use Rattle.std.specs.Prelude.{◌&&◌, nat_le, if◌then◌else◌, Some, None}
+use Rattle.std.proofs.Common.{◌≡◌, ℕ, zero, suc, ◌+◌, ◌-◌, ◌*◌, ◌/◌, ◌^◌, ◌≤◌, ◌<◌, ◌⊎◌, ◌↔◌, inl, inr, refl, sym, ap}
+use Rattle.std.proofs.Common.{◌∙◌, Bool, true, false, IsTrue, arith, subst, ◌&&◌, nat_le, if◌then◌else◌, Some, None}
+use Rattle.std.proofs.Common.{le-leb}
 use Rattle.std.proofs.Math.Nat.{mul-le-mul_right, le-div_iff_mul-le}
 use Rattle.std.proofs.lemmas.Nat.{mul-le}
-use Rattle.std.proofs.lemmas.Bool.{cases_lt, lt-leb, le-leb}
-use Rattle.dover_model.specs.Fraction.{IsRatio, fraction}
-use Rattle.dover_model.specs.Greatest.{greatest, greatest_from}
-use Rattle.dover_model.specs.Limits.{most_p}
-use Rattle.dover_model.specs.Orders.{is_heavy, IsHeavy}
-use Rattle.dover_model.proofs.GreatestLaws.{IsDownwardClosed, greatest-is}
-use Rattle.dover_model.proofs.JobLimits.{ratio_from, ratio_limits}
-use Rattle.dover_model.proofs.Tests.{both, at_most}
-use Rattle.dover_model.proofs.Calculus.{heavy_from, heavy_excess}
+use Rattle.std.proofs.lemmas.Bool.{cases_lt, lt-leb}
+use Rattle.dover_model.specs.Common.{IsRatio, fraction, greatest, most_p, is_heavy, IsHeavy}
+use Rattle.dover_model.specs.Greatest.{greatest_from}
+use Rattle.dover_model.proofs.bound.GreatestLaws.{IsDownwardClosed, greatest-is}
+use Rattle.dover_model.proofs.valid.JobLimits.{ratio_from, ratio_limits}
+use Rattle.dover_model.proofs.lists.Tests.{both, at_most}
+use Rattle.dover_model.proofs.bound.Calculus.{heavy_from, heavy_excess}
 use Rattle.root_compare.proofs.Roots.{one_greatest}
 use Rattle.run_reports.specs.views.Why.{numerator, greatest_ratio}
 
@@ -117,7 +115,8 @@ module _ (q v w : ℕ) (some : 1 ≤ q) where
     nothing = (parts 0).1 (
       omega arith,
       heavy_from (fraction 0 q) refl v w
-          (let square : 1 * 1 ≤ (v - w) * (v - w) = mul-le 1 1 (v - w) (v - w) (omega (arith, high)) (omega (arith, high)) in
+          (let square : 1 * 1 ≤ (v - w) * (v - w) =
+          mul-le 1 1 (v - w) (v - w) (omega (arith, high)) (omega (arith, high)) in
           let times : 1 * 1 ≤ q * ((v - w) * (v - w)) = mul-le 1 1 q ((v - w) * (v - w)) some (omega (arith, square)) in
           omega (arith, times)),
     )

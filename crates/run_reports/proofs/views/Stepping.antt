@@ -1,16 +1,12 @@
 -- The printed steps of a run beside what is weighed before each, one after another.
 use Rattle.std.proofs.Common.{◌≡◌, ℕ, suc, ◌+◌, ◌≤◌, ◌<◌, List, [], ◌∷◌, length, drop, get_or, refl, sym, ap, ◌∙◌}
-use Rattle.std.proofs.Common.{arith, add-one, drop-cons}
-use Rattle.std.specs.List.{zip, filter_map, cons_option}
-use Rattle.std.specs.Option.{option_map}
+use Rattle.std.proofs.Common.{arith, add-one, drop-cons, zip, filter_map, option_map}
+use Rattle.std.specs.List.{cons_option}
 use Rattle.std.proofs.lemmas.List.{drop_all}
 use Rattle.std.proofs.lemmas.Slice.Zip.{length-zip, get_or-zip}
 use Rattle.dover_model.specs.declared.events.Event.{Event}
-use Rattle.dover_model.specs.Instance.{Instance}
-use Rattle.dover_model.specs.Fraction.{Fraction}
-use Rattle.dover_model.specs.State.{privileged, value_sum}
-use Rattle.dover_model.specs.Step.{Move, Prints, Waits, Ticks}
-use Rattle.dover_model.specs.Run.{Step, event_of, printed_of, run}
+use Rattle.dover_model.specs.Common.{Instance, Fraction, privileged, value_sum, Move, Prints, Waits, Ticks, Step}
+use Rattle.dover_model.specs.Common.{event_of, printed_of, run}
 use Rattle.run_record.specs.intervals.Rows.{IsRunOf, weight_of, weights}
 use Rattle.run_record.specs.ledger.Rooms.{room_before, room_of_step, rooms}
 

@@ -1,15 +1,10 @@
 -- The story of a job, step by step.
-use Rattle.std.proofs.Common.{◌≡◌, ℕ, zero, suc, ◌+◌, ◌≤◌, ◌<◌, List, [], ◌∷◌, ◌++◌, length, drop, get_or, sym, ap}
-use Rattle.std.proofs.Common.{◌∙◌, append_assoc, append-nil, add-one, drop-cons}
-use Rattle.std.proofs.Common.{Bool, false, arith}
+use Rattle.std.proofs.Common.{◌≡◌, ℕ, zero, suc, ◌+◌, ◌≤◌, ◌<◌, List, [], ◌∷◌, ◌++◌, length, drop, get_or, sym, ap, ◌∙◌}
+use Rattle.std.proofs.Common.{append_assoc, append-nil, add-one, drop-cons, Bool, false, arith, Some, None, slice_get}
 use Rattle.std.proofs.lemmas.List.{drop_all}
-use Rattle.std.specs.Prelude.{Some, None, slice_get}
 use Rattle.std.specs.List.{AllByRecursion}
 use Rattle.dover_model.specs.declared.events.Event.{Event}
-use Rattle.dover_model.specs.JobFacts.{JobFacts}
-use Rattle.dover_model.specs.Instance.{Instance}
-use Rattle.dover_model.specs.Observed.{hads}
-use Rattle.dover_model.specs.Fraction.{Fraction}
+use Rattle.dover_model.specs.Common.{JobFacts, Instance, served, Fraction}
 use Rattle.run_reports.specs.report.Counts.{jobs_released}
 use Rattle.run_reports.proofs.report.Counting.{jobs_are}
 use Rattle.run_record.specs.intervals.Rows.{IsRunOf, weights}
@@ -96,12 +91,12 @@ module _ (k : Fraction) (steps : List Event) (J : Instance) (of : IsRunOf k step
 -- the job's story
 pub story_is : (k : Fraction) (steps : List Event) (J : Instance) → IsRunOf k steps J → (n : ℕ) (jobs : List JobFacts)
     → jobs ≡ J.jobs → (j : JobFacts) (a b c : List ℕ) → a ≡ [] → b ≡ a ++ asked n j
-    → c ≡ b ++ story_from k n j.value jobs (hads J) false steps (weights J) (rooms J) → c ≡ answer n J (Some j)
+    → c ≡ b ++ story_from k n j.value jobs (served J) false steps (weights J) (rooms J) → c ≡ answer n J (Some j)
 story_is k steps J of n jobs same j a b c first middle last =
-    last ∙ ap (λ t. t ++ story_from k n j.value jobs (hads J) false steps (weights J) (rooms J))
+    last ∙ ap (λ t. t ++ story_from k n j.value jobs (served J) false steps (weights J) (rooms J))
     (middle ∙ ap (λ t. t ++ asked n j) first)
-    ∙ ap (λ (r : Fraction). asked n j ++ story_from r n j.value jobs (hads J) false steps (weights J) (rooms J))
+    ∙ ap (λ (r : Fraction). asked n j ++ story_from r n j.value jobs (served J) false steps (weights J) (rooms J))
     (sym of.ratio)
-    ∙ ap (λ js. asked n j ++ story_from J.rules.ratio n j.value js (hads J) false steps (weights J) (rooms J)) same
-    ∙ ap (λ es. asked n j ++ story_from J.rules.ratio n j.value J.jobs (hads J) false es (weights J) (rooms J))
+    ∙ ap (λ js. asked n j ++ story_from J.rules.ratio n j.value js (served J) false steps (weights J) (rooms J)) same
+    ∙ ap (λ es. asked n j ++ story_from J.rules.ratio n j.value J.jobs (served J) false es (weights J) (rooms J))
     (sym of.prints)

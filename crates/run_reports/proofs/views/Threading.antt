@@ -1,10 +1,9 @@
 -- The stays of a job, link by link.
 use Rattle.std.proofs.Common.{◌≡◌, ℕ, suc, ◌+◌, ◌-◌, ◌≤◌, ◌<◌, List, [], ◌∷◌, ◌++◌, length, drop, get_or, ◌⊎◌, inl, inr}
 use Rattle.std.proofs.Common.{refl, sym, ap, ◌∙◌, subst, arith, append_assoc, append-nil, Bool, true, false}
-use Rattle.std.proofs.Common.{length-append, length-set, drop-cons}
-use Rattle.std.specs.Prelude.{◌==◌, nat_lt, if◌then◌else◌}
-use Rattle.std.proofs.lemmas.List.{get_or_append_left, get_or_push, get_or-replicate, length-replicate, get_or-set_same}
-use Rattle.std.proofs.lemmas.List.{get_or-set_other}
+use Rattle.std.proofs.Common.{length-append, length-set, drop-cons, ◌==◌, nat_lt, if◌then◌else◌, get_or-set_same}
+use Rattle.std.proofs.Common.{get_or-set_other}
+use Rattle.std.proofs.lemmas.List.{get_or_append_left, get_or_push, get_or-replicate, length-replicate}
 use Rattle.std.proofs.lemmas.Bool.{cases_lt}
 use Rattle.std.proofs.lemmas.Bool.Decides.{Decides-eqb, Decides-ltb}
 use Rattle.dover_model.specs.declared.events.Event.{Event}
@@ -12,10 +11,11 @@ use Rattle.dover_model.specs.declared.events.Event.TheVariants.{Run, Preempt, Ta
 use Rattle.run_reports.specs.views.Stays.{next_switch, with_stay, stays_of}
 use Rattle.run_reports.specs.views.Book.{Book, blank, linked, begun, with_step, IsLink, Threads, Keeps}
 use Rattle.run_reports.specs.declared.views.stays.Stay.{Stay}
-use Rattle.run_reports.specs.declared.views.stays.Link.{Link}
+use Rattle.run_reports.specs.declared.views.stays.StayLink.{StayLink}
 
 -- a link stays where one more is put behind all
-link_stays : (links : List Link) (extra : Link) (place : ℕ) (stay : Stay) (next : ℕ) → IsLink links place stay next
+link_stays : (links : List StayLink) (extra : StayLink) (place : ℕ) (stay : Stay) (next : ℕ)
+    → IsLink links place stay next
     → IsLink (links ++ extra ∷ []) place stay next
 link_stays links extra place stay next it = record {
   index = it.index;
@@ -26,14 +26,14 @@ link_stays links extra place stay next it = record {
 }
 
 -- so do the stays from a place on
-threads_stay : (links : List Link) (extra : Link) (place : ℕ) (stays : List Stay) → Threads links place stays
+threads_stay : (links : List StayLink) (extra : StayLink) (place : ℕ) (stays : List Stay) → Threads links place stays
     → Threads (links ++ extra ∷ []) place stays
 threads_stay links extra place [] it = it
 threads_stay links extra place (stay ∷ stays) (next, link, more) =
     (next, link_stays links extra place stay next link, threads_stay links extra next stays more)
 
 -- the first place is at most the number of links
-within : (links : List Link) (place : ℕ) (stays : List Stay) → Threads links place stays → place ≤ length links
+within : (links : List StayLink) (place : ℕ) (stays : List Stay) → Threads links place stays → place ≤ length links
 within links place [] it = omega (arith, it)
 within links place (stay ∷ stays) (next, link, more) = omega (arith, link.at, link.within)
 
@@ -156,17 +156,17 @@ before run left e b some short is keeps =
 -- ---- the stays of a job, one after another
 
 -- from a place on, of these stays, of which these are read
-pub record Goes (links : List Link) (place : ℕ) (own whole : List Stay) : Type 0 where
+pub record Goes (links : List StayLink) (place : ℕ) (own whole : List Stay) : Type 0 where
   pub rest : List Stay
   pub threads : Threads links place rest
   pub all : own ++ rest ≡ whole
 
 -- there is a link at a place
-pub there : (links : List Link) (place : ℕ) (own whole : List Stay) → Goes links place own whole → 0 < place
+pub there : (links : List StayLink) (place : ℕ) (own whole : List Stay) → Goes links place own whole → 0 < place
     → place - 1 < length links
 there links place own whole goes some = omega (arith, some, within links place goes.rest goes.threads)
 
-module _ (links : List Link) (place : ℕ) (own whole more : List Stay) (link : Link) (some : 0 < place)
+module _ (links : List StayLink) (place : ℕ) (own whole more : List Stay) (link : StayLink) (some : 0 < place)
     (is : link ≡ get_or links (place - 1) link) where
   -- the link at a place is the one that stands there
   same : (stay : Stay) (next : ℕ) → IsLink links place stay next → link ≡ record { stay = stay; next = next }
@@ -179,7 +179,8 @@ module _ (links : List Link) (place : ℕ) (own whole more : List Stay) (link : 
     by_rest : (rest : List Stay) → Threads links place rest → link.next < place
     by_rest [] none = absurd (omega (arith, some, none))
     by_rest (stay ∷ rest) (next, it, after) =
-        let e : link.next ≡ next = ap (λ (l : Link). l.next) (same stay next it) in omega (arith, e, it.at, it.below)
+        let e : link.next ≡ next = ap (λ (l : StayLink). l.next) (same stay next it) in omega
+        (arith, e, it.at, it.below)
 
   -- one stay more is read
   pub on : more ≡ own ++ link.stay ∷ [] → Goes links place own whole → Goes links link.next more whole
@@ -188,13 +189,13 @@ module _ (links : List Link) (place : ℕ) (own whole more : List Stay) (link : 
     by_rest [] none all = absurd (omega (arith, some, none))
     by_rest (stay ∷ rest) (next, it, after) all = record {
       rest = rest;
-      threads = subst (λ p. Threads links p rest) (sym (ap (λ (l : Link). l.next) (same stay next it))) after;
+      threads = subst (λ p. Threads links p rest) (sym (ap (λ (l : StayLink). l.next) (same stay next it))) after;
       all = ap (λ l. l ++ rest) longer ∙ append_assoc own (link.stay ∷ []) rest
-          ∙ ap (λ (s : Stay). own ++ s ∷ rest) (ap (λ (l : Link). l.stay) (same stay next it)) ∙ all;
+          ∙ ap (λ (s : Stay). own ++ s ∷ rest) (ap (λ (l : StayLink). l.stay) (same stay next it)) ∙ all;
     }
 
 -- all are read
-pub all_read : (links : List Link) (own whole : List Stay) (place : ℕ) → place ≡ 0 → Goes links place own whole
+pub all_read : (links : List StayLink) (own whole : List Stay) (place : ℕ) → place ≡ 0 → Goes links place own whole
     → own ≡ whole
 all_read links own whole place none goes = by_rest goes.rest goes.threads goes.all where
   by_rest : (rest : List Stay) → Threads links place rest → own ++ rest ≡ whole → own ≡ whole

@@ -1,13 +1,8 @@
 -- The events for a viewer, step by step.
 use Rattle.std.proofs.Common.{◌≡◌, ℕ, ◌+◌, ◌≤◌, ◌<◌, List, ◌++◌, length, drop, get_or, sym, ap, ◌∙◌, append_assoc}
-use Rattle.std.proofs.Common.{append-nil}
-use Rattle.std.specs.Prelude.{codes}
-use Rattle.std.specs.List.{zip}
+use Rattle.std.proofs.Common.{append-nil, codes, zip}
 use Rattle.dover_model.specs.declared.events.Event.{Event}
-use Rattle.dover_model.specs.JobFacts.{JobFacts}
-use Rattle.dover_model.specs.Instance.{Instance}
-use Rattle.dover_model.specs.Observed.{hads}
-use Rattle.dover_model.specs.Fraction.{Fraction}
+use Rattle.dover_model.specs.Common.{JobFacts, Instance, served, Fraction}
 use Rattle.run_reports.specs.report.Counts.{jobs_released, value_lost}
 use Rattle.run_reports.proofs.report.Counting.{jobs_are}
 use Rattle.run_record.specs.intervals.Rows.{IsRunOf, weights}
@@ -43,12 +38,12 @@ viewed_all jobs had steps worths i done lost text whole past before =
 -- the whole text
 pub viewed : (k : Fraction) (steps : List Event) (J : Instance) → IsRunOf k steps J → (jobs : List JobFacts)
     (had worths a b c : List ℕ)
-    → jobs ≡ jobs_released steps → had ≡ hads J → worths ≡ weights J → a ≡ opening → b ≡ a ++ events_from jobs had 0 0
+    → jobs ≡ jobs_released steps → had ≡ served J → worths ≡ weights J → a ≡ opening → b ≡ a ++ events_from jobs had 0 0
     (zip steps worths) → c ≡ b ++ codes "]}\n"
     → c ≡ chrome J
 viewed k steps J of jobs had worths a b c released ran weighed first middle last =
     last ∙ ap (λ t. t ++ codes "]}\n") (middle ∙ ap (λ t. t ++ events_from jobs had 0 0 (zip steps worths)) first)
     ∙ ap (λ js. opening ++ events_from js had 0 0 (zip steps worths) ++ codes "]}\n") (released ∙ jobs_are k steps J of)
     ∙ ap (λ hs. opening ++ events_from J.jobs hs 0 0 (zip steps worths) ++ codes "]}\n") ran
-    ∙ ap (λ ws. opening ++ events_from J.jobs (hads J) 0 0 (zip steps ws) ++ codes "]}\n") weighed
-    ∙ ap (λ es. opening ++ events_from J.jobs (hads J) 0 0 (zip es (weights J)) ++ codes "]}\n") (sym of.prints)
+    ∙ ap (λ ws. opening ++ events_from J.jobs (served J) 0 0 (zip steps ws) ++ codes "]}\n") weighed
+    ∙ ap (λ es. opening ++ events_from J.jobs (served J) 0 0 (zip es (weights J)) ++ codes "]}\n") (sym of.prints)

@@ -1,9 +1,8 @@
 -- Reports for a viewer and on one job, by computation.
-use Rattle.std.proofs.Common.{◌≡◌, [], ◌∷◌, ◌++◌, refl}
-use Rattle.std.specs.Prelude.{codes, Some, None}
+use Rattle.std.proofs.Common.{◌≡◌, [], ◌∷◌, ◌++◌, refl, codes, Some, None}
 use Rattle.std.specs.Fmt.{digits}
 use Rattle.dover_model.specs.Instance.{Instance}
-use Rattle.dover_model.proofs.Written.{job, one}
+use Rattle.dover_model.proofs.rows.Written.{job, one}
 use Rattle.run_reports.proofs.report.WorkedRows.{finish, finishing, held_and_early, anomaly, took_and_early}
 use Rattle.run_reports.proofs.report.WorkedRows.{with_a_factor}
 use Rattle.run_reports.specs.views.Templates.{filled}

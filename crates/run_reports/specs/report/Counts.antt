@@ -4,11 +4,7 @@ use Rattle.std.specs.List.{filter_map, sum_by, count_by}
 use Rattle.std.specs.Option.{option_map_or}
 use Rattle.dover_model.specs.declared.events.Event.{Event}
 use Rattle.dover_model.specs.declared.events.Event.TheVariants.{Release, Abandon}
-use Rattle.dover_model.specs.JobFacts.{JobFacts}
-use Rattle.dover_model.specs.Fraction.{Fraction}
-use Rattle.dover_model.specs.Bound.{bound}
-use Rattle.dover_model.specs.Lines.{with_numbers}
-use Rattle.dover_model.specs.Reports.{is_take}
+use Rattle.dover_model.specs.Common.{JobFacts, Fraction, bound, with_numbers, is_take}
 use Rattle.run_record.specs.intervals.Totals.{is_completion, is_abandonment}
 use Rattle.run_reports.specs.declared.report.counts.Counts.{Counts}
 

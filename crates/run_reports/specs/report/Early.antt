@@ -1,29 +1,26 @@
 -- The jobs that completed with work left, counted step by step.
-use Rattle.std.specs.Prelude.{ℕ, ◌+◌, ◌-◌, ◌<◌, ◌^◌, List, [], ◌∷◌, codes, Bool, nat_lt, if◌then◌else◌, Option}
-use Rattle.std.specs.Prelude.{Some, None, slice_get, slice_index_or}
-use Rattle.std.specs.List.{sum_by, count_by}
+use Rattle.std.specs.Prelude.{ℕ, ◌+◌, ◌-◌, ◌<◌, ◌^◌, List, [], ◌∷◌, codes, Bool, nat_lt, if◌then◌else◌, Option, Some}
+use Rattle.std.specs.Prelude.{None, slice_get, slice_index_or, sum_by, count_by}
 use Rattle.std.specs.Option.{option_map_or}
 use Rattle.dover_model.specs.declared.events.Event.{Event}
 use Rattle.dover_model.specs.declared.events.Event.TheVariants.{Complete}
-use Rattle.dover_model.specs.JobFacts.{JobFacts}
-use Rattle.dover_model.specs.Limits.{last_tick}
-use Rattle.dover_model.specs.Lines.{with_numbers}
+use Rattle.dover_model.specs.Common.{JobFacts, last_tick, with_numbers}
 use Rattle.run_reports.specs.declared.report.early.Early.{Early}
 
 -- the work that is left of the job of number n, by the ticks that the jobs had
 abbrev pub left_in : List JobFacts → List ℕ → ℕ → ℕ
-left_in jobs hads n = option_map_or (λ j. j.work) (slice_get jobs n) 0 - slice_index_or hads n 0
+left_in jobs served n = option_map_or (λ j. j.work) (slice_get jobs n) 0 - slice_index_or served n 0
 
 -- the work that is left of the job that a step completes
 abbrev pub left_at : List JobFacts → List ℕ → Event → ℕ
-left_at jobs hads (Complete at n) = left_in jobs hads n
-left_at jobs hads _ = 0
+left_at jobs served (Complete at n) = left_in jobs served n
+left_at jobs served _ = 0
 
 -- those that these steps complete with work left
 abbrev pub early_of : List JobFacts → List ℕ → List Event → Early
-early_of jobs hads run = record {
-  jobs = count_by (λ e. nat_lt 0 (left_at jobs hads e)) run;
-  left = sum_by (left_at jobs hads) run;
+early_of jobs served run = record {
+  jobs = count_by (λ e. nat_lt 0 (left_at jobs served e)) run;
+  left = sum_by (left_at jobs served) run;
 }
 
 -- with one that has so much left, if any
@@ -45,8 +42,8 @@ lines_where early it = if early then early_line it ∷ [] else []
 
 -- the line of those that these steps complete, where jobs may finish early
 abbrev pub early_lines : Bool → List JobFacts → List ℕ → List Event → List (List ℕ)
-early_lines early jobs hads run = lines_where early (early_of jobs hads run)
+early_lines early jobs served run = lines_where early (early_of jobs served run)
 
 -- what the job of number n had, where jobs may finish early
 abbrev pub had_at : Bool → List ℕ → ℕ → Option ℕ
-had_at early hads n = if early then Some (slice_index_or hads n 0) else None
+had_at early served n = if early then Some (slice_index_or served n 0) else None

@@ -1,8 +1,7 @@
 -- Lines of a report, one after another.
 use Rattle.std.specs.Prelude.{ℕ, List, [], ◌∷◌, ◌++◌, map, codes}
 use Rattle.std.specs.List.{enumerate_from}
-use Rattle.dover_model.specs.Fraction.{Fraction, factor_numbers}
-use Rattle.dover_model.specs.Lines.{with_numbers, in_lines}
+use Rattle.dover_model.specs.Common.{Fraction, factor_numbers, with_numbers, in_lines}
 use Rattle.run_record.specs.declared.intervals.interval.Interval.{Interval}
 
 -- the text with one more line, of this word and these numbers

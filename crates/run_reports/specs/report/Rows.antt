@@ -1,10 +1,8 @@
 -- The rows of a table: a job, and how it ended.
-use Rattle.std.specs.Prelude.{◌≡◌, ℕ, ◌+◌, ◌<◌, ◌≤◌, List, [], ◌∷◌, ◌++◌, length, map, drop, set, ◌==◌, nat_lt}
-use Rattle.std.specs.Prelude.{Bool, true, false}
-use Rattle.std.specs.Prelude.{if◌then◌else◌, slice_get, slice_index_or, Option, Some, None}
-use Rattle.std.specs.Prelude.{codes, decimal}
-use Rattle.std.specs.List.{filter_map, find, flat_map}
-use Rattle.std.specs.Option.{option_map, option_map_or}
+use Rattle.std.specs.Prelude.{◌≡◌, ℕ, ◌+◌, ◌<◌, ◌≤◌, List, [], ◌∷◌, ◌++◌, length, map, drop, set, ◌==◌, nat_lt, Bool}
+use Rattle.std.specs.Prelude.{true, false, if◌then◌else◌, slice_get, slice_index_or, Option, Some, None, codes, decimal}
+use Rattle.std.specs.Prelude.{filter_map, find, flat_map, option_map}
+use Rattle.std.specs.Option.{option_map_or}
 use Rattle.dover_model.specs.declared.events.Event.{Event}
 use Rattle.dover_model.specs.declared.events.Event.TheVariants.{Release, Run, Preempt, Take, Complete, Abandon, End}
 use Rattle.dover_model.specs.JobFacts.{JobFacts, job_numbers}
@@ -87,9 +85,9 @@ pub record Table : Type 0 where
 
 -- what is left of a table, where so many steps are behind and release so many jobs
 abbrev pub rows_left : List Event → Bool → List ℕ → List ℕ → (next number : ℕ) → Table
-rows_left run early hads places next number = record {
+rows_left run early served places next number = record {
   names = names_line early;
-  rows = rows_of_steps (λ n. ending_at run (slice_index_or places n 0)) (had_at early hads) number (drop next run);
+  rows = rows_of_steps (λ n. ending_at run (slice_index_or places n 0)) (had_at early served) number (drop next run);
 }
 
 -- the next release behind so many steps is of this job, and so many steps are behind after it; or there is none

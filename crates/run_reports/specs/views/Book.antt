@@ -5,11 +5,11 @@ use Rattle.dover_model.specs.declared.events.Event.{Event}
 use Rattle.dover_model.specs.declared.events.Event.TheVariants.{Release, Run, Preempt, Take, Complete, Abandon, End}
 use Rattle.run_reports.specs.views.Stays.{next_switch, stays_of}
 use Rattle.run_reports.specs.declared.views.stays.Stay.{Stay}
-use Rattle.run_reports.specs.declared.views.stays.Link.{Link}
+use Rattle.run_reports.specs.declared.views.stays.StayLink.{StayLink}
 
 -- the stays of all jobs, where those of each job begin, and the tick of the next switch
 pub record Book : Type 0 where
-  pub links : List Link
+  pub links : List StayLink
   pub firsts : List ℕ
   pub switch : ℕ
 
@@ -40,15 +40,15 @@ with_step b (Abandon at n) = b
 with_step b (End value) = b
 
 -- at this place, which is counted from 1, stands this stay, and the place of the job's next one, which is lower
-pub record IsLink (links : List Link) (place : ℕ) (stay : Stay) (next : ℕ) : Type 0 where
+pub record IsLink (links : List StayLink) (place : ℕ) (stay : Stay) (next : ℕ) : Type 0 where
   pub index : ℕ
   pub at : place ≡ index + 1
   pub within : index < length links
-  pub is : (d : Link) → get_or links index d ≡ record { stay = stay; next = next }
+  pub is : (d : StayLink) → get_or links index d ≡ record { stay = stay; next = next }
   pub below : next ≤ index
 
 -- from the link at this place on these are the stays
-abbrev pub Threads : List Link → ℕ → List Stay → Type 0
+abbrev pub Threads : List StayLink → ℕ → List Stay → Type 0
 Threads links place [] = place ≡ 0
 Threads links place (stay ∷ stays) = (next : ℕ) × IsLink links place stay next × Threads links next stays
 

@@ -2,9 +2,7 @@
 use Rattle.std.specs.Prelude.{ℕ, ◌+◌, List, [], ◌∷◌, ◌++◌, codes, nat_lt, slice_index_or, if◌then◌else◌}
 use Rattle.dover_model.specs.declared.events.Event.{Event}
 use Rattle.dover_model.specs.declared.events.Event.TheVariants.{Release, Run, Preempt, Take, Complete, Abandon, End}
-use Rattle.dover_model.specs.JobFacts.{JobFacts}
-use Rattle.dover_model.specs.Instance.{Instance}
-use Rattle.dover_model.specs.Observed.{hads}
+use Rattle.dover_model.specs.Common.{JobFacts, Instance, served}
 use Rattle.run_reports.specs.report.Counts.{value_in, value_lost}
 use Rattle.run_reports.specs.report.Early.{left_in}
 use Rattle.run_reports.specs.views.Moments.{moments}
@@ -77,25 +75,25 @@ value_done jobs _ = 0
 
 -- the events of a step, after which so much value is completed and lost, where the jobs under way were worth so much,
 -- and the jobs have had so many ticks at the end
-abbrev pub events_of : List JobFacts → (hads : List ℕ) → (done lost worth : ℕ) → Event → Text
-events_of jobs hads done lost worth (Release n job) = opens n job
-events_of jobs hads done lost worth (Run at n) = begins at n
-events_of jobs hads done lost worth (Preempt at stops starts) = ends at stops ++ begins at starts
-events_of jobs hads done lost worth (Take at stops starts) =
+abbrev pub events_of : List JobFacts → (served : List ℕ) → (done lost worth : ℕ) → Event → Text
+events_of jobs served done lost worth (Release n job) = opens n job
+events_of jobs served done lost worth (Run at n) = begins at n
+events_of jobs served done lost worth (Preempt at stops starts) = ends at stops ++ begins at starts
+events_of jobs served done lost worth (Take at stops starts) =
     ends at stops ++ begins at starts ++ weighed at starts (codes "take") (value_in jobs starts) worth
-events_of jobs hads done lost worth (Complete at n) =
-    ends at n ++ completes at n (left_in jobs hads n) (slice_index_or hads n 0) ++ summed at done lost
-events_of jobs hads done lost worth (Abandon at n) =
+events_of jobs served done lost worth (Complete at n) =
+    ends at n ++ completes at n (left_in jobs served n) (slice_index_or served n 0) ++ summed at done lost
+events_of jobs served done lost worth (Abandon at n) =
     closes at n (codes "abandon") ++ weighed at n (codes "abandon") (value_in jobs n) worth ++ summed at done lost
-events_of jobs hads done lost worth (End value) = []
+events_of jobs served done lost worth (End value) = []
 
 -- the events of these steps, before which so much value is completed and lost
-abbrev pub events_from : List JobFacts → (hads : List ℕ) → (done lost : ℕ) → List (Event × ℕ) → Text
-events_from jobs hads done lost [] = []
-events_from jobs hads done lost (e_w ∷ more) =
+abbrev pub events_from : List JobFacts → (served : List ℕ) → (done lost : ℕ) → List (Event × ℕ) → Text
+events_from jobs served done lost [] = []
+events_from jobs served done lost (e_w ∷ more) =
     let now = done + value_done jobs e_w.0 in
     let gone = lost + value_lost jobs e_w.0 in
-    events_of jobs hads now gone e_w.1 e_w.0 ++ events_from jobs hads now gone more
+    events_of jobs served now gone e_w.1 e_w.0 ++ events_from jobs served now gone more
 
 -- the front of the text, with the name of the processor's track
 abbrev pub opening : Text
@@ -104,4 +102,4 @@ opening = codes
 
 -- the whole text
 abbrev pub chrome : Instance → Text
-chrome J = opening ++ events_from J.jobs (hads J) 0 0 (moments J) ++ codes "]}\n"
+chrome J = opening ++ events_from J.jobs (served J) 0 0 (moments J) ++ codes "]}\n"

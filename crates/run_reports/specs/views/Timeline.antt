@@ -3,10 +3,7 @@ use Rattle.std.specs.Prelude.{ℕ, zero, suc, ◌+◌, ◌-◌, ◌*◌, ◌/◌
 use Rattle.std.specs.Prelude.{false, not, ◌&&◌, nat_lt, nat_le, if◌then◌else◌, Option, Some, None, codes, decimal}
 use Rattle.std.specs.List.{list_any}
 use Rattle.dover_model.specs.declared.events.Event.{Event}
-use Rattle.dover_model.specs.Instance.{Instance}
-use Rattle.dover_model.specs.JobFacts.{JobFacts}
-use Rattle.dover_model.specs.Reports.{summary_lines}
-use Rattle.dover_model.specs.Run.{last_deadline, printed}
+use Rattle.dover_model.specs.Common.{Instance, JobFacts, summary_lines, last_deadline, printed}
 use Rattle.run_reports.specs.report.Rows.{ending_in}
 use Rattle.run_reports.specs.declared.report.endings.Ending.{Ending}
 use Rattle.run_reports.specs.declared.report.endings.Ending.TheVariants.{Completed, Abandoned}

@@ -4,15 +4,9 @@ use Rattle.std.specs.Prelude.{nat_le, nat_lt, if◌then◌else◌, Option, Some,
 use Rattle.std.specs.Option.{option_map_or}
 use Rattle.dover_model.specs.declared.events.Event.{Event}
 use Rattle.dover_model.specs.declared.events.Event.TheVariants.{Release, Run, Preempt, Take, Complete, Abandon, End}
-use Rattle.dover_model.specs.Fraction.{Fraction, fraction}
+use Rattle.dover_model.specs.Common.{Fraction, fraction, greatest, JobFacts, Instance, most_p, served, is_heavy}
+use Rattle.dover_model.specs.Common.{printed}
 use Rattle.dover_model.specs.declared.factors.Factor.{Factor}
-use Rattle.dover_model.specs.Greatest.{greatest}
-use Rattle.dover_model.specs.JobFacts.{JobFacts}
-use Rattle.dover_model.specs.Instance.{Instance}
-use Rattle.dover_model.specs.Limits.{most_p}
-use Rattle.dover_model.specs.Observed.{hads}
-use Rattle.dover_model.specs.Orders.{is_heavy}
-use Rattle.dover_model.specs.Run.{printed}
 use Rattle.root_compare.specs.Least.{least_heavy}
 use Rattle.run_reports.specs.report.Early.{left_at}
 use Rattle.run_record.specs.intervals.Rows.{weights}
@@ -158,17 +152,17 @@ starts_first n (Preempt at stops starts ∷ steps) = starts == n
 starts_first n (_ ∷ steps) = false
 
 -- what is weighed at a step, by the ticks that the jobs have had at the end
-abbrev pub weighed_at : List JobFacts → (hads : List ℕ) → (worth room : ℕ) → Event → Weighed
-weighed_at jobs hads worth room e =
-    record { worth = worth; work = work_of jobs e; room = room; left = left_at jobs hads e }
+abbrev pub weighed_at : List JobFacts → (served : List ℕ) → (worth room : ℕ) → Event → Weighed
+weighed_at jobs served worth room e =
+    record { worth = worth; work = work_of jobs e; room = room; left = left_at jobs served e }
 
 -- what these steps mean for it, before each of which the jobs under way are worth so much and leave so much room
-abbrev pub story_from : Fraction → (n value : ℕ) → List JobFacts → (hads : List ℕ) → Bool → List Event
+abbrev pub story_from : Fraction → (n value : ℕ) → List JobFacts → (served : List ℕ) → Bool → List Event
     → (worths rooms : List ℕ) → Text
-story_from k n value jobs hads on (e ∷ steps) (worth ∷ worths) (room ∷ rooms) =
-    told k n value on (starts_first n steps) (weighed_at jobs hads worth room e) e
-    ++ story_from k n value jobs hads (on_after n on e) steps worths rooms
-story_from k n value jobs hads on _ _ _ = []
+story_from k n value jobs served on (e ∷ steps) (worth ∷ worths) (room ∷ rooms) =
+    told k n value on (starts_first n steps) (weighed_at jobs served worth room e) e
+    ++ story_from k n value jobs served (on_after n on e) steps worths rooms
+story_from k n value jobs served on _ _ _ = []
 
 -- there is no such job
 abbrev pub unknown : ℕ → ℕ → Text
@@ -177,7 +171,7 @@ unknown n count = filled (codes "no job @ among @\n") (n ∷ count ∷ [])
 -- the text on job n, if there is one
 abbrev pub answer : ℕ → Instance → Option JobFacts → Text
 answer n J None = unknown n (length J.jobs)
-answer n J (Some j) = asked n j ++ story_from J.rules.ratio n j.value J.jobs (hads J) false (printed J) (weights J)
+answer n J (Some j) = asked n j ++ story_from J.rules.ratio n j.value J.jobs (served J) false (printed J) (weights J)
     (rooms J)
 
 -- the whole text

@@ -1,9 +1,7 @@
 //! Whether the jobs of a run are no more than a report keeps.
 ghost use Rattle.std.specs.Prelude.{◌≡◌, ◌≤◌, ◌↔◌, IsTrue};
 ghost use Rattle.dover_model.specs.declared.events.Version.TheVariants.{Two};
-ghost use Rattle.dover_model.specs.Instance.{Instance, IsListable, IsValid};
-ghost use Rattle.dover_model.specs.Limits.{most_jobs, most_total};
-ghost use Rattle.dover_model.specs.Run.{printed};
+ghost use Rattle.dover_model.specs.Common.{Instance, IsListable, IsValid, most_jobs, most_total, printed};
 
 use dover_model::{PackedEvent, Version};
 use run_record::intervals::JobTotals;

@@ -1,8 +1,7 @@
 //! Lines of a word and numbers.
 ghost use Rattle.std.specs.Prelude.{◌≡◌, ◌<◌, ◌≤◌, ◌+◌, ◌*◌, ◌++◌, ◌∷◌, [], drop, length, OnOk};
-ghost use Rattle.dover_model.specs.Lines.{with_numbers};
+ghost use Rattle.dover_model.specs.Common.{with_numbers, in_lines};
 ghost use Rattle.line_text.specs.Writing.{numbers_behind};
-ghost use Rattle.dover_model.specs.Lines.{in_lines};
 ghost use Rattle.run_reports.specs.report.Lines.{ratio_line, with_line};
 
 use dover_model::{Memory, Ratio};

@@ -1,8 +1,6 @@
 //! The report and the summary.
 ghost use Rattle.std.specs.Prelude.{◌≡◌, ◌++◌, OnOk, IfOk};
-ghost use Rattle.dover_model.specs.Instance.{Instance};
-ghost use Rattle.dover_model.specs.Lines.{in_lines};
-ghost use Rattle.dover_model.specs.Reports.{report, summary};
+ghost use Rattle.dover_model.specs.Common.{Instance, in_lines, report, summary};
 ghost use Rattle.run_record.specs.intervals.Rows.{IsRunOf};
 ghost use Rattle.run_reports.specs.report.Counts.{fates_lines, counts_lines};
 ghost use Rattle.run_reports.specs.report.Lines.{row_lines};

@@ -1,17 +1,13 @@
 //! The table of jobs, row by row.
 ghost use Rattle.std.specs.Prelude.{◌≡◌, ◌≤◌, ◌+◌, ◌++◌, ◌∷◌, [], length, map, IfOk, decimal, slice_index_or};
-ghost use Rattle.dover_model.specs.Instance.{Instance};
-ghost use Rattle.dover_model.specs.JobFacts.{job_numbers};
-ghost use Rattle.dover_model.specs.Lines.{in_lines};
-ghost use Rattle.dover_model.specs.Fraction.{Fraction};
-ghost use Rattle.dover_model.specs.Reports.{table};
+ghost use Rattle.dover_model.specs.Common.{Instance, job_numbers, in_lines, Fraction, table};
 ghost use Rattle.run_record.specs.intervals.Rows.{IsRunOf};
 ghost use Rattle.line_text.specs.Writing.{most_written};
 ghost use Rattle.run_reports.specs.report.Rows.{after_commas, ending_fields, had_fields, names_line, row_text};
 ghost use Rattle.run_reports.specs.report.Rows.{FindsNext, GivesRow};
 
 use crate::report::counts::releases;
-use crate::report::early::{had_at, hads_where};
+use crate::report::early::{had_at, served_where};
 use crate::report::endings::{Ending, ending_at, endings};
 use dover_model::{Event, Job, Memory, PackedEvent, Version};
 use line_text::BackLine;
@@ -23,7 +19,7 @@ use std::marker::Model;
 pub struct TableRows {
     run: Vec<PackedEvent>,
     early: bool,
-    hads: Vec<u64>,
+    served: Vec<u64>,
     places: Vec<usize>,
     // How many steps are behind, and how many jobs they release.
     next: usize,
@@ -36,7 +32,7 @@ impl Model for TableRows {
 
     ghost Value = { Table };
 
-    ghost view = { λ t. rows_left t.run.items t.early t.hads.items t.places.items t.next t.number };
+    ghost view = { λ t. rows_left t.run.items t.early t.served.items t.places.items t.next t.number };
 
     ghost invariant = { λ t. (t.number ≤ t.next) × (t.next ≤ length t.run.items) };
 }
@@ -51,12 +47,12 @@ impl TableRows {
             → IfOk result (λ t. t.names ++ in_lines t.rows ≡ table J) }
     {
         let early = version.may_finish_early();
-        let hads = hads_where(alloc, early, &run)?;
+        let served = served_where(alloc, early, &run)?;
         let places = endings(alloc, &run, releases(&run))?;
         Ok(TableRows {
             run,
             early,
-            hads,
+            served,
             places,
             next: 0,
             number: 0,
@@ -81,7 +77,7 @@ impl TableRows {
             return false;
         };
         let ending = ending_at(&self.run, place_at(&self.places, self.number));
-        let had = had_at(self.early, &self.hads, self.number);
+        let had = had_at(self.early, &self.served, self.number);
         line.clear();
         write_row(line, self.number as u64, &job, ending, had);
         self.next = next;

@@ -21,7 +21,7 @@ pub struct Stay {
 
 /// A stay, and one more than the place of the job's next one, 0 for none.
 #[derive(Clone, Copy)]
-pub struct Link {
+pub struct StayLink {
     /// The stay.
     pub stay: Stay,
     /// One more than the place of the next one, or 0.
@@ -32,7 +32,7 @@ pub struct Link {
 #[derive(Drop)]
 pub struct Stays {
     /// From the last stay of the run on.
-    links: Vec<Link>,
+    links: Vec<StayLink>,
     /// By number, one more than the place of the job's first stay, 0 for none.
     firsts: Vec<usize>,
     /// The tick of the first step, among those that are read, at which the processor changes hands.
@@ -101,7 +101,7 @@ impl Stays {
                 until: self.switch,
                 took,
             };
-            self.links.push(Link {
+            self.links.push(StayLink {
                 stay,
                 next: self.firsts[number],
             })?;

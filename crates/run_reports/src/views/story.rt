@@ -6,9 +6,8 @@ ghost use Rattle.run_record.specs.intervals.Rows.{IsRunOf};
 ghost use Rattle.run_record.specs.intervals.Rows as rows;
 ghost use Rattle.run_record.specs.ledger.Rooms as tests;
 ghost use Rattle.dover_model.specs.declared.events.Event.{Event};
-ghost use Rattle.dover_model.specs.Fraction.{Fraction, is_factor};
-ghost use Rattle.dover_model.specs.Instance.{Instance};
-ghost use Rattle.dover_model.specs.Limits.{most_total, most_value};
+ghost use Rattle.dover_model.specs.Common.{Fraction, Instance, most_total, most_value};
+ghost use Rattle.dover_model.specs.Fraction.{is_factor};
 ghost use Rattle.dover_model.specs.Observed as observed;
 ghost use Rattle.dover_model.specs.declared.events.Version.TheVariants.{Two};
 ghost use Rattle.run_reports.specs.views.Why as story;
@@ -19,7 +18,7 @@ use crate::views::threshold::greatest_ratio;
 use dover_model::{Event, Factor, Job, Memory, PackedEvent, Ratio};
 use root_compare::least_heavy;
 use run_record::intervals::weights;
-use run_record::ledger::{hads, rooms};
+use run_record::ledger::{rooms, served};
 use std::alloc::Global;
 
 /// The job that is asked about.
@@ -96,13 +95,13 @@ fn put_weighed(
     requires value { asked.now.value ≤ most_value }
     ensures { (J : Instance) → IsRunOf asked.now.k run.now J → jobs.now ≡ J.jobs
         → OnOk result (text.new.items ≡ text.old.items ++ story.story_from
-        asked.now.k asked.now.number asked.now.value jobs.now (observed.hads J) false run.now (rows.weights J)
+        asked.now.k asked.now.number asked.now.value jobs.now (observed.served J) false run.now (rows.weights J)
         (tests.rooms J)) }
 {
     let worths = weights(alloc, asked.k, run)?;
     let rooms = rooms(alloc, asked.k, jobs, run)?;
-    let hads = hads(alloc, jobs, run)?;
-    put_story(text, asked, jobs, &hads, run, &worths, &rooms)
+    let served = served(alloc, jobs, run)?;
+    put_story(text, asked, jobs, &served, run, &worths, &rooms)
 }
 
 /// The text where there is no such job.
@@ -138,7 +137,7 @@ fn put_story(
     text: &mut Vec<u8>,
     asked: &Asked,
     jobs: &[Job],
-    hads: &[u64],
+    served: &[u64],
     run: &[PackedEvent],
     worths: &[u64],
     rooms: &[u64],
@@ -148,7 +147,7 @@ fn put_story(
     requires value { asked.now.value ≤ most_value }
     requires small { AllByRecursion (λ worth. worth ≤ most_total Two) worths.now }
     ensures { OnOk result (text.new.items ≡ text.old.items ++ story.story_from
-        asked.now.k asked.now.number asked.now.value jobs.now hads.now false run.now worths.now rooms.now) }
+        asked.now.k asked.now.number asked.now.value jobs.now served.now false run.now worths.now rooms.now) }
 {
     let mut on = false;
     for (index, event) in run.iter().enumerate() {
@@ -156,7 +155,7 @@ fn put_story(
             worth: worths[index],
             work: work_of(jobs, event),
             room: rooms[index],
-            left: left_at(jobs, hads, event),
+            left: left_at(jobs, served, event),
         };
         let starts = starts_at(asked.number, run, index + 1);
         put_told(text, asked, on, starts, &weighed, event)?;

@@ -1,9 +1,7 @@
 //! Up to which ratio a job is taken at its latest start.
 ghost use Rattle.std.specs.Prelude.{◌≡◌, ◌≤◌, ◌<◌, ◌*◌, ◌↔◌, ℕ, IfSome, IfNone};
-ghost use Rattle.dover_model.specs.Fraction.{IsRatio, fraction};
-ghost use Rattle.dover_model.specs.Limits.{most_p, most_q, most_total, most_value};
+ghost use Rattle.dover_model.specs.Common.{IsRatio, fraction, most_p, most_q, most_total, most_value, IsHeavy};
 ghost use Rattle.dover_model.specs.declared.events.Version.TheVariants.{Two};
-ghost use Rattle.dover_model.specs.Orders.{IsHeavy};
 ghost use Rattle.run_reports.specs.views.Why as story;
 
 use dover_model::ratios::MOST_P;

@@ -1,9 +1,7 @@
 //! A run as events for a viewer of traces.
-ghost use Rattle.std.specs.Prelude.{◌≡◌, ◌≤◌, ◌++◌, ◌∷◌, [], ◌+◌, ◌*◌, length, OnOk, IfOk, codes};
-ghost use Rattle.std.specs.List.{zip};
+ghost use Rattle.std.specs.Prelude.{◌≡◌, ◌≤◌, ◌++◌, ◌∷◌, [], ◌+◌, ◌*◌, length, OnOk, IfOk, codes, zip};
 ghost use Rattle.run_record.specs.intervals.Rows.{IsRunOf};
-ghost use Rattle.dover_model.specs.Instance.{Instance};
-ghost use Rattle.dover_model.specs.Limits.{most_value};
+ghost use Rattle.dover_model.specs.Common.{Instance, most_value};
 ghost use Rattle.run_reports.specs.report.Counts as counts;
 ghost use Rattle.run_reports.specs.views.Chrome as events;
 ghost use Rattle.run_reports.specs.views.Templates.{filled};
@@ -12,7 +10,7 @@ use crate::report::{had_of, left_of, released, value_of};
 use crate::views::template::put;
 use dover_model::{Event, Job, Memory, PackedEvent, Ratio};
 use run_record::intervals::weights;
-use run_record::ledger::hads;
+use run_record::ledger::served;
 use std::alloc::Global;
 
 /// The run that prints these steps as Trace Event JSON, with a tick as a microsecond: the job on the processor, each
@@ -25,12 +23,12 @@ pub fn chrome(alloc: Global, k: Ratio, run: &[PackedEvent]) -> Result<Vec<u8>, M
 {
     let jobs = released(alloc, run)?;
     let worths = weights(alloc, k, run)?;
-    let hads = hads(alloc, &jobs, run)?;
+    let served = served(alloc, &jobs, run)?;
     let mut text = Vec::from_slice(
         alloc,
         b"{\"traceEvents\":[\n{\"pid\":0,\"tid\":0,\"ph\":\"M\",\"name\":\"thread_name\",\"args\":{\"name\":\"processor\"}}\n",
     )?;
-    put_events(&mut text, &jobs, &hads, run, &worths)?;
+    put_events(&mut text, &jobs, &served, run, &worths)?;
     Ok(text)
 }
 
@@ -39,21 +37,21 @@ pub fn chrome(alloc: Global, k: Ratio, run: &[PackedEvent]) -> Result<Vec<u8>, M
 fn put_events(
     text: &mut Vec<u8>,
     jobs: &[Job],
-    hads: &[u64],
+    served: &[u64],
     run: &[PackedEvent],
     worths: &[u64],
 ) -> Result<(), Memory>
     requires few { length run.now ≤ 5_000_001 }
     requires same { length worths.now ≡ length run.now }
     ensures { OnOk result (text.new.items
-        ≡ text.old.items ++ events.events_from jobs.now hads.now 0 0 (zip run.now worths.now) ++ codes "]}\n") }
+        ≡ text.old.items ++ events.events_from jobs.now served.now 0 0 (zip run.now worths.now) ++ codes "]}\n") }
 {
     let mut done = 0;
     let mut lost = 0;
     for (index, event) in run.iter().enumerate() {
         done += value_done(jobs, event);
         lost += value_lost(jobs, event);
-        put_event(text, jobs, hads, event, done, lost, worths[index])?;
+        put_event(text, jobs, served, event, done, lost, worths[index])?;
     }
     text.extend_from_slice(b"]}\n")?;
     Ok(())
@@ -85,14 +83,14 @@ fn value_lost(jobs: &[Job], event: &PackedEvent) -> u64
 fn put_event(
     text: &mut Vec<u8>,
     jobs: &[Job],
-    hads: &[u64],
+    served: &[u64],
     event: &PackedEvent,
     done: u64,
     lost: u64,
     worth: u64,
 ) -> Result<(), Memory>
     ensures { OnOk result (text.new.items
-        ≡ text.old.items ++ events.events_of jobs.now hads.now done lost worth event.now) }
+        ≡ text.old.items ++ events.events_of jobs.now served.now done lost worth event.now) }
 {
     match event.event() {
         Event::Release { number, job } => put_opens(text, u64::from(number), &job),
@@ -115,8 +113,8 @@ fn put_event(
             text,
             at,
             u64::from(number),
-            left_of(jobs, hads, number as usize),
-            had_of(hads, number as usize),
+            left_of(jobs, served, number as usize),
+            had_of(served, number as usize),
             done,
             lost,
         ),

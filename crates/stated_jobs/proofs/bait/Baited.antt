@@ -1,41 +1,28 @@
 -- The run of a baiting feed is worth the last link.
 use Rattle.std.proofs.Common.{◌≡◌, ℕ, zero, suc, ◌+◌, ◌-◌, ◌*◌, ◌≤◌, ◌<◌, ◌⊎◌, inl, inr, List, [], ◌∷◌, refl, sym, ap}
-use Rattle.std.proofs.Common.{◌∙◌, subst, Bool, true, false, cond}
-use Rattle.std.proofs.Common.{arith, eqb}
-use Rattle.std.specs.Prelude.{None}
-use Rattle.std.proofs.lemmas.Bool.{eq-eqb, ne_eqb, eqb-true}
-use Rattle.dover_model.specs.Fraction.{Fraction, IsRatio}
-use Rattle.dover_model.specs.JobFacts.{JobFacts, IsJob}
-use Rattle.dover_model.specs.Instance.{Instance, IsValid}
-use Rattle.dover_model.specs.Orders.{is_heavy}
-use Rattle.dover_model.specs.Bait.{unit_value, most_light, first_link, bait_value, bait_tick, tight_job, chain_jobs}
-use Rattle.dover_model.specs.Bait.{bait_jobs, last_link}
+use Rattle.std.proofs.Common.{◌∙◌, subst, Bool, true, false, cond, arith, eqb, None, eq-eqb, ne_eqb, eqb-true}
+use Rattle.dover_model.specs.Common.{Fraction, IsRatio, JobFacts, IsJob, Instance, IsValid, is_heavy, unit_value}
+use Rattle.dover_model.specs.Common.{most_light, first_link, bait_value, bait_tick, tight_job, chain_jobs, bait_jobs}
+use Rattle.dover_model.specs.Common.{last_link, opening, step, Step, run, completed_value, step_at, IsMember, Each}
+use Rattle.dover_model.specs.Common.{Keeps}
 use Rattle.dover_model.specs.declared.events.Version.{Version}
 use Rattle.dover_model.specs.declared.events.Role.TheVariants.{Coming, Running}
-use Rattle.dover_model.specs.State.{opening}
-use Rattle.dover_model.specs.Step.{step}
-use Rattle.dover_model.specs.Run.{Step, run, completed_value}
-use Rattle.dover_model.specs.WholeRun.{step_at}
-use Rattle.dover_model.specs.Sound.{IsMember, Each, Keeps}
-use Rattle.dover_model.proofs.Members.{all_member, member_behind, sum_same}
-use Rattle.dover_model.proofs.Tests.{never}
-use Rattle.dover_model.proofs.Kept.{step_deed, opening_keeps, come_coming}
-use Rattle.dover_model.proofs.Ending.{run_is_whole, run_over}
-use Rattle.dover_model.proofs.Runs.{run_states, value_of_run}
+use Rattle.dover_model.proofs.lists.Members.{all_member, member_behind, sum_same}
+use Rattle.dover_model.proofs.lists.Tests.{never}
+use Rattle.dover_model.proofs.steps.Kept.{step_deed, opening_keeps, come_coming}
+use Rattle.dover_model.proofs.runs.Ending.{run_is_whole, run_over}
+use Rattle.dover_model.proofs.runs.Runs.{run_states, value_of_run}
 use Rattle.stated_jobs.specs.bait.BaitingRuns.{baiting}
 use Rattle.stated_jobs.proofs.bait.Heavy.{light_least}
 use Rattle.stated_jobs.proofs.bait.RunWeights.{most_light_light, unit_light}
 use Rattle.stated_jobs.proofs.bait.RunLinks.{last_from, end_from, links, last_is, end_is, IsTight, links_tight}
-use Rattle.stated_jobs.proofs.bait.RunLinks.{links_due}
-use Rattle.stated_jobs.proofs.bait.RunLinks.{AreSmall, links_above, last_above}
-use Rattle.stated_jobs.proofs.bait.RunLinks.{last_small, last_more, links_most, links_heavier, HasNext, links_next}
-use Rattle.stated_jobs.proofs.bait.RunLinks.{links_last}
-use Rattle.stated_jobs.proofs.bait.RunLinks.{links_one}
+use Rattle.stated_jobs.proofs.bait.RunLinks.{links_due, AreSmall, links_above, last_above, last_small, last_more}
+use Rattle.stated_jobs.proofs.bait.RunLinks.{links_most, links_heavier, HasNext, links_next, links_last, links_one}
 use Rattle.stated_jobs.proofs.bait.RunFeeds.{unit_at, IsUnit, bait, feed_is, link_in_feed, feed_begins, feed_sum}
 use Rattle.stated_jobs.proofs.bait.Steady.{IsLast, IsChained, Stands, IsSteady, done_at_end, step_steady}
 use Rattle.stated_jobs.proofs.bait.Steady.{value_of_steady}
-use Rattle.dover_model.proofs.ValidParts.{valid_parts}
-use Rattle.dover_model.proofs.JobLimits.{job_limits}
+use Rattle.dover_model.proofs.valid.ValidParts.{valid_parts}
+use Rattle.dover_model.proofs.valid.JobLimits.{job_limits}
 
 module _ (k : Fraction) (version : Version) (n : ℕ) (valid : IsValid (baiting k version (suc n))) where
   -- the feed

@@ -1,11 +1,9 @@
 -- A chain, value by value.
 use Rattle.std.proofs.Common.{◌≡◌, ℕ, zero, suc, ◌+◌, ◌-◌, ◌*◌, ◌≤◌, ◌<◌, List, [], ◌∷◌, Some, None, true, false, refl}
-use Rattle.std.proofs.Common.{sym, ap, ◌∙◌, arith, Fits, w64}
-use Rattle.std.specs.Prelude.{unwrap_or}
-use Rattle.std.specs.List.{sum, last_or}
+use Rattle.std.proofs.Common.{sym, ap, ◌∙◌, arith, Fits, w64, unwrap_or, sum}
+use Rattle.std.specs.List.{last_or}
 use Rattle.std.proofs.lemmas.List.Sums.{sum_by-cons}
-use Rattle.dover_model.specs.Fraction.{Fraction}
-use Rattle.dover_model.specs.Bait.{most_light, chain_from, chain, first_link, last_link}
+use Rattle.dover_model.specs.Common.{Fraction, most_light, chain_from, chain, first_link, last_link}
 
 -- one value, and the others from the least that is heavy against it
 pub chain_step : (k : Fraction) (more less w light : ℕ) → more ≡ suc less → light ≡ most_light k w

@@ -1,12 +1,9 @@
 -- The jobs that are still to come, one by one: a link of the tick, else the tick's unit job, else the bait.
 use Rattle.std.proofs.Common.{◌≡◌, ℕ, zero, suc, ◌+◌, ◌-◌, ◌≤◌, ◌<◌, List, [], ◌∷◌, ◌++◌, cond, eqb, refl, ap, ◌∙◌}
-use Rattle.std.proofs.Common.{arith}
-use Rattle.std.specs.List.{filter, flat_map, range_with_len, AllByRecursion, sum}
-use Rattle.std.proofs.lemmas.Bool.{eq-eqb, ne_eqb}
+use Rattle.std.proofs.Common.{arith, filter, flat_map, sum, eq-eqb, ne_eqb}
+use Rattle.std.specs.List.{range_with_len, AllByRecursion}
 use Rattle.std.proofs.lemmas.List.Sums.{sum_by-cons}
-use Rattle.dover_model.specs.Fraction.{Fraction}
-use Rattle.dover_model.specs.JobFacts.{JobFacts}
-use Rattle.dover_model.specs.Bait.{chain_from, tight_job, chain_jobs_from, most_light}
+use Rattle.dover_model.specs.Common.{Fraction, JobFacts, chain_from, tight_job, chain_jobs_from, most_light}
 use Rattle.stated_jobs.specs.bait.Baiting.{jobs_from}
 
 -- the jobs of a list that are released at a tick

@@ -11,26 +11,19 @@ use Rattle.dover_model.specs.declared.events.Role.{Role}
 use Rattle.dover_model.specs.declared.events.Role.TheVariants.{Coming, Fresh, Waiting, Held, Running, Done, Gone}
 use Rattle.dover_model.specs.declared.events.Event.TheVariants.{Complete, End}
 use Rattle.dover_model.specs.declared.events.Task.{Task}
-use Rattle.dover_model.specs.JobFacts.{JobFacts}
-use Rattle.dover_model.specs.Fraction.{Fraction}
-use Rattle.dover_model.specs.Instance.{Instance, IsValid}
-use Rattle.dover_model.specs.Bait.{first_link, bait_jobs, chain_jobs, bait_value}
-use Rattle.dover_model.specs.State.{State, opening, is_done, is_over, left, privileged, value_sum}
-use Rattle.dover_model.specs.Orders.{is_heavy}
-use Rattle.dover_model.specs.Step.{Move, Prints, Ticks, step, after, ending, ◌or_else◌, with_role, displaced, ticked}
-use Rattle.dover_model.specs.Run.{Step, is_end, run}
-use Rattle.dover_model.specs.WholeRun.{IsWholeRun}
-use Rattle.dover_model.specs.Processor.{is_complete}
-use Rattle.dover_model.specs.Sound.{IsMember, Each, IsSound, jobs_of, Keeps}
-use Rattle.dover_model.proofs.Members.{on_map, map_member, sum_filter, sum_zero}
-use Rattle.dover_model.proofs.Roles.{one_number, passes, is_over_role}
-use Rattle.dover_model.proofs.OneChange.{state_with, on_changed, changed_here, changed_there}
-use Rattle.dover_model.proofs.Ticking.{Quiet}
-use Rattle.dover_model.proofs.Deeds.{Deed, Completed, Resumed, Started, Began, Preempted, Stayed, Arrived, Taken}
-use Rattle.dover_model.proofs.Deeds.{Abandoned, Rested}
-use Rattle.dover_model.proofs.Kept.{step_deed, step_kept, opening_keeps, come_coming, end_same}
-use Rattle.dover_model.proofs.Ending.{end_over, run_is_whole}
-use Rattle.dover_model.specs.Weights.{one_if}
+use Rattle.dover_model.specs.Common.{JobFacts, Fraction, Instance, IsValid, first_link, bait_jobs, chain_jobs}
+use Rattle.dover_model.specs.Common.{bait_value, State, opening, is_done, is_over, left, privileged, value_sum}
+use Rattle.dover_model.specs.Common.{is_heavy, Move, Prints, Ticks, step, after, ending, ◌or_else◌, with_role}
+use Rattle.dover_model.specs.Common.{displaced, ticked, Step, is_end, run, IsWholeRun, is_complete, IsMember, Each}
+use Rattle.dover_model.specs.Common.{IsSound, jobs_of, Keeps, one_if}
+use Rattle.dover_model.proofs.lists.Members.{on_map, map_member, sum_filter, sum_zero}
+use Rattle.dover_model.proofs.steps.Roles.{one_number, passes, is_over_role}
+use Rattle.dover_model.proofs.steps.OneChange.{state_with, on_changed, changed_here, changed_there}
+use Rattle.dover_model.proofs.steps.Ticking.{Quiet}
+use Rattle.dover_model.proofs.steps.Deeds.{Deed, Completed, Resumed, Started, Began, Preempted, Stayed, Arrived, Taken}
+use Rattle.dover_model.proofs.steps.Deeds.{Abandoned, Rested}
+use Rattle.dover_model.proofs.steps.Kept.{step_deed, step_kept, opening_keeps, come_coming, end_same}
+use Rattle.dover_model.proofs.runs.Ending.{end_over, run_is_whole}
 use Rattle.stated_jobs.specs.bait.BaitingRuns.{baiting, CompletesLastAlone}
 use Rattle.stated_jobs.proofs.bait.Steady.{IsLast, IsChained, IsSteady, alone, stands_as, differ, completes}
 use Rattle.stated_jobs.proofs.bait.Steady.{no_preemption}
@@ -60,13 +53,8 @@ still_done s sound false r member new was not_new none =
 
 -- what is displaced isn't done, if it wasn't
 displaced_done : (role : Role) → displaced role ≡ Done → role ≡ Done
-displaced_done Coming e = absurd (cc)
-displaced_done Fresh e = absurd (cc)
-displaced_done Waiting e = absurd (cc)
-displaced_done Held e = absurd (cc)
-displaced_done Running e = absurd (cc)
 displaced_done Done e = e
-displaced_done Gone e = absurd (cc)
+displaced_done _ e = absurd (cc)
 
 -- a move by which a job is done, or that leaves it as it is
 record Counts (done : Bool) (s : State) (m : Move) : Type 0 where
@@ -97,6 +85,10 @@ module _ (k : Fraction) (jobs : List JobFacts) (most : ℕ) (Link Light : JobFac
     balance = refl;
   }
 
+  -- no other step changes how many are done
+  same_counts : (done : Bool) (m : Move) → is_complete m ≡ false → SomeDone done (after s m).tasks → Counts done s m
+  same_counts done m other some = record { then_done = done; some = some; balance = omega (arith, ap one_if other) }
+
   -- a take changes nothing of it
   taken_counts : (done : Bool) → SomeDone done s.tasks
       → (r x : Task) (member : IsMember r s.tasks) (runs : r.role ≡ Running) (some : 1 ≤ left r)
@@ -122,43 +114,24 @@ module _ (k : Fraction) (jobs : List JobFacts) (most : ℕ) (Link Light : JobFac
       → Counts done s m
   deed_counts other done it rested m (Completed r member runs) ends =
       completed_counts done it r member runs (ends refl r member runs)
-  deed_counts other done it rested m (Resumed p member is_h none least why) _ = record {
-    then_done = done;
-    some = still_done s sound done p member Running (not_done p Held is_h (λ e. cc)) (λ e. cc) it;
-    balance = omega arith;
-  }
-  deed_counts other done it rested m (Started o member waiting none before fits next) _ = record {
-    then_done = done;
-    some = still_done s sound done o member Running (not_done o Waiting waiting (λ e. cc)) (λ e. cc) it;
-    balance = omega arith;
-  }
-  deed_counts other done it rested m (Began f member fresh none free) _ = record {
-    then_done = done;
-    some = still_done s sound done f member Running (not_done f Fresh fresh (λ e. cc)) (λ e. cc) it;
-    balance = omega arith;
-  }
+  deed_counts other done it rested m (Resumed p member is_h none least why) _ = same_counts done _ refl
+      (still_done s sound done p member Running (not_done p Held is_h (λ e. cc)) (λ e. cc) it)
+  deed_counts other done it rested m (Started o member waiting none before fits next) _ = same_counts done _ refl
+      (still_done s sound done o member Running (not_done o Waiting waiting (λ e. cc)) (λ e. cc) it)
+  deed_counts other done it rested m (Began f member fresh none free) _ = same_counts done _ refl
+      (still_done s sound done f member Running (not_done f Fresh fresh (λ e. cc)) (λ e. cc) it)
   deed_counts other done it rested m (Preempted r f member runs some f_member fresh before fits) _ =
       absurd (no_preemption k jobs most Link Light chained s sound are steady r f member runs f_member fresh fits)
-  deed_counts other done it rested m (Stayed r f member runs some f_member fresh why) _ = record {
-    then_done = done;
-    some = still_done s sound done f f_member Waiting (not_done f Fresh fresh (λ e. cc)) (λ e. cc) it;
-    balance = omega arith;
-  }
-  deed_counts other done it rested m (Arrived c member comes now least stale busy free) _ = record {
-    then_done = done;
-    some = still_done s sound done c member Fresh (not_done c Coming comes (λ e. cc)) (λ e. cc) it;
-    balance = omega arith;
-  }
-  deed_counts other done it rested m (Taken r x member runs some x_member waiting now stale heavy) _ = record {
-    then_done = done;
-    some = taken_counts done it r x member runs some x_member waiting heavy;
-    balance = omega arith;
-  }
-  deed_counts other done it rested m (Abandoned r x member runs some x_member waiting now stale light) _ = record {
-    then_done = done;
-    some = still_done s sound done x x_member Gone (not_done x Waiting waiting (λ e. cc)) (λ e. cc) it;
-    balance = omega arith;
-  }
+  deed_counts other done it rested m (Stayed r f member runs some f_member fresh why) _ = same_counts done _ refl
+      (still_done s sound done f f_member Waiting (not_done f Fresh fresh (λ e. cc)) (λ e. cc) it)
+  deed_counts other done it rested m (Arrived c member comes now least stale busy free) _ = same_counts done _ refl
+      (still_done s sound done c member Fresh (not_done c Coming comes (λ e. cc)) (λ e. cc) it)
+  deed_counts other done it rested m (Taken r x member runs some x_member waiting now stale heavy) _ =
+      same_counts done _ refl
+      (taken_counts done it r x member runs some x_member waiting heavy)
+  deed_counts other done it rested m (Abandoned r x member runs some x_member waiting now stale light) _ =
+      same_counts done _ refl
+      (still_done s sound done x x_member Gone (not_done x Waiting waiting (λ e. cc)) (λ e. cc) it)
   deed_counts other done it rested m (Rested quiet) _ = rested quiet
 
   -- a silent tick changes nothing of it
@@ -173,12 +146,9 @@ module _ (k : Fraction) (jobs : List JobFacts) (most : ℕ) (Link Light : JobFac
       deed_counts (ending s or_else Ticks) done it (by_end (list_all is_over s.tasks)) m deed ends where
         by_end : (b : Bool) → Quiet s
             → Counts done s (then_some b (Prints (End (value_sum (filter is_done s.tasks)))) or_else Ticks)
-        by_end true quiet = record {
-          then_done = done;
-          some = subst (SomeDone done) (sym (end_same s (value_sum (filter is_done s.tasks)))) it;
-          balance = omega arith;
-        }
-        by_end false quiet = record { then_done = done; some = ticks_counts done it; balance = omega arith }
+        by_end true quiet =
+            same_counts done _ refl (subst (SomeDone done) (sym (end_same s (value_sum (filter is_done s.tasks)))) it)
+        by_end false quiet = same_counts done _ refl (ticks_counts done it)
 
   -- where all jobs are over, one is done
   over_done : (done : Bool) → SomeDone done s.tasks → Each (λ t. is_over t ≡ true) s.tasks → done ≡ true

@@ -1,17 +1,12 @@
 -- At ratio one each link is twice the one before it and one, and the schedule is worth almost four times the last.
 use Rattle.std.proofs.Common.{◌≡◌, ℕ, zero, suc, ◌+◌, ◌-◌, ◌*◌, ◌/◌, ◌^◌, ◌≤◌, ◌<◌, [], ◌∷◌, sym, ap, ◌∙◌, subst, arith}
-use Rattle.std.specs.Prelude.{None}
-use Rattle.std.specs.List.{sum}
+use Rattle.std.proofs.Common.{None, sum}
 use Rattle.std.proofs.lemmas.List.Sums.{sum_by-cons}
 use Rattle.std.proofs.Math.Nat.{pow-succ', div_self, mul-div_cancel_left}
 use Rattle.dover_model.specs.declared.events.Version.TheVariants.{Two}
-use Rattle.dover_model.specs.Limits.{most_jobs}
-use Rattle.dover_model.specs.Fraction.{Fraction, IsRatio}
-use Rattle.dover_model.specs.Greatest.{greatest}
-use Rattle.dover_model.specs.Orders.{is_heavy}
-use Rattle.dover_model.specs.Bait.{unit_value, most_light, first_link, chain_from, chain, last_link, bait_value}
-use Rattle.dover_model.specs.Bait.{bait_tick, plan_value}
-use Rattle.dover_model.proofs.Calculus.{square_order, heavy_more}
+use Rattle.dover_model.specs.Common.{most_jobs, Fraction, IsRatio, greatest, is_heavy, unit_value, most_light}
+use Rattle.dover_model.specs.Common.{first_link, chain_from, chain, last_link, bait_value, bait_tick, plan_value}
+use Rattle.dover_model.proofs.bound.Calculus.{square_order, heavy_more}
 use Rattle.root_compare.proofs.Roots.{one_greatest}
 use Rattle.stated_jobs.specs.bait.Baiting.{FitsLimits}
 use Rattle.stated_jobs.proofs.bait.Heavy.{is_light, light_is, root_is, heavy_zero, first_is}
@@ -19,7 +14,7 @@ use Rattle.stated_jobs.proofs.bait.Coming.{sum_least}
 use Rattle.stated_jobs.proofs.bait.Chains.{last_from}
 use Rattle.stated_jobs.proofs.bait.Feeds.{small}
 use Rattle.stated_jobs.proofs.bait.Validity.{last_link_within}
-use Rattle.dover_model.proofs.JobLimits.{ratio_limits}
+use Rattle.dover_model.proofs.valid.JobLimits.{ratio_limits}
 
 -- one more power
 double : (power more w next last : ℕ) → more ≡ 2 * power → next ≡ w + w + 1 → last + 1 ≡ power * (next + 1)

@@ -6,19 +6,15 @@ use Rattle.std.specs.List.{sum, AllByRecursion}
 use Rattle.std.proofs.lemmas.List.Sums.{sum_by-cons}
 use Rattle.std.proofs.Math.Nat.{div-le_self, le-div_iff_mul-le}
 use Rattle.dover_model.specs.declared.events.Version.TheVariants.{Two}
-use Rattle.dover_model.specs.Limits.{most_jobs, most_value}
-use Rattle.dover_model.specs.Fraction.{Fraction, IsRatio}
-use Rattle.dover_model.specs.JobFacts.{JobFacts}
-use Rattle.dover_model.specs.Instance.{total_value}
-use Rattle.dover_model.specs.Sound.{IsMember}
-use Rattle.dover_model.proofs.Members.{all_member}
-use Rattle.dover_model.specs.Bait.{unit_value, first_link, most_light, chain_from, chain, bait_value, tight_job}
-use Rattle.dover_model.specs.Bait.{chain_jobs, bait_tick, bait_jobs}
+use Rattle.dover_model.specs.Common.{most_jobs, most_value, Fraction, IsRatio, JobFacts, total_value, IsMember}
+use Rattle.dover_model.specs.Common.{unit_value, first_link, most_light, chain_from, chain, bait_value, tight_job}
+use Rattle.dover_model.specs.Common.{chain_jobs, bait_tick, bait_jobs}
+use Rattle.dover_model.proofs.lists.Members.{all_member}
 use Rattle.stated_jobs.specs.bait.Baiting.{FitsLimits}
 use Rattle.stated_jobs.proofs.bait.Coming.{are_some, sum_least}
 use Rattle.stated_jobs.proofs.bait.Streaming.{Streams, gives_link, gives_unit, gives_bait, LeadsTo, plan_from, streams}
-use Rattle.dover_model.proofs.ValidParts.{ReleasesInOrder}
-use Rattle.dover_model.proofs.JobLimits.{ratio_limits}
+use Rattle.dover_model.proofs.valid.ValidParts.{ReleasesInOrder}
+use Rattle.dover_model.proofs.valid.JobLimits.{ratio_limits}
 
 module _ (unit bait : ℕ) where
   -- how many jobs there are

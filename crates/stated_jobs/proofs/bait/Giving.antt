@@ -1,19 +1,13 @@
 -- What the fields of a Bait say, and what they become when a job is given.
 use Rattle.std.proofs.Common.{◌≡◌, ℕ, zero, suc, ◌+◌, ◌-◌, ◌*◌, ◌≤◌, ◌<◌, ◌⊎◌, inl, inr, List, [], ◌∷◌, Bool, true}
-use Rattle.std.proofs.Common.{false, cond, length, sym, ap}
-use Rattle.std.proofs.Common.{◌∙◌, subst}
-use Rattle.std.proofs.Common.{arith, Fits, w32, w64}
-use Rattle.std.specs.List.{sum}
+use Rattle.std.proofs.Common.{false, cond, length, sym, ap, ◌∙◌, subst, arith, Fits, w32, w64, sum}
 use Rattle.std.proofs.lemmas.Nat.{mul-le}
 use Rattle.std.proofs.lemmas.Bool.{cases_lt}
 use Rattle.std.proofs.lemmas.List.Sums.{sum_by-cons}
 use Rattle.dover_model.specs.declared.events.Version.TheVariants.{Two}
-use Rattle.dover_model.specs.Limits.{most_jobs, most_value, last_tick}
-use Rattle.dover_model.specs.Fraction.{Fraction}
-use Rattle.dover_model.specs.JobFacts.{JobFacts}
-use Rattle.dover_model.specs.Bait.{most_light, first_link, chain_from, chain, bait_tick, bait_value, chain_jobs_from}
-use Rattle.dover_model.specs.Bait.{tight_job, bait_jobs}
-use Rattle.dover_model.specs.Bait.{unit_value, plan_value}
+use Rattle.dover_model.specs.Common.{most_jobs, most_value, last_tick, Fraction, JobFacts, most_light, first_link}
+use Rattle.dover_model.specs.Common.{chain_from, chain, bait_tick, bait_value, chain_jobs_from, tight_job, bait_jobs}
+use Rattle.dover_model.specs.Common.{unit_value, plan_value}
 use Rattle.stated_jobs.specs.declared.bait.feed.Bait.TheInside.{Inside}
 use Rattle.stated_jobs.specs.bait.Baiting.{Baiting, FitsLimits, jobs_from}
 use Rattle.stated_jobs.specs.bait.Kept.{IsKept}

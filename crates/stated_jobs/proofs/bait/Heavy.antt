@@ -1,23 +1,19 @@
 -- The values of the chain: the greatest value that isn't heavy, and the least against which a unit job isn't.
 use Rattle.std.proofs.Common.{◌≡◌, ℕ, suc, ◌+◌, ◌-◌, ◌*◌, ◌/◌, ◌^◌, ◌≤◌, ◌<◌, ◌⊎◌, inl, inr, refl, sym, ◌∙◌, subst}
-use Rattle.std.proofs.Common.{Bool, true, false, IsTrue, arith}
-use Rattle.std.specs.Prelude.{not, Option, Some, None}
+use Rattle.std.proofs.Common.{Bool, true, false, IsTrue, arith, not, Option, Some, None}
 use Rattle.std.proofs.lemmas.Bool.{cases_lt}
 use Rattle.std.proofs.lemmas.Nat.{mul-le}
 use Rattle.std.proofs.Math.Nat.{mul-div-le, le-div_iff_mul-le, div-le_self}
-use Rattle.dover_model.specs.Fraction.{Fraction, IsRatio, is_some_factor}
+use Rattle.dover_model.specs.Common.{Fraction, IsRatio, is_some_factor, IsGreatest, greatest, IsHeavy, is_heavy}
+use Rattle.dover_model.specs.Common.{most_light, IsExcessBy}
 use Rattle.dover_model.specs.declared.factors.Factor.{Factor}
-use Rattle.dover_model.specs.Greatest.{IsGreatest, greatest}
-use Rattle.dover_model.specs.Orders.{IsHeavy, is_heavy}
-use Rattle.dover_model.specs.Bait.{most_light}
 use Rattle.stated_jobs.specs.bait.Links.{IsLeastUnmoved, IsLeastHeavy, IsMostLight}
-use Rattle.dover_model.proofs.Tests.{never}
-use Rattle.dover_model.specs.Books.{IsExcessBy}
-use Rattle.dover_model.proofs.Calculus.{HeavyBy, heavy_mono, heavy_more, heavy_up, not_heavy, square_order}
-use Rattle.dover_model.proofs.Calculus.{heavy_excess, root_from, factor_from, factor_over}
-use Rattle.dover_model.proofs.GreatestLaws.{IsDownwardClosed, greatest-is}
+use Rattle.dover_model.proofs.lists.Tests.{never}
+use Rattle.dover_model.proofs.bound.Calculus.{HeavyBy, heavy_mono, heavy_more, heavy_up, not_heavy, square_order}
+use Rattle.dover_model.proofs.bound.Calculus.{heavy_excess, root_from, factor_from, factor_over}
+use Rattle.dover_model.proofs.bound.GreatestLaws.{IsDownwardClosed, greatest-is}
 use Rattle.root_compare.proofs.Roots.{one_greatest}
-use Rattle.dover_model.proofs.JobLimits.{ratio_limits, FactorLimits, factor_limits}
+use Rattle.dover_model.proofs.valid.JobLimits.{ratio_limits, FactorLimits, factor_limits}
 
 -- ---- tests that fail
 

@@ -1,11 +1,9 @@
 -- Each value of a chain is the least that takes the processor from the one before it.
-use Rattle.std.proofs.Common.{◌≡◌, ℕ, zero, suc, ◌+◌, ◌*◌, ◌/◌, ◌≤◌, ◌<◌, refl, List, [], ◌∷◌, ◌++◌, subst, arith}
-use Rattle.std.specs.List.{sum}
+use Rattle.std.proofs.Common.{◌≡◌, ℕ, zero, suc, ◌+◌, ◌*◌, ◌/◌, ◌≤◌, ◌<◌, refl, List, [], ◌∷◌, ◌++◌, subst, arith, sum}
 use Rattle.std.proofs.lemmas.List.Sums.{sum_by-cons}
 use Rattle.dover_model.specs.declared.events.Version.TheVariants.{Two}
-use Rattle.dover_model.specs.Limits.{most_jobs}
-use Rattle.dover_model.specs.Fraction.{Fraction, IsRatio, with_factor}
-use Rattle.dover_model.specs.Bait.{unit_value, first_link, most_light, chain_from, chain, last_link, bait_value}
+use Rattle.dover_model.specs.Common.{most_jobs, Fraction, IsRatio, with_factor, unit_value, first_link, most_light}
+use Rattle.dover_model.specs.Common.{chain_from, chain, last_link, bait_value}
 use Rattle.stated_jobs.specs.bait.Baiting.{FitsLimits}
 use Rattle.stated_jobs.specs.bait.Links.{IsLeastUnmoved, IsLeastHeavy, IsMostLight}
 use Rattle.stated_jobs.proofs.bait.Feeds.{small, unit_low, unit_some}

@@ -1,25 +1,19 @@
 -- The schedule of the unit jobs and the bait, tick by tick, and what it is worth.
 use Rattle.std.proofs.Common.{◌≡◌, ℕ, zero, suc, ◌+◌, ◌-◌, ◌*◌, ◌≤◌, ◌<◌, ◌⊎◌, inl, inr, List, [], ◌∷◌, ◌++◌, cond, eqb}
-use Rattle.std.proofs.Common.{refl, sym, ap, ◌∙◌}
-use Rattle.std.proofs.Common.{length, take, drop, replicate, arith, length-append}
-use Rattle.std.specs.Prelude.{map}
-use Rattle.std.specs.List.{sum, sum_by, count_by, flat_map, range_with_len, enumerate_from, AllByRecursion}
-use Rattle.std.proofs.lemmas.Bool.{cases_lt, le-leb, lt-leb, eq-eqb, ne_eqb}
-use Rattle.std.specs.Prelude.{if◌then◌else◌}
+use Rattle.std.proofs.Common.{refl, sym, ap, ◌∙◌, length, take, drop, replicate, arith, length-append, map, sum, sum_by}
+use Rattle.std.proofs.Common.{count_by, flat_map, le-leb, eq-eqb, ne_eqb, if◌then◌else◌}
+use Rattle.std.specs.List.{range_with_len, enumerate_from, AllByRecursion}
+use Rattle.std.proofs.lemmas.Bool.{cases_lt, lt-leb}
 use Rattle.std.proofs.lemmas.List.{drop-take}
 use Rattle.std.proofs.lemmas.List.Sums.{sum_by-cons}
 use Rattle.dover_model.specs.declared.events.Version.{Version}
-use Rattle.dover_model.specs.Fraction.{Fraction}
-use Rattle.dover_model.specs.JobFacts.{JobFacts}
-use Rattle.dover_model.specs.Schedules.{ticks_given, is_served, worth}
-use Rattle.dover_model.specs.Instance.{jobs_under}
-use Rattle.dover_model.specs.Bait.{unit_value, first_link, chain, bait_value, tight_job, chain_jobs_from, chain_jobs}
-use Rattle.dover_model.specs.Bait.{bait_tick}
-use Rattle.dover_model.specs.Bait.{bait_jobs, unit_number, bait_plan, plan_value}
+use Rattle.dover_model.specs.Common.{Fraction, JobFacts, ticks_given, is_served, worth, jobs_under, unit_value}
+use Rattle.dover_model.specs.Common.{first_link, chain, bait_value, tight_job, chain_jobs_from, chain_jobs, bait_tick}
+use Rattle.dover_model.specs.Common.{bait_jobs, bait_plan, plan_value}
+use Rattle.dover_model.specs.Bait.{unit_number}
 use Rattle.stated_jobs.proofs.bait.Coming.{at, of_tick, one_at, not_at, sum_least}
 use Rattle.stated_jobs.proofs.bait.Streaming.{Streams, gives_link, gives_unit, gives_bait, until, until_one}
-use Rattle.stated_jobs.proofs.bait.Streaming.{until_later}
-use Rattle.stated_jobs.proofs.bait.Streaming.{map_from, plan_from}
+use Rattle.stated_jobs.proofs.bait.Streaming.{until_later, map_from, plan_from}
 use Rattle.stated_jobs.proofs.bait.Feeds.{length_chain, whole, count}
 
 -- ---- the number of a unit job

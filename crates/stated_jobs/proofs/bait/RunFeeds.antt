@@ -1,18 +1,15 @@
 -- The jobs of a baiting feed: the links, the unit jobs and the bait.
 use Rattle.std.proofs.Common.{◌≡◌, ℕ, zero, suc, ◌+◌, ◌≤◌, ◌<◌, ◌⊎◌, inl, inr, List, [], ◌∷◌, ◌++◌, refl, sym, ap, ◌∙◌}
-use Rattle.std.proofs.Common.{Bool, true, false, cond}
-use Rattle.std.proofs.Common.{arith, eqb}
-use Rattle.std.specs.Prelude.{◌==◌}
-use Rattle.std.specs.List.{filter, flat_map, range_with_len, sum_by}
-use Rattle.std.proofs.lemmas.Bool.{eqb-true, eq-eqb, ne_eqb, cases_lt}
+use Rattle.std.proofs.Common.{Bool, true, false, cond, arith, eqb, ◌==◌, filter, flat_map, sum_by, eqb-true, eq-eqb}
+use Rattle.std.proofs.Common.{ne_eqb}
+use Rattle.std.specs.List.{range_with_len}
+use Rattle.std.proofs.lemmas.Bool.{cases_lt}
 use Rattle.std.proofs.lemmas.List.Sums.{sum_by-cons, sum_by-append}
-use Rattle.dover_model.specs.Fraction.{Fraction}
-use Rattle.dover_model.specs.JobFacts.{JobFacts}
-use Rattle.dover_model.specs.Bait.{unit_value, bait_value, bait_tick, tight_job, chain_jobs, links_at, released_at}
-use Rattle.dover_model.specs.Bait.{bait_jobs}
-use Rattle.dover_model.specs.Sound.{IsMember, Each}
-use Rattle.dover_model.proofs.Members.{filter_member, member_filter, sum_filter, sum_plus, sum_same}
-use Rattle.dover_model.proofs.Members.{member_front, member_behind, member_either}
+use Rattle.dover_model.specs.Common.{Fraction, JobFacts, unit_value, bait_value, bait_tick, tight_job, chain_jobs}
+use Rattle.dover_model.specs.Common.{bait_jobs, IsMember, Each}
+use Rattle.dover_model.specs.Bait.{links_at, released_at}
+use Rattle.dover_model.proofs.lists.Members.{filter_member, member_filter, sum_filter, sum_plus, sum_same, member_front}
+use Rattle.dover_model.proofs.lists.Members.{member_behind, member_either}
 
 -- whether r is among n numbers from a on
 abbrev pub is_among : ℕ → (n : ℕ) → ℕ → Bool

@@ -1,16 +1,10 @@
 -- The chain: each link is heavy against those before it, and is released one tick before the one before it is due.
 use Rattle.std.proofs.Common.{◌≡◌, ℕ, zero, suc, ◌+◌, ◌-◌, ◌*◌, ◌≤◌, ◌<◌, ◌⊎◌, inl, inr, List, [], refl, sym, ap, ◌∙◌}
-use Rattle.std.proofs.Common.{subst, true, cond}
-use Rattle.std.proofs.Common.{arith, eqb}
-use Rattle.std.specs.Prelude.{Option, Some, unwrap_or}
-use Rattle.std.specs.List.{sum, sum_by, last_or}
-use Rattle.std.proofs.lemmas.Bool.{eq-eqb, ne_eqb}
+use Rattle.std.proofs.Common.{subst, true, cond, arith, eqb, Option, Some, unwrap_or, sum, sum_by, eq-eqb, ne_eqb}
+use Rattle.std.specs.List.{last_or}
 use Rattle.std.proofs.lemmas.List.Sums.{sum_by-cons}
-use Rattle.dover_model.specs.Fraction.{Fraction, IsRatio}
-use Rattle.dover_model.specs.JobFacts.{JobFacts}
-use Rattle.dover_model.specs.Orders.{is_heavy}
-use Rattle.dover_model.specs.Bait.{most_light, chain_from, tight_job, chain_jobs_from}
-use Rattle.dover_model.specs.Sound.{IsMember, Each}
+use Rattle.dover_model.specs.Common.{Fraction, IsRatio, JobFacts, is_heavy, most_light, chain_from, tight_job}
+use Rattle.dover_model.specs.Common.{chain_jobs_from, IsMember, Each}
 use Rattle.stated_jobs.proofs.bait.RunWeights.{heavy_grows, next_heavy, next_more}
 
 -- the last of n + 1 links from w on

@@ -1,8 +1,7 @@
 -- Baiting feeds that are valid, by computation.
-use Rattle.dover_model.specs.Fraction.{fraction}
+use Rattle.dover_model.specs.Common.{fraction, is_valid}
 use Rattle.std.proofs.Common.{◌≡◌, true, refl}
 use Rattle.dover_model.specs.declared.events.Version.TheVariants.{One, Two}
-use Rattle.dover_model.specs.Instance.{is_valid}
 use Rattle.stated_jobs.specs.bait.BaitingRuns.{baiting}
 
 valid_1_1_4 : is_valid (baiting (fraction 1 1) One 4) ≡ true

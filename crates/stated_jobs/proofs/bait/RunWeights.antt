@@ -1,17 +1,14 @@
 -- What is heavy, the greatest value that isn't, and the first link.
-use Rattle.std.proofs.Common.{◌≡◌, ℕ, suc, ◌/◌, ◌^◌, ◌≤◌, ◌<◌, refl, true, false, arith}
-use Rattle.std.specs.Prelude.{not}
+use Rattle.std.proofs.Common.{◌≡◌, ℕ, suc, ◌/◌, ◌^◌, ◌≤◌, ◌<◌, refl, true, false, arith, not}
 use Rattle.std.proofs.lemmas.Nat.{le-div}
 use Rattle.std.proofs.Math.Nat.{div-le_self}
-use Rattle.dover_model.specs.Fraction.{Fraction, IsRatio}
-use Rattle.dover_model.specs.Orders.{is_heavy}
-use Rattle.dover_model.specs.Greatest.{IsGreatest, greatest}
-use Rattle.dover_model.specs.Bait.{unit_value, most_light, first_link}
-use Rattle.dover_model.proofs.Calculus.{heavy_more, heavy_mono, heavy_up}
-use Rattle.dover_model.proofs.GreatestLaws.{greatest-is}
-use Rattle.dover_model.proofs.Members.{by_bool}
-use Rattle.dover_model.proofs.Tests.{not_true}
-use Rattle.dover_model.proofs.JobLimits.{ratio_limits}
+use Rattle.dover_model.specs.Common.{Fraction, IsRatio, is_heavy, IsGreatest, greatest, unit_value, most_light}
+use Rattle.dover_model.specs.Common.{first_link}
+use Rattle.dover_model.proofs.bound.Calculus.{heavy_more, heavy_mono, heavy_up}
+use Rattle.dover_model.proofs.bound.GreatestLaws.{greatest-is}
+use Rattle.dover_model.proofs.lists.Members.{by_bool}
+use Rattle.dover_model.proofs.lists.Tests.{not_true}
+use Rattle.dover_model.proofs.valid.JobLimits.{ratio_limits}
 use Rattle.stated_jobs.proofs.bait.Heavy.{light_is, heavy_zero}
 
 -- more is heavy against less

@@ -1,37 +1,30 @@
 -- A run of a chain of links, each taking from the one before it: what every state keeps, and what is done at the end.
 use Rattle.std.proofs.Common.{◌≡◌, ℕ, ◌+◌, ◌≤◌, ◌<◌, ◌⊎◌, inl, inr, List, [], ◌∷◌, map, refl, sym, ap, ◌∙◌, subst, Bool}
-use Rattle.std.proofs.Common.{true, false, cond}
-use Rattle.std.proofs.Common.{arith, eqb}
-use Rattle.std.specs.List.{sum_by, filter, list_all}
-use Rattle.std.specs.Prelude.{nat_lt, ◌&&◌}
+use Rattle.std.proofs.Common.{true, false, cond, arith, eqb, sum_by, filter, nat_lt, ◌&&◌, eqb-true, eq-eqb, ne_eqb}
+use Rattle.std.proofs.Common.{ltb-false}
+use Rattle.std.specs.List.{list_all}
 use Rattle.std.specs.Bool.{then_some}
-use Rattle.std.proofs.lemmas.Bool.{eqb-true, eq-eqb, ne_eqb, cases_lt, ltb-false}
-use Rattle.dover_model.specs.JobFacts.{JobFacts}
-use Rattle.dover_model.specs.Fraction.{Fraction}
-use Rattle.dover_model.specs.Instance.{Rules}
-use Rattle.dover_model.specs.Finishes.{goes_on}
-use Rattle.dover_model.specs.Processor.{is_complete}
-use Rattle.dover_model.proofs.Readiness.{step_decides}
+use Rattle.std.proofs.lemmas.Bool.{cases_lt}
+use Rattle.dover_model.specs.Common.{JobFacts, Fraction, Rules, goes_on, is_complete, State, is_privileged, is_over}
+use Rattle.dover_model.specs.Common.{is_done, privileged, left, value_sum, is_heavy, Move, Prints, Ticks, step, after}
+use Rattle.dover_model.specs.Common.{with_role, displaced, ticked, ending, ◌or_else◌, IsMember, Each, EachTwo, FitsRole}
+use Rattle.dover_model.specs.Common.{IsNumberedFrom, NoneRuns, IsSound, jobs_of}
+use Rattle.dover_model.proofs.finishes.Readiness.{step_decides}
 use Rattle.dover_model.specs.declared.events.Role.{Role}
 use Rattle.dover_model.specs.declared.events.Role.TheVariants.{Coming, Fresh, Waiting, Held, Running, Done, Gone}
 use Rattle.dover_model.specs.declared.events.Event.TheVariants.{Take, End}
 use Rattle.dover_model.specs.declared.events.Task.{Task}
-use Rattle.dover_model.specs.State.{State, is_privileged, is_over, is_done, privileged, left, value_sum}
-use Rattle.dover_model.specs.Orders.{is_heavy}
-use Rattle.dover_model.specs.Step.{Move, Prints, Ticks, step, after, with_role, displaced, ticked, ending, ◌or_else◌}
-use Rattle.dover_model.specs.Sound.{IsMember, Each, EachTwo, FitsRole, IsNumberedFrom, NoneRuns, IsSound, jobs_of}
-use Rattle.dover_model.proofs.Members.{on_map, map_member, sum_filter, sum_zero, sum_map, sum_same, term_le_sum}
-use Rattle.dover_model.proofs.Roles.{one_number, numbers_above, passes, is_privileged_role, is_over_role}
-use Rattle.dover_model.proofs.Loads.{sum_change, with_roles, Fits, load}
-use Rattle.dover_model.proofs.OneChange.{changed, state_with, EachOther, on_changed, changed_here, changed_there}
-use Rattle.dover_model.proofs.Moves.{says}
-use Rattle.dover_model.proofs.Ticking.{Quiet}
-use Rattle.dover_model.proofs.Deeds.{Deed, Completed, Resumed, Started, Began, Preempted, Stayed, Arrived, Taken}
-use Rattle.dover_model.proofs.Deeds.{Abandoned, Rested}
-use Rattle.dover_model.proofs.Calculus.{heavy_more}
-use Rattle.dover_model.proofs.Kept.{end_same}
-use Rattle.dover_model.proofs.Tests.{never}
-use Rattle.dover_model.proofs.Moves.{displaced_rests}
+use Rattle.dover_model.proofs.lists.Members.{on_map, map_member, sum_filter, sum_zero, sum_map, sum_same, term_le_sum}
+use Rattle.dover_model.proofs.steps.Roles.{one_number, numbers_above, passes, is_privileged_role, is_over_role}
+use Rattle.dover_model.proofs.steps.Loads.{sum_change, with_roles, Fits, load}
+use Rattle.dover_model.proofs.steps.OneChange.{changed, state_with, EachOther, on_changed, changed_here, changed_there}
+use Rattle.dover_model.proofs.steps.Moves.{says, displaced_rests}
+use Rattle.dover_model.proofs.steps.Ticking.{Quiet}
+use Rattle.dover_model.proofs.steps.Deeds.{Deed, Completed, Resumed, Started, Began, Preempted, Stayed, Arrived, Taken}
+use Rattle.dover_model.proofs.steps.Deeds.{Abandoned, Rested}
+use Rattle.dover_model.proofs.bound.Calculus.{heavy_more}
+use Rattle.dover_model.proofs.steps.Kept.{end_same}
+use Rattle.dover_model.proofs.lists.Tests.{never}
 
 -- where the move completes the job that runs, that has no work left
 abbrev pub DoneAtEnd : State → Move → Type 0
@@ -119,10 +112,7 @@ released_now : (clock : ℕ) (role : Role) (t : Task) → FitsRole clock role t 
 released_now clock Coming t fits follows = fits.1
 released_now clock Fresh t fits follows = omega (arith, follows)
 released_now clock Waiting t fits follows = omega (arith, follows)
-released_now clock Held t fits follows = absurd follows
-released_now clock Running t fits follows = absurd follows
-released_now clock Done t fits follows = absurd follows
-released_now clock Gone t fits follows = absurd follows
+released_now clock _ t fits follows = absurd follows
 
 -- the first task has the first job
 first_task : (tasks : List Task) (j : JobFacts) (rest : List JobFacts) → IsNumberedFrom 0 tasks
@@ -147,13 +137,9 @@ not_over t role out e over = never (sym (passes is_over t role false e out) ∙ 
 -- a displaced follower is one
 displaced_follows : (clock : ℕ) (role : Role) (t : Task) → Follows clock role t
     → Follows clock (displaced role) (with_role t (displaced role))
-displaced_follows clock Coming t follows = follows
-displaced_follows clock Fresh t follows = follows
-displaced_follows clock Waiting t follows = follows
 displaced_follows clock Held t follows = absurd follows
 displaced_follows clock Running t follows = absurd follows
-displaced_follows clock Done t follows = follows
-displaced_follows clock Gone t follows = follows
+displaced_follows clock _ t follows = follows
 
 -- a follower is one after a tick
 tick_follows : (clock : ℕ) (role : Role) (t : Task) → Follows clock role (with_role t role) → (role ≡ Fresh → ⊥)
@@ -162,22 +148,15 @@ tick_follows : (clock : ℕ) (role : Role) (t : Task) → Follows clock role (wi
 tick_follows clock Coming t follows stale quiet = tt
 tick_follows clock Fresh t follows stale quiet = absurd (stale refl)
 tick_follows clock Waiting t follows stale quiet = absurd (quiet refl)
-tick_follows clock Held t follows stale quiet = follows
-tick_follows clock Running t follows stale quiet = follows
-tick_follows clock Done t follows stale quiet = follows
-tick_follows clock Gone t follows stale quiet = follows
+tick_follows clock _ t follows stale quiet = follows
 
 module _ (most : ℕ) (Link Light : JobFacts → Type 0) where
   -- a displaced link waits
   displaced_stands : (clock : ℕ) (role : Role) (t : Task) → Stands most Link Light clock role t
       → Stands most Link Light clock (displaced role) (with_role t (displaced role))
-  displaced_stands clock Coming t stands = stands
-  displaced_stands clock Fresh t stands = stands
-  displaced_stands clock Waiting t stands = stands
   displaced_stands clock Held t stands = absurd stands
   displaced_stands clock Running t stands = (stands.0, inl stands.1)
-  displaced_stands clock Done t stands = stands
-  displaced_stands clock Gone t stands = stands
+  displaced_stands clock _ t stands = stands
 
   -- what a role says one tick later
   tick_stands : (clock : ℕ) (role : Role) (t : Task) → Stands most Link Light clock role (with_role t role)
@@ -192,8 +171,7 @@ module _ (most : ℕ) (Link Light : JobFacts → Type 0) where
     let whole : clock + left t ≡ t.job.deadline = stands.0 in let some : 1 ≤ left t = busy refl in omega arith,
     stands.1,
   )
-  tick_stands clock Done t stands stale quiet busy = stands
-  tick_stands clock Gone t stands stale quiet busy = stands
+  tick_stands clock _ t stands stale quiet busy = stands
 
 module _ (k : Fraction) (jobs : List JobFacts) (most : ℕ) (Link Light : JobFacts → Type 0)
     (chained : IsChained k jobs most Link Light) where
@@ -216,8 +194,7 @@ module _ (k : Fraction) (jobs : List JobFacts) (most : ℕ) (Link Light : JobFac
     by_kind (inr light) = let here : t.job.release ≡ clock = light.1 in omega arith
   over_by clock due Held t fits stands now came late apart = absurd stands
   over_by clock due Running t fits stands now came late apart = absurd (apart refl)
-  over_by clock due Done t fits stands now came late apart = refl
-  over_by clock due Gone t fits stands now came late apart = refl
+  over_by clock due _ t fits stands now came late apart = refl
 
   module _ (s : State) (sound : IsSound s) (are : jobs_of s.tasks ≡ jobs) where
     -- what holds of each job holds of that of each task

@@ -1,14 +1,10 @@
 -- The baiting feed as it is given, with the number of each job and the schedule that runs the unit jobs and the bait.
 use Rattle.std.proofs.Common.{◌≡◌, ℕ, zero, suc, ◌+◌, ◌-◌, ◌≤◌, ◌<◌, ◌⊎◌, inl, inr, List, [], ◌∷◌, ◌++◌, length}
-use Rattle.std.proofs.Common.{replicate, refl, sym, ap, ◌∙◌}
-use Rattle.std.proofs.Common.{subst, arith}
-use Rattle.std.proofs.Common.{cond, leb}
-use Rattle.std.specs.Prelude.{map}
-use Rattle.std.specs.List.{sum, range_with_len, count_by}
-use Rattle.std.proofs.lemmas.Bool.{cases_lt, le-leb, lt-leb}
+use Rattle.std.proofs.Common.{replicate, refl, sym, ap, ◌∙◌, subst, arith, cond, leb, map, sum, count_by, le-leb}
+use Rattle.std.specs.List.{range_with_len}
+use Rattle.std.proofs.lemmas.Bool.{cases_lt, lt-leb}
 use Rattle.std.proofs.lemmas.List.Sums.{sum_by-cons}
-use Rattle.dover_model.specs.JobFacts.{JobFacts}
-use Rattle.dover_model.specs.Bait.{tight_job, chain_jobs_from}
+use Rattle.dover_model.specs.Common.{JobFacts, tight_job, chain_jobs_from}
 use Rattle.stated_jobs.specs.bait.Baiting.{jobs_from}
 use Rattle.stated_jobs.proofs.bait.Coming.{AreSome, AreAfter, are_after, link_first, unit_next}
 

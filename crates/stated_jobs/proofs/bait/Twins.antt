@@ -3,21 +3,15 @@ use Rattle.std.proofs.Common.{◌≡◌, ℕ, ◌-◌, List, [], ◌∷◌, ◌+
 use Rattle.std.specs.Prelude.{Some, ◌==◌}
 use Rattle.std.specs.List.{count_by, filter, flat_map, range_with_len, sum}
 use Rattle.dover_model.specs.declared.events.Version.{Version}
-use Rattle.dover_model.specs.declared.events.Version.TheVariants.{One, Two, Three}
+use Rattle.dover_model.specs.declared.events.Version.TheVariants.{One}
 use Rattle.dover_model.specs.declared.events.Task.{Task}
-use Rattle.dover_model.specs.JobFacts.{JobFacts}
-use Rattle.dover_model.specs.Fraction.{Fraction}
-use Rattle.dover_model.specs.Instance.{IsValid, jobs_under}
-use Rattle.dover_model.specs.Bait.{unit_value, first_link, bait_value, tight_job, chain_jobs_from, bait_jobs}
-use Rattle.dover_model.specs.State.{opening}
-use Rattle.dover_model.specs.Step.{step}
-use Rattle.dover_model.specs.Run.{run, completed_value}
-use Rattle.dover_model.specs.Processor.{is_complete}
-use Rattle.dover_model.specs.Sound.{IsMember, Each, Keeps}
-use Rattle.dover_model.proofs.Members.{map_member}
-use Rattle.dover_model.proofs.Kept.{opening_keeps}
-use Rattle.dover_model.proofs.Ending.{run_is_whole}
-use Rattle.dover_model.proofs.Runs.{run_states}
+use Rattle.dover_model.specs.Common.{JobFacts, Fraction, IsValid, jobs_under, unit_value, first_link, bait_value}
+use Rattle.dover_model.specs.Common.{tight_job, chain_jobs_from, bait_jobs, opening, step, run, completed_value}
+use Rattle.dover_model.specs.Common.{is_complete, IsMember, Each, Keeps}
+use Rattle.dover_model.proofs.lists.Members.{map_member}
+use Rattle.dover_model.proofs.steps.Kept.{opening_keeps}
+use Rattle.dover_model.proofs.runs.Ending.{run_is_whole}
+use Rattle.dover_model.proofs.runs.Runs.{run_states}
 use Rattle.stated_jobs.specs.bait.BaitingRuns.{baiting, CompletesLastAlone}
 
 -- the one job, twice
@@ -42,14 +36,12 @@ single unit link bait = let b = sum (link ∷ []) - 1 in let links = chain_jobs_
 -- what its run is worth, and how many jobs complete
 worth_one : (k : Fraction) (version : Version) → completed_value (jobs_under version k twins) ≡ 1
 worth_one k One = refl
-worth_one k Two = refl
-worth_one k Three = refl
+worth_one k _ = refl
 
 once_one : (k : Fraction) (version : Version)
     → count_by (λ x. is_complete x.move) (run (jobs_under version k twins)) ≡ 1
 once_one k One = refl
-once_one k Two = refl
-once_one k Three = refl
+once_one k _ = refl
 
 module _ (k : Fraction) (version : Version) (valid : IsValid (baiting k version 1)) (first : first_link k ≡ 1)
     (bait : bait_value k 1 ≡ 1) where

@@ -5,23 +5,19 @@ use Rattle.std.proofs.lemmas.Nat.{mul-le}
 use Rattle.std.proofs.Math.Nat.{mul-div-le}
 use Rattle.std.proofs.lemmas.List.Sums.{sum_by-cons}
 use Rattle.dover_model.specs.declared.events.Version.TheVariants.{Two}
-use Rattle.dover_model.specs.Limits.{most_jobs, most_value, most_total}
+use Rattle.dover_model.specs.Common.{most_jobs, most_value, most_total, Fraction, IsRatio, IsJob, IsValid, jobs_under}
+use Rattle.dover_model.specs.Common.{total_value, unit_value, most_light, first_link, chain, last_link, bait_value}
+use Rattle.dover_model.specs.Common.{tight_job, bait_jobs}
 use Rattle.dover_model.specs.declared.events.Version.{Version}
-use Rattle.dover_model.specs.Fraction.{Fraction, IsRatio}
-use Rattle.dover_model.specs.JobFacts.{IsJob}
-use Rattle.dover_model.specs.Instance.{IsValid, jobs_under, total_value}
-use Rattle.dover_model.specs.Bait.{unit_value, most_light, first_link, chain, last_link, bait_value}
-use Rattle.dover_model.specs.Bait.{tight_job}
-use Rattle.dover_model.specs.Bait.{bait_jobs}
-use Rattle.dover_model.proofs.Calculus.{dense_within}
-use Rattle.dover_model.proofs.Limiting.{jobs_least, total_least}
+use Rattle.dover_model.proofs.bound.Calculus.{dense_within}
+use Rattle.dover_model.proofs.valid.Limiting.{jobs_least, total_least}
 use Rattle.stated_jobs.specs.bait.Baiting.{FitsLimits}
 use Rattle.stated_jobs.proofs.bait.Coming.{AreSome, are_some}
 use Rattle.stated_jobs.proofs.bait.Chains.{last_from}
 use Rattle.stated_jobs.proofs.bait.Heavy.{light_least}
 use Rattle.stated_jobs.proofs.bait.Feeds.{how_much, in_order, whole, small, modest, all_jobs, unit_low, unit_some}
-use Rattle.dover_model.proofs.ValidParts.{IsWithinRatio, valid_from}
-use Rattle.dover_model.proofs.JobLimits.{ratio_limits, job_from}
+use Rattle.dover_model.proofs.valid.ValidParts.{IsWithinRatio, valid_from}
+use Rattle.dover_model.proofs.valid.JobLimits.{ratio_limits, job_from}
 
 -- the last link is some, and at most all of them
 last_within : (w : ℕ) (ws : List ℕ) → 1 ≤ w → AreSome ws → (1 ≤ last_from w ws) × (last_from w ws ≤ sum (w ∷ ws))

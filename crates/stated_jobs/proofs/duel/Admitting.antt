@@ -1,20 +1,16 @@
 -- The jobs of a duel are admitted one by one, where they are valid.
-use Rattle.std.proofs.Common.{◌≡◌, ℕ, ◌≤◌, List, [], ◌∷◌, ◌++◌, sym, ap, ◌∙◌, subst}
-use Rattle.std.proofs.Common.{append_assoc, None}
+use Rattle.std.proofs.Common.{◌≡◌, ℕ, ◌≤◌, List, [], ◌∷◌, ◌++◌, sym, ap, ◌∙◌, subst, append_assoc, None}
 use Rattle.std.specs.List.{AllByRecursion}
 use Rattle.dover_model.specs.declared.events.Version.TheVariants.{One}
-use Rattle.dover_model.specs.Fraction.{Fraction}
-use Rattle.dover_model.specs.JobFacts.{JobFacts, IsJob}
-use Rattle.dover_model.specs.Instance.{Declaration, jobs_under}
-use Rattle.dover_model.specs.Admission.{refusal_of}
-use Rattle.dover_model.proofs.Admitting.{admits, valid_admitted}
-use Rattle.dover_model.proofs.Valid.{all_back, valid_front}
+use Rattle.dover_model.specs.Common.{Fraction, JobFacts, IsJob, Declaration, jobs_under, refusal_of}
+use Rattle.dover_model.proofs.valid.Admitting.{admits, valid_admitted}
+use Rattle.dover_model.proofs.valid.Valid.{all_back, valid_front}
 use Rattle.admission.specs.Kept.{Kept, StandsFor}
 use Rattle.stated_jobs.specs.duel.Game.{AreValid}
 use Rattle.stated_jobs.specs.duel.Jobs.{jobs_of_links}
 use Rattle.stated_jobs.proofs.duel.Plain.{order}
 use Rattle.stated_jobs.proofs.duel.Chain.{phases_of, last_of, as_phases}
-use Rattle.dover_model.proofs.ValidParts.{ReleasesInOrder, valid_parts}
+use Rattle.dover_model.proofs.valid.ValidParts.{ReleasesInOrder, valid_parts}
 
 -- the jobs of links are in order of release
 pub links_order : (k : Fraction) (a b more : ℕ) (l : ℕ × ℕ) → k.q ≤ k.p → 1 ≤ l.1

@@ -6,10 +6,8 @@ use Rattle.std.specs.List.{sum, AllByRecursion}
 use Rattle.std.proofs.lemmas.Bool.{cases_lt, leb-true, leb-false}
 use Rattle.std.proofs.lemmas.Nat.{mul-le}
 use Rattle.std.proofs.Math.Nat.{mul-div-le, lt-mul-div-succ, min-eq_left, min-eq_right, max-eq_left, max-eq_right}
-use Rattle.dover_model.specs.Fraction.{Fraction}
-use Rattle.dover_model.specs.JobFacts.{JobFacts}
-use Rattle.dover_model.specs.Bait.{tight_job}
-use Rattle.dover_model.proofs.Calculus.{cancel}
+use Rattle.dover_model.specs.Common.{Fraction, JobFacts, tight_job}
+use Rattle.dover_model.proofs.bound.Calculus.{cancel}
 use Rattle.stated_jobs.specs.duel.Links.{next_link, staying, leaving}
 use Rattle.stated_jobs.specs.duel.Jobs.{smalls, pieces_for, pieces, small_work, is_last, jobs_of_links, first_link}
 use Rattle.stated_jobs.proofs.duel.Phases.{jobs_from, first_of, AreTraps}

@@ -1,15 +1,12 @@
 -- Every on-line scheduler loses on a front of these jobs.
-use Rattle.std.proofs.Common.{◌≡◌, ℕ, zero, suc, ◌+◌, ◌-◌, ◌*◌, ◌≤◌, ◌<◌, List, [], ◌∷◌}
-use Rattle.std.proofs.Common.{refl, sym, ap, ◌∙◌, subst, length, arith, Some, None, replicate}
-use Rattle.std.specs.Prelude.{slice_get, Option}
-use Rattle.std.specs.List.{sum, AllByRecursion}
+use Rattle.std.proofs.Common.{◌≡◌, ℕ, zero, suc, ◌+◌, ◌-◌, ◌*◌, ◌≤◌, ◌<◌, List, [], ◌∷◌, refl, sym, ap, ◌∙◌, subst}
+use Rattle.std.proofs.Common.{length, arith, Some, None, replicate, slice_get, Option, sum}
+use Rattle.std.specs.List.{AllByRecursion}
 use Rattle.std.proofs.lemmas.Nat.{mul-le}
-use Rattle.dover_model.specs.JobFacts.{JobFacts}
-use Rattle.dover_model.specs.Fraction.{Fraction}
-use Rattle.dover_model.specs.Online.{known_at}
+use Rattle.dover_model.specs.Common.{JobFacts, Fraction, known_at}
 use Rattle.dover_model.specs.declared.events.Version.{Version}
-use Rattle.dover_model.proofs.Calculus.{cancel}
-use Rattle.dover_model.proofs.Valid.{Split, split_known, valid_front}
+use Rattle.dover_model.proofs.bound.Calculus.{cancel}
+use Rattle.dover_model.proofs.valid.Valid.{Split, split_known, valid_front}
 use Rattle.stated_jobs.specs.duel.Links.{IsTooMuch, staying, leaving}
 use Rattle.stated_jobs.specs.duel.Game.{ArePlain, AreValid, Scheduler, IsOnline, Loses, LosesOnFront}
 use Rattle.stated_jobs.proofs.duel.Phases.{jobs_from, path, plan, reward, first_of, end_of, AreTraps}
@@ -19,8 +16,8 @@ use Rattle.stated_jobs.proofs.duel.Judging.{judge_all, reward_least}
 use Rattle.stated_jobs.proofs.duel.Planning.{plan_worth}
 use Rattle.stated_jobs.proofs.duel.Plain.{order, plain_whole, plain_front, known_before}
 use Rattle.stated_jobs.proofs.duel.Ends.{IsLast, link, first_work, ends, stays, works, cheap}
-use Rattle.dover_model.proofs.ValidParts.{valid_parts}
-use Rattle.dover_model.proofs.JobLimits.{ratio_limits}
+use Rattle.dover_model.proofs.valid.ValidParts.{valid_parts}
+use Rattle.dover_model.proofs.valid.JobLimits.{ratio_limits}
 
 -- the number that a place names, if it names one
 named_by : (x : Option ℕ) → (n : ℕ) × ((m : ℕ) → x ≡ Some m → m ≡ n)

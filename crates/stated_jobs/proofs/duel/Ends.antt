@@ -4,7 +4,7 @@ use Rattle.std.proofs.lemmas.Bool.{cases_lt}
 use Rattle.std.proofs.lemmas.Nat.{mul-le}
 use Rattle.std.proofs.Math.Nat.{mul-div-le, lt-mul-div-succ}
 use Rattle.dover_model.specs.Fraction.{Fraction}
-use Rattle.dover_model.proofs.Calculus.{cancel}
+use Rattle.dover_model.proofs.bound.Calculus.{cancel}
 use Rattle.stated_jobs.specs.duel.Links.{IsTooMuch, next_link, staying, leaving}
 use Rattle.stated_jobs.proofs.duel.Rising.{rises, modest}
 

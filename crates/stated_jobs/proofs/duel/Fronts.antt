@@ -1,18 +1,14 @@
 -- Fronts of a duel's jobs, and the tick at which a schedule leaves the path.
-use Rattle.std.proofs.Common.{◌≡◌, ℕ, zero, suc, ◌+◌, ◌≤◌, ◌<◌, ◌⊎◌, inl, inr, List, [], ◌∷◌, ◌++◌, cond}
-use Rattle.std.proofs.Common.{refl, sym, ap, ◌∙◌, subst, length, length-append, arith, Some, None}
-use Rattle.std.specs.Prelude.{Option}
-use Rattle.std.specs.Prelude.{slice_get}
-use Rattle.std.specs.List.{sum, AllByRecursion}
-use Rattle.std.proofs.lemmas.Bool.{cases_lt, le-leb, lt-leb}
+use Rattle.std.proofs.Common.{◌≡◌, ℕ, zero, suc, ◌+◌, ◌≤◌, ◌<◌, ◌⊎◌, inl, inr, List, [], ◌∷◌, ◌++◌, cond, refl, sym, ap}
+use Rattle.std.proofs.Common.{◌∙◌, subst, length, length-append, arith, Some, None, Option, slice_get, sum, le-leb}
+use Rattle.std.specs.List.{AllByRecursion}
+use Rattle.std.proofs.lemmas.Bool.{cases_lt, lt-leb}
 use Rattle.std.proofs.lemmas.List.Sums.{sum_by-cons}
-use Rattle.dover_model.specs.JobFacts.{JobFacts}
-use Rattle.dover_model.specs.Online.{known_at}
-use Rattle.dover_model.specs.Bait.{tight_job}
+use Rattle.dover_model.specs.Common.{JobFacts, known_at, tight_job}
 use Rattle.stated_jobs.specs.duel.Jobs.{smalls}
 use Rattle.stated_jobs.proofs.duel.Phases.{jobs_from, path, end_of}
 use Rattle.stated_jobs.proofs.duel.Served.{Numbered}
-use Rattle.dover_model.proofs.ValidParts.{ReleasesInOrder}
+use Rattle.dover_model.proofs.valid.ValidParts.{ReleasesInOrder}
 
 -- ---- the first tick off the path
 
@@ -39,25 +35,14 @@ pub leaves_from : (s : List ℕ) (way : ℕ → ℕ) (until fuel tick : ℕ) →
     → ((u : ℕ) → u < tick → slice_get s u ≡ Some (way u)) → (at : ℕ) × Leaves s way until at
 leaves_from s way until zero tick count before = (
   tick,
-  record {
-    early = omega (arith, count);
-    before = before;
-    off = λ less named. omega (arith, less, count);
-  },
+  record { early = omega (arith, count); before = before; off = λ less named. omega (arith, less, count) },
 )
 leaves_from s way until (suc fuel) tick count before = by_test (names_or_not (slice_get s tick) (way tick))
     (λ further. leaves_from s way until fuel (suc tick) (omega (arith, count)) further) where
       by_test : (slice_get s tick ≡ Some (way tick)) ⊎ (slice_get s tick ≡ Some (way tick) → ⊥)
           → (((u : ℕ) → u < suc tick → slice_get s u ≡ Some (way u)) → (at : ℕ) × Leaves s way until at)
           → (at : ℕ) × Leaves s way until at
-      by_test (inr off) goes = (
-        tick,
-        record {
-          early = omega (arith, count);
-          before = before;
-          off = λ less. off;
-        },
-      )
+      by_test (inr off) goes = (tick, record { early = omega (arith, count); before = before; off = λ less. off })
       by_test (inl on) goes = goes (λ u less. by_order u less (cases_lt u tick)) where
         by_order : (u : ℕ) → u < suc tick → (u < tick) ⊎ (tick ≤ u) → slice_get s u ≡ Some (way u)
         by_order u less (inl low) = before u low

@@ -1,14 +1,10 @@
 -- The jobs that are given, one by one.
-use Rattle.std.proofs.Common.{◌≡◌, ℕ, zero, suc, ◌+◌, ◌-◌, ◌*◌, ◌/◌, ◌≤◌, ◌<◌, List, [], ◌∷◌, ◌++◌, cond}
-use Rattle.std.proofs.Common.{refl, ap, subst, ◌∙◌, arith, Bool, true, false, Fits}
+use Rattle.std.proofs.Common.{◌≡◌, ℕ, zero, suc, ◌+◌, ◌-◌, ◌*◌, ◌/◌, ◌≤◌, ◌<◌, List, [], ◌∷◌, ◌++◌, cond, refl, ap}
+use Rattle.std.proofs.Common.{subst, ◌∙◌, arith, Bool, true, false, Fits, min}
 use Rattle.std.specs.Int.{w128}
-use Rattle.std.specs.Prelude.{min}
 use Rattle.std.proofs.lemmas.Nat.{mul-le, div_below}
-use Rattle.dover_model.specs.Fraction.{Fraction, IsRatio}
-use Rattle.dover_model.specs.JobFacts.{JobFacts, IsJob}
-use Rattle.dover_model.specs.Bait.{tight_job}
-use Rattle.dover_model.specs.Limits.{last_tick}
-use Rattle.dover_model.proofs.JobLimits.{job_limits, ratio_limits}
+use Rattle.dover_model.specs.Common.{Fraction, IsRatio, JobFacts, IsJob, tight_job, last_tick}
+use Rattle.dover_model.proofs.valid.JobLimits.{job_limits, ratio_limits}
 use Rattle.stated_jobs.specs.duel.Links.{next_link}
 use Rattle.stated_jobs.specs.duel.Jobs.{smalls, pieces, small_work, is_last, jobs_of_links, first_link}
 use Rattle.stated_jobs.specs.duel.Kept.{GoesOn, IsModest}

@@ -1,17 +1,15 @@
 -- What a schedule that left the path at a tick can still serve of the jobs released by then.
-use Rattle.std.proofs.Common.{◌≡◌, ℕ, suc, ◌+◌, ◌-◌, ◌*◌, ◌≤◌, ◌<◌, ◌⊎◌, inl, inr, List, [], ◌∷◌, cond}
-use Rattle.std.proofs.Common.{sym, ap, ◌∙◌, subst, length, arith, Some}
-use Rattle.std.specs.Prelude.{slice_get}
-use Rattle.std.specs.List.{sum, AllByRecursion}
-use Rattle.std.proofs.lemmas.Bool.{cases_lt, le-leb, lt-leb}
+use Rattle.std.proofs.Common.{◌≡◌, ℕ, suc, ◌+◌, ◌-◌, ◌*◌, ◌≤◌, ◌<◌, ◌⊎◌, inl, inr, List, [], ◌∷◌, cond, sym, ap, ◌∙◌}
+use Rattle.std.proofs.Common.{subst, length, arith, Some, slice_get, sum, le-leb}
+use Rattle.std.specs.List.{AllByRecursion}
+use Rattle.std.proofs.lemmas.Bool.{cases_lt, lt-leb}
 use Rattle.std.proofs.lemmas.Nat.{mul-le}
 use Rattle.dover_model.specs.Bait.{tight_job}
 use Rattle.stated_jobs.specs.duel.Jobs.{smalls}
 use Rattle.stated_jobs.proofs.duel.Phases.{jobs_from, path, reward, first_of, end_of, AreTraps}
 use Rattle.stated_jobs.proofs.duel.Served.{Numbered, OnlyThis, misses}
 use Rattle.stated_jobs.proofs.duel.Fronts.{Leaves, names_or_not, numbered_append, sum_cons, length_smalls, path_here}
-use Rattle.stated_jobs.proofs.duel.Fronts.{path_later}
-use Rattle.stated_jobs.proofs.duel.Fronts.{path_least, end_least}
+use Rattle.stated_jobs.proofs.duel.Fronts.{path_later, path_least, end_least}
 
 -- ---- what the plan is worth
 

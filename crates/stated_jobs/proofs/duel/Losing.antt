@@ -2,15 +2,14 @@
 use Rattle.std.proofs.Common.{◌≡◌, ℕ, ◌≤◌, sym, subst, length, arith}
 use Rattle.dover_model.specs.declared.events.Version.{Version}
 use Rattle.dover_model.specs.declared.events.Version.TheVariants.{One}
-use Rattle.dover_model.specs.Fraction.{Fraction}
-use Rattle.dover_model.specs.Limits.{most_jobs}
+use Rattle.dover_model.specs.Common.{Fraction, most_jobs}
 use Rattle.stated_jobs.specs.duel.Game.{Scheduler, IsOnline, AreValid, LosesOnFront}
 use Rattle.stated_jobs.specs.duel.Jobs.{jobs_of_links, first_link, duel_jobs}
 use Rattle.stated_jobs.proofs.duel.Phases.{jobs_from}
 use Rattle.stated_jobs.proofs.duel.Chain.{phases_of, last_of, as_phases, traps_of, first_cheap}
 use Rattle.stated_jobs.proofs.duel.Duel.{valid_ones_do}
-use Rattle.dover_model.proofs.ValidParts.{valid_parts}
-use Rattle.dover_model.proofs.JobLimits.{ratio_limits}
+use Rattle.dover_model.proofs.valid.ValidParts.{valid_parts}
+use Rattle.dover_model.proofs.valid.JobLimits.{ratio_limits}
 
 -- the jobs of at most so many links
 links_lose : (version : Version) (k : Fraction) (a b more : ℕ) (scheduler : Scheduler) → 1 ≤ b

@@ -2,8 +2,7 @@
 -- and the plans that it is held against.
 use Rattle.std.specs.Prelude.{ℕ, ◌+◌, ◌*◌, ◌≤◌, ◌<◌, List, [], ◌∷◌, ◌++◌, length, nat_lt, replicate, if◌then◌else◌}
 use Rattle.std.specs.List.{sum, AllByRecursion}
-use Rattle.dover_model.specs.JobFacts.{JobFacts}
-use Rattle.dover_model.specs.Bait.{tight_job}
+use Rattle.dover_model.specs.Common.{JobFacts, tight_job}
 use Rattle.stated_jobs.specs.duel.Jobs.{smalls}
 
 -- A link for each list of works of small jobs: it is one tick longer than they are, and the next link comes in its last

@@ -1,21 +1,16 @@
 -- The jobs of a duel and their fronts are plain.
-use Rattle.std.proofs.Common.{◌≡◌, ℕ, ◌+◌, ◌*◌, ◌≤◌, ◌<◌, ◌⊎◌, inl, inr, List, [], ◌∷◌, ◌++◌, cond}
-use Rattle.std.proofs.Common.{refl, sym, ap, ◌∙◌, arith, Bool, true, false, IsTrue}
-use Rattle.std.specs.Prelude.{nat_le}
-use Rattle.std.specs.List.{sum, AllByRecursion}
+use Rattle.std.proofs.Common.{◌≡◌, ℕ, ◌+◌, ◌*◌, ◌≤◌, ◌<◌, ◌⊎◌, inl, inr, List, [], ◌∷◌, ◌++◌, cond, refl, sym, ap, ◌∙◌}
+use Rattle.std.proofs.Common.{arith, Bool, true, false, IsTrue, nat_le, sum}
+use Rattle.std.specs.List.{AllByRecursion}
 use Rattle.std.proofs.lemmas.Bool.{cases_lt, lt-leb}
 use Rattle.std.proofs.lemmas.Nat.{mul-le}
-use Rattle.dover_model.specs.JobFacts.{JobFacts}
-use Rattle.dover_model.specs.Fraction.{Fraction}
-use Rattle.dover_model.specs.Online.{known_at}
-use Rattle.dover_model.specs.Bait.{tight_job}
-use Rattle.dover_model.proofs.Valid.{all_from}
+use Rattle.dover_model.specs.Common.{JobFacts, Fraction, known_at, tight_job, is_within_ratio}
+use Rattle.dover_model.proofs.valid.Valid.{all_from}
 use Rattle.stated_jobs.specs.duel.Jobs.{smalls}
 use Rattle.stated_jobs.specs.duel.Game.{ArePlain}
 use Rattle.stated_jobs.proofs.duel.Phases.{jobs_from, AreTraps}
 use Rattle.stated_jobs.proofs.duel.Fronts.{sum_cons, known_one}
-use Rattle.dover_model.proofs.ValidParts.{IsWithinRatio, is_within_ratio-agrees, ReleasesInOrder, order_from}
-use Rattle.dover_model.specs.Instance.{is_within_ratio}
+use Rattle.dover_model.proofs.valid.ValidParts.{IsWithinRatio, is_within_ratio-agrees, ReleasesInOrder, order_from}
 
 record IsPiece (k : Fraction) (j : JobFacts) : Type 0 where
   some : 1 ≤ j.work

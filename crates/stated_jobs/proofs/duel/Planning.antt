@@ -5,10 +5,7 @@ use Rattle.std.specs.List.{sum, count_by}
 use Rattle.std.proofs.lemmas.Bool.{cases_lt, le-leb, lt-leb, eq-eqb}
 use Rattle.std.proofs.lemmas.List.{drop-take, append_assoc}
 use Rattle.std.proofs.lemmas.List.Sums.{sum_by-cons}
-use Rattle.dover_model.specs.JobFacts.{JobFacts}
-use Rattle.dover_model.specs.Schedules.{ticks_given, earned}
-use Rattle.dover_model.specs.Online.{known_at}
-use Rattle.dover_model.specs.Bait.{tight_job}
+use Rattle.dover_model.specs.Common.{JobFacts, ticks_given, earned, known_at, tight_job}
 use Rattle.stated_jobs.specs.duel.Jobs.{smalls}
 use Rattle.stated_jobs.proofs.duel.Phases.{jobs_from, names, plan, reward}
 use Rattle.stated_jobs.proofs.duel.Served.{parts, parts_cons}

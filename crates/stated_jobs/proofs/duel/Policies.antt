@@ -1,16 +1,15 @@
 -- Policies are on-line as a duel asks.
-use Rattle.std.proofs.Common.{◌≡◌, ℕ, zero, suc, List, [], ◌∷◌, sym, ap, ◌∙◌, arith}
-use Rattle.std.proofs.Common.{Some, None}
-use Rattle.std.specs.Prelude.{slice_get, slice_index_or}
+use Rattle.std.proofs.Common.{◌≡◌, ℕ, zero, suc, List, [], ◌∷◌, sym, ap, ◌∙◌, arith, Some, None, slice_get}
+use Rattle.std.proofs.Common.{slice_index_or}
 use Rattle.dover_model.specs.declared.events.Version.{Version}
 use Rattle.dover_model.specs.Fraction.{Fraction}
-use Rattle.dover_model.proofs.Limiting.{jobs_most}
+use Rattle.dover_model.proofs.valid.Limiting.{jobs_most}
 use Rattle.policy_lab.specs.Picks.{Picks}
 use Rattle.policy_lab.specs.PolicyRun.{policy_run}
 use Rattle.policy_lab.proofs.Onlines.{on_line}
 use Rattle.stated_jobs.specs.duel.Game.{IsOnline, AreValid}
 use Rattle.stated_jobs.proofs.duel.Duel.{valid_known}
-use Rattle.dover_model.proofs.ValidParts.{valid_parts}
+use Rattle.dover_model.proofs.valid.ValidParts.{valid_parts}
 
 -- a place that names a number has it
 place_has : (xs : List ℕ) (u n d : ℕ) → slice_get xs u ≡ Some n → slice_index_or xs u d ≡ n

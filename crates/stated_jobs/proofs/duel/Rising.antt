@@ -2,7 +2,7 @@
 use Rattle.std.proofs.Common.{◌≡◌, ℕ, ◌+◌, ◌-◌, ◌*◌, ◌≤◌, ◌<◌, ◌⊎◌, inl, inr, refl, subst, arith}
 use Rattle.std.proofs.lemmas.Bool.{cases_lt}
 use Rattle.std.proofs.lemmas.Nat.{mul-le}
-use Rattle.dover_model.proofs.Calculus.{cancel}
+use Rattle.dover_model.proofs.bound.Calculus.{cancel}
 
 -- twice a product is at most the two squares
 pub two_products : (u v : ℕ) → 2 * (u * v) ≤ u * u + v * v

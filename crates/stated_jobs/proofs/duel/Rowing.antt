@@ -1,14 +1,10 @@
 -- Duels within the limits, by computation.
-use Rattle.std.proofs.Common.{◌≡◌, ℕ, ◌≤◌, List, refl, sym, subst, length, arith, Bool, true, false}
-use Rattle.std.specs.Prelude.{◌&&◌, nat_le}
+use Rattle.std.proofs.Common.{◌≡◌, ℕ, ◌≤◌, List, refl, sym, subst, length, arith, Bool, true, false, ◌&&◌, nat_le}
+use Rattle.std.proofs.Common.{leb-true}
 use Rattle.std.specs.List.{list_all}
-use Rattle.std.proofs.lemmas.Bool.{leb-true}
 use Rattle.dover_model.specs.declared.events.Version.TheVariants.{One}
-use Rattle.dover_model.specs.Fraction.{Fraction, IsRatio}
-use Rattle.dover_model.specs.JobFacts.{JobFacts, is_job, IsJob}
-use Rattle.dover_model.specs.Instance.{total_value}
-use Rattle.dover_model.specs.Limits.{most_jobs, most_total}
-use Rattle.dover_model.proofs.Tests.{each}
+use Rattle.dover_model.specs.Common.{Fraction, IsRatio, JobFacts, is_job, IsJob, total_value, most_jobs, most_total}
+use Rattle.dover_model.proofs.lists.Tests.{each}
 use Rattle.stated_jobs.specs.duel.Game.{Scheduler, IsOnline, ArePlain, AreValid, LosesOnFront}
 use Rattle.stated_jobs.specs.duel.Jobs.{jobs_of_links, first_link, duel_jobs}
 use Rattle.stated_jobs.specs.duel.Rows.{k_of}
@@ -16,9 +12,9 @@ use Rattle.stated_jobs.proofs.duel.Phases.{jobs_from}
 use Rattle.stated_jobs.proofs.duel.Plain.{plain_whole}
 use Rattle.stated_jobs.proofs.duel.Chain.{phases_of, last_of, as_phases, traps_of, first_cheap}
 use Rattle.stated_jobs.proofs.duel.Losing.{each_loses}
-use Rattle.dover_model.proofs.ValidParts.{is_within_ratio-agrees, order_parts, valid_from}
-use Rattle.dover_model.proofs.Valid.{all_from}
-use Rattle.dover_model.proofs.JobLimits.{ratio_limits, job_passes}
+use Rattle.dover_model.proofs.valid.ValidParts.{is_within_ratio-agrees, order_parts, valid_from}
+use Rattle.dover_model.proofs.valid.Valid.{all_from}
+use Rattle.dover_model.proofs.valid.JobLimits.{ratio_limits, job_passes}
 
 -- jobs that are few, not worth too much, and each within its limits
 abbrev fits : List JobFacts → Bool

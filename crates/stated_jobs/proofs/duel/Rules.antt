@@ -8,29 +8,25 @@ use Rattle.dover_model.specs.declared.events.Task.{Task}
 use Rattle.dover_model.specs.declared.events.Event.TheVariants.{End}
 use Rattle.dover_model.specs.declared.events.Version.{Version}
 use Rattle.dover_model.specs.declared.events.Role.{Role}
-use Rattle.dover_model.specs.declared.events.Role.TheVariants.{Coming, Fresh, Waiting, Held, Running, Done, Gone}
-use Rattle.dover_model.specs.Fraction.{Fraction}
-use Rattle.dover_model.specs.Instance.{Rules, Instance, IsValid, with_jobs, jobs_under}
-use Rattle.dover_model.specs.State.{State, with_later, opening, to_come, is_over, is_done, is_running, value_sum}
-use Rattle.dover_model.specs.Step.{Move, Ticks, Waits, Prints, step, open_step, after, ending, ◌or_else◌}
-use Rattle.dover_model.specs.Run.{Step, is_end, run, ran, tick_of}
-use Rattle.dover_model.specs.Settled.{waits_for_mark, settled_steps, AllComeFrom}
-use Rattle.dover_model.specs.WholeRun.{IsWholeRun, IsSettledRun}
-use Rattle.dover_model.specs.Online.{known_at}
-use Rattle.dover_model.specs.Sound.{Each, Keeps}
-use Rattle.dover_model.proofs.Members.{all_each, member_front}
-use Rattle.dover_model.proofs.Deeds.{over_rests}
-use Rattle.dover_model.proofs.Kept.{open_deed, open_kept, step_deed, opening_keeps}
-use Rattle.dover_model.proofs.Ending.{run_is_whole}
-use Rattle.dover_model.proofs.Settling.{at_barrier, settled_is_run}
-use Rattle.dover_model.proofs.Prefixes.{step_open, behind_step, behind_after, behind_keeps, open_not_end}
-use Rattle.dover_model.proofs.Prefixes.{come_from, opening_later, later_keeps, over_ticked}
-use Rattle.dover_model.proofs.Onlines.{known_part, known_split, split_whole, whole_valid, known_valid}
-use Rattle.dover_model.proofs.Tests.{never}
-use Rattle.dover_model.proofs.Limiting.{jobs_most}
+use Rattle.dover_model.specs.declared.events.Role.TheVariants.{Coming, Running, Done, Gone}
+use Rattle.dover_model.specs.Common.{Fraction, Rules, Instance, IsValid, with_jobs, jobs_under, State, with_later}
+use Rattle.dover_model.specs.Common.{opening, to_come, is_over, is_done, is_running, value_sum, Move, Ticks, Waits}
+use Rattle.dover_model.specs.Common.{Prints, step, open_step, after, ending, ◌or_else◌, Step, is_end, run, ran, tick_of}
+use Rattle.dover_model.specs.Common.{waits_for_mark, settled_steps, AllComeFrom, IsWholeRun, IsSettledRun, known_at}
+use Rattle.dover_model.specs.Common.{Each, Keeps}
+use Rattle.dover_model.proofs.lists.Members.{all_each, member_front}
+use Rattle.dover_model.proofs.steps.Deeds.{over_rests}
+use Rattle.dover_model.proofs.steps.Kept.{open_deed, open_kept, step_deed, opening_keeps}
+use Rattle.dover_model.proofs.runs.Ending.{run_is_whole}
+use Rattle.dover_model.proofs.settled.Settling.{at_barrier, settled_is_run}
+use Rattle.dover_model.proofs.settled.Prefixes.{step_open, behind_step, behind_after, behind_keeps, open_not_end}
+use Rattle.dover_model.proofs.settled.Prefixes.{come_from, opening_later, later_keeps, over_ticked}
+use Rattle.dover_model.proofs.settled.Onlines.{known_part, known_split, split_whole, whole_valid, known_valid}
+use Rattle.dover_model.proofs.lists.Tests.{never}
+use Rattle.dover_model.proofs.valid.Limiting.{jobs_most}
 use Rattle.stated_jobs.specs.duel.Game.{IsOnline, AreValid}
 use Rattle.stated_jobs.proofs.duel.Duel.{valid_known}
-use Rattle.dover_model.proofs.ValidParts.{valid_parts}
+use Rattle.dover_model.proofs.valid.ValidParts.{valid_parts}
 
 -- the schedule of these steps
 abbrev places : List Step → List ℕ
@@ -47,12 +43,11 @@ added m r = elim m [ Prints e ↦ None | Waits n ↦ None | Ticks ↦ Some r ]
 
 grow : (t : ℕ) (s : State) (m : Move) (r : ℕ) (ys xs : List ℕ) → SameUpTo t (after s m).clock ys xs
     → SameUpTo t s.clock (cons_option (added m r) ys) (cons_option (added m r) xs)
-grow t s (Prints e) r ys xs rest = rest
-grow t s (Waits n) r ys xs rest = rest
 grow t s Ticks r ys xs rest = ticked where
   ticked : SameUpTo t s.clock (r ∷ ys) (r ∷ xs)
   ticked zero n early other = (λ named. named, λ named. named)
   ticked (suc i) n early other = rest i n (omega (arith, early)) other
+grow t s _ r ys xs rest = rest
 
 find_front : (xs more : List Task) → Each (λ u. is_running u ≡ false) more
     → find is_running (xs ++ more) ≡ find is_running xs
@@ -69,13 +64,8 @@ not_running : (u : Task) → is_over u ≡ true → is_running u ≡ false
 not_running u over = by_role u.role over where
   by_role : (r : Role) → elim r [ Done ↦ true | Gone ↦ true | _ ↦ false ] ≡ true
       → elim r [ Running ↦ true | _ ↦ false ] ≡ false
-  by_role Coming is = refl
-  by_role Fresh is = refl
-  by_role Waiting is = refl
-  by_role Held is = refl
   by_role Running is = never is
-  by_role Done is = refl
-  by_role Gone is = refl
+  by_role _ is = refl
 
 coming_rests : (more : List Task) → Each (λ u. u.role ≡ Coming) more → Each (λ u. is_running u ≡ false) more
 coming_rests more come u member = ap (λ r. elim r [ Running ↦ true | _ ↦ false ]) (come u member)

@@ -2,10 +2,7 @@
 use Rattle.std.proofs.Common.{◌≡◌, ℕ, List, [], ◌∷◌, refl, arith, Some, None, true}
 use Rattle.dover_model.specs.declared.events.Version.{Version}
 use Rattle.dover_model.specs.declared.events.Version.TheVariants.{One}
-use Rattle.dover_model.specs.Fraction.{Fraction}
-use Rattle.dover_model.specs.JobFacts.{JobFacts}
-use Rattle.dover_model.specs.Bait.{tight_job}
-use Rattle.dover_model.specs.Instance.{is_valid, jobs_under}
+use Rattle.dover_model.specs.Common.{Fraction, JobFacts, tight_job, is_valid, jobs_under}
 use Rattle.stated_jobs.specs.duel.Game.{AreValid, IsOnline}
 use Rattle.stated_jobs.specs.duel.Rows.{k_of, farsighted}
 

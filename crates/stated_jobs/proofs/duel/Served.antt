@@ -7,9 +7,7 @@ use Rattle.std.specs.List.{count_by, sum_by, enumerate_from}
 use Rattle.std.proofs.lemmas.Bool.{lt-leb, ne_eqb}
 use Rattle.std.proofs.lemmas.List.{drop-take}
 use Rattle.std.proofs.lemmas.List.Sums.{sum_by-cons}
-use Rattle.dover_model.specs.JobFacts.{JobFacts}
-use Rattle.dover_model.specs.Schedules.{ticks_given, is_served, earned}
-use Rattle.dover_model.specs.Bait.{tight_job}
+use Rattle.dover_model.specs.Common.{JobFacts, ticks_given, is_served, earned, tight_job}
 
 -- no more ticks than there are places
 most_count : (n w : ℕ) (xs : List ℕ) → count_by (λ m. eqb m n) (take w xs) ≤ w

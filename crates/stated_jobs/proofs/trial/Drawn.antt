@@ -5,16 +5,13 @@ use Rattle.std.proofs.lemmas.Nat.{mul-le}
 use Rattle.std.proofs.Math.Nat.{mul-div-le, le-div_iff_mul-le}
 use Rattle.std.proofs.lemmas.List.Sums.{sum_by-cons}
 use Rattle.dover_model.specs.declared.events.Version.{Version}
-use Rattle.dover_model.specs.Fraction.{Fraction, IsRatio}
-use Rattle.dover_model.specs.JobFacts.{JobFacts, IsJob}
-use Rattle.dover_model.specs.Instance.{IsValid, jobs_under, total_value}
-use Rattle.dover_model.specs.Generator.{next_state, high_bits, most_density, job_of_draws, generated_jobs_from}
-use Rattle.dover_model.specs.Generator.{generated_jobs}
-use Rattle.dover_model.proofs.Calculus.{dense_within}
-use Rattle.dover_model.proofs.Limiting.{jobs_least, total_least}
+use Rattle.dover_model.specs.Common.{Fraction, IsRatio, JobFacts, IsJob, IsValid, jobs_under, total_value, next_state}
+use Rattle.dover_model.specs.Common.{high_bits, most_density, job_of_draws, generated_jobs_from, generated_jobs}
+use Rattle.dover_model.proofs.bound.Calculus.{dense_within}
+use Rattle.dover_model.proofs.valid.Limiting.{jobs_least, total_least}
 use Rattle.stated_jobs.specs.trial.Turns.{next_four, next_job}
-use Rattle.dover_model.proofs.ValidParts.{IsWithinRatio, ReleasesInOrder, valid_from}
-use Rattle.dover_model.proofs.JobLimits.{ratio_limits, job_from}
+use Rattle.dover_model.proofs.valid.ValidParts.{IsWithinRatio, ReleasesInOrder, valid_from}
+use Rattle.dover_model.proofs.valid.JobLimits.{ratio_limits, job_from}
 
 -- so many jobs are drawn
 pub so_many : (k : Fraction) (count state last : ℕ) → length (generated_jobs_from k count state last) ≡ count

@@ -1,11 +1,7 @@
 -- The next turn, and those after it.
-use Rattle.std.proofs.Common.{◌≡◌, ℕ, zero, suc, ◌+◌, ◌-◌, ◌≤◌, ◌∷◌, ◌%◌, ◌==◌, Option, Some, None, sym, ap, ◌∙◌}
-use Rattle.std.proofs.Common.{arith}
-use Rattle.std.proofs.Common.{Bool, true, false}
-use Rattle.std.specs.Prelude.{if◌then◌else◌}
-use Rattle.dover_model.specs.Fraction.{Fraction}
-use Rattle.dover_model.specs.Generator.{next_state, high_bits}
-use Rattle.dover_model.specs.JobFacts.{JobFacts}
+use Rattle.std.proofs.Common.{◌≡◌, ℕ, zero, suc, ◌+◌, ◌-◌, ◌≤◌, ◌∷◌, ◌%◌, ◌==◌, Option, Some, None, sym, ap, ◌∙◌, arith}
+use Rattle.std.proofs.Common.{Bool, true, false, if◌then◌else◌}
+use Rattle.dover_model.specs.Common.{Fraction, next_state, high_bits, JobFacts}
 use Rattle.stated_jobs.specs.trial.Turns.{next_four, next_job, next_turn, last_named, done_of_draws, drawn_turns_from}
 use Rattle.stated_jobs.specs.declared.trial.turns.Done.{Done}
 use Rattle.stated_jobs.specs.declared.trial.turns.Turn.{Turn}

@@ -2,11 +2,7 @@
 use Rattle.std.specs.Prelude.{ℕ, ◌≤◌, List, [], ◌∷◌, ◌++◌, length, ◌==◌}
 use Rattle.std.specs.List.{filter, flat_map, range_with_len}
 use Rattle.dover_model.specs.declared.events.Version.TheVariants.{Two}
-use Rattle.dover_model.specs.Limits.{most_jobs, most_value}
-use Rattle.dover_model.specs.Fraction.{Fraction}
-use Rattle.dover_model.specs.JobFacts.{JobFacts}
-use Rattle.dover_model.specs.Sound.{Each}
-use Rattle.dover_model.specs.Bait.{tight_job, bait_jobs}
+use Rattle.dover_model.specs.Common.{most_jobs, most_value, Fraction, JobFacts, Each, tight_job, bait_jobs}
 
 -- the feed has no more jobs than a feed may have, and no job is worth more than a job may be
 pub record FitsLimits (k : Fraction) (rounds : ℕ) : Type 0 where

@@ -4,13 +4,8 @@ use Rattle.std.specs.List.{count_by, last_or}
 use Rattle.dover_model.specs.declared.events.Version.{Version}
 use Rattle.dover_model.specs.declared.events.Version.TheVariants.{One, Three}
 use Rattle.dover_model.specs.declared.events.Event.TheVariants.{Complete}
-use Rattle.dover_model.specs.Fraction.{Fraction}
-use Rattle.dover_model.specs.Instance.{Instance, jobs_under}
-use Rattle.dover_model.specs.Bait.{bait_jobs, chain_jobs, last_link}
-use Rattle.dover_model.specs.Step.{Prints}
-use Rattle.dover_model.specs.Run.{run, completed_value}
-use Rattle.dover_model.specs.Processor.{is_complete}
-use Rattle.dover_model.specs.Sound.{Each}
+use Rattle.dover_model.specs.Common.{Fraction, Instance, jobs_under, bait_jobs, chain_jobs, last_link, Prints, run}
+use Rattle.dover_model.specs.Common.{completed_value, is_complete, Each}
 
 -- the jobs of a baiting feed, and the rules that it declares
 abbrev pub baiting : Fraction → Version → (rounds : ℕ) → Instance

@@ -1,10 +1,8 @@
 -- What the fields of a Bait, and the numbers of its chain, stand for.
-use Rattle.std.specs.Prelude.{◌≡◌, ℕ, ◌+◌, ◌-◌, ◌≤◌, ◌<◌, [], if◌then◌else◌}
-use Rattle.std.specs.List.{sum}
+use Rattle.std.specs.Prelude.{◌≡◌, ℕ, ◌+◌, ◌-◌, ◌≤◌, ◌<◌, [], if◌then◌else◌, sum}
 use Rattle.dover_model.specs.declared.events.Version.TheVariants.{Two}
-use Rattle.dover_model.specs.Limits.{most_jobs, most_value}
-use Rattle.dover_model.specs.Fraction.{Fraction, IsRatio}
-use Rattle.dover_model.specs.Bait.{unit_value, first_link, chain_from, chain, last_link, bait_value, chain_jobs_from}
+use Rattle.dover_model.specs.Common.{most_jobs, most_value, Fraction, IsRatio, unit_value, first_link, chain_from}
+use Rattle.dover_model.specs.Common.{chain, last_link, bait_value, chain_jobs_from}
 use Rattle.stated_jobs.specs.declared.bait.feed.Chain.{Chain}
 use Rattle.stated_jobs.specs.declared.bait.feed.Bait.TheInside.{Inside}
 use Rattle.stated_jobs.specs.bait.Baiting.{Baiting, jobs_from}

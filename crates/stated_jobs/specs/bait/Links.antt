@@ -1,8 +1,7 @@
 -- What the values of a baiting feed are to be: a link takes the processor by as little as it can, and the bait just
 -- doesn't.
 use Rattle.std.specs.Prelude.{ℕ, ◌≤◌}
-use Rattle.dover_model.specs.Fraction.{Fraction}
-use Rattle.dover_model.specs.Orders.{IsHeavy}
+use Rattle.dover_model.specs.Common.{Fraction, IsHeavy}
 
 -- w is the least value, at least 1, against which the value v isn't heavy
 pub record IsLeastUnmoved (k : Fraction) (v w : ℕ) : Type 0 where

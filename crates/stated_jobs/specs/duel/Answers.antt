@@ -1,8 +1,7 @@
 -- What is answered where a duel is asked for.
 use Rattle.std.specs.Prelude.{◌≡◌, ℕ, ◌≤◌, List, length, take, Option, Some, None, Result, Ok, Err}
 use Rattle.dover_model.specs.declared.events.Version.TheVariants.{One}
-use Rattle.dover_model.specs.Fraction.{Fraction}
-use Rattle.dover_model.specs.JobFacts.{JobFacts}
+use Rattle.dover_model.specs.Common.{Fraction, JobFacts}
 use Rattle.stated_jobs.specs.declared.duel.links.Share.{Share}
 use Rattle.stated_jobs.specs.declared.duel.asking.NoDuel.{NoDuel}
 use Rattle.stated_jobs.specs.declared.duel.asking.NoDuel.TheVariants as no

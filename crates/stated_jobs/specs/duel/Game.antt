@@ -2,12 +2,9 @@
 use Rattle.std.specs.Prelude.{ℕ, ◌+◌, ◌*◌, ◌≤◌, ◌<◌, ◌≡◌, ◌↔◌, List, length, slice_get, Some, IsTrue}
 use Rattle.std.specs.List.{AllByRecursion}
 use Rattle.dover_model.specs.declared.events.Version.TheVariants.{One}
-use Rattle.dover_model.specs.Fraction.{Fraction}
-use Rattle.dover_model.specs.JobFacts.{JobFacts}
+use Rattle.dover_model.specs.Common.{Fraction, JobFacts, IsInOrder, is_within_ratio, IsValid, jobs_under, worth}
+use Rattle.dover_model.specs.Common.{known_at}
 use Rattle.dover_model.specs.declared.events.Version.{Version}
-use Rattle.dover_model.specs.Instance.{IsInOrder, is_within_ratio, IsValid, jobs_under}
-use Rattle.dover_model.specs.Schedules.{worth}
-use Rattle.dover_model.specs.Online.{known_at}
 
 -- what a scheduler does with each list of jobs: place t of its schedule names the job that has tick t
 abbrev pub Scheduler : Type 0

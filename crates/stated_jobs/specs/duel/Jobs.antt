@@ -1,11 +1,8 @@
 -- The jobs of a duel: links, each with small jobs beside it.
 use Rattle.std.specs.Prelude.{ℕ, zero, suc, ◌+◌, ◌-◌, ◌*◌, ◌/◌, List, [], ◌∷◌, ◌++◌, min, max, Bool, true, false}
 use Rattle.std.specs.Prelude.{nat_lt}
-use Rattle.dover_model.specs.Limits.{most_jobs}
+use Rattle.dover_model.specs.Common.{most_jobs, Fraction, JobFacts, tight_job}
 use Rattle.dover_model.specs.declared.events.Version.TheVariants.{One}
-use Rattle.dover_model.specs.Fraction.{Fraction}
-use Rattle.dover_model.specs.JobFacts.{JobFacts}
-use Rattle.dover_model.specs.Bait.{tight_job}
 use Rattle.stated_jobs.specs.duel.Links.{next_link, staying, leaving}
 
 -- small jobs one behind the other from a tick on, of these works

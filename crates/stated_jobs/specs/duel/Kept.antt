@@ -1,9 +1,6 @@
 -- What a duel keeps of its jobs that are still to come.
 use Rattle.std.specs.Prelude.{◌≡◌, ℕ, ◌+◌, ◌-◌, ◌≤◌, List, [], ◌∷◌, ◌++◌, if◌then◌else◌}
-use Rattle.dover_model.specs.Fraction.{Fraction, IsRatio}
-use Rattle.dover_model.specs.JobFacts.{JobFacts, IsJob}
-use Rattle.dover_model.specs.Bait.{tight_job}
-use Rattle.dover_model.specs.Limits.{last_tick, most_value}
+use Rattle.dover_model.specs.Common.{Fraction, IsRatio, JobFacts, IsJob, tight_job, last_tick, most_value}
 use Rattle.stated_jobs.specs.declared.duel.links.Share.{Share}
 use Rattle.stated_jobs.specs.declared.duel.links.Link.{Link}
 use Rattle.stated_jobs.specs.declared.duel.coming.Coming.TheInside.{Inside}

@@ -1,8 +1,6 @@
 -- The turns of a stated feed of a seed: in each a job is drawn, and perhaps a line behind it that says a job done.
 use Rattle.std.specs.Prelude.{ℕ, zero, suc, ◌+◌, ◌-◌, ◌%◌, ◌==◌, List, [], ◌∷◌, Option, Some, None, if◌then◌else◌}
-use Rattle.dover_model.specs.Fraction.{Fraction}
-use Rattle.dover_model.specs.Generator.{next_state, high_bits, job_of_draws}
-use Rattle.dover_model.specs.JobFacts.{JobFacts}
+use Rattle.dover_model.specs.Common.{Fraction, next_state, high_bits, job_of_draws, JobFacts}
 use Rattle.stated_jobs.specs.declared.trial.turns.Done.{Done}
 use Rattle.stated_jobs.specs.declared.trial.turns.Turn.{Turn}
 

@@ -1,10 +1,7 @@
 //! The baiting feed, job by job.
-ghost use Rattle.std.specs.Prelude.{◌≡◌, ◌↔◌, ◌≤◌, ◌<◌, ◌+◌, ◌*◌, IsSome, IfSome};
-ghost use Rattle.std.specs.List.{sum};
+ghost use Rattle.std.specs.Prelude.{◌≡◌, ◌↔◌, ◌≤◌, ◌<◌, ◌+◌, ◌*◌, IsSome, IfSome, sum};
 ghost use Rattle.dover_model.specs.declared.events.Version.TheVariants.{Two};
-ghost use Rattle.dover_model.specs.Limits.{last_tick, most_value, most_jobs};
-ghost use Rattle.dover_model.specs.Fraction.{IsRatio};
-ghost use Rattle.dover_model.specs.Bait.{chain, tight_job};
+ghost use Rattle.dover_model.specs.Common.{last_tick, most_value, most_jobs, IsRatio, chain, tight_job};
 ghost use Rattle.stated_jobs.specs.bait.Kept.{HasNumbers};
 
 use crate::bait::links::{first_value, light_value, unit};

@@ -1,11 +1,8 @@
 //! Laws of the baiting feed, each the contract of a function that does nothing.
 ghost use Rattle.std.specs.Prelude.{◌≡◌, ◌≤◌, ◌+◌, ◌*◌, ◌/◌, ◌^◌, ℕ, List, ◌∷◌, ◌++◌, None};
 ghost use Rattle.dover_model.specs.declared.events.Version.{Version};
-ghost use Rattle.dover_model.specs.Fraction.{Fraction, IsRatio, with_factor};
-ghost use Rattle.dover_model.specs.Instance.{IsValid, jobs_under};
-ghost use Rattle.dover_model.specs.Schedules.{worth};
-ghost use Rattle.dover_model.specs.Bait.{unit_value, chain, last_link, bait_value, bait_jobs, bait_plan, plan_value};
-ghost use Rattle.dover_model.specs.Bait.{most_light};
+ghost use Rattle.dover_model.specs.Common.{Fraction, IsRatio, with_factor, IsValid, jobs_under, worth, unit_value};
+ghost use Rattle.dover_model.specs.Common.{chain, last_link, bait_value, bait_jobs, bait_plan, plan_value, most_light};
 ghost use Rattle.stated_jobs.specs.bait.Baiting.{FitsLimits};
 ghost use Rattle.stated_jobs.specs.bait.BaitingRuns.{baiting, CompletesLastAlone};
 ghost use Rattle.stated_jobs.specs.bait.Links.{IsLeastUnmoved, IsLeastHeavy, IsMostLight};

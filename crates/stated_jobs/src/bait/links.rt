@@ -1,7 +1,6 @@
 //! The values of the chain: each job of it is just heavy enough to take the processor from the one before.
 ghost use Rattle.std.specs.Prelude.{◌≡◌, ◌≤◌, ◌*◌, None};
-ghost use Rattle.dover_model.specs.Fraction.{IsRatio};
-ghost use Rattle.dover_model.specs.Bait.{unit_value, first_link, most_light};
+ghost use Rattle.dover_model.specs.Common.{IsRatio, unit_value, first_link, most_light};
 
 use dover_model::Ratio;
 use root_compare::{heavy, isqrt};

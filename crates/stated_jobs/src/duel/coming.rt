@@ -1,8 +1,6 @@
 //! The jobs of a duel, one by one.
 ghost use Rattle.std.specs.Prelude.{◌≡◌, ◌≤◌, ◌+◌, ◌*◌, ◌∷◌, [], false, IfSome, IsNone, IsTrue};
-ghost use Rattle.dover_model.specs.Bait.{tight_job};
-ghost use Rattle.dover_model.specs.JobFacts.{IsJob};
-ghost use Rattle.dover_model.specs.Limits.{last_tick};
+ghost use Rattle.dover_model.specs.Common.{tight_job, IsJob, last_tick};
 ghost use Rattle.stated_jobs.specs.duel.Jobs.{jobs_of_links};
 ghost use Rattle.stated_jobs.specs.duel.Kept.{IsShare, IsModest, GoesOn, link_of};
 

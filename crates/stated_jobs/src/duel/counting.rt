@@ -1,8 +1,7 @@
 //! How many jobs a duel has, and whether they may be served.
 ghost use Rattle.std.specs.Prelude.{◌≡◌, ◌↔◌, ◌++◌, ◌∷◌, [], List, length, false, None, true, IfSome, IsSome};
 ghost use Rattle.admission.specs.Kept.{StandsFor};
-ghost use Rattle.dover_model.specs.Admission.{refusal_of};
-ghost use Rattle.dover_model.specs.JobFacts.{JobFacts};
+ghost use Rattle.dover_model.specs.Common.{refusal_of, JobFacts};
 ghost use Rattle.dover_model.specs.declared.events.Version.TheVariants.{One};
 ghost use Rattle.stated_jobs.specs.duel.Game.{AreValid};
 ghost use Rattle.stated_jobs.specs.duel.Jobs.{duel_jobs};

@@ -1,12 +1,6 @@
 //! Laws of on-line schedulers, each the contract of a function that does nothing.
 ghost use Rattle.std.specs.Prelude.{ℕ, List, ◌≤◌, ◌≡◌, [], None, length};
-ghost use Rattle.dover_model.specs.Bound.{IsWithin};
-ghost use Rattle.dover_model.specs.Fraction.{Fraction};
-ghost use Rattle.dover_model.specs.Instance.{jobs_under};
-ghost use Rattle.dover_model.specs.JobFacts.{JobFacts};
-ghost use Rattle.dover_model.specs.Limits.{most_jobs};
-ghost use Rattle.dover_model.specs.Run.{ran};
-ghost use Rattle.dover_model.specs.Schedules.{worth};
+ghost use Rattle.dover_model.specs.Common.{IsWithin, Fraction, jobs_under, JobFacts, most_jobs, ran, worth};
 ghost use Rattle.dover_model.specs.declared.events.Version.{Version};
 ghost use Rattle.dover_model.specs.declared.events.Version.TheVariants.{One};
 ghost use Rattle.policy_lab.specs.Picks.{Picks};

@@ -2,10 +2,7 @@
 ghost use Rattle.std.specs.Prelude.{ℕ, ◌≤◌};
 ghost use Rattle.dover_model.specs.declared.events.Version.{Version};
 ghost use Rattle.dover_model.specs.declared.events.Version.TheVariants.{Two};
-ghost use Rattle.dover_model.specs.Fraction.{Fraction, IsRatio};
-ghost use Rattle.dover_model.specs.Limits.{most_jobs};
-ghost use Rattle.dover_model.specs.Instance.{IsValid, jobs_under};
-ghost use Rattle.dover_model.specs.Generator.{generated_jobs};
+ghost use Rattle.dover_model.specs.Common.{Fraction, IsRatio, most_jobs, IsValid, jobs_under, generated_jobs};
 
 /// The jobs of a seed, as many as may be, are valid for their ratio.
 pub fn generated_jobs_are_valid()

@@ -1,10 +1,7 @@
 -- What is put at the end of a task text is an answer.
 use Rattle.std.proofs.Common.{◌≡◌, ℕ, List, [], ◌∷◌, ◌++◌, length, refl, sym, ap, ◌∙◌, subst, Option, Result, Ok, Err}
-use Rattle.std.proofs.Common.{Bool, inl, inr}
-use Rattle.std.proofs.lemmas.List.{append-nil}
-use Rattle.dover_model.specs.Due.{fault_text}
-use Rattle.dover_model.specs.Instance.{Declaration}
-use Rattle.dover_model.specs.Lines.{in_lines, whole_lines}
+use Rattle.std.proofs.Common.{Bool, inl, inr, append-nil}
+use Rattle.dover_model.specs.Common.{fault_text, Declaration, in_lines, whole_lines}
 use Rattle.dover_port.specs.Moves.{Move}
 use Rattle.dover_port.specs.declared.status.Status.{Status}
 use Rattle.dover_port.specs.declared.status.Status.TheVariants.{Done, No, Refused, ReadFault, WriteFault, Memory, Usage}

@@ -1,8 +1,7 @@
 -- What the word says: its laws.
 use Rattle.std.proofs.Common.{◌≡◌, ◌<◌, ◌^◌, ◌-◌, ℕ, List, ◌++◌, [], length, refl, sym, ap, ◌∙◌, subst, arith}
 use Rattle.std.proofs.Common.{true, false, inl, inr}
-use Rattle.dover_model.specs.Feed.{Standing, Open, Ended, Faulty}
-use Rattle.dover_model.specs.Lines.{in_lines, whole_lines}
+use Rattle.dover_model.specs.Common.{Standing, Open, Ended, Faulty, in_lines, whole_lines}
 use Rattle.dover_port.specs.declared.status.Status.{Status}
 use Rattle.dialogue.specs.Talk.{IsSteady}
 use Rattle.task_words.specs.reading.Account.{TaskAccount, account, is_open}

@@ -5,7 +5,7 @@ use Rattle.std.specs.List.{AllByRecursion}
 use Rattle.std.proofs.lemmas.Bool.{cases_lt}
 use Rattle.std.proofs.lemmas.List.{length-map, get_or-map, take_more}
 use Rattle.dover_model.specs.Fraction.{Fraction}
-use Rattle.dover_model.proofs.JobLimits.{job_limits, job_from}
+use Rattle.dover_model.proofs.valid.JobLimits.{job_limits, job_from}
 use Rattle.task_words.specs.tasks.Limits.{AreTasks, AreWithin, IsTask}
 use Rattle.task_words.specs.tasks.Merging.{blank_task}
 use Rattle.task_words.specs.declared.tasks.task.PeriodicTask.{PeriodicTask}

@@ -2,9 +2,8 @@
 use Rattle.std.proofs.Common.{◌≡◌, ◌∙◌, ◌<◌, ◌≤◌, ◌+◌, ◌++◌, ◌∷◌, [], ℕ, List, length, map, take, drop, get_or, sym, ap}
 use Rattle.std.proofs.Common.{Option, Result, codes, subst}
 use Rattle.std.proofs.lemmas.List.{append-nil, map-append, take_more, drop_more, take-append-drop, take_all}
-use Rattle.dover_model.specs.Instance.{Declaration}
-use Rattle.dover_model.specs.Lines.{in_lines, with_numbers}
-use Rattle.dover_model.proofs.Beginnings.{in_lines-append}
+use Rattle.dover_model.specs.Common.{Declaration, in_lines, with_numbers}
+use Rattle.dover_model.proofs.lists.Beginnings.{in_lines-append}
 use Rattle.dover_port.specs.Moves.{Move, PutsThrough}
 use Rattle.task_words.specs.declared.tasks.task.PeriodicTask.{PeriodicTask}
 use Rattle.event_feed.specs.Feeds.{rules_text}

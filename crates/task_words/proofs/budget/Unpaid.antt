@@ -1,7 +1,6 @@
 -- The line that says why tasks have no budgets is what is said of them.
 use Rattle.std.proofs.Common.{◌≡◌, ◌<◌, inr, ℕ, List, length, refl, sym, ap, subst, false, Option, Result, Ok, Err}
-use Rattle.dover_model.specs.Fraction.{Fraction}
-use Rattle.dover_model.specs.Instance.{Declaration}
+use Rattle.dover_model.specs.Common.{Fraction, Declaration}
 use Rattle.dover_port.specs.Moves.{Move}
 use Rattle.dover_port.specs.declared.status.Status.{Status}
 use Rattle.dover_port.specs.declared.status.Status.TheVariants.{Done, No, Refused, ReadFault, WriteFault, Memory, Usage}

@@ -1,18 +1,13 @@
 -- The account of a text that grows, and of one that goes on.
-use Rattle.std.proofs.Common.{◌≡◌, ◌≤◌, ◌<◌, ◌+◌, ℕ, suc, List, ◌∷◌, ◌++◌, [], length, refl, sym, ap}
-use Rattle.std.proofs.Common.{◌∙◌, subst}
-use Rattle.std.proofs.Common.{Bool, true, false, cond, Option, Some, None, arith}
-use Rattle.std.specs.Prelude.{nat_lt}
-use Rattle.std.specs.List.{fold}
-use Rattle.std.proofs.lemmas.Bool.{ltb-false, lt-ltb, le-ltb}
-use Rattle.std.proofs.lemmas.List.{append-nil}
+use Rattle.std.proofs.Common.{◌≡◌, ◌≤◌, ◌<◌, ◌+◌, ℕ, suc, List, ◌∷◌, ◌++◌, [], length, refl, sym, ap, ◌∙◌, subst, Bool}
+use Rattle.std.proofs.Common.{true, false, cond, Option, Some, None, arith, nat_lt, fold, ltb-false, lt-ltb, le-ltb}
+use Rattle.std.proofs.Common.{append-nil}
 use Rattle.std.proofs.lemmas.List.Sums.{fold-append}
 use Rattle.dover_model.specs.declared.events.Version.TheVariants.{Two}
-use Rattle.dover_model.specs.Limits.{most_lines}
-use Rattle.dover_model.specs.Lines.{lines_of, whole_lines, rest_of, is_too_long, fields_of}
+use Rattle.dover_model.specs.Common.{most_lines, lines_of, whole_lines, rest_of, is_too_long, fields_of, Standing, Open}
+use Rattle.dover_model.specs.Common.{Ended, Faulty, Cause}
 use Rattle.dover_model.specs.Feed as feed
-use Rattle.dover_model.specs.Feed.{Standing, Open, Ended, Faulty, Cause}
-use Rattle.dover_model.proofs.GrowingTexts.{read_append}
+use Rattle.dover_model.proofs.texts.GrowingTexts.{read_append}
 use Rattle.line_text.proofs.Lengths.{AreNotTooLong, text_few}
 use Rattle.task_words.specs.reading.Lines.{task_line, line_of_fields}
 use Rattle.task_words.specs.reading.Account.{TaskAccount, no_lines, cause_of, with_fault, with_line, read_line, is_open}

@@ -1,17 +1,14 @@
 -- What a line of a ratio makes of what is kept.
 use Rattle.std.proofs.Common.{◌≡◌, ℕ, [], refl, sym, ap, ◌∙◌, subst, Bool, true, false, cond, Option, Some, None}
-use Rattle.std.proofs.Common.{is_some, arith}
-use Rattle.std.specs.Prelude.{◌==◌}
+use Rattle.std.proofs.Common.{is_some, arith, ◌==◌}
 use Rattle.std.specs.Bool.{then_some}
 use Rattle.dover_model.specs.declared.events.Version.TheVariants.{Three}
-use Rattle.dover_model.specs.Fraction.{fraction, with_factor, is_ratio, IsRatio}
-use Rattle.dover_model.specs.Instance.{Declaration as Rules}
-use Rattle.dover_model.specs.Session.{IsDeclarable}
+use Rattle.dover_model.specs.Common.{fraction, with_factor, is_ratio, IsRatio, Declaration as Rules, IsDeclarable, Open}
+use Rattle.dover_model.specs.Common.{Faulty, declared_rules, declared_version, factor_rules, rules_with}
 use Rattle.dover_model.specs.Feed as feed
-use Rattle.dover_model.specs.Feed.{Open, Faulty, declared_rules, declared_version, factor_rules, rules_with}
-use Rattle.dover_model.proofs.Accounts.{declared_good}
-use Rattle.dover_model.proofs.Members.{some_same}
-use Rattle.dover_model.proofs.Tests.{none_is_some}
+use Rattle.dover_model.proofs.sessions.Accounts.{declared_good}
+use Rattle.dover_model.proofs.lists.Members.{some_same}
+use Rattle.dover_model.proofs.lists.Tests.{none_is_some}
 use Rattle.admission.specs.Kept as admission
 use Rattle.event_feed.specs.declared.faults.Cause.TheVariants as cause
 use Rattle.task_words.specs.tasks.Limits.{AreTasks, task_rules}

@@ -1,13 +1,10 @@
 -- What is read of a task text's line.
 use Rattle.std.proofs.Common.{◌≡◌, ℕ, ◌<◌, List, [], ◌∷◌, length, refl, ap, ◌∙◌, subst, Bool, true, false, cond, Option}
-use Rattle.std.proofs.Common.{Some, None, arith, codes}
-use Rattle.std.specs.Prelude.{Result, Ok, Err, IfOk, bytes_eq}
-use Rattle.std.specs.Option.{option_and_then}
-use Rattle.dover_model.specs.Numerals.{numerals, AreShort}
-use Rattle.dover_model.specs.Lines.{fields_of, is_too_long}
-use Rattle.dover_model.proofs.Members.{some_same}
-use Rattle.dover_model.proofs.ReadShort.{numerals_short}
-use Rattle.dover_model.proofs.Tests.{none_is_some}
+use Rattle.std.proofs.Common.{Some, None, arith, codes, Result, Ok, Err, IfOk, bytes_eq, option_and_then}
+use Rattle.dover_model.specs.Common.{numerals, AreShort, fields_of, is_too_long}
+use Rattle.dover_model.proofs.lists.Members.{some_same}
+use Rattle.dover_model.proofs.texts.ReadShort.{numerals_short}
+use Rattle.dover_model.proofs.lists.Tests.{none_is_some}
 use Rattle.line_text.specs.declared.BadLine.{BadLine}
 use Rattle.task_words.specs.reading.Lines.{task_of_numbers, ratio_line, task_numbers_line, end_line, line_of_word}
 use Rattle.task_words.specs.reading.Lines.{line_of_fields, task_line, HasNumerals}

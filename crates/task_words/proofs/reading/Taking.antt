@@ -1,23 +1,14 @@
 -- What a line makes of what is kept.
-use Rattle.std.proofs.Common.{◌≡◌, ◌≤◌, ◌<◌, ◌+◌, ◌-◌, ◌*◌, ℕ, List, ◌∷◌, ◌++◌, [], length, map, refl, sym, ap}
-use Rattle.std.proofs.Common.{◌∙◌, subst}
-use Rattle.std.proofs.Common.{Bool, true, false, cond}
-use Rattle.std.proofs.Common.{Option, Some, None, is_some, arith}
-use Rattle.std.specs.Option.{option_map}
-use Rattle.std.proofs.lemmas.Bool.{ne_eqb}
+use Rattle.std.proofs.Common.{◌≡◌, ◌≤◌, ◌<◌, ◌+◌, ◌-◌, ◌*◌, ℕ, List, ◌∷◌, ◌++◌, [], length, map, refl, sym, ap, ◌∙◌}
+use Rattle.std.proofs.Common.{subst, Bool, true, false, cond, Option, Some, None, is_some, arith, option_map, ne_eqb}
 use Rattle.std.proofs.lemmas.List.{map-append}
 use Rattle.dover_model.specs.declared.events.Refusal.{Refusal}
 use Rattle.dover_model.specs.declared.events.Refusal.TheVariants as refusal
 use Rattle.dover_model.specs.declared.events.Version.TheVariants.{Two}
-use Rattle.dover_model.specs.Limits.{most_lines}
-use Rattle.dover_model.specs.Lines.{lines_of, rest_of, is_too_long}
-use Rattle.dover_model.proofs.Members.{all_last}
-use Rattle.dover_model.specs.Fraction.{Fraction}
-use Rattle.dover_model.specs.JobFacts.{JobFacts, job_of_numbers}
-use Rattle.dover_model.specs.Instance.{Declaration as Rules}
-use Rattle.dover_model.specs.Admission.{refusal_of}
+use Rattle.dover_model.specs.Common.{most_lines, lines_of, rest_of, is_too_long, Fraction, JobFacts, job_of_numbers}
+use Rattle.dover_model.specs.Common.{Declaration as Rules, refusal_of, Open, Faulty, NotAdmitted, rules_with}
+use Rattle.dover_model.proofs.lists.Members.{all_last}
 use Rattle.dover_model.specs.Feed as feed
-use Rattle.dover_model.specs.Feed.{Open, Faulty, NotAdmitted, rules_with}
 use Rattle.admission.specs.Kept as admission
 use Rattle.admission.specs.Answers as admitting
 use Rattle.admission.specs.Answers.{IsOther, refusal_of_refused}
@@ -29,8 +20,8 @@ use Rattle.task_words.specs.tasks.Tasks.{tested_job, count_before}
 use Rattle.task_words.specs.tasks.Limits.{task_refusal, task_rules}
 use Rattle.task_words.specs.declared.tasks.task.PeriodicTask.{PeriodicTask}
 use Rattle.task_words.proofs.tasks.Together.{tasks_more}
-use Rattle.task_words.specs.reading.Account.{TaskAccount, with_line, cause_of, cause_under, account_of_lines}
-use Rattle.task_words.specs.reading.Account.{account, no_lines}
+use Rattle.task_words.specs.reading.Account.{TaskAccount, with_line, cause_of, cause_under, account_of_lines, account}
+use Rattle.task_words.specs.reading.Account.{no_lines}
 use Rattle.task_words.specs.reading.Faults.{NamesOther, NamesAt, NamesIn}
 use Rattle.task_words.specs.reading.Lines.{task_line}
 use Rattle.task_words.specs.reading.Keeping.{Keeps, KeepsDeclared, KeepsRules, KeepsAccount, StandsAt, TextStands}
@@ -43,7 +34,7 @@ use Rattle.task_words.specs.declared.reading.intake.Progress.TheVariants as prog
 use Rattle.task_words.specs.declared.reading.lines.TaskLine.{TaskLine}
 use Rattle.task_words.specs.declared.reading.lines.TaskLine.TheVariants.{Task}
 use Rattle.task_words.proofs.reading.Accounts.{counted, next_of, line_as, many_lines, lines_good}
-use Rattle.dover_model.proofs.JobLimits.{ratio_limits}
+use Rattle.dover_model.proofs.valid.JobLimits.{ratio_limits}
 
 -- ---- a task behind others
 

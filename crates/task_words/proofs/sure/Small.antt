@@ -8,9 +8,8 @@ use Rattle.std.proofs.lemmas.Bool.{cases_lt}
 use Rattle.std.proofs.lemmas.Grind.{div_ceil_times}
 use Rattle.std.proofs.lemmas.List.{length-map, get_or-map}
 use Rattle.std.proofs.lemmas.List.Sums.{sum_by-cons}
-use Rattle.dover_model.specs.Fraction.{Fraction}
-use Rattle.dover_model.specs.Sure.{Stream, stream_at, blank_stream, most_crossing}
-use Rattle.dover_model.proofs.JobLimits.{job_limits}
+use Rattle.dover_model.specs.Common.{Fraction, Stream, stream_at, blank_stream, most_crossing}
+use Rattle.dover_model.proofs.valid.JobLimits.{job_limits}
 use Rattle.task_words.specs.tasks.Limits.{IsTask, AreTasks}
 use Rattle.task_words.specs.tasks.Merging.{blank_task}
 use Rattle.task_words.specs.declared.tasks.task.PeriodicTask.{PeriodicTask}

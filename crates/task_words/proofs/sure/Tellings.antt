@@ -1,13 +1,8 @@
 -- What is told of a task is its line.
 use Rattle.std.proofs.Common.{◌≡◌, ℕ, ◌≤◌, ◌<◌, List, [], ◌∷◌, refl, sym, ap, ◌∙◌, Bool, true, false, cond, arith}
-use Rattle.std.specs.Prelude.{nat_lt, codes}
-use Rattle.std.proofs.lemmas.Bool.{lt-ltb, le-ltb}
-use Rattle.dover_model.specs.Fraction.{Fraction}
-use Rattle.dover_model.specs.Limits.{most_value}
-use Rattle.dover_model.specs.Lines.{with_numbers}
-use Rattle.dover_model.specs.Orders.{is_heavy}
-use Rattle.dover_model.specs.Sure.{Stream, stream_at, is_spread}
-use Rattle.dover_model.proofs.Calculus.{heavy_more}
+use Rattle.std.proofs.Common.{nat_lt, codes, lt-ltb, le-ltb}
+use Rattle.dover_model.specs.Common.{Fraction, most_value, with_numbers, is_heavy, Stream, stream_at, is_spread}
+use Rattle.dover_model.proofs.bound.Calculus.{heavy_more}
 use Rattle.root_compare.specs.Least.{least_heavy}
 use Rattle.task_words.specs.declared.sure.telling.Told.TheVariants as told
 use Rattle.task_words.specs.sure.Kept.{told_line}

@@ -1,14 +1,12 @@
 -- How many jobs tasks release before a tick, and what they are worth, by arithmetics.
 use Rattle.std.proofs.Common.{◌≡◌, ℕ, zero, suc, ◌+◌, ◌-◌, ◌*◌, ◌/◌, ◌%◌, ◌<◌, ◌≤◌, List, [], ◌∷◌, length}
-use Rattle.std.proofs.Common.{length-append, map, refl, sym, ap}
-use Rattle.std.proofs.Common.{◌∙◌, Bool, true, false, cond, arith}
-use Rattle.std.specs.Prelude.{◌&&◌, ◌==◌, nat_le}
+use Rattle.std.proofs.Common.{length-append, map, refl, sym, ap, ◌∙◌, Bool, true, false, cond, arith, ◌&&◌, ◌==◌}
+use Rattle.std.proofs.Common.{nat_le, sum_by, filter, div-add-mod', leb-true, leb-false, ne_eqb}
 use Rattle.std.specs.Int.{div_ceil}
-use Rattle.std.specs.List.{AllByRecursion, sum_by, filter}
+use Rattle.std.specs.List.{AllByRecursion}
 use Rattle.std.proofs.Math.Nat.{lt_of_mul-lt-mul_right}
 use Rattle.std.proofs.lemmas.Grind.{div_ceil_times}
-use Rattle.std.proofs.lemmas.Nat.{div-add-mod', mod_below}
-use Rattle.std.proofs.lemmas.Bool.{leb-true, leb-false, ne_eqb}
+use Rattle.std.proofs.lemmas.Nat.{mod_below}
 use Rattle.std.proofs.lemmas.List.Sums.{sum_by-append, sum_by-cons}
 use Rattle.dover_model.specs.Instance.{total_value}
 use Rattle.task_words.specs.tasks.Tasks.{releases, job_at, released_at, jobs_before, count_before}

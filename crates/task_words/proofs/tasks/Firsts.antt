@@ -1,12 +1,10 @@
 -- The first of the next releases.
-use Rattle.std.proofs.Common.{◌≡◌, ℕ, zero, suc, ◌<◌, ◌≤◌, ◌⊎◌, inl, inr, List, [], ◌∷◌, length, get_or, refl, sym}
-use Rattle.std.proofs.Common.{ap, ◌∙◌, subst, Bool, true, false, cond}
-use Rattle.std.proofs.Common.{Option, Some, None, arith}
-use Rattle.std.specs.List.{AllByRecursion, fold}
-use Rattle.dover_model.specs.Orders.{earlier, first}
-use Rattle.dover_model.specs.Sound.{IsMember}
-use Rattle.dover_model.proofs.FirstOfTasks.{first_member}
-use Rattle.dover_model.proofs.Members.{some_same}
+use Rattle.std.proofs.Common.{◌≡◌, ℕ, zero, suc, ◌<◌, ◌≤◌, ◌⊎◌, inl, inr, List, [], ◌∷◌, length, get_or, refl, sym, ap}
+use Rattle.std.proofs.Common.{◌∙◌, subst, Bool, true, false, cond, Option, Some, None, arith, fold}
+use Rattle.std.specs.List.{AllByRecursion}
+use Rattle.dover_model.specs.Common.{earlier, first, IsMember}
+use Rattle.dover_model.proofs.lists.FirstOfTasks.{first_member}
+use Rattle.dover_model.proofs.lists.Members.{some_same}
 use Rattle.place_heap.specs.Items.{ItemFacts, is_before}
 use Rattle.place_heap.specs.Table.{items_of}
 use Rattle.place_heap.proofs.Ranking.{one_way, behind}

@@ -8,9 +8,7 @@ use Rattle.std.proofs.lemmas.Bool.{cases_lt, cases_eq, lt-ltb, le-ltb}
 use Rattle.std.proofs.lemmas.List.{append-nil, map-append, take_all, take_more, take-append-drop, get_or-set_same}
 use Rattle.std.proofs.lemmas.List.{get_or-set_other, length-set, set-set}
 use Rattle.std.proofs.lemmas.List.Elements.{filter-append}
-use Rattle.dover_model.specs.JobFacts.{JobFacts, IsJob}
-use Rattle.dover_model.specs.Limits.{last_tick}
-use Rattle.dover_model.specs.Orders.{first}
+use Rattle.dover_model.specs.Common.{JobFacts, IsJob, last_tick, first}
 use Rattle.place_heap.specs.Items.{ItemFacts, is_before}
 use Rattle.place_heap.specs.Table.{items_of}
 use Rattle.task_words.specs.tasks.Limits.{IsTask}

@@ -1,24 +1,19 @@
 -- The jobs that tasks release are valid.
-use Rattle.std.proofs.Common.{◌≡◌, ℕ, zero, suc, ◌+◌, ◌-◌, ◌*◌, ◌/◌, ◌%◌, ◌<◌, ◌≤◌, List, [], ◌∷◌, ◌++◌, map}
-use Rattle.std.proofs.Common.{refl, Bool, true, false, cond}
-use Rattle.std.proofs.Common.{arith}
-use Rattle.std.specs.Prelude.{◌==◌, nat_le}
-use Rattle.std.specs.List.{AllByRecursion, filter}
+use Rattle.std.proofs.Common.{◌≡◌, ℕ, zero, suc, ◌+◌, ◌-◌, ◌*◌, ◌/◌, ◌%◌, ◌<◌, ◌≤◌, List, [], ◌∷◌, ◌++◌, map, refl}
+use Rattle.std.proofs.Common.{Bool, true, false, cond, arith, ◌==◌, nat_le, filter, div-add-mod', leb-true, eqb-true}
+use Rattle.std.specs.List.{AllByRecursion}
 use Rattle.std.proofs.Math.Nat.{lt_of_mul-lt-mul_right, mul-le-mul_right}
 use Rattle.std.proofs.lemmas.Grind.{div_ceil_times}
-use Rattle.std.proofs.lemmas.Nat.{div-add-mod'}
-use Rattle.std.proofs.lemmas.Bool.{leb-true, eqb-true, and_parts}
-use Rattle.dover_model.specs.JobFacts.{JobFacts, IsJob}
-use Rattle.dover_model.specs.Fraction.{Fraction, IsRatio}
-use Rattle.dover_model.specs.Instance.{Declaration, IsValid}
-use Rattle.dover_model.proofs.Valid.{all_from}
-use Rattle.dover_model.proofs.Members.{all_append}
-use Rattle.dover_model.proofs.Limiting.{jobs_least, total_least}
+use Rattle.std.proofs.lemmas.Bool.{and_parts}
+use Rattle.dover_model.specs.Common.{JobFacts, IsJob, Fraction, IsRatio, Declaration, IsValid}
+use Rattle.dover_model.proofs.valid.Valid.{all_from}
+use Rattle.dover_model.proofs.lists.Members.{all_append}
+use Rattle.dover_model.proofs.valid.Limiting.{jobs_least, total_least}
 use Rattle.task_words.specs.tasks.Tasks.{releases, job_at, released_at, jobs_before, count_before, tested_job, unrolled}
 use Rattle.task_words.specs.tasks.Limits.{IsTask, AreTasks, AreWithin, Fits}
 use Rattle.task_words.specs.declared.tasks.task.PeriodicTask.{PeriodicTask}
-use Rattle.dover_model.proofs.ValidParts.{IsWithinRatio, ReleasesInOrder, valid_from, is_within_ratio-agrees}
-use Rattle.dover_model.proofs.JobLimits.{job_limits, job_from}
+use Rattle.dover_model.proofs.valid.ValidParts.{IsWithinRatio, ReleasesInOrder, valid_from, is_within_ratio-agrees}
+use Rattle.dover_model.proofs.valid.JobLimits.{job_limits, job_from}
 
 -- ---- what holds of each job
 

@@ -1,11 +1,9 @@
 -- When a task releases, and when it doesn't.
-use Rattle.std.proofs.Common.{◌≡◌, ℕ, suc, ◌+◌, ◌-◌, ◌*◌, ◌/◌, ◌%◌, ◌^◌, ◌<◌, ◌≤◌, refl, ap, ◌∙◌, Bool, true}
-use Rattle.std.proofs.Common.{false, cond, min, arith, rules}
-use Rattle.std.proofs.Common.{Option, Some, None}
-use Rattle.std.specs.Prelude.{◌&&◌, ◌==◌, nat_le, nat_lt}
-use Rattle.std.proofs.lemmas.Nat.{div-add-mod', mod-mul-add}
-use Rattle.std.proofs.lemmas.Bool.{leb-true, le-leb, ltb-true, ltb-false, eqb-true}
-use Rattle.std.proofs.lemmas.Bool.{ne_eqb, and_parts}
+use Rattle.std.proofs.Common.{◌≡◌, ℕ, suc, ◌+◌, ◌-◌, ◌*◌, ◌/◌, ◌%◌, ◌^◌, ◌<◌, ◌≤◌, refl, ap, ◌∙◌, Bool, true, false}
+use Rattle.std.proofs.Common.{cond, min, arith, rules, Option, Some, None, ◌&&◌, ◌==◌, nat_le, nat_lt, div-add-mod'}
+use Rattle.std.proofs.Common.{leb-true, le-leb, ltb-true, ltb-false, eqb-true, ne_eqb}
+use Rattle.std.proofs.lemmas.Nat.{mod-mul-add}
+use Rattle.std.proofs.lemmas.Bool.{and_parts}
 use Rattle.place_heap.specs.Items.{ItemFacts}
 use Rattle.task_words.specs.tasks.Tasks.{releases}
 use Rattle.task_words.specs.tasks.Merging.{IsNext, kept_release, release_item}

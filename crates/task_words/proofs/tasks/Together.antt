@@ -1,20 +1,17 @@
 -- Tasks that may stand together, with one more.
-use Rattle.std.proofs.Common.{◌≡◌, ◌≤◌, ◌<◌, ℕ, List, [], ◌∷◌, ◌++◌, length, length-append, map}
-use Rattle.std.proofs.Common.{None, arith}
+use Rattle.std.proofs.Common.{◌≡◌, ◌≤◌, ◌<◌, ℕ, List, [], ◌∷◌, ◌++◌, length, length-append, map, None, arith}
 use Rattle.std.specs.List.{AllByRecursion}
 use Rattle.std.proofs.Math.Nat.{mul-le-mul_right}
 use Rattle.std.proofs.lemmas.List.{length-map}
-use Rattle.dover_model.specs.Fraction.{Fraction}
-use Rattle.dover_model.specs.JobFacts.{JobFacts}
-use Rattle.dover_model.specs.Admission.{refusal_of}
-use Rattle.dover_model.proofs.Admitting.{Admitted, not_refused}
-use Rattle.dover_model.proofs.Growing.{all_behind}
-use Rattle.dover_model.proofs.Valid.{all_from}
-use Rattle.dover_model.proofs.Members.{all_both}
+use Rattle.dover_model.specs.Common.{Fraction, JobFacts, refusal_of}
+use Rattle.dover_model.proofs.valid.Admitting.{Admitted, not_refused}
+use Rattle.dover_model.proofs.sessions.Growing.{all_behind}
+use Rattle.dover_model.proofs.valid.Valid.{all_from}
+use Rattle.dover_model.proofs.lists.Members.{all_both}
 use Rattle.task_words.specs.tasks.Tasks.{tested_job}
 use Rattle.task_words.specs.tasks.Limits.{IsTask, AreWithin, AreTasks, task_rules}
 use Rattle.task_words.specs.declared.tasks.task.PeriodicTask.{PeriodicTask}
-use Rattle.dover_model.proofs.ValidParts.{IsWithinRatio, is_within_ratio-agrees}
+use Rattle.dover_model.proofs.valid.ValidParts.{IsWithinRatio, is_within_ratio-agrees}
 
 -- what holds of each tested job holds of each task
 unmapped : (P : JobFacts → Type 0) (until : ℕ) (tasks : List PeriodicTask)

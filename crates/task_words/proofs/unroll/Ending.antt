@@ -1,9 +1,7 @@
 -- What is put of a feed is said of the tasks.
 use Rattle.std.proofs.Common.{◌≡◌, ℕ, List, refl, sym, ◌∙◌, subst, Bool, true, false, ◌↔◌, IsTrue}
 use Rattle.dover_port.specs.declared.status.Status.TheVariants.{Done}
-use Rattle.dover_model.specs.Fraction.{IsRatio}
-use Rattle.dover_model.specs.Instance.{Declaration}
-use Rattle.dover_model.specs.Session.{IsDeclarable}
+use Rattle.dover_model.specs.Common.{IsRatio, Declaration, IsDeclarable}
 use Rattle.task_words.specs.tasks.Limits.{AreTasks, Fits}
 use Rattle.task_words.specs.tasks.Tasks.{unrolled}
 use Rattle.task_words.specs.declared.tasks.task.PeriodicTask.{PeriodicTask}
@@ -11,7 +9,7 @@ use Rattle.task_words.proofs.tasks.Released.{unrolled_valid}
 use Rattle.event_feed.specs.Feeds.{IsFeedOf, feed_of}
 use Rattle.task_words.specs.unroll.Says.{Says}
 use Rattle.event_feed.proofs.FeedsOfJobs.{feed_is}
-use Rattle.dover_model.proofs.JobSessions.{jobs_never}
+use Rattle.dover_model.proofs.sessions.JobSessions.{jobs_never}
 
 -- the feed of the jobs is said of the tasks
 pub says_feed : (until : ℕ) (rules : Declaration) (tasks : List PeriodicTask)

@@ -1,7 +1,6 @@
 -- What a word says that reads a task text, by the bytes got so far.
 use Rattle.std.specs.Prelude.{◌≡◌, ◌⊎◌, ℕ, List, [], Bool, true, false, Some}
-use Rattle.dover_model.specs.Feed.{Cause, Ended, Faulty}
-use Rattle.dover_model.specs.Instance.{Declaration}
+use Rattle.dover_model.specs.Common.{Cause, Ended, Faulty, Declaration}
 use Rattle.dover_port.specs.declared.status.Status.{Status}
 use Rattle.dover_port.specs.declared.status.Status.TheVariants.{Refused}
 use Rattle.dialogue.specs.Talk.{Talk}

@@ -1,8 +1,7 @@
 -- The texts that are put where a task text is refused.
 use Rattle.std.specs.Prelude.{ℕ, suc, List, [], ◌∷◌, length}
-use Rattle.dover_model.specs.Due.{fault_text}
-use Rattle.dover_model.specs.Feed.{Standing, Open, Ended, Faulty, Short}
-use Rattle.dover_model.specs.Lines.{whole_lines, in_lines}
+use Rattle.dover_model.specs.Common.{fault_text, Standing, Open, Ended, Faulty, whole_lines, in_lines}
+use Rattle.dover_model.specs.Feed.{Short}
 use Rattle.task_words.specs.reading.Account.{account}
 
 -- the line of the fault, or where the input ended before the text, that it is short

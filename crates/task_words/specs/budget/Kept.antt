@@ -1,7 +1,6 @@
 -- What is known of budgets before their lines are written.
 use Rattle.std.specs.Prelude.{◌≡◌, ◌≤◌, ◌<◌, ℕ, List, length}
-use Rattle.dover_model.specs.Fraction.{Fraction}
-use Rattle.dover_model.specs.Limits.{last_tick, most_value}
+use Rattle.dover_model.specs.Common.{Fraction, last_tick, most_value}
 use Rattle.dover_port.specs.declared.status.Status.{Status}
 use Rattle.dover_port.specs.declared.status.Status.TheVariants.{Refused}
 use Rattle.task_words.specs.declared.tasks.task.PeriodicTask.{PeriodicTask}

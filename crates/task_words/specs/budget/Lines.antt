@@ -1,9 +1,7 @@
 -- The lines of a task text, and what the word `budget` says.
 use Rattle.std.specs.Prelude.{◌≡◌, ◌⊎◌, ℕ, ◌*◌, ◌<◌, ◌≤◌, List, [], ◌∷◌, ◌++◌, Bool, true, false, map, length, nat_le}
 use Rattle.std.specs.Prelude.{codes}
-use Rattle.dover_model.specs.Fraction.{Fraction}
-use Rattle.dover_model.specs.Instance.{Declaration}
-use Rattle.dover_model.specs.Lines.{in_lines, with_numbers}
+use Rattle.dover_model.specs.Common.{Fraction, Declaration, in_lines, with_numbers}
 use Rattle.dover_port.specs.declared.status.Status.{Status}
 use Rattle.dover_port.specs.declared.status.Status.TheVariants.{Done, Refused}
 use Rattle.task_words.specs.declared.tasks.task.PeriodicTask.{PeriodicTask}

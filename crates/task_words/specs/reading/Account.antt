@@ -1,15 +1,10 @@
 -- What a task text says, line by line.
 use Rattle.std.specs.Prelude.{ℕ, suc, List, [], ◌∷◌, ◌++◌, Bool, true, false, nat_lt, if◌then◌else◌, Option, Some, None}
-use Rattle.std.specs.Prelude.{is_some}
-use Rattle.std.specs.List.{fold}
-use Rattle.std.specs.Option.{option_map}
+use Rattle.std.specs.Prelude.{is_some, fold, option_map}
 use Rattle.dover_model.specs.declared.events.Version.TheVariants.{Two}
-use Rattle.dover_model.specs.Limits.{most_lines}
-use Rattle.dover_model.specs.Fraction.{fraction, with_factor}
-use Rattle.dover_model.specs.Instance.{Declaration as Rules}
-use Rattle.dover_model.specs.Lines.{lines_of}
+use Rattle.dover_model.specs.Common.{most_lines, fraction, with_factor, Declaration as Rules, lines_of, Cause, Standing}
+use Rattle.dover_model.specs.Common.{Open, Ended, Faulty, NotAdmitted, declared_rules, factor_rules}
 use Rattle.dover_model.specs.Feed as feed
-use Rattle.dover_model.specs.Feed.{Cause, Standing, Open, Ended, Faulty, NotAdmitted, declared_rules, factor_rules}
 use Rattle.task_words.specs.tasks.Limits.{task_refusal}
 use Rattle.task_words.specs.declared.tasks.task.PeriodicTask.{PeriodicTask}
 use Rattle.task_words.specs.reading.Lines.{task_line}

@@ -1,8 +1,6 @@
 -- Which line of a task text is at fault, and with which task before it its ratio is broken.
 use Rattle.std.specs.Prelude.{◌≡◌, ℕ, List, [], ◌∷◌, ◌++◌, map, Option, Some}
-use Rattle.dover_model.specs.Lines.{lines_of}
-use Rattle.dover_model.specs.Instance.{Declaration as Rules}
-use Rattle.dover_model.specs.Feed.{Open}
+use Rattle.dover_model.specs.Common.{lines_of, Declaration as Rules, Open}
 use Rattle.admission.specs.Answers.{IsOther}
 use Rattle.event_feed.specs.declared.faults.Cause.{Cause}
 use Rattle.event_feed.specs.declared.faults.Cause.TheVariants as cause

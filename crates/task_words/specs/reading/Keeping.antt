@@ -2,12 +2,8 @@
 use Rattle.std.specs.Prelude.{◌≡◌, ◌<◌, ◌≤◌, ℕ, List, [], ◌∷◌, ◌++◌, length, take, map, true, false, Option, Some}
 use Rattle.std.specs.Prelude.{None, is_some, Result, Ok, Err}
 use Rattle.dover_model.specs.declared.events.Version.TheVariants.{Two}
-use Rattle.dover_model.specs.Limits.{last_tick, most_lines}
-use Rattle.dover_model.specs.Fraction.{IsRatio}
-use Rattle.dover_model.specs.Instance.{Declaration as Rules}
-use Rattle.dover_model.specs.Lines.{lines_of, rest_of, is_too_long}
-use Rattle.dover_model.specs.Feed.{Open, Ended, Faulty, rules_with}
-use Rattle.dover_model.specs.Session.{IsDeclarable}
+use Rattle.dover_model.specs.Common.{last_tick, most_lines, IsRatio, Declaration as Rules, lines_of, rest_of}
+use Rattle.dover_model.specs.Common.{is_too_long, Open, Ended, Faulty, rules_with, IsDeclarable}
 use Rattle.admission.specs.Kept as admission
 use Rattle.event_feed.specs.Kept.{cause_of_fault}
 use Rattle.event_feed.specs.declared.faults.Cause.{Cause}

@@ -1,8 +1,6 @@
 -- The forms of a task text's line.
-use Rattle.std.specs.Prelude.{ℕ, List, [], ◌∷◌, if◌then◌else◌, Option, Some, None, codes, bytes_eq}
-use Rattle.std.specs.Option.{option_and_then}
-use Rattle.dover_model.specs.Lines.{is_too_long, fields_of}
-use Rattle.dover_model.specs.Numerals.{numerals, AreShort}
+use Rattle.std.specs.Prelude.{ℕ, List, [], ◌∷◌, if◌then◌else◌, Option, Some, None, codes, bytes_eq, option_and_then}
+use Rattle.dover_model.specs.Common.{is_too_long, fields_of, numerals, AreShort}
 use Rattle.task_words.specs.declared.tasks.task.PeriodicTask.{PeriodicTask}
 use Rattle.task_words.specs.declared.reading.lines.TaskLine.{TaskLine}
 use Rattle.task_words.specs.declared.reading.lines.TaskLine.TheVariants.{Declared, Factored, Task, End}

@@ -1,10 +1,7 @@
 -- What is known of a task text whose reading has ended.
 use Rattle.std.specs.Prelude.{◌≡◌, ◌⊎◌, ℕ, List, true, Some, length}
-use Rattle.dover_model.specs.Fraction.{IsRatio}
-use Rattle.dover_model.specs.Instance.{Declaration as Rules}
-use Rattle.dover_model.specs.Lines.{whole_lines}
-use Rattle.dover_model.specs.Feed.{Ended, Faulty, rules_with}
-use Rattle.dover_model.specs.Session.{IsDeclarable}
+use Rattle.dover_model.specs.Common.{IsRatio, Declaration as Rules, whole_lines, Ended, Faulty, rules_with}
+use Rattle.dover_model.specs.Common.{IsDeclarable}
 use Rattle.event_feed.specs.Answers.{short_after}
 use Rattle.event_feed.specs.Kept.{cause_of_fault}
 use Rattle.event_feed.specs.declared.faults.FeedFault.{FeedFault}

@@ -2,9 +2,7 @@
 use Rattle.std.specs.Prelude.{◌≡◌, ◌≢◌, ℕ, ◌+◌, ◌*◌, ◌≤◌, ◌<◌, List, [], ◌∷◌, ◌++◌, drop, length, replicate}
 use Rattle.std.specs.Prelude.{if◌then◌else◌, ◌==◌, codes}
 use Rattle.std.specs.List.{sum_by, enumerate_from}
-use Rattle.dover_model.specs.Limits.{last_tick, most_value}
-use Rattle.dover_model.specs.Lines.{with_numbers}
-use Rattle.dover_model.specs.Sure.{Stream, stream_at, most_crossing, others}
+use Rattle.dover_model.specs.Common.{last_tick, most_value, with_numbers, Stream, stream_at, most_crossing, others}
 use Rattle.task_words.specs.declared.sure.densities.Sparse.{Sparse}
 use Rattle.task_words.specs.declared.sure.sums.Sums.{Sums}
 use Rattle.task_words.specs.declared.sure.telling.Told.{Told}

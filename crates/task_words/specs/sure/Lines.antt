@@ -1,12 +1,8 @@
 -- The lines of the word `sure`.
 use Rattle.std.specs.Prelude.{◌≡◌, ℕ, List, [], ◌∷◌, ◌++◌, map, nat_lt, if◌then◌else◌, codes}
 use Rattle.std.specs.List.{enumerate_from}
-use Rattle.dover_model.specs.Fraction.{Fraction}
-use Rattle.dover_model.specs.Instance.{Declaration}
-use Rattle.dover_model.specs.Limits.{most_value}
-use Rattle.dover_model.specs.Lines.{in_lines, with_numbers}
-use Rattle.dover_model.specs.Orders.{is_heavy}
-use Rattle.dover_model.specs.Sure.{Stream, stream_at, is_spread}
+use Rattle.dover_model.specs.Common.{Fraction, Declaration, most_value, in_lines, with_numbers, is_heavy, Stream}
+use Rattle.dover_model.specs.Common.{stream_at, is_spread}
 use Rattle.root_compare.specs.Least.{least_heavy}
 use Rattle.dover_port.specs.declared.status.Status.{Status}
 use Rattle.dover_port.specs.declared.status.Status.TheVariants.{Done}

@@ -1,9 +1,8 @@
 -- Tasks as streams of jobs, and what can stand against one of them.
 use Rattle.std.specs.Prelude.{◌==◌, ◌||◌, ◌*◌, ◌&&◌, ℕ, List, Bool, map, nat_le, if◌then◌else◌, set}
 use Rattle.std.specs.List.{list_all, sum_by, enumerate_from}
-use Rattle.dover_model.specs.Fraction.{Fraction}
-use Rattle.dover_model.specs.Orders.{is_heavy}
-use Rattle.dover_model.specs.Sure.{Stream, stream_at, most_crossing, most_beside, most_fitting, is_spread}
+use Rattle.dover_model.specs.Common.{Fraction, is_heavy, Stream, stream_at, most_crossing, most_beside, most_fitting}
+use Rattle.dover_model.specs.Common.{is_spread}
 use Rattle.task_words.specs.declared.tasks.task.PeriodicTask.{PeriodicTask}
 
 -- the stream of a task's jobs, whose releases may come at any ticks that are a period apart or more

@@ -2,13 +2,10 @@
 use Rattle.std.specs.Prelude.{ℕ, ◌*◌, ◌≤◌, List, map, length, ◌==◌, if◌then◌else◌, Option, Some, IsTrue}
 use Rattle.std.specs.List.{AllByRecursion, sum_by}
 use Rattle.dover_model.specs.declared.events.Version.TheVariants.{Two}
-use Rattle.dover_model.specs.Limits.{most_jobs, most_total}
+use Rattle.dover_model.specs.Common.{most_jobs, most_total, IsJob, Fraction, Declaration, is_within_ratio, total_value}
+use Rattle.dover_model.specs.Common.{refusal_of}
 use Rattle.dover_model.specs.declared.events.Refusal.{Refusal}
 use Rattle.dover_model.specs.declared.events.Refusal.TheVariants.{BadJob}
-use Rattle.dover_model.specs.JobFacts.{IsJob}
-use Rattle.dover_model.specs.Fraction.{Fraction}
-use Rattle.dover_model.specs.Instance.{Declaration, is_within_ratio, total_value}
-use Rattle.dover_model.specs.Admission.{refusal_of}
 use Rattle.task_words.specs.tasks.Tasks.{jobs_before, count_before, tested_job}
 use Rattle.task_words.specs.declared.tasks.task.PeriodicTask.{PeriodicTask}
 

@@ -1,8 +1,7 @@
 -- The next release of each task, and the jobs that came before.
 use Rattle.std.specs.Prelude.{◌≡◌, ℕ, suc, ◌≤◌, ◌<◌, List, ◌++◌, length, take, get_or, true, false}
 use Rattle.std.specs.Prelude.{Option, Some, None, if◌then◌else◌, nat_lt}
-use Rattle.dover_model.specs.JobFacts.{JobFacts}
-use Rattle.dover_model.specs.Limits.{last_tick}
+use Rattle.dover_model.specs.Common.{JobFacts, last_tick}
 use Rattle.place_heap.specs.Items.{ItemFacts}
 use Rattle.task_words.specs.tasks.Tasks.{releases, released_at, jobs_before}
 use Rattle.task_words.specs.declared.tasks.task.PeriodicTask.{PeriodicTask}

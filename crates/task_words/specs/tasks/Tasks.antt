@@ -1,9 +1,7 @@
 -- Periodic tasks, and the jobs that they release.
-use Rattle.std.specs.Prelude.{ℕ, zero, suc, ◌+◌, ◌-◌, ◌*◌, ◌%◌, List, [], ◌++◌, map, Bool, ◌&&◌, ◌==◌, nat_le}
+use Rattle.std.specs.Prelude.{ℕ, zero, suc, ◌+◌, ◌-◌, ◌*◌, ◌%◌, List, [], ◌++◌, map, Bool, ◌&&◌, ◌==◌, nat_le, filter}
 use Rattle.std.specs.Int.{div_ceil}
-use Rattle.std.specs.List.{filter}
-use Rattle.dover_model.specs.JobFacts.{JobFacts, job_of_numbers}
-use Rattle.dover_model.specs.Instance.{Declaration, under, Instance}
+use Rattle.dover_model.specs.Common.{JobFacts, job_of_numbers, Declaration, under, Instance}
 use Rattle.task_words.specs.declared.tasks.task.PeriodicTask.{PeriodicTask}
 
 -- ---- the jobs of tasks

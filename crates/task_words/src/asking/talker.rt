@@ -1,8 +1,7 @@
 //! What the reading loop calls: a reader of the tasks, of which something is asked at the end.
 ghost use Rattle.std.specs.Prelude.{◌≡◌, [], ◌≤◌};
 ghost use Rattle.dialogue.specs.Turns.{StopCause, StopsOn};
-ghost use Rattle.dover_model.specs.Fraction.{IsRatio};
-ghost use Rattle.dover_model.specs.Session.{IsDeclarable};
+ghost use Rattle.dover_model.specs.Common.{IsRatio, IsDeclarable};
 ghost use Rattle.task_words.specs.tasks.Limits.{AreTasks};
 ghost use Rattle.task_words.specs.reading.Keeping.{IsKnown};
 ghost use Rattle.task_words.specs.reading.Record.{listed_rules};
@@ -15,6 +14,7 @@ ghost use Rattle.task_words.specs.asking.Spending.{Costs};
 use crate::asking::question::TaskQuestion;
 use crate::reading::{ListedTasks, TaskReader};
 use crate::{budget, sure, unroll};
+use comparison_count::Comparisons;
 use dialogue::lines::put_fault;
 use dialogue::{Stop, Talker};
 use dover_model::Memory;
@@ -23,7 +23,6 @@ use line_text::BackLine;
 use std::alloc::Global;
 use std::marker::PhantomData;
 use std::sync::ledger::Ledger;
-use step_count::Steps;
 
 /// The answer to the question on these tasks.
 fn answer<P: Port, L: Ledger>(
@@ -32,7 +31,7 @@ fn answer<P: Port, L: Ledger>(
     out: &mut Output,
     question: TaskQuestion,
     listed: ListedTasks,
-    steps: &mut Steps<L>,
+    comparisons: &mut Comparisons<L>,
 ) -> Result<Status, Stop>
     requires empty { out.old ≡ [] }
     requires known { IsKnown (until_of question) }
@@ -41,13 +40,20 @@ fn answer<P: Port, L: Ledger>(
     requires are { AreTasks (until_of question) (listed_rules listed).ratio listed.tasks.items }
     ensures says { SaysBy (Says question (listed_rules listed) listed.tasks.items)
         (P.moves port.old) (P.moves port.new) out.new result }
-    ensures count { CostsFew question listed.tasks.items steps.old steps.new }
+    ensures count { CostsFew question listed.tasks.items comparisons.old comparisons.new }
     ensures cause { StopCause result
         (P.write_faults port.old) (P.write_faults port.new) (P.read_faults port.old) (P.read_faults port.new) }
     ensures stops { StopsOn result (P.calls port.old) (P.calls port.new) }
 {
     match question {
-        TaskQuestion::Unroll { until } => unroll::answer(alloc, port, out, listed, until, steps),
+        TaskQuestion::Unroll { until } => unroll::answer(
+            alloc,
+            port,
+            out,
+            listed,
+            until,
+            comparisons,
+        ),
         TaskQuestion::Sure => sure::answer(port, out, &listed),
         TaskQuestion::Budget { cost } => budget::answer(alloc, port, out, &listed, cost),
     }
@@ -63,7 +69,7 @@ pub(crate) struct AskingTasks<L: Ledger> {
 }
 
 impl<L: Ledger> Talker for AskingTasks<L> {
-    type Meter = Steps<L>;
+    type Meter = Comparisons<L>;
 
     ghost about = { Asked };
 
@@ -77,21 +83,21 @@ impl<L: Ledger> Talker for AskingTasks<L> {
 
     fn laws() {}
 
-    fn goes_on(&self, _meter: &Steps<L>) -> bool {
+    fn goes_on(&self, _meter: &Comparisons<L>) -> bool {
         self.reader.goes_on()
     }
 
-    fn take(&mut self, _meter: &mut Steps<L>, piece: &[u8]) -> Result<usize, Memory> {
+    fn take(&mut self, _meter: &mut Comparisons<L>, piece: &[u8]) -> Result<usize, Memory> {
         self.reader.take(piece)
     }
 
-    fn next_part(&mut self, _meter: &mut Steps<L>, _part: &mut BackLine) -> bool {
+    fn next_part(&mut self, _meter: &mut Comparisons<L>, _part: &mut BackLine) -> bool {
         false
     }
 
     fn answer<P: Port>(
         self,
-        meter: &mut Steps<L>,
+        meter: &mut Comparisons<L>,
         port: &mut P,
         out: &mut Output,
         _ended: bool,

@@ -10,12 +10,12 @@ ghost use Rattle.task_words.specs.asking.Talk.{tasks_talk};
 use crate::asking::question::{TaskQuestion, until_of};
 use crate::asking::talker::AskingTasks;
 use crate::reading::TaskReader;
+use comparison_count::Comparisons;
 use dialogue::converse;
 use dover_port::{Port, Status};
 use std::alloc::Global;
 use std::marker::PhantomData;
 use std::sync::ledger::Ledger;
-use step_count::Steps;
 
 /// Reads a task text to its end, and then answers a question on its tasks. A text with a fault, or that ends too early,
 /// is refused. Memory is taken for each task alone, and none once the first byte is written.
@@ -33,11 +33,11 @@ pub fn tasks_word<P: Port, L: Ledger>(
     alloc: Global,
     port: &mut P,
     question: TaskQuestion,
-    steps: &mut Steps<L>,
+    comparisons: &mut Comparisons<L>,
 ) -> Status
     requires { IsKnown (until_of question) }
     ensures talks { Since (P.moves port.old) (P.moves port.new) (Talks (tasks_talk question) result) }
-    ensures count { Since (P.moves port.old) (P.moves port.new) (IsFrugal question steps.old steps.new) }
+    ensures count { Since (P.moves port.old) (P.moves port.new) (IsFrugal question comparisons.old comparisons.new) }
     ensures ends { CanEnd (Talks (tasks_talk question)) result }
     ensures causes { Causes result (P.read_faults port.old) (P.read_faults port.new) (P.write_faults port.old)
         (P.write_faults port.new) }
@@ -49,5 +49,5 @@ pub fn tasks_word<P: Port, L: Ledger>(
         reader: TaskReader::new(alloc, until_of(question)),
         counts: PhantomData,
     };
-    converse(port, asking, steps)
+    converse(port, asking, comparisons)
 }

@@ -1,15 +1,8 @@
 //! What budgets promise, the contract of a function that does nothing.
 ghost use Rattle.std.specs.Prelude.{◌≡◌, ◌≤◌, ◌<◌, ◌+◌, ◌*◌, ℕ, List, length, true};
 ghost use Rattle.dover_model.specs.declared.events.Task.{Task};
-ghost use Rattle.dover_model.specs.Finishes.{need};
-ghost use Rattle.dover_model.specs.Instance.{Instance, IsValid};
-ghost use Rattle.dover_model.specs.JobFacts.{JobFacts};
-ghost use Rattle.dover_model.specs.Observed.{end_state};
-ghost use Rattle.dover_model.specs.Run.{ran};
-ghost use Rattle.dover_model.specs.Schedules.{numbered};
-ghost use Rattle.dover_model.specs.Sound.{IsMember};
-ghost use Rattle.dover_model.specs.State.{is_done};
-ghost use Rattle.dover_model.specs.Switches.{most_changes, useful};
+ghost use Rattle.dover_model.specs.Common.{need, Instance, IsValid, JobFacts, end_state, ran, numbered, IsMember};
+ghost use Rattle.dover_model.specs.Common.{is_done, most_changes, useful};
 ghost use Rattle.task_words.specs.budget.Budgets.{AreOfTasks, budgeted, most_gets, task_at};
 ghost use Rattle.task_words.specs.declared.tasks.task.PeriodicTask.{PeriodicTask};
 

@@ -1,14 +1,11 @@
 //! What is kept of a task text between its lines.
-ghost use Rattle.std.specs.Prelude.{◌≡◌, ℕ, List, ◌∷◌, ◌++◌, [], Option, Some, IfErr};
-ghost use Rattle.dover_model.specs.Instance.{Declaration as Rules};
-ghost use Rattle.std.specs.Option.{option_map};
+ghost use Rattle.std.specs.Prelude.{◌≡◌, ℕ, List, ◌∷◌, ◌++◌, [], Option, Some, IfErr, option_map};
+ghost use Rattle.dover_model.specs.Common.{Declaration as Rules, rules_with};
 ghost use Rattle.dover_model.specs.Feed as feed;
-ghost use Rattle.dover_model.specs.Feed.{rules_with};
 ghost use Rattle.task_words.specs.declared.tasks.task.PeriodicTask.{PeriodicTask};
 ghost use Rattle.task_words.specs.reading.Account.{TaskAccount, account_of_lines, cause_of, with_line};
 ghost use Rattle.task_words.specs.reading.Keeping.{Declares, IsKnown, Keeps, KeepsAccount, KeepsDeclared, KeepsRules};
-ghost use Rattle.task_words.specs.reading.Keeping.{StandsAt};
-ghost use Rattle.task_words.specs.reading.Keeping.{Takes};
+ghost use Rattle.task_words.specs.reading.Keeping.{StandsAt, Takes};
 ghost use Rattle.task_words.specs.reading.Faults.{NamesOther, NamesAt};
 ghost use Rattle.task_words.specs.reading.Lines.{HasNumerals, task_line};
 ghost use Rattle.task_words.specs.declared.reading.lines.TaskLine.{TaskLine};

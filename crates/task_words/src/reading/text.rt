@@ -7,7 +7,7 @@ ghost use Rattle.task_words.specs.reading.Keeping.{IsKnown, StandsAt, TextStands
 ghost use Rattle.task_words.specs.declared.reading.intake.Progress.TheVariants.{Open};
 
 use crate::reading::intake::{Progress, TaskIntake};
-use line_text::{Lines, Step};
+use line_text::{ByteEffect, Lines};
 use std::alloc::Global;
 
 /// What is kept of a task text: the line that has begun, and what the lines before it said.
@@ -40,9 +40,9 @@ impl TaskText {
             NamesIn until result (x ++ byte ∷ []) }
     {
         match self.lines.push(byte) {
-            Step::More => Progress::Open,
-            Step::Line => self.intake.take_line(self.lines.line()),
-            Step::TooLong => self.intake.take_line(self.lines.line()),
+            ByteEffect::More => Progress::Open,
+            ByteEffect::Line => self.intake.take_line(self.lines.line()),
+            ByteEffect::TooLong => self.intake.take_line(self.lines.line()),
         }
     }
 

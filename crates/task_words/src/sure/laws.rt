@@ -1,12 +1,8 @@
 //! What `sure` promises, the contract of a function that does nothing.
 ghost use Rattle.std.specs.Prelude.{◌≡◌, ◌≤◌, ◌<◌, ◌↔◌, ℕ, List, length, true};
-ghost use Rattle.dover_model.specs.Fraction.{Fraction, IsRatio};
-ghost use Rattle.dover_model.specs.Instance.{Instance, IsValid};
-ghost use Rattle.dover_model.specs.JobFacts.{JobFacts};
-ghost use Rattle.dover_model.specs.Limits.{most_value};
-ghost use Rattle.dover_model.specs.Schedules.{numbered};
-ghost use Rattle.dover_model.specs.Sound.{IsMember};
-ghost use Rattle.dover_model.specs.Sure.{AreOfStreams, IsCompleted, IsOfStream, Stream, is_spread, stream_at};
+ghost use Rattle.dover_model.specs.Common.{Fraction, IsRatio, Instance, IsValid, JobFacts, most_value, numbered};
+ghost use Rattle.dover_model.specs.Common.{IsMember, AreOfStreams, IsCompleted, IsOfStream, Stream, is_spread};
+ghost use Rattle.dover_model.specs.Common.{stream_at};
 ghost use Rattle.root_compare.specs.Least.{least_heavy};
 ghost use Rattle.task_words.specs.sure.Streams.{is_sure, most_against, with_value};
 

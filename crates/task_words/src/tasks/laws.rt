@@ -1,7 +1,6 @@
 //! A law of the jobs that tasks release, the contract of a function that does nothing.
 ghost use Rattle.std.specs.Prelude.{ℕ, List};
-ghost use Rattle.dover_model.specs.Fraction.{IsRatio};
-ghost use Rattle.dover_model.specs.Instance.{Declaration, IsValid};
+ghost use Rattle.dover_model.specs.Common.{IsRatio, Declaration, IsValid};
 ghost use Rattle.task_words.specs.tasks.Tasks.{unrolled};
 ghost use Rattle.task_words.specs.tasks.Limits.{AreTasks, Fits};
 ghost use Rattle.task_words.specs.declared.tasks.task.PeriodicTask.{PeriodicTask};

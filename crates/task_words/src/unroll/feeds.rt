@@ -2,9 +2,7 @@
 ghost use Rattle.std.specs.Prelude.{◌≤◌, ◌<◌, ◌^◌, ◌+◌, ◌*◌, [], ℕ, length, map};
 ghost use Rattle.std.specs.List.{AllByRecursion};
 ghost use Rattle.dover_model.specs.declared.events.Version.TheVariants.{Two};
-ghost use Rattle.dover_model.specs.Limits.{most_jobs};
-ghost use Rattle.dover_model.specs.Lines.{in_lines};
-ghost use Rattle.dover_model.specs.Feed.{rules_with};
+ghost use Rattle.dover_model.specs.Common.{most_jobs, in_lines, rules_with};
 ghost use Rattle.dover_port.specs.Causes.{HasCause, StopsAtFailure};
 ghost use Rattle.dover_port.specs.Moves.{PutsThrough};
 ghost use Rattle.task_words.specs.tasks.Limits.{IsTask};
@@ -13,12 +11,12 @@ ghost use Rattle.task_words.specs.tasks.Tasks.{jobs_before, unrolled};
 ghost use Rattle.event_feed.specs.Feeds.{feed_of, job_text};
 
 use crate::tasks::Unrolling;
+use comparison_count::Comparisons;
 use dialogue::lines::{put_feed_line, put_job, put_rules};
 use dover_model::{Ratio, Version};
 use dover_port::{Failed, Output, Port};
 use line_text::feeds::FeedLine;
 use std::sync::ledger::Ledger;
-use step_count::Steps;
 
 /// More jobs than a feed has.
 const MORE_JOBS: u32 = 1_000_001;
@@ -28,7 +26,7 @@ fn put_jobs<P: Port, L: Ledger>(
     port: &mut P,
     out: &mut Output,
     unrolling: &mut Unrolling,
-    steps: &mut Steps<L>,
+    comparisons: &mut Comparisons<L>,
 ) -> Result<(), Failed>
     requires stands { StandsBehind unrolling.old [] }
     requires each { AllByRecursion (IsTask unrolling.old.until) unrolling.old.tasks }
@@ -36,7 +34,7 @@ fn put_jobs<P: Port, L: Ledger>(
     ensures text { PutsThrough (P.moves port.old) (P.moves port.new) result out.old out.new
         (in_lines (map job_text (jobs_before unrolling.old.until unrolling.old.tasks))) }
     ensures count { (d : ℕ) → length unrolling.old.tasks + 1 < 2 ^ d →
-        steps.new ≤ steps.old + 4 * d * length (jobs_before unrolling.old.until unrolling.old.tasks) }
+        comparisons.new ≤ comparisons.old + 4 * d * length (jobs_before unrolling.old.until unrolling.old.tasks) }
     ensures cause { HasCause (P.write_faults port.old) (P.write_faults port.new) (P.read_faults port.old)
         (P.read_faults port.new) result }
     ensures stops { StopsAtFailure (P.calls port.old) (P.calls port.new) result }
@@ -44,7 +42,7 @@ fn put_jobs<P: Port, L: Ledger>(
     let mut count = 0u32;
     while count < MORE_JOBS {
         count += 1;
-        let Some(job) = unrolling.next_job(steps) else {
+        let Some(job) = unrolling.next_job(comparisons) else {
             return Ok(());
         };
         match put_job(port, out, &job) {
@@ -61,7 +59,7 @@ pub(crate) fn put_feed<P: Port, L: Ledger>(
     out: &mut Output,
     rules: (Ratio, Version),
     unrolling: &mut Unrolling,
-    steps: &mut Steps<L>,
+    comparisons: &mut Comparisons<L>,
 ) -> Result<(), Failed>
     requires stands { StandsBehind unrolling.old [] }
     requires each { AllByRecursion (IsTask unrolling.old.until) unrolling.old.tasks }
@@ -69,7 +67,7 @@ pub(crate) fn put_feed<P: Port, L: Ledger>(
     ensures text { PutsThrough (P.moves port.old) (P.moves port.new) result out.old out.new
         (feed_of (unrolled unrolling.old.until (rules_with rules.0 rules.1) unrolling.old.tasks)) }
     ensures count { (d : ℕ) → length unrolling.old.tasks + 1 < 2 ^ d →
-        steps.new ≤ steps.old + 4 * d * length (jobs_before unrolling.old.until unrolling.old.tasks) }
+        comparisons.new ≤ comparisons.old + 4 * d * length (jobs_before unrolling.old.until unrolling.old.tasks) }
     ensures cause { HasCause (P.write_faults port.old) (P.write_faults port.new) (P.read_faults port.old)
         (P.read_faults port.new) result }
     ensures stops { StopsAtFailure (P.calls port.old) (P.calls port.new) result }
@@ -78,7 +76,7 @@ pub(crate) fn put_feed<P: Port, L: Ledger>(
         Ok(()) => {}
         Err(failed) => return Err(failed),
     }
-    match put_jobs(port, out, unrolling, steps) {
+    match put_jobs(port, out, unrolling, comparisons) {
         Ok(()) => {}
         Err(failed) => return Err(failed),
     }

@@ -1,11 +1,7 @@
 -- The line of an accepted trace.
 use Rattle.std.proofs.Common.{◌≡◌, ℕ, List, ◌∷◌, ◌++◌, [], sym, ap, ◌∙◌, subst, Option, Result, codes}
-use Rattle.dover_model.specs.Bound.{bound}
-use Rattle.dover_model.specs.Fraction.{Fraction}
-use Rattle.dover_model.specs.Lines.{with_numbers}
+use Rattle.dover_model.specs.Common.{bound, Fraction, with_numbers, completed_value, instance_of}
 use Rattle.dover_model.specs.declared.events.Version.{Version}
-use Rattle.dover_model.specs.Run.{completed_value}
-use Rattle.dover_model.specs.Session.{instance_of}
 use Rattle.dover_model.specs.Verdict as model
 use Rattle.dover_port.specs.Moves.{Move, PutsThrough}
 use Rattle.dover_port.specs.declared.port.Failed.{Failed}

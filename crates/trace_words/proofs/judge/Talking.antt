@@ -1,17 +1,15 @@
 -- What a word says that judges a text: its laws.
-use Rattle.std.proofs.Common.{◌≡◌, ◌<◌, ◌^◌, ◌-◌, ℕ, List, ◌++◌, [], length, refl, ap, ◌∙◌, arith, Bool, true}
-use Rattle.std.proofs.Common.{false, not, inl, inr, Option, Ok, Err}
-use Rattle.dover_model.specs.Session.{Session}
+use Rattle.std.proofs.Common.{◌≡◌, ◌<◌, ◌^◌, ◌-◌, ℕ, List, ◌++◌, [], length, refl, ap, ◌∙◌, arith, Bool, true, false}
+use Rattle.std.proofs.Common.{not, inl, inr, Option, Ok, Err}
+use Rattle.dover_model.specs.Common.{Session, verdict}
 use Rattle.dover_model.specs.Verdict as model
-use Rattle.dover_model.specs.Verdict.{verdict}
-use Rattle.dover_model.proofs.WrongStays.{wrong_verdict_stays}
+use Rattle.dover_model.proofs.traces.WrongStays.{wrong_verdict_stays}
 use Rattle.dover_port.specs.declared.status.Status.{Status}
 use Rattle.dover_port.specs.declared.status.Status.TheVariants.{Done, No, Refused, ReadFault, WriteFault, Memory, Usage}
-use Rattle.dover_model.proofs.Spending.{few_more}
-use Rattle.trace_judge.specs.Judging.{StandsFor, HasPaidFor, Fed, PaysFor, Tells, is_wrong, jobs_named}
-use Rattle.trace_judge.specs.Judging.{keeps, steps_told}
+use Rattle.dover_model.proofs.runs.Spending.{few_more}
+use Rattle.trace_judge.specs.Judging.{StandsFor, HasPaidFor, Fed, PaysFor, Tells, is_wrong, jobs_named, keeps}
+use Rattle.trace_judge.specs.Judging.{steps_told, Judged}
 use Rattle.trace_judge.specs.declared.judge.Closed.{Closed}
-use Rattle.trace_judge.specs.Judging.{Judged}
 use Rattle.trace_judge.proofs.Judging.{named_more}
 use Rattle.trace_judge.proofs.Lengths.{few_bytes}
 use Rattle.trace_judge.proofs.Spending.{costs_few}

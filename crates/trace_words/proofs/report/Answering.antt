@@ -1,10 +1,7 @@
 -- What is told of a text, and what is put of it.
 use Rattle.std.proofs.Common.{◌≡◌, ℕ, List, [], refl, sym, ap, ◌∙◌, subst, Option, Bool, true, Ok, Err}
 use Rattle.run_record.specs.intervals.Rows.{IsRunOf}
-use Rattle.dover_model.specs.Fraction.{Fraction}
-use Rattle.dover_model.specs.Instance.{Instance, IsListable}
-use Rattle.dover_model.specs.Run.{printed}
-use Rattle.dover_model.specs.Session.{instance_of}
+use Rattle.dover_model.specs.Common.{Fraction, Instance, IsListable, printed, instance_of}
 use Rattle.dover_model.specs.Verdict as model
 use Rattle.dover_model.specs.declared.events.Event.{Event}
 use Rattle.dover_model.specs.declared.events.Version.{Version}
@@ -25,7 +22,7 @@ use Rattle.trace_judge.specs.declared.verdict.Verdict.TheVariants.{Accepted, Wro
 use Rattle.trace_words.specs.declared.report.form.Form.{Form}
 use Rattle.trace_words.specs.report.Talk.{IsListed, SaysReport, report_text, told, report_talk}
 use Rattle.trace_words.specs.report.Talking.{Puts}
-use Rattle.dover_model.proofs.SessionParts.{session_jobs}
+use Rattle.dover_model.proofs.sessions.SessionParts.{session_jobs}
 
 -- the run of equal steps
 pub same_run : (k : Fraction) (J : Instance) (es fs : List Event) → es ≡ fs → IsRunOf k fs J → IsRunOf k es J

@@ -1,11 +1,8 @@
 -- The line of a verdict, and its status.
 use Rattle.std.specs.Prelude.{ℕ, List, [], ◌∷◌, ◌++◌, codes, decimal}
-use Rattle.dover_model.specs.Bound.{bound}
-use Rattle.dover_model.specs.Lines.{line_of, with_numbers}
-use Rattle.dover_model.specs.Run.{completed_value}
-use Rattle.dover_model.specs.Session.{instance_of}
-use Rattle.dover_model.specs.Text.{text_of}
-use Rattle.dover_model.specs.Verdict.{Expected, Header, Step, Nothing, Verdict, Accepted, Wrong, Short}
+use Rattle.dover_model.specs.Common.{bound, line_of, with_numbers, completed_value, instance_of, text_of, Expected}
+use Rattle.dover_model.specs.Common.{Header, Nothing, Verdict, Accepted, Wrong}
+use Rattle.dover_model.specs.Verdict.{Step, Short}
 use Rattle.dover_port.specs.declared.status.Status.{Status}
 use Rattle.dover_port.specs.declared.status.Status.TheVariants.{Done, No}
 use Rattle.trace_judge.specs.declared.verdict.Verdict.{Verdict as Told}

@@ -1,8 +1,6 @@
 -- What is kept of a text that is judged, and the last word on it.
 use Rattle.std.specs.Prelude.{◌≡◌, ℕ, List, Bool}
-use Rattle.dover_model.specs.Session.{Session}
-use Rattle.dover_model.specs.Spending.{CostsAtMost}
-use Rattle.dover_model.specs.Verdict.{Accepted, verdict, refused_count}
+use Rattle.dover_model.specs.Common.{Session, CostsAtMost, Accepted, verdict, refused_count}
 use Rattle.trace_judge.specs.Judging.{Judged, StandsFor, HasPaidFor, Tells, jobs_named, keeps, steps_told}
 use Rattle.trace_judge.specs.declared.judge.Closed.{Closed}
 

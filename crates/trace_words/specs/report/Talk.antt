@@ -1,8 +1,6 @@
 -- What the word says, by the bytes got so far.
 use Rattle.std.specs.Prelude.{◌≡◌, List, ℕ, true}
-use Rattle.dover_model.specs.Instance.{Instance, IsListable}
-use Rattle.dover_model.specs.Reports.{report, table}
-use Rattle.dover_model.specs.Session.{Session, instance_of}
+use Rattle.dover_model.specs.Common.{Instance, IsListable, report, table, Session, instance_of}
 use Rattle.dover_model.specs.Verdict as model
 use Rattle.dover_port.specs.declared.status.Status.TheVariants.{Done, No, Refused}
 use Rattle.dialogue.specs.Sizes.{size_text}

@@ -4,13 +4,13 @@ ghost use Rattle.trace_words.specs.judge.Talk.{judging_talk};
 ghost use Rattle.trace_words.specs.judge.Talking.{Call, IsReady, Costs};
 
 use crate::judge::Teller;
+use comparison_count::Comparisons;
 use dialogue::{Stop, Talker};
 use dover_model::Memory;
 use dover_port::{Output, Port, Status};
 use line_text::BackLine;
 use std::marker::PhantomData;
 use std::sync::ledger::Ledger;
-use step_count::Steps;
 use trace_judge::Judge;
 
 /// A judge of the text, and what tells its last word. Nothing is due before the answer.
@@ -22,7 +22,7 @@ pub(crate) struct Judging<T: Teller, L: Ledger> {
 }
 
 impl<T: Teller, L: Ledger> Talker for Judging<T, L> {
-    type Meter = Steps<L>;
+    type Meter = Comparisons<L>;
 
     ghost about = { Call T };
 
@@ -38,7 +38,7 @@ impl<T: Teller, L: Ledger> Talker for Judging<T, L> {
         T::laws();
     }
 
-    fn take(&mut self, meter: &mut Steps<L>, piece: &[u8]) -> Result<usize, Memory> {
+    fn take(&mut self, meter: &mut Comparisons<L>, piece: &[u8]) -> Result<usize, Memory> {
         T::laws();
         match self.judge.feed(piece, meter) {
             Ok(()) => Ok(piece.len()),
@@ -46,17 +46,17 @@ impl<T: Teller, L: Ledger> Talker for Judging<T, L> {
         }
     }
 
-    fn next_part(&mut self, _meter: &mut Steps<L>, _part: &mut BackLine) -> bool {
+    fn next_part(&mut self, _meter: &mut Comparisons<L>, _part: &mut BackLine) -> bool {
         false
     }
 
-    fn goes_on(&self, _meter: &Steps<L>) -> bool {
+    fn goes_on(&self, _meter: &Comparisons<L>) -> bool {
         !self.judge.decided()
     }
 
     fn answer<P: Port>(
         self,
-        _meter: &mut Steps<L>,
+        _meter: &mut Comparisons<L>,
         port: &mut P,
         out: &mut Output,
         _ended: bool,

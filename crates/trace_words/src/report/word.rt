@@ -1,11 +1,8 @@
 //! The word as a whole.
 ghost use Rattle.std.specs.Prelude.{◌≡◌, ◌≢◌, ◌↔◌, ◌++◌, ℕ, List, [], IsTrue, true, IfOk};
 ghost use Rattle.run_record.specs.intervals.Rows.{IsRunOf};
-ghost use Rattle.dover_model.specs.Fraction.{Fraction};
-ghost use Rattle.dover_model.specs.Instance.{Instance, IsListable, IsValid};
-ghost use Rattle.dover_model.specs.Lines.{in_lines};
+ghost use Rattle.dover_model.specs.Common.{Fraction, Instance, IsListable, IsValid, in_lines, printed};
 ghost use Rattle.dover_model.specs.Reports as model;
-ghost use Rattle.dover_model.specs.Run.{printed};
 ghost use Rattle.dover_port.specs.Causes.{Causes, HasCause, StopsAtFailure, StopsWith};
 ghost use Rattle.dover_port.specs.Moves.{PutsThrough, Since};
 ghost use Rattle.dialogue.specs.Sizes.{size_text};
@@ -19,6 +16,7 @@ ghost use Rattle.trace_words.specs.declared.report.form.Form.TheVariants.{Text, 
 
 use crate::judge::{Teller, judge_and_tell, put_verdict, status_of};
 use crate::report::Form;
+use comparison_count::Comparisons;
 use dialogue::Stop;
 use dover_model::{Memory, PackedEvent, Ratio, Version};
 use dover_port::{Failed, Output, Port, Status, put_all};
@@ -28,7 +26,6 @@ use run_reports::report::{Findings, TableRows, is_listable};
 use run_reports::views::{chrome, timeline, why};
 use std::alloc::Global;
 use std::sync::ledger::Ledger;
-use step_count::Steps;
 use trace_judge::{Closed, Verdict};
 
 /// The report as a text on the run of this version that prints these steps, which are let go before it is written.
@@ -256,14 +253,14 @@ pub fn report_word<P: Port, L: Ledger>(
     alloc: Global,
     port: &mut P,
     form: Form,
-    steps: &mut Steps<L>,
+    comparisons: &mut Comparisons<L>,
 ) -> Status
     ensures talks { Since (P.moves port.old) (P.moves port.new) (Talks (report_talk form) result) }
-    ensures count { Since (P.moves port.old) (P.moves port.new) (IsFrugal steps.old steps.new) }
+    ensures count { Since (P.moves port.old) (P.moves port.new) (IsFrugal comparisons.old comparisons.new) }
     ensures ends { CanEnd (Talks (report_talk form)) result }
     ensures causes { Causes result
         (P.read_faults port.old) (P.read_faults port.new) (P.write_faults port.old) (P.write_faults port.new) }
     ensures stops { StopsWith result (P.calls port.old) (P.calls port.new) }
 {
-    judge_and_tell(alloc, port, Reporting { alloc, form }, true, steps)
+    judge_and_tell(alloc, port, Reporting { alloc, form }, true, comparisons)
 }

@@ -1,5 +1,4 @@
-use Rattle.std.proofs.Common.{◌≡◌, refl, ◌∙◌, sym, true, false, length}
-use Rattle.std.proofs.lemmas.Bool.{eqb-true}
+use Rattle.std.proofs.Common.{◌≡◌, refl, ◌∙◌, sym, true, false, length, eqb-true}
 use Rattle.std.proofs.lemmas.List.{nil_from_length}
 use Rattle.dialogue.proofs.Hearing.{heard_none, heard_no_memory, heard_cut, heard_more}
 use Rattle.dialogue.proofs.turns.hear.Goals as goal

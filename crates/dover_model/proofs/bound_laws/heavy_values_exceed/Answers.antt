@@ -1,4 +1,4 @@
-use Rattle.dover_model.proofs.Calculus.{heavy_from, heavy_excess, factor_from, factor_over}
+use Rattle.dover_model.proofs.bound.Calculus.{heavy_from, heavy_excess, factor_from, factor_over}
 use Rattle.std.proofs.Common.{◌*◌, ◌<◌, ◌≤◌, ◌⊎◌, inl, inr, arith}
 use Rattle.std.proofs.lemmas.Bool.{cases_lt}
 use Rattle.std.proofs.lemmas.Nat.{mul-le}
@@ -16,4 +16,5 @@ returns-clause-factor x k b c v w some above = (
   more over (inl less) = less
   more over (inr low) = absurd (
       let one : c * v ≤ c * w = mul-le c v c w (omega arith) low in
-      let other : c * w ≤ b * w = mul-le c w b w (omega (arith, above)) (omega arith) in omega (arith, one, other, over))
+      let other : c * w ≤ b * w = mul-le c w b w (omega (arith, above)) (omega arith) in
+      omega (arith, one, other, over))

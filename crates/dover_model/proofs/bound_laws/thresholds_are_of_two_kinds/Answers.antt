@@ -1,4 +1,5 @@
-use Rattle.dover_model.proofs.Calculus.{root_agrees, factor_agrees, within_root, within_root_from, paid_root, paid_root_from}
+use Rattle.dover_model.proofs.bound.Calculus.{root_agrees, factor_agrees, within_root, within_root_from, paid_root}
+use Rattle.dover_model.proofs.bound.Calculus.{paid_root_from}
 use Rattle.dover_model.proofs.bound_laws.thresholds_are_of_two_kinds.Goals as goal
 
 pub returns-clause-paid_root : goal.returns-clause-paid_root

@@ -1,10 +1,8 @@
-use Rattle.std.proofs.Common.{arith, subst}
-use Rattle.std.proofs.lemmas.List.{take_all}
+use Rattle.std.proofs.Common.{arith, subst, take_all}
 use Rattle.std.proofs.lemmas.Grind.{common_steps}
-use Rattle.dover_model.specs.JobFacts.{IsJob}
-use Rattle.dover_model.specs.Sound.{Each}
-use Rattle.dover_model.proofs.Taking.{each_more}
-use Rattle.dover_model.proofs.JobLimits.{job_limits}
+use Rattle.dover_model.specs.Common.{IsJob, Each}
+use Rattle.dover_model.proofs.lists.Taking.{each_more}
+use Rattle.dover_model.proofs.valid.JobLimits.{job_limits}
 use Rattle.dover_model.proofs.jobs.total_value.Goals as goal
 
 pub loop-job-preserved : goal.loop-job-preserved

@@ -1,7 +1,5 @@
 use Rattle.std.proofs.Common.{◌≡◌, ◌≤◌, ◌*◌, take}
-use Rattle.dover_model.specs.JobFacts.{IsJob}
-use Rattle.dover_model.specs.Instance.{total_value}
-use Rattle.dover_model.specs.Sound.{Each}
+use Rattle.dover_model.specs.Common.{IsJob, total_value, Each}
 use Rattle.dover_model.proofs.jobs.total_value.Given as goal
 
 abbrev pub invariant-loop-job : goal.invariant-loop-job

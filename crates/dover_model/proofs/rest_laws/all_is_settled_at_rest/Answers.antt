@@ -1,5 +1,5 @@
-use Rattle.dover_model.proofs.RestTick.{rests_where_ended}
-use Rattle.dover_model.proofs.Apart.{settled_at_rest, end_at_rest}
+use Rattle.dover_model.proofs.rest.RestTick.{rests_where_ended}
+use Rattle.dover_model.proofs.rest.Apart.{settled_at_rest, end_at_rest}
 use Rattle.dover_model.proofs.rest_laws.all_is_settled_at_rest.Goals as goal
 
 pub returns-clause-rest : goal.returns-clause-rest

@@ -1,5 +1,5 @@
-use Rattle.dover_model.proofs.Parting.{bound_parted, bounds_parted}
-use Rattle.dover_model.proofs.InTurns.{turns_within}
+use Rattle.dover_model.proofs.rest.Parting.{bound_parted, bounds_parted}
+use Rattle.dover_model.proofs.rest.InTurns.{turns_within}
 use Rattle.dover_model.proofs.rest_laws.bounds_add_up.Goals as goal
 
 pub returns-clause-common : goal.returns-clause-common

@@ -1,4 +1,4 @@
-use Rattle.dover_model.proofs.Parting.{part_loses_nothing, none_lost_in_turn, all_value_in_turn}
+use Rattle.dover_model.proofs.rest.Parting.{part_loses_nothing, none_lost_in_turn, all_value_in_turn}
 use Rattle.dover_model.proofs.rest_laws.no_part_loses_in_underload.Goals as goal
 
 pub returns-clause-parted : goal.returns-clause-parted

@@ -1,4 +1,4 @@
-use Rattle.dover_model.proofs.Anew.{runs_anew, value_anew, declared_anew, observed_anew, honest_anew}
+use Rattle.dover_model.proofs.rest.Anew.{runs_anew, value_anew, declared_anew, observed_anew, honest_anew}
 use Rattle.dover_model.proofs.rest_laws.runs_anew_are_one_run.Goals as goal
 
 pub returns-clause-printed : goal.returns-clause-printed

@@ -1,4 +1,4 @@
-use Rattle.dover_model.proofs.Apart.{falls_apart, settled_falls_apart, value_apart}
+use Rattle.dover_model.proofs.rest.Apart.{falls_apart, settled_falls_apart, value_apart}
 use Rattle.dover_model.proofs.rest_laws.runs_fall_apart_at_rest.Goals as goal
 
 pub returns-clause-printed : goal.returns-clause-printed

@@ -1,4 +1,4 @@
-use Rattle.dover_model.proofs.Anew.{run_moved}
+use Rattle.dover_model.proofs.rest.Anew.{run_moved}
 use Rattle.dover_model.proofs.rest_laws.runs_move_in_time.Goals as goal
 
 pub returns : goal.returns

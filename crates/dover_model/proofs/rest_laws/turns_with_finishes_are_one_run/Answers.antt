@@ -1,8 +1,8 @@
-use Rattle.dover_model.proofs.InTurns.{one_run_prints, one_run_completes, settled_of_last, declared_within}
-use Rattle.dover_model.proofs.InTurns.{observed_within, one_run_observes}
-use Rattle.dover_model.proofs.TurnSchedules.{one_run_honest, one_run_plain}
-use Rattle.dover_model.proofs.TurnsLosing.{one_run_loses_none, one_run_earns_all}
-use Rattle.dover_model.proofs.TurnsGrowing.{printed_of_last}
+use Rattle.dover_model.proofs.rest.InTurns.{one_run_prints, one_run_completes, settled_of_last, declared_within}
+use Rattle.dover_model.proofs.rest.InTurns.{observed_within, one_run_observes}
+use Rattle.dover_model.proofs.rest.TurnSchedules.{one_run_honest, one_run_plain}
+use Rattle.dover_model.proofs.rest.TurnsLosing.{one_run_loses_none, one_run_earns_all}
+use Rattle.dover_model.proofs.rest.TurnsGrowing.{printed_of_last}
 use Rattle.dover_model.proofs.rest_laws.turns_with_finishes_are_one_run.Goals as goal
 
 pub returns-clause-printed : goal.returns-clause-printed

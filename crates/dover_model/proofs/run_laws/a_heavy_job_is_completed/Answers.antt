@@ -1,4 +1,4 @@
-use Rattle.dover_model.proofs.Sure.{heavy_throughout, heavy_at_start, heavy_beside}
+use Rattle.dover_model.proofs.sure.Sure.{heavy_throughout, heavy_at_start, heavy_beside}
 use Rattle.dover_model.proofs.run_laws.a_heavy_job_is_completed.Goals as goal
 
 pub returns-clause-throughout : goal.returns-clause-throughout

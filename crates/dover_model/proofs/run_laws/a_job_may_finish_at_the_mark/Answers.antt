@@ -1,4 +1,4 @@
-use Rattle.dover_model.proofs.Further.{stays_at_mark, next_at_mark}
+use Rattle.dover_model.proofs.finishes.Further.{stays_at_mark, next_at_mark}
 use Rattle.dover_model.proofs.run_laws.a_job_may_finish_at_the_mark.Goals as goal
 
 pub returns-clause-stays : goal.returns-clause-stays

@@ -1,4 +1,4 @@
-use Rattle.dover_model.proofs.Once.{takes_once, preempts_once, runs_complete}
+use Rattle.dover_model.proofs.runs.Once.{takes_once, preempts_once, runs_complete}
 use Rattle.dover_model.proofs.run_laws.a_job_takes_at_most_once.Goals as goal
 
 pub returns-clause-takes : goal.returns-clause-takes

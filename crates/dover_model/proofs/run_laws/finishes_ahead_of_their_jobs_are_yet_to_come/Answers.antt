@@ -1,5 +1,5 @@
-use Rattle.dover_model.proofs.AheadFinishes.{ahead_later, ahead_silent, ahead_at_mark}
-use Rattle.dover_model.proofs.Further.{ahead_yet}
+use Rattle.dover_model.proofs.finishes.AheadFinishes.{ahead_later, ahead_silent, ahead_at_mark}
+use Rattle.dover_model.proofs.finishes.Further.{ahead_yet}
 use Rattle.dover_model.proofs.run_laws.finishes_ahead_of_their_jobs_are_yet_to_come.Goals as goal
 
 pub returns-clause-yet : goal.returns-clause-yet

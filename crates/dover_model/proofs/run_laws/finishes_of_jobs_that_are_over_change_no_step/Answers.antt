@@ -1,4 +1,4 @@
-use Rattle.dover_model.proofs.Further.{over_open, over_step}
+use Rattle.dover_model.proofs.finishes.Further.{over_open, over_step}
 use Rattle.dover_model.proofs.run_laws.finishes_of_jobs_that_are_over_change_no_step.Goals as goal
 
 pub returns-clause-open : goal.returns-clause-open

@@ -1,7 +1,7 @@
 use Rattle.std.proofs.Common.{ap}
 use Rattle.dover_model.specs.State.{opening}
-use Rattle.dover_model.proofs.Barriers.{state_after}
-use Rattle.dover_model.proofs.Further.{settled_same}
+use Rattle.dover_model.proofs.settled.Barriers.{state_after}
+use Rattle.dover_model.proofs.finishes.Further.{settled_same}
 use Rattle.dover_model.proofs.run_laws.finishes_yet_to_come_change_nothing_settled.Goals as goal
 
 pub returns-clause-settled_steps : goal.returns-clause-settled_steps

@@ -1,4 +1,4 @@
-use Rattle.dover_model.proofs.Further.{settled_still, printed_still}
+use Rattle.dover_model.proofs.finishes.Further.{settled_still, printed_still}
 use Rattle.dover_model.proofs.run_laws.further_finishes_change_nothing_settled.Goals as goal
 
 pub returns-clause-while_open : goal.returns-clause-while_open

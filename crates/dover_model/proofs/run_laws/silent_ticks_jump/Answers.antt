@@ -1,5 +1,5 @@
 use Rattle.std.proofs.Common.{arith}
-use Rattle.dover_model.proofs.Jumping.{later_by-zero, after-later_by, later_keeps, later_ticks}
+use Rattle.dover_model.proofs.steps.Jumping.{later_by-zero, after-later_by, later_keeps, later_ticks}
 use Rattle.dover_model.proofs.run_laws.silent_ticks_jump.Goals as goal
 
 pub returns-clause-none : goal.returns-clause-none

@@ -1,4 +1,4 @@
-use Rattle.dover_model.proofs.Barriers.{settled_at_barrier}
+use Rattle.dover_model.proofs.settled.Barriers.{settled_at_barrier}
 use Rattle.dover_model.proofs.run_laws.the_barrier_is_at_the_mark.Goals as goal
 
 pub returns-clause-sound : goal.returns-clause-sound

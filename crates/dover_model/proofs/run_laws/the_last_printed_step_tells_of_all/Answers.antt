@@ -1,4 +1,4 @@
-use Rattle.dover_model.proofs.LastSteps.{last_tells}
+use Rattle.dover_model.proofs.settled.LastSteps.{last_tells}
 use Rattle.dover_model.proofs.run_laws.the_last_printed_step_tells_of_all.Goals as goal
 
 pub returns : goal.returns

@@ -1,9 +1,8 @@
 use Rattle.std.proofs.Common.{ap}
-use Rattle.dover_model.specs.Run.{printed_of}
-use Rattle.dover_model.proofs.FinishOrders.{same_alike, open_alike, step_alike, steps_alike, settled_alike, state_alike}
-use Rattle.dover_model.proofs.FinishOrders.{run_alike, finish_alike}
-use Rattle.dover_model.specs.Instance.{finishing}
-use Rattle.dover_model.proofs.Meeting.{finishing_valid}
+use Rattle.dover_model.specs.Common.{printed_of, finishing}
+use Rattle.dover_model.proofs.finishes.FinishOrders.{same_alike, open_alike, step_alike, steps_alike, settled_alike}
+use Rattle.dover_model.proofs.finishes.FinishOrders.{state_alike, run_alike, finish_alike}
+use Rattle.dover_model.proofs.finishes.Meeting.{finishing_valid}
 use Rattle.dover_model.proofs.run_laws.the_order_of_finishes_changes_nothing.Goals as goal
 
 pub returns-clause-alike : goal.returns-clause-alike

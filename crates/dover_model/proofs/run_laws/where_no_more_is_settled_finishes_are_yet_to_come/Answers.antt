@@ -1,4 +1,4 @@
-use Rattle.dover_model.proofs.SilentTicks.{none_between, yet_between}
+use Rattle.dover_model.proofs.settled.SilentTicks.{none_between, yet_between}
 use Rattle.dover_model.proofs.run_laws.where_no_more_is_settled_finishes_are_yet_to_come.Goals as goal
 
 pub returns-clause-before : goal.returns-clause-before

@@ -1,4 +1,4 @@
-use Rattle.dover_model.proofs.SilentTicks.{steps_between, state_between, runs_between}
+use Rattle.dover_model.proofs.settled.SilentTicks.{steps_between, state_between, runs_between}
 use Rattle.dover_model.proofs.run_laws.where_no_more_is_settled_time_passes_silently.Goals as goal
 
 pub returns-clause-steps : goal.returns-clause-steps

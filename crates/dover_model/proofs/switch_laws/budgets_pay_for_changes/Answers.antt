@@ -1,4 +1,4 @@
-use Rattle.dover_model.proofs.Stretches.{little_lost, had_useful, budget_holds}
+use Rattle.dover_model.proofs.switches.Stretches.{little_lost, had_useful, budget_holds}
 use Rattle.dover_model.proofs.switch_laws.budgets_pay_for_changes.Goals as goal
 
 pub returns-clause-given : goal.returns-clause-given

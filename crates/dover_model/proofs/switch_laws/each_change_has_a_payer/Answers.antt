@@ -1,4 +1,4 @@
-use Rattle.dover_model.proofs.Switching.{starts_once, completes_once, returns_behind}
+use Rattle.dover_model.proofs.switches.Switching.{starts_once, completes_once, returns_behind}
 use Rattle.dover_model.proofs.switch_laws.each_change_has_a_payer.Goals as goal
 
 pub returns-clause-starts : goal.returns-clause-starts

@@ -1,4 +1,4 @@
-use Rattle.dover_model.proofs.Families.{few_of_task_preempt, few_of_task_take}
+use Rattle.dover_model.proofs.switches.Families.{few_of_task_preempt, few_of_task_take}
 use Rattle.dover_model.proofs.switch_laws.few_jobs_of_a_task_stop_a_job.Goals as goal
 
 pub returns-clause-preempt : goal.returns-clause-preempt

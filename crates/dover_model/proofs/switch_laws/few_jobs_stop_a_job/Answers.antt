@@ -1,4 +1,4 @@
-use Rattle.dover_model.proofs.Switching.{gets_paid, few_preempt, few_take, gets_few}
+use Rattle.dover_model.proofs.switches.Switching.{gets_paid, few_preempt, few_take, gets_few}
 use Rattle.dover_model.proofs.switch_laws.few_jobs_stop_a_job.Goals as goal
 
 pub returns-clause-paid : goal.returns-clause-paid

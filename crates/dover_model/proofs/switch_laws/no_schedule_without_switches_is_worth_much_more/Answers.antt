@@ -1,4 +1,4 @@
-use Rattle.dover_model.proofs.SlowerLaws.{slower}
+use Rattle.dover_model.proofs.bound.SlowerLaws.{slower}
 use Rattle.dover_model.proofs.switch_laws.no_schedule_without_switches_is_worth_much_more.Goals as goal
 
 pub returns : goal.returns

@@ -1,5 +1,5 @@
-use Rattle.dover_model.proofs.Switching.{changes_few}
-use Rattle.dover_model.proofs.FewChanges.{changes_fewer}
+use Rattle.dover_model.proofs.switches.Switching.{changes_few}
+use Rattle.dover_model.proofs.switches.FewChanges.{changes_fewer}
 use Rattle.dover_model.proofs.switch_laws.the_processor_changes_hands_few_times.Goals as goal
 
 pub returns-clause-most : goal.returns-clause-most

@@ -1,4 +1,4 @@
-use Rattle.dover_model.proofs.PayingForward.{loaded_throughout, forward_had, three_are_enough}
+use Rattle.dover_model.proofs.switches.PayingForward.{loaded_throughout, forward_had, three_are_enough}
 use Rattle.dover_model.proofs.switch_laws.three_ticks_pay_for_changes.Goals as goal
 
 pub returns-clause-loaded : goal.returns-clause-loaded

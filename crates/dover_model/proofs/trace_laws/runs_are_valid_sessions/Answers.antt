@@ -1,6 +1,6 @@
 use Rattle.dover_model.specs.Trace.{session_of_run}
-use Rattle.dover_model.proofs.NeverFull.{valid_never}
-use Rattle.dover_model.proofs.RunSessions.{run_session_valid, run_jobs, same_printed}
+use Rattle.dover_model.proofs.sessions.NeverFull.{valid_never}
+use Rattle.dover_model.proofs.sessions.RunSessions.{run_session_valid, run_jobs, same_printed}
 use Rattle.dover_model.proofs.trace_laws.runs_are_valid_sessions.Goals as goal
 
 pub returns-clause-session : goal.returns-clause-session

@@ -1,5 +1,5 @@
-use Rattle.dover_model.proofs.Former.{no_finishes, job_refused}
-use Rattle.dover_model.proofs.SessionParts.{may_be_refused-agrees}
+use Rattle.dover_model.proofs.sessions.Former.{no_finishes, job_refused}
+use Rattle.dover_model.proofs.sessions.SessionParts.{may_be_refused-agrees}
 use Rattle.dover_model.proofs.trace_laws.sessions_of_one_and_two_are_as_they_were.Goals as goal
 
 pub returns-clause-finishes : goal.returns-clause-finishes

@@ -1,4 +1,4 @@
-use Rattle.dover_model.proofs.NeverFull.{valid_never, few_never, former_never}
+use Rattle.dover_model.proofs.sessions.NeverFull.{valid_never, few_never, former_never}
 use Rattle.dover_model.proofs.trace_laws.sessions_that_are_never_full.Goals as goal
 
 pub returns-clause-valid : goal.returns-clause-valid

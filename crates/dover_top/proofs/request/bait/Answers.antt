@@ -1,5 +1,5 @@
 use Rattle.std.proofs.Common.{ap, codes, drop, length, refl, sym, ◌∙◌, arith, decimal}
-use Rattle.dover_model.proofs.JobLimits.{ratio_limits}
+use Rattle.dover_model.proofs.valid.JobLimits.{ratio_limits}
 use Rattle.dover_top.specs.Words.{spelled}
 use Rattle.dover_top.proofs.Asking.{all_behind, asks_read, length_spelled, place_spells, row_of, spelled_behind}
 use Rattle.dover_top.proofs.Asking.{spelled_from}

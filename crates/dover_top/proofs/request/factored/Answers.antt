@@ -2,7 +2,7 @@ use Rattle.std.proofs.Common.{◌≡◌, ℕ, ◌<◌, ◌^◌, [], Option, Some
 use Rattle.std.proofs.Common.{get_or, length, map, string_bytes}
 use Rattle.dover_model.specs.Fraction.{Fraction, IsRatio, with_factor, is_some_factor}
 use Rattle.dover_model.specs.declared.factors.Factor.{Factor}
-use Rattle.dover_model.proofs.JobLimits.{ratio_limits, ratio_from, factor_limits, factor_from}
+use Rattle.dover_model.proofs.valid.JobLimits.{ratio_limits, ratio_from, factor_limits, factor_from}
 use Rattle.dover_top.specs.Words.{factor_words}
 use Rattle.dover_top.proofs.Asking.{length_spelled, place_spells}
 use Rattle.dover_top.proofs.Numbers.{decimal_same}

@@ -1,6 +1,6 @@
 use Rattle.std.proofs.Common.{◌≡◌, sym, ap, ◌∙◌, arith}
 use Rattle.dover_model.specs.Numerals.{numeral}
-use Rattle.dover_model.proofs.Numerals.{decimal-numeral}
+use Rattle.dover_model.proofs.texts.Numerals.{decimal-numeral}
 use Rattle.dover_top.proofs.Numbers.{none_spelled, one_spelled}
 use Rattle.dover_top.proofs.request.number.Goals.{then-number-least-via-then-number-least}
 use Rattle.dover_top.proofs.request.number.Goals.{then-number-least-via-else-number-least+then-number-most}

@@ -1,7 +1,7 @@
 use Rattle.std.proofs.Common.{◌≡◌, ℕ, ◌<◌, ◌^◌, Option, Some, None, IsNone, IsSome, true, false, refl, arith}
 use Rattle.dover_model.specs.Fraction.{Fraction, IsRatio, fraction}
 use Rattle.dover_top.proofs.Numbers.{decimal_same}
-use Rattle.dover_model.proofs.JobLimits.{ratio_limits, ratio_from}
+use Rattle.dover_model.proofs.valid.JobLimits.{ratio_limits, ratio_from}
 use Rattle.dover_top.proofs.request.ratio.Goals as goal
 
 pub returns-clause-none : goal.returns-clause-none

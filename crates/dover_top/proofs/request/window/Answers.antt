@@ -1,5 +1,4 @@
-use Rattle.std.proofs.Common.{◌≡◌, [], Option, Some, None, get_or, length, map, string_bytes, refl, ap}
-use Rattle.std.proofs.Common.{arith}
+use Rattle.std.proofs.Common.{◌≡◌, [], Option, Some, None, get_or, length, map, string_bytes, refl, ap, arith}
 use Rattle.run_reports.specs.declared.views.window.Window.{Window}
 use Rattle.dover_top.specs.Words.{IsWindow, window_words}
 use Rattle.dover_top.proofs.Asking.{length_spelled, place_spells, spelled_end, spelled_from}

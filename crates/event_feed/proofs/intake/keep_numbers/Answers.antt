@@ -1,11 +1,8 @@
-use Rattle.std.proofs.Common.{◌++◌, ◌∷◌, false}
+use Rattle.std.proofs.Common.{◌++◌, ◌∷◌, false, ◌-◌, drop, sym, ◌∙◌, length-drop, take_all, append-nil, ◌≡◌, ℕ, List}
+use Rattle.std.proofs.Common.{length, ap, subst, arith}
 use Rattle.std.specs.Fmt.{digits}
-use Rattle.std.proofs.Common.{◌-◌, drop, sym, ◌∙◌, length-drop}
-use Rattle.std.proofs.lemmas.List.{take_all, append-nil}
-use Rattle.std.proofs.Common.{◌≡◌, ℕ, List, length, ap, subst, arith}
 use Rattle.std.proofs.lemmas.List.{take_rest}
-use Rattle.dover_model.specs.JobFacts.{job_of_numbers}
-use Rattle.dover_model.specs.FeedLine.{feed_text, HasNumerals}
+use Rattle.dover_model.specs.Common.{job_of_numbers, feed_text, HasNumerals}
 use Rattle.line_text.specs.declared.feeds.lines.FeedLine.{FeedLine}
 use Rattle.line_text.specs.feeds.Form.{form_of}
 use Rattle.event_feed.proofs.Spelling.{numbers_fit}

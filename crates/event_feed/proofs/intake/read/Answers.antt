@@ -1,6 +1,5 @@
 -- A line of one of the forms is taken in as that form is.
-use Rattle.std.proofs.Common.{ap, ◌∙◌, arith}
-use Rattle.std.specs.Option.{option_map}
+use Rattle.std.proofs.Common.{ap, ◌∙◌, arith, option_map}
 use Rattle.line_text.specs.feeds.Form.{form_of}
 use Rattle.event_feed.proofs.Taking.{kept_most, taken_line}
 use Rattle.event_feed.proofs.intake.read.Goals as goal

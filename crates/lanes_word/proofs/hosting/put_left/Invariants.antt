@@ -13,7 +13,7 @@ invariant-loop g l = record {
       → HasGiven (left_in l.lanes ls)
       (g.P.Port.moves l.initial.port) (g.P.Port.moves l.port) l.initial.out l.out [] (parts_of left) l.counter;
   closed : is_closed l.lanes ≡ true;
-  idle : l.steps ≡ l.initial.steps;
+  idle : l.comparisons ≡ l.initial.comparisons;
   writes : g.P.Port.write_faults l.port ≡ g.P.Port.write_faults l.initial.port;
   reads : g.P.Port.read_faults l.port ≡ g.P.Port.read_faults l.initial.port;
   calls : StaysWell (g.P.Port.calls l.initial.port) (g.P.Port.calls l.port);

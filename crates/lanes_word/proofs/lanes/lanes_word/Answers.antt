@@ -6,23 +6,23 @@ use Rattle.lanes_word.proofs.lanes.lanes_word.Goals as goal
 
 pub converse-requires : goal.converse-requires
 converse-requires g c = (
-  c.args.steps.now,
-  record { rests = c.in-Ok.ensures.rests; paid = c.in-Ok.ensures.paid c.args.steps.now },
+  c.args.comparisons.now,
+  record { rests = c.in-Ok.ensures.rests; paid = c.in-Ok.ensures.paid c.args.comparisons.now },
 )
 
 pub returns-in-Ok-clause-serves : goal.returns-in-Ok-clause-serves
-returns-in-Ok-clause-serves g c = since_weaker _ _ _ _ (c.converse.ensures.talks c.args.steps.now
-    (record { rests = c.in-Ok.ensures.rests; paid = c.in-Ok.ensures.paid c.args.steps.now }))
+returns-in-Ok-clause-serves g c = since_weaker _ _ _ _ (c.converse.ensures.talks c.args.comparisons.now
+    (record { rests = c.in-Ok.ensures.rests; paid = c.in-Ok.ensures.paid c.args.comparisons.now }))
     (λ moves it. inl it.0)
 
 pub returns-in-Ok-clause-count : goal.returns-in-Ok-clause-count
-returns-in-Ok-clause-count g c = since_weaker _ _ _ _ (c.converse.ensures.talks c.args.steps.now
-    (record { rests = c.in-Ok.ensures.rests; paid = c.in-Ok.ensures.paid c.args.steps.now }))
+returns-in-Ok-clause-count g c = since_weaker _ _ _ _ (c.converse.ensures.talks c.args.comparisons.now
+    (record { rests = c.in-Ok.ensures.rests; paid = c.in-Ok.ensures.paid c.args.comparisons.now }))
     (λ moves it. it.1)
 
 pub returns-in-Ok-clause-ends : goal.returns-in-Ok-clause-ends
-returns-in-Ok-clause-ends g c = elim (c.converse.ensures.ends c.args.steps.now
-    (record { rests = c.in-Ok.ensures.rests; paid = c.in-Ok.ensures.paid c.args.steps.now })) [
+returns-in-Ok-clause-ends g c = elim (c.converse.ensures.ends c.args.comparisons.now
+    (record { rests = c.in-Ok.ensures.rests; paid = c.in-Ok.ensures.paid c.args.comparisons.now })) [
       | inl cut ↦ inl cut
       | inr it ↦ inr (it.0, inl it.1)
     ]
@@ -31,7 +31,7 @@ pub returns-in-Err-clause-serves : goal.returns-in-Err-clause-serves
 returns-in-Err-clause-serves g c = since_none _ _ (inr (refl, refl))
 
 pub returns-in-Err-clause-count : goal.returns-in-Err-clause-count
-returns-in-Err-clause-count g c = since_none _ _ (none_made (input []).handed c.args.steps.now)
+returns-in-Err-clause-count g c = since_none _ _ (none_made (input []).handed c.args.comparisons.now)
 
 pub returns-in-Err-clause-ends : goal.returns-in-Err-clause-ends
 returns-in-Err-clause-ends g c = inr ([], inr (refl, refl))

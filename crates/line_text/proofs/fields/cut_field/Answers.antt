@@ -1,8 +1,6 @@
 use Rattle.std.proofs.Common.{◌≡◌, ℕ, ◌+◌, ◌<◌, List, ◌∷◌, ◌++◌, length, get_or, take, drop, All, Bool, true, false}
-use Rattle.std.proofs.Common.{sym, ap, ◌∙◌}
-use Rattle.std.proofs.Common.{take_all, take-append-drop, eq-eqb, ne_eqb}
+use Rattle.std.proofs.Common.{sym, ap, ◌∙◌, take_all, take-append-drop, eq-eqb, ne_eqb, ◌==◌}
 use Rattle.std.specs.List.{slice_split}
-use Rattle.std.specs.Prelude.{◌==◌}
 use Rattle.std.proofs.lemmas.List.{take_rest, drop_more}
 use Rattle.std.proofs.lemmas.List.Elements.{All-more}
 use Rattle.std.proofs.lemmas.List.Splits.{slice_split_none, slice_split_at}

@@ -1,5 +1,4 @@
-use Rattle.std.proofs.Common.{◌≡◌, All, take, false}
-use Rattle.std.specs.Prelude.{◌==◌}
+use Rattle.std.proofs.Common.{◌≡◌, All, take, false, ◌==◌}
 use Rattle.line_text.proofs.fields.cut_field.Given as goal
 
 -- no space so far

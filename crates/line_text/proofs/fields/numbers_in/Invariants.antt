@@ -1,6 +1,5 @@
 use Rattle.std.proofs.Common.{◌≡◌, ◌++◌, take, length, option_map}
-use Rattle.dover_model.specs.Lines.{fields_of}
-use Rattle.dover_model.specs.Numerals.{numerals}
+use Rattle.dover_model.specs.Common.{fields_of, numerals}
 use Rattle.line_text.specs.Reading.{fields_left}
 use Rattle.line_text.proofs.fields.numbers_in.Given as goal
 

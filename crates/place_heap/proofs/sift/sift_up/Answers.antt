@@ -15,7 +15,8 @@ returns-then-not-is_before-clause-heap g c =
 
 pub returns-then-not-is_before-clause-count : goal.returns-then-not-is_before-clause-count
 returns-then-not-is_before-clause-count g c d fits =
-    up_last c.args.from c.args.steps.now c.loop-at.at c.loop-at.steps c.is_before.new.steps d c.loop-at.invariant.count
+    up_last c.args.from c.args.comparisons.now c.loop-at.at c.loop-at.comparisons c.is_before.new.comparisons d
+    c.loop-at.invariant.count
     c.loop-at-test.true c.is_before.ensures.count (omega (arith, c.requires.from, fits))
 
 pub set_at-requires-in-loop-at-clause-ready : goal.set_at-requires-in-loop-at-clause-ready

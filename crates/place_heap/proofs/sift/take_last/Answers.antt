@@ -1,5 +1,4 @@
-use Rattle.std.proofs.Common.{◌≡◌, ◌≤◌, ◌++◌, ◌∷◌, [], None, ap, ◌∙◌, sym, subst, length, set, arith}
-use Rattle.std.specs.Option.{option_to_list}
+use Rattle.std.proofs.Common.{◌≡◌, ◌≤◌, ◌++◌, ◌∷◌, [], None, ap, ◌∙◌, sym, subst, length, set, arith, option_to_list}
 use Rattle.place_heap.specs.Table.{IsIndexed, nowhere, table_of}
 use Rattle.place_heap.proofs.Indexing.{drop_indexed, drop_table, back}
 use Rattle.place_heap.proofs.sift.take_last.Goals as goal

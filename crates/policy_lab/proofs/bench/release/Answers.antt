@@ -1,7 +1,7 @@
 use Rattle.std.proofs.Common.{◌≤◌, ◌+◌, ◌++◌, ◌∷◌, [], ap, sym, subst, arith, ◌∙◌}
 use Rattle.policy_lab.specs.Bench.{HasReady}
 use Rattle.policy_lab.proofs.Holding.{all_late, ready_more, rest_behind, next_of_rest}
-use Rattle.dover_model.proofs.ValidParts.{order_parts}
+use Rattle.dover_model.proofs.valid.ValidParts.{order_parts}
 use Rattle.policy_lab.proofs.bench.release.Goals as goal
 
 pub returns-then-tick-release-clause-later : goal.returns-then-tick-release-clause-later

@@ -1,5 +1,5 @@
 use Rattle.policy_lab.proofs.Onlines.{on_line}
-use Rattle.dover_model.proofs.ValidParts.{order_parts}
+use Rattle.dover_model.proofs.valid.ValidParts.{order_parts}
 use Rattle.policy_lab.proofs.laws.policies_are_on_line.Goals as goal
 
 pub returns : goal.returns

@@ -1,7 +1,7 @@
 use Rattle.std.proofs.Common.{◌≡◌, ◌∙◌, length, ap, arith}
 use Rattle.std.proofs.lemmas.List.{with_items_is}
 use Rattle.policy_lab.specs.Bench.{given_entry}
-use Rattle.dover_model.proofs.InPlace.{map_front, map_front_next, map_front_all, of_next}
+use Rattle.dover_model.proofs.lists.InPlace.{map_front, map_front_next, map_front_all, of_next}
 use Rattle.policy_lab.proofs.Giving.{spent_more}
 use Rattle.policy_lab.proofs.scan.give.Goals as goal
 

@@ -1,6 +1,6 @@
 use Rattle.std.proofs.Common.{◌≡◌, map, take}
 use Rattle.policy_lab.specs.Bench.{given_entry, spent_value}
-use Rattle.dover_model.proofs.InPlace.{map_front}
+use Rattle.dover_model.proofs.lists.InPlace.{map_front}
 use Rattle.policy_lab.proofs.scan.give.Given as goal
 
 abbrev pub invariant-loop-e : goal.invariant-loop-e

@@ -1,8 +1,6 @@
-use Rattle.std.proofs.Common.{arith, rules, subst, ◌∙◌}
-use Rattle.std.proofs.lemmas.List.{take_all}
-use Rattle.dover_model.specs.JobFacts.{IsJob}
-use Rattle.dover_model.specs.Sound.{Each}
-use Rattle.dover_model.proofs.Taking.{each_more}
+use Rattle.std.proofs.Common.{arith, rules, subst, ◌∙◌, take_all}
+use Rattle.dover_model.specs.Common.{IsJob, Each}
+use Rattle.dover_model.proofs.lists.Taking.{each_more}
 use Rattle.policy_lab.proofs.Taking.{deadline_more}
 use Rattle.policy_lab.proofs.scan.last_deadline.Goals as goal
 

@@ -1,7 +1,5 @@
 use Rattle.std.proofs.Common.{◌≡◌, take}
-use Rattle.dover_model.specs.JobFacts.{IsJob}
-use Rattle.dover_model.specs.Run.{last_deadline}
-use Rattle.dover_model.specs.Sound.{Each}
+use Rattle.dover_model.specs.Common.{IsJob, last_deadline, Each}
 use Rattle.policy_lab.proofs.scan.last_deadline.Given as goal
 
 abbrev pub invariant-loop-job : goal.invariant-loop-job

@@ -1,5 +1,4 @@
-use Rattle.std.proofs.Common.{◌≤◌, ◌∙◌, ap, refl, subst, arith}
-use Rattle.std.proofs.lemmas.List.{take_all}
+use Rattle.std.proofs.Common.{◌≤◌, ◌∙◌, ap, refl, subst, arith, take_all}
 use Rattle.dover_model.specs.Lines.{in_lines}
 use Rattle.dover_port.proofs.Through.{passes_nothing, passes_then}
 use Rattle.dover_port.specs.Causes.{Rose}

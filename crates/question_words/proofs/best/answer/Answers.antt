@@ -1,6 +1,5 @@
 use Rattle.std.proofs.Common.{◌≡◌, ◌≤◌, ℕ, ◌∙◌, refl, length, ap, sym, subst, codes, arith}
-use Rattle.dover_model.specs.Bound.{bound}
-use Rattle.dover_model.specs.Instance.{Instance, IsInOrder, IsListable, IsValid}
+use Rattle.dover_model.specs.Common.{bound, Instance, IsInOrder, IsListable, IsValid}
 use Rattle.dialogue.specs.Talk.{IsFinal}
 use Rattle.event_feed.specs.Listing.{listed_instance}
 use Rattle.question_words.specs.Best.{SaysBest}

@@ -1,10 +1,7 @@
 use Rattle.std.proofs.Common.{◌≤◌, ◌++◌, ◌∙◌, refl, [], length, sym, ap, subst, codes, arith}
-use Rattle.dover_model.specs.Bound.{bound}
-use Rattle.dover_model.specs.Instance.{Instance, IsInOrder, IsListable, IsValid, total_value}
+use Rattle.dover_model.specs.Common.{bound, Instance, IsInOrder, IsListable, IsValid, total_value, most_total, in_lines}
+use Rattle.dover_model.specs.Common.{worth}
 use Rattle.dover_model.specs.declared.events.Version.TheVariants.{Two}
-use Rattle.dover_model.specs.Limits.{most_total}
-use Rattle.dover_model.specs.Lines.{in_lines}
-use Rattle.dover_model.specs.Schedules.{worth}
 use Rattle.dialogue.specs.Talk.{IsFinal}
 use Rattle.event_feed.specs.Listing.{listed_instance}
 use Rattle.policy_lab.specs.PolicyRun.{policy_run, AreTooLarge}

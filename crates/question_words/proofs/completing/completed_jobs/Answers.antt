@@ -1,7 +1,5 @@
 use Rattle.std.proofs.Common.{◌∙◌, ap, length, subst}
-use Rattle.dover_model.specs.Instance.{jobs_under}
-use Rattle.dover_model.specs.Run.{completed_value}
-use Rattle.dover_model.specs.Spending.{CostsAtMost}
+use Rattle.dover_model.specs.Common.{jobs_under, completed_value, CostsAtMost}
 use Rattle.question_words.specs.Loss.{is_completed}
 use Rattle.question_words.proofs.completing.completed_jobs.Goals as goal
 
@@ -15,7 +13,8 @@ returns-clause-done g c = λ n. c.in_ok-run_list.ensures.seen.done c.if-completi
 
 pub returns-in_err-run_list-clause-count : goal.returns-in_err-run_list-clause-count
 returns-in_err-run_list-clause-count g c =
-    subst (λ js. CostsAtMost (length js) c.args.steps.now c.run_list.new.steps) c.as_slice-jobs.ensures.value
+    subst (λ js. CostsAtMost (length js) c.args.comparisons.now c.run_list.new.comparisons)
+    c.as_slice-jobs.ensures.value
     c.run_list.ensures.count
 
 pub returns-clause-value : goal.returns-clause-value
@@ -25,5 +24,6 @@ returns-clause-value g c = c.in_ok-run_list.ensures.seen.value
 
 pub returns-clause-count : goal.returns-clause-count
 returns-clause-count g c =
-    subst (λ js. CostsAtMost (length js) c.args.steps.now c.run_list.new.steps) c.as_slice-jobs.ensures.value
+    subst (λ js. CostsAtMost (length js) c.args.comparisons.now c.run_list.new.comparisons)
+    c.as_slice-jobs.ensures.value
     c.run_list.ensures.count

@@ -1,14 +1,9 @@
 use Rattle.std.proofs.Common.{◌≤◌, ◌∙◌, refl, List, ap, subst, length, sym, codes, get_or, false, arith}
-use Rattle.dover_model.specs.Bound.{bound}
-use Rattle.dover_model.specs.Instance.{IsInOrder}
-use Rattle.dover_model.specs.JobFacts.{IsJob, JobFacts}
+use Rattle.dover_model.specs.Common.{bound, IsInOrder, IsJob, JobFacts, most_jobs, Each, ran}
 use Rattle.dover_model.specs.declared.events.Version.TheVariants.{Two}
-use Rattle.dover_model.specs.Limits.{most_jobs}
-use Rattle.dover_model.specs.Sound.{Each}
-use Rattle.dover_model.specs.Run.{ran}
-use Rattle.dover_model.proofs.Honest.{observed_honest}
+use Rattle.dover_model.proofs.runs.Honest.{observed_honest}
 use Rattle.dialogue.specs.Talk.{IsFinal}
-use Rattle.dover_model.proofs.Tests.{never}
+use Rattle.dover_model.proofs.lists.Tests.{never}
 use Rattle.event_feed.specs.Listing.{listed_instance}
 use Rattle.clairvoyant.specs.overload.Stretches.{IsWorth}
 use Rattle.question_words.specs.Loss.{SaysLoss}

@@ -1,5 +1,4 @@
-use Rattle.std.proofs.Common.{◌∙◌, ap, map, get_or, false, arith}
-use Rattle.std.proofs.lemmas.List.{take_all}
+use Rattle.std.proofs.Common.{◌∙◌, ap, map, get_or, false, arith, take_all}
 use Rattle.question_words.specs.Loss.{row_of}
 use Rattle.question_words.proofs.loss.rows.Goals as goal
 

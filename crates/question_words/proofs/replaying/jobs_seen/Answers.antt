@@ -21,16 +21,16 @@ more seen jobs before after all number j k there is pushed so_far =
 
 pub loop-number-preserved : goal.loop-number-preserved
 loop-number-preserved c =
-    let seen = job_seen c.args.done.now c.args.hads.now in
+    let seen = job_seen c.args.done.now c.args.served.now in
     more seen c.args.jobs.now c.loop-number.seen.items c.push.new.self.items
-    (jobs_seen c.args.done.now c.args.hads.now c.args.jobs.now) c.loop-number.number c.index-jobs-number.result
+    (jobs_seen c.args.done.now c.args.served.now c.args.jobs.now) c.loop-number.number c.index-jobs-number.result
     c.job_seen.result c.loop-number-test.true
     (c.job_seen.ensures ∙ ap (λ j. seen (c.loop-number.number, j)) c.index-jobs-number.is) c.in_ok-push.ensures.items
     c.loop-number.invariant
 
 pub returns : goal.returns
 returns c =
-    let seen = job_seen c.args.done.now c.args.hads.now in
+    let seen = job_seen c.args.done.now c.args.served.now in
     sym (append-nil c.loop-number.seen.items)
     ∙ ap (λ js. c.loop-number.seen.items ++ map seen (enumerate_from c.loop-number.number js))
     (sym (drop_all c.loop-number.number c.args.jobs.now c.loop-number-test.false))

@@ -6,4 +6,5 @@ use Rattle.question_words.proofs.replaying.jobs_seen.Given as goal
 -- the jobs so far, and the others
 abbrev pub invariant-loop-number : goal.invariant-loop-number
 invariant-loop-number l = l.seen.items
-    ++ map (job_seen l.done l.hads) (enumerate_from l.number (drop l.number l.jobs)) ≡ jobs_seen l.done l.hads l.jobs
+    ++ map (job_seen l.done l.served) (enumerate_from l.number (drop l.number l.jobs))
+    ≡ jobs_seen l.done l.served l.jobs

@@ -9,7 +9,8 @@ serve_listed-requires-clause-begins g c = record {
 }
 
 pub serve_listed-requires-clause-paid : goal.serve_listed-requires-clause-paid
-serve_listed-requires-clause-paid g c = c.in_ok-server.ensures.paid c.args.steps.now c.args.steps.now (omega arith)
+serve_listed-requires-clause-paid g c = c.in_ok-server.ensures.paid c.args.comparisons.now c.args.comparisons.now
+    (omega arith)
 
 pub returns-clause-run : goal.returns-clause-run
 returns-clause-run g c = c.serve_listed.ensures.run

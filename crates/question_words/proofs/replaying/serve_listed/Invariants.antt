@@ -9,6 +9,6 @@ use Rattle.question_words.proofs.replaying.serve_listed.Given as goal
 abbrev pub invariant-loop-done : goal.invariant-loop-done
 invariant-loop-done g l = record {
   at : IsAt HasRecorded l.server l.run (declared_in l.listed) l.listed.jobs.items
-      (take l.done-index l.listed.dones.items) (drop l.done-index l.listed.dones.items) l.count;
-  paid : HasPaid l.server l.fn.steps l.steps;
+      (take l.done-index l.listed.done_lines.items) (drop l.done-index l.listed.done_lines.items) l.count;
+  paid : HasPaid l.server l.fn.comparisons l.comparisons;
 }

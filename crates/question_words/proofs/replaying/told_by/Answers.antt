@@ -2,7 +2,7 @@ use Rattle.std.proofs.Common.{◌≤◌, ◌∙◌, List, length, refl, sym, ap,
 use Rattle.std.specs.List.{fold, list_any}
 use Rattle.dover_model.specs.declared.events.Event.{Event}
 use Rattle.dover_model.specs.Run.{value_of_end}
-use Rattle.dover_model.proofs.Ending.{few_printed}
+use Rattle.dover_model.proofs.runs.Ending.{few_printed}
 use Rattle.event_feed.specs.Listing.{listed_instance}
 use Rattle.question_words.specs.Loss.{completes}
 use Rattle.question_words.proofs.Observations.{seen_observed}
@@ -12,8 +12,8 @@ pub completed_by-requires : goal.completed_by-requires
 completed_by-requires c = subst (λ (es : List Event). length es ≤ 5_000_001) (sym c.requires.run)
     (omega (arith, few_printed (listed_instance c.args.listed.now) c.requires.valid, c.requires.listable.count))
 
-pub hads-requires : goal.hads-requires
-hads-requires c = let J = listed_instance c.args.listed.now in (
+pub served-requires : goal.served-requires
+served-requires c = let J = listed_instance c.args.listed.now in (
   J.rules.ratio,
   (
     J,
@@ -42,7 +42,7 @@ returns-clause-jobs c = let J = listed_instance c.args.listed.now in
     ∙ c.in_ok-completion.ensures.seen.done c.in_ok-completion.ensures.whole n
     ∙ ap (list_any (completes n)) c.requires.run)
     c.deref-3.result.now
-    (c.deref-3.ensures.value ∙ c.in_ok-hads.ensures J.rules.ratio J
+    (c.deref-3.ensures.value ∙ c.in_ok-served.ensures J.rules.ratio J
     (record {
       valid = c.requires.valid;
       listable = c.requires.listable;

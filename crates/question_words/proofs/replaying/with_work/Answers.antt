@@ -1,5 +1,5 @@
 use Rattle.std.proofs.Common.{◌∙◌, refl, sym}
-use Rattle.dover_model.proofs.Tests.{never}
+use Rattle.dover_model.proofs.lists.Tests.{never}
 use Rattle.question_words.proofs.Observations.{work_some, work_none}
 use Rattle.question_words.proofs.replaying.with_work.Goals as goal
 

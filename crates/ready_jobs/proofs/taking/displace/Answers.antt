@@ -1,6 +1,5 @@
-use Rattle.std.proofs.Common.{◌+◌, ◌*◌, ◌<◌, ◌∷◌, ◌++◌, length, refl, sym, ap, ◌∙◌, subst}
-use Rattle.std.proofs.Common.{map, reverse, arith}
-use Rattle.std.specs.Option.{option_to_list}
+use Rattle.std.proofs.Common.{◌+◌, ◌*◌, ◌<◌, ◌∷◌, ◌++◌, length, refl, sym, ap, ◌∙◌, subst, map, reverse, arith}
+use Rattle.std.proofs.Common.{option_to_list}
 use Rattle.dover_model.specs.declared.events.Task.{Task}
 use Rattle.ready_jobs.specs.Changed.{made_wait}
 use Rattle.waiting_pool.specs.Reordered.{IsReordered}
@@ -38,8 +37,8 @@ loop-t-preserved g c =
       displaces = one_displaced _ _ _ _ _ _ _ it top c.add.ensures.kept more;
       capacity = c.pop.ensures.capacity ∙ c.loop-t.invariant.capacity;
       count = λ d fits.
-          one_counted d c.loop-t.steps c.add.new.steps (length is) (length rest)
-          (c.args.steps.now + 2 * d * length was) fewer
+          one_counted d c.loop-t.comparisons c.add.new.comparisons (length is) (length rest)
+          (c.args.comparisons.now + 2 * d * length was) fewer
           (c.add.ensures.count d (omega (arith, fits, it.sum, fewer)))
           (c.loop-t.invariant.count d fits);
     }

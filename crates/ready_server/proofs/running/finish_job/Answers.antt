@@ -1,7 +1,6 @@
 use Rattle.std.proofs.Common.{◌++◌, ◌∷◌, [], sym, subst}
-use Rattle.dover_model.specs.Instance.{with_finishes}
+use Rattle.dover_model.specs.Common.{with_finishes, settled}
 use Rattle.dover_model.specs.declared.horizon.Horizon.TheVariants.{Mark}
-use Rattle.dover_model.specs.Settled.{settled}
 use Rattle.ready_server.specs.Running.{HasShown, with_finish}
 use Rattle.ready_server.proofs.Showing.{room_before}
 use Rattle.ready_server.proofs.running.finish_job.Goals as goal
@@ -45,9 +44,9 @@ returns-in_default-clause-shown g c = λ J from it follows.
     })
 
 pub returns-in-Some-clause-paid : goal.returns-in-Some-clause-paid
-returns-in-Some-clause-paid g c = λ start paid. c.in-Some.ensures.paid start c.show_to.new.steps
+returns-in-Some-clause-paid g c = λ start paid. c.in-Some.ensures.paid start c.show_to.new.comparisons
     (c.show_to.ensures.paid start paid)
 
 pub returns-in_default-clause-paid : goal.returns-in_default-clause-paid
-returns-in_default-clause-paid g c = λ start paid. c.in_default.ensures.paid start c.show_to.new.steps
+returns-in_default-clause-paid g c = λ start paid. c.in_default.ensures.paid start c.show_to.new.comparisons
     (c.show_to.ensures.paid start paid)

@@ -1,7 +1,5 @@
 use Rattle.std.proofs.Common.{arith}
-use Rattle.dover_model.specs.Horizons.{no_jobs}
-use Rattle.dover_model.specs.Instance.{jobs_under}
-use Rattle.dover_model.specs.Run.{printed}
+use Rattle.dover_model.specs.Common.{no_jobs, jobs_under, printed}
 use Rattle.dover_model.specs.declared.horizon.Horizon.TheVariants.{Mark, End}
 use Rattle.ready_server.proofs.Feeding.{can_first, first_shown}
 use Rattle.ready_server.proofs.running.run_list.Goals as goal
@@ -23,10 +21,10 @@ show_to-requires g c =
 
 pub returns-in_err-serve_jobs-clause-count : goal.returns-in_err-serve_jobs-clause-count
 returns-in_err-serve_jobs-clause-count g c =
-    c.in_err-serve_jobs.ensures.count (no_jobs c.args.version c.args.k) (Mark 0) c.args.steps.now
+    c.in_err-serve_jobs.ensures.count (no_jobs c.args.version c.args.k) (Mark 0) c.args.comparisons.now
     (first_shown _ _ _ _ c.in_ok-server.ensures.serves c.requires.unseen)
     (can_first c.args.k c.args.version (g.S.JobSource.jobs c.args.jobs.now) c.requires.valid)
-    (c.in_ok-server.ensures.paid c.args.steps.now c.args.steps.now (omega arith))
+    (c.in_ok-server.ensures.paid c.args.comparisons.now c.args.comparisons.now (omega arith))
 
 pub returns-clause-seen : goal.returns-clause-seen
 returns-clause-seen g c =
@@ -42,8 +40,8 @@ returns-clause-count g c =
     let fed = c.in_ok-serve_jobs.ensures.fed (no_jobs c.args.version c.args.k) (Mark 0)
     (first_shown _ _ _ _ c.in_ok-server.ensures.serves c.requires.unseen)
     (can_first c.args.k c.args.version (g.S.JobSource.jobs c.args.jobs.now) c.requires.valid) in
-    c.laws.ensures.few c.show_to.new.server J End (printed J) c.args.steps.now c.show_to.new.steps
+    c.laws.ensures.few c.show_to.new.server J End (printed J) c.args.comparisons.now c.show_to.new.comparisons
     (c.laws.ensures.rested c.show_to.new.server J End
     (c.show_to.ensures.shown J fed.to fed.shown fed.ends).0)
-    (c.show_to.ensures.paid c.args.steps.now (c.in_ok-serve_jobs.ensures.paid c.args.steps.now
-    (c.in_ok-server.ensures.paid c.args.steps.now c.args.steps.now (omega arith))))
+    (c.show_to.ensures.paid c.args.comparisons.now (c.in_ok-serve_jobs.ensures.paid c.args.comparisons.now
+    (c.in_ok-server.ensures.paid c.args.comparisons.now c.args.comparisons.now (omega arith))))

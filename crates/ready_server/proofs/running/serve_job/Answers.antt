@@ -1,7 +1,6 @@
 use Rattle.std.proofs.Common.{◌++◌, ◌∷◌, []}
-use Rattle.dover_model.specs.Instance.{with_jobs}
+use Rattle.dover_model.specs.Common.{with_jobs, due_by}
 use Rattle.dover_model.specs.declared.horizon.Horizon.TheVariants.{Mark}
-use Rattle.dover_model.specs.Horizons.{due_by}
 use Rattle.ready_server.proofs.Showing.{room_before}
 use Rattle.ready_server.proofs.running.serve_job.Goals as goal
 
@@ -36,5 +35,5 @@ returns-clause-shown g c J from it follows valid =
     }
 
 pub returns-clause-paid : goal.returns-clause-paid
-returns-clause-paid g c = λ start paid. c.admit.ensures.paid start c.show_to.new.steps
+returns-clause-paid g c = λ start paid. c.admit.ensures.paid start c.show_to.new.comparisons
     (c.show_to.ensures.paid start paid)

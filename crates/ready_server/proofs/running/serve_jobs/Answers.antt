@@ -31,18 +31,18 @@ loop-job-preserved g c = record {
       (c.in_ok-make_room.ensures.serves it.served it.to it.shown.events it.shown.served)) it.can.follow.0
       (can_admit it.served it.to c.in-Some.job rest it.can));
   paid = λ start paid. c.serve_job.ensures.paid start
-      (c.in_ok-make_room.ensures.paid start c.loop-job.steps (c.loop-job.invariant.paid start paid));
+      (c.in_ok-make_room.ensures.paid start c.loop-job.comparisons (c.loop-job.invariant.paid start paid));
 }
 
 pub returns-in_err-make_room-clause-paid : goal.returns-in_err-make_room-clause-paid
-returns-in_err-make_room-clause-paid g c = λ start paid. c.in_err-make_room.ensures.paid start c.loop-job.steps
+returns-in_err-make_room-clause-paid g c = λ start paid. c.in_err-make_room.ensures.paid start c.loop-job.comparisons
     (c.loop-job.invariant.paid start paid)
 
 pub returns-in_err-make_room-clause-count : goal.returns-in_err-make_room-clause-count
 returns-in_err-make_room-clause-count g c = λ J from start shown can paid.
     let it = c.loop-job.invariant.under_way J from shown can in
-    some_few _ _ J from _ _ it start c.loop-job.steps
-    (c.laws.ensures.few c.loop-job.server it.served it.to it.shown.events start c.loop-job.steps
+    some_few _ _ J from _ _ it start c.loop-job.comparisons
+    (c.laws.ensures.few c.loop-job.server it.served it.to it.shown.events start c.loop-job.comparisons
     it.shown.served (c.loop-job.invariant.paid start paid))
 
 pub returns-clause-fed : goal.returns-clause-fed
@@ -52,8 +52,8 @@ returns-clause-fed g c = λ J from shown can.
 pub returns-clause-count : goal.returns-clause-count
 returns-clause-count g c = λ J from start shown can paid.
     let it = c.loop-job.invariant.under_way J from shown can in
-    some_few _ _ J from _ _ it start c.loop-job.steps
-    (c.laws.ensures.few c.loop-job.server it.served it.to it.shown.events start c.loop-job.steps
+    some_few _ _ J from _ _ it start c.loop-job.comparisons
+    (c.laws.ensures.few c.loop-job.server it.served it.to it.shown.events start c.loop-job.comparisons
     it.shown.served (c.loop-job.invariant.paid start paid))
 
 pub returns-clause-paid : goal.returns-clause-paid

@@ -14,7 +14,7 @@ invariant-loop-job g l = record {
       → CanFeed J from (g.S.JobSource.jobs l.initial.jobs)
       → IsUnderWay g.W.Watcher.seen l.server l.watcher J from (g.S.JobSource.jobs l.initial.jobs)
       (g.S.JobSource.jobs l.jobs);
-  paid : (start : ℕ) → HasPaid l.initial.server start l.initial.steps → HasPaid l.server start l.steps;
+  paid : (start : ℕ) → HasPaid l.initial.server start l.initial.comparisons → HasPaid l.server start l.comparisons;
 }
 
 abbrev pub decreases-loop-job : goal.decreases-loop-job

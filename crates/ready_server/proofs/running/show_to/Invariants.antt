@@ -1,7 +1,6 @@
 use Rattle.std.proofs.Common.{ℕ}
-use Rattle.dover_model.specs.Instance.{Instance}
+use Rattle.dover_model.specs.Common.{Instance, MayFollow}
 use Rattle.dover_model.specs.declared.horizon.Horizon.{Horizon}
-use Rattle.dover_model.specs.Horizons.{MayFollow}
 use Rattle.ready_server.specs.Running.{HasShown}
 use Rattle.ready_server.proofs.Showing.{IsShowing}
 use Rattle.ready_server.specs.Serving.{HasPlace, HasPaid}
@@ -15,6 +14,6 @@ invariant-loop g l = record {
       → MayFollow from l.to
       → IsShowing g.W.Watcher.seen l.server l.watcher J l.to l.counter;
   room : HasPlace l.initial.server → HasPlace l.server;
-  paid : (start : ℕ) → HasPaid l.initial.server start l.initial.steps
-      → HasPaid l.server start l.steps;
+  paid : (start : ℕ) → HasPaid l.initial.server start l.initial.comparisons
+      → HasPaid l.server start l.comparisons;
 }

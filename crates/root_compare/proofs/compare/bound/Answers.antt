@@ -1,6 +1,5 @@
 use Rattle.std.proofs.Common.{arith, sym, subst}
-use Rattle.dover_model.specs.Bound.{is_within_by}
-use Rattle.dover_model.specs.Greatest.{IsGreatest}
+use Rattle.dover_model.specs.Common.{is_within_by, IsGreatest}
 use Rattle.root_compare.proofs.compare.bound.Goals as goal
 
 pub overflow_cast-result : goal.overflow_cast-result

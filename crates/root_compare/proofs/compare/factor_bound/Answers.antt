@@ -1,11 +1,8 @@
-use Rattle.std.proofs.Common.{◌≡◌, ◌+◌, ◌-◌, ◌*◌, ◌/◌, ◌≤◌, ◌^◌, IsTrue, arith, subst, sym, max}
-use Rattle.std.specs.Prelude.{Some}
+use Rattle.std.proofs.Common.{◌≡◌, ◌+◌, ◌-◌, ◌*◌, ◌/◌, ◌≤◌, ◌^◌, IsTrue, arith, subst, Some}
 use Rattle.std.proofs.lemmas.Nat.{mul-le}
-use Rattle.dover_model.specs.Fraction.{is_some_factor}
-use Rattle.dover_model.specs.Greatest.{IsGreatest}
-use Rattle.dover_model.specs.Bound.{is_within_by, scale, share}
-use Rattle.dover_model.proofs.GreatestLaws.{bound_by-is}
-use Rattle.dover_model.proofs.JobLimits.{ratio_limits}
+use Rattle.dover_model.specs.Common.{is_some_factor, IsGreatest, is_within_by, scale, share}
+use Rattle.dover_model.proofs.bound.GreatestLaws.{bound_by-is}
+use Rattle.dover_model.proofs.valid.JobLimits.{ratio_limits}
 use Rattle.root_compare.proofs.Factors.{share_few, quotient_low}
 use Rattle.root_compare.proofs.compare.factor_bound.Goals as goal
 
@@ -38,9 +35,11 @@ share_there : (c : goal.After-from) → share c.args.k c.args.factor ≡ c.from-
 share_there c = cc
 
 -- it is no great number
-few_there : (c : goal.After-from) → c.from-q.result * c.from-b.result * (c.from-b.result - c.from-c.result) + c.from-p.result
+few_there : (c : goal.After-from) → c.from-q.result * c.from-b.result
+    * (c.from-b.result - c.from-c.result) + c.from-p.result
     * c.from-c.result * (c.from-b.result - c.from-c.result) + c.from-c.result * c.max.result ≤ 3 * 10 ^ 15
-few_there c = subst (λ n. n ≤ 3 * 10 ^ 15) (share_there c) (share_few c.args.k c.args.factor c.q.ensures.ratio (within_there c))
+few_there c = subst (λ n. n ≤ 3 * 10 ^ 15) (share_there c)
+    (share_few c.args.k c.args.factor c.q.ensures.ratio (within_there c))
 
 pub overflow_mul-result : goal.overflow_mul-result
 overflow_mul-result c =
@@ -58,7 +57,8 @@ result_is : (c : goal.After-from) → share c.args.k c.args.factor * c.args.a / 
 result_is c = cc
 
 pub returns-clause-greatest : goal.returns-clause-greatest
-returns-clause-greatest c = subst (IsGreatest (λ n. is_within_by c.args.k (Some c.args.factor) n c.args.a)) (result_is c)
+returns-clause-greatest c = subst (IsGreatest (λ n. is_within_by c.args.k (Some c.args.factor) n c.args.a))
+    (result_is c)
     (bound_by-is c.args.k (Some c.args.factor) c.args.a c.q.ensures.ratio (within_there c) c.requires.completed)
 
 pub returns-clause-small : goal.returns-clause-small

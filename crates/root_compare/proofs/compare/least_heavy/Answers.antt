@@ -2,10 +2,9 @@ use Rattle.std.proofs.Common.{◌≡◌, ◌+◌, ◌*◌, ◌/◌, ◌≤◌, �
 use Rattle.std.proofs.Math.Nat.{div-le_self}
 use Rattle.std.proofs.lemmas.Nat.{mul-le}
 use Rattle.std.proofs.lemmas.Bool.{cases_lt}
-use Rattle.dover_model.specs.Orders.{IsHeavy}
-use Rattle.dover_model.proofs.JobLimits.{ratio_limits, FactorLimits, factor_limits}
+use Rattle.dover_model.specs.Common.{IsHeavy, is_some_factor}
+use Rattle.dover_model.proofs.valid.JobLimits.{ratio_limits, FactorLimits, factor_limits}
 use Rattle.std.proofs.Common.{IsTrue}
-use Rattle.dover_model.specs.Fraction.{is_some_factor}
 use Rattle.root_compare.proofs.Least.{least_is, root_heavy, root_least, factor_heavy, factor_least}
 use Rattle.root_compare.proofs.compare.least_heavy.Goals as goal
 
@@ -82,5 +81,6 @@ small_part b w d small_b small_w =
 pub returns-in-Some-clause-is : goal.returns-in-Some-clause-is
 returns-in-Some-clause-is c = least_is c.args.k c.args.w (c.from.result * c.args.w / c.from-in-Some.result + 1)
     (small_part c.from.result c.args.w c.from-in-Some.result
-    (let small : c.in-Some.factor.b ≤ 1_000_000 = (limits c).small_b in omega (arith, small, c.from.ensures)) c.requires)
+    (let small : c.in-Some.factor.b ≤ 1_000_000 = (limits c).small_b in
+    omega (arith, small, c.from.ensures)) c.requires)
     (returns-in-Some-clause-heavy c) (returns-in-Some-clause-least c)

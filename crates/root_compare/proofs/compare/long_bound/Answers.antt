@@ -1,7 +1,5 @@
-use Rattle.std.proofs.Common.{◌≡◌, sym, subst}
-use Rattle.std.specs.Prelude.{None, Option}
-use Rattle.dover_model.specs.Bound.{is_within_by}
-use Rattle.dover_model.specs.Greatest.{IsGreatest}
+use Rattle.std.proofs.Common.{◌≡◌, sym, subst, None}
+use Rattle.dover_model.specs.Common.{is_within_by, IsGreatest}
 use Rattle.root_compare.proofs.compare.long_bound.Goals as goal
 
 -- no factor is declared

@@ -1,12 +1,9 @@
-use Rattle.std.specs.Prelude.{None}
-use Rattle.dover_model.specs.Fraction.{is_some_factor}
-use Rattle.std.proofs.Common.{IsTrue, refl, ◌≡◌, ◌+◌, ◌*◌, ◌/◌, ◌≤◌, ◌^◌, arith, subst, sym}
+use Rattle.std.proofs.Common.{None, IsTrue, refl, ◌≡◌, ◌+◌, ◌*◌, ◌/◌, ◌≤◌, ◌^◌, arith, subst, sym}
+use Rattle.dover_model.specs.Common.{is_some_factor, IsGreatest, is_within_root, bound_by}
 use Rattle.std.proofs.lemmas.Nat.{mul-le}
-use Rattle.dover_model.specs.Greatest.{IsGreatest}
-use Rattle.dover_model.specs.Bound.{is_within_root, bound_by}
-use Rattle.dover_model.proofs.GreatestLaws.{bound_by-is, root_small, sum_small, root_within_small}
+use Rattle.dover_model.proofs.bound.GreatestLaws.{bound_by-is, root_small, sum_small, root_within_small}
 use Rattle.root_compare.proofs.Roots.{one_greatest, root_gives}
-use Rattle.dover_model.proofs.JobLimits.{ratio_limits}
+use Rattle.dover_model.proofs.valid.JobLimits.{ratio_limits}
 use Rattle.root_compare.proofs.compare.root_bound.Goals as goal
 
 some_none : IsTrue (is_some_factor None)

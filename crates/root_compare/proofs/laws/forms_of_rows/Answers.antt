@@ -1,4 +1,5 @@
-use Rattle.dover_model.proofs.Calculus.{displaced_below, below_displaced, excess_below, below_excess, regular_below}
+use Rattle.dover_model.proofs.bound.Calculus.{displaced_below, below_displaced, excess_below, below_excess}
+use Rattle.dover_model.proofs.bound.Calculus.{regular_below}
 use Rattle.root_compare.proofs.laws.forms_of_rows.Goals as goal
 
 pub returns-clause-displaced : goal.returns-clause-displaced

@@ -1,4 +1,4 @@
-use Rattle.dover_model.proofs.Calculus.{below_product, below_add, below_sum, below_mono}
+use Rattle.dover_model.proofs.bound.Calculus.{below_product, below_add, below_sum, below_mono}
 use Rattle.root_compare.proofs.laws.numbers_below_a_root.Goals as goal
 
 pub returns-clause-product : goal.returns-clause-product

@@ -1,6 +1,5 @@
-use Rattle.std.proofs.Common.{◌≤◌, ◌*◌, sym, subst, arith}
+use Rattle.std.proofs.Common.{◌≤◌, ◌*◌, sym, subst, arith, le-leb, leb-true}
 use Rattle.std.proofs.Math.Nat.{mul-le-mul_left}
-use Rattle.std.proofs.lemmas.Bool.{le-leb, leb-true}
 use Rattle.root_compare.proofs.Roots.{rest_within, rest_low, rest_fits, least_fits}
 use Rattle.root_compare.proofs.root.is_below_root.Goals as goal
 

@@ -1,6 +1,4 @@
-use Rattle.std.proofs.Common.{[], ◌++◌, ◌&&◌, sym, ap, ◌∙◌}
-use Rattle.std.specs.Prelude.{nat_le, if◌then◌else◌}
-use Rattle.std.proofs.lemmas.Bool.{le-leb}
+use Rattle.std.proofs.Common.{[], ◌++◌, ◌&&◌, sym, ap, ◌∙◌, nat_le, if◌then◌else◌, le-leb}
 use Rattle.std.proofs.lemmas.Result.{IfOk-equal}
 use Rattle.run_picture.specs.Plot.{x_at}
 use Rattle.run_picture.specs.Frame.{mark_at}

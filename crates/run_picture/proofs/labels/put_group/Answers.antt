@@ -1,5 +1,4 @@
-use Rattle.std.proofs.Common.{◌++◌}
-use Rattle.std.specs.Prelude.{codes}
+use Rattle.std.proofs.Common.{◌++◌, codes}
 use Rattle.std.proofs.lemmas.Result.{IfOk-equal}
 use Rattle.run_picture.specs.Labels.{label}
 use Rattle.run_picture.proofs.Eaching.{each_more_at, each_within}

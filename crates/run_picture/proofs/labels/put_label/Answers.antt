@@ -1,5 +1,4 @@
-use Rattle.std.proofs.Common.{[], ◌++◌, sym, ap, ◌∙◌, append_assoc}
-use Rattle.std.specs.Prelude.{if◌then◌else◌}
+use Rattle.std.proofs.Common.{[], ◌++◌, sym, ap, ◌∙◌, append_assoc, if◌then◌else◌}
 use Rattle.std.proofs.lemmas.Result.{IfOk-equal}
 use Rattle.run_picture.specs.Lanes.{middle}
 use Rattle.run_picture.specs.Labels.{number_of, loss_of}

@@ -1,5 +1,4 @@
-use Rattle.std.proofs.Common.{[], ◌++◌, sym, ap, ◌∙◌}
-use Rattle.std.specs.Prelude.{if◌then◌else◌}
+use Rattle.std.proofs.Common.{[], ◌++◌, sym, ap, ◌∙◌, if◌then◌else◌}
 use Rattle.std.proofs.lemmas.Result.{IfOk-equal}
 use Rattle.run_picture.specs.Seen.{end_tick}
 use Rattle.run_picture.specs.Plot.{x_at, pixels}

@@ -1,6 +1,5 @@
-use Rattle.std.proofs.Common.{◌≡◌, [], ◌+◌, ◌*◌, ◌++◌, true, false, sym, ap, ◌∙◌, arith}
-use Rattle.std.specs.Prelude.{nat_le, if◌then◌else◌}
-use Rattle.std.proofs.lemmas.Bool.{le-leb, lt-leb}
+use Rattle.std.proofs.Common.{◌≡◌, [], ◌+◌, ◌*◌, ◌++◌, true, false, sym, ap, ◌∙◌, arith, nat_le, if◌then◌else◌, le-leb}
+use Rattle.std.proofs.lemmas.Bool.{lt-leb}
 use Rattle.std.proofs.lemmas.Result.{IfOk-equal}
 use Rattle.run_picture.specs.Sizes.{digits_of, room}
 use Rattle.run_picture.specs.Labels.{named_at, named_lost_at, named_weighed_at, named_loss_in}

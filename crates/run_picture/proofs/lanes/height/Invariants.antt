@@ -1,6 +1,4 @@
-use Rattle.std.proofs.Common.{◌≡◌, ◌≤◌, drop}
-use Rattle.std.specs.Prelude.{◌+◌, max}
-use Rattle.std.specs.List.{fold}
+use Rattle.std.proofs.Common.{◌≡◌, ◌≤◌, drop, ◌+◌, max, fold}
 use Rattle.run_picture.specs.declared.seen.Seen.{Seen}
 use Rattle.run_picture.proofs.lanes.height.Given as goal
 

@@ -1,5 +1,4 @@
-use Rattle.std.proofs.Common.{◌≡◌, ◌++◌, drop}
-use Rattle.std.specs.Prelude.{None}
+use Rattle.std.proofs.Common.{◌≡◌, ◌++◌, drop, None}
 use Rattle.run_picture.specs.Processor.{pieces_from}
 use Rattle.run_picture.proofs.processor.pieces.Given as goal
 

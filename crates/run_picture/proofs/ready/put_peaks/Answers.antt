@@ -1,5 +1,4 @@
-use Rattle.std.proofs.Common.{◌+◌, ◌++◌, drop, sym, ap, ◌∙◌, arith}
-use Rattle.std.specs.Prelude.{◌==◌, codes}
+use Rattle.std.proofs.Common.{◌+◌, ◌++◌, drop, sym, ap, ◌∙◌, arith, ◌==◌, codes}
 use Rattle.std.proofs.lemmas.Result.{IfOk-equal}
 use Rattle.run_picture.specs.Ready.{ready_in, stairs_to, high_after, peaks_from}
 use Rattle.run_picture.specs.Frame.{bars_end}

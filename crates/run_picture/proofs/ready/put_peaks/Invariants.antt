@@ -1,5 +1,4 @@
-use Rattle.std.proofs.Common.{◌≡◌, ◌≤◌, ◌++◌, drop}
-use Rattle.std.specs.Prelude.{codes}
+use Rattle.std.proofs.Common.{◌≡◌, ◌≤◌, ◌++◌, drop, codes}
 use Rattle.run_picture.specs.Ready.{peaks_from}
 use Rattle.run_picture.proofs.ready.put_peaks.Given as goal
 

@@ -1,5 +1,4 @@
-use Rattle.std.proofs.Common.{◌≡◌, [], drop}
-use Rattle.std.specs.List.{zip}
+use Rattle.std.proofs.Common.{◌≡◌, [], drop, zip}
 use Rattle.run_picture.specs.Seen.{told_by}
 use Rattle.run_picture.proofs.seen.told_by.Given as goal
 

@@ -1,5 +1,4 @@
-use Rattle.std.proofs.Common.{◌≡◌, ◌++◌, take}
-use Rattle.std.specs.Prelude.{codes}
+use Rattle.std.proofs.Common.{◌≡◌, ◌++◌, take, codes}
 use Rattle.run_picture.specs.Strip.{piece_numbers}
 use Rattle.run_picture.proofs.strip.put_numbers.Given as goal
 

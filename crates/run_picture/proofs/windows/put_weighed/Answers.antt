@@ -1,5 +1,4 @@
-use Rattle.std.proofs.Common.{◌++◌, ◌∷◌, [], sym, ap, ◌∙◌}
-use Rattle.std.specs.Prelude.{if◌then◌else◌, codes}
+use Rattle.std.proofs.Common.{◌++◌, ◌∷◌, [], sym, ap, ◌∙◌, if◌then◌else◌, codes}
 use Rattle.std.proofs.lemmas.Result.{IfOk-equal}
 use Rattle.run_reports.specs.views.Templates.{filled}
 use Rattle.run_picture.proofs.windows.put_weighed.Goals as goal

@@ -1,5 +1,5 @@
 use Rattle.std.proofs.Common.{sym, subst, ◌∙◌}
-use Rattle.dover_model.proofs.Tests.{never}
+use Rattle.dover_model.proofs.lists.Tests.{never}
 use Rattle.snapshot.specs.Forms.{task_in}
 use Rattle.snapshot.specs.Stored.{job_lines}
 use Rattle.event_feed.specs.Kept.{HasRoom, Accepts}

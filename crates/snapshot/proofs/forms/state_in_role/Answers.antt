@@ -1,5 +1,4 @@
-use Rattle.dover_model.specs.Lines.{fields_of}
-use Rattle.dover_model.specs.Numerals.{numerals}
+use Rattle.dover_model.specs.Common.{fields_of, numerals}
 use Rattle.snapshot.proofs.Formed.{no_numbers}
 use Rattle.snapshot.proofs.forms.state_in_role.Goals as goal
 

@@ -1,5 +1,5 @@
 use Rattle.std.proofs.Common.{◌≡◌, Some, None, true, false, sym, ap, ◌∙◌}
-use Rattle.dover_model.proofs.Members.{some_same}
+use Rattle.dover_model.proofs.lists.Members.{some_same}
 use Rattle.ready_server.specs.Roster.{job_at}
 use Rattle.snapshot.specs.Kept.{stance_of}
 use Rattle.snapshot.proofs.Comparing.{at_place}

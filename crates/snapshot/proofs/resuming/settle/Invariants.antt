@@ -1,8 +1,7 @@
 use Rattle.std.proofs.Common.{◌≡◌, ℕ, List}
 use Rattle.dover_model.specs.declared.events.Event.{Event}
-use Rattle.dover_model.specs.Instance.{Instance}
+use Rattle.dover_model.specs.Common.{Instance, MayFollow}
 use Rattle.dover_model.specs.declared.horizon.Horizon.TheVariants.{Mark}
-use Rattle.dover_model.specs.Horizons.{MayFollow}
 use Rattle.ready_server.specs.Rostering.{Serves, HasPlace, HasPaid, has_roster}
 use Rattle.snapshot.proofs.Settling.{IsOnTheWay}
 use Rattle.snapshot.proofs.resuming.settle.Given as goal
@@ -14,5 +13,5 @@ invariant-loop-step g l = record {
       → MayFollow (Mark m) (Mark l.mark) → IsOnTheWay l.server J l.mark l._step;
   room : HasPlace l.initial.server → HasPlace l.server;
   roster : has_roster l.server ≡ has_roster l.initial.server;
-  paid : (start : ℕ) → HasPaid l.initial.server start l.initial.steps → HasPaid l.server start l.steps;
+  paid : (start : ℕ) → HasPaid l.initial.server start l.initial.comparisons → HasPaid l.server start l.comparisons;
 }

@@ -1,6 +1,6 @@
 use Rattle.std.proofs.Common.{◌≤◌, ◌++◌, ◌∷◌, [], length, sym, ap, ◌∙◌, subst, arith, IsTrue}
 use Rattle.dover_model.specs.Fraction.{is_some_factor}
-use Rattle.dover_model.proofs.JobLimits.{FactorLimits, factor_limits, ratio_limits}
+use Rattle.dover_model.proofs.valid.JobLimits.{FactorLimits, factor_limits, ratio_limits}
 use Rattle.line_text.specs.Writing.{numbers_behind}
 use Rattle.snapshot.proofs.Written.{counts_fit}
 use Rattle.snapshot.proofs.writing.put_counts.Goals as goal

@@ -1,7 +1,6 @@
 use Rattle.std.proofs.Common.{◌≤◌, ℕ, List, length, ◌∙◌, sym, ap, subst, arith}
-use Rattle.dover_model.specs.Bound.{bound}
+use Rattle.dover_model.specs.Common.{bound, most_total}
 use Rattle.dover_model.specs.declared.events.Version.TheVariants.{Two}
-use Rattle.dover_model.specs.Limits.{most_total}
 use Rattle.trial_words.proofs.Baiting.{value_within, bound_line, written, told}
 use Rattle.trial_words.proofs.bait.text_of.Goals as goal
 

@@ -1,7 +1,7 @@
 use Rattle.std.proofs.Common.{◌∷◌, [], ◌∙◌, inl, inr, refl, append-nil, subst, sym}
 use Rattle.std.specs.List.{AllByRecursion}
 use Rattle.dover_model.specs.JobFacts.{IsJob}
-use Rattle.dover_model.proofs.ValidParts.{valid_parts}
+use Rattle.dover_model.proofs.valid.ValidParts.{valid_parts}
 use Rattle.dover_port.specs.Moves.{IsProperPrefix, outs}
 use Rattle.dover_port.specs.Moves.Move.{Put}
 use Rattle.dover_port.proofs.Made.{since_weaker}

@@ -1,26 +1,20 @@
 use Rattle.std.proofs.Common.{◌≡◌, ◌≤◌, ◌∷◌, [], ℕ, List, length, refl, sym, ap, ◌∙◌, subst, inl, inr, append-nil}
-use Rattle.dover_model.specs.Fraction.{Fraction, IsRatio}
-use Rattle.dover_model.specs.Generator.{generated_jobs}
-use Rattle.dover_model.specs.Instance.{IsValid, jobs_under}
-use Rattle.dover_model.specs.JobFacts.{JobFacts}
+use Rattle.dover_model.specs.Common.{Fraction, IsRatio, generated_jobs, IsValid, jobs_under, JobFacts, most_jobs}
+use Rattle.dover_model.specs.Common.{summary, printed, CostsAtMost}
 use Rattle.dover_model.specs.declared.events.Version.TheVariants.{One, Two}
-use Rattle.dover_model.specs.Limits.{most_jobs}
-use Rattle.dover_model.specs.Reports.{summary}
-use Rattle.dover_model.specs.Run.{printed}
-use Rattle.dover_model.specs.Spending.{CostsAtMost}
-use Rattle.dover_model.proofs.Limiting.{listable}
+use Rattle.dover_model.proofs.valid.Limiting.{listable}
 use Rattle.dover_port.specs.Moves.Move.{Put}
 use Rattle.dover_port.specs.declared.status.Status.TheVariants.{Done, WriteFault}
 use Rattle.dover_port.proofs.Made.{since_none}
 use Rattle.stated_jobs.proofs.trial.Drawn.{valid}
 use Rattle.trial_words.specs.Lists.{trial_instance}
 use Rattle.trial_words.specs.Tallied.{HasCounted, CountsRun}
-use Rattle.trial_words.specs.declared.tally.Tally.{Tally}
+use Rattle.trial_words.specs.declared.tally.RunTally.{RunTally}
 use Rattle.trial_words.proofs.Summing.{of_text}
 use Rattle.trial_words.proofs.trial.trial_word.Goals as goal
 
 -- the run of the jobs of a seed was counted
-counted : (seed count : ℕ) (k : Fraction) (jobs : List JobFacts) (tally : Tally) → IsRatio k → count ≤ most_jobs Two
+counted : (seed count : ℕ) (k : Fraction) (jobs : List JobFacts) (tally : RunTally) → IsRatio k → count ≤ most_jobs Two
     → jobs ≡ generated_jobs seed count k → length jobs ≡ count → HasCounted tally (printed (jobs_under One k jobs))
     → CountsRun (trial_instance k seed count) k count tally
 counted seed count k jobs tally ratio few is size seen = record {
@@ -74,7 +68,8 @@ returns-in_default-clause-stops g c = λ well. well
 
 pub returns-in_default-clause-count : goal.returns-in_default-clause-count
 returns-in_default-clause-count g c =
-    subst (λ n. CostsAtMost n c.args.steps.now c.run_list.new.steps) c.new.ensures.count c.run_list.ensures.count
+    subst (λ n. CostsAtMost n c.args.comparisons.now c.run_list.new.comparisons) c.new.ensures.count
+    c.run_list.ensures.count
 
 pub returns-in_default-summary-clause-ends : goal.returns-in_default-summary-clause-ends
 returns-in_default-summary-clause-ends g c = inr ([], refl)
@@ -87,7 +82,8 @@ returns-in_default-summary-clause-stops g c = λ well. well
 
 pub returns-in_default-summary-clause-count : goal.returns-in_default-summary-clause-count
 returns-in_default-summary-clause-count g c =
-    subst (λ n. CostsAtMost n c.args.steps.now c.run_list.new.steps) c.new.ensures.count c.in-Ok.ensures.count
+    subst (λ n. CostsAtMost n c.args.comparisons.now c.run_list.new.comparisons) c.new.ensures.count
+    c.in-Ok.ensures.count
 
 pub returns-in-Ok-put_all-clause-causes : goal.returns-in-Ok-put_all-clause-causes
 returns-in-Ok-put_all-clause-causes g c = (c.in-Ok-put_all.ensures.cause.other, c.in-Ok-put_all.ensures.cause.ok)
@@ -97,7 +93,8 @@ returns-in-Ok-put_all-clause-stops g c = c.in-Ok-put_all.ensures.stops.well
 
 pub returns-in-Ok-put_all-clause-count : goal.returns-in-Ok-put_all-clause-count
 returns-in-Ok-put_all-clause-count g c =
-    subst (λ n. CostsAtMost n c.args.steps.now c.run_list.new.steps) c.new.ensures.count c.in-Ok.ensures.count
+    subst (λ n. CostsAtMost n c.args.comparisons.now c.run_list.new.comparisons) c.new.ensures.count
+    c.in-Ok.ensures.count
 
 pub returns-clause-ends : goal.returns-clause-ends
 returns-clause-ends g c = inl refl
@@ -110,4 +107,5 @@ returns-clause-stops g c = c.in-Err.ensures.stops.stopped
 
 pub returns-clause-count : goal.returns-clause-count
 returns-clause-count g c =
-    subst (λ n. CostsAtMost n c.args.steps.now c.run_list.new.steps) c.new.ensures.count c.in-Ok.ensures.count
+    subst (λ n. CostsAtMost n c.args.comparisons.now c.run_list.new.comparisons) c.new.ensures.count
+    c.in-Ok.ensures.count

@@ -1,5 +1,4 @@
-use Rattle.std.proofs.Common.{◌≡◌, ℕ, ◌+◌, ◌∷◌, [], ◌++◌, None, sym, ap, ◌∙◌, subst, length, arith}
-use Rattle.std.specs.Option.{option_to_list}
+use Rattle.std.proofs.Common.{◌≡◌, ℕ, ◌+◌, ◌∷◌, [], ◌++◌, None, sym, ap, ◌∙◌, subst, length, arith, option_to_list}
 use Rattle.waiting_pool.specs.Pools.{IsPool, jobs_at}
 use Rattle.waiting_pool.proofs.Pooling.{opened, jobs_push, length_more, no_places}
 use Rattle.waiting_pool.proofs.pool.next_place.Goals as goal

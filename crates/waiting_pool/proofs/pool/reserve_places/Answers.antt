@@ -1,5 +1,4 @@
-use Rattle.std.proofs.Common.{◌-◌, None, refl, sym, ap, subst, length, length-append, replicate, arith}
-use Rattle.std.specs.Prelude.{Option}
+use Rattle.std.proofs.Common.{◌-◌, None, refl, sym, ap, subst, length, length-append, replicate, arith, Option}
 use Rattle.std.proofs.lemmas.List.{length-replicate}
 use Rattle.place_heap.specs.Items.{ItemFacts}
 use Rattle.place_heap.specs.Orders.{due_item, latest_item}

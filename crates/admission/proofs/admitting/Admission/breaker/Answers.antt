@@ -1,6 +1,5 @@
 -- The job that breaks the ratio is sought among the extremes of the jobs that this is kept of.
-use Rattle.std.proofs.Common.{◌≡◌, [], subst, sym}
-use Rattle.std.specs.Prelude.{IfSome}
+use Rattle.std.proofs.Common.{◌≡◌, [], subst, sym, IfSome}
 use Rattle.admission.specs.Kept.{StandsFor, HasExtremes}
 use Rattle.admission.specs.Answers.{IsOther, AllKeepRatio}
 use Rattle.admission.proofs.admitting.Admission.breaker.Goals as goal

@@ -1,7 +1,6 @@
 -- Each refusal is the first cause that holds, and a job that passes each test isn't refused.
 use Rattle.std.proofs.Common.{ap, arith, subst, refl}
-use Rattle.dover_model.specs.Limits.{most_jobs, most_total}
-use Rattle.dover_model.specs.JobFacts.{JobFacts, job_of_numbers}
+use Rattle.dover_model.specs.Common.{most_jobs, most_total, JobFacts, job_of_numbers}
 use Rattle.admission.specs.Answers.{AllKeepRatio, IsOther}
 use Rattle.admission.proofs.Refusing.{not_refused, bad_refused, count_refused, total_refused, ratio_refused}
 use Rattle.admission.proofs.admitting.Admission.check.Goals as goal

@@ -1,11 +1,7 @@
-use Rattle.dover_model.specs.Pieces.{edf, stretches}
-use Rattle.clairvoyant.specs.best.Search.{IsFound}
-use Rattle.std.proofs.Common.{map, ap, subst, ◌∙◌}
-use Rattle.std.specs.Prelude.{Some, None}
-use Rattle.dover_model.specs.Schedules.{worth}
-use Rattle.dover_model.specs.Pieces.{spread}
+use Rattle.dover_model.specs.Common.{edf, stretches, worth, spread}
+use Rattle.clairvoyant.specs.best.Search.{IsFound, IsSearched}
+use Rattle.std.proofs.Common.{map, ap, subst, ◌∙◌, Some, None}
 use Rattle.clairvoyant.specs.best.BestSet.{renumbered}
-use Rattle.clairvoyant.specs.best.Search.{IsSearched}
 use Rattle.clairvoyant.proofs.best.Searching.{something_found, found_best, found_most, found_worth}
 use Rattle.clairvoyant.proofs.best.optimum.find.Goals as goal
 

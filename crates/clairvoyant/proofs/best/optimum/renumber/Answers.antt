@@ -1,7 +1,7 @@
 use Rattle.std.proofs.Common.{◌≡◌, ◌∙◌, length, ap, arith}
 use Rattle.std.proofs.lemmas.List.{with_items_is}
 use Rattle.clairvoyant.specs.best.BestSet.{renumbered}
-use Rattle.dover_model.proofs.InPlace.{map_front, map_front_next, map_front_all}
+use Rattle.dover_model.proofs.lists.InPlace.{map_front, map_front_next, map_front_all}
 use Rattle.clairvoyant.proofs.best.optimum.renumber.Goals as goal
 
 pub loop-piece-preserved : goal.loop-piece-preserved

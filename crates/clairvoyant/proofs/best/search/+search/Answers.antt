@@ -1,17 +1,12 @@
-use Rattle.std.proofs.Common.{ap, subst}
-use Rattle.std.specs.Prelude.{MatchOption}
+use Rattle.std.proofs.Common.{ap, subst, MatchOption, ◌≡◌, drop, get_or, ◌+◌, ◌<◌, ◌++◌, ◌∷◌, [], length, refl, arith}
+use Rattle.std.proofs.Common.{rules}
 use Rattle.std.proofs.lemmas.List.Sums.{sum_by-drop_more}
-use Rattle.dover_model.specs.JobFacts.{JobFacts}
-use Rattle.dover_model.specs.Instance.{total_value}
-use Rattle.std.proofs.Common.{◌≡◌, drop, get_or}
-use Rattle.clairvoyant.specs.best.Search.{IsChoice}
-use Rattle.std.proofs.Common.{◌+◌, ◌<◌, ◌++◌, ◌∷◌, [], length, refl, arith, rules}
-use Rattle.clairvoyant.specs.best.Search.{IsSearched}
+use Rattle.dover_model.specs.Common.{JobFacts, total_value}
+use Rattle.clairvoyant.specs.best.Search.{IsChoice, IsSearched}
 use Rattle.clairvoyant.proofs.best.Rising.{rise_wider}
 use Rattle.clairvoyant.proofs.best.Values.{value_few, left_few}
 use Rattle.clairvoyant.proofs.best.Searching.{choice_later, too_little, found_here, left_next, put_some, put_none}
-use Rattle.clairvoyant.proofs.best.Searching.{after_none, is_found}
-use Rattle.clairvoyant.proofs.best.Searching.{after_better, after_best}
+use Rattle.clairvoyant.proofs.best.Searching.{after_none, is_found, after_better, after_best}
 use Rattle.clairvoyant.proofs.best.search.+search.Goals as goal
 use Rattle.clairvoyant.proofs.best.search.+search.Goals.{in-Some+in_ok-found-in-Some, in-None, in-Some-more}
 use Rattle.clairvoyant.proofs.best.search.+search.Goals.{in-None-more}

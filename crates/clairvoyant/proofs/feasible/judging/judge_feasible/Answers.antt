@@ -1,9 +1,7 @@
-use Rattle.std.specs.Prelude.{Some}
-use Rattle.clairvoyant.specs.feasible.Progress.{IsShown}
-use Rattle.std.proofs.Common.{sym, subst, ℕ, Option}
+use Rattle.std.proofs.Common.{Some, sym, subst, ℕ, Option}
+use Rattle.clairvoyant.specs.feasible.Progress.{IsShown, IsWhole}
 use Rattle.clairvoyant.specs.declared.feasible.answer.Feasible.{Feasible}
 use Rattle.clairvoyant.specs.feasible.Feasibility.{IsAnswer}
-use Rattle.clairvoyant.specs.feasible.Progress.{IsWhole}
 use Rattle.clairvoyant.proofs.feasible.Deciding.{shows_all, shows_window}
 use Rattle.clairvoyant.proofs.feasible.judging.judge_feasible.Goals as goal
 use Rattle.clairvoyant.proofs.feasible.judging.judge_feasible.Goals.{in-None, in-Some}

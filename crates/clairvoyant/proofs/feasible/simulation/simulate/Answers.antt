@@ -1,10 +1,7 @@
-use Rattle.std.proofs.Common.{◌+◌, ◌-◌, ◌^◌, ◌<◌, length, ap, arith}
+use Rattle.std.proofs.Common.{◌+◌, ◌-◌, ◌^◌, ◌<◌, length, ap, arith, List, [], sym, subst, None}
 use Rattle.std.specs.Bool.{OnTrue, OnFalse}
-use Rattle.clairvoyant.specs.feasible.Progress.{StandsAt, HasFew, IsWhole}
-use Rattle.std.proofs.Common.{List, [], sym, subst}
-use Rattle.std.specs.Prelude.{None}
+use Rattle.clairvoyant.specs.feasible.Progress.{StandsAt, HasFew, IsWhole, Stands}
 use Rattle.dover_model.specs.declared.pieces.Piece.{Piece}
-use Rattle.clairvoyant.specs.feasible.Progress.{Stands}
 use Rattle.clairvoyant.specs.feasible.Queue.{QueueFacts}
 use Rattle.clairvoyant.proofs.feasible.Standing.{stands_first}
 use Rattle.clairvoyant.proofs.feasible.simulation.simulate.Goals as goal

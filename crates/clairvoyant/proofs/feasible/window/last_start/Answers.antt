@@ -1,10 +1,8 @@
-use Rattle.std.proofs.Common.{length, refl}
+use Rattle.std.proofs.Common.{length, refl, ◌≡◌, ◌-◌, ◌+◌, drop, sym, subst, arith}
 use Rattle.std.proofs.lemmas.List.{drop_all}
-use Rattle.clairvoyant.proofs.feasible.LastStart.{passed_late}
-use Rattle.std.proofs.Common.{◌≡◌, ◌-◌, ◌+◌, drop, sym, subst, arith}
-use Rattle.clairvoyant.proofs.feasible.LastStart.{StartsAt, Passed, starts_at, passed_at, none_passed}
-use Rattle.dover_model.proofs.ValidParts.{order_parts}
-use Rattle.dover_model.proofs.JobLimits.{job_limits}
+use Rattle.clairvoyant.proofs.feasible.LastStart.{passed_late, StartsAt, Passed, starts_at, passed_at, none_passed}
+use Rattle.dover_model.proofs.valid.ValidParts.{order_parts}
+use Rattle.dover_model.proofs.valid.JobLimits.{job_limits}
 use Rattle.clairvoyant.proofs.feasible.window.last_start.Goals as goal
 
 -- the window from the release of the job at hand

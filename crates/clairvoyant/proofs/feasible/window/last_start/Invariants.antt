@@ -1,6 +1,5 @@
 use Rattle.std.proofs.Common.{ℕ, ◌+◌, ◌*◌, ◌≤◌, length, drop, List}
-use Rattle.dover_model.specs.Limits.{last_tick}
-use Rattle.dover_model.specs.JobFacts.{JobFacts}
+use Rattle.dover_model.specs.Common.{last_tick, JobFacts}
 use Rattle.clairvoyant.proofs.feasible.LastStart.{Passed}
 use Rattle.clairvoyant.proofs.feasible.window.last_start.Given as goal
 

@@ -1,14 +1,10 @@
-use Rattle.std.proofs.Common.{◌≡◌}
+use Rattle.std.proofs.Common.{◌≡◌, ◌∙◌, ap, sym, arith, sum_by, take_all}
 use Rattle.std.proofs.lemmas.List.Sums.{sum_by_more}
-use Rattle.dover_model.proofs.JobLimits.{job_limits}
-use Rattle.clairvoyant.proofs.feasible.LastStart.{asked_most, asked_due, asked_none, due_all, due_none}
+use Rattle.dover_model.proofs.valid.JobLimits.{job_limits}
+use Rattle.clairvoyant.proofs.feasible.LastStart.{asked_most, asked_due, asked_none, due_all, due_none, asked}
 use Rattle.clairvoyant.proofs.feasible.window.work_inside.Goals.{then-a-release+then-deadline-b, else-a-release}
 use Rattle.clairvoyant.proofs.feasible.window.work_inside.Goals.{else-a-release-via-then-a-release+else-deadline-b}
 use Rattle.clairvoyant.proofs.feasible.window.work_inside.Goals.{else-a-release-via-else-a-release}
-use Rattle.std.proofs.Common.{◌∙◌, ap, sym, arith}
-use Rattle.std.specs.List.{sum_by}
-use Rattle.std.proofs.lemmas.List.{take_all}
-use Rattle.clairvoyant.proofs.feasible.LastStart.{asked}
 use Rattle.clairvoyant.proofs.feasible.Overfull.{work_is}
 use Rattle.clairvoyant.proofs.feasible.window.work_inside.Goals as goal
 

@@ -1,7 +1,5 @@
-use Rattle.std.proofs.Common.{◌≡◌, ℕ, ◌*◌, ◌≤◌, take, List}
-use Rattle.std.specs.List.{sum_by}
-use Rattle.dover_model.specs.Limits.{last_tick}
-use Rattle.dover_model.specs.JobFacts.{JobFacts}
+use Rattle.std.proofs.Common.{◌≡◌, ℕ, ◌*◌, ◌≤◌, take, List, sum_by}
+use Rattle.dover_model.specs.Common.{last_tick, JobFacts}
 use Rattle.clairvoyant.proofs.feasible.LastStart.{asked}
 use Rattle.clairvoyant.proofs.feasible.window.work_inside.Given as goal
 

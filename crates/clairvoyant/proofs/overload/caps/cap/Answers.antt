@@ -1,6 +1,5 @@
 use Rattle.std.proofs.Common.{◌≤◌, sym, subst}
-use Rattle.dover_model.specs.Instance.{total_value}
-use Rattle.dover_model.specs.Pieces.{spread}
+use Rattle.dover_model.specs.Common.{total_value, spread}
 use Rattle.clairvoyant.proofs.overload.NoneMet.{some_rules}
 use Rattle.clairvoyant.proofs.overload.Paying.{total_caps}
 use Rattle.clairvoyant.proofs.overload.caps.cap.Goals as goal

@@ -1,7 +1,6 @@
-use Rattle.std.proofs.Common.{◌++◌, ◌∙◌, [], ◌∷◌, true, false, sym, ap, append-nil}
+use Rattle.std.proofs.Common.{◌++◌, ◌∙◌, [], ◌∷◌, true, false, sym, ap, append-nil, take_all}
 use Rattle.clairvoyant.proofs.overload.Near.{inside_more}
 use Rattle.clairvoyant.proofs.overload.costing.inside.Goals as goal
-use Rattle.std.proofs.lemmas.List.{take_all}
 use Rattle.clairvoyant.specs.overload.Stretches.{jobs_inside}
 use Rattle.clairvoyant.proofs.overload.costing.inside.Goals.{then-is_inside+in_ok-push, else-is_inside}
 

@@ -1,10 +1,7 @@
 use Rattle.std.proofs.Common.{◌≤◌, List, length, sym, subst, arith}
 use Rattle.dover_model.specs.declared.events.Version.TheVariants.{Two}
-use Rattle.dover_model.specs.Limits.{most_jobs}
-use Rattle.dover_model.specs.Instance.{IsInOrder}
-use Rattle.dover_model.specs.JobFacts.{JobFacts}
-use Rattle.dover_model.specs.Windows.{is_inside}
-use Rattle.dover_model.proofs.ValidParts.{order_parts, order_from}
+use Rattle.dover_model.specs.Common.{most_jobs, IsInOrder, JobFacts, is_inside}
+use Rattle.dover_model.proofs.valid.ValidParts.{order_parts, order_from}
 use Rattle.clairvoyant.specs.feasible.Feasibility.{CanMeet, IsAnswer, ShowsWindow}
 use Rattle.clairvoyant.specs.declared.feasible.answer.Feasible.{Feasible}
 use Rattle.clairvoyant.proofs.overload.Filling.{first_shown}

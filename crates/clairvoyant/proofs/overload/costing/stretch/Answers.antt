@@ -1,11 +1,9 @@
 use Rattle.std.proofs.Common.{◌≤◌, ◌+◌, ◌∙◌, length, sym, ap, subst, arith}
 use Rattle.dover_model.specs.declared.events.Version.TheVariants.{Two}
-use Rattle.dover_model.specs.Limits.{most_jobs}
-use Rattle.dover_model.specs.Instance.{IsInOrder, total_value}
-use Rattle.dover_model.specs.Windows.{is_inside}
+use Rattle.dover_model.specs.Common.{most_jobs, IsInOrder, total_value, is_inside}
 use Rattle.clairvoyant.specs.overload.Stretches.{Caps, IsWorth, most_sought, sets_of}
 use Rattle.clairvoyant.proofs.overload.Near.{found_inside, filter_few, filter_in_order}
-use Rattle.dover_model.proofs.ValidParts.{order_parts, order_from}
+use Rattle.dover_model.proofs.valid.ValidParts.{order_parts, order_from}
 use Rattle.clairvoyant.proofs.overload.costing.stretch.Goals as goal
 
 pub total_value-total-requires : goal.total_value-total-requires

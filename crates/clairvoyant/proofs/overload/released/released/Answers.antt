@@ -1,7 +1,7 @@
 use Rattle.std.proofs.Common.{◌≡◌, ◌≤◌, drop, subst, arith}
 use Rattle.dover_model.specs.Sound.{Each}
 use Rattle.clairvoyant.proofs.overload.Near.{all_early, all_late, halved}
-use Rattle.dover_model.proofs.ValidParts.{order_parts}
+use Rattle.dover_model.proofs.valid.ValidParts.{order_parts}
 use Rattle.clairvoyant.proofs.overload.released.released.Goals as goal
 
 pub loop-low-preserved-then-release-tick : goal.loop-low-preserved-then-release-tick

@@ -1,6 +1,6 @@
 use Rattle.std.proofs.Common.{◌∷◌, [], arith, codes}
 use Rattle.dover_model.specs.Lines.{with_numbers}
-use Rattle.dover_model.proofs.Fields.{length-with_numbers}
+use Rattle.dover_model.proofs.texts.Fields.{length-with_numbers}
 use Rattle.dialogue.proofs.lines.Sizes.{feed_size}
 use Rattle.dialogue.proofs.lines.due_lines.factor_header.Goals as goal
 

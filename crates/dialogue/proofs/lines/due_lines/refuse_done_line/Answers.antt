@@ -1,6 +1,5 @@
 use Rattle.std.proofs.Common.{ℕ, List, [], ◌∷◌, ◌++◌, codes, ap, ◌∙◌, arith}
-use Rattle.dover_model.specs.Lines.{with_numbers}
-use Rattle.dover_model.specs.Text.{refused_text}
+use Rattle.dover_model.specs.Common.{with_numbers, refused_text}
 use Rattle.line_text.specs.traces.Form.{refused_done}
 use Rattle.dialogue.proofs.lines.Refusals.{refused_line}
 use Rattle.dialogue.proofs.lines.Sizes.{refuse_done_size, feed_size}

@@ -1,8 +1,6 @@
-use Rattle.std.proofs.Common.{◌≤◌, ℕ, List, [], ◌∷◌, ◌++◌, length, length-append, codes}
-use Rattle.std.proofs.Common.{ap, sym, subst, ◌∙◌, arith}
-use Rattle.dover_model.specs.Lines.{with_numbers}
-use Rattle.dover_model.specs.Text.{refusal_word}
-use Rattle.dover_model.proofs.Fields.{length-with_numbers}
+use Rattle.std.proofs.Common.{◌≤◌, ℕ, List, [], ◌∷◌, ◌++◌, length, length-append, codes, ap, sym, subst, ◌∙◌, arith}
+use Rattle.dover_model.specs.Common.{with_numbers, refusal_word}
+use Rattle.dover_model.proofs.texts.Fields.{length-with_numbers}
 use Rattle.line_text.specs.Writing.{numbers_behind}
 use Rattle.dialogue.proofs.lines.Refusals.{refused_line}
 use Rattle.dialogue.proofs.lines.Sizes.{word_size}

@@ -1,6 +1,6 @@
 use Rattle.std.proofs.Common.{◌≤◌, ◌<◌, ◌^◌, ℕ, List, [], ◌∷◌, ◌++◌, length, length-append, codes, ap, ◌∙◌, arith}
 use Rattle.dover_model.specs.Lines.{with_numbers}
-use Rattle.dover_model.proofs.Fields.{length-with_numbers}
+use Rattle.dover_model.proofs.texts.Fields.{length-with_numbers}
 use Rattle.line_text.specs.Writing.{numbers_behind}
 use Rattle.dialogue.proofs.lines.Refusals.{whole_line}
 use Rattle.dialogue.proofs.lines.due_lines.release_spelled.Goals as goal

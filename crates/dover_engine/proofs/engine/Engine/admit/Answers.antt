@@ -1,10 +1,7 @@
-use Rattle.std.proofs.Common.{◌≡◌, ◌+◌, ◌^◌, ◌<◌, ◌∷◌, [], sym, ◌∙◌, ap, subst, refl}
-use Rattle.std.specs.Prelude.{None, Some, false}
-use Rattle.dover_model.specs.JobFacts.{JobFacts, job_of_numbers}
-use Rattle.dover_model.specs.Instance.{Declaration, Instance, with_jobs}
-use Rattle.dover_model.specs.Limits.{most_jobs}
-use Rattle.dover_model.specs.Rest.{turn_under}
-use Rattle.dover_model.specs.Admission.{refusal_of}
+use Rattle.std.proofs.Common.{◌≡◌, ◌+◌, ◌^◌, ◌<◌, ◌∷◌, [], sym, ◌∙◌, ap, subst, refl, None, Some, false, arith}
+use Rattle.std.proofs.Common.{length-append}
+use Rattle.dover_model.specs.Common.{JobFacts, job_of_numbers, Declaration, Instance, with_jobs, most_jobs, turn_under}
+use Rattle.dover_model.specs.Common.{refusal_of}
 use Rattle.dover_engine.specs.Kept.{life_of}
 use Rattle.dover_engine.specs.Life.{life_with, Life, IsReadyFor, HasPaid}
 use Rattle.dover_engine.specs.Given.{Gave}
@@ -12,7 +9,6 @@ use Rattle.dover_engine.specs.Calls.{IsAdmitted, IsCause}
 use Rattle.dover_engine.proofs.Giving.{rests_there, may_admit, job_gave}
 use Rattle.dover_engine.proofs.Lives.{admit_gave, has_cause, refused_cause}
 use Rattle.dover_engine.specs.declared.causes.NotAdmitted.TheVariants.{Full, Numbers}
-use Rattle.std.proofs.Common.{arith, length-append}
 use Rattle.std.proofs.lemmas.Bool.{false≢true}
 use Rattle.dover_engine.proofs.engine.Engine.admit.Goals as goal
 

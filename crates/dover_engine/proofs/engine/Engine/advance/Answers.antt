@@ -1,24 +1,16 @@
-use Rattle.std.proofs.Common.{◌≡◌, ◌++◌, sym, subst}
-use Rattle.std.specs.Prelude.{option_to_list, Option, Some, None, ◌||◌, false}
-use Rattle.std.specs.Option.{option_map}
+use Rattle.std.proofs.Common.{◌≡◌, ◌++◌, sym, subst, option_to_list, Option, Some, None, ◌||◌, false, option_map, refl}
+use Rattle.std.proofs.Common.{ap, ◌∙◌, arith, IfSome}
 use Rattle.dover_model.specs.declared.events.Event.{Event}
-use Rattle.dover_model.specs.Instance.{Instance}
-use Rattle.dover_model.specs.Step.{Prints}
-use Rattle.dover_model.specs.Rest.{behind, turn_under}
-use Rattle.dover_model.specs.Run.{is_end}
-use Rattle.dover_model.specs.Horizons.{MayFollow, is_ready_after}
+use Rattle.dover_model.specs.Common.{Instance, Prints, behind, turn_under, is_end, MayFollow, is_ready_after}
+use Rattle.dover_model.specs.Common.{is_end_given}
 use Rattle.ready_server.proofs.Stepping.{open_short}
 use Rattle.dover_engine.specs.Kept.{life_of}
-use Rattle.dover_engine.specs.Life.{life_with, Life, HasPaid, has_ended}
+use Rattle.dover_engine.specs.Life.{life_with, Life, HasPaid, has_ended, spare_of, room_of, CostsOnce}
 use Rattle.dover_engine.specs.Given.{Gave}
 use Rattle.dover_engine.proofs.Giving.{came_gave, came_open, came_last, served, step_gave, all_given}
 use Rattle.dover_engine.proofs.Lives.{decide_gave, due_given}
-use Rattle.std.proofs.Common.{refl, ap, ◌∙◌, arith}
-use Rattle.std.specs.Prelude.{IfSome}
 use Rattle.dover_model.specs.declared.horizon.Horizon.{Horizon}
 use Rattle.dover_model.specs.declared.horizon.Horizon.TheVariants.{Mark, End}
-use Rattle.dover_model.specs.Horizons.{is_end_given}
-use Rattle.dover_engine.specs.Life.{spare_of, room_of, CostsOnce}
 use Rattle.dover_engine.proofs.engine.Engine.advance.Goals as goal
 
 pub returns-in-Some-clause-gave : goal.returns-in-Some-clause-gave
@@ -104,7 +96,7 @@ returns-in-None-clause-prompt g c J events gave none =
 
 pub returns-in-None-clause-paid : goal.returns-in-None-clause-paid
 returns-in-None-clause-paid g c start paid =
-    let it = subst (λ u. HasPaid u start c.args.steps.now) (sym c.self.view_is) paid in
+    let it = subst (λ u. HasPaid u start c.args.comparisons.now) (sym c.self.view_is) paid in
     record { since = it.since; before = it.before; paid = c.step-event.ensures.paid it.since it.paid }
 
 -- where something is given, not all that is settled was
@@ -137,7 +129,7 @@ returns-in-Some-clause-once g c = λ d enough. omega arith
 
 pub returns-in-Some-clause-paid : goal.returns-in-Some-clause-paid
 returns-in-Some-clause-paid g c = λ start paid.
-    let it = subst (λ u. HasPaid u start c.args.steps.now) (sym c.self.view_is) paid in
+    let it = subst (λ u. HasPaid u start c.args.comparisons.now) (sym c.self.view_is) paid in
     record { since = it.since; before = it.before; paid = it.paid }
 
 pub step-event-requires : goal.step-event-requires
@@ -177,5 +169,5 @@ returns-in-None-clause-room g c = c.step-event.ensures.room_stays ∙ ap room_of
 
 pub returns-in-None-clause-once : goal.returns-in-None-clause-once
 returns-in-None-clause-once g c =
-    subst (λ u. CostsOnce u c.step-event.result c.args.steps.now c.step-event.new.steps) c.self.view_is
+    subst (λ u. CostsOnce u c.step-event.result c.args.comparisons.now c.step-event.new.comparisons) c.self.view_is
     c.step-event.ensures.once

@@ -1,8 +1,5 @@
-use Rattle.std.proofs.Common.{◌++◌, sym, ◌∙◌, ap, subst, arith}
-use Rattle.std.specs.Prelude.{option_to_list, ◌||◌}
-use Rattle.std.specs.Option.{option_map}
-use Rattle.dover_model.specs.Rest.{behind}
-use Rattle.dover_model.specs.Horizons.{is_ready_after, is_end_given}
+use Rattle.std.proofs.Common.{◌++◌, sym, ◌∙◌, ap, subst, arith, option_to_list, ◌||◌, option_map}
+use Rattle.dover_model.specs.Common.{behind, is_ready_after, is_end_given}
 use Rattle.dover_engine.specs.Decisions.{events_in, event_in}
 use Rattle.dover_engine.specs.Life.{has_ended}
 use Rattle.dover_engine.specs.Given.{Gave}
@@ -44,5 +41,6 @@ returns-clause-once g c =
     let same = c.shown-decision.ensures
     ∙ ap (λ n. option_map (behind n c.advance-event.new.self.earned) o) c.advance-event.ensures.forgotten
     ∙ ap (λ value. option_map (behind v.forgotten value) o) c.advance-event.ensures.earned in
-    shown_once v v.forgotten v.earned o (event_in c.shown-decision.result) c.args.steps.now c.advance-event.new.steps
+    shown_once v v.forgotten v.earned o (event_in c.shown-decision.result) c.args.comparisons.now
+    c.advance-event.new.comparisons
     same c.advance-event.ensures.once

@@ -1,11 +1,6 @@
-use Rattle.std.proofs.Common.{◌≡◌, ℕ, ◌+◌, [], ◌∷◌, sym, ◌∙◌, ap, subst}
-use Rattle.std.specs.Prelude.{None, Some, false, is_some}
+use Rattle.std.proofs.Common.{◌≡◌, ℕ, ◌+◌, [], ◌∷◌, sym, ◌∙◌, ap, subst, None, Some, false, is_some}
 use Rattle.std.proofs.lemmas.Bool.{false≢true}
-use Rattle.dover_model.specs.Instance.{Instance, with_finishes}
-use Rattle.dover_model.specs.Processor.{runner_of}
-use Rattle.dover_model.specs.Rest.{turn_under}
-use Rattle.dover_model.specs.Session.{may_finish_early}
-use Rattle.dover_model.specs.Settled.{settled}
+use Rattle.dover_model.specs.Common.{Instance, with_finishes, runner_of, turn_under, may_finish_early, settled}
 use Rattle.dover_model.specs.declared.horizon.Horizon.TheVariants.{Mark}
 use Rattle.ready_server.specs.Serving.{Rests, Finishes}
 use Rattle.ready_server.specs.declared.server.ReadyServer.{ReadyServer}

@@ -1,7 +1,6 @@
-use Rattle.std.proofs.Common.{◌≡◌, [], Bool, false, length, ap, arith, refl, sym, subst}
-use Rattle.std.specs.Prelude.{if◌then◌else◌, Result, Ok, Err, OnOk, None}
-use Rattle.std.specs.Result.{is_err}
-use Rattle.std.proofs.lemmas.Bool.{lt-ltb, le-ltb, false≢true}
+use Rattle.std.proofs.Common.{◌≡◌, [], Bool, false, length, ap, arith, refl, sym, subst, if◌then◌else◌, Result, Ok, Err}
+use Rattle.std.proofs.Common.{OnOk, None, is_err, lt-ltb, le-ltb}
+use Rattle.std.proofs.lemmas.Bool.{false≢true}
 use Rattle.dover_model.specs.declared.horizon.Horizon.TheVariants.{Mark}
 use Rattle.dover_model.specs.Horizons.{no_jobs}
 use Rattle.dover_engine.specs.declared.causes.NotMade.TheVariants.{Capacity, Memory}

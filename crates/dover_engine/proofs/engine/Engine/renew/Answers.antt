@@ -1,11 +1,10 @@
-use Rattle.std.proofs.Common.{◌+◌, refl, sym, ap, ap₂, ◌∙◌, subst, arith}
+use Rattle.std.proofs.Common.{◌+◌, refl, sym, ap, ap₂, ◌∙◌, subst, arith, [], length}
 use Rattle.dover_model.specs.Rest.{turn_under}
 use Rattle.ready_jobs.proofs.Courses.{no_items}
 use Rattle.dover_engine.specs.Kept.{life_of}
 use Rattle.dover_engine.specs.Life.{life_with, Life, IsAtRest, HasPaid, done_value, has_ended, spare_of, room_of}
 use Rattle.dover_engine.specs.Given.{Gave}
 use Rattle.dover_engine.proofs.Lives.{renew_gave, renew_paid}
-use Rattle.std.proofs.Common.{[], length}
 use Rattle.admission.specs.Kept.{StandsFor}
 use Rattle.std.proofs.lemmas.Bool.{false≢true}
 use Rattle.dover_engine.proofs.engine.Engine.renew.Goals.{then-not-self-via-then-not-self}

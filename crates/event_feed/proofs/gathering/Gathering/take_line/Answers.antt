@@ -1,27 +1,22 @@
 use Rattle.std.proofs.Common.{◌≡◌, ◌≤◌, ◌<◌, ◌++◌, ◌∷◌, [], ◌∙◌, Some, None, Ok, length, refl, sym, ap, subst, arith}
-use Rattle.std.proofs.Common.{Bool, true, false, OnOk, length-append}
-use Rattle.std.specs.Prelude.{nat_lt}
-use Rattle.std.proofs.lemmas.Bool.{ltb-true, ltb-false}
+use Rattle.std.proofs.Common.{Bool, true, false, OnOk, length-append, nat_lt, ltb-true, ltb-false}
 use Rattle.std.proofs.lemmas.Result.{on_ok_weaker, on_err_weaker}
-use Rattle.dover_model.specs.Feed.{Account, no_lines, account_of_lines, is_open}
-use Rattle.dover_model.specs.Limits.{most_jobs}
-use Rattle.dover_model.specs.Session.{instance_of, is_full}
+use Rattle.dover_model.specs.Common.{Account, no_lines, account_of_lines, is_open, most_jobs, instance_of, is_full}
 use Rattle.dover_model.specs.declared.events.Version.TheVariants.{Two}
-use Rattle.dover_model.proofs.Accounts.{lines_goes}
+use Rattle.dover_model.proofs.sessions.Accounts.{lines_goes}
 use Rattle.event_feed.specs.Answers.{IsFed, AddsJob, counted}
 use Rattle.event_feed.specs.Keeping.{Keeps}
 use Rattle.event_feed.specs.declared.faults.FeedFault.{FeedFault}
 use Rattle.event_feed.specs.Kept as feed
 use Rattle.event_feed.specs.Kept.{fault_of}
 use Rattle.event_feed.specs.Listing.{offered_in}
-use Rattle.dover_model.proofs.Members.{err_any}
+use Rattle.dover_model.proofs.lists.Members.{err_any}
 use Rattle.event_feed.proofs.Accepting.{offer_accepted, offer_room}
-use Rattle.event_feed.proofs.Listing.{finds_room, ok_any}
-use Rattle.event_feed.proofs.Listing.{goes_on, job_listed, job_admitted, refused_listed, tick_listed}
-use Rattle.event_feed.proofs.Listing.{kept_listed, done_admitted}
+use Rattle.event_feed.proofs.Listing.{finds_room, ok_any, goes_on, job_listed, job_admitted, refused_listed}
+use Rattle.event_feed.proofs.Listing.{tick_listed, kept_listed, done_admitted}
 use Rattle.event_feed.proofs.DoneLines.{done_standing}
-use Rattle.event_feed.proofs.Offering.{IsGathering, is_gathering, keeps_few, keeps_many, offered_job}
-use Rattle.event_feed.proofs.Offering.{offered_refused, offered_done}
+use Rattle.event_feed.proofs.Offering.{IsGathering, is_gathering, keeps_few, keeps_many, offered_job, offered_refused}
+use Rattle.event_feed.proofs.Offering.{offered_done}
 use Rattle.event_feed.proofs.gathering.Gathering.take_line.Goals as goal
 
 pub returns-in-Job-clause-memory : goal.returns-in-Job-clause-memory
@@ -64,7 +59,7 @@ returns-in-Job-clause-keeps c ls keeps on =
                   (subst (λ f. feed.StandsBehind {E = FeedFault} (Ok f) c.line.new.self ls c.args.line.now) c.in-Job.is
                   (c.in-Ok.ensures.stands ls it.all.intake)) c.job.new.self.intake kept.2 room;
             };
-            lists = rw (c.job.ensures.declared, c.job.ensures.dones, jobs)
+            lists = rw (c.job.ensures.declared, c.job.ensures.done_lines, jobs)
                 (job_listed a b _ _ _ it.all.lists c.in-Job.field-0 c.in-Job.job adds room);
             offered = omega (
               arith,
@@ -137,7 +132,7 @@ returns-in-Done-clause-keeps c = λ ls keeps on.
       offered = rw c.done.ensures.jobs (offered_done a b _ _ adds ∙ it.all.offered);
       names = λ fault is. absurd (let e : None ≡ Some fault =
           sym (ap fault_of c.done.ensures.intake ∙ c.in-Ok.ensures.fault) ∙ is in cc);
-    })) (c.done.ensures.dones (ls ++ c.args.line.now ∷ []) stands)
+    })) (c.done.ensures.done_lines (ls ++ c.args.line.now ∷ []) stands)
 
 pub returns-in-Done-clause-memory : goal.returns-in-Done-clause-memory
 returns-in-Done-clause-memory c = λ ls keeps on.

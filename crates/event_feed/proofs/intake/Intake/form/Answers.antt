@@ -1,6 +1,6 @@
 -- The text of a form is read as that form.
 use Rattle.dover_model.specs.FeedLine.{feed_text}
-use Rattle.dover_model.proofs.FeedLines.{feed_line-feed_text}
+use Rattle.dover_model.proofs.texts.FeedLines.{feed_line-feed_text}
 use Rattle.line_text.specs.feeds.Form.{form_of}
 use Rattle.event_feed.proofs.intake.Intake.form.Goals as goal
 

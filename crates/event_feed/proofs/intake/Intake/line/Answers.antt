@@ -1,8 +1,6 @@
 -- What is kept of the numbers changes nothing of what stands for the lines.
-use Rattle.std.proofs.Common.{sym, subst, arith}
-use Rattle.event_feed.specs.Kept.{Kept, StandsFor}
-use Rattle.std.proofs.Common.{ap, ◌∙◌}
-use Rattle.event_feed.specs.Kept.{has_ended, fault_of}
+use Rattle.std.proofs.Common.{sym, subst, arith, ap, ◌∙◌}
+use Rattle.event_feed.specs.Kept.{Kept, StandsFor, has_ended, fault_of}
 use Rattle.event_feed.proofs.intake.Intake.line.Goals as goal
 
 pub take-requires-clause-unended : goal.take-requires-clause-unended

@@ -1,7 +1,6 @@
 -- What is kept after the skipped lines.
 use Rattle.std.proofs.Common.{◌+◌, ◌++◌, replicate, sym, subst}
-use Rattle.dover_model.specs.FeedLine.{TickLine, feed_text}
-use Rattle.dover_model.specs.Feed.{account_of_lines}
+use Rattle.dover_model.specs.Common.{TickLine, feed_text, account_of_lines}
 use Rattle.event_feed.specs.Kept.{StandsFor, IsGoing}
 use Rattle.event_feed.proofs.Taking.{is_going}
 use Rattle.event_feed.proofs.Skipping.{keeps_ticks, still_open}

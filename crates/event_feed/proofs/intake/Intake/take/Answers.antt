@@ -1,23 +1,19 @@
 -- A fault is kept and answered.
-use Rattle.std.proofs.Common.{◌≤◌, inr, Ok}
-use Rattle.dover_model.specs.Limits.{most_lines}
+use Rattle.std.proofs.Common.{◌≤◌, inr, Ok, ◌≡◌, ℕ, suc, ◌+◌, List, sym, ap, ◌∙◌, subst, refl, arith, Err, None, Some}
+use Rattle.std.proofs.Common.{rules, option_map}
+use Rattle.dover_model.specs.Common.{most_lines, Open, account_of_lines, read_line, feed_line}
 use Rattle.dover_model.specs.declared.events.Version.TheVariants.{Three}
 use Rattle.dover_model.specs.Feed as model
-use Rattle.dover_model.proofs.Members.{some_same}
+use Rattle.dover_model.proofs.lists.Members.{some_same}
 use Rattle.event_feed.specs.declared.fed.Fed.TheVariants as feds
-use Rattle.event_feed.specs.Kept.{Kept, KeepsAccount, IsCounted, cause_of_fault}
-use Rattle.event_feed.specs.Answers.{IsFed, EndsFeed}
-use Rattle.event_feed.proofs.Taking.{next_account, fault_stays, keeps_over}
-use Rattle.std.proofs.Common.{◌≡◌, ℕ, suc, ◌+◌, List, sym, ap, ◌∙◌, subst, refl, arith, Err, None, Some, rules}
-use Rattle.std.specs.Option.{option_map}
-use Rattle.dover_model.specs.Feed.{Open, account_of_lines, read_line}
-use Rattle.dover_model.specs.FeedLine.{feed_line}
+use Rattle.event_feed.specs.Kept.{Kept, KeepsAccount, IsCounted, cause_of_fault, StandsFor, standing_of, has_ended}
+use Rattle.event_feed.specs.Kept.{fault_of}
+use Rattle.event_feed.specs.Answers.{IsFed, EndsFeed, counted}
+use Rattle.event_feed.proofs.Taking.{next_account, fault_stays, keeps_over, goes_on, is_going, keeps_fault, keeps_fed}
+use Rattle.event_feed.proofs.Taking.{answers_fault}
 use Rattle.line_text.specs.feeds.Form.{form_of}
 use Rattle.event_feed.specs.declared.intake.Standing.TheVariants as standings
-use Rattle.event_feed.specs.Kept.{StandsFor, standing_of, has_ended, fault_of}
-use Rattle.event_feed.specs.Answers.{counted}
 use Rattle.event_feed.specs.Reading.{IsTaken}
-use Rattle.event_feed.proofs.Taking.{goes_on, is_going, keeps_fault, keeps_fed, answers_fault}
 use Rattle.event_feed.proofs.intake.Intake.take.Goals as goal
 
 pub returns-in-Ok-clause-stands : goal.returns-in-Ok-clause-stands

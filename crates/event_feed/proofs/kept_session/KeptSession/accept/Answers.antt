@@ -1,6 +1,6 @@
 use Rattle.std.proofs.Common.{◌∙◌, sym, ap, subst}
 use Rattle.dover_model.specs.Session.{admitted_jobs}
-use Rattle.dover_model.proofs.Growing.{job_instance}
+use Rattle.dover_model.proofs.sessions.Growing.{job_instance}
 use Rattle.admission.specs.Kept as admission
 use Rattle.event_feed.proofs.kept_session.KeptSession.accept.Goals as goal
 

@@ -1,9 +1,6 @@
 -- A job line by what the test of the job answers.
 use Rattle.std.proofs.Common.{◌∙◌, sym, ap, subst, arith, Ok}
-use Rattle.dover_model.specs.JobFacts.{JobFacts, job_of_numbers}
-use Rattle.dover_model.specs.Admission.{refusal_of}
-use Rattle.dover_model.specs.Session.{admitted_jobs}
-use Rattle.dover_model.specs.FeedLine.{JobLine}
+use Rattle.dover_model.specs.Common.{JobFacts, job_of_numbers, refusal_of, admitted_jobs, JobLine}
 use Rattle.admission.specs.Answers as answers
 use Rattle.event_feed.specs.declared.fed.Fed.TheVariants as fed
 use Rattle.event_feed.specs.declared.kept_session.KeptSession.{KeptSession}

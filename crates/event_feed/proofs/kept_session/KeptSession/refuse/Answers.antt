@@ -1,7 +1,6 @@
 -- A refused job line, from version Two on.
 use Rattle.std.proofs.Common.{◌∙◌, ap, sym, Some}
-use Rattle.dover_model.specs.JobFacts.{JobFacts, job_of_numbers}
-use Rattle.dover_model.specs.Session.{refuses_lines}
+use Rattle.dover_model.specs.Common.{JobFacts, job_of_numbers, refuses_lines}
 use Rattle.event_feed.proofs.JobLines.{refuses_alone, takes_refused}
 use Rattle.event_feed.proofs.kept_session.KeptSession.refuse.Goals as goal
 

@@ -1,7 +1,6 @@
 use Rattle.std.proofs.Common.{◌≡◌, ℕ, List, ◌++◌, ◌∷◌, [], ◌<◌, ◌∙◌, sym, ap, subst, cond, false, OnErr}
 use Rattle.std.proofs.lemmas.Result.{on_ok_weaker}
-use Rattle.dover_model.specs.Feed.{account_of_lines}
-use Rattle.dover_model.specs.Lines.{lines_of, rest_of, is_too_long}
+use Rattle.dover_model.specs.Common.{account_of_lines, lines_of, rest_of, is_too_long}
 use Rattle.line_text.specs.Cutting as cutting
 use Rattle.event_feed.specs.Answers.{admitted_in}
 use Rattle.event_feed.specs.Keeping.{Keeps, HasRead}

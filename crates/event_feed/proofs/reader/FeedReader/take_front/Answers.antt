@@ -1,13 +1,10 @@
-use Rattle.std.proofs.Common.{◌<◌, OnErr}
+use Rattle.std.proofs.Common.{◌<◌, OnErr, ◌≡◌, ◌++◌, ◌∷◌, [], ◌∙◌, get_or, sym, ap, subst, OnOk, arith}
 use Rattle.std.proofs.lemmas.Result.{on_ok_weaker}
-use Rattle.dover_model.specs.Feed.{account, account_of_lines}
-use Rattle.dover_model.specs.Lines.{lines_of}
+use Rattle.dover_model.specs.Common.{account, account_of_lines, lines_of}
 use Rattle.event_feed.specs.Answers.{admitted_in}
-use Rattle.event_feed.specs.Keeping.{Keeps}
+use Rattle.event_feed.specs.Keeping.{Keeps, HasRead}
 use Rattle.event_feed.proofs.Offering.{wanted_short}
-use Rattle.std.proofs.Common.{◌≡◌, ◌++◌, ◌∷◌, [], ◌∙◌, get_or, sym, ap, subst, OnOk, arith}
 use Rattle.std.proofs.lemmas.List.{drop_more, drop_all}
-use Rattle.event_feed.specs.Keeping.{HasRead}
 use Rattle.event_feed.proofs.reader.FeedReader.take_front.Goals as goal
 
 pub returns-clause-reads : goal.returns-clause-reads

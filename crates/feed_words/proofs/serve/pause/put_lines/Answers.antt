@@ -1,5 +1,4 @@
-use Rattle.std.proofs.Common.{◌∙◌, arith, refl, get_or, []}
-use Rattle.std.proofs.lemmas.List.{take_all}
+use Rattle.std.proofs.Common.{◌∙◌, arith, refl, get_or, [], take_all}
 use Rattle.dover_port.proofs.Through.{passes_nothing}
 use Rattle.feed_words.proofs.serve.Snapped.{passes_line, cuts_line}
 use Rattle.feed_words.proofs.serve.pause.put_lines.Goals as goal

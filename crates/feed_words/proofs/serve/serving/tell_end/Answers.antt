@@ -1,6 +1,5 @@
 use Rattle.std.proofs.Common.{◌++◌, ◌∷◌, [], sym, ◌∙◌}
-use Rattle.dover_model.specs.Due.{fault_text}
-use Rattle.dover_model.specs.Lines.{lines_of}
+use Rattle.dover_model.specs.Common.{fault_text, lines_of}
 use Rattle.dover_port.specs.declared.status.Status.TheVariants.{Refused}
 use Rattle.dover_port.proofs.Through.{passes_nothing}
 use Rattle.event_feed.specs.Kept.{cause_of_fault}

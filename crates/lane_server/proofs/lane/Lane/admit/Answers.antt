@@ -1,9 +1,6 @@
 use Rattle.std.proofs.Common.{◌≡◌, ◌++◌, ◌∷◌, [], length, sym, ap, ◌∙◌, subst, true, false, None}
-use Rattle.dover_model.specs.Session.{instance_of, is_full}
-use Rattle.dover_model.specs.Feed.{account_of_lines}
+use Rattle.dover_model.specs.Common.{instance_of, is_full, account_of_lines, MayFollow, settled}
 use Rattle.dover_model.specs.declared.horizon.Horizon.TheVariants.{Mark}
-use Rattle.dover_model.specs.Horizons.{MayFollow}
-use Rattle.dover_model.specs.Settled.{settled}
 use Rattle.event_feed.specs.Kept as feed
 use Rattle.event_feed.specs.DueLines.{out_text}
 use Rattle.lane_server.specs.Lane.{Admitting, Running, Stands}
@@ -146,14 +143,14 @@ returns-then-is_full-clause-gives g c = λ ls rest it.
     )
 
 pub returns-clause-paid : goal.returns-clause-paid
-returns-clause-paid g c = λ start paid. c.admit-event.ensures.paid start c.step.new.steps
-    (c.in_default-step.ensures.paid start (subst (λ o. HasPaid o start c.args.steps.now) c.in-Some.is paid))
+returns-clause-paid g c = λ start paid. c.admit-event.ensures.paid start c.step.new.comparisons
+    (c.in_default-step.ensures.paid start (subst (λ o. HasPaid o start c.args.comparisons.now) c.in-Some.is paid))
 
 pub returns-in-Some-step-clause-paid : goal.returns-in-Some-step-clause-paid
 returns-in-Some-step-clause-paid g c = λ start paid. c.in-Some-step.ensures.paid start
-    (subst (λ o. HasPaid o start c.args.steps.now) c.in-Some.is paid)
+    (subst (λ o. HasPaid o start c.args.comparisons.now) c.in-Some.is paid)
 
 pub returns-then-is_full-clause-paid : goal.returns-then-is_full-clause-paid
-returns-then-is_full-clause-paid g c = λ start paid. subst (λ l. HasPaid l.server start c.step.new.steps)
+returns-then-is_full-clause-paid g c = λ start paid. subst (λ l. HasPaid l.server start c.step.new.comparisons)
     (sym c.pass.ensures.lane)
-    (c.in_default-step.ensures.paid start (subst (λ o. HasPaid o start c.args.steps.now) c.in-Some.is paid))
+    (c.in_default-step.ensures.paid start (subst (λ o. HasPaid o start c.args.comparisons.now) c.in-Some.is paid))

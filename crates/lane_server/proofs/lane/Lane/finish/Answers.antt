@@ -1,6 +1,5 @@
 use Rattle.std.proofs.Common.{[], sym, subst, refl}
-use Rattle.dover_model.specs.Session.{instance_of}
-use Rattle.dover_model.specs.Feed.{account_of_lines}
+use Rattle.dover_model.specs.Common.{instance_of, account_of_lines}
 use Rattle.dover_model.specs.declared.horizon.Horizon.TheVariants.{Mark}
 use Rattle.lane_server.specs.Lane.{Finishing}
 use Rattle.lane_server.specs.Spending.{HasPaid}
@@ -81,12 +80,12 @@ returns-in-None-clause-gives g c = λ ls rest it.
 
 pub returns-in-Some-step-clause-paid : goal.returns-in-Some-step-clause-paid
 returns-in-Some-step-clause-paid g c = λ start paid. c.in-Some-step.ensures.paid start
-    (subst (λ o. HasPaid o start c.args.steps.now) c.in-Some.is paid)
+    (subst (λ o. HasPaid o start c.args.comparisons.now) c.in-Some.is paid)
 
 pub returns-in-Some-finish-clause-paid : goal.returns-in-Some-finish-clause-paid
-returns-in-Some-finish-clause-paid g c = λ start paid. c.in-Some-finish.ensures.paid start c.step.new.steps
-    (c.in_default-step.ensures.paid start (subst (λ o. HasPaid o start c.args.steps.now) c.in-Some.is paid))
+returns-in-Some-finish-clause-paid g c = λ start paid. c.in-Some-finish.ensures.paid start c.step.new.comparisons
+    (c.in_default-step.ensures.paid start (subst (λ o. HasPaid o start c.args.comparisons.now) c.in-Some.is paid))
 
 pub returns-in-None-clause-paid : goal.returns-in-None-clause-paid
-returns-in-None-clause-paid g c = λ start paid. c.in-None.ensures.paid start c.step.new.steps
-    (c.in_default-step.ensures.paid start (subst (λ o. HasPaid o start c.args.steps.now) c.in-Some.is paid))
+returns-in-None-clause-paid g c = λ start paid. c.in-None.ensures.paid start c.step.new.comparisons
+    (c.in_default-step.ensures.paid start (subst (λ o. HasPaid o start c.args.comparisons.now) c.in-Some.is paid))

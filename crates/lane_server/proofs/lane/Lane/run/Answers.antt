@@ -48,8 +48,8 @@ returns-in-None-clause-gives g c = λ ls rest it.
 
 pub returns-in-Some-step-clause-paid : goal.returns-in-Some-step-clause-paid
 returns-in-Some-step-clause-paid g c = λ start paid. c.in-Some-step.ensures.paid start
-    (subst (λ o. HasPaid o start c.args.steps.now) c.in-Some.is paid)
+    (subst (λ o. HasPaid o start c.args.comparisons.now) c.in-Some.is paid)
 
 pub returns-in-None-clause-paid : goal.returns-in-None-clause-paid
 returns-in-None-clause-paid g c = λ start paid. c.in-None.ensures.paid start
-    (subst (λ o. HasPaid o start c.args.steps.now) c.in-Some.is paid)
+    (subst (λ o. HasPaid o start c.args.comparisons.now) c.in-Some.is paid)

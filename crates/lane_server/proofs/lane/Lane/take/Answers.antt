@@ -1,6 +1,5 @@
-use Rattle.std.proofs.Common.{◌≡◌, IfSome, inl, inr, refl, sym, ◌∙◌, subst}
-use Rattle.std.specs.Prelude.{OnOk}
-use Rattle.dover_model.proofs.Members.{err_any}
+use Rattle.std.proofs.Common.{◌≡◌, IfSome, inl, inr, refl, sym, ◌∙◌, subst, OnOk}
+use Rattle.dover_model.proofs.lists.Members.{err_any}
 use Rattle.event_feed.specs.Answers.{IsFed, counted}
 use Rattle.lane_server.specs.Lane.{TurnsTo}
 use Rattle.lane_server.specs.Spending.{HasPaid}

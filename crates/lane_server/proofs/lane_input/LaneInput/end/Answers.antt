@@ -1,6 +1,5 @@
 use Rattle.std.proofs.Common.{[], sym, ap, ◌∙◌, subst, arith, ◌+◌, ◌∷◌}
-use Rattle.dover_model.specs.Lines.{lines_of}
-use Rattle.dover_model.specs.Text.{refused_line}
+use Rattle.dover_model.specs.Common.{lines_of, refused_line}
 use Rattle.lane_server.specs.LaneInput.{Holds, word_of}
 use Rattle.lane_server.proofs.Receiving.{ends_closed, refuses}
 use Rattle.lane_server.proofs.lane_input.LaneInput.end.Goals as goal

@@ -46,7 +46,7 @@ returns-in-Some-clause-paid g c = λ start paid.
     (lane_there _ c.from.result c.index_mut.result.now it.count (omega (arith, c.from.ensures, low))
     c.index_mut.ensures.value) start (omega (arith, c.from.ensures, low)) _ _
     (λ from has. c.in-Some.ensures.paid from has)
-    (subst (λ (k : Kept). HavePaid k.lanes start c.args.steps.now) (sym c.self.view_is) paid)
+    (subst (λ (k : Kept). HavePaid k.lanes start c.args.comparisons.now) (sym c.self.view_is) paid)
 
 pub returns-in-None-clause-paid : goal.returns-in-None-clause-paid
 returns-in-None-clause-paid g c = λ start paid.
@@ -58,7 +58,7 @@ returns-in-None-clause-paid g c = λ start paid.
     (lane_there _ c.from.result c.index_mut.result.now it.count (omega (arith, c.from.ensures, low))
     c.index_mut.ensures.value) start (omega (arith, c.from.ensures, low)) _ _
     (λ from has. c.in-None.ensures.paid from has)
-    (subst (λ (k : Kept). HavePaid k.lanes start c.args.steps.now) (sym c.self.view_is) paid)
+    (subst (λ (k : Kept). HavePaid k.lanes start c.args.comparisons.now) (sym c.self.view_is) paid)
 
 pub index_mut-requires : goal.index_mut-requires
 index_mut-requires g c =

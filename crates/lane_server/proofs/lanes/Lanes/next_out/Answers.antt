@@ -63,7 +63,7 @@ returns-in-Closing-clause-closed g c = c.give_short.ensures.closed
 
 pub returns-in-Closing-clause-paid : goal.returns-in-Closing-clause-paid
 returns-in-Closing-clause-paid g c = λ start paid.
-    subst (λ lanes. HavePaid lanes start c.args.steps.now) (sym c.give_short.ensures.lanes) paid
+    subst (λ lanes. HavePaid lanes start c.args.comparisons.now) (sym c.give_short.ensures.lanes) paid
 
 pub returns-in-Closing-clause-idle : goal.returns-in-Closing-clause-idle
 returns-in-Closing-clause-idle g c = λ closed. refl

@@ -1,9 +1,8 @@
 use Rattle.std.proofs.Common.{◌++◌, ◌∷◌, [], sym, subst}
-use Rattle.dover_model.specs.Lines.{lines_of}
+use Rattle.dover_model.specs.Common.{lines_of, refused_line}
 use Rattle.dialogue.specs.Turns.{joined}
 use Rattle.dover_port.specs.declared.status.Status.TheVariants.{Refused}
 use Rattle.lane_server.specs.Lanes.{input, shorts_from, lane_count}
-use Rattle.dover_model.specs.Text.{refused_line}
 use Rattle.lane_server.proofs.Receiving.{closing_lanes}
 use Rattle.lanes_word.specs.Keeping.{parts_of, Costs}
 use Rattle.lanes_word.proofs.Talking.{final, closed_status, closed_text, refused_status, refused_text}

@@ -1,5 +1,4 @@
-use Rattle.std.proofs.Common.{◌≡◌, List, ℕ, ◌-◌, ◌++◌, length, length-append, sym, ap, ◌∙◌, arith}
-use Rattle.std.proofs.lemmas.List.{length-drop}
+use Rattle.std.proofs.Common.{◌≡◌, List, ℕ, ◌-◌, ◌++◌, length, length-append, sym, ap, ◌∙◌, arith, length-drop}
 use Rattle.line_text.specs.Writing.{numbers_behind}
 use Rattle.line_text.proofs.Written.{length-numbers_behind}
 use Rattle.line_text.proofs.back_line.BackLine.put_numbers.Goals as goal

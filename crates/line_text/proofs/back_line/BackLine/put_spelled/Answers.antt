@@ -1,5 +1,4 @@
-use Rattle.std.proofs.Common.{◌≡◌, ◌≤◌, ℕ, List, ◌+◌, ◌-◌, ◌++◌, drop, length, ap, sym, ◌∙◌, arith}
-use Rattle.std.proofs.lemmas.List.{length-drop}
+use Rattle.std.proofs.Common.{◌≡◌, ◌≤◌, ℕ, List, ◌+◌, ◌-◌, ◌++◌, drop, length, ap, sym, ◌∙◌, arith, length-drop}
 use Rattle.line_text.specs.Writing.{numbers_behind}
 use Rattle.line_text.proofs.Written.{drop_into}
 use Rattle.line_text.proofs.back_line.BackLine.put_spelled.Goals as goal

@@ -1,6 +1,5 @@
-use Rattle.std.proofs.Common.{◌≡◌, ℕ, List, ◌-◌, ◌^◌, ◌<◌, ◌++◌, drop, length, length-append, get_or}
-use Rattle.std.proofs.Common.{append_assoc, sym, ap, ◌∙◌, arith, rules}
-use Rattle.std.proofs.lemmas.List.{length-drop}
+use Rattle.std.proofs.Common.{◌≡◌, ℕ, List, ◌-◌, ◌^◌, ◌<◌, ◌++◌, drop, length, length-append, get_or, append_assoc, sym}
+use Rattle.std.proofs.Common.{ap, ◌∙◌, arith, rules, length-drop}
 use Rattle.dover_model.specs.Lines.{with_numbers}
 use Rattle.line_text.specs.Writing.{numbers_behind}
 use Rattle.line_text.proofs.Written.{with_numbers-behind, numbers_few}

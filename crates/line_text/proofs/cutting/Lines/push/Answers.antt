@@ -1,6 +1,6 @@
 use Rattle.std.proofs.Common.{subst, sym, ◌∷◌, ◌++◌, []}
 use Rattle.line_text.specs.Cutting.{Cutting, StandsFor, HasCut, with_byte}
-use Rattle.line_text.specs.declared.cutting.Step.{Step}
+use Rattle.line_text.specs.declared.cutting.ByteEffect.{ByteEffect}
 use Rattle.line_text.proofs.Cut.{after_byte-Goes, after_byte-StandsFor}
 use Rattle.line_text.proofs.cutting.Lines.push.Goals as goal
 
@@ -11,6 +11,7 @@ returns-clause-stands c =
 
 pub returns-clause-cut : goal.returns-clause-cut
 returns-clause-cut c = λ bytes stands short.
-    subst (λ (s : Step). HasCut s c.keep.new.self.line bytes (bytes ++ c.args.byte ∷ [])) (sym c.keep.ensures.last)
+    subst (λ (s : ByteEffect). HasCut s c.keep.new.self.line bytes (bytes ++ c.args.byte ∷ []))
+    (sym c.keep.ensures.last)
     (subst (λ (k : Cutting). HasCut k.last k.line bytes (bytes ++ c.args.byte ∷ [])) (sym c.keep.ensures.is)
     (after_byte-Goes c.args.self.now bytes c.args.byte stands short).cut)

@@ -1,9 +1,7 @@
-use Rattle.std.proofs.Common.{◌≡◌, true, false, sym, ap, ◌∙◌, codes}
-use Rattle.std.specs.Prelude.{bytes_eq}
+use Rattle.std.proofs.Common.{◌≡◌, true, false, sym, ap, ◌∙◌, codes, bytes_eq}
 use Rattle.std.proofs.lemmas.Slice.Eq.{bytes_eq-Decides}
-use Rattle.dover_model.specs.FeedLine.{line_of_fields}
-use Rattle.dover_model.specs.Lines.{fields_of}
-use Rattle.dover_model.proofs.Tests.{never}
+use Rattle.dover_model.specs.Common.{line_of_fields, fields_of}
+use Rattle.dover_model.proofs.lists.Tests.{never}
 use Rattle.line_text.proofs.feeds.WhatIsRead.{no_line}
 use Rattle.line_text.proofs.feeds.reading.line_of.Goals as goal
 

@@ -1,4 +1,4 @@
-use Rattle.dover_model.proofs.FeedLines.{feed_line-feed_text}
+use Rattle.dover_model.proofs.texts.FeedLines.{feed_line-feed_text}
 use Rattle.line_text.specs.feeds.Form.{form_of}
 use Rattle.line_text.proofs.feeds.writing.write_feed_line.Goals as goal
 

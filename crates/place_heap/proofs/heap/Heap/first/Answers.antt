@@ -1,5 +1,4 @@
-use Rattle.std.proofs.Common.{◌∙◌, ap}
-use Rattle.std.specs.Prelude.{slice_get}
+use Rattle.std.proofs.Common.{◌∙◌, ap, slice_get}
 use Rattle.dover_model.specs.Orders.{first}
 use Rattle.place_heap.specs.Items.{is_before}
 use Rattle.place_heap.specs.Table.{items_of}

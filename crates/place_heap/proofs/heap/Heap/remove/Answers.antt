@@ -1,6 +1,4 @@
-use Rattle.std.proofs.Common.{◌≡◌, ◌≢◌, ◌∙◌, None, set, get_or, ap, sym, subst, arith}
-use Rattle.std.specs.Prelude.{vec_capacity}
-use Rattle.std.proofs.lemmas.List.{take_at}
+use Rattle.std.proofs.Common.{◌≡◌, ◌≢◌, ◌∙◌, None, set, get_or, ap, sym, subst, arith, vec_capacity, take_at}
 use Rattle.place_heap.specs.Items.{ItemFacts}
 use Rattle.place_heap.specs.Table.{position, nowhere, table_of}
 use Rattle.place_heap.specs.Kept.{IsKept}

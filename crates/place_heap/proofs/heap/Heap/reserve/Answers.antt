@@ -1,7 +1,5 @@
-use Rattle.std.proofs.Common.{◌≡◌, ◌≤◌, ◌-◌, ◌+◌, ◌++◌, None, Option, List, length, replicate, ap}
-use Rattle.std.proofs.Common.{◌∙◌, sym, subst, arith}
-use Rattle.std.specs.Prelude.{vec_capacity}
-use Rattle.std.proofs.lemmas.List.{take_all}
+use Rattle.std.proofs.Common.{◌≡◌, ◌≤◌, ◌-◌, ◌+◌, ◌++◌, None, Option, List, length, replicate, ap, ◌∙◌, sym, subst}
+use Rattle.std.proofs.Common.{arith, vec_capacity, take_all}
 use Rattle.place_heap.specs.Items.{ItemFacts}
 use Rattle.place_heap.specs.Table.{nowhere, table_of}
 use Rattle.place_heap.specs.Kept.{IsKept}

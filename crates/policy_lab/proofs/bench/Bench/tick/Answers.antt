@@ -1,9 +1,6 @@
-use Rattle.std.proofs.Common.{◌≡◌, ◌+◌, ◌-◌, ◌++◌, ◌∷◌, [], map, replicate, ap, sym, subst, arith, ◌∙◌}
-use Rattle.std.specs.Prelude.{ℕ}
-use Rattle.std.specs.List.{filter}
+use Rattle.std.proofs.Common.{◌≡◌, ◌+◌, ◌-◌, ◌++◌, ◌∷◌, [], map, replicate, ap, sym, subst, arith, ◌∙◌, ℕ, filter}
 use Rattle.std.proofs.lemmas.Result.{on_ok_weaker}
-use Rattle.dover_model.specs.Pieces.{stretches}
-use Rattle.dover_model.specs.Sound.{IsMember}
+use Rattle.dover_model.specs.Common.{stretches, IsMember}
 use Rattle.policy_lab.specs.Picks.{AreReady, number_of}
 use Rattle.policy_lab.specs.Bench.{tasks_at, schedule_before, spent_value, given_entry, is_in_time}
 use Rattle.policy_lab.proofs.Runs.{schedule_length}

@@ -1,5 +1,4 @@
-use Rattle.std.proofs.Common.{◌≡◌, take}
-use Rattle.std.specs.List.{fold}
+use Rattle.std.proofs.Common.{◌≡◌, take, fold}
 use Rattle.dover_model.specs.Orders.{earlier}
 use Rattle.policy_lab.specs.Standard.{is_denser}
 use Rattle.policy_lab.proofs.standard.DensePolicy.pick.Given as goal

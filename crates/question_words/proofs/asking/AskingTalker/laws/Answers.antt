@@ -1,10 +1,9 @@
 use Rattle.std.proofs.Common.{sym, subst}
-use Rattle.dover_model.specs.Spending.{CostsAtMost}
-use Rattle.dover_model.specs.Feed.{account}
+use Rattle.dover_model.specs.Common.{CostsAtMost, account}
 use Rattle.event_feed.specs.Answers.{admitted_in}
 use Rattle.event_feed.proofs.Admitting.{admitted_front}
 use Rattle.question_words.specs.Questions.{says}
-use Rattle.dover_model.proofs.Spending.{none_few, few_more}
+use Rattle.dover_model.proofs.runs.Spending.{none_few, few_more}
 use Rattle.question_words.proofs.Talking.{steady, few}
 use Rattle.question_words.proofs.asking.AskingTalker.laws.Goals as goal
 

@@ -1,10 +1,7 @@
-use Rattle.std.proofs.Common.{Bool, sym, ap, ◌∙◌}
-use Rattle.std.specs.Prelude.{if◌then◌else◌}
+use Rattle.std.proofs.Common.{Bool, sym, ap, ◌∙◌, if◌then◌else◌}
 use Rattle.dover_model.specs.declared.events.Event.{Event}
 use Rattle.dover_model.specs.declared.events.Event.TheVariants.{Take, Abandon}
-use Rattle.dover_model.specs.Orders.{is_heavy}
-use Rattle.dover_model.specs.State.{privileged, value_sum}
-use Rattle.dover_model.specs.Step.{Prints}
+use Rattle.dover_model.specs.Common.{is_heavy, privileged, value_sum, Prints}
 use Rattle.ready_jobs.specs.Parts.{state_of}
 use Rattle.ready_jobs.proofs.parts.Parts.alarm.Goals as goal
 

@@ -1,11 +1,10 @@
 use Rattle.std.proofs.Common.{◌+◌, ◌*◌, ◌≤◌, length, refl, subst}
 use Rattle.dover_model.specs.declared.events.Event.TheVariants.{Run}
-use Rattle.dover_model.specs.Step.{Prints, view}
-use Rattle.dover_model.specs.Spending.{cost_of}
+use Rattle.dover_model.specs.Common.{Prints, view, cost_of}
 use Rattle.ready_jobs.specs.Deeds.{Finds}
 use Rattle.ready_jobs.specs.Parts.{state_of}
 use Rattle.ready_jobs.specs.Spending.{wait_again}
-use Rattle.ready_jobs.specs.declared.deeds.Deed.TheVariants as deeds
+use Rattle.ready_jobs.specs.declared.actions.Action.TheVariants as actions
 use Rattle.ready_jobs.proofs.Applied.{leaves_fewer}
 use Rattle.ready_jobs.proofs.Costing.{no_cost, one_at_most, take_at_most}
 use Rattle.ready_jobs.proofs.Doing.{does_print, does_next, does_leaves}
@@ -13,52 +12,31 @@ use Rattle.ready_jobs.proofs.parts.Parts.apply.Goals as goal
 
 pub resume_next-requires-clause-next : goal.resume_next-requires-clause-next
 resume_next-requires-clause-next g c =
-    let p = c.args.self.now in (
-      p.clock,
-      does_next _ _ _ c.in-Resume.is _ _ refl c.requires.does.1,
-    )
+    let p = c.args.self.now in (p.clock, does_next _ _ _ c.in-Resume.is _ _ refl c.requires.does.1)
 
 pub start_next-requires-clause-next : goal.start_next-requires-clause-next
 start_next-requires-clause-next g c =
-    let p = c.args.self.now in (
-      p.clock,
-      does_next _ _ _ c.in-Start.is _ _ refl c.requires.does.1,
-    )
+    let p = c.args.self.now in (p.clock, does_next _ _ _ c.in-Start.is _ _ refl c.requires.does.1)
 
 pub begin_next-requires-clause-next : goal.begin_next-requires-clause-next
 begin_next-requires-clause-next g c =
-    let p = c.args.self.now in (
-      p.clock,
-      does_next _ _ _ c.in-Begin.is _ _ refl c.requires.does.1,
-    )
+    let p = c.args.self.now in (p.clock, does_next _ _ _ c.in-Begin.is _ _ refl c.requires.does.1)
 
 pub preempt_next-requires-clause-next : goal.preempt_next-requires-clause-next
 preempt_next-requires-clause-next g c =
-    let p = c.args.self.now in (
-      p.clock,
-      does_next _ _ _ c.in-Preempt.is _ _ refl c.requires.does.1,
-    )
+    let p = c.args.self.now in (p.clock, does_next _ _ _ c.in-Preempt.is _ _ refl c.requires.does.1)
 
 pub take_next-requires-clause-next : goal.take_next-requires-clause-next
 take_next-requires-clause-next g c =
-    let p = c.args.self.now in (
-      p.clock,
-      does_next _ _ _ c.in-Take.is _ _ refl c.requires.does.1,
-    )
+    let p = c.args.self.now in (p.clock, does_next _ _ _ c.in-Take.is _ _ refl c.requires.does.1)
 
 pub complete_next-requires-clause-next : goal.complete_next-requires-clause-next
 complete_next-requires-clause-next g c =
-    let p = c.args.self.now in (
-      p.clock,
-      does_next _ _ _ c.in-Complete.is _ _ refl c.requires.does.1,
-    )
+    let p = c.args.self.now in (p.clock, does_next _ _ _ c.in-Complete.is _ _ refl c.requires.does.1)
 
 pub abandon_next-requires-clause-next : goal.abandon_next-requires-clause-next
 abandon_next-requires-clause-next g c =
-    let p = c.args.self.now in (
-      p.clock,
-      does_next _ _ _ c.in-Abandon.is _ _ refl c.requires.does.1,
-    )
+    let p = c.args.self.now in (p.clock, does_next _ _ _ c.in-Abandon.is _ _ refl c.requires.does.1)
 
 pub returns-in-Resume-clause-fewer : goal.returns-in-Resume-clause-fewer
 returns-in-Resume-clause-fewer g c = leaves_fewer _ _ _ _ (c.resume_next.ensures.leaves 0)
@@ -84,21 +62,22 @@ returns-in-Abandon-clause-fewer g c = leaves_fewer _ _ _ _ (c.abandon_next.ensur
 pub returns-in-Start-clause-cost : goal.returns-in-Start-clause-cost
 returns-in-Start-clause-cost g c e d does fits =
     let p = c.args.self.now in
-    subst (λ x. c.start_next.new.steps ≤ c.args.steps.now + cost_of d (state_of p) (Prints x))
-    (does_print p c.args.deed (deeds.Start c.in-Start.number) c.in-Start.is (Run p.clock c.in-Start.number) e refl does)
+    subst (λ x. c.start_next.new.comparisons ≤ c.args.comparisons.now + cost_of d (state_of p) (Prints x))
+    (does_print p c.args.action (actions.Start c.in-Start.number) c.in-Start.is (Run p.clock c.in-Start.number) e refl
+    does)
     (c.start_next.ensures.cost p.clock d fits)
 
 pub returns-in-Take-clause-cost : goal.returns-in-Take-clause-cost
 returns-in-Take-clause-cost g c e d does fits =
     let p = c.args.self.now in
-    subst (λ x. c.take_next.new.steps ≤ c.args.steps.now + cost_of d (state_of p) (Prints x))
+    subst (λ x. c.take_next.new.comparisons ≤ c.args.comparisons.now + cost_of d (state_of p) (Prints x))
     (does_print _ _ _ c.in-Take.is _ _ refl does)
     (c.take_next.ensures.cost p.clock d fits)
 
 pub returns-in-Abandon-clause-cost : goal.returns-in-Abandon-clause-cost
 returns-in-Abandon-clause-cost g c e d does fits =
     let p = c.args.self.now in
-    subst (λ x. c.abandon_next.new.steps ≤ c.args.steps.now + cost_of d (state_of p) (Prints x))
+    subst (λ x. c.abandon_next.new.comparisons ≤ c.args.comparisons.now + cost_of d (state_of p) (Prints x))
     (does_print _ _ _ c.in-Abandon.is _ _ refl does)
     (c.abandon_next.ensures.cost p.clock d fits)
 
@@ -109,9 +88,10 @@ returns-in-Start-clause-once g c e d does fits =
 pub returns-in-Take-clause-once : goal.returns-in-Take-clause-once
 returns-in-Take-clause-once g c e d does fits =
     let p = c.args.self.now in
-    subst (λ x. c.take_next.new.steps ≤ c.args.steps.now + 2 * d * (4 + wait_again x p.held))
+    subst (λ x. c.take_next.new.comparisons ≤ c.args.comparisons.now + 2 * d * (4 + wait_again x p.held))
     (does_print _ _ _ c.in-Take.is _ _ refl does)
-    (take_at_most d (length p.held) c.args.steps.now c.take_next.new.steps (c.take_next.ensures.once d fits))
+    (take_at_most d (length p.held) c.args.comparisons.now c.take_next.new.comparisons
+    (c.take_next.ensures.once d fits))
 
 pub returns-in-Abandon-clause-once : goal.returns-in-Abandon-clause-once
 returns-in-Abandon-clause-once g c e d does fits =

@@ -1,5 +1,4 @@
-use Rattle.std.proofs.Common.{Some, None, sym, ap, ◌∙◌, subst}
-use Rattle.std.specs.Prelude.{vec_capacity}
+use Rattle.std.proofs.Common.{Some, None, sym, ap, ◌∙◌, subst, vec_capacity}
 use Rattle.ready_jobs.specs.Parts.{Parted, AreParts}
 use Rattle.ready_jobs.specs.Kept.{parted_of}
 use Rattle.ready_jobs.proofs.Keeping.{begun_kept}

@@ -1,5 +1,4 @@
-use Rattle.std.proofs.Common.{◌≡◌, None, rules}
-use Rattle.std.specs.List.{find}
+use Rattle.std.proofs.Common.{◌≡◌, None, rules, find}
 use Rattle.dover_model.specs.State.{is_coming}
 use Rattle.ready_jobs.specs.Parts.{state_of}
 use Rattle.ready_jobs.proofs.Seeing.{seen_coming}

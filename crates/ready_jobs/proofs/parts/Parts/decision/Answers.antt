@@ -1,6 +1,5 @@
 use Rattle.std.proofs.Common.{◌<◌, ◌≤◌, subst}
-use Rattle.dover_model.specs.State.{privileged, room}
-use Rattle.dover_model.specs.Step.{view}
+use Rattle.dover_model.specs.Common.{privileged, room, view}
 use Rattle.ready_jobs.specs.Parts.{state_of}
 use Rattle.ready_jobs.proofs.Deciding.{preempts_is}
 use Rattle.ready_jobs.proofs.parts.Parts.decision.Goals as goal

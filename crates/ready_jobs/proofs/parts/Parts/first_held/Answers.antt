@@ -1,10 +1,8 @@
 use Rattle.std.proofs.Common.{sym, ap, ◌∙◌}
-use Rattle.dover_model.specs.State.{held}
-use Rattle.dover_model.specs.Orders.{due_first, first}
+use Rattle.dover_model.specs.Common.{held, due_first, first}
 use Rattle.ready_jobs.specs.Parts.{Parted, state_of}
 use Rattle.ready_jobs.specs.Kept.{parted_of}
-use Rattle.ready_jobs.proofs.Seeing.{held_list}
-use Rattle.ready_jobs.proofs.Seeing.{held_top}
+use Rattle.ready_jobs.proofs.Seeing.{held_list, held_top}
 use Rattle.ready_jobs.proofs.parts.Parts.first_held.Goals as goal
 
 pub returns-clause-seen : goal.returns-clause-seen

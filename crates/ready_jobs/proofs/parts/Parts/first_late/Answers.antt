@@ -1,10 +1,6 @@
-use Rattle.std.proofs.Common.{sym, ap, ◌∙◌, subst}
-use Rattle.std.specs.Prelude.{Option}
-use Rattle.std.specs.List.{filter}
+use Rattle.std.proofs.Common.{sym, ap, ◌∙◌, subst, Option, filter}
 use Rattle.dover_model.specs.declared.events.Task.{Task}
-use Rattle.dover_model.specs.State.{waiting}
-use Rattle.dover_model.specs.Step.{is_at_latest_start}
-use Rattle.dover_model.specs.Orders.{starts_before, first}
+use Rattle.dover_model.specs.Common.{waiting, is_at_latest_start, starts_before, first}
 use Rattle.ready_jobs.specs.Parts.{Parted, AreSound, state_of}
 use Rattle.ready_jobs.specs.Kept.{parted_of}
 use Rattle.waiting_pool.specs.Slots.{seen}

@@ -1,7 +1,5 @@
-use Rattle.std.proofs.Common.{sym, ap}
-use Rattle.std.proofs.Common.{◌∙◌, subst}
-use Rattle.dover_model.specs.State.{waiting}
-use Rattle.dover_model.specs.Orders.{due_first, first}
+use Rattle.std.proofs.Common.{sym, ap, ◌∙◌, subst}
+use Rattle.dover_model.specs.Common.{waiting, due_first, first}
 use Rattle.ready_jobs.specs.Parts.{Parted, AreSound, state_of}
 use Rattle.ready_jobs.specs.Kept.{parted_of}
 use Rattle.ready_jobs.proofs.Seeing.{waiting_list}

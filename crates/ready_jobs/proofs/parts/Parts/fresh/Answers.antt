@@ -1,5 +1,4 @@
-use Rattle.std.proofs.Common.{sym, ap, ◌∙◌}
-use Rattle.std.specs.List.{find}
+use Rattle.std.proofs.Common.{sym, ap, ◌∙◌, find}
 use Rattle.dover_model.specs.State.{is_fresh}
 use Rattle.ready_jobs.specs.Parts.{Parted, ready_of}
 use Rattle.ready_jobs.specs.Kept.{parted_of}

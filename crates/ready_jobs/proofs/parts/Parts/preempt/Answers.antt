@@ -1,20 +1,15 @@
-use Rattle.std.proofs.Common.{inl, ◌^◌, ◌<◌, ◌∷◌, [], ◌++◌, reverse, Some, None, refl, ◌+◌, map}
-use Rattle.std.proofs.Common.{sym, ap, ◌∙◌, subst, arith}
-use Rattle.std.specs.Prelude.{vec_capacity}
-use Rattle.std.specs.Option.{option_to_list}
+use Rattle.std.proofs.Common.{inl, ◌^◌, ◌<◌, ◌∷◌, [], ◌++◌, reverse, Some, None, refl, ◌+◌, map, sym, ap, ◌∙◌, subst}
+use Rattle.std.proofs.Common.{arith, vec_capacity, option_to_list}
 use Rattle.std.proofs.lemmas.List.{reverse-append, length-reverse}
 use Rattle.std.proofs.lemmas.List.Sums.{sum_by-cons}
 use Rattle.dover_model.specs.declared.events.Task.{Task}
 use Rattle.dover_model.specs.declared.events.Entry.{Entry}
 use Rattle.dover_model.specs.declared.events.Role.TheVariants.{Held, Running}
-use Rattle.dover_model.specs.Entries.{entry_of}
-use Rattle.dover_model.specs.State.{value_sum}
-use Rattle.dover_model.specs.Step.{with_role}
-use Rattle.dover_model.specs.Sound.{IsMember}
-use Rattle.dover_model.proofs.Members.{on_map, sum_map}
-use Rattle.held_queue.specs.Stack.{IsDueBeforeTop}
-use Rattle.held_queue.specs.Kept.{AreRoomsOf}
-use Rattle.held_queue.proofs.Holding.{before_top}
+use Rattle.dover_model.specs.Common.{entry_of, value_sum, with_role, IsMember}
+use Rattle.dover_model.proofs.lists.Members.{on_map, sum_map}
+use Rattle.held_stack.specs.Stack.{IsDueBeforeTop}
+use Rattle.held_stack.specs.Kept.{AreRoomsOf}
+use Rattle.held_stack.proofs.Holding.{before_top}
 use Rattle.ready_jobs.specs.Parts.{Parted, AreParts, AreSound}
 use Rattle.ready_jobs.specs.Kept.{parted_of}
 use Rattle.ready_jobs.proofs.Keeping.{busy_two, preempted_kept}

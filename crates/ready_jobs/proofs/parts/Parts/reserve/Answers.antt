@@ -1,14 +1,13 @@
-use Rattle.std.proofs.Common.{reverse, sym, ap, ◌∙◌, subst, arith, map}
-use Rattle.std.specs.Prelude.{vec_capacity}
+use Rattle.std.proofs.Common.{reverse, sym, ap, ◌∙◌, subst, arith, map, vec_capacity}
 use Rattle.std.proofs.lemmas.List.{length-reverse}
 use Rattle.std.proofs.Math.Nat.{max-eq_right}
 use Rattle.dover_model.specs.Entries.{entry_of}
-use Rattle.held_queue.specs.Kept.{Lasting, AreRoomsOf}
-use Rattle.held_queue.proofs.Holding.{spare_kept}
+use Rattle.held_stack.specs.Kept.{Lasting, AreRoomsOf}
+use Rattle.held_stack.proofs.Holding.{spare_kept}
 use Rattle.waiting_pool.specs.Pools.{Pooled}
 use Rattle.ready_jobs.specs.Parts.{Parted, AreParts}
 use Rattle.ready_jobs.specs.Kept.{parted_of}
-use Rattle.dover_model.proofs.Members.{err_any}
+use Rattle.dover_model.proofs.lists.Members.{err_any}
 use Rattle.ready_jobs.proofs.Keeping.{held_fit, reserved_kept}
 use Rattle.waiting_pool.proofs.Pooling.{not_ok}
 use Rattle.ready_jobs.proofs.parts.Parts.reserve.Goals as goal

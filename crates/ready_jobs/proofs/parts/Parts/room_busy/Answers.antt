@@ -1,12 +1,9 @@
-use Rattle.std.proofs.Common.{inl, ◌<◌, ◌∷◌, ◌++◌, refl, sym, ap, ◌∙◌, subst, map}
-use Rattle.std.specs.Option.{option_to_list}
-use Rattle.dover_model.specs.Entries.{entry_of, room_of}
-use Rattle.dover_model.specs.State.{privileged, room}
-use Rattle.dover_model.specs.Sound.{IsMember}
-use Rattle.dover_model.proofs.Members.{on_map}
-use Rattle.held_queue.specs.Stack.{IsDueBeforeTop}
-use Rattle.held_queue.proofs.Holding.{before_top}
-use Rattle.held_queue.proofs.Deadlines.{room_map}
+use Rattle.std.proofs.Common.{inl, ◌<◌, ◌∷◌, ◌++◌, refl, sym, ap, ◌∙◌, subst, map, option_to_list}
+use Rattle.dover_model.specs.Common.{entry_of, room_of, privileged, room, IsMember}
+use Rattle.dover_model.proofs.lists.Members.{on_map}
+use Rattle.held_stack.specs.Stack.{IsDueBeforeTop}
+use Rattle.held_stack.proofs.Holding.{before_top}
+use Rattle.held_stack.proofs.Deadlines.{room_map}
 use Rattle.ready_jobs.specs.Parts.{Parted, AreSound, state_of}
 use Rattle.ready_jobs.specs.Kept.{parted_of}
 use Rattle.ready_jobs.proofs.Seeing.{privileged_list}

@@ -1,8 +1,6 @@
-use Rattle.std.proofs.Common.{sym, ap, ◌∙◌, map}
-use Rattle.std.specs.Prelude.{unwrap_or}
-use Rattle.dover_model.specs.Entries.{entry_of}
-use Rattle.dover_model.specs.State.{held, room}
-use Rattle.held_queue.proofs.Deadlines.{room_map, room_or_none}
+use Rattle.std.proofs.Common.{sym, ap, ◌∙◌, map, unwrap_or}
+use Rattle.dover_model.specs.Common.{entry_of, held, room}
+use Rattle.held_stack.proofs.Deadlines.{room_map, room_or_none}
 use Rattle.ready_jobs.specs.Parts.{Parted, state_of}
 use Rattle.ready_jobs.specs.Kept.{parted_of}
 use Rattle.ready_jobs.proofs.Seeing.{held_list}

@@ -15,7 +15,7 @@ tick_to-requires-clause-part g c = part_after _ c.args.mark _ _
 pub returns-in-None-clause-count : goal.returns-in-None-clause-count
 returns-in-None-clause-count g c d large =
     let p = c.args.self.now in
-    subst (λ ts. c.place.new.steps ≤ c.args.steps.now + 2 * d * (length ts - length p.waiting))
+    subst (λ ts. c.place.new.comparisons ≤ c.args.comparisons.now + 2 * d * (length ts - length p.waiting))
     (sym (ap (λ (q : Parted). q.waiting) c.tick_to.ensures.kept)) (c.place.ensures.count d large)
 
 pub returns-in-None-clause-fewer : goal.returns-in-None-clause-fewer

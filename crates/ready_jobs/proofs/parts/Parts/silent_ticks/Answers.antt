@@ -1,10 +1,7 @@
-use Rattle.std.proofs.Common.{◌≡◌, ◌<◌, min, sym, ap, arith, ◌∙◌, subst}
-use Rattle.std.specs.Prelude.{option_map}
-use Rattle.dover_model.specs.State.{running, latest_start}
-use Rattle.dover_model.specs.Orders.{starts_before, first}
-use Rattle.dover_model.specs.Sound.{Each}
-use Rattle.dover_model.proofs.Members.{some_same}
-use Rattle.dover_model.proofs.Tests.{none_is_some}
+use Rattle.std.proofs.Common.{◌≡◌, ◌<◌, min, sym, ap, arith, ◌∙◌, subst, option_map}
+use Rattle.dover_model.specs.Common.{running, latest_start, starts_before, first, Each}
+use Rattle.dover_model.proofs.lists.Members.{some_same}
+use Rattle.dover_model.proofs.lists.Tests.{none_is_some}
 use Rattle.ready_jobs.specs.Dues.{still_ticks, until_done}
 use Rattle.ready_jobs.specs.Parts.{Parted, AreSound, state_of}
 use Rattle.ready_jobs.specs.Kept.{parted_of}

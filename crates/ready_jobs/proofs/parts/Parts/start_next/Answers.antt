@@ -1,9 +1,7 @@
-use Rattle.std.proofs.Common.{inl, refl, arith, sym, ap, ◌∙◌, subst}
-use Rattle.std.specs.Option.{option_map}
+use Rattle.std.proofs.Common.{inl, refl, arith, sym, ap, ◌∙◌, subst, option_map}
 use Rattle.dover_model.specs.declared.events.Event.TheVariants.{Run}
 use Rattle.dover_model.specs.declared.events.Role.TheVariants.{Running}
-use Rattle.dover_model.specs.Orders.{due_first, first}
-use Rattle.dover_model.specs.Step.{with_role}
+use Rattle.dover_model.specs.Common.{due_first, first, with_role}
 use Rattle.ready_jobs.specs.Changed.{Leaves, printed}
 use Rattle.ready_jobs.specs.Parts.{ready_of}
 use Rattle.ready_jobs.proofs.Applied.{run_free, waiting_runs}

@@ -1,8 +1,6 @@
-use Rattle.std.proofs.Common.{◌+◌, ◌^◌, ◌<◌, ◌∷◌, None, length, sym, ap, arith}
-use Rattle.std.proofs.Common.{◌∙◌, subst}
-use Rattle.std.specs.Prelude.{vec_capacity}
+use Rattle.std.proofs.Common.{◌+◌, ◌^◌, ◌<◌, ◌∷◌, None, length, sym, ap, arith, ◌∙◌, subst, vec_capacity}
+use Rattle.std.proofs.Common.{option_to_list}
 use Rattle.dover_model.specs.declared.events.Task.{Task}
-use Rattle.std.specs.Option.{option_to_list}
 use Rattle.dover_model.specs.declared.events.Role.TheVariants.{Waiting}
 use Rattle.dover_model.specs.Step.{with_role}
 use Rattle.waiting_pool.specs.Reordered.{IsReordered}

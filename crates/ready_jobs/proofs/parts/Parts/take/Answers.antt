@@ -1,10 +1,8 @@
-use Rattle.std.proofs.Common.{◌+◌, ◌^◌, ◌<◌, ◌∷◌, [], ◌++◌, map, reverse, length, Some, sym, ap}
-use Rattle.std.proofs.Common.{◌∙◌, subst, arith}
-use Rattle.std.specs.Prelude.{vec_capacity}
+use Rattle.std.proofs.Common.{◌+◌, ◌^◌, ◌<◌, ◌∷◌, [], ◌++◌, map, reverse, length, Some, sym, ap, ◌∙◌, subst, arith}
+use Rattle.std.proofs.Common.{vec_capacity}
 use Rattle.std.proofs.lemmas.List.{length-map, length-reverse}
 use Rattle.dover_model.specs.declared.events.Task.{Task}
-use Rattle.dover_model.specs.Entries.{entry_of}
-use Rattle.dover_model.specs.Orders.{starts_before, first}
+use Rattle.dover_model.specs.Common.{entry_of, starts_before, first}
 use Rattle.ready_jobs.specs.Changed.{made_wait}
 use Rattle.waiting_pool.specs.Reordered.{IsReordered}
 use Rattle.waiting_pool.specs.Pools.{Pooled}

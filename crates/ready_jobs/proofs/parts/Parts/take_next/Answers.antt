@@ -5,7 +5,7 @@ use Rattle.ready_jobs.specs.Parts.{ready_of}
 use Rattle.waiting_pool.specs.Slots.{seen}
 use Rattle.ready_jobs.proofs.Applied.{taken_leaves, taken_named, some_runs, some_late}
 use Rattle.dover_model.specs.Orders.{starts_before}
-use Rattle.dover_model.proofs.FirstOfTasks.{first_member}
+use Rattle.dover_model.proofs.lists.FirstOfTasks.{first_member}
 use Rattle.ready_jobs.proofs.Costing.{no_cost, take_costs}
 use Rattle.ready_jobs.proofs.parts.Parts.take_next.Goals as goal
 

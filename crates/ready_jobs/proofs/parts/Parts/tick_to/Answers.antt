@@ -3,18 +3,18 @@ use Rattle.ready_jobs.specs.Deeds.{step_at}
 use Rattle.ready_jobs.proofs.Silences.{known_sound, from_none, stale_tick}
 use Rattle.ready_jobs.proofs.parts.Parts.tick_to.Goals as goal
 
-pub open_step-deed-requires : goal.open_step-deed-requires
-open_step-deed-requires c = known_sound _ c.args.self.now c.laws.ensures.roles c.requires.part
+pub open_step-action-requires : goal.open_step-action-requires
+open_step-action-requires c = known_sound _ c.args.self.now c.laws.ensures.roles c.requires.part
 
 pub returns-in_default : goal.returns-in_default
 returns-in_default c =
     let p = c.args.self.now in
     record {
       settles = from_none c.args.k.now c.args.mark p;
-      step = c.open_step-deed.ensures.is;
-      finds = c.open_step-deed.ensures.finds;
+      step = c.open_step-action.ensures.is;
+      finds = c.open_step-action.ensures.finds;
       stops = λ silent. absurd (c.in_default.not-Tick (stale_tick c.args.k.now p c.laws.ensures.roles c.requires.stale
-          c.open_step-deed.result c.open_step-deed.ensures.is silent));
+          c.open_step-action.result c.open_step-action.ensures.is silent));
       low = c.requires.low;
       kept = refl;
       fewer = refl;
@@ -22,7 +22,7 @@ returns-in_default c =
 
 pub tick_on-requires-in-Tick-clause-ticks : goal.tick_on-requires-in-Tick-clause-ticks
 tick_on-requires-in-Tick-clause-ticks c free =
-    sym c.open_step-deed.ensures.is ∙ ap (step_at c.args.self.now.clock) c.in-Tick.is
+    sym c.open_step-action.ensures.is ∙ ap (step_at c.args.self.now.clock) c.in-Tick.is
 
 pub returns-in-Tick-clause-settles : goal.returns-in-Tick-clause-settles
 returns-in-Tick-clause-settles c = c.tick_on-in-Tick.ensures.settles

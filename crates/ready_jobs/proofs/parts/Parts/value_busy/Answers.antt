@@ -1,9 +1,7 @@
-use Rattle.std.proofs.Common.{◌+◌, ◌++◌, sym, ap, ◌∙◌}
-use Rattle.std.specs.Option.{option_to_list}
+use Rattle.std.proofs.Common.{◌+◌, ◌++◌, sym, ap, ◌∙◌, option_to_list}
 use Rattle.dover_model.specs.declared.events.Task.{Task}
-use Rattle.dover_model.specs.Entries.{entry_of}
-use Rattle.dover_model.specs.State.{privileged, value_sum}
-use Rattle.dover_model.proofs.Members.{sum_map}
+use Rattle.dover_model.specs.Common.{entry_of, privileged, value_sum}
+use Rattle.dover_model.proofs.lists.Members.{sum_map}
 use Rattle.std.proofs.lemmas.List.Sums.{sum_by-cons}
 use Rattle.ready_jobs.specs.Parts.{Parted, state_of}
 use Rattle.ready_jobs.specs.Kept.{parted_of}

@@ -1,5 +1,4 @@
-use Rattle.std.proofs.Common.{◌<◌, length, ap, sym, ◌∙◌, subst, arith}
-use Rattle.std.specs.List.{filter}
+use Rattle.std.proofs.Common.{◌<◌, length, ap, sym, ◌∙◌, subst, arith, filter}
 use Rattle.dover_model.specs.State.{is_held}
 use Rattle.ready_jobs.specs.Deeds.{step_at}
 use Rattle.ready_jobs.specs.Parts.{Parted}
@@ -11,64 +10,65 @@ use Rattle.ready_jobs.proofs.Seeing.{held_list}
 use Rattle.ready_jobs.proofs.Spending.{silent_pays, silent_frees}
 use Rattle.ready_jobs.proofs.ready.Ready.go_on.Goals as goal
 
-pub settle-deed-requires-clause-part : goal.settle-deed-requires-clause-part
-settle-deed-requires-clause-part g c =
+pub settle-action-requires-clause-part : goal.settle-action-requires-clause-part
+settle-action-requires-clause-part g c =
     let i = c.self.inside in course_part i.ratio i.parts i.jobs i.done c.self.invariant
 
 pub invariant_of-self : goal.invariant_of-self
 invariant_of-self g c =
     let i = c.self.inside in
-    reaches_course _ _ _ _ _ _ _ (ap (λ (q : Parted). q.version) c.settle-deed.ensures.kept)
-    (subst (λ (d : Course). 0 < length d.ready) (sym c.self.view_is) c.requires.some) c.settle-deed.ensures.settles
-    c.settle-deed.ensures.step c.settle-deed.ensures.stops c.settle-deed.ensures.low c.requires.known c.self.invariant
+    reaches_course _ _ _ _ _ _ _ (ap (λ (q : Parted). q.version) c.settle-action.ensures.kept)
+    (subst (λ (d : Course). 0 < length d.ready) (sym c.self.view_is) c.requires.some) c.settle-action.ensures.settles
+    c.settle-action.ensures.step c.settle-action.ensures.stops c.settle-action.ensures.low c.requires.known
+    c.self.invariant
 
 pub returns-clause-reached : goal.returns-clause-reached
 returns-clause-reached g c K z follows =
     let i = c.self.inside in
-    let q = c.settle-deed.new.self in
-    course_reaches _ _ _ _ _ _ _ (ap (λ (p : Parted). p.version) c.settle-deed.ensures.kept)
-    (subst (λ (d : Course). 0 < length d.ready) (sym c.self.view_is) c.requires.some) c.settle-deed.ensures.settles
-    c.settle-deed.ensures.step c.settle-deed.ensures.stops c.settle-deed.ensures.low c.requires.known _ _
+    let q = c.settle-action.new.self in
+    course_reaches _ _ _ _ _ _ _ (ap (λ (p : Parted). p.version) c.settle-action.ensures.kept)
+    (subst (λ (d : Course). 0 < length d.ready) (sym c.self.view_is) c.requires.some) c.settle-action.ensures.settles
+    c.settle-action.ensures.step c.settle-action.ensures.stops c.settle-action.ensures.low c.requires.known _ _
     (subst (λ d. Follows d K z) (sym c.self.view_is) follows)
 
 pub returns-clause-paid : goal.returns-clause-paid
 returns-clause-paid g c start paid =
     let i = c.self.inside in
-    silent_pays i.ratio i.parts c.settle-deed.new.self i.jobs i.done c.args.mark
-    (step_at c.settle-deed.new.self.clock c.settle-deed.result)
+    silent_pays i.ratio i.parts c.settle-action.new.self i.jobs i.done c.args.mark
+    (step_at c.settle-action.new.self.clock c.settle-action.result)
     c.laws.ensures.roles c.laws-2.ensures.roles c.self.invariant
-    (course_reaches _ _ _ _ _ _ _ (ap (λ (q : Parted). q.version) c.settle-deed.ensures.kept)
-    (subst (λ (d : Course). 0 < length d.ready) (sym c.self.view_is) c.requires.some) c.settle-deed.ensures.settles
-    c.settle-deed.ensures.step c.settle-deed.ensures.stops c.settle-deed.ensures.low c.requires.known _ _
+    (course_reaches _ _ _ _ _ _ _ (ap (λ (q : Parted). q.version) c.settle-action.ensures.kept)
+    (subst (λ (d : Course). 0 < length d.ready) (sym c.self.view_is) c.requires.some) c.settle-action.ensures.settles
+    c.settle-action.ensures.step c.settle-action.ensures.stops c.settle-action.ensures.low c.requires.known _ _
     c.self.invariant.2)
-    c.args.steps.now c.settle-deed.new.steps c.settle-deed.ensures.count start
-    (subst (λ d. HasPaid d start c.args.steps.now) (sym c.self.view_is) paid)
+    c.args.comparisons.now c.settle-action.new.comparisons c.settle-action.ensures.count start
+    (subst (λ d. HasPaid d start c.args.comparisons.now) (sym c.self.view_is) paid)
 
 pub returns-clause-freely : goal.returns-clause-freely
 returns-clause-freely g c start paid freely =
     let i = c.self.inside in
-    silent_frees i.ratio i.parts c.settle-deed.new.self i.jobs i.done c.args.mark
-    (step_at c.settle-deed.new.self.clock c.settle-deed.result)
+    silent_frees i.ratio i.parts c.settle-action.new.self i.jobs i.done c.args.mark
+    (step_at c.settle-action.new.self.clock c.settle-action.result)
     c.laws.ensures.roles c.laws-2.ensures.roles c.self.invariant
-    (course_reaches _ _ _ _ _ _ _ (ap (λ (q : Parted). q.version) c.settle-deed.ensures.kept)
-    (subst (λ (d : Course). 0 < length d.ready) (sym c.self.view_is) c.requires.some) c.settle-deed.ensures.settles
-    c.settle-deed.ensures.step c.settle-deed.ensures.stops c.settle-deed.ensures.low c.requires.known _ _
+    (course_reaches _ _ _ _ _ _ _ (ap (λ (q : Parted). q.version) c.settle-action.ensures.kept)
+    (subst (λ (d : Course). 0 < length d.ready) (sym c.self.view_is) c.requires.some) c.settle-action.ensures.settles
+    c.settle-action.ensures.step c.settle-action.ensures.stops c.settle-action.ensures.low c.requires.known _ _
     c.self.invariant.2)
-    c.args.steps.now c.settle-deed.new.steps c.settle-deed.ensures.count start
-    (subst (λ d. HasPaid d start c.args.steps.now) (sym c.self.view_is) paid)
-    (λ same. subst (λ d. HasPaidFreely d start c.args.steps.now) (sym c.self.view_is)
+    c.args.comparisons.now c.settle-action.new.comparisons c.settle-action.ensures.count start
+    (subst (λ d. HasPaid d start c.args.comparisons.now) (sym c.self.view_is) paid)
+    (λ same. subst (λ d. HasPaidFreely d start c.args.comparisons.now) (sym c.self.view_is)
     (freely (same ∙ ap (λ (d : Course). d.clock) c.self.view_is)))
 
 pub returns-clause-once : goal.returns-clause-once
 returns-clause-once g c d fits =
     let p : Parted = c.self.inside.parts in
     let few = fewer_wait p in
-    silent_at_most p c.settle-deed.new.self (ap (λ (q : Parted). q.held) c.settle-deed.ensures.kept)
-    c.settle-deed.ensures.fewer d c.args.steps.now c.settle-deed.new.steps
-    (c.settle-deed.ensures.count d (omega (arith, fits, few, ap (λ (d : Course). length d.ready) c.self.view_is)))
+    silent_at_most p c.settle-action.new.self (ap (λ (q : Parted). q.held) c.settle-action.ensures.kept)
+    c.settle-action.ensures.fewer d c.args.comparisons.now c.settle-action.new.comparisons
+    (c.settle-action.ensures.count d (omega (arith, fits, few, ap (λ (d : Course). length d.ready) c.self.view_is)))
 
 pub returns-clause-held : goal.returns-clause-held
-returns-clause-held g c = held_list c.settle-deed.new.self c.laws-2.ensures.roles
-    ∙ ap (λ (q : Parted). q.held) c.settle-deed.ensures.kept
+returns-clause-held g c = held_list c.settle-action.new.self c.laws-2.ensures.roles
+    ∙ ap (λ (q : Parted). q.held) c.settle-action.ensures.kept
     ∙ sym (held_list c.self.inside.parts c.laws.ensures.roles)
     ∙ ap (λ (d : Course). filter is_held d.ready) c.self.view_is

@@ -1,6 +1,6 @@
 use Rattle.std.proofs.Common.{◌≡◌, [], ◌-◌, ◌+◌, ◌∙◌, sym, ap, subst, arith}
 use Rattle.dover_model.specs.Limits.{last_tick}
-use Rattle.dover_model.proofs.Tests.{never}
+use Rattle.dover_model.proofs.lists.Tests.{never}
 use Rattle.ready_jobs.specs.Course.{course_of}
 use Rattle.ready_jobs.specs.Dues.{still_ticks}
 use Rattle.ready_jobs.specs.NextTick.{IsUnderWay, PrintsAt}

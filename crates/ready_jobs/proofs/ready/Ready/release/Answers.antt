@@ -1,6 +1,5 @@
 use Rattle.std.proofs.Common.{◌≤◌, ◌+◌, ◌++◌, ◌∷◌, [], sym, ap, subst, arith}
-use Rattle.dover_model.specs.State.{state_at}
-use Rattle.dover_model.specs.Spending.{HasSpentFor}
+use Rattle.dover_model.specs.Common.{state_at, HasSpentFor}
 use Rattle.waiting_pool.specs.Reordered.{IsReordered}
 use Rattle.ready_jobs.specs.Parts.{Parted, ready_of}
 use Rattle.ready_jobs.specs.Course.{Course, IsCourse, course_of, with_release, fresh_job}
@@ -45,16 +44,8 @@ returns-clause-paid c start now paid =
 
 pub overflow_add-self : goal.overflow_add-self
 overflow_add-self c =
-    omega (
-      arith,
-      course_few _ c.requires.course,
-      ap (λ (d : Course). d.jobs) c.self.view_is,
-    )
+    omega (arith, course_few _ c.requires.course, ap (λ (d : Course). d.jobs) c.self.view_is)
 
 pub come-requires-clause-number : goal.come-requires-clause-number
 come-requires-clause-number c =
-    omega (
-      arith,
-      course_few _ c.requires.course,
-      ap (λ (d : Course). d.jobs) c.self.view_is,
-    )
+    omega (arith, course_few _ c.requires.course, ap (λ (d : Course). d.jobs) c.self.view_is)

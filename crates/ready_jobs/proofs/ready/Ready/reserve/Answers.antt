@@ -1,6 +1,5 @@
 use Rattle.std.proofs.Common.{sym, ap, ◌∙◌, subst}
-use Rattle.dover_model.specs.State.{state_at}
-use Rattle.dover_model.specs.Spending.{HasSpentFor}
+use Rattle.dover_model.specs.Common.{state_at, HasSpentFor}
 use Rattle.ready_jobs.specs.Parts.{Parted, ready_of}
 use Rattle.ready_jobs.specs.Course.{Follows, course_of}
 use Rattle.ready_jobs.specs.Spending.{HasPaid}

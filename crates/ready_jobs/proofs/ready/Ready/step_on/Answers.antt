@@ -26,7 +26,8 @@ returns-clause-paid g c start paid = c.take.ensures.paid start (c.due_next-due.e
 pub returns-clause-once : goal.returns-clause-once
 returns-clause-once g c d fits =
     let e = c.due_next-due.result.event in
-    subst (λ hs. c.take.new.steps ≤ c.args.steps.now + 2 * d * (6 + wait_again e hs)) c.due_next-due.ensures.held
+    subst (λ hs. c.take.new.comparisons ≤ c.args.comparisons.now + 2 * d * (6 + wait_again e hs))
+    c.due_next-due.ensures.held
     (both_at_most _ _ _ _ _ (c.due_next-due.ensures.once d fits)
     (c.take.ensures.once d (omega (arith, fits, c.due_next-due.ensures.fewer))))
 

@@ -1,8 +1,7 @@
 -- The job of a number is read where the roll lists it.
 use Rattle.std.proofs.Common.{◌≡◌, ◌≤◌, ℕ, ◌-◌, ◌==◌, length, refl, sym, ap, ◌∙◌, subst, Bool, true, false, cond, arith}
-use Rattle.std.specs.Prelude.{Option, Some, None, IfSome}
-use Rattle.std.specs.List.{slice_get}
-use Rattle.std.specs.Option.{option_map, option_eq}
+use Rattle.std.proofs.Common.{Option, Some, None, IfSome, slice_get, option_map}
+use Rattle.std.specs.Option.{option_eq}
 use Rattle.std.proofs.lemmas.Option.{slice_get_past, slice_get_read}
 use Rattle.dover_model.specs.declared.events.Role.TheVariants.{Waiting, Running}
 use Rattle.dover_model.specs.declared.events.Task.{Task}

@@ -1,5 +1,4 @@
-use Rattle.std.proofs.Common.{ap, ◌∙◌, ◌∷◌, []}
-use Rattle.std.specs.Prelude.{is_some}
+use Rattle.std.proofs.Common.{ap, ◌∙◌, ◌∷◌, [], is_some}
 use Rattle.dover_model.specs.Instance.{with_jobs}
 use Rattle.ready_server.proofs.Rostered.{few_at_rest, release_read, still_kept}
 use Rattle.ready_server.proofs.roster_server.RosterServer.admit.Goals as goal

@@ -1,5 +1,4 @@
-use Rattle.std.proofs.Common.{ap, ◌∙◌, sym, subst}
-use Rattle.std.specs.Prelude.{is_some}
+use Rattle.std.proofs.Common.{ap, ◌∙◌, sym, subst, is_some}
 use Rattle.ready_server.specs.Roster.{HasLine}
 use Rattle.ready_server.proofs.Rostered.{few_at_rest, still_kept, finish_read, finish_wrong, finish_room, is_completion}
 use Rattle.ready_server.proofs.roster_server.RosterServer.finish.Goals as goal

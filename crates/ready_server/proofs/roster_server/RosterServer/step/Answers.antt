@@ -1,5 +1,4 @@
-use Rattle.std.proofs.Common.{refl, ap, ◌∙◌, subst, sym, [], ◌∷◌, ◌++◌}
-use Rattle.std.specs.Prelude.{is_some}
+use Rattle.std.proofs.Common.{refl, ap, ◌∙◌, subst, sym, [], ◌∷◌, ◌++◌, is_some}
 use Rattle.dover_model.specs.Horizons.{MayFollow}
 use Rattle.ready_server.specs.Serving as ready
 use Rattle.ready_server.specs.Rostering.{Serves, HasRead}

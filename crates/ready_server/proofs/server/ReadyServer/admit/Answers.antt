@@ -1,7 +1,6 @@
 use Rattle.std.proofs.Common.{◌++◌, ◌∷◌, [], length-append, sym, subst, ap, arith}
 use Rattle.dover_model.specs.declared.events.Event.TheVariants.{Release}
-use Rattle.dover_model.specs.Instance.{with_jobs}
-use Rattle.dover_model.specs.Settled.{settled}
+use Rattle.dover_model.specs.Common.{with_jobs, settled}
 use Rattle.dover_model.specs.declared.horizon.Horizon.TheVariants.{Mark}
 use Rattle.ready_jobs.specs.Course.{Course, fresh_job}
 use Rattle.waiting_pool.proofs.Reordering.{as_many}

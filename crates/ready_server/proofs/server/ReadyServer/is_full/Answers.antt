@@ -1,5 +1,4 @@
-use Rattle.std.proofs.Common.{ap, ◌∙◌}
-use Rattle.std.specs.Prelude.{nat_le}
+use Rattle.std.proofs.Common.{ap, ◌∙◌, nat_le}
 use Rattle.dover_model.specs.Limits.{most_ready}
 use Rattle.ready_server.proofs.Finishing.{full_there}
 use Rattle.ready_server.proofs.server.ReadyServer.is_full.Goals as goal

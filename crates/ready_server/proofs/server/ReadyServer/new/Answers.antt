@@ -1,6 +1,5 @@
 use Rattle.std.proofs.Common.{[], refl, sym, subst}
-use Rattle.dover_model.specs.Horizons.{no_jobs}
-use Rattle.dover_model.specs.State.{opening}
+use Rattle.dover_model.specs.Common.{no_jobs, opening}
 use Rattle.ready_jobs.specs.Course.{Follows}
 use Rattle.ready_jobs.proofs.Courses.{new_follows}
 use Rattle.ready_server.proofs.server.ReadyServer.new.Goals as goal

@@ -1,4 +1,4 @@
-use Rattle.dover_model.proofs.Members.{by_bool}
+use Rattle.dover_model.proofs.lists.Members.{by_bool}
 use Rattle.ready_server.proofs.Finishing.{runs_said, other_said}
 use Rattle.ready_server.proofs.server.ReadyServer.runs.Goals as goal
 

@@ -1,11 +1,9 @@
-use Rattle.std.proofs.Common.{◌≡◌, List, true, sym, ap, subst, ◌∙◌, arith}
-use Rattle.std.specs.Bool.{MatchBool}
+use Rattle.std.proofs.Common.{◌≡◌, List, true, sym, ap, subst, ◌∙◌, arith, MatchBool}
 use Rattle.dover_model.specs.declared.events.Event.{Event}
 use Rattle.dover_model.specs.declared.horizon.Horizon.{Horizon}
 use Rattle.dover_model.specs.declared.horizon.Horizon.TheVariants.{Mark, End}
-use Rattle.dover_model.specs.Instance.{Instance}
-use Rattle.dover_model.specs.Run.{printed}
-use Rattle.dover_model.proofs.Tests.{never}
+use Rattle.dover_model.specs.Common.{Instance, printed}
+use Rattle.dover_model.proofs.lists.Tests.{never}
 use Rattle.ready_jobs.specs.Course.{Course}
 use Rattle.ready_jobs.proofs.Courses.{ends_next}
 use Rattle.ready_server.specs.Serving.{Serves, Rests, LeavesRest}

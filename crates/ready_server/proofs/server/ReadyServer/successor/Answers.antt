@@ -1,7 +1,6 @@
 use Rattle.std.proofs.Common.{[], ◌∷◌, ◌++◌, sym, subst}
 use Rattle.dover_model.specs.declared.events.Event.TheVariants.{Complete}
-use Rattle.dover_model.specs.Instance.{with_finishes}
-use Rattle.dover_model.specs.Settled.{settled}
+use Rattle.dover_model.specs.Common.{with_finishes, settled}
 use Rattle.ready_server.specs.Serving.{GoesOnWith}
 use Rattle.ready_server.proofs.Successors.{successor_next}
 use Rattle.ready_server.proofs.server.ReadyServer.successor.Goals as goal

@@ -2,7 +2,7 @@ use Rattle.std.proofs.Common.{◌≡◌, ◌≤◌, ◌++◌, ◌∷◌, [], ap,
 use Rattle.std.specs.List.{AllByRecursion}
 use Rattle.dover_model.specs.Limits.{most_total}
 use Rattle.dover_model.specs.declared.events.Version.TheVariants.{Two}
-use Rattle.dover_model.proofs.Growing.{all_behind}
+use Rattle.dover_model.proofs.sessions.Growing.{all_behind}
 use Rattle.run_record.proofs.intervals.Weighed.{begun, gone_on, readable, small, weighed}
 use Rattle.run_record.proofs.intervals.weighing.weights.Goals as goal
 

@@ -1,8 +1,7 @@
 use Rattle.std.proofs.Common.{◌≤◌, drop}
 use Rattle.std.specs.List.{AllByRecursion}
-use Rattle.dover_model.specs.Limits.{most_total}
+use Rattle.dover_model.specs.Common.{most_total, Instance}
 use Rattle.dover_model.specs.declared.events.Version.TheVariants.{Two}
-use Rattle.dover_model.specs.Instance.{Instance}
 use Rattle.run_record.specs.intervals.Rows.{IsRunOf}
 use Rattle.run_record.proofs.intervals.Weighed.{Weighs}
 use Rattle.run_record.proofs.intervals.weighing.weights.Given as goal

@@ -1,6 +1,5 @@
 use Rattle.std.proofs.Common.{◌≡◌, ◌++◌, map, drop}
-use Rattle.dover_model.specs.Entries.{entry_of}
-use Rattle.dover_model.specs.State.{to_come}
+use Rattle.dover_model.specs.Common.{entry_of, to_come}
 use Rattle.run_record.proofs.ledger.reading.entries.Given as goal
 
 -- the jobs so far, and those to come

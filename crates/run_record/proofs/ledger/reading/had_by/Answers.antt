@@ -17,11 +17,11 @@ loop-number-preserved c =
     ∙ ap (λ (i : JobFacts). had (n, i) ∷ rest) (sym c.index-jobs-number.is)
     ∙ ap (λ (h : ℕ). h ∷ rest) (sym c.had.ensures) in
     ap (λ (hs : List ℕ). hs ++ rest) c.in_ok-push.ensures.items
-    ∙ append_assoc c.loop-number.hads.items (c.had.result ∷ []) rest
-    ∙ ap (λ (hs : List ℕ). c.loop-number.hads.items ++ hs) (sym next) ∙ c.loop-number.invariant
+    ∙ append_assoc c.loop-number.served.items (c.had.result ∷ []) rest
+    ∙ ap (λ (hs : List ℕ). c.loop-number.served.items ++ hs) (sym next) ∙ c.loop-number.invariant
 
 pub returns : goal.returns
-returns c = sym (append-nil c.loop-number.hads.items)
-    ∙ ap (λ (l : List JobFacts). c.loop-number.hads.items
+returns c = sym (append-nil c.loop-number.served.items)
+    ∙ ap (λ (l : List JobFacts). c.loop-number.served.items
     ++ map (had_in c.args.under_way.now.entries) (enumerate_from c.loop-number.number l))
     (sym (drop_all c.loop-number.number c.args.jobs.now c.loop-number-test.false)) ∙ c.loop-number.invariant

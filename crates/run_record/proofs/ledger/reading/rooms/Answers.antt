@@ -1,6 +1,5 @@
 use Rattle.std.proofs.Common.{map, refl, ap, ◌∙◌, ◌++◌, ◌∷◌, [], arith}
-use Rattle.dover_model.specs.Entries.{entry_of}
-use Rattle.dover_model.specs.State.{to_come}
+use Rattle.dover_model.specs.Common.{entry_of, to_come}
 use Rattle.run_record.proofs.ledger.Walking.{begun, readable, gone_on, weighed}
 use Rattle.run_record.proofs.ledger.reading.rooms.Goals as goal
 

@@ -1,6 +1,5 @@
-use Rattle.std.proofs.Common.{◌∙◌, ap, arith}
+use Rattle.std.proofs.Common.{◌∙◌, ap, arith, take_all}
 use Rattle.run_reports.proofs.report.Counting.{released_more}
-use Rattle.std.proofs.lemmas.List.{take_all}
 use Rattle.run_reports.specs.report.Counts.{jobs_released}
 use Rattle.run_reports.proofs.report.counts.released.Goals as goal
 

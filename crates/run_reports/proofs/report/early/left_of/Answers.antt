@@ -1,9 +1,8 @@
-use Rattle.std.proofs.Common.{◌≡◌, ◌-◌, length, refl, sym, ap, ◌∙◌, arith}
-use Rattle.std.specs.Prelude.{slice_get, slice_index_or}
+use Rattle.std.proofs.Common.{◌≡◌, ◌-◌, length, refl, sym, ap, ◌∙◌, arith, slice_get, slice_index_or}
 use Rattle.std.specs.Option.{option_map_or}
 use Rattle.std.proofs.lemmas.Option.{slice_get_past, slice_get_read}
 use Rattle.dover_model.specs.JobFacts.{JobFacts}
-use Rattle.dover_model.proofs.JobLimits.{job_limits}
+use Rattle.dover_model.proofs.valid.JobLimits.{job_limits}
 use Rattle.run_reports.proofs.report.early.left_of.Goals as goal
 
 pub returns-in-Some-clause-is : goal.returns-in-Some-clause-is
@@ -21,6 +20,6 @@ returns-in-Some-clause-modest c =
 
 pub returns-in-None-clause-is : goal.returns-in-None-clause-is
 returns-in-None-clause-is c =
-    let none : 0 ≡ 0 - slice_index_or c.args.hads.now c.args.number 0 = omega arith in
-    none ∙ ap (λ j. option_map_or (λ (j : JobFacts). j.work) j 0 - slice_index_or c.args.hads.now c.args.number 0)
+    let none : 0 ≡ 0 - slice_index_or c.args.served.now c.args.number 0 = omega arith in
+    none ∙ ap (λ j. option_map_or (λ (j : JobFacts). j.work) j 0 - slice_index_or c.args.served.now c.args.number 0)
     (sym (slice_get_past c.args.jobs.now c.args.number c.in-None.ensures.lookup.3))

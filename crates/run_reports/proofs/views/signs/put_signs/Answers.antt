@@ -1,8 +1,7 @@
-use Rattle.std.proofs.Common.{◌+◌, ◌++◌, ◌∷◌, [], ap, ◌∙◌, ℕ, ◌-◌, append_assoc}
+use Rattle.std.proofs.Common.{◌+◌, ◌++◌, ◌∷◌, [], ap, ◌∙◌, ℕ, ◌-◌, append_assoc, min}
 use Rattle.run_reports.specs.views.Timeline.{sign, first_tick, blanks, column_of, signs_from}
 use Rattle.run_reports.proofs.views.Drawing.{signs_more}
 use Rattle.run_reports.specs.views.Templates.{Text}
-use Rattle.std.specs.Prelude.{min}
 use Rattle.run_reports.proofs.views.signs.put_signs.Goals as goal
 
 pub loop-column-preserved : goal.loop-column-preserved

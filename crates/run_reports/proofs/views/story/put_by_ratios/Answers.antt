@@ -1,6 +1,6 @@
 use Rattle.std.proofs.Common.{◌++◌, sym, ap, ◌∙◌, append-nil, arith}
 use Rattle.std.proofs.lemmas.Result.{IfOk-equal}
-use Rattle.dover_model.proofs.JobLimits.{ratio_limits}
+use Rattle.dover_model.proofs.valid.JobLimits.{ratio_limits}
 use Rattle.run_reports.specs.views.Why.{by_ratios, greatest_ratio, up_to}
 use Rattle.run_reports.proofs.views.story.put_by_ratios.Goals as goal
 

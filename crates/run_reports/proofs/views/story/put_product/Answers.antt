@@ -5,5 +5,6 @@ use Rattle.run_reports.proofs.views.story.put_product.Goals as goal
 pub overflow_mul-part : goal.overflow_mul-part
 overflow_mul-part c =
     let most : c.from-part.result * c.args.value ≤ 1_000_000 * 10_000_000_000_000 =
-    mul-le c.from-part.result c.args.value 1_000_000 10_000_000_000_000 (omega (arith, c.from-part.ensures, c.requires.part))
+    mul-le c.from-part.result c.args.value 1_000_000 10_000_000_000_000
+    (omega (arith, c.from-part.ensures, c.requires.part))
     c.requires.value in omega (arith, most)

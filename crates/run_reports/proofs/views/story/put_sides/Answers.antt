@@ -1,7 +1,7 @@
 use Rattle.std.proofs.Common.{◌++◌, IsTrue, sym, ap, subst}
 use Rattle.std.proofs.lemmas.Result.{IfOk-equal}
 use Rattle.dover_model.specs.Fraction.{is_some_factor}
-use Rattle.dover_model.proofs.JobLimits.{ratio_limits}
+use Rattle.dover_model.proofs.valid.JobLimits.{ratio_limits}
 use Rattle.run_reports.specs.views.Why.{sides}
 use Rattle.run_reports.proofs.views.story.put_sides.Goals as goal
 

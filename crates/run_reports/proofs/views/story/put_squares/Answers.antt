@@ -2,7 +2,7 @@ use Rattle.std.proofs.Common.{[], ◌∷◌, ◌-◌, refl, arith}
 use Rattle.std.proofs.lemmas.Result.{IfOk-equal}
 use Rattle.run_reports.specs.views.Why.{square}
 use Rattle.run_reports.proofs.views.Joining.{joined}
-use Rattle.dover_model.proofs.JobLimits.{ratio_limits}
+use Rattle.dover_model.proofs.valid.JobLimits.{ratio_limits}
 use Rattle.run_reports.proofs.views.story.put_squares.Goals as goal
 
 pub returns : goal.returns

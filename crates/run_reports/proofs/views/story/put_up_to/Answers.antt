@@ -1,5 +1,4 @@
-use Rattle.std.proofs.Common.{◌≡◌, [], ◌++◌, refl, sym, ap, ◌∙◌}
-use Rattle.std.specs.Prelude.{codes}
+use Rattle.std.proofs.Common.{◌≡◌, [], ◌++◌, refl, sym, ap, ◌∙◌, codes}
 use Rattle.std.proofs.lemmas.Result.{IfOk-equal}
 use Rattle.run_reports.specs.views.Templates.{filled}
 use Rattle.run_reports.specs.views.Why.{up_to}

@@ -1,7 +1,7 @@
 use Rattle.std.proofs.Common.{◌++◌, ◌≤◌, false, sym, ap, ◌∙◌, subst}
 use Rattle.std.proofs.lemmas.Result.{IfOk-equal}
 use Rattle.std.specs.List.{AllByRecursion}
-use Rattle.dover_model.specs.Observed.{hads}
+use Rattle.dover_model.specs.Observed.{served}
 use Rattle.run_record.specs.intervals.Rows.{weights}
 use Rattle.run_reports.specs.views.Why.{story_from}
 use Rattle.run_reports.proofs.views.Stepping.{same_length, rooms_length}
@@ -13,8 +13,8 @@ weights-requires c = (c.requires.run.0, c.requires.run.1)
 pub rooms-requires : goal.rooms-requires
 rooms-requires c = c.requires.run
 
-pub hads-requires : goal.hads-requires
-hads-requires c = (c.args.asked.now.k, c.requires.run)
+pub served-requires : goal.served-requires
+served-requires c = (c.args.asked.now.k, c.requires.run)
 
 pub put_story-requires-clause-same : goal.put_story-requires-clause-same
 put_story-requires-clause-same c =
@@ -36,8 +36,8 @@ returns c J of same =
     let jobs = c.args.jobs.now in let run = c.args.run.now in let text = c.args.text.now.items in
     IfOk-equal c.put_story.result _ _ _ c.put_story.ensures
     (ap (λ hs. text ++ story_from k n value jobs hs false run c.deref-2.result.now c.deref-3.result.now)
-    (c.deref.ensures.value ∙ c.in_ok-hads.ensures k J of same)
-    ∙ ap (λ ws. text ++ story_from k n value jobs (hads J) false run ws c.deref-3.result.now)
+    (c.deref.ensures.value ∙ c.in_ok-served.ensures k J of same)
+    ∙ ap (λ ws. text ++ story_from k n value jobs (served J) false run ws c.deref-3.result.now)
     (c.deref-2.ensures.value ∙ c.in_ok-worths.ensures.are J of)
-    ∙ ap (λ rs. text ++ story_from k n value jobs (hads J) false run (weights J) rs)
+    ∙ ap (λ rs. text ++ story_from k n value jobs (served J) false run (weights J) rs)
     (c.deref-3.ensures.value ∙ c.in_ok-rooms.ensures J of same))

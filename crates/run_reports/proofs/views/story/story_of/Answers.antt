@@ -1,5 +1,5 @@
 use Rattle.std.proofs.Common.{arith}
-use Rattle.dover_model.proofs.JobLimits.{job_limits}
+use Rattle.dover_model.proofs.valid.JobLimits.{job_limits}
 use Rattle.run_reports.proofs.views.Telling.{story_is}
 use Rattle.run_reports.proofs.views.story.story_of.Goals as goal
 

@@ -1,5 +1,4 @@
-use Rattle.std.proofs.Common.{[], ◌∷◌, ◌-◌, ◌/◌, ◌++◌, refl, ap, ◌∙◌, append_assoc}
-use Rattle.std.specs.Prelude.{codes}
+use Rattle.std.proofs.Common.{[], ◌∷◌, ◌-◌, ◌/◌, ◌++◌, refl, ap, ◌∙◌, append_assoc, codes}
 use Rattle.run_reports.specs.views.Templates.{filled}
 use Rattle.run_reports.specs.views.Timeline.{column_ticks, column_of, blanks, labels_from}
 use Rattle.run_reports.proofs.views.Filling.{filled_two}

@@ -1,7 +1,6 @@
-use Rattle.std.proofs.Common.{◌++◌, ap, ◌∙◌, arith}
+use Rattle.std.proofs.Common.{◌++◌, ap, ◌∙◌, arith, decimal}
 use Rattle.run_reports.specs.views.Timeline.{padded}
 use Rattle.run_reports.proofs.views.Drawing.{labels_more, labels_all}
-use Rattle.std.specs.Prelude.{decimal}
 use Rattle.std.proofs.lemmas.Result.{IfOk-equal}
 use Rattle.run_reports.proofs.views.terminal.put_labels.Goals as goal
 

@@ -1,5 +1,4 @@
-use Rattle.std.proofs.Common.{[], ◌∷◌, ◌++◌, refl, ap, ◌∙◌}
-use Rattle.std.specs.Prelude.{codes, decimal}
+use Rattle.std.proofs.Common.{[], ◌∷◌, ◌++◌, refl, ap, ◌∙◌, codes, decimal}
 use Rattle.run_reports.specs.views.Templates.{filled}
 use Rattle.run_reports.proofs.views.Drawing.{summary_line}
 use Rattle.run_reports.proofs.views.Joining.{joined}

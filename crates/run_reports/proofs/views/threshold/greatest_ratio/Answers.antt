@@ -1,6 +1,6 @@
 use Rattle.std.proofs.Common.{ℕ, ◌≤◌, sym, arith}
 use Rattle.dover_model.specs.Limits.{most_p}
-use Rattle.dover_model.proofs.JobLimits.{ratio_limits}
+use Rattle.dover_model.proofs.valid.JobLimits.{ratio_limits}
 use Rattle.run_reports.proofs.views.Numerators.{is_none, no_ratio, is_found, is_ratio_there, is_heavy_there, none_more}
 use Rattle.run_reports.proofs.views.threshold.greatest_ratio.Goals as goal
 

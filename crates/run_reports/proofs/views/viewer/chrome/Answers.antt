@@ -4,8 +4,8 @@ use Rattle.run_reports.proofs.views.Stepping.{same_length}
 use Rattle.run_reports.proofs.report.Counting.{few_steps, jobs_are}
 use Rattle.run_reports.proofs.views.viewer.chrome.Goals as goal
 
-pub hads-requires : goal.hads-requires
-hads-requires c = (
+pub served-requires : goal.served-requires
+served-requires c = (
   c.args.k,
   (
     c.requires.0,
@@ -25,7 +25,7 @@ pub returns : goal.returns
 returns c J of = viewed c.args.k c.args.run.now J of c.deref-2.result.now c.deref-3.result.now c.deref-4.result.now
     _ _ _
     (c.deref-2.ensures.value ∙ c.in_ok-jobs.ensures)
-    (c.deref-3.ensures.value ∙ c.in_ok-hads.ensures c.args.k J of
+    (c.deref-3.ensures.value ∙ c.in_ok-served.ensures c.args.k J of
     (c.deref.ensures.value ∙ c.in_ok-jobs.ensures ∙ jobs_are c.args.k c.args.run.now J of))
     (c.deref-4.ensures.value ∙ c.in_ok-worths.ensures.are J of)
     c.in_ok-text.ensures.items refl c.in_ok-put_events.ensures

@@ -1,6 +1,4 @@
-use Rattle.std.proofs.Common.{[], ◌∷◌, ◌++◌, ◌≡◌, refl, subst}
-use Rattle.std.specs.Prelude.{OnOk}
-use Rattle.std.specs.Prelude.{codes}
+use Rattle.std.proofs.Common.{[], ◌∷◌, ◌++◌, ◌≡◌, refl, subst, OnOk, codes}
 use Rattle.run_reports.specs.views.Chrome.{closes_line, weighed_line, summed_line}
 use Rattle.run_reports.proofs.views.Filling.{filled_three}
 use Rattle.run_reports.proofs.views.viewer.put_abandoned.Goals as goal

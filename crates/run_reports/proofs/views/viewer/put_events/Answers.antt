@@ -1,5 +1,4 @@
-use Rattle.std.proofs.Common.{◌<◌, ◌++◌, length, get_or, ap, ◌∙◌, arith}
-use Rattle.std.specs.Prelude.{codes}
+use Rattle.std.proofs.Common.{◌<◌, ◌++◌, length, get_or, ap, ◌∙◌, arith, codes}
 use Rattle.std.proofs.lemmas.List.{get_or_default}
 use Rattle.run_reports.proofs.views.Viewed.{viewed_more, viewed_all}
 use Rattle.run_reports.proofs.views.viewer.put_events.Goals as goal
@@ -12,7 +11,7 @@ loop-index-preserved c =
       c.requires.same,
       c.loop-index-test.true,
     ) in record {
-      is = viewed_more c.args.jobs.now c.args.hads.now c.args.run.now c.args.worths.now c.loop-index.index
+      is = viewed_more c.args.jobs.now c.args.served.now c.args.run.now c.args.worths.now c.loop-index.index
           c.index-run-index.result
           worth c.loop-index.done
           c.loop-index.lost c.value_done-done.result c.value_lost-lost.result c.loop-index.text.items
@@ -27,6 +26,6 @@ loop-index-preserved c =
 
 pub returns : goal.returns
 returns c = c.in_ok-extend_from_slice.ensures.items
-    ∙ ap (λ t. t ++ codes "]}\n") (viewed_all c.args.jobs.now c.args.hads.now c.args.run.now c.args.worths.now
+    ∙ ap (λ t. t ++ codes "]}\n") (viewed_all c.args.jobs.now c.args.served.now c.args.run.now c.args.worths.now
     c.loop-index.index c.loop-index.done c.loop-index.lost c.loop-index.text.items _ (omega arith)
     c.loop-index.invariant.is)

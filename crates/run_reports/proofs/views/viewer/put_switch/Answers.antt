@@ -1,5 +1,4 @@
-use Rattle.std.proofs.Common.{[], ◌∷◌, ◌++◌, ◌≡◌, refl, subst}
-use Rattle.std.specs.Prelude.{OnOk}
+use Rattle.std.proofs.Common.{[], ◌∷◌, ◌++◌, ◌≡◌, refl, subst, OnOk}
 use Rattle.run_reports.specs.views.Chrome.{begins_line, ends_line}
 use Rattle.run_reports.proofs.views.Filling.{filled_two}
 use Rattle.run_reports.proofs.views.viewer.put_switch.Goals as goal

@@ -1,9 +1,5 @@
-use Rattle.std.proofs.Common.{◌≡◌, ◌≤◌, drop}
-use Rattle.std.specs.Prelude.{nat_le, if◌then◌else◌}
-use Rattle.std.specs.List.{fold}
-use Rattle.dover_model.specs.JobFacts.{JobFacts}
-use Rattle.dover_model.specs.Limits.{last_tick}
-use Rattle.dover_model.specs.Run.{last_deadline}
+use Rattle.std.proofs.Common.{◌≡◌, ◌≤◌, drop, nat_le, if◌then◌else◌, fold}
+use Rattle.dover_model.specs.Common.{JobFacts, last_tick, last_deadline}
 use Rattle.run_reports.proofs.views.window.last_deadline.Given as goal
 
 -- the greatest deadline so far, and those to come

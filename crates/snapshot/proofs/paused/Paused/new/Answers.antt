@@ -1,7 +1,5 @@
 use Rattle.std.proofs.Common.{ap, ◌∙◌}
-use Rattle.dover_model.specs.Fraction.{Fraction}
-use Rattle.dover_model.specs.Feed.{rules_with}
-use Rattle.dover_model.specs.Lines.{in_lines}
+use Rattle.dover_model.specs.Common.{Fraction, rules_with, in_lines}
 use Rattle.snapshot.specs.Pausing.{lines_in}
 use Rattle.snapshot.proofs.Pausing.{lines_few, mark_known, jobs_few, text_is}
 use Rattle.snapshot.proofs.paused.Paused.new.Goals as goal

@@ -1,5 +1,4 @@
-use Rattle.std.proofs.Common.{[], ◌∷◌, refl, sym, ap, ◌∙◌}
-use Rattle.std.specs.Option.{option_map}
+use Rattle.std.proofs.Common.{[], ◌∷◌, refl, sym, ap, ◌∙◌, option_map}
 use Rattle.snapshot.specs.Forms.{head_in}
 use Rattle.snapshot.specs.Stored.{HasRead}
 use Rattle.snapshot.proofs.Starting.{first_served}

@@ -1,6 +1,6 @@
 use Rattle.std.proofs.Common.{◌∙◌, ℕ, sym, ap, arith, refl, Some}
-use Rattle.dover_model.proofs.Members.{some_same}
-use Rattle.dover_model.proofs.Tests.{none_is_some}
+use Rattle.dover_model.proofs.lists.Members.{some_same}
+use Rattle.dover_model.proofs.lists.Tests.{none_is_some}
 use Rattle.snapshot.proofs.Turning.{kept_roster, few_items, none_here, never_wrong, with_one, served_one, one_here}
 use Rattle.snapshot.proofs.resuming.Resuming.finish_due.Goals as goal
 

@@ -1,5 +1,4 @@
-use Rattle.std.proofs.Common.{◌≡◌, ◌≤◌, ◌<◌, ◌∷◌, [], ◌++◌, length, sym, ap, ◌∙◌, subst, refl, arith}
-use Rattle.std.specs.Option.{option_map}
+use Rattle.std.proofs.Common.{◌≡◌, ◌≤◌, ◌<◌, ◌∷◌, [], ◌++◌, length, sym, ap, ◌∙◌, subst, refl, arith, option_map}
 use Rattle.dover_model.specs.JobFacts.{JobFacts}
 use Rattle.snapshot.specs.Forms.{task_in}
 use Rattle.snapshot.specs.Snapshot.{Head}
@@ -7,7 +6,7 @@ use Rattle.snapshot.specs.declared.resuming.Resuming.{Resuming}
 use Rattle.snapshot.specs.Stored.{HasRead}
 use Rattle.snapshot.specs.Spending.{jobs_read}
 use Rattle.snapshot.specs.Kept.{IsFed, HasRunTowards, stance_of}
-use Rattle.snapshot.proofs.Stepping.{served_count, jobs_count, room, none_refused, job_short, beyond_refused, may_admit}
+use Rattle.snapshot.proofs.Stepping.{served_count, job_due, room, none_refused, job_short, beyond_refused, may_admit}
 use Rattle.snapshot.proofs.Stepping.{run_at, read_more, holds_more, same_run}
 use Rattle.snapshot.proofs.Spending.{jobs_now, jobs_left, jobs_stay, jobs_towards}
 use Rattle.snapshot.proofs.Turning.{same_about}
@@ -17,12 +16,8 @@ pub hand_job-requires-clause-numerals : goal.hand_job-requires-clause-numerals
 hand_job-requires-clause-numerals g c =
     let h = c.requires.reading.1.0 in let tasks = c.requires.reading.1.1 in
     job_short h tasks c.requires.reading.0 c.requires.reading.1.2 c.args.self.now c.requires.reading.1.3 c.args.line.now
-    (omega (
-      arith,
-      c.requires.more,
-      served_count h tasks c.requires.reading.0 c.requires.reading.1.2 c.args.self.now c.requires.reading.1.3,
-      jobs_count h tasks c.requires.reading.0 c.requires.reading.1.2 c.args.self.now c.requires.reading.1.3,
-    ))
+    (job_due h tasks c.requires.reading.0 c.requires.reading.1.2 c.args.self.now c.requires.reading.1.3
+    c.requires.more)
     (task_in c.in-Some.state) (sym c.read_state.ensures ∙ ap (option_map task_in) c.in-Some.is)
 
 pub hand_job-requires-clause-fed : goal.hand_job-requires-clause-fed
@@ -32,34 +27,19 @@ hand_job-requires-clause-fed g c =
       tasks,
       c.requires.reading.1.3.fed,
       room h tasks c.requires.reading.0 c.requires.reading.1.2 c.args.self.now c.requires.reading.1.3
-          (omega (
-            arith,
-            c.requires.more,
-            served_count h tasks c.requires.reading.0 c.requires.reading.1.2 c.args.self.now c.requires.reading.1.3,
-            jobs_count h tasks c.requires.reading.0 c.requires.reading.1.2 c.args.self.now c.requires.reading.1.3,
-          )),
+          (job_due h tasks c.requires.reading.0 c.requires.reading.1.2 c.args.self.now c.requires.reading.1.3
+          c.requires.more),
     )
 
 pub returns-in_default-clause-answers : goal.returns-in_default-clause-answers
 returns-in_default-clause-answers g c = λ ls it. none_refused it.0 it.1 ls it.2 c.args.self.now it.3 c.args.line.now
-    (omega (
-      arith,
-      c.requires.more,
-      served_count it.0 it.1 ls it.2 c.args.self.now it.3,
-      jobs_count it.0 it.1 ls it.2 c.args.self.now it.3,
-    ))
+    (job_due it.0 it.1 ls it.2 c.args.self.now it.3 c.requires.more)
     c.count-number.result c.count-number.ensures
     (sym c.read_state.ensures ∙ ap (option_map task_in) c.in_default.is)
 
 pub returns-in_default-hand_job-clause-answers : goal.returns-in_default-hand_job-clause-answers
 returns-in_default-hand_job-clause-answers g c = λ ls it.
-    let more : length it.1 < it.0.jobs =
-    omega (
-      arith,
-      c.requires.more,
-      served_count it.0 it.1 ls it.2 c.args.self.now it.3,
-      jobs_count it.0 it.1 ls it.2 c.args.self.now it.3,
-    ) in
+    let more = job_due it.0 it.1 ls it.2 c.args.self.now it.3 c.requires.more in
     beyond_refused it.0 it.1 ls it.2 c.args.self.now it.3 c.args.line.now more (task_in c.in-Some.state)
     (sym c.read_state.ensures ∙ ap (option_map task_in) c.in-Some.is) c.count-number.result c.count-number.ensures
     (λ number valid low. c.in_default-hand_job.ensures.none it.0 it.1 it.3.fed
@@ -69,13 +49,7 @@ pub admit-requires : goal.admit-requires
 admit-requires g c =
     let ls = c.requires.reading.0 in let h = c.requires.reading.1.0 in let tasks = c.requires.reading.1.1 in
     let read = c.requires.reading.1.2 in let it = c.requires.reading.1.3 in
-    let more : length tasks < h.jobs =
-    omega (
-      arith,
-      c.requires.more,
-      served_count h tasks ls read c.args.self.now it,
-      jobs_count h tasks ls read c.args.self.now it,
-    ) in
+    let more = job_due h tasks ls read c.args.self.now it c.requires.more in
     let some = c.in-Some-hand_job.ensures.some h tasks it.fed (room h tasks ls read c.args.self.now it more) in
     let spelled = sym c.read_state.ensures ∙ ap (option_map task_in) c.in-Some.is in (
       h,
@@ -89,13 +63,7 @@ admit-requires g c =
 
 pub returns-in-Ok-push-clause-answers : goal.returns-in-Ok-push-clause-answers
 returns-in-Ok-push-clause-answers g c = λ ls (h, tasks, read, it).
-    let more : length tasks < h.jobs =
-    omega (
-      arith,
-      c.requires.more,
-      served_count h tasks ls read c.args.self.now it,
-      jobs_count h tasks ls read c.args.self.now it,
-    ) in
+    let more = job_due h tasks ls read c.args.self.now it c.requires.more in
     let some = c.in-Some-hand_job.ensures.some h tasks it.fed (room h tasks ls read c.args.self.now it more) in
     let spelled = sym c.read_state.ensures ∙ ap (option_map task_in) c.in-Some.is in
     let number : c.in-Some.state.number ≡ length tasks =
@@ -131,13 +99,7 @@ returns-in-Ok-push-clause-answers g c = λ ls (h, tasks, read, it).
 pub returns-in-Err-clause-answers : goal.returns-in-Err-clause-answers
 returns-in-Err-clause-answers g c = λ ls it.
     let h = it.0 in let tasks = it.1 in
-    let more : length tasks < h.jobs =
-    omega (
-      arith,
-      c.requires.more,
-      served_count h tasks ls it.2 c.args.self.now it.3,
-      jobs_count h tasks ls it.2 c.args.self.now it.3,
-    ) in
+    let more = job_due h tasks ls it.2 c.args.self.now it.3 c.requires.more in
     let some = c.in-Some-hand_job.ensures.some h tasks it.3.fed (room h tasks ls it.2 c.args.self.now it.3 more) in
     let spelled = sym c.read_state.ensures ∙ ap (option_map task_in) c.in-Some.is in
     let read = read_more h tasks ls it.2 c.args.self.now it.3 c.args.line.now more
@@ -150,13 +112,7 @@ returns-in-Err-clause-answers g c = λ ls it.
 pub returns-in-Err-push-clause-answers : goal.returns-in-Err-push-clause-answers
 returns-in-Err-push-clause-answers g c = λ ls it.
     let h = it.0 in let tasks = it.1 in
-    let more : length tasks < h.jobs =
-    omega (
-      arith,
-      c.requires.more,
-      served_count h tasks ls it.2 c.args.self.now it.3,
-      jobs_count h tasks ls it.2 c.args.self.now it.3,
-    ) in
+    let more = job_due h tasks ls it.2 c.args.self.now it.3 c.requires.more in
     let some = c.in-Some-hand_job.ensures.some h tasks it.3.fed (room h tasks ls it.2 c.args.self.now it.3 more) in
     let spelled = sym c.read_state.ensures ∙ ap (option_map task_in) c.in-Some.is in
     let read = read_more h tasks ls it.2 c.args.self.now it.3 c.args.line.now more
@@ -172,13 +128,7 @@ returns-in-Ok-push-clause-jobs g c = λ ls it.
 
 pub returns-in-Err-push-clause-jobs : goal.returns-in-Err-push-clause-jobs
 returns-in-Err-push-clause-jobs g c = λ ls (h, tasks, read, it).
-    let more : length tasks < h.jobs =
-    omega (
-      arith,
-      c.requires.more,
-      served_count h tasks ls read c.args.self.now it,
-      jobs_count h tasks ls read c.args.self.now it,
-    ) in
+    let more = job_due h tasks ls read c.args.self.now it c.requires.more in
     let some = c.in-Some-hand_job.ensures.some h tasks it.fed (room h tasks ls read c.args.self.now it more) in
     let spelled = sym c.read_state.ensures ∙ ap (option_map task_in) c.in-Some.is in
     let number : c.in-Some.state.number ≡ length tasks =
@@ -202,13 +152,7 @@ returns-in-Err-push-clause-jobs g c = λ ls (h, tasks, read, it).
 
 pub returns-then-state-self-clause-answers : goal.returns-then-state-self-clause-answers
 returns-then-state-self-clause-answers g c = λ ls it.
-    let more : length it.1 < it.0.jobs =
-    omega (
-      arith,
-      c.requires.more,
-      served_count it.0 it.1 ls it.2 c.args.self.now it.3,
-      jobs_count it.0 it.1 ls it.2 c.args.self.now it.3,
-    ) in
+    let more = job_due it.0 it.1 ls it.2 c.args.self.now it.3 c.requires.more in
     beyond_refused it.0 it.1 ls it.2 c.args.self.now it.3 c.args.line.now more (task_in c.in-Some.state)
     (sym c.read_state.ensures ∙ ap (option_map task_in) c.in-Some.is) c.count-number.result c.count-number.ensures
     (λ number valid low. absurd (omega (
@@ -243,13 +187,7 @@ returns-in_default-clause-count g c = λ start spent. spent
 
 pub returns-then-state-number-clause-answers : goal.returns-then-state-number-clause-answers
 returns-then-state-number-clause-answers g c = λ ls it.
-    let more : length it.1 < it.0.jobs =
-    omega (
-      arith,
-      c.requires.more,
-      served_count it.0 it.1 ls it.2 c.args.self.now it.3,
-      jobs_count it.0 it.1 ls it.2 c.args.self.now it.3,
-    ) in
+    let more = job_due it.0 it.1 ls it.2 c.args.self.now it.3 c.requires.more in
     beyond_refused it.0 it.1 ls it.2 c.args.self.now it.3 c.args.line.now more (task_in c.in-Some.state)
     (sym c.read_state.ensures ∙ ap (option_map task_in) c.in-Some.is) c.count-number.result c.count-number.ensures
     (λ number valid low. c.if-state-number.true (number

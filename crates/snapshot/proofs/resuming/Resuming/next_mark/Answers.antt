@@ -1,5 +1,4 @@
-use Rattle.std.proofs.Common.{ℕ, ◌<◌, ◌≤◌, arith, subst, sym}
-use Rattle.std.specs.Prelude.{IfSome}
+use Rattle.std.proofs.Common.{ℕ, ◌<◌, ◌≤◌, arith, subst, sym, IfSome}
 use Rattle.snapshot.proofs.resuming.Resuming.next_mark.Goals as goal
 
 pub returns-in-Some-clause-after : goal.returns-in-Some-clause-after

@@ -13,7 +13,8 @@ invariant-loop-at g l = record {
   low : l.at ≤ l.mark;
   same : l.self ≡ record l.initial.self { server = l.self.server; handed = l.self.handed; last = l.self.last };
   room : HasPlace l.initial.self.server → HasPlace l.self.server;
-  paid : (start : ℕ) → HasPaid l.initial.self.server start l.initial.steps → HasPaid l.self.server start l.steps;
+  paid : (start : ℕ) → HasPaid l.initial.self.server start l.initial.comparisons
+      → HasPaid l.self.server start l.comparisons;
 }
 
 -- how far it is to the mark

@@ -1,13 +1,10 @@
-use Rattle.std.proofs.Common.{◌≡◌, ◌+◌, ◌-◌, ◌<◌, ◌∙◌, ap, subst, refl, arith}
-use Rattle.std.specs.List.{sum}
+use Rattle.std.proofs.Common.{◌≡◌, ◌+◌, ◌-◌, ◌<◌, ◌∙◌, ap, subst, refl, arith, sum}
 use Rattle.dover_model.specs.declared.events.Version.TheVariants.{Two}
-use Rattle.dover_model.specs.Limits.{most_jobs}
-use Rattle.dover_model.specs.Bait.{chain, last_link, most_light}
-use Rattle.dover_model.proofs.Tests.{never}
+use Rattle.dover_model.specs.Common.{most_jobs, chain, last_link, most_light}
+use Rattle.dover_model.proofs.lists.Tests.{never}
 use Rattle.stated_jobs.proofs.bait.Chains.{sum_step, last_step, all_to_come, last_to_come, from_nothing, first_low}
-use Rattle.stated_jobs.proofs.bait.Chains.{nothing_few, no_more, one_fewer}
-use Rattle.stated_jobs.proofs.bait.Chains.{low_step, last_fits, sum_fits}
-use Rattle.stated_jobs.proofs.bait.Chains.{some_step, all_summed, last_summed, all_done, some_done, sum_part}
+use Rattle.stated_jobs.proofs.bait.Chains.{nothing_few, no_more, one_fewer, low_step, last_fits, sum_fits, some_step}
+use Rattle.stated_jobs.proofs.bait.Chains.{all_summed, last_summed, all_done, some_done, sum_part}
 use Rattle.stated_jobs.proofs.bait.feed.small_chain.Goals as goal
 
 pub loop-init : goal.loop-init

@@ -1,8 +1,6 @@
-use Rattle.std.proofs.Common.{◌≡◌, ◌≤◌, ◌<◌, ◌+◌, ◌-◌}
-use Rattle.std.specs.List.{sum}
+use Rattle.std.proofs.Common.{◌≡◌, ◌≤◌, ◌<◌, ◌+◌, ◌-◌, sum}
 use Rattle.dover_model.specs.declared.events.Version.TheVariants.{Two}
-use Rattle.dover_model.specs.Limits.{most_jobs}
-use Rattle.dover_model.specs.Bait.{most_light, chain_from, chain, last_link}
+use Rattle.dover_model.specs.Common.{most_jobs, most_light, chain_from, chain, last_link}
 use Rattle.stated_jobs.proofs.bait.Chains.{last_from}
 use Rattle.stated_jobs.proofs.bait.feed.small_chain.Given as goal
 

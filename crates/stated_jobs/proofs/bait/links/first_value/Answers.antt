@@ -1,6 +1,5 @@
 use Rattle.std.proofs.Common.{◌≡◌, suc, true, false, subst, sym, arith}
-use Rattle.dover_model.specs.Orders.{is_heavy}
-use Rattle.dover_model.specs.Greatest.{greatest}
+use Rattle.dover_model.specs.Common.{is_heavy, greatest}
 use Rattle.stated_jobs.proofs.bait.Heavy.{first_is}
 use Rattle.stated_jobs.proofs.bait.links.first_value.Goals as goal
 

@@ -1,7 +1,7 @@
 use Rattle.std.proofs.Common.{◌≡◌, ◌+◌, ◌*◌, ◌/◌, ◌≤◌, subst, sym, arith}
 use Rattle.std.proofs.lemmas.Nat.{mul-le}
 use Rattle.dover_model.specs.Greatest.{IsGreatest}
-use Rattle.dover_model.proofs.JobLimits.{ratio_limits}
+use Rattle.dover_model.proofs.valid.JobLimits.{ratio_limits}
 use Rattle.root_compare.proofs.Roots.{one_greatest}
 use Rattle.stated_jobs.proofs.bait.Heavy.{is_light, light_is, root_is, root_small}
 use Rattle.stated_jobs.proofs.bait.links.light_by_root.Goals as goal

@@ -1,5 +1,4 @@
-use Rattle.std.proofs.Common.{◌≡◌, ◌*◌, ◌/◌, ◌≤◌, subst, sym, arith}
-use Rattle.std.specs.Prelude.{Some}
+use Rattle.std.proofs.Common.{◌≡◌, ◌*◌, ◌/◌, ◌≤◌, subst, sym, arith, Some}
 use Rattle.dover_model.specs.Bait.{most_light}
 use Rattle.root_compare.proofs.Roots.{one_greatest}
 use Rattle.stated_jobs.proofs.bait.Heavy.{is_light, light_is, light_least, factor_is, factor_small}

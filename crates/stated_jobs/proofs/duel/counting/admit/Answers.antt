@@ -1,7 +1,6 @@
 use Rattle.std.proofs.Common.{◌≡◌, ℕ, ◌++◌, ◌∷◌, [], ap, sym, subst, ◌∙◌}
-use Rattle.dover_model.specs.JobFacts.{JobFacts, job_of_numbers}
-use Rattle.dover_model.specs.Admission.{refusal_of}
-use Rattle.dover_model.proofs.Tests.{none_is_some}
+use Rattle.dover_model.specs.Common.{JobFacts, job_of_numbers, refusal_of}
+use Rattle.dover_model.proofs.lists.Tests.{none_is_some}
 use Rattle.admission.specs.Answers.{refusal_in}
 use Rattle.admission.specs.Kept.{StandsFor}
 use Rattle.stated_jobs.proofs.duel.counting.admit.Goals as goal

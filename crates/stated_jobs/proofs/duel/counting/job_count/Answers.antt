@@ -1,8 +1,8 @@
 use Rattle.std.proofs.Common.{refl, arith}
 use Rattle.stated_jobs.specs.duel.Jobs.{duel_jobs}
 use Rattle.stated_jobs.proofs.duel.Admitting.{links_order, too_large, one_refused, one_admitted}
-use Rattle.dover_model.proofs.JobLimits.{ratio_limits}
-use Rattle.dover_model.proofs.Tests.{never}
+use Rattle.dover_model.proofs.valid.JobLimits.{ratio_limits}
+use Rattle.dover_model.proofs.lists.Tests.{never}
 use Rattle.stated_jobs.proofs.duel.counting.job_count.Goals as goal
 
 pub returns-in-TooLarge-clause-valid : goal.returns-in-TooLarge-clause-valid

@@ -1,9 +1,7 @@
 use Rattle.std.proofs.Common.{refl, sym, subst}
-use Rattle.dover_model.specs.Bound.{IsWithin}
-use Rattle.dover_model.specs.Instance.{jobs_under}
-use Rattle.dover_model.specs.Schedules.{worth}
-use Rattle.dover_model.proofs.BoundLaws.{bound}
-use Rattle.dover_model.proofs.Honest.{plain_honest}
+use Rattle.dover_model.specs.Common.{IsWithin, jobs_under, worth}
+use Rattle.dover_model.proofs.bound.BoundLaws.{bound}
+use Rattle.dover_model.proofs.runs.Honest.{plain_honest}
 use Rattle.stated_jobs.proofs.duel.Duel.{every_one_loses}
 use Rattle.stated_jobs.proofs.duel.Rules.{online}
 use Rattle.stated_jobs.proofs.duel.laws.the_rules_save_the_most.Goals as goal

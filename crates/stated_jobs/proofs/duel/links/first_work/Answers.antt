@@ -1,6 +1,6 @@
 use Rattle.std.proofs.Common.{◌≤◌, ◌*◌, arith}
 use Rattle.std.proofs.lemmas.Nat.{mul-le, div_below}
-use Rattle.dover_model.proofs.JobLimits.{ratio_limits}
+use Rattle.dover_model.proofs.valid.JobLimits.{ratio_limits}
 use Rattle.stated_jobs.proofs.duel.links.first_work.Goals as goal
 
 pub overflow_mul-result : goal.overflow_mul-result

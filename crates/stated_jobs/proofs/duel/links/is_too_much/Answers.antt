@@ -1,6 +1,6 @@
 use Rattle.std.proofs.Common.{arith}
 use Rattle.stated_jobs.proofs.duel.Giving.{root_small}
-use Rattle.dover_model.proofs.JobLimits.{ratio_limits}
+use Rattle.dover_model.proofs.valid.JobLimits.{ratio_limits}
 use Rattle.stated_jobs.proofs.duel.links.is_too_much.Goals as goal
 
 pub overflow_mul-result-5 : goal.overflow_mul-result-5

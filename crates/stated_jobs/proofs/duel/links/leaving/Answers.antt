@@ -1,5 +1,5 @@
 use Rattle.std.proofs.Common.{arith}
-use Rattle.dover_model.proofs.JobLimits.{ratio_limits}
+use Rattle.dover_model.proofs.valid.JobLimits.{ratio_limits}
 use Rattle.stated_jobs.proofs.duel.Giving.{leaving_fits}
 use Rattle.stated_jobs.proofs.duel.links.leaving.Goals as goal
 

@@ -1,6 +1,6 @@
 use Rattle.std.proofs.Common.{ℕ, ◌+◌, ◌*◌, ◌/◌, ◌<◌, ◌≤◌, Fits, w64, arith}
 use Rattle.std.specs.Int.{w128}
-use Rattle.dover_model.proofs.JobLimits.{ratio_limits}
+use Rattle.dover_model.proofs.valid.JobLimits.{ratio_limits}
 use Rattle.stated_jobs.proofs.duel.Giving.{next_small}
 use Rattle.stated_jobs.proofs.duel.links.next_work.Goals as goal
 

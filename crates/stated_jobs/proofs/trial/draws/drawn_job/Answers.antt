@@ -1,6 +1,5 @@
 use Rattle.std.proofs.Common.{◌≡◌, ◌+◌, ◌*◌, ◌/◌, ◌%◌, ◌≤◌, arith, sym, subst}
-use Rattle.dover_model.specs.JobFacts.{IsJob, job_of_numbers}
-use Rattle.dover_model.specs.Generator.{most_density, high_bits}
+use Rattle.dover_model.specs.Common.{IsJob, job_of_numbers, most_density, high_bits}
 use Rattle.stated_jobs.proofs.trial.Drawn.{is_job, value_low}
 use Rattle.stated_jobs.proofs.trial.draws.drawn_job.Goals as goal
 

@@ -5,7 +5,7 @@ use Rattle.task_words.proofs.asking.word.tasks_word.Goals as goal
 
 pub converse-requires : goal.converse-requires
 converse-requires g c = (
-  record { question = c.args.question; before = c.args.steps.now },
+  record { question = c.args.question; before = c.args.comparisons.now },
   record {
     asks = refl;
     known = c.requires;
@@ -16,7 +16,7 @@ converse-requires g c = (
 
 pub returns-clause-talks : goal.returns-clause-talks
 returns-clause-talks g c = since_weaker _ _ _ _ (c.converse.ensures.talks
-    (record { question = c.args.question; before = c.args.steps.now })
+    (record { question = c.args.question; before = c.args.comparisons.now })
     (record {
       asks = refl;
       known = c.requires;
@@ -27,7 +27,7 @@ returns-clause-talks g c = since_weaker _ _ _ _ (c.converse.ensures.talks
 
 pub returns-clause-ends : goal.returns-clause-ends
 returns-clause-ends g c = c.converse.ensures.ends
-    (record { question = c.args.question; before = c.args.steps.now })
+    (record { question = c.args.question; before = c.args.comparisons.now })
     (record {
       asks = refl;
       known = c.requires;
@@ -37,7 +37,7 @@ returns-clause-ends g c = c.converse.ensures.ends
 
 pub returns-clause-count : goal.returns-clause-count
 returns-clause-count g c = since_weaker _ _ _ _ (c.converse.ensures.talks
-    (record { question = c.args.question; before = c.args.steps.now })
+    (record { question = c.args.question; before = c.args.comparisons.now })
     (record {
       asks = refl;
       known = c.requires;

@@ -1,5 +1,4 @@
-use Rattle.std.proofs.Common.{◌≡◌, ◌≤◌, ◌+◌, ◌*◌, take}
-use Rattle.std.specs.List.{sum_by}
+use Rattle.std.proofs.Common.{◌≡◌, ◌≤◌, ◌+◌, ◌*◌, take, sum_by}
 use Rattle.task_words.specs.budget.Budgets.{most_preempting, most_taking, task_at}
 use Rattle.task_words.proofs.budget.gets.most_gets.Given as goal
 

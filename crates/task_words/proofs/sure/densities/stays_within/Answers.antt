@@ -1,10 +1,9 @@
-use Rattle.std.proofs.Common.{◌≡◌, ◌≤◌, ◌<◌, ◌*◌, ◌⊎◌, inl, inr, List, length, ℕ, sym, ap, ◌∙◌, get_or, arith}
-use Rattle.std.specs.Prelude.{nat_le}
+use Rattle.std.proofs.Common.{◌≡◌, ◌≤◌, ◌<◌, ◌*◌, ◌⊎◌, inl, inr, List, length, ℕ, sym, ap, ◌∙◌, get_or, arith, nat_le}
 use Rattle.std.proofs.lemmas.Nat.{mul-le}
 use Rattle.std.proofs.lemmas.List.{length-map}
 use Rattle.std.proofs.lemmas.Bool.{cases_lt}
 use Rattle.dover_model.specs.Sure.{Stream, stream_at}
-use Rattle.dover_model.proofs.JobLimits.{ratio_limits}
+use Rattle.dover_model.proofs.valid.JobLimits.{ratio_limits}
 use Rattle.task_words.specs.sure.Kept.{AreSmall, IsSparsest, IsSmall}
 use Rattle.task_words.specs.declared.tasks.task.PeriodicTask.{PeriodicTask}
 use Rattle.task_words.specs.sure.Streams.{stream_of, streams_of}
@@ -55,7 +54,8 @@ pub overflow_mul-result-2 : goal.overflow_mul-result-2
 overflow_mul-result-2 c =
     let q : c.args.ratio.q ≤ 1_000 = (ratio_limits c.q.ensures.ratio).small_q in
     let value : c.args.value ≤ 1_000_000_000 = c.requires.value in
-    let there : c.rival-rival.result < length c.args.tasks.now = below c.args.tasks.now c.args.number c.rival-rival.result
+    let there : c.rival-rival.result < length c.args.tasks.now =
+    below c.args.tasks.now c.args.number c.rival-rival.result
     (c.rival-rival.ensures (streams_of c.args.tasks.now) c.requires.sparse
     (omega (arith, c.requires.number, length-map c.args.tasks.now stream_of))) c.if-rival-tasks.false in
     let work : (get_or c.args.tasks.now c.rival-rival.result blank_task).work ≤ 1_000_000_000_000 =
@@ -70,7 +70,8 @@ overflow_mul-result-2 c =
 pub overflow_mul-result-3 : goal.overflow_mul-result-3
 overflow_mul-result-3 c =
     let p : c.args.ratio.p ≤ 1_000_000 = (ratio_limits c.p.ensures.ratio).small_p in
-    let there : c.rival-rival.result < length c.args.tasks.now = below c.args.tasks.now c.args.number c.rival-rival.result
+    let there : c.rival-rival.result < length c.args.tasks.now =
+    below c.args.tasks.now c.args.number c.rival-rival.result
     (c.rival-rival.ensures (streams_of c.args.tasks.now) c.requires.sparse
     (omega (arith, c.requires.number, length-map c.args.tasks.now stream_of))) c.if-rival-tasks.false in
     let value : (get_or c.args.tasks.now c.rival-rival.result blank_task).value ≤ 1_000_000_000 =
@@ -84,7 +85,8 @@ overflow_mul-result-3 c =
 pub overflow_mul-result-4 : goal.overflow_mul-result-4
 overflow_mul-result-4 c =
     let p : c.args.ratio.p ≤ 1_000_000 = (ratio_limits c.p.ensures.ratio).small_p in
-    let there : c.rival-rival.result < length c.args.tasks.now = below c.args.tasks.now c.args.number c.rival-rival.result
+    let there : c.rival-rival.result < length c.args.tasks.now =
+    below c.args.tasks.now c.args.number c.rival-rival.result
     (c.rival-rival.ensures (streams_of c.args.tasks.now) c.requires.sparse
     (omega (arith, c.requires.number, length-map c.args.tasks.now stream_of))) c.if-rival-tasks.false in
     let value : (get_or c.args.tasks.now c.rival-rival.result blank_task).value ≤ 1_000_000_000 =
@@ -115,7 +117,8 @@ returns c =
     ∙ sym (ap (λ (s : Stream). s.work) (stream_there c.args.tasks.now c.args.number c.requires.number)) in
     let q : c.from-q.result ≡ c.args.ratio.q = c.from-q.ensures ∙ c.q.ensures.is in
     let p : c.from-p.result ≡ c.args.ratio.p = c.from-p.ensures ∙ c.p.ensures.is in
-    as_rival c.args.ratio (streams_of c.args.tasks.now) c.requires.small c.args.number known c.args.value c.rival-rival.result
+    as_rival c.args.ratio (streams_of c.args.tasks.now) c.requires.small c.args.number known c.args.value
+    c.rival-rival.result
     rival (λ e. c.if-rival-tasks.false (omega (arith, e, length-map c.args.tasks.now stream_of)))
     (nat_le (c.from-q.result * c.from.result * c.from-2.result) (c.from-p.result * c.from-3.result * c.from-4.result))
     (ap (λ x. nat_le (x * c.from.result * c.from-2.result) (c.from-p.result * c.from-3.result * c.from-4.result)) q
@@ -123,9 +126,12 @@ returns c =
     c.from.ensures
     ∙ ap (λ x. nat_le (c.args.ratio.q * c.args.value * x) (c.from-p.result * c.from-3.result * c.from-4.result))
     its_work
-    ∙ ap (λ x. nat_le (c.args.ratio.q * c.args.value * (stream_at (streams_of c.args.tasks.now) c.rival-rival.result).work)
+    ∙ ap (λ x. nat_le (c.args.ratio.q * c.args.value *
+    (stream_at (streams_of c.args.tasks.now) c.rival-rival.result).work)
     (x * c.from-3.result * c.from-4.result)) p
-    ∙ ap (λ x. nat_le (c.args.ratio.q * c.args.value * (stream_at (streams_of c.args.tasks.now) c.rival-rival.result).work)
+    ∙ ap (λ x. nat_le (c.args.ratio.q * c.args.value *
+    (stream_at (streams_of c.args.tasks.now) c.rival-rival.result).work)
     (c.args.ratio.p * x * c.from-4.result)) its_value
-    ∙ ap (λ x. nat_le (c.args.ratio.q * c.args.value * (stream_at (streams_of c.args.tasks.now) c.rival-rival.result).work)
+    ∙ ap (λ x. nat_le (c.args.ratio.q * c.args.value *
+    (stream_at (streams_of c.args.tasks.now) c.rival-rival.result).work)
     (c.args.ratio.p * (stream_at (streams_of c.args.tasks.now) c.rival-rival.result).value * x)) own_work)

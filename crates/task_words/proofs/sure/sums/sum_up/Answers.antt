@@ -1,8 +1,7 @@
-use Rattle.std.proofs.Common.{◌≡◌, ◌≤◌, ◌<◌, ◌+◌, ◌*◌, ◌∙◌, ℕ, List, ap, length, take, get_or, arith}
+use Rattle.std.proofs.Common.{◌≡◌, ◌≤◌, ◌<◌, ◌+◌, ◌*◌, ◌∙◌, ℕ, List, ap, length, take, get_or, arith, sum_by}
 use Rattle.std.proofs.lemmas.List.{length-map}
 use Rattle.std.proofs.lemmas.List.Sums.{sum_by_more}
 use Rattle.std.proofs.lemmas.Nat.{mul-le}
-use Rattle.std.specs.List.{sum_by}
 use Rattle.dover_model.specs.Sure.{most_crossing}
 use Rattle.task_words.specs.tasks.Merging.{blank_task}
 use Rattle.task_words.specs.declared.tasks.task.PeriodicTask.{PeriodicTask}

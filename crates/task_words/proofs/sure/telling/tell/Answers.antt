@@ -1,7 +1,6 @@
 use Rattle.std.proofs.Common.{◌∙◌, get_or, sym, ap, arith}
 use Rattle.std.proofs.lemmas.List.{length-map}
-use Rattle.dover_model.specs.Orders.{is_heavy}
-use Rattle.dover_model.specs.Sure.{Stream, is_spread}
+use Rattle.dover_model.specs.Common.{is_heavy, Stream, is_spread}
 use Rattle.root_compare.specs.Least.{least_heavy}
 use Rattle.task_words.specs.tasks.Merging.{blank_task}
 use Rattle.task_words.specs.sure.Lines.{raise_line}
@@ -20,7 +19,8 @@ returns-then-against-from c =
     ∙ sym c.is_spread.ensures ∙ c.if-not-is_spread.false) _
     (told_beyond c.args.together.now.ratio (streams_of c.args.tasks.now) c.args.number
     (most_against (streams_of c.args.tasks.now) c.args.number)
-    (c.requires.small.each c.args.number (omega (arith, c.requires.number, length-map c.args.tasks.now stream_of))).value
+    (c.requires.small.each c.args.number
+    (omega (arith, c.requires.number, length-map c.args.tasks.now stream_of))).value
     (omega (arith, c.if-against-from.true, c.from.ensures, c.most_against-against.ensures)))
 
 pub heavy-requires : goal.heavy-requires

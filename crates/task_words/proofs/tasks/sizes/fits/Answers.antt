@@ -1,18 +1,16 @@
 use Rattle.std.proofs.Common.{◌≡◌, ◌<◌, ◌≤◌, ◌+◌, ◌-◌, ◌*◌, ℕ, List, length, take, get_or, IsTrue, false, refl, ap}
-use Rattle.std.proofs.Common.{arith}
+use Rattle.std.proofs.Common.{arith, take_all}
 use Rattle.std.specs.List.{AllByRecursion}
-use Rattle.std.proofs.lemmas.List.{take_all}
-use Rattle.std.proofs.lemmas.List.Sums.{sum_by_more_le}
-use Rattle.dover_model.proofs.Tests.{never}
-use Rattle.dover_model.proofs.Valid.{all_from}
+use Rattle.std.proofs.lemmas.List.Sums.{sum_by_more_le, sum_by_more}
+use Rattle.dover_model.proofs.lists.Tests.{never}
+use Rattle.dover_model.proofs.valid.Valid.{all_from}
 use Rattle.task_words.specs.tasks.Limits.{Fits, IsTask, counts, worths}
 use Rattle.dover_model.specs.Instance.{total_value}
 use Rattle.task_words.specs.tasks.Tasks.{count_before, jobs_before}
 use Rattle.task_words.specs.declared.tasks.task.PeriodicTask.{PeriodicTask}
 use Rattle.task_words.proofs.tasks.Counting.{HavePeriods, jobs_counted, jobs_worth}
 use Rattle.std.proofs.lemmas.Nat.{mul-le}
-use Rattle.std.proofs.lemmas.List.Sums.{sum_by_more}
-use Rattle.dover_model.proofs.JobLimits.{job_limits}
+use Rattle.dover_model.proofs.valid.JobLimits.{job_limits}
 use Rattle.task_words.specs.tasks.Merging.{blank_task}
 use Rattle.task_words.proofs.tasks.Merging.{all_of}
 use Rattle.task_words.proofs.tasks.sizes.fits.Goals as goal

@@ -1,8 +1,7 @@
-use Rattle.std.proofs.Common.{is_some, arith}
+use Rattle.std.proofs.Common.{is_some, arith, ◌+◌, ◌-◌, ◌++◌, ◌∙◌, ℕ, zero, suc, List, [], Option, None, length}
+use Rattle.std.proofs.Common.{replicate, get_or, ◌≡◌, ap, refl, length-set, set, subst, sym, get_or-set_other}
 use Rattle.std.proofs.lemmas.List.Sums.{count_by-le-length}
-use Rattle.std.proofs.Common.{◌+◌, ◌-◌, ◌++◌, ◌∙◌, ℕ, zero, suc, List, [], Option, None, length, replicate, get_or}
-use Rattle.std.proofs.Common.{◌≡◌, ap, refl, length-set, set, subst, sym}
-use Rattle.std.proofs.lemmas.List.{get_or-set_other, length-replicate}
+use Rattle.std.proofs.lemmas.List.{length-replicate}
 use Rattle.place_heap.specs.Items.{ItemFacts}
 use Rattle.std.proofs.Math.Nat.{mul-le-mul_left}
 use Rattle.task_words.specs.tasks.Merging.{IsNext, blank_task, kept_release}

@@ -9,5 +9,5 @@ invariant-loop-task g l = record {
   size : length l.next ≡ length l.tasks;
   kept : (n : ℕ) → n < l.task-index → IsNext l.until n (get_or l.tasks n blank_task) 0 (get_or l.next n None);
   rest : (n : ℕ) → l.task-index ≤ n → get_or l.next n None ≡ None;
-  count : (d : ℕ) → length l.tasks + 1 < 2 ^ d → l.steps ≤ l.initial.steps + d * l.task-index;
+  count : (d : ℕ) → length l.tasks + 1 < 2 ^ d → l.comparisons ≤ l.initial.comparisons + d * l.task-index;
 }

@@ -1,5 +1,4 @@
-use Rattle.std.proofs.Common.{◌∙◌, ap, sym, set, cond, Some, None}
-use Rattle.std.proofs.lemmas.Bool.{le-ltb}
+use Rattle.std.proofs.Common.{◌∙◌, ap, sym, set, cond, Some, None, le-ltb}
 use Rattle.std.proofs.lemmas.List.{set-get_or}
 use Rattle.task_words.specs.tasks.Merging.{release_item}
 use Rattle.task_words.proofs.tasks.unrolling.keep_release.Goals as goal

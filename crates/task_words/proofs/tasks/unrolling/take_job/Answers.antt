@@ -1,12 +1,8 @@
-use Rattle.std.proofs.Common.{◌∙◌, ap, None, set, length, length-set, is_some, arith}
+use Rattle.std.proofs.Common.{◌∙◌, ap, None, set, length, length-set, is_some, arith, get_or, refl, get_or-set_same}
 use Rattle.std.proofs.lemmas.List.Sums.{count_by-le-length}
-use Rattle.task_words.specs.tasks.Merging.{merge}
-use Rattle.task_words.proofs.tasks.Merging.{none_given, given_within, room_given, read_next, read_some}
-use Rattle.std.proofs.Common.{get_or, refl}
-use Rattle.std.proofs.lemmas.List.{get_or-set_same}
-use Rattle.dover_model.proofs.JobLimits.{job_limits}
-use Rattle.task_words.specs.tasks.Merging.{blank_task}
-use Rattle.task_words.proofs.tasks.Merging.{given_job}
+use Rattle.task_words.specs.tasks.Merging.{merge, blank_task}
+use Rattle.task_words.proofs.tasks.Merging.{none_given, given_within, room_given, read_next, read_some, given_job}
+use Rattle.dover_model.proofs.valid.JobLimits.{job_limits}
 use Rattle.task_words.proofs.tasks.unrolling.take_job.Goals as goal
 
 pub returns-in_default-clause-end : goal.returns-in_default-clause-end

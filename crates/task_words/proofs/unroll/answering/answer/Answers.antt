@@ -1,16 +1,14 @@
-use Rattle.std.proofs.Common.{refl, arith}
+use Rattle.std.proofs.Common.{refl, arith, ◌≤◌, length, sym, subst}
 use Rattle.dover_port.specs.declared.status.Status.TheVariants.{Done, Refused}
-use Rattle.task_words.specs.tasks.Tasks.{unrolled}
+use Rattle.task_words.specs.tasks.Tasks.{unrolled, jobs_before}
 use Rattle.task_words.specs.reading.Record.{listed_rules}
 use Rattle.event_feed.specs.Feeds.{feed_of}
 use Rattle.dialogue.specs.Sizes.{size_text}
 use Rattle.task_words.proofs.unroll.Ending.{says_feed, passed, not_passed}
 use Rattle.task_words.proofs.unroll.Spending.{unroll_costs}
-use Rattle.std.proofs.Common.{◌≤◌, length, sym, subst}
 use Rattle.std.specs.List.{AllByRecursion}
 use Rattle.dover_port.proofs.Made.{since_none}
 use Rattle.task_words.specs.tasks.Limits.{IsTask}
-use Rattle.task_words.specs.tasks.Tasks.{jobs_before}
 use Rattle.task_words.proofs.unroll.answering.answer.Goals as goal
 
 pub returns-in-Ok-clause-says : goal.returns-in-Ok-clause-says

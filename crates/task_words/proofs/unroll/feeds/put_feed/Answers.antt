@@ -1,9 +1,8 @@
-use Rattle.std.proofs.Common.{◌∙◌}
+use Rattle.std.proofs.Common.{◌∙◌, arith}
 use Rattle.dover_model.specs.Feed.{rules_with}
 use Rattle.dialogue.proofs.Putting.{puts_behind, puts_cut}
 use Rattle.task_words.specs.tasks.Tasks.{unrolled}
 use Rattle.dialogue.proofs.lines.FeedTexts.{feed_through}
-use Rattle.std.proofs.Common.{arith}
 use Rattle.std.proofs.lemmas.Result.{on_ok_weaker, on_err_weaker}
 use Rattle.task_words.proofs.unroll.feeds.put_feed.Goals as goal
 

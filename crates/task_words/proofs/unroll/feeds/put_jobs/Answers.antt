@@ -1,8 +1,6 @@
-use Rattle.std.proofs.Common.{refl, ap, ◌∙◌, ◌∷◌, ◌++◌, [], ◌+◌, length, length-append, arith}
+use Rattle.std.proofs.Common.{refl, ap, ◌∙◌, ◌∷◌, ◌++◌, [], ◌+◌, length, length-append, arith, sym, subst, append-nil}
 use Rattle.task_words.proofs.unroll.Putting.{put_all, put_few, put_more, put_cut, same_jobs}
 use Rattle.task_words.proofs.unroll.Spending.{came_few, all_cost}
-use Rattle.std.proofs.Common.{sym, subst}
-use Rattle.std.proofs.lemmas.List.{append-nil}
 use Rattle.std.specs.List.{AllByRecursion}
 use Rattle.dover_port.proofs.Made.{since_none}
 use Rattle.task_words.specs.tasks.Limits.{IsTask}

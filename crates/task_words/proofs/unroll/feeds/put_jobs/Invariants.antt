@@ -7,7 +7,8 @@ use Rattle.task_words.proofs.unroll.feeds.put_jobs.Given as goal
 abbrev pub invariant-loop-count : goal.invariant-loop-count
 invariant-loop-count g l = record {
   put : HasPut l.unrolling (g.P.Port.moves l.initial.port) (g.P.Port.moves l.port) l.initial.out l.out l.count;
-  spent : (d : ℕ) → length l.initial.unrolling.tasks + 1 < 2 ^ d → l.steps ≤ l.initial.steps + 4 * d * l.count;
+  spent : (d : ℕ) → length l.initial.unrolling.tasks + 1 < 2 ^ d → l.comparisons ≤ l.initial.comparisons
+      + 4 * d * l.count;
   tasks : l.unrolling.tasks ≡ l.initial.unrolling.tasks;
   until : l.unrolling.until ≡ l.initial.unrolling.until;
   writes : g.P.Port.write_faults l.port ≡ g.P.Port.write_faults l.initial.port;

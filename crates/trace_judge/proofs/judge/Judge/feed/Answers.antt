@@ -1,6 +1,6 @@
 use Rattle.std.proofs.Common.{◌≡◌, sym, ap, ◌∙◌}
 use Rattle.std.proofs.lemmas.List.{take_rest}
-use Rattle.dover_model.proofs.Tests.{never}
+use Rattle.dover_model.proofs.lists.Tests.{never}
 use Rattle.trace_judge.specs.declared.judge.Found.TheVariants.{Good, NoMemory}
 use Rattle.trace_judge.specs.Judging.{Judged}
 use Rattle.trace_judge.proofs.Judging.{err_of, none_of, wrong_fed, good_not_wrong, stands_good, stands_not}
@@ -15,8 +15,8 @@ returns-in-Wrong-clause-fed g c =
 
 pub returns-in_err-count-clause-room : goal.returns-in_err-count-clause-room
 returns-in_err-count-clause-room g c = err_of c.from_residual.result c.from_residual.ensures.0
-    (overfed_rest c.args.self.now c.loop-rest.self c.args.piece.now c.loop-rest.rest.now c.args.steps.now
-    c.loop-rest.steps c.loop-rest.invariant
+    (overfed_rest c.args.self.now c.loop-rest.self c.args.piece.now c.loop-rest.rest.now c.args.comparisons.now
+    c.loop-rest.comparisons c.loop-rest.invariant
     c.in_err-count.ensures.room)
 
 pub returns-in_err-count-clause-decided : goal.returns-in_err-count-clause-decided
@@ -26,26 +26,29 @@ returns-in_err-count-clause-decided g c text stands wrong =
 
 pub loop-rest-preserved : goal.loop-rest-preserved
 loop-rest-preserved g c = rw take_rest
-    (fed_some c.args.self.now c.loop-rest.self c.args.piece.now c.loop-rest.rest.now c.args.steps.now c.loop-rest.steps
+    (fed_some c.args.self.now c.loop-rest.self c.args.piece.now c.loop-rest.rest.now c.args.comparisons.now
+    c.loop-rest.comparisons
     c.loop-rest.invariant c.take.new.self
-    c.in_ok-count.count c.take.new.steps c.in_ok-count.ensures.fed c.in_ok-count.ensures.paid)
+    c.in_ok-count.count c.take.new.comparisons c.in_ok-count.ensures.fed c.in_ok-count.ensures.paid)
 
 pub returns-in_err-count-clause-paid : goal.returns-in_err-count-clause-paid
 returns-in_err-count-clause-paid g c =
-    pays_rest c.args.self.now c.loop-rest.self c.args.piece.now c.loop-rest.rest.now c.args.steps.now c.loop-rest.steps
-    c.loop-rest.invariant c.take.new.self c.take.new.steps c.in_err-count.ensures.spent
+    pays_rest c.args.self.now c.loop-rest.self c.args.piece.now c.loop-rest.rest.now c.args.comparisons.now
+    c.loop-rest.comparisons
+    c.loop-rest.invariant c.take.new.self c.take.new.comparisons c.in_err-count.ensures.spent
 
 pub returns-clause-paid : goal.returns-clause-paid
 returns-clause-paid g c =
-    pays_rest c.args.self.now c.loop-rest.self c.args.piece.now c.loop-rest.rest.now c.args.steps.now c.loop-rest.steps
-    c.loop-rest.invariant c.loop-rest.self c.loop-rest.steps
-    (pays_none c.loop-rest.self c.loop-rest.rest.now c.loop-rest.steps)
+    pays_rest c.args.self.now c.loop-rest.self c.args.piece.now c.loop-rest.rest.now c.args.comparisons.now
+    c.loop-rest.comparisons
+    c.loop-rest.invariant c.loop-rest.self c.loop-rest.comparisons
+    (pays_none c.loop-rest.self c.loop-rest.rest.now c.loop-rest.comparisons)
 
 pub returns-in-Wrong-clause-paid : goal.returns-in-Wrong-clause-paid
-returns-in-Wrong-clause-paid g c = pays_none c.args.self.now c.args.piece.now c.args.steps.now
+returns-in-Wrong-clause-paid g c = pays_none c.args.self.now c.args.piece.now c.args.comparisons.now
 
 pub returns-in-NoMemory-clause-paid : goal.returns-in-NoMemory-clause-paid
-returns-in-NoMemory-clause-paid g c = pays_none c.args.self.now c.args.piece.now c.args.steps.now
+returns-in-NoMemory-clause-paid g c = pays_none c.args.self.now c.args.piece.now c.args.comparisons.now
 
 pub returns-in_err-count-clause-fed : goal.returns-in_err-count-clause-fed
 returns-in_err-count-clause-fed g c = none_of _ c.from_residual.result c.from_residual.ensures.0

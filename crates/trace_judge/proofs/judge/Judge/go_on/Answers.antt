@@ -1,10 +1,10 @@
 use Rattle.std.proofs.Common.{◌≡◌, ◌<◌, length, sym, ap, ◌∙◌, subst, arith, false}
 use Rattle.dover_model.specs.Lines.{whole_lines}
 use Rattle.dover_model.specs.Verdict as model
-use Rattle.dover_model.proofs.Tests.{never}
+use Rattle.dover_model.proofs.lists.Tests.{never}
 use Rattle.line_text.specs.Cutting.{is_over}
-use Rattle.trace_judge.specs.declared.stage.Stage.TheVariants.{Ended}
-use Rattle.line_text.specs.declared.cutting.Step.TheVariants.{More}
+use Rattle.trace_judge.specs.declared.stage.TraceStage.TheVariants.{Ended}
+use Rattle.line_text.specs.declared.cutting.ByteEffect.TheVariants.{More}
 use Rattle.trace_judge.specs.Judging.{Judged, IsCut}
 use Rattle.trace_judge.specs.Reads.{Reads}
 use Rattle.trace_judge.proofs.Readings.{reads_ahead, ends_of, ended_due}

@@ -1,7 +1,6 @@
 use Rattle.std.proofs.Common.{ap, sym, ◌∙◌, subst}
-use Rattle.trace_judge.specs.Reads.{IsPaid}
+use Rattle.trace_judge.specs.Reads.{IsPaid, Reading, ReadsAhead}
 use Rattle.trace_judge.specs.declared.judge.Found.TheVariants.{Wrong}
-use Rattle.trace_judge.specs.Reads.{Reading, ReadsAhead}
 use Rattle.trace_judge.specs.Judging.{Judged}
 use Rattle.trace_judge.proofs.judge.Judge.miss.Goals as goal
 
@@ -26,4 +25,4 @@ returns-clause-kept g c = record {
 
 pub returns-clause-paid : goal.returns-clause-paid
 returns-clause-paid g c start paid = c.due-expected.ensures.paid start
-    (subst (λ (j : Judged). IsPaid j.reader start c.args.steps.now) (sym c.self.view_is) paid)
+    (subst (λ (j : Judged). IsPaid j.reader start c.args.comparisons.now) (sym c.self.view_is) paid)

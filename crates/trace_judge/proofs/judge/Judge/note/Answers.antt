@@ -1,5 +1,4 @@
-use Rattle.std.proofs.Common.{ap, sym, ◌∙◌, subst, refl}
-use Rattle.std.specs.Prelude.{Ok, IsOk, IsErr}
+use Rattle.std.proofs.Common.{ap, sym, ◌∙◌, subst, refl, Ok, IsOk, IsErr}
 use Rattle.trace_judge.specs.declared.judge.Found.TheVariants.{NoMemory}
 use Rattle.trace_judge.specs.Reads.{IsPaid}
 use Rattle.trace_judge.specs.Judging.{Judged, Notes, Misses}
@@ -33,7 +32,7 @@ returns-in_default-clause-err g c = subst IsErr (sym c.in_default.is) refl
 
 pub returns-in_default-clause-paid : goal.returns-in_default-clause-paid
 returns-in_default-clause-paid g c start paid =
-    subst (λ (j : Judged). IsPaid j.reader start c.args.steps.now) (sym c.self.view_is) paid
+    subst (λ (j : Judged). IsPaid j.reader start c.args.comparisons.now) (sym c.self.view_is) paid
 
 pub returns-then-good-clause-kept : goal.returns-then-good-clause-kept
 returns-then-good-clause-kept g c = record { keep = refl; spare = refl; jobs = refl }

@@ -13,10 +13,10 @@ returns-in-Wrong-clause-fed g c =
 
 pub returns-in-Wrong-clause-paid : goal.returns-in-Wrong-clause-paid
 returns-in-Wrong-clause-paid g c =
-    pays_none c.args.self.now (take (length c.args.bytes.now) c.args.bytes.now) c.args.steps.now
+    pays_none c.args.self.now (take (length c.args.bytes.now) c.args.bytes.now) c.args.comparisons.now
 
 pub returns-in-NoMemory-clause-spent : goal.returns-in-NoMemory-clause-spent
-returns-in-NoMemory-clause-spent g c = pays_none c.args.self.now c.args.bytes.now c.args.steps.now
+returns-in-NoMemory-clause-spent g c = pays_none c.args.self.now c.args.bytes.now c.args.comparisons.now
 
 pub returns-in-Good-clause-fed : goal.returns-in-Good-clause-fed
 returns-in-Good-clause-fed g c = c.take_front.ensures.fed

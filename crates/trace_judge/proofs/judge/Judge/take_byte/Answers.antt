@@ -1,8 +1,7 @@
 use Rattle.std.proofs.Common.{◌<◌, ◌++◌, ◌∷◌, [], ℕ, List, length, sym, ap, ◌∙◌, subst, arith}
-use Rattle.line_text.specs.declared.cutting.Step.TheVariants.{More, Line, TooLong}
+use Rattle.line_text.specs.declared.cutting.ByteEffect.TheVariants.{More, Line, TooLong}
 use Rattle.line_text.specs.Cutting.{Cutting}
-use Rattle.trace_judge.specs.Reads.{IsPaid}
-use Rattle.trace_judge.specs.Reads.{Reading, job_lines_in}
+use Rattle.trace_judge.specs.Reads.{IsPaid, Reading, job_lines_in}
 use Rattle.trace_judge.specs.Judging.{Judged, StandsFor, IsGood, IsCut, Fed, IsOverfed, HasPaidFor}
 use Rattle.trace_judge.proofs.Judging.{stands_good, ok_onto, err_onto, some_line, is_cut, named_ended, named_more}
 use Rattle.trace_judge.proofs.judge.Judge.take_byte.Goals as goal
@@ -83,7 +82,7 @@ returns-in-TooLong-clause-fed g c =
 
 pub returns-in-Line-clause-paid : goal.returns-in-Line-clause-paid
 returns-in-Line-clause-paid g c = λ text start stands it.
-    let was = subst (λ j. HasPaidFor j text start c.args.steps.now) (sym c.self.view_is) it in
+    let was = subst (λ j. HasPaidFor j text start c.args.comparisons.now) (sym c.self.view_is) it in
     let good = subst (λ j. IsGood j text) (sym c.self.view_is)
     (stands_good c.args.self.now text c.requires.good stands) in
     record {
@@ -102,9 +101,9 @@ returns-in-Line-clause-paid g c = λ text start stands it.
 
 pub returns-in-More-clause-paid : goal.returns-in-More-clause-paid
 returns-in-More-clause-paid g c = λ text start stands it.
-    let was = subst (λ j. HasPaidFor j text start c.args.steps.now) (sym c.self.view_is) it in
+    let was = subst (λ j. HasPaidFor j text start c.args.comparisons.now) (sym c.self.view_is) it in
     record {
-      paid = subst (λ (r : Reading). IsPaid r start c.args.steps.now) (sym c.go_on.ensures.reader) was.paid;
+      paid = subst (λ (r : Reading). IsPaid r start c.args.comparisons.now) (sym c.go_on.ensures.reader) was.paid;
       few = omega (
         arith,
         ap (λ (r : Reading). r.course.jobs) c.go_on.ensures.reader,
@@ -115,7 +114,7 @@ returns-in-More-clause-paid g c = λ text start stands it.
 
 pub returns-in-TooLong-clause-paid : goal.returns-in-TooLong-clause-paid
 returns-in-TooLong-clause-paid g c = λ text start stands it.
-    let was = subst (λ j. HasPaidFor j text start c.args.steps.now) (sym c.self.view_is) it in
+    let was = subst (λ j. HasPaidFor j text start c.args.comparisons.now) (sym c.self.view_is) it in
     record {
       paid = c.overrun.ensures.paid start was.paid;
       few = omega (arith, c.overrun.ensures.kept.jobs, was.few, named_more text (c.args.byte ∷ []));

@@ -19,19 +19,20 @@ returns-in_err-take_byte-clause-room g c =
 
 pub returns-in_err-take_whole-clause-spent : goal.returns-in_err-take_whole-clause-spent
 returns-in_err-take_whole-clause-spent g c = err_of c.from_residual.result c.from_residual.ensures.0
-    (pays_front c.args.self.now c.take_whole.new.self c.front-count.result c.args.bytes.now c.args.steps.now
-    c.take_whole.new.steps c.in_err-take_whole.ensures.paid)
+    (pays_front c.args.self.now c.take_whole.new.self c.front-count.result c.args.bytes.now c.args.comparisons.now
+    c.take_whole.new.comparisons c.in_err-take_whole.ensures.paid)
 
 pub returns-in_err-take_byte-clause-spent : goal.returns-in_err-take_byte-clause-spent
 returns-in_err-take_byte-clause-spent g c =
     err_of c.from_residual-in_err-take_byte.result c.from_residual-in_err-take_byte.ensures.0
-    (pays_front c.args.self.now c.take_byte.new.self 1 c.args.bytes.now c.args.steps.now c.take_byte.new.steps
-    (subst (λ l. PaysFor c.args.self.now c.take_byte.new.self l c.args.steps.now c.take_byte.new.steps)
+    (pays_front c.args.self.now c.take_byte.new.self 1 c.args.bytes.now c.args.comparisons.now
+    c.take_byte.new.comparisons
+    (subst (λ l. PaysFor c.args.self.now c.take_byte.new.self l c.args.comparisons.now c.take_byte.new.comparisons)
     (sym (take_more c.args.bytes.now 0 0 c.requires.some)) c.in_err-take_byte.ensures.paid))
 
 pub returns-clause-paid : goal.returns-clause-paid
 returns-clause-paid g c =
-    subst (λ l. PaysFor c.args.self.now c.take_byte.new.self l c.args.steps.now c.take_byte.new.steps)
+    subst (λ l. PaysFor c.args.self.now c.take_byte.new.self l c.args.comparisons.now c.take_byte.new.comparisons)
     (sym (take_more c.args.bytes.now 0 0 c.requires.some)) c.take_byte.ensures.paid
 
 pub returns-in_err-take_whole-clause-fed : goal.returns-in_err-take_whole-clause-fed

@@ -1,7 +1,6 @@
 use Rattle.std.proofs.Common.{arith, ap, sym, ◌∙◌, subst}
-use Rattle.line_text.specs.declared.cutting.Step.TheVariants.{Line}
-use Rattle.trace_judge.specs.Reads.{IsPaid}
-use Rattle.trace_judge.specs.Reads.{job_lines_in}
+use Rattle.line_text.specs.declared.cutting.ByteEffect.TheVariants.{Line}
+use Rattle.trace_judge.specs.Reads.{IsPaid, job_lines_in}
 use Rattle.trace_judge.specs.Judging.{Judged, IsCut}
 use Rattle.trace_judge.proofs.Judging.{ok_onto, err_onto}
 use Rattle.trace_judge.proofs.EndedLines.{noted_stands, unroomed}
@@ -45,4 +44,4 @@ returns-clause-jobs g c = omega (
 
 pub returns-clause-paid : goal.returns-clause-paid
 returns-clause-paid g c start paid = c.note.ensures.paid start (c.take-taken.ensures.paid start
-    (subst (λ (j : Judged). IsPaid j.reader start c.args.steps.now) (sym c.self.view_is) paid))
+    (subst (λ (j : Judged). IsPaid j.reader start c.args.comparisons.now) (sym c.self.view_is) paid))

@@ -30,7 +30,7 @@ returns-clause-room g c = err_onto c.note.result c.note.ensures.err (λ err.
 
 pub returns-clause-paid : goal.returns-clause-paid
 returns-clause-paid g c = λ text start stands it.
-    let was = subst (λ j. HasPaidFor j text start c.args.steps.now) (sym c.self.view_is) it in
+    let was = subst (λ j. HasPaidFor j text start c.args.comparisons.now) (sym c.self.view_is) it in
     let good = subst (λ j. IsGood j text) (sym c.self.view_is)
     (stands_good c.args.self.now text c.requires.good stands) in
     record {

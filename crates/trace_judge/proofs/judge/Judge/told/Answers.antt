@@ -1,6 +1,6 @@
 use Rattle.std.proofs.Common.{sym, ap, ◌∙◌, subst, Vec, Global}
 use Rattle.dover_model.specs.declared.events.Event.{Event}
-use Rattle.dover_model.proofs.Tests.{never}
+use Rattle.dover_model.proofs.lists.Tests.{never}
 use Rattle.trace_judge.specs.Judging.{Judged, Tells, steps_told}
 use Rattle.dover_model.specs.Lines.{whole_lines}
 use Rattle.trace_judge.specs.Reads.{Ends}

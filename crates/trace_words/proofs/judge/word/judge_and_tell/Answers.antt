@@ -5,23 +5,23 @@ use Rattle.trace_words.proofs.judge.word.judge_and_tell.Goals as goal
 
 pub converse-requires : goal.converse-requires
 converse-requires g c = let new = c.in-Ok.ensures in (
-  record { teller = c.args.teller; start = c.args.steps.now },
+  record { teller = c.args.teller; start = c.args.comparisons.now },
   ready_none _ _ _ _ new.stands new.paid (new.keep ∙ c.requires),
 )
 
 pub returns-clause-talks : goal.returns-clause-talks
 returns-clause-talks g c = let new = c.in-Ok.ensures in since_weaker _ _ _ _ (c.converse.ensures.talks
-    (record { teller = c.args.teller; start = c.args.steps.now })
+    (record { teller = c.args.teller; start = c.args.comparisons.now })
     (ready_none _ _ _ _ new.stands new.paid (new.keep ∙ c.requires))) (λ moves it. it.0)
 
 pub returns-clause-count : goal.returns-clause-count
 returns-clause-count g c = let new = c.in-Ok.ensures in since_weaker _ _ _ _ (c.converse.ensures.talks
-    (record { teller = c.args.teller; start = c.args.steps.now })
+    (record { teller = c.args.teller; start = c.args.comparisons.now })
     (ready_none _ _ _ _ new.stands new.paid (new.keep ∙ c.requires))) (λ moves it. it.1)
 
 pub returns-clause-ends : goal.returns-clause-ends
 returns-clause-ends g c = let new = c.in-Ok.ensures in
-    c.converse.ensures.ends (record { teller = c.args.teller; start = c.args.steps.now })
+    c.converse.ensures.ends (record { teller = c.args.teller; start = c.args.comparisons.now })
     (ready_none _ _ _ _ new.stands new.paid (new.keep ∙ c.requires))
 
 pub returns-clause-causes : goal.returns-clause-causes

@@ -1,6 +1,6 @@
 use Rattle.std.proofs.Common.{◌∙◌, refl, sym, ap}
 use Rattle.dover_model.specs.Session.{may_finish_early}
-use Rattle.dover_model.proofs.Limiting.{listable}
+use Rattle.dover_model.proofs.valid.Limiting.{listable}
 use Rattle.trace_words.proofs.report.word.is_small.Goals as goal
 
 pub returns : goal.returns

@@ -1,9 +1,7 @@
-use Rattle.std.proofs.Common.{Some, sym, ap, ◌∙◌, subst, arith}
-use Rattle.std.specs.List.{slice_get}
+use Rattle.std.proofs.Common.{Some, sym, ap, ◌∙◌, subst, arith, slice_get}
 use Rattle.dover_model.specs.Orders.{starts_before, first}
-use Rattle.dover_model.proofs.Members.{some_same}
-use Rattle.waiting_pool.specs.Pools.{HaveOwnNumbers, AreModest}
-use Rattle.waiting_pool.specs.Pools.{Pooled}
+use Rattle.dover_model.proofs.lists.Members.{some_same}
+use Rattle.waiting_pool.specs.Pools.{HaveOwnNumbers, AreModest, Pooled}
 use Rattle.waiting_pool.specs.Slots.{seen}
 use Rattle.waiting_pool.proofs.Pooling.{latest_none, latest_found, within}
 use Rattle.waiting_pool.proofs.pool.Pool.first_latest.Goals as goal

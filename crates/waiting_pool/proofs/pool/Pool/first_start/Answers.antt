@@ -1,9 +1,7 @@
 use Rattle.std.proofs.Common.{Some, sym, ap, ◌∙◌, subst, option_map}
-use Rattle.dover_model.specs.State.{latest_start}
-use Rattle.dover_model.specs.Orders.{starts_before, first}
+use Rattle.dover_model.specs.Common.{latest_start, starts_before, first}
 use Rattle.place_heap.specs.Items.{ItemFacts}
-use Rattle.waiting_pool.specs.Pools.{HaveOwnNumbers, AreModest}
-use Rattle.waiting_pool.specs.Pools.{Pooled}
+use Rattle.waiting_pool.specs.Pools.{HaveOwnNumbers, AreModest, Pooled}
 use Rattle.waiting_pool.proofs.Pooling.{latest_none, latest_found}
 use Rattle.waiting_pool.proofs.pool.Pool.first_start.Goals as goal
 

@@ -1,11 +1,9 @@
-use Rattle.std.proofs.Common.{◌∷◌, ◌+◌, ◌<◌, ◌^◌, Some, sym, ap, ◌∙◌, subst, length, arith}
-use Rattle.std.specs.List.{slice_get}
+use Rattle.std.proofs.Common.{◌∷◌, ◌+◌, ◌<◌, ◌^◌, Some, sym, ap, ◌∙◌, subst, length, arith, slice_get}
 use Rattle.dover_model.specs.Orders.{due_first, first}
-use Rattle.dover_model.proofs.Members.{some_same}
-use Rattle.dover_model.proofs.Tests.{none_is_some}
+use Rattle.dover_model.proofs.lists.Members.{some_same}
+use Rattle.dover_model.proofs.lists.Tests.{none_is_some}
 use Rattle.waiting_pool.specs.Reordered.{IsReordered}
-use Rattle.waiting_pool.specs.Pools.{HaveOwnNumbers, AreModest}
-use Rattle.waiting_pool.specs.Pools.{Pooled, jobs_at}
+use Rattle.waiting_pool.specs.Pools.{HaveOwnNumbers, AreModest, Pooled, jobs_at}
 use Rattle.waiting_pool.proofs.Pooling.{due_none, due_found, within}
 use Rattle.waiting_pool.proofs.pool.Pool.take_deadline.Goals as goal
 

@@ -1,10 +1,8 @@
-use Rattle.std.proofs.Common.{◌∷◌, ◌+◌, ◌<◌, ◌^◌, Some, sym, ap, ◌∙◌, subst, length, arith}
-use Rattle.std.specs.List.{slice_get}
+use Rattle.std.proofs.Common.{◌∷◌, ◌+◌, ◌<◌, ◌^◌, Some, sym, ap, ◌∙◌, subst, length, arith, slice_get}
 use Rattle.dover_model.specs.Orders.{starts_before, first}
-use Rattle.dover_model.proofs.Tests.{none_is_some}
+use Rattle.dover_model.proofs.lists.Tests.{none_is_some}
 use Rattle.waiting_pool.specs.Reordered.{IsReordered}
-use Rattle.waiting_pool.specs.Pools.{HaveOwnNumbers, AreModest}
-use Rattle.waiting_pool.specs.Pools.{Pooled, jobs_at}
+use Rattle.waiting_pool.specs.Pools.{HaveOwnNumbers, AreModest, Pooled, jobs_at}
 use Rattle.waiting_pool.proofs.Pooling.{latest_none, latest_found}
 use Rattle.waiting_pool.proofs.pool.Pool.take_latest.Goals as goal
 

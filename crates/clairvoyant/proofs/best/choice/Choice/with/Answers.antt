@@ -1,14 +1,13 @@
 use Rattle.std.proofs.Common.{◌≡◌, ◌+◌, ◌++◌, ◌∷◌, [], length, ap, sym, subst, arith, ◌∙◌}
-use Rattle.dover_model.specs.Instance.{IsInOrder}
-use Rattle.dover_model.specs.Pieces.{edf, stretches}
+use Rattle.dover_model.specs.Common.{IsInOrder, edf, stretches}
 use Rattle.clairvoyant.specs.feasible.Feasibility.{IsAnswer, ServesAll}
 use Rattle.clairvoyant.specs.best.BestSet.{RiseWithin, value_of, jobs_at}
 use Rattle.clairvoyant.proofs.best.Rising.{rise_length, rise_wider}
 use Rattle.clairvoyant.proofs.best.Values.{get_is, value_few}
 use Rattle.clairvoyant.proofs.best.Lifting.{jobs_few, order_at}
 use Rattle.clairvoyant.proofs.best.Searching.{jobs_grow, rise_all, rise_with, value_with, not_good}
-use Rattle.dover_model.proofs.ValidParts.{order_parts, order_from}
-use Rattle.dover_model.proofs.JobLimits.{job_limits}
+use Rattle.dover_model.proofs.valid.ValidParts.{order_parts, order_from}
+use Rattle.dover_model.proofs.valid.JobLimits.{job_limits}
 use Rattle.clairvoyant.proofs.best.choice.Choice.with.Goals as goal
 
 pub judge_feasible-requires-clause-in_order : goal.judge_feasible-requires-clause-in_order

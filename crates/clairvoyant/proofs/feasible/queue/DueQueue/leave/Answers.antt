@@ -1,10 +1,7 @@
-use Rattle.std.proofs.Common.{length-set}
-use Rattle.std.proofs.Common.{◌≡◌, ℕ, ◌∷◌, List, length, ap, sym, ◌∙◌, subst, arith, heap_items}
-use Rattle.std.specs.Prelude.{slice_set}
+use Rattle.std.proofs.Common.{length-set, ◌≡◌, ℕ, ◌∷◌, List, length, ap, sym, ◌∙◌, subst, arith, heap_items, slice_set}
 use Rattle.clairvoyant.specs.feasible.Queue.{Kept, QueueFacts, kept_of, IsInTurn, IsTakenOut}
 use Rattle.clairvoyant.proofs.feasible.Keeping.{IsPopped, popped, first_turn, first_low, changed_in_turn}
-use Rattle.clairvoyant.proofs.feasible.Keeping.{popped_in_turn}
-use Rattle.clairvoyant.proofs.feasible.Keeping.{left_some, left_none}
+use Rattle.clairvoyant.proofs.feasible.Keeping.{popped_in_turn, left_some, left_none}
 use Rattle.clairvoyant.proofs.feasible.queue.DueQueue.leave.Goals as goal
 
 pub index_mut-requires : goal.index_mut-requires

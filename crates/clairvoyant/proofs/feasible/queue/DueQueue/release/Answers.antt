@@ -1,6 +1,5 @@
-use Rattle.std.proofs.Common.{◌+◌, ◌^◌, ◌<◌, ◌∙◌, length-append}
-use Rattle.std.proofs.Common.{◌≡◌, ◌++◌, ◌∷◌, [], length, ap, sym, subst, heap_items, refl, arith}
-use Rattle.std.specs.Prelude.{IsPermutation}
+use Rattle.std.proofs.Common.{◌+◌, ◌^◌, ◌<◌, ◌∙◌, length-append, ◌≡◌, ◌++◌, ◌∷◌, [], length, ap, sym, subst, heap_items}
+use Rattle.std.proofs.Common.{refl, arith, IsPermutation}
 use Rattle.clairvoyant.specs.feasible.Queue.{QueueFacts, kept_of, IsInTurn}
 use Rattle.clairvoyant.proofs.feasible.Keeping.{key_is, low_more, released_in_turn, released_kept}
 use Rattle.clairvoyant.proofs.feasible.queue.DueQueue.release.Goals as goal

@@ -1,11 +1,10 @@
-use Rattle.std.proofs.Common.{◌+◌, ◌∷◌, inl, inr, sym, subst, arith}
-use Rattle.std.specs.Prelude.{IsPermutation}
+use Rattle.std.proofs.Common.{◌+◌, ◌∷◌, inl, inr, sym, subst, arith, IsPermutation}
 use Rattle.std.proofs.lemmas.List.Sorted.{length_permutation}
 use Rattle.clairvoyant.specs.feasible.Progress.{Stands}
 use Rattle.clairvoyant.proofs.feasible.Standing.{stands_until, stands_moved, stands_release, moved_to_next}
 use Rattle.clairvoyant.proofs.feasible.Standing.{moved_to_end}
 use Rattle.clairvoyant.proofs.feasible.Running.{next_found}
-use Rattle.dover_model.proofs.ValidParts.{order_parts}
+use Rattle.dover_model.proofs.valid.ValidParts.{order_parts}
 use Rattle.clairvoyant.proofs.feasible.simulation.Simulation.release.Goals as goal
 
 pub loop-job-preserved : goal.loop-job-preserved

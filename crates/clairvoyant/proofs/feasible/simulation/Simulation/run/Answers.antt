@@ -1,11 +1,9 @@
-use Rattle.std.proofs.Common.{ap, arith}
-use Rattle.std.specs.List.{sum_by}
+use Rattle.std.proofs.Common.{ap, arith, sum_by, ◌+◌, ◌≤◌, ◌⊎◌, ℕ, length, refl, sym, subst, Option}
 use Rattle.std.proofs.lemmas.List.Sums.{sum_by-cons}
 use Rattle.clairvoyant.specs.feasible.Queue.{Kept}
-use Rattle.std.proofs.Common.{◌+◌, ◌≤◌, ◌⊎◌, ℕ, length, refl, sym, subst, Option}
 use Rattle.clairvoyant.specs.feasible.Progress.{Stands, IsPending, with_late}
 use Rattle.clairvoyant.proofs.feasible.Running.{some_left, none_before, not_idle, ran, few_after}
-use Rattle.dover_model.proofs.ValidParts.{order_parts}
+use Rattle.dover_model.proofs.valid.ValidParts.{order_parts}
 use Rattle.clairvoyant.proofs.feasible.simulation.Simulation.run.Goals as goal
 
 pub until-until-requires-clause-some : goal.until-until-requires-clause-some

@@ -1,14 +1,12 @@
-use Rattle.std.proofs.Common.{ℕ, ◌*◌, ◌≤◌, ◌⊎◌, inl, inr, length}
-use Rattle.clairvoyant.specs.feasible.Progress.{IsPending}
-use Rattle.std.proofs.Common.{◌≡◌, ◌+◌, ◌<◌, List, [], sym, subst, ap, ◌∙◌, arith}
+use Rattle.std.proofs.Common.{ℕ, ◌*◌, ◌≤◌, ◌⊎◌, inl, inr, length, ◌≡◌, ◌+◌, ◌<◌, List, [], sym, subst, ap, ◌∙◌, arith}
+use Rattle.clairvoyant.specs.feasible.Progress.{IsPending, Stands, StandsAt}
 use Rattle.clairvoyant.specs.declared.feasible.simulation.Simulation.{Simulation}
-use Rattle.clairvoyant.specs.feasible.Progress.{Stands, StandsAt}
 use Rattle.clairvoyant.specs.feasible.Queue.{Kept}
 use Rattle.clairvoyant.proofs.feasible.Standing.{stands_idle, stands_last, next_later}
 use Rattle.clairvoyant.proofs.feasible.Running.{next_found}
 use Rattle.clairvoyant.proofs.feasible.simulation.Simulation.step.Goals as goal
 use Rattle.clairvoyant.proofs.feasible.simulation.Simulation.step.Goals.{in-Some+in_ok-run-in-Some, in-None+in-Some-get}
-use Rattle.dover_model.proofs.ValidParts.{order_parts}
+use Rattle.dover_model.proofs.valid.ValidParts.{order_parts}
 
 pub returns-in-None-get-clause-whole : goal.returns-in-None-get-clause-whole
 returns-in-None-get-clause-whole c =

@@ -1,8 +1,6 @@
-use Rattle.std.proofs.Common.{◌≤◌, ◌<◌, ◌-◌, ◌+◌, ◌++◌, ◌∷◌, ◌∙◌, [], ℕ, sym, ap, subst, arith}
-use Rattle.std.specs.List.{sum_by}
-use Rattle.dover_model.specs.Sound.{Each}
-use Rattle.dover_model.specs.Windows.{work_inside}
-use Rattle.dover_model.proofs.Members.{each_behind}
+use Rattle.std.proofs.Common.{◌≤◌, ◌<◌, ◌-◌, ◌+◌, ◌++◌, ◌∷◌, ◌∙◌, [], ℕ, sym, ap, subst, arith, sum_by}
+use Rattle.dover_model.specs.Common.{Each, work_inside}
+use Rattle.dover_model.proofs.lists.Members.{each_behind}
 use Rattle.clairvoyant.specs.declared.overload.stretch.Stretch.{Stretch}
 use Rattle.clairvoyant.specs.overload.Collecting.{HasRoomWithin}
 use Rattle.clairvoyant.specs.overload.Stretches.{AreInOrder, IsReached, IsStretch, MeetsSome, most_sets, sets_in}

@@ -3,7 +3,7 @@ use Rattle.snapshot.specs.Kept.{IsReady as IsWholeFor}
 use Rattle.snapshot.specs.Spending.{HasSpentOn}
 use Rattle.feed_words.specs.resume.Keeping.{IsServedOn}
 use Rattle.feed_words.specs.declared.resume.opening.Opening.{Opening}
-use Rattle.feed_words.specs.declared.resume.resuming.Stage.TheVariants as stage
+use Rattle.feed_words.specs.declared.resume.resuming.SnapshotStage.TheVariants as stage
 use Rattle.feed_words.proofs.resume.resuming.Resuming.go_on.Goals as goal
 
 -- what is opened is one thing

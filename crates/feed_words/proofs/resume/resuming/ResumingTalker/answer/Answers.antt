@@ -11,8 +11,7 @@ use Rattle.feed_words.proofs.resume.Bounds.{next_number}
 use Rattle.feed_words.proofs.resume.Laws.{at_serving}
 use Rattle.feed_words.proofs.resume.Talking.{due_at}
 use Rattle.feed_words.proofs.resume.Stages.{opening_due, opening_answer, opening_costs, past_call, past_bytes}
-use Rattle.feed_words.proofs.resume.Stages.{past_answers}
-use Rattle.feed_words.proofs.resume.Stages.{past_goes, past_spent}
+use Rattle.feed_words.proofs.resume.Stages.{past_answers, past_goes, past_spent}
 use Rattle.feed_words.proofs.resume.resuming.ResumingTalker.answer.Goals as goal
 
 pub returns-in-Opening-clause-answers : goal.returns-in-Opening-clause-answers

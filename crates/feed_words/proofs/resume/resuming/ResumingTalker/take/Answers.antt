@@ -4,11 +4,10 @@ use Rattle.dover_model.specs.Lines.{lines_of}
 use Rattle.snapshot.specs.Reading.{Refused}
 use Rattle.feed_words.specs.resume.Keeping.{IsReady, IsGiving}
 use Rattle.feed_words.specs.resume.Talk.{resume_talk}
-use Rattle.dover_model.proofs.Tests.{never}
+use Rattle.dover_model.proofs.lists.Tests.{never}
 use Rattle.feed_words.proofs.resume.Talking.{goes_at}
-use Rattle.feed_words.proofs.resume.Stages.{front_costs, line_refused, line_lacks, opened_is}
-use Rattle.feed_words.proofs.resume.Stages.{past_call, past_bytes, past_takes, past_goes, opening_took}
-use Rattle.feed_words.proofs.resume.Stages.{refused_took, whole_took}
+use Rattle.feed_words.proofs.resume.Stages.{front_costs, line_refused, line_lacks, opened_is, past_call, past_bytes}
+use Rattle.feed_words.proofs.resume.Stages.{past_takes, past_goes, opening_took, refused_took, whole_took}
 use Rattle.feed_words.proofs.resume.resuming.ResumingTalker.take.Goals as goal
 
 pub take-requires-clause-stands : goal.take-requires-clause-stands
@@ -46,7 +45,7 @@ returns-in-Err-BadSnapshot g c = record {
       let refused = line_refused a _ x it.0 c.args.piece.now c.take.new.self c.in-Err-BadSnapshot.line
       (rw c.in-Err-BadSnapshot.field-0-is at (c.in-Err-BadSnapshot.ensures.takes x it.0)) in
       subst (λ s. Takes (resume_talk a)
-      (λ y parts. (c.args.self.now.at_end ≡ a.at_end) × IsGiving a s c.take.new.steps y parts) x c.args.piece.now
+      (λ y parts. (c.args.self.now.at_end ≡ a.at_end) × IsGiving a s c.take.new.comparisons y parts) x c.args.piece.now
       (length c.args.piece.now)) (sym c.refuse.ensures) (rw c.in-Err-BadSnapshot.line-is
       (refused_took a _ x it.0 _ at.0 c.args.piece.now c.requires.some c.in-Err-BadSnapshot.line _ refused
       (front_costs a _ x it.0 c.args.piece.now c.take.new.self _

@@ -1,6 +1,6 @@
 use Rattle.std.proofs.Common.{◌++◌, [], sym, ◌∙◌}
 use Rattle.dialogue.specs.Sizes.{size_text}
-use Rattle.dover_model.proofs.Tests.{never}
+use Rattle.dover_model.proofs.lists.Tests.{never}
 use Rattle.dover_model.specs.Lines.{lines_of}
 use Rattle.dover_port.specs.declared.status.Status.TheVariants.{Done, Refused}
 use Rattle.snapshot.specs.Snapshot.{snapshot}

@@ -1,7 +1,5 @@
-use Rattle.std.proofs.Common.{◌≡◌, ◌+◌, drop, arith, subst, sym, ap, ◌∙◌}
-use Rattle.std.proofs.lemmas.List.{take_all}
-use Rattle.dover_model.specs.Instance.{Instance}
-use Rattle.dover_model.specs.Run.{completed_value}
+use Rattle.std.proofs.Common.{◌≡◌, ◌+◌, drop, arith, subst, sym, ap, ◌∙◌, take_all}
+use Rattle.dover_model.specs.Common.{Instance, completed_value}
 use Rattle.run_record.specs.intervals.Pages.{Page, blank}
 use Rattle.run_record.specs.intervals.Rows.{IsRunOf, rows_of}
 use Rattle.run_record.specs.intervals.Totals.{totals_of}
@@ -9,9 +7,8 @@ use Rattle.run_record.specs.declared.intervals.totals.JobTotals.{JobTotals}
 use Rattle.run_record.proofs.intervals.Counted.{totals_fit, totals_on}
 use Rattle.run_record.proofs.intervals.Reading.{Reads, reads_next, none_read}
 use Rattle.run_record.proofs.intervals.Charges.{item_next, charged, rows_bound, rows_observed, rows_honest}
-use Rattle.run_record.proofs.intervals.Charges.{rows_ordered}
-use Rattle.run_record.proofs.intervals.Charges.{rows_displaced, rows_paid, rows_light}
-use Rattle.run_record.proofs.intervals.Charges.{rows_completed, rows_abandoned}
+use Rattle.run_record.proofs.intervals.Charges.{rows_ordered, rows_displaced, rows_paid, rows_light, rows_completed}
+use Rattle.run_record.proofs.intervals.Charges.{rows_abandoned}
 use Rattle.run_record.proofs.intervals.charge.Charge.of.Goals as goal
 
 pub loop-event-init : goal.loop-event-init

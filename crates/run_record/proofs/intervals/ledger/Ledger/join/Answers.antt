@@ -1,5 +1,4 @@
-use Rattle.std.proofs.Common.{List, cond, set, sym, ap, subst, ◌∙◌, arith}
-use Rattle.std.proofs.lemmas.Bool.{eq-eqb}
+use Rattle.std.proofs.Common.{List, cond, set, sym, ap, subst, ◌∙◌, arith, eq-eqb}
 use Rattle.std.proofs.lemmas.List.{get_or_read, set-get_or}
 use Rattle.run_record.specs.declared.intervals.ledger.Known.{Known}
 use Rattle.run_record.specs.intervals.Pages.{Page, CanJoin, unknown, joined, with_one_more}

@@ -1,5 +1,5 @@
 use Rattle.std.proofs.Common.{arith}
-use Rattle.dover_model.proofs.JobLimits.{job_limits}
+use Rattle.dover_model.proofs.valid.JobLimits.{job_limits}
 use Rattle.run_record.proofs.intervals.totals.JobTotals.add.Goals as goal
 
 pub overflow_add-self-in-Release : goal.overflow_add-self-in-Release

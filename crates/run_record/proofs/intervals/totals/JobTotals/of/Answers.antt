@@ -1,5 +1,4 @@
-use Rattle.std.proofs.Common.{◌∙◌, arith, ap}
-use Rattle.std.proofs.lemmas.List.{take_all}
+use Rattle.std.proofs.Common.{◌∙◌, arith, ap, take_all}
 use Rattle.run_record.specs.intervals.Totals.{totals_of}
 use Rattle.run_record.specs.declared.intervals.totals.JobTotals.{JobTotals}
 use Rattle.run_record.proofs.intervals.Counted.{totals_fit, totals_on}

@@ -1,7 +1,5 @@
 use Rattle.std.proofs.Common.{◌++◌, ◌∷◌, [], ap, ◌∙◌, refl, sym}
-use Rattle.dover_model.specs.Lines.{in_lines}
-use Rattle.dover_model.specs.Observed.{hads}
-use Rattle.dover_model.specs.Session.{may_finish_early}
+use Rattle.dover_model.specs.Common.{in_lines, served, may_finish_early}
 use Rattle.run_reports.specs.report.Counts.{counts_of, fates_lines, bound_line, jobs_released}
 use Rattle.run_reports.specs.report.Early.{early_of, lines_where}
 use Rattle.run_reports.specs.report.Lines.{ratio_line, row_lines}
@@ -30,7 +28,7 @@ returns c J of three =
     (c.in_ok-charge.ensures.value J of))
     ∙ ap (λ ls. (((head ++ in_lines (fates_lines counts)) ++ in_lines ls) ++ in_lines (bound_line counts ∷ []))
     ++ rows)
-    (same_where early c.in_ok-it.it (early_of jobs (hads J) run) (c.in_ok-it.ensures c.args.k J of))
-    ∙ report_is c.args.k run J of early jobs (hads J) c.in_ok-charge.charge.value c.in_ok-charge.charge.rows
+    (same_where early c.in_ok-it.it (early_of jobs (served J) run) (c.in_ok-it.ensures c.args.k J of))
+    ∙ report_is c.args.k run J of early jobs (served J) c.in_ok-charge.charge.value c.in_ok-charge.charge.rows
     (c.may_finish_early-early.ensures ∙ ap may_finish_early (sym three)) (λ e. refl) refl
     (c.in_ok-charge.ensures.value J of) (c.in_ok-charge.ensures.rows J of)

@@ -1,6 +1,4 @@
-use Rattle.std.proofs.Common.{◌≡◌, length, ap, ◌∙◌, sym, subst, arith}
-use Rattle.std.specs.Prelude.{slice_index_or}
-use Rattle.std.specs.List.{count_by}
+use Rattle.std.proofs.Common.{◌≡◌, length, ap, ◌∙◌, sym, subst, arith, slice_index_or, count_by}
 use Rattle.dover_model.specs.Session.{may_finish_early}
 use Rattle.run_record.specs.intervals.Rows.{IsRunOf}
 use Rattle.run_record.specs.intervals.Totals.{is_release}
@@ -14,9 +12,9 @@ pub returns : goal.returns
 returns c k J of three =
     let counted : c.releases.result ≡ length (jobs_released c.args.run.items) =
     c.releases.ensures ∙ ap (count_by is_release) c.deref-3.ensures.value ∙ releases_count c.args.run.items in
-    whole_table k c.args.run.items J of c.may_finish_early-early.result c.in_ok-hads.hads.items
+    whole_table k c.args.run.items J of c.may_finish_early-early.result c.in_ok-served.served.items
     c.in_ok-places.places.items
     (c.may_finish_early-early.ensures ∙ ap may_finish_early (sym three))
-    (c.in_ok-hads.ensures k J (subst (λ es. IsRunOf k es J) (sym c.deref.ensures.value) of))
+    (c.in_ok-served.ensures k J (subst (λ es. IsRunOf k es J) (sym c.deref.ensures.value) of))
     (λ n low. subst (λ es. ending_at es (slice_index_or c.in_ok-places.places.items n 0) ≡ ending_in es n)
     c.deref-2.ensures.value (c.in_ok-places.ensures.each n (omega (arith, counted, low))))

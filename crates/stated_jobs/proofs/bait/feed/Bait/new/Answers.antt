@@ -1,11 +1,10 @@
 use Rattle.std.proofs.Common.{◌<◌, ◌≤◌, ap, subst, refl}
 use Rattle.dover_model.specs.declared.events.Version.TheVariants.{Two}
 use Rattle.dover_model.specs.Limits.{most_jobs, most_value}
-use Rattle.dover_model.proofs.Tests.{never}
+use Rattle.dover_model.proofs.lists.Tests.{never}
 use Rattle.stated_jobs.proofs.bait.Feeds.{small, modest, fits}
 use Rattle.stated_jobs.proofs.bait.Giving.{baiting, too_heavy, rounds_low, first_some, tick_and_rounds, new_left}
-use Rattle.stated_jobs.proofs.bait.Giving.{new_jobs}
-use Rattle.stated_jobs.proofs.bait.Giving.{at_once}
+use Rattle.stated_jobs.proofs.bait.Giving.{new_jobs, at_once}
 use Rattle.stated_jobs.proofs.bait.feed.Bait.new.Goals as goal
 
 pub returns-in_err-chain-clause-fits : goal.returns-in_err-chain-clause-fits

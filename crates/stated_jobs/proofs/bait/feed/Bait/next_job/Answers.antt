@@ -2,11 +2,10 @@ use Rattle.std.proofs.Common.{◌≤◌, ◌∙◌, ap, refl, inl, inr, arith}
 use Rattle.dover_model.specs.Bait.{unit_value, tight_job}
 use Rattle.stated_jobs.specs.bait.Baiting.{Baiting}
 use Rattle.stated_jobs.proofs.bait.Giving.{tick_low, link_within, release_within, link_left, link_given, link_due}
-use Rattle.stated_jobs.proofs.bait.Giving.{link_modest}
-use Rattle.stated_jobs.proofs.bait.Giving.{link_small, still_early}
-use Rattle.stated_jobs.proofs.bait.Giving.{some_work, bait_worth, at_end, within_end, NoneNow, unit_given, unit_early}
-use Rattle.stated_jobs.proofs.bait.Giving.{bait_given, turn, last_turn, some_given, link_fits, next_fits}
-use Rattle.stated_jobs.proofs.bait.Giving.{bait_due, bait_modest, unit_due, unit_worth, unit_modest}
+use Rattle.stated_jobs.proofs.bait.Giving.{link_modest, link_small, still_early, some_work, bait_worth, at_end}
+use Rattle.stated_jobs.proofs.bait.Giving.{within_end, NoneNow, unit_given, unit_early, bait_given, turn, last_turn}
+use Rattle.stated_jobs.proofs.bait.Giving.{some_given, link_fits, next_fits, bait_due, bait_modest, unit_due}
+use Rattle.stated_jobs.proofs.bait.Giving.{unit_worth, unit_modest}
 use Rattle.stated_jobs.proofs.bait.feed.Bait.next_job.Goals as goal
 use Rattle.stated_jobs.proofs.bait.feed.Bait.next_job.Goals.{else-self-gt0-via-then-self-gt0+else-self-2}
 use Rattle.stated_jobs.proofs.bait.feed.Bait.next_job.Goals.{else-self-gt0-via-else-self-gt0}

@@ -1,6 +1,5 @@
 use Rattle.std.proofs.Common.{◌∙◌, ap, sym}
-use Rattle.dover_model.specs.Bait.{bait_plan, plan_value}
-use Rattle.dover_model.specs.Schedules.{worth}
+use Rattle.dover_model.specs.Common.{bait_plan, plan_value, worth}
 use Rattle.stated_jobs.specs.bait.BaitingRuns.{version_for, baiting_feed}
 use Rattle.stated_jobs.proofs.bait.Plans.{plan_worth}
 use Rattle.stated_jobs.specs.bait.Baiting.{Baiting}

@@ -1,6 +1,5 @@
 use Rattle.std.proofs.Common.{ap, ◌∙◌, subst}
-use Rattle.dover_model.specs.Bait.{last_link}
-use Rattle.dover_model.specs.Run.{completed_value}
+use Rattle.dover_model.specs.Common.{last_link, completed_value}
 use Rattle.stated_jobs.specs.bait.BaitingRuns.{baiting_feed, CompletesLastAlone}
 use Rattle.stated_jobs.specs.bait.Baiting.{Baiting}
 use Rattle.stated_jobs.proofs.bait.Worths.{kept_completed, kept_alone}

@@ -1,9 +1,7 @@
-use Rattle.std.proofs.Common.{rules, refl, sym, ap, subst, ◌∙◌, arith}
-use Rattle.std.specs.Prelude.{min}
-use Rattle.dover_model.specs.Bait.{tight_job}
-use Rattle.dover_model.specs.JobFacts.{IsJob}
-use Rattle.stated_jobs.proofs.duel.Giving.{small_given, small_too_large, link_too_large, link_modest}
-use Rattle.stated_jobs.proofs.duel.Giving.{link_last, link_given}
+use Rattle.std.proofs.Common.{rules, refl, sym, ap, subst, ◌∙◌, arith, min}
+use Rattle.dover_model.specs.Common.{tight_job, IsJob}
+use Rattle.stated_jobs.proofs.duel.Giving.{small_given, small_too_large, link_too_large, link_modest, link_last}
+use Rattle.stated_jobs.proofs.duel.Giving.{link_given}
 use Rattle.stated_jobs.proofs.duel.coming.Coming.next_job.Goals as goal
 
 pub returns-then-self-gt0 : goal.returns-then-self-gt0

@@ -46,7 +46,7 @@ returns-in-Err-put_fault-clause-answers g c = λ a x at over. (
 )
 
 pub returns-in-Ok-clause-spent : goal.returns-in-Ok-clause-spent
-returns-in-Ok-clause-spent g c = λ a x at. costs_ended a.question c.in-Ok.listed a.before c.answer.new.steps x
+returns-in-Ok-clause-spent g c = λ a x at. costs_ended a.question c.in-Ok.listed a.before c.answer.new.comparisons x
     (c.in-Ok.ensures.tasks (until_of a.question) x at.reads) (rw (at.asks, at.counts) at c.answer.ensures.count)
 
 pub returns-in-Ok-put_fault-clause-spent : goal.returns-in-Ok-put_fault-clause-spent

@@ -1,13 +1,10 @@
-use Rattle.std.proofs.Common.{refl, sym, subst, Some}
+use Rattle.std.proofs.Common.{refl, sym, subst, Some, ◌∙◌, ap, option_map}
 use Rattle.task_words.specs.reading.Faults.{NamesOther}
 use Rattle.task_words.specs.declared.reading.lines.TaskLine.TheVariants.{Task}
-use Rattle.task_words.proofs.reading.Taking.{took, named}
-use Rattle.std.proofs.Common.{◌∙◌, ap}
-use Rattle.std.specs.Option.{option_map}
+use Rattle.task_words.proofs.reading.Taking.{took, named, not_taken}
 use Rattle.dover_model.specs.Feed.{NotAdmitted}
 use Rattle.event_feed.specs.Kept.{cause_of_fault}
 use Rattle.task_words.specs.tasks.Limits.{task_refusal}
-use Rattle.task_words.proofs.reading.Taking.{not_taken}
 use Rattle.task_words.proofs.reading.intake.Declaration.take.Goals as goal
 
 pub returns-in-Ok-clause-takes : goal.returns-in-Ok-clause-takes

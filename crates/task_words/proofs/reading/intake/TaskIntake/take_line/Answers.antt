@@ -1,12 +1,10 @@
-use Rattle.std.proofs.Common.{◌+◌, ◌∷◌, ◌++◌, [], refl, sym, subst, arith}
+use Rattle.std.proofs.Common.{◌+◌, ◌∷◌, ◌++◌, [], refl, sym, subst, arith, ◌≡◌}
 use Rattle.task_words.specs.reading.Account.{account_of_lines}
 use Rattle.task_words.specs.reading.Keeping.{StandsAt}
 use Rattle.task_words.specs.reading.Faults.{NamesAt}
-use Rattle.task_words.proofs.reading.Taking.{keeps_counted, line_taken, keeps_more, named_before}
-use Rattle.std.proofs.Common.{◌≡◌}
+use Rattle.task_words.proofs.reading.Taking.{keeps_counted, line_taken, keeps_more, named_before, line_many, line_bad}
 use Rattle.event_feed.specs.declared.faults.Cause.TheVariants.{Line, Lines}
 use Rattle.task_words.specs.declared.reading.intake.Progress.TheVariants.{Open, Refused}
-use Rattle.task_words.proofs.reading.Taking.{line_many, line_bad}
 use Rattle.task_words.proofs.reading.intake.TaskIntake.take_line.Goals as goal
 
 pub returns-in-Ok-clause-stands : goal.returns-in-Ok-clause-stands

@@ -1,7 +1,6 @@
-use Rattle.std.proofs.Common.{◌≡◌, ◌++◌, ◌∷◌, [], ℕ, List, length, false, cond, ap, sym, ◌∙◌, subst}
-use Rattle.std.proofs.lemmas.Bool.{le-ltb}
+use Rattle.std.proofs.Common.{◌≡◌, ◌++◌, ◌∷◌, [], ℕ, List, length, false, cond, ap, sym, ◌∙◌, subst, le-ltb}
 use Rattle.line_text.specs.Cutting.{Cutting, StandsFor, with_byte, is_over}
-use Rattle.line_text.specs.declared.cutting.Step.TheVariants.{More, Line, TooLong}
+use Rattle.line_text.specs.declared.cutting.ByteEffect.TheVariants.{More, Line, TooLong}
 use Rattle.dover_model.specs.Lines.{lines_of, rest_of, is_too_long}
 use Rattle.task_words.specs.reading.Account.{account_of_lines}
 use Rattle.task_words.specs.reading.Keeping.{Keeps, StandsAt}

@@ -16,11 +16,11 @@ returns-clause-until g c = refl
 pub returns-clause-count : goal.returns-clause-count
 returns-clause-count g c = subst
     (λ (ts : List PeriodicTask). (d : ℕ) → length ts + 1 < 2 ^ d
-    → c.first_releases.new.steps ≤ c.args.steps.now + d * length ts)
+    → c.first_releases.new.comparisons ≤ c.args.comparisons.now + d * length ts)
     c.deref.ensures.value c.first_releases.ensures.count
 
 pub returns-in_err-next-clause-count : goal.returns-in_err-next-clause-count
 returns-in_err-next-clause-count g c = subst
     (λ (ts : List PeriodicTask). (d : ℕ) → length ts + 1 < 2 ^ d
-    → c.first_releases.new.steps ≤ c.args.steps.now + d * length ts)
+    → c.first_releases.new.comparisons ≤ c.args.comparisons.now + d * length ts)
     c.deref.ensures.value c.first_releases.ensures.count

@@ -1,6 +1,5 @@
 use Rattle.task_words.proofs.tasks.Merging.{same_end}
-use Rattle.std.proofs.Common.{[], ◌∷◌, ◌++◌, length, ap, sym, subst, arith}
-use Rattle.std.specs.Prelude.{IfSome}
+use Rattle.std.proofs.Common.{[], ◌∷◌, ◌++◌, length, ap, sym, subst, arith, IfSome}
 use Rattle.std.specs.List.{AllByRecursion}
 use Rattle.task_words.specs.tasks.Limits.{IsTask}
 use Rattle.task_words.specs.tasks.Merging.{Merge, merge, StandsBehind}

@@ -1,5 +1,5 @@
 use Rattle.std.proofs.Common.{refl}
-use Rattle.dover_model.proofs.Tests.{never}
+use Rattle.dover_model.proofs.lists.Tests.{never}
 use Rattle.trace_words.proofs.judge.Talking.{closed_with, spent}
 use Rattle.trace_words.proofs.judge.judging.JudgingTalker.answer.Goals as goal
 

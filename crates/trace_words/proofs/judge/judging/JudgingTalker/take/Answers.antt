@@ -8,7 +8,7 @@ use Rattle.trace_words.proofs.judge.judging.JudgingTalker.take.Goals as goal
 pub returns-in-Ok : goal.returns-in-Ok
 returns-in-Ok g c = record {
   takes = λ call x at goes. takes_whole (judging_talk (g.T.Teller.says call.teller) g.T.Teller.lacks)
-      (IsReady g.T.Teller.keeps call c.args.self.now.teller c.feed.new.self c.feed.new.steps) x _
+      (IsReady g.T.Teller.keeps call c.args.self.now.teller c.feed.new.self c.feed.new.comparisons) x _
       c.requires.some refl (ready_more _ call _ _ _ x at _ _ _ c.feed.ensures.paid c.in-Ok.ensures.fed);
 }
 

@@ -1,10 +1,9 @@
 use Rattle.std.proofs.Common.{◌∙◌, sym}
 use Rattle.dover_model.specs.Session.{instance_of}
-use Rattle.dover_model.proofs.Tests.{never}
+use Rattle.dover_model.proofs.lists.Tests.{never}
 use Rattle.trace_words.proofs.report.Answering.{prints, run_of, reported, unreported, refused_size, unrefused_size}
-use Rattle.trace_words.proofs.report.Answering.{refused}
-use Rattle.trace_words.proofs.report.Answering.{unrefused}
-use Rattle.dover_model.proofs.SessionParts.{session_jobs}
+use Rattle.trace_words.proofs.report.Answering.{refused, unrefused}
+use Rattle.dover_model.proofs.sessions.SessionParts.{session_jobs}
 use Rattle.trace_words.proofs.report.word.ReportingTeller.tell.Goals as goal
 
 pub put_report-requires-clause-run : goal.put_report-requires-clause-run

@@ -1,0 +1,14 @@
+-- Jobs that finish early: where a finish is right, and what a further one leaves as it is.
+pub mod Finishing
+pub mod Readiness
+pub mod Needing
+pub mod Meeting
+pub mod Further
+pub mod FinishOrders
+pub mod AheadFinishes
+pub mod OverPaths
+pub mod OverFor
+pub mod RightFinishes
+pub mod Early
+pub mod EarlyEnds
+pub mod Processors

@@ -1,0 +1,21 @@
+-- Worked rows, by computation.
+pub mod Written
+pub mod TraceRows
+pub mod TieRows
+pub mod RealisticRows
+pub mod FeedRows
+pub mod RefusedLineRows
+pub mod LimitRows
+pub mod VerdictRows
+pub mod FactorRows
+pub mod ReportRows
+pub mod BoundRows
+pub mod PieceRows
+pub mod GeneratorRows
+pub mod BaitRows
+pub mod RestRows
+pub mod FinishRows
+pub mod SureRows
+pub mod ThreeRows
+pub mod FourRows
+pub mod SwitchRows

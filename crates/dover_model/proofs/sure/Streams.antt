@@ -1,0 +1,908 @@
+-- Of a sure stream no job is lost, however its jobs and those of the others come.
+use Rattle.std.proofs.Common.{◌≡◌, ℕ, zero, suc, ◌+◌, ◌-◌, ◌*◌, ◌≤◌, ◌<◌, ◌⊎◌, inl, inr, List, [], ◌∷◌, length, refl}
+use Rattle.std.proofs.Common.{sym, ap, ◌∙◌, subst, Bool, true, false, cond, eqb, arith}
+use Rattle.std.specs.Prelude.{nat_le, nat_lt, ◌&&◌, get_or, max, ◌++◌, replicate}
+use Rattle.std.specs.Int.{div_ceil}
+use Rattle.std.specs.List.{sum_by, enumerate_from}
+use Rattle.std.proofs.Math.Nat.{lt_of_mul-lt-mul_right}
+use Rattle.std.proofs.lemmas.Grind.{div_ceil_times}
+use Rattle.std.proofs.lemmas.Nat.{mul-le}
+use Rattle.std.proofs.lemmas.Bool.{eqb-true, eq-eqb, ne_eqb, leb-true, leb-false, le-leb, ltb-true, and_parts}
+use Rattle.std.proofs.lemmas.Bool.{and_from, cases_lt}
+use Rattle.std.proofs.lemmas.List.Sums.{sum_by-cons}
+use Rattle.dover_model.specs.Common.{Fraction, JobFacts, IsJob, Instance, IsValid, numbered, IsHeavy, IsMember, Each}
+use Rattle.dover_model.specs.Common.{EachTwo, IsHeavyAt, NoneDisplaces, IsCompleted, Stream, stream_at, blank_stream}
+use Rattle.dover_model.specs.Common.{AreOfStreams, most_crossing, CanStack, worth_of, is_spread, IsSure, most_beside}
+use Rattle.dover_model.specs.Common.{IsOfStream, others, best_of, most_fitting}
+use Rattle.dover_model.specs.Sure.{crosses, chosen_value, chosen_work, CanHold, work_within}
+use Rattle.dover_model.proofs.lists.Members.{sum_le, sum_same, sum_zero, sum_plus, term_le_sum, all_member}
+use Rattle.dover_model.proofs.valid.JobLimits.{JobLimits, job_limits}
+use Rattle.dover_model.proofs.valid.ValidParts.{valid_parts}
+use Rattle.dover_model.proofs.bound.Books.{scaled_sum}
+use Rattle.dover_model.proofs.bound.Calculus.{heavy_mono, heavy_more, heavy_up}
+use Rattle.dover_model.proofs.sure.Sure.{heavy_at_start}
+use Rattle.dover_model.proofs.lists.Tests.{never}
+use Rattle.dover_model.specs.Orders.{IsByDeadline}
+
+-- ---- lists under numbers
+
+module _ {X : Type 0} where
+  -- numbers from k on are no less
+  numbered_above : (k : ℕ) (xs : List X) → Each (λ n_x. k ≤ n_x.0) (enumerate_from k xs)
+  numbered_above k [] n_x member = absurd member
+  numbered_above k (x ∷ xs) n_x (inl e) = let same : n_x.0 ≡ k = ap (λ (i : ℕ × X). i.0) e in omega (arith, same)
+  numbered_above k (x ∷ xs) n_x (inr member) =
+      let above : k + 1 ≤ n_x.0 = numbered_above (k + 1) xs n_x member in omega (arith, above)
+
+  -- a member has a number
+  number_of : (k : ℕ) (xs : List X) (x : X) → IsMember x xs → (n : ℕ) × IsMember (n, x) (enumerate_from k xs)
+  number_of k [] x member = absurd member
+  number_of k (y ∷ xs) x (inl e) = (k, inl (ap (λ z. (k, z)) e))
+  number_of k (y ∷ xs) x (inr member) =
+      let it : (n : ℕ) × IsMember (n, x) (enumerate_from (k + 1) xs) = number_of (k + 1) xs x member in
+      (it.0, inr it.1)
+
+  -- a number has a member
+  at_number : (k : ℕ) (xs : List X) (d : X) (i : ℕ) → i < length xs
+      → IsMember (k + i, get_or xs i d) (enumerate_from k xs)
+  at_number k [] d i less = absurd (omega arith)
+  at_number k (x ∷ xs) d zero less = inl (ap (λ m. (m, x)) (let e : k + 0 ≡ k = omega arith in e))
+  at_number k (x ∷ xs) d (suc i) less =
+      inr (subst (λ m. IsMember (m, get_or xs i d) (enumerate_from (k + 1) xs))
+      (let e : k + 1 + i ≡ k + suc i = omega arith in e) (at_number (k + 1) xs d i (omega arith)))
+
+  -- and which that is
+  is_at : (k : ℕ) (xs : List X) (d : X) → Each (λ n_x. get_or xs (n_x.0 - k) d ≡ n_x.1) (enumerate_from k xs)
+  is_at k [] d n_x member = absurd member
+  is_at k (x ∷ xs) d n_x (inl e) = subst (λ (i : ℕ × X). get_or (x ∷ xs) (i.0 - k) d ≡ i.1) (sym e)
+      (ap (λ m. get_or (x ∷ xs) m d) (let zero : k - k ≡ 0 = omega arith in zero))
+  is_at k (x ∷ xs) d n_x (inr member) =
+      let above : k + 1 ≤ n_x.0 = numbered_above (k + 1) xs n_x member in
+      ap (λ m. get_or (x ∷ xs) m d) (let e : n_x.0 - k ≡ suc (n_x.0 - (k + 1)) = omega arith in e)
+      ∙ is_at (k + 1) xs d n_x member
+
+-- a number has a member, counted from 0 on
+member_at : {X : Type 0} (xs : List X) (d : X) (i : ℕ) → i < length xs
+    → IsMember (i, get_or xs i d) (enumerate_from 0 xs)
+member_at xs d i less = subst (λ m. IsMember (m, get_or xs i d) (enumerate_from 0 xs))
+    (let e : 0 + i ≡ i = omega arith in e) (at_number 0 xs d i less)
+
+-- a sum, by labels
+by_labels : {X Y : Type 0} (label : X → ℕ) (key : Y → ℕ) (f : X → ℕ) (ys : List Y) (xs : List X)
+    → Each (λ x. (y : Y) × IsMember y ys × (key y ≡ label x)) xs
+    → sum_by f xs ≤ sum_by (λ y. sum_by (λ x. cond (eqb (label x) (key y)) (f x) 0) xs) ys
+by_labels label key f ys [] each = omega arith
+by_labels {X} {Y} label key f ys (x ∷ xs) each =
+    let rest : sum_by f xs ≤ sum_by (λ y. sum_by (λ z. cond (eqb (label z) (key y)) (f z) 0) xs) ys =
+    by_labels label key f ys xs (λ z member. each z (inr member)) in
+    let both : sum_by (λ y. cond (eqb (label x) (key y)) (f x) 0
+    + sum_by (λ z. cond (eqb (label z) (key y)) (f z) 0) xs) ys
+    ≡ sum_by (λ y. cond (eqb (label x) (key y)) (f x) 0) ys
+    + sum_by (λ y. sum_by (λ z. cond (eqb (label z) (key y)) (f z) 0) xs) ys =
+    sum_plus (λ y. cond (eqb (label x) (key y)) (f x) 0)
+    (λ y. sum_by (λ z. cond (eqb (label z) (key y)) (f z) 0) xs) ys in
+    let all : sum_by (λ y. sum_by (λ z. cond (eqb (label z) (key y)) (f z) 0) (x ∷ xs)) ys
+    ≡ sum_by (λ y. cond (eqb (label x) (key y)) (f x) 0
+    + sum_by (λ z. cond (eqb (label z) (key y)) (f z) 0) xs) ys =
+    sum_same (λ y. sum_by (λ z. cond (eqb (label z) (key y)) (f z) 0) (x ∷ xs))
+    (λ y. cond (eqb (label x) (key y)) (f x) 0 + sum_by (λ z. cond (eqb (label z) (key y)) (f z) 0) xs) ys
+    (λ y _. sum_by-cons (λ z. cond (eqb (label z) (key y)) (f z) 0) x xs) in
+    omega (arith, sum_by-cons f x xs, rest, both, all, own (each x (inl refl))) where
+      own : (y : Y) × IsMember y ys × (key y ≡ label x)
+          → f x ≤ sum_by (λ y. cond (eqb (label x) (key y)) (f x) 0) ys
+      own it = subst (λ b. cond b (f x) 0 ≤ sum_by (λ y. cond (eqb (label x) (key y)) (f x) 0) ys)
+          (eq-eqb (label x) (key it.0) (sym it.2))
+          (term_le_sum (λ y. cond (eqb (label x) (key y)) (f x) 0) ys it.0 it.1)
+
+-- a label is the number of one member at most
+once : {X : Type 0} (l a k : ℕ) (xs : List X) → sum_by (λ n_x. cond (eqb l n_x.0) a 0) (enumerate_from k xs) ≤ a
+once l a k [] = omega arith
+once {X} l a k (x ∷ xs) = by_number (eqb l k) refl (once l a (k + 1) xs) where
+  all : sum_by (λ n_x. cond (eqb l n_x.0) a 0) (enumerate_from k (x ∷ xs))
+      ≡ cond (eqb l k) a 0 + sum_by (λ n_x. cond (eqb l n_x.0) a 0) (enumerate_from (k + 1) xs)
+  all = sum_by-cons (λ (n_x : ℕ × X). cond (eqb l n_x.0) a 0) (k, x) (enumerate_from (k + 1) xs)
+
+  by_number : (b : Bool) → eqb l k ≡ b → sum_by (λ n_x. cond (eqb l n_x.0) a 0) (enumerate_from (k + 1) xs) ≤ a
+      → sum_by (λ n_x. cond (eqb l n_x.0) a 0) (enumerate_from k (x ∷ xs)) ≤ a
+  by_number true same _ =
+      let none : sum_by (λ n_x. cond (eqb l n_x.0) a 0) (enumerate_from (k + 1) xs) ≡ 0 =
+      sum_zero (λ (n_x : ℕ × X). cond (eqb l n_x.0) a 0) (enumerate_from (k + 1) xs)
+      (λ n_x m. ap (λ b. cond {A = ℕ} b a 0) (ne_eqb l n_x.0
+      (λ e. let above : k + 1 ≤ n_x.0 = numbered_above (k + 1) xs n_x m in
+      let is : l ≡ k = eqb-true _ _ same in omega (arith, above, is, e)))) in
+      let here : cond (eqb l k) a 0 ≡ a = ap (λ b. cond {A = ℕ} b a 0) same in
+      omega (arith, all, none, here)
+  by_number false differs rest =
+      let here : cond (eqb l k) a 0 ≡ 0 = ap (λ b. cond {A = ℕ} b a 0) differs in
+      omega (arith, all, here, rest)
+
+-- what is summed up by labels is no more than all
+by_labels_back : {X Y : Type 0} (label : X → ℕ) (f : X → ℕ) (ys : List Y) (xs : List X)
+    → sum_by (λ (y : ℕ × Y). sum_by (λ x. cond (eqb (label x) y.0) (f x) 0) xs) (enumerate_from 0 ys) ≤ sum_by f xs
+by_labels_back {X} {Y} label f ys [] =
+    omega (
+      arith,
+      sum_zero (λ (y : ℕ × Y). sum_by (λ x. cond (eqb (label x) y.0) (f x) 0) []) (enumerate_from 0 ys)
+          (λ y m. refl),
+    )
+by_labels_back {X} {Y} label f ys (x ∷ xs) =
+    let both : sum_by (λ (y : ℕ × Y). cond (eqb (label x) y.0) (f x) 0
+    + sum_by (λ z. cond (eqb (label z) y.0) (f z) 0) xs) (enumerate_from 0 ys)
+    ≡ sum_by (λ (y : ℕ × Y). cond (eqb (label x) y.0) (f x) 0) (enumerate_from 0 ys)
+    + sum_by (λ (y : ℕ × Y). sum_by (λ z. cond (eqb (label z) y.0) (f z) 0) xs) (enumerate_from 0 ys) =
+    sum_plus (λ (y : ℕ × Y). cond (eqb (label x) y.0) (f x) 0)
+    (λ y. sum_by (λ z. cond (eqb (label z) y.0) (f z) 0) xs) (enumerate_from 0 ys) in
+    let all : sum_by (λ (y : ℕ × Y). sum_by (λ z. cond (eqb (label z) y.0) (f z) 0) (x ∷ xs)) (enumerate_from 0 ys)
+    ≡ sum_by (λ (y : ℕ × Y). cond (eqb (label x) y.0) (f x) 0
+    + sum_by (λ z. cond (eqb (label z) y.0) (f z) 0) xs) (enumerate_from 0 ys) =
+    sum_same (λ (y : ℕ × Y). sum_by (λ z. cond (eqb (label z) y.0) (f z) 0) (x ∷ xs))
+    (λ y. cond (eqb (label x) y.0) (f x) 0 + sum_by (λ z. cond (eqb (label z) y.0) (f z) 0) xs)
+    (enumerate_from 0 ys) (λ y _. sum_by-cons (λ z. cond (eqb (label z) y.0) (f z) 0) x xs) in
+    omega (arith, sum_by-cons f x xs, both, all, once (label x) (f x) 0 ys, by_labels_back label f ys xs)
+
+-- of those that pass, one has the greatest key
+latest : {X : Type 0} (p : X → Bool) (key : X → ℕ) (xs : List X) (x : X) → IsMember x xs → p x ≡ true
+    → (y : X) × IsMember y xs × (p y ≡ true) × Each (λ z. p z ≡ true → key z ≤ key y) xs
+latest p key [] x member passes = absurd member
+latest {X} p key (w ∷ xs) x member passed =
+    by_rest (any_passes xs) (λ y m e. latest p key xs y m e) where
+      any_passes : (zs : List X) → ((y : X) × IsMember y zs × (p y ≡ true)) ⊎ Each (λ z. p z ≡ true → ⊥) zs
+      any_passes [] = inr (λ z m _. m)
+      any_passes (z ∷ zs) = by_test (p z) refl (any_passes zs) where
+        by_test : (b : Bool) → p z ≡ b → ((y : X) × IsMember y zs × (p y ≡ true)) ⊎ Each (λ u. p u ≡ true → ⊥) zs
+            → ((y : X) × IsMember y (z ∷ zs) × (p y ≡ true)) ⊎ Each (λ u. p u ≡ true → ⊥) (z ∷ zs)
+        by_test true e _ = inl (z, inl refl, e)
+        by_test false e (inl it) = inl (it.0, inr it.1, it.2)
+        by_test false e (inr none) = inr each where
+          each : Each (λ u. p u ≡ true → ⊥) (z ∷ zs)
+          each u (inl same) is = never (sym e ∙ subst (λ v. p v ≡ true) same is)
+          each u (inr m) is = none u m is
+
+      Latest : Type 0
+      Latest = (y : X) × IsMember y (w ∷ xs) × (p y ≡ true) × Each (λ z. p z ≡ true → key z ≤ key y) (w ∷ xs)
+
+      head_only : Each (λ z. p z ≡ true → ⊥) xs → IsMember x (w ∷ xs) → Latest
+      head_only none (inl same) = (w, inl refl, subst (λ v. p v ≡ true) same passed, each) where
+        each : Each (λ z. p z ≡ true → key z ≤ key w) (w ∷ xs)
+        each z (inl e) _ = subst (λ v. key z ≤ key v) e (omega arith)
+        each z (inr m) is = absurd (none z m is)
+      head_only none (inr m) = absurd (none x m passed)
+
+      with_head : (b : Bool) → p w ≡ b
+          → (y : X) × IsMember y xs × (p y ≡ true) × Each (λ z. p z ≡ true → key z ≤ key y) xs → Latest
+      with_head false out it = (it.0, inr it.1, it.2, each) where
+        each : Each (λ z. p z ≡ true → key z ≤ key it.0) (w ∷ xs)
+        each z (inl e) is = never (sym out ∙ subst (λ v. p v ≡ true) e is)
+        each z (inr m) is = it.3 z m is
+      with_head true is_in it = by_key (cases_lt (key it.0) (key w)) where
+        by_key : (key it.0 < key w) ⊎ (key w ≤ key it.0) → Latest
+        by_key (inl above) = (w, inl refl, is_in, each) where
+          each : Each (λ z. p z ≡ true → key z ≤ key w) (w ∷ xs)
+          each z (inl e) _ = subst (λ v. key z ≤ key v) e (omega arith)
+          each z (inr m) is = let most : key z ≤ key it.0 = it.3 z m is in omega (arith, most, above)
+        by_key (inr below) = (it.0, inr it.1, it.2, each) where
+          each : Each (λ z. p z ≡ true → key z ≤ key it.0) (w ∷ xs)
+          each z (inl e) _ = subst (λ v. key v ≤ key it.0) (sym e) below
+          each z (inr m) is = it.3 z m is
+
+      by_rest : ((y : X) × IsMember y xs × (p y ≡ true)) ⊎ Each (λ z. p z ≡ true → ⊥) xs
+          → ((y : X) → IsMember y xs → p y ≡ true
+          → (z : X) × IsMember z xs × (p z ≡ true) × Each (λ u. p u ≡ true → key u ≤ key z) xs) → Latest
+      by_rest (inl it) more = with_head (p w) refl (more it.0 it.1 it.2)
+      by_rest (inr none) more = head_only none member
+
+-- where something is counted, one is counted
+some_counted : {X : Type 0} (p : X → Bool) (xs : List X) → 1 ≤ sum_by (λ x. cond (p x) 1 0) xs
+    → (x : X) × IsMember x xs × (p x ≡ true)
+some_counted p [] some = absurd (omega arith)
+some_counted p (x ∷ xs) some =
+    by_test (p x) refl (some_counted p xs) (sum_by-cons (λ y. cond (p y) 1 0) x xs) where
+      by_test : (b : Bool) → p x ≡ b
+          → (1 ≤ sum_by (λ y. cond (p y) 1 0) xs → (y : _) × IsMember y xs × (p y ≡ true))
+          → sum_by (λ y. cond (p y) 1 0) (x ∷ xs) ≡ cond (p x) 1 0 + sum_by (λ y. cond (p y) 1 0) xs
+          → (y : _) × IsMember y (x ∷ xs) × (p y ≡ true)
+      by_test true e _ _ = (x, inl refl, e)
+      by_test false e more all =
+          let none : cond (p x) 1 0 ≡ 0 = ap (λ b. cond {A = ℕ} b 1 0) e in
+          let it : (y : _) × IsMember y xs × (p y ≡ true) = more (omega (arith, all, none, some)) in
+          (it.0, inr it.1, it.2)
+
+-- ---- how many jobs of a stream cross a tick
+
+module _ (of : ℕ → ℕ) (y gap span t : ℕ) where
+  -- the job is of the stream, and crosses the tick
+  abbrev counted : ℕ × JobFacts → Bool
+  counted m_i = eqb (of m_i.0) y && crosses t m_i.1
+
+  -- one for such a job
+  abbrev one : ℕ × JobFacts → ℕ
+  one m_i = cond (counted m_i) 1 0
+
+  -- two jobs of the stream are apart
+  abbrev AreApart : List (ℕ × JobFacts) → Type 0
+  AreApart ns = EachTwo (λ m_i n_j. of m_i.0 ≡ y → of n_j.0 ≡ y → m_i.0 < n_j.0
+      → m_i.1.release + gap ≤ n_j.1.release) ns
+
+  -- what a counted job is
+  counted_is : (m_i : ℕ × JobFacts) → counted m_i ≡ true → (of m_i.0 ≡ y) × (m_i.1.release ≤ t)
+      × (t < m_i.1.deadline)
+  counted_is m_i passed =
+      let it : (eqb (of m_i.0) y ≡ true) × (crosses t m_i.1 ≡ true) =
+      and_parts (eqb (of m_i.0) y) (crosses t m_i.1) passed in
+      let both : (nat_le m_i.1.release t ≡ true) × (nat_lt t m_i.1.deadline ≡ true) =
+      and_parts (nat_le m_i.1.release t) (nat_lt t m_i.1.deadline) it.1 in
+      (eqb-true _ _ it.0, leb-true _ _ both.0, ltb-true _ _ both.1)
+
+  -- so many, which come from a tick on
+  abbrev AreFew : ℕ → ℕ → Type 0
+  AreFew count from = (count ≡ 0) ⊎ (count * gap + from ≤ t + gap)
+
+  -- those that cross one tick fit between the first release that may cross it and that tick
+  count_from : (k : ℕ) (jobs : List JobFacts) → AreApart (enumerate_from k jobs) → (from : ℕ)
+      → Each (λ m_i. counted m_i ≡ true → from ≤ m_i.1.release) (enumerate_from k jobs)
+      → AreFew (sum_by one (enumerate_from k jobs)) from
+  count_from k [] apart from since = inl refl
+  count_from k (j ∷ jobs) apart from since =
+      by_test (counted (k, j)) refl
+      (λ lower each. count_from (k + 1) jobs (λ m_i n_j m n. apart m_i n_j (inr m) (inr n)) lower each)
+      (sum_by-cons one (k, j) (enumerate_from (k + 1) jobs)) where
+        later : counted (k, j) ≡ true
+            → Each (λ m_i. counted m_i ≡ true → j.release + gap ≤ m_i.1.release) (enumerate_from (k + 1) jobs)
+        later passed m_i member too =
+            let above : k + 1 ≤ m_i.0 = numbered_above (k + 1) jobs m_i member in
+            apart (k, j) m_i (inl refl) (inr member) (counted_is (k, j) passed).0 (counted_is m_i too).0 (omega arith)
+
+        by_test : (b : Bool) → counted (k, j) ≡ b
+            → ((lower : ℕ) → Each (λ m_i. counted m_i ≡ true → lower ≤ m_i.1.release) (enumerate_from (k + 1) jobs)
+            → AreFew (sum_by one (enumerate_from (k + 1) jobs)) lower)
+            → sum_by one (enumerate_from k (j ∷ jobs)) ≡ cond (counted (k, j)) 1 0
+            + sum_by one (enumerate_from (k + 1) jobs)
+            → AreFew (sum_by one (enumerate_from k (j ∷ jobs))) from
+        by_test true passed rest all = inr (more (rest (j.release + gap) (later passed))) where
+          early : j.release ≤ t
+          early = (counted_is (k, j) passed).1
+
+          not_before : from ≤ j.release
+          not_before = since (k, j) (inl refl) passed
+
+          is : sum_by one (enumerate_from k (j ∷ jobs)) ≡ 1 + sum_by one (enumerate_from (k + 1) jobs)
+          is = all ∙ ap (λ b. cond b 1 0 + sum_by one (enumerate_from (k + 1) jobs)) passed
+
+          more : AreFew (sum_by one (enumerate_from (k + 1) jobs)) (j.release + gap)
+              → sum_by one (enumerate_from k (j ∷ jobs)) * gap + from ≤ t + gap
+          more (inl none) = rw is (rw none (omega (arith, early, not_before)))
+          more (inr few) = rw is (omega (arith, few, not_before))
+        by_test false failed rest all =
+            let none : one (k, j) ≡ 0 = ap (λ b. cond {A = ℕ} b 1 0) failed in
+            subst (λ c. AreFew c from)
+            (let is : sum_by one (enumerate_from (k + 1) jobs) ≡ sum_by one (enumerate_from k (j ∷ jobs)) =
+            omega (arith, all, none) in is)
+            (rest from (λ m_i member. since m_i (inr member)))
+
+  -- where no job is due later than its span behind its release, they are no more than spans have gaps
+  count_most : (jobs : List JobFacts) → 1 ≤ gap → AreApart (enumerate_from 0 jobs)
+      → Each (λ m_i. of m_i.0 ≡ y → m_i.1.deadline ≤ m_i.1.release + span) (enumerate_from 0 jobs)
+      → sum_by one (enumerate_from 0 jobs) ≤ div_ceil span gap
+  count_most jobs some apart within = by_count (count_from 0 jobs apart (t + 1 - span) since) where
+    since : Each (λ m_i. counted m_i ≡ true → t + 1 - span ≤ m_i.1.release) (enumerate_from 0 jobs)
+    since m_i member passed =
+        let due : m_i.1.deadline ≤ m_i.1.release + span = within m_i member (counted_is m_i passed).0 in
+        let late : t < m_i.1.deadline = (counted_is m_i passed).2 in
+        omega (arith, due, late)
+
+    by_count : AreFew (sum_by one (enumerate_from 0 jobs)) (t + 1 - span)
+        → sum_by one (enumerate_from 0 jobs) ≤ div_ceil span gap
+    by_count (inl none) = rw none (omega arith)
+    by_count (inr few) =
+        let bounds : (span ≤ div_ceil span gap * gap) × (div_ceil span gap * gap < span + gap) =
+        div_ceil_times span gap (omega (arith, some)) in
+        let less : sum_by one (enumerate_from 0 jobs) < suc (div_ceil span gap) =
+        lt_of_mul-lt-mul_right gap (let product : sum_by one (enumerate_from 0 jobs) * gap < suc (div_ceil span gap)
+        * gap = omega (arith, few, bounds.0) in product) in
+        omega (arith, less)
+
+-- a span is at least one gap, rounded up
+some_gaps : (span gap : ℕ) → 1 ≤ span → 1 ≤ gap → 1 ≤ div_ceil span gap
+some_gaps span gap some apart = by_count (div_ceil span gap) refl where
+  by_count : (c : ℕ) → div_ceil span gap ≡ c → 1 ≤ c
+  by_count zero none =
+      let bounds : (span ≤ div_ceil span gap * gap) × (div_ceil span gap * gap < span + gap) =
+      div_ceil_times span gap (omega (arith, apart)) in
+      let nothing : div_ceil span gap * gap ≡ 0 * gap = ap (λ c. c * gap) none in
+      absurd (omega (arith, bounds.0, nothing, some))
+  by_count (suc c) _ = omega arith
+
+-- ---- a sure stream
+
+-- the member of a list at a place
+at_place : (xs : List Stream) (y : ℕ) → y < length xs → IsMember (get_or xs y blank_stream) xs
+at_place [] y less = absurd (omega arith)
+at_place (x ∷ xs) zero less = inl refl
+at_place (x ∷ xs) (suc y) less = inr (at_place xs y (omega arith))
+
+-- a numbered member has a place
+has_place : (k : ℕ) (xs : List Stream) (y_s : ℕ × Stream) → IsMember y_s (enumerate_from k xs) → y_s.0 < k + length xs
+has_place k [] y_s member = absurd member
+has_place k (x ∷ xs) y_s (inl e) = let same : y_s.0 ≡ k = ap (λ (i : ℕ × Stream). i.0) e in omega (arith, same)
+has_place k (x ∷ xs) y_s (inr member) =
+    let below : y_s.0 < k + 1 + length xs = has_place (k + 1) xs y_s member in omega (arith, below)
+
+-- each member of a numbered list is what its number names
+stream_is : (streams : List Stream) (y_s : ℕ × Stream) → IsMember y_s (enumerate_from 0 streams)
+    → stream_at streams y_s.0 ≡ y_s.1
+stream_is streams y_s member = ap (λ y. stream_at streams y) (let e : y_s.0 ≡ y_s.0 - 0 = omega arith in e)
+    ∙ is_at 0 streams blank_stream y_s member
+
+-- what can be stacked is worth no more than what crosses a tick
+pub heavy_by_sum : (k : Fraction) (streams : List Stream) (x v : ℕ) → IsHeavy k v (most_beside streams x)
+    → (counts : ℕ → ℕ) → CanStack streams x counts → IsHeavy k v (worth_of counts streams)
+heavy_by_sum k streams x v heavy counts can =
+    heavy_mono k v (worth_of counts streams) (most_beside streams x)
+    (sum_le (λ y_s. counts y_s.0 * y_s.1.value)
+    (λ y_s. cond (eqb y_s.0 x) 0 (most_crossing y_s.1 * y_s.1.value)) (enumerate_from 0 streams)
+    (λ y_s m. by_number y_s m (eqb y_s.0 x) refl)) heavy where
+      by_number : (y_s : ℕ × Stream) → IsMember y_s (enumerate_from 0 streams) → (b : Bool) → eqb y_s.0 x ≡ b
+          → counts y_s.0 * y_s.1.value ≤ cond b 0 (most_crossing y_s.1 * y_s.1.value)
+      by_number y_s m true same =
+          let none : counts y_s.0 * y_s.1.value ≡ 0 * y_s.1.value =
+          ap (λ c. c * y_s.1.value) (ap counts (eqb-true _ _ same) ∙ can.waits) in
+          omega (arith, none)
+      by_number y_s m false differs =
+          mul-le _ _ _ _ (subst (λ (s : Stream). counts y_s.0 ≤ most_crossing s) (stream_is streams y_s m)
+          (can.few y_s.0 (let place : y_s.0 < 0 + length streams = has_place 0 streams y_s m in
+          omega (arith, place)))) (omega arith)
+
+-- a job that is all that its stream allows is sure where the stream is spread and heavy
+pub sure_of_stream : (k : Fraction) (streams : List Stream) (x : ℕ) (j : JobFacts)
+    → is_spread (stream_at streams x) ≡ true
+    → ((counts : ℕ → ℕ) → CanStack streams x counts
+    → IsHeavy k (stream_at streams x).value (worth_of counts streams))
+    → IsOfStream (stream_at streams x) j → IsSure k streams x j
+sure_of_stream k streams x j spread heavy own =
+    let it : (nat_lt (stream_at streams x).span ((stream_at streams x).work + (stream_at streams x).apart) ≡ true)
+    × (nat_le (stream_at streams x).work (stream_at streams x).apart ≡ true) =
+    and_parts (nat_lt (stream_at streams x).span ((stream_at streams x).work + (stream_at streams x).apart))
+    (nat_le (stream_at streams x).work (stream_at streams x).apart) spread in
+    let short : (stream_at streams x).span < (stream_at streams x).work + (stream_at streams x).apart =
+    ltb-true _ _ it.0 in
+    let small : (stream_at streams x).work ≤ (stream_at streams x).apart = leb-true _ _ it.1 in
+    let work : j.work ≡ (stream_at streams x).work = own.work in
+    let span : j.deadline ≡ j.release + (stream_at streams x).span = own.span in
+    let value : j.value ≡ (stream_at streams x).value = own.value in
+    record {
+      before_later = omega (arith, short, work, span);
+      behind_earlier = omega (arith, small, work, span);
+      own = λ more. let less : j.value < (stream_at streams x).value =
+          heavy_more k (stream_at streams x).value j.value more in omega (arith, less, value);
+      heavy = λ counts can. subst (λ v. IsHeavy k v (worth_of counts streams)) (sym value) (heavy counts can);
+    }
+
+-- one choice more is no less
+best_without : (s : Stream) (more : List Stream) (work span value : ℕ)
+    → best_of more work span value ≤ best_of (s ∷ more) work span value
+best_without s more work span value = omega arith
+
+-- nor is the other
+best_with : (s : Stream) (more : List Stream) (work span value : ℕ)
+    → best_of more (work + s.work) (max span s.span) (value + s.value) ≤ best_of (s ∷ more) work span value
+best_with s more work span value = omega arith
+
+-- Some of these many jobs of one stream are chosen, and then what is worth so much: the work of all is at most S, which
+-- the span so far reaches, or that of the stream where one of its jobs is chosen, or that of a later one (E).
+best_copies : (s : Stream) (more : List Stream) (S later_work later_value : ℕ) (E : Type 0)
+    → ((work span value : ℕ) → work + later_work ≤ S → (S ≤ span) ⊎ E
+    → value + later_value ≤ best_of more work span value)
+    → (n c : ℕ) → c ≤ n → (work span value : ℕ) → work + c * s.work + later_work ≤ S
+    → (S ≤ span) ⊎ (((1 ≤ c) × (S ≤ s.span)) ⊎ E)
+    → value + c * s.value + later_value ≤ best_of (replicate n s ++ more) work span value
+best_copies s more S later_work later_value E goes_on zero c few work span value fits reach =
+    let none : c ≡ 0 = omega (arith, few) in
+    let works : c * s.work ≡ 0 * s.work = ap (λ m. m * s.work) none in
+    let values : c * s.value ≡ 0 * s.value = ap (λ m. m * s.value) none in
+    let rest : value + later_value ≤ best_of more work span value =
+    goes_on work span value (omega (arith, fits, works)) (by_reach reach none) in
+    omega (arith, rest, values) where
+      by_reach : (S ≤ span) ⊎ (((1 ≤ c) × (S ≤ s.span)) ⊎ E) → c ≡ 0 → (S ≤ span) ⊎ E
+      by_reach (inl low) none = inl low
+      by_reach (inr (inl it)) none = let some : 1 ≤ c = it.0 in absurd (omega (arith, some, none))
+      by_reach (inr (inr e)) none = inr e
+best_copies s more S later_work later_value E goes_on (suc n) zero few work span value fits reach =
+    let rest : value + 0 * s.value + later_value ≤ best_of (replicate n s ++ more) work span value =
+    best_copies s more S later_work later_value E goes_on n zero (omega arith) work span value fits reach in
+    omega (arith, rest, best_without s (replicate n s ++ more) work span value)
+best_copies s more S later_work later_value E goes_on (suc n) (suc c) few work span value fits reach =
+    let rest : value + s.value + c * s.value + later_value
+    ≤ best_of (replicate n s ++ more) (work + s.work) (max span s.span) (value + s.value) =
+    best_copies s more S later_work later_value E goes_on n c (omega (arith, few)) (work + s.work) (max span s.span)
+    (value + s.value) (omega (arith, fits)) (by_reach reach) in
+    omega (arith, rest, best_with s (replicate n s ++ more) work span value) where
+      by_reach : (S ≤ span) ⊎ (((1 ≤ suc c) × (S ≤ s.span)) ⊎ E)
+          → (S ≤ max span s.span) ⊎ (((1 ≤ c) × (S ≤ s.span)) ⊎ E)
+      by_reach (inl low) = inl (omega (arith, low))
+      by_reach (inr (inl it)) = let low : S ≤ s.span = it.1 in inl (omega (arith, low))
+      by_reach (inr (inr e)) = inr (inr e)
+
+-- the work, and the value, of so many jobs of these streams
+abbrev all_work : (ℕ → ℕ) → List (ℕ × Stream) → ℕ
+all_work counts ys = sum_by (λ y_s. counts y_s.0 * y_s.1.work) ys
+
+abbrev all_value : (ℕ → ℕ) → List (ℕ × Stream) → ℕ
+all_value counts ys = sum_by (λ y_s. counts y_s.0 * y_s.1.value) ys
+
+-- a stream of which a job is chosen has a span of S or more
+abbrev Reaches : (ℕ → ℕ) → ℕ → List (ℕ × Stream) → Type 0
+Reaches counts S ys = (y_s : ℕ × Stream) × IsMember y_s ys × (1 ≤ counts y_s.0) × (S ≤ y_s.1.span)
+
+-- so it is of several streams
+best_streams : (counts : ℕ → ℕ) (x S : ℕ) → counts x ≡ 0 → (ys : List (ℕ × Stream))
+    → Each (λ y_s. counts y_s.0 ≤ most_crossing y_s.1) ys → (work span value : ℕ) → work + all_work counts ys ≤ S
+    → (S ≤ span) ⊎ Reaches counts S ys → value + all_value counts ys ≤ best_of (others x ys) work span value
+best_streams counts x S none [] few work span value fits (inl low) =
+    subst (λ b. value + 0 ≤ cond b value 0) (sym (le-leb work span (omega (arith, fits, low)))) (omega arith)
+best_streams counts x S none [] few work span value fits (inr it) = absurd it.1
+best_streams counts x S none (y_s ∷ ys) few work span value fits reach =
+    by_number (eqb y_s.0 x) refl
+    (λ w sp v fit far. best_streams counts x S none ys (λ z m. few z (inr m)) w sp v fit far)
+    (sum_by-cons (λ z_s. counts z_s.0 * z_s.1.work) y_s ys)
+    (sum_by-cons (λ z_s. counts z_s.0 * z_s.1.value) y_s ys) where
+      split : (S ≤ span) ⊎ Reaches counts S (y_s ∷ ys)
+          → (S ≤ span) ⊎ (((1 ≤ counts y_s.0) × (S ≤ y_s.1.span)) ⊎ Reaches counts S ys)
+      split (inl low) = inl low
+      split (inr (z, inl e, some, low)) =
+          inr (inl (subst (λ (u : ℕ × Stream). (1 ≤ counts u.0) × (S ≤ u.1.span)) e (some, low)))
+      split (inr (z, inr m, some, low)) = inr (inr (z, m, some, low))
+
+      by_number : (b : Bool) → eqb y_s.0 x ≡ b
+          → ((w sp v : ℕ) → w + all_work counts ys ≤ S → (S ≤ sp) ⊎ Reaches counts S ys
+          → v + all_value counts ys ≤ best_of (others x ys) w sp v)
+          → all_work counts (y_s ∷ ys) ≡ counts y_s.0 * y_s.1.work + all_work counts ys
+          → all_value counts (y_s ∷ ys) ≡ counts y_s.0 * y_s.1.value + all_value counts ys
+          → value + all_value counts (y_s ∷ ys)
+          ≤ best_of (cond b [] (replicate (most_crossing y_s.1) y_s.1) ++ others x ys) work span value
+      by_number false differs goes_on works values =
+          let rest : value + counts y_s.0 * y_s.1.value + all_value counts ys
+          ≤ best_of (replicate (most_crossing y_s.1) y_s.1 ++ others x ys) work span value =
+          best_copies y_s.1 (others x ys) S (all_work counts ys) (all_value counts ys) (Reaches counts S ys) goes_on
+          (most_crossing y_s.1) (counts y_s.0) (few y_s (inl refl)) work span value (omega (arith, fits, works))
+          (split reach) in
+          omega (arith, rest, values)
+      by_number true same goes_on works values =
+          let nothing : counts y_s.0 ≡ 0 = ap counts (eqb-true _ _ same) ∙ none in
+          let no_work : counts y_s.0 * y_s.1.work ≡ 0 * y_s.1.work = ap (λ c. c * y_s.1.work) nothing in
+          let no_value : counts y_s.0 * y_s.1.value ≡ 0 * y_s.1.value = ap (λ c. c * y_s.1.value) nothing in
+          let rest : value + all_value counts ys ≤ best_of (others x ys) work span value =
+          goes_on work span value (omega (arith, fits, works, no_work)) (later (split reach) nothing) in
+          omega (arith, rest, values, no_value) where
+            later : (S ≤ span) ⊎ (((1 ≤ counts y_s.0) × (S ≤ y_s.1.span)) ⊎ Reaches counts S ys)
+                → counts y_s.0 ≡ 0 → (S ≤ span) ⊎ Reaches counts S ys
+            later (inl low) nothing = inl low
+            later (inr (inl it)) nothing = let some : 1 ≤ counts y_s.0 = it.0 in absurd (omega (arith, some, nothing))
+            later (inr (inr it)) nothing = inr it
+
+-- what can be stacked is worth no more than what fits the greatest span
+pub stacked_most : (streams : List Stream) (x : ℕ) (counts : ℕ → ℕ) → CanStack streams x counts
+    → worth_of counts streams ≤ most_fitting streams x
+stacked_most streams x counts can = by_some (any_chosen (enumerate_from 0 streams)) where
+  few : Each (λ y_s. counts y_s.0 ≤ most_crossing y_s.1) (enumerate_from 0 streams)
+  few y_s m = subst (λ (s : Stream). counts y_s.0 ≤ most_crossing s) (stream_is streams y_s m)
+      (can.few y_s.0 (let place : y_s.0 < 0 + length streams = has_place 0 streams y_s m in omega (arith, place)))
+
+  chosen : ℕ × Stream → Bool
+  chosen y_s = nat_le 1 (counts y_s.0)
+
+  any_chosen : (ys : List (ℕ × Stream)) → ((y_s : ℕ × Stream) × IsMember y_s ys × (chosen y_s ≡ true))
+      ⊎ Each (λ y_s. counts y_s.0 ≡ 0) ys
+  any_chosen [] = inr (λ y_s m. absurd m)
+  any_chosen (y_s ∷ ys) = by_test (chosen y_s) refl (any_chosen ys) where
+    by_test : (b : Bool) → chosen y_s ≡ b
+        → ((z : ℕ × Stream) × IsMember z ys × (chosen z ≡ true)) ⊎ Each (λ z. counts z.0 ≡ 0) ys
+        → ((z : ℕ × Stream) × IsMember z (y_s ∷ ys) × (chosen z ≡ true)) ⊎ Each (λ z. counts z.0 ≡ 0) (y_s ∷ ys)
+    by_test true e _ = inl (y_s, inl refl, e)
+    by_test false e (inl it) = inl (it.0, inr it.1, it.2)
+    by_test false e (inr none) = inr each where
+      each : Each (λ z. counts z.0 ≡ 0) (y_s ∷ ys)
+      each z (inl same) = subst (λ (u : ℕ × Stream). counts u.0 ≡ 0) (sym same)
+          (let low : counts y_s.0 < 1 = leb-false _ _ e in omega (arith, low))
+      each z (inr m) = none z m
+
+  reached : (S : ℕ) → all_work counts (enumerate_from 0 streams) ≤ S
+      → (S ≤ 0) ⊎ Reaches counts S (enumerate_from 0 streams) → worth_of counts streams ≤ most_fitting streams x
+  reached S fits far =
+      let it : 0 + worth_of counts streams ≤ most_fitting streams x =
+      best_streams counts x S can.waits (enumerate_from 0 streams) few 0 0 0 (omega (arith, fits)) far in
+      omega (arith, it)
+
+  by_some : ((y_s : ℕ × Stream) × IsMember y_s (enumerate_from 0 streams) × (chosen y_s ≡ true))
+      ⊎ Each (λ y_s. counts y_s.0 ≡ 0) (enumerate_from 0 streams) → worth_of counts streams ≤ most_fitting streams x
+  by_some (inr none) =
+      let nothing : worth_of counts streams ≡ 0 =
+      sum_zero (λ y_s. counts y_s.0 * y_s.1.value) (enumerate_from 0 streams)
+      (λ y_s m. let zero_times : counts y_s.0 * y_s.1.value ≡ 0 * y_s.1.value =
+      ap (λ c. c * y_s.1.value) (none y_s m) in omega (arith, zero_times)) in
+      omega (arith, nothing)
+  by_some (inl it) = by_latest (latest chosen (λ y_s. y_s.1.span) (enumerate_from 0 streams) it.0 it.1 it.2) where
+    by_latest : (y : ℕ × Stream) × IsMember y (enumerate_from 0 streams) × (chosen y ≡ true)
+        × Each (λ z. chosen z ≡ true → z.1.span ≤ y.1.span) (enumerate_from 0 streams)
+        → worth_of counts streams ≤ most_fitting streams x
+    by_latest top =
+        let some : 1 ≤ counts top.0.0 = leb-true _ _ top.2 in
+        let place : top.0.0 < 0 + length streams = has_place 0 streams top.0 top.1 in
+        let fits : sum_by (work_within counts top.0.1.span) (enumerate_from 0 streams) ≤ top.0.1.span =
+        subst (λ (s : Stream). sum_by (work_within counts s.span) (enumerate_from 0 streams) ≤ s.span)
+        (stream_is streams top.0 top.1) (can.fitting top.0.0 (omega (arith, place)) some) in
+        let less : all_work counts (enumerate_from 0 streams)
+        ≤ sum_by (work_within counts top.0.1.span) (enumerate_from 0 streams) =
+        sum_le (λ y_s. counts y_s.0 * y_s.1.work) (work_within counts top.0.1.span) (enumerate_from 0 streams)
+        (λ y_s m. by_test y_s (chosen y_s) refl (top.3 y_s m)) in
+        reached top.0.1.span (omega (arith, fits, less)) (inr (top.0, top.1, some, omega arith)) where
+          by_test : (y_s : ℕ × Stream) (b : Bool) → chosen y_s ≡ b
+              → (chosen y_s ≡ true → y_s.1.span ≤ top.0.1.span)
+              → counts y_s.0 * y_s.1.work ≤ cond (nat_le y_s.1.span top.0.1.span) (counts y_s.0 * y_s.1.work) 0
+          by_test y_s true e low = subst (λ c. counts y_s.0 * y_s.1.work ≤ cond c (counts y_s.0 * y_s.1.work) 0)
+              (sym (le-leb _ _ (low e))) (omega arith)
+          by_test y_s false e low =
+              let few_ones : counts y_s.0 < 1 = leb-false _ _ e in
+              let nothing : counts y_s.0 ≡ 0 = omega (arith, few_ones) in
+              let zero_times : counts y_s.0 * y_s.1.work ≡ 0 * y_s.1.work = ap (λ c. c * y_s.1.work) nothing in
+              omega (arith, zero_times)
+
+-- so what is heavy against that is heavy against whatever can be stacked
+pub heavy_by_sets : (k : Fraction) (streams : List Stream) (x v : ℕ) → IsHeavy k v (most_fitting streams x)
+    → (counts : ℕ → ℕ) → CanStack streams x counts → IsHeavy k v (worth_of counts streams)
+heavy_by_sets k streams x v heavy counts can =
+    heavy_mono k v (worth_of counts streams) (most_fitting streams x) (stacked_most streams x counts can) heavy
+
+module _ (J : Instance) (streams : List Stream) (of : ℕ → ℕ) (n : ℕ) (j : JobFacts) (valid : IsValid J)
+    (dated : IsByDeadline J.rules.version)
+    (are : AreOfStreams streams of J) (there : IsMember (n, j) (numbered J))
+    (sure : IsSure J.rules.ratio streams (of n) j) where
+  -- the job's stream
+  abbrev mine : Stream
+  mine = stream_at streams (of n)
+
+  -- its latest start
+  abbrev start : ℕ
+  start = j.deadline - j.work
+
+  -- each job keeps the limits of one job
+  limits : (m_i : ℕ × JobFacts) → IsMember m_i (numbered J) → JobLimits m_i.1
+  limits m_i member = job_limits (all_numbered 0 J.jobs (all_member IsJob J.jobs (valid_parts valid).each) m_i member)
+    where
+      all_numbered : (k : ℕ) (jobs : List JobFacts) → Each IsJob jobs → (m_i : ℕ × JobFacts)
+          → IsMember m_i (enumerate_from k jobs) → IsJob m_i.1
+      all_numbered k [] each m_i member = absurd member
+      all_numbered k (i ∷ jobs) each m_i (inl e) = subst (λ (x : ℕ × JobFacts). IsJob x.1) (sym e) (each i (inl refl))
+      all_numbered k (i ∷ jobs) each m_i (inr member) =
+          all_numbered (k + 1) jobs (λ x m. each x (inr m)) m_i member
+
+  -- another job of the same stream doesn't cross its latest start
+  none_of_mine : (m_i : ℕ × JobFacts) → IsMember m_i (numbered J) → of m_i.0 ≡ of n → (m_i.0 ≡ n → ⊥)
+      → crosses start m_i.1 ≡ true → ⊥
+  none_of_mine m_i member same differs crossing = by_order (cases_lt m_i.0 n) where
+    ends : (nat_le m_i.1.release start ≡ true) × (nat_lt start m_i.1.deadline ≡ true)
+    ends = and_parts (nat_le m_i.1.release start) (nat_lt start m_i.1.deadline) crossing
+
+    released : m_i.1.release ≤ start
+    released = leb-true _ _ ends.0
+
+    late : start < m_i.1.deadline
+    late = ltb-true _ _ ends.1
+
+    due : m_i.1.deadline ≤ m_i.1.release + mine.span
+    due = subst (λ y. m_i.1.deadline ≤ m_i.1.release + (stream_at streams y).span) same (are.within m_i member).span
+
+    window : j.release + j.work ≤ j.deadline
+    window = (limits (n, j) there).window
+
+    by_order : (m_i.0 < n) ⊎ (n ≤ m_i.0) → ⊥
+    by_order (inl before) =
+        let apart : m_i.1.release + mine.apart ≤ j.release =
+        subst (λ y. m_i.1.release + (stream_at streams y).apart ≤ j.release) same
+        (are.apart m_i (n, j) member there same before) in
+        omega (arith, apart, late, due, window, sure.behind_earlier)
+    by_order (inr not_before) =
+        let apart : j.release + mine.apart ≤ m_i.1.release =
+        are.apart (n, j) m_i there member (sym same) (omega (arith, not_before, differs)) in
+        omega (arith, apart, released, window, sure.before_later)
+
+  module _ (chosen : ℕ → Bool) (can : CanHold J n start chosen) where
+    -- a chosen job of a stream
+    abbrev is_one : ℕ → ℕ × JobFacts → Bool
+    is_one y m_i = eqb (of m_i.0) y && chosen m_i.0
+
+    -- how many of a stream are chosen
+    abbrev counts : ℕ → ℕ
+    counts y = sum_by (λ m_i. cond (is_one y m_i) 1 0) (numbered J)
+
+    -- none of the job's own
+    own_none : counts (of n) ≡ 0
+    own_none = sum_zero (λ m_i. cond (is_one (of n) m_i) 1 0) (numbered J)
+        (λ m_i m. by_test m_i m (is_one (of n) m_i) refl) where
+          by_test : (m_i : ℕ × JobFacts) → IsMember m_i (numbered J) → (b : Bool) → is_one (of n) m_i ≡ b
+              → ◌≡◌ {A = ℕ} (cond b 1 0) 0
+          by_test m_i m false _ = refl
+          by_test m_i m true passed = absurd (let both : (eqb (of m_i.0) (of n) ≡ true) × (chosen m_i.0 ≡ true) =
+              and_parts (eqb (of m_i.0) (of n)) (chosen m_i.0) passed in
+              none_of_mine m_i m (eqb-true _ _ both.0)
+              (λ e. never (sym can.waits ∙ subst (λ i. chosen i ≡ true) e both.1)) (can.crossing m_i m both.1))
+
+    -- as many as can cross a tick
+    few_count : (y : ℕ) → y < length streams → counts y ≤ most_crossing (stream_at streams y)
+    few_count y place =
+        let less : counts y
+        ≤ sum_by (one of y (stream_at streams y).apart (stream_at streams y).span start) (numbered J) =
+        sum_le (λ m_i. cond (is_one y m_i) 1 0) (one of y (stream_at streams y).apart (stream_at streams y).span start)
+        (numbered J) (λ m_i m. by_tests m_i m (eqb (of m_i.0) y) (chosen m_i.0) refl) in
+        let most : sum_by (one of y (stream_at streams y).apart (stream_at streams y).span start) (numbered J)
+        ≤ most_crossing (stream_at streams y) =
+        count_most of y (stream_at streams y).apart (stream_at streams y).span start J.jobs
+        (are.spaced (stream_at streams y) (at_place streams y place))
+        (λ m_i n_j mm mn same too before. subst (λ z. m_i.1.release + (stream_at streams z).apart ≤ n_j.1.release)
+        same (are.apart m_i n_j mm mn (same ∙ sym too) before))
+        (λ m_i m same. subst (λ z. m_i.1.deadline ≤ m_i.1.release + (stream_at streams z).span) same
+        (are.within m_i m).span) in
+        omega (arith, less, most) where
+          by_tests : (m_i : ℕ × JobFacts) → IsMember m_i (numbered J) → (a b : Bool) → chosen m_i.0 ≡ b
+              → cond (a && b) 1 0 ≤ cond (a && crosses start m_i.1) 1 0
+          by_tests m_i m false b e = omega arith
+          by_tests m_i m true false e = omega arith
+          by_tests m_i m true true e =
+              subst (λ c. 1 ≤ cond c 1 0) (sym (can.crossing m_i m e)) (omega arith)
+
+    module _ (span : ℕ) where
+      -- a chosen job of a stream of no greater span
+      abbrev is_short : ℕ × JobFacts → Bool
+      is_short m_i = chosen m_i.0 && nat_le (stream_at streams (of m_i.0)).span span
+
+      -- the work of so many is that of the jobs, or less
+      works : sum_by (work_within counts span) (enumerate_from 0 streams)
+          ≤ sum_by (λ m_i. cond (is_short m_i) m_i.1.work 0) (numbered J)
+      works =
+          let each : sum_by (work_within counts span) (enumerate_from 0 streams)
+          ≤ sum_by (λ (y_s : ℕ × Stream). sum_by (λ m_i. cond (eqb (of m_i.0) y_s.0)
+          (cond (is_short m_i) m_i.1.work 0) 0) (numbered J)) (enumerate_from 0 streams) =
+          sum_le (work_within counts span) (λ y_s. sum_by (λ m_i. cond (eqb (of m_i.0) y_s.0)
+          (cond (is_short m_i) m_i.1.work 0) 0) (numbered J)) (enumerate_from 0 streams) of_stream in
+          omega (
+            arith,
+            each,
+            by_labels_back (λ (m_i : ℕ × JobFacts). of m_i.0)
+                (λ m_i. cond (is_short m_i) m_i.1.work 0) streams (numbered J),
+          ) where
+            of_stream : Each (λ y_s. work_within counts span (y_s.0, y_s.1)
+                ≤ sum_by (λ m_i. cond (eqb (of m_i.0) y_s.0) (cond (is_short m_i) m_i.1.work 0) 0) (numbered J))
+                (enumerate_from 0 streams)
+            of_stream y_s m = by_span (nat_le y_s.1.span span) refl where
+              by_span : (b : Bool) → nat_le y_s.1.span span ≡ b → cond b (counts y_s.0 * y_s.1.work) 0
+                  ≤ sum_by (λ m_i. cond (eqb (of m_i.0) y_s.0) (cond (is_short m_i) m_i.1.work 0) 0) (numbered J)
+              by_span false _ = omega arith
+              by_span true short =
+                  let all : y_s.1.work * counts y_s.0
+                  ≤ 1 * sum_by (λ m_i. cond (eqb (of m_i.0) y_s.0) (cond (is_short m_i) m_i.1.work 0) 0)
+                  (numbered J) =
+                  scaled_sum y_s.1.work 1 (λ m_i. cond (is_one y_s.0 m_i) 1 0)
+                  (λ m_i. cond (eqb (of m_i.0) y_s.0) (cond (is_short m_i) m_i.1.work 0) 0) (numbered J)
+                  (λ m_i mm. term m_i mm (eqb (of m_i.0) y_s.0) refl (chosen m_i.0)) in
+                  omega (arith, all) where
+                    term : (m_i : ℕ × JobFacts) → IsMember m_i (numbered J) → (a : Bool)
+                        → eqb (of m_i.0) y_s.0 ≡ a → (b : Bool)
+                        → y_s.1.work * cond (a && b) 1 0
+                        ≤ 1 * cond a (cond (b && nat_le (stream_at streams (of m_i.0)).span span) m_i.1.work 0) 0
+                    term m_i mm false e b = omega arith
+                    term m_i mm true e false = omega arith
+                    term m_i mm true e true =
+                        let is : stream_at streams (of m_i.0) ≡ y_s.1 =
+                        ap (λ y. stream_at streams y) (eqb-true _ _ e) ∙ stream_is streams y_s m in
+                        let least : (stream_at streams (of m_i.0)).work ≤ m_i.1.work = (are.within m_i mm).work in
+                        let work : (stream_at streams (of m_i.0)).work ≡ y_s.1.work =
+                        ap (λ (s : Stream). s.work) is in
+                        let passes : nat_le (stream_at streams (of m_i.0)).span span ≡ true =
+                        subst (λ (s : Stream). nat_le s.span span ≡ true) (sym is) short in
+                        rw passes (omega (arith, least, work))
+
+      -- where one of them is chosen, all of them are within the span
+      short_fit : (m_i : ℕ × JobFacts) → IsMember m_i (numbered J) → is_short m_i ≡ true
+          → sum_by (work_within counts span) (enumerate_from 0 streams) ≤ span
+      short_fit m_i m is = by_latest (latest is_short (λ k_l. k_l.1.deadline) (numbered J) m_i m is) where
+        by_latest : (y : ℕ × JobFacts) × IsMember y (numbered J) × (is_short y ≡ true)
+            × Each (λ z. is_short z ≡ true → z.1.deadline ≤ y.1.deadline) (numbered J)
+            → sum_by (work_within counts span) (enumerate_from 0 streams) ≤ span
+        by_latest it =
+            let both : (chosen it.0.0 ≡ true) × (nat_le (stream_at streams (of it.0.0)).span span ≡ true) =
+            and_parts (chosen it.0.0) (nat_le (stream_at streams (of it.0.0)).span span) it.2 in
+            let small : (stream_at streams (of it.0.0)).span ≤ span = leb-true _ _ both.1 in
+            let fits : sum_by (chosen_work chosen it.0.1.deadline) (numbered J) + it.0.1.release ≤ it.0.1.deadline =
+            can.fitting it.0 it.1 both.0 in
+            let due : it.0.1.deadline ≤ it.0.1.release + (stream_at streams (of it.0.0)).span =
+            (are.within it.0 it.1).span in
+            let less : sum_by (λ k_l. cond (is_short k_l) k_l.1.work 0) (numbered J)
+            ≤ sum_by (chosen_work chosen it.0.1.deadline) (numbered J) =
+            sum_le (λ k_l. cond (is_short k_l) k_l.1.work 0) (chosen_work chosen it.0.1.deadline) (numbered J)
+            (λ k_l mk. by_tests k_l (chosen k_l.0) refl (nat_le (stream_at streams (of k_l.0)).span span) refl
+            (it.3 k_l mk)) in
+            omega (arith, small, fits, due, less, works) where
+              by_tests : (k_l : ℕ × JobFacts) → (a : Bool) → chosen k_l.0 ≡ a → (b : Bool)
+                  → nat_le (stream_at streams (of k_l.0)).span span ≡ b
+                  → (is_short k_l ≡ true → k_l.1.deadline ≤ it.0.1.deadline)
+                  → cond (a && b) k_l.1.work 0
+                  ≤ cond (a && nat_le k_l.1.deadline it.0.1.deadline) k_l.1.work 0
+              by_tests k_l false e b f low = omega arith
+              by_tests k_l true e false f low = omega arith
+              by_tests k_l true e true f low =
+                  subst (λ c. k_l.1.work ≤ cond c k_l.1.work 0)
+                  (sym (le-leb _ _ (low (and_from (chosen k_l.0)
+                  (nat_le (stream_at streams (of k_l.0)).span span) e f)))) (omega arith)
+
+    -- so they can be stacked
+    can_stack : CanStack streams (of n) counts
+    can_stack = record {
+      waits = own_none;
+      few = few_count;
+      fitting = λ y place some. by_one y place (some_counted (is_one y) (numbered J) some);
+    } where
+      by_one : (y : ℕ) → y < length streams
+          → (m_i : ℕ × JobFacts) × IsMember m_i (numbered J) × (is_one y m_i ≡ true)
+          → sum_by (work_within counts (stream_at streams y).span) (enumerate_from 0 streams)
+          ≤ (stream_at streams y).span
+      by_one y place it =
+          let both : (eqb (of it.0.0) y ≡ true) × (chosen it.0.0 ≡ true) =
+          and_parts (eqb (of it.0.0) y) (chosen it.0.0) it.2 in
+          let same : (stream_at streams (of it.0.0)).span ≡ (stream_at streams y).span =
+          ap (λ z. (stream_at streams z).span) (eqb-true _ _ both.0) in
+          short_fit (stream_at streams y).span it.0 it.1
+          (and_from (chosen it.0.0) (nat_le (stream_at streams (of it.0.0)).span (stream_at streams y).span) both.1
+          (le-leb _ _ (omega (arith, same))))
+
+    -- and are worth no less
+    worth_more : sum_by (chosen_value chosen) (numbered J) ≤ worth_of counts streams
+    worth_more =
+        let parts : sum_by (λ m_i. cond (chosen m_i.0) m_i.1.value 0) (numbered J)
+        ≤ sum_by (λ y_s. sum_by (λ m_i. cond (eqb (of m_i.0) y_s.0) (cond (chosen m_i.0) m_i.1.value 0) 0)
+        (numbered J)) (enumerate_from 0 streams) =
+        by_labels (λ (m_i : ℕ × JobFacts). of m_i.0) (λ (y_s : ℕ × Stream). y_s.0)
+        (λ m_i. cond (chosen m_i.0) m_i.1.value 0) (enumerate_from 0 streams) (numbered J)
+        (λ m_i m. (
+          (of m_i.0, stream_at streams (of m_i.0)),
+          member_at streams blank_stream (of m_i.0) (are.named m_i m),
+          refl,
+        )) in
+        let each : sum_by (λ y_s. sum_by (λ m_i. cond (eqb (of m_i.0) y_s.0) (cond (chosen m_i.0) m_i.1.value 0) 0)
+        (numbered J)) (enumerate_from 0 streams) ≤ worth_of counts streams =
+        sum_le (λ y_s. sum_by (λ m_i. cond (eqb (of m_i.0) y_s.0) (cond (chosen m_i.0) m_i.1.value 0) 0) (numbered J))
+        (λ y_s. counts y_s.0 * y_s.1.value) (enumerate_from 0 streams) of_stream in
+        omega (arith, parts, each) where
+          of_stream : Each (λ y_s. sum_by (λ m_i. cond (eqb (of m_i.0) y_s.0) (cond (chosen m_i.0) m_i.1.value 0) 0)
+              (numbered J) ≤ counts y_s.0 * y_s.1.value) (enumerate_from 0 streams)
+          of_stream y_s m =
+              let all : 1 * sum_by (λ m_i. cond (eqb (of m_i.0) y_s.0) (cond (chosen m_i.0) m_i.1.value 0) 0)
+              (numbered J) ≤ y_s.1.value * counts y_s.0 =
+              scaled_sum 1 y_s.1.value
+              (λ m_i. cond (eqb (of m_i.0) y_s.0) (cond (chosen m_i.0) m_i.1.value 0) 0)
+              (λ m_i. cond (is_one y_s.0 m_i) 1 0) (numbered J)
+              (λ m_i mm. term m_i mm (eqb (of m_i.0) y_s.0) refl (chosen m_i.0)) in
+              omega (arith, all) where
+                term : (m_i : ℕ × JobFacts) → IsMember m_i (numbered J) → (a : Bool) → eqb (of m_i.0) y_s.0 ≡ a
+                    → (b : Bool) → 1 * cond a (cond b m_i.1.value 0) 0 ≤ y_s.1.value * cond (a && b) 1 0
+                term m_i mm false e b = omega arith
+                term m_i mm true e false = omega arith
+                term m_i mm true e true =
+                    let most : m_i.1.value ≤ (stream_at streams (of m_i.0)).value = (are.within m_i mm).value in
+                    let worth : (stream_at streams (of m_i.0)).value ≡ y_s.1.value =
+                    ap (λ y. (stream_at streams y).value) (eqb-true _ _ e)
+                    ∙ ap (λ (s : Stream). s.value) (stream_is streams y_s m) in
+                    omega (arith, most, worth)
+
+  -- it is heavy at its latest start
+  heavy_there : IsHeavyAt J n j start
+  heavy_there chosen can =
+      heavy_mono J.rules.ratio j.value (sum_by (chosen_value chosen) (numbered J))
+      (worth_of (counts chosen can) streams) (worth_more chosen can)
+      (sure.heavy (counts chosen can) (can_stack chosen can))
+
+  -- one job of another stream can be stacked
+  module _ (y : ℕ) (place : y < length streams) (apart : eqb y (of n) ≡ false)
+      (gaps : 1 ≤ most_crossing (stream_at streams y))
+      (fits : (stream_at streams y).work ≤ (stream_at streams y).span) where
+    -- it alone
+    abbrev alone : ℕ → ℕ
+    alone z = cond (eqb z y) 1 0
+
+    alone_work : (span : ℕ) → sum_by (work_within alone span) (enumerate_from 0 streams) ≤ (stream_at streams y).work
+    alone_work span =
+        let less : sum_by (work_within alone span) (enumerate_from 0 streams)
+        ≤ sum_by (λ z_s. cond (eqb y z_s.0) (stream_at streams y).work 0) (enumerate_from 0 streams) =
+        sum_le (work_within alone span) (λ z_s. cond (eqb y z_s.0) (stream_at streams y).work 0)
+        (enumerate_from 0 streams) (λ z_s m. by_tests z_s m (nat_le z_s.1.span span) (eqb z_s.0 y) refl) in
+        omega (arith, less, once y (stream_at streams y).work 0 streams) where
+          by_tests : (z_s : ℕ × Stream) → IsMember z_s (enumerate_from 0 streams) → (a b : Bool) → eqb z_s.0 y ≡ b
+              → cond a (cond b 1 0 * z_s.1.work) 0 ≤ cond (eqb y z_s.0) (stream_at streams y).work 0
+          by_tests z_s m false b e = omega arith
+          by_tests z_s m true false e = omega arith
+          by_tests z_s m true true e =
+              let same : z_s.0 ≡ y = eqb-true _ _ e in
+              let work : (stream_at streams y).work ≡ z_s.1.work =
+              ap (λ (s : Stream). s.work) (ap (λ z. stream_at streams z) (sym same) ∙ stream_is streams z_s m) in
+              subst (λ c. 1 * z_s.1.work ≤ cond c (stream_at streams y).work 0) (sym (eq-eqb y z_s.0 (sym same)))
+              (omega (arith, work))
+
+    alone_stack : CanStack streams (of n) alone
+    alone_stack = record {
+      waits = ap (λ b. cond {A = ℕ} b 1 0) (ne_eqb (of n) y (λ e. never (sym apart ∙ eq-eqb y (of n) (sym e))));
+      few = λ z less. by_number z (eqb z y) refl;
+      fitting = λ z less some. by_some z (eqb z y) refl some;
+    } where
+      by_number : (z : ℕ) (b : Bool) → eqb z y ≡ b → cond b 1 0 ≤ most_crossing (stream_at streams z)
+      by_number z false e = omega arith
+      by_number z true e = subst (λ u. 1 ≤ most_crossing (stream_at streams u)) (sym (eqb-true _ _ e)) gaps
+
+      by_some : (z : ℕ) (b : Bool) → eqb z y ≡ b → 1 ≤ cond b 1 0
+          → sum_by (work_within alone (stream_at streams z).span) (enumerate_from 0 streams)
+          ≤ (stream_at streams z).span
+      by_some z false e some = absurd (omega arith)
+      by_some z true e some =
+          let same : (stream_at streams z).span ≡ (stream_at streams y).span =
+          ap (λ u. (stream_at streams u).span) (eqb-true _ _ e) in
+          omega (arith, same, fits, alone_work (stream_at streams z).span)
+
+    -- so the job's value is more than its
+    alone_less : (stream_at streams y).value < j.value
+    alone_less =
+        let part : alone y * (stream_at streams y).value ≤ worth_of alone streams =
+        term_le_sum (λ z_s. alone z_s.0 * z_s.1.value) (enumerate_from 0 streams) (y, stream_at streams y)
+        (member_at streams blank_stream y place) in
+        let is : alone y * (stream_at streams y).value ≡ 1 * (stream_at streams y).value =
+        ap (λ b. cond {A = ℕ} b 1 0 * (stream_at streams y).value) (eq-eqb y y refl) in
+        let more : worth_of alone streams < j.value =
+        heavy_more J.rules.ratio j.value (worth_of alone streams) (sure.heavy alone alone_stack) in
+        omega (arith, part, is, more)
+
+  -- no job is heavy against it
+  none_heavy : (m_i : ℕ × JobFacts) → IsMember m_i (numbered J) → IsHeavy J.rules.ratio m_i.1.value j.value → ⊥
+  none_heavy m_i member heavy = by_number (eqb (of m_i.0) (of n)) refl where
+    above : j.value < m_i.1.value
+    above = heavy_more J.rules.ratio m_i.1.value j.value heavy
+
+    most : m_i.1.value ≤ (stream_at streams (of m_i.0)).value
+    most = (are.within m_i member).value
+
+    window : m_i.1.release + m_i.1.work ≤ m_i.1.deadline
+    window = (limits m_i member).window
+
+    working : 1 ≤ m_i.1.work
+    working = (limits m_i member).work
+
+    due : m_i.1.deadline ≤ m_i.1.release + (stream_at streams (of m_i.0)).span
+    due = (are.within m_i member).span
+
+    least : (stream_at streams (of m_i.0)).work ≤ m_i.1.work
+    least = (are.within m_i member).work
+
+    gaps : 1 ≤ most_crossing (stream_at streams (of m_i.0))
+    gaps = some_gaps (stream_at streams (of m_i.0)).span (stream_at streams (of m_i.0)).apart
+        (omega (arith, window, working, due)) (are.spaced (stream_at streams (of m_i.0))
+        (at_place streams (of m_i.0) (are.named m_i member)))
+
+    by_number : (b : Bool) → eqb (of m_i.0) (of n) ≡ b → ⊥
+    by_number true same =
+        let worth : (stream_at streams (of m_i.0)).value ≡ mine.value =
+        ap (λ y. (stream_at streams y).value) (eqb-true _ _ same) in
+        sure.own (heavy_up J.rules.ratio m_i.1.value mine.value j.value (omega (arith, most, worth)) heavy)
+    by_number false differs =
+        let less : (stream_at streams (of m_i.0)).value < j.value =
+        alone_less (of m_i.0) (are.named m_i member) differs gaps (omega (arith, window, due, least)) in
+        omega (arith, above, most, less)
+
+  -- so it is completed
+  pub sure_job : IsCompleted J n j
+  sure_job = heavy_at_start J n j valid dated there heavy_there none_displaces where
+    none_displaces : NoneDisplaces J j
+    none_displaces i member due from heavy = by_name (number_of 0 J.jobs i member) where
+      by_name : (m : ℕ) × IsMember (m, i) (enumerate_from 0 J.jobs) → ⊥
+      by_name it = none_heavy (it.0, i) it.1 heavy
+
+-- the law
+pub sure_streams : (J : Instance) (streams : List Stream) (of : ℕ → ℕ) (n : ℕ) (j : JobFacts) → IsValid J
+    → IsByDeadline J.rules.version → AreOfStreams streams of J → IsMember (n, j) (numbered J) → IsSure J.rules.ratio
+        streams (of n) j
+    → IsCompleted J n j
+sure_streams J streams of n j valid dated are there sure = sure_job J streams of n j valid dated are there sure

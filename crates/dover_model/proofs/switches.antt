@@ -1,0 +1,6 @@
+-- How often the processor changes hands, who pays for it, and what it costs.
+pub mod Switching
+pub mod Stretches
+pub mod PayingForward
+pub mod Families
+pub mod FewChanges
