@@ -25,13 +25,16 @@ pub use Rattle.dover_model.specs.Instance.{bare, Declaration, declared_by, finis
 pub use Rattle.dover_model.specs.Instance.{is_within_ratio, IsInOrder, IsListable, IsValid, jobs_under, Rules}
 pub use Rattle.dover_model.specs.Instance.{total_value, under, with_finishes, with_jobs}
 pub use Rattle.dover_model.specs.Schedules.{earned, is_served, Meets, numbered, ticks_given, worth}
-pub use Rattle.dover_model.specs.State.{demand_by, demand_up_to, held, is_coming, is_done, is_fresh, is_held, is_open_job}
-pub use Rattle.dover_model.specs.State.{is_over, is_privileged, is_ready_behind, is_running, is_waiting, latest_start, least}
+pub use Rattle.dover_model.specs.State.{demand_by, demand_up_to, held, is_coming, is_done, is_fresh, is_held}
+pub use Rattle.dover_model.specs.State.{is_open_job}
+pub use Rattle.dover_model.specs.State.{is_over, is_privileged, is_ready_behind, is_running, is_waiting, latest_start}
+pub use Rattle.dover_model.specs.State.{least}
 pub use Rattle.dover_model.specs.State.{left, opening, privileged, room, running, State, state_at, to_come, value_sum}
 pub use Rattle.dover_model.specs.State.{waiting, with_later}
 pub use Rattle.dover_model.specs.Ready.{is_ready, with_fresh}
 pub use Rattle.dover_model.specs.Entries.{entry_of, is_due_before, is_start_before, IsStrictOrder, room_of, wins_tie}
-pub use Rattle.dover_model.specs.Orders.{by_density, due_first, earlier, first, is_heavy, is_less_dense, IsByDeadline, IsHeavy, starts_before}
+pub use Rattle.dover_model.specs.Orders.{by_density, due_first, earlier, first, is_heavy, is_less_dense, IsByDeadline}
+pub use Rattle.dover_model.specs.Orders.{IsHeavy, starts_before}
 pub use Rattle.dover_model.specs.Orders.{waiting_order}
 pub use Rattle.dover_model.specs.Step.{after, alarm, arrival, completion, decision, declared_open_step, declared_step}
 pub use Rattle.dover_model.specs.Step.{dispatch, displaced, due_finish, ending, finish_or, is_at_latest_start, Move}

@@ -198,7 +198,8 @@ pub books_done : (k : Fraction) (v w : ℕ) (s : State) (r : Task) {closed : Lis
     → Booked k v w (state_with s r Done) closed current
     → Booked k v w (after s (Prints (Complete s.clock r.number))) closed current
 books_done k v w s r {closed} {current} books =
-    booked_pressing (s.pressed && list_any is_open_job (with_roles (changed r Done) s.tasks)) k v w (state_with s r Done)
+    booked_pressing (s.pressed && list_any is_open_job (with_roles (changed r Done) s.tasks)) k v w
+    (state_with s r Done)
     closed current books
 
 -- and behind an abandonment

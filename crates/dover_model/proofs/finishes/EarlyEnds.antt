@@ -44,7 +44,7 @@ use Rattle.dover_model.proofs.finishes.Further.{less_all}
 use Rattle.dover_model.proofs.lists.Tests.{never, none_is_some, each, below}
 use Rattle.dover_model.proofs.steps.Shown.{complete_event, complete_shows, early_shown, Shows, early_says, come_to_now}
 use Rattle.dover_model.proofs.steps.Shown.{coming_in, deed_in, items_of, items_cons}
-use Rattle.dover_model.specs.Common.{End, state_at}
+use Rattle.dover_model.specs.Common.{state_at}
 
 module _ (J : Instance) (valid : IsValid J) where
   -- ---- steps of the run

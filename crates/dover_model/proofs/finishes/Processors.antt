@@ -42,8 +42,12 @@ module _ (s : State) (sound : IsSound s) (x : Task) (there : IsMember x s.tasks)
   abbrev changed : Task → Task
   changed t = with_role t (cond (t.number == x.number) new t.role)
 
-  still : (o : Option ℕ) → HasRunner o s → HasRunner o (record { clock = s.clock; pressed = pressed; tasks = map
-      changed s.tasks })
+  still : (o : Option ℕ) → HasRunner o s → HasRunner o (record {
+    clock = s.clock;
+    pressed = pressed;
+    tasks = map
+        changed s.tasks;
+  })
   still None none = on_map changed (λ t. t.role ≡ Running → ⊥) s.tasks
       (λ t member. by_test t (t.number == x.number) (none t member)) where
         by_test : (t : Task) (b : Bool) → (t.role ≡ Running → ⊥) → cond b new t.role ≡ Running → ⊥

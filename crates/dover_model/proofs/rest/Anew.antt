@@ -5,7 +5,7 @@ use Rattle.std.proofs.Common.{nat_le, ◌==◌, count_by, sum_by, fold}
 use Rattle.std.specs.List.{enumerate_from}
 use Rattle.std.proofs.lemmas.List.Sums.{sum_by-cons}
 use Rattle.dover_model.specs.Common.{JobFacts, IsJob, Event, End, Coming, idle, Rules, Instance, IsValid, having}
-use Rattle.dover_model.specs.Common.{observed, observing, State, to_come, printed_of, printed, last_deadline}
+use Rattle.dover_model.specs.Common.{observed, observing, to_come, printed_of, printed, last_deadline}
 use Rattle.dover_model.specs.Common.{completed_value, ran, step_at, IsWholeRun, worth, IsWithin, Each, behind}
 use Rattle.dover_model.specs.Common.{before_end, later_job, later_event, Turn, turn_under, anew, printed_anew}
 use Rattle.dover_model.specs.Rest.{AreAnew, completed_anew}

@@ -16,7 +16,6 @@ use Rattle.dover_model.specs.Common.{printed_of, step_at, IsWholeRun, Each, JobF
 use Rattle.dover_model.proofs.steps.Kept.{move_of}
 use Rattle.dover_model.proofs.lists.Members.{map_map, map_same, sum_map, member_filter, on_map}
 use Rattle.dover_model.proofs.runs.RunLaws.{tasks_in, tasks_from}
-use Rattle.dover_model.specs.declared.events.Version.TheVariants.{Four}
 use Rattle.dover_model.specs.Common.{is_open_job}
 use Rattle.dover_model.specs.Orders.{waiting_order, by_density, is_less_dense}
 
@@ -439,7 +438,7 @@ module _ (c : ℕ) where
         (λ tasks. state_of (s.pressed && list_any is_open_job tasks) (s.clock + c) tasks)
         (change_later _ (λ _. refl) s.tasks)
         ∙ ap (λ b. state_of (s.pressed && b) (s.clock + c) (map (moved_task c) (after s (Prints (Complete at
-            m))).tasks))
+        m))).tasks))
         (any_later is_open_job (λ _. refl) (after s (Prints (Complete at m))).tasks)
     after_later s (Prints (Abandon at m)) = ap (state_of true (s.clock + c)) (change_later _ (λ _. refl) s.tasks)
     after_later s (Prints (Release n j)) = ap (state_of s.pressed (s.clock + c)) (change_later _ (λ _. refl) s.tasks)

@@ -22,10 +22,8 @@ use Rattle.dover_model.proofs.steps.Roles.{of_over, ticked_over}
 use Rattle.dover_model.proofs.finishes.Finishing.{none_without}
 use Rattle.std.specs.Option.{option_or}
 use Rattle.std.proofs.lemmas.List.Folds.{find-append}
-use Rattle.dover_model.specs.declared.events.Version.TheVariants.{Four}
 use Rattle.dover_model.specs.Common.{is_open_job}
 use Rattle.dover_model.specs.Orders.{waiting_order, by_density, is_less_dense}
-use Rattle.dover_model.proofs.steps.Roles.{passes}
 
 -- the task under a number that is greater by n
 abbrev pub shifted : ℕ → Task → Task
@@ -234,7 +232,8 @@ module _ (n : ℕ) where
         ∙ filter_shift n p same tasks
 
     -- some job is open just where one is behind
-    open_there : (tasks : List Task) → list_any is_open_job (overs ++ map (shifted n) tasks) ≡ list_any is_open_job tasks
+    open_there : (tasks : List Task)
+        → list_any is_open_job (overs ++ map (shifted n) tasks) ≡ list_any is_open_job tasks
     open_there tasks = front overs (over_fails is_open_job (λ _. refl) (λ _. refl)) where
       back : (ts : List Task) → list_any is_open_job (map (shifted n) ts) ≡ list_any is_open_job ts
       back [] = refl
@@ -577,10 +576,11 @@ module _ (rules : Rules) (n : ℕ) (first : List Finish) (own : Each (λ f. f.nu
         → after (beside n overs s) (moved n came_to m) ≡ beside n overs (after s m)
     after_beside s (Prints (Release m job)) = ap (state_of s.pressed s.clock) (one_beside s.clock m Fresh s.tasks)
     after_beside s (Prints (Run at m)) = ap (state_of s.pressed s.clock) (one_beside s.clock m Running s.tasks)
-    after_beside s (Prints (Complete at m)) = ap (λ tasks. state_of (s.pressed && list_any is_open_job tasks) s.clock tasks)
+    after_beside s (Prints (Complete at m)) =
+        ap (λ tasks. state_of (s.pressed && list_any is_open_job tasks) s.clock tasks)
         (one_beside s.clock m Done s.tasks)
         ∙ ap (λ b. state_of (s.pressed && b) s.clock (overs ++ map (shifted n) (after s (Prints (Complete at
-            m))).tasks))
+        m))).tasks))
         (open_there n overs over (after s (Prints (Complete at m))).tasks)
     after_beside s (Prints (Abandon at m)) = ap (state_of true s.clock) (one_beside s.clock m Gone s.tasks)
     after_beside s (Waits m) = ap (state_of s.pressed s.clock) (one_beside s.clock m Waiting s.tasks)

@@ -2,7 +2,9 @@
 use Rattle.std.proofs.Common.{◌≡◌, ℕ, zero, suc, inl, inr, List, [], ◌∷◌, refl, sym, ap, ◌∙◌, Bool, true, false}
 use Rattle.std.specs.Prelude.{◌&&◌}
 use Rattle.std.specs.List.{list_any}
-use Rattle.dover_model.specs.Common.{Three, Release, Run, Preempt, Take, Complete, Abandon, End, Rules, Instance, State, is_open_job, opening, Move, Prints, Waits, Ticks, step, after, urgent_or, finish_or, due_finish, ending, ◌or_else◌, Step, is_end, run, enough, Each}
+use Rattle.dover_model.specs.Common.{Three, Release, Run, Preempt, Take, Complete, Abandon, End, Rules, Instance, State}
+use Rattle.dover_model.specs.Common.{is_open_job, opening, Move, Prints, Waits, Ticks, step, after, urgent_or}
+use Rattle.dover_model.specs.Common.{finish_or, due_finish, ending, ◌or_else◌, Step, is_end, run, enough, Each}
 use Rattle.dover_model.specs.declared.events.Version.TheVariants.{Four}
 use Rattle.dover_model.specs.Instance.{in_version}
 use Rattle.dover_model.specs.Step.{seen_by}

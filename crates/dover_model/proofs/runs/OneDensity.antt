@@ -1,9 +1,14 @@
 -- Runs of version Four whose jobs are of one density are those of version Three.
-use Rattle.std.proofs.Common.{◌≡◌, ℕ, zero, suc, ◌*◌, inl, inr, List, [], ◌∷◌, refl, ap, ◌∙◌, subst, Bool, true, false, cond, arith, Option, Some, None}
+use Rattle.std.proofs.Common.{◌≡◌, ℕ, zero, suc, ◌*◌, inl, inr, List, [], ◌∷◌, refl, ap, ◌∙◌, subst, Bool, true, false}
+use Rattle.std.proofs.Common.{cond, arith, Option, Some, None}
 use Rattle.std.specs.Prelude.{nat_lt, nat_le, not, ◌&&◌, ◌||◌}
 use Rattle.std.specs.List.{find, filter, fold}
 use Rattle.std.proofs.lemmas.Bool.{le-ltb}
-use Rattle.dover_model.specs.Common.{Preempt, Task, Three, Instance, due_first, starts_before, first, earlier, State, is_fresh, is_coming, is_running, is_waiting, waiting, held, privileged, running, room, value_sum, opening, Move, Prints, Waits, Ticks, View, step, after, urgent_or, finish_or, due_finish, ending, ◌or_else◌, completion, dispatch, decision, arrival, alarm, is_at_latest_start, is_end, run, enough, IsMember, EachTwo, jobs_of}
+use Rattle.dover_model.specs.Common.{Preempt, Task, Three, Instance, due_first, starts_before, first, earlier, State}
+use Rattle.dover_model.specs.Common.{is_fresh, is_coming, is_running, is_waiting, waiting, held, privileged, running}
+use Rattle.dover_model.specs.Common.{room, value_sum, opening, Move, Prints, Waits, Ticks, View, step, after, urgent_or}
+use Rattle.dover_model.specs.Common.{finish_or, due_finish, ending, ◌or_else◌, completion, dispatch, decision, arrival}
+use Rattle.dover_model.specs.Common.{alarm, is_at_latest_start, is_end, run, enough, IsMember, EachTwo, jobs_of}
 use Rattle.dover_model.specs.declared.events.Version.TheVariants.{Four}
 use Rattle.dover_model.specs.Instance.{in_version}
 use Rattle.dover_model.specs.Orders.{waiting_order, is_less_dense}

@@ -296,7 +296,7 @@ module _ (k : Fraction) (s : State) (other : Move) (sound : IsSound s) (orderly 
   deed_orderly m (Completed r member runs) = (
     orderly_pressing (s.pressed && list_any is_open_job (with_roles (changed r Done) s.tasks)) (state_with s r Done)
         (ap (λ b. b && list_any is_open_job (with_roles (changed r Done) s.tasks)) orderly.calm)
-    (orderly_kept s sound r member Done (λ e. let c : Running ≡ Done = sym runs ∙ e in cc) orderly (λ e. cc)
+        (orderly_kept s sound r member Done (λ e. let c : Running ≡ Done = sym runs ∙ e in cc) orderly (λ e. cc)
         (λ e. absurd (cc))
         (λ e. absurd (cc))),
     refl,

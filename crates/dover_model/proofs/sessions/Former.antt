@@ -8,7 +8,6 @@ use Rattle.dover_model.specs.Common.{RefusedLine, RefusedJob, RefusedDone, Refus
 use Rattle.dover_model.proofs.sessions.Fullness.{refused_alone}
 use Rattle.dover_model.proofs.lists.Tests.{never, none_is_some}
 use Rattle.dover_model.proofs.sessions.SessionParts.{MayRefuse, MayBeRefused, FollowsItems, session_parts}
-use Rattle.dover_model.specs.Common.{One, Two}
 use Rattle.dover_model.specs.declared.events.Version.TheVariants.{Four}
 
 -- no finish is right

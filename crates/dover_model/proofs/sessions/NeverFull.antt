@@ -10,7 +10,6 @@ use Rattle.dover_model.proofs.sessions.Fullness.{few_ready}
 use Rattle.dover_model.proofs.lists.Tests.{never}
 use Rattle.dover_model.proofs.sessions.SessionParts.{FollowsItems, session_parts}
 use Rattle.dover_model.proofs.valid.ValidParts.{valid_parts}
-use Rattle.dover_model.specs.Common.{One, Two}
 use Rattle.dover_model.specs.declared.events.Version.TheVariants.{Four}
 
 module _ (rules : Declaration) where

@@ -126,7 +126,7 @@ module _ (k : Fraction) (s : State) (more : List Task) (coming : Each (λ u. u.r
       (behind_take x x_member)
   same_after m (Abandoned r x member runs some x_member waiting now stale light) = ap (state_of true s.clock)
       (map_behind (λ t. with_role t (cond (eqb t.number x.number) Gone t.role)) s.tasks more (one_named x x_member
-          Gone))
+      Gone))
   same_after m (Rested quiet) = same_by (s.clock + 1) ticked behind_tick
 
 -- ---- beginnings

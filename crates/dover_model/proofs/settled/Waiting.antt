@@ -64,8 +64,11 @@ module _ (J : Instance) (valid : IsValid J) (rules : Rules) where
       record {
         steps = [];
         settles = ap (λ c. record s { clock = c; tasks = s.tasks }) here;
-        barrier = ap (λ m. waits_for_mark m && nat_le mark mark) (over_ticks (record s { clock = mark; tasks =
-            s.tasks })
+        barrier = ap (λ m. waits_for_mark m && nat_le mark mark) (over_ticks (record s {
+          clock = mark;
+          tasks =
+              s.tasks;
+        })
             (subst (λ c. Keeps J (record s { clock = c; tasks = s.tasks })) here keeps) over)
             ∙ le-leb mark mark (omega arith);
       }

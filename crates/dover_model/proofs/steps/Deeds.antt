@@ -306,12 +306,12 @@ module _ (k : Fraction) (version : Version) (s : State) (other : Move) (sound : 
       let it : IsMember o s.tasks × (is_waiting o ≡ true) = member_filter is_waiting s.tasks o
       (first_member (waiting_order version (by_density version s.pressed)) (filter is_waiting s.tasks) o some) in
       (it.0, is_waiting_role o it.1, λ calm w m e. (by_deadline calm).2 w m (passes is_waiting w Waiting true e refl))
-      where
-        by_deadline : Calm s → IsMember o s.tasks × (is_waiting o ≡ true)
-            × Each (λ t. is_waiting t ≡ true → o.job.deadline ≤ t.job.deadline) s.tasks
-        by_deadline calm = first_some (λ e. e.deadline) version is_waiting s.tasks o
-            (subst (λ b. first (waiting_order version b) (filter is_waiting s.tasks) ≡ Some o) (calm_any version s
-                calm) some)
+    where
+      by_deadline : Calm s → IsMember o s.tasks × (is_waiting o ≡ true)
+          × Each (λ t. is_waiting t ≡ true → o.job.deadline ≤ t.job.deadline) s.tasks
+      by_deadline calm = first_some (λ e. e.deadline) version is_waiting s.tasks o
+          (subst (λ b. first (waiting_order version b) (filter is_waiting s.tasks) ≡ Some o) (calm_any version s
+          calm) some)
 
   -- what the held jobs have no room for
   crowded_held : (p : Task) → IsMember p s.tasks → is_held p ≡ true → (o : Task)
@@ -358,25 +358,25 @@ module _ (k : Fraction) (version : Version) (s : State) (other : Move) (sound : 
       (alone (nat_lt f.job.deadline r.job.deadline && nat_le f.job.work v.privileged_room)
       (subst (λ b. ((nat_lt f.job.deadline r.job.deadline && nat_le f.job.work v.privileged_room)
       && not (b && is_less_dense f r)) ≡ false) (calm_any version s calm) tight)) where
-    alone : (x : Bool) → (x && true) ≡ false → x ≡ false
-    alone true e = never (sym e)
-    alone false e = refl
+        alone : (x : Bool) → (x && true) ≡ false → x ≡ false
+        alone true e = never (sym e)
+        alone false e = refl
 
-    all_f : left f ≡ f.job.work
-    all_f = let nothing : f.had ≡ 0 = (says s sound f f_member Fresh fresh).0 in omega arith
+        all_f : left f ≡ f.job.work
+        all_f = let nothing : f.had ≡ 0 = (says s sound f f_member Fresh fresh).0 in omega arith
 
-    it : IsMember r s.tasks × (r.role ≡ Running) × (1 ≤ left r)
-    it = settled_r r settles
+        it : IsMember r s.tasks × (r.role ≡ Running) × (1 ≤ left r)
+        it = settled_r r settles
 
-    by_before : (b : Bool) → nat_lt f.job.deadline r.job.deadline ≡ b
-        → (b && nat_le f.job.work v.privileged_room) ≡ false
-        → (r.job.deadline ≤ f.job.deadline) ⊎ ((f.job.deadline < r.job.deadline) × Crowded s (left f))
-    by_before false later _ = inl (ltb-false _ _ later)
-    by_before true before low = inr (
-      ltb-true _ _ before,
-      crowded_all r it.0 (passes is_privileged r Running true it.1 refl) (left f)
-          (let less : room s.clock (privileged s) < f.job.work = leb-false _ _ low in omega (arith, all_f)),
-    )
+        by_before : (b : Bool) → nat_lt f.job.deadline r.job.deadline ≡ b
+            → (b && nat_le f.job.work v.privileged_room) ≡ false
+            → (r.job.deadline ≤ f.job.deadline) ⊎ ((f.job.deadline < r.job.deadline) × Crowded s (left f))
+        by_before false later _ = inl (ltb-false _ _ later)
+        by_before true before low = inr (
+          ltb-true _ _ before,
+          crowded_all r it.0 (passes is_privileged r Running true it.1 refl) (left f)
+              (let less : room s.clock (privileged s) < f.job.work = leb-false _ _ low in omega (arith, all_f)),
+        )
 
   -- the deed of case 2
   deed_resumes : (p : Task) (o : Option Task) → running s ≡ None → v.first_held ≡ Some p → v.first_waiting ≡ o

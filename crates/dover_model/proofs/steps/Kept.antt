@@ -176,7 +176,7 @@ module _ (k : Fraction) (s : State) (other : Move) (sound : IsSound s) (real : R
       takes_sound s sound r x member runs some x_member waiting stale
   deed_sound m (Abandoned r x member runs some x_member waiting now stale light) =
       sound_pressing true (state_with s x Gone) (stays_sound s sound x Gone x_member (abandons s sound x x_member
-          waiting))
+      waiting))
   deed_sound m (Rested quiet) = rested quiet
 
 -- a deed leaves some job ready where it leaves the state pressed

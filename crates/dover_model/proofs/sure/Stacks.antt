@@ -422,7 +422,7 @@ module _ (k : Fraction) (s : State) (other : Move) (sound : IsSound s) (stacked 
       takes_stacked s sound stacked r x x_member waiting now
   deed_stacked m (Abandoned r x member runs some x_member waiting now stale light) =
       stacked_pressing true (state_with s x Gone) (fewer_stacked s sound stacked x x_member Gone never (λ e. absurd
-          (cc)))
+      (cc)))
   deed_stacked m (Rested quiet) = rested quiet
 
 -- the opening

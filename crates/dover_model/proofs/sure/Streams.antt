@@ -903,6 +903,6 @@ module _ (J : Instance) (streams : List Stream) (of : ℕ → ℕ) (n : ℕ) (j 
 -- the law
 pub sure_streams : (J : Instance) (streams : List Stream) (of : ℕ → ℕ) (n : ℕ) (j : JobFacts) → IsValid J
     → IsByDeadline J.rules.version → AreOfStreams streams of J → IsMember (n, j) (numbered J) → IsSure J.rules.ratio
-        streams (of n) j
+    streams (of n) j
     → IsCompleted J n j
 sure_streams J streams of n j valid dated are there sure = sure_job J streams of n j valid dated are there sure

@@ -538,6 +538,6 @@ pub run_fits : (J : Instance) → IsValid J → IsByDeadline J.rules.version →
 run_fits J valid by_order x m l member is_in =
     let it : (x.move ≡ step J.rules x.before) × Keeps J x.before × IsStacked x.before =
     run_states J valid J.rules IsStacked (λ s keeps stacked on. step_stacked J valid s keeps J.rules by_order
-        stacked) (run J)
+    stacked) (run J)
     (opening J.jobs) (opening_keeps J) (opening_stacked J.jobs) (run_is_whole J valid) x m in
     works_fit x.before it.1.sound it.2 l member is_in

@@ -4,7 +4,6 @@ use Rattle.dover_model.specs.Common.{Instance, IsListable, IsValid, most_items, 
 use Rattle.dover_model.specs.Common.{Version, One, Three, Session, may_finish_early, most_lines_in}
 use Rattle.dover_model.proofs.lists.Tests.{never}
 use Rattle.dover_model.proofs.valid.ValidParts.{valid_parts}
-use Rattle.dover_model.specs.Common.{Two}
 use Rattle.dover_model.specs.declared.events.Version.TheVariants.{Four}
 
 -- no version has more jobs than Three

@@ -1,4 +1,3 @@
-
 use Rattle.dover_model.proofs.run_laws.four_is_three_where_no_job_is_abandoned.Goals as goal
 use Rattle.dover_model.proofs.runs.Calm.{four_is_three, three_is_four}
 
