@@ -523,7 +523,8 @@ module _ (J : Instance) (valid : IsValid J) (n : ℕ) (j : JobFacts) (there : Is
           s.clock,
           subst (λ (m : Move). IsMember (Complete s.clock n) (cons_option (event_of m) (printed_of xs)))
               (sym (ap (λ (y : Step). y.move) whole.0 ∙ it.is)) (inl refl),
-          subst (λ (i : JobFacts). s.clock ≤ i.deadline) (the_job J n j there s keeps it.job it.member it.is_n) it.in_time,
+          subst (λ (i : JobFacts). s.clock ≤ i.deadline) (the_job J n j there s keeps it.job it.member it.is_n)
+              it.in_time,
         )
         by_step (inl later) more = by_end (is_end (step J.rules s)) refl whole.1 where
           by_end : (b : Bool) → is_end (step J.rules s) ≡ b
