@@ -26,7 +26,8 @@ use Rattle.dover_model.proofs.bound.Calculus.{cancel, within_less}
 use Rattle.dover_model.proofs.runs.Serving.{named_once, sum_numbered}
 use Rattle.dover_model.proofs.runs.Honest.{sum_tasks, sum_observing}
 use Rattle.dover_model.proofs.bound.Counting.{one, total, total_le, total_plus, range_count, total_zero}
-use Rattle.dover_model.proofs.bound.Books.{books_bound, AreBooks}
+use Rattle.dover_model.proofs.bound.Books.{AreBooks}
+use Rattle.dover_model.proofs.bound.Augmented.{books_bound}
 use Rattle.dover_model.proofs.bound.Booking.{is_gone, is_ready, job_of, sum_where, Booked}
 use Rattle.dover_model.proofs.bound.Closing.{row_kept, in_more_rows}
 use Rattle.dover_model.proofs.bound.Booked.{IsModest}

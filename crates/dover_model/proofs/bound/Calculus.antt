@@ -22,12 +22,6 @@ square_order x y squares = by_order (cases_lt y x) where
       (let more : (y + 1) * (y + 1) ≤ x * x = mul-le (y + 1) (y + 1) x x (omega arith) (omega arith) in omega arith)
   by_order (inr low) = low
 
--- greater numbers have greater squares, as often
-pub square_le : (a m n : ℕ) → m ≤ n → a * m * m ≤ a * n * n
-square_le a m n less =
-    let square : m * m ≤ n * n = mul-le m m n n less less in
-    let times : a * (m * m) ≤ a * (n * n) = mul-le a (m * m) a (n * n) (omega arith) square in omega (arith, times)
-
 -- a factor of at least one can be left out
 pub cancel : (c x y : ℕ) → 1 ≤ c → c * x ≤ c * y → x ≤ y
 cancel c x y some products = by_order (cases_lt y x) where
@@ -382,15 +376,6 @@ module _ (k : Fraction) (some_q : 1 ≤ k.q) (ratio : k.q ≤ k.p) where
   pub within_parts : (c r z d y : ℕ) → k.q * c ≤ (k.p + k.q) * (r + z) + (k.q * r + k.p * d + k.q * y) → IsPaid k d z
       → IsExcess k y (r + z) → IsWithin k c (r + z)
   within_parts = parts_by k.factor
-
-paid_more_by : (k : Fraction) (o : Option Factor) (d z more : ℕ) → z ≤ more → IsPaidBy k o d z → IsPaidBy k o d more
-paid_more_by k None d z more less paid = omega (arith, paid, square_le k.q z more less)
-paid_more_by k (Some f) d z more less paid =
-    let times : f.c * z ≤ f.c * more = mul-le f.c z f.c more (omega arith) less in omega (arith, paid, times)
-
--- what is paid by less is paid by more
-pub paid_more : (k : Fraction) (d z more : ℕ) → z ≤ more → IsPaid k d z → IsPaid k d more
-paid_more k = paid_more_by k k.factor
 
 -- what is heavy is more
 pub heavy_more : (k : Fraction) (v w : ℕ) → IsHeavy k v w → w < v

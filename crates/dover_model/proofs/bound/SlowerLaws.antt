@@ -28,8 +28,11 @@ module _ (J : Instance) (valid : IsValid J) (e : Fraction) (works : ℕ → ℕ)
     (most : AskAtMost e works (observed J)) where
   -- what holds of each observed job
   each_asked : (v w : ℕ) → Each (IsModest J.rules.ratio v w) J.jobs
-      → Each (IsAsked e works v w) (numbered (observed J))
-  each_asked v w modest n_j member = record { most = most n_j member; modest = low } where
+      → Each (IsAsked e (λ i_j. works i_j.0) v w) (numbered (observed J))
+  each_asked v w modest n_j member = record {
+    most = most n_j member;
+    modest = mul-le e.p (v * n_j.1.work) e.p (w * n_j.1.value) (omega arith) low;
+  } where
     it : (t : Task) × IsMember t (whole_outcome J valid).last.tasks × (n_j.1 ≡ observing t)
     it = observed_there 0 (whole_outcome J valid).last.tasks n_j
         (subst (λ (s : State). IsMember n_j (enumerate_from 0 (map observing s.tasks)))
@@ -57,9 +60,9 @@ module _ (J : Instance) (valid : IsValid J) (e : Fraction) (works : ℕ → ℕ)
     by_books v w some_work modest =
         subst (IsWithinSlower J.rules.ratio e (worth_by works (observed J) s))
         (seen_books J valid v w modest some_work).completed
-        (slower_bound J.rules.ratio e works v w (numbered (observed J)) (seen_books J valid v w modest some_work).rows
-        (seen_books J valid v w modest some_work).busy (seen_books J valid v w modest some_work).books some
-        (each_asked v w modest) s)
+        (slower_bound J.rules.ratio e (λ i_j. works i_j.0) v w (numbered (observed J))
+        (seen_books J valid v w modest some_work).rows (seen_books J valid v w modest some_work).busy
+        (seen_books J valid v w modest some_work).books (each_asked v w modest) s)
 
     by_jobs : (J.jobs ≡ []) ⊎ ((j : JobFacts) × IsLeastDense J j)
         → IsWithinSlower J.rules.ratio e (worth_by works (observed J) s) (completed_value J)

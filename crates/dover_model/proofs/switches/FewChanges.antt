@@ -4,7 +4,7 @@ use Rattle.std.proofs.Common.{ap, ◌∙◌, subst, Bool, true, false, cond, ari
 use Rattle.std.specs.Bool.{MatchBool, then_some}
 use Rattle.std.specs.List.{count_by, sum_by, list_all, filter, enumerate_from}
 use Rattle.std.specs.Prelude.{nat_lt}
-use Rattle.std.proofs.lemmas.Bool.{eqb-true, eqb-false, eq-eqb, ne_eqb, cases_lt, lt-ltb, ltb-true}
+use Rattle.std.proofs.lemmas.Bool.{eqb-true, eqb-false, eq-eqb, ne_eqb, cases_lt}
 use Rattle.std.proofs.lemmas.List.Sums.{sum_by-cons}
 use Rattle.dover_model.specs.Common.{JobFacts, Fraction, Job, Role, Coming, Fresh, Waiting, Held, Running, Done, Gone}
 use Rattle.dover_model.specs.Common.{End, Task, Instance, IsValid, numbered, State, opening, is_over, is_done}
@@ -16,7 +16,7 @@ use Rattle.dover_model.proofs.lists.Members.{map_member, on_map, filter_member, 
 use Rattle.dover_model.proofs.steps.Roles.{passes, one_number}
 use Rattle.dover_model.proofs.bound.Calculus.{heavy_more}
 use Rattle.dover_model.proofs.runs.Serving.{named_once}
-use Rattle.dover_model.proofs.bound.Counting.{one}
+use Rattle.dover_model.proofs.bound.Counting.{one, one_none, one_low}
 use Rattle.dover_model.proofs.bound.Books.{Without, without, greatest}
 use Rattle.dover_model.proofs.steps.Deeds.{Deed, Completed, Resumed, Started, Began, Preempted, Stayed, Arrived, Taken}
 use Rattle.dover_model.proofs.steps.Deeds.{Abandoned, Rested}
@@ -502,19 +502,6 @@ number_of k (j ∷ jobs) i (inl e) = (k, inl (ap (λ (x : JobFacts). (k, x)) e))
 number_of k (j ∷ jobs) i (inr member) = let it : (n : ℕ) × IsMember (n, i) (enumerate_from (k + 1) jobs) =
     number_of (k + 1) jobs i member in (it.0, inr it.1)
 
--- what fails no test
-fails_none : (a b : ℕ) → a ≤ b → one (nat_lt b a) ≡ 0
-fails_none a b low = by_test (nat_lt b a) refl where
-  by_test : (c : Bool) → nat_lt b a ≡ c → one c ≡ 0
-  by_test false e = refl
-  by_test true e = absurd (let less : b < a = ltb-true _ _ e in omega arith)
-
-low_where : (a b : ℕ) → one (nat_lt b a) ≡ 0 → a ≤ b
-low_where a b none = by_order (cases_lt b a) where
-  by_order : (b < a) ⊎ (a ≤ b) → a ≤ b
-  by_order (inr low) = low
-  by_order (inl less) = absurd (let bad : one (nat_lt b a) ≡ 1 = ap one (lt-ltb b a less) in omega arith)
-
 -- what a job preempts and takes, where three facts may take one off each
 three_off : (a b c : Bool) (p t : ℕ) → p ≤ 1 → t ≤ 1 → (a ≡ true → p ≤ 0) → (b ≡ true → p + t ≤ 1)
     → (a ≡ true → b ≡ true → t ≤ 0) → (c ≡ true → t ≤ 0) → (b ≡ true → c ≡ true → ⊥)
@@ -648,13 +635,13 @@ module _ (J : Instance) (valid : IsValid J) where
             l_member = others.members l.0 l.1
 
             all_least : Each (λ n_j. l.0.1.value ≤ n_j.1.value) (numbered J)
-            all_least n_j member = low_where l.0.1.value n_j.1.value (omega (
+            all_least n_j member = one_low l.0.1.value n_j.1.value (omega (
               arith,
               term_le_sum (λ m_i. one (nat_lt m_i.1.value l.0.1.value)) (numbered J) n_j member,
               others.sums (λ m_i. one (nat_lt m_i.1.value l.0.1.value)),
-              fails_none l.0.1.value m.0.1.value (m.2 l.0 l_member),
+              one_none l.0.1.value m.0.1.value (m.2 l.0 l_member),
               sum_zero (λ m_i. one (nat_lt m_i.1.value l.0.1.value)) others.rest
-                  (λ m_i mi. fails_none l.0.1.value m_i.1.value (l.2 m_i mi)),
+                  (λ m_i mi. one_none l.0.1.value m_i.1.value (l.2 m_i mi)),
             ))
 
             apart : m.0.0 ≡ l.0.0 → ⊥
