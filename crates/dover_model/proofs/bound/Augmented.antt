@@ -5,11 +5,11 @@ use Rattle.std.proofs.Common.{ap, ◌∙◌, subst, Bool, true, false, cond, eqb
 use Rattle.std.proofs.Common.{Some, None, sum_by, filter, le-leb, leb-true}
 use Rattle.std.proofs.lemmas.Bool.{cases_lt}
 use Rattle.std.proofs.lemmas.Nat.{mul-le}
-use Rattle.std.proofs.Math.Nat.{mul-sub}
+use Rattle.std.proofs.Math.Nat.{mul-sub, mul-le-mul_left}
 use Rattle.std.proofs.lemmas.List.Sums.{sum_by-cons, sum_by-append}
-use Rattle.dover_model.specs.Common.{Fraction, Factor, IsWithin, IsWithinSlower, Row, IsRow, TakenIn, IsDense, job_value}
+use Rattle.dover_model.specs.Common.{Fraction, Factor, IsWithin, IsWithinSlower, Row, IsRow, TakenIn, IsDense}
 use Rattle.dover_model.specs.Common.{completed_in, row_sum, Job, IsPaid, IsPaidBy, IsExcess, IsExcessBy, IsMember, Each}
-use Rattle.dover_model.specs.Common.{ticks_given, is_served}
+use Rattle.dover_model.specs.Common.{ticks_given, is_served, job_value}
 use Rattle.dover_model.specs.Fraction.{fraction}
 use Rattle.dover_model.specs.Slower.{is_within_slower_root, is_within_slower_by}
 use Rattle.dover_model.specs.Books.{GoneIn}
@@ -27,6 +27,131 @@ use Rattle.dover_model.proofs.bound.Books.{two_parts, late_share, row_names, com
 pub record IsAsked (e : Fraction) (asked : Job → ℕ) (v w : ℕ) (n_j : Job) : Type 0 where
   pub most : e.q * n_j.1.work ≤ (e.q + e.p) * asked n_j
   pub modest : e.p * (v * n_j.1.work) ≤ e.p * (w * n_j.1.value)
+
+-- ---- numbers
+
+-- with e as e/n, the ratio as p/q, and the value v and the work w of a job of least density
+module _ (e n p q v w : ℕ) where
+  -- what a value, a tick, a taken value and a value above are counted with
+  abbrev for_value : ℕ
+  for_value = n * (q * w)
+
+  abbrev for_tick : ℕ
+  for_tick = (n + e) * (p * v)
+
+  abbrev for_taken : ℕ
+  for_taken = (n + e) * (p * w)
+
+  abbrev for_own : ℕ
+  for_own = (q * n + p * e) * w
+
+  -- a value is paid by the ticks that are asked for it
+  value_dense : (value work asked : ℕ) → q * w * value ≤ p * v * work → n * work ≤ (n + e) * asked
+      → for_value * value ≤ for_tick * asked
+  value_dense value work asked dense most =
+      let first : n * (q * w * value) ≤ n * (p * v * work) = mul-le-mul_left n dense in
+      let second : p * v * (n * work) ≤ p * v * ((n + e) * asked) = mul-le-mul_left (p * v) most in omega arith
+
+  -- its work is paid by what is asked for it and by its value, which so pays for itself
+  own_paid : (value work asked : ℕ) → n * work ≤ (n + e) * asked → e * (v * work) ≤ e * (w * value)
+      → for_tick * work + for_value * value ≤ for_tick * asked + for_own * value
+  own_paid value work asked most modest =
+      let first : p * v * (n * work) ≤ p * v * ((n + e) * asked) = mul-le-mul_left (p * v) most in
+      let second : p * (e * (v * work)) ≤ p * (e * (w * value)) = mul-le-mul_left p modest in omega arith
+
+  -- ticks that a value is worth, and others
+  ticks_taken : (ticks value had : ℕ) → v * ticks ≤ w * value + v * had
+      → for_tick * ticks ≤ for_taken * value + for_tick * had
+  ticks_taken ticks value had low =
+      let times : (n + e) * p * (v * ticks) ≤ (n + e) * p * (w * value + v * had) = mul-le-mul_left ((n + e) * p) low in
+      omega arith
+
+  -- what a taker had is paid by what is asked for it, and by its value, which so pays for itself
+  taker_paid : (had asked value : ℕ) → q ≤ p → n * had ≤ (n + e) * asked → v * had ≤ w * value
+      → for_value * value + for_tick * had ≤ for_tick * asked + for_taken * value
+  taker_paid had asked value ratio most paid =
+      let first : p * v * (n * had) ≤ p * v * ((n + e) * asked) = mul-le-mul_left (p * v) most in
+      let second : e * p * (v * had) ≤ e * p * (w * value) = mul-le-mul_left (e * p) paid in
+      let third : n * w * value * q ≤ n * w * value * p = mul-le-mul_left (n * w * value) ratio in omega arith
+
+  -- a value above counts no less than one
+  value_own : (value most : ℕ) → value ≤ most → for_value * value ≤ for_own * most
+  value_own value most low =
+      let times : for_value * value ≤ for_value * most = mul-le-mul_left for_value low in omega arith
+
+  -- the work of the density is taken off
+  off_work : (all row regular above : ℕ) → 1 ≤ w
+      → for_value * all ≤ for_taken * row + for_value * regular + for_own * above
+      → q * n * all ≤ (n + e) * p * row + q * n * regular + (q * n + p * e) * above
+  off_work all row regular above some paid =
+      cancel w (q * n * all) ((n + e) * p * row + q * n * regular + (q * n + p * e) * above) some (omega arith)
+
+-- the same, with what they are counted with as numbers
+module _ (V T K O : ℕ) where
+  -- of jobs of which one is left out
+  join_others : (rest asked own_asked more work early more_early value served above : ℕ) → V * rest ≤ T * asked
+      → asked + own_asked + more ≤ work + (early + more_early) → T * work + V * value ≤ T * own_asked + O * value
+      → value ≤ above → served ≡ value + rest → V * served + T * more ≤ T * (early + more_early) + O * above
+  join_others rest asked own_asked more work early more_early value served above dense fit own low split =
+      let ticks : T * (asked + own_asked + more) ≤ T * (work + (early + more_early)) = mul-le-mul_left T fit in
+      let all : O * value ≤ O * above = mul-le-mul_left O low in omega (arith, ap (λ n. V * n) split)
+
+  -- of jobs that have all that is asked for them by the deadline of the taker
+  join_first : (served asked early gap had taken own_early value completed : ℕ) → V * served ≤ T * asked
+      → asked ≤ early + gap → T * (gap + had) ≤ K * taken → V * value ≤ O * completed
+      → V * (value + served) + T * had ≤ T * (own_early + early) + K * taken + V * 0 + O * (completed + 0)
+  join_first served asked early gap had taken own_early value completed dense given paid low =
+      let ticks : T * asked ≤ T * (early + gap) = mul-le-mul_left T given in omega arith
+
+  -- of a taker, and of jobs that are due later
+  join_later : (served own_asked had early own_early taken value above : ℕ) → taken ≡ value
+      → V * served + T * own_asked ≤ T * (early + own_early) + O * above
+      → V * taken + T * had ≤ T * own_asked + K * taken
+      → V * (value + served) + T * had ≤ T * (own_early + early) + K * taken + V * 0 + O * above
+  join_later served own_asked had early own_early taken value above same paid own =
+      omega (arith, ap (λ n. V * n) same)
+
+  -- of some values, as of more
+  widen_paid : (value served had ticks early taken regular above values more : ℕ) → V * (value + served) + T * had ≤ T
+      * (ticks + early) + K * taken + V * regular + O * above
+      → values ≤ value + served → ticks + early ≤ more
+      → V * values + T * had ≤ T * more + K * taken + V * regular + O * above
+  widen_paid value served had ticks early taken regular above values more paid low high =
+      let less : V * values ≤ V * (value + served) = mul-le-mul_left V low in
+      let wide : T * (ticks + early) ≤ T * more = mul-le-mul_left T high in omega arith
+
+  -- of jobs done as usual as well
+  join_regular : (values had ticks taken above usual regular own_early : ℕ)
+      → V * values + T * had ≤ T * ticks + K * taken + V * 0 + O * above → usual ≤ regular
+      → V * (usual + values) + T * had ≤ T * (own_early + ticks) + K * taken + V * regular + O * above
+  join_regular values had ticks taken above usual regular own_early paid low =
+      let own : V * usual ≤ V * regular = mul-le-mul_left V low in omega arith
+
+  -- of two rows, whose parts add up
+  add_paid : (v1 v2 h1 h2 t1 t2 k1 k2 r1 r2 c1 c2 y1 y2 value had ticks taken regular completed : ℕ)
+      → V * v1 + T * h1 ≤ T * t1 + K * k1 + V * r1 + O * (c1 + y1)
+      → V * v2 + T * h2 ≤ T * t2 + K * k2 + V * r2 + O * (c2 + y2)
+      → value ≡ v1 + v2 → had ≡ h1 + h2 → ticks ≡ t1 + t2 → taken ≡ k1 + k2 → regular ≡ r1 + r2
+      → completed ≡ c1 + c2
+      → V * value + T * had ≤ T * ticks + K * taken + V * regular + O * (completed + (y1 + y2))
+  add_paid v1 v2 h1 h2 t1 t2 k1 k2 r1 r2 c1 c2 y1 y2 value had ticks taken regular completed one two ev eh et ek er ec =
+      omega (
+        arith,
+        ap (λ n. V * n) ev,
+        ap (λ n. T * n) eh,
+        ap (λ n. T * n) et,
+        ap (λ n. K * n) ek,
+        ap (λ n. V * n) er,
+        ap (λ n. O * n) ec,
+      )
+
+  -- of all rows, with the ticks that they span
+  all_paid : (all served had ticks taken regular completed spans displaced : ℕ) → all ≡ served
+      → V * served + T * had ≤ T * ticks + K * taken + V * regular + O * completed → ticks ≤ spans
+      → T * spans ≤ K * (regular + displaced) + T * had
+      → V * all ≤ K * (regular + displaced + taken) + V * regular + O * completed
+  all_paid all served had ticks taken regular completed spans displaced same paid low worth =
+      let most : T * ticks ≤ T * spans = mul-le-mul_left T low in omega (arith, ap (λ n. V * n) same)
 
 -- ---- one row, against one schedule
 
@@ -46,16 +171,16 @@ module _ (k e : Fraction) (asked : Job → ℕ) (v w : ℕ) (busy : ℕ → Bool
 
   -- what a value, a tick, a taken value and a value above are counted with
   abbrev of_value : ℕ
-  of_value = e.q * (k.q * w)
+  of_value = for_value e.p e.q k.p k.q v w
 
   abbrev of_tick : ℕ
-  of_tick = (e.q + e.p) * (k.p * v)
+  of_tick = for_tick e.p e.q k.p k.q v w
 
   abbrev of_taken : ℕ
-  of_taken = (e.q + e.p) * (k.p * w)
+  of_taken = for_taken e.p e.q k.p k.q v w
 
   abbrev of_own : ℕ
-  of_own = (k.q * e.q + k.p * e.p) * w
+  of_own = for_own e.p e.q k.p k.q v w
 
   -- how a value is paid for, in rows that complete so much before and after a take, by jobs that had so many ticks
   pub record Paid (value had ticks taken regular completed : ℕ) : Type 0 where
@@ -115,11 +240,7 @@ module _ (k e : Fraction) (asked : Job → ℕ) (v w : ℕ) (busy : ℕ → Bool
     one_dense : (n_j : Job) → IsDense k v w n_j.1 → IsAsked e asked v w n_j
         → of_value * n_j.1.value ≤ of_tick * asked n_j
     one_dense n_j dense is_asked =
-        let first : e.q * (k.q * w * n_j.1.value) ≤ e.q * (k.p * v * n_j.1.work) =
-        mul-le e.q (k.q * w * n_j.1.value) e.q (k.p * v * n_j.1.work) (omega arith) dense in
-        let second : k.p * v * (e.q * n_j.1.work) ≤ k.p * v * ((e.q + e.p) * asked n_j) =
-        mul-le (k.p * v) (e.q * n_j.1.work) (k.p * v) ((e.q + e.p) * asked n_j) (omega arith) is_asked.most in
-        omega arith
+        value_dense e.p e.q k.p k.q v w n_j.1.value n_j.1.work (asked n_j) dense is_asked.most
 
     -- their value, where some jobs completed after a take are worth so much, and are given so many busy ticks
     abbrev PaidWith : ℕ → ℕ → Type 0
@@ -128,10 +249,8 @@ module _ (k e : Fraction) (asked : Job → ℕ) (v w : ℕ) (busy : ℕ → Bool
 
     -- what the job completed after a take had is paid by its value
     had_worth : of_tick * row.had ≤ of_taken * row.interval.taken
-    had_worth =
-        let times : (e.q + e.p) * k.p * (v * row.had) ≤ (e.q + e.p) * k.p * (w * row.interval.taken) =
-        mul-le ((e.q + e.p) * k.p) (v * row.had) ((e.q + e.p) * k.p) (w * row.interval.taken) (omega arith)
-        facts.had_paid in omega arith
+    had_worth = omega
+        (arith, ticks_taken e.p e.q k.p k.q v w row.had row.interval.taken 0 (omega (arith, facts.had_paid)))
 
     -- where no abandoned job is served, and none completed after a take
     none_paid : served ≡ [] → PaidWith 0 0
@@ -161,27 +280,15 @@ module _ (k e : Fraction) (asked : Job → ℕ) (v w : ℕ) (busy : ℕ → Bool
       others_paid : of_value * sum_by job_value served + of_tick * more ≤ of_tick
           * (sum_by (early busy s) served + more_early) + of_own * (completed_in row + excess)
       others_paid =
-          let dense : of_value * sum_by job_value others.rest ≤ of_tick * sum_by asked others.rest =
-          scaled_sum of_value of_tick job_value asked others.rest
+          join_others of_value of_tick of_taken of_own (sum_by job_value others.rest) (sum_by asked others.rest)
+          (asked m) more m.1.work (sum_by (early busy s) served) more_early m.1.value (sum_by job_value served)
+          (completed_in row + excess)
+          (scaled_sum of_value of_tick job_value asked others.rest
           (λ n_j mem. one_dense n_j (each_served n_j (others.members n_j mem)).2
-          (each_served n_j (others.members n_j mem)).3) in
-          let fit : sum_by asked others.rest + asked m + more ≤ m.1.work + (sum_by (early busy s) served + more_early) =
-          omega (arith, others.sums asked) in
-          let ticks : of_tick * (sum_by asked others.rest + asked m + more) ≤ of_tick
-          * (m.1.work + (sum_by (early busy s) served + more_early)) =
-          mul-le of_tick (sum_by asked others.rest + asked m + more) of_tick
-          (m.1.work + (sum_by (early busy s) served + more_early)) (omega arith) fit in
-          let own_work : k.p * v * (e.q * m.1.work) ≤ k.p * v * ((e.q + e.p) * asked m) =
-          mul-le (k.p * v) (e.q * m.1.work) (k.p * v) ((e.q + e.p) * asked m) (omega arith)
-          (each_served m member).3.most in
-          let beyond : k.p * (e.p * (v * m.1.work)) ≤ k.p * (e.p * (w * m.1.value)) =
-          mul-le k.p (e.p * (v * m.1.work)) k.p (e.p * (w * m.1.value)) (omega arith)
-          (each_served m member).3.modest in
-          let own : of_own * m.1.value ≤ of_own * (completed_in row + excess) =
-          mul-le of_own m.1.value of_own (completed_in row + excess) (omega arith) (omega arith) in
-          let split : of_value * sum_by job_value served ≡ of_value * (m.1.value + sum_by job_value others.rest) =
-          ap (λ n. of_value * n) (others.sums job_value) in
-          omega arith
+          (each_served n_j (others.members n_j mem)).3))
+          (omega (arith, others.sums asked))
+          (own_paid e.p e.q k.p k.q v w m.1.value m.1.work (asked m) (each_served m member).3.most
+          (each_served m member).3.modest) (omega arith) (others.sums job_value)
 
     -- where no job completed after a take is served
     plain_paid : PaidWith 0 0
@@ -214,7 +321,7 @@ module _ (k e : Fraction) (asked : Job → ℕ) (v w : ℕ) (busy : ℕ → Bool
       -- it had at most so much more than is asked for it
       z_had : e.q * row.had ≤ (e.q + e.p) * asked z
       z_had = let times : e.q * row.had ≤ e.q * z.1.work =
-          mul-le e.q row.had e.q z.1.work (omega arith) (exact z z_member) in
+          mul-le-mul_left e.q (exact z z_member) in
           omega (arith, (taken_asked z z_member).most)
 
       -- its value is what was taken
@@ -243,29 +350,27 @@ module _ (k e : Fraction) (asked : Job → ℕ) (v w : ℕ) (busy : ℕ → Bool
           ap (λ n. w * n) z_value,
         )
 
+        given_worth : (gap : ℕ) → v * gap + v * row.had ≤ w * row.interval.taken
+            → of_tick * (gap + row.had) ≤ of_taken * row.interval.taken
+        given_worth gap low =
+            omega (arith, ticks_taken e.p e.q k.p k.q v w (gap + row.had) row.interval.taken 0 (omega (arith, low)))
+
         most : of_value * (z.1.value + sum_by job_value served) + of_tick * row.had ≤ of_tick
             * (early busy s z + sum_by (early busy s) served) + of_taken * row.interval.taken + of_value * 0 + of_own
             * (completed_in row + 0)
         most =
-            let dense : of_value * sum_by job_value served ≤ of_tick * sum_by asked served =
-            scaled_sum of_value of_tick job_value asked served
-            (λ n_j mem. one_dense n_j (each_served n_j mem).2 (each_served n_j mem).3) in
-            let given : sum_by asked served ≤ sum_by (early busy s) served + (z.1.deadline - row.interval.until) =
-            omega (
+            join_first of_value of_tick of_taken of_own (sum_by job_value served) (sum_by asked served)
+            (sum_by (early busy s) served) (z.1.deadline - row.interval.until) row.had row.interval.taken
+            (early busy s z) z.1.value (completed_in row)
+            (scaled_sum of_value of_tick job_value asked served
+            (λ n_j mem. one_dense n_j (each_served n_j mem).2 (each_served n_j mem).3))
+            (omega (
               arith,
               works_given,
               late_share busy s row.interval.until z.1.deadline served served_once first,
-            ) in
-            let ticks : of_tick * sum_by asked served ≤ of_tick
-            * (sum_by (early busy s) served + (z.1.deadline - row.interval.until)) =
-            mul-le of_tick (sum_by asked served) of_tick
-            (sum_by (early busy s) served + (z.1.deadline - row.interval.until)) (omega arith) given in
-            let paid : (e.q + e.p) * k.p * (v * (z.1.deadline - row.interval.until) + v * row.had)
-            ≤ (e.q + e.p) * k.p * (w * row.interval.taken) =
-            mul-le ((e.q + e.p) * k.p) (v * (z.1.deadline - row.interval.until) + v * row.had) ((e.q + e.p) * k.p)
-            (w * row.interval.taken) (omega arith) rest in
-            let own : of_value * row.interval.taken ≡ of_value * z.1.value = ap (λ n. of_value * n) z_value in
-            omega arith
+            ))
+            (given_worth (z.1.deadline - row.interval.until) rest)
+            (value_own e.p e.q k.p k.q v w z.1.value (completed_in row) (omega (arith, z_value)))
 
       -- where one of the abandoned jobs is due no sooner than it and the others
       later_paid : (m : Job) → IsMember m served → Each (λ n_j. n_j.1.deadline ≤ m.1.deadline) served
@@ -273,18 +378,11 @@ module _ (k e : Fraction) (asked : Job → ℕ) (v w : ℕ) (busy : ℕ → Bool
       later_paid m member last later = record {
         above = excess m member (asked z) (early busy s z) fits;
         most =
-            let paid : of_value * sum_by job_value served + of_tick * asked z ≤ of_tick
-            * (sum_by (early busy s) served + early busy s z) + of_own
-            * (completed_in row + excess m member (asked z) (early busy s z) fits) =
-            others_paid m member (asked z) (early busy s z) fits in
-            let had : k.p * v * (e.q * row.had) ≤ k.p * v * ((e.q + e.p) * asked z) =
-            mul-le (k.p * v) (e.q * row.had) (k.p * v) ((e.q + e.p) * asked z) (omega arith) z_had in
-            let beyond : e.p * k.p * (v * row.had) ≤ e.p * k.p * (w * row.interval.taken) =
-            mul-le (e.p * k.p) (v * row.had) (e.p * k.p) (w * row.interval.taken) (omega arith) facts.had_paid in
-            let own : of_value * row.interval.taken ≡ of_value * z.1.value = ap (λ n. of_value * n) z_value in
-            let times : k.q * (e.q * (w * row.interval.taken)) ≤ k.p * (e.q * (w * row.interval.taken)) =
-            mul-le k.q (e.q * (w * row.interval.taken)) k.p (e.q * (w * row.interval.taken)) ratio (omega arith) in
-            omega arith;
+            join_later of_value of_tick of_taken of_own (sum_by job_value served) (asked z) row.had
+            (sum_by (early busy s) served) (early busy s z) row.interval.taken z.1.value
+            (completed_in row + excess m member (asked z) (early busy s z) fits) z_value
+            (others_paid m member (asked z) (early busy s z) fits)
+            (taker_paid e.p e.q k.p k.q v w row.had (asked z) row.interval.taken ratio z_had facts.had_paid);
         below = excess_low m member (asked z) (early busy s z) fits;
       } where
         all : Each (λ n_j. n_j.1.deadline ≤ m.1.deadline) (z ∷ served)
@@ -309,7 +407,8 @@ module _ (k e : Fraction) (asked : Job → ℕ) (v w : ℕ) (busy : ℕ → Bool
             → PaidWith z.1.value (early busy s z)
         by_last (inl none) = first_paid (λ n_j mem. absurd (subst (IsMember n_j) none mem))
         by_last (inr it) = by_order (cases_lt it.0.1.deadline z.1.deadline) where
-          by_order : (it.0.1.deadline < z.1.deadline) ⊎ (z.1.deadline ≤ it.0.1.deadline) → PaidWith z.1.value (early busy s z)
+          by_order : (it.0.1.deadline < z.1.deadline) ⊎ (z.1.deadline ≤ it.0.1.deadline)
+              → PaidWith z.1.value (early busy s z)
           by_order (inl less) = first_paid
               (λ n_j mem. let low : n_j.1.deadline ≤ it.0.1.deadline = it.2 n_j mem in omega arith)
           by_order (inr later) = later_paid it.0 it.1 it.2 later
@@ -325,24 +424,12 @@ module _ (k e : Fraction) (asked : Job → ℕ) (v w : ℕ) (busy : ℕ → Bool
       widen value ticks low high it = record {
         above = it.above;
         most =
-            let paid : of_value * (value + sum_by job_value served) + of_tick * row.had ≤ of_tick
-            * (ticks + sum_by (early busy s) served) + of_taken * row.interval.taken + of_value * 0 + of_own
-            * (completed_in row + it.above) =
-            it.most in
-            let values : of_value * (sum_by served_value row.taken + sum_by served_value row.gone) ≤ of_value
-            * (value + sum_by job_value served) =
-            mul-le of_value (sum_by served_value row.taken + sum_by served_value row.gone) of_value
-            (value + sum_by job_value served) (omega arith) (omega (
-              arith,
-              sum_filter
-                  is_given job_value row.gone,
-            )) in
-            let more : of_tick * (ticks + sum_by (early busy s) served) ≤ of_tick
-            * (sum_by (early busy s) row.taken + sum_by (early busy s) row.gone) =
-            mul-le of_tick (ticks + sum_by (early busy s) served) of_tick
-            (sum_by (early busy s) row.taken + sum_by (early busy s) row.gone) (omega arith)
-            (omega (arith, served_sum (early busy s))) in
-            omega arith;
+            widen_paid of_value of_tick of_taken of_own value (sum_by job_value served) row.had ticks
+            (sum_by (early busy s) served) row.interval.taken 0 (completed_in row + it.above)
+            (sum_by served_value row.taken + sum_by served_value row.gone)
+            (sum_by (early busy s) row.taken + sum_by (early busy s) row.gone) it.most
+            (omega (arith, low, sum_filter is_given job_value row.gone))
+            (omega (arith, high, served_sum (early busy s)));
         below = it.below;
       }
 
@@ -377,26 +464,30 @@ module _ (k e : Fraction) (asked : Job → ℕ) (v w : ℕ) (busy : ℕ → Bool
         row.interval.regular (completed_in row)
     row_paid = record {
       above = overs_paid.above;
-      most =
-          let over : of_value * (sum_by served_value row.taken + sum_by served_value row.gone) + of_tick * row.had
-          ≤ of_tick * (sum_by (early busy s) row.taken + sum_by (early busy s) row.gone)
-          + of_taken * row.interval.taken + of_value * 0 + of_own * (completed_in row + overs_paid.above) = overs_paid.most in
-          let regular : sum_by served_value row.regular ≤ row.interval.regular =
-          omega (
+      most = shaped (join_regular of_value of_tick of_taken of_own
+          (sum_by served_value row.taken + sum_by served_value row.gone) row.had
+          (sum_by (early busy s) row.taken + sum_by (early busy s) row.gone) row.interval.taken
+          (completed_in row + overs_paid.above) (sum_by served_value row.regular) row.interval.regular
+          (sum_by (early busy s) row.regular) overs_paid.most (omega (
             arith,
             facts.regular_sum,
-            sum_le served_value job_value row.regular
-                (λ n_j member. cond_le (is_given n_j) n_j.1.value),
-          ) in
-          let own : of_value * sum_by served_value row.regular ≤ of_value * row.interval.regular =
-          mul-le of_value (sum_by served_value row.regular) of_value row.interval.regular (omega arith) regular in
-          let ticks : of_tick * (sum_by (early busy s) row.taken + sum_by (early busy s) row.gone) ≤ of_tick
-          * row_sum (early busy s) row =
-          mul-le of_tick (sum_by (early busy s) row.taken + sum_by (early busy s) row.gone) of_tick
-          (row_sum (early busy s) row) (omega arith) (omega arith) in
-          omega arith;
+            sum_le served_value job_value row.regular (λ n_j member. cond_le (is_given n_j) n_j.1.value),
+          )));
       below = overs_paid.below;
-    }
+    } where
+      assoc : (f : Job → ℕ) → sum_by f row.regular + (sum_by f row.taken + sum_by f row.gone) ≡ row_sum f row
+      assoc f = omega arith
+
+      shaped : of_value * (sum_by served_value row.regular
+          + (sum_by served_value row.taken + sum_by served_value row.gone)) + of_tick * row.had ≤ of_tick
+          * (sum_by (early busy s) row.regular
+          + (sum_by (early busy s) row.taken + sum_by (early busy s) row.gone))
+          + of_taken * row.interval.taken + of_value * row.interval.regular + of_own
+          * (completed_in row + overs_paid.above)
+          → of_value * row_sum served_value row + of_tick * row.had ≤ of_tick * row_sum (early busy s) row
+          + of_taken * row.interval.taken + of_value * row.interval.regular + of_own
+          * (completed_in row + overs_paid.above)
+      shaped paid = rw (← assoc served_value, ← assoc (early busy s)) paid
 
   -- nothing is paid by nothing
   none_are_paid : Paid 0 0 0 0 0 0
@@ -408,8 +499,8 @@ module _ (k e : Fraction) (asked : Job → ℕ) (v w : ℕ) (busy : ℕ → Bool
         → Each (λ row. Each (λ n_j. row.had ≤ n_j.1.work) row.taken) rows
         → Each (λ row. NamesOnce (row.taken ++ row.gone)) rows
         → Each (λ row. Each (IsAsked e asked v w) row.taken × Each (IsAsked e asked v w) row.gone) rows
-        → Paid (sum_by (row_sum served_value) rows) (sum_by (λ row. row.had) rows) (sum_by (row_sum (early busy s)) rows)
-        (sum_by (λ row. row.interval.taken) rows) (sum_by (λ row. row.interval.regular) rows)
+        → Paid (sum_by (row_sum served_value) rows) (sum_by (λ row. row.had) rows)
+        (sum_by (row_sum (early busy s)) rows) (sum_by (λ row. row.interval.taken) rows) (sum_by (λ row. row.interval.regular) rows)
         (sum_by completed_in rows)
     rows_paid [] facts exact once is_asked = none_are_paid
     rows_paid (row ∷ rows) facts exact once is_asked =
@@ -418,17 +509,11 @@ module _ (k e : Fraction) (asked : Job → ℕ) (v w : ℕ) (busy : ℕ → Bool
         let rest = rows_paid rows (λ x member. facts x (inr member)) (λ x member. exact x (inr member))
         (λ x member. once x (inr member)) (λ x member. is_asked x (inr member)) in record {
           above = here.above + rest.above;
-          most = omega (
-            arith,
-            here.most,
-            rest.most,
-            ap (λ n. of_value * n) (sum_by-cons (row_sum served_value) row rows),
-            ap (λ n. of_tick * n) (sum_by-cons (λ (x : Row). x.had) row rows),
-            ap (λ n. of_tick * n) (sum_by-cons (row_sum (early busy s)) row rows),
-            ap (λ n. of_taken * n) (sum_by-cons (λ (x : Row). x.interval.taken) row rows),
-            ap (λ n. of_value * n) (sum_by-cons (λ (x : Row). x.interval.regular) row rows),
-            ap (λ n. of_own * n) (sum_by-cons completed_in row rows),
-          );
+          most = add_paid of_value of_tick of_taken of_own _ _ _ _ _ _ _ _ _ _ _ _ here.above rest.above _ _ _ _ _ _
+              here.most rest.most (sum_by-cons (row_sum served_value) row rows)
+              (sum_by-cons (λ (x : Row). x.had) row rows) (sum_by-cons (row_sum (early busy s)) row rows)
+              (sum_by-cons (λ (x : Row). x.interval.taken) row rows)
+              (sum_by-cons (λ (x : Row). x.interval.regular) row rows) (sum_by-cons completed_in row rows);
           below = subst (IsExcess k (here.above + rest.above)) (sym (sum_by-cons completed_in row rows))
               (excess_add k some_q ratio here.above rest.above _ _ here.below rest.below);
         }
@@ -452,7 +537,7 @@ slower_from k e c a m some most below =
           let square : k.q * m * (k.q * m) ≤ k.p * k.q * y * y = low in
           let smaller : x * x ≤ m * m = mul-le x x m m less less in
           let times : k.q * k.q * (x * x) ≤ k.q * k.q * (m * m) =
-          mul-le (k.q * k.q) (x * x) (k.q * k.q) (m * m) (omega arith) smaller in
+          mul-le-mul_left (k.q * k.q) smaller in
           le-leb _ _ (let cut : k.q * x * x ≤ k.p * y * y =
           cancel k.q (k.q * x * x) (k.p * y * y) some (omega arith) in cut)
 
@@ -460,7 +545,7 @@ slower_from k e c a m some most below =
 below_times : (m x a c : ℕ) → Below m x a → Below m (c * x) (c * a)
 below_times m x a c low =
     let times : c * c * (x * x) ≤ c * c * (m * a * a) =
-    mul-le (c * c) (x * x) (c * c) (m * a * a) (omega arith) low in omega arith
+    mul-le-mul_left (c * c) low in omega arith
 
 -- The sum of the rows' parts: what is done as usual (r) and after a take (z), what was displaced (d), and what is above
 -- (y).
@@ -591,42 +676,28 @@ module _ (k e : Fraction) (asked : Job → ℕ) (v w : ℕ) (jobs : List Job) (r
               rows (λ row member. (books.rows_are row member).displaced);
           little = subst (IsExcess k it.above) parts_are it.below;
         } where
-          scaled : w * (k.q * e.q * served_all) ≤ w
-              * ((e.q + e.p) * k.p * (regular_all + displaced_all + taken_all) + k.q * e.q * regular_all
-              + (k.q * e.q + k.p * e.p) * (sum_by completed_in rows + it.above))
-          scaled =
-              let paid : e.q * (k.q * w) * sum_by (row_sum (served_value k e asked v w busy s)) rows
-              + (e.q + e.p) * (k.p * v) * sum_by (λ row. row.had) rows ≤ (e.q + e.p) * (k.p * v)
-              * sum_by (row_sum (early busy s)) rows + (e.q + e.p) * (k.p * w) * taken_all
-              + e.q * (k.q * w) * regular_all
-              + (k.q * e.q + k.p * e.p) * w * (sum_by completed_in rows + it.above) = it.most in
-              let more : (e.q + e.p) * (k.p * v) * sum_by (row_sum (early busy s)) rows
-              ≤ (e.q + e.p) * (k.p * v) * sum_by (λ row. row.interval.until - row.interval.from) rows =
-              mul-le ((e.q + e.p) * (k.p * v)) (sum_by (row_sum (early busy s)) rows)
-              ((e.q + e.p) * (k.p * v)) (sum_by (λ row. row.interval.until - row.interval.from) rows)
-              (omega arith) (early_most k v w jobs rows busy books s) in
-              let worth : (e.q + e.p) * k.p * (v * sum_by (λ row. row.interval.until - row.interval.from) rows)
-              ≤ (e.q + e.p) * k.p * (w * (regular_all + displaced_all) + v * sum_by (λ row. row.had) rows) =
-              mul-le ((e.q + e.p) * k.p) (v * sum_by (λ row. row.interval.until - row.interval.from) rows)
-              ((e.q + e.p) * k.p) (w * (regular_all + displaced_all) + v * sum_by (λ row. row.had) rows) (omega arith)
-              (ticks_worth k v w jobs rows busy books s) in
-              omega (arith, ap (λ n. e.q * (k.q * w) * n) value_is)
+          in_parts : (all r z d y c : ℕ) → c ≡ r + z
+              → k.q * e.q * all ≤ (e.q + e.p) * k.p * (r + d + z) + k.q * e.q * r + (k.q * e.q + k.p * e.p) * (c + y)
+              → k.q * e.q * all ≤ (k.q * e.q + k.p * e.q + 2 * k.p * e.p) * (r + z)
+              + ((e.q + e.p) * (k.p * d) + k.q * e.q * r + (k.q * e.q + k.p * e.p) * y)
+          in_parts all r z d y c is low = omega (arith, ap (λ n. (k.q * e.q + k.p * e.p) * n) is)
 
           most : k.q * e.q * served_all
               ≤ (k.q * e.q + k.p * e.q + 2 * k.p * e.p) * (regular_all + taken_all)
               + ((e.q + e.p) * (k.p * displaced_all) + k.q * e.q * regular_all
               + (k.q * e.q + k.p * e.p) * it.above)
-          most =
-              let low : k.q * e.q * served_all
-              ≤ (e.q + e.p) * k.p * (regular_all + displaced_all + taken_all) + k.q * e.q * regular_all
-              + (k.q * e.q + k.p * e.p) * (sum_by completed_in rows + it.above) =
-              cancel w (k.q * e.q * served_all)
-              ((e.q + e.p) * k.p * (regular_all + displaced_all + taken_all) + k.q * e.q * regular_all
-              + (k.q * e.q + k.p * e.p) * (sum_by completed_in rows + it.above)) books.some_work scaled in
-              let parts : (k.q * e.q + k.p * e.p) * sum_by completed_in rows
-              ≡ (k.q * e.q + k.p * e.p) * (regular_all + taken_all) =
-              ap (λ n. (k.q * e.q + k.p * e.p) * n) parts_are in
-              omega arith
+          most = in_parts served_all regular_all taken_all displaced_all it.above (sum_by completed_in rows) parts_are
+              (off_work e.p e.q k.p k.q v w served_all (regular_all + displaced_all + taken_all) regular_all
+              (sum_by completed_in rows + it.above) books.some_work
+              (all_paid (for_value e.p e.q k.p k.q v w) (for_tick e.p e.q k.p k.q v w)
+              (for_taken e.p e.q k.p k.q v w) (for_own e.p e.q k.p k.q v w) served_all
+              (sum_by (row_sum (served_value k e asked v w busy s)) rows) (sum_by (λ row. row.had) rows)
+              (sum_by (row_sum (early busy s)) rows) taken_all regular_all (sum_by completed_in rows + it.above)
+              (sum_by (λ row. row.interval.until - row.interval.from) rows) displaced_all value_is it.most
+              (early_most k v w jobs rows busy books s)
+              (ticks_taken e.p e.q k.p k.q v w (sum_by (λ row. row.interval.until - row.interval.from) rows)
+              (regular_all + displaced_all) (sum_by (λ row. row.had) rows)
+              (ticks_worth k v w jobs rows busy books s))))
 
   -- all that a schedule serves is worth no more than the wider bound of what is completed
   pub slower_bound : IsWithinSlower k e served_all (sum_by completed_in rows)

@@ -3,8 +3,8 @@ use Rattle.std.proofs.Common.{◌≡◌, ℕ, suc, zero, ◌+◌, ◌-◌, ◌*�
 use Rattle.std.proofs.Common.{ap, Bool, true, false, cond, eqb, arith, nat_le, nat_lt, ◌&&◌, sum_by, le-leb, leb-true}
 use Rattle.std.proofs.Common.{lt-ltb, ltb-true}
 use Rattle.std.proofs.lemmas.Bool.{and_left, and_parts, cases_lt, lt-leb, le-ltb}
-use Rattle.std.proofs.lemmas.Nat.{mul-le}
 use Rattle.std.proofs.lemmas.List.Sums.{sum_by-cons}
+use Rattle.std.proofs.Math.Nat.{mul-le-mul_left}
 use Rattle.dover_model.specs.Common.{JobFacts, Each, ticks_given, Job}
 use Rattle.dover_model.proofs.runs.Serving.{given, given_nil}
 use Rattle.dover_model.proofs.lists.Tests.{never}
@@ -189,4 +189,4 @@ shares_most jobs once b c s less =
           → sum_by (λ n_j. one (eqb m n_j.0)) xs ≤ 1
           → sum_by (λ n_j. cond (eqb m n_j.0) (cond (in_window n_j.1 τ) (b τ) 0) 0) xs ≤ c τ
       one_gets τ m xs low single = omega
-          (arith, scaled xs τ m low, mul-le (c τ) (sum_by (λ n_j. one (eqb m n_j.0)) xs) (c τ) 1 (omega arith) single)
+          (arith, scaled xs τ m low, mul-le-mul_left (c τ) single)

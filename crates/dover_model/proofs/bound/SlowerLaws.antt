@@ -2,7 +2,7 @@
 use Rattle.std.proofs.Common.{◌≡◌, ℕ, ◌+◌, ◌*◌, ◌≤◌, ◌⊎◌, inl, inr, List, [], ◌∷◌, map, refl, sym, ap, subst, Bool}
 use Rattle.std.proofs.Common.{true, false, cond, arith}
 use Rattle.std.specs.List.{enumerate_from}
-use Rattle.std.proofs.lemmas.Nat.{mul-le}
+use Rattle.std.proofs.Math.Nat.{mul-le-mul_left}
 use Rattle.dover_model.specs.Common.{Fraction, JobFacts, IsLeastDense, Job, IsWithinSlower, worth_by, observing}
 use Rattle.dover_model.specs.Common.{observed, numbered, Task, Instance, IsValid, State, opening, is_done}
 use Rattle.dover_model.specs.Common.{completed_value, IsMember, Each, IsJob}
@@ -31,7 +31,7 @@ module _ (J : Instance) (valid : IsValid J) (e : Fraction) (works : ℕ → ℕ)
       → Each (IsAsked e (λ i_j. works i_j.0) v w) (numbered (observed J))
   each_asked v w modest n_j member = record {
     most = most n_j member;
-    modest = mul-le e.p (v * n_j.1.work) e.p (w * n_j.1.value) (omega arith) low;
+    modest = mul-le-mul_left e.p low;
   } where
     it : (t : Task) × IsMember t (whole_outcome J valid).last.tasks × (n_j.1 ≡ observing t)
     it = observed_there 0 (whole_outcome J valid).last.tasks n_j
@@ -49,7 +49,7 @@ module _ (J : Instance) (valid : IsValid J) (e : Fraction) (works : ℕ → ℕ)
     low : v * n_j.1.work ≤ w * n_j.1.value
     low = subst (λ (j : JobFacts). v * j.work ≤ w * j.value) (sym it.2)
         (let times : v * cond (is_done it.0) it.0.had it.0.job.work ≤ v * it.0.job.work =
-        mul-le v (cond (is_done it.0) it.0.had it.0.job.work) v it.0.job.work (omega arith) (less (is_done it.0)) in
+        mul-le-mul_left v (less (is_done it.0)) in
         omega (arith, declared))
 
   -- what a schedule is worth to which less is asked

@@ -13,6 +13,7 @@ use Rattle.dover_model.specs.Common.{after, ◌or_else◌, displaced, Step, is_e
 use Rattle.dover_model.specs.Common.{is_take_of, is_preempt_of, changes_hands, IsMember, Each, EachTwo, IsSound, Keeps}
 use Rattle.dover_model.specs.Common.{one_if}
 use Rattle.dover_model.proofs.lists.Members.{map_member, on_map, filter_member, sum_le, sum_plus, sum_zero, term_le_sum}
+use Rattle.dover_model.proofs.lists.Members.{number_of}
 use Rattle.dover_model.proofs.steps.Roles.{passes, one_number}
 use Rattle.dover_model.proofs.bound.Calculus.{heavy_more}
 use Rattle.dover_model.proofs.runs.Serving.{named_once}
@@ -25,8 +26,8 @@ use Rattle.dover_model.proofs.runs.Ending.{run_is_whole}
 use Rattle.dover_model.proofs.runs.Once.{takes_once, preempts_once, runs_complete}
 use Rattle.dover_model.proofs.runs.Runs.{run_states}
 use Rattle.dover_model.proofs.runs.Once.{rest_of, rest_fails}
-use Rattle.dover_model.proofs.switches.Switching.{young, next, next_there, next_number, next_role, step_turned}
-use Rattle.dover_model.proofs.switches.Switching.{opens, opens_coming, hits_named, preempts_some, takes_some}
+use Rattle.dover_model.proofs.switches.Switching.{young, next, next_number, next_role, step_turned, same_task}
+use Rattle.dover_model.proofs.switches.Switching.{over_run_with, hits_named, preempts_some, takes_some}
 use Rattle.dover_model.proofs.switches.Switching.{each_finds, deed_preempts, deed_takes, completes_few}
 use Rattle.dover_model.proofs.switches.Switching.{count_all, length_enumerate, job_is, changes_parts}
 
@@ -205,10 +206,6 @@ waits Gone = 0
 
 module _ (s : State) (sound : IsSound s) (n : ℕ) (t : Task) (member : IsMember t s.tasks) (is_n : t.number ≡ n)
     (most : Each (λ u. u.job.value ≤ t.job.value) s.tasks) where
-  -- a job of this number is this one
-  is_this : (r : Task) → IsMember r s.tasks → r.number ≡ n → t ≡ r
-  is_this r m same = one_number 0 s.tasks sound.numbered t r member m (is_n ∙ sym same)
-
   -- where one job gets a new role that weighs no more
   one_less : (pot : Role → ℕ) (r : Task) → IsMember r s.tasks → (old new : Role) → r.role ≡ old → pot new ≤ pot old
       → pot (cond (eqb t.number r.number) new t.role) ≤ pot t.role
@@ -250,7 +247,7 @@ module _ (s : State) (sound : IsSound s) (n : ℕ) (t : Task) (member : IsMember
           falls,
           ap (λ b. pot (cond b Running (displaced t.role)))
               (eq-eqb t.number x.number (is_n ∙ sym (eqb-true _ _ e))),
-          ap pot (ap (λ (y : Task). y.role) (is_this x x_member (eqb-true _ _ e)) ∙ waiting),
+          ap pot (ap (λ (y : Task). y.role) (same_task s sound n t member is_n x x_member (eqb-true _ _ e)) ∙ waiting),
         )
     by_number false e =
         omega (
@@ -291,7 +288,8 @@ module _ (s : State) (sound : IsSound s) (n : ℕ) (t : Task) (member : IsMember
           arith,
           ap (λ b. may_stop (cond b Running (cond (eqb t.number r.number) Held t.role)))
               (eq-eqb t.number f.number (is_n ∙ sym (eqb-true _ _ e))),
-          ap may_stop (ap (λ (y : Task). y.role) (is_this f f_member (eqb-true _ _ e)) ∙ fresh),
+          ap may_stop (ap (λ (y : Task). y.role)
+              (same_task s sound n t member is_n f f_member (eqb-true _ _ e)) ∙ fresh),
         )
         by_number false e = omega (
           arith,
@@ -355,30 +353,6 @@ rest_same s n t pot = by_end (list_all is_over s.tasks) where
 
 -- ---- along a run
 
-module _ (J : Instance) (valid : IsValid J) (n : ℕ) (pot : Role → ℕ) (gain : Step → ℕ)
-    (each : (s : State) → Keeps J s → IsAlone s → (t : Task) → IsMember t s.tasks → t.number ≡ n
-    → pot (role_then (step J.rules s) t) + gain (step_at J.rules s) ≤ pot t.role) where
-  -- what a role weighs pays for what is gained, where the first job is alone
-  along_alone : (xs : List Step) (s : State) → Keeps J s → IsAlone s → (t : Task) → IsMember t s.tasks → t.number ≡ n
-      → IsWholeRun J.rules s xs
-      → sum_by gain xs ≤ pot t.role
-  along_alone [] s keeps alone t member is_n whole = absurd whole
-  along_alone (x ∷ xs) s keeps alone t member is_n whole =
-      by_end (is_end (step J.rules s)) whole.1
-      (λ rest. along_alone xs (after s (step J.rules s)) (step_kept J valid s keeps J.rules)
-      (step_alone J valid s keeps alone) (next (step J.rules s) t) (next_there s (step J.rules s) t member)
-      (next_number (step J.rules s) t ∙ is_n) rest)
-      (each s keeps alone t member is_n) where
-        by_end : (b : Bool) → MatchBool b (xs ≡ []) (IsWholeRun J.rules (after s (step J.rules s)) xs)
-            → (IsWholeRun J.rules (after s (step J.rules s)) xs
-            → sum_by gain xs ≤ pot (next (step J.rules s) t).role)
-            → pot (role_then (step J.rules s) t) + gain (step_at J.rules s) ≤ pot t.role
-            → sum_by gain (x ∷ xs) ≤ pot t.role
-        by_end true none more here =
-            omega (arith, sum_by-cons gain x xs, ap gain whole.0, ap (sum_by gain) none)
-        by_end false rest more here =
-            omega (arith, sum_by-cons gain x xs, ap gain whole.0, ap pot (next_role (step J.rules s) t), more rest)
-
 module _ (J : Instance) (valid : IsValid J) (n_j : Job) (member : IsMember n_j (numbered J)) where
   -- how often it preempts, and takes
   abbrev preempts_of : ℕ
@@ -395,10 +369,10 @@ module _ (J : Instance) (valid : IsValid J) (n_j : Job) (member : IsMember n_j (
   whole_alone pot gain each =
       omega (
         arith,
-        along_alone J valid n_j.0 pot gain each (run J) (opening J.jobs) (opening_keeps J)
-            (λ t u mt mu first is_young. inr (come_coming 0 J.jobs u mu).0) (opens J valid n_j member).0
-            (opens J valid n_j member).1 (opens J valid n_j member).2 (run_is_whole J valid),
-        ap pot (opens_coming J valid n_j member),
+        over_run_with J valid n_j member IsAlone (step_alone J valid)
+            (λ t u mt mu first is_young. inr (come_coming 0 J.jobs u mu).0) pot gain (λ x. 0)
+            (λ s keeps alone t mt same. omega (arith, each s keeps alone t mt same)),
+        sum_zero (λ (x : Step). 0) (run J) (λ x m. refl),
       )
 
   -- each task is worth no more than the one of greatest value
@@ -493,14 +467,6 @@ least_of key (x ∷ xs) = inr (by_rest (least_of key xs)) where
       each : Each (λ y. key it.0 ≤ key y) (x ∷ xs)
       each y (inl e) = omega (arith, ap key e)
       each y (inr member) = it.2 y member
-
--- a job has a number
-number_of : (k : ℕ) (jobs : List JobFacts) (i : JobFacts) → IsMember i jobs
-    → (n : ℕ) × IsMember (n, i) (enumerate_from k jobs)
-number_of k [] i member = absurd member
-number_of k (j ∷ jobs) i (inl e) = (k, inl (ap (λ (x : JobFacts). (k, x)) e))
-number_of k (j ∷ jobs) i (inr member) = let it : (n : ℕ) × IsMember (n, i) (enumerate_from (k + 1) jobs) =
-    number_of (k + 1) jobs i member in (it.0, inr it.1)
 
 -- what a job preempts and takes, where three facts may take one off each
 three_off : (a b c : Bool) (p t : ℕ) → p ≤ 1 → t ≤ 1 → (a ≡ true → p ≤ 0) → (b ≡ true → p + t ≤ 1)
