@@ -16,6 +16,7 @@ use Rattle.dover_model.specs.Common.{AreOfStreams, most_crossing, CanStack, wort
 use Rattle.dover_model.specs.Common.{IsOfStream, others, best_of, most_fitting, worth_beside}
 use Rattle.dover_model.specs.Sure.{crosses, crossing_beside, chosen_value, chosen_work, CanHold, work_within}
 use Rattle.dover_model.proofs.lists.Members.{sum_le, sum_same, sum_zero, sum_plus, term_le_sum, all_member}
+use Rattle.dover_model.proofs.lists.Members.{number_of}
 use Rattle.dover_model.proofs.valid.JobLimits.{JobLimits, job_limits}
 use Rattle.dover_model.proofs.valid.ValidParts.{valid_parts}
 use Rattle.dover_model.proofs.bound.Books.{scaled_sum}
@@ -33,14 +34,6 @@ module _ {X : Type 0} where
   numbered_above k (x ∷ xs) n_x (inl e) = let same : n_x.0 ≡ k = ap (λ (i : ℕ × X). i.0) e in omega (arith, same)
   numbered_above k (x ∷ xs) n_x (inr member) =
       let above : k + 1 ≤ n_x.0 = numbered_above (k + 1) xs n_x member in omega (arith, above)
-
-  -- a member has a number
-  number_of : (k : ℕ) (xs : List X) (x : X) → IsMember x xs → (n : ℕ) × IsMember (n, x) (enumerate_from k xs)
-  number_of k [] x member = absurd member
-  number_of k (y ∷ xs) x (inl e) = (k, inl (ap (λ z. (k, z)) e))
-  number_of k (y ∷ xs) x (inr member) =
-      let it : (n : ℕ) × IsMember (n, x) (enumerate_from (k + 1) xs) = number_of (k + 1) xs x member in
-      (it.0, inr it.1)
 
   -- a number has a member
   at_number : (k : ℕ) (xs : List X) (d : X) (i : ℕ) → i < length xs
