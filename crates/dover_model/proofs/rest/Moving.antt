@@ -2,17 +2,17 @@
 use Rattle.std.proofs.Common.{◌≡◌, ℕ, ◌+◌, ◌-◌, ◌≤◌, ◌<◌, inl, inr, List, [], ◌∷◌, length, map, refl, sym, ap, ◌∙◌}
 use Rattle.std.proofs.Common.{subst, Bool, true, false, cond, arith, eqb, Option, Some, None}
 use Rattle.std.specs.Prelude.{nat_lt, nat_le, ◌&&◌, ◌||◌}
-use Rattle.std.specs.Bool.{MatchBool, then_some}
-use Rattle.std.specs.List.{find, filter, fold, sum_by, list_all, cons_option}
+use Rattle.std.specs.Bool.{then_some}
+use Rattle.std.specs.List.{find, filter, fold, sum_by, list_all}
 use Rattle.std.proofs.lemmas.Bool.{ne_eqb, eq-eqb, eqb-true, eqb-false, lt-ltb, ltb-true, ltb-false, le-ltb}
-use Rattle.dover_model.specs.Common.{Fraction, Event, Release, Preempt, Take, Complete, Abandon, End, Version, One}
+use Rattle.dover_model.specs.Common.{Fraction, Release, Preempt, Take, Complete, Abandon, End, Version, One}
 use Rattle.dover_model.specs.Common.{Task, Rules, State, is_coming, is_fresh, is_waiting, is_held, is_running}
 use Rattle.dover_model.specs.Common.{is_privileged, is_done, is_over, left, latest_start, running, room, demand_by}
 use Rattle.dover_model.specs.Common.{least, value_sum, is_heavy, first, earlier, due_first, starts_before, Move, Prints}
 use Rattle.dover_model.specs.Common.{Waits, Ticks, View, view, ◌or_else◌, completion, dispatch, decision, arrival}
 use Rattle.dover_model.specs.Common.{alarm, urgent_or, step, ending, after, ticked, runs, preempts, is_at_latest_start}
 use Rattle.dover_model.specs.Common.{declared_step, due_finish, finish_or, Finish, is_finish_of, Step, is_end, event_of}
-use Rattle.dover_model.specs.Common.{printed_of, step_at, IsWholeRun, Each, JobFacts, later_job, later_event}
+use Rattle.dover_model.specs.Common.{printed_of, IsWholeRun, Each, JobFacts, later_job, later_event}
 use Rattle.dover_model.proofs.steps.Kept.{move_of}
 use Rattle.dover_model.proofs.lists.Members.{map_map, map_same, sum_map, member_filter, on_map}
 use Rattle.dover_model.proofs.runs.RunLaws.{tasks_in, changed_event, whole_carried}

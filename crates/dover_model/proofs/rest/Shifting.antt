@@ -2,11 +2,11 @@
 use Rattle.std.proofs.Common.{◌≡◌, ℕ, ◌+◌, ◌-◌, ◌≤◌, ◌<◌, inl, inr, List, [], ◌∷◌, ◌++◌, length, map, refl, sym}
 use Rattle.std.proofs.Common.{ap, ◌∙◌, subst, Bool, true, false, cond, arith, eqb, Option, Some, None}
 use Rattle.std.specs.Prelude.{nat_lt, nat_le, ◌&&◌, ◌||◌, ◌==◌}
-use Rattle.std.specs.Bool.{MatchBool, then_some}
+use Rattle.std.specs.Bool.{then_some}
 use Rattle.std.specs.List.{find, filter, fold, sum_by, list_all, cons_option}
 use Rattle.std.proofs.lemmas.Bool.{ne_eqb, eq-eqb, eqb-true, eqb-false, lt-ltb, ltb-true, ltb-false, le-ltb}
 use Rattle.std.proofs.lemmas.List.Sums.{sum_by-cons}
-use Rattle.dover_model.specs.Common.{Fraction, Event, Release, Run, Preempt, Take, Complete, Abandon, End, Role, Fresh}
+use Rattle.dover_model.specs.Common.{Fraction, Release, Run, Preempt, Take, Complete, Abandon, End, Role, Fresh}
 use Rattle.dover_model.specs.Common.{Waiting, Held, Running, Done, Gone, Version, One, Task, Rules, having}
 use Rattle.dover_model.specs.Common.{State, is_coming, is_fresh, is_waiting, is_held, is_running, is_privileged}
 use Rattle.dover_model.specs.Common.{is_done, is_over, left, latest_start, room, demand_by, least, value_sum, is_heavy}
@@ -14,7 +14,7 @@ use Rattle.dover_model.specs.Common.{first, earlier, due_first, starts_before, M
 use Rattle.dover_model.specs.Common.{with_role, ticked, displaced, ◌or_else◌, completion, dispatch, decision, arrival}
 use Rattle.dover_model.specs.Common.{alarm, urgent_or, step, open_step, ending, after, preempts, runs}
 use Rattle.dover_model.specs.Common.{is_at_latest_start, due_finish, finish_or, declared_step, declared_open_step, Step}
-use Rattle.dover_model.specs.Common.{is_end, event_of, printed_of, waits_for_mark, step_at, open_at, IsWholeRun}
+use Rattle.dover_model.specs.Common.{is_end, event_of, printed_of, waits_for_mark, open_at, IsWholeRun}
 use Rattle.dover_model.specs.Common.{IsSettledRun, Each, behind, behind_finish, Finish, is_finish_of, has_come_to}
 use Rattle.dover_model.proofs.lists.Members.{map_map, map_same, sum_map}
 use Rattle.dover_model.proofs.runs.RunLaws.{tasks_in, changed_event, cons_changed, whole_carried}

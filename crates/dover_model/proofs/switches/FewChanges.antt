@@ -1,15 +1,14 @@
 -- The most that the processor changes hands: of what all jobs could preempt and take, three things don't happen.
 use Rattle.std.proofs.Common.{◌≡◌, ℕ, ◌+◌, ◌*◌, ◌≤◌, ◌<◌, ◌⊎◌, inl, inr, List, [], ◌∷◌, length, refl, sym}
 use Rattle.std.proofs.Common.{ap, ◌∙◌, subst, Bool, true, false, cond, arith, eqb}
-use Rattle.std.specs.Bool.{MatchBool, then_some}
+use Rattle.std.specs.Bool.{then_some}
 use Rattle.std.specs.List.{count_by, sum_by, list_all, filter, enumerate_from}
 use Rattle.std.specs.Prelude.{nat_lt}
 use Rattle.std.proofs.lemmas.Bool.{eqb-true, eqb-false, eq-eqb, ne_eqb, cases_lt}
-use Rattle.std.proofs.lemmas.List.Sums.{sum_by-cons}
 use Rattle.dover_model.specs.Common.{JobFacts, Fraction, Job, Role, Coming, Fresh, Waiting, Held, Running, Done, Gone}
 use Rattle.dover_model.specs.Common.{End, Task, Instance, IsValid, numbered, State, opening, is_over, is_done}
 use Rattle.dover_model.specs.Common.{is_privileged, value_sum, privileged, is_heavy, Move, Prints, Ticks, step}
-use Rattle.dover_model.specs.Common.{after, ◌or_else◌, displaced, Step, is_end, run, IsWholeRun, step_at, role_then}
+use Rattle.dover_model.specs.Common.{after, ◌or_else◌, displaced, Step, run, step_at, role_then}
 use Rattle.dover_model.specs.Common.{is_take_of, is_preempt_of, changes_hands, IsMember, Each, EachTwo, IsSound, Keeps}
 use Rattle.dover_model.specs.Common.{one_if}
 use Rattle.dover_model.proofs.lists.Members.{map_member, on_map, filter_member, sum_le, sum_plus, sum_zero, term_le_sum}
@@ -21,7 +20,7 @@ use Rattle.dover_model.proofs.bound.Counting.{one, one_none, one_low}
 use Rattle.dover_model.proofs.bound.Books.{Without, without, greatest}
 use Rattle.dover_model.proofs.steps.Deeds.{Deed, Completed, Resumed, Started, Began, Preempted, Stayed, Arrived, Taken}
 use Rattle.dover_model.proofs.steps.Deeds.{Abandoned, Rested}
-use Rattle.dover_model.proofs.steps.Kept.{step_deed, step_kept, opening_keeps, come_coming}
+use Rattle.dover_model.proofs.steps.Kept.{step_deed, opening_keeps, come_coming}
 use Rattle.dover_model.proofs.runs.Ending.{run_is_whole}
 use Rattle.dover_model.proofs.runs.Once.{takes_once, preempts_once, runs_complete}
 use Rattle.dover_model.proofs.runs.Runs.{run_states}
