@@ -16,7 +16,7 @@ use crate::short::{ShortTask, left};
 use crate::slot::WaitingSlot;
 use comparison_count::Comparisons;
 use dover_model::{Memory, Task, Version};
-use place_heap::{Heap, Item, tie_of};
+use place_heap::{Heap, Item, ShortRank, tie_of};
 use std::alloc::Global;
 use std::marker::Model;
 use std::sync::ledger::Ledger;
@@ -28,8 +28,8 @@ pub struct Pool {
     version: Version,
     slots: Vec<WaitingSlot>,
     free: Vec<u32>,
-    by_deadline: Heap,
-    by_latest: Heap,
+    by_deadline: Heap<ShortRank>,
+    by_latest: Heap<ShortRank>,
     room: u32,
 }
 
@@ -48,7 +48,7 @@ impl Model for Pool {
 
 // The item of the job by its deadline.
 #[inline(always)]
-fn due_item(version: Version, place: u32, t: &Task) -> Item
+fn due_item(version: Version, place: u32, t: &Task) -> Item<ShortRank>
     requires { place < 2 ^ 20 }
     ensures { result ≡ due_item version place (entry_of t.now) }
 {
@@ -62,7 +62,7 @@ fn due_item(version: Version, place: u32, t: &Task) -> Item
 
 // The item of the job by its latest start.
 #[inline(always)]
-fn latest_item(version: Version, place: u32, t: &Task) -> Item
+fn latest_item(version: Version, place: u32, t: &Task) -> Item<ShortRank>
     requires { place < 2 ^ 20 }
     ensures { result ≡ latest_item version place (entry_of t.now) }
 {
@@ -158,8 +158,8 @@ fn next_place(slots: &mut Vec<WaitingSlot>, free: &mut Vec<u32>) -> u32
 fn take_at<L: Ledger>(
     slots: &mut Vec<WaitingSlot>,
     free: &mut Vec<u32>,
-    by_deadline: &mut Heap,
-    by_latest: &mut Heap,
+    by_deadline: &mut Heap<ShortRank>,
+    by_latest: &mut Heap<ShortRank>,
     place: u32,
     comparisons: &mut Comparisons<L>,
 )
@@ -187,8 +187,8 @@ fn take_at<L: Ledger>(
 fn reserve_places(
     slots: &mut Vec<WaitingSlot>,
     free: &mut Vec<u32>,
-    by_deadline: &mut Heap,
-    by_latest: &mut Heap,
+    by_deadline: &mut Heap<ShortRank>,
+    by_latest: &mut Heap<ShortRank>,
     places: u32,
 ) -> Result<(), Memory>
     requires opened { length slots.old.items ≤ places }
