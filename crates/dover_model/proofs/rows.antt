@@ -17,4 +17,5 @@ pub mod RestRows
 pub mod FinishRows
 pub mod SureRows
 pub mod ThreeRows
+pub mod FourRows
 pub mod SwitchRows

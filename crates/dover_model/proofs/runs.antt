@@ -13,3 +13,5 @@ pub mod WaitingMoves
 pub mod Spending
 pub mod Once
 pub mod Honest
+pub mod Calm
+pub mod OneDensity

@@ -10,6 +10,7 @@ pub mod Ticking
 pub mod Rooms
 pub mod Deeds
 pub mod Preempting
+pub mod Pressing
 pub mod Kept
 pub mod Jumping
 pub mod Leaving

@@ -10,7 +10,7 @@ pub use Rattle.dover_model.specs.declared.events.Role.{Role}
 pub use Rattle.dover_model.specs.declared.events.Role.TheVariants.{Coming, Done, Fresh, Gone, Held, Running, Waiting}
 pub use Rattle.dover_model.specs.declared.events.Task.{Task}
 pub use Rattle.dover_model.specs.declared.events.Version.{Version}
-pub use Rattle.dover_model.specs.declared.events.Version.TheVariants.{One, Three, Two}
+pub use Rattle.dover_model.specs.declared.events.Version.TheVariants.{Four, One, Three, Two}
 pub use Rattle.dover_model.specs.declared.factors.Factor.{Factor}
 pub use Rattle.dover_model.specs.declared.horizon.Horizon.{Horizon}
 pub use Rattle.dover_model.specs.declared.horizon.Horizon.TheVariants.{Mark}
@@ -25,17 +25,21 @@ pub use Rattle.dover_model.specs.Instance.{bare, Declaration, declared_by, finis
 pub use Rattle.dover_model.specs.Instance.{is_within_ratio, IsInOrder, IsListable, IsValid, jobs_under, Rules}
 pub use Rattle.dover_model.specs.Instance.{total_value, under, with_finishes, with_jobs}
 pub use Rattle.dover_model.specs.Schedules.{earned, is_served, Meets, numbered, ticks_given, worth}
-pub use Rattle.dover_model.specs.State.{demand_by, demand_up_to, held, is_coming, is_done, is_fresh, is_held, is_over}
-pub use Rattle.dover_model.specs.State.{is_privileged, is_ready_behind, is_running, is_waiting, latest_start, least}
+pub use Rattle.dover_model.specs.State.{demand_by, demand_up_to, held, is_coming, is_done, is_fresh, is_held}
+pub use Rattle.dover_model.specs.State.{is_open_job}
+pub use Rattle.dover_model.specs.State.{is_over, is_privileged, is_ready_behind, is_running, is_waiting, latest_start}
+pub use Rattle.dover_model.specs.State.{least}
 pub use Rattle.dover_model.specs.State.{left, opening, privileged, room, running, State, state_at, to_come, value_sum}
 pub use Rattle.dover_model.specs.State.{waiting, with_later}
 pub use Rattle.dover_model.specs.Ready.{is_ready, with_fresh}
 pub use Rattle.dover_model.specs.Entries.{entry_of, is_due_before, is_start_before, IsStrictOrder, room_of, wins_tie}
-pub use Rattle.dover_model.specs.Orders.{due_first, earlier, first, is_heavy, IsHeavy, starts_before}
+pub use Rattle.dover_model.specs.Orders.{by_density, due_first, earlier, first, is_heavy, is_less_dense, IsByDeadline}
+pub use Rattle.dover_model.specs.Orders.{IsHeavy, starts_before}
+pub use Rattle.dover_model.specs.Orders.{waiting_order}
 pub use Rattle.dover_model.specs.Step.{after, alarm, arrival, completion, decision, declared_open_step, declared_step}
 pub use Rattle.dover_model.specs.Step.{dispatch, displaced, due_finish, ending, finish_or, is_at_latest_start, Move}
 pub use Rattle.dover_model.specs.Step.{open_step, preempts, Prints, resumed, role_after, runs, step, ticked, Ticks}
-pub use Rattle.dover_model.specs.Step.{urgent_or, View, view, Waits, with_role, ◌or_else◌}
+pub use Rattle.dover_model.specs.Step.{seen_by, urgent_or, View, view, Waits, with_role, ◌or_else◌}
 pub use Rattle.dover_model.specs.Run.{completed_value, enough, event_of, is_end, last_deadline, number_running, printed}
 pub use Rattle.dover_model.specs.Run.{printed_of, ran, run, Step, tick_of, value_of_end}
 pub use Rattle.dover_model.specs.Sound.{Each, EachTwo, FitsRole, HaveTheSame, IsMember, IsNumberedFrom, IsSound}
@@ -58,6 +62,7 @@ pub use Rattle.dover_model.specs.Leading.{WaitsUntil}
 pub use Rattle.dover_model.specs.Online.{finishes_up_to, known_at, printed_up_to}
 pub use Rattle.dover_model.specs.Sure.{AreOfStreams, best_of, blank_stream, CanStack, is_spread, IsCompleted, IsHeavyAt}
 pub use Rattle.dover_model.specs.Sure.{IsOfStream, IsSure, most_beside, most_crossing, most_fitting, NoneDisplaces}
+pub use Rattle.dover_model.specs.Sure.{NoneMeets}
 pub use Rattle.dover_model.specs.Sure.{others, Stream, stream_at, worth_beside, worth_of}
 pub use Rattle.dover_model.specs.Underload.{SomeRuns, takes_or_abandons}
 pub use Rattle.dover_model.specs.WaitingMoves.{enters, leaves, role_then, waits_then}

@@ -20,7 +20,7 @@ ticked_by n t = record {
 
 -- the state with the clock n further, and n ticks more for the running job
 abbrev pub later_by : ℕ → State → State
-later_by n s = record { clock = s.clock + n; tasks = map (ticked_by n) s.tasks }
+later_by n s = record s { clock = s.clock + n; tasks = map (ticked_by n) s.tasks }
 
 -- so many silent ticks, from a state on
 abbrev pub silent_ticks : ℕ → State → List Step

@@ -1,7 +1,9 @@
 -- The two orders of jobs, and the threshold of a take.
-use Rattle.std.specs.Prelude.{ℕ, ◌-◌, ◌*◌, List, Bool, ◌&&◌, nat_lt, IsTrue, if◌then◌else◌, Option, Some, None}
+use Rattle.std.specs.Prelude.{◌≡◌, ℕ, ◌-◌, ◌*◌, List, Bool, false, not, ◌||◌, ◌&&◌, nat_lt, IsTrue, if◌then◌else◌}
+use Rattle.std.specs.Prelude.{Option, Some, None}
 use Rattle.std.specs.List.{reduce}
 use Rattle.dover_model.specs.declared.events.Version.{Version}
+use Rattle.dover_model.specs.declared.events.Version.TheVariants.{One, Two, Three, Four}
 use Rattle.dover_model.specs.Fraction.{Fraction}
 use Rattle.dover_model.specs.declared.factors.Factor.{Factor}
 use Rattle.dover_model.specs.declared.events.Task.{Task}
@@ -14,6 +16,26 @@ due_first v a b = is_due_before v (entry_of a) (entry_of b)
 -- a comes before b in the order by latest start
 abbrev pub starts_before : Version → Task → Task → Bool
 starts_before v a b = is_start_before v (entry_of a) (entry_of b)
+
+-- a has less value for each tick of its work than b
+abbrev pub is_less_dense : Task → Task → Bool
+is_less_dense a b = nat_lt (a.job.value * b.job.work) (b.job.value * a.job.work)
+
+-- whether waiting jobs are chosen by density: in version Four, in a pressed state
+abbrev pub by_density : Version → Bool → Bool
+by_density One pressed = false
+by_density Two pressed = false
+by_density Three pressed = false
+by_density Four pressed = pressed
+
+-- the version that always chooses them by deadline
+abbrev pub IsByDeadline : Version → Type 0
+IsByDeadline v = (pressed : Bool) → by_density v pressed ≡ false
+
+-- a comes before b among waiting jobs: by deadline or by density
+abbrev pub waiting_order : Version → Bool → Task → Task → Bool
+waiting_order v dense a b =
+    if dense then is_less_dense b a || (not (is_less_dense a b) && due_first v a b) else due_first v a b
 
 -- the one of the two that comes first
 abbrev pub earlier : {X : Type 0} → (X → X → Bool) → X → X → X

@@ -11,9 +11,16 @@ is_ready t = not (is_over t)
 
 -- the state of the jobs that aren't over
 abbrev pub ready_part : State → State
-ready_part s = record { clock = s.clock; tasks = filter is_ready s.tasks }
+ready_part s = record s { tasks = filter is_ready s.tasks }
 
 -- the state with the job of this number, which was released last
 abbrev pub with_fresh : State → ℕ → JobFacts → State
-with_fresh z n j = record
-    { clock = j.release; tasks = z.tasks ++ record { number = n; job = j; role = Fresh; had = 0 } ∷ [] }
+with_fresh z n j = record z {
+  clock = j.release;
+  tasks = z.tasks ++ record {
+    number = n;
+    job = j;
+    role = Fresh;
+    had = 0;
+  } ∷ [];
+}

@@ -11,6 +11,9 @@ pub enum Version {
     Two,
     /// As Two, and jobs may finish early; a job that comes too late, and a done line that isn't right, are passed over.
     Three,
+    /// As Three, and once a job was abandoned waiting jobs are chosen by density, until a completion leaves no job
+    /// ready.
+    Four,
 }
 
 impl Version {
@@ -28,6 +31,7 @@ impl Version {
             1 => Some(Version::One),
             2 => Some(Version::Two),
             3 => Some(Version::Three),
+            4 => Some(Version::Four),
             _ => None,
         }
     }
@@ -36,12 +40,13 @@ impl Version {
     #[inline(always)]
     pub fn number(self) -> u64
         ensures is { result ≡ version_number self }
-        ensures small { result ≤ 3 }
+        ensures small { result ≤ 4 }
     {
         match self {
             Version::One => 1,
             Version::Two => 2,
             Version::Three => 3,
+            Version::Four => 4,
         }
     }
 
@@ -52,7 +57,7 @@ impl Version {
     {
         match self {
             Version::One | Version::Two => 1_000_000,
-            Version::Three => 4_000_000_000,
+            Version::Three | Version::Four => 4_000_000_000,
         }
     }
 
@@ -63,7 +68,7 @@ impl Version {
     {
         match self {
             Version::One | Version::Two => 10_000_000_000_000,
-            Version::Three => 999_999_999_999_999_999,
+            Version::Three | Version::Four => 999_999_999_999_999_999,
         }
     }
 
@@ -74,7 +79,7 @@ impl Version {
     {
         match self {
             Version::One | Version::Two => 4_000_000,
-            Version::Three => 16_000_000_000,
+            Version::Three | Version::Four => 16_000_000_000,
         }
     }
 
@@ -85,7 +90,7 @@ impl Version {
     {
         match self {
             Version::One | Version::Two => 3_999_998,
-            Version::Three => 15_999_999_998,
+            Version::Three | Version::Four => 15_999_999_998,
         }
     }
 
@@ -96,31 +101,31 @@ impl Version {
     {
         match self {
             Version::One => false,
-            Version::Two | Version::Three => true,
+            Version::Two | Version::Three | Version::Four => true,
         }
     }
 
-    /// Whether jobs may finish early: in version Three.
+    /// Whether jobs may finish early: from version Three on.
     #[inline(always)]
     pub fn may_finish_early(self) -> bool
         ensures { result ≡ session.may_finish_early self }
     {
         match self {
             Version::One | Version::Two => false,
-            Version::Three => true,
+            Version::Three | Version::Four => true,
         }
     }
 }
 
-/// Why a job isn't admitted. One that comes too late is refused in version Three alone: before it, that ends the feed.
-/// So many ready jobs that no more may come there are in version Three alone.
+/// Why a job isn't admitted. One that comes too late is refused from version Three on: before it, that ends the feed.
+/// So many ready jobs that no more may come there are from version Three on.
 #[derive(Clone, Copy, PartialEq, Eq)]
 pub enum Refusal {
     /// Its release, work, deadline or value is out of the limits, or it can't be done from its release on.
     BadJob,
-    /// As many jobs are admitted as there may be: 1,000,000, in version Three 4,000,000,000.
+    /// As many jobs are admitted as there may be: 1,000,000, from version Three on 4,000,000,000.
     Count,
-    /// With it the values of the admitted jobs would sum up to more than 10^13, in version Three to 10^18 or more.
+    /// With it the values of the admitted jobs would sum up to more than 10^13, from version Three on to 10^18 or more.
     Total,
     /// Its value per tick of work and that of an admitted job differ by more than the declared ratio.
     Ratio,
@@ -163,7 +168,7 @@ pub struct Task {
 }
 
 /// A printed step. `at` is its tick, and the other fields but `job` and `value` are numbers of jobs.
-#[derive(Clone, Copy, PartialEq, Eq)]
+#[derive(Clone, Copy)]
 pub enum Event {
     /// The job of this number is released, at the tick that the job names.
     Release { number: u32, job: Job },

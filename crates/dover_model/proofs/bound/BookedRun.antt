@@ -33,6 +33,7 @@ use Rattle.dover_model.proofs.bound.Booked.{none_behind, active_ready, idle_book
 use Rattle.dover_model.proofs.lists.Tests.{never}
 use Rattle.dover_model.proofs.valid.ValidParts.{valid_parts}
 use Rattle.dover_model.proofs.valid.JobLimits.{ratio_limits}
+use Rattle.dover_model.proofs.bound.Booking.{books_done, books_gone}
 
 -- the intervals of the rows, the last of which comes first, before others
 abbrev pub rev_onto : List Row → List Interval → List Interval
@@ -145,8 +146,8 @@ module _ (k : Fraction) (some_q : 1 ≤ k.q) (ratio : k.q ≤ k.p) (v w : ℕ) (
               (alone e) row.interval.regular
               (row.interval.taken + value_of s r.number) row.regular ((r.number, r.job) ∷ []) r.had ∷ closed;
           under_way = None;
-          booked = closes_taken k v w s sound closed row books r member runs (modest r member).0
-              (modest r member).1 (alone e) took;
+          booked = books_done k v w s r (closes_taken k v w s sound closed row books r member runs (modest r member).0
+              (modest r member).1 (alone e) took);
           same = ends true true e took;
           lasts = omega (
             arith,
@@ -167,8 +168,8 @@ module _ (k : Fraction) (some_q : 1 ≤ k.q) (ratio : k.q ≤ k.p) (v w : ℕ) (
               (row.interval.regular + value_of s r.number) row.interval.taken
               ((r.number, r.job) ∷ row.regular) row.taken 0 ∷ closed;
           under_way = None;
-          booked = closes_plain k v w s sound closed row books r member runs (modest r member).0
-              (modest r member).1 (alone e) took;
+          booked = books_done k v w s r (closes_plain k v w s sound closed row books r member runs (modest r member).0
+              (modest r member).1 (alone e) took);
           same = ends true false e took;
           lasts = omega (
             arith,
@@ -194,8 +195,8 @@ module _ (k : Fraction) (some_q : 1 ≤ k.q) (ratio : k.q ≤ k.p) (v w : ℕ) (
         (λ took. took) in
         closes_none (Prints (Complete s.clock r.number)) (Some row)
         (Some (longer k v w s sound closed row books r member runs (modest r member).0 (modest r member).1))
-        (goes_on k v w s sound closed row books r member runs (modest r member).0 (modest r member).1 h.0 it.0
-        (is_held_role h.0 it.1))
+        (books_done k v w s r (goes_on k v w s sound closed row books r member runs (modest r member).0
+        (modest r member).1 h.0 it.0 (is_held_role h.0 it.1)))
         (ends false false e plain) (omega arith)
 
   -- a job that runs where none does
@@ -287,7 +288,8 @@ module _ (k : Fraction) (some_q : 1 ≤ k.q) (ratio : k.q ≤ k.p) (v w : ℕ) (
   deed_next other (Some row) books rested m (Abandoned r x member runs some x_member waiting now stale light) exact =
       closes_none m (Some row)
       (Some (with_gone k v w s sound closed row books x x_member waiting (modest x x_member).0 now light))
-      (abandons_booked k v w s sound closed row books x x_member waiting (modest x x_member).0 now light)
+      (books_gone k v w s x
+      (abandons_booked k v w s sound closed row books x x_member waiting (modest x x_member).0 now light))
       (λ xs. refl) (omega arith)
   deed_next other current books rested m (Rested quiet) exact = rested quiet
 
@@ -295,10 +297,10 @@ module _ (k : Fraction) (some_q : 1 ≤ k.q) (ratio : k.q ≤ k.p) (v w : ℕ) (
   pub end_next : (value : ℕ) (current : Option Row) → Booked k v w s closed current
       → Next k v w needs s (Prints (End value)) closed current
   end_next value None books = closes_none (Prints (End value)) None None
-      (subst (λ (tasks : List Task). Booked k v w (record { clock = s.clock; tasks = tasks }) closed None)
+      (subst (λ (tasks : List Task). Booked k v w (record s { tasks = tasks }) closed None)
       (sym (end_same s value)) books) (λ xs. refl) (omega arith)
   end_next value (Some row) books = closes_none (Prints (End value)) (Some row) (Some row)
-      (subst (λ (tasks : List Task). Booked k v w (record { clock = s.clock; tasks = tasks }) closed (Some row))
+      (subst (λ (tasks : List Task). Booked k v w (record s { tasks = tasks }) closed (Some row))
       (sym (end_same s value)) books) (λ xs. refl) (omega arith)
 
 -- what a job needs

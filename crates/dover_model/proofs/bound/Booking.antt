@@ -1,7 +1,7 @@
 -- What the books of a run keep in each state, and steps that change no interval.
 use Rattle.std.proofs.Common.{◌≡◌, ℕ, ◌+◌, ◌*◌, ◌≤◌, ◌<◌, ◌⊎◌, inl, inr, List, [], map, refl, sym, ap, ◌∙◌, subst, Bool}
 use Rattle.std.proofs.Common.{true, false, cond, eqb, arith, Option, Some, None, sum_by, eq-eqb, ne_eqb, eqb-true}
-use Rattle.std.proofs.lemmas.Nat.{mul-le}
+use Rattle.std.proofs.Math.Nat.{mul-le-mul_left}
 use Rattle.dover_model.specs.Common.{Fraction, JobFacts, IsHeavy, Role, Coming, Fresh, Waiting, Held, Running, Done}
 use Rattle.dover_model.specs.Common.{Gone, Task, State, is_privileged, is_done, left, with_role, IsMember, Each}
 use Rattle.dover_model.specs.Common.{IsNumberedFrom, Row, IsRow, IsDense, IsPaid, job_value, Job, in_rows}
@@ -11,6 +11,10 @@ use Rattle.dover_model.proofs.steps.Loads.{sum_change, with_roles}
 use Rattle.dover_model.proofs.steps.OneChange.{changed, state_with, on_changed, changed_here, changed_there}
 use Rattle.dover_model.proofs.bound.Calculus.{heavy_mono}
 use Rattle.dover_model.proofs.lists.Tests.{never}
+use Rattle.std.specs.List.{list_any}
+use Rattle.std.specs.Prelude.{◌&&◌}
+use Rattle.dover_model.specs.Common.{is_open_job, after, Prints, Complete, Abandon}
+use Rattle.dover_model.proofs.steps.Pressing.{pressing}
 
 -- ---- sums over the tasks
 
@@ -150,6 +154,61 @@ pub record Booked (k : Fraction) (v w : ℕ) (s : State) (closed : List Row) (cu
   pub gone : (f : Job → ℕ)
       → sum_where is_gone f s.tasks ≡ sum_by (λ row. sum_by f row.gone) closed + open_gone f current
 
+-- ---- pressed or not
+
+-- the books are those of the state, pressed or not
+pub booked_pressing : (b : Bool) (k : Fraction) (v w : ℕ) (s : State) (closed : List Row) (current : Option Row)
+    → Booked k v w s closed current → Booked k v w (pressing b s) closed current
+booked_pressing b k v w s closed current books = record {
+  under = open_pressing current books.under;
+  ready = books.ready;
+  rows = books.rows;
+  done = books.done;
+  gone = books.gone;
+} where
+  taker_pressing : (d : ℕ) → Taker k s d → Taker k (pressing b s) d
+  taker_pressing d it = record {
+    job = it.job;
+    member = it.member;
+    runs = it.runs;
+    alone = it.alone;
+    tight = it.tight;
+    worth = it.worth;
+  }
+
+  open_pressing : (o : Option Row) → Open k v w s closed o → Open k v w (pressing b s) closed o
+  open_pressing None none = none
+  open_pressing (Some row) under = record {
+    active = under.active;
+    begun = under.begun;
+    regular_sum = under.regular_sum;
+    abandoned_sum = under.abandoned_sum;
+    lost = under.lost;
+    none_taken = under.none_taken;
+    no_taken = under.no_taken;
+    span = under.span;
+    plain = under.plain;
+    taker = λ took. taker_pressing row.interval.displaced (under.taker took);
+    gone = λ n_j m. let it = under.gone n_j m in
+        record { covered = it.covered; reach = it.reach; light = it.light; dense = it.dense };
+  }
+
+-- so behind a completion
+pub books_done : (k : Fraction) (v w : ℕ) (s : State) (r : Task) {closed : List Row} {current : Option Row}
+    → Booked k v w (state_with s r Done) closed current
+    → Booked k v w (after s (Prints (Complete s.clock r.number))) closed current
+books_done k v w s r {closed} {current} books =
+    booked_pressing (s.pressed && list_any is_open_job (with_roles (changed r Done) s.tasks)) k v w
+    (state_with s r Done)
+    closed current books
+
+-- and behind an abandonment
+pub books_gone : (k : Fraction) (v w : ℕ) (s : State) (x : Task) {closed : List Row} {current : Option Row}
+    → Booked k v w (state_with s x Gone) closed current
+    → Booked k v w (after s (Prints (Abandon s.clock x.number))) closed current
+books_gone k v w s x {closed} {current} books =
+    booked_pressing true k v w (state_with s x Gone) closed current books
+
 -- ---- changes that no interval sees
 
 -- what is known of the interval under way stays, where the running and held jobs grow
@@ -169,7 +228,7 @@ under_kept k v w s t closed row same some value had taker under = record {
   span =
       let old : v * s.clock ≤ v * row.interval.from + w * (row.interval.regular + row.interval.displaced) + v
       * active_had s.tasks = under.span in
-      omega (arith, ap (λ n. v * n) same, mul-le v (active_had s.tasks) v (active_had t.tasks) (omega arith) had);
+      omega (arith, ap (λ n. v * n) same, mul-le-mul_left v had);
   plain = under.plain;
   taker = λ took. taker (under.taker took);
   gone = λ n_j member. record {

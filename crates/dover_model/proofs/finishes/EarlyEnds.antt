@@ -44,6 +44,7 @@ use Rattle.dover_model.proofs.finishes.Further.{less_all}
 use Rattle.dover_model.proofs.lists.Tests.{never, none_is_some, each, below}
 use Rattle.dover_model.proofs.steps.Shown.{complete_event, complete_shows, early_shown, Shows, early_says, come_to_now}
 use Rattle.dover_model.proofs.steps.Shown.{coming_in, deed_in, items_of, items_cons}
+use Rattle.dover_model.specs.Common.{state_at}
 
 module _ (J : Instance) (valid : IsValid J) where
   -- ---- steps of the run
@@ -347,7 +348,7 @@ module _ (J : Instance) (valid : IsValid J) where
               }
 
     begins : opening J.jobs ≡ with_later (opening (admitted_jobs items)) ks
-    begins = ap opening (sym all_jobs) ∙ ap (λ ts. let z : State = record { clock = 0; tasks = ts } in z)
+    begins = ap opening (sym all_jobs) ∙ ap (λ ts. state_at 0 ts)
         (come_append 0 (admitted_jobs items) rest
         ∙ ap (λ n. to_come 0 (admitted_jobs items) ++ to_come n rest) (omega arith))
 

@@ -224,7 +224,7 @@ module _ (J : Instance) (valid : IsValid J) (s : State) (keeps : Keeps J s) (rul
             → AllServed rules.finishes
             (after s (then_some b (Prints (End (value_sum (filter is_done s.tasks)))) or_else Ticks))
         by_end quiet true rests =
-            subst (λ (tasks : List Task). AllServed rules.finishes (record { clock = s.clock; tasks = tasks }))
+            subst (λ (tasks : List Task). AllServed rules.finishes (record s { tasks = tasks }))
             (sym (end_same s (value_sum (filter is_done s.tasks)))) served
         by_end quiet false rests = ticks_served rules.finishes s keeps.sound ready served quiet
             (told.goes (ap Rattle.dover_model.specs.Processor.is_complete rests))

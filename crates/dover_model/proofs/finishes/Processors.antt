@@ -38,11 +38,16 @@ HasRunner (Some n) s = (t : Task) × IsMember t s.tasks × (t.role ≡ Running) 
 
 -- a job that doesn't run gets a role in which it doesn't either: all runs as before
 module _ (s : State) (sound : IsSound s) (x : Task) (there : IsMember x s.tasks) (idle : x.role ≡ Running → ⊥)
-    (new : Role) (rests : new ≡ Running → ⊥) where
+    (new : Role) (rests : new ≡ Running → ⊥) (pressed : Bool) where
   abbrev changed : Task → Task
   changed t = with_role t (cond (t.number == x.number) new t.role)
 
-  still : (o : Option ℕ) → HasRunner o s → HasRunner o (record { clock = s.clock; tasks = map changed s.tasks })
+  still : (o : Option ℕ) → HasRunner o s → HasRunner o (record {
+    clock = s.clock;
+    pressed = pressed;
+    tasks = map
+        changed s.tasks;
+  })
   still None none = on_map changed (λ t. t.role ≡ Running → ⊥) s.tasks
       (λ t member. by_test t (t.number == x.number) (none t member)) where
         by_test : (t : Task) (b : Bool) → (t.role ≡ Running → ⊥) → cond b new t.role ≡ Running → ⊥
@@ -98,16 +103,16 @@ module _ (k : Fraction) (s : State) (sound : IsSound s) where
       (ap (λ b. cond b Running (cond (f.number == r.number) Held f.role)) (own f))
   moved m (Stayed r f member runs some f_member fresh why) o has = still s sound f f_member
       (λ e. let clash : Fresh ≡ Running = sym fresh ∙ e in cc) Waiting
-      (λ e. let clash : Waiting ≡ Running = e in cc) o has
+      (λ e. let clash : Waiting ≡ Running = e in cc) s.pressed o has
   moved m (Arrived c member comes now first stale busy free) o has = still s sound c member
       (λ e. let clash : Coming ≡ Running = sym comes ∙ e in cc) Fresh
-      (λ e. let clash : Fresh ≡ Running = e in cc) o has
+      (λ e. let clash : Fresh ≡ Running = e in cc) s.pressed o has
   moved m (Taken r x member runs some x_member waiting now stale heavy) o has =
       starts (Take s.clock r.number x.number) x x_member
       (ap (λ b. cond b Running (displaced x.role)) (own x))
   moved m (Abandoned r x member runs some x_member waiting now stale light) o has = still s sound x x_member
       (λ e. let clash : Waiting ≡ Running = sym waiting ∙ e in cc) Gone
-      (λ e. let clash : Gone ≡ Running = e in cc) o has
+      (λ e. let clash : Gone ≡ Running = e in cc) true o has
   moved m (Rested quiet) o has = by_runner o has where
     by_runner : (p : Option ℕ) → HasRunner p s → HasRunner p (after s Ticks)
     by_runner None none = on_map ticked (λ t. t.role ≡ Running → ⊥) s.tasks none

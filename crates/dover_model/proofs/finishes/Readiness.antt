@@ -208,6 +208,6 @@ module _ (J : Instance) (valid : IsValid J) (s : State) (keeps : Keeps J s) (rul
       (step_decides s keeps.sound rules) where
         by_end : (b : Bool) → IsReady rules.finishes
             (after s (then_some b (Prints (End (value_sum (filter is_done s.tasks)))) or_else Ticks))
-        by_end true = subst (λ (tasks : List Task). IsReady rules.finishes (record { clock = s.clock; tasks = tasks }))
+        by_end true = subst (λ (tasks : List Task). IsReady rules.finishes (record s { tasks = tasks }))
             (sym (end_same s (value_sum (filter is_done s.tasks)))) ready
         by_end false = tick_ready rules.finishes s keeps.sound ready

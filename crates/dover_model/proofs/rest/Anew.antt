@@ -5,7 +5,7 @@ use Rattle.std.proofs.Common.{nat_le, ◌==◌, count_by, sum_by, fold}
 use Rattle.std.specs.List.{enumerate_from}
 use Rattle.std.proofs.lemmas.List.Sums.{sum_by-cons}
 use Rattle.dover_model.specs.Common.{JobFacts, IsJob, Event, End, Coming, idle, Rules, Instance, IsValid, having}
-use Rattle.dover_model.specs.Common.{observed, observing, State, to_come, printed_of, printed, last_deadline}
+use Rattle.dover_model.specs.Common.{observed, observing, to_come, printed_of, printed, last_deadline}
 use Rattle.dover_model.specs.Common.{completed_value, ran, step_at, IsWholeRun, worth, IsWithin, Each, behind}
 use Rattle.dover_model.specs.Common.{before_end, later_job, later_event, Turn, turn_under, anew, printed_anew}
 use Rattle.dover_model.specs.Rest.{AreAnew, completed_anew}
@@ -24,6 +24,7 @@ use Rattle.dover_model.proofs.bound.Calculus.{within_less, none_within, within_a
 use Rattle.dover_model.proofs.rest.Parting.{worth_to, worth_append}
 use Rattle.dover_model.proofs.valid.ValidParts.{valid_parts}
 use Rattle.dover_model.proofs.valid.JobLimits.{job_limits}
+use Rattle.dover_model.specs.Common.{state_at}
 
 -- ---- jobs to come, moved in time
 
@@ -97,9 +98,9 @@ module _ (c : ℕ) where
   moved_runs rules jobs events seen fits it =
       let moved = whole_later c rules it.0 (at_tick 0 jobs) (come_fits 0 jobs fits) it.1 in
       let start : moved_state c (at_tick 0 jobs) ≡ at_tick c (map (later_job c) jobs) =
-      ap (λ clock. let s : State = record { clock = clock; tasks = map (moved_task c) (to_come 0 jobs) } in s)
+      ap (λ clock. state_at clock (map (moved_task c) (to_come 0 jobs)))
       (omega arith)
-      ∙ ap (λ ts. let s : State = record { clock = c; tasks = ts } in s) (come_moved 0 jobs) in (
+      ∙ ap (λ ts. state_at c ts) (come_moved 0 jobs) in (
         moved.0,
         subst (λ s. IsWholeRun rules s moved.0) start moved.1,
         omega (arith, moved.2, it.2, ticks_moved jobs, count_moved jobs),

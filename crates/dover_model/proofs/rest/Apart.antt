@@ -22,6 +22,8 @@ use Rattle.dover_model.proofs.rest.Resting.{at_tick, Rests, at_rest, settles_fro
 use Rattle.dover_model.proofs.rest.Resting.{come_shift, numbers_below, numbers_apart, value_there, printed_at_rest}
 use Rattle.dover_model.proofs.rest.Resting.{printed_apart, behind_rules, foreign_due}
 use Rattle.dover_model.proofs.lists.Tests.{never}
+use Rattle.dover_model.specs.Common.{state_at}
+use Rattle.dover_model.proofs.steps.Pressing.{over_calm}
 
 -- from the tick on, with all these jobs to come, these events are settled at the mark
 abbrev pub SettlesFrom : Rules → ℕ → ℕ → List JobFacts → List Event → Type 0
@@ -140,12 +142,15 @@ module _ (J : Instance) (valid : IsValid J) (m0 m mark : ℕ) (late0 : NoneBefor
         (at_tick m more) it.1
 
     joins : with_later r.last ks_there ≡ beside n r.last.tasks (at_tick m more)
-    joins = ap (λ clock. let s : State = record { clock = clock; tasks = r.last.tasks ++ ks_there } in s) r.clock
-        ∙ ap (λ ts. let s : State = record { clock = m; tasks = r.last.tasks ++ ts } in s)
+    joins = ap (λ b. let s : State = record { clock = r.last.clock; pressed = b; tasks = r.last.tasks ++ ks_there }
+        in s)
+        (over_calm r.last r.keeps.pressed r.over)
+        ∙ ap (λ clock. state_at clock (r.last.tasks ++ ks_there)) r.clock
+        ∙ ap (λ ts. state_at m (r.last.tasks ++ ts))
         (ap (λ k. to_come k more) (omega arith) ∙ come_shift n 0 more)
 
     begins : at_tick m0 (J.jobs ++ more) ≡ with_later (at_tick m0 J.jobs) ks_there
-    begins = ap (λ ts. let s : State = record { clock = m0; tasks = ts } in s)
+    begins = ap (λ ts. state_at m0 ts)
         (come_append 0 J.jobs more ∙ ap (λ k. to_come 0 J.jobs ++ to_come k more) (omega arith))
 
     came : came_to (having J.rules fs) n J.rules.finishes own r.last.tasks r.over ≡ completed_value J

@@ -48,13 +48,13 @@ RunsOn finishes s = (r : Task) × IsMember r s.tasks × (r.role ≡ Running) × 
 
 module _ (finishes : List Finish) (k : Fraction) (s : State) (sound : IsSound s) (ready : IsReady finishes s) where
   -- a change of another job's role leaves it so
-  still : (x : Task) (new : Role) → IsMember x s.tasks → is_running x ≡ false → RunsOn finishes s
+  still : (pressed : Bool) (x : Task) (new : Role) → IsMember x s.tasks → is_running x ≡ false → RunsOn finishes s
       → RunsOn finishes (record {
         clock = s.clock;
-        tasks =
-            map (λ t. with_role t (cond (eqb t.number x.number) new t.role)) s.tasks;
+        tasks = map (λ t. with_role t (cond (eqb t.number x.number) new t.role)) s.tasks;
+        pressed = pressed;
       })
-  still x new member out it = (
+  still pressed x new member out it = (
     with_role it.0 (cond (eqb it.0.number x.number) new it.0.role),
     map_member (λ t. with_role t (cond (eqb t.number x.number) new t.role)) s.tasks it.0 it.1,
     ap (λ b. cond b new it.0.role) (ne_eqb it.0.number x.number apart) ∙ it.2,
@@ -68,8 +68,8 @@ module _ (finishes : List Finish) (k : Fraction) (s : State) (sound : IsSound s)
   taker : (x : Task) (others : Task → Role) → IsMember x s.tasks → goes_on finishes x ≡ true
       → RunsOn finishes (record {
         clock = s.clock;
-        tasks =
-            map (λ t. with_role t (cond (eqb t.number x.number) Running (others t))) s.tasks;
+        tasks = map (λ t. with_role t (cond (eqb t.number x.number) Running (others t))) s.tasks;
+        pressed = s.pressed;
       })
   taker x others member some = (
     with_role x (cond (eqb x.number x.number) Running (others x)),
@@ -100,13 +100,13 @@ module _ (finishes : List Finish) (k : Fraction) (s : State) (sound : IsSound s)
   runs_on other m (Preempted r f member runs some f_member fresh before fits) told it =
       inr (taker f (λ t. cond (eqb t.number r.number) Held t.role) f_member (fresh_goes f f_member fresh))
   runs_on other m (Stayed r f member runs some f_member fresh why) told it =
-      inr (still f Waiting f_member (passes is_running f Fresh false fresh refl) it)
+      inr (still s.pressed f Waiting f_member (passes is_running f Fresh false fresh refl) it)
   runs_on other m (Arrived c member comes now first stale busy free) told it =
-      inr (still c Fresh member (passes is_running c Coming false comes refl) it)
+      inr (still s.pressed c Fresh member (passes is_running c Coming false comes refl) it)
   runs_on other m (Taken r x member runs some x_member waiting now stale heavy) told it =
       inr (taker x (λ t. displaced t.role) x_member (waiting_goes x x_member waiting))
   runs_on other m (Abandoned r x member runs some x_member waiting now stale light) told it =
-      inr (still x Gone x_member (passes is_running x Waiting false waiting refl) it)
+      inr (still true x Gone x_member (passes is_running x Waiting false waiting refl) it)
   runs_on other m (Rested quiet) told it = inl refl
 
   -- a late step is a silent tick, or a job runs on after it
@@ -115,7 +115,7 @@ module _ (finishes : List Finish) (k : Fraction) (s : State) (sound : IsSound s)
   late_goes m (Taken r x member runs some x_member waiting now stale heavy) told late =
       inr (taker x (λ t. displaced t.role) x_member (waiting_goes x x_member waiting))
   late_goes m (Abandoned r x member runs some x_member waiting now stale light) told late =
-      inr (still x Gone x_member (passes is_running x Waiting false waiting refl)
+      inr (still true x Gone x_member (passes is_running x Waiting false waiting refl)
       (r, member, runs, going finishes r some (told.goes refl r member runs)))
   late_goes m (Rested quiet) told late = inl refl
   late_goes m _ told late = never late

@@ -41,10 +41,12 @@ use Rattle.std.proofs.lemmas.List.Folds.{find-append}
 use Rattle.dover_model.proofs.lists.Tests.{never}
 use Rattle.dover_model.proofs.valid.ValidParts.{valid_parts}
 use Rattle.dover_model.proofs.valid.JobLimits.{job_limits}
+use Rattle.dover_model.specs.Common.{state_at}
+use Rattle.dover_model.proofs.steps.Pressing.{over_calm}
 
 -- the jobs to come, at a tick
 abbrev pub at_tick : ℕ → List JobFacts → State
-at_tick m jobs = record { clock = m; tasks = to_come 0 jobs }
+at_tick m jobs = record { clock = m; pressed = false; tasks = to_come 0 jobs }
 
 -- the jobs as the steps of a whole run observed them
 abbrev pub seen_in : List Step → List JobFacts
@@ -166,7 +168,7 @@ module _ (J : Instance) (valid : IsValid J) (m : ℕ) (late : NoneBefore m J.job
 
   -- the opening after i ticks
   later_opening : (i : ℕ) → later_by i (opening J.jobs) ≡ at_tick i J.jobs
-  later_opening i = ap (λ tasks. let s : State = record { clock = 0 + i; tasks = tasks } in s) (come_ticked i 0 J.jobs)
+  later_opening i = ap (λ tasks. state_at (0 + i) tasks) (come_ticked i 0 J.jobs)
       ∙ ap (λ clock. at_tick clock J.jobs) (omega arith)
 
   -- it is sound
@@ -198,7 +200,7 @@ module _ (J : Instance) (valid : IsValid J) (m : ℕ) (late : NoneBefore m J.job
       let ticks : open_step J.rules (at_tick i J.jobs) ≡ Ticks = tick_ticks i (omega (arith, here)) in
       let next : after (at_tick i J.jobs) (open_step J.rules (at_tick i J.jobs)) ≡ at_tick (i + 1) J.jobs =
       ap (after (at_tick i J.jobs)) ticks
-      ∙ ap (λ tasks. let s : State = record { clock = i + 1; tasks = tasks } in s) (come_tick 0 J.jobs) in
+      ∙ ap (λ tasks. state_at (i + 1) tasks) (come_tick 0 J.jobs) in
       let rest = ticks_path mark low k (i + 1) (omega (arith, here)) in (
         open_at J.rules (at_tick i J.jobs) ∷ rest.0,
         (
@@ -592,12 +594,15 @@ module _ (J : Instance) (valid : IsValid J) (m0 m : ℕ) (late0 : NoneBefore m0 
         (at_tick m (j ∷ js)) it.1
 
     joins : with_later r.last ks_there ≡ beside n r.last.tasks (at_tick m (j ∷ js))
-    joins = ap (λ clock. let s : State = record { clock = clock; tasks = r.last.tasks ++ ks_there } in s) r.clock
-        ∙ ap (λ ts. let s : State = record { clock = m; tasks = r.last.tasks ++ ts } in s)
+    joins = ap (λ b. let s : State = record { clock = r.last.clock; pressed = b; tasks = r.last.tasks ++ ks_there }
+        in s)
+        (over_calm r.last r.keeps.pressed r.over)
+        ∙ ap (λ clock. state_at clock (r.last.tasks ++ ks_there)) r.clock
+        ∙ ap (λ ts. state_at m (r.last.tasks ++ ts))
         (ap (λ k. to_come k (j ∷ js)) (omega arith) ∙ come_shift n 0 (j ∷ js))
 
     begins : at_tick m0 (J.jobs ++ (j ∷ js)) ≡ with_later (at_tick m0 J.jobs) ks_there
-    begins = ap (λ ts. let s : State = record { clock = m0; tasks = ts } in s)
+    begins = ap (λ ts. state_at m0 ts)
         (come_append 0 J.jobs (j ∷ js) ∙ ap (λ k. to_come 0 J.jobs ++ to_come k (j ∷ js)) (omega arith))
 
     came : came_to rules1 n J.rules.finishes own r.last.tasks r.over ≡ completed_value J

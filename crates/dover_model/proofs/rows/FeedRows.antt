@@ -76,9 +76,9 @@ version_1 : closed (bytes (codes "k 1 1 1/")) ≡ bytes (codes "refused 1 declar
 unfolding digits
 version_1 = refl
 
-version_4 : closed (bytes (codes "k 1 1 4/")) ≡ bytes (codes "refused 1 declared/")
+version_5 : closed (bytes (codes "k 1 1 5/")) ≡ bytes (codes "refused 1 declared/")
 unfolding digits
-version_4 = refl
+version_5 = refl
 
 version_with_a_zero : closed (bytes (codes "k 1 1 02/")) ≡ bytes (codes "refused 1 line/")
 unfolding digits

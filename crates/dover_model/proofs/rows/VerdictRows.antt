@@ -44,9 +44,9 @@ empty_text : verdict [] ≡ Short 0
 unfolding digits
 empty_text = refl
 
-no_version_four : verdict (bytes (codes "dover 4 1 1/")) ≡ Wrong 1 Header
+no_version_five : verdict (bytes (codes "dover 5 1 1/")) ≡ Wrong 1 Header
 unfolding digits
-no_version_four = refl
+no_version_five = refl
 
 ratio_below_one : verdict (bytes (codes "dover 1 1 2/")) ≡ Wrong 1 Header
 unfolding digits

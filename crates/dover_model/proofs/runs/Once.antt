@@ -158,7 +158,7 @@ module _ (finishes : List Finish) where
 
     -- what is true after three changes is true after the preemption
     by_changes : IsSpent late n (state_with second_state (with_role f Waiting) Running) → IsSpent late n preempted
-    by_changes spent = subst (λ (tasks : List Task). IsSpent late n (record { clock = s.clock; tasks = tasks }))
+    by_changes spent = subst (λ (tasks : List Task). IsSpent late n (record s { tasks = tasks }))
         (same_tasks s sound r f member runs some f_member fresh before fits) spent
 
     -- a preemption changes nothing of it
@@ -370,7 +370,7 @@ rest_spent : (finishes : List Finish) (late : Bool) (n : ℕ) (s : State) → Is
 rest_spent finishes late n s sound quiet spent = by_end (list_all is_over s.tasks) where
   by_end : (b : Bool) → IsSpent finishes late n
       (after s (then_some b (Prints (End (value_sum (filter is_done s.tasks)))) or_else Ticks))
-  by_end true = subst (λ (tasks : List Task). IsSpent finishes late n (record { clock = s.clock; tasks = tasks }))
+  by_end true = subst (λ (tasks : List Task). IsSpent finishes late n (record s { tasks = tasks }))
       (sym (end_same s (value_sum (filter is_done s.tasks)))) spent
   by_end false = tick_spent finishes late n s sound quiet spent
 

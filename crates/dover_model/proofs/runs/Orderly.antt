@@ -31,6 +31,7 @@ NoneGone s = Each (λ t. t.role ≡ Gone → ⊥) s.tasks
 -- a state in which jobs are run by deadlines
 pub record ByDeadline (s : State) : Type 0 where
   pub none_gone : NoneGone s
+  pub calm : s.pressed ≡ false
   pub running_first : EachTwo (λ t u. t.role ≡ Running → u.role ≡ Waiting → t.job.deadline ≤ u.job.deadline) s.tasks
   pub windows : (b : ℕ) → Window s b
 

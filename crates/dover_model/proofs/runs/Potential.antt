@@ -377,7 +377,7 @@ module _ (finishes : List Finish) where
         (with_role f Waiting) Running) + n ≤ weights_by finishes z s =
         omega (arith, first_weighs, second_weighs, third_weighs) in
         subst (λ (tasks : List Task). weights_by finishes z
-        (record { clock = s.clock; tasks = tasks }) + n ≤ weights_by finishes z s)
+        (record s { tasks = tasks }) + n ≤ weights_by finishes z s)
         (same_tasks s sound r f member runs some f_member fresh before fits) whole
 
   -- ---- each deed but a rest

@@ -110,8 +110,8 @@ pub after_release : (J : Instance) (z : State) (keeps : Keeps J z) (j : JobFacts
     → after (with_later z (coming_task (length J.jobs) j ∷ [])) (Prints (Release (length J.jobs) j)) ≡ with_fresh z
     (length J.jobs) j
 after_release J z keeps j now =
-    ap (λ c. record { clock = c; tasks = map change (z.tasks ++ coming_task n j ∷ []) }) now
-    ∙ ap (λ ts. record { clock = j.release; tasks = ts }) (map-append change z.tasks (coming_task n j ∷ [])
+    ap (λ c. record z { clock = c; tasks = map change (z.tasks ++ coming_task n j ∷ []) }) now
+    ∙ ap (λ ts. record z { clock = j.release; tasks = ts }) (map-append change z.tasks (coming_task n j ∷ [])
     ∙ ap (λ ts. ts ++ map change (coming_task n j ∷ [])) (others_stay n z.tasks low)
     ∙ ap (λ b. z.tasks ++ with_role (coming_task n j) (cond b Fresh Coming) ∷ []) (eq-eqb n n refl)) where
       n : ℕ

@@ -107,7 +107,7 @@ module _ (J : Instance) (valid : IsValid J) (meets : Meets J) where
             → ByDeadline (after s (then_some b (Prints (End (value_sum (filter is_done s.tasks)))) or_else Ticks)) ×
             (takes_or_abandons (then_some b (Prints (End (value_sum (filter is_done s.tasks)))) or_else Ticks) ≡ false)
         by_end true quiet = (
-          subst (λ (tasks : List Task). ByDeadline (record { clock = s.clock; tasks = tasks }))
+          subst (λ (tasks : List Task). ByDeadline (record s { tasks = tasks }))
               (sym (end_same s (value_sum (filter is_done s.tasks)))) orderly,
           refl,
         )
@@ -116,6 +116,7 @@ module _ (J : Instance) (valid : IsValid J) (meets : Meets J) where
   -- the opening is in order
   opening_orderly : ByDeadline (opening J.jobs)
   opening_orderly = record {
+    calm = refl;
     none_gone = λ t m gone. let comes : t.role ≡ Coming = (come_coming 0 J.jobs t m).0 in let e : Coming ≡ Gone =
         sym comes ∙ gone in cc;
     running_first = λ t u mt mu runs _. absurd

@@ -17,6 +17,12 @@ use Rattle.dover_model.proofs.steps.Preempting.{waits_sound, r_there, held_sound
 use Rattle.dover_model.proofs.runs.Serving.{NoneOverfull}
 use Rattle.dover_model.proofs.runs.Orderly.{had_in, Window, NoneGone, ByDeadline, not_crowded, no_alarm}
 use Rattle.dover_model.proofs.lists.Tests.{never}
+use Rattle.std.proofs.Common.{ap}
+use Rattle.std.specs.Prelude.{◌&&◌}
+use Rattle.std.specs.List.{list_any}
+use Rattle.dover_model.specs.Common.{Run, is_open_job, Waits}
+use Rattle.dover_model.proofs.steps.Deeds.{Crowded, Passes}
+use Rattle.dover_model.proofs.steps.Pressing.{pressing}
 
 -- ---- one job gets a new role
 
@@ -45,6 +51,7 @@ module _ (s : State) (sound : IsSound s) (r : Task) (member : IsMember r s.tasks
       → (new ≡ Waiting → EachOther r (λ t. t.role ≡ Running → t.job.deadline ≤ r.job.deadline) s.tasks)
       → ByDeadline (state_with s r new)
   orderly_kept orderly stays first behind = record {
+    calm = orderly.calm;
     none_gone = none_gone_kept stays orderly.none_gone;
     running_first = λ t u mt mu. on_changed 0 s.tasks sound.numbered r member new
         (λ x. (y : Task) → IsMember y (with_roles (changed r new) s.tasks) → x.role ≡ Running → y.role ≡ Waiting
@@ -59,6 +66,18 @@ module _ (s : State) (sound : IsSound s) (r : Task) (member : IsMember r s.tasks
         t mt u mu;
     windows = λ b. window_kept b (orderly.windows b);
   }
+
+-- ---- pressed or not
+
+-- the order is kept in the state that isn't pressed
+pub orderly_pressing : (b : Bool) (s : State) → b ≡ false → ByDeadline s → ByDeadline (pressing b s)
+orderly_pressing b s calm orderly = record {
+  none_gone = orderly.none_gone;
+  calm = calm;
+  running_first = orderly.running_first;
+  windows = λ due. let w : Window s due = orderly.windows due in
+      record { a = w.a; past = w.past; filled = w.filled; clean = w.clean };
+}
 
 -- ---- a preemption
 
@@ -121,6 +140,7 @@ module _ (s : State) (sound : IsSound s) (r f : Task) (member : IsMember r s.tas
   -- the third state is in order
   three_orderly : ByDeadline three
   three_orderly = record {
+    calm = orderly.calm;
     none_gone = none_gone_kept two two_sound f_waits f_two Running (λ e. cc) (λ e. cc)
         (none_gone_kept one one_sound r r_one Held r_goes (λ e. cc)
         (none_gone_kept s sound f f_member Waiting f_goes (λ e. cc) orderly.none_gone));
@@ -139,7 +159,7 @@ module _ (s : State) (sound : IsSound s) (r f : Task) (member : IsMember r s.tas
 
   -- a preemption keeps the order
   pub preempts_orderly : ByDeadline (after s (Prints (Preempt s.clock r.number f.number)))
-  preempts_orderly = subst (λ (tasks : List Task). ByDeadline (record { clock = s.clock; tasks = tasks }))
+  preempts_orderly = subst (λ (tasks : List Task). ByDeadline (record s { tasks = tasks }))
       (same_tasks s sound r f member runs some f_member fresh before fits) three_orderly
 
 -- ---- a silent tick
@@ -243,6 +263,7 @@ module _ (s : State) (sound : IsSound s) (quiet : Quiet s) (orderly : ByDeadline
   -- a silent tick keeps the order
   pub ticks_orderly : ByDeadline (after s Ticks)
   ticks_orderly = record {
+    calm = orderly.calm;
     none_gone = on_map ticked (λ t. t.role ≡ Gone → ⊥) s.tasks orderly.none_gone;
     running_first = λ t u mt mu. on_map ticked
         (λ x. (y : Task) → IsMember y (map ticked s.tasks) → x.role ≡ Running → y.role ≡ Waiting
@@ -273,24 +294,28 @@ module _ (k : Fraction) (s : State) (other : Move) (sound : IsSound s) (orderly 
   -- each deed keeps the order, and takes_or_abandons none
   pub deed_orderly : (m : Move) → Deed k s other m → ByDeadline (after s m) × (Loses m ≡ false)
   deed_orderly m (Completed r member runs) = (
-    orderly_kept s sound r member Done (λ e. let c : Running ≡ Done = sym runs ∙ e in cc) orderly (λ e. cc)
+    orderly_pressing (s.pressed && list_any is_open_job (with_roles (changed r Done) s.tasks)) (state_with s r Done)
+        (ap (λ b. b && list_any is_open_job (with_roles (changed r Done) s.tasks)) orderly.calm)
+        (orderly_kept s sound r member Done (λ e. let c : Running ≡ Done = sym runs ∙ e in cc) orderly (λ e. cc)
         (λ e. absurd (cc))
-        (λ e. absurd (cc)),
+        (λ e. absurd (cc))),
     refl,
   )
-  deed_orderly m (Resumed p member held none least (NoneBefore first)) = (
-    orderly_kept s sound p member Running (λ e. let c : Held ≡ Done = sym held ∙ e in cc) orderly (λ e. cc)
-        (λ _ w mw _ waits. first w mw waits)
-        (λ e. absurd (cc)),
-    refl,
-  )
-  deed_orderly m (Resumed p member held none least (NoneFits o mo waiting before crowd)) =
-      absurd (not_crowded s sound orderly room o mo Waiting waiting refl (λ e. cc)
-      (active_after o (λ t mt e. let less : o.job.deadline < t.job.deadline = before t mt e in omega arith)
-      (λ t mt e. absurd (none t mt e))) crowd)
+  deed_orderly m (Resumed p member held none least why) = by_why (why orderly.calm) where
+    by_why : Passes s p → ByDeadline (after s (Prints (Run s.clock p.number))) × (false ≡ false)
+    by_why (NoneBefore first) = (
+      orderly_kept s sound p member Running (λ e. let c : Held ≡ Done = sym held ∙ e in cc) orderly (λ e. cc)
+          (λ _ w mw _ waits. first w mw waits)
+          (λ e. absurd (cc)),
+      refl,
+    )
+    by_why (NoneFits o mo waiting before crowd) =
+        absurd (not_crowded s sound orderly room o mo Waiting waiting refl (λ e. cc)
+        (active_after o (λ t mt e. let less : o.job.deadline < t.job.deadline = before t mt e in omega arith)
+        (λ t mt e. absurd (none t mt e))) crowd)
   deed_orderly m (Started o member waiting none first fits next) = (
     orderly_kept s sound o member Running (λ e. let c : Waiting ≡ Done = sym waiting ∙ e in cc) orderly (λ e. cc)
-        (λ _ w mw _ waits. next w mw waits) (λ e. absurd (cc)),
+        (λ _ w mw _ waits. next orderly.calm w mw waits) (λ e. absurd (cc)),
     refl,
   )
   deed_orderly m (Began f member fresh none free) = (
@@ -302,21 +327,25 @@ module _ (k : Fraction) (s : State) (other : Move) (sound : IsSound s) (orderly 
   )
   deed_orderly m (Preempted r f member runs some f_member fresh before fits) =
       (preempts_orderly s sound r f member runs some f_member fresh before fits orderly, refl)
-  deed_orderly m (Stayed r f member runs some f_member fresh (inl later)) = (
-    orderly_kept s sound f f_member Waiting (λ e. let c : Fresh ≡ Done = sym fresh ∙ e in cc) orderly (λ e. cc)
-        (λ e. absurd (cc))
-        (λ _ t mt _ other_runs. subst (λ (x : Task). x.job.deadline ≤ f.job.deadline)
-        (sym (one_number 0 s.tasks sound.numbered t r mt member (sound.one_runs t r mt member other_runs runs))) later),
-    refl,
-  )
-  deed_orderly m (Stayed r f member runs some f_member fresh (inr crowd)) =
-      absurd (not_crowded s sound orderly room f f_member Fresh fresh refl (λ e. cc)
-      (active_after f (λ t mt e. let first : r.job.deadline < t.job.deadline =
-      sound.running_first r t member mt runs e in
-      let before : f.job.deadline < r.job.deadline = crowd.0 in omega arith)
-      (λ t mt e. subst (λ (x : Task). f.job.deadline ≤ x.job.deadline)
-      (sym (one_number 0 s.tasks sound.numbered t r mt member (sound.one_runs t r mt member e runs)))
-      (let before : f.job.deadline < r.job.deadline = crowd.0 in omega arith))) crowd.1)
+  deed_orderly m (Stayed r f member runs some f_member fresh why) = by_why (why orderly.calm) where
+    by_why : (r.job.deadline ≤ f.job.deadline) ⊎ ((f.job.deadline < r.job.deadline) × Crowded s (left f))
+        → ByDeadline (after s (Waits f.number)) × (false ≡ false)
+    by_why (inl later) = (
+      orderly_kept s sound f f_member Waiting (λ e. let c : Fresh ≡ Done = sym fresh ∙ e in cc) orderly (λ e. cc)
+          (λ e. absurd (cc))
+          (λ _ t mt _ other_runs. subst (λ (x : Task). x.job.deadline ≤ f.job.deadline)
+          (sym (one_number 0 s.tasks sound.numbered t r mt member (sound.one_runs t r mt member other_runs runs)))
+          later),
+      refl,
+    )
+    by_why (inr crowd) =
+        absurd (not_crowded s sound orderly room f f_member Fresh fresh refl (λ e. cc)
+        (active_after f (λ t mt e. let first : r.job.deadline < t.job.deadline =
+        sound.running_first r t member mt runs e in
+        let before : f.job.deadline < r.job.deadline = crowd.0 in omega arith)
+        (λ t mt e. subst (λ (x : Task). f.job.deadline ≤ x.job.deadline)
+        (sym (one_number 0 s.tasks sound.numbered t r mt member (sound.one_runs t r mt member e runs)))
+        (let before : f.job.deadline < r.job.deadline = crowd.0 in omega arith))) crowd.1)
   deed_orderly m (Arrived c member comes now first stale busy free) = (
     orderly_kept s sound c member Fresh (λ e. let d : Coming ≡ Done = sym comes ∙ e in cc) orderly (λ e. cc)
         (λ e. absurd (cc))

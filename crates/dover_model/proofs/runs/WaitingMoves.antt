@@ -62,7 +62,7 @@ end_leaves s value = sum_zero (λ t. ceases (is_waiting t) (is_waiting t)) s.tas
 end_weighs : (finishes : List Finish) (s : State) (value : ℕ)
     → weights_by finishes exits_scale (after s (Prints (End value))) ≡ weights_by finishes exits_scale s
 end_weighs finishes s value = ap (λ (ts : List Task). weights_by finishes exits_scale
-    (record { clock = s.clock; tasks = ts }))
+    (record s { tasks = ts }))
     (end_same s value)
 
 -- nor does it let one begin

@@ -37,6 +37,7 @@ use Rattle.dover_model.proofs.texts.GrowingTexts.{read_append}
 use Rattle.dover_model.proofs.valid.Limiting.{items_of_lines}
 use Rattle.dover_model.proofs.sessions.SessionParts.{MayRefuse, FollowsItems, session_from}
 use Rattle.dover_model.proofs.valid.JobLimits.{job_limits}
+use Rattle.dover_model.specs.declared.events.Version.TheVariants.{Four}
 
 -- ---- items behind others
 
@@ -148,14 +149,16 @@ declared_good p q version rules declared = by_ratio (is_ratio (fraction p q)) re
 factor_good : (p q b c version : ℕ) (rules : Declaration)
     → factor_rules (with_factor (fraction p q) b c) version ≡ Some rules → IsRatio rules.ratio × IsDeclarable rules
 factor_good p q b c version rules declared =
-    by_ratio (is_ratio (with_factor (fraction p q) b c)) refl (version == 3) declared where
-      by_ratio : (h : Bool) → is_ratio (with_factor (fraction p q) b c) ≡ h → (three : Bool)
-          → cond h (then_some three (rules_with (with_factor (fraction p q) b c) Three)) None ≡ Some rules
-          → IsRatio rules.ratio × IsDeclarable rules
-      by_ratio true passes true e = subst (λ (r : Declaration). IsRatio r.ratio × IsDeclarable r)
+    by_ratio (is_ratio (with_factor (fraction p q) b c)) refl (version == 3) (version == 4) declared where
+      by_ratio : (h : Bool) → is_ratio (with_factor (fraction p q) b c) ≡ h → (three four : Bool)
+          → cond h (option_map (rules_with (with_factor (fraction p q) b c)) (cond three (Some Three)
+          (then_some four Four))) None ≡ Some rules → IsRatio rules.ratio × IsDeclarable rules
+      by_ratio true passes true four e = subst (λ (r : Declaration). IsRatio r.ratio × IsDeclarable r)
           (some_same (rules_with (with_factor (fraction p q) b c) Three) rules e) (record { passes = passes }, refl)
-      by_ratio true passes false e = none_is_some e
-      by_ratio false fails three e = none_is_some e
+      by_ratio true passes false true e = subst (λ (r : Declaration). IsRatio r.ratio × IsDeclarable r)
+          (some_same (rules_with (with_factor (fraction p q) b c) Four) rules e) (record { passes = passes }, refl)
+      by_ratio true passes false false e = none_is_some e
+      by_ratio false fails three four e = none_is_some e
 
 module _ (lines mark lines2 : ℕ) (zero_mark : mark ≡ 0) where
   -- an account of no session goes on to any that keeps it
@@ -400,6 +403,11 @@ module _ (S : Session) (mark lines : ℕ) (holds : Holds S mark lines) where
     by_late : (v : Version) → S.rules.version ≡ v → nat_lt j.release mark ≡ true
         → GoesOn so_far (with_line counted (JobLine j) (Some (late_cause v)))
     by_late Three is late = subst (λ v. GoesOn so_far (cond (refuses_lines v)
+        (with_refused_at counted mark j Late) (with_fault counted (NotAdmitted Late)))) (sym is)
+        (refused_goes j Late (ap refuses_lines is) short
+        (ap (λ b. cond b (late_refusal S.rules.version) (refusal_in S j)) late
+        ∙ ap late_refusal is))
+    by_late Four is late = subst (λ v. GoesOn so_far (cond (refuses_lines v)
         (with_refused_at counted mark j Late) (with_fault counted (NotAdmitted Late)))) (sym is)
         (refused_goes j Late (ap refuses_lines is) short
         (ap (λ b. cond b (late_refusal S.rules.version) (refusal_in S j)) late

@@ -8,6 +8,7 @@ use Rattle.dover_model.specs.Common.{RefusedLine, RefusedJob, RefusedDone, Refus
 use Rattle.dover_model.proofs.sessions.Fullness.{refused_alone}
 use Rattle.dover_model.proofs.lists.Tests.{never, none_is_some}
 use Rattle.dover_model.proofs.sessions.SessionParts.{MayRefuse, MayBeRefused, FollowsItems, session_parts}
+use Rattle.dover_model.specs.declared.events.Version.TheVariants.{Four}
 
 -- no finish is right
 none_right : (S : Session) (t n : ℕ) → may_finish_early S.rules.version ≡ false → early_at S t n ≡ None
@@ -31,6 +32,7 @@ no_finishes S former valid = none_early S.rules [] 0 S.items former (session_par
 -- no late job line is refused alone
 pub late_none : (v : Version) → may_finish_early v ≡ false → late_refusal v ≡ None
 late_none Three former = never (sym former)
+late_none Four former = never (sym former)
 late_none _ former = refl
 
 -- a refused line is a job line that isn't late, with the cause for which it isn't admitted

@@ -17,6 +17,7 @@ use Rattle.dover_model.proofs.valid.Admitting.{not_refused}
 use Rattle.dover_model.proofs.settled.Settling.{unless}
 use Rattle.dover_model.proofs.runs.Spending.{after_count}
 use Rattle.dover_model.proofs.lists.Tests.{never, none_is_some}
+use Rattle.dover_model.specs.declared.events.Version.TheVariants.{Four}
 
 -- a run begins with a task for each job
 opening_count : (n : ℕ) (jobs : List JobFacts) → length (to_come n jobs) ≡ length jobs
@@ -71,6 +72,7 @@ full_many J mark full = omega (arith, leb-true most_ready (ready_at J mark) full
 -- in versions One and Two few jobs are admitted
 pub few_former : (v : Version) (n : ℕ) → may_finish_early v ≡ false → n < most_jobs v → n < most_ready
 few_former Three n former few = never (sym former)
+few_former Four n former few = never (sym former)
 few_former _ n former few = few
 
 module _ (S : Session) (j : JobFacts) where
@@ -124,6 +126,7 @@ late_for_late : (v : Version) → late_refusal v ≡ Some Full → ⊥
 late_for_late One e = let same : None ≡ Some Full = e in cc
 late_for_late Two e = let same : None ≡ Some Full = e in cc
 late_for_late Three e = let same : Some Late ≡ Some Full = e in cc
+late_for_late Four e = let same : Some Late ≡ Some Full = e in cc
 
 -- so a job that is refused for that comes in time
 pub full_at : (S : Session) (mark : ℕ) (j : JobFacts) → refusal_at S mark j ≡ Some Full

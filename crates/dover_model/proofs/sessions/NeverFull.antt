@@ -10,6 +10,7 @@ use Rattle.dover_model.proofs.sessions.Fullness.{few_ready}
 use Rattle.dover_model.proofs.lists.Tests.{never}
 use Rattle.dover_model.proofs.sessions.SessionParts.{FollowsItems, session_parts}
 use Rattle.dover_model.proofs.valid.ValidParts.{valid_parts}
+use Rattle.dover_model.specs.declared.events.Version.TheVariants.{Four}
 
 module _ (rules : Declaration) where
   -- what follows behind the first item
@@ -56,4 +57,5 @@ former_never S former valid = few_never S (by_version S.rules.version former (va
   by_version : (v : Version) → may_finish_early v ≡ false → length (admitted_jobs S.items) ≤ most_jobs v
       → length (admitted_jobs S.items) ≤ most_ready
   by_version Three former few = never (sym former)
+  by_version Four former few = never (sym former)
   by_version _ former few = few

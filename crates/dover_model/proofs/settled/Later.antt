@@ -9,6 +9,8 @@ use Rattle.dover_model.specs.Common.{decision, arrival, alarm, urgent_or, open_s
 use Rattle.dover_model.specs.Common.{finish_or, Finish, is_finish_of, waits_for_mark, Each}
 use Rattle.dover_model.proofs.lists.Members.{found}
 use Rattle.dover_model.proofs.lists.Tests.{never}
+use Rattle.std.specs.Prelude.{◌||◌}
+use Rattle.std.specs.List.{list_any}
 
 -- a filter that nothing behind passes
 filter_front : (p : Task → Bool) (xs more : List Task) → Each (λ t. p t ≡ false) more
@@ -48,6 +50,7 @@ with_coming v c = record {
   held_room = v.held_room;
   privileged_room = v.privileged_room;
   privileged_value = v.privileged_value;
+  yields = v.yields;
 }
 
 -- a test of a role that jobs to come fail
@@ -55,6 +58,14 @@ pub role_passes : (p : Task → Bool) → ((t : Task) → p (with_role t Coming)
     → Each (λ t. t.role ≡ Coming) more
     → Each (λ t. p t ≡ false) more
 role_passes p fails more coming t m = subst (λ role. p (with_role t role) ≡ false) (sym (coming t m)) (fails t)
+
+-- where none behind passes, any passes just where one in front does
+pub any_front : (p : Task → Bool) (xs more : List Task) → Each (λ t. p t ≡ false) more
+    → list_any p (xs ++ more) ≡ list_any p xs
+any_front p [] [] none = refl
+any_front p [] (t ∷ more) none = ap (λ b. b || list_any p more) (none t (inl refl))
+    ∙ any_front p [] more (λ u m. none u (inr m))
+any_front p (x ∷ xs) more none = ap (λ b. p x || b) (any_front p xs more none)
 
 -- all that the view shows is the same, but for the job to come
 pub view_later : (version : Version) (s : State) (more : List Task) → Each (λ t. t.role ≡ Coming) more

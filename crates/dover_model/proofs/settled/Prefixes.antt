@@ -21,10 +21,14 @@ use Rattle.dover_model.proofs.valid.Valid.{valid_front}
 use Rattle.dover_model.proofs.settled.Later.{same_step}
 use Rattle.dover_model.proofs.settled.Settling.{late_early, at_barrier, settled_is_run}
 use Rattle.dover_model.proofs.lists.Tests.{never}
+use Rattle.std.specs.Prelude.{◌&&◌}
+use Rattle.std.specs.List.{list_any}
+use Rattle.dover_model.specs.Common.{is_open_job}
+use Rattle.dover_model.proofs.settled.Later.{any_front, role_passes}
 
 -- a state
-abbrev state_of : ℕ → List Task → State
-state_of clock tasks = record { clock = clock; tasks = tasks }
+abbrev state_of : Bool → ℕ → List Task → State
+state_of pressed clock tasks = record { clock = clock; pressed = pressed; tasks = tasks }
 
 -- none
 abbrev pub no_events : List Event
@@ -85,20 +89,29 @@ module _ (k : Fraction) (s : State) (more : List Task) (coming : Each (λ u. u.r
 
   -- a change by f is the same with the jobs behind
   same_by : (clock : ℕ) (f : Task → Task) → Each (λ u. f u ≡ u) more
-      → state_of clock (map f (s.tasks ++ more)) ≡ with_later (state_of clock (map f s.tasks)) more
-  same_by clock f same = ap (state_of clock) (map_behind f s.tasks more same)
+      → state_of s.pressed clock (map f (s.tasks ++ more)) ≡ with_later (state_of s.pressed clock (map f s.tasks)) more
+  same_by clock f same = ap (state_of s.pressed clock) (map_behind f s.tasks more same)
 
   -- so does a change of one role
   role_by : (r : Task) → IsMember r s.tasks → (new : Role)
-      → state_of s.clock (map (λ t. with_role t (cond (eqb t.number r.number) new t.role)) (s.tasks ++ more))
+      → state_of s.pressed s.clock (map (λ t. with_role t (cond (eqb t.number r.number) new t.role)) (s.tasks ++ more))
       ≡ with_later
-      (state_of s.clock (map (λ t. with_role t (cond (eqb t.number r.number) new t.role)) s.tasks)) more
+      (state_of s.pressed s.clock (map (λ t. with_role t (cond (eqb t.number r.number) new t.role)) s.tasks)) more
   role_by r member new = same_by s.clock (λ t. with_role t (cond (eqb t.number r.number) new t.role))
       (one_named r member new)
 
   -- so does each deed
   pub same_after : (m : Move) → Deed k s Ticks m → after (with_later s more) m ≡ with_later (after s m) more
-  same_after m (Completed r member runs) = role_by r member Done
+  same_after m (Completed r member runs) =
+      let same : map (λ t. with_role t (cond (eqb t.number r.number) Done t.role)) (s.tasks ++ more)
+      ≡ map (λ t. with_role t (cond (eqb t.number r.number) Done t.role)) s.tasks ++ more =
+      map_behind (λ t. with_role t (cond (eqb t.number r.number) Done t.role)) s.tasks more
+      (one_named r member Done) in
+      ap (λ tasks. state_of (s.pressed && list_any is_open_job tasks) s.clock tasks) same
+      ∙ ap (λ b. state_of (s.pressed && b) s.clock
+      (map (λ t. with_role t (cond (eqb t.number r.number) Done t.role)) s.tasks ++ more))
+      (any_front is_open_job (map (λ t. with_role t (cond (eqb t.number r.number) Done t.role)) s.tasks) more
+      (role_passes is_open_job (λ _. refl) more coming))
   same_after m (Resumed p member held none least why) = role_by p member Running
   same_after m (Started o member waiting none first fits next) = role_by o member Running
   same_after m (Began f member fresh none free) = role_by f member Running
@@ -111,7 +124,9 @@ module _ (k : Fraction) (s : State) (more : List Task) (coming : Each (λ u. u.r
   same_after m (Taken r x member runs some x_member waiting now stale heavy) =
       same_by s.clock (λ u. with_role u (cond (eqb u.number x.number) Running (displaced u.role)))
       (behind_take x x_member)
-  same_after m (Abandoned r x member runs some x_member waiting now stale light) = role_by x x_member Gone
+  same_after m (Abandoned r x member runs some x_member waiting now stale light) = ap (state_of true s.clock)
+      (map_behind (λ t. with_role t (cond (eqb t.number x.number) Gone t.role)) s.tasks more (one_named x x_member
+      Gone))
   same_after m (Rested quiet) = same_by (s.clock + 1) ticked behind_tick
 
 -- ---- beginnings
@@ -274,7 +289,7 @@ module _ (J : Instance) (more : List JobFacts) (mark : ℕ) (valid_more : IsVali
 
   -- the opening with jobs behind
   pub opening_later : opening (J.jobs ++ more) ≡ with_later (opening J.jobs) (to_come (length J.jobs) more)
-  opening_later = ap (state_of 0)
+  opening_later = ap (state_of false 0)
       (come_append 0 J.jobs more ∙ ap (λ n. to_come 0 J.jobs ++ to_come n more) (omega arith))
 
   -- it is a sound state of all jobs

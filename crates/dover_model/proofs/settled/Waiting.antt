@@ -48,8 +48,8 @@ module _ (J : Instance) (valid : IsValid J) (rules : Rules) where
 
   -- which leaves the jobs as they are
   over_after : (s : State) → Keeps J s → list_all is_over s.tasks ≡ true
-      → after s Ticks ≡ record { clock = s.clock + 1; tasks = s.tasks }
-  over_after s keeps over = ap (λ ts. record { clock = s.clock + 1; tasks = ts }) (map_each s.tasks (λ t m. m)) where
+      → after s Ticks ≡ record s { clock = s.clock + 1; tasks = s.tasks }
+  over_after s keeps over = ap (λ ts. record s { clock = s.clock + 1; tasks = ts }) (map_each s.tasks (λ t m. m)) where
     map_each : (ts : List Task) → ((t : Task) → IsMember t ts → IsMember t s.tasks) → map ticked ts ≡ ts
     map_each [] among = refl
     map_each (t ∷ ts) among =
@@ -58,23 +58,27 @@ module _ (J : Instance) (valid : IsValid J) (rules : Rules) where
 
   -- so the clock goes on to any mark
   over_waits : (gap mark : ℕ) (s : State) → Keeps J s → list_all is_over s.tasks ≡ true → s.clock + gap ≡ mark
-      → WaitsUntil rules mark s (record { clock = mark; tasks = s.tasks })
+      → WaitsUntil rules mark s (record s { clock = mark; tasks = s.tasks })
   over_waits zero mark s keeps over at =
       let here : s.clock ≡ mark = omega arith in
       record {
         steps = [];
-        settles = ap (λ c. record { clock = c; tasks = s.tasks }) here;
-        barrier = ap (λ m. waits_for_mark m && nat_le mark mark) (over_ticks (record { clock = mark; tasks = s.tasks })
-            (subst (λ c. Keeps J (record { clock = c; tasks = s.tasks })) here keeps) over)
+        settles = ap (λ c. record s { clock = c; tasks = s.tasks }) here;
+        barrier = ap (λ m. waits_for_mark m && nat_le mark mark) (over_ticks (record s {
+          clock = mark;
+          tasks =
+              s.tasks;
+        })
+            (subst (λ c. Keeps J (record s { clock = c; tasks = s.tasks })) here keeps) over)
             ∙ le-leb mark mark (omega arith);
       }
   over_waits (suc gap) mark s keeps over at =
       let ticks : open_step rules s ≡ Ticks = over_ticks s keeps over in
-      let on : after s (open_step rules s) ≡ record { clock = s.clock + 1; tasks = s.tasks } = ap (after s) ticks
+      let on : after s (open_step rules s) ≡ record s { clock = s.clock + 1; tasks = s.tasks } = ap (after s) ticks
       ∙ over_after s keeps over in
-      let rest : WaitsUntil rules mark (record { clock = s.clock + 1; tasks = s.tasks })
-      (record { clock = mark; tasks = s.tasks }) =
-      over_waits gap mark (record { clock = s.clock + 1; tasks = s.tasks })
+      let rest : WaitsUntil rules mark (record s { clock = s.clock + 1; tasks = s.tasks })
+      (record s { clock = mark; tasks = s.tasks }) =
+      over_waits gap mark (record s { clock = s.clock + 1; tasks = s.tasks })
       (subst (Keeps J) on (open_kept J valid s keeps rules)) over (omega arith) in
       record {
         steps = open_at rules s ∷ rest.steps;
@@ -82,14 +86,15 @@ module _ (J : Instance) (valid : IsValid J) (rules : Rules) where
           refl,
           ap (λ m. waits_for_mark m && nat_le mark s.clock) ticks ∙ lt-leb mark s.clock (omega arith),
           ap event_of ticks,
-          subst (λ u. Settles rules mark u rest.steps (record { clock = mark; tasks = s.tasks })) (sym on) rest.settles,
+          subst (λ u. Settles rules mark u rest.steps (record s { clock = mark; tasks = s.tasks })) (sym on)
+              rest.settles,
         );
         barrier = rest.barrier;
       }
 
   -- where all jobs are over, the silent steps reach any mark from the clock on
   pub over_waits_until : (mark : ℕ) (s : State) → Keeps J s → list_all is_over s.tasks ≡ true → s.clock ≤ mark
-      → WaitsUntil rules mark s (record { clock = mark; tasks = s.tasks })
+      → WaitsUntil rules mark s (record s { clock = mark; tasks = s.tasks })
   over_waits_until mark s keeps over low = over_waits (mark - s.clock) mark s keeps over (omega arith)
 
   -- some step is printed next

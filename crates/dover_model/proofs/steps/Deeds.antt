@@ -23,6 +23,11 @@ use Rattle.dover_model.proofs.steps.Rooms.{room_fits, room_crowded}
 use Rattle.dover_model.proofs.steps.Cases.{Settles, Busy, Free, NoneArrives, Case, Completes, Resumes, Starts, Begins}
 use Rattle.dover_model.proofs.steps.Cases.{Preempts, Stays, Arrives, Takes, Abandons, Rests}
 use Rattle.dover_model.proofs.lists.Tests.{never}
+use Rattle.std.specs.Prelude.{not}
+use Rattle.dover_model.specs.Common.{One, Two, Three}
+use Rattle.dover_model.specs.declared.events.Version.TheVariants.{Four}
+use Rattle.dover_model.specs.Orders.{waiting_order, by_density, is_less_dense}
+use Rattle.dover_model.proofs.lists.FirstOfTasks.{first_member}
 
 -- the jobs keep the limits of one job, and no release falls below one before it
 pub record Realistic (tasks : List Task) : Type 0 where
@@ -43,16 +48,20 @@ pub data Passes (s : State) (p : Task) : Type 0 where
       → Each (λ t. t.role ≡ Held → o.job.deadline < t.job.deadline) s.tasks
       → Crowded s (left o) → Passes s p
 
+-- the state isn't pressed: then waiting jobs are chosen by deadline
+abbrev pub Calm : State → Type 0
+Calm s = s.pressed ≡ false
+
 -- Each case of a step, with what holds there; `other` is what is done where none of the first six applies.
 pub data Deed (k : Fraction) (s : State) (other : Move) : Move → Type 0 where
   Completed : (r : Task) → IsMember r s.tasks → r.role ≡ Running
       → Deed k s other (Prints (Complete s.clock r.number))
   Resumed : (p : Task) → IsMember p s.tasks → p.role ≡ Held → NoneRuns s.tasks
-      → Each (λ t. t.role ≡ Held → p.job.deadline ≤ t.job.deadline) s.tasks → Passes s p
+      → Each (λ t. t.role ≡ Held → p.job.deadline ≤ t.job.deadline) s.tasks → (Calm s → Passes s p)
       → Deed k s other (Prints (Run s.clock p.number))
   Started : (o : Task) → IsMember o s.tasks → o.role ≡ Waiting → NoneRuns s.tasks
       → Each (λ t. t.role ≡ Held → o.job.deadline < t.job.deadline) s.tasks → Fits (left o) s
-      → Each (λ w. w.role ≡ Waiting → o.job.deadline ≤ w.job.deadline) s.tasks
+      → (Calm s → Each (λ w. w.role ≡ Waiting → o.job.deadline ≤ w.job.deadline) s.tasks)
       → Deed k s other (Prints (Run s.clock o.number))
   Began : (f : Task) → IsMember f s.tasks → f.role ≡ Fresh → NoneRuns s.tasks
       → Each (λ t. is_ready_behind t ≡ true → ⊥) s.tasks
@@ -60,7 +69,7 @@ pub data Deed (k : Fraction) (s : State) (other : Move) : Move → Type 0 where
   Preempted : (r f : Task) → IsMember r s.tasks → r.role ≡ Running → 1 ≤ left r → IsMember f s.tasks → f.role ≡ Fresh
       → f.job.deadline < r.job.deadline → Fits (left f) s → Deed k s other (Prints (Preempt s.clock r.number f.number))
   Stayed : (r f : Task) → IsMember r s.tasks → r.role ≡ Running → 1 ≤ left r → IsMember f s.tasks → f.role ≡ Fresh
-      → (r.job.deadline ≤ f.job.deadline) ⊎ ((f.job.deadline < r.job.deadline) × Crowded s (left f))
+      → (Calm s → (r.job.deadline ≤ f.job.deadline) ⊎ ((f.job.deadline < r.job.deadline) × Crowded s (left f)))
       → Deed k s other (Waits f.number)
   Arrived : (c : Task) → IsMember c s.tasks → c.role ≡ Coming → c.job.release ≡ s.clock
       → Each (λ t. t.role ≡ Coming → c.number ≤ t.number) s.tasks
@@ -134,6 +143,17 @@ found_first p n (x ∷ tasks) y numbered some t member is_in =
       by_test false out later (inl e) more = never (sym out ∙ subst (λ z. p z ≡ true) e is_in)
       by_test false out later (inr m) more = more later m
 
+-- no version chooses by density while the state isn't pressed
+dense_not : (version : Version) → by_density version false ≡ false
+dense_not One = refl
+dense_not Two = refl
+dense_not Three = refl
+dense_not Four = refl
+
+-- so it is in a calm state
+pub calm_any : (version : Version) (s : State) → Calm s → by_density version s.pressed ≡ false
+calm_any version s calm = ap (by_density version) calm ∙ dense_not version
+
 module _ (k : Fraction) (version : Version) (s : State) (other : Move) (sound : IsSound s)
     (real : Realistic s.tasks) where
   -- what the step looks at
@@ -153,11 +173,17 @@ module _ (k : Fraction) (version : Version) (s : State) (other : Move) (sound : 
   none_of : (p : Task → Bool) → first (due_first version) (filter p s.tasks) ≡ None → Each (λ t. p t ≡ true → ⊥) s.tasks
   none_of p none = first_none (λ e. e.deadline) version p s.tasks none
 
+  -- none waits
+  none_waits : v.first_waiting ≡ None → Each (λ t. is_waiting t ≡ true → ⊥) s.tasks
+  none_waits none t m is_in =
+      reduce_none (earlier (waiting_order version (by_density version s.pressed))) (filter is_waiting s.tasks) none t
+      (filter_member is_waiting s.tasks t m is_in)
+
   -- none waits or is held
   nobody_behind : v.first_held ≡ None → v.first_waiting ≡ None → Each (λ t. is_ready_behind t ≡ true → ⊥) s.tasks
   nobody_behind no_held no_waiting t m behind = by_role (is_behind_role t behind) where
     by_role : (t.role ≡ Waiting) ⊎ (t.role ≡ Held) → ⊥
-    by_role (inl waits) = none_of is_waiting no_waiting t m (passes is_waiting t Waiting true waits refl)
+    by_role (inl waits) = none_waits no_waiting t m (passes is_waiting t Waiting true waits refl)
     by_role (inr is_h) = none_of is_held no_held t m (passes is_held t Held true is_h refl)
 
   -- where none runs, the running and held jobs are the held ones
@@ -249,7 +275,7 @@ module _ (k : Fraction) (version : Version) (s : State) (other : Move) (sound : 
       first_none (λ e. e.latest) version (is_at_latest_start s) (waiting s) none t
       (filter_member is_waiting s.tasks t m (passes is_waiting t Waiting true waits refl)) (eq-eqb _ _ now)
   none_late None (Free none no_held no_waiting) (inr e) t m waits now =
-      none_of is_waiting no_waiting t m (passes is_waiting t Waiting true waits refl)
+      none_waits no_waiting t m (passes is_waiting t Waiting true waits refl)
   none_late (Some r) settles (inr e) t m waits now = cc
 
   -- the room of the held jobs is that of all, where none runs
@@ -274,11 +300,18 @@ module _ (k : Fraction) (version : Version) (s : State) (other : Move) (sound : 
 
   -- the first waiting job
   is_first_waiting : (o : Task) → v.first_waiting ≡ Some o
-      → IsMember o s.tasks × (o.role ≡ Waiting) × Each (λ w. w.role ≡ Waiting → o.job.deadline ≤ w.job.deadline) s.tasks
-  is_first_waiting o some = let it : IsMember o s.tasks × (is_waiting o ≡ true) × Each
-      (λ t. is_waiting t ≡ true → o.job.deadline ≤ t.job.deadline) s.tasks =
-      first_some (λ e. e.deadline) version is_waiting s.tasks o some in
-      (it.0, is_waiting_role o it.1, λ w m e. it.2 w m (passes is_waiting w Waiting true e refl))
+      → IsMember o s.tasks × (o.role ≡ Waiting)
+      × (Calm s → Each (λ w. w.role ≡ Waiting → o.job.deadline ≤ w.job.deadline) s.tasks)
+  is_first_waiting o some =
+      let it : IsMember o s.tasks × (is_waiting o ≡ true) = member_filter is_waiting s.tasks o
+      (first_member (waiting_order version (by_density version s.pressed)) (filter is_waiting s.tasks) o some) in
+      (it.0, is_waiting_role o it.1, λ calm w m e. (by_deadline calm).2 w m (passes is_waiting w Waiting true e refl))
+    where
+      by_deadline : Calm s → IsMember o s.tasks × (is_waiting o ≡ true)
+          × Each (λ t. is_waiting t ≡ true → o.job.deadline ≤ t.job.deadline) s.tasks
+      by_deadline calm = first_some (λ e. e.deadline) version is_waiting s.tasks o
+          (subst (λ b. first (waiting_order version b) (filter is_waiting s.tasks) ≡ Some o) (calm_any version s
+          calm) some)
 
   -- what the held jobs have no room for
   crowded_held : (p : Task) → IsMember p s.tasks → is_held p ≡ true → (o : Task)
@@ -319,24 +352,31 @@ module _ (k : Fraction) (version : Version) (s : State) (other : Move) (sound : 
       }
 
   -- why a fresh job waits
-  stays_why : (r f : Task) → Settles v (Some r) → IsMember f s.tasks → f.role ≡ Fresh → preempts v f r ≡ false
+  stays_why : (r f : Task) → Settles v (Some r) → IsMember f s.tasks → f.role ≡ Fresh → preempts v f r ≡ false → Calm s
       → (r.job.deadline ≤ f.job.deadline) ⊎ ((f.job.deadline < r.job.deadline) × Crowded s (left f))
-  stays_why r f settles f_member fresh tight = by_before (nat_lt f.job.deadline r.job.deadline) refl tight where
-    all_f : left f ≡ f.job.work
-    all_f = let nothing : f.had ≡ 0 = (says s sound f f_member Fresh fresh).0 in omega arith
+  stays_why r f settles f_member fresh tight calm = by_before (nat_lt f.job.deadline r.job.deadline) refl
+      (alone (nat_lt f.job.deadline r.job.deadline && nat_le f.job.work v.privileged_room)
+      (subst (λ b. ((nat_lt f.job.deadline r.job.deadline && nat_le f.job.work v.privileged_room)
+      && not (b && is_less_dense f r)) ≡ false) (calm_any version s calm) tight)) where
+        alone : (x : Bool) → (x && true) ≡ false → x ≡ false
+        alone true e = never (sym e)
+        alone false e = refl
 
-    it : IsMember r s.tasks × (r.role ≡ Running) × (1 ≤ left r)
-    it = settled_r r settles
+        all_f : left f ≡ f.job.work
+        all_f = let nothing : f.had ≡ 0 = (says s sound f f_member Fresh fresh).0 in omega arith
 
-    by_before : (b : Bool) → nat_lt f.job.deadline r.job.deadline ≡ b
-        → (b && nat_le f.job.work v.privileged_room) ≡ false
-        → (r.job.deadline ≤ f.job.deadline) ⊎ ((f.job.deadline < r.job.deadline) × Crowded s (left f))
-    by_before false later _ = inl (ltb-false _ _ later)
-    by_before true before low = inr (
-      ltb-true _ _ before,
-      crowded_all r it.0 (passes is_privileged r Running true it.1 refl) (left f)
-          (let less : room s.clock (privileged s) < f.job.work = leb-false _ _ low in omega (arith, all_f)),
-    )
+        it : IsMember r s.tasks × (r.role ≡ Running) × (1 ≤ left r)
+        it = settled_r r settles
+
+        by_before : (b : Bool) → nat_lt f.job.deadline r.job.deadline ≡ b
+            → (b && nat_le f.job.work v.privileged_room) ≡ false
+            → (r.job.deadline ≤ f.job.deadline) ⊎ ((f.job.deadline < r.job.deadline) × Crowded s (left f))
+        by_before false later _ = inl (ltb-false _ _ later)
+        by_before true before low = inr (
+          ltb-true _ _ before,
+          crowded_all r it.0 (passes is_privileged r Running true it.1 refl) (left f)
+              (let less : room s.clock (privileged s) < f.job.work = leb-false _ _ low in omega (arith, all_f)),
+        )
 
   -- the deed of case 2
   deed_resumes : (p : Task) (o : Option Task) → running s ≡ None → v.first_held ≡ Some p → v.first_waiting ≡ o
@@ -349,16 +389,16 @@ module _ (k : Fraction) (version : Version) (s : State) (other : Move) (sound : 
     least : Each (λ t. t.role ≡ Held → p.job.deadline ≤ t.job.deadline) s.tasks
     least t m e = facts.2 t m (passes is_held t Held true e refl)
 
-    resumes : Passes s p → Deed k s other (runs v p)
+    resumes : (Calm s → Passes s p) → Deed k s other (runs v p)
     resumes why = Resumed p facts.0 (is_held_role p facts.1) (none_runs none) least why
 
     by_option : (o : Option Task) → v.first_waiting ≡ o → Deed k s other (runs v (resumed v p o))
-    by_option None e = resumes
-        (NoneBefore (λ w m waits. absurd (none_of is_waiting e w m (passes is_waiting w Waiting true waits refl))))
+    by_option None e = resumes (λ _.
+        NoneBefore (λ w m waits. absurd (none_waits e w m (passes is_waiting w Waiting true waits refl))))
     by_option (Some o) e = by_tests (nat_lt o.job.deadline p.job.deadline)
         (nat_le (left o) (room s.clock (held s))) refl refl where
           it : IsMember o s.tasks × (o.role ≡ Waiting)
-              × Each (λ w. w.role ≡ Waiting → o.job.deadline ≤ w.job.deadline) s.tasks
+              × (Calm s → Each (λ w. w.role ≡ Waiting → o.job.deadline ≤ w.job.deadline) s.tasks)
           it = is_first_waiting o e
 
           before_held : nat_lt o.job.deadline p.job.deadline ≡ true
@@ -369,11 +409,11 @@ module _ (k : Fraction) (version : Version) (s : State) (other : Move) (sound : 
           by_tests : (b c : Bool) → nat_lt o.job.deadline p.job.deadline ≡ b
               → nat_le (left o) (room s.clock (held s)) ≡ c
               → Deed k s other (runs v (cond (b && c) o p))
-          by_tests false c later fits = resumes
-              (NoneBefore (λ w m waits. let low : o.job.deadline ≤ w.job.deadline = it.2 w m waits in
+          by_tests false c later fits = resumes (λ calm.
+              NoneBefore (λ w m waits. let low : o.job.deadline ≤ w.job.deadline = it.2 calm w m waits in
               let high : p.job.deadline ≤ o.job.deadline = ltb-false _ _ later in omega arith))
-          by_tests true false before tight =
-              resumes (NoneFits o it.0 it.1 (before_held before) (crowded_held p facts.0 facts.1 o tight))
+          by_tests true false before tight = resumes (λ _.
+              NoneFits o it.0 it.1 (before_held before) (crowded_held p facts.0 facts.1 o tight))
           by_tests true true before fits =
               Started o it.0 it.1 (none_runs none) (before_held before)
               (fits_held (none_runs none) o (says s sound o it.0 Waiting it.1).0 fits) it.2
@@ -393,10 +433,16 @@ module _ (k : Fraction) (version : Version) (s : State) (other : Move) (sound : 
   deed_of m (Preempts r f settles is_fr fits) =
       let it : IsMember f s.tasks × (f.role ≡ Fresh) = is_f f is_fr in
       let low : f.job.work ≤ room s.clock (privileged s) =
-      leb-true _ _ (and_parts (nat_lt f.job.deadline r.job.deadline) (nat_le f.job.work v.privileged_room) fits).1 in
+      leb-true _ _ (and_parts (nat_lt f.job.deadline r.job.deadline) (nat_le f.job.work v.privileged_room)
+      (both fits)).1 in
       Preempted r f (settled_r r settles).0 (settled_r r settles).1 (settled_r r settles).2 it.0 it.1
-      (ltb-true _ _ (and_parts (nat_lt f.job.deadline r.job.deadline) (nat_le f.job.work v.privileged_room) fits).0)
-      (fits_all f (says s sound f it.0 Fresh it.1).1 (omega arith))
+      (ltb-true _ _ (and_parts (nat_lt f.job.deadline r.job.deadline) (nat_le f.job.work v.privileged_room)
+      (both fits)).0)
+      (fits_all f (says s sound f it.0 Fresh it.1).1 (omega arith)) where
+        both : preempts v f r ≡ true → (nat_lt f.job.deadline r.job.deadline && nat_le f.job.work v.privileged_room)
+            ≡ true
+        both all = (and_parts (nat_lt f.job.deadline r.job.deadline && nat_le f.job.work v.privileged_room)
+            (not (v.yields && is_less_dense f r)) all).0
   deed_of m (Stays r f settles is_fr tight) =
       Stayed r f (settled_r r settles).0 (settled_r r settles).1 (settled_r r settles).2 (is_f f is_fr).0
       (is_f f is_fr).1

@@ -46,18 +46,19 @@ ticks_more n tasks = map_map ticked (ticked_by n) tasks
     ∙ map_same (λ t. ticked (ticked_by n t)) (ticked_by (n + 1)) tasks (λ t m. tick_more n t)
 
 -- a state
-abbrev state_of : ℕ → List Task → State
-state_of clock tasks = record { clock = clock; tasks = tasks }
+abbrev state_of : Bool → ℕ → List Task → State
+state_of pressed clock tasks = record { clock = clock; pressed = pressed; tasks = tasks }
 
 -- no tick leaves the state as it is
 pub later_by-zero : (s : State) → later_by 0 s ≡ s
-later_by-zero s = ap (λ clock. state_of clock (map (ticked_by 0) s.tasks)) (add-zero s.clock)
-    ∙ ap (state_of s.clock) (no_ticks s.tasks)
+later_by-zero s = ap (λ clock. state_of s.pressed clock (map (ticked_by 0) s.tasks)) (add-zero s.clock)
+    ∙ ap (state_of s.pressed s.clock) (no_ticks s.tasks)
 
 -- a silent tick more
 pub after-later_by : (n : ℕ) (s : State) → after (later_by n s) Ticks ≡ later_by (n + 1) s
-after-later_by n s = ap (λ clock. state_of clock (map ticked (map (ticked_by n) s.tasks))) (add_assoc s.clock n 1)
-    ∙ ap (state_of (s.clock + (n + 1))) (ticks_more n s.tasks)
+after-later_by n s = ap (λ clock. state_of s.pressed clock (map ticked (map (ticked_by n) s.tasks))) (add_assoc
+    s.clock n 1)
+    ∙ ap (state_of s.pressed (s.clock + (n + 1))) (ticks_more n s.tasks)
 
 -- ---- what is due after ticks
 

@@ -23,6 +23,12 @@ use Rattle.dover_model.proofs.finishes.Finishing.{finish_deed}
 use Rattle.dover_model.proofs.steps.Preempting.{preempts_sound}
 use Rattle.dover_model.proofs.lists.Tests.{never}
 use Rattle.dover_model.proofs.valid.ValidParts.{ReleasesInOrder, valid_parts}
+use Rattle.std.specs.List.{list_any}
+use Rattle.std.specs.Prelude.{◌&&◌}
+use Rattle.std.proofs.lemmas.Bool.{and_parts}
+use Rattle.dover_model.specs.Common.{is_open_job}
+use Rattle.dover_model.proofs.steps.OneChange.{changed_there}
+use Rattle.dover_model.proofs.steps.Pressing.{HasReady, sound_pressing, any_member, any_kept, one_open, displaced_open}
 
 -- ---- the jobs of the tasks
 
@@ -135,14 +141,16 @@ module _ (s : State) (sound : IsSound s) (r x : Task) (member : IsMember r s.tas
 
   -- a take keeps a sound state sound
   pub takes_sound : IsSound (after s (Prints (Take s.clock r.number x.number)))
-  takes_sound = subst (λ (tasks : List Task). IsSound (record { clock = s.clock; tasks = tasks }))
+  takes_sound = subst (λ (tasks : List Task). IsSound (record s { tasks = tasks }))
       (map_map (λ t. with_role t (changed x Running t)) (λ t. with_role t (displaced t.role)) s.tasks) taken
 
 module _ (k : Fraction) (s : State) (other : Move) (sound : IsSound s) (real : Realistic s.tasks)
     (rested : Quiet s → IsSound (after s other)) where
   -- each deed keeps a sound state sound
   pub deed_sound : (m : Move) → Deed k s other m → IsSound (after s m)
-  deed_sound m (Completed r member runs) = stays_sound s sound r Done member (completes s sound r member runs)
+  deed_sound m (Completed r member runs) =
+      sound_pressing (s.pressed && list_any is_open_job (with_roles (changed r Done) s.tasks)) (state_with s r Done)
+      (stays_sound s sound r Done member (completes s sound r member runs))
   deed_sound m (Resumed p member held none least why) =
       stays_sound s sound p Running member
       (resumes s sound p member held none least)
@@ -167,8 +175,42 @@ module _ (k : Fraction) (s : State) (other : Move) (sound : IsSound s) (real : R
   deed_sound m (Taken r x member runs some x_member waiting now stale heavy) =
       takes_sound s sound r x member runs some x_member waiting stale
   deed_sound m (Abandoned r x member runs some x_member waiting now stale light) =
-      stays_sound s sound x Gone x_member (abandons s sound x x_member waiting)
+      sound_pressing true (state_with s x Gone) (stays_sound s sound x Gone x_member (abandons s sound x x_member
+      waiting))
   deed_sound m (Rested quiet) = rested quiet
+
+-- a deed leaves some job ready where it leaves the state pressed
+pub deed_ready : (k : Fraction) (s : State) (other : Move) → IsSound s → HasReady s → HasReady (after s other)
+    → (m : Move) → Deed k s other m → HasReady (after s m)
+deed_ready k s other sound some rested m (Completed r member runs) both = (and_parts _ _ both).1
+deed_ready k s other sound some rested m (Resumed p member held none least why) pressed =
+    any_kept is_open_job _ (λ t. one_open Running (λ _. refl) (eqb t.number p.number) t t.role) s.tasks (some pressed)
+deed_ready k s other sound some rested m (Started o member waiting none first fits next) pressed =
+    any_kept is_open_job _ (λ t. one_open Running (λ _. refl) (eqb t.number o.number) t t.role) s.tasks (some pressed)
+deed_ready k s other sound some rested m (Began f member fresh none free) pressed =
+    any_kept is_open_job _ (λ t. one_open Running (λ _. refl) (eqb t.number f.number) t t.role) s.tasks (some pressed)
+deed_ready k s other sound some rested m (Preempted r f member runs left_some f_member fresh before fits) pressed =
+    any_kept is_open_job _ (λ t ready. one_open Running (λ _. refl) (eqb t.number f.number) t
+    (cond (eqb t.number r.number) Held t.role)
+    (one_open Held (λ _. refl) (eqb t.number r.number) t t.role ready)) s.tasks (some pressed)
+deed_ready k s other sound some rested m (Stayed r f member runs left_some f_member fresh why) pressed =
+    any_kept is_open_job _ (λ t. one_open Waiting (λ _. refl) (eqb t.number f.number) t t.role) s.tasks (some pressed)
+deed_ready k s other sound some rested m (Arrived c member comes now first stale busy free) pressed =
+    any_kept is_open_job _ (λ t. one_open Fresh (λ _. refl) (eqb t.number c.number) t t.role) s.tasks (some pressed)
+deed_ready k s other sound some rested m (Taken r x member runs left_some x_member waiting now stale heavy) pressed =
+    any_kept is_open_job _ (λ t ready. one_open Running (λ _. refl) (eqb t.number x.number) t (displaced t.role)
+    (displaced_open t t.role ready)) s.tasks (some pressed)
+deed_ready k s other sound some rested m (Abandoned r x member runs left_some x_member waiting now stale light) _ =
+    any_member is_open_job (with_roles (changed x Gone) s.tasks) r
+    (changed_there s.tasks x r Gone member (λ same. let one : r ≡ x =
+    one_number 0 s.tasks sound.numbered r x member x_member same in
+    let clash : Running ≡ Waiting = sym runs ∙ ap (λ (t : Task). t.role) one ∙ waiting in cc))
+    (passes is_open_job r Running true runs refl)
+deed_ready k s other sound some rested m (Rested quiet) pressed = rested pressed
+
+-- a silent tick leaves ready jobs ready
+pub ticks_ready : (s : State) → HasReady s → HasReady (after s Ticks)
+ticks_ready s some pressed = any_kept is_open_job ticked (λ t ready. ready) s.tasks (some pressed)
 
 -- End changes nothing
 pub end_same : (s : State) (value : ℕ) → (after s (Prints (End value))).tasks ≡ s.tasks
@@ -192,6 +234,7 @@ module _ (J : Instance) (valid : IsValid J) (s : State) (keeps : Keeps J s) wher
   deed_kept k m deed = record {
     sound = deed_sound k s Ticks keeps.sound (realistic J valid s keeps) (ticks_sound s keeps.sound) m deed;
     jobs = jobs_kept s m ∙ keeps.jobs;
+    pressed = deed_ready k s Ticks keeps.sound keeps.pressed (ticks_ready s keeps.pressed) m deed;
   }
 
   -- so does an open step
@@ -205,10 +248,18 @@ module _ (J : Instance) (valid : IsValid J) (s : State) (keeps : Keeps J s) wher
         (by_end (list_all is_over s.tasks)) _
         (step_deed rules);
     jobs = jobs_kept s (step rules s) ∙ keeps.jobs;
+    pressed = deed_ready rules.ratio s (ending s or_else Ticks) keeps.sound keeps.pressed
+        (ready_end (list_all is_over s.tasks)) _ (step_deed rules);
   } where
+    ready_end : (b : Bool)
+        → HasReady (after s (then_some b (Prints (End (value_sum (filter is_done s.tasks)))) or_else Ticks))
+    ready_end true pressed = any_kept is_open_job (λ t. with_role t t.role) (λ t ready. ready) s.tasks (keeps.pressed
+        pressed)
+    ready_end false pressed = ticks_ready s keeps.pressed pressed
+
     by_end : (b : Bool) → Quiet s
         → IsSound (after s (then_some b (Prints (End (value_sum (filter is_done s.tasks)))) or_else Ticks))
-    by_end true quiet = subst (λ (tasks : List Task). IsSound (record { clock = s.clock; tasks = tasks }))
+    by_end true quiet = subst (λ (tasks : List Task). IsSound (record s { tasks = tasks }))
         (sym (end_same s (value_sum (filter is_done s.tasks)))) keeps.sound
     by_end false quiet = ticks_sound s keeps.sound quiet
 
@@ -245,6 +296,7 @@ opening_keeps J = record {
     room = λ t mt is_in. absurd (out t mt is_in);
   };
   jobs = come_jobs 0 J.jobs;
+  pressed = λ e. never e;
 } where
   facts : Each (λ t. (t.role ≡ Coming) × (t.had ≡ 0)) (to_come 0 J.jobs)
   facts = come_coming 0 J.jobs

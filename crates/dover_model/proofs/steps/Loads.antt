@@ -65,7 +65,7 @@ with_roles g tasks = map (λ t. with_role t (g t)) tasks
 
 -- the state with these roles
 abbrev pub state_in : State → (Task → Role) → State
-state_in s g = record { clock = s.clock; tasks = with_roles g s.tasks }
+state_in s g = record s { tasks = with_roles g s.tasks }
 
 -- a smaller set adds less
 pub share_le : (a b : Bool) (t u : Task) → (a ≡ true → b ≡ true) → share a t u ≤ share b t u

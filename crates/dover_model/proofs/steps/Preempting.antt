@@ -99,5 +99,5 @@ module _ (s : State) (sound : IsSound s) (r f : Task) (member : IsMember r s.tas
 
   -- a preemption keeps a sound state sound
   pub preempts_sound : IsSound (after s (Prints (Preempt s.clock r.number f.number)))
-  preempts_sound = subst (λ (tasks : List Task). IsSound (record { clock = s.clock; tasks = tasks })) same_tasks
+  preempts_sound = subst (λ (tasks : List Task). IsSound (record s { tasks = tasks })) same_tasks
       last_sound

@@ -23,6 +23,11 @@ use Rattle.dover_model.proofs.steps.Deeds.{Deed, Completed, Resumed, Started, Be
 use Rattle.dover_model.proofs.steps.Deeds.{Abandoned, Rested}
 use Rattle.dover_model.proofs.steps.Kept.{step_deed, come_coming, end_same}
 use Rattle.dover_model.proofs.lists.Tests.{never}
+use Rattle.dover_model.specs.Common.{Waits, is_open_job, finish_or, due_finish, urgent_or}
+use Rattle.std.specs.List.{list_any}
+use Rattle.dover_model.specs.Orders.{IsByDeadline}
+use Rattle.dover_model.specs.Step.{seen_by}
+use Rattle.dover_model.proofs.steps.Pressing.{pressing, sound_pressing}
 
 -- a number where the job is running or held, and due by this tick
 abbrev pub by_due : (Task → ℕ) → ℕ → Task → ℕ
@@ -40,6 +45,10 @@ pub record IsStacked (s : State) : Type 0 where
   pub since : Each (λ x. x.role ≡ Waiting → x.had + x.job.release ≤ s.clock) s.tasks
   pub above : EachTwo (λ x p. x.role ≡ Waiting → 1 ≤ x.had → is_privileged p ≡ true
       → (p.job.deadline ≤ x.job.deadline) ⊎ (p.job.deadline ≤ s.clock + left p)) s.tasks
+
+-- it is so of the state, pressed or not
+pub stacked_pressing : (b : Bool) (s : State) → IsStacked s → IsStacked (pressing b s)
+stacked_pressing b s stacked = record { windows = stacked.windows; since = stacked.since; above = stacked.above }
 
 -- fewer that pass come to no more
 cond_less : (a b c : Bool) (n : ℕ) → (a ≡ true → b ≡ true) → cond (a && c) n 0 ≤ cond (b && c) n 0
@@ -325,15 +334,17 @@ lax s o u fits m is_in some tight =
     omega (arith, fit, part, some, tight)
 
 module _ (k : Fraction) (s : State) (other : Move) (sound : IsSound s) (stacked : IsStacked s)
-    (rested : Quiet s → IsStacked (after s other)) where
+    (rested : Quiet s → IsStacked (after s other)) (calm : s.pressed ≡ false) where
   -- each deed keeps it
   deed_stacked : (m : Move) → Deed k s other m → IsStacked (after s m)
-  deed_stacked m (Completed r member runs) = fewer_stacked s sound stacked r member Done never (λ e. absurd (cc))
+  deed_stacked m (Completed r member runs) =
+      stacked_pressing (s.pressed && list_any is_open_job (with_roles (changed r Done) s.tasks)) (state_with s r Done)
+      (fewer_stacked s sound stacked r member Done never (λ e. absurd (cc)))
   deed_stacked m (Resumed p member held none least why) = fewer_stacked s sound stacked p member Running
       (λ _. passes is_privileged p Held true held refl) (λ e. absurd (cc))
   deed_stacked m (Started o member waiting none ahead fits next) =
       starts_stacked s sound stacked o member later (by_had o.had refl) (stacked.since o member waiting)
-      (λ x mx _ e _. next x mx e) where
+      (λ x mx _ e _. next calm x mx e) where
         later : Each (λ u. is_privileged u ≡ true → o.job.deadline < u.job.deadline) s.tasks
         later u mu is_in = by_role (is_privileged_role u is_in) where
           by_role : (u.role ≡ Running) ⊎ (u.role ≡ Held) → o.job.deadline < u.job.deadline
@@ -361,7 +372,7 @@ module _ (k : Fraction) (s : State) (other : Move) (sound : IsSound s) (stacked 
           by_role (inl e) = none u mu e
           by_role (inr e) = free u mu (passes is_ready_behind u Held true e refl)
   deed_stacked m (Preempted r f member runs some f_member fresh before fits) =
-      subst (λ (tasks : List Task). IsStacked (record { clock = s.clock; tasks = tasks }))
+      subst (λ (tasks : List Task). IsStacked (record s { tasks = tasks }))
       (same_tasks s sound r f member runs some f_member fresh before fits) three where
         nothing : f.had ≡ 0
         nothing = (says s sound f f_member Fresh fresh).0
@@ -410,7 +421,8 @@ module _ (k : Fraction) (s : State) (other : Move) (sound : IsSound s) (stacked 
   deed_stacked m (Taken r x member runs some x_member waiting now stale heavy) =
       takes_stacked s sound stacked r x x_member waiting now
   deed_stacked m (Abandoned r x member runs some x_member waiting now stale light) =
-      fewer_stacked s sound stacked x x_member Gone never (λ e. absurd (cc))
+      stacked_pressing true (state_with s x Gone) (fewer_stacked s sound stacked x x_member Gone never (λ e. absurd
+      (cc)))
   deed_stacked m (Rested quiet) = rested quiet
 
 -- the opening
@@ -421,17 +433,37 @@ opening_stacked jobs = record {
   above = λ x p mx mp e _ _. absurd (let f : Coming ≡ Waiting = sym (come_coming 0 jobs x mx).0 ∙ e in cc);
 }
 
--- each step keeps it
-pub step_stacked : (J : Instance) → IsValid J → (s : State) → Keeps J s → (rules : Rules) → IsStacked s
-    → IsStacked (after s (step rules s))
-step_stacked J valid s keeps rules stacked =
-    deed_stacked rules.ratio s (ending s or_else Ticks) keeps.sound stacked (by_end (list_all is_over s.tasks))
-    (step rules s) (step_deed J valid s keeps rules) where
-      by_end : (b : Bool) → Quiet s
-          → IsStacked (after s (then_some b (Prints (End (value_sum (filter is_done s.tasks)))) or_else Ticks))
-      by_end true quiet = subst (λ (tasks : List Task). IsStacked (record { clock = s.clock; tasks = tasks }))
-          (sym (end_same s (value_sum (filter is_done s.tasks)))) stacked
-      by_end false quiet = ticks_stacked s keeps.sound stacked quiet
+-- each step keeps it, where waiting jobs are chosen by deadline
+pub step_stacked : (J : Instance) → IsValid J → (s : State) → Keeps J s → (rules : Rules)
+    → IsByDeadline rules.version → IsStacked s → IsStacked (after s (step rules s))
+step_stacked J valid s keeps rules due stacked = subst (λ m. IsStacked (after s m)) same_step
+    (stacked_after (step rules calm_s) (deed_stacked rules.ratio calm_s (ending s or_else Ticks)
+    (sound_pressing false s keeps.sound) (stacked_pressing false s stacked) (by_end (list_all is_over s.tasks)) refl
+    (step rules calm_s) (step_deed J valid calm_s calm_keeps rules))) where
+      calm_s : State
+      calm_s = pressing false s
+
+      calm_keeps : Keeps J calm_s
+      calm_keeps = record { sound = sound_pressing false s keeps.sound; jobs = keeps.jobs; pressed = λ e. never e }
+
+      same_step : step rules calm_s ≡ step rules s
+      same_step = ap (λ v. finish_or s.clock (due_finish rules.finishes s)
+          (urgent_or rules.ratio v (ending s or_else Ticks)))
+          (ap (seen_by rules.version s) (due false ∙ sym (due s.pressed)))
+
+      stacked_after : (m : Move) → IsStacked (after calm_s m) → IsStacked (after s m)
+      stacked_after (Prints e) it =
+          stacked_pressing (after s (Prints e)).pressed (after calm_s (Prints e)) it
+      stacked_after (Waits n) it = stacked_pressing s.pressed (after calm_s (Waits n)) it
+      stacked_after Ticks it = stacked_pressing s.pressed (after calm_s Ticks) it
+
+      by_end : (b : Bool) → Quiet calm_s
+          → IsStacked (after calm_s (then_some b (Prints (End (value_sum (filter is_done s.tasks)))) or_else Ticks))
+      by_end true quiet = subst (λ (tasks : List Task). IsStacked
+          (record { clock = s.clock; pressed = false; tasks = tasks }))
+          (sym (end_same s (value_sum (filter is_done s.tasks)))) (stacked_pressing false s stacked)
+      by_end false quiet = ticks_stacked calm_s (sound_pressing false s keeps.sound)
+          (stacked_pressing false s stacked) quiet
 
 -- ---- the windows of those that run or are held
 

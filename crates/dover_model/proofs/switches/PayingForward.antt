@@ -335,7 +335,7 @@ module _ (s : State) (sound : IsSound s) (behind loads : Bool) (holds : Option �
         → IsHeld (must_load loads (at (then_some b (Prints (End (value_sum (filter is_done s.tasks)))) or_else Ticks)))
         (holds_then behind holds (at (then_some b (Prints (End (value_sum (filter is_done s.tasks)))) or_else Ticks)))
         (after s (then_some b (Prints (End (value_sum (filter is_done s.tasks)))) or_else Ticks))
-    by_end true = subst (λ (tasks : List Task). IsHeld loads holds (record { clock = s.clock; tasks = tasks }))
+    by_end true = subst (λ (tasks : List Task). IsHeld loads holds (record s { tasks = tasks }))
         (sym (end_same s (value_sum (filter is_done s.tasks)))) is_held
     by_end false = tick_held
 

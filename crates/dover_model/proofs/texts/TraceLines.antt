@@ -13,6 +13,7 @@ use Rattle.std.specs.Option.{option_or}
 use Rattle.dover_model.proofs.texts.Fields.{HasNoSpace, fields_of-line_of, decimals-HasNoSpace, numerals-decimals}
 use Rattle.dover_model.proofs.lists.Members.{some_same}
 use Rattle.dover_model.proofs.lists.Tests.{none_is_some}
+use Rattle.dover_model.specs.declared.events.Version.TheVariants.{Four}
 
 -- the item that a line was written from, if it is one
 abbrev pub item_of_line : TraceLine → Option Item
@@ -103,11 +104,14 @@ version_back _ = refl
 
 -- and its number from it
 pub version_from : (n : ℕ) (v : Version) → version_of_number n ≡ Some v → version_number v ≡ n
-version_from n v = by (n == 1) (n == 2) (n == 3) refl refl refl where
-  by : (a b c : Bool) → (n == 1) ≡ a → (n == 2) ≡ b → (n == 3) ≡ c
-      → cond a (Some One) (cond b (Some Two) (then_some c Three)) ≡ Some v → version_number v ≡ n
-  by true b c one x y read = subst (λ w. version_number w ≡ n) (some_same One v read) (sym (eqb-true n 1 one))
-  by false true c x two y read = subst (λ w. version_number w ≡ n) (some_same Two v read) (sym (eqb-true n 2 two))
-  by false false true x y three read =
+version_from n v = by (n == 1) (n == 2) (n == 3) (n == 4) refl refl refl refl where
+  by : (a b c d : Bool) → (n == 1) ≡ a → (n == 2) ≡ b → (n == 3) ≡ c → (n == 4) ≡ d
+      → cond a (Some One) (cond b (Some Two) (cond c (Some Three) (then_some d Four))) ≡ Some v
+      → version_number v ≡ n
+  by true b c d one x y z read = subst (λ w. version_number w ≡ n) (some_same One v read) (sym (eqb-true n 1 one))
+  by false true c d x two y z read = subst (λ w. version_number w ≡ n) (some_same Two v read) (sym (eqb-true n 2 two))
+  by false false true d x y three z read =
       subst (λ w. version_number w ≡ n) (some_same Three v read) (sym (eqb-true n 3 three))
-  by false false false x y z read = none_is_some read
+  by false false false true x y z four read =
+      subst (λ w. version_number w ≡ n) (some_same Four v read) (sym (eqb-true n 4 four))
+  by false false false false x y z w read = none_is_some read

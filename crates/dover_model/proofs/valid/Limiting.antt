@@ -4,6 +4,7 @@ use Rattle.dover_model.specs.Common.{Instance, IsListable, IsValid, most_items, 
 use Rattle.dover_model.specs.Common.{Version, One, Three, Session, may_finish_early, most_lines_in}
 use Rattle.dover_model.proofs.lists.Tests.{never}
 use Rattle.dover_model.proofs.valid.ValidParts.{valid_parts}
+use Rattle.dover_model.specs.declared.events.Version.TheVariants.{Four}
 
 -- no version has more jobs than Three
 pub jobs_most : (v : Version) → most_jobs v ≤ 4_000_000_000
@@ -28,10 +29,12 @@ lines_most_in (Some S) = lines_most S.rules.version
 -- the versions in which no job finishes early have the limits of Two
 few_jobs : (v : Version) → may_finish_early v ≡ false → most_jobs v ≤ 1_000_000
 few_jobs Three former = never (sym former)
+few_jobs Four former = never (sym former)
 few_jobs _ former = omega arith
 
 small_total : (v : Version) → may_finish_early v ≡ false → most_total v ≤ 10_000_000_000_000
 small_total Three former = never (sym former)
+small_total Four former = never (sym former)
 small_total _ former = omega arith
 
 -- no version has fewer jobs than One
