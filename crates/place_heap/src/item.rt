@@ -2,7 +2,7 @@
 ghost use Rattle.std.specs.Prelude.{◌≡◌, ◌+◌, ◌<◌, ◌^◌};
 ghost use Rattle.place_heap.specs.Items.{ItemFacts, is_before};
 
-use crate::rank::{Rank, ShortRank};
+use crate::rank::{LongRank, Rank, ShortRank};
 use comparison_count::Comparisons;
 use std::alloc::AllocError;
 use std::marker::Model;
@@ -92,5 +92,17 @@ impl Item<ShortRank> {
         ensures { result ≡ self.now.key }
     {
         self.rank.key()
+    }
+}
+
+impl Item<LongRank> {
+    /// The item of these four numbers.
+    #[inline(always)]
+    pub fn long(key: u128, tie: u128, number: u32, place: u32) -> Item<LongRank>
+        requires tie { tie < 2 ^ 76 }
+        requires place { place < 2 ^ 20 }
+        ensures { result ≡ record { key = key; tie = tie; number = number; place = place } }
+    {
+        Item::of(LongRank::new(key, tie, number, place))
     }
 }

@@ -9,5 +9,5 @@ mod sift;
 
 pub use heap::Heap;
 pub use item::Item;
-pub use orders::{items_come_as_entries, tie_of};
-pub use rank::{Rank, ShortRank};
+pub use orders::{dense_items_come_as_jobs, items_come_as_entries, tie_of};
+pub use rank::{LongRank, Rank, ShortRank};

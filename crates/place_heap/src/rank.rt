@@ -1,8 +1,8 @@
 //! How the four numbers of an item are kept.
 ghost use Rattle.std.specs.Prelude.{◌≡◌, ◌*◌, ◌+◌, ◌<◌, ◌^◌};
 ghost use Rattle.std.proofs.Common.{ap};
-ghost use Rattle.place_heap.specs.Items.{ItemFacts, is_before, rank_of, facts_of};
-ghost use Rattle.place_heap.specs.Ranks.{back_in_one};
+ghost use Rattle.place_heap.specs.Items.{ItemFacts, is_before, rank_of, facts_of, low_of, facts_in};
+ghost use Rattle.place_heap.specs.Ranks.{back_in_one, back_in_two};
 
 use std::mem::size_of;
 
@@ -80,5 +80,47 @@ impl Rank for ShortRank {
     #[inline(always)]
     fn is_before(self, other: ShortRank) -> bool {
         self.rank < other.rank
+    }
+}
+
+/// A key below 2^128 in one number, and a tie below 2^76 in another with the rest.
+#[derive(Clone, Copy)]
+pub struct LongRank {
+    high: u128,
+    low: u128,
+}
+
+const _: () = prove!(size_of::<LongRank>() == 32);
+
+impl LongRank {
+    /// The rank of these four numbers.
+    #[inline(always)]
+    pub(crate) fn new(key: u128, tie: u128, number: u32, place: u32) -> LongRank
+        requires tie { tie < 2 ^ 76 }
+        requires place { place < 2 ^ 20 }
+        ensures { facts_in result.high result.low ≡ record { key = key; tie = tie; number = number; place = place } }
+    {
+        LongRank {
+            high: key,
+            low: tie * TIE + (number as u128 * NUMBER + place as u128),
+        }
+    }
+}
+
+impl Rank for LongRank {
+    ghost facts = { λ r. facts_in r.high r.low };
+
+    ghost of_facts = { λ facts. record { high = facts.key; low = low_of facts } };
+
+    ghost back = { λ r. ap (λ n. record { high = r.high; low = n }) (back_in_two r.high r.low) };
+
+    #[inline(always)]
+    fn place(self) -> u32 {
+        (self.low % TIE % NUMBER) as u32
+    }
+
+    #[inline(always)]
+    fn is_before(self, other: LongRank) -> bool {
+        self.high < other.high || (self.high == other.high && self.low < other.low)
     }
 }
