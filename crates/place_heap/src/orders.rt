@@ -31,8 +31,8 @@ pub fn items_come_as_entries()
         → AreOrderedAs v a b p q }
 {}
 
-/// Items by density come as the model orders waiting jobs in a pressed state of version Four, at whatever places they are
-/// kept.
+/// Items by density come as the model orders waiting jobs in a pressed state of version Four, at whatever places they
+/// are kept.
 pub fn dense_items_come_as_jobs()
     ensures { (a b : Task) (p q : ℕ) → a.number ≢ b.number → IsJob a.job → IsJob b.job
         → is_before (dense_item p a) (dense_item q b) ≡ waiting_order Four true a b }
