@@ -1,16 +1,17 @@
 -- What is promised of a task that is told sure.
 use Rattle.std.proofs.Common.{◌≡◌, ℕ, zero, suc, ◌+◌, ◌*◌, ◌≤◌, ◌<◌, ◌↔◌, List, [], ◌∷◌, ◌++◌, length, set, refl, sym}
 use Rattle.std.proofs.Common.{ap, ◌∙◌, Bool, true, false, cond, eqb, arith, replicate, nat_le, ◌&&◌, sum_by, eq-eqb}
-use Rattle.std.proofs.Common.{get_or-set_same, not, ◌⊎◌, inl, inr, subst}
+use Rattle.std.proofs.Common.{get_or-set_same, not, inl, inr, subst}
 use Rattle.std.specs.List.{enumerate_from}
 use Rattle.std.proofs.lemmas.Bool.{and_parts}
 use Rattle.std.proofs.lemmas.List.Sums.{sum_by-cons}
 use Rattle.dover_model.specs.Common.{Fraction, IsRatio, Instance, IsValid, JobFacts, most_value, IsHeavy, is_heavy}
 use Rattle.dover_model.specs.Common.{numbered, IsMember, AreOfStreams, IsCompleted, IsOfStream, Stream, is_spread}
 use Rattle.dover_model.specs.Common.{stream_at, blank_stream, CanStack, worth_of, most_fitting, most_beside}
-use Rattle.dover_model.specs.Common.{most_crossing, others, best_of, by_density, IsByDeadline, IsSure}
+use Rattle.dover_model.specs.Common.{most_crossing, others, best_of, by_density, IsSure}
 use Rattle.dover_model.specs.declared.events.Version.{Version}
-use Rattle.dover_model.proofs.sure.Streams.{sure_streams, sure_streams_in_all, sure_of_stream, heavy_by_sum, heavy_by_sets}
+use Rattle.dover_model.proofs.sure.Streams.{sure_streams, sure_streams_in_all, sure_of_stream, heavy_by_sum}
+use Rattle.dover_model.proofs.sure.Streams.{heavy_by_sets}
 use Rattle.root_compare.specs.Least.{least_heavy}
 use Rattle.root_compare.proofs.Least.{heavy_where}
 use Rattle.task_words.proofs.sure.Beside.{but}

@@ -10,8 +10,8 @@ use crate::sure::densities::{Sparse, stays_within};
 use crate::sure::sets::most_fitting;
 use crate::sure::sums::Sums;
 use crate::tasks::PeriodicTask;
-use dover_model::{Ratio, Version};
 use dover_model::jobs::MOST_VALUE;
+use dover_model::{Ratio, Version};
 use root_compare::{heavy, least_heavy};
 
 /// Of so many jobs of others all sets are tried.

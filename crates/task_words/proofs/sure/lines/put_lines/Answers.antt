@@ -29,7 +29,7 @@ pub returns-in-Err-clause-text : goal.returns-in-Err-clause-text
 returns-in-Err-clause-text g c =
     subst (PutsThrough _ _ _ _ _)
     (all (sure_line (rules_with c.args.together.now.ratio c.args.together.now.version)
-      (streams_of c.args.tasks.now)) blank_stream (streams_of c.args.tasks.now)
+    (streams_of c.args.tasks.now)) blank_stream (streams_of c.args.tasks.now)
     c.loop-number.number (omega (arith, c.loop-number-test.true, length-map c.args.tasks.now stream_of)))
     (puts_behind _ _ _ _ _ _ _ _ _ c.loop-number.invariant.passes
     (puts_cut _ _ _ _ _ _ _

@@ -14,7 +14,8 @@ is_spread-requires c = (small_there c.args.tasks.now c.requires.small c.args.num
 
 pub returns-then-against-from : goal.returns-then-against-from
 returns-then-against-from c =
-    where_spread (rules_with c.args.together.now.ratio c.args.together.now.version) (streams_of c.args.tasks.now) c.args.number
+    where_spread (rules_with c.args.together.now.ratio c.args.together.now.version) (streams_of c.args.tasks.now)
+    c.args.number
     (ap is_spread (stream_there c.args.tasks.now c.args.number c.requires.number)
     ∙ sym c.is_spread.ensures ∙ c.if-not-is_spread.false) _
     (told_beyond c.args.together.now.ratio (streams_of c.args.tasks.now) c.args.number
@@ -30,7 +31,8 @@ heavy-requires c = record {
 
 pub returns : goal.returns
 returns c =
-    where_spread (rules_with c.args.together.now.ratio c.args.together.now.version) (streams_of c.args.tasks.now) c.args.number
+    where_spread (rules_with c.args.together.now.ratio c.args.together.now.version) (streams_of c.args.tasks.now)
+    c.args.number
     (ap is_spread (stream_there c.args.tasks.now c.args.number c.requires.number)
     ∙ sym c.is_spread.ensures ∙ c.if-not-is_spread.false) _
     (where_light c.args.together.now.ratio (streams_of c.args.tasks.now) c.args.number
