@@ -3,7 +3,7 @@ use Rattle.std.proofs.Common.{◌≡◌, ◌≢◌, ℕ, ◌-◌, ◌≤◌, Boo
 use Rattle.dover_model.specs.Common.{most_value, wins_tie}
 use Rattle.dover_model.specs.declared.events.Entry.{Entry}
 use Rattle.dover_model.specs.declared.events.Version.{Version}
-use Rattle.dover_model.specs.declared.events.Version.TheVariants.{One, Two, Three}
+use Rattle.dover_model.specs.declared.events.Version.TheVariants.{One, Two, Three, Four}
 use Rattle.place_heap.specs.Items.{less_or}
 use Rattle.place_heap.specs.Orders.{tie_of, AreOrderedAs}
 
@@ -19,6 +19,7 @@ ties_agree : (v : Version) (a b : Entry) (t : Bool) → a.number ≢ b.number �
 ties_agree One a b t apart a_fits b_fits = tie_one a.number b.number t apart
 ties_agree Two a b t apart a_fits b_fits = tie_two most_value a.value b.value a.number b.number t a_fits b_fits apart
 ties_agree Three a b t apart a_fits b_fits = tie_two most_value a.value b.value a.number b.number t a_fits b_fits apart
+ties_agree Four a b t apart a_fits b_fits = tie_two most_value a.value b.value a.number b.number t a_fits b_fits apart
 
 pub ordered_as : (v : Version) (a b : Entry) (p q : ℕ) → a.number ≢ b.number → a.value ≤ most_value
     → b.value ≤ most_value

@@ -2,7 +2,7 @@
 use Rattle.std.specs.Prelude.{◌≡◌, ℕ, ◌-◌}
 use Rattle.dover_model.specs.Common.{most_value, is_due_before, is_start_before}
 use Rattle.dover_model.specs.declared.events.Version.{Version}
-use Rattle.dover_model.specs.declared.events.Version.TheVariants.{One, Two, Three}
+use Rattle.dover_model.specs.declared.events.Version.TheVariants.{One, Two, Three, Four}
 use Rattle.dover_model.specs.declared.events.Entry.{Entry}
 use Rattle.place_heap.specs.Items.{ItemFacts, is_before}
 
@@ -11,6 +11,7 @@ abbrev pub tie_of : Version → ℕ → ℕ
 tie_of One value = 0
 tie_of Two value = most_value - value
 tie_of Three value = most_value - value
+tie_of Four value = most_value - value
 
 -- the item of an entry at a place, by its deadline
 abbrev pub due_item : Version → ℕ → Entry → ItemFacts

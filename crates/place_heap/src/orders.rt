@@ -16,7 +16,7 @@ pub fn tie_of(version: Version, value: u64) -> u32
 {
     match version {
         Version::One => 0,
-        Version::Two | Version::Three => (MOST_VALUE - value) as u32,
+        Version::Two | Version::Three | Version::Four => (MOST_VALUE - value) as u32,
     }
 }
 
