@@ -21,8 +21,7 @@ use Rattle.held_stack.specs.Stack.{IsByDeadline, IsDueBeforeAll}
 use Rattle.waiting_pool.specs.Pools.{HaveOwnNumbers}
 use Rattle.ready_jobs.specs.Parts.{Parted, HaveRole, HaveRoles, ready_of, state_of, head_of}
 use Rattle.waiting_pool.proofs.Reordering.{first_is, first_only}
-use Rattle.ready_jobs.proofs.Views.{own_some}
-use Rattle.waiting_pool.proofs.Pooling.{apart_or_one}
+use Rattle.ready_jobs.proofs.Views.{own_some, apart_or_one}
 
 -- ---- those that pass
 
@@ -186,7 +185,8 @@ module _ (v : Version) (s : State) (tasks : List Task) (own : HaveOwnNumbers tas
         (filter (is_at_latest_start s) tasks) x
         (filter_member (is_at_latest_start s) tasks x top.0 (eq-eqb (latest_start x) s.clock same))
         (λ y m. top.1 y (member_filter (is_at_latest_start s) tasks y m).0)
-        (apart_or_one _ (strict_by (λ e. e.latest) v) _ (own_some (is_at_latest_start s) tasks own))
+        (apart_or_one (starts_before v) (λ a b. (strict_by (λ e. e.latest) v).total (entry_of a) (entry_of b)) _
+        (own_some (is_at_latest_start s) tasks own))
 
   -- the first of those at their latest start, by the latest start of the first of all
   none_by : (o : Option Task) → first (starts_before v) tasks ≡ o → option_map latest_start o ≡ None
