@@ -3,12 +3,12 @@ pub mod Calculus
 pub mod LeastBound
 pub mod Counting
 pub mod Books
+pub mod Augmented
 pub mod Booking
 pub mod Closing
 pub mod Booked
 pub mod BookedRun
 pub mod BoundLaws
 pub mod LongerJobs
-pub mod Augmented
 pub mod SlowerLaws
 pub mod GreatestLaws

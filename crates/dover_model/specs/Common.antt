@@ -62,6 +62,7 @@ pub use Rattle.dover_model.specs.Leading.{WaitsUntil}
 pub use Rattle.dover_model.specs.Online.{finishes_up_to, known_at, printed_up_to}
 pub use Rattle.dover_model.specs.Sure.{AreOfStreams, best_of, blank_stream, CanStack, is_spread, IsCompleted, IsHeavyAt}
 pub use Rattle.dover_model.specs.Sure.{IsOfStream, IsSure, most_beside, most_crossing, most_fitting, NoneDisplaces}
+pub use Rattle.dover_model.specs.Sure.{NoneMeets}
 pub use Rattle.dover_model.specs.Sure.{others, Stream, stream_at, worth_beside, worth_of}
 pub use Rattle.dover_model.specs.Underload.{SomeRuns, takes_or_abandons}
 pub use Rattle.dover_model.specs.WaitingMoves.{enters, leaves, role_then, waits_then}

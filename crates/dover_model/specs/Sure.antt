@@ -65,6 +65,12 @@ abbrev pub NoneDisplaces : Instance → JobFacts → Type 0
 NoneDisplaces J j = Each (λ i. j.release + i.work ≤ i.deadline → i.deadline < j.deadline + i.work
     → IsHeavy J.rules.ratio i.value j.value → ⊥) J.jobs
 
+-- no job that may meet this one is heavy against it: none is due later than its release whose latest start, where it
+-- has had nothing, lies before its deadline
+abbrev pub NoneMeets : Instance → JobFacts → Type 0
+NoneMeets J j = Each (λ i. j.release < i.deadline → i.deadline < j.deadline + i.work
+    → IsHeavy J.rules.ratio i.value j.value → ⊥) J.jobs
+
 -- the run completes the job of this number, in time
 pub record IsCompleted (J : Instance) (n : ℕ) (j : JobFacts) : Type 0 where
   pub tick : ℕ

@@ -168,7 +168,7 @@ pub struct Task {
 }
 
 /// A printed step. `at` is its tick, and the other fields but `job` and `value` are numbers of jobs.
-#[derive(Clone, Copy, PartialEq, Eq)]
+#[derive(Clone, Copy)]
 pub enum Event {
     /// The job of this number is released, at the tick that the job names.
     Release { number: u32, job: Job },

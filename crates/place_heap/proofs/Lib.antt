@@ -8,3 +8,4 @@ pub mod Tables
 pub mod Keeping
 pub mod First
 pub mod Tying
+pub mod Densities

@@ -1,9 +1,11 @@
 -- The items of entries come in the model's orders.
-use Rattle.std.proofs.Common.{◌≡◌, ◌≢◌, ℕ, ◌-◌, ◌≤◌, Bool, nat_lt, ap, arith, ◌||◌, ◌&&◌, ◌==◌}
-use Rattle.dover_model.specs.Common.{most_value, wins_tie}
+use Rattle.std.proofs.Common.{◌≡◌, ◌≢◌, ℕ, ◌-◌, ◌≤◌, Bool, true, false, nat_lt, refl, ap, arith, ◌||◌, ◌&&◌, ◌==◌}
+use Rattle.dover_model.specs.Common.{most_value, wins_tie, entry_of, due_first, starts_before}
 use Rattle.dover_model.specs.declared.events.Entry.{Entry}
 use Rattle.dover_model.specs.declared.events.Version.{Version}
 use Rattle.dover_model.specs.declared.events.Version.TheVariants.{One, Two, Three, Four}
+use Rattle.dover_model.specs.declared.events.Task.{Task}
+use Rattle.dover_model.proofs.steps.EntryOrders.{strict_by}
 use Rattle.place_heap.specs.Items.{less_or}
 use Rattle.place_heap.specs.Orders.{tie_of, AreOrderedAs}
 
@@ -27,3 +29,15 @@ pub ordered_as : (v : Version) (a b : Entry) (p q : ℕ) → a.number ≢ b.numb
 ordered_as v a b p q apart a_fits b_fits =
     let ties = ties_agree v a b (nat_lt p q) apart a_fits b_fits in
     record { due = ap (less_or a.deadline b.deadline) ties; latest = ap (less_or a.latest b.latest) ties }
+
+-- ---- no job comes before itself
+
+itself : (b : Bool) → (b ≡ true → b ≡ false) → b ≡ false
+itself true one_way = one_way refl
+itself false one_way = refl
+
+pub due_itself : (v : Version) (t : Task) → due_first v t t ≡ false
+due_itself v t = itself (due_first v t t) ((strict_by (λ e. e.deadline) v).one_way (entry_of t) (entry_of t))
+
+pub latest_itself : (v : Version) (t : Task) → starts_before v t t ≡ false
+latest_itself v t = itself (starts_before v t t) ((strict_by (λ e. e.latest) v).one_way (entry_of t) (entry_of t))

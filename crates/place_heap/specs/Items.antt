@@ -28,3 +28,16 @@ facts_of rank = record {
   number = rank % 2 ^ 84 % 2 ^ 52 / 2 ^ 20;
   place = rank % 2 ^ 84 % 2 ^ 52 % 2 ^ 20;
 }
+
+-- the tie, the number and the place as one, of 76, 32 and 20 binary digits
+abbrev pub low_of : ItemFacts → ℕ
+low_of i = i.tie * 2 ^ 52 + (i.number * 2 ^ 20 + i.place)
+
+-- the key, and the other three in one
+abbrev pub facts_in : ℕ → ℕ → ItemFacts
+facts_in key low = record {
+  key = key;
+  tie = low / 2 ^ 52;
+  number = low % 2 ^ 52 / 2 ^ 20;
+  place = low % 2 ^ 52 % 2 ^ 20;
+}

@@ -1,4 +1,5 @@
 pub mod Items
+pub mod Ranks
 pub mod Orders
 pub mod Table
 pub mod HeapOrder

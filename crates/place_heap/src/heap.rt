@@ -9,6 +9,7 @@ ghost use Rattle.place_heap.specs.Kept.{IsKept};
 ghost use Rattle.place_heap.specs.HeapOrder.{IsHeap};
 
 use crate::item::Item;
+use crate::rank::Rank;
 use crate::sift::{NOWHERE, put_last, put_last_at, settle, sift_up, take_last};
 use comparison_count::Comparisons;
 use dover_model::Memory;
@@ -18,12 +19,12 @@ use std::sync::ledger::Ledger;
 
 /// A set of items at places of their own, from which the first and that of a place are taken in logarithmic time.
 #[derive(Drop)]
-pub struct Heap {
-    items: Vec<Item>,
+pub struct Heap<R: Rank> {
+    items: Vec<Item<R>>,
     positions: Vec<u32>,
 }
 
-impl Model for Heap {
+impl<R: Rank> Model for Heap<R> {
     ghost use Rattle.std.specs.Prelude.{List, Option, vec_capacity};
     ghost use Rattle.place_heap.specs.Items.{ItemFacts};
     ghost use Rattle.place_heap.specs.Table.{table_of};
@@ -36,9 +37,9 @@ impl Model for Heap {
     ghost invariant = { λ h. IsKept h.items.items h.positions.items (vec_capacity h.items) };
 }
 
-impl Heap {
+impl<R: Rank> Heap<R> {
     /// No items, and no places.
-    pub fn new(alloc: Global) -> Heap
+    pub fn new(alloc: Global) -> Heap<R>
         ensures { result ≡ [] }
     {
         Heap {
@@ -85,14 +86,14 @@ impl Heap {
 
     /// The item that comes before all others, if there is any.
     #[inline(always)]
-    pub fn first(&self) -> Option<Item>
+    pub fn first(&self) -> Option<Item<R>>
         ensures { result ≡ first is_before (items_of self.now) }
     {
         self.items.first().copied()
     }
 
     /// Puts an item in at its place, by at most as many comparisons as the length plus one has binary digits.
-    pub fn insert<L: Ledger>(&mut self, item: Item, comparisons: &mut Comparisons<L>)
+    pub fn insert<L: Ledger>(&mut self, item: Item<R>, comparisons: &mut Comparisons<L>)
         requires ready { item.place < length self.old }
         requires free { slice_index_or self.old item.place None ≡ None }
         ensures in_it { self.new ≡ slice_set self.old item.place (Some item) }
@@ -131,10 +132,10 @@ fn position_of(positions: &[u32], place: u32) -> u32
 }
 
 // Puts an item in.
-fn put<L: Ledger>(
-    items: &mut Vec<Item>,
+fn put<R: Rank, L: Ledger>(
+    items: &mut Vec<Item<R>>,
     positions: &mut [u32],
-    item: Item,
+    item: Item<R>,
     comparisons: &mut Comparisons<L>,
 )
     requires room { vec_len items.old < vec_capacity items.old }
@@ -157,8 +158,8 @@ fn put<L: Ledger>(
 }
 
 // Takes the item at a position out.
-fn take_at<L: Ledger>(
-    items: &mut Vec<Item>,
+fn take_at<R: Rank, L: Ledger>(
+    items: &mut Vec<Item<R>>,
     positions: &mut [u32],
     at: usize,
     comparisons: &mut Comparisons<L>,

@@ -2,57 +2,53 @@
 ghost use Rattle.std.specs.Prelude.{◌≡◌, ◌+◌, ◌<◌, ◌^◌};
 ghost use Rattle.place_heap.specs.Items.{ItemFacts, is_before};
 
+use crate::rank::{LongRank, Rank, ShortRank};
 use comparison_count::Comparisons;
+use std::alloc::AllocError;
 use std::marker::Model;
 use std::mem::size_of;
 use std::sync::ledger::Ledger;
 
-// What one of the number, of the tie and of the key counts for in a rank.
-const NUMBER: u128 = 1 << 20;
-
-const TIE: u128 = 1 << 52;
-
-const KEY: u128 = 1 << 84;
-
 /// A job as a heap keeps it: the key and the tie that give its order, its number, and the place where the caller
-/// keeps it. It is one number, so that a comparison is one of two numbers.
-#[derive(Clone, Copy)]
-pub struct Item {
-    rank: u128,
+/// keeps it. The rank says in how many bytes.
+pub struct Item<R: Rank> {
+    rank: R,
 }
 
-const _: () = prove!(size_of::<Item>() == 16);
+impl<R: Rank> Clone for Item<R> {
+    ghost is_clone = { λ x y. y ≡ x };
 
-impl Model for Item {
-    ghost use Rattle.place_heap.specs.Items.{ItemFacts, rank_of, facts_of};
+    ghost is_infallible = { λ _. Unit {0} };
+
+    fn clone(&self) -> Result<Item<R>, AllocError> {
+        Ok(*self)
+    }
+}
+
+impl<R: Rank> Copy for Item<R> {}
+
+const _: () = prove!(size_of::<Item<ShortRank>>() == 16);
+
+impl<R: Rank> Model for Item<R> {
+    ghost use Rattle.std.proofs.Common.{ap};
+    ghost use Rattle.place_heap.specs.Items.{ItemFacts};
 
     ghost Value = { ItemFacts };
 
-    ghost view = { λ i. facts_of i.rank };
+    ghost view = { λ i. R.facts i.rank };
 
-    ghost inverse = { λ facts. record { rank = rank_of facts } };
+    ghost inverse = { λ facts. record { rank = R.of_facts facts } };
+
+    ghost inverse_ok = { λ i _. ap (λ r. record { rank = r }) (R.back i.rank) };
 }
 
-impl Item {
-    /// The item of these four numbers. The ticks of a feed are below 2^40.
+impl<R: Rank> Item<R> {
+    /// The item of these four numbers, as the rank has them.
     #[inline(always)]
-    pub fn new(key: u64, tie: u32, number: u32, place: u32) -> Item
-        requires key { key < 2 ^ 44 }
-        requires place { place < 2 ^ 20 }
-        ensures { result ≡ record { key = key; tie = tie; number = number; place = place } }
+    pub fn of(rank: R) -> Item<R>
+        ensures { result ≡ R.facts rank }
     {
-        Item {
-            rank: key as u128 * KEY
-                + (tie as u128 * TIE + (number as u128 * NUMBER + place as u128)),
-        }
-    }
-
-    /// By what it is compared first.
-    #[inline(always)]
-    pub fn key(&self) -> u64
-        ensures { result ≡ self.now.key }
-    {
-        (self.rank / KEY) as u64
+        Item { rank }
     }
 
     /// Where the caller keeps it.
@@ -61,20 +57,52 @@ impl Item {
         ensures is { result ≡ self.now.place }
         ensures small { result < 2 ^ 20 }
     {
-        (self.rank % KEY % TIE % NUMBER) as u32
+        self.rank.place()
     }
 
     /// Whether it comes before the other, as one step.
     #[inline(always)]
     pub(crate) fn is_before<L: Ledger>(
         &self,
-        other: &Item,
+        other: &Item<R>,
         comparisons: &mut Comparisons<L>,
     ) -> bool
         ensures answer { result ≡ is_before self.now other.now }
         ensures count { comparisons.new ≡ comparisons.old + 1 }
     {
         comparisons.tick();
-        self.rank < other.rank
+        self.rank.is_before(other.rank)
+    }
+}
+
+impl Item<ShortRank> {
+    /// The item of these four numbers. The ticks of a feed are below 2^40.
+    #[inline(always)]
+    pub fn new(key: u64, tie: u32, number: u32, place: u32) -> Item<ShortRank>
+        requires key { key < 2 ^ 44 }
+        requires place { place < 2 ^ 20 }
+        ensures { result ≡ record { key = key; tie = tie; number = number; place = place } }
+    {
+        Item::of(ShortRank::new(key, tie, number, place))
+    }
+
+    /// By what it is compared first.
+    #[inline(always)]
+    pub fn key(&self) -> u64
+        ensures { result ≡ self.now.key }
+    {
+        self.rank.key()
+    }
+}
+
+impl Item<LongRank> {
+    /// The item of these four numbers.
+    #[inline(always)]
+    pub fn long(key: u128, tie: u128, number: u32, place: u32) -> Item<LongRank>
+        requires tie { tie < 2 ^ 76 }
+        requires place { place < 2 ^ 20 }
+        ensures { result ≡ record { key = key; tie = tie; number = number; place = place } }
+    {
+        Item::of(LongRank::new(key, tie, number, place))
     }
 }

@@ -4,8 +4,10 @@
 pub mod heap;
 pub mod item;
 pub mod orders;
+pub mod rank;
 mod sift;
 
 pub use heap::Heap;
 pub use item::Item;
-pub use orders::{items_come_as_entries, tie_of};
+pub use orders::{dense_items_come_as_jobs, items_come_as_entries, tie_of};
+pub use rank::{LongRank, Rank, ShortRank};

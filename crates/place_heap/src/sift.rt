@@ -7,6 +7,7 @@ ghost use Rattle.place_heap.specs.Table.{IsIndexed, table_of};
 ghost use Rattle.place_heap.specs.HeapOrder.{IsAhead, IsHeap, IsHeapUp, IsHeapSave};
 
 use crate::item::Item;
+use crate::rank::Rank;
 use comparison_count::Comparisons;
 use std::sync::ledger::Ledger;
 
@@ -15,7 +16,7 @@ pub(crate) const NOWHERE: u32 = u32::MAX;
 
 // Writes an item at a position, and the position at its place.
 #[inline(always)]
-fn set_at(items: &mut [Item], positions: &mut [u32], at: usize, item: Item)
+fn set_at<R: Rank>(items: &mut [Item<R>], positions: &mut [u32], at: usize, item: Item<R>)
     requires at { at < length items.old }
     requires few { length items.old < 2 ^ 32 }
     requires ready { item.place < length positions.old }
@@ -28,8 +29,8 @@ fn set_at(items: &mut [Item], positions: &mut [u32], at: usize, item: Item)
 
 /// Moves an item up to where its parent comes before it.
 #[inline(always)]
-pub(crate) fn sift_up<L: Ledger>(
-    items: &mut [Item],
+pub(crate) fn sift_up<R: Rank, L: Ledger>(
+    items: &mut [Item<R>],
     positions: &mut [u32],
     from: usize,
     comparisons: &mut Comparisons<L>,
@@ -60,8 +61,8 @@ pub(crate) fn sift_up<L: Ledger>(
 
 // Of two positions the one whose item comes first.
 #[inline(always)]
-fn earlier<L: Ledger>(
-    items: &[Item],
+fn earlier<R: Rank, L: Ledger>(
+    items: &[Item<R>],
     left: usize,
     right: usize,
     comparisons: &mut Comparisons<L>,
@@ -84,7 +85,11 @@ fn earlier<L: Ledger>(
 // Of four positions, from this one on, the one whose item comes first. Two pairs are compared, then their first ones,
 // since that has no unpredictable branch.
 #[inline(always)]
-fn first_of_four<L: Ledger>(items: &[Item], low: usize, comparisons: &mut Comparisons<L>) -> usize
+fn first_of_four<R: Rank, L: Ledger>(
+    items: &[Item<R>],
+    low: usize,
+    comparisons: &mut Comparisons<L>,
+) -> usize
     requires { low + 4 ≤ length items.now }
     ensures low { low ≤ result }
     ensures high { result < low + 4 }
@@ -99,7 +104,11 @@ fn first_of_four<L: Ledger>(items: &[Item], low: usize, comparisons: &mut Compar
 
 // Of the positions from this one on, of which there are fewer than four, the one whose item comes first.
 #[inline(always)]
-fn first_of_few<L: Ledger>(items: &[Item], low: usize, comparisons: &mut Comparisons<L>) -> usize
+fn first_of_few<R: Rank, L: Ledger>(
+    items: &[Item<R>],
+    low: usize,
+    comparisons: &mut Comparisons<L>,
+) -> usize
     requires some { low < length items.now }
     requires few { length items.now < low + 4 }
     ensures low { low ≤ result }
@@ -119,7 +128,11 @@ fn first_of_few<L: Ledger>(items: &[Item], low: usize, comparisons: &mut Compari
 
 // The child that comes first.
 #[inline(always)]
-fn first_child<L: Ledger>(items: &[Item], at: usize, comparisons: &mut Comparisons<L>) -> usize
+fn first_child<R: Rank, L: Ledger>(
+    items: &[Item<R>],
+    at: usize,
+    comparisons: &mut Comparisons<L>,
+) -> usize
     requires child { at * 4 + 1 < length items.now }
     requires few { length items.now < 2 ^ 32 }
     ensures low { at * 4 + 1 ≤ result }
@@ -139,8 +152,8 @@ fn first_child<L: Ledger>(items: &[Item], at: usize, comparisons: &mut Compariso
 // first moves up. Answers where it ends. Nothing is compared with the item itself, since a heap's last one seldom
 // belongs higher than that.
 #[inline(always)]
-fn sink<L: Ledger>(
-    items: &mut [Item],
+fn sink<R: Rank, L: Ledger>(
+    items: &mut [Item<R>],
     positions: &mut [u32],
     from: usize,
     comparisons: &mut Comparisons<L>,
@@ -169,8 +182,8 @@ fn sink<L: Ledger>(
 }
 
 /// Moves an item up or down to where it belongs.
-pub(crate) fn settle<L: Ledger>(
-    items: &mut [Item],
+pub(crate) fn settle<R: Rank, L: Ledger>(
+    items: &mut [Item<R>],
     positions: &mut [u32],
     at: usize,
     comparisons: &mut Comparisons<L>,
@@ -189,7 +202,7 @@ pub(crate) fn settle<L: Ledger>(
 }
 
 /// Puts an item last.
-pub(crate) fn put_last(items: &mut Vec<Item>, positions: &mut [u32], item: Item)
+pub(crate) fn put_last<R: Rank>(items: &mut Vec<Item<R>>, positions: &mut [u32], item: Item<R>)
     requires room { vec_len items.old < vec_capacity items.old }
     requires few { length items.old.items + 1 < 2 ^ 32 }
     requires ready { item.place < length positions.old }
@@ -207,7 +220,7 @@ pub(crate) fn put_last(items: &mut Vec<Item>, positions: &mut [u32], item: Item)
 }
 
 /// Takes the last item off.
-pub(crate) fn take_last(items: &mut Vec<Item>, positions: &mut [u32])
+pub(crate) fn take_last<R: Rank>(items: &mut Vec<Item<R>>, positions: &mut [u32])
     requires some { 0 < length items.old.items }
     requires few { length items.old.items < 2 ^ 32 }
     requires indexed { IsIndexed items.old.items positions.old }
@@ -224,7 +237,7 @@ pub(crate) fn take_last(items: &mut Vec<Item>, positions: &mut [u32])
 }
 
 /// Takes the item at a position out, and puts the last one there.
-pub(crate) fn put_last_at(items: &mut Vec<Item>, positions: &mut [u32], at: usize)
+pub(crate) fn put_last_at<R: Rank>(items: &mut Vec<Item<R>>, positions: &mut [u32], at: usize)
     requires at { at + 1 < length items.old.items }
     requires few { length items.old.items < 2 ^ 32 }
     requires indexed { IsIndexed items.old.items positions.old }

@@ -4,7 +4,7 @@ ghost use Rattle.std.specs.Prelude.{◌≡◌, ◌<◌, ◌^◌, length, IfSome}
 use comparison_count::Comparisons;
 use dover_model::Version;
 use dover_model::jobs::MOST_VALUE;
-use place_heap::{Heap, Item, tie_of};
+use place_heap::{Heap, Item, ShortRank, tie_of};
 use std::marker::Brand;
 use std::sync::ledger::{Blank, Ledger};
 
@@ -32,7 +32,7 @@ fn drawn(state: &mut u64, place: u32) -> Row
 }
 
 // Whether the heap has as many items as are listed, and the first of them is its first.
-fn is_as_listed(heap: &Heap, rows: &[Row]) -> bool {
+fn is_as_listed(heap: &Heap<ShortRank>, rows: &[Row]) -> bool {
     let mut first = FREE;
     let mut count: u64 = 0;
     for row in rows {
@@ -52,7 +52,7 @@ fn is_as_listed(heap: &Heap, rows: &[Row]) -> bool {
 
 // Whether the heap, which begins empty, answers as the list of its items does, round by round.
 fn goes_as_listed<L: Ledger>(
-    heap: &mut Heap,
+    heap: &mut Heap<ShortRank>,
     rows: &mut [Row],
     comparisons: &mut Comparisons<L>,
 ) -> bool
@@ -104,7 +104,7 @@ static TIES: [(Version, Due, Due, u32); 5] = [
 ];
 
 // The item of a job that is small enough.
-fn item(version: Version, job: Due, place: u32) -> Option<Item>
+fn item(version: Version, job: Due, place: u32) -> Option<Item<ShortRank>>
     requires { place < 2 ^ 20 }
     ensures { IfSome result (λ item. item.place ≡ place) }
 {
@@ -116,7 +116,7 @@ fn item(version: Version, job: Due, place: u32) -> Option<Item>
 
 // Whether of each two jobs this one comes first. None is in the heap then.
 fn come_so<L: Ledger>(
-    heap: &mut Heap,
+    heap: &mut Heap<ShortRank>,
     rows: &[(Version, Due, Due, u32)],
     comparisons: &mut Comparisons<L>,
 ) -> bool

@@ -2,40 +2,34 @@
 use Rattle.std.proofs.Common.{◌≡◌, ℕ, zero, suc, ◌+◌, ◌-◌, ◌≤◌, ◌<◌, ◌⊎◌, inl, inr, List, [], ◌∷◌, ◌++◌, length, set}
 use Rattle.std.proofs.Common.{get_or, replicate, refl, sym, ap, ◌∙◌, subst, Bool, true, false, cond, arith, Option}
 use Rattle.std.proofs.Common.{Some, None, option_map, ◌==◌, is_some, Result, Ok, Err, OnOk, IsErr, slice_get, sum_by}
-use Rattle.std.proofs.Common.{count_by, eq-eqb, ne_eqb, append_assoc, length-append}
+use Rattle.std.proofs.Common.{if◌then◌else◌, fold, count_by, eq-eqb, ne_eqb, append_assoc, length-append}
 use Rattle.std.proofs.lemmas.Bool.{cases_eq}
 use Rattle.std.proofs.lemmas.List.{length-replicate, replicate-append-replicate}
 use Rattle.std.proofs.lemmas.List.Sums.{sum_by-cons, sum_by-append}
-use Rattle.dover_model.specs.Common.{most_value, IsStrictOrder, entry_of, is_due_before, is_start_before, first}
-use Rattle.dover_model.specs.Common.{due_first, starts_before, earlier, IsMember, Each, EachTwo}
+use Rattle.dover_model.specs.Common.{IsJob, entry_of, first, due_first, starts_before, waiting_order, by_density}
+use Rattle.dover_model.specs.Common.{earlier, IsMember, Each, EachTwo}
 use Rattle.dover_model.specs.declared.events.Version.{Version}
+use Rattle.dover_model.specs.declared.events.Version.TheVariants.{One, Two, Three, Four}
 use Rattle.dover_model.specs.declared.events.Task.{Task}
-use Rattle.dover_model.specs.declared.events.Entry.{Entry}
-use Rattle.dover_model.proofs.steps.EntryOrders.{strict_by}
+use Rattle.dover_model.proofs.valid.JobLimits.{job_limits}
 use Rattle.dover_model.proofs.lists.Members.{some_same, reduce_none}
 use Rattle.dover_model.proofs.lists.Tests.{never, none_is_some}
 use Rattle.place_heap.specs.Items.{ItemFacts, is_before}
-use Rattle.place_heap.specs.Orders.{due_item, latest_item}
+use Rattle.place_heap.specs.Orders.{due_item, latest_item, dense_item}
 use Rattle.place_heap.specs.Table.{items_of}
-use Rattle.place_heap.proofs.Ranking.{one_way, onward}
-use Rattle.place_heap.proofs.Tying.{ordered_as}
+use Rattle.place_heap.proofs.Ranking.{one_way, onward, total}
+use Rattle.place_heap.proofs.Tying.{ordered_as, due_itself, latest_itself}
+use Rattle.place_heap.proofs.Densities.{dense_law, dense_itself}
 use Rattle.waiting_pool.specs.Reordered.{IsReordered}
 use Rattle.waiting_pool.specs.Pools.{HaveOwnNumbers, AreModest, jobs_at, items_from, times, is_free, AreFree, HasItems}
-use Rattle.waiting_pool.specs.Pools.{IsPool, HasRoom}
+use Rattle.waiting_pool.specs.Pools.{IsPool, HasRoom, IsPlaceOf, item_of, item_by_deadline, item_by_latest}
+use Rattle.waiting_pool.specs.Pools.{item_by_density, orders_of}
 use Rattle.waiting_pool.proofs.Reordering.{same_order, exchanged, both_parts, turned, as_many, first_is, first_only}
 
 -- what is said of a success says nothing of an error
 pub not_ok : {T E : Type 0} (P : Type 0) (r : Result T E) → IsErr r → OnOk r P
 not_ok P (Ok x) is = never is
 not_ok P (Err e) is = tt
-
--- of two jobs one comes before the other, or they are one
-pub apart_or_one : (before : Entry → Entry → Bool) → IsStrictOrder before → (tasks : List Task) → HaveOwnNumbers tasks
-    → EachTwo (λ t u. before (entry_of t) (entry_of u) ≡ false → before (entry_of u) (entry_of t) ≡ false → t ≡ u) tasks
-apart_or_one before strict tasks own t u mt mu ahead back = elim (cases_eq t.number u.number) [
-  | inl same ↦ own t u mt mu same
-  | inr other ↦ never (sym back ∙ strict.total (entry_of t) (entry_of u) other ahead)
-]
 
 -- ---- a list around a place
 
@@ -248,7 +242,7 @@ free_more slots places p is are q =
 
 -- ---- the items
 
-module _ (item : ℕ → Entry → ItemFacts) where
+module _ (item : ℕ → Task → Option ItemFacts) where
   pub items_length : (p : ℕ) (slots : List (Option Task)) → length (items_from item p slots) ≡ length slots
   items_length p [] = refl
   items_length p (o ∷ slots) = ap suc (items_length (suc p) slots)
@@ -256,39 +250,40 @@ module _ (item : ℕ → Entry → ItemFacts) where
   -- what the table has at a place
   pub item_at : (p : ℕ) (slots : List (Option Task)) (rest : List (Option ItemFacts)) (n : ℕ) (o : Option Task)
       → slice_get slots n ≡ Some o
-      → get_or (items_from item p slots ++ rest) n None ≡ option_map (λ t. item (p + n) (entry_of t)) o
+      → get_or (items_from item p slots ++ rest) n None ≡ item_of item (p + n) o
   item_at p [] rest n o at = none_is_some at
   item_at p (x ∷ slots) rest zero o at =
       let same : p ≡ p + 0 = omega arith in
-      ap (option_map (λ t. item p (entry_of t))) (some_same x o at)
-      ∙ ap (λ m. option_map (λ t. item m (entry_of t)) o) same
+      ap (item_of item p) (some_same x o at) ∙ ap (λ m. item_of item m o) same
   item_at p (x ∷ slots) rest (suc n) o at =
       let same : suc p + n ≡ p + suc n = omega arith in
-      item_at (suc p) slots rest n o at ∙ ap (λ m. option_map (λ t. item m (entry_of t)) o) same
+      item_at (suc p) slots rest n o at ∙ ap (λ m. item_of item m o) same
 
   -- it follows what is put at a place
   pub item_set : (p : ℕ) (slots : List (Option Task)) (rest : List (Option ItemFacts)) (n : ℕ) (o : Option Task)
       → n < length slots
-      → set (items_from item p slots ++ rest) n (option_map (λ t. item (p + n) (entry_of t)) o) ≡ items_from item p
-      (set slots n o) ++ rest
+      → set (items_from item p slots ++ rest) n (item_of item (p + n) o) ≡ items_from item p (set slots n o) ++ rest
   item_set p [] rest n o inside = absurd (omega arith)
   item_set p (x ∷ slots) rest zero o inside =
       let same : p + 0 ≡ p = omega arith in
-      ap (λ m. option_map (λ t. item m (entry_of t)) o ∷ (items_from item (suc p) slots ++ rest)) same
+      ap (λ m. item_of item m o ∷ (items_from item (suc p) slots ++ rest)) same
   item_set p (x ∷ slots) rest (suc n) o inside =
       let same : p + suc n ≡ suc p + n = omega arith in
-      ap (λ m. option_map (λ t. item p (entry_of t)) x ∷ set (items_from item (suc p) slots ++ rest) n
-      (option_map (λ t. item m (entry_of t)) o)) same
-      ∙ ap (λ l. option_map (λ t. item p (entry_of t)) x ∷ l) (item_set (suc p) slots rest n o (omega arith))
+      ap (λ m. item_of item p x ∷ set (items_from item (suc p) slots ++ rest) n (item_of item m o)) same
+      ∙ ap (λ l. item_of item p x ∷ l) (item_set (suc p) slots rest n o (omega arith))
 
   none_some : (k : ℕ) → count_by is_some (replicate {A = Option ItemFacts} k None) ≡ 0
   none_some zero = refl
   none_some (suc k) = none_some k
 
-  -- as many as there are jobs
+  at_most_one : (o : Option ItemFacts) → cond {A = ℕ} (is_some o) 1 0 ≤ 1
+  at_most_one None = omega arith
+  at_most_one (Some i) = omega arith
+
+  -- no more than there are jobs
   pub item_count : (p : ℕ) (slots : List (Option Task)) (k : ℕ)
-      → count_by is_some (items_from item p slots ++ replicate k None) ≡ length (jobs_at slots)
-  item_count p [] k = none_some k
+      → count_by is_some (items_from item p slots ++ replicate k None) ≤ length (jobs_at slots)
+  item_count p [] k = omega (arith, none_some k)
   item_count p (None ∷ slots) k =
       omega (
         arith,
@@ -300,158 +295,275 @@ module _ (item : ℕ → Entry → ItemFacts) where
       omega (
         arith,
         item_count (suc p) slots k,
-        sum_by-cons (λ (o : Option ItemFacts). cond (is_some o) 1 0) (Some (item p (entry_of t)))
+        at_most_one (item p t),
+        sum_by-cons (λ (o : Option ItemFacts). cond (is_some o) 1 0) (item p t)
             (items_from item (suc p) slots ++ replicate k None),
       )
 
+-- where no job has an item, the table has none
+pub no_items : (item : ℕ → Task → Option ItemFacts) → ((p : ℕ) (t : Task) → item p t ≡ None)
+    → (p : ℕ) (slots : List (Option Task)) (k n : ℕ)
+    → get_or (items_from item p slots ++ replicate {A = Option ItemFacts} k None) n None ≡ None
+no_items item none p [] zero n = refl
+no_items item none p [] (suc k) zero = refl
+no_items item none p [] (suc k) (suc n) = no_items item none p [] k n
+no_items item none p (None ∷ slots) k zero = refl
+no_items item none p (Some t ∷ slots) k zero = none p t
+no_items item none p (o ∷ slots) k (suc n) = no_items item none (suc p) slots k n
+
+-- each job has an item
+module _ (item : ℕ → Task → ItemFacts) where
+  abbrev each : ℕ → Task → Option ItemFacts
+  each p t = Some (item p t)
+
   -- each item is that of a job at a place
   pub item_job : (p : ℕ) (slots : List (Option Task)) (k : ℕ) (i : ItemFacts)
-      → IsMember i (items_of (items_from item p slots ++ replicate k None))
-      → (n : ℕ) × (t : Task) × (slice_get slots n ≡ Some (Some t)) × (i ≡ item (p + n) (entry_of t))
+      → IsMember i (items_of (items_from each p slots ++ replicate k None))
+      → (n : ℕ) × (t : Task) × (slice_get slots n ≡ Some (Some t)) × (i ≡ item (p + n) t)
   item_job p [] zero i m = absurd m
   item_job p [] (suc k) i m = item_job p [] k i m
   item_job p (None ∷ slots) k i m =
       let rest = item_job (suc p) slots k i m in
       let same : suc p + rest.0 ≡ p + suc rest.0 = omega arith in
-      (suc rest.0, rest.1, rest.2, rest.3 ∙ ap (λ n. item n (entry_of rest.1)) same)
+      (suc rest.0, rest.1, rest.2, rest.3 ∙ ap (λ n. item n rest.1) same)
   item_job p (Some t ∷ slots) k i (inl e) = let same : p ≡ p + 0 = omega arith in
-      (0, t, refl, e ∙ ap (λ n. item n (entry_of t)) same)
+      (0, t, refl, e ∙ ap (λ n. item n t) same)
   item_job p (Some t ∷ slots) k i (inr m) =
       let rest = item_job (suc p) slots k i m in
       let same : suc p + rest.0 ≡ p + suc rest.0 = omega arith in
-      (suc rest.0, rest.1, rest.2, rest.3 ∙ ap (λ n. item n (entry_of rest.1)) same)
+      (suc rest.0, rest.1, rest.2, rest.3 ∙ ap (λ n. item n rest.1) same)
 
   -- and each job at a place has its item
   pub job_item : (p : ℕ) (slots : List (Option Task)) (k n : ℕ) (t : Task) → slice_get slots n ≡ Some (Some t)
-      → IsMember (item (p + n) (entry_of t)) (items_of (items_from item p slots ++ replicate k None))
+      → IsMember (item (p + n) t) (items_of (items_from each p slots ++ replicate k None))
   job_item p [] k n t at = none_is_some at
   job_item p (None ∷ slots) k zero t at = none_is_some (some_same None (Some t) at)
   job_item p (Some u ∷ slots) k zero t at =
       let same : p + 0 ≡ p = omega arith in
-      inl (ap (λ n. item n (entry_of t)) same
-      ∙ ap (λ x. item p (entry_of x)) (sym (some_same u t (some_same (Some u) (Some t) at))))
+      inl (ap (λ n. item n t) same ∙ ap (item p) (sym (some_same u t (some_same (Some u) (Some t) at))))
   job_item p (None ∷ slots) k (suc n) t at =
       let same : suc p + n ≡ p + suc n = omega arith in
-      subst (λ m. IsMember (item m (entry_of t)) (items_of (items_from item (suc p) slots ++ replicate k None))) same
+      subst (λ m. IsMember (item m t) (items_of (items_from each (suc p) slots ++ replicate k None))) same
       (job_item (suc p) slots k n t at)
   job_item p (Some u ∷ slots) k (suc n) t at =
       let same : suc p + n ≡ p + suc n = omega arith in
-      inr (subst (λ m. IsMember (item m (entry_of t)) (items_of (items_from item (suc p) slots ++ replicate k None)))
+      inr (subst (λ m. IsMember (item m t) (items_of (items_from each (suc p) slots ++ replicate k None)))
       same (job_item (suc p) slots k n t at))
 
 -- ---- the first
 
-module _ (item : ℕ → Entry → ItemFacts) (before : Entry → Entry → Bool) (strict : IsStrictOrder before)
-    (placed : (p : ℕ) (a : Entry) → (item p a).place ≡ p)
-    (law : (a b : Entry) (p q : ℕ) → (a.number ≡ b.number → ⊥) → a.value ≤ most_value → b.value ≤ most_value
-    → is_before (item p a) (item q b) ≡ before a b)
-    (slots : List (Option Task)) (table : List (Option ItemFacts)) (has : HasItems item slots table) where
+beside : {X : Type 0} (t best : X) (tasks : List X) (x : X) → IsMember x (best ∷ tasks)
+    → IsMember x (best ∷ t ∷ tasks)
+beside t best tasks x (inl e) = inl e
+beside t best tasks x (inr m) = inr (inr m)
+
+-- of a list whose jobs have numbers of their own, in an order that goes as another one does
+module _ (before other : Task → Task → Bool) (never_itself : (t : Task) → before t t ≡ false)
+    (other_itself : (t : Task) → other t t ≡ false) where
+  -- so it does of any two jobs
+  as_of_two : (tasks : List Task) → HaveOwnNumbers tasks
+      → EachTwo (λ t u. (t.number ≡ u.number → ⊥) → before t u ≡ other t u) tasks
+      → EachTwo (λ t u. before t u ≡ other t u) tasks
+  as_of_two tasks own alike t u mt mu = elim (cases_eq t.number u.number) [
+    | inl same ↦ let one : t ≡ u = own t u mt mu same in
+        ap (λ x. before x u) one ∙ never_itself u ∙ sym (other_itself u) ∙ ap (λ x. other x u) (sym one)
+    | inr apart ↦ alike t u mt mu apart
+  ]
+
+  same_fold : (best : Task) (tasks : List Task) → EachTwo (λ t u. before t u ≡ other t u) (best ∷ tasks)
+      → fold (earlier before) best tasks ≡ fold (earlier other) best tasks
+  same_fold best [] alike = refl
+  same_fold best (t ∷ tasks) alike =
+      by_test (before t best) refl (same_fold t tasks (λ x y mx my. alike x y (inr mx) (inr my)))
+      (same_fold best tasks (λ x y mx my. alike x y (beside t best tasks x mx) (beside t best tasks y my))) where
+        so : other t best ≡ before t best
+        so = sym (alike t best (inr (inl refl)) (inl refl))
+
+        by_test : (b : Bool) → before t best ≡ b
+            → fold (earlier before) t tasks ≡ fold (earlier other) t tasks
+            → fold (earlier before) best tasks ≡ fold (earlier other) best tasks
+            → fold (earlier before) best (t ∷ tasks) ≡ fold (earlier other) best (t ∷ tasks)
+        by_test true is from_t from_best =
+            ap (λ b. fold (earlier before) (if b then t else best) tasks) is ∙ from_t
+            ∙ ap (λ b. fold (earlier other) (if b then t else best) tasks) (sym (so ∙ is))
+        by_test false is from_t from_best =
+            ap (λ b. fold (earlier before) (if b then t else best) tasks) is ∙ from_best
+            ∙ ap (λ b. fold (earlier other) (if b then t else best) tasks) (sym (so ∙ is))
+
+  pub same_first : (tasks : List Task) → HaveOwnNumbers tasks
+      → EachTwo (λ t u. (t.number ≡ u.number → ⊥) → before t u ≡ other t u) tasks
+      → first before tasks ≡ first other tasks
+  same_first [] own alike = refl
+  same_first (t ∷ tasks) own alike = ap Some (same_fold t tasks (as_of_two (t ∷ tasks) own alike))
+
+module _ (item : ℕ → Task → ItemFacts) (before : Task → Task → Bool) (never_itself : (t : Task) → before t t ≡ false)
+    (placed : (p : ℕ) (t : Task) → (item p t).place ≡ p)
+    (law : (t u : Task) (p q : ℕ) → (t.number ≡ u.number → ⊥) → IsJob t.job → IsJob u.job
+    → is_before (item p t) (item q u) ≡ before t u)
+    (slots : List (Option Task)) (table : List (Option ItemFacts)) (has : HasItems (each item) slots table) where
   -- where the heap has none, none waits
-  pub none_first : None ≡ first is_before (items_of table)
-      → None ≡ first (λ a b. before (entry_of a) (entry_of b)) (jobs_at slots)
+  pub none_first : None ≡ first is_before (items_of table) → None ≡ first before (jobs_at slots)
   none_first none = sym (empty (jobs_at slots) (λ t m.
       let it = place_of slots t m in
       let there = job_item item 0 slots has.0 it.0 t it.1 in
-      reduce_none (earlier is_before) (items_of table) (sym none) (item (0 + it.0) (entry_of t))
-      (subst (λ l. IsMember (item (0 + it.0) (entry_of t)) (items_of l)) (sym has.1) there))) where
-        empty : (ts : List Task) → Each (λ t. ⊥) ts → first (λ a b. before (entry_of a) (entry_of b)) ts ≡ None
+      reduce_none (earlier is_before) (items_of table) (sym none) (item (0 + it.0) t)
+      (subst (λ l. IsMember (item (0 + it.0) t) (items_of l)) (sym has.1) there))) where
+        empty : (ts : List Task) → Each (λ t. ⊥) ts → first before ts ≡ None
         empty [] not = refl
         empty (t ∷ ts) not = absurd (not t (inl refl))
+
+  -- the order by the items, as if each job were at the place of its number
+  abbrev by_item : Task → Task → Bool
+  by_item t u = is_before (item t.number t) (item u.number u)
+
+  item_itself : (t : Task) → by_item t t ≡ false
+  item_itself t = by_test (by_item t t) refl where
+    by_test : (b : Bool) → by_item t t ≡ b → by_item t t ≡ false
+    by_test true is = one_way (item t.number t) (item t.number t) is
+    by_test false is = is
+
+  -- of two jobs one comes before the other, or they are one
+  by_item_apart : (tasks : List Task) → HaveOwnNumbers tasks
+      → EachTwo (λ t u. by_item t u ≡ false → by_item u t ≡ false → t ≡ u) tasks
+  by_item_apart tasks own t u mt mu ahead back = elim (cases_eq t.number u.number) [
+    | inl same ↦ own t u mt mu same
+    | inr other ↦ never (sym back ∙ total (item t.number t) (item u.number u)
+        (λ e. other (sym (placed t.number t) ∙ e ∙ placed u.number u)) ahead)
+  ]
 
   -- the first item is that of the first job, which stands at its place
   pub found_first : (i : ItemFacts) → Some i ≡ first is_before (items_of table) → HaveOwnNumbers (jobs_at slots)
       → AreModest (jobs_at slots)
-      → (t : Task) × (slice_get slots i.place ≡ Some (Some t))
-      × (first (λ a b. before (entry_of a) (entry_of b)) (jobs_at slots) ≡ Some t)
-      × ((p : ℕ) × (i ≡ item p (entry_of t)))
+      → (t : Task) × (slice_get slots i.place ≡ Some (Some t)) × (first before (jobs_at slots) ≡ Some t)
+      × ((p : ℕ) × (i ≡ item p t))
   found_first i at own modest =
       let top = first_is is_before one_way onward (items_of table) i (sym at) in
       let it = item_job item 0 slots has.0 i (subst (λ l. IsMember i (items_of l)) has.1 top.0) in
       let t : Task = it.1 in
       let here : slice_get slots it.0 ≡ Some (Some t) = it.2 in
-      let number : i.place ≡ it.0 = ap (λ (x : ItemFacts). x.place) it.3 ∙ placed (0 + it.0) (entry_of t)
-      ∙ none_more it.0 in
-      let member : IsMember t (jobs_at slots) = job_there slots it.0 t here in (
+      let number : i.place ≡ it.0 = ap (λ (x : ItemFacts). x.place) it.3 ∙ placed (0 + it.0) t ∙ none_more it.0 in
+      let member : IsMember t (jobs_at slots) = job_there slots it.0 t here in
+      let by_items : first by_item (jobs_at slots) ≡ Some t = first_only by_item
+      (λ a b. one_way (item a.number a) (item b.number b))
+      (λ a b c. onward (item a.number a) (item b.number b) (item c.number c)) (jobs_at slots) t member
+      (λ u m ahead. best t it.0 it.3 member top.1 u m (cases_eq u.number t.number) ahead)
+      (by_item_apart (jobs_at slots) own) in (
         t,
         ap (slice_get slots) number ∙ here,
-        first_only (λ a b. before (entry_of a) (entry_of b)) (λ a b. strict.one_way (entry_of a) (entry_of b))
-            (λ a b c. strict.onward (entry_of a) (entry_of b) (entry_of c)) (jobs_at slots) t member
-            (λ u m ahead. best t it.0 it.3 member top.1 u m (cases_eq u.number t.number) ahead)
-            (apart_or_one before strict (jobs_at slots) own),
+        same_first before by_item never_itself item_itself (jobs_at slots) own
+            (λ a b ma mb apart. sym (law a b a.number b.number apart (modest a ma) (modest b mb)))
+            ∙ by_items,
         (0 + it.0, it.3),
       ) where
         none_more : (n : ℕ) → 0 + n ≡ n
         none_more n = omega arith
 
-        best : (t : Task) (n : ℕ) → i ≡ item (0 + n) (entry_of t) → IsMember t (jobs_at slots)
+        best : (t : Task) (n : ℕ) → i ≡ item (0 + n) t → IsMember t (jobs_at slots)
             → Each (λ y. is_before y i ≡ true → ⊥) (items_of table) → (u : Task) → IsMember u (jobs_at slots)
-            → (u.number ≡ t.number) ⊎ ((u.number ≡ t.number) → ⊥) → before (entry_of u) (entry_of t) ≡ true → ⊥
+            → (u.number ≡ t.number) ⊎ ((u.number ≡ t.number) → ⊥) → by_item u t ≡ true → ⊥
         best t n is mt none u mu (inl same) ahead =
             let one : u ≡ t = own u t mu mt same in
-            never (sym (strict.one_way (entry_of t) (entry_of t)
-            (ap (λ x. before (entry_of x) (entry_of t)) (sym one) ∙ ahead))
-            ∙ ap (λ x. before (entry_of x) (entry_of t)) (sym one) ∙ ahead)
+            never (sym (item_itself t) ∙ ap (λ x. by_item x t) (sym one) ∙ ahead)
         best t n is mt none u mu (inr other) ahead =
             let at_u = place_of slots u mu in
-            let there = subst (λ l. IsMember (item (0 + at_u.0) (entry_of u)) (items_of l)) (sym has.1)
+            let there = subst (λ l. IsMember (item (0 + at_u.0) u) (items_of l)) (sym has.1)
             (job_item item 0 slots has.0 at_u.0 u at_u.1) in
-            none (item (0 + at_u.0) (entry_of u)) there
-            (ap (is_before (item (0 + at_u.0) (entry_of u))) is
-            ∙ law (entry_of u) (entry_of t) (0 + at_u.0) (0 + n) other (modest u mu) (modest t mt) ∙ ahead)
+            none (item (0 + at_u.0) u) there
+            (ap (is_before (item (0 + at_u.0) u)) is
+            ∙ law u t (0 + at_u.0) (0 + n) other (modest u mu) (modest t mt)
+            ∙ sym (law u t u.number t.number other (modest u mu) (modest t mt)) ∙ ahead)
 
--- ---- both orders
+-- ---- the orders
 
-due_law : (v : Version) (a b : Entry) (p q : ℕ) → (a.number ≡ b.number → ⊥) → a.value ≤ most_value
-    → b.value ≤ most_value
-    → is_before (due_item v p a) (due_item v q b) ≡ is_due_before v a b
-due_law v a b p q apart low less = (ordered_as v a b p q apart low less).due
+due_law : (v : Version) (t u : Task) (p q : ℕ) → (t.number ≡ u.number → ⊥) → IsJob t.job → IsJob u.job
+    → is_before (due_item v p (entry_of t)) (due_item v q (entry_of u)) ≡ due_first v t u
+due_law v t u p q apart low less =
+    (ordered_as v (entry_of t) (entry_of u) p q apart (job_limits low).modest (job_limits less).modest).due
 
-latest_law : (v : Version) (a b : Entry) (p q : ℕ) → (a.number ≡ b.number → ⊥) → a.value ≤ most_value
-    → b.value ≤ most_value
-    → is_before (latest_item v p a) (latest_item v q b) ≡ is_start_before v a b
-latest_law v a b p q apart low less = (ordered_as v a b p q apart low less).latest
+latest_law : (v : Version) (t u : Task) (p q : ℕ) → (t.number ≡ u.number → ⊥) → IsJob t.job → IsJob u.job
+    → is_before (latest_item v p (entry_of t)) (latest_item v q (entry_of u)) ≡ starts_before v t u
+latest_law v t u p q apart low less =
+    (ordered_as v (entry_of t) (entry_of u) p q apart (job_limits low).modest (job_limits less).modest).latest
 
 module _ (v : Version) (slots : List (Option Task)) (table : List (Option ItemFacts)) where
-  pub due_none : HasItems (due_item v) slots table → None ≡ first is_before (items_of table)
+  pub due_none : HasItems (item_by_deadline v) slots table → None ≡ first is_before (items_of table)
       → None ≡ first (due_first v) (jobs_at slots)
-  due_none has = none_first (due_item v) (is_due_before v) (strict_by (λ e. e.deadline) v) (λ p a. refl)
+  due_none has = none_first (λ p t. due_item v p (entry_of t)) (due_first v) (due_itself v) (λ p a. refl)
       (due_law v) slots table has
 
-  pub latest_none : HasItems (latest_item v) slots table → None ≡ first is_before (items_of table)
+  pub latest_none : HasItems (item_by_latest v) slots table → None ≡ first is_before (items_of table)
       → None ≡ first (starts_before v) (jobs_at slots)
-  latest_none has = none_first (latest_item v) (is_start_before v) (strict_by (λ e. e.latest) v) (λ p a. refl)
-      (latest_law v) slots table has
+  latest_none has = none_first (λ p t. latest_item v p (entry_of t)) (starts_before v) (latest_itself v)
+      (λ p a. refl) (latest_law v) slots table has
 
   module _ (i : ItemFacts) (at : Some i ≡ first is_before (items_of table)) (own : HaveOwnNumbers (jobs_at slots))
       (modest : AreModest (jobs_at slots)) where
-    pub due_found : HasItems (due_item v) slots table
+    pub due_found : HasItems (item_by_deadline v) slots table
         → (t : Task) × (slice_get slots i.place ≡ Some (Some t)) × (first (due_first v) (jobs_at slots) ≡ Some t)
         × ((p : ℕ) × (i ≡ due_item v p (entry_of t)))
-    due_found has = found_first (due_item v) (is_due_before v) (strict_by (λ e. e.deadline) v) (λ p a. refl)
+    due_found has = found_first (λ p t. due_item v p (entry_of t)) (due_first v) (due_itself v) (λ p a. refl)
         (due_law v) slots table has i at own modest
 
-    pub latest_found : HasItems (latest_item v) slots table
+    pub latest_found : HasItems (item_by_latest v) slots table
         → (t : Task) × (slice_get slots i.place ≡ Some (Some t)) × (first (starts_before v) (jobs_at slots) ≡ Some t)
         × ((p : ℕ) × (i ≡ latest_item v p (entry_of t)))
-    latest_found has = found_first (latest_item v) (is_start_before v) (strict_by (λ e. e.latest) v) (λ p a. refl)
-        (latest_law v) slots table has i at own modest
+    latest_found has = found_first (λ p t. latest_item v p (entry_of t)) (starts_before v) (latest_itself v)
+        (λ p a. refl) (latest_law v) slots table has i at own modest
+
+-- by density
+module _ (slots : List (Option Task)) (table : List (Option ItemFacts))
+    (has : HasItems (item_by_density Four) slots table) where
+  pub dense_none : None ≡ first is_before (items_of table) → None ≡ first (waiting_order Four true) (jobs_at slots)
+  dense_none = none_first dense_item (waiting_order Four true) dense_itself (λ p a. refl) dense_law slots table has
+
+  pub dense_found : (i : ItemFacts) → Some i ≡ first is_before (items_of table) → HaveOwnNumbers (jobs_at slots)
+      → AreModest (jobs_at slots)
+      → (t : Task) × (slice_get slots i.place ≡ Some (Some t))
+      × (first (waiting_order Four true) (jobs_at slots) ≡ Some t) × ((p : ℕ) × (i ≡ dense_item p t))
+  dense_found = found_first dense_item (waiting_order Four true) dense_itself (λ p a. refl) dense_law slots table has
+
+-- the place that a heap names is that of the first job
+pub due_place : (v : Version) (slots : List (Option Task)) (table : List (Option ItemFacts)) (o : Option ItemFacts)
+    → o ≡ first is_before (items_of table) → HasItems (item_by_deadline v) slots table
+    → HaveOwnNumbers (jobs_at slots) → AreModest (jobs_at slots)
+    → IsPlaceOf (due_first v) slots (option_map (λ i. i.place) o)
+due_place v slots table None is has own modest = due_none v slots table has is
+due_place v slots table (Some i) is has own modest =
+    let it = due_found v slots table i is own modest has in (it.0, it.1, it.2)
+
+pub dense_place : (slots : List (Option Task)) (table : List (Option ItemFacts)) (o : Option ItemFacts)
+    → o ≡ first is_before (items_of table) → HasItems (item_by_density Four) slots table
+    → HaveOwnNumbers (jobs_at slots) → AreModest (jobs_at slots)
+    → IsPlaceOf (waiting_order Four true) slots (option_map (λ i. i.place) o)
+dense_place slots table None is has own modest = dense_none slots table has is
+dense_place slots table (Some i) is has own modest =
+    let it = dense_found slots table has i is own modest in (it.0, it.1, it.2)
+
+-- only version Four is ever by density
+pub only_four : (v : Version) (pressed : Bool) → by_density v pressed ≡ true → v ≡ Four
+only_four One pressed is = never is
+only_four Two pressed is = never is
+only_four Three pressed is = never is
+only_four Four pressed is = refl
 
 -- ---- the pool
 
 -- a table follows what is put at a place
-table_set : (item : ℕ → Entry → ItemFacts) (slots : List (Option Task)) (table : List (Option ItemFacts)) (p : ℕ)
+pub table_set : (item : ℕ → Task → Option ItemFacts) (slots : List (Option Task))
+    (table : List (Option ItemFacts)) (p : ℕ)
     (o : Option Task) → p < length slots
-    → HasItems item slots table → HasItems item (set slots p o) (set table p (option_map (λ t. item p (entry_of t)) o))
+    → HasItems item slots table → HasItems item (set slots p o) (set table p (item_of item p o))
 table_set item slots table p o inside has = (
   has.0,
-  ap (λ l. set l p (option_map (λ t. item p (entry_of t)) o)) has.1
-      ∙ ap (λ m. set (items_from item 0 slots ++ replicate has.0 None) p (option_map (λ t. item m (entry_of t)) o))
+  ap (λ l. set l p (item_of item p o)) has.1
+      ∙ ap (λ m. set (items_from item 0 slots ++ replicate has.0 None) p (item_of item m o))
       (let none : p ≡ 0 + p = omega arith in none)
       ∙ item_set item 0 slots (replicate has.0 None) p o inside,
 )
 
 -- a place of the table is within, and free where no job is there
-table_within : (item : ℕ → Entry → ItemFacts) (slots : List (Option Task)) (table : List (Option ItemFacts)) (p : ℕ)
+table_within : (item : ℕ → Task → Option ItemFacts) (slots : List (Option Task))
+    (table : List (Option ItemFacts)) (p : ℕ)
     → p < length slots
     → HasItems item slots table → p < length table
 table_within item slots table p inside has =
@@ -463,15 +575,46 @@ table_within item slots table p inside has =
       items_length item 0 slots,
     )
 
-table_free : (item : ℕ → Entry → ItemFacts) (slots : List (Option Task)) (table : List (Option ItemFacts)) (p : ℕ)
+table_free : (item : ℕ → Task → Option ItemFacts) (slots : List (Option Task)) (table : List (Option ItemFacts)) (p : ℕ)
     → slice_get slots p ≡ Some None
     → HasItems item slots table → get_or table p None ≡ None
 table_free item slots table p at has = ap (λ l. get_or l p None) has.1
     ∙ item_at item 0 slots (replicate has.0 None) p None at
 
-module _ (v : Version) (slots : List (Option Task)) (places : List ℕ) (d l : List (Option ItemFacts)) (p : ℕ) where
+-- no more items than jobs
+table_count : (item : ℕ → Task → Option ItemFacts) (slots : List (Option Task)) (table : List (Option ItemFacts))
+    → HasItems item slots table → count_by is_some table ≤ length (jobs_at slots)
+table_count item slots table has =
+    omega (arith, ap (λ t. count_by is_some t) has.1, item_count item 0 slots has.0)
+
+-- in versions One to Three no job has an item by density
+none_dense : (v : Version) → by_density v true ≡ false → (p : ℕ) (t : Task) → item_by_density v p t ≡ None
+none_dense One by p t = refl
+none_dense Two by p t = refl
+none_dense Three by p t = refl
+none_dense Four by p t = never (sym by)
+
+pub dense_free : (v : Version) (slots : List (Option Task)) (table : List (Option ItemFacts)) (n : ℕ)
+    → by_density v true ≡ false → HasItems (item_by_density v) slots table → get_or table n None ≡ None
+dense_free v slots table n by has = ap (λ l. get_or l n None) has.1
+    ∙ no_items (item_by_density v) (none_dense v by) 0 slots has.0 n
+
+-- so many orders there are
+pub three_orders : (v : Version) → by_density v true ≡ true → orders_of v ≡ 3
+three_orders One by = never by
+three_orders Two by = never by
+three_orders Three by = never by
+three_orders Four by = refl
+
+pub two_orders : (v : Version) → by_density v true ≡ false → orders_of v ≡ 2
+two_orders One by = refl
+two_orders Two by = refl
+two_orders Three by = refl
+two_orders Four by = never (sym by)
+
+module _ (v : Version) (slots : List (Option Task)) (places : List ℕ) (d l e : List (Option ItemFacts)) (p : ℕ) where
   -- a job comes to the last of the free places
-  module _ (pool : IsPool v slots (places ++ p ∷ []) d l) where
+  module _ (pool : IsPool v slots (places ++ p ∷ []) d l e) where
     pub add_free : slice_get slots p ≡ Some None
     add_free = last_free slots places p pool.free
 
@@ -483,29 +626,39 @@ module _ (v : Version) (slots : List (Option Task)) (places : List ℕ) (d l : L
         omega arith
 
     pub add_due_ready : p < length d
-    add_due_ready = table_within (due_item v) slots d p add_inside pool.due
+    add_due_ready = table_within (item_by_deadline v) slots d p add_inside pool.due
 
     pub add_latest_ready : p < length l
-    add_latest_ready = table_within (latest_item v) slots l p add_inside pool.latest
+    add_latest_ready = table_within (item_by_latest v) slots l p add_inside pool.latest
+
+    pub add_dense_ready : p < length e
+    add_dense_ready = table_within (item_by_density v) slots e p add_inside pool.dense
 
     pub add_due_free : get_or d p None ≡ None
-    add_due_free = table_free (due_item v) slots d p add_free pool.due
+    add_due_free = table_free (item_by_deadline v) slots d p add_free pool.due
 
     pub add_latest_free : get_or l p None ≡ None
-    add_latest_free = table_free (latest_item v) slots l p add_free pool.latest
+    add_latest_free = table_free (item_by_latest v) slots l p add_free pool.latest
 
-    pub add_due_count : count_by is_some d ≡ length (jobs_at slots)
-    add_due_count = ap (count_by is_some) pool.due.1 ∙ item_count (due_item v) 0 slots pool.due.0
+    pub add_dense_free : get_or e p None ≡ None
+    add_dense_free = table_free (item_by_density v) slots e p add_free pool.dense
 
-    pub add_latest_count : count_by is_some l ≡ length (jobs_at slots)
-    add_latest_count = ap (count_by is_some) pool.latest.1 ∙ item_count (latest_item v) 0 slots pool.latest.0
+    pub add_due_count : count_by is_some d ≤ length (jobs_at slots)
+    add_due_count = table_count (item_by_deadline v) slots d pool.due
+
+    pub add_latest_count : count_by is_some l ≤ length (jobs_at slots)
+    add_latest_count = table_count (item_by_latest v) slots l pool.latest
+
+    pub add_dense_count : count_by is_some e ≤ length (jobs_at slots)
+    add_dense_count = table_count (item_by_density v) slots e pool.dense
 
     pub add_kept : (t : Task)
         → IsPool v (set slots p (Some t)) places (set d p (Some (due_item v p (entry_of t))))
-        (set l p (Some (latest_item v p (entry_of t))))
+        (set l p (Some (latest_item v p (entry_of t)))) (set e p (item_by_density v p t))
     add_kept t = record {
-      due = table_set (due_item v) slots d p (Some t) add_inside pool.due;
-      latest = table_set (latest_item v) slots l p (Some t) add_inside pool.latest;
+      due = table_set (item_by_deadline v) slots d p (Some t) add_inside pool.due;
+      latest = table_set (item_by_latest v) slots l p (Some t) add_inside pool.latest;
+      dense = table_set (item_by_density v) slots e p (Some t) add_inside pool.dense;
       free = free_taken slots places p t pool.free;
       count = omega (
         arith,
@@ -518,7 +671,7 @@ module _ (v : Version) (slots : List (Option Task)) (places : List ℕ) (d l : L
     }
 
   -- a job leaves its place
-  module _ (pool : IsPool v slots places d l) (t : Task) (at : slice_get slots p ≡ Some (Some t)) where
+  module _ (pool : IsPool v slots places d l e) (t : Task) (at : slice_get slots p ≡ Some (Some t)) where
     pub left_inside : p < length slots
     left_inside = within slots p (Some t) at
 
@@ -527,16 +680,20 @@ module _ (v : Version) (slots : List (Option Task)) (places : List ℕ) (d l : L
         let out = as_many (jobs_at slots) (t ∷ jobs_at (set slots p None)) (jobs_out slots p t at) in
         omega (arith, pool.count, out)
 
-    pub left_due_count : count_by is_some d ≡ length (jobs_at slots)
-    left_due_count = ap (count_by is_some) pool.due.1 ∙ item_count (due_item v) 0 slots pool.due.0
+    pub left_due_count : count_by is_some d ≤ length (jobs_at slots)
+    left_due_count = table_count (item_by_deadline v) slots d pool.due
 
-    pub left_latest_count : count_by is_some l ≡ length (jobs_at slots)
-    left_latest_count = ap (count_by is_some) pool.latest.1 ∙ item_count (latest_item v) 0 slots pool.latest.0
+    pub left_latest_count : count_by is_some l ≤ length (jobs_at slots)
+    left_latest_count = table_count (item_by_latest v) slots l pool.latest
 
-    pub left_kept : IsPool v (set slots p None) (places ++ p ∷ []) (set d p None) (set l p None)
+    pub left_dense_count : count_by is_some e ≤ length (jobs_at slots)
+    left_dense_count = table_count (item_by_density v) slots e pool.dense
+
+    pub left_kept : IsPool v (set slots p None) (places ++ p ∷ []) (set d p None) (set l p None) (set e p None)
     left_kept = record {
-      due = table_set (due_item v) slots d p None left_inside pool.due;
-      latest = table_set (latest_item v) slots l p None left_inside pool.latest;
+      due = table_set (item_by_deadline v) slots d p None left_inside pool.due;
+      latest = table_set (item_by_latest v) slots l p None left_inside pool.latest;
+      dense = table_set (item_by_density v) slots e p None left_inside pool.dense;
       free = free_again slots places p t at pool.free;
       count = omega (
         arith,
@@ -549,7 +706,7 @@ module _ (v : Version) (slots : List (Option Task)) (places : List ℕ) (d l : L
     }
 
 -- where no job is at a place, the items are none
-pub items_none : (item other : ℕ → Entry → ItemFacts) (k p : ℕ) (slots : List (Option Task)) → jobs_at slots ≡ []
+pub items_none : (item other : ℕ → Task → Option ItemFacts) (k p : ℕ) (slots : List (Option Task)) → jobs_at slots ≡ []
     → items_from item p slots ++ replicate {A = Option ItemFacts} k None ≡ items_from other p slots ++ replicate
     {A = Option ItemFacts} k None
 items_none item other k p [] none = refl
@@ -568,14 +725,14 @@ jobs_push (Some t ∷ slots) = ap (λ l. t ∷ l) (jobs_push slots)
 pub length_more : {X : Type 0} (xs : List X) (x : X) → length (xs ++ x ∷ []) ≡ length xs + 1
 length_more xs x = omega (arith, length-append xs (x ∷ []))
 
-module _ (item : ℕ → Entry → ItemFacts) where
+module _ (item : ℕ → Task → Option ItemFacts) where
   -- the items of more places
   items_more : (p m : ℕ) (slots : List (Option Task))
       → items_from item p (slots ++ replicate m None) ≡ items_from item p slots ++ replicate
       {A = Option ItemFacts} m None
   items_more p zero [] = refl
   items_more p (suc m) [] = ap (λ l. None ∷ l) (items_more (suc p) m [])
-  items_more p m (o ∷ slots) = ap (λ l. option_map (λ t. item p (entry_of t)) o ∷ l) (items_more (suc p) m slots)
+  items_more p m (o ∷ slots) = ap (λ l. item_of item p o ∷ l) (items_more (suc p) m slots)
 
   -- a table that grows
   pub table_grows : (slots : List (Option Task)) (table grown : List (Option ItemFacts)) (m : ℕ)
@@ -614,12 +771,14 @@ no_places [] none = refl
 no_places (p ∷ more) none = absurd (omega (arith, none))
 
 -- one place is opened
-pub opened : (v : Version) (slots : List (Option Task)) (d l : List (Option ItemFacts)) → IsPool v slots [] d l
-    → length slots + 1 ≤ length d → length slots + 1 ≤ length l → length slots + 1 ≤ 1_048_576
-    → IsPool v (slots ++ None ∷ []) (length slots ∷ []) d l
-opened v slots d l pool due latest few = record {
-  due = places_grow (due_item v) slots d 1 pool.due due;
-  latest = places_grow (latest_item v) slots l 1 pool.latest latest;
+pub opened : (v : Version) (slots : List (Option Task)) (d l e : List (Option ItemFacts)) → IsPool v slots [] d l e
+    → length slots + 1 ≤ length d → length slots + 1 ≤ length l → length slots + 1 ≤ length e
+    → length slots + 1 ≤ 1_048_576
+    → IsPool v (slots ++ None ∷ []) (length slots ∷ []) d l e
+opened v slots d l e pool due latest dense few = record {
+  due = places_grow (item_by_deadline v) slots d 1 pool.due due;
+  latest = places_grow (item_by_latest v) slots l 1 pool.latest latest;
+  dense = places_grow (item_by_density v) slots e 1 pool.dense dense;
   free = free_more slots [] (length slots) refl pool.free;
   count = omega (arith, pool.count, length_more slots None, ap (λ ts. length ts) (jobs_push slots));
   few = omega (arith, few, length_more slots None);
@@ -627,26 +786,35 @@ opened v slots d l pool due latest few = record {
 
 -- the pool with the same jobs and free places, and with other tables
 pub moved : (version : Version) (slots others : List (Option Task)) (free places : List ℕ)
-    (due latest sooner later : List (Option ItemFacts)) → others ≡ slots → places ≡ free
-    → HasItems (due_item version) slots sooner → HasItems (latest_item version) slots later
-    → IsPool version slots free due latest → IsPool version others places sooner later
-moved version slots others free places due latest sooner later same named by_due by_latest pool =
-    subst (λ s. IsPool version s places sooner later) (sym same)
-    (subst (λ f. IsPool version slots f sooner later) (sym named)
-    (record { due = by_due; latest = by_latest; free = pool.free; count = pool.count; few = pool.few }))
+    (due latest dense sooner later denser : List (Option ItemFacts)) → others ≡ slots → places ≡ free
+    → HasItems (item_by_deadline version) slots sooner → HasItems (item_by_latest version) slots later
+    → HasItems (item_by_density version) slots denser
+    → IsPool version slots free due latest dense → IsPool version others places sooner later denser
+moved version slots others free places due latest dense sooner later denser same named by_due by_latest by_dense pool =
+    subst (λ s. IsPool version s places sooner later denser) (sym same)
+    (subst (λ f. IsPool version slots f sooner later denser) (sym named)
+    (record {
+      due = by_due;
+      latest = by_latest;
+      dense = by_dense;
+      free = pool.free;
+      count = pool.count;
+      few = pool.few;
+    }))
 
 -- room for as many, where no less fits
-pub still_fits : (room places others slots wider free freer due sooner latest later : ℕ)
-    → HasRoom room places slots free due latest → others ≡ places → slots ≤ wider → free ≤ freer → due ≤ sooner
-    → latest ≤ later → HasRoom room others wider freer sooner later
-still_fits room places others slots wider free freer due sooner latest later fits same more_slots more_free more_due
-    more_latest = record {
+pub still_fits : (room places others slots wider free freer due sooner latest later dense denser : ℕ)
+    → HasRoom room places slots free due latest dense → others ≡ places → slots ≤ wider → free ≤ freer
+    → due ≤ sooner → latest ≤ later → dense ≤ denser → HasRoom room others wider freer sooner later denser
+still_fits room places others slots wider free freer due sooner latest later dense denser fits same more_slots more_free
+    more_due more_latest more_dense = record {
       opened = subst (λ n. n ≤ room) (sym same) fits.opened;
       most = fits.most;
       slots_fit = omega (arith, fits.slots_fit, more_slots);
       free_fit = omega (arith, fits.free_fit, more_free);
       due_fit = omega (arith, fits.due_fit, more_due);
       latest_fit = omega (arith, fits.latest_fit, more_latest);
+      dense_fit = omega (arith, fits.dense_fit, more_dense);
     }
 
 -- a table that grows is no shorter

@@ -1,14 +1,17 @@
 //! The jobs that wait.
 ghost use Rattle.std.specs.Prelude.{◌≡◌, ℕ, ◌+◌, ◌*◌, ◌^◌, ◌<◌, ◌≤◌, [], ◌∷◌, ◌++◌, slice_set, length, List, Option};
 ghost use Rattle.std.specs.Prelude.{Some, None, max, vec_len, vec_capacity, option_map, IsOk, IsNone, IfSome, OnOk};
-ghost use Rattle.std.specs.Prelude.{OnErr, slice_get};
+ghost use Rattle.std.specs.Prelude.{OnErr, slice_get, slice_index_or, is_some, count_by};
 ghost use Rattle.dover_model.specs.declared.events.Version.{Version};
 ghost use Rattle.dover_model.specs.declared.events.Task.{Task};
 ghost use Rattle.dover_model.specs.Common.{entry_of, latest_start, due_first, starts_before, first, Each};
-ghost use Rattle.place_heap.specs.Items.{ItemFacts};
-ghost use Rattle.place_heap.specs.Orders.{due_item, latest_item};
+ghost use Rattle.dover_model.specs.Common.{by_density, waiting_order};
+ghost use Rattle.place_heap.specs.Items.{ItemFacts, is_before};
+ghost use Rattle.place_heap.specs.Table.{items_of};
+ghost use Rattle.place_heap.specs.Orders.{due_item, latest_item, dense_item};
 ghost use Rattle.waiting_pool.specs.Reordered.{IsReordered};
 ghost use Rattle.waiting_pool.specs.Pools.{HaveOwnNumbers, AreModest, Pooled, IsPool, HasRoom, jobs_at, most_places};
+ghost use Rattle.waiting_pool.specs.Pools.{HasItems, IsPlaceOf, item_by_deadline, item_by_density, orders_of};
 ghost use Rattle.waiting_pool.specs.Short.{no_number};
 ghost use Rattle.waiting_pool.specs.Slots.{seen};
 
@@ -16,20 +19,30 @@ use crate::short::{ShortTask, left};
 use crate::slot::WaitingSlot;
 use comparison_count::Comparisons;
 use dover_model::{Memory, Task, Version};
-use place_heap::{Heap, Item, tie_of};
+use place_heap::{Heap, Item, LongRank, Rank, ShortRank, tie_of};
 use std::alloc::Global;
 use std::marker::Model;
 use std::sync::ledger::Ledger;
 
-/// A set of jobs that wait, with the first by deadline and the first by latest start at hand. Each has a place, which
-/// another takes once it is gone. A place is opened where none is free, so room that no job needs isn't touched.
+// What one is in the parts of a density, and what is more than any density has.
+const ONE: u128 = 1 << 80;
+
+const MOST_DENSITY: u128 = 1 << 112;
+
+// What a tick of the deadline counts for beside the tie.
+const DEADLINE: u128 = 1 << 32;
+
+/// A set of jobs that wait, with the first by deadline, the first by latest start and in version Four the densest one
+/// at hand. Each has a place, which another takes once it is gone. A place is opened where none is free, so room that
+/// no job needs isn't touched.
 #[derive(Drop)]
 pub struct Pool {
     version: Version,
     slots: Vec<WaitingSlot>,
     free: Vec<u32>,
-    by_deadline: Heap,
-    by_latest: Heap,
+    by_deadline: Heap<ShortRank>,
+    by_latest: Heap<ShortRank>,
+    by_density: Heap<LongRank>,
     room: u32,
 }
 
@@ -41,14 +54,14 @@ impl Model for Pool {
 
     ghost view = { λ p. record { version = p.version; tasks = jobs_at p.slots.items; room = p.room } };
 
-    ghost invariant = { λ p. IsPool p.version p.slots.items p.free.items p.by_deadline p.by_latest
+    ghost invariant = { λ p. IsPool p.version p.slots.items p.free.items p.by_deadline p.by_latest p.by_density
         × HasRoom p.room (length p.slots.items) (vec_capacity p.slots) (vec_capacity p.free) (length p.by_deadline)
-        (length p.by_latest) };
+        (length p.by_latest) (length p.by_density) };
 }
 
 // The item of the job by its deadline.
 #[inline(always)]
-fn due_item(version: Version, place: u32, t: &Task) -> Item
+fn due_item(version: Version, place: u32, t: &Task) -> Item<ShortRank>
     requires { place < 2 ^ 20 }
     ensures { result ≡ due_item version place (entry_of t.now) }
 {
@@ -62,7 +75,7 @@ fn due_item(version: Version, place: u32, t: &Task) -> Item
 
 // The item of the job by its latest start.
 #[inline(always)]
-fn latest_item(version: Version, place: u32, t: &Task) -> Item
+fn latest_item(version: Version, place: u32, t: &Task) -> Item<ShortRank>
     requires { place < 2 ^ 20 }
     ensures { result ≡ latest_item version place (entry_of t.now) }
 {
@@ -72,6 +85,96 @@ fn latest_item(version: Version, place: u32, t: &Task) -> Item
         t.number,
         place,
     )
+}
+
+// The item of the job by its density. Its place, number and deadline are compared where densities are equal.
+#[inline(always)]
+fn dense_item(place: u32, t: &Task) -> Item<LongRank>
+    requires { place < 2 ^ 20 }
+    ensures { result ≡ dense_item place t.now }
+{
+    let (value, work, deadline) = (t.job.value(), t.job.work(), t.job.deadline());
+    let density = value as u128 * ONE / work as u128;
+    let rest = deadline as u128 * DEADLINE + u128::from(tie_of(Version::Four, value));
+    Item::long(MOST_DENSITY - density, rest, t.number, place)
+}
+
+// Whether the first waiting job is the densest one.
+#[inline(always)]
+fn by_density(version: Version, pressed: bool) -> bool
+    ensures { result ≡ by_density version pressed }
+{
+    match version {
+        Version::One | Version::Two | Version::Three => false,
+        Version::Four => pressed,
+    }
+}
+
+// Keeps the item by density of the job at a place, in version Four.
+#[inline(always)]
+fn add_dense<L: Ledger>(
+    version: Version,
+    heap: &mut Heap<LongRank>,
+    place: u32,
+    t: &Task,
+    comparisons: &mut Comparisons<L>,
+)
+    requires small { place < 2 ^ 20 }
+    requires ready { place < length heap.old }
+    requires free { slice_index_or heap.old place None ≡ None }
+    ensures in_it { heap.new ≡ slice_set heap.old place (item_by_density version place t.now) }
+    ensures count { (d : ℕ) → count_by is_some heap.old + 1 < 2 ^ d →
+        comparisons.new + 2 * d ≤ comparisons.old + orders_of version * d }
+{
+    match version {
+        Version::One | Version::Two | Version::Three => {}
+        Version::Four => heap.insert(dense_item(place, t), comparisons),
+    }
+}
+
+// Takes out what is kept by density of a place.
+#[inline(always)]
+fn remove_dense<L: Ledger>(
+    version: Version,
+    heap: &mut Heap<LongRank>,
+    place: u32,
+    comparisons: &mut Comparisons<L>,
+)
+    requires { (slots : List (Option Task)) × HasItems (item_by_density version) slots heap.old }
+    ensures out { heap.new ≡ slice_set heap.old place None }
+    ensures count { (d : ℕ) → count_by is_some heap.old + 1 < 2 ^ d →
+        comparisons.new + 6 * d ≤ comparisons.old + 3 * orders_of version * d }
+{
+    if by_density(version, true) {
+        heap.remove(place, comparisons);
+    }
+}
+
+// The place of the first of the items.
+#[inline(always)]
+fn first_place<R: Rank>(heap: &Heap<R>) -> Option<u32>
+    ensures { result ≡ option_map (λ i. i.place) (first is_before (items_of heap.now)) }
+{
+    let item = heap.first()?;
+    Some(item.place())
+}
+
+// The place of the first waiting job.
+#[inline(always)]
+fn waiting_place(
+    version: Version,
+    pressed: bool,
+    by_deadline: &Heap<ShortRank>,
+    dense: &Heap<LongRank>,
+) -> Option<u32>
+    ensures { (slots : List (Option Task)) → HasItems (item_by_deadline version) slots by_deadline.now →
+        HasItems (item_by_density version) slots dense.now → HaveOwnNumbers (jobs_at slots) →
+        AreModest (jobs_at slots) → IsPlaceOf (waiting_order version (by_density version pressed)) slots result }
+{
+    if by_density(version, pressed) {
+        return first_place(dense);
+    }
+    first_place(by_deadline)
 }
 
 // What is at a place.
@@ -134,10 +237,11 @@ fn next_place(slots: &mut Vec<WaitingSlot>, free: &mut Vec<u32>) -> u32
     requires room { length (jobs_at slots.old.items) < vec_capacity slots.old }
     requires count { length free.old.items + length (jobs_at slots.old.items) ≡ length slots.old.items }
     requires few { length slots.old.items < 2 ^ 32 }
-    ensures pool { (v : Version) (due latest : List (Option ItemFacts)) →
-        IsPool v slots.old.items free.old.items due latest → length slots.new.items ≤ length due →
-        length slots.new.items ≤ length latest → length slots.new.items ≤ most_places →
-        IsPool v slots.new.items (free.new.items ++ result ∷ []) due latest }
+    ensures pool { (v : Version) (due latest dense : List (Option ItemFacts)) →
+        IsPool v slots.old.items free.old.items due latest dense → length slots.new.items ≤ length due →
+        length slots.new.items ≤ length latest → length slots.new.items ≤ length dense →
+        length slots.new.items ≤ most_places →
+        IsPool v slots.new.items (free.new.items ++ result ∷ []) due latest dense }
     ensures jobs { jobs_at slots.new.items ≡ jobs_at slots.old.items }
     ensures places { length slots.new.items ≤ max (length slots.old.items) (length (jobs_at slots.old.items) + 1) }
     ensures slots { vec_capacity slots.new ≡ vec_capacity slots.old }
@@ -156,59 +260,65 @@ fn next_place(slots: &mut Vec<WaitingSlot>, free: &mut Vec<u32>) -> u32
 // Takes the job at a place out, which is then free.
 #[inline(always)]
 fn take_at<L: Ledger>(
+    version: Version,
     slots: &mut Vec<WaitingSlot>,
     free: &mut Vec<u32>,
-    by_deadline: &mut Heap,
-    by_latest: &mut Heap,
+    by_deadline: &mut Heap<ShortRank>,
+    by_latest: &mut Heap<ShortRank>,
+    dense: &mut Heap<LongRank>,
     place: u32,
     comparisons: &mut Comparisons<L>,
 )
     requires some { (t : Task) × (slice_get slots.old.items place ≡ Some (Some t)) }
-    requires pool { (version : Version) × IsPool version slots.old.items free.old.items by_deadline.old by_latest.old }
+    requires pool { IsPool version slots.old.items free.old.items by_deadline.old by_latest.old dense.old }
     requires room { vec_len slots.old ≤ vec_capacity free.old }
     ensures rest { (t : Task) → slice_get slots.old.items place ≡ Some (Some t)
         → IsReordered (jobs_at slots.old.items) (t ∷ jobs_at slots.new.items) }
-    ensures pool { (version : Version) → IsPool version slots.old.items free.old.items by_deadline.old by_latest.old →
-        IsPool version slots.new.items free.new.items by_deadline.new by_latest.new }
+    ensures pool { IsPool version slots.new.items free.new.items by_deadline.new by_latest.new dense.new }
     ensures places { vec_len slots.new ≡ vec_len slots.old }
     ensures capacity { vec_capacity free.new ≡ vec_capacity free.old }
     ensures slots { vec_capacity slots.new ≡ vec_capacity slots.old }
     ensures due { length by_deadline.new ≡ length by_deadline.old }
     ensures latest { length by_latest.new ≡ length by_latest.old }
-    ensures count { (d : ℕ) → length (jobs_at slots.old.items) + 1 < 2 ^ d → comparisons.new ≤ comparisons.old + 6 * d }
+    ensures dense { length dense.new ≡ length dense.old }
+    ensures count { (d : ℕ) → length (jobs_at slots.old.items) + 1 < 2 ^ d →
+        comparisons.new ≤ comparisons.old + 3 * orders_of version * d }
 {
     clear_at(slots, place);
     free.push_reserved(place);
     by_deadline.remove(place, comparisons);
     by_latest.remove(place, comparisons);
+    remove_dense(version, dense, place, comparisons);
 }
 
-// Memory for so many places, which all may be free, and for as many in both heaps. Want of it leaves what is there.
+// Memory for so many places, which all may be free, and for as many in the heaps. Want of it leaves what is there.
 fn reserve_places(
     slots: &mut Vec<WaitingSlot>,
     free: &mut Vec<u32>,
-    by_deadline: &mut Heap,
-    by_latest: &mut Heap,
+    by_deadline: &mut Heap<ShortRank>,
+    by_latest: &mut Heap<ShortRank>,
+    dense: &mut Heap<LongRank>,
     places: u32,
 ) -> Result<(), Memory>
     requires opened { length slots.old.items ≤ places }
     requires free { length free.old.items ≤ places }
     requires most { places ≤ most_places }
     ensures keeps { (version : Version) (room : ℕ) →
-        IsPool version slots.old.items free.old.items by_deadline.old by_latest.old →
+        IsPool version slots.old.items free.old.items by_deadline.old by_latest.old dense.old →
         HasRoom room (length slots.old.items) (vec_capacity slots.old) (vec_capacity free.old)
-        (length by_deadline.old) (length by_latest.old) →
-        IsPool version slots.new.items free.new.items by_deadline.new by_latest.new
+        (length by_deadline.old) (length by_latest.old) (length dense.old) →
+        IsPool version slots.new.items free.new.items by_deadline.new by_latest.new dense.new
         × HasRoom room (length slots.new.items) (vec_capacity slots.new) (vec_capacity free.new)
-        (length by_deadline.new) (length by_latest.new) }
+        (length by_deadline.new) (length by_latest.new) (length dense.new) }
     ensures same { slots.new.items ≡ slots.old.items }
     ensures fits { OnOk result (HasRoom places (length slots.new.items) (vec_capacity slots.new)
-        (vec_capacity free.new) (length by_deadline.new) (length by_latest.new)) }
+        (vec_capacity free.new) (length by_deadline.new) (length by_latest.new) (length dense.new)) }
 {
     slots.reserve(places as usize - slots.len())?;
     free.reserve(places as usize - free.len())?;
     by_deadline.reserve(places)?;
     by_latest.reserve(places)?;
+    dense.reserve(places)?;
     Ok(())
 }
 
@@ -223,6 +333,7 @@ impl Pool {
             free: Vec::new(alloc),
             by_deadline: Heap::new(alloc),
             by_latest: Heap::new(alloc),
+            by_density: Heap::new(alloc),
             room: 0,
         }
     }
@@ -268,6 +379,7 @@ impl Pool {
             &mut self.free,
             &mut self.by_deadline,
             &mut self.by_latest,
+            &mut self.by_density,
             places,
         )?;
         self.room = places;
@@ -281,7 +393,8 @@ impl Pool {
         requires number { t.number < no_number }
         ensures kept { self.new ≡ record self.old { tasks = self.new.tasks } }
         ensures more { IsReordered (t ∷ self.old.tasks) self.new.tasks }
-        ensures count { (d : ℕ) → length self.old.tasks + 1 < 2 ^ d → comparisons.new ≤ comparisons.old + 2 * d }
+        ensures count { (d : ℕ) → length self.old.tasks + 1 < 2 ^ d →
+            comparisons.new ≤ comparisons.old + orders_of self.old.version * d }
     {
         let place = next_place(&mut self.slots, &mut self.free);
         let due = due_item(self.version, place, &t);
@@ -289,17 +402,20 @@ impl Pool {
         put_at(&mut self.slots, place, &t);
         self.by_deadline.insert(due, comparisons);
         self.by_latest.insert(latest, comparisons);
+        add_dense(self.version, &mut self.by_density, place, &t, comparisons);
     }
 
-    /// The first by deadline, if one waits. Ties go by the version.
+    /// The first waiting job, if one waits: by deadline, in a pressed state of version Four by density. Ties go by the
+    /// version.
     #[inline(always)]
-    pub fn first_deadline(&self) -> Option<&ShortTask>
+    pub fn first_waiting(&self, pressed: bool) -> Option<&ShortTask>
         requires own { HaveOwnNumbers self.now.tasks }
         requires modest { AreModest self.now.tasks }
-        ensures { seen result ≡ first (due_first self.now.version) self.now.tasks }
+        ensures { let version = self.now.version in
+            seen result ≡ first (waiting_order version (by_density version pressed)) self.now.tasks }
     {
-        let item = self.by_deadline.first()?;
-        job_at(&self.slots, item.place())
+        let place = waiting_place(self.version, pressed, &self.by_deadline, &self.by_density)?;
+        job_at(&self.slots, place)
     }
 
     /// The first by latest start, if one waits. Ties go by the version.
@@ -324,25 +440,32 @@ impl Pool {
         Some(item.key())
     }
 
-    /// Takes the first by deadline out, if one waits.
+    /// Takes the first waiting job out, if one waits.
     #[inline(always)]
-    pub fn take_deadline<L: Ledger>(&mut self, comparisons: &mut Comparisons<L>) -> Option<Task>
+    pub fn take_waiting<L: Ledger>(
+        &mut self,
+        pressed: bool,
+        comparisons: &mut Comparisons<L>,
+    ) -> Option<Task>
         requires own { HaveOwnNumbers self.old.tasks }
         requires modest { AreModest self.old.tasks }
-        ensures was { result ≡ first (due_first self.old.version) self.old.tasks }
+        ensures was { let version = self.old.version in
+            result ≡ first (waiting_order version (by_density version pressed)) self.old.tasks }
         ensures rest { (t : Task) → result ≡ Some t → IsReordered self.old.tasks (t ∷ self.new.tasks) }
         ensures none { result ≡ None → self.new.tasks ≡ self.old.tasks }
         ensures kept { self.new ≡ record self.old { tasks = self.new.tasks } }
-        ensures count { (d : ℕ) → length self.old.tasks + 1 < 2 ^ d → comparisons.new ≤ comparisons.old + 6 * d }
+        ensures count { (d : ℕ) → length self.old.tasks + 1 < 2 ^ d →
+            comparisons.new ≤ comparisons.old + 3 * orders_of self.old.version * d }
     {
-        let item = self.by_deadline.first()?;
-        let place = item.place();
+        let place = waiting_place(self.version, pressed, &self.by_deadline, &self.by_density)?;
         let task = task_at(&self.slots, place);
         take_at(
+            self.version,
             &mut self.slots,
             &mut self.free,
             &mut self.by_deadline,
             &mut self.by_latest,
+            &mut self.by_density,
             place,
             comparisons,
         );
@@ -358,14 +481,17 @@ impl Pool {
             → IsReordered self.old.tasks (t ∷ self.new.tasks) }
         ensures none { first (starts_before self.old.version) self.old.tasks ≡ None → self.new.tasks ≡ self.old.tasks }
         ensures kept { self.new ≡ record self.old { tasks = self.new.tasks } }
-        ensures count { (d : ℕ) → length self.old.tasks + 1 < 2 ^ d → comparisons.new ≤ comparisons.old + 6 * d }
+        ensures count { (d : ℕ) → length self.old.tasks + 1 < 2 ^ d →
+            comparisons.new ≤ comparisons.old + 3 * orders_of self.old.version * d }
     {
         if let Some(item) = self.by_latest.first() {
             take_at(
+                self.version,
                 &mut self.slots,
                 &mut self.free,
                 &mut self.by_deadline,
                 &mut self.by_latest,
+                &mut self.by_density,
                 item.place(),
                 comparisons,
             );

@@ -2,8 +2,8 @@
 use Rattle.std.proofs.Common.{◌≡◌, ℕ, ◌+◌, ◌*◌, ◌≤◌, ◌<◌, ◌⊎◌, inl, inr, List, [], ◌∷◌, map, refl, sym, ap, ◌∙◌, subst}
 use Rattle.std.proofs.Common.{Bool, true, false, cond, eqb, arith, Option, Some, None, eq-eqb, ne_eqb, eqb-true}
 use Rattle.std.proofs.lemmas.Bool.{cases_lt}
-use Rattle.std.proofs.lemmas.Nat.{mul-le}
 use Rattle.std.proofs.lemmas.List.Sums.{sum_by-cons}
+use Rattle.std.proofs.Math.Nat.{mul-le-mul_left}
 use Rattle.dover_model.specs.Common.{Fraction, JobFacts, IsHeavy, is_heavy, value_of, Take, Preempt, Role, Coming}
 use Rattle.dover_model.specs.Common.{Fresh, Waiting, Held, Running, Done, Gone, Task, State, is_privileged, is_running}
 use Rattle.dover_model.specs.Common.{is_ready_behind, is_done, left, latest_start, privileged, value_sum, Prints, Ticks}
@@ -394,7 +394,7 @@ module _ (k : Fraction) (some_q : 1 ≤ k.q) (ratio : k.q ≤ k.p) (v w : ℕ) (
         by_active t m false = omega arith
         by_active t m true =
             let most : v * t.had ≤ v * t.job.work =
-            mul-le v t.had v t.job.work (omega arith) (sound.at_most_work t m) in
+            mul-le-mul_left v (sound.at_most_work t m) in
             let worth : v * t.job.work ≤ w * t.job.value = (modest t m).1 in
             omega arith
 

@@ -1,7 +1,7 @@
 -- What the books of a run keep in each state, and steps that change no interval.
 use Rattle.std.proofs.Common.{◌≡◌, ℕ, ◌+◌, ◌*◌, ◌≤◌, ◌<◌, ◌⊎◌, inl, inr, List, [], map, refl, sym, ap, ◌∙◌, subst, Bool}
 use Rattle.std.proofs.Common.{true, false, cond, eqb, arith, Option, Some, None, sum_by, eq-eqb, ne_eqb, eqb-true}
-use Rattle.std.proofs.lemmas.Nat.{mul-le}
+use Rattle.std.proofs.Math.Nat.{mul-le-mul_left}
 use Rattle.dover_model.specs.Common.{Fraction, JobFacts, IsHeavy, Role, Coming, Fresh, Waiting, Held, Running, Done}
 use Rattle.dover_model.specs.Common.{Gone, Task, State, is_privileged, is_done, left, with_role, IsMember, Each}
 use Rattle.dover_model.specs.Common.{IsNumberedFrom, Row, IsRow, IsDense, IsPaid, job_value, Job, in_rows}
@@ -228,7 +228,7 @@ under_kept k v w s t closed row same some value had taker under = record {
   span =
       let old : v * s.clock ≤ v * row.interval.from + w * (row.interval.regular + row.interval.displaced) + v
       * active_had s.tasks = under.span in
-      omega (arith, ap (λ n. v * n) same, mul-le v (active_had s.tasks) v (active_had t.tasks) (omega arith) had);
+      omega (arith, ap (λ n. v * n) same, mul-le-mul_left v had);
   plain = under.plain;
   taker = λ took. taker (under.taker took);
   gone = λ n_j member. record {

@@ -4,8 +4,7 @@ use Rattle.std.proofs.Common.{subst, Bool, true, false, cond, arith}
 use Rattle.std.specs.Prelude.{None, nat_le, nat_lt, ◌&&◌, ◌||◌}
 use Rattle.std.specs.List.{sum_by, count_by, enumerate_from, AllByRecursion}
 use Rattle.std.proofs.lemmas.Bool.{cases_lt, le-leb, leb-true}
-use Rattle.std.proofs.lemmas.Nat.{mul-le}
-use Rattle.std.proofs.Math.Nat.{mul-sub}
+use Rattle.std.proofs.Math.Nat.{mul-sub, mul-le-mul_right}
 use Rattle.std.proofs.lemmas.List.{length-map}
 use Rattle.std.proofs.lemmas.List.Sums.{sum_by-cons}
 use Rattle.dover_model.specs.Common.{JobFacts, IsJob, IsHeavy, IsWithin, is_busy_tick, IsLeastDense, IsRow, Row}
@@ -26,7 +25,8 @@ use Rattle.dover_model.proofs.bound.Calculus.{cancel, within_less}
 use Rattle.dover_model.proofs.runs.Serving.{named_once, sum_numbered}
 use Rattle.dover_model.proofs.runs.Honest.{sum_tasks, sum_observing}
 use Rattle.dover_model.proofs.bound.Counting.{one, total, total_le, total_plus, range_count, total_zero}
-use Rattle.dover_model.proofs.bound.Books.{books_bound, AreBooks}
+use Rattle.dover_model.proofs.bound.Books.{AreBooks}
+use Rattle.dover_model.proofs.bound.Augmented.{books_bound}
 use Rattle.dover_model.proofs.bound.Booking.{is_gone, is_ready, job_of, sum_where, Booked}
 use Rattle.dover_model.proofs.bound.Closing.{row_kept, in_more_rows}
 use Rattle.dover_model.proofs.bound.Booked.{IsModest}
@@ -42,8 +42,8 @@ no_denser : (i j l : JobFacts) → 1 ≤ j.work → i.value * j.work ≤ j.value
     → i.value * l.work ≤ l.value * i.work
 no_denser i j l some one other = cancel j.work (i.value * l.work) (l.value * i.work) some (omega (
   arith,
-  mul-le (i.value * j.work) l.work (j.value * i.work) l.work one (omega arith),
-  mul-le (j.value * l.work) i.work (l.value * j.work) i.work other (omega arith),
+  mul-le-mul_right l.work one,
+  mul-le-mul_right i.work other,
 ))
 
 -- some job has the least density, or there is none

@@ -3,7 +3,7 @@ use Rattle.std.proofs.Common.{◌≡◌, ℕ, ◌+◌, ◌-◌, ◌*◌, ◌≤�
 use Rattle.std.proofs.Common.{arith, IsTrue, max, Option, Some, None, ◌&&◌, nat_lt, sum_by}
 use Rattle.std.proofs.lemmas.Bool.{cases_lt}
 use Rattle.std.proofs.lemmas.Nat.{mul-le}
-use Rattle.std.proofs.Math.Nat.{le-max_left, le-max_right, mul-sub}
+use Rattle.std.proofs.Math.Nat.{le-max_left, le-max_right, mul-sub, mul-le-mul_left, mul-le-mul_right}
 use Rattle.std.proofs.lemmas.List.Sums.{sum_by-cons}
 use Rattle.dover_model.specs.Common.{Fraction, Factor, IsHeavy, IsWithin, is_within_by, is_within_root, scale, share}
 use Rattle.dover_model.specs.Common.{IsPaidBy, IsPaid, IsExcessBy, IsExcess, Each}
@@ -22,18 +22,12 @@ square_order x y squares = by_order (cases_lt y x) where
       (let more : (y + 1) * (y + 1) ≤ x * x = mul-le (y + 1) (y + 1) x x (omega arith) (omega arith) in omega arith)
   by_order (inr low) = low
 
--- greater numbers have greater squares, as often
-pub square_le : (a m n : ℕ) → m ≤ n → a * m * m ≤ a * n * n
-square_le a m n less =
-    let square : m * m ≤ n * n = mul-le m m n n less less in
-    let times : a * (m * m) ≤ a * (n * n) = mul-le a (m * m) a (n * n) (omega arith) square in omega (arith, times)
-
 -- a factor of at least one can be left out
 pub cancel : (c x y : ℕ) → 1 ≤ c → c * x ≤ c * y → x ≤ y
 cancel c x y some products = by_order (cases_lt y x) where
   by_order : (y < x) ⊎ (x ≤ y) → x ≤ y
   by_order (inl less) = absurd
-      (let more : c * (y + 1) ≤ c * x = mul-le c (y + 1) c x (omega arith) (omega arith) in omega arith)
+      (let more : c * (y + 1) ≤ c * x = mul-le-mul_left c (omega arith) in omega arith)
   by_order (inr low) = low
 
 -- the product of two that are below
@@ -63,7 +57,7 @@ pub below_mono : (m x y a b : ℕ) → y ≤ x → a ≤ b → Below m x a → B
 below_mono m x y a b less more below =
     let low : y * y ≤ x * x = mul-le y y x x less less in
     let square : a * a ≤ b * b = mul-le a a b b more more in
-    let high : m * (a * a) ≤ m * (b * b) = mul-le m (a * a) m (b * b) (omega arith) square in
+    let high : m * (a * a) ≤ m * (b * b) = mul-le-mul_left m square in
     omega arith
 
 -- ---- the tests, by the root or by a factor
@@ -118,7 +112,7 @@ module _ (k : Fraction) (some_q : 1 ≤ k.q) (ratio : k.q ≤ k.p) where
   -- what is displaced stands below what is taken
   pub displaced_below : (d z : ℕ) → k.p * d * d ≤ k.q * z * z → Below (k.p * k.q) (k.p * d) z
   displaced_below d z row = let times : k.p * (k.p * d * d) ≤ k.p * (k.q * z * z) =
-      mul-le k.p (k.p * d * d) k.p (k.q * z * z) (omega arith) row in
+      mul-le-mul_left k.p row in
       omega arith
 
   -- and what stands below it is displaced
@@ -128,7 +122,7 @@ module _ (k : Fraction) (some_q : 1 ≤ k.q) (ratio : k.q ≤ k.p) where
   -- so does what is worth more than an interval
   pub excess_below : (y a : ℕ) → k.q * y * y ≤ k.p * a * a → Below (k.p * k.q) (k.q * y) a
   excess_below y a row = let times : k.q * (k.q * y * y) ≤ k.q * (k.p * a * a) =
-      mul-le k.q (k.q * y * y) k.q (k.p * a * a) (omega arith) row in
+      mul-le-mul_left k.q row in
       omega arith
 
   -- and what stands below it is worth no more
@@ -138,7 +132,7 @@ module _ (k : Fraction) (some_q : 1 ≤ k.q) (ratio : k.q ≤ k.p) where
   -- so does what is done as usual
   pub regular_below : (r : ℕ) → Below (k.p * k.q) (k.q * r) r
   regular_below r = let times : k.q * (k.q * (r * r)) ≤ k.p * (k.q * (r * r)) =
-      mul-le k.q (k.q * (r * r)) k.p (k.q * (r * r)) ratio (omega arith) in
+      mul-le-mul_right (k.q * (r * r)) ratio in
       omega arith
 
   -- two rows add up
@@ -182,7 +176,7 @@ module _ (k : Fraction) (some_q : 1 ≤ k.q) (ratio : k.q ≤ k.p) where
 -- less of what is within by the root is within
 pub root_less : (k : Fraction) (c c2 a : ℕ) → c ≤ c2 → IsTrue (is_within_root k c2 a) → IsTrue (is_within_root k c a)
 root_less k c c2 a less within =
-    let times : k.q * c ≤ k.q * c2 = mul-le k.q c k.q c2 (omega arith) less in
+    let times : k.q * c ≤ k.q * c2 = mul-le-mul_left k.q less in
     let low : k.q * c - (k.p + k.q) * a ≤ k.q * c2 - (k.p + k.q) * a = omega arith in
     let square : (k.q * c - (k.p + k.q) * a) * (k.q * c - (k.p + k.q) * a) ≤ (k.q * c2 - (k.p + k.q) * a)
     * (k.q * c2 - (k.p + k.q) * a) =
@@ -208,11 +202,11 @@ root_add k c c2 a a2 one other =
 root_mono : (k : Fraction) (v w w' : ℕ) → w ≤ w' → HeavyBy k None v w' → HeavyBy k None v w
 root_mono k v w w' less heavy =
     let low : w * w ≤ w' * w' = mul-le w w w' w' less less in
-    let times : k.p * (w * w) ≤ k.p * (w' * w') = mul-le k.p (w * w) k.p (w' * w') (omega arith) low in
+    let times : k.p * (w * w) ≤ k.p * (w' * w') = mul-le-mul_left k.p low in
     let square : (v - w') * (v - w') ≤ (v - w) * (v - w) =
     mul-le (v - w') (v - w') (v - w) (v - w) (omega arith) (omega arith) in
     let more : k.q * ((v - w') * (v - w')) ≤ k.q * ((v - w) * (v - w)) =
-    mul-le k.q ((v - w') * (v - w')) k.q ((v - w) * (v - w)) (omega arith) square in
+    mul-le-mul_left k.q square in
     root_from k v w (join (v - w') (v - w) (root_excess k v w' heavy) times more) where
       join : (x y : ℕ) → k.p * w' * w' < k.q * x * x → k.p * (w * w) ≤ k.p * (w' * w') → k.q * (x * x) ≤ k.q * (y * y)
           → k.p * w * w < k.q * y * y
@@ -248,7 +242,7 @@ factor_mono : (k : Fraction) (f : Factor) (v w w' : ℕ) → w ≤ w' → HeavyB
 factor_mono k f v w w' less heavy =
     let more : w' < v = more_by k (Some f) v w' heavy in
     let over : f.b * w' < f.c * v = factor_over k f v w' heavy in
-    let times : f.b * w ≤ f.b * w' = mul-le f.b w f.b w' (omega arith) less in
+    let times : f.b * w ≤ f.b * w' = mul-le-mul_left f.b less in
     factor_from k f v w (omega (arith, more, less)) (omega (arith, over, times))
 
 -- what is not heavy exceeds by little
@@ -266,7 +260,7 @@ factor_light k f v w light = by_order (cases_lt w v) where
     mul-sub w f.b f.c,
     by_over more (cases_lt (f.b * w) (f.c * v)),
   )
-  by_order (inr low) = omega (arith, mul-sub f.c v w, mul-le f.c v f.c w (omega arith) low)
+  by_order (inr low) = omega (arith, mul-sub f.c v w, mul-le-mul_left f.c low)
 
 -- the sum of an interval's parts, where what is displaced counts t times, what is above u times and what is done as
 -- usual h times, with c for the factor's denominator and e for what its numerator is more
@@ -279,13 +273,13 @@ linear_within t u h c e o r z d y most paid little = by_most (max (h * e) (t * c
           → h * c * e * o ≤ (u * (c + e) * e + t * c * e + c * m) * (r + z)
       by_most m one other =
           let all : (c * e) * (h * o) ≤ (c * e) * ((t + u) * (r + z) + (h * r + t * d + u * y)) =
-          mul-le (c * e) (h * o) (c * e) ((t + u) * (r + z) + (h * r + t * d + u * y)) (omega arith) most in
+          mul-le-mul_left (c * e) most in
           let displaced : (t * c) * (e * d) ≤ (t * c) * (c * z) =
-          mul-le (t * c) (e * d) (t * c) (c * z) (omega arith) paid in
+          mul-le-mul_left (t * c) paid in
           let single : (u * e) * (c * y) ≤ (u * e) * (e * (r + z)) =
-          mul-le (u * e) (c * y) (u * e) (e * (r + z)) (omega arith) little in
-          let regular : (c * r) * (h * e) ≤ (c * r) * m = mul-le (c * r) (h * e) (c * r) m (omega arith) one in
-          let taken : (c * z) * (t * c) ≤ (c * z) * m = mul-le (c * z) (t * c) (c * z) m (omega arith) other in
+          mul-le-mul_left (u * e) little in
+          let regular : (c * r) * (h * e) ≤ (c * r) * m = mul-le-mul_left (c * r) one in
+          let taken : (c * z) * (t * c) ≤ (c * z) * m = mul-le-mul_left (c * z) other in
           omega (arith, all, displaced, single, regular, taken)
 
 -- so it is by the factor itself
@@ -383,15 +377,6 @@ module _ (k : Fraction) (some_q : 1 ≤ k.q) (ratio : k.q ≤ k.p) where
       → IsExcess k y (r + z) → IsWithin k c (r + z)
   within_parts = parts_by k.factor
 
-paid_more_by : (k : Fraction) (o : Option Factor) (d z more : ℕ) → z ≤ more → IsPaidBy k o d z → IsPaidBy k o d more
-paid_more_by k None d z more less paid = omega (arith, paid, square_le k.q z more less)
-paid_more_by k (Some f) d z more less paid =
-    let times : f.c * z ≤ f.c * more = mul-le f.c z f.c more (omega arith) less in omega (arith, paid, times)
-
--- what is paid by less is paid by more
-pub paid_more : (k : Fraction) (d z more : ℕ) → z ≤ more → IsPaid k d z → IsPaid k d more
-paid_more k = paid_more_by k k.factor
-
 -- what is heavy is more
 pub heavy_more : (k : Fraction) (v w : ℕ) → IsHeavy k v w → w < v
 heavy_more k = more_by k k.factor
@@ -415,7 +400,7 @@ up_by k None v more w less heavy =
 up_by k (Some f) v more w less heavy =
     let above : w < v = more_by k (Some f) v w heavy in
     let over : f.b * w < f.c * v = factor_over k f v w heavy in
-    let times : f.c * v ≤ f.c * more = mul-le f.c v f.c more (omega arith) less in
+    let times : f.c * v ≤ f.c * more = mul-le-mul_left f.c less in
     factor_from k f more w (omega (arith, above, less)) (omega (arith, over, times))
 
 -- what is more than something heavy is heavy
@@ -434,7 +419,7 @@ less_by : (k : Fraction) (o : Option Factor) (c c2 a : ℕ) → c ≤ c2 → IsT
     → IsTrue (is_within_by k o c a)
 less_by k None c c2 a less within = root_less k c c2 a less within
 less_by k (Some f) c c2 a less within = (factor_agrees k f c a).1
-    (let times : scale k f * c ≤ scale k f * c2 = mul-le (scale k f) c (scale k f) c2 (omega arith) less in
+    (let times : scale k f * c ≤ scale k f * c2 = mul-le-mul_left (scale k f) less in
     omega (arith, (factor_agrees k f c2 a).0 within, times))
 
 -- less of what is within is within
@@ -492,7 +477,7 @@ module _ (k : Fraction) (plain : k.factor ≡ None) where
 -- values that are densities times work, where each density is at least one and at most the ratio
 pub dense_within : (p q d e w v : ℕ) → q * d ≤ p → 1 ≤ e → q * (d * w) * v ≤ p * (e * v) * w
 dense_within p q d e w v low some =
-    let more : p * 1 ≤ p * e = mul-le p 1 p e (omega arith) some in
+    let more : p * 1 ≤ p * e = mul-le-mul_left p some in
     let dense : q * d ≤ p * e = omega (arith, more) in
-    let all : (q * d) * (w * v) ≤ (p * e) * (w * v) = mul-le (q * d) (w * v) (p * e) (w * v) dense (omega arith) in
+    let all : (q * d) * (w * v) ≤ (p * e) * (w * v) = mul-le-mul_right (w * v) dense in
     omega (arith, all)

@@ -4,7 +4,7 @@ use Rattle.std.proofs.Common.{subst, Bool, true, false, cond, eqb, arith, nat_le
 use Rattle.std.proofs.Common.{sum_by, eq-eqb, ne_eqb, le-leb, lt-ltb}
 use Rattle.std.proofs.lemmas.Bool.{and_from, or_left, or_right}
 use Rattle.std.proofs.lemmas.List.Sums.{sum_by-cons}
-use Rattle.std.proofs.lemmas.Nat.{mul-le}
+use Rattle.std.proofs.Math.Nat.{mul-le-mul_left}
 use Rattle.dover_model.specs.Common.{Fraction, IsHeavy, value_of, Held, Running, Done, Task, State, is_privileged}
 use Rattle.dover_model.specs.Common.{is_done, left, IsMember, Each, IsNumberedFrom, IsSound, Row, IsRow, TakenIn}
 use Rattle.dover_model.specs.Common.{IsDense, IsPaid, job_value, Job, in_rows}
@@ -95,7 +95,7 @@ module _ (k : Fraction) (v w : ℕ) (s : State) (sound : IsSound s) (closed : Li
   -- its ticks are paid by its value
   had_paid : v * r.had ≤ w * r.job.value
   had_paid = let less : v * r.had ≤ v * r.job.work =
-      mul-le v r.had v r.job.work (omega arith) (sound.at_most_work r member) in omega arith
+      mul-le-mul_left v (sound.at_most_work r member) in omega arith
 
   -- a sum over the running and the held jobs falls by its term
   active_falls : (f : Task → ℕ) → active_sum f (state_with s r Done).tasks + f r ≡ active_sum f s.tasks

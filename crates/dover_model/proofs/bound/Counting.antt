@@ -2,9 +2,9 @@
 use Rattle.std.proofs.Common.{◌≡◌, ℕ, suc, zero, ◌+◌, ◌-◌, ◌*◌, ◌≤◌, ◌<◌, ◌⊎◌, inl, inr, List, [], ◌∷◌, take, refl, sym}
 use Rattle.std.proofs.Common.{ap, Bool, true, false, cond, eqb, arith, nat_le, nat_lt, ◌&&◌, sum_by, le-leb, leb-true}
 use Rattle.std.proofs.Common.{lt-ltb, ltb-true}
-use Rattle.std.proofs.lemmas.Bool.{and_left, and_parts, cases_lt, lt-leb}
-use Rattle.std.proofs.lemmas.Nat.{mul-le}
+use Rattle.std.proofs.lemmas.Bool.{and_left, and_parts, cases_lt, lt-leb, le-ltb}
 use Rattle.std.proofs.lemmas.List.Sums.{sum_by-cons}
+use Rattle.std.proofs.Math.Nat.{mul-le-mul_left}
 use Rattle.dover_model.specs.Common.{JobFacts, Each, ticks_given, Job}
 use Rattle.dover_model.proofs.runs.Serving.{given, given_nil}
 use Rattle.dover_model.proofs.lists.Tests.{never}
@@ -12,6 +12,16 @@ use Rattle.dover_model.proofs.lists.Tests.{never}
 -- a test as a number
 abbrev pub one : Bool → ℕ
 one b = cond b 1 0
+
+-- it is none where a number isn't above another, and nowhere else
+pub one_none : (a b : ℕ) → a ≤ b → one (nat_lt b a) ≡ 0
+one_none a b low = ap one (le-ltb b a low)
+
+pub one_low : (a b : ℕ) → one (nat_lt b a) ≡ 0 → a ≤ b
+one_low a b none = by_order (cases_lt b a) where
+  by_order : (b < a) ⊎ (a ≤ b) → a ≤ b
+  by_order (inr low) = low
+  by_order (inl less) = absurd (let bad : one (nat_lt b a) ≡ 1 = ap one (lt-ltb b a less) in omega arith)
 
 -- the sum over the ticks of a schedule, of which the first is t
 abbrev pub total : (ℕ → ℕ → ℕ) → ℕ → List ℕ → ℕ
@@ -179,4 +189,4 @@ shares_most jobs once b c s less =
           → sum_by (λ n_j. one (eqb m n_j.0)) xs ≤ 1
           → sum_by (λ n_j. cond (eqb m n_j.0) (cond (in_window n_j.1 τ) (b τ) 0) 0) xs ≤ c τ
       one_gets τ m xs low single = omega
-          (arith, scaled xs τ m low, mul-le (c τ) (sum_by (λ n_j. one (eqb m n_j.0)) xs) (c τ) 1 (omega arith) single)
+          (arith, scaled xs τ m low, mul-le-mul_left (c τ) single)

@@ -3,7 +3,7 @@ use Rattle.std.proofs.Common.{◌≡◌, ℕ, zero, suc, ◌+◌, ◌-◌, ◌*�
 use Rattle.std.proofs.Common.{subst, Bool, true, false, IsTrue, arith, if◌then◌else◌, Option, Some, None, nat_le}
 use Rattle.std.proofs.Common.{le-leb, leb-true}
 use Rattle.std.proofs.lemmas.Bool.{lt-leb, cases_lt}
-use Rattle.std.proofs.Math.Nat.{pow-succ', mul-le-mul_left, mul-le-mul_right, mul-div-le, le-div_iff_mul-le}
+use Rattle.std.proofs.Math.Nat.{pow-succ', mul-le-mul_right, mul-div-le, le-div_iff_mul-le}
 use Rattle.std.proofs.lemmas.Nat.{mul-le}
 use Rattle.dover_model.specs.Common.{Fraction, IsRatio, is_some_factor, Factor, IsGreatest, greatest, is_within}
 use Rattle.dover_model.specs.Common.{is_within_by, is_within_root, bound, bound_by, scale, share, IsPaid, IsPaidBy}
@@ -42,11 +42,6 @@ module _ (passes : ℕ → Bool) (closed : IsDownwardClosed passes) where
   greatest-is does fails = greatest_from-is 80 0 does fails
 
 -- ---- the competitive bound
-
--- greater numbers have greater squares
-square_le : (m n : ℕ) → m ≤ n → m * m ≤ n * n
-square_le m n h = let one : m * m ≤ m * n = mul-le-mul_left m h in let two : m * n ≤ n * n = mul-le-mul_right n h in
-    omega (arith, one, two)
 
 -- what is less is within as well
 within_closed : (k : Fraction) (a : ℕ) → IsDownwardClosed (λ c. is_within_root k c a)

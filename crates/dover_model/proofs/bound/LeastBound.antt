@@ -2,8 +2,7 @@
 -- it.
 use Rattle.std.proofs.Common.{◌≡◌, ℕ, ◌+◌, ◌-◌, ◌*◌, ◌≤◌, ◌<◌, ◌⊎◌, inl, inr, subst, arith, max}
 use Rattle.std.proofs.lemmas.Bool.{cases_lt}
-use Rattle.std.proofs.lemmas.Nat.{mul-le}
-use Rattle.std.proofs.Math.Nat.{le-max_right}
+use Rattle.std.proofs.Math.Nat.{le-max_right, mul-le-mul_left, mul-le-mul_right}
 use Rattle.dover_model.specs.Common.{Fraction, fraction, with_factor, IsWithin}
 use Rattle.dover_model.proofs.bound.Calculus.{square_order, root_agrees, factor_agrees}
 
@@ -25,13 +24,12 @@ four_times u v = by_order (cases_lt u v) where
 excess_least : (p q c e a x : ℕ) → x * x ≤ 4 * p * q * a * a → c * e * x ≤ (q * e * e + p * c * c) * a
 excess_least p q c e a x square = square_order (c * e * x) ((q * e * e + p * c * c) * a) (
     let one : (c * c * e * e) * (x * x) ≤ (c * c * e * e) * (4 * p * q * a * a) =
-    mul-le (c * c * e * e) (x * x) (c * c * e * e) (4 * p * q * a * a) (omega arith) square in
+    mul-le-mul_left (c * c * e * e) square in
     let two : 4 * (q * e * e) * (p * c * c) ≤ (q * e * e + p * c * c) * (q * e * e + p * c * c) =
     four_times (q * e * e) (p * c * c) in
     let three : (4 * (q * e * e) * (p * c * c)) * (a * a)
     ≤ ((q * e * e + p * c * c) * (q * e * e + p * c * c)) * (a * a) =
-    mul-le (4 * (q * e * e) * (p * c * c)) (a * a) ((q * e * e + p * c * c) * (q * e * e + p * c * c)) (a * a) two
-    (omega arith) in
+    mul-le-mul_right (a * a) two in
     omega (arith, one, three))
 
 -- the sum of both, where m is at least p·c
@@ -39,9 +37,9 @@ sum_least : (p q c e o a x m : ℕ) → q * o ≤ (p + q) * a + x → x * x ≤ 
     → q * c * e * o ≤ (q * (c + e) * e + p * c * e + c * m) * a
 sum_least p q c e o a x m below square most =
     let one : (c * e) * (q * o) ≤ (c * e) * ((p + q) * a + x) =
-    mul-le (c * e) (q * o) (c * e) ((p + q) * a + x) (omega arith) below in
+    mul-le-mul_left (c * e) below in
     let two : c * e * x ≤ (q * e * e + p * c * c) * a = excess_least p q c e a x square in
-    let three : (c * a) * (p * c) ≤ (c * a) * m = mul-le (c * a) (p * c) (c * a) m (omega arith) most in
+    let three : (c * a) * (p * c) ≤ (c * a) * m = mul-le-mul_left (c * a) most in
     omega (arith, one, two, three)
 
 -- so no factor has a lesser bound than the root

@@ -2,7 +2,7 @@
 use Rattle.std.proofs.Common.{◌≡◌, ℕ, ◌+◌, ◌*◌, ◌≤◌, ◌⊎◌, inl, inr, List, [], ◌∷◌, map, refl, sym, ap, subst, Bool}
 use Rattle.std.proofs.Common.{true, false, cond, arith}
 use Rattle.std.specs.List.{enumerate_from}
-use Rattle.std.proofs.lemmas.Nat.{mul-le}
+use Rattle.std.proofs.Math.Nat.{mul-le-mul_left}
 use Rattle.dover_model.specs.Common.{Fraction, JobFacts, IsLeastDense, Job, IsWithinSlower, worth_by, observing}
 use Rattle.dover_model.specs.Common.{observed, numbered, Task, Instance, IsValid, State, opening, is_done}
 use Rattle.dover_model.specs.Common.{completed_value, IsMember, Each, IsJob}
@@ -28,8 +28,11 @@ module _ (J : Instance) (valid : IsValid J) (e : Fraction) (works : ℕ → ℕ)
     (most : AskAtMost e works (observed J)) where
   -- what holds of each observed job
   each_asked : (v w : ℕ) → Each (IsModest J.rules.ratio v w) J.jobs
-      → Each (IsAsked e works v w) (numbered (observed J))
-  each_asked v w modest n_j member = record { most = most n_j member; modest = low } where
+      → Each (IsAsked e (λ i_j. works i_j.0) v w) (numbered (observed J))
+  each_asked v w modest n_j member = record {
+    most = most n_j member;
+    modest = mul-le-mul_left e.p low;
+  } where
     it : (t : Task) × IsMember t (whole_outcome J valid).last.tasks × (n_j.1 ≡ observing t)
     it = observed_there 0 (whole_outcome J valid).last.tasks n_j
         (subst (λ (s : State). IsMember n_j (enumerate_from 0 (map observing s.tasks)))
@@ -46,7 +49,7 @@ module _ (J : Instance) (valid : IsValid J) (e : Fraction) (works : ℕ → ℕ)
     low : v * n_j.1.work ≤ w * n_j.1.value
     low = subst (λ (j : JobFacts). v * j.work ≤ w * j.value) (sym it.2)
         (let times : v * cond (is_done it.0) it.0.had it.0.job.work ≤ v * it.0.job.work =
-        mul-le v (cond (is_done it.0) it.0.had it.0.job.work) v it.0.job.work (omega arith) (less (is_done it.0)) in
+        mul-le-mul_left v (less (is_done it.0)) in
         omega (arith, declared))
 
   -- what a schedule is worth to which less is asked
@@ -57,9 +60,9 @@ module _ (J : Instance) (valid : IsValid J) (e : Fraction) (works : ℕ → ℕ)
     by_books v w some_work modest =
         subst (IsWithinSlower J.rules.ratio e (worth_by works (observed J) s))
         (seen_books J valid v w modest some_work).completed
-        (slower_bound J.rules.ratio e works v w (numbered (observed J)) (seen_books J valid v w modest some_work).rows
-        (seen_books J valid v w modest some_work).busy (seen_books J valid v w modest some_work).books some
-        (each_asked v w modest) s)
+        (slower_bound J.rules.ratio e (λ i_j. works i_j.0) v w (numbered (observed J))
+        (seen_books J valid v w modest some_work).rows (seen_books J valid v w modest some_work).busy
+        (seen_books J valid v w modest some_work).books (each_asked v w modest) s)
 
     by_jobs : (J.jobs ≡ []) ⊎ ((j : JobFacts) × IsLeastDense J j)
         → IsWithinSlower J.rules.ratio e (worth_by works (observed J) s) (completed_value J)

@@ -2,7 +2,7 @@
 use Rattle.std.proofs.Common.{◌≡◌, ℕ, zero, suc, ◌+◌, ◌≤◌, ◌⊎◌, inl, inr, List, [], ◌∷◌, ◌++◌, map, refl, sym, ap, ◌∙◌}
 use Rattle.std.proofs.Common.{subst, Bool, true, false, cond, arith}
 use Rattle.std.specs.Prelude.{Some, None, Result, Ok, Err, OnErr, ◌&&◌, replicate}
-use Rattle.std.specs.List.{sum_by, filter, find, fold, reduce, list_all, AllByRecursion}
+use Rattle.std.specs.List.{sum_by, filter, find, fold, reduce, list_all, enumerate_from, AllByRecursion}
 use Rattle.std.proofs.lemmas.Bool.{and_parts}
 use Rattle.std.proofs.lemmas.List.Sums.{sum_by-cons}
 use Rattle.dover_model.specs.Sound.{IsMember, Each}
@@ -21,6 +21,14 @@ err_any (Err e) p = p
 -- equal options have equal contents
 pub some_same : {X : Type 0} (x y : X) → Some x ≡ Some y → x ≡ y
 some_same x y e = cc
+
+-- a member has a number
+pub number_of : {X : Type 0} (k : ℕ) (xs : List X) (x : X) → IsMember x xs
+    → (n : ℕ) × IsMember (n, x) (enumerate_from k xs)
+number_of {X} k [] x member = absurd member
+number_of {X} k (y ∷ xs) x (inl e) = (k, inl (ap (λ z. (k, z)) e))
+number_of {X} k (y ∷ xs) x (inr member) =
+    let it : (n : ℕ) × IsMember (n, x) (enumerate_from (k + 1) xs) = number_of (k + 1) xs x member in (it.0, inr it.1)
 
 -- equal lists have equal heads
 pub heads : {X : Type 0} (x y : X) (xs ys : List X) → x ∷ xs ≡ y ∷ ys → x ≡ y

@@ -2,20 +2,21 @@
 use Rattle.std.proofs.Common.{◌≡◌, ℕ, ◌+◌, ◌-◌, ◌≤◌, ◌<◌, inl, inr, List, [], ◌∷◌, length, map, refl, sym, ap, ◌∙◌}
 use Rattle.std.proofs.Common.{subst, Bool, true, false, cond, arith, eqb, Option, Some, None}
 use Rattle.std.specs.Prelude.{nat_lt, nat_le, not, ◌&&◌, ◌||◌}
-use Rattle.std.specs.Bool.{MatchBool, then_some}
-use Rattle.std.specs.List.{find, filter, fold, sum_by, list_all, list_any, cons_option}
+use Rattle.std.specs.Bool.{then_some}
+use Rattle.std.specs.List.{find, filter, fold, sum_by, list_all, list_any}
 use Rattle.std.proofs.lemmas.Bool.{ne_eqb, eq-eqb, eqb-true, eqb-false, lt-ltb, ltb-true, ltb-false, le-ltb}
-use Rattle.dover_model.specs.Common.{Fraction, Event, Release, Preempt, Take, Complete, Abandon, End, Version, One}
+use Rattle.dover_model.specs.Common.{Fraction, Release, Preempt, Take, Complete, Abandon, End, Version, One}
 use Rattle.dover_model.specs.Common.{Task, Rules, State, is_coming, is_fresh, is_waiting, is_held, is_running}
 use Rattle.dover_model.specs.Common.{is_privileged, is_done, is_over, left, latest_start, running, room, demand_by}
 use Rattle.dover_model.specs.Common.{least, value_sum, is_heavy, first, earlier, due_first, starts_before, Move, Prints}
 use Rattle.dover_model.specs.Common.{Waits, Ticks, View, view, ◌or_else◌, completion, dispatch, decision, arrival}
 use Rattle.dover_model.specs.Common.{alarm, urgent_or, step, ending, after, ticked, runs, preempts, is_at_latest_start}
 use Rattle.dover_model.specs.Common.{declared_step, due_finish, finish_or, Finish, is_finish_of, Step, is_end, event_of}
-use Rattle.dover_model.specs.Common.{printed_of, step_at, IsWholeRun, Each, JobFacts, later_job, later_event}
+use Rattle.dover_model.specs.Common.{printed_of, IsWholeRun, Each, JobFacts, later_job, later_event}
 use Rattle.dover_model.proofs.steps.Kept.{move_of}
 use Rattle.dover_model.proofs.lists.Members.{map_map, map_same, sum_map, member_filter, on_map}
-use Rattle.dover_model.proofs.runs.RunLaws.{tasks_in, tasks_from}
+use Rattle.dover_model.proofs.runs.RunLaws.{tasks_in, changed_event, whole_carried}
+use Rattle.dover_model.proofs.steps.Cases.{choice, urgent_moved}
 use Rattle.dover_model.specs.Common.{is_open_job}
 use Rattle.dover_model.specs.Orders.{waiting_order, by_density, is_less_dense}
 
@@ -264,8 +265,7 @@ module _ (c : ℕ) where
 
   -- the same of an option
   abbrev moved_choice : Option Move → Option Move
-  moved_choice None = None
-  moved_choice (Some m) = Some (moved_move m)
+  moved_choice = choice moved_move
 
   -- End stays End
   moved_end : (m : Move) → is_end (moved_move m) ≡ is_end m
@@ -334,47 +334,12 @@ module _ (c : ℕ) where
   alarm_later k v None (Some x) = refl
   alarm_later k v _ _ = refl
 
-  -- the first that there is
-  first_moved : (x y z u w : Option Move) (m : Move)
-      → (moved_choice x or_else moved_choice y or_else moved_choice z or_else moved_choice u or_else moved_choice w
-      or_else moved_move m)
-      ≡ moved_move (x or_else y or_else z or_else u or_else w or_else m)
-  first_moved None None None None (Some w) m = refl
-  first_moved _ _ _ _ _ m = refl
-
   -- the first of the cases that applies
   urgent_later : (k : Fraction) (v : View) (m : Move)
       → urgent_or k (moved_view v) (moved_move m) ≡ moved_move (urgent_or k v m)
-  urgent_later k v m =
-      ap (λ a. a or_else dispatch (moved_view v) (moved_option c v.running) (moved_option c v.first_held)
-      (moved_option c v.first_waiting)
-      or_else decision (moved_view v) (moved_option c v.running) (moved_option c v.fresh) or_else arrival (moved_view v)
-      (moved_option c v.coming)
-      or_else alarm k (moved_view v) (moved_option c v.running) (moved_option c v.must_start) or_else moved_move m)
-      (completion_later v v.running)
-      ∙ ap (λ a. moved_choice (completion v v.running) or_else a
-      or_else decision (moved_view v) (moved_option c v.running) (moved_option c v.fresh) or_else arrival (moved_view v)
-      (moved_option c v.coming)
-      or_else alarm k (moved_view v) (moved_option c v.running) (moved_option c v.must_start) or_else moved_move m)
-      (dispatch_later v v.running v.first_held v.first_waiting)
-      ∙ ap (λ a. moved_choice (completion v v.running) or_else moved_choice
-      (dispatch v v.running v.first_held v.first_waiting)
-      or_else a or_else arrival (moved_view v) (moved_option c v.coming)
-      or_else alarm k (moved_view v) (moved_option c v.running) (moved_option c v.must_start) or_else moved_move m)
-      (decision_later v v.running v.fresh)
-      ∙ ap (λ a. moved_choice (completion v v.running) or_else moved_choice
-      (dispatch v v.running v.first_held v.first_waiting)
-      or_else moved_choice (decision v v.running v.fresh) or_else a
-      or_else alarm k (moved_view v) (moved_option c v.running) (moved_option c v.must_start) or_else moved_move m)
-      (arrival_later v v.coming)
-      ∙ ap (λ a. moved_choice (completion v v.running) or_else moved_choice
-      (dispatch v v.running v.first_held v.first_waiting)
-      or_else moved_choice (decision v v.running v.fresh) or_else moved_choice (arrival v v.coming)
-      or_else a or_else moved_move m) (alarm_later k v v.running v.must_start)
-      ∙ first_moved (completion v v.running) (dispatch v v.running v.first_held v.first_waiting)
-      (decision v v.running v.fresh)
-      (arrival v v.coming)
-      (alarm k v v.running v.must_start) m
+  urgent_later k v = urgent_moved moved_move k v (moved_view v) (completion_later v v.running)
+      (dispatch_later v v.running v.first_held v.first_waiting) (decision_later v v.running v.fresh)
+      (arrival_later v v.coming) (alarm_later k v v.running v.must_start)
 
   -- the end
   ending_later : (s : State) → (ending (moved_state c s) or_else Ticks) ≡ moved_move (ending s or_else Ticks)
@@ -449,70 +414,16 @@ module _ (c : ℕ) where
     fits_after s m fits = subst (Each IsFitting) (sym (move_of s m).tasks) (on_map (move_of s m).by IsFitting s.tasks
         (λ t member. subst (λ (j : JobFacts). j.work ≤ j.deadline) (sym ((move_of s m).job t)) (fits t member)))
 
+    -- what a step prints
+    event_moved : (m : Move) → event_of (moved_move m) ≡ changed_event (later_event c) (event_of m)
+    event_moved (Prints e) = refl
+    event_moved _ = refl
+
     -- the whole run of a moved state
     pub whole_later : (zs : List Step) (s : State) → Each IsFitting s.tasks → IsWholeRun rules s zs
         → (ys : List Step) × IsWholeRun rules (moved_state c s) ys × (length ys ≡ length zs)
         × (printed_of ys ≡ map (later_event c) (printed_of zs)) × (tasks_in ys ≡ map (moved_task c) (tasks_in zs))
-    whole_later [] s fits whole = absurd whole
-    whole_later (z ∷ zs) s fits whole =
-        by_end (is_end (step rules s)) refl whole.1
-        (whole_later zs (after s (step rules s)) (fits_after s (step rules s) fits)) where
-          there : State
-          there = moved_state c s
-
-          event_moved : (m : Move)
-              → event_of (moved_move m) ≡ elim (event_of m) [ None ↦ None | Some e ↦ Some (later_event c e) ]
-          event_moved (Prints e) = refl
-          event_moved _ = refl
-
-          cons_moved : (e : Option Event) (es fs : List Event) → fs ≡ map (later_event c) es
-              → cons_option (elim e [ None ↦ None | Some e ↦ Some (later_event c e) ]) fs ≡ map (later_event c)
-              (cons_option e es)
-          cons_moved None es fs same = same
-          cons_moved (Some e) es fs same = ap (λ gs. later_event c e ∷ gs) same
-
-          shown : (ys : List Step) → printed_of ys ≡ map (later_event c) (printed_of zs)
-              → printed_of (step_at rules there ∷ ys) ≡ map (later_event c) (printed_of (z ∷ zs))
-          shown ys same = ap (λ m. cons_option (event_of m) (printed_of ys)) (step_later s fits)
-              ∙ ap (λ e. cons_option e (printed_of ys)) (event_moved (step rules s))
-              ∙ cons_moved (event_of (step rules s)) (printed_of zs) (printed_of ys) same
-              ∙ sym (ap (λ (y : Step). map (later_event c) (cons_option (event_of y.move) (printed_of zs))) whole.0)
-
-          no_steps : List Step
-          no_steps = []
-
-          by_end : (b : Bool) → is_end (step rules s) ≡ b
-              → MatchBool b (zs ≡ []) (IsWholeRun rules (after s (step rules s)) zs)
-              → (IsWholeRun rules (after s (step rules s)) zs → (ys : List Step)
-              × IsWholeRun rules (moved_state c (after s (step rules s))) ys
-              × (length ys ≡ length zs) × (printed_of ys ≡ map (later_event c) (printed_of zs))
-              × (tasks_in ys ≡ map (moved_task c) (tasks_in zs)))
-              → (ys : List Step) × IsWholeRun rules there ys × (length ys ≡ length (z ∷ zs))
-              × (printed_of ys ≡ map (later_event c) (printed_of (z ∷ zs)))
-              × (tasks_in ys ≡ map (moved_task c) (tasks_in (z ∷ zs)))
-          by_end true last none more = (
-            step_at rules there ∷ [],
-            (
-              refl,
-              subst (λ b. MatchBool b (no_steps ≡ []) (IsWholeRun rules (after there (step rules there)) []))
-                  (sym (ap is_end (step_later s fits) ∙ moved_end (step rules s) ∙ last)) refl,
-            ),
-            ap (λ xs. length (z ∷ xs)) (sym none),
-            shown [] (ap (λ xs. map (later_event c) (printed_of xs)) (sym none)),
-            ap (λ (y : Step). map (moved_task c) y.before.tasks) (sym whole.0)
-                ∙ ap (λ xs. map (moved_task c) (tasks_in (z ∷ xs))) (sym none),
-          )
-          by_end false on rest more = let it = more rest in (
-            step_at rules there ∷ it.0,
-            (
-              refl,
-              subst (λ b. MatchBool b (it.0 ≡ []) (IsWholeRun rules (after there (step rules there)) it.0))
-                  (sym (ap is_end (step_later s fits) ∙ moved_end (step rules s) ∙ on))
-                  (subst (λ t. IsWholeRun rules t it.0)
-                  (sym (ap (after there) (step_later s fits) ∙ after_later s (step rules s))) it.1),
-            ),
-            omega (arith, it.2),
-            shown it.0 it.3,
-            tasks_from rules (moved_state c (after s (step rules s))) it.0 it.1 there ∙ it.4
-                ∙ ap (map (moved_task c)) (sym (tasks_from rules (after s (step rules s)) zs rest z.before)),
-          )
+    whole_later zs s fits whole =
+        whole_carried rules rules (moved_state c) moved_move (later_event c) (map (moved_task c))
+        (λ x. Each IsFitting x.tasks) (λ x. refl) step_later after_later fits_after moved_end event_moved zs s fits
+        whole

@@ -2,11 +2,11 @@
 use Rattle.std.proofs.Common.{◌≡◌, ℕ, ◌+◌, ◌-◌, ◌≤◌, ◌<◌, inl, inr, List, [], ◌∷◌, ◌++◌, length, map, refl, sym}
 use Rattle.std.proofs.Common.{ap, ◌∙◌, subst, Bool, true, false, cond, arith, eqb, Option, Some, None}
 use Rattle.std.specs.Prelude.{nat_lt, nat_le, not, ◌&&◌, ◌||◌, ◌==◌}
-use Rattle.std.specs.Bool.{MatchBool, then_some}
+use Rattle.std.specs.Bool.{then_some}
 use Rattle.std.specs.List.{find, filter, fold, sum_by, list_all, list_any, cons_option}
 use Rattle.std.proofs.lemmas.Bool.{ne_eqb, eq-eqb, eqb-true, eqb-false, lt-ltb, ltb-true, ltb-false, le-ltb}
 use Rattle.std.proofs.lemmas.List.Sums.{sum_by-cons}
-use Rattle.dover_model.specs.Common.{Fraction, Event, Release, Run, Preempt, Take, Complete, Abandon, End, Role, Fresh}
+use Rattle.dover_model.specs.Common.{Fraction, Release, Run, Preempt, Take, Complete, Abandon, End, Role, Fresh}
 use Rattle.dover_model.specs.Common.{Waiting, Held, Running, Done, Gone, Version, One, Task, Rules, having}
 use Rattle.dover_model.specs.Common.{State, is_coming, is_fresh, is_waiting, is_held, is_running, is_privileged}
 use Rattle.dover_model.specs.Common.{is_done, is_over, left, latest_start, room, demand_by, least, value_sum, is_heavy}
@@ -14,10 +14,11 @@ use Rattle.dover_model.specs.Common.{first, earlier, due_first, starts_before, M
 use Rattle.dover_model.specs.Common.{with_role, ticked, displaced, ◌or_else◌, completion, dispatch, decision, arrival}
 use Rattle.dover_model.specs.Common.{alarm, urgent_or, step, open_step, ending, after, preempts, runs}
 use Rattle.dover_model.specs.Common.{is_at_latest_start, due_finish, finish_or, declared_step, declared_open_step, Step}
-use Rattle.dover_model.specs.Common.{is_end, event_of, printed_of, waits_for_mark, step_at, open_at, IsWholeRun}
+use Rattle.dover_model.specs.Common.{is_end, event_of, printed_of, waits_for_mark, open_at, IsWholeRun}
 use Rattle.dover_model.specs.Common.{IsSettledRun, Each, behind, behind_finish, Finish, is_finish_of, has_come_to}
 use Rattle.dover_model.proofs.lists.Members.{map_map, map_same, sum_map}
-use Rattle.dover_model.proofs.runs.RunLaws.{tasks_in, tasks_from}
+use Rattle.dover_model.proofs.runs.RunLaws.{tasks_in, changed_event, cons_changed, whole_carried}
+use Rattle.dover_model.proofs.steps.Cases.{choice, urgent_moved}
 use Rattle.dover_model.proofs.steps.Roles.{of_over, ticked_over}
 use Rattle.dover_model.proofs.finishes.Finishing.{none_without}
 use Rattle.std.specs.Option.{option_or}
@@ -290,8 +291,7 @@ moved n value Ticks = Ticks
 
 -- the same of an option
 abbrev moved_option : ℕ → ℕ → Option Move → Option Move
-moved_option n value None = None
-moved_option n value (Some m) = Some (moved n value m)
+moved_option n value = choice (moved n value)
 
 -- End stays End
 moved_end : (n value : ℕ) (m : Move) → is_end (moved n value m) ≡ is_end m
@@ -361,65 +361,12 @@ module _ (n value : ℕ) where
   alarm_shift k v None (Some x) = refl
   alarm_shift k v _ _ = refl
 
-  -- the first that there is
-  first_moved : (a b c d e : Option Move) (m : Move)
-      → (moved_option n value a or_else moved_option n value b or_else moved_option n value c or_else moved_option n
-      value d
-      or_else moved_option n value e or_else moved n value m) ≡ moved n value
-      (a or_else b or_else c or_else d or_else e or_else m)
-  first_moved None None None None (Some x) m = refl
-  first_moved _ _ _ _ _ m = refl
-
   -- the first of the cases that applies
   urgent_shift : (k : Fraction) (v : View) (m : Move)
       → urgent_or k (shifted_view n v) (moved n value m) ≡ moved n value (urgent_or k v m)
-  urgent_shift k v m =
-      let e_completion : completion (shifted_view n v) (shift_option n v.running) ≡ moved_option n value
-      (completion v v.running) =
-      completion_shift v v.running in
-      let e_dispatch : dispatch (shifted_view n v) (shift_option n v.running) (shift_option n v.first_held)
-      (shift_option n v.first_waiting)
-      ≡ moved_option n value (dispatch v v.running v.first_held v.first_waiting) =
-      dispatch_shift v v.running v.first_held v.first_waiting in
-      let e_decision : decision (shifted_view n v) (shift_option n v.running) (shift_option n v.fresh)
-      ≡ moved_option n value (decision v v.running v.fresh) = decision_shift v v.running v.fresh in
-      let e_arrival : arrival (shifted_view n v) (shift_option n v.coming) ≡ moved_option n value (arrival v v.coming) =
-      arrival_shift v v.coming in
-      let e_alarm : alarm k (shifted_view n v) (shift_option n v.running) (shift_option n v.must_start)
-      ≡ moved_option n value (alarm k v v.running v.must_start) = alarm_shift k v v.running v.must_start in
-      ap (λ a. a or_else dispatch (shifted_view n v) (shift_option n v.running) (shift_option n v.first_held)
-      (shift_option n v.first_waiting)
-      or_else decision (shifted_view n v) (shift_option n v.running) (shift_option n v.fresh) or_else arrival
-      (shifted_view n v) (shift_option n v.coming)
-      or_else alarm k (shifted_view n v) (shift_option n v.running) (shift_option n v.must_start) or_else moved n value
-      m)
-      e_completion
-      ∙ ap (λ a. moved_option n value (completion v v.running) or_else a
-      or_else decision (shifted_view n v) (shift_option n v.running) (shift_option n v.fresh) or_else arrival
-      (shifted_view n v) (shift_option n v.coming)
-      or_else alarm k (shifted_view n v) (shift_option n v.running) (shift_option n v.must_start) or_else moved n value
-      m)
-      e_dispatch
-      ∙ ap (λ a. moved_option n value (completion v v.running) or_else moved_option n value
-      (dispatch v v.running v.first_held v.first_waiting)
-      or_else a or_else arrival (shifted_view n v) (shift_option n v.coming)
-      or_else alarm k (shifted_view n v) (shift_option n v.running) (shift_option n v.must_start) or_else moved n value
-      m)
-      e_decision
-      ∙ ap (λ a. moved_option n value (completion v v.running) or_else moved_option n value
-      (dispatch v v.running v.first_held v.first_waiting)
-      or_else moved_option n value (decision v v.running v.fresh) or_else a
-      or_else alarm k (shifted_view n v) (shift_option n v.running) (shift_option n v.must_start) or_else moved n value
-      m)
-      e_arrival
-      ∙ ap (λ a. moved_option n value (completion v v.running) or_else moved_option n value
-      (dispatch v v.running v.first_held v.first_waiting)
-      or_else moved_option n value (decision v v.running v.fresh) or_else moved_option n value (arrival v v.coming)
-      or_else a or_else moved n value m) e_alarm
-      ∙ first_moved (completion v v.running) (dispatch v v.running v.first_held v.first_waiting)
-      (decision v v.running v.fresh)
-      (arrival v v.coming)
-      (alarm k v v.running v.must_start) m
+  urgent_shift k v = urgent_moved (moved n value) k v (shifted_view n v) (completion_shift v v.running)
+      (dispatch_shift v v.running v.first_held v.first_waiting) (decision_shift v v.running v.fresh)
+      (arrival_shift v v.coming) (alarm_shift k v v.running v.must_start)
 
 -- ---- finishes
 
@@ -608,75 +555,19 @@ module _ (rules : Rules) (n : ℕ) (first : List Finish) (own : Each (λ f. f.nu
         (λ u member. ticked_over u (over u member)) (λ t. refl) s.tasks)
 
     -- what a step prints
-    event_moved : (m : Move)
-        → event_of (moved n came_to m) ≡ elim (event_of m) [ None ↦ None | Some e ↦ Some (behind n came_to e) ]
+    event_moved : (m : Move) → event_of (moved n came_to m) ≡ changed_event (behind n came_to) (event_of m)
     event_moved (Prints e) = refl
     event_moved _ = refl
-
-    -- one more event
-    cons_moved : (e : Option Event) (es fs : List Event) → fs ≡ map (behind n came_to) es
-        → cons_option (elim e [ None ↦ None | Some e ↦ Some (behind n came_to e) ]) fs ≡ map (behind n came_to)
-        (cons_option e es)
-    cons_moved None es fs same = same
-    cons_moved (Some e) es fs same = ap (λ gs. behind n came_to e ∷ gs) same
 
     -- the whole run of a state behind
     pub whole_beside : (zs : List Step) (s : State) → IsWholeRun rules s zs
         → (ys : List Step) × IsWholeRun joint (beside n overs s) ys × (length ys ≡ length zs)
         × (printed_of ys ≡ map (behind n came_to) (printed_of zs))
         × (tasks_in ys ≡ overs ++ map (shifted n) (tasks_in zs))
-    whole_beside [] s whole = absurd whole
-    whole_beside (z ∷ zs) s whole =
-        by_end (is_end (step rules s)) refl whole.1 (whole_beside zs (after s (step rules s))) where
-          there : State
-          there = beside n overs s
-
-          shown : (ys : List Step) → printed_of ys ≡ map (behind n came_to) (printed_of zs)
-              → printed_of (step_at joint there ∷ ys) ≡ map (behind n came_to) (printed_of (z ∷ zs))
-          shown ys same = ap (λ m. cons_option (event_of m) (printed_of ys)) (step_beside s)
-              ∙ ap (λ e. cons_option e (printed_of ys)) (event_moved (step rules s))
-              ∙ cons_moved (event_of (step rules s)) (printed_of zs) (printed_of ys) same
-              ∙ sym (ap (λ (y : Step). map (behind n came_to) (cons_option (event_of y.move) (printed_of zs))) whole.0)
-
-          no_steps : List Step
-          no_steps = []
-
-          by_end : (b : Bool) → is_end (step rules s) ≡ b
-              → MatchBool b (zs ≡ []) (IsWholeRun rules (after s (step rules s)) zs)
-              → (IsWholeRun rules (after s (step rules s)) zs → (ys : List Step)
-              × IsWholeRun joint (beside n overs (after s (step rules s))) ys
-              × (length ys ≡ length zs) × (printed_of ys ≡ map (behind n came_to) (printed_of zs))
-              × (tasks_in ys ≡ overs ++ map (shifted n) (tasks_in zs)))
-              → (ys : List Step) × IsWholeRun joint there ys × (length ys ≡ length (z ∷ zs))
-              × (printed_of ys ≡ map (behind n came_to) (printed_of (z ∷ zs)))
-              × (tasks_in ys ≡ overs ++ map (shifted n) (tasks_in (z ∷ zs)))
-          by_end true last none more = (
-            step_at joint there ∷ [],
-            (
-              refl,
-              subst (λ b. MatchBool b (no_steps ≡ []) (IsWholeRun joint (after there (step joint there)) []))
-                  (sym (ap is_end (step_beside s) ∙ moved_end n came_to (step rules s) ∙ last)) refl,
-            ),
-            ap (λ xs. length (z ∷ xs)) (sym none),
-            shown [] (ap (λ xs. map (behind n came_to) (printed_of xs)) (sym none)),
-            ap (λ (y : Step). overs ++ map (shifted n) y.before.tasks) (sym whole.0)
-                ∙ ap (λ xs. overs ++ map (shifted n) (tasks_in (z ∷ xs))) (sym none),
-          )
-          by_end false on rest more = let it = more rest in (
-            step_at joint there ∷ it.0,
-            (
-              refl,
-              subst (λ b. MatchBool b (it.0 ≡ []) (IsWholeRun joint (after there (step joint there)) it.0))
-                  (sym (ap is_end (step_beside s) ∙ moved_end n came_to (step rules s) ∙ on))
-                  (subst (λ t. IsWholeRun joint t it.0)
-                  (sym (ap (after there) (step_beside s) ∙ after_beside s (step rules s))) it.1),
-            ),
-            omega (arith, it.2),
-            shown it.0 it.3,
-            tasks_from joint (beside n overs (after s (step rules s))) it.0 it.1 there ∙ it.4
-                ∙ ap (λ ts. overs ++ map (shifted n) ts)
-                (sym (tasks_from rules (after s (step rules s)) zs rest z.before)),
-          )
+    whole_beside zs s whole =
+        whole_carried rules joint (beside n overs) (moved n came_to) (behind n came_to)
+        (λ ts. overs ++ map (shifted n) ts) (λ x. Unit {0}) (λ x. refl) (λ x holds. step_beside x) after_beside
+        (λ x m holds. tt) (moved_end n came_to) event_moved zs s tt whole
 
     -- the settled run of a state behind
     pub settled_beside : (mark : ℕ) (xs : List Step) (s : State) → IsSettledRun rules mark s xs
@@ -701,6 +592,6 @@ module _ (rules : Rules) (n : ℕ) (first : List Finish) (own : Each (λ f. f.nu
       omega (arith, it.2),
       ap (λ m. cons_option (event_of m) (printed_of it.0)) (open_beside s)
           ∙ ap (λ e. cons_option e (printed_of it.0)) (event_moved (open_step rules s))
-          ∙ cons_moved (event_of (open_step rules s)) (printed_of xs) (printed_of it.0) it.3
+          ∙ cons_changed (behind n came_to) (event_of (open_step rules s)) (printed_of xs) (printed_of it.0) it.3
           ∙ sym (ap (λ (y : Step). map (behind n came_to) (cons_option (event_of y.move) (printed_of xs))) run.0),
     )

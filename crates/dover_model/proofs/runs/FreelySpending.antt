@@ -1,7 +1,7 @@
 -- Comparisons are paid for whatever finishes now, where the last step was a silent tick.
 use Rattle.std.proofs.Common.{◌≡◌, ℕ, ◌+◌, ◌-◌, ◌*◌, ◌≤◌, ◌⊎◌, inl, inr, List, [], ◌∷◌, length, refl, sym, ap, ◌∙◌}
 use Rattle.std.proofs.Common.{subst, Bool, true, false, cond, arith, eqb, eqb-true}
-use Rattle.std.proofs.lemmas.Nat.{mul-le}
+use Rattle.std.proofs.Math.Nat.{mul-le-mul_left}
 use Rattle.dover_model.specs.Common.{Fresh, Waiting, Task, Rules, Instance, IsValid, bare, State, is_waiting, Move}
 use Rattle.dover_model.specs.Common.{Prints, Waits, Ticks, open_step, after, with_role, ticked, Step, IsMember, Keeps}
 use Rattle.dover_model.specs.Common.{IsSilent, Idles, weight, standing, one_if, exits_scale, waiting_count, exits}
@@ -36,8 +36,7 @@ freely_so_far n s count = by_numbers (waiting_count s) (exits_freely s)
 pub freely_spent : (n : ℕ) (s : State) (start now : ℕ) → HasSpentFreely n s start now → HasSpentFor n s start now
 freely_spent n s start now spent = λ d enough.
     joins (20 * d * ((4 * n + waiting_count s) - 2 * exits_freely s)) (20 * d * waits_among n s) (spent d enough)
-    (mul-le (20 * d) ((4 * n + waiting_count s) - 2 * exits_freely s) (20 * d) (waits_among n s) (omega arith)
-    (by_numbers (waiting_count s) (exits s) (exits_freely s) (exits_least s))) where
+    (mul-le-mul_left (20 * d) (by_numbers (waiting_count s) (exits s) (exits_freely s) (exits_least s))) where
       by_numbers : (w e f : ℕ) → e ≤ f → (4 * n + w) - 2 * f ≤ (4 * n + w) - 2 * e
       by_numbers w e f least = omega arith
 

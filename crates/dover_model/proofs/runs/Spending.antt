@@ -3,9 +3,8 @@ use Rattle.std.proofs.Common.{ℕ, ◌≤◌, arith, ◌||◌, ◌*◌, ◌-◌,
 use Rattle.std.proofs.Common.{[], inr, refl, Bool, true, false, ◌++◌, sym, cond, ◌∙◌, not, eq-eqb, nat_lt, ◌&&◌, sum_by}
 use Rattle.std.proofs.Common.{count_by}
 use Rattle.std.proofs.lemmas.List.Sums.{sum_by-cons, sum_by-append}
-use Rattle.std.proofs.lemmas.Nat.{mul-le}
 use Rattle.std.proofs.lemmas.List.{length-map}
-use Rattle.std.proofs.Math.Nat.{mul-le-mul_left}
+use Rattle.std.proofs.Math.Nat.{mul-le-mul_left, mul-le-mul_right}
 use Rattle.dover_model.specs.Common.{Role, Coming, Fresh, Waiting, Held, Running, Gone, Task, latest_start, State}
 use Rattle.dover_model.specs.Common.{is_waiting, weight_in, weight, standing, one_if, stands, exits_scale}
 use Rattle.dover_model.specs.Common.{waiting_count, exits, waits_among, HasSpentFor, CostsAtMost, cost_of, with_role}
@@ -68,7 +67,7 @@ among_most n s = by_numbers (waiting_count s) (exits s) (waiting_least s) where
 pub all_few : (n d waits start now : ℕ) → waits ≤ 4 * n → now ≤ start + 20 * d * waits → now ≤ start + 80 * (n + 1) * d
 all_few n d waits start now most few =
     let product : 20 * d * waits ≤ 20 * d * (4 * n) =
-    mul-le (20 * d) waits (20 * d) (4 * n) (omega arith) (omega (arith, most)) in
+    mul-le-mul_left (20 * d) (omega (arith, most)) in
     omega (arith, few, product)
 
 pub spent_few : (n : ℕ) (s : State) (start now : ℕ) → HasSpentFor n s start now → CostsAtMost n start now
@@ -84,7 +83,7 @@ pub few_more : (n m before after : ℕ) → n ≤ m → CostsAtMost n before aft
 few_more n m before after most few = λ d enough.
     let less : n + 1 < 2 ^ d = omega (arith, enough, most) in
     let product : 80 * (n + 1) * d ≤ 80 * (m + 1) * d =
-    mul-le (80 * (n + 1)) d (80 * (m + 1)) d (omega (arith, most)) (omega arith) in
+    mul-le-mul_right d (omega (arith, most)) in
     omega (arith, few d less, product)
 
 -- what comes by a step is paid for
@@ -109,7 +108,7 @@ twenty orders d m n few = omega (
 -- what costs c for each of so many, paid for
 pub cost_paid : (c n a b x y before after : ℕ) → n + (a + x) ≤ b + y → after ≤ before + c * n
     → after + c * (a + x) ≤ before + c * (b + y)
-cost_paid c n a b x y before after paid few = omega (arith, few, mul-le c (n + (a + x)) c (b + y) (omega arith) paid)
+cost_paid c n a b x y before after paid few = omega (arith, few, mul-le-mul_left c paid)
 
 -- what is paid, in what has come
 pub paid_so_far : (c n ev eu wv wu mv mu before after : ℕ) → mv + 2 * ev ≡ 4 * n + wv → mu + 2 * eu ≡ 4 * n + wu
@@ -222,7 +221,7 @@ module _ (n : ℕ) (s : State) (clock : ℕ) (t : Task) (later : s.clock ≤ clo
   pub spent_more : (start now : ℕ) → HasSpentFor n s start now → HasSpentFor (n + 1) more start now
   spent_more start now spent = λ d enough.
       joins (20 * d * waits_among n s) (20 * d * waits_among (n + 1) more) (spent d (omega (arith, enough)))
-      (mul-le (20 * d) (waits_among n s) (20 * d) (waits_among (n + 1) more) (omega arith) more_among) where
+      (mul-le-mul_left (20 * d) more_among) where
         joins : (was is : ℕ) → now ≤ start + was → was ≤ is → now ≤ start + is
         joins was is first second = omega (arith, first, second)
 

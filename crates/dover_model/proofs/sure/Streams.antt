@@ -1,7 +1,7 @@
 -- Of a sure stream no job is lost, however its jobs and those of the others come.
 use Rattle.std.proofs.Common.{◌≡◌, ℕ, zero, suc, ◌+◌, ◌-◌, ◌*◌, ◌≤◌, ◌<◌, ◌⊎◌, inl, inr, List, [], ◌∷◌, length, refl}
 use Rattle.std.proofs.Common.{sym, ap, ◌∙◌, subst, Bool, true, false, cond, eqb, arith}
-use Rattle.std.specs.Prelude.{nat_le, nat_lt, ◌&&◌, get_or, max, ◌++◌, replicate}
+use Rattle.std.specs.Prelude.{nat_le, nat_lt, not, ◌&&◌, get_or, max, ◌++◌, replicate}
 use Rattle.std.specs.Int.{div_ceil}
 use Rattle.std.specs.List.{sum_by, enumerate_from}
 use Rattle.std.proofs.Math.Nat.{lt_of_mul-lt-mul_right}
@@ -11,16 +11,17 @@ use Rattle.std.proofs.lemmas.Bool.{eqb-true, eq-eqb, ne_eqb, leb-true, leb-false
 use Rattle.std.proofs.lemmas.Bool.{and_from, cases_lt}
 use Rattle.std.proofs.lemmas.List.Sums.{sum_by-cons}
 use Rattle.dover_model.specs.Common.{Fraction, JobFacts, IsJob, Instance, IsValid, numbered, IsHeavy, IsMember, Each}
-use Rattle.dover_model.specs.Common.{EachTwo, IsHeavyAt, NoneDisplaces, IsCompleted, Stream, stream_at, blank_stream}
+use Rattle.dover_model.specs.Common.{EachTwo, IsHeavyAt, IsCompleted, Stream, stream_at, blank_stream}
 use Rattle.dover_model.specs.Common.{AreOfStreams, most_crossing, CanStack, worth_of, is_spread, IsSure, most_beside}
-use Rattle.dover_model.specs.Common.{IsOfStream, others, best_of, most_fitting}
-use Rattle.dover_model.specs.Sure.{crosses, chosen_value, chosen_work, CanHold, work_within}
+use Rattle.dover_model.specs.Common.{IsOfStream, others, best_of, most_fitting, worth_beside}
+use Rattle.dover_model.specs.Sure.{crosses, crossing_beside, chosen_value, chosen_work, CanHold, work_within}
 use Rattle.dover_model.proofs.lists.Members.{sum_le, sum_same, sum_zero, sum_plus, term_le_sum, all_member}
+use Rattle.dover_model.proofs.lists.Members.{number_of}
 use Rattle.dover_model.proofs.valid.JobLimits.{JobLimits, job_limits}
 use Rattle.dover_model.proofs.valid.ValidParts.{valid_parts}
 use Rattle.dover_model.proofs.bound.Books.{scaled_sum}
 use Rattle.dover_model.proofs.bound.Calculus.{heavy_mono, heavy_more, heavy_up}
-use Rattle.dover_model.proofs.sure.Sure.{heavy_at_start}
+use Rattle.dover_model.proofs.sure.Sure.{heavy_at_start, heavy_in_all}
 use Rattle.dover_model.proofs.lists.Tests.{never}
 use Rattle.dover_model.specs.Orders.{IsByDeadline}
 
@@ -33,14 +34,6 @@ module _ {X : Type 0} where
   numbered_above k (x ∷ xs) n_x (inl e) = let same : n_x.0 ≡ k = ap (λ (i : ℕ × X). i.0) e in omega (arith, same)
   numbered_above k (x ∷ xs) n_x (inr member) =
       let above : k + 1 ≤ n_x.0 = numbered_above (k + 1) xs n_x member in omega (arith, above)
-
-  -- a member has a number
-  number_of : (k : ℕ) (xs : List X) (x : X) → IsMember x xs → (n : ℕ) × IsMember (n, x) (enumerate_from k xs)
-  number_of k [] x member = absurd member
-  number_of k (y ∷ xs) x (inl e) = (k, inl (ap (λ z. (k, z)) e))
-  number_of k (y ∷ xs) x (inr member) =
-      let it : (n : ℕ) × IsMember (n, x) (enumerate_from (k + 1) xs) = number_of (k + 1) xs x member in
-      (it.0, inr it.1)
 
   -- a number has a member
   at_number : (k : ℕ) (xs : List X) (d : X) (i : ℕ) → i < length xs
@@ -333,24 +326,30 @@ stream_is : (streams : List Stream) (y_s : ℕ × Stream) → IsMember y_s (enum
 stream_is streams y_s member = ap (λ y. stream_at streams y) (let e : y_s.0 ≡ y_s.0 - 0 = omega arith in e)
     ∙ is_at 0 streams blank_stream y_s member
 
--- what can be stacked is worth no more than what crosses a tick
-pub heavy_by_sum : (k : Fraction) (streams : List Stream) (x v : ℕ) → IsHeavy k v (most_beside streams x)
-    → (counts : ℕ → ℕ) → CanStack streams x counts → IsHeavy k v (worth_of counts streams)
-heavy_by_sum k streams x v heavy counts can =
-    heavy_mono k v (worth_of counts streams) (most_beside streams x)
-    (sum_le (λ y_s. counts y_s.0 * y_s.1.value)
+-- as many as can cross a tick are worth no more than all that can
+worth_most : (streams : List Stream) (x : ℕ) (counts : ℕ → ℕ) → counts x ≡ 0
+    → ((y : ℕ) → y < length streams → counts y ≤ most_crossing (stream_at streams y))
+    → worth_of counts streams ≤ most_beside streams x
+worth_most streams x counts waits few =
+    sum_le (λ y_s. counts y_s.0 * y_s.1.value)
     (λ y_s. cond (eqb y_s.0 x) 0 (most_crossing y_s.1 * y_s.1.value)) (enumerate_from 0 streams)
-    (λ y_s m. by_number y_s m (eqb y_s.0 x) refl)) heavy where
+    (λ y_s m. by_number y_s m (eqb y_s.0 x) refl) where
       by_number : (y_s : ℕ × Stream) → IsMember y_s (enumerate_from 0 streams) → (b : Bool) → eqb y_s.0 x ≡ b
           → counts y_s.0 * y_s.1.value ≤ cond b 0 (most_crossing y_s.1 * y_s.1.value)
       by_number y_s m true same =
           let none : counts y_s.0 * y_s.1.value ≡ 0 * y_s.1.value =
-          ap (λ c. c * y_s.1.value) (ap counts (eqb-true _ _ same) ∙ can.waits) in
+          ap (λ c. c * y_s.1.value) (ap counts (eqb-true _ _ same) ∙ waits) in
           omega (arith, none)
       by_number y_s m false differs =
           mul-le _ _ _ _ (subst (λ (s : Stream). counts y_s.0 ≤ most_crossing s) (stream_is streams y_s m)
-          (can.few y_s.0 (let place : y_s.0 < 0 + length streams = has_place 0 streams y_s m in
+          (few y_s.0 (let place : y_s.0 < 0 + length streams = has_place 0 streams y_s m in
           omega (arith, place)))) (omega arith)
+
+-- so what can be stacked is
+pub heavy_by_sum : (k : Fraction) (streams : List Stream) (x v : ℕ) → IsHeavy k v (most_beside streams x)
+    → (counts : ℕ → ℕ) → CanStack streams x counts → IsHeavy k v (worth_of counts streams)
+heavy_by_sum k streams x v heavy counts can = heavy_mono k v (worth_of counts streams) (most_beside streams x)
+    (worth_most streams x counts can.waits can.few) heavy
 
 -- a job that is all that its stream allows is sure where the stream is spread and heavy
 pub sure_of_stream : (k : Fraction) (streams : List Stream) (x : ℕ) (j : JobFacts)
@@ -553,7 +552,6 @@ heavy_by_sets k streams x v heavy counts can =
     heavy_mono k v (worth_of counts streams) (most_fitting streams x) (stacked_most streams x counts can) heavy
 
 module _ (J : Instance) (streams : List Stream) (of : ℕ → ℕ) (n : ℕ) (j : JobFacts) (valid : IsValid J)
-    (dated : IsByDeadline J.rules.version)
     (are : AreOfStreams streams of J) (there : IsMember (n, j) (numbered J))
     (sure : IsSure J.rules.ratio streams (of n) j) where
   -- the job's stream
@@ -605,7 +603,8 @@ module _ (J : Instance) (streams : List Stream) (of : ℕ → ℕ) (n : ℕ) (j 
         are.apart (n, j) m_i there member (sym same) (omega (arith, not_before, differs)) in
         omega (arith, apart, released, window, sure.before_later)
 
-  module _ (chosen : ℕ → Bool) (can : CanHold J n start chosen) where
+  module _ (chosen : ℕ → Bool) (waits : chosen n ≡ false)
+      (crossing : Each (λ m_i. chosen m_i.0 ≡ true → crosses start m_i.1 ≡ true) (numbered J)) where
     -- a chosen job of a stream
     abbrev is_one : ℕ → ℕ × JobFacts → Bool
     is_one y m_i = eqb (of m_i.0) y && chosen m_i.0
@@ -624,7 +623,7 @@ module _ (J : Instance) (streams : List Stream) (of : ℕ → ℕ) (n : ℕ) (j 
           by_test m_i m true passed = absurd (let both : (eqb (of m_i.0) (of n) ≡ true) × (chosen m_i.0 ≡ true) =
               and_parts (eqb (of m_i.0) (of n)) (chosen m_i.0) passed in
               none_of_mine m_i m (eqb-true _ _ both.0)
-              (λ e. never (sym can.waits ∙ subst (λ i. chosen i ≡ true) e both.1)) (can.crossing m_i m both.1))
+              (λ e. never (sym waits ∙ subst (λ i. chosen i ≡ true) e both.1)) (crossing m_i m both.1))
 
     -- as many as can cross a tick
     few_count : (y : ℕ) → y < length streams → counts y ≤ most_crossing (stream_at streams y)
@@ -647,113 +646,9 @@ module _ (J : Instance) (streams : List Stream) (of : ℕ → ℕ) (n : ℕ) (j 
           by_tests m_i m false b e = omega arith
           by_tests m_i m true false e = omega arith
           by_tests m_i m true true e =
-              subst (λ c. 1 ≤ cond c 1 0) (sym (can.crossing m_i m e)) (omega arith)
+              subst (λ c. 1 ≤ cond c 1 0) (sym (crossing m_i m e)) (omega arith)
 
-    module _ (span : ℕ) where
-      -- a chosen job of a stream of no greater span
-      abbrev is_short : ℕ × JobFacts → Bool
-      is_short m_i = chosen m_i.0 && nat_le (stream_at streams (of m_i.0)).span span
-
-      -- the work of so many is that of the jobs, or less
-      works : sum_by (work_within counts span) (enumerate_from 0 streams)
-          ≤ sum_by (λ m_i. cond (is_short m_i) m_i.1.work 0) (numbered J)
-      works =
-          let each : sum_by (work_within counts span) (enumerate_from 0 streams)
-          ≤ sum_by (λ (y_s : ℕ × Stream). sum_by (λ m_i. cond (eqb (of m_i.0) y_s.0)
-          (cond (is_short m_i) m_i.1.work 0) 0) (numbered J)) (enumerate_from 0 streams) =
-          sum_le (work_within counts span) (λ y_s. sum_by (λ m_i. cond (eqb (of m_i.0) y_s.0)
-          (cond (is_short m_i) m_i.1.work 0) 0) (numbered J)) (enumerate_from 0 streams) of_stream in
-          omega (
-            arith,
-            each,
-            by_labels_back (λ (m_i : ℕ × JobFacts). of m_i.0)
-                (λ m_i. cond (is_short m_i) m_i.1.work 0) streams (numbered J),
-          ) where
-            of_stream : Each (λ y_s. work_within counts span (y_s.0, y_s.1)
-                ≤ sum_by (λ m_i. cond (eqb (of m_i.0) y_s.0) (cond (is_short m_i) m_i.1.work 0) 0) (numbered J))
-                (enumerate_from 0 streams)
-            of_stream y_s m = by_span (nat_le y_s.1.span span) refl where
-              by_span : (b : Bool) → nat_le y_s.1.span span ≡ b → cond b (counts y_s.0 * y_s.1.work) 0
-                  ≤ sum_by (λ m_i. cond (eqb (of m_i.0) y_s.0) (cond (is_short m_i) m_i.1.work 0) 0) (numbered J)
-              by_span false _ = omega arith
-              by_span true short =
-                  let all : y_s.1.work * counts y_s.0
-                  ≤ 1 * sum_by (λ m_i. cond (eqb (of m_i.0) y_s.0) (cond (is_short m_i) m_i.1.work 0) 0)
-                  (numbered J) =
-                  scaled_sum y_s.1.work 1 (λ m_i. cond (is_one y_s.0 m_i) 1 0)
-                  (λ m_i. cond (eqb (of m_i.0) y_s.0) (cond (is_short m_i) m_i.1.work 0) 0) (numbered J)
-                  (λ m_i mm. term m_i mm (eqb (of m_i.0) y_s.0) refl (chosen m_i.0)) in
-                  omega (arith, all) where
-                    term : (m_i : ℕ × JobFacts) → IsMember m_i (numbered J) → (a : Bool)
-                        → eqb (of m_i.0) y_s.0 ≡ a → (b : Bool)
-                        → y_s.1.work * cond (a && b) 1 0
-                        ≤ 1 * cond a (cond (b && nat_le (stream_at streams (of m_i.0)).span span) m_i.1.work 0) 0
-                    term m_i mm false e b = omega arith
-                    term m_i mm true e false = omega arith
-                    term m_i mm true e true =
-                        let is : stream_at streams (of m_i.0) ≡ y_s.1 =
-                        ap (λ y. stream_at streams y) (eqb-true _ _ e) ∙ stream_is streams y_s m in
-                        let least : (stream_at streams (of m_i.0)).work ≤ m_i.1.work = (are.within m_i mm).work in
-                        let work : (stream_at streams (of m_i.0)).work ≡ y_s.1.work =
-                        ap (λ (s : Stream). s.work) is in
-                        let passes : nat_le (stream_at streams (of m_i.0)).span span ≡ true =
-                        subst (λ (s : Stream). nat_le s.span span ≡ true) (sym is) short in
-                        rw passes (omega (arith, least, work))
-
-      -- where one of them is chosen, all of them are within the span
-      short_fit : (m_i : ℕ × JobFacts) → IsMember m_i (numbered J) → is_short m_i ≡ true
-          → sum_by (work_within counts span) (enumerate_from 0 streams) ≤ span
-      short_fit m_i m is = by_latest (latest is_short (λ k_l. k_l.1.deadline) (numbered J) m_i m is) where
-        by_latest : (y : ℕ × JobFacts) × IsMember y (numbered J) × (is_short y ≡ true)
-            × Each (λ z. is_short z ≡ true → z.1.deadline ≤ y.1.deadline) (numbered J)
-            → sum_by (work_within counts span) (enumerate_from 0 streams) ≤ span
-        by_latest it =
-            let both : (chosen it.0.0 ≡ true) × (nat_le (stream_at streams (of it.0.0)).span span ≡ true) =
-            and_parts (chosen it.0.0) (nat_le (stream_at streams (of it.0.0)).span span) it.2 in
-            let small : (stream_at streams (of it.0.0)).span ≤ span = leb-true _ _ both.1 in
-            let fits : sum_by (chosen_work chosen it.0.1.deadline) (numbered J) + it.0.1.release ≤ it.0.1.deadline =
-            can.fitting it.0 it.1 both.0 in
-            let due : it.0.1.deadline ≤ it.0.1.release + (stream_at streams (of it.0.0)).span =
-            (are.within it.0 it.1).span in
-            let less : sum_by (λ k_l. cond (is_short k_l) k_l.1.work 0) (numbered J)
-            ≤ sum_by (chosen_work chosen it.0.1.deadline) (numbered J) =
-            sum_le (λ k_l. cond (is_short k_l) k_l.1.work 0) (chosen_work chosen it.0.1.deadline) (numbered J)
-            (λ k_l mk. by_tests k_l (chosen k_l.0) refl (nat_le (stream_at streams (of k_l.0)).span span) refl
-            (it.3 k_l mk)) in
-            omega (arith, small, fits, due, less, works) where
-              by_tests : (k_l : ℕ × JobFacts) → (a : Bool) → chosen k_l.0 ≡ a → (b : Bool)
-                  → nat_le (stream_at streams (of k_l.0)).span span ≡ b
-                  → (is_short k_l ≡ true → k_l.1.deadline ≤ it.0.1.deadline)
-                  → cond (a && b) k_l.1.work 0
-                  ≤ cond (a && nat_le k_l.1.deadline it.0.1.deadline) k_l.1.work 0
-              by_tests k_l false e b f low = omega arith
-              by_tests k_l true e false f low = omega arith
-              by_tests k_l true e true f low =
-                  subst (λ c. k_l.1.work ≤ cond c k_l.1.work 0)
-                  (sym (le-leb _ _ (low (and_from (chosen k_l.0)
-                  (nat_le (stream_at streams (of k_l.0)).span span) e f)))) (omega arith)
-
-    -- so they can be stacked
-    can_stack : CanStack streams (of n) counts
-    can_stack = record {
-      waits = own_none;
-      few = few_count;
-      fitting = λ y place some. by_one y place (some_counted (is_one y) (numbered J) some);
-    } where
-      by_one : (y : ℕ) → y < length streams
-          → (m_i : ℕ × JobFacts) × IsMember m_i (numbered J) × (is_one y m_i ≡ true)
-          → sum_by (work_within counts (stream_at streams y).span) (enumerate_from 0 streams)
-          ≤ (stream_at streams y).span
-      by_one y place it =
-          let both : (eqb (of it.0.0) y ≡ true) × (chosen it.0.0 ≡ true) =
-          and_parts (eqb (of it.0.0) y) (chosen it.0.0) it.2 in
-          let same : (stream_at streams (of it.0.0)).span ≡ (stream_at streams y).span =
-          ap (λ z. (stream_at streams z).span) (eqb-true _ _ both.0) in
-          short_fit (stream_at streams y).span it.0 it.1
-          (and_from (chosen it.0.0) (nat_le (stream_at streams (of it.0.0)).span (stream_at streams y).span) both.1
-          (le-leb _ _ (omega (arith, same))))
-
-    -- and are worth no less
+    -- they are worth no less
     worth_more : sum_by (chosen_value chosen) (numbered J) ≤ worth_of counts streams
     worth_more =
         let parts : sum_by (λ m_i. cond (chosen m_i.0) m_i.1.value 0) (numbered J)
@@ -792,12 +687,148 @@ module _ (J : Instance) (streams : List Stream) (of : ℕ → ℕ) (n : ℕ) (j 
                     ∙ ap (λ (s : Stream). s.value) (stream_is streams y_s m) in
                     omega (arith, most, worth)
 
+  module _ (chosen : ℕ → Bool) (can : CanHold J n start chosen) where
+    -- how many of a stream are chosen
+    abbrev count_of : ℕ → ℕ
+    count_of = counts chosen can.waits can.crossing
+
+    module _ (span : ℕ) where
+      -- a chosen job of a stream of no greater span
+      abbrev is_short : ℕ × JobFacts → Bool
+      is_short m_i = chosen m_i.0 && nat_le (stream_at streams (of m_i.0)).span span
+
+      -- the work of so many is that of the jobs, or less
+      works : sum_by (work_within count_of span) (enumerate_from 0 streams)
+          ≤ sum_by (λ m_i. cond (is_short m_i) m_i.1.work 0) (numbered J)
+      works =
+          let each : sum_by (work_within count_of span) (enumerate_from 0 streams)
+          ≤ sum_by (λ (y_s : ℕ × Stream). sum_by (λ m_i. cond (eqb (of m_i.0) y_s.0)
+          (cond (is_short m_i) m_i.1.work 0) 0) (numbered J)) (enumerate_from 0 streams) =
+          sum_le (work_within count_of span) (λ y_s. sum_by (λ m_i. cond (eqb (of m_i.0) y_s.0)
+          (cond (is_short m_i) m_i.1.work 0) 0) (numbered J)) (enumerate_from 0 streams) of_stream in
+          omega (
+            arith,
+            each,
+            by_labels_back (λ (m_i : ℕ × JobFacts). of m_i.0)
+                (λ m_i. cond (is_short m_i) m_i.1.work 0) streams (numbered J),
+          ) where
+            of_stream : Each (λ y_s. work_within count_of span (y_s.0, y_s.1)
+                ≤ sum_by (λ m_i. cond (eqb (of m_i.0) y_s.0) (cond (is_short m_i) m_i.1.work 0) 0) (numbered J))
+                (enumerate_from 0 streams)
+            of_stream y_s m = by_span (nat_le y_s.1.span span) refl where
+              by_span : (b : Bool) → nat_le y_s.1.span span ≡ b → cond b (count_of y_s.0 * y_s.1.work) 0
+                  ≤ sum_by (λ m_i. cond (eqb (of m_i.0) y_s.0) (cond (is_short m_i) m_i.1.work 0) 0) (numbered J)
+              by_span false _ = omega arith
+              by_span true short =
+                  let all : y_s.1.work * count_of y_s.0
+                  ≤ 1 * sum_by (λ m_i. cond (eqb (of m_i.0) y_s.0) (cond (is_short m_i) m_i.1.work 0) 0)
+                  (numbered J) =
+                  scaled_sum y_s.1.work 1 (λ m_i. cond (is_one chosen can.waits can.crossing y_s.0 m_i) 1 0)
+                  (λ m_i. cond (eqb (of m_i.0) y_s.0) (cond (is_short m_i) m_i.1.work 0) 0) (numbered J)
+                  (λ m_i mm. term m_i mm (eqb (of m_i.0) y_s.0) refl (chosen m_i.0)) in
+                  omega (arith, all) where
+                    term : (m_i : ℕ × JobFacts) → IsMember m_i (numbered J) → (a : Bool)
+                        → eqb (of m_i.0) y_s.0 ≡ a → (b : Bool)
+                        → y_s.1.work * cond (a && b) 1 0
+                        ≤ 1 * cond a (cond (b && nat_le (stream_at streams (of m_i.0)).span span) m_i.1.work 0) 0
+                    term m_i mm false e b = omega arith
+                    term m_i mm true e false = omega arith
+                    term m_i mm true e true =
+                        let is : stream_at streams (of m_i.0) ≡ y_s.1 =
+                        ap (λ y. stream_at streams y) (eqb-true _ _ e) ∙ stream_is streams y_s m in
+                        let least : (stream_at streams (of m_i.0)).work ≤ m_i.1.work = (are.within m_i mm).work in
+                        let work : (stream_at streams (of m_i.0)).work ≡ y_s.1.work =
+                        ap (λ (s : Stream). s.work) is in
+                        let passes : nat_le (stream_at streams (of m_i.0)).span span ≡ true =
+                        subst (λ (s : Stream). nat_le s.span span ≡ true) (sym is) short in
+                        rw passes (omega (arith, least, work))
+
+      -- where one of them is chosen, all of them are within the span
+      short_fit : (m_i : ℕ × JobFacts) → IsMember m_i (numbered J) → is_short m_i ≡ true
+          → sum_by (work_within count_of span) (enumerate_from 0 streams) ≤ span
+      short_fit m_i m is = by_latest (latest is_short (λ k_l. k_l.1.deadline) (numbered J) m_i m is) where
+        by_latest : (y : ℕ × JobFacts) × IsMember y (numbered J) × (is_short y ≡ true)
+            × Each (λ z. is_short z ≡ true → z.1.deadline ≤ y.1.deadline) (numbered J)
+            → sum_by (work_within count_of span) (enumerate_from 0 streams) ≤ span
+        by_latest it =
+            let both : (chosen it.0.0 ≡ true) × (nat_le (stream_at streams (of it.0.0)).span span ≡ true) =
+            and_parts (chosen it.0.0) (nat_le (stream_at streams (of it.0.0)).span span) it.2 in
+            let small : (stream_at streams (of it.0.0)).span ≤ span = leb-true _ _ both.1 in
+            let fits : sum_by (chosen_work chosen it.0.1.deadline) (numbered J) + it.0.1.release ≤ it.0.1.deadline =
+            can.fitting it.0 it.1 both.0 in
+            let due : it.0.1.deadline ≤ it.0.1.release + (stream_at streams (of it.0.0)).span =
+            (are.within it.0 it.1).span in
+            let less : sum_by (λ k_l. cond (is_short k_l) k_l.1.work 0) (numbered J)
+            ≤ sum_by (chosen_work chosen it.0.1.deadline) (numbered J) =
+            sum_le (λ k_l. cond (is_short k_l) k_l.1.work 0) (chosen_work chosen it.0.1.deadline) (numbered J)
+            (λ k_l mk. by_tests k_l (chosen k_l.0) refl (nat_le (stream_at streams (of k_l.0)).span span) refl
+            (it.3 k_l mk)) in
+            omega (arith, small, fits, due, less, works) where
+              by_tests : (k_l : ℕ × JobFacts) → (a : Bool) → chosen k_l.0 ≡ a → (b : Bool)
+                  → nat_le (stream_at streams (of k_l.0)).span span ≡ b
+                  → (is_short k_l ≡ true → k_l.1.deadline ≤ it.0.1.deadline)
+                  → cond (a && b) k_l.1.work 0
+                  ≤ cond (a && nat_le k_l.1.deadline it.0.1.deadline) k_l.1.work 0
+              by_tests k_l false e b f low = omega arith
+              by_tests k_l true e false f low = omega arith
+              by_tests k_l true e true f low =
+                  subst (λ c. k_l.1.work ≤ cond c k_l.1.work 0)
+                  (sym (le-leb _ _ (low (and_from (chosen k_l.0)
+                  (nat_le (stream_at streams (of k_l.0)).span span) e f)))) (omega arith)
+
+    -- so they can be stacked
+    can_stack : CanStack streams (of n) count_of
+    can_stack = record {
+      waits = own_none chosen can.waits can.crossing;
+      few = few_count chosen can.waits can.crossing;
+      fitting = λ y place some. by_one y place
+          (some_counted (is_one chosen can.waits can.crossing y) (numbered J) some);
+    } where
+      by_one : (y : ℕ) → y < length streams
+          → (m_i : ℕ × JobFacts) × IsMember m_i (numbered J) × (is_one chosen can.waits can.crossing y m_i ≡ true)
+          → sum_by (work_within count_of (stream_at streams y).span) (enumerate_from 0 streams)
+          ≤ (stream_at streams y).span
+      by_one y place it =
+          let both : (eqb (of it.0.0) y ≡ true) × (chosen it.0.0 ≡ true) =
+          and_parts (eqb (of it.0.0) y) (chosen it.0.0) it.2 in
+          let same : (stream_at streams (of it.0.0)).span ≡ (stream_at streams y).span =
+          ap (λ z. (stream_at streams z).span) (eqb-true _ _ both.0) in
+          short_fit (stream_at streams y).span it.0 it.1
+          (and_from (chosen it.0.0) (nat_le (stream_at streams (of it.0.0)).span (stream_at streams y).span) both.1
+          (le-leb _ _ (omega (arith, same))))
+
   -- it is heavy at its latest start
   heavy_there : IsHeavyAt J n j start
   heavy_there chosen can =
       heavy_mono J.rules.ratio j.value (sum_by (chosen_value chosen) (numbered J))
-      (worth_of (counts chosen can) streams) (worth_more chosen can)
-      (sure.heavy (counts chosen can) (can_stack chosen can))
+      (worth_of (count_of chosen can) streams) (worth_more chosen can.waits can.crossing)
+      (sure.heavy (count_of chosen can) (can_stack chosen can))
+
+  -- the job of this number crosses its latest start beside it
+  abbrev crosses_beside : ℕ → Bool
+  crosses_beside m = not (eqb m n) && crosses start (get_or J.jobs m j)
+
+  -- it is that of the list
+  beside_is : (m_i : ℕ × JobFacts) → IsMember m_i (numbered J) → get_or J.jobs m_i.0 j ≡ m_i.1
+  beside_is m_i m = ap (λ i. get_or J.jobs i j) (let e : m_i.0 ≡ m_i.0 - 0 = omega arith in e) ∙ is_at 0 J.jobs j m_i m
+
+  -- what crosses its latest start beside it is worth no more than what jobs of the other streams that cross a tick are
+  beside_most : worth_beside J n start ≤ most_beside streams (of n)
+  beside_most =
+      let all : worth_beside J n start ≤ sum_by (chosen_value crosses_beside) (numbered J) =
+      sum_le (crossing_beside n start) (chosen_value crosses_beside) (numbered J)
+      (λ m_i m. subst (λ (i : JobFacts). crossing_beside n start m_i
+      ≤ cond (not (eqb m_i.0 n) && crosses start i) m_i.1.value 0) (sym (beside_is m_i m)) (omega arith)) in
+      let most : worth_of (counts crosses_beside waits crossing) streams ≤ most_beside streams (of n) =
+      worth_most streams (of n) (counts crosses_beside waits crossing) (own_none crosses_beside waits crossing)
+      (few_count crosses_beside waits crossing) in
+      omega (arith, all, worth_more crosses_beside waits crossing, most) where
+        waits : crosses_beside n ≡ false
+        waits = ap (λ b. not b && crosses start (get_or J.jobs n j)) (eq-eqb n n refl)
+
+        crossing : Each (λ m_i. crosses_beside m_i.0 ≡ true → crosses start m_i.1 ≡ true) (numbered J)
+        crossing m_i m is = subst (λ (i : JobFacts). crosses start i ≡ true) (beside_is m_i m)
+            (and_parts (not (eqb m_i.0 n)) (crosses start (get_or J.jobs m_i.0 j)) is).1
 
   -- one job of another stream can be stacked
   module _ (y : ℕ) (place : y < length streams) (apart : eqb y (of n) ≡ false)
@@ -892,17 +923,31 @@ module _ (J : Instance) (streams : List Stream) (of : ℕ → ℕ) (n : ℕ) (j 
         alone_less (of m_i.0) (are.named m_i member) differs gaps (omega (arith, window, due, least)) in
         omega (arith, above, most, less)
 
-  -- so it is completed
-  pub sure_job : IsCompleted J n j
-  sure_job = heavy_at_start J n j valid dated there heavy_there none_displaces where
-    none_displaces : NoneDisplaces J j
-    none_displaces i member due from heavy = by_name (number_of 0 J.jobs i member) where
-      by_name : (m : ℕ) × IsMember (m, i) (enumerate_from 0 J.jobs) → ⊥
-      by_name it = none_heavy (it.0, i) it.1 heavy
+  -- nor is one by its facts
+  no_job_heavy : Each (λ i. IsHeavy J.rules.ratio i.value j.value → ⊥) J.jobs
+  no_job_heavy i member = by_name (number_of 0 J.jobs i member) where
+    by_name : (m : ℕ) × IsMember (m, i) (enumerate_from 0 J.jobs) → IsHeavy J.rules.ratio i.value j.value → ⊥
+    by_name it = none_heavy (it.0, i) it.1
 
--- the law
+  -- so it is completed, where jobs are chosen by deadline
+  pub sure_job : IsByDeadline J.rules.version → IsCompleted J n j
+  sure_job dated = heavy_at_start J n j valid dated there heavy_there (λ i member due from. no_job_heavy i member)
+
+  -- and in every version, where it is heavy against all jobs of the others that can cross a tick
+  pub sure_in_all : IsHeavy J.rules.ratio j.value (most_beside streams (of n)) → IsCompleted J n j
+  sure_in_all heavy = heavy_in_all J n j valid there
+      (heavy_mono J.rules.ratio j.value (worth_beside J n start) (most_beside streams (of n)) beside_most heavy)
+      (λ i member later sooner. no_job_heavy i member)
+
+-- the law, where jobs are chosen by deadline
 pub sure_streams : (J : Instance) (streams : List Stream) (of : ℕ → ℕ) (n : ℕ) (j : JobFacts) → IsValid J
-    → IsByDeadline J.rules.version → AreOfStreams streams of J → IsMember (n, j) (numbered J) → IsSure J.rules.ratio
-    streams (of n) j
-    → IsCompleted J n j
-sure_streams J streams of n j valid dated are there sure = sure_job J streams of n j valid dated are there sure
+    → IsByDeadline J.rules.version → AreOfStreams streams of J → IsMember (n, j) (numbered J)
+    → IsSure J.rules.ratio streams (of n) j → IsCompleted J n j
+sure_streams J streams of n j valid dated are there sure = sure_job J streams of n j valid are there sure dated
+
+-- and in every version
+pub sure_streams_in_all : (J : Instance) (streams : List Stream) (of : ℕ → ℕ) (n : ℕ) (j : JobFacts) → IsValid J
+    → AreOfStreams streams of J → IsMember (n, j) (numbered J) → IsSure J.rules.ratio streams (of n) j
+    → IsHeavy J.rules.ratio j.value (most_beside streams (of n)) → IsCompleted J n j
+sure_streams_in_all J streams of n j valid are there sure heavy =
+    sure_in_all J streams of n j valid are there sure heavy

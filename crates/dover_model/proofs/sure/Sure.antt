@@ -11,7 +11,7 @@ use Rattle.dover_model.specs.Common.{is_privileged, is_over, is_done, left, late
 use Rattle.dover_model.specs.Common.{IsHeavy, is_heavy, Move, Prints, Ticks, step, after, ending, ◌or_else◌, with_role}
 use Rattle.dover_model.specs.Common.{displaced, ticked, Step, is_end, run, printed, printed_of, event_of, IsWholeRun}
 use Rattle.dover_model.specs.Common.{IsMember, Each, IsNumberedFrom, IsSound, Keeps, jobs_of, worth_beside, IsHeavyAt}
-use Rattle.dover_model.specs.Common.{NoneDisplaces, IsCompleted}
+use Rattle.dover_model.specs.Common.{NoneDisplaces, NoneMeets, IsCompleted}
 use Rattle.dover_model.specs.Sure.{crosses, crossing_beside, chosen_value, chosen_work, CanHold, FitWindows}
 use Rattle.dover_model.proofs.lists.Members.{on_map, map_member, filter_member, sum_filter, sum_le, sum_same}
 use Rattle.dover_model.proofs.lists.Members.{sum_zero, term_le_sum, cond_le, found, not_found}
@@ -175,13 +175,8 @@ printed_later e (Some f) events member = inr member
 
 -- ---- over a run
 
-module _ (J : Instance) (valid : IsValid J) (by_order : IsByDeadline J.rules.version) (n : ℕ) (j : JobFacts)
-    (there : IsMember (n, j) (numbered J))
-    (steady : Bool)
-    (heavy : (t : ℕ) → j.deadline ≤ t + j.work → t < j.deadline → (steady ≡ true → t + j.work ≡ j.deadline)
-    → IsHeavyAt J n j t)
-    (none : steady ≡ true → NoneDisplaces J j) where
-  module _ (s : State) (keeps : Keeps J s) (stacked : IsStacked s) where
+module _ (J : Instance) (n : ℕ) (j : JobFacts) (there : IsMember (n, j) (numbered J)) where
+  module _ (s : State) (keeps : Keeps J s) where
     -- the job's task
     the_task : (t : Task) × IsMember t s.tasks × (t.number ≡ n) × (t.job ≡ j)
     the_task = task_of 0 s.tasks keeps.sound.numbered (n, j)
@@ -223,74 +218,88 @@ module _ (J : Instance) (valid : IsValid J) (by_order : IsByDeadline J.rules.ver
           ∙ sum_same (λ t. f (holds s t.number) t.job) (λ t. f (is_privileged t) t.job) s.tasks
           (λ t m. ap (λ b. f b t.job) (holds_is s keeps.sound t m))
 
-      module _ (same : x.number ≡ n) where
-        -- the running and held jobs can hold the processor while it waits
-        can_hold : CanHold J n s.clock (holds s)
-        can_hold = record {
-          waits = subst (λ m. holds s m ≡ false) same
-              (holds_is s keeps.sound x x_member ∙ passes is_privileged x Waiting false waiting refl);
-          crossing = λ m_i m chosen. by_task m_i chosen (task_there m_i m);
-          fitting = λ m_i m chosen. by_window m_i chosen (task_there m_i m);
-        } where
-          task_there : (m_i : ℕ × JobFacts) → IsMember m_i (numbered J)
-              → (t : Task) × IsMember t s.tasks × (t.number ≡ m_i.0) × (t.job ≡ m_i.1)
-          task_there m_i m = task_of 0 s.tasks keeps.sound.numbered m_i
-              (subst (λ jobs. IsMember m_i (enumerate_from 0 jobs)) (sym keeps.jobs) m)
+      -- the task of a job of the list
+      task_there : (m_i : ℕ × JobFacts) → IsMember m_i (numbered J)
+          → (t : Task) × IsMember t s.tasks × (t.number ≡ m_i.0) × (t.job ≡ m_i.1)
+      task_there m_i m = task_of 0 s.tasks keeps.sound.numbered m_i
+          (subst (λ jobs. IsMember m_i (enumerate_from 0 jobs)) (sym keeps.jobs) m)
 
-          is_in_of : (m_i : ℕ × JobFacts) → holds s m_i.0 ≡ true → (t : Task) → IsMember t s.tasks
-              → t.number ≡ m_i.0 → is_privileged t ≡ true
-          is_in_of m_i chosen t m is =
-              sym (holds_is s keeps.sound t m) ∙ subst (λ i. holds s i ≡ true) (sym is) chosen
+      -- the task of one that runs or is held
+      is_in_of : (m_i : ℕ × JobFacts) → holds s m_i.0 ≡ true → (t : Task) → IsMember t s.tasks
+          → t.number ≡ m_i.0 → is_privileged t ≡ true
+      is_in_of m_i chosen t m is =
+          sym (holds_is s keeps.sound t m) ∙ subst (λ i. holds s i ≡ true) (sym is) chosen
 
-          by_task : (m_i : ℕ × JobFacts) → holds s m_i.0 ≡ true
-              → (t : Task) × IsMember t s.tasks × (t.number ≡ m_i.0) × (t.job ≡ m_i.1)
-              → crosses s.clock m_i.1 ≡ true
-          by_task m_i chosen it =
-              let parts : (1 ≤ left it.0) × (it.0.job.release ≤ s.clock) × (s.clock + left it.0 ≤ it.0.job.deadline) =
-              some_left it.0 it.1 (is_in_of m_i chosen it.0 it.1 it.2) in
-              let one : 1 ≤ left it.0 = parts.0 in
-              let slack : s.clock + left it.0 ≤ it.0.job.deadline = parts.2 in
-              let late : s.clock < it.0.job.deadline = omega (arith, one, slack) in
-              subst (λ (i : JobFacts). crosses s.clock i ≡ true) it.3
-              (and_from (nat_le it.0.job.release s.clock) (nat_lt s.clock it.0.job.deadline) (le-leb _ _ parts.1)
-              (lt-ltb _ _ late))
+      -- the running and held jobs cross the tick
+      held_cross : Each (λ m_i. holds s m_i.0 ≡ true → crosses s.clock m_i.1 ≡ true) (numbered J)
+      held_cross m_i m chosen = by_task (task_there m_i m) where
+        by_task : (t : Task) × IsMember t s.tasks × (t.number ≡ m_i.0) × (t.job ≡ m_i.1)
+            → crosses s.clock m_i.1 ≡ true
+        by_task it =
+            let parts : (1 ≤ left it.0) × (it.0.job.release ≤ s.clock) × (s.clock + left it.0 ≤ it.0.job.deadline) =
+            some_left it.0 it.1 (is_in_of m_i chosen it.0 it.1 it.2) in
+            let one : 1 ≤ left it.0 = parts.0 in
+            let slack : s.clock + left it.0 ≤ it.0.job.deadline = parts.2 in
+            let late : s.clock < it.0.job.deadline = omega (arith, one, slack) in
+            subst (λ (i : JobFacts). crosses s.clock i ≡ true) it.3
+            (and_from (nat_le it.0.job.release s.clock) (nat_lt s.clock it.0.job.deadline) (le-leb _ _ parts.1)
+            (lt-ltb _ _ late))
 
-          by_window : (m_i : ℕ × JobFacts) → holds s m_i.0 ≡ true
-              → (t : Task) × IsMember t s.tasks × (t.number ≡ m_i.0) × (t.job ≡ m_i.1)
-              → sum_by (chosen_work (holds s) m_i.1.deadline) (numbered J) + m_i.1.release ≤ m_i.1.deadline
-          by_window m_i chosen it =
-              let fits : sum_by (by_due (λ u. u.job.work) it.0.job.deadline) s.tasks + it.0.job.release
-              ≤ it.0.job.deadline =
-              works_fit s keeps.sound stacked it.0 it.1 (is_in_of m_i chosen it.0 it.1 it.2) in
-              let sums : sum_by (λ l_k. cond (holds s l_k.0 && nat_le l_k.1.deadline it.0.job.deadline) l_k.1.work 0)
-              (numbered J) ≡ sum_by (by_due (λ u. u.job.work) it.0.job.deadline) s.tasks =
-              over_tasks (λ b i. cond (b && nat_le i.deadline it.0.job.deadline) i.work 0) in
-              subst (λ (i : JobFacts). sum_by (chosen_work (holds s) i.deadline) (numbered J) + i.release ≤ i.deadline)
-              it.3 (rw sums fits)
+      -- the waiting job isn't one of them
+      held_without : x.number ≡ n → holds s n ≡ false
+      held_without same = subst (λ m. holds s m ≡ false) same
+          (holds_is s keeps.sound x x_member ∙ passes is_privileged x Waiting false waiting refl)
 
-        -- and are worth what a take has to beat
-        held_worth : sum_by (chosen_value (holds s)) (numbered J) ≡ value_sum (privileged s)
-        held_worth = over_tasks (λ b i. cond b i.value 0)
-            ∙ sym (sum_filter is_privileged (λ t. t.job.value) s.tasks)
+      -- they are worth what a take has to beat
+      held_worth : sum_by (chosen_value (holds s)) (numbered J) ≡ value_sum (privileged s)
+      held_worth = over_tasks (λ b i. cond b i.value 0) ∙ sym (sum_filter is_privileged (λ t. t.job.value) s.tasks)
 
-        -- so it isn't abandoned
-        not_abandoned : is_heavy J.rules.ratio x.job.value (value_sum (privileged s)) ≡ false
-            → (steady ≡ true → x.had ≡ 0) → ⊥
-        not_abandoned light nothing =
-            let is_j : x.job ≡ j = the_job x x_member same in
-            let fits : (1 ≤ left x) × (x.job.release ≤ s.clock) × (s.clock + left x ≤ x.job.deadline) =
-            says s keeps.sound x x_member Waiting waiting in
-            let one : 1 ≤ left x = fits.0 in
-            let slack : s.clock + left x ≤ x.job.deadline = fits.2 in
-            let due : x.job.deadline ≡ j.deadline = ap (λ (i : JobFacts). i.deadline) is_j in
-            let work : x.job.work ≡ j.work = ap (λ (i : JobFacts). i.work) is_j in
-            let start : x.job.deadline - left x ≡ s.clock = now in
-            let rest : left x ≡ x.job.work - x.had = refl in
-            let enough : IsHeavy J.rules.ratio j.value (sum_by (chosen_value (holds s)) (numbered J)) =
-            heavy s.clock (omega arith) (omega arith)
-            (λ e. let had : x.had ≡ 0 = nothing e in omega arith) (holds s) can_hold in
-            never (sym light ∙ subst (λ (i : JobFacts). IsHeavy J.rules.ratio i.value (value_sum (privileged s)))
-            (sym is_j) (subst (IsHeavy J.rules.ratio j.value) held_worth enough))
+      -- it is one of the jobs
+      x_listed : IsMember x.job J.jobs
+      x_listed = subst (IsMember x.job) keeps.jobs (map_member (λ (u : Task). u.job) s.tasks x x_member)
+
+      module _ (takes : is_heavy J.rules.ratio x.job.value (value_sum (privileged s)) ≡ true) (t : Task)
+          (m : IsMember t s.tasks) (is_in : is_privileged t ≡ true) (same : t.number ≡ n) where
+        -- where it takes, it is heavy against each of them
+        heavier : IsHeavy J.rules.ratio x.job.value j.value
+        heavier =
+            let part : t.job.value ≤ value_sum (privileged s) =
+            term_le_sum (λ u. u.job.value) (privileged s) t (filter_member is_privileged s.tasks t m is_in) in
+            subst (λ (i : JobFacts). IsHeavy J.rules.ratio x.job.value i.value) (the_job t m same)
+            (heavy_mono J.rules.ratio x.job.value t.job.value (value_sum (privileged s)) part takes)
+
+-- ---- where jobs are chosen by deadline
+
+module _ (J : Instance) (valid : IsValid J) (n : ℕ) (j : JobFacts) (there : IsMember (n, j) (numbered J))
+    (steady : Bool)
+    (heavy : (t : ℕ) → j.deadline ≤ t + j.work → t < j.deadline → (steady ≡ true → t + j.work ≡ j.deadline)
+    → IsHeavyAt J n j t)
+    (none : steady ≡ true → NoneDisplaces J j) where
+  module _ (s : State) (keeps : Keeps J s) (stacked : IsStacked s) where
+    module _ (r x : Task) (member : IsMember r s.tasks) (runs : r.role ≡ Running) (some : 1 ≤ left r)
+        (x_member : IsMember x s.tasks) (waiting : x.role ≡ Waiting) (now : latest_start x ≡ s.clock) where
+      -- the running and held jobs can hold the processor while it waits
+      can_hold : x.number ≡ n → CanHold J n s.clock (holds s)
+      can_hold same = record {
+        waits = held_without J n j there s keeps r x member runs some x_member waiting now same;
+        crossing = held_cross J n j there s keeps r x member runs some x_member waiting now;
+        fitting = λ m_i m chosen. by_window m_i chosen
+            (task_there J n j there s keeps r x member runs some x_member waiting now m_i m);
+      } where
+        by_window : (m_i : ℕ × JobFacts) → holds s m_i.0 ≡ true
+            → (t : Task) × IsMember t s.tasks × (t.number ≡ m_i.0) × (t.job ≡ m_i.1)
+            → sum_by (chosen_work (holds s) m_i.1.deadline) (numbered J) + m_i.1.release ≤ m_i.1.deadline
+        by_window m_i chosen it =
+            let fits : sum_by (by_due (λ u. u.job.work) it.0.job.deadline) s.tasks + it.0.job.release
+            ≤ it.0.job.deadline =
+            works_fit s keeps.sound stacked it.0 it.1
+            (is_in_of J n j there s keeps r x member runs some x_member waiting now m_i chosen it.0 it.1 it.2) in
+            let sums : sum_by (λ l_k. cond (holds s l_k.0 && nat_le l_k.1.deadline it.0.job.deadline) l_k.1.work 0)
+            (numbered J) ≡ sum_by (by_due (λ u. u.job.work) it.0.job.deadline) s.tasks =
+            over_tasks J n j there s keeps r x member runs some x_member waiting now
+            (λ b i. cond (b && nat_le i.deadline it.0.job.deadline) i.work 0) in
+            subst (λ (i : JobFacts). sum_by (chosen_work (holds s) i.deadline) (numbered J) + i.release ≤ i.deadline)
+            it.3 (rw sums fits)
 
       -- the other job alone
       abbrev alone : ℕ → Bool
@@ -360,10 +369,10 @@ module _ (J : Instance) (valid : IsValid J) (by_order : IsByDeadline J.rules.ver
           → IsMember t s.tasks → is_privileged t ≡ true → t.number ≡ n → steady ≡ true → ⊥
       not_displaced takes t m is_in same e = by_start (cases_lt x.job.deadline (j.release + x.job.work)) where
         is_j : t.job ≡ j
-        is_j = the_job t m same
+        is_j = the_job J n j there s keeps t m same
 
         held : (1 ≤ left t) × (t.job.release ≤ s.clock) × (s.clock + left t ≤ t.job.deadline)
-        held = some_left t m is_in
+        held = some_left J n j there s keeps r x member runs some x_member waiting now t m is_in
 
         slack : s.clock + left t ≤ t.job.deadline
         slack = held.2
@@ -398,12 +407,8 @@ module _ (J : Instance) (valid : IsValid J) (by_order : IsByDeadline J.rules.ver
         x_limits : JobLimits x.job
         x_limits = job_limits ((realistic J valid s keeps).each x x_member)
 
-        heavier : IsHeavy J.rules.ratio x.job.value j.value
-        heavier =
-            let part : t.job.value ≤ value_sum (privileged s) =
-            term_le_sum (λ u. u.job.value) (privileged s) t (filter_member is_privileged s.tasks t m is_in) in
-            subst (λ (i : JobFacts). IsHeavy J.rules.ratio x.job.value i.value) is_j
-            (heavy_mono J.rules.ratio x.job.value t.job.value (value_sum (privileged s)) part takes)
+        stronger : IsHeavy J.rules.ratio x.job.value j.value
+        stronger = heavier J n j there s keeps r x member runs some x_member waiting now takes t m is_in same
 
         differs : x.number ≡ n → ⊥
         differs is = never (sym (passes is_privileged x Waiting false waiting refl)
@@ -421,7 +426,7 @@ module _ (J : Instance) (valid : IsValid J) (by_order : IsByDeadline J.rules.ver
             (alone_holds (j.deadline - j.work) released late differs) in
             let more : sum_by (chosen_value alone) (numbered J) < j.value =
             heavy_more J.rules.ratio j.value (sum_by (chosen_value alone) (numbered J)) enough in
-            let above : j.value < x.job.value = heavy_more J.rules.ratio x.job.value j.value heavier in
+            let above : j.value < x.job.value = heavy_more J.rules.ratio x.job.value j.value stronger in
             omega (arith, more, above, alone_least)
 
         by_above : x.job.deadline < j.release + x.job.work
@@ -434,19 +439,54 @@ module _ (J : Instance) (valid : IsValid J) (by_order : IsByDeadline J.rules.ver
             (omega (arith, tight, slack, t_rest, due, work, x_slack, fits.0, limits.window, limits.work))
 
         by_start : (x.job.deadline < j.release + x.job.work) ⊎ (j.release + x.job.work ≤ x.job.deadline) → ⊥
-        by_start (inr late) = none e x.job
-            (subst (IsMember x.job) keeps.jobs (map_member (λ (u : Task). u.job) s.tasks x x_member))
-            late (omega (arith, slack, x_slack, held.0, fits.0, start, x_rest, due)) heavier
+        by_start (inr late) = none e x.job (x_listed J n j there s keeps r x member runs some x_member waiting now)
+            late (omega (arith, slack, x_slack, held.0, fits.0, start, x_rest, due)) stronger
         by_start (inl early) = by_above early (stacked.above x t x_member m waiting
             (omega (arith, early, held.1, from, x_slack, x_rest)) is_in)
+
+-- ---- over a run
+
+module _ (J : Instance) (valid : IsValid J) (n : ℕ) (j : JobFacts) (there : IsMember (n, j) (numbered J))
+    (steady : Bool) (Stays : State → Type 0) (opens : Stays (opening J.jobs))
+    (goes_on : (s : State) → Keeps J s → Stays s → Stays (after s (step J.rules s)))
+    (heavy : (s : State) → Keeps J s → Stays s → (r x : Task) → IsMember r s.tasks → r.role ≡ Running → 1 ≤ left r
+    → IsMember x s.tasks → x.role ≡ Waiting → latest_start x ≡ s.clock → x.number ≡ n
+    → j.deadline ≤ s.clock + j.work → s.clock < j.deadline → (steady ≡ true → s.clock + j.work ≡ j.deadline)
+    → IsHeavy J.rules.ratio j.value (sum_by (chosen_value (holds s)) (numbered J)))
+    (undisplaced : (s : State) → Keeps J s → Stays s → (r x : Task) → IsMember r s.tasks → r.role ≡ Running
+    → 1 ≤ left r → IsMember x s.tasks → x.role ≡ Waiting → latest_start x ≡ s.clock
+    → is_heavy J.rules.ratio x.job.value (value_sum (privileged s)) ≡ true → (t : Task) → IsMember t s.tasks
+    → is_privileged t ≡ true → t.number ≡ n → steady ≡ true → ⊥) where
+  module _ (s : State) (keeps : Keeps J s) (stays : Stays s) where
+    -- it isn't abandoned
+    not_abandoned : (r x : Task) → IsMember r s.tasks → r.role ≡ Running → 1 ≤ left r → IsMember x s.tasks
+        → x.role ≡ Waiting → latest_start x ≡ s.clock
+        → is_heavy J.rules.ratio x.job.value (value_sum (privileged s)) ≡ false → x.number ≡ n
+        → (steady ≡ true → x.had ≡ 0) → ⊥
+    not_abandoned r x member runs some x_member waiting now light same nothing =
+        let is_j : x.job ≡ j = the_job J n j there s keeps x x_member same in
+        let fits : (1 ≤ left x) × (x.job.release ≤ s.clock) × (s.clock + left x ≤ x.job.deadline) =
+        says s keeps.sound x x_member Waiting waiting in
+        let one : 1 ≤ left x = fits.0 in
+        let slack : s.clock + left x ≤ x.job.deadline = fits.2 in
+        let due : x.job.deadline ≡ j.deadline = ap (λ (i : JobFacts). i.deadline) is_j in
+        let work : x.job.work ≡ j.work = ap (λ (i : JobFacts). i.work) is_j in
+        let start : x.job.deadline - left x ≡ s.clock = now in
+        let rest : left x ≡ x.job.work - x.had = refl in
+        let enough : IsHeavy J.rules.ratio j.value (sum_by (chosen_value (holds s)) (numbered J)) =
+        heavy s keeps stays r x member runs some x_member waiting now same (omega arith) (omega arith)
+        (λ e. let had : x.had ≡ 0 = nothing e in omega arith) in
+        never (sym light ∙ subst (λ (i : JobFacts). IsHeavy J.rules.ratio i.value (value_sum (privileged s)))
+        (sym is_j) (subst (IsHeavy J.rules.ratio j.value)
+        (held_worth J n j there s keeps r x member runs some x_member waiting now) enough))
 
     -- each step keeps it, or completes the job in time
     step_unlost : IsUnlost steady n s → IsUnlost steady n (after s (step J.rules s)) ⊎ Ends n s (step J.rules s)
     step_unlost unlost = deed_unlost steady n J.rules.ratio s (ending s or_else Ticks) keeps.sound
         (λ r x member runs some x_member waiting now light same nothing.
-        not_abandoned r x member runs some x_member waiting now same light nothing)
+        not_abandoned r x member runs some x_member waiting now light same nothing)
         (λ r x t member runs some x_member waiting now takes m is_in same e.
-        not_displaced r x member runs some x_member waiting now takes t m is_in same e)
+        undisplaced s keeps stays r x member runs some x_member waiting now takes t m is_in same e)
         (λ quiet. by_end (list_all is_over s.tasks)) unlost (step J.rules s) (step_deed J valid s keeps J.rules) where
           by_end : (b : Bool) → IsUnlost steady n
               (after s (then_some b (Prints (End (value_sum (filter is_done s.tasks)))) or_else Ticks))
@@ -456,7 +496,7 @@ module _ (J : Instance) (valid : IsValid J) (by_order : IsByDeadline J.rules.ver
 
     -- while it is so, not all jobs are over
     not_over : IsUnlost steady n s → Each (λ t. is_over t ≡ true) s.tasks → ⊥
-    not_over unlost over = by_task the_task where
+    not_over unlost over = by_task (the_task J n j there s keeps) where
       by_role : (t : Task) → Unlost steady t.role t.had → (t.role ≡ Done) ⊎ (t.role ≡ Gone) → ⊥
       by_role t before (inl e) = subst (λ role. Unlost steady role t.had) e before
       by_role t before (inr e) = subst (λ role. Unlost steady role t.had) e before
@@ -469,13 +509,13 @@ module _ (J : Instance) (valid : IsValid J) (by_order : IsByDeadline J.rules.ver
   CompletedIn events = (tick : ℕ) × IsMember (Complete tick n) events × (tick ≤ j.deadline)
 
   -- the rest of a run completes it
-  completes : (xs : List Step) (s : State) → Keeps J s → IsStacked s → IsUnlost steady n s → IsWholeRun J.rules s xs
+  completes : (xs : List Step) (s : State) → Keeps J s → Stays s → IsUnlost steady n s → IsWholeRun J.rules s xs
       → CompletedIn (printed_of xs)
-  completes [] s keeps stacked unlost whole = absurd whole
-  completes (x ∷ xs) s keeps stacked unlost whole =
-      by_step (step_unlost s keeps stacked unlost)
+  completes [] s keeps stays unlost whole = absurd whole
+  completes (x ∷ xs) s keeps stays unlost whole =
+      by_step (step_unlost s keeps stays unlost)
       (λ later more. completes xs (after s (step J.rules s)) (step_kept J valid s keeps J.rules)
-      (step_stacked J valid s keeps J.rules by_order stacked) later more) where
+      (goes_on s keeps stays) later more) where
         by_step : IsUnlost steady n (after s (step J.rules s)) ⊎ Ends n s (step J.rules s)
             → (IsUnlost steady n (after s (step J.rules s)) → IsWholeRun J.rules (after s (step J.rules s)) xs
             → CompletedIn (printed_of xs)) → CompletedIn (printed_of (x ∷ xs))
@@ -483,19 +523,20 @@ module _ (J : Instance) (valid : IsValid J) (by_order : IsByDeadline J.rules.ver
           s.clock,
           subst (λ (m : Move). IsMember (Complete s.clock n) (cons_option (event_of m) (printed_of xs)))
               (sym (ap (λ (y : Step). y.move) whole.0 ∙ it.is)) (inl refl),
-          subst (λ (i : JobFacts). s.clock ≤ i.deadline) (the_job s keeps stacked it.job it.member it.is_n) it.in_time,
+          subst (λ (i : JobFacts). s.clock ≤ i.deadline) (the_job J n j there s keeps it.job it.member it.is_n)
+              it.in_time,
         )
         by_step (inl later) more = by_end (is_end (step J.rules s)) refl whole.1 where
           by_end : (b : Bool) → is_end (step J.rules s) ≡ b
               → MatchBool b (xs ≡ []) (IsWholeRun J.rules (after s (step J.rules s)) xs)
               → CompletedIn (printed_of (x ∷ xs))
-          by_end true last _ = absurd (not_over s keeps stacked unlost (end_over J valid s keeps J.rules last).1)
+          by_end true last _ = absurd (not_over s keeps stays unlost (end_over J valid s keeps J.rules last).1)
           by_end false on rest = let it : CompletedIn (printed_of xs) = more later rest in
               (it.0, printed_later (Complete it.0 n) (event_of x.move) (printed_of xs) it.1, it.2)
 
   -- the run completes it
   run_completes : IsCompleted J n j
-  run_completes = as_record (completes (run J) (opening J.jobs) (opening_keeps J) (opening_stacked J.jobs) begins
+  run_completes = as_record (completes (run J) (opening J.jobs) (opening_keeps J) opens begins
       (run_is_whole J valid)) where
         begins : IsUnlost steady n (opening J.jobs)
         begins t m same = subst (λ role. Unlost steady role t.had) (sym (come_coming 0 J.jobs t m).0) tt
@@ -503,35 +544,90 @@ module _ (J : Instance) (valid : IsValid J) (by_order : IsByDeadline J.rules.ver
         as_record : CompletedIn (printed J) → IsCompleted J n j
         as_record it = record { tick = it.0; event = it.1; in_time = it.2 }
 
+-- a job of which the above holds where jobs are chosen by deadline
+stacked_completes : (J : Instance) (n : ℕ) (j : JobFacts) → IsValid J → IsByDeadline J.rules.version
+    → IsMember (n, j) (numbered J) → (steady : Bool)
+    → ((t : ℕ) → j.deadline ≤ t + j.work → t < j.deadline → (steady ≡ true → t + j.work ≡ j.deadline)
+    → IsHeavyAt J n j t)
+    → (steady ≡ true → NoneDisplaces J j) → IsCompleted J n j
+stacked_completes J n j valid by_order there steady heavy none = run_completes J valid n j there steady IsStacked
+    (opening_stacked J.jobs) (λ s keeps stacked. step_stacked J valid s keeps J.rules by_order stacked)
+    (λ s keeps stacked r x member runs some x_member waiting now same from until only. heavy s.clock from until only
+    (holds s) (can_hold J valid n j there steady heavy none s keeps stacked r x member runs some x_member waiting now
+    same))
+    (λ s keeps stacked r x member runs some x_member waiting now.
+    not_displaced J valid n j there steady heavy none s keeps stacked r x member runs some x_member waiting now)
+
 -- a job that is heavy, at each tick from its latest start to its deadline, against what can hold the processor there
 pub heavy_throughout : (J : Instance) (n : ℕ) (j : JobFacts) → IsValid J
     → IsByDeadline J.rules.version → IsMember (n, j) (numbered J)
     → ((t : ℕ) → j.deadline ≤ t + j.work → t < j.deadline → IsHeavyAt J n j t) → IsCompleted J n j
 heavy_throughout J n j valid by_order there heavy =
-    run_completes J valid by_order n j there false (λ t from until _. heavy t from until) (λ e. never e)
+    stacked_completes J n j valid by_order there false (λ t from until _. heavy t from until) (λ e. never e)
 
 -- so is one that is heavy at its latest start, where no job can displace it
 pub heavy_at_start : (J : Instance) (n : ℕ) (j : JobFacts) → IsValid J
     → IsByDeadline J.rules.version → IsMember (n, j) (numbered J)
     → IsHeavyAt J n j (j.deadline - j.work) → NoneDisplaces J j → IsCompleted J n j
 heavy_at_start J n j valid by_order there heavy none =
-    run_completes J valid by_order n j there true
+    stacked_completes J n j valid by_order there true
     (λ t from until now. let at : t + j.work ≡ j.deadline = now refl in
     subst (IsHeavyAt J n j) (let e : j.deadline - j.work ≡ t = omega arith in e) heavy) (λ _. none)
+
+-- jobs beside this one that cross a tick are worth no more than all that do
+chosen_beside : (J : Instance) (n t : ℕ) (chosen : ℕ → Bool) → chosen n ≡ false
+    → Each (λ m_i. chosen m_i.0 ≡ true → crosses t m_i.1 ≡ true) (numbered J)
+    → sum_by (chosen_value chosen) (numbered J) ≤ worth_beside J n t
+chosen_beside J n t chosen waits crossing = sum_le (chosen_value chosen) (crossing_beside n t) (numbered J)
+    (λ m_i m. by_chosen m_i m (chosen m_i.0) refl (eqb m_i.0 n) refl) where
+      by_chosen : (m_i : ℕ × JobFacts) → IsMember m_i (numbered J) → (b : Bool) → chosen m_i.0 ≡ b → (c : Bool)
+          → eqb m_i.0 n ≡ c → cond b m_i.1.value 0 ≤ cond (not c && crosses t m_i.1) m_i.1.value 0
+      by_chosen m_i m false out c e = omega arith
+      by_chosen m_i m true is_in true e = never (sym waits ∙ subst (λ i. chosen i ≡ true) (eqb-true _ _ e) is_in)
+      by_chosen m_i m true is_in false e = rw (crossing m_i m is_in) (omega arith)
+
+-- in every version a job is completed that is heavy against all that cross its latest start, where none that may meet
+-- it is heavy against it
+pub heavy_in_all : (J : Instance) (n : ℕ) (j : JobFacts) → IsValid J → IsMember (n, j) (numbered J)
+    → IsHeavy J.rules.ratio j.value (worth_beside J n (j.deadline - j.work)) → NoneMeets J j → IsCompleted J n j
+heavy_in_all J n j valid there heavy none = run_completes J valid n j there true (λ _. Unit {0}) tt (λ _ _ _. tt)
+    (λ s keeps _ r x member runs some x_member waiting now same from until only.
+    let at : s.clock + j.work ≡ j.deadline = only refl in
+    let here : j.deadline - j.work ≡ s.clock = omega arith in
+    heavy_mono J.rules.ratio j.value (sum_by (chosen_value (holds s)) (numbered J)) (worth_beside J n s.clock)
+    (chosen_beside J n s.clock (holds s)
+    (held_without J n j there s keeps r x member runs some x_member waiting now same)
+    (held_cross J n j there s keeps r x member runs some x_member waiting now))
+    (subst (λ t. IsHeavy J.rules.ratio j.value (worth_beside J n t)) here heavy))
+    displaced_never where
+      displaced_never : (s : State) → Keeps J s → Unit {0} → (r x : Task) → IsMember r s.tasks → r.role ≡ Running
+          → 1 ≤ left r → IsMember x s.tasks → x.role ≡ Waiting → latest_start x ≡ s.clock
+          → is_heavy J.rules.ratio x.job.value (value_sum (privileged s)) ≡ true → (t : Task) → IsMember t s.tasks
+          → is_privileged t ≡ true → t.number ≡ n → true ≡ true → ⊥
+      displaced_never s keeps _ r x member runs some x_member waiting now takes t m is_in same _ =
+          let is_j : t.job ≡ j = the_job J n j there s keeps t m same in
+          let parts : (1 ≤ left t) × (t.job.release ≤ s.clock) × (s.clock + left t ≤ t.job.deadline) =
+          some_left J n j there s keeps r x member runs some x_member waiting now t m is_in in
+          let fits : (1 ≤ left x) × (x.job.release ≤ s.clock) × (s.clock + left x ≤ x.job.deadline) =
+          says s keeps.sound x x_member Waiting waiting in
+          let one : 1 ≤ left t = parts.0 in
+          let slack : s.clock + left t ≤ t.job.deadline = parts.2 in
+          let x_one : 1 ≤ left x = fits.0 in
+          let x_slack : s.clock + left x ≤ x.job.deadline = fits.2 in
+          let due : t.job.deadline ≡ j.deadline = ap (λ (i : JobFacts). i.deadline) is_j in
+          let from : t.job.release ≡ j.release = ap (λ (i : JobFacts). i.release) is_j in
+          let start : x.job.deadline - left x ≡ s.clock = now in
+          let rest : left x ≡ x.job.work - x.had = refl in
+          none x.job (x_listed J n j there s keeps r x member runs some x_member waiting now)
+          (omega (arith, from, parts.1, x_one, x_slack)) (omega (arith, due, one, slack, start, rest, x_slack, x_one))
+          (heavier J n j there s keeps r x member runs some x_member waiting now takes t m is_in same)
 
 -- what is heavy against all that crosses a tick beside the job is heavy there
 pub heavy_beside : (J : Instance) (n : ℕ) (j : JobFacts) (t : ℕ) → IsHeavy J.rules.ratio j.value (worth_beside J n t)
     → IsHeavyAt J n j t
 heavy_beside J n j t heavy chosen can =
     heavy_mono J.rules.ratio j.value (sum_by (chosen_value chosen) (numbered J)) (worth_beside J n t)
-    (sum_le (chosen_value chosen) (crossing_beside n t) (numbered J)
-    (λ m_i m. by_chosen m_i m (chosen m_i.0) refl (eqb m_i.0 n) refl)) heavy where
-      by_chosen : (m_i : ℕ × JobFacts) → IsMember m_i (numbered J) → (b : Bool) → chosen m_i.0 ≡ b → (c : Bool)
-          → eqb m_i.0 n ≡ c → cond b m_i.1.value 0 ≤ cond (not c && crosses t m_i.1) m_i.1.value 0
-      by_chosen m_i m false out c e = omega arith
-      by_chosen m_i m true is_in true e =
-          never (sym can.waits ∙ subst (λ i. chosen i ≡ true) (eqb-true _ _ e) is_in)
-      by_chosen m_i m true is_in false e = rw (can.crossing m_i m is_in) (omega arith)
+    (chosen_beside J n t chosen can.waits can.crossing) heavy
 
 -- in each state of a run, what holds the processor fits its windows
 pub run_fits : (J : Instance) → IsValid J → IsByDeadline J.rules.version → Each (λ x. FitWindows x.before.tasks) (run J)

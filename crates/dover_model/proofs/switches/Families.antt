@@ -2,8 +2,8 @@
 use Rattle.std.proofs.Common.{◌≡◌, ℕ, zero, suc, ◌+◌, ◌-◌, ◌*◌, ◌≤◌, ◌<◌, List, [], ◌∷◌, map, refl, ap, ◌∙◌, Bool, true}
 use Rattle.std.proofs.Common.{false, arith, ◌&&◌, nat_le, nat_lt, count_by, le-leb, leb-true, lt-ltb, ltb-true}
 use Rattle.std.proofs.lemmas.Bool.{and_parts, and_from}
-use Rattle.std.proofs.lemmas.Nat.{mul-le}
 use Rattle.std.proofs.lemmas.List.Sums.{sum_by-cons}
+use Rattle.std.proofs.Math.Nat.{mul-le-mul_left}
 use Rattle.dover_model.specs.Common.{Fraction, JobFacts, is_heavy, Each, may_preempt, may_take, AreOfTask, one_if}
 use Rattle.dover_model.specs.Switches.{AreSpaced}
 use Rattle.dover_model.proofs.lists.Members.{sum_le, sum_map}
@@ -50,8 +50,7 @@ few_come distance a b (r ∷ rs) some spaced =
           let low : a ≤ r = leb-true _ _ (and_parts (nat_le a r) (nat_lt r b) e).0 in
           let high : r < b = ltb-true _ _ (and_parts (nat_le a r) (nat_lt r b) e).1 in
           let times : distance * count_by (within a b) rs ≤ distance * count_by (within (r + distance) b) rs =
-          mul-le distance (count_by (within a b) rs) distance (count_by (within (r + distance) b) rs) (omega arith)
-          less in
+          mul-le-mul_left distance less in
           let whole : distance * count_by (within a b) (r ∷ rs) ≡ distance * (1 + count_by (within a b) rs) =
           ap (λ n. distance * n) (counts ∙ ap (λ c. one_if c + count_by (within a b) rs) e) in
           by_count (count_by (within (r + distance) b) rs) later times whole low high where
@@ -63,7 +62,7 @@ few_come distance a b (r ∷ rs) some spaced =
             by_count zero later times whole low high = omega arith
             by_count (suc n) later times whole low high =
                 let once : distance * 1 ≤ distance * suc n =
-                mul-le distance 1 distance (suc n) (omega arith) (omega arith)
+                mul-le-mul_left distance (omega arith)
                 in omega arith
 
 module _ (i : JobFacts) (distance due : ℕ) (jobs : List (ℕ × JobFacts)) (some : 1 ≤ distance)
@@ -82,8 +81,7 @@ module _ (i : JobFacts) (distance due : ℕ) (jobs : List (ℕ × JobFacts)) (so
         sum_map (λ (n_j : ℕ × JobFacts). n_j.1.release) (λ r. one_if (within a b r)) jobs,
       ) in
       let times : distance * count_by test jobs ≤ distance * count_by (within a b) (map (λ n_j. n_j.1.release) jobs) =
-      mul-le distance (count_by test jobs) distance (count_by (within a b) (map (λ n_j. n_j.1.release) jobs))
-      (omega arith) less in
+      mul-le-mul_left distance less in
       omega (arith, times, few_come distance a b (map (λ n_j. n_j.1.release) jobs) some task.spaced)
 
   -- few of them may preempt the job

@@ -1,32 +1,32 @@
 -- The most that the processor changes hands: of what all jobs could preempt and take, three things don't happen.
 use Rattle.std.proofs.Common.{◌≡◌, ℕ, ◌+◌, ◌*◌, ◌≤◌, ◌<◌, ◌⊎◌, inl, inr, List, [], ◌∷◌, length, refl, sym}
 use Rattle.std.proofs.Common.{ap, ◌∙◌, subst, Bool, true, false, cond, arith, eqb}
-use Rattle.std.specs.Bool.{MatchBool, then_some}
+use Rattle.std.specs.Bool.{then_some}
 use Rattle.std.specs.List.{count_by, sum_by, list_all, filter, enumerate_from}
 use Rattle.std.specs.Prelude.{nat_lt}
-use Rattle.std.proofs.lemmas.Bool.{eqb-true, eqb-false, eq-eqb, ne_eqb, cases_lt, lt-ltb, ltb-true}
-use Rattle.std.proofs.lemmas.List.Sums.{sum_by-cons}
+use Rattle.std.proofs.lemmas.Bool.{eqb-true, eqb-false, eq-eqb, ne_eqb, cases_lt}
 use Rattle.dover_model.specs.Common.{JobFacts, Fraction, Job, Role, Coming, Fresh, Waiting, Held, Running, Done, Gone}
 use Rattle.dover_model.specs.Common.{End, Task, Instance, IsValid, numbered, State, opening, is_over, is_done}
 use Rattle.dover_model.specs.Common.{is_privileged, value_sum, privileged, is_heavy, Move, Prints, Ticks, step}
-use Rattle.dover_model.specs.Common.{after, ◌or_else◌, displaced, Step, is_end, run, IsWholeRun, step_at, role_then}
+use Rattle.dover_model.specs.Common.{after, ◌or_else◌, displaced, Step, run, step_at, role_then}
 use Rattle.dover_model.specs.Common.{is_take_of, is_preempt_of, changes_hands, IsMember, Each, EachTwo, IsSound, Keeps}
 use Rattle.dover_model.specs.Common.{one_if}
 use Rattle.dover_model.proofs.lists.Members.{map_member, on_map, filter_member, sum_le, sum_plus, sum_zero, term_le_sum}
+use Rattle.dover_model.proofs.lists.Members.{number_of}
 use Rattle.dover_model.proofs.steps.Roles.{passes, one_number}
 use Rattle.dover_model.proofs.bound.Calculus.{heavy_more}
 use Rattle.dover_model.proofs.runs.Serving.{named_once}
-use Rattle.dover_model.proofs.bound.Counting.{one}
+use Rattle.dover_model.proofs.bound.Counting.{one, one_none, one_low}
 use Rattle.dover_model.proofs.bound.Books.{Without, without, greatest}
 use Rattle.dover_model.proofs.steps.Deeds.{Deed, Completed, Resumed, Started, Began, Preempted, Stayed, Arrived, Taken}
 use Rattle.dover_model.proofs.steps.Deeds.{Abandoned, Rested}
-use Rattle.dover_model.proofs.steps.Kept.{step_deed, step_kept, opening_keeps, come_coming}
+use Rattle.dover_model.proofs.steps.Kept.{step_deed, opening_keeps, come_coming}
 use Rattle.dover_model.proofs.runs.Ending.{run_is_whole}
 use Rattle.dover_model.proofs.runs.Once.{takes_once, preempts_once, runs_complete}
 use Rattle.dover_model.proofs.runs.Runs.{run_states}
 use Rattle.dover_model.proofs.runs.Once.{rest_of, rest_fails}
-use Rattle.dover_model.proofs.switches.Switching.{young, next, next_there, next_number, next_role, step_turned}
-use Rattle.dover_model.proofs.switches.Switching.{opens, opens_coming, hits_named, preempts_some, takes_some}
+use Rattle.dover_model.proofs.switches.Switching.{young, next, next_number, next_role, step_turned, same_task}
+use Rattle.dover_model.proofs.switches.Switching.{over_run_with, hits_named, preempts_some, takes_some}
 use Rattle.dover_model.proofs.switches.Switching.{each_finds, deed_preempts, deed_takes, completes_few}
 use Rattle.dover_model.proofs.switches.Switching.{count_all, length_enumerate, job_is, changes_parts}
 
@@ -205,10 +205,6 @@ waits Gone = 0
 
 module _ (s : State) (sound : IsSound s) (n : ℕ) (t : Task) (member : IsMember t s.tasks) (is_n : t.number ≡ n)
     (most : Each (λ u. u.job.value ≤ t.job.value) s.tasks) where
-  -- a job of this number is this one
-  is_this : (r : Task) → IsMember r s.tasks → r.number ≡ n → t ≡ r
-  is_this r m same = one_number 0 s.tasks sound.numbered t r member m (is_n ∙ sym same)
-
   -- where one job gets a new role that weighs no more
   one_less : (pot : Role → ℕ) (r : Task) → IsMember r s.tasks → (old new : Role) → r.role ≡ old → pot new ≤ pot old
       → pot (cond (eqb t.number r.number) new t.role) ≤ pot t.role
@@ -250,7 +246,7 @@ module _ (s : State) (sound : IsSound s) (n : ℕ) (t : Task) (member : IsMember
           falls,
           ap (λ b. pot (cond b Running (displaced t.role)))
               (eq-eqb t.number x.number (is_n ∙ sym (eqb-true _ _ e))),
-          ap pot (ap (λ (y : Task). y.role) (is_this x x_member (eqb-true _ _ e)) ∙ waiting),
+          ap pot (ap (λ (y : Task). y.role) (same_task s sound n t member is_n x x_member (eqb-true _ _ e)) ∙ waiting),
         )
     by_number false e =
         omega (
@@ -291,7 +287,8 @@ module _ (s : State) (sound : IsSound s) (n : ℕ) (t : Task) (member : IsMember
           arith,
           ap (λ b. may_stop (cond b Running (cond (eqb t.number r.number) Held t.role)))
               (eq-eqb t.number f.number (is_n ∙ sym (eqb-true _ _ e))),
-          ap may_stop (ap (λ (y : Task). y.role) (is_this f f_member (eqb-true _ _ e)) ∙ fresh),
+          ap may_stop (ap (λ (y : Task). y.role)
+              (same_task s sound n t member is_n f f_member (eqb-true _ _ e)) ∙ fresh),
         )
         by_number false e = omega (
           arith,
@@ -355,30 +352,6 @@ rest_same s n t pot = by_end (list_all is_over s.tasks) where
 
 -- ---- along a run
 
-module _ (J : Instance) (valid : IsValid J) (n : ℕ) (pot : Role → ℕ) (gain : Step → ℕ)
-    (each : (s : State) → Keeps J s → IsAlone s → (t : Task) → IsMember t s.tasks → t.number ≡ n
-    → pot (role_then (step J.rules s) t) + gain (step_at J.rules s) ≤ pot t.role) where
-  -- what a role weighs pays for what is gained, where the first job is alone
-  along_alone : (xs : List Step) (s : State) → Keeps J s → IsAlone s → (t : Task) → IsMember t s.tasks → t.number ≡ n
-      → IsWholeRun J.rules s xs
-      → sum_by gain xs ≤ pot t.role
-  along_alone [] s keeps alone t member is_n whole = absurd whole
-  along_alone (x ∷ xs) s keeps alone t member is_n whole =
-      by_end (is_end (step J.rules s)) whole.1
-      (λ rest. along_alone xs (after s (step J.rules s)) (step_kept J valid s keeps J.rules)
-      (step_alone J valid s keeps alone) (next (step J.rules s) t) (next_there s (step J.rules s) t member)
-      (next_number (step J.rules s) t ∙ is_n) rest)
-      (each s keeps alone t member is_n) where
-        by_end : (b : Bool) → MatchBool b (xs ≡ []) (IsWholeRun J.rules (after s (step J.rules s)) xs)
-            → (IsWholeRun J.rules (after s (step J.rules s)) xs
-            → sum_by gain xs ≤ pot (next (step J.rules s) t).role)
-            → pot (role_then (step J.rules s) t) + gain (step_at J.rules s) ≤ pot t.role
-            → sum_by gain (x ∷ xs) ≤ pot t.role
-        by_end true none more here =
-            omega (arith, sum_by-cons gain x xs, ap gain whole.0, ap (sum_by gain) none)
-        by_end false rest more here =
-            omega (arith, sum_by-cons gain x xs, ap gain whole.0, ap pot (next_role (step J.rules s) t), more rest)
-
 module _ (J : Instance) (valid : IsValid J) (n_j : Job) (member : IsMember n_j (numbered J)) where
   -- how often it preempts, and takes
   abbrev preempts_of : ℕ
@@ -395,10 +368,10 @@ module _ (J : Instance) (valid : IsValid J) (n_j : Job) (member : IsMember n_j (
   whole_alone pot gain each =
       omega (
         arith,
-        along_alone J valid n_j.0 pot gain each (run J) (opening J.jobs) (opening_keeps J)
-            (λ t u mt mu first is_young. inr (come_coming 0 J.jobs u mu).0) (opens J valid n_j member).0
-            (opens J valid n_j member).1 (opens J valid n_j member).2 (run_is_whole J valid),
-        ap pot (opens_coming J valid n_j member),
+        over_run_with J valid n_j member IsAlone (step_alone J valid)
+            (λ t u mt mu first is_young. inr (come_coming 0 J.jobs u mu).0) pot gain (λ x. 0)
+            (λ s keeps alone t mt same. omega (arith, each s keeps alone t mt same)),
+        sum_zero (λ (x : Step). 0) (run J) (λ x m. refl),
       )
 
   -- each task is worth no more than the one of greatest value
@@ -493,27 +466,6 @@ least_of key (x ∷ xs) = inr (by_rest (least_of key xs)) where
       each : Each (λ y. key it.0 ≤ key y) (x ∷ xs)
       each y (inl e) = omega (arith, ap key e)
       each y (inr member) = it.2 y member
-
--- a job has a number
-number_of : (k : ℕ) (jobs : List JobFacts) (i : JobFacts) → IsMember i jobs
-    → (n : ℕ) × IsMember (n, i) (enumerate_from k jobs)
-number_of k [] i member = absurd member
-number_of k (j ∷ jobs) i (inl e) = (k, inl (ap (λ (x : JobFacts). (k, x)) e))
-number_of k (j ∷ jobs) i (inr member) = let it : (n : ℕ) × IsMember (n, i) (enumerate_from (k + 1) jobs) =
-    number_of (k + 1) jobs i member in (it.0, inr it.1)
-
--- what fails no test
-fails_none : (a b : ℕ) → a ≤ b → one (nat_lt b a) ≡ 0
-fails_none a b low = by_test (nat_lt b a) refl where
-  by_test : (c : Bool) → nat_lt b a ≡ c → one c ≡ 0
-  by_test false e = refl
-  by_test true e = absurd (let less : b < a = ltb-true _ _ e in omega arith)
-
-low_where : (a b : ℕ) → one (nat_lt b a) ≡ 0 → a ≤ b
-low_where a b none = by_order (cases_lt b a) where
-  by_order : (b < a) ⊎ (a ≤ b) → a ≤ b
-  by_order (inr low) = low
-  by_order (inl less) = absurd (let bad : one (nat_lt b a) ≡ 1 = ap one (lt-ltb b a less) in omega arith)
 
 -- what a job preempts and takes, where three facts may take one off each
 three_off : (a b c : Bool) (p t : ℕ) → p ≤ 1 → t ≤ 1 → (a ≡ true → p ≤ 0) → (b ≡ true → p + t ≤ 1)
@@ -648,13 +600,13 @@ module _ (J : Instance) (valid : IsValid J) where
             l_member = others.members l.0 l.1
 
             all_least : Each (λ n_j. l.0.1.value ≤ n_j.1.value) (numbered J)
-            all_least n_j member = low_where l.0.1.value n_j.1.value (omega (
+            all_least n_j member = one_low l.0.1.value n_j.1.value (omega (
               arith,
               term_le_sum (λ m_i. one (nat_lt m_i.1.value l.0.1.value)) (numbered J) n_j member,
               others.sums (λ m_i. one (nat_lt m_i.1.value l.0.1.value)),
-              fails_none l.0.1.value m.0.1.value (m.2 l.0 l_member),
+              one_none l.0.1.value m.0.1.value (m.2 l.0 l_member),
               sum_zero (λ m_i. one (nat_lt m_i.1.value l.0.1.value)) others.rest
-                  (λ m_i mi. fails_none l.0.1.value m_i.1.value (l.2 m_i mi)),
+                  (λ m_i mi. one_none l.0.1.value m_i.1.value (l.2 m_i mi)),
             ))
 
             apart : m.0.0 ≡ l.0.0 → ⊥

@@ -3,8 +3,8 @@ use Rattle.std.proofs.Common.{◌≡◌, ℕ, zero, suc, ◌+◌, ◌-◌, ◌*�
 use Rattle.std.proofs.Common.{sym, ap, ◌∙◌, subst, Bool, true, false, cond, arith, eqb, take, drop, add-one, nat_le}
 use Rattle.std.proofs.Common.{Option, Some, None, MatchBool, count_by, eqb-true, eq-eqb, leb-true, leb-false}
 use Rattle.std.specs.List.{cons_option, enumerate_from}
-use Rattle.std.proofs.lemmas.Nat.{mul-le}
 use Rattle.std.proofs.lemmas.List.Sums.{sum_by-cons}
+use Rattle.std.proofs.Math.Nat.{mul-le-mul_left}
 use Rattle.dover_model.specs.Common.{JobFacts, Role, Running, Task, need, Instance, IsValid, numbered, ticks_given}
 use Rattle.dover_model.specs.Common.{end_state, State, opening, is_running, is_done, running, Move, Ticks, step, after}
 use Rattle.dover_model.specs.Common.{Step, is_end, run, ran, tick_of, number_running, IsWholeRun, step_at, role_then}
@@ -220,8 +220,7 @@ module _ (J : Instance) (valid : IsValid J) (cost : ℕ) (n_j : ℕ × JobFacts)
       ) in
       let times : cost * begins n_j.0 false (drop n_j.1.release (take n_j.1.deadline (ran J)))
       ≤ cost * count_by (λ x. gets n_j.0 x.move) (run J) =
-      mul-le cost (begins n_j.0 false (drop n_j.1.release (take n_j.1.deadline (ran J)))) cost
-      (count_by (λ x. gets n_j.0 x.move) (run J)) (omega arith) few in
+      mul-le-mul_left cost few in
       omega (arith, lost, times)
 
 -- a job that is done has got on with all that it needs, where its budget pays for the changes too
@@ -253,6 +252,5 @@ module _ (J : Instance) (valid : IsValid J) (cost : ℕ) (t : Task) (member : Is
       ((whole_outcome J valid).served t at_end).done (is_done_role t done) in
       let times : cost * count_by (λ x. gets t.number x.move) (run J)
       ≤ cost * most_changes J.rules.ratio (numbered J) t.job =
-      mul-le cost (count_by (λ x. gets t.number x.move) (run J)) cost
-      (most_changes J.rules.ratio (numbered J) t.job) (omega arith) (gets_few J valid (t.number, t.job) its_job) in
+      mul-le-mul_left cost (gets_few J valid (t.number, t.job) its_job) in
       omega (arith, had_useful, had, times, enough)

@@ -96,7 +96,7 @@ still old stopped taken = record { off = omega arith; alive = omega arith; young
 
 module _ (s : State) (sound : IsSound s) (n : ℕ) (t : Task) (member : IsMember t s.tasks) (is_n : t.number ≡ n) where
   -- a job of this number is this one
-  same_task : (r : Task) → IsMember r s.tasks → r.number ≡ n → t ≡ r
+  pub same_task : (r : Task) → IsMember r s.tasks → r.number ≡ n → t ≡ r
   same_task r m same = one_number 0 s.tasks sound.numbered t r member m (is_n ∙ sym same)
 
   -- where one job gets a new role, whose number the tests look for
@@ -294,20 +294,22 @@ module _ (J : Instance) (valid : IsValid J) (n : ℕ) where
       deed_turned s keeps.sound n t member is_n J.rules.ratio (rest_of s) (rest_turned s n t) (step J.rules s)
       (step_deed J valid s keeps J.rules)
 
-  module _ (pot : Role → ℕ) (gain loss : Step → ℕ)
-      (each : (s : State) → Keeps J s → (t : Task) → IsMember t s.tasks → t.number ≡ n
+  module _ (Holds : State → Type 0) (kept : (s : State) → Keeps J s → Holds s → Holds (after s (step J.rules s)))
+      (pot : Role → ℕ) (gain loss : Step → ℕ)
+      (each : (s : State) → Keeps J s → Holds s → (t : Task) → IsMember t s.tasks → t.number ≡ n
       → pot (role_then (step J.rules s) t) + gain (step_at J.rules s) ≤ pot t.role + loss (step_at J.rules s)) where
     -- what a role is worth, and what is lost along a run, pays for what is gained
-    along : (xs : List Step) (s : State) → Keeps J s → (t : Task) → IsMember t s.tasks → t.number ≡ n
+    along : (xs : List Step) (s : State) → Keeps J s → Holds s → (t : Task) → IsMember t s.tasks → t.number ≡ n
         → IsWholeRun J.rules s xs
         → sum_by gain xs ≤ pot t.role + sum_by loss xs
-    along [] s keeps t member is_n whole = absurd whole
-    along (x ∷ xs) s keeps t member is_n whole =
+    along [] s keeps holds t member is_n whole = absurd whole
+    along (x ∷ xs) s keeps holds t member is_n whole =
         let here : pot (role_then (step J.rules s) t) + gain (step_at J.rules s) ≤ pot t.role
-        + loss (step_at J.rules s) = each s keeps t member is_n in
+        + loss (step_at J.rules s) = each s keeps holds t member is_n in
         by_end (is_end (step J.rules s)) whole.1
-        (λ rest. along xs (after s (step J.rules s)) (step_kept J valid s keeps J.rules) (next (step J.rules s) t)
-        (next_there s (step J.rules s) t member) (next_number (step J.rules s) t ∙ is_n) rest)
+        (λ rest. along xs (after s (step J.rules s)) (step_kept J valid s keeps J.rules) (kept s keeps holds)
+        (next (step J.rules s) t) (next_there s (step J.rules s) t member) (next_number (step J.rules s) t ∙ is_n)
+        rest)
         here where
           by_end : (b : Bool) → MatchBool b (xs ≡ []) (IsWholeRun J.rules (after s (step J.rules s)) xs)
               → (IsWholeRun J.rules (after s (step J.rules s)) xs
@@ -375,16 +377,26 @@ module _ (J : Instance) (valid : IsValid J) (n_j : ℕ × JobFacts) (member : Is
   pub opens_coming : opens.0.role ≡ Coming
   opens_coming = (come_coming 0 J.jobs opens.0 opens.1).0
 
-  -- what the run pays for
+  -- what the run pays for, with a fact that each step keeps
+  pub over_run_with : (Holds : State → Type 0)
+      → ((s : State) → Keeps J s → Holds s → Holds (after s (step J.rules s))) → Holds (opening J.jobs)
+      → (pot : Role → ℕ) (gain loss : Step → ℕ)
+      → ((s : State) → Keeps J s → Holds s → (t : Task) → IsMember t s.tasks → t.number ≡ n_j.0
+      → pot (role_then (step J.rules s) t) + gain (step_at J.rules s) ≤ pot t.role + loss (step_at J.rules s))
+      → sum_by gain (run J) ≤ pot Coming + sum_by loss (run J)
+  over_run_with Holds kept first pot gain loss each =
+      let most : sum_by gain (run J) ≤ pot opens.0.role + sum_by loss (run J) =
+      along J valid n_j.0 Holds kept pot gain loss each (run J) (opening J.jobs) (opening_keeps J) first opens.0
+      opens.1 opens.2 (run_is_whole J valid) in
+      omega (arith, most, ap pot opens_coming)
+
+  -- and with none
   pub over_run : (pot : Role → ℕ) (gain loss : Step → ℕ)
       → ((s : State) → Keeps J s → (t : Task) → IsMember t s.tasks → t.number ≡ n_j.0
       → pot (role_then (step J.rules s) t) + gain (step_at J.rules s) ≤ pot t.role + loss (step_at J.rules s))
       → sum_by gain (run J) ≤ pot Coming + sum_by loss (run J)
   over_run pot gain loss each =
-      let most : sum_by gain (run J) ≤ pot opens.0.role + sum_by loss (run J) =
-      along J valid n_j.0 pot gain loss each (run J) (opening J.jobs) (opening_keeps J) opens.0 opens.1 opens.2
-      (run_is_whole J valid) in
-      omega (arith, most, ap pot opens_coming)
+      over_run_with (λ s. Unit {0}) (λ s keeps holds. tt) tt pot gain loss (λ s keeps holds. each s keeps)
 
   -- it gets the processor once, and once more for each time that it lost it to another
   pub gets_paid : count_by (λ x. gets n_j.0 x.move) (run J)

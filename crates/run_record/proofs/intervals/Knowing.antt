@@ -293,7 +293,7 @@ module _ (s : State) (numbered : IsNumberedFrom 0 s.tasks) (l : Page) (tracks : 
         }
 
   -- a silent tick
-  pub tick_tracks : Tracks (record { clock = s.clock + 1; tasks = map ticked s.tasks }) l
+  pub tick_tracks : Tracks (record s { clock = s.clock + 1; tasks = map ticked s.tasks }) l
   tick_tracks = record {
     known = on_map ticked (λ t. (t.role ≡ Coming → ⊥) → IsKnown l.jobs l.era t) s.tasks
         (λ t m never. let it : IsKnown l.jobs l.era t = tracks.known t m never in

@@ -2,6 +2,8 @@
 use Rattle.std.proofs.Common.{◌≡◌, ℕ, zero, suc, ◌+◌, ◌-◌, ◌≤◌, ◌<◌, List, [], ◌∷◌, ◌++◌, length, map, refl, sym, ap}
 use Rattle.std.proofs.Common.{◌∙◌, subst, Bool, true, false, cond, arith, append_assoc, Option, Some, None, ◌==◌}
 use Rattle.std.proofs.Common.{sum_by, filter, eq-eqb, ne_eqb}
+use Rattle.std.specs.List.{list_any}
+use Rattle.std.specs.Prelude.{◌&&◌}
 use Rattle.std.proofs.lemmas.List.Sums.{sum_by-cons}
 use Rattle.dover_model.specs.Intervals as model
 use Rattle.dover_model.specs.declared.events.Event.TheVariants.{Release, Preempt, Complete, Abandon, End}
@@ -9,20 +11,23 @@ use Rattle.dover_model.specs.declared.events.Role.{Role}
 use Rattle.dover_model.specs.declared.events.Role.TheVariants.{Coming, Fresh, Waiting, Held, Running, Done, Gone}
 use Rattle.dover_model.specs.declared.events.Task.{Task}
 use Rattle.dover_model.specs.Common.{State, held, is_held, is_running, is_privileged, Prints, Ticks, with_role, after}
-use Rattle.dover_model.specs.Common.{Step, IsMember, Each, IsSound}
+use Rattle.dover_model.specs.Common.{is_open_job, Step, IsMember, Each, IsSound}
 use Rattle.dover_model.proofs.lists.Members.{map_map, sum_plus, sum_same, by_bool}
 use Rattle.dover_model.proofs.steps.Roles.{by_role, passes, numbered_map, one_number, is_running_role}
 use Rattle.dover_model.proofs.steps.OneChange.{changed, state_with, changed_there}
 use Rattle.dover_model.proofs.bound.Booking.{active_sum}
 use Rattle.dover_model.proofs.bound.Closing.{single_sum, value_of_number}
 use Rattle.dover_model.proofs.steps.Kept.{end_same}
+use Rattle.dover_model.proofs.steps.Loads.{with_roles}
+use Rattle.dover_model.proofs.steps.Pressing.{pressing}
 use Rattle.run_record.specs.intervals.Pages.{Page, value_at, capped, with_one_more, in_one, with_row, with_abandonment}
 use Rattle.run_record.specs.intervals.Pages.{with_completion, ended, page_completed}
 use Rattle.run_record.proofs.intervals.Follows.{capped_of, under_of, Tracks, Follows, Next}
 use Rattle.run_record.proofs.intervals.Sums.{capped_more}
 use Rattle.run_record.proofs.intervals.Knowing.{leaves_tracks, ends_tracks, releases_tracks, tick_tracks}
-use Rattle.run_record.proofs.intervals.Steps.{same_tracks, enters, turns, can_join, joins, fresh_idle, waiting_idle}
-use Rattle.run_record.proofs.intervals.Steps.{running_comes, held_comes, gone_comes, done_comes}
+use Rattle.run_record.proofs.intervals.Steps.{tracks_pressing, same_tracks, enters, turns, can_join, joins}
+use Rattle.run_record.proofs.intervals.Steps.{fresh_idle, waiting_idle, running_comes, held_comes, gone_comes}
+use Rattle.run_record.proofs.intervals.Steps.{done_comes}
 
 -- ---- completions
 
@@ -93,7 +98,7 @@ module _ (s : State) (sound : IsSound s) (l : Page)
     later = current;
     follows = subst (λ (p : Page). Follows (after s (Prints (Preempt s.clock r.number f.number))) p current)
         (sym (joins s sound l total count current follows f f_member (fresh_idle f fresh)))
-        (subst (λ (tasks : List Task). Follows (record { clock = s.clock; tasks = tasks })
+        (subst (λ (tasks : List Task). Follows (record s { tasks = tasks })
         (with_one_more l f.number) current)
         (map_map (λ t. with_role t (changed f Running t)) (λ t. with_role t (changed r Held t)) s.tasks)
         (enters (state_with s r Held)
@@ -141,11 +146,11 @@ module _ (s : State) (sound : IsSound s) (l : Page)
       readable = can_abandon None follows;
       later = None;
       follows = record {
-        tracks = same_tracks (state_with s x Gone) l
+        tracks = same_tracks (pressing true (state_with s x Gone)) l
             (in_one (with_abandonment s.clock (value_at l x.number)) l.under_way) l.rows
-            (leaves_tracks s sound.numbered l follows.tracks x member
+            (tracks_pressing true (state_with s x Gone) l (leaves_tracks s sound.numbered l follows.tracks x member
             (waiting_idle x waiting).released Gone gone_comes refl
-            (waiting_idle x waiting).idle refl);
+            (waiting_idle x waiting).idle refl));
         under = ap (in_one (with_abandonment s.clock (value_at l x.number))) follows.under;
       };
       same = λ xs. refl;
@@ -154,11 +159,11 @@ module _ (s : State) (sound : IsSound s) (l : Page)
       readable = can_abandon (Some i) follows;
       later = Some (model.with_abandoned i s.clock (model.value_of s x.number));
       follows = record {
-        tracks = same_tracks (state_with s x Gone) l
+        tracks = same_tracks (pressing true (state_with s x Gone)) l
             (in_one (with_abandonment s.clock (value_at l x.number)) l.under_way) l.rows
-            (leaves_tracks s sound.numbered l follows.tracks x member
+            (tracks_pressing true (state_with s x Gone) l (leaves_tracks s sound.numbered l follows.tracks x member
             (waiting_idle x waiting).released Gone gone_comes refl
-            (waiting_idle x waiting).idle refl);
+            (waiting_idle x waiting).idle refl));
         under = ap (in_one (with_abandonment s.clock (value_at l x.number))) follows.under
             ∙ ap (λ v. Some (with_abandonment s.clock v (under_of i)))
             ((follows.tracks.known x member (waiting_idle x waiting).released).value
@@ -191,7 +196,7 @@ module _ (s : State) (sound : IsSound s) (l : Page)
   ends_next current follows value = record {
     readable = tt;
     later = current;
-    follows = subst (λ (tasks : List Task). Follows (record { clock = s.clock; tasks = tasks })
+    follows = subst (λ (tasks : List Task). Follows (record s { tasks = tasks })
         (record l { value = value }) current)
         (sym (end_same s value)) (record {
           tracks = record {
@@ -234,13 +239,20 @@ module _ (s : State) (sound : IsSound s) (l : Page)
     known : (current : Option model.Interval) → Follows s l current → r.number < length l.jobs
     known current follows = (follows.tracks.known r member released).there
 
+    -- the state after it
+    abbrev state_done : State
+    state_done =
+        pressing (s.pressed && list_any is_open_job (with_roles (changed r Done) s.tasks)) (state_with s r Done)
+
     -- the jobs of that page
     tracks_then : (current : Option model.Interval) → Follows s l current
-        → Tracks (state_with s r Done) (page_completed l s.clock r.number)
+        → Tracks state_done (page_completed l s.clock r.number)
     tracks_then current follows =
-        same_tracks (state_with s r Done) (record l { active = l.active - 1; worth = l.worth - value_at l r.number })
+        same_tracks state_done (record l { active = l.active - 1; worth = l.worth - value_at l r.number })
         (in_one (with_completion s.clock (value_at l r.number)) l.under_way) l.rows
-        (ends_tracks s sound.numbered l follows.tracks r member released Done done_comes refl active refl)
+        (tracks_pressing state_done.pressed (state_with s r Done)
+        (record l { active = l.active - 1; worth = l.worth - value_at l r.number })
+        (ends_tracks s sound.numbered l follows.tracks r member released Done done_comes refl active refl))
 
     -- the value on the page is that of the job
     value_is : (current : Option model.Interval) → Follows s l current
@@ -254,17 +266,17 @@ module _ (s : State) (sound : IsSound s) (l : Page)
     completes_none b e follows = record {
       readable = known None follows;
       later = None;
-      follows = subst (λ (c : Bool). Follows (state_with s r Done) (cond c (ended (page_completed l s.clock r.number))
+      follows = subst (λ (c : Bool). Follows state_done (cond c (ended (page_completed l s.clock r.number))
           (page_completed l s.clock r.number)) None)
           (sym e) (by_test b);
       same = λ xs. ap (λ (c : Bool).
           (cond c (ended (page_completed l s.clock r.number)) (page_completed l s.clock r.number)).rows
           ++ map capped_of (model.intervals_of None xs)) e ∙ same_rows b xs;
     } where
-      by_test : (c : Bool) → Follows (state_with s r Done) (cond c (ended (page_completed l s.clock r.number))
+      by_test : (c : Bool) → Follows state_done (cond c (ended (page_completed l s.clock r.number))
           (page_completed l s.clock r.number)) None
       by_test true = record {
-        tracks = same_tracks (state_with s r Done) (page_completed l s.clock r.number) None
+        tracks = same_tracks state_done (page_completed l s.clock r.number) None
             (with_row l.rows (in_one (with_completion s.clock (value_at l r.number)) l.under_way))
             (tracks_then None follows);
         under = refl;
@@ -296,11 +308,11 @@ module _ (s : State) (sound : IsSound s) (l : Page)
       completes_last e = record {
         readable = known (Some i) follows;
         later = None;
-        follows = subst (λ (c : Bool). Follows (state_with s r Done)
+        follows = subst (λ (c : Bool). Follows state_done
             (cond c (ended (page_completed l s.clock r.number))
             (page_completed l s.clock r.number)) None)
             (sym (is_last (Some i) follows ∙ e)) (record {
-              tracks = same_tracks (state_with s r Done) (page_completed l s.clock r.number) None
+              tracks = same_tracks state_done (page_completed l s.clock r.number) None
                   (with_row l.rows (in_one (with_completion s.clock (value_at l r.number)) l.under_way))
                   (tracks_then (Some i) follows);
               under = refl;
@@ -320,7 +332,7 @@ module _ (s : State) (sound : IsSound s) (l : Page)
       completes_more e = record {
         readable = known (Some i) follows;
         later = Some then;
-        follows = subst (λ (c : Bool). Follows (state_with s r Done)
+        follows = subst (λ (c : Bool). Follows state_done
             (cond c (ended (page_completed l s.clock r.number))
             (page_completed l s.clock r.number)) (Some then))
             (sym (is_last (Some i) follows ∙ e))

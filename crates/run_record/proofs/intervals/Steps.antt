@@ -1,6 +1,6 @@
 -- The page follows each step of the machine.
 use Rattle.std.proofs.Common.{◌≡◌, ℕ, ◌≤◌, List, ◌∷◌, ◌++◌, length, map, refl, sym, ap, ◌∙◌, subst, true, false, cond}
-use Rattle.std.proofs.Common.{arith, Option, Some, None, sum_by}
+use Rattle.std.proofs.Common.{arith, Option, Some, None, sum_by, Bool}
 use Rattle.dover_model.specs.Intervals as model
 use Rattle.dover_model.specs.declared.events.Event.TheVariants.{Run}
 use Rattle.dover_model.specs.declared.events.Role.{Role}
@@ -11,6 +11,7 @@ use Rattle.dover_model.specs.Common.{IsSound, IsNumberedFrom}
 use Rattle.dover_model.proofs.lists.Members.{term_le_sum}
 use Rattle.dover_model.proofs.steps.Roles.{passes}
 use Rattle.dover_model.proofs.steps.OneChange.{state_with}
+use Rattle.dover_model.proofs.steps.Pressing.{pressing}
 use Rattle.run_record.specs.declared.intervals.interval.Interval.{Interval}
 use Rattle.run_record.specs.declared.intervals.interval.UnderWay.{UnderWay}
 use Rattle.run_record.specs.intervals.Pages.{Page, joined, with_one_more, begun_or, CanJoin}
@@ -22,6 +23,16 @@ use Rattle.run_record.proofs.intervals.Knowing.{turns_tracks, enters_tracks}
 pub same_tracks : (s : State) (l : Page) (u : Option UnderWay) (rows : List Interval) → Tracks s l
     → Tracks s (record l { under_way = u; rows = rows })
 same_tracks s l u rows tracks = record {
+  known = tracks.known;
+  ahead = tracks.ahead;
+  started = tracks.started;
+  active = tracks.active;
+  worth = tracks.worth;
+}
+
+-- the page looks at the tasks alone
+pub tracks_pressing : (b : Bool) (s : State) (l : Page) → Tracks s l → Tracks (pressing b s) l
+tracks_pressing b s l tracks = record {
   known = tracks.known;
   ahead = tracks.ahead;
   started = tracks.started;

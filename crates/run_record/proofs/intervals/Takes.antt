@@ -37,7 +37,7 @@ module _ (s : State) (sound : IsSound s) (l : Page) (few : l.era + 1 < 2 ^ 32) (
       (subst (λ w. Tracks (after s (Prints (Take s.clock r x.number)))
       (record l { jobs = entered l x.number (l.era + 1); era = l.era + 1; active = 1; worth = w }))
       (zero-add (value_at l x.number))
-      (subst (λ (tasks : List Task). Tracks (record { clock = s.clock; tasks = tasks })
+      (subst (λ (tasks : List Task). Tracks (record s { tasks = tasks })
       (record l {
         jobs = entered l x.number (l.era + 1);
         era = l.era + 1;

@@ -28,7 +28,8 @@ use Rattle.run_record.specs.ledger.Pages.{Page, empty, turn_at, stopped, started
 use Rattle.run_record.specs.ledger.Pages.{CanHold, CanStop}
 use Rattle.run_record.proofs.ledger.Follows.{IsTurn, Follows, Next}
 use Rattle.run_record.proofs.ledger.Roles.{held_same, held_more, held_less, none_pass, top_held, one_runner, each_all}
-use Rattle.run_record.proofs.ledger.Steps.{at_clock, within, the_turn, turned, halted, passed, starts, displaces}
+use Rattle.run_record.proofs.ledger.Steps.{at_clock, follows_either, within, the_turn, turned, halted, passed, starts}
+use Rattle.run_record.proofs.ledger.Steps.{displaces}
 
 -- a job in another role doesn't run
 idle_in : (t : Task) (role : Role) → t.role ≡ role → (role ≡ Running → ⊥) → t.role ≡ Running → ⊥
@@ -83,8 +84,8 @@ module _ (s : State) (sound : IsSound s) (p : Page) (follows : Follows s p)
     completes : Next s p (Prints (Complete s.clock r.number))
     completes = record {
       can = (can_stop, refl);
-      follows = halted s sound p follows r member runs Done (λ e. cc) p.held follows.order
-          (follows.held ∙ held_same s.tasks sound.numbered r member Done not_held refl);
+      follows = follows_either _ (halted s sound p follows r member runs Done (λ e. cc) p.held follows.order
+          (follows.held ∙ held_same s.tasks sound.numbered r member Done not_held refl));
     }
 
     -- it is held
@@ -294,8 +295,8 @@ module _ (s : State) (sound : IsSound s) (p : Page) (follows : Follows s p)
   abandons : (x : Task) → IsMember x s.tasks → x.role ≡ Waiting → Next s p (Prints (Abandon s.clock x.number))
   abandons x member waits = record {
     can = (tt, refl);
-    follows = turned s sound p follows x member (idle_in x Waiting waits (λ e. cc))
-        (passes is_held x Waiting false waits refl) Gone (λ e. cc) refl;
+    follows = follows_either true (turned s sound p follows x member (idle_in x Waiting waits (λ e. cc))
+        (passes is_held x Waiting false waits refl) Gone (λ e. cc) refl);
   }
 
   -- a wait

@@ -14,6 +14,7 @@ use Rattle.dover_model.proofs.lists.Members.{on_map, map_member}
 use Rattle.dover_model.proofs.steps.Roles.{one_number, is_running_role, passes}
 use Rattle.dover_model.proofs.lists.Tests.{never}
 use Rattle.held_stack.specs.Stack.{Stack, IsByDeadline, held_entries}
+use Rattle.dover_model.proofs.steps.Pressing.{pressing}
 use Rattle.dover_model.proofs.steps.RoleChanges.{with_role_at, all_displaced, task_at}
 use Rattle.run_record.specs.ledger.Pages.{Page, nobody, empty, ran, turn_at, stored, stopped, started}
 use Rattle.run_record.proofs.ledger.Follows.{IsTurn, AreStored, Follows}
@@ -21,7 +22,18 @@ use Rattle.run_record.proofs.ledger.Roles.{held_same, held_ticked, none_held}
 
 -- these tasks at the same clock
 abbrev pub at_clock : State → List Task → State
-at_clock s tasks = record { clock = s.clock; tasks = tasks }
+at_clock s tasks = record s { tasks = tasks }
+
+-- the page follows a state whether it is pressed or not
+pub follows_either : (b : Bool) {s : State} {p : Page} → Follows s p → Follows (pressing b s) p
+follows_either b follows = record {
+  since = follows.since;
+  turn = follows.turn;
+  stored = follows.stored;
+  count = follows.count;
+  order = follows.order;
+  held = follows.held;
+}
 
 -- the number of a job is a place in the list
 pub within : (tasks : List Task) → IsNumberedFrom 0 tasks → (t : Task) → IsMember t tasks → t.number < length tasks

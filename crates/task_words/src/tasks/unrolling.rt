@@ -11,7 +11,7 @@ ghost use Rattle.task_words.specs.tasks.Tasks.{jobs_before};
 use crate::tasks::task::PeriodicTask;
 use comparison_count::Comparisons;
 use dover_model::{Job, Memory};
-use place_heap::{Heap, Item};
+use place_heap::{Heap, Item, ShortRank};
 use std::alloc::Global;
 use std::marker::Model;
 use std::sync::ledger::Ledger;
@@ -22,7 +22,7 @@ use std::sync::ledger::Ledger;
 pub struct Unrolling {
     until: u64,
     tasks: Vec<PeriodicTask>,
-    next: Heap,
+    next: Heap<ShortRank>,
 }
 
 impl Model for Unrolling {
@@ -35,7 +35,7 @@ impl Model for Unrolling {
 
 // Keeps a release of the task of this number, if it is before a tick.
 fn keep_release<L: Ledger>(
-    next: &mut Heap,
+    next: &mut Heap<ShortRank>,
     number: u32,
     release: u64,
     until: u64,
@@ -59,7 +59,7 @@ fn first_releases<L: Ledger>(
     tasks: &[PeriodicTask],
     until: u64,
     comparisons: &mut Comparisons<L>,
-) -> Result<Heap, Memory>
+) -> Result<Heap<ShortRank>, Memory>
     requires few { length tasks.now ≤ most_jobs Two }
     requires known { until ≤ last_tick }
     ensures stands { IfOk result (λ next. StandsBehind (merge tasks.now until next) []) }
@@ -77,7 +77,7 @@ fn first_releases<L: Ledger>(
 
 // Takes the first of the next releases, keeps the one that follows it, and answers its job.
 fn take_job<L: Ledger>(
-    next: &mut Heap,
+    next: &mut Heap<ShortRank>,
     tasks: &[PeriodicTask],
     until: u64,
     comparisons: &mut Comparisons<L>,

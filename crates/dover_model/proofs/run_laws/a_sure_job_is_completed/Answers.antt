@@ -1,8 +1,11 @@
-use Rattle.dover_model.proofs.sure.Streams.{sure_streams, sure_of_stream, heavy_by_sum, heavy_by_sets}
+use Rattle.dover_model.proofs.sure.Streams.{sure_streams, sure_streams_in_all, sure_of_stream, heavy_by_sum, heavy_by_sets}
 use Rattle.dover_model.proofs.run_laws.a_sure_job_is_completed.Goals as goal
 
 pub returns-clause-completed : goal.returns-clause-completed
 returns-clause-completed c = sure_streams
+
+pub returns-clause-in_all : goal.returns-clause-in_all
+returns-clause-in_all c = sure_streams_in_all
 
 pub returns-clause-of_stream : goal.returns-clause-of_stream
 returns-clause-of_stream c = sure_of_stream

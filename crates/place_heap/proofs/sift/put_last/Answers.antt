@@ -5,7 +5,7 @@ use Rattle.place_heap.proofs.Indexing.{put_indexed, put_table}
 use Rattle.place_heap.proofs.sift.put_last.Goals as goal
 
 pub returns-clause-indexed : goal.returns-clause-indexed
-returns-clause-indexed c =
+returns-clause-indexed g c =
     let old = c.args.items.now.items in
     let x = c.args.item in
     let items : c.push.new.self.items ≡ old ++ x ∷ [] = c.push.ensures.items
@@ -17,7 +17,7 @@ returns-clause-indexed c =
     (put_indexed _ _ _ _ items c.requires.ready few c.requires.free c.requires.indexed))
 
 pub returns-clause-table : goal.returns-clause-table
-returns-clause-table c =
+returns-clause-table g c =
     let old = c.args.items.now.items in
     let x = c.args.item in
     let items : c.push.new.self.items ≡ old ++ x ∷ [] = c.push.ensures.items

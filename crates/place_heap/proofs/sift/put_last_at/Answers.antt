@@ -8,7 +8,7 @@ use Rattle.place_heap.proofs.Order.{put_save}
 use Rattle.place_heap.proofs.sift.put_last_at.Goals as goal
 
 pub set_at-requires-clause-ready : goal.set_at-requires-clause-ready
-set_at-requires-clause-ready c =
+set_at-requires-clause-ready g c =
     let front = c.pop.new.self.items in
     let x = c.unwrap-last.result in
     let is : c.args.items.now.items ≡ front ++ x ∷ [] = c.pop.ensures.items
@@ -18,7 +18,7 @@ set_at-requires-clause-ready c =
     omega (arith, ready, length-set c.args.positions.now c.place.result nowhere)
 
 pub returns-clause-indexed : goal.returns-clause-indexed
-returns-clause-indexed c =
+returns-clause-indexed g c =
     let old = c.args.items.now.items in
     let front = c.pop.new.self.items in
     let ps = c.args.positions.now in
@@ -37,7 +37,7 @@ returns-clause-indexed c =
     (fill_indexed old front ps x is few c.requires.indexed at at_in))
 
 pub returns-clause-table : goal.returns-clause-table
-returns-clause-table c d =
+returns-clause-table g c d =
     let old = c.args.items.now.items in
     let front = c.pop.new.self.items in
     let ps = c.args.positions.now in
@@ -56,7 +56,7 @@ returns-clause-table c d =
     ∙ ap (λ y. set (table_of old ps) y.place None) (sym (out_is old front ps x is few c.requires.indexed at at_in d))
 
 pub returns-clause-heap : goal.returns-clause-heap
-returns-clause-heap c =
+returns-clause-heap g c =
     let front = c.pop.new.self.items in
     let at = c.args.at in
     let x = c.unwrap-last.result in

@@ -4,7 +4,7 @@ use Rattle.place_heap.proofs.Indexing.{drop_indexed, drop_table, back}
 use Rattle.place_heap.proofs.sift.take_last.Goals as goal
 
 pub returns-clause-indexed : goal.returns-clause-indexed
-returns-clause-indexed c =
+returns-clause-indexed g c =
     let rest = c.pop.new.self.items in
     let x = c.unwrap-last.result in
     let is : c.args.items.now.items ≡ rest ++ x ∷ [] = c.pop.ensures.items
@@ -14,7 +14,7 @@ returns-clause-indexed c =
     (drop_indexed c.args.items.now.items rest c.args.positions.now x is few c.requires.indexed)
 
 pub returns-clause-table : goal.returns-clause-table
-returns-clause-table c d =
+returns-clause-table g c d =
     let old = c.args.items.now.items in
     let rest = c.pop.new.self.items in
     let x = c.unwrap-last.result in

@@ -7,7 +7,7 @@ use Rattle.place_heap.proofs.Keeping.{few_kept}
 use Rattle.place_heap.proofs.heap.Heap.first.Goals as goal
 
 pub returns : goal.returns
-returns c =
+returns g c =
     let inside = c.self.inside in
     let es = inside.items.items in
     let ps = inside.positions.items in

@@ -8,7 +8,7 @@ use Rattle.place_heap.proofs.Keeping.{kept_grown, grown_table, table_len}
 use Rattle.place_heap.proofs.heap.Heap.reserve.Goals as goal
 
 pub invariant_of-self-2 : goal.invariant_of-self-2
-invariant_of-self-2 c =
+invariant_of-self-2 g c =
     let es = c.self.inside.items.items in
     let ps = c.self.inside.positions.items in
     let qs = c.resize.new.self.items in
@@ -26,7 +26,7 @@ invariant_of-self-2 c =
     (omega (arith, len, below, c.in_ok-reserve.ensures.ok)) (omega (arith, len, below, c.ranges.places.fits)))
 
 pub returns-clause-ok : goal.returns-clause-ok
-returns-clause-ok c =
+returns-clause-ok g c =
     let es = c.self.inside.items.items in
     let ps = c.self.inside.positions.items in
     let qs = c.resize.new.self.items in

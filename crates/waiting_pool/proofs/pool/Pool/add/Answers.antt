@@ -1,13 +1,14 @@
 use Rattle.std.proofs.Common.{◌≡◌, ◌+◌, ◌<◌, ◌≤◌, ◌^◌, ◌++◌, ◌∷◌, [], Some, None, sym, ap, ◌∙◌, subst, length, set}
-use Rattle.std.proofs.Common.{get_or, arith}
+use Rattle.std.proofs.Common.{◌*◌, get_or, arith}
 use Rattle.place_heap.specs.Items.{ItemFacts}
 use Rattle.place_heap.specs.Orders.{due_item, latest_item}
 use Rattle.dover_model.specs.Entries.{entry_of}
 use Rattle.waiting_pool.specs.Reordered.{IsReordered}
-use Rattle.waiting_pool.specs.Pools.{Pooled, IsPool, jobs_at}
+use Rattle.waiting_pool.specs.Pools.{Pooled, IsPool, item_by_density, jobs_at, orders_of}
 use Rattle.waiting_pool.proofs.Pooling.{same_length, jobs_in, add_free, add_inside, add_small, add_kept, add_due_ready}
 use Rattle.waiting_pool.proofs.Pooling.{add_latest_ready, add_due_free, add_latest_free}
-use Rattle.waiting_pool.proofs.Pooling.{add_due_count, add_latest_count}
+use Rattle.waiting_pool.proofs.Pooling.{add_due_count, add_latest_count, add_dense_ready, add_dense_free}
+use Rattle.waiting_pool.proofs.Pooling.{add_dense_count}
 use Rattle.waiting_pool.proofs.pool.Pool.add.Goals as goal
 use Rattle.waiting_pool.proofs.pool.Pool.add.Goals.{After-next_place-place}
 use Rattle.waiting_pool.proofs.pool.Pool.add.Given.{Over}
@@ -33,44 +34,60 @@ fits g c =
 pool : (g : Over) (c : After-next_place-place g)
     → IsPool c.self.inside.version c.next_place-place.new.slots.items
     (c.next_place-place.new.free.items ++ c.next_place-place.result ∷ []) c.self.inside.by_deadline
-    c.self.inside.by_latest
+    c.self.inside.by_latest c.self.inside.by_density
 pool g c =
     let inside = c.self.inside in
     let fit = fits g c in
-    c.next_place-place.ensures.pool inside.version inside.by_deadline inside.by_latest c.self.invariant.0
+    c.next_place-place.ensures.pool inside.version inside.by_deadline inside.by_latest inside.by_density
+    c.self.invariant.0
     (omega (arith, fit, c.self.invariant.1.due_fit)) (omega (arith, fit, c.self.invariant.1.latest_fit))
+    (omega (arith, fit, c.self.invariant.1.dense_fit))
     (omega (arith, fit, c.self.invariant.1.most))
 
 pub due_item-due-requires : goal.due_item-due-requires
-due_item-due-requires g c = add_small _ _ _ _ _ _ (pool g (goal.at.due_item-due-requires g c).After-next_place-place)
+due_item-due-requires g c = add_small _ _ _ _ _ _ _ (pool g (goal.at.due_item-due-requires g c).After-next_place-place)
 
 pub latest_item-latest-requires : goal.latest_item-latest-requires
-latest_item-latest-requires g c = add_small _ _ c.next_place-place.new.free.items _ _ c.next_place-place.result
+latest_item-latest-requires g c = add_small _ _ c.next_place-place.new.free.items _ _ _ c.next_place-place.result
     (pool g (goal.at.latest_item-latest-requires g c).After-next_place-place)
 
 pub put_at-requires-clause-inside : goal.put_at-requires-clause-inside
-put_at-requires-clause-inside g c = add_inside _ _ c.next_place-place.new.free.items _ _ c.next_place-place.result
+put_at-requires-clause-inside g c = add_inside _ _ c.next_place-place.new.free.items _ _ _ c.next_place-place.result
     (pool g (goal.at.put_at-requires-clause-inside g c).After-next_place-place)
 
 pub insert-requires-clause-ready : goal.insert-requires-clause-ready
 insert-requires-clause-ready g c =
     subst (λ (i : ItemFacts). i.place < length c.self.inside.by_deadline) (sym c.due_item-due.ensures)
-    (add_due_ready _ _ _ _ _ _ (pool g (goal.at.insert-requires-clause-ready g c).After-next_place-place))
+    (add_due_ready _ _ _ _ _ _ _ (pool g (goal.at.insert-requires-clause-ready g c).After-next_place-place))
 
 pub insert-requires-clause-free : goal.insert-requires-clause-free
 insert-requires-clause-free g c =
     subst (λ (i : ItemFacts). get_or c.self.inside.by_deadline i.place None ≡ None) (sym c.due_item-due.ensures)
-    (add_due_free _ _ _ _ _ _ (pool g (goal.at.insert-requires-clause-free g c).After-next_place-place))
+    (add_due_free _ _ _ _ _ _ _ (pool g (goal.at.insert-requires-clause-free g c).After-next_place-place))
 
 pub insert-requires-2-clause-ready : goal.insert-requires-2-clause-ready
 insert-requires-2-clause-ready g c =
     subst (λ (i : ItemFacts). i.place < length c.self.inside.by_latest) (sym c.latest_item-latest.ensures)
-    (add_latest_ready _ _ _ _ _ _ (pool g (goal.at.insert-requires-2-clause-ready g c).After-next_place-place))
+    (add_latest_ready _ _ _ _ _ _ _ (pool g (goal.at.insert-requires-2-clause-ready g c).After-next_place-place))
 
 pub insert-requires-2-clause-free : goal.insert-requires-2-clause-free
 insert-requires-2-clause-free g c =
     subst (λ (i : ItemFacts). get_or c.self.inside.by_latest i.place None ≡ None) (sym c.latest_item-latest.ensures)
-    (add_latest_free _ _ _ _ _ _ (pool g (goal.at.insert-requires-2-clause-free g c).After-next_place-place))
+    (add_latest_free _ _ _ _ _ _ _ (pool g (goal.at.insert-requires-2-clause-free g c).After-next_place-place))
+
+pub add_dense-requires-clause-small : goal.add_dense-requires-clause-small
+add_dense-requires-clause-small g c = add_small _ _ c.next_place-place.new.free.items _ _ _ c.next_place-place.result
+    (pool g (goal.at.add_dense-requires-clause-small g c).After-next_place-place)
+
+pub add_dense-requires-clause-ready : goal.add_dense-requires-clause-ready
+add_dense-requires-clause-ready g c =
+    add_dense_ready _ _ c.next_place-place.new.free.items _ _ _ c.next_place-place.result
+    (pool g (goal.at.add_dense-requires-clause-ready g c).After-next_place-place)
+
+pub add_dense-requires-clause-free : goal.add_dense-requires-clause-free
+add_dense-requires-clause-free g c =
+    add_dense_free _ _ c.next_place-place.new.free.items _ _ _ c.next_place-place.result
+    (pool g (goal.at.add_dense-requires-clause-free g c).After-next_place-place)
 
 pub invariant_of-self : goal.invariant_of-self
 invariant_of-self g c =
@@ -81,15 +98,20 @@ invariant_of-self g c =
     let t = c.args.t in
     let slots = c.next_place-place.new.slots.items in
     let here = (goal.at.invariant_of-self g c).After-next_place-place in
-    let kept = add_kept v slots free inside.by_deadline inside.by_latest p (pool g here) t in
+    let kept = add_kept v slots free inside.by_deadline inside.by_latest inside.by_density p (pool g here) t in
     let due_is = c.insert.ensures.in_it
     ∙ ap (λ (i : ItemFacts). set inside.by_deadline i.place (Some i)) c.due_item-due.ensures in
     let latest_is = c.insert-2.ensures.in_it
-    ∙ ap (λ (i : ItemFacts). set inside.by_latest i.place (Some i)) c.latest_item-latest.ensures in (
-      subst (λ s. IsPool v s free c.insert.new.self c.insert-2.new.self) (sym c.put_at.ensures.items)
-          (subst (λ d. IsPool v (set slots p (Some t)) free d c.insert-2.new.self) (sym due_is)
+    ∙ ap (λ (i : ItemFacts). set inside.by_latest i.place (Some i)) c.latest_item-latest.ensures in
+    let dense_is = c.add_dense.ensures.in_it in (
+      subst (λ s. IsPool v s free c.insert.new.self c.insert-2.new.self c.add_dense.new.heap)
+          (sym c.put_at.ensures.items)
+          (subst (λ d. IsPool v (set slots p (Some t)) free d c.insert-2.new.self c.add_dense.new.heap) (sym due_is)
           (subst (λ l. IsPool v (set slots p (Some t)) free
-          (set inside.by_deadline p (Some (due_item v p (entry_of t)))) l) (sym latest_is) kept)),
+          (set inside.by_deadline p (Some (due_item v p (entry_of t)))) l c.add_dense.new.heap) (sym latest_is)
+          (subst (λ e. IsPool v (set slots p (Some t)) free
+          (set inside.by_deadline p (Some (due_item v p (entry_of t))))
+          (set inside.by_latest p (Some (latest_item v p (entry_of t)))) e) (sym dense_is) kept))),
       record {
         opened = omega (arith, fits g here, ap (λ l. length l) c.put_at.ensures.items, same_length slots p (Some t));
         most = c.self.invariant.1.most;
@@ -112,6 +134,12 @@ invariant_of-self g c =
           ap (λ l. length l) latest_is,
           same_length inside.by_latest p (Some (latest_item v p (entry_of t))),
         );
+        dense_fit = omega (
+          arith,
+          c.self.invariant.1.dense_fit,
+          ap (λ l. length l) dense_is,
+          same_length inside.by_density p (item_by_density v p t),
+        );
       },
     )
 
@@ -127,17 +155,21 @@ returns-clause-more g c =
     (subst (λ l. IsReordered (c.args.t ∷ l) (jobs_at c.put_at.new.slots.items)) c.next_place-place.ensures.jobs
     (subst (λ l. IsReordered (c.args.t ∷ jobs_at slots) (jobs_at l)) (sym c.put_at.ensures.items)
     (jobs_in slots c.next_place-place.result c.args.t
-    (add_free _ _ _ _ _ _ (pool g (goal.at.returns-clause-more g c).After-next_place-place)))))
+    (add_free _ _ _ _ _ _ _ (pool g (goal.at.returns-clause-more g c).After-next_place-place)))))
 
 pub returns-clause-count : goal.returns-clause-count
 returns-clause-count g c d size =
     let stands = pool g (goal.at.returns-clause-count g c).After-next_place-place in
     let few = subst (λ (q : Pooled). length q.tasks + 1 < 2 ^ d) (sym c.self.view_is) size in
     let jobs = ap (λ ts. length ts) c.next_place-place.ensures.jobs in
-    let due = add_due_count _ _ c.next_place-place.new.free.items _ _ c.next_place-place.result stands in
-    let latest = add_latest_count _ _ c.next_place-place.new.free.items _ _ c.next_place-place.result stands in
-    omega (
+    let due = add_due_count _ _ c.next_place-place.new.free.items _ _ _ c.next_place-place.result stands in
+    let latest = add_latest_count _ _ c.next_place-place.new.free.items _ _ _ c.next_place-place.result stands in
+    let dense = add_dense_count _ _ c.next_place-place.new.free.items _ _ _ c.next_place-place.result stands in
+    subst (λ (q : Pooled). c.add_dense.new.comparisons ≤ c.args.comparisons.now + orders_of q.version * d)
+    c.self.view_is
+    (omega (
       arith,
       c.insert.ensures.count d (omega (arith, due, few, jobs)),
       c.insert-2.ensures.count d (omega (arith, latest, few, jobs)),
-    )
+      c.add_dense.ensures.count d (omega (arith, dense, few, jobs)),
+    ))

@@ -1,6 +1,5 @@
 use Rattle.std.proofs.Common.{ap, ◌∙◌}
-use Rattle.place_heap.specs.Orders.{due_item, latest_item}
-use Rattle.waiting_pool.specs.Pools.{Pooled}
+use Rattle.waiting_pool.specs.Pools.{Pooled, item_by_deadline, item_by_latest, item_by_density}
 use Rattle.waiting_pool.proofs.Pooling.{items_none}
 use Rattle.waiting_pool.proofs.pool.Pool.declare.Goals as goal
 
@@ -13,13 +12,20 @@ invariant_of-self c =
         due = (
           kept.due.0,
           kept.due.1
-              ∙ items_none (due_item inside.version) (due_item c.args.version) kept.due.0 0 inside.slots.items none,
+              ∙ items_none (item_by_deadline inside.version)
+              (item_by_deadline c.args.version) kept.due.0 0 inside.slots.items none,
         );
         latest = (
           kept.latest.0,
           kept.latest.1
-              ∙ items_none (latest_item inside.version)
-              (latest_item c.args.version) kept.latest.0 0 inside.slots.items none,
+              ∙ items_none (item_by_latest inside.version)
+              (item_by_latest c.args.version) kept.latest.0 0 inside.slots.items none,
+        );
+        dense = (
+          kept.dense.0,
+          kept.dense.1
+              ∙ items_none (item_by_density inside.version)
+              (item_by_density c.args.version) kept.dense.0 0 inside.slots.items none,
         );
         free = kept.free;
         count = kept.count;

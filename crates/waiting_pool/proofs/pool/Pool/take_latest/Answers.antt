@@ -1,8 +1,8 @@
-use Rattle.std.proofs.Common.{◌∷◌, ◌+◌, ◌<◌, ◌^◌, Some, sym, ap, ◌∙◌, subst, length, arith, slice_get}
+use Rattle.std.proofs.Common.{◌∷◌, ◌+◌, ◌*◌, ◌≤◌, ◌<◌, ◌^◌, Some, sym, ap, ◌∙◌, subst, length, arith, slice_get}
 use Rattle.dover_model.specs.Orders.{starts_before, first}
 use Rattle.dover_model.proofs.lists.Tests.{none_is_some}
 use Rattle.waiting_pool.specs.Reordered.{IsReordered}
-use Rattle.waiting_pool.specs.Pools.{HaveOwnNumbers, AreModest, Pooled, jobs_at}
+use Rattle.waiting_pool.specs.Pools.{HaveOwnNumbers, AreModest, Pooled, jobs_at, orders_of}
 use Rattle.waiting_pool.proofs.Pooling.{latest_none, latest_found}
 use Rattle.waiting_pool.proofs.pool.Pool.take_latest.Goals as goal
 
@@ -15,7 +15,7 @@ take_at-requires-clause-some g c =
     (it.0, ap (slice_get inside.slots.items) c.place.ensures.is ∙ it.1)
 
 pub take_at-requires-clause-pool : goal.take_at-requires-clause-pool
-take_at-requires-clause-pool g c = (c.self.inside.version, c.self.invariant.0)
+take_at-requires-clause-pool g c = c.self.invariant.0
 
 pub take_at-requires-clause-room : goal.take_at-requires-clause-room
 take_at-requires-clause-room g c =
@@ -23,7 +23,7 @@ take_at-requires-clause-room g c =
 
 pub invariant_of-self : goal.invariant_of-self
 invariant_of-self g c = (
-  c.take_at.ensures.pool c.self.inside.version c.self.invariant.0,
+  c.take_at.ensures.pool,
   record {
     opened = omega (
       arith,
@@ -37,6 +37,7 @@ invariant_of-self g c = (
     free_fit = omega (arith, c.self.invariant.1.free_fit, c.take_at.ensures.capacity);
     due_fit = omega (arith, c.self.invariant.1.due_fit, c.take_at.ensures.due);
     latest_fit = omega (arith, c.self.invariant.1.latest_fit, c.take_at.ensures.latest);
+    dense_fit = omega (arith, c.self.invariant.1.dense_fit, c.take_at.ensures.dense);
   },
 )
 
@@ -60,7 +61,9 @@ returns-in-Some-clause-none g c none =
 
 pub returns-in-Some-clause-count : goal.returns-in-Some-clause-count
 returns-in-Some-clause-count g c d fits =
-    c.take_at.ensures.count d (subst (λ (q : Pooled). length q.tasks + 1 < 2 ^ d) (sym c.self.view_is) fits)
+    subst (λ (q : Pooled). c.take_at.new.comparisons ≤ c.args.comparisons.now + 3 * orders_of q.version * d)
+    c.self.view_is
+    (c.take_at.ensures.count d (subst (λ (q : Pooled). length q.tasks + 1 < 2 ^ d) (sym c.self.view_is) fits))
 
 pub returns-in_default-clause-rest : goal.returns-in_default-clause-rest
 returns-in_default-clause-rest g c t is =
