@@ -15,7 +15,8 @@ use Rattle.dover_model.proofs.lists.Members.{term_le_sum, sum_filter, sum_same, 
 use Rattle.dover_model.proofs.steps.Roles.{passes, is_over_role}
 use Rattle.dover_model.proofs.runs.Spending.{one_leaves, run_leaves, abandon_leaves, take_leaves}
 use Rattle.dover_model.proofs.steps.ReadyParts.{change, over_stays}
-use Rattle.dover_model.specs.Common.{Version, One, Two, Three, Four}
+use Rattle.dover_model.specs.declared.events.Version.{Version}
+use Rattle.dover_model.specs.declared.events.Version.TheVariants.{One, Two, Three, Four}
 use Rattle.waiting_pool.specs.Pools.{orders_of}
 use Rattle.ready_jobs.specs.Following.{PartOf}
 use Rattle.ready_jobs.specs.Changed.{named, AreOnce}

@@ -101,8 +101,8 @@ spent_on n s u start before now pays spent = λ d enough.
 pub twenty : (orders d m n : ℕ) → orders ≤ 3 → orders * d * m + 3 * orders * d * n ≤ 20 * d * (m + n)
 twenty orders d m n few = omega (
   arith,
-  mul-le orders (d * m) 3 (d * m) few (omega arith),
-  mul-le orders (d * n) 3 (d * n) few (omega arith),
+  mul-le-mul_right (d * m) few,
+  mul-le-mul_right (d * n) few,
 )
 
 -- what costs c for each of so many, paid for

@@ -1,8 +1,8 @@
-use Rattle.std.proofs.Common.{◌+◌, ◌^◌, ◌<◌, ◌∷◌, Some, length, sym, ap, ◌∙◌, subst, vec_capacity}
+use Rattle.std.proofs.Common.{◌+◌, ◌*◌, ◌≤◌, ◌^◌, ◌<◌, ◌∷◌, Some, length, sym, ap, ◌∙◌, subst, vec_capacity}
 use Rattle.dover_model.specs.declared.events.Role.TheVariants.{Running}
 use Rattle.dover_model.specs.Common.{first, with_role}
 use Rattle.waiting_pool.specs.Reordered.{IsReordered}
-use Rattle.waiting_pool.specs.Pools.{Pooled}
+use Rattle.waiting_pool.specs.Pools.{Pooled, orders_of}
 use Rattle.ready_jobs.specs.Parts.{Parted, AreParts, AreSound, first_by}
 use Rattle.ready_jobs.specs.Kept.{parted_of}
 use Rattle.ready_jobs.proofs.Keeping.{started_kept, same_kept}
@@ -44,7 +44,9 @@ returns-in-Some-clause-rest g c o is =
 
 pub returns-in-Some-clause-count : goal.returns-in-Some-clause-count
 returns-in-Some-clause-count g c d fits =
-    c.take_waiting.ensures.count d (subst (λ (q : Parted). length q.waiting + 1 < 2 ^ d) (sym c.self.view_is) fits)
+    subst (λ (q : Parted). c.take_waiting.new.comparisons
+    ≤ c.args.comparisons.now + 3 * orders_of q.version * d) c.self.view_is
+    (c.take_waiting.ensures.count d (subst (λ (q : Parted). length q.waiting + 1 < 2 ^ d) (sym c.self.view_is) fits))
 
 pub returns-in_default-clause-rest : goal.returns-in_default-clause-rest
 returns-in_default-clause-rest g c o is =
@@ -54,4 +56,6 @@ returns-in_default-clause-rest g c o is =
 
 pub returns-in_default-clause-count : goal.returns-in_default-clause-count
 returns-in_default-clause-count g c d fits =
-    c.take_waiting.ensures.count d (subst (λ (q : Parted). length q.waiting + 1 < 2 ^ d) (sym c.self.view_is) fits)
+    subst (λ (q : Parted). c.take_waiting.new.comparisons
+    ≤ c.args.comparisons.now + 3 * orders_of q.version * d) c.self.view_is
+    (c.take_waiting.ensures.count d (subst (λ (q : Parted). length q.waiting + 1 < 2 ^ d) (sym c.self.view_is) fits))
