@@ -1,9 +1,10 @@
-use Rattle.std.proofs.Common.{◌+◌, ◌*◌, ◌≤◌, length, refl, subst}
+use Rattle.std.proofs.Common.{◌≡◌, ◌+◌, ◌*◌, ◌≤◌, length, refl, subst}
 use Rattle.dover_model.specs.declared.events.Event.TheVariants.{Run}
 use Rattle.dover_model.specs.Common.{Prints, view, cost_of}
+use Rattle.dover_model.specs.Step.{pressed_after}
 use Rattle.waiting_pool.specs.Pools.{orders_of}
 use Rattle.ready_jobs.specs.Deeds.{Finds}
-use Rattle.ready_jobs.specs.Parts.{state_of}
+use Rattle.ready_jobs.specs.Parts.{ready_of, state_of}
 use Rattle.ready_jobs.specs.Spending.{wait_again}
 use Rattle.ready_jobs.specs.declared.actions.Action.TheVariants as actions
 use Rattle.ready_jobs.proofs.Applied.{leaves_fewer}
@@ -181,3 +182,10 @@ returns-in-Complete-clause-cost g c e d does fits = no_cost _ _
 
 pub returns-in-Complete-clause-once : goal.returns-in-Complete-clause-once
 returns-in-Complete-clause-once g c e d does fits = no_cost _ _
+
+pub returns-in-Complete-clause-pressed : goal.returns-in-Complete-clause-pressed
+returns-in-Complete-clause-pressed g c e does =
+    let p = c.args.self.now in
+    let q = c.complete_next.new.self in
+    subst (λ x. q.pressed ≡ pressed_after x p.pressed (ready_of q))
+    (does_print _ _ _ c.in-Complete.is _ _ refl does) (c.complete_next.ensures.pressed p.clock)
