@@ -1,5 +1,6 @@
 -- One step: its cases, what it finds, what it changes, and that it keeps a state sound.
 pub mod EntryOrders
+pub mod DensityOrder
 pub mod Cases
 pub mod Roles
 pub mod RoleChanges

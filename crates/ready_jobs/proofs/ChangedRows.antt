@@ -1,6 +1,6 @@
 -- What printed steps leave of worked ready jobs, by computation.
 use Rattle.dover_model.specs.Common.{fraction, is_done, value_sum, Prints, open_step, is_ready}
-use Rattle.std.proofs.Common.{◌≡◌, ℕ, [], ◌∷◌, map, refl, Some, None, filter}
+use Rattle.std.proofs.Common.{◌≡◌, ℕ, [], ◌∷◌, map, refl, false, Some, None, filter}
 use Rattle.dover_model.specs.declared.events.Event.TheVariants.{Preempt, Take, Complete}
 use Rattle.dover_model.specs.declared.events.Role.{Role}
 use Rattle.dover_model.specs.declared.events.Role.TheVariants.{Fresh, Waiting, Held, Running}
@@ -23,6 +23,7 @@ abbrev worked : Parted
 worked = record {
   version = One;
   clock = 2;
+  pressed = false;
   running = Some (ready_job Running 1 3 5 1);
   fresh = None;
   held = ready_job Held 0 4 30 1 ∷ [];

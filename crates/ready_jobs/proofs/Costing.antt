@@ -15,6 +15,9 @@ use Rattle.dover_model.proofs.lists.Members.{term_le_sum, sum_filter, sum_same, 
 use Rattle.dover_model.proofs.steps.Roles.{passes, is_over_role}
 use Rattle.dover_model.proofs.runs.Spending.{one_leaves, run_leaves, abandon_leaves, take_leaves}
 use Rattle.dover_model.proofs.steps.ReadyParts.{change, over_stays}
+use Rattle.dover_model.specs.declared.events.Version.{Version}
+use Rattle.dover_model.specs.declared.events.Version.TheVariants.{One, Two, Three, Four}
+use Rattle.waiting_pool.specs.Pools.{orders_of}
 use Rattle.ready_jobs.specs.Following.{PartOf}
 use Rattle.ready_jobs.specs.Changed.{named, AreOnce}
 use Rattle.ready_jobs.specs.Parts.{Parted, HaveRoles, ready_of, state_of}
@@ -52,12 +55,12 @@ once_behind a b once n =
     omega (arith, most, sum_by-append (named n) a b)
 
 -- those that begin to wait and the one that ceases to
-take_sums : (d enters leaves before after held : ℕ) → held + 1 ≤ enters → 1 ≤ leaves
-    → after ≤ before + 6 * d + 2 * d * (held + 1)
-    → after ≤ before + (2 * d * enters + 6 * d * leaves)
-take_sums d enters leaves before after held more less cost =
-    let begun : 2 * d * (held + 1) ≤ 2 * d * enters = mul-le-mul_left (2 * d) more in
-    let ceased : 6 * d * 1 ≤ 6 * d * leaves = mul-le-mul_left (6 * d) less in
+take_sums : (orders d enters leaves before after held : ℕ) → held + 1 ≤ enters → 1 ≤ leaves
+    → after ≤ before + orders * d * (4 + held)
+    → after ≤ before + (orders * d * enters + 3 * orders * d * leaves)
+take_sums orders d enters leaves before after held more less cost =
+    let begun : orders * d * (held + 1) ≤ orders * d * enters = mul-le-mul_left (orders * d) more in
+    let ceased : 3 * orders * d * 1 ≤ 3 * orders * d * leaves = mul-le-mul_left (3 * orders * d) less in
     omega (arith, begun, ceased, cost)
 
 -- those that wait are some of those that are ready
@@ -74,18 +77,20 @@ pub no_cost : (before more : ℕ) → before ≤ before + more
 no_cost before more = omega arith
 
 -- what one job costs that begins or ceases to wait
-pub one_at_most : (d x before now : ℕ) → now ≤ before + 6 * d → now ≤ before + 2 * d * (4 + x)
-one_at_most d x before now cost = omega (arith, cost)
-
--- what a take costs
-pub take_at_most : (d held before now : ℕ) → now ≤ before + 6 * d + 2 * d * (held + 1)
-    → now ≤ before + 2 * d * (4 + held)
-take_at_most d held before now cost = omega (arith, cost)
+pub one_at_most : (orders d x before now : ℕ) → now ≤ before + 3 * orders * d → now ≤ before + orders * d * (4 + x)
+one_at_most orders d x before now cost = omega (arith, cost)
 
 -- the silent steps of a call, and the printed one
-pub both_at_most : (d x before mid now : ℕ) → mid ≤ before + 4 * d → now ≤ mid + 2 * d * (4 + x)
-    → now ≤ before + 2 * d * (6 + x)
-both_at_most d x before mid now first then = omega (arith, first, then)
+pub both_at_most : (orders d x before mid now : ℕ) → mid ≤ before + 2 * orders * d
+    → now ≤ mid + orders * d * (4 + x) → now ≤ before + orders * d * (6 + x)
+both_at_most orders d x before mid now first then = omega (arith, first, then)
+
+-- there are three orders at most
+pub few_orders : (v : Version) → orders_of v ≤ 3
+few_orders One = omega arith
+few_orders Two = omega arith
+few_orders Three = omega arith
+few_orders Four = omega arith
 
 few_jobs : (o : Option Task) → length (option_to_list o) ≤ 1
 few_jobs None = omega arith
@@ -93,8 +98,9 @@ few_jobs (Some t) = omega arith
 
 -- silent steps let two jobs wait at most
 pub silent_at_most : (p q : Parted) → q.held ≡ p.held → length (ready_of q) ≡ length (ready_of p)
-    → (d before now : ℕ) → now ≤ before + 2 * d * (length q.waiting - length p.waiting) → now ≤ before + 4 * d
-silent_at_most p q held same d before now cost = omega (arith, cost, most) where
+    → (orders d before now : ℕ) → now ≤ before + orders * d * (length q.waiting - length p.waiting)
+    → now ≤ before + 2 * orders * d
+silent_at_most p q held same orders d before now cost = omega (arith, cost, most) where
   lengths : (r : Parted) → length (ready_of r)
       ≡ length (option_to_list r.running) + (length (option_to_list r.fresh) + (length r.held + length r.waiting))
   lengths r = omega (
@@ -107,10 +113,10 @@ silent_at_most p q held same d before now cost = omega (arith, cost, most) where
   two : length q.waiting - length p.waiting ≤ 2
   two = omega (arith, ap length held, same, lengths p, lengths q, few_jobs p.running, few_jobs p.fresh)
 
-  most : 2 * d * (length q.waiting - length p.waiting) ≤ 2 * d * 2
-  most = mul-le-mul_left (2 * d) two
+  most : orders * d * (length q.waiting - length p.waiting) ≤ orders * d * 2
+  most = mul-le-mul_left (orders * d) two
 
-module _ (p : Parted) (roles : HaveRoles p) (d before after at : ℕ) where
+module _ (p : Parted) (roles : HaveRoles p) (orders d before after at : ℕ) where
   abbrev A : List Task
   A = option_to_list p.running
 
@@ -120,15 +126,15 @@ module _ (p : Parted) (roles : HaveRoles p) (d before after at : ℕ) where
   in_waiting : (t : Task) → IsMember t p.waiting → IsMember t (ready_of p)
   in_waiting t m = member_behind _ _ _ (member_behind B (p.held ++ p.waiting) t (member_behind p.held p.waiting t m))
 
-  pub run_costs : (n : ℕ) (o : Task) → IsMember o p.waiting → o.number ≡ n → after ≤ before + 6 * d
-      → after ≤ before + cost_of d (state_of p) (Prints (Run at n))
+  pub run_costs : (n : ℕ) (o : Task) → IsMember o p.waiting → o.number ≡ n → after ≤ before + 3 * orders * d
+      → after ≤ before + cost_of orders d (state_of p) (Prints (Run at n))
   run_costs n o m number cost =
-      one_leaves _ _ _ _ _ cost (run_leaves (state_of p) o (in_waiting o m) at n (roles.waiting o m) number)
+      one_leaves _ _ _ _ _ _ cost (run_leaves (state_of p) o (in_waiting o m) at n (roles.waiting o m) number)
 
-  pub abandon_costs : (n : ℕ) (o : Task) → IsMember o p.waiting → o.number ≡ n → after ≤ before + 6 * d
-      → after ≤ before + cost_of d (state_of p) (Prints (Abandon at n))
+  pub abandon_costs : (n : ℕ) (o : Task) → IsMember o p.waiting → o.number ≡ n → after ≤ before + 3 * orders * d
+      → after ≤ before + cost_of orders d (state_of p) (Prints (Abandon at n))
   abandon_costs n o m number cost =
-      one_leaves _ _ _ _ _ cost (abandon_leaves (state_of p) o (in_waiting o m) at n (roles.waiting o m) number)
+      one_leaves _ _ _ _ _ _ cost (abandon_leaves (state_of p) o (in_waiting o m) at n (roles.waiting o m) number)
 
   module _ (once : AreOnce (ready_of p)) (stops starts : ℕ) (r x : Task) (runs : p.running ≡ Some r)
       (waits : IsMember x p.waiting) (number : x.number ≡ starts) where
@@ -170,9 +176,9 @@ module _ (p : Parted) (roles : HaveRoles p) (d before after at : ℕ) where
           count_each begins p.held held_begin,
         ))
 
-    pub take_costs : after ≤ before + 6 * d + 2 * d * (length p.held + 1)
-        → after ≤ before + cost_of d (state_of p) (Prints (Take at stops starts))
-    take_costs cost = take_sums _ _ _ _ _ _ all_begin
+    pub take_costs : after ≤ before + orders * d * (4 + length p.held)
+        → after ≤ before + cost_of orders d (state_of p) (Prints (Take at stops starts))
+    take_costs cost = take_sums _ _ _ _ _ _ _ all_begin
         (take_leaves (state_of p) x (in_waiting x waits) at stops starts (roles.waiting x waits) number) cost
 
 -- ---- of a whole run
@@ -209,11 +215,12 @@ module _ (p : Parted) (J : Instance) (z : State) (part : PartOf p J z) (rules : 
       ∙ sum_ready (λ t. cond {A = ℕ} (f t) 1 0) z.tasks (λ t m over. ap (λ b. cond {A = ℕ} b 1 0) (none t m over))
 
   -- an open step costs the ready jobs what it costs all
-  pub cost_whole : (d : ℕ) → cost_of d (state_of p) (open_step rules z) ≡ cost_of d z (open_step rules z)
-  cost_whole d =
-      ap (λ n. 2 * d * n + 6 * d * leaves (state_of p) (open_step rules z))
+  pub cost_whole : (orders d : ℕ)
+      → cost_of orders d (state_of p) (open_step rules z) ≡ cost_of orders d z (open_step rules z)
+  cost_whole orders d =
+      ap (λ n. orders * d * n + 3 * orders * d * leaves (state_of p) (open_step rules z))
       (count_part (λ t. waits_then (open_step rules z) t && not (is_waiting t))
       (λ t m over. ap (λ b. b && not (is_waiting t)) (over_waits_not t m over)))
-      ∙ ap (λ n. 2 * d * enters z (open_step rules z) + 6 * d * n)
+      ∙ ap (λ n. orders * d * enters z (open_step rules z) + 3 * orders * d * n)
       (count_part (λ t. is_waiting t && not (waits_then (open_step rules z) t))
       (λ t m over. ap (λ b. b && not (waits_then (open_step rules z) t)) (over_not_waiting t over)))

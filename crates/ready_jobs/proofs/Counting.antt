@@ -5,7 +5,7 @@ use Rattle.ready_jobs.specs.Course.{Course, Follows}
 use Rattle.waiting_pool.proofs.Reordering.{as_many}
 
 module _ (c : Course) (J : Instance) (z : State) (follows : Follows c J z) (mark : ℕ)
-    (there : settled_state J mark ≡ state_at mark z.tasks) where
+    (there : settled_state J mark ≡ record z { clock = mark }) where
   -- as many jobs are ready at the mark as are kept
   pub ready_kept : ready_at J mark ≡ length c.ready
   ready_kept = ap (λ (s : State). length (filter is_ready s.tasks)) there

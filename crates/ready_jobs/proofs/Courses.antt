@@ -31,19 +31,22 @@ use Rattle.dover_model.proofs.finishes.Further.{over_open}
 use Rattle.dover_model.proofs.finishes.OverFor.{over_after, over_then}
 use Rattle.dover_model.proofs.finishes.OverPaths.{settles_over}
 use Rattle.dover_model.proofs.settled.Leading.{late_silent, over_ends}
+use Rattle.dover_model.specs.Step.{pressed_after}
+use Rattle.dover_model.proofs.lists.Members.{all_each}
+use Rattle.dover_model.proofs.steps.Pressing.{over_calm}
 use Rattle.dover_model.proofs.steps.ReadyParts.{change}
 use Rattle.dover_model.proofs.settled.Waiting.{some_goes_on, settles_idles, over_waits_until}
 use Rattle.dover_model.proofs.valid.Limiting.{jobs_most, total_most}
 use Rattle.waiting_pool.specs.Reordered.{IsReordered}
 use Rattle.ready_jobs.specs.Parts.{Parted, HaveRoles, ready_of, state_of}
 use Rattle.ready_jobs.specs.Following.{PartOf, IsPart, SettlesTo}
-use Rattle.ready_jobs.specs.Course.{Course, Follows, IsCourse, new_course, course_of, fresh_job, with_release, Reached}
+use Rattle.ready_jobs.specs.Course.{Course, state_of_course, Follows, IsCourse, new_course, course_of, fresh_job, with_release, Reached}
 use Rattle.ready_jobs.specs.Course.{Settled, ComesNext, Takes, IsDue, Finishes, RunsNowhere}
 use Rattle.ready_jobs.specs.Deeds.{Does, Finds, step_at}
 use Rattle.ready_jobs.specs.declared.actions.Action.{Action}
 use Rattle.waiting_pool.proofs.Reordering.{same_order, further, exchanged, as_many}
 use Rattle.waiting_pool.proofs.Pooling.{between}
-use Rattle.ready_jobs.specs.Changed.{Leaves, AreOnce, named}
+use Rattle.ready_jobs.specs.Changed.{Leaves, AreOnce, named, completed}
 use Rattle.ready_jobs.proofs.Changes.{once_numbered, once_some, once_still, map_each, completes}
 use Rattle.ready_jobs.proofs.Seeing.{running_list}
 use Rattle.ready_jobs.proofs.Doing.{prints_event}
@@ -64,8 +67,8 @@ some_jobs (t ∷ ts) none other is = omega arith
 
 -- the deed that comes now, at whose step the event is printed
 pub due_now : (c : Course) (at : ℕ) (deed : Action) (e : Event) → at ≡ c.clock
-    → step_at c.clock deed ≡ open_step (under c.rules []) (state_at c.clock c.ready)
-    → Finds (view c.rules.version (state_at c.clock c.ready)) deed → event_of (step_at at deed) ≡ Some e
+    → step_at c.clock deed ≡ open_step (under c.rules []) (state_of_course c)
+    → Finds (view c.rules.version (state_of_course c)) deed → event_of (step_at at deed) ≡ Some e
     → IsDue c deed e
 due_now c at deed e now comes finds is =
     let prints : step_at c.clock deed ≡ Prints e = ap (λ n. step_at n deed) (sym now)
@@ -74,10 +77,11 @@ due_now c at deed e now comes finds is =
 
 -- what silent steps and a printed one keep
 pub kept_on : (c d e : Course) → d ≡ record c { clock = d.clock; ready = d.ready }
-    → e ≡ record d { ready = e.ready; done = e.done }
-    → e ≡ record c { clock = e.clock; ready = e.ready; done = e.done }
-kept_on c d e one next = next ∙ ap (λ (q : Course). record q { ready = e.ready; done = e.done }) one
-    ∙ ap (λ n. record c { clock = n; ready = e.ready; done = e.done }) (sym (ap (λ (q : Course). q.clock) next))
+    → e ≡ record d { pressed = e.pressed; ready = e.ready; done = e.done }
+    → e ≡ record c { clock = e.clock; pressed = e.pressed; ready = e.ready; done = e.done }
+kept_on c d e one next =
+    next ∙ ap (λ (q : Course). record q { pressed = e.pressed; ready = e.ready; done = e.done }) one
+    ∙ ap (λ n. record c { clock = n; pressed = e.pressed; ready = e.ready; done = e.done }) (sym (ap (λ (q : Course). q.clock) next))
 
 -- the course of no jobs
 pub new_follows : (rules : Declaration) (room : ℕ) → IsRatio rules.ratio
@@ -90,6 +94,7 @@ new_follows rules room ratio = record {
   own = λ f m. absurd m;
   over = λ f m. absurd m;
   clock = refl;
+  pressed = refl;
   ready = same_order [];
   jobs = refl;
   done = refl;
@@ -152,6 +157,11 @@ module _ (c : Course) (J : Instance) (z : State) (follows : Follows c J z) where
       by_test true over rest more = more rest
       by_test false ready rest more = absurd (rest t (inl refl))
 
+-- where none is ready, the state isn't pressed
+pub none_pressed : (c : Course) (J : Instance) (z : State) → Follows c J z → c.ready ≡ [] → c.pressed ≡ false
+none_pressed c J z follows none = sym follows.pressed
+    ∙ over_calm z follows.keeps.pressed (all_each is_over z.tasks (follows_over c J z follows none))
+
 -- a course is kept as well with other room
 pub follows_room : (c : Course) (room : ℕ) (J : Instance) (z : State) → Follows c J z
     → Follows (record c { room = room }) J z
@@ -162,6 +172,7 @@ follows_room c room J z follows = record {
   own = follows.own;
   over = follows.over;
   clock = follows.clock;
+  pressed = follows.pressed;
   ready = follows.ready;
   jobs = follows.jobs;
   done = follows.done;
@@ -179,6 +190,7 @@ follows_order c ready J z follows same = record {
   own = follows.own;
   over = follows.over;
   clock = follows.clock;
+  pressed = follows.pressed;
   ready = further (filter is_ready z.tasks) c.ready ready follows.ready same;
   jobs = follows.jobs;
   done = follows.done;
@@ -210,11 +222,13 @@ declared_course c rules old none ratio =
       record {
         valid = subst (λ jobs. IsValid (record { rules = under rules []; jobs = jobs })) empty
             (new_follows rules 0 ratio).valid;
-        keeps = record { sound = follows.keeps.sound; jobs = follows.keeps.jobs };
+        keeps = record
+            { sound = follows.keeps.sound; jobs = follows.keeps.jobs; pressed = follows.keeps.pressed };
         rules = refl;
         own = λ f m. absurd m;
         over = λ f m. absurd m;
         clock = follows.clock;
+        pressed = follows.pressed;
         ready = follows.ready;
         jobs = follows.jobs;
         done = follows.done;
@@ -225,25 +239,27 @@ declared_course c rules old none ratio =
 
 -- the state of no jobs, at any tick
 pub none_keeps : (rules : Rules) → IsValid (record { rules = rules; jobs = [] }) → (clock : ℕ)
-    → Keeps (record { rules = rules; jobs = [] }) (record { clock = clock; tasks = [] })
+    → Keeps (record { rules = rules; jobs = [] }) (state_at clock [])
 none_keeps rules valid clock =
     tick_keeps (record { rules = rules; jobs = [] }) valid clock (λ j member. absurd member) clock (omega arith)
 
 -- where none is ready, the course is also kept of no jobs
 pub renewed_follows : (c : Course) → IsCourse c → length c.ready ≡ 0
     → Follows (record c { jobs = 0; done = 0 }) (record { rules = under c.rules []; jobs = [] })
-    (record { clock = c.clock; tasks = [] })
+    (state_at c.clock [])
 renewed_follows c old none =
     let ratio : IsRatio c.rules.ratio =
     subst (λ (rules : Rules). IsRatio rules.ratio) old.2.rules (valid_parts old.2.valid).ratio in
     let valid : IsValid (record { rules = under c.rules []; jobs = [] }) =
-    (new_follows c.rules 0 ratio).valid in record {
+    (new_follows c.rules 0 ratio).valid in
+    let calm : c.pressed ≡ false = none_pressed c old.0 old.1 old.2 (no_items c.ready none) in record {
       valid = valid;
       keeps = none_keeps (under c.rules []) valid c.clock;
       rules = refl;
       own = λ f m. absurd m;
       over = λ f m. absurd m;
       clock = refl;
+      pressed = sym calm;
       ready = subst (λ (ts : List Task). IsReordered ts c.ready) (no_items c.ready none) (same_order c.ready);
       jobs = refl;
       done = refl;
@@ -254,7 +270,7 @@ renewed_follows c old none =
 pub renewed_course : (c : Course) → IsCourse c → length c.ready ≡ 0 → IsCourse (record c { jobs = 0; done = 0 })
 renewed_course c old none = (
   record { rules = under c.rules []; jobs = [] },
-  record { clock = c.clock; tasks = [] },
+  state_at c.clock [],
   renewed_follows c old none,
 )
 
@@ -281,9 +297,10 @@ module _ (k : Fraction) (p : Parted) (jobs done : ℕ) (J : Instance) (z : State
   pub follows_part : PartOf p plain z
   follows_part = record {
     valid = finishing_valid J [] follows.valid;
-    keeps = record { sound = follows.keeps.sound; jobs = follows.keeps.jobs };
+    keeps = record { sound = follows.keeps.sound; jobs = follows.keeps.jobs; pressed = follows.keeps.pressed };
     version = ap (λ (r : Rules). r.version) follows.rules;
     clock = follows.clock;
+    pressed = follows.pressed;
     ready = follows.ready;
     released = follows.released;
   }
@@ -302,11 +319,12 @@ module _ (k : Fraction) (p : Parted) (jobs done : ℕ) (J : Instance) (z : State
     pub follows_on : Follows (course_of k q jobs (done + more)) J y
     follows_on = record {
       valid = follows.valid;
-      keeps = record { sound = part.keeps.sound; jobs = part.keeps.jobs };
+      keeps = record { sound = part.keeps.sound; jobs = part.keeps.jobs; pressed = part.keeps.pressed };
       own = follows.own;
       over = over;
       rules = follows.rules ∙ ap (λ v. record { ratio = k; version = v; finishes = [] }) (sym version);
       clock = part.clock;
+      pressed = part.pressed;
       ready = part.ready;
       jobs = sym (count_jobs y.tasks) ∙ ap length (part.keeps.jobs ∙ sym follows.keeps.jobs) ∙ count_jobs z.tasks
           ∙ follows.jobs;
@@ -362,7 +380,7 @@ module _ (k : Fraction) (p q : Parted) (jobs done mark : ℕ) (m : Move) (versio
         waits = λ here.
             let at : (waits_for_mark m ≡ true) × (mark ≤ q.clock) = at_barrier (waits_for_mark m) mark q.clock here in
             let now : y.clock ≡ mark = omega (arith, at.1) in
-            subst (λ t. WaitsUntil J.rules mark z (record { clock = t; tasks = y.tasks })) now (record {
+            subst (λ t. WaitsUntil J.rules mark z (record y { clock = t })) now (record {
               steps = it.steps;
               settles = with_finishes.0;
               barrier = ap (λ n. waits_for_mark n && nat_le mark y.clock) step_y
@@ -513,6 +531,7 @@ silent_settled c J z mark m n reached is silent low =
 module _ (k : Fraction) (p q : Parted) (jobs done worth : ℕ) (e : Event)
     (prints : open_step (record { ratio = k; version = p.version; finishes = [] }) (state_of p) ≡ Prints e)
     (version : q.version ≡ p.version) (clock : q.clock ≡ p.clock)
+    (pressed : q.pressed ≡ pressed_after e p.pressed (ready_of q))
     (leaves : Leaves (change (Prints e)) (ready_of p) (ready_of q) worth) where
   -- the course after a printed step
   pub course_takes : (J : Instance) (z : State) → Follows (course_of k p jobs done) J z
@@ -520,7 +539,7 @@ module _ (k : Fraction) (p q : Parted) (jobs done worth : ℕ) (e : Event)
   course_takes J z follows =
       let is : open_step J.rules z ≡ Prints e = sym (follows_step k p jobs done J z follows) ∙ prints in
       let it = part_moves p (finishing J []) z (follows_part k p jobs done J z follows) q (Prints e) worth
-      (sym (over_open J.rules z follows.over) ∙ is) version (follows.clock ∙ sym clock) leaves in
+      (sym (over_open J.rules z follows.over) ∙ is) version (follows.clock ∙ sym clock) pressed leaves in
       follows_on k p jobs done J z follows q worth (after z (Prints e)) it.0
       (subst (λ m. AreOverFor J.rules.finishes (after z m)) is
       (over_after J follows.valid z follows.keeps J.rules J.rules.finishes follows.over)) version it.1 follows.known
@@ -550,7 +569,7 @@ module _ (k : Fraction) (p : Parted) (jobs done : ℕ) (roles : HaveRoles p) (r 
 
   -- the parts without it
   abbrev rest : Parted
-  rest = record p { running = None }
+  rest = completed p
 
   -- the state in which it is done
   abbrev done_then : State
@@ -564,11 +583,12 @@ module _ (k : Fraction) (p : Parted) (jobs done : ℕ) (roles : HaveRoles p) (r 
   pub finish_follows : Follows (course_of k rest jobs (done + r.job.value)) finished done_then
   finish_follows = record {
     valid = finishing_valid J finished.rules.finishes follows.valid;
-    keeps = record { sound = it.keeps.sound; jobs = it.keeps.jobs };
+    keeps = record { sound = it.keeps.sound; jobs = it.keeps.jobs; pressed = it.keeps.pressed };
     rules = it.rules;
     own = λ f m. by_finish f (member_either J.rules.finishes (finish_now r ∷ []) f m);
     over = λ f m. over_finish f (member_either J.rules.finishes (finish_now r ∷ []) f m);
     clock = it.clock;
+    pressed = it.pressed;
     ready = it.ready;
     jobs = it.jobs;
     done = it.done;
@@ -584,7 +604,7 @@ module _ (k : Fraction) (p : Parted) (jobs done : ℕ) (roles : HaveRoles p) (r 
     moved : PartOf rest (finishing J []) done_then
         × (value_sum (filter is_done done_then.tasks) ≡ value_sum (filter is_done z.tasks) + r.job.value)
     moved = part_does p (finishing J []) z part k rest (Prints (Complete z.clock r.number)) r.job.value deed refl
-        follows.clock (completes p roles (ready_once p (finishing J []) z part) r runs)
+        follows.clock refl (completes p roles (ready_once p (finishing J []) z part) r runs)
 
     it : Follows (course_of k rest jobs (done + r.job.value)) J done_then
     it = follows_on k p jobs done J z follows rest r.job.value done_then moved.0
@@ -623,7 +643,7 @@ none_runs_now k p jobs done roles none J z follows = by_running (running z) refl
       absurd (subst (λ o. IsMember r (option_to_list o)) none (subst (IsMember r) (running_list p roles) one))
 
 module _ (k : Fraction) (p q : Parted) (jobs done worth : ℕ) (roles : HaveRoles p) (r : Task)
-    (runs : p.running ≡ Some r) (rests : q ≡ record p { running = None }) (is : worth ≡ r.job.value) where
+    (runs : p.running ≡ Some r) (rests : q ≡ completed p) (is : worth ≡ r.job.value) where
   -- wherever the course is kept of, the job may finish, and the other is kept
   pub course_finishes : (n : ℕ) → r.number ≡ n
       → Finishes (course_of k p jobs done) n (course_of k q jobs (done + worth))
@@ -635,7 +655,7 @@ module _ (k : Fraction) (p q : Parted) (jobs done worth : ℕ) (roles : HaveRole
         (after z (Prints (Complete z.clock m)))) named
         (subst (λ o. Follows (course_of k o jobs (done + worth)) (with_finishes J (finish_now r ∷ []))
         (after z (Prints (Complete z.clock r.number)))) (sym rests)
-        (subst (λ v. Follows (course_of k (record p { running = None }) jobs (done + v))
+        (subst (λ v. Follows (course_of k (completed p) jobs (done + v))
         (with_finishes J (finish_now r ∷ []))
         (after z (Prints (Complete z.clock r.number)))) (sym is)
         (finish_follows k p jobs done roles r runs J z follows))),
@@ -657,7 +677,7 @@ runs_nowhere k p jobs done roles n other J z follows r runs named = by_running p
 
 -- the end changes nothing
 end_stays : (s : State) (value : ℕ) → after s (Prints (End value)) ≡ s
-end_stays s value = ap (λ ts. record { clock = s.clock; tasks = ts })
+end_stays s value = ap (λ ts. record s { tasks = ts })
     (map_each (λ t. with_role t t.role) s.tasks (λ t m. refl))
 
 -- where the end is taken, it is printed next

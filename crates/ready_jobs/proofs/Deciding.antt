@@ -1,8 +1,9 @@
 -- The open step of a state, where a job runs and where none does.
-use Rattle.std.proofs.Common.{Bool, ◌≡◌, ◌<◌, ◌≤◌, ◌∙◌, ap, sym, refl, Option, Some, None, ◌==◌, ◌&&◌, nat_le}
+use Rattle.std.proofs.Common.{Bool, not, ◌≡◌, ◌<◌, ◌≤◌, ◌∙◌, ap, sym, refl, Option, Some, None, ◌==◌, ◌&&◌, nat_le}
 use Rattle.std.proofs.Common.{if◌then◌else◌, lt-ltb, le-leb, find}
 use Rattle.std.specs.Bool.{then_some}
-use Rattle.dover_model.specs.declared.events.Event.TheVariants.{Complete, Preempt}
+use Rattle.dover_model.specs.Common.{is_less_dense, preempts}
+use Rattle.dover_model.specs.declared.events.Event.TheVariants.{Complete}
 use Rattle.dover_model.specs.declared.events.Task.{Task}
 use Rattle.dover_model.specs.Common.{Fraction, View, Move, Prints, decision, alarm, ◌or_else◌, runs, view, completion}
 use Rattle.dover_model.specs.Common.{dispatch, urgent_or, Waits, State, is_running, is_fresh, left}
@@ -63,11 +64,10 @@ module _ (k : Fraction) (version : Version) (s : State) (other : Move) where
         by_ready None None None a (Some x) = refl
         by_ready None None None a None = refl
 
--- a fresh job that is due before the running one, and fits the room, preempts it
+-- a fresh job that is due before the running one, and fits the room, preempts it if it doesn't yield
 pub preempts_is : (v : View) (r f : Task) → f.job.deadline < r.job.deadline → f.job.work ≤ v.privileged_room
-    → Prints (Preempt v.clock r.number f.number) ≡ decision_of v r f
+    → not (v.yields && is_less_dense f r) ≡ preempts v f r
 preempts_is v r f due fits = sym (
-    ap (λ b. if b && nat_le f.job.work v.privileged_room then Prints (Preempt v.clock r.number f.number) else Waits
-    f.number) (lt-ltb f.job.deadline r.job.deadline due)
-    ∙ ap (λ b. if b then Prints (Preempt v.clock r.number f.number) else Waits f.number)
-    (le-leb f.job.work v.privileged_room fits))
+    ap (λ b. (b && nat_le f.job.work v.privileged_room) && not (v.yields && is_less_dense f r))
+    (lt-ltb f.job.deadline r.job.deadline due)
+    ∙ ap (λ b. b && not (v.yields && is_less_dense f r)) (le-leb f.job.work v.privileged_room fits))

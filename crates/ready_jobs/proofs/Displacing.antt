@@ -19,21 +19,21 @@ pub record Displaces (was is : List Task) (from to : Pooled) : Type 0 where
   pub room : length is + length to.tasks ≤ to.room
   pub sum : length is + length to.tasks ≡ length was + length from.tasks
 
--- each that begins to wait costs 2d
-pub one_counted : (d before after held rest most : ℕ) → held ≡ rest + 1 → after ≤ before + 2 * d
-    → before + 2 * d * held ≤ most
-    → after + 2 * d * rest ≤ most
-one_counted d before after held rest most one cost low =
-    let split : 2 * d * held ≡ 2 * d * rest + 2 * d = ap (λ n. 2 * d * n) one ∙ omega arith in
+-- each that begins to wait costs d in each order
+pub one_counted : (orders d before after held rest most : ℕ) → held ≡ rest + 1 → after ≤ before + orders * d
+    → before + orders * d * held ≤ most
+    → after + orders * d * rest ≤ most
+one_counted orders d before after held rest most one cost low =
+    let split : orders * d * held ≡ orders * d * rest + orders * d = ap (λ n. orders * d * n) one ∙ omega arith in
     omega (arith, split, cost, low)
 
 -- one ceases to wait, and those that were held and the one that ran begin to
-pub take_counted : (d before one two three held items : ℕ) → items ≡ held → one ≤ before + 6 * d → two ≤ one + 2 * d
-    → three ≤ two + 2 * d * items
-    → three ≤ before + 6 * d + 2 * d * (held + 1)
-take_counted d before one two three held items same first next last =
-    let split : 2 * d * (held + 1) ≡ 2 * d * items + 2 * d =
-    ap (λ n. 2 * d * (n + 1)) (sym same) ∙ omega arith in
+pub take_counted : (orders d before one two three held items : ℕ) → items ≡ held → one ≤ before + 3 * orders * d
+    → two ≤ one + orders * d → three ≤ two + orders * d * items
+    → three ≤ before + orders * d * (4 + held)
+take_counted orders d before one two three held items same first next last =
+    let split : orders * d * (4 + held) ≡ orders * d * items + 4 * (orders * d) =
+    ap (λ n. orders * d * (4 + n)) (sym same) ∙ omega arith in
     omega (arith, split, first, next, last)
 
 -- the first of two parts goes into the second

@@ -29,13 +29,15 @@ use Rattle.ready_jobs.specs.Dues.{still_ticks}
 use Rattle.ready_jobs.proofs.Jumping.{silent as still_silent, due as still_due, within as still_within}
 use Rattle.dover_model.specs.Ready.{ready_part}
 use Rattle.dover_model.proofs.settled.Leading.{settles_append}
+use Rattle.dover_model.specs.Common.{is_open_job}
 use Rattle.dover_model.proofs.steps.ReadyParts.{change, after_change, step_ready, ready_then, done_then}
+use Rattle.dover_model.proofs.steps.ReadyParts.{pressed_by, after_pressed, pressed_ready}
 use Rattle.dover_model.proofs.valid.Limiting.{total_most}
 use Rattle.waiting_pool.specs.Reordered.{IsReordered}
 use Rattle.ready_jobs.specs.Parts.{Parted, HaveRole, HaveRoles, AreSound, ready_of, state_of}
 use Rattle.ready_jobs.specs.Following.{PartOf, SettlesTo}
 use Rattle.ready_jobs.specs.Changed.{AreOnce, Leaves}
-use Rattle.waiting_pool.proofs.Reordering.{filtered, mapped, further}
+use Rattle.waiting_pool.proofs.Reordering.{filtered, mapped, further, any_still}
 use Rattle.ready_jobs.proofs.Views.{AreApart, step_still}
 use Rattle.ready_jobs.proofs.Naming.{waits_says}
 use Rattle.ready_jobs.proofs.Seeing.{seen_fresh, waiting_list, privileged_list}
@@ -80,6 +82,14 @@ not_coming (Waits n) t h = by_bool (eqb t.number n) where
   by_bool false = h
 not_coming Ticks t h = h
 
+-- ---- that the state is pressed
+
+-- it is told by the ready jobs in any order
+pressed_still : (m : Move) (b : Bool) (xs ys : List Task) → IsReordered xs ys → pressed_by m b ys ≡ pressed_by m b xs
+pressed_still (Prints (Complete at n)) b xs ys same = ap (λ c. b && c) (any_still xs ys same is_open_job)
+pressed_still (Prints _) b xs ys same = refl
+pressed_still _ b xs ys same = refl
+
 -- ---- what is known of the jobs
 
 module _ (p : Parted) (J : Instance) (z : State) (part : PartOf p J z) where
@@ -97,6 +107,11 @@ module _ (p : Parted) (J : Instance) (z : State) (part : PartOf p J z) where
   pub ready_once : AreOnce (ready_of p)
   ready_once = once_still whole (ready_of p) part.ready whole_once
 
+  -- each is a job within the limits
+  whole_job : Each (λ t. IsJob t.job) z.tasks
+  whole_job t m = each_job IsJob z.tasks (subst (AllByRecursion IsJob) (sym part.keeps.jobs)
+      (valid_parts part.valid).each) t m
+
   whole_apart : AreApart whole
   whole_apart = record {
     own = once_own whole whole_once;
@@ -107,19 +122,20 @@ module _ (p : Parted) (J : Instance) (z : State) (part : PartOf p J z) where
         (part.keeps.sound.one_fresh t u (member_filter is_ready z.tasks t mt).0 (member_filter is_ready z.tasks u mu).0
         (is_fresh_role t fresh) (is_fresh_role u other));
     none_comes = λ t m. part.released t (member_filter is_ready z.tasks t m).0;
+    works = λ t m. (job_limits (whole_job t (member_filter is_ready z.tasks t m).0)).work;
   }
 
   -- the open step is that of the ready jobs
   pub part_step : open_step J.rules (state_of p) ≡ open_step J.rules z
   part_step =
-      step_still J.rules p.clock whole (ready_of p) part.ready whole_apart
-      ∙ ap (λ n. open_step J.rules (record { clock = n; tasks = whole })) (sym part.clock) ∙ step_ready J.rules z
+      step_still J.rules p.clock p.pressed whole (ready_of p) part.ready whole_apart
+      ∙ ap (λ n. open_step J.rules (record { clock = n; tasks = whole; pressed = p.pressed })) (sym part.clock)
+      ∙ ap (λ b. open_step J.rules (record { clock = z.clock; tasks = whole; pressed = b })) (sym part.pressed)
+      ∙ step_ready J.rules z
 
   -- each is a job within the limits
   pub part_job : Each (λ t. IsJob t.job) (ready_of p)
-  part_job t m = each_job IsJob z.tasks (subst (AllByRecursion IsJob) (sym part.keeps.jobs)
-      (valid_parts part.valid).each) t
-      (there t m)
+  part_job t m = whole_job t (there t m)
 
   -- they aren't worth too much
   part_total : (test : Task → Bool) → value_sum (filter test (ready_of p)) < 10 ^ 18
@@ -151,7 +167,7 @@ module _ (p : Parted) (J : Instance) (z : State) (part : PartOf p J z) where
     pub part_sound : AreSound p
     part_sound = record {
       own = once_own p.waiting (subst AreOnce (waiting_list p roles) (once_some is_waiting (ready_of p) ready_once));
-      modest = λ t m. (job_limits (part_job t (waits_there t m))).modest;
+      modest = λ t m. part_job t (waits_there t m);
       total = subst (λ l. value_sum l < 10 ^ 18) (privileged_list p roles) (part_total is_privileged);
       first = λ r mr h mh. part.keeps.sound.running_first r h (there r (busy_there r
           (member_front (option_to_list p.running) p.held r mr)))
@@ -166,18 +182,20 @@ module _ (p : Parted) (J : Instance) (z : State) (part : PartOf p J z) where
 
   -- the ready jobs after a deed
   pub part_does : (k : Fraction) (q : Parted) (m : Move) (worth : ℕ) → Deed k z Ticks m → q.version ≡ p.version
-      → (after z m).clock ≡ q.clock
+      → (after z m).clock ≡ q.clock → q.pressed ≡ pressed_by m p.pressed (ready_of q)
       → Leaves (change m) (ready_of p) (ready_of q) worth
       → PartOf q J (after z m)
       × (value_sum (filter is_done (after z m).tasks) ≡ value_sum (filter is_done z.tasks) + worth)
-  part_does k q m worth deed version clock leaves = (
+  part_does k q m worth deed version clock pressed leaves = (
     record {
       valid = part.valid;
       keeps = deed_kept J part.valid z part.keeps k m deed;
       version = part.version ∙ sym version;
       clock = clock;
-      ready = subst (λ l. IsReordered l (ready_of q)) (sym ready_is)
-          (further _ _ _ (filtered (map (change m) whole) (map (change m) (ready_of p)) moved is_ready) leaves.ready);
+      pressed = after_pressed z m ∙ sym (pressed_ready m z.pressed (after z m).tasks)
+          ∙ sym (pressed_still m z.pressed (filter is_ready (after z m).tasks) (ready_of q) ready_then_is)
+          ∙ ap (λ b. pressed_by m b (ready_of q)) part.pressed ∙ sym pressed;
+      ready = ready_then_is;
       released = subst (Each (λ t. is_coming t ≡ false)) (sym (after_change z m))
           (on_map (change m) (λ t. is_coming t ≡ false) z.tasks (λ t k. not_coming m t (part.released t k)));
     },
@@ -191,6 +209,10 @@ module _ (p : Parted) (J : Instance) (z : State) (part : PartOf p J z) where
     ready_is : filter is_ready (after z m).tasks ≡ filter is_ready (map (change m) whole)
     ready_is = ready_then k z part.keeps.sound m deed ∙ ap (filter is_ready) (after_change (ready_part z) m)
 
+    ready_then_is : IsReordered (filter is_ready (after z m).tasks) (ready_of q)
+    ready_then_is = subst (λ l. IsReordered l (ready_of q)) (sym ready_is)
+        (further _ _ _ (filtered (map (change m) whole) (map (change m) (ready_of p)) moved is_ready) leaves.ready)
+
     done_is : value_sum (filter is_done (after z m).tasks) ≡ value_sum (filter is_done z.tasks) + value_sum
         (filter is_done (map (change m) whole))
     done_is = done_then k z part.keeps.sound m deed
@@ -198,7 +220,7 @@ module _ (p : Parted) (J : Instance) (z : State) (part : PartOf p J z) where
 
   -- so after a step
   pub part_moves : (q : Parted) (m : Move) (worth : ℕ) → open_step J.rules z ≡ m → q.version ≡ p.version
-      → (after z m).clock ≡ q.clock
+      → (after z m).clock ≡ q.clock → q.pressed ≡ pressed_by m p.pressed (ready_of q)
       → Leaves (change m) (ready_of p) (ready_of q) worth
       → PartOf q J (after z m)
       × (value_sum (filter is_done (after z m).tasks) ≡ value_sum (filter is_done z.tasks) + worth)
@@ -218,7 +240,7 @@ ticked_idle n t idle = ap
 
 -- they are those of the state after ticks
 pub later_parts : (n : ℕ) (p : Parted) → HaveRoles p → state_of (parts_later n p) ≡ later_by n (state_of p)
-later_parts n p roles = ap (λ l. record { clock = p.clock + n; tasks = l }) (sym lists) where
+later_parts n p roles = ap (λ l. record { clock = p.clock + n; tasks = l; pressed = p.pressed }) (sym lists) where
   idle : (role : Role) (ts : List Task) → Each (λ t. t.role ≡ role) ts
       → ((t : Task) → is_running (with_role t role) ≡ false) → map (ticked_by n) ts ≡ ts
   idle role ts have test =
@@ -261,6 +283,7 @@ module _ (p : Parted) (roles : HaveRoles p) (J : Instance) (z : State) (part : P
     keeps = keeps;
     version = part.version;
     clock = ap (λ k. k + n) part.clock;
+    pressed = part.pressed;
     ready = subst (λ l. IsReordered l (ready_of (parts_later n p))) (sym (filter_later is_ready n (λ t. refl) z.tasks))
         (subst (IsReordered (map (ticked_by n) (filter is_ready z.tasks)))
         (sym (ap (λ (s : State). s.tasks) (later_parts n p roles)))
@@ -331,10 +354,11 @@ settles_none p J z mark part = record { state = z; steps = []; settles = refl; p
 -- a silent step that isn't a tick
 pub settles_one : (p q : Parted) (J : Instance) (z : State) (mark : ℕ) (m : Move) → PartOf p J z
     → open_step J.rules z ≡ m → waits_for_mark m ≡ false → IsSilent m
-    → q.version ≡ p.version → (after z m).clock ≡ q.clock → Leaves (change m) (ready_of p) (ready_of q) 0
+    → q.version ≡ p.version → (after z m).clock ≡ q.clock → q.pressed ≡ pressed_by m p.pressed (ready_of q)
+    → Leaves (change m) (ready_of p) (ready_of q) 0
     → SettlesTo q J z mark
-settles_one p q J z mark m part is early silent version clock leaves =
-    let it = part_moves p J z part q m 0 is version clock leaves in
+settles_one p q J z mark m part is early silent version clock pressed leaves =
+    let it = part_moves p J z part q m 0 is version clock pressed leaves in
     record {
       state = after z m;
       steps = open_at J.rules z ∷ [];

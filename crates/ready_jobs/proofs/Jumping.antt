@@ -10,6 +10,7 @@ use Rattle.dover_model.specs.Common.{waiting, is_running, Each, IsMember, View, 
 use Rattle.dover_model.specs.Common.{arrival, alarm, preempts, view, runs, declared_open_step, urgent_or}
 use Rattle.dover_model.specs.Common.{is_at_latest_start, Fraction, Rules, first, earlier, due_first, starts_before}
 use Rattle.dover_model.specs.Common.{ticked_by, later_by}
+use Rattle.dover_model.specs.Common.{by_density, waiting_order}
 use Rattle.ready_jobs.proofs.Deciding.{busy, free, busy_is, free_is}
 use Rattle.dover_model.specs.declared.events.Event.TheVariants.{Preempt, Release}
 use Rattle.dover_model.proofs.lists.Members.{some_same, by_bool, filter_member, member_filter, reduce_none, filter_none}
@@ -153,7 +154,7 @@ module _ (rules : Rules) (s : State) where
     by_running None none = sym (free_is rules.ratio rules.version s other None None None none
         (ap (λ p. next_of v p v.first_waiting) (ap (first (due_first rules.version))
         (filter_none is_held s.tasks (λ t member. (still.free none t member).1)))
-        ∙ ap (first (due_first rules.version))
+        ∙ ap (first (waiting_order rules.version (by_density rules.version s.pressed)))
         (filter_none is_waiting s.tasks (λ t member. (still.free none t member).0)))
         still.stale (none_arrives (find is_coming s.tasks) refl))
 

@@ -1,6 +1,6 @@
 -- The parts are kept where jobs go from one to another.
 use Rattle.std.proofs.Common.{◌-◌, ◌≡◌, ℕ, ◌+◌, ◌≤◌, ◌<◌, inl, inr, List, [], ◌∷◌, ◌++◌, length, map, refl, sym, ap}
-use Rattle.std.proofs.Common.{◌∙◌, subst, arith, Option, Some, None, option_to_list, option_map, length-append}
+use Rattle.std.proofs.Common.{Bool, ◌∙◌, subst, arith, Option, Some, None, option_to_list, option_map, length-append}
 use Rattle.std.proofs.lemmas.List.{length-map}
 use Rattle.dover_model.specs.Common.{JobFacts, entry_of, ticked_by, with_role, IsMember, Each}
 use Rattle.dover_model.specs.declared.events.Role.{Role}
@@ -79,6 +79,24 @@ parts_kept q rooms pool capacity running fresh held waiting are few most pool_ro
   small_append = each_append (λ t. t.number < no_number)
 
 module _ (p : Parted) (rooms : Lasting) (pool : Pooled) (capacity : ℕ) (kept : AreParts p rooms pool capacity) where
+  -- the parts are kept whether the state is pressed or not
+  pub pressed_kept : (pressed : Bool) → AreParts (record p { pressed = pressed }) rooms pool capacity
+  pressed_kept pressed = record {
+    roles = record {
+      running = kept.roles.running;
+      fresh = kept.roles.fresh;
+      held = kept.roles.held;
+      waiting = kept.roles.waiting;
+    };
+    held = kept.held;
+    few = kept.few;
+    small = kept.small;
+    most = kept.most;
+    pool_room = kept.pool_room;
+    held_room = kept.held_room;
+    stack_room = kept.stack_room;
+  }
+
   abbrev A : List Task
   A = option_to_list p.running
 

@@ -14,9 +14,9 @@ use Rattle.ready_jobs.proofs.Courses.{follows_count}
 
 module _ (c : Course) (J : Instance) (z : State) (follows : Follows c J z) where
   module _ (K : Instance) (j : JobFacts) (room : ℕ) (rules : K.rules ≡ J.rules) (valid : IsValid K)
-      (keeps : Keeps K (with_fresh (state_at j.release z.tasks) c.jobs j)) (known : j.release ≤ last_tick) where
+      (keeps : Keeps K (with_fresh z c.jobs j)) (known : j.release ≤ last_tick) where
     -- the course with a job that is released
-    pub release_follows : Follows (with_release c j room) K (with_fresh (state_at j.release z.tasks) c.jobs j)
+    pub release_follows : Follows (with_release c j room) K (with_fresh z c.jobs j)
     release_follows = record {
       valid = valid;
       keeps = keeps;
@@ -35,6 +35,7 @@ module _ (c : Course) (J : Instance) (z : State) (follows : Follows c J z) where
           each_append (λ t. t.number ≡ f.number → is_over t ≡ true) z.tasks (fresh_job c j ∷ [])
           (follows.over f (subst (λ (r : Rules). IsMember f r.finishes) rules m)) (not_fresh f of_before);
       clock = refl;
+      pressed = follows.pressed;
       ready = subst (λ ts. IsReordered ts (c.ready ++ fresh_job c j ∷ []))
           (sym (filter-append is_ready z.tasks (fresh_job c j ∷ [])))
           (both_parts _ _ _ _ follows.ready (same_order (fresh_job c j ∷ [])));

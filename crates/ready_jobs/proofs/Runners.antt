@@ -2,23 +2,23 @@
 use Rattle.std.proofs.Common.{◌≡◌, ℕ, refl, sym, ap, ◌∙◌, true, Some, None}
 use Rattle.dover_model.specs.declared.events.Role.TheVariants.{Running}
 use Rattle.dover_model.specs.declared.events.Task.{Task}
-use Rattle.dover_model.specs.Common.{Instance, is_ready, IsMember, State, running, is_running, state_at}
+use Rattle.dover_model.specs.Common.{Instance, is_ready, IsMember, State, running, is_running}
 use Rattle.dover_model.proofs.lists.Members.{found, not_found, filter_member, member_filter, some_same}
 use Rattle.dover_model.proofs.finishes.Readiness.{runner}
 use Rattle.dover_model.proofs.steps.Roles.{passes, is_running_role}
 use Rattle.dover_model.proofs.lists.Tests.{never}
-use Rattle.ready_jobs.specs.Course.{Course, Follows, Runs, RunsNowhere}
+use Rattle.ready_jobs.specs.Course.{Course, state_of_course, Follows, Runs, RunsNowhere}
 
 module _ (c : Course) where
   -- the ready job that runs
-  pub ready_runs : (r : Task) → running (state_at c.clock c.ready) ≡ Some r → Runs c r.number
+  pub ready_runs : (r : Task) → running (state_of_course c) ≡ Some r → Runs c r.number
   ready_runs r some J z follows =
       let it : IsMember r c.ready × (is_running r ≡ true) = found is_running c.ready r some in
       let there : IsMember r z.tasks × (is_ready r ≡ true) = member_filter _ _ _ (follows.ready.back r it.0) in
       (r, runner z follows.keeps.sound r there.0 (is_running_role r it.1), refl)
 
   -- another job doesn't
-  pub ready_other : (r : Task) → running (state_at c.clock c.ready) ≡ Some r → (n : ℕ) → (r.number ≡ n → ⊥)
+  pub ready_other : (r : Task) → running (state_of_course c) ≡ Some r → (n : ℕ) → (r.number ≡ n → ⊥)
       → RunsNowhere c n
   ready_other r some n differs J z follows t runs same =
       let it = ready_runs r some J z follows in
@@ -26,7 +26,7 @@ module _ (c : Course) where
       differs (sym it.2 ∙ ap (λ (u : Task). u.number) one ∙ same)
 
   -- where no ready job runs, none does
-  pub none_runs : running (state_at c.clock c.ready) ≡ None → (n : ℕ) → RunsNowhere c n
+  pub none_runs : running (state_of_course c) ≡ None → (n : ℕ) → RunsNowhere c n
   none_runs none n J z follows t runs same =
       let it : IsMember t z.tasks × (is_running t ≡ true) = found is_running z.tasks t runs in
       let ready : is_ready t ≡ true = passes is_ready t Running true (is_running_role t it.1) refl in

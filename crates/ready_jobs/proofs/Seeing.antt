@@ -1,6 +1,8 @@
 -- What is seen of the ready jobs by their roles.
 use Rattle.std.proofs.Common.{◌≡◌, ℕ, ◌-◌, ◌≤◌, ◌<◌, inl, inr, List, [], ◌∷◌, ◌++◌, map, min, refl, sym, ap, ◌∙◌, subst}
-use Rattle.std.proofs.Common.{Bool, true, false, cond, arith, nat_le, Option, Some, None, option_map, option_to_list}
+use Rattle.std.specs.Prelude.{◌||◌}
+use Rattle.std.specs.List.{list_any}
+use Rattle.std.proofs.Common.{not, Bool, true, false, cond, arith, nat_le, Option, Some, None, option_map, option_to_list}
 use Rattle.std.proofs.Common.{filter, find, fold, eq-eqb, ne_eqb, append-nil}
 use Rattle.std.proofs.lemmas.Bool.{cases_lt}
 use Rattle.std.proofs.lemmas.List.Elements.{filter-append}
@@ -15,14 +17,15 @@ use Rattle.dover_model.specs.Common.{earlier, with_role, is_at_latest_start, IsM
 use Rattle.dover_model.proofs.steps.EntryOrders.{strict_by, key_less}
 use Rattle.dover_model.proofs.lists.Members.{reduce_none, filter_member, member_filter, some_same, find_none, find_head}
 use Rattle.dover_model.proofs.steps.Roles.{passes}
-use Rattle.dover_model.proofs.lists.Tests.{none_is_some}
+use Rattle.dover_model.proofs.lists.Members.{each_append}
+use Rattle.dover_model.specs.Common.{is_open_job}
+use Rattle.dover_model.proofs.lists.Tests.{none_is_some, never}
 use Rattle.ready_jobs.specs.Dues.{until_latest, until_done, still_ticks}
 use Rattle.held_stack.specs.Stack.{IsByDeadline, IsDueBeforeAll}
 use Rattle.waiting_pool.specs.Pools.{HaveOwnNumbers}
 use Rattle.ready_jobs.specs.Parts.{Parted, HaveRole, HaveRoles, ready_of, state_of, head_of}
 use Rattle.waiting_pool.proofs.Reordering.{first_is, first_only}
-use Rattle.ready_jobs.proofs.Views.{own_some}
-use Rattle.waiting_pool.proofs.Pooling.{apart_or_one}
+use Rattle.ready_jobs.proofs.Views.{own_some, apart_or_one}
 
 -- ---- those that pass
 
@@ -118,6 +121,37 @@ module _ (q : Parted) (roles : HaveRoles q) where
   pub seen_coming : find is_coming (ready_of q) ≡ None
   seen_coming = find_none is_coming (ready_of q) coming_list
 
+-- ---- that some job is ready
+
+-- each ready job is open
+all_open : (q : Parted) → HaveRoles q → Each (λ t. is_open_job t ≡ true) (ready_of q)
+all_open q roles =
+    both (option_to_list q.running) (option_to_list q.fresh ++ (q.held ++ q.waiting))
+    (of_role Running (option_to_list q.running) (λ t. refl) roles.running)
+    (both (option_to_list q.fresh) (q.held ++ q.waiting)
+    (of_role Fresh (option_to_list q.fresh) (λ t. refl) roles.fresh)
+    (both q.held q.waiting (of_role Held q.held (λ t. refl) roles.held)
+    (of_role Waiting q.waiting (λ t. refl) roles.waiting))) where
+      both : (xs ys : List Task) → Each (λ t. is_open_job t ≡ true) xs → Each (λ t. is_open_job t ≡ true) ys
+          → Each (λ t. is_open_job t ≡ true) (xs ++ ys)
+      both = each_append (λ t. is_open_job t ≡ true)
+
+      of_role : (role : Role) (ts : List Task) → ((t : Task) → is_open_job (with_role t role) ≡ true)
+          → HaveRole role ts → Each (λ t. is_open_job t ≡ true) ts
+      of_role role ts test have t m = passes is_open_job t role true (have t m) (test t)
+
+any_open : (ts : List Task) (none : Bool) → Each (λ t. is_open_job t ≡ true) ts → (none ≡ true → ts ≡ [])
+    → (ts ≡ [] → none ≡ true) → not none ≡ list_any is_open_job ts
+any_open [] true each to from = refl
+any_open [] false each to from = never (from refl)
+any_open (t ∷ ts) true each to from = absurd (let clash : t ∷ ts ≡ [] = to refl in cc)
+any_open (t ∷ ts) false each to from = sym (ap (λ b. b || list_any is_open_job ts) (each t (inl refl)))
+
+-- so one is where they aren't none
+pub some_open : (q : Parted) → HaveRoles q → (none : Bool) → (none ≡ true → ready_of q ≡ [])
+    → (ready_of q ≡ [] → none ≡ true) → not none ≡ list_any is_open_job (ready_of q)
+some_open q roles none = any_open (ready_of q) none (all_open q roles)
+
 -- ---- the held jobs
 
 -- where none comes before the first of a list, it is the first
@@ -186,7 +220,8 @@ module _ (v : Version) (s : State) (tasks : List Task) (own : HaveOwnNumbers tas
         (filter (is_at_latest_start s) tasks) x
         (filter_member (is_at_latest_start s) tasks x top.0 (eq-eqb (latest_start x) s.clock same))
         (λ y m. top.1 y (member_filter (is_at_latest_start s) tasks y m).0)
-        (apart_or_one _ (strict_by (λ e. e.latest) v) _ (own_some (is_at_latest_start s) tasks own))
+        (apart_or_one (starts_before v) (λ a b. (strict_by (λ e. e.latest) v).total (entry_of a) (entry_of b)) _
+        (own_some (is_at_latest_start s) tasks own))
 
   -- the first of those at their latest start, by the latest start of the first of all
   none_by : (o : Option Task) → first (starts_before v) tasks ≡ o → option_map latest_start o ≡ None

@@ -118,6 +118,7 @@ waits_settles k mark p q n roles waits it kept J z rules part =
     settles_one p q J z mark (Waits n) part
     (sym (part_step p J z part) ∙ ap (λ r. open_step r (state_of p)) rules ∙ waits) refl refl
     (ap (λ (r : Parted). r.version) kept) (part.clock ∙ sym (ap (λ (r : Parted). r.clock) kept))
+    (ap (λ (r : Parted). r.pressed) kept)
     (subst (λ m. Leaves (change (Waits m)) (ready_of p) (ready_of q) 0)
     (fresh_named p roles (record { ratio = k; version = p.version; finishes = [] }) n waits it.0 it.1)
     (subst (λ r. Leaves (change (Waits it.0.number)) (ready_of p) (ready_of r) 0) (sym kept)
@@ -285,9 +286,9 @@ ticks_count n p q later = omega (
   as_many_run (Some t) = refl
 
 -- what it costs that one more waits
-pub waits_cost : (p q r : Parted) (d old new : ℕ) → Stayed p q → r.waiting ≡ q.waiting → new ≤ old + 2 * d
-    → new ≤ old + 2 * d * (length r.waiting - length p.waiting)
-waits_cost p q r d old new it same spent =
+pub waits_cost : (p q r : Parted) (orders d old new : ℕ) → Stayed p q → r.waiting ≡ q.waiting
+    → new ≤ old + orders * d → new ≤ old + orders * d * (length r.waiting - length p.waiting)
+waits_cost p q r orders d old new it same spent =
     let one : length r.waiting - length p.waiting ≡ 1 = omega (arith, one_more p q it, ap length same) in
-    let all : 2 * d * (length r.waiting - length p.waiting) ≡ 2 * d * 1 = ap (λ n. 2 * d * n) one in
+    let all : orders * d * (length r.waiting - length p.waiting) ≡ orders * d * 1 = ap (λ n. orders * d * n) one in
     omega (arith, all, spent)

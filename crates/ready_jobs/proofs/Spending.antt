@@ -24,9 +24,12 @@ use Rattle.dover_model.proofs.runs.Spending.{so_far_for, spent_few, spent_on, sp
 use Rattle.waiting_pool.specs.Reordered.{IsReordered}
 use Rattle.ready_jobs.specs.Parts.{Parted, HaveRoles, ready_of, state_of}
 use Rattle.ready_jobs.specs.Changed.{Leaves}
-use Rattle.ready_jobs.specs.Course.{Course, Follows, IsCourse, Reached, course_of, fresh_job, with_release}
+use Rattle.dover_model.specs.Step.{pressed_after}
+use Rattle.waiting_pool.specs.Pools.{orders_of}
+use Rattle.ready_jobs.specs.Changed.{completed}
+use Rattle.ready_jobs.specs.Course.{Course, state_of_course, Follows, IsCourse, Reached, course_of, fresh_job, with_release}
 use Rattle.ready_jobs.specs.Spending.{HasPaid, HasPaidFreely}
-use Rattle.ready_jobs.proofs.Costing.{sum_ready, over_not_waiting, fewer_wait, cost_whole}
+use Rattle.ready_jobs.proofs.Costing.{sum_ready, over_not_waiting, fewer_wait, cost_whole, few_orders}
 use Rattle.ready_jobs.proofs.Courses.{follows_count, follows_fewer, follows_part, follows_step, course_takes}
 use Rattle.ready_jobs.proofs.Seeing.{waiting_list}
 use Rattle.dover_model.proofs.steps.ReadyParts.{change}
@@ -35,7 +38,7 @@ use Rattle.dover_model.proofs.steps.ReadyParts.{change}
 
 -- the comparisons for all jobs released so far are few
 pub paid_jobs : (c : Course) (start now : ℕ) → HasPaid c start now → CostsAtMost c.jobs start now
-paid_jobs c start now paid = spent_few c.jobs (state_at c.clock c.ready) start now paid
+paid_jobs c start now paid = spent_few c.jobs (state_of_course c) start now paid
 
 pub paid_few : (c : Course) (J : Instance) (z : State) → Follows c J z → (start now : ℕ) → HasPaid c start now
     → CostsAtMost (length J.jobs) start now
@@ -64,7 +67,7 @@ over_waits t over = ap one_if (over_not_waiting t over)
 module _ (c : Course) (J : Instance) (z : State) (follows : Follows c J z) where
   -- the ready jobs, at their clock
   abbrev here : State
-  here = state_at c.clock c.ready
+  here = state_of_course c
 
   weighs_same : (f : Task → ℕ) → ((t : Task) → is_over t ≡ true → f t ≡ 0) → sum_by f c.ready ≡ sum_by f z.tasks
   weighs_same f none = follows.ready.weighs f ∙ sum_ready f z.tasks (λ t m. none t)
@@ -105,14 +108,15 @@ idles_fall J valid (x ∷ xs) s u keeps idles =
       omega (arith, open_falls J valid J.rules s keeps, rest.1),
     )
 
--- 2 * d for each that waits more is paid by that
-more_pays : (d n ev eu wv wu mv mu t before now : ℕ) → eu ≤ ev → eu + wv ≤ ev + wu → t ≡ wu - wv
+-- d in each order for each that waits more is paid by that
+more_pays : (orders d n ev eu wv wu mv mu t before now : ℕ) → orders ≤ 3 → eu ≤ ev → eu + wv ≤ ev + wu → t ≡ wu - wv
     → mv + 2 * ev ≡ 4 * n + wv → mu + 2 * eu ≡ 4 * n + wu
-    → now ≤ before + 2 * d * t → now + 20 * d * mv ≤ before + 20 * d * mu
-more_pays d n ev eu wv wu mv mu t before now less falls more v u cost =
+    → now ≤ before + orders * d * t → now + 20 * d * mv ≤ before + 20 * d * mu
+more_pays orders d n ev eu wv wu mv mu t before now few less falls more v u cost =
+    let each : orders * (d * t) ≤ 3 * (d * t) = mul-le orders (d * t) 3 (d * t) few (omega arith) in
     let all : 20 * d * (t + mv) ≤ 20 * d * mu =
     mul-le (20 * d) (t + mv) (20 * d) mu (omega arith) (omega (arith, less, falls, more, v, u)) in
-    omega (arith, all, cost)
+    omega (arith, all, each, cost)
 
 -- how many of these wait
 count_waiting : (p : Parted) → HaveRoles p → waiting_count (state_of p) ≡ length p.waiting
@@ -122,7 +126,8 @@ module _ (k : Fraction) (p q : Parted) (jobs done mark : ℕ) (m : Move) (roles 
     (old : IsCourse (course_of k p jobs done)) (reached : Reached (course_of k q jobs done) old.0 old.1 mark m) where
   -- jobs that begin to wait by silent steps pay for that
   pub silent_pays : (before now : ℕ)
-      → ((d : ℕ) → length p.waiting + 1 < 2 ^ d → now ≤ before + 2 * d * (length q.waiting - length p.waiting))
+      → ((d : ℕ) → length p.waiting + 1 < 2 ^ d
+      → now ≤ before + orders_of p.version * d * (length q.waiting - length p.waiting))
       → (start : ℕ) → HasPaid (course_of k p jobs done) start before → HasPaid (course_of k q jobs done) start now
   silent_pays before now cost start paid =
       let c : Course = course_of k p jobs done in
@@ -131,9 +136,9 @@ module _ (k : Fraction) (p q : Parted) (jobs done mark : ℕ) (m : Move) (roles 
       (idles_over old.0 old.2.valid reached.idles.0 old.1 u old.2.keeps old.2.over reached.idles.1) in
       spent_paid (course_of k q jobs done) old.0 u reached.follows start now
       (spent_on jobs old.1 u start before now
-      (λ d enough. more_pays d jobs (exits old.1) (exits u) (waiting_count old.1) (waiting_count u)
+      (λ d enough. more_pays (orders_of p.version) d jobs (exits old.1) (exits u) (waiting_count old.1) (waiting_count u)
       (waits_among jobs old.1) (waits_among jobs u) (length q.waiting - length p.waiting) before now
-      falls.0 falls.1
+      (few_orders p.version) falls.0 falls.1
       (ap (λ n. n - length p.waiting) (sym (count_waiting q roles_then)
       ∙ same_waiting (course_of k q jobs done) old.0 u reached.follows)
       ∙ ap (λ n. waiting_count u - n) (sym (count_waiting p roles) ∙ same_waiting c old.0 old.1 old.2))
@@ -146,18 +151,18 @@ module _ (k : Fraction) (p q : Parted) (jobs done mark : ℕ) (m : Move) (roles 
 
 -- what is paid freely is paid
 pub freely_paid : (c : Course) (start now : ℕ) → HasPaidFreely c start now → HasPaid c start now
-freely_paid c start now paid = freely_spent c.jobs (state_at c.clock c.ready) start now paid
+freely_paid c start now paid = freely_spent c.jobs (state_of_course c) start now paid
 
 module _ (c : Course) (J : Instance) (z : State) (follows : Follows c J z) where
   -- what may still come is that of all jobs
-  same_freely : exits_freely (state_at c.clock c.ready) ≡ exits_freely z
+  same_freely : exits_freely (state_of_course c) ≡ exits_freely z
   same_freely = ap (λ n. sum_by (weight exits_scale n 0) c.ready) (sym follows.clock)
       ∙ weighs_same c J z follows (weight exits_scale z.clock 0) (over_weighs z.clock 0)
 
   -- so is what has come
-  freely_same : (4 * c.jobs + waiting_count (state_at c.clock c.ready)) - 2 * exits_freely (state_at c.clock c.ready)
+  freely_same : (4 * c.jobs + waiting_count (state_of_course c)) - 2 * exits_freely (state_of_course c)
       ≡ (4 * c.jobs + waiting_count z) - 2 * exits_freely z
-  freely_same = ap (λ w. (4 * c.jobs + w) - 2 * exits_freely (state_at c.clock c.ready)) (same_waiting c J z follows)
+  freely_same = ap (λ w. (4 * c.jobs + w) - 2 * exits_freely (state_of_course c)) (same_waiting c J z follows)
       ∙ ap (λ e. (4 * c.jobs + waiting_count z) - 2 * e) same_freely
 
   module _ (start now : ℕ) where
@@ -170,7 +175,8 @@ module _ (c : Course) (J : Instance) (z : State) (follows : Follows c J z) where
 module _ (k : Fraction) (p q : Parted) (jobs done mark : ℕ) (m : Move) (roles : HaveRoles p) (roles_then : HaveRoles q)
     (old : IsCourse (course_of k p jobs done)) (reached : Reached (course_of k q jobs done) old.0 old.1 mark m)
     (before now : ℕ)
-    (cost : (d : ℕ) → length p.waiting + 1 < 2 ^ d → now ≤ before + 2 * d * (length q.waiting - length p.waiting)) where
+    (cost : (d : ℕ) → length p.waiting + 1 < 2 ^ d
+    → now ≤ before + orders_of p.version * d * (length q.waiting - length p.waiting)) where
   abbrev then : State
   then = reached.state
 
@@ -185,9 +191,9 @@ module _ (k : Fraction) (p q : Parted) (jobs done mark : ℕ) (m : Move) (roles 
         idles_wait old.0 old.2.valid old.0.rules reached.idles.0 old.1 then reached.idles.1 in
         freely_then (course_of k q jobs done) old.0 then reached.follows start now
         (λ d enough. joins (20 * d * was) (20 * d * ((4 * jobs + waiting_count then) - 2 * exits_freely then))
-        (spent d enough) (more_pays d jobs most (exits_freely then) (waiting_count old.1) (waiting_count then)
+        (spent d enough) (more_pays (orders_of p.version) d jobs most (exits_freely then) (waiting_count old.1) (waiting_count then)
         was ((4 * jobs + waiting_count then) - 2 * exits_freely then) (length q.waiting - length p.waiting) before now
-        low (omega (arith, low, grown))
+        (few_orders p.version) low (omega (arith, low, grown))
         (ap (λ n. n - length p.waiting) (sym (count_waiting q roles_then)
         ∙ same_waiting (course_of k q jobs done) old.0 then reached.follows)
         ∙ ap (λ n. waiting_count then - n) (sym (count_waiting p roles) ∙ same_waiting c old.0 old.1 old.2))
@@ -226,9 +232,9 @@ module _ (k : Fraction) (p q : Parted) (jobs done mark : ℕ) (m : Move) (roles 
 -- a job that finishes costs nothing
 pub finish_pays : (k : Fraction) (p : Parted) (jobs done worth : ℕ) → HaveRoles p → (start now : ℕ)
     → HasPaidFreely (course_of k p jobs done) start now
-    → HasPaid (course_of k (record p { running = None }) jobs (done + worth)) start now
+    → HasPaid (course_of k (completed p) jobs (done + worth)) start now
 finish_pays k p jobs done worth roles start now paid =
-    freely_paid (course_of k (record p { running = None }) jobs (done + worth)) start now
+    freely_paid (course_of k (completed p) jobs (done + worth)) start now
     (λ d enough. joins (20 * d * was) (20 * d * is) (paid d enough)
     (mul-le (20 * d) was (20 * d) is (omega arith) grows)) where
       rest : List Task
@@ -260,11 +266,12 @@ finish_pays k p jobs done worth roles start now paid =
 module _ (k : Fraction) (p q : Parted) (jobs done worth : ℕ) (e : Event)
     (prints : open_step (record { ratio = k; version = p.version; finishes = [] }) (state_of p) ≡ Prints e)
     (version : q.version ≡ p.version) (clock : q.clock ≡ p.clock)
+    (pressed : q.pressed ≡ pressed_after e p.pressed (ready_of q))
     (leaves : Leaves (change (Prints e)) (ready_of p) (ready_of q) worth)
     (old : IsCourse (course_of k p jobs done)) where
   -- those that begin and cease to wait by a printed step pay for it
   pub printed_pays : (before now : ℕ)
-      → ((d : ℕ) → length (ready_of p) + 1 < 2 ^ d → now ≤ before + cost_of d (state_of p) (Prints e))
+      → ((d : ℕ) → length (ready_of p) + 1 < 2 ^ d → now ≤ before + cost_of (orders_of p.version) d (state_of p) (Prints e))
       → (start : ℕ) → HasPaid (course_of k p jobs done) start before
       → HasPaid (course_of k q jobs (done + worth)) start now
   printed_pays before now cost start paid =
@@ -274,15 +281,15 @@ module _ (k : Fraction) (p q : Parted) (jobs done worth : ℕ) (e : Event)
       let is : open_step (bare J.rules) z ≡ Prints e =
       sym (over_open J.rules z old.2.over) ∙ sym (follows_step k p jobs done J z old.2) ∙ prints in
       spent_paid (course_of k q jobs (done + worth)) J (after z (Prints e))
-      (course_takes k p q jobs done worth e prints version clock leaves J z old.2) start now
+      (course_takes k p q jobs done worth e prints version clock pressed leaves J z old.2) start now
       (subst (λ m. HasSpentFor jobs (after z m) start now) is
       (spent_on jobs z (after z (open_step (bare J.rules) z)) start before now
       (λ d enough. subst (λ n. now + 20 * d * waits_among n z
       ≤ before + 20 * d * waits_among n (after z (open_step (bare J.rules) z))) old.2.jobs
-      (open_pays J old.2.valid J.rules z old.2.keeps d before now
+      (open_pays J old.2.valid J.rules z old.2.keeps (orders_of p.version) d before now (few_orders p.version)
       (subst (λ n. now ≤ before + n)
-      (ap (cost_of d (state_of p)) (sym is)
-      ∙ cost_whole p (finishing J []) z (follows_part k p jobs done J z old.2) (bare J.rules) d)
+      (ap (cost_of (orders_of p.version) d (state_of p)) (sym is)
+      ∙ cost_whole p (finishing J []) z (follows_part k p jobs done J z old.2) (bare J.rules) (orders_of p.version) d)
       (cost d (let fewer = follows_fewer c J z old.2 in omega (arith, enough, fewer))))))
       (paid_spent c J z old.2 start before paid)))
 
@@ -308,4 +315,4 @@ pub release_pays : (c : Course) (j : JobFacts) (ready : List Task) → c.clock �
     → HasPaid (record (with_release c j c.room) { ready = ready }) start now
 release_pays c j ready later same start now paid =
     spent_order (c.jobs + 1) j.release (c.ready ++ fresh_job c j ∷ []) ready same start now
-    (spent_more c.jobs (state_at c.clock c.ready) j.release (fresh_job c j) later (inr refl) start now paid)
+    (spent_more c.jobs (state_of_course c) j.release (fresh_job c j) later (inr refl) start now paid)

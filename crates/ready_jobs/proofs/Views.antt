@@ -1,22 +1,40 @@
 -- The view of jobs in another order.
-use Rattle.std.proofs.Common.{◌≡◌, ℕ, ◌+◌, ◌-◌, List, map, sym, ap, ◌∙◌, Bool, true, false, nat_lt, filter, sum_by}
+use Rattle.std.proofs.Common.{◌≡◌, ◌≢◌, inl, inr, ℕ, ◌+◌, ◌-◌, List, map, sym, ap, ◌∙◌, Bool, true, false, nat_lt, filter, sum_by}
+use Rattle.std.proofs.lemmas.Bool.{cases_eq}
 use Rattle.dover_model.specs.declared.events.Version.{Version}
 use Rattle.dover_model.specs.declared.events.Entry.{Entry}
 use Rattle.dover_model.specs.declared.events.Task.{Task}
 use Rattle.dover_model.specs.Common.{IsStrictOrder, entry_of, is_due_before, is_start_before, Rules, State, is_coming}
 use Rattle.dover_model.specs.Common.{is_fresh, is_waiting, is_held, is_running, is_privileged, left, least}
 use Rattle.dover_model.specs.Common.{demand_up_to, room, first, view, open_step, is_at_latest_start, Each, EachTwo}
+use Rattle.dover_model.specs.Common.{by_density, waiting_order}
+use Rattle.dover_model.proofs.steps.DensityOrder.{HasWork, waiting_one_way, waiting_onward, waiting_total}
 use Rattle.dover_model.proofs.steps.EntryOrders.{strict_by}
 use Rattle.dover_model.proofs.lists.Members.{map_same, member_filter}
 use Rattle.dover_model.proofs.lists.Tests.{never}
 use Rattle.waiting_pool.specs.Reordered.{IsReordered}
 use Rattle.waiting_pool.specs.Pools.{HaveOwnNumbers}
-use Rattle.waiting_pool.proofs.Pooling.{apart_or_one}
-use Rattle.waiting_pool.proofs.Reordering.{filtered, mapped, found_same, first_same, least_same}
+use Rattle.waiting_pool.proofs.Reordering.{filtered, mapped, found_same, first_same, first_same_of, least_same}
 
 -- of some of them
 pub own_some : (p : Task → Bool) (tasks : List Task) → HaveOwnNumbers tasks → HaveOwnNumbers (filter p tasks)
 own_some p tasks own t u mt mu = own t u (member_filter p tasks t mt).0 (member_filter p tasks u mu).0
+
+-- of two jobs of a list one comes before the other, or they are one
+pub apart_or_one : (before : Task → Task → Bool)
+    → ((a b : Task) → a.number ≢ b.number → before a b ≡ false → before b a ≡ true) → (tasks : List Task)
+    → HaveOwnNumbers tasks → EachTwo (λ t u. before t u ≡ false → before u t ≡ false → t ≡ u) tasks
+apart_or_one before total tasks own t u mt mu ahead back = elim (cases_eq t.number u.number) [
+  | inl same ↦ own t u mt mu same
+  | inr other ↦ never (sym back ∙ total t u other ahead)
+]
+
+-- the first waiting job
+pub waiting_still : (version : Version) (dense : Bool) (xs ys : List Task) → IsReordered xs ys → HaveOwnNumbers xs
+    → Each HasWork xs → first (waiting_order version dense) ys ≡ first (waiting_order version dense) xs
+waiting_still version dense xs ys same own works =
+    first_same_of HasWork (waiting_order version dense) (waiting_one_way version dense) (waiting_onward version dense)
+    xs ys same works (apart_or_one (waiting_order version dense) (waiting_total version dense) xs own)
 
 -- the first by an order of entries
 pub first_still : (before : Entry → Entry → Bool) → IsStrictOrder before → (xs ys : List Task) → IsReordered xs ys
@@ -25,7 +43,7 @@ pub first_still : (before : Entry → Entry → Bool) → IsStrictOrder before �
 first_still before strict xs ys same own = first_same (λ a b. before (entry_of a) (entry_of b))
     (λ a b. strict.one_way (entry_of a) (entry_of b))
     (λ a b c. strict.onward (entry_of a) (entry_of b) (entry_of c)) xs ys same
-    (apart_or_one before strict xs own)
+    (apart_or_one (λ a b. before (entry_of a) (entry_of b)) (λ a b. strict.total (entry_of a) (entry_of b)) xs own)
 
 -- the room
 pub room_still : (clock : ℕ) (xs ys : List Task) → IsReordered xs ys → room clock ys ≡ room clock xs
@@ -46,13 +64,14 @@ pub record AreApart (tasks : List Task) : Type 0 where
   pub one_runs : EachTwo (λ t u. is_running t ≡ true → is_running u ≡ true → t ≡ u) tasks
   pub one_fresh : EachTwo (λ t u. is_fresh t ≡ true → is_fresh u ≡ true → t ≡ u) tasks
   pub none_comes : Each (λ t. is_coming t ≡ false) tasks
+  pub works : Each HasWork tasks
 
-module _ (version : Version) (clock : ℕ) (xs ys : List Task) (same : IsReordered xs ys) (known : AreApart xs) where
+module _ (version : Version) (clock : ℕ) (pressed : Bool) (xs ys : List Task) (same : IsReordered xs ys) (known : AreApart xs) where
   abbrev here : State
-  here = record { clock = clock; tasks = xs }
+  here = record { clock = clock; tasks = xs; pressed = pressed }
 
   abbrev there : State
-  there = record { clock = clock; tasks = ys }
+  there = record { clock = clock; tasks = ys; pressed = pressed }
 
   -- the view is the same
   pub view_still : view version there ≡ view version here
@@ -63,9 +82,9 @@ module _ (version : Version) (clock : ℕ) (xs ys : List Task) (same : IsReorder
     first_still (is_due_before version) (strict_by (λ e. e.deadline) version) (filter is_held xs) (filter is_held ys)
         (filtered xs ys same is_held)
         (own_some is_held xs known.own),
-    first_still (is_due_before version) (strict_by (λ e. e.deadline) version) (filter is_waiting xs)
-        (filter is_waiting ys)
-        (filtered xs ys same is_waiting) (own_some is_waiting xs known.own),
+    waiting_still version (by_density version pressed) (filter is_waiting xs) (filter is_waiting ys)
+        (filtered xs ys same is_waiting) (own_some is_waiting xs known.own)
+        (λ t m. known.works t (member_filter is_waiting xs t m).0),
     first_still (is_start_before version) (strict_by (λ e. e.latest) version)
         (filter (is_at_latest_start here) (filter is_waiting xs))
         (filter (is_at_latest_start here) (filter is_waiting ys))
@@ -77,7 +96,8 @@ module _ (version : Version) (clock : ℕ) (xs ys : List Task) (same : IsReorder
   )
 
 -- so is the open step
-pub step_still : (rules : Rules) (clock : ℕ) (xs ys : List Task) → IsReordered xs ys → AreApart xs
-    → open_step rules (record { clock = clock; tasks = ys }) ≡ open_step rules (record { clock = clock; tasks = xs })
-step_still rules clock xs ys same known = cc
-    (found_same xs ys same is_running known.one_runs, view_still rules.version clock xs ys same known)
+pub step_still : (rules : Rules) (clock : ℕ) (pressed : Bool) (xs ys : List Task) → IsReordered xs ys → AreApart xs
+    → open_step rules (record { clock = clock; tasks = ys; pressed = pressed })
+    ≡ open_step rules (record { clock = clock; tasks = xs; pressed = pressed })
+step_still rules clock pressed xs ys same known = cc
+    (found_same xs ys same is_running known.one_runs, view_still rules.version clock pressed xs ys same known)

@@ -1,8 +1,8 @@
 -- A run of the jobs that were released so far: what is kept of it, and what that says.
-use Rattle.std.specs.Prelude.{◌≡◌, ◌≤◌, ◌+◌, ℕ, List, [], ◌∷◌, ◌++◌, length, ◌&&◌, nat_le, false, true, Option, Some}
+use Rattle.std.specs.Prelude.{◌≡◌, ◌≤◌, ◌+◌, ℕ, List, [], ◌∷◌, ◌++◌, length, ◌&&◌, nat_le, Bool, false, true, Option, Some}
 use Rattle.std.specs.Prelude.{None, option_map, filter}
 use Rattle.dover_model.specs.Common.{last_tick, Fraction, JobFacts, Declaration, under, bare, Instance, IsValid}
-use Rattle.dover_model.specs.Common.{with_finishes, State, is_coming, is_done, running, value_sum, state_at, Move}
+use Rattle.dover_model.specs.Common.{with_finishes, State, is_coming, is_done, running, value_sum, Move}
 use Rattle.dover_model.specs.Common.{Prints, open_step, after, view, AreOwn, Step, waits_for_mark, AreOverFor}
 use Rattle.dover_model.specs.Common.{finish_now, Each, Keeps, IsBefore, Idles, IsSilent, GoesOn, WaitsUntil, PrintsNext}
 use Rattle.dover_model.specs.Common.{is_ready}
@@ -16,11 +16,12 @@ use Rattle.ready_jobs.specs.Parts.{Parted, ready_of}
 use Rattle.ready_jobs.specs.Deeds.{Finds, step_at}
 use Rattle.ready_jobs.specs.declared.actions.Action.{Action}
 
--- what is kept of a run: the clock, the jobs that aren't over, in no told order, how many there are in all, what those
--- done are worth, and how many ready jobs there is room for
+-- what is kept of a run: the clock, whether the state is pressed, the jobs that aren't over, in no told order, how many
+-- there are in all, what those done are worth, and how many ready jobs there is room for
 pub record Course : Type 0 where
   pub rules : Declaration
   pub clock : ℕ
+  pub pressed : Bool
   pub ready : List Task
   pub jobs : ℕ
   pub done : ℕ
@@ -31,6 +32,7 @@ abbrev pub course_of : Fraction → Parted → (jobs done : ℕ) → Course
 course_of ratio p jobs done = record {
   rules = record { ratio = ratio; version = p.version };
   clock = p.clock;
+  pressed = p.pressed;
   ready = ready_of p;
   jobs = jobs;
   done = done;
@@ -45,6 +47,7 @@ pub record Follows (c : Course) (J : Instance) (z : State) : Type 0 where
   pub own : AreOwn J
   pub over : AreOverFor J.rules.finishes z
   pub clock : z.clock ≡ c.clock
+  pub pressed : z.pressed ≡ c.pressed
   pub ready : IsReordered (filter is_ready z.tasks) c.ready
   pub jobs : length z.tasks ≡ c.jobs
   pub done : value_sum (filter is_done z.tasks) ≡ c.done
@@ -55,13 +58,25 @@ pub record Follows (c : Course) (J : Instance) (z : State) : Type 0 where
 abbrev pub IsCourse : Course → Type 0
 IsCourse c = (J : Instance) × (z : State) × Follows c J z
 
+-- the state of the jobs that are kept
+abbrev pub state_of_course : Course → State
+state_of_course c = record { clock = c.clock; tasks = c.ready; pressed = c.pressed }
+
 -- the job that would get the processor if none ran, by its number: of the first held and the first waiting one
 abbrev pub successor_of : Course → Option ℕ
-successor_of c = option_map (λ t. t.number) (next_ready c.rules.version (state_at c.clock c.ready))
+successor_of c = option_map (λ t. t.number) (next_ready c.rules.version (state_of_course c))
 
 -- the course of no jobs
 abbrev pub new_course : Declaration → ℕ → Course
-new_course rules room = record { rules = rules; clock = 0; ready = []; jobs = 0; done = 0; room = room }
+new_course rules room = record {
+  rules = rules;
+  clock = 0;
+  pressed = false;
+  ready = [];
+  jobs = 0;
+  done = 0;
+  room = room;
+}
 
 -- the job that was released last
 abbrev pub fresh_job : Course → JobFacts → Task
@@ -73,6 +88,7 @@ with_release c j room =
     record {
       rules = c.rules;
       clock = j.release;
+      pressed = c.pressed;
       ready = c.ready ++ fresh_job c j ∷ [];
       jobs = c.jobs + 1;
       done =
@@ -89,12 +105,12 @@ pub record Reached (c : Course) (J : Instance) (z : State) (mark : ℕ) (m : Mov
   pub comes : open_step J.rules state ≡ m
   pub stops : IsSilent m → (waits_for_mark m && nat_le mark c.clock) ≡ true
   pub waits : (waits_for_mark m && nat_le mark c.clock) ≡ true
-      → WaitsUntil J.rules mark z (record { clock = mark; tasks = state.tasks })
+      → WaitsUntil J.rules mark z (record state { clock = mark })
 
 -- what comes before the mark: this printed step, or nothing, and then the clock is at the mark if some job isn't over
 abbrev pub Comes : Instance → State → ℕ → State → Option Event → Type 0
 Comes J z mark y (Some e) = (open_step J.rules y ≡ Prints e) × IsBefore J.rules mark y × GoesOn y
-Comes J z mark y None = WaitsUntil J.rules mark z (state_at mark y.tasks) × (GoesOn y → y.clock ≡ mark)
+Comes J z mark y None = WaitsUntil J.rules mark z (record y { clock = mark }) × (GoesOn y → y.clock ≡ mark)
 
 -- the state to which silent steps have led, and what comes there before the mark
 pub record Settled (c : Course) (J : Instance) (z : State) (mark : ℕ) (next : Option Event) : Type 0 where
@@ -146,8 +162,8 @@ Runs c number = (J : Instance) (z : State) → Follows c J z → (r : Task) × (
 -- the deed is the open step of the ready jobs, which prints e
 pub record IsDue (c : Course) (deed : Action) (e : Event) : Type 0 where
   pub prints : step_at c.clock deed ≡ Prints e
-  pub opens : open_step (under c.rules []) (state_at c.clock c.ready) ≡ Prints e
-  pub finds : Finds (view c.rules.version (state_at c.clock c.ready)) deed
+  pub opens : open_step (under c.rules []) (state_of_course c) ≡ Prints e
+  pub finds : Finds (view c.rules.version (state_of_course c)) deed
 
 -- the course is one that goes on from the other: it has the same rules, jobs and room, and no more ready jobs
 pub record GoesOnFrom (c d : Course) : Type 0 where

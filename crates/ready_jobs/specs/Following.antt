@@ -11,6 +11,7 @@ pub record PartOf (p : Parted) (J : Instance) (z : State) : Type 0 where
   pub keeps : Keeps J z
   pub version : J.rules.version ≡ p.version
   pub clock : z.clock ≡ p.clock
+  pub pressed : z.pressed ≡ p.pressed
   pub ready : IsReordered (filter is_ready z.tasks) (ready_of p)
   pub released : Each (λ t. is_coming t ≡ false) z.tasks
 

@@ -8,6 +8,7 @@ abbrev pub parted_of : Inside → Parted
 parted_of a = record {
   version = a.pool.version;
   clock = a.clock;
+  pressed = a.pressed;
   running = a.running;
   fresh = a.fresh;
   held = reverse a.held.items;

@@ -1,20 +1,22 @@
 -- The jobs that are ready, by their roles.
-use Rattle.std.specs.Prelude.{◌≡◌, ◌≤◌, ◌<◌, ◌+◌, ◌^◌, ℕ, List, [], ◌∷◌, ◌++◌, length, map, Option, Some, None}
+use Rattle.std.specs.Prelude.{◌≡◌, ◌≤◌, ◌<◌, ◌+◌, ◌^◌, ℕ, Bool, List, [], ◌∷◌, ◌++◌, length, map, Option, Some, None}
 use Rattle.std.specs.Option.{option_to_list}
 use Rattle.dover_model.specs.declared.events.Version.{Version}
 use Rattle.dover_model.specs.declared.events.Task.{Task}
 use Rattle.dover_model.specs.declared.events.Role.{Role}
 use Rattle.dover_model.specs.declared.events.Role.TheVariants.{Fresh, Waiting, Held, Running}
 use Rattle.dover_model.specs.Common.{most_ready, entry_of, State, latest_start, value_sum, Each}
+use Rattle.dover_model.specs.Common.{waiting_order, by_density}
 use Rattle.held_stack.specs.Kept.{Lasting, AreRoomsOf}
 use Rattle.waiting_pool.specs.Pools.{Pooled, HaveOwnNumbers, AreModest}
 use Rattle.waiting_pool.specs.Short.{no_number}
 
--- the version that breaks ties, the clock, the running and the fresh job, the held jobs, the one due first before the
--- others, those that wait, and how many ready jobs there is room for
+-- the version of the rules, the clock, whether the state is pressed, the running and the fresh job, the held jobs, the
+-- one due first before the others, those that wait, and how many ready jobs there is room for
 pub record Parted : Type 0 where
   pub version : Version
   pub clock : ℕ
+  pub pressed : Bool
   pub running : Option Task
   pub fresh : Option Task
   pub held : List Task
@@ -27,7 +29,11 @@ ready_of p = option_to_list p.running ++ (option_to_list p.fresh ++ (p.held ++ p
 
 -- as a state
 abbrev pub state_of : Parted → State
-state_of p = record { clock = p.clock; tasks = ready_of p }
+state_of p = record { clock = p.clock; tasks = ready_of p; pressed = p.pressed }
+
+-- which of two waiting jobs comes first: by deadline, or by density
+abbrev pub first_by : Parted → Task → Task → Bool
+first_by p = waiting_order p.version (by_density p.version p.pressed)
 
 -- each has this role
 abbrev pub HaveRole : Role → List Task → Type 0

@@ -2,7 +2,10 @@
 ghost use Rattle.std.specs.Prelude.{◌≡◌, ℕ, ◌+◌, ◌*◌, ◌^◌, ◌<◌, ◌≤◌, length};
 ghost use Rattle.dover_model.specs.declared.events.Event.{Event};
 ghost use Rattle.dover_model.specs.declared.events.Event.TheVariants.{Run, Preempt, Take, Complete, Abandon};
+ghost use Rattle.std.specs.Prelude.{true};
 ghost use Rattle.dover_model.specs.Common.{Prints, view, cost_of};
+ghost use Rattle.dover_model.specs.Step.{pressed_after};
+ghost use Rattle.waiting_pool.specs.Pools.{orders_of};
 ghost use Rattle.ready_jobs.specs.Parts.{AreSound, ready_of, state_of};
 ghost use Rattle.ready_jobs.specs.Changed.{AreOnce, Leaves, IsNext, printed};
 ghost use Rattle.ready_jobs.specs.Deeds.{Finds, Does};
@@ -23,7 +26,9 @@ impl Parts {
         requires next { (at : ℕ) × IsNext self.old (Complete at number) }
         ensures leaves { (at : ℕ) →
             Leaves (printed (Complete at number)) (ready_of self.old) (ready_of self.new) result }
-        ensures kept { self.new ≡ record self.old { running = self.new.running } }
+        ensures pressed { (at : ℕ) → self.new.pressed
+            ≡ pressed_after (Complete at number) self.old.pressed (ready_of self.new) }
+        ensures kept { self.new ≡ record self.old { pressed = self.new.pressed; running = self.new.running } }
     {
         self.laws();
         match self.running() {
@@ -50,7 +55,7 @@ impl Parts {
         self.resume();
     }
 
-    // The first waiting job by deadline runs.
+    // The first waiting job runs.
     #[inline(always)]
     fn start_next<L: Ledger>(&mut self, number: u32, comparisons: &mut Comparisons<L>)
         requires sound { AreSound self.old }
@@ -60,8 +65,10 @@ impl Parts {
         ensures leaves { (at : ℕ) → Leaves (printed (Run at number)) (ready_of self.old) (ready_of self.new) 0 }
         ensures kept { self.new ≡ record self.old { running = self.new.running; waiting = self.new.waiting } }
         ensures cost { (at d : ℕ) → length (ready_of self.old) + 1 < 2 ^ d →
-            comparisons.new ≤ comparisons.old + cost_of d (state_of self.old) (Prints (Run at number)) }
-        ensures once { (d : ℕ) → length (ready_of self.old) + 1 < 2 ^ d → comparisons.new ≤ comparisons.old + 6 * d }
+            comparisons.new ≤ comparisons.old
+                + cost_of (orders_of self.old.version) d (state_of self.old) (Prints (Run at number)) }
+        ensures once { (d : ℕ) → length (ready_of self.old) + 1 < 2 ^ d →
+            comparisons.new ≤ comparisons.old + 3 * orders_of self.old.version * d }
     {
         self.laws();
         self.start(comparisons);
@@ -114,9 +121,10 @@ impl Parts {
           waiting = self.new.waiting;
         } }
         ensures cost { (at d : ℕ) → length (ready_of self.old) + 1 < 2 ^ d →
-            comparisons.new ≤ comparisons.old + cost_of d (state_of self.old) (Prints (Take at stops starts)) }
+            comparisons.new ≤ comparisons.old
+                + cost_of (orders_of self.old.version) d (state_of self.old) (Prints (Take at stops starts)) }
         ensures once { (d : ℕ) → length (ready_of self.old) + 1 < 2 ^ d →
-            comparisons.new ≤ comparisons.old + 6 * d + 2 * d * (length self.old.held + 1) }
+            comparisons.new ≤ comparisons.old + orders_of self.old.version * d * (4 + length self.old.held) }
     {
         self.laws();
         if let Some(r) = self.running() {
@@ -134,10 +142,12 @@ impl Parts {
         requires once { AreOnce (ready_of self.old) }
         requires next { (at : ℕ) × IsNext self.old (Abandon at number) }
         ensures leaves { (at : ℕ) → Leaves (printed (Abandon at number)) (ready_of self.old) (ready_of self.new) 0 }
-        ensures kept { self.new ≡ record self.old { waiting = self.new.waiting } }
+        ensures kept { self.new ≡ record self.old { pressed = true; waiting = self.new.waiting } }
         ensures cost { (at d : ℕ) → length (ready_of self.old) + 1 < 2 ^ d →
-            comparisons.new ≤ comparisons.old + cost_of d (state_of self.old) (Prints (Abandon at number)) }
-        ensures once { (d : ℕ) → length (ready_of self.old) + 1 < 2 ^ d → comparisons.new ≤ comparisons.old + 6 * d }
+            comparisons.new ≤ comparisons.old
+                + cost_of (orders_of self.old.version) d (state_of self.old) (Prints (Abandon at number)) }
+        ensures once { (d : ℕ) → length (ready_of self.old) + 1 < 2 ^ d →
+            comparisons.new ≤ comparisons.old + 3 * orders_of self.old.version * d }
     {
         self.laws();
         self.abandon(comparisons);
@@ -152,7 +162,10 @@ impl Parts {
         requires does { (e : Event) × Does self.old action e }
         ensures leaves { (e : Event) → Does self.old action e →
             Leaves (printed e) (ready_of self.old) (ready_of self.new) result }
+        ensures pressed { (e : Event) → Does self.old action e →
+            self.new.pressed ≡ pressed_after e self.old.pressed (ready_of self.new) }
         ensures kept { self.new ≡ record self.old {
+          pressed = self.new.pressed;
           running = self.new.running;
           fresh = self.new.fresh;
           held = self.new.held;
@@ -160,9 +173,10 @@ impl Parts {
         } }
         ensures fewer { length (ready_of self.new) ≤ length (ready_of self.old) }
         ensures cost { (e : Event) (d : ℕ) → Does self.old action e → length (ready_of self.old) + 1 < 2 ^ d →
-            comparisons.new ≤ comparisons.old + cost_of d (state_of self.old) (Prints e) }
+            comparisons.new ≤ comparisons.old
+                + cost_of (orders_of self.old.version) d (state_of self.old) (Prints e) }
         ensures once { (e : Event) (d : ℕ) → Does self.old action e → length (ready_of self.old) + 1 < 2 ^ d →
-            comparisons.new ≤ comparisons.old + 2 * d * (4 + wait_again e self.old.held) }
+            comparisons.new ≤ comparisons.old + orders_of self.old.version * d * (4 + wait_again e self.old.held) }
     {
         match action {
             Action::Resume { number } => self.resume_next(number),

@@ -1,22 +1,24 @@
 //! The ready jobs by their roles, what is seen of them, and how they change.
 ghost use Rattle.std.specs.Prelude.{◌≡◌, ℕ, ◌+◌, ◌-◌, ◌*◌, ◌^◌, ◌<◌, ◌≤◌, [], ◌∷◌, ◌++◌, length, map, max, Some, None};
-ghost use Rattle.std.specs.Prelude.{reverse, vec_capacity, option_map, IfOk, IsOk, OnOk, OnErr, IsTrue, ◌↔◌};
-ghost use Rattle.std.specs.List.{filter, find};
+ghost use Rattle.std.specs.Prelude.{reverse, vec_capacity, option_map, IfOk, IsOk, OnOk, OnErr, IsTrue, ◌↔◌, ◌&&◌, true, false};
+ghost use Rattle.std.specs.List.{filter, find, list_any};
 ghost use Rattle.std.specs.Option.{option_to_list, ForSome};
 ghost use Rattle.dover_model.specs.declared.events.Role.TheVariants.{Fresh, Waiting, Held, Running};
 ghost use Rattle.dover_model.specs.declared.events.Task.{Task};
 ghost use Rattle.dover_model.specs.Common.{most_ready, last_tick, entry_of, IsRatio, is_fresh, is_coming, is_waiting};
 ghost use Rattle.dover_model.specs.Common.{running, held, waiting, privileged, room, left, latest_start, value_sum};
 ghost use Rattle.dover_model.specs.Common.{due_first, starts_before, first, open_step, view, with_role};
+ghost use Rattle.dover_model.specs.Common.{is_less_dense, by_density, preempts, is_open_job};
 ghost use Rattle.dover_model.specs.Common.{is_at_latest_start, resumed, runs, displaced, ticked_by, Each};
 ghost use Rattle.ready_jobs.specs.Cases.{decision_of, alarm_of, next_ready};
 ghost use Rattle.ready_jobs.specs.Dues.{still_ticks, until_done};
-ghost use Rattle.ready_jobs.specs.Changed.{made_wait};
+ghost use Rattle.ready_jobs.specs.Changed.{made_wait, completed};
 ghost use Rattle.ready_jobs.specs.Deeds.{step_at, Finds};
 ghost use Rattle.waiting_pool.specs.Reordered.{IsReordered};
 ghost use Rattle.waiting_pool.specs.Short.{no_number};
+ghost use Rattle.waiting_pool.specs.Pools.{orders_of};
 ghost use Rattle.waiting_pool.specs.Slots.{seen};
-ghost use Rattle.ready_jobs.specs.Parts.{Parted, AreSound, HaveRoles, ready_of, state_of, head_of, tail_of};
+ghost use Rattle.ready_jobs.specs.Parts.{Parted, AreSound, HaveRoles, ready_of, state_of, first_by, head_of, tail_of};
 
 use crate::actions::Action;
 use crate::held::{peek, pop, push};
@@ -34,6 +36,7 @@ use waiting_pool::{Pool, ShortTask, left};
 #[derive(Drop)]
 pub struct Parts {
     clock: u64,
+    pressed: bool,
     running: Option<Task>,
     fresh: Option<Task>,
     held: Vec<ShortTask>,
@@ -90,6 +93,26 @@ fn later_running(running: &mut Option<Task>, ticks: u64)
     }
 }
 
+// The job i is less dense than j.
+#[inline(always)]
+fn is_less_dense(i: &Task, j: &Task) -> bool
+    ensures { result ≡ is_less_dense i.now j.now }
+{
+    u128::from(i.job.value()) * u128::from(j.job.work())
+        < u128::from(j.job.value()) * u128::from(i.job.work())
+}
+
+// Waiting jobs are chosen by density.
+#[inline(always)]
+fn by_density(version: Version, pressed: bool) -> bool
+    ensures { result ≡ by_density version pressed }
+{
+    match version {
+        Version::One | Version::Two | Version::Three => false,
+        Version::Four => pressed,
+    }
+}
+
 // How many jobs it is.
 #[inline(always)]
 fn count_of(job: &Option<Task>) -> u32
@@ -106,10 +129,11 @@ impl Parts {
     /// No jobs, and no room.
     pub fn new(alloc: Global, version: Version) -> Result<Parts, Memory>
         ensures { IfOk result (λ p. p ≡ record
-            { version = version; clock = 0; running = None; fresh = None; held = []; waiting = []; room = 0 }) }
+            { version = version; clock = 0; pressed = false; running = None; fresh = None; held = []; waiting = []; room = 0 }) }
     {
         Ok(Parts {
             clock: 0,
+            pressed: false,
             running: None,
             fresh: None,
             held: Vec::new(alloc),
@@ -136,6 +160,14 @@ impl Parts {
         ensures { result ≡ self.now.clock }
     {
         self.clock
+    }
+
+    /// Whether the state is pressed: a job was abandoned, and since then some job was ready at each moment.
+    #[inline(always)]
+    pub fn pressed(&self) -> bool
+        ensures { result ≡ self.now.pressed }
+    {
+        self.pressed
     }
 
     /// The version.
@@ -197,14 +229,14 @@ impl Parts {
         peek(&self.held)
     }
 
-    /// The first waiting job by deadline.
+    /// The first waiting job: by deadline, or by density.
     #[inline(always)]
     pub(crate) fn first_waiting(&self) -> Option<&ShortTask>
         requires { AreSound self.now }
-        ensures is { seen result ≡ first (due_first self.now.version) self.now.waiting }
-        ensures seen { seen result ≡ first (due_first self.now.version) (waiting (state_of self.now)) }
+        ensures is { seen result ≡ first (first_by self.now) self.now.waiting }
+        ensures seen { seen result ≡ (view self.now.version (state_of self.now)).first_waiting }
     {
-        self.pool.first_deadline()
+        self.pool.first_waiting(self.pressed)
     }
 
     /// Of the waiting jobs at their latest start, the first in that order.
@@ -251,6 +283,27 @@ impl Parts {
         r.job.value() + self.rooms.value_sum()
     }
 
+    // The fresh job f yields to the running job r: waiting jobs are chosen by density, and it is less dense.
+    #[inline(always)]
+    fn yields(&self, r: &Task, f: &Task) -> bool
+        ensures { result ≡ (by_density self.now.version self.now.pressed && is_less_dense f.now r.now) }
+    {
+        by_density(self.version(), self.pressed) && is_less_dense(f, r)
+    }
+
+    // The fresh job f preempts the running job r: it is due before r, its work fits the room, and it doesn't yield.
+    #[inline(always)]
+    fn preempts(&self, r: &Task, f: &Task) -> bool
+        requires sound { AreSound self.now }
+        requires running { self.now.running ≡ Some r.now }
+        ensures { result ≡ preempts (view self.now.version (state_of self.now)) f.now r.now }
+    {
+        if f.job.deadline() < r.job.deadline() && f.job.work() <= self.room_busy(r) {
+            return !self.yields(r, f);
+        }
+        false
+    }
+
     // The fresh job f preempts the running job r, or waits.
     #[inline(always)]
     fn decision(&self, r: &Task, f: &Task) -> Action
@@ -260,7 +313,7 @@ impl Parts {
             ≡ decision_of (view self.now.version (state_of self.now)) r.now f.now }
         ensures finds { Finds (view self.now.version (state_of self.now)) result }
     {
-        if f.job.deadline() < r.job.deadline() && f.job.work() <= self.room_busy(r) {
+        if self.preempts(r, f) {
             Action::Preempt {
                 stops: r.number,
                 starts: f.number,
@@ -354,7 +407,7 @@ impl Parts {
         }
     }
 
-    // The number of the first waiting job by deadline.
+    // The number of the first waiting job.
     #[inline(always)]
     fn first_to_wait(&self) -> Option<u32>
         requires { AreSound self.now }
@@ -466,12 +519,21 @@ impl Parts {
         Ok(())
     }
 
+    // Whether the state stays pressed: it is, and some job is ready.
+    #[inline(always)]
+    fn stays_pressed(&self) -> bool
+        ensures { result ≡ (self.now.pressed && list_any is_open_job (ready_of self.now)) }
+    {
+        self.pressed && !self.is_empty()
+    }
+
     /// The running job is done, or goes.
     #[inline(always)]
     pub fn complete(&mut self)
-        ensures { self.new ≡ record self.old { running = None } }
+        ensures { self.new ≡ completed self.old }
     {
         self.running = None;
+        self.pressed = self.stays_pressed();
     }
 
     /// The first held job runs on.
@@ -489,18 +551,19 @@ impl Parts {
         }
     }
 
-    /// The first waiting job by deadline runs.
+    /// The first waiting job runs.
     pub fn start<L: Ledger>(&mut self, comparisons: &mut Comparisons<L>)
         requires sound { AreSound self.old }
         requires free { self.old.running ≡ None }
         ensures runs { self.new.running
-            ≡ option_map (λ o. with_role o Running) (first (due_first self.old.version) self.old.waiting) }
-        ensures rest { (o : Task) → first (due_first self.old.version) self.old.waiting ≡ Some o →
+            ≡ option_map (λ o. with_role o Running) (first (first_by self.old) self.old.waiting) }
+        ensures rest { (o : Task) → first (first_by self.old) self.old.waiting ≡ Some o →
             IsReordered self.old.waiting (o ∷ self.new.waiting) }
         ensures kept { self.new ≡ record self.old { running = self.new.running; waiting = self.new.waiting } }
-        ensures count { (d : ℕ) → length self.old.waiting + 1 < 2 ^ d → comparisons.new ≤ comparisons.old + 6 * d }
+        ensures count { (d : ℕ) → length self.old.waiting + 1 < 2 ^ d →
+            comparisons.new ≤ comparisons.old + 3 * orders_of self.old.version * d }
     {
-        if let Some(o) = self.pool.take_deadline(comparisons) {
+        if let Some(o) = self.pool.take_waiting(self.pressed, comparisons) {
             self.running = Some(in_role(&o, Role::Running));
         }
     }
@@ -525,21 +588,24 @@ impl Parts {
         requires fresh { self.old.fresh ≡ Some f.now }
         ensures waits { IsReordered (with_role f.now Waiting ∷ self.old.waiting) self.new.waiting }
         ensures kept { self.new ≡ record self.old { fresh = None; waiting = self.new.waiting } }
-        ensures count { (d : ℕ) → length self.old.waiting + 1 < 2 ^ d → comparisons.new ≤ comparisons.old + 2 * d }
+        ensures count { (d : ℕ) → length self.old.waiting + 1 < 2 ^ d →
+            comparisons.new ≤ comparisons.old + orders_of self.old.version * d }
     {
         self.fresh = None;
         self.pool.add(in_role(f, Role::Waiting), comparisons);
     }
 
-    /// The first waiting job by latest start is taken out, and gone.
+    /// The first waiting job by latest start is taken out, and gone. From then on the state is pressed.
     pub fn abandon<L: Ledger>(&mut self, comparisons: &mut Comparisons<L>)
         requires sound { AreSound self.old }
         ensures rest { (x : Task) → first (starts_before self.old.version) self.old.waiting ≡ Some x →
             IsReordered self.old.waiting (x ∷ self.new.waiting) }
-        ensures kept { self.new ≡ record self.old { waiting = self.new.waiting } }
-        ensures count { (d : ℕ) → length self.old.waiting + 1 < 2 ^ d → comparisons.new ≤ comparisons.old + 6 * d }
+        ensures kept { self.new ≡ record self.old { pressed = true; waiting = self.new.waiting } }
+        ensures count { (d : ℕ) → length self.old.waiting + 1 < 2 ^ d →
+            comparisons.new ≤ comparisons.old + 3 * orders_of self.old.version * d }
     {
         self.pool.take_latest(comparisons);
+        self.pressed = true;
     }
 
     /// A job comes, and is fresh.
@@ -593,7 +659,7 @@ impl Parts {
           waiting = self.new.waiting;
         } }
         ensures count { (d : ℕ) → length (ready_of self.old) + 1 < 2 ^ d →
-            comparisons.new ≤ comparisons.old + 6 * d + 2 * d * (length self.old.held + 1) }
+            comparisons.new ≤ comparisons.old + orders_of self.old.version * d * (4 + length self.old.held) }
     {
         self.pool.take_latest(comparisons);
         self.pool.add(in_role(r, Role::Waiting), comparisons);

@@ -5,10 +5,11 @@ ghost use Rattle.std.specs.Prelude.{option_map, filter};
 ghost use Rattle.dover_model.specs.declared.events.Event.{Event};
 ghost use Rattle.dover_model.specs.declared.events.Event.TheVariants.{End};
 ghost use Rattle.dover_model.specs.Common.{last_tick, most_jobs, most_ready, most_total, Instance, under, State};
-ghost use Rattle.dover_model.specs.Common.{state_at, is_held, Prints, open_step, view, waits_for_mark};
+ghost use Rattle.dover_model.specs.Common.{is_held, Prints, open_step, view, waits_for_mark};
 ghost use Rattle.dover_model.specs.declared.events.Version.TheVariants.{Three};
 ghost use Rattle.waiting_pool.specs.Reordered.{IsReordered};
-ghost use Rattle.ready_jobs.specs.Course.{Course, Follows, IsCourse, Reached, Settled, new_course, fresh_job, IsDue};
+ghost use Rattle.waiting_pool.specs.Pools.{orders_of};
+ghost use Rattle.ready_jobs.specs.Course.{Course, state_of_course, Follows, IsCourse, Reached, Settled, new_course, fresh_job, IsDue};
 ghost use Rattle.ready_jobs.specs.Course.{SettlesAt, StepsBefore, ComesNext, Passes, Takes, with_release, Finishes};
 ghost use Rattle.ready_jobs.specs.Course.{Runs, RunsNowhere, successor_of};
 ghost use Rattle.ready_jobs.specs.Deeds.{Finds, step_at};
@@ -38,7 +39,8 @@ pub struct Ready {
 }
 
 impl Model for Ready {
-    ghost use Rattle.ready_jobs.specs.Course.{Course, IsCourse, course_of};
+    ghost use Rattle.waiting_pool.specs.Pools.{orders_of};
+ghost use Rattle.ready_jobs.specs.Course.{Course, IsCourse, course_of};
 
     ghost Value = { Course };
 
@@ -116,6 +118,14 @@ impl Ready {
         ensures { result ≡ self.now.room }
     {
         self.parts.room()
+    }
+
+    /// Whether the state is pressed: a job was abandoned, and since then some job was ready at each moment.
+    #[inline(always)]
+    pub fn pressed(&self) -> bool
+        ensures { result ≡ self.now.pressed }
+    {
+        self.parts.pressed()
     }
 
     /// The version of the rules.
@@ -196,8 +206,8 @@ impl Ready {
         ensures reached { (J : Instance) (z : State) → Follows self.old J z
             → Reached self.new J z mark (step_at self.new.clock result) }
         ensures step { step_at self.new.clock result
-            ≡ open_step (under self.new.rules []) (state_at self.new.clock self.new.ready) }
-        ensures finds { Finds (view self.new.rules.version (state_at self.new.clock self.new.ready)) result }
+            ≡ open_step (under self.new.rules []) (state_of_course self.new) }
+        ensures finds { Finds (view self.new.rules.version (state_of_course self.new)) result }
         ensures kept { self.new ≡ record self.old { clock = self.new.clock; ready = self.new.ready } }
         ensures fewer { length self.new.ready ≡ length self.old.ready }
         ensures low { self.new.clock ≤ mark }
@@ -205,7 +215,8 @@ impl Ready {
         ensures freely { (start : ℕ) → HasPaid self.old start comparisons.old
             → (self.new.clock ≡ self.old.clock → HasPaidFreely self.old start comparisons.old)
             → HasPaidFreely self.new start comparisons.new }
-        ensures once { (d : ℕ) → length self.old.ready + 1 < 2 ^ d → comparisons.new ≤ comparisons.old + 4 * d }
+        ensures once { (d : ℕ) → length self.old.ready + 1 < 2 ^ d →
+            comparisons.new ≤ comparisons.old + 2 * orders_of self.old.rules.version * d }
         ensures held { filter is_held self.new.ready ≡ filter is_held self.old.ready }
     {
         self.parts.laws();
@@ -232,7 +243,8 @@ impl Ready {
         ensures freely { (start : ℕ) → HasPaid self.old start comparisons.old
             → (self.new.clock ≡ self.old.clock → HasPaidFreely self.old start comparisons.old)
             → HasPaidFreely self.new start comparisons.new }
-        ensures once { (d : ℕ) → length self.old.ready + 1 < 2 ^ d → comparisons.new ≤ comparisons.old + 4 * d }
+        ensures once { (d : ℕ) → length self.old.ready + 1 < 2 ^ d →
+            comparisons.new ≤ comparisons.old + 2 * orders_of self.old.rules.version * d }
         ensures held { filter is_held self.new.ready ≡ filter is_held self.old.ready }
     {
         if self.parts.is_empty() {
@@ -264,7 +276,8 @@ impl Ready {
         ensures freely { (start : ℕ) → HasPaid self.old start comparisons.old
             → (self.new.clock ≡ self.old.clock → HasPaidFreely self.old start comparisons.old)
             → HasPaidFreely self.new start comparisons.new }
-        ensures once { (d : ℕ) → length self.old.ready + 1 < 2 ^ d → comparisons.new ≤ comparisons.old + 4 * d }
+        ensures once { (d : ℕ) → length self.old.ready + 1 < 2 ^ d →
+            comparisons.new ≤ comparisons.old + 2 * orders_of self.old.rules.version * d }
         ensures held { filter is_held self.new.ready ≡ filter is_held self.old.ready }
     {
         self.parts.laws();
@@ -280,11 +293,16 @@ impl Ready {
     fn take<L: Ledger>(&mut self, due: &DueStep, comparisons: &mut Comparisons<L>)
         requires { IsDue self.old due.now.action due.now.event }
         ensures after { Passes self.old due.now.event self.new }
-        ensures kept { self.new ≡ record self.old { ready = self.new.ready; done = self.new.done } }
+        ensures kept { self.new ≡ record self.old {
+          pressed = self.new.pressed;
+          ready = self.new.ready;
+          done = self.new.done;
+        } }
         ensures fewer { length self.new.ready ≤ length self.old.ready }
         ensures paid { (start : ℕ) → HasPaid self.old start comparisons.old → HasPaid self.new start comparisons.new }
         ensures once { (d : ℕ) → length self.old.ready + 1 < 2 ^ d →
-            comparisons.new ≤ comparisons.old + 2 * d * (4 + wait_again due.now.event (filter is_held self.old.ready)) }
+            comparisons.new ≤ comparisons.old
+                + orders_of self.old.rules.version * d * (4 + wait_again due.now.event (filter is_held self.old.ready)) }
     {
         self.parts.laws();
         let worth = self.parts.apply(due.action, comparisons);
@@ -323,6 +341,7 @@ impl Ready {
         ensures stepped { StepsBefore self.old mark self.new result }
         ensures kept { self.new ≡ record self.old {
           clock = self.new.clock;
+          pressed = self.new.pressed;
           ready = self.new.ready;
           done = self.new.done;
         } }
@@ -365,6 +384,7 @@ impl Ready {
         ensures taken { Takes self.old result self.new }
         ensures kept { self.new ≡ record self.old {
           clock = self.new.clock;
+          pressed = self.new.pressed;
           ready = self.new.ready;
           done = self.new.done;
         } }
@@ -388,6 +408,7 @@ impl Ready {
         ensures no { result ≡ false → (e : Event) × ComesNext self.old self.new e × (e ≢ event.now) }
         ensures kept { self.new ≡ record self.old {
           clock = self.new.clock;
+          pressed = self.new.pressed;
           ready = self.new.ready;
           done = self.new.done;
         } }
@@ -414,7 +435,11 @@ impl Ready {
     pub fn finish(&mut self, number: u64) -> bool
         ensures yes { result ≡ true → Finishes self.old number self.new }
         ensures no { result ≡ false → RunsNowhere self.old number × (self.new ≡ self.old) }
-        ensures kept { self.new ≡ record self.old { ready = self.new.ready; done = self.new.done } }
+        ensures kept { self.new ≡ record self.old {
+          pressed = self.new.pressed;
+          ready = self.new.ready;
+          done = self.new.done;
+        } }
         ensures fewer { length self.new.ready ≤ length self.old.ready }
         ensures paid { (start now : ℕ) → HasPaid self.old start now
             → (result ≡ true → HasPaidFreely self.old start now) → HasPaid self.new start now }

@@ -1,6 +1,7 @@
 //! The silent steps of the ready jobs: those that print nothing.
 ghost use Rattle.std.specs.Prelude.{[], ◌≡◌, ◌≤◌, ◌<◌, ◌+◌, ◌-◌, ◌*◌, ◌^◌, ℕ, length, Some, None, IfSome, IfNone};
 ghost use Rattle.dover_model.specs.Common.{last_tick, open_step, view, Ticks, IsSilent};
+ghost use Rattle.waiting_pool.specs.Pools.{orders_of};
 ghost use Rattle.ready_jobs.specs.Deeds.{step_at, Finds};
 ghost use Rattle.ready_jobs.specs.Parts.{Parted, ready_of, state_of};
 ghost use Rattle.ready_jobs.specs.Following.{IsPart, SettlesFrom};
@@ -25,7 +26,8 @@ impl Parts {
         ensures kept { self.new ≡ record self.old { fresh = self.new.fresh; waiting = self.new.waiting } }
         ensures fewer { length (ready_of self.new) ≡ length (ready_of self.old) }
         ensures count { (d : ℕ) → length self.old.waiting + 1 < 2 ^ d →
-            comparisons.new ≤ comparisons.old + 2 * d * (length self.new.waiting - length self.old.waiting) }
+            comparisons.new ≤ comparisons.old
+                + orders_of self.old.version * d * (length self.new.waiting - length self.old.waiting) }
     {
         self.laws();
         let Some(f) = self.fresh() else {
@@ -123,7 +125,8 @@ impl Parts {
         } }
         ensures fewer { length (ready_of self.new) ≡ length (ready_of self.old) }
         ensures count { (d : ℕ) → length self.old.waiting + 1 < 2 ^ d →
-            comparisons.new ≤ comparisons.old + 2 * d * (length self.new.waiting - length self.old.waiting) }
+            comparisons.new ≤ comparisons.old
+                + orders_of self.old.version * d * (length self.new.waiting - length self.old.waiting) }
     {
         match self.place(k, comparisons) {
             Some(action) => action,

@@ -3,6 +3,7 @@ ghost use Rattle.std.specs.Prelude.{◌≡◌, ℕ, ◌+◌, ◌*◌, ◌^◌, �
 ghost use Rattle.dover_model.specs.Common.{with_role, Each};
 ghost use Rattle.waiting_pool.specs.Reordered.{IsReordered};
 ghost use Rattle.ready_jobs.specs.Changed.{made_wait};
+ghost use Rattle.waiting_pool.specs.Pools.{orders_of};
 ghost use Rattle.waiting_pool.specs.Short.{no_number};
 
 use crate::held::pop;
@@ -37,7 +38,7 @@ pub(crate) fn displace<L: Ledger>(
     ensures kept { pool.new ≡ record pool.old { tasks = pool.new.tasks } }
     ensures more { IsReordered (map made_wait (reverse held.old.items) ++ pool.old.tasks) pool.new.tasks }
     ensures count { (d : ℕ) → length held.old.items + length pool.old.tasks + 1 < 2 ^ d →
-        comparisons.new ≤ comparisons.old + 2 * d * length held.old.items }
+        comparisons.new ≤ comparisons.old + orders_of pool.old.version * d * length held.old.items }
 {
     while let Some(t) = pop(held) {
         pool.add(in_role(&t, Role::Waiting), comparisons);

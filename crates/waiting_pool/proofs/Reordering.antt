@@ -1,6 +1,8 @@
 -- What the order of a list doesn't change.
 use Rattle.std.proofs.Common.{◌≡◌, ℕ, ◌≤◌, ◌⊎◌, inl, inr, List, [], ◌∷◌, ◌++◌, length, map, min, refl, sym, ap, ◌∙◌}
 use Rattle.std.proofs.Common.{subst, Bool, true, false, cond, arith, Option, Some, None, filter, find, fold, sum_by}
+use Rattle.std.specs.Prelude.{◌||◌}
+use Rattle.std.specs.List.{list_any}
 use Rattle.std.proofs.lemmas.Bool.{cases_eq, false≢true}
 use Rattle.std.proofs.lemmas.List.Sums.{sum_by-cons, sum_by-append}
 use Rattle.dover_model.specs.Common.{least, earlier, first, IsMember, Each, EachTwo}
@@ -8,6 +10,7 @@ use Rattle.dover_model.proofs.lists.Members.{some_same, filter_member, member_fi
 use Rattle.dover_model.proofs.lists.Members.{on_map, map_member, sum_filter, sum_map, member_front, member_behind}
 use Rattle.dover_model.proofs.lists.Members.{each_cons, each_append}
 use Rattle.dover_model.proofs.lists.Tests.{never, none_is_some}
+use Rattle.dover_model.proofs.steps.Pressing.{any_member}
 use Rattle.waiting_pool.specs.Reordered.{IsReordered}
 
 -- ---- a list in two parts
@@ -32,6 +35,17 @@ module _ {X : Type 0} where
     back = λ x m. one.back x (next.back x m);
     weighs = λ f. next.weighs f ∙ one.weighs f;
   }
+
+  -- where some of them passes, and all are among others, some of those does
+  any_on : (p : X → Bool) (us vs : List X) → ((x : X) → IsMember x us → IsMember x vs) → list_any p us ≡ true
+      → list_any p vs ≡ true
+  any_on p [] vs there none = never none
+  any_on p (u ∷ us) vs there some =
+      by_test (p u) refl some (any_on p us vs (λ x m. there x (inr m))) where
+        by_test : (b : Bool) → p u ≡ b → (b || list_any p us) ≡ true
+            → (list_any p us ≡ true → list_any p vs ≡ true) → list_any p vs ≡ true
+        by_test true is more rest = any_member p vs u (there u (inl refl)) is
+        by_test false is more rest = rest more
 
   -- in two parts
   pub both_parts : (xs ys us vs : List X) → IsReordered xs ys → IsReordered us vs → IsReordered (xs ++ us) (ys ++ vs)
@@ -90,6 +104,15 @@ module _ {X : Type 0} where
           let other = found p ys y there in
           ap Some (one y x (same.back y other.0) it.0 other.1 it.1)
 
+    -- some passes just where some did
+    pub any_still : (p : X → Bool) → list_any p ys ≡ list_any p xs
+    any_still p = by_any (list_any p xs) (list_any p ys) refl refl where
+      by_any : (a b : Bool) → list_any p xs ≡ a → list_any p ys ≡ b → b ≡ a
+      by_any true true here there = refl
+      by_any false false here there = refl
+      by_any true false here there = never (sym there ∙ any_on p xs ys same.there here)
+      by_any false true here there = never (sym here ∙ any_on p ys xs same.back there)
+
 -- ---- the least of numbers
 
 -- it is at most each of them
@@ -126,10 +149,11 @@ least_same (a ∷ ns) (b ∷ ms) same =
     least_low (b ∷ ms) (least (a ∷ ns)) (same.there (least (a ∷ ns)) (least_there a ns)) in
     omega arith
 
--- ---- the first by a strict order
+-- ---- the first by an order that is strict among those of which P holds
 
-module _ {X : Type 0} (before : X → X → Bool) (one_way : (a b : X) → before a b ≡ true → before b a ≡ false)
-    (onward : (a b c : X) → before a b ≡ true → before b c ≡ true → before a c ≡ true) where
+module _ {X : Type 0} (P : X → Type 0) (before : X → X → Bool)
+    (one_way : (a b : X) → before a b ≡ true → before b a ≡ false)
+    (onward : (a b c : X) → P a → P b → P c → before a b ≡ true → before b c ≡ true → before a c ≡ true) where
   -- what a fold keeps is one of the elements, and none comes before it
   record Best (e acc : X) (xs : List X) : Type 0 where
     there : IsMember e (acc ∷ xs)
@@ -143,9 +167,14 @@ module _ {X : Type 0} (before : X → X → Bool) (one_way : (a b : X) → befor
   not_before e x (inl same) h = not_itself x (ap (before x) (sym same) ∙ h)
   not_before e x (inr less) h = false≢true (sym (one_way e x less) ∙ h)
 
-  best_of : (acc : X) (xs : List X) → Best (fold (earlier before) acc xs) acc xs
-  best_of acc [] = record { there = inl refl; good = inl refl; best = λ x m. absurd m }
-  best_of acc (x ∷ xs) = by_test (before x acc) refl (best_of x xs) (best_of acc xs) where
+  best_of : (acc : X) (xs : List X) → Each P (acc ∷ xs) → Best (fold (earlier before) acc xs) acc xs
+  best_of acc [] fine = record { there = inl refl; good = inl refl; best = λ x m. absurd m }
+  best_of acc (x ∷ xs) fine =
+      by_test (before x acc) refl (best_of x xs (λ y m. fine y (inr m))) (best_of acc xs (λ y m. fine y (either m))) where
+    either : {y : X} → IsMember y (acc ∷ xs) → IsMember y (acc ∷ x ∷ xs)
+    either (inl e) = inl e
+    either (inr m) = inr (inr m)
+
     by_test : (b : Bool) → before x acc ≡ b → Best (fold (earlier before) x xs) x xs
         → Best (fold (earlier before) acc xs) acc xs
         → Best (fold (earlier before) (cond (before x acc) x acc) xs) acc (x ∷ xs)
@@ -155,7 +184,8 @@ module _ {X : Type 0} (before : X → X → Bool) (one_way : (a b : X) → befor
           good = inr (elim it.good [
             | inl same ↦ ap (λ y. before y acc) same
                 ∙ h
-            | inr less ↦ onward (fold (earlier before) x xs) x acc less h
+            | inr less ↦ onward (fold (earlier before) x xs) x acc (fine _ (inr it.there)) (fine x (inr (inl refl)))
+                (fine acc (inl refl)) less h
           ]);
           best = each_cons (λ y. before y (fold (earlier before) x xs) ≡ true → ⊥) x xs
               (not_before (fold (earlier before) x xs) x it.good) it.best;
@@ -167,16 +197,18 @@ module _ {X : Type 0} (before : X → X → Bool) (one_way : (a b : X) → befor
           best = each_cons (λ y. before y (fold (earlier before) acc xs) ≡ true → ⊥) x xs
               (λ at. elim it.good [
                 | inl same ↦ false≢true (sym h ∙ ap (before x) (sym same) ∙ at)
-                | inr less ↦ false≢true (sym h ∙ onward x (fold (earlier before) acc xs) acc at less)
+                | inr less ↦ false≢true (sym h ∙ onward x (fold (earlier before) acc xs) acc (fine x (inr (inl refl)))
+                    (fine _ (either it.there)) (fine acc (inl refl)) at less)
               ])
               it.best;
         })
 
   -- the first is one of the elements, and none comes before it
-  pub first_is : (xs : List X) (e : X) → first before xs ≡ Some e → IsMember e xs × Each (λ y. before y e ≡ true → ⊥) xs
-  first_is [] e is = none_is_some is
-  first_is (x ∷ xs) e is =
-      let it = best_of x xs in
+  pub first_is_of : (xs : List X) (e : X) → Each P xs → first before xs ≡ Some e
+      → IsMember e xs × Each (λ y. before y e ≡ true → ⊥) xs
+  first_is_of [] e fine is = none_is_some is
+  first_is_of (x ∷ xs) e fine is =
+      let it = best_of x xs fine in
       subst (λ z. IsMember z (x ∷ xs) × Each (λ y. before y z ≡ true → ⊥) (x ∷ xs)) (some_same _ _ is) (
         it.there,
         each_cons (λ y. before y (fold (earlier before) x xs) ≡ true → ⊥) x xs
@@ -184,11 +216,11 @@ module _ {X : Type 0} (before : X → X → Bool) (one_way : (a b : X) → befor
       )
 
   -- the one before which none comes is the first, where of two others one comes before the other
-  pub first_only : (xs : List X) (e : X) → IsMember e xs → Each (λ y. before y e ≡ true → ⊥) xs
+  pub first_only_of : (xs : List X) (e : X) → Each P xs → IsMember e xs → Each (λ y. before y e ≡ true → ⊥) xs
       → EachTwo (λ y z. before y z ≡ false → before z y ≡ false → y ≡ z) xs → first before xs ≡ Some e
-  first_only [] e member best own = absurd member
-  first_only (x ∷ xs) e member best own =
-      let it = first_is (x ∷ xs) (fold (earlier before) x xs) refl in
+  first_only_of [] e fine member best own = absurd member
+  first_only_of (x ∷ xs) e fine member best own =
+      let it = first_is_of (x ∷ xs) (fold (earlier before) x xs) fine refl in
       ap Some (own (fold (earlier before) x xs) e it.0 member
       (none (before (fold (earlier before) x xs) e) refl (best (fold (earlier before) x xs) it.0))
       (none (before e (fold (earlier before) x xs)) refl (it.1 e member))) where
@@ -197,16 +229,36 @@ module _ {X : Type 0} (before : X → X → Bool) (one_way : (a b : X) → befor
         none false h not = h
 
   -- it is the same in another order
-  pub first_same : (xs ys : List X) → IsReordered xs ys
+  pub first_same_of : (xs ys : List X) → IsReordered xs ys → Each P xs
       → EachTwo (λ y z. before y z ≡ false → before z y ≡ false → y ≡ z) xs
       → first before ys ≡ first before xs
-  first_same xs ys same own = by_first (first before xs) refl where
+  first_same_of xs ys same fine own = by_first (first before xs) refl where
     by_first : (o : Option X) → first before xs ≡ o → first before ys ≡ o
     by_first None none = none_left ys (λ y m. reduce_none (earlier before) xs none y (same.back y m)) where
       none_left : (zs : List X) → Each (λ z. ⊥) zs → first before zs ≡ None
       none_left [] not = refl
       none_left (z ∷ zs) not = absurd (not z (inl refl))
     by_first (Some e) is =
-        let it = first_is xs e is in
-        first_only ys e (same.there e it.0) (λ y m. it.1 y (same.back y m))
+        let it = first_is_of xs e fine is in
+        first_only_of ys e (λ y m. fine y (same.back y m)) (same.there e it.0) (λ y m. it.1 y (same.back y m))
         (two_still xs ys same (λ y z. before y z ≡ false → before z y ≡ false → y ≡ z) own)
+
+-- the same by a strict order
+module _ {X : Type 0} (before : X → X → Bool) (one_way : (a b : X) → before a b ≡ true → before b a ≡ false)
+    (onward : (a b c : X) → before a b ≡ true → before b c ≡ true → before a c ≡ true) where
+  abbrev Any : X → Type 0
+  Any x = Unit {0}
+
+  pub first_is : (xs : List X) (e : X) → first before xs ≡ Some e → IsMember e xs × Each (λ y. before y e ≡ true → ⊥) xs
+  first_is xs e is = first_is_of Any before one_way (λ a b c _ _ _. onward a b c) xs e (λ x m. tt) is
+
+  pub first_only : (xs : List X) (e : X) → IsMember e xs → Each (λ y. before y e ≡ true → ⊥) xs
+      → EachTwo (λ y z. before y z ≡ false → before z y ≡ false → y ≡ z) xs → first before xs ≡ Some e
+  first_only xs e member best own =
+      first_only_of Any before one_way (λ a b c _ _ _. onward a b c) xs e (λ x m. tt) member best own
+
+  pub first_same : (xs ys : List X) → IsReordered xs ys
+      → EachTwo (λ y z. before y z ≡ false → before z y ≡ false → y ≡ z) xs
+      → first before ys ≡ first before xs
+  first_same xs ys same own =
+      first_same_of Any before one_way (λ a b c _ _ _. onward a b c) xs ys same (λ x m. tt) own

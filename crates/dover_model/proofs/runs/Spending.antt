@@ -97,9 +97,13 @@ spent_on n s u start before now pays spent = λ d enough.
 
 -- ---- steps
 
--- 20 * d for each time is enough
-pub twenty : (d m n : ℕ) → 2 * d * m + 6 * d * n ≤ 20 * d * (m + n)
-twenty d m n = omega arith
+-- 20 * d for each time is enough, in three orders at most
+pub twenty : (orders d m n : ℕ) → orders ≤ 3 → orders * d * m + 3 * orders * d * n ≤ 20 * d * (m + n)
+twenty orders d m n few = omega (
+  arith,
+  mul-le-mul_right (d * m) few,
+  mul-le-mul_right (d * n) few,
+)
 
 -- what costs c for each of so many, paid for
 pub cost_paid : (c n a b x y before after : ℕ) → n + (a + x) ≤ b + y → after ≤ before + c * n
@@ -130,16 +134,16 @@ module _ (J : Instance) (valid : IsValid J) (rules : Rules) (s : State) (keeps :
   open_falls = omega (arith, open_leaves J valid (bare rules) s keeps (λ _ _ _. refl), counts_balance s m)
 
   -- an open step pays for what has come by it
-  pub open_pays : (d before later : ℕ) → later ≤ before + cost_of d s m
+  pub open_pays : (orders d before later : ℕ) → orders ≤ 3 → later ≤ before + cost_of orders d s m
       → later + 20 * d * waits_so_far s ≤ before + 20 * d * waits_among (length s.tasks) u
-  open_pays d before later cost =
+  open_pays orders d before later few cost =
       paid_so_far (20 * d) (length s.tasks) (exits s) (exits u) (waiting_count s) (waiting_count u)
       (waits_so_far s) (waits_among (length s.tasks) u) before later (so_far s)
       (so_far_for (length s.tasks) u (after_count s m))
       (cost_paid (20 * d) (enters s m + leaves s m) (2 * exits u) (2 * exits s) (waiting_count s) (waiting_count u)
       before later
       (omega (arith, open_leaves J valid (bare rules) s keeps (λ _ _ _. refl), counts_balance s m))
-      (omega (arith, cost, twenty d (enters s m) (leaves s m))))
+      (omega (arith, cost, twenty orders d (enters s m) (leaves s m) few)))
 
 -- ---- a job more
 
@@ -251,6 +255,7 @@ module _ (s : State) (t : Task) (member : IsMember t s.tasks) where
       (ap (λ b. is_waiting (with_role t (cond b Running (displaced t.role)))) (eq-eqb t.number starts same))
 
 -- one ceases to wait at least
-pub one_leaves : (d enters leaves before after : ℕ) → after ≤ before + 6 * d → 1 ≤ leaves
-    → after ≤ before + (2 * d * enters + 6 * d * leaves)
-one_leaves d enters leaves before after cost some = omega (arith, mul-le-mul_left (6 * d) some)
+pub one_leaves : (orders d enters leaves before after : ℕ) → after ≤ before + 3 * orders * d → 1 ≤ leaves
+    → after ≤ before + (orders * d * enters + 3 * orders * d * leaves)
+one_leaves orders d enters leaves before after cost some =
+    omega (arith, cost, mul-le-mul_left (3 * orders * d) some)

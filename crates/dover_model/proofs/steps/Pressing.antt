@@ -33,7 +33,7 @@ abbrev pub HasReady : State → Type 0
 HasReady s = s.pressed ≡ true → list_any is_open_job s.tasks ≡ true
 
 -- a member that passes is one
-pub any_member : (p : Task → Bool) (tasks : List Task) (t : Task) → IsMember t tasks → p t ≡ true
+pub any_member : {X : Type 0} (p : X → Bool) (tasks : List X) (t : X) → IsMember t tasks → p t ≡ true
     → list_any p tasks ≡ true
 any_member p [] t member is = absurd member
 any_member p (x ∷ tasks) t (inl e) is =

@@ -10,6 +10,10 @@ use Rattle.dover_model.specs.Common.{with_role, view, Ticks, open_step, urgent_o
 use Rattle.dover_model.specs.Common.{ticked, after, displaced, due_finish, finish_or, declared_open_step, is_ready}
 use Rattle.dover_model.specs.Common.{Version, Rules, Instance, IsValid, Role, IsMember, IsSound, Each, Keeps, Fraction}
 use Rattle.dover_model.specs.Common.{IsSilent, is_finish_of}
+use Rattle.std.specs.Prelude.{◌||◌, ◌&&◌}
+use Rattle.std.specs.List.{list_any}
+use Rattle.dover_model.specs.Common.{Complete, is_open_job}
+use Rattle.dover_model.specs.Step.{pressed_after}
 use Rattle.dover_model.specs.Ready.{ready_part}
 use Rattle.dover_model.proofs.lists.Tests.{never}
 use Rattle.dover_model.proofs.steps.Deeds.{Deed, Completed, Resumed, Started, Began, Preempted, Stayed, Arrived, Taken}
@@ -37,6 +41,15 @@ module _ {X : Type 0} (p q : X → Bool) (onward : (x : X) → q x ≡ false →
         → filter p (cond b (x ∷ filter q xs) (filter q xs)) ≡ cond (p x) (x ∷ filter p xs) (filter p xs)
     by_test true is rest = ap (λ ys. cond (p x) (x ∷ ys) ys) rest
     by_test false is rest = rest ∙ sym (ap (λ b. cond b (x ∷ filter p xs) (filter p xs)) (onward x is))
+
+  -- and some job passes just where one of those does
+  any_part : (xs : List X) → list_any p (filter q xs) ≡ list_any p xs
+  any_part [] = refl
+  any_part (x ∷ xs) = by_test (q x) refl (any_part xs) where
+    by_test : (b : Bool) → q x ≡ b → list_any p (filter q xs) ≡ list_any p xs
+        → list_any p (cond b (x ∷ filter q xs) (filter q xs)) ≡ (p x || list_any p xs)
+    by_test true is rest = ap (λ b. p x || b) rest
+    by_test false is rest = rest ∙ sym (ap (λ b. b || list_any p xs) (onward x is))
 
 -- a job that is over passes no test of other roles
 over_fails : (p : Task → Bool) → ((t : Task) → p (with_role t Done) ≡ false)
@@ -76,6 +89,24 @@ change Ticks t = ticked t
 pub after_change : (s : State) (m : Move) → (after s m).tasks ≡ map (change m) s.tasks
 after_change s (Prints e) = refl
 after_change s _ = refl
+
+-- whether the state is pressed after a move that leaves these tasks
+abbrev pub pressed_by : Move → Bool → List Task → Bool
+pressed_by (Prints e) pressed tasks = pressed_after e pressed tasks
+pressed_by _ pressed tasks = pressed
+
+-- the state after a move is pressed by that
+pub after_pressed : (s : State) (m : Move) → (after s m).pressed ≡ pressed_by m s.pressed (after s m).tasks
+after_pressed s (Prints e) = refl
+after_pressed s _ = refl
+
+-- the jobs that aren't over tell it
+pub pressed_ready : (m : Move) (pressed : Bool) (tasks : List Task)
+    → pressed_by m pressed (filter is_ready tasks) ≡ pressed_by m pressed tasks
+pressed_ready (Prints (Complete at n)) pressed tasks = ap (λ b. pressed && b)
+    (any_part is_open_job is_ready (over_fails is_open_job (λ _. refl) (λ _. refl)) tasks)
+pressed_ready (Prints _) pressed tasks = refl
+pressed_ready _ pressed tasks = refl
 
 -- a job that is over has another number than one that isn't
 apart : (s : State) → IsSound s → (t r : Task) (role : Role) → IsMember t s.tasks → IsMember r s.tasks
@@ -191,6 +222,12 @@ module _ (k : Fraction) (s : State) (sound : IsSound s) (m : Move) (deed : Deed 
         ap (sum_by done_value) (after_change (ready_part s) m),
         done_map (change m) s.tasks over_still,
       )
+
+  -- so is it told whether the state is pressed
+  pub pressed_then : (after s m).pressed ≡ (after (ready_part s) m).pressed
+  pressed_then = after_pressed s m ∙ sym (pressed_ready m s.pressed (after s m).tasks)
+      ∙ ap (pressed_by m s.pressed) ready_then
+      ∙ pressed_ready m s.pressed (after (ready_part s) m).tasks ∙ sym (after_pressed (ready_part s) m)
 
 module _ (J : Instance) (valid : IsValid J) (rules : Rules) (s : State) (keeps : Keeps J s) where
   -- an open step leaves the jobs that are over

@@ -1,7 +1,8 @@
-use Rattle.std.proofs.Common.{◌+◌, ◌*◌, ◌<◌, ◌∷◌, ◌++◌, length, refl, sym, ap, ◌∙◌, subst, map, reverse, arith}
+use Rattle.std.proofs.Common.{◌+◌, ◌*◌, ◌≤◌, ◌<◌, ◌∷◌, ◌++◌, length, refl, sym, ap, ◌∙◌, subst, map, reverse, arith}
 use Rattle.std.proofs.Common.{option_to_list}
 use Rattle.dover_model.specs.declared.events.Task.{Task}
 use Rattle.ready_jobs.specs.Changed.{made_wait}
+use Rattle.waiting_pool.specs.Pools.{Pooled, orders_of}
 use Rattle.waiting_pool.specs.Reordered.{IsReordered}
 use Rattle.waiting_pool.specs.Short.{no_number}
 use Rattle.ready_jobs.proofs.Courses.{no_items}
@@ -37,9 +38,11 @@ loop-t-preserved g c =
       displaces = one_displaced _ _ _ _ _ _ _ it top c.add.ensures.kept more;
       capacity = c.pop.ensures.capacity ∙ c.loop-t.invariant.capacity;
       count = λ d fits.
-          one_counted d c.loop-t.comparisons c.add.new.comparisons (length is) (length rest)
-          (c.args.comparisons.now + 2 * d * length was) fewer
-          (c.add.ensures.count d (omega (arith, fits, it.sum, fewer)))
+          one_counted (orders_of c.args.pool.now.version) d c.loop-t.comparisons c.add.new.comparisons (length is)
+          (length rest) (c.args.comparisons.now + orders_of c.args.pool.now.version * d * length was) fewer
+          (subst (λ v. c.add.new.comparisons ≤ c.loop-t.comparisons + orders_of v * d)
+          (ap (λ (q : Pooled). q.version) it.kept)
+          (c.add.ensures.count d (omega (arith, fits, it.sum, fewer))))
           (c.loop-t.invariant.count d fits);
     }
 

@@ -1,6 +1,7 @@
 use Rattle.std.proofs.Common.{inl, refl, arith, sym, subst}
 use Rattle.dover_model.specs.declared.events.Event.TheVariants.{Abandon}
 use Rattle.ready_jobs.specs.Changed.{Leaves, printed}
+use Rattle.waiting_pool.specs.Pools.{orders_of}
 use Rattle.ready_jobs.specs.Parts.{ready_of}
 use Rattle.ready_jobs.proofs.Applied.{gone_leaves, gone_named}
 use Rattle.ready_jobs.proofs.Costing.{abandon_costs, fewer_wait}
@@ -18,7 +19,7 @@ pub returns-clause-cost : goal.returns-clause-cost
 returns-clause-cost g c at d fits =
     let p = c.args.self.now in
     let it = gone_named p c.laws.ensures.roles c.requires.once c.args.number c.requires.sound c.requires.next in
-    abandon_costs p c.laws.ensures.roles d _ _ at c.args.number it.0
+    abandon_costs p c.laws.ensures.roles (orders_of p.version) d _ _ at c.args.number it.0
     ((c.abandon.ensures.rest it.0 it.1).back it.0 (inl refl)) it.2
     (c.abandon.ensures.count d (let few = fewer_wait p in omega (arith, fits, few)))
 

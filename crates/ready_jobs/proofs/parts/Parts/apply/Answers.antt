@@ -1,12 +1,14 @@
-use Rattle.std.proofs.Common.{◌+◌, ◌*◌, ◌≤◌, length, refl, subst}
+use Rattle.std.proofs.Common.{◌≡◌, ◌+◌, ◌*◌, ◌≤◌, length, refl, subst}
 use Rattle.dover_model.specs.declared.events.Event.TheVariants.{Run}
 use Rattle.dover_model.specs.Common.{Prints, view, cost_of}
+use Rattle.dover_model.specs.Step.{pressed_after}
+use Rattle.waiting_pool.specs.Pools.{orders_of}
 use Rattle.ready_jobs.specs.Deeds.{Finds}
-use Rattle.ready_jobs.specs.Parts.{state_of}
+use Rattle.ready_jobs.specs.Parts.{ready_of, state_of}
 use Rattle.ready_jobs.specs.Spending.{wait_again}
 use Rattle.ready_jobs.specs.declared.actions.Action.TheVariants as actions
 use Rattle.ready_jobs.proofs.Applied.{leaves_fewer}
-use Rattle.ready_jobs.proofs.Costing.{no_cost, one_at_most, take_at_most}
+use Rattle.ready_jobs.proofs.Costing.{no_cost, one_at_most}
 use Rattle.ready_jobs.proofs.Doing.{does_print, does_next, does_leaves}
 use Rattle.ready_jobs.proofs.parts.Parts.apply.Goals as goal
 
@@ -62,7 +64,7 @@ returns-in-Abandon-clause-fewer g c = leaves_fewer _ _ _ _ (c.abandon_next.ensur
 pub returns-in-Start-clause-cost : goal.returns-in-Start-clause-cost
 returns-in-Start-clause-cost g c e d does fits =
     let p = c.args.self.now in
-    subst (λ x. c.start_next.new.comparisons ≤ c.args.comparisons.now + cost_of d (state_of p) (Prints x))
+    subst (λ x. c.start_next.new.comparisons ≤ c.args.comparisons.now + cost_of (orders_of p.version) d (state_of p) (Prints x))
     (does_print p c.args.action (actions.Start c.in-Start.number) c.in-Start.is (Run p.clock c.in-Start.number) e refl
     does)
     (c.start_next.ensures.cost p.clock d fits)
@@ -70,32 +72,31 @@ returns-in-Start-clause-cost g c e d does fits =
 pub returns-in-Take-clause-cost : goal.returns-in-Take-clause-cost
 returns-in-Take-clause-cost g c e d does fits =
     let p = c.args.self.now in
-    subst (λ x. c.take_next.new.comparisons ≤ c.args.comparisons.now + cost_of d (state_of p) (Prints x))
+    subst (λ x. c.take_next.new.comparisons ≤ c.args.comparisons.now + cost_of (orders_of p.version) d (state_of p) (Prints x))
     (does_print _ _ _ c.in-Take.is _ _ refl does)
     (c.take_next.ensures.cost p.clock d fits)
 
 pub returns-in-Abandon-clause-cost : goal.returns-in-Abandon-clause-cost
 returns-in-Abandon-clause-cost g c e d does fits =
     let p = c.args.self.now in
-    subst (λ x. c.abandon_next.new.comparisons ≤ c.args.comparisons.now + cost_of d (state_of p) (Prints x))
+    subst (λ x. c.abandon_next.new.comparisons ≤ c.args.comparisons.now + cost_of (orders_of p.version) d (state_of p) (Prints x))
     (does_print _ _ _ c.in-Abandon.is _ _ refl does)
     (c.abandon_next.ensures.cost p.clock d fits)
 
 pub returns-in-Start-clause-once : goal.returns-in-Start-clause-once
 returns-in-Start-clause-once g c e d does fits =
-    one_at_most _ _ _ _ (c.start_next.ensures.once d fits)
+    one_at_most _ _ _ _ _ (c.start_next.ensures.once d fits)
 
 pub returns-in-Take-clause-once : goal.returns-in-Take-clause-once
 returns-in-Take-clause-once g c e d does fits =
     let p = c.args.self.now in
-    subst (λ x. c.take_next.new.comparisons ≤ c.args.comparisons.now + 2 * d * (4 + wait_again x p.held))
-    (does_print _ _ _ c.in-Take.is _ _ refl does)
-    (take_at_most d (length p.held) c.args.comparisons.now c.take_next.new.comparisons
-    (c.take_next.ensures.once d fits))
+    subst (λ x. c.take_next.new.comparisons
+    ≤ c.args.comparisons.now + orders_of p.version * d * (4 + wait_again x p.held))
+    (does_print _ _ _ c.in-Take.is _ _ refl does) (c.take_next.ensures.once d fits)
 
 pub returns-in-Abandon-clause-once : goal.returns-in-Abandon-clause-once
 returns-in-Abandon-clause-once g c e d does fits =
-    one_at_most _ _ _ _ (c.abandon_next.ensures.once d fits)
+    one_at_most _ _ _ _ _ (c.abandon_next.ensures.once d fits)
 
 pub resume_next-requires-clause-finds : goal.resume_next-requires-clause-finds
 resume_next-requires-clause-finds g c =
@@ -181,3 +182,10 @@ returns-in-Complete-clause-cost g c e d does fits = no_cost _ _
 
 pub returns-in-Complete-clause-once : goal.returns-in-Complete-clause-once
 returns-in-Complete-clause-once g c e d does fits = no_cost _ _
+
+pub returns-in-Complete-clause-pressed : goal.returns-in-Complete-clause-pressed
+returns-in-Complete-clause-pressed g c e does =
+    let p = c.args.self.now in
+    let q = c.complete_next.new.self in
+    subst (λ x. q.pressed ≡ pressed_after x p.pressed (ready_of q))
+    (does_print _ _ _ c.in-Complete.is _ _ refl does) (c.complete_next.ensures.pressed p.clock)

@@ -1,4 +1,5 @@
 use Rattle.std.proofs.Common.{refl, sym, ap, ◌∙◌}
+use Rattle.waiting_pool.specs.Pools.{orders_of}
 use Rattle.ready_jobs.specs.Deeds.{step_at}
 use Rattle.ready_jobs.specs.Parts.{Parted}
 use Rattle.ready_jobs.proofs.Costing.{no_cost}
@@ -27,7 +28,8 @@ pub returns-in-Wait-clause-count : goal.returns-in-Wait-clause-count
 returns-in-Wait-clause-count g c d large =
     let stays : Stayed c.args.self.now c.stay.new.self =
     (c.in-Some.f, sym c.fresh.ensures.is ∙ c.in-Some.is, c.stay.ensures.waits) in
-    waits_cost c.args.self.now c.stay.new.self c.stay.new.self d c.args.comparisons.now c.stay.new.comparisons
+    waits_cost c.args.self.now c.stay.new.self c.stay.new.self (orders_of c.args.self.now.version) d
+    c.args.comparisons.now c.stay.new.comparisons
     stays refl (c.stay.ensures.count d large)
 
 pub returns-in_default-action : goal.returns-in_default-action

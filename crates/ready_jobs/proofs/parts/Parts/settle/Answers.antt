@@ -1,4 +1,5 @@
 use Rattle.std.proofs.Common.{◌+◌, ◌-◌, ◌*◌, ◌≤◌, length, sym, ap, ◌∙◌, subst}
+use Rattle.waiting_pool.specs.Pools.{orders_of}
 use Rattle.ready_jobs.specs.Parts.{Parted}
 use Rattle.ready_jobs.proofs.Silences.{from_on, part_after}
 use Rattle.ready_jobs.proofs.parts.Parts.settle.Goals as goal
@@ -15,7 +16,8 @@ tick_to-requires-clause-part g c = part_after _ c.args.mark _ _
 pub returns-in-None-clause-count : goal.returns-in-None-clause-count
 returns-in-None-clause-count g c d large =
     let p = c.args.self.now in
-    subst (λ ts. c.place.new.comparisons ≤ c.args.comparisons.now + 2 * d * (length ts - length p.waiting))
+    subst (λ ts. c.place.new.comparisons ≤ c.args.comparisons.now
+    + orders_of p.version * d * (length ts - length p.waiting))
     (sym (ap (λ (q : Parted). q.waiting) c.tick_to.ensures.kept)) (c.place.ensures.count d large)
 
 pub returns-in-None-clause-fewer : goal.returns-in-None-clause-fewer

@@ -1,10 +1,10 @@
-use Rattle.std.proofs.Common.{◌+◌, ◌^◌, ◌<◌, ◌∷◌, None, length, sym, ap, arith, ◌∙◌, subst, vec_capacity}
+use Rattle.std.proofs.Common.{◌+◌, ◌*◌, ◌≤◌, ◌^◌, ◌<◌, ◌∷◌, None, length, sym, ap, arith, ◌∙◌, subst, vec_capacity}
 use Rattle.std.proofs.Common.{option_to_list}
 use Rattle.dover_model.specs.declared.events.Task.{Task}
 use Rattle.dover_model.specs.declared.events.Role.TheVariants.{Waiting}
 use Rattle.dover_model.specs.Step.{with_role}
 use Rattle.waiting_pool.specs.Reordered.{IsReordered}
-use Rattle.waiting_pool.specs.Pools.{Pooled}
+use Rattle.waiting_pool.specs.Pools.{Pooled, orders_of}
 use Rattle.ready_jobs.specs.Parts.{Parted, AreParts}
 use Rattle.ready_jobs.specs.Kept.{parted_of}
 use Rattle.waiting_pool.specs.Short.{no_number}
@@ -50,4 +50,5 @@ returns-clause-waits g c =
 
 pub returns-clause-count : goal.returns-clause-count
 returns-clause-count g c d fits =
-    c.add.ensures.count d (subst (λ (q : Parted). length q.waiting + 1 < 2 ^ d) (sym c.self.view_is) fits)
+    subst (λ (q : Parted). c.add.new.comparisons ≤ c.args.comparisons.now + orders_of q.version * d) c.self.view_is
+    (c.add.ensures.count d (subst (λ (q : Parted). length q.waiting + 1 < 2 ^ d) (sym c.self.view_is) fits))

@@ -1,11 +1,11 @@
-use Rattle.std.proofs.Common.{◌+◌, ◌^◌, ◌<◌, ◌∷◌, [], ◌++◌, map, reverse, length, Some, sym, ap, ◌∙◌, subst, arith}
+use Rattle.std.proofs.Common.{◌+◌, ◌*◌, ◌≤◌, ◌^◌, ◌<◌, ◌∷◌, [], ◌++◌, map, reverse, length, Some, sym, ap, ◌∙◌, subst, arith}
 use Rattle.std.proofs.Common.{vec_capacity}
 use Rattle.std.proofs.lemmas.List.{length-map, length-reverse}
 use Rattle.dover_model.specs.declared.events.Task.{Task}
 use Rattle.dover_model.specs.Common.{entry_of, starts_before, first}
 use Rattle.ready_jobs.specs.Changed.{made_wait}
 use Rattle.waiting_pool.specs.Reordered.{IsReordered}
-use Rattle.waiting_pool.specs.Pools.{Pooled}
+use Rattle.waiting_pool.specs.Pools.{Pooled, orders_of}
 use Rattle.ready_jobs.specs.Parts.{Parted, AreParts, AreSound, ready_of}
 use Rattle.ready_jobs.specs.Kept.{parted_of}
 use Rattle.waiting_pool.specs.Short.{no_number}
@@ -124,8 +124,16 @@ returns-clause-count g c d fits =
     let less = as_many p.waiting (c.args.x.now ∷ c.take_latest.new.self.tasks) out in
     let more = as_many (c.in_role.result ∷ c.take_latest.new.self.tasks) c.add.new.self.tasks
     c.add.ensures.more in
-    take_counted d _ _ _ _ _ _
+    let one = ap (λ (q : Pooled). q.version) c.take_latest.ensures.kept in
+    let two = ap (λ (q : Pooled). q.version) c.add.ensures.kept ∙ one in
+    let held = c.args.self.now.held in
+    subst (λ (q : Parted). c.displace.new.comparisons
+    ≤ c.args.comparisons.now + orders_of q.version * d * (4 + length held)) c.self.view_is
+    (take_counted (orders_of p.version) d _ _ _ _ _ _
     (sym (length-reverse inside.held.items) ∙ ap (λ (q : Parted). length q.held) c.self.view_is)
     (c.take_latest.ensures.count d (omega (arith, few, busy)))
-    (c.add.ensures.count d (omega (arith, few, busy, less)))
-    (c.displace.ensures.count d (omega (arith, few, busy, less, more, length-reverse inside.held.items)))
+    (subst (λ v. c.add.new.comparisons ≤ c.take_latest.new.comparisons + orders_of v * d) one
+    (c.add.ensures.count d (omega (arith, few, busy, less))))
+    (subst (λ v. c.displace.new.comparisons ≤ c.add.new.comparisons
+    + orders_of v * d * length inside.held.items) two
+    (c.displace.ensures.count d (omega (arith, few, busy, less, more, length-reverse inside.held.items)))))

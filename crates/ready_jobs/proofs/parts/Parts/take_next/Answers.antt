@@ -2,6 +2,7 @@ use Rattle.std.proofs.Common.{Some, sym, ap, ◌∙◌, subst, arith}
 use Rattle.dover_model.specs.declared.events.Event.TheVariants.{Take}
 use Rattle.ready_jobs.specs.Changed.{Leaves, printed}
 use Rattle.ready_jobs.specs.Parts.{ready_of}
+use Rattle.waiting_pool.specs.Pools.{orders_of}
 use Rattle.waiting_pool.specs.Slots.{seen}
 use Rattle.ready_jobs.proofs.Applied.{taken_leaves, taken_named, some_runs, some_late}
 use Rattle.dover_model.specs.Orders.{starts_before}
@@ -25,7 +26,7 @@ returns-in-Some-first_late-clause-cost g c at d fits =
     let p = c.args.self.now in
     let x = c.task-x.result in
     let late = ap seen c.in-Some-first_late.is ∙ ap Some (sym c.task-x.ensures) in
-    take_costs p c.laws.ensures.roles d _ _ at c.requires.once c.args.stops c.args.starts c.in-Some.r x
+    take_costs p c.laws.ensures.roles (orders_of p.version) d _ _ at c.requires.once c.args.stops c.args.starts c.in-Some.r x
     (sym c.running.ensures.is ∙ c.in-Some.is)
     (first_member (starts_before p.version) p.waiting x (c.first_late.ensures.is x late))
     (taken_named _ c.laws.ensures.roles c.requires.once _ _ c.requires.next _ (sym c.first_late.ensures.seen ∙ late))
@@ -57,10 +58,10 @@ pub returns-in_default-clause-cost : goal.returns-in_default-clause-cost
 returns-in_default-clause-cost g c at d fits = no_cost _ _
 
 pub returns-in_default-first_late-clause-once : goal.returns-in_default-first_late-clause-once
-returns-in_default-first_late-clause-once g c d fits = omega arith
+returns-in_default-first_late-clause-once g c d fits = no_cost _ _
 
 pub returns-in_default-clause-once : goal.returns-in_default-clause-once
-returns-in_default-clause-once g c d fits = omega arith
+returns-in_default-clause-once g c d fits = no_cost _ _
 
 pub returns-in_default-clause-leaves : goal.returns-in_default-clause-leaves
 returns-in_default-clause-leaves g c at = absurd

@@ -1,5 +1,6 @@
-use Rattle.std.proofs.Common.{◌<◌, length, ap, sym, ◌∙◌, subst, arith, filter}
+use Rattle.std.proofs.Common.{◌<◌, ◌≤◌, ◌+◌, ◌*◌, length, ap, sym, ◌∙◌, subst, arith, filter}
 use Rattle.dover_model.specs.State.{is_held}
+use Rattle.waiting_pool.specs.Pools.{orders_of}
 use Rattle.ready_jobs.specs.Deeds.{step_at}
 use Rattle.ready_jobs.specs.Parts.{Parted}
 use Rattle.ready_jobs.specs.Course.{Course, Follows}
@@ -63,9 +64,11 @@ pub returns-clause-once : goal.returns-clause-once
 returns-clause-once g c d fits =
     let p : Parted = c.self.inside.parts in
     let few = fewer_wait p in
-    silent_at_most p c.settle-action.new.self (ap (λ (q : Parted). q.held) c.settle-action.ensures.kept)
-    c.settle-action.ensures.fewer d c.args.comparisons.now c.settle-action.new.comparisons
-    (c.settle-action.ensures.count d (omega (arith, fits, few, ap (λ (d : Course). length d.ready) c.self.view_is)))
+    subst (λ (d2 : Course). c.settle-action.new.comparisons
+    ≤ c.args.comparisons.now + 2 * orders_of d2.rules.version * d) c.self.view_is
+    (silent_at_most p c.settle-action.new.self (ap (λ (q : Parted). q.held) c.settle-action.ensures.kept)
+    c.settle-action.ensures.fewer (orders_of p.version) d c.args.comparisons.now c.settle-action.new.comparisons
+    (c.settle-action.ensures.count d (omega (arith, fits, few, ap (λ (d : Course). length d.ready) c.self.view_is))))
 
 pub returns-clause-held : goal.returns-clause-held
 returns-clause-held g c = held_list c.settle-action.new.self c.laws-2.ensures.roles

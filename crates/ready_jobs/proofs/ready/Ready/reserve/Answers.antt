@@ -1,6 +1,6 @@
 use Rattle.std.proofs.Common.{sym, ap, ◌∙◌, subst}
-use Rattle.dover_model.specs.Common.{state_at, HasSpentFor}
-use Rattle.ready_jobs.specs.Parts.{Parted, ready_of}
+use Rattle.dover_model.specs.Common.{HasSpentFor}
+use Rattle.ready_jobs.specs.Parts.{Parted, state_of}
 use Rattle.ready_jobs.specs.Course.{Follows, course_of}
 use Rattle.ready_jobs.specs.Spending.{HasPaid}
 use Rattle.ready_jobs.proofs.Courses.{follows_room}
@@ -25,5 +25,5 @@ returns-clause-paid c start now paid =
     let q = c.reserve.new.self in
     let same = c.reserve.ensures.kept
     ∙ ap (λ ts. record i.parts { waiting = ts; room = q.room }) c.reserve.ensures.same in
-    subst (λ (p : Parted). HasSpentFor i.jobs (state_at p.clock (ready_of p)) start now) (sym same)
+    subst (λ (p : Parted). HasSpentFor i.jobs (state_of p) start now) (sym same)
     (subst (λ d. HasPaid d start now) (sym c.self.view_is) paid)

@@ -1,4 +1,6 @@
-use Rattle.std.proofs.Common.{◌+◌, ◌*◌, ◌≤◌, ◌<◌, length, sym, ap, ◌∙◌, subst, arith}
+use Rattle.std.proofs.Common.{◌+◌, ◌*◌, ◌≤◌, ◌<◌, length, sym, ap, ◌∙◌, subst, arith, filter}
+use Rattle.dover_model.specs.State.{is_held}
+use Rattle.waiting_pool.specs.Pools.{orders_of}
 use Rattle.dover_model.specs.declared.events.Event.TheVariants.{End}
 use Rattle.ready_jobs.specs.Course.{Course, Takes}
 use Rattle.ready_jobs.specs.Spending.{wait_again}
@@ -26,10 +28,14 @@ returns-clause-paid g c start paid = c.take.ensures.paid start (c.due_next-due.e
 pub returns-clause-once : goal.returns-clause-once
 returns-clause-once g c d fits =
     let e = c.due_next-due.result.event in
-    subst (λ hs. c.take.new.comparisons ≤ c.args.comparisons.now + 2 * d * (6 + wait_again e hs))
+    subst (λ hs. c.take.new.comparisons ≤ c.args.comparisons.now
+    + orders_of c.args.self.now.rules.version * d * (6 + wait_again e hs))
     c.due_next-due.ensures.held
-    (both_at_most _ _ _ _ _ (c.due_next-due.ensures.once d fits)
-    (c.take.ensures.once d (omega (arith, fits, c.due_next-due.ensures.fewer))))
+    (both_at_most _ _ _ _ _ _ (c.due_next-due.ensures.once d fits)
+    (subst (λ v. c.take.new.comparisons ≤ c.due_next-due.new.comparisons
+    + orders_of v * d * (4 + wait_again e (filter is_held c.due_next-due.new.self.ready)))
+    (ap (λ (q : Course). q.rules.version) c.due_next-due.ensures.kept)
+    (c.take.ensures.once d (omega (arith, fits, c.due_next-due.ensures.fewer)))))
 
 pub due_next-due-requires : goal.due_next-due-requires
 due_next-due-requires g c = record {

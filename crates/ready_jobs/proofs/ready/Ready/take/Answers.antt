@@ -1,5 +1,6 @@
 use Rattle.std.proofs.Common.{◌+◌, ◌*◌, ◌≤◌, length, ap, sym, ◌∙◌, subst, arith, filter}
 use Rattle.dover_model.specs.State.{is_held}
+use Rattle.waiting_pool.specs.Pools.{orders_of}
 use Rattle.ready_jobs.specs.Parts.{Parted}
 use Rattle.ready_jobs.specs.Course.{Course, Follows, IsDue}
 use Rattle.ready_jobs.specs.Deeds.{Does}
@@ -37,6 +38,8 @@ overflow_add-self g c =
     due.opens
     (ap (λ (q : Parted). q.version) c.apply-worth.ensures.kept)
     (ap (λ (q : Parted). q.clock) c.apply-worth.ensures.kept)
+    (c.apply-worth.ensures.pressed c.args.due.now.event
+    (due_does i.ratio i.parts i.jobs i.done c.args.due.now.action c.args.due.now.event due))
     (c.apply-worth.ensures.leaves c.args.due.now.event
     (due_does i.ratio i.parts i.jobs i.done c.args.due.now.action c.args.due.now.event due))
     c.self.invariant in
@@ -50,6 +53,8 @@ invariant_of-self g c =
     due.opens
     (ap (λ (q : Parted). q.version) c.apply-worth.ensures.kept)
     (ap (λ (q : Parted). q.clock) c.apply-worth.ensures.kept)
+    (c.apply-worth.ensures.pressed c.args.due.now.event
+    (due_does i.ratio i.parts i.jobs i.done c.args.due.now.action c.args.due.now.event due))
     (c.apply-worth.ensures.leaves c.args.due.now.event
     (due_does i.ratio i.parts i.jobs i.done c.args.due.now.action c.args.due.now.event due))
     c.self.invariant
@@ -62,6 +67,8 @@ returns-clause-after g c J z follows =
     due.opens
     (ap (λ (q : Parted). q.version) c.apply-worth.ensures.kept)
     (ap (λ (q : Parted). q.clock) c.apply-worth.ensures.kept)
+    (c.apply-worth.ensures.pressed c.args.due.now.event
+    (due_does i.ratio i.parts i.jobs i.done c.args.due.now.action c.args.due.now.event due))
     (c.apply-worth.ensures.leaves c.args.due.now.event
     (due_does i.ratio i.parts i.jobs i.done c.args.due.now.action c.args.due.now.event due))
     J z (subst (λ d. Follows d J z) (sym c.self.view_is) follows)
@@ -76,6 +83,7 @@ returns-clause-paid g c start paid =
     due.opens
     (ap (λ (q : Parted). q.version) c.apply-worth.ensures.kept)
     (ap (λ (q : Parted). q.clock) c.apply-worth.ensures.kept)
+    (c.apply-worth.ensures.pressed c.args.due.now.event does)
     (c.apply-worth.ensures.leaves c.args.due.now.event does)
     c.self.invariant c.args.comparisons.now c.apply-worth.new.comparisons
     (λ d fits. c.apply-worth.ensures.cost c.args.due.now.event d does fits) start
@@ -88,7 +96,10 @@ returns-clause-once g c d fits =
     let does : Does i.parts c.args.due.now.action e =
     due_does i.ratio i.parts i.jobs i.done c.args.due.now.action e
     (subst (λ d. IsDue d c.args.due.now.action c.args.due.now.event) (sym c.self.view_is) c.requires) in
-    subst (λ hs. c.apply-worth.new.comparisons ≤ c.args.comparisons.now + 2 * d * (4 + wait_again e hs))
-    (sym (held_list i.parts c.laws.ensures.roles) ∙ ap (λ (d : Course). filter is_held d.ready) c.self.view_is)
+    subst (λ (d2 : Course). c.apply-worth.new.comparisons ≤ c.args.comparisons.now
+    + orders_of d2.rules.version * d * (4 + wait_again e (filter is_held d2.ready))) c.self.view_is
+    (subst (λ hs. c.apply-worth.new.comparisons ≤ c.args.comparisons.now
+    + orders_of i.parts.version * d * (4 + wait_again e hs))
+    (sym (held_list i.parts c.laws.ensures.roles))
     (c.apply-worth.ensures.once e d does
-    (omega (arith, fits, ap (λ (d : Course). length d.ready) c.self.view_is)))
+    (omega (arith, fits, ap (λ (d : Course). length d.ready) c.self.view_is))))
