@@ -2,13 +2,13 @@
 use Rattle.std.proofs.Common.{◌≡◌, ℕ, ◌≤◌, ◌<◌, refl, sym, ap, ◌∙◌, subst, cond, Option, Some, None, Ok, true, false}
 use Rattle.std.proofs.Common.{Bool, ◌⊎◌, inl, inr, ◌≢◌, option_map, le-ltb, lt-ltb}
 use Rattle.std.specs.Bool.{then_some}
-use Rattle.std.specs.Option.{option_or}
+use Rattle.std.specs.Option.{option_or, option_map_or}
 use Rattle.dover_model.specs.Common.{AreShort, JobFacts, job_numbers, refusal_of, Session, RefusedJob, refused_at}
 use Rattle.dover_model.specs.Common.{admitted_jobs, refuses_lines, refusal_at, late_refusal, refusal_in, refused_mark}
 use Rattle.dover_model.specs.Common.{is_full, instance_of, with_item, JobItem, JobLine, Account, NotAdmitted}
-use Rattle.dover_model.specs.Common.{late_cause, cause_of, with_fault, with_line, with_refused_at}
+use Rattle.dover_model.specs.Common.{Order, late_cause, cause_of, with_fault, with_line, with_refused_at}
 use Rattle.dover_model.specs.declared.events.Version.{Version}
-use Rattle.dover_model.specs.declared.events.Version.TheVariants.{Two, Three}
+use Rattle.dover_model.specs.declared.events.Version.TheVariants.{Two, Three, Four}
 use Rattle.dover_model.specs.declared.events.Refusal.{Refusal}
 use Rattle.dover_model.specs.declared.events.Refusal.TheVariants.{Late, Full}
 use Rattle.dover_model.proofs.sessions.Fullness.{full_refuses, mark_stays, never_alone}
@@ -20,9 +20,15 @@ use Rattle.event_feed.specs.Kept.{IsKeptOf}
 use Rattle.event_feed.specs.Reading.{open_account, IsTaken, Takes}
 
 -- from Two on job lines are refused alone
-pub refuses_alone : (v : Version) → (v ≡ Two) ⊎ (v ≡ Three) → refuses_lines v ≡ true
+pub refuses_alone : (v : Version) → (v ≡ Two) ⊎ (v ≡ Three) ⊎ (v ≡ Four) → refuses_lines v ≡ true
 refuses_alone v (inl two) = ap refuses_lines two
-refuses_alone v (inr three) = ap refuses_lines three
+refuses_alone v (inr (inl three)) = ap refuses_lines three
+refuses_alone v (inr (inr four)) = ap refuses_lines four
+
+-- and from Three on late ones are
+pub refuses_late : (v : Version) → (v ≡ Three) ⊎ (v ≡ Four) → (refuses_lines v ≡ true) × (late_refusal v ≡ Some Late)
+refuses_late v (inl three) = (ap refuses_lines three, ap late_refusal three)
+refuses_late v (inr four) = (ap refuses_lines four, ap late_refusal four)
 
 module _ (lines : ℕ) (S : Session) (mark : ℕ) (j : JobFacts) where
   -- the account, with the line counted
@@ -69,14 +75,15 @@ module _ (lines : ℕ) (S : Session) (mark : ℕ) (j : JobFacts) where
       (lt-ltb _ _ late)
 
   -- from version Three on it is handed in
-  pub takes_late : (kept : KeptSession) → IsKeptOf kept S mark → j.release < mark → S.rules.version ≡ Three
+  pub takes_late : (kept : KeptSession) → IsKeptOf kept S mark → j.release < mark
+      → (refuses_lines S.rules.version ≡ true) × (late_refusal S.rules.version ≡ Some Late)
       → AreShort (job_numbers j)
       → Takes (JobLine j) lines S mark kept (Ok (fed.Refused j.release j.work j.deadline j.value Late))
   takes_late kept it late version numerals =
-      takes_alone kept it (ap refuses_lines version) numerals Late (λ e. let same : Late ≡ Full = e in cc)
-      (ap (λ b. cond b (late_refusal S.rules.version) (refusal_in S j)) (lt-ltb _ _ late) ∙ ap late_refusal version)
+      takes_alone kept it version.0 numerals Late (λ e. let same : Late ≡ Full = e in cc)
+      (ap (λ b. cond b (late_refusal S.rules.version) (refusal_in S j)) (lt-ltb _ _ late) ∙ version.1)
       refl
-      (late_line_cause late ∙ ap (λ v. Some (late_cause v)) version)
+      (late_line_cause late ∙ ap (λ o. Some (option_map_or NotAdmitted o Order)) version.1)
 
 module _ (lines : ℕ) (S : Session) (mark : ℕ) (j : JobFacts) (no_fall : mark ≤ j.release) where
   -- the account, with the line counted

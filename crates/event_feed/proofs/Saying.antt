@@ -1,13 +1,15 @@
 -- What the lines of ratios and of ticks say to an account that goes on, and that a job's numbers have numerals.
 use Rattle.std.proofs.Common.{◌≡◌, ℕ, suc, ◌+◌, ◌≤◌, ◌<◌, ◌^◌, ap, ◌∙◌, cond, arith, Some, None, is_some, ◌||◌, Option}
+use Rattle.std.proofs.Common.{true}
 use Rattle.std.proofs.Common.{[], ◌∷◌, nat_lt, option_map, le-ltb}
 use Rattle.dover_model.specs.declared.events.Version.{Version}
-use Rattle.dover_model.specs.declared.events.Version.TheVariants.{One, Two, Three}
+use Rattle.dover_model.specs.declared.events.Version.TheVariants.{One, Two, Three, Four}
 use Rattle.dover_model.specs.Common.{last_tick, most_lines, JobFacts, IsJob, job_numbers, Fraction, IsRatio, fraction}
 use Rattle.dover_model.specs.Common.{with_factor, Declaration, version_number, AreShort, Session, new_session}
 use Rattle.dover_model.specs.Common.{IsDeclarable, FeedLine, RatioLine, FactorLine, TickLine, HasNumerals, feed_line}
 use Rattle.dover_model.specs.Common.{feed_text, Account, Lines, Declared, Order, rules_with, declared_rules}
 use Rattle.dover_model.specs.Common.{factor_rules, with_line, with_fault, next_line, no_lines}
+use Rattle.dover_model.specs.Session.{takes_factors}
 use Rattle.dover_model.specs.declared.factors.Factor.{Factor}
 use Rattle.dover_model.proofs.texts.FeedLines.{feed_line-feed_text}
 use Rattle.dover_model.proofs.valid.JobLimits.{ratio_limits, job_limits}
@@ -31,12 +33,14 @@ module _ (p q : ℕ) (ratio : IsRatio (fraction p q)) where
         by_version One p_short q_short = (p_short, (q_short, tt))
         by_version Two p_short q_short = (p_short, (q_short, (omega arith, tt)))
         by_version Three p_short q_short = (p_short, (q_short, (omega arith, tt)))
+        by_version Four p_short q_short = (p_short, (q_short, (omega arith, tt)))
 
   -- it declares the rules
   declares : (v : Version) → declared_rules k (declared_number v) ≡ Some (rules_with k v)
   declares One = ap (λ b. cond b (Some (rules_with k One)) None) ratio.passes
   declares Two = ap (λ b. cond b (Some (rules_with k Two)) None) ratio.passes
   declares Three = ap (λ b. cond b (Some (rules_with k Three)) None) ratio.passes
+  declares Four = ap (λ b. cond b (Some (rules_with k Four)) None) ratio.passes
 
   -- what it says as the first line
   pub ratio_account : (v : Version) → next_line no_lines (feed_text (RatioLine p q (declared_number v)))
@@ -63,18 +67,23 @@ module _ (p q b c : ℕ) (ratio : IsRatio (with_factor (fraction p q) b c)) wher
     reordered n short = (short.1.0, (short.1.1.0, (short.0, short.1.1.1)))
 
   -- it declares the rules
-  declares_factor : factor_rules factored 3 ≡ Some (rules_with factored Three)
-  declares_factor = ap (λ b. cond b (Some (rules_with factored Three)) None) ratio.passes
+  declares_factor : (v : Version) → takes_factors v ≡ true
+      → factor_rules factored (version_number v) ≡ Some (rules_with factored v)
+  declares_factor One takes = never takes
+  declares_factor Two takes = never takes
+  declares_factor Three takes = ap (λ b. cond b (Some (rules_with factored Three)) None) ratio.passes
+  declares_factor Four takes = ap (λ b. cond b (Some (rules_with factored Four)) None) ratio.passes
 
   -- what it says as the first line
-  pub factor_account : next_line no_lines (feed_text (FactorLine p q 3 b c))
-      ≡ open_account 1 (Some (new_session (rules_with factored Three))) 0
-  factor_account =
-      let line : FeedLine = FactorLine p q 3 b c in
+  pub factor_account : (v : Version) → takes_factors v ≡ true
+      → next_line no_lines (feed_text (FactorLine p q (version_number v) b c))
+      ≡ open_account 1 (Some (new_session (rules_with factored v))) 0
+  factor_account v takes =
+      let line : FeedLine = FactorLine p q (version_number v) b c in
       let a : Account = open_account 1 None 0 in
-      ap (after_form a) (feed_line-feed_text line (factor_numerals Three))
-      ∙ ap (λ o. with_line a line (cond (is_some o) None (Some Declared))) declares_factor
-      ∙ ap (λ o. record a { session = option_map new_session o }) declares_factor
+      ap (after_form a) (feed_line-feed_text line (factor_numerals v))
+      ∙ ap (λ o. with_line a line (cond (is_some o) None (Some Declared))) (declares_factor v takes)
+      ∙ ap (λ o. record a { session = option_map new_session o }) (declares_factor v takes)
 
 -- ---- the line of rules, with a factor or without
 
@@ -91,9 +100,7 @@ rules_account rules = by rules.ratio.p rules.ratio.q rules.ratio.factor rules.ve
       → next_line no_lines (feed_text (rules_line (rules_by p q o v)))
       ≡ open_account 1 (Some (new_session (rules_by p q o v))) 0
   by p q None v ratio declared = ratio_account p q ratio v
-  by p q (Some f) Three ratio declared = factor_account p q f.b f.c ratio
-  by p q (Some f) One ratio declared = never declared
-  by p q (Some f) Two ratio declared = never declared
+  by p q (Some f) v ratio declared = factor_account p q f.b f.c ratio v declared
 
 -- ---- the line of a job
 

@@ -2,8 +2,8 @@
 use Rattle.std.proofs.Common.{◌≡◌, ℕ, suc, ◌≤◌, List, [], ◌∷◌, ◌++◌, refl, sym, ap, ◌∙◌, subst, cond, true, false}
 use Rattle.std.proofs.Common.{Option, Some, None, Ok, Err, inl, Result, IsSome, le-ltb}
 use Rattle.std.proofs.lemmas.List.Sums.{fold-append}
-use Rattle.dover_model.specs.Common.{most_lines, Session, FeedLine, feed_line, Account, Standing, Open, Ended, cause_of}
-use Rattle.dover_model.specs.Common.{with_line, with_fault, read_line, next_line, no_lines, is_open, account_of_lines}
+use Rattle.dover_model.specs.Common.{most_lines, Session, FeedLine, feed_line, Account, Open, Ended, cause_of}
+use Rattle.dover_model.specs.Common.{with_line, with_fault, read_line, next_line, no_lines, account_of_lines}
 use Rattle.dover_model.specs.Common.{most_lines_in}
 use Rattle.dover_model.specs.Feed as model
 use Rattle.event_feed.specs.declared.faults.Cause.{Cause}

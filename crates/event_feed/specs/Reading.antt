@@ -5,7 +5,7 @@ use Rattle.dover_model.specs.Common.{JobLine, TickLine, DoneLine, EndLine, Accou
 use Rattle.dover_model.specs.Common.{cause_of, with_fault, with_line}
 use Rattle.std.specs.Prelude.{◌≡◌, ℕ, ◌≤◌, Option, Some, None, Result, Ok, Err}
 use Rattle.dover_model.specs.declared.events.Version.{Version}
-use Rattle.dover_model.specs.declared.events.Version.TheVariants.{One, Two, Three}
+use Rattle.dover_model.specs.declared.events.Version.TheVariants.{One, Two, Three, Four}
 use Rattle.admission.specs.Answers as admission
 use Rattle.admission.specs.Answers.{refusal_of_refused}
 use Rattle.admission.specs.declared.refused.Refused.{Refused}
@@ -20,6 +20,7 @@ abbrev pub declared_number : Version → Option ℕ
 declared_number One = None
 declared_number Two = Some 2
 declared_number Three = Some 3
+declared_number Four = Some 4
 
 -- the line that declares these rules, with the factor where there is one
 abbrev pub rules_line : Declaration → FeedLine

@@ -16,12 +16,13 @@ fn version_of(number: Option<u64>) -> Option<Version>
         None => Some(Version::One),
         Some(2) => Some(Version::Two),
         Some(3) => Some(Version::Three),
+        Some(4) => Some(Version::Four),
         Some(_) => None,
     }
 }
 
 /// The ratio and the version that these numbers declare: p/q where it is within the limits of a ratio,
-/// and version One where no number of a version stands, Two where it is 2, Three where it is 3.
+/// and version One where no number of a version stands, Two where it is 2, Three where it is 3, Four where it is 4.
 pub fn declared(p: u64, q: u64, version: Option<u64>) -> Option<(Ratio, Version)>
     ensures { option_map (λ declared. rules_with declared.0 declared.1) result
         ≡ declared_rules (fraction p q) version }
@@ -31,7 +32,7 @@ pub fn declared(p: u64, q: u64, version: Option<u64>) -> Option<(Ratio, Version)
     Some((ratio, version))
 }
 
-/// The ratio with the factor b/c, and version Three, where the number is 3 and all are within the limits.
+/// The ratio with the factor b/c, and version Three or Four, where the number is 3 or 4 and all are within the limits.
 pub fn declared_with_factor(
     p: u64,
     q: u64,
@@ -43,10 +44,12 @@ pub fn declared_with_factor(
         ≡ factor_rules (with_factor (fraction p q) b c) version }
 {
     let ratio = Ratio::of_numbers(p, q, Some((b, c)))?;
-    if version != 3 {
-        return None;
-    }
-    Some((ratio, Version::Three))
+    let version = match version {
+        3 => Version::Three,
+        4 => Version::Four,
+        _ => return None,
+    };
+    Some((ratio, version))
 }
 
 /// The number with which a line without a factor declares a version.
@@ -57,6 +60,7 @@ fn plain_number(version: Version) -> Option<u64>
         Version::One => None,
         Version::Two => Some(2),
         Version::Three => Some(3),
+        Version::Four => Some(4),
     }
 }
 

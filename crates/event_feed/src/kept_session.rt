@@ -64,7 +64,7 @@ impl KeptSession {
     {
         match self.admission.version() {
             Version::One => Err(Cause::of(refused)),
-            Version::Two | Version::Three => Ok(Fed::Refused {
+            Version::Two | Version::Three | Version::Four => Ok(Fed::Refused {
                 release,
                 work,
                 deadline,
@@ -83,7 +83,7 @@ impl KeptSession {
     {
         match self.admission.version() {
             Version::One | Version::Two => Err(Cause::Order),
-            Version::Three => Ok(Fed::Refused {
+            Version::Three | Version::Four => Ok(Fed::Refused {
                 release,
                 work,
                 deadline,
@@ -156,7 +156,7 @@ impl KeptSession {
     {
         match self.admission.version() {
             Version::One | Version::Two => Err(Cause::Line),
-            Version::Three => self.finish(at, number),
+            Version::Three | Version::Four => self.finish(at, number),
         }
     }
 
@@ -164,8 +164,8 @@ impl KeptSession {
     ///
     /// # Errors
     ///
-    /// Why it is at fault. From version Two on a job that isn't admitted is no fault, and in version Three neither is
-    /// one that comes late, nor a done line whose finish isn't right.
+    /// Why it is at fault. From version Two on a job that isn't admitted is no fault, and from version Three on neither
+    /// is one that comes late, nor a done line whose finish isn't right.
     #[inline(always)]
     pub fn line(&mut self, line: FeedLine) -> Result<Fed, Cause>
         requires { HasNumerals (form_of line) }

@@ -13,7 +13,7 @@ use line_text::{BackLine, Spelled};
 
 /// Writes the first line of a trace with no factor.
 fn plain_header(number: u64, k: Ratio, line: &mut BackLine)
-    requires small { number ≤ 3 }
+    requires small { number ≤ 4 }
     requires empty { line.old ≡ 10 ∷ [] }
     ensures text { line.new ≡ with_numbers (codes "dover") (number ∷ k.p ∷ k.q ∷ []) ++ 10 ∷ [] }
     ensures fits { length line.new ≤ 63 }
@@ -23,7 +23,7 @@ fn plain_header(number: u64, k: Ratio, line: &mut BackLine)
 
 /// Writes the first line of a trace with a factor.
 fn factor_header(number: u64, k: Ratio, factor: Factor, line: &mut BackLine)
-    requires small { number ≤ 3 }
+    requires small { number ≤ 4 }
     requires empty { line.old ≡ 10 ∷ [] }
     ensures text { line.new
         ≡ with_numbers (codes "dover") (number ∷ k.p ∷ k.q ∷ factor.b ∷ factor.c ∷ []) ++ 10 ∷ [] }

@@ -146,7 +146,7 @@ declared_good p q version rules declared = by_ratio (is_ratio (fraction p q)) re
   by_ratio false fails e = none_is_some e
 
 -- so they have, and may, where a factor is declared
-factor_good : (p q b c version : ℕ) (rules : Declaration)
+pub factor_good : (p q b c version : ℕ) (rules : Declaration)
     → factor_rules (with_factor (fraction p q) b c) version ≡ Some rules → IsRatio rules.ratio × IsDeclarable rules
 factor_good p q b c version rules declared =
     by_ratio (is_ratio (with_factor (fraction p q) b c)) refl (version == 3) (version == 4) declared where

@@ -17,6 +17,7 @@ use Rattle.dover_model.specs.declared.events.Task.{Task}
 use Rattle.dover_model.proofs.lists.Members.{on_map, map_member, sum_filter, sum_zero, sum_map, sum_same, term_le_sum}
 use Rattle.dover_model.proofs.steps.Roles.{one_number, numbers_above, passes, is_privileged_role, is_over_role}
 use Rattle.dover_model.proofs.steps.Loads.{sum_change, with_roles, Fits, load}
+use Rattle.dover_model.proofs.steps.Pressing.{pressing}
 use Rattle.dover_model.proofs.steps.OneChange.{changed, state_with, EachOther, on_changed, changed_here, changed_there}
 use Rattle.dover_model.proofs.steps.Moves.{says, displaced_rests}
 use Rattle.dover_model.proofs.steps.Ticking.{Quiet}
@@ -97,6 +98,11 @@ pub record IsSteady (most : ℕ) (Link Light : JobFacts → Type 0) (s : State) 
   pub follows : EachTwo (λ r u. r.role ≡ Running → Link u.job → r.job.value < u.job.value → Follows s.clock u.role u)
       s.tasks
   pub idle : NoneRuns s.tasks → Each IsUnbegun s.tasks ⊎ Each (λ t. is_over t ≡ true) s.tasks
+
+-- a steady state is steady pressed or not
+steady_either : (b : Bool) {most : ℕ} {Link Light : JobFacts → Type 0} {s : State} → IsSteady most Link Light s
+    → IsSteady most Link Light (pressing b s)
+steady_either b steady = record { stands = steady.stands; follows = steady.follows; idle = steady.idle }
 
 -- what is mapped comes from a member
 pub member_map : {X Y : Type 0} (f : X → Y) (xs : List X) (y : Y) → IsMember y (map f xs) → (x : X) × IsMember x xs
@@ -539,7 +545,8 @@ module _ (k : Fraction) (jobs : List JobFacts) (most : ℕ) (Link Light : JobFac
       deed_steady : (other : Move) → (Quiet s → IsSteady most Link Light (after s other)) → (m : Move)
           → Deed k s other m → DoneAtEnd s m
           → IsSteady most Link Light (after s m)
-      deed_steady other rested m (Completed r member runs) done = completes r member runs (done refl r member runs)
+      deed_steady other rested m (Completed r member runs) done =
+          steady_either _ (completes r member runs (done refl r member runs))
       deed_steady other rested m (Resumed p member is_h none least why) _ = absurd (stands_as p member Held is_h)
       deed_steady other rested m (Started o member waiting none first fits next) _ =
           absurd (by_idle (steady.idle none)) where
@@ -560,7 +567,7 @@ module _ (k : Fraction) (jobs : List JobFacts) (most : ℕ) (Link Light : JobFac
       deed_steady other rested m (Taken r x member runs some x_member waiting now stale heavy) _ =
           takes r x member runs some x_member waiting heavy
       deed_steady other rested m (Abandoned r x member runs some x_member waiting now stale light) _ =
-          abandons r x member runs x_member waiting light
+          steady_either true (abandons r x member runs x_member waiting light)
       deed_steady other rested m (Rested quiet) _ = rested quiet
 
       -- a step keeps a steady state
@@ -572,7 +579,7 @@ module _ (k : Fraction) (jobs : List JobFacts) (most : ℕ) (Link Light : JobFac
                 → IsSteady most Link Light
                 (after s (then_some b (Prints (End (value_sum (filter is_done s.tasks)))) or_else Ticks))
             by_end true quiet = subst
-                (λ (tasks : List Task). IsSteady most Link Light (record { clock = s.clock; tasks = tasks }))
+                (λ (tasks : List Task). IsSteady most Link Light (record s { tasks = tasks }))
                 (sym (end_same s (value_sum (filter is_done s.tasks)))) steady
             by_end false quiet = ticks quiet
 

@@ -11,7 +11,7 @@ use Rattle.dover_model.specs.Common.{completed_value, is_complete, Each}
 abbrev pub baiting : Fraction → Version → (rounds : ℕ) → Instance
 baiting k version rounds = jobs_under version k (bait_jobs k rounds)
 
--- the first version in which a feed may declare the ratio: a factor is declared in version Three alone
+-- the first version in which a feed may declare the ratio: a factor may be declared from version Three on
 abbrev pub version_for : Fraction → Version
 version_for k = elim k.factor [ None ↦ One | Some f ↦ Three ]
 

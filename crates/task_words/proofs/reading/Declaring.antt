@@ -1,13 +1,10 @@
 -- What a line of a ratio makes of what is kept.
-use Rattle.std.proofs.Common.{◌≡◌, ℕ, [], refl, sym, ap, ◌∙◌, subst, Bool, true, false, cond, Option, Some, None}
-use Rattle.std.proofs.Common.{is_some, arith, ◌==◌}
-use Rattle.std.specs.Bool.{then_some}
-use Rattle.dover_model.specs.declared.events.Version.TheVariants.{Three}
-use Rattle.dover_model.specs.Common.{fraction, with_factor, is_ratio, IsRatio, Declaration as Rules, IsDeclarable, Open}
-use Rattle.dover_model.specs.Common.{Faulty, declared_rules, declared_version, factor_rules, rules_with}
+use Rattle.std.proofs.Common.{◌≡◌, ℕ, [], refl, sym, ap, ◌∙◌, subst, true, false, cond, Option, Some, None}
+use Rattle.std.proofs.Common.{is_some, arith}
+use Rattle.dover_model.specs.Common.{IsRatio, Declaration as Rules, IsDeclarable, Open}
+use Rattle.dover_model.specs.Common.{Faulty, rules_with}
 use Rattle.dover_model.specs.Feed as feed
-use Rattle.dover_model.proofs.sessions.Accounts.{declared_good}
-use Rattle.dover_model.proofs.lists.Members.{some_same}
+use Rattle.dover_model.proofs.sessions.Accounts.{declared_good, factor_good}
 use Rattle.dover_model.proofs.lists.Tests.{none_is_some}
 use Rattle.admission.specs.Kept as admission
 use Rattle.event_feed.specs.declared.faults.Cause.TheVariants as cause
@@ -20,19 +17,6 @@ use Rattle.task_words.specs.declared.reading.intake.TaskIntake.{TaskIntake}
 use Rattle.task_words.specs.declared.reading.intake.Progress.TheVariants as progress
 use Rattle.task_words.specs.declared.reading.lines.TaskLine.{TaskLine}
 use Rattle.task_words.specs.declared.reading.lines.TaskLine.TheVariants.{Declared, Factored, Task, End}
-
--- the rules that are declared with a factor may be declared
-factor_good : (p q b c version : ℕ) (rules : Rules)
-    → factor_rules (with_factor (fraction p q) b c) version ≡ Some rules → IsRatio rules.ratio × IsDeclarable rules
-factor_good p q b c version rules declared =
-    by_ratio (is_ratio (with_factor (fraction p q) b c)) refl (version == 3) declared where
-      by_ratio : (h : Bool) → is_ratio (with_factor (fraction p q) b c) ≡ h → (three : Bool)
-          → cond h (then_some three (rules_with (with_factor (fraction p q) b c) Three)) None ≡ Some rules
-          → IsRatio rules.ratio × IsDeclarable rules
-      by_ratio true passes true e = subst (λ (r : Rules). IsRatio r.ratio × IsDeclarable r)
-          (some_same (rules_with (with_factor (fraction p q) b c) Three) rules e) (record { passes = passes }, refl)
-      by_ratio true passes false e = none_is_some e
-      by_ratio false fails three e = none_is_some e
 
 -- the rules that a line declares may be declared
 rules_good : (read : TaskLine) (rules : Rules) → rules_of_line read ≡ Some rules

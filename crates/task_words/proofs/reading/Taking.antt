@@ -6,7 +6,7 @@ use Rattle.dover_model.specs.declared.events.Refusal.{Refusal}
 use Rattle.dover_model.specs.declared.events.Refusal.TheVariants as refusal
 use Rattle.dover_model.specs.declared.events.Version.TheVariants.{Two}
 use Rattle.dover_model.specs.Common.{most_lines, lines_of, rest_of, is_too_long, Fraction, JobFacts, job_of_numbers}
-use Rattle.dover_model.specs.Common.{Declaration as Rules, refusal_of, Open, Faulty, NotAdmitted, rules_with}
+use Rattle.dover_model.specs.Common.{Declaration as Rules, refusal_of, Faulty, NotAdmitted, rules_with}
 use Rattle.dover_model.proofs.lists.Members.{all_last}
 use Rattle.dover_model.specs.Feed as feed
 use Rattle.admission.specs.Kept as admission

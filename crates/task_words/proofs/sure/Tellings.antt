@@ -1,7 +1,8 @@
 -- What is told of a task is its line.
 use Rattle.std.proofs.Common.{◌≡◌, ℕ, ◌≤◌, ◌<◌, List, [], ◌∷◌, refl, sym, ap, ◌∙◌, Bool, true, false, cond, arith}
 use Rattle.std.proofs.Common.{nat_lt, codes, lt-ltb, le-ltb}
-use Rattle.dover_model.specs.Common.{Fraction, most_value, with_numbers, is_heavy, Stream, stream_at, is_spread}
+use Rattle.dover_model.specs.Common.{Declaration, Fraction, most_value, with_numbers, is_heavy, Stream, stream_at}
+use Rattle.dover_model.specs.Common.{is_spread}
 use Rattle.dover_model.proofs.bound.Calculus.{heavy_more}
 use Rattle.root_compare.specs.Least.{least_heavy}
 use Rattle.task_words.specs.declared.sure.telling.Told.TheVariants as told
@@ -9,18 +10,21 @@ use Rattle.task_words.specs.sure.Kept.{told_line}
 use Rattle.task_words.specs.sure.Lines.{none_line, raise_line, spread_line, sure_line}
 use Rattle.task_words.specs.sure.Streams.{most_against, stays_within}
 
-module _ (k : Fraction) (streams : List Stream) (x : ℕ) where
+module _ (rules : Declaration) (streams : List Stream) (x : ℕ) where
   -- by whether it is spread
   abbrev by_spread : Bool → List ℕ
-  by_spread b = cond b (spread_line k streams x (most_against streams x)) (none_line x (codes " spread") [])
+  by_spread b = cond b (spread_line rules.ratio streams x (most_against rules.version streams x))
+      (none_line x (codes " spread") [])
 
-  pub told_spread : is_spread (stream_at streams x) ≡ false → told_line x told.Spread ≡ sure_line k streams x
+  pub told_spread : is_spread (stream_at streams x) ≡ false → told_line x told.Spread ≡ sure_line rules streams x
   told_spread fails = sym (ap by_spread fails)
 
   pub where_spread : is_spread (stream_at streams x) ≡ true → (line : List ℕ)
-      → line ≡ spread_line k streams x (most_against streams x) → line ≡ sure_line k streams x
+      → line ≡ spread_line rules.ratio streams x (most_against rules.version streams x)
+      → line ≡ sure_line rules streams x
   where_spread is line same = same ∙ sym (ap by_spread is)
 
+module _ (k : Fraction) (streams : List Stream) (x : ℕ) where
   module _ (against : ℕ) where
     -- by whether it is heavy
     abbrev by_heavy : Bool → List ℕ

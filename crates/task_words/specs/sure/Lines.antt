@@ -28,16 +28,16 @@ spread_line k streams x against =
     else raise_line k streams x against (least_heavy k against))
 
 -- what is said of task x
-abbrev pub sure_line : Fraction → List Stream → ℕ → List ℕ
-sure_line k streams x =
-    if is_spread (stream_at streams x) then spread_line k streams x (most_against streams x)
+abbrev pub sure_line : Declaration → List Stream → ℕ → List ℕ
+sure_line rules streams x =
+    if is_spread (stream_at streams x) then spread_line rules.ratio streams x (most_against rules.version streams x)
     else none_line x (codes " spread") []
 
 -- a line for each task, in order
-abbrev pub sure_lines : Fraction → List Stream → List (List ℕ)
-sure_lines k streams = map (λ x_s. sure_line k streams x_s.0) (enumerate_from 0 streams)
+abbrev pub sure_lines : Declaration → List Stream → List (List ℕ)
+sure_lines rules streams = map (λ x_s. sure_line rules streams x_s.0) (enumerate_from 0 streams)
 
 -- Done with these lines
 abbrev pub SaysSure : Declaration → List PeriodicTask → Status → List ℕ → Type 0
-SaysSure rules tasks Done text = text ≡ in_lines (sure_lines rules.ratio (streams_of tasks))
+SaysSure rules tasks Done text = text ≡ in_lines (sure_lines rules (streams_of tasks))
 SaysSure rules tasks _ text = ⊥

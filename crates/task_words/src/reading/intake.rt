@@ -1,5 +1,5 @@
 //! What is kept of a task text between its lines.
-ghost use Rattle.std.specs.Prelude.{◌≡◌, ℕ, List, ◌∷◌, ◌++◌, [], Option, Some, IfErr, option_map};
+ghost use Rattle.std.specs.Prelude.{◌≡◌, ℕ, List, ◌∷◌, ◌++◌, [], Option, Some, IfErr, option_map, is_some, false};
 ghost use Rattle.dover_model.specs.Common.{Declaration as Rules, rules_with};
 ghost use Rattle.dover_model.specs.Feed as feed;
 ghost use Rattle.task_words.specs.declared.tasks.task.PeriodicTask.{PeriodicTask};
@@ -110,6 +110,22 @@ impl TaskIntake {
         }
     }
 
+    /// A line that declares these rules, the first one, and is counted.
+    fn begin(&mut self, declared: (Ratio, Version))
+        requires { is_some self.old.declared ≡ false }
+        ensures stands { (until : ℕ) (read : TaskLine) (a : TaskAccount) →
+            Declares read (Some (rules_with declared.0 declared.1)) →
+            a.standing ≡ feed.Open → KeepsAccount until self.old a →
+            StandsAt until progress.Open self.new (with_line a read (cause_of until a read)) }
+        ensures lines { self.new.lines ≡ self.old.lines }
+    {
+        let (ratio, version) = declared;
+        self.declared = Some(Declaration {
+            version,
+            admission: Admission::new(Version::Two, ratio),
+        });
+    }
+
     /// A line that declares these rules, or nothing, and is counted.
     fn declare(&mut self, rules: Option<(Ratio, Version)>) -> Progress
         ensures stands { (until : ℕ) (read : TaskLine) (a : TaskAccount) →
@@ -123,11 +139,8 @@ impl TaskIntake {
             return Progress::Refused(Cause::Declared);
         }
         match rules {
-            Some((ratio, version)) => {
-                self.declared = Some(Declaration {
-                    version,
-                    admission: Admission::new(Version::Two, ratio),
-                });
+            Some(declared) => {
+                self.begin(declared);
                 Progress::Open
             }
             None => Progress::Refused(Cause::Declared),

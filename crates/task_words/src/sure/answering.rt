@@ -31,6 +31,7 @@ pub(crate) fn answer<P: Port>(
     let tasks = listed.tasks.as_slice();
     let together = Together {
         ratio: listed.ratio,
+        version: listed.version,
         sums: sum_up(tasks),
         sparse: find_sparse(tasks),
     };

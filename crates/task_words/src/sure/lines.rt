@@ -1,6 +1,6 @@
 //! The lines of the word `sure`, on their way out.
 ghost use Rattle.std.specs.Prelude.{◌≡◌, ◌<◌, ◌≤◌, ◌+◌, ◌*◌, ◌++◌, ◌∷◌, [], length};
-ghost use Rattle.dover_model.specs.Lines.{in_lines};
+ghost use Rattle.dover_model.specs.Common.{in_lines, rules_with};
 ghost use Rattle.dover_port.specs.Causes.{HasCause, StopsAtFailure};
 ghost use Rattle.dover_port.specs.Moves.{PutsThrough};
 ghost use Rattle.task_words.specs.sure.Kept.{AreSmall, AreSparse, AreSums, told_line};
@@ -65,7 +65,7 @@ pub(crate) fn put_lines<P: Port>(
     requires sums { AreSums (streams_of tasks.now) together.now.sums }
     requires sparse { AreSparse (streams_of tasks.now) together.now.sparse }
     ensures text { PutsThrough (P.moves port.old) (P.moves port.new) result out.old out.new
-        (in_lines (sure_lines together.now.ratio (streams_of tasks.now))) }
+        (in_lines (sure_lines (rules_with together.now.ratio together.now.version) (streams_of tasks.now))) }
     ensures cause { HasCause (P.write_faults port.old) (P.write_faults port.new) (P.read_faults port.old)
         (P.read_faults port.new) result }
     ensures stops { StopsAtFailure (P.calls port.old) (P.calls port.new) result }

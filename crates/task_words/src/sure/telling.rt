@@ -1,6 +1,6 @@
 //! What is told of a task.
-ghost use Rattle.std.specs.Prelude.{◌≡◌, ◌<◌, ◌≤◌, length};
-ghost use Rattle.dover_model.specs.Common.{most_value, is_spread};
+ghost use Rattle.std.specs.Prelude.{◌≡◌, ◌<◌, ◌≤◌, length, not, true};
+ghost use Rattle.dover_model.specs.Common.{by_density, most_value, is_spread, rules_with};
 ghost use Rattle.root_compare.specs.Least.{least_heavy};
 ghost use Rattle.task_words.specs.sure.Kept.{AreSmall, AreSparse, AreSums, told_line};
 ghost use Rattle.task_words.specs.sure.Lines.{raise_line, sure_line};
@@ -10,8 +10,8 @@ use crate::sure::densities::{Sparse, stays_within};
 use crate::sure::sets::most_fitting;
 use crate::sure::sums::Sums;
 use crate::tasks::PeriodicTask;
-use dover_model::Ratio;
 use dover_model::jobs::MOST_VALUE;
+use dover_model::{Ratio, Version};
 use root_compare::{heavy, least_heavy};
 
 /// Of so many jobs of others all sets are tried.
@@ -38,6 +38,7 @@ pub(crate) enum Told {
 #[derive(Clone, Copy)]
 pub(crate) struct Together {
     pub(crate) ratio: Ratio,
+    pub(crate) version: Version,
     pub(crate) sums: Sums,
     pub(crate) sparse: Sparse,
 }
@@ -50,14 +51,24 @@ fn is_spread(task: &PeriodicTask) -> bool
     task.deadline - task.work < task.period && task.work <= task.period
 }
 
+/// Whether sets of jobs are tried: only what always chooses by deadline lets no others hold the processor together.
+fn tries_sets(version: Version) -> bool
+    ensures { result ≡ not (by_density version true) }
+{
+    match version {
+        Version::One | Version::Two | Version::Three => true,
+        Version::Four => false,
+    }
+}
+
 /// What jobs of the other tasks are worth at most that can stand against one of the task.
-fn most_against(tasks: &[PeriodicTask], number: usize, sums: &Sums) -> u128
+fn most_against(tasks: &[PeriodicTask], number: usize, version: Version, sums: &Sums) -> u128
     requires small { AreSmall (streams_of tasks.now) }
     requires sums { AreSums (streams_of tasks.now) sums.now }
     requires number { number < length tasks.now }
-    ensures { result ≡ most_against (streams_of tasks.now) number }
+    ensures { result ≡ most_against version (streams_of tasks.now) number }
 {
-    if sums.crossing_beside(tasks, number) <= MOST_TRIED {
+    if tries_sets(version) && sums.crossing_beside(tasks, number) <= MOST_TRIED {
         return u128::from(most_fitting(tasks, number));
     }
     sums.worth_beside(tasks, number)
@@ -88,13 +99,14 @@ pub(crate) fn tell(tasks: &[PeriodicTask], number: usize, together: &Together) -
     requires sums { AreSums (streams_of tasks.now) together.now.sums }
     requires sparse { AreSparse (streams_of tasks.now) together.now.sparse }
     requires number { number < length tasks.now }
-    ensures { told_line number result ≡ sure_line together.now.ratio (streams_of tasks.now) number }
+    ensures { told_line number result
+        ≡ sure_line (rules_with together.now.ratio together.now.version) (streams_of tasks.now) number }
 {
     let task = &tasks[number];
     if !is_spread(task) {
         return Told::Spread;
     }
-    let against = most_against(tasks, number, &together.sums);
+    let against = most_against(tasks, number, together.version, &together.sums);
     if against > u128::from(MOST_VALUE) {
         return Told::Beyond;
     }

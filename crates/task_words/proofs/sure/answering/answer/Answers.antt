@@ -22,15 +22,15 @@ put_lines-requires-clause-small g c = subst (λ ts. AreSmall (streams_of ts)) (s
 
 pub returns-in-Ok-clause-says : goal.returns-in-Ok-clause-says
 returns-in-Ok-clause-says g c = (
-  in_lines (sure_lines c.args.listed.now.ratio (streams_of c.as_slice-tasks.result.now)),
-  ap (λ ts. in_lines (sure_lines c.args.listed.now.ratio (streams_of ts))) c.as_slice-tasks.ensures.value,
+  in_lines (sure_lines (listed_rules c.args.listed.now) (streams_of c.as_slice-tasks.result.now)),
+  ap (λ ts. in_lines (sure_lines (listed_rules c.args.listed.now) (streams_of ts))) c.as_slice-tasks.ensures.value,
   rw c.requires.empty at c.in-Ok.ensures.text.all,
 )
 
 pub returns-in-Err-clause-says : goal.returns-in-Err-clause-says
 returns-in-Err-clause-says g c = (
   Done,
-  in_lines (sure_lines c.args.listed.now.ratio (streams_of c.as_slice-tasks.result.now)),
-  ap (λ ts. in_lines (sure_lines c.args.listed.now.ratio (streams_of ts))) c.as_slice-tasks.ensures.value,
+  in_lines (sure_lines (listed_rules c.args.listed.now) (streams_of c.as_slice-tasks.result.now)),
+  ap (λ ts. in_lines (sure_lines (listed_rules c.args.listed.now) (streams_of ts))) c.as_slice-tasks.ensures.value,
   rw c.requires.empty at c.in-Err.ensures.text.part,
 )

@@ -5,4 +5,4 @@ pub returns-clause-completed : goal.returns-clause-completed
 returns-clause-completed c = sure_completed
 
 pub returns-clause-raised : goal.returns-clause-raised
-returns-clause-raised c = λ k streams x v ratio less spread small. raised k streams x v ratio less spread small
+returns-clause-raised c = λ k w streams x v ratio less spread small. raised k w streams x v ratio less spread small

@@ -1,6 +1,6 @@
 use Rattle.std.proofs.Common.{◌≤◌, ◌∙◌, ◌++◌, ◌∷◌, [], refl, subst, arith}
 use Rattle.std.proofs.lemmas.List.{length-map}
-use Rattle.dover_model.specs.Sure.{blank_stream}
+use Rattle.dover_model.specs.Common.{blank_stream, rules_with}
 use Rattle.dover_port.proofs.Through.{passes_nothing, passes_then}
 use Rattle.dover_port.specs.Causes.{Rose}
 use Rattle.dover_port.specs.Moves.{CutsShort, Passes, PutsThrough}
@@ -13,7 +13,8 @@ use Rattle.task_words.proofs.sure.lines.put_lines.Goals as goal
 pub loop-number-preserved : goal.loop-number-preserved
 loop-number-preserved g c = record {
   passes = subst (Passes _ _ _ _)
-      (more (sure_line c.args.together.now.ratio (streams_of c.args.tasks.now)) blank_stream
+      (more (sure_line (rules_with c.args.together.now.ratio c.args.together.now.version)
+      (streams_of c.args.tasks.now)) blank_stream
       (streams_of c.args.tasks.now) c.loop-number.number
       (omega (arith, c.loop-number-test.true, length-map c.args.tasks.now stream_of)))
       (passes_then _ _ _ _ _ _ _ _ c.loop-number.invariant.passes
@@ -27,7 +28,8 @@ loop-number-preserved g c = record {
 pub returns-in-Err-clause-text : goal.returns-in-Err-clause-text
 returns-in-Err-clause-text g c =
     subst (PutsThrough _ _ _ _ _)
-    (all (sure_line c.args.together.now.ratio (streams_of c.args.tasks.now)) blank_stream (streams_of c.args.tasks.now)
+    (all (sure_line (rules_with c.args.together.now.ratio c.args.together.now.version)
+    (streams_of c.args.tasks.now)) blank_stream (streams_of c.args.tasks.now)
     c.loop-number.number (omega (arith, c.loop-number-test.true, length-map c.args.tasks.now stream_of)))
     (puts_behind _ _ _ _ _ _ _ _ _ c.loop-number.invariant.passes
     (puts_cut _ _ _ _ _ _ _
@@ -45,7 +47,8 @@ loop-number-init g c = record {
 pub returns-clause-text : goal.returns-clause-text
 returns-clause-text g c = record {
   all = subst (Passes _ _ _ _)
-      (whole (sure_line c.args.together.now.ratio (streams_of c.args.tasks.now)) blank_stream
+      (whole (sure_line (rules_with c.args.together.now.ratio c.args.together.now.version)
+      (streams_of c.args.tasks.now)) blank_stream
       (streams_of c.args.tasks.now) c.loop-number.number
       (omega (arith, c.loop-number-test.false, length-map c.args.tasks.now stream_of)))
       c.loop-number.invariant.passes;
