@@ -1,6 +1,6 @@
 -- As many jobs are ready where their run is settled as are kept.
 use Rattle.std.proofs.Common.{◌≡◌, ℕ, length, sym, ap, ◌∙◌, nat_le, filter}
-use Rattle.dover_model.specs.Common.{Instance, most_ready, is_ready, ready_at, is_full, settled_state, State, state_at}
+use Rattle.dover_model.specs.Common.{Instance, most_ready, is_ready, ready_at, is_full, settled_state, State}
 use Rattle.ready_jobs.specs.Course.{Course, Follows}
 use Rattle.waiting_pool.proofs.Reordering.{as_many}
 

@@ -1,14 +1,14 @@
 -- The open step of a state, where a job runs and where none does.
 use Rattle.std.proofs.Common.{Bool, not, ◌≡◌, ◌<◌, ◌≤◌, ◌∙◌, ap, sym, refl, Option, Some, None, ◌==◌, ◌&&◌, nat_le}
-use Rattle.std.proofs.Common.{if◌then◌else◌, lt-ltb, le-leb, find}
+use Rattle.std.proofs.Common.{lt-ltb, le-leb, find}
 use Rattle.std.specs.Bool.{then_some}
 use Rattle.dover_model.specs.Common.{is_less_dense, preempts}
 use Rattle.dover_model.specs.declared.events.Event.TheVariants.{Complete}
 use Rattle.dover_model.specs.declared.events.Task.{Task}
 use Rattle.dover_model.specs.Common.{Fraction, View, Move, Prints, decision, alarm, ◌or_else◌, runs, view, completion}
-use Rattle.dover_model.specs.Common.{dispatch, urgent_or, Waits, State, is_running, is_fresh, left}
+use Rattle.dover_model.specs.Common.{dispatch, urgent_or, State, is_running, is_fresh, left}
 use Rattle.dover_model.specs.declared.events.Version.{Version}
-use Rattle.ready_jobs.specs.Cases.{next_of, next_ready, decision_of, arrival_of}
+use Rattle.ready_jobs.specs.Cases.{next_of, next_ready, arrival_of}
 
 -- what is done while r runs
 abbrev pub busy : Fraction → View → Task → Bool → Option Task → Option Move → Option Task → Move → Move

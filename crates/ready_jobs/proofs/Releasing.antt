@@ -3,7 +3,7 @@ use Rattle.std.proofs.Common.{◌≡◌, ℕ, ◌≤◌, ◌<◌, [], ◌∷◌,
 use Rattle.std.proofs.Common.{arith, filter, append-nil, length-append}
 use Rattle.std.proofs.lemmas.List.Elements.{filter-append}
 use Rattle.dover_model.specs.Common.{last_tick, JobFacts, Finish, Rules, bare, Instance, IsValid, State, is_coming}
-use Rattle.dover_model.specs.Common.{is_done, is_over, value_sum, state_at, IsMember, Each, Keeps, is_ready, with_fresh}
+use Rattle.dover_model.specs.Common.{is_done, is_over, value_sum, IsMember, Each, Keeps, is_ready, with_fresh}
 use Rattle.dover_model.specs.declared.events.Task.{Task}
 use Rattle.dover_model.proofs.lists.Members.{each_append}
 use Rattle.dover_model.proofs.runs.Honest.{count_jobs}

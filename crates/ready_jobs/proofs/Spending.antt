@@ -1,6 +1,6 @@
 -- What a course has cost: as much as the run that it is kept of.
 use Rattle.std.proofs.Common.{◌≡◌, ℕ, ◌+◌, ◌-◌, ◌*◌, ◌≤◌, ◌<◌, ◌^◌, inl, inr, List, [], ◌∷◌, ◌++◌, length, sym, ap}
-use Rattle.std.proofs.Common.{refl, ◌∙◌, subst, Bool, true, false, arith, sum_by, ◌==◌, None, option_to_list, eqb-true}
+use Rattle.std.proofs.Common.{refl, ◌∙◌, subst, Bool, true, false, arith, sum_by, ◌==◌, option_to_list, eqb-true}
 use Rattle.std.proofs.Common.{eq-eqb}
 use Rattle.std.proofs.lemmas.List.Sums.{length-filter, sum_by-append}
 use Rattle.std.proofs.lemmas.Nat.{mul-le}

@@ -66,7 +66,7 @@ impl Parts {
         ensures kept { self.new ≡ record self.old { running = self.new.running; waiting = self.new.waiting } }
         ensures cost { (at d : ℕ) → length (ready_of self.old) + 1 < 2 ^ d →
             comparisons.new ≤ comparisons.old
-                + cost_of (orders_of self.old.version) d (state_of self.old) (Prints (Run at number)) }
+            + cost_of (orders_of self.old.version) d (state_of self.old) (Prints (Run at number)) }
         ensures once { (d : ℕ) → length (ready_of self.old) + 1 < 2 ^ d →
             comparisons.new ≤ comparisons.old + 3 * orders_of self.old.version * d }
     {
@@ -122,7 +122,7 @@ impl Parts {
         } }
         ensures cost { (at d : ℕ) → length (ready_of self.old) + 1 < 2 ^ d →
             comparisons.new ≤ comparisons.old
-                + cost_of (orders_of self.old.version) d (state_of self.old) (Prints (Take at stops starts)) }
+            + cost_of (orders_of self.old.version) d (state_of self.old) (Prints (Take at stops starts)) }
         ensures once { (d : ℕ) → length (ready_of self.old) + 1 < 2 ^ d →
             comparisons.new ≤ comparisons.old + orders_of self.old.version * d * (4 + length self.old.held) }
     {
@@ -145,7 +145,7 @@ impl Parts {
         ensures kept { self.new ≡ record self.old { pressed = true; waiting = self.new.waiting } }
         ensures cost { (at d : ℕ) → length (ready_of self.old) + 1 < 2 ^ d →
             comparisons.new ≤ comparisons.old
-                + cost_of (orders_of self.old.version) d (state_of self.old) (Prints (Abandon at number)) }
+            + cost_of (orders_of self.old.version) d (state_of self.old) (Prints (Abandon at number)) }
         ensures once { (d : ℕ) → length (ready_of self.old) + 1 < 2 ^ d →
             comparisons.new ≤ comparisons.old + 3 * orders_of self.old.version * d }
     {
@@ -174,7 +174,7 @@ impl Parts {
         ensures fewer { length (ready_of self.new) ≤ length (ready_of self.old) }
         ensures cost { (e : Event) (d : ℕ) → Does self.old action e → length (ready_of self.old) + 1 < 2 ^ d →
             comparisons.new ≤ comparisons.old
-                + cost_of (orders_of self.old.version) d (state_of self.old) (Prints e) }
+            + cost_of (orders_of self.old.version) d (state_of self.old) (Prints e) }
         ensures once { (e : Event) (d : ℕ) → Does self.old action e → length (ready_of self.old) + 1 < 2 ^ d →
             comparisons.new ≤ comparisons.old + orders_of self.old.version * d * (4 + wait_again e self.old.held) }
     {

@@ -40,7 +40,7 @@ pub struct Ready {
 
 impl Model for Ready {
     ghost use Rattle.waiting_pool.specs.Pools.{orders_of};
-ghost use Rattle.ready_jobs.specs.Course.{Course, IsCourse, course_of};
+    ghost use Rattle.ready_jobs.specs.Course.{Course, IsCourse, course_of};
 
     ghost Value = { Course };
 
@@ -302,7 +302,7 @@ impl Ready {
         ensures paid { (start : ℕ) → HasPaid self.old start comparisons.old → HasPaid self.new start comparisons.new }
         ensures once { (d : ℕ) → length self.old.ready + 1 < 2 ^ d →
             comparisons.new ≤ comparisons.old
-                + orders_of self.old.rules.version * d * (4 + wait_again due.now.event (filter is_held self.old.ready)) }
+            + orders_of self.old.rules.version * d * (4 + wait_again due.now.event (filter is_held self.old.ready)) }
     {
         self.parts.laws();
         let worth = self.parts.apply(due.action, comparisons);

@@ -27,7 +27,7 @@ impl Parts {
         ensures fewer { length (ready_of self.new) ≡ length (ready_of self.old) }
         ensures count { (d : ℕ) → length self.old.waiting + 1 < 2 ^ d →
             comparisons.new ≤ comparisons.old
-                + orders_of self.old.version * d * (length self.new.waiting - length self.old.waiting) }
+            + orders_of self.old.version * d * (length self.new.waiting - length self.old.waiting) }
     {
         self.laws();
         let Some(f) = self.fresh() else {
@@ -126,7 +126,7 @@ impl Parts {
         ensures fewer { length (ready_of self.new) ≡ length (ready_of self.old) }
         ensures count { (d : ℕ) → length self.old.waiting + 1 < 2 ^ d →
             comparisons.new ≤ comparisons.old
-                + orders_of self.old.version * d * (length self.new.waiting - length self.old.waiting) }
+            + orders_of self.old.version * d * (length self.new.waiting - length self.old.waiting) }
     {
         match self.place(k, comparisons) {
             Some(action) => action,

@@ -36,7 +36,7 @@ module _ (s : ReadyServer) (J : Instance) (at : ℕ) (rests : Rests s J (Mark at
 
   -- with the clock at the mark
   abbrev there : State
-  there = state_at at z.tasks
+  there = record z { clock = at }
 
   -- the settled steps lead there
   pub settled_there : settled_state J at ≡ there
@@ -143,7 +143,7 @@ module _ (s : ReadyServer) (J : Instance) (at : ℕ) (rests : Rests s J (Mark at
           (settled J at ++ Complete at r.number ∷ [])
       printed = subst (λ u. HasPrinted (with_finishes J (finish_now r ∷ [])) at
           (after u (Prints (Complete at r.number))) (settled J at ++ Complete at r.number ∷ []))
-          (settled_there ∙ ap (λ clock. state_at clock z.tasks) (sym clock_there))
+          (settled_there ∙ ap (λ clock. record z { clock = clock }) (sym clock_there))
           (printed_at_mark J rests.follows.valid at r at_mark)
 
       -- so it was given

@@ -75,7 +75,7 @@ module _ (s : ReadyServer) (J : Instance) (mark : ℕ) (rests : Rests s J (Mark 
 
   -- the state at the barrier
   abbrev there : State
-  there = state_at mark z.tasks
+  there = record z { clock = mark }
 
   deed : Deed J.rules.ratio there Ticks (open_step J.rules there)
   deed = open_deed J valid there (path_keeps J valid mark rests.given.1.waits.steps (opening J.jobs) there

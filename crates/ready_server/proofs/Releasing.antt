@@ -55,7 +55,7 @@ module _ (s : ReadyServer) (J : Instance) (j : JobFacts) (rests : Rests s J (Mar
 
   -- the state before its release
   abbrev there : State
-  there = state_at j.release rests.state.tasks
+  there = record rests.state { clock = j.release }
 
   -- it is a sound one of the jobs so far
   keeps_there : Keeps J there

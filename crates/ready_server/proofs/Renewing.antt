@@ -1,7 +1,7 @@
 -- A server whose jobs are over serves the run of no jobs.
 use Rattle.std.proofs.Common.{◌≡◌, ℕ, List, [], length, refl, sym, ap, ◌∙◌, subst, true, arith, nat_le, ◌&&◌, le-leb}
 use Rattle.dover_model.specs.declared.events.Event.{Event}
-use Rattle.dover_model.specs.Common.{Rules, Instance, IsValid, bare, State, is_over, Ticks, open_step, waits_for_mark}
+use Rattle.dover_model.specs.Common.{Rules, Instance, IsValid, bare, State, state_at, is_over, Ticks, open_step, waits_for_mark}
 use Rattle.dover_model.specs.Common.{settled, last_of, IsBarrier, HasPrinted, instead_with, Each}
 use Rattle.dover_model.proofs.steps.Deeds.{over_rests}
 use Rattle.dover_model.proofs.steps.Kept.{open_deed}
@@ -21,7 +21,7 @@ none = []
 
 -- the state of no jobs
 abbrev at : ℕ → State
-at clock = record { clock = clock; tasks = [] }
+at clock = state_at clock []
 
 module _ (rules : Rules) (valid : IsValid (record { rules = rules; jobs = [] })) where
   -- the run of no jobs

@@ -14,7 +14,9 @@ use Rattle.dover_model.specs.declared.events.Task.{Task}
 use Rattle.dover_model.specs.Common.{Fraction, Instance, IsValid, IsOpenPath, HasPrinted, Step, event_of, printed_of}
 use Rattle.dover_model.specs.Common.{IsMember, Each, IsNumberedFrom, IsSound, Keeps, NoneRuns, State, opening}
 use Rattle.dover_model.specs.Common.{is_running, left, Move, Prints, Waits, Ticks, open_step, after, with_role, ticked}
-use Rattle.dover_model.specs.Common.{displaced}
+use Rattle.std.specs.Prelude.{◌&&◌}
+use Rattle.std.specs.List.{list_any}
+use Rattle.dover_model.specs.Common.{displaced, is_open_job}
 use Rattle.dover_model.proofs.steps.Deeds.{Deed, Completed, Resumed, Started, Began, Preempted, Stayed, Arrived, Taken}
 use Rattle.dover_model.proofs.steps.Deeds.{Abandoned, Rested}
 use Rattle.dover_model.proofs.steps.Kept.{open_deed, open_kept, opening_keeps, come_coming}
@@ -26,7 +28,7 @@ use Rattle.dover_model.proofs.steps.RoleChanges.{with_role_at, all_displaced, di
 use Rattle.ready_server.specs.Roster.{Roll, ListedJob, had_with, stopped, released, job_at, with_stop}
 use Rattle.ready_server.specs.Roster.{is_turn, halted, started, with_event, empty_roll, roll_of}
 use Rattle.ready_server.proofs.Rolls.{calm_role, Lists, Follows, set_here, set_there, length_set, get_front, get_last}
-use Rattle.ready_server.proofs.Rolls.{at_clock, number_is, job_is, had_ran, had_is, lists_as, lists_other, lists_same}
+use Rattle.ready_server.proofs.Rolls.{follows_pressing, at_clock, number_is, job_is, had_ran, had_is, lists_as, lists_other, lists_same}
 use Rattle.ready_server.proofs.RollMoves.{no_turn, idle_turn, halts, starts, displaces}
 
 -- the roll after a step
@@ -122,7 +124,8 @@ module _ (s : State) (sound : IsSound s) (p : Roll) (follows : Follows s p) wher
   -- an abandonment
   abandons : (x : Task) → IsMember x s.tasks → x.role ≡ Waiting
       → Follows (after s (Prints (Abandon s.clock x.number))) (with_event p (Abandon s.clock x.number))
-  abandons x member waits = subst (Follows (at_clock s (with_role_at x.number Gone s.tasks)))
+  abandons x member waits = follows_pressing true (at_clock s (with_role_at x.number Gone s.tasks)) _
+      (subst (Follows (at_clock s (with_role_at x.number Gone s.tasks)))
       (sym (ap (λ o. elim o [ None ↦ p | Some e ↦ record p { jobs = set p.jobs x.number (stopped 0 Gone p.takes e) } ])
       it.there))
       (turned x member idle Gone (λ e. cc) (λ e. cc) q refl refl refl
@@ -131,7 +134,7 @@ module _ (s : State) (sound : IsSound s) (p : Roll) (follows : Follows s p) wher
       (set_here p.jobs x.number e_new it.listed it.there) (number_is p s.clock x it) (job_is p s.clock x it) had
       (idle_turn s sound p follows x member idle) refl (omega arith) s.clock)
       (λ t m other comes. omega (arith, follows.ahead t m comes, length_set p.jobs x.number e_new))
-      (omega (arith, follows.few, length_set p.jobs x.number e_new))) where
+      (omega (arith, follows.few, length_set p.jobs x.number e_new)))) where
         idle : x.role ≡ Running → ⊥
         idle = not_running x Waiting waits (λ e. cc)
 
@@ -245,7 +248,10 @@ module _ (s : State) (sound : IsSound s) (p : Roll) (follows : Follows s p) wher
   -- a completion
   completes : (r : Task) → IsMember r s.tasks → r.role ≡ Running
       → Follows (after s (Prints (Complete s.clock r.number))) (with_event p (Complete s.clock r.number))
-  completes r member runs = halts s sound p follows r member runs Done (λ e. cc) (λ e. cc) refl
+  completes r member runs =
+      let there : State = at_clock s (with_role_at r.number Done s.tasks) in
+      follows_pressing (s.pressed && list_any is_open_job there.tasks) there (halted p s.clock Done)
+      (halts s sound p follows r member runs Done (λ e. cc) (λ e. cc) refl)
 
   -- one starts where none runs
   runs_on : (g : Task) → IsMember g s.tasks → (g.role ≡ Coming → ⊥) → NoneRuns s.tasks

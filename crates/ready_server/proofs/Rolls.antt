@@ -5,6 +5,7 @@ use Rattle.dover_model.specs.declared.events.Role.{Role}
 use Rattle.dover_model.specs.declared.events.Role.TheVariants.{Coming, Fresh, Waiting, Held, Running, Done, Gone}
 use Rattle.dover_model.specs.declared.events.Task.{Task}
 use Rattle.dover_model.specs.Common.{JobFacts, IsMember, Each, State, with_role}
+use Rattle.dover_model.proofs.steps.Pressing.{pressing}
 use Rattle.ready_server.specs.Roster.{Roll, ListedJob, had_with, is_turn, is_displaced, job_at}
 
 -- the role of a job in a roll: what is fresh there waits
@@ -35,6 +36,17 @@ pub record Follows (s : State) (p : Roll) : Type 0 where
   pub here : Each (λ t. (t.role ≡ Coming → ⊥) → Lists p s.clock t) s.tasks
   pub ahead : Each (λ t. t.role ≡ Coming → length p.jobs ≤ t.number) s.tasks
   pub few : length p.jobs ≤ length s.tasks
+
+-- it follows it whether it is pressed or not
+pub follows_pressing : (b : Bool) (s : State) (p : Roll) → Follows s p → Follows (pressing b s) p
+follows_pressing b s p it = record {
+  since = it.since;
+  turn = it.turn;
+  runs = it.runs;
+  here = it.here;
+  ahead = it.ahead;
+  few = it.few;
+}
 
 -- ---- lists
 
@@ -68,7 +80,7 @@ length_set (z ∷ xs) (suc n) x = ap suc (length_set xs n x)
 
 -- these tasks at the same clock
 abbrev pub at_clock : State → List Task → State
-at_clock s tasks = record { clock = s.clock; tasks = tasks }
+at_clock s tasks = record s { tasks = tasks }
 
 -- ---- one job
 

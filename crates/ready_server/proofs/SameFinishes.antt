@@ -30,11 +30,12 @@ module _ (J : Instance) (fs gs : List Finish) (same : HaveTheSame fs gs) where
   follows_same : (c : Course) (z : State) → Follows c F z → Follows c G z
   follows_same c z it = record {
     valid = finishing_valid F gs it.valid;
-    keeps = record { sound = it.keeps.sound; jobs = it.keeps.jobs };
+    keeps = record { sound = it.keeps.sound; jobs = it.keeps.jobs; pressed = it.keeps.pressed };
     rules = it.rules;
     own = λ f member. it.own f (same.1 f member);
     over = λ f member. it.over f (same.1 f member);
     clock = it.clock;
+    pressed = it.pressed;
     ready = it.ready;
     jobs = it.jobs;
     done = it.done;
@@ -73,7 +74,7 @@ module _ (J : Instance) (fs gs : List Finish) (same : HaveTheSame fs gs) where
     through at = record {
       here = printed_there at.here;
       waits = printed_there at.waits;
-      barrier = ap (λ m. waits_for_mark m && nat_le t t) (sym (same_open J fs gs alike (state_at t z.tasks)))
+      barrier = ap (λ m. waits_for_mark m && nat_le t t) (sym (same_open J fs gs alike (record z { clock = t })))
           ∙ at.barrier;
       clock = at.clock;
     }

@@ -115,7 +115,7 @@ module _ (s : ReadyServer) (d : Course) (mark : ℕ) (o : Option Event)
     },
   ) where
     there : State
-    there = state_at mark it.state.tasks
+    there = record it.state { clock = mark }
 
     comes_now : WaitsUntil J.rules mark serves.state there × (GoesOn it.state → it.state.clock ≡ mark)
     comes_now = subst (Comes J serves.state mark it.state) none it.comes
@@ -370,6 +370,7 @@ serves_roomy s d same J to events serves =
         own = it.own;
         over = it.over;
         clock = it.clock;
+        pressed = it.pressed;
         ready = it.ready;
         jobs = it.jobs;
         done = it.done;

@@ -5,11 +5,13 @@ use Rattle.std.proofs.Common.{filter, find, eqb-true, eq-eqb, le-leb}
 use Rattle.std.specs.List.{cons_option}
 use Rattle.dover_model.specs.declared.events.Event.{Event}
 use Rattle.dover_model.specs.declared.events.Event.TheVariants.{Run, Complete}
-use Rattle.dover_model.specs.declared.events.Role.TheVariants.{Running, Done}
+use Rattle.dover_model.specs.declared.events.Role.TheVariants.{Waiting, Running, Done}
 use Rattle.dover_model.specs.declared.events.Task.{Task}
 use Rattle.dover_model.specs.declared.events.Version.{Version}
 use Rattle.dover_model.specs.Common.{is_finish_of, Instance, IsValid, Rules, with_finishes, State, running, is_running}
-use Rattle.dover_model.specs.Common.{is_fresh, is_coming, is_waiting, is_held, is_over, state_at, room, due_first}
+use Rattle.std.specs.List.{list_any, AllByRecursion}
+use Rattle.dover_model.specs.Common.{is_fresh, is_coming, is_waiting, is_held, is_over, is_open_job, room, due_first}
+use Rattle.dover_model.specs.Common.{waiting_order, by_density, IsJob}
 use Rattle.dover_model.specs.Common.{first, View, Prints, Ticks, view, open_step, declared_open_step, finish_or, after}
 use Rattle.dover_model.specs.Common.{with_role, role_after, arrival, event_of, settled, settled_state, finish_now}
 use Rattle.dover_model.specs.Common.{RunsAtMark, waits_for_mark, EarlyFinish, finish_at, IsMember, Each, is_ready}
@@ -23,11 +25,16 @@ use Rattle.dover_model.proofs.lists.Members.{find_none, found, member_filter, on
 use Rattle.dover_model.proofs.settled.Paths.{printed_more, printed_settled, printed_begins}
 use Rattle.dover_model.proofs.steps.ReadyParts.{view_ready}
 use Rattle.dover_model.proofs.finishes.RightFinishes.{FinishSays, finish_says, finish_runs}
-use Rattle.dover_model.proofs.steps.Roles.{passes, one_number, is_running_role, is_fresh_role}
+use Rattle.dover_model.proofs.steps.Roles.{passes, one_number, is_running_role, is_fresh_role, is_waiting_role}
+use Rattle.dover_model.proofs.steps.Pressing.{any_member}
+use Rattle.dover_model.proofs.steps.Kept.{each_job}
+use Rattle.dover_model.proofs.valid.JobLimits.{job_limits}
+use Rattle.dover_model.proofs.valid.ValidParts.{valid_parts}
+use Rattle.dover_model.proofs.lists.Tests.{never}
 use Rattle.dover_model.proofs.settled.Waiting.{some_goes_on}
 use Rattle.ready_jobs.specs.Cases.{next_of, next_ready}
 use Rattle.ready_jobs.specs.Changed.{AreOnce}
-use Rattle.ready_jobs.specs.Course.{Course, Follows, successor_of}
+use Rattle.ready_jobs.specs.Course.{Course, state_of_course, Follows, successor_of}
 use Rattle.ready_jobs.proofs.Changes.{once_numbered, once_some, once_own}
 use Rattle.ready_jobs.proofs.Deciding.{free, free_is}
 use Rattle.ready_jobs.proofs.Seeing.{filter_none}
@@ -58,16 +65,19 @@ module _ (c : Course) (J : Instance) (z : State) (follows : Follows c J z) where
     one_fresh = λ t u mt mu fresh other. once_own whole whole_once t u mt mu
         (follows.keeps.sound.one_fresh t u (there t mt) (there u mu) (is_fresh_role t fresh) (is_fresh_role u other));
     none_comes = λ t m. follows.released t (there t m);
+    works = λ t m. (job_limits (each_job IsJob z.tasks (subst (AllByRecursion IsJob) (sym follows.keeps.jobs)
+        (valid_parts follows.valid).each) t (there t m))).work;
   }
 
   -- the view is the same
-  pub course_view : view c.rules.version (state_at c.clock c.ready) ≡ view c.rules.version (state_at c.clock z.tasks)
-  course_view = view_still c.rules.version c.clock whole c.ready follows.ready whole_apart
-      ∙ view_ready c.rules.version (state_at c.clock z.tasks)
+  pub course_view : view c.rules.version (state_of_course c) ≡ view c.rules.version (record z { clock = c.clock })
+  course_view = view_still c.rules.version c.clock c.pressed whole c.ready follows.ready whole_apart
+      ∙ view_ready c.rules.version (record z { clock = c.clock; pressed = c.pressed })
+      ∙ ap (λ b. view c.rules.version (record z { clock = c.clock; pressed = b })) (sym follows.pressed)
 
   -- so is the one that would be next
-  pub course_next : next_ready c.rules.version (state_at c.clock c.ready)
-      ≡ next_ready c.rules.version (state_at c.clock z.tasks)
+  pub course_next : next_ready c.rules.version (state_of_course c)
+      ≡ next_ready c.rules.version (record z { clock = c.clock })
   course_next = ap (λ (v : View). next_of v v.first_held v.first_waiting) course_view
 
 -- ---- a job that is done
@@ -173,12 +183,38 @@ module _ (J : Instance) (valid : IsValid J) (mark : ℕ) (r : Task) (it : RunsAt
                 (let clash : Done ≡ Running = sym (ap (λ (u : Task). u.role) one.1) ∙ runs in cc)
 
   module _ (version : Version) where
+    -- the waiting jobs come in the same order, or none waits
+    order_same : first (waiting_order version (by_density version y.pressed)) (filter is_waiting y.tasks)
+        ≡ first (waiting_order version (by_density version s.pressed)) (filter is_waiting y.tasks)
+    order_same = by_open (list_any is_open_job y.tasks) refl where
+      and_true : (b : Bool) → (b && true) ≡ b
+      and_true true = refl
+      and_true false = refl
+
+      by_open : (b : Bool) → list_any is_open_job y.tasks ≡ b
+          → first (waiting_order version (by_density version y.pressed)) (filter is_waiting y.tasks)
+          ≡ first (waiting_order version (by_density version s.pressed)) (filter is_waiting y.tasks)
+      by_open true some =
+          ap (λ b. first (waiting_order version (by_density version b)) (filter is_waiting y.tasks))
+          (ap (λ b. s.pressed && b) some ∙ and_true s.pressed)
+      by_open false none =
+          ap (first (waiting_order version (by_density version y.pressed))) none_waits
+          ∙ sym (ap (first (waiting_order version (by_density version s.pressed))) none_waits) where
+            none_waits : filter is_waiting y.tasks ≡ []
+            none_waits = filter_none is_waiting y.tasks (λ t m. by_test t m (is_waiting t) refl) where
+              by_test : (t : Task) → IsMember t y.tasks → (b : Bool) → is_waiting t ≡ b → is_waiting t ≡ false
+              by_test t m false is = is
+              by_test t m true is = never (sym none ∙ any_member is_open_job y.tasks t m
+                  (passes is_open_job t Waiting true (is_waiting_role t is) refl))
+
     -- the one that would be next is next
     next_same : next_ready version y ≡ next_ready version s
     next_same = same_next (view version y) (view version s) (ap (room s.clock) held_same) (view version y).first_held
         (view version y).first_waiting
         ∙ ap (λ hs. next_of (view version s) (first (due_first version) hs) (view version y).first_waiting) held_same
-        ∙ ap (λ ws. next_of (view version s) (view version s).first_held (first (due_first version) ws)) waiting_same
+        ∙ ap (next_of (view version s) (view version s).first_held) order_same
+        ∙ ap (λ ws. next_of (view version s) (view version s).first_held
+        (first (waiting_order version (by_density version s.pressed)) ws)) waiting_same
 
   abbrev next : Option Task
   next = next_ready J.rules.version s
@@ -223,7 +259,7 @@ module _ (s : ReadyServer) (J : Instance) (at : ℕ) (rests : Rests s J (Mark at
   abbrev z : State
   z = rests.state
 
-  there_is : settled_state J at ≡ state_at at z.tasks
+  there_is : settled_state J at ≡ record z { clock = at }
   there_is = settled_there s J at rests
 
   runs_at : RunsAtMark J at says.job
@@ -235,10 +271,10 @@ module _ (s : ReadyServer) (J : Instance) (at : ℕ) (rests : Rests s J (Mark at
       (subst (λ (u : State). IsMember says.job u.tasks) there_is runs_at.member)
       (passes is_over says.job Running false runs_at.runs refl))
 
-  next_is : next_ready s.ready.rules.version (state_at s.ready.clock s.ready.ready)
+  next_is : next_ready s.ready.rules.version (state_of_course s.ready)
       ≡ next_ready J.rules.version (settled_state J at)
   next_is = course_next s.ready J z rests.follows
-      ∙ ap (λ clock. next_ready s.ready.rules.version (state_at clock z.tasks)) clock_is
+      ∙ ap (λ clock. next_ready s.ready.rules.version (record z { clock = clock })) clock_is
       ∙ ap (next_ready s.ready.rules.version) (sym there_is)
       ∙ ap (λ version. next_ready version (settled_state J at))
       (sym (ap (λ (rules : Rules). rules.version) rests.follows.rules))

@@ -39,8 +39,8 @@ pub record Serves (s : ReadyServer) (J : Instance) (to : Horizon) (events : List
 -- there it is now if some job isn't over
 pub record IsThrough (J : Instance) (z : State) (mark : ℕ) : Type 0 where
   pub here : HasPrinted J mark z (settled J mark)
-  pub waits : HasPrinted J mark (state_at mark z.tasks) (settled J mark)
-  pub barrier : IsBarrier J.rules mark (state_at mark z.tasks)
+  pub waits : HasPrinted J mark (record z { clock = mark }) (settled J mark)
+  pub barrier : IsBarrier J.rules mark (record z { clock = mark })
   pub clock : GoesOn z → z.clock ≡ mark
 
 -- all that is due by the horizon was printed up to this state

@@ -1,4 +1,4 @@
-use Rattle.std.proofs.Common.{◌≡◌, ◌+◌, ◌*◌, ◌≤◌, length, refl, subst}
+use Rattle.std.proofs.Common.{◌≡◌, ◌+◌, ◌*◌, ◌≤◌, refl, subst}
 use Rattle.dover_model.specs.declared.events.Event.TheVariants.{Run}
 use Rattle.dover_model.specs.Common.{Prints, view, cost_of}
 use Rattle.dover_model.specs.Step.{pressed_after}

@@ -1,4 +1,4 @@
-use Rattle.std.proofs.Common.{◌+◌, ◌*◌, ◌≤◌, length, ap, sym, ◌∙◌, subst, arith, filter}
+use Rattle.std.proofs.Common.{◌+◌, ◌*◌, ◌≤◌, length, ap, sym, subst, arith, filter}
 use Rattle.dover_model.specs.State.{is_held}
 use Rattle.waiting_pool.specs.Pools.{orders_of}
 use Rattle.ready_jobs.specs.Parts.{Parted}
