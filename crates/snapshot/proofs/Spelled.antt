@@ -10,8 +10,11 @@ use Rattle.dover_model.specs.declared.events.Role.{Role}
 use Rattle.dover_model.specs.declared.events.Role.TheVariants.{Coming, Fresh, Waiting, Held, Running, Done, Gone}
 use Rattle.dover_model.specs.declared.events.Task.{Task}
 use Rattle.dover_model.specs.declared.events.Version.{Version}
-use Rattle.dover_model.specs.declared.events.Version.TheVariants.{One, Three}
+use Rattle.dover_model.specs.declared.events.Version.TheVariants.{One, Three, Four}
 use Rattle.dover_model.specs.Common.{Fraction, IsRatio, is_ratio, fraction, with_factor, factor_numbers, rules_with}
+use Rattle.dover_model.specs.Feed.{factor_version}
+use Rattle.dover_model.specs.Session.{takes_factors}
+use Rattle.std.proofs.Common.{option_map}
 use Rattle.dover_model.specs.Common.{factor_rules, IsDeclarable, Declaration, job_of_numbers, job_numbers, numerals}
 use Rattle.dover_model.specs.Common.{AreShort, is_too_long, fields_of, line_of, with_numbers, numbers_after, numbers_of}
 use Rattle.dover_model.specs.Common.{version_number, version_of_number}
@@ -83,6 +86,8 @@ numbers_head h = by h.rules.ratio.p h.rules.ratio.q h.rules.ratio.factor h.rules
       ∙ ap (λ b. head_with h.lines h.mark h.jobs (then_some b (rules_by p q None v))) ratio.passes
   by p q (Some f) Three ratio declared =
       ap (λ b. head_with h.lines h.mark h.jobs (cond b (Some (rules_by p q (Some f) Three)) None)) ratio.passes
+  by p q (Some f) Four ratio declared =
+      ap (λ b. head_with h.lines h.mark h.jobs (cond b (Some (rules_by p q (Some f) Four)) None)) ratio.passes
   by p q (Some f) _ ratio declared = never declared
 
 -- a word and numbers, the first of at most so many digits
@@ -152,20 +157,32 @@ rules_read n p q rules = by (version_of_number n) refl where
   by None version read = none_is_some read
   by (Some v) version read = by_ratio (is_ratio (fraction p q)) v refl version read
 
+-- a version that may have a factor is that of its number
+factor_from : (n : ℕ) (v : Version) → factor_version n ≡ Some v → (version_number v ≡ n) × (takes_factors v ≡ true)
+factor_from n v = by (n == 3) (n == 4) refl refl where
+  by : (three four : Bool) → (n == 3) ≡ three → (n == 4) ≡ four
+      → cond three (Some Three) (then_some four Four) ≡ Some v → (version_number v ≡ n) × (takes_factors v ≡ true)
+  by true four is _ read = subst (λ w. (version_number w ≡ n) × (takes_factors w ≡ true)) (some_same Three v read)
+      (sym (eqb-true n 3 is), refl)
+  by false true _ is read = subst (λ w. (version_number w ≡ n) × (takes_factors w ≡ true)) (some_same Four v read)
+      (sym (eqb-true n 4 is), refl)
+  by false false _ _ read = none_is_some read
+
 -- so are rules with a factor
 factor_read : (n p q b c : ℕ) (rules : Declaration) → factor_rules (with_factor (fraction p q) b c) n ≡ Some rules
     → AreOf rules (n ∷ p ∷ q ∷ []) (b ∷ c ∷ [])
-factor_read n p q b c rules = by (is_ratio k) (n == 3) refl refl where
+factor_read n p q b c rules = by (is_ratio k) (factor_version n) refl refl where
   k : Fraction
   k = with_factor (fraction p q) b c
 
-  by : (good three : Bool) → is_ratio k ≡ good → (n == 3) ≡ three
-      → cond good (then_some three (rules_with k Three)) None ≡ Some rules → AreOf rules (n ∷ p ∷ q ∷ []) (b ∷ c ∷ [])
-  by false three fails version read = none_is_some read
-  by true false passes version read = none_is_some read
-  by true true passes version read = subst (λ r. AreOf r (n ∷ p ∷ q ∷ []) (b ∷ c ∷ []))
-      (some_same (rules_with k Three) rules read)
-      (ap (λ m. m ∷ p ∷ q ∷ []) (sym (eqb-true n 3 version)), refl, record { passes = passes }, refl)
+  by : (good : Bool) (o : Option Version) → is_ratio k ≡ good → factor_version n ≡ o
+      → cond good (option_map (rules_with k) o) None ≡ Some rules → AreOf rules (n ∷ p ∷ q ∷ []) (b ∷ c ∷ [])
+  by false o fails version read = none_is_some read
+  by true None passes version read = none_is_some read
+  by true (Some v) passes version read =
+      let from : (version_number v ≡ n) × (takes_factors v ≡ true) = factor_from n v version in
+      subst (λ r. AreOf r (n ∷ p ∷ q ∷ []) (b ∷ c ∷ [])) (some_same (rules_with k v) rules read)
+      (ap (λ m. m ∷ p ∷ q ∷ []) from.0, refl, record { passes = passes }, from.1)
 
 -- the numbers of a first line, and that its rules are a ratio's and may be declared
 abbrev IsOf : Head → List ℕ → Type 0

@@ -8,7 +8,7 @@ use Rattle.dover_model.specs.declared.events.Task.{Task}
 use Rattle.dover_model.specs.Common.{Instance, IsValid, with_finishes, last_tick, HasPrinted, is_ready, IsAtRest}
 use Rattle.dover_model.specs.Common.{before_end, printed, Item, FinishItem, EarlyFinish, finish_at, instance_of}
 use Rattle.dover_model.specs.Common.{session_with, settled, settled_steps, settled_state, IsMember, Each, jobs_of}
-use Rattle.dover_model.specs.Common.{State, opening, is_over, running, state_at, MayFollow, may_finish_early}
+use Rattle.dover_model.specs.Common.{State, opening, is_over, running, MayFollow, may_finish_early}
 use Rattle.dover_model.specs.Common.{early_finishes}
 use Rattle.dover_model.specs.declared.horizon.Horizon.TheVariants.{Mark}
 use Rattle.dover_model.proofs.rest.Apart.{settled_at_rest}
@@ -45,16 +45,16 @@ module _ (v : RosterServer) (J : Instance) (at : ℕ) (it : Rests v J (Mark at))
   valid = it.rests.follows.valid
 
   -- its jobs are those at the barrier
-  rested_there : settled_state J at ≡ state_at at it.rests.state.tasks
+  rested_there : settled_state J at ≡ record it.rests.state { clock = at }
   rested_there = ap (state_after (opening J.jobs)) same_steps
-      ∙ path_state J.rules at waits.steps (opening J.jobs) (state_at at it.rests.state.tasks) waits.path where
-        waits : HasPrinted J at (state_at at it.rests.state.tasks) (settled J at)
+      ∙ path_state J.rules at waits.steps (opening J.jobs) (record it.rests.state { clock = at }) waits.path where
+        waits : HasPrinted J at (record it.rests.state { clock = at }) (settled J at)
         waits = it.rests.given.1.waits
 
         same_steps : settled_steps J at ≡ waits.steps
         same_steps = one_settled_run J.rules at (settled_steps J at) waits.steps (opening J.jobs)
             (settled_is_run J at valid)
-            (path_settles J.rules at waits.steps (opening J.jobs) (state_at at it.rests.state.tasks) waits.path
+            (path_settles J.rules at waits.steps (opening J.jobs) (record it.rests.state { clock = at }) waits.path
             it.rests.given.1.barrier)
 
   -- the jobs of early finishes are over
