@@ -57,7 +57,7 @@ module _ (r : Reading) (at : ℕ) (ls : List (List ℕ)) (S : Session) (z y : St
 
   -- the barrier
   abbrev there : State
-  there = at_tick at y.tasks
+  there = at_tick at y
 
   -- no more is printed then
   last_is : last_of (settled J at) ≡ r.last
@@ -178,7 +178,7 @@ module _ (r : Reading) (at number : ℕ) (ls : List (List ℕ)) (can : CanComple
 
   -- the barrier is where the run has gone on to
   barrier_f : IsBarrier J_here.rules at y
-  barrier_f = subst (λ c. IsBarrier J_here.rules at (record { clock = c; tasks = y.tasks })) (sym at_clock)
+  barrier_f = subst (λ c. IsBarrier J_here.rules at (record y { clock = c })) (sym at_clock)
       can.waited.waits.barrier
 
   -- the session with it
@@ -262,7 +262,8 @@ module _ (r w : Reading) (same : r ≡ w) (going_w : w.stage ≡ Going) (at numb
 
   -- and it is kept of some lines
   pub named_reader : (ls : List (List ℕ)) → CanComplete w at number ls → IsReader r
-      → d ≡ record r.course { ready = d.ready; done = d.done } → length d.ready ≤ length r.course.ready → room ≡ r.room
+      → d ≡ record r.course { pressed = d.pressed; ready = d.ready; done = d.done }
+      → length d.ready ≤ length r.course.ready → room ≡ r.room
       → IsReader (completed r d at steps room)
   named_reader ls can old kept fewer same_room = here_reader (completed r d at steps room)
       (ap (λ (v : Reading). v.stage) same ∙ going_w) (record {

@@ -390,7 +390,8 @@ reserve_reader r old d steps spare room same unchanged ready all =
     }))
 
 -- and one that goes on to a printed step and takes it
-pub followed_on : (c d : Course) → d ≡ record c { clock = d.clock; ready = d.ready; done = d.done }
+pub followed_on : (c d : Course) → d ≡ record c
+    { clock = d.clock; pressed = d.pressed; ready = d.ready; done = d.done }
     → length d.ready ≤ length c.ready → GoesOnFrom c d
 followed_on c d kept fewer = record {
   rules = ap (λ (b : Course). b.rules) kept;

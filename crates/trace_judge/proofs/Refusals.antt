@@ -79,7 +79,7 @@ module _ (line : RefusedAt) (named : (S : Session) → named_item S (refused_tex
           let x : State = there.0 in
           let here : Goes u ls S z x = waited.goes in
           let unchanged : u ≡ record w { course = v2.course } = same ∙ kept in
-          let may : MayRefuse S u.floor z line (at_tick line.at x.tasks) = record {
+          let may : MayRefuse S u.floor z line (at_tick line.at x) = record {
             room = room_left u ls S z x here
                 (subst (λ (t : Reading). t.items < most_items t.kept.rules.version) (sym unchanged) few);
             refused = (may_be_refused-agrees S u.floor line).1 (record {
@@ -92,7 +92,7 @@ module _ (line : RefusedAt) (named : (S : Session) → named_item S (refused_tex
           let S_more : Session = with_item S (RefusedItem line) in
           let J_same : instance_of S_more ≡ instance_of S = refused_instance S line in
           let sees : SeesWith (ls ++ refused_text line ∷ []) S_more line.at z (printed_of here.sees.steps) =
-          sees_refused ls S u.floor z here.sees line (at_tick line.at x.tasks) may in
+          sees_refused ls S u.floor z here.sees line (at_tick line.at x) may in
           let idles : Idles (instance_of S_more).rules z here.idles.0 x =
           subst (λ (J : Instance). Idles J.rules z here.idles.0 x) (sym J_same) here.idles.1 in
           let on : SeesWith (ls ++ refused_text line ∷ []) S_more line.at x (printed_of sees.0.steps) =

@@ -109,7 +109,7 @@ module _ (r : Reading) (j : JobFacts) (room : ℕ) (ls : List (List ℕ)) (can :
 
   -- the state before its release
   abbrev y : State
-  y = at_tick j.release can.state.tasks
+  y = at_tick j.release can.state
 
   -- the lines with its release
   abbrev sees : SeesWith (ls ++ release_text S j ∷ []) S_more j.release (with_fresh y n j)
@@ -200,7 +200,7 @@ module _ (r w : Reading) (same : r ≡ w) (going_w : w.stage ≡ Going) (j : Job
       let can : CanRelease r j ls = subst (λ v. CanRelease v j ls) (sym same) can_w in
       let S : Session = can.session in
       let n : ℕ = length (admitted_jobs S.items) in
-      let z : State = with_fresh (at_tick j.release can.state.tasks) n j in
+      let z : State = with_fresh (at_tick j.release can.state) n j in
       let S_more : Session = with_item S (JobItem j) in
       let so_far : List Event = printed_of can.waited.goes.sees.steps in
       let is_n : n ≡ number = sym (is_number ∙ next_number r j 0 ls can) in
@@ -213,7 +213,7 @@ module _ (r w : Reading) (same : r ≡ w) (going_w : w.stage ≡ Going) (j : Job
       (subst (λ m. SeesWith (ls ++ text_of (Release m j) ∷ []) S_more j.release z (so_far ++ Release number j ∷ []))
       is_w
       (subst (λ m. SeesWith (ls ++ release_text S j ∷ []) S_more j.release z (so_far ++ Release m j ∷ [])) is_n
-      (sees_release ls S r.floor can.from can.waited.goes.sees j (at_tick j.release can.state.tasks) can.may))) in (
+      (sees_release ls S r.floor can.from can.waited.goes.sees j (at_tick j.release can.state) can.may))) in (
         S_more,
         z,
         item_more r ls S can.from can.state can.waited.goes (JobItem j) taken

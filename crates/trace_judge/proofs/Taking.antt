@@ -84,7 +84,7 @@ module _ (r w : Reading) (same : r ≡ w) (d : Course) (tick : ℕ) (o : Option 
           no_fall = floor;
           low = low;
           there = it.comes.1;
-          waits = wait_behind (instance_of S).rules tick goes.idles.0 z y (at_tick tick it.state.tasks) goes.idles.1
+          waits = wait_behind (instance_of S).rules tick goes.idles.0 z y (at_tick tick it.state) goes.idles.1
               at it.comes.0;
         },
       )

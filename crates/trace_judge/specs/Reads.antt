@@ -133,9 +133,9 @@ pub record Followed (old new : Reading) (e : Event) (good : Bool) : Type 0 where
 abbrev pub StaysAhead : Reading → Reading → Type 0
 StaysAhead old new = (ls : List (List ℕ)) → ReadsAhead old ls → ReadsAhead new ls
 
--- the state of these tasks at a tick
-abbrev pub at_tick : ℕ → List Task → State
-at_tick tick tasks = record { clock = tick; tasks = tasks }
+-- the state at another tick
+abbrev pub at_tick : ℕ → State → State
+at_tick tick s = record s { clock = tick }
 
 -- nothing is printed before the barrier of the tick, up to which the run has gone on
 pub record Waited (r : Reading) (tick : ℕ) (ls : List (List ℕ)) (S : Session) (z y : State) : Type 0 where
@@ -143,7 +143,7 @@ pub record Waited (r : Reading) (tick : ℕ) (ls : List (List ℕ)) (S : Session
   pub no_fall : r.floor ≤ tick
   pub low : r.course.clock ≤ tick
   pub there : GoesOn y → y.clock ≡ tick
-  pub waits : WaitsUntil (instance_of S).rules tick z (at_tick tick y.tasks)
+  pub waits : WaitsUntil (instance_of S).rules tick z (at_tick tick y)
 
 -- the job may be released next
 pub record CanRelease (r : Reading) (j : JobFacts) (ls : List (List ℕ)) : Type 0 where
@@ -151,7 +151,7 @@ pub record CanRelease (r : Reading) (j : JobFacts) (ls : List (List ℕ)) : Type
   pub from : State
   pub state : State
   pub waited : Waited r j.release ls session from state
-  pub may : MayRelease session r.floor from j (at_tick j.release state.tasks)
+  pub may : MayRelease session r.floor from j (at_tick j.release state)
 
 -- the job of this number may finish early next, at this tick
 pub record CanComplete (r : Reading) (at number : ℕ) (ls : List (List ℕ)) : Type 0 where

@@ -12,7 +12,7 @@ pub(crate) fn may_declare(version: Version, ratio: Ratio) -> bool
     ensures { result ≡ is_declarable (rules_with ratio version) }
 {
     match (ratio.factor(), version) {
-        (None, _) | (Some(_), Version::Three) => true,
+        (None, _) | (Some(_), Version::Three | Version::Four) => true,
         (Some(_), Version::One | Version::Two) => false,
     }
 }
@@ -23,7 +23,7 @@ pub(crate) fn is_late_cause(version: Version, cause: Refusal) -> bool
 {
     match version {
         Version::One | Version::Two => false,
-        Version::Three => is_same_cause(cause, Refusal::Late),
+        Version::Three | Version::Four => is_same_cause(cause, Refusal::Late),
     }
 }
 
