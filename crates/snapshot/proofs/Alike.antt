@@ -23,7 +23,7 @@ use Rattle.dover_model.specs.declared.events.Event.TheVariants.{Complete}
 use Rattle.dover_model.specs.declared.events.Refusal.{Refusal}
 use Rattle.dover_model.specs.declared.events.Refusal.TheVariants.{Late, Full}
 use Rattle.dover_model.specs.declared.events.Version.{Version}
-use Rattle.dover_model.specs.declared.events.Version.TheVariants.{Three}
+use Rattle.dover_model.specs.declared.events.Version.TheVariants.{Three, Four}
 use Rattle.dover_model.proofs.sessions.Accounts.{account_with, Holds, IsKept, lines_goes}
 use Rattle.dover_model.proofs.finishes.FinishOrders.{same_alike, settled_alike, state_alike, finish_alike, run_alike}
 use Rattle.dover_model.proofs.sessions.Fullness.{admitted_in}
@@ -400,6 +400,7 @@ module _ (S T : Session) (mark lines : ℕ) (holds : Holds S mark lines) (holds_
     by_late : (v : Version) → GoAlike a b (with_line counted_a (JobLine j) (Some (late_cause v)))
         (with_line counted_b (JobLine j) (Some (late_cause v)))
     by_late Three = refusal_alike Late (omega arith)
+    by_late Four = refusal_alike Late (omega arith)
     by_late _ = faults_alike Order
 
     by_order : (c : Bool) → nat_lt j.release mark ≡ c

@@ -72,7 +72,7 @@ had_some J valid mark r at = by_due (is_due K.rules.finishes r) refl where
   bar = settled_at_barrier J valid mark
 
   keeps : Keeps K s
-  keeps = record { sound = bar.keeps.sound; jobs = bar.keeps.jobs }
+  keeps = record { sound = bar.keeps.sound; jobs = bar.keeps.jobs; pressed = bar.keeps.pressed }
 
   ends : goes_on K.rules.finishes r ≡ false
   ends = (open_decides s keeps.sound K.rules).ends

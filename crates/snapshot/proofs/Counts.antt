@@ -6,7 +6,7 @@ use Rattle.dover_model.specs.Common.{most_items, IsValid, printed, Session, JobI
 use Rattle.dover_model.specs.Common.{new_session, with_named, may_finish_early, session_with, settled, TraceLine}
 use Rattle.dover_model.specs.Common.{Printed, Placed, put_in}
 use Rattle.dover_model.specs.declared.events.Version.{Version}
-use Rattle.dover_model.specs.declared.events.Version.TheVariants.{One, Three}
+use Rattle.dover_model.specs.declared.events.Version.TheVariants.{One, Three, Four}
 use Rattle.dover_model.proofs.lists.Beginnings.{begins_length}
 use Rattle.dover_model.proofs.runs.Ending.{few_printed}
 use Rattle.dover_model.proofs.sessions.Former.{none_early}
@@ -62,6 +62,7 @@ module _ (S : Session) (valid : IsValid (instance_of S)) (follows : FollowsItems
 
     steps_most : (v : Version) → may_finish_early v ≡ true → 5_000_001 ≤ most_items v
     steps_most Three e = omega arith
+    steps_most Four e = omega arith
     steps_most _ e = never e
 
     by_version : (b : Bool) → may_finish_early S.rules.version ≡ b → length S.items ≤ most_items S.rules.version

@@ -107,10 +107,14 @@ refused_lines : outcome (reading_of (whole_lines (snapshot (bytes (codes "k 1 1 
 unfolding digits
 refused_lines = refl
 
--- with a factor there are two numbers more, in version Three alone
+-- with a factor there are two numbers more, in versions Three and Four alone
 with_factor : answer (codes "snapshot 3 1 1 1 0 0 3 2/resume/") ≡ Some 0
 unfolding digits
 with_factor = refl
+
+factor_of_version_four : answer (codes "snapshot 4 1 1 1 0 0 3 2/resume/") ≡ Some 0
+unfolding digits
+factor_of_version_four = refl
 
 factor_of_version_two : answer (codes "snapshot 2 1 1 1 0 0 3 2/resume/") ≡ Some 1
 unfolding digits

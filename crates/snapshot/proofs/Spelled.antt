@@ -10,7 +10,7 @@ use Rattle.dover_model.specs.declared.events.Role.{Role}
 use Rattle.dover_model.specs.declared.events.Role.TheVariants.{Coming, Fresh, Waiting, Held, Running, Done, Gone}
 use Rattle.dover_model.specs.declared.events.Task.{Task}
 use Rattle.dover_model.specs.declared.events.Version.{Version}
-use Rattle.dover_model.specs.declared.events.Version.TheVariants.{One, Three}
+use Rattle.dover_model.specs.declared.events.Version.TheVariants.{One, Three, Four}
 use Rattle.dover_model.specs.Common.{Fraction, IsRatio, is_ratio, fraction, with_factor, factor_numbers, rules_with}
 use Rattle.dover_model.specs.Common.{factor_rules, IsDeclarable, Declaration, job_of_numbers, job_numbers, numerals}
 use Rattle.dover_model.specs.Common.{AreShort, is_too_long, fields_of, line_of, with_numbers, numbers_after, numbers_of}
@@ -83,6 +83,8 @@ numbers_head h = by h.rules.ratio.p h.rules.ratio.q h.rules.ratio.factor h.rules
       ∙ ap (λ b. head_with h.lines h.mark h.jobs (then_some b (rules_by p q None v))) ratio.passes
   by p q (Some f) Three ratio declared =
       ap (λ b. head_with h.lines h.mark h.jobs (cond b (Some (rules_by p q (Some f) Three)) None)) ratio.passes
+  by p q (Some f) Four ratio declared =
+      ap (λ b. head_with h.lines h.mark h.jobs (cond b (Some (rules_by p q (Some f) Four)) None)) ratio.passes
   by p q (Some f) _ ratio declared = never declared
 
 -- a word and numbers, the first of at most so many digits
@@ -155,17 +157,23 @@ rules_read n p q rules = by (version_of_number n) refl where
 -- so are rules with a factor
 factor_read : (n p q b c : ℕ) (rules : Declaration) → factor_rules (with_factor (fraction p q) b c) n ≡ Some rules
     → AreOf rules (n ∷ p ∷ q ∷ []) (b ∷ c ∷ [])
-factor_read n p q b c rules = by (is_ratio k) (n == 3) refl refl where
+factor_read n p q b c rules = by (is_ratio k) (n == 3) (n == 4) refl refl refl where
   k : Fraction
   k = with_factor (fraction p q) b c
 
-  by : (good three : Bool) → is_ratio k ≡ good → (n == 3) ≡ three
-      → cond good (then_some three (rules_with k Three)) None ≡ Some rules → AreOf rules (n ∷ p ∷ q ∷ []) (b ∷ c ∷ [])
-  by false three fails version read = none_is_some read
-  by true false passes version read = none_is_some read
-  by true true passes version read = subst (λ r. AreOf r (n ∷ p ∷ q ∷ []) (b ∷ c ∷ []))
-      (some_same (rules_with k Three) rules read)
-      (ap (λ m. m ∷ p ∷ q ∷ []) (sym (eqb-true n 3 version)), refl, record { passes = passes }, refl)
+  of : (v : Version) → is_ratio k ≡ true → version_number v ≡ n → IsDeclarable (rules_with k v)
+      → Some (rules_with k v) ≡ Some rules → AreOf rules (n ∷ p ∷ q ∷ []) (b ∷ c ∷ [])
+  of v passes version declared read = subst (λ r. AreOf r (n ∷ p ∷ q ∷ []) (b ∷ c ∷ []))
+      (some_same (rules_with k v) rules read)
+      (ap (λ m. m ∷ p ∷ q ∷ []) version, refl, record { passes = passes }, declared)
+
+  by : (good three four : Bool) → is_ratio k ≡ good → (n == 3) ≡ three → (n == 4) ≡ four
+      → cond good (option_map (rules_with k) (cond three (Some Three) (then_some four Four))) None ≡ Some rules
+      → AreOf rules (n ∷ p ∷ q ∷ []) (b ∷ c ∷ [])
+  by false three four fails is_three is_four read = none_is_some read
+  by true true four passes is_three is_four read = of Three passes (sym (eqb-true n 3 is_three)) refl read
+  by true false true passes is_three is_four read = of Four passes (sym (eqb-true n 4 is_four)) refl read
+  by true false false passes is_three is_four read = none_is_some read
 
 -- the numbers of a first line, and that its rules are a ratio's and may be declared
 abbrev IsOf : Head → List ℕ → Type 0

@@ -45,16 +45,16 @@ module _ (v : RosterServer) (J : Instance) (at : ℕ) (it : Rests v J (Mark at))
   valid = it.rests.follows.valid
 
   -- its jobs are those at the barrier
-  rested_there : settled_state J at ≡ state_at at it.rests.state.tasks
+  rested_there : settled_state J at ≡ record it.rests.state { clock = at }
   rested_there = ap (state_after (opening J.jobs)) same_steps
-      ∙ path_state J.rules at waits.steps (opening J.jobs) (state_at at it.rests.state.tasks) waits.path where
-        waits : HasPrinted J at (state_at at it.rests.state.tasks) (settled J at)
+      ∙ path_state J.rules at waits.steps (opening J.jobs) (record it.rests.state { clock = at }) waits.path where
+        waits : HasPrinted J at (record it.rests.state { clock = at }) (settled J at)
         waits = it.rests.given.1.waits
 
         same_steps : settled_steps J at ≡ waits.steps
         same_steps = one_settled_run J.rules at (settled_steps J at) waits.steps (opening J.jobs)
             (settled_is_run J at valid)
-            (path_settles J.rules at waits.steps (opening J.jobs) (state_at at it.rests.state.tasks) waits.path
+            (path_settles J.rules at waits.steps (opening J.jobs) (record it.rests.state { clock = at }) waits.path
             it.rests.given.1.barrier)
 
   -- the jobs of early finishes are over
