@@ -8,7 +8,7 @@ use Rattle.std.proofs.lemmas.Nat.{mul-le}
 use Rattle.dover_model.specs.declared.events.Event.{Event}
 use Rattle.dover_model.specs.declared.events.Event.TheVariants as events
 use Rattle.dover_model.specs.declared.events.Task.{Task}
-use Rattle.dover_model.specs.Common.{is_held, state_at, Fraction, JobFacts, most_jobs, Rules, Declaration, Instance}
+use Rattle.dover_model.specs.Common.{is_held, Fraction, JobFacts, most_jobs, Rules, Declaration, Instance}
 use Rattle.dover_model.specs.Common.{IsValid, declared_by, bare, having, with_jobs, with_finishes, is_end, printed}
 use Rattle.dover_model.specs.Common.{settled, tick_of_event, last_of, EarlyFinish, finish_at, may_finish_early, Finish}
 use Rattle.dover_model.specs.Common.{runner_of, Prints, Begins, IsTurn, NoneBefore, Turn, behind, behind_finish}
@@ -45,6 +45,7 @@ use Rattle.dover_engine.specs.Decisions.{event_in}
 use Rattle.dover_engine.specs.Life.{life_with, Life, IsReadyFor, IsAtRest, HasPaid, CostsOnce, done_value, has_ended}
 use Rattle.dover_engine.specs.Life.{clock_of, spare_of, successor_of}
 use Rattle.ready_jobs.specs.Course as course
+use Rattle.ready_jobs.specs.Course.{state_of_course}
 use Rattle.dover_model.proofs.lists.Members.{some_same}
 use Rattle.dover_model.proofs.lists.Tests.{never}
 use Rattle.dover_engine.specs.Given.{GaveSince, Gave, IsSince, IsPrompt}
@@ -713,9 +714,10 @@ module _ (v : Life) (J : Instance) (es : List Event) (g : Gave v J es) (none : v
         let limit = ap (λ (rules : Declaration). most_jobs rules.version) g.gave.rules in
         omega (arith, count, g.gave.admission.count, limit)
 
-    waits : waits_among v.server.ready.jobs (state_at v.server.ready.clock v.server.ready.ready)
+    waits : waits_among v.server.ready.jobs (state_of_course v.server.ready)
         ≤ 4 * v.admission.count
-    waits = subst (λ ts. waits_among v.server.ready.jobs (state_at v.server.ready.clock ts) ≤ 4 * v.admission.count)
+    waits = subst (λ ts. waits_among v.server.ready.jobs (record (state_of_course v.server.ready) { tasks = ts })
+        ≤ 4 * v.admission.count)
         (sym none) (omega (arith, count))
 
 -- numbers are nothing to what a step costs
@@ -730,11 +732,15 @@ same_wait n value (Some (events.Complete at m)) held = refl
 same_wait n value (Some (events.Abandon at m)) held = refl
 same_wait n value (Some (events.End more)) held = refl
 
+same_cost : (orders d before now m n : ℕ) → m ≡ n → now ≤ before + orders * d * (6 + n)
+    → now ≤ before + orders * d * (6 + m)
+same_cost orders d before now m n same = subst (λ w. now ≤ before + orders * d * (6 + w)) (sym same)
+
 pub shown_once : (v : Life) (n value : ℕ) (o p : Option Event) (before now : ℕ) → p ≡ option_map (behind n value) o
     → CostsOnce v o before now → CostsOnce v p before now
-shown_once v n value o p before now same cost d fits = subst (λ w. now ≤ before + 2 * d * (6 + w))
-    (sym (ap (λ q. wait_again_by q (filter is_held v.server.ready.ready)) same
-    ∙ same_wait n value o (filter is_held v.server.ready.ready)))
+shown_once v n value o p before now same cost d fits = same_cost _ d before now _ _
+    (ap (λ q. wait_again_by q (filter is_held v.server.ready.ready)) same
+    ∙ same_wait n value o (filter is_held v.server.ready.ready))
     (cost d fits)
 
 -- the engine's answer says that none is withheld

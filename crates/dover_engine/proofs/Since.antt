@@ -72,16 +72,16 @@ module _ (v : Life) (J : Instance) (es : List Event) (g : GaveSince v J es) wher
         by_over false is = absurd (subst (IsMember x) still.none (there.follows.ready.there x
             (filter_member is_ready there.state.tasks x member (ap not is))))
 
-      here : settled_state J t ≡ state_at t there.state.tasks
+      here : settled_state J t ≡ record there.state { clock = t }
       here =
           let waits = there.given.1.waits in
           let steps : settled_steps J t ≡ waits.steps =
           one_settled_run J.rules t (settled_steps J t) waits.steps (opening J.jobs)
           (settled_is_run J t there.follows.valid)
-          (path_settles J.rules t waits.steps (opening J.jobs) (state_at t there.state.tasks) waits.path
+          (path_settles J.rules t waits.steps (opening J.jobs) (record there.state { clock = t }) waits.path
           there.given.1.barrier) in
           ap (state_after (opening J.jobs)) steps
-          ∙ path_state J.rules t waits.steps (opening J.jobs) (state_at t there.state.tasks) waits.path
+          ∙ path_state J.rules t waits.steps (opening J.jobs) (record there.state { clock = t }) waits.path
 
       pub rests_at : rest.IsAtRest J t
       rests_at = subst (λ (s : State). Each (λ (x : Task). is_over x ≡ true) s.tasks) (sym here) over

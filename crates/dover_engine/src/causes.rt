@@ -21,9 +21,9 @@ pub enum NotAdmitted {
     Unsettled,
     /// A limit of one job is broken.
     BadJob,
-    /// 1,000,000 jobs were admitted since the last moment of rest, in version Three 4,000,000,000.
+    /// 1,000,000 jobs were admitted since the last moment of rest, from version Three on 4,000,000,000.
     Count,
-    /// The sum of the values since the last moment of rest would pass 10,000,000,000,000, in version Three
+    /// The sum of the values since the last moment of rest would pass 10,000,000,000,000, from version Three on
     /// 999,999,999,999,999,999.
     Total,
     /// The job of this number and the job break the ratio, in one direction or the other. It is the first of the least

@@ -64,7 +64,7 @@ head_numbers h = version_number h.rules.version ∷ h.rules.ratio.p ∷ h.rules.
 abbrev pub head_line : Head → List ℕ
 head_line h = with_numbers (codes "snapshot") (head_numbers h)
 
--- the ratio is one, a factor is declared in version Three alone, and the numbers have numerals
+-- the ratio is one, a factor is declared from version Three on alone, and the numbers have numerals
 pub record IsHead (h : Head) : Type 0 where
   pub ratio : IsRatio h.rules.ratio
   pub declared : IsDeclarable h.rules
