@@ -4,7 +4,7 @@ ghost use Rattle.std.specs.Prelude.{◌≡◌, ◌<◌, ◌^◌, length, IfSome}
 use comparison_count::Comparisons;
 use dover_model::Version;
 use dover_model::jobs::MOST_VALUE;
-use place_heap::{Heap, Item, ShortRank, tie_of};
+use place_heap::{Heap, Item, LongRank, ShortRank, tie_of};
 use std::marker::Brand;
 use std::sync::ledger::{Blank, Ledger};
 
@@ -157,4 +157,57 @@ fn orders<L: Ledger>(rt: &HostRuntime, blank: Blank) -> bool
 #[test]
 fn the_first_is_that_of_a_list(rt: HostRuntime) {
     assert!(rt; orders::<Brand>(&rt, Blank::new(1)));
+}
+
+/// A key, a tie, a number, and the place, which says as which of them the item comes.
+static LONG: [(u128, u128, u32, u32); 6] = [
+    (1 << 112, 1 << 75, 1, 5),
+    (1, 1, 3, 2),
+    (0, (1 << 76) - 1, 5, 0),
+    (1 << 112, 0, 2, 3),
+    (1, 0, 4, 1),
+    (1 << 112, 1 << 75, 0, 4),
+];
+
+// Puts in the items of the rows, of which none is in the heap then.
+fn put_long<L: Ledger>(heap: &mut Heap<LongRank>, comparisons: &mut Comparisons<L>)
+    requires { length heap.old ≡ 200 }
+    ensures { length heap.new ≡ 200 }
+{
+    for (key, tie, number, place) in &LONG {
+        if *tie < 1 << 76 && *place < 200 {
+            heap.remove(*place, comparisons);
+            heap.insert(Item::long(*key, *tie, *number, *place), comparisons);
+        }
+    }
+}
+
+// Whether the items come in the order of their places.
+fn come_by_place<L: Ledger>(heap: &mut Heap<LongRank>, comparisons: &mut Comparisons<L>) -> bool
+    requires { length heap.old ≡ 200 }
+{
+    put_long(heap, comparisons);
+    for place in 0..6 {
+        match heap.first() {
+            Some(first) if first.place() == place => heap.remove(place, comparisons),
+            _ => return false,
+        }
+    }
+    heap.first().is_none()
+}
+
+// Whether a heap of long items has them in their order.
+fn orders_long<L: Ledger>(rt: &HostRuntime, blank: Blank) -> bool
+    requires name { blank.name ≡ L.name }
+    requires parts { blank.parts ≡ L.parts }
+    requires some { 0 < blank.parts }
+{
+    let mut comparisons: Comparisons<L> = Comparisons::new(rt.memory(), blank);
+    let mut heap = Heap::new(rt.alloc());
+    heap.reserve(200).is_ok() && come_by_place(&mut heap, &mut comparisons)
+}
+
+#[test]
+fn long_items_come_by_key_tie_and_number(rt: HostRuntime) {
+    assert!(rt; orders_long::<Brand>(&rt, Blank::new(1)));
 }
