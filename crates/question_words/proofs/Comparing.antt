@@ -9,16 +9,11 @@ use Rattle.dover_model.proofs.bound.BoundLaws as laws
 use Rattle.dover_model.proofs.bound.GreatestLaws.{bound-is}
 use Rattle.dover_model.proofs.valid.Limiting.{total_most}
 use Rattle.dover_port.specs.declared.status.Status.TheVariants.{Done}
-use Rattle.policy_lab.specs.PolicyRun.{policy_run, AreTooLarge}
+use Rattle.policy_lab.specs.PolicyRun.{policy_run}
 use Rattle.policy_lab.specs.Standard.{earliest_deadline, greatest_density}
 use Rattle.question_words.specs.Compare.{SaysCompare, AreWithin, worth_of}
 use Rattle.question_words.proofs.Lines.{four, four_same}
 use Rattle.dover_model.proofs.valid.ValidParts.{valid_parts}
-
--- jobs that aren't too large
-pub not_large : (jobs others : List JobFacts) → jobs ≡ others → (large : Bool) → (IsTrue large ↔ AreTooLarge jobs)
-    → large ≡ false → AreTooLarge others → ⊥
-not_large jobs others same large tells fails are = never (sym fails ∙ tells.1 (subst AreTooLarge (sym same) are))
 
 module _ (J : Instance) (valid : IsValid J) where
   -- the run completes no more than all values
@@ -48,11 +43,11 @@ module _ (J : Instance) (valid : IsValid J) where
       → dover ≡ completed_value J
       → edf ≡ worth (record { rules = J.rules; jobs = jobs }) (policy_run earliest_deadline jobs)
       → dense ≡ worth (record { rules = J.rules; jobs = jobs }) (policy_run greatest_density jobs)
-      → most ≡ bound J.rules.ratio dover → (AreTooLarge J.jobs → ⊥) → (text : List ℕ)
+      → most ≡ bound J.rules.ratio dover → IsListable J → (text : List ℕ)
       → text ≡ four (codes "dover") (codes "edf") (codes "dense") (codes "bound") dover edf dense most []
       → SaysCompare J Done text
-  compared jobs same dover edf dense most run first second is small text written = (
-    small,
+  compared jobs same dover edf dense most run first second is listable text written = (
+    listable,
     within,
     written ∙ four_same (codes "dover") (codes "edf") (codes "dense") (codes "bound") dover edf dense most
         (completed_value J) (worth_of earliest_deadline (observed J)) (worth_of greatest_density (observed J))

@@ -1,10 +1,11 @@
 -- What the word `compare` says of the jobs of a feed.
 use Rattle.std.specs.Prelude.{◌≡◌, ◌≤◌, ℕ, List, [], ◌∷◌, codes}
-use Rattle.dover_model.specs.Common.{bound, Instance, with_numbers, in_lines, observed, completed_value, worth}
+use Rattle.dover_model.specs.Common.{bound, Instance, IsListable, with_numbers, in_lines, observed, completed_value}
+use Rattle.dover_model.specs.Common.{worth}
 use Rattle.dover_port.specs.declared.status.Status.{Status}
 use Rattle.dover_port.specs.declared.status.Status.TheVariants.{Done, Refused}
 use Rattle.policy_lab.specs.Picks.{Picks}
-use Rattle.policy_lab.specs.PolicyRun.{policy_run, AreTooLarge}
+use Rattle.policy_lab.specs.PolicyRun.{policy_run}
 use Rattle.policy_lab.specs.Standard.{earliest_deadline, greatest_density}
 use Rattle.dialogue.specs.Sizes.{size_text}
 
@@ -27,8 +28,8 @@ pub record AreWithin (J : Instance) : Type 0 where
   pub edf : worth_of earliest_deadline (observed J) ≤ bound J.rules.ratio (completed_value J)
   pub dense : worth_of greatest_density (observed J) ≤ bound J.rules.ratio (completed_value J)
 
--- Done with the four numbers, and Refused exactly where the policies aren't run over so large a feed
+-- Done with the numbers, and Refused exactly where the jobs are more, or worth more, than those of version Two may be
 abbrev pub SaysCompare : Instance → Status → List ℕ → Type 0
-SaysCompare J Done text = (AreTooLarge J.jobs → ⊥) × AreWithin J × (text ≡ compare_text J)
-SaysCompare J Refused text = AreTooLarge J.jobs × (text ≡ size_text)
+SaysCompare J Done text = IsListable J × AreWithin J × (text ≡ compare_text J)
+SaysCompare J Refused text = (IsListable J → ⊥) × (text ≡ size_text)
 SaysCompare J _ text = ⊥

@@ -8,20 +8,21 @@ ghost use Rattle.question_words.specs.Texts.{text_of};
 
 use crate::answer::{Answer, Rows};
 use crate::bounding::put_bound;
+use crate::limits::is_listable;
 use crate::observing::observe;
 use comparison_count::Comparisons;
 use dover_model::Memory;
 use dover_port::Status;
 use event_feed::Listed;
 use line_text::BackLine;
-use policy_lab::{Dense, Edf, are_too_large, run_policy};
+use policy_lab::{Dense, Edf, run_policy};
 use std::alloc::Global;
 use std::sync::ledger::Ledger;
 
 /// Compares the rules with the policies over the jobs, which these know as the run observed them, and says what came of
 /// it: the value that the run completes, what the schedules by earliest deadline and by greatest density are worth, and
-/// the bound on what any schedule is worth. More than 10,000 jobs, or a deadline above 100,000, are refused. Memory is
-/// taken for the runs.
+/// the bound on what any schedule is worth. More jobs than those of version Two may be, or worth more, are refused. Memory
+/// is taken for the runs.
 pub(crate) fn answer<L: Ledger>(
     alloc: Global,
     listed: Listed,
@@ -33,18 +34,13 @@ pub(crate) fn answer<L: Ledger>(
     ensures ends { IfOk result (λ answer. IsFinal answer.status) }
     ensures count { CostsAtMost (length listed.jobs.items) comparisons.old comparisons.new }
 {
-    if are_too_large(&listed.jobs) {
+    if !is_listable(&listed) {
         return Ok(Answer::too_many(alloc));
     }
     let ratio = listed.ratio;
     let (dover, jobs) = observe(alloc, listed, comparisons)?;
-    // There are as many jobs as before, and they are due as before.
-    let Ok(edf) = run_policy(alloc, &Edf, &jobs) else {
-        return Err(Memory);
-    };
-    let Ok(dense) = run_policy(alloc, &Dense, &jobs) else {
-        return Err(Memory);
-    };
+    let edf = run_policy(alloc, &Edf, &jobs)?;
+    let dense = run_policy(alloc, &Dense, &jobs)?;
     let mut head = BackLine::new();
     put_bound(&mut head, dover, ratio);
     head.put_with_wide(b"\ndense", &[dense.value]);
