@@ -12,7 +12,7 @@ use Rattle.dover_model.proofs.steps.Loads.{sum_change}
 use Rattle.dover_model.proofs.runs.Honest.{sum_tasks}
 use Rattle.policy_lab.specs.Picks.{Picks, IsPolicy}
 use Rattle.policy_lab.specs.PolicyRun.{picked}
-use Rattle.policy_lab.specs.Bench.{tasks_at, schedule_before}
+use Rattle.policy_lab.specs.Bench.{tasks_at, schedule_before, last_at}
 use Rattle.policy_lab.specs.Counts.{is_stopped, stops_before, stops}
 use Rattle.policy_lab.proofs.Runs.{numbered_at, jobs_at, schedule_length, schedule_next, gave}
 
@@ -39,14 +39,13 @@ stops_front jobs s more (suc t) short = omega (
 )
 
 module _ (picks : Picks) (jobs : List JobFacts) where
-  -- the number of the tick before, and at the first tick its own
-  abbrev pub last_at : ℕ → ℕ
-  last_at zero = picked picks zero (tasks_at picks jobs zero)
-  last_at (suc t) = picked picks t (tasks_at picks jobs t)
+  -- the number of the tick before
+  abbrev before_at : ℕ → ℕ
+  before_at t = last_at picks jobs t
 
   -- 1 for a job that is stopped at tick t
   abbrev pub stop_of : ℕ → Task → ℕ
-  stop_of t u = cond (eqb (last_at t) u.number && not (eqb (picked picks t (tasks_at picks jobs t)) u.number)
+  stop_of t u = cond (eqb (before_at t) u.number && not (eqb (picked picks t (tasks_at picks jobs t)) u.number)
       && not (eqb (left u) 0)) 1 0
 
   -- how many are
@@ -54,7 +53,7 @@ module _ (picks : Picks) (jobs : List JobFacts) where
   stopped_at t = sum_by (stop_of t) (tasks_at picks jobs t)
 
   -- the tick before
-  last_is : (t : ℕ) → get_or (schedule_before picks jobs (suc t)) (t - 1) idle ≡ last_at t
+  last_is : (t : ℕ) → get_or (schedule_before picks jobs (suc t)) (t - 1) idle ≡ before_at t
   last_is zero = refl
   last_is (suc t) =
       get_or_append_left (schedule_before picks jobs (suc t)) (picked picks (suc t) (tasks_at picks jobs (suc t)) ∷ [])
@@ -91,14 +90,14 @@ module _ (picks : Picks) (jobs : List JobFacts) where
           one u member =
               ap (λ a. cond {A = ℕ} (eqb a u.number && not (eqb (get_or s t idle) u.number)
               && not (is_served (take t s) (u.number, u.job))) 1 0) (last_is t)
-              ∙ ap (λ a. cond {A = ℕ} (eqb (last_at t) u.number && not (eqb a u.number)
+              ∙ ap (λ a. cond {A = ℕ} (eqb (before_at t) u.number && not (eqb a u.number)
               && not (is_served (take t s) (u.number, u.job))) 1 0)
               (get_or_push past now idle t (schedule_length picks jobs t))
-              ∙ ap (λ front. cond {A = ℕ} (eqb (last_at t) u.number && not (eqb now u.number)
+              ∙ ap (λ front. cond {A = ℕ} (eqb (before_at t) u.number && not (eqb now u.number)
               && not (is_served front (u.number, u.job))) 1 0)
               (take-append-le t past (now ∷ []) (omega (arith, schedule_length picks jobs t))
               ∙ take_all t past (omega (arith, schedule_length picks jobs t)))
-              ∙ ap (λ b. cond {A = ℕ} (eqb (last_at t) u.number && not (eqb now u.number) && not b) 1 0)
+              ∙ ap (λ b. cond {A = ℕ} (eqb (before_at t) u.number && not (eqb now u.number) && not b) 1 0)
               (ap (nat_le u.job.work) (gave picks jobs policy count t u member) ∙ done u.job.work u.had)
 
           by_tasks : count_by (is_stopped s t) (enumerate_from 0 jobs) ≡ stopped_at t
@@ -108,10 +107,10 @@ module _ (picks : Picks) (jobs : List JobFacts) where
               ∙ sum_same (λ u. cond (is_stopped s t (u.number, u.job)) 1 0) (stop_of t) tasks one
 
   -- where the job of the tick before runs on, or has no work left, none is stopped
-  pub stops_none : (t : ℕ) → Each (λ u. u.number ≡ last_at t → (picked picks t (tasks_at picks jobs t) ≡ u.number)
+  pub stops_none : (t : ℕ) → Each (λ u. u.number ≡ before_at t → (picked picks t (tasks_at picks jobs t) ≡ u.number)
       ⊎ (left u ≡ 0)) (tasks_at picks jobs t) → stopped_at t ≡ 0
   stops_none t why = sum_zero (stop_of t) (tasks_at picks jobs t) (λ u member. by_last u (why u member)
-      (cases_eq (last_at t) u.number)) where
+      (cases_eq (before_at t) u.number)) where
         now : ℕ
         now = picked picks t (tasks_at picks jobs t)
 
@@ -123,8 +122,8 @@ module _ (picks : Picks) (jobs : List JobFacts) where
         by_test true false false (inr (inl e)) = absurd (let clash : false ≡ true = e in cc)
         by_test true false false (inr (inr e)) = absurd (let clash : false ≡ true = e in cc)
 
-        by_last : (u : Task) → (u.number ≡ last_at t → (now ≡ u.number) ⊎ (left u ≡ 0))
-            → (last_at t ≡ u.number) ⊎ (last_at t ≡ u.number → ⊥) → stop_of t u ≡ 0
+        by_last : (u : Task) → (u.number ≡ before_at t → (now ≡ u.number) ⊎ (left u ≡ 0))
+            → (before_at t ≡ u.number) ⊎ (before_at t ≡ u.number → ⊥) → stop_of t u ≡ 0
         by_last u why (inr other) = by_test _ _ _ (inl (ne_eqb _ _ other))
         by_last u why (inl same) = by_why (why (sym same)) where
           by_why : (now ≡ u.number) ⊎ (left u ≡ 0) → stop_of t u ≡ 0
@@ -132,7 +131,7 @@ module _ (picks : Picks) (jobs : List JobFacts) where
           by_why (inr over) = by_test _ _ _ (inr (inr (eq-eqb _ _ over)))
 
   -- where it doesn't, and has work left, one is
-  pub stops_one : (t : ℕ) (r : Task) → IsMember r (tasks_at picks jobs t) → r.number ≡ last_at t
+  pub stops_one : (t : ℕ) (r : Task) → IsMember r (tasks_at picks jobs t) → r.number ≡ before_at t
       → (picked picks t (tasks_at picks jobs t) ≡ r.number → ⊥) → 0 < left r → stopped_at t ≡ 1
   stops_one t r member last other some = omega (arith, at_most, at_least) where
     its : stop_of t r ≡ 1
@@ -143,7 +142,7 @@ module _ (picks : Picks) (jobs : List JobFacts) where
 
     none : (u : Task) → (u.number ≡ r.number → ⊥) → stop_of t u ≡ 0
     none u apart = ap (λ b. cond {A = ℕ} (b && not (eqb (picked picks t (tasks_at picks jobs t)) u.number)
-        && not (eqb (left u) 0)) 1 0) (ne_eqb (last_at t) u.number (λ same. apart (sym same ∙ sym last)))
+        && not (eqb (left u) 0)) 1 0) (ne_eqb (before_at t) u.number (λ same. apart (sym same ∙ sym last)))
 
     at_least : 1 ≤ stopped_at t
     at_least = omega (arith, its, term_le_sum (stop_of t) (tasks_at picks jobs t) r member)

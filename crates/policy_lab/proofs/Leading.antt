@@ -13,7 +13,9 @@ use Rattle.clairvoyant.proofs.feasible.EarliestFirst.{had_more, given_ticks, by_
 use Rattle.policy_lab.specs.Picks.{Picks, IsPick, IsPolicy, AreReady}
 use Rattle.policy_lab.specs.Ranks.{IsEntry, IsRanked, turn_by}
 use Rattle.policy_lab.specs.PolicyRun.{is_ready, picked}
-use Rattle.policy_lab.specs.Bench.{tasks_at, schedule_before}
+use Rattle.policy_lab.specs.Bench.{tasks_at, schedule_before, last_at}
+use Rattle.policy_lab.specs.Counts.{stops}
+use Rattle.policy_lab.proofs.Counting.{stopped_at, stops_next, stops_none}
 use Rattle.policy_lab.proofs.Given.{ready_says, says_ready}
 use Rattle.policy_lab.proofs.Entries.{each_entry}
 use Rattle.policy_lab.proofs.Onlines.{none_ready}
@@ -147,38 +149,53 @@ module _ (picks : Picks) (ranks : Entry → ℕ) (ranked : IsRanked picks ranks)
             absurd (let fits : t + left u ≤ u.job.deadline = says.2 in omega (arith, late))
         by_case u member says (inr (inr (inr (inr behind)))) = inr behind
 
-  -- k ticks of one job
-  pub leads_run : (k m t : ℕ) → Leads ranks (suc k) m t (tasks_at picks jobs t)
-      → (tasks_at picks jobs (t + suc k) ≡ map (given_ticks (suc k) m) (tasks_at picks jobs t))
-      × (schedule_before picks jobs (t + suc k) ≡ schedule_before picks jobs t ++ replicate (suc k) m)
-  leads_run zero m t it = (
-    ap (tasks_at picks jobs) (add-one t)
-    ∙ ap (λ (n : ℕ). map (given n) (tasks_at picks jobs t)) (leads_picked zero m t it),
-    ap (schedule_before picks jobs) (add-one t)
-    ∙ ap (λ (n : ℕ). schedule_before picks jobs t ++ n ∷ []) (leads_picked zero m t it),
-  )
+  -- what k ticks of one job come to; none is stopped but in the first of them
+  pub record RunsFor (k m t : ℕ) : Type 0 where
+    pub tasks : tasks_at picks jobs (t + suc k) ≡ map (given_ticks (suc k) m) (tasks_at picks jobs t)
+    pub schedule : schedule_before picks jobs (t + suc k) ≡ schedule_before picks jobs t ++ replicate (suc k) m
+    pub picks_it : picked picks t (tasks_at picks jobs t) ≡ m
+    pub last : last_at picks jobs (t + suc k) ≡ m
+    pub stopped : stops jobs (schedule_before picks jobs (t + suc k))
+        ≡ stops jobs (schedule_before picks jobs t) + stopped_at picks jobs t
+
+  pub leads_run : (k m t : ℕ) → Leads ranks (suc k) m t (tasks_at picks jobs t) → RunsFor k m t
+  leads_run zero m t it = record {
+    tasks = ap (tasks_at picks jobs) (add-one t)
+        ∙ ap (λ (n : ℕ). map (given n) (tasks_at picks jobs t)) (leads_picked zero m t it);
+    schedule = ap (schedule_before picks jobs) (add-one t)
+        ∙ ap (λ (n : ℕ). schedule_before picks jobs t ++ n ∷ []) (leads_picked zero m t it);
+    picks_it = leads_picked zero m t it;
+    last = ap (last_at picks jobs) (add-one t) ∙ leads_picked zero m t it;
+    stopped = ap (λ n. stops jobs (schedule_before picks jobs n)) (add-one t)
+        ∙ stops_next picks jobs ranked.policy count t;
+  }
   leads_run (suc k) m t it = onward (leads_run k m t (leads_less ranks (suc k) (suc (suc k)) m t _ (omega arith) it)) where
     next : ℕ
     next = t + suc k
 
-    onward : (tasks_at picks jobs (t + suc k) ≡ map (given_ticks (suc k) m) (tasks_at picks jobs t))
-        × (schedule_before picks jobs (t + suc k) ≡ schedule_before picks jobs t ++ replicate (suc k) m)
-        → (tasks_at picks jobs (t + suc (suc k)) ≡ map (given_ticks (suc (suc k)) m) (tasks_at picks jobs t))
-        × (schedule_before picks jobs (t + suc (suc k)) ≡ schedule_before picks jobs t ++ replicate (suc (suc k)) m)
-    onward before = (
-      ap (tasks_at picks jobs) one_more
-      ∙ ap (λ (n : ℕ). map (given n) (tasks_at picks jobs next)) is_m
-      ∙ ap (map (given m)) before.0
-      ∙ map_map (given m) (given_ticks (suc k) m) (tasks_at picks jobs t)
-      ∙ map_same (λ u. given m (given_ticks (suc k) m u)) (given_ticks (suc (suc k)) m) (tasks_at picks jobs t)
-      (λ u _. given_after (suc k) m u),
-      ap (schedule_before picks jobs) one_more
-      ∙ ap (λ (n : ℕ). schedule_before picks jobs next ++ n ∷ []) is_m
-      ∙ ap (λ s. s ++ m ∷ []) before.1
-      ∙ append_assoc (schedule_before picks jobs t) (replicate (suc k) m) (m ∷ [])
-      ∙ ap (λ s. schedule_before picks jobs t ++ s)
-      (replicate_more (suc k) m ∙ ap (λ (n : ℕ). replicate n m) (add-one (suc k))),
-    ) where
+    onward : RunsFor k m t → RunsFor (suc k) m t
+    onward before = record {
+      tasks = ap (tasks_at picks jobs) one_more
+          ∙ ap (λ (n : ℕ). map (given n) (tasks_at picks jobs next)) is_m
+          ∙ ap (map (given m)) before.tasks
+          ∙ map_map (given m) (given_ticks (suc k) m) (tasks_at picks jobs t)
+          ∙ map_same (λ u. given m (given_ticks (suc k) m u)) (given_ticks (suc (suc k)) m) (tasks_at picks jobs t)
+          (λ u _. given_after (suc k) m u);
+      schedule = ap (schedule_before picks jobs) one_more
+          ∙ ap (λ (n : ℕ). schedule_before picks jobs next ++ n ∷ []) is_m
+          ∙ ap (λ s. s ++ m ∷ []) before.schedule
+          ∙ append_assoc (schedule_before picks jobs t) (replicate (suc k) m) (m ∷ [])
+          ∙ ap (λ s. schedule_before picks jobs t ++ s)
+          (replicate_more (suc k) m ∙ ap (λ (n : ℕ). replicate n m) (add-one (suc k)));
+      picks_it = before.picks_it;
+      last = ap (last_at picks jobs) one_more ∙ is_m;
+      stopped = ap (λ n. stops jobs (schedule_before picks jobs n)) one_more
+          ∙ stops_next picks jobs ranked.policy count next
+          ∙ ap (λ n. stops jobs (schedule_before picks jobs next) + n) none
+          ∙ (let same : stops jobs (schedule_before picks jobs next) + 0 ≡ stops jobs (schedule_before picks jobs next) =
+          omega arith in same)
+          ∙ before.stopped;
+    } where
       one_more : t + suc (suc k) ≡ suc next
       one_more = omega arith
 
@@ -186,12 +203,15 @@ module _ (picks : Picks) (ranks : Entry → ℕ) (ranked : IsRanked picks ranks)
       longer = leads_less ranks (suc k + 1) (suc (suc k)) m t (tasks_at picks jobs t) (omega arith) it
 
       after : Leads ranks 1 m next (tasks_at picks jobs next)
-      after = subst (Leads ranks 1 m next) (sym before.0)
+      after = subst (Leads ranks 1 m next) (sym before.tasks)
           (leads_after picks ranks ranked (suc k) 1 m t (tasks_at picks jobs t) longer
           (job_limits (good_at picks jobs good t longer.task longer.member)).worth)
 
       is_m : picked picks next (tasks_at picks jobs next) ≡ m
       is_m = leads_picked zero m next after
+
+      none : stopped_at picks jobs next ≡ 0
+      none = stops_none picks jobs next (λ u member same. inl (is_m ∙ sym before.last ∙ sym same))
 
   -- of no entries none is picked
   picks_none : picks [] ≡ None
@@ -200,16 +220,37 @@ module _ (picks : Picks) (ranks : Entry → ℕ) (ranked : IsRanked picks ranks)
     by_pick None e none = e
     by_pick (Some n) e one = absurd one
 
-  -- k ticks of none
+  -- where no job is ready none is picked
+  pub rests_idle : (t : ℕ) → Rests 1 t (tasks_at picks jobs t) → picked picks t (tasks_at picks jobs t) ≡ idle
+  rests_idle t it =
+      ap (λ (ts : List Task). unwrap_or (picks (map entry_of ts)) 4_000_000_000)
+      (none_ready t (tasks_at picks jobs t) (λ u member ready. not_ready u (it u member) (ready_says t u ready)))
+      ∙ ap (λ o. unwrap_or o 4_000_000_000) picks_none where
+        not_ready : (u : Task) → (t + 1 ≤ u.job.release) ⊎ ((left u ≡ 0) ⊎ (u.job.deadline < t + left u))
+            → (u.job.release ≤ t) × (0 < left u) × (t + left u ≤ u.job.deadline) → ⊥
+        not_ready u (inl later) says = let now : u.job.release ≤ t = says.0 in omega (arith, later)
+        not_ready u (inr (inl done)) says = let some : 0 < left u = says.1 in omega (arith, done)
+        not_ready u (inr (inr late)) says = let fits : t + left u ≤ u.job.deadline = says.2 in omega (arith, late)
+
+  -- what k ticks of none come to
+  pub record RestsFor (k t : ℕ) : Type 0 where
+    pub tasks : tasks_at picks jobs (t + k) ≡ tasks_at picks jobs t
+    pub schedule : schedule_before picks jobs (t + k) ≡ schedule_before picks jobs t ++ replicate k idle
+    pub last : Each (λ u. u.number ≡ last_at picks jobs (t + k) → left u ≡ 0) (tasks_at picks jobs (t + k))
+    pub stopped : stops jobs (schedule_before picks jobs (t + k)) ≡ stops jobs (schedule_before picks jobs t)
+
   pub rests_run : (k t : ℕ) → Rests k t (tasks_at picks jobs t)
-      → (tasks_at picks jobs (t + k) ≡ tasks_at picks jobs t)
-      × (schedule_before picks jobs (t + k) ≡ schedule_before picks jobs t ++ replicate k idle)
-  rests_run zero t it = (
-    ap (tasks_at picks jobs) (let same : t + 0 ≡ t = omega arith in same),
-    ap (schedule_before picks jobs) (let same : t + 0 ≡ t = omega arith in same)
-    ∙ sym (append-nil (schedule_before picks jobs t)),
-  )
-  rests_run (suc k) t it = onward (rests_run k t (λ u member. less u (it u member))) where
+      → Each (λ u. u.number ≡ last_at picks jobs t → left u ≡ 0) (tasks_at picks jobs t) → RestsFor k t
+  rests_run zero t it over = record {
+    tasks = ap (tasks_at picks jobs) same;
+    schedule = ap (schedule_before picks jobs) same ∙ sym (append-nil (schedule_before picks jobs t));
+    last = subst (λ (m : ℕ). Each (λ u. u.number ≡ last_at picks jobs m → left u ≡ 0) (tasks_at picks jobs m)) (sym same)
+        over;
+    stopped = ap (λ n. stops jobs (schedule_before picks jobs n)) same;
+  } where
+    same : t + 0 ≡ t
+    same = omega arith
+  rests_run (suc k) t it over = onward (rests_run k t (λ u member. less u (it u member)) over) where
     less : (u : Task) → (t + suc k ≤ u.job.release) ⊎ ((left u ≡ 0) ⊎ (u.job.deadline < t + left u))
         → (t + k ≤ u.job.release) ⊎ ((left u ≡ 0) ⊎ (u.job.deadline < t + left u))
     less u (inl later) = inl (omega (arith, later))
@@ -218,37 +259,46 @@ module _ (picks : Picks) (ranks : Entry → ℕ) (ranked : IsRanked picks ranks)
     next : ℕ
     next = t + k
 
-    onward : (tasks_at picks jobs (t + k) ≡ tasks_at picks jobs t)
-        × (schedule_before picks jobs (t + k) ≡ schedule_before picks jobs t ++ replicate k idle)
-        → (tasks_at picks jobs (t + suc k) ≡ tasks_at picks jobs t)
-        × (schedule_before picks jobs (t + suc k) ≡ schedule_before picks jobs t ++ replicate (suc k) idle)
-    onward before = (
-      ap (tasks_at picks jobs) one_more
-      ∙ ap (λ (n : ℕ). map (given n) (tasks_at picks jobs next)) is_idle
-      ∙ map_same (given idle) (λ u. u) (tasks_at picks jobs next) (λ u member. given_other 1 idle u
-      (λ same. absurd (omega (arith, same, low_numbers picks jobs ranked.policy count next u member))))
-      ∙ map_self (λ u. u) (tasks_at picks jobs next) (λ u. refl)
-      ∙ before.0,
-      ap (schedule_before picks jobs) one_more
-      ∙ ap (λ (n : ℕ). schedule_before picks jobs next ++ n ∷ []) is_idle
-      ∙ ap (λ s. s ++ idle ∷ []) before.1
-      ∙ append_assoc (schedule_before picks jobs t) (replicate k idle) (idle ∷ [])
-      ∙ ap (λ s. schedule_before picks jobs t ++ s)
-      (replicate_more k idle ∙ ap (λ (n : ℕ). replicate n idle) (add-one k)),
-    ) where
+    onward : RestsFor k t → RestsFor (suc k) t
+    onward before = record {
+      tasks = tasks_then ∙ before.tasks;
+      schedule = ap (schedule_before picks jobs) one_more
+          ∙ ap (λ (n : ℕ). schedule_before picks jobs next ++ n ∷ []) is_idle
+          ∙ ap (λ s. s ++ idle ∷ []) before.schedule
+          ∙ append_assoc (schedule_before picks jobs t) (replicate k idle) (idle ∷ [])
+          ∙ ap (λ s. schedule_before picks jobs t ++ s)
+          (replicate_more k idle ∙ ap (λ (n : ℕ). replicate n idle) (add-one k));
+      last = λ u member same. absurd (omega (
+        arith,
+        same,
+        ap (last_at picks jobs) one_more ∙ is_idle,
+        low_numbers picks jobs ranked.policy count (t + suc k) u member,
+      ));
+      stopped = ap (λ n. stops jobs (schedule_before picks jobs n)) one_more
+          ∙ stops_next picks jobs ranked.policy count next
+          ∙ ap (λ n. stops jobs (schedule_before picks jobs next) + n)
+          (stops_none picks jobs next (λ u member same. inr (before.last u member same)))
+          ∙ (let same : stops jobs (schedule_before picks jobs next) + 0 ≡ stops jobs (schedule_before picks jobs next) =
+          omega arith in same)
+          ∙ before.stopped;
+    } where
       one_more : t + suc k ≡ suc next
       one_more = omega arith
 
-      not_ready : (u : Task) → (t + suc k ≤ u.job.release) ⊎ ((left u ≡ 0) ⊎ (u.job.deadline < t + left u))
-          → (u.job.release ≤ next) × (0 < left u) × (next + left u ≤ u.job.deadline) → ⊥
-      not_ready u (inl later) says = let now : u.job.release ≤ next = says.0 in omega (arith, later)
-      not_ready u (inr (inl done)) says = let some : 0 < left u = says.1 in omega (arith, done)
-      not_ready u (inr (inr late)) says =
-          let fits : next + left u ≤ u.job.deadline = says.2 in omega (arith, late)
+      rests_on : Rests 1 next (tasks_at picks jobs next)
+      rests_on = subst (Rests 1 next) (sym before.tasks) (λ u member. later u (it u member)) where
+        later : (u : Task) → (t + suc k ≤ u.job.release) ⊎ ((left u ≡ 0) ⊎ (u.job.deadline < t + left u))
+            → (next + 1 ≤ u.job.release) ⊎ ((left u ≡ 0) ⊎ (u.job.deadline < next + left u))
+        later u (inl comes) = inl (omega (arith, comes))
+        later u (inr (inl done)) = inr (inl done)
+        later u (inr (inr late)) = inr (inr (omega (arith, late)))
 
       is_idle : picked picks next (tasks_at picks jobs next) ≡ idle
-      is_idle = ap (λ (ts : List Task). picked picks next ts) before.0
-          ∙ ap (λ (ts : List Task). unwrap_or (picks (map entry_of ts)) 4_000_000_000)
-          (none_ready next (tasks_at picks jobs t)
-          (λ u member ready. not_ready u (it u member) (ready_says next u ready)))
-          ∙ ap (λ o. unwrap_or o 4_000_000_000) picks_none
+      is_idle = rests_idle next rests_on
+
+      tasks_then : tasks_at picks jobs (t + suc k) ≡ tasks_at picks jobs next
+      tasks_then = ap (tasks_at picks jobs) one_more
+          ∙ ap (λ (n : ℕ). map (given n) (tasks_at picks jobs next)) is_idle
+          ∙ map_same (given idle) (λ u. u) (tasks_at picks jobs next) (λ u member. given_other 1 idle u
+          (λ same. absurd (omega (arith, same, low_numbers picks jobs ranked.policy count next u member))))
+          ∙ map_self (λ u. u) (tasks_at picks jobs next) (λ u. refl)

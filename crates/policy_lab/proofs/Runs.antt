@@ -15,7 +15,8 @@ use Rattle.dover_model.proofs.runs.Serving.{given_nil}
 use Rattle.dover_model.proofs.runs.Honest.{numbers_low, count_jobs, sum_tasks, given_miss, given_hit}
 use Rattle.policy_lab.specs.Picks.{Picks, IsPick, IsPolicy}
 use Rattle.policy_lab.specs.PolicyRun.{is_ready, picked, policy_run_from, policy_run}
-use Rattle.policy_lab.specs.Bench.{tasks_at, schedule_before, served_value}
+use Rattle.policy_lab.specs.Counts.{served_count}
+use Rattle.policy_lab.specs.Bench.{tasks_at, schedule_before, served_by, served_value, served_jobs}
 use Rattle.policy_lab.proofs.Given.{ready_says, given_number, given_job, Fits}
 use Rattle.policy_lab.proofs.Entries.{are_ready, number_ready}
 
@@ -42,14 +43,14 @@ module _ (picks : Picks) (jobs : List JobFacts) where
   good_at good t task member = good task.job
       (subst (IsMember task.job) (jobs_at t) (map_member (λ u. u.job) (tasks_at picks jobs t) task member))
 
-  -- no more value is served than there is
-  pub most_served : (t : ℕ) → served_value (tasks_at picks jobs t) ≤ total_value jobs
-  most_served t =
-      let less : served_value tasks ≤ sum_by (λ task. task.job.value) tasks =
-      sum_le (λ task. cond (eqb (left task) 0) task.job.value 0) (λ task. task.job.value) tasks
-      (λ task member. cond_le (eqb (left task) 0) task.job.value) in
-      let all : sum_by (λ task. task.job.value) tasks ≡ total_value jobs =
-      sym (sum_map (λ task. task.job) (λ j. j.value) tasks) ∙ ap total_value (jobs_at t) in
+  -- no more is served than there is
+  pub most_served : (amount : JobFacts → ℕ) (t : ℕ) → served_by amount (tasks_at picks jobs t) ≤ sum_by amount jobs
+  most_served amount t =
+      let less : served_by amount tasks ≤ sum_by (λ task. amount task.job) tasks =
+      sum_le (λ task. cond (eqb (left task) 0) (amount task.job) 0) (λ task. amount task.job) tasks
+      (λ task member. cond_le (eqb (left task) 0) (amount task.job)) in
+      let all : sum_by (λ task. amount task.job) tasks ≡ sum_by amount jobs =
+      sym (sum_map (λ (task : Task). task.job) amount tasks) ∙ ap (sum_by amount) (jobs_at t) in
       omega arith where
         tasks : List Task
         tasks = tasks_at picks jobs t
@@ -157,16 +158,16 @@ module _ (picks : Picks) (jobs : List JobFacts) where
                   clash : eqb task.number n ≡ true → ⊥
                   clash same = let e : true ≡ false = sym same ∙ other in cc
 
-    -- the value of a schedule so far is that of the jobs served fully
-    pub worth_before : (rules : Rules) (t : ℕ)
-        → worth (record { rules = rules; jobs = jobs }) (schedule_before picks jobs t) ≡ served_value
-        (tasks_at picks jobs t)
-    worth_before rules t =
-        ap (λ js. sum_by (λ n_j. cond (is_served past n_j) n_j.1.value 0) (enumerate_from 0 js)) (sym (jobs_at t))
-        ∙ sum_tasks (λ n_j. cond (is_served past n_j) n_j.1.value 0) 0 tasks (numbered_at t)
-        ∙ sum_same (λ task. cond (is_served past (task.number, task.job)) task.job.value 0)
-        (λ task. cond (eqb (left task) 0) task.job.value 0) tasks
-        (λ task member. ap (λ b. cond b task.job.value 0)
+    -- what a schedule serves so far is what the jobs are that are served fully
+    pub serves_before : (amount : JobFacts → ℕ) (t : ℕ)
+        → sum_by (λ n_j. cond (is_served (schedule_before picks jobs t) n_j) (amount n_j.1) 0) (enumerate_from 0 jobs)
+        ≡ served_by amount (tasks_at picks jobs t)
+    serves_before amount t =
+        ap (λ js. sum_by (λ n_j. cond (is_served past n_j) (amount n_j.1) 0) (enumerate_from 0 js)) (sym (jobs_at t))
+        ∙ sum_tasks (λ n_j. cond (is_served past n_j) (amount n_j.1) 0) 0 tasks (numbered_at t)
+        ∙ sum_same (λ task. cond (is_served past (task.number, task.job)) (amount task.job) 0)
+        (λ task. cond (eqb (left task) 0) (amount task.job) 0) tasks
+        (λ task member. ap (λ b. cond b (amount task.job) 0)
         (ap (nat_le task.job.work) (gave t task member) ∙ done task.job.work task.had)) where
           tasks : List Task
           tasks = tasks_at picks jobs t
@@ -181,4 +182,9 @@ module _ (picks : Picks) (jobs : List JobFacts) where
     pub worth_is : (rules : Rules)
         → worth (record { rules = rules; jobs = jobs }) (policy_run picks jobs) ≡ served_value
         (tasks_at picks jobs (last_deadline jobs))
-    worth_is rules = ap (worth (record { rules = rules; jobs = jobs })) run_is ∙ worth_before rules (last_deadline jobs)
+    worth_is rules = ap (worth (record { rules = rules; jobs = jobs })) run_is
+        ∙ serves_before (λ j. j.value) (last_deadline jobs)
+
+    -- and how many jobs it serves
+    pub serves_is : served_count jobs (policy_run picks jobs) ≡ served_jobs (tasks_at picks jobs (last_deadline jobs))
+    serves_is = ap (served_count jobs) run_is ∙ serves_before (λ j. 1) (last_deadline jobs)

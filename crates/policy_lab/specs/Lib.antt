@@ -3,6 +3,7 @@ pub mod PolicyRun
 pub mod Ranks
 pub mod Standard
 pub mod Firsts
+pub mod Counts
+pub mod Stops
 pub mod Bench
 pub mod Standing
-pub mod Counts

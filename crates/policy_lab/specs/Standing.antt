@@ -10,4 +10,4 @@ use Rattle.policy_lab.specs.declared.bench.Bench.{Bench}
 -- what is kept is what the run has come to; no further job comes before the tick `from`, and the job `out` isn't kept
 abbrev pub StandsAt : Picks → (Entry → ℕ) → List JobFacts → (from out : ℕ) → Bench → Type 0
 StandsAt picks ranks jobs from out b =
-    HasRun picks ranks jobs b.clock from b.released out b.value (heap_items b.waiting) b.pieces.items
+    HasRun picks ranks jobs b.clock from b.released out b.tally (heap_items b.waiting) b.pieces.items

@@ -5,13 +5,14 @@ ghost use Rattle.std.specs.Bool.{OnTrue, OnFalse};
 ghost use Rattle.std.specs.BinaryHeap.{heap_items, IsHeap, KeepsHeap};
 ghost use Rattle.dover_model.specs.declared.events.Version.TheVariants.{Two};
 ghost use Rattle.dover_model.specs.Common.{idle, most_total, most_jobs, JobFacts, IsJob, IsInOrder, total_value};
-ghost use Rattle.dover_model.specs.Common.{last_deadline, stretches, Each};
+ghost use Rattle.dover_model.specs.Common.{Each};
 ghost use Rattle.clairvoyant.specs.feasible.Progress.{NoneBefore};
 ghost use Rattle.policy_lab.specs.Ranks.{turn_by};
-ghost use Rattle.policy_lab.specs.Bench.{entry_with, kept_of, turn_cmp, tasks_at, schedule_before, served_value, IsNext};
+ghost use Rattle.policy_lab.specs.Bench.{entry_with, kept_of, turn_cmp, tasks_at, IsNext, HasEnded};
 ghost use Rattle.policy_lab.specs.Standing.{StandsAt};
 
 use crate::policy::Policy;
+use crate::tally::Tally;
 use clairvoyant::feasible::add_piece;
 use dover_model::{Entry, Job, Memory, Piece};
 use std::alloc::Global;
@@ -31,8 +32,8 @@ pub struct Bench {
     pub released: usize,
     /// Those of them that have work left, but for some that can't be done in time any more.
     pub waiting: BinaryHeap<Reverse<(u128, u64)>>,
-    /// The value of the jobs that are served.
-    pub value: u64,
+    /// What the run has come to in numbers.
+    pub tally: Tally,
     /// The stretches so far.
     pub pieces: Vec<Piece>,
 }
@@ -74,14 +75,14 @@ impl Bench {
         ensures released { result.released ≡ 0 }
         ensures waiting { heap_items result.waiting ≡ [] }
         ensures ordered { IsHeap turn_cmp (heap_items result.waiting) }
-        ensures value { result.value ≡ 0 }
+        ensures tally { result.tally ≡ record { value = 0; completed = 0; stops = 0; last = idle } }
         ensures pieces { result.pieces.items ≡ [] }
     {
         Bench {
             clock: 0,
             released: 0,
             waiting: BinaryHeap::new(alloc),
-            value: 0,
+            tally: Tally::none(),
             pieces: Vec::new(alloc),
         }
     }
@@ -176,9 +177,10 @@ impl Bench {
         self.clock = until;
         let job = &jobs[number as usize];
         if until - from == left {
-            self.value += job.value();
+            self.tally.complete(number, job.value());
             return Ok(());
         }
+        self.tally.run(number);
         put(&mut self.waiting, policy, number, job, left - (until - from))
     }
 
@@ -192,10 +194,8 @@ impl Bench {
         ensures run { OnTrue result
             (StandsAt (P.picks _policy.now) (P.ranks _policy.now) jobs.now self.new.clock idle self.new) }
         ensures later { OnTrue result (self.old.clock < self.new.clock) }
-        ensures value { OnFalse result
-            (self.new.value ≡ served_value (tasks_at (P.picks _policy.now) jobs.now (last_deadline jobs.now))) }
-        ensures pieces { OnFalse result (self.new.pieces.items
-            ≡ stretches (schedule_before (P.picks _policy.now) jobs.now (last_deadline jobs.now))) }
+        ensures ends { OnFalse result
+            (HasEnded (P.picks _policy.now) jobs.now self.new.tally self.new.pieces.items) }
     {
         match jobs.get(self.released) {
             Some(next) => {
@@ -217,10 +217,8 @@ impl Bench {
         ensures run { IfOk result (λ more. OnTrue more
             (StandsAt (P.picks policy.now) (P.ranks policy.now) jobs.now self.new.clock idle self.new)) }
         ensures later { IfOk result (λ more. OnTrue more (self.old.clock < self.new.clock)) }
-        ensures value { IfOk result (λ more. OnFalse more
-            (self.new.value ≡ served_value (tasks_at (P.picks policy.now) jobs.now (last_deadline jobs.now)))) }
-        ensures pieces { IfOk result (λ more. OnFalse more (self.new.pieces.items
-            ≡ stretches (schedule_before (P.picks policy.now) jobs.now (last_deadline jobs.now)))) }
+        ensures ends { IfOk result (λ more. OnFalse more
+            (HasEnded (P.picks policy.now) jobs.now self.new.tally self.new.pieces.items)) }
     {
         match self.release(policy, jobs) {
             Ok(()) => {}
@@ -236,20 +234,17 @@ impl Bench {
     }
 }
 
-/// The value and the stretches of the policy's schedule.
+/// What the policy's schedule comes to in numbers, and its stretches.
 ///
 /// # Errors
 ///
 /// `Memory` where there is none.
-pub fn run_events<P: Policy>(alloc: Global, policy: &P, jobs: &[Job]) -> Result<(u64, Vec<Piece>), Memory>
+pub fn run_events<P: Policy>(alloc: Global, policy: &P, jobs: &[Job]) -> Result<(Tally, Vec<Piece>), Memory>
     requires in_order { IsInOrder jobs.now }
     requires each { Each IsJob jobs.now }
     requires count { length jobs.now ≤ most_jobs Two }
     requires total { total_value jobs.now ≤ most_total Two }
-    ensures value { IfOk result (λ outcome.
-        outcome.0 ≡ served_value (tasks_at (P.picks policy.now) jobs.now (last_deadline jobs.now))) }
-    ensures pieces { IfOk result (λ outcome.
-        outcome.1.items ≡ stretches (schedule_before (P.picks policy.now) jobs.now (last_deadline jobs.now))) }
+    ensures { IfOk result (λ outcome. HasEnded (P.picks policy.now) jobs.now outcome.0 outcome.1.items) }
 {
     let mut bench = Bench::new(alloc);
     while bench.step(policy, jobs)? {}
@@ -257,8 +252,8 @@ pub fn run_events<P: Policy>(alloc: Global, policy: &P, jobs: &[Job]) -> Result<
         clock: _,
         released: _,
         waiting: _,
-        value,
+        tally,
         pieces,
     } = bench;
-    Ok((value, pieces))
+    Ok((tally, pieces))
 }

@@ -2,6 +2,7 @@
 ghost use Rattle.std.specs.Prelude.{◌≡◌, ◌≤◌, IfOk, length};
 ghost use Rattle.dover_model.specs.declared.events.Version.TheVariants.{Two};
 ghost use Rattle.dover_model.specs.Common.{most_total, most_jobs, Rules, IsInOrder, total_value, worth, stretches};
+ghost use Rattle.policy_lab.specs.Counts.{served_count, stops};
 ghost use Rattle.policy_lab.specs.PolicyRun.{policy_run};
 
 use crate::bench::run_events;
@@ -16,6 +17,10 @@ use std::alloc::Global;
 pub struct Outcome {
     /// The sum of the values of the jobs that it serves.
     pub value: u64,
+    /// How many jobs it serves.
+    pub completed: u64,
+    /// How often it stops a job that it hasn't served yet.
+    pub stops: u64,
     /// Its longest stretches of one job, in the order of their ticks.
     pub pieces: Vec<Piece>,
 }
@@ -32,12 +37,21 @@ pub fn run_policy<P: Policy>(alloc: Global, policy: &P, jobs: &[Job]) -> Result<
     requires total { total_value jobs.now ≤ most_total Two }
     ensures value { (rules : Rules) → IfOk result (λ outcome.
         outcome.value ≡ worth (record { rules = rules; jobs = jobs.now }) (policy_run (P.picks policy.now) jobs.now)) }
+    ensures completed { IfOk result
+        (λ outcome. outcome.completed ≡ served_count jobs.now (policy_run (P.picks policy.now) jobs.now)) }
+    ensures stops { IfOk result
+        (λ outcome. outcome.stops ≡ stops jobs.now (policy_run (P.picks policy.now) jobs.now)) }
     ensures pieces { IfOk result
         (λ outcome. outcome.pieces.items ≡ stretches (policy_run (P.picks policy.now) jobs.now)) }
 {
     let _total = total_value(jobs);
     match run_events(alloc, policy, jobs) {
-        Ok((value, pieces)) => Ok(Outcome { value, pieces }),
+        Ok((tally, pieces)) => Ok(Outcome {
+            value: tally.value,
+            completed: tally.completed,
+            stops: tally.stops,
+            pieces,
+        }),
         Err(Memory) => Err(Memory),
     }
 }

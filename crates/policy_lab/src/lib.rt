@@ -6,6 +6,7 @@ mod lab;
 mod laws;
 mod policy;
 mod standard;
+mod tally;
 
 pub use lab::{Outcome, run_policy};
 pub use laws::policies_are_on_line;

@@ -9,7 +9,7 @@ use Rattle.policy_lab.proofs.bench.Bench.release.Goals as goal
 pub loop-job-preserved : goal.loop-job-preserved
 loop-job-preserved g c = (
   run_released _ _ (g.met.P.Policy.law c.args.policy.now) c.args.jobs.now (order_parts c.requires.in_order)
-      c.requires.each c.requires.count c.loop-job.self.clock c.loop-job.self.released c.loop-job.self.value
+      c.requires.each c.requires.count c.loop-job.self.clock c.loop-job.self.released c.loop-job.self.tally
       (heap_items c.loop-job.self.waiting) (heap_items c.put.new.waiting) c.loop-job.self.pieces.items c.in-Some.job.now
       c.loop-job.invariant.0
       (next_found _ _ _ _ refl c.in-Some.ensures.lookup.3.0 c.in-Some.ensures.lookup.1)

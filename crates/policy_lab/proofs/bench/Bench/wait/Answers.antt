@@ -9,7 +9,7 @@ use Rattle.policy_lab.proofs.bench.Bench.wait.Goals as goal
 pub returns-in-Some-clause-run : goal.returns-in-Some-clause-run
 returns-in-Some-clause-run g c =
     subst (λ at. HasRun (g.P.Policy.picks c.args._policy.now) (g.P.Policy.ranks c.args._policy.now) c.args.jobs.now at at
-    c.args.self.now.released idle c.args.self.now.value (heap_items c.args.self.now.waiting)
+    c.args.self.now.released idle c.args.self.now.tally (heap_items c.args.self.now.waiting)
     c.args.self.now.pieces.items)
     (sym c.release-self.ensures.is)
     (run_waits _ _ (g.met.P.Policy.law c.args._policy.now) c.args.jobs.now (order_parts c.requires.in_order)
@@ -25,14 +25,8 @@ returns-in-Some-clause-later g c = omega (
       (next_found _ _ _ _ refl c.in-Some.ensures.lookup.3.0 c.in-Some.ensures.lookup.1),
 )
 
-pub returns-in-None-clause-value : goal.returns-in-None-clause-value
-returns-in-None-clause-value g c =
-    (run_over _ _ (g.met.P.Policy.law c.args._policy.now) c.args.jobs.now (order_parts c.requires.in_order)
+pub returns-in-None-clause-ends : goal.returns-in-None-clause-ends
+returns-in-None-clause-ends g c =
+    run_over _ _ (g.met.P.Policy.law c.args._policy.now) c.args.jobs.now (order_parts c.requires.in_order)
     c.requires.each c.requires.count _ _ _ _ _ c.requires.run c.requires.empty
-    (omega (arith, c.in-None.ensures.lookup.3))).0
-
-pub returns-in-None-clause-pieces : goal.returns-in-None-clause-pieces
-returns-in-None-clause-pieces g c =
-    (run_over _ _ (g.met.P.Policy.law c.args._policy.now) c.args.jobs.now (order_parts c.requires.in_order)
-    c.requires.each c.requires.count _ _ _ _ _ c.requires.run c.requires.empty
-    (omega (arith, c.in-None.ensures.lookup.3))).1
+    (omega (arith, c.in-None.ensures.lookup.3))
