@@ -579,10 +579,20 @@ module _ (picks : Picks) (ranks : Entry → ℕ) (ranked : IsRanked picks ranks)
     pub run_most : until - t ≡ amount
         → (tally.value + next.task.job.value ≤ total_value jobs) × (tally.completed + 1 ≤ 1_000_000)
     run_most all = (
-      omega (arith, run.counts.value, most_served picks jobs (λ i. i.value) until,
-          served_then (λ i. i.value) next.task.job.value (done (λ i. i.value))),
-      omega (arith, run.counts.completed, most_served picks jobs (λ i. 1) until, ones jobs,
-          served_then (λ i. 1) 1 (done (λ i. 1)), count),
+      omega (
+        arith,
+        run.counts.value,
+        most_served picks jobs (λ i. i.value) until,
+        served_then (λ i. i.value) next.task.job.value (done (λ i. i.value)),
+      ),
+      omega (
+        arith,
+        run.counts.completed,
+        most_served picks jobs (λ i. 1) until,
+        ones jobs,
+        served_then (λ i. 1) 1 (done (λ i. 1)),
+        count,
+      ),
     ) where
       done : (amount_of : JobFacts → ℕ) → worth_by amount_of after ≡ amount_of next.task.job
       done amount_of =
@@ -613,37 +623,37 @@ module _ (picks : Picks) (ranks : Entry → ℕ) (ranked : IsRanked picks ranks)
         → HasRun picks ranks jobs until until released idle now turns longer
     run_done now longer all now_is stretched = subst
         (λ (x : Tally). HasRun picks ranks jobs until until released idle x turns longer) (sym now_is) (record {
-      queue = queue_ends ranks until released (kept_of turns) (at until) (numbered_at picks jobs until)
-          (few_numbers until) after after_member (omega (arith, next.number, next.low)) queue_then
-          (λ ready. omega (arith, (ready_says until after ready).1, left_after, all));
-      ordered = run.ordered;
-      ahead = ahead_from until until released none;
-      few = run.few;
-      soon = soon_then;
-      counts = record {
-        value = ap (λ v. v + next.task.job.value) run.counts.value
-            ∙ sym (served_then (λ i. i.value) next.task.job.value (done (λ i. i.value)));
-        completed = ap (λ v. v + 1) run.counts.completed ∙ sym (served_then (λ i. 1) 1 (done (λ i. 1)));
-        stops = sym stops_then;
-        few = omega (arith, run.counts.few, stop_most, later);
-        last = record {
-          ready = inl refl;
-          over = λ _. inr (λ u member same. ended u member (same ∙ last_then));
-        };
-      };
-      stretched = stretched ∙ ap (λ k. stretches (schedule_before picks jobs t ++ replicate k n)) ticks
-          ∙ ap stretches (sym came.1);
-    }) where
-      done : (amount_of : JobFacts → ℕ) → worth_by amount_of after ≡ amount_of next.task.job
-      done amount_of =
-          ap (λ b. cond b (amount_of next.task.job) 0) (eq-eqb (left after) 0 (omega (arith, left_after, all)))
+          queue = queue_ends ranks until released (kept_of turns) (at until) (numbered_at picks jobs until)
+              (few_numbers until) after after_member (omega (arith, next.number, next.low)) queue_then
+              (λ ready. omega (arith, (ready_says until after ready).1, left_after, all));
+          ordered = run.ordered;
+          ahead = ahead_from until until released none;
+          few = run.few;
+          soon = soon_then;
+          counts = record {
+            value = ap (λ v. v + next.task.job.value) run.counts.value
+                ∙ sym (served_then (λ i. i.value) next.task.job.value (done (λ i. i.value)));
+            completed = ap (λ v. v + 1) run.counts.completed ∙ sym (served_then (λ i. 1) 1 (done (λ i. 1)));
+            stops = sym stops_then;
+            few = omega (arith, run.counts.few, stop_most, later);
+            last = record {
+              ready = inl refl;
+              over = λ _. inr (λ u member same. ended u member (same ∙ last_then));
+            };
+          };
+          stretched = stretched ∙ ap (λ k. stretches (schedule_before picks jobs t ++ replicate k n)) ticks
+              ∙ ap stretches (sym came.1);
+        }) where
+          done : (amount_of : JobFacts → ℕ) → worth_by amount_of after ≡ amount_of next.task.job
+          done amount_of =
+              ap (λ b. cond b (amount_of next.task.job) 0) (eq-eqb (left after) 0 (omega (arith, left_after, all)))
 
-      ticks : until - t ≡ suc j
-      ticks = omega (arith, later)
+          ticks : until - t ≡ suc j
+          ticks = omega (arith, later)
 
-      ended : (u : Task) → IsMember u (at until) → u.number ≡ n → left u ≡ 0
-      ended u member same = ap left (one_number 0 (at until) (numbered_at picks jobs until) u after member after_member
-          (same ∙ sym next.number)) ∙ (let over : left after ≡ 0 = omega (arith, left_after, all) in over)
+          ended : (u : Task) → IsMember u (at until) → u.number ≡ n → left u ≡ 0
+          ended u member same = ap left (one_number 0 (at until) (numbered_at picks jobs until) u after member after_member
+              (same ∙ sym next.number)) ∙ (let over : left after ≡ 0 = omega (arith, left_after, all) in over)
 
     -- it isn't, and is put back
     pub run_back : (now : Tally) (put : List Turn) (longer : List Piece) → until - t < amount
@@ -660,46 +670,46 @@ module _ (picks : Picks) (ranks : Entry → ℕ) (ranked : IsRanked picks ranks)
         → HasRun picks ranks jobs until until released idle now put longer
     run_back now put longer part now_is moved keeps stretched = subst
         (λ (x : Tally). HasRun picks ranks jobs until until released idle x put longer) (sym now_is) (record {
-      queue = queue_pushed ranks until released (kept_of turns) (at until) (numbered_at picks jobs until)
-          (few_numbers until) after after_member (omega (arith, next.number, next.low)) (kept_of put) queue_then
-          (omega (arith, left_after, part))
-          (subst (λ k. IsPermutation (k ∷ kept_of turns) (kept_of put)) (sym as_kept) moved);
-      ordered = keeps run.ordered;
-      ahead = ahead_from until until released none;
-      few = run.few;
-      soon = soon_then;
-      counts = record {
-        value = run.counts.value ∙ none_more (λ i. i.value);
-        completed = run.counts.completed ∙ none_more (λ i. 1);
-        stops = sym stops_then;
-        few = omega (arith, run.counts.few, stop_most, later);
-        last = record {
-          ready = inr (after, after_member, next.number, sym last_then, goes_on);
-          over = λ is. absurd (omega (arith, is, next.number, few_numbers t next.task next.member));
-        };
-      };
-      stretched = stretched ∙ ap (λ k. stretches (schedule_before picks jobs t ++ replicate k n)) ticks
-          ∙ ap stretches (sym came.1);
-    }) where
-      not_done : (amount_of : JobFacts → ℕ) → worth_by amount_of after ≡ 0
-      not_done amount_of = ap (λ b. cond b (amount_of next.task.job) 0)
-          (ne_eqb (left after) 0 (λ over. omega (arith, over, left_after, part)))
+          queue = queue_pushed ranks until released (kept_of turns) (at until) (numbered_at picks jobs until)
+              (few_numbers until) after after_member (omega (arith, next.number, next.low)) (kept_of put) queue_then
+              (omega (arith, left_after, part))
+              (subst (λ k. IsPermutation (k ∷ kept_of turns) (kept_of put)) (sym as_kept) moved);
+          ordered = keeps run.ordered;
+          ahead = ahead_from until until released none;
+          few = run.few;
+          soon = soon_then;
+          counts = record {
+            value = run.counts.value ∙ none_more (λ i. i.value);
+            completed = run.counts.completed ∙ none_more (λ i. 1);
+            stops = sym stops_then;
+            few = omega (arith, run.counts.few, stop_most, later);
+            last = record {
+              ready = inr (after, after_member, next.number, sym last_then, goes_on);
+              over = λ is. absurd (omega (arith, is, next.number, few_numbers t next.task next.member));
+            };
+          };
+          stretched = stretched ∙ ap (λ k. stretches (schedule_before picks jobs t ++ replicate k n)) ticks
+              ∙ ap stretches (sym came.1);
+        }) where
+          not_done : (amount_of : JobFacts → ℕ) → worth_by amount_of after ≡ 0
+          not_done amount_of = ap (λ b. cond b (amount_of next.task.job) 0)
+              (ne_eqb (left after) 0 (λ over. omega (arith, over, left_after, part)))
 
-      none_more : (amount_of : JobFacts → ℕ) → served_by amount_of (at t) ≡ served_by amount_of (at until)
-      none_more amount_of = omega (arith, served_then amount_of 0 (not_done amount_of))
+          none_more : (amount_of : JobFacts → ℕ) → served_by amount_of (at t) ≡ served_by amount_of (at until)
+          none_more amount_of = omega (arith, served_then amount_of 0 (not_done amount_of))
 
-      goes_on : is_ready until after ≡ true
-      goes_on = says_ready until after (omega (arith, says.0, later)) (omega (arith, left_after, part))
-          (omega (arith, left_after, says.2, next.amount_is, within, later))
+          goes_on : is_ready until after ≡ true
+          goes_on = says_ready until after (omega (arith, says.0, later)) (omega (arith, left_after, part))
+              (omega (arith, left_after, says.2, next.amount_is, within, later))
 
-      ticks : until - t ≡ suc j
-      ticks = omega (arith, later)
+          ticks : until - t ≡ suc j
+          ticks = omega (arith, later)
 
-      kept_with : ℕ → ℕ → ℕ × ℕ
-      kept_with m l = (turn_by ranks (entry_with m l next.task.job), l)
+          kept_with : ℕ → ℕ → ℕ × ℕ
+          kept_with m l = (turn_by ranks (entry_with m l next.task.job), l)
 
-      as_kept : kept_as ranks after ≡ (turn_by ranks (entry_with n (amount - (until - t)) next.task.job), amount - (until - t))
-      as_kept = ap (λ m. kept_with m (left after)) next.number ∙ ap (kept_with n) left_after
+          as_kept : kept_as ranks after ≡ (turn_by ranks (entry_with n (amount - (until - t)) next.task.job), amount - (until - t))
+          as_kept = ap (λ m. kept_with m (left after)) next.number ∙ ap (kept_with n) left_after
 
   -- ---- no job runs
 
@@ -764,14 +774,14 @@ module _ (picks : Picks) (ranks : Entry → ℕ) (ranked : IsRanked picks ranks)
     tally_rests : (until : ℕ) → t < until → NoneBefore jobs until released → HasTally picks jobs until tally
     tally_rests until later none = subst (λ (m : ℕ). HasTally picks jobs m tally) (until_of until (omega (arith, later)))
         (record {
-      value = run.counts.value ∙ ap (served_by (λ j. j.value)) (sym it.tasks);
-      completed = run.counts.completed ∙ ap (served_by (λ j. 1)) (sym it.tasks);
-      stops = run.counts.stops ∙ sym it.stopped;
-      few = omega (arith, run.counts.few);
-      last = record { ready = inl last_none; over = λ _. inr it.last };
-    }) where
-      it : RestsFor picks ranks ranked jobs good count (until - t) t
-      it = rested until (omega (arith, later)) none
+          value = run.counts.value ∙ ap (served_by (λ j. j.value)) (sym it.tasks);
+          completed = run.counts.completed ∙ ap (served_by (λ j. 1)) (sym it.tasks);
+          stops = run.counts.stops ∙ sym it.stopped;
+          few = omega (arith, run.counts.few);
+          last = record { ready = inl last_none; over = λ _. inr it.last };
+        }) where
+          it : RestsFor picks ranks ranked jobs good count (until - t) t
+          it = rested until (omega (arith, later)) none
 
     -- idle ticks are of no stretch
     same_stretches : (until : ℕ) → t ≤ until → NoneBefore jobs until released

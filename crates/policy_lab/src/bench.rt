@@ -22,7 +22,6 @@ use std::collections::BinaryHeap;
 /// What one of a rank counts for in a turn: there are fewer numbers.
 const NUMBERS: u128 = 1 << 20;
 
-
 /// What a run has come to before a tick.
 #[derive(Drop)]
 pub struct Bench {
@@ -101,7 +100,13 @@ impl Bench {
             if self.clock < job.release() {
                 break;
             }
-            put(&mut self.waiting, policy, self.released as u32, job, job.work())?;
+            put(
+                &mut self.waiting,
+                policy,
+                self.released as u32,
+                job,
+                job.work(),
+            )?;
             self.released += 1;
         }
         Ok(())
@@ -151,7 +156,13 @@ impl Bench {
     }
 
     /// Runs the job of this number, which is out of the queue and has so much left, to its end or to the next release.
-    fn run<P: Policy>(&mut self, policy: &P, jobs: &[Job], number: u32, left: u64) -> Result<(), Memory>
+    fn run<P: Policy>(
+        &mut self,
+        policy: &P,
+        jobs: &[Job],
+        number: u32,
+        left: u64,
+    ) -> Result<(), Memory>
         requires in_order { IsInOrder jobs.now }
         requires each { Each IsJob jobs.now }
         requires count { length jobs.now ≤ most_jobs Two }
@@ -181,7 +192,8 @@ impl Bench {
             return Ok(());
         }
         self.tally.run(number);
-        put(&mut self.waiting, policy, number, job, left - (until - from))
+        let rest = left - (until - from);
+        put(&mut self.waiting, policy, number, job, rest)
     }
 
     /// Goes to the next release. False where there is none.
@@ -239,7 +251,11 @@ impl Bench {
 /// # Errors
 ///
 /// `Memory` where there is none.
-pub fn run_events<P: Policy>(alloc: Global, policy: &P, jobs: &[Job]) -> Result<(Tally, Vec<Piece>), Memory>
+pub fn run_events<P: Policy>(
+    alloc: Global,
+    policy: &P,
+    jobs: &[Job],
+) -> Result<(Tally, Vec<Piece>), Memory>
     requires in_order { IsInOrder jobs.now }
     requires each { Each IsJob jobs.now }
     requires count { length jobs.now ≤ most_jobs Two }

@@ -7,7 +7,6 @@ ghost use Rattle.policy_lab.specs.PolicyRun.{policy_run};
 
 use crate::bench::run_events;
 use crate::policy::Policy;
-
 use dover_model::jobs::total_value;
 use dover_model::{Job, Memory, Piece};
 use std::alloc::Global;

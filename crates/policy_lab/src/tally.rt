@@ -43,10 +43,10 @@ impl Tally {
     pub fn run(&mut self, number: u32)
         requires { self.old.stops + 1 < 2 ^ 64 }
         ensures { self.new ≡ record {
-            value = self.old.value;
-            completed = self.old.completed;
-            stops = self.old.stops + stop_by self.old.last number;
-            last = number;
+          value = self.old.value;
+          completed = self.old.completed;
+          stops = self.old.stops + stop_by self.old.last number;
+          last = number;
         } }
     {
         self.stops += stop_by(self.last, number);
@@ -59,10 +59,10 @@ impl Tally {
         requires completed { self.old.completed + 1 < 2 ^ 64 }
         requires value { self.old.value + value < 2 ^ 64 }
         ensures { self.new ≡ record {
-            value = self.old.value + value;
-            completed = self.old.completed + 1;
-            stops = self.old.stops + stop_by self.old.last number;
-            last = idle;
+          value = self.old.value + value;
+          completed = self.old.completed + 1;
+          stops = self.old.stops + stop_by self.old.last number;
+          last = idle;
         } }
     {
         self.stops += stop_by(self.last, number);

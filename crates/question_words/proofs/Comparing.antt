@@ -55,6 +55,10 @@ row_told picks rules word jobs others same value completed stopped v c s =
     ∙ ap (λ js. line_of word picks (record { rules = rules; jobs = js })) same
 
 module _ (J : Instance) (valid : IsValid J) where
+  -- the last line
+  abbrev bound_line : List ℕ
+  bound_line = with_numbers (codes "bound") (bound J.rules.ratio (completed_value J) ∷ [])
+
   -- these lines are what is said
   pub compared : (dover : ℕ) (edf dense : PolicyRow) → dover ≡ completed_value J
       → policy_line edf ≡ line_of (codes "edf") earliest_deadline (observed J)
@@ -69,18 +73,16 @@ module _ (J : Instance) (valid : IsValid J) where
     ap (λ t. t ++ (in_lines (policy_lines (edf ∷ dense ∷ [])) ++ last))
         (head_is ∙ ap (λ t. with_numbers (codes "dover") (dover ∷ []) ++ t) none_is
         ∙ ap (λ n. with_numbers (codes "dover") (n ∷ []) ++ 10 ∷ []) run)
-    ∙ ap (λ t. (with_numbers (codes "dover") (completed_value J ∷ []) ++ 10 ∷ [])
+        ∙ ap (λ t. (with_numbers (codes "dover") (completed_value J ∷ []) ++ 10 ∷ [])
         ++ (in_lines (policy_lines (edf ∷ dense ∷ [])) ++ t))
         (last_is ∙ ap (λ t. with_numbers (codes "bound") (bound J.rules.ratio dover ∷ []) ++ t) feed_is
         ∙ ap (λ n. with_numbers (codes "bound") (bound J.rules.ratio n ∷ []) ++ 10 ∷ []) run
         ∙ sym (append-nil (with_numbers (codes "bound") (bound J.rules.ratio (completed_value J) ∷ []) ++ 10 ∷ [])))
-    ∙ ap (λ l. (with_numbers (codes "dover") (completed_value J ∷ []) ++ 10 ∷ [])
+        ∙ ap (λ l. (with_numbers (codes "dover") (completed_value J ∷ []) ++ 10 ∷ [])
         ++ (in_lines (l ∷ policy_line dense ∷ []) ++ in_lines (bound_line ∷ []))) first
-    ∙ ap (λ l. (with_numbers (codes "dover") (completed_value J ∷ []) ++ 10 ∷ [])
+        ∙ ap (λ l. (with_numbers (codes "dover") (completed_value J ∷ []) ++ 10 ∷ [])
         ++ (in_lines (line_of (codes "edf") earliest_deadline (observed J) ∷ l ∷ []) ++ in_lines (bound_line ∷ []))) second
-    ∙ ap (λ t. (with_numbers (codes "dover") (completed_value J ∷ []) ++ 10 ∷ []) ++ t)
+        ∙ ap (λ t. (with_numbers (codes "dover") (completed_value J ∷ []) ++ 10 ∷ []) ++ t)
         (sym (in_lines-append (line_of (codes "edf") earliest_deadline (observed J)
         ∷ line_of (codes "dense") greatest_density (observed J) ∷ []) (bound_line ∷ []))),
-  ) where
-    abbrev bound_line : List ℕ
-    bound_line = with_numbers (codes "bound") (bound J.rules.ratio (completed_value J) ∷ [])
+  )

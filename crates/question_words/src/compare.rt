@@ -22,10 +22,10 @@ use std::sync::ledger::Ledger;
 /// What a line tells of a policy's schedule.
 fn row(named: Named, outcome: &Outcome) -> PolicyRow
     ensures { result ≡ record {
-        named = named;
-        value = outcome.now.value;
-        completed = outcome.now.completed;
-        stops = outcome.now.stops;
+      named = named;
+      value = outcome.now.value;
+      completed = outcome.now.completed;
+      stops = outcome.now.stops;
     } }
 {
     PolicyRow {

@@ -34,8 +34,7 @@ returns g c =
     let turn : c.rank.result * 2 ^ 20 + c.from.result
     ≡ turn_by ranks (entry_with c.args.number c.args.left c.args.job.now) =
     ap (λ n. n * 2 ^ 20 + c.from.result) is
-    ∙ ap (λ n. ranks (entry_with c.args.number c.args.left c.args.job.now) * 2 ^ 20 + n) c.from.ensures in
-    (
+    ∙ ap (λ n. ranks (entry_with c.args.number c.args.left c.args.job.now) * 2 ^ 20 + n) c.from.ensures in (
       subst (λ n. IsPermutation ((n, c.args.left) ∷ kept_of (heap_items c.args.waiting.now))
           (kept_of (heap_items c.push.new.self))) turn
           (IsPermutation-map (λ (t : Turn). t.0) _ (heap_items c.push.new.self) c.in_ok-push.ensures.permutation),

@@ -14,8 +14,11 @@ loop-job-preserved g c = (
       c.loop-job.invariant.0
       (next_found _ _ _ _ refl c.in-Some.ensures.lookup.3.0 c.in-Some.ensures.lookup.1)
       (omega (arith, c.if-self-release.false, c.release.ensures.is))
-      (subst (λ w. IsPermutation ((turn_by (g.P.Policy.ranks c.args.policy.now)
-      (entry_with c.loop-job.self.released w c.in-Some.job.now), w) ∷ kept_of (heap_items c.loop-job.self.waiting))
+      (subst (λ w. IsPermutation ((
+        turn_by (g.P.Policy.ranks c.args.policy.now)
+            (entry_with c.loop-job.self.released w c.in-Some.job.now),
+        w,
+      ) ∷ kept_of (heap_items c.loop-job.self.waiting))
       (kept_of (heap_items c.put.new.waiting))) c.work.ensures.is c.in_ok-put.ensures.0)
       c.in_ok-put.ensures.1,
   c.loop-job.invariant.1,
