@@ -1,11 +1,11 @@
 -- How often a policy stops a job, tick by tick.
 use Rattle.std.proofs.Common.{◌≡◌, ℕ, zero, suc, ◌+◌, ◌-◌, ◌≤◌, ◌<◌, ◌⊎◌, inl, inr, List, [], ◌∷◌, ◌++◌, length, take}
-use Rattle.std.proofs.Common.{refl, sym, ap, ◌∙◌, subst, Bool, true, false, cond, arith, eqb, sum_by, slice_index_or, nat_le}
-use Rattle.std.proofs.Common.{eq-eqb, ne_eqb, eqb-true, not, ◌&&◌, get_or, add-one}
+use Rattle.std.proofs.Common.{refl, sym, ap, ◌∙◌, Bool, true, false, cond, arith, eqb, sum_by, nat_le}
+use Rattle.std.proofs.Common.{eq-eqb, ne_eqb, not, ◌&&◌, get_or}
 use Rattle.std.specs.List.{count_by, enumerate_from}
 use Rattle.std.proofs.lemmas.Bool.{cases_eq}
 use Rattle.std.proofs.lemmas.List.{get_or_append_left, get_or_push, take-append-le, take_all}
-use Rattle.dover_model.specs.Common.{JobFacts, left, IsMember, Each, IsNumberedFrom, idle, is_served, ticks_given}
+use Rattle.dover_model.specs.Common.{JobFacts, left, IsMember, Each, idle, is_served}
 use Rattle.dover_model.specs.declared.events.Task.{Task}
 use Rattle.dover_model.proofs.lists.Members.{sum_zero, sum_same, term_le_sum}
 use Rattle.dover_model.proofs.steps.Loads.{sum_change}
@@ -14,7 +14,7 @@ use Rattle.policy_lab.specs.Picks.{Picks, IsPolicy}
 use Rattle.policy_lab.specs.PolicyRun.{picked}
 use Rattle.policy_lab.specs.Bench.{tasks_at, schedule_before, last_at}
 use Rattle.policy_lab.specs.Counts.{is_stopped, stops_before, stops}
-use Rattle.policy_lab.proofs.Runs.{numbered_at, jobs_at, schedule_length, schedule_next, gave}
+use Rattle.policy_lab.proofs.Runs.{numbered_at, jobs_at, schedule_length, gave}
 
 -- what a schedule does before a tick isn't changed by later ticks
 stopped_front : (s more : List ℕ) (t : ℕ) (n_j : ℕ × JobFacts) → t < length s

@@ -1,10 +1,9 @@
 -- Lists of entries of ready tasks: their numbers differ.
-use Rattle.std.proofs.Common.{◌≡◌, ℕ, suc, ◌+◌, ◌-◌, ◌≤◌, ◌<◌, inl, inr, List, [], ◌∷◌, map, refl, sym, ap, ◌∙◌, subst}
-use Rattle.std.proofs.Common.{Bool, true, false, cond, eqb, arith, nat_le, nat_lt, ◌&&◌, filter}
-use Rattle.std.proofs.lemmas.List.Sums.{sum_by-cons}
+use Rattle.std.proofs.Common.{◌≡◌, ℕ, suc, ◌≤◌, ◌<◌, inl, inr, List, [], ◌∷◌, map, refl, sym, subst}
+use Rattle.std.proofs.Common.{Bool, true, false, cond, arith, filter}
 use Rattle.dover_model.specs.declared.events.Task.{Task}
 use Rattle.dover_model.specs.declared.events.Entry.{Entry}
-use Rattle.dover_model.specs.Common.{entry_of, left, latest_start, IsMember, Each, IsNumberedFrom, given}
+use Rattle.dover_model.specs.Common.{entry_of, left, IsMember, Each, IsNumberedFrom}
 use Rattle.dover_model.proofs.steps.Roles.{numbers_above}
 use Rattle.policy_lab.specs.Picks.{HaveOwnNumbers, AreReady, number_of}
 use Rattle.policy_lab.specs.PolicyRun.{is_ready}

@@ -1,16 +1,16 @@
 -- A policy's run over many ticks in which one job runs, or none.
-use Rattle.std.proofs.Common.{◌≡◌, ℕ, zero, suc, ◌+◌, ◌*◌, ◌^◌, ◌≤◌, ◌<◌, ◌⊎◌, inl, inr, List, [], ◌∷◌, ◌++◌, length, map}
-use Rattle.std.proofs.Common.{replicate, refl, sym, ap, ◌∙◌, subst, Bool, true, false, cond, arith, eqb, add-one, filter}
+use Rattle.std.proofs.Common.{◌≡◌, ℕ, zero, suc, ◌+◌, ◌≤◌, ◌<◌, ◌⊎◌, inl, inr, List, [], ◌∷◌, ◌++◌, length, map}
+use Rattle.std.proofs.Common.{replicate, refl, sym, ap, ◌∙◌, subst, cond, arith, eqb, add-one, filter}
 use Rattle.std.proofs.Common.{append_assoc, append-nil, Option, Some, None, unwrap_or}
 use Rattle.std.proofs.lemmas.List.{replicate_more}
-use Rattle.dover_model.specs.Common.{JobFacts, IsJob, entry_of, left, IsMember, Each, idle, given, IsNumberedFrom}
+use Rattle.dover_model.specs.Common.{JobFacts, IsJob, entry_of, left, IsMember, Each, idle, given}
 use Rattle.dover_model.specs.declared.events.Task.{Task}
 use Rattle.dover_model.specs.declared.events.Entry.{Entry}
 use Rattle.dover_model.proofs.lists.Members.{by_bool, filter_member, map_member, on_map, map_map, map_same, map_self}
 use Rattle.dover_model.proofs.steps.Roles.{one_number}
 use Rattle.dover_model.proofs.valid.JobLimits.{job_limits}
 use Rattle.clairvoyant.proofs.feasible.EarliestFirst.{had_more, given_ticks, by_given, given_here, given_other}
-use Rattle.policy_lab.specs.Picks.{Picks, IsPick, IsPolicy, AreReady}
+use Rattle.policy_lab.specs.Picks.{Picks, IsPick}
 use Rattle.policy_lab.specs.Ranks.{IsEntry, IsRanked, turn_by}
 use Rattle.policy_lab.specs.PolicyRun.{is_ready, picked}
 use Rattle.policy_lab.specs.Bench.{tasks_at, schedule_before, last_at}

@@ -1,18 +1,16 @@
 -- The jobs that a policy's run keeps, as they come, are taken out, run and are put back.
-use Rattle.std.proofs.Common.{◌≡◌, ℕ, ◌+◌, ◌*◌, ◌%◌, ◌^◌, ◌≤◌, ◌<◌, ◌⊎◌, inl, inr, List, [], ◌∷◌, map, refl, sym, ap}
-use Rattle.std.proofs.Common.{◌∙◌, subst, true, false, cond, arith, ◌==◌, sum_by, IsPermutation, eq-eqb, ne_eqb}
+use Rattle.std.proofs.Common.{◌≡◌, ℕ, ◌+◌, ◌%◌, ◌^◌, ◌≤◌, ◌<◌, ◌⊎◌, inl, inr, List, [], ◌∷◌, map, sym, ap}
+use Rattle.std.proofs.Common.{◌∙◌, subst, true, cond, arith, ◌==◌, sum_by, IsPermutation, eq-eqb, ne_eqb}
 use Rattle.std.proofs.lemmas.Bool.{cases_eq}
 use Rattle.std.proofs.lemmas.Nat.{mod-mul-add}
 use Rattle.std.proofs.lemmas.List.Sorted.{sum_by_pushed, sum_by_popped, IsPermutation-sym}
-use Rattle.std.proofs.lemmas.List.Sums.{sum_by-cons}
-use Rattle.dover_model.specs.Common.{entry_of, left, IsMember, Each, IsNumberedFrom, to_come, JobFacts, idle}
+use Rattle.dover_model.specs.Common.{entry_of, left, IsMember, Each, IsNumberedFrom, idle}
 use Rattle.dover_model.specs.declared.events.Task.{Task}
 use Rattle.dover_model.specs.declared.events.Entry.{Entry}
 use Rattle.dover_model.proofs.lists.Members.{on_map, map_member, sum_zero, term_le_sum}
 use Rattle.dover_model.proofs.steps.Roles.{one_number}
-use Rattle.clairvoyant.proofs.feasible.EarliestFirst.{had_more, given_ticks, by_given, given_here, given_other}
+use Rattle.clairvoyant.proofs.feasible.EarliestFirst.{given_ticks, by_given, given_other}
 use Rattle.clairvoyant.proofs.feasible.Keeping.{member_moved}
-use Rattle.policy_lab.specs.Ranks.{turn_by}
 use Rattle.policy_lab.specs.PolicyRun.{is_ready}
 use Rattle.policy_lab.specs.Bench.{HasQueue, kept_as, is_of}
 use Rattle.policy_lab.proofs.Given.{ready_says, says_ready}

@@ -1,19 +1,18 @@
 -- A policy's run, from one release or completion to the next.
 use Rattle.std.proofs.Common.{◌≡◌, ℕ, zero, suc, ◌+◌, ◌-◌, ◌*◌, ◌%◌, ◌^◌, ◌≤◌, ◌<◌, ◌⊎◌, inl, inr, List, [], ◌∷◌, ◌++◌}
 use Rattle.std.proofs.Common.{length, map, replicate, refl, sym, ap, ◌∙◌, subst, Bool, true, false, cond, arith, eqb, sum_by}
-use Rattle.std.proofs.Common.{◌||◌, IsPermutation, Option, Some, None, slice_get, nat_cmp, is_lt, eq-eqb, ne_eqb, filter}
+use Rattle.std.proofs.Common.{◌||◌, IsPermutation, Some, slice_get, nat_cmp, is_lt, eq-eqb, ne_eqb}
 use Rattle.std.specs.declared.cmp.Ordering.{Ordering}
 use Rattle.std.specs.declared.cmp.Ordering.TheVariants.{Less, Equal, Greater}
 use Rattle.std.specs.Ordering.{ordering_then}
 use Rattle.std.specs.BinaryHeap.{IsHeap, IsUpperBound, KeepsHeap}
-use Rattle.std.specs.List.{AllByRecursion}
 use Rattle.std.proofs.lemmas.Bool.{cases_eq, cases_lt}
 use Rattle.std.proofs.lemmas.Cmp.{ranked}
 use Rattle.std.proofs.lemmas.Nat.{mod-mul-add}
 use Rattle.std.proofs.lemmas.Option.{slice_get_within}
 use Rattle.std.proofs.lemmas.List.Sorted.{IsPermutation-map, IsPermutation-sym}
 use Rattle.std.proofs.lemmas.List.Sums.{sum_by-cons}
-use Rattle.dover_model.specs.Common.{JobFacts, IsJob, entry_of, left, IsMember, Each, idle, given, IsNumberedFrom, jobs_of}
+use Rattle.dover_model.specs.Common.{JobFacts, IsJob, entry_of, left, IsMember, Each, idle, given}
 use Rattle.dover_model.specs.Common.{last_deadline, stretches, to_come, total_value}
 use Rattle.dover_model.specs.declared.events.Task.{Task}
 use Rattle.dover_model.specs.declared.events.Entry.{Entry}
@@ -37,7 +36,7 @@ use Rattle.policy_lab.specs.Counts.{stops}
 use Rattle.policy_lab.specs.Bench.{tasks_at, schedule_before, served_by, entry_with, Turn, turn_cmp, kept_as, kept_of}
 use Rattle.policy_lab.specs.Bench.{HasQueue, HasRun, HasTally, HasEnded, IsNext, last_at}
 use Rattle.policy_lab.specs.Stops.{stop_by}
-use Rattle.policy_lab.proofs.Given.{ready_says, says_ready, Fits}
+use Rattle.policy_lab.proofs.Given.{ready_says, says_ready}
 use Rattle.policy_lab.proofs.Onlines.{greatest}
 use Rattle.policy_lab.proofs.Runs.{numbered_at, jobs_at, good_at, most_served, low_numbers, fits_at}
 use Rattle.policy_lab.proofs.Leading.{Leads, Rests, RunsFor, RestsFor, leads_run, rests_run, rests_idle}

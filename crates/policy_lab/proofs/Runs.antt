@@ -5,7 +5,7 @@ use Rattle.std.proofs.Common.{nat_le, Option, Some, None, unwrap_or, sum_by, fil
 use Rattle.std.specs.List.{enumerate_from}
 use Rattle.std.proofs.lemmas.List.{length_push}
 use Rattle.dover_model.specs.Common.{JobFacts, Rules, entry_of, to_come, left, ticks_given, is_served, worth, given}
-use Rattle.dover_model.specs.Common.{last_deadline, IsMember, Each, IsNumberedFrom, jobs_of, IsJob, total_value}
+use Rattle.dover_model.specs.Common.{last_deadline, IsMember, Each, IsNumberedFrom, jobs_of, IsJob}
 use Rattle.dover_model.specs.declared.events.Task.{Task}
 use Rattle.dover_model.specs.declared.events.Entry.{Entry}
 use Rattle.dover_model.proofs.steps.Kept.{come_numbered, come_jobs}

@@ -1,5 +1,4 @@
-use Rattle.std.proofs.Common.{◌≡◌, ◌<◌, ◌+◌, ◌*◌, ◌^◌, ◌∷◌, ◌∙◌, ap, subst, sym, arith, heap_items, IsPermutation}
-use Rattle.std.proofs.lemmas.Result.{on_ok_weaker}
+use Rattle.std.proofs.Common.{◌≡◌, ◌+◌, ◌*◌, ◌^◌, ◌∷◌, ◌∙◌, ap, subst, arith, heap_items, IsPermutation}
 use Rattle.std.proofs.lemmas.List.Sorted.{IsPermutation-map}
 use Rattle.policy_lab.specs.Ranks.{turn_by}
 use Rattle.policy_lab.specs.Bench.{Turn, entry_with, kept_of}

@@ -1,4 +1,4 @@
-use Rattle.std.proofs.Common.{◌≡◌, ◌<◌, ◌+◌, ◌∷◌, inl, inr, refl, subst, arith, heap_items, IsPermutation}
+use Rattle.std.proofs.Common.{◌∷◌, inl, inr, refl, subst, arith, heap_items, IsPermutation}
 use Rattle.dover_model.proofs.valid.ValidParts.{order_parts}
 use Rattle.clairvoyant.proofs.feasible.Running.{next_found}
 use Rattle.policy_lab.specs.Ranks.{turn_by}

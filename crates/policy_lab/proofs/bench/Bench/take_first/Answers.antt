@@ -1,4 +1,4 @@
-use Rattle.std.proofs.Common.{◌≡◌, ◌≤◌, ◌<◌, ◌+◌, ◌%◌, ◌^◌, refl, arith, heap_items}
+use Rattle.std.proofs.Common.{refl, arith, heap_items}
 use Rattle.dover_model.proofs.valid.ValidParts.{order_parts}
 use Rattle.clairvoyant.proofs.feasible.Running.{next_found}
 use Rattle.policy_lab.proofs.Running.{run_popped, run_fits, run_late, taken_low, taken_left}

@@ -1,4 +1,4 @@
-use Rattle.std.proofs.Common.{◌≡◌, ◌+◌, ℕ, length, heap_items}
+use Rattle.std.proofs.Common.{◌≡◌, ◌+◌, length, heap_items}
 use Rattle.dover_model.specs.Common.{idle}
 use Rattle.policy_lab.specs.Standing.{StandsAt}
 use Rattle.policy_lab.proofs.bench.Bench.take_first.Given as goal

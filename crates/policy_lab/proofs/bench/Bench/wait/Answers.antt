@@ -1,4 +1,4 @@
-use Rattle.std.proofs.Common.{◌≡◌, ◌<◌, ◌+◌, length, refl, sym, subst, arith, heap_items}
+use Rattle.std.proofs.Common.{refl, sym, subst, arith, heap_items}
 use Rattle.dover_model.specs.Common.{idle}
 use Rattle.dover_model.proofs.valid.ValidParts.{order_parts}
 use Rattle.clairvoyant.proofs.feasible.Running.{next_found}
