@@ -1,11 +1,9 @@
-pub mod Foremost
 pub mod Given
-pub mod Giving
 pub mod Entries
 pub mod Runs
-pub mod Taking
-pub mod Holding
-pub mod Ticks
 pub mod Onlines
+pub mod Counting
+pub mod Leading
+pub mod Queueing
+pub mod Running
 mod PolicyRows
-pub mod Sizes

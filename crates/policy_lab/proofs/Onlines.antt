@@ -16,7 +16,7 @@ use Rattle.policy_lab.proofs.Given.{ready_says, given_job}
 use Rattle.dover_model.proofs.valid.ValidParts.{ReleasesInOrder}
 
 -- of tasks that can't be ready none is
-none_ready : (t : ℕ) (tasks : List Task) → Each (λ task. is_ready t task ≡ true → ⊥) tasks
+pub none_ready : (t : ℕ) (tasks : List Task) → Each (λ task. is_ready t task ≡ true → ⊥) tasks
     → filter (is_ready t) tasks ≡ []
 none_ready t [] never = refl
 none_ready t (task ∷ tasks) never =
@@ -86,7 +86,7 @@ module _ (picks : Picks) (idles : picks [] ≡ None) where
         same = unseen t last known later (omega arith) late
 
 -- no deadline is greater than the greatest
-greatest : (jobs : List JobFacts) (d : ℕ) → (d ≤ fold later_due d jobs)
+pub greatest : (jobs : List JobFacts) (d : ℕ) → (d ≤ fold later_due d jobs)
     × Each (λ j. j.deadline ≤ fold later_due d jobs) jobs
 greatest [] d = (omega arith, λ j member. absurd member)
 greatest (j ∷ jobs) d = with_first (greatest jobs (later_due d j)) where

@@ -1,21 +1,22 @@
 -- A policy's run, tick by tick: its tasks, its schedule, and what it is worth.
 use Rattle.std.proofs.Common.{◌≡◌, ℕ, suc, zero, ◌+◌, ◌-◌, ◌≤◌, ◌<◌, inl, inr, List, [], ◌∷◌, ◌++◌, length, map, refl}
-use Rattle.std.proofs.Common.{sym, ap, ◌∙◌, Bool, true, false, cond, eqb, arith, add-one, append_assoc, append-nil}
+use Rattle.std.proofs.Common.{sym, ap, ◌∙◌, subst, Bool, true, false, cond, eqb, arith, add-one, append_assoc, append-nil}
 use Rattle.std.proofs.Common.{nat_le, Option, Some, None, unwrap_or, sum_by, filter, eq-eqb, eqb-true, ne_eqb}
 use Rattle.std.specs.List.{enumerate_from}
 use Rattle.std.proofs.lemmas.List.{length_push}
 use Rattle.dover_model.specs.Common.{JobFacts, Rules, entry_of, to_come, left, ticks_given, is_served, worth, given}
-use Rattle.dover_model.specs.Common.{last_deadline, IsMember, Each, IsNumberedFrom, jobs_of}
+use Rattle.dover_model.specs.Common.{last_deadline, IsMember, Each, IsNumberedFrom, jobs_of, IsJob}
 use Rattle.dover_model.specs.declared.events.Task.{Task}
 use Rattle.dover_model.specs.declared.events.Entry.{Entry}
 use Rattle.dover_model.proofs.steps.Kept.{come_numbered, come_jobs}
-use Rattle.dover_model.proofs.lists.Members.{on_map, sum_same}
+use Rattle.dover_model.proofs.lists.Members.{on_map, sum_same, sum_le, sum_map, cond_le, map_member}
 use Rattle.dover_model.proofs.steps.Roles.{numbered_map, one_number}
 use Rattle.dover_model.proofs.runs.Serving.{given_nil}
 use Rattle.dover_model.proofs.runs.Honest.{numbers_low, count_jobs, sum_tasks, given_miss, given_hit}
 use Rattle.policy_lab.specs.Picks.{Picks, IsPick, IsPolicy}
 use Rattle.policy_lab.specs.PolicyRun.{is_ready, picked, policy_run_from, policy_run}
-use Rattle.policy_lab.specs.Bench.{tasks_at, schedule_before, served_value}
+use Rattle.policy_lab.specs.Counts.{served_count}
+use Rattle.policy_lab.specs.Bench.{tasks_at, schedule_before, served_by, served_value, served_jobs}
 use Rattle.policy_lab.proofs.Given.{ready_says, given_number, given_job, Fits}
 use Rattle.policy_lab.proofs.Entries.{are_ready, number_ready}
 
@@ -36,6 +37,23 @@ module _ (picks : Picks) (jobs : List JobFacts) where
   pub jobs_at : (t : ℕ) → jobs_of (tasks_at picks jobs t) ≡ jobs
   jobs_at zero = come_jobs 0 jobs
   jobs_at (suc t) = jobs_given (picked picks t (tasks_at picks jobs t)) (tasks_at picks jobs t) ∙ jobs_at t
+
+  -- which are within the limits
+  pub good_at : Each IsJob jobs → (t : ℕ) → Each (λ task. IsJob task.job) (tasks_at picks jobs t)
+  good_at good t task member = good task.job
+      (subst (IsMember task.job) (jobs_at t) (map_member (λ u. u.job) (tasks_at picks jobs t) task member))
+
+  -- no more is served than there is
+  pub most_served : (amount : JobFacts → ℕ) (t : ℕ) → served_by amount (tasks_at picks jobs t) ≤ sum_by amount jobs
+  most_served amount t =
+      let less : served_by amount tasks ≤ sum_by (λ task. amount task.job) tasks =
+      sum_le (λ task. cond (eqb (left task) 0) (amount task.job) 0) (λ task. amount task.job) tasks
+      (λ task member. cond_le (eqb (left task) 0) (amount task.job)) in
+      let all : sum_by (λ task. amount task.job) tasks ≡ sum_by amount jobs =
+      sym (sum_map (λ (task : Task). task.job) amount tasks) ∙ ap (sum_by amount) (jobs_at t) in
+      omega arith where
+        tasks : List Task
+        tasks = tasks_at picks jobs t
 
   -- the tick behind t
   pub tasks_next : (t : ℕ)
@@ -69,9 +87,9 @@ module _ (picks : Picks) (jobs : List JobFacts) where
   pub run_is : policy_run picks jobs ≡ schedule_before picks jobs (last_deadline jobs)
   run_is = split_at (last_deadline jobs) 0 (last_deadline jobs) (omega arith)
 
-  module _ (policy : IsPolicy picks) (count : length jobs ≤ 10_000) where
+  module _ (policy : IsPolicy picks) (count : length jobs ≤ 1_000_000) where
     -- no job has the number that names none
-    pub low_numbers : (t : ℕ) → Each (λ task. task.number < 10_000) (tasks_at picks jobs t)
+    pub low_numbers : (t : ℕ) → Each (λ task. task.number < 1_000_000) (tasks_at picks jobs t)
     low_numbers t task member =
         let low : task.number < 0 + length (tasks_at picks jobs t) =
         numbers_low 0 (tasks_at picks jobs t) (numbered_at t) task member in
@@ -89,7 +107,7 @@ module _ (picks : Picks) (jobs : List JobFacts) where
       by_pick : (o : Option ℕ) → picks ready ≡ o → IsPick ready o → Fits (unwrap_or o 4_000_000_000) t tasks
       by_pick None e none task member same =
           let idle : task.number ≡ 4_000_000_000 = eqb-true task.number 4_000_000_000 same in
-          let low : task.number < 10_000 = low_numbers t task member in absurd (omega arith)
+          let low : task.number < 1_000_000 = low_numbers t task member in absurd (omega arith)
       by_pick (Some n) e one task member same =
           let it = number_ready t n tasks one in
           let number : task.number ≡ n = eqb-true task.number n same in
@@ -97,7 +115,7 @@ module _ (picks : Picks) (jobs : List JobFacts) where
           ap (is_ready t) is_it ∙ it.2
 
     -- the ticks so far are those that the jobs had
-    gave : (t : ℕ) → Each (λ task. ticks_given (schedule_before picks jobs t) task.number task.job ≡ task.had)
+    pub gave : (t : ℕ) → Each (λ task. ticks_given (schedule_before picks jobs t) task.number task.job ≡ task.had)
         (tasks_at picks jobs t)
     gave zero task member = given_nil (λ m. eqb m task.number) task.job.release task.job.deadline
         ∙ sym (none_had 0 jobs task member) where
@@ -140,16 +158,16 @@ module _ (picks : Picks) (jobs : List JobFacts) where
                   clash : eqb task.number n ≡ true → ⊥
                   clash same = let e : true ≡ false = sym same ∙ other in cc
 
-    -- the value of a schedule so far is that of the jobs served fully
-    pub worth_before : (rules : Rules) (t : ℕ)
-        → worth (record { rules = rules; jobs = jobs }) (schedule_before picks jobs t) ≡ served_value
-        (tasks_at picks jobs t)
-    worth_before rules t =
-        ap (λ js. sum_by (λ n_j. cond (is_served past n_j) n_j.1.value 0) (enumerate_from 0 js)) (sym (jobs_at t))
-        ∙ sum_tasks (λ n_j. cond (is_served past n_j) n_j.1.value 0) 0 tasks (numbered_at t)
-        ∙ sum_same (λ task. cond (is_served past (task.number, task.job)) task.job.value 0)
-        (λ task. cond (eqb (left task) 0) task.job.value 0) tasks
-        (λ task member. ap (λ b. cond b task.job.value 0)
+    -- what a schedule serves so far is what the jobs are that are served fully
+    pub serves_before : (amount : JobFacts → ℕ) (t : ℕ)
+        → sum_by (λ n_j. cond (is_served (schedule_before picks jobs t) n_j) (amount n_j.1) 0) (enumerate_from 0 jobs)
+        ≡ served_by amount (tasks_at picks jobs t)
+    serves_before amount t =
+        ap (λ js. sum_by (λ n_j. cond (is_served past n_j) (amount n_j.1) 0) (enumerate_from 0 js)) (sym (jobs_at t))
+        ∙ sum_tasks (λ n_j. cond (is_served past n_j) (amount n_j.1) 0) 0 tasks (numbered_at t)
+        ∙ sum_same (λ task. cond (is_served past (task.number, task.job)) (amount task.job) 0)
+        (λ task. cond (eqb (left task) 0) (amount task.job) 0) tasks
+        (λ task member. ap (λ b. cond b (amount task.job) 0)
         (ap (nat_le task.job.work) (gave t task member) ∙ done task.job.work task.had)) where
           tasks : List Task
           tasks = tasks_at picks jobs t
@@ -164,4 +182,9 @@ module _ (picks : Picks) (jobs : List JobFacts) where
     pub worth_is : (rules : Rules)
         → worth (record { rules = rules; jobs = jobs }) (policy_run picks jobs) ≡ served_value
         (tasks_at picks jobs (last_deadline jobs))
-    worth_is rules = ap (worth (record { rules = rules; jobs = jobs })) run_is ∙ worth_before rules (last_deadline jobs)
+    worth_is rules = ap (worth (record { rules = rules; jobs = jobs })) run_is
+        ∙ serves_before (λ j. j.value) (last_deadline jobs)
+
+    -- and how many jobs it serves
+    pub serves_is : served_count jobs (policy_run picks jobs) ≡ served_jobs (tasks_at picks jobs (last_deadline jobs))
+    serves_is = ap (served_count jobs) run_is ∙ serves_before (λ j. 1) (last_deadline jobs)

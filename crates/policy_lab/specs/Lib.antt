@@ -1,5 +1,9 @@
 pub mod Picks
 pub mod PolicyRun
+pub mod Ranks
 pub mod Standard
 pub mod Firsts
+pub mod Counts
+pub mod Stops
 pub mod Bench
+pub mod Standing

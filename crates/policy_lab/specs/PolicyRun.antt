@@ -1,5 +1,5 @@
 -- The schedule that a policy makes: in each tick it picks from the jobs that are ready.
-use Rattle.std.specs.Prelude.{◌<◌, ◌⊎◌, ℕ, zero, suc, ◌+◌, List, [], ◌∷◌, length, map, Bool, ◌&&◌, nat_lt, nat_le}
+use Rattle.std.specs.Prelude.{ℕ, zero, suc, ◌+◌, List, [], ◌∷◌, map, Bool, ◌&&◌, nat_lt, nat_le}
 use Rattle.std.specs.Prelude.{unwrap_or, filter}
 use Rattle.dover_model.specs.Common.{idle, JobFacts, entry_of, to_come, left, last_deadline, given}
 use Rattle.dover_model.specs.declared.events.Task.{Task}
@@ -22,7 +22,3 @@ policy_run_from picks (suc ticks) t tasks =
 -- the schedule up to the greatest deadline
 abbrev pub policy_run : Picks → List JobFacts → List ℕ
 policy_run picks jobs = policy_run_from picks (last_deadline jobs) 0 (to_come 0 jobs)
-
--- more jobs than a policy is run over, or a later deadline
-abbrev pub AreTooLarge : List JobFacts → Type 0
-AreTooLarge jobs = (10_000 < length jobs) ⊎ (100_000 < last_deadline jobs)

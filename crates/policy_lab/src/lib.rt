@@ -5,10 +5,10 @@ mod bench;
 mod lab;
 mod laws;
 mod policy;
-mod scan;
 mod standard;
+mod tally;
 
-pub use lab::{LabFault, Outcome, are_too_large, run_policy};
+pub use lab::{Outcome, run_policy};
 pub use laws::policies_are_on_line;
 pub use policy::Policy;
 pub use standard::{Dense, Edf};

@@ -4,7 +4,6 @@ use Rattle.std.proofs.Common.{ltb-true, ltb-false}
 use Rattle.std.specs.List.{AllByRecursion}
 use Rattle.std.proofs.lemmas.List.Sums.{sum_by-cons}
 use Rattle.dover_model.specs.Common.{Instance, IsListable, IsValid, total_value, JobFacts, IsJob}
-use Rattle.policy_lab.specs.PolicyRun.{AreTooLarge}
 use Rattle.dover_model.proofs.valid.ValidParts.{valid_parts}
 use Rattle.dover_model.proofs.valid.JobLimits.{job_limits}
 
@@ -24,10 +23,3 @@ few_listable J valid few = record {
   count = omega (arith, few);
   total = omega (arith, few, total_low J.jobs (valid_parts valid).each);
 }
-
--- jobs over which policies are run are few
-pub run_few : (jobs : List JobFacts) → (AreTooLarge jobs → ⊥) → length jobs ≤ 10_000
-run_few jobs small = by_test (nat_lt 10_000 (length jobs)) refl where
-  by_test : (b : Bool) → nat_lt 10_000 (length jobs) ≡ b → length jobs ≤ 10_000
-  by_test true many = absurd (small (inl (ltb-true _ _ many)))
-  by_test false few = ltb-false _ _ few

@@ -1,10 +1,12 @@
 -- What the word `compare` says of the jobs of a feed.
 use Rattle.std.specs.Prelude.{◌≡◌, ◌≤◌, ℕ, List, [], ◌∷◌, codes}
-use Rattle.dover_model.specs.Common.{bound, Instance, with_numbers, in_lines, observed, completed_value, worth}
+use Rattle.dover_model.specs.Common.{bound, Instance, IsListable, with_numbers, in_lines, observed, completed_value}
+use Rattle.dover_model.specs.Common.{worth}
 use Rattle.dover_port.specs.declared.status.Status.{Status}
 use Rattle.dover_port.specs.declared.status.Status.TheVariants.{Done, Refused}
 use Rattle.policy_lab.specs.Picks.{Picks}
-use Rattle.policy_lab.specs.PolicyRun.{policy_run, AreTooLarge}
+use Rattle.policy_lab.specs.Counts.{served_count, stops}
+use Rattle.policy_lab.specs.PolicyRun.{policy_run}
 use Rattle.policy_lab.specs.Standard.{earliest_deadline, greatest_density}
 use Rattle.dialogue.specs.Sizes.{size_text}
 
@@ -12,13 +14,19 @@ use Rattle.dialogue.specs.Sizes.{size_text}
 abbrev pub worth_of : Picks → Instance → ℕ
 worth_of picks J = worth J (policy_run picks J.jobs)
 
--- the value that the run of these jobs completes, what the two policies' schedules are worth of the jobs as the run
+-- the line of a policy: what its schedule is worth, how many jobs it serves, and how often it stops one that it hasn't
+-- served yet
+abbrev pub line_of : List ℕ → Picks → Instance → List ℕ
+line_of word picks J = let s = policy_run picks J.jobs in
+    with_numbers word (worth J s ∷ served_count J.jobs s ∷ stops J.jobs s ∷ [])
+
+-- the value that the run of these jobs completes, what the two policies' schedules come to of the jobs as the run
 -- observed them, and the bound on what any is worth
 abbrev pub compare_text : Instance → List ℕ
 compare_text J = in_lines (
     with_numbers (codes "dover") (completed_value J ∷ [])
-    ∷ with_numbers (codes "edf") (worth_of earliest_deadline (observed J) ∷ [])
-    ∷ with_numbers (codes "dense") (worth_of greatest_density (observed J) ∷ [])
+    ∷ line_of (codes "edf") earliest_deadline (observed J)
+    ∷ line_of (codes "dense") greatest_density (observed J)
     ∷ with_numbers (codes "bound") (bound J.rules.ratio (completed_value J) ∷ [])
     ∷ [])
 
@@ -27,8 +35,8 @@ pub record AreWithin (J : Instance) : Type 0 where
   pub edf : worth_of earliest_deadline (observed J) ≤ bound J.rules.ratio (completed_value J)
   pub dense : worth_of greatest_density (observed J) ≤ bound J.rules.ratio (completed_value J)
 
--- Done with the four numbers, and Refused exactly where the policies aren't run over so large a feed
+-- Done with the numbers, and Refused exactly where the jobs are more, or worth more, than those of version Two may be
 abbrev pub SaysCompare : Instance → Status → List ℕ → Type 0
-SaysCompare J Done text = (AreTooLarge J.jobs → ⊥) × AreWithin J × (text ≡ compare_text J)
-SaysCompare J Refused text = AreTooLarge J.jobs × (text ≡ size_text)
+SaysCompare J Done text = IsListable J × AreWithin J × (text ≡ compare_text J)
+SaysCompare J Refused text = (IsListable J → ⊥) × (text ≡ size_text)
 SaysCompare J _ text = ⊥

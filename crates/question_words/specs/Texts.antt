@@ -11,7 +11,10 @@ use Rattle.event_feed.specs.declared.listed.NotListed.{NotListed}
 use Rattle.event_feed.specs.declared.listed.NotListed.TheVariants.{Fault, TooMany}
 use Rattle.question_words.specs.declared.answer.Answer.{Answer}
 use Rattle.question_words.specs.declared.answer.Rows.{Rows}
-use Rattle.question_words.specs.declared.answer.Rows.TheVariants.{Pieces, Stretches}
+use Rattle.question_words.specs.declared.answer.Rows.TheVariants.{Pieces, Stretches, Policies}
+use Rattle.question_words.specs.declared.answer.Named.{Named}
+use Rattle.question_words.specs.declared.answer.Named.TheVariants.{Edf, Dense}
+use Rattle.question_words.specs.declared.answer.PolicyRow.{PolicyRow}
 use Rattle.question_words.specs.declared.answer.StretchRow.{StretchRow}
 
 -- the line of a piece
@@ -30,10 +33,24 @@ stretch_line x = with_numbers (codes "stretch") (x.from ∷ x.until ∷ x.total 
 abbrev pub stretch_lines : List StretchRow → List (List ℕ)
 stretch_lines xs = map stretch_line xs
 
--- the line of each row
-abbrev pub row_lines : Rows → List (List ℕ)
-row_lines (Pieces pieces) = piece_lines pieces.items
-row_lines (Stretches xs) = stretch_lines xs.items
+-- the word of a policy's line
+abbrev pub word_of : Named → List ℕ
+word_of Edf = codes "edf"
+word_of Dense = codes "dense"
+
+-- the line of a policy
+abbrev pub policy_line : PolicyRow → List ℕ
+policy_line row = with_numbers (word_of row.named) (row.value ∷ row.completed ∷ row.stops ∷ [])
+
+-- the line of each policy
+abbrev pub policy_lines : List PolicyRow → List (List ℕ)
+policy_lines rows = map policy_line rows
+
+-- the lines of the rows
+abbrev pub row_text : Rows → List ℕ
+row_text (Pieces pieces) = in_lines (piece_lines pieces.items)
+row_text (Stretches xs) = in_lines (stretch_lines xs.items)
+row_text (Policies rows last) = in_lines (policy_lines rows.items) ++ last
 
 -- the line that refuses a feed whose jobs aren't listed
 abbrev pub refusal_line : NotListed → List ℕ
@@ -42,7 +59,7 @@ refusal_line TooMany = codes "refused size"
 
 -- the text of an answer
 abbrev pub text_of : Answer → List ℕ
-text_of answer = answer.head ++ in_lines (row_lines answer.rows)
+text_of answer = answer.head ++ row_text answer.rows
 
 -- the answer was put, or a front of its text that isn't all
 abbrev pub PutsBy : Answer → (old new : Option (List Move)) → (after : List ℕ) → Result Status Stop → Type 0

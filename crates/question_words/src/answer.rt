@@ -5,7 +5,8 @@ ghost use Rattle.dover_port.specs.Causes.{HasCause, StopsAtFailure};
 ghost use Rattle.dover_port.specs.Moves.{PutsThrough};
 ghost use Rattle.dover_port.specs.declared.status.Status.TheVariants.{Refused};
 ghost use Rattle.dialogue.specs.Turns.{StopCause, StopsOn};
-ghost use Rattle.question_words.specs.Texts.{PutsBy, piece_lines, row_lines, stretch_lines, text_of};
+ghost use Rattle.question_words.specs.Texts.{PutsBy, piece_lines, policy_lines, row_text, stretch_lines};
+ghost use Rattle.question_words.specs.Texts.{text_of, word_of};
 
 use dialogue::Stop;
 use dialogue::lines::put_numbers;
@@ -27,11 +28,30 @@ pub(crate) struct StretchRow {
     pub(crate) value: u64,
 }
 
-/// What has a line each.
+/// Which policy a line tells of.
+#[derive(Clone, Copy)]
+pub(crate) enum Named {
+    Edf,
+    Dense,
+}
+
+/// What a policy's schedule comes to.
+#[derive(Clone, Copy)]
+pub(crate) struct PolicyRow {
+    pub(crate) named: Named,
+    pub(crate) value: u64,
+    /// How many jobs it serves.
+    pub(crate) completed: u64,
+    /// How often it stops a job that it hasn't served yet.
+    pub(crate) stops: u64,
+}
+
+/// What has a line each; behind those of policies comes a last line.
 #[derive(Drop)]
 pub(crate) enum Rows {
     Pieces(Vec<Piece>),
     Stretches(Vec<StretchRow>),
+    Policies(Vec<PolicyRow>, BackLine),
 }
 
 /// An answer: its status, its first lines, and the rows whose lines come behind these.
@@ -82,10 +102,62 @@ fn put_stretches<P: Port>(
     Ok(())
 }
 
+/// The word of a policy's line.
+fn word(named: Named) -> &'static [u8]
+    ensures { result.now ≡ word_of named }
+{
+    match named {
+        Named::Edf => b"edf",
+        Named::Dense => b"dense",
+    }
+}
+
+/// Puts the line of each policy.
+fn put_policies<P: Port>(
+    port: &mut P,
+    out: &mut Output,
+    policies: &[PolicyRow],
+) -> Result<(), Failed>
+    ensures text { PutsThrough (P.moves port.old) (P.moves port.new) result out.old out.new
+        (in_lines (policy_lines policies.now)) }
+    ensures cause { HasCause
+        (P.write_faults port.old) (P.write_faults port.new) (P.read_faults port.old) (P.read_faults port.new) result }
+    ensures stops { StopsAtFailure (P.calls port.old) (P.calls port.new) result }
+{
+    for row in policies {
+        let numbers = [row.value, row.completed, row.stops];
+        match put_numbers(port, out, word(row.named), &numbers) {
+            Ok(()) => {}
+            Err(failed) => return Err(failed),
+        }
+    }
+    Ok(())
+}
+
+/// Puts the line of each policy, and the last line.
+fn put_compared<P: Port>(
+    port: &mut P,
+    out: &mut Output,
+    policies: &[PolicyRow],
+    last: &BackLine,
+) -> Result<(), Failed>
+    ensures text { PutsThrough (P.moves port.old) (P.moves port.new) result out.old out.new
+        (in_lines (policy_lines policies.now) ++ last.now) }
+    ensures cause { HasCause
+        (P.write_faults port.old) (P.write_faults port.new) (P.read_faults port.old) (P.read_faults port.new) result }
+    ensures stops { StopsAtFailure (P.calls port.old) (P.calls port.new) result }
+{
+    match put_policies(port, out, policies) {
+        Ok(()) => {}
+        Err(failed) => return Err(failed),
+    }
+    out.put(port, last.bytes())
+}
+
 /// Puts the line of each row.
 fn put_rows<P: Port>(port: &mut P, out: &mut Output, rows: &Rows) -> Result<(), Failed>
     ensures text { PutsThrough (P.moves port.old) (P.moves port.new) result out.old out.new
-        (in_lines (row_lines rows.now)) }
+        (row_text rows.now) }
     ensures cause { HasCause
         (P.write_faults port.old) (P.write_faults port.new) (P.read_faults port.old) (P.read_faults port.new) result }
     ensures stops { StopsAtFailure (P.calls port.old) (P.calls port.new) result }
@@ -93,6 +165,7 @@ fn put_rows<P: Port>(port: &mut P, out: &mut Output, rows: &Rows) -> Result<(), 
     match rows {
         Rows::Pieces(pieces) => put_pieces(port, out, pieces),
         Rows::Stretches(stretches) => put_stretches(port, out, stretches),
+        Rows::Policies(policies, last) => put_compared(port, out, policies, last),
     }
 }
 

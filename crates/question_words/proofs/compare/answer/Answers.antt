@@ -1,120 +1,106 @@
-use Rattle.std.proofs.Common.{◌≤◌, ◌++◌, ◌∙◌, refl, [], length, sym, ap, subst, codes, arith}
-use Rattle.dover_model.specs.Common.{bound, Instance, IsInOrder, IsListable, IsValid, total_value, most_total, in_lines}
-use Rattle.dover_model.specs.Common.{worth}
+use Rattle.std.proofs.Common.{◌≤◌, ◌++◌, ◌∷◌, ◌∙◌, refl, List, [], length, sym, ap, subst, codes, arith}
+use Rattle.dover_model.specs.Common.{IsInOrder, JobFacts, most_jobs, total_value, most_total, in_lines, observed}
 use Rattle.dover_model.specs.declared.events.Version.TheVariants.{Two}
+use Rattle.dover_model.proofs.lists.Tests.{never}
+use Rattle.dover_port.specs.declared.status.Status.TheVariants.{Done}
 use Rattle.dialogue.specs.Talk.{IsFinal}
 use Rattle.event_feed.specs.Listing.{listed_instance}
-use Rattle.policy_lab.specs.PolicyRun.{policy_run, AreTooLarge}
-use Rattle.policy_lab.specs.Standard.{greatest_density}
+use Rattle.policy_lab.specs.Standard.{earliest_deadline, greatest_density}
 use Rattle.question_words.specs.Compare.{SaysCompare}
-use Rattle.question_words.specs.Texts.{piece_lines, text_of}
-use Rattle.question_words.proofs.Comparing.{value_short, compared, not_large}
-use Rattle.question_words.proofs.Limited.{few_listable, run_few}
-use Rattle.question_words.proofs.Lines.{four_written}
-use Rattle.question_words.proofs.Observations.{observed_in_order, observed_total}
+use Rattle.question_words.specs.Texts.{policy_line, policy_lines, text_of}
+use Rattle.question_words.proofs.Comparing.{value_short, compared, row_told}
+use Rattle.question_words.proofs.Observations.{observed_in_order, observed_total, observed_count}
 use Rattle.question_words.proofs.compare.answer.Goals as goal
 
--- jobs over which policies are run are within the limits
-few : (J : Instance) → IsValid J → (AreTooLarge J.jobs → ⊥) → IsListable J
-few J valid small = few_listable J valid (run_few J.jobs small)
-
 pub observe-requires-clause-listable : goal.observe-requires-clause-listable
-observe-requires-clause-listable g c = few (listed_instance c.args.listed) c.requires.valid
-    (not_large c.deref.result.now c.args.listed.jobs.items c.deref.ensures.value c.are_too_large.result
-    c.are_too_large.ensures c.if-are_too_large.false)
+observe-requires-clause-listable g c = c.if-not-is_listable.ensures.0 refl
 
 pub run_policy-requires-clause-in_order : goal.run_policy-requires-clause-in_order
-run_policy-requires-clause-in_order g c = subst IsInOrder (sym (c.deref-2.ensures.value ∙ c.in_ok-dover.ensures.jobs))
+run_policy-requires-clause-in_order g c = subst IsInOrder (sym (c.deref.ensures.value ∙ c.in_ok-dover.ensures.jobs))
     (observed_in_order (listed_instance c.args.listed) c.requires.valid)
+
+pub run_policy-requires-clause-count : goal.run_policy-requires-clause-count
+run_policy-requires-clause-count g c =
+    subst (λ (js : List JobFacts). length js ≤ most_jobs Two) (sym (c.deref.ensures.value ∙ c.in_ok-dover.ensures.jobs))
+    (subst (λ n. n ≤ most_jobs Two) (sym (observed_count (listed_instance c.args.listed) c.requires.valid))
+    (c.if-not-is_listable.ensures.0 refl).count)
 
 pub run_policy-requires-clause-total : goal.run_policy-requires-clause-total
 run_policy-requires-clause-total g c =
-    subst (λ js. total_value js ≤ most_total Two) (sym (c.deref-2.ensures.value ∙ c.in_ok-dover.ensures.jobs))
+    subst (λ js. total_value js ≤ most_total Two) (sym (c.deref.ensures.value ∙ c.in_ok-dover.ensures.jobs))
     (subst (λ n. n ≤ most_total Two) (sym (observed_total (listed_instance c.args.listed) c.requires.valid))
-    (few (listed_instance c.args.listed) c.requires.valid
-    (not_large c.deref.result.now c.args.listed.jobs.items c.deref.ensures.value c.are_too_large.result
-    c.are_too_large.ensures c.if-are_too_large.false)).total)
+    (c.if-not-is_listable.ensures.0 refl).total)
 
 pub run_policy-requires-2-clause-in_order : goal.run_policy-requires-2-clause-in_order
-run_policy-requires-2-clause-in_order g c = subst IsInOrder (sym (c.deref-3.ensures.value ∙ c.in_ok-dover.ensures.jobs))
+run_policy-requires-2-clause-in_order g c = subst IsInOrder (sym (c.deref-2.ensures.value ∙ c.in_ok-dover.ensures.jobs))
     (observed_in_order (listed_instance c.args.listed) c.requires.valid)
+
+pub run_policy-requires-2-clause-count : goal.run_policy-requires-2-clause-count
+run_policy-requires-2-clause-count g c =
+    subst (λ (js : List JobFacts). length js ≤ most_jobs Two) (sym (c.deref-2.ensures.value ∙ c.in_ok-dover.ensures.jobs))
+    (subst (λ n. n ≤ most_jobs Two) (sym (observed_count (listed_instance c.args.listed) c.requires.valid))
+    (c.if-not-is_listable.ensures.0 refl).count)
 
 pub run_policy-requires-2-clause-total : goal.run_policy-requires-2-clause-total
 run_policy-requires-2-clause-total g c =
-    subst (λ js. total_value js ≤ most_total Two) (sym (c.deref-3.ensures.value ∙ c.in_ok-dover.ensures.jobs))
+    subst (λ js. total_value js ≤ most_total Two) (sym (c.deref-2.ensures.value ∙ c.in_ok-dover.ensures.jobs))
     (subst (λ n. n ≤ most_total Two) (sym (observed_total (listed_instance c.args.listed) c.requires.valid))
-    (few (listed_instance c.args.listed) c.requires.valid
-    (not_large c.deref.result.now c.args.listed.jobs.items c.deref.ensures.value c.are_too_large.result
-    c.are_too_large.ensures c.if-are_too_large.false)).total)
+    (c.if-not-is_listable.ensures.0 refl).total)
 
-pub put_bound-requires-clause-value : goal.put_bound-requires-clause-value
-put_bound-requires-clause-value g c = value_short (listed_instance c.args.listed) c.requires.valid
-    (few (listed_instance c.args.listed) c.requires.valid
-    (not_large c.deref.result.now c.args.listed.jobs.items c.deref.ensures.value c.are_too_large.result
-    c.are_too_large.ensures c.if-are_too_large.false)) _
-    c.in_ok-dover.ensures.value
+pub put_last_bound-requires-clause-value : goal.put_last_bound-requires-clause-value
+put_last_bound-requires-clause-value g c = value_short (listed_instance c.args.listed) c.requires.valid
+    (c.if-not-is_listable.ensures.0 refl) _ c.in_ok-dover.ensures.value
 
 pub returns-clause-says : goal.returns-clause-says
 returns-clause-says g c =
     let J = listed_instance c.args.listed in
-    compared J c.requires.valid c.deref-2.result.now (c.deref-2.ensures.value ∙ c.in_ok-dover.ensures.jobs)
-    c.in_ok-dover.dover c.in-Ok.edf.value c.in-Ok-run_policy.dense.value (bound J.rules.ratio c.in_ok-dover.dover)
-    c.in_ok-dover.ensures.value (c.in-Ok.ensures.value J.rules)
-    (c.in-Ok-run_policy.ensures.value J.rules
-    ∙ ap (λ js. worth (record { rules = J.rules; jobs = js }) (policy_run greatest_density js))
-    (c.deref-3.ensures.value ∙ sym c.deref-2.ensures.value))
-    refl
-    (not_large c.deref.result.now c.args.listed.jobs.items c.deref.ensures.value c.are_too_large.result
-    c.are_too_large.ensures c.if-are_too_large.false)
-    _
-    (ap (λ ps. c.put_with_wide-3.new.self ++ in_lines (piece_lines ps)) c.new.ensures.items
-    ∙ four_written (codes "dover") (codes "edf") (codes "dense") (codes "bound") c.in_ok-dover.dover c.in-Ok.edf.value
-    c.in-Ok-run_policy.dense.value (bound J.rules.ratio c.in_ok-dover.dover) [] c.new-head.result c.put_bound.new.head
-    c.put_with_wide.new.self c.put_with_wide-2.new.self c.put_with_wide-3.new.self c.new-head.ensures
-    c.put_bound.ensures.is c.put_with_wide.ensures.is c.put_with_wide-2.ensures.is c.put_with_wide-3.ensures.is)
+    let edf = c.row.result in
+    let dense = c.row-2.result in
+    let items = c.in_ok-push-2.ensures.items ∙ ap (λ rows. rows ++ dense ∷ [])
+    (c.in_ok-push.ensures.items ∙ ap (λ rows. rows ++ edf ∷ []) c.new-policies.ensures.items) in
+    subst (λ rows. SaysCompare J Done (c.put_with_wide.new.self ++ (in_lines (policy_lines rows)
+    ++ c.put_last_bound.new.head))) (sym items)
+    (compared J c.requires.valid c.in_ok-dover.dover edf dense c.in_ok-dover.ensures.value
+    (ap policy_line c.row.ensures
+    ∙ row_told earliest_deadline J.rules (codes "edf") c.deref.result.now (observed J).jobs
+    (c.deref.ensures.value ∙ c.in_ok-dover.ensures.jobs) _ _ _ (c.in_ok-edf.ensures.value J.rules)
+    c.in_ok-edf.ensures.completed c.in_ok-edf.ensures.stops)
+    (ap policy_line c.row-2.ensures
+    ∙ row_told greatest_density J.rules (codes "dense") c.deref-2.result.now (observed J).jobs
+    (c.deref-2.ensures.value ∙ c.in_ok-dover.ensures.jobs) _ _ _ (c.in_ok-dense.ensures.value J.rules)
+    c.in_ok-dense.ensures.completed c.in_ok-dense.ensures.stops)
+    (c.if-not-is_listable.ensures.0 refl) _ _ _ _ c.new-head.ensures c.new-last.ensures c.put_with_wide.ensures.is
+    c.put_last_bound.ensures)
 
-pub put_bound-requires-clause-fits : goal.put_bound-requires-clause-fits
-put_bound-requires-clause-fits g c = omega (arith, ap length c.new-head.ensures)
+pub put_last_bound-requires-clause-fits : goal.put_last_bound-requires-clause-fits
+put_last_bound-requires-clause-fits g c = omega (arith, ap length c.new-last.ensures)
 
 pub put_with_wide-requires : goal.put_with_wide-requires
-put_with_wide-requires g c = omega (arith, c.put_bound.ensures.size, ap length c.new-head.ensures)
+put_with_wide-requires g c = omega (arith, ap length c.new-head.ensures)
 
-pub put_with_wide-requires-2 : goal.put_with_wide-requires-2
-put_with_wide-requires-2 g c = omega (
-  arith,
-  c.put_bound.ensures.size,
-  c.put_with_wide.ensures.size,
-  ap length c.new-head.ensures,
-)
+pub returns-in_err-edf-clause-count : goal.returns-in_err-edf-clause-count
+returns-in_err-edf-clause-count g c = c.observe.ensures.count
 
-pub put_with_wide-requires-3 : goal.put_with_wide-requires-3
-put_with_wide-requires-3 g c = omega (
-  arith,
-  c.put_bound.ensures.size,
-  c.put_with_wide.ensures.size,
-  c.put_with_wide-2.ensures.size,
-  ap length c.new-head.ensures,
-)
+pub returns-in_err-dense-clause-count : goal.returns-in_err-dense-clause-count
+returns-in_err-dense-clause-count g c = c.observe.ensures.count
 
-pub returns-in_default-clause-count : goal.returns-in_default-clause-count
-returns-in_default-clause-count g c = c.observe.ensures.count
+pub returns-in_err-push-clause-count : goal.returns-in_err-push-clause-count
+returns-in_err-push-clause-count g c = c.observe.ensures.count
 
-pub returns-in_default-run_policy-clause-count : goal.returns-in_default-run_policy-clause-count
-returns-in_default-run_policy-clause-count g c = c.observe.ensures.count
+pub returns-in_err-push-2-clause-count : goal.returns-in_err-push-2-clause-count
+returns-in_err-push-2-clause-count g c = c.observe.ensures.count
 
 pub returns-clause-count : goal.returns-clause-count
 returns-clause-count g c = c.observe.ensures.count
 
-pub returns-then-are_too_large-clause-says : goal.returns-then-are_too_large-clause-says
-returns-then-are_too_large-clause-says g c =
+pub returns-then-not-is_listable-clause-says : goal.returns-then-not-is_listable-clause-says
+returns-then-not-is_listable-clause-says g c =
     subst (λ status. SaysCompare (listed_instance c.args.listed) status (text_of c.too_many.result))
-    (sym c.too_many.ensures.status) (
-      subst AreTooLarge c.deref.ensures.value (c.are_too_large.ensures.0 c.if-are_too_large.true),
-      c.too_many.ensures.text,
-    )
+    (sym c.too_many.ensures.status)
+    (λ listable. never (sym c.if-not-is_listable.true ∙ c.is_listable.ensures.1 listable), c.too_many.ensures.text)
 
-pub returns-then-are_too_large-clause-ends : goal.returns-then-are_too_large-clause-ends
-returns-then-are_too_large-clause-ends g c = subst IsFinal (sym c.too_many.ensures.status) tt
+pub returns-then-not-is_listable-clause-ends : goal.returns-then-not-is_listable-clause-ends
+returns-then-not-is_listable-clause-ends g c = subst IsFinal (sym c.too_many.ensures.status) tt
 
 pub returns-clause-ends : goal.returns-clause-ends
 returns-clause-ends g c = tt

@@ -1,12 +1,11 @@
 use Rattle.std.proofs.Common.{[], refl}
-use Rattle.dover_model.specs.Lines.{in_lines}
 use Rattle.dover_port.proofs.Through.{passes_then, passes_then_cut, cut_longer}
-use Rattle.question_words.specs.Texts.{row_lines}
+use Rattle.question_words.specs.Texts.{row_text}
 use Rattle.question_words.proofs.answer.Answer.put.Goals as goal
 
 pub returns-in-Err-clause-puts : goal.returns-in-Err-clause-puts
 returns-in-Err-clause-puts g c =
-    cut_longer _ _ [] c.args.self.now.head (in_lines (row_lines c.args.self.now.rows))
+    cut_longer _ _ [] c.args.self.now.head (row_text c.args.self.now.rows)
     (rw (c.requires, c.bytes.ensures.is) at c.in-Err.ensures.text.part)
 
 pub returns-in-Ok-put_rows-clause-puts : goal.returns-in-Ok-put_rows-clause-puts
