@@ -15,7 +15,7 @@ use Rattle.dover_top.specs.Requests.{Asks}
 use Rattle.dover_top.specs.Words.{IsFormed, factor_words, form_words, spelled}
 use Rattle.dover_top.specs.declared.request.Request.{Request}
 use Rattle.dover_top.specs.declared.request.Request.TheVariants.{Serve, Judge, Report, Trial, Bait, Ask, Lanes, Pause}
-use Rattle.dover_top.specs.declared.request.Request.TheVariants.{Resume, Unroll, Duel, Draw, Sure, Budget}
+use Rattle.dover_top.specs.declared.request.Request.TheVariants.{Resume, Unroll, Duel, Draw, Sure, Budget, Ratio}
 use Rattle.feed_words.specs.declared.serve.at_end.AtEnd.{AtEnd}
 use Rattle.feed_words.specs.declared.serve.at_end.AtEnd.TheVariants as ends
 use Rattle.question_words.specs.declared.question.Question.TheVariants.{Feasible, Best, Compare, Loss}
@@ -88,12 +88,13 @@ request_of words =
     if bytes_eq (word_at 0 words) (codes "pause") then Pause else (
     if bytes_eq (word_at 0 words) (codes "resume") then Resume (end_of (word_at 1 words)) else (
     if bytes_eq (word_at 0 words) (codes "sure") then Sure else (
+    if bytes_eq (word_at 0 words) (codes "ratio") then Ratio else (
     if bytes_eq (word_at 0 words) (codes "budget") then Budget (number_of (word_at 1 words)) else (
     if bytes_eq (word_at 0 words) (codes "duel")
     then Duel (ratio_at 1 words) (share_at 3 words) (front_of (drop 5 words)) else (
     if bytes_eq (word_at 0 words) (codes "draw")
     then Draw (number_of (word_at 1 words)) (number_of (word_at 2 words)) (ratio_at 3 words) else Unroll
-    (number_of (word_at 1 words)))))))))))))))))
+    (number_of (word_at 1 words))))))))))))))))))
 
 -- a number is read back
 number_same : (n : ℕ) → n < 10 ^ 18 → number_of (decimal n) ≡ n
@@ -193,6 +194,7 @@ is_read words Pause asks = ap request_of asks
 is_read words (Resume ends.Refuse) asks = ap request_of asks
 is_read words (Resume ends.Pause) asks = ap request_of asks
 is_read words Sure asks = ap request_of asks
+is_read words Ratio asks = ap request_of asks
 is_read words (Budget cost) asks = ap request_of asks.row
     ∙ ap (λ n. Budget n) (number_same cost (omega (arith, asks.known)))
 is_read words (Unroll until) asks = ap request_of asks.row

@@ -24,7 +24,7 @@ use Rattle.dover_top.specs.Carrying.{CarriesOut}
 use Rattle.dover_top.specs.Spending.{IsFrugal, IsFrugalAsAsked}
 use Rattle.dover_top.specs.declared.request.Request.{Request}
 use Rattle.dover_top.specs.declared.request.Request.TheVariants.{Serve, Judge, Report, Trial, Bait, Ask, Lanes, Pause}
-use Rattle.dover_top.specs.declared.request.Request.TheVariants.{Resume, Unroll, Duel, Draw, Sure, Budget}
+use Rattle.dover_top.specs.declared.request.Request.TheVariants.{Resume, Unroll, Duel, Draw, Sure, Budget, Ratio}
 use Rattle.dover_top.proofs.Asking.{asks_one}
 use Rattle.dover_top.proofs.Keeping.{served, traced, resumed_so, accepted, ran, generated, baited, dueled}
 use Rattle.dover_top.proofs.ToldSure.{told_sure}
@@ -52,6 +52,7 @@ no_usage (Resume at_end) moves s = elim s.ends [
 ]
 no_usage (Unroll until) moves s = s.ends
 no_usage Sure moves s = s.ends
+no_usage Ratio moves s = s.ends
 no_usage (Budget cost) moves s = s.ends
 no_usage (Duel k share front) moves (inl s) = s.1
 no_usage (Duel k share front) moves (inr s) = s.2
@@ -117,6 +118,7 @@ module _ (moves : List Move) where
   )
   keeps_of words (Unroll until) asks status s = tt
   keeps_of words Sure asks status s = λ done. told_sure (has_ended moves) moves (at Sure status s done).ends.answer
+  keeps_of words Ratio asks status s = tt
   keeps_of words (Budget cost) asks status s = λ done.
       budgeted_so cost (has_ended moves) moves (at (Budget cost) status s done).ends.answer
   keeps_of words (Duel k share front) asks status s = λ done.

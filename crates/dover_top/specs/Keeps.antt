@@ -12,7 +12,7 @@ use Rattle.dover_top.specs.SureTasks.{KeepsSure}
 use Rattle.dover_top.specs.BudgetTasks.{KeepsBudgets}
 use Rattle.dover_top.specs.declared.request.Request.{Request}
 use Rattle.dover_top.specs.declared.request.Request.TheVariants.{Serve, Judge, Report, Trial, Bait, Ask, Lanes, Pause}
-use Rattle.dover_top.specs.declared.request.Request.TheVariants.{Resume, Unroll, Duel, Draw, Sure, Budget}
+use Rattle.dover_top.specs.declared.request.Request.TheVariants.{Resume, Unroll, Duel, Draw, Sure, Budget, Ratio}
 
 -- What serves a feed promises of the feed so far at every status, and more where all is done; what else is promised
 -- stands by the status.
@@ -30,6 +30,7 @@ Keeps (Resume at_end) status moves =
     (EndsBefore status moves ⊎ IsResumedSoFar moves) × (status ≡ Done → IsResumed moves)
 Keeps (Unroll until) status moves = Unit {0}
 Keeps Sure status moves = status ≡ Done → KeepsSure moves
+Keeps Ratio status moves = Unit {0}
 Keeps (Budget cost) status moves = status ≡ Done → KeepsBudgets cost moves
 Keeps (Duel k share front) status moves = status ≡ Done → KeepsDuel k share front moves
 Keeps (Draw seed count k) status moves = Unit {0}

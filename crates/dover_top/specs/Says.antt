@@ -17,11 +17,12 @@ use Rattle.trial_words.specs.Dueled.{Duels}
 use Rattle.question_words.specs.Questions.{says}
 use Rattle.question_words.specs.Talk.{ask_talk}
 use Rattle.lanes_word.specs.Record.{Serves}
+use Rattle.ratio_word.specs.Talk.{ratio_talk}
 use Rattle.task_words.specs.asking.Talk.{tasks_talk}
 use Rattle.task_words.specs.declared.asking.question.TaskQuestion.TheVariants as tasks
 use Rattle.dover_top.specs.declared.request.Request.{Request}
 use Rattle.dover_top.specs.declared.request.Request.TheVariants.{Serve, Judge, Report, Trial, Bait, Ask, Lanes, Pause}
-use Rattle.dover_top.specs.declared.request.Request.TheVariants.{Resume, Unroll, Duel, Draw, Sure, Budget}
+use Rattle.dover_top.specs.declared.request.Request.TheVariants.{Resume, Unroll, Duel, Draw, Sure, Budget, Ratio}
 
 -- What was got and put before each read, and in all. What reads says a talk; trial, bait, duel and draw read nothing
 -- and write a text; and resume says of each feed with its snapshot what serving the feed on does.
@@ -37,6 +38,7 @@ Says Pause = Talks (feed_talk ends.Pause)
 Says (Resume at_end) = Resumes at_end
 Says (Unroll until) = Talks (tasks_talk (tasks.Unroll until))
 Says Sure = Talks (tasks_talk tasks.Sure)
+Says Ratio = Talks ratio_talk
 Says (Budget cost) = Talks (tasks_talk (tasks.Budget cost))
 Says (Duel k share front) = Duels k share front
 Says (Draw seed count k) = Draws k seed count

@@ -10,7 +10,7 @@ use Rattle.task_words.specs.asking.Spending as asked
 use Rattle.task_words.specs.declared.asking.question.TaskQuestion.TheVariants as tasks
 use Rattle.dover_top.specs.declared.request.Request.{Request}
 use Rattle.dover_top.specs.declared.request.Request.TheVariants.{Serve, Judge, Report, Trial, Bait, Ask, Lanes, Pause}
-use Rattle.dover_top.specs.declared.request.Request.TheVariants.{Resume, Unroll, Duel, Draw, Sure, Budget}
+use Rattle.dover_top.specs.declared.request.Request.TheVariants.{Resume, Unroll, Duel, Draw, Sure, Budget, Ratio}
 
 -- how few comparisons it made, with so many before and now, for the jobs of what was read, at whatever status
 abbrev pub IsFrugal : Request → (before now : ℕ) → List Move → Type 0
@@ -23,6 +23,7 @@ IsFrugal (Ask question) before now = served.IsFrugal before now
 IsFrugal Lanes before now = hosted.IsFrugal before now
 IsFrugal (Unroll until) before now = asked.IsFrugal (tasks.Unroll until) before now
 IsFrugal Sure before now = asked.IsFrugal tasks.Sure before now
+IsFrugal Ratio before now = λ moves. now ≡ before
 IsFrugal (Budget cost) before now = asked.IsFrugal (tasks.Budget cost) before now
 IsFrugal _ before now = λ moves. Unit {0}
 

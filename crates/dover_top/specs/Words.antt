@@ -143,6 +143,10 @@ pub record AsksUnroll (words : List (String Global)) (until : ℕ) : Type 0 wher
 abbrev pub AsksSure : List (String Global) → Type 0
 AsksSure words = spelled words ≡ codes "sure" ∷ []
 
+-- the one word that asks for the least ratio that jobs or tasks keep
+abbrev pub AsksRatio : List (String Global) → Type 0
+AsksRatio words = spelled words ≡ codes "ratio" ∷ []
+
 -- the words that ask for tasks with budgets that pay for changes of hands of at most so many ticks
 pub record AsksBudget (words : List (String Global)) (cost : ℕ) : Type 0 where
   pub row : spelled words ≡ codes "budget" ∷ decimal cost ∷ []

@@ -12,6 +12,7 @@ use feed_words::resume::resume_word;
 use feed_words::serve::{pause_word, serve_word};
 use lanes_word::lanes_word;
 use question_words::question_word;
+use ratio_word::ratio_word;
 use std::alloc::Global;
 use std::sync::ledger::Ledger;
 use task_words::asking::{TaskQuestion, tasks_word};
@@ -49,6 +50,7 @@ pub(crate) fn carry_out<P: Port, L: Ledger>(
             comparisons,
         ),
         Request::Sure => tasks_word(alloc, port, TaskQuestion::Sure, comparisons),
+        Request::Ratio => ratio_word(port, comparisons),
         Request::Budget { cost } => tasks_word(
             alloc,
             port,

@@ -57,6 +57,8 @@ pub enum Request {
     },
     /// Of each task, whether a job of it can be lost.
     Sure,
+    /// The least ratio that the jobs of a feed, or tasks, keep is told.
+    Ratio,
     /// Tasks are written again, with budgets that pay for changes of hands of at most so many ticks.
     Budget {
         cost: u64,
@@ -214,6 +216,7 @@ fn one_word(word: &String) -> Option<Request>
         "pause" => Some(Request::Pause),
         "resume" => Some(Request::Resume(AtEnd::Refuse)),
         "sure" => Some(Request::Sure),
+        "ratio" => Some(Request::Ratio),
         _ => None,
     }
 }

@@ -55,15 +55,17 @@ use std::sync::ledger::Ledger;
 ///   come, and if so which value would rule it out.
 /// - `budget C` reads periodic tasks, and writes them again with each work made a budget that pays for changes of hands
 ///   of at most C ticks.
+/// - `ratio` reads a feed or periodic tasks, whatever ratio they declare, and writes the least one within the limits
+///   that all jobs keep, the two jobs that set it, and the bound by it.
 ///
 /// The statuses: `Done` where the feed ended without a fault and its whole trace was written, where the text was
 /// accepted, the run was told, or the question answered, where the feed that was asked for was written, for lanes where
 /// each that has a line ended without a fault before `close`, and for `pause` and `resume pause` also where the
-/// snapshot was written; `No` where the text is wrong or short, or not all deadlines can be met; `Refused` at the
-/// feed's first faulty line, where the input ends before the `end` line, where the jobs don't fit the limits of the
-/// word, where a budget doesn't fit its deadline or two break the ratio, or where the share of a duel is no more than
-/// the rules save, or its front is too long, and for lanes where one that has a line is faulty or not ended at `close`,
-/// at a fault of the whole input, or where it ends before `close`;
+/// snapshot was written; `No` where the text is wrong or short, not all deadlines can be met, or no ratio within the
+/// limits is kept by all jobs; `Refused` at the feed's first faulty line, where the input ends before the `end` line,
+/// where the jobs don't fit the limits of the word, where a budget doesn't fit its deadline or two break the ratio, or
+/// where the share of a duel is no more than the rules save, or its front is too long, and for lanes where one that has
+/// a line is faulty or not ended at `close`, at a fault of the whole input, or where it ends before `close`;
 /// `ReadFault` and `WriteFault` where a call of the port failed, which is then the last; `Memory` where there was none,
 /// which with `serve` can't come before the ratio line; `Usage` exactly where the words are no row.
 pub fn dover<P: Port, L: Ledger>(
@@ -86,7 +88,7 @@ pub fn dover<P: Port, L: Ledger>(
     // and report for the whole lines that name a job; resume and resume pause for the jobs of the snapshot and those
     // admitted behind it together, and before its last line for those of its lines so far. lanes makes as many for each
     // lane as serving its feed alone may. unroll makes at most d * (t + 4 * n) for t tasks that release n jobs, where
-    // t + 1 has at most d binary digits. sure and budget make none.
+    // t + 1 has at most d binary digits. sure, budget and ratio make none.
     ensures comparisons { (request : Request) → Asks words.now request →
         Since (P.moves port.old) (P.moves port.new) (IsFrugal request comparisons.old comparisons.new) }
     // trial at Done, where the words alone tell how many jobs there are; bait, duel and draw make none.

@@ -58,3 +58,7 @@ returns-in-Draw-clause-carries g c = let w = c.draw_word.ensures in
 pub returns-in-Duel-clause-carries : goal.returns-in-Duel-clause-carries
 returns-in-Duel-clause-carries g c = let w = c.duel_word.ensures in
     carried _ _ _ _ _ _ _ c.in-Duel.is w.duels w.ends (since_weaker _ _ _ _ w.duels (λ _ _. tt)) refl
+
+pub returns-in-Ratio-clause-carries : goal.returns-in-Ratio-clause-carries
+returns-in-Ratio-clause-carries g c = let w = c.ratio_word.ensures in
+    carried _ _ _ _ _ _ _ c.in-Ratio.is w.talks w.ends w.count tt

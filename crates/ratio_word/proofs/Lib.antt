@@ -1,0 +1,11 @@
+pub mod Accounts
+pub mod Declaring
+pub mod Ended
+pub mod Offering
+pub mod Puts
+pub mod Said
+pub mod Seeking
+pub mod Spread
+pub mod Taking
+pub mod Talking
+pub mod Widened

@@ -1,0 +1,41 @@
+use Rattle.std.proofs.Common.{◌++◌, ◌∷◌, [], codes, ap, refl}
+use Rattle.dover_model.specs.Common.{Declaration as Rules, in_lines, rules_with}
+use Rattle.dover_port.specs.declared.status.Status.TheVariants.{Done, No}
+use Rattle.event_feed.specs.Feeds.{rules_text}
+use Rattle.ratio_word.specs.Says.{bound_line, extreme_lines}
+use Rattle.ratio_word.proofs.Said.{says_done, says_no}
+use Rattle.ratio_word.proofs.answering.answer.Goals as goal
+
+pub returns-in-Ok-clause-says : goal.returns-in-Ok-clause-says
+returns-in-Ok-clause-says g c = λ rules jobs keeps. (
+  in_lines (rules_text (rules_with c.in-Some.k c.args.declared.now.version)
+      ∷ extreme_lines c.args.declared.now.extremes ++ bound_line c.in-Some.k ∷ []),
+  says_done rules jobs c.args.declared.now.extremes keeps.extremes c.in-Some.k c.args.declared.now.version
+      (ap (λ (r : Rules). r.version) keeps.rules_are) (c.in-Some.ensures.found rules jobs keeps),
+  rw c.requires.empty at c.in-Ok.ensures.text.all,
+)
+
+pub returns-in-Err-clause-says : goal.returns-in-Err-clause-says
+returns-in-Err-clause-says g c = λ rules jobs keeps. (
+  Done,
+  in_lines (rules_text (rules_with c.in-Some.k c.args.declared.now.version)
+      ∷ extreme_lines c.args.declared.now.extremes ++ bound_line c.in-Some.k ∷ []),
+  says_done rules jobs c.args.declared.now.extremes keeps.extremes c.in-Some.k c.args.declared.now.version
+      (ap (λ (r : Rules). r.version) keeps.rules_are) (c.in-Some.ensures.found rules jobs keeps),
+  rw c.requires.empty at c.in-Err.ensures.text.part,
+)
+
+pub returns-in-Ok-put_none-clause-says : goal.returns-in-Ok-put_none-clause-says
+returns-in-Ok-put_none-clause-says g c = λ rules jobs keeps. (
+  in_lines (codes "none" ∷ extreme_lines c.args.declared.now.extremes),
+  says_no rules jobs c.args.declared.now.extremes keeps.extremes (c.in-None.ensures.none rules jobs keeps refl),
+  rw c.requires.empty at c.in-Ok-put_none.ensures.text.all,
+)
+
+pub returns-in-Err-put_none-clause-says : goal.returns-in-Err-put_none-clause-says
+returns-in-Err-put_none-clause-says g c = λ rules jobs keeps. (
+  No,
+  in_lines (codes "none" ∷ extreme_lines c.args.declared.now.extremes),
+  says_no rules jobs c.args.declared.now.extremes keeps.extremes (c.in-None.ensures.none rules jobs keeps refl),
+  rw c.requires.empty at c.in-Err-put_none.ensures.text.part,
+)

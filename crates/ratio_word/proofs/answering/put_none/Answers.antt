@@ -1,0 +1,26 @@
+use Rattle.std.proofs.lemmas.Result.{on_ok_weaker, on_err_weaker}
+use Rattle.dialogue.proofs.Putting.{puts_behind, puts_cut}
+use Rattle.ratio_word.proofs.answering.put_none.Goals as goal
+
+pub returns-in-Err-clause-text : goal.returns-in-Err-clause-text
+returns-in-Err-clause-text g c = puts_cut _ _ _ _ _ _ _ c.in-Err.ensures.text.part
+
+pub returns-clause-text : goal.returns-clause-text
+returns-clause-text g c = puts_behind _ _ _ _ _ _ _ _ _ c.in-Ok.ensures.text.all c.put_extremes.ensures.text
+
+pub returns-in-Err-clause-cause : goal.returns-in-Err-clause-cause
+returns-in-Err-clause-cause g c = c.in-Err.ensures.cause
+
+pub returns-in-Err-clause-stops : goal.returns-in-Err-clause-stops
+returns-in-Err-clause-stops g c = c.in-Err.ensures.stops
+
+pub returns-clause-cause : goal.returns-clause-cause
+returns-clause-cause g c = rw (c.in-Ok.ensures.cause.ok, c.in-Ok.ensures.cause.other) at c.put_extremes.ensures.cause
+
+pub returns-clause-stops : goal.returns-clause-stops
+returns-clause-stops g c = record {
+  well = on_ok_weaker c.put_extremes.result (λ last well. last (c.in-Ok.ensures.stops.well well))
+      c.put_extremes.ensures.stops.well;
+  stopped = on_err_weaker c.put_extremes.result (λ last well. last (c.in-Ok.ensures.stops.well well))
+      c.put_extremes.ensures.stops.stopped;
+}

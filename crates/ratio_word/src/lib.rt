@@ -1,0 +1,16 @@
+//! The word `ratio`: the least ratio that the jobs of a feed keep, or the tasks of a text.
+#![tactic(auto)]
+
+mod answering;
+mod extremes;
+mod finding;
+mod intake;
+mod least;
+mod line_reading;
+mod lines;
+mod talker;
+mod text;
+mod word;
+
+pub use lines::TextLine;
+pub use word::ratio_word;
