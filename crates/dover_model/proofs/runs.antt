@@ -13,3 +13,4 @@ pub mod WaitingMoves
 pub mod Spending
 pub mod Once
 pub mod Honest
+pub mod PrintedCounts
