@@ -15,3 +15,4 @@ pub mod Once
 pub mod Honest
 pub mod Calm
 pub mod OneDensity
+pub mod PrintedCounts

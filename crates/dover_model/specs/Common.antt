@@ -110,7 +110,7 @@ pub use Rattle.dover_model.specs.Verdict.{text_lines, Verdict, verdict, version_
 pub use Rattle.dover_model.specs.Intervals.{intervals, value_of}
 pub use Rattle.dover_model.specs.Books.{completed_in, in_rows, is_busy_tick, IsDense, IsExcess, IsExcessBy}
 pub use Rattle.dover_model.specs.Books.{IsLeastDense, IsPaid, IsPaidBy, IsRow, Job, job_value, Row, row_sum, TakenIn}
-pub use Rattle.dover_model.specs.Reports.{is_take, report, summary, summary_lines, table}
+pub use Rattle.dover_model.specs.Reports.{is_preemption, is_take, report, summary, summary_lines, table}
 pub use Rattle.dover_model.specs.Pieces.{edf, edf_from, given, last_release, spread, stretches}
 pub use Rattle.dover_model.specs.Windows.{is_inside, IsOverfull, work_inside}
 pub use Rattle.dover_model.specs.Generator.{generated_jobs, generated_jobs_from, high_bits, job_of_draws, most_density}

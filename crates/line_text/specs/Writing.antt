@@ -3,7 +3,7 @@ use Rattle.std.specs.Prelude.{ℕ, List, [], ◌∷◌, ◌++◌, decimal}
 
 -- how many bytes a buffer has
 abbrev pub most_written : ℕ
-most_written = 129
+most_written = 170
 
 -- numbers, each behind a space
 abbrev pub numbers_behind : List ℕ → List ℕ

@@ -2,15 +2,17 @@
 ghost use Rattle.std.specs.Prelude.{◌≡◌, ◌≤◌, ◌+◌, ◌++◌, drop, length};
 ghost use Rattle.line_text.specs.Writing.{numbers_behind};
 
-use crate::LINE_BYTES;
 use crate::spelled::{SPELLED_BYTES, Spelled};
 use itoa::{Buffer, write_digits};
 use std::marker::Model;
 
+// The bytes of the longest line that is written, which is a row of a table.
+const WRITTEN_BYTES: usize = 170;
+
 /// The bytes of one line with its line feed. What is written goes before what it has, so the last field comes first.
 #[derive(Drop)]
 pub struct BackLine {
-    bytes: [u8; LINE_BYTES],
+    bytes: [u8; WRITTEN_BYTES],
     start: usize,
 }
 
@@ -39,7 +41,7 @@ impl Model for BackLine {
 
     ghost view = { λ b. drop b.start b.bytes };
 
-    ghost invariant = { λ b. b.start ≤ 129 };
+    ghost invariant = { λ b. b.start ≤ 170 };
 }
 
 impl BackLine {
@@ -53,8 +55,8 @@ impl BackLine {
     pub fn new() -> BackLine
         ensures { result ≡ 10 ∷ [] }
     {
-        let start = LINE_BYTES - 1;
-        let mut bytes = [0; LINE_BYTES];
+        let start = WRITTEN_BYTES - 1;
+        let mut bytes = [0; WRITTEN_BYTES];
         bytes[start] = b'\n';
         BackLine { bytes, start }
     }
@@ -64,8 +66,8 @@ impl BackLine {
         ensures { result ≡ [] }
     {
         BackLine {
-            bytes: [0; LINE_BYTES],
-            start: LINE_BYTES,
+            bytes: [0; WRITTEN_BYTES],
+            start: WRITTEN_BYTES,
         }
     }
 
@@ -74,7 +76,7 @@ impl BackLine {
     pub fn clear(&mut self)
         ensures { self.new ≡ 10 ∷ [] }
     {
-        self.start = LINE_BYTES - 1;
+        self.start = WRITTEN_BYTES - 1;
         self.bytes[self.start] = b'\n';
     }
 
@@ -157,7 +159,7 @@ impl BackLine {
     #[inline(always)]
     pub fn bytes(&self) -> &[u8]
         ensures is { result.now ≡ self.now }
-        ensures fits { length result.now ≤ 129 }
+        ensures fits { length result.now ≤ 170 }
     {
         &self.bytes[self.start..]
     }

@@ -3,3 +3,4 @@ pub mod Early
 pub mod Findings
 pub mod Lines
 pub mod Rows
+pub mod Starting

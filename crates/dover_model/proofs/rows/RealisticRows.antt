@@ -31,21 +31,24 @@ unfolding digits
 minute_trace = refl
 
 minute_report : report minute ≡ bytes
-    (codes "ratio 100 1/jobs 24/completed 21 8555/abandoned 3 220/taken 1/bound 1035155/interval 1 0 80 1110 0 0 0/"
-    ++ codes "interval 2 100 180 1110 0 0 40/interval 3 200 230 0 2000 80 80/interval 4 230 235 25 0 0 0/"
-    ++ codes "interval 5 300 370 110 0 0 0/interval 6 370 410 1030 0 0 0/interval 7 410 485 1085 0 0 100/"
-    ++ codes "interval 8 500 585 2085 0 0 0/")
+    (codes "ratio 100 1/jobs 24/completed 21 8555/abandoned 3 220/taken 1/changes 34 12 1/bound 1035155/"
+    ++ codes "interval 1 0 80 1110 0 0 0/interval 2 100 180 1110 0 0 40/interval 3 200 230 0 2000 80 80/"
+    ++ codes "interval 4 230 235 25 0 0 0/interval 5 300 370 110 0 0 0/interval 6 370 410 1030 0 0 0/"
+    ++ codes "interval 7 410 485 1085 0 0 100/interval 8 500 585 2085 0 0 0/")
 unfolding digits
 minute_report = refl
 
 minute_table : table minute ≡ bytes
-    (codes "job,release,work,deadline,value,fate,tick/0,0,60,90,60,complete,80/1,10,5,30,25,complete,15/"
-    ++ codes "2,50,5,70,25,complete,55/3,65,10,75,1000,complete,75/4,100,60,190,60,complete,180/5,110,5,130,25,complete,115/"
-    ++ codes "6,120,40,170,40,abandon,130/7,125,5,145,25,complete,130/8,150,10,160,1000,complete,160/9,200,80,290,80,abandon,220/"
-    ++ codes "10,210,20,230,2000,complete,230/11,215,5,235,25,complete,235/12,300,60,390,60,complete,370/"
-    ++ codes "13,300,5,320,25,complete,305/14,300,5,320,25,complete,310/15,360,30,420,30,complete,410/"
-    ++ codes "16,380,10,390,1000,complete,390/17,400,60,490,60,complete,485/18,420,5,440,25,complete,425/"
-    ++ codes "19,430,20,470,100,abandon,450/20,440,10,450,1000,complete,450/21,500,60,590,60,complete,585/"
-    ++ codes "22,530,5,550,25,complete,535/23,560,20,580,2000,complete,580/")
+    (codes "job,release,work,deadline,value,fate,tick,start,runs/0,0,60,90,60,complete,80,0,4/"
+    ++ codes "1,10,5,30,25,complete,15,10,1/2,50,5,70,25,complete,55,50,1/3,65,10,75,1000,complete,75,65,1/"
+    ++ codes "4,100,60,190,60,complete,180,100,4/5,110,5,130,25,complete,115,110,1/6,120,40,170,40,abandon,130,,0/"
+    ++ codes "7,125,5,145,25,complete,130,125,1/8,150,10,160,1000,complete,160,150,1/9,200,80,290,80,abandon,220,200,1/"
+    ++ codes "10,210,20,230,2000,complete,230,210,1/11,215,5,235,25,complete,235,230,1/"
+    ++ codes "12,300,60,390,60,complete,370,300,2/13,300,5,320,25,complete,305,300,1/"
+    ++ codes "14,300,5,320,25,complete,310,305,1/"
+    ++ codes "15,360,30,420,30,complete,410,370,2/16,380,10,390,1000,complete,390,380,1/"
+    ++ codes "17,400,60,490,60,complete,485,410,3/18,420,5,440,25,complete,425,420,1/19,430,20,470,100,abandon,450,,0/"
+    ++ codes "20,440,10,450,1000,complete,450,440,1/21,500,60,590,60,complete,585,500,3/"
+    ++ codes "22,530,5,550,25,complete,535,530,1/23,560,20,580,2000,complete,580,560,1/")
 unfolding digits
 minute_table = refl

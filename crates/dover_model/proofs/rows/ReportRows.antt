@@ -1,5 +1,5 @@
 -- Reports and intervals, by computation.
-use Rattle.std.proofs.Common.{◌≡◌, [], ◌∷◌, true, false, refl, codes}
+use Rattle.std.proofs.Common.{◌≡◌, ◌++◌, [], ◌∷◌, true, false, refl, codes}
 use Rattle.std.specs.Fmt.{digits}
 use Rattle.dover_model.specs.Common.{fraction, Instance, ran, completed_value, worth, generated_jobs, intervals, report}
 use Rattle.dover_model.specs.Common.{table, summary}
@@ -10,12 +10,14 @@ abbrev take_over : Instance
 take_over = one 1 1 (job 0 3 30 3 ∷ job 0 2 4 2 ∷ job 0 12 12 12 ∷ [])
 
 take_report : report take_over ≡ bytes
-    (codes "ratio 1 1/jobs 3/completed 2 15/abandoned 1 2/taken 1/bound 60/interval 1 0 12 0 12 5 2/interval 2 12 15 3 0 0 0/")
+    (codes "ratio 1 1/jobs 3/completed 2 15/abandoned 1 2/taken 1/changes 4 1 1/bound 60/interval 1 0 12 0 12 5 2/"
+    ++ codes "interval 2 12 15 3 0 0 0/")
 unfolding digits
 take_report = refl
 
 take_table : table take_over ≡ bytes
-    (codes "job,release,work,deadline,value,fate,tick/0,0,3,30,3,complete,15/1,0,2,4,2,abandon,2/2,0,12,12,12,complete,12/")
+    (codes "job,release,work,deadline,value,fate,tick,start,runs/0,0,3,30,3,complete,15,0,2/1,0,2,4,2,abandon,2,0,1/"
+    ++ codes "2,0,12,12,12,complete,12,0,1/")
 unfolding digits
 take_table = refl
 

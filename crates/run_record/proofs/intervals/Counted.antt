@@ -3,7 +3,7 @@ use Rattle.std.proofs.Common.{◌≡◌, ℕ, ◌+◌, ◌*◌, ◌^◌, ◌≤�
 use Rattle.std.proofs.Common.{length-take, sum_by}
 use Rattle.std.proofs.lemmas.List.Sums.{sum_by_more, count_by-le-length}
 use Rattle.dover_model.specs.declared.events.Event.{Event}
-use Rattle.dover_model.specs.Reports.{is_take}
+use Rattle.dover_model.specs.Common.{is_take, is_preemption, changes_hands, Prints}
 use Rattle.run_record.specs.intervals.Totals.{is_release, is_completion, is_abandonment, value_released, totals_of}
 use Rattle.run_record.specs.intervals.Totals.{with_step, HasSpace}
 use Rattle.run_record.specs.declared.intervals.totals.JobTotals.{JobTotals}
@@ -18,13 +18,22 @@ totals_more : (run : List Event) (i : ℕ) (e : Event) → e ≡ get_or run i e 
     → with_step (totals_of (take i run)) e ≡ totals_of (take (i + 1) run)
 totals_more run i e is there = same_totals (more (λ x. cond (is_release x) 1 0)) (more value_released)
     (more (λ x. cond (is_completion x) 1 0)) (more (λ x. cond (is_abandonment x) 1 0))
-    (more (λ x. cond (is_take x) 1 0)) where
-      whole : (a b c d f : ℕ) → JobTotals
-      whole a b c d f = record { jobs = a; worth = b; completed = c; abandoned = d; taken = f }
+    (more (λ x. cond (is_take x) 1 0)) (more (λ x. cond (changes_hands (Prints x)) 1 0))
+    (more (λ x. cond (is_preemption x) 1 0)) where
+      whole : (a b c d f g h : ℕ) → JobTotals
+      whole a b c d f g h = record {
+        jobs = a;
+        worth = b;
+        completed = c;
+        abandoned = d;
+        taken = f;
+        changes = g;
+        preempted = h;
+      }
 
-      same_totals : {a b c d f a2 b2 c2 d2 f2 : ℕ} → a ≡ a2 → b ≡ b2 → c ≡ c2 → d ≡ d2 → f ≡ f2
-          → whole a b c d f ≡ whole a2 b2 c2 d2 f2
-      same_totals e1 e2 e3 e4 e5 = cc
+      same_totals : {a b c d f g h a2 b2 c2 d2 f2 g2 h2 : ℕ} → a ≡ a2 → b ≡ b2 → c ≡ c2 → d ≡ d2 → f ≡ f2 → g ≡ g2
+          → h ≡ h2 → whole a b c d f g h ≡ whole a2 b2 c2 d2 f2 g2 h2
+      same_totals e1 e2 e3 e4 e5 e6 e7 = cc
 
       more : (f : Event → ℕ) → sum_by f (take i run) + f e ≡ sum_by f (take (i + 1) run)
       more f = sum_more f run i e is there
@@ -53,6 +62,18 @@ totals_fit run i t are there few = record {
     count_by-le-length is_abandonment (take i run),
   );
   taken = omega (arith, ap (λ (g : JobTotals). g.taken) are.is, front, count_by-le-length is_take (take i run));
+  changes = omega (
+    arith,
+    ap (λ (g : JobTotals). g.changes) are.is,
+    front,
+    count_by-le-length (λ e. changes_hands (Prints e)) (take i run),
+  );
+  preempted = omega (
+    arith,
+    ap (λ (g : JobTotals). g.preempted) are.is,
+    front,
+    count_by-le-length is_preemption (take i run),
+  );
 } where
   front : length (take i run) + 1 < 2 ^ 64
   front = omega (arith, length-take i run, there, few)

@@ -2,7 +2,7 @@
 use Rattle.std.specs.Prelude.{ℕ, ◌+◌, ◌<◌, ◌^◌, List, Bool, true, false, if◌then◌else◌, count_by, sum_by}
 use Rattle.dover_model.specs.declared.events.Event.{Event}
 use Rattle.dover_model.specs.declared.events.Event.TheVariants.{Release, Complete, Abandon}
-use Rattle.dover_model.specs.Common.{most_value, is_take}
+use Rattle.dover_model.specs.Common.{most_value, is_take, is_preemption, changes_hands, Prints}
 use Rattle.run_record.specs.declared.intervals.totals.JobTotals.{JobTotals}
 
 -- a job is released
@@ -33,6 +33,8 @@ totals_of run = record {
   completed = count_by is_completion run;
   abandoned = count_by is_abandonment run;
   taken = count_by is_take run;
+  changes = count_by (λ e. changes_hands (Prints e)) run;
+  preempted = count_by is_preemption run;
 }
 
 -- with one step more
@@ -43,6 +45,8 @@ with_step t e = record {
   completed = t.completed + (if is_completion e then 1 else 0);
   abandoned = t.abandoned + (if is_abandonment e then 1 else 0);
   taken = t.taken + (if is_take e then 1 else 0);
+  changes = t.changes + (if changes_hands (Prints e) then 1 else 0);
+  preempted = t.preempted + (if is_preemption e then 1 else 0);
 }
 
 -- there is room for one step more
@@ -52,3 +56,5 @@ pub record HasSpace (t : JobTotals) : Type 0 where
   pub completed : t.completed + 1 < 2 ^ 64
   pub abandoned : t.abandoned + 1 < 2 ^ 64
   pub taken : t.taken + 1 < 2 ^ 64
+  pub changes : t.changes + 1 < 2 ^ 64
+  pub preempted : t.preempted + 1 < 2 ^ 64

@@ -5,8 +5,8 @@ ghost use Rattle.run_record.specs.intervals.Totals.{totals_of, with_step, HasSpa
 
 use dover_model::{Event, PackedEvent};
 
-/// How many jobs steps release and what those are worth, how many are done and are gone, and how many took the
-/// processor.
+/// How many jobs steps release and what those are worth, how many are done and are gone, how often the processor
+/// changes hands, and how many jobs took it or preempted another.
 #[derive(Clone, Copy)]
 pub struct JobTotals {
     /// How many are released.
@@ -19,6 +19,10 @@ pub struct JobTotals {
     pub abandoned: u64,
     /// How many took the processor.
     pub taken: u64,
+    /// How often a job gets the processor.
+    pub changes: u64,
+    /// How often one of these preempts another.
+    pub preempted: u64,
 }
 
 impl JobTotals {
@@ -32,6 +36,8 @@ impl JobTotals {
             completed: 0,
             abandoned: 0,
             taken: 0,
+            changes: 0,
+            preempted: 0,
         }
     }
 
@@ -60,8 +66,16 @@ impl JobTotals {
             }
             Event::Complete { .. } => self.completed += 1,
             Event::Abandon { .. } => self.abandoned += 1,
-            Event::Take { .. } => self.taken += 1,
-            _ => {}
+            Event::Run { .. } => self.changes += 1,
+            Event::Preempt { .. } => {
+                self.changes += 1;
+                self.preempted += 1;
+            }
+            Event::Take { .. } => {
+                self.changes += 1;
+                self.taken += 1;
+            }
+            Event::End { .. } => {}
         }
     }
 }

@@ -1,8 +1,9 @@
 -- Counts among the printed steps of a run are those of its report.
 use Rattle.std.proofs.Common.{◌≡◌, ℕ, ◌+◌, ◌*◌, ◌≤◌, ◌<◌, List, [], ◌∷◌, ◌++◌, length, map, take, get_or, refl, sym, ap}
 use Rattle.std.proofs.Common.{◌∙◌, cond, arith, length-take, length-take-le, Option, Some, None, option_to_list, codes}
-use Rattle.std.proofs.Common.{Bool, true, false, nat_lt, filter_map, sum_by, count_by}
+use Rattle.std.proofs.Common.{Bool, true, false, nat_lt, filter_map, sum_by, count_by, decimal}
 use Rattle.std.specs.Bool.{then_some}
+use Rattle.std.specs.Option.{option_map_or}
 use Rattle.std.specs.List.{cons_option, enumerate_from}
 use Rattle.std.proofs.lemmas.List.{take_more}
 use Rattle.std.proofs.lemmas.List.Sums.{sum_by-cons, count_by-le-length}
@@ -13,7 +14,8 @@ use Rattle.dover_model.specs.declared.events.Event.TheVariants.{Release, Complet
 use Rattle.dover_model.specs.Common.{Fraction, JobFacts, Instance, IsValid, Item, FinishItem, admitted_jobs}
 use Rattle.dover_model.specs.Common.{may_finish_early, finish_now, running, left, Move, Prints, handed_by}
 use Rattle.dover_model.specs.Common.{early_of as shown_early, Step, run, event_of, printed_of, printed, completed_value}
-use Rattle.dover_model.specs.Common.{bound, with_numbers, in_lines, is_take, summary_lines, report}
+use Rattle.dover_model.specs.Common.{bound, with_numbers, in_lines, is_take, is_preemption, summary_lines, report}
+use Rattle.dover_model.specs.Common.{changes_hands, gets}
 use Rattle.dover_model.specs.Common.{served as model_served}
 use Rattle.dover_model.specs.declared.events.Task.{Task}
 use Rattle.dover_model.specs.Intervals as model
@@ -23,6 +25,7 @@ use Rattle.dover_model.specs.Reports as reports
 use Rattle.dover_model.proofs.runs.Ending.{few_printed}
 use Rattle.dover_model.proofs.bound.BoundLaws.{intervals_abandon}
 use Rattle.dover_model.proofs.runs.ReleaseCounts.{releases}
+use Rattle.dover_model.proofs.runs.PrintedCounts.{count_printed}
 use Rattle.dover_model.proofs.sessions.RunSessions.{run_jobs}
 use Rattle.run_record.specs.intervals.Rows.{IsRunOf, numbers_of, rows_of}
 use Rattle.run_record.specs.intervals.Totals.{is_release, is_completion, is_abandonment, totals_of}
@@ -30,11 +33,12 @@ use Rattle.run_record.specs.declared.intervals.interval.Interval.{Interval}
 use Rattle.run_record.specs.declared.intervals.totals.JobTotals.{JobTotals}
 use Rattle.run_record.proofs.intervals.Counted.{sum_more}
 use Rattle.run_reports.specs.report.Counts.{job_released, jobs_released, value_in, value_lost, all_lost, counts_of}
-use Rattle.run_reports.specs.report.Counts.{fates_lines, bound_line, counts_lines}
+use Rattle.run_reports.specs.report.Counts.{fates_lines, changes_line, bound_line, counts_lines}
 use Rattle.run_reports.specs.report.Early.{left_in, left_at, early_of, with_left, HasRoom, early_line, lines_where}
 use Rattle.run_reports.specs.report.Early.{early_lines}
 use Rattle.run_reports.specs.declared.report.early.Early.{Early}
-use Rattle.run_reports.proofs.report.Texts.{five_parts}
+use Rattle.run_reports.specs.report.Starting.{starts_in, starts_fields}
+use Rattle.run_reports.proofs.report.Texts.{five_parts, behind_lines}
 use Rattle.run_reports.specs.declared.report.counts.Counts.{Counts}
 use Rattle.run_reports.specs.report.Lines.{ratio_line, row_line, row_lines}
 
@@ -139,25 +143,40 @@ pub counts_are : (k : Fraction) (run : List Event) (totals : JobTotals) (jobs : 
       abandoned = totals.abandoned;
       lost = lost;
       taken = totals.taken;
+      changes = totals.changes;
+      preempted = totals.preempted;
       bound = most;
     } ≡ counts_of k run jobs value
 counts_are k run totals jobs count value lost most is counted all bounds =
     same_counts counted (ap (λ (t : JobTotals). t.completed) is) (ap (λ (t : JobTotals). t.abandoned) is) all
-    (ap (λ (t : JobTotals). t.taken) is) bounds where
-      whole : (a b c d f g : ℕ) → Counts
-      whole a b c d f g = record {
+    (ap (λ (t : JobTotals). t.taken) is) (ap (λ (t : JobTotals). t.changes) is)
+    (ap (λ (t : JobTotals). t.preempted) is) bounds where
+      whole : (a b c d f h i g : ℕ) → Counts
+      whole a b c d f h i g = record {
         jobs = a;
         completed = b;
         value = value;
         abandoned = c;
         lost = d;
         taken = f;
+        changes = h;
+        preempted = i;
         bound = g;
       }
 
-      same_counts : {a b c d f g a2 b2 c2 d2 f2 g2 : ℕ} → a ≡ a2 → b ≡ b2 → c ≡ c2 → d ≡ d2 → f ≡ f2 → g ≡ g2
-          → whole a b c d f g ≡ whole a2 b2 c2 d2 f2 g2
-      same_counts e1 e2 e3 e4 e5 e6 = cc
+      same_counts : {a b c d f h i g a2 b2 c2 d2 f2 h2 i2 g2 : ℕ} → a ≡ a2 → b ≡ b2 → c ≡ c2 → d ≡ d2 → f ≡ f2
+          → h ≡ h2 → i ≡ i2 → g ≡ g2 → whole a b c d f h i g ≡ whole a2 b2 c2 d2 f2 h2 i2 g2
+      same_counts e1 e2 e3 e4 e5 e6 e7 e8 = cc
+
+-- the processor changes hands in these printed steps as often as in the run
+all_changes : (J : Instance)
+    → count_by (λ e. changes_hands (Prints e)) (printed J) ≡ count_by (λ x. changes_hands x.move) (run J)
+all_changes J = sym (count_printed changes_hands (λ n. refl) refl (run J))
+
+-- and a job gets it in them as often
+all_runs : (J : Instance) (n : ℕ)
+    → count_by (λ e. gets n (Prints e)) (printed J) ≡ count_by (λ x. gets n x.move) (run J)
+all_runs J n = sym (count_printed (gets n) (λ m. refl) refl (run J))
 
 -- the steps of which each releases a job are as many as the jobs
 pub releases_count : (run : List Event) → count_by is_release run ≡ length (jobs_released run)
@@ -300,6 +319,20 @@ module _ (k : Fraction) (run : List Event) (J : Instance) (of : IsRunOf k run J)
       → counts_lines (counts_of k run jobs value) ≡ summary_lines J
   summary_is = lines_are []
 
+  -- the line of the changes of hands
+  changes_are : (jobs : List JobFacts) (value : ℕ)
+      → changes_line (counts_of k run jobs value) ≡ reports.changes_line J
+  changes_are jobs value = ap (λ es. with_numbers (codes "changes")
+      (count_by (λ e. changes_hands (Prints e)) es ∷ count_by is_preemption es ∷ count_by is_take es ∷ []))
+      (sym of.prints)
+      ∙ ap (λ n. with_numbers (codes "changes")
+      (n ∷ count_by is_preemption (printed J) ∷ count_by is_take (printed J) ∷ [])) (all_changes J)
+
+  -- when a job first got the processor, and how often it did
+  pub starts_are : (n : ℕ) → starts_fields (starts_in run n) ≡ reports.start_fields J n
+  starts_are n = ap (λ es. starts_fields (starts_in es n)) (sym of.prints)
+      ∙ ap (λ c. option_map_or decimal (reports.start_of_job J n) [] ∷ decimal c ∷ []) (all_runs J n)
+
   -- the line of those that completed early
   early_is : (early : Bool) (jobs : List JobFacts) (served : List ℕ) → early ≡ may_finish_early J.rules.version
       → (early ≡ true → served ≡ model_served J) → jobs ≡ jobs_released run
@@ -333,21 +366,31 @@ module _ (k : Fraction) (run : List Event) (J : Instance) (of : IsRunOf k run J)
   pub report_is : (early : Bool) (jobs : List JobFacts) (served : List ℕ) (value : ℕ) (rows : List Interval)
       → early ≡ may_finish_early J.rules.version → (early ≡ true → served ≡ model_served J)
       → jobs ≡ jobs_released run → value ≡ completed_value J → rows ≡ rows_of J
-      → (((in_lines (ratio_line k ∷ []) ++ in_lines (fates_lines (counts_of k run jobs value)))
+      → ((((in_lines (ratio_line k ∷ []) ++ in_lines (fates_lines (counts_of k run jobs value)))
+      ++ in_lines (changes_line (counts_of k run jobs value) ∷ []))
       ++ in_lines (early_lines early jobs served run))
       ++ in_lines (bound_line (counts_of k run jobs value) ∷ [])) ++ in_lines (row_lines rows)
       ≡ report J
   report_is early jobs served value rows is are same worth all =
-      five_parts (ratio_line k ∷ []) (fates_lines (counts_of k run jobs value))
-      (early_lines early jobs served run) (bound_line (counts_of k run jobs value) ∷ []) (row_lines rows)
+      ap (λ t. (t ++ in_lines (bound_line counts ∷ [])) ++ in_lines (row_lines rows))
+      (behind_lines (in_lines (ratio_line k ∷ []) ++ in_lines (fates_lines counts)) (changes_line counts ∷ [])
+      (early_lines early jobs served run))
+      ∙ five_parts (ratio_line k ∷ []) (fates_lines counts)
+      (changes_line counts ∷ early_lines early jobs served run) (bound_line counts ∷ []) (row_lines rows)
       ∙ ap (λ ls. in_lines (ratio_line k ∷ ls ++ row_lines rows))
-      (lines_are (early_lines early jobs served run) jobs value same worth
-      ∙ ap (lines_with J) (early_is early jobs served is are same))
-      ∙ ap (λ ls. in_lines (ratio_line k ∷ lines_with J (reports.early_lines J) ++ ls))
+      (lines_are (changes_line counts ∷ early_lines early jobs served run) jobs value same worth
+      ∙ ap (λ l. lines_with J (l ∷ early_lines early jobs served run)) (changes_are jobs value)
+      ∙ ap (λ ls. lines_with J (reports.changes_line J ∷ ls)) (early_is early jobs served is are same))
+      ∙ ap (λ ls. in_lines (ratio_line k ∷ lines_with J more ++ ls))
       (ap row_lines all ∙ rows_lines 1 (model.intervals J))
       ∙ ap (λ (r : Fraction). in_lines
-      (ratio_line r ∷ lines_with J (reports.early_lines J) ++ map interval_line (enumerate_from 1 (model.intervals J))))
-      (sym of.ratio)
+      (ratio_line r ∷ lines_with J more ++ map interval_line (enumerate_from 1 (model.intervals J))))
+      (sym of.ratio) where
+        counts : Counts
+        counts = counts_of k run jobs value
+
+        more : List (List ℕ)
+        more = reports.changes_line J ∷ reports.early_lines J
 
   -- the steps are few
   pub few_steps : length run ≤ 5_000_001

@@ -19,15 +19,17 @@ use Rattle.run_reports.specs.declared.report.endings.Ending.{Ending}
 use Rattle.run_reports.specs.declared.report.endings.Ending.TheVariants.{Completed, Abandoned}
 use Rattle.run_reports.specs.report.Counts.{jobs_released}
 use Rattle.run_reports.specs.report.Rows.{ending_of, ending_in, ending_by, ending_at, ending_fields, after_commas}
-use Rattle.run_reports.specs.report.Rows.{row_text, with_place, with_step, had_fields, names_line, rows_of_steps}
-use Rattle.run_reports.specs.report.Rows.{rows_left, FindsNext}
+use Rattle.run_reports.specs.report.Rows.{row_text, with_place, with_step, had_fields, last_fields, last_at, names_line}
+use Rattle.run_reports.specs.report.Rows.{rows_of_steps, rows_left, FindsNext}
+use Rattle.run_reports.specs.report.Starting.{starts_in, starts_fields, never}
+use Rattle.run_reports.specs.declared.report.starting.Starts.{Starts}
 use Rattle.run_reports.specs.report.Early.{had_at}
-use Rattle.run_reports.proofs.report.Counting.{jobs_are}
+use Rattle.run_reports.proofs.report.Counting.{jobs_are, starts_are}
 
--- the rows of jobs from number n on, with how they ended in these steps and what each had
-abbrev rows_from : List Event → (ℕ → Option ℕ) → ℕ → List JobFacts → List (List ℕ)
-rows_from run had n jobs =
-    map (λ n_j. row_text n_j.0 n_j.1 (ending_in run n_j.0) (had n_j.0)) (enumerate_from n jobs)
+-- the rows of jobs from number n on, with how they ended in these steps and the fields behind that
+abbrev rows_from : List Event → (ℕ → List (List ℕ)) → ℕ → List JobFacts → List (List ℕ)
+rows_from run last n jobs =
+    map (λ n_j. row_text n_j.0 n_j.1 (ending_in run n_j.0) (last n_j.0)) (enumerate_from n jobs)
 
 -- fields that are joined by commas
 joined_fields : (first : List ℕ) (fields : List (List ℕ))
@@ -52,23 +54,32 @@ module _ (k : Fraction) (run : List Event) (J : Instance) (of : IsRunOf k run J)
         ∙ ap (λ (c : Bool). cond c (decimal (slice_index_or (model_served J) n 0) ∷ []) []) is
     by_early false is same = ap (λ (c : Bool). cond c (decimal (slice_index_or (model_served J) n 0) ∷ []) []) is
 
+  -- the fields behind an ending
+  abbrev pub last_told : ℕ → List (List ℕ)
+  last_told n = last_fields (had_at early served n) (starts_in run n)
+
+  -- they are those of the table
+  last_is : (n : ℕ) → last_told n ≡ model.had_fields J n ++ model.start_fields J n
+  last_is n = ap (λ fields. fields ++ starts_fields (starts_in run n)) (had_is n)
+      ∙ ap (λ fields. model.had_fields J n ++ fields) (starts_are k run J of n)
+
   -- the row of a job
-  row_is : (n : ℕ) (j : JobFacts) → row_text n j (ending_in run n) (had_at early served n) ≡ model.table_row J (n, j)
+  row_is : (n : ℕ) (j : JobFacts) → row_text n j (ending_in run n) (last_told n) ≡ model.table_row J (n, j)
   row_is n j = sym (joined_fields (decimal n) (map decimal (job_numbers j)
-      ++ (ending_fields (ending_in run n) ++ had_fields (had_at early served n))))
+      ++ (ending_fields (ending_in run n) ++ last_told n)))
       ∙ ap (λ fields. join_with_byte 44 (map decimal (n ∷ job_numbers j)
-      ++ (fields ++ had_fields (had_at early served n))))
+      ++ (fields ++ last_told n)))
       (same_fields (find (λ fate. model.number_of fate == n) (filter_map model.fate_of_event run))
       ∙ ap (λ es. model.fate_fields (find (λ fate. model.number_of fate == n) (filter_map model.fate_of_event es)))
       (sym of.prints))
       ∙ ap (λ fields. join_with_byte 44 (map decimal (n ∷ job_numbers j)
-      ++ (model.fate_fields (find (λ fate. model.number_of fate == n) (model.fates J)) ++ fields))) (had_is n)
+      ++ (model.fate_fields (find (λ fate. model.number_of fate == n) (model.fates J)) ++ fields))) (last_is n)
 
   -- all rows
   rows_are : (n : ℕ) (jobs : List JobFacts)
-      → rows_from run (had_at early served) n jobs ≡ map (model.table_row J) (enumerate_from n jobs)
+      → rows_from run last_told n jobs ≡ map (model.table_row J) (enumerate_from n jobs)
   rows_are n [] = refl
-  rows_are n (j ∷ jobs) = ap (λ r. r ∷ rows_from run (had_at early served) (n + 1) jobs) (row_is n j)
+  rows_are n (j ∷ jobs) = ap (λ r. r ∷ rows_from run last_told (n + 1) jobs) (row_is n j)
       ∙ ap (λ rs. model.table_row J (n, j) ∷ rs) (rows_are (n + 1) jobs)
 
   -- the names of the fields
@@ -77,62 +88,71 @@ module _ (k : Fraction) (run : List Event) (J : Instance) (of : IsRunOf k run J)
   names_are rows = ap (λ (b : Bool). names_line b ++ in_lines rows) is_early
       ∙ by_early (may_finish_early J.rules.version) where
         by_early : (b : Bool) → names_line b ++ in_lines rows
-            ≡ in_lines (cond b (codes "job,release,work,deadline,value,fate,tick,had")
-            (codes "job,release,work,deadline,value,fate,tick") ∷ rows)
+            ≡ in_lines (cond b (codes "job,release,work,deadline,value,fate,tick,had,start,runs")
+            (codes "job,release,work,deadline,value,fate,tick,start,runs") ∷ rows)
         by_early true = refl
         by_early false = refl
 
   -- the table
   pub table_is : (jobs : List JobFacts) → jobs ≡ jobs_released run
-      → names_line early ++ in_lines (rows_from run (had_at early served) 0 jobs) ≡ model.table J
-  table_is jobs same = ap (λ js. names_line early ++ in_lines (rows_from run (had_at early served) 0 js))
+      → names_line early ++ in_lines (rows_from run last_told 0 jobs) ≡ model.table J
+  table_is jobs same = ap (λ js. names_line early ++ in_lines (rows_from run last_told 0 js))
       (same ∙ jobs_are k run J of)
       ∙ ap (λ rs. names_line early ++ in_lines rs) (rows_are 0 J.jobs)
       ∙ names_are (map (model.table_row J) (enumerate_from 0 J.jobs))
 
--- the rows of steps are those of the jobs that they release, where each ended so
-same_rows : (run : List Event) (ending : ℕ → Option Ending) (had : ℕ → Option ℕ) (n : ℕ) (es : List Event)
-    → ((m : ℕ) → m < n + length (jobs_released es) → ending m ≡ ending_in run m)
-    → rows_of_steps ending had n es ≡ rows_from run had n (jobs_released es)
-same_rows run ending had n [] each = refl
-same_rows run ending had n (Release m j ∷ es) each =
-    ap (λ o. row_text n j o (had n) ∷ rows_of_steps ending had (n + 1) es) (each n (omega arith))
-    ∙ ap (λ rs. row_text n j (ending_in run n) (had n) ∷ rs)
-    (same_rows run ending had (n + 1) es (λ k low. each k (omega (arith, low))))
-same_rows run ending had n (_ ∷ es) each = same_rows run ending had n es each
+-- the rows of steps are those of the jobs that they release, where each ended and started so
+same_rows : (run : List Event) (ending : ℕ → Option Ending) (last told : ℕ → List (List ℕ)) (n : ℕ) (es : List Event)
+    → ((m : ℕ) → m < n + length (jobs_released es) → (ending m ≡ ending_in run m) × (last m ≡ told m))
+    → rows_of_steps ending last n es ≡ rows_from run told n (jobs_released es)
+same_rows run ending last told n [] each = refl
+same_rows run ending last told n (Release m j ∷ es) each =
+    ap (λ o. row_text n j o (last n) ∷ rows_of_steps ending last (n + 1) es) (each n (omega arith)).0
+    ∙ ap (λ fields. row_text n j (ending_in run n) fields ∷ rows_of_steps ending last (n + 1) es)
+    (each n (omega arith)).1
+    ∙ ap (λ rs. row_text n j (ending_in run n) (told n) ∷ rs)
+    (same_rows run ending last told (n + 1) es (λ k low. each k (omega (arith, low))))
+same_rows run ending last told n (_ ∷ es) each = same_rows run ending last told n es each
 
 -- all rows behind the names are the table
 pub whole_table : (k : Fraction) (run : List Event) (J : Instance) (of : IsRunOf k run J) (early : Bool)
-    (served places : List ℕ) → early ≡ may_finish_early J.rules.version → (early ≡ true → served ≡ model_served J)
+    (served places : List ℕ) (starts : List Starts) → early ≡ may_finish_early J.rules.version
+    → (early ≡ true → served ≡ model_served J)
     → ((n : ℕ) → n < length (jobs_released run) → ending_at run (slice_index_or places n 0) ≡ ending_in run n)
-    → (rows_left run early served places 0 0).names ++ in_lines (rows_left run early served places 0 0).rows
+    → ((n : ℕ) → n < length (jobs_released run) → slice_index_or starts n never ≡ starts_in run n)
+    → (rows_left run early served places starts 0 0).names
+    ++ in_lines (rows_left run early served places starts 0 0).rows
     ≡ model.table J
-whole_table k run J of early served places is_early are each =
+whole_table k run J of early served places starts is_early are each begun =
     ap (λ rs. names_line early ++ in_lines rs)
-    (same_rows run (λ n. ending_at run (slice_index_or places n 0)) (had_at early served) 0 run
-    (λ n low. each n (omega (arith, low))))
+    (same_rows run (λ n. ending_at run (slice_index_or places n 0)) (last_at early served starts)
+    (λ n. last_fields (had_at early served n) (starts_in run n)) 0 run
+    (λ n low. (
+      each n (omega (arith, low)),
+      ap (last_fields (had_at early served n)) (begun n (omega (arith, low))),
+    )))
     ∙ table_is k run J of early served is_early are (jobs_released run) refl
 
 -- ---- the next release
 
 -- the same rows are left behind so many steps as behind others
 pub record LeaveSame (run : List Event) (a b : ℕ) : Type 0 where
-  pub same : (ending : ℕ → Option Ending) (had : ℕ → Option ℕ) (n : ℕ)
-      → rows_of_steps ending had n (drop a run) ≡ rows_of_steps ending had n (drop b run)
+  pub same : (ending : ℕ → Option Ending) (last : ℕ → List (List ℕ)) (n : ℕ)
+      → rows_of_steps ending last n (drop a run) ≡ rows_of_steps ending last n (drop b run)
 
 -- a step that releases none leaves the same rows
 pub passed : (run : List Event) (a i : ℕ) (e : Event) → e ≡ get_or run i e → i < length run
     → ((m : ℕ) (j : JobFacts) → e ≡ Release m j → ⊥) → LeaveSame run a i → LeaveSame run a (i + 1)
 passed run a i e is there none before = record {
-  same = λ ending had n. before.same ending had n
-      ∙ ap (rows_of_steps ending had n) (item_next run i e is there)
-      ∙ by_event e none ending had n (drop (i + 1) run);
+  same = λ ending last n. before.same ending last n
+      ∙ ap (rows_of_steps ending last n) (item_next run i e is there)
+      ∙ by_event e none ending last n (drop (i + 1) run);
 } where
   by_event : (x : Event) → ((m : ℕ) (j : JobFacts) → x ≡ Release m j → ⊥)
-      → (ending : ℕ → Option Ending) (had : ℕ → Option ℕ) (n : ℕ) (es : List Event)
-      → rows_of_steps ending had n (x ∷ es) ≡ rows_of_steps ending had n es
-  by_event (Release m j) none ending had n es = absurd (none m j refl)
-  by_event _ none ending had n es = refl
+      → (ending : ℕ → Option Ending) (last : ℕ → List (List ℕ)) (n : ℕ) (es : List Event)
+      → rows_of_steps ending last n (x ∷ es) ≡ rows_of_steps ending last n es
+  by_event (Release m j) none ending last n es = absurd (none m j refl)
+  by_event _ none ending last n es = refl
 
 -- a release is found
 pub found : (run : List Event) (next i : ℕ) (e : Event) (m : ℕ) (job : JobFacts) → next ≤ i → e ≡ get_or run i e
@@ -140,15 +160,15 @@ pub found : (run : List Event) (next i : ℕ) (e : Event) (m : ℕ) (job : JobFa
 found run next i e m job low is there releases before = (
   omega arith,
   omega arith,
-  λ ending had n. before.same ending had n
-      ∙ ap (rows_of_steps ending had n) (item_next run i e is there)
-      ∙ ap (λ x. rows_of_steps ending had n (x ∷ drop (i + 1) run)) releases,
+  λ ending last n. before.same ending last n
+      ∙ ap (rows_of_steps ending last n) (item_next run i e is there)
+      ∙ ap (λ x. rows_of_steps ending last n (x ∷ drop (i + 1) run)) releases,
 )
 
 -- none is left
 pub none_found : (run : List Event) (next i : ℕ) → length run ≤ i → LeaveSame run next i → FindsNext run next None
-none_found run next i past before = λ ending had n. before.same ending had n
-    ∙ ap (rows_of_steps ending had n) (drop_all i run past)
+none_found run next i past before = λ ending last n. before.same ending last n
+    ∙ ap (rows_of_steps ending last n) (drop_all i run past)
 
 -- ---- the places of the endings
 
@@ -203,7 +223,8 @@ AreRead run places count left =
     (n : ℕ) → n < count → ending_at run (get_or places n 0) ≡ ending_in (drop left run) n
 
 -- a list of as many items is written over the old one
-pub written : (len : ℕ) (new old : List ℕ) → length new ≡ len → take len (new ++ drop (length new) old) ≡ new
+pub written : {X : Type 0} (len : ℕ) (new old : List X) → length new ≡ len
+    → take len (new ++ drop (length new) old) ≡ new
 written len new old same = ap (λ n. take n (new ++ drop (length new) old)) (sym same)
     ∙ take-append_seam new (drop (length new) old)
 
@@ -246,7 +267,7 @@ there_none (x ∷ run) zero past = absurd (omega (arith, past))
 there_none (x ∷ run) (suc i) past = there_none run i (omega (arith, past))
 
 -- nothing has no front
-no_front : (n : ℕ) (xs : List ℕ) → xs ≡ [] → take n xs ≡ []
+pub no_front : {X : Type 0} (n : ℕ) (xs : List X) → xs ≡ [] → take n xs ≡ []
 no_front zero xs empty = refl
 no_front (suc n) xs empty = ap (take (suc n)) empty
 

@@ -40,50 +40,53 @@ abbrev pub none_early : Instance
 none_early = finishing [] (job 0 2 2 2 ∷ [])
 
 held_report : report held_and_early ≡ bytes
-    (codes "ratio 1 1/jobs 2/completed 2 6/abandoned 0 0/taken 0/early 2 2/bound 24/interval 1 0 4 6 0 0 0/")
+    (codes "ratio 1 1/jobs 2/completed 2 6/abandoned 0 0/taken 0/changes 3 1 0/early 2 2/bound 24/"
+    ++ codes "interval 1 0 4 6 0 0 0/")
 unfolding digits
 held_report = refl
 
-held_table : table held_and_early ≡ bytes (codes "job,release,work,deadline,value,fate,tick,had/"
-    ++ codes "0,0,4,10,4,complete,4,3/1,1,2,5,2,complete,2,1/")
+held_table : table held_and_early ≡ bytes (codes "job,release,work,deadline,value,fate,tick,had,start,runs/"
+    ++ codes "0,0,4,10,4,complete,4,3,0,2/1,1,2,5,2,complete,2,1,1,1/")
 unfolding digits
 held_table = refl
 
 anomaly_report : report anomaly ≡ bytes (codes
-    "ratio 1 1/jobs 3/completed 2 4/abandoned 1 3/taken 0/early 1 1/bound 16/"
+    "ratio 1 1/jobs 3/completed 2 4/abandoned 1 3/taken 0/changes 2 0 0/early 1 1/bound 16/"
     ++ codes "interval 1 0 1 2 0 0 0/interval 2 1 3 2 0 0 3/")
 unfolding digits
 anomaly_report = refl
 
-anomaly_table : table anomaly ≡ bytes (codes "job,release,work,deadline,value,fate,tick,had/"
-    ++ codes "0,0,2,2,2,complete,1,1/1,0,2,3,2,complete,3,2/2,0,3,5,3,abandon,2,0/")
+anomaly_table : table anomaly ≡ bytes (codes "job,release,work,deadline,value,fate,tick,had,start,runs/"
+    ++ codes "0,0,2,2,2,complete,1,1,0,1/1,0,2,3,2,complete,3,2,1,1/2,0,3,5,3,abandon,2,0,,0/")
 unfolding digits
 anomaly_table = refl
 
 took_report : report took_and_early ≡ bytes
-    (codes "ratio 1 1/jobs 3/completed 3 17/abandoned 0 0/taken 1/early 1 11/bound 68/"
+    (codes "ratio 1 1/jobs 3/completed 3 17/abandoned 0 0/taken 1/changes 5 1 1/early 1 11/bound 68/"
     ++ codes "interval 1 0 1 0 12 5 0/interval 2 1 3 2 0 0 0/interval 3 3 6 3 0 0 0/")
 unfolding digits
 took_report = refl
 
-took_table : table took_and_early ≡ bytes (codes "job,release,work,deadline,value,fate,tick,had/"
-    ++ codes "0,0,3,30,3,complete,6,3/1,0,2,4,2,complete,3,2/2,0,12,12,12,complete,1,1/")
+took_table : table took_and_early ≡ bytes (codes "job,release,work,deadline,value,fate,tick,had,start,runs/"
+    ++ codes "0,0,3,30,3,complete,6,3,0,2/1,0,2,4,2,complete,3,2,0,2/2,0,12,12,12,complete,1,1,0,1/")
 unfolding digits
 took_table = refl
 
 -- in version Three the line stands there, and the column, though no job finishes early
 none_report : report none_early ≡ bytes
-    (codes "ratio 1 1/jobs 1/completed 1 2/abandoned 0 0/taken 0/early 0 0/bound 8/interval 1 0 2 2 0 0 0/")
+    (codes "ratio 1 1/jobs 1/completed 1 2/abandoned 0 0/taken 0/changes 1 0 0/early 0 0/bound 8/"
+    ++ codes "interval 1 0 2 2 0 0 0/")
 unfolding digits
 none_report = refl
 
-none_table : table none_early ≡ bytes (codes "job,release,work,deadline,value,fate,tick,had/0,0,2,2,2,complete,2,2/")
+none_table : table none_early ≡ bytes (codes "job,release,work,deadline,value,fate,tick,had,start,runs/"
+    ++ codes "0,0,2,2,2,complete,2,2,0,1/")
 unfolding digits
 none_table = refl
 
 -- the line of the ratio has the factor, and the bound is that by the factor
 factor_report : report with_a_factor ≡ bytes (codes
-    "ratio 1 1 5 2/jobs 2/completed 1 2/abandoned 1 5/taken 0/early 0 0/bound 9/interval 1 0 2 2 0 0 5/")
+    "ratio 1 1 5 2/jobs 2/completed 1 2/abandoned 1 5/taken 0/changes 1 0 0/early 0 0/bound 9/interval 1 0 2 2 0 0 5/")
 unfolding digits
 factor_report = refl
 

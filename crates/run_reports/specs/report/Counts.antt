@@ -4,7 +4,8 @@ use Rattle.std.specs.List.{filter_map, sum_by, count_by}
 use Rattle.std.specs.Option.{option_map_or}
 use Rattle.dover_model.specs.declared.events.Event.{Event}
 use Rattle.dover_model.specs.declared.events.Event.TheVariants.{Release, Abandon}
-use Rattle.dover_model.specs.Common.{JobFacts, Fraction, bound, with_numbers, is_take}
+use Rattle.dover_model.specs.Common.{JobFacts, Fraction, bound, with_numbers, is_take, is_preemption, changes_hands}
+use Rattle.dover_model.specs.Common.{Prints}
 use Rattle.run_record.specs.intervals.Totals.{is_completion, is_abandonment}
 use Rattle.run_reports.specs.declared.report.counts.Counts.{Counts}
 
@@ -39,6 +40,8 @@ counts_of k run jobs value = record {
   abandoned = count_by is_abandonment run;
   lost = all_lost jobs run;
   taken = count_by is_take run;
+  changes = count_by (λ e. changes_hands (Prints e)) run;
+  preempted = count_by is_preemption run;
   bound = bound k value;
 }
 
@@ -50,6 +53,10 @@ fates_lines c =
     ∷ with_numbers (codes "abandoned") (c.abandoned ∷ c.lost ∷ [])
     ∷ with_numbers (codes "taken") (c.taken ∷ [])
     ∷ []
+
+-- the line of the changes of hands
+abbrev pub changes_line : Counts → List ℕ
+changes_line c = with_numbers (codes "changes") (c.changes ∷ c.preempted ∷ c.taken ∷ [])
 
 -- the line of the bound
 abbrev pub bound_line : Counts → List ℕ

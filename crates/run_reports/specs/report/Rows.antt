@@ -9,6 +9,8 @@ use Rattle.dover_model.specs.JobFacts.{JobFacts, job_numbers}
 use Rattle.dover_model.specs.Reports.{Fate, fate_of_event, number_of}
 use Rattle.dover_model.specs.Reports as model
 use Rattle.run_reports.specs.report.Early.{had_at}
+use Rattle.run_reports.specs.report.Starting.{starts_fields, never}
+use Rattle.run_reports.specs.declared.report.starting.Starts.{Starts}
 use Rattle.run_reports.specs.declared.report.endings.Ending.{Ending}
 use Rattle.run_reports.specs.declared.report.endings.Ending.TheVariants.{Completed, Abandoned}
 
@@ -54,29 +56,36 @@ had_fields (Some had) = decimal had ∷ []
 
 -- the names of the fields, by whether the ticks that a job had are among them
 abbrev pub names_line : Bool → List ℕ
-names_line early = if early then codes "job,release,work,deadline,value,fate,tick,had\n"
-    else codes "job,release,work,deadline,value,fate,tick\n"
+names_line early = if early then codes "job,release,work,deadline,value,fate,tick,had,start,runs\n"
+    else codes "job,release,work,deadline,value,fate,tick,start,runs\n"
 
 -- each field behind a comma
 abbrev pub after_commas : List (List ℕ) → List ℕ
 after_commas fields = flat_map (λ field. 44 ∷ field) fields
 
--- the row of a job with its number, its ending, and the ticks that it had, if these are told
-abbrev pub row_text : ℕ → JobFacts → Option Ending → Option ℕ → List ℕ
-row_text n j ending had =
-    decimal n ++ after_commas (map decimal (job_numbers j) ++ (ending_fields ending ++ had_fields had))
+-- the fields behind an ending: the ticks that the job had, if these are told, and when it started
+abbrev pub last_fields : Option ℕ → Starts → List (List ℕ)
+last_fields had starts = had_fields had ++ starts_fields starts
 
--- the rows of the jobs that these steps release, from number n on, by how each ended and what it had
-abbrev pub rows_of_steps : (ℕ → Option Ending) → (ℕ → Option ℕ) → ℕ → List Event → List (List ℕ)
-rows_of_steps ending had n [] = []
-rows_of_steps ending had n (Release m j ∷ es) =
-    row_text n j (ending n) (had n) ∷ rows_of_steps ending had (n + 1) es
-rows_of_steps ending had n (Run at m ∷ es) = rows_of_steps ending had n es
-rows_of_steps ending had n (Preempt at r m ∷ es) = rows_of_steps ending had n es
-rows_of_steps ending had n (Take at r m ∷ es) = rows_of_steps ending had n es
-rows_of_steps ending had n (Complete at m ∷ es) = rows_of_steps ending had n es
-rows_of_steps ending had n (Abandon at m ∷ es) = rows_of_steps ending had n es
-rows_of_steps ending had n (End value ∷ es) = rows_of_steps ending had n es
+-- the row of a job with its number, its ending, and the fields behind that
+abbrev pub row_text : ℕ → JobFacts → Option Ending → List (List ℕ) → List ℕ
+row_text n j ending last = decimal n ++ after_commas (map decimal (job_numbers j) ++ (ending_fields ending ++ last))
+
+-- the rows of the jobs that these steps release, from number n on, by how each ended and the fields behind that
+abbrev pub rows_of_steps : (ℕ → Option Ending) → (ℕ → List (List ℕ)) → ℕ → List Event → List (List ℕ)
+rows_of_steps ending last n [] = []
+rows_of_steps ending last n (Release m j ∷ es) =
+    row_text n j (ending n) (last n) ∷ rows_of_steps ending last (n + 1) es
+rows_of_steps ending last n (Run at m ∷ es) = rows_of_steps ending last n es
+rows_of_steps ending last n (Preempt at r m ∷ es) = rows_of_steps ending last n es
+rows_of_steps ending last n (Take at r m ∷ es) = rows_of_steps ending last n es
+rows_of_steps ending last n (Complete at m ∷ es) = rows_of_steps ending last n es
+rows_of_steps ending last n (Abandon at m ∷ es) = rows_of_steps ending last n es
+rows_of_steps ending last n (End value ∷ es) = rows_of_steps ending last n es
+
+-- the fields behind the ending of the job of number n
+abbrev pub last_at : Bool → List ℕ → List Starts → ℕ → List (List ℕ)
+last_at early served starts n = last_fields (had_at early served n) (slice_index_or starts n never)
 
 -- the row of names with its line feed, and the rows of jobs
 pub record Table : Type 0 where
@@ -84,19 +93,20 @@ pub record Table : Type 0 where
   pub rows : List (List ℕ)
 
 -- what is left of a table, where so many steps are behind and release so many jobs
-abbrev pub rows_left : List Event → Bool → List ℕ → List ℕ → (next number : ℕ) → Table
-rows_left run early served places next number = record {
+abbrev pub rows_left : List Event → Bool → List ℕ → List ℕ → List Starts → (next number : ℕ) → Table
+rows_left run early served places starts next number = record {
   names = names_line early;
-  rows = rows_of_steps (λ n. ending_at run (slice_index_or places n 0)) (had_at early served) number (drop next run);
+  rows = rows_of_steps (λ n. ending_at run (slice_index_or places n 0)) (last_at early served starts) number
+      (drop next run);
 }
 
 -- the next release behind so many steps is of this job, and so many steps are behind after it; or there is none
 abbrev pub FindsNext : List Event → ℕ → Option (ℕ × JobFacts) → Type 0
 FindsNext run next None =
-    (ending : ℕ → Option Ending) (had : ℕ → Option ℕ) (n : ℕ) → rows_of_steps ending had n (drop next run) ≡ []
+    (ending : ℕ → Option Ending) (last : ℕ → List (List ℕ)) (n : ℕ) → rows_of_steps ending last n (drop next run) ≡ []
 FindsNext run next (Some (later, job)) = (next < later) × (later ≤ length run)
-    × ((ending : ℕ → Option Ending) (had : ℕ → Option ℕ) (n : ℕ) → rows_of_steps ending had n (drop next run)
-    ≡ row_text n job (ending n) (had n) ∷ rows_of_steps ending had (n + 1) (drop later run))
+    × ((ending : ℕ → Option Ending) (last : ℕ → List (List ℕ)) (n : ℕ) → rows_of_steps ending last n (drop next run)
+    ≡ row_text n job (ending n) (last n) ∷ rows_of_steps ending last (n + 1) (drop later run))
 
 -- the first of the rows was given in the line, or there is none, and all is as it was
 abbrev pub GivesRow : (old new : Table) → (before line : List ℕ) → (given : Bool) → Type 0

@@ -12,7 +12,7 @@ use root_compare::long_bound;
 use run_record::intervals::Charge;
 use std::alloc::Global;
 
-/// What the summary of a run says: counts of jobs and of takes, and sums of values.
+/// What a report says of a run: counts of jobs and of changes of hands, and sums of values.
 #[derive(Clone, Copy)]
 pub struct Counts {
     /// How many jobs were released.
@@ -27,6 +27,10 @@ pub struct Counts {
     pub lost: u64,
     /// How many took the processor.
     pub taken: u64,
+    /// How often the processor changed hands.
+    pub changes: u64,
+    /// How often one job preempted another.
+    pub preempted: u64,
     /// What no schedule of the jobs is worth more than.
     pub bound: u128,
 }
@@ -47,6 +51,8 @@ pub fn count(k: Ratio, charge: &Charge) -> Counts
         abandoned: totals.abandoned,
         lost: (totals.worth - u128::from(value)) as u64,
         taken: totals.taken,
+        changes: totals.changes,
+        preempted: totals.preempted,
         bound: long_bound(value, k),
     }
 }

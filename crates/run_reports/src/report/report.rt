@@ -1,8 +1,8 @@
 //! The report and the summary.
-ghost use Rattle.std.specs.Prelude.{◌≡◌, ◌++◌, OnOk, IfOk};
+ghost use Rattle.std.specs.Prelude.{◌≡◌, ◌++◌, ◌∷◌, [], OnOk, IfOk};
 ghost use Rattle.dover_model.specs.Common.{Instance, in_lines, report, summary};
 ghost use Rattle.run_record.specs.intervals.Rows.{IsRunOf};
-ghost use Rattle.run_reports.specs.report.Counts.{fates_lines, counts_lines};
+ghost use Rattle.run_reports.specs.report.Counts.{fates_lines, counts_lines, changes_line};
 ghost use Rattle.run_reports.specs.report.Lines.{row_lines};
 
 use crate::report::counts::{Counts, count};
@@ -12,8 +12,8 @@ use dover_model::{Memory, PackedEvent, Ratio, Version};
 use run_record::intervals::{Charge, Interval};
 use std::alloc::Global;
 
-/// What the report on a run says: its ratio, its summary, where jobs may finish early those that did, and its
-/// intervals.
+/// What the report on a run says: its ratio, its summary, how often the processor changed hands, where jobs may finish
+/// early those that did, and its intervals.
 #[derive(Drop)]
 pub struct Findings {
     k: Ratio,
@@ -58,6 +58,7 @@ impl Findings {
         let mut text = Vec::new(alloc);
         put_ratio(&mut text, self.k)?;
         put_fates(&mut text, self.counts)?;
+        put_changes(&mut text, self.counts)?;
         put_early(&mut text, self.early, self.it)?;
         put_wide_line(&mut text, b"bound", self.counts.bound)?;
         put_rows(&mut text, self.charge.rows())?;
@@ -65,9 +66,9 @@ impl Findings {
     }
 }
 
-/// The report on the run of this version that prints these steps: its ratio, its summary and its intervals, and where
-/// jobs may finish early a line of those that did. The jobs of the run are valid for the ratio `k`, and within the
-/// limits of version Two. Want of memory is the only error.
+/// The report on the run of this version that prints these steps: its ratio, its summary, how often the processor
+/// changed hands and its intervals, and where jobs may finish early a line of those that did. The jobs of the run are
+/// valid for the ratio `k`, and within the limits of version Two. Want of memory is the only error.
 pub fn text(
     alloc: Global,
     version: Version,
@@ -109,6 +110,17 @@ fn put_fates(text: &mut Vec<u8>, counts: Counts) -> Result<(), Memory>
     put_line(text, b"completed", &[counts.completed, counts.value])?;
     put_line(text, b"abandoned", &[counts.abandoned, counts.lost])?;
     put_line(text, b"taken", &[counts.taken])
+}
+
+/// Appends the line of how often the processor changed hands.
+fn put_changes(text: &mut Vec<u8>, counts: Counts) -> Result<(), Memory>
+    ensures { OnOk result (text.new.items ≡ text.old.items ++ in_lines (changes_line counts ∷ [])) }
+{
+    put_line(
+        text,
+        b"changes",
+        &[counts.changes, counts.preempted, counts.taken],
+    )
 }
 
 /// Appends the lines of intervals, with their numbers from 1 on.

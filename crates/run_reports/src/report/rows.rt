@@ -3,12 +3,14 @@ ghost use Rattle.std.specs.Prelude.{◌≡◌, ◌≤◌, ◌+◌, ◌++◌, ◌
 ghost use Rattle.dover_model.specs.Common.{Instance, job_numbers, in_lines, Fraction, table};
 ghost use Rattle.run_record.specs.intervals.Rows.{IsRunOf};
 ghost use Rattle.line_text.specs.Writing.{most_written};
-ghost use Rattle.run_reports.specs.report.Rows.{after_commas, ending_fields, had_fields, names_line, row_text};
-ghost use Rattle.run_reports.specs.report.Rows.{FindsNext, GivesRow};
+ghost use Rattle.run_reports.specs.report.Rows.{after_commas, ending_fields, had_fields, last_fields, names_line};
+ghost use Rattle.run_reports.specs.report.Rows.{row_text, FindsNext, GivesRow};
+ghost use Rattle.run_reports.specs.report.Starting.{starts_fields};
 
 use crate::report::counts::releases;
 use crate::report::early::{had_at, served_where};
 use crate::report::endings::{Ending, ending_at, endings};
+use crate::report::starting::{Starts, starts_at, starts_of};
 use dover_model::{Event, Job, Memory, PackedEvent, Version};
 use line_text::BackLine;
 use std::alloc::Global;
@@ -21,6 +23,7 @@ pub struct TableRows {
     early: bool,
     served: Vec<u64>,
     places: Vec<usize>,
+    starts: Vec<Starts>,
     // How many steps are behind, and how many jobs they release.
     next: usize,
     number: usize,
@@ -32,15 +35,17 @@ impl Model for TableRows {
 
     ghost Value = { Table };
 
-    ghost view = { λ t. rows_left t.run.items t.early t.served.items t.places.items t.next t.number };
+    ghost view = { λ t. rows_left t.run.items t.early t.served.items t.places.items t.starts.items
+        t.next t.number };
 
     ghost invariant = { λ t. (t.number ≤ t.next) × (t.next ≤ length t.run.items) };
 }
 
 impl TableRows {
-    /// All rows of the table of the run of this version that prints these steps. A row tells the ticks that the job had
-    /// where jobs may finish early. The jobs of the run are valid for some ratio, and within the limits of version Two.
-    /// Want of memory is the only error, and no call takes memory after this one.
+    /// All rows of the table of the run of this version that prints these steps. A row tells when the job first had the
+    /// processor and how often it got it, and the ticks that it had where jobs may finish early. The jobs of the run
+    /// are valid for some ratio, and within the limits of version Two. Want of memory is the only error, and no call
+    /// takes memory after this one.
     pub fn of(alloc: Global, version: Version, run: Vec<PackedEvent>) -> Result<TableRows, Memory>
         requires { (k : Fraction) × ((J : Instance) × IsRunOf k run.items J) }
         ensures { (k : Fraction) (J : Instance) → IsRunOf k run.items J → J.rules.version ≡ version
@@ -49,11 +54,13 @@ impl TableRows {
         let early = version.may_finish_early();
         let served = served_where(alloc, early, &run)?;
         let places = endings(alloc, &run, releases(&run))?;
+        let starts = starts_of(alloc, &run, releases(&run))?;
         Ok(TableRows {
             run,
             early,
             served,
             places,
+            starts,
             next: 0,
             number: 0,
         })
@@ -62,7 +69,7 @@ impl TableRows {
     /// The row of names with its line feed.
     pub fn names(&self) -> &'static [u8]
         ensures is { result.now ≡ self.now.names }
-        ensures fits { length result.now ≤ 49 }
+        ensures fits { length result.now ≤ 60 }
     {
         names_line(self.early)
     }
@@ -78,8 +85,9 @@ impl TableRows {
         };
         let ending = ending_at(&self.run, place_at(&self.places, self.number));
         let had = had_at(self.early, &self.served, self.number);
+        let starts = starts_at(&self.starts, self.number);
         line.clear();
-        write_row(line, self.number as u64, &job, ending, had);
+        write_row(line, self.number as u64, &job, ending, had, starts);
         self.next = next;
         self.number += 1;
         true
@@ -89,12 +97,12 @@ impl TableRows {
 /// The names of the fields, by whether the ticks that a job had are among them.
 fn names_line(early: bool) -> &'static [u8]
     ensures is { result.now ≡ names_line early }
-    ensures fits { length result.now ≤ 49 }
+    ensures fits { length result.now ≤ 60 }
 {
     if early {
-        return b"job,release,work,deadline,value,fate,tick,had\n";
+        return b"job,release,work,deadline,value,fate,tick,had,start,runs\n";
     }
-    b"job,release,work,deadline,value,fate,tick\n"
+    b"job,release,work,deadline,value,fate,tick,start,runs\n"
 }
 
 /// The job that is released next, where so many steps are behind, and how many steps are behind after its release.
@@ -122,13 +130,21 @@ fn place_at(places: &[usize], number: usize) -> usize
     }
 }
 
-/// Writes the row of a job before a line feed, with the ticks that it had, if these are told.
+/// Writes the row of a job before a line feed, with the ticks that it had, if these are told, and when it started.
 #[inline(always)]
-fn write_row(line: &mut BackLine, number: u64, job: &Job, ending: Option<Ending>, had: Option<u64>)
+fn write_row(
+    line: &mut BackLine,
+    number: u64,
+    job: &Job,
+    ending: Option<Ending>,
+    had: Option<u64>,
+    starts: Starts,
+)
     requires { line.old ≡ 10 ∷ [] }
-    ensures text { line.new ≡ row_text number job.now ending had ++ 10 ∷ [] }
-    ensures fits { length line.new ≤ 125 }
+    ensures text { line.new ≡ row_text number job.now ending (last_fields had starts) ++ 10 ∷ [] }
+    ensures fits { length line.new ≤ 168 }
 {
+    write_starts(line, starts);
     write_had(line, had);
     write_ending(line, ending);
     write_job(line, job);
@@ -144,6 +160,21 @@ fn write_field(line: &mut BackLine, number: u64)
 {
     line.put_number(number);
     line.put_word(b",");
+}
+
+/// Writes when a job first had the processor behind a comma, which is nothing where it never did, and how often it got
+/// it behind another.
+#[inline(always)]
+fn write_starts(line: &mut BackLine, starts: Starts)
+    requires { 42 + length line.old ≤ most_written }
+    ensures is { line.new ≡ after_commas (starts_fields starts) ++ line.old }
+    ensures fits { length line.new ≤ 42 + length line.old }
+{
+    write_field(line, starts.count);
+    match starts.first {
+        None => line.put_word(b","),
+        Some(at) => write_field(line, at),
+    }
 }
 
 /// Writes the ticks that a job had behind a comma, if these are told.

@@ -1,6 +1,7 @@
 use Rattle.std.proofs.Common.{◌++◌, ◌∷◌, [], ap, ◌∙◌, refl, sym}
 use Rattle.dover_model.specs.Common.{in_lines, served, may_finish_early}
-use Rattle.run_reports.specs.report.Counts.{counts_of, fates_lines, bound_line, jobs_released}
+use Rattle.run_reports.specs.report.Counts.{counts_of, fates_lines, changes_line, bound_line}
+use Rattle.run_reports.specs.report.Counts.{jobs_released}
 use Rattle.run_reports.specs.report.Early.{early_of, lines_where}
 use Rattle.run_reports.specs.report.Lines.{ratio_line, row_lines}
 use Rattle.run_reports.proofs.report.Counting.{same_where, report_is}
@@ -23,11 +24,12 @@ returns c J of three =
     let early = c.may_finish_early-early.result in
     let rows = in_lines (row_lines c.in_ok-charge.charge.rows) in
     let head = in_lines (ratio_line c.args.k ∷ []) in
-    ap (λ n. (((head ++ in_lines (fates_lines n)) ++ in_lines (lines_where early c.in_ok-it.it))
+    ap (λ n. ((((head ++ in_lines (fates_lines n)) ++ in_lines (changes_line n ∷ []))
+    ++ in_lines (lines_where early c.in_ok-it.it))
     ++ in_lines (bound_line n ∷ [])) ++ rows) (c.count-counts.ensures run J of c.in_ok-charge.ensures.totals
     (c.in_ok-charge.ensures.value J of))
-    ∙ ap (λ ls. (((head ++ in_lines (fates_lines counts)) ++ in_lines ls) ++ in_lines (bound_line counts ∷ []))
-    ++ rows)
+    ∙ ap (λ ls. ((((head ++ in_lines (fates_lines counts)) ++ in_lines (changes_line counts ∷ [])) ++ in_lines ls)
+    ++ in_lines (bound_line counts ∷ [])) ++ rows)
     (same_where early c.in_ok-it.it (early_of jobs (served J) run) (c.in_ok-it.ensures c.args.k J of))
     ∙ report_is c.args.k run J of early jobs (served J) c.in_ok-charge.charge.value c.in_ok-charge.charge.rows
     (c.may_finish_early-early.ensures ∙ ap may_finish_early (sym three)) (λ e. refl) refl
