@@ -69,22 +69,21 @@ number_ready t n (task ∷ tasks) member = by_test (is_ready t task) refl member
 -- the entry of a task with a tick more, which has work left and is in time
 entry_given : (n : ℕ) (task : Task) → 0 < left task → left task ≤ task.job.deadline
     → entry_of (given n task) ≡ given_entry n (entry_of task)
-entry_given n task some fits = by_test (eqb task.number n) where
-  less : task.job.work - (task.had + 1) ≡ left task - 1
-  less = omega arith
+entry_given n task some fits = elim (eqb task.number n) as (λ b. entry_of
+    (cond b (record task { had = task.had + 1 }) task) ≡ cond b
+    (record (entry_of task) { left = (entry_of task).left - 1; latest = (entry_of task).latest + 1 }) (entry_of task)) [
+      | true ↦ ap (λ rest. with_left rest (task.job.deadline - rest)) less ∙ ap (with_left (left task - 1)) later
+      | false ↦ refl
+    ] where
+      less : task.job.work - (task.had + 1) ≡ left task - 1
+      less = omega arith
 
-  later : task.job.deadline - (left task - 1) ≡ latest_start task + 1
-  later = omega arith
+      later : task.job.deadline - (left task - 1) ≡ latest_start task + 1
+      later = omega arith
 
-  with_left : ℕ → ℕ → Entry
-  with_left rest latest = record
-      { number = task.number; deadline = task.job.deadline; latest = latest; left = rest; value = task.job.value }
-
-  by_test : (b : Bool) → entry_of (cond b (record task { had = task.had + 1 }) task)
-      ≡ cond b (record (entry_of task) { left = (entry_of task).left - 1; latest = (entry_of task).latest + 1 })
-      (entry_of task)
-  by_test true = ap (λ rest. with_left rest (task.job.deadline - rest)) less ∙ ap (with_left (left task - 1)) later
-  by_test false = refl
+      with_left : ℕ → ℕ → Entry
+      with_left rest latest = record
+          { number = task.number; deadline = task.job.deadline; latest = latest; left = rest; value = task.job.value }
 
 -- of a released job, being ready is being in time
 in_time : (t : ℕ) (task : Task) → task.job.release ≤ t → is_in_time t (entry_of task) ≡ is_ready t task
@@ -99,19 +98,32 @@ module _ (n t : ℕ) where
       ≡ map entry_of (filter (is_ready (t + 1)) (map (given n) tasks))
   entries_after [] early fits = refl
   entries_after (task ∷ tasks) early fits =
-      by_test (is_ready t task) refl
-      (entries_after tasks (λ other m. early other (inr m)) (λ other m. fits other (inr m))) where
+      (elim (is_ready t task) as (λ b. is_ready t task ≡ b → after ≡ map entry_of following → filter
+      (is_in_time (t + 1)) (map (given_entry n) (map entry_of
+      (cond b (task ∷ filter (is_ready t) tasks) (filter (is_ready t) tasks)))) ≡ map entry_of
+      (cond (is_ready (t + 1) (given n task)) (given n task ∷ following) following)) [
+        | true ↦ λ ready rest. let says : (task.job.release ≤ t) × (0 < left task) × (t + left task ≤ task.job.deadline)
+            =
+            ready_says t task ready in
+            let same : given_entry n (entry_of task) ≡ entry_of (given n task) =
+            sym (entry_given n task says.1 (let fit : t + left task ≤ task.job.deadline = says.2 in omega arith)) in
+            ap (λ e. cond (is_in_time (t + 1) e) (e ∷ after) after) same
+            ∙ ap (λ b. cond b (entry_of (given n task) ∷ after) after) (in_time (t + 1) (given n task) released)
+            ∙ elim (is_ready (t + 1) (given n task)) as (λ b. cond b (entry_of (given n task) ∷ after) after ≡ map
+            entry_of (cond b (given n task ∷ following) following)) [
+              | true ↦ ap (λ es. entry_of (given n task) ∷ es) rest
+              | false ↦ rest
+            ]
+        | false ↦ λ late rest. let stays : given n task ≡ task = idle_task n t task (fits task (inl refl)) late in
+            let none : is_ready (t + 1) (given n task) ≡ false = ap (is_ready (t + 1)) stays
+            ∙ never_again t task (early task (inl refl)) late in
+            rest ∙ ap (λ b. map entry_of (cond b (given n task ∷ following) following)) (sym none)
+      ]) refl (entries_after tasks (λ other m. early other (inr m)) (λ other m. fits other (inr m))) where
         after : List Entry
         after = filter (is_in_time (t + 1)) (map (given_entry n) (map entry_of (filter (is_ready t) tasks)))
 
         following : List Task
         following = filter (is_ready (t + 1)) (map (given n) tasks)
-
-        kept : (b : Bool) → after ≡ map entry_of following
-            → cond b (entry_of (given n task) ∷ after) after ≡ map entry_of
-            (cond b (given n task ∷ following) following)
-        kept true rest = ap (λ es. entry_of (given n task) ∷ es) rest
-        kept false rest = rest
 
         released : (given n task).job.release ≤ t + 1
         released = let now : task.job.release ≤ t = early task (inl refl) in
@@ -120,24 +132,6 @@ module _ (n t : ℕ) where
               by_number : (b : Bool) → (cond b (record task { had = task.had + 1 }) task).job.release ≡ task.job.release
               by_number true = refl
               by_number false = refl
-
-        by_test : (b : Bool) → is_ready t task ≡ b → after ≡ map entry_of following
-            → filter (is_in_time (t + 1))
-            (map (given_entry n) (map entry_of (cond b (task ∷ filter (is_ready t) tasks) (filter (is_ready t) tasks))))
-            ≡ map entry_of (cond (is_ready (t + 1) (given n task)) (given n task ∷ following) following)
-        by_test true ready rest =
-            let says : (task.job.release ≤ t) × (0 < left task) × (t + left task ≤ task.job.deadline) =
-            ready_says t task ready in
-            let same : given_entry n (entry_of task) ≡ entry_of (given n task) =
-            sym (entry_given n task says.1 (let fit : t + left task ≤ task.job.deadline = says.2 in omega arith)) in
-            ap (λ e. cond (is_in_time (t + 1) e) (e ∷ after) after) same
-            ∙ ap (λ b. cond b (entry_of (given n task) ∷ after) after) (in_time (t + 1) (given n task) released)
-            ∙ kept (is_ready (t + 1) (given n task)) rest
-        by_test false late rest =
-            let stays : given n task ≡ task = idle_task n t task (fits task (inl refl)) late in
-            let none : is_ready (t + 1) (given n task) ≡ false = ap (is_ready (t + 1)) stays
-            ∙ never_again t task (early task (inl refl)) late in
-            rest ∙ ap (λ b. map entry_of (cond b (given n task ∷ following) following)) (sym none)
 
   -- the value served after the tick is that served before it, and that of the ready jobs which have no work left
   pub value_after : (tasks : List Task) → Fits n t tasks

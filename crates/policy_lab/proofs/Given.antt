@@ -1,8 +1,10 @@
 -- What one tick of a policy's run does to the tasks.
 use Rattle.std.proofs.Common.{◌≡◌, ℕ, ◌+◌, ◌≤◌, ◌<◌, List, refl, ap, Bool, true, false, cond, eqb, arith, nat_le}
 use Rattle.std.proofs.Common.{nat_lt, ◌&&◌}
+use Rattle.std.proofs.lemmas.Bool.{false_from_ne_true}
 use Rattle.dover_model.specs.declared.events.Task.{Task}
 use Rattle.dover_model.specs.Common.{left, Each, given}
+use Rattle.dover_model.proofs.lists.Members.{by_bool}
 use Rattle.policy_lab.specs.PolicyRun.{is_ready}
 
 -- the three tests, on numbers
@@ -23,16 +25,13 @@ says_ready t task released some fits = say_tests task.job.release t (left task) 
 
 -- a job that isn't ready isn't so later either
 pub never_again : (t : ℕ) (task : Task) → task.job.release ≤ t → is_ready t task ≡ false → is_ready (t + 1) task ≡ false
-never_again t task released late = by_test (is_ready (t + 1) task) refl where
-  by_test : (b : Bool) → is_ready (t + 1) task ≡ b → b ≡ false
-  by_test false h = refl
-  by_test true h =
-      let says : (task.job.release ≤ t + 1) × (0 < left task) × (t + 1 + left task ≤ task.job.deadline) =
-      ready_says (t + 1) task h in
-      let again : is_ready t task ≡ true =
-      says_ready t task released says.1
-      (let fits : t + 1 + left task ≤ task.job.deadline = says.2 in omega arith) in
-      cc
+never_again t task released late = false_from_ne_true (is_ready (t + 1) task)
+    (λ h. let says : (task.job.release ≤ t + 1) × (0 < left task) × (t + 1 + left task ≤ task.job.deadline) =
+    ready_says (t + 1) task h in
+    let again : is_ready t task ≡ true =
+    says_ready t task released says.1
+    (let fits : t + 1 + left task ≤ task.job.deadline = says.2 in omega arith) in
+    cc)
 
 -- the job of this number alone is given the tick
 pub given_other : (n : ℕ) (task : Task) → eqb task.number n ≡ false → given n task ≡ task
@@ -58,7 +57,6 @@ Fits n t tasks = Each (λ task. eqb task.number n ≡ true → is_ready t task �
 -- a job that isn't ready stays as it is
 pub idle_task : (n t : ℕ) (task : Task) → (eqb task.number n ≡ true → is_ready t task ≡ true) → is_ready t task ≡ false
     → given n task ≡ task
-idle_task n t task fits late = by_test (eqb task.number n) refl where
-  by_test : (b : Bool) → eqb task.number n ≡ b → given n task ≡ task
-  by_test true same = let ready : is_ready t task ≡ true = fits same in cc
-  by_test false other = given_other n task other
+idle_task n t task fits late = by_bool _ (eqb task.number n)
+    (λ same. let ready : is_ready t task ≡ true = fits same in cc)
+    (λ other. given_other n task other)

@@ -4,6 +4,7 @@ use Rattle.std.proofs.Common.{get_or, map, refl, sym, ap, ◌∙◌, subst, Bool
 use Rattle.std.proofs.Common.{append_assoc, filter, append-nil}
 use Rattle.std.proofs.lemmas.List.{drop_more, map-append, length_push}
 use Rattle.std.proofs.lemmas.List.Elements.{filter-append}
+use Rattle.std.proofs.lemmas.Bool.{false_from_ne_true}
 use Rattle.dover_model.specs.Common.{JobFacts, IsJob, entry_of, to_come, given, IsMember, Each}
 use Rattle.dover_model.specs.declared.events.Task.{Task}
 use Rattle.dover_model.specs.declared.events.Entry.{Entry}
@@ -96,12 +97,10 @@ none_ready : (t n : ℕ) (jobs : List JobFacts) → Each (λ j. t < j.release) j
 none_ready t n [] late = refl
 none_ready t n (j ∷ jobs) late =
     ap (λ b. cond b (coming_task n j ∷ filter (is_ready t) (to_come (suc n) jobs))
-    (filter (is_ready t) (to_come (suc n) jobs))) (not_yet (is_ready t (coming_task n j)) refl)
-    ∙ none_ready t (suc n) jobs (λ i m. late i (inr m)) where
-      not_yet : (b : Bool) → is_ready t (coming_task n j) ≡ b → b ≡ false
-      not_yet false h = refl
-      not_yet true h = absurd (let released : j.release ≤ t = (ready_says t (coming_task n j) h).0 in
-          let above : t < j.release = late j (inl refl) in omega arith)
+    (filter (is_ready t) (to_come (suc n) jobs))) (false_from_ne_true (is_ready t (coming_task n j))
+    (λ h. absurd (let released : j.release ≤ t = (ready_says t (coming_task n j) h).0 in
+    let above : t < j.release = late j (inl refl) in omega arith)))
+    ∙ none_ready t (suc n) jobs (λ i m. late i (inr m))
 
 -- the entries are those of all ready tasks
 pub all_ready : (t n : ℕ) (jobs : List JobFacts) (entries : List Entry) (tasks : List Task)

@@ -1,9 +1,10 @@
 -- What a policy picks up to a tick depends on the jobs that are released by then alone.
 use Rattle.std.proofs.Common.{◌≡◌, ℕ, suc, zero, ◌+◌, ◌≤◌, ◌<◌, inl, inr, List, [], ◌∷◌, ◌++◌, length, get_or, map}
-use Rattle.std.proofs.Common.{refl, sym, ap, ◌∙◌, subst, Bool, true, false, cond, arith, None, unwrap_or, filter, fold}
+use Rattle.std.proofs.Common.{refl, sym, ap, ◌∙◌, subst, true, cond, arith, None, unwrap_or, filter, fold}
 use Rattle.std.proofs.Common.{append-nil}
 use Rattle.std.proofs.lemmas.List.{map-append}
 use Rattle.std.proofs.lemmas.List.Elements.{filter-append}
+use Rattle.std.proofs.lemmas.Bool.{false_from_ne_true}
 use Rattle.dover_model.specs.Common.{JobFacts, entry_of, to_come, left, last_deadline, given, known_at, IsMember, Each}
 use Rattle.dover_model.specs.declared.events.Task.{Task}
 use Rattle.dover_model.proofs.lists.Members.{on_map, member_front}
@@ -20,11 +21,10 @@ none_ready : (t : ℕ) (tasks : List Task) → Each (λ task. is_ready t task �
     → filter (is_ready t) tasks ≡ []
 none_ready t [] never = refl
 none_ready t (task ∷ tasks) never =
-    ap (λ b. cond b (task ∷ filter (is_ready t) tasks) (filter (is_ready t) tasks)) (not_so (is_ready t task) refl)
-    ∙ none_ready t tasks (λ other m. never other (inr m)) where
-      not_so : (b : Bool) → is_ready t task ≡ b → b ≡ false
-      not_so false h = refl
-      not_so true h = absurd (never task (inl refl) h)
+    ap (λ b. cond b (task ∷ filter (is_ready t) tasks) (filter (is_ready t) tasks))
+    (false_from_ne_true (is_ready t task)
+    (λ h. absurd (never task (inl refl) h)))
+    ∙ none_ready t tasks (λ other m. never other (inr m))
 
 -- what is picked so many ticks after tick t
 abbrev pub seen : Picks → (ticks : ℕ) → ℕ → List Task → ℕ

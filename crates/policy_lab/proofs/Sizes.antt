@@ -1,16 +1,14 @@
 -- Jobs that a policy is run over.
-use Rattle.std.proofs.Common.{◌≡◌, ◌≤◌, ◌<◌, ◌↔◌, ℕ, List, length, inl, inr, refl, sym, ◌∙◌, Bool, true, false, IsTrue}
+use Rattle.std.proofs.Common.{◌≡◌, ◌≤◌, ◌<◌, ◌↔◌, ℕ, List, length, inl, inr, sym, ◌∙◌, Bool, false, IsTrue}
 use Rattle.std.proofs.Common.{nat_lt, ltb-true, ltb-false}
 use Rattle.dover_model.specs.Common.{JobFacts, last_deadline}
 use Rattle.dover_model.proofs.lists.Tests.{never}
+use Rattle.dover_model.proofs.lists.Members.{by_bool}
 use Rattle.policy_lab.specs.PolicyRun.{AreTooLarge}
 
 -- what isn't above is at most as great
 at_most : (n m : ℕ) → (m < n → ⊥) → n ≤ m
-at_most n m below = by_test (nat_lt m n) refl where
-  by_test : (b : Bool) → nat_lt m n ≡ b → n ≤ m
-  by_test true up = absurd (below (ltb-true m n up))
-  by_test false low = ltb-false m n low
+at_most n m below = by_bool _ (nat_lt m n) (λ up. absurd (below (ltb-true m n up))) (λ low. ltb-false m n low)
 
 -- those that aren't too large are few, and due soon
 pub small : (jobs : List JobFacts) (large : Bool) → (IsTrue large ↔ AreTooLarge jobs) → large ≡ false
