@@ -72,61 +72,55 @@ module _ (lines : ℕ) (S : Session) (mark : ℕ) (standing : Standing) where
 
   -- a job line
   job_keeps : (j : JobFacts) → BeginsWith S.items (with_line at (JobLine j) (later_line_cause S mark (JobLine j)))
-  job_keeps j = by_order (nat_lt j.release mark) where
-    by_two : (refusal : Refusal) (two : Bool)
-        → BeginsWith S.items (cond two (with_refused_at at (refused_mark mark j refusal) j refusal)
-        (with_fault at (NotAdmitted refusal)))
-    by_two refusal true = one (refused_at (refused_mark mark j refusal) j refusal)
-    by_two refusal false = none
+  job_keeps j = elim (nat_lt j.release mark) as (λ b. BeginsWith S.items
+      (with_line at (JobLine j) (cond b (Some (late_cause S.rules.version))
+      (option_map NotAdmitted (refusal_in S j))))) [
+        | true ↦ elim (late_refusal S.rules.version) as (λ o. BeginsWith S.items
+            (with_line at (JobLine j) (Some (option_map_or NotAdmitted o Order)))) [
+              | None ↦ none
+              | Some refusal ↦ by_two refusal (refuses_lines S.rules.version)
+            ]
+        | false ↦ by_refusal (refusal_in S j)
+      ] where
+        by_two : (refusal : Refusal) (two : Bool)
+            → BeginsWith S.items (cond two (with_refused_at at (refused_mark mark j refusal) j refusal)
+            (with_fault at (NotAdmitted refusal)))
+        by_two refusal true = one (refused_at (refused_mark mark j refusal) j refusal)
+        by_two refusal false = none
 
-    by_refusal : (o : Option Refusal) → BeginsWith S.items (with_line at (JobLine j) (option_map NotAdmitted o))
-    by_refusal None = one (JobItem j)
-    by_refusal (Some refusal) = by_two refusal (refuses_lines S.rules.version)
-
-    by_late : (o : Option Refusal)
-        → BeginsWith S.items (with_line at (JobLine j) (Some (option_map_or NotAdmitted o Order)))
-    by_late None = none
-    by_late (Some refusal) = by_two refusal (refuses_lines S.rules.version)
-
-    by_order : (b : Bool) → BeginsWith S.items
-        (with_line at (JobLine j)
-        (cond b (Some (late_cause S.rules.version)) (option_map NotAdmitted (refusal_in S j))))
-    by_order true = by_late (late_refusal S.rules.version)
-    by_order false = by_refusal (refusal_in S j)
+        by_refusal : (o : Option Refusal) → BeginsWith S.items (with_line at (JobLine j) (option_map NotAdmitted o))
+        by_refusal None = one (JobItem j)
+        by_refusal (Some refusal) = by_two refusal (refuses_lines S.rules.version)
 
   -- a done line
   done_keeps : (t m : ℕ) → BeginsWith S.items (with_line at (DoneLine t m) (later_line_cause S mark (DoneLine t m)))
   done_keeps t m = by_version (may_finish_early S.rules.version) where
-    by_finish : (o : Option EarlyFinish)
-        → BeginsWith S.items (record at { session = Some (with_named S (option_map FinishItem o)) })
-    by_finish None = none
-    by_finish (Some f) = one (FinishItem f)
-
     by_right : (b : Bool) → BeginsWith S.items (with_line at (DoneLine t m) (cond b None (Some NotDone)))
-    by_right true = by_finish (early_at S t m)
+    by_right true = elim (early_at S t m) as (λ o. BeginsWith S.items
+        (record at { session = Some (with_named S (option_map FinishItem o)) })) [
+          | None ↦ none
+          | Some f ↦ one (FinishItem f)
+        ]
     by_right false = one (refused_done_at (max mark t) t m)
-
-    by_tick : (b : Bool) → BeginsWith S.items (with_line at (DoneLine t m)
-        (cond b (Some Order) (cond (is_right S mark t m) None (Some NotDone))))
-    by_tick true = none
-    by_tick false = by_right (is_right S mark t m)
 
     by_version : (b : Bool) → BeginsWith S.items (with_line at (DoneLine t m) (cond b
         (cond (nat_lt last_tick t) (Some Order) (cond (is_right S mark t m) None (Some NotDone))) (Some Line)))
-    by_version true = by_tick (nat_lt last_tick t)
+    by_version true = elim (nat_lt last_tick t) as (λ b. BeginsWith S.items
+        (with_line at (DoneLine t m) (cond b (Some Order) (cond (is_right S mark t m) None (Some NotDone))))) [
+          | true ↦ none
+          | false ↦ by_right (is_right S mark t m)
+        ]
     by_version false = none
 
   -- any line that has a form
   form_keeps : (line : FeedLine) → BeginsWith S.items (with_line at line (later_line_cause S mark line))
-  form_keeps (RatioLine p q version) = none
-  form_keeps (FactorLine p q version b c) = none
   form_keeps (JobLine j) = job_keeps j
   form_keeps (TickLine t) = by_tests (nat_lt t mark || nat_lt last_tick t) where
     by_tests : (b : Bool) → BeginsWith S.items (with_line at (TickLine t) (cond b (Some Order) None))
     by_tests true = none
     by_tests false = none
   form_keeps (DoneLine t m) = done_keeps t m
-  form_keeps EndLine = none
+  form_keeps _ = none
 
   -- any line
   read_keeps : (l : List ℕ) → BeginsWith S.items (read_line at l)

@@ -61,17 +61,12 @@ module _ (S : Session) (t n : ℕ) (a : Account) where
 
   -- it goes on as before
   pub done_standing : (with_done S t n a).standing ≡ a.standing
-  done_standing = by (is_right S a.mark t n) where
-    by : (b : Bool) → (by_test b).standing ≡ a.standing
-    by true = refl
-    by false = refl
+  done_standing =
+      elim (is_right S a.mark t n) as (λ b. (by_test b).standing ≡ a.standing) [ true ↦ refl | false ↦ refl ]
 
   -- as many lines are counted
   pub done_lines : (with_done S t n a).lines ≡ a.lines
-  done_lines = by (is_right S a.mark t n) where
-    by : (b : Bool) → (by_test b).lines ≡ a.lines
-    by true = refl
-    by false = refl
+  done_lines = elim (is_right S a.mark t n) as (λ b. (by_test b).lines ≡ a.lines) [ true ↦ refl | false ↦ refl ]
 
   -- the mark is its tick at least
   pub done_mark : (with_done S t n a).mark ≡ max a.mark t

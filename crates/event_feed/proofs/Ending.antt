@@ -23,6 +23,7 @@ use Rattle.event_feed.specs.declared.listed.Listed.{Listed}
 use Rattle.event_feed.specs.declared.reader.FeedReader.{FeedReader}
 use Rattle.event_feed.proofs.Listing.{goes_on}
 use Rattle.dover_model.proofs.sessions.SessionParts.{session_jobs}
+use Rattle.dover_model.proofs.lists.Members.{by_bool}
 
 -- ---- the end line
 
@@ -76,11 +77,10 @@ module _ (reader : FeedReader) (x : List ℕ) (it : StandsFor reader x) where
 
   -- where the jobs aren't too many, the account is that of what was read
   pub same_account : reader.gathering.too_many ≡ false → account it.read ≡ account x
-  same_account few = by_going reader.gathering.going refl where
-    by_going : (b : Bool) → reader.gathering.going ≡ b → account it.read ≡ account x
-    by_going true on = ap account (whole on)
-    by_going false off = sym (ap account it.front ∙ closed_account it.read it.rest
-        (sym (few_wanted (account it.read) (sym it.reads.keeps.too_many ∙ few)) ∙ sym it.reads.keeps.goes_on ∙ off))
+  same_account few = by_bool _ reader.gathering.going
+      (λ on. ap account (whole on))
+      (λ off. sym (ap account it.front ∙ closed_account it.read it.rest
+      (sym (few_wanted (account it.read) (sym it.reads.keeps.too_many ∙ few)) ∙ sym it.reads.keeps.goes_on ∙ off)))
 
   -- it knows whether they are
   pub many_is : reader.gathering.too_many ≡ has_too_many (account x)
@@ -92,11 +92,10 @@ module _ (reader : FeedReader) (x : List ℕ) (it : StandsFor reader x) where
 
   -- it knows whether more is wanted
   pub going_is : reader.gathering.going ≡ wants_more (account x)
-  going_is = by reader.gathering.going refl where
-    by : (b : Bool) → reader.gathering.going ≡ b → reader.gathering.going ≡ wants_more (account x)
-    by true on = it.reads.keeps.goes_on ∙ ap (λ y. wants_more (account y)) (whole on)
-    by false off = off ∙ sym (ap (λ y. wants_more (account y)) it.front
-        ∙ none_more it.read it.rest (sym it.reads.keeps.goes_on ∙ off))
+  going_is = by_bool _ reader.gathering.going
+      (λ on. it.reads.keeps.goes_on ∙ ap (λ y. wants_more (account y)) (whole on))
+      (λ off. off ∙ sym (ap (λ y. wants_more (account y)) it.front
+      ∙ none_more it.read it.rest (sym it.reads.keeps.goes_on ∙ off)))
 
   -- and has read all where it is
   pub going_read : wants_more (account x) ≡ true → HasRead reader x

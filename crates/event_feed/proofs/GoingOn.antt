@@ -1,6 +1,7 @@
 -- A feed that goes on has few lines and few bytes, and the account of one that doesn't stays.
 use Rattle.std.proofs.Common.{◌≡◌, ◌≤◌, ◌<◌, ◌+◌, ℕ, suc, List, ◌∷◌, ◌++◌, [], length, refl, ap, ◌∙◌, subst, Bool, true}
 use Rattle.std.proofs.Common.{false, cond, Option, Some, None, arith, nat_lt, fold, ltb-false, ltb-true, append-nil}
+use Rattle.std.proofs.lemmas.Bool.{false_from_ne_true}
 use Rattle.dover_model.specs.Common.{most_lines, in_lines, lines_of, whole_lines, rest_of, is_too_long, fields_of}
 use Rattle.dover_model.specs.Common.{FeedLine, feed_line, line_of_fields, Session, Account, Standing, Open, Ended}
 use Rattle.dover_model.specs.Common.{Faulty, Lines, Cause, no_lines, is_open, next_line, read_line, with_fault, account}
@@ -88,15 +89,13 @@ last_short (m ∷ ls) l short = last_short ls l short.1
 
 -- in a feed that goes on, no line that has begun is too long
 pub open_short : (x : List ℕ) → (account x).standing ≡ Open → is_too_long (rest_of x) ≡ false
-open_short x opened = by (is_too_long (rest_of x)) refl where
-  by : (b : Bool) → is_too_long (rest_of x) ≡ b → b ≡ false
-  by false is = refl
-  by true is = let ended : lines_of x ≡ whole_lines x ++ rest_of x ∷ [] =
-      ap (λ b. whole_lines x ++ cond b (rest_of x ∷ []) []) is in
-      let good = lines_good (lines_of x) no_lines opened in
-      let few : length (rest_of x) ≤ 128 =
-      last_short (whole_lines x) (rest_of x) (subst AreNotTooLong ended good.0) in
-      absurd (omega (arith, few, ltb-true 128 (length (rest_of x)) is))
+open_short x opened = false_from_ne_true (is_too_long (rest_of x))
+    (λ is. let ended : lines_of x ≡ whole_lines x ++ rest_of x ∷ [] =
+    ap (λ b. whole_lines x ++ cond b (rest_of x ∷ []) []) is in
+    let good = lines_good (lines_of x) no_lines opened in
+    let few : length (rest_of x) ≤ 128 =
+    last_short (whole_lines x) (rest_of x) (subst AreNotTooLong ended good.0) in
+    absurd (omega (arith, few, ltb-true 128 (length (rest_of x)) is)))
 
 -- a feed that goes on has at most so many bytes
 pub open_bytes : (x : List ℕ) → (account x).standing ≡ Open → is_too_long (rest_of x) ≡ false

@@ -21,7 +21,7 @@ use Rattle.dover_model.specs.declared.events.Refusal.TheVariants.{Full}
 use Rattle.dover_model.proofs.sessions.Accounts.{IsKept, Holds, HoldsBy}
 use Rattle.dover_model.proofs.settled.Barriers.{settled_at_barrier}
 use Rattle.dover_model.proofs.sessions.Growing.{job_instance, refused_instance, finish_instance}
-use Rattle.dover_model.proofs.lists.Members.{found, some_same, all_append}
+use Rattle.dover_model.proofs.lists.Members.{found, some_same, all_append, by_bool}
 use Rattle.dover_model.proofs.rest.Resting.{numbers_below}
 use Rattle.dover_model.proofs.finishes.RightFinishes.{none_other}
 use Rattle.dover_model.proofs.valid.Valid.{all_from}
@@ -345,13 +345,10 @@ module _ (a b : Account) (declared : Option (Fraction × Version)) (jobs : List 
       kept_listed after (inr it) = subst (λ ds. ListsIn declared jobs ds b) (sym it.1)
           (done_listed (omega (arith, it.0, mark_is)))
       kept_listed after (inl it) = subst (λ ds. ListsIn declared jobs ds b) (sym it.1) (by_why it.0) where
-        by_less : (b.mark ≢ tick) → (less : Bool) → nat_lt tick a.mark ≡ less → ListsIn declared jobs done_lines b
-        by_less other true low = late_listed (ltb-true tick a.mark low)
-        by_less other false high =
-            let up : a.mark ≤ tick = ltb-false tick a.mark high in absurd (other (omega (arith, up, mark_is)))
-
         by_why : (b.mark ≢ tick) ⊎ (length jobs ≤ number) → ListsIn declared jobs done_lines b
-        by_why (inl other) = by_less other (nat_lt tick a.mark) refl
+        by_why (inl other) = by_bool _ (nat_lt tick a.mark)
+            (λ low. late_listed (ltb-true tick a.mark low))
+            (λ high. let up : a.mark ≤ tick = ltb-false tick a.mark high in absurd (other (omega (arith, up, mark_is))))
         by_why (inr above) = none_listed above
 
 -- two facts of a good answer

@@ -12,6 +12,7 @@ use Rattle.dover_model.specs.declared.events.Refusal.{Refusal}
 use Rattle.dover_model.specs.declared.events.Refusal.TheVariants.{BadJob, Count, Total, Ratio, Late, Full}
 use Rattle.dover_model.specs.declared.events.Version.TheVariants.{Two}
 use Rattle.dover_model.proofs.lists.Tests.{not_true}
+use Rattle.dover_model.proofs.lists.Members.{by_bool}
 use Rattle.event_feed.specs.Answers.{AddsJob, AddsRefused, AddsDone, counted}
 use Rattle.event_feed.specs.Keeping.{Keeps, KeepsAll}
 use Rattle.event_feed.specs.Listing.{is_offered, offered_in, has_too_many, wants_more}
@@ -42,11 +43,9 @@ wanted_short x wants = open_short x (open_by_test (account x) (wanted_few (accou
 
 -- and where no more is wanted, none is behind further bytes
 pub none_more : (x y : List ℕ) → wants_more (account x) ≡ false → wants_more (account (x ++ y)) ≡ false
-none_more x y over = by (has_too_many (account x)) refl where
-  by : (many : Bool) → has_too_many (account x) ≡ many → wants_more (account (x ++ y)) ≡ false
-  by true many = none_wanted (account (x ++ y)) (too_many_front x y many)
-  by false few =
-      ap wants_more (closed_account x y (sym (few_wanted (account x) few) ∙ over)) ∙ over
+none_more x y over = by_bool _ (has_too_many (account x))
+    (λ many. none_wanted (account (x ++ y)) (too_many_front x y many))
+    (λ few. ap wants_more (closed_account x y (sym (few_wanted (account x) few) ∙ over)) ∙ over)
 
 -- ---- how many are offered
 
@@ -85,12 +84,8 @@ module _ (a b : Account) where
     ap (λ (c : Bool). cond {A = ℕ} c 1 0) (by_cause refusal it.not_full),
   ) where
     by_cause : (r : Refusal) → r ≢ Full → is_same_refusal r Full ≡ false
-    by_cause BadJob other = refl
-    by_cause Count other = refl
-    by_cause Total other = refl
-    by_cause Ratio other = refl
-    by_cause Late other = refl
     by_cause Full other = absurd (other refl)
+    by_cause _ other = refl
 
   -- nor is one by a done line
   pub offered_done : (tick number : ℕ) → AddsDone tick number (counted a) b → offered_in b ≡ offered_in a

@@ -171,9 +171,8 @@ after_byte-Goes c bytes byte stands short = kept c.last c.line c.count bytes byt
 stays : (last : ByteEffect) (line : List ℕ) (count : ℕ) (byte : ℕ) → is_over last ≡ true
     → after_byte (record { line = line; count = count; last = last }) byte ≡ record
     { line = line; count = count; last = last }
-stays More line count byte over = never over
-stays Line line count byte over = never over
 stays TooLong line count byte over = refl
+stays _ line count byte over = never over
 
 -- what is kept stands for the bytes with one more
 pub after_byte-StandsFor : (c : Cutting) (bytes : List ℕ) (byte : ℕ) → StandsFor c bytes

@@ -17,7 +17,7 @@ use Rattle.dover_model.specs.declared.events.Role.TheVariants.{Running}
 use Rattle.dover_model.specs.declared.events.Task.{Task}
 use Rattle.dover_model.proofs.sessions.Growing.{finish_instance}
 use Rattle.dover_model.proofs.settled.LastSteps.{last_tells}
-use Rattle.dover_model.proofs.lists.Members.{found, some_same}
+use Rattle.dover_model.proofs.lists.Members.{found, some_same, by_bool}
 use Rattle.dover_model.proofs.finishes.RightFinishes.{all_before, FinishSays, finish_says, right_finish, none_late}
 use Rattle.dover_model.proofs.finishes.RightFinishes.{none_other}
 use Rattle.dover_model.proofs.steps.Roles.{passes, is_running_role}
@@ -157,11 +157,10 @@ module _ (r : Reading) (at number : ℕ) (ls : List (List ℕ)) (can : CanComple
 
   -- no step was printed at it
   pub done_low : r.last < r.course.clock
-  done_low = by_late (nat_lt r.last at) refl where
-    by_late : (b : Bool) → nat_lt r.last at ≡ b → r.last < r.course.clock
-    by_late true low = omega (arith, ltb-true r.last at low, done_clock)
-    by_late false late = never (late_wrong r at ls S can.from y can.waited number (ltb-false r.last at late)
-        ∙ ap is_some can.right)
+  done_low = by_bool _ (nat_lt r.last at)
+      (λ low. omega (arith, ltb-true r.last at low, done_clock))
+      (λ late. never (late_wrong r at ls S can.from y can.waited number (ltb-false r.last at late)
+      ∙ ap is_some can.right))
 
   -- the finish of the job that runs
   abbrev f : EarlyFinish

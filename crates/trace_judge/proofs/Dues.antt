@@ -19,9 +19,8 @@ use Rattle.dover_model.proofs.sessions.SessionParts.{session_jobs}
 
 -- the numbers of what is due have numerals
 abbrev IsShortDue : Expected → Type 0
-IsShortDue Header = Unit {0}
 IsShortDue (Step e) = AreShort (step_numbers e)
-IsShortDue Nothing = Unit {0}
+IsShortDue _ = Unit {0}
 
 -- one of the steps is due, or nothing
 nth_short : (es : List Event) (n : ℕ) → AreAllShort es → IsShortDue (option_map_or Step (slice_get es n) Nothing)
@@ -68,9 +67,8 @@ before_wrong before (l ∷ ls) n passes wrong = by_test (begins_trace (before ++
 
 -- what is due by the verdict
 abbrev due_of : Verdict → Expected
-due_of (Accepted S) = Nothing
 due_of (Wrong line due) = due
-due_of (Short lines) = Nothing
+due_of _ = Nothing
 
 -- a good verdict tells of nothing that is due
 good_due : (a : Bool) (o : Option Session) (k : ℕ)

@@ -6,6 +6,7 @@ use Rattle.dover_model.specs.declared.Memory.{Memory}
 use Rattle.dover_model.specs.Lines.{whole_lines}
 use Rattle.dover_model.specs.Verdict as model
 use Rattle.dover_model.proofs.lists.Tests.{never}
+use Rattle.dover_model.proofs.lists.Members.{by_bool}
 use Rattle.line_text.specs.Cutting as cutting
 use Rattle.line_text.specs.Cutting.{HasCut}
 use Rattle.line_text.specs.declared.cutting.ByteEffect.TheVariants.{Line}
@@ -68,10 +69,9 @@ ok_not_err (Err e) ok err = never ok
 
 -- where a small size is enough, one that failed was larger
 pub unroomed : {A : Type 0} (r : Result A Memory) (m n : ℕ) → (m ≤ n → IsOk r) → IsErr r → n < m
-unroomed r m n ok err = by_less (nat_lt n m) refl where
-  by_less : (b : Bool) → nat_lt n m ≡ b → n < m
-  by_less true less = ltb-true n m less
-  by_less false not_less = absurd (ok_not_err r (ok (ltb-false n m not_less)) err)
+unroomed r m n ok err = by_bool _ (nat_lt n m)
+    (λ less. ltb-true n m less)
+    (λ not_less. absurd (ok_not_err r (ok (ltb-false n m not_less)) err))
 
 -- ---- a piece, front by front
 

@@ -35,8 +35,7 @@ one_form x y form_x form_y same =
 -- what is printed names jobs
 abbrev MoveNames : Move → Type 0
 MoveNames (Prints e) = NamesJobs e
-MoveNames (Waits n) = Unit {0}
-MoveNames Ticks = Unit {0}
+MoveNames _ = Unit {0}
 
 module _ (J : Instance) (valid : IsValid J) (s : State) (keeps : Keeps J s) where
   -- each job's number is one that jobs may have

@@ -96,9 +96,8 @@ few_lines (l ∷ ls) passes =
 
 -- the trace has ended
 abbrev pub is_ended : TraceStage → Bool
-is_ended Opening = false
-is_ended Going = false
 is_ended Ended = true
+is_ended _ = false
 
 -- it hasn't
 pub not_ended : (s : TraceStage) → (s ≡ Ended → ⊥) → is_ended s ≡ false
@@ -433,8 +432,7 @@ pub steps_left : (j : Judged) (text : List ℕ) → StandsFor j text → (v : Ve
     → [] ≡ steps_told j.reader.keep (model.verdict text)
 steps_left j text stands (Accepted k version value most jobs) tells other =
     absurd (other k version value most jobs refl)
-steps_left j text stands (Wrong line due) tells other = ap (steps_told j.reader.keep) (sym tells)
-steps_left j text stands (Short lines) tells other = ap (steps_told j.reader.keep) (sym tells)
+steps_left j text stands _ tells other = ap (steps_told j.reader.keep) (sym tells)
 
 -- room for more jobs changes nothing
 pub room_stands : (j : Judged) (ready spare room : ℕ) (text : List ℕ) → StandsFor j text

@@ -1,6 +1,6 @@
 -- No other lines continue a trace.
 use Rattle.std.proofs.Common.{◌≡◌, ◌+◌, ◌⊎◌, inl, inr, List, ◌∷◌, ◌++◌, length, length-append, ap, arith, Option, Some}
-use Rattle.std.proofs.Common.{[], sym, ◌∙◌, map, refl, ℕ, true, false, None, ◌≤◌, ◌<◌, subst, Bool}
+use Rattle.std.proofs.Common.{[], sym, ◌∙◌, map, refl, ℕ, true, false, None, ◌≤◌, ◌<◌, subst}
 use Rattle.std.specs.List.{starts_with, AllByRecursion, fold}
 use Rattle.std.proofs.lemmas.List.Elements.{filter_map-append}
 use Rattle.std.proofs.lemmas.List.Sums.{fold-append}
@@ -17,7 +17,7 @@ use Rattle.dover_model.specs.Common.{named_behind, named_item, begins_trace, beg
 use Rattle.dover_model.specs.Common.{text_of, refused_text, Declaration, IsValid, with_jobs, Finish, JobFacts, State}
 use Rattle.dover_model.specs.Common.{Step, printed_of, settled, settled_steps, Settles, WaitsUntil, PrintsNext}
 use Rattle.dover_model.proofs.lists.Beginnings.{begins_either, begins_onward}
-use Rattle.dover_model.proofs.lists.Members.{tails, heads, some_same, all_last}
+use Rattle.dover_model.proofs.lists.Members.{tails, heads, some_same, all_last, by_bool}
 use Rattle.dover_model.proofs.lists.Tests.{never}
 use Rattle.dover_model.proofs.traces.Named.{header_names, first_texts, texts_name, named_text}
 use Rattle.dover_model.proofs.sessions.Walks.{lines_append}
@@ -288,12 +288,11 @@ module _ (ls : List (List ℕ)) (S : Session) (floor : ℕ) (z : State) (sees : 
 
       -- the tick isn't below the floor
       pub only_later : floor ≤ t
-      only_later = by_floor (nat_lt t floor) refl where
-        by_floor : (b : Bool) → nat_lt t floor ≡ b → floor ≤ t
-        by_floor true below = absurd
-            (let less : length (settled (instance_of S) t) < length so_far = sees.tight t later (ltb-true _ _ below) in
-            omega (arith, all_printed))
-        by_floor false above = ltb-false _ _ above
+      only_later = by_bool _ (nat_lt t floor)
+          (λ below. absurd
+          (let less : length (settled (instance_of S) t) < length so_far = sees.tight t later (ltb-true _ _ below) in
+          omega (arith, all_printed)))
+          (λ above. ltb-false _ _ above)
 
       -- no more is settled then
       pub only_waits : (y : State) × WaitsUntil (instance_of S).rules t z y

@@ -1,5 +1,5 @@
 -- What follows from what the lines of a trace so far have come to.
-use Rattle.std.proofs.Common.{◌≡◌, ℕ, ◌+◌, ◌-◌, List, ◌++◌, ap, ◌∙◌, subst, arith, ◌∷◌, length, map, refl, sym, Bool}
+use Rattle.std.proofs.Common.{◌≡◌, ℕ, ◌+◌, ◌-◌, List, ◌++◌, ap, ◌∙◌, subst, arith, ◌∷◌, length, map, sym}
 use Rattle.std.proofs.Common.{[], true, false, cond, Some, slice_get, option_map, option_and_then, append_assoc}
 use Rattle.std.specs.List.{AllByRecursion}
 use Rattle.std.proofs.lemmas.List.Elements.{filter_map-append}
@@ -23,7 +23,7 @@ use Rattle.dover_model.proofs.traces.ShortNumbers.{lines_short}
 use Rattle.dover_model.proofs.traces.Named.{lines_name, header_names, texts_name, beginnings_pass}
 use Rattle.dover_model.proofs.settled.Leading.{leads_passes, passes_keeps, leads_whole, prints_first}
 use Rattle.dover_model.specs.declared.events.Event.{Event}
-use Rattle.dover_model.proofs.lists.Members.{some_same}
+use Rattle.dover_model.proofs.lists.Members.{some_same, by_bool}
 use Rattle.dover_model.proofs.lists.Beginnings.{begins_behind, begins_map}
 use Rattle.dover_model.proofs.finishes.Readiness.{IsReady, opening_ready, open_ready}
 use Rattle.dover_model.proofs.traces.WrongStays.{after_end_fails}
@@ -169,10 +169,9 @@ module _ (ls : List (List ℕ)) (S : Session) (floor : ℕ) (z : State) (sees : 
 
     -- so the trace has not ended
     pub sees_goes_on : ends_with_end ls ≡ false
-    sees_goes_on = by_end (ends_with_end ls) refl where
-      by_end : (b : Bool) → ends_with_end ls ≡ b → ends_with_end ls ≡ false
-      by_end true ended = never (sym (after_end_fails ls (text_of e) ended) ∙ next_begins)
-      by_end false on = on
+    sees_goes_on = by_bool _ (ends_with_end ls)
+        (λ ended. never (sym (after_end_fails ls (text_of e) ended) ∙ next_begins))
+        (λ on. on)
 
     -- the step that is due is that one
     pub sees_expects : expected_after ls ≡ Due e

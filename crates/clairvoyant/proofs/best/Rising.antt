@@ -1,7 +1,8 @@
 -- Lists of rising numbers.
 use Rattle.std.proofs.Common.{◌≡◌, ℕ, suc, zero, ◌+◌, ◌≤◌, ◌<◌, ◌⊎◌, inl, inr, List, [], ◌∷◌, ◌++◌, length, get_or}
-use Rattle.std.proofs.Common.{refl, sym, ap, ◌∙◌, eqb, subst, arith, cond, Bool, true, false}
+use Rattle.std.proofs.Common.{refl, sym, ap, ◌∙◌, eqb, subst, arith, cond, true, false}
 use Rattle.dover_model.specs.Sound.{IsMember, Each}
+use Rattle.dover_model.proofs.lists.Members.{by_bool}
 use Rattle.clairvoyant.specs.best.BestSet.{RiseWithin}
 
 -- from a lower number on, and below a higher one
@@ -41,14 +42,10 @@ rise_length low end (n ∷ numbers) from rise =
 pub rise_split : (next end : ℕ) (more : List ℕ) → RiseWithin next end more
     → ((rest : List ℕ) × (more ≡ next ∷ rest) × RiseWithin (suc next) end rest) ⊎ RiseWithin (suc next) end more
 rise_split next end [] rise = inr tt
-rise_split next end (n ∷ more) rise = by_test (eqb next n) refl where
-  by_test : (b : Bool) → eqb next n ≡ b
-      → ((rest : List ℕ) × (n ∷ more ≡ next ∷ rest) × RiseWithin (suc next) end rest)
-      ⊎ RiseWithin (suc next) end (n ∷ more)
-  by_test true same = let is : n ≡ next = grind arith in
-      inl (more, ap (λ k. k ∷ more) is, subst (λ k. RiseWithin (suc k) end more) is rise.2)
-  by_test false other = let from : next ≤ n = rise.0 in let apart : suc next ≤ n = grind arith in
-      inr (apart, rise.1, rise.2)
+rise_split next end (n ∷ more) rise = by_bool _ (eqb next n)
+    (λ same. let is : n ≡ next = grind arith in
+    inl (more, ap (λ k. k ∷ more) is, subst (λ k. RiseWithin (suc k) end more) is rise.2))
+    (λ other. let from : next ≤ n = rise.0 in let apart : suc next ≤ n = grind arith in inr (apart, rise.1, rise.2))
 
 -- the place of a number
 abbrev pub place : List ℕ → ℕ → ℕ

@@ -8,7 +8,7 @@ use Rattle.std.proofs.lemmas.List.{drop_all}
 use Rattle.std.proofs.lemmas.List.Sums.{sum_by-cons, sum_by-drop_more}
 use Rattle.dover_model.specs.declared.events.Version.TheVariants.{One}
 use Rattle.clairvoyant.specs.feasible.Feasibility.{ServesAll, CannotMeet, CanMeet}
-use Rattle.dover_model.proofs.lists.Members.{member_front, member_behind, member_either}
+use Rattle.dover_model.proofs.lists.Members.{member_front, member_behind, member_either, by_bool}
 use Rattle.clairvoyant.specs.declared.best.choice.Choice.{Choice}
 use Rattle.clairvoyant.specs.best.BestSet.{RiseWithin, Serves, IsGood, IsEarlier, IsBestSet, value_at, value_of}
 use Rattle.clairvoyant.specs.best.BestSet.{jobs_at, renumbered}
@@ -173,7 +173,13 @@ module _ (all : List JobFacts) (taken : List ℕ) (next : ℕ) (rise : RiseWithi
 
   -- a set with the next number isn't later than one without it
   pub with_first : (found other : List ℕ) → With found → Without other → IsEarlier other found → ⊥
-  with_first found other has_next lacks_next earlier = by_number (nat_lt_or earlier.number next) where
+  with_first found other has_next lacks_next earlier = elim (nat_lt_or earlier.number next) [
+    | inl low ↦ earlier.lacking
+        (in_with earlier.number (member_front taken (next ∷ []) earlier.number (early earlier.number low earlier.held)))
+    | inr high ↦ let again : IsMember next taken = early next (omega arith) ((earlier.same_below next high).1 next_in)
+        in
+        let below : next < next = (rise_each 0 next taken rise next again).1 in omega arith
+  ] where
     in_with : (n : ℕ) → IsMember n (taken ++ (next ∷ [])) → IsMember n found
     in_with n member = subst (IsMember n) (sym has_next.are)
         (member_front (taken ++ (next ∷ [])) has_next.more n member)
@@ -193,17 +199,7 @@ module _ (all : List JobFacts) (taken : List ℕ) (next : ℕ) (rise : RiseWithi
               omega arith)
 
     nat_lt_or : (m n : ℕ) → (m ≤ n) ⊎ (n < m)
-    nat_lt_or m n = by_bool (leb m n) refl where
-      by_bool : (b : Bool) → leb m n ≡ b → (m ≤ n) ⊎ (n < m)
-      by_bool true h = inl (leb-true m n h)
-      by_bool false h = inr (leb-false m n h)
-
-    by_number : (earlier.number ≤ next) ⊎ (next < earlier.number) → ⊥
-    by_number (inl low) = earlier.lacking
-        (in_with earlier.number (member_front taken (next ∷ []) earlier.number (early earlier.number low earlier.held)))
-    by_number (inr high) =
-        let again : IsMember next taken = early next (omega arith) ((earlier.same_below next high).1 next_in) in
-        let below : next < next = (rise_each 0 next taken rise next again).1 in omega arith
+    nat_lt_or m n = by_bool _ (leb m n) (λ h. inl (leb-true m n h)) (λ h. inr (leb-false m n h))
 
   -- where the choice with the next number is no good set, none that extends it is
   pub none_with : (wanted : ℕ) → next < length all → (IsGood all (taken ++ (next ∷ [])) → ⊥)
@@ -229,21 +225,15 @@ module _ (all : List JobFacts) (taken : List ℕ) (next : ℕ) (rise : RiseWithi
     choice = it.choice;
     extends = extends_without found.numbers.items it.extends;
     enough = it.enough;
-    greatest = λ other extends good. at_most other good (branches other extends);
-    earliest = λ other extends good same earlier. not_earlier other good same earlier (branches other extends);
-  } where
-    at_most : (other : List ℕ) → IsGood all other → With other ⊎ Without other → value_of all other ≤ found.value
-    at_most other good (inl inside) = let less : value_of all other < wanted = none_with other inside good in
-        let enough : wanted ≤ found.value = it.enough in omega arith
-    at_most other good (inr outside) = it.greatest other outside good
-
-    not_earlier : (other : List ℕ) → IsGood all other → value_of all other ≡ found.value
-        → IsEarlier other found.numbers.items
-        → With other ⊎ Without other → ⊥
-    not_earlier other good same earlier (inl inside) = let less : value_of all other < wanted =
-        none_with other inside good in
-        let enough : wanted ≤ found.value = it.enough in omega arith
-    not_earlier other good same earlier (inr outside) = it.earliest other outside good same earlier
+    greatest = λ other extends good. elim (branches other extends) [
+      | inl inside ↦ let less : value_of all other < wanted = none_with other inside good in omega (arith, it.enough)
+      | inr outside ↦ it.greatest other outside good
+    ];
+    earliest = λ other extends good same earlier. elim (branches other extends) [
+      | inl inside ↦ let less : value_of all other < wanted = none_with other inside good in omega (arith, it.enough)
+      | inr outside ↦ it.earliest other outside good same earlier
+    ];
+  }
 
   -- something in the first, and nothing of more value in the second
   pub found_with : (wanted : ℕ) (found : Choice) → next < length all
@@ -253,19 +243,15 @@ module _ (all : List JobFacts) (taken : List ℕ) (next : ℕ) (rise : RiseWithi
     choice = it.choice;
     extends = extends_with found.numbers.items short it.extends;
     enough = it.enough;
-    greatest = λ other extends good. at_most other good (branches other extends);
-    earliest = λ other extends good same earlier. not_earlier other good same earlier (branches other extends);
-  } where
-    at_most : (other : List ℕ) → IsGood all other → With other ⊎ Without other → value_of all other ≤ found.value
-    at_most other good (inl inside) = it.greatest other inside good
-    at_most other good (inr outside) = let less : value_of all other < found.value + 1 =
-        none_without other outside good in omega arith
-
-    not_earlier : (other : List ℕ) → IsGood all other → value_of all other ≡ found.value
-        → IsEarlier other found.numbers.items
-        → With other ⊎ Without other → ⊥
-    not_earlier other good same earlier (inl inside) = it.earliest other inside good same earlier
-    not_earlier other good same earlier (inr outside) = with_first found.numbers.items other it.extends outside earlier
+    greatest = λ other extends good. elim (branches other extends) [
+      | inl inside ↦ it.greatest other inside good
+      | inr outside ↦ let less : value_of all other < found.value + 1 = none_without other outside good in omega arith
+    ];
+    earliest = λ other extends good same earlier. elim (branches other extends) [
+      | inl inside ↦ it.earliest other inside good same earlier
+      | inr outside ↦ with_first found.numbers.items other it.extends outside earlier
+    ];
+  }
 
   -- something of more value in the second
   pub found_better : (wanted : ℕ) (found better : Choice) → IsFound all (taken ++ (next ∷ [])) (next + 1) wanted found
@@ -275,23 +261,15 @@ module _ (all : List JobFacts) (taken : List ℕ) (next : ℕ) (rise : RiseWithi
     extends = extends_without better.numbers.items that.extends;
     enough = let low : wanted ≤ found.value = it.enough in let more : found.value + 1 ≤ better.value = that.enough in
         omega arith;
-    greatest = λ other extends good. at_most other good (branches other extends);
-    earliest = λ other extends good same earlier. not_earlier other good same earlier (branches other extends);
-  } where
-    more : found.value + 1 ≤ better.value
-    more = that.enough
-
-    at_most : (other : List ℕ) → IsGood all other → With other ⊎ Without other → value_of all other ≤ better.value
-    at_most other good (inl inside) = let less : value_of all other ≤ found.value = it.greatest other inside good in
-        omega (arith, more)
-    at_most other good (inr outside) = that.greatest other outside good
-
-    not_earlier : (other : List ℕ) → IsGood all other → value_of all other ≡ better.value
-        → IsEarlier other better.numbers.items
-        → With other ⊎ Without other → ⊥
-    not_earlier other good same earlier (inl inside) = let less : value_of all other ≤ found.value =
-        it.greatest other inside good in omega (arith, more)
-    not_earlier other good same earlier (inr outside) = that.earliest other outside good same earlier
+    greatest = λ other extends good. elim (branches other extends) [
+      | inl inside ↦ omega (arith, it.greatest other inside good, that.enough)
+      | inr outside ↦ that.greatest other outside good
+    ];
+    earliest = λ other extends good same earlier. elim (branches other extends) [
+      | inl inside ↦ omega (arith, it.greatest other inside good, that.enough, same)
+      | inr outside ↦ that.earliest other outside good same earlier
+    ];
+  }
 
   -- where all that is left is too little, nothing is found
   pub too_little : (wanted value left : ℕ) → value ≡ value_of all taken → left ≡ total_value (drop next all)

@@ -164,10 +164,7 @@ module _ (jobs : List JobFacts) (clock : ℕ) (s : List ℕ) (tasks : List Task)
 
   -- each window
   next_busy : (d : ℕ) → IsBusy d (clock + k) next
-  next_busy d = by_due (cases_lt d lead.task.job.deadline) where
-    by_due : (d < lead.task.job.deadline) ⊎ (lead.task.job.deadline ≤ d) → IsBusy d (clock + k) next
-    by_due (inl late) = busy_anew d late
-    by_due (inr due) = busy_on d due
+  next_busy d = elim (cases_lt d lead.task.job.deadline) [ inl late ↦ busy_anew d late | inr due ↦ busy_on d due ]
 
   -- k ticks on
   pub come_run : HasCome jobs (clock + k) (s ++ replicate k m) next

@@ -157,19 +157,15 @@ earliest_is k m clock tasks numbered it =
       follows : Each (Follows it.task) (filter (is_due clock) tasks)
       follows u member = by_case (member_filter (is_due clock) tasks u member) where
         by_case : IsMember u tasks × (is_due clock u ≡ true) → Follows it.task u
-        by_case found = by_first (it.first u found.0)
-            (and_parts (nat_le u.job.release clock) (nat_lt 0 (left u)) found.1) where
-              by_first : (u.number ≡ m)
-                  ⊎ ((left u ≡ 0) ⊎ ((clock + suc k ≤ u.job.release) ⊎ IsBehind it.task.job.deadline m u))
-                  → (nat_le u.job.release clock ≡ true) × (nat_lt 0 (left u) ≡ true) → Follows it.task u
-              by_first (inl same) ready =
-                  inl (one_number 0 tasks numbered u it.task found.0 it.member (same ∙ sym it.number))
-              by_first (inr (inl done)) ready =
-                  absurd (let some : 0 < left u = ltb-true _ _ ready.1 in omega (arith, done))
-              by_first (inr (inr (inl later))) ready =
-                  absurd (let now : u.job.release ≤ clock = leb-true _ _ ready.0 in omega (arith, later))
-              by_first (inr (inr (inr behind))) ready =
-                  inr (behind_first it.task u (subst (λ n. IsBehind it.task.job.deadline n u) (sym it.number) behind))
+        by_case found = (elim (it.first u found.0) as (λ _. (nat_le u.job.release clock ≡ true) ×
+            (nat_lt 0 (left u) ≡ true) → Follows it.task u) [
+              | inl same ↦ λ ready. inl (one_number 0 tasks numbered u it.task found.0 it.member (same ∙ sym it.number))
+              | inr (inl done) ↦ λ ready. absurd (let some : 0 < left u = ltb-true _ _ ready.1 in omega (arith, done))
+              | inr (inr (inl later)) ↦ λ ready. absurd (let now : u.job.release ≤ clock = leb-true _ _ ready.0 in omega
+                  (arith, later))
+              | inr (inr (inr behind)) ↦ λ ready. inr (behind_first it.task u
+                  (subst (λ n. IsBehind it.task.job.deadline n u) (sym it.number) behind))
+            ]) (and_parts (nat_le u.job.release clock) (nat_lt 0 (left u)) found.1)
 
 -- where some job isn't done, not all are
 not_all_done : (t : Task) (tasks : List Task) → IsMember t tasks → 1 ≤ left t → list_all is_served_fully tasks ≡ false

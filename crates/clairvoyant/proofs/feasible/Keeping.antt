@@ -105,15 +105,13 @@ new_apart : (t : Turn) (turns now : List Turn) → IsPermutation (t ∷ turns) n
     → Each (λ u. (key_of u).1 < (key_of t).1) turns
     → ((n : ℕ) → sum_by (is_of n) turns ≤ 1)
     → (n : ℕ) → sum_by (is_of n) now ≤ 1
-new_apart t turns now moved low once n = by_number (cases_eq (key_of t).1 n) where
-  by_number : ((key_of t).1 ≡ n) ⊎ ((key_of t).1 ≡ n → ⊥) → sum_by (is_of n) now ≤ 1
-  by_number (inl same) =
-      let none : sum_by (is_of n) turns ≡ 0 = sum_zero (is_of n) turns
+new_apart t turns now moved low once n = elim (cases_eq (key_of t).1 n) [
+  | inl same ↦ let none : sum_by (is_of n) turns ≡ 0 = sum_zero (is_of n) turns
       (λ u member. of_other (key_of u).1 n (λ also. omega (arith, low u member))) in
       let one : is_of n t ≡ 1 = ap (λ m. one_of m n) same ∙ of_itself n in
       omega (arith, none, one, sum_by_pushed (is_of n) t turns now moved)
-  by_number (inr other) =
-      omega (arith, of_other (key_of t).1 n other, once n, sum_by_pushed (is_of n) t turns now moved)
+  | inr other ↦ omega (arith, of_other (key_of t).1 n other, once n, sum_by_pushed (is_of n) t turns now moved)
+]
 
 -- ---- what is left of each
 

@@ -41,16 +41,15 @@ shown_on jobs None due done old shows = by_test (cases_lt due done) where
   by_test : (due < done) ⊎ (done ≤ due) → IsShown jobs (with_late None due done)
   by_test (inl late) = subst (λ b. IsShown jobs (cond b (Some due) None)) (sym (lt-ltb due done late)) (shows late)
   by_test (inr met) = subst (λ b. IsShown jobs (cond b (Some due) None)) (sym (le-ltb due done met)) tt
-shown_on jobs (Some b) due done old shows = by_test (cases_lt due done) where
+shown_on jobs (Some b) due done old shows = elim (cases_lt due done) [
+  | inl late ↦ subst (λ x. IsShown jobs (cond x (Some (min b due)) (Some b))) (sym (lt-ltb due done late))
+      (by_least late (cases_lt b due))
+  | inr met ↦ subst (λ x. IsShown jobs (cond x (Some (min b due)) (Some b))) (sym (le-ltb due done met)) old
+] where
   by_least : due < done → (b < due) ⊎ (due ≤ b) → IsShown jobs (Some (min b due))
   by_least late (inl less) = subst (λ x. IsShown jobs (Some x)) (let same : b ≡ min b due = omega arith in same) old
   by_least late (inr more) =
       subst (λ x. IsShown jobs (Some x)) (let same : due ≡ min b due = omega arith in same) (shows late)
-
-  by_test : (due < done) ⊎ (done ≤ due) → IsShown jobs (with_late (Some b) due done)
-  by_test (inl late) = subst (λ x. IsShown jobs (cond x (Some (min b due)) (Some b))) (sym (lt-ltb due done late))
-      (by_least late (cases_lt b due))
-  by_test (inr met) = subst (λ x. IsShown jobs (cond x (Some (min b due)) (Some b))) (sym (le-ltb due done met)) old
 
 -- ---- an overfull window
 
@@ -64,11 +63,10 @@ module _ (jobs : List JobFacts) (clock : ℕ) (s : List ℕ) (tasks : List Task)
 
   -- the job is released in it
   since : w.since ≤ t.job.release
-  since = by_release (cases_lt t.job.release w.since) where
-    by_release : (t.job.release < w.since) ⊎ (w.since ≤ t.job.release) → w.since ≤ t.job.release
-    by_release (inl early) =
-        absurd (let none : left t ≡ 0 = w.clean t member early (omega arith) in omega (arith, none))
-    by_release (inr low) = low
+  since = elim (cases_lt t.job.release w.since) [
+    | inl early ↦ absurd (let none : left t ≡ 0 = w.clean t member early (omega arith) in omega (arith, none))
+    | inr low ↦ low
+  ]
 
   -- the job is inside
   is_in : is_inside w.since t.job.deadline t.job ≡ true
@@ -166,8 +164,5 @@ served_run jobs clock s tasks come k m some lead late served =
 -- idle ticks leave them served
 pub served_idle : (s more : List ℕ) (tasks : List Task) (late : Option ℕ) → AreServed late s tasks
     → AreServed late (s ++ more) tasks
-served_idle s more tasks late served u member done = still (served u member done) where
-  still : IsTrue (is_served s (u.number, u.job)) ⊎ IsLateBy late u.job.deadline
-      → IsTrue (is_served (s ++ more) (u.number, u.job)) ⊎ IsLateBy late u.job.deadline
-  still (inl it) = inl (served_on s more u.number u.job it)
-  still (inr it) = inr it
+served_idle s more tasks late served u member done =
+    elim (served u member done) [ inl it ↦ inl (served_on s more u.number u.job it) | inr it ↦ inr it ]

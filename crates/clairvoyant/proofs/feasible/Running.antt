@@ -137,18 +137,11 @@ module _ (jobs : List JobFacts) (clock released due n l : ℕ) (kept : List Kept
 
       -- it stands at the tick to which the job ran
       pub ran : Stands jobs until released now after (with_late late due (clock + l)) until
-      ran = by_left any_left where
-        by_left : (until < clock + l) ⊎ (clock + l ≤ until)
-            → Stands jobs until released now after (with_late late due (clock + l)) until
-        by_left (inl less) = ran_on less
-        by_left (inr all) = ran_out all
+      ran = elim any_left [ inl less ↦ ran_on less | inr all ↦ ran_out all ]
 
     -- where something is left, the next job is released by then
     pending : until < clock + l → IsPending jobs until released
-    pending less = by_end runs.ends where
-      by_end : (until ≡ clock + l) ⊎ IsPending jobs until released → IsPending jobs until released
-      by_end (inl e) = absurd (omega (arith, e))
-      by_end (inr next) = next
+    pending less = elim runs.ends [ inl e ↦ absurd (omega (arith, e)) | inr next ↦ next ]
 
     -- what is there afterwards
     pub few_after : length after ≤ length pieces + 1 → (length after + length now ≤ length pieces + length kept)

@@ -220,14 +220,13 @@ pub moved_to_next : (jobs : List JobFacts) (clock old released : ℕ) (j : JobFa
     → slice_get jobs released ≡ Some j
     → clock < j.release
     → IsPending jobs clock old → old < released
-moved_to_next jobs clock old released j rises found later pending = by_order (cases_lt old released) where
-  by_order : (old < released) ⊎ (released ≤ old) → old < released
-  by_order (inl less) = less
-  by_order (inr more) =
-      let same : old ≡ released = omega arith in
+moved_to_next jobs clock old released j rises found later pending = elim (cases_lt old released) [
+  | inl less ↦ less
+  | inr more ↦ let same : old ≡ released = omega arith in
       let is : pending.0 ≡ j = some_same pending.0 j (sym pending.1 ∙ ap (slice_get jobs) same ∙ found) in
       let now : pending.0.release ≤ clock = pending.2 in
       absurd (let also : pending.0.release ≡ j.release = ap (λ (x : JobFacts). x.release) is in omega arith)
+]
 
 -- and where there is none
 pub moved_to_end : (jobs : List JobFacts) (clock old released : ℕ) → length jobs ≤ released → IsPending jobs clock old
@@ -312,16 +311,15 @@ module _ (jobs : List JobFacts) (clock released due n l : ℕ) (kept : List Kept
       it.4,
     ) where
       other : it.0.number ≡ n → ⊥
-      other same = by_behind (behind e member) where
+      other same = elim (behind e member) [
+        | inl less ↦ let here : e.0.0 ≡ due = ap (λ (x : Kept). x.0.0) it.4 ∙ ap (λ (t : Task). t.job.deadline)
+            is_runner
+            ∙ sym runner_due in omega arith
+        | inr tie ↦ let here : e.0.1 ≡ n = ap (λ (x : Kept). x.0.1) it.4 ∙ same in let low : n < e.0.1 =
+            tie.1 in omega arith
+      ] where
         is_runner : it.0 ≡ runner.0
         is_runner = one_number 0 s.tasks s.come.numbered it.0 runner.0 it.1 runner.1 (same ∙ runner_number)
-
-        by_behind : (due < e.0.0) ⊎ ((due ≡ e.0.0) × (n < e.0.1)) → ⊥
-        by_behind (inl less) =
-            let here : e.0.0 ≡ due = ap (λ (x : Kept). x.0.0) it.4 ∙ ap (λ (t : Task). t.job.deadline) is_runner
-            ∙ sym runner_due in omega arith
-        by_behind (inr tie) = let here : e.0.1 ≡ n = ap (λ (x : Kept). x.0.1) it.4 ∙ same in let low : n < e.0.1 =
-            tie.1 in omega arith
 
   -- the jobs that are released
   released_after : AreReleased released (clock + k) (clock + k) tasks_after

@@ -41,23 +41,18 @@ turned m n = by_bool _ (eqb m n) (λ e. e ∙ sym (eq-eqb n m (sym (eqb-true m n
 -- a tick in front and a piece behind can come in either order
 pub tick_and_piece : (t m : ℕ) (ps : List Piece) (p : Piece)
     → with_tick t m (with_piece ps p) ≡ with_piece (with_tick t m ps) p
-tick_and_piece t m [] p = by_test (before t m p) refl where
-  same : goes_on p (piece_of t (t + 1) m) ≡ before t m p
-  same = let e : eqb m p.number ≡ eqb p.number m = turned m p.number in
-      let f : eqb (t + 1) p.from ≡ eqb p.from (t + 1) = turned (t + 1) p.from in
-      ap (λ b. b && eqb (t + 1) p.from) e ∙ ap (λ b. eqb p.number m && b) f
-
-  by_test : (b : Bool) → before t m p ≡ b
-      → in_front (before t m p) t m p [] ≡ cond (goes_on p (piece_of t (t + 1) m)) (piece_of t p.until m ∷ [])
-      (piece_of t (t + 1) m ∷ p ∷ [])
-  by_test true e =
-      let parts : (eqb p.number m ≡ true) × (eqb p.from (t + 1) ≡ true) =
-      and_parts (eqb p.number m) (eqb p.from (t + 1)) e in
-      let number : p.number ≡ m = eqb-true p.number m parts.0 in
-      ap (λ b. in_front b t m p []) e ∙ ap (λ n. piece_of t p.until n ∷ []) number
-      ∙ sym (ap (λ b. cond b (piece_of t p.until m ∷ []) (piece_of t (t + 1) m ∷ p ∷ [])) (same ∙ e))
-  by_test false e = ap (λ b. in_front b t m p []) e
-      ∙ sym (ap (λ b. cond b (piece_of t p.until m ∷ []) (piece_of t (t + 1) m ∷ p ∷ [])) (same ∙ e))
+tick_and_piece t m [] p = by_bool _ (before t m p)
+    (λ e. let parts : (eqb p.number m ≡ true) × (eqb p.from (t + 1) ≡ true) =
+    and_parts (eqb p.number m) (eqb p.from (t + 1)) e in
+    let number : p.number ≡ m = eqb-true p.number m parts.0 in
+    ap (λ b. in_front b t m p []) e ∙ ap (λ n. piece_of t p.until n ∷ []) number
+    ∙ sym (ap (λ b. cond b (piece_of t p.until m ∷ []) (piece_of t (t + 1) m ∷ p ∷ [])) (same ∙ e)))
+    (λ e. ap (λ b. in_front b t m p []) e
+    ∙ sym (ap (λ b. cond b (piece_of t p.until m ∷ []) (piece_of t (t + 1) m ∷ p ∷ [])) (same ∙ e))) where
+      same : goes_on p (piece_of t (t + 1) m) ≡ before t m p
+      same = let e : eqb m p.number ≡ eqb p.number m = turned m p.number in
+          let f : eqb (t + 1) p.from ≡ eqb p.from (t + 1) = turned (t + 1) p.from in
+          ap (λ b. b && eqb (t + 1) p.from) e ∙ ap (λ b. eqb p.number m && b) f
 tick_and_piece t m (q ∷ []) p = by_two (before t m q) (goes_on p q) refl refl where
   by_two : (b c : Bool) → before t m q ≡ b → goes_on p q ≡ c
       → with_tick t m (cond (goes_on p q) (joined q p ∷ []) (q ∷ p ∷ [])) ≡ with_piece
@@ -82,14 +77,11 @@ tick_and_piece t m (q ∷ []) p = by_two (before t m q) (goes_on p q) refl refl 
       ∙ ap (λ b. in_front b t m q (p ∷ [])) e
       ∙ sym (ap (λ c. piece_of t (t + 1) m ∷ cond c (joined q p ∷ []) (q ∷ p ∷ [])) f)
       ∙ sym (ap (λ b. with_piece (in_front b t m q []) p) e)
-tick_and_piece t m (q ∷ r ∷ more) p = by_test (before t m q) refl where
-  by_test : (b : Bool) → before t m q ≡ b
-      → in_front (before t m q) t m q (with_piece (r ∷ more) p) ≡ with_piece
-      (in_front (before t m q) t m q (r ∷ more)) p
-  by_test true e = ap (λ b. in_front b t m q (with_piece (r ∷ more) p)) e
-      ∙ sym (ap (λ b. with_piece (in_front b t m q (r ∷ more)) p) e)
-  by_test false e = ap (λ b. in_front b t m q (with_piece (r ∷ more) p)) e
-      ∙ sym (ap (λ b. with_piece (in_front b t m q (r ∷ more)) p) e)
+tick_and_piece t m (q ∷ r ∷ more) p = by_bool _ (before t m q)
+    (λ e. ap (λ b. in_front b t m q (with_piece (r ∷ more) p)) e
+    ∙ sym (ap (λ b. with_piece (in_front b t m q (r ∷ more)) p) e))
+    (λ e. ap (λ b. in_front b t m q (with_piece (r ∷ more) p)) e
+    ∙ sym (ap (λ b. with_piece (in_front b t m q (r ∷ more)) p) e))
 
 -- ---- a run of one job behind
 
@@ -170,25 +162,21 @@ spread_tick : (t m : ℕ) (ps : List Piece) → InOrderFrom (t + 1) ps
     → spread_from t (with_tick t m ps) ≡ m ∷ spread_from (t + 1) ps
 spread_tick t m [] all = ap (λ xs. xs ++ replicate (t + 1 - t) m ++ []) (no_ticks t idle)
     ∙ ap (λ k. replicate k m ++ []) (let one : t + 1 - t ≡ 1 = omega arith in one)
-spread_tick t m (p ∷ ps) all = by_test (before t m p) refl where
-  by_test : (b : Bool) → before t m p ≡ b
-      → spread_from t (in_front (before t m p) t m p ps) ≡ m ∷ spread_from (t + 1) (p ∷ ps)
-  by_test true e =
-      let parts : (eqb p.number m ≡ true) × (eqb p.from (t + 1) ≡ true) =
-      and_parts (eqb p.number m) (eqb p.from (t + 1)) e in
-      let number : p.number ≡ m = eqb-true p.number m parts.0 in
-      let from : p.from ≡ t + 1 = eqb-true p.from (t + 1) parts.1 in
-      ap (λ b. spread_from t (in_front b t m p ps)) e
-      ∙ ap (λ xs. xs ++ replicate (p.until - t) p.number ++ spread_from p.until ps) (no_ticks t idle)
-      ∙ ap (λ k. replicate k p.number ++ spread_from p.until ps)
-      (let longer : p.until - t ≡ suc (p.until - p.from) = omega (arith, all.1, from) in longer)
-      ∙ ap (λ n. n ∷ (replicate (p.until - p.from) p.number ++ spread_from p.until ps)) number
-      ∙ ap (λ k. m ∷ (replicate k idle ++ replicate (p.until - p.from) p.number ++ spread_from p.until ps))
-      (let none : 0 ≡ p.from - (t + 1) = omega (arith, from) in none)
-  by_test false e =
-      ap (λ b. spread_from t (in_front b t m p ps)) e
-      ∙ ap (λ xs. xs ++ replicate (t + 1 - t) m ++ spread_from (t + 1) (p ∷ ps)) (no_ticks t idle)
-      ∙ ap (λ k. replicate k m ++ spread_from (t + 1) (p ∷ ps)) (let one : t + 1 - t ≡ 1 = omega arith in one)
+spread_tick t m (p ∷ ps) all = by_bool _ (before t m p)
+    (λ e. let parts : (eqb p.number m ≡ true) × (eqb p.from (t + 1) ≡ true) =
+    and_parts (eqb p.number m) (eqb p.from (t + 1)) e in
+    let number : p.number ≡ m = eqb-true p.number m parts.0 in
+    let from : p.from ≡ t + 1 = eqb-true p.from (t + 1) parts.1 in
+    ap (λ b. spread_from t (in_front b t m p ps)) e
+    ∙ ap (λ xs. xs ++ replicate (p.until - t) p.number ++ spread_from p.until ps) (no_ticks t idle)
+    ∙ ap (λ k. replicate k p.number ++ spread_from p.until ps)
+    (let longer : p.until - t ≡ suc (p.until - p.from) = omega (arith, all.1, from) in longer)
+    ∙ ap (λ n. n ∷ (replicate (p.until - p.from) p.number ++ spread_from p.until ps)) number
+    ∙ ap (λ k. m ∷ (replicate k idle ++ replicate (p.until - p.from) p.number ++ spread_from p.until ps))
+    (let none : 0 ≡ p.from - (t + 1) = omega (arith, from) in none))
+    (λ e. ap (λ b. spread_from t (in_front b t m p ps)) e
+    ∙ ap (λ xs. xs ++ replicate (t + 1 - t) m ++ spread_from (t + 1) (p ∷ ps)) (no_ticks t idle)
+    ∙ ap (λ k. replicate k m ++ spread_from (t + 1) (p ∷ ps)) (let one : t + 1 - t ≡ 1 = omega arith in one))
 
 -- where the pieces begin later, the first tick is idle
 spread_later : (t : ℕ) (p : Piece) (ps : List Piece) → t + 1 ≤ p.from
@@ -200,34 +188,31 @@ spread_later t p ps later =
 -- the stretches of a schedule are the schedule again, but for idle ticks behind
 pub spread_again : (t : ℕ) (s : List ℕ) → (k : ℕ) × (s ≡ spread_from t (stretches_from t s) ++ replicate k idle)
 spread_again t [] = (0, refl)
-spread_again t (x ∷ s) = by_idle (eqb x idle) refl (spread_again (t + 1) s) (stretches_in_order (t + 1) s) where
-  by_first : (ps : List Piece) (k : ℕ) → s ≡ spread_from (t + 1) ps ++ replicate k idle → InOrderFrom (t + 1) ps
-      → (l : ℕ) × (idle ∷ s ≡ spread_from t ps ++ replicate l idle)
-  by_first [] k e all = (suc k, ap (λ xs. idle ∷ xs) e)
-  by_first (p ∷ ps) k e all =
-      (k, ap (λ xs. idle ∷ xs) e ∙ sym (ap (λ xs. xs ++ replicate k idle) (spread_later t p ps all.0)))
-
-  by_idle : (b : Bool) → eqb x idle ≡ b
-      → ((k : ℕ) × (s ≡ spread_from (t + 1) (stretches_from (t + 1) s) ++ replicate k idle))
-      → InOrderFrom (t + 1) (stretches_from (t + 1) s)
-      → (k : ℕ) × (x ∷ s ≡ spread_from t
-      (cond (eqb x idle) (stretches_from (t + 1) s) (with_tick t x (stretches_from (t + 1) s)))
-      ++ replicate k idle)
-  by_idle true e rest all =
-      let found : (l : ℕ) × (idle ∷ s ≡ spread_from t (stretches_from (t + 1) s) ++ replicate l idle) =
-      by_first (stretches_from (t + 1) s) rest.0 rest.1 all in (
-        found.0,
-        ap (λ y. y ∷ s) (eqb-true x idle e) ∙ found.1
-            ∙ sym (ap (λ b. spread_from t (cond b (stretches_from (t + 1) s) (with_tick t x (stretches_from
-            (t + 1) s))) ++ replicate found.0 idle) e),
+spread_again t (x ∷ s) = (elim (eqb x idle) as (λ b. eqb x idle ≡ b →
+    ((k : ℕ) × (s ≡ spread_from (t + 1) (stretches_from (t + 1) s) ++ replicate k idle)) → InOrderFrom (t + 1)
+    (stretches_from (t + 1) s) → (k : ℕ) × (x ∷ s ≡ spread_from t
+    (cond (eqb x idle) (stretches_from (t + 1) s) (with_tick t x (stretches_from (t + 1) s))) ++ replicate k idle)) [
+      | true ↦ λ e rest all.
+          let found : (l : ℕ) × (idle ∷ s ≡ spread_from t (stretches_from (t + 1) s) ++ replicate l idle) =
+          by_first (stretches_from (t + 1) s) rest.0 rest.1 all in (
+            found.0,
+            ap (λ y. y ∷ s) (eqb-true x idle e) ∙ found.1
+                ∙ sym (ap (λ b. spread_from t (cond b (stretches_from (t + 1) s) (with_tick t x (stretches_from
+                (t + 1) s))) ++ replicate found.0 idle) e),
+          )
+      | false ↦ λ e rest all. (
+        rest.0,
+        ap (λ xs. x ∷ xs) rest.1
+            ∙ sym (ap (λ xs. xs ++ replicate rest.0 idle) (spread_tick t x (stretches_from (t + 1) s) all))
+            ∙ sym (ap (λ b. spread_from t (cond b (stretches_from (t + 1) s) (with_tick t x (stretches_from (t + 1) s)))
+            ++ replicate rest.0 idle) e),
       )
-  by_idle false e rest all = (
-    rest.0,
-    ap (λ xs. x ∷ xs) rest.1
-        ∙ sym (ap (λ xs. xs ++ replicate rest.0 idle) (spread_tick t x (stretches_from (t + 1) s) all))
-        ∙ sym (ap (λ b. spread_from t (cond b (stretches_from (t + 1) s) (with_tick t x (stretches_from (t + 1) s)))
-        ++ replicate rest.0 idle) e),
-  )
+    ]) refl (spread_again (t + 1) s) (stretches_in_order (t + 1) s) where
+      by_first : (ps : List Piece) (k : ℕ) → s ≡ spread_from (t + 1) ps ++ replicate k idle → InOrderFrom (t + 1) ps
+          → (l : ℕ) × (idle ∷ s ≡ spread_from t ps ++ replicate l idle)
+      by_first [] k e all = (suc k, ap (λ xs. idle ∷ xs) e)
+      by_first (p ∷ ps) k e all =
+          (k, ap (λ xs. idle ∷ xs) e ∙ sym (ap (λ xs. xs ++ replicate k idle) (spread_later t p ps all.0)))
 
 -- ---- one more piece
 

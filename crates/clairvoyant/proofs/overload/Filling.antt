@@ -46,10 +46,8 @@ module _ (jobs : List JobFacts) (good : Each IsJob jobs) where
 
   -- so one with more work than ticks has some
   pub some_ticks : (a b : ℕ) → b - a < work_inside jobs a b → a < b
-  some_ticks a b full = by (cases_lt a b) where
-    by : (a < b) ⊎ (b ≤ a) → a < b
-    by (inl less) = less
-    by (inr less) = absurd (omega (arith, full, no_work a b less))
+  some_ticks a b full =
+      elim (cases_lt a b) [ inl less ↦ less | inr less ↦ absurd (omega (arith, full, no_work a b less)) ]
 
   -- the jobs inside two ticks are jobs
   inside_good : (from until : ℕ) → Each IsJob (jobs_inside jobs from until)
@@ -68,18 +66,21 @@ module _ (jobs : List JobFacts) (good : Each IsJob jobs) where
   due_within a b until low j member inside =
       let due : j.deadline ≤ b = (inside_says a b j inside).1 in omega (arith, due, low)
 
-  -- where the jobs inside can all be served, a window of them has no more work than ticks
+  -- where jobs can all be served, a window whose work is all theirs has no more work than ticks
+  room_of : (js : List JobFacts) → CanMeet js → (a b : ℕ) → work_inside jobs a b ≡ work_inside js a b
+      → work_inside jobs a b ≤ b - a
+  room_of js can a b same = elim (cases_lt (b - a) (work_inside jobs a b)) [
+    | inr fits ↦ fits
+    | inl full ↦ let some : a < b = some_ticks a b full in
+        absurd (overfull_excludes (record { rules = some_rules; jobs = js }) a b (work_inside jobs a b)
+        (record { window = omega (arith, some); work = same; too_much = full }) (can some_rules))
+  ]
+
+  -- so it is where the jobs inside can
   room_where : (from until : ℕ) → CanMeet (jobs_inside jobs from until) → (a b : ℕ) → from ≤ a
       → Each (λ j. is_inside a b j ≡ true → j.deadline ≤ until) jobs → work_inside jobs a b ≤ b - a
-  room_where from until can a b low due = by (cases_lt (b - a) (work_inside jobs a b)) where
-    by : (b - a < work_inside jobs a b) ⊎ (work_inside jobs a b ≤ b - a) → work_inside jobs a b ≤ b - a
-    by (inr fits) = fits
-    by (inl full) =
-        let some : a < b = some_ticks a b full in
-        absurd (overfull_excludes (record { rules = some_rules; jobs = jobs_inside jobs from until }) a b
-        (work_inside jobs a b)
-        (record { window = omega (arith, some); work = sym (same_work a b from until low due); too_much = full })
-        (can some_rules))
+  room_where from until can a b low due =
+      room_of (jobs_inside jobs from until) can a b (sym (same_work a b from until low due))
 
   -- so it is between the two ticks
   pub room_within : (from until : ℕ) → CanMeet (jobs_inside jobs from until) → HasRoomWithin jobs from until
@@ -92,13 +93,7 @@ module _ (jobs : List JobFacts) (good : Each IsJob jobs) where
 
   -- where all jobs can be served, so it is everywhere
   pub room_all : CanMeet jobs → (from : ℕ) → HasRoom jobs from
-  room_all can from a b low = by (cases_lt (b - a) (work_inside jobs a b)) where
-    by : (b - a < work_inside jobs a b) ⊎ (work_inside jobs a b ≤ b - a) → work_inside jobs a b ≤ b - a
-    by (inr fits) = fits
-    by (inl full) =
-        let some : a < b = some_ticks a b full in
-        absurd (overfull_excludes (record { rules = some_rules; jobs = jobs }) a b (work_inside jobs a b)
-        (record { window = omega (arith, some); work = refl; too_much = full }) (can some_rules))
+  room_all can from a b low = room_of jobs can a b refl
 
   -- all jobs are inside all ticks
   pub all_inside : jobs_inside jobs 0 last_tick ≡ jobs
@@ -138,11 +133,9 @@ module _ (jobs : List JobFacts) (good : Each IsJob jobs) where
     some = overfull_some (jobs_inside jobs from until) (inside_good from until) a b work it.overfull
 
     before : HasRoomWithin jobs from a
-    before c d low high = by (cases_lt (d - c) (work_inside jobs c d)) where
-      by : (d - c < work_inside jobs c d) ⊎ (work_inside jobs c d ≤ d - c) → work_inside jobs c d ≤ d - c
-      by (inr fits) = fits
-      by (inl full) =
-          let ticks : c < d = some_ticks c d full in
+    before c d low high = elim (cases_lt (d - c) (work_inside jobs c d)) [
+      | inr fits ↦ fits
+      | inl full ↦ let ticks : c < d = some_ticks c d full in
           let up : d ≤ until = omega (arith, high, some, within) in
           let no_less : b ≤ d = it.first_end c d (work_inside jobs c d) (record {
             window = omega (arith, ticks);
@@ -150,6 +143,7 @@ module _ (jobs : List JobFacts) (good : Each IsJob jobs) where
             too_much = full;
           }) in
           absurd (omega (arith, no_less, high, some))
+    ]
 
 -- with one stretch behind the others, each window that begins before its end, with more work than ticks, meets one
 pub meets_behind : (jobs : List JobFacts) → Each IsJob jobs → (xs : List Stretch) (y : Stretch) (at : ℕ)

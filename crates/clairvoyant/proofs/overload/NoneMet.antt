@@ -7,7 +7,7 @@ use Rattle.std.specs.List.{enumerate_from, AllByRecursion}
 use Rattle.std.proofs.lemmas.List.Sums.{sum_by-cons}
 use Rattle.std.proofs.lemmas.Bool.{lt-leb}
 use Rattle.dover_model.specs.declared.events.Version.TheVariants.{One}
-use Rattle.dover_model.proofs.lists.Members.{filter_none, cond_le}
+use Rattle.dover_model.proofs.lists.Members.{filter_none, cond_le, by_bool}
 use Rattle.dover_model.proofs.rest.Parting.{worth_to}
 use Rattle.clairvoyant.specs.declared.feasible.answer.Feasible.{Feasible}
 use Rattle.clairvoyant.specs.declared.feasible.answer.Feasible.TheVariants.{Window}
@@ -28,13 +28,12 @@ empty_out a b j good less = by_test (nat_le a j.release) refl where
 module _ (jobs : List JobFacts) (good : Each IsJob jobs) where
   -- an overfull window has ticks
   pub overfull_some : (a b w : ℕ) → IsOverfull jobs a b w → a < b
-  overfull_some a b w full = by_test (nat_le b a) refl where
-    by_test : (x : Bool) → nat_le b a ≡ x → a < b
-    by_test false e = leb-false _ _ e
-    by_test true e =
-        let none : work_inside jobs a b ≡ 0 = ap (sum_by (λ (j : JobFacts). j.work)) (filter_none (is_inside a b) jobs
-        (λ j member. empty_out a b j (good j member) (leb-true _ _ e))) in
-        absurd (omega (arith, none, full.work, full.too_much))
+  overfull_some a b w full = by_bool _ (nat_le b a)
+      (λ e. let none : work_inside jobs a b ≡ 0 = ap (sum_by (λ (j : JobFacts). j.work))
+      (filter_none (is_inside a b) jobs
+      (λ j member. empty_out a b j (good j member) (leb-true _ _ e))) in
+      absurd (omega (arith, none, full.work, full.too_much)))
+      (λ e. leb-false _ _ e)
 
 -- the answer of a window shows it
 pub window_shown : (jobs : List JobFacts) (answer : Feasible) (a b work : ℕ) → answer ≡ Window a b work

@@ -49,10 +49,8 @@ inside_none (x ∷ xs) at j good ended late = by_test (is_inside x.from x.until 
 -- a job is inside some stretch of those so far and one behind them
 inside_behind : (xs : List Stretch) (y : Stretch) (j : JobFacts)
     → is_inside_some (xs ++ y ∷ []) j ≡ (is_inside_some xs j || is_inside y.from y.until j)
-inside_behind [] y j = by_test (is_inside y.from y.until j) where
-  by_test : (b : Bool) → (b || false) ≡ (false || b)
-  by_test true = refl
-  by_test false = refl
+inside_behind [] y j =
+    elim (is_inside y.from y.until j) as (λ b. (b || false) ≡ (false || b)) [ true ↦ refl | false ↦ refl ]
 inside_behind (x ∷ xs) y j = by_test (is_inside x.from x.until j) (inside_behind xs y j) where
   by_test : (b : Bool) → is_inside_some (xs ++ y ∷ []) j ≡ (is_inside_some xs j || is_inside y.from y.until j)
       → (b || is_inside_some (xs ++ y ∷ []) j) ≡ ((b || is_inside_some xs j) || is_inside y.from y.until j)

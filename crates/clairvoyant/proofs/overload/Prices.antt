@@ -15,19 +15,19 @@ work_served s n_j = cond (is_served s n_j) n_j.1.work 0
 -- a served job inside a window has its work from it
 from_window : (s : List ℕ) (a b : ℕ) (n_j : Job) → IsTrue (is_inside a b n_j.1)
     → work_served s n_j ≤ count_by (λ m. eqb m n_j.0) (drop a (take b s))
-from_window s a b n_j inside = by_test (is_served s n_j) refl where
-  by_test : (c : Bool) → is_served s n_j ≡ c
-      → cond c n_j.1.work 0 ≤ count_by (λ m. eqb m n_j.0) (drop a (take b s))
-  by_test false out = omega arith
-  by_test true served =
-      let both : (nat_le a n_j.1.release ≡ true) × (nat_le n_j.1.deadline b ≡ true) =
-      and_parts (nat_le a n_j.1.release) (nat_le n_j.1.deadline b) inside in
-      let enough : n_j.1.work ≤ ticks_given s n_j.0 n_j.1 = leb-true _ _ served in
-      omega (
-        arith,
-        enough,
-        given_less (λ m. eqb m n_j.0) s n_j.1.release n_j.1.deadline a b (leb-true _ _ both.0) (leb-true _ _ both.1),
-      )
+from_window s a b n_j inside = (elim (is_served s n_j) as (λ c. is_served s n_j ≡ c → cond c n_j.1.work 0 ≤ count_by
+    (λ m. eqb m n_j.0) (drop a (take b s))) [
+      | false ↦ λ out. omega arith
+      | true ↦ λ served. let both : (nat_le a n_j.1.release ≡ true) × (nat_le n_j.1.deadline b ≡ true) =
+          and_parts (nat_le a n_j.1.release) (nat_le n_j.1.deadline b) inside in
+          let enough : n_j.1.work ≤ ticks_given s n_j.0 n_j.1 = leb-true _ _ served in
+          omega (
+            arith,
+            enough,
+            given_less (λ m. eqb m n_j.0) s n_j.1.release n_j.1.deadline a b (leb-true _ _ both.0)
+                (leb-true _ _ both.1),
+          )
+    ]) refl
 
 -- the served jobs inside a window have no more work than it has ticks
 pub fit_inside : (jobs : List JobFacts) (s : List ℕ) (a b : ℕ)

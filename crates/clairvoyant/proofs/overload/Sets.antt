@@ -43,17 +43,16 @@ module _ (jobs : List JobFacts) (xs : List Stretch) (y : Stretch) where
 
 -- of some jobs, but few, there are at most 102.4 sets a job
 sets_some : (n : ℕ) → 1 ≤ n → 10 * sets_of n ≤ 1_024 * n
-sets_some n some = by (cases_lt most_sought n) where
+sets_some n some = elim (cases_lt most_sought n) [
+  | inl many ↦ let none : sets_of n ≡ 0 = ap (λ b. cond b (2 ^ n) 0) (lt-leb _ _ many) in omega (arith, none)
+  | inr least ↦ omega (arith, sets_few n least, few (10 - n) n (omega (arith, least)) some)
+] where
   few : (d m : ℕ) → m + d ≡ 10 → 1 ≤ m → 10 * 2 ^ m ≤ 1_024 * m
   few zero m ten low = subst (λ k. 10 * 2 ^ k ≤ 1_024 * k) (let e : 10 ≡ m = omega (arith, ten) in e) (omega arith)
   few (suc d) m ten low =
       let up : 10 * 2 ^ suc m ≤ 1_024 * suc m = few d (suc m) (omega (arith, ten)) (omega arith) in
       let twice : 2 ^ suc m ≡ 2 * 2 ^ m = pow-succ' 2 m in
       omega (arith, up, twice, low)
-
-  by : (most_sought < n) ⊎ (n ≤ most_sought) → 10 * sets_of n ≤ 1_024 * n
-  by (inl many) = let none : sets_of n ≡ 0 = ap (λ b. cond b (2 ^ n) 0) (lt-leb _ _ many) in omega (arith, none)
-  by (inr least) = omega (arith, sets_few n least, few (10 - n) n (omega (arith, least)) some)
 
 -- jobs with work are some
 some_jobs : (js : List JobFacts) (n : ℕ) → n < sum_by (λ j. j.work) js → 1 ≤ length js

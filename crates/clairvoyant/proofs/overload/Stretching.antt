@@ -15,15 +15,14 @@ use Rattle.clairvoyant.specs.overload.Stretches.{jobs_inside, Caps, is_inside_so
 inside_numbered : (a b k : ℕ) (jobs : List JobFacts)
     → map (λ (n_j : Job). n_j.1) (filter (λ n_j. is_inside a b n_j.1) (enumerate_from k jobs)) ≡ jobs_inside jobs a b
 inside_numbered a b k [] = refl
-inside_numbered a b k (j ∷ jobs) = by_test (is_inside a b j) (inside_numbered a b (k + 1) jobs) where
-  by_test : (c : Bool)
-      → map (λ (n_j : Job). n_j.1) (filter (λ n_j. is_inside a b n_j.1) (enumerate_from (k + 1) jobs))
-      ≡ jobs_inside jobs a b
-      → map (λ (n_j : Job). n_j.1) (cond c ((k, j) ∷ filter (λ n_j. is_inside a b n_j.1) (enumerate_from (k + 1) jobs))
-      (filter (λ n_j. is_inside a b n_j.1) (enumerate_from (k + 1) jobs)))
-      ≡ cond c (j ∷ jobs_inside jobs a b) (jobs_inside jobs a b)
-  by_test true same = ap (λ js. j ∷ js) same
-  by_test false same = same
+inside_numbered a b k (j ∷ jobs) = (elim (is_inside a b j) as
+    (λ c. map (λ (n_j : Job). n_j.1) (filter (λ n_j. is_inside a b n_j.1) (enumerate_from (k + 1) jobs)) ≡ jobs_inside
+    jobs a b → map (λ (n_j : Job). n_j.1) (cond c ((k, j) ∷ filter (λ n_j. is_inside a b n_j.1)
+    (enumerate_from (k + 1) jobs)) (filter (λ n_j. is_inside a b n_j.1) (enumerate_from (k + 1) jobs))) ≡ cond c
+    (j ∷ jobs_inside jobs a b) (jobs_inside jobs a b)) [
+      | true ↦ λ same. ap (λ js. j ∷ js) same
+      | false ↦ λ same. same
+    ]) (inside_numbered a b (k + 1) jobs)
 
 -- what a schedule of all jobs earns by those inside is at most a cap on them
 pub earned_inside : (jobs : List JobFacts) (rules : Rules) (s : List ℕ) (a b cap : ℕ) → Caps (jobs_inside jobs a b) cap

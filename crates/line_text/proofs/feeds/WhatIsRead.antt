@@ -18,35 +18,25 @@ use Rattle.line_text.specs.feeds.Form.{form_of}
 
 -- of a job
 not_four : (ns : List ℕ) → length ns ≢ 4 → model.job_line ns ≡ None
-not_four [] other = refl
-not_four (a ∷ []) other = refl
-not_four (a ∷ b ∷ []) other = refl
-not_four (a ∷ b ∷ c ∷ []) other = refl
 not_four (a ∷ b ∷ c ∷ d ∷ []) other = absurd (other refl)
-not_four (a ∷ b ∷ c ∷ d ∷ e ∷ ns) other = refl
+not_four _ other = refl
 
 -- of a tick
 not_one : (ns : List ℕ) → length ns ≢ 1 → model.tick_line ns ≡ None
-not_one [] other = refl
 not_one (a ∷ []) other = absurd (other refl)
-not_one (a ∷ b ∷ ns) other = refl
+not_one _ other = refl
 
 -- of a job that is done
 not_two : (ns : List ℕ) → length ns ≢ 2 → model.done_line ns ≡ None
-not_two [] other = refl
-not_two (a ∷ []) other = refl
 not_two (a ∷ b ∷ []) other = absurd (other refl)
-not_two (a ∷ b ∷ c ∷ ns) other = refl
+not_two _ other = refl
 
 -- of a ratio
 not_two_three_or_five : (ns : List ℕ) → length ns ≢ 2 → length ns ≢ 3 → length ns ≢ 5 → model.ratio_line ns ≡ None
-not_two_three_or_five [] other more most = refl
-not_two_three_or_five (a ∷ []) other more most = refl
 not_two_three_or_five (a ∷ b ∷ []) other more most = absurd (other refl)
 not_two_three_or_five (a ∷ b ∷ c ∷ []) other more most = absurd (more refl)
-not_two_three_or_five (a ∷ b ∷ c ∷ d ∷ []) other more most = refl
 not_two_three_or_five (a ∷ b ∷ c ∷ d ∷ e ∷ []) other more most = absurd (most refl)
-not_two_three_or_five (a ∷ b ∷ c ∷ d ∷ e ∷ f ∷ ns) other more most = refl
+not_two_three_or_five _ other more most = refl
 
 pub no_job : (o : Option (List ℕ)) → IsNot 4 o → None ≡ option_and_then model.job_line o
 no_job = uncounted model.job_line 4 not_four

@@ -14,44 +14,29 @@ use Rattle.line_text.specs.traces.Reading.{refused_done_of, line_of_fields}
 
 -- of a release
 not_five : (ns : List ℕ) → length ns ≢ 5 → release_of ns ≡ None
-not_five [] other = refl
-not_five (a ∷ []) other = refl
-not_five (a ∷ b ∷ []) other = refl
-not_five (a ∷ b ∷ c ∷ []) other = refl
-not_five (a ∷ b ∷ c ∷ d ∷ []) other = refl
 not_five (a ∷ b ∷ c ∷ d ∷ e ∷ []) other = absurd (other refl)
-not_five (a ∷ b ∷ c ∷ d ∷ e ∷ f ∷ ns) other = refl
+not_five _ other = refl
 
 -- of a step of one job
 not_two : (ns : List ℕ) → length ns ≢ 2 → one_job ns ≡ None
-not_two [] other = refl
-not_two (a ∷ []) other = refl
 not_two (a ∷ b ∷ []) other = absurd (other refl)
-not_two (a ∷ b ∷ c ∷ ns) other = refl
+not_two _ other = refl
 
 -- of two jobs
 not_three : (ns : List ℕ) → length ns ≢ 3 → two_jobs ns ≡ None
-not_three [] other = refl
-not_three (a ∷ []) other = refl
-not_three (a ∷ b ∷ []) other = refl
 not_three (a ∷ b ∷ c ∷ []) other = absurd (other refl)
-not_three (a ∷ b ∷ c ∷ d ∷ ns) other = refl
+not_three _ other = refl
 
 -- of the end
 not_one : (ns : List ℕ) → length ns ≢ 1 → end_of ns ≡ None
-not_one [] other = refl
 not_one (a ∷ []) other = absurd (other refl)
-not_one (a ∷ b ∷ ns) other = refl
+not_one _ other = refl
 
 -- of a header
 no_three_or_five : (ns : List ℕ) → length ns ≢ 3 → length ns ≢ 5 → header_of ns ≡ None
-no_three_or_five [] other more = refl
-no_three_or_five (a ∷ []) other more = refl
-no_three_or_five (a ∷ b ∷ []) other more = refl
 no_three_or_five (a ∷ b ∷ c ∷ []) other more = absurd (other refl)
-no_three_or_five (a ∷ b ∷ c ∷ d ∷ []) other more = refl
 no_three_or_five (a ∷ b ∷ c ∷ d ∷ e ∷ []) other more = absurd (more refl)
-no_three_or_five (a ∷ b ∷ c ∷ d ∷ e ∷ f ∷ ns) other more = refl
+no_three_or_five _ other more = refl
 
 pub no_release : (o : Option (List ℕ)) → IsNot 5 o → None ≡ option_and_then release_of o
 no_release = uncounted release_of 5 not_five

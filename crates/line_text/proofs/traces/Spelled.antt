@@ -46,22 +46,12 @@ word_of (End value) = codes "end"
 -- a step's text is its word and its numbers
 text_is : (e : Event) → text_of e ≡ with_numbers (word_of e) (step_numbers e)
 text_is (Release n j) = refl
-text_is (Run at n) = refl
-text_is (Preempt at stops starts) = refl
-text_is (Take at stops starts) = refl
-text_is (Complete at n) = refl
-text_is (Abandon at n) = refl
-text_is (End value) = refl
+text_is _ = refl
 
 -- the word has no space
 word_whole : (e : Event) → HasNoSpace (word_of e)
 word_whole (Release n j) = refl
-word_whole (Run at n) = refl
-word_whole (Preempt at stops starts) = refl
-word_whole (Take at stops starts) = refl
-word_whole (Complete at n) = refl
-word_whole (Abandon at n) = refl
-word_whole (End value) = refl
+word_whole _ = refl
 
 -- a number that jobs may have
 number_ok : (n : ℕ) → n ≤ last_number → job_number n ≡ Some n
@@ -119,8 +109,6 @@ number_from n m e = let both = tested (nat_le n last_number) n m e in
     let low : n ≤ last_number = leb-true n last_number both.0 in (both.1, subst (λ k. k ≤ last_number) both.1 low)
 
 one_from : (ns : List ℕ) (f : ℕ × ℕ) → one_job ns ≡ Some f → (f.0 ∷ f.1 ∷ [] ≡ ns) × (f.1 ≤ last_number)
-one_from [] f e = none_is_some e
-one_from (at ∷ []) f e = none_is_some e
 one_from (at ∷ n ∷ []) f e =
     let it = bind_some (job_number n) (λ number. let g : ℕ × ℕ = (at, number) in Some g) f e in
     let number = number_from n it.0 it.1 in
@@ -128,13 +116,10 @@ one_from (at ∷ n ∷ []) f e =
       subst (λ (g : ℕ × ℕ). g.0 ∷ g.1 ∷ [] ≡ at ∷ n ∷ []) same (ap (λ m. at ∷ m ∷ []) (sym number.0)),
       subst (λ (g : ℕ × ℕ). g.1 ≤ last_number) same number.1,
     )
-one_from (at ∷ n ∷ a ∷ ns) f e = none_is_some e
+one_from _ f e = none_is_some e
 
 two_from : (ns : List ℕ) (f : ℕ × ℕ × ℕ) → two_jobs ns ≡ Some f → (f.0 ∷ f.1 ∷ f.2 ∷ [] ≡ ns) × (f.1 ≤ last_number)
     × (f.2 ≤ last_number)
-two_from [] f e = none_is_some e
-two_from (at ∷ []) f e = none_is_some e
-two_from (at ∷ a ∷ []) f e = none_is_some e
 two_from (at ∷ a ∷ b ∷ []) f e =
     let it = bind_some (job_number a)
     (λ stops. job_number b >>= λ starts. let g : ℕ × ℕ × ℕ = (at, stops, starts) in Some g) f e in
@@ -147,7 +132,7 @@ two_from (at ∷ a ∷ b ∷ []) f e =
       subst (λ (g : ℕ × ℕ × ℕ). g.1 ≤ last_number) same stops.1,
       subst (λ (g : ℕ × ℕ × ℕ). g.2 ≤ last_number) same starts.1,
     )
-two_from (at ∷ a ∷ b ∷ n ∷ ns) f e = none_is_some e
+two_from _ f e = none_is_some e
 
 -- a step of one job
 one_step : (word ns : List ℕ) (step : ℕ → ℕ → Event) (e : Event) → ((at n : ℕ) → word_of (step at n) ≡ word)
@@ -181,11 +166,6 @@ two_step word ns step e words numbers names read =
 
 -- a release
 release_from : (ns : List ℕ) (e : Event) → release_of ns ≡ Some e → Reads (codes "job") ns e
-release_from [] e read = none_is_some read
-release_from (n ∷ []) e read = none_is_some read
-release_from (n ∷ r ∷ []) e read = none_is_some read
-release_from (n ∷ r ∷ c ∷ []) e read = none_is_some read
-release_from (n ∷ r ∷ c ∷ d ∷ []) e read = none_is_some read
 release_from (n ∷ r ∷ c ∷ d ∷ v ∷ []) e read =
     let it = bind_some (job_number n) (λ number. new_job r c d v >>= λ job. Some (Release number job)) e read in
     let more = bind_some (new_job r c d v) (λ job. Some (Release it.0 job)) e it.2 in
@@ -196,15 +176,14 @@ release_from (n ∷ r ∷ c ∷ d ∷ v ∷ []) e read =
       counted = ap (λ m. m ∷ job_numbers more.0) (sym number.0) ∙ ap (λ j. n ∷ job_numbers j) (sym job.1);
       named = (number.1, subst IsJob job.1 (record { passes = job.0 }));
     })
-release_from (n ∷ r ∷ c ∷ d ∷ v ∷ a ∷ ns) e read = none_is_some read
+release_from _ e read = none_is_some read
 
 -- the end
 end_from : (ns : List ℕ) (e : Event) → end_of ns ≡ Some e → Reads (codes "end") ns e
-end_from [] e read = none_is_some read
 end_from (value ∷ []) e read =
     subst (Reads (codes "end") (value ∷ [])) (some_same _ _ read)
     (record { spelled = refl; counted = refl; named = tt })
-end_from (value ∷ n ∷ ns) e read = none_is_some read
+end_from _ e read = none_is_some read
 
 -- where the word is the one tested for, or else the next test decides
 by_word : {A : Type 0} (word tested_word : List ℕ) (P : List ℕ → Type 0) (here other : Option A) (y : A)
@@ -242,16 +221,12 @@ pub record Spells (word ns : List ℕ) (x : TraceLine) : Type 0 where
 
 -- a header
 header_from : (ns : List ℕ) (x : TraceLine) → header_of ns ≡ Some x → Spells (codes "dover") ns x
-header_from [] x read = none_is_some read
-header_from (a ∷ []) x read = none_is_some read
-header_from (a ∷ b ∷ []) x read = none_is_some read
 header_from (a ∷ b ∷ c ∷ []) x read =
     subst (Spells (codes "dover") (a ∷ b ∷ c ∷ [])) (some_same _ _ read) (record { text = refl; form = λ short. short })
-header_from (a ∷ b ∷ c ∷ d ∷ []) x read = none_is_some read
 header_from (a ∷ b ∷ c ∷ d ∷ e ∷ []) x read =
     subst (Spells (codes "dover") (a ∷ b ∷ c ∷ d ∷ e ∷ [])) (some_same _ _ read)
     (record { text = refl; form = λ short. short })
-header_from (a ∷ b ∷ c ∷ d ∷ e ∷ f ∷ ns) x read = none_is_some read
+header_from _ x read = none_is_some read
 
 -- the numbers of a header are read as it
 header_back : (v p q : ℕ) (factor : Option (ℕ × ℕ)) → header_of (v ∷ p ∷ q ∷ pair_of factor)
@@ -310,9 +285,8 @@ named_from word cause =
 -- the last word
 last_from : (fields : List (List ℕ)) (cause : Refusal) → last_word fields ≡ Some cause
     → fields ≡ refusal_word cause ∷ []
-last_from [] cause read = none_is_some read
 last_from (word ∷ []) cause read = ap (λ w. w ∷ []) (sym (named_from word cause read))
-last_from (word ∷ next ∷ fields) cause read = none_is_some read
+last_from _ cause read = none_is_some read
 
 -- what is read behind each number
 abbrev behind_value : (t r c d v : ℕ) → List (List ℕ) → Option TraceLine
@@ -373,9 +347,8 @@ refused_from fields x read =
 
 -- the word of a refused done line
 done_from : (fields : List (List ℕ)) → is_done_left fields ≡ true → fields ≡ codes "done" ∷ []
-done_from [] is = never is
 done_from (word ∷ []) is = ap (λ w. w ∷ []) ((bytes_eq-Decides word (codes "done")).0 is)
-done_from (word ∷ next ∷ fields) is = never is
+done_from _ is = never is
 
 -- what is read behind each of its numbers
 abbrev behind_number : (t u n : ℕ) → List (List ℕ) → Option TraceLine
@@ -421,11 +394,7 @@ first_ok n fields short = ap (option_map (λ m. let g : ℕ × List (List ℕ) =
 -- the word of a refusal stands for it
 word_named : (cause : Refusal) → verdict.refusal_of_word (refusal_word cause) ≡ Some cause
 word_named BadJob = refl
-word_named Count = refl
-word_named Total = refl
-word_named Ratio = refl
-word_named Late = refl
-word_named Full = refl
+word_named _ = refl
 
 -- the fields of a refused line are read as it
 refused_read : (t r c d v : ℕ) (cause : Refusal) → AreShort (t ∷ r ∷ c ∷ d ∷ v ∷ [])
@@ -510,12 +479,7 @@ text_cut (RefusedDone t u n) form =
 step_line : (e : Event) (ns : List ℕ) → line_of_fields (word_of e ∷ map decimal ns)
     ≡ option_and_then (λ ms. option_map Step (step_of_word (word_of e) ms)) (numerals (map decimal ns))
 step_line (Release n j) ns = refl
-step_line (Run at n) ns = refl
-step_line (Preempt at stops starts) ns = refl
-step_line (Take at stops starts) ns = refl
-step_line (Complete at n) ns = refl
-step_line (Abandon at n) ns = refl
-step_line (End value) ns = refl
+step_line _ ns = refl
 
 -- the fields of what has a form are read as it
 fields_read : (x : TraceLine) → HasForm x → line_of_fields (fields_in x) ≡ Some x
@@ -567,12 +531,7 @@ text_rules (Header version p q factor) form = ap rules_of_fields (text_cut (Head
 text_rules (Step e) form = ap rules_of_fields (text_cut (Step e) form) ∙ no_rules e (map decimal (step_numbers e)) where
   no_rules : (e : Event) (fields : List (List ℕ)) → rules_of_fields (word_of e ∷ fields) ≡ None
   no_rules (Release n j) fields = refl
-  no_rules (Run at n) fields = refl
-  no_rules (Preempt at stops starts) fields = refl
-  no_rules (Take at stops starts) fields = refl
-  no_rules (Complete at n) fields = refl
-  no_rules (Abandon at n) fields = refl
-  no_rules (End value) fields = refl
+  no_rules _ fields = refl
 text_rules (Refused t r c d v cause) form = ap rules_of_fields (text_cut (Refused t r c d v cause) form)
 text_rules (RefusedDone t u n) form = ap rules_of_fields (text_cut (RefusedDone t u n) form)
 

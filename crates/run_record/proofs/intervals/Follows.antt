@@ -61,14 +61,12 @@ pub record Follows (s : State) (l : Page) (current : Option model.Interval) : Ty
 -- the page after a step
 abbrev pub page_after : Page → Move → Page
 page_after l (Prints e) = with_event l e
-page_after l (Waits n) = l
-page_after l Ticks = l
+page_after l _ = l
 
 -- the step can come next
 abbrev pub CanFollow : Page → Move → Type 0
 CanFollow l (Prints e) = IsReadable l e
-CanFollow l (Waits n) = Unit {0}
-CanFollow l Ticks = Unit {0}
+CanFollow l _ = Unit {0}
 
 -- the page follows a step
 pub record Next (s : State) (l : Page) (current : Option model.Interval) (m : Move) : Type 0 where

@@ -252,19 +252,17 @@ module _ (s : State) (numbered : IsNumberedFrom 0 s.tasks) (l : Page) (tracks : 
     longer = length-append l.jobs (record { value = c.job.value; era = 0 } ∷ [])
 
     next : c.number ≡ length l.jobs
-    next = by_order (cases_lt (length l.jobs) c.number) where
-      least : length l.jobs ≤ c.number
-      least = tracks.ahead c member comes
-
-      by_order : (length l.jobs < c.number) ⊎ (c.number ≤ length l.jobs) → c.number ≡ length l.jobs
-      by_order (inr most) = omega (arith, least)
-      by_order (inl less) =
-          let it : (t : Task) × IsMember t s.tasks × (t.number ≡ length l.jobs) =
+    next = elim (cases_lt (length l.jobs) c.number) [
+      | inr most ↦ omega (arith, least)
+      | inl less ↦ let it : (t : Task) × IsMember t s.tasks × (t.number ≡ length l.jobs) =
           number_there 0 s.tasks numbered c member (length l.jobs) (omega arith) (omega arith) in
           absurd (by_bool _ (is_coming it.0)
           (λ e. let low : c.number ≤ it.0.number = first it.0 it.1 (is_coming_role it.0 e) in omega (arith, it.2))
           (λ e. let low : it.0.number < length l.jobs =
           (tracks.known it.0 it.1 (fails is_coming it.0 Coming refl e)).there in omega (arith, it.2)))
+    ] where
+      least : length l.jobs ≤ c.number
+      least = tracks.ahead c member comes
 
     here : IsKnown (l.jobs ++ record { value = c.job.value; era = 0 } ∷ []) l.era (with_role c Fresh)
     here =

@@ -30,14 +30,12 @@ pub record Follows (s : State) (p : Page) : Type 0 where
 -- the page after a step
 abbrev pub page_after : Page → Move → Page
 page_after p (Prints e) = with_event p e
-page_after p (Waits n) = p
-page_after p Ticks = p
+page_after p _ = p
 
 -- the step can come next, and its room is that of the state
 abbrev pub CanFollow : State → Page → Move → Type 0
 CanFollow s p (Prints e) = IsReadable p e × (room_on p e ≡ room_before s e)
-CanFollow s p (Waits n) = Unit {0}
-CanFollow s p Ticks = Unit {0}
+CanFollow s p _ = Unit {0}
 
 -- the page follows a step
 pub record Next (s : State) (p : Page) (m : Move) : Type 0 where

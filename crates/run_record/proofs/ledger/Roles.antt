@@ -73,12 +73,7 @@ none_held tasks = ap (λ ts. by_deadline (map entry_of ts)) (sym (none_pass is_h
     (on_map (λ t. with_role t (displaced t.role)) (λ t. is_held t ≡ false) tasks (λ t m. by_case t t.role)))) where
       by_case : (t : Task) (role : Role) → is_held (with_role t (displaced role)) ≡ false
       by_case t Coming = refl
-      by_case t Fresh = refl
-      by_case t Waiting = refl
-      by_case t Held = refl
-      by_case t Running = refl
-      by_case t Done = refl
-      by_case t Gone = refl
+      by_case t _ = refl
 
 -- the held jobs stay in a tick
 pub held_ticked : (tasks : List Task) → held_entries tasks ≡ held_entries (map ticked tasks)
@@ -140,16 +135,11 @@ one_runner n (x ∷ tasks) all r (inl e) runs only = by_test (is_running x) (ap 
   by_test true h = ap (λ ts. x ∷ ts) (none_pass is_running tasks others) ∙ ap (λ y. y ∷ []) (sym e)
   by_test false h = never h
 one_runner n (x ∷ tasks) all r (inr m) runs only =
-    by_test (is_running x) refl (one_runner (suc n) tasks all.1 r m runs (λ t k. only t (inr k))) where
-      by_test : (b : Bool) → is_running x ≡ b → filter is_running tasks ≡ r ∷ []
-          → cond b (x ∷ filter is_running tasks) (filter is_running tasks) ≡ r ∷ []
-      by_test true h rest = absurd (omega (
-        arith,
-        only x (inl refl) h,
-        all.0,
-        numbers_above (suc n) tasks all.1 r m,
-      ))
-      by_test false h rest = rest
+    (elim (is_running x) as (λ b. is_running x ≡ b → filter is_running tasks ≡ r ∷ [] → cond b
+    (x ∷ filter is_running tasks) (filter is_running tasks) ≡ r ∷ []) [
+      | true ↦ λ h rest. absurd (omega (arith, only x (inl refl) h, all.0, numbers_above (suc n) tasks all.1 r m))
+      | false ↦ λ h rest. rest
+    ]) refl (one_runner (suc n) tasks all.1 r m runs (λ t k. only t (inr k)))
 
 -- what holds of each holds by recursion
 pub each_all : (P : Entry → Type 0) (es : List Entry) → Each P es → AllByRecursion P es

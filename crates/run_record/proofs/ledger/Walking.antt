@@ -168,13 +168,8 @@ module _ (J : Instance) (valid : IsValid J) (listable : IsListable J) where
       → Each (λ t. slice_index_or p.entries t.number nobody ≡ entry_of t) (end_state J).tasks
       × IsNumberedFrom 0 (end_state J).tasks × Each (λ t. t.had ≤ t.job.work) (end_state J).tasks
       × (jobs_of (end_state J).tasks ≡ J.jobs)
-  end_stored p rooms reads = by_steps reads.whole where
-    by_steps : (reads.steps ≡ []) ⊎ IsWholeRun J.rules reads.before reads.steps
-        → Each (λ t. slice_index_or p.entries t.number nobody ≡ entry_of t) (end_state J).tasks
-        × IsNumberedFrom 0 (end_state J).tasks × Each (λ t. t.had ≤ t.job.work) (end_state J).tasks
-        × (jobs_of (end_state J).tasks ≡ J.jobs)
-    by_steps (inl none) =
-        let same : reads.before.tasks ≡ (end_state J).tasks =
+  end_stored p rooms reads = elim reads.whole [
+    | inl none ↦ let same : reads.before.tasks ≡ (end_state J).tasks =
         ap (last_tasks reads.before) (sym none) ∙ reads.last in
         subst (λ ts. Each (λ (t : Task). slice_index_or p.entries t.number nobody ≡ entry_of t) ts
         × IsNumberedFrom 0 ts × Each (λ (t : Task). t.had ≤ t.job.work) ts × (jobs_of ts ≡ J.jobs)) same (
@@ -184,7 +179,8 @@ module _ (J : Instance) (valid : IsValid J) (listable : IsListable J) where
           reads.keeps.sound.at_most_work,
           reads.keeps.jobs,
         )
-    by_steps (inr whole) = absurd (some_printed J.rules reads.steps reads.before whole reads.prints)
+    | inr whole ↦ absurd (some_printed J.rules reads.steps reads.before whole reads.prints)
+  ]
 
   -- before the first step
   pub none_read : Reads J (record { entries = map entry_of (to_come 0 J.jobs); since = 0; turn = None; held = empty })

@@ -133,12 +133,10 @@ module _ (k : Fraction) (version : Version) (n : ℕ) (valid : IsValid (baiting 
   next_there : (a : JobFacts) → Link a
       → (a.value ≡ most) ⊎ ((u : JobFacts) × IsMember u (bait_jobs k (suc n)) × Link u × (a.value < u.value)
       × (u.release + 1 ≡ a.deadline))
-  next_there a link = by_next (links_next k ratio n 0 (first_link k) some small a link) where
-    by_next : (a.value ≡ most) ⊎ HasNext k ratio (links k (suc n) 0 (first_link k)) a
-        → (a.value ≡ most) ⊎ ((u : JobFacts) × IsMember u (bait_jobs k (suc n)) × Link u × (a.value < u.value)
-        × (u.release + 1 ≡ a.deadline))
-    by_next (inl same) = inl same
-    by_next (inr u) = inr (u.0, link_in_feed k (suc n) u.0 u.1 (within u.0 u.1), u.1, u.2, u.3)
+  next_there a link = elim (links_next k ratio n 0 (first_link k) some small a link) [
+    | inl same ↦ inl same
+    | inr u ↦ inr (u.0, link_in_feed k (suc n) u.0 u.1 (within u.0 u.1), u.1, u.2, u.3)
+  ]
 
   -- the last link is due one tick after the bait's release
   last_due : (a : JobFacts) → IsLast most Link a → a.deadline ≡ bait_tick k (suc n) + 1

@@ -254,16 +254,14 @@ pub completes_last_alone : (k : Fraction) (version : Version) (rounds : ℕ) →
     → IsValid (baiting k version rounds)
     → CompletesLastAlone k rounds (baiting k version rounds)
 completes_last_alone k version zero some valid = absurd (omega arith)
-completes_last_alone k version (suc n) some valid = by_bait (cases_lt 1 (bait_value k (suc n))) where
-  by_bait : (1 < bait_value k (suc n)) ⊎ (bait_value k (suc n) ≤ 1)
-      → CompletesLastAlone k (suc n) (baiting k version (suc n))
-  by_bait (inl two) = record {
+completes_last_alone k version (suc n) some valid = elim (cases_lt 1 (bait_value k (suc n))) [
+  | inl two ↦ record {
     worth = worth_last k version n valid two;
     once = once k version n valid two;
     last = last k version n valid two;
   }
-  by_bait (inr one) =
-      let it : (n ≡ 0) × (first_link k ≡ 1) × (bait_value k (suc n) ≡ 1) = twins k version n valid one in
+  | inr one ↦ let it : (n ≡ 0) × (first_link k ≡ 1) × (bait_value k (suc n) ≡ 1) = twins k version n valid one in
       subst (λ (m : ℕ). IsValid (baiting k version (suc m)) → bait_value k (suc m) ≡ 1
       → CompletesLastAlone k (suc m) (baiting k version (suc m))) (sym it.0)
       (λ valid last. twins_alone k version valid it.1 last) valid it.2
+]

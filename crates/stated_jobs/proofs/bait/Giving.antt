@@ -200,10 +200,8 @@ unit_early k zero r w b t early none left before = level left where
   level : r + 0 ≡ b + 0 → t + 1 ≤ r
   level left = omega arith
 unit_early k (suc links) r w b t early (inl none) left before = absurd (omega (arith, none))
-unit_early k (suc links) r w b t early (inr other) left before = later (cases_lt t r) where
-  later : (t < r) ⊎ (r ≤ t) → t + 1 ≤ r
-  later (inl less) = omega (arith, less)
-  later (inr more) = absurd (other (omega (arith, early, more)))
+unit_early k (suc links) r w b t early (inr other) left before =
+    elim (cases_lt t r) [ inl less ↦ omega (arith, less) | inr more ↦ absurd (other (omega (arith, early, more))) ]
 
 -- at the bait's tick the bait is given
 pub bait_given : (unit bait b : ℕ) (k : Fraction) (links r w t : ℕ) → 1 ≤ w → t ≤ r → NoneNow links r t → t ≡ b

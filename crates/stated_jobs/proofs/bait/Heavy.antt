@@ -218,10 +218,8 @@ first_is k v w ratio some small some_w below light =
     one_greatest (λ n. is_heavy k v n) (greatest (λ n. is_heavy k v n)) (w - 1) (moved_is k v ratio some small) here in
     omega (arith, same) where
       none_greater : (n : ℕ) → IsTrue (is_heavy k v n) → n ≤ w - 1
-      none_greater n heavy = by_order (cases_lt n w) where
-        by_order : (n < w) ⊎ (w ≤ n) → n ≤ w - 1
-        by_order (inl less) = omega arith
-        by_order (inr more) = absurd (light (heavy_closed k v w n more heavy))
+      none_greater n heavy =
+          elim (cases_lt n w) [ inl less ↦ omega arith | inr more ↦ absurd (light (heavy_closed k v w n more heavy)) ]
 
       here : IsGreatest (λ n. is_heavy k v n) (w - 1)
       here = record { does = below; greatest = none_greater }

@@ -68,36 +68,27 @@ module _ (k : Fraction) (rounds : ℕ) where
   -- what is released at a tick is a link or its unit job
   at_tick : (a : ℕ) (j : JobFacts) → IsMember j (released_at k rounds a) → IsMember j (chain_jobs k rounds)
       ⊎ (j ≡ unit_at a)
-  at_tick a j member = by_part (member_either (links_at k rounds a) (unit_at a ∷ []) j member) where
+  at_tick a j member = elim (member_either (links_at k rounds a) (unit_at a ∷ []) j member) [
+    | inl m ↦ inl (member_filter (λ i. i.release == a) (chain_jobs k rounds) j m).0
+    | inr m ↦ inr (by_unit m)
+  ] where
     by_unit : IsMember j (unit_at a ∷ []) → j ≡ unit_at a
     by_unit (inl e) = e
     by_unit (inr none) = absurd none
-
-    by_part : IsMember j (links_at k rounds a) ⊎ IsMember j (unit_at a ∷ []) → IsMember j (chain_jobs k rounds)
-        ⊎ (j ≡ unit_at a)
-    by_part (inl m) = inl (member_filter (λ i. i.release == a) (chain_jobs k rounds) j m).0
-    by_part (inr m) = inr (by_unit m)
 
   -- what is there is a link or the unit job of one of these ticks
   there_is : (a n : ℕ) (j : JobFacts) → IsMember j (released a n) → IsMember j (chain_jobs k rounds) ⊎ IsUnit (a + n) j
   there_is a zero j member = absurd member
   there_is a (suc n) j member =
       by_part (member_either (released_at k rounds a) (released (a + 1) n) j member) (there_is (a + 1) n j) where
-        by_first : IsMember j (chain_jobs k rounds) ⊎ (j ≡ unit_at a) → IsMember j (chain_jobs k rounds)
-            ⊎ IsUnit (a + suc n) j
-        by_first (inl m) = inl m
-        by_first (inr e) = inr (a, omega arith, e)
-
-        by_rest : IsMember j (chain_jobs k rounds) ⊎ IsUnit (a + 1 + n) j → IsMember j (chain_jobs k rounds)
-            ⊎ IsUnit (a + suc n) j
-        by_rest (inl m) = inl m
-        by_rest (inr it) = inr (it.0, let low : it.0 < a + 1 + n = it.1 in omega arith, it.2)
-
         by_part : IsMember j (released_at k rounds a) ⊎ IsMember j (released (a + 1) n)
             → (IsMember j (released (a + 1) n) → IsMember j (chain_jobs k rounds) ⊎ IsUnit (a + 1 + n) j)
             → IsMember j (chain_jobs k rounds) ⊎ IsUnit (a + suc n) j
-        by_part (inl m) more = by_first (at_tick a j m)
-        by_part (inr m) more = by_rest (more m)
+        by_part (inl m) more = elim (at_tick a j m) [ inl m ↦ inl m | inr e ↦ inr (a, omega arith, e) ]
+        by_part (inr m) more = elim (more m) [
+          | inl m ↦ inl m
+          | inr it ↦ inr (it.0, let low : it.0 < a + 1 + n = it.1 in omega arith, it.2)
+        ]
 
   -- the bait
   abbrev pub bait : JobFacts
@@ -110,26 +101,20 @@ module _ (k : Fraction) (rounds : ℕ) where
   -- what is in the feed is a link, a unit job or the bait
   pub feed_is : (j : JobFacts) → IsMember j (bait_jobs k rounds)
       → IsMember j (chain_jobs k rounds) ⊎ (IsUnit (bait_tick k rounds) j ⊎ (j ≡ bait))
-  feed_is j member = by_part (member_either front (bait ∷ []) j member) where
-    by_early : IsMember j (chain_jobs k rounds) ⊎ IsUnit (0 + bait_tick k rounds) j
-        → IsMember j (chain_jobs k rounds) ⊎ (IsUnit (bait_tick k rounds) j ⊎ (j ≡ bait))
-    by_early (inl m) = inl m
-    by_early (inr it) = inr (inl (it.0, let low : it.0 < 0 + bait_tick k rounds = it.1 in omega arith, it.2))
-
-    by_front : IsMember j (released 0 (bait_tick k rounds)) ⊎ IsMember j (links_at k rounds (bait_tick k rounds))
-        → IsMember j (chain_jobs k rounds) ⊎ (IsUnit (bait_tick k rounds) j ⊎ (j ≡ bait))
-    by_front (inl m) = by_early (there_is 0 (bait_tick k rounds) j m)
-    by_front (inr m) = inl (member_filter (λ i. i.release == bait_tick k rounds) (chain_jobs k rounds) j m).0
-
+  feed_is j member = elim (member_either front (bait ∷ []) j member) [
+    | inl m ↦ elim (member_either (released 0 (bait_tick k rounds)) (links_at k rounds (bait_tick k rounds)) j
+        m) [
+          | inl m ↦ elim (there_is 0 (bait_tick k rounds) j m) [
+            | inl m ↦ inl m
+            | inr it ↦ inr (inl (it.0, let low : it.0 < 0 + bait_tick k rounds = it.1 in omega arith, it.2))
+          ]
+          | inr m ↦ inl (member_filter (λ i. i.release == bait_tick k rounds) (chain_jobs k rounds) j m).0
+        ]
+    | inr m ↦ inr (inr (by_bait m))
+  ] where
     by_bait : IsMember j (bait ∷ []) → j ≡ bait
     by_bait (inl e) = e
     by_bait (inr none) = absurd none
-
-    by_part : IsMember j front ⊎ IsMember j (bait ∷ []) → IsMember j (chain_jobs k rounds)
-        ⊎ (IsUnit (bait_tick k rounds) j ⊎ (j ≡ bait))
-    by_part (inl m) = by_front
-        (member_either (released 0 (bait_tick k rounds)) (links_at k rounds (bait_tick k rounds)) j m)
-    by_part (inr m) = inr (inr (by_bait m))
 
   -- a link that is released by the bait's tick is in the feed
   pub link_in_feed : (j : JobFacts) → IsMember j (chain_jobs k rounds) → j.release ≤ bait_tick k rounds
@@ -148,23 +133,21 @@ module _ (k : Fraction) (rounds : ℕ) where
   -- a feed whose first link is released at 0 begins with it
   pub feed_begins : (j : JobFacts) (more : List JobFacts) → chain_jobs k rounds ≡ j ∷ more → j.release ≡ 0
       → (rest : List JobFacts) × (bait_jobs k rounds ≡ j ∷ rest)
-  feed_begins j more are zero_at = by_tick (bait_tick k rounds) bait where
-    links_at_zero : links_at k rounds 0 ≡ j ∷ filter (λ i. i.release == 0) more
-    links_at_zero = ap (filter (λ (i : JobFacts). i.release == 0)) are
-        ∙ ap (λ b. cond b (j ∷ filter (λ (i : JobFacts). i.release == 0) more)
-        (filter (λ (i : JobFacts). i.release == 0) more))
-        (eq-eqb j.release 0 zero_at)
-
-    by_tick : (b : ℕ) (last : JobFacts) → (rest : List JobFacts) × (feed_at b last ≡ j ∷ rest)
-    by_tick zero last = (
-      filter (λ (i : JobFacts). i.release == 0) more ++ last ∷ [],
-      ap (λ xs. xs ++ last ∷ []) links_at_zero,
-    )
-    by_tick (suc b) last = (
-      ((filter (λ (i : JobFacts). i.release == 0) more ++ unit_at 0 ∷ []) ++ released (0 + 1) b) ++ links_at k rounds
-          (suc b) ++ last ∷ [],
-      ap (λ xs. ((xs ++ unit_at 0 ∷ []) ++ released (0 + 1) b) ++ links_at k rounds (suc b) ++ last ∷ []) links_at_zero,
-    )
+  feed_begins j more are zero_at = elim (bait_tick k rounds) as
+      (λ b. (rest : List JobFacts) × (feed_at b bait ≡ j ∷ rest)) [
+        | zero ↦ (filter (λ (i : JobFacts). i.release == 0) more ++ bait ∷ [], ap (λ xs. xs ++ bait ∷ []) links_at_zero)
+        | suc b ↦ (
+          ((filter (λ (i : JobFacts). i.release == 0) more ++ unit_at 0 ∷ []) ++ released (0 + 1) b)
+              ++ links_at k rounds (suc b) ++ bait ∷ [],
+          ap (λ xs. ((xs ++ unit_at 0 ∷ []) ++ released (0 + 1) b) ++ links_at k rounds (suc b) ++ bait ∷ [])
+              links_at_zero,
+        )
+      ] where
+        links_at_zero : links_at k rounds 0 ≡ j ∷ filter (λ i. i.release == 0) more
+        links_at_zero = ap (filter (λ (i : JobFacts). i.release == 0)) are
+            ∙ ap (λ b. cond b (j ∷ filter (λ (i : JobFacts). i.release == 0) more)
+            (filter (λ (i : JobFacts). i.release == 0) more))
+            (eq-eqb j.release 0 zero_at)
 
   module _ (f : JobFacts → ℕ) where
     -- of those that are released at a

@@ -159,13 +159,10 @@ module _ (k : Fraction) (ratio : IsRatio k) where
     let due : a.deadline ≡ r + w = ap (λ (i : JobFacts). i.deadline) e in omega arith,
   )
   links_next (suc n) r w some small a (inr member) =
-      by_rest (links_next n (r + w - 1) (suc (most_light k w)) (omega arith)
-      (rest_small (suc n) r w small) a member) where
-        by_rest : (a.value ≡ last_from k n (suc (most_light k w)))
-            ⊎ HasNext (links k (suc n) (r + w - 1) (suc (most_light k w))) a
-            → (a.value ≡ last_from k (suc n) w) ⊎ HasNext (links k (suc (suc n)) r w) a
-        by_rest (inl same) = inl same
-        by_rest (inr it) = inr (it.0, inr it.1, it.2, it.3)
+      elim (links_next n (r + w - 1) (suc (most_light k w)) (omega arith) (rest_small (suc n) r w small) a member) [
+        | inl same ↦ inl same
+        | inr it ↦ inr (it.0, inr it.1, it.2, it.3)
+      ]
 
   -- the last one is due one tick after the end
   pub links_last : (n r w : ℕ) → 1 ≤ w → AreSmall (links k (suc n) r w)

@@ -71,22 +71,18 @@ Pending Link Light clock t = (clock + left t ≡ t.job.deadline) × (Link t.job 
 -- what a role says of a job
 abbrev pub Stands : ℕ → (JobFacts → Type 0) → (JobFacts → Type 0) → ℕ → Role → Task → Type 0
 Stands most Link Light clock Coming t = Unit {0}
-Stands most Link Light clock Fresh t = Pending Link Light clock t
-Stands most Link Light clock Waiting t = Pending Link Light clock t
 Stands most Link Light clock Held t = ⊥
 Stands most Link Light clock Running t = (clock + left t ≡ t.job.deadline) × Link t.job
 Stands most Link Light clock Done t = IsLast most Link t.job
 Stands most Link Light clock Gone t = IsLast most Link t.job → ⊥
+Stands most Link Light clock _ t = Pending Link Light clock t
 
 -- what a role says of a link of more value than the one that runs
 abbrev pub Follows : ℕ → Role → Task → Type 0
 Follows clock Coming t = Unit {0}
 Follows clock Fresh t = t.job.release ≡ clock
 Follows clock Waiting t = t.job.release ≡ clock
-Follows clock Held t = ⊥
-Follows clock Running t = ⊥
-Follows clock Done t = ⊥
-Follows clock Gone t = ⊥
+Follows clock _ t = ⊥
 
 -- to come, or the first job, fresh
 abbrev pub IsUnbegun : Task → Type 0
@@ -296,15 +292,8 @@ module _ (k : Fraction) (jobs : List JobFacts) (most : ℕ) (Link Light : JobFac
       -- a link that runs ends as the last
       pub completes : (r : Task) → IsMember r s.tasks → r.role ≡ Running → left r ≡ 0
           → IsSteady most Link Light (state_with s r Done)
-      completes r member runs done = by_next (chained.next r.job standing.1) where
-        standing : (s.clock + left r ≡ r.job.deadline) × Link r.job
-        standing = stands_as r member Running runs
-
-        by_next : (r.job.value ≡ most)
-            ⊎ ((u : JobFacts) × IsMember u jobs × Link u × (r.job.value < u.value) × (u.release + 1 ≡ r.job.deadline))
-            → IsSteady most Link Light (state_with s r Done)
-        by_next (inr it) =
-            let t : (x : Task) × IsMember x s.tasks × (x.job ≡ it.0) = task_of it.0 it.1 in
+      completes r member runs done = elim (chained.next r.job standing.1) [
+        | inr it ↦ let t : (x : Task) × IsMember x s.tasks × (x.job ≡ it.0) = task_of it.0 it.1 in
             let now : s.clock ≤ t.0.job.release = released_now s.clock t.0.role t.0 (sound.roles t.0 t.1)
             (steady.follows r t.0 member t.1 runs (subst Link (sym t.2) it.2)
             (subst (λ (j : JobFacts). r.job.value < j.value) (sym t.2) it.3)) in
@@ -312,7 +301,7 @@ module _ (k : Fraction) (jobs : List JobFacts) (most : ℕ) (Link Light : JobFac
             subst (λ (j : JobFacts). j.release + 1 ≡ r.job.deadline) (sym t.2) it.4 in
             let whole : s.clock + left r ≡ r.job.deadline = standing.0 in
             absurd (omega arith)
-        by_next (inl top) = one_steady r member Done (standing.1, top) (λ e. absurd (cc))
+        | inl top ↦ one_steady r member Done (standing.1, top) (λ e. absurd (cc))
             (λ t m apart other. absurd (apart (ap (λ (x : Task). x.number) (only_runner r t member m runs other))))
             (λ _. inr (on_changed 0 s.tasks sound.numbered r member Done (λ t. is_over t ≡ true) refl
             (λ t m apart. over_by s.clock r.job.deadline t.role t (sound.roles t m) (steady.stands t m)
@@ -320,6 +309,9 @@ module _ (k : Fraction) (jobs : List JobFacts) (most : ℕ) (Link Light : JobFac
             (of_task (λ j. j.release < r.job.deadline) (chained.late r.job (standing.1, top)) t m)
             (λ link. chained.due r.job t.job (standing.1, top) link)
             (λ other. apart (ap (λ (x : Task). x.number) (only_runner r t member m runs other))))))
+      ] where
+        standing : (s.clock + left r ≡ r.job.deadline) × Link r.job
+        standing = stands_as r member Running runs
 
       -- the processor stays with the one that runs
       still_runs : (r f : Task) (a new : Role) → IsMember r s.tasks → IsMember f s.tasks → r.role ≡ Running → f.role ≡ a
@@ -331,20 +323,9 @@ module _ (k : Fraction) (jobs : List JobFacts) (most : ℕ) (Link Light : JobFac
       -- the first job begins
       begins : (f : Task) → IsMember f s.tasks → f.role ≡ Fresh → NoneRuns s.tasks
           → IsSteady most Link Light (state_with s f Running)
-      begins f member fresh none = by_idle (steady.idle none) where
-        number_zero : IsUnbegun f → f.number ≡ 0
-        number_zero (inl comes) = absurd (let e : Coming ≡ Fresh = sym comes ∙ fresh in cc)
-        number_zero (inr it) = it.1
-
-        still : (u : Task) → IsMember u s.tasks → (u.number ≡ f.number → ⊥) → f.number ≡ 0 → IsUnbegun u
-            → Follows s.clock u.role u
-        still u mu apart zero (inl comes) = subst (λ role. Follows s.clock role u) (sym comes) tt
-        still u mu apart zero (inr it) = absurd (apart (it.1 ∙ sym zero))
-
-        by_idle : Each IsUnbegun s.tasks ⊎ Each (λ t. is_over t ≡ true) s.tasks
-            → IsSteady most Link Light (state_with s f Running)
-        by_idle (inr over) = absurd (not_over f Fresh refl fresh (over f member))
-        by_idle (inl unbegun) = one_steady f member Running (
+      begins f member fresh none = elim (steady.idle none) [
+        | inr over ↦ absurd (not_over f Fresh refl fresh (over f member))
+        | inl unbegun ↦ one_steady f member Running (
           (stands_as f member Fresh fresh).0,
           subst Link (sym (first_task s.tasks chained.first.0 chained.first.1 sound.numbered
               (are ∙ chained.first.2) f member (number_zero (unbegun f member)))) chained.first.3,
@@ -353,6 +334,15 @@ module _ (k : Fraction) (jobs : List JobFacts) (most : ℕ) (Link Light : JobFac
             (λ t m apart other. absurd (none t m other))
             (λ still_none. absurd (still_none (with_role f Running)
             (changed_here 0 s.tasks sound.numbered f member Running) refl))
+      ] where
+        number_zero : IsUnbegun f → f.number ≡ 0
+        number_zero (inl comes) = absurd (let e : Coming ≡ Fresh = sym comes ∙ fresh in cc)
+        number_zero (inr it) = it.1
+
+        still : (u : Task) → IsMember u s.tasks → (u.number ≡ f.number → ⊥) → f.number ≡ 0 → IsUnbegun u
+            → Follows s.clock u.role u
+        still u mu apart zero (inl comes) = subst (λ role. Follows s.clock role u) (sym comes) tt
+        still u mu apart zero (inr it) = absurd (apart (it.1 ∙ sym zero))
 
       -- a job is released
       arrives : (c : Task) → IsMember c s.tasks → c.role ≡ Coming → c.job.release ≡ s.clock
@@ -550,12 +540,11 @@ module _ (k : Fraction) (jobs : List JobFacts) (most : ℕ) (Link Light : JobFac
       deed_steady other rested m (Resumed p member is_h none least why) _ = absurd (stands_as p member Held is_h)
       deed_steady other rested m (Started o member waiting none first fits next) _ =
           absurd (by_idle (steady.idle none)) where
-            by_unbegun : IsUnbegun o → ⊥
-            by_unbegun (inl comes) = let e : Waiting ≡ Coming = sym waiting ∙ comes in cc
-            by_unbegun (inr it) = let e : Waiting ≡ Fresh = sym waiting ∙ it.0 in cc
-
             by_idle : Each IsUnbegun s.tasks ⊎ Each (λ t. is_over t ≡ true) s.tasks → ⊥
-            by_idle (inl unbegun) = by_unbegun (unbegun o member)
+            by_idle (inl unbegun) = elim (unbegun o member) [
+              | inl comes ↦ let e : Waiting ≡ Coming = sym waiting ∙ comes in cc
+              | inr it ↦ let e : Waiting ≡ Fresh = sym waiting ∙ it.0 in cc
+            ]
             by_idle (inr over) = not_over o Waiting refl waiting (over o member)
       deed_steady other rested m (Began f member fresh none free) _ = begins f member fresh none
       deed_steady other rested m (Preempted r f member runs some f_member fresh before fits) _ =

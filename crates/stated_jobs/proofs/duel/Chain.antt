@@ -87,12 +87,11 @@ all_pieces P (suc fuel) size (suc ticks) some each = (
 
 module _ (k : Fraction) (a b : ℕ) where
   pub some_small : (l : ℕ × ℕ) → 1 ≤ small_work k a b l
-  some_small l = by_order (cases_lt 1 ((leaving k b l - 1) / (a * k.p))) where
-    by_order : (1 < (leaving k b l - 1) / (a * k.p)) ⊎ ((leaving k b l - 1) / (a * k.p) ≤ 1) → 1 ≤ small_work k a b l
-    by_order (inl more) = subst (λ n. 1 ≤ n)
+  some_small l = elim (cases_lt 1 ((leaving k b l - 1) / (a * k.p))) [
+    | inl more ↦ subst (λ n. 1 ≤ n)
         (sym (max-eq_right {n = 1} {m = (leaving k b l - 1) / (a * k.p)} (omega (arith, more)))) (omega (arith, more))
-    by_order (inr less) = subst (λ n. 1 ≤ n)
-        (sym (max-eq_left {n = 1} {m = (leaving k b l - 1) / (a * k.p)} less)) (omega arith)
+    | inr less ↦ subst (λ n. 1 ≤ n) (sym (max-eq_left {n = 1} {m = (leaving k b l - 1) / (a * k.p)} less)) (omega arith)
+  ]
 
   -- it doesn't pay
   small_cheap : (l : ℕ × ℕ) (g : ℕ) → a * k.p < leaving k b l → g ≤ small_work k a b l → a * (k.p * g) < leaving k b l
@@ -133,8 +132,16 @@ module _ (k : Fraction) (a b : ℕ) where
       → jobs_of_links k a b more l ≡ jobs_from k.p k.q l.0 (phases_of more l) (last_of more l)
   unfolding jobs_of_links
   as_phases zero l some = refl
-  as_phases (suc more) l some = by_test (is_last k a b l)
-      (as_phases more (next_link k a b l) (omega arith)) where
+  as_phases (suc more) l some = (elim (is_last k a b l) as (λ c. rest ≡ jobs_from k.p k.q (l.0 + l.1 - 1)
+      (phases_of more (next_link k a b l)) (last_of more (next_link k a b l)) → tight_job l.0 l.1 k.q ∷ elim c
+      [ true ↦ [] | false ↦ smalls k.p l.0 gs ++ rest ] ≡ jobs_from k.p k.q l.0
+      (cond c [] (gs ∷ phases_of more (next_link k a b l))) (cond c l.1 (last_of more (next_link k a b l)))) [
+        | true ↦ λ further. refl
+        | false ↦ λ further. ap (λ w. tight_job l.0 w k.q ∷ (smalls k.p l.0 gs ++ rest)) work
+            ∙ ap (λ js. tight_job l.0 (sum gs + 1) k.q ∷ (smalls k.p l.0 gs ++ js)) (further
+            ∙ ap (λ t. jobs_from k.p k.q t (phases_of more (next_link k a b l)) (last_of more
+            (next_link k a b l))) tick)
+      ]) (as_phases more (next_link k a b l) (omega arith)) where
         gs : List ℕ
         gs = pieces (small_work k a b l) (l.1 - 1)
 
@@ -150,18 +157,6 @@ module _ (k : Fraction) (a b : ℕ) where
         tick = level l.1 (sum gs) some (all_but_one l) where
           level : (w s : ℕ) → 1 ≤ w → s ≡ w - 1 → l.0 + w - 1 ≡ l.0 + s
           level w s some is = omega (arith, some, is)
-
-        by_test : (c : Bool)
-            → rest ≡ jobs_from k.p k.q (l.0 + l.1 - 1) (phases_of more (next_link k a b l))
-            (last_of more (next_link k a b l))
-            → tight_job l.0 l.1 k.q ∷ elim c [ true ↦ [] | false ↦ smalls k.p l.0 gs ++ rest ]
-            ≡ jobs_from k.p k.q l.0 (cond c [] (gs ∷ phases_of more (next_link k a b l)))
-            (cond c l.1 (last_of more (next_link k a b l)))
-        by_test true further = refl
-        by_test false further = ap (λ w. tight_job l.0 w k.q ∷ (smalls k.p l.0 gs ++ rest)) work
-            ∙ ap (λ js. tight_job l.0 (sum gs + 1) k.q ∷ (smalls k.p l.0 gs ++ js)) (further
-            ∙ ap (λ t. jobs_from k.p k.q t (phases_of more (next_link k a b l)) (last_of more
-            (next_link k a b l))) tick)
 
   pub first_is : (more : ℕ) (l : ℕ × ℕ) → 1 ≤ l.1 → first_of (phases_of more l) (last_of more l) ≡ l.1
   first_is zero l some = refl

@@ -58,17 +58,15 @@ module _ (s : List ℕ) (way : ℕ → ℕ) (until tick x a most : ℕ) (leaves 
     by_worth here (inl (on, less)) = absurd (leaves.off less (here ∙ ap (λ m. Some m) on))
     by_worth here (inr less) = (named n here, less)
 
-    by_name : tick ≤ t + w - 1 → (slice_get s tick ≡ Some n) ⊎ (slice_get s tick ≡ Some n → ⊥)
-        → ((n ≡ way tick) × (tick < until)) ⊎ (a * (d * w) < most) → OnlyThis s x a most n (tight_job t w d)
-    by_name late (inl here) worth = inr (by_worth here worth)
-    by_name late (inr other) worth = inl (misses s n t w d tick early (omega (arith, late, some)) other)
-
     by_order : (t + w - 1 < tick) ⊎ (tick ≤ t + w - 1) → (until ≤ t + w - 1) ⊎ (way (t + w - 1) ≡ n → ⊥)
         → ((n ≡ way tick) × (tick < until)) ⊎ (a * (d * w) < most) → OnlyThis s x a most n (tight_job t w d)
     by_order (inl less) (inl past) worth = absurd (omega (arith, less, past, leaves.early))
     by_order (inl less) (inr other) worth = inl (misses s n t w d (t + w - 1) (omega (arith, some))
         (omega (arith, some)) (some_other (way (t + w - 1)) (leaves.before (t + w - 1) less) other))
-    by_order (inr more) last worth = by_name more (names_or_not (slice_get s tick) n) worth
+    by_order (inr more) last worth = elim (names_or_not (slice_get s tick) n) [
+      | inl here ↦ inr (by_worth here worth)
+      | inr other ↦ inl (misses s n t w d tick early (omega (arith, more, some)) other)
+    ]
 
   -- ---- all jobs
 

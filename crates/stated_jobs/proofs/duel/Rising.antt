@@ -6,16 +6,13 @@ use Rattle.dover_model.proofs.bound.Calculus.{cancel}
 
 -- twice a product is at most the two squares
 pub two_products : (u v : ℕ) → 2 * (u * v) ≤ u * u + v * v
-two_products u v = by_order (cases_lt u v) where
-  less : (u d v : ℕ) → u + d ≡ v → 2 * (u * v) ≤ u * u + v * v
-  less u d v sums = subst (λ n. 2 * (u * n) ≤ u * u + n * n) sums (omega arith)
+two_products u v =
+    elim (cases_lt u v) [ inl low ↦ less u (v - u) v (omega arith) | inr high ↦ more v (u - v) u (omega arith) ] where
+      less : (u d v : ℕ) → u + d ≡ v → 2 * (u * v) ≤ u * u + v * v
+      less u d v sums = subst (λ n. 2 * (u * n) ≤ u * u + n * n) sums (omega arith)
 
-  more : (v d u : ℕ) → v + d ≡ u → 2 * (u * v) ≤ u * u + v * v
-  more v d u sums = subst (λ n. 2 * (n * v) ≤ n * n + v * v) sums (omega arith)
-
-  by_order : (u < v) ⊎ (v ≤ u) → 2 * (u * v) ≤ u * u + v * v
-  by_order (inl low) = less u (v - u) v (omega arith)
-  by_order (inr high) = more v (u - v) u (omega arith)
+      more : (v d u : ℕ) → v + d ≡ u → 2 * (u * v) ≤ u * u + v * v
+      more v d u sums = subst (λ n. 2 * (n * v) ≤ n * n + v * v) sums (omega arith)
 
 -- The form p b y² + q b z² - x y z is positive: 4 p b times it is at least z².
 pub form_over : (p q b x y z : ℕ) → x * x < 4 * p * q * b * b
@@ -73,7 +70,13 @@ module _ (p q a b x y z w s : ℕ) (some_q : 1 ≤ q) (ratio : q ≤ p) (some_b 
   pub rises : 32 * (b * b) * (p * p) ≤ y → q * a ≤ (p + q) * b + x → x * x < 4 * p * q * b * b
       → b * p * y + b * q * z ≤ a * q * w + b * q → a * q * w ≤ b * p * y + b * q * z → 1 ≤ a
       → 16 * (p * p) * (b * b) * (y * z) + w * z ≤ 16 * (p * p) * (b * b) * (s * w)
-  rises large over short least most some_a = by_order (cases_lt y z) where
+  rises large over short least most some_a = elim (cases_lt y z) [
+    | inl less ↦ high (b * p * y * y + b * q * z * z - x * y * z) z
+        (gains (b * p * y * y + b * q * z * z - x * y * z) form over least) most (omega (arith, less)) (omega arith)
+        (over_z (b * p * y * y + b * q * z * z - x * y * z) form) (omega (arith, less, large)) some_a
+    | inr more ↦ high _ _ (gains (b * p * y * y + b * q * z * z - x * y * z) form over least) most
+        (omega arith) more (over_y (b * p * y * y + b * q * z * z - x * y * z) form) large some_a
+  ] where
     form : b * p * y * y + b * q * z * z ≡ x * y * z + (b * p * y * y + b * q * z * z - x * y * z)
     form = level (cancel (4 * p * b) (x * y * z) (b * p * y * y + b * q * z * z)
         (mul-le 1 1 (4 * p) b (omega (arith, some_q, ratio)) some_b)
@@ -101,13 +104,6 @@ module _ (p q a b x y z w s : ℕ) (some_q : 1 ≤ q) (ratio : q ≤ p) (some_b 
         mul-le (4 * q) (b * d) (4 * p) (b * d) (omega (arith, ratio)) (omega arith) in
         omega (arith, over, put, up)
 
-    by_order : (y < z) ⊎ (z ≤ y) → 16 * (p * p) * (b * b) * (y * z) + w * z ≤ 16 * (p * p) * (b * b) * (s * w)
-    by_order (inl less) = high (b * p * y * y + b * q * z * z - x * y * z) z
-        (gains (b * p * y * y + b * q * z * z - x * y * z) form over least) most (omega (arith, less)) (omega arith)
-        (over_z (b * p * y * y + b * q * z * z - x * y * z) form) (omega (arith, less, large)) some_a
-    by_order (inr more) = high _ _ (gains (b * p * y * y + b * q * z * z - x * y * z) form over least) most
-        (omega arith) more (over_y (b * p * y * y + b * q * z * z - x * y * z) form) large some_a
-
 -- a factor that is short is at most four times the ratio
 pub modest : (p q a b x : ℕ) → 1 ≤ q → q ≤ p → 1 ≤ b → q * a ≤ (p + q) * b + x → x * x < 4 * p * q * b * b
     → q * a < 4 * p * b
@@ -115,10 +111,9 @@ modest p q a b x some_q ratio some_b over short =
     let up : (4 * p * b * b) * q ≤ (4 * p * b * b) * p =
     mul-le (4 * p * b * b) q (4 * p * b * b) p (omega arith) ratio in
     let sums : (p + q) * b ≤ (2 * p) * b = mul-le (p + q) b (2 * p) b (omega (arith, ratio)) (omega arith) in
-    by_order (cases_lt x (2 * p * b)) up sums where
-      by_order : (x < 2 * p * b) ⊎ (2 * p * b ≤ x) → (4 * p * b * b) * q ≤ (4 * p * b * b) * p
-          → (p + q) * b ≤ (2 * p) * b → q * a < 4 * p * b
-      by_order (inl low) up sums = omega (arith, low, over, sums)
-      by_order (inr high) up sums = absurd
+    elim (cases_lt x (2 * p * b)) [
+      | inl low ↦ omega (arith, low, over, sums)
+      | inr high ↦ absurd
           (let square : (2 * p * b) * (2 * p * b) ≤ x * x = mul-le (2 * p * b) (2 * p * b) x x high high in
           omega (arith, square, short, up))
+    ]

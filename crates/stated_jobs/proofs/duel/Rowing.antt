@@ -1,7 +1,8 @@
 -- Duels within the limits, by computation.
-use Rattle.std.proofs.Common.{◌≡◌, ℕ, ◌≤◌, List, refl, sym, subst, length, arith, Bool, true, false, ◌&&◌, nat_le}
+use Rattle.std.proofs.Common.{◌≡◌, ℕ, ◌≤◌, List, refl, sym, subst, length, arith, Bool, true, ◌&&◌, nat_le}
 use Rattle.std.proofs.Common.{leb-true}
 use Rattle.std.specs.List.{list_all}
+use Rattle.std.proofs.lemmas.Bool.{and_parts}
 use Rattle.dover_model.specs.declared.events.Version.TheVariants.{One}
 use Rattle.dover_model.specs.Common.{Fraction, IsRatio, JobFacts, is_job, IsJob, total_value, most_jobs, most_total}
 use Rattle.dover_model.proofs.lists.Tests.{each}
@@ -20,11 +21,6 @@ use Rattle.dover_model.proofs.valid.JobLimits.{ratio_limits, job_passes}
 abbrev fits : List JobFacts → Bool
 fits jobs = (nat_le (length jobs) (most_jobs One) && nat_le (total_value jobs) (most_total One)) && list_all is_job jobs
 
-both : (x y : Bool) → (x && y) ≡ true → (x ≡ true) × (y ≡ true)
-both true true is = (refl, refl)
-both true false is = absurd (cc)
-both false y is = absurd (cc)
-
 module _ (k : Fraction) (a b : ℕ) (ratio : IsRatio k) (some_b : 1 ≤ b) where
   valid_links : (more : ℕ) → more ≤ most_jobs One → length (jobs_of_links k a b more (first_link k a b)) ≤ more
       → fits (jobs_of_links k a b more (first_link k a b)) ≡ true
@@ -35,8 +31,8 @@ module _ (k : Fraction) (a b : ℕ) (ratio : IsRatio k) (some_b : 1 ≤ b) where
       (traps_of _ _ _ (ratio_limits ratio).least some_b _ _ (omega arith)
       (first_cheap k a b (ratio_limits ratio).least some_b) few) in
       let here = subst (λ js. ArePlain k js) (sym same) plain in
-      let one = both _ _ test in
-      let two = both _ _ one.0 in
+      let one = and_parts _ _ test in
+      let two = and_parts _ _ one.0 in
       valid_from (record {
         ratio = ratio;
         each = (each is_job IsJob job_passes (jobs_of_links k a b more (first_link k a b))).0 one.1;
@@ -57,9 +53,9 @@ fitting p a b scheduler ratio some_b test online = each_loses One (k_of p) a b s
     (valid_links (k_of p) a b ratio some_b 1_000_000 (omega arith) (leb-true _ _ few) test) (leb-true _ _ few)
     online where
       few : nat_le (length (duel_jobs (k_of p) a b)) (most_jobs One) ≡ true
-      few = (both (nat_le (length (duel_jobs (k_of p) a b)) (most_jobs One))
+      few = (and_parts (nat_le (length (duel_jobs (k_of p) a b)) (most_jobs One))
           (nat_le (total_value (duel_jobs (k_of p) a b)) (most_total One))
-          (both _ _ test).0).0
+          (and_parts _ _ test).0).0
 
 one_fits : fits (duel_jobs (k_of 1) 393 100) ≡ true
 unfolding jobs_of_links

@@ -35,48 +35,18 @@ returns-then-next-jobs t c =
 pub search-requires-in-None-found : goal.search-requires-in-None-found
 search-requires-in-None-found t c =
     let short : c.args.next < length c.args.jobs.now =
-    (let other = c.if-next-jobs.false in omega (arith, other, c.requires.next)) in (
-      search rules,
-      (
-        c.requires.in_order,
-        (
-          c.requires.count,
-          (
-            c.requires.each,
-            (
-              omega arith,
-              (
-                choice_later c.args.jobs.now c.args.next c.args.choice c.requires.choice,
-                left_next _ _ _ _ _ c.requires.left short c.index-jobs-next.is c.value.ensures.is,
-              ),
-            ),
-          ),
-        ),
-      ),
-    )
+    (let other = c.if-next-jobs.false in omega (arith, other, c.requires.next)) in
+    let later = choice_later c.args.jobs.now c.args.next c.args.choice c.requires.choice in
+    let rest = left_next _ _ _ _ _ c.requires.left short c.index-jobs-next.is c.value.ensures.is in
+    (search rules, (c.requires.in_order, (c.requires.count, (c.requires.each, (omega arith, (later, rest))))))
 
 pub search-requires-in-Some-found : goal.search-requires-in-Some-found
 search-requires-in-Some-found t c =
     let short : c.args.next < length c.args.jobs.now =
-    (let other = c.if-next-jobs.false in omega (arith, other, c.requires.next)) in (
-      search rules,
-      (
-        c.requires.in_order,
-        (
-          c.requires.count,
-          (
-            c.requires.each,
-            (
-              omega arith,
-              (
-                choice_later c.args.jobs.now c.args.next c.args.choice c.requires.choice,
-                left_next _ _ _ _ _ c.requires.left short c.index-jobs-next.is c.value.ensures.is,
-              ),
-            ),
-          ),
-        ),
-      ),
-    )
+    (let other = c.if-next-jobs.false in omega (arith, other, c.requires.next)) in
+    let later = choice_later c.args.jobs.now c.args.next c.args.choice c.requires.choice in
+    let rest = left_next _ _ _ _ _ c.requires.left short c.index-jobs-next.is c.value.ensures.is in
+    (search rules, (c.requires.in_order, (c.requires.count, (c.requires.each, (omega arith, (later, rest))))))
 
 pub returns-in-None-found : goal.returns-in-None-found
 returns-in-None-found t c =
@@ -157,26 +127,11 @@ returns-after-more t c =
 pub search-requires : goal.search-requires
 search-requires t c =
     let short : c.args.next < length c.args.jobs.now =
-    (let other = c.if-next-jobs.false in omega (arith, other, c.requires.next)) in (
-      search rules,
-      (
-        c.requires.in_order,
-        (
-          c.requires.count,
-          (
-            c.requires.each,
-            (
-              omega arith,
-              (
-                subst (λ o. MatchOption o (Unit {0}) (λ choice. IsChoice c.args.jobs.now (c.args.next + 1) choice))
-                    c.in-Some.is c.in_ok-with.ensures.choice,
-                left_next _ _ _ _ _ c.requires.left short c.index-jobs-next.is c.value.ensures.is,
-              ),
-            ),
-          ),
-        ),
-      ),
-    )
+    (let other = c.if-next-jobs.false in omega (arith, other, c.requires.next)) in
+    let put = subst (λ o. MatchOption o (Unit {0}) (λ choice. IsChoice c.args.jobs.now (c.args.next + 1) choice))
+    c.in-Some.is c.in_ok-with.ensures.choice in
+    let rest = left_next _ _ _ _ _ c.requires.left short c.index-jobs-next.is c.value.ensures.is in
+    (search rules, (c.requires.in_order, (c.requires.count, (c.requires.each, (omega arith, (put, rest))))))
 
 pub overflow_sub-left : goal.overflow_sub-left
 overflow_sub-left t c =
@@ -217,12 +172,3 @@ with-requires-clause-count t c = c.requires.count
 
 pub bounds-jobs-next : goal.bounds-jobs-next
 bounds-jobs-next t c = let other = c.if-next-jobs.false in omega (arith, other, c.requires.next)
-
-pub with-requires-clause-in_order : goal.with-requires-clause-in_order
-with-requires-clause-in_order t c = c.requires.in_order
-
-pub with-requires-clause-each : goal.with-requires-clause-each
-with-requires-clause-each t c = c.requires.each
-
-pub offset_bounds-jobs-next : goal.offset_bounds-jobs-next
-offset_bounds-jobs-next t c = omega (arith, c.requires.next, c.requires.count)

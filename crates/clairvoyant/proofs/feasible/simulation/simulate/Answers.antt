@@ -52,12 +52,3 @@ loop-simulation-smaller c =
 
 pub step-requires-clause-count : goal.step-requires-clause-count
 step-requires-clause-count c = c.requires.count
-
-pub step-requires-clause-few : goal.step-requires-clause-few
-step-requires-clause-few c = c.loop-simulation.invariant.few
-
-pub step-requires-clause-stands : goal.step-requires-clause-stands
-step-requires-clause-stands c = c.loop-simulation.invariant.stands
-
-pub step-requires-clause-order : goal.step-requires-clause-order
-step-requires-clause-order c = c.requires.order

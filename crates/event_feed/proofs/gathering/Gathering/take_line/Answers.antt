@@ -1,16 +1,15 @@
 use Rattle.std.proofs.Common.{◌≡◌, ◌≤◌, ◌<◌, ◌++◌, ◌∷◌, [], ◌∙◌, Some, None, Ok, length, refl, sym, ap, subst, arith}
-use Rattle.std.proofs.Common.{Bool, true, false, OnOk, length-append, nat_lt, ltb-true, ltb-false}
+use Rattle.std.proofs.Common.{false, length-append, nat_lt, ltb-true, ltb-false}
 use Rattle.std.proofs.lemmas.Result.{on_ok_weaker, on_err_weaker}
 use Rattle.dover_model.specs.Common.{Account, no_lines, account_of_lines, is_open, most_jobs, instance_of, is_full}
 use Rattle.dover_model.specs.declared.events.Version.TheVariants.{Two}
 use Rattle.dover_model.proofs.sessions.Accounts.{lines_goes}
 use Rattle.event_feed.specs.Answers.{IsFed, AddsJob, counted}
-use Rattle.event_feed.specs.Keeping.{Keeps}
 use Rattle.event_feed.specs.declared.faults.FeedFault.{FeedFault}
 use Rattle.event_feed.specs.Kept as feed
 use Rattle.event_feed.specs.Kept.{fault_of}
 use Rattle.event_feed.specs.Listing.{offered_in}
-use Rattle.dover_model.proofs.lists.Members.{err_any}
+use Rattle.dover_model.proofs.lists.Members.{err_any, by_bool}
 use Rattle.event_feed.proofs.Accepting.{offer_accepted, offer_room}
 use Rattle.event_feed.proofs.Listing.{finds_room, ok_any, goes_on, job_listed, job_admitted, refused_listed}
 use Rattle.event_feed.proofs.Listing.{tick_listed, kept_listed, done_admitted}
@@ -29,7 +28,38 @@ returns-in-Job-clause-memory c = λ ls keeps on.
 
 pub returns-in-Job-clause-keeps : goal.returns-in-Job-clause-keeps
 returns-in-Job-clause-keeps c ls keeps on =
-    by_count (nat_lt (length c.args.self.now.jobs.items) (most_jobs Two)) refl where
+    by_bool _ (nat_lt (length c.args.self.now.jobs.items) (most_jobs Two))
+    (λ is. let few : length c.args.self.now.jobs.items < most_jobs Two = ltb-true _ _ is in
+    let kept = c.job.ensures.few few in
+    let room : is_full (instance_of adds.session) c.in-Job.job.release ≡ false =
+    finds_room a b _ _ _ it.all.lists c.in-Job.field-0 c.in-Job.job adds few in
+    on_ok_weaker c.job.result
+    (λ (jobs : c.job.new.self.jobs.items ≡ c.args.self.now.jobs.items ++ c.in-Job.job ∷ []).
+    keeps_few c.job.new.self (ls ++ c.args.line.now ∷ []) (kept.1 ∙ it.few)
+    (kept.0 ∙ on ∙ sym it.opened ∙ sym (ap is_open adds.after_is))
+    (omega (arith, few, ap length jobs, length-append c.args.self.now.jobs.items (c.in-Job.job ∷ []))) (record {
+      intake = record {
+        by_account = offer_accepted a b c.in-Job.field-0 c.in-Job.job adds c.line.new.self
+            (subst (λ f. feed.StandsBehind {E = FeedFault} (Ok f) c.line.new.self ls c.args.line.now) c.in-Job.is
+            (c.in-Ok.ensures.stands ls it.all.intake)) c.job.new.self.intake kept.2 room;
+      };
+      lists = rw (c.job.ensures.declared, c.job.ensures.done_lines, jobs)
+          (job_listed a b _ _ _ it.all.lists c.in-Job.field-0 c.in-Job.job adds room);
+      offered = omega (
+        arith,
+        offered_job a b c.in-Job.field-0 c.in-Job.job adds,
+        it.all.offered,
+        ap length jobs,
+        length-append c.args.self.now.jobs.items (c.in-Job.job ∷ []),
+      );
+      names = λ fault is. absurd (let e : None ≡ Some fault =
+          sym (ap (λ s. fault_of (record { lines = 0; session = None; standing = s })) kept.2.standing
+          ∙ c.in-Ok.ensures.fault) ∙ is in cc);
+    })) kept.3)
+    (λ is. let many : most_jobs Two ≤ length c.args.self.now.jobs.items = ltb-false _ _ is in
+    let kept = c.job.ensures.many many in
+    ok_any c.job.result (keeps_many c.job.new.self (ls ++ c.args.line.now ∷ []) kept.0 kept.1
+    (omega (arith, many, offered_job a b c.in-Job.field-0 c.in-Job.job adds, it.all.offered)))) where
       a : Account
       a = account_of_lines ls
 
@@ -41,42 +71,6 @@ returns-in-Job-clause-keeps c ls keeps on =
 
       adds : AddsJob c.in-Job.field-0 c.in-Job.job (counted a) b
       adds = subst (IsFed (counted a) b) c.in-Job.is (c.in-Ok.ensures.answer ls it.all.intake).1
-
-      by_count : (few : Bool) → nat_lt (length c.args.self.now.jobs.items) (most_jobs Two) ≡ few
-          → OnOk c.job.result (Keeps c.job.new.self (ls ++ c.args.line.now ∷ []))
-      by_count true is =
-          let few : length c.args.self.now.jobs.items < most_jobs Two = ltb-true _ _ is in
-          let kept = c.job.ensures.few few in
-          let room : is_full (instance_of adds.session) c.in-Job.job.release ≡ false =
-          finds_room a b _ _ _ it.all.lists c.in-Job.field-0 c.in-Job.job adds few in
-          on_ok_weaker c.job.result
-          (λ (jobs : c.job.new.self.jobs.items ≡ c.args.self.now.jobs.items ++ c.in-Job.job ∷ []).
-          keeps_few c.job.new.self (ls ++ c.args.line.now ∷ []) (kept.1 ∙ it.few)
-          (kept.0 ∙ on ∙ sym it.opened ∙ sym (ap is_open adds.after_is))
-          (omega (arith, few, ap length jobs, length-append c.args.self.now.jobs.items (c.in-Job.job ∷ []))) (record {
-            intake = record {
-              by_account = offer_accepted a b c.in-Job.field-0 c.in-Job.job adds c.line.new.self
-                  (subst (λ f. feed.StandsBehind {E = FeedFault} (Ok f) c.line.new.self ls c.args.line.now) c.in-Job.is
-                  (c.in-Ok.ensures.stands ls it.all.intake)) c.job.new.self.intake kept.2 room;
-            };
-            lists = rw (c.job.ensures.declared, c.job.ensures.done_lines, jobs)
-                (job_listed a b _ _ _ it.all.lists c.in-Job.field-0 c.in-Job.job adds room);
-            offered = omega (
-              arith,
-              offered_job a b c.in-Job.field-0 c.in-Job.job adds,
-              it.all.offered,
-              ap length jobs,
-              length-append c.args.self.now.jobs.items (c.in-Job.job ∷ []),
-            );
-            names = λ fault is. absurd (let e : None ≡ Some fault =
-                sym (ap (λ s. fault_of (record { lines = 0; session = None; standing = s })) kept.2.standing
-                ∙ c.in-Ok.ensures.fault) ∙ is in cc);
-          })) kept.3
-      by_count false is =
-          let many : most_jobs Two ≤ length c.args.self.now.jobs.items = ltb-false _ _ is in
-          let kept = c.job.ensures.many many in
-          ok_any c.job.result (keeps_many c.job.new.self (ls ++ c.args.line.now ∷ []) kept.0 kept.1
-          (omega (arith, many, offered_job a b c.in-Job.field-0 c.in-Job.job adds, it.all.offered)))
 
 pub returns-in-Refused-clause-keeps : goal.returns-in-Refused-clause-keeps
 returns-in-Refused-clause-keeps c = λ ls keeps on.

@@ -16,28 +16,38 @@ use Rattle.event_feed.specs.declared.intake.Standing.TheVariants as standings
 use Rattle.event_feed.specs.Reading.{IsTaken}
 use Rattle.event_feed.proofs.intake.Intake.take.Goals as goal
 
+-- what an intake that goes on keeps of the lines so far
+record GoesOn (inside : Kept) (ls : List (List ℕ)) : Type 0 where
+  before : StandsFor inside ls
+  opened : (account_of_lines ls).standing ≡ Open
+  counts : inside.lines + 1 ≡ suc (account_of_lines ls).lines
+
+going_on : (inside now : Kept) → inside ≡ now → inside.standing ≡ standings.Open → (ls : List (List ℕ))
+    → StandsFor now ls → GoesOn inside ls
+going_on inside now same open_still ls it = record {
+  before = before;
+  opened = sym before.by_account.standing ∙ ap standing_of open_still;
+  counts = omega (arith, before.by_account.counted);
+} where
+  before : StandsFor inside ls
+  before = subst (λ k. StandsFor k ls) (sym same) it
+
 pub returns-in-Ok-clause-stands : goal.returns-in-Ok-clause-stands
 returns-in-Ok-clause-stands c ls text is it =
-    let going_on : c.self.inside.standing ≡ standings.Open =
-    goes_on c.self.inside.standing (ap has_ended c.self.view_is ∙ c.requires.unended) c.in_default.not-Faulty in
-    let before : StandsFor (record {
-      lines = c.self.inside.lines;
-      session = c.self.inside.session;
-      standing = c.self.inside.standing;
-    }) ls = subst (λ k. StandsFor k ls) (sym c.self.view_is) it in
-    let opened : (account_of_lines ls).standing ≡ Open = sym before.by_account.standing ∙ ap standing_of going_on in
-    let counts : c.self.inside.lines + 1 ≡ suc (account_of_lines ls).lines = omega (arith, before.by_account.counted) in
-    keeps_fed ls text c.read.new.session (c.self.inside.lines + 1) c.in-Ok.fed opened counts (search rules)
-    (c.in-Ok.ensures.taken (counted (account_of_lines ls)) text is opened (sym counts) before.by_account.session)
-    c.self.inside.standing going_on
+    let still = goes_on c.self.inside.standing (ap has_ended c.self.view_is ∙ c.requires.unended)
+    c.in_default.not-Faulty in
+    let on = going_on _ _ c.self.view_is still ls it in
+    keeps_fed ls text c.read.new.session (c.self.inside.lines + 1) c.in-Ok.fed on.opened on.counts (search rules)
+    (c.in-Ok.ensures.taken (counted (account_of_lines ls)) text is on.opened (sym on.counts)
+    on.before.by_account.session) c.self.inside.standing still
 
 pub returns-in-Err : goal.returns-in-Err
 returns-in-Err c = record {
   stands = λ ls text is it. keeps_fault ls text c.read.new.session (c.self.inside.lines + 1) c.in-Err.cause
-      (opened ls it) (counts ls it)
+      (on ls it).opened (on ls it).counts
       (taken ls text is it);
   answer = λ ls text is it. answers_fault ls text c.read.new.session (c.self.inside.lines + 1) c.in-Err.cause
-      (opened ls it) (counts ls it)
+      (on ls it).opened (on ls it).counts
       (taken ls text is it);
   going = tt;
   ended = (λ e. cc, λ e. cc);
@@ -51,28 +61,19 @@ returns-in-Err c = record {
   still_open : c.self.inside.standing ≡ standings.Open
   still_open = goes_on c.self.inside.standing (ap has_ended c.self.view_is ∙ c.requires.unended) c.in_default.not-Faulty
 
-  of_view : (ls : List (List ℕ)) → StandsFor c.args.self.now ls
-      → StandsFor (record {
-        lines = c.self.inside.lines;
-        session = c.self.inside.session;
-        standing =
-            c.self.inside.standing;
-      }) ls
-  of_view ls it = subst (λ k. StandsFor k ls) (sym c.self.view_is) it
-
-  opened : (ls : List (List ℕ)) → StandsFor c.args.self.now ls → (account_of_lines ls).standing ≡ Open
-  opened ls it = sym (of_view ls it).by_account.standing ∙ ap standing_of still_open
-
-  counts : (ls : List (List ℕ)) → StandsFor c.args.self.now ls
-      → c.self.inside.lines + 1 ≡ suc (account_of_lines ls).lines
-  counts ls it = omega (arith, (of_view ls it).by_account.counted)
+  on : (ls : List (List ℕ)) → StandsFor c.args.self.now ls → GoesOn (record {
+    lines = c.self.inside.lines;
+    session = c.self.inside.session;
+    standing = c.self.inside.standing;
+  }) ls
+  on ls it = going_on _ _ c.self.view_is still_open ls it
 
   taken : (ls : List (List ℕ)) (text : List ℕ) → feed_line text ≡ option_map form_of c.args.line
       → StandsFor c.args.self.now ls
       → IsTaken c.read.new.session (feed_line text) (counted (account_of_lines ls))
       (read_line (counted (account_of_lines ls)) text) (Err c.in-Err.cause)
-  taken ls text is it = c.in-Err.ensures.taken (counted (account_of_lines ls)) text is (opened ls it)
-      (sym (counts ls it)) (of_view ls it).by_account.session
+  taken ls text is it = c.in-Err.ensures.taken (counted (account_of_lines ls)) text is (on ls it).opened
+      (sym (on ls it).counts) (on ls it).before.by_account.session
 
 pub returns-in-Ok-clause-going : goal.returns-in-Ok-clause-going
 returns-in-Ok-clause-going c not_over =
@@ -81,11 +82,11 @@ returns-in-Ok-clause-going c not_over =
 
 pub returns-in-Ok-Over : goal.returns-in-Ok-Over
 returns-in-Ok-Over c = record {
-  stands = λ ls text is it. keeps_over ls text c.read.new.session (c.self.inside.lines + 1) (opened ls it)
-      (counts ls it) (taken ls text is it);
+  stands = λ ls text is it. keeps_over ls text c.read.new.session (c.self.inside.lines + 1) (on ls it).opened
+      (on ls it).counts (taken ls text is it);
   answer = λ ls text is it. (
-    opened ls it,
-    subst (λ a. EndsFeed (counted (account_of_lines ls)) a) (sym (next_account ls text (opened ls it)))
+    (on ls it).opened,
+    subst (λ a. EndsFeed (counted (account_of_lines ls)) a) (sym (next_account ls text (on ls it).opened))
         (taken ls text is it).gives,
   );
   going = λ other. absurd (other refl);
@@ -100,21 +101,12 @@ returns-in-Ok-Over c = record {
   still_open : c.self.inside.standing ≡ standings.Open
   still_open = goes_on c.self.inside.standing (ap has_ended c.self.view_is ∙ c.requires.unended) c.in_default.not-Faulty
 
-  of_view : (ls : List (List ℕ)) → StandsFor c.args.self.now ls
-      → StandsFor (record {
-        lines = c.self.inside.lines;
-        session = c.self.inside.session;
-        standing =
-            c.self.inside.standing;
-      }) ls
-  of_view ls it = subst (λ k. StandsFor k ls) (sym c.self.view_is) it
-
-  opened : (ls : List (List ℕ)) → StandsFor c.args.self.now ls → (account_of_lines ls).standing ≡ Open
-  opened ls it = sym (of_view ls it).by_account.standing ∙ ap standing_of still_open
-
-  counts : (ls : List (List ℕ)) → StandsFor c.args.self.now ls
-      → c.self.inside.lines + 1 ≡ suc (account_of_lines ls).lines
-  counts ls it = omega (arith, (of_view ls it).by_account.counted)
+  on : (ls : List (List ℕ)) → StandsFor c.args.self.now ls → GoesOn (record {
+    lines = c.self.inside.lines;
+    session = c.self.inside.session;
+    standing = c.self.inside.standing;
+  }) ls
+  on ls it = going_on _ _ c.self.view_is still_open ls it
 
   taken : (ls : List (List ℕ)) (text : List ℕ) → feed_line text ≡ option_map form_of c.args.line
       → StandsFor c.args.self.now ls
@@ -122,25 +114,17 @@ returns-in-Ok-Over c = record {
       (read_line (counted (account_of_lines ls)) text) (Ok feds.Over)
   taken ls text is it = subst (λ fed. IsTaken c.read.new.session (feed_line text) (counted (account_of_lines ls))
       (read_line (counted (account_of_lines ls)) text) (Ok fed)) c.in-Ok-Over.field-0-is
-      (c.in-Ok-Over.ensures.taken (counted (account_of_lines ls)) text is (opened ls it)
-      (sym (counts ls it)) (of_view ls it).by_account.session)
+      (c.in-Ok-Over.ensures.taken (counted (account_of_lines ls)) text is (on ls it).opened
+      (sym (on ls it).counts) (on ls it).before.by_account.session)
 
 pub returns-in-Ok-clause-answer : goal.returns-in-Ok-clause-answer
 returns-in-Ok-clause-answer c ls text is it =
-    let before : StandsFor (record {
-      lines = c.self.inside.lines;
-      session = c.self.inside.session;
-      standing = c.self.inside.standing;
-    }) ls = subst (λ k. StandsFor k ls) (sym c.self.view_is) it in
-    let opened : (account_of_lines ls).standing ≡ Open =
-    sym before.by_account.standing ∙ ap standing_of (goes_on c.self.inside.standing
-    (ap has_ended c.self.view_is ∙ c.requires.unended) c.in_default.not-Faulty) in
-    let counts : c.self.inside.lines + 1 ≡ suc (account_of_lines ls).lines =
-    omega (arith, before.by_account.counted) in (
-      opened,
-      subst (λ a. IsFed (counted (account_of_lines ls)) a c.in-Ok.fed) (sym (next_account ls text opened))
-          (c.in-Ok.ensures.taken (counted (account_of_lines ls)) text is opened (sym counts)
-          before.by_account.session).gives,
+    let on = going_on _ _ c.self.view_is (goes_on c.self.inside.standing
+    (ap has_ended c.self.view_is ∙ c.requires.unended) c.in_default.not-Faulty) ls it in (
+      on.opened,
+      subst (λ a. IsFed (counted (account_of_lines ls)) a c.in-Ok.fed) (sym (next_account ls text on.opened))
+          (c.in-Ok.ensures.taken (counted (account_of_lines ls)) text is on.opened (sym on.counts)
+          on.before.by_account.session).gives,
     )
 
 pub returns-in-Faulty-clause-answer : goal.returns-in-Faulty-clause-answer
@@ -169,9 +153,6 @@ pub invariant_of-self-in-Ok : goal.invariant_of-self-in-Ok
 invariant_of-self-in-Ok c = subst (λ s. IsCounted s (c.self.inside.lines + 1))
     (sym (goes_on c.self.inside.standing (ap has_ended c.self.view_is ∙ c.requires.unended) c.in_default.not-Faulty))
     c.in-Ok.ensures.few
-
-pub returns-in-Ok-clause-counted : goal.returns-in-Ok-clause-counted
-returns-in-Ok-clause-counted c = omega (arith, ap (λ (k : Kept). k.lines) c.self.view_is)
 
 pub invariant_of-self-in-Err : goal.invariant_of-self-in-Err
 invariant_of-self-in-Err c =

@@ -9,9 +9,6 @@ put_before-self-inside-requires-clause-room c =
     ap (λ (bs : List ℕ). length bs) (sym c.self.view_is) ∙ length-drop c.self.inside.start c.self.inside.bytes in
     omega (arith, size, c.requires.fits, c.self.ranges, length-numbers_behind c.args.numbers.now c.requires.short)
 
-pub invariant_of-self : goal.invariant_of-self
-invariant_of-self c = omega (arith, c.put_before-self-inside.ensures.start, c.self.invariant)
-
 pub returns-clause-is : goal.returns-clause-is
 returns-clause-is c = c.put_before-self-inside.ensures.written
     ∙ ap (λ bs. numbers_behind c.args.numbers.now ++ bs) c.self.view_is

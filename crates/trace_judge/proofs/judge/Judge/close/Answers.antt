@@ -2,9 +2,6 @@ use Rattle.std.proofs.Common.{sym, subst}
 use Rattle.trace_judge.specs.Judging.{Tells}
 use Rattle.trace_judge.proofs.judge.Judge.close.Goals as goal
 
-pub told-requires : goal.told-requires
-told-requires c = c.in-Ok.ensures.tells
-
 pub returns-in-Ok-clause-tells : goal.returns-in-Ok-clause-tells
 returns-in-Ok-clause-tells c text stands =
     subst (λ v. Tells v text) (sym c.told.ensures.verdict) (c.in-Ok.ensures.tells text stands)

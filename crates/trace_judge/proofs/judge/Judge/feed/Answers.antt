@@ -3,7 +3,7 @@ use Rattle.std.proofs.lemmas.List.{take_rest}
 use Rattle.dover_model.proofs.lists.Tests.{never}
 use Rattle.trace_judge.specs.declared.judge.Found.TheVariants.{Good, NoMemory}
 use Rattle.trace_judge.specs.Judging.{Judged}
-use Rattle.trace_judge.proofs.Judging.{err_of, none_of, wrong_fed, good_not_wrong, stands_good, stands_not}
+use Rattle.trace_judge.proofs.Judging.{err_of, wrong_fed, good_not_wrong, stands_good, stands_not}
 use Rattle.trace_judge.proofs.Spending.{pays_none}
 use Rattle.trace_judge.proofs.EndedLines.{fed_some, overfed_rest, pays_rest}
 use Rattle.trace_judge.proofs.judge.Judge.feed.Goals as goal
@@ -50,12 +50,6 @@ returns-in-Wrong-clause-paid g c = pays_none c.args.self.now c.args.piece.now c.
 pub returns-in-NoMemory-clause-paid : goal.returns-in-NoMemory-clause-paid
 returns-in-NoMemory-clause-paid g c = pays_none c.args.self.now c.args.piece.now c.args.comparisons.now
 
-pub returns-in_err-count-clause-fed : goal.returns-in_err-count-clause-fed
-returns-in_err-count-clause-fed g c = none_of _ c.from_residual.result c.from_residual.ensures.0
-
-pub returns-in_err-count-clause-stays : goal.returns-in_err-count-clause-stays
-returns-in_err-count-clause-stays g c = none_of _ c.from_residual.result c.from_residual.ensures.0
-
 pub returns-in_err-count-clause-failed : goal.returns-in_err-count-clause-failed
 returns-in_err-count-clause-failed g c =
     err_of c.from_residual.result c.from_residual.ensures.0 c.in_err-count.ensures.failed
@@ -67,9 +61,6 @@ returns-in-NoMemory-clause-room g c text stands = absurd (stands_not c.args.self
 pub returns-in-NoMemory-clause-decided : goal.returns-in-NoMemory-clause-decided
 returns-in-NoMemory-clause-decided g c text stands _ = absurd (stands_not c.args.self.now text
     (ap (λ (j : Judged). j.found) (sym c.self.view_is) ∙ c.in-NoMemory.is) stands)
-
-pub returns-in-NoMemory-clause-failed : goal.returns-in-NoMemory-clause-failed
-returns-in-NoMemory-clause-failed g c = ap (λ (j : Judged). j.found) (sym c.self.view_is) ∙ c.in-NoMemory.is
 
 pub returns-clause-stays : goal.returns-clause-stays
 returns-clause-stays g c none =

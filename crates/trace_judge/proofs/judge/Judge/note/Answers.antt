@@ -1,4 +1,4 @@
-use Rattle.std.proofs.Common.{ap, sym, ◌∙◌, subst, refl, Ok, IsOk, IsErr}
+use Rattle.std.proofs.Common.{ap, sym, ◌∙◌, subst, refl, Ok}
 use Rattle.trace_judge.specs.declared.judge.Found.TheVariants.{NoMemory}
 use Rattle.trace_judge.specs.Reads.{IsPaid}
 use Rattle.trace_judge.specs.Judging.{Judged, Notes, Misses}
@@ -27,24 +27,9 @@ returns-in_default-clause-kept g c = record {
   jobs = ap (λ (j : Judged). j.reader.course.jobs) c.self.view_is;
 }
 
-pub returns-in_default-clause-err : goal.returns-in_default-clause-err
-returns-in_default-clause-err g c = subst IsErr (sym c.in_default.is) refl
-
 pub returns-in_default-clause-paid : goal.returns-in_default-clause-paid
 returns-in_default-clause-paid g c start paid =
     subst (λ (j : Judged). IsPaid j.reader start c.args.comparisons.now) (sym c.self.view_is) paid
-
-pub returns-then-good-clause-kept : goal.returns-then-good-clause-kept
-returns-then-good-clause-kept g c = record { keep = refl; spare = refl; jobs = refl }
-
-pub returns-then-good-clause-ok : goal.returns-then-good-clause-ok
-returns-then-good-clause-ok g c = subst IsOk (sym c.in-Ok.is) refl
-
-pub returns-clause-kept : goal.returns-clause-kept
-returns-clause-kept g c = c.miss.ensures.kept
-
-pub returns-clause-ok : goal.returns-clause-ok
-returns-clause-ok g c = subst IsOk (sym c.in-Ok.is) refl
 
 pub returns-clause-paid : goal.returns-clause-paid
 returns-clause-paid g c = c.miss.ensures.paid

@@ -27,8 +27,5 @@ returns-clause-stands g c before text it =
     ∙ ap (model.Wrong c.saturating_add-line.result)
     (misses.expects (whole_lines text) (reads_ahead c.args.self.now.reader (whole_lines text) reads)))
 
-pub returns-clause-kept : goal.returns-clause-kept
-returns-clause-kept g c = c.miss.ensures.kept
-
 pub returns-clause-paid : goal.returns-clause-paid
 returns-clause-paid g c = c.miss.ensures.paid

@@ -20,15 +20,9 @@ returns-clause-paid c text start now it =
       few = omega (arith, was.few, ap (λ (r : Reading). r.course.jobs) c.reserve.ensures.same);
     }
 
-pub returns-clause-found : goal.returns-clause-found
-returns-clause-found c = ap (λ (j : Judged). j.found) c.self.view_is
-
 pub returns-clause-keep : goal.returns-clause-keep
 returns-clause-keep c =
     ap (λ (r : Reading). r.keep) c.reserve.ensures.same ∙ ap (λ (j : Judged). j.reader.keep) c.self.view_is
-
-pub returns-clause-ok : goal.returns-clause-ok
-returns-clause-ok c = c.reserve.ensures.ok
 
 pub returns-clause-grows : goal.returns-clause-grows
 returns-clause-grows c = omega (arith, c.reserve.ensures.grows, ap (λ (j : Judged). j.reader.spare) c.self.view_is)

@@ -120,15 +120,6 @@ returns-in-TooLong-clause-paid g c = λ text start stands it.
       few = omega (arith, c.overrun.ensures.kept.jobs, was.few, named_more text (c.args.byte ∷ []));
     }
 
-pub returns-in-Line-clause-failed : goal.returns-in-Line-clause-failed
-returns-in-Line-clause-failed g c = c.take_line.ensures.failed
-
-pub take_line-requires-clause-good : goal.take_line-requires-clause-good
-take_line-requires-clause-good g c = ap (λ (j : Judged). j.found) c.self.view_is ∙ c.requires.good
-
-pub go_on-requires-clause-good : goal.go_on-requires-clause-good
-go_on-requires-clause-good g c = ap (λ (j : Judged). j.found) c.self.view_is ∙ c.requires.good
-
 pub overrun-requires : goal.overrun-requires
 overrun-requires g c =
     record { good = ap (λ (j : Judged). j.found) c.self.view_is ∙ c.requires.good }

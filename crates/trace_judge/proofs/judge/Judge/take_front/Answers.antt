@@ -35,18 +35,6 @@ returns-clause-paid g c =
     subst (λ l. PaysFor c.args.self.now c.take_byte.new.self l c.args.comparisons.now c.take_byte.new.comparisons)
     (sym (take_more c.args.bytes.now 0 0 c.requires.some)) c.take_byte.ensures.paid
 
-pub returns-in_err-take_whole-clause-fed : goal.returns-in_err-take_whole-clause-fed
-returns-in_err-take_whole-clause-fed g c = none_of _ c.from_residual.result c.from_residual.ensures.0
-
-pub returns-in_err-take_whole-clause-some : goal.returns-in_err-take_whole-clause-some
-returns-in_err-take_whole-clause-some g c = none_of _ c.from_residual.result c.from_residual.ensures.0
-
-pub returns-in_err-take_whole-clause-within : goal.returns-in_err-take_whole-clause-within
-returns-in_err-take_whole-clause-within g c = none_of _ c.from_residual.result c.from_residual.ensures.0
-
-pub returns-in_err-take_whole-clause-paid : goal.returns-in_err-take_whole-clause-paid
-returns-in_err-take_whole-clause-paid g c = none_of _ c.from_residual.result c.from_residual.ensures.0
-
 pub returns-in_err-take_whole-clause-failed : goal.returns-in_err-take_whole-clause-failed
 returns-in_err-take_whole-clause-failed g c =
     err_of c.from_residual.result c.from_residual.ensures.0 c.in_err-take_whole.ensures.failed
@@ -90,12 +78,6 @@ returns-clause-fed g c = subst (Fed c.args.self.now c.take_byte.new.self)
 
 pub returns-clause-within : goal.returns-clause-within
 returns-clause-within g c = c.requires.some
-
-pub take_byte-requires : goal.take_byte-requires
-take_byte-requires g c = record { good = c.requires.good }
-
-pub take_whole-requires-clause-good : goal.take_whole-requires-clause-good
-take_whole-requires-clause-good g c = c.requires.good
 
 pub take_whole-requires-clause-whole : goal.take_whole-requires-clause-whole
 take_whole-requires-clause-whole g c =

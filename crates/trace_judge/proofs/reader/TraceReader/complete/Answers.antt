@@ -14,9 +14,6 @@ returns-clause-paid g c start paid = c.follow.ensures.paid start (c.finish_early
 pub returns-then-finish_early-clause-took : goal.returns-then-finish_early-clause-took
 returns-then-finish_early-clause-took g c = c.finish_early.ensures.yes c.if-finish_early.true
 
-pub returns-then-finish_early-clause-kept : goal.returns-then-finish_early-clause-kept
-returns-then-finish_early-clause-kept g c = c.finish_early.ensures.kept
-
 pub returns-then-finish_early-clause-paid : goal.returns-then-finish_early-clause-paid
 returns-then-finish_early-clause-paid g c = c.finish_early.ensures.paid
 
@@ -26,9 +23,3 @@ returns-clause-kept g c = record {
   spare = c.follow.ensures.kept.spare ∙ c.finish_early.ensures.kept.spare;
   jobs = c.follow.ensures.kept.jobs ∙ c.finish_early.ensures.kept.jobs;
 }
-
-pub follow-requires-clause-going : goal.follow-requires-clause-going
-follow-requires-clause-going g c = c.finish_early.ensures.stage c.if-finish_early.false
-
-pub follow-requires-clause-form : goal.follow-requires-clause-form
-follow-requires-clause-form g c = c.requires.form

@@ -1,4 +1,4 @@
-use Rattle.std.proofs.Common.{sym, subst, ap, ◌∙◌, refl}
+use Rattle.std.proofs.Common.{sym, subst, ap, ◌∙◌}
 use Rattle.dover_model.specs.Verdict.{expected_after}
 use Rattle.trace_judge.specs.Reads.{IsPaid, Reading, ReadsAhead}
 use Rattle.trace_judge.proofs.Paying.{paid_on}
@@ -32,18 +32,6 @@ returns-in-Going-clause-paid g c start paid = paid_on _ c.upcoming.new.self _ st
 pub returns-in-Opening-clause-due : goal.returns-in-Opening-clause-due
 returns-in-Opening-clause-due g c ls reads = ap expected_after (opens_of c.args.self.now ls
     (ap (λ (r : Reading). r.stage) (sym c.self.view_is) ∙ c.in-Opening.is) reads).lines
-
-pub returns-in-Opening-clause-kept : goal.returns-in-Opening-clause-kept
-returns-in-Opening-clause-kept g c = refl
-
-pub returns-in-Ended-clause-kept : goal.returns-in-Ended-clause-kept
-returns-in-Ended-clause-kept g c = refl
-
-pub returns-in-Opening-clause-ahead : goal.returns-in-Opening-clause-ahead
-returns-in-Opening-clause-ahead g c ls reads = reads
-
-pub returns-in-Ended-clause-ahead : goal.returns-in-Ended-clause-ahead
-returns-in-Ended-clause-ahead g c ls reads = reads
 
 pub returns-in-Going-clause-kept : goal.returns-in-Going-clause-kept
 returns-in-Going-clause-kept g c =

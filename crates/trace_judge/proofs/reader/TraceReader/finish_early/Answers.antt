@@ -59,32 +59,11 @@ returns-clause-paid g c = λ start paid. c.finish.ensures.paid start _ (c.waits_
 pub returns-then-not-may_finish_early-clause-yes : goal.returns-then-not-may_finish_early-clause-yes
 returns-then-not-may_finish_early-clause-yes g c clash = never clash
 
-pub returns-then-not-may_finish_early-clause-ahead : goal.returns-then-not-may_finish_early-clause-ahead
-returns-then-not-may_finish_early-clause-ahead g c _ ls reads = reads
-
-pub returns-then-not-may_finish_early-clause-stage : goal.returns-then-not-may_finish_early-clause-stage
-returns-then-not-may_finish_early-clause-stage g c _ = c.requires.going
-
-pub returns-then-not-may_finish_early-clause-kept : goal.returns-then-not-may_finish_early-clause-kept
-returns-then-not-may_finish_early-clause-kept g c = record { keep = refl; spare = refl; jobs = refl }
-
 pub returns-then-at-gt-LAST_TICK-clause-yes : goal.returns-then-at-gt-LAST_TICK-clause-yes
 returns-then-at-gt-LAST_TICK-clause-yes g c clash = never clash
 
-pub returns-then-at-gt-LAST_TICK-clause-ahead : goal.returns-then-at-gt-LAST_TICK-clause-ahead
-returns-then-at-gt-LAST_TICK-clause-ahead g c _ ls reads = reads
-
-pub returns-then-at-gt-LAST_TICK-clause-stage : goal.returns-then-at-gt-LAST_TICK-clause-stage
-returns-then-at-gt-LAST_TICK-clause-stage g c _ = c.requires.going
-
-pub returns-then-at-gt-LAST_TICK-clause-kept : goal.returns-then-at-gt-LAST_TICK-clause-kept
-returns-then-at-gt-LAST_TICK-clause-kept g c = record { keep = refl; spare = refl; jobs = refl }
-
 pub returns-then-not-has_room-clause-yes : goal.returns-then-not-has_room-clause-yes
 returns-then-not-has_room-clause-yes g c clash = never clash
-
-pub returns-then-not-has_room-clause-ahead : goal.returns-then-not-has_room-clause-ahead
-returns-then-not-has_room-clause-ahead g c _ ls reads = reads
 
 pub returns-then-not-has_room-clause-stage : goal.returns-then-not-has_room-clause-stage
 returns-then-not-has_room-clause-stage g c _ = c.requires.going
@@ -126,9 +105,6 @@ returns-then-not-is_right-clause-kept g c = unchanged_on c.args.self.now c.waits
 pub returns-then-not-is_right-clause-paid : goal.returns-then-not-is_right-clause-paid
 returns-then-not-is_right-clause-paid g c = c.waits_until.ensures.paid
 
-pub returns-clause-no : goal.returns-clause-no
-returns-clause-no g c clash = never (sym clash)
-
 pub returns-clause-ahead : goal.returns-clause-ahead
 returns-clause-ahead g c clash = never (sym clash)
 
@@ -144,9 +120,6 @@ returns-clause-kept g c = record {
 
 pub finish-requires-clause-going : goal.finish-requires-clause-going
 finish-requires-clause-going g c = ap (λ (r : Reading). r.stage) c.waits_until.ensures.kept ∙ c.requires.going
-
-pub waits_until-requires-clause-going : goal.waits_until-requires-clause-going
-waits_until-requires-clause-going g c = c.requires.going
 
 pub waits_until-requires-clause-known : goal.waits_until-requires-clause-known
 waits_until-requires-clause-known g c = omega (arith, c.if-at-gt-LAST_TICK.false)

@@ -1,6 +1,5 @@
 use Rattle.std.proofs.Common.{◌≡◌, true, false, None, Result, Ok, Err, sym, ap, ◌∙◌, subst, arith, is_ok}
 use Rattle.dover_model.specs.Common.{JobFacts, job_of_numbers, refusal_of}
-use Rattle.dover_model.proofs.lists.Tests.{never}
 use Rattle.admission.specs.Kept.{Kept, StandsFor}
 use Rattle.admission.specs.Answers.{refusal_in}
 use Rattle.admission.specs.declared.refused.Refused.{Refused}
@@ -23,12 +22,6 @@ returns-clause-no c failed _ _ jobs stands none =
     (sym (c.check-checked.ensures.refusal jobs (subst (λ kept. StandsFor kept jobs) (sym kept_is) stands))
     ∙ ap (refusal_of c.self.inside.admission.rules jobs) same
     ∙ ap (λ (kept : Kept). refusal_of kept.rules jobs j) kept_is ∙ none)
-
-pub returns-then-not-has_room-clause-yes : goal.returns-then-not-has_room-clause-yes
-returns-then-not-has_room-clause-yes c clash = never clash
-
-pub returns-then-not-has_room-clause-admits : goal.returns-then-not-has_room-clause-admits
-returns-then-not-has_room-clause-admits c clash = never clash
 
 pub returns-then-not-has_room-clause-no : goal.returns-then-not-has_room-clause-no
 returns-then-not-has_room-clause-no c _ _ room _ _ _ =

@@ -13,21 +13,6 @@ use Rattle.trace_judge.proofs.reader.TraceReader.may_refuse.Goals as goal
 use Rattle.trace_judge.proofs.reader.TraceReader.may_refuse.Goals.{After-is_same_cause, After-is_late_cause}
 use Rattle.trace_judge.proofs.reader.TraceReader.may_refuse.Goals.{After-is_full_cause}
 
-pub returns-then-not-refuses_lines-clause-yes : goal.returns-then-not-refuses_lines-clause-yes
-returns-then-not-refuses_lines-clause-yes c clash = never clash
-
-pub returns-then-not-refuses_lines-clause-refuses : goal.returns-then-not-refuses_lines-clause-refuses
-returns-then-not-refuses_lines-clause-refuses c clash = never clash
-
-pub returns-then-at-gt-LAST_TICK-clause-yes : goal.returns-then-at-gt-LAST_TICK-clause-yes
-returns-then-at-gt-LAST_TICK-clause-yes c clash = never clash
-
-pub returns-then-at-gt-LAST_TICK-clause-refuses : goal.returns-then-at-gt-LAST_TICK-clause-refuses
-returns-then-at-gt-LAST_TICK-clause-refuses c clash = never clash
-
-pub returns-then-not-has_room-clause-yes : goal.returns-then-not-has_room-clause-yes
-returns-then-not-has_room-clause-yes c clash = never clash
-
 pub returns-then-not-has_room-clause-refuses : goal.returns-then-not-has_room-clause-refuses
 returns-then-not-has_room-clause-refuses c clash = never clash
 

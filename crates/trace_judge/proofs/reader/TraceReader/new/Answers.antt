@@ -3,23 +3,7 @@ use Rattle.std.specs.Int.{from_bool}
 use Rattle.ready_jobs.specs.Course.{Course, new_course}
 use Rattle.trace_judge.specs.Reads.{Opens}
 use Rattle.trace_judge.specs.declared.stage.TraceStage.TheVariants.{Opening}
-use Rattle.trace_judge.proofs.Judging.{none_of}
 use Rattle.trace_judge.proofs.reader.TraceReader.new.Goals as goal
-
-pub returns-in_err-new-clause-stage : goal.returns-in_err-new-clause-stage
-returns-in_err-new-clause-stage c = none_of _ c.from_residual-in_err-new.result c.from_residual-in_err-new.ensures.0
-
-pub returns-in_err-new-clause-reads : goal.returns-in_err-new-clause-reads
-returns-in_err-new-clause-reads c = none_of _ c.from_residual-in_err-new.result c.from_residual-in_err-new.ensures.0
-
-pub returns-in_err-new-clause-keep : goal.returns-in_err-new-clause-keep
-returns-in_err-new-clause-keep c = none_of _ c.from_residual-in_err-new.result c.from_residual-in_err-new.ensures.0
-
-pub returns-in_err-new-clause-jobs : goal.returns-in_err-new-clause-jobs
-returns-in_err-new-clause-jobs c = none_of _ c.from_residual-in_err-new.result c.from_residual-in_err-new.ensures.0
-
-pub returns-in_err-new-clause-paid : goal.returns-in_err-new-clause-paid
-returns-in_err-new-clause-paid c = none_of _ c.from_residual-in_err-new.result c.from_residual-in_err-new.ensures.0
 
 pub returns-clause-stage : goal.returns-clause-stage
 returns-clause-stage c = refl

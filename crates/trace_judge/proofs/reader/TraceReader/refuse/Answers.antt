@@ -1,4 +1,4 @@
-use Rattle.std.proofs.Common.{sym, subst, arith, ap, ◌∙◌, refl}
+use Rattle.std.proofs.Common.{sym, subst, arith, ap, ◌∙◌}
 use Rattle.trace_judge.specs.Reads.{IsPaid, Reading}
 use Rattle.trace_judge.proofs.Readings.{few_items, unchanged_on}
 use Rattle.trace_judge.proofs.Refusals.{not_waited, refused_few, refused_took, refused_reader, job_line, job_named}
@@ -62,9 +62,6 @@ overflow_add-self-2 g c = let same = c.self-2.view_is ∙ c.waits_until.ensures.
   few_items _ _ (c.may_refuse.ensures.yes c.if-not-may_refuse.false).2,
 )
 
-pub returns-then-not-may_refuse-clause-kept : goal.returns-then-not-may_refuse-clause-kept
-returns-then-not-may_refuse-clause-kept g c = record { keep = refl; spare = refl; jobs = refl }
-
 pub returns-then-not-waits_until-clause-kept : goal.returns-then-not-waits_until-clause-kept
 returns-then-not-waits_until-clause-kept g c = unchanged_on c.args.self.now c.waits_until.new.self
     c.waits_until.ensures.kept c.waits_until.ensures.course.jobs
@@ -85,9 +82,6 @@ returns-clause-kept g c = let same = c.self-2.view_is ∙ c.waits_until.ensures.
   spare = ap (λ (r : Reading). r.spare) same;
   jobs = ap (λ (r : Reading). r.course.jobs) c.self-2.view_is ∙ c.waits_until.ensures.course.jobs;
 }
-
-pub waits_until-requires-clause-going : goal.waits_until-requires-clause-going
-waits_until-requires-clause-going g c = c.requires.going
 
 pub waits_until-requires-clause-known : goal.waits_until-requires-clause-known
 waits_until-requires-clause-known g c = (c.may_refuse.ensures.yes c.if-not-may_refuse.false).1

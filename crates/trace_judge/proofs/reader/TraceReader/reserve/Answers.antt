@@ -56,12 +56,6 @@ invariant_of-self-2 c =
           (λ keep. absurd (let clash : false ≡ true = sym w.if-self.false ∙ keep in cc)))
     ]
 
-pub returns-in_err-reserve-clause-ok : goal.returns-in_err-reserve-clause-ok
-returns-in_err-reserve-clause-ok c = none_of _ c.from_residual.result c.from_residual.ensures.0
-
-pub returns-in_err-reserve-clause-grows : goal.returns-in_err-reserve-clause-grows
-returns-in_err-reserve-clause-grows c = omega (arith, ap (λ (r : Reading). r.spare) c.self.view_is)
-
 pub returns-in_err-reserve-clause-err : goal.returns-in_err-reserve-clause-err
 returns-in_err-reserve-clause-err c =
     err_of c.from_residual.result c.from_residual.ensures.0 (ap (λ (r : Reading). r.spare) c.self.view_is)

@@ -10,12 +10,6 @@ returns-in-Header-clause-took g c =
     (header_took_none c.args.self.now c.requires.going c.in-Header.version c.in-Header.p c.in-Header.q
     c.in-Header.factor (subst HasForm c.in-Header.is c.requires.form))
 
-pub returns-in-Header-clause-spare : goal.returns-in-Header-clause-spare
-returns-in-Header-clause-spare g c = omega arith
-
-pub returns-in-Header-clause-jobs : goal.returns-in-Header-clause-jobs
-returns-in-Header-clause-jobs g c = omega arith
-
 pub returns-in-Step-clause-took : goal.returns-in-Step-clause-took
 returns-in-Step-clause-took g c =
     subst (λ read. IfOk c.take_step.result (Took c.args.self.now c.take_step.new.self (trace_text read)))
@@ -29,9 +23,6 @@ pub returns-in-Step-clause-spare : goal.returns-in-Step-clause-spare
 returns-in-Step-clause-spare g c =
     subst (λ read. c.args.self.now.spare ≤ c.take_step.new.self.spare + jobs_in read) (sym c.in-Step.is)
     c.take_step.ensures.spare
-
-pub returns-in-Step-clause-keep : goal.returns-in-Step-clause-keep
-returns-in-Step-clause-keep g c = c.take_step.ensures.keep
 
 pub returns-in-Step-clause-jobs : goal.returns-in-Step-clause-jobs
 returns-in-Step-clause-jobs g c =
@@ -69,9 +60,6 @@ returns-in-RefusedDone-clause-took g c =
     subst (λ read. Took c.args.self.now c.refuse_done.new.self (trace_text read) c.refuse_done.result)
     (sym c.in-RefusedDone.is) c.refuse_done.ensures.took
 
-pub returns-in-RefusedDone-clause-spare : goal.returns-in-RefusedDone-clause-spare
-returns-in-RefusedDone-clause-spare g c = omega (arith, c.refuse_done.ensures.kept.spare)
-
 pub returns-in-RefusedDone-clause-keep : goal.returns-in-RefusedDone-clause-keep
 returns-in-RefusedDone-clause-keep g c = c.refuse_done.ensures.kept.keep
 
@@ -81,14 +69,8 @@ returns-in-RefusedDone-clause-jobs g c = omega (arith, c.refuse_done.ensures.kep
 pub returns-in-RefusedDone-clause-paid : goal.returns-in-RefusedDone-clause-paid
 returns-in-RefusedDone-clause-paid g c = c.refuse_done.ensures.paid
 
-pub refuse_done-requires-clause-going : goal.refuse_done-requires-clause-going
-refuse_done-requires-clause-going g c = c.requires.going
-
 pub refuse_done-requires-clause-form : goal.refuse_done-requires-clause-form
 refuse_done-requires-clause-form g c = subst HasForm c.in-RefusedDone.is c.requires.form
-
-pub take_step-requires-clause-going : goal.take_step-requires-clause-going
-take_step-requires-clause-going g c = c.requires.going
 
 pub take_step-requires-clause-form : goal.take_step-requires-clause-form
 take_step-requires-clause-form g c = subst HasForm c.in-Step.is c.requires.form

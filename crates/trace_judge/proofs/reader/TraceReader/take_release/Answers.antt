@@ -3,7 +3,6 @@ use Rattle.dover_model.specs.Common.{Session, instance_of, State, WaitsUntil}
 use Rattle.dover_model.proofs.valid.JobLimits.{job_limits}
 use Rattle.admission.specs.Kept.{Kept, HasRoom}
 use Rattle.trace_judge.specs.Reads.{Reading, ReadsAhead, Goes, Waited, CanRelease}
-use Rattle.trace_judge.proofs.Judging.{none_of}
 use Rattle.trace_judge.proofs.Readings.{goes_of}
 use Rattle.trace_judge.proofs.Releases.{not_admitted, not_waited, not_roomy, reserved_can, reserved_took}
 use Rattle.trace_judge.proofs.reader.TraceReader.take_release.Goals as goal
@@ -67,9 +66,6 @@ pub returns-clause-paid : goal.returns-clause-paid
 returns-clause-paid g c start paid = c.admit.ensures.paid start c.waits_until.new.comparisons
     (c.make_room.ensures.paid start c.waits_until.new.comparisons (c.waits_until.ensures.paid start paid))
 
-pub returns-then-not-may_admit-clause-spare : goal.returns-then-not-may_admit-clause-spare
-returns-then-not-may_admit-clause-spare g c = omega arith
-
 pub returns-then-not-may_admit-clause-jobs : goal.returns-then-not-may_admit-clause-jobs
 returns-then-not-may_admit-clause-jobs g c = omega arith
 
@@ -96,9 +92,6 @@ returns-then-is_full-clause-jobs g c = omega (arith, c.waits_until.ensures.cours
 
 pub returns-then-is_full-clause-paid : goal.returns-then-is_full-clause-paid
 returns-then-is_full-clause-paid g c = c.waits_until.ensures.paid
-
-pub returns-in_err-make_room-clause-took : goal.returns-in_err-make_room-clause-took
-returns-in_err-make_room-clause-took g c = none_of _ c.from_residual.result c.from_residual.ensures.0
 
 pub returns-in_err-make_room-clause-spare : goal.returns-in_err-make_room-clause-spare
 returns-in_err-make_room-clause-spare g c = omega

@@ -1,4 +1,4 @@
-use Rattle.std.proofs.Common.{◌≤◌, ◌+◌, sym, subst, arith, IfOk}
+use Rattle.std.proofs.Common.{◌≤◌, ◌+◌, sym, subst, IfOk}
 use Rattle.dover_model.specs.Text.{text_of}
 use Rattle.line_text.specs.traces.Form.{HasForm}
 use Rattle.line_text.specs.declared.traces.lines.TraceLine.TheVariants.{Step}
@@ -26,9 +26,6 @@ returns-in-Release-clause-spare g c =
     subst (λ e. c.args.self.now.spare ≤ c.take_release.new.self.spare + releases_in e) (sym c.in-Release.is)
     c.take_release.ensures.spare
 
-pub returns-in-Release-clause-keep : goal.returns-in-Release-clause-keep
-returns-in-Release-clause-keep g c = c.take_release.ensures.keep
-
 pub returns-in-Release-clause-jobs : goal.returns-in-Release-clause-jobs
 returns-in-Release-clause-jobs g c =
     subst (λ e. c.take_release.new.self.course.jobs ≤ c.args.self.now.course.jobs + releases_in e)
@@ -42,38 +39,11 @@ returns-in-Complete-clause-took g c =
     subst (λ e. Took c.args.self.now c.complete.new.self (text_of e) c.complete.result) (sym c.in-Complete.is)
     c.complete.ensures.took
 
-pub returns-in-Complete-clause-spare : goal.returns-in-Complete-clause-spare
-returns-in-Complete-clause-spare g c = omega (arith, c.complete.ensures.kept.spare)
-
-pub returns-in-Complete-clause-keep : goal.returns-in-Complete-clause-keep
-returns-in-Complete-clause-keep g c = c.complete.ensures.kept.keep
-
-pub returns-in-Complete-clause-jobs : goal.returns-in-Complete-clause-jobs
-returns-in-Complete-clause-jobs g c = omega (arith, c.complete.ensures.kept.jobs)
-
 pub returns-in-Complete-clause-paid : goal.returns-in-Complete-clause-paid
 returns-in-Complete-clause-paid g c = c.complete.ensures.paid
 
-pub returns-in_default-clause-spare : goal.returns-in_default-clause-spare
-returns-in_default-clause-spare g c = omega (arith, c.follow.ensures.kept.spare)
-
-pub returns-in_default-clause-keep : goal.returns-in_default-clause-keep
-returns-in_default-clause-keep g c = c.follow.ensures.kept.keep
-
-pub returns-in_default-clause-jobs : goal.returns-in_default-clause-jobs
-returns-in_default-clause-jobs g c = omega (arith, c.follow.ensures.kept.jobs)
-
 pub returns-in_default-clause-paid : goal.returns-in_default-clause-paid
 returns-in_default-clause-paid g c = c.follow.ensures.paid
-
-pub take_release-requires-clause-going : goal.take_release-requires-clause-going
-take_release-requires-clause-going g c = c.requires.going
-
-pub take_release-requires-clause-form : goal.take_release-requires-clause-form
-take_release-requires-clause-form g c = subst (λ e. HasForm (Step e)) c.in-Release.is c.requires.form
-
-pub complete-requires-clause-going : goal.complete-requires-clause-going
-complete-requires-clause-going g c = c.requires.going
 
 pub complete-requires-clause-form : goal.complete-requires-clause-form
 complete-requires-clause-form g c = subst (λ e. HasForm (Step e)) c.in-Complete.is c.requires.form

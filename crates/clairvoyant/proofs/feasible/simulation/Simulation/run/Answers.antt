@@ -1,4 +1,4 @@
-use Rattle.std.proofs.Common.{ap, arith, sum_by, ◌+◌, ◌≤◌, ◌⊎◌, ℕ, length, refl, sym, subst, Option}
+use Rattle.std.proofs.Common.{ap, arith, sum_by, ◌+◌, ◌≤◌, ◌⊎◌, ℕ, length, sym, subst, Option}
 use Rattle.std.proofs.lemmas.List.Sums.{sum_by-cons}
 use Rattle.clairvoyant.specs.feasible.Queue.{Kept}
 use Rattle.clairvoyant.specs.feasible.Progress.{Stands, IsPending, with_late}
@@ -19,9 +19,6 @@ add_piece-requires-clause-job c =
     not_idle c.args.jobs.now c.args.self.now.clock c.args.self.now.queue.released c.args.job.deadline c.args.job.number
     c.args.job.left c.args.self.now.queue.kept c.args.self.now.pieces.items c.args.self.now.late c.requires.stands
     c.requires.first c.requires.count
-
-pub leave-requires : goal.leave-requires
-leave-requires c = (_, c.requires.first.rest, c.requires.first.is, refl)
 
 pub returns-clause-stands : goal.returns-clause-stands
 returns-clause-stands c =

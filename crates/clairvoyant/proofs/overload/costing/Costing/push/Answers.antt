@@ -10,15 +10,6 @@ use Rattle.clairvoyant.proofs.overload.Outside.{order_behind, less_left, sum_les
 use Rattle.clairvoyant.proofs.overload.Sets.{sets_left, all_reached}
 use Rattle.clairvoyant.proofs.overload.costing.Costing.push.Goals as goal
 
-pub stretch-requires-clause-some : goal.stretch-requires-clause-some
-stretch-requires-clause-some c = c.requires.first.some
-
-pub stretch-requires-clause-due : goal.stretch-requires-clause-due
-stretch-requires-clause-due c = c.requires.first.within
-
-pub stretch-requires-clause-overfull : goal.stretch-requires-clause-overfull
-stretch-requires-clause-overfull c = c.requires.first.overfull
-
 pub overflow_sub-self-2 : goal.overflow_sub-self-2
 overflow_sub-self-2 c = less_left _ _ _ _ c.requires.each c.requires.costed.ended
     (omega (arith, c.in_ok-x.ensures.from, c.requires.first.later)) _ c.in_ok-x.ensures.stretch c.requires.costed.sum

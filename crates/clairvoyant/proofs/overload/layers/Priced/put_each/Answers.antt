@@ -1,8 +1,5 @@
 use Rattle.clairvoyant.proofs.overload.layers.Priced.put_each.Goals as goal
 
-pub loop-ticks-init : goal.loop-ticks-init
-loop-ticks-init c = c.requires.priced
-
 pub put-requires-clause-in_order : goal.put-requires-clause-in_order
 put-requires-clause-in_order c = c.requires.in_order
 
@@ -11,9 +8,3 @@ put-requires-clause-priced c = c.loop-ticks.invariant
 
 pub loop-ticks-preserved : goal.loop-ticks-preserved
 loop-ticks-preserved c = c.put.ensures
-
-pub offers-requires : goal.offers-requires
-offers-requires c = c.requires.in_order
-
-pub returns : goal.returns
-returns c = c.loop-ticks.invariant
