@@ -13,7 +13,7 @@ use Rattle.policy_lab.specs.PolicyRun.{policy_run}
 use Rattle.policy_lab.specs.Standard.{earliest_deadline, greatest_density}
 use Rattle.dover_model.specs.Common.{Rules, with_numbers, in_lines}
 use Rattle.dover_model.proofs.lists.Beginnings.{in_lines-append}
-use Rattle.question_words.specs.Compare.{SaysCompare, AreWithin, worth_of, line_of}
+use Rattle.question_words.specs.Compare.{SaysCompare, AreWithin, line_of}
 use Rattle.question_words.specs.Texts.{policy_line, policy_lines}
 use Rattle.question_words.specs.declared.answer.PolicyRow.{PolicyRow}
 use Rattle.dover_model.proofs.valid.ValidParts.{valid_parts}

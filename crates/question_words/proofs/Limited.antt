@@ -1,6 +1,5 @@
 -- Jobs within the limits of version Two.
-use Rattle.std.proofs.Common.{◌≡◌, ◌≤◌, ◌*◌, List, [], ◌∷◌, length, refl, arith, Bool, true, false, inl, nat_lt}
-use Rattle.std.proofs.Common.{ltb-true, ltb-false}
+use Rattle.std.proofs.Common.{◌≤◌, ◌*◌, List, [], ◌∷◌, length, arith}
 use Rattle.std.specs.List.{AllByRecursion}
 use Rattle.std.proofs.lemmas.List.Sums.{sum_by-cons}
 use Rattle.dover_model.specs.Common.{Instance, IsListable, IsValid, total_value, JobFacts, IsJob}

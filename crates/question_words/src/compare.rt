@@ -38,8 +38,8 @@ fn row(named: Named, outcome: &Outcome) -> PolicyRow
 
 /// Compares the rules with the policies over the jobs, which these know as the run observed them, and says what came of
 /// it: the value that the run completes; what the schedules by earliest deadline and by greatest density are worth, how
-/// many jobs each completes and how often it stops one; and the bound on what any schedule is worth. More jobs than those of version Two may be, or worth more, are refused. Memory
-/// is taken for the runs.
+/// many jobs each completes and how often it stops one; and the bound on what any schedule is worth. Jobs that are more
+/// than those of version Two may be, or worth more, are refused. Memory is taken for the runs.
 pub(crate) fn answer<L: Ledger>(
     alloc: Global,
     listed: Listed,
