@@ -2,7 +2,8 @@
 use Rattle.std.specs.Prelude.{List, String}
 use Rattle.std.specs.declared.alloc.Global.{Global}
 use Rattle.dover_top.specs.Words.{AsksServe, AsksJudge, AsksReport, AsksTrial, AsksBait, AsksQuestion, AsksLanes}
-use Rattle.dover_top.specs.Words.{AsksPause, AsksResume, AsksUnroll, AsksDuel, AsksDraw, AsksSure, AsksBudget, AsksRatio}
+use Rattle.dover_top.specs.Words.{AsksPause, AsksResume, AsksUnroll, AsksDuel, AsksDraw, AsksSure, AsksBudget}
+use Rattle.dover_top.specs.Words.{AsksRatio}
 use Rattle.dover_top.specs.declared.request.Request.{Request}
 use Rattle.dover_top.specs.declared.request.Request.TheVariants.{Serve, Judge, Report, Trial, Bait, Ask, Lanes, Pause}
 use Rattle.dover_top.specs.declared.request.Request.TheVariants.{Resume, Unroll, Duel, Draw, Sure, Budget, Ratio}

@@ -60,7 +60,8 @@ module _ (read : TextLine) (o : Option Rules) (declares : Declares read o) where
   -- a second one
   second : (l : TextLine) → Declares l o → (rules : Rules) (a : TextAccount) → a.rules ≡ Some rules
       → cause_of a l ≡ Some feed.Declared
-  second (Plain (Declared p q version)) e rules a is = ap (λ r. cause_under r (length a.jobs) (Plain (Declared p q version))) is
+  second (Plain (Declared p q version)) e rules a is =
+      ap (λ r. cause_under r (length a.jobs) (Plain (Declared p q version))) is
   second (Plain (Factored p q version b c)) e rules a is =
       ap (λ r. cause_under r (length a.jobs) (Plain (Factored p q version b c))) is
   second (Plain (Task task)) e rules a is = absurd e

@@ -70,7 +70,8 @@ ended_kept d intake x it is =
       by_rules (Some rules) some kept = record { ended = it.0; rules = rules; rules_are = some; keeps = kept }
 
 -- rules were declared
-pub none_ended : (intake : Intake) (x : List ℕ) → StandsAt progress.Ended intake (account x) → intake.declared ≡ None → ⊥
+pub none_ended : (intake : Intake) (x : List ℕ) → StandsAt progress.Ended intake (account x)
+    → intake.declared ≡ None → ⊥
 none_ended intake x it none = never (sym (ap (λ (o : Option Declaration). is_some o) none) ∙ it.2)
 
 -- what is said of jobs comes with a final status

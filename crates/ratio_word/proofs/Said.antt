@@ -10,7 +10,8 @@ use Rattle.ratio_word.specs.Says.{AreExtremeLines, SaysRatio, bound_line, extrem
 use Rattle.ratio_word.specs.declared.extremes.Extremes.{Extremes}
 
 -- the lines of the two jobs are
-extremes_shown : (jobs : List JobFacts) (o : Option Extremes) → HasExtremes jobs o → AreExtremeLines jobs (extreme_lines o)
+extremes_shown : (jobs : List JobFacts) (o : Option Extremes) → HasExtremes jobs o
+    → AreExtremeLines jobs (extreme_lines o)
 extremes_shown jobs None none = inl (none, refl)
 extremes_shown jobs (Some e) it = inr (numbered e.least, numbered e.densest, it.least, it.densest, refl)
 

@@ -27,7 +27,8 @@ module _ (top bottom p q : ℕ) (some : 1 ≤ q) (enough : Suffices top bottom p
     by_order (inr same) = inr (same, least r (subst (λ d. Suffices top bottom r d) same it.enough))
 
   -- the numerator is above its limit
-  pub too_large : (best : Option Pair) → most_p < p → StandsBelow top bottom q best → StandsBelow top bottom (q + 1) best
+  pub too_large : (best : Option Pair) → most_p < p → StandsBelow top bottom q best
+      → StandsBelow top bottom (q + 1) best
   too_large None large none = λ r s it. by_cases r s it (by_denominator r s it) where
     by_cases : (r s : ℕ) → IsCandidate top bottom (q + 1) r s
         → IsCandidate top bottom q r s ⊎ ((s ≡ q) × (p ≤ r)) → ⊥

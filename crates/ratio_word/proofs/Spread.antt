@@ -50,7 +50,8 @@ module _ (jobs : List JobFacts) (e : Extremes) (it : AreExtremes jobs e) where
   -- a job is no less dense than the one, and no denser than the other
   above : (j : JobFacts) → IsMember j jobs → least.value * j.work ≤ j.value * least.work
   above j member = no_less j least
-      (all_member (λ i. IsLessDense i least → ⊥) jobs (none_under IsLessDense not_both jobs (numbered e.least) it.least) j member)
+      (all_member (λ i. IsLessDense i least → ⊥) jobs
+      (none_under IsLessDense not_both jobs (numbered e.least) it.least) j member)
 
   under : (i : JobFacts) → IsMember i jobs → i.value * densest.work ≤ densest.value * i.work
   under i member = no_less densest i
@@ -71,7 +72,8 @@ module _ (jobs : List JobFacts) (e : Extremes) (it : AreExtremes jobs e) where
   two_of_all k keep =
       let within : k.q * densest.value * least.work ≤ k.p * least.value * densest.work =
       (is_within_ratio-agrees k densest least).0 (keep densest least
-      (first_member IsDenser jobs (numbered e.densest) it.densest) (first_member IsLessDense jobs (numbered e.least) it.least)) in
+      (first_member IsDenser jobs (numbered e.densest) it.densest)
+      (first_member IsLessDense jobs (numbered e.least) it.least)) in
       omega (arith, within)
 
   -- the fraction of their densities is a spread

@@ -1,6 +1,6 @@
 -- What a line makes of what is kept.
-use Rattle.std.proofs.Common.{◌≡◌, ◌≤◌, ◌<◌, ◌+◌, List, ◌∷◌, ◌++◌, [], ℕ, length, sym, ap, ◌∙◌, subst, false, Some, None}
-use Rattle.std.proofs.Common.{arith}
+use Rattle.std.proofs.Common.{◌≡◌, ◌≤◌, ◌<◌, ◌+◌, List, ◌∷◌, ◌++◌, [], ℕ, length, sym, ap, ◌∙◌, subst, false, Some}
+use Rattle.std.proofs.Common.{None, arith}
 use Rattle.dover_model.specs.declared.events.Version.TheVariants.{Three}
 use Rattle.dover_model.specs.Common.{Faulty, is_too_long, lines_of, most_lines, rest_of}
 use Rattle.dover_model.specs.Feed as feed

@@ -1,6 +1,7 @@
 //! What is kept of a text between its lines.
 ghost use Rattle.std.specs.Prelude.{◌≡◌, ◌<◌, ◌+◌, ℕ, List, ◌∷◌, ◌++◌, [], option_map, None, IsSome};
-ghost use Rattle.dover_model.specs.Common.{Declaration as Rules, JobFacts, IsJob, job_of_numbers, most_jobs, rules_with};
+ghost use Rattle.dover_model.specs.Common.{Declaration as Rules, JobFacts, IsJob, job_of_numbers, most_jobs};
+ghost use Rattle.dover_model.specs.Feed.{rules_with};
 ghost use Rattle.dover_model.specs.Feed as feed;
 ghost use Rattle.dover_model.specs.declared.events.Version.TheVariants.{Three};
 ghost use Rattle.ratio_word.specs.Account.{TextAccount, account_of_lines, cause_of, with_line};

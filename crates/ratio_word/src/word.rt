@@ -15,10 +15,10 @@ use std::marker::PhantomData;
 use std::sync::ledger::Ledger;
 
 /// Reads a feed or a task text to its end, whatever ratio its first line declares, and then writes the least ratio
-/// within the limits that all its jobs keep: of a task its first job. The first line of the answer declares it, with the
-/// version and the factor of the text. Behind it are the first of the least dense jobs and the first of the densest, and
-/// the bound: where a run by that ratio completes 1,000,000, no schedule is worth more. Where no ratio within the limits
-/// is kept by all, the first line is `none`, and the status `No`.
+/// within the limits that all its jobs keep: of a task its first job. The first line of the answer declares it, with
+/// the version and the factor of the text. Behind it are the first of the least dense jobs and the first of the
+/// densest, and the bound: where a run by that ratio completes 1,000,000, no schedule is worth more. Where no ratio
+/// within the limits is kept by all, the first line is `none`, and the status `No`.
 ///
 /// Refused are a line that has no form of either text, a first line that declares nothing and a later one that declares
 /// again, a job beyond the limits of one job and a task whose first job is, or which has no period, more than
