@@ -66,9 +66,9 @@ version_three : answer (codes "snapshot 3 1 1 1 0 0/resume/") ≡ Some 0
 unfolding digits
 version_three = refl
 
-no_version_four : answer (codes "snapshot 4 1 1 1 0 0/resume/") ≡ Some 1
+no_version_five : answer (codes "snapshot 5 1 1 1 0 0/resume/") ≡ Some 1
 unfolding digits
-no_version_four = refl
+no_version_five = refl
 
 -- a job that is done with work left finished early, for which there is a line
 early : answer (codes "snapshot 3 1 1 3 1 1/state 0 done 1 0 4 10 4/resume/") ≡ Some 0

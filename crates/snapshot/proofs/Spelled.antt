@@ -1,7 +1,7 @@
 -- The lines of a snapshot have one spelling: what is written is read as the same, and what is read was written so.
 use Rattle.std.proofs.Common.{◌≡◌, ℕ, ◌+◌, ◌*◌, ◌≤◌, ◌<◌, ◌^◌, List, [], ◌∷◌, ◌++◌, length, length-append, map, refl}
 use Rattle.std.proofs.Common.{sym, ap, ◌∙◌, subst, Bool, true, false, cond, arith, decimal, Option, Some, None, codes}
-use Rattle.std.proofs.Common.{bytes_eq, ◌==◌, option_and_then, le-ltb, eqb-true}
+use Rattle.std.proofs.Common.{bytes_eq, ◌==◌, option_and_then, option_map, le-ltb, eqb-true}
 use Rattle.std.specs.Bool.{then_some}
 use Rattle.std.specs.List.{AllByRecursion}
 use Rattle.std.proofs.lemmas.Fmt.{length-decimal-le}
