@@ -417,7 +417,7 @@ engine_made k version capacity made is_made none = by_engine made.engine refl is
   by_engine : (o : Option Life) → made.engine ≡ o → Stands k version capacity made.status o → (v : Life)
       × (made.engine ≡ Some v) × IsFresh k version capacity v
   by_engine None e status =
-      absurd (some_status (not ((version == 1) || (version == 2) || (version == 3)))
+      absurd (some_status (not ((version == 1) || (version == 2) || (version == 3) || (version == 4)))
       (not (is_ratio (fraction k.p k.q))) (not (is_some_factor k.factor))
       (nat_lt most_ready capacity) (sym status ∙ none))
   by_engine (Some v) e it = (v, e, it.1)
