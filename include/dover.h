@@ -9,8 +9,8 @@
            1 <= q <= 1,000, q <= p <= 1,000,000.
    Limits  At once: `capacity` open jobs, which are admitted and not over; at most 1,000,000. A job is over at its
            deadline at the latest, so as many are enough as can come within the longest time from a release to its
-           deadline. Since the last moment of rest: 1,000,000 jobs, and 10,000,000,000,000 in value; in version 3
-           4,000,000,000 jobs, and 999,999,999,999,999,999 in value. Rest is where dover_step answers DOVER_NONE and no
+           deadline. Since the last moment of rest: 1,000,000 jobs, and 10,000,000,000,000 in value; from version 3
+           on 4,000,000,000 jobs, and 999,999,999,999,999,999 in value. Rest is where dover_step answers DOVER_NONE and no
            job is open: dover_spare is then the room that there was at first. From there on these two limits and that of
            densities start anew, each time; the clock and the numbers go on. An engine that never rests answers
            DOVER_COUNT or DOVER_TOTAL from such a limit on till the open jobs are over. No rest lifts two: the last
@@ -23,9 +23,10 @@
    Threads One engine is used by one call at a time. Two engines are independent. No call is made from a signal
            handler, or from the forked child of a process with threads. No call blocks, waits, locks or reads a clock.
    Time    With d the binary digits of one more than the open jobs, a step costs at most 12 * d comparisons, and a take
-           2 * d more for each job that is held: it moves all of them at once, and the capacity bounds them. All steps
-           together cost at most 1,600 for each job, and in version 3 at most 2,560: 20 for each binary digit of their
-           count since the last moment of rest, 20 digits at most and in version 3 at most 32, and each of the four
+           2 * d more for each job that is held: it moves all of them at once, and the capacity bounds them. In version
+           4 that is 18 * d and 3 * d. All steps together cost at most 1,600 for each job, and from version 3 on at
+           most 2,560: 20 for each binary digit of their count since the last moment of rest, 20 digits at most and
+           from version 3 on at most 32, and each of the four
            times at most that a job begins or ceases to wait. */
 #ifndef DOVER_H
 #define DOVER_H
@@ -36,7 +37,7 @@ extern "C" {
 #endif
 
 /* The version of the library that this header is of: the year, the month in two digits, and then two digits that tell
-   versions of one month apart. It has nothing to do with the versions of the rules, which are 1, 2 and 3. */
+   versions of one month apart. It has nothing to do with the versions of the rules, which are 1, 2, 3 and 4. */
 #define DOVER_VERSION 20261100
 
 /* A place for an engine: static, on a stack or in an arena, at a multiple of 8 bytes. From dover_init on nobody but
@@ -60,8 +61,9 @@ void dover_init_factor(dover *, uint32_t p, uint32_t q, uint32_t version, uint32
 enum {
     DOVER_MADE = 5,
     DOVER_EMPTY = 0,        /* dover_drop was called, or never dover_init, for a place of zeros */
-    DOVER_BAD_VERSION = 4,  /* the version is none of 1, 2 and 3: from 2 on value breaks ties of deadlines, and in 3 a
-                               job may be done before its work is out */
+    DOVER_BAD_VERSION = 4,  /* the version is none of 1 to 4: from 2 on value breaks ties of deadlines, from 3 on a job
+                               may be done before its work is out, and in 4 waiting jobs are chosen by density once
+                               one was abandoned, until no job is open */
     DOVER_BAD_RATIO = 1,    /* p/q is out of its limits */
     DOVER_BAD_FACTOR = 6,   /* b/c is out of its limits; dover_init never says so */
     DOVER_BAD_CAPACITY = 2, /* above 1,000,000 */

@@ -7,7 +7,8 @@ use Rattle.std.proofs.lemmas.List.{map-append}
 use Rattle.dover_model.specs.declared.events.Event.{Event}
 use Rattle.dover_model.specs.declared.events.Event.TheVariants as events
 use Rattle.dover_model.specs.declared.events.Version.{Version}
-use Rattle.dover_model.specs.declared.events.Version.TheVariants.{One, Two, Three}
+use Rattle.dover_model.specs.Common.{version_of_number}
+use Rattle.dover_model.proofs.texts.TraceLines.{version_back}
 use Rattle.dover_model.specs.Common.{Fraction, is_ratio, is_some_factor, fraction, JobFacts, observed, most_ready}
 use Rattle.dover_model.specs.Common.{Instance, total_value, printed, completed_value, settled, Each, Prints}
 use Rattle.dover_model.specs.Common.{takes_or_abandons, Meets, worth, IsWithin, is_end_given, MayFollow, no_jobs}
@@ -407,15 +408,7 @@ some_status false false false false e = absurd (let f : 3 ≡ 5 = e in cc)
 
 -- versions have different numbers
 same_version : (v w : Version) → version_number v ≡ version_number w → v ≡ w
-same_version One One e = refl
-same_version One Two e = absurd (let f : 1 ≡ 2 = e in cc)
-same_version Two One e = absurd (let f : 2 ≡ 1 = e in cc)
-same_version Two Two e = refl
-same_version One Three e = absurd (let f : 1 ≡ 3 = e in cc)
-same_version Two Three e = absurd (let f : 2 ≡ 3 = e in cc)
-same_version Three One e = absurd (let f : 3 ≡ 1 = e in cc)
-same_version Three Two e = absurd (let f : 3 ≡ 2 = e in cc)
-same_version Three Three e = refl
+same_version v w e = some_same v w (sym (version_back v) ∙ ap version_of_number e ∙ version_back w)
 
 -- its status is an engine
 engine_made : (k : Fraction) (version capacity : ℕ) (made : Slot) → IsMade k version capacity made
@@ -424,7 +417,7 @@ engine_made k version capacity made is_made none = by_engine made.engine refl is
   by_engine : (o : Option Life) → made.engine ≡ o → Stands k version capacity made.status o → (v : Life)
       × (made.engine ≡ Some v) × IsFresh k version capacity v
   by_engine None e status =
-      absurd (some_status (not ((version == 1) || (version == 2) || (version == 3)))
+      absurd (some_status (not ((version == 1) || (version == 2) || (version == 3) || (version == 4)))
       (not (is_ratio (fraction k.p k.q))) (not (is_some_factor k.factor))
       (nat_lt most_ready capacity) (sym status ∙ none))
   by_engine (Some v) e it = (v, e, it.1)

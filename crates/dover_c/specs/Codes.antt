@@ -36,7 +36,7 @@ made_code not_made.Memory = 3
 -- why no engine was made: the first of the limits that is broken, and 3 for want of memory where none is
 abbrev pub status_of : Fraction → (version capacity : ℕ) → ℕ
 status_of k version capacity =
-    if not ((version == 1) || (version == 2) || (version == 3)) then 4
+    if not ((version == 1) || (version == 2) || (version == 3) || (version == 4)) then 4
     else if not (is_ratio (fraction k.p k.q)) then 1
     else if not (is_some_factor k.factor) then 6
     else if nat_lt most_ready capacity then 2 else 3

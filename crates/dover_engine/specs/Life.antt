@@ -78,8 +78,8 @@ pub record HasPaid (v : Life) (start now : ℕ) : Type 0 where
   pub before : (d : ℕ) → most_jobs v.admission.rules.version + 1 < 2 ^ d → since ≤ start + 80 * d * v.forgotten
   pub paid : serving.HasPaid v.server since now
 
--- the comparisons of one call, with d the binary digits of how many jobs are open: for each order in which jobs wait at
--- most 6 * d, and by a take d more for each job that was held
+-- the comparisons of one call, with d the binary digits of how many jobs are open: for each order in which jobs wait
+-- at most 6 * d, and by a take d more for each job that was held
 abbrev pub CostsOnce : Life → Option Event → (before now : ℕ) → Type 0
 CostsOnce v answer before now = serving.CostsOnce v.server answer before now
 

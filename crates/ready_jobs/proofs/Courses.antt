@@ -40,7 +40,8 @@ use Rattle.dover_model.proofs.valid.Limiting.{jobs_most, total_most}
 use Rattle.waiting_pool.specs.Reordered.{IsReordered}
 use Rattle.ready_jobs.specs.Parts.{Parted, HaveRoles, ready_of, state_of}
 use Rattle.ready_jobs.specs.Following.{PartOf, IsPart, SettlesTo}
-use Rattle.ready_jobs.specs.Course.{Course, state_of_course, Follows, IsCourse, new_course, course_of, fresh_job, with_release, Reached}
+use Rattle.ready_jobs.specs.Course.{Course, state_of_course, Follows, IsCourse, new_course, course_of, fresh_job}
+use Rattle.ready_jobs.specs.Course.{with_release, Reached}
 use Rattle.ready_jobs.specs.Course.{Settled, ComesNext, Takes, IsDue, Finishes, RunsNowhere}
 use Rattle.ready_jobs.specs.Deeds.{Does, Finds, step_at}
 use Rattle.ready_jobs.specs.declared.actions.Action.{Action}
@@ -81,7 +82,8 @@ pub kept_on : (c d e : Course) → d ≡ record c { clock = d.clock; ready = d.r
     → e ≡ record c { clock = e.clock; pressed = e.pressed; ready = e.ready; done = e.done }
 kept_on c d e one next =
     next ∙ ap (λ (q : Course). record q { pressed = e.pressed; ready = e.ready; done = e.done }) one
-    ∙ ap (λ n. record c { clock = n; pressed = e.pressed; ready = e.ready; done = e.done }) (sym (ap (λ (q : Course). q.clock) next))
+    ∙ ap (λ n. record c { clock = n; pressed = e.pressed; ready = e.ready; done = e.done })
+    (sym (ap (λ (q : Course). q.clock) next))
 
 -- the course of no jobs
 pub new_follows : (rules : Declaration) (room : ℕ) → IsRatio rules.ratio

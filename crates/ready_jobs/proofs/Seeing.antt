@@ -2,7 +2,8 @@
 use Rattle.std.proofs.Common.{◌≡◌, ℕ, ◌-◌, ◌≤◌, ◌<◌, inl, inr, List, [], ◌∷◌, ◌++◌, map, min, refl, sym, ap, ◌∙◌, subst}
 use Rattle.std.specs.Prelude.{◌||◌}
 use Rattle.std.specs.List.{list_any}
-use Rattle.std.proofs.Common.{not, Bool, true, false, cond, arith, nat_le, Option, Some, None, option_map, option_to_list}
+use Rattle.std.proofs.Common.{not, Bool, true, false, cond, arith, nat_le, Option, Some, None, option_map}
+use Rattle.std.proofs.Common.{option_to_list}
 use Rattle.std.proofs.Common.{filter, find, fold, eq-eqb, ne_eqb, append-nil}
 use Rattle.std.proofs.lemmas.Bool.{cases_lt}
 use Rattle.std.proofs.lemmas.List.Elements.{filter-append}

@@ -27,7 +27,8 @@ use Rattle.ready_jobs.specs.Changed.{Leaves}
 use Rattle.dover_model.specs.Step.{pressed_after}
 use Rattle.waiting_pool.specs.Pools.{orders_of}
 use Rattle.ready_jobs.specs.Changed.{completed}
-use Rattle.ready_jobs.specs.Course.{Course, state_of_course, Follows, IsCourse, Reached, course_of, fresh_job, with_release}
+use Rattle.ready_jobs.specs.Course.{Course, state_of_course, Follows, IsCourse, Reached, course_of, fresh_job}
+use Rattle.ready_jobs.specs.Course.{with_release}
 use Rattle.ready_jobs.specs.Spending.{HasPaid, HasPaidFreely}
 use Rattle.ready_jobs.proofs.Costing.{sum_ready, over_not_waiting, fewer_wait, cost_whole, few_orders}
 use Rattle.ready_jobs.proofs.Courses.{follows_count, follows_fewer, follows_part, follows_step, course_takes}
@@ -136,7 +137,8 @@ module _ (k : Fraction) (p q : Parted) (jobs done mark : ℕ) (m : Move) (roles 
       (idles_over old.0 old.2.valid reached.idles.0 old.1 u old.2.keeps old.2.over reached.idles.1) in
       spent_paid (course_of k q jobs done) old.0 u reached.follows start now
       (spent_on jobs old.1 u start before now
-      (λ d enough. more_pays (orders_of p.version) d jobs (exits old.1) (exits u) (waiting_count old.1) (waiting_count u)
+      (λ d enough. more_pays (orders_of p.version) d jobs (exits old.1) (exits u)
+      (waiting_count old.1) (waiting_count u)
       (waits_among jobs old.1) (waits_among jobs u) (length q.waiting - length p.waiting) before now
       (few_orders p.version) falls.0 falls.1
       (ap (λ n. n - length p.waiting) (sym (count_waiting q roles_then)
@@ -191,7 +193,8 @@ module _ (k : Fraction) (p q : Parted) (jobs done mark : ℕ) (m : Move) (roles 
         idles_wait old.0 old.2.valid old.0.rules reached.idles.0 old.1 then reached.idles.1 in
         freely_then (course_of k q jobs done) old.0 then reached.follows start now
         (λ d enough. joins (20 * d * was) (20 * d * ((4 * jobs + waiting_count then) - 2 * exits_freely then))
-        (spent d enough) (more_pays (orders_of p.version) d jobs most (exits_freely then) (waiting_count old.1) (waiting_count then)
+        (spent d enough) (more_pays (orders_of p.version) d jobs most (exits_freely then)
+        (waiting_count old.1) (waiting_count then)
         was ((4 * jobs + waiting_count then) - 2 * exits_freely then) (length q.waiting - length p.waiting) before now
         (few_orders p.version) low (omega (arith, low, grown))
         (ap (λ n. n - length p.waiting) (sym (count_waiting q roles_then)
@@ -271,7 +274,8 @@ module _ (k : Fraction) (p q : Parted) (jobs done worth : ℕ) (e : Event)
     (old : IsCourse (course_of k p jobs done)) where
   -- those that begin and cease to wait by a printed step pay for it
   pub printed_pays : (before now : ℕ)
-      → ((d : ℕ) → length (ready_of p) + 1 < 2 ^ d → now ≤ before + cost_of (orders_of p.version) d (state_of p) (Prints e))
+      → ((d : ℕ) → length (ready_of p) + 1 < 2 ^ d
+      → now ≤ before + cost_of (orders_of p.version) d (state_of p) (Prints e))
       → (start : ℕ) → HasPaid (course_of k p jobs done) start before
       → HasPaid (course_of k q jobs (done + worth)) start now
   printed_pays before now cost start paid =

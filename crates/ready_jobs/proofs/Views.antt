@@ -1,5 +1,6 @@
 -- The view of jobs in another order.
-use Rattle.std.proofs.Common.{◌≡◌, ◌≢◌, inl, inr, ℕ, ◌+◌, ◌-◌, List, map, sym, ap, ◌∙◌, Bool, true, false, nat_lt, filter, sum_by}
+use Rattle.std.proofs.Common.{◌≡◌, ◌≢◌, inl, inr, ℕ, ◌+◌, ◌-◌, List, map, sym, ap, ◌∙◌, Bool, true, false, nat_lt}
+use Rattle.std.proofs.Common.{filter, sum_by}
 use Rattle.std.proofs.lemmas.Bool.{cases_eq}
 use Rattle.dover_model.specs.declared.events.Version.{Version}
 use Rattle.dover_model.specs.declared.events.Entry.{Entry}
@@ -66,7 +67,8 @@ pub record AreApart (tasks : List Task) : Type 0 where
   pub none_comes : Each (λ t. is_coming t ≡ false) tasks
   pub works : Each HasWork tasks
 
-module _ (version : Version) (clock : ℕ) (pressed : Bool) (xs ys : List Task) (same : IsReordered xs ys) (known : AreApart xs) where
+module _ (version : Version) (clock : ℕ) (pressed : Bool) (xs ys : List Task) (same : IsReordered xs ys)
+    (known : AreApart xs) where
   abbrev here : State
   here = record { clock = clock; tasks = xs; pressed = pressed }
 

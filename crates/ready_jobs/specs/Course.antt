@@ -1,5 +1,6 @@
 -- A run of the jobs that were released so far: what is kept of it, and what that says.
-use Rattle.std.specs.Prelude.{◌≡◌, ◌≤◌, ◌+◌, ℕ, List, [], ◌∷◌, ◌++◌, length, ◌&&◌, nat_le, Bool, false, true, Option, Some}
+use Rattle.std.specs.Prelude.{◌≡◌, ◌≤◌, ◌+◌, ℕ, List, [], ◌∷◌, ◌++◌, length, ◌&&◌, nat_le, Bool, false, true, Option}
+use Rattle.std.specs.Prelude.{Some}
 use Rattle.std.specs.Prelude.{None, option_map, filter}
 use Rattle.dover_model.specs.Common.{last_tick, Fraction, JobFacts, Declaration, under, bare, Instance, IsValid}
 use Rattle.dover_model.specs.Common.{with_finishes, State, is_coming, is_done, running, value_sum, Move}

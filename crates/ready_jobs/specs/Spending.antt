@@ -30,8 +30,8 @@ abbrev pub wait_again_by : Option Event → List Task → ℕ
 wait_again_by (Some e) held = wait_again e held
 wait_again_by None held = 0
 
--- the comparisons of one call, with d the binary digits of how many jobs are ready: for each order in which jobs wait at
--- most 6 * d, and by a take d more for each job that was held
+-- the comparisons of one call, with d the binary digits of how many jobs are ready: for each order in which jobs wait
+-- at most 6 * d, and by a take d more for each job that was held
 abbrev pub CostsOnce : Course → Option Event → (before now : ℕ) → Type 0
 CostsOnce c answer before now = (d : ℕ) → length c.ready + 1 < 2 ^ d
     → now ≤ before + orders_of c.rules.version * d * (6 + wait_again_by answer (filter is_held c.ready))

@@ -1,6 +1,7 @@
 //! The ready jobs by their roles, what is seen of them, and how they change.
 ghost use Rattle.std.specs.Prelude.{◌≡◌, ℕ, ◌+◌, ◌-◌, ◌*◌, ◌^◌, ◌<◌, ◌≤◌, [], ◌∷◌, ◌++◌, length, map, max, Some, None};
-ghost use Rattle.std.specs.Prelude.{reverse, vec_capacity, option_map, IfOk, IsOk, OnOk, OnErr, IsTrue, ◌↔◌, ◌&&◌, true, false};
+ghost use Rattle.std.specs.Prelude.{reverse, vec_capacity, option_map, IfOk, IsOk, OnOk, OnErr, IsTrue, ◌↔◌, ◌&&◌};
+ghost use Rattle.std.specs.Prelude.{true, false};
 ghost use Rattle.std.specs.List.{filter, find, list_any};
 ghost use Rattle.std.specs.Option.{option_to_list, ForSome};
 ghost use Rattle.dover_model.specs.declared.events.Role.TheVariants.{Fresh, Waiting, Held, Running};
@@ -128,8 +129,16 @@ fn count_of(job: &Option<Task>) -> u32
 impl Parts {
     /// No jobs, and no room.
     pub fn new(alloc: Global, version: Version) -> Result<Parts, Memory>
-        ensures { IfOk result (λ p. p ≡ record
-            { version = version; clock = 0; pressed = false; running = None; fresh = None; held = []; waiting = []; room = 0 }) }
+        ensures { IfOk result (λ p. p ≡ record {
+          version = version;
+          clock = 0;
+          pressed = false;
+          running = None;
+          fresh = None;
+          held = [];
+          waiting = [];
+          room = 0;
+        }) }
     {
         Ok(Parts {
             clock: 0,

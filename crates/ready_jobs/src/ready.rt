@@ -9,7 +9,8 @@ ghost use Rattle.dover_model.specs.Common.{is_held, Prints, open_step, view, wai
 ghost use Rattle.dover_model.specs.declared.events.Version.TheVariants.{Three};
 ghost use Rattle.waiting_pool.specs.Reordered.{IsReordered};
 ghost use Rattle.waiting_pool.specs.Pools.{orders_of};
-ghost use Rattle.ready_jobs.specs.Course.{Course, state_of_course, Follows, IsCourse, Reached, Settled, new_course, fresh_job, IsDue};
+ghost use Rattle.ready_jobs.specs.Course.{Course, state_of_course, Follows, IsCourse, Reached, Settled, new_course};
+ghost use Rattle.ready_jobs.specs.Course.{fresh_job, IsDue};
 ghost use Rattle.ready_jobs.specs.Course.{SettlesAt, StepsBefore, ComesNext, Passes, Takes, with_release, Finishes};
 ghost use Rattle.ready_jobs.specs.Course.{Runs, RunsNowhere, successor_of};
 ghost use Rattle.ready_jobs.specs.Deeds.{Finds, step_at};

@@ -1,7 +1,8 @@
 -- A server whose jobs are over serves the run of no jobs.
 use Rattle.std.proofs.Common.{◌≡◌, ℕ, List, [], length, refl, sym, ap, ◌∙◌, subst, true, arith, nat_le, ◌&&◌, le-leb}
 use Rattle.dover_model.specs.declared.events.Event.{Event}
-use Rattle.dover_model.specs.Common.{Rules, Instance, IsValid, bare, State, state_at, is_over, Ticks, open_step, waits_for_mark}
+use Rattle.dover_model.specs.Common.{Rules, Instance, IsValid, bare, State, state_at, is_over, Ticks, open_step}
+use Rattle.dover_model.specs.Common.{waits_for_mark}
 use Rattle.dover_model.specs.Common.{settled, last_of, IsBarrier, HasPrinted, instead_with, Each}
 use Rattle.dover_model.proofs.steps.Deeds.{over_rests}
 use Rattle.dover_model.proofs.steps.Kept.{open_deed}

@@ -28,7 +28,8 @@ use Rattle.dover_model.proofs.steps.RoleChanges.{with_role_at, all_displaced, di
 use Rattle.ready_server.specs.Roster.{Roll, ListedJob, had_with, stopped, released, job_at, with_stop}
 use Rattle.ready_server.specs.Roster.{is_turn, halted, started, with_event, empty_roll, roll_of}
 use Rattle.ready_server.proofs.Rolls.{calm_role, Lists, Follows, set_here, set_there, length_set, get_front, get_last}
-use Rattle.ready_server.proofs.Rolls.{follows_pressing, at_clock, number_is, job_is, had_ran, had_is, lists_as, lists_other, lists_same}
+use Rattle.ready_server.proofs.Rolls.{follows_pressing, at_clock, number_is, job_is, had_ran, had_is, lists_as}
+use Rattle.ready_server.proofs.Rolls.{lists_other, lists_same}
 use Rattle.ready_server.proofs.RollMoves.{no_turn, idle_turn, halts, starts, displaces}
 
 -- the roll after a step

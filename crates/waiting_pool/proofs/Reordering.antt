@@ -169,8 +169,8 @@ module _ {X : Type 0} (P : X → Type 0) (before : X → X → Bool)
 
   best_of : (acc : X) (xs : List X) → Each P (acc ∷ xs) → Best (fold (earlier before) acc xs) acc xs
   best_of acc [] fine = record { there = inl refl; good = inl refl; best = λ x m. absurd m }
-  best_of acc (x ∷ xs) fine =
-      by_test (before x acc) refl (best_of x xs (λ y m. fine y (inr m))) (best_of acc xs (λ y m. fine y (either m))) where
+  best_of acc (x ∷ xs) fine = by_test (before x acc) refl (best_of x xs (λ y m. fine y (inr m)))
+      (best_of acc xs (λ y m. fine y (either m))) where
     either : {y : X} → IsMember y (acc ∷ xs) → IsMember y (acc ∷ x ∷ xs)
     either (inl e) = inl e
     either (inr m) = inr (inr m)

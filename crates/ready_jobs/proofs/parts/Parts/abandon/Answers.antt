@@ -12,8 +12,8 @@ pub invariant_of-self : goal.invariant_of-self
 invariant_of-self g c =
     let inside = c.self.inside in
     let after = c.take_latest.new.self in
-    subst (λ v. AreParts (record (parted_of inside) { version = v; pressed = true; waiting = after.tasks }) inside.rooms after
-    (vec_capacity inside.held))
+    subst (λ v. AreParts (record (parted_of inside) { version = v; pressed = true; waiting = after.tasks })
+    inside.rooms after (vec_capacity inside.held))
     (sym (ap (λ (q : Pooled). q.version) c.take_latest.ensures.kept))
     (pressed_kept _ _ _ _ (abandoned_kept _ _ _ _ c.self.invariant _ _ c.take_latest.ensures.rest
     c.take_latest.ensures.none (ap (λ (q : Pooled). q.room) c.take_latest.ensures.kept)) true)

@@ -64,7 +64,8 @@ returns-in-Abandon-clause-fewer g c = leaves_fewer _ _ _ _ (c.abandon_next.ensur
 pub returns-in-Start-clause-cost : goal.returns-in-Start-clause-cost
 returns-in-Start-clause-cost g c e d does fits =
     let p = c.args.self.now in
-    subst (λ x. c.start_next.new.comparisons ≤ c.args.comparisons.now + cost_of (orders_of p.version) d (state_of p) (Prints x))
+    subst (λ x. c.start_next.new.comparisons
+    ≤ c.args.comparisons.now + cost_of (orders_of p.version) d (state_of p) (Prints x))
     (does_print p c.args.action (actions.Start c.in-Start.number) c.in-Start.is (Run p.clock c.in-Start.number) e refl
     does)
     (c.start_next.ensures.cost p.clock d fits)
@@ -72,14 +73,16 @@ returns-in-Start-clause-cost g c e d does fits =
 pub returns-in-Take-clause-cost : goal.returns-in-Take-clause-cost
 returns-in-Take-clause-cost g c e d does fits =
     let p = c.args.self.now in
-    subst (λ x. c.take_next.new.comparisons ≤ c.args.comparisons.now + cost_of (orders_of p.version) d (state_of p) (Prints x))
+    subst (λ x. c.take_next.new.comparisons
+    ≤ c.args.comparisons.now + cost_of (orders_of p.version) d (state_of p) (Prints x))
     (does_print _ _ _ c.in-Take.is _ _ refl does)
     (c.take_next.ensures.cost p.clock d fits)
 
 pub returns-in-Abandon-clause-cost : goal.returns-in-Abandon-clause-cost
 returns-in-Abandon-clause-cost g c e d does fits =
     let p = c.args.self.now in
-    subst (λ x. c.abandon_next.new.comparisons ≤ c.args.comparisons.now + cost_of (orders_of p.version) d (state_of p) (Prints x))
+    subst (λ x. c.abandon_next.new.comparisons
+    ≤ c.args.comparisons.now + cost_of (orders_of p.version) d (state_of p) (Prints x))
     (does_print _ _ _ c.in-Abandon.is _ _ refl does)
     (c.abandon_next.ensures.cost p.clock d fits)
 

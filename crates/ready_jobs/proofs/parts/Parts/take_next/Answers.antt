@@ -26,7 +26,8 @@ returns-in-Some-first_late-clause-cost g c at d fits =
     let p = c.args.self.now in
     let x = c.task-x.result in
     let late = ap seen c.in-Some-first_late.is ∙ ap Some (sym c.task-x.ensures) in
-    take_costs p c.laws.ensures.roles (orders_of p.version) d _ _ at c.requires.once c.args.stops c.args.starts c.in-Some.r x
+    take_costs p c.laws.ensures.roles (orders_of p.version) d _ _ at c.requires.once c.args.stops c.args.starts
+    c.in-Some.r x
     (sym c.running.ensures.is ∙ c.in-Some.is)
     (first_member (starts_before p.version) p.waiting x (c.first_late.ensures.is x late))
     (taken_named _ c.laws.ensures.roles c.requires.once _ _ c.requires.next _ (sym c.first_late.ensures.seen ∙ late))
