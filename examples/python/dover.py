@@ -100,7 +100,7 @@ def _numbers(bits, *values):
 
 
 class Engine:
-    """An engine for k = p/q, of a version of the rules (1, 2 or 3), with room for so many open jobs at once, and with a
+    """An engine for k = p/q, of a version of the rules (1 to 4), with room for so many open jobs at once, and with a
     factor (b, c) of one's own where one is given. All its memory is taken here; close(), or the end of a `with`, gives
     it back."""
 
@@ -122,7 +122,7 @@ class Engine:
         return answer.number
 
     def done(self, tick, job):
-        """Says that a job is done at this tick with work left, in version 3; or NotDone."""
+        """Says that a job is done at this tick with work left, from version 3 on; or NotDone."""
         status = _LIBRARY.dover_done(self._place, *_numbers(64, tick, job))
         if status:
             raise NotDone(status, NOT_DONE)
