@@ -44,7 +44,7 @@ HasSpentFreely n s start now =
 abbrev pub CostsAtMost : (n before after : ℕ) → Type 0
 CostsAtMost n before after = (d : ℕ) → n + 1 < 2 ^ d → after ≤ before + 80 * (n + 1) * d
 
--- so many comparisons, where jobs wait in so many orders: in each d for each job that begins to wait, and 3 * d for each
--- that ceases to
+-- so many comparisons, where jobs wait in so many orders: in each d for each job that begins to wait, and 3 * d for
+-- each that ceases to
 abbrev pub cost_of : (orders d : ℕ) → State → Move → ℕ
 cost_of orders d s m = orders * d * enters s m + 3 * orders * d * leaves s m

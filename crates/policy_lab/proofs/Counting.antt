@@ -102,7 +102,8 @@ module _ (picks : Picks) (jobs : List JobFacts) where
 
           by_tasks : count_by (is_stopped s t) (enumerate_from 0 jobs) ≡ stopped_at t
           by_tasks =
-              ap (λ js. sum_by (λ n_j. cond (is_stopped s t n_j) 1 0) (enumerate_from 0 js)) (sym (jobs_at picks jobs t))
+              ap (λ js. sum_by (λ n_j. cond (is_stopped s t n_j) 1 0) (enumerate_from 0 js))
+              (sym (jobs_at picks jobs t))
               ∙ sum_tasks (λ n_j. cond (is_stopped s t n_j) 1 0) 0 tasks (numbered_at picks jobs t)
               ∙ sum_same (λ u. cond (is_stopped s t (u.number, u.job)) 1 0) (stop_of t) tasks one
 
@@ -135,7 +136,8 @@ module _ (picks : Picks) (jobs : List JobFacts) where
       → (picked picks t (tasks_at picks jobs t) ≡ r.number → ⊥) → 0 < left r → stopped_at t ≡ 1
   stops_one t r member last other some = omega (arith, at_most, at_least) where
     its : stop_of t r ≡ 1
-    its = ap (λ b. cond {A = ℕ} (b && not (eqb (picked picks t (tasks_at picks jobs t)) r.number) && not (eqb (left r) 0))
+    its =
+        ap (λ b. cond {A = ℕ} (b && not (eqb (picked picks t (tasks_at picks jobs t)) r.number) && not (eqb (left r) 0))
         1 0) (eq-eqb _ _ (sym last))
         ∙ ap (λ b. cond {A = ℕ} (not b && not (eqb (left r) 0)) 1 0) (ne_eqb _ _ other)
         ∙ ap (λ b. cond {A = ℕ} (not b) 1 0) (ne_eqb (left r) 0 (λ over. omega (arith, over, some)))

@@ -169,56 +169,59 @@ module _ (picks : Picks) (ranks : Entry → ℕ) (ranked : IsRanked picks ranks)
     stopped = ap (λ n. stops jobs (schedule_before picks jobs n)) (add-one t)
         ∙ stops_next picks jobs ranked.policy count t;
   }
-  leads_run (suc k) m t it = onward (leads_run k m t (leads_less ranks (suc k) (suc (suc k)) m t _ (omega arith) it)) where
-    next : ℕ
-    next = t + suc k
+  leads_run (suc k) m t it = onward (leads_run k m t (leads_less ranks (suc k) (suc (suc k)) m t _ (omega arith) it))
+    where
+      next : ℕ
+      next = t + suc k
 
-    onward : RunsFor k m t → RunsFor (suc k) m t
-    onward before = record {
-      tasks = ap (tasks_at picks jobs) one_more
-          ∙ ap (λ (n : ℕ). map (given n) (tasks_at picks jobs next)) is_m
-          ∙ ap (map (given m)) before.tasks
-          ∙ map_map (given m) (given_ticks (suc k) m) (tasks_at picks jobs t)
-          ∙ map_same (λ u. given m (given_ticks (suc k) m u)) (given_ticks (suc (suc k)) m) (tasks_at picks jobs t)
-          (λ u _. given_after (suc k) m u);
-      schedule = ap (schedule_before picks jobs) one_more
-          ∙ ap (λ (n : ℕ). schedule_before picks jobs next ++ n ∷ []) is_m
-          ∙ ap (λ s. s ++ m ∷ []) before.schedule
-          ∙ append_assoc (schedule_before picks jobs t) (replicate (suc k) m) (m ∷ [])
-          ∙ ap (λ s. schedule_before picks jobs t ++ s)
-          (replicate_more (suc k) m ∙ ap (λ (n : ℕ). replicate n m) (add-one (suc k)));
-      picks_it = before.picks_it;
-      last = ap (last_at picks jobs) one_more ∙ is_m;
-      stopped = ap (λ n. stops jobs (schedule_before picks jobs n)) one_more
-          ∙ stops_next picks jobs ranked.policy count next
-          ∙ ap (λ n. stops jobs (schedule_before picks jobs next) + n) none
-          ∙ (let same : stops jobs (schedule_before picks jobs next) + 0 ≡ stops jobs (schedule_before picks jobs next) =
-          omega arith in same)
-          ∙ before.stopped;
-    } where
-      one_more : t + suc (suc k) ≡ suc next
-      one_more = omega arith
+      onward : RunsFor k m t → RunsFor (suc k) m t
+      onward before = record {
+        tasks = ap (tasks_at picks jobs) one_more
+            ∙ ap (λ (n : ℕ). map (given n) (tasks_at picks jobs next)) is_m
+            ∙ ap (map (given m)) before.tasks
+            ∙ map_map (given m) (given_ticks (suc k) m) (tasks_at picks jobs t)
+            ∙ map_same (λ u. given m (given_ticks (suc k) m u)) (given_ticks (suc (suc k)) m) (tasks_at picks jobs t)
+            (λ u _. given_after (suc k) m u);
+        schedule = ap (schedule_before picks jobs) one_more
+            ∙ ap (λ (n : ℕ). schedule_before picks jobs next ++ n ∷ []) is_m
+            ∙ ap (λ s. s ++ m ∷ []) before.schedule
+            ∙ append_assoc (schedule_before picks jobs t) (replicate (suc k) m) (m ∷ [])
+            ∙ ap (λ s. schedule_before picks jobs t ++ s)
+            (replicate_more (suc k) m ∙ ap (λ (n : ℕ). replicate n m) (add-one (suc k)));
+        picks_it = before.picks_it;
+        last = ap (last_at picks jobs) one_more ∙ is_m;
+        stopped = ap (λ n. stops jobs (schedule_before picks jobs n)) one_more
+            ∙ stops_next picks jobs ranked.policy count next
+            ∙ ap (λ n. stops jobs (schedule_before picks jobs next) + n) none
+            ∙ (let same : stops jobs (schedule_before picks jobs next) + 0
+            ≡ stops jobs (schedule_before picks jobs next) =
+            omega arith in same)
+            ∙ before.stopped;
+      } where
+        one_more : t + suc (suc k) ≡ suc next
+        one_more = omega arith
 
-      longer : Leads ranks (suc k + 1) m t (tasks_at picks jobs t)
-      longer = leads_less ranks (suc k + 1) (suc (suc k)) m t (tasks_at picks jobs t) (omega arith) it
+        longer : Leads ranks (suc k + 1) m t (tasks_at picks jobs t)
+        longer = leads_less ranks (suc k + 1) (suc (suc k)) m t (tasks_at picks jobs t) (omega arith) it
 
-      after : Leads ranks 1 m next (tasks_at picks jobs next)
-      after = subst (Leads ranks 1 m next) (sym before.tasks)
-          (leads_after picks ranks ranked (suc k) 1 m t (tasks_at picks jobs t) longer
-          (job_limits (good_at picks jobs good t longer.task longer.member)).worth)
+        after : Leads ranks 1 m next (tasks_at picks jobs next)
+        after = subst (Leads ranks 1 m next) (sym before.tasks)
+            (leads_after picks ranks ranked (suc k) 1 m t (tasks_at picks jobs t) longer
+            (job_limits (good_at picks jobs good t longer.task longer.member)).worth)
 
-      is_m : picked picks next (tasks_at picks jobs next) ≡ m
-      is_m = leads_picked zero m next after
+        is_m : picked picks next (tasks_at picks jobs next) ≡ m
+        is_m = leads_picked zero m next after
 
-      none : stopped_at picks jobs next ≡ 0
-      none = stops_none picks jobs next (λ u member same. inl (is_m ∙ sym before.last ∙ sym same))
+        none : stopped_at picks jobs next ≡ 0
+        none = stops_none picks jobs next (λ u member same. inl (is_m ∙ sym before.last ∙ sym same))
 
   -- of no entries none is picked
   picks_none : picks [] ≡ None
-  picks_none = by_pick (picks []) refl (ranked.policy [] (record { apart = tt; unfinished = λ e member. absurd member })) where
-    by_pick : (o : Option ℕ) → picks [] ≡ o → IsPick [] o → picks [] ≡ None
-    by_pick None e none = e
-    by_pick (Some n) e one = absurd one
+  picks_none =
+      by_pick (picks []) refl (ranked.policy [] (record { apart = tt; unfinished = λ e member. absurd member })) where
+        by_pick : (o : Option ℕ) → picks [] ≡ o → IsPick [] o → picks [] ≡ None
+        by_pick None e none = e
+        by_pick (Some n) e one = absurd one
 
   -- where no job is ready none is picked
   pub rests_idle : (t : ℕ) → Rests 1 t (tasks_at picks jobs t) → picked picks t (tasks_at picks jobs t) ≡ idle
@@ -244,7 +247,8 @@ module _ (picks : Picks) (ranks : Entry → ℕ) (ranked : IsRanked picks ranks)
   rests_run zero t it over = record {
     tasks = ap (tasks_at picks jobs) same;
     schedule = ap (schedule_before picks jobs) same ∙ sym (append-nil (schedule_before picks jobs t));
-    last = subst (λ (m : ℕ). Each (λ u. u.number ≡ last_at picks jobs m → left u ≡ 0) (tasks_at picks jobs m)) (sym same)
+    last = subst (λ (m : ℕ). Each (λ u. u.number ≡ last_at picks jobs m → left u ≡ 0) (tasks_at picks jobs m))
+        (sym same)
         over;
     stopped = ap (λ n. stops jobs (schedule_before picks jobs n)) same;
   } where
@@ -278,7 +282,8 @@ module _ (picks : Picks) (ranks : Entry → ℕ) (ranked : IsRanked picks ranks)
           ∙ stops_next picks jobs ranked.policy count next
           ∙ ap (λ n. stops jobs (schedule_before picks jobs next) + n)
           (stops_none picks jobs next (λ u member same. inr (before.last u member same)))
-          ∙ (let same : stops jobs (schedule_before picks jobs next) + 0 ≡ stops jobs (schedule_before picks jobs next) =
+          ∙ (let same : stops jobs (schedule_before picks jobs next) + 0
+          ≡ stops jobs (schedule_before picks jobs next) =
           omega arith in same)
           ∙ before.stopped;
     } where

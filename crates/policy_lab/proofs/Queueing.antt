@@ -42,10 +42,12 @@ queue_begins ranks tasks = record {
   past = λ task member low. absurd (omega (arith, low));
 }
 
-module _ (ranks : Entry → ℕ) (t released : ℕ) (kept : List (ℕ × ℕ)) (tasks : List Task) (numbered : IsNumberedFrom 0 tasks)
+module _ (ranks : Entry → ℕ) (t released : ℕ) (kept : List (ℕ × ℕ)) (tasks : List Task)
+    (numbered : IsNumberedFrom 0 tasks)
     (low : Each (λ u. u.number < 1_000_000) tasks) where
   -- the next job is released, and out
-  pub queue_comes : Each (λ u. u.number ≡ released → u.job.release ≤ t) tasks → HasQueue ranks t released idle kept tasks
+  pub queue_comes : Each (λ u. u.number ≡ released → u.job.release ≤ t) tasks
+      → HasQueue ranks t released idle kept tasks
       → HasQueue ranks t (released + 1) released kept tasks
   queue_comes now it = record {
     each = λ k member. more k (it.each k member);
@@ -92,7 +94,8 @@ module _ (ranks : Entry → ℕ) (t released : ℕ) (kept : List (ℕ × ℕ)) (
       by_number : (u : Task) → IsMember u tasks → u.number < released → is_ready t u ≡ true
           → (u.number ≡ task.number) ⊎ (u.number ≡ task.number → ⊥) → IsMember (kept_as ranks u) kept
       by_number u at below ready (inl same) =
-          absurd (over (subst (λ (v : Task). is_ready t v ≡ true) (one_number 0 tasks numbered u task at member same) ready))
+          absurd
+          (over (subst (λ (v : Task). is_ready t v ≡ true) (one_number 0 tasks numbered u task at member same) ready))
       by_number u at below ready (inr other) = it.all u at below other ready
 
     -- it is put back

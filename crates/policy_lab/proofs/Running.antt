@@ -1,6 +1,7 @@
 -- A policy's run, from one release or completion to the next.
 use Rattle.std.proofs.Common.{◌≡◌, ℕ, zero, suc, ◌+◌, ◌-◌, ◌*◌, ◌%◌, ◌^◌, ◌≤◌, ◌<◌, ◌⊎◌, inl, inr, List, [], ◌∷◌, ◌++◌}
-use Rattle.std.proofs.Common.{length, map, replicate, refl, sym, ap, ◌∙◌, subst, Bool, true, false, cond, arith, eqb, sum_by}
+use Rattle.std.proofs.Common.{length, map, replicate, refl, sym, ap, ◌∙◌, subst, Bool, true, false, cond, arith, eqb}
+use Rattle.std.proofs.Common.{sum_by}
 use Rattle.std.proofs.Common.{◌||◌, IsPermutation, Some, slice_get, nat_cmp, is_lt, eq-eqb, ne_eqb}
 use Rattle.std.specs.declared.cmp.Ordering.{Ordering}
 use Rattle.std.specs.declared.cmp.Ordering.TheVariants.{Less, Equal, Greater}
@@ -142,7 +143,8 @@ module _ (picks : Picks) (ranks : Entry → ℕ) (ranked : IsRanked picks ranks)
         let it = task_of t released next.0 next.1 in
         let release : it.0.job.release ≡ next.0.release = ap (λ (j : JobFacts). j.release) it.3 in
         let rise : it.0.job.release ≤ u.job.release =
-        releases_rise 0 (at t) (numbered_at picks jobs t) (subst ReleasesInOrder (sym (jobs_at picks jobs t)) order) it.0
+        releases_rise 0 (at t) (numbered_at picks jobs t)
+        (subst ReleasesInOrder (sym (jobs_at picks jobs t)) order) it.0
         u it.1 member (omega (arith, it.2, high)) in
         omega (arith, next.2, release, rise)
 
@@ -229,8 +231,15 @@ module _ (picks : Picks) (ranks : Entry → ℕ) (ranked : IsRanked picks ranks)
     queue = queue_pushed ranks t (released + 1) (kept_of turns) (at t) (numbered_at picks jobs t) (few_numbers t) it.0
         it.1 (omega (arith, it.2)) (kept_of now)
         (subst (λ n. HasQueue ranks t (released + 1) n (kept_of turns) (at t)) (sym it.2)
-        (queue_comes ranks t released (kept_of turns) (at t) (numbered_at picks jobs t) (few_numbers t) comes run.queue))
-        (omega (arith, all_left, (job_limits (good_at picks jobs good t it.0 it.1)).work, ap (λ (x : JobFacts). x.work) it.3))
+        (queue_comes ranks t released (kept_of turns) (at t) (numbered_at picks jobs t)
+        (few_numbers t) comes run.queue))
+        (omega (
+          arith,
+          all_left,
+          (job_limits (good_at picks jobs good t it.0 it.1)).work,
+          ap
+              (λ (x : JobFacts). x.work) it.3,
+        ))
         (subst (λ k. IsPermutation (k ∷ kept_of turns) (kept_of now)) (sym as_kept) moved);
     ordered = keeps run.ordered;
     ahead = λ u member high. run.ahead u member (omega (arith, high));
@@ -276,7 +285,8 @@ module _ (picks : Picks) (ranks : Entry → ℕ) (ranked : IsRanked picks ranks)
   -- ---- the first of the jobs
 
   -- the job that was taken out: the others are kept, and no other that is ready has so small a turn
-  pub record IsTaken (t released : ℕ) (tally : Tally) (n amount : ℕ) (now : List Turn) (pieces : List Piece) : Type 0 where
+  pub record IsTaken (t released : ℕ) (tally : Tally) (n amount : ℕ) (now : List Turn)
+      (pieces : List Piece) : Type 0 where
     pub task : Task
     pub member : IsMember task (at t)
     pub number : task.number ≡ n
@@ -310,7 +320,8 @@ module _ (picks : Picks) (ranks : Entry → ℕ) (ranked : IsRanked picks ranks)
         → (u.number ≡ x.0.0 % 2 ^ 20) ⊎ (turn_by ranks (entry_of found.0) < turn_by ranks (entry_of u))
     first_one u member below ready (inl same) = inl (same ∙ named)
     first_one u member below ready (inr other) = by_place
-        (member_moved (x.0 ∷ kept_of now) (kept_of turns) (IsPermutation-sym (kept_of turns) (x.0 ∷ kept_of now) kept_moved)
+        (member_moved (x.0 ∷ kept_of now) (kept_of turns)
+        (IsPermutation-sym (kept_of turns) (x.0 ∷ kept_of now) kept_moved)
         (kept_as ranks u)
         (run.queue.all u member below (λ same. omega (arith, same, few_numbers t u member)) ready)) where
           by_place : (kept_as ranks u ≡ x.0) ⊎ IsMember (kept_as ranks u) (kept_of now)
@@ -385,7 +396,8 @@ module _ (picks : Picks) (ranks : Entry → ℕ) (ranked : IsRanked picks ranks)
     pub run_late : (j : JobFacts) → slice_get jobs n ≡ Some j → j.deadline < t + amount
         → HasRun picks ranks jobs t (t + 1) released idle tally now pieces
     run_late j found late = record {
-      queue = queue_ends ranks t released (kept_of now) (at t) (numbered_at picks jobs t) (few_numbers t) it.task it.member
+      queue = queue_ends ranks t released (kept_of now) (at t) (numbered_at picks jobs t)
+          (few_numbers t) it.task it.member
           (subst (λ m. m < released) (sym it.number) it.low)
           (subst (λ m. HasQueue ranks t released m (kept_of now) (at t)) (sym it.number) it.run.queue)
           (λ ready. omega (
@@ -488,7 +500,8 @@ module _ (picks : Picks) (ranks : Entry → ℕ) (ranked : IsRanked picks ranks)
 
     after_member : IsMember after (at until)
     after_member = subst (IsMember after) (sym came.0)
-        (subst (λ (u : Task). IsMember u (map (given_ticks (suc j) n) (at t))) (given_here (suc j) n next.task next.number)
+        (subst (λ (u : Task). IsMember u (map (given_ticks (suc j) n) (at t)))
+        (given_here (suc j) n next.task next.number)
         (map_member (given_ticks (suc j) n) (at t) next.task next.member))
 
     queue_then : HasQueue ranks until released after.number (kept_of turns) (at until)
@@ -535,7 +548,8 @@ module _ (picks : Picks) (ranks : Entry → ℕ) (ranked : IsRanked picks ranks)
         on_both false b e = ap (λ c. cond {A = ℕ} c 0 1) e
 
       by_last : (tally.last ≡ idle) ⊎ ((u : Task) × IsMember u (at t) × (u.number ≡ tally.last)
-          × (tally.last ≡ last_at picks jobs t) × (is_ready t u ≡ true)) → stopped_at picks jobs t ≡ stop_by tally.last n
+          × (tally.last ≡ last_at picks jobs t) × (is_ready t u ≡ true)) → stopped_at picks jobs t
+          ≡ stop_by tally.last n
       by_last (inl is) = stops_none picks jobs t (λ u member same. by_first u member same (run.counts.last.over is))
           ∙ sym (none_by (inl is)) where
             by_first : (u : Task) → IsMember u (at t) → u.number ≡ last_at picks jobs t
@@ -651,7 +665,8 @@ module _ (picks : Picks) (ranks : Entry → ℕ) (ranked : IsRanked picks ranks)
           ticks = omega (arith, later)
 
           ended : (u : Task) → IsMember u (at until) → u.number ≡ n → left u ≡ 0
-          ended u member same = ap left (one_number 0 (at until) (numbered_at picks jobs until) u after member after_member
+          ended u member same =
+              ap left (one_number 0 (at until) (numbered_at picks jobs until) u after member after_member
               (same ∙ sym next.number)) ∙ (let over : left after ≡ 0 = omega (arith, left_after, all) in over)
 
     -- it isn't, and is put back
@@ -707,7 +722,11 @@ module _ (picks : Picks) (ranks : Entry → ℕ) (ranked : IsRanked picks ranks)
           kept_with : ℕ → ℕ → ℕ × ℕ
           kept_with m l = (turn_by ranks (entry_with m l next.task.job), l)
 
-          as_kept : kept_as ranks after ≡ (turn_by ranks (entry_with n (amount - (until - t)) next.task.job), amount - (until - t))
+          as_kept : kept_as ranks after ≡ (
+            turn_by ranks (entry_with n (amount - (until - t)) next.task.job),
+            amount -
+                (until - t),
+          )
           as_kept = ap (λ m. kept_with m (left after)) next.number ∙ ap (kept_with n) left_after
 
   -- ---- no job runs
@@ -764,14 +783,16 @@ module _ (picks : Picks) (ranks : Entry → ℕ) (ranked : IsRanked picks ranks)
     until_of until later = omega (arith, later)
 
     -- what so many ticks come to
-    rested : (until : ℕ) → t ≤ until → NoneBefore jobs until released → RestsFor picks ranks ranked jobs good count (until - t) t
+    rested : (until : ℕ) → t ≤ until → NoneBefore jobs until released
+        → RestsFor picks ranks ranked jobs good count (until - t) t
     rested until later none = rests_run picks ranks ranked jobs good count (until - t) t
         (rests (until - t) (ahead_from t (t + (until - t)) released
         (subst (λ (m : ℕ). NoneBefore jobs m released) (sym (until_of until later)) none))) over_now
 
     -- it comes to the same numbers
     tally_rests : (until : ℕ) → t < until → NoneBefore jobs until released → HasTally picks jobs until tally
-    tally_rests until later none = subst (λ (m : ℕ). HasTally picks jobs m tally) (until_of until (omega (arith, later)))
+    tally_rests until later none = subst (λ (m : ℕ). HasTally picks jobs m tally)
+        (until_of until (omega (arith, later)))
         (record {
           value = run.counts.value ∙ ap (served_by (λ j. j.value)) (sym it.tasks);
           completed = run.counts.completed ∙ ap (served_by (λ j. 1)) (sym it.tasks);

@@ -1,5 +1,6 @@
 -- What both policies go by: the first entry in their orders has the least rank.
-use Rattle.std.proofs.Common.{◌≡◌, ◌≤◌, ◌<◌, ◌⊎◌, ◌+◌, ◌*◌, ◌/◌, ◌%◌, ◌^◌, ℕ, refl, List, [], ◌∷◌, Bool, true, false, cond}
+use Rattle.std.proofs.Common.{◌≡◌, ◌≤◌, ◌<◌, ◌⊎◌, ◌+◌, ◌*◌, ◌/◌, ◌%◌, ◌^◌, ℕ, refl, List, [], ◌∷◌, Bool, true, false}
+use Rattle.std.proofs.Common.{cond}
 use Rattle.std.proofs.Common.{option_map, inl, inr, fold, arith, ap, sym, ◌∙◌, subst, Some, ◌||◌, ◌&&◌, ◌==◌, nat_lt}
 use Rattle.std.proofs.lemmas.Nat.{mul-le, le-div, div_below}
 use Rattle.std.proofs.Math.Nat.{div-add-mod, mod-lt, add-mul}
@@ -135,7 +136,8 @@ thinner l v r w some more less = by_order (cases_lt (w * l) (v * r)) where
   on_numbers : (l v r w a b : ℕ) → 0 < v → 0 < w → v * r ≤ w * l → l * 1_000_000_000_000_000_000 + 1 ≤ (a + 1) * v
       → b * w ≤ r * 1_000_000_000_000_000_000 → a < b → ⊥
   on_numbers l v r w a b some more not above below less =
-      let one : (a + 1) * (v * w) ≤ b * (v * w) = mul-le (a + 1) (v * w) b (v * w) (omega (arith, less)) (omega arith) in
+      let one : (a + 1) * (v * w) ≤ b * (v * w) = mul-le (a + 1) (v * w) b (v * w) (omega (arith, less))
+      (omega arith) in
       let two : (b * w) * v ≤ (r * 1_000_000_000_000_000_000) * v =
       mul-le (b * w) v (r * 1_000_000_000_000_000_000) v below (omega arith) in
       let three : (l * 1_000_000_000_000_000_000 + 1) * w ≤ ((a + 1) * v) * w =
@@ -183,7 +185,8 @@ dense_alone p m = grind arith
 denser_by_turn : (e o : Entry) → IsEntry e → IsEntry o → turn_by thinness e < turn_by thinness o
     → (is_denser e o ≡ true) × (is_denser o e ≡ false)
 denser_by_turn e o good other less =
-    denser_by (o.value * e.left) (e.value * o.left) e.number o.number (by_rank (cases_lt (thinness e) (thinness o))) where
+    denser_by (o.value * e.left) (e.value * o.left) e.number o.number
+    (by_rank (cases_lt (thinness e) (thinness o))) where
       by_rank : (thinness e < thinness o) ⊎ (thinness o ≤ thinness e)
           → (o.value * e.left < e.value * o.left) ⊎ ((o.value * e.left ≡ e.value * o.left) × (e.number < o.number))
       by_rank (inl below) =

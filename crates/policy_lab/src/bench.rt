@@ -118,7 +118,8 @@ impl Bench {
         requires in_order { IsInOrder jobs.now }
         requires each { Each IsJob jobs.now }
         requires count { length jobs.now ≤ most_jobs Two }
-        requires run { StandsAt (P.picks _policy.now) (P.ranks _policy.now) jobs.now (self.old.clock + 1) idle self.old }
+        requires run { StandsAt (P.picks _policy.now) (P.ranks _policy.now) jobs.now
+            (self.old.clock + 1) idle self.old }
         ensures clock { self.new.clock ≡ self.old.clock }
         ensures released { self.new.released ≡ self.old.released }
         ensures some { IfSome result (λ x.
@@ -167,7 +168,8 @@ impl Bench {
         requires each { Each IsJob jobs.now }
         requires count { length jobs.now ≤ most_jobs Two }
         requires total { total_value jobs.now ≤ most_total Two }
-        requires run { StandsAt (P.picks policy.now) (P.ranks policy.now) jobs.now (self.old.clock + 1) number self.old }
+        requires run { StandsAt (P.picks policy.now) (P.ranks policy.now) jobs.now
+            (self.old.clock + 1) number self.old }
         requires next { IsNext (P.ranks policy.now) self.old.clock self.old.released number left
             (tasks_at (P.picks policy.now) jobs.now self.old.clock) }
         ensures run { OnOk result
@@ -201,7 +203,8 @@ impl Bench {
         requires in_order { IsInOrder jobs.now }
         requires each { Each IsJob jobs.now }
         requires count { length jobs.now ≤ most_jobs Two }
-        requires run { StandsAt (P.picks _policy.now) (P.ranks _policy.now) jobs.now (self.old.clock + 1) idle self.old }
+        requires run { StandsAt (P.picks _policy.now) (P.ranks _policy.now) jobs.now
+            (self.old.clock + 1) idle self.old }
         requires empty { heap_items self.old.waiting ≡ [] }
         ensures run { OnTrue result
             (StandsAt (P.picks _policy.now) (P.ranks _policy.now) jobs.now self.new.clock idle self.new) }

@@ -49,7 +49,8 @@ pub row_told : (picks : Picks) (rules : Rules) (word : List ℕ) (jobs others : 
     ≡ line_of word picks (record { rules = rules; jobs = others })
 row_told picks rules word jobs others same value completed stopped v c s =
     ap (λ n. with_numbers word (n ∷ completed ∷ stopped ∷ [])) v
-    ∙ ap (λ n. with_numbers word (worth (record { rules = rules; jobs = jobs }) (policy_run picks jobs) ∷ n ∷ stopped ∷ [])) c
+    ∙ ap (λ n. with_numbers word (worth (record { rules = rules; jobs = jobs })
+    (policy_run picks jobs) ∷ n ∷ stopped ∷ [])) c
     ∙ ap (λ n. with_numbers word (worth (record { rules = rules; jobs = jobs }) (policy_run picks jobs)
     ∷ served_count jobs (policy_run picks jobs) ∷ n ∷ [])) s
     ∙ ap (λ js. line_of word picks (record { rules = rules; jobs = js })) same
@@ -81,7 +82,8 @@ module _ (J : Instance) (valid : IsValid J) where
         ∙ ap (λ l. (with_numbers (codes "dover") (completed_value J ∷ []) ++ 10 ∷ [])
         ++ (in_lines (l ∷ policy_line dense ∷ []) ++ in_lines (bound_line ∷ []))) first
         ∙ ap (λ l. (with_numbers (codes "dover") (completed_value J ∷ []) ++ 10 ∷ [])
-        ++ (in_lines (line_of (codes "edf") earliest_deadline (observed J) ∷ l ∷ []) ++ in_lines (bound_line ∷ []))) second
+        ++ (in_lines (line_of (codes "edf") earliest_deadline (observed J) ∷ l ∷ []) ++ in_lines (bound_line ∷ [])))
+        second
         ∙ ap (λ t. (with_numbers (codes "dover") (completed_value J ∷ []) ++ 10 ∷ []) ++ t)
         (sym (in_lines-append (line_of (codes "edf") earliest_deadline (observed J)
         ∷ line_of (codes "dense") greatest_density (observed J) ∷ []) (bound_line ∷ []))),

@@ -500,7 +500,8 @@ module _ (k e : Fraction) (asked : Job → ℕ) (v w : ℕ) (busy : ℕ → Bool
         → Each (λ row. NamesOnce (row.taken ++ row.gone)) rows
         → Each (λ row. Each (IsAsked e asked v w) row.taken × Each (IsAsked e asked v w) row.gone) rows
         → Paid (sum_by (row_sum served_value) rows) (sum_by (λ row. row.had) rows)
-        (sum_by (row_sum (early busy s)) rows) (sum_by (λ row. row.interval.taken) rows) (sum_by (λ row. row.interval.regular) rows)
+        (sum_by (row_sum (early busy s)) rows) (sum_by (λ row. row.interval.taken) rows)
+        (sum_by (λ row. row.interval.regular) rows)
         (sum_by completed_in rows)
     rows_paid [] facts exact once is_asked = none_are_paid
     rows_paid (row ∷ rows) facts exact once is_asked =

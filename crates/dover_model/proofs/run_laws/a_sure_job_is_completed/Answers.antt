@@ -1,4 +1,5 @@
-use Rattle.dover_model.proofs.sure.Streams.{sure_streams, sure_streams_in_all, sure_of_stream, heavy_by_sum, heavy_by_sets}
+use Rattle.dover_model.proofs.sure.Streams.{sure_streams, sure_streams_in_all, sure_of_stream, heavy_by_sum}
+use Rattle.dover_model.proofs.sure.Streams.{heavy_by_sets}
 use Rattle.dover_model.proofs.run_laws.a_sure_job_is_completed.Goals as goal
 
 pub returns-clause-completed : goal.returns-clause-completed

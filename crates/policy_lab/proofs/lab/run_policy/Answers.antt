@@ -18,7 +18,8 @@ returns-in-Ok-clause-completed g c =
 
 pub returns-in-Ok-clause-stops : goal.returns-in-Ok-clause-stops
 returns-in-Ok-clause-stops g c =
-    c.in-Ok.ensures.stops ∙ ap (stops c.args.jobs.now) (sym (run_is (g.P.Policy.picks c.args.policy.now) c.args.jobs.now))
+    c.in-Ok.ensures.stops ∙ ap (stops c.args.jobs.now)
+    (sym (run_is (g.P.Policy.picks c.args.policy.now) c.args.jobs.now))
 
 pub returns-in-Ok-clause-pieces : goal.returns-in-Ok-clause-pieces
 returns-in-Ok-clause-pieces g c =

@@ -37,7 +37,8 @@ run_policy-requires-2-clause-in_order g c = subst IsInOrder (sym (c.deref-2.ensu
 
 pub run_policy-requires-2-clause-count : goal.run_policy-requires-2-clause-count
 run_policy-requires-2-clause-count g c =
-    subst (λ (js : List JobFacts). length js ≤ most_jobs Two) (sym (c.deref-2.ensures.value ∙ c.in_ok-dover.ensures.jobs))
+    subst (λ (js : List JobFacts). length js ≤ most_jobs Two)
+    (sym (c.deref-2.ensures.value ∙ c.in_ok-dover.ensures.jobs))
     (subst (λ n. n ≤ most_jobs Two) (sym (observed_count (listed_instance c.args.listed) c.requires.valid))
     (c.if-not-is_listable.ensures.0 refl).count)
 

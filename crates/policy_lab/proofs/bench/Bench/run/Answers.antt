@@ -43,7 +43,8 @@ complete-requires-clause-completed g c =
 pub complete-requires-clause-value : goal.complete-requires-clause-value
 complete-requires-clause-value g c =
     let job = next_job _ _ (g.met.P.Policy.law c.args.policy.now) c.args.jobs.now (order_parts c.requires.in_order)
-    c.requires.each c.requires.count c.args.self.now.clock c.args.self.now.released c.args.number c.args.left c.requires.next
+    c.requires.each c.requires.count c.args.self.now.clock c.args.self.now.released c.args.number c.args.left
+    c.requires.next
     c.index-jobs-number.result
     (next_found c.args.jobs.now c.args.number c.args.number c.index-jobs-number.result refl
     (omega (arith, c.requires.next.low, c.requires.run.few)) c.index-jobs-number.is) in
@@ -62,7 +63,8 @@ run-requires g c =
 pub returns-then-until-from-clause-run : goal.returns-then-until-from-clause-run
 returns-then-until-from-clause-run g c =
     let job = next_job _ _ (g.met.P.Policy.law c.args.policy.now) c.args.jobs.now (order_parts c.requires.in_order)
-    c.requires.each c.requires.count c.args.self.now.clock c.args.self.now.released c.args.number c.args.left c.requires.next
+    c.requires.each c.requires.count c.args.self.now.clock c.args.self.now.released c.args.number c.args.left
+    c.requires.next
     c.index-jobs-number.result
     (next_found c.args.jobs.now c.args.number c.args.number c.index-jobs-number.result refl
     (omega (arith, c.requires.next.low, c.requires.run.few)) c.index-jobs-number.is) in
@@ -84,7 +86,8 @@ returns-then-until-from-clause-run g c =
 pub put-requires-clause-fits : goal.put-requires-clause-fits
 put-requires-clause-fits g c =
     let job = next_job _ _ (g.met.P.Policy.law c.args.policy.now) c.args.jobs.now (order_parts c.requires.in_order)
-    c.requires.each c.requires.count c.args.self.now.clock c.args.self.now.released c.args.number c.args.left c.requires.next
+    c.requires.each c.requires.count c.args.self.now.clock c.args.self.now.released c.args.number c.args.left
+    c.requires.next
     c.index-jobs-number.result
     (next_found c.args.jobs.now c.args.number c.args.number c.index-jobs-number.result refl
     (omega (arith, c.requires.next.low, c.requires.run.few)) c.index-jobs-number.is) in
@@ -100,7 +103,8 @@ returns-clause-run g c =
     let ranks = g.P.Policy.ranks c.args.policy.now in
     let rest = c.args.left - (c.until-until.result - c.args.self.now.clock) in
     let job = next_job _ _ (g.met.P.Policy.law c.args.policy.now) c.args.jobs.now (order_parts c.requires.in_order)
-    c.requires.each c.requires.count c.args.self.now.clock c.args.self.now.released c.args.number c.args.left c.requires.next
+    c.requires.each c.requires.count c.args.self.now.clock c.args.self.now.released c.args.number c.args.left
+    c.requires.next
     c.index-jobs-number.result
     (next_found c.args.jobs.now c.args.number c.args.number c.index-jobs-number.result refl
     (omega (arith, c.requires.next.low, c.requires.run.few)) c.index-jobs-number.is) in

@@ -60,7 +60,8 @@ loop-turn-preserved g c =
     (c.in-Some.ensures.below_top c.loop-turn.invariant.0.ordered) in
     let low = taken_low _ _ law c.args.jobs.now order c.requires.each c.requires.count _ _ _ _ _ _ _ taken in
     let found = next_found _ _ _ c.index-jobs-number.result refl low c.index-jobs-number.is in
-    let most = taken_left _ _ law c.args.jobs.now order c.requires.each c.requires.count _ _ _ _ _ _ _ taken _ found in (
+    let most = taken_left _ _ law c.args.jobs.now order c.requires.each c.requires.count _ _ _ _ _ _ _ taken _ found
+    in (
       run_late _ _ law c.args.jobs.now order c.requires.each c.requires.count _ _ _ _ _ _ _ taken _ found
           (omega (arith, most, c.if-self-latest.false, c.deadline.ensures.is)),
       c.loop-turn.invariant.1,

@@ -8,7 +8,8 @@ use Rattle.policy_lab.proofs.bench.Bench.wait.Goals as goal
 
 pub returns-in-Some-clause-run : goal.returns-in-Some-clause-run
 returns-in-Some-clause-run g c =
-    subst (λ at. HasRun (g.P.Policy.picks c.args._policy.now) (g.P.Policy.ranks c.args._policy.now) c.args.jobs.now at at
+    subst (λ at. HasRun (g.P.Policy.picks c.args._policy.now)
+    (g.P.Policy.ranks c.args._policy.now) c.args.jobs.now at at
     c.args.self.now.released idle c.args.self.now.tally (heap_items c.args.self.now.waiting)
     c.args.self.now.pieces.items)
     (sym c.release-self.ensures.is)
