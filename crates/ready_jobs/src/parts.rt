@@ -37,6 +37,7 @@ use waiting_pool::{Pool, ShortTask, left};
 #[derive(Drop)]
 pub struct Parts {
     clock: u64,
+    // A job was abandoned, and since then some job was ready at each moment.
     pressed: bool,
     running: Option<Task>,
     fresh: Option<Task>,
@@ -169,14 +170,6 @@ impl Parts {
         ensures { result ≡ self.now.clock }
     {
         self.clock
-    }
-
-    /// Whether the state is pressed: a job was abandoned, and since then some job was ready at each moment.
-    #[inline(always)]
-    pub fn pressed(&self) -> bool
-        ensures { result ≡ self.now.pressed }
-    {
-        self.pressed
     }
 
     /// The version.

@@ -121,14 +121,6 @@ impl Ready {
         self.parts.room()
     }
 
-    /// Whether the state is pressed: a job was abandoned, and since then some job was ready at each moment.
-    #[inline(always)]
-    pub fn pressed(&self) -> bool
-        ensures { result ≡ self.now.pressed }
-    {
-        self.parts.pressed()
-    }
-
     /// The version of the rules.
     #[inline(always)]
     pub fn version(&self) -> Version
