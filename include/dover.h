@@ -42,7 +42,7 @@ extern "C" {
 
 /* A place for an engine: static, on a stack or in an arena, at a multiple of 8 bytes. From dover_init on nobody but
    these calls reads or writes it. It isn't moved or copied. */
-#define DOVER_WORDS 83
+#define DOVER_WORDS 90
 typedef struct { uint64_t opaque[DOVER_WORDS]; } dover;
 
 /* How many bytes an engine takes: at most sizeof(dover). Test it once, at the start. */

@@ -3,7 +3,7 @@
 #include <stdio.h>
 #include "dover.h"
 
-_Static_assert(sizeof(dover) == 664, "a place is 83 words");
+_Static_assert(sizeof(dover) == 720, "a place is 90 words");
 _Static_assert(sizeof(dover_admitted) == 16 && offsetof(dover_admitted, status) == 8, "as the library lays it out");
 _Static_assert(sizeof(dover_decision) == 32 && offsetof(dover_decision, kind) == 24, "as the library lays it out");
 

@@ -7,7 +7,7 @@ use std::mem::MaybeUninit;
 const MADE: u32 = 5;
 
 #[repr(C, align(8))]
-struct Place([u64; 83]);
+struct Place([u64; 90]);
 
 /// The answer to a job: status 0 and its number, or why it wasn't admitted, with the job that breaks the ratio.
 #[repr(C)]
