@@ -2,7 +2,9 @@
 use Rattle.std.proofs.Common.{◌≡◌, [], ◌∷◌, ◌++◌, refl, codes, Some, None}
 use Rattle.std.specs.Fmt.{digits}
 use Rattle.dover_model.specs.Instance.{Instance}
-use Rattle.dover_model.specs.Common.{fraction, Version, Three, Four}
+use Rattle.dover_model.specs.Common.{fraction}
+use Rattle.dover_model.specs.declared.events.Version.{Version}
+use Rattle.dover_model.specs.declared.events.Version.TheVariants.{Three, Four}
 use Rattle.dover_model.proofs.rows.Written.{job, one}
 use Rattle.run_reports.proofs.report.WorkedRows.{finish, finishing, held_and_early, anomaly, took_and_early}
 use Rattle.run_reports.proofs.report.WorkedRows.{with_a_factor}
