@@ -4,6 +4,7 @@ use Rattle.std.proofs.Common.{append_assoc, append-nil, add-one, drop-cons, Bool
 use Rattle.std.proofs.lemmas.List.{drop_all}
 use Rattle.std.specs.List.{AllByRecursion}
 use Rattle.dover_model.specs.declared.events.Event.{Event}
+use Rattle.dover_model.specs.declared.events.Version.{Version}
 use Rattle.dover_model.specs.Common.{JobFacts, Instance, served, Fraction}
 use Rattle.run_reports.specs.report.Counts.{jobs_released}
 use Rattle.run_reports.proofs.report.Counting.{jobs_are}
@@ -32,11 +33,11 @@ pub same_weighed : (worth room work work2 left left2 : ℕ) → work ≡ work2 �
     ≡ (let y : Weighed = record { worth = worth; work = work2; room = room; left = left2 } in y)
 same_weighed worth room work work2 left left2 e f = cc
 
-module _ (k : Fraction) (n value : ℕ) (jobs : List JobFacts) (had : List ℕ) (steps : List Event)
+module _ (version : Version) (k : Fraction) (n value : ℕ) (jobs : List JobFacts) (had : List ℕ) (steps : List Event)
     (worths rooms : List ℕ) where
   -- what is to be told from a place on
   abbrev pub rest : Bool → ℕ → List ℕ
-  rest on i = story_from k n value jobs had on (drop i steps) (drop i worths) (drop i rooms)
+  rest on i = story_from version k n value jobs had on (drop i steps) (drop i worths) (drop i rooms)
 
   -- one step more
   pub told_more : (i : ℕ) (e : Event) (w r : ℕ) (on starts turned : Bool) (x : Weighed) (text more whole : List ℕ)
@@ -44,21 +45,23 @@ module _ (k : Fraction) (n value : ℕ) (jobs : List JobFacts) (had : List ℕ) 
       → length worths ≡ length steps → length rooms ≡ length steps
       → starts ≡ starts_first n (drop (i + 1) steps) → turned ≡ on_after n on e
       → x ≡ weighed_at jobs had w r e
-      → more ≡ text ++ told k n value on starts x e → text ++ rest on i ≡ whole
+      → more ≡ text ++ told version k n value on starts x e → text ++ rest on i ≡ whole
       → more ++ rest turned (i + 1) ≡ whole
   told_more i e w r on starts turned x text more whole is weighs leaves there same as_many begins turns about longer
       before =
       let es = drop (i + 1) steps in let ws = drop (i + 1) worths in let rs = drop (i + 1) rooms in
-      ap (λ t. t ++ rest turned (i + 1)) longer ∙ append_assoc text (told k n value on starts x e) (rest turned (i + 1))
-      ∙ ap (λ b. text ++ (told k n value on starts x e ++ story_from k n value jobs had b es ws rs)) turns
-      ∙ ap (λ b. text ++ (told k n value on b x e ++ story_from k n value jobs had (on_after n on e) es ws rs)) begins
-      ∙ ap (λ y. text ++ (told k n value on (starts_first n es) y e
-      ++ story_from k n value jobs had (on_after n on e) es ws rs)) about
-      ∙ ap (λ zs. text ++ story_from k n value jobs had on (e ∷ es) (w ∷ ws) zs)
+      ap (λ t. t ++ rest turned (i + 1)) longer
+      ∙ append_assoc text (told version k n value on starts x e) (rest turned (i + 1))
+      ∙ ap (λ b. text ++ (told version k n value on starts x e ++ story_from version k n value jobs had b es ws rs)) turns
+      ∙ ap (λ b. text ++ (told version k n value on b x e
+      ++ story_from version k n value jobs had (on_after n on e) es ws rs)) begins
+      ∙ ap (λ y. text ++ (told version k n value on (starts_first n es) y e
+      ++ story_from version k n value jobs had (on_after n on e) es ws rs)) about
+      ∙ ap (λ zs. text ++ story_from version k n value jobs had on (e ∷ es) (w ∷ ws) zs)
       (sym (one_next rooms i r leaves (omega (arith, there, as_many))))
-      ∙ ap (λ ys. text ++ story_from k n value jobs had on (e ∷ es) ys (drop i rooms))
+      ∙ ap (λ ys. text ++ story_from version k n value jobs had on (e ∷ es) ys (drop i rooms))
       (sym (one_next worths i w weighs (omega (arith, there, same))))
-      ∙ ap (λ xs. text ++ story_from k n value jobs had on xs (drop i worths) (drop i rooms))
+      ∙ ap (λ xs. text ++ story_from version k n value jobs had on xs (drop i worths) (drop i rooms))
       (sym (one_next steps i e is there))
       ∙ before
 
@@ -67,7 +70,7 @@ module _ (k : Fraction) (n value : ℕ) (jobs : List JobFacts) (had : List ℕ) 
       → text ≡ whole
   told_all i on text whole past before =
       sym (append-nil text)
-      ∙ ap (λ xs. text ++ story_from k n value jobs had on xs (drop i worths) (drop i rooms))
+      ∙ ap (λ xs. text ++ story_from version k n value jobs had on xs (drop i worths) (drop i rooms))
       (sym (drop_all i steps past))
       ∙ before
 
@@ -89,14 +92,17 @@ module _ (k : Fraction) (steps : List Event) (J : Instance) (of : IsRunOf k step
   why_some j text some is = is ∙ ap (answer n J) (sym (ap (λ js. slice_get js n) (sym same_jobs) ∙ some))
 
 -- the job's story
-pub story_is : (k : Fraction) (steps : List Event) (J : Instance) → IsRunOf k steps J → (n : ℕ) (jobs : List JobFacts)
-    → jobs ≡ J.jobs → (j : JobFacts) (a b c : List ℕ) → a ≡ [] → b ≡ a ++ asked n j
-    → c ≡ b ++ story_from k n j.value jobs (served J) false steps (weights J) (rooms J) → c ≡ answer n J (Some j)
-story_is k steps J of n jobs same j a b c first middle last =
-    last ∙ ap (λ t. t ++ story_from k n j.value jobs (served J) false steps (weights J) (rooms J))
+pub story_is : (version : Version) (k : Fraction) (steps : List Event) (J : Instance) → IsRunOf k steps J → (n : ℕ)
+    (jobs : List JobFacts) → jobs ≡ J.jobs → J.rules.version ≡ version → (j : JobFacts) (a b c : List ℕ) → a ≡ []
+    → b ≡ a ++ asked n j
+    → c ≡ b ++ story_from version k n j.value jobs (served J) false steps (weights J) (rooms J)
+    → c ≡ answer n J (Some j)
+story_is version k steps J of n jobs same under j a b c first middle last =
+    let tells = λ (v : Version) (r : Fraction) (js : List JobFacts) (es : List Event).
+        asked n j ++ story_from v r n j.value js (served J) false es (weights J) (rooms J) in
+    last ∙ ap (λ t. t ++ story_from version k n j.value jobs (served J) false steps (weights J) (rooms J))
     (middle ∙ ap (λ t. t ++ asked n j) first)
-    ∙ ap (λ (r : Fraction). asked n j ++ story_from r n j.value jobs (served J) false steps (weights J) (rooms J))
-    (sym of.ratio)
-    ∙ ap (λ js. asked n j ++ story_from J.rules.ratio n j.value js (served J) false steps (weights J) (rooms J)) same
-    ∙ ap (λ es. asked n j ++ story_from J.rules.ratio n j.value J.jobs (served J) false es (weights J) (rooms J))
-    (sym of.prints)
+    ∙ ap (λ v. tells v k jobs steps) (sym under)
+    ∙ ap (λ r. tells J.rules.version r jobs steps) (sym of.ratio)
+    ∙ ap (λ js. tells J.rules.version J.rules.ratio js steps) same
+    ∙ ap (tells J.rules.version J.rules.ratio J.jobs) (sym of.prints)

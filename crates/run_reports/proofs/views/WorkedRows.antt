@@ -2,6 +2,9 @@
 use Rattle.std.proofs.Common.{◌≡◌, [], ◌∷◌, ◌++◌, refl, codes, Some, None}
 use Rattle.std.specs.Fmt.{digits}
 use Rattle.dover_model.specs.Instance.{Instance}
+use Rattle.dover_model.specs.Common.{fraction}
+use Rattle.dover_model.specs.declared.events.Version.{Version}
+use Rattle.dover_model.specs.declared.events.Version.TheVariants.{Three, Four}
 use Rattle.dover_model.proofs.rows.Written.{job, one}
 use Rattle.run_reports.proofs.report.WorkedRows.{finish, finishing, held_and_early, anomaly, took_and_early}
 use Rattle.run_reports.proofs.report.WorkedRows.{with_a_factor}
@@ -64,6 +67,37 @@ waits_behind : why 1 (one 1 1 (job 0 3 10 3 ∷ job 1 2 12 2 ∷ [])) ≡
     ++ codes "at 5 it is completed\n"
 unfolding digits filled
 waits_behind = refl
+
+-- in version Four a job that is due earlier waits too, where it is less dense once a job was abandoned
+abbrev pressed : Version → Instance
+pressed version = record {
+  rules = record { ratio = fraction 10 1; version = version; finishes = [] };
+  jobs = job 3 2 8 18 ∷ job 3 2 8 16 ∷ job 3 4 7 8 ∷ job 4 3 7 12 ∷ [];
+}
+
+waits_less_dense : why 3 (pressed Four) ≡
+    codes "job 3: release 4, work 3, deadline 7, value 12\n"
+    ++ codes "at 4 it waits, due no earlier than the job that runs or less dense, its work 3 within the room 3\n"
+    ++ codes "at 4 it is abandoned, its value 12 against 18 under way: 1 * 0^2 = 0 not above 10 * 18^2 = 3240; heavy from 75 on, with this value for no k\n"
+unfolding digits filled tested greatest_ratio
+waits_less_dense = refl
+
+-- and one that is due no earlier, whose line is the same
+waits_behind_in_four : why 1 (pressed Four) ≡
+    codes "job 1: release 3, work 2, deadline 8, value 16\n"
+    ++ codes "at 3 it waits, due no earlier than the job that runs or less dense, its work 2 within the room 3\n"
+    ++ codes "at 5 it runs\n"
+    ++ codes "at 7 it is completed\n"
+unfolding digits filled
+waits_behind_in_four = refl
+
+-- in version Three it preempts
+preempts_in_three : why 3 (pressed Three) ≡
+    codes "job 3: release 4, work 3, deadline 7, value 12\n"
+    ++ codes "at 4 it preempts job 0, which is due later, its work 3 within the room 3\n"
+    ++ codes "at 7 it is completed\n"
+unfolding digits filled
+preempts_in_three = refl
 
 greatest_number : why 4_294_967_295 take_over ≡
     codes "no job 4294967295 among 3\n"

@@ -1,11 +1,12 @@
 -- What happened to one job of a run, and by which test.
-use Rattle.std.specs.Prelude.{ℕ, ◌-◌, ◌*◌, List, [], ◌∷◌, ◌++◌, length, Bool, false, not, ◌&&◌, ◌||◌, ◌==◌}
+use Rattle.std.specs.Prelude.{ℕ, ◌-◌, ◌*◌, List, [], ◌∷◌, ◌++◌, length, Bool, true, false, not, ◌&&◌, ◌||◌, ◌==◌}
 use Rattle.std.specs.Prelude.{nat_le, nat_lt, if◌then◌else◌, Option, Some, None, slice_get, codes, decimal}
 use Rattle.std.specs.Option.{option_map_or}
 use Rattle.dover_model.specs.declared.events.Event.{Event}
 use Rattle.dover_model.specs.declared.events.Event.TheVariants.{Release, Run, Preempt, Take, Complete, Abandon, End}
 use Rattle.dover_model.specs.Common.{Fraction, fraction, greatest, JobFacts, Instance, most_p, served, is_heavy}
-use Rattle.dover_model.specs.Common.{printed}
+use Rattle.dover_model.specs.Common.{printed, by_density}
+use Rattle.dover_model.specs.declared.events.Version.{Version}
 use Rattle.dover_model.specs.declared.factors.Factor.{Factor}
 use Rattle.root_compare.specs.Least.{least_heavy}
 use Rattle.run_reports.specs.report.Early.{left_at}
@@ -100,16 +101,19 @@ preempted n at stops starts work room = if starts == n
     then filled (preempts_line (nat_le work room)) (at ∷ stops ∷ work ∷ room ∷ [])
     else (if stops == n then filled (preempted_line (nat_le work room)) (at ∷ starts ∷ work ∷ room ∷ []) else [])
 
--- where its work is within the room, a fresh job waits since it is due no earlier than the job that runs
-abbrev pub waits_line : (fits : Bool) → Text
-waits_line fits = if fits
-    then codes "at @ it waits, due no earlier than the job that runs, its work @ within the room @\n"
+-- where its work is within the room, a fresh job waits since it is due no earlier than the job that runs, or else is
+-- less dense in a pressed state, if the version then chooses by density
+abbrev pub waits_line : Version → (fits : Bool) → Text
+waits_line version fits = if fits
+    then (if by_density version true
+        then codes "at @ it waits, due no earlier than the job that runs or less dense, its work @ within the room @\n"
+        else codes "at @ it waits, due no earlier than the job that runs, its work @ within the room @\n")
     else codes "at @ it waits, its work @ above the room @\n"
 
 -- what a release means for job n, which starts at once or else waits
-abbrev pub arrived : (n m at : ℕ) (starts : Bool) (work room : ℕ) → Text
-arrived n m at starts work room = if (m == n) && not starts
-    then filled (waits_line (nat_le work room)) (at ∷ work ∷ room ∷ []) else []
+abbrev pub arrived : Version → (n m at : ℕ) (starts : Bool) (work room : ℕ) → Text
+arrived version n m at starts work room = if (m == n) && not starts
+    then filled (waits_line version (nat_le work room)) (at ∷ work ∷ room ∷ []) else []
 
 -- what a take means for job n of this value, which runs or is held where on is true
 abbrev pub taken : Fraction → (n value : ℕ) → Bool → (at stops starts worth : ℕ) → Text
@@ -127,14 +131,14 @@ work_of jobs (Complete at n) = work_in jobs n
 work_of jobs _ = 0
 
 -- what a step means for it, which starts next or doesn't
-abbrev pub told : Fraction → (n value : ℕ) → (on starts : Bool) → Weighed → Event → Text
-told k n value on starts x (Release m job) = arrived n m job.release starts job.work x.room
-told k n value on starts x (Run at m) = own (m == n) at (codes "at @ it runs\n")
-told k n value on starts x (Preempt at stops new) = preempted n at stops new x.work x.room
-told k n value on starts x (Take at stops new) = taken k n value on at stops new x.worth
-told k n value on starts x (Complete at m) = completed (m == n) at x.left x.work
-told k n value on starts x (Abandon at m) = gone k n value at m x.worth
-told k n value on starts x (End sum) = []
+abbrev pub told : Version → Fraction → (n value : ℕ) → (on starts : Bool) → Weighed → Event → Text
+told version k n value on starts x (Release m job) = arrived version n m job.release starts job.work x.room
+told version k n value on starts x (Run at m) = own (m == n) at (codes "at @ it runs\n")
+told version k n value on starts x (Preempt at stops new) = preempted n at stops new x.work x.room
+told version k n value on starts x (Take at stops new) = taken k n value on at stops new x.worth
+told version k n value on starts x (Complete at m) = completed (m == n) at x.left x.work
+told version k n value on starts x (Abandon at m) = gone k n value at m x.worth
+told version k n value on starts x (End sum) = []
 
 -- whether job n runs or is held after a step
 abbrev pub on_after : ℕ → Bool → Event → Bool
@@ -157,12 +161,12 @@ weighed_at jobs served worth room e =
     record { worth = worth; work = work_of jobs e; room = room; left = left_at jobs served e }
 
 -- what these steps mean for it, before each of which the jobs under way are worth so much and leave so much room
-abbrev pub story_from : Fraction → (n value : ℕ) → List JobFacts → (served : List ℕ) → Bool → List Event
+abbrev pub story_from : Version → Fraction → (n value : ℕ) → List JobFacts → (served : List ℕ) → Bool → List Event
     → (worths rooms : List ℕ) → Text
-story_from k n value jobs served on (e ∷ steps) (worth ∷ worths) (room ∷ rooms) =
-    told k n value on (starts_first n steps) (weighed_at jobs served worth room e) e
-    ++ story_from k n value jobs served (on_after n on e) steps worths rooms
-story_from k n value jobs served on _ _ _ = []
+story_from version k n value jobs served on (e ∷ steps) (worth ∷ worths) (room ∷ rooms) =
+    told version k n value on (starts_first n steps) (weighed_at jobs served worth room e) e
+    ++ story_from version k n value jobs served (on_after n on e) steps worths rooms
+story_from version k n value jobs served on _ _ _ = []
 
 -- there is no such job
 abbrev pub unknown : ℕ → ℕ → Text
@@ -171,8 +175,8 @@ unknown n count = filled (codes "no job @ among @\n") (n ∷ count ∷ [])
 -- the text on job n, if there is one
 abbrev pub answer : ℕ → Instance → Option JobFacts → Text
 answer n J None = unknown n (length J.jobs)
-answer n J (Some j) = asked n j ++ story_from J.rules.ratio n j.value J.jobs (served J) false (printed J) (weights J)
-    (rooms J)
+answer n J (Some j) = asked n j ++ story_from J.rules.version J.rules.ratio n j.value J.jobs (served J) false
+    (printed J) (weights J) (rooms J)
 
 -- the whole text
 abbrev pub why : ℕ → Instance → Text

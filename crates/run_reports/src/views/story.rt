@@ -1,12 +1,12 @@
 //! What happened to one job.
 ghost use Rattle.std.specs.Prelude.{◌≡◌, ◌≤◌, ◌++◌, ◌∷◌, ◌*◌, List, Some, None, false, length, drop, OnOk, IfOk};
-ghost use Rattle.std.specs.Prelude.{IsTrue};
+ghost use Rattle.std.specs.Prelude.{IsTrue, true};
 ghost use Rattle.std.specs.List.{AllByRecursion};
 ghost use Rattle.run_record.specs.intervals.Rows.{IsRunOf};
 ghost use Rattle.run_record.specs.intervals.Rows as rows;
 ghost use Rattle.run_record.specs.ledger.Rooms as tests;
 ghost use Rattle.dover_model.specs.declared.events.Event.{Event};
-ghost use Rattle.dover_model.specs.Common.{Fraction, Instance, most_total, most_value};
+ghost use Rattle.dover_model.specs.Common.{by_density, Fraction, Instance, most_total, most_value};
 ghost use Rattle.dover_model.specs.Fraction.{is_factor};
 ghost use Rattle.dover_model.specs.Observed as observed;
 ghost use Rattle.dover_model.specs.declared.events.Version.TheVariants.{Two};
@@ -15,7 +15,7 @@ ghost use Rattle.run_reports.specs.views.Why as story;
 use crate::report::{left_at, released};
 use crate::views::template::{put, put_wide};
 use crate::views::threshold::greatest_ratio;
-use dover_model::{Event, Factor, Job, Memory, PackedEvent, Ratio};
+use dover_model::{Event, Factor, Job, Memory, PackedEvent, Ratio, Version};
 use root_compare::least_heavy;
 use run_record::intervals::weights;
 use run_record::ledger::{rooms, served};
@@ -24,6 +24,8 @@ use std::alloc::Global;
 /// The job that is asked about.
 #[derive(Clone, Copy)]
 pub struct Asked {
+    /// The version of its run.
+    pub version: Version,
     /// The ratio of its run.
     pub k: Ratio,
     /// Its number.
@@ -45,23 +47,31 @@ pub struct Weighed {
     pub left: u64,
 }
 
-/// What happened to the job of this number in the run that prints these steps, and by which test, line by line; one
-/// line where there is no such job. The jobs of the run are valid for the ratio `k`, and within the limits of version
-/// Two. Want of memory is the only error.
-pub fn why(alloc: Global, k: Ratio, run: &[PackedEvent], number: u32) -> Result<Vec<u8>, Memory>
+/// What happened to the job of this number in the run of this version that prints these steps, and by which test, line
+/// by line; one line where there is no such job. The jobs of the run are valid for the ratio `k`, and within the limits
+/// of version Two. Want of memory is the only error.
+pub fn why(
+    alloc: Global,
+    version: Version,
+    k: Ratio,
+    run: &[PackedEvent],
+    number: u32,
+) -> Result<Vec<u8>, Memory>
     requires { (J : Instance) × IsRunOf k run.now J }
-    ensures { (J : Instance) → IsRunOf k run.now J → IfOk result (λ written. written.items ≡ story.why number J) }
+    ensures { (J : Instance) → IsRunOf k run.now J → J.rules.version ≡ version
+        → IfOk result (λ written. written.items ≡ story.why number J) }
 {
     let jobs = released(alloc, run)?;
     match jobs.get(number as usize) {
-        Some(job) => story_of(alloc, k, run, &jobs, number, job),
+        Some(job) => story_of(alloc, version, k, run, &jobs, number, job),
         None => unknown(alloc, number, jobs.len() as u64),
     }
 }
 
-/// The text of the job of this number among those of the run.
+/// The text of the job of this number among those of the run of this version.
 fn story_of(
     alloc: Global,
+    version: Version,
     k: Ratio,
     run: &[PackedEvent],
     jobs: &[Job],
@@ -69,12 +79,13 @@ fn story_of(
     job: &Job,
 ) -> Result<Vec<u8>, Memory>
     requires { (J : Instance) × IsRunOf k run.now J × (jobs.now ≡ J.jobs) }
-    ensures { (J : Instance) → IsRunOf k run.now J → jobs.now ≡ J.jobs
+    ensures { (J : Instance) → IsRunOf k run.now J → jobs.now ≡ J.jobs → J.rules.version ≡ version
         → IfOk result (λ text. text.items ≡ story.answer number J (Some job.now)) }
 {
     let mut text = Vec::new(alloc);
     put_asked(&mut text, number, job)?;
     let asked = Asked {
+        version,
         k,
         number,
         value: job.value(),
@@ -95,8 +106,8 @@ fn put_weighed(
     requires value { asked.now.value ≤ most_value }
     ensures { (J : Instance) → IsRunOf asked.now.k run.now J → jobs.now ≡ J.jobs
         → OnOk result (text.new.items ≡ text.old.items ++ story.story_from
-        asked.now.k asked.now.number asked.now.value jobs.now (observed.served J) false run.now (rows.weights J)
-        (tests.rooms J)) }
+        asked.now.version asked.now.k asked.now.number asked.now.value jobs.now (observed.served J) false run.now
+        (rows.weights J) (tests.rooms J)) }
 {
     let worths = weights(alloc, asked.k, run)?;
     let rooms = rooms(alloc, asked.k, jobs, run)?;
@@ -147,7 +158,8 @@ fn put_story(
     requires value { asked.now.value ≤ most_value }
     requires small { AllByRecursion (λ worth. worth ≤ most_total Two) worths.now }
     ensures { OnOk result (text.new.items ≡ text.old.items ++ story.story_from
-        asked.now.k asked.now.number asked.now.value jobs.now served.now false run.now worths.now rooms.now) }
+        asked.now.version asked.now.k asked.now.number asked.now.value jobs.now served.now false run.now worths.now
+        rooms.now) }
 {
     let mut on = false;
     for (index, event) in run.iter().enumerate() {
@@ -231,12 +243,13 @@ fn put_told(
     requires value { asked.now.value ≤ most_value }
     requires worth { weighed.now.worth ≤ most_total Two }
     ensures { OnOk result (text.new.items ≡ text.old.items
-        ++ story.told asked.now.k asked.now.number asked.now.value on starts weighed.now event.now) }
+        ++ story.told asked.now.version asked.now.k asked.now.number asked.now.value on starts weighed.now
+        event.now) }
 {
     match event.event() {
         Event::Release { number, job } => put_arrived(
             text,
-            asked.number,
+            asked,
             number,
             starts,
             &job,
@@ -342,33 +355,47 @@ fn preempted_line(fits: bool) -> &'static [u8]
     b"at @ it is preempted by job @, which is due earlier, its work @ above the room @\n"
 }
 
-/// Appends what a release means for the job of this number, which starts at once or else waits, and why it does.
+/// Appends what a release means for the job, which starts at once or else waits, and why it does.
 fn put_arrived(
     text: &mut Vec<u8>,
-    number: u32,
+    asked: &Asked,
     other: u32,
     starts: bool,
     job: &Job,
     room: u64,
 ) -> Result<(), Memory>
-    ensures { OnOk result (text.new.items
-        ≡ text.old.items ++ story.arrived number other job.now.release starts job.now.work room) }
+    ensures { OnOk result (text.new.items ≡ text.old.items ++ story.arrived
+        asked.now.version asked.now.number other job.now.release starts job.now.work room) }
 {
-    if other == number && !starts {
+    if other == asked.number && !starts {
         let (at, work) = (job.release(), job.work());
-        return put(text, waits_line(work <= room), &[at, work, room]);
+        let line = waits_line(asked.version, work <= room);
+        return put(text, line, &[at, work, room]);
     }
     Ok(())
 }
 
-/// The line of a job that waits, by whether its work is within the room.
-fn waits_line(fits: bool) -> &'static [u8]
-    ensures { result.now ≡ story.waits_line fits }
+/// The line of a job that waits in a run of this version, by whether its work is within the room.
+fn waits_line(version: Version, fits: bool) -> &'static [u8]
+    ensures { result.now ≡ story.waits_line version fits }
 {
-    if fits {
-        return b"at @ it waits, due no earlier than the job that runs, its work @ within the room @\n";
+    if !fits {
+        return b"at @ it waits, its work @ above the room @\n";
     }
-    b"at @ it waits, its work @ above the room @\n"
+    if chooses_by_density(version) {
+        return b"at @ it waits, due no earlier than the job that runs or less dense, its work @ within the room @\n";
+    }
+    b"at @ it waits, due no earlier than the job that runs, its work @ within the room @\n"
+}
+
+/// Whether the version chooses by density in a pressed state.
+fn chooses_by_density(version: Version) -> bool
+    ensures { result ≡ by_density version true }
+{
+    match version {
+        Version::One | Version::Two | Version::Three => false,
+        Version::Four => true,
+    }
 }
 
 /// Appends what a take means for the job, which runs or is held where `on` is true.

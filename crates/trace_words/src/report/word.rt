@@ -120,10 +120,11 @@ fn put_table<P: Port>(
     }
 }
 
-/// The report in a form that is neither the text nor the table, on the run that prints these steps.
+/// The report in a form that is neither the text nor the table, on the run of this version that prints these steps.
 fn view_of(
     alloc: Global,
     form: Form,
+    version: Version,
     ratio: Ratio,
     steps: &[PackedEvent],
     refused: u64,
@@ -131,12 +132,12 @@ fn view_of(
     requires run { (J : Instance) × IsRunOf ratio steps.now J }
     requires no_text { form ≢ Text }
     requires no_table { form ≢ Table }
-    ensures { (J : Instance) → IsRunOf ratio steps.now J →
+    ensures { (J : Instance) → IsRunOf ratio steps.now J → J.rules.version ≡ version →
         IfOk result (λ text. text.items ≡ report_text form refused J) }
 {
     match form {
         Form::Chrome => chrome(alloc, ratio, steps),
-        Form::Why(number) => why(alloc, ratio, steps, number),
+        Form::Why(number) => why(alloc, version, ratio, steps, number),
         Form::Timeline(window) => timeline(alloc, ratio, steps, window),
         Form::Svg(window) => picture(alloc, ratio, steps, refused, window),
         Form::Text | Form::Table => unreachable!(),
@@ -166,7 +167,7 @@ fn put_report<P: Port>(
     match form {
         Form::Text => put_whole(port, text_of(alloc, version, ratio, steps)),
         Form::Table => put_table(alloc, port, out, version, steps),
-        _ => put_whole(port, view_of(alloc, form, ratio, &steps, refused)),
+        _ => put_whole(port, view_of(alloc, form, version, ratio, &steps, refused)),
     }
 }
 

@@ -20,9 +20,9 @@ loop-index-preserved c =
       c.requires.as_many,
       c.loop-index-test.true,
     ) in
-    told_more c.args.asked.now.k c.args.asked.now.number c.args.asked.now.value c.args.jobs.now c.args.served.now
-    c.args.run.now c.args.worths.now c.args.rooms.now c.loop-index.index c.index-run-index.result worth room
-    c.loop-index.on
+    told_more c.args.asked.now.version c.args.asked.now.k c.args.asked.now.number c.args.asked.now.value
+    c.args.jobs.now c.args.served.now c.args.run.now c.args.worths.now c.args.rooms.now c.loop-index.index
+    c.index-run-index.result worth room c.loop-index.on
     c.starts_at-starts.result c.is_on_after-on.result
     (record { worth = worth; work = c.work_of.result; room = room; left = c.left_at.result }) c.loop-index.text.items
     c.put_told.new.text.items _ c.index-run-index.is
@@ -34,7 +34,7 @@ loop-index-preserved c =
     c.loop-index.invariant
 
 pub returns : goal.returns
-returns c = told_all c.args.asked.now.k c.args.asked.now.number c.args.asked.now.value c.args.jobs.now c.args.served.now
-    c.args.run.now c.args.worths.now c.args.rooms.now c.loop-index.index c.loop-index.on c.loop-index.text.items _
-    (omega arith)
+returns c = told_all c.args.asked.now.version c.args.asked.now.k c.args.asked.now.number c.args.asked.now.value
+    c.args.jobs.now c.args.served.now c.args.run.now c.args.worths.now c.args.rooms.now c.loop-index.index
+    c.loop-index.on c.loop-index.text.items _ (omega arith)
     c.loop-index.invariant

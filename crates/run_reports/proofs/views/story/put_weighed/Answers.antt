@@ -32,12 +32,13 @@ put_story-requires-clause-small c = subst (AllByRecursion (λ worth. worth ≤ 1
 
 pub returns : goal.returns
 returns c J of same =
-    let k = c.args.asked.now.k in let n = c.args.asked.now.number in let value = c.args.asked.now.value in
+    let version = c.args.asked.now.version in let k = c.args.asked.now.k in
+    let n = c.args.asked.now.number in let value = c.args.asked.now.value in
     let jobs = c.args.jobs.now in let run = c.args.run.now in let text = c.args.text.now.items in
     IfOk-equal c.put_story.result _ _ _ c.put_story.ensures
-    (ap (λ hs. text ++ story_from k n value jobs hs false run c.deref-2.result.now c.deref-3.result.now)
+    (ap (λ hs. text ++ story_from version k n value jobs hs false run c.deref-2.result.now c.deref-3.result.now)
     (c.deref.ensures.value ∙ c.in_ok-served.ensures k J of same)
-    ∙ ap (λ ws. text ++ story_from k n value jobs (served J) false run ws c.deref-3.result.now)
+    ∙ ap (λ ws. text ++ story_from version k n value jobs (served J) false run ws c.deref-3.result.now)
     (c.deref-2.ensures.value ∙ c.in_ok-worths.ensures.are J of)
-    ∙ ap (λ rs. text ++ story_from k n value jobs (served J) false run (weights J) rs)
+    ∙ ap (λ rs. text ++ story_from version k n value jobs (served J) false run (weights J) rs)
     (c.deref-3.ensures.value ∙ c.in_ok-rooms.ensures J of same))

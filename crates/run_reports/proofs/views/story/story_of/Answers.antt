@@ -11,6 +11,6 @@ put_weighed-requires-clause-value c =
     omega (arith, c.value.ensures.is, (job_limits c.value.ensures.job).modest)
 
 pub returns : goal.returns
-returns c J of same = story_is c.args.k c.args.run.now J of c.args.number c.args.jobs.now same c.args.job.now _ _ _
-    c.new-text.ensures.items c.in_ok-put_asked.ensures
+returns c J of same under = story_is c.args.version c.args.k c.args.run.now J of c.args.number c.args.jobs.now same
+    under c.args.job.now _ _ _ c.new-text.ensures.items c.in_ok-put_asked.ensures
     (rw c.value.ensures.is at c.in_ok-put_weighed.ensures J of same)

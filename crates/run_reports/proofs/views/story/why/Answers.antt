@@ -14,17 +14,17 @@ story_of-requires c = (
 )
 
 pub returns-in-Some : goal.returns-in-Some
-returns-in-Some c J of =
+returns-in-Some c J of under =
     IfOk-weaker c.story_of.result _ _
     (λ text is. why_some c.args.k c.args.run.now J of c.args.number c.deref.result.now
     (c.deref.ensures.value ∙ c.in_ok-jobs.ensures) c.in-Some.job.now text.items
     (slice_get_read c.deref.result.now (length c.deref.result.now) c.args.number c.in-Some.job.now refl
     c.in-Some.ensures.lookup.3.0 c.in-Some.ensures.lookup.1) is)
     (c.story_of.ensures J of (same_jobs c.args.k c.args.run.now J of c.args.number c.deref-in-Some.result.now
-    (c.deref-in-Some.ensures.value ∙ c.in_ok-jobs.ensures)))
+    (c.deref-in-Some.ensures.value ∙ c.in_ok-jobs.ensures)) under)
 
 pub returns : goal.returns
-returns c J of =
+returns c J of under =
     IfOk-weaker c.unknown.result _ _
     (λ text is. why_none c.args.k c.args.run.now J of c.args.number c.deref.result.now
     (c.deref.ensures.value ∙ c.in_ok-jobs.ensures) [] text.items

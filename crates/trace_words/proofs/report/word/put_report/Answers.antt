@@ -16,4 +16,4 @@ view_of-requires-clause-run g c = (c.requires.run.0, same_run _ _ _ _ c.deref.en
 
 pub returns-in_default-clause-puts : goal.returns-in_default-clause-puts
 returns-in_default-clause-puts g c = λ J is same. rw c.requires.empty
-    (c.put_whole-in_default.ensures.puts _ (c.view_of.ensures J (same_run _ _ _ _ c.deref.ensures.value is)))
+    (c.put_whole-in_default.ensures.puts _ (c.view_of.ensures J (same_run _ _ _ _ c.deref.ensures.value is) same))

@@ -4,22 +4,22 @@ pub chrome-requires : goal.chrome-requires
 chrome-requires c = c.requires.run
 
 pub returns-in-Chrome : goal.returns-in-Chrome
-returns-in-Chrome c J is = rw c.in-Chrome.is (c.chrome.ensures J is)
+returns-in-Chrome c J is under = rw c.in-Chrome.is (c.chrome.ensures J is)
 
 pub why-requires : goal.why-requires
 why-requires c = c.requires.run
 
 pub returns-in-Why : goal.returns-in-Why
-returns-in-Why c J is = rw c.in-Why.is (c.why.ensures J is)
+returns-in-Why c J is under = rw c.in-Why.is (c.why.ensures J is under)
 
 pub timeline-requires : goal.timeline-requires
 timeline-requires c = c.requires.run
 
 pub returns-in-Timeline : goal.returns-in-Timeline
-returns-in-Timeline c J is = rw c.in-Timeline.is (c.timeline.ensures J is)
+returns-in-Timeline c J is under = rw c.in-Timeline.is (c.timeline.ensures J is)
 
 pub picture-requires : goal.picture-requires
 picture-requires c = c.requires.run
 
 pub returns-in-Svg : goal.returns-in-Svg
-returns-in-Svg c J is = rw c.in-Svg.is (c.picture.ensures J is)
+returns-in-Svg c J is under = rw c.in-Svg.is (c.picture.ensures J is)
