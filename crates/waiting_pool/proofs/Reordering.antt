@@ -171,37 +171,37 @@ module _ {X : Type 0} (P : X → Type 0) (before : X → X → Bool)
   best_of acc [] fine = record { there = inl refl; good = inl refl; best = λ x m. absurd m }
   best_of acc (x ∷ xs) fine = by_test (before x acc) refl (best_of x xs (λ y m. fine y (inr m)))
       (best_of acc xs (λ y m. fine y (either m))) where
-    either : {y : X} → IsMember y (acc ∷ xs) → IsMember y (acc ∷ x ∷ xs)
-    either (inl e) = inl e
-    either (inr m) = inr (inr m)
+        either : {y : X} → IsMember y (acc ∷ xs) → IsMember y (acc ∷ x ∷ xs)
+        either (inl e) = inl e
+        either (inr m) = inr (inr m)
 
-    by_test : (b : Bool) → before x acc ≡ b → Best (fold (earlier before) x xs) x xs
-        → Best (fold (earlier before) acc xs) acc xs
-        → Best (fold (earlier before) (cond (before x acc) x acc) xs) acc (x ∷ xs)
-    by_test true h it rest =
-        subst (λ (b : Bool). Best (fold (earlier before) (cond b x acc) xs) acc (x ∷ xs)) (sym h) (record {
-          there = inr it.there;
-          good = inr (elim it.good [
-            | inl same ↦ ap (λ y. before y acc) same
-                ∙ h
-            | inr less ↦ onward (fold (earlier before) x xs) x acc (fine _ (inr it.there)) (fine x (inr (inl refl)))
-                (fine acc (inl refl)) less h
-          ]);
-          best = each_cons (λ y. before y (fold (earlier before) x xs) ≡ true → ⊥) x xs
-              (not_before (fold (earlier before) x xs) x it.good) it.best;
-        })
-    by_test false h rest it =
-        subst (λ (b : Bool). Best (fold (earlier before) (cond b x acc) xs) acc (x ∷ xs)) (sym h) (record {
-          there = elim it.there [ inl e ↦ inl e | inr m ↦ inr (inr m) ];
-          good = it.good;
-          best = each_cons (λ y. before y (fold (earlier before) acc xs) ≡ true → ⊥) x xs
-              (λ at. elim it.good [
-                | inl same ↦ false≢true (sym h ∙ ap (before x) (sym same) ∙ at)
-                | inr less ↦ false≢true (sym h ∙ onward x (fold (earlier before) acc xs) acc (fine x (inr (inl refl)))
-                    (fine _ (either it.there)) (fine acc (inl refl)) at less)
-              ])
-              it.best;
-        })
+        by_test : (b : Bool) → before x acc ≡ b → Best (fold (earlier before) x xs) x xs
+            → Best (fold (earlier before) acc xs) acc xs
+            → Best (fold (earlier before) (cond (before x acc) x acc) xs) acc (x ∷ xs)
+        by_test true h it rest =
+            subst (λ (b : Bool). Best (fold (earlier before) (cond b x acc) xs) acc (x ∷ xs)) (sym h) (record {
+              there = inr it.there;
+              good = inr (elim it.good [
+                | inl same ↦ ap (λ y. before y acc) same
+                    ∙ h
+                | inr less ↦ onward (fold (earlier before) x xs) x acc (fine _ (inr it.there)) (fine x (inr (inl refl)))
+                    (fine acc (inl refl)) less h
+              ]);
+              best = each_cons (λ y. before y (fold (earlier before) x xs) ≡ true → ⊥) x xs
+                  (not_before (fold (earlier before) x xs) x it.good) it.best;
+            })
+        by_test false h rest it =
+            subst (λ (b : Bool). Best (fold (earlier before) (cond b x acc) xs) acc (x ∷ xs)) (sym h) (record {
+              there = elim it.there [ inl e ↦ inl e | inr m ↦ inr (inr m) ];
+              good = it.good;
+              best = each_cons (λ y. before y (fold (earlier before) acc xs) ≡ true → ⊥) x xs
+                  (λ at. elim it.good [
+                    | inl same ↦ false≢true (sym h ∙ ap (before x) (sym same) ∙ at)
+                    | inr less ↦ false≢true (sym h ∙ onward x (fold (earlier before) acc xs) acc (fine x (inr (inl refl)))
+                        (fine _ (either it.there)) (fine acc (inl refl)) at less)
+                  ])
+                  it.best;
+            })
 
   -- the first is one of the elements, and none comes before it
   pub first_is_of : (xs : List X) (e : X) → Each P xs → first before xs ≡ Some e

@@ -99,7 +99,7 @@ pub story_is : (version : Version) (k : Fraction) (steps : List Event) (J : Inst
     → c ≡ answer n J (Some j)
 story_is version k steps J of n jobs same under j a b c first middle last =
     let tells = λ (v : Version) (r : Fraction) (js : List JobFacts) (es : List Event).
-        asked n j ++ story_from v r n j.value js (served J) false es (weights J) (rooms J) in
+    asked n j ++ story_from v r n j.value js (served J) false es (weights J) (rooms J) in
     last ∙ ap (λ t. t ++ story_from version k n j.value jobs (served J) false steps (weights J) (rooms J))
     (middle ∙ ap (λ t. t ++ asked n j) first)
     ∙ ap (λ v. tells v k jobs steps) (sym under)

@@ -106,8 +106,8 @@ preempted n at stops starts work room = if starts == n
 abbrev pub waits_line : Version → (fits : Bool) → Text
 waits_line version fits = if fits
     then (if by_density version true
-        then codes "at @ it waits, due no earlier than the job that runs or less dense, its work @ within the room @\n"
-        else codes "at @ it waits, due no earlier than the job that runs, its work @ within the room @\n")
+    then codes "at @ it waits, due no earlier than the job that runs or less dense, its work @ within the room @\n"
+    else codes "at @ it waits, due no earlier than the job that runs, its work @ within the room @\n")
     else codes "at @ it waits, its work @ above the room @\n"
 
 -- what a release means for job n, which starts at once or else waits
