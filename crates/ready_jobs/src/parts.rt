@@ -17,7 +17,7 @@ ghost use Rattle.ready_jobs.specs.Changed.{made_wait, completed};
 ghost use Rattle.ready_jobs.specs.Deeds.{step_at, Finds};
 ghost use Rattle.waiting_pool.specs.Reordered.{IsReordered};
 ghost use Rattle.waiting_pool.specs.Short.{no_number};
-ghost use Rattle.waiting_pool.specs.Pools.{orders_of};
+ghost use Rattle.waiting_pool.specs.Pools.{orders_of, IsByDensity};
 ghost use Rattle.waiting_pool.specs.Slots.{seen};
 ghost use Rattle.ready_jobs.specs.Parts.{Parted, AreSound, HaveRoles, ready_of, state_of, first_by, head_of, tail_of};
 
@@ -493,9 +493,10 @@ impl Parts {
         }
     }
 
-    /// Another version, where no job waits.
+    /// Another version in place of version Four, whose room serves any, where no job waits.
     pub fn declare(&mut self, version: Version)
-        requires { self.old.waiting ≡ [] }
+        requires none { self.old.waiting ≡ [] }
+        requires dense { IsByDensity self.old.version }
         ensures { self.new ≡ record self.old { version = version } }
     {
         self.pool.declare(version);

@@ -8,7 +8,7 @@ ghost use Rattle.dover_model.specs.Common.{last_tick, most_jobs, most_ready, mos
 ghost use Rattle.dover_model.specs.Common.{is_held, Prints, open_step, view, waits_for_mark};
 ghost use Rattle.dover_model.specs.declared.events.Version.TheVariants.{Three};
 ghost use Rattle.waiting_pool.specs.Reordered.{IsReordered};
-ghost use Rattle.waiting_pool.specs.Pools.{orders_of};
+ghost use Rattle.waiting_pool.specs.Pools.{orders_of, IsByDensity};
 ghost use Rattle.ready_jobs.specs.Course.{Course, state_of_course, Follows, IsCourse, Reached, Settled, new_course};
 ghost use Rattle.ready_jobs.specs.Course.{fresh_job, IsDue};
 ghost use Rattle.ready_jobs.specs.Course.{SettlesAt, StepsBefore, ComesNext, Passes, Takes, with_release, Finishes};
@@ -169,9 +169,10 @@ impl Ready {
         Some(clock + self.parts.silent_ticks(LAST_TICK - clock))
     }
 
-    /// The rules, where no job was released yet.
+    /// The rules in place of those of a version Four, whose room serves any, where no job was released yet.
     pub fn declare(&mut self, version: Version, ratio: Ratio)
-        requires { self.old.jobs ≡ 0 }
+        requires none { self.old.jobs ≡ 0 }
+        requires dense { IsByDensity self.old.rules.version }
         ensures rules { self.new ≡ record self.old { rules = record { ratio = ratio; version = version } } }
         ensures paid { (start now : ℕ) → HasPaid self.old start now → HasPaid self.new start now }
     {

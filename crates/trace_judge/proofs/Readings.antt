@@ -251,6 +251,7 @@ module _ (r : Reading) (ready spare room : ℕ) (ls : List (List ℕ)) where
   room_opens it = record {
     lines = it.lines;
     course = ap (λ (c : Course). record c { room = ready }) it.course;
+    dense = it.dense;
     items = it.items;
     floor = it.floor;
     steps = it.steps;

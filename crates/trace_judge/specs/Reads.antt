@@ -12,7 +12,6 @@ use Rattle.dover_model.specs.declared.events.Event.{Event}
 use Rattle.dover_model.specs.declared.events.Refusal.{Refusal}
 use Rattle.dover_model.specs.declared.events.Refusal.TheVariants.{Full}
 use Rattle.dover_model.specs.Verdict as model
-use Rattle.dover_model.specs.declared.events.Task.{Task}
 use Rattle.dover_model.specs.declared.events.Event.TheVariants.{Release}
 use Rattle.line_text.specs.declared.traces.lines.TraceLine.{TraceLine}
 use Rattle.line_text.specs.declared.traces.lines.TraceLine.TheVariants as format
@@ -23,6 +22,7 @@ use Rattle.trace_judge.specs.declared.verdict.Expected.{Expected}
 use Rattle.trace_judge.specs.declared.verdict.Expected.TheVariants.{Header, Step as Due, Nothing}
 use Rattle.ready_jobs.specs.Course.{Course, Follows, new_course}
 use Rattle.ready_jobs.specs.Spending.{HasPaidSince}
+use Rattle.waiting_pool.specs.Pools.{IsByDensity}
 
 -- what is kept of the lines: how far the trace has come, the run and the jobs admitted, how many items there are, the
 -- floor, the steps where they are asked for, for how many jobs more there is room, and for how many steps in all, how
@@ -48,10 +48,11 @@ kept_steps keep steps = if keep then steps else []
 abbrev pub IsPaid : Reading → (start now : ℕ) → Type 0
 IsPaid r start now = HasPaidSince r.course r.last start now
 
--- no line yet
+-- no line yet; the room of the course serves any version, since its own may choose by density
 pub record Opens (r : Reading) (ls : List (List ℕ)) : Type 0 where
   pub lines : ls ≡ []
   pub course : r.course ≡ new_course r.course.rules r.course.room
+  pub dense : IsByDensity r.course.rules.version
   pub items : r.items ≡ 0
   pub floor : r.floor ≡ 0
   pub steps : r.steps ≡ []

@@ -106,13 +106,13 @@ impl TraceReader {
         ensures jobs { IfOk result (λ reader. reader.course.jobs ≡ 0) }
         ensures paid { IfOk result (λ reader. (now : ℕ) → IsPaid reader now now) }
     {
-        // The header declares the version and the ratio.
+        // The header declares the ratio and the version. The room of version Four serves any.
         let one = Ratio::new(1, 1).unwrap();
         let steps = Vec::with_capacity(alloc, usize::from(keep))?;
         Ok(TraceReader {
             stage: TraceStage::Opening,
-            course: Ready::new(alloc, Version::Three, one)?,
-            admission: Admission::new(Version::Three, one),
+            course: Ready::new(alloc, Version::Four, one)?,
+            admission: Admission::new(Version::Four, one),
             items: 0,
             floor: 0,
             keep,

@@ -2,7 +2,8 @@
 use Rattle.std.proofs.Common.{◌≡◌, ℕ, zero, suc, ◌+◌, ◌-◌, ◌≤◌, ◌<◌, ◌⊎◌, inl, inr, List, [], ◌∷◌, ◌++◌, length, set}
 use Rattle.std.proofs.Common.{get_or, replicate, refl, sym, ap, ◌∙◌, subst, Bool, true, false, cond, arith, Option}
 use Rattle.std.proofs.Common.{Some, None, option_map, ◌==◌, is_some, Result, Ok, Err, OnOk, IsErr, slice_get, sum_by}
-use Rattle.std.proofs.Common.{if◌then◌else◌, fold, count_by, eq-eqb, ne_eqb, append_assoc, length-append}
+use Rattle.std.proofs.Common.{if◌then◌else◌, fold, count_by, eq-eqb, ne_eqb, append_assoc, length-append, append-nil}
+use Rattle.std.proofs.Common.{OnErr}
 use Rattle.std.proofs.lemmas.Bool.{cases_eq}
 use Rattle.std.proofs.lemmas.List.{length-replicate, replicate-append-replicate}
 use Rattle.std.proofs.lemmas.List.Sums.{sum_by-cons, sum_by-append}
@@ -23,7 +24,7 @@ use Rattle.place_heap.proofs.Densities.{dense_law, dense_itself}
 use Rattle.waiting_pool.specs.Reordered.{IsReordered}
 use Rattle.waiting_pool.specs.Pools.{HaveOwnNumbers, AreModest, jobs_at, items_from, times, is_free, AreFree, HasItems}
 use Rattle.waiting_pool.specs.Pools.{IsPool, HasRoom, IsPlaceOf, item_of, item_by_deadline, item_by_latest}
-use Rattle.waiting_pool.specs.Pools.{item_by_density, orders_of}
+use Rattle.waiting_pool.specs.Pools.{item_by_density, orders_of, IsByDensity}
 use Rattle.waiting_pool.proofs.Reordering.{same_order, exchanged, both_parts, turned, as_many, first_is, first_only}
 
 -- what is said of a success says nothing of an error
@@ -300,17 +301,6 @@ module _ (item : ℕ → Task → Option ItemFacts) where
             (items_from item (suc p) slots ++ replicate k None),
       )
 
--- where no job has an item, the table has none
-pub no_items : (item : ℕ → Task → Option ItemFacts) → ((p : ℕ) (t : Task) → item p t ≡ None)
-    → (p : ℕ) (slots : List (Option Task)) (k n : ℕ)
-    → get_or (items_from item p slots ++ replicate {A = Option ItemFacts} k None) n None ≡ None
-no_items item none p [] zero n = refl
-no_items item none p [] (suc k) zero = refl
-no_items item none p [] (suc k) (suc n) = no_items item none p [] k n
-no_items item none p (None ∷ slots) k zero = refl
-no_items item none p (Some t ∷ slots) k zero = none p t
-no_items item none p (o ∷ slots) k (suc n) = no_items item none (suc p) slots k n
-
 -- each job has an item
 module _ (item : ℕ → Task → ItemFacts) where
   abbrev each : ℕ → Task → Option ItemFacts
@@ -512,7 +502,7 @@ module _ (v : Version) (slots : List (Option Task)) (table : List (Option ItemFa
 
 -- by density
 module _ (slots : List (Option Task)) (table : List (Option ItemFacts))
-    (has : HasItems (item_by_density Four) slots table) where
+    (has : HasItems item_by_density slots table) where
   pub dense_none : None ≡ first is_before (items_of table) → None ≡ first (waiting_order Four true) (jobs_at slots)
   dense_none = none_first dense_item (waiting_order Four true) dense_itself (λ p a. refl) dense_law slots table has
 
@@ -532,7 +522,7 @@ due_place v slots table (Some i) is has own modest =
     let it = due_found v slots table i is own modest has in (it.0, it.1, it.2)
 
 pub dense_place : (slots : List (Option Task)) (table : List (Option ItemFacts)) (o : Option ItemFacts)
-    → o ≡ first is_before (items_of table) → HasItems (item_by_density Four) slots table
+    → o ≡ first is_before (items_of table) → HasItems item_by_density slots table
     → HaveOwnNumbers (jobs_at slots) → AreModest (jobs_at slots)
     → IsPlaceOf (waiting_order Four true) slots (option_map (λ i. i.place) o)
 dense_place slots table None is has own modest = dense_none slots table has is
@@ -587,18 +577,6 @@ table_count : (item : ℕ → Task → Option ItemFacts) (slots : List (Option T
 table_count item slots table has =
     omega (arith, ap (λ t. count_by is_some t) has.1, item_count item 0 slots has.0)
 
--- in versions One to Three no job has an item by density
-none_dense : (v : Version) → by_density v true ≡ false → (p : ℕ) (t : Task) → item_by_density v p t ≡ None
-none_dense One by p t = refl
-none_dense Two by p t = refl
-none_dense Three by p t = refl
-none_dense Four by p t = never (sym by)
-
-pub dense_free : (v : Version) (slots : List (Option Task)) (table : List (Option ItemFacts)) (n : ℕ)
-    → by_density v true ≡ false → HasItems (item_by_density v) slots table → get_or table n None ≡ None
-dense_free v slots table n by has = ap (λ l. get_or l n None) has.1
-    ∙ no_items (item_by_density v) (none_dense v by) 0 slots has.0 n
-
 -- so many orders there are
 pub three_orders : (v : Version) → by_density v true ≡ true → orders_of v ≡ 3
 three_orders One by = never by
@@ -631,8 +609,8 @@ module _ (v : Version) (slots : List (Option Task)) (places : List ℕ) (d l e :
     pub add_latest_ready : p < length l
     add_latest_ready = table_within (item_by_latest v) slots l p add_inside pool.latest
 
-    pub add_dense_ready : p < length e
-    add_dense_ready = table_within (item_by_density v) slots e p add_inside pool.dense
+    pub add_dense_ready : IsByDensity v → p < length e
+    add_dense_ready by = table_within item_by_density slots e p add_inside (pool.dense by)
 
     pub add_due_free : get_or d p None ≡ None
     add_due_free = table_free (item_by_deadline v) slots d p add_free pool.due
@@ -640,8 +618,8 @@ module _ (v : Version) (slots : List (Option Task)) (places : List ℕ) (d l e :
     pub add_latest_free : get_or l p None ≡ None
     add_latest_free = table_free (item_by_latest v) slots l p add_free pool.latest
 
-    pub add_dense_free : get_or e p None ≡ None
-    add_dense_free = table_free (item_by_density v) slots e p add_free pool.dense
+    pub add_dense_free : IsByDensity v → get_or e p None ≡ None
+    add_dense_free by = table_free item_by_density slots e p add_free (pool.dense by)
 
     pub add_due_count : count_by is_some d ≤ length (jobs_at slots)
     add_due_count = table_count (item_by_deadline v) slots d pool.due
@@ -649,16 +627,18 @@ module _ (v : Version) (slots : List (Option Task)) (places : List ℕ) (d l e :
     pub add_latest_count : count_by is_some l ≤ length (jobs_at slots)
     add_latest_count = table_count (item_by_latest v) slots l pool.latest
 
-    pub add_dense_count : count_by is_some e ≤ length (jobs_at slots)
-    add_dense_count = table_count (item_by_density v) slots e pool.dense
+    pub add_dense_count : IsByDensity v → count_by is_some e ≤ length (jobs_at slots)
+    add_dense_count by = table_count item_by_density slots e (pool.dense by)
 
-    pub add_kept : (t : Task)
+    pub add_kept : (t : Task) (denser : List (Option ItemFacts))
+        → (IsByDensity v → denser ≡ set e p (item_by_density p t))
         → IsPool v (set slots p (Some t)) places (set d p (Some (due_item v p (entry_of t))))
-        (set l p (Some (latest_item v p (entry_of t)))) (set e p (item_by_density v p t))
-    add_kept t = record {
+        (set l p (Some (latest_item v p (entry_of t)))) denser
+    add_kept t denser is = record {
       due = table_set (item_by_deadline v) slots d p (Some t) add_inside pool.due;
       latest = table_set (item_by_latest v) slots l p (Some t) add_inside pool.latest;
-      dense = table_set (item_by_density v) slots e p (Some t) add_inside pool.dense;
+      dense = λ by. subst (HasItems item_by_density (set slots p (Some t))) (sym (is by))
+          (table_set item_by_density slots e p (Some t) add_inside (pool.dense by));
       free = free_taken slots places p t pool.free;
       count = omega (
         arith,
@@ -686,14 +666,16 @@ module _ (v : Version) (slots : List (Option Task)) (places : List ℕ) (d l e :
     pub left_latest_count : count_by is_some l ≤ length (jobs_at slots)
     left_latest_count = table_count (item_by_latest v) slots l pool.latest
 
-    pub left_dense_count : count_by is_some e ≤ length (jobs_at slots)
-    left_dense_count = table_count (item_by_density v) slots e pool.dense
+    pub left_dense_count : IsByDensity v → count_by is_some e ≤ length (jobs_at slots)
+    left_dense_count by = table_count item_by_density slots e (pool.dense by)
 
-    pub left_kept : IsPool v (set slots p None) (places ++ p ∷ []) (set d p None) (set l p None) (set e p None)
-    left_kept = record {
+    pub left_kept : (denser : List (Option ItemFacts)) → (IsByDensity v → denser ≡ set e p None)
+        → IsPool v (set slots p None) (places ++ p ∷ []) (set d p None) (set l p None) denser
+    left_kept denser is = record {
       due = table_set (item_by_deadline v) slots d p None left_inside pool.due;
       latest = table_set (item_by_latest v) slots l p None left_inside pool.latest;
-      dense = table_set (item_by_density v) slots e p None left_inside pool.dense;
+      dense = λ by. subst (HasItems item_by_density (set slots p None)) (sym (is by))
+          (table_set item_by_density slots e p None left_inside (pool.dense by));
       free = free_again slots places p t at pool.free;
       count = omega (
         arith,
@@ -772,13 +754,14 @@ no_places (p ∷ more) none = absurd (omega (arith, none))
 
 -- one place is opened
 pub opened : (v : Version) (slots : List (Option Task)) (d l e : List (Option ItemFacts)) → IsPool v slots [] d l e
-    → length slots + 1 ≤ length d → length slots + 1 ≤ length l → length slots + 1 ≤ length e
+    → length slots + 1 ≤ length d → length slots + 1 ≤ length l
+    → (IsByDensity v → length slots + 1 ≤ length e)
     → length slots + 1 ≤ 1_048_576
     → IsPool v (slots ++ None ∷ []) (length slots ∷ []) d l e
 opened v slots d l e pool due latest dense few = record {
   due = places_grow (item_by_deadline v) slots d 1 pool.due due;
   latest = places_grow (item_by_latest v) slots l 1 pool.latest latest;
-  dense = places_grow (item_by_density v) slots e 1 pool.dense dense;
+  dense = λ by. places_grow item_by_density slots e 1 (pool.dense by) (dense by);
   free = free_more slots [] (length slots) refl pool.free;
   count = omega (arith, pool.count, length_more slots None, ap (λ ts. length ts) (jobs_push slots));
   few = omega (arith, few, length_more slots None);
@@ -788,7 +771,7 @@ opened v slots d l e pool due latest dense few = record {
 pub moved : (version : Version) (slots others : List (Option Task)) (free places : List ℕ)
     (due latest dense sooner later denser : List (Option ItemFacts)) → others ≡ slots → places ≡ free
     → HasItems (item_by_deadline version) slots sooner → HasItems (item_by_latest version) slots later
-    → HasItems (item_by_density version) slots denser
+    → (IsByDensity version → HasItems item_by_density slots denser)
     → IsPool version slots free due latest dense → IsPool version others places sooner later denser
 moved version slots others free places due latest dense sooner later denser same named by_due by_latest by_dense pool =
     subst (λ s. IsPool version s places sooner later denser) (sym same)
@@ -803,18 +786,19 @@ moved version slots others free places due latest dense sooner later denser same
     }))
 
 -- room for as many, where no less fits
-pub still_fits : (room places others slots wider free freer due sooner latest later dense denser : ℕ)
-    → HasRoom room places slots free due latest dense → others ≡ places → slots ≤ wider → free ≤ freer
-    → due ≤ sooner → latest ≤ later → dense ≤ denser → HasRoom room others wider freer sooner later denser
-still_fits room places others slots wider free freer due sooner latest later dense denser fits same more_slots more_free
-    more_due more_latest more_dense = record {
+pub still_fits : (version : Version)
+    (room places others slots wider free freer due sooner latest later dense denser : ℕ)
+    → HasRoom version room places slots free due latest dense → others ≡ places → slots ≤ wider → free ≤ freer
+    → due ≤ sooner → latest ≤ later → dense ≤ denser → HasRoom version room others wider freer sooner later denser
+still_fits version room places others slots wider free freer due sooner latest later dense denser fits same more_slots
+    more_free more_due more_latest more_dense = record {
       opened = subst (λ n. n ≤ room) (sym same) fits.opened;
       most = fits.most;
       slots_fit = omega (arith, fits.slots_fit, more_slots);
       free_fit = omega (arith, fits.free_fit, more_free);
       due_fit = omega (arith, fits.due_fit, more_due);
       latest_fit = omega (arith, fits.latest_fit, more_latest);
-      dense_fit = omega (arith, fits.dense_fit, more_dense);
+      dense_fit = λ by. omega (arith, fits.dense_fit by, more_dense);
     }
 
 -- a table that grows is no shorter
@@ -822,3 +806,21 @@ pub no_shorter : (table grown : List (Option ItemFacts)) (m : ℕ) → grown ≡
     → length table ≤ length grown
 no_shorter table grown m is =
     omega (arith, ap (λ l. length l) is, length-append table (replicate {A = Option ItemFacts} m None))
+
+-- what a heap has once memory was asked for
+module _ (table grown : List (Option ItemFacts)) (places : ℕ) where
+  pub grown_by : {T E : Type 0} (r : Result T E) → OnOk r (grown ≡ table ++ replicate (places - length table) None)
+      → OnErr r (grown ≡ table) → (k : ℕ) × (grown ≡ table ++ replicate k None)
+  grown_by (Ok x) ok err = (places - length table, ok)
+  grown_by (Err e) ok err = (0, err ∙ sym (append-nil table))
+
+  pub long_enough : {T E : Type 0} (v : Version) (r : Result T E)
+      → OnOk r (grown ≡ table ++ replicate (places - length table) None)
+      → OnOk r (IsByDensity v → places ≤ length grown)
+  long_enough v (Ok x) ok = λ by. omega (
+    arith,
+    ap (λ l. length l) ok,
+    length-append table (replicate {A = Option ItemFacts} (places - length table) None),
+    length-replicate {A = Option ItemFacts} (places - length table) None,
+  )
+  long_enough v (Err e) ok = tt

@@ -1,10 +1,10 @@
 -- The jobs that wait, at places.
 use Rattle.std.specs.Prelude.{◌≡◌, ◌≤◌, ◌+◌, ◌^◌, ◌==◌, ℕ, zero, suc, List, [], ◌∷◌, ◌++◌, length, replicate}
-use Rattle.std.specs.Prelude.{if◌then◌else◌, Bool, Option, Some, None, filter_map, slice_get, sum_by}
+use Rattle.std.specs.Prelude.{if◌then◌else◌, Bool, true, Option, Some, None, filter_map, slice_get, sum_by}
 use Rattle.dover_model.specs.declared.events.Version.{Version}
 use Rattle.dover_model.specs.declared.events.Version.TheVariants.{One, Two, Three, Four}
 use Rattle.dover_model.specs.declared.events.Task.{Task}
-use Rattle.dover_model.specs.Common.{entry_of, first, IsJob, Each, EachTwo}
+use Rattle.dover_model.specs.Common.{entry_of, first, by_density, IsJob, Each, EachTwo}
 use Rattle.place_heap.specs.Items.{ItemFacts}
 use Rattle.place_heap.specs.Orders.{due_item, latest_item, dense_item}
 
@@ -39,18 +39,15 @@ most_places = 2 ^ 20
 abbrev pub jobs_at : List (Option Task) → List Task
 jobs_at slots = filter_map (λ o. o) slots
 
--- the item of a job at a place, in each order. Only version Four has one by density.
+-- the item of a job at a place, in each order
 abbrev pub item_by_deadline : Version → ℕ → Task → Option ItemFacts
 item_by_deadline v p t = Some (due_item v p (entry_of t))
 
 abbrev pub item_by_latest : Version → ℕ → Task → Option ItemFacts
 item_by_latest v p t = Some (latest_item v p (entry_of t))
 
-abbrev pub item_by_density : Version → ℕ → Task → Option ItemFacts
-item_by_density One p t = None
-item_by_density Two p t = None
-item_by_density Three p t = None
-item_by_density Four p t = Some (dense_item p t)
+abbrev pub item_by_density : ℕ → Task → Option ItemFacts
+item_by_density p t = Some (dense_item p t)
 
 -- the item of what is at a place
 abbrev pub item_of : (ℕ → Task → Option ItemFacts) → ℕ → Option Task → Option ItemFacts
@@ -80,26 +77,31 @@ AreFree slots places = (p : ℕ) → times p places ≡ is_free slots p
 abbrev pub HasItems : (ℕ → Task → Option ItemFacts) → List (Option Task) → List (Option ItemFacts) → Type 0
 HasItems item slots table = (k : ℕ) × (table ≡ items_from item 0 slots ++ replicate k None)
 
--- the heaps have the jobs at the places, and the free places are known
+-- the version is one that may choose by density
+abbrev pub IsByDensity : Version → Type 0
+IsByDensity version = by_density version true ≡ true
+
+-- the heaps have the jobs at the places, that by density where the version may choose by it, and the free places are
+-- known
 pub record IsPool (version : Version) (slots : List (Option Task)) (places : List ℕ)
     (by_deadline by_latest by_density : List (Option ItemFacts)) : Type 0 where
   pub due : HasItems (item_by_deadline version) slots by_deadline
   pub latest : HasItems (item_by_latest version) slots by_latest
-  pub dense : HasItems (item_by_density version) slots by_density
+  pub dense : IsByDensity version → HasItems item_by_density slots by_density
   pub free : AreFree slots places
   pub count : length places + length (jobs_at slots) ≡ length slots
   pub few : length slots ≤ most_places
 
 -- so many jobs fit: there are no more places than that, and room for as many, also for those that are free, and in the
--- heaps
-pub record HasRoom (room places slots free due latest dense : ℕ) : Type 0 where
+-- heaps, in that by density where the version may choose by it
+pub record HasRoom (version : Version) (room places slots free due latest dense : ℕ) : Type 0 where
   pub opened : places ≤ room
   pub most : room ≤ most_places
   pub slots_fit : room ≤ slots
   pub free_fit : room ≤ free
   pub due_fit : room ≤ due
   pub latest_fit : room ≤ latest
-  pub dense_fit : room ≤ dense
+  pub dense_fit : IsByDensity version → room ≤ dense
 
 -- the place is that of the first job in the order, or there is no job
 abbrev pub IsPlaceOf : (Task → Task → Bool) → List (Option Task) → Option ℕ → Type 0

@@ -1,7 +1,7 @@
 //! The jobs that wait.
 ghost use Rattle.std.specs.Prelude.{◌≡◌, ℕ, ◌+◌, ◌*◌, ◌^◌, ◌<◌, ◌≤◌, [], ◌∷◌, ◌++◌, slice_set, length, List, Option};
 ghost use Rattle.std.specs.Prelude.{Some, None, max, vec_len, vec_capacity, option_map, IsOk, IsNone, IfSome, OnOk};
-ghost use Rattle.std.specs.Prelude.{OnErr, slice_get, slice_index_or, is_some, count_by};
+ghost use Rattle.std.specs.Prelude.{OnErr, replicate, slice_get, slice_index_or, is_some, count_by};
 ghost use Rattle.dover_model.specs.declared.events.Version.{Version};
 ghost use Rattle.dover_model.specs.declared.events.Task.{Task};
 ghost use Rattle.dover_model.specs.Common.{entry_of, latest_start, due_first, starts_before, first, Each};
@@ -12,6 +12,7 @@ ghost use Rattle.place_heap.specs.Orders.{due_item, latest_item, dense_item};
 ghost use Rattle.waiting_pool.specs.Reordered.{IsReordered};
 ghost use Rattle.waiting_pool.specs.Pools.{HaveOwnNumbers, AreModest, Pooled, IsPool, HasRoom, jobs_at, most_places};
 ghost use Rattle.waiting_pool.specs.Pools.{HasItems, IsPlaceOf, item_by_deadline, item_by_density, orders_of};
+ghost use Rattle.waiting_pool.specs.Pools.{IsByDensity};
 ghost use Rattle.waiting_pool.specs.Short.{no_number};
 ghost use Rattle.waiting_pool.specs.Slots.{seen};
 
@@ -55,8 +56,8 @@ impl Model for Pool {
     ghost view = { λ p. record { version = p.version; tasks = jobs_at p.slots.items; room = p.room } };
 
     ghost invariant = { λ p. IsPool p.version p.slots.items p.free.items p.by_deadline p.by_latest p.by_density
-        × HasRoom p.room (length p.slots.items) (vec_capacity p.slots) (vec_capacity p.free) (length p.by_deadline)
-        (length p.by_latest) (length p.by_density) };
+        × HasRoom p.version p.room (length p.slots.items) (vec_capacity p.slots) (vec_capacity p.free)
+        (length p.by_deadline) (length p.by_latest) (length p.by_density) };
 }
 
 // The item of the job by its deadline.
@@ -120,15 +121,14 @@ fn add_dense<L: Ledger>(
     comparisons: &mut Comparisons<L>,
 )
     requires small { place < 2 ^ 20 }
-    requires ready { place < length heap.old }
-    requires free { slice_index_or heap.old place None ≡ None }
-    ensures in_it { heap.new ≡ slice_set heap.old place (item_by_density version place t.now) }
-    ensures count { (d : ℕ) → count_by is_some heap.old + 1 < 2 ^ d →
+    requires ready { IsByDensity version → place < length heap.old }
+    requires free { IsByDensity version → slice_index_or heap.old place None ≡ None }
+    ensures in_it { IsByDensity version → heap.new ≡ slice_set heap.old place (item_by_density place t.now) }
+    ensures count { (d : ℕ) → (IsByDensity version → count_by is_some heap.old + 1 < 2 ^ d) →
         comparisons.new + 2 * d ≤ comparisons.old + orders_of version * d }
 {
-    match version {
-        Version::One | Version::Two | Version::Three => {}
-        Version::Four => heap.insert(dense_item(place, t), comparisons),
+    if by_density(version, true) {
+        heap.insert(dense_item(place, t), comparisons);
     }
 }
 
@@ -140,9 +140,8 @@ fn remove_dense<L: Ledger>(
     place: u32,
     comparisons: &mut Comparisons<L>,
 )
-    requires { (slots : List (Option Task)) × HasItems (item_by_density version) slots heap.old }
-    ensures out { heap.new ≡ slice_set heap.old place None }
-    ensures count { (d : ℕ) → count_by is_some heap.old + 1 < 2 ^ d →
+    ensures out { IsByDensity version → heap.new ≡ slice_set heap.old place None }
+    ensures count { (d : ℕ) → (IsByDensity version → count_by is_some heap.old + 1 < 2 ^ d) →
         comparisons.new + 6 * d ≤ comparisons.old + 3 * orders_of version * d }
 {
     if by_density(version, true) {
@@ -168,7 +167,7 @@ fn waiting_place(
     dense: &Heap<LongRank>,
 ) -> Option<u32>
     ensures { (slots : List (Option Task)) → HasItems (item_by_deadline version) slots by_deadline.now →
-        HasItems (item_by_density version) slots dense.now → HaveOwnNumbers (jobs_at slots) →
+        (IsByDensity version → HasItems item_by_density slots dense.now) → HaveOwnNumbers (jobs_at slots) →
         AreModest (jobs_at slots) → IsPlaceOf (waiting_order version (by_density version pressed)) slots result }
 {
     if by_density(version, pressed) {
@@ -239,7 +238,7 @@ fn next_place(slots: &mut Vec<WaitingSlot>, free: &mut Vec<u32>) -> u32
     requires few { length slots.old.items < 2 ^ 32 }
     ensures pool { (v : Version) (due latest dense : List (Option ItemFacts)) →
         IsPool v slots.old.items free.old.items due latest dense → length slots.new.items ≤ length due →
-        length slots.new.items ≤ length latest → length slots.new.items ≤ length dense →
+        length slots.new.items ≤ length latest → (IsByDensity v → length slots.new.items ≤ length dense) →
         length slots.new.items ≤ most_places →
         IsPool v slots.new.items (free.new.items ++ result ∷ []) due latest dense }
     ensures jobs { jobs_at slots.new.items ≡ jobs_at slots.old.items }
@@ -280,7 +279,7 @@ fn take_at<L: Ledger>(
     ensures slots { vec_capacity slots.new ≡ vec_capacity slots.old }
     ensures due { length by_deadline.new ≡ length by_deadline.old }
     ensures latest { length by_latest.new ≡ length by_latest.old }
-    ensures dense { length dense.new ≡ length dense.old }
+    ensures dense { IsByDensity version → length dense.new ≡ length dense.old }
     ensures count { (d : ℕ) → length (jobs_at slots.old.items) + 1 < 2 ^ d →
         comparisons.new ≤ comparisons.old + 3 * orders_of version * d }
 {
@@ -291,8 +290,20 @@ fn take_at<L: Ledger>(
     remove_dense(version, dense, place, comparisons);
 }
 
+// Memory for so many places by density, in version Four.
+fn reserve_dense(version: Version, heap: &mut Heap<LongRank>, places: u32) -> Result<(), Memory>
+    ensures grows { (k : ℕ) × (heap.new ≡ heap.old ++ replicate k None) }
+    ensures fits { OnOk result (IsByDensity version → places ≤ length heap.new) }
+{
+    if by_density(version, true) {
+        return heap.reserve(places);
+    }
+    Ok(())
+}
+
 // Memory for so many places, which all may be free, and for as many in the heaps. Want of it leaves what is there.
 fn reserve_places(
+    version: Version,
     slots: &mut Vec<WaitingSlot>,
     free: &mut Vec<u32>,
     by_deadline: &mut Heap<ShortRank>,
@@ -303,22 +314,22 @@ fn reserve_places(
     requires opened { length slots.old.items ≤ places }
     requires free { length free.old.items ≤ places }
     requires most { places ≤ most_places }
-    ensures keeps { (version : Version) (room : ℕ) →
+    ensures keeps { (room : ℕ) →
         IsPool version slots.old.items free.old.items by_deadline.old by_latest.old dense.old →
-        HasRoom room (length slots.old.items) (vec_capacity slots.old) (vec_capacity free.old)
+        HasRoom version room (length slots.old.items) (vec_capacity slots.old) (vec_capacity free.old)
         (length by_deadline.old) (length by_latest.old) (length dense.old) →
         IsPool version slots.new.items free.new.items by_deadline.new by_latest.new dense.new
-        × HasRoom room (length slots.new.items) (vec_capacity slots.new) (vec_capacity free.new)
+        × HasRoom version room (length slots.new.items) (vec_capacity slots.new) (vec_capacity free.new)
         (length by_deadline.new) (length by_latest.new) (length dense.new) }
     ensures same { slots.new.items ≡ slots.old.items }
-    ensures fits { OnOk result (HasRoom places (length slots.new.items) (vec_capacity slots.new)
+    ensures fits { OnOk result (HasRoom version places (length slots.new.items) (vec_capacity slots.new)
         (vec_capacity free.new) (length by_deadline.new) (length by_latest.new) (length dense.new)) }
 {
     slots.reserve(places as usize - slots.len())?;
     free.reserve(places as usize - free.len())?;
     by_deadline.reserve(places)?;
     by_latest.reserve(places)?;
-    dense.reserve(places)?;
+    reserve_dense(version, dense, places)?;
     Ok(())
 }
 
@@ -354,9 +365,10 @@ impl Pool {
         (self.slots.len() - self.free.len()) as u32
     }
 
-    /// Another version, where no job waits.
+    /// Another version in place of version Four, whose room serves any, where no job waits.
     pub fn declare(&mut self, version: Version)
-        requires { self.old.tasks ≡ [] }
+        requires none { self.old.tasks ≡ [] }
+        requires dense { IsByDensity self.old.version }
         ensures { self.new ≡ record self.old { version = version } }
     {
         self.version = version;
@@ -375,6 +387,7 @@ impl Pool {
             return Ok(());
         }
         reserve_places(
+            self.version,
             &mut self.slots,
             &mut self.free,
             &mut self.by_deadline,

@@ -23,7 +23,7 @@ returns-in-None-clause-pool c v due latest dense pool fits_due fits_latest fits_
     (subst (λ f. IsPool v (slots ++ None ∷ []) (f ++ c.len-place.result ∷ []) due latest dense) (sym is)
     (subst (λ (p : ℕ). IsPool v (slots ++ None ∷ []) (p ∷ []) due latest dense) (sym place)
     (opened v slots due latest dense (subst (λ f. IsPool v slots f due latest dense) was pool)
-    (omega (arith, fits_due, longer)) (omega (arith, fits_latest, longer)) (omega (arith, fits_dense, longer))
+    (omega (arith, fits_due, longer)) (omega (arith, fits_latest, longer)) (λ by. omega (arith, fits_dense by, longer))
     (omega (arith, few, longer)))))
 
 pub returns-in-None-clause-jobs : goal.returns-in-None-clause-jobs

@@ -1,21 +1,17 @@
-use Rattle.std.proofs.Common.{◌≤◌, ◌+◌, ◌*◌, None, ap, subst, sym, ◌∙◌, set, arith}
-use Rattle.std.proofs.lemmas.List.{set-get_or}
-use Rattle.waiting_pool.proofs.Pooling.{dense_free, three_orders, two_orders}
+use Rattle.std.proofs.Common.{◌≤◌, ◌+◌, ◌*◌, subst, sym, ◌∙◌, arith}
+use Rattle.dover_model.proofs.lists.Tests.{never}
+use Rattle.waiting_pool.proofs.Pooling.{three_orders, two_orders}
 use Rattle.waiting_pool.proofs.pool.remove_dense.Goals as goal
 
 pub returns-then-by_density-clause-count : goal.returns-then-by_density-clause-count
 returns-then-by_density-clause-count g c d fits =
     let by = sym c.by_density.ensures ∙ c.if-by_density.true in
-    let taken = c.remove.ensures.count d fits in
+    let taken = c.remove.ensures.count d (fits by) in
     subst (λ n. c.remove.new.comparisons + 6 * d ≤ c.args.comparisons.now + 3 * n * d)
     (sym (three_orders c.args.version by)) (omega (arith, taken))
 
 pub returns-else-by_density-clause-out : goal.returns-else-by_density-clause-out
-returns-else-by_density-clause-out g c =
-    let by = sym c.by_density.ensures ∙ c.if-by_density.false in
-    sym (set-get_or c.args.heap.now c.args.place None)
-    ∙ ap (set c.args.heap.now c.args.place)
-    (dense_free c.args.version c.requires.0 c.args.heap.now c.args.place by c.requires.1)
+returns-else-by_density-clause-out g c by = never (sym c.if-by_density.false ∙ c.by_density.ensures ∙ by)
 
 pub returns-else-by_density-clause-count : goal.returns-else-by_density-clause-count
 returns-else-by_density-clause-count g c d fits =

@@ -6,84 +6,85 @@ use Rattle.waiting_pool.proofs.Pooling.{not_ok, table_grows, no_shorter, moved, 
 use Rattle.waiting_pool.proofs.pool.reserve_places.Goals as goal
 
 pub returns-in_err-reserve-clause-keeps : goal.returns-in_err-reserve-clause-keeps
-returns-in_err-reserve-clause-keeps c version room pool fits = (
-  moved version _ _ _ _ _ _ _ _ _ _ c.reserve.ensures.items refl pool.due pool.latest pool.dense pool,
-  still_fits room _ _ _ _ _ _ _ _ _ _ _ _ fits (ap (λ l. length l) c.reserve.ensures.items)
+returns-in_err-reserve-clause-keeps c room pool fits = (
+  moved c.args.version _ _ _ _ _ _ _ _ _ _ c.reserve.ensures.items refl pool.due pool.latest pool.dense pool,
+  still_fits c.args.version room _ _ _ _ _ _ _ _ _ _ _ _ fits (ap (λ l. length l) c.reserve.ensures.items)
       c.reserve.ensures.capacity (omega arith) (omega arith)
       (omega arith) (omega arith),
 )
 
 pub returns-in_err-reserve-2-clause-keeps : goal.returns-in_err-reserve-2-clause-keeps
-returns-in_err-reserve-2-clause-keeps c version room pool fits = (
-  moved version _ _ _ _ _ _ _ _ _ _ c.reserve.ensures.items c.reserve-2.ensures.items pool.due pool.latest
+returns-in_err-reserve-2-clause-keeps c room pool fits = (
+  moved c.args.version _ _ _ _ _ _ _ _ _ _ c.reserve.ensures.items c.reserve-2.ensures.items pool.due pool.latest
       pool.dense pool,
-  still_fits room _ _ _ _ _ _ _ _ _ _ _ _ fits (ap (λ l. length l) c.reserve.ensures.items)
+  still_fits c.args.version room _ _ _ _ _ _ _ _ _ _ _ _ fits (ap (λ l. length l) c.reserve.ensures.items)
       c.reserve.ensures.capacity c.reserve-2.ensures.capacity
       (omega arith) (omega arith) (omega arith),
 )
 
 pub returns-in_err-reserve-3-clause-keeps : goal.returns-in_err-reserve-3-clause-keeps
-returns-in_err-reserve-3-clause-keeps c version room pool fits = (
-  moved version _ _ _ _ _ _ _ _ _ _ c.reserve.ensures.items c.reserve-2.ensures.items
-      (subst (HasItems (item_by_deadline version) c.args.slots.now.items) (sym c.in_err-reserve-3.ensures.err) pool.due)
+returns-in_err-reserve-3-clause-keeps c room pool fits = (
+  moved c.args.version _ _ _ _ _ _ _ _ _ _ c.reserve.ensures.items c.reserve-2.ensures.items
+      (subst (HasItems (item_by_deadline c.args.version) c.args.slots.now.items) (sym c.in_err-reserve-3.ensures.err)
+      pool.due)
       pool.latest pool.dense pool,
-  still_fits room _ _ _ _ _ _ _ _ _ _ _ _ fits (ap (λ l. length l) c.reserve.ensures.items)
+  still_fits c.args.version room _ _ _ _ _ _ _ _ _ _ _ _ fits (ap (λ l. length l) c.reserve.ensures.items)
       c.reserve.ensures.capacity c.reserve-2.ensures.capacity
       (omega (arith, ap (λ l. length l) c.in_err-reserve-3.ensures.err))
       (omega arith) (omega arith),
 )
 
 pub returns-in_err-reserve-4-clause-keeps : goal.returns-in_err-reserve-4-clause-keeps
-returns-in_err-reserve-4-clause-keeps c version room pool fits = (
-  moved version _ _ _ _ _ _ _ _ _ _ c.reserve.ensures.items c.reserve-2.ensures.items
-      (table_grows (item_by_deadline version) c.args.slots.now.items c.args.by_deadline.now c.reserve-3.new.self
+returns-in_err-reserve-4-clause-keeps c room pool fits = (
+  moved c.args.version _ _ _ _ _ _ _ _ _ _ c.reserve.ensures.items c.reserve-2.ensures.items
+      (table_grows (item_by_deadline c.args.version) c.args.slots.now.items c.args.by_deadline.now c.reserve-3.new.self
       (c.args.places - length c.args.by_deadline.now) pool.due c.in_ok-reserve-3.ensures.ok)
-      (subst (HasItems (item_by_latest version) c.args.slots.now.items) (sym c.in_err-reserve-4.ensures.err)
+      (subst (HasItems (item_by_latest c.args.version) c.args.slots.now.items) (sym c.in_err-reserve-4.ensures.err)
       pool.latest)
       pool.dense pool,
-  still_fits room _ _ _ _ _ _ _ _ _ _ _ _ fits (ap (λ l. length l) c.reserve.ensures.items)
+  still_fits c.args.version room _ _ _ _ _ _ _ _ _ _ _ _ fits (ap (λ l. length l) c.reserve.ensures.items)
       c.reserve.ensures.capacity c.reserve-2.ensures.capacity
       (no_shorter c.args.by_deadline.now c.reserve-3.new.self (c.args.places - length c.args.by_deadline.now)
       c.in_ok-reserve-3.ensures.ok)
       (omega (arith, ap (λ l. length l) c.in_err-reserve-4.ensures.err)) (omega arith),
 )
 
-pub returns-in_err-reserve-5-clause-keeps : goal.returns-in_err-reserve-5-clause-keeps
-returns-in_err-reserve-5-clause-keeps c version room pool fits = (
-  moved version _ _ _ _ _ _ _ _ _ _ c.reserve.ensures.items c.reserve-2.ensures.items
-      (table_grows (item_by_deadline version) c.args.slots.now.items c.args.by_deadline.now c.reserve-3.new.self
+pub returns-in_err-reserve_dense-clause-keeps : goal.returns-in_err-reserve_dense-clause-keeps
+returns-in_err-reserve_dense-clause-keeps c room pool fits = (
+  moved c.args.version _ _ _ _ _ _ _ _ _ _ c.reserve.ensures.items c.reserve-2.ensures.items
+      (table_grows (item_by_deadline c.args.version) c.args.slots.now.items c.args.by_deadline.now c.reserve-3.new.self
       (c.args.places - length c.args.by_deadline.now) pool.due c.in_ok-reserve-3.ensures.ok)
-      (table_grows (item_by_latest version) c.args.slots.now.items c.args.by_latest.now c.reserve-4.new.self
+      (table_grows (item_by_latest c.args.version) c.args.slots.now.items c.args.by_latest.now c.reserve-4.new.self
       (c.args.places - length c.args.by_latest.now) pool.latest c.in_ok-reserve-4.ensures.ok)
-      (subst (HasItems (item_by_density version) c.args.slots.now.items) (sym c.in_err-reserve-5.ensures.err)
-      pool.dense)
-      pool,
-  still_fits room _ _ _ _ _ _ _ _ _ _ _ _ fits (ap (λ l. length l) c.reserve.ensures.items)
+      (λ by. table_grows item_by_density c.args.slots.now.items c.args.dense.now c.reserve_dense.new.heap
+      c.reserve_dense.ensures.grows.0 (pool.dense by) c.reserve_dense.ensures.grows.1) pool,
+  still_fits c.args.version room _ _ _ _ _ _ _ _ _ _ _ _ fits (ap (λ l. length l) c.reserve.ensures.items)
       c.reserve.ensures.capacity c.reserve-2.ensures.capacity
       (no_shorter c.args.by_deadline.now c.reserve-3.new.self (c.args.places - length c.args.by_deadline.now)
       c.in_ok-reserve-3.ensures.ok)
       (no_shorter c.args.by_latest.now c.reserve-4.new.self (c.args.places - length c.args.by_latest.now)
       c.in_ok-reserve-4.ensures.ok)
-      (omega (arith, ap (λ l. length l) c.in_err-reserve-5.ensures.err)),
+      (no_shorter c.args.dense.now c.reserve_dense.new.heap c.reserve_dense.ensures.grows.0
+      c.reserve_dense.ensures.grows.1),
 )
 
 pub returns-clause-keeps : goal.returns-clause-keeps
-returns-clause-keeps c version room pool fits = (
-  moved version _ _ _ _ _ _ _ _ _ _ c.reserve.ensures.items c.reserve-2.ensures.items
-      (table_grows (item_by_deadline version) c.args.slots.now.items c.args.by_deadline.now c.reserve-3.new.self
+returns-clause-keeps c room pool fits = (
+  moved c.args.version _ _ _ _ _ _ _ _ _ _ c.reserve.ensures.items c.reserve-2.ensures.items
+      (table_grows (item_by_deadline c.args.version) c.args.slots.now.items c.args.by_deadline.now c.reserve-3.new.self
       (c.args.places - length c.args.by_deadline.now) pool.due c.in_ok-reserve-3.ensures.ok)
-      (table_grows (item_by_latest version) c.args.slots.now.items c.args.by_latest.now c.reserve-4.new.self
+      (table_grows (item_by_latest c.args.version) c.args.slots.now.items c.args.by_latest.now c.reserve-4.new.self
       (c.args.places - length c.args.by_latest.now) pool.latest c.in_ok-reserve-4.ensures.ok)
-      (table_grows (item_by_density version) c.args.slots.now.items c.args.dense.now c.reserve-5.new.self
-      (c.args.places - length c.args.dense.now) pool.dense c.in_ok-reserve-5.ensures.ok) pool,
-  still_fits room _ _ _ _ _ _ _ _ _ _ _ _ fits (ap (λ l. length l) c.reserve.ensures.items)
+      (λ by. table_grows item_by_density c.args.slots.now.items c.args.dense.now c.reserve_dense.new.heap
+      c.reserve_dense.ensures.grows.0 (pool.dense by) c.reserve_dense.ensures.grows.1) pool,
+  still_fits c.args.version room _ _ _ _ _ _ _ _ _ _ _ _ fits (ap (λ l. length l) c.reserve.ensures.items)
       c.reserve.ensures.capacity c.reserve-2.ensures.capacity
       (no_shorter c.args.by_deadline.now c.reserve-3.new.self (c.args.places - length c.args.by_deadline.now)
       c.in_ok-reserve-3.ensures.ok)
       (no_shorter c.args.by_latest.now c.reserve-4.new.self (c.args.places - length c.args.by_latest.now)
       c.in_ok-reserve-4.ensures.ok)
-      (no_shorter c.args.dense.now c.reserve-5.new.self (c.args.places - length c.args.dense.now)
-      c.in_ok-reserve-5.ensures.ok),
+      (no_shorter c.args.dense.now c.reserve_dense.new.heap c.reserve_dense.ensures.grows.0
+      c.reserve_dense.ensures.grows.1),
 )
 
 pub returns-clause-fits : goal.returns-clause-fits
@@ -106,13 +107,7 @@ returns-clause-fits c = record {
         (replicate {A = Option ItemFacts} (c.args.places - length c.args.by_latest.now) None),
     length-replicate {A = Option ItemFacts} (c.args.places - length c.args.by_latest.now) None,
   );
-  dense_fit = omega (
-    arith,
-    ap (λ l. length l) c.in_ok-reserve-5.ensures.ok,
-    length-append c.args.dense.now
-        (replicate {A = Option ItemFacts} (c.args.places - length c.args.dense.now) None),
-    length-replicate {A = Option ItemFacts} (c.args.places - length c.args.dense.now) None,
-  );
+  dense_fit = c.in_ok-reserve_dense.ensures.fits;
 }
 
 pub returns-clause-same : goal.returns-clause-same
@@ -145,9 +140,9 @@ pub returns-in_err-reserve-4-clause-fits : goal.returns-in_err-reserve-4-clause-
 returns-in_err-reserve-4-clause-fits c =
     not_ok _ c.from_residual-in_err-reserve-4.result c.from_residual-in_err-reserve-4.ensures.0
 
-pub returns-in_err-reserve-5-clause-same : goal.returns-in_err-reserve-5-clause-same
-returns-in_err-reserve-5-clause-same c = c.reserve.ensures.items
+pub returns-in_err-reserve_dense-clause-same : goal.returns-in_err-reserve_dense-clause-same
+returns-in_err-reserve_dense-clause-same c = c.reserve.ensures.items
 
-pub returns-in_err-reserve-5-clause-fits : goal.returns-in_err-reserve-5-clause-fits
-returns-in_err-reserve-5-clause-fits c =
-    not_ok _ c.from_residual-in_err-reserve-5.result c.from_residual-in_err-reserve-5.ensures.0
+pub returns-in_err-reserve_dense-clause-fits : goal.returns-in_err-reserve_dense-clause-fits
+returns-in_err-reserve_dense-clause-fits c =
+    not_ok _ c.from_residual-in_err-reserve_dense.result c.from_residual-in_err-reserve_dense.ensures.0

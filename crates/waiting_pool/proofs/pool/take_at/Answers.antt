@@ -13,9 +13,6 @@ push_reserved-requires g c =
     let room = left_room _ _ _ _ _ _ _ c.requires.pool _ c.requires.some.1 in
     omega (arith, room, c.requires.room, c.args.slots.now.ok.0, c.args.free.now.ok.0)
 
-pub remove_dense-requires : goal.remove_dense-requires
-remove_dense-requires g c = (c.args.slots.now.items, c.requires.pool.dense)
-
 pub returns-clause-rest : goal.returns-clause-rest
 returns-clause-rest g c t is =
     subst (λ l. IsReordered (jobs_at c.args.slots.now.items) (t ∷ jobs_at l)) (sym c.clear_at.ensures.items)
@@ -33,9 +30,7 @@ returns-clause-pool g c =
     (subst (λ d. IsPool v slots free d c.remove-2.new.self c.remove_dense.new.heap) (sym c.remove.ensures.out)
     (subst (λ l. IsPool v slots free (set c.args.by_deadline.now c.args.place None) l c.remove_dense.new.heap)
     (sym c.remove-2.ensures.out)
-    (subst (λ e. IsPool v slots free (set c.args.by_deadline.now c.args.place None)
-    (set c.args.by_latest.now c.args.place None) e) (sym c.remove_dense.ensures.out)
-    (left_kept _ _ _ _ _ _ _ c.requires.pool _ c.requires.some.1)))))
+    (left_kept _ _ _ _ _ _ _ c.requires.pool _ c.requires.some.1 c.remove_dense.new.heap c.remove_dense.ensures.out))))
 
 pub returns-clause-due : goal.returns-clause-due
 returns-clause-due g c = ap (λ l. length l) c.remove.ensures.out ∙ same_length c.args.by_deadline.now c.args.place None
@@ -45,8 +40,8 @@ returns-clause-latest g c =
     ap (λ l. length l) c.remove-2.ensures.out ∙ same_length c.args.by_latest.now c.args.place None
 
 pub returns-clause-dense : goal.returns-clause-dense
-returns-clause-dense g c =
-    ap (λ l. length l) c.remove_dense.ensures.out ∙ same_length c.args.dense.now c.args.place None
+returns-clause-dense g c by =
+    ap (λ l. length l) (c.remove_dense.ensures.out by) ∙ same_length c.args.dense.now c.args.place None
 
 pub returns-clause-count : goal.returns-clause-count
 returns-clause-count g c d fits =
@@ -57,5 +52,5 @@ returns-clause-count g c d fits =
       arith,
       c.remove.ensures.count d (omega (arith, due, fits)),
       c.remove-2.ensures.count d (omega (arith, latest, fits)),
-      c.remove_dense.ensures.count d (omega (arith, dense, fits)),
+      c.remove_dense.ensures.count d (λ by. omega (arith, dense by, fits)),
     )

@@ -1,9 +1,9 @@
-use Rattle.std.proofs.Common.{true, false, refl, sym, ◌∙◌, subst}
-use Rattle.dover_model.specs.Orders.{waiting_order, first}
+use Rattle.std.proofs.Common.{true, false, refl, sym, ap, ◌∙◌, subst}
+use Rattle.dover_model.specs.Orders.{waiting_order, by_density, first}
 use Rattle.dover_model.specs.declared.events.Version.TheVariants.{Four}
 use Rattle.place_heap.specs.Items.{is_before}
 use Rattle.place_heap.specs.Table.{items_of}
-use Rattle.waiting_pool.specs.Pools.{HasItems, IsPlaceOf, item_by_density}
+use Rattle.waiting_pool.specs.Pools.{IsPlaceOf}
 use Rattle.waiting_pool.proofs.Pooling.{due_place, dense_place, only_four}
 use Rattle.waiting_pool.proofs.pool.waiting_place.Goals as goal
 
@@ -15,7 +15,7 @@ returns-then-by_density c slots due dense own modest =
     (subst (λ v. IsPlaceOf (waiting_order v true) slots c.first_place.result) (sym four)
     (subst (IsPlaceOf (waiting_order Four true) slots) (sym c.first_place.ensures)
     (dense_place slots c.args.dense.now (first is_before (items_of c.args.dense.now)) refl
-    (subst (λ v. HasItems (item_by_density v) slots c.args.dense.now) four dense) own modest)))
+    (dense (ap (λ v. by_density v true) four)) own modest)))
 
 pub returns : goal.returns
 returns c slots due dense own modest =

@@ -1,5 +1,6 @@
-use Rattle.std.proofs.Common.{refl, sym, ap, ◌∙◌, arith, length, [], vec_capacity}
+use Rattle.std.proofs.Common.{refl, sym, ap, ◌∙◌, arith, length, [], true, vec_capacity}
 use Rattle.std.specs.Int.{from_bool}
+use Rattle.dover_model.specs.Common.{by_density}
 use Rattle.ready_jobs.specs.Course.{Course, new_course}
 use Rattle.trace_judge.specs.Reads.{Opens}
 use Rattle.trace_judge.specs.declared.stage.TraceStage.TheVariants.{Opening}
@@ -31,6 +32,7 @@ opens : (c : goal.After-new-3) → Opens (record {
 opens c = record {
   lines = refl;
   course = c.in_ok-new.ensures.empty ∙ sym (ap (λ (d : Course). new_course d.rules d.room) c.in_ok-new.ensures.empty);
+  dense = ap (λ (d : Course). by_density d.rules.version true) c.in_ok-new.ensures.empty;
   items = refl;
   floor = refl;
   steps = c.in_ok-steps.ensures.items;

@@ -41,7 +41,7 @@ pool g c =
     c.next_place-place.ensures.pool inside.version inside.by_deadline inside.by_latest inside.by_density
     c.self.invariant.0
     (omega (arith, fit, c.self.invariant.1.due_fit)) (omega (arith, fit, c.self.invariant.1.latest_fit))
-    (omega (arith, fit, c.self.invariant.1.dense_fit))
+    (λ by. omega (arith, fit, c.self.invariant.1.dense_fit by))
     (omega (arith, fit, c.self.invariant.1.most))
 
 pub due_item-due-requires : goal.due_item-due-requires
@@ -98,7 +98,8 @@ invariant_of-self g c =
     let t = c.args.t in
     let slots = c.next_place-place.new.slots.items in
     let here = (goal.at.invariant_of-self g c).After-next_place-place in
-    let kept = add_kept v slots free inside.by_deadline inside.by_latest inside.by_density p (pool g here) t in
+    let kept = add_kept v slots free inside.by_deadline inside.by_latest inside.by_density p (pool g here) t
+    c.add_dense.new.heap c.add_dense.ensures.in_it in
     let due_is = c.insert.ensures.in_it
     ∙ ap (λ (i : ItemFacts). set inside.by_deadline i.place (Some i)) c.due_item-due.ensures in
     let latest_is = c.insert-2.ensures.in_it
@@ -109,9 +110,7 @@ invariant_of-self g c =
           (subst (λ d. IsPool v (set slots p (Some t)) free d c.insert-2.new.self c.add_dense.new.heap) (sym due_is)
           (subst (λ l. IsPool v (set slots p (Some t)) free
           (set inside.by_deadline p (Some (due_item v p (entry_of t)))) l c.add_dense.new.heap) (sym latest_is)
-          (subst (λ e. IsPool v (set slots p (Some t)) free
-          (set inside.by_deadline p (Some (due_item v p (entry_of t))))
-          (set inside.by_latest p (Some (latest_item v p (entry_of t)))) e) (sym dense_is) kept))),
+          kept)),
       record {
         opened = omega (arith, fits g here, ap (λ l. length l) c.put_at.ensures.items, same_length slots p (Some t));
         most = c.self.invariant.1.most;
@@ -134,11 +133,11 @@ invariant_of-self g c =
           ap (λ l. length l) latest_is,
           same_length inside.by_latest p (Some (latest_item v p (entry_of t))),
         );
-        dense_fit = omega (
+        dense_fit = λ by. omega (
           arith,
-          c.self.invariant.1.dense_fit,
-          ap (λ l. length l) dense_is,
-          same_length inside.by_density p (item_by_density v p t),
+          c.self.invariant.1.dense_fit by,
+          ap (λ l. length l) (dense_is by),
+          same_length inside.by_density p (item_by_density p t),
         );
       },
     )

@@ -1,5 +1,6 @@
-use Rattle.std.proofs.Common.{ap, ◌∙◌}
-use Rattle.waiting_pool.specs.Pools.{Pooled, item_by_deadline, item_by_latest, item_by_density}
+use Rattle.std.proofs.Common.{ap, ◌∙◌, true}
+use Rattle.dover_model.specs.Common.{by_density}
+use Rattle.waiting_pool.specs.Pools.{Pooled, item_by_deadline, item_by_latest}
 use Rattle.waiting_pool.proofs.Pooling.{items_none}
 use Rattle.waiting_pool.proofs.pool.Pool.declare.Goals as goal
 
@@ -7,7 +8,9 @@ pub invariant_of-self : goal.invariant_of-self
 invariant_of-self c =
     let inside = c.self.inside in
     let kept = c.self.invariant.0 in
-    let none = ap (λ (q : Pooled). q.tasks) c.self.view_is ∙ c.requires in (
+    let none = ap (λ (q : Pooled). q.tasks) c.self.view_is ∙ c.requires.none in
+    let by = ap (λ (q : Pooled). by_density q.version true) c.self.view_is ∙ c.requires.dense in
+    let fits = c.self.invariant.1 in (
       record {
         due = (
           kept.due.0,
@@ -21,15 +24,18 @@ invariant_of-self c =
               ∙ items_none (item_by_latest inside.version)
               (item_by_latest c.args.version) kept.latest.0 0 inside.slots.items none,
         );
-        dense = (
-          kept.dense.0,
-          kept.dense.1
-              ∙ items_none (item_by_density inside.version)
-              (item_by_density c.args.version) kept.dense.0 0 inside.slots.items none,
-        );
+        dense = λ _. kept.dense by;
         free = kept.free;
         count = kept.count;
         few = kept.few;
       },
-      c.self.invariant.1,
+      record {
+        opened = fits.opened;
+        most = fits.most;
+        slots_fit = fits.slots_fit;
+        free_fit = fits.free_fit;
+        due_fit = fits.due_fit;
+        latest_fit = fits.latest_fit;
+        dense_fit = λ _. fits.dense_fit by;
+      },
     )

@@ -10,10 +10,10 @@ reserve_places-requires-clause-free c =
 
 pub invariant_of-self : goal.invariant_of-self
 invariant_of-self c =
-    c.reserve_places.ensures.keeps c.self.inside.version c.self.inside.room c.self.invariant.0 c.self.invariant.1
+    c.reserve_places.ensures.keeps c.self.inside.room c.self.invariant.0 c.self.invariant.1
 
 pub invariant_of-self-2 : goal.invariant_of-self-2
 invariant_of-self-2 c = (
-  (c.reserve_places.ensures.keeps c.self.inside.version c.self.inside.room c.self.invariant.0 c.self.invariant.1).0,
+  (c.reserve_places.ensures.keeps c.self.inside.room c.self.invariant.0 c.self.invariant.1).0,
   c.in_ok-reserve_places.ensures.fits,
 )

@@ -50,7 +50,7 @@ invariant_of-self g c = (
     free_fit = omega (arith, c.self.invariant.1.free_fit, c.take_at.ensures.capacity);
     due_fit = omega (arith, c.self.invariant.1.due_fit, c.take_at.ensures.due);
     latest_fit = omega (arith, c.self.invariant.1.latest_fit, c.take_at.ensures.latest);
-    dense_fit = omega (arith, c.self.invariant.1.dense_fit, c.take_at.ensures.dense);
+    dense_fit = λ by. omega (arith, c.self.invariant.1.dense_fit by, c.take_at.ensures.dense by);
   },
 )
 
