@@ -10,11 +10,11 @@
    Limits  At once: `capacity` open jobs, which are admitted and not over; at most 1,000,000. A job is over at its
            deadline at the latest, so as many are enough as can come within the longest time from a release to its
            deadline. Since the last moment of rest: 1,000,000 jobs, and 10,000,000,000,000 in value; from version 3
-           on 4,000,000,000 jobs, and 999,999,999,999,999,999 in value. Rest is where dover_step answers DOVER_NONE and no
-           job is open: dover_spare is then the room that there was at first. From there on these two limits and that of
-           densities start anew, each time; the clock and the numbers go on. An engine that never rests answers
-           DOVER_COUNT or DOVER_TOTAL from such a limit on till the open jobs are over. No rest lifts two: the last
-           tick, and 10,000,000,000,000,000,000 jobs in all, which are 10,000,000 for each tick that there is.
+           on 4,000,000,000 jobs, and 999,999,999,999,999,999 in value. Rest is where dover_step answers DOVER_NONE
+           and no job is open: dover_spare is then the room that there was at first. From there on these two limits
+           and that of densities start anew, each time; the clock and the numbers go on. An engine that never rests
+           answers DOVER_COUNT or DOVER_TOTAL from such a limit on till the open jobs are over. No rest lifts two: the
+           last tick, and 10,000,000,000,000,000,000 jobs in all, which are 10,000,000 for each tick that there is.
    Memory  dover_init takes all of it: 116 bytes for each job of the capacity, 152 in version 4, and a little more.
            No later call takes or gives back any, but dover_drop, which gives all back.
    Errors  Every call answers whatever it is asked, in any order, of a place that dover_init was called for, and of one
