@@ -26,8 +26,7 @@
            2 * d more for each job that is held: it moves all of them at once, and the capacity bounds them. In version
            4 that is 18 * d and 3 * d. All steps together cost at most 1,600 for each job, and from version 3 on at
            most 2,560: 20 for each binary digit of their count since the last moment of rest, 20 digits at most and
-           from version 3 on at most 32, and each of the four
-           times at most that a job begins or ceases to wait. */
+           from version 3 on at most 32, and each of the four times at most that a job begins or ceases to wait. */
 #ifndef DOVER_H
 #define DOVER_H
 #include <stddef.h>
