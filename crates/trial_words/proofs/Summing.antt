@@ -3,7 +3,9 @@ use Rattle.std.proofs.Common.{◌≡◌, ◌+◌, ◌-◌, ◌≤◌, ℕ, List,
 use Rattle.std.proofs.Common.{◌++◌, append_assoc, codes, decimal}
 use Rattle.dover_model.specs.declared.events.Event.{Event}
 use Rattle.dover_model.specs.Common.{bound, Fraction, Instance, IsListable, IsValid, total_value, most_total, JobFacts}
-use Rattle.dover_model.specs.Common.{with_numbers, in_lines, summary, printed, completed_value}
+use Rattle.dover_model.specs.Common.{with_numbers, in_lines, summary, printed, completed_value, is_preemption}
+use Rattle.dover_model.specs.Common.{changes_hands, Prints}
+use Rattle.std.specs.List.{count_by}
 use Rattle.dover_model.specs.declared.events.Version.TheVariants.{Two}
 use Rattle.dover_port.specs.Moves.{Move, Since}
 use Rattle.dover_port.specs.declared.status.Status.{Status}
@@ -18,27 +20,29 @@ use Rattle.trial_words.specs.Record.{Writes}
 use Rattle.trial_words.specs.Tallied.{tally_of, CountsRun}
 use Rattle.trial_words.specs.declared.tally.RunTally.{RunTally}
 
--- the counts of a tally
-abbrev pub counts_by : ℕ → RunTally → (lost most : ℕ) → Counts
-counts_by jobs t lost most = record {
+-- the counts of a tally, with those of the changes of hands among these steps, which a summary doesn't say
+abbrev pub counts_by : ℕ → RunTally → List Event → (lost most : ℕ) → Counts
+counts_by jobs t events lost most = record {
   jobs = jobs;
   completed = t.completed;
   value = t.value;
   abandoned = t.abandoned;
   lost = lost;
   taken = t.taken;
+  changes = count_by (λ e. changes_hands (Prints e)) events;
+  preempted = count_by is_preemption events;
   bound = most;
 }
 
 -- they are those of the steps
 counts_are : (k : Fraction) (jobs lost : ℕ) (t : RunTally) (most : ℕ) (all : List JobFacts) (events : List Event)
     → most ≡ bound k t.value → jobs ≡ length all → t ≡ tally_of events → lost ≡ all_lost all events
-    → counts_by jobs t lost most ≡ counts_of k events all (tally_of events).value
+    → counts_by jobs t events lost most ≡ counts_of k events all (tally_of events).value
 counts_are k jobs lost t most all events bounds count is rest =
-    ap (λ (u : RunTally). counts_by jobs u lost most) is
-    ∙ ap (λ n. counts_by n (tally_of events) lost most) count
-    ∙ ap (λ n. counts_by (length all) (tally_of events) n most) rest
-    ∙ ap (counts_by (length all) (tally_of events) (all_lost all events))
+    ap (λ (u : RunTally). counts_by jobs u events lost most) is
+    ∙ ap (λ n. counts_by n (tally_of events) events lost most) count
+    ∙ ap (λ n. counts_by (length all) (tally_of events) events n most) rest
+    ∙ ap (counts_by (length all) (tally_of events) events (all_lost all events))
     (bounds ∙ ap (λ (u : RunTally). bound k u.value) is)
 
 -- a valid run by its own steps
@@ -101,7 +105,7 @@ module _ (J : Instance) (k : Fraction) (jobs : ℕ) (tally : RunTally) (it : Cou
 
   -- so the lines of the counts are the summary
   pub told : (lost most : ℕ) → lost ≡ tally.released - tally.value → most ≡ bound k tally.value
-      → in_lines (counts_lines (counts_by jobs tally lost most)) ≡ summary J
+      → in_lines (counts_lines (counts_by jobs tally (printed J) lost most)) ≡ summary J
   told lost most rest bounds =
       let of = own_run J k it.valid it.listable it.ratio in
       ap (λ (c : Counts). in_lines (counts_lines c)) (counts_are k jobs lost tally most J.jobs (printed J) bounds
