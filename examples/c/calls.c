@@ -58,7 +58,7 @@ static int is_idle(dover *d, uint32_t status) {
 static void making(void) {
     const uint64_t big = UINT64_C(1) << 63;
     ROW(status_of(1, 1, 0, 10) == DOVER_BAD_VERSION);
-    ROW(status_of(1, 1, 4, 10) == DOVER_BAD_VERSION);
+    ROW(status_of(1, 1, 5, 10) == DOVER_BAD_VERSION);
     ROW(status_of(1, 1, UINT32_MAX, 10) == DOVER_BAD_VERSION);
     ROW(status_of(1, 2, 1, 10) == DOVER_BAD_RATIO);
     ROW(status_of(1, 0, 1, 10) == DOVER_BAD_RATIO);
@@ -74,7 +74,8 @@ static void making(void) {
     ROW(factor_status(1, 3, 10, 1, 1) == DOVER_BAD_FACTOR && factor_status(1, 3, 10, 2, 0) == DOVER_BAD_FACTOR);
     ROW(factor_status(1, 3, 10, 1000001, 1) == DOVER_BAD_FACTOR);
     ROW(factor_status(1, 3, 10, 2000, 1001) == DOVER_BAD_FACTOR);
-    ROW(factor_status(0, 4, 1000001, 0, 0) == DOVER_BAD_VERSION);
+    ROW(factor_status(0, 5, 1000001, 0, 0) == DOVER_BAD_VERSION);
+    ROW(status_of(1000000, 1, 4, 1000000) == DOVER_MADE && factor_status(1, 4, 10, 2, 1) == DOVER_MADE);
     ROW(factor_status(0, 3, 1000001, 0, 0) == DOVER_BAD_RATIO);
     ROW(factor_status(1, 3, 1000001, 0, 0) == DOVER_BAD_FACTOR);
     ROW(factor_status(1, 3, 1000001, 2, 1) == DOVER_BAD_CAPACITY);

@@ -31,14 +31,20 @@ static void settle(uint64_t mark) {
 }
 
 int main(void) {
-    uint32_t p, q, version = 1;
+    uint32_t p, q, version = 1, b = 0, c = 0;
     uint64_t j[4];
     dover_decision d;
     if (dover_size() > sizeof engine || scanf("k %" SCNu32 " %" SCNu32, &p, &q) != 2) return 1;
-    if (getchar() == ' ' && scanf("%" SCNu32, &version) != 1) return 1;
-    dover_init(&engine, p, q, version, 1000000);
+    if (getchar() == ' ') {
+        if (scanf("%" SCNu32, &version) != 1) return 1;
+        if (getchar() == ' ' && scanf("%" SCNu32 " %" SCNu32, &b, &c) != 2) return 1;
+    }
+    if (c) dover_init_factor(&engine, p, q, version, 1000000, b, c);
+    else dover_init(&engine, p, q, version, 1000000);
     if (dover_status(&engine) != DOVER_MADE) return 2;
-    printf("dover %" PRIu32 " %" PRIu32 " %" PRIu32 "\n", version, p, q);
+    printf("dover %" PRIu32 " %" PRIu32 " %" PRIu32, version, p, q);
+    if (c) printf(" %" PRIu32 " %" PRIu32, b, c);
+    printf("\n");
     for (char word[8]; scanf("%7s", word) == 1 && word[0] != 'e';) {
         int fields = word[0] == 't' ? 1 : word[0] == 'd' ? 2 : 4;
         for (int i = 0; i < fields; i++)

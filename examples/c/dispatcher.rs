@@ -34,10 +34,18 @@ fn main() -> Result<(), Box<dyn std::error::Error>> {
     let head = numbers(lines.next().ok_or("no first line")?)?;
     let (p, q, version) = (head[0], head[1], head.get(2).copied().unwrap_or(1));
     let mut out = std::io::stdout().lock();
-    let mut engine = Dover::new(p as u32, q as u32, version as u32, 1_000_000)
-        .map_err(|status| format!("no engine: {status}"))?;
+    let made = match head.get(3..5) {
+        Some(&[b, c]) => {
+            writeln!(out, "dover {version} {p} {q} {b} {c}")?;
+            Dover::with_factor(p as u32, q as u32, version as u32, 1_000_000, b as u32, c as u32)
+        }
+        _ => {
+            writeln!(out, "dover {version} {p} {q}")?;
+            Dover::new(p as u32, q as u32, version as u32, 1_000_000)
+        }
+    };
+    let mut engine = made.map_err(|status| format!("no engine: {status}"))?;
     let mut jobs = Vec::new();
-    writeln!(out, "dover {version} {p} {q}")?;
     for line in lines.take_while(|line| *line != "end") {
         let fields = numbers(line)?;
         settle(&mut out, &mut engine, fields[0], &jobs)?;
