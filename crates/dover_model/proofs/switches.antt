@@ -1,4 +1,5 @@
 -- How often the processor changes hands, who pays for it, and what it costs.
+pub mod OneJob
 pub mod Switching
 pub mod Stretches
 pub mod PayingForward

@@ -19,6 +19,7 @@ pub enum Version {
 impl Version {
     ghost use Rattle.std.specs.Prelude.{◌≡◌, ◌≤◌};
     ghost use Rattle.dover_model.specs.Limits as limits;
+    ghost use Rattle.dover_model.specs.Orders as orders;
     ghost use Rattle.dover_model.specs.Session as session;
     ghost use Rattle.dover_model.specs.Text.{version_number};
     ghost use Rattle.dover_model.specs.Verdict.{version_of_number};
@@ -102,6 +103,17 @@ impl Version {
         match self {
             Version::One => false,
             Version::Two | Version::Three | Version::Four => true,
+        }
+    }
+
+    /// Whether waiting jobs are chosen by density: in version Four, in a pressed state.
+    #[inline(always)]
+    pub fn by_density(self, pressed: bool) -> bool
+        ensures { result ≡ orders.by_density self pressed }
+    {
+        match self {
+            Version::One | Version::Two | Version::Three => false,
+            Version::Four => pressed,
         }
     }
 

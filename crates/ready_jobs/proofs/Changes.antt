@@ -16,7 +16,7 @@ use Rattle.waiting_pool.specs.Pools.{HaveOwnNumbers}
 use Rattle.ready_jobs.specs.Parts.{Parted, HaveRole, HaveRoles, ready_of}
 use Rattle.ready_jobs.specs.Changed.{named, AreOnce, made_wait, Leaves}
 use Rattle.waiting_pool.proofs.Reordering.{same_order, both_parts, turned, further, filtered, mapped}
-use Rattle.waiting_pool.proofs.Pooling.{between}
+use Rattle.waiting_pool.proofs.Places.{between}
 use Rattle.ready_jobs.proofs.Seeing.{filter_each, filter_none}
 
 -- ---- numbers of their own, as often as they are there

@@ -46,7 +46,7 @@ use Rattle.ready_jobs.specs.Course.{Settled, ComesNext, Takes, IsDue, Finishes, 
 use Rattle.ready_jobs.specs.Deeds.{Does, Finds, step_at}
 use Rattle.ready_jobs.specs.declared.actions.Action.{Action}
 use Rattle.waiting_pool.proofs.Reordering.{same_order, further, exchanged, as_many}
-use Rattle.waiting_pool.proofs.Pooling.{between}
+use Rattle.waiting_pool.proofs.Places.{between}
 use Rattle.ready_jobs.specs.Changed.{Leaves, AreOnce, named, completed}
 use Rattle.ready_jobs.proofs.Changes.{once_numbered, once_some, once_still, map_each, completes}
 use Rattle.ready_jobs.proofs.Seeing.{running_list}

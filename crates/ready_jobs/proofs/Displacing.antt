@@ -8,7 +8,8 @@ use Rattle.ready_jobs.specs.Changed.{made_wait}
 use Rattle.waiting_pool.specs.Pools.{Pooled}
 use Rattle.waiting_pool.specs.Reordered.{IsReordered}
 use Rattle.waiting_pool.specs.Short.{no_number}
-use Rattle.waiting_pool.proofs.Pooling.{between, length_more}
+use Rattle.waiting_pool.proofs.Places.{between}
+use Rattle.waiting_pool.proofs.Pooling.{length_more}
 use Rattle.waiting_pool.proofs.Reordering.{same_order, both_parts, further, turned, as_many}
 
 -- of the jobs that were held some are still, and the others wait: those that will wait in the end are the same

@@ -95,24 +95,13 @@ fn later_running(running: &mut Option<Task>, ticks: u64)
     }
 }
 
-// The job i is less dense than j.
-#[inline(always)]
+// The job i is less dense than j. It stands apart, so that what calls it stays small.
+#[inline(never)]
 fn is_less_dense(i: &Task, j: &Task) -> bool
     ensures { result ≡ is_less_dense i.now j.now }
 {
     u128::from(i.job.value()) * u128::from(j.job.work())
         < u128::from(j.job.value()) * u128::from(i.job.work())
-}
-
-// Waiting jobs are chosen by density.
-#[inline(always)]
-fn by_density(version: Version, pressed: bool) -> bool
-    ensures { result ≡ by_density version pressed }
-{
-    match version {
-        Version::One | Version::Two | Version::Three => false,
-        Version::Four => pressed,
-    }
 }
 
 // How many jobs it is.
@@ -290,7 +279,7 @@ impl Parts {
     fn yields(&self, r: &Task, f: &Task) -> bool
         ensures { result ≡ (by_density self.now.version self.now.pressed && is_less_dense f.now r.now) }
     {
-        by_density(self.version(), self.pressed) && is_less_dense(f, r)
+        self.version().by_density(self.pressed) && is_less_dense(f, r)
     }
 
     // The fresh job f preempts the running job r: it is due before r, its work fits the room, and it doesn't yield.
@@ -522,8 +511,8 @@ impl Parts {
         Ok(())
     }
 
-    // Whether the state stays pressed: it is, and some job is ready.
-    #[inline(always)]
+    // Whether the state stays pressed: it is, and some job is ready. It stands apart too.
+    #[inline(never)]
     fn stays_pressed(&self) -> bool
         ensures { result ≡ (self.now.pressed && list_any is_open_job (ready_of self.now)) }
     {

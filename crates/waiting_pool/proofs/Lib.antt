@@ -1,2 +1,4 @@
+pub mod LongDivision
 pub mod Reordering
+pub mod Places
 pub mod Pooling

@@ -1,5 +1,5 @@
 //! The jobs that wait.
-ghost use Rattle.std.specs.Prelude.{◌≡◌, ℕ, ◌+◌, ◌*◌, ◌^◌, ◌<◌, ◌≤◌, [], ◌∷◌, ◌++◌, slice_set, length, List, Option};
+ghost use Rattle.std.specs.Prelude.{◌≡◌, ℕ, ◌+◌, ◌*◌, ◌/◌, ◌^◌, ◌<◌, ◌≤◌, [], ◌∷◌, ◌++◌, slice_set, length, List, Option};
 ghost use Rattle.std.specs.Prelude.{Some, None, max, vec_len, vec_capacity, option_map, IsOk, IsNone, IfSome, OnOk};
 ghost use Rattle.std.specs.Prelude.{OnErr, replicate, slice_get, slice_index_or, is_some, count_by};
 ghost use Rattle.dover_model.specs.declared.events.Version.{Version};
@@ -25,9 +25,7 @@ use std::alloc::Global;
 use std::marker::Model;
 use std::sync::ledger::Ledger;
 
-// What one is in the parts of a density, and what is more than any density has.
-const ONE: u128 = 1 << 80;
-
+// What is more parts than any density has.
 const MOST_DENSITY: u128 = 1 << 112;
 
 // What a tick of the deadline counts for beside the tie.
@@ -88,6 +86,19 @@ fn latest_item(version: Version, place: u32, t: &Task) -> Item<ShortRank>
     )
 }
 
+// The value for each tick of work in 2^80 parts of one, by long division: 34 binary digits, and twice 23 more.
+fn density_of(value: u64, work: u64) -> u128
+    requires value { value ≤ 1_000_000_000 }
+    requires some { 0 < work }
+    requires work { work ≤ 1_000_000_000_000 }
+    ensures { result ≡ value * 2 ^ 80 / work }
+{
+    let high = value * (1 << 34);
+    let middle = high % work * (1 << 23);
+    let low = middle % work * (1 << 23);
+    u128::from(high / work) * (1 << 46) + (u128::from(middle / work) * (1 << 23) + u128::from(low / work))
+}
+
 // The item of the job by its density. Its place, number and deadline are compared where densities are equal.
 #[inline(always)]
 fn dense_item(place: u32, t: &Task) -> Item<LongRank>
@@ -95,24 +106,13 @@ fn dense_item(place: u32, t: &Task) -> Item<LongRank>
     ensures { result ≡ dense_item place t.now }
 {
     let (value, work, deadline) = (t.job.value(), t.job.work(), t.job.deadline());
-    let density = value as u128 * ONE / work as u128;
+    let density = density_of(value, work);
     let rest = deadline as u128 * DEADLINE + u128::from(tie_of(Version::Four, value));
     Item::long(MOST_DENSITY - density, rest, t.number, place)
 }
 
-// Whether the first waiting job is the densest one.
-#[inline(always)]
-fn by_density(version: Version, pressed: bool) -> bool
-    ensures { result ≡ by_density version pressed }
-{
-    match version {
-        Version::One | Version::Two | Version::Three => false,
-        Version::Four => pressed,
-    }
-}
-
-// Keeps the item by density of the job at a place, in version Four.
-#[inline(always)]
+// Keeps the item by density of the job at a place, in version Four. It stands apart, so that what calls it stays small.
+#[inline(never)]
 fn add_dense<L: Ledger>(
     version: Version,
     heap: &mut Heap<LongRank>,
@@ -127,13 +127,13 @@ fn add_dense<L: Ledger>(
     ensures count { (d : ℕ) → (IsByDensity version → count_by is_some heap.old + 1 < 2 ^ d) →
         comparisons.new + 2 * d ≤ comparisons.old + orders_of version * d }
 {
-    if by_density(version, true) {
+    if version.by_density(true) {
         heap.insert(dense_item(place, t), comparisons);
     }
 }
 
-// Takes out what is kept by density of a place.
-#[inline(always)]
+// Takes out what is kept by density of a place. It stands apart too.
+#[inline(never)]
 fn remove_dense<L: Ledger>(
     version: Version,
     heap: &mut Heap<LongRank>,
@@ -144,7 +144,7 @@ fn remove_dense<L: Ledger>(
     ensures count { (d : ℕ) → (IsByDensity version → count_by is_some heap.old + 1 < 2 ^ d) →
         comparisons.new + 6 * d ≤ comparisons.old + 3 * orders_of version * d }
 {
-    if by_density(version, true) {
+    if version.by_density(true) {
         heap.remove(place, comparisons);
     }
 }
@@ -170,7 +170,7 @@ fn waiting_place(
         (IsByDensity version → HasItems item_by_density slots dense.now) → HaveOwnNumbers (jobs_at slots) →
         AreModest (jobs_at slots) → IsPlaceOf (waiting_order version (by_density version pressed)) slots result }
 {
-    if by_density(version, pressed) {
+    if version.by_density(pressed) {
         return first_place(dense);
     }
     first_place(by_deadline)
@@ -295,7 +295,7 @@ fn reserve_dense(version: Version, heap: &mut Heap<LongRank>, places: u32) -> Re
     ensures grows { (k : ℕ) × (heap.new ≡ heap.old ++ replicate k None) }
     ensures fits { OnOk result (IsByDensity version → places ≤ length heap.new) }
 {
-    if by_density(version, true) {
+    if version.by_density(true) {
         return heap.reserve(places);
     }
     Ok(())

@@ -25,7 +25,8 @@ use Rattle.dover_model.proofs.runs.Ending.{run_is_whole}
 use Rattle.dover_model.proofs.runs.Once.{takes_once, preempts_once, runs_complete}
 use Rattle.dover_model.proofs.runs.Runs.{run_states}
 use Rattle.dover_model.proofs.runs.Once.{rest_of, rest_fails}
-use Rattle.dover_model.proofs.switches.Switching.{young, next, next_number, next_role, step_turned, same_task}
+use Rattle.dover_model.proofs.switches.OneJob.{young, next, next_number, next_role, same_task}
+use Rattle.dover_model.proofs.switches.Switching.{step_turned}
 use Rattle.dover_model.proofs.switches.Switching.{over_run_with, hits_named, preempts_some, takes_some}
 use Rattle.dover_model.proofs.switches.Switching.{each_finds, deed_preempts, deed_takes, completes_few}
 use Rattle.dover_model.proofs.switches.Switching.{count_all, length_enumerate, job_is, changes_parts}

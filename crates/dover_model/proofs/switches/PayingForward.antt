@@ -25,8 +25,10 @@ use Rattle.dover_model.proofs.finishes.Readiness.{runner}
 use Rattle.dover_model.proofs.runs.Ending.{run_is_whole}
 use Rattle.dover_model.proofs.runs.Honest.{whole_outcome, all_ticks}
 use Rattle.dover_model.proofs.runs.Once.{takes_once, rest_of, rest_fails}
-use Rattle.dover_model.proofs.switches.Switching.{young, fresh_any, step_turned, over_run, completes_once}
-use Rattle.dover_model.proofs.switches.Switching.{fresh_same, IsTaken, deed_taken_then, deed_returns, rest_taken}
+use Rattle.dover_model.proofs.switches.OneJob.{young, fresh_any}
+use Rattle.dover_model.proofs.switches.Switching.{step_turned, over_run, completes_once}
+use Rattle.dover_model.proofs.switches.OneJob.{fresh_same}
+use Rattle.dover_model.proofs.switches.Switching.{IsTaken, deed_taken_then, deed_returns, rest_taken}
 use Rattle.dover_model.proofs.switches.Stretches.{its_job, at_end}
 use Rattle.dover_model.proofs.lists.Tests.{never}
 

@@ -18,7 +18,8 @@ use Rattle.dover_model.proofs.finishes.Readiness.{runner}
 use Rattle.dover_model.proofs.runs.Honest.{whole_outcome, all_ticks}
 use Rattle.dover_model.proofs.valid.Limiting.{jobs_most}
 use Rattle.dover_model.proofs.valid.ValidParts.{valid_parts}
-use Rattle.dover_model.proofs.switches.Switching.{next, next_there, next_number, next_role, step_turned, on, opens}
+use Rattle.dover_model.proofs.switches.OneJob.{next, next_there, next_number, next_role, on}
+use Rattle.dover_model.proofs.switches.Switching.{step_turned, opens}
 use Rattle.dover_model.proofs.switches.Switching.{opens_coming, gets_few, job_there}
 use Rattle.dover_model.proofs.lists.Tests.{never}
 

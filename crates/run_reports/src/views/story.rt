@@ -382,20 +382,10 @@ fn waits_line(version: Version, fits: bool) -> &'static [u8]
     if !fits {
         return b"at @ it waits, its work @ above the room @\n";
     }
-    if chooses_by_density(version) {
+    if version.by_density(true) {
         return b"at @ it waits, due no earlier than the job that runs or less dense, its work @ within the room @\n";
     }
     b"at @ it waits, due no earlier than the job that runs, its work @ within the room @\n"
-}
-
-/// Whether the version chooses by density in a pressed state.
-fn chooses_by_density(version: Version) -> bool
-    ensures { result ≡ by_density version true }
-{
-    match version {
-        Version::One | Version::Two | Version::Three => false,
-        Version::Four => true,
-    }
 }
 
 /// Appends what a take means for the job, which runs or is held where `on` is true.

@@ -51,24 +51,15 @@ fn is_spread(task: &PeriodicTask) -> bool
     task.deadline - task.work < task.period && task.work <= task.period
 }
 
-/// Whether sets of jobs are tried: only what always chooses by deadline lets no others hold the processor together.
-fn tries_sets(version: Version) -> bool
-    ensures { result ≡ not (by_density version true) }
-{
-    match version {
-        Version::One | Version::Two | Version::Three => true,
-        Version::Four => false,
-    }
-}
-
-/// What jobs of the other tasks are worth at most that can stand against one of the task.
+/// What jobs of the other tasks are worth at most that can stand against one of the task. Sets of jobs are tried where
+/// the version always chooses by deadline: only there no others hold the processor together.
 fn most_against(tasks: &[PeriodicTask], number: usize, version: Version, sums: &Sums) -> u128
     requires small { AreSmall (streams_of tasks.now) }
     requires sums { AreSums (streams_of tasks.now) sums.now }
     requires number { number < length tasks.now }
     ensures { result ≡ most_against version (streams_of tasks.now) number }
 {
-    if tries_sets(version) && sums.crossing_beside(tasks, number) <= MOST_TRIED {
+    if !version.by_density(true) && sums.crossing_beside(tasks, number) <= MOST_TRIED {
         return u128::from(most_fitting(tasks, number));
     }
     sums.worth_beside(tasks, number)

@@ -1,7 +1,8 @@
 use Rattle.std.proofs.Common.{◌∷◌, [], ◌++◌, Some, None, sym, ap, ◌∙◌, subst, set, length, arith}
 use Rattle.waiting_pool.specs.Reordered.{IsReordered}
 use Rattle.waiting_pool.specs.Pools.{IsPool, jobs_at}
-use Rattle.waiting_pool.proofs.Pooling.{within, same_length, jobs_out, left_room, left_kept, left_due_count}
+use Rattle.waiting_pool.proofs.Places.{within, same_length, jobs_out}
+use Rattle.waiting_pool.proofs.Pooling.{left_room, left_kept, left_due_count}
 use Rattle.waiting_pool.proofs.Pooling.{left_latest_count, left_dense_count}
 use Rattle.waiting_pool.proofs.pool.take_at.Goals as goal
 

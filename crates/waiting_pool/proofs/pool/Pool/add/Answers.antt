@@ -5,7 +5,8 @@ use Rattle.place_heap.specs.Orders.{due_item, latest_item}
 use Rattle.dover_model.specs.Entries.{entry_of}
 use Rattle.waiting_pool.specs.Reordered.{IsReordered}
 use Rattle.waiting_pool.specs.Pools.{Pooled, IsPool, item_by_density, jobs_at, orders_of}
-use Rattle.waiting_pool.proofs.Pooling.{same_length, jobs_in, add_free, add_inside, add_small, add_kept, add_due_ready}
+use Rattle.waiting_pool.proofs.Places.{same_length, jobs_in}
+use Rattle.waiting_pool.proofs.Pooling.{add_free, add_inside, add_small, add_kept, add_due_ready}
 use Rattle.waiting_pool.proofs.Pooling.{add_latest_ready, add_due_free, add_latest_free}
 use Rattle.waiting_pool.proofs.Pooling.{add_due_count, add_latest_count, add_dense_ready, add_dense_free}
 use Rattle.waiting_pool.proofs.Pooling.{add_dense_count}

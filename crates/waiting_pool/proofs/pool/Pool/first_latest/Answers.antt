@@ -3,7 +3,8 @@ use Rattle.dover_model.specs.Orders.{starts_before, first}
 use Rattle.dover_model.proofs.lists.Members.{some_same}
 use Rattle.waiting_pool.specs.Pools.{HaveOwnNumbers, AreModest, Pooled}
 use Rattle.waiting_pool.specs.Slots.{seen}
-use Rattle.waiting_pool.proofs.Pooling.{latest_none, latest_found, within}
+use Rattle.waiting_pool.proofs.Places.{within}
+use Rattle.waiting_pool.proofs.Pooling.{latest_none, latest_found}
 use Rattle.waiting_pool.proofs.pool.Pool.first_latest.Goals as goal
 
 pub job_at-requires : goal.job_at-requires

@@ -3,7 +3,7 @@ use Rattle.dover_model.specs.Orders.{waiting_order, by_density, first}
 use Rattle.dover_model.proofs.lists.Members.{some_same}
 use Rattle.waiting_pool.specs.Pools.{HaveOwnNumbers, AreModest, Pooled, IsPlaceOf}
 use Rattle.waiting_pool.specs.Slots.{seen}
-use Rattle.waiting_pool.proofs.Pooling.{within}
+use Rattle.waiting_pool.proofs.Places.{within}
 use Rattle.waiting_pool.proofs.pool.Pool.first_waiting.Goals as goal
 
 pub job_at-requires : goal.job_at-requires

@@ -4,7 +4,7 @@ use Rattle.dover_model.proofs.lists.Members.{some_same}
 use Rattle.dover_model.proofs.lists.Tests.{none_is_some}
 use Rattle.waiting_pool.specs.Reordered.{IsReordered}
 use Rattle.waiting_pool.specs.Pools.{HaveOwnNumbers, AreModest, Pooled, IsPlaceOf, jobs_at, orders_of}
-use Rattle.waiting_pool.proofs.Pooling.{within}
+use Rattle.waiting_pool.proofs.Places.{within}
 use Rattle.waiting_pool.proofs.pool.Pool.take_waiting.Goals as goal
 
 pub task_at-task-requires : goal.task_at-task-requires
