@@ -1,31 +1,20 @@
 -- Jobs at places: which are free, and the items of the others.
-use Rattle.std.proofs.Common.{◌≡◌, ℕ, zero, suc, ◌+◌, ◌-◌, ◌≤◌, ◌<◌, ◌⊎◌, inl, inr, List, [], ◌∷◌, ◌++◌, length, set}
-use Rattle.std.proofs.Common.{get_or, replicate, refl, sym, ap, ◌∙◌, subst, Bool, true, false, cond, arith, Option}
-use Rattle.std.proofs.Common.{Some, None, option_map, ◌==◌, is_some, Result, Ok, Err, OnOk, IsErr, slice_get, sum_by}
-use Rattle.std.proofs.Common.{if◌then◌else◌, fold, count_by, eq-eqb, ne_eqb, append_assoc, length-append, append-nil}
-use Rattle.std.proofs.Common.{OnErr}
+use Rattle.std.proofs.Common.{◌≡◌, ℕ, zero, suc, ◌+◌, ◌≤◌, ◌<◌, ◌⊎◌, inl, inr, List, [], ◌∷◌, ◌++◌, length, set}
+use Rattle.std.proofs.Common.{get_or, replicate, refl, sym, ap, ◌∙◌, subst, Bool, cond, arith, Option}
+use Rattle.std.proofs.Common.{Some, None, ◌==◌, is_some, slice_get, sum_by}
+use Rattle.std.proofs.Common.{count_by, eq-eqb, ne_eqb, append_assoc}
 use Rattle.std.proofs.lemmas.Bool.{cases_eq}
-use Rattle.std.proofs.lemmas.List.{length-replicate, replicate-append-replicate}
 use Rattle.std.proofs.lemmas.List.Sums.{sum_by-cons, sum_by-append}
-use Rattle.dover_model.specs.Common.{IsJob, entry_of, first, due_first, starts_before, waiting_order, by_density}
-use Rattle.dover_model.specs.Common.{earlier, IsMember, Each, EachTwo}
-use Rattle.dover_model.specs.declared.events.Version.{Version}
-use Rattle.dover_model.specs.declared.events.Version.TheVariants.{One, Two, Three, Four}
+use Rattle.dover_model.specs.Common.{IsMember}
 use Rattle.dover_model.specs.declared.events.Task.{Task}
-use Rattle.dover_model.proofs.valid.JobLimits.{job_limits}
-use Rattle.dover_model.proofs.lists.Members.{some_same, reduce_none}
-use Rattle.dover_model.proofs.lists.Tests.{never, none_is_some}
-use Rattle.place_heap.specs.Items.{ItemFacts, is_before}
-use Rattle.place_heap.specs.Orders.{due_item, latest_item, dense_item}
+use Rattle.dover_model.proofs.lists.Members.{some_same}
+use Rattle.dover_model.proofs.lists.Tests.{none_is_some}
+use Rattle.place_heap.specs.Items.{ItemFacts}
 use Rattle.place_heap.specs.Table.{items_of}
-use Rattle.place_heap.proofs.Ranking.{one_way, onward, total}
-use Rattle.place_heap.proofs.Tying.{ordered_as, due_itself, latest_itself}
-use Rattle.place_heap.proofs.Densities.{dense_law, dense_itself}
 use Rattle.waiting_pool.specs.Reordered.{IsReordered}
-use Rattle.waiting_pool.specs.Pools.{HaveOwnNumbers, AreModest, jobs_at, items_from, times, is_free, AreFree, HasItems}
-use Rattle.waiting_pool.specs.Pools.{IsPool, HasRoom, IsPlaceOf, item_of, item_by_deadline, item_by_latest}
-use Rattle.waiting_pool.specs.Pools.{item_by_density, orders_of, IsByDensity}
-use Rattle.waiting_pool.proofs.Reordering.{same_order, exchanged, both_parts, turned, as_many, first_is, first_only}
+use Rattle.waiting_pool.specs.Pools.{jobs_at, items_from, times, is_free, AreFree}
+use Rattle.waiting_pool.specs.Pools.{item_of}
+use Rattle.waiting_pool.proofs.Reordering.{same_order, exchanged, both_parts, turned}
 
 -- ---- a list around a place
 

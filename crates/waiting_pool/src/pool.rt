@@ -96,7 +96,8 @@ fn density_of(value: u64, work: u64) -> u128
     let high = value * (1 << 34);
     let middle = high % work * (1 << 23);
     let low = middle % work * (1 << 23);
-    u128::from(high / work) * (1 << 46) + (u128::from(middle / work) * (1 << 23) + u128::from(low / work))
+    u128::from(high / work) * (1 << 46)
+        + (u128::from(middle / work) * (1 << 23) + u128::from(low / work))
 }
 
 // The item of the job by its density. Its place, number and deadline are compared where densities are equal.

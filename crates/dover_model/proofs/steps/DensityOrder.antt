@@ -1,6 +1,6 @@
 -- The order of waiting jobs, by deadline or by density, is strict among jobs that have work.
 use Rattle.std.proofs.Common.{◌≡◌, ◌≢◌, ℕ, ◌+◌, ◌*◌, ◌<◌, ◌≤◌, ◌⊎◌, inl, inr, Bool, true, false, not, refl, sym, ap}
-use Rattle.std.proofs.Common.{◌∙◌, arith, nat_lt, lt-ltb, le-leb, ltb-true, ltb-false}
+use Rattle.std.proofs.Common.{◌∙◌, arith, nat_lt, lt-ltb, ltb-true, ltb-false}
 use Rattle.std.proofs.lemmas.Bool.{cases_lt}
 use Rattle.std.specs.Prelude.{◌||◌, ◌&&◌}
 use Rattle.std.proofs.Math.Nat.{mul-le-mul_left}

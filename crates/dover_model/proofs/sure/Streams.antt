@@ -2,20 +2,17 @@
 use Rattle.std.proofs.Common.{◌≡◌, ℕ, zero, suc, ◌+◌, ◌-◌, ◌*◌, ◌≤◌, ◌<◌, ◌⊎◌, inl, inr, List, [], ◌∷◌, length, refl}
 use Rattle.std.proofs.Common.{sym, ap, ◌∙◌, subst, Bool, true, false, cond, eqb, arith}
 use Rattle.std.specs.Prelude.{nat_le, nat_lt, not, ◌&&◌, get_or, max, ◌++◌, replicate}
-use Rattle.std.specs.Int.{div_ceil}
 use Rattle.std.specs.List.{sum_by, enumerate_from}
-use Rattle.std.proofs.Math.Nat.{lt_of_mul-lt-mul_right}
-use Rattle.std.proofs.lemmas.Grind.{div_ceil_times}
 use Rattle.std.proofs.lemmas.Nat.{mul-le}
 use Rattle.std.proofs.lemmas.Bool.{eqb-true, eq-eqb, ne_eqb, leb-true, leb-false, le-leb, ltb-true, and_parts}
 use Rattle.std.proofs.lemmas.Bool.{and_from, cases_lt}
 use Rattle.std.proofs.lemmas.List.Sums.{sum_by-cons}
 use Rattle.dover_model.specs.Common.{Fraction, JobFacts, IsJob, Instance, IsValid, numbered, IsHeavy, IsMember, Each}
-use Rattle.dover_model.specs.Common.{EachTwo, IsHeavyAt, IsCompleted, Stream, stream_at, blank_stream}
+use Rattle.dover_model.specs.Common.{IsHeavyAt, IsCompleted, Stream, stream_at, blank_stream}
 use Rattle.dover_model.specs.Common.{AreOfStreams, most_crossing, CanStack, worth_of, is_spread, IsSure, most_beside}
 use Rattle.dover_model.specs.Common.{IsOfStream, others, best_of, most_fitting, worth_beside}
 use Rattle.dover_model.specs.Sure.{crosses, crossing_beside, chosen_value, chosen_work, CanHold, work_within}
-use Rattle.dover_model.proofs.lists.Members.{sum_le, sum_same, sum_zero, sum_plus, term_le_sum, all_member}
+use Rattle.dover_model.proofs.lists.Members.{sum_le, sum_zero, term_le_sum, all_member}
 use Rattle.dover_model.proofs.lists.Members.{number_of}
 use Rattle.dover_model.proofs.valid.JobLimits.{JobLimits, job_limits}
 use Rattle.dover_model.proofs.valid.ValidParts.{valid_parts}

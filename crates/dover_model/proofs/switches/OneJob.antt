@@ -1,34 +1,25 @@
 -- What a step does to one job.
-use Rattle.std.proofs.Common.{◌≡◌, ℕ, suc, ◌+◌, ◌*◌, ◌≤◌, ◌<◌, inl, inr, List, [], ◌∷◌, length, refl, sym, ap}
-use Rattle.std.proofs.Common.{◌∙◌, subst, Bool, true, false, cond, arith, eqb, add-one}
-use Rattle.std.specs.Prelude.{◌==◌, ◌&&◌, ◌||◌, not, nat_le, nat_lt}
-use Rattle.std.specs.Bool.{MatchBool, then_some}
-use Rattle.std.specs.List.{count_by, sum_by, list_all, list_any, filter, enumerate_from}
-use Rattle.std.proofs.lemmas.Bool.{eqb-true, eqb-false, eq-eqb, ne_eqb, le-leb, lt-ltb, and_from}
-use Rattle.std.proofs.lemmas.List.Sums.{sum_by-cons}
-use Rattle.dover_model.specs.Common.{JobFacts, Fraction, Role, Coming, Fresh, Waiting, Held, Running, Done, Gone}
-use Rattle.dover_model.specs.Common.{Release, Preempt, Take, End, Task, Instance, IsValid}
-use Rattle.dover_model.specs.Common.{numbered, State, opening, to_come, is_fresh, is_over, is_done, is_privileged}
-use Rattle.dover_model.specs.Common.{is_ready_behind, left, value_sum, privileged, is_heavy, Move, Prints, Waits, Ticks}
-use Rattle.dover_model.specs.Common.{step, after, ◌or_else◌, with_role, displaced, ticked, role_after, Step}
-use Rattle.dover_model.specs.Common.{is_end, run, IsWholeRun, step_at, role_then, is_take_of, is_preempt_of, is_run}
-use Rattle.dover_model.specs.Common.{is_complete, gets, changes_hands, is_complete_of, starts, returns, may_preempt}
-use Rattle.dover_model.specs.Common.{may_take, most_changes, IsMember, Each, NoneRuns, IsSound, IsNumberedFrom, jobs_of}
-use Rattle.dover_model.specs.Common.{Keeps, one_if}
-use Rattle.dover_model.specs.Switches.{is_preempted, is_taken_from, returns_by, ComesBehind}
-use Rattle.dover_model.proofs.lists.Members.{map_member, on_map, filter_member, sum_le, sum_plus, sum_same, sum_zero}
-use Rattle.dover_model.proofs.lists.Members.{term_le_sum}
+use Rattle.std.proofs.Common.{◌≡◌, ℕ, suc, ◌+◌, ◌≤◌, ◌<◌, inl, inr, List, [], ◌∷◌, refl, sym, ap}
+use Rattle.std.proofs.Common.{◌∙◌, subst, Bool, true, false, cond, arith, eqb}
+use Rattle.std.specs.Prelude.{◌==◌, ◌&&◌, ◌||◌}
+use Rattle.std.specs.Bool.{then_some}
+use Rattle.std.specs.List.{list_all, list_any, filter}
+use Rattle.std.proofs.lemmas.Bool.{eqb-true, eqb-false, eq-eqb, ne_eqb}
+use Rattle.dover_model.specs.Common.{Fraction, Role, Coming, Fresh, Waiting, Held, Running, Done, Gone}
+use Rattle.dover_model.specs.Common.{End, Task}
+use Rattle.dover_model.specs.Common.{State, is_fresh, is_over, is_done}
+use Rattle.dover_model.specs.Common.{value_sum, Move, Prints, Waits, Ticks}
+use Rattle.dover_model.specs.Common.{after, ◌or_else◌, with_role, displaced, ticked, role_after}
+use Rattle.dover_model.specs.Common.{role_then}
+use Rattle.dover_model.specs.Common.{gets, is_complete_of}
+use Rattle.dover_model.specs.Common.{IsMember, IsSound, IsNumberedFrom}
+use Rattle.dover_model.specs.Common.{one_if}
+use Rattle.dover_model.specs.Switches.{is_preempted, is_taken_from}
+use Rattle.dover_model.proofs.lists.Members.{map_member}
 use Rattle.dover_model.proofs.steps.Roles.{passes, one_number, numbers_above}
-use Rattle.dover_model.proofs.steps.OneChange.{state_with, on_changed}
-use Rattle.dover_model.proofs.steps.Moves.{says, active_slack}
-use Rattle.dover_model.proofs.steps.Ticking.{Quiet}
-use Rattle.dover_model.proofs.bound.Calculus.{heavy_mono}
 use Rattle.dover_model.proofs.steps.Deeds.{Deed, Completed, Resumed, Started, Began, Preempted, Stayed, Arrived, Taken}
 use Rattle.dover_model.proofs.steps.Deeds.{Abandoned, Rested}
-use Rattle.dover_model.proofs.steps.Kept.{step_deed, step_kept, opening_keeps, come_coming, end_same}
-use Rattle.dover_model.proofs.runs.Ending.{run_is_whole}
-use Rattle.dover_model.proofs.runs.Once.{takes_once, preempts_once, runs_complete, rest_of, rest_fails}
-use Rattle.dover_model.proofs.runs.Runs.{run_states}
+use Rattle.dover_model.proofs.runs.Once.{rest_of}
 use Rattle.dover_model.proofs.lists.Tests.{never}
 
 -- ---- what a step does to one job

@@ -1,4 +1,4 @@
-use Rattle.std.proofs.Common.{◌≡◌, ◌+◌, ◌*◌, ◌/◌, ◌%◌, ◌∙◌, ap}
+use Rattle.std.proofs.Common.{◌+◌, ◌*◌, ◌/◌, ◌%◌, ◌∙◌, ap}
 use Rattle.waiting_pool.proofs.LongDivision.{in_steps}
 use Rattle.waiting_pool.proofs.pool.density_of.Goals as goal
 
