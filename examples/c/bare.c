@@ -1,9 +1,8 @@
-/* The engine where there is no operating system and no C library: the five functions below, and a division of the
-   compiler's own library, are all that it asks for, and memory comes from an arena. It serves the two jobs of
-   examples/overload.feed and prints the trace, and then once more, since the arena is free again behind dover_drop.
-   Only `say` and `leave` know that this program is run by Linux on x86-64, to be looked at: elsewhere these two, and the
-   start, are the board's.
-   Built with -ffreestanding -nostdlib -static, and -lgcc behind the engine. */
+/* The engine where there is no operating system and no C library: the five functions below are all that it asks for,
+   and memory comes from an arena. It serves the two jobs of examples/overload.feed and prints the trace, and then once
+   more, since the arena is free again behind dover_drop. Only `say` and `leave` know that this program is run by Linux
+   on x86-64, to be looked at: elsewhere these two, and the start, are the board's.
+   Built with -ffreestanding -nostdlib -static. */
 #include "dover.h"
 
 /* As many jobs may be open, and so much memory is enough for them: 116 bytes for each, and a little more. In version 4

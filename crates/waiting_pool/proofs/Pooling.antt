@@ -25,7 +25,8 @@ use Rattle.waiting_pool.specs.Pools.{IsPool, HasRoom, IsPlaceOf, item_of, item_b
 use Rattle.waiting_pool.specs.Pools.{item_by_density, orders_of, IsByDensity}
 use Rattle.waiting_pool.proofs.Reordering.{as_many, first_is, first_only}
 use Rattle.waiting_pool.proofs.Places.{place_of, job_there, last_free, free_taken, free_again, free_more}
-use Rattle.waiting_pool.proofs.Places.{within, same_length, jobs_in, jobs_out, each, items_length, item_at, item_set, item_count, item_job, job_item}
+use Rattle.waiting_pool.proofs.Places.{within, same_length, jobs_in, jobs_out, each, items_length, item_at, item_set}
+use Rattle.waiting_pool.proofs.Places.{item_count, item_job, job_item}
 
 -- what is said of a success says nothing of an error
 pub not_ok : {T E : Type 0} (P : Type 0) (r : Result T E) → IsErr r → OnOk r P

@@ -197,7 +197,8 @@ module _ {X : Type 0} (P : X → Type 0) (before : X → X → Bool)
               best = each_cons (λ y. before y (fold (earlier before) acc xs) ≡ true → ⊥) x xs
                   (λ at. elim it.good [
                     | inl same ↦ false≢true (sym h ∙ ap (before x) (sym same) ∙ at)
-                    | inr less ↦ false≢true (sym h ∙ onward x (fold (earlier before) acc xs) acc (fine x (inr (inl refl)))
+                    | inr less ↦ false≢true (sym h
+                        ∙ onward x (fold (earlier before) acc xs) acc (fine x (inr (inl refl)))
                         (fine _ (either it.there)) (fine acc (inl refl)) at less)
                   ])
                   it.best;

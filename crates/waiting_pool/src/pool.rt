@@ -1,7 +1,7 @@
 //! The jobs that wait.
-ghost use Rattle.std.specs.Prelude.{◌≡◌, ℕ, ◌+◌, ◌*◌, ◌/◌, ◌^◌, ◌<◌, ◌≤◌, [], ◌∷◌, ◌++◌, slice_set, length, List, Option};
-ghost use Rattle.std.specs.Prelude.{Some, None, max, vec_len, vec_capacity, option_map, IsOk, IsNone, IfSome, OnOk};
-ghost use Rattle.std.specs.Prelude.{OnErr, replicate, slice_get, slice_index_or, is_some, count_by};
+ghost use Rattle.std.specs.Prelude.{◌≡◌, ℕ, ◌+◌, ◌*◌, ◌/◌, ◌^◌, ◌<◌, ◌≤◌, [], ◌∷◌, ◌++◌, slice_set, length, List};
+ghost use Rattle.std.specs.Prelude.{Option, Some, None, max, vec_len, vec_capacity, option_map, IsOk, IsNone, IfSome};
+ghost use Rattle.std.specs.Prelude.{OnOk, OnErr, replicate, slice_get, slice_index_or, is_some, count_by};
 ghost use Rattle.dover_model.specs.declared.events.Version.{Version};
 ghost use Rattle.dover_model.specs.declared.events.Task.{Task};
 ghost use Rattle.dover_model.specs.Common.{entry_of, latest_start, due_first, starts_before, first, Each};

@@ -52,7 +52,8 @@ module _ (version : Version) (k : Fraction) (n value : ℕ) (jobs : List JobFact
       let es = drop (i + 1) steps in let ws = drop (i + 1) worths in let rs = drop (i + 1) rooms in
       ap (λ t. t ++ rest turned (i + 1)) longer
       ∙ append_assoc text (told version k n value on starts x e) (rest turned (i + 1))
-      ∙ ap (λ b. text ++ (told version k n value on starts x e ++ story_from version k n value jobs had b es ws rs)) turns
+      ∙ ap (λ b. text ++ (told version k n value on starts x e
+      ++ story_from version k n value jobs had b es ws rs)) turns
       ∙ ap (λ b. text ++ (told version k n value on b x e
       ++ story_from version k n value jobs had (on_after n on e) es ws rs)) begins
       ∙ ap (λ y. text ++ (told version k n value on (starts_first n es) y e
