@@ -21,19 +21,6 @@ pub says_ready : (t : ℕ) (task : Task) → task.job.release ≤ t → 0 < left
     → is_ready t task ≡ true
 says_ready t task released some fits = say_tests task.job.release t (left task) task.job.deadline released some fits
 
--- a job that isn't ready isn't so later either
-pub never_again : (t : ℕ) (task : Task) → task.job.release ≤ t → is_ready t task ≡ false → is_ready (t + 1) task ≡ false
-never_again t task released late = by_test (is_ready (t + 1) task) refl where
-  by_test : (b : Bool) → is_ready (t + 1) task ≡ b → b ≡ false
-  by_test false h = refl
-  by_test true h =
-      let says : (task.job.release ≤ t + 1) × (0 < left task) × (t + 1 + left task ≤ task.job.deadline) =
-      ready_says (t + 1) task h in
-      let again : is_ready t task ≡ true =
-      says_ready t task released says.1
-      (let fits : t + 1 + left task ≤ task.job.deadline = says.2 in omega arith) in
-      cc
-
 -- the job of this number alone is given the tick
 pub given_other : (n : ℕ) (task : Task) → eqb task.number n ≡ false → given n task ≡ task
 given_other n task other = ap (λ b. cond b (record task { had = task.had + 1 }) task) other
@@ -54,11 +41,3 @@ given_job n task = by_test (eqb task.number n) where
 -- a tick that goes to a number goes to a job that is ready
 abbrev pub Fits : ℕ → ℕ → List Task → Type 0
 Fits n t tasks = Each (λ task. eqb task.number n ≡ true → is_ready t task ≡ true) tasks
-
--- a job that isn't ready stays as it is
-pub idle_task : (n t : ℕ) (task : Task) → (eqb task.number n ≡ true → is_ready t task ≡ true) → is_ready t task ≡ false
-    → given n task ≡ task
-idle_task n t task fits late = by_test (eqb task.number n) refl where
-  by_test : (b : Bool) → eqb task.number n ≡ b → given n task ≡ task
-  by_test true same = let ready : is_ready t task ≡ true = fits same in cc
-  by_test false other = given_other n task other

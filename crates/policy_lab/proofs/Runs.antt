@@ -56,16 +56,6 @@ module _ (picks : Picks) (jobs : List JobFacts) where
         tasks : List Task
         tasks = tasks_at picks jobs t
 
-  -- the tick behind t
-  pub tasks_next : (t : ℕ)
-      → tasks_at picks jobs (t + 1) ≡ map (given (picked picks t (tasks_at picks jobs t))) (tasks_at picks jobs t)
-  tasks_next t = ap (tasks_at picks jobs) (add-one t)
-
-  pub schedule_next : (t : ℕ)
-      → schedule_before picks jobs (t + 1) ≡ schedule_before picks jobs t
-      ++ (picked picks t (tasks_at picks jobs t) ∷ [])
-  schedule_next t = ap (schedule_before picks jobs) (add-one t)
-
   -- the schedule has a place for each tick
   pub schedule_length : (t : ℕ) → length (schedule_before picks jobs t) ≡ t
   schedule_length zero = refl

@@ -33,11 +33,6 @@ abbrev cause_by : Bool → Bool → Option feed.Cause
 cause_by job few = cond job (cond few None (Some (feed.NotAdmitted refusal.Count)))
     (Some (feed.NotAdmitted refusal.BadJob))
 
-pub bad_job : (count : ℕ) (j : JobFacts) → (IsJob j → ⊥) → job_cause count j ≡ Some (feed.NotAdmitted refusal.BadJob)
-bad_job count j bad = by_bool (job_cause count j ≡ Some (feed.NotAdmitted refusal.BadJob)) (is_job j)
-    (λ passes. absurd (bad (record { passes = passes })))
-    (λ fails. ap (λ b. cause_by b (nat_lt count (most_jobs Three))) fails)
-
 pub too_many : (count : ℕ) (j : JobFacts) → IsJob j → most_jobs Three ≤ count
     → job_cause count j ≡ Some (feed.NotAdmitted refusal.Count)
 too_many count j job full = ap (λ b. cause_by b (nat_lt count (most_jobs Three))) job.passes
@@ -69,51 +64,7 @@ module _ (a : TextAccount) (j : JobFacts) (intake : Intake) (opened : a.standing
   abbrev offered : Option feed.Cause → TextAccount
   offered o = with_offer a j o
 
-  -- no ratio was declared
-  pub offered_first : intake.declared ≡ None
-      → StandsAt (progress.Refused cause.Declared) intake (offered (offer_cause a j))
-  offered_first none = by_rules a.rules refl (subst (λ d. KeepsRules d a.rules a.jobs) none keeps.rules) where
-    by_rules : (r : Option Rules) → a.rules ≡ r → KeepsRules None r a.jobs
-        → StandsAt (progress.Refused cause.Declared) intake (offered (offer_cause a j))
-    by_rules None is kept = ap (λ (r : Option Rules). (offered (elim r [
-      | None ↦ Some feed.Declared
-      | Some rules ↦ job_cause (length a.jobs) j
-    ])).standing) is ∙ ap (λ n. Faulty n feed.Declared) (sym keeps.counted)
-    by_rules (Some rules) is kept = absurd kept
-
-  -- the job was taken, or it wasn't
-  pub offered_later : (old new : Declaration) → intake.declared ≡ Some old
-      → (r : Result (Unit {0}) Cause)
-      → ((rules : Rules) (jobs : List JobFacts) → KeepsDeclared old rules jobs → Takes j rules jobs new r)
-      → (p : Progress) → (r ≡ Ok tt → p ≡ progress.Open) → ((c : Cause) → r ≡ Err c → p ≡ progress.Refused c)
-      → StandsAt p (record { lines = intake.lines; declared = Some new }) (offered (offer_cause a j))
-  offered_later old new some r takes p fine_is bad_is =
-      by_rules a.rules refl (subst (λ d. KeepsRules d a.rules a.jobs) some keeps.rules) where
-        after : Intake
-        after = record { lines = intake.lines; declared = Some new }
-
-        by_result : (rules : Rules) → a.rules ≡ Some rules → (r : Result (Unit {0}) Cause)
-            → (r ≡ Ok tt → p ≡ progress.Open) → ((c : Cause) → r ≡ Err c → p ≡ progress.Refused c)
-            → Takes j rules a.jobs new r → StandsAt p after (offered (job_cause (length a.jobs) j))
-        by_result rules is (Ok done) fine_is bad_is it = rw (fine_is refl, it.0) (
-          opened,
-          record {
-            counted = keeps.counted;
-            rules = rw is it.1;
-          },
-        )
-        by_result rules is (Err c) fine_is bad_is it = rw (bad_is c refl, it)
-            (ap (λ n. Faulty n (cause_of_fault c)) (sym keeps.counted))
-
-        by_rules : (o : Option Rules) → a.rules ≡ o → KeepsRules (Some old) o a.jobs
-            → StandsAt p after (offered (offer_cause a j))
-        by_rules None is kept = absurd kept
-        by_rules (Some rules) is kept = subst (λ o. StandsAt p after (offered (elim o [
-          | None ↦ Some feed.Declared
-          | Some rules ↦ job_cause (length a.jobs) j
-        ]))) (sym is) (by_result rules is r fine_is bad_is (takes rules a.jobs kept))
-
-  -- so it isn't
+  -- where there is a cause, the job wasn't taken
   pub offered_bad : (old : Declaration) → intake.declared ≡ Some old → (c : Cause)
       → ((rules : Rules) (jobs : List JobFacts) → KeepsDeclared old rules jobs
       → job_cause (length jobs) j ≡ Some (cause_of_fault c))

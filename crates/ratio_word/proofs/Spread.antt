@@ -23,14 +23,6 @@ first_member : (Under : JobFacts → JobFacts → Type 0) (jobs : List JobFacts)
 first_member Under jobs x it =
     subst (IsMember x.job) (sym it.place) (member_behind it.before (x.job ∷ it.behind) x.job (inl refl))
 
--- no jobs keep every ratio
-pub spread_none : IsSpread [] 1 1
-spread_none = record {
-  some = omega arith;
-  order = omega arith;
-  size = omega arith;
-  enough = λ k enough i j member. absurd member;
-  needed = λ k ratio keep. omega (arith, (ratio_limits ratio).above_one);
 }
 
 module _ (jobs : List JobFacts) (e : Extremes) (it : AreExtremes jobs e) where

@@ -33,23 +33,6 @@ AreAtUpTo tasks stances n = (j : ℕ) → j < n → slice_get (map stance_of tas
 
 module _ (tasks : List Task) (stances : List Stance) (n : ℕ) (stance : Stance)
     (there : slice_get stances n ≡ Some stance) where
-  -- so is this one
-  pub up_to_next : AreAtUpTo tasks stances n → IsAt tasks n stance → AreAtUpTo tasks stances (n + 1)
-  up_to_next so_far at j low = by_place (nat_cases j n (omega (arith, low))) where
-    nat_cases : (j n : ℕ) → j < n + 1 → (j < n) ⊎ (j ≡ n)
-    nat_cases zero zero low = inr refl
-    nat_cases zero (suc n) low = inl (omega arith)
-    nat_cases (suc j) zero low = absurd (omega (arith, low))
-    nat_cases (suc j) (suc n) low = by (nat_cases j n (omega (arith, low))) where
-      by : (j < n) ⊎ (j ≡ n) → (suc j < suc n) ⊎ (suc j ≡ suc n)
-      by (inl less) = inl (omega (arith, less))
-      by (inr same) = inr (ap suc same)
-
-    by_place : (j < n) ⊎ (j ≡ n) → slice_get (map stance_of tasks) j ≡ slice_get stances j
-    by_place (inl less) = so_far j less
-    by_place (inr same) = subst (λ m. slice_get (map stance_of tasks) m ≡ slice_get stances m) (sym same)
-        (slice_get-map stance_of tasks n ∙ at ∙ sym there)
-
   -- where it isn't, not all are
   pub not_all : (IsAt tasks n stance → ⊥) → AreAt tasks stances → ⊥
   not_all other all = other (sym (slice_get-map stance_of tasks n) ∙ ap (λ xs. slice_get xs n) all ∙ there)

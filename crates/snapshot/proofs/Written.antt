@@ -32,15 +32,6 @@ more_behind word (x ∷ xs) ys t = append_assoc word (32 ∷ with_numbers (decim
     ∙ ap (λ l. word ++ 32 ∷ l) (more_behind (decimal x) xs ys t)
     ∙ sym (append_assoc word (32 ∷ with_numbers (decimal x) (xs ++ ys)) t)
 
--- the first line, written from its end
-pub head_written : (h : Head)
-    → with_numbers (codes "snapshot") (version_number h.rules.version ∷ h.rules.ratio.p ∷ h.rules.ratio.q ∷ [])
-    ++ (numbers_behind (h.lines ∷ h.mark ∷ h.jobs ∷ factor_numbers h.rules.ratio.factor) ++ 10 ∷ [])
-    ≡ head_line h ++ 10 ∷ []
-head_written h =
-    more_behind (codes "snapshot") (version_number h.rules.version ∷ h.rules.ratio.p ∷ h.rules.ratio.q ∷ [])
-    (h.lines ∷ h.mark ∷ h.jobs ∷ factor_numbers h.rules.ratio.factor) (10 ∷ [])
-
 -- the numbers behind the ratio are short, with those of a factor
 pub counts_fit : (lines mark jobs b c : ℕ) → lines ≤ most_lines Three → mark ≤ last_tick → jobs ≤ most_jobs Three
     → b ≤ most_p → c ≤ most_q
@@ -65,14 +56,3 @@ counts_fit lines mark jobs b c few known listed small_b small_c =
       length-append (decimal b) (numbers_behind (c ∷ [])),
       length-append (decimal c) [],
     )
-
--- the line of a job, written from its end
-pub state_written : (t : Task) → with_numbers (codes "state") (t.number ∷ [])
-    ++ (32 ∷ (role_word t.role ++ (numbers_behind (t.had ∷ job_numbers t.job) ++ 10 ∷ []))) ≡ state_line t ++ 10 ∷ []
-state_written t =
-    ap (λ l. l ++ (32 ∷ (role_word t.role ++ (numbers_behind (t.had ∷ job_numbers t.job) ++ 10 ∷ []))))
-    (sym (behind (codes "state") (t.number ∷ [])))
-    ∙ joined (codes "state") (decimal t.number) (role_word t.role) (numbers_behind (t.had ∷ job_numbers t.job))
-    (10 ∷ [])
-    ∙ ap (λ l. (codes "state" ++ (32 ∷ (decimal t.number ++ (32 ∷ l)))) ++ 10 ∷ [])
-    (behind (role_word t.role) (t.had ∷ job_numbers t.job))

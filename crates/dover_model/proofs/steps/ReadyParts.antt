@@ -223,12 +223,6 @@ module _ (k : Fraction) (s : State) (sound : IsSound s) (m : Move) (deed : Deed 
         done_map (change m) s.tasks over_still,
       )
 
-  -- so is it told whether the state is pressed
-  pub pressed_then : (after s m).pressed ≡ (after (ready_part s) m).pressed
-  pressed_then = after_pressed s m ∙ sym (pressed_ready m s.pressed (after s m).tasks)
-      ∙ ap (pressed_by m s.pressed) ready_then
-      ∙ pressed_ready m s.pressed (after (ready_part s) m).tasks ∙ sym (after_pressed (ready_part s) m)
-
 module _ (J : Instance) (valid : IsValid J) (rules : Rules) (s : State) (keeps : Keeps J s) where
   -- an open step leaves the jobs that are over
   pub over_stays : Each (λ t. is_over t ≡ true → change (open_step rules s) t ≡ t) s.tasks

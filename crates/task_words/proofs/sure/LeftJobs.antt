@@ -16,13 +16,6 @@ behind_end (x ∷ xs) zero less = absurd (omega (arith, less))
 behind_end (x ∷ xs) (suc n) less = behind_end xs n (omega (arith, less))
 
 module _ (streams : List Stream) (x : ℕ) where
-  -- the first of those that are left
-  pub left_more : (n left : ℕ) → 0 < left
-      → left_from streams x n left ≡ stream_at streams n ∷ left_from streams x n (left - 1)
-  left_more n zero some = absurd (omega (arith, some))
-  left_more n (suc left) some =
-      ap (λ m. stream_at streams n ∷ left_from streams x n m) (let e : left ≡ suc left - 1 = omega arith in e)
-
   -- of the others from a place on, those at the place come first
   pub others_from : (n : ℕ) → n < length streams
       → others x (enumerate_from n (drop n streams)) ≡ left_from streams x n (copies streams x n)
@@ -47,18 +40,3 @@ module _ (streams : List Stream) (x : ℕ) where
   -- so many
   pub left_count : 0 < length streams → length (left_from streams x 0 (copies streams x 0)) ≡ count_beside streams x
   left_count some = ap (λ (l : List Stream). length l) (sym (left_all some)) ∙ length_others x 0 streams
-
-  -- the best without the first and with it
-  pub best_more : (n left work span value : ℕ) → 0 < left
-      → best_of (left_from streams x n left) work span value
-      ≡ max (best_of (left_from streams x n (left - 1)) work span value)
-      (best_of (left_from streams x n (left - 1)) (work + (stream_at streams n).work)
-      (max span (stream_at streams n).span) (value + (stream_at streams n).value))
-  best_more n left work span value some = ap (λ l. best_of l work span value) (left_more n left some)
-
-  -- one fewer
-  pub count_less : (n left : ℕ) → 0 < left
-      → length (left_from streams x n left) ≡ length (left_from streams x n (left - 1)) + 1
-  count_less n left some =
-      let e : length (left_from streams x n left) ≡ length (stream_at streams n ∷ left_from streams x n (left - 1)) =
-      ap (λ (l : List Stream). length l) (left_more n left some) in omega (arith, e)

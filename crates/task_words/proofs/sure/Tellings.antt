@@ -16,9 +16,6 @@ module _ (rules : Declaration) (streams : List Stream) (x : ℕ) where
   by_spread b = cond b (spread_line rules.ratio streams x (most_against rules.version streams x))
       (none_line x (codes " spread") [])
 
-  pub told_spread : is_spread (stream_at streams x) ≡ false → told_line x told.Spread ≡ sure_line rules streams x
-  told_spread fails = sym (ap by_spread fails)
-
   pub where_spread : is_spread (stream_at streams x) ≡ true → (line : List ℕ)
       → line ≡ spread_line rules.ratio streams x (most_against rules.version streams x)
       → line ≡ sure_line rules streams x
