@@ -276,6 +276,26 @@ renewed_course c old none = (
   renewed_follows c old none,
 )
 
+-- with its clock at 0 it is that of no jobs
+pub restarted : (k : Fraction) (p q : Parted) (jobs done : ℕ) → IsCourse (course_of k p jobs done)
+    → length (ready_of p) ≡ 0 → q ≡ record p { clock = 0 }
+    → course_of k q 0 0 ≡ new_course (record { ratio = k; version = p.version }) p.room
+restarted k p q jobs done old none is =
+    let c : Course = course_of k p jobs done in
+    let empty : ready_of p ≡ [] = no_items (ready_of p) none in
+    let calm : p.pressed ≡ false = none_pressed c old.0 old.1 old.2 empty in
+    ap (λ (r : Parted). course_of k r 0 0) is
+    ∙ ap (λ (ts : List Task). record (new_course c.rules c.room) { pressed = p.pressed; ready = ts }) empty
+    ∙ ap (λ b. record (new_course c.rules c.room) { pressed = b }) calm
+
+pub restarted_course : (c : Course) → IsCourse c → IsCourse (new_course c.rules c.room)
+restarted_course c old = (
+  record { rules = under c.rules []; jobs = [] },
+  opening [],
+  new_follows c.rules c.room
+      (subst (λ (rules : Rules). IsRatio rules.ratio) old.2.rules (valid_parts old.2.valid).ratio),
+)
+
 -- where no job was released, none is ready
 pub none_ready : (c : Course) → IsCourse c → c.jobs ≡ 0 → c.ready ≡ []
 none_ready c old none = let z : State = old.1 in

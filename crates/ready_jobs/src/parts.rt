@@ -491,6 +491,13 @@ impl Parts {
         self.pool.declare(version);
     }
 
+    /// The clock is 0 again.
+    pub fn reset_clock(&mut self)
+        ensures { self.new ≡ record self.old { clock = 0 } }
+    {
+        self.clock = 0;
+    }
+
     /// Room for so many ready jobs in all. Where there is, it takes no memory; want of it leaves all as before.
     pub fn reserve(&mut self, room: u32) -> Result<(), Memory>
         requires { room ≤ most_ready }

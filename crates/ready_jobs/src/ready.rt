@@ -5,7 +5,7 @@ ghost use Rattle.std.specs.Prelude.{option_map, filter};
 ghost use Rattle.dover_model.specs.declared.events.Event.{Event};
 ghost use Rattle.dover_model.specs.declared.events.Event.TheVariants.{End};
 ghost use Rattle.dover_model.specs.Common.{last_tick, most_jobs, most_ready, most_total, Instance, under, State};
-ghost use Rattle.dover_model.specs.Common.{is_held, Prints, open_step, view, waits_for_mark};
+ghost use Rattle.dover_model.specs.Common.{is_held, IsRatio, Prints, open_step, view, waits_for_mark};
 ghost use Rattle.dover_model.specs.declared.events.Version.TheVariants.{Three};
 ghost use Rattle.waiting_pool.specs.Reordered.{IsReordered};
 ghost use Rattle.waiting_pool.specs.Pools.{orders_of, IsByDensity};
@@ -189,6 +189,18 @@ impl Ready {
     {
         self.jobs = 0;
         self.done = 0;
+    }
+
+    /// Begins anew where none is ready: it is as a new one, with the room that it has. No memory is taken.
+    pub fn restart(&mut self)
+        requires { length self.old.ready ≡ 0 }
+        ensures anew { self.new ≡ new_course self.old.rules self.old.room }
+        ensures ratio { IsRatio self.old.rules.ratio }
+        ensures paid { (now : ℕ) → HasPaid self.new now now }
+    {
+        self.jobs = 0;
+        self.done = 0;
+        self.parts.reset_clock();
     }
 
     // Takes the silent steps up to the next printed one, or up to the barrier of the mark, and gives what comes there.

@@ -12,7 +12,7 @@ ghost use Rattle.dover_model.specs.declared.horizon.Horizon.{Horizon};
 ghost use Rattle.dover_model.specs.declared.horizon.Horizon.TheVariants.{Mark, End};
 ghost use Rattle.ready_server.specs.Serving.{Serves, Rests, HasPlace, HasPaid, spare_of, HasShortValue, CostsOnce};
 ghost use Rattle.ready_server.specs.Serving.{Finishes, GoesOnWith, HasPlaceUnlessFull};
-ghost use Rattle.ready_jobs.specs.Course.{successor_of};
+ghost use Rattle.ready_jobs.specs.Course.{successor_of, new_course};
 ghost use Rattle.ready_server.specs.NextStep.{ComesAt};
 
 use comparison_count::Comparisons;
@@ -241,6 +241,19 @@ impl ReadyServer {
         ensures renewed { self.new.ready ≡ record self.old.ready { jobs = 0; done = 0 } }
     {
         self.ready.renew();
+        self.last = 0;
+    }
+
+    /// Begins anew where no job is ready: it is as a new one, with the room that it has. No memory is taken.
+    pub fn restart(&mut self)
+        requires { length self.old.ready.ready ≡ 0 }
+        ensures serves { Serves self.new
+            (no_jobs self.old.ready.rules.version self.old.ready.rules.ratio) (Mark 0) [] }
+        ensures anew { self.new.ready ≡ new_course self.old.ready.rules self.old.ready.room }
+        ensures paid { (now : ℕ) → HasPaid self.new now now }
+    {
+        self.ready.restart();
+        self.ended = false;
         self.last = 0;
     }
 
