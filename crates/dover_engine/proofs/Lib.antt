@@ -1,5 +1,7 @@
 mod Giving
 mod Since
+mod InLives
 pub mod Lives
 pub mod LifeLaws
 pub mod Succeeding
+pub mod Restarting

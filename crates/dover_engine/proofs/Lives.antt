@@ -12,6 +12,9 @@ use Rattle.dover_model.specs.Common.{is_held, Fraction, JobFacts, most_jobs, Rul
 use Rattle.dover_model.specs.Common.{IsValid, declared_by, bare, having, with_jobs, with_finishes, is_end, printed}
 use Rattle.dover_model.specs.Common.{settled, tick_of_event, last_of, EarlyFinish, finish_at, may_finish_early, Finish}
 use Rattle.dover_model.specs.Common.{runner_of, Prints, Begins, IsTurn, NoneBefore, Turn, behind, behind_finish}
+use Rattle.dover_model.specs.Common.{completed_value, end_tick}
+use Rattle.dover_model.proofs.rest.RestTick.{rests_from}
+use Rattle.dover_model.proofs.runs.Runs.{last_value, value_last}
 use Rattle.dover_model.specs.Common.{before_end, completed_turns, instead_with, one_run, turn_under, turns_finishes}
 use Rattle.dover_model.specs.Common.{turns_jobs, refusal_of, MayFollow, is_ready_after, is_end_given, no_jobs, due_by}
 use Rattle.dover_model.specs.Common.{waits_among}
@@ -415,6 +418,31 @@ module _ (v : Life) (J : Instance) (es : List Event) (g : Gave v J es) where
 
   -- ---- rest
 
+  -- what is printed before the End
+  before_all : before ++ map (behind v.forgotten v.earned) (before_end (printed K)) ≡ before_end (printed J)
+  before_all = sym (joins (before_end (printed K)))
+      ∙ sym (before_end_of_last (bare J.rules) g.since g.tick turn g.turns g.over)
+      ∙ ap (λ I. before_end (printed I)) (sym g.all)
+
+  -- the End is the last that is printed, with what is completed
+  pub whole_end : printed J ≡ before_end (printed J) ++ (events.End (completed_value J) ∷ [])
+  whole_end = so ∙ ap (λ value. before_end (printed J) ++ (events.End value ∷ [])) (sym worth) where
+    value : ℕ
+    value = v.earned + completed_value K
+
+    so : printed J ≡ before_end (printed J) ++ (events.End value ∷ [])
+    so = printed_all
+        ∙ ap (λ fs. before ++ map (behind v.forgotten v.earned) fs)
+        (end_at_rest K (end_tick K) valid (rests_from K valid (end_tick K) (omega arith)))
+        ∙ ap (λ fs. before ++ fs)
+        (behind_last v.forgotten v.earned (completed_value K) (before_end (printed K)))
+        ∙ sym (append_assoc before (map (behind v.forgotten v.earned) (before_end (printed K)))
+        (events.End value ∷ []))
+        ∙ ap (λ fs. fs ++ (events.End value ∷ [])) before_all
+
+    worth : completed_value J ≡ value
+    worth = ap (last_value 0) so ∙ value_last 0 value (before_end (printed J))
+
   module _ (still : IsAtRest v) where
     abbrev t : ℕ
     t = (since.marked v K g.told g.gave still).0
@@ -439,6 +467,10 @@ module _ (v : Life) (J : Instance) (es : List Event) (g : Gave v J es) where
         ∙ ap (λ fs. before ++ map (behind v.forgotten v.earned) fs)
         (sym (end_at_rest K t valid (since.rests_at v K g.told g.gave still t last)))
         ∙ sym printed_all
+
+    -- it is what the run prints before its End
+    pub rest_events : es ≡ before_end (printed J)
+    rest_events = told_but_end ∙ before_all
 
     -- the turns with the one that is forgotten
     abbrev turns : List Turn
@@ -483,6 +515,23 @@ module _ (v : Life) (J : Instance) (es : List Event) (g : Gave v J es) where
               ∙ sym (before_end_of_last (bare J.rules) g.since g.tick turn g.turns g.over)
               ∙ sym (append-nil (before_end (printed (one_run J.rules turns))));
         }
+
+    -- or when it begins anew
+    pub restart_gave : (s : ReadyServer) (kept : Kept) (earned : ℕ)
+        → Serves s (no_jobs v.server.ready.rules.version v.server.ready.rules.ratio) (Mark 0) []
+        → StandsFor kept [] → kept.rules ≡ v.admission.rules → earned ≡ 0
+        → Gave (life_with s kept (Mark 0) false v.coming 0 earned)
+        (no_jobs v.admission.rules.version v.admission.rules.ratio) []
+    restart_gave s kept earned serves stands rules nothing =
+        let same : v.server.ready.rules ≡ v.admission.rules =
+        sym (ap declared_by g.gave.serves.follows.rules) ∙ sym g.gave.rules in
+        let none : v.coming ≡ None = (since.settled_now v K g.told g.gave still).none in
+        subst (λ n. Gave (life_with s kept (Mark 0) false v.coming 0 n)
+        (no_jobs v.admission.rules.version v.admission.rules.ratio) []) (sym nothing)
+        (subst (λ o. Gave (life_with s kept (Mark 0) false o 0 0)
+        (no_jobs v.admission.rules.version v.admission.rules.ratio) []) (sym none)
+        (new_gave v.admission.rules.version v.admission.rules.ratio s kept
+        (subst (λ (r : Declaration). Serves s (no_jobs r.version r.ratio) (Mark 0) []) same serves) stands rules))
 
 -- ---- what a job that is done says
 

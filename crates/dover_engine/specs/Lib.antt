@@ -3,3 +3,4 @@ pub mod Life
 pub mod Given
 pub mod Kept
 pub mod Calls
+pub mod Restarts

@@ -73,3 +73,14 @@ pub enum NotDone {
     /// A decision of the tick was given: the job got the processor at it, or a job of this release came before.
     Behind,
 }
+
+/// Why an engine wasn't restarted. The first of these causes that holds is the one that is answered.
+#[derive(Clone, Copy, Debug, PartialEq, Eq)]
+pub enum NotRestarted {
+    /// `finish` was called before.
+    Finished,
+    /// The run wasn't taken to a mark: `step` has to answer None first, and then no job to be admitted or done.
+    Unsettled,
+    /// A job is open.
+    Open,
+}

@@ -12,8 +12,9 @@ ghost use Rattle.dover_engine.specs.Decisions.{event_in};
 ghost use Rattle.dover_engine.specs.Given.{Gave};
 ghost use Rattle.dover_engine.specs.Calls.{not_made, mark_refusal, IsAdmitted, IsCause, BeginsAnew, Decides, IsNext};
 ghost use Rattle.dover_engine.specs.Calls.{IsDone, IsNotDone, HasNoProcessor};
+ghost use Rattle.dover_engine.specs.Restarts.{IsRestarted, IsNotRestarted};
 
-use crate::causes::{NotAdmitted, NotDone, NotMade, NotStepped, cause_behind};
+use crate::causes::{NotAdmitted, NotDone, NotMade, NotRestarted, NotStepped, cause_behind};
 use crate::decision::{Decision, decision_in};
 use crate::earned::Earned;
 use admission::Admission;
@@ -332,6 +333,39 @@ impl Engine {
         ensures once { CostsOnce self.old (event_in result) comparisons.old comparisons.new }
     {
         self.decide(Horizon::End, comparisons)
+    }
+
+    /// Begins anew at a moment of rest: the engine is as one that was just made, of the same version and ratio and with
+    /// the room that it has. The clock is at 0 again, and numbers and value begin at 0. The answer is the mark of the
+    /// last `step`, which is taken off the clock: a tick from now on is so many ticks later in the time before. A
+    /// program that adds up what was taken off never comes to the last tick. No memory is taken, and no jobs are
+    /// compared.
+    ///
+    /// # Errors
+    ///
+    /// `NotRestarted`, with the first cause that holds, and all as before.
+    pub fn restart(&mut self) -> Result<u64, NotRestarted>
+        ensures ok { IfOk result (λ tick. IsRestarted self.old self.new tick) }
+        ensures kept { OnErr result (self.new ≡ self.old) }
+        ensures cause { IfErr result (λ cause. IsNotRestarted self.old cause) }
+        ensures paid { (now : ℕ) → OnOk result (HasPaid self.new now now) }
+    {
+        let Horizon::Mark(mark) = self.last else {
+            return Err(NotRestarted::Finished);
+        };
+        if !self.settled {
+            return Err(NotRestarted::Unsettled);
+        }
+        if !self.server.is_idle() {
+            return Err(NotRestarted::Open);
+        }
+        self.server.restart();
+        self.admission = Admission::new(self.admission.version(), self.admission.ratio());
+        self.last = Horizon::Mark(0);
+        self.settled = false;
+        self.forgotten = 0;
+        self.earned = Earned::nothing();
+        Ok(mark)
     }
 
     /// The tick for which to call next. Where `step` to a mark answered None and no job was admitted or done since, it

@@ -1,7 +1,7 @@
 //! What an engine gives over its whole life, whatever calls are made of it: each law is the contract of a function that
 //! does nothing.
-ghost use Rattle.std.specs.Prelude.{◌≡◌, ◌≤◌, ◌++◌, ℕ, List, [], ◌∷◌, true, false, Option, Some, None, option_map};
-ghost use Rattle.std.specs.List.{enumerate_from};
+ghost use Rattle.std.specs.Prelude.{◌≡◌, ◌≤◌, ◌+◌, ◌++◌, ℕ, List, [], ◌∷◌, true, false, Option, Some, None, option_map};
+ghost use Rattle.std.specs.List.{enumerate_from, sum_by};
 ghost use Rattle.dover_model.specs.declared.events.Version.{Version};
 ghost use Rattle.dover_model.specs.declared.events.Event.{Event};
 ghost use Rattle.dover_model.specs.declared.events.Event.TheVariants as events;
@@ -14,6 +14,7 @@ ghost use Rattle.dover_engine.specs.Decisions.{event_in};
 ghost use Rattle.dover_engine.specs.Life.{Life, done_value, has_ended, IsAtRest, successor_of};
 ghost use Rattle.dover_engine.specs.Calls.{Call, Done, Stepped, Lives, admitted, jobs_in, finishes_in, all_jobs};
 ghost use Rattle.dover_engine.specs.Calls.{decided, LeadsAll};
+ghost use Rattle.dover_engine.specs.Restarts.{Past, LivesOn, jobs_anew, in_one_time, value_anew};
 
 /// Whatever jobs were admitted, done early and forgotten, and steps taken: the jobs are numbered from 0 in the order in
 /// which they were admitted, and the decisions that were given are those of the one run of all of them, in which those
@@ -77,4 +78,39 @@ pub fn a_life_is_worth_enough()
     ensures value { (version : Version) (k : Fraction) (calls : List Call) (w : Life) → Lives version k calls w →
         IsAtRest w →
         done_value w ≡ completed_value (all_jobs version k calls) }
+{}
+
+/// Of an engine that is restarted at rest, as often as its program likes: behind a restart it lives as one that was just
+/// made, so that the laws above hold of each life. In one time, in which each life but the first begins at the tick that
+/// was taken off the clock, and its jobs are numbered behind those before: what was given begins the one run of all the
+/// jobs that were ever admitted, at rest it is all of that but the End, and after the End it is the whole. With its
+/// ratio k, no schedule of all the jobs is worth more than (1 + √k)² times what that run completes, or what the factor
+/// allows, neither as they were declared nor as they were observed. It completes what the engine told as its value
+/// before each restart, and what the life since completes.
+pub fn lives_anew_are_one_run()
+    ensures life { (version : Version) (k : Fraction) (pasts : List Past) (calls : List Call) (w : Life) →
+        LivesOn version k pasts calls w →
+        Lives version k calls w }
+    ensures begins { (version : Version) (k : Fraction) (pasts : List Past) (calls : List Call) (w : Life) →
+        LivesOn version k pasts calls w →
+        Begins (in_one_time pasts (decided calls)) (printed (jobs_anew version k pasts calls)) }
+    ensures at_rest { (version : Version) (k : Fraction) (pasts : List Past) (calls : List Call) (w : Life) →
+        LivesOn version k pasts calls w → IsAtRest w →
+        in_one_time pasts (decided calls) ++ (events.End (value_anew pasts w) ∷ [])
+        ≡ printed (jobs_anew version k pasts calls) }
+    ensures ended { (version : Version) (k : Fraction) (pasts : List Past) (calls : List Call) (w : Life) →
+        LivesOn version k pasts calls w → has_ended w ≡ true →
+        in_one_time pasts (decided calls) ≡ printed (jobs_anew version k pasts calls) }
+    ensures within { (version : Version) (k : Fraction) (pasts : List Past) (calls : List Call) (w : Life)
+        (s : List ℕ) → LivesOn version k pasts calls w →
+        IsWithin k (worth (jobs_anew version k pasts calls) s)
+        (completed_value (jobs_anew version k pasts calls)) }
+    ensures observed { (version : Version) (k : Fraction) (pasts : List Past) (calls : List Call) (w : Life)
+        (s : List ℕ) → LivesOn version k pasts calls w →
+        IsWithin k (worth (observed (jobs_anew version k pasts calls)) s)
+        (completed_value (jobs_anew version k pasts calls)) }
+    ensures value { (version : Version) (k : Fraction) (pasts : List Past) (calls : List Call) (w : Life) →
+        LivesOn version k pasts calls w →
+        completed_value (jobs_anew version k pasts calls)
+        ≡ sum_by (λ past. past.value) pasts + completed_value (all_jobs version k calls) }
 {}

@@ -8,6 +8,6 @@ mod earned;
 pub mod engine;
 pub mod laws;
 
-pub use causes::{NotAdmitted, NotDone, NotMade, NotStepped};
+pub use causes::{NotAdmitted, NotDone, NotMade, NotRestarted, NotStepped};
 pub use decision::Decision;
 pub use engine::Engine;
