@@ -1,14 +1,15 @@
-//! Calls of `dover` over ports in memory.
+//! Calls over ports in memory, as the program makes them.
 ghost use Rattle.std.specs.Prelude.{◌≡◌, ◌<◌};
 
 use comparison_count::Comparisons;
 use dover_port::{MemoryPort, Status};
 use dover_top::dover;
+use help_words::help_word;
 use std::alloc::{AllocError, Global};
 use std::marker::Brand;
 use std::sync::ledger::{Blank, Ledger};
 
-/// One call over a port, with a ledger of its own.
+/// One call of `dover` over a port, with a ledger of its own.
 fn answer_in<L: Ledger>(
     rt: &HostRuntime,
     words: &[String],
@@ -23,9 +24,12 @@ fn answer_in<L: Ledger>(
     dover(rt.alloc(), words, port, &mut comparisons)
 }
 
-/// One call over a port.
+/// What words come to over a port: of `dover`, and where they ask for nothing there, of `help_word`.
 pub(crate) fn answer(rt: &HostRuntime, words: &[String], port: &mut MemoryPort) -> Status {
-    answer_in::<Brand>(rt, words, port, Blank::new(1))
+    match answer_in::<Brand>(rt, words, port, Blank::new(1)) {
+        Status::Usage => help_word(rt.alloc(), words, port),
+        status => status,
+    }
 }
 
 /// How a port gives its input and fails.
