@@ -1,5 +1,6 @@
 pub mod Counts
 pub mod Early
+pub mod Fates
 pub mod Findings
 pub mod Lines
 pub mod Rows

@@ -20,7 +20,7 @@ use Rattle.run_reports.specs.declared.report.endings.Ending.TheVariants.{Complet
 use Rattle.run_reports.specs.report.Counts.{jobs_released}
 use Rattle.run_reports.specs.report.Rows.{ending_of, ending_in, ending_by, ending_at, ending_fields, after_commas}
 use Rattle.run_reports.specs.report.Rows.{row_text, with_place, with_step, had_fields, last_fields, last_at, names_line}
-use Rattle.run_reports.specs.report.Rows.{rows_of_steps, rows_left, FindsNext}
+use Rattle.run_reports.specs.report.Rows.{rows_of_steps, rows_left, FindsNext, schedule_table}
 use Rattle.run_reports.specs.report.Starting.{starts_in, starts_fields, never}
 use Rattle.run_reports.specs.declared.report.starting.Starts.{Starts}
 use Rattle.run_reports.specs.report.Early.{had_at}
@@ -132,6 +132,18 @@ whole_table k run J of early served places starts is_early are each begun =
       ap (last_fields (had_at early served n)) (begun n (omega (arith, low))),
     )))
     ∙ table_is k run J of early served is_early are (jobs_released run) refl
+
+-- the same of a schedule, whichever policy made it
+pub whole_schedule : (run : List Event) (places : List ℕ) (starts : List Starts)
+    → ((n : ℕ) → n < length (jobs_released run) → ending_at run (slice_index_or places n 0) ≡ ending_in run n)
+    → ((n : ℕ) → n < length (jobs_released run) → slice_index_or starts n never ≡ starts_in run n)
+    → (rows_left run false [] places starts 0 0).names ++ in_lines (rows_left run false [] places starts 0 0).rows
+    ≡ schedule_table run
+whole_schedule run places starts each begun =
+    ap (λ rs. names_line false ++ in_lines rs)
+    (same_rows run (λ n. ending_at run (slice_index_or places n 0)) (last_at false [] starts)
+    (λ n. last_fields None (starts_in run n)) 0 run
+    (λ n low. (each n (omega (arith, low)), ap (last_fields None) (begun n (omega (arith, low))))))
 
 -- ---- the next release
 

@@ -2,14 +2,17 @@
 use Rattle.std.specs.Prelude.{◌≡◌, ℕ, ◌+◌, ◌<◌, ◌≤◌, List, [], ◌∷◌, ◌++◌, length, map, drop, set, ◌==◌, nat_lt, Bool}
 use Rattle.std.specs.Prelude.{true, false, if◌then◌else◌, slice_get, slice_index_or, Option, Some, None, codes, decimal}
 use Rattle.std.specs.Prelude.{filter_map, find, flat_map, option_map}
+use Rattle.std.specs.List.{enumerate_from}
 use Rattle.std.specs.Option.{option_map_or}
 use Rattle.dover_model.specs.declared.events.Event.{Event}
 use Rattle.dover_model.specs.declared.events.Event.TheVariants.{Release, Run, Preempt, Take, Complete, Abandon, End}
 use Rattle.dover_model.specs.JobFacts.{JobFacts, job_numbers}
 use Rattle.dover_model.specs.Reports.{Fate, fate_of_event, number_of}
 use Rattle.dover_model.specs.Reports as model
+use Rattle.dover_model.specs.Lines.{in_lines}
+use Rattle.run_reports.specs.report.Counts.{jobs_released}
 use Rattle.run_reports.specs.report.Early.{had_at}
-use Rattle.run_reports.specs.report.Starting.{starts_fields, never}
+use Rattle.run_reports.specs.report.Starting.{starts_fields, starts_in, never}
 use Rattle.run_reports.specs.declared.report.starting.Starts.{Starts}
 use Rattle.run_reports.specs.declared.report.endings.Ending.{Ending}
 use Rattle.run_reports.specs.declared.report.endings.Ending.TheVariants.{Completed, Abandoned}
@@ -99,6 +102,14 @@ rows_left run early served places starts next number = record {
   rows = rows_of_steps (λ n. ending_at run (slice_index_or places n 0)) (last_at early served starts) number
       (drop next run);
 }
+
+-- the row of a job of a schedule with these steps, whichever policy made it
+abbrev pub schedule_row : List Event → ℕ × JobFacts → List ℕ
+schedule_row run (n, j) = row_text n j (ending_in run n) (last_fields None (starts_in run n))
+
+-- the table of the schedule: the row of names, and a row for each job
+abbrev pub schedule_table : List Event → List ℕ
+schedule_table run = names_line false ++ in_lines (map (schedule_row run) (enumerate_from 0 (jobs_released run)))
 
 -- the next release behind so many steps is of this job, and so many steps are behind after it; or there is none
 abbrev pub FindsNext : List Event → ℕ → Option (ℕ × JobFacts) → Type 0

@@ -4,6 +4,9 @@ use Rattle.std.specs.Prelude.{false, not, ◌&&◌, nat_lt, nat_le, if◌then◌
 use Rattle.std.specs.List.{list_any}
 use Rattle.dover_model.specs.declared.events.Event.{Event}
 use Rattle.dover_model.specs.Common.{Instance, JobFacts, summary_lines, last_deadline, printed}
+use Rattle.run_reports.specs.report.Counts.{jobs_released}
+use Rattle.run_reports.specs.report.Fates.{fates_of}
+use Rattle.run_reports.specs.declared.report.fates.Fates.{Fates}
 use Rattle.run_reports.specs.report.Rows.{ending_in}
 use Rattle.run_reports.specs.declared.report.endings.Ending.{Ending}
 use Rattle.run_reports.specs.declared.report.endings.Ending.TheVariants.{Completed, Abandoned}
@@ -79,9 +82,15 @@ is_abandoned_in a b _ = false
 abbrev pub takes_in : (a b : ℕ) → Stay → Bool
 takes_in a b stay = stay.took && nat_le a stay.from && nat_lt stay.from b
 
+-- the tick behind a stay's last one, where the job may be abandoned in it
+abbrev pub stay_end : Option Ending → Stay → ℕ
+stay_end (Some (Abandoned at)) stay = min stay.until at
+stay_end _ stay = stay.until
+
 -- it runs in one of them
-abbrev pub runs_in : (a b : ℕ) → Stay → Bool
-runs_in a b stay = nat_lt stay.from stay.until && nat_lt stay.from b && nat_lt a stay.until
+abbrev pub runs_in : (a b : ℕ) → Option Ending → Stay → Bool
+runs_in a b ending stay =
+    nat_lt stay.from (stay_end ending stay) && nat_lt stay.from b && nat_lt a (stay_end ending stay)
 
 -- it is completed or abandoned by tick a
 abbrev pub is_over_by : ℕ → Option Ending → Bool
@@ -98,7 +107,7 @@ abbrev pub sign : (a b : ℕ) → List Stay → Option Ending → ℕ
 sign a b stays ending =
     if is_abandoned_in a b ending then 88 else (
     if list_any (takes_in a b) stays then 33 else (
-    if list_any (runs_in a b) stays then 35 else (
+    if list_any (runs_in a b ending) stays then 35 else (
     if is_begun_in a b stays ending then 45 else 46)))
 
 -- ---- the line of a job
@@ -148,3 +157,19 @@ pictured w J = summed_up (summary_lines J) ++ frame w ++ job_lines w (printed J)
 -- the whole text
 abbrev pub timeline : Option Window → Instance → Text
 timeline window J = pictured (window_or window J.jobs) J
+
+-- ---- the picture of a schedule, whichever policy made it
+
+-- what it comes to
+abbrev pub fates_line : Fates → Text
+fates_line f = filled (codes "jobs @, completed @ @, abandoned @ @, taken @\n")
+    (f.jobs ∷ f.completed ∷ f.value ∷ f.abandoned ∷ f.lost ∷ f.taken ∷ [])
+
+-- of these jobs and steps, in this window
+abbrev pub schedule_pictured : Window → List JobFacts → List Event → Text
+schedule_pictured w jobs run = fates_line (fates_of jobs run) ++ frame w ++ job_lines w run 0 jobs
+
+-- the whole text
+abbrev pub schedule_timeline : Option Window → List Event → Text
+schedule_timeline window run =
+    let jobs = jobs_released run in schedule_pictured (window_or window jobs) jobs run

@@ -4,7 +4,7 @@ ghost use Rattle.dover_model.specs.Common.{Instance, job_numbers, in_lines, Frac
 ghost use Rattle.run_record.specs.intervals.Rows.{IsRunOf};
 ghost use Rattle.line_text.specs.Writing.{most_written};
 ghost use Rattle.run_reports.specs.report.Rows.{after_commas, ending_fields, had_fields, last_fields, names_line};
-ghost use Rattle.run_reports.specs.report.Rows.{row_text, FindsNext, GivesRow};
+ghost use Rattle.run_reports.specs.report.Rows.{row_text, FindsNext, GivesRow, schedule_table};
 ghost use Rattle.run_reports.specs.report.Starting.{starts_fields};
 
 use crate::report::counts::releases;
@@ -59,6 +59,25 @@ impl TableRows {
             run,
             early,
             served,
+            places,
+            starts,
+            next: 0,
+            number: 0,
+        })
+    }
+
+    /// All rows of the table of a schedule with these steps, whichever policy made it. A row tells when the job first
+    /// had the processor and how often it got it. Want of memory is the only error, and no call takes memory after
+    /// this one.
+    pub fn of_schedule(alloc: Global, run: Vec<PackedEvent>) -> Result<TableRows, Memory>
+        ensures { IfOk result (λ t. t.names ++ in_lines t.rows ≡ schedule_table run.items) }
+    {
+        let places = endings(alloc, &run, releases(&run))?;
+        let starts = starts_of(alloc, &run, releases(&run))?;
+        Ok(TableRows {
+            run,
+            early: false,
+            served: Vec::new(alloc),
             places,
             starts,
             next: 0,

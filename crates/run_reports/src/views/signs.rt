@@ -51,7 +51,7 @@ fn sign(from: u128, until: u128, own: &[Stay], ending: Option<Ending>) -> u8
     if takes(from, until, own) {
         return b'!';
     }
-    if runs(from, until, own) {
+    if runs(from, until, own, ending) {
         return b'#';
     }
     if is_begun_in(from, until, own, ending) {
@@ -68,10 +68,10 @@ fn takes(from: u128, until: u128, own: &[Stay]) -> bool
 }
 
 /// Whether some stay has one of these ticks.
-fn runs(from: u128, until: u128, own: &[Stay]) -> bool
-    ensures { result ≡ list_any (picture.runs_in from until) own.now }
+fn runs(from: u128, until: u128, own: &[Stay], ending: Option<Ending>) -> bool
+    ensures { result ≡ list_any (picture.runs_in from until ending) own.now }
 {
-    own.iter().any(|stay| runs_in(from, until, stay))
+    own.iter().any(|stay| runs_in(from, until, ending, stay))
 }
 
 /// Whether the job had the processor before the tick `until`, and isn't over by the tick `from`.
@@ -106,10 +106,21 @@ fn takes_in(from: u128, until: u128, stay: &Stay) -> bool
 }
 
 /// Whether the job runs in one of these ticks.
-fn runs_in(from: u128, until: u128, stay: &Stay) -> bool
-    ensures { result ≡ picture.runs_in from until stay.now }
+fn runs_in(from: u128, until: u128, ending: Option<Ending>, stay: &Stay) -> bool
+    ensures { result ≡ picture.runs_in from until ending stay.now }
 {
-    stay.from < stay.until && u128::from(stay.from) < until && from < u128::from(stay.until)
+    let end = stay_end(ending, stay);
+    stay.from < end && u128::from(stay.from) < until && from < u128::from(end)
+}
+
+/// The tick behind a stay's last one, where the job may be abandoned in it.
+fn stay_end(ending: Option<Ending>, stay: &Stay) -> u64
+    ensures { result ≡ picture.stay_end ending stay.now }
+{
+    match ending {
+        Some(Ending::Abandoned(at)) => stay.until.min(at),
+        _ => stay.until,
+    }
 }
 
 /// Whether the job is completed or abandoned by this tick.

@@ -10,7 +10,7 @@ ghost use Rattle.run_reports.specs.views.Stays.{stays_of};
 ghost use Rattle.run_reports.specs.views.Timeline as picture;
 
 use crate::report::endings::{Ending, ending_at, endings};
-use crate::report::{Counts, count, released};
+use crate::report::{Counts, Fates, count, fates_of, released};
 use crate::views::signs::{put_blanks, put_signs};
 use crate::views::stays::{Stay, Stays};
 use crate::views::template::{put, put_wide};
@@ -42,6 +42,44 @@ pub fn timeline(
     put_frame(&mut text, &window)?;
     put_jobs(alloc, &mut text, &window, run, &jobs)?;
     Ok(text)
+}
+
+/// The schedule with these steps as a picture for a terminal, whichever policy made it, in the ticks of the window, or
+/// in all up to the last deadline: what it comes to, and behind that the ruler and the lines of a run's picture. Want of
+/// memory is the only error.
+pub fn schedule_timeline(
+    alloc: Global,
+    run: &[PackedEvent],
+    window: Option<Window>,
+) -> Result<Vec<u8>, Memory>
+    requires { length run.now ≤ 5_000_001 }
+    ensures { IfOk result (λ written. written.items ≡ picture.schedule_timeline window run.now) }
+{
+    let jobs = released(alloc, run)?;
+    let window = window_or(window, &jobs);
+    let mut text = Vec::new(alloc);
+    put_fates(&mut text, fates_of(&jobs, run))?;
+    put_frame(&mut text, &window)?;
+    put_jobs(alloc, &mut text, &window, run, &jobs)?;
+    Ok(text)
+}
+
+/// Appends what a schedule comes to.
+fn put_fates(text: &mut Vec<u8>, fates: Fates) -> Result<(), Memory>
+    ensures { OnOk result (text.new.items ≡ text.old.items ++ picture.fates_line fates) }
+{
+    put(
+        text,
+        b"jobs @, completed @ @, abandoned @ @, taken @\n",
+        &[
+            fates.jobs,
+            fates.completed,
+            fates.value,
+            fates.abandoned,
+            fates.lost,
+            fates.taken,
+        ],
+    )
 }
 
 /// The window that is asked for, or the ticks up to the last deadline.
