@@ -1,0 +1,4 @@
+pub mod Jobs
+pub mod Legal
+pub mod Account
+pub mod Keeping
