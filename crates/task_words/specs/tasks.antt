@@ -1,3 +1,4 @@
+pub mod Names
 pub mod Tasks
 pub mod Limits
 pub mod Merging

@@ -4,6 +4,7 @@ mod line_reading;
 mod lines;
 mod listed;
 mod reader;
+mod task_fields;
 mod text;
 
 pub use line_reading::read_task_line;

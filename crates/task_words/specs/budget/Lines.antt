@@ -7,14 +7,15 @@ use Rattle.dover_port.specs.declared.status.Status.TheVariants.{Done, Refused}
 use Rattle.task_words.specs.declared.tasks.task.PeriodicTask.{PeriodicTask}
 use Rattle.task_words.specs.reading.Lines.{task_numbers}
 use Rattle.task_words.specs.tasks.Limits.{AreTasks}
+use Rattle.task_words.specs.tasks.Names.{name_text}
 use Rattle.event_feed.specs.Feeds.{rules_text}
 use Rattle.task_words.specs.budget.Budgets.{budgeted, most_gets, task_at}
 
 -- ---- the text of tasks
 
--- the line of a task
+-- the line of a task, with its name where it has one
 abbrev pub task_text : PeriodicTask → List ℕ
-task_text task = with_numbers (codes "task") (task_numbers task)
+task_text task = with_numbers (codes "task") (task_numbers task) ++ name_text task.name
 
 -- the lines of tasks: their rules, each task, and the end
 abbrev pub tasks_lines : Declaration → List PeriodicTask → List (List ℕ)

@@ -3,6 +3,7 @@ use Rattle.std.specs.Prelude.{◌≡◌, ℕ, suc, ◌≤◌, ◌<◌, List, ◌
 use Rattle.std.specs.Prelude.{Option, Some, None, if◌then◌else◌, nat_lt}
 use Rattle.dover_model.specs.Common.{JobFacts, last_tick}
 use Rattle.place_heap.specs.Items.{ItemFacts}
+use Rattle.task_words.specs.tasks.Names.{blank_name}
 use Rattle.task_words.specs.tasks.Tasks.{releases, released_at, jobs_before}
 use Rattle.task_words.specs.declared.tasks.task.PeriodicTask.{PeriodicTask}
 
@@ -26,7 +27,7 @@ kept_release until number release = if nat_lt release until then Some (release_i
 
 -- read of no list
 abbrev pub blank_task : PeriodicTask
-blank_task = record { offset = 0; period = 0; work = 0; deadline = 0; value = 0 }
+blank_task = record { offset = 0; period = 0; work = 0; deadline = 0; value = 0; name = blank_name }
 
 -- nothing is released from one tick on before another
 abbrev pub IsQuiet : PeriodicTask → (from before : ℕ) → Type 0

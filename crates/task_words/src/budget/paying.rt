@@ -40,12 +40,14 @@ fn with_budget(
     if budget > u128::from(task.deadline) {
         return Err(gets);
     }
+    let name = task.name;
     Ok(PeriodicTask {
         offset: task.offset,
         period: task.period,
         work: budget as u64,
         deadline: task.deadline,
         value: task.value,
+        name,
     })
 }
 

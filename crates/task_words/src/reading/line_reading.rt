@@ -1,9 +1,11 @@
 //! A task text's line from its bytes.
-ghost use Rattle.std.specs.Prelude.{◌≡◌, Some, None, IfOk, OnErr};
+ghost use Rattle.std.specs.Prelude.{◌≡◌, ◌∷◌, Some, None, IfOk, OnErr, option_and_then};
+ghost use Rattle.dover_model.specs.Common.{numerals};
+ghost use Rattle.line_text.specs.Reading.{fields_left};
 ghost use Rattle.task_words.specs.reading.Lines as model;
 
 use crate::reading::lines::TaskLine;
-use crate::tasks::PeriodicTask;
+use crate::reading::task_fields::task_of_fields;
 use line_text::{BadLine, LINE_BYTES, cut_field, read_numbers};
 
 fn ratio_line(numbers: &[u64]) -> Option<TaskLine>
@@ -31,21 +33,6 @@ fn ratio_line(numbers: &[u64]) -> Option<TaskLine>
     }
 }
 
-fn task_line(numbers: &[u64]) -> Option<TaskLine>
-    ensures { result ≡ model.task_numbers_line numbers.now }
-{
-    match numbers {
-        [offset, period, work, deadline, value] => Some(TaskLine::Task(PeriodicTask {
-            offset: *offset,
-            period: *period,
-            work: *work,
-            deadline: *deadline,
-            value: *value,
-        })),
-        _ => None,
-    }
-}
-
 fn end_line(numbers: &[u64]) -> Option<TaskLine>
     ensures { result ≡ model.end_line numbers.now }
 {
@@ -61,12 +48,31 @@ fn line_of_word(word: &[u8], numbers: &[u64]) -> Option<TaskLine>
 {
     if word == b"k".as_slice() {
         ratio_line(numbers)
-    } else if word == b"task".as_slice() {
-        task_line(numbers)
     } else if word == b"end".as_slice() {
         end_line(numbers)
     } else {
         None
+    }
+}
+
+/// The line of a word and what is left behind it, where that is numbers.
+fn plain_line(word: &[u8], rest: Option<&[u8]>) -> Option<TaskLine>
+    ensures { result ≡ option_and_then (model.line_of_word word.now) (numerals (fields_left rest.entry)) }
+{
+    let Some(numbers) = read_numbers(rest) else {
+        return None;
+    };
+    line_of_word(word, numbers.as_slice())
+}
+
+/// The line of a word and what is left behind it.
+fn line_behind(word: &[u8], rest: Option<&[u8]>) -> Option<TaskLine>
+    ensures { result ≡ model.line_of_fields (word.now ∷ fields_left rest.entry) }
+{
+    if word == b"task".as_slice() {
+        task_of_fields(rest)
+    } else {
+        plain_line(word, rest)
     }
 }
 
@@ -79,10 +85,7 @@ fn read(line: &[u8]) -> Result<TaskLine, BadLine>
         return Err(BadLine);
     }
     let (word, rest) = cut_field(line);
-    let Some(numbers) = read_numbers(rest) else {
-        return Err(BadLine);
-    };
-    match line_of_word(word, numbers.as_slice()) {
+    match line_behind(word, rest) {
         Some(read) => Ok(read),
         None => Err(BadLine),
     }

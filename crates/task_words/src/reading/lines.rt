@@ -18,7 +18,7 @@ pub enum TaskLine {
         b: u64,
         c: u64,
     },
-    /// `task OFFSET PERIOD WORK DEADLINE VALUE`: the deadline counts from the release.
+    /// `task OFFSET PERIOD WORK DEADLINE VALUE`, and perhaps a name: the deadline counts from the release.
     Task(PeriodicTask),
     /// `end`: no more tasks.
     End,

@@ -2,6 +2,8 @@
 ghost use Rattle.std.specs.Prelude.{◌≡◌, ◌+◌, ◌-◌, ◌*◌, ◌^◌, ◌≤◌, ◌<◌};
 ghost use Rattle.task_words.specs.tasks.Tasks as model;
 
+use crate::tasks::name::TaskName;
+
 /// A task that releases a job at its offset, and one more each period. Times are in ticks. Its numbers may be out of
 /// all limits.
 #[derive(Clone, Copy)]
@@ -16,6 +18,8 @@ pub struct PeriodicTask {
     pub deadline: u64,
     /// The value of each job.
     pub value: u64,
+    /// The name, if it has one. It says nothing of the jobs.
+    pub name: TaskName,
 }
 
 impl PeriodicTask {
