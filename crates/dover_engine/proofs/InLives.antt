@@ -9,7 +9,7 @@ use Rattle.dover_model.specs.declared.events.Event.{Event}
 use Rattle.dover_model.specs.declared.events.Event.TheVariants.{End}
 use Rattle.dover_model.specs.Common.{JobFacts, IsJob, Rules, Instance, having, Finish, printed, observed}
 use Rattle.dover_model.specs.Common.{completed_value, worth, IsWithin, Each, step_at, IsAtRest, IsTurn, Turn, TurnsEnd}
-use Rattle.dover_model.specs.Common.{turn_under, turns_jobs, turns_observed, turns_finishes, one_run, printed_turns}
+use Rattle.dover_model.specs.Common.{turn_under, turns_jobs, turns_observed, turns_finishes, one_run}
 use Rattle.dover_model.specs.Common.{completed_turns, behind, behind_finish, before_end, later_job, later_event, anew}
 use Rattle.dover_model.specs.Common.{printed_anew}
 use Rattle.dover_model.specs.Rest.{completed_anew}

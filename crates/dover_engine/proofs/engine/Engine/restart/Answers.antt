@@ -5,7 +5,6 @@ use Rattle.ready_jobs.specs.Course.{Course}
 use Rattle.ready_jobs.proofs.Courses.{no_items}
 use Rattle.dover_engine.specs.Kept.{life_of}
 use Rattle.dover_engine.specs.Life.{life_with, Life, IsAtRest}
-use Rattle.dover_engine.specs.Given.{Gave}
 use Rattle.dover_engine.specs.Restarts.{IsRestarted}
 use Rattle.dover_engine.proofs.Lives.{restart_gave}
 use Rattle.dover_engine.proofs.engine.Engine.restart.Goals as goal
