@@ -15,6 +15,7 @@
            and that of densities start anew, each time; the clock and the numbers go on. An engine that never rests
            answers DOVER_COUNT or DOVER_TOTAL from such a limit on till the open jobs are over. No rest lifts two: the
            last tick, and 10,000,000,000,000,000,000 jobs in all, which are 10,000,000 for each tick that there is.
+           dover_restart lifts both: at rest it begins the clock and the numbers anew.
    Memory  dover_init takes all of it: 116 bytes for each job of the capacity, 152 in version 4, and a little more.
            No later call takes or gives back any, but dover_drop, which gives all back.
    Errors  Every call answers whatever it is asked, in any order, of a place that dover_init was called for, and of one
@@ -71,8 +72,8 @@ enum {
 uint32_t dover_status(dover *);
 
 /* Hands in a job. The status is the first of these causes that holds, in this order, and 0 where none does: then the
-   job has the next number, 0 at first. Numbers are never used twice. Since dover_step goes to the release before, the
-   clock has gone there also where the job is refused then. */
+   job has the next number, 0 at first. No number is used twice, but behind dover_restart. Since dover_step goes to the
+   release before, the clock has gone there also where the job is refused then. */
 typedef struct { uint64_t number; uint32_t status; } dover_admitted;
 enum {
     DOVER_ADMITTED = 0,
@@ -84,7 +85,7 @@ enum {
     DOVER_TOTAL = 4,     /* too much value since then */
     DOVER_DENSITY = 5,   /* its density and that of a job since then, which `number` names, break the ratio */
     DOVER_FULL = 6,      /* as many jobs are open as the capacity allows: wait till one is over, or drop the job */
-    DOVER_NUMBERS = 8    /* the most jobs in all */
+    DOVER_NUMBERS = 8    /* the most jobs in all since the last dover_restart */
 };
 dover_admitted dover_admit(dover *, uint64_t release, uint64_t work, uint64_t deadline, uint64_t value);
 
@@ -130,6 +131,22 @@ dover_decision dover_step(dover *, uint64_t mark);
 /* The next decision where no job can come any more: DOVER_END is the last, then there is DOVER_NONE. No job is
    admitted from then on. */
 dover_decision dover_finish(dover *);
+
+/* Begins anew at a moment of rest: the last dover_step answered DOVER_NONE, and no job is open. DOVER_RESTARTED: the
+   place is as dover_init left it, of the same ratio, factor, version and capacity. The clock is at 0, and the numbers
+   of jobs and the value begin at 0. `tick` is what was taken off the clock: the mark of that dover_step. A program that
+   adds up what was taken off, and reads dover_value before, goes on for ever: its ticks are so much later in the time
+   of before. All jobs before and behind are one run, and the guarantee holds for all of them. No memory is taken or
+   given back. Otherwise the tick is 0, and the status is the first of these causes that holds, in this order. */
+typedef struct { uint64_t tick; uint32_t status; } dover_restarted;
+enum {
+    DOVER_RESTARTED = 0,
+    /* DOVER_NOT_MADE = 7, there is no engine */
+    /* DOVER_FINISHED = 10, dover_finish was called */
+    /* DOVER_UNSETTLED = 1, dover_step has to answer DOVER_NONE first, and no job to be admitted or done then */
+    DOVER_OPEN = 2 /* a job is open */
+};
+dover_restarted dover_restart(dover *);
 
 /* The tick for which to call next. Where the last dover_step answered DOVER_NONE and no job was admitted or done since,
    it is that of the next decision if no job comes before: dover_step to any tick before it answers DOVER_NONE, so a

@@ -1,9 +1,10 @@
 -- What a program in C does, as calls of an engine.
 use Rattle.std.proofs.Common.{◌≡◌, ℕ, ◌≤◌, List, [], ◌∷◌, ◌++◌, map, refl, sym, ap, ◌∙◌, subst, cond, append-nil, Bool}
 use Rattle.std.proofs.Common.{true, false, inl, inr, Option, Some, None, ◌⊎◌, ◌==◌, ◌||◌, ◌&&◌, not, nat_lt, nat_le}
-use Rattle.std.proofs.Common.{Result, Ok, Err, filter, eqb-true, eq-eqb}
+use Rattle.std.proofs.Common.{Result, Ok, Err, filter, eqb-true, eq-eqb, ◌+◌, arith, sum_by}
 use Rattle.std.specs.List.{enumerate_from}
 use Rattle.std.proofs.lemmas.List.{map-append}
+use Rattle.std.proofs.lemmas.List.Sums.{sum_by-cons}
 use Rattle.dover_model.specs.declared.events.Event.{Event}
 use Rattle.dover_model.specs.declared.events.Event.TheVariants as events
 use Rattle.dover_model.specs.declared.events.Version.{Version}
@@ -12,7 +13,7 @@ use Rattle.dover_model.proofs.texts.TraceLines.{version_back}
 use Rattle.dover_model.specs.Common.{Fraction, is_ratio, is_some_factor, fraction, JobFacts, observed, most_ready}
 use Rattle.dover_model.specs.Common.{Instance, total_value, printed, completed_value, settled, Each, Prints}
 use Rattle.dover_model.specs.Common.{takes_or_abandons, Meets, worth, IsWithin, is_end_given, MayFollow, no_jobs}
-use Rattle.dover_model.specs.Common.{version_number}
+use Rattle.dover_model.specs.Common.{version_number, Turn, turn_under, anew}
 use Rattle.dover_model.specs.Finishes as early
 use Rattle.dover_model.proofs.lists.Members.{some_same}
 use Rattle.dover_model.proofs.lists.Tests.{never}
@@ -24,17 +25,21 @@ use Rattle.dover_engine.specs.declared.decision.Decision.TheVariants.{End}
 use Rattle.dover_engine.specs.declared.causes.NotStepped.{NotStepped}
 use Rattle.dover_engine.specs.declared.causes.NotStepped.TheVariants.{Finished, Falls, Late}
 use Rattle.dover_engine.specs.Decisions.{event_of, event_in, events_in}
-use Rattle.dover_engine.specs.Life.{Life, has_ended}
+use Rattle.dover_engine.specs.Life.{Life, has_ended, done_value}
 use Rattle.dover_engine.specs.Given.{Gave}
 use Rattle.dover_engine.specs.Calls as engine
+use Rattle.dover_engine.specs.Restarts as engines
 use Rattle.dover_engine.proofs.LifeLaws as life
+use Rattle.dover_engine.proofs.Restarting as restarts
 use Rattle.dover_c.specs.declared.Admitted.{Admitted}
 use Rattle.dover_c.specs.declared.Decided.{Decided}
+use Rattle.dover_c.specs.declared.Restarted.{Restarted}
 use Rattle.dover_c.specs.declared.slot.Slot.{Slot}
 use Rattle.dover_c.specs.Codes.{made_status, mark_code, numbers_of, IsStepOf, Stands, IsMade, IsFresh, CallsOn}
-use Rattle.dover_c.specs.Codes.{no_number, no_engine, Admits, Ends, Steps, Finishes}
+use Rattle.dover_c.specs.Codes.{no_number, no_engine, Admits, Ends, Steps, Finishes, Restarts, RestartAnswers}
 use Rattle.dover_c.specs.Program.{Act, Admit, Done, Step, Finish, Ask, Drop, Does, DoesAll, IsProgram, told, jobs_told}
-use Rattle.dover_c.specs.Program.{finishes_told, all_told, is_decision, answers, given, shown}
+use Rattle.dover_c.specs.Program.{finishes_told, all_told, is_decision, answers, given, shown, Past, DoesPast}
+use Rattle.dover_c.specs.Program.{turn_told, told_anew}
 
 -- ---- decisions that lose no job
 
@@ -422,8 +427,127 @@ engine_made k version capacity made is_made none = by_engine made.engine refl is
       (nat_lt most_ready capacity) (sym status ∙ none))
   by_engine (Some v) e it = (v, e, it.1)
 
-module _ (version : Version) (k : Fraction) (capacity : ℕ) where
-  -- the calls of a program are a life
+-- ---- from restart to restart
+
+-- a restart that was made is one of an engine
+restart_there : (u x : Slot) (tick : ℕ) (v : Life) → (u.engine ≡ Some v) ⊎ (u.engine ≡ None)
+    → RestartAnswers u x (record { tick = tick; status = 0 })
+    → (w : Life) × (x.engine ≡ Some w) × engines.IsRestarted v w tick
+restart_there u x tick v there does = elim there [
+  | inl here ↦
+      let it : CallsOn (Some v) u x (told ≡ none) (Restarts told) =
+      subst (λ o. CallsOn o u x (told ≡ none) (Restarts told)) here does in
+      (it.0, ap (λ (y : Slot). y.engine) it.1, it.2.ok refl)
+  | inr gone ↦
+      let it : CallsOn None u x (told ≡ none) (Restarts told) =
+      subst (λ o. CallsOn o u x (told ≡ none) (Restarts told)) gone does in
+      absurd (let clash : 0 ≡ 7 = ap (λ (r : Restarted). r.status) it.0 in cc)
+] where
+  told : Restarted
+  told = record { tick = tick; status = 0 }
+
+  none : Restarted
+  none = record { tick = 0; status = 7 }
+
+module _ (version : Version) (k : Fraction) where
+  -- the jobs of calls are those that were told
+  all_are : (calls : List engine.Call) (acts : List Act) → engine.admitted calls ≡ told acts
+      → engine.finishes_in calls ≡ finishes_told acts → engine.all_jobs version k calls ≡ all_told version k acts
+  all_are calls acts jobs finishes = ap (λ (js : List (ℕ × JobFacts)). let J : Instance = record {
+    rules = record { ratio = k; version = version; finishes = engine.finishes_in calls };
+    jobs = map (λ (n_j : ℕ × JobFacts). n_j.1) js;
+  } in J) jobs ∙ ap (λ (fs : List early.Finish). let J : Instance = record {
+    rules = record { ratio = k; version = version; finishes = fs };
+    jobs = jobs_told acts;
+  } in J) finishes
+
+  turn_is : (calls : List engine.Call) (acts : List Act) → engine.admitted calls ≡ told acts
+      → engine.finishes_in calls ≡ finishes_told acts → engines.turn_of calls ≡ turn_told acts
+  turn_is calls acts jobs finishes = ap (λ (js : List (ℕ × JobFacts)). let T : Turn = record {
+    jobs = map (λ (n_j : ℕ × JobFacts). n_j.1) js;
+    finishes = engine.finishes_in calls;
+  } in T) jobs ∙ ap (λ (fs : List early.Finish). let T : Turn = record {
+    jobs = jobs_told acts;
+    finishes = fs;
+  } in T) finishes
+
+  -- past lives and what was told of them, as turns
+  abbrev turns_lived : List engines.Past → List (ℕ × Turn)
+  turns_lived lives = map (λ (l : engines.Past). (l.tick, engines.turn_of l.calls)) lives
+
+  abbrev turns_told : List Past → List (ℕ × Turn)
+  turns_told pasts = map (λ (p : Past). (p.tick, turn_told p.acts)) pasts
+
+  -- what they completed
+  abbrev completed_told : List Past → ℕ
+  completed_told pasts = sum_by (λ (p : Past). completed_value (all_told version k p.acts)) pasts
+
+  -- from an engine that was just made, what was done up to restarts is lives of it
+  record Restarting (v : Life) (pasts : List Past) (t : Slot) : Type 0 where
+    pub lives : List engines.Past
+    pub w : Life
+    pub there : t.engine ≡ Some w
+    pub fresh : Gave w (no_jobs version k) []
+    pub leads : engines.LeadsThrough lives v w
+    pub turns : turns_lived lives ≡ turns_told pasts
+    pub values : sum_by (λ (l : engines.Past). l.value) lives ≡ completed_told pasts
+
+  restarting : (pasts : List Past) (v : Life) (s t : Slot) → Gave v (no_jobs version k) [] → s.engine ≡ Some v
+      → DoesPast pasts s t → Restarting v pasts t
+  restarting [] v s t fresh there here = record {
+    lives = [];
+    w = v;
+    there = ap (λ (x : Slot). x.engine) here ∙ there;
+    fresh = fresh;
+    leads = refl;
+    turns = refl;
+    values = refl;
+  }
+  restarting (past ∷ pasts) v s t fresh there it =
+      let one = turn_all past.acts v s it.0 there it.1 in
+      let anew = restart_there it.0 it.2.0 past.tick one.w one.there it.2.1 in
+      let lived : engine.Lives version k one.calls one.w =
+      record { made = v; fresh = fresh; lives = one.leads } in
+      let rest = restarting pasts anew.0 it.2.0 t
+      (restarts.anew_gave version k one.calls v one.w anew.0 past.tick fresh one.leads anew.2) anew.1 it.2.2 in
+      let worth : done_value one.w ≡ completed_value (all_told version k past.acts) =
+      life.value_all version k one.calls one.w lived anew.2.rest
+      ∙ ap completed_value (all_are one.calls past.acts one.jobs one.finishes) in
+      record {
+        lives = record { calls = one.calls; tick = past.tick; value = done_value one.w } ∷ rest.lives;
+        w = rest.w;
+        there = rest.there;
+        fresh = rest.fresh;
+        leads = (one.w, one.leads, refl, (anew.0, anew.2, rest.leads));
+        turns = ap (λ turn. (past.tick, turn) ∷ turns_lived rest.lives)
+            (turn_is one.calls past.acts one.jobs one.finishes)
+            ∙ ap (λ ts. (past.tick, turn_told past.acts) ∷ ts) rest.turns;
+        values = omega (
+          arith,
+          worth,
+          rest.values,
+          sum_by-cons (λ (l : engines.Past). l.value)
+              (record { calls = one.calls; tick = past.tick; value = done_value one.w }) rest.lives,
+          sum_by-cons (λ (p : Past). completed_value (all_told version k p.acts)) past pasts,
+        );
+      }
+
+module _ (version : Version) (k : Fraction) (capacity : ℕ) (pasts : List Past) where
+  -- the engine that was made
+  made_there : (acts : List Act) (t : Slot) (program : IsProgram version k capacity pasts acts t)
+      → (v : Life) × (program.made.engine ≡ Some v) × Gave v (no_jobs version k) []
+  made_there acts t program =
+      let made = engine_made k (version_number version) capacity program.made program.is_made program.status in
+      let same : version ≡ made.2.which = same_version version made.2.which made.2.version_is in
+      (made.0, made.1, subst (λ which. Gave made.0 (no_jobs which k) []) (sym same) made.2.gave)
+
+  -- up to the last restart
+  lived : (acts : List Act) (t : Slot) (program : IsProgram version k capacity pasts acts t)
+      → Restarting version k (made_there acts t program).0 pasts program.begun
+  lived acts t program = let made = made_there acts t program in
+      restarting version k pasts made.0 program.made program.begun made.2 made.1 program.before
+
+  -- the calls of a program since are a life
   record Living (acts : List Act) (t : Slot) : Type 0 where
     pub calls : List engine.Call
     pub w : Life
@@ -432,24 +556,46 @@ module _ (version : Version) (k : Fraction) (capacity : ℕ) where
     pub jobs : engine.admitted calls ≡ told acts
     pub finishes : engine.finishes_in calls ≡ finishes_told acts
     pub decisions : map shown (engine.decided calls) ≡ given acts
+    pub before : List engines.Past
+    pub on : engines.LivesOn version k before calls w
+    pub turns : turns_lived version k before ≡ turns_told version k pasts
+    pub values : sum_by (λ (l : engines.Past). l.value) before ≡ completed_told version k pasts
 
-  living : (acts : List Act) (t : Slot) → IsProgram version k capacity acts t → Living acts t
+  living : (acts : List Act) (t : Slot) → IsProgram version k capacity pasts acts t → Living acts t
   living acts t program =
-      let made = engine_made k (version_number version) capacity program.made program.is_made program.status in
-      let turned = turn_all acts made.0 program.made t made.1 program.does in
-      let same : version ≡ made.2.which = same_version version made.2.which made.2.version_is in record {
+      let made = made_there acts t program in
+      let past = lived acts t program in
+      let turned = turn_all acts past.w program.begun t past.there program.does in record {
         calls = turned.calls;
         w = turned.w;
         there = turned.there;
-        lives = record {
-          made = made.0;
-          fresh = subst (λ which. Gave made.0 (no_jobs which k) []) (sym same) made.2.gave;
-          lives = turned.leads;
-        };
+        lives = record { made = past.w; fresh = past.fresh; lives = turned.leads };
         jobs = turned.jobs;
         finishes = turned.finishes;
         decisions = turned.decisions;
+        before = past.lives;
+        on = record {
+          made = made.0;
+          fresh = made.2;
+          begun = past.w;
+          before = past.leads;
+          lives = turned.leads;
+        };
+        turns = past.turns;
+        values = past.values;
       }
+
+  -- the program up to one of its calls
+  cut : {acts some : List Act} {t u : Slot} → (program : IsProgram version k capacity pasts acts t)
+      → DoesAll some program.begun u → IsProgram version k capacity pasts some u
+  cut program does = record {
+    made = program.made;
+    is_made = program.is_made;
+    status = program.status;
+    begun = program.begun;
+    before = program.before;
+    does = does;
+  }
 
   -- calls before calls
   part_all : (acts more : List Act) (s t : Slot) → DoesAll (acts ++ more) s t → (u : Slot) × DoesAll acts s u
@@ -464,33 +610,22 @@ module _ (version : Version) (k : Fraction) (capacity : ℕ) where
       (rest.0, rest.1, subst (Does act rest.0) (sym rest.2.2) rest.2.1)
 
   module _ (acts : List Act) (act : Act) (t : Slot)
-      (program : IsProgram version k capacity (acts ++ (act ∷ [])) t) where
-    parts : (u : Slot) × DoesAll acts program.made u × Does act u t
-    parts = part acts act program.made t program.does
+      (program : IsProgram version k capacity pasts (acts ++ (act ∷ [])) t) where
+    parts : (u : Slot) × DoesAll acts program.begun u × Does act u t
+    parts = part acts act program.begun t program.does
 
     front : Living acts parts.0
     front = living acts parts.0
-        (record { made = program.made; is_made = program.is_made; status = program.status; does = parts.1 })
+        (cut program parts.1)
 
-  -- their jobs
-  all_are : (calls : List engine.Call) (acts : List Act) → engine.admitted calls ≡ told acts
-      → engine.finishes_in calls ≡ finishes_told acts → engine.all_jobs version k calls ≡ all_told version k acts
-  all_are calls acts jobs finishes = ap (λ (js : List (ℕ × JobFacts)). let J : Instance = record {
-    rules = record { ratio = k; version = version; finishes = engine.finishes_in calls };
-    jobs = map (λ (n_j : ℕ × JobFacts). n_j.1) js;
-  } in J) jobs ∙ ap (λ (fs : List early.Finish). let J : Instance = record {
-    rules = record { ratio = k; version = version; finishes = fs };
-    jobs = jobs_told acts;
-  } in J) finishes
-
-  pub numbers : (acts : List Act) (t : Slot) → IsProgram version k capacity acts t
+  pub numbers : (acts : List Act) (t : Slot) → IsProgram version k capacity pasts acts t
       → told acts ≡ enumerate_from 0 (jobs_told acts)
   numbers acts t program = let it = living acts t program in
       subst (λ (js : List (ℕ × JobFacts)). js ≡ enumerate_from 0 (map (λ n_j. n_j.1) js)) it.jobs
       (life.numbers version k it.calls it.w it.lives)
 
   pub settled_given : (acts : List Act) (mark : ℕ) (answer : Decided) (t : Slot)
-      → IsProgram version k capacity (acts ++ (Step mark answer ∷ [])) t
+      → IsProgram version k capacity pasts (acts ++ (Step mark answer ∷ [])) t
       → answer.kind ≡ 0 → given acts ≡ map shown (settled (all_told version k acts) mark)
   settled_given acts mark answer t program none = elim it.there [
     | inl here ↦ by_step (subst (λ o. CallsOn o u t (answer ≡ no_engine) (Steps mark answer)) here does)
@@ -526,11 +661,11 @@ module _ (version : Version) (k : Fraction) (capacity : ℕ) where
                 (w, subst (λ d. engine.Leads (engine.Stepped (horizon.Mark mark) d) it.w w) is_none leads, refl);
           } in
           sym it.decisions ∙ ap (map shown) (life.settled_all version k it.calls mark w further
-          ∙ ap (λ J. settled J mark) (all_are it.calls acts it.jobs it.finishes))
+          ∙ ap (λ J. settled J mark) (all_are version k it.calls acts it.jobs it.finishes))
 
   -- behind a job that is done, its completion is given
   pub done_given : (acts : List Act) (tick mark : ℕ) (f : early.Finish) (answer : Decided) (t : Slot)
-      → IsProgram version k capacity (acts ++ (Done tick f 0 ∷ Step mark answer ∷ [])) t
+      → IsProgram version k capacity pasts (acts ++ (Done tick f 0 ∷ Step mark answer ∷ [])) t
       → is_decision answer ≡ true → answer ≡ shown (events.Complete tick f.number)
   done_given acts tick mark f answer t program decides = elim it.there [
     | inl here ↦ by_done (subst (λ o. CallsOn o u s (◌≡◌ {A = ℕ} 0 7) (Ends tick f 0)) here does.1)
@@ -538,8 +673,8 @@ module _ (version : Version) (k : Fraction) (capacity : ℕ) where
         let idle = subst (λ o. CallsOn o u s (◌≡◌ {A = ℕ} 0 7) (Ends tick f 0)) gone does.1 in
         absurd (let clash : ◌≡◌ {A = ℕ} 0 7 = idle.0 in cc)
   ] where
-    parts_of : (x : Slot) × DoesAll acts program.made x × DoesAll (Done tick f 0 ∷ Step mark answer ∷ []) x t
-    parts_of = part_all acts (Done tick f 0 ∷ Step mark answer ∷ []) program.made t program.does
+    parts_of : (x : Slot) × DoesAll acts program.begun x × DoesAll (Done tick f 0 ∷ Step mark answer ∷ []) x t
+    parts_of = part_all acts (Done tick f 0 ∷ Step mark answer ∷ []) program.begun t program.does
 
     u : Slot
     u = parts_of.0
@@ -552,7 +687,7 @@ module _ (version : Version) (k : Fraction) (capacity : ℕ) where
 
     it : Living acts u
     it = living acts u
-        (record { made = program.made; is_made = program.is_made; status = program.status; does = parts_of.1 })
+        (cut program parts_of.1)
 
     by_answer : (w : Life) → engine.IsDone it.w w tick f → (w2 : Life) (decision : Option Decision)
         → engine.Leads (engine.Stepped (horizon.Mark mark) decision) w w2 → answer ≡ numbers_of decision
@@ -589,58 +724,60 @@ module _ (version : Version) (k : Fraction) (capacity : ℕ) where
         does.2.1)
 
   -- what was given begins the run
-  pub begins_given : (acts : List Act) (t : Slot) → IsProgram version k capacity acts t → (later : List Decided)
+  pub begins_given : (acts : List Act) (t : Slot) → IsProgram version k capacity pasts acts t → (later : List Decided)
       × (map shown (printed (all_told version k acts)) ≡ given acts ++ later)
   begins_given acts t program =
       let it = living acts t program in
       let begins = life.begins_all version k it.calls it.w it.lives in (
         map shown begins.0,
-        ap (λ J. map shown (printed J)) (sym (all_are it.calls acts it.jobs it.finishes)) ∙ ap (map shown) begins.1
+        ap (λ J. map shown (printed J)) (sym (all_are version k it.calls acts it.jobs it.finishes))
+            ∙ ap (map shown) begins.1
             ∙ map-append shown (engine.decided it.calls) begins.0
             ∙ ap (λ es. es ++ map shown begins.0) it.decisions,
       )
 
-  pub within_given : (acts : List Act) (t : Slot) → IsProgram version k capacity acts t → (s : List ℕ)
+  pub within_given : (acts : List Act) (t : Slot) → IsProgram version k capacity pasts acts t → (s : List ℕ)
       → IsWithin k (worth (all_told version k acts) s) (completed_value (all_told version k acts))
   within_given acts t program s = let it = living acts t program in
-      subst (λ (J : Instance). IsWithin k (worth J s) (completed_value J)) (all_are it.calls acts it.jobs it.finishes)
+      subst (λ (J : Instance). IsWithin k (worth J s) (completed_value J))
+      (all_are version k it.calls acts it.jobs it.finishes)
       (life.within_all version k it.calls it.w it.lives s)
 
-  pub observed_given : (acts : List Act) (t : Slot) → IsProgram version k capacity acts t → (s : List ℕ)
+  pub observed_given : (acts : List Act) (t : Slot) → IsProgram version k capacity pasts acts t → (s : List ℕ)
       → IsWithin k (worth (observed (all_told version k acts)) s) (completed_value (all_told version k acts))
   observed_given acts t program s = let it = living acts t program in
       subst (λ (J : Instance). IsWithin k (worth (observed J) s) (completed_value J))
-      (all_are it.calls acts it.jobs it.finishes)
+      (all_are version k it.calls acts it.jobs it.finishes)
       (life.observed_within_all version k it.calls it.w it.lives s)
 
-  pub as_declared_given : (acts : List Act) (t : Slot) → IsProgram version k capacity acts t
+  pub as_declared_given : (acts : List Act) (t : Slot) → IsProgram version k capacity pasts acts t
       → finishes_told acts ≡ [] → observed (all_told version k acts) ≡ all_told version k acts
   as_declared_given acts t program none = let it = living acts t program in
-      subst (λ (J : Instance). observed J ≡ J) (all_are it.calls acts it.jobs it.finishes)
+      subst (λ (J : Instance). observed J ≡ J) (all_are version k it.calls acts it.jobs it.finishes)
       (life.as_declared_all version k it.calls it.w it.lives (it.finishes ∙ none))
 
-  pub honest_given : (acts : List Act) (t : Slot) → IsProgram version k capacity acts t
+  pub honest_given : (acts : List Act) (t : Slot) → IsProgram version k capacity pasts acts t
       → (s : List ℕ) × (completed_value (all_told version k acts) ≤ worth (observed (all_told version k acts)) s)
   honest_given acts t program = let it = living acts t program in
       subst (λ (J : Instance). (s : List ℕ) × (completed_value J ≤ worth (observed J) s))
-      (all_are it.calls acts it.jobs it.finishes)
+      (all_are version k it.calls acts it.jobs it.finishes)
       (life.honest_all version k it.calls it.w it.lives)
 
-  pub underload_given : (acts : List Act) (t : Slot) → IsProgram version k capacity acts t
+  pub underload_given : (acts : List Act) (t : Slot) → IsProgram version k capacity pasts acts t
       → Meets (all_told version k acts)
       → completed_value (all_told version k acts) ≡ total_value (jobs_told acts)
   underload_given acts t program = let it = living acts t program in
       subst (λ (J : Instance). Meets J → completed_value J ≡ total_value J.jobs)
-      (all_are it.calls acts it.jobs it.finishes)
+      (all_are version k it.calls acts it.jobs it.finishes)
       (life.underload_all version k it.calls it.w it.lives)
 
   -- no decision that was given takes_or_abandons a job then
-  pub unlost_given : (acts : List Act) (t : Slot) → IsProgram version k capacity acts t
+  pub unlost_given : (acts : List Act) (t : Slot) → IsProgram version k capacity pasts acts t
       → Meets (all_told version k acts) → Each (λ answer. (answer.kind ≡ 4 → ⊥) × (answer.kind ≡ 6 → ⊥)) (given acts)
   unlost_given acts t program meets = let it = living acts t program in
       subst (Each IsKept) it.decisions (each_kept (engine.decided it.calls)
       (life.none_lost_all version k it.calls it.w it.lives (subst Meets
-      (sym (all_are it.calls acts it.jobs it.finishes)) meets)))
+      (sym (all_are version k it.calls acts it.jobs it.finishes)) meets)))
 
   -- an answer of kind 7 is an End
   kind_end : (says : Option Decision) → (numbers_of says).kind ≡ 7 → (value : ℕ)
@@ -660,7 +797,7 @@ module _ (version : Version) (k : Fraction) (capacity : ℕ) where
   or_holds false b e = e
 
   pub ended_given : (acts : List Act) (answer : Decided) (t : Slot)
-      → IsProgram version k capacity (acts ++ (Finish answer ∷ [])) t
+      → IsProgram version k capacity pasts (acts ++ (Finish answer ∷ [])) t
       → answer.kind ≡ 7 → given (acts ++ (Finish answer ∷ [])) ≡ map shown (printed (all_told version k acts))
   ended_given acts answer t program seven = elim it.there [
     | inl here ↦ by_finish (subst (λ o. CallsOn o u t (answer ≡ no_engine) (Finishes answer)) here does)
@@ -702,4 +839,39 @@ module _ (version : Version) (k : Fraction) (capacity : ℕ) where
         ∙ sym (map-append shown (engine.decided it.calls) (engine.decided (last ∷ [])))
         ∙ ap (map shown) (sym (life.decided_append it.calls (last ∷ []))
         ∙ life.ended_all version k (it.calls ++ (last ∷ [])) w further ended
-        ∙ ap printed (all_are (it.calls ++ (last ∷ [])) acts jobs finishes))
+        ∙ ap printed (all_are version k (it.calls ++ (last ∷ [])) acts jobs finishes))
+
+  -- ---- all jobs of all lives
+
+  anew_are : (acts : List Act) (t : Slot) (program : IsProgram version k capacity pasts acts t)
+      → engines.jobs_anew version k (living acts t program).before (living acts t program).calls
+      ≡ told_anew version k pasts acts
+  anew_are acts t program = let it = living acts t program in
+      ap (λ (ts : List (ℕ × Turn)). all_in (ts ++ (0, engines.turn_of it.calls) ∷ [])) it.turns
+      ∙ ap (λ (turn : Turn). all_in (turns_told version k pasts ++ (0, turn) ∷ []))
+      (turn_is version k it.calls acts it.jobs it.finishes) where
+        all_in : List (ℕ × Turn) → Instance
+        all_in ts = turn_under (record { ratio = k; version = version; finishes = [] }) (anew ts)
+
+  pub within_anew : (acts : List Act) (t : Slot) → IsProgram version k capacity pasts acts t → (s : List ℕ)
+      → IsWithin k (worth (told_anew version k pasts acts) s) (completed_value (told_anew version k pasts acts))
+  within_anew acts t program s = let it = living acts t program in
+      subst (λ (J : Instance). IsWithin k (worth J s) (completed_value J)) (anew_are acts t program)
+      (restarts.within_now version k it.before it.calls it.w it.on s)
+
+  pub observed_anew : (acts : List Act) (t : Slot) → IsProgram version k capacity pasts acts t → (s : List ℕ)
+      → IsWithin k (worth (observed (told_anew version k pasts acts)) s)
+      (completed_value (told_anew version k pasts acts))
+  observed_anew acts t program s = let it = living acts t program in
+      subst (λ (J : Instance). IsWithin k (worth (observed J) s) (completed_value J)) (anew_are acts t program)
+      (restarts.observed_now version k it.before it.calls it.w it.on s)
+
+  pub value_anew : (acts : List Act) (t : Slot) → IsProgram version k capacity pasts acts t
+      → completed_value (told_anew version k pasts acts)
+      ≡ completed_told version k pasts + completed_value (all_told version k acts)
+  value_anew acts t program = let it = living acts t program in
+      ap completed_value (sym (anew_are acts t program))
+      ∙ restarts.value_now version k it.before it.calls it.w it.on
+      ∙ ap (λ n. n + completed_value (engine.all_jobs version k it.calls)) it.values
+      ∙ ap (λ (J : Instance). completed_told version k pasts + completed_value J)
+      (all_are version k it.calls acts it.jobs it.finishes)

@@ -12,6 +12,8 @@ use Rattle.dover_engine.specs.declared.causes.NotMade.{NotMade}
 use Rattle.dover_engine.specs.declared.causes.NotMade.TheVariants as not_made
 use Rattle.dover_engine.specs.declared.causes.NotDone.{NotDone}
 use Rattle.dover_engine.specs.declared.causes.NotDone.TheVariants as not_done
+use Rattle.dover_engine.specs.declared.causes.NotRestarted.{NotRestarted}
+use Rattle.dover_engine.specs.declared.causes.NotRestarted.TheVariants as not_restarted
 use Rattle.dover_engine.specs.declared.causes.NotStepped.{NotStepped}
 use Rattle.dover_engine.specs.declared.causes.NotStepped.TheVariants as not_stepped
 use Rattle.dover_engine.specs.declared.decision.Decision.{Decision}
@@ -20,10 +22,12 @@ use Rattle.dover_engine.specs.declared.decision.Decision.TheVariants.{End}
 use Rattle.dover_engine.specs.Life.{Life, done_value, spare_of, successor_of}
 use Rattle.dover_engine.specs.Given.{Gave}
 use Rattle.dover_engine.specs.Calls.{IsAdmitted, IsCause, IsDone, IsNotDone, Decides, IsNext, mark_refusal}
+use Rattle.dover_engine.specs.Restarts.{IsRestarted, IsNotRestarted}
 use Rattle.dover_c.specs.declared.Admitted.{Admitted}
 use Rattle.dover_c.specs.declared.Decided.{Decided}
 use Rattle.dover_c.specs.declared.Due.{Due}
 use Rattle.dover_c.specs.declared.Named.{Named}
+use Rattle.dover_c.specs.declared.Restarted.{Restarted}
 use Rattle.dover_c.specs.declared.slot.Slot.{Slot}
 
 -- ---- making
@@ -200,6 +204,29 @@ pub record Finishes (answer : Decided) (v w : Life) : Type 0 where
 
 abbrev pub FinishAnswers : Slot → Slot → Decided → Type 0
 FinishAnswers s t answer = Calls s t (answer ≡ no_engine) (Finishes answer)
+
+-- ---- restarts
+
+-- the number of a cause
+abbrev pub restart_code : NotRestarted → ℕ
+restart_code not_restarted.Finished = 10
+restart_code not_restarted.Unsettled = 1
+restart_code not_restarted.Open = 2
+
+-- it didn't begin anew, for this cause, and nothing changed
+pub record GoesOn (v w : Life) (answer : Restarted) : Type 0 where
+  pub cause : NotRestarted
+  pub shown : answer ≡ record { tick = 0; status = restart_code cause }
+  pub holds : IsNotRestarted v cause
+  pub same : w ≡ v
+
+-- what the answer to a restart says
+pub record Restarts (answer : Restarted) (v w : Life) : Type 0 where
+  pub ok : answer.status ≡ 0 → IsRestarted v w answer.tick
+  pub refused : (answer.status ≡ 0 → ⊥) → GoesOn v w answer
+
+abbrev pub RestartAnswers : Slot → Slot → Restarted → Type 0
+RestartAnswers s t answer = Calls s t (answer ≡ record { tick = 0; status = 7 }) (Restarts answer)
 
 -- ---- questions
 

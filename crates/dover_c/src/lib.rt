@@ -17,6 +17,7 @@ ghost use Rattle.dover_c.specs.declared.slot.Slot.{Slot};
 ghost use Rattle.dover_c.specs.contracts.slot.Slot.{the_row};
 ghost use Rattle.dover_c.specs.Codes.{IsMade, AdmitAnswers, StepAnswers, FinishAnswers, StatusAnswers, ValueAnswers};
 ghost use Rattle.dover_c.specs.Codes.{HighAnswers, RoomAnswers, NextAnswers, SuccessorAnswers, DropAnswers, DoneSays};
+ghost use Rattle.dover_c.specs.Codes.{RestartAnswers};
 ghost use Rattle.dover_c.specs.Places.{after_at};
 
 use crate::slot::Slot;
@@ -73,6 +74,16 @@ pub struct Named {
     /// The number of the job; else 0.
     pub job: u64,
     /// 0 where there is one, else the cause, by the numbers of the header.
+    pub status: u32,
+}
+
+/// The tick that a restart took off the clock, with status 0, or why there was none.
+#[repr(C)]
+#[derive(Clone, Copy)]
+pub struct Restarted {
+    /// The tick; else 0.
+    pub tick: u64,
+    /// 0 where it began anew, else the cause, by the numbers of the header.
     pub status: u32,
 }
 
@@ -170,6 +181,16 @@ pub unsafe extern "C" fn dover_finish(place: *mut Place, memory: Memory) -> Deci
     ensures* { sem 𝓛 (after_at place (λ w. FinishAnswers v w result)) }
 {
     slot::finish(&mut *(place as *mut Slot), memory)
+}
+
+/// Begins anew at a moment of rest, as `dover_init` left the place. No memory is taken.
+#[unsafe(no_mangle)]
+pub unsafe extern "C" fn dover_restart(place: *mut Place) -> Restarted
+    ghost v: { Slot }
+    requires* { sem 𝓛 (lies_at the_row full_share place v) }
+    ensures* { sem 𝓛 (after_at place (λ w. RestartAnswers v w result)) }
+{
+    slot::restart(&mut *(place as *mut Slot))
 }
 
 /// The tick for which to call next. No memory is taken.

@@ -6,11 +6,11 @@ ghost use Rattle.dover_engine.specs.Calls.{Decides};
 ghost use Rattle.dover_c.specs.Codes.{IsMade, AdmitAnswers, StepAnswers, FinishAnswers, StatusAnswers, DropAnswers};
 ghost use Rattle.dover_c.specs.Codes.{ValueAnswers, HighAnswers, RoomAnswers, NextAnswers, SuccessorAnswers, due_of};
 ghost use Rattle.dover_c.specs.Codes.{named_of, high_word, low_word, DoneSays, done_code, cause_code, other_in};
-ghost use Rattle.dover_c.specs.Codes.{made_code, mark_code, numbers_of, IsStepOf};
+ghost use Rattle.dover_c.specs.Codes.{made_code, mark_code, numbers_of, IsStepOf, RestartAnswers, restart_code};
 
-use crate::{Admitted, Decided, Due, Named};
+use crate::{Admitted, Decided, Due, Named, Restarted};
 use comparison_count::Comparisons;
-use dover_engine::{Decision, Engine, NotAdmitted, NotDone, NotMade, NotStepped};
+use dover_engine::{Decision, Engine, NotAdmitted, NotDone, NotMade, NotRestarted, NotStepped};
 use dover_model::{Ratio, Version};
 use std::alloc::Global;
 use std::marker::Brand;
@@ -272,6 +272,34 @@ pub(crate) fn finish(slot: &mut Slot, memory: Memory) -> Decided
     };
     let answer = step_to_end::<Brand>(engine, memory, Blank::new(1));
     numbers_of(&answer)
+}
+
+fn restart_code(cause: NotRestarted) -> u32
+    ensures { result ≡ restart_code cause }
+{
+    match cause {
+        NotRestarted::Finished => 10,
+        NotRestarted::Unsettled => 1,
+        NotRestarted::Open => 2,
+    }
+}
+
+fn restarted(status: u32, tick: u64) -> Restarted
+    ensures { result ≡ record { tick = tick; status = status } }
+{
+    Restarted { tick, status }
+}
+
+pub(crate) fn restart(slot: &mut Slot) -> Restarted
+    ensures { RestartAnswers slot.old slot.new result }
+{
+    let Some(engine) = &mut slot.engine else {
+        return restarted(7, 0);
+    };
+    match engine.restart() {
+        Ok(tick) => restarted(0, tick),
+        Err(cause) => restarted(restart_code(cause), 0),
+    }
 }
 
 fn tick_of(status: u32, tick: u64) -> Due

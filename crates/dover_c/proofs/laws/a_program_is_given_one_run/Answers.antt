@@ -1,6 +1,6 @@
 use Rattle.dover_c.proofs.Programs.{numbers, settled_given, ended_given, given_append, begins_given, within_given}
 use Rattle.dover_c.proofs.Programs.{observed_given, as_declared_given, honest_given, underload_given, unlost_given}
-use Rattle.dover_c.proofs.Programs.{done_given}
+use Rattle.dover_c.proofs.Programs.{done_given, within_anew, observed_anew, value_anew}
 use Rattle.dover_c.proofs.laws.a_program_is_given_one_run.Goals as goal
 
 pub returns-clause-numbers : goal.returns-clause-numbers
@@ -19,11 +19,12 @@ pub returns-clause-begins : goal.returns-clause-begins
 returns-clause-begins c = begins_given
 
 pub returns-clause-within : goal.returns-clause-within
-returns-clause-within c = λ version k capacity acts t s program. within_given version k capacity acts t program s
+returns-clause-within c = λ version k capacity pasts acts t s program.
+    within_given version k capacity pasts acts t program s
 
 pub returns-clause-observed : goal.returns-clause-observed
-returns-clause-observed c = λ version k capacity acts t s program.
-    observed_given version k capacity acts t program s
+returns-clause-observed c = λ version k capacity pasts acts t s program.
+    observed_given version k capacity pasts acts t program s
 
 pub returns-clause-as_declared : goal.returns-clause-as_declared
 returns-clause-as_declared c = as_declared_given
@@ -39,3 +40,14 @@ returns-clause-underload c = underload_given
 
 pub returns-clause-none_lost : goal.returns-clause-none_lost
 returns-clause-none_lost c = unlost_given
+
+pub returns-clause-within_anew : goal.returns-clause-within_anew
+returns-clause-within_anew c = λ version k capacity pasts acts t s program.
+    within_anew version k capacity pasts acts t program s
+
+pub returns-clause-observed_anew : goal.returns-clause-observed_anew
+returns-clause-observed_anew c = λ version k capacity pasts acts t s program.
+    observed_anew version k capacity pasts acts t program s
+
+pub returns-clause-value_anew : goal.returns-clause-value_anew
+returns-clause-value_anew c = value_anew
