@@ -100,7 +100,7 @@ static int is_none(dover *d) {
            e.kind == DOVER_NO_ENGINE && f.kind == DOVER_NO_ENGINE && g.kind == DOVER_NO_ENGINE &&
            e.tick + e.job + e.other == 0 && f.tick + f.job + f.other == 0 && g.tick + g.job + g.other == 0 &&
            dover_value(d) == 0 && dover_value_high(d) == 0 && dover_spare(d) == 0 && is_idle(d, DOVER_NOT_MADE) &&
-           is_named(d, DOVER_NOT_MADE, 0);
+           is_named(d, DOVER_NOT_MADE, 0) && dover_restart(d).status == DOVER_NOT_MADE;
 }
 
 static void without_one(void) {
@@ -288,6 +288,42 @@ static void renumbered(void) {
     dover_drop(&a);
 }
 
+static int is_restart(dover *d, uint32_t status, uint64_t tick) {
+    dover_restarted x = dover_restart(d);
+    return x.status == status && x.tick == tick;
+}
+
+/* Each cause for which nothing begins anew, and that all does where it may: clock, numbers, value and limits. */
+static void restarting(void) {
+    const uint64_t last = UINT64_C(1000000000000);
+    dover_decision e;
+    dover_init_factor(&a, 2, 1, 3, 3, 3, 2);
+    unsigned long before = taken, back = given_back;
+    ROW(is_restart(&a, DOVER_UNSETTLED, 0)); /* no step was taken */
+    ROW(settle(&a, 0) == DOVER_NONE && is_restart(&a, DOVER_RESTARTED, 0) && is_restart(&a, DOVER_UNSETTLED, 0));
+    ROW(settle(&a, 7) == DOVER_NONE && is_restart(&a, DOVER_RESTARTED, 7)); /* no job came */
+    ROW(settle(&a, 3) == DOVER_NONE && admit(&a, 3, 4, 9, 4) == DOVER_ADMITTED && is_restart(&a, DOVER_UNSETTLED, 0));
+    ROW(settle(&a, 3) == DOVER_NONE && is_restart(&a, DOVER_OPEN, 0) && dover_spare(&a) == 2 && is_due(&a, 7));
+    ROW(settle(&a, 5) == DOVER_NONE && is_restart(&a, DOVER_OPEN, 0) && dover_done(&a, 5, 0) == DOVER_DONE);
+    ROW(is_restart(&a, DOVER_UNSETTLED, 0)); /* its completion is to be given */
+    ROW(is_next(&a, 5, DOVER_COMPLETE, 5, 0) && is_restart(&a, DOVER_UNSETTLED, 0)); /* not yet all of the tick */
+    ROW(settle(&a, last) == DOVER_NONE && dover_step(&a, last + 1).kind == DOVER_LATE && dover_value(&a) == 4);
+    ROW(is_restart(&a, DOVER_RESTARTED, last) && dover_value(&a) == 0 && dover_spare(&a) == 3);
+    ROW(admit(&a, 0, 2, 9, 1000) == DOVER_UNSETTLED && is_idle(&a, DOVER_IDLE) && is_named(&a, DOVER_NOBODY, 0));
+    ROW(settle(&a, 0) == DOVER_NONE && dover_admit(&a, 0, 2, 9, 1000).number == 0); /* of any density */
+    ROW(is_next(&a, 2, DOVER_RELEASE, 0, 0) && is_next(&a, 2, DOVER_RUN, 0, 0) && is_next(&a, 2, DOVER_COMPLETE, 2, 0));
+    ROW(settle(&a, 2) == DOVER_NONE && admit(&a, 2, 2, 4, 1000) == DOVER_ADMITTED); /* the ratio is the same */
+    ROW(settle(&a, 2) == DOVER_NONE && dover_admit(&a, 2, 1, 4, 1001).number == 1 && dover_spare(&a) == 2);
+    ROW(admit(&a, 2, 2, 4, 1501) == DOVER_ADMITTED && is_next(&a, 3, DOVER_RELEASE, 2, 2)); /* and so is the factor */
+    e = dover_step(&a, 3);
+    ROW(e.kind == DOVER_TAKE && e.tick == 2 && e.job == 2 && e.other == 1 && is_restart(&a, DOVER_UNSETTLED, 0));
+    ROW(settle(&a, 9) == DOVER_NONE && dover_value(&a) == 2501 && dover_finish(&a).kind == DOVER_END);
+    ROW(is_restart(&a, DOVER_FINISHED, 0) && dover_finish(&a).kind == DOVER_NONE && dover_value(&a) == 2501);
+    ROW(taken == before && given_back == back);
+    dover_drop(&a);
+    ROW(is_restart(&a, DOVER_NOT_MADE, 0) && is_restart(&never, DOVER_NOT_MADE, 0));
+}
+
 /* An engine for four open jobs serves 400,000, beside one whose jobs stay open. */
 static void for_long(void) {
     dover_init(&a, 1000, 1, 2, 4);
@@ -350,6 +386,7 @@ int main(void) {
     early();
     choosing();
     renumbered();
+    restarting();
     for_long();
     limits();
     printf("%d rows, %d failed, %zu bytes a place\n", rows, failed, dover_size());

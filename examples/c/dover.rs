@@ -43,6 +43,15 @@ pub struct Due {
     pub status: u32,
 }
 
+/// The tick that a restart took off the clock, with status 0, or by its status why there was none.
+#[repr(C)]
+#[derive(Clone, Copy, Debug, PartialEq, Eq)]
+pub struct Restarted {
+    pub tick: u64,
+    pub status: u32,
+}
+
+const _: () = assert!(size_of::<Restarted>() == 16 && std::mem::offset_of!(Restarted, status) == 8);
 const _: () = assert!(size_of::<Due>() == 16 && std::mem::offset_of!(Due, status) == 8);
 const _: () = assert!(size_of::<Named>() == 16 && std::mem::offset_of!(Named, status) == 8);
 const _: () = assert!(size_of::<Admitted>() == 16 && std::mem::offset_of!(Admitted, status) == 8);
@@ -57,6 +66,7 @@ unsafe extern "C" {
     fn dover_done(place: *mut Place, tick: u64, job: u64) -> u32;
     fn dover_step(place: *mut Place, mark: u64) -> Decision;
     fn dover_finish(place: *mut Place) -> Decision;
+    fn dover_restart(place: *mut Place) -> Restarted;
     fn dover_next(place: *mut Place) -> Due;
     fn dover_successor(place: *mut Place) -> Named;
     fn dover_value(place: *mut Place) -> u64;
@@ -105,6 +115,11 @@ impl Dover {
 
     pub fn finish(&mut self) -> Decision {
         unsafe { dover_finish(self.0) }
+    }
+
+    /// Begins anew at a moment of rest, with the clock at 0 again.
+    pub fn restart(&mut self) -> Restarted {
+        unsafe { dover_restart(self.0) }
     }
 
     pub fn next(&mut self) -> Due {

@@ -29,19 +29,24 @@ class _Due(ctypes.Structure):
     _fields_ = [("tick", U64), ("status", U32)]
 
 
+class _Restarted(ctypes.Structure):
+    _fields_ = [("tick", U64), ("status", U32)]
+
+
 class _Named(ctypes.Structure):
     _fields_ = [("job", U64), ("status", U32)]
 
 
 CALLS = {"size": (ctypes.c_size_t,), "init": (None, U32, U32, U32, U32), "status": (U32,), "drop": (None,),
          "init_factor": (None, U32, U32, U32, U32, U32, U32), "admit": (_Admitted, U64, U64, U64, U64),
-         "done": (U32, U64, U64), "step": (_Decision, U64), "finish": (_Decision,), "next": (_Due,),
-         "successor": (_Named,), "value": (U64,), "value_high": (U64,), "spare": (U32,)}
+         "done": (U32, U64, U64), "step": (_Decision, U64), "finish": (_Decision,), "restart": (_Restarted,),
+         "next": (_Due,), "successor": (_Named,), "value": (U64,), "value_high": (U64,), "spare": (U32,)}
 MADE, MOST_KINDS = 5, 8
 KINDS = [None, "job", "run", "preempt", "take", "complete", "abandon", "end"]
 NOT_MADE = {0: "empty", 1: "ratio", 2: "capacity", 3: "memory", 4: "version", 6: "factor"}
 NOT_ADMITTED = {1: "unsettled", 2: "job", 3: "count", 4: "total", 5: "ratio", 6: "full", 7: "closed", 8: "numbers"}
 NOT_DONE = {1: "unsettled", 2: "behind", 3: "not running", 4: "version", 7: "closed"}
+NOT_RESTARTED = {1: "unsettled", 2: "open", 7: "closed", 10: "finished"}
 NOT_STEPPED = {8: "falls", 9: "late", 10: "finished", 11: "closed"}
 
 # At a tick, a job gets the processor, or ends. `other` is the job that stops, at a preemption or a take. At the end the
@@ -88,6 +93,10 @@ class NotDone(DoverError):
 
 class NotStepped(DoverError):
     """There is no step to the mark: it falls, is late, or comes behind the end (finished); or closed."""
+
+
+class NotRestarted(DoverError):
+    """Nothing begins anew: finished, unsettled, open or closed."""
 
 
 def _numbers(bits, *values):
@@ -142,6 +151,14 @@ class Engine:
     def rest(self):
         """All decisions that finish() gives, up to None."""
         return iter(self.finish, None)
+
+    def restart(self):
+        """Begins anew at rest, with the clock, the numbers and the value at 0: the tick that is taken off the clock; or
+        NotRestarted."""
+        answer = _LIBRARY.dover_restart(self._place)
+        if answer.status:
+            raise NotRestarted(answer.status, NOT_RESTARTED)
+        return answer.tick
 
     def next(self):
         """The tick for which to call step next, if no job comes before; None where no job is open."""
