@@ -53,7 +53,8 @@ no_header l long = by (bytes_eq l (codes "schedule")) refl where
   by true same = sym long ∙ ap is_too_long ((bytes_eq-Decides l (codes "schedule")).0 same)
   by false apart = refl
 
-too_long_same : (a : Account) (l m : List ℕ) → is_too_long l ≡ true → is_too_long m ≡ true → next_line a l ≡ next_line a m
+too_long_same : (a : Account) (l m : List ℕ) → is_too_long l ≡ true → is_too_long m ≡ true
+    → next_line a l ≡ next_line a m
 too_long_same a l m long_l long_m =
     ap (λ h. after_next a (is_open a) (nat_le (most_lines Two) a.lines) h (step_in l))
     (no_header l long_l ∙ sym (no_header m long_m))
@@ -192,7 +193,8 @@ few_next a l few = by (is_open a) (nat_le (most_lines Two) a.lines) ((counted a)
 
       step : (e : Event) → a.lines < most_lines Two → AreFew (read_step (counted a) e)
       step e low = by_step (is_too_many a.schedule e) (cause_of a.schedule e) where
-        by_step : (b : Bool) (o : Option Cause) → AreFew (cond b (standing_so (counted a) TooMany) (with_step (counted a) e o))
+        by_step : (b : Bool) (o : Option Cause)
+            → AreFew (cond b (standing_so (counted a) TooMany) (with_step (counted a) e o))
         by_step true o = so TooMany low
         by_step false None = let steps = few.steps in let more = steps_after a.schedule e in
             record { steps = omega (arith, steps, more); lines = omega (arith, low) }

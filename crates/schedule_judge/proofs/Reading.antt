@@ -1,6 +1,6 @@
 -- What is read of a line.
-use Rattle.std.proofs.Common.{◌≡◌, ◌≤◌, ◌<◌, ℕ, List, ◌∷◌, ◌++◌, [], length, refl, sym, ap, ◌∙◌, subst, Bool, true, false}
-use Rattle.std.proofs.Common.{cond, Option, Some, None, Result, Ok, Err, IfOk, OnOk, arith, le-ltb, lt-ltb}
+use Rattle.std.proofs.Common.{◌≡◌, ◌≤◌, ◌<◌, ℕ, List, ◌∷◌, ◌++◌, [], length, refl, sym, ap, ◌∙◌, subst, Bool, true}
+use Rattle.std.proofs.Common.{false, cond, Option, Some, None, Result, Ok, Err, IfOk, OnOk, arith, le-ltb, lt-ltb}
 use Rattle.dover_model.specs.declared.events.Event.{Event}
 use Rattle.dover_model.specs.Common.{fields_of, lines_of, rest_of, is_too_long}
 use Rattle.line_text.specs.declared.BadLine.{BadLine}
@@ -39,7 +39,8 @@ step_read l r o short form text only is =
 
 -- one that is too long has none
 pub step_unread : (l : List ℕ) → 128 < length l → None ≡ step_in l
-step_unread l long = ap (λ b. cond b None (step_of_read (line_of_fields (fields_of l)))) (sym (lt-ltb 128 (length l) long))
+step_unread l long = ap (λ b. cond b None (step_of_read (line_of_fields (fields_of l))))
+    (sym (lt-ltb 128 (length l) long))
 
 -- ---- a text with one line more
 

@@ -14,7 +14,8 @@ use Rattle.schedule_judge.specs.declared.intake.Standing.{Standing}
 use Rattle.schedule_judge.specs.declared.intake.Standing.TheVariants.{Open, Ended, Wrong, TooMany}
 use Rattle.schedule_judge.specs.Legal.{Schedule, blank, cause_of, after}
 
--- what the lines so far say, up to the first that is wrong or the end: how many they are, the schedule, and how it stands
+-- what the lines so far say, up to the first that is wrong or the end: how many they are, the schedule, and how it
+-- stands
 pub record Account : Type 0 where
   pub lines : ℕ
   pub schedule : Schedule

@@ -13,7 +13,8 @@ use Rattle.schedule_judge.specs.declared.jobs.JobState.TheVariants.{Completed, A
 use Rattle.schedule_judge.specs.declared.book.Turn.{Turn}
 use Rattle.schedule_judge.specs.Jobs.{fresh, ran, settled, told_of, is_over, may_run, value_done}
 
--- a schedule so far: its jobs by number, the one that runs and from which tick, the tick of the last step, and the steps
+-- a schedule so far: its jobs by number, the one that runs and from which tick, the tick of the last step, and all
+-- steps
 pub record Schedule : Type 0 where
   pub jobs : List ToldJob
   pub turn : Option Turn

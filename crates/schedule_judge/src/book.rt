@@ -186,7 +186,10 @@ impl Book {
     {
         first_of(
             unless(are_over(&self.jobs), Cause::Open),
-            unless(completed_value(&self.jobs) == u128::from(value), Cause::Value),
+            unless(
+                completed_value(&self.jobs) == u128::from(value),
+                Cause::Value,
+            ),
         )
     }
 
