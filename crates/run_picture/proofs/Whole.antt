@@ -28,28 +28,29 @@ told_length f seen n = by_test (nat_lt n (length seen)) where
   by_test false = refl
 
 -- a step adds one at most
-step_length : (seen : List Seen) (e : Event) (w : ℕ) → length (with_step seen e w) ≤ length seen + 1
-step_length seen (Release n job) w = omega (arith, length-append seen (fresh n job ∷ []))
-step_length seen (Take at stops starts) w = omega (arith, told_length (taking w) seen starts)
-step_length seen (Complete at n) w = omega (arith, told_length (done at) seen n)
-step_length seen (Abandon at n) w = omega (arith, told_length (gone at w) seen n)
-step_length seen _ w = omega arith
+step_length : (weighs : Bool) (seen : List Seen) (e : Event) (w : ℕ) → length (with_step weighs seen e w) ≤ length seen + 1
+step_length weighs seen (Release n job) w = omega (arith, length-append seen (fresh weighs n job ∷ []))
+step_length weighs seen (Take at stops starts) w = omega (arith, told_length (taking w) seen starts)
+step_length weighs seen (Complete at n) w = omega (arith, told_length (done at) seen n)
+step_length weighs seen (Abandon at n) w = omega (arith, told_length (gone at w) seen n)
+step_length weighs seen _ w = omega arith
 
 -- so all steps add as many at most as they are
-steps_length : (seen : List Seen) (more : List (Event × ℕ)) → length (told_by seen more) ≤ length seen + length more
-steps_length seen [] = omega arith
-steps_length seen (e_w ∷ more) = omega (
+steps_length : (weighs : Bool) (seen : List Seen) (more : List (Event × ℕ)) 
+    → length (told_by weighs seen more) ≤ length seen + length more
+steps_length weighs seen [] = omega arith
+steps_length weighs seen (e_w ∷ more) = omega (
   arith,
-  steps_length (with_step seen e_w.0 e_w.1) more,
-  step_length seen e_w.0 e_w.1,
+  steps_length weighs (with_step weighs seen e_w.0 e_w.1) more,
+  step_length weighs seen e_w.0 e_w.1,
 )
 
-pub few_seen : (run : List Event) (worths : List ℕ) (seen : List Seen) → length worths ≡ length run
-    → seen ≡ told_by [] (zip run worths) → length run ≤ 5_000_001 → length seen ≤ 5_000_001
-few_seen run worths seen same are few = omega (
+pub few_seen : (weighs : Bool) (run : List Event) (worths : List ℕ) (seen : List Seen) → length worths ≡ length run
+    → seen ≡ told_by weighs [] (zip run worths) → length run ≤ 5_000_001 → length seen ≤ 5_000_001
+few_seen weighs run worths seen same are few = omega (
   arith,
   ap length are,
-  steps_length [] (zip run worths),
+  steps_length weighs [] (zip run worths),
   length-zip run worths,
   same,
   few,
@@ -62,7 +63,7 @@ pub pictured : (k : Fraction) (run : List Event) (J : Instance) → IsRunOf k ru
     (jobs : List JobFacts) (worths : List ℕ) (rows : List Interval) (value : ℕ) (c : Totals) (seen : List Seen)
     (pieces : List Piece) (w : Window) (b : Text)
     → jobs ≡ jobs_released run → worths ≡ weights J → rows ≡ rows_of J → value ≡ completed_value J
-    → c ≡ totals (counts_of k run jobs value) n → seen ≡ told_by [] (zip run worths)
+    → c ≡ totals (counts_of k run jobs value) n → seen ≡ told_by true [] (zip run worths)
     → pieces ≡ pieces_from None run
     → w ≡ window_of asked jobs → b ≡ drawn 400 w c seen jobs run pieces rows → b ≡ picture asked n J
 pictured k run J of asked n jobs worths rows value c seen pieces w b released weighed charged adds counts tells runs
@@ -70,17 +71,19 @@ pictured k run J of asked n jobs worths rows value c seen pieces w b released we
     last ∙ ap (λ x. drawn 400 x c seen jobs run pieces rows) views
     ∙ ap (λ x. drawn 400 (window_of asked jobs) x seen jobs run pieces rows) counts
     ∙ ap (λ x. drawn 400 (window_of asked jobs) (totals (counts_of k run jobs value) n) x jobs run pieces rows) tells
-    ∙ ap (λ x. drawn 400 (window_of asked jobs) (totals (counts_of k run jobs value) n) (told_by [] (zip run worths))
+    ∙ ap (λ x. drawn 400 (window_of asked jobs) (totals (counts_of k run jobs value) n)
+    (told_by true [] (zip run worths))
     jobs run x rows) runs
-    ∙ ap (λ x. drawn 400 (window_of asked jobs) (totals (counts_of k run jobs value) n) (told_by [] (zip run worths))
+    ∙ ap (λ x. drawn 400 (window_of asked jobs) (totals (counts_of k run jobs value) n)
+    (told_by true [] (zip run worths))
     jobs run (pieces_from None run) x) charged
-    ∙ ap (λ x. drawn 400 (window_of asked jobs) (totals (counts_of k run jobs x) n) (told_by [] (zip run worths))
+    ∙ ap (λ x. drawn 400 (window_of asked jobs) (totals (counts_of k run jobs x) n) (told_by true [] (zip run worths))
     jobs run (pieces_from None run) (rows_of J)) adds
     ∙ ap (λ x. drawn 400 (window_of asked jobs) (totals (counts_of k run jobs (completed_value J)) n)
-    (told_by [] (zip run x)) jobs run (pieces_from None run) (rows_of J)) weighed
+    (told_by true [] (zip run x)) jobs run (pieces_from None run) (rows_of J)) weighed
     ∙ ap (λ x. drawn 400 (window_of asked x) (totals (counts_of k run x (completed_value J)) n)
-    (told_by [] (zip run (weights J))) x run (pieces_from None run) (rows_of J)) (released ∙ jobs_are k run J of)
+    (told_by true [] (zip run (weights J))) x run (pieces_from None run) (rows_of J)) (released ∙ jobs_are k run J of)
     ∙ ap (λ x. drawn 400 (window_of asked J.jobs) (totals (counts_of x run J.jobs (completed_value J)) n)
-    (told_by [] (zip run (weights J))) J.jobs run (pieces_from None run) (rows_of J)) (sym of.ratio)
+    (told_by true [] (zip run (weights J))) J.jobs run (pieces_from None run) (rows_of J)) (sym of.ratio)
     ∙ ap (λ x. drawn 400 (window_of asked J.jobs) (totals (counts_of J.rules.ratio x J.jobs (completed_value J)) n)
-    (told_by [] (zip x (weights J))) J.jobs x (pieces_from None x) (rows_of J)) (sym of.prints)
+    (told_by true [] (zip x (weights J))) J.jobs x (pieces_from None x) (rows_of J)) (sym of.prints)

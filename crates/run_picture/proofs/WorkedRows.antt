@@ -1,5 +1,5 @@
 -- Pictures, by computation.
-use Rattle.std.proofs.Common.{◌≡◌, [], ◌∷◌, ◌++◌, map, refl, codes, Some, None}
+use Rattle.std.proofs.Common.{◌≡◌, true, [], ◌∷◌, ◌++◌, map, refl, codes, Some, None}
 use Rattle.std.specs.Fmt.{digits}
 use Rattle.dover_model.specs.Common.{Instance, printed}
 use Rattle.dover_model.proofs.rows.Written.{job, one}
@@ -276,5 +276,5 @@ taken_pieces : pieces_from None (printed took_and_early) ≡
 taken_pieces = refl
 
 -- and the ticks of their fates are those
-early_fates : map end_tick (told_by [] (moments took_and_early)) ≡ 6 ∷ 3 ∷ 1 ∷ []
+early_fates : map end_tick (told_by true [] (moments took_and_early)) ≡ 6 ∷ 3 ∷ 1 ∷ []
 early_fates = refl

@@ -4,7 +4,9 @@ use Rattle.std.specs.Prelude.{nat_le, nat_lt, if◌then◌else◌, codes, decima
 use Rattle.run_reports.specs.declared.report.counts.Counts.{Counts}
 use Rattle.run_record.specs.declared.intervals.interval.Interval.{Interval}
 use Rattle.run_reports.specs.views.Templates.{Text, filled}
+use Rattle.run_reports.specs.declared.report.fates.Fates.{Fates}
 use Rattle.run_picture.specs.declared.frame.Totals.{Totals}
+use Rattle.run_picture.specs.declared.frame.Totals.TheVariants.{OfRun, OfSchedule}
 use Rattle.run_picture.specs.Sizes.{digits_of, room}
 use Rattle.run_picture.specs.Plot.{x_at, meets, pixels, bar}
 use Rattle.run_picture.specs.Legends.{styles, legend}
@@ -32,13 +34,24 @@ abbrev pub title_end : (refused : ℕ) → Text
 title_end refused =
     if refused == 0 then codes "</text>\n" else filled (codes ", lines refused @</text>\n") (refused ∷ [])
 
+-- what a schedule comes to, whichever policy made it
+abbrev pub fates_title : Fates → Text
+fates_title f = filled (codes
+    "<text class='b' x='90' y='22'>jobs @, completed @ worth @, abandoned @ worth @, taken @</text>\n")
+    (f.jobs ∷ f.completed ∷ f.value ∷ f.abandoned ∷ f.lost ∷ f.taken ∷ [])
+
+-- the title of a run, or of a schedule
+abbrev pub title : Totals → Text
+title (OfRun counts refused) = title_front counts ++ title_end refused
+title (OfSchedule fates) = fates_title fates
+
 -- a page so high that has nothing on it
 unfoldable pub blank : (high : ℕ) → Text
 blank high = front high ++ styles ++ ground high
 
 -- a page with its title, and the legend of the processor
 unfoldable pub page : (high : ℕ) → Totals → Text
-page high t = blank high ++ title_front t.counts ++ title_end t.refused ++ legend
+page high t = blank high ++ title t ++ legend
 
 -- ---- the axis
 

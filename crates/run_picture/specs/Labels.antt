@@ -64,10 +64,29 @@ named_loss_in x y long n value against = if nat_le (room 14 n + 6 * digits_of va
     else (if nat_le (room 5 n + 6 * digits_of value) long then named_lost_at x y n value
     else (if nat_le (room 2 n) long then named_at x y n else []))
 
--- what stands behind the cross of a job, in so many pixels behind x
+-- a lost value, in so many pixels behind x
+abbrev pub lost_in : (x y long value : ℕ) → Text
+lost_in x y long value = if nat_le (room 2 value) long then lost_at x y value else []
+
+-- the same with the job's number
+abbrev pub named_lost_in : (x y long n value : ℕ) → Text
+named_lost_in x y long n value = if nat_le (room 5 n + 6 * digits_of value) long then named_lost_at x y n value
+    else (if nat_le (room 2 n) long then named_at x y n else [])
+
+-- what stands behind the cross of a job that is weighed, in so many pixels behind x
+abbrev pub weighed_behind : (x y long : ℕ) → (named : Bool) → Seen → Text
+weighed_behind x y long named s =
+    if named then loss_in x y long s.value s.against else named_loss_in x y long s.number s.value s.against
+
+-- and of one that isn't
+abbrev pub plain_behind : (x y long : ℕ) → (named : Bool) → Seen → Text
+plain_behind x y long named s =
+    if named then lost_in x y long s.value else named_lost_in x y long s.number s.value
+
+-- by whether jobs are weighed
 abbrev pub behind_cross : (x y long : ℕ) → (named : Bool) → Seen → Text
 behind_cross x y long named s =
-    if named then loss_in x y long s.value s.against else named_loss_in x y long s.number s.value s.against
+    if s.weighs then weighed_behind x y long named s else plain_behind x y long named s
 
 -- what the job's loss weighed, if it is abandoned in the window
 abbrev pub loss_of : Window → (y : ℕ) → Seen → Text

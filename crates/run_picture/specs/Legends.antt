@@ -1,6 +1,8 @@
 -- The texts of a picture that don't depend on the run: how texts look, the colors, and what they mean.
-use Rattle.std.specs.Prelude.{◌++◌, codes}
+use Rattle.std.specs.Prelude.{[], ◌++◌, codes}
 use Rattle.run_reports.specs.views.Templates.{Text}
+use Rattle.run_picture.specs.declared.frame.Totals.{Totals}
+use Rattle.run_picture.specs.declared.frame.Totals.TheVariants.{OfRun, OfSchedule}
 
 -- how texts look
 unfoldable pub texts_style : Text
@@ -75,3 +77,26 @@ load_legend = codes "<path class='o' stroke-width='12' d='M580 40h14'/>\n"
 -- the legend of the lanes
 unfoldable pub lanes_legend : Text
 lanes_legend = lanes_colors ++ lanes_words ++ losses_words
+
+-- the colors and the words of the lanes of a schedule, whichever policy made it: it has no intervals, and nothing is
+-- weighed
+unfoldable pub schedule_colors : Text
+schedule_colors = codes "<g stroke-width='12'><path class='w' d='M580 40h14'/><path class='g' d='M715 40h14'/>\n"
+    ++ codes "<path class='h' d='M855 40h14'/></g>\n"
+
+unfoldable pub schedule_losses : Text
+schedule_losses = codes "<text class='s' x='990' y='44'>X abandoned: -value</text>\n"
+
+-- the legend of the lanes of a schedule
+unfoldable pub schedule_lanes_legend : Text
+schedule_lanes_legend = schedule_colors ++ lanes_words ++ schedule_losses
+
+-- the legend of the lanes, by what is drawn
+abbrev pub lanes_legend_of : Totals → Text
+lanes_legend_of (OfRun counts refused) = lanes_legend
+lanes_legend_of (OfSchedule fates) = schedule_lanes_legend
+
+-- and of the load
+abbrev pub load_legend_of : Totals → Text
+load_legend_of (OfRun counts refused) = load_legend
+load_legend_of (OfSchedule fates) = []

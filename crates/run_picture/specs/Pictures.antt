@@ -6,11 +6,12 @@ use Rattle.dover_model.specs.declared.pieces.Piece.{Piece}
 use Rattle.dover_model.specs.Common.{JobFacts, Instance, last_tick, printed, completed_value, last_deadline}
 use Rattle.run_record.specs.intervals.Rows.{rows_of}
 use Rattle.run_record.specs.declared.intervals.interval.Interval.{Interval}
-use Rattle.run_reports.specs.report.Counts.{counts_of}
+use Rattle.run_reports.specs.report.Counts.{counts_of, jobs_released}
+use Rattle.run_reports.specs.report.Fates.{fates_of}
 use Rattle.run_reports.specs.declared.report.counts.Counts.{Counts}
 use Rattle.run_reports.specs.views.Moments.{moments}
 use Rattle.run_reports.specs.views.Templates.{Text, filled}
-use Rattle.run_picture.specs.Seen.{told_by}
+use Rattle.run_picture.specs.Seen.{told_by, told_plainly}
 use Rattle.run_picture.specs.Processor.{pieces_from}
 use Rattle.run_picture.specs.Lanes.{shown, lanes_from, height, unit_of}
 use Rattle.run_picture.specs.Strip.{piece_bars, piece_numbers}
@@ -18,10 +19,11 @@ use Rattle.run_picture.specs.Windows.{job_windows}
 use Rattle.run_picture.specs.Labels.{labels}
 use Rattle.run_picture.specs.Marks.{holds, crosses, arrows}
 use Rattle.run_picture.specs.Panels.{values, ready, columns}
-use Rattle.run_picture.specs.Legends.{lanes_legend, load_legend}
+use Rattle.run_picture.specs.Legends.{lanes_legend_of, load_legend_of}
 use Rattle.run_picture.specs.Frame.{page, axis, bands, band_words, bars_front, bars_end}
 use Rattle.run_reports.specs.declared.views.window.Window.{Window}
 use Rattle.run_picture.specs.declared.frame.Totals.{Totals}
+use Rattle.run_picture.specs.declared.frame.Totals.TheVariants.{OfRun, OfSchedule}
 use Rattle.run_picture.specs.declared.seen.Seen.{Seen}
 use Rattle.run_picture.specs.declared.strip.Bars.{Bars}
 
@@ -104,11 +106,11 @@ all_bands w least bottom rows = bands w least bottom rows ++ band_words w rows
 
 -- what stands under the lanes
 unfoldable pub under : Window → Totals → (bottom : ℕ) → List Interval → Text
-under w t bottom rows = ground_of w t bottom ++ lanes_legend ++ all_bands w 1 bottom rows
+under w t bottom rows = ground_of w t bottom ++ lanes_legend_of t ++ all_bands w 1 bottom rows
 
 -- what stands under the load
 unfoldable pub under_load : Window → Totals → List Interval → Text
-under_load w t rows = ground_of w t 474 ++ load_legend ++ all_bands w 0 474 rows
+under_load w t rows = ground_of w t 474 ++ load_legend_of t ++ all_bands w 0 474 rows
 
 -- the processor and the lanes
 unfoldable pub middle_of : Window → (unit : ℕ) → List Seen → List Event → List Piece → Text
@@ -162,14 +164,25 @@ window_of (Some w) jobs = record { from = min w.from (last_tick + 1); until = mi
 
 -- the numbers of its title: those of the summary, and how many lines were refused
 abbrev pub totals : Counts → (refused : ℕ) → Totals
-totals c refused = record { counts = c; refused = refused }
+totals c refused = OfRun c refused
 
 -- the picture of a run with so many refused lines, with lanes for so many jobs at most
 abbrev pub picture_by : (most : ℕ) → Option Window → (refused : ℕ) → Instance → Text
 picture_by most asked refused J = drawn most (window_of asked J.jobs)
     (totals (counts_of J.rules.ratio (printed J) J.jobs (completed_value J)) refused)
-    (told_by [] (moments J)) J.jobs (printed J) (pieces_from None (printed J)) (rows_of J)
+    (told_by true [] (moments J)) J.jobs (printed J) (pieces_from None (printed J)) (rows_of J)
 
 -- the picture
 abbrev pub picture : Option Window → (refused : ℕ) → Instance → Text
 picture asked refused J = picture_by 400 asked refused J
+
+-- the picture of a schedule with these steps, whichever policy made it, with lanes for so many jobs at most
+abbrev pub schedule_picture_by : (most : ℕ) → Option Window → List Event → Text
+schedule_picture_by most asked run =
+    let jobs = jobs_released run in
+    drawn most (window_of asked jobs) (OfSchedule (fates_of jobs run)) (told_plainly run) jobs run
+    (pieces_from None run) []
+
+-- the picture
+abbrev pub schedule_picture : Option Window → List Event → Text
+schedule_picture asked run = schedule_picture_by 400 asked run

@@ -1,6 +1,6 @@
 -- What the steps of a run tell of each job.
 use Rattle.std.specs.Prelude.{ℕ, List, [], ◌∷◌, ◌++◌, length, set, Bool, true, false, nat_lt, if◌then◌else◌}
-use Rattle.std.specs.Prelude.{Option, Some, None, slice_index_or}
+use Rattle.std.specs.Prelude.{Option, Some, None, slice_index_or, zip, replicate}
 use Rattle.dover_model.specs.declared.events.Event.{Event}
 use Rattle.dover_model.specs.declared.events.Event.TheVariants.{Release, Take, Complete, Abandon}
 use Rattle.dover_model.specs.JobFacts.{JobFacts}
@@ -8,15 +8,16 @@ use Rattle.run_reports.specs.declared.report.endings.Ending.{Ending}
 use Rattle.run_reports.specs.declared.report.endings.Ending.TheVariants.{Completed, Abandoned}
 use Rattle.run_picture.specs.declared.seen.Seen.{Seen}
 
--- a job at its release
-abbrev pub fresh : ℕ → JobFacts → Seen
-fresh n j = record {
+-- a job at its release, where jobs are weighed or aren't
+abbrev pub fresh : Bool → ℕ → JobFacts → Seen
+fresh weighs n j = record {
   number = n;
   release = j.release;
   work = j.work;
   deadline = j.deadline;
   value = j.value;
   took = false;
+  weighs = weighs;
   against = 0;
   ending = None;
   row = 0;
@@ -31,6 +32,7 @@ nobody = record {
   deadline = 0;
   value = 0;
   took = false;
+  weighs = false;
   against = 0;
   ending = None;
   row = 0;
@@ -57,17 +59,21 @@ abbrev pub told_of : (Seen → Seen) → List Seen → ℕ → List Seen
 told_of f seen n = if nat_lt n (length seen) then set seen n (f (seen_at seen n)) else seen
 
 -- what is told after one more step, before which the jobs under way are worth so much
-abbrev pub with_step : List Seen → Event → ℕ → List Seen
-with_step seen (Release n job) worth = seen ++ fresh n job ∷ []
-with_step seen (Take at stops starts) worth = told_of (taking worth) seen starts
-with_step seen (Complete at n) worth = told_of (done at) seen n
-with_step seen (Abandon at n) worth = told_of (gone at worth) seen n
-with_step seen _ worth = seen
+abbrev pub with_step : (weighs : Bool) → List Seen → Event → ℕ → List Seen
+with_step weighs seen (Release n job) worth = seen ++ fresh weighs n job ∷ []
+with_step weighs seen (Take at stops starts) worth = told_of (taking worth) seen starts
+with_step weighs seen (Complete at n) worth = told_of (done at) seen n
+with_step weighs seen (Abandon at n) worth = told_of (gone at worth) seen n
+with_step weighs seen _ worth = seen
 
 -- what these steps tell, by number
-abbrev pub told_by : List Seen → List (Event × ℕ) → List Seen
-told_by seen [] = seen
-told_by seen (e_w ∷ more) = told_by (with_step seen e_w.0 e_w.1) more
+abbrev pub told_by : (weighs : Bool) → List Seen → List (Event × ℕ) → List Seen
+told_by weighs seen [] = seen
+told_by weighs seen (e_w ∷ more) = told_by weighs (with_step weighs seen e_w.0 e_w.1) more
+
+-- what the steps of a schedule tell, whichever policy made it: no job is weighed
+abbrev pub told_plainly : List Event → List Seen
+told_plainly run = told_by false [] (zip run (replicate (length run) 0))
 
 -- the tick at which it ended, or this one
 abbrev pub ended_at : ℕ → Option Ending → ℕ

@@ -12,9 +12,13 @@ use Rattle.run_picture.specs.declared.seen.Seen.{Seen}
 -- ---- the tooltip
 
 -- what stood against the job's value, where it was weighed
-abbrev pub weighed : Seen → Text
-weighed s = if is_gone s then filled (codes " against @") (s.against ∷ [])
+abbrev pub weighing : Seen → Text
+weighing s = if is_gone s then filled (codes " against @") (s.against ∷ [])
     else (if s.took then filled (codes " against @, taken") (s.against ∷ []) else [])
+
+-- the same where jobs are weighed
+abbrev pub weighed : Seen → Text
+weighed s = if s.weighs then weighing s else []
 
 -- how it ended
 abbrev pub ended : Option Ending → Text

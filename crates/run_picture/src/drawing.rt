@@ -12,13 +12,13 @@ use crate::marks::{put_arrows, put_crosses, put_holds};
 use crate::panels::{put_columns, put_ready, put_values};
 use crate::plot::{Window, put_text};
 use crate::processor::pieces;
-use crate::seen::{Seen, told_by};
+use crate::seen::{Seen, told_by, told_plainly};
 use crate::strip::{Bars, put_numbers, put_pieces};
 use crate::windows::put_windows;
 use dover_model::jobs::LAST_TICK;
 use dover_model::{Job, Memory, PackedEvent, Piece, Ratio};
 use run_record::intervals::{Charge, Interval, weights};
-use run_reports::report::{count, released};
+use run_reports::report::{count, fates_of, released};
 use run_reports::views::last_deadline;
 use std::alloc::Global;
 
@@ -42,8 +42,8 @@ pub fn picture(
     let worths = weights(alloc, k, run)?;
     let charge = Charge::of(alloc, k, run)?;
     let counts = count(k, &charge);
-    let totals = Totals { counts, refused };
-    let seen = told_by(alloc, run, &worths)?;
+    let totals = Totals::OfRun(counts, refused);
+    let seen = told_by(alloc, true, run, &worths)?;
     let pieces = pieces(alloc, run)?;
     let window = window_of(asked, &jobs);
     drawn(
@@ -56,6 +56,25 @@ pub fn picture(
         &pieces,
         charge.rows(),
     )
+}
+
+/// The schedule with these steps as SVG, whichever policy made it: as the picture of a run, but without intervals,
+/// without a bound, and without what was weighed. Want of memory is the only error.
+pub fn schedule_picture(
+    alloc: Global,
+    run: &[PackedEvent],
+    asked: Option<Window>,
+) -> Result<Vec<u8>, Memory>
+    requires { length run.now ≤ 5_000_001 }
+    ensures { IfOk result (λ written. written.items ≡ pictures.schedule_picture asked run.now) }
+{
+    let jobs = released(alloc, run)?;
+    let totals = Totals::OfSchedule(fates_of(&jobs, run));
+    let seen = told_plainly(alloc, run)?;
+    let pieces = pieces(alloc, run)?;
+    let window = window_of(asked, &jobs);
+    let rows = Vec::new(alloc);
+    drawn(alloc, window, &totals, &seen, &jobs, run, &pieces, &rows)
 }
 
 /// The window that is asked for, or all of the run.
@@ -165,7 +184,7 @@ fn put_under(
 {
     put_page(text, bottom + 36, totals)?;
     put_axis(text, window, bottom)?;
-    put_lanes_legend(text)?;
+    put_lanes_legend(text, totals)?;
     put_all_bands(text, window, 1, bottom, rows)
 }
 
@@ -181,7 +200,7 @@ fn put_under_load(
 {
     put_page(text, 510, totals)?;
     put_axis(text, window, 474)?;
-    put_load_legend(text)?;
+    put_load_legend(text, totals)?;
     put_all_bands(text, window, 0, 474, rows)
 }
 

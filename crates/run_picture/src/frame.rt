@@ -8,14 +8,16 @@ use crate::plot::{Window, meets, pixels, put_bar, put_text, x_at};
 use crate::sizes::{digits_of, room};
 use dover_model::Memory;
 use run_record::intervals::Interval;
-use run_reports::report::Counts;
+use run_reports::report::{Counts, Fates};
 use run_reports::views::template::{put, put_wide};
 
-/// The numbers of a title: those of the summary, and how many lines were refused.
+/// The numbers of a title.
 #[derive(Clone, Copy)]
-pub struct Totals {
-    pub counts: Counts,
-    pub refused: u64,
+pub enum Totals {
+    /// Of a run: those of its summary, and how many lines were refused.
+    OfRun(Counts, u64),
+    /// Of a schedule, whichever policy made it: what it comes to.
+    OfSchedule(Fates),
 }
 
 /// Appends the numbers of the summary.
@@ -47,6 +49,43 @@ fn put_title_end(text: &mut Vec<u8>, refused: u64) -> Result<(), Memory>
     put(text, b", lines refused @</text>\n", &[refused])
 }
 
+/// Appends what a schedule comes to, as a title.
+fn put_fates_title(text: &mut Vec<u8>, fates: &Fates) -> Result<(), Memory>
+    ensures { OnOk result (text.new.items ≡ text.old.items ++ frame.fates_title fates.now) }
+{
+    put(
+        text,
+        b"<text class='b' x='90' y='22'>jobs @, completed @ worth @, abandoned @ worth @, taken @</text>\n",
+        &[
+            fates.jobs,
+            fates.completed,
+            fates.value,
+            fates.abandoned,
+            fates.lost,
+            fates.taken,
+        ],
+    )
+}
+
+/// Appends the title of a run.
+fn put_run_title(text: &mut Vec<u8>, counts: &Counts, refused: u64) -> Result<(), Memory>
+    ensures { OnOk result (text.new.items
+        ≡ text.old.items ++ (frame.title_front counts.now ++ frame.title_end refused)) }
+{
+    put_title_front(text, counts)?;
+    put_title_end(text, refused)
+}
+
+/// Appends the title.
+fn put_title(text: &mut Vec<u8>, totals: &Totals) -> Result<(), Memory>
+    ensures { OnOk result (text.new.items ≡ text.old.items ++ frame.title totals.now) }
+{
+    match totals {
+        Totals::OfRun(counts, refused) => put_run_title(text, counts, *refused),
+        Totals::OfSchedule(fates) => put_fates_title(text, fates),
+    }
+}
+
 /// Appends a page with its title, and the legend of the processor.
 pub fn put_page(text: &mut Vec<u8>, high: u64, totals: &Totals) -> Result<(), Memory>
     ensures { OnOk result (text.new.items ≡ text.old.items ++ frame.page high totals.now) }
@@ -62,8 +101,7 @@ pub fn put_page(text: &mut Vec<u8>, high: u64, totals: &Totals) -> Result<(), Me
         b"<rect width='1400' height='@' fill='#fff'/>\n",
         &[high],
     )?;
-    put_title_front(text, &totals.counts)?;
-    put_title_end(text, totals.refused)?;
+    put_title(text, totals)?;
     put_legend(text)
 }
 

@@ -1,5 +1,5 @@
 //! What is written in the lanes.
-ghost use Rattle.std.specs.Prelude.{◌≡◌, ◌≤◌, ◌++◌, ◌^◌, OnOk};
+ghost use Rattle.std.specs.Prelude.{◌≡◌, ◌≤◌, ◌<◌, ◌++◌, ◌^◌, OnOk};
 ghost use Rattle.run_picture.specs.Labels as labels;
 
 use crate::lanes::{middle, shows};
@@ -98,10 +98,111 @@ fn put_loss(text: &mut Vec<u8>, window: Window, y: u64, seen: &Seen) -> Result<(
     let tick = seen.end_tick();
     let x = x_at(window, tick);
     let long = pixels(window, 0, tick, seen.deadline);
-    if has_number(window, seen) {
+    put_behind_cross(text, x, y, long, has_number(window, seen), seen)
+}
+
+/// Appends what stands behind the cross of a job, in so many pixels behind x.
+fn put_behind_cross(
+    text: &mut Vec<u8>,
+    x: u64,
+    y: u64,
+    long: u64,
+    named: bool,
+    seen: &Seen,
+) -> Result<(), Memory>
+    requires x { x ≤ 1_290 }
+    requires y { y ≤ 2 ^ 40 }
+    ensures { OnOk result (text.new.items ≡ text.old.items ++ labels.behind_cross x y long named seen.now) }
+{
+    if seen.weighs {
+        return put_weighed(text, x, y, long, named, seen);
+    }
+    put_plain(text, x, y, long, named, seen)
+}
+
+/// The same of a job that is weighed.
+fn put_weighed(
+    text: &mut Vec<u8>,
+    x: u64,
+    y: u64,
+    long: u64,
+    named: bool,
+    seen: &Seen,
+) -> Result<(), Memory>
+    requires x { x ≤ 1_290 }
+    requires y { y ≤ 2 ^ 40 }
+    ensures { OnOk result (text.new.items ≡ text.old.items ++ labels.weighed_behind x y long named seen.now) }
+{
+    if named {
         return put_loss_in(text, x, y, long, seen.value, seen.against);
     }
     put_named_loss_in(text, x, y, long, seen)
+}
+
+/// The same of a job that isn't weighed.
+fn put_plain(
+    text: &mut Vec<u8>,
+    x: u64,
+    y: u64,
+    long: u64,
+    named: bool,
+    seen: &Seen,
+) -> Result<(), Memory>
+    requires x { x ≤ 1_290 }
+    requires y { y ≤ 2 ^ 40 }
+    ensures { OnOk result (text.new.items ≡ text.old.items ++ labels.plain_behind x y long named seen.now) }
+{
+    if named {
+        return put_lost_in(text, x, y, long, seen.value);
+    }
+    put_named_lost_in(text, x, y, long, u64::from(seen.number), seen.value)
+}
+
+/// Appends a lost value, in so many pixels behind x.
+fn put_lost_in(text: &mut Vec<u8>, x: u64, y: u64, long: u64, value: u64) -> Result<(), Memory>
+    requires x { x ≤ 1_290 }
+    requires y { y ≤ 2 ^ 40 }
+    ensures { OnOk result (text.new.items ≡ text.old.items ++ labels.lost_in x y long value) }
+{
+    if room(2, value) <= long {
+        return put(
+            text,
+            b"<text class='v' x='@' y='@'>-@</text>\n",
+            &[x + 6, y + 4, value],
+        );
+    }
+    Ok(())
+}
+
+/// Appends a job's number and its lost value, in so many pixels behind x.
+fn put_named_lost_in(
+    text: &mut Vec<u8>,
+    x: u64,
+    y: u64,
+    long: u64,
+    number: u64,
+    value: u64,
+) -> Result<(), Memory>
+    requires x { x ≤ 1_290 }
+    requires y { y ≤ 2 ^ 40 }
+    requires number { number < 2 ^ 32 }
+    ensures { OnOk result (text.new.items ≡ text.old.items ++ labels.named_lost_in x y long number value) }
+{
+    if room(5, number) + 6 * digits_of(value) <= long {
+        return put(
+            text,
+            b"<text class='v' x='@' y='@'>@: -@</text>\n",
+            &[x + 6, y + 4, number, value],
+        );
+    }
+    if room(2, number) <= long {
+        return put(
+            text,
+            b"<text x='@' y='@'>@</text>\n",
+            &[x + 6, y + 4, number],
+        );
+    }
+    Ok(())
 }
 
 /// Appends a job's number and what its loss weighed, in so many pixels behind x.

@@ -2,6 +2,7 @@
 ghost use Rattle.std.specs.Prelude.{◌≡◌, ◌++◌, OnOk};
 ghost use Rattle.run_picture.specs.Legends as legends;
 
+use crate::frame::Totals;
 use crate::plot::put_text;
 use dover_model::Memory;
 
@@ -49,7 +50,7 @@ pub fn put_legend(text: &mut Vec<u8>) -> Result<(), Memory>
 }
 
 /// Appends what bands mean in the load.
-pub fn put_load_legend(text: &mut Vec<u8>) -> Result<(), Memory>
+fn put_bands_legend(text: &mut Vec<u8>) -> Result<(), Memory>
     ensures { OnOk result (text.new.items ≡ text.old.items ++ legends.load_legend) }
 {
     put_text(
@@ -59,8 +60,8 @@ pub fn put_load_legend(text: &mut Vec<u8>) -> Result<(), Memory>
     )
 }
 
-/// Appends the legend of the lanes.
-pub fn put_lanes_legend(text: &mut Vec<u8>) -> Result<(), Memory>
+/// Appends the legend of the lanes of a run.
+fn put_run_lanes_legend(text: &mut Vec<u8>) -> Result<(), Memory>
     ensures { OnOk result (text.new.items ≡ text.old.items ++ legends.lanes_legend) }
 {
     put_text(
@@ -79,4 +80,45 @@ pub fn put_lanes_legend(text: &mut Vec<u8>) -> Result<(), Memory>
         b"<text class='s' x='1009' y='44'>interval with lost value</text>\n\
         <text class='s' x='1139' y='44'>X abandoned: -value against that under way</text>\n",
     )
+}
+
+/// Appends the legend of the lanes of a schedule, whichever policy made it.
+fn put_schedule_lanes_legend(text: &mut Vec<u8>) -> Result<(), Memory>
+    ensures { OnOk result (text.new.items ≡ text.old.items ++ legends.schedule_lanes_legend) }
+{
+    put_text(
+        text,
+        b"<g stroke-width='12'><path class='w' d='M580 40h14'/><path class='g' d='M715 40h14'/>\n\
+        <path class='h' d='M855 40h14'/></g>\n",
+    )?;
+    put_text(
+        text,
+        b"<text class='s' x='599' y='44'>release to deadline</text>\n\
+        <text class='s' x='734' y='44'>the same, abandoned</text>\n\
+        <text class='s' x='874' y='44'>started, not running</text>\n",
+    )?;
+    put_text(
+        text,
+        b"<text class='s' x='990' y='44'>X abandoned: -value</text>\n",
+    )
+}
+
+/// Appends the legend of the lanes, by what is drawn.
+pub fn put_lanes_legend(text: &mut Vec<u8>, totals: &Totals) -> Result<(), Memory>
+    ensures { OnOk result (text.new.items ≡ text.old.items ++ legends.lanes_legend_of totals.now) }
+{
+    match totals {
+        Totals::OfRun(..) => put_run_lanes_legend(text),
+        Totals::OfSchedule(..) => put_schedule_lanes_legend(text),
+    }
+}
+
+/// Appends the legend of the load, by what is drawn.
+pub fn put_load_legend(text: &mut Vec<u8>, totals: &Totals) -> Result<(), Memory>
+    ensures { OnOk result (text.new.items ≡ text.old.items ++ legends.load_legend_of totals.now) }
+{
+    match totals {
+        Totals::OfRun(..) => put_bands_legend(text),
+        Totals::OfSchedule(..) => Ok(()),
+    }
 }

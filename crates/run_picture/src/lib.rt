@@ -18,4 +18,4 @@ mod sizes;
 mod strip;
 mod windows;
 
-pub use drawing::picture;
+pub use drawing::{picture, schedule_picture};

@@ -1,5 +1,5 @@
 //! The pieces of the processor.
-ghost use Rattle.std.specs.Prelude.{◌≡◌, ◌++◌, OnOk, IfOk, None};
+ghost use Rattle.std.specs.Prelude.{◌≡◌, ◌++◌, [], OnOk, IfOk, None, if◌then◌else◌};
 ghost use Rattle.run_picture.specs.Processor as processor;
 
 use dover_model::{Event, Memory, PackedEvent, Piece};
@@ -36,8 +36,45 @@ fn put_ended(pieces: &mut Vec<Piece>, on: Option<Runner>, event: &PackedEvent) -
         Event::Preempt { at, .. } => put_piece(pieces, on, at),
         Event::Take { at, .. } => put_piece(pieces, on, at),
         Event::Complete { at, .. } => put_piece(pieces, on, at),
+        Event::Abandon { at, number } => put_piece_of(pieces, on, at, number),
         _ => Ok(()),
     }
+}
+
+/// Appends the piece up to this tick, if this job has the processor and it isn't empty.
+fn put_piece_of(
+    pieces: &mut Vec<Piece>,
+    on: Option<Runner>,
+    at: u64,
+    number: u32,
+) -> Result<(), Memory>
+    ensures { OnOk result (pieces.new.items
+        ≡ pieces.old.items ++ (if processor.is_on on number then processor.piece_until on at else [])) }
+{
+    if is_on(on, number) {
+        return put_piece(pieces, on, at);
+    }
+    Ok(())
+}
+
+/// This job has the processor.
+fn is_on(on: Option<Runner>, number: u32) -> bool
+    ensures { result ≡ processor.is_on on number }
+{
+    match on {
+        Some(runner) => runner.number == number,
+        None => false,
+    }
+}
+
+/// Who has the processor once this job is gone.
+fn on_without(on: Option<Runner>, number: u32) -> Option<Runner>
+    ensures { result ≡ (if processor.is_on on number then None else on) }
+{
+    if is_on(on, number) {
+        return None;
+    }
+    on
 }
 
 /// Appends the piece up to this tick, if it isn't empty.
@@ -72,6 +109,7 @@ fn on_after(on: Option<Runner>, event: &PackedEvent) -> Option<Runner>
             from: at,
         }),
         Event::Complete { .. } => None,
+        Event::Abandon { number, .. } => on_without(on, number),
         _ => on,
     }
 }

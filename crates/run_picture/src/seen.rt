@@ -1,5 +1,5 @@
 //! What the steps of a run tell of each job.
-ghost use Rattle.std.specs.Prelude.{◌≡◌, ◌≤◌, ◌++◌, length, OnOk, IfOk, [], zip};
+ghost use Rattle.std.specs.Prelude.{◌≡◌, ◌≤◌, ◌++◌, ℕ, length, OnOk, IfOk, [], zip, replicate};
 ghost use Rattle.run_picture.specs.Seen as tell;
 
 use dover_model::{Event, Job, Memory, PackedEvent};
@@ -21,7 +21,9 @@ pub struct Seen {
     pub value: u64,
     /// Whether it takes the processor at its latest start.
     pub took: bool,
-    /// What the jobs under way are worth when it is weighed.
+    /// Whether jobs are weighed against those under way.
+    pub weighs: bool,
+    /// What those are worth when it is weighed.
     pub against: u64,
     /// How it ended, None where these steps end it nowhere.
     pub ending: Option<Ending>,
@@ -29,24 +31,52 @@ pub struct Seen {
     pub row: u32,
 }
 
-/// What these steps tell of the jobs, by number, where the jobs under way are worth so much before each.
-pub fn told_by(alloc: Global, run: &[PackedEvent], worths: &[u64]) -> Result<Vec<Seen>, Memory>
+/// What these steps tell of the jobs, by number, where the jobs under way are worth so much before each, and jobs are
+/// weighed against those or aren't.
+pub fn told_by(
+    alloc: Global,
+    weighs: bool,
+    run: &[PackedEvent],
+    worths: &[u64],
+) -> Result<Vec<Seen>, Memory>
     requires same { length worths.now ≡ length run.now }
-    ensures { IfOk result (λ seen. seen.items ≡ tell.told_by [] (zip run.now worths.now)) }
+    ensures { IfOk result (λ seen. seen.items ≡ tell.told_by weighs [] (zip run.now worths.now)) }
 {
     let mut seen = Vec::new(alloc);
     for (index, event) in run.iter().enumerate() {
-        put_step(&mut seen, event, worths[index])?;
+        put_step(&mut seen, weighs, event, worths[index])?;
     }
     Ok(seen)
 }
 
+/// So many zeros.
+fn zeros(alloc: Global, count: usize) -> Result<Vec<u64>, Memory>
+    ensures { IfOk result (λ zeros. zeros.items ≡ replicate {A = ℕ} count 0) }
+{
+    let mut zeros = Vec::with_capacity(alloc, count)?;
+    zeros.resize(count, 0)?;
+    Ok(zeros)
+}
+
+/// What the steps of a schedule tell of the jobs, by number, whichever policy made it: no job is weighed.
+pub fn told_plainly(alloc: Global, run: &[PackedEvent]) -> Result<Vec<Seen>, Memory>
+    ensures { IfOk result (λ seen. seen.items ≡ tell.told_plainly run.now) }
+{
+    let worths = zeros(alloc, run.len())?;
+    told_by(alloc, false, run, &worths)
+}
+
 /// One more step.
-fn put_step(seen: &mut Vec<Seen>, event: &PackedEvent, worth: u64) -> Result<(), Memory>
-    ensures { OnOk result (seen.new.items ≡ tell.with_step seen.old.items event.now worth) }
+fn put_step(
+    seen: &mut Vec<Seen>,
+    weighs: bool,
+    event: &PackedEvent,
+    worth: u64,
+) -> Result<(), Memory>
+    ensures { OnOk result (seen.new.items ≡ tell.with_step weighs seen.old.items event.now worth) }
 {
     match event.event() {
-        Event::Release { number, job } => seen.push(fresh(number, &job))?,
+        Event::Release { number, job } => seen.push(fresh(weighs, number, &job))?,
         Event::Take { starts, .. } => take(seen, starts as usize, worth),
         Event::Complete { at, number } => complete(seen, number as usize, at),
         Event::Abandon { at, number } => abandon(seen, number as usize, at, worth),
@@ -56,8 +86,8 @@ fn put_step(seen: &mut Vec<Seen>, event: &PackedEvent, worth: u64) -> Result<(),
 }
 
 /// A job at its release.
-fn fresh(number: u32, job: &Job) -> Seen
-    ensures { result ≡ tell.fresh number job.now }
+fn fresh(weighs: bool, number: u32, job: &Job) -> Seen
+    ensures { result ≡ tell.fresh weighs number job.now }
 {
     Seen {
         number,
@@ -66,6 +96,7 @@ fn fresh(number: u32, job: &Job) -> Seen
         deadline: job.deadline(),
         value: job.value(),
         took: false,
+        weighs,
         against: 0,
         ending: None,
         row: 0,
@@ -93,6 +124,7 @@ fn nobody() -> Seen
         deadline: 0,
         value: 0,
         took: false,
+        weighs: false,
         against: 0,
         ending: None,
         row: 0,

@@ -70,9 +70,19 @@ fn front(gone: bool) -> &'static [u8]
     b"<path d='"
 }
 
-/// Appends what stood against the job's value, where it was weighed.
+/// Appends what stood against the job's value, where it was weighed and jobs are.
 fn put_weighed(text: &mut Vec<u8>, seen: &Seen) -> Result<(), Memory>
     ensures { OnOk result (text.new.items ≡ text.old.items ++ windows.weighed seen.now) }
+{
+    if seen.weighs {
+        return put_weighing(text, seen);
+    }
+    Ok(())
+}
+
+/// Appends what stood against the job's value, where it was weighed.
+fn put_weighing(text: &mut Vec<u8>, seen: &Seen) -> Result<(), Memory>
+    ensures { OnOk result (text.new.items ≡ text.old.items ++ windows.weighing seen.now) }
 {
     if seen.is_gone() {
         return put(text, b" against @", &[seen.against]);

@@ -1,4 +1,4 @@
-use Rattle.std.proofs.Common.{◌≡◌, refl, ap, ◌∙◌}
+use Rattle.std.proofs.Common.{◌≡◌, true, refl, ap, ◌∙◌}
 use Rattle.std.proofs.lemmas.Result.{IfOk-weaker, IfOk-from_err}
 use Rattle.run_reports.specs.report.Counts.{jobs_released}
 use Rattle.run_reports.proofs.report.Counting.{few_steps}
@@ -27,7 +27,7 @@ pub drawn-requires-clause-steps : goal.drawn-requires-clause-steps
 drawn-requires-clause-steps c = few_steps c.args.k c.args.run.now c.requires.0 c.requires.1
 
 pub drawn-requires-clause-jobs : goal.drawn-requires-clause-jobs
-drawn-requires-clause-jobs c = few_seen c.args.run.now c.deref.result.now c.deref-3.result.now
+drawn-requires-clause-jobs c = few_seen true c.args.run.now c.deref.result.now c.deref-3.result.now
     (same_length c.args.k c.args.run.now c.requires.0 c.requires.1 c.deref.result.now
     (c.deref.ensures.value ∙ c.in_ok-worths.ensures.are c.requires.0 c.requires.1))
     (c.deref-3.ensures.value ∙ c.in_ok-seen.ensures)

@@ -2,7 +2,7 @@ use Rattle.std.proofs.Common.{[], ◌∷◌, refl}
 use Rattle.std.proofs.lemmas.Result.{IfOk-equal}
 use Rattle.run_reports.proofs.views.Joining.{joined}
 use Rattle.run_picture.specs.Frame.{page, axis}
-use Rattle.run_picture.specs.Legends.{load_legend}
+use Rattle.run_picture.specs.Legends.{load_legend_of}
 use Rattle.run_picture.specs.Pictures.{ground_of, all_bands, under_load}
 use Rattle.run_picture.proofs.drawing.put_under_load.Goals as goal
 
@@ -12,7 +12,7 @@ returns c = IfOk-equal c.put_all_bands.result _ _ _ c.put_all_bands.ensures
     (joined c.args.text.now.items
     (page 510 c.args.totals.now
     ∷ axis c.args.window 474
-    ∷ load_legend
+    ∷ load_legend_of c.args.totals.now
     ∷ all_bands c.args.window 0 474 c.args.rows.now
     ∷ []) _ (
       _,

@@ -1,7 +1,7 @@
 use Rattle.std.proofs.Common.{◌++◌, ◌∷◌, [], sym, ap, ◌∙◌, if◌then◌else◌, codes}
 use Rattle.std.proofs.lemmas.Result.{IfOk-equal}
 use Rattle.run_reports.specs.views.Templates.{filled}
-use Rattle.run_picture.proofs.windows.put_weighed.Goals as goal
+use Rattle.run_picture.proofs.windows.put_weighing.Goals as goal
 
 pub returns-then-is_gone : goal.returns-then-is_gone
 returns-then-is_gone c =

@@ -2,7 +2,7 @@ use Rattle.std.proofs.Common.{[], ◌∷◌, refl}
 use Rattle.std.proofs.lemmas.Result.{IfOk-equal}
 use Rattle.run_reports.proofs.views.Joining.{joined}
 use Rattle.run_picture.specs.Legends.{lanes_legend, lanes_colors, lanes_words, losses_words}
-use Rattle.run_picture.proofs.legends.put_lanes_legend.Goals as goal
+use Rattle.run_picture.proofs.legends.put_run_lanes_legend.Goals as goal
 
 pub returns : goal.returns
 unfolding lanes_legend lanes_colors lanes_words losses_words

@@ -1,5 +1,5 @@
 use Rattle.run_picture.specs.Legends.{load_legend}
-use Rattle.run_picture.proofs.legends.put_load_legend.Goals as goal
+use Rattle.run_picture.proofs.legends.put_bands_legend.Goals as goal
 
 pub returns : goal.returns
 unfolding load_legend
