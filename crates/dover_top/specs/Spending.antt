@@ -6,6 +6,7 @@ use Rattle.feed_words.specs.serve.Spending as served
 use Rattle.feed_words.specs.resume.Record as resumed
 use Rattle.trace_words.specs.judge.Spending as judged
 use Rattle.lanes_word.specs.Spending as hosted
+use Rattle.question_words.specs.Spending as answered
 use Rattle.task_words.specs.asking.Spending as asked
 use Rattle.task_words.specs.declared.asking.question.TaskQuestion.TheVariants as tasks
 use Rattle.dover_top.specs.declared.request.Request.{Request}
@@ -19,7 +20,7 @@ IsFrugal Judge before now = judged.IsFrugal before now
 IsFrugal (Report form) before now = judged.IsFrugal before now
 IsFrugal Pause before now = served.IsFrugal before now
 IsFrugal (Resume at_end) before now = resumed.IsFrugal before now
-IsFrugal (Ask question) before now = served.IsFrugal before now
+IsFrugal (Ask question) before now = answered.IsFrugal question before now
 IsFrugal Lanes before now = hosted.IsFrugal before now
 IsFrugal (Unroll until) before now = asked.IsFrugal (tasks.Unroll until) before now
 IsFrugal Sure before now = asked.IsFrugal tasks.Sure before now

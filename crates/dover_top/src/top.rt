@@ -40,7 +40,8 @@ use std::sync::ledger::Ledger;
 ///   than it has ticks.
 /// - `best` reads a feed of at most 20 jobs, and writes what the best schedule is worth, beside what the rules complete
 ///   and guarantee, and such a schedule.
-/// - `compare` reads a feed, and writes what the rules complete, and what two other policies do.
+/// - `compare` reads a feed, and writes what the rules complete, what those of version Four do, and what two other
+///   policies do.
 /// - `loss` reads a feed, and writes what no schedule is worth more than, beside what the rules complete, and where
 ///   there is too much work.
 /// - `lanes` reads up to 64 feeds in one input, each line with its lane's number in front, and serves each on its own:
@@ -84,11 +85,12 @@ pub fn dover<P: Port, L: Ledger>(
     ensures ends { (request : Request) → Asks words.now request → CanEnd (Says request) result }
 
     // How many comparisons a call makes, at every status: for n jobs at most 80 * (n + 1) * d, where n + 1 has at most
-    // d binary digits; serve, pause and the questions for the jobs that were admitted, none before a ratio line; judge
-    // and report for the whole lines that name a job; resume and resume pause for the jobs of the snapshot and those
-    // admitted behind it together, and before its last line for those of its lines so far. lanes makes as many for each
-    // lane as serving its feed alone may. unroll makes at most d * (t + 4 * n) for t tasks that release n jobs, where
-    // t + 1 has at most d binary digits. sure, budget and ratio make none.
+    // d binary digits; serve, pause and the questions for the jobs that were admitted, none before a ratio line, and
+    // compare twice as many, since it serves them twice; judge and report for the whole lines that name a job; resume
+    // and resume pause for the jobs of the snapshot and those admitted behind it together, and before its last line for
+    // those of its lines so far. lanes makes as many for each lane as serving its feed alone may. unroll makes at most
+    // d * (t + 4 * n) for t tasks that release n jobs, where t + 1 has at most d binary digits. feasible, sure, budget
+    // and ratio make none.
     ensures comparisons { (request : Request) → Asks words.now request →
         Since (P.moves port.old) (P.moves port.new) (IsFrugal request comparisons.old comparisons.new) }
     // trial at Done, where the words alone tell how many jobs there are; bait, duel and draw make none.

@@ -18,7 +18,7 @@ pub const USAGE: &str = r"usage: dover WORD.. [< INPUT]
   report svg FROM UNTIL  the same, of the ticks from FROM on and before UNTIL
   feasible               a feed in, whether all its deadlines can be met out, with a schedule or a window
   best                   a feed of at most 20 jobs in, the best schedule of its jobs out
-  compare                a feed in, what the rules and two simpler policies complete out
+  compare                a feed in, what the rules, version Four of them and two simpler policies complete out
   loss                   a feed in, what its overload costs at most, and where, out
   lanes                  up to 64 feeds in one input, the trace of each out
   pause                  as serve, but where the input ends early, a snapshot of the feed stands behind its trace

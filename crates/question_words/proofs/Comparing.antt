@@ -1,7 +1,7 @@
 -- What the word `compare` says is what was computed.
-use Rattle.std.proofs.Common.{◌≡◌, ◌≤◌, ◌<◌, ◌^◌, ℕ, List, [], ◌∷◌, ◌++◌, sym, ap, ◌∙◌, codes, arith, append-nil}
+use Rattle.std.proofs.Common.{◌≡◌, ◌≤◌, ◌<◌, ◌^◌, ℕ, List, [], ◌∷◌, ◌++◌, sym, ap, ◌∙◌, codes, arith, append-nil, subst}
 use Rattle.dover_model.specs.Common.{bound, Instance, IsListable, IsValid, JobFacts, most_total, observed}
-use Rattle.dover_model.specs.Common.{completed_value, worth}
+use Rattle.dover_model.specs.Common.{completed_value, IsWithin, ran, worth}
 use Rattle.dover_model.specs.declared.events.Version.TheVariants.{Two}
 use Rattle.dover_model.proofs.bound.BoundLaws as laws
 use Rattle.dover_model.proofs.bound.GreatestLaws.{bound-is}
@@ -13,10 +13,12 @@ use Rattle.policy_lab.specs.PolicyRun.{policy_run}
 use Rattle.policy_lab.specs.Standard.{earliest_deadline, greatest_density}
 use Rattle.dover_model.specs.Common.{Rules, with_numbers, in_lines}
 use Rattle.dover_model.proofs.lists.Beginnings.{in_lines-append}
-use Rattle.question_words.specs.Compare.{SaysCompare, AreWithin, line_of}
+use Rattle.question_words.specs.Compare.{SaysCompare, AreWithin, by_four, line_of}
 use Rattle.question_words.specs.Texts.{policy_line, policy_lines}
 use Rattle.question_words.specs.declared.answer.PolicyRow.{PolicyRow}
 use Rattle.dover_model.proofs.valid.ValidParts.{valid_parts}
+use Rattle.question_words.proofs.ByFour.{four_worth}
+use Rattle.question_words.proofs.Lines.{front}
 
 module _ (J : Instance) (valid : IsValid J) where
   -- the run completes no more than all values
@@ -27,16 +29,20 @@ module _ (J : Instance) (valid : IsValid J) where
   pub value_short : IsListable J → (value : ℕ) → value ≡ completed_value J → value < 10 ^ 18
   value_short listable value is = omega (arith, is, completed_low listable)
 
+  -- what is within the guarantee is no more than the bound
+  bounded : (c : ℕ) → IsWithin J.rules.ratio c (completed_value J) → c ≤ bound J.rules.ratio (completed_value J)
+  bounded = (bound-is J.rules.ratio (completed_value J) (valid_parts valid).ratio
+      (omega (arith, laws.intervals_abandon J valid, (valid_parts valid).total, total_most J.rules.version))).greatest
+
   -- no schedule of the jobs as the run observed them is worth more than the bound
   pub worth_low : (s : List ℕ) → worth (observed J) s ≤ bound J.rules.ratio (completed_value J)
-  worth_low s = (bound-is J.rules.ratio (completed_value J) (valid_parts valid).ratio
-      (omega (arith, laws.intervals_abandon J valid, (valid_parts valid).total, total_most J.rules.version))).greatest
-      (worth (observed J) s)
-      (laws.observed_bound J s valid)
+  worth_low s = bounded (worth (observed J) s) (laws.observed_bound J s valid)
 
-  -- the two schedules are within it
-  within : AreWithin J
-  within = record {
+  -- nor is what version Four completes, and the two schedules
+  within : IsListable J → AreWithin J
+  within listable = record {
+    four = subst (λ c. c ≤ bound J.rules.ratio (completed_value J)) (four_worth J valid listable)
+        (bounded (worth J (ran (by_four J))) (laws.bound J (ran (by_four J)) valid));
     edf = worth_low (policy_run earliest_deadline (observed J).jobs);
     dense = worth_low (policy_run greatest_density (observed J).jobs);
   }
@@ -56,35 +62,47 @@ row_told picks rules word jobs others same value completed stopped v c s =
     ∙ ap (λ js. line_of word picks (record { rules = rules; jobs = js })) same
 
 module _ (J : Instance) (valid : IsValid J) where
+  -- the first two lines, and what is behind them
+  abbrev behind : (dover four : ℕ) → List ℕ → List ℕ
+  behind dover four more = (with_numbers (codes "dover") (dover ∷ []) ++ 10 ∷ [])
+      ++ ((with_numbers (codes "four") (four ∷ []) ++ 10 ∷ []) ++ more)
+
   -- the last line
   abbrev bound_line : List ℕ
   bound_line = with_numbers (codes "bound") (bound J.rules.ratio (completed_value J) ∷ [])
 
   -- these lines are what is said
-  pub compared : (dover : ℕ) (edf dense : PolicyRow) → dover ≡ completed_value J
+  pub compared : (dover four : ℕ) (edf dense : PolicyRow) → dover ≡ completed_value J
+      → four ≡ completed_value (by_four J)
       → policy_line edf ≡ line_of (codes "edf") earliest_deadline (observed J)
       → policy_line dense ≡ line_of (codes "dense") greatest_density (observed J)
-      → IsListable J → (head last none feed : List ℕ) → none ≡ 10 ∷ [] → feed ≡ 10 ∷ []
-      → head ≡ with_numbers (codes "dover") (dover ∷ []) ++ none
+      → IsListable J → (head other last none feed : List ℕ) → none ≡ 10 ∷ [] → feed ≡ 10 ∷ []
+      → other ≡ with_numbers (10 ∷ codes "four") (four ∷ []) ++ none
+      → head ≡ with_numbers (codes "dover") (dover ∷ []) ++ other
       → last ≡ with_numbers (codes "bound") (bound J.rules.ratio dover ∷ []) ++ feed
       → SaysCompare J Done (head ++ (in_lines (policy_lines (edf ∷ dense ∷ [])) ++ last))
-  compared dover edf dense run first second listable head last none feed none_is feed_is head_is last_is = (
-    listable,
-    within J valid,
-    ap (λ t. t ++ (in_lines (policy_lines (edf ∷ dense ∷ [])) ++ last))
-        (head_is ∙ ap (λ t. with_numbers (codes "dover") (dover ∷ []) ++ t) none_is
-        ∙ ap (λ n. with_numbers (codes "dover") (n ∷ []) ++ 10 ∷ []) run)
-        ∙ ap (λ t. (with_numbers (codes "dover") (completed_value J ∷ []) ++ 10 ∷ [])
-        ++ (in_lines (policy_lines (edf ∷ dense ∷ [])) ++ t))
-        (last_is ∙ ap (λ t. with_numbers (codes "bound") (bound J.rules.ratio dover ∷ []) ++ t) feed_is
-        ∙ ap (λ n. with_numbers (codes "bound") (bound J.rules.ratio n ∷ []) ++ 10 ∷ []) run
-        ∙ sym (append-nil (with_numbers (codes "bound") (bound J.rules.ratio (completed_value J) ∷ []) ++ 10 ∷ [])))
-        ∙ ap (λ l. (with_numbers (codes "dover") (completed_value J ∷ []) ++ 10 ∷ [])
-        ++ (in_lines (l ∷ policy_line dense ∷ []) ++ in_lines (bound_line ∷ []))) first
-        ∙ ap (λ l. (with_numbers (codes "dover") (completed_value J ∷ []) ++ 10 ∷ [])
-        ++ (in_lines (line_of (codes "edf") earliest_deadline (observed J) ∷ l ∷ []) ++ in_lines (bound_line ∷ [])))
-        second
-        ∙ ap (λ t. (with_numbers (codes "dover") (completed_value J ∷ []) ++ 10 ∷ []) ++ t)
-        (sym (in_lines-append (line_of (codes "edf") earliest_deadline (observed J)
-        ∷ line_of (codes "dense") greatest_density (observed J) ∷ []) (bound_line ∷ []))),
-  )
+  compared dover four edf dense run by first second listable head other last none feed none_is feed_is other_is head_is
+      last_is = (
+        listable,
+        within J valid listable,
+        ap (λ t. t ++ (in_lines (policy_lines (edf ∷ dense ∷ [])) ++ last))
+            (head_is ∙ ap (λ t. with_numbers (codes "dover") (dover ∷ []) ++ t)
+            (other_is ∙ ap (λ t. with_numbers (10 ∷ codes "four") (four ∷ []) ++ t) none_is))
+            ∙ front (with_numbers (codes "dover") (dover ∷ [])) (with_numbers (codes "four") (four ∷ []) ++ 10 ∷ [])
+            (in_lines (policy_lines (edf ∷ dense ∷ [])) ++ last)
+            ∙ ap (λ n. behind n four (in_lines (policy_lines (edf ∷ dense ∷ [])) ++ last)) run
+            ∙ ap (λ n. behind (completed_value J) n (in_lines (policy_lines (edf ∷ dense ∷ [])) ++ last)) by
+            ∙ ap (behind (completed_value J) (completed_value (by_four J))) told,
+      ) where
+        told : in_lines (policy_lines (edf ∷ dense ∷ [])) ++ last
+            ≡ in_lines (line_of (codes "edf") earliest_deadline (observed J)
+            ∷ line_of (codes "dense") greatest_density (observed J) ∷ bound_line ∷ [])
+        told = ap (λ t. in_lines (policy_lines (edf ∷ dense ∷ [])) ++ t)
+            (last_is ∙ ap (λ t. with_numbers (codes "bound") (bound J.rules.ratio dover ∷ []) ++ t) feed_is
+            ∙ ap (λ n. with_numbers (codes "bound") (bound J.rules.ratio n ∷ []) ++ 10 ∷ []) run
+            ∙ sym (append-nil (bound_line ++ 10 ∷ [])))
+            ∙ ap (λ l. in_lines (l ∷ policy_line dense ∷ []) ++ in_lines (bound_line ∷ [])) first
+            ∙ ap (λ l. in_lines (line_of (codes "edf") earliest_deadline (observed J) ∷ l ∷ [])
+            ++ in_lines (bound_line ∷ [])) second
+            ∙ sym (in_lines-append (line_of (codes "edf") earliest_deadline (observed J)
+            ∷ line_of (codes "dense") greatest_density (observed J) ∷ []) (bound_line ∷ []))

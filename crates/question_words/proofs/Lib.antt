@@ -1,4 +1,5 @@
 pub mod Answering
+pub mod ByFour
 pub mod Comparing
 pub mod Counts
 pub mod Finding

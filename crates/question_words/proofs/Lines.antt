@@ -14,7 +14,7 @@ four a b c d k l m n more = in_lines (
     with_numbers a (k ∷ []) ∷ with_numbers b (l ∷ []) ∷ with_numbers c (m ∷ []) ∷ with_numbers d (n ∷ []) ∷ more)
 
 -- a line that others follow
-front : (a t more : List ℕ) → (a ++ 10 ∷ t) ++ more ≡ (a ++ 10 ∷ []) ++ (t ++ more)
+pub front : (a t more : List ℕ) → (a ++ 10 ∷ t) ++ more ≡ (a ++ 10 ∷ []) ++ (t ++ more)
 front a t more = append_assoc a (10 ∷ t) more ∙ sym (append_assoc a (10 ∷ []) (t ++ more))
 
 -- four lines

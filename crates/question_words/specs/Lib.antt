@@ -5,6 +5,7 @@ pub mod Compare
 pub mod Best
 pub mod Loss
 pub mod Questions
+pub mod Spending
 pub mod Keeping
 pub mod Watching
 pub mod Replaying

@@ -1,12 +1,13 @@
 //! What the reading loop calls: a reader of the feed, which is asked a question on its jobs at the end.
 ghost use Rattle.std.specs.Prelude.{◌≡◌, ◌∷◌, [], IfOk, length};
 ghost use Rattle.dialogue.specs.Talk.{IsFinal};
-ghost use Rattle.dover_model.specs.Common.{CostsAtMost, IsValid, in_lines};
+ghost use Rattle.dover_model.specs.Common.{IsValid, in_lines};
 ghost use Rattle.dover_port.specs.declared.status.Status.TheVariants.{Refused};
 ghost use Rattle.event_feed.specs.Listing.{listed_instance, StandAmong};
 ghost use Rattle.question_words.specs.Questions.{says};
 ghost use Rattle.question_words.specs.Talk.{ask_talk};
 ghost use Rattle.question_words.specs.Keeping.{Asked, Stands, IsAt, Costs};
+ghost use Rattle.question_words.specs.Spending.{CostsRuns, runs_for};
 ghost use Rattle.question_words.specs.Texts.{text_of, refusal_line};
 
 use crate::answer::Answer;
@@ -43,7 +44,7 @@ fn answer<L: Ledger>(
     ensures says { IfOk result
         (λ answer. says question (listed_instance listed) answer.status (text_of answer)) }
     ensures ends { IfOk result (λ answer. IsFinal answer.status) }
-    ensures count { CostsAtMost (length listed.jobs.items) comparisons.old comparisons.new }
+    ensures count { CostsRuns (runs_for question) (length listed.jobs.items) comparisons.old comparisons.new }
 {
     match question {
         Question::Feasible => feasible::answer(alloc, &listed),

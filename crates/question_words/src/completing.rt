@@ -1,11 +1,11 @@
 //! What a run completes.
 ghost use Rattle.std.specs.Prelude.{◌≡◌, ◌≤◌, ◌||◌, ◌==◌, ℕ, [], IfOk, OnOk, length, get_or, false};
-ghost use Rattle.dover_model.specs.Common.{IsValid, completed_value, CostsAtMost};
+ghost use Rattle.dover_model.specs.Common.{IsValid, jobs_under, completed_value, CostsAtMost};
 ghost use Rattle.question_words.specs.Replaying.{bare_instance};
 ghost use Rattle.question_words.specs.Loss.{is_completed};
 
 use comparison_count::Comparisons;
-use dover_model::{Event, Job, Memory};
+use dover_model::{Event, Job, Memory, Ratio, Version};
 use event_feed::Listed;
 use ready_server::{Watcher, run_list};
 use std::alloc::Global;
@@ -30,31 +30,26 @@ impl Watcher for EndValue {
     }
 }
 
-/// The value that the run of the listed jobs completes, where none finishes early. Memory is taken for the jobs that
-/// are ready at once.
+/// The value that the run of the jobs completes, by the rules of this version and ratio, where none finishes early.
+/// Memory is taken for the jobs that are ready at once.
 ///
 /// # Errors
 ///
 /// `Memory` where there is none.
 pub(crate) fn completed<L: Ledger>(
     alloc: Global,
-    listed: &Listed,
+    version: Version,
+    ratio: Ratio,
+    jobs: &[Job],
     comparisons: &mut Comparisons<L>,
 ) -> Result<u64, Memory>
-    requires { IsValid (bare_instance listed.now) }
-    ensures value { IfOk result (λ value. value ≡ completed_value (bare_instance listed.now)) }
-    ensures count { CostsAtMost (length listed.now.jobs.items) comparisons.old comparisons.new }
+    requires { IsValid (jobs_under version ratio jobs.now) }
+    ensures value { IfOk result (λ value. value ≡ completed_value (jobs_under version ratio jobs.now)) }
+    ensures count { CostsAtMost (length jobs.now) comparisons.old comparisons.new }
 {
-    let mut jobs = listed.jobs.as_slice();
+    let mut rest = jobs;
     let mut end = EndValue { value: 0 };
-    run_list::<&[Job], EndValue, L>(
-        alloc,
-        listed.version,
-        listed.ratio,
-        &mut jobs,
-        &mut end,
-        comparisons,
-    )?;
+    run_list::<&[Job], EndValue, L>(alloc, version, ratio, &mut rest, &mut end, comparisons)?;
     Ok(end.value)
 }
 

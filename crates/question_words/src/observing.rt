@@ -31,7 +31,13 @@ pub(crate) fn observe<L: Ledger>(
     ensures count { CostsAtMost (length listed.jobs.items) comparisons.old comparisons.new }
 {
     if listed.done_lines.is_empty() {
-        let value = completed(alloc, &listed, comparisons)?;
+        let value = completed(
+            alloc,
+            listed.version,
+            listed.ratio,
+            &listed.jobs,
+            comparisons,
+        )?;
         return Ok((value, listed.jobs));
     }
     let (completion, jobs) = replayed(alloc, &listed, comparisons)?;

@@ -1,10 +1,9 @@
 //! The questions, each by its word.
 ghost use Rattle.dover_port.specs.Causes.{Causes, StopsWith};
-ghost use Rattle.dover_port.specs.Moves.{Since, ins};
-ghost use Rattle.dover_model.specs.Common.{account, CostsAtMost};
-ghost use Rattle.event_feed.specs.Answers.{admitted_in};
+ghost use Rattle.dover_port.specs.Moves.{Since};
 ghost use Rattle.dialogue.specs.Talk.{Talks, CanEnd};
 ghost use Rattle.question_words.specs.Questions.{says};
+ghost use Rattle.question_words.specs.Spending.{IsFrugal};
 ghost use Rattle.question_words.specs.Talk.{ask_talk};
 
 use crate::asking::Asking;
@@ -23,7 +22,7 @@ pub enum Question {
     Feasible,
     /// What the best schedule is worth.
     Best,
-    /// What the rules complete, and what two other policies do.
+    /// What the rules complete, what those of version Four do, and what two other policies do.
     Compare,
     /// What the rules lose at most, and where there is too much work.
     Loss,
@@ -45,7 +44,7 @@ pub fn question_word<P: Port, L: Ledger>(
     ensures talks { Since (P.moves port.old) (P.moves port.new) (Talks (ask_talk (says question)) result) }
     ensures ends { CanEnd (Talks (ask_talk (says question))) result }
     ensures count { Since (P.moves port.old) (P.moves port.new)
-        (λ moves. CostsAtMost (admitted_in (account (ins moves))) comparisons.old comparisons.new) }
+        (IsFrugal question comparisons.old comparisons.new) }
     ensures causes { Causes result
         (P.read_faults port.old) (P.read_faults port.new) (P.write_faults port.old) (P.write_faults port.new) }
     ensures stops { StopsWith result (P.calls port.old) (P.calls port.new) }

@@ -2,11 +2,10 @@ use Rattle.std.proofs.Common.{[], sym, subst, inl, inr}
 use Rattle.dialogue.specs.Talk.{IsFinal}
 use Rattle.dover_port.proofs.Through.{passes_nothing}
 use Rattle.event_feed.proofs.Ending.{jobs_valid}
-use Rattle.dover_model.specs.Spending.{CostsAtMost}
-use Rattle.dover_model.proofs.runs.Spending.{none_few}
 use Rattle.question_words.specs.Questions.{says}
 use Rattle.question_words.proofs.Answering.{refusal, said, unended, answered}
-use Rattle.question_words.proofs.Counts.{listed_count}
+use Rattle.question_words.proofs.Counts.{listed_count, no_cost}
+use Rattle.question_words.specs.Spending.{CostsRuns, runs_for}
 use Rattle.question_words.proofs.asking.AskingTalker.answer.Goals as goal
 
 pub close-requires : goal.close-requires
@@ -41,12 +40,16 @@ returns-in-Err-clause-answers g c = λ a x at over.
     )) c.put-in-Err.ensures.puts
 
 pub returns-in-Ok-answer-clause-spent : goal.returns-in-Ok-answer-clause-spent
-returns-in-Ok-answer-clause-spent g c = λ a x at. subst (λ n. CostsAtMost n a.before c.answer.new.comparisons)
-    (listed_count x c.in-Ok.listed (c.in-Ok.ensures.jobs x at.reads)) (rw at.counts at c.answer.ensures.count)
+returns-in-Ok-answer-clause-spent g c = λ a x at.
+    subst (λ n. CostsRuns (runs_for a.question) n a.before c.answer.new.comparisons)
+    (listed_count x c.in-Ok.listed (c.in-Ok.ensures.jobs x at.reads))
+    (rw (at.asks, at.counts) at c.answer.ensures.count)
 
 pub returns-in-Err-answer-clause-spent : goal.returns-in-Err-answer-clause-spent
-returns-in-Err-answer-clause-spent g c = λ a x at. subst (λ n. CostsAtMost n a.before c.answer.new.comparisons)
-    (listed_count x c.in-Ok.listed (c.in-Ok.ensures.jobs x at.reads)) (rw at.counts at c.answer.ensures.count)
+returns-in-Err-answer-clause-spent g c = λ a x at.
+    subst (λ n. CostsRuns (runs_for a.question) n a.before c.answer.new.comparisons)
+    (listed_count x c.in-Ok.listed (c.in-Ok.ensures.jobs x at.reads))
+    (rw (at.asks, at.counts) at c.answer.ensures.count)
 
 pub returns-in-Err-clause-spent : goal.returns-in-Err-clause-spent
-returns-in-Err-clause-spent g c = λ a x at. rw at.counts (none_few _ a.before)
+returns-in-Err-clause-spent g c = λ a x at. rw at.counts (no_cost (runs_for a.question) _ a.before)
