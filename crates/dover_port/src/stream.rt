@@ -19,8 +19,7 @@ pub struct StreamPort<I: Read + Drop, O: Write + Drop> {
     told: Told,
     calls: Calls,
     ghost reader_tells: { IfSome told.moves (λ _. IsSome (I.remaining input.stream)) } by { Prim.hlevel props },
-    ghost writer_holds: { IfSome told.moves (λ moves. O.contents output.stream ≡ Some (outs moves)) }
-        by { Prim.hlevel props },
+    ghost writer_holds: { IfSome told.moves (λ moves. O.contents output.stream ≡ Some (outs moves)) } by { Prim.hlevel props },
 }
 
 impl<I: Read + Drop, O: Write + Drop> StreamPort<I, O> {

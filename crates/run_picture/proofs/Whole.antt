@@ -36,7 +36,7 @@ step_length weighs seen (Abandon at n) w = omega (arith, told_length (gone at w)
 step_length weighs seen _ w = omega arith
 
 -- so all steps add as many at most as they are
-steps_length : (weighs : Bool) (seen : List Seen) (more : List (Event × ℕ)) 
+steps_length : (weighs : Bool) (seen : List Seen) (more : List (Event × ℕ))
     → length (told_by weighs seen more) ≤ length seen + length more
 steps_length weighs seen [] = omega arith
 steps_length weighs seen (e_w ∷ more) = omega (
