@@ -1,2 +1,3 @@
 pub mod judge
 pub mod report
+pub mod schedule

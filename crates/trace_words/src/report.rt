@@ -5,3 +5,4 @@ mod word;
 
 pub use form::Form;
 pub use word::report_word;
+pub(crate) use word::{put_lines, put_whole};

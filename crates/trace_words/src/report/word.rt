@@ -46,7 +46,7 @@ fn text_of(
 }
 
 /// Puts a text that stands in memory as a whole, if there was memory for it.
-fn put_whole<P: Port>(port: &mut P, text: Result<Vec<u8>, Memory>) -> Result<(), Stop>
+pub(crate) fn put_whole<P: Port>(port: &mut P, text: Result<Vec<u8>, Memory>) -> Result<(), Stop>
     ensures puts { (said : List ℕ) → IfOk text (λ bytes. bytes.items ≡ said)
         → Puts result (P.moves port.old) (P.moves port.new) [] said }
     ensures cause { StopCause result
@@ -81,7 +81,11 @@ fn put_rows<P: Port>(port: &mut P, out: &mut Output, rows: &mut TableRows) -> Re
 }
 
 /// Puts the names of a table, and each row that is left of it, as `put_rows` does.
-fn put_lines<P: Port>(port: &mut P, out: &mut Output, rows: &mut TableRows) -> Result<(), Failed>
+pub(crate) fn put_lines<P: Port>(
+    port: &mut P,
+    out: &mut Output,
+    rows: &mut TableRows,
+) -> Result<(), Failed>
     ensures text { PutsThrough (P.moves port.old) (P.moves port.new) result out.old out.new
         (rows.old.names ++ in_lines rows.old.rows) }
     ensures cause { HasCause (P.write_faults port.old) (P.write_faults port.new) (P.read_faults port.old)
