@@ -1,5 +1,5 @@
 -- The account of a text that grows, and of one that goes on.
-use Rattle.std.proofs.Common.{◌≡◌, ◌≤◌, ◌<◌, ◌+◌, ℕ, suc, List, ◌∷◌, ◌++◌, [], length, refl, sym, ap, ◌∙◌, subst, Bool}
+use Rattle.std.proofs.Common.{◌≡◌, ◌≤◌, ◌<◌, ◌+◌, ℕ, List, ◌∷◌, ◌++◌, [], length, refl, sym, ap, ◌∙◌, subst, Bool}
 use Rattle.std.proofs.Common.{true, false, cond, Option, Some, None, arith, nat_le, ◌==◌, fold, ltb-false, codes}
 use Rattle.std.proofs.Common.{bytes_eq, append-nil, length-append}
 use Rattle.std.proofs.lemmas.Bool.{leb-false}
@@ -15,11 +15,11 @@ use Rattle.line_text.specs.traces.Reading.{line_of_fields}
 use Rattle.schedule_judge.specs.declared.causes.Cause.{Cause}
 use Rattle.schedule_judge.specs.declared.causes.Cause.TheVariants as cause
 use Rattle.schedule_judge.specs.declared.intake.Standing.{Standing}
-use Rattle.schedule_judge.specs.declared.intake.Standing.TheVariants.{Open, Ended, Wrong, TooMany}
+use Rattle.schedule_judge.specs.declared.intake.Standing.TheVariants.{Wrong, TooMany}
 use Rattle.schedule_judge.specs.Legal.{Schedule, runs, jobs_stopped, after, cause_of}
 use Rattle.schedule_judge.specs.Account.{Account, no_lines, step_of_read, step_in, standing_so, is_too_many}
-use Rattle.schedule_judge.specs.Account.{standing_after, with_step, read_step, read_step_line, read_header, read_line}
-use Rattle.schedule_judge.specs.Account.{counted, goes_on, is_open, next_line, account_of_lines, account}
+use Rattle.schedule_judge.specs.Account.{with_step, read_step}
+use Rattle.schedule_judge.specs.Account.{counted, is_open, next_line, account_of_lines, account}
 
 -- ---- a line
 

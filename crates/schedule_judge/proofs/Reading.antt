@@ -1,6 +1,6 @@
 -- What is read of a line.
-use Rattle.std.proofs.Common.{◌≡◌, ◌≤◌, ◌<◌, ℕ, List, ◌∷◌, ◌++◌, [], length, refl, sym, ap, ◌∙◌, subst, Bool, true}
-use Rattle.std.proofs.Common.{false, cond, Option, Some, None, Result, Ok, Err, IfOk, OnOk, arith, le-ltb, lt-ltb}
+use Rattle.std.proofs.Common.{◌≡◌, ◌≤◌, ◌<◌, ℕ, List, ◌∷◌, ◌++◌, [], length, refl, sym, ap, ◌∙◌}
+use Rattle.std.proofs.Common.{false, cond, Option, Some, None, Result, Ok, Err, IfOk, le-ltb, lt-ltb}
 use Rattle.dover_model.specs.declared.events.Event.{Event}
 use Rattle.dover_model.specs.Common.{fields_of, lines_of, rest_of, is_too_long}
 use Rattle.line_text.specs.declared.BadLine.{BadLine}
@@ -9,8 +9,8 @@ use Rattle.line_text.specs.traces.Form.{HasForm, trace_text}
 use Rattle.line_text.specs.traces.Reading.{line_of_fields}
 use Rattle.line_text.specs.Cutting as cutting
 use Rattle.line_text.proofs.traces.Spelled.{IsRead, read_IsRead, only_read}
-use Rattle.schedule_judge.specs.Account.{Account, step_of_read, step_in, is_open, next_line, account_of_lines, account}
-use Rattle.schedule_judge.specs.Keeping.{HasCut, StandsFor}
+use Rattle.schedule_judge.specs.Account.{step_of_read, step_in, is_open, next_line, account_of_lines, account}
+use Rattle.schedule_judge.specs.Keeping.{StandsFor}
 use Rattle.schedule_judge.specs.declared.text.ScheduleText.{ScheduleText}
 use Rattle.schedule_judge.proofs.Accounts.{next_of, next_good}
 

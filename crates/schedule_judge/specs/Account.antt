@@ -1,5 +1,5 @@
 -- What a text says as a schedule, line by line.
-use Rattle.std.specs.Prelude.{ℕ, suc, List, [], ◌∷◌, length, Bool, true, false, ◌==◌, nat_le, if◌then◌else◌, Option}
+use Rattle.std.specs.Prelude.{ℕ, suc, List, length, Bool, true, false, ◌==◌, nat_le, if◌then◌else◌, Option}
 use Rattle.std.specs.Prelude.{Some, None, fold, codes, bytes_eq}
 use Rattle.dover_model.specs.declared.events.Event.{Event}
 use Rattle.dover_model.specs.declared.events.Event.TheVariants.{Release, End}

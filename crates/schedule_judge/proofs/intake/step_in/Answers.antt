@@ -1,4 +1,4 @@
-use Rattle.std.proofs.Common.{◌≡◌, ap, sym, ◌∙◌, arith, None}
+use Rattle.std.proofs.Common.{ap, sym, ◌∙◌, arith, None}
 use Rattle.schedule_judge.specs.Account.{step_of_read}
 use Rattle.schedule_judge.proofs.Reading.{read_as, step_read}
 use Rattle.schedule_judge.proofs.intake.step_in.Goals as goal

@@ -1,4 +1,4 @@
-use Rattle.std.proofs.Common.{◌+◌, ◌∙◌, ap, sym, arith, sum_by, take, take_all, length}
+use Rattle.std.proofs.Common.{◌+◌, ◌∙◌, ap, sym, arith, sum_by, take}
 use Rattle.std.proofs.lemmas.List.Sums.{sum_by_more}
 use Rattle.schedule_judge.specs.Jobs.{value_done}
 use Rattle.schedule_judge.proofs.jobs.completed_value.Goals as goal

@@ -1,6 +1,6 @@
-use Rattle.std.proofs.Common.{◌≡◌, ap, ◌∙◌, arith, List, length}
+use Rattle.std.proofs.Common.{ap, ◌∙◌, arith, List, length}
 use Rattle.dover_model.specs.declared.events.Event.{Event}
-use Rattle.schedule_judge.specs.Account.{Account, account}
+use Rattle.schedule_judge.specs.Account.{Account}
 use Rattle.schedule_judge.proofs.Accounts.{few_steps}
 use Rattle.schedule_judge.proofs.reader.ScheduleReader.close.Goals as goal
 

@@ -1,9 +1,9 @@
-use Rattle.std.proofs.Common.{◌≡◌, ◌++◌, ◌∷◌, [], ℕ, List, length, true, false, cond, ap, sym, ◌∙◌, subst, le-ltb}
+use Rattle.std.proofs.Common.{◌≡◌, ◌++◌, ◌∷◌, [], ℕ, List, length, false, cond, ap, sym, ◌∙◌, subst, le-ltb}
 use Rattle.std.proofs.lemmas.Result.{on_ok_weaker}
 use Rattle.line_text.specs.Cutting.{Cutting, StandsFor, with_byte, is_over}
 use Rattle.line_text.specs.declared.cutting.ByteEffect.TheVariants.{More, Line, TooLong}
 use Rattle.dover_model.specs.Lines.{lines_of, rest_of, is_too_long}
-use Rattle.schedule_judge.specs.Account.{account, account_of_lines, is_open}
+use Rattle.schedule_judge.specs.Account.{account_of_lines, is_open}
 use Rattle.schedule_judge.proofs.Reading.{text_stands}
 use Rattle.schedule_judge.proofs.text.ScheduleText.take_byte.Goals as goal
 

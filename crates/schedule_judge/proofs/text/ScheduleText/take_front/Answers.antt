@@ -1,6 +1,6 @@
 use Rattle.std.proofs.Common.{◌≡◌, ◌<◌, ◌≤◌, ◌++◌, ◌∷◌, [], ℕ, List, length, get_or, refl, ap, ◌∙◌, subst, arith, OnOk}
 use Rattle.std.proofs.lemmas.Result.{on_ok_weaker}
-use Rattle.dover_model.specs.Lines.{lines_of, is_too_long}
+use Rattle.dover_model.specs.Lines.{is_too_long}
 use Rattle.schedule_judge.specs.Account.{is_open}
 use Rattle.schedule_judge.specs.Keeping.{StandsFor}
 use Rattle.schedule_judge.proofs.Reading.{text_stands}
