@@ -1,10 +1,13 @@
 -- That words ask for one thing at most.
 use Rattle.std.proofs.Common.{◌≡◌, ℕ, ◌+◌, ◌-◌, ◌<◌, ◌^◌, List, [], ◌∷◌, String, get_or, decimal, sym, ap, ◌∙◌, take}
 use Rattle.std.proofs.Common.{length-drop, subst, arith, drop, length, refl, suc, zero, string_bytes, Option, Some}
+use Rattle.std.proofs.Common.{◌⊎◌, inl, inr, Bool, true, false}
 use Rattle.std.proofs.Common.{None, IsTrue, codes, bytes_eq, unwrap_or, if◌then◌else◌, take_all}
 use Rattle.std.specs.declared.alloc.Global.{Global}
 use Rattle.trace_words.specs.declared.report.form.Form.{Form}
 use Rattle.trace_words.specs.declared.report.form.Form.TheVariants.{Text, Table, Chrome, Why, Timeline, Svg}
+use Rattle.trace_words.specs.declared.schedule.form.ScheduleForm.{ScheduleForm}
+use Rattle.trace_words.specs.declared.schedule.form.ScheduleForm.TheVariants as any
 use Rattle.stated_jobs.specs.declared.duel.links.Share.{Share}
 use Rattle.stated_jobs.specs.duel.Kept.{IsShare}
 use Rattle.run_reports.specs.declared.views.window.Window.{Window}
@@ -12,10 +15,11 @@ use Rattle.dover_model.specs.Common.{Fraction, IsRatio, fraction, is_some_factor
 use Rattle.dover_model.specs.declared.factors.Factor.{Factor}
 use Rattle.dover_model.proofs.texts.Numerals.{numeral-decimal}
 use Rattle.dover_top.specs.Requests.{Asks}
-use Rattle.dover_top.specs.Words.{IsFormed, factor_words, form_words, spelled}
+use Rattle.dover_top.specs.Words.{IsFormed, IsScheduleForm, factor_words, form_words, schedule_words, spelled}
 use Rattle.dover_top.specs.declared.request.Request.{Request}
 use Rattle.dover_top.specs.declared.request.Request.TheVariants.{Serve, Judge, Report, Trial, Bait, Ask, Lanes, Pause}
 use Rattle.dover_top.specs.declared.request.Request.TheVariants.{Resume, Unroll, Duel, Draw, Sure, Budget, Ratio}
+use Rattle.dover_top.specs.declared.request.Request.TheVariants.{Schedule}
 use Rattle.feed_words.specs.declared.serve.at_end.AtEnd.{AtEnd}
 use Rattle.feed_words.specs.declared.serve.at_end.AtEnd.TheVariants as ends
 use Rattle.question_words.specs.declared.question.Question.TheVariants.{Feasible, Best, Compare, Loss}
@@ -67,6 +71,18 @@ form_of words = let word = word_at 1 words in
     if bytes_eq word (codes "why") then Why (number_of (word_at 2 words)) else (
     if bytes_eq word (codes "timeline") then Timeline (window_of (drop 2 words)) else Svg (window_of (drop 2 words))))))
 
+-- the form of report on a schedule that words name
+abbrev schedule_form_of : List (List ℕ) → ScheduleForm
+schedule_form_of words = let word = word_at 2 words in
+    if bytes_eq word (codes "csv") then any.Table else (
+    if bytes_eq word (codes "timeline") then any.Timeline (window_of (drop 3 words))
+    else any.Svg (window_of (drop 3 words)))
+
+-- what words ask for that begin with the word for a report, by whether the next one is that for any schedule
+abbrev report_by : (any : Bool) → List (List ℕ) → Request
+report_by true words = Schedule (schedule_form_of words)
+report_by false words = Report (form_of words)
+
 -- what is done where the input ends that a word names
 abbrev end_of : List ℕ → AtEnd
 end_of word = if bytes_eq word (codes "pause") then ends.Pause else ends.Refuse
@@ -76,7 +92,8 @@ abbrev request_of : List (List ℕ) → Request
 request_of words =
     if bytes_eq (word_at 0 words) (codes "serve") then Serve else (
     if bytes_eq (word_at 0 words) (codes "judge") then Judge else (
-    if bytes_eq (word_at 0 words) (codes "report") then Report (form_of words) else (
+    if bytes_eq (word_at 0 words) (codes "report")
+    then report_by (bytes_eq (word_at 1 words) (codes "any")) words else (
     if bytes_eq (word_at 0 words) (codes "trial")
     then Trial (number_of (word_at 1 words)) (number_of (word_at 2 words)) (ratio_at 3 words) else (
     if bytes_eq (word_at 0 words) (codes "bait") then Bait (baited_at words) (number_of (word_at 3 words)) else (
@@ -170,6 +187,13 @@ is_read words (Report (Timeline (Some w))) asks = ap request_of asks.row
 is_read words (Report (Svg None)) asks = ap request_of asks.row
 is_read words (Report (Svg (Some w))) asks = ap request_of asks.row
     ∙ ap (λ v. Report (Svg (Some v))) (window_same w asks.formed.0 asks.formed.1)
+is_read words (Schedule any.Table) asks = ap request_of asks.row
+is_read words (Schedule (any.Timeline None)) asks = ap request_of asks.row
+is_read words (Schedule (any.Timeline (Some w))) asks = ap request_of asks.row
+    ∙ ap (λ v. Schedule (any.Timeline (Some v))) (window_same w asks.formed.0 asks.formed.1)
+is_read words (Schedule (any.Svg None)) asks = ap request_of asks.row
+is_read words (Schedule (any.Svg (Some w))) asks = ap request_of asks.row
+    ∙ ap (λ v. Schedule (any.Svg (Some v))) (window_same w asks.formed.0 asks.formed.1)
 is_read words (Trial seed count k) asks = ap request_of asks.row
     ∙ ap (λ n. Trial n (number_of (decimal count)) (ratio_at 0 (decimal k.p ∷ decimal k.q ∷ [])))
     (number_same seed (omega (arith, asks.small)))
@@ -219,12 +243,18 @@ pub asks_read : (word : String Global) (words : List (String Global)) (r : Reque
 asks_read word words r text is asks =
     subst (Asks (word ∷ words)) (sym (is_read (word ∷ words) r asks) ∙ ap (λ w. request_of (w ∷ spelled words)) is) asks
 
--- words for a report name its form
+-- words for a report name its form, or that of a report on a schedule
 pub asks_report : (word : String Global) (words : List (String Global)) (r : Request)
     → string_bytes word ≡ codes "report" → Asks (word ∷ words) r
-    → (form : Form) × (spelled words ≡ form_words form) × IsFormed form
+    → ((form : Form) × (spelled words ≡ form_words form) × IsFormed form)
+    ⊎ ((form : ScheduleForm) × (spelled words ≡ codes "any" ∷ schedule_words form) × IsScheduleForm form)
 asks_report word words r is asks =
-    let it = asks_read word words r (codes "report") is asks in (_, ap (drop 1) it.row, it.formed)
+    by (bytes_eq (word_at 0 (spelled words)) (codes "any")) (asks_read word words r (codes "report") is asks) where
+      by : (b : Bool) → Asks (word ∷ words) (report_by b (codes "report" ∷ spelled words))
+          → ((form : Form) × (spelled words ≡ form_words form) × IsFormed form)
+          ⊎ ((form : ScheduleForm) × (spelled words ≡ codes "any" ∷ schedule_words form) × IsScheduleForm form)
+      by true it = inr (_, ap (drop 1) it.row, it.formed)
+      by false it = inl (_, ap (drop 1) it.row, it.formed)
 
 -- ---- words one by one
 

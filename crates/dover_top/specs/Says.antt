@@ -9,6 +9,7 @@ use Rattle.feed_words.specs.declared.serve.at_end.AtEnd.TheVariants as ends
 use Rattle.feed_words.specs.resume.Record.{Resumes}
 use Rattle.trace_words.specs.judge.Talk.{judge_talk}
 use Rattle.trace_words.specs.report.Talk.{report_talk}
+use Rattle.trace_words.specs.schedule.Talk.{schedule_talk}
 use Rattle.trial_words.specs.Record.{Writes}
 use Rattle.trial_words.specs.Lists.{trial_instance}
 use Rattle.trial_words.specs.Baited.{Baits}
@@ -23,6 +24,7 @@ use Rattle.task_words.specs.declared.asking.question.TaskQuestion.TheVariants as
 use Rattle.dover_top.specs.declared.request.Request.{Request}
 use Rattle.dover_top.specs.declared.request.Request.TheVariants.{Serve, Judge, Report, Trial, Bait, Ask, Lanes, Pause}
 use Rattle.dover_top.specs.declared.request.Request.TheVariants.{Resume, Unroll, Duel, Draw, Sure, Budget, Ratio}
+use Rattle.dover_top.specs.declared.request.Request.TheVariants.{Schedule}
 
 -- What was got and put before each read, and in all. What reads says a talk; trial, bait, duel and draw read nothing
 -- and write a text; and resume says of each feed with its snapshot what serving the feed on does.
@@ -30,6 +32,7 @@ abbrev pub Says : Request → Status → List Move → Type 0
 Says Serve = Talks (feed_talk ends.Refuse)
 Says Judge = Talks judge_talk
 Says (Report form) = Talks (report_talk form)
+Says (Schedule form) = Talks (schedule_talk form)
 Says (Trial seed count k) = λ status. Writes status (summary (trial_instance k seed count))
 Says (Bait k rounds) = Baits k rounds
 Says (Ask question) = Talks (ask_talk (says question))

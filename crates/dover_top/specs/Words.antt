@@ -10,6 +10,8 @@ use Rattle.stated_jobs.specs.declared.duel.links.Share.{Share}
 use Rattle.stated_jobs.specs.duel.Kept.{IsShare}
 use Rattle.trace_words.specs.declared.report.form.Form.{Form}
 use Rattle.trace_words.specs.declared.report.form.Form.TheVariants.{Text, Table, Chrome, Why, Timeline, Svg}
+use Rattle.trace_words.specs.declared.schedule.form.ScheduleForm.{ScheduleForm}
+use Rattle.trace_words.specs.declared.schedule.form.ScheduleForm.TheVariants as any
 use Rattle.run_reports.specs.declared.views.window.Window.{Window}
 use Rattle.feed_words.specs.declared.serve.at_end.AtEnd.{AtEnd}
 use Rattle.feed_words.specs.declared.serve.at_end.AtEnd.TheVariants.{Refuse, Pause}
@@ -58,6 +60,23 @@ IsFormed _ = Unit {0}
 pub record AsksReport (words : List (String Global)) (form : Form) : Type 0 where
   pub row : spelled words ≡ codes "report" ∷ form_words form
   pub formed : IsFormed form
+
+-- the words for a form of report on a schedule
+abbrev pub schedule_words : ScheduleForm → List (List ℕ)
+schedule_words any.Table = codes "csv" ∷ []
+schedule_words (any.Timeline window) = codes "timeline" ∷ window_words window
+schedule_words (any.Svg window) = codes "svg" ∷ window_words window
+
+-- a window of it is one
+abbrev pub IsScheduleForm : ScheduleForm → Type 0
+IsScheduleForm any.Table = Unit {0}
+IsScheduleForm (any.Timeline window) = IsWindow window
+IsScheduleForm (any.Svg window) = IsWindow window
+
+-- the words that ask for a report on a schedule, whichever policy made it, in this form
+pub record AsksSchedule (words : List (String Global)) (form : ScheduleForm) : Type 0 where
+  pub row : spelled words ≡ codes "report" ∷ codes "any" ∷ schedule_words form
+  pub formed : IsScheduleForm form
 
 -- the words that ask for the run of so many jobs of a seed, within a ratio
 pub record AsksTrial (words : List (String Global)) (seed count : ℕ) (k : Fraction) : Type 0 where

@@ -18,6 +18,7 @@ use std::sync::ledger::Ledger;
 use task_words::asking::{TaskQuestion, tasks_word};
 use trace_words::judge::judge_word;
 use trace_words::report::report_word;
+use trace_words::schedule::schedule_word;
 use trial_words::{bait_word, draw_word, duel_word, trial_word};
 
 /// Carries out a request that some words ask for.
@@ -37,6 +38,7 @@ pub(crate) fn carry_out<P: Port, L: Ledger>(
         Request::Serve => serve_word(alloc, port, comparisons),
         Request::Judge => judge_word(alloc, port, comparisons),
         Request::Report(form) => report_word(alloc, port, form, comparisons),
+        Request::Schedule(form) => schedule_word(alloc, port, form, comparisons),
         Request::Trial { seed, count, k } => trial_word(alloc, port, seed, count, k, comparisons),
         Request::Bait { k, rounds } => bait_word(port, k, rounds),
         Request::Ask(question) => question_word(alloc, port, question, comparisons),

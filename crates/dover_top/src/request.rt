@@ -6,7 +6,8 @@ ghost use Rattle.stated_jobs.specs.declared.duel.links.Share.{Share};
 ghost use Rattle.stated_jobs.specs.duel.Kept.{IsShare};
 ghost use Rattle.run_reports.specs.declared.views.window.Window.{Window};
 ghost use Rattle.dover_top.specs.Words.{IsFormed, IsFront, IsWindow, form_words, front_words};
-ghost use Rattle.dover_top.specs.Words.{factor_words, window_words};
+ghost use Rattle.dover_top.specs.Words.{factor_words, window_words, IsScheduleForm, schedule_words};
+ghost use Rattle.trace_words.specs.declared.schedule.form.ScheduleForm.{ScheduleForm as SpelledForm};
 ghost use Rattle.dover_model.specs.Common.{Fraction, IsRatio, is_some_factor, most_jobs};
 ghost use Rattle.dover_model.specs.declared.factors.Factor.{Factor};
 ghost use Rattle.dover_model.specs.declared.events.Version.TheVariants.{Two};
@@ -21,6 +22,7 @@ use question_words::Question;
 use run_reports::views::Window;
 use stated_jobs::duel::Share;
 use trace_words::report::Form;
+use trace_words::schedule::ScheduleForm;
 
 /// What the words of the command line ask for, one of the rows of `dover`.
 #[derive(Clone, Copy)]
@@ -31,6 +33,8 @@ pub enum Request {
     Judge,
     /// A report is made on a text.
     Report(Form),
+    /// A report is made on a schedule, whichever policy made it.
+    Schedule(ScheduleForm),
     /// The jobs of a seed are served.
     Trial {
         seed: u32,
@@ -200,6 +204,32 @@ fn form_on(name: &String, window: Option<Window>) -> Option<Form>
     }
 }
 
+/// The form of a report on a schedule of this name, on a window if there is one.
+fn schedule_form_on(name: &String, window: Option<Window>) -> Option<ScheduleForm>
+    ensures some { IfSome result (λ f. (string_bytes name.now ∷ window_words window ≡ schedule_words f)
+        × (IsWindow window → IsScheduleForm f)) }
+    ensures none { IsNone result → (f : SpelledForm) →
+        string_bytes name.now ∷ window_words window ≡ schedule_words f → ⊥ }
+{
+    match (name.as_str(), window) {
+        ("csv", None) => Some(ScheduleForm::Table),
+        ("timeline", _) => Some(ScheduleForm::Timeline(window)),
+        ("svg", _) => Some(ScheduleForm::Svg(window)),
+        _ => None,
+    }
+}
+
+/// The words behind `any`: a form, and what it is on.
+fn schedule(words: &[String]) -> Option<ScheduleForm>
+    ensures some { IfSome result (λ f. (map string_bytes words.now ≡ schedule_words f) × IsScheduleForm f) }
+    ensures none { IsNone result → (f : SpelledForm) → IsScheduleForm f →
+        map string_bytes words.now ≡ schedule_words f → ⊥ }
+{
+    let (name, words) = words.split_first()?;
+    let form = schedule_form_on(name, window(words)?)?;
+    Some(form)
+}
+
 /// One word.
 fn one_word(word: &String) -> Option<Request>
     ensures some { IfSome result (λ r. Asks (word.now ∷ []) r) }
@@ -221,7 +251,7 @@ fn one_word(word: &String) -> Option<Request>
     }
 }
 
-/// The words behind `report`: a form, and what it is on.
+/// The words behind `report`: a form, and what it is on, or behind `any` that of a schedule.
 fn report(words: &[String]) -> Option<Request>
     ensures some { (word : String Global) → string_bytes word ≡ codes "report" →
         IfSome result (λ r. Asks (word ∷ words.now) r) }
@@ -233,6 +263,10 @@ fn report(words: &[String]) -> Option<Request>
         "why" => {
             let job = lone(words, 0, MOST)? as u32;
             Some(Request::Report(Form::Why(job)))
+        }
+        "any" => {
+            let form = schedule(words)?;
+            Some(Request::Schedule(form))
         }
         _ => {
             let form = form_on(name, window(words)?)?;

@@ -28,6 +28,9 @@ use std::sync::ledger::Ledger;
 ///   happened to the job of number N and by which test.
 /// - `report timeline [FROM UNTIL]` and `report svg [FROM UNTIL]` do the same, with the run, or its ticks from FROM on
 ///   and before UNTIL, as a picture for a terminal or a browser.
+/// - `report any csv`, `report any timeline [FROM UNTIL]` and `report any svg [FROM UNTIL]` read a schedule that any
+///   policy may have made, and write the same on it where it is legal, without intervals and bound, else the line that
+///   is wrong first and why, or that it is short. More jobs than version Two may have are refused.
 /// - `trial SEED COUNT P Q` reads nothing, and writes the summary of the run of so many stated jobs of a seed, within
 ///   the ratio P/Q.
 /// - `bait P Q N` reads nothing, and writes what the run of the baiting jobs comes to, and what another schedule of
@@ -89,8 +92,8 @@ pub fn dover<P: Port, L: Ledger>(
     // compare twice as many, since it serves them twice; judge and report for the whole lines that name a job; resume
     // and resume pause for the jobs of the snapshot and those admitted behind it together, and before its last line for
     // those of its lines so far. lanes makes as many for each lane as serving its feed alone may. unroll makes at most
-    // d * (t + 4 * n) for t tasks that release n jobs, where t + 1 has at most d binary digits. feasible, sure, budget
-    // and ratio make none.
+    // d * (t + 4 * n) for t tasks that release n jobs, where t + 1 has at most d binary digits. feasible, sure, budget,
+    // ratio and report any make none.
     ensures comparisons { (request : Request) → Asks words.now request →
         Since (P.moves port.old) (P.moves port.new) (IsFrugal request comparisons.old comparisons.new) }
     // trial at Done, where the words alone tell how many jobs there are; bait, duel and draw make none.

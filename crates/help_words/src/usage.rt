@@ -16,6 +16,11 @@ pub const USAGE: &str = r"usage: dover WORD.. [< INPUT]
   report timeline FROM UNTIL  the same, of the ticks from FROM on and before UNTIL
   report svg             a trace in, a picture of its run as SVG out
   report svg FROM UNTIL  the same, of the ticks from FROM on and before UNTIL
+  report any csv         a schedule of any policy in, a table of its jobs out
+  report any timeline    a schedule of any policy in, a picture of it for a terminal out
+  report any timeline FROM UNTIL  the same, of the ticks from FROM on and before UNTIL
+  report any svg         a schedule of any policy in, a picture of it as SVG out
+  report any svg FROM UNTIL  the same, of the ticks from FROM on and before UNTIL
   feasible               a feed in, whether all its deadlines can be met out, with a schedule or a window
   best                   a feed of at most 20 jobs in, the best schedule of its jobs out
   compare                a feed in, what the rules, version Four of them and two simpler policies complete out

@@ -15,6 +15,10 @@ pub returns-in-Report-clause-carries : goal.returns-in-Report-clause-carries
 returns-in-Report-clause-carries g c = let w = c.report_word.ensures in
     carried _ _ _ _ _ _ _ c.in-Report.is w.talks w.ends w.count tt
 
+pub returns-in-Schedule-clause-carries : goal.returns-in-Schedule-clause-carries
+returns-in-Schedule-clause-carries g c = let w = c.schedule_word.ensures in
+    carried _ _ _ _ _ _ _ c.in-Schedule.is w.talks w.ends w.count tt
+
 pub returns-in-Trial-clause-carries : goal.returns-in-Trial-clause-carries
 returns-in-Trial-clause-carries g c = let w = c.trial_word.ensures in
     carried _ _ _ _ _ _ _ c.in-Trial.is w.writes w.ends (since_weaker _ _ _ _ w.writes (λ _ _. tt)) w.count

@@ -1,4 +1,5 @@
 use Rattle.std.proofs.Common.{◌≡◌, ◌≢◌, List, [], ◌∷◌, ℕ, Option, None, codes, get_or, drop, ap, refl, sym, ◌∙◌}
+use Rattle.std.proofs.Common.{inl, inr}
 use Rattle.std.proofs.Common.{◌<◌, ◌≤◌, String, decimal, length, string_bytes, arith}
 use Rattle.std.specs.declared.alloc.Global.{Global}
 use Rattle.dover_model.specs.Limits.{most_jobs}
@@ -26,6 +27,13 @@ unlike : {name : List ℕ} {words : List (List ℕ)} (first : List ℕ) (rest : 
 unlike first rest e why other =
     other (sym (ap (λ l. get_or l 0 0) why) ∙ ap (λ l. get_or (get_or l 0 []) 0 0) e)
 
+-- nor do words that begin with any
+unlike_any : {name : List ℕ} {words : List (List ℕ)} (first : List ℕ) (rest : List (List ℕ))
+    → name ∷ words ≡ first ∷ rest
+    → name ≡ codes "any" → (get_or (codes "any") 0 0 ≡ get_or first 0 0 → ⊥) → ⊥
+unlike_any first rest e is other =
+    other (sym (ap (λ l. get_or l 0 0) is) ∙ ap (λ l. get_or (get_or l 0 []) 0 0) e)
+
 -- words that begin with why name the form that asks it
 no_job : (name : List ℕ) (words : List (List ℕ)) (form : Form) → name ∷ words ≡ form_words form → IsFormed form
     → name ≡ codes "why" → ((n : ℕ) → 0 ≤ n → n ≤ most_jobs Two → words ≡ decimal n ∷ [] → ⊥) → ⊥
@@ -35,6 +43,26 @@ no_job name words Table e formed why none = unlike _ _ e why (λ same. omega (ar
 no_job name words Chrome e formed why none = unlike _ _ e why (λ same. omega (arith, same))
 no_job name words (Timeline window) e formed why none = unlike _ _ e why (λ same. omega (arith, same))
 no_job name words (Svg window) e formed why none = unlike _ _ e why (λ same. omega (arith, same))
+
+-- no form begins with any
+no_any : (name : List ℕ) (words : List (List ℕ)) (form : Form) → name ∷ words ≡ form_words form
+    → name ≡ codes "any" → ⊥
+no_any name words Text e is = unlike_any _ _ e is (λ same. omega (arith, same))
+no_any name words Table e is = unlike_any _ _ e is (λ same. omega (arith, same))
+no_any name words Chrome e is = unlike_any _ _ e is (λ same. omega (arith, same))
+no_any name words (Why n) e is = unlike_any _ _ e is (λ same. omega (arith, same))
+no_any name words (Timeline window) e is = unlike_any _ _ e is (λ same. omega (arith, same))
+no_any name words (Svg window) e is = unlike_any _ _ e is (λ same. omega (arith, same))
+
+-- what begins with any
+its_name : {name : List ℕ} {words rest : List (List ℕ)} → name ∷ words ≡ codes "any" ∷ rest → name ≡ codes "any"
+its_name e = ap (λ l. get_or l 0 []) e
+
+-- which isn't why
+any_why : {name : List ℕ} → name ≡ codes "any" → name ≡ codes "why" → ⊥
+any_why is why =
+    let same : get_or (codes "any") 0 0 ≡ get_or (codes "why") 0 0 = ap (λ l. get_or l 0 0) (sym is ∙ why) in
+    omega (arith, same)
 
 -- a form has a word
 some_words : (form : Form) → 0 < length (form_words form)
@@ -57,28 +85,54 @@ joined {rest = rest} {name = name} e is spells = ap spelled e ∙ row_of name re
 
 pub returns-in_err-name-clause-none : goal.returns-in_err-name-clause-none
 returns-in_err-name-clause-none c = λ word is _ r asks.
-    let it = asks_report word _ r is asks in
     let long = length_spelled c.args.words.now in
-    absurd (omega (arith, c.in_err-name.ensures.cases, long, ap length it.1, some_words it.0))
+    elim (asks_report word _ r is asks) [
+      | inl it ↦ absurd (omega (arith, c.in_err-name.ensures.cases, long, ap length it.1, some_words it.0))
+      | inr it ↦ absurd (omega (arith, c.in_err-name.ensures.cases, long, ap length it.1))
+    ]
 
 pub returns-in_err-job-in-why-clause-none : goal.returns-in_err-job-in-why-clause-none
 returns-in_err-job-in-why-clause-none c = λ word is _ r asks.
-    let it = asks_report word _ r is asks in
-    no_job _ _ it.0 (split c.in_ok-name.ensures.cases.0 it.1) it.2 (sym c.as_str.ensures.value ∙ c.in-why.is)
-    (c.in_err-job-in-why.ensures.none refl)
+    let why = sym c.as_str.ensures.value ∙ c.in-why.is in
+    elim (asks_report word _ r is asks) [
+      | inl it ↦ no_job _ _ it.0 (split c.in_ok-name.ensures.cases.0 it.1) it.2 why
+          (c.in_err-job-in-why.ensures.none refl)
+      | inr it ↦ any_why (its_name (split c.in_ok-name.ensures.cases.0 it.1)) why
+    ]
+
+pub returns-in_err-form-in-any-clause-none : goal.returns-in_err-form-in-any-clause-none
+returns-in_err-form-in-any-clause-none c = λ word is _ r asks.
+    elim (asks_report word _ r is asks) [
+      | inl it ↦ no_any _ _ it.0 (split c.in_ok-name.ensures.cases.0 it.1) (sym c.as_str.ensures.value ∙ c.in-any.is)
+      | inr it ↦ c.in_err-form-in-any.ensures.none refl it.0 it.2
+          (ap (drop 1) (split c.in_ok-name.ensures.cases.0 it.1))
+    ]
 
 pub returns-in_err-window-in_default-clause-none : goal.returns-in_err-window-in_default-clause-none
 returns-in_err-window-in_default-clause-none c = λ word is _ r asks.
-    let it = asks_report word _ r is asks in
-    no_form _ _ it.0 (split c.in_ok-name.ensures.cases.0 it.1) it.2
-    (λ why. c.in_default.not-why (c.as_str.ensures.value ∙ why)) (c.in_err-window-in_default.ensures.none refl)
+    elim (asks_report word _ r is asks) [
+      | inl it ↦ no_form _ _ it.0 (split c.in_ok-name.ensures.cases.0 it.1) it.2
+          (λ why. c.in_default.not-why (c.as_str.ensures.value ∙ why)) (c.in_err-window-in_default.ensures.none refl)
+      | inr it ↦ c.in_default.not-any
+          (c.as_str.ensures.value ∙ its_name (split c.in_ok-name.ensures.cases.0 it.1))
+    ]
 
 pub returns-in_err-form-in_default-clause-none : goal.returns-in_err-form-in_default-clause-none
 returns-in_err-form-in_default-clause-none c = λ word is _ r asks.
-    let it = asks_report word _ r is asks in
-    c.in_err-form-in_default.ensures.none refl it.0
-    (ap (λ rest. string_bytes c.in_ok-name.name.now ∷ rest) (sym c.in_ok-window-in_default.ensures.some.1)
-    ∙ split c.in_ok-name.ensures.cases.0 it.1)
+    elim (asks_report word _ r is asks) [
+      | inl it ↦ c.in_err-form-in_default.ensures.none refl it.0
+          (ap (λ rest. string_bytes c.in_ok-name.name.now ∷ rest) (sym c.in_ok-window-in_default.ensures.some.1)
+          ∙ split c.in_ok-name.ensures.cases.0 it.1)
+      | inr it ↦ c.in_default.not-any
+          (c.as_str.ensures.value ∙ its_name (split c.in_ok-name.ensures.cases.0 it.1))
+    ]
+
+pub returns-in_ok-form-in-any-clause-some : goal.returns-in_ok-form-in-any-clause-some
+returns-in_ok-form-in-any-clause-some c = λ word is. record {
+  row = row_of word c.args.words.now _ _ is (joined c.in_ok-name.ensures.cases.0
+      (sym c.as_str.ensures.value ∙ c.in-any.is) c.in_ok-form-in-any.ensures.some.0);
+  formed = c.in_ok-form-in-any.ensures.some.1;
+}
 
 pub returns-in_ok-job-in-why-clause-some : goal.returns-in_ok-job-in-why-clause-some
 returns-in_ok-job-in-why-clause-some c = λ word is. record {
