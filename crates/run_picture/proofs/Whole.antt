@@ -28,7 +28,8 @@ told_length f seen n = by_test (nat_lt n (length seen)) where
   by_test false = refl
 
 -- a step adds one at most
-step_length : (weighs : Bool) (seen : List Seen) (e : Event) (w : ℕ) → length (with_step weighs seen e w) ≤ length seen + 1
+step_length : (weighs : Bool) (seen : List Seen) (e : Event) (w : ℕ)
+    → length (with_step weighs seen e w) ≤ length seen + 1
 step_length weighs seen (Release n job) w = omega (arith, length-append seen (fresh weighs n job ∷ []))
 step_length weighs seen (Take at stops starts) w = omega (arith, told_length (taking w) seen starts)
 step_length weighs seen (Complete at n) w = omega (arith, told_length (done at) seen n)

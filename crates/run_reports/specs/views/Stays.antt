@@ -5,7 +5,8 @@ use Rattle.dover_model.specs.declared.events.Event.TheVariants.{Release, Run, Pr
 use Rattle.dover_model.specs.Limits.{last_tick}
 use Rattle.run_reports.specs.declared.views.stays.Stay.{Stay}
 
--- the tick of the first of these steps that gives the processor to a job, or frees it, and where none does the last tick
+-- the tick of the first of these steps that gives the processor to a job, or frees it, and where none does the last
+-- tick
 abbrev pub next_switch : List Event → ℕ
 next_switch [] = last_tick
 next_switch (Release n job ∷ steps) = next_switch steps

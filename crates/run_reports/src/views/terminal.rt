@@ -45,8 +45,8 @@ pub fn timeline(
 }
 
 /// The schedule with these steps as a picture for a terminal, whichever policy made it, in the ticks of the window, or
-/// in all up to the last deadline: what it comes to, and behind that the ruler and the lines of a run's picture. Want of
-/// memory is the only error.
+/// in all up to the last deadline: what it comes to, and behind that the ruler and the lines of a run's picture. Want
+/// of memory is the only error.
 pub fn schedule_timeline(
     alloc: Global,
     run: &[PackedEvent],
