@@ -80,13 +80,13 @@ pub fn a_life_is_worth_enough()
         done_value w ≡ completed_value (all_jobs version k calls) }
 {}
 
-/// Of an engine that is restarted at rest, as often as its program likes: behind a restart it lives as one that was just
-/// made, so that the laws above hold of each life. In one time, in which each life but the first begins at the tick that
-/// was taken off the clock, and its jobs are numbered behind those before: what was given begins the one run of all the
-/// jobs that were ever admitted, at rest it is all of that but the End, and after the End it is the whole. With its
-/// ratio k, no schedule of all the jobs is worth more than (1 + √k)² times what that run completes, or what the factor
-/// allows, neither as they were declared nor as they were observed. It completes what the engine told as its value
-/// before each restart, and what the life since completes.
+/// Of an engine that is restarted at rest, as often as its program likes: behind a restart it lives as one that was
+/// just made, so that the laws above hold of each life. In one time, in which each life but the first begins at the
+/// tick that was taken off the clock, and its jobs are numbered behind those before: what was given begins the one run
+/// of all the jobs that were ever admitted, at rest it is all of that but the End, and after the End it is the whole.
+/// With its ratio k, no schedule of all the jobs is worth more than (1 + √k)² times what that run completes, or what
+/// the factor allows, neither as they were declared nor as they were observed. It completes what the engine told as its
+/// value before each restart, and what the life since completes.
 pub fn lives_anew_are_one_run()
     ensures life { (version : Version) (k : Fraction) (pasts : List Past) (calls : List Call) (w : Life) →
         LivesOn version k pasts calls w →

@@ -7,7 +7,8 @@ use Rattle.run_picture.specs.declared.seen.Seen.{Seen}
 
 -- one step more
 pub told_more : (weighs : Bool) (steps : List Event) (worths : List ℕ) (i : ℕ) (e : Event) (w : ℕ)
-    (seen more whole : List Seen) → e ≡ get_or steps i e → w ≡ get_or worths i w → i < length steps → length worths ≡ length steps
+    (seen more whole : List Seen) → e ≡ get_or steps i e → w ≡ get_or worths i w → i < length steps
+    → length worths ≡ length steps
     → more ≡ with_step weighs seen e w → told_by weighs seen (drop i (zip steps worths)) ≡ whole
     → told_by weighs more (drop (i + 1) (zip steps worths)) ≡ whole
 told_more weighs steps worths i e w seen more whole is worth there same longer before =

@@ -101,16 +101,16 @@ module _ (form : ScheduleForm) (x : List ℕ) (closed : Closed) (it : IsClosed c
 
 -- the same where the form that was asked for is this one
 module _ (f form : ScheduleForm) (same : f ≡ form) (x : List ℕ) (closed : Closed) (it : IsClosed closed (account x))
-    where
-  pub drawn_so : (ended : Bool) → closed.standing ≡ Ended → (a b : Option (List Move)) (q : List ℕ)
-      → Passes a b [] q (schedule_text f closed.steps.items)
-      → AnswersBy (schedule_talk form) x ended a b q (Ok Done)
-  drawn_so ended over a b q put = drawn form x closed it ended over a b q
-      (subst (λ g. Passes a b [] q (schedule_text g closed.steps.items)) same put)
+  where
+    pub drawn_so : (ended : Bool) → closed.standing ≡ Ended → (a b : Option (List Move)) (q : List ℕ)
+        → Passes a b [] q (schedule_text f closed.steps.items)
+        → AnswersBy (schedule_talk form) x ended a b q (Ok Done)
+    drawn_so ended over a b q put = drawn form x closed it ended over a b q
+        (subst (λ g. Passes a b [] q (schedule_text g closed.steps.items)) same put)
 
-  pub not_drawn_so : (ended : Bool) → closed.standing ≡ Ended → is_open (account x) ≡ ended
-      → (a b : Option (List Move)) (q : List ℕ) (stop : Stop)
-      → Puts {T = Unit {0}} (Err stop) a b q (schedule_text f closed.steps.items)
-      → AnswersBy (schedule_talk form) x ended a b q (Err stop)
-  not_drawn_so ended over talk a b q stop put = not_drawn form x closed it ended over talk a b q stop
-      (subst (λ g. Puts {T = Unit {0}} (Err stop) a b q (schedule_text g closed.steps.items)) same put)
+    pub not_drawn_so : (ended : Bool) → closed.standing ≡ Ended → is_open (account x) ≡ ended
+        → (a b : Option (List Move)) (q : List ℕ) (stop : Stop)
+        → Puts {T = Unit {0}} (Err stop) a b q (schedule_text f closed.steps.items)
+        → AnswersBy (schedule_talk form) x ended a b q (Err stop)
+    not_drawn_so ended over talk a b q stop put = not_drawn form x closed it ended over talk a b q stop
+        (subst (λ g. Puts {T = Unit {0}} (Err stop) a b q (schedule_text g closed.steps.items)) same put)
