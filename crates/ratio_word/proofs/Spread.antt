@@ -23,8 +23,6 @@ first_member : (Under : JobFacts → JobFacts → Type 0) (jobs : List JobFacts)
 first_member Under jobs x it =
     subst (IsMember x.job) (sym it.place) (member_behind it.before (x.job ∷ it.behind) x.job (inl refl))
 
-}
-
 module _ (jobs : List JobFacts) (e : Extremes) (it : AreExtremes jobs e) where
   -- the two jobs
   abbrev least : JobFacts
