@@ -1,4 +1,5 @@
 pub mod Read
+pub mod Fronts
 pub mod Accounts
 pub mod Taking
 pub mod Declaring

@@ -1,7 +1,7 @@
 -- What is put at the end of a task text is an answer.
 use Rattle.std.proofs.Common.{◌≡◌, ℕ, List, [], ◌∷◌, ◌++◌, length, refl, sym, ap, ◌∙◌, subst, Option, Result, Ok, Err}
-use Rattle.std.proofs.Common.{Bool, inl, inr, append-nil}
-use Rattle.dover_model.specs.Common.{fault_text, Declaration, in_lines, whole_lines}
+use Rattle.std.proofs.Common.{Bool, true, inl, inr, append-nil}
+use Rattle.dover_model.specs.Common.{fault_text, Cause, Declaration, Faulty, in_lines, whole_lines}
 use Rattle.dover_port.specs.Moves.{Move}
 use Rattle.dover_port.specs.declared.status.Status.{Status}
 use Rattle.dover_port.specs.declared.status.Status.TheVariants.{Done, No, Refused, ReadFault, WriteFault, Memory, Usage}
@@ -9,10 +9,11 @@ use Rattle.dialogue.specs.Talk.{IsFinal, IsOver}
 use Rattle.dialogue.specs.Turns.{AnswersBy}
 use Rattle.dialogue.specs.declared.talker.Stop.{Stop}
 use Rattle.dialogue.specs.declared.talker.Stop.TheVariants.{NoMemory, Unwritten}
+use Rattle.event_feed.specs.Answers.{short_after}
 use Rattle.event_feed.specs.Kept.{cause_of_fault}
 use Rattle.event_feed.specs.declared.faults.FeedFault.{FeedFault}
 use Rattle.task_words.specs.declared.tasks.task.PeriodicTask.{PeriodicTask}
-use Rattle.task_words.specs.reading.Account.{account}
+use Rattle.task_words.specs.reading.Account.{account, is_open}
 use Rattle.task_words.specs.reading.Record.{IsEnded, IsRefusedBy, listed_rules}
 use Rattle.task_words.specs.declared.reading.listed.ListedTasks.{ListedTasks}
 use Rattle.task_words.proofs.reading.Accounts.{goes_on, open_by_test}
@@ -25,14 +26,25 @@ use Rattle.task_words.specs.asking.Texts.{refusal_text, refusal_lines}
 
 -- ---- a text that is refused
 
--- the line of the fault is what refuses the text
+-- the line of a fault is what refuses a text that has it
+pub faulty_is : (until line : ℕ) (cause : Cause) (x : List ℕ) → (account until x).standing ≡ Faulty line cause
+    → fault_text line cause ++ 10 ∷ [] ≡ refusal_text until x
+faulty_is until line cause x faulty =
+    sym (append-nil _) ∙ sym (ap (λ s. in_lines (refusal_lines (length (whole_lines x)) s)) faulty)
+
+-- that of one that goes on says that it is short
+pub short_is : (until : ℕ) (fault : FeedFault) (x : List ℕ) → is_open (account until x) ≡ true
+    → fault ≡ short_after (length (whole_lines x))
+    → fault_text fault.line (cause_of_fault fault.cause) ++ 10 ∷ [] ≡ refusal_text until x
+short_is until fault x opened short =
+    ap (λ (f : FeedFault). fault_text f.line (cause_of_fault f.cause) ++ 10 ∷ []) short ∙ sym (append-nil _)
+    ∙ sym (ap (λ s. in_lines (refusal_lines (length (whole_lines x)) s)) (open_by_test (account until x) opened))
+
+-- so what is known of the fault is
 refusal_is : (until : ℕ) (fault : FeedFault) (x : List ℕ) → IsRefusedBy until fault x
     → fault_text fault.line (cause_of_fault fault.cause) ++ 10 ∷ [] ≡ refusal_text until x
-refusal_is until fault x (inl faulty) =
-    sym (append-nil _) ∙ sym (ap (λ s. in_lines (refusal_lines (length (whole_lines x)) s)) faulty.0)
-refusal_is until fault x (inr short) =
-    ap (λ (f : FeedFault). fault_text f.line (cause_of_fault f.cause) ++ 10 ∷ []) short.1 ∙ sym (append-nil _)
-    ∙ sym (ap (λ s. in_lines (refusal_lines (length (whole_lines x)) s)) (open_by_test (account until x) short.0))
+refusal_is until fault x (inl faulty) = faulty_is until fault.line (cause_of_fault fault.cause) x faulty.0
+refusal_is until fault x (inr short) = short_is until fault x short.0 short.1
 
 -- a line is at fault, or the input has ended
 refused_at : (question : TaskQuestion) (fault : FeedFault) (x : List ℕ) (ended : Bool)

@@ -32,11 +32,13 @@ module _ (question : TaskQuestion) (x y : List ℕ) (over : is_open (account (un
   same : account until (x ++ y) ≡ account until x
   same = closed_account until x y over
 
-  refusal_stays : refusal_text until x ≡ refusal_text until (x ++ y)
+  -- and so is the line that refuses it
+  pub refusal_stays : refusal_text until x ≡ refusal_text until (x ++ y)
   refusal_stays = refusal_same (length (whole_lines x)) (length (whole_lines (x ++ y))) (account until x).standing over
       ∙ ap (λ (a : TaskAccount). in_lines (refusal_lines (length (whole_lines (x ++ y))) a.standing)) (sym same)
 
-  refused_stays : IsRefusedAt until x false → IsRefusedAt until (x ++ y) false
+  -- it is refused as before
+  pub refused_stays : IsRefusedAt until x false → IsRefusedAt until (x ++ y) false
   refused_stays (inl fault) = inl (fault.0, fault.1, ap (λ (a : TaskAccount). a.standing) same ∙ fault.2)
   refused_stays (inr short) = absurd (let e : false ≡ true = short.0 in cc)
 

@@ -1,29 +1,15 @@
 //! The lines of a task text, on their way out.
-ghost use Rattle.std.specs.Prelude.{◌≡◌, ◌≤◌, ◌++◌, ◌∷◌, [], length, map};
+ghost use Rattle.std.specs.Prelude.{◌≡◌, ◌++◌, ◌∷◌, [], map};
 ghost use Rattle.dover_model.specs.Common.{rules_with, in_lines};
 ghost use Rattle.dover_port.specs.Causes.{HasCause, StopsAtFailure};
 ghost use Rattle.dover_port.specs.Moves.{PutsThrough};
 ghost use Rattle.task_words.specs.budget.Lines.{task_text, tasks_text};
-ghost use Rattle.task_words.specs.tasks.Names.{name_field};
 
 use crate::tasks::PeriodicTask;
 use dialogue::lines::{put_numbers, put_rules};
 use dover_model::{Ratio, Version};
 use dover_port::{Failed, Output, Port};
 use line_text::BackLine;
-
-/// Writes the name of a task behind a space, where it has one, before a line feed.
-fn write_name(line: &mut BackLine, name: &[u8])
-    requires short { length name.now ≤ 16 }
-    requires empty { line.old ≡ 10 ∷ [] }
-    ensures is { line.new ≡ name_field name.now ++ 10 ∷ [] }
-    ensures fits { length line.new ≤ 18 }
-{
-    if !name.is_empty() {
-        line.put_word(name);
-        line.put_word(b" ");
-    }
-}
 
 /// Puts the line of a task.
 fn put_task<P: Port>(port: &mut P, out: &mut Output, task: &PeriodicTask) -> Result<(), Failed>
@@ -41,7 +27,7 @@ fn put_task<P: Port>(port: &mut P, out: &mut Output, task: &PeriodicTask) -> Res
         task.value,
     ];
     let mut line = BackLine::new();
-    write_name(&mut line, task.name.as_slice());
+    task.name.write(&mut line);
     line.put_with_wide(b"task", &numbers);
     out.put(port, line.bytes())
 }

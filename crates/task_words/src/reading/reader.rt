@@ -1,5 +1,6 @@
 //! A task text that comes in pieces.
-ghost use Rattle.std.specs.Prelude.{◌≡◌, ◌<◌, ◌++◌, ℕ, List, [], true, length, IfOk, IfErr};
+ghost use Rattle.std.specs.Prelude.{◌≡◌, ◌<◌, ◌≤◌, ◌↔◌, ◌++◌, ℕ, List, [], true, length, take, IsTrue, IfOk, IfErr};
+ghost use Rattle.dover_model.specs.Feed.{Ended};
 ghost use Rattle.dover_model.specs.Lines.{whole_lines};
 ghost use Rattle.event_feed.specs.Answers.{short_after};
 ghost use Rattle.task_words.specs.reading.Account.{account, is_open};
@@ -77,6 +78,9 @@ impl TaskReader {
             × (is_open (account until x) ≡ true) }
         ensures takes { (until : ℕ) (x : List ℕ) → StandsFor until self.old x → is_open (account until x) ≡ true →
             IfOk result (λ n. TakesFront until self.new x piece.now n) }
+        ensures few { IfOk result (λ n. n ≤ 129) }
+        ensures fronts { (until : ℕ) (x : List ℕ) → StandsFor until self.old x → is_open (account until x) ≡ true →
+            IfOk result (λ n. (k : ℕ) → k < n → is_open (account until (x ++ take k piece.now)) ≡ true) }
     {
         let count = self.text.lines.front(piece);
         match self.text.take_front(&piece[..count]) {
@@ -93,6 +97,14 @@ impl TaskReader {
         ensures { (until : ℕ) (x : List ℕ) → StandsFor until self.now x → result ≡ is_open (account until x) }
     {
         matches!(self.progress, Progress::Open)
+    }
+
+    /// Whether the text has ended without a fault.
+    pub fn has_ended(&self) -> bool
+        ensures { (until : ℕ) (x : List ℕ) → StandsFor until self.now x →
+            IsTrue result ↔ ((account until x).standing ≡ Ended) }
+    {
+        matches!(self.progress, Progress::Ended)
     }
 
     /// The tasks of a text whose `end` line was read.

@@ -3,6 +3,8 @@ ghost use Rattle.std.specs.Prelude.{◌≡◌, ◌≤◌, length};
 ghost use Rattle.std.specs.List.{list_all};
 ghost use Rattle.task_words.specs.tasks.Names as model;
 
+use line_text::BackLine;
+
 /// The most bytes that a name has.
 const NAME_BYTES: usize = 16;
 
@@ -56,7 +58,7 @@ fn padded(name: &[u8]) -> [u8; NAME_BYTES]
 }
 
 impl TaskName {
-    ghost use Rattle.std.specs.Prelude.{◌≡◌, ◌≤◌, length, Some, None, if◌then◌else◌};
+    ghost use Rattle.std.specs.Prelude.{◌≡◌, ◌≤◌, ◌++◌, ◌∷◌, [], length, Some, None, if◌then◌else◌};
     ghost use Rattle.task_words.specs.tasks.Names as model;
 
     /// No name.
@@ -89,5 +91,18 @@ impl TaskName {
         ensures short { length result.now ≤ 16 }
     {
         &self.bytes[..self.count.min(NAME_BYTES)]
+    }
+
+    /// Writes the name behind a space before a line feed, or nothing where there is none.
+    pub fn write(&self, line: &mut BackLine)
+        requires { line.old ≡ 10 ∷ [] }
+        ensures is { line.new ≡ model.name_text self.now ++ 10 ∷ [] }
+        ensures fits { length line.new ≤ 18 }
+    {
+        let name = self.as_slice();
+        if !name.is_empty() {
+            line.put_word(name);
+            line.put_word(b" ");
+        }
     }
 }

@@ -30,12 +30,12 @@ not_not : (b : Bool) → not b ≡ false → b ≡ true
 not_not true is = refl
 not_not false is = absurd (let e : true ≡ false = is in cc)
 
-not_so : (b : Bool) → not b ≡ true → b ≡ false
+pub not_so : (b : Bool) → not b ≡ true → b ≡ false
 not_so true is = absurd (let e : false ≡ true = is in cc)
 not_so false is = refl
 
 -- the verdict of a wrong text stays
-wrong_same : (x y : List ℕ) → not (is_wrong (verdict x)) ≡ false → verdict (x ++ y) ≡ verdict x
+pub wrong_same : (x y : List ℕ) → not (is_wrong (verdict x)) ≡ false → verdict (x ++ y) ≡ verdict x
 wrong_same x y over = by_verdict (verdict x) refl (not_not (is_wrong (verdict x)) over) where
   by_verdict : (v : model.Verdict) → verdict x ≡ v → is_wrong v ≡ true → verdict (x ++ y) ≡ v
   by_verdict (model.Accepted S) is wrong = absurd (let e : false ≡ true = wrong in cc)
